@@ -1,0 +1,48 @@
+-- Terms of simple type theory with choice (Church 1940, sections 1 to 3), without names for bound variables (de Bruijn, Lambda
+-- calculus notation with nameless dummies, 1972).
+use Rattle.std.specs.Prelude.{ℕ, suc, ◌+◌, List, [], ◌∷◌}
+use Rattle.stt_core.specs.SimpleType.{SimpleType}
+
+-- What a term names: a constant of the signature or a witness by its number, falsity, negation, implication, and for each type the
+-- quantifier over it, the equality on it, and the choice from it.
+pub data Constant : Type 0 where
+  name : ℕ → Constant
+  witness : ℕ → Constant
+  falsity : Constant
+  negation : Constant
+  implication : Constant
+  all : SimpleType → Constant
+  equality : SimpleType → Constant
+  choice : SimpleType → Constant
+
+-- A bound variable, which counts the binders between it and its own, a constant, a function, whose argument has the given type, or an
+-- application.
+pub data Lambda : Type 0 where
+  bound : ℕ → Lambda
+  constant : Constant → Lambda
+  lam : SimpleType → Lambda → Lambda
+  app : Lambda → Lambda → Lambda
+
+-- the negation of a formula, and an implication
+abbrev pub neg : Lambda → Lambda
+neg s = app (constant negation) s
+
+abbrev pub imp : Lambda → Lambda → Lambda
+imp s t = app (app (constant implication) s) t
+
+-- a term under binders, outermost first
+abbrev pub lambdas : List SimpleType → Lambda → Lambda
+lambdas [] t = t
+lambdas (a ∷ as') t = lam a (lambdas as' t)
+
+-- a term applied to arguments, first one first
+abbrev pub applied : Lambda → List Lambda → Lambda
+applied t [] = t
+applied t (u ∷ us) = applied (app t u) us
+
+-- how many nodes a term has, without those of its types
+abbrev pub node_count : Lambda → ℕ
+node_count (bound k) = 1
+node_count (constant c) = 1
+node_count (lam a s) = suc (node_count s)
+node_count (app s u) = suc (node_count s + node_count u)

@@ -1,0 +1,15 @@
+pub mod SimpleType
+pub mod Lambda
+pub mod Typing
+pub mod Canonical
+pub mod Digits
+pub mod Meaning
+pub mod Meets
+pub mod TypedName
+pub mod Signature
+pub mod View
+pub mod ScopeView
+pub mod ConstView
+pub mod TypeCode
+pub mod LambdaCode
+pub mod Sizes

@@ -1,0 +1,69 @@
+//! Problems.
+
+ghost use Rattle.std.specs.Prelude.{◌≡◌, ◌<◌, ◌++◌, [], ◌∷◌, length, OnOk, OnErr, slice_get};
+ghost use Rattle.stt_core.specs.View.{the_term};
+
+use crate::signature::Signature;
+use crate::term::Term;
+use std::alloc::{AllocError, Global};
+use std::marker::Model;
+
+/// A list of terms.
+#[derive(Drop)]
+pub struct Terms {
+    items: Vec<Term>,
+}
+
+impl Model for Terms {
+    ghost use Rattle.std.specs.Prelude.{List, map};
+    ghost use Rattle.std.specs.Coded.{coded_list};
+    ghost use Rattle.stt_core.specs.Lambda.{Lambda};
+    ghost use Rattle.stt_core.specs.LambdaCode.{lambda_code};
+    ghost use Rattle.stt_core.specs.View.{the_term};
+
+    ghost Value = { List Lambda };
+
+    ghost coded = { coded_list lambda_code };
+
+    ghost view = { λ a. map the_term a.items.items };
+}
+
+impl Terms {
+    pub fn new(alloc: Global) -> Terms
+        ensures { result ≡ [] }
+    {
+        Terms {
+            items: Vec::new(alloc),
+        }
+    }
+
+    pub fn push(&mut self, term: Term) -> Result<(), AllocError>
+        ensures ok { OnOk result (self.new ≡ self.old ++ the_term term ∷ []) }
+        ensures err { OnErr result (self.new ≡ self.old) }
+    {
+        self.items.push(term)?;
+        Ok(())
+    }
+
+    pub fn len(&self) -> usize
+        ensures { result ≡ length self.now }
+    {
+        self.items.len()
+    }
+
+    /// The term at a place of the list.
+    pub fn at(&self, i: usize) -> &Term
+        requires { i < length self.now }
+        ensures { slice_get self.now i ≡ Some (the_term result.now) }
+    {
+        &self.items[i]
+    }
+}
+
+/// A typed problem: the formulas that it assumes, in order, and its conjecture, where it has one.
+#[derive(Drop)]
+pub struct Problem {
+    pub signature: Signature,
+    pub assumed: Terms,
+    pub conjecture: Option<Term>,
+}

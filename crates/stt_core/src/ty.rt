@@ -1,0 +1,101 @@
+//! Types.
+
+ghost use Rattle.std.specs.Prelude.{◌≡◌, ◌<◌, ◌++◌, [], ◌∷◌, length, OnOk, OnErr, IfOk, slice_get, option_map};
+ghost use Rattle.stt_core.specs.SimpleType.{same_type};
+ghost use Rattle.stt_core.specs.View.{the_type};
+
+use std::alloc::{AllocError, Global};
+use std::marker::Model;
+
+/// A simple type. Base number 0 is `$o`, number 1 is `$i`, and the base types of a signature follow from number 2 on.
+#[derive(Drop)]
+pub enum Ty {
+    Base(u32),
+    Arrow(Box<Ty>, Box<Ty>),
+}
+
+impl Ty {
+    /// A copy of the type.
+    pub fn try_clone(&self, alloc: Global) -> Result<Ty, AllocError>
+        ensures { IfOk result (λ ty. the_type ty ≡ the_type self.now) }
+    {
+        match self {
+            Ty::Base(n) => Ok(Ty::Base(*n)),
+            Ty::Arrow(argument, outcome) => {
+                let argument = Box::new(alloc, argument.try_clone(alloc)?)?;
+                let outcome = Box::new(alloc, outcome.try_clone(alloc)?)?;
+                Ok(Ty::Arrow(argument, outcome))
+            }
+        }
+    }
+
+    /// Whether the two types are the same.
+    pub fn same(&self, other: &Ty) -> bool
+        ensures { result ≡ same_type (the_type self.now) (the_type other.now) }
+    {
+        match (self, other) {
+            (Ty::Base(m), Ty::Base(n)) => *m == *n,
+            (Ty::Arrow(a, b), Ty::Arrow(c, d)) => a.same(c) && b.same(d),
+            _ => false,
+        }
+    }
+}
+
+/// A list of types.
+#[derive(Drop)]
+pub struct Types {
+    items: Vec<Ty>,
+}
+
+impl Model for Types {
+    ghost use Rattle.std.specs.Prelude.{List, map};
+    ghost use Rattle.stt_core.specs.SimpleType.{SimpleType};
+    ghost use Rattle.stt_core.specs.TypeCode.{type_code};
+    ghost use Rattle.std.specs.Coded.{coded_list};
+    ghost use Rattle.stt_core.specs.View.{the_type};
+
+    ghost Value = { List SimpleType };
+
+    ghost coded = { coded_list type_code };
+
+    ghost view = { λ a. map the_type a.items.items };
+}
+
+impl Types {
+    pub fn new(alloc: Global) -> Types
+        ensures { result ≡ [] }
+    {
+        Types {
+            items: Vec::new(alloc),
+        }
+    }
+
+    pub fn push(&mut self, ty: Ty) -> Result<(), AllocError>
+        ensures ok { OnOk result (self.new ≡ self.old ++ the_type ty ∷ []) }
+        ensures err { OnErr result (self.new ≡ self.old) }
+    {
+        self.items.push(ty)?;
+        Ok(())
+    }
+
+    pub fn len(&self) -> usize
+        ensures { result ≡ length self.now }
+    {
+        self.items.len()
+    }
+
+    /// The type at a place, which counts from 0.
+    pub fn get(&self, i: usize) -> Option<&Ty>
+        ensures { option_map (λ ty. the_type ty.now) result ≡ slice_get self.now i }
+    {
+        self.items.get(i)
+    }
+
+    /// The type at a place of the list.
+    pub fn at(&self, i: usize) -> &Ty
+        requires { i < length self.now }
+        ensures { slice_get self.now i ≡ Some (the_type result.now) }
+    {
+        &self.items[i]
+    }
+}
