@@ -52,28 +52,28 @@ abstracts bases a body b h = go (is_declared bases a) refl body refl h
     go false e o e' k = cc
 
 module _ (scope : Scope) where
-  lambda_type : (ctx : List SimpleType) (a c : SimpleType) (s : Lambda) → is_declared scope.bases c ≡ true → IsFrom c a (λ b. type_of scope (c ∷ ctx) s ≡ Some b) → type_of scope ctx (lam c s) ≡ Some a
+  pub lambda_type : (ctx : List SimpleType) (a c : SimpleType) (s : Lambda) → is_declared scope.bases c ≡ true → IsFrom c a (λ b. type_of scope (c ∷ ctx) s ≡ Some b) → type_of scope ctx (lam c s) ≡ Some a
   lambda_type ctx (base n) c s d h = absurd h
   lambda_type ctx (arrow a b) c s d h = rw (d, h.1, h.0) refl
 
-  from_map : (a b : SimpleType) (P Q : SimpleType → Type 0) → ((c : SimpleType) → P c → Q c) → IsFrom a b P → IsFrom a b Q
-  from_map a (base n) P Q f h = h
-  from_map a (arrow c b) P Q f h = (h.0, f b h.1)
+  pub IsFrom-map : (a b : SimpleType) (P Q : SimpleType → Type 0) → ((c : SimpleType) → P c → Q c) → IsFrom a b P → IsFrom a b Q
+  IsFrom-map a (base n) P Q f h = h
+  IsFrom-map a (arrow c b) P Q f h = (h.0, f b h.1)
 
   mutual
     -- a canonical term has its type
-    pub canonical_type : (ctx : List SimpleType) (a : SimpleType) (t : Lambda) → IsCanonical scope ctx a t → type_of scope ctx t ≡ Some a
-    canonical_type ctx a (bound k) h = h.1
-    canonical_type ctx a (constant c) h = h.1
-    canonical_type ctx a (lam c s) h = lambda_type ctx a c s h.0 (from_map c a _ _ (λ b k. canonical_type (c ∷ ctx) b s k) h.1)
-    canonical_type ctx a (app s u) h =
-        ap₂ applied_type (neutral_type ctx (arrow h.1.0 a) s h.1.1) (canonical_type ctx h.1.0 u h.1.2) ∙ applied h.1.0 a
+    pub type_of-canonical : (ctx : List SimpleType) (a : SimpleType) (t : Lambda) → IsCanonical scope ctx a t → type_of scope ctx t ≡ Some a
+    type_of-canonical ctx a (bound k) h = h.1
+    type_of-canonical ctx a (constant c) h = h.1
+    type_of-canonical ctx a (lam c s) h = lambda_type ctx a c s h.0 (IsFrom-map c a _ _ (λ b k. type_of-canonical (c ∷ ctx) b s k) h.1)
+    type_of-canonical ctx a (app s u) h =
+        ap₂ applied_type (type_of-neutral ctx (arrow h.1.0 a) s h.1.1) (type_of-canonical ctx h.1.0 u h.1.2) ∙ applied h.1.0 a
 
-    pub neutral_type : (ctx : List SimpleType) (a : SimpleType) (t : Lambda) → IsNeutral scope ctx a t → type_of scope ctx t ≡ Some a
-    neutral_type ctx a (bound k) h = h
-    neutral_type ctx a (constant c) h = h
-    neutral_type ctx a (lam c s) h = absurd h
-    neutral_type ctx a (app s u) h = ap₂ applied_type (neutral_type ctx (arrow h.0 a) s h.1) (canonical_type ctx h.0 u h.2) ∙ applied h.0 a
+    pub type_of-neutral : (ctx : List SimpleType) (a : SimpleType) (t : Lambda) → IsNeutral scope ctx a t → type_of scope ctx t ≡ Some a
+    type_of-neutral ctx a (bound k) h = h
+    type_of-neutral ctx a (constant c) h = h
+    type_of-neutral ctx a (lam c s) h = absurd h
+    type_of-neutral ctx a (app s u) h = ap₂ applied_type (type_of-neutral ctx (arrow h.0 a) s h.1) (type_of-canonical ctx h.0 u h.2) ∙ applied h.0 a
 
 pub get_declared : (bases : ℕ) (types : List SimpleType) (k : ℕ) (a : SimpleType) → AreDeclared bases types → slice_get types k ≡ Some a → is_declared bases a ≡ true
 get_declared bases [] k a d h = cc

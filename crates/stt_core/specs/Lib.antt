@@ -2,6 +2,7 @@ pub mod SimpleType
 pub mod Lambda
 pub mod Typing
 pub mod Canonical
+pub mod CanonicalType
 pub mod Digits
 pub mod Meaning
 pub mod Meets
@@ -10,6 +11,7 @@ pub mod Signature
 pub mod View
 pub mod ScopeView
 pub mod ConstView
+pub mod ContextView
 pub mod TypeCode
 pub mod LambdaCode
 pub mod Sizes

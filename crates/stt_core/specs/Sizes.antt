@@ -10,7 +10,7 @@ abbrev pub counts : List Lambda → ℕ
 counts [] = 0
 counts (t ∷ ts) = suc (node_count t + counts ts)
 
-node_count-applied : (t : Lambda) (us : List Lambda) → node_count (applied t us) ≡ node_count t + counts us
+pub node_count-applied : (t : Lambda) (us : List Lambda) → node_count (applied t us) ≡ node_count t + counts us
 node_count-applied t [] = omega arith
 node_count-applied t (u ∷ us) = omega (arith, node_count-applied (app t u) us)
 
