@@ -23,12 +23,19 @@ pub data Lambda : Type 0 where
   lam : SimpleType → Lambda → Lambda
   app : Lambda → Lambda → Lambda
 
--- the negation of a formula, and an implication
+-- the negation of a formula, an implication, an equation between terms of a type, and the claim that a predicate on a type holds
+-- everywhere
 abbrev pub neg : Lambda → Lambda
 neg s = app (constant negation) s
 
 abbrev pub imp : Lambda → Lambda → Lambda
 imp s t = app (app (constant implication) s) t
+
+abbrev pub eq : SimpleType → Lambda → Lambda → Lambda
+eq a s t = app (app (constant (equality a)) s) t
+
+abbrev pub every : SimpleType → Lambda → Lambda
+every a f = app (constant (all a)) f
 
 -- a term under binders, outermost first
 abbrev pub lambdas : List SimpleType → Lambda → Lambda

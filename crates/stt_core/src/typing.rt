@@ -96,7 +96,11 @@ fn applied_to(function: Option<Ty>, argument: Option<Ty>) -> Option<Ty>
 fn where_over(declared: &Declared, a: &Ty, ty: Ty) -> Option<Ty>
     ensures { option_map the_type result ≡ where_declared (declared_scope declared.now) (the_type a.now) (the_type ty) }
 {
-    if a.is_over(declared.sig.bases.len()) { Some(ty) } else { None }
+    if a.is_over(declared.sig.bases.len()) {
+        Some(ty)
+    } else {
+        None
+    }
 }
 
 fn where_of_base(ty: Option<Ty>) -> Option<Ty>
@@ -142,7 +146,11 @@ fn head_type(
         Head::Wit(k) => try_clone_some(alloc, declared.wits.get(*k as usize)),
         Head::False => Ok(Some(Ty::Base(0))),
         Head::Not => Ok(Some(predicate_type(alloc, &Ty::Base(0))?)),
-        Head::Imp => Ok(Some(function_type(alloc, Ty::Base(0), predicate_type(alloc, &Ty::Base(0))?)?)),
+        Head::Imp => Ok(Some(function_type(
+            alloc,
+            Ty::Base(0),
+            predicate_type(alloc, &Ty::Base(0))?,
+        )?)),
         Head::All(a) => {
             let ty = function_type(alloc, predicate_type(alloc, a)?, Ty::Base(0))?;
             Ok(where_over(declared, a, ty))

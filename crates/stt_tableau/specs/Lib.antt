@@ -1,0 +1,6 @@
+pub mod Literals
+pub mod Witnesses
+pub mod Rules
+pub mod Accepted
+pub mod Closed
+pub mod Meets

@@ -1,0 +1,8 @@
+//! The tableau calculus: literals, refutations as lists of lines, a plain decider of them, and its soundness.
+#![tactic(auto)]
+
+mod lit;
+mod refutation;
+
+pub use lit::{Lit, Lits};
+pub use refutation::{Child, Children, Line, Lines, Refutation, Rows, RuleUse, Why, WitnessRow};
