@@ -1,6 +1,7 @@
 pub mod SimpleType
 pub mod Lambda
 pub mod Typing
+pub mod SameTerm
 pub mod Canonical
 pub mod CanonicalType
 pub mod Digits
