@@ -4,3 +4,4 @@ pub mod Rules
 pub mod Accepted
 pub mod Closed
 pub mod Meets
+pub mod Start

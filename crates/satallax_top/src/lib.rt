@@ -1,0 +1,4 @@
+//! The whole prover as one call.
+#![tactic(auto)]
+
+mod token;
