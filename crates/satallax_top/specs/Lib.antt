@@ -1,2 +1,5 @@
 pub mod Bytes
 pub mod Reading
+pub mod Reader
+pub mod NotYet
+pub mod Refusals

@@ -1,4 +1,7 @@
 //! The whole prover as one call.
 #![tactic(auto)]
 
+mod formula;
+mod reader;
+mod refusal;
 mod token;

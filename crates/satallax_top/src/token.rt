@@ -38,7 +38,7 @@ fn skip_line(bytes: &[u8]) -> &[u8]
 }
 
 /// The bytes behind white space and comments.
-fn skip(bytes: &[u8]) -> &[u8]
+pub(crate) fn skip(bytes: &[u8]) -> &[u8]
     ensures skipped { result.now ≡ skipped bytes.now }
     ensures shorter { length result.now ≤ length bytes.now }
 {
@@ -84,9 +84,16 @@ fn is_sign(byte: u8) -> bool
 
 /// A token, as its bytes, and what follows it.
 #[derive(Drop)]
-pub struct Found<'a> {
+pub(crate) struct Found<'a> {
     pub text: &'a [u8],
     pub rest: &'a [u8],
+}
+
+impl Found<'_> {
+    /// The number of bytes from the token on.
+    pub(crate) fn left(&self) -> usize {
+        self.text.len().saturating_add(self.rest.len())
+    }
 }
 
 /// The first byte with the letters, digits and `_` behind it, and what follows them.

@@ -1,0 +1,8 @@
+-- The refusal of a form that isn't built yet.
+use Rattle.std.specs.Prelude.{◌≡◌, ℕ}
+use Rattle.satallax_top.specs.declared.refusal.Refusal.{Refusal}
+use Rattle.satallax_top.specs.declared.refusal.Refusal.TheVariants.{NotYet, Memory}
+
+abbrev pub IsNotYet : Refusal → Type 0
+IsNotYet (NotYet left) = Unit {0}
+IsNotYet Memory = ⊥

@@ -1,0 +1,97 @@
+//! Reads formulas into terms.
+
+ghost use Rattle.std.specs.Prelude.{◌≡◌, ◌<◌, ◌-◌, ◌^◌, length, [], Some, IfOk};
+ghost use Rattle.stt_core.specs.Lambda.{neg, constant, falsity};
+ghost use Rattle.stt_core.specs.View.{the_term};
+ghost use Rattle.satallax_top.specs.Reader.{leaf, unit_at};
+ghost use Rattle.satallax_top.specs.Refusals.{Answers};
+
+use crate::reader::behind;
+use crate::refusal::Refusal;
+use crate::token::{Found, is_lower_word, token};
+use std::alloc::{AllocError, Global};
+use stt_core::{Signature, Symbol, Term};
+
+/// A unit as a term, and what follows it.
+#[derive(Drop)]
+pub(crate) struct UnitRead<'a> {
+    pub term: Term,
+    pub rest: &'a [u8],
+}
+
+fn negation(alloc: Global, term: Term) -> Result<Term, AllocError>
+    ensures { IfOk result (λ t. the_term t ≡ neg (the_term term)) }
+{
+    Ok(Term::App(Box::new(alloc, Term::Not)?, Box::new(alloc, term)?))
+}
+
+/// A unit of one token.
+fn leaf<'a>(alloc: Global, sig: &Signature, found: Found<'a>) -> Result<UnitRead<'a>, Refusal>
+    requires bases { sig.now.bases ≡ [] }
+    requires consts { length sig.now.consts < 2 ^ 32 }
+    ensures { Answers result (leaf sig.now.consts found.entry.text.now found.entry.rest.now) }
+{
+    let rest = found.rest;
+    let left = found.left();
+    if found.text == b"$true".as_slice() {
+        return Ok(UnitRead {
+            term: negation(alloc, Term::False)?,
+            rest,
+        });
+    }
+    if found.text == b"$false".as_slice() {
+        return Ok(UnitRead {
+            term: Term::False,
+            rest,
+        });
+    }
+    if !is_lower_word(found.text) {
+        return Err(Refusal::NotYet { left });
+    }
+    match sig.find(found.text) {
+        Some(Symbol::Const(k)) => Ok(UnitRead {
+            term: Term::Name(k),
+            rest,
+        }),
+        Some(Symbol::Base(_)) => Err(Refusal::NotYet { left }),
+        None => Err(Refusal::NotYet { left }),
+    }
+}
+
+/// The unit that the bytes begin with. Of negations and parentheses at most `depth` may be open in it at once.
+#[tactic(auto, unfolding(crate::specs::Reader::unit_at))]
+pub(crate) fn unit<'a>(
+    alloc: Global,
+    sig: &Signature,
+    depth: u32,
+    bytes: &'a [u8],
+) -> Result<UnitRead<'a>, Refusal>
+    requires bases { sig.now.bases ≡ [] }
+    requires consts { length sig.now.consts < 2 ^ 32 }
+    ensures { Answers result (unit_at sig.now.consts depth bytes.now) }
+{
+    let Some(found) = token(bytes) else {
+        return Err(Refusal::not_yet(bytes));
+    };
+    if depth == 0 {
+        return leaf(alloc, sig, found);
+    }
+    if found.text == b"~".as_slice() {
+        let inside = unit(alloc, sig, depth - 1, found.rest)?;
+        return Ok(UnitRead {
+            term: negation(alloc, inside.term)?,
+            rest: inside.rest,
+        });
+    }
+    if found.text == b"(".as_slice() {
+        let inside = unit(alloc, sig, depth - 1, found.rest)?;
+        return match behind(b")", inside.rest) {
+            Some(rest) => Ok(UnitRead {
+                term: inside.term,
+                rest,
+            }),
+            None => Err(Refusal::not_yet(inside.rest)),
+        };
+    }
+    leaf(alloc, sig, found)
+}
