@@ -1,5 +1,6 @@
 pub mod Bytes
 pub mod Reading
 pub mod Reader
+pub mod StatedView
 pub mod NotYet
 pub mod Refusals

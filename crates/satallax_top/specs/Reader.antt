@@ -87,3 +87,40 @@ typing_at bytes = do
   b2 ← behind (codes ":") w.1
   rest ← behind (codes "$o") b2
   Some (w.0, rest)
+
+-- what is stated, and what follows
+abbrev pub MoreStated : Type 0
+MoreStated = Stated × List ℕ
+
+abbrev pub declared_more : Stated → List ℕ → List ℕ → Option MoreStated
+declared_more s w rest = if is_some (symbol_named [] s.constants w) then None else Some (with_name s w, rest)
+
+-- a statement behind its head, by its role
+abbrev pub typing_statement : Stated → List ℕ → Option MoreStated
+typing_statement s body = do
+  w ← typing_at body
+  rest ← end_at w.1
+  declared_more s w.0 rest
+
+abbrev pub axiom_statement : ℕ → Stated → List ℕ → Option MoreStated
+axiom_statement depth s body = do
+  r ← unit_at s.constants depth body
+  rest ← end_at r.1
+  Some (with_assumed s r.0, rest)
+
+abbrev pub conjecture_statement : ℕ → Stated → List ℕ → Option MoreStated
+conjecture_statement depth s body = do
+  r ← unit_at s.constants depth body
+  rest ← end_at r.1
+  if is_some s.conjecture then None else Some (with_conjecture s r.0, rest)
+
+abbrev pub by_role : ℕ → Stated → List ℕ → List ℕ → Option MoreStated
+by_role depth s role body =
+    if bytes_eq role (codes "type") then typing_statement s body
+    else (if bytes_eq role (codes "axiom") then axiom_statement depth s body
+    else (if bytes_eq role (codes "conjecture") then conjecture_statement depth s body else None))
+
+unfoldable pub statement_at : ℕ → Stated → List ℕ → Option MoreStated
+statement_at depth s bytes = do
+  head ← head_at bytes
+  by_role depth s head.0 head.1

@@ -29,7 +29,8 @@ fn negation(alloc: Global, term: Term) -> Result<Term, AllocError>
 fn leaf<'a>(alloc: Global, sig: &Signature, found: Found<'a>) -> Result<UnitRead<'a>, Refusal>
     requires bases { sig.now.bases ≡ [] }
     requires consts { length sig.now.consts < 2 ^ 32 }
-    ensures { Answers result (leaf sig.now.consts found.entry.text.now found.entry.rest.now) }
+    ensures read { Answers result (leaf sig.now.consts found.entry.text.now found.entry.rest.now) }
+    ensures rest { IfOk result (λ r. r.rest.now ≡ found.entry.rest.now) }
 {
     let rest = found.rest;
     let left = found.left();
@@ -68,7 +69,8 @@ pub(crate) fn unit<'a>(
 ) -> Result<UnitRead<'a>, Refusal>
     requires bases { sig.now.bases ≡ [] }
     requires consts { length sig.now.consts < 2 ^ 32 }
-    ensures { Answers result (unit_at sig.now.consts depth bytes.now) }
+    ensures read { Answers result (unit_at sig.now.consts depth bytes.now) }
+    ensures shorter { IfOk result (λ r. length r.rest.now < length bytes.now) }
 {
     let Some(found) = token(bytes) else {
         return Err(Refusal::not_yet(bytes));

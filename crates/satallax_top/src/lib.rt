@@ -4,4 +4,5 @@
 mod formula;
 mod reader;
 mod refusal;
+mod statement;
 mod token;

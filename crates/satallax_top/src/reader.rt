@@ -35,7 +35,7 @@ fn word(bytes: &[u8]) -> Option<Found<'_>>
 
 /// The role of the statement that begins there, and what follows the statement's head.
 #[tactic(auto, unfolding(crate::specs::Reader::head_at))]
-fn head(bytes: &[u8]) -> Option<Found<'_>>
+pub(crate) fn head(bytes: &[u8]) -> Option<Found<'_>>
     ensures found { option_map (λ f. (f.text.now, f.rest.now)) result ≡ head_at bytes.now }
     ensures shorter { IfSome result (λ f. length f.rest.now < length bytes.now) }
 {
@@ -53,7 +53,7 @@ fn head(bytes: &[u8]) -> Option<Found<'_>>
 
 /// What follows the end of a statement.
 #[tactic(auto, unfolding(crate::specs::Reader::end_at))]
-fn end(bytes: &[u8]) -> Option<&[u8]>
+pub(crate) fn end(bytes: &[u8]) -> Option<&[u8]>
     ensures found { option_map (λ rest. rest.now) result ≡ end_at bytes.now }
     ensures shorter { IfSome result (λ rest. length rest.now < length bytes.now) }
 {
@@ -64,7 +64,7 @@ fn end(bytes: &[u8]) -> Option<&[u8]>
 
 /// The name that is typed, and what follows the typing.
 #[tactic(auto, unfolding(crate::specs::Reader::typing_at))]
-fn typing(bytes: &[u8]) -> Option<Found<'_>>
+pub(crate) fn typing(bytes: &[u8]) -> Option<Found<'_>>
     ensures found { option_map (λ f. (f.text.now, f.rest.now)) result ≡ typing_at bytes.now }
     ensures shorter { IfSome result (λ f. length f.rest.now < length bytes.now) }
 {
