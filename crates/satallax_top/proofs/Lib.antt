@@ -1,3 +1,5 @@
 pub mod Words
 pub mod ReaderLaws
 pub mod UnitLaws
+pub mod StatementLaws
+pub mod FileLaws

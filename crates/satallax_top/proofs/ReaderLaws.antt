@@ -11,11 +11,11 @@ pub record Binds {A B : Type 0} (o : Option A) (f : A → Option B) (y : B) : Ty
   pub first : o ≡ Some value
   pub second : f value ≡ Some y
 
-binds : {A B : Type 0} (o : Option A) (f : A → Option B) (y : B) → (o >>= f) ≡ Some y → Binds o f y
+pub binds : {A B : Type 0} (o : Option A) (f : A → Option B) (y : B) → (o >>= f) ≡ Some y → Binds o f y
 binds (Some x) f y h = record { value = x; first = refl; second = h }
 binds None f y h = cc
 
-bind : {A B : Type 0} (o : Option A) (f : A → Option B) (x : A) (y : B) → o ≡ Some x → f x ≡ Some y → (o >>= f) ≡ Some y
+pub bind : {A B : Type 0} (o : Option A) (f : A → Option B) (x : A) (y : B) → o ≡ Some x → f x ≡ Some y → (o >>= f) ≡ Some y
 bind o f x y h k = ap (λ p. p >>= f) h ∙ k
 
 -- the token has the text

@@ -22,12 +22,12 @@ pub record Maps {A B : Type 0} (f : A → B) (o : Option A) (y : B) : Type 0 whe
   pub is : o ≡ Some value
   pub same : f value ≡ y
 
-maps : {A B : Type 0} (f : A → B) (o : Option A) (y : B) → option_map f o ≡ Some y → Maps f o y
+pub maps : {A B : Type 0} (f : A → B) (o : Option A) (y : B) → option_map f o ≡ Some y → Maps f o y
 maps f None y h = cc
 maps f (Some x) y h = record { value = x; is = refl; same = cc }
 
 -- a text that is tested
-tested : (text word : List ℕ) {A : Type 0} (x y : Option A) (r : A) → (if bytes_eq text word then x else y) ≡ Some r → (C : Type 0) → (text ≡ word → x ≡ Some r → C) → (bytes_eq text word ≡ false → y ≡ Some r → C) → C
+pub tested : (text word : List ℕ) {A : Type 0} (x y : Option A) (r : A) → (if bytes_eq text word then x else y) ≡ Some r → (C : Type 0) → (text ≡ word → x ≡ Some r → C) → (bytes_eq text word ≡ false → y ≡ Some r → C) → C
 tested text word x y r h C f g = go (bytes_eq text word) refl h
   where
     go : (b : Bool) → bytes_eq text word ≡ b → (if b then x else y) ≡ Some r → C
@@ -88,10 +88,10 @@ differs a b n = go (bytes_eq a b) refl
     go true e = absurd (n ((bytes_eq-Decides a b).0 e))
     go false e = e
 
-if_false : {A : Type 0} (b : Bool) (x y : A) → b ≡ false → (if b then x else y) ≡ y
+pub if_false : {A : Type 0} (b : Bool) (x y : A) → b ≡ false → (if b then x else y) ≡ y
 if_false b x y h = ap (λ v. if v then x else y) h
 
-if_true : {A : Type 0} (b : Bool) (x y : A) → b ≡ true → (if b then x else y) ≡ x
+pub if_true : {A : Type 0} (b : Bool) (x y : A) → b ≡ true → (if b then x else y) ≡ x
 if_true b x y h = ap (λ v. if v then x else y) h
 
 -- a lower word is none of the other tokens

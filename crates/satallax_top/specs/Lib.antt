@@ -4,3 +4,4 @@ pub mod Reader
 pub mod StatedView
 pub mod NotYet
 pub mod Refusals
+pub mod Problems

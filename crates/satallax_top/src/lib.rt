@@ -2,6 +2,7 @@
 #![tactic(auto)]
 
 mod formula;
+mod problem;
 mod reader;
 mod refusal;
 mod statement;

@@ -85,7 +85,7 @@ fn read_conjecture<'a>(
 
 /// The statement that the bytes begin with. It is added to the problem, and what follows it is the answer.
 #[tactic(auto, unfolding(crate::specs::Reader::statement_at))]
-fn read_statement<'a>(
+pub(crate) fn read_statement<'a>(
     alloc: Global,
     problem: &mut Problem,
     bytes: &'a [u8],
