@@ -5,3 +5,4 @@ pub mod ClosedLaws
 pub mod AcceptedLaws
 pub mod WitnessLaws
 pub mod Soundness
+pub mod ShapeLaws

@@ -1,6 +1,7 @@
 -- Lists as sets: what one list holds, and what is within another.
-use Rattle.std.proofs.Common.{◌≡◌, ℕ, zero, suc, List, [], ◌∷◌, ◌++◌, Some, slice_get, Contains, refl, subst, arith}
-use Rattle.std.proofs.lemmas.List.Elements.{Contains-append_left, Contains-append_right}
+use Rattle.std.proofs.Common.{◌≡◌, ℕ, zero, suc, ◌+◌, ◌≤◌, List, [], ◌∷◌, ◌++◌, Some, length, slice_get, take, take_all, Contains, Bool, false, IsTrue, refl, subst, ⊎_elim, arith}
+use Rattle.std.proofs.lemmas.List.Elements.{Contains-append_left, Contains-append_right, Contains-push_cases}
+use Rattle.stt_core.proofs.ListLaws.{take_got}
 use Rattle.stt_tableau.specs.Literals.{Literal, opposite}
 use Rattle.stt_tableau.specs.Accepted.{Within, IsClosed}
 
@@ -56,3 +57,25 @@ closed-within ls branch c w = record {
   holds = contains-within c.literal ls branch c.holds w;
   holds_opposite = contains-within (opposite c.literal) ls branch c.holds_opposite w;
 }
+
+-- each element has the property
+abbrev pub Each : {A : Type 0} → (A → Type 0) → List A → Type 0
+Each {A} P xs = (x : A) → Contains xs x → P x
+
+pub each-none : {A : Type 0} (P : A → Type 0) (xs : List A) → Each P (take 0 xs)
+each-none P xs x h = absurd (omega (arith, h.1))
+
+-- one element more has it
+pub each-more : {A : Type 0} (P : A → Type 0) (xs : List A) (i : ℕ) (x : A) → slice_get xs i ≡ Some x → Each P (take i xs) → P x → Each P (take (i + 1) xs)
+each-more P xs i x e before here y h =
+    ⊎_elim (before y) (λ same. subst P same here) (Contains-push_cases (take i xs) x y (subst (λ l. Contains l y) (take_got xs i x e) h))
+
+pub each-all : {A : Type 0} (P : A → Type 0) (xs : List A) (i : ℕ) → length xs ≤ i → Each P (take i xs) → Each P xs
+each-all P xs i l h = subst (Each P) (take_all i xs l) h
+
+pub contains-same : {A : Type 0} (xs : List A) (i : ℕ) (x y : A) → slice_get xs i ≡ Some x → x ≡ y → Contains xs y
+contains-same xs i x y e same = subst (Contains xs) same (contains-get xs i x e)
+
+-- an answer isn't true and false
+pub untrue : {b : Bool} → IsTrue b → b ≡ false → ⊥
+untrue h e = cc
