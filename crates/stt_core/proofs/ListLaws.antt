@@ -1,5 +1,5 @@
 -- Lists that are gone through by an index.
-use Rattle.std.proofs.Common.{◌≡◌, ℕ, zero, suc, ◌+◌, List, [], ◌∷◌, ◌++◌, Option, Some, None, Bool, not, cond, map, length, nat_lt, position, take, drop, slice_get, refl, sym, ap, ap₂, ◌∙◌, append_assoc, add-one}
+use Rattle.std.proofs.Common.{◌≡◌, ℕ, zero, suc, ◌+◌, List, [], ◌∷◌, ◌++◌, Option, Some, None, Bool, not, cond, map, nat_lt, position, take, drop, slice_get, refl, sym, ap, ap₂, ◌∙◌, append_assoc, add-one}
 use Rattle.std.specs.List.{prefix_len}
 use Rattle.std.proofs.lemmas.List.{length-map}
 
@@ -31,6 +31,10 @@ take_got [] i x h = cc
 take_got (y ∷ xs) zero x h = let e : y ≡ x = cc in ap (λ z. z ∷ []) e
 take_got (y ∷ xs) (suc i) x h =
     ap (λ k. take k (y ∷ xs)) (add-one (suc i)) ∙ ap (λ k. y ∷ take k xs) (sym (add-one i)) ∙ ap (λ l. y ∷ l) (take_got xs i x h)
+
+-- one element more is copied
+pub copy_more : {A : Type 0} (xs : List A) (i : ℕ) (x : A) (done all : List A) (y : A) → slice_get xs i ≡ Some x → done ≡ take i xs → y ≡ x → all ≡ done ++ y ∷ [] → all ≡ take (i + 1) xs
+copy_more xs i x done all y h e k g = g ∙ ap₂ (λ l z. l ++ z ∷ []) e k ∙ sym (take_got xs i x h)
 
 map-append : {A B : Type 0} (f : A → B) (xs ys : List A) → map f (xs ++ ys) ≡ map f xs ++ map f ys
 map-append f [] ys = refl

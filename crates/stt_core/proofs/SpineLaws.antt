@@ -117,3 +117,7 @@ parts bs cs h k us vs o p e = record {
   head = sym (head-spine bs h us o) ∙ ap (λ t. head_of (inside_of t)) e ∙ head-spine cs k vs p;
   arguments = sym (arguments-spine bs h us o) ∙ ap (λ t. arguments_before (inside_of t) []) e ∙ arguments-spine cs k vs p;
 }
+
+-- a term with the same parts is the same
+pub same_whole : (bs cs : List SimpleType) (h k : Lambda) (us vs : List Lambda) (whole : Lambda) → bs ≡ cs → h ≡ k → us ≡ vs → lambdas cs (applied k vs) ≡ whole → lambdas bs (applied h us) ≡ whole
+same_whole bs cs h k us vs whole p q r e = ap₂ lambdas p (ap₂ applied q r) ∙ e

@@ -1,6 +1,7 @@
 //! Types, terms and canonical terms of simple type theory, signatures and problems, with their values in finite models.
 #![tactic(auto)]
 
+mod copy;
 mod nf;
 mod problem;
 mod same;

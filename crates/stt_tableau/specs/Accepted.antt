@@ -1,10 +1,10 @@
 -- When a refutation is accepted, and where it first fails.
 use Rattle.std.specs.Prelude.{◌≡◌, ℕ, ◌+◌, List, [], ◌∷◌, ◌++◌, length, Some, slice_get, Contains}
-use Rattle.stt_core.specs.SimpleType.{SimpleType, predicate, formula}
+use Rattle.stt_core.specs.SimpleType.{SimpleType, predicate}
 use Rattle.stt_core.specs.Typing.{Scope}
 use Rattle.stt_core.specs.Canonical.{IsCanonical}
 use Rattle.stt_tableau.specs.Literals.{Literal, opposite, IsLiteral, IsBranch}
-use Rattle.stt_tableau.specs.Witnesses.{Row, with_rows, IsTypedRow, IsTwice, IsTableAfter, IsTable}
+use Rattle.stt_tableau.specs.Witnesses.{Row, with_rows, IsTypedRow, IsTwice, IsTable}
 use Rattle.stt_tableau.specs.Rules.{IsInstance}
 use Rattle.stt_tableau.specs.declared.refutation.RuleUse.{RuleUse}
 use Rattle.stt_tableau.specs.declared.refutation.RuleUse.TheVariants.{AllPos, Cho, Cut}
@@ -13,7 +13,7 @@ use Rattle.stt_tableau.specs.declared.refutation.Child.TheVariants as child
 use Rattle.stt_tableau.specs.declared.refutation.Line.{Line}
 use Rattle.stt_tableau.specs.declared.refutation.Refutation.{Refutation}
 use Rattle.stt_tableau.specs.declared.refutation.Why.{Why}
-use Rattle.stt_tableau.specs.declared.refutation.Why.TheVariants.{Form, Start, End, Typing, Twice, Principal, Child as ChildWrong, Last}
+use Rattle.stt_tableau.specs.declared.refutation.Why.TheVariants.{Typing, Twice, Principal, Child as ChildWrong, Last}
 
 -- each literal of the first list is one of the second
 abbrev pub Within : List Literal → List Literal → Type 0

@@ -1,3 +1,4 @@
+pub mod Shape
 pub mod Literals
 pub mod Witnesses
 pub mod Rules

@@ -1,5 +1,5 @@
 -- When a model meets literals and branches.
-use Rattle.std.specs.Prelude.{◌≡◌, ℕ, Bool, true, false, List, [], ◌∷◌}
+use Rattle.std.specs.Prelude.{◌≡◌, ℕ, Bool, true, false, List, [], ◌∷◌, ◌⊎◌}
 use Rattle.stt_core.specs.Typing.{Scope}
 use Rattle.stt_core.specs.Meaning.{Model, value}
 use Rattle.stt_tableau.specs.Literals.{Literal}
@@ -16,3 +16,8 @@ MeetsLiteral scope m l = value scope m [] [] l.atom ≡ truth l.positive
 abbrev pub MeetsBranch : Scope → Model → List Literal → Type 0
 MeetsBranch scope m [] = Unit {0}
 MeetsBranch scope m (l ∷ branch) = MeetsLiteral scope m l × MeetsBranch scope m branch
+
+-- the model meets each literal of one of the alternatives
+abbrev pub MeetsOne : Scope → Model → List (List Literal) → Type 0
+MeetsOne scope m [] = ⊥
+MeetsOne scope m (a ∷ alternatives) = MeetsBranch scope m a ⊎ MeetsOne scope m alternatives

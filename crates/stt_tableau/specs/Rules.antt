@@ -1,6 +1,6 @@
 -- The rules of the calculus (Brown and Smolka 2010, section 4; Backes and Brown, Analytic tableaux for higher-order logic with choice,
 -- 2011, section 3). The cut is this project's own.
-use Rattle.std.specs.Prelude.{◌≡◌, ℕ, List, [], ◌∷◌, Option, Some, None, slice_get}
+use Rattle.std.specs.Prelude.{◌≡◌, ℕ, List, [], ◌∷◌, Some, slice_get}
 use Rattle.stt_core.specs.Lambda.{Lambda, constant, falsity, imp}
 use Rattle.stt_core.specs.Typing.{Scope}
 use Rattle.stt_tableau.specs.Literals.{Literal, plus, minus, opposite, literal, IsLiteral}

@@ -1,12 +1,13 @@
 -- Witness tables, in place of the fresh names of a tableau branch.
-use Rattle.std.specs.Prelude.{◌≡◌, ℕ, suc, List, [], ◌∷◌, ◌++◌, map, length, refl, Contains}
+use Rattle.std.specs.Prelude.{List, [], ◌∷◌, ◌++◌, map, refl, Contains}
 use Rattle.std.specs.Coded.{Coded, code_by, coded×}
 use Rattle.stt_core.specs.SimpleType.{SimpleType, predicate}
 use Rattle.stt_core.specs.TypeCode.{type_code}
-use Rattle.stt_core.specs.Lambda.{Lambda}
+use Rattle.stt_core.specs.Lambda.{Constant, name, witness, falsity, negation, implication, all, equality, choice, Lambda, bound, constant, lam, app}
 use Rattle.stt_core.specs.LambdaCode.{lambda_code}
 use Rattle.stt_core.specs.Typing.{Scope}
 use Rattle.stt_core.specs.Canonical.{IsCanonical}
+use Rattle.stt_tableau.specs.Literals.{Literal}
 
 -- A row: a type, and a predicate on it. The witness of the row has the type.
 pub record Row : Type 0 where
@@ -36,3 +37,25 @@ IsTableAfter scope earlier (r ∷ rows) = IsTypedRow scope earlier r × (IsTwice
 -- the rows are a witness table: each predicate is typed and names only earlier witnesses, and no two rows have the same one
 abbrev pub IsTable : Scope → List Row → Type 0
 IsTable scope rows = IsTableAfter scope [] rows
+
+abbrev pub IsNoWitness : Constant → Type 0
+IsNoWitness (name k) = Unit {0}
+IsNoWitness (witness k) = ⊥
+IsNoWitness falsity = Unit {0}
+IsNoWitness negation = Unit {0}
+IsNoWitness implication = Unit {0}
+IsNoWitness (all a) = Unit {0}
+IsNoWitness (equality a) = Unit {0}
+IsNoWitness (choice a) = Unit {0}
+
+-- no constant of the term is a witness
+abbrev pub NamesNoWitness : Lambda → Type 0
+NamesNoWitness (bound k) = Unit {0}
+NamesNoWitness (constant c) = IsNoWitness c
+NamesNoWitness (lam a s) = NamesNoWitness s
+NamesNoWitness (app s u) = NamesNoWitness s × NamesNoWitness u
+
+-- no literal of the branch names a witness
+abbrev pub NoneNamesWitness : List Literal → Type 0
+NoneNamesWitness [] = Unit {0}
+NoneNamesWitness (l ∷ branch) = NamesNoWitness l.atom × NoneNamesWitness branch

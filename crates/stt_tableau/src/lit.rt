@@ -1,11 +1,12 @@
 //! Literals and branches.
 
-ghost use Rattle.std.specs.Prelude.{◌≡◌, ◌<◌, ◌++◌, [], ◌∷◌, length, OnOk, OnErr, slice_get, option_copied, false};
-ghost use Rattle.stt_tableau.specs.Literals.{is_negated};
+ghost use Rattle.std.specs.Prelude.{◌≡◌, ◌<◌, ◌++◌, [], ◌∷◌, length, OnOk, OnErr, slice_get, option_copied, false, IfOk, IsTrue, ◌↔◌, Contains};
+ghost use Rattle.stt_tableau.specs.Literals.{is_negated, opposite};
+ghost use Rattle.stt_tableau.specs.Accepted.{Within, IsClosed};
 
 use std::alloc::{AllocError, Global};
 use std::marker::Model;
-use stt_core::Nf;
+use stt_core::{Nf, same_nf};
 
 /// A formula with a sign. Its head isn't negation, which the sign stands for.
 #[derive(Drop)]
@@ -25,6 +26,44 @@ impl Model for Lit {
     ghost view = { λ l. record { positive = l.positive; atom = l.atom } };
 
     ghost invariant = { λ l. is_negated l.atom ≡ false };
+}
+
+impl Lit {
+    /// A copy of the literal.
+    pub fn try_clone(&self, alloc: Global) -> Result<Lit, AllocError>
+        ensures { IfOk result (λ l. l ≡ self.now) }
+    {
+        let atom = self.atom.try_clone(alloc)?;
+        Ok(Lit {
+            positive: self.positive,
+            atom,
+        })
+    }
+
+    /// The literal's negation.
+    pub fn opposite(self) -> Lit
+        ensures { result ≡ opposite self }
+    {
+        let Lit { positive, atom } = self;
+        Lit {
+            positive: !positive,
+            atom,
+        }
+    }
+
+    /// Whether the two literals are the same.
+    pub fn same(&self, other: &Lit) -> bool
+        ensures { IsTrue result ↔ self.now ≡ other.now }
+    {
+        self.positive == other.positive && same_nf(&self.atom, &other.atom)
+    }
+
+    /// Whether the other literal is the negation of this one.
+    pub fn is_opposite(&self, other: &Lit) -> bool
+        ensures { IsTrue result ↔ other.now ≡ opposite self.now }
+    {
+        self.positive != other.positive && same_nf(&self.atom, &other.atom)
+    }
 }
 
 /// A list of literals, as a branch of a tableau, which is read as a set.
@@ -73,6 +112,66 @@ impl Lits {
         ensures { option_copied result ≡ slice_get self.now i }
     {
         self.items.get(i)
+    }
+
+    /// A copy of the list.
+    pub fn try_clone(&self, alloc: Global) -> Result<Lits, AllocError>
+        ensures { IfOk result (λ ls. ls ≡ self.now) }
+    {
+        let mut lits = Lits::new(alloc);
+        for i in 0..self.len() {
+            let lit = self.at(i).try_clone(alloc)?;
+            lits.push(lit)?;
+        }
+        Ok(lits)
+    }
+
+    /// Whether the list has the literal.
+    pub fn contains(&self, lit: &Lit) -> bool
+        ensures { IsTrue result ↔ Contains self.now lit.now }
+    {
+        for i in 0..self.len() {
+            if self.at(i).same(lit) {
+                return true;
+            }
+        }
+        false
+    }
+
+    /// Whether the list has the literal's negation.
+    pub fn contains_opposite(&self, lit: &Lit) -> bool
+        ensures { IsTrue result ↔ Contains self.now (opposite lit.now) }
+    {
+        for i in 0..self.len() {
+            if lit.is_opposite(self.at(i)) {
+                return true;
+            }
+        }
+        false
+    }
+
+    /// Whether each literal of the list is one of the other list.
+    pub fn is_within(&self, other: &Lits) -> bool
+        ensures { IsTrue result ↔ Within self.now other.now }
+    {
+        for i in 0..self.len() {
+            if !other.contains(self.at(i)) {
+                return false;
+            }
+        }
+        true
+    }
+
+    /// Whether the list has a literal and its negation.
+    pub fn is_closed(&self) -> bool
+        ensures { IsTrue result ↔ IsClosed self.now }
+    {
+        for i in 0..self.len() {
+            if self.contains_opposite(self.at(i)) {
+                return true;
+            }
+        }
+        false
     }
 
     /// The literal at a place of the list.
