@@ -5,3 +5,5 @@ pub mod StatedView
 pub mod NotYet
 pub mod Refusals
 pub mod Problems
+pub mod Propositional
+pub mod ShapeView

@@ -5,5 +5,6 @@ mod formula;
 mod problem;
 mod reader;
 mod refusal;
+mod start;
 mod statement;
 mod token;

@@ -1,0 +1,24 @@
+-- The formulas of the first path, which are canonical as they stand.
+use Rattle.std.specs.Prelude.{List, [], ◌∷◌, Option, Some, None}
+use Rattle.stt_core.specs.Lambda.{Lambda, constant, app, name, falsity, negation, implication}
+use Rattle.satallax_top.specs.Reading.{Stated}
+
+-- a formula of names, falsity, negations and implications
+abbrev pub IsPropositional : Lambda → Type 0
+IsPropositional (constant (name k)) = Unit {0}
+IsPropositional (constant falsity) = Unit {0}
+IsPropositional (app (constant negation) s) = IsPropositional s
+IsPropositional (app (app (constant implication) s) t) = IsPropositional s × IsPropositional t
+IsPropositional t = ⊥
+
+abbrev pub ArePropositional : List Lambda → Type 0
+ArePropositional [] = Unit {0}
+ArePropositional (t ∷ ts) = IsPropositional t × ArePropositional ts
+
+abbrev pub IsPropositionalIfThere : Option Lambda → Type 0
+IsPropositionalIfThere None = Unit {0}
+IsPropositionalIfThere (Some t) = IsPropositional t
+
+pub record StatesPropositional (s : Stated) : Type 0 where
+  pub assumed : ArePropositional s.assumed
+  pub conjecture : IsPropositionalIfThere s.conjecture
