@@ -7,3 +7,6 @@ pub mod Refusals
 pub mod Problems
 pub mod Propositional
 pub mod ShapeView
+pub mod Clauses
+pub mod Search
+pub mod Run
