@@ -3,3 +3,4 @@ pub mod ReaderLaws
 pub mod UnitLaws
 pub mod StatementLaws
 pub mod FileLaws
+pub mod SatisfiableLaws

@@ -1,6 +1,7 @@
 -- The formulas of the first path, which are canonical as they stand.
 use Rattle.std.specs.Prelude.{List, [], ◌∷◌, Option, Some, None}
 use Rattle.stt_core.specs.Lambda.{Lambda, constant, app, name, falsity, negation, implication}
+use Rattle.stt_tableau.specs.Literals.{Literal}
 use Rattle.satallax_top.specs.Reading.{Stated}
 
 -- a formula of names, falsity, negations and implications
@@ -22,3 +23,13 @@ IsPropositionalIfThere (Some t) = IsPropositional t
 pub record StatesPropositional (s : Stated) : Type 0 where
   pub assumed : ArePropositional s.assumed
   pub conjecture : IsPropositionalIfThere s.conjecture
+
+-- a literal whose atom is a name or falsity
+abbrev pub IsLeafTerm : Lambda → Type 0
+IsLeafTerm (constant (name k)) = Unit {0}
+IsLeafTerm (constant falsity) = Unit {0}
+IsLeafTerm t = ⊥
+
+abbrev pub AreLeaves : List Literal → Type 0
+AreLeaves [] = Unit {0}
+AreLeaves (l ∷ ls) = IsLeafTerm l.atom × AreLeaves ls
