@@ -4,3 +4,4 @@ pub mod UnitLaws
 pub mod StatementLaws
 pub mod FileLaws
 pub mod SatisfiableLaws
+pub mod SearchLaws

@@ -5,9 +5,12 @@ use Rattle.stt_core.specs.Lambda.{Lambda}
 use Rattle.stt_core.specs.SameTerm.{same_term}
 use Rattle.stt_core.proofs.SameTerms.{same_term-refl, same_term-true}
 use Rattle.stt_tableau.specs.Literals.{Literal, plus, opposite}
+use Rattle.stt_tableau.specs.Start.{same_sign, same_literal}
+use Rattle.std.proofs.lemmas.Bool.{and_parts}
+use Rattle.std.proofs.lemmas.List.Elements.{Contains-append_left, Contains-push}
 use Rattle.stt_tableau.specs.Accepted.{IsClosed}
 use Rattle.stt_tableau.proofs.ListLaws.{contains-first, contains-later, contains_cases}
-use Rattle.satallax_top.specs.Clauses.{Clause, holds, HasFalse, Unsatisfiable}
+use Rattle.satallax_top.specs.Clauses.{Clause, holds, HasFalse, Unsatisfiable, same_clause, with_clauses}
 
 -- the clause of one literal
 abbrev pub unit_clause : Literal → Clause
@@ -122,3 +125,46 @@ units_satisfiable ls open_branch h =
     go l c f false e false q =
         let g : true ≡ false = sym (ap (λ x. if x then l.positive else not l.positive) q ∙ ap not e) ∙ f in
         cc
+
+same_sign-true : (a b : Bool) → same_sign a b ≡ true → a ≡ b
+same_sign-true true true h = refl
+same_sign-true true false h = cc
+same_sign-true false true h = cc
+same_sign-true false false h = refl
+
+pub same_literal-true : (l k : Literal) → same_literal l k ≡ true → l ≡ k
+same_literal-true l k h =
+    let p = and_parts (same_sign l.positive k.positive) (same_term l.atom k.atom) h in
+    ap₂ (λ b t. record { positive = b; atom = t }) (same_sign-true l.positive k.positive p.0) (same_term-true l.atom k.atom p.1)
+
+same_clause-true : (c d : Clause) → same_clause c d ≡ true → c ≡ d
+same_clause-true [] [] h = refl
+same_clause-true [] (k ∷ ks) h = cc
+same_clause-true (l ∷ ls) [] h = cc
+same_clause-true (l ∷ ls) (k ∷ ks) h = go (same_literal l k) refl (same_clause-true ls ks) h
+  where
+    go : (b : Bool) → same_literal l k ≡ b → (same_clause ls ks ≡ true → ls ≡ ks) → (if b then same_clause ls ks else false) ≡ true → l ∷ ls ≡ k ∷ ks
+    go true e rest r = ap₂ (λ x xs. x ∷ xs) (same_literal-true l k e) (rest r)
+    go false e rest r = cc
+
+any_contains : (c : Clause) (clauses : List Clause) → list_any (same_clause c) clauses ≡ true → Contains clauses c
+any_contains c [] h = cc
+any_contains c (d ∷ clauses) h =
+    or_cases (same_clause c d) _ (Contains (d ∷ clauses) c) h
+    (λ e. subst (λ x. Contains (x ∷ clauses) c) (same_clause-true c d e) (contains-first c clauses))
+    (λ e. contains-later c d clauses (any_contains c clauses e))
+
+-- a clause that is added is there, and so are those that were there
+pub contains-new : (clauses : List Clause) (c : Clause) → Contains (with_clauses clauses (c ∷ [])) c
+contains-new clauses c = go (list_any (same_clause c) clauses) refl
+  where
+    go : (b : Bool) → list_any (same_clause c) clauses ≡ b → Contains (if b then clauses else clauses ++ c ∷ []) c
+    go true e = any_contains c clauses e
+    go false e = Contains-push clauses c
+
+pub contains-kept : (clauses : List Clause) (c d : Clause) → Contains clauses d → Contains (with_clauses clauses (c ∷ [])) d
+contains-kept clauses c d h = go (list_any (same_clause c) clauses)
+  where
+    go : (b : Bool) → Contains (if b then clauses else clauses ++ c ∷ []) d
+    go true = h
+    go false = Contains-append_left clauses (c ∷ []) d h
