@@ -5,3 +5,4 @@ pub mod StatementLaws
 pub mod FileLaws
 pub mod SatisfiableLaws
 pub mod SearchLaws
+pub mod RunLaws

@@ -13,6 +13,7 @@ use Rattle.satallax_top.specs.Propositional.{IsLeafTerm, AreLeaves}
 use Rattle.satallax_top.specs.Clauses.{Clause, same_clause, with_clauses, Unsatisfiable}
 use Rattle.satallax_top.specs.Search.{is_shallow, Command, process, Waiting, State, pushed, started, worked, carried_out, is_before, first_of, next_command, without, after_command, stepped, after}
 use Rattle.satallax_top.specs.Run.{IsOpen, GoesOn, GoesOnUntil, IsProved, IsExhausted, IsStopped}
+use Rattle.satallax_top.specs.Ended.{NoFalsity}
 use Rattle.satallax_top.proofs.SatisfiableLaws.{unit_clause, pair_unsatisfiable, contains-unit, units_satisfiable, contains-new, contains-kept}
 
 leaf_shallow : (l : Literal) → IsLeafTerm l.atom → is_shallow l ≡ true
@@ -124,10 +125,6 @@ step-falsity : (start : List Literal) (i : ℕ) (l : Literal) → slice_get star
 step-falsity start i l g e =
     let m = one_more start i l g in
     next-taken start i l (drop (suc i) start) m.behind ∙ ap (λ k. Some (carried_out (process k) (taken start i (drop (suc i) start)))) e
-
--- none of the first n literals is a positive falsity
-abbrev pub NoFalsity : List Literal → ℕ → Type 0
-NoFalsity start n = (i : ℕ) (l : Literal) → i < n → slice_get start i ≡ Some l → l ≡ plus (constant falsity) → ⊥
 
 leaf_at : (ls : List Literal) (i : ℕ) (l : Literal) → slice_get ls i ≡ Some l → AreLeaves ls → IsLeafTerm l.atom
 leaf_at [] i l g h = cc

@@ -10,3 +10,4 @@ pub mod ShapeView
 pub mod Clauses
 pub mod Search
 pub mod Run
+pub mod Ended

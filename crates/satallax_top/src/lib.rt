@@ -5,6 +5,7 @@ mod formula;
 mod problem;
 mod reader;
 mod refusal;
+mod run;
 mod start;
 mod statement;
 mod token;

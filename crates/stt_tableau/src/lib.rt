@@ -10,4 +10,5 @@ mod shape;
 pub use formula::literal_of;
 pub use law::soundness_law;
 pub use lit::{Lit, Lits};
+pub use shape::{Connective, Shape, shape_of};
 pub use refutation::{Child, Children, Line, Lines, Refutation, Rows, RuleUse, Why, WitnessRow};
