@@ -6,3 +6,4 @@ pub mod FileLaws
 pub mod SatisfiableLaws
 pub mod SearchLaws
 pub mod RunLaws
+pub mod StartLaws

@@ -46,17 +46,17 @@ abbrev positive_atoms : List Literal → List Lambda
 positive_atoms [] = []
 positive_atoms (l ∷ ls) = if l.positive then l.atom ∷ positive_atoms ls else positive_atoms ls
 
-none_contained : {A : Type 0} (x : A) → Contains [] x → ⊥
+pub none_contained : {A : Type 0} (x : A) → Contains [] x → ⊥
 none_contained x h = absurd (omega (arith, h.1))
 
-or_true_left : (a b : Bool) → a ≡ true → a || b ≡ true
+pub or_true_left : (a b : Bool) → a ≡ true → a || b ≡ true
 or_true_left a b h = ap (λ x. x || b) h
 
-or_true_right : (a b : Bool) → b ≡ true → a || b ≡ true
+pub or_true_right : (a b : Bool) → b ≡ true → a || b ≡ true
 or_true_right true b h = refl
 or_true_right false b h = h
 
-or_cases : (a b : Bool) (C : Type 0) → a || b ≡ true → (a ≡ true → C) → (b ≡ true → C) → C
+pub or_cases : (a b : Bool) (C : Type 0) → a || b ≡ true → (a ≡ true → C) → (b ≡ true → C) → C
 or_cases true b C h f g = f refl
 or_cases false b C h f g = g h
 

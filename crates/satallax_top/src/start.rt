@@ -1,13 +1,18 @@
 //! The literals from which the search starts.
 
-ghost use Rattle.std.specs.Prelude.{◌≡◌, IfOk};
+ghost use Rattle.std.specs.Prelude.{◌≡◌, [], ◌∷◌, map, option_map, OnOk, IfOk};
+ghost use Rattle.stt_tableau.specs.Literals.{literal};
+ghost use Rattle.stt_tableau.specs.Start.{added, without_repeats, start};
+ghost use Rattle.satallax_top.specs.Reading.{question_of};
+ghost use Rattle.satallax_top.specs.StatedView.{stated};
 ghost use Rattle.stt_core.specs.View.{the_term, the_head};
 ghost use Rattle.stt_core.specs.Lambda.{applied, app};
 ghost use Rattle.satallax_top.specs.ShapeView.{shape_term};
-ghost use Rattle.satallax_top.specs.Propositional.{IsPropositional};
+ghost use Rattle.satallax_top.specs.Propositional.{IsPropositional, ArePropositional, IsPropositionalIfThere};
 
 use std::alloc::{AllocError, Global};
-use stt_core::{Head, Nf, Nfs, Term, Types};
+use stt_core::{Head, Nf, Nfs, Problem, Term, Terms, Types};
+use stt_tableau::{Lit, Lits, literal_of};
 
 /// A head with its arguments.
 fn spine(alloc: Global, head: Head, args: Nfs) -> Nf
@@ -85,6 +90,55 @@ fn spine_form(alloc: Global, term: &Term) -> Result<Nf, AllocError>
             args.push(spine_form(alloc, left)?)?;
             args.push(spine_form(alloc, right)?)?;
             Ok(spine(alloc, Head::Imp, args))
+        }
+    }
+}
+
+/// The literal of a formula of the first path.
+fn formula_literal(alloc: Global, formula: &Term) -> Result<Lit, AllocError>
+    requires { IsPropositional (the_term formula.now) }
+    ensures { IfOk result (λ lit. lit ≡ literal (the_term formula.now)) }
+{
+    let canonical = spine_form(alloc, formula)?;
+    Ok(literal_of(alloc, &canonical)?)
+}
+
+/// Adds the literal at the end, where it isn't in the list yet.
+fn add(lits: &mut Lits, lit: Lit) -> Result<(), AllocError>
+    ensures { OnOk result (lits.new ≡ added lits.old (lit ∷ [])) }
+{
+    if !lits.contains(&lit) {
+        lits.push(lit)?;
+    }
+    Ok(())
+}
+
+/// The literals of the assumed formulas, without repeats.
+fn assumed_literals(alloc: Global, assumed: &Terms) -> Result<Lits, AllocError>
+    requires { ArePropositional assumed.now }
+    ensures { IfOk result (λ lits. lits ≡ without_repeats (map literal assumed.now)) }
+{
+    let mut lits = Lits::new(alloc);
+    for i in 0..assumed.len() {
+        let lit = formula_literal(alloc, assumed.at(i))?;
+        add(&mut lits, lit)?;
+    }
+    Ok(lits)
+}
+
+/// The literals of the assumed formulas and the negation of the conjecture's, without repeats.
+pub(crate) fn start(alloc: Global, problem: &Problem) -> Result<Lits, AllocError>
+    requires assumed { ArePropositional problem.now.assumed }
+    requires conjecture { IsPropositionalIfThere (option_map the_term problem.now.conjecture) }
+    ensures { IfOk result (λ lits. lits ≡ start (question_of (stated problem.now))) }
+{
+    let mut lits = assumed_literals(alloc, &problem.assumed)?;
+    match &problem.conjecture {
+        None => Ok(lits),
+        Some(conjecture) => {
+            let denied = formula_literal(alloc, conjecture)?.opposite();
+            add(&mut lits, denied)?;
+            Ok(lits)
         }
     }
 }

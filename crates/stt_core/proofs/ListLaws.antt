@@ -36,7 +36,7 @@ take_got (y ∷ xs) (suc i) x h =
 pub copy_more : {A : Type 0} (xs : List A) (i : ℕ) (x : A) (done all : List A) (y : A) → slice_get xs i ≡ Some x → done ≡ take i xs → y ≡ x → all ≡ done ++ y ∷ [] → all ≡ take (i + 1) xs
 copy_more xs i x done all y h e k g = g ∙ ap₂ (λ l z. l ++ z ∷ []) e k ∙ sym (take_got xs i x h)
 
-map-append : {A B : Type 0} (f : A → B) (xs ys : List A) → map f (xs ++ ys) ≡ map f xs ++ map f ys
+pub map-append : {A B : Type 0} (f : A → B) (xs ys : List A) → map f (xs ++ ys) ≡ map f xs ++ map f ys
 map-append f [] ys = refl
 map-append f (x ∷ xs) ys = ap (λ l. f x ∷ l) (map-append f xs ys)
 

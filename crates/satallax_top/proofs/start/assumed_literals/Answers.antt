@@ -1,0 +1,13 @@
+use Rattle.std.proofs.Common.{ap, ◌∙◌, [], ◌∷◌}
+use Rattle.stt_core.specs.View.{the_term}
+use Rattle.stt_tableau.specs.Start.{added}
+use Rattle.satallax_top.proofs.StartLaws.{added-more, formula_at}
+use Rattle.satallax_top.proofs.start.assumed_literals.Goals as goal
+
+pub formula_literal-requires : goal.formula_literal-requires
+formula_literal-requires c = formula_at c.args.assumed.now c.loop-i.i (the_term c.at.result.now) c.at.ensures c.requires
+
+pub loop-i-preserved : goal.loop-i-preserved
+loop-i-preserved c =
+    added-more c.args.assumed.now c.loop-i.i (the_term c.at.result.now) c.loop-i.lits c.add.new.lits c.at.ensures c.loop-i.invariant
+    (c.in_ok-add.ensures ∙ ap (λ l. added c.loop-i.lits (l ∷ [])) c.in_ok-lit.ensures)
