@@ -7,3 +7,4 @@ pub mod SatisfiableLaws
 pub mod SearchLaws
 pub mod RunLaws
 pub mod StartLaws
+pub mod StatedLaws

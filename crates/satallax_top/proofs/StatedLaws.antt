@@ -1,0 +1,187 @@
+-- What the formulas are that a file states, and the literals of its start.
+use Rattle.std.proofs.Common.{◌≡◌, ℕ, zero, suc, ◌+◌, ◌<◌, ◌≤◌, Bool, true, false, List, [], ◌∷◌, ◌++◌, map, length, slice_get, position, Option, Some, None, option_map, is_some, cond, nat_lt, Contains, ◌⊎◌, inl, inr, ⊎_elim, refl, sym, ap, subst, ◌∙◌, if◌then◌else◌, arith, length-append}
+use Rattle.std.specs.Str.{bytes_eq}
+use Rattle.std.specs.List.{position_or_len}
+use Rattle.std.proofs.lemmas.List.Elements.{Contains-push_cases}
+use borrow.Author.Tests.{ltb-true}
+use Rattle.stt_core.specs.SimpleType.{formula}
+use Rattle.stt_core.specs.Lambda.{Lambda, constant, app, name, falsity, negation, neg}
+use Rattle.stt_core.specs.Typing.{Scope}
+use Rattle.stt_core.specs.Canonical.{IsCanonical}
+use Rattle.stt_core.specs.TypedName.{TypedName}
+use Rattle.stt_core.specs.Signature.{symbol_named, first_symbol}
+use Rattle.stt_core.specs.Meets.{MeetsFormulas, Refutes, MeetsProblem}
+use Rattle.stt_core.specs.Meaning.{Model, IsModel, value}
+use Rattle.stt_core.specs.declared.signature.Symbol.{Symbol}
+use Rattle.stt_core.specs.declared.signature.Symbol.TheVariants.{Base, Const}
+use Rattle.stt_tableau.specs.Literals.{Literal, opposite, literal, IsLiteral, IsBranch}
+use Rattle.stt_tableau.specs.Witnesses.{NamesNoWitness, NoneNamesWitness}
+use Rattle.stt_tableau.specs.Meets.{MeetsLiteral, MeetsBranch}
+use Rattle.stt_tableau.specs.Start.{has, added, denied, start}
+use Rattle.stt_tableau.proofs.ListLaws.{contains-first, contains-later, contains_cases, Each}
+use Rattle.stt_tableau.proofs.LiteralLaws.{literal-is_literal, opposite-is_literal, literal-says, value-bit}
+use Rattle.satallax_top.specs.Reading.{Formula, named, truth, falsehood, negated, Statement, declares, assumes, asks, Stated, named_constant, term_of, with_name, with_assumed, with_conjecture, stated_more, Leads, at_end, by_statement, States, nothing_stated, question_of}
+use Rattle.satallax_top.specs.Propositional.{IsPropositional, ArePropositional, IsPropositionalIfThere, StatesPropositional, IsLeafTerm, AreLeaves}
+use Rattle.satallax_top.proofs.UnitLaws.{maps}
+use Rattle.satallax_top.proofs.SatisfiableLaws.{none_contained}
+
+-- a formula of the first n names, falsity and negations
+abbrev pub IsSigned : ℕ → Lambda → Type 0
+IsSigned n (constant (name k)) = k < n
+IsSigned n (constant falsity) = Unit {0}
+IsSigned n (app (constant negation) s) = IsSigned n s
+IsSigned n t = ⊥
+
+-- a fact about all signed formulas, by their three forms
+pub signed_cases : (n : ℕ) (P : Lambda → Type 0) → ((k : ℕ) → k < n → P (constant (name k))) → P (constant falsity) → ((s : Lambda) → P s → P (neg s)) → (t : Lambda) → IsSigned n t → P t
+signed_cases n P f g h (constant (name k)) s = f k s
+signed_cases n P f g h (constant falsity) s = g
+signed_cases n P f g h (app (constant negation) t) s = h t (signed_cases n P f g h t s)
+signed_cases n P f g h t s = absurd s
+
+signed_more : (n m : ℕ) → n ≤ m → (t : Lambda) → IsSigned n t → IsSigned m t
+signed_more n m h = signed_cases n (IsSigned m) (λ k l. omega arith) tt (λ s k. k)
+
+pub propositional-signed : (n : ℕ) (t : Lambda) → IsSigned n t → IsPropositional t
+propositional-signed n = signed_cases n IsPropositional (λ k l. tt) tt (λ s k. k)
+
+unnamed-signed : (n : ℕ) (t : Lambda) → IsSigned n t → NamesNoWitness t
+unnamed-signed n = signed_cases n NamesNoWitness (λ k l. tt) tt (λ s k. (tt, k))
+
+leaf-signed : (n : ℕ) (t : Lambda) → IsSigned n t → IsLeafTerm (literal t).atom
+leaf-signed n = signed_cases n (λ t. IsLeafTerm (literal t).atom) (λ k l. tt) tt (λ s k. k)
+
+unnamed-literal : (n : ℕ) (t : Lambda) → IsSigned n t → NamesNoWitness (literal t).atom
+unnamed-literal n = signed_cases n (λ t. NamesNoWitness (literal t).atom) (λ k l. tt) tt (λ s k. k)
+
+-- each of the first n names has the type of formulas
+abbrev pub NamesAreFormulas : Scope → ℕ → Type 0
+NamesAreFormulas scope n = (k : ℕ) → k < n → slice_get scope.names k ≡ Some formula
+
+canonical-signed : (scope : Scope) (n : ℕ) → NamesAreFormulas scope n → (t : Lambda) → IsSigned n t → IsCanonical scope [] formula t
+canonical-signed scope n names =
+    signed_cases n (IsCanonical scope [] formula) (λ k l. (tt, names k l)) (tt, refl) (λ s h. (tt, (formula, refl, h)))
+
+-- every element of the list has the property
+abbrev Every : {A : Type 0} → (A → Type 0) → List A → Type 0
+Every P [] = Unit {0}
+Every P (x ∷ xs) = P x × Every P xs
+
+every_each : {A : Type 0} (P : A → Type 0) (xs : List A) → Each P xs → Every P xs
+every_each P [] h = tt
+every_each P (x ∷ xs) h = (h x (contains-first x xs), every_each P xs (λ y k. h y (contains-later y x xs k)))
+
+-- a literal of the list to which others are added is one of them or was there
+contains-added : (ls ks : List Literal) (l : Literal) → Contains (added ls ks) l → Contains ls l ⊎ Contains ks l
+contains-added ls [] l h = inl h
+contains-added ls (k ∷ ks) l h = go (has ls k) (λ front. contains-added front ks l) h
+  where
+    go : (b : Bool) → ((front : List Literal) → Contains (added front ks) l → Contains front l ⊎ Contains ks l) → Contains (added (if b then ls else ls ++ k ∷ []) ks) l → Contains ls l ⊎ Contains (k ∷ ks) l
+    go true rest h' = ⊎_elim (λ c. inl c) (λ c. inr (contains-later l k ks c)) (rest ls h')
+    go false rest h' =
+        ⊎_elim
+        (λ c. ⊎_elim (λ d. inl d) (λ e. inr (subst (λ x. Contains (x ∷ ks) l) (sym e) (contains-first l ks))) (Contains-push_cases ls k l c))
+        (λ c. inr (contains-later l k ks c)) (rest (ls ++ k ∷ []) h')
+
+added_each : (P : Literal → Type 0) (ks : List Literal) → Every P ks → Every P (added [] ks)
+added_each P ks h = every_each P (added [] ks) (λ l c. ⊎_elim (λ d. absurd (none_contained l d)) (λ d. at_of ks h l d) (contains-added [] ks l c))
+  where
+    at_of : (ls : List Literal) → Every P ls → (l : Literal) → Contains ls l → P l
+    at_of [] e l d = absurd (none_contained l d)
+    at_of (k ∷ ls) e l d = contains_cases (P l) l k ls d (λ q. subst P q e.0) (λ r. at_of ls e.1 l r)
+
+-- what a file states: the constants have the type of formulas, and the formulas are signed ones of them
+abbrev pub AreSigned : ℕ → List Lambda → Type 0
+AreSigned n [] = Unit {0}
+AreSigned n (t ∷ ts) = IsSigned n t × AreSigned n ts
+
+abbrev pub IsSignedIfThere : ℕ → Option Lambda → Type 0
+IsSignedIfThere n None = Unit {0}
+IsSignedIfThere n (Some t) = IsSigned n t
+
+abbrev pub ConstantsAreFormulas : List TypedName → Type 0
+ConstantsAreFormulas [] = Unit {0}
+ConstantsAreFormulas (c ∷ cs) = (c.type ≡ formula) × ConstantsAreFormulas cs
+
+pub record IsSound (s : Stated) : Type 0 where
+  pub constants : ConstantsAreFormulas s.constants
+  pub assumed : AreSigned (length s.constants) s.assumed
+  pub conjecture : IsSignedIfThere (length s.constants) s.conjecture
+
+position_below : {A : Type 0} (p : A → Bool) (xs : List A) (k : ℕ) → position p xs ≡ Some k → k < length xs
+position_below p xs k h = go (nat_lt (position_or_len p xs) (length xs)) refl h
+  where
+    go : (b : Bool) → nat_lt (position_or_len p xs) (length xs) ≡ b → cond b (Some (position_or_len p xs)) None ≡ Some k → k < length xs
+    go true e q = let i : position_or_len p xs ≡ k = cc in subst (λ j. j < length xs) i (ltb-true (position_or_len p xs) (length xs) e)
+    go false e q = cc
+
+abbrev symbol_at : Option ℕ → Option Symbol
+symbol_at o = first_symbol None o
+
+constant_below : (constants : List TypedName) (w : List ℕ) (t : Lambda) → named_constant (symbol_named [] constants w) ≡ Some t → IsSigned (length constants) t
+constant_below constants w t h = go (position (λ c. bytes_eq c.name w) constants) refl h
+  where
+    go : (o : Option ℕ) → position (λ c. bytes_eq c.name w) constants ≡ o → named_constant (symbol_at o) ≡ Some t → IsSigned (length constants) t
+    go None e q = cc
+    go (Some k) e q = let n : constant (name k) ≡ t = cc in subst (IsSigned (length constants)) n (position_below (λ c. bytes_eq c.name w) constants k e)
+
+term_of-signed : (constants : List TypedName) (f : Formula) (t : Lambda) → term_of constants f ≡ Some t → IsSigned (length constants) t
+term_of-signed constants (named w) t h = constant_below constants w t h
+term_of-signed constants truth t h = let e : neg (constant falsity) ≡ t = cc in subst (IsSigned (length constants)) e tt
+term_of-signed constants falsehood t h = let e : constant falsity ≡ t = cc in subst (IsSigned (length constants)) e tt
+term_of-signed constants (negated f) t h =
+    let m = maps neg (term_of constants f) t h in
+    subst (IsSigned (length constants)) m.same (term_of-signed constants f m.value m.is)
+
+signed_all_more : (n m : ℕ) → n ≤ m → (ts : List Lambda) → AreSigned n ts → AreSigned m ts
+signed_all_more n m l [] h = tt
+signed_all_more n m l (t ∷ ts) h = (signed_more n m l t h.0, signed_all_more n m l ts h.1)
+
+signed_one_more : (n m : ℕ) → n ≤ m → (o : Option Lambda) → IsSignedIfThere n o → IsSignedIfThere m o
+signed_one_more n m l None h = tt
+signed_one_more n m l (Some t) h = signed_more n m l t h
+
+signed_append : (n : ℕ) (ts : List Lambda) (t : Lambda) → AreSigned n ts → IsSigned n t → AreSigned n (ts ++ t ∷ [])
+signed_append n [] t h k = (k, tt)
+signed_append n (u ∷ ts) t h k = (h.0, signed_append n ts t h.1 k)
+
+constants_append : (cs : List TypedName) (w : List ℕ) → ConstantsAreFormulas cs → ConstantsAreFormulas (cs ++ record { name = w; type = formula } ∷ [])
+constants_append [] w h = (refl, tt)
+constants_append (c ∷ cs) w h = (h.0, constants_append cs w h.1)
+
+more_sound : (s t : Stated) (statement : Statement) → stated_more s statement ≡ Some t → IsSound s → IsSound t
+more_sound s t (declares w) h g = go (is_some (symbol_named [] s.constants w)) h
+  where
+    longer : length s.constants ≤ length (with_name s w).constants
+    longer = omega (arith, length-append s.constants (record { name = w; type = formula } ∷ []))
+
+    go : (b : Bool) → (if b then None else Some (with_name s w)) ≡ Some t → IsSound t
+    go true e = cc
+    go false e =
+        let q : with_name s w ≡ t = cc in
+        subst IsSound q (record {
+          constants = constants_append s.constants w g.constants;
+          assumed = signed_all_more (length s.constants) _ longer s.assumed g.assumed;
+          conjecture = signed_one_more (length s.constants) _ longer s.conjecture g.conjecture;
+        })
+more_sound s t (assumes f) h g =
+    let m = maps (with_assumed s) (term_of s.constants f) t h in
+    subst IsSound m.same (record {
+      constants = g.constants;
+      assumed = signed_append (length s.constants) s.assumed m.value g.assumed (term_of-signed s.constants f m.value m.is);
+      conjecture = g.conjecture;
+    })
+more_sound s t (asks f) h g = go (is_some s.conjecture) h
+  where
+    go : (b : Bool) → (if b then None else option_map (with_conjecture s) (term_of s.constants f)) ≡ Some t → IsSound t
+    go true e = cc
+    go false e =
+        let m = maps (with_conjecture s) (term_of s.constants f) t e in
+        subst IsSound m.same (record { constants = g.constants; assumed = g.assumed; conjecture = term_of-signed s.constants f m.value m.is })
+
+leads_sound : (depth : ℕ) (s t : Stated) (bytes : List ℕ) → Leads depth s bytes t → IsSound s → IsSound t
+leads_sound depth s t bytes (at_end s' bs e) g = g
+leads_sound depth s t bytes (by_statement s' t' u' bs rs statement is_statement stated l) g = leads_sound depth t' u' rs l (more_sound s' t' statement stated g)
+
+pub states_sound : (depth : ℕ) (bytes : List ℕ) (s : Stated) → States depth bytes s → IsSound s
+states_sound depth bytes s h = leads_sound depth nothing_stated s bytes h (record { constants = tt; assumed = tt; conjecture = tt })
