@@ -185,3 +185,100 @@ leads_sound depth s t bytes (by_statement s' t' u' bs rs statement is_statement 
 
 pub states_sound : (depth : ℕ) (bytes : List ℕ) (s : Stated) → States depth bytes s → IsSound s
 states_sound depth bytes s h = leads_sound depth nothing_stated s bytes h (record { constants = tt; assumed = tt; conjecture = tt })
+
+names_are_formulas : (cs : List TypedName) → ConstantsAreFormulas cs → (k : ℕ) → k < length cs → slice_get (map (λ c. c.type) cs) k ≡ Some formula
+names_are_formulas [] h k l = absurd (omega arith)
+names_are_formulas (c ∷ cs) h zero l = ap Some h.0
+names_are_formulas (c ∷ cs) h (suc k) l = names_are_formulas cs h.1 k (omega arith)
+
+-- a fact about the literals of signed formulas is one about the start
+module _ (P : Literal → Type 0) (n : ℕ) (of_literal : (t : Lambda) → IsSigned n t → P (literal t)) (of_opposite : (t : Lambda) → IsSigned n t → P (opposite (literal t))) where
+  every_literal : (ts : List Lambda) (o : Option Lambda) → AreSigned n ts → IsSignedIfThere n o → Every P (map literal ts ++ denied o)
+  every_literal [] None h k = tt
+  every_literal [] (Some t) h k = (of_opposite t k, tt)
+  every_literal (t ∷ ts) o h k = (of_literal t h.0, every_literal ts o h.1 k)
+
+  every_start : (s : Stated) → length s.constants ≡ n → IsSound s → Every P (start (question_of s))
+  every_start s e g =
+      added_each P (map literal s.assumed ++ denied s.conjecture)
+      (every_literal s.assumed s.conjecture (subst (λ m. AreSigned m s.assumed) e g.assumed) (subst (λ m. IsSignedIfThere m s.conjecture) e g.conjecture))
+
+are_leaves : (ls : List Literal) → Every (λ l. IsLeafTerm l.atom) ls → AreLeaves ls
+are_leaves [] h = tt
+are_leaves (l ∷ ls) h = (h.0, are_leaves ls h.1)
+
+none_named : (ls : List Literal) → Every (λ l. NamesNoWitness l.atom) ls → NoneNamesWitness ls
+none_named [] h = tt
+none_named (l ∷ ls) h = (h.0, none_named ls h.1)
+
+is_branch : (scope : Scope) (ls : List Literal) → Every (IsLiteral scope) ls → IsBranch scope ls
+is_branch scope [] h = tt
+is_branch scope (l ∷ ls) h = (h.0, is_branch scope ls h.1)
+
+meets_branch : (scope : Scope) (m : Model) (ls : List Literal) → Every (MeetsLiteral scope m) ls → MeetsBranch scope m ls
+meets_branch scope m [] h = tt
+meets_branch scope m (l ∷ ls) h = (h.0, meets_branch scope m ls h.1)
+
+propositional_all : (n : ℕ) (ts : List Lambda) → AreSigned n ts → ArePropositional ts
+propositional_all n [] h = tt
+propositional_all n (t ∷ ts) h = (propositional-signed n t h.0, propositional_all n ts h.1)
+
+propositional_one : (n : ℕ) (o : Option Lambda) → IsSignedIfThere n o → IsPropositionalIfThere o
+propositional_one n None h = tt
+propositional_one n (Some t) h = propositional-signed n t h
+
+module _ (s : Stated) (g : IsSound s) where
+  scope : Scope
+  scope = (question_of s).scope
+
+  pub sound_propositional : StatesPropositional s
+  sound_propositional = record {
+    assumed = propositional_all (length s.constants) s.assumed g.assumed;
+    conjecture = propositional_one (length s.constants) s.conjecture g.conjecture;
+  }
+
+  pub start_leaves : AreLeaves (start (question_of s))
+  start_leaves =
+      let n = length s.constants in
+      are_leaves _ (every_start (λ l. IsLeafTerm l.atom) n (leaf-signed n) (leaf-signed n) s refl g)
+
+  pub start_unnamed : NoneNamesWitness (start (question_of s))
+  start_unnamed =
+      let n = length s.constants in
+      none_named _ (every_start (λ l. NamesNoWitness l.atom) n (unnamed-literal n) (unnamed-literal n) s refl g)
+
+  canonical : (t : Lambda) → IsSigned (length s.constants) t → IsCanonical (question_of s).scope [] formula t
+  canonical = canonical-signed (question_of s).scope (length s.constants) (names_are_formulas s.constants g.constants)
+
+  pub start_typed : IsBranch (question_of s).scope (start (question_of s))
+  start_typed =
+      let k = (question_of s).scope in
+      is_branch k _
+      (every_start (IsLiteral k) (length s.constants) (λ t h. literal-is_literal k t (canonical t h)) (λ t h. opposite-is_literal k (literal t) (literal-is_literal k t (canonical t h))) s refl g)
+
+  -- a model of the problem meets the start
+  module _ (m : Model) (good : IsModel (question_of s).scope m) where
+    literals_met : (ts : List Lambda) → AreSigned (length s.constants) ts → MeetsFormulas (question_of s).scope m ts → Every (MeetsLiteral (question_of s).scope m) (map literal ts)
+    literals_met [] h k = tt
+    literals_met (t ∷ ts) h k = ((literal-says (question_of s).scope m good t (canonical t h.0)).at_one k.0, literals_met ts h.1 k.1)
+
+    not_one : (v : ℕ) → v < 2 → (v ≡ 1 → ⊥) → v ≡ 0
+    not_one zero l h = refl
+    not_one (suc zero) l h = absurd (h refl)
+    not_one (suc (suc v)) l h = absurd (omega arith)
+
+    denied_met : (o : Option Lambda) → IsSignedIfThere (length s.constants) o → Refutes (question_of s).scope m o → Every (MeetsLiteral (question_of s).scope m) (denied o)
+    denied_met None h k = tt
+    denied_met (Some t) h k =
+        let v = value (question_of s).scope m [] [] t in
+        ((literal-says (question_of s).scope m good t (canonical t h)).at_zero (not_one v (value-bit (question_of s).scope m good t (canonical t h)) k), tt)
+
+    both : {A : Type 0} (P : A → Type 0) (xs ys : List A) → Every P xs → Every P ys → Every P (xs ++ ys)
+    both P [] ys h k = k
+    both P (x ∷ xs) ys h k = (h.0, both P xs ys h.1 k)
+
+    pub start_met : MeetsProblem (question_of s) m → MeetsBranch (question_of s).scope m (start (question_of s))
+    start_met h =
+        meets_branch (question_of s).scope m _
+        (added_each (MeetsLiteral (question_of s).scope m) (map literal s.assumed ++ denied s.conjecture)
+        (both (MeetsLiteral (question_of s).scope m) (map literal s.assumed) (denied s.conjecture) (literals_met s.assumed g.assumed h.assumed) (denied_met s.conjecture g.conjecture h.conjecture)))
