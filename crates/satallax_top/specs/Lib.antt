@@ -11,3 +11,6 @@ pub mod Clauses
 pub mod Search
 pub mod Run
 pub mod Ended
+pub mod Text
+pub mod Block
+pub mod Words
