@@ -1,0 +1,65 @@
+// Where bytes are written.
+ghost use Rattle.std.specs.Prelude.{◌≡◌, ◌≤◌, ◌<◌, ◌++◌, List, ℕ, Bool, length, take, IfOk, OnOk, OnErr, IsTrue};
+ghost use Rattle.std.specs.Prelude.{drop};
+ghost use Rattle.std.specs.List.{flat_map};
+ghost use Rattle.outside.specs.Causes.{Rose};
+ghost use Rattle.outside.specs.Prefix.{AppendsProperly};
+
+use crate::Failed;
+
+/// Takes bytes, and counts its faults.
+pub trait Sink {
+    /// Whether it tells what was written.
+    ghost tells: { Self → Bool };
+
+    /// The bytes written so far, where it tells them.
+    ghost written: { Self → List ℕ };
+
+    /// How many writes have failed. It never falls, and stands still at 2^64 - 1.
+    ghost faults: { Self → ℕ };
+
+    /// Takes some bytes from the front, at least one.
+    fn write(&mut self, bytes: &[u8]) -> Result<usize, Failed>
+        requires { 0 < length bytes.now }
+        ensures some { IfOk result (λ n. 0 < n) }
+        ensures bound { IfOk result (λ n. n ≤ length bytes.now) }
+        ensures appended { IfOk result (λ n. IsTrue (tells self.old) → written self.new ≡ written self.old ++ take n bytes.now) }
+        ensures failed { OnErr result (IsTrue (tells self.old) → written self.new ≡ written self.old) }
+        ensures cause { OnErr result (Rose (faults self.old) (faults self.new)) }
+        ensures later { faults self.old ≤ faults self.new }
+        ensures telling { IsTrue (tells self.old) → IsTrue (tells self.new) };
+}
+
+/// Writes all the bytes.
+pub fn write_all_counted<S: Sink>(sink: &mut S, bytes: &[u8]) -> Result<(), Failed>
+    ensures appended { OnOk result (IsTrue (S.tells sink.old) → S.written sink.new ≡ S.written sink.old ++ bytes.now) }
+    ensures failed { OnErr result (IsTrue (S.tells sink.old) → AppendsProperly (S.written sink.old) (S.written sink.new) bytes.now) }
+    ensures cause { OnErr result (Rose (S.faults sink.old) (S.faults sink.new)) }
+    ensures later { S.faults sink.old ≤ S.faults sink.new }
+    ensures telling { IsTrue (S.tells sink.old) → IsTrue (S.tells sink.new) }
+{
+    let mut done = 0;
+    while done < bytes.len() {
+        done += sink.write(&bytes[done..])?;
+    }
+    Ok(())
+}
+
+/// Writes all the bytes of the pieces, one piece after another.
+pub fn write_pieces<S: Sink>(sink: &mut S, pieces: &[&[u8]]) -> Result<(), Failed>
+    ensures appended { OnOk result (IsTrue (S.tells sink.old)
+        → S.written sink.new ≡ S.written sink.old ++ flat_map (λ piece. piece.now) pieces.now) }
+    ensures failed { OnErr result (IsTrue (S.tells sink.old)
+        → AppendsProperly (S.written sink.old) (S.written sink.new) (flat_map (λ piece. piece.now) pieces.now)) }
+    ensures cause { OnErr result (Rose (S.faults sink.old) (S.faults sink.new)) }
+    ensures later { S.faults sink.old ≤ S.faults sink.new }
+    ensures telling { IsTrue (S.tells sink.old) → IsTrue (S.tells sink.new) }
+{
+    for piece in pieces {
+        match write_all_counted(sink, piece) {
+            Ok(()) => {}
+            Err(Failed) => return Err(Failed),
+        }
+    }
+    Ok(())
+}
