@@ -1,9 +1,10 @@
 // A list of bytes that grows.
-ghost use Rattle.std.specs.Prelude.{◌≡◌, [], ◌∷◌, ◌++◌, length, OnOk, OnErr, IsTrue, ◌↔◌};
+ghost use Rattle.std.specs.Prelude.{◌≡◌, [], ◌∷◌, ◌++◌, length, IfOk, OnOk, OnErr, IsTrue, ◌↔◌};
 
 use std::alloc::{AllocError, Global};
 use std::marker::Model;
 
+/// A list of bytes that grows.
 #[derive(Debug, Drop)]
 pub struct Bytes {
     items: Vec<u8>,
@@ -26,6 +27,14 @@ impl Bytes {
         }
     }
 
+    pub fn from_slice(alloc: Global, bytes: &[u8]) -> Result<Self, AllocError>
+        ensures { IfOk result (λ copy. copy ≡ bytes.now) }
+    {
+        Ok(Bytes {
+            items: Vec::from_slice(alloc, bytes)?,
+        })
+    }
+
     pub fn push(&mut self, byte: u8) -> Result<(), AllocError>
         ensures ok { OnOk result (self.new ≡ self.old ++ byte ∷ []) }
         ensures err { OnErr result (self.new ≡ self.old) }
@@ -34,12 +43,12 @@ impl Bytes {
         Ok(())
     }
 
-    /// Adds a whole piece.
-    pub fn extend_from_slice(&mut self, piece: &[u8]) -> Result<(), AllocError>
-        ensures ok { OnOk result (self.new ≡ self.old ++ piece.now) }
+    /// Adds all the bytes, or none.
+    pub fn extend_from_slice(&mut self, bytes: &[u8]) -> Result<(), AllocError>
+        ensures ok { OnOk result (self.new ≡ self.old ++ bytes.now) }
         ensures err { OnErr result (self.new ≡ self.old) }
     {
-        self.items.extend_from_slice(piece)
+        self.items.extend_from_slice(bytes)
     }
 
     pub fn as_slice(&self) -> &[u8]

@@ -1,6 +1,6 @@
 use Rattle.std.proofs.Common.{◌≡◌, ◌≤◌, ◌++◌, take, IsTrue}
 use Rattle.std.specs.List.{flat_map}
-use Rattle.outside.proofs.sink.write_pieces.Given as goal
+use Rattle.outside.proofs.writing.write_pieces.Given as goal
 
 abbrev pub invariant-loop-piece : goal.invariant-loop-piece
 invariant-loop-piece g l =
