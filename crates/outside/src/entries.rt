@@ -15,7 +15,7 @@ fn find_entry(entries: &[Entry], name: &str) -> Option<usize>
 }
 
 /// The place of the first file of a name, or the number of files where none has it.
-pub fn place(entries: &[Entry], name: &str) -> usize
+pub fn first_place(entries: &[Entry], name: &str) -> usize
     ensures place { result ≡ place_of (map file_of entries.now) name.now }
     ensures within { result ≤ length entries.now }
     ensures found { result < length entries.now → content_of (map file_of entries.now) name.now ≡ Some (bytes_at (map file_of entries.now) result) }

@@ -6,7 +6,7 @@ use std::alloc::{AllocError, Global};
 use std::marker::Model;
 
 /// A file, and how often a call has failed for its name.
-#[derive(Drop)]
+#[derive(Debug, Drop)]
 pub struct Entry {
     pub name: String,
     pub bytes: Bytes,
@@ -14,9 +14,8 @@ pub struct Entry {
 }
 
 /// Files by name, in order. Where a name comes twice, its first file counts.
-#[derive(Drop)]
+#[derive(Debug, Drop)]
 pub struct FileList {
-    alloc: Global,
     entries: Vec<Entry>,
 }
 
@@ -38,7 +37,6 @@ impl FileList {
         ensures { result ≡ [] }
     {
         FileList {
-            alloc,
             entries: Vec::new(alloc),
         }
     }
@@ -47,9 +45,10 @@ impl FileList {
         ensures ok { OnOk result (self.new ≡ self.old ++ (name.now, bytes.now) ∷ []) }
         ensures err { OnErr result (self.new ≡ self.old) }
     {
+        let alloc = *self.entries.allocator();
         self.entries.push(Entry {
-            name: String::from_str(self.alloc, name)?,
-            bytes: Bytes::from_slice(self.alloc, bytes)?,
+            name: String::from_str(alloc, name)?,
+            bytes: Bytes::from_slice(alloc, bytes)?,
             faults: 0,
         })?;
         Ok(())

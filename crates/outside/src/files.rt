@@ -4,12 +4,13 @@ ghost use Rattle.outside.specs.Causes.{Rose};
 
 use crate::Failed;
 
-/// Files by name, one of which may be current. It counts the faults of each name.
+/// Files that are read by name, one of which may be current. They count the faults of each name, so
+/// that a call can be seen to fail only where it counted one.
 pub trait Files {
-    /// Whether it tells what the files contain.
+    /// Whether they tell what the files contain.
     ghost tells: { Self → Bool };
 
-    /// The bytes of the file of a name, where it tells them.
+    /// The bytes of the file of a name, if there is one. They are meant where the files tell them.
     ghost contents: { Self → List ℕ → Option (List ℕ) };
 
     /// Whether a file is current.
@@ -18,13 +19,14 @@ pub trait Files {
     /// Whether the current file goes by a name.
     ghost goes_by: { Self → List ℕ → Type 0 };
 
-    /// What is left of the current file.
+    /// What is left of the current file, where the files tell it.
     ghost left: { Self → List ℕ };
 
-    /// How many calls have failed for a name. It never falls, and stands still at 2^64 - 1.
+    /// How many calls have failed for a name. No count falls, and each stays at 2^64 - 1, its last value.
     ghost faults: { Self → List ℕ → ℕ };
 
-    /// Makes the file of a name current, from its start.
+    /// Makes the file of a name current, from its start on. A file that is missing is a fault. After a
+    /// fault no file need be current.
     fn open_file(&mut self, name: &str) -> Result<(), Failed>
         ensures current { OnOk result (IsTrue (has_current self.new)) }
         ensures named { OnOk result (goes_by self.new name.now) }
@@ -34,7 +36,7 @@ pub trait Files {
         ensures same { contents self.new ≡ contents self.old }
         ensures telling { tells self.new ≡ tells self.old };
 
-    /// Reads some bytes of the current file, none only at its end.
+    /// Reads some of the bytes that are left to the front of `buf`, and none only where none is left.
     fn read(&mut self, buf: &mut [u8]) -> Result<usize, Failed>
         requires current { IsTrue (has_current self.old) }
         requires room { 0 < length buf.old }

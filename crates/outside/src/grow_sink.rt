@@ -7,7 +7,7 @@ use std::alloc::Global;
 use std::marker::Model;
 
 /// A sink that takes every piece whole. Where it finds no memory, it fails.
-#[derive(Drop)]
+#[derive(Debug, Drop)]
 pub struct GrowSink {
     bytes: Bytes,
     faults: u64,

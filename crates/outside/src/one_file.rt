@@ -5,7 +5,7 @@ use crate::in_memory::read_at;
 use crate::{Bytes, Failed, Files};
 
 /// Files that have the same bytes under every name. No call fails.
-#[derive(Drop)]
+#[derive(Debug, Drop)]
 pub struct OneFile {
     bytes: Bytes,
     is_open: bool,

@@ -5,10 +5,17 @@ ghost use Rattle.outside.specs.Causes.{Rose};
 use crate::{Bytes, Files};
 use std::alloc::Global;
 
+/// How many bytes are asked for at once, and so read past a limit at most.
+const BUFFER: usize = 8192;
+
+/// Why a file was not read whole.
 #[derive(Clone, Copy, Debug, PartialEq, Eq)]
 pub enum ReadRefused {
+    /// A call failed, and the count of the file's name rose.
     Fault,
+    /// More bytes were read than the limit.
     TooLong,
+    /// There is no memory for the bytes.
     Memory,
 }
 
@@ -32,7 +39,7 @@ pub fn read_whole<F: Files>(
     if files.open_file(name).is_err() {
         return Err(ReadRefused::Fault);
     }
-    let mut buf = [0; 4096];
+    let mut buf = [0; BUFFER];
     loop {
         let Ok(count) = files.read(&mut buf) else {
             return Err(ReadRefused::Fault);

@@ -1,13 +1,10 @@
 // Where bytes are written.
 ghost use Rattle.std.specs.Prelude.{◌≡◌, ◌≤◌, ◌<◌, ◌++◌, List, ℕ, Bool, length, take, IfOk, OnOk, OnErr, IsTrue};
-ghost use Rattle.std.specs.Prelude.{drop};
-ghost use Rattle.std.specs.List.{flat_map};
 ghost use Rattle.outside.specs.Causes.{Rose};
-ghost use Rattle.outside.specs.Prefix.{AppendsProperly};
 
 use crate::Failed;
 
-/// Takes bytes, and counts its faults.
+/// Takes bytes in order, and counts its faults.
 pub trait Sink {
     /// Whether it tells what was written.
     ghost tells: { Self → Bool };
@@ -15,10 +12,10 @@ pub trait Sink {
     /// The bytes written so far, where it tells them.
     ghost written: { Self → List ℕ };
 
-    /// How many writes have failed. It never falls, and stands still at 2^64 - 1.
+    /// How many writes have failed. The count never falls, and stays at 2^64 - 1, its last value.
     ghost faults: { Self → ℕ };
 
-    /// Takes some bytes from the front, at least one.
+    /// Takes some bytes from the front, at least one. A sink that can take none fails.
     fn write(&mut self, bytes: &[u8]) -> Result<usize, Failed>
         requires { 0 < length bytes.now }
         ensures some { IfOk result (λ n. 0 < n) }

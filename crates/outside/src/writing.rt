@@ -6,7 +6,7 @@ ghost use Rattle.outside.specs.Prefix.{AppendsProperly};
 
 use crate::{Failed, Sink};
 
-/// Writes all the bytes.
+/// Writes all the bytes, in as many writes as the sink asks for.
 pub fn write_all_counted<S: Sink>(sink: &mut S, bytes: &[u8]) -> Result<(), Failed>
     ensures appended { OnOk result (IsTrue (S.tells sink.old) → S.written sink.new ≡ S.written sink.old ++ bytes.now) }
     ensures failed { OnErr result (IsTrue (S.tells sink.old) → AppendsProperly (S.written sink.old) (S.written sink.new) bytes.now) }

@@ -9,7 +9,7 @@ use Rattle.outside.specs.FileList.{place_of}
 use Rattle.std.proofs.lemmas.List.{length-map}
 use Rattle.outside.specs.declared.file_list.Entry.{Entry}
 use Rattle.outside.proofs.Places.{position_or_len-map, content_within, content_past}
-use Rattle.outside.proofs.entries.place.Goals as goal
+use Rattle.outside.proofs.entries.first_place.Goals as goal
 
 place_is : (c : goal.After-unwrap_or) → c.unwrap_or.result ≡ place_of (map file_of c.args.entries.now) c.args.name.now
 place_is c =
