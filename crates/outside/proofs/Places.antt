@@ -5,7 +5,7 @@ use Rattle.std.specs.Prelude.{slice_get}
 use Rattle.std.specs.List.{position_or_len}
 use Rattle.std.specs.Option.{option_map}
 use Rattle.outside.specs.declared.file_list.Entry.{Entry}
-use Rattle.outside.specs.Entry.{file_of}
+use Rattle.outside.specs.Entry.{files_of}
 use Rattle.outside.specs.FileList.{place_of, content_of, bytes_at}
 
 pub position_or_len-map : {X Y : Type 0} (f : X → Y) (p : Y → Bool) (xs : List X) → position_or_len p (map f xs) ≡ position_or_len (λ x. p (f x)) xs
@@ -34,7 +34,7 @@ pub content_past : (files : List (List ℕ × List ℕ)) (name : List ℕ) → l
 content_past files name past = content_at files name ∙ bytes_past files _ past
 
 -- the bytes at a place are those of the entry there
-pub bytes_at-map : (entries : List Entry) (place : ℕ) (entry : Entry) → place < length entries → entry ≡ get_or entries place entry → bytes_at (map file_of entries) place ≡ entry.bytes
+pub bytes_at-map : (entries : List Entry) (place : ℕ) (entry : Entry) → place < length entries → entry ≡ get_or entries place entry → bytes_at (files_of entries) place ≡ entry.bytes
 bytes_at-map [] place entry within at = absurd (omega arith)
 bytes_at-map (e ∷ entries) zero entry within at = ap (λ (x : Entry). x.bytes) (sym at)
 bytes_at-map (e ∷ entries) (suc place) entry within at = bytes_at-map entries place entry (omega arith) at

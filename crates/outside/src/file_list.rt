@@ -1,5 +1,5 @@
 // Files by name.
-ghost use Rattle.std.specs.Prelude.{◌≡◌, [], ◌∷◌, ◌++◌, OnOk, OnErr, map, replicate, length};
+ghost use Rattle.std.specs.Prelude.{◌≡◌, [], ◌∷◌, ◌++◌, OnOk, OnErr, ◌+◌, replicate, length};
 
 use crate::Bytes;
 use std::alloc::{AllocError, Global};
@@ -20,18 +20,19 @@ pub struct FileList {
 }
 
 impl Model for FileList {
-    ghost use Rattle.std.specs.Prelude.{◌≡◌, List, ℕ, map, replicate, length};
-    ghost use Rattle.outside.specs.Entry.{file_of, count_of};
+    ghost use Rattle.std.specs.Prelude.{◌≡◌, ◌+◌, List, ℕ, length, replicate};
 
     ghost Value = { List (List ℕ × List ℕ) };
 
-    ghost view = { λ l. map file_of l.entries.items };
+    ghost use Rattle.outside.specs.Entry.{files_of, counts_of};
 
-    ghost invariant = { λ l. map count_of l.entries.items ≡ replicate (length l.entries.items) 0 };
+    ghost view = { λ l. files_of l.entries.items };
+
+    ghost invariant = { λ l. counts_of l.entries.items 0 ≡ replicate (length l.entries.items + 1) 0 };
 }
 
 impl FileList {
-    ghost use Rattle.outside.specs.Entry.{file_of, count_of};
+    ghost use Rattle.outside.specs.Entry.{files_of, counts_of};
 
     pub fn new(alloc: Global) -> Self
         ensures { result ≡ [] }
@@ -55,8 +56,8 @@ impl FileList {
     }
 
     pub(crate) fn into_entries(self) -> Vec<Entry>
-        ensures files { map file_of result.items ≡ self }
-        ensures counts { map count_of result.items ≡ replicate (length self) 0 }
+        ensures files { files_of result.items ≡ self }
+        ensures counts { counts_of result.items 0 ≡ replicate (length self + 1) 0 }
     {
         self.entries
     }

@@ -30,8 +30,10 @@ pub trait Files {
     fn open_file(&mut self, name: &str) -> Result<(), Failed>
         ensures current { OnOk result (IsTrue (has_current self.new)) }
         ensures named { OnOk result (goes_by self.new name.now) }
-        ensures all_left { OnOk result (IsTrue (tells self.old) → contents self.old name.now ≡ Some (left self.new)) }
+        ensures all_left { OnOk result (IsTrue (tells self.old)
+            → contents self.old name.now ≡ Some (left self.new)) }
         ensures cause { OnErr result (Rose (faults self.old name.now) (faults self.new name.now)) }
+
         ensures later { (other : List ℕ) → faults self.old other ≤ faults self.new other }
         ensures same { contents self.new ≡ contents self.old }
         ensures telling { tells self.new ≡ tells self.old };
@@ -41,9 +43,12 @@ pub trait Files {
         requires current { IsTrue (has_current self.old) }
         requires room { 0 < length buf.old }
         ensures bound { IfOk result (λ n. n ≤ length buf.new) }
-        ensures bytes { IfOk result (λ n. IsTrue (tells self.old) → left self.old ≡ take n buf.new ++ left self.new) }
+        ensures bytes { IfOk result (λ n. IsTrue (tells self.old)
+            → left self.old ≡ take n buf.new ++ left self.new) }
         ensures end { IfOk result (λ n. IsTrue (tells self.old) → (n ≡ 0) ↔ (left self.old ≡ [])) }
-        ensures cause { OnErr result ((name : List ℕ) → goes_by self.old name → Rose (faults self.old name) (faults self.new name)) }
+        ensures cause { OnErr result ((name : List ℕ) → goes_by self.old name
+            → Rose (faults self.old name) (faults self.new name)) }
+
         ensures current { IsTrue (has_current self.new) }
         ensures named { (name : List ℕ) → goes_by self.old name ↔ goes_by self.new name }
         ensures later { (other : List ℕ) → faults self.old other ≤ faults self.new other }

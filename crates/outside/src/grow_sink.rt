@@ -1,5 +1,5 @@
 // A sink in memory that grows.
-ghost use Rattle.std.specs.Prelude.{◌≡◌, ◌≤◌, ◌++◌, [], length, true, IfOk, OnErr, IsTrue};
+ghost use Rattle.std.specs.Prelude.{◌≡◌, ◌≤◌, ◌++◌, [], length, true, IfOk, OnOk, OnErr, IsTrue};
 ghost use Rattle.outside.specs.Causes.{raised};
 
 use crate::{Bytes, Failed, Sink};
@@ -50,8 +50,10 @@ impl Sink for GrowSink {
 
     fn write(&mut self, bytes: &[u8]) -> Result<usize, Failed>
         ensures whole { IfOk result (λ n. n ≡ length bytes.now) }
-        ensures taken { IfOk result (λ _. self.new ≡ record self.old { bytes = self.old.bytes ++ bytes.now }) }
-        ensures kept { OnErr result (self.new ≡ record self.old { faults = raised self.old.faults }) }
+        ensures taken { OnOk result (self.new
+            ≡ record self.old { bytes = self.old.bytes ++ bytes.now }) }
+        ensures kept { OnErr result (self.new
+            ≡ record self.old { faults = raised self.old.faults }) }
         ensures later { self.old.faults ≤ self.new.faults }
     {
         if self.bytes.extend_from_slice(bytes).is_err() {

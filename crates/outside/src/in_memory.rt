@@ -6,7 +6,8 @@ ghost use Rattle.std.specs.Prelude.{◌≡◌, ◌≤◌, ◌++◌, length, min,
 pub fn read_at(bytes: &[u8], position: &mut usize, buf: &mut [u8]) -> usize
     requires { position.old ≤ length bytes.now }
     ensures count { result ≡ min (length (drop position.old bytes.now)) (length buf.old) }
-    ensures bytes { drop position.old bytes.now ≡ take result buf.new ++ drop position.new bytes.now }
+    ensures bytes { drop position.old bytes.now
+        ≡ take result buf.new ++ drop position.new bytes.now }
     ensures within { position.new ≤ length bytes.now }
     ensures room { length buf.new ≡ length buf.old }
 {

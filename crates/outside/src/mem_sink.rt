@@ -23,7 +23,13 @@ impl Model for MemSink {
 
     ghost Value = { MemSinkState };
 
-    ghost view = { λ s. record { bytes = s.bytes.items; room = s.room; fails = s.calls.fails; calls = s.calls.made; faults = s.faults } };
+    ghost view = { λ s. record {
+      bytes = s.bytes.items;
+      room = s.room;
+      fails = s.calls.fails;
+      calls = s.calls.made;
+      faults = s.faults;
+    } };
 
     ghost invariant = { λ s. (length s.bytes.items ≤ s.room) × (s.room ≤ vec_capacity s.bytes) };
 }
@@ -63,10 +69,18 @@ impl Sink for MemSink {
 
     fn write(&mut self, bytes: &[u8]) -> Result<usize, Failed>
         requires { 0 < length bytes.now }
-        ensures refused { IsErr result ↔ (Contains self.old.fails self.old.calls ⊎ (self.old.room ≤ length self.old.bytes)) }
-        ensures count { IfOk result (λ n. n ≡ min (length bytes.now) (self.old.room - length self.old.bytes)) }
-        ensures taken { IfOk result (λ n. self.new ≡ record self.old { bytes = self.old.bytes ++ take n bytes.now; calls = raised self.old.calls }) }
-        ensures kept { OnErr result (self.new ≡ record self.old { calls = raised self.old.calls; faults = raised self.old.faults }) }
+        ensures refused { IsErr result
+            ↔ (Contains self.old.fails self.old.calls ⊎ (self.old.room ≤ length self.old.bytes)) }
+        ensures count { IfOk result (λ n.
+            n ≡ min (length bytes.now) (self.old.room - length self.old.bytes)) }
+        ensures taken { IfOk result (λ n. self.new ≡ record self.old {
+          bytes = self.old.bytes ++ take n bytes.now;
+          calls = raised self.old.calls;
+        }) }
+        ensures kept { OnErr result (self.new ≡ record self.old {
+          calls = raised self.old.calls;
+          faults = raised self.old.faults;
+        }) }
         ensures later { self.old.faults ≤ self.new.faults }
     {
         let count = bytes.len().min(self.room - self.bytes.len());

@@ -16,7 +16,8 @@ pub struct OneFile {
 impl OneFile {
     pub fn new(bytes: Bytes) -> Self
         ensures told { IsTrue (⟦<OneFile as Files>⟧.tells result) }
-        ensures contents { (name : List ℕ) → ⟦<OneFile as Files>⟧.contents result name ≡ Some bytes }
+        ensures contents { (name : List ℕ)
+            → ⟦<OneFile as Files>⟧.contents result name ≡ Some bytes }
         ensures faults { (name : List ℕ) → ⟦<OneFile as Files>⟧.faults result name ≡ 0 }
     {
         OneFile {

@@ -26,11 +26,14 @@ pub fn read_whole<F: Files>(
     name: &str,
     limit: usize,
 ) -> Result<Bytes, ReadRefused>
-    ensures whole { IfOk result (λ bytes. IsTrue (F.tells files.old) → F.contents files.old name.now ≡ Some bytes) }
+    ensures whole { IfOk result (λ bytes. IsTrue (F.tells files.old)
+        → F.contents files.old name.now ≡ Some bytes) }
     ensures short { IfOk result (λ bytes. length bytes ≤ limit) }
-    ensures fault { IsErrOf result ReadRefused.Fault → Rose (F.faults files.old name.now) (F.faults files.new name.now) }
+    ensures fault { IsErrOf result ReadRefused.Fault
+        → Rose (F.faults files.old name.now) (F.faults files.new name.now) }
     ensures long { IsErrOf result ReadRefused.TooLong → IsTrue (F.tells files.old)
         → (bytes : List ℕ) × (F.contents files.old name.now ≡ Some bytes) × (limit < length bytes) }
+
     ensures later { (other : List ℕ) → F.faults files.old other ≤ F.faults files.new other }
     ensures same { F.contents files.new ≡ F.contents files.old }
     ensures telling { F.tells files.new ≡ F.tells files.old }

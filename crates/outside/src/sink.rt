@@ -20,8 +20,10 @@ pub trait Sink {
         requires { 0 < length bytes.now }
         ensures some { IfOk result (λ n. 0 < n) }
         ensures bound { IfOk result (λ n. n ≤ length bytes.now) }
-        ensures appended { IfOk result (λ n. IsTrue (tells self.old) → written self.new ≡ written self.old ++ take n bytes.now) }
-        ensures failed { OnErr result (IsTrue (tells self.old) → written self.new ≡ written self.old) }
+        ensures appended { IfOk result (λ n. IsTrue (tells self.old)
+            → written self.new ≡ written self.old ++ take n bytes.now) }
+        ensures failed { OnErr result (IsTrue (tells self.old)
+            → written self.new ≡ written self.old) }
         ensures cause { OnErr result (Rose (faults self.old) (faults self.new)) }
         ensures later { faults self.old ≤ faults self.new }
         ensures telling { IsTrue (tells self.old) → IsTrue (tells self.new) };

@@ -61,7 +61,8 @@ impl<R: rt::Files> Files for StdFiles<R> {
     fn read(&mut self, buf: &mut [u8]) -> Result<usize, Failed>
         requires current { IsTrue (is_reading self.old) }
         ensures bound { ReadsAtMost result buf.new }
-        ensures consumed { ReadConsumes (known_left R.File.remaining self.old) (known_left R.File.remaining self.new) result buf.new }
+        ensures consumed { ReadConsumes (known_left R.File.remaining self.old)
+            (known_left R.File.remaining self.new) result buf.new }
         ensures current { IsTrue (is_reading self.new) }
         ensures uncounted { OnOk result (fault_count self.new ≡ fault_count self.old) }
         ensures counted { OnErr result (fault_count self.new ≡ raised (fault_count self.old)) }

@@ -8,8 +8,10 @@ use crate::{Failed, Sink};
 
 /// Writes all the bytes, in as many writes as the sink asks for.
 pub fn write_all_counted<S: Sink>(sink: &mut S, bytes: &[u8]) -> Result<(), Failed>
-    ensures appended { OnOk result (IsTrue (S.tells sink.old) → S.written sink.new ≡ S.written sink.old ++ bytes.now) }
-    ensures failed { OnErr result (IsTrue (S.tells sink.old) → AppendsProperly (S.written sink.old) (S.written sink.new) bytes.now) }
+    ensures appended { OnOk result (IsTrue (S.tells sink.old)
+        → S.written sink.new ≡ S.written sink.old ++ bytes.now) }
+    ensures failed { OnErr result (IsTrue (S.tells sink.old)
+        → AppendsProperly (S.written sink.old) (S.written sink.new) bytes.now) }
     ensures cause { OnErr result (Rose (S.faults sink.old) (S.faults sink.new)) }
     ensures later { S.faults sink.old ≤ S.faults sink.new }
     ensures telling { IsTrue (S.tells sink.old) → IsTrue (S.tells sink.new) }
@@ -26,7 +28,8 @@ pub fn write_pieces<S: Sink>(sink: &mut S, pieces: &[&[u8]]) -> Result<(), Faile
     ensures appended { OnOk result (IsTrue (S.tells sink.old)
         → S.written sink.new ≡ S.written sink.old ++ flat_map (λ piece. piece.now) pieces.now) }
     ensures failed { OnErr result (IsTrue (S.tells sink.old)
-        → AppendsProperly (S.written sink.old) (S.written sink.new) (flat_map (λ piece. piece.now) pieces.now)) }
+        → AppendsProperly (S.written sink.old) (S.written sink.new)
+        (flat_map (λ piece. piece.now) pieces.now)) }
     ensures cause { OnErr result (Rose (S.faults sink.old) (S.faults sink.new)) }
     ensures later { S.faults sink.old ≤ S.faults sink.new }
     ensures telling { IsTrue (S.tells sink.old) → IsTrue (S.tells sink.new) }
