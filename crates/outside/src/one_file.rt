@@ -1,5 +1,6 @@
 // The same bytes under every name.
-ghost use Rattle.std.specs.Prelude.{◌≡◌, ◌≤◌, List, ℕ, length, drop, Some, true, IsTrue};
+ghost use Rattle.std.specs.Prelude.{◌≡◌, ◌≤◌, [], List, ℕ, length, drop, is_some, Some, true, IsTrue};
+ghost use Rattle.std.specs.Option.{option_map_or, ForSome};
 
 use crate::in_memory::read_at;
 use crate::{Bytes, Failed, Files};
@@ -8,9 +9,8 @@ use crate::{Bytes, Failed, Files};
 #[derive(Debug, Drop)]
 pub struct OneFile {
     bytes: Bytes,
-    is_open: bool,
-    position: usize,
-    ghost within: { position ≤ length bytes },
+    position: Option<usize>,
+    ghost within: { ForSome position (λ p. p ≤ length bytes) },
 }
 
 impl OneFile {
@@ -22,8 +22,7 @@ impl OneFile {
     {
         OneFile {
             bytes,
-            is_open: false,
-            position: 0,
+            position: None,
         }
     }
 }
@@ -33,21 +32,21 @@ impl Files for OneFile {
 
     ghost contents = { λ f name. Some f.bytes };
 
-    ghost has_current = { λ f. f.is_open };
+    ghost has_current = { λ f. is_some f.position };
 
     ghost goes_by = { λ f name. Unit {0} };
 
-    ghost left = { λ f. drop f.position f.bytes };
+    ghost left = { λ f. option_map_or (λ p. drop p f.bytes) f.position [] };
 
     ghost faults = { λ f name. 0 };
 
     fn open_file(&mut self, _name: &str) -> Result<(), Failed> {
-        self.is_open = true;
-        self.position = 0;
+        self.position = Some(0);
         Ok(())
     }
 
     fn read(&mut self, buf: &mut [u8]) -> Result<usize, Failed> {
-        Ok(read_at(self.bytes.as_slice(), &mut self.position, buf))
+        let position = self.position.as_mut().unwrap();
+        Ok(read_at(self.bytes.as_slice(), position, buf))
     }
 }
