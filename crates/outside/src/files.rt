@@ -1,5 +1,5 @@
 // Files that are read by name.
-ghost use Rattle.std.specs.Prelude.{◌≡◌, ◌≤◌, ◌<◌, ◌↔◌, ◌++◌, [], List, ℕ, Bool, Option, Some, length, take, IfOk, OnOk, OnErr, IsErrOf, IsTrue};
+ghost use Rattle.std.specs.Prelude.{◌≡◌, ◌≤◌, ◌<◌, ◌↔◌, ◌++◌, [], List, ℕ, Bool, Option, Some, length, take, IfOk, OnOk, OnErr, IsTrue};
 ghost use Rattle.outside.specs.Causes.{Rose};
 
 use crate::Failed;

@@ -1,5 +1,5 @@
 // Where bytes are written.
-ghost use Rattle.std.specs.Prelude.{◌≡◌, ◌≤◌, ◌<◌, ◌++◌, List, ℕ, Bool, length, take, IfOk, OnOk, OnErr, IsTrue};
+ghost use Rattle.std.specs.Prelude.{◌≡◌, ◌≤◌, ◌<◌, ◌++◌, List, ℕ, Bool, length, take, IfOk, OnErr, IsTrue};
 ghost use Rattle.outside.specs.Causes.{Rose};
 
 use crate::Failed;

@@ -1,5 +1,5 @@
 // The sink over a writer of std.
-ghost use Rattle.std.specs.Prelude.{◌≡◌, ◌≤◌, [], is_some, unwrap_or};
+ghost use Rattle.std.specs.Prelude.{◌≡◌, [], is_some, unwrap_or};
 
 use crate::{Failed, Sink};
 use std::io::Write;
