@@ -1,4 +1,4 @@
-pub mod Words
+pub mod WordFront
 pub mod ReaderLaws
 pub mod UnitLaws
 pub mod StatementLaws

@@ -7,9 +7,7 @@ use Rattle.stt_tableau.specs.Literals.{Literal, plus, opposite, IsBranch}
 use Rattle.stt_tableau.specs.Witnesses.{with_rows}
 use Rattle.stt_tableau.specs.Rules.{false_rule, close_rule}
 use Rattle.stt_tableau.specs.Accepted.{IsClosed, IsAccepted, Within}
-use Rattle.stt_tableau.specs.declared.refutation.RuleUse.{RuleUse}
 use Rattle.stt_tableau.specs.declared.refutation.RuleUse.TheVariants.{False, Close}
-use Rattle.stt_tableau.specs.declared.refutation.Refutation.{Refutation}
 use Rattle.stt_tableau.proofs.ListLaws.{contains-get, within-itself}
 use Rattle.satallax_top.specs.Propositional.{AreLeaves}
 use Rattle.satallax_top.specs.Run.{IsProved, IsExhausted}
@@ -56,13 +54,14 @@ falsity_refutes start i h scope typed = record {
 
 -- the ends of a run over leaves
 module _ (start : List Literal) (leaves : AreLeaves start) (limit : ℕ) where
-  pub ends_by_pair : (i j : ℕ) (r : Refutation) → IsPair start i j → r ≡ one_line_refutation start (Close i j) → IsProved start limit 0 × Refutes start r
-  ends_by_pair i j r p e = (proved_by_pair start leaves limit (closed_by_pair start i j p), subst (Refutes start) (sym e) (pair_refutes start i j p))
+  pub ends_by_pair : (i j : ℕ) → IsPair start i j → (start ≡ start) × IsProved start limit 0 × Refutes start (one_line_refutation start (Close i j))
+  ends_by_pair i j p = (refl, proved_by_pair start leaves limit (closed_by_pair start i j p), pair_refutes start i j p)
 
-  pub ends_by_falsity : (IsClosed start → ⊥) → (i n : ℕ) (r : Refutation) → IsProcessed start limit (Falsity i) → r ≡ one_line_refutation start (False i) → n ≡ suc i → IsProved start limit n × Refutes start r
-  ends_by_falsity branch_open i n r h e k = (
+  pub ends_by_falsity : (IsClosed start → ⊥) → (i n : ℕ) → IsProcessed start limit (Falsity i) → n ≡ suc i → (start ≡ start) × IsProved start limit n × Refutes start (one_line_refutation start (False i))
+  ends_by_falsity branch_open i n h k = (
+    refl,
     subst (IsProved start limit) (sym k) (proved_by_falsity start leaves limit branch_open i (plus (constant falsity)) h.1 refl (slice_get_within start i (plus (constant falsity)) h.1) h.2 h.0),
-    subst (Refutes start) (sym e) (falsity_refutes start i h.1),
+    falsity_refutes start i h.1,
   )
 
   pub ends_exhausted : (IsClosed start → ⊥) → (n : ℕ) → IsProcessed start limit (All n) → IsExhausted start limit n

@@ -11,6 +11,9 @@ use Rattle.satallax_top.specs.Run.{IsProved, IsExhausted, IsStopped}
 use Rattle.satallax_top.specs.declared.run.Processed.{Processed}
 use Rattle.satallax_top.specs.declared.run.Processed.TheVariants.{Falsity, All}
 use Rattle.satallax_top.specs.declared.run.Processed.TheVariants as processed
+use Rattle.stt_tableau.specs.declared.refutation.RuleUse.TheVariants as rule
+use Rattle.satallax_top.specs.declared.run.Closing.{Closing}
+use Rattle.satallax_top.specs.declared.run.Closing.TheVariants as closing
 use Rattle.satallax_top.specs.declared.run.Ended.{Ended}
 use Rattle.satallax_top.specs.declared.run.Ended.TheVariants.{Proved, GaveUp, Stopped}
 
@@ -34,12 +37,16 @@ IsProcessed start limit processed.Stopped = NoFalsity start limit × (limit < le
 abbrev pub Refutes : List Literal → Refutation → Type 0
 Refutes start refutation = (scope : Scope) → IsBranch (with_rows scope []) start → IsAccepted scope start refutation
 
--- the answer is how the run ends
-abbrev pub EndsAs : List Literal → ℕ → Ended → Type 0
-EndsAs start limit (Proved n refutation) = IsProved start limit n × Refutes start refutation
-EndsAs start limit (GaveUp n) = IsExhausted start limit n
-EndsAs start limit (Stopped n) = IsStopped start limit n
-
 -- the refutation whose only line closes the branch by a rule without alternatives
 abbrev pub one_line_refutation : List Literal → RuleUse → Refutation
 one_line_refutation branch rule = record { witnesses = []; lines = record { branch = branch; rule = rule; children = [] } ∷ [] }
+
+abbrev pub closing_rule : Closing → RuleUse
+closing_rule (closing.False i) = rule.False i
+closing_rule (closing.Close i j) = rule.Close i j
+
+-- the answer is how the run ends
+abbrev pub EndsAs : List Literal → ℕ → Ended → Type 0
+EndsAs start limit (Proved n branch rule) = (branch ≡ start) × IsProved start limit n × Refutes start (one_line_refutation start (closing_rule rule))
+EndsAs start limit (GaveUp n) = IsExhausted start limit n
+EndsAs start limit (Stopped n) = IsStopped start limit n

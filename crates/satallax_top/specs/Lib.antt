@@ -14,3 +14,5 @@ pub mod Ended
 pub mod Text
 pub mod Block
 pub mod Words
+pub mod Status
+pub mod Report

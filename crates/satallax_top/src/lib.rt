@@ -2,6 +2,7 @@
 #![tactic(auto)]
 
 mod formula;
+mod outcome;
 mod problem;
 mod reader;
 mod refusal;
@@ -9,3 +10,7 @@ mod run;
 mod start;
 mod statement;
 mod token;
+mod words;
+
+pub use outcome::{FileRef, Outcome};
+pub use words::Words;

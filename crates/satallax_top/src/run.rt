@@ -5,20 +5,27 @@ ghost use Rattle.stt_core.specs.Lambda.{constant, falsity};
 ghost use Rattle.stt_tableau.specs.Literals.{plus, opposite};
 ghost use Rattle.stt_tableau.specs.Accepted.{IsClosed};
 ghost use Rattle.satallax_top.specs.Propositional.{AreLeaves};
-ghost use Rattle.satallax_top.specs.Ended.{IsPair, IsProcessed, EndsAs, one_line_refutation};
+ghost use Rattle.satallax_top.specs.Ended.{IsPair, IsProcessed, EndsAs};
 
-use std::alloc::{AllocError, Global};
-use stt_tableau::{Children, Line, Lines, Lit, Lits, Refutation, Rows, RuleUse, Shape, shape_of};
+use stt_tableau::{Lit, Lits, Shape, shape_of};
 
 /// The greatest number of commands that the search carries out.
 pub(crate) const MAX_COMMANDS: u32 = 20_000;
+
+/// The rule that closes the start, with the places of its principals.
+#[derive(Clone, Copy, Debug, PartialEq, Eq)]
+pub(crate) enum Closing {
+    False(usize),
+    Close(usize, usize),
+}
 
 /// How a run ends, after how many commands: its clauses have no satisfying assignment, no command is left, or the limit is reached.
 #[derive(Drop)]
 pub(crate) enum Ended {
     Proved {
         commands: u32,
-        refutation: Refutation,
+        start: Lits,
+        rule: Closing,
     },
     GaveUp {
         commands: u32,
@@ -66,22 +73,6 @@ fn first_pair(branch: &Lits) -> Option<(usize, usize)>
     None
 }
 
-/// The refutation of one line, which closes the start by this rule.
-fn one_line(alloc: Global, branch: Lits, rule: RuleUse) -> Result<Refutation, AllocError>
-    ensures { IfOk result (λ r. r ≡ one_line_refutation branch rule) }
-{
-    let mut lines = Lines::new(alloc);
-    lines.push(Line {
-        branch,
-        rule,
-        children: Children::new(alloc),
-    })?;
-    Ok(Refutation {
-        witnesses: Rows::new(alloc),
-        lines,
-    })
-}
-
 /// How the processing of the start's literals, one a command, comes to an end: at a positive falsity, behind the last one, or at the
 /// limit.
 #[derive(Clone, Copy, Debug, PartialEq, Eq)]
@@ -112,28 +103,26 @@ fn process(start: &Lits) -> Processed
 }
 
 /// The run from these literals, which are its start.
-pub(crate) fn run(alloc: Global, start: Lits) -> Result<Ended, AllocError>
+pub(crate) fn run(start: Lits) -> Ended
     requires { AreLeaves start }
-    ensures { IfOk result (λ e. EndsAs start MAX_COMMANDS e) }
+    ensures { EndsAs start MAX_COMMANDS result }
 {
     if let Some((i, j)) = first_pair(&start) {
-        let refutation = one_line(alloc, start, RuleUse::Close(i, j))?;
-        return Ok(Ended::Proved {
+        return Ended::Proved {
             commands: 0,
-            refutation,
-        });
+            start,
+            rule: Closing::Close(i, j),
+        };
     }
     match process(&start) {
-        Processed::Falsity { place } => {
-            let refutation = one_line(alloc, start, RuleUse::False(place as usize))?;
-            Ok(Ended::Proved {
-                commands: place + 1,
-                refutation,
-            })
-        }
-        Processed::All { commands } => Ok(Ended::GaveUp { commands }),
-        Processed::Stopped => Ok(Ended::Stopped {
+        Processed::Falsity { place } => Ended::Proved {
+            commands: place + 1,
+            start,
+            rule: Closing::False(place as usize),
+        },
+        Processed::All { commands } => Ended::GaveUp { commands },
+        Processed::Stopped => Ended::Stopped {
             commands: MAX_COMMANDS,
-        }),
+        },
     }
 }

@@ -5,13 +5,12 @@ use Rattle.satallax_top.proofs.RunLaws.{ends_by_pair, ends_by_falsity, ends_exha
 use Rattle.satallax_top.proofs.run.run.Goals as goal
 
 pub returns-in-Some : goal.returns-in-Some
-returns-in-Some c =
-    ends_by_pair c.args.start c.requires MAX_COMMANDS c.in-Some.i c.in-Some.j c.in_ok-refutation.refutation c.in-Some.ensures.found c.in_ok-refutation.ensures
+returns-in-Some c = ends_by_pair c.args.start c.requires MAX_COMMANDS c.in-Some.i c.in-Some.j c.in-Some.ensures.found
 
-pub returns-in_ok-refutation-in-Falsity : goal.returns-in_ok-refutation-in-Falsity
-returns-in_ok-refutation-in-Falsity c =
+pub returns-in-Falsity : goal.returns-in-Falsity
+returns-in-Falsity c =
     let i = c.in-Falsity.place in
-    ends_by_falsity c.args.start c.requires MAX_COMMANDS c.in_default.ensures.none i (i + 1) c.in_ok-refutation-in-Falsity.refutation c.in-Falsity.ensures c.in_ok-refutation-in-Falsity.ensures (add-one i)
+    ends_by_falsity c.args.start c.requires MAX_COMMANDS c.in_default.ensures.none i (i + 1) c.in-Falsity.ensures (add-one i)
 
 pub returns-in-All : goal.returns-in-All
 returns-in-All c = ends_exhausted c.args.start c.requires MAX_COMMANDS c.in_default.ensures.none c.in-All.commands c.in-All.ensures

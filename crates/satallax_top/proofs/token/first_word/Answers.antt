@@ -1,4 +1,4 @@
-use Rattle.satallax_top.proofs.Words.{first_word-is}
+use Rattle.satallax_top.proofs.WordFront.{first_word-is}
 use Rattle.satallax_top.proofs.token.first_word.Goals as goal
 
 pub returns-clause-word : goal.returns-clause-word

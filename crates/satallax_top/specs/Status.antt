@@ -1,0 +1,16 @@
+-- The exit status of an outcome.
+use Rattle.std.specs.Prelude.{ℕ}
+use Rattle.satallax_top.specs.declared.outcome.Outcome.{Outcome}
+use Rattle.satallax_top.specs.declared.outcome.Outcome.TheVariants.{Theorem, Unsatisfiable, GaveUp, CommandLimit, Words, TooLong, NotYetAt, ReadFault, WriteFault, Memory}
+
+abbrev pub status_of : Outcome → ℕ
+status_of Theorem = 0
+status_of Unsatisfiable = 0
+status_of GaveUp = 1
+status_of (CommandLimit n) = 2
+status_of Words = 14
+status_of (TooLong file) = 15
+status_of (NotYetAt at) = 16
+status_of (ReadFault file) = 20
+status_of WriteFault = 21
+status_of Memory = 30

@@ -1,0 +1,76 @@
+//! The words of the command line.
+
+ghost use Rattle.std.specs.Prelude.{◌≡◌, [], ◌∷◌, ◌++◌, OnOk, OnErr, option_map};
+ghost use Rattle.std.specs.List.{list_any};
+ghost use Rattle.satallax_top.specs.Words.{is_control, is_file_name, is_option, problem_word};
+
+use std::alloc::{AllocError, Global};
+use std::marker::Model;
+
+/// The words that follow the program's name.
+#[derive(Drop)]
+pub struct Words {
+    texts: Vec<String>,
+    alloc: Global,
+}
+
+impl Model for Words {
+    ghost use Rattle.std.specs.Prelude.{List, ℕ, map, string_bytes};
+
+    ghost Value = { List (List ℕ) };
+
+    ghost view = { λ w. map string_bytes w.texts.items };
+}
+
+fn has_control(bytes: &[u8]) -> bool
+    ensures { result ≡ list_any is_control bytes.now }
+{
+    bytes.iter().any(|c| *c < 32 || *c == 127)
+}
+
+fn is_file_name(name: &str) -> bool
+    ensures { result ≡ is_file_name name.now }
+{
+    !name.is_empty() && name.len() <= 4096 && !has_control(name.as_bytes())
+}
+
+fn is_option(word: &str) -> bool
+    ensures { result ≡ is_option word.now }
+{
+    match word.as_bytes() {
+        [first, ..] => *first == b'-',
+        [] => false,
+    }
+}
+
+impl Words {
+    pub fn new(alloc: Global) -> Self
+        ensures { result ≡ [] }
+    {
+        Words {
+            texts: Vec::new(alloc),
+            alloc,
+        }
+    }
+
+    pub fn push(&mut self, word: &str) -> Result<(), AllocError>
+        ensures ok { OnOk result (self.new ≡ self.old ++ word.now ∷ []) }
+        ensures err { OnErr result (self.new ≡ self.old) }
+    {
+        let text = String::from_str(self.alloc, word)?;
+        self.texts.push(text)?;
+        Ok(())
+    }
+
+    /// The problem's name, where the words are one name of a file that doesn't begin with `-`.
+    pub fn problem(&self) -> Option<&str>
+        ensures { option_map (λ name. name.now) result ≡ problem_word self.now }
+    {
+        match self.texts.as_slice() {
+            [word] if is_file_name(word.as_str()) && !is_option(word.as_str()) => {
+                Some(word.as_str())
+            }
+            _ => None,
+        }
+    }
+}
