@@ -8,3 +8,4 @@ pub mod SearchLaws
 pub mod RunLaws
 pub mod StartLaws
 pub mod StatedLaws
+pub mod TextLaws

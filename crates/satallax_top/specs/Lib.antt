@@ -16,3 +16,4 @@ pub mod Block
 pub mod Words
 pub mod Status
 pub mod Report
+pub mod PlainNames

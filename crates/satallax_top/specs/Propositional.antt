@@ -1,5 +1,5 @@
 -- The formulas of the first path, which are canonical as they stand.
-use Rattle.std.specs.Prelude.{List, [], ◌∷◌, Option, Some, None}
+use Rattle.std.specs.Prelude.{ℕ, ◌<◌, List, [], ◌∷◌, Option, Some, None}
 use Rattle.stt_core.specs.Lambda.{Lambda, constant, app, name, falsity, negation, implication}
 use Rattle.stt_tableau.specs.Literals.{Literal}
 use Rattle.satallax_top.specs.Reading.{Stated}
@@ -33,3 +33,13 @@ IsLeafTerm t = ⊥
 abbrev pub AreLeaves : List Literal → Type 0
 AreLeaves [] = Unit {0}
 AreLeaves (l ∷ ls) = IsLeafTerm l.atom × AreLeaves ls
+
+-- a literal whose atom is falsity or one of the first n names
+abbrev pub IsLeafBelow : ℕ → Lambda → Type 0
+IsLeafBelow n (constant (name k)) = k < n
+IsLeafBelow n (constant falsity) = Unit {0}
+IsLeafBelow n t = ⊥
+
+abbrev pub AreLeavesBelow : ℕ → List Literal → Type 0
+AreLeavesBelow n [] = Unit {0}
+AreLeavesBelow n (l ∷ ls) = IsLeafBelow n l.atom × AreLeavesBelow n ls

@@ -75,6 +75,11 @@ separated [] = []
 separated (t ∷ []) = t
 separated (t ∷ u ∷ ts) = t ++ (codes "," ++ separated (u ∷ ts))
 
+-- what stands before the text at this place of such a list
+abbrev pub comma_before : ℕ → List ℕ
+comma_before zero = []
+comma_before (suc i) = codes ","
+
 abbrev pub literal_texts : Names → List Literal → List (List ℕ)
 literal_texts names [] = []
 literal_texts names (l ∷ ls) = literal_text names l ∷ literal_texts names ls

@@ -9,6 +9,7 @@ mod refusal;
 mod run;
 mod start;
 mod statement;
+mod text;
 mod token;
 mod words;
 
