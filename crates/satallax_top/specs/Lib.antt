@@ -17,3 +17,5 @@ pub mod Words
 pub mod Status
 pub mod Report
 pub mod PlainNames
+pub mod Answers
+pub mod Headline

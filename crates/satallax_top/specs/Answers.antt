@@ -1,0 +1,80 @@
+-- What a call answers.
+use Rattle.std.specs.Prelude.{◌≡◌, ◌<◌, ◌≤◌, ◌^◌, ℕ, Bool, true, false, IsTrue, List, [], length, Option, Some, None, is_some, is_none}
+use Rattle.std.specs.List.{list_any}
+use Rattle.stt_tableau.specs.Witnesses.{with_rows}
+use Rattle.stt_tableau.specs.Accepted.{IsAccepted}
+use Rattle.stt_tableau.specs.Closed.{Closes, tableau_of}
+use Rattle.stt_tableau.specs.Start.{start}
+use Rattle.stt_tableau.specs.declared.refutation.Refutation.{Refutation}
+use Rattle.stt_core.specs.Meaning.{Model, IsModel}
+use Rattle.stt_core.specs.Meets.{MeetsProblem}
+use Rattle.satallax_top.specs.declared.statement.TheConstants.{MAX_DEPTH}
+use Rattle.satallax_top.specs.declared.run.TheConstants.{MAX_COMMANDS}
+use Rattle.satallax_top.specs.Reading.{Stated, States, question_of}
+use Rattle.satallax_top.specs.Problems.{StatesNothing}
+use Rattle.satallax_top.specs.Run.{IsProved, IsExhausted, IsStopped}
+use Rattle.satallax_top.specs.Text.{Names, text_lines, as_bytes}
+use Rattle.satallax_top.specs.PlainNames.{names_of}
+use Rattle.satallax_top.specs.Block.{end_mark, begins_with, has_line_feed}
+use Rattle.satallax_top.specs.Words.{problem_word}
+use Rattle.satallax_top.specs.declared.outcome.FileRef.{FileRef}
+use Rattle.satallax_top.specs.declared.outcome.Outcome.{Outcome}
+use Rattle.satallax_top.specs.declared.outcome.Outcome.TheVariants.{Theorem, Unsatisfiable, GaveUp, CommandLimit, Words, TooLong, NotYetAt, ReadFault, WriteFault, Memory}
+
+-- the most bytes of a problem's file
+abbrev pub max_bytes : ℕ
+max_bytes = 16777216
+
+-- The run over what is stated ends after n commands, with a refutation that is accepted for its start, and whose lines are these.
+pub record IsProofOf (s : Stated) (n : ℕ) (text : List ℕ) : Type 0 where
+  pub proved : IsProved (start (question_of s)) MAX_COMMANDS n
+  pub refutation : Refutation
+  pub accepted : IsAccepted (question_of s).scope (start (question_of s)) refutation
+  pub is_text : text ≡ as_bytes (text_lines (names_of s.constants) refutation)
+  pub no_line_feeds : list_any has_line_feed (text_lines (names_of s.constants) refutation) ≡ false
+  pub no_end_mark : list_any (begins_with end_mark) (text_lines (names_of s.constants) refutation) ≡ false
+
+-- a problem that the bytes state, for whose run this holds
+pub record IsRun (bytes : List ℕ) (P : Stated → Type 0) : Type 0 where
+  pub stated : Stated
+  pub states : States MAX_DEPTH bytes stated
+  pub run : P stated
+
+-- what the bytes of a problem's file are answered with: an outcome, a number of commands, and the text of a refutation
+abbrev pub IsSolved : List ℕ → Outcome → ℕ → List ℕ → Type 0
+IsSolved bytes Theorem n text = IsRun bytes (λ s. IsTrue (is_some s.conjecture) × IsProofOf s n text)
+IsSolved bytes Unsatisfiable n text = IsRun bytes (λ s. IsTrue (is_none s.conjecture) × IsProofOf s n text)
+IsSolved bytes GaveUp n text = IsRun bytes (λ s. IsExhausted (start (question_of s)) MAX_COMMANDS n)
+IsSolved bytes (CommandLimit m) n text = IsRun bytes (λ s. (m ≡ n) × IsStopped (start (question_of s)) MAX_COMMANDS n)
+IsSolved bytes (NotYetAt at) n text = StatesNothing MAX_DEPTH bytes
+IsSolved bytes Memory n text = Unit {0}
+IsSolved bytes Words n text = ⊥
+IsSolved bytes (TooLong file) n text = ⊥
+IsSolved bytes (ReadFault file) n text = ⊥
+IsSolved bytes WriteFault n text = ⊥
+
+-- The problem's file, whose name is the word, has bytes with this property. They are those that the files tell, where they tell them.
+pub record OfFile (words : List (List ℕ)) (told : Bool) (contents : List ℕ → Option (List ℕ)) (P : List ℕ → Type 0) : Type 0 where
+  pub name : List ℕ
+  pub named : problem_word words ≡ Some name
+  pub bytes : List ℕ
+  pub told_bytes : IsTrue told → contents name ≡ Some bytes
+  pub holds : P bytes
+
+-- What a call answers with these words and contents: an outcome, a number of commands, and the text of a refutation.
+abbrev pub IsAnswer : List (List ℕ) → Bool → (List ℕ → Option (List ℕ)) → Outcome → ℕ → List ℕ → Type 0
+IsAnswer words told contents Theorem n text = OfFile words told contents (λ bytes. IsSolved bytes Theorem n text)
+IsAnswer words told contents Unsatisfiable n text = OfFile words told contents (λ bytes. IsSolved bytes Unsatisfiable n text)
+IsAnswer words told contents GaveUp n text = OfFile words told contents (λ bytes. IsSolved bytes GaveUp n text)
+IsAnswer words told contents (CommandLimit m) n text = OfFile words told contents (λ bytes. IsSolved bytes (CommandLimit m) n text)
+IsAnswer words told contents (NotYetAt at) n text = OfFile words told contents (λ bytes. IsSolved bytes (NotYetAt at) n text)
+IsAnswer words told contents (TooLong file) n text = (IsTrue (is_some (problem_word words))) × (IsTrue told → OfFile words told contents (λ bytes. max_bytes < length bytes))
+IsAnswer words told contents (ReadFault file) n text = IsTrue (is_some (problem_word words))
+IsAnswer words told contents Memory n text = IsTrue (is_some (problem_word words))
+IsAnswer words told contents Words n text = problem_word words ≡ None
+IsAnswer words told contents WriteFault n text = ⊥
+
+abbrev pub IsProvedOutcome : Outcome → Type 0
+IsProvedOutcome Theorem = Unit {0}
+IsProvedOutcome Unsatisfiable = Unit {0}
+IsProvedOutcome outcome = ⊥

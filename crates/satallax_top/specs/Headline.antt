@@ -1,0 +1,86 @@
+-- What a reported proof means.
+use Rattle.std.specs.Prelude.{◌≡◌, ℕ, Bool, IsTrue, List, ◌++◌, Option, Some, unwrap_or, []}
+use Rattle.outside.specs.Prefix.{AppendsProperly}
+use Rattle.stt_core.specs.Meaning.{Model, IsModel}
+use Rattle.stt_core.specs.Meets.{MeetsProblem}
+use Rattle.stt_tableau.specs.Witnesses.{with_rows}
+use Rattle.stt_tableau.specs.Accepted.{IsAccepted}
+use Rattle.stt_tableau.specs.Closed.{Closes, tableau_of}
+use Rattle.stt_tableau.specs.Start.{start}
+use Rattle.stt_tableau.specs.declared.refutation.Refutation.{Refutation}
+use Rattle.satallax_top.specs.declared.statement.TheConstants.{MAX_DEPTH}
+use Rattle.satallax_top.specs.declared.run.TheConstants.{MAX_COMMANDS}
+use Rattle.satallax_top.specs.Reading.{Stated, States, question_of}
+use Rattle.satallax_top.specs.Run.{IsProved}
+use Rattle.satallax_top.specs.Text.{text_lines, as_bytes}
+use Rattle.satallax_top.specs.PlainNames.{names_of}
+use Rattle.satallax_top.specs.Block.{HoldsText}
+use Rattle.satallax_top.specs.Report.{report}
+use Rattle.satallax_top.specs.Words.{problem_word}
+use Rattle.satallax_top.specs.Answers.{IsAnswer}
+use Rattle.satallax_top.specs.declared.outcome.Outcome.{Outcome}
+use Rattle.satallax_top.specs.declared.outcome.Outcome.TheVariants.{WriteFault}
+
+-- the problem's name, or nothing where the words name none
+abbrev pub name_of : List (List ℕ) → List ℕ
+name_of words = unwrap_or (problem_word words) []
+
+-- The problem that the file states has no standard model whose base types are finite: no such model meets its assumed formulas without
+-- meeting its conjecture.
+pub record HasNoModel (words : List (List ℕ)) (told : Bool) (contents : List ℕ → Option (List ℕ)) : Type 0 where
+  pub name : List ℕ
+  pub named : problem_word words ≡ Some name
+  pub bytes : List ℕ
+  pub told_bytes : IsTrue told → contents name ≡ Some bytes
+  pub stated : Stated
+  pub states : States MAX_DEPTH bytes stated
+  pub no_model : (m : Model) → IsModel (question_of stated).scope m → MeetsProblem (question_of stated) m → ⊥
+
+-- What is written where a proof is reported. The bytes hold the text of a refutation, which is accepted for the start of the problem that
+-- the file states; the tableau of its last line closes the start; after the number of commands that is reported, and not before, the
+-- clauses of the search are unsatisfiable; and no standard model with finite base types meets the problem.
+pub record IsProofReport (words : List (List ℕ)) (told : Bool) (contents : List ℕ → Option (List ℕ)) (outcome : Outcome) (written : List ℕ) : Type 0 where
+  pub name : List ℕ
+  pub named : problem_word words ≡ Some name
+  pub bytes : List ℕ
+  pub told_bytes : IsTrue told → contents name ≡ Some bytes
+  pub stated : Stated
+  pub states : States MAX_DEPTH bytes stated
+  pub commands : ℕ
+  pub proved : IsProved (start (question_of stated)) MAX_COMMANDS commands
+  pub refutation : Refutation
+  pub is_report : written ≡ report outcome name commands (as_bytes (text_lines (names_of stated.constants) refutation))
+  pub holds_text : HoldsText (names_of stated.constants) written refutation
+  pub accepted : IsAccepted (question_of stated).scope (start (question_of stated)) refutation
+  pub closed : Closes (with_rows (question_of stated).scope refutation.witnesses) refutation.witnesses (tableau_of refutation) (start (question_of stated))
+  pub no_model : (m : Model) → IsModel (question_of stated).scope m → MeetsProblem (question_of stated) m → ⊥
+
+-- the bytes appended to old are written as one of the reports for which R holds
+pub record Appends (old new : List ℕ) (R : List ℕ → Type 0) : Type 0 where
+  pub written : List ℕ
+  pub appended : new ≡ old ++ written
+  pub is_report : R written
+
+-- an answer of the call, with its report
+pub record IsReported (words : List (List ℕ)) (told : Bool) (contents : List ℕ → Option (List ℕ)) (outcome : Outcome) (written : List ℕ) : Type 0 where
+  pub commands : ℕ
+  pub text : List ℕ
+  pub is_answer : IsAnswer words told contents outcome commands text
+  pub is_report : written ≡ report outcome (name_of words) commands text
+
+-- a write failed: a proper front of the report of an answer was written
+pub record IsCutShort (words : List (List ℕ)) (told : Bool) (contents : List ℕ → Option (List ℕ)) (old new : List ℕ) : Type 0 where
+  pub outcome : Outcome
+  pub whole : List ℕ
+  pub is_reported : IsReported words told contents outcome whole
+  pub appended : AppendsProperly old new whole
+
+-- what the call has written
+abbrev pub IsWritten : List (List ℕ) → Bool → (List ℕ → Option (List ℕ)) → List ℕ → List ℕ → Outcome → Type 0
+IsWritten words told contents old new WriteFault = IsCutShort words told contents old new
+IsWritten words told contents old new outcome = Appends old new (IsReported words told contents outcome)
+
+-- the outcome is an answer of the call, unless a write failed
+abbrev pub IsOutcome : List (List ℕ) → Bool → (List ℕ → Option (List ℕ)) → Outcome → Type 0
+IsOutcome words told contents WriteFault = Unit {0}
+IsOutcome words told contents outcome = (n : ℕ) × (text : List ℕ) × IsAnswer words told contents outcome n text
