@@ -5,3 +5,5 @@ pub mod Rules
 pub mod Accepted
 pub mod Closed
 pub mod Meets
+pub mod Checks
+pub mod Refused
