@@ -10,3 +10,4 @@ pub mod InstanceLaws
 pub mod TypedLaws
 pub mod ChildLaws
 pub mod FailureLaws
+pub mod FirstFailureLaws

@@ -190,6 +190,7 @@ pub fn accepts_plain(
 ) -> Result<(), PlainRefused>
     ensures accepted { OnOk result (IsAccepted (the_scope sig.now []) start.now refutation.now) }
     ensures refused { IfErr result (λ e. IfRefused e (FirstFailure (the_scope sig.now []) start.now refutation.now)) }
+    ensures refused_only { IfErr result (λ e. IfRefused e (λ _ _. IsAccepted (the_scope sig.now []) start.now refutation.now → ⊥)) }
 {
     let types = check_rows(alloc, sig, refutation)?;
     check_lines(alloc, sig, &types, refutation)?;
