@@ -62,21 +62,29 @@ impl Reader {
     }
 
     fn read(&mut self, byte: u8) -> Result<Nf, Fail> {
-        match byte {
-            b'p' => self.applied(Head::Name(0), 0),
-            b'q' => self.applied(Head::Name(1), 0),
-            b'r' => self.applied(Head::Name(2), 0),
-            b'c' => self.applied(Head::Name(3), 0),
-            b'h' => self.applied(Head::Name(4), 1),
-            b'w' => self.applied(Head::Wit(0), 0),
-            b'x' => self.applied(Head::Wit(1), 0),
-            b'0' => self.applied(Head::Bound(0), 0),
-            b'F' => self.applied(Head::False, 0),
-            b'~' => self.applied(Head::Not, 1),
-            b'>' => self.applied(Head::Imp, 2),
-            b'^' => self.function(),
-            _ => Err("an unknown letter")?,
+        if byte == b'^' {
+            return self.function();
         }
+        let (head, count) = symbol(byte).ok_or("an unknown letter")?;
+        self.applied(head, count)
+    }
+}
+
+/// The head that a letter stands for, and how many arguments it takes.
+fn symbol(byte: u8) -> Option<(Head, usize)> {
+    match byte {
+        b'p' => Some((Head::Name(0), 0)),
+        b'q' => Some((Head::Name(1), 0)),
+        b'r' => Some((Head::Name(2), 0)),
+        b'c' => Some((Head::Name(3), 0)),
+        b'h' => Some((Head::Name(4), 1)),
+        b'w' => Some((Head::Wit(0), 0)),
+        b'x' => Some((Head::Wit(1), 0)),
+        b'0' => Some((Head::Bound(0), 0)),
+        b'F' => Some((Head::False, 0)),
+        b'~' => Some((Head::Not, 1)),
+        b'>' => Some((Head::Imp, 2)),
+        _ => None,
     }
 }
 
