@@ -6,3 +6,8 @@ pub mod AcceptedLaws
 pub mod WitnessLaws
 pub mod Soundness
 pub mod ShapeLaws
+pub mod InstanceLaws
+pub mod TypedLaws
+pub mod ChildLaws
+pub mod FailureLaws
+pub mod FirstFailureLaws

@@ -6,3 +6,5 @@ pub mod Accepted
 pub mod Closed
 pub mod Meets
 pub mod Start
+pub mod Checks
+pub mod Refused

@@ -1,0 +1,8 @@
+use Rattle.std.proofs.Common.{[], take}
+use Rattle.stt_core.specs.ScopeView.{the_scope}
+use Rattle.stt_tableau.specs.Witnesses.{with_rows}
+use Rattle.stt_tableau.specs.Accepted.{AreRightLines}
+use Rattle.stt_tableau.proofs.accepts.check_lines.Given as goal
+
+abbrev pub invariant-loop-i : goal.invariant-loop-i
+invariant-loop-i l = AreRightLines (with_rows (the_scope l.sig []) l.refutation.witnesses) l.refutation.witnesses [] (take l.i l.lines)

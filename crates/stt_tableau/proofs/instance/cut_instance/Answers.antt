@@ -1,0 +1,8 @@
+use Rattle.std.proofs.Common.{◌∙◌, ap}
+use Rattle.stt_tableau.specs.Literals.{opposite}
+use Rattle.stt_tableau.proofs.InstanceLaws.{cut_is}
+use Rattle.stt_tableau.proofs.instance.cut_instance.Goals as goal
+
+pub returns : goal.returns
+returns c = λ scope rows typed.
+    cut_is scope rows c.args.branch.now c.args.lit.now c.in_ok-left.left c.opposite-right.result c.in_ok-either.field-0 typed c.in_ok-left.ensures (c.opposite-right.ensures ∙ ap opposite c.in_ok-try_clone.ensures) c.in_ok-either.ensures

@@ -1,0 +1,45 @@
+-- What the parts of the check of a refutation answer.
+use Rattle.std.specs.Prelude.{◌≡◌, ℕ, Bool, List, Option, Some, None, slice_get}
+use Rattle.stt_core.specs.Lambda.{Lambda, constant, falsity, neg, imp}
+use Rattle.stt_core.specs.Typing.{Scope}
+use Rattle.stt_tableau.specs.Literals.{Literal}
+use Rattle.stt_tableau.specs.Witnesses.{Row, IsTypedRow, IsTwice}
+use Rattle.stt_tableau.specs.Rules.{IsInstance}
+use Rattle.stt_tableau.specs.Accepted.{IsTypedUse, IsRightLine, RowFails, LineFails}
+use Rattle.stt_tableau.specs.declared.shape.Shape.{Shape}
+use Rattle.stt_tableau.specs.declared.shape.Shape.TheVariants as shape
+use Rattle.stt_tableau.specs.declared.refutation.RuleUse.{RuleUse}
+use Rattle.stt_tableau.specs.declared.refutation.Line.{Line}
+use Rattle.stt_tableau.specs.declared.refutation.Why.{Why}
+
+-- the literal of this sign and atom stands at the place
+abbrev pub StandsAt : List Literal → ℕ → Bool → Lambda → Type 0
+StandsAt branch i sign t = slice_get branch i ≡ Some (record { positive = sign; atom = t })
+
+-- at the place stands no literal of this sign whose atom is falsity, a negation or an implication
+pub record StandsOther (branch : List Literal) (i : ℕ) (sign : Bool) : Type 0 where
+  pub not_falsity : StandsAt branch i sign (constant falsity) → ⊥
+  pub not_negation : (s : Lambda) → StandsAt branch i sign (neg s) → ⊥
+  pub not_implication : (s t : Lambda) → StandsAt branch i sign (imp s t) → ⊥
+
+-- the shape of the atom of the literal of this sign that stands at the place
+abbrev pub HasShapeAt : List Literal → ℕ → Bool → Shape → Type 0
+HasShapeAt branch i sign shape.False = StandsAt branch i sign (constant falsity)
+HasShapeAt branch i sign (shape.Not s) = StandsAt branch i sign (neg s.now)
+HasShapeAt branch i sign (shape.Imp s t) = StandsAt branch i sign (imp s.now t.now)
+HasShapeAt branch i sign shape.Other = StandsOther branch i sign
+
+-- the alternatives of the rule's instance in the branch, or that it has none
+abbrev pub FindsInstance : List Literal → RuleUse → Option (List (List Literal)) → Type 0
+FindsInstance branch rule (Some alternatives) = (scope : Scope) (rows : List Row) → IsTypedUse scope rule → IsInstance scope rows branch rule alternatives
+FindsInstance branch rule None = (scope : Scope) (rows : List Row) (alternatives : List (List Literal)) → IsInstance scope rows branch rule alternatives → ⊥
+
+-- that the row is right, or why it fails
+abbrev pub RowAnswer : Scope → List Row → Row → Option Why → Type 0
+RowAnswer scope earlier r None = IsTypedRow scope earlier r × (IsTwice earlier r → ⊥)
+RowAnswer scope earlier r (Some why) = RowFails scope earlier r why
+
+-- that the line is right, or why it fails
+abbrev pub LineAnswer : Scope → List Row → List Line → Line → Option Why → Type 0
+LineAnswer scope rows earlier line None = IsRightLine scope rows earlier line
+LineAnswer scope rows earlier line (Some why) = LineFails scope rows earlier line why
