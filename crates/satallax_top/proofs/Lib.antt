@@ -9,3 +9,5 @@ pub mod RunLaws
 pub mod StartLaws
 pub mod StatedLaws
 pub mod TextLaws
+pub mod LineFeeds
+pub mod SolvedLaws

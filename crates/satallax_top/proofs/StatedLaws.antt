@@ -1,9 +1,15 @@
 -- What the formulas are that a file states, and the literals of its start.
-use Rattle.std.proofs.Common.{◌≡◌, ℕ, zero, suc, ◌+◌, ◌<◌, ◌≤◌, Bool, true, false, List, [], ◌∷◌, ◌++◌, map, length, slice_get, position, Option, Some, None, option_map, is_some, cond, nat_lt, Contains, ◌⊎◌, inl, inr, ⊎_elim, refl, sym, ap, subst, ◌∙◌, if◌then◌else◌, arith, length-append}
+use Rattle.std.proofs.Common.{◌≡◌, ℕ, zero, suc, ◌+◌, ◌<◌, ◌≤◌, Bool, true, false, List, [], ◌∷◌, ◌++◌, map, length, slice_get, position, Option, Some, None, option_map, is_some, cond, nat_lt, nat_le, ◌||◌, ◌&&◌, ◌==◌, Contains, ◌⊎◌, inl, inr, ⊎_elim, refl, sym, ap, subst, ◌∙◌, if◌then◌else◌, arith, length-append}
 use Rattle.std.specs.Str.{bytes_eq}
 use Rattle.std.specs.List.{position_or_len}
 use Rattle.std.proofs.lemmas.List.Elements.{Contains-push_cases}
 use borrow.Author.Tests.{ltb-true}
+use Rattle.std.proofs.lemmas.Bool.{and_from}
+use Rattle.std.specs.List.{list_all}
+use Rattle.satallax_top.specs.Bytes.{token_at, skipped, first_token, first_word, word_front, is_word_byte, is_lower, is_lower_word, is_dollar_word, is_sign}
+use Rattle.satallax_top.specs.Text.{is_plain}
+use Rattle.satallax_top.specs.PlainNames.{ArePlain}
+use Rattle.satallax_top.proofs.StatementLaws.{some_same}
 use Rattle.stt_core.specs.SimpleType.{formula}
 use Rattle.stt_core.specs.Lambda.{Lambda, constant, app, name, falsity, negation, neg}
 use Rattle.stt_core.specs.Typing.{Scope}
@@ -20,8 +26,8 @@ use Rattle.stt_tableau.specs.Meets.{MeetsLiteral, MeetsBranch}
 use Rattle.stt_tableau.specs.Start.{has, added, denied, start}
 use Rattle.stt_tableau.proofs.ListLaws.{contains-first, contains-later, contains_cases, Each}
 use Rattle.stt_tableau.proofs.LiteralLaws.{literal-is_literal, opposite-is_literal, literal-says, value-bit}
-use Rattle.satallax_top.specs.Reading.{Formula, named, truth, falsehood, negated, Statement, declares, assumes, asks, Stated, named_constant, term_of, with_name, with_assumed, with_conjecture, stated_more, Leads, at_end, by_statement, States, nothing_stated, question_of}
-use Rattle.satallax_top.specs.Propositional.{IsPropositional, ArePropositional, IsPropositionalIfThere, StatesPropositional, IsLeafTerm, AreLeaves}
+use Rattle.satallax_top.specs.Reading.{Begins, IsStatement, typing_statement, axiom_statement, conjecture_statement, Formula, named, truth, falsehood, negated, Statement, declares, assumes, asks, Stated, named_constant, term_of, with_name, with_assumed, with_conjecture, stated_more, Leads, at_end, by_statement, States, nothing_stated, question_of}
+use Rattle.satallax_top.specs.Propositional.{IsPropositional, ArePropositional, IsPropositionalIfThere, StatesPropositional, IsLeafTerm, AreLeaves, IsLeafBelow, AreLeavesBelow, IsRunnable}
 use Rattle.satallax_top.proofs.UnitLaws.{maps}
 use Rattle.satallax_top.proofs.SatisfiableLaws.{none_contained}
 
@@ -282,3 +288,92 @@ module _ (s : Stated) (g : IsSound s) where
         meets_branch (question_of s).scope m _
         (added_each (MeetsLiteral (question_of s).scope m) (map literal s.assumed ++ denied s.conjecture)
         (both (MeetsLiteral (question_of s).scope m) (map literal s.assumed) (denied s.conjecture) (literals_met s.assumed g.assumed h.assumed) (denied_met s.conjecture g.conjecture h.conjecture)))
+
+-- names in texts
+word_front_bytes : (bytes : List ℕ) → list_all is_word_byte (word_front bytes) ≡ true
+word_front_bytes [] = refl
+word_front_bytes (c ∷ cs) = go (is_word_byte c) refl (word_front_bytes cs)
+  where
+    go : (b : Bool) → is_word_byte c ≡ b → list_all is_word_byte (word_front cs) ≡ true → list_all is_word_byte (if b then c ∷ word_front cs else []) ≡ true
+    go true e h = and_from (is_word_byte c) (list_all is_word_byte (word_front cs)) e h
+    go false e h = refl
+
+lower_is_word : (c : ℕ) → is_lower c ≡ true → is_word_byte c ≡ true
+lower_is_word c h = ap (λ b. ((b || (nat_le 65 c && nat_le c 90)) || (nat_le 48 c && nat_le c 57)) || (c == 95)) h
+
+-- one of two answers, of which each has the property
+one_of_two : {A : Type 0} (P : A → Type 0) (b d : Bool) (x y r : A) → P x → P y → (if b then Some x else (if d then Some y else None)) ≡ Some r → P r
+one_of_two P true d x y r h k e = subst P (some_same x r e) h
+one_of_two P false true x y r h k e = subst P (some_same y r e) k
+one_of_two P false false x y r h k e = cc
+
+-- a token that begins like a lower word is a lower word
+plain_token : (bytes : List ℕ) (t : List ℕ × List ℕ) → first_token bytes ≡ Some t → is_lower_word t.0 ≡ true → is_plain t.0 ≡ true
+plain_token [] t h k = cc
+plain_token (c ∷ cs) t h k = go (is_lower c) refl
+  where
+    first_byte : is_lower_word t.0 ≡ is_lower c
+    first_byte = one_of_two (λ x. is_lower_word x.0 ≡ is_lower c) (is_lower c || is_dollar_word (c ∷ word_front cs)) (is_sign c) (first_word (c ∷ cs)) (c ∷ [], cs) t refl refl h
+
+    go : (b : Bool) → is_lower c ≡ b → is_plain t.0 ≡ true
+    go true l =
+        let q = some_same (first_word (c ∷ cs)) t (sym (ap (λ b. token_where b) l) ∙ h) in
+        subst (λ x. is_plain x.0 ≡ true) q (and_from (is_lower c) (list_all is_word_byte (c ∷ word_front cs)) l (and_from (is_word_byte c) (list_all is_word_byte (word_front cs)) (lower_is_word c l) (word_front_bytes cs)))
+      where
+        token_where : Bool → Option (List ℕ × List ℕ)
+        token_where b = if b || is_dollar_word (c ∷ word_front cs) then Some (first_word (c ∷ cs)) else (if is_sign c then Some (c ∷ [], cs) else None)
+    go false l = let n : is_lower_word t.0 ≡ false = first_byte ∙ l in cc
+
+plain_begins : (bytes w rest : List ℕ) → Begins bytes w rest → is_lower_word w ≡ true → is_plain w ≡ true
+unfolding token_at
+plain_begins bytes w rest h k = plain_token (skipped bytes) (w, rest) h k
+
+plain_append : (cs : List TypedName) (w : List ℕ) → ArePlain cs → is_plain w ≡ true → ArePlain (cs ++ record { name = w; type = formula } ∷ [])
+plain_append [] w h k = (k, tt)
+plain_append (c ∷ cs) w h k = (h.0, plain_append cs w h.1 k)
+
+more_plain : (depth : ℕ) (s t : Stated) (bytes rest : List ℕ) (statement : Statement) → IsStatement depth bytes statement rest → stated_more s statement ≡ Some t → ArePlain s.constants → ArePlain t.constants
+more_plain depth s t bytes rest statement (typing_statement bs body behind rs w head typing end) h g = go (is_some (symbol_named [] s.constants w)) h
+  where
+    go : (b : Bool) → (if b then None else Some (with_name s w)) ≡ Some t → ArePlain t.constants
+    go true e = cc
+    go false e = let q : with_name s w ≡ t = cc in subst (λ x. ArePlain x.constants) q (plain_append s.constants w g (plain_begins body w typing.b1 typing.name typing.is_name))
+more_plain depth s t bytes rest statement (axiom_statement bs body behind rs f head unit end) h g =
+    let m = maps (with_assumed s) (term_of s.constants f) t h in
+    subst (λ x. ArePlain x.constants) m.same g
+more_plain depth s t bytes rest statement (conjecture_statement bs body behind rs f head unit end) h g = go (is_some s.conjecture) h
+  where
+    go : (b : Bool) → (if b then None else option_map (with_conjecture s) (term_of s.constants f)) ≡ Some t → ArePlain t.constants
+    go true e = cc
+    go false e = let m = maps (with_conjecture s) (term_of s.constants f) t e in subst (λ x. ArePlain x.constants) m.same g
+
+leads_plain : (depth : ℕ) (s t : Stated) (bytes : List ℕ) → Leads depth s bytes t → ArePlain s.constants → ArePlain t.constants
+leads_plain depth s t bytes (at_end s' bs e) g = g
+leads_plain depth s t bytes (by_statement s' t' u' bs rs statement is_statement stated l) g = leads_plain depth t' u' rs l (more_plain depth s' t' bs rs statement is_statement stated g)
+
+-- the names that a file declares are lower words
+pub states_plain : (depth : ℕ) (bytes : List ℕ) (s : Stated) → States depth bytes s → ArePlain s.constants
+states_plain depth bytes s h = leads_plain depth nothing_stated s bytes h tt
+
+leaf_below-signed : (n : ℕ) (t : Lambda) → IsSigned n t → IsLeafBelow n (literal t).atom
+leaf_below-signed n = signed_cases n (λ t. IsLeafBelow n (literal t).atom) (λ k l. l) tt (λ s k. k)
+
+are_leaves_below : (n : ℕ) (ls : List Literal) → Every (λ l. IsLeafBelow n l.atom) ls → AreLeavesBelow n ls
+are_leaves_below n [] h = tt
+are_leaves_below n (l ∷ ls) h = (h.0, are_leaves_below n ls h.1)
+
+pub start_leaves_below : (s : Stated) → IsSound s → AreLeavesBelow (length s.constants) (start (question_of s))
+start_leaves_below s g =
+    let n = length s.constants in
+    are_leaves_below n _ (every_start (λ l. IsLeafBelow n l.atom) n (leaf_below-signed n) (leaf_below-signed n) s refl g)
+
+pub states_runnable : (depth : ℕ) (bytes : List ℕ) (s : Stated) → States depth bytes s → IsRunnable s
+states_runnable depth bytes s h =
+    let g = states_sound depth bytes s h in
+    record {
+      propositional = sound_propositional s g;
+      plain = states_plain depth bytes s h;
+      leaves = start_leaves s g;
+      leaves_below = start_leaves_below s g;
+      typed = start_typed s g;
+    }

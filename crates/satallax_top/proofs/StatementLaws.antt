@@ -102,7 +102,7 @@ no_statement depth bytes rest statement h (typing_is bs body behind rs w head ty
 no_statement depth bytes rest statement h (axiom_is bs body behind rs f head unit end) = nothing_begins bs (codes "thf") head.b1 h head.keyword
 no_statement depth bytes rest statement h (conjecture_is bs body behind rs f head unit end) = nothing_begins bs (codes "thf") head.b1 h head.keyword
 
-some_same : {A : Type 0} (x y : A) → Some x ≡ Some y → x ≡ y
+pub some_same : {A : Type 0} (x y : A) → Some x ≡ Some y → x ≡ y
 some_same x y e = cc
 
 same_pair : (s t : Stated) (bs cs : List ℕ) → found s bs ≡ found t cs → (s ≡ t) × (bs ≡ cs)

@@ -22,7 +22,7 @@ use Rattle.satallax_top.specs.declared.run.Closing.TheVariants as closing
 use Rattle.satallax_top.specs.Propositional.{IsLeafBelow, AreLeavesBelow}
 
 -- a leaf is a name or falsity
-leaf_cases : (n : ℕ) (P : Lambda → Type 0) → ((k : ℕ) → k < n → P (constant (name k))) → P (constant falsity) → (t : Lambda) → IsLeafBelow n t → P t
+pub leaf_cases : (n : ℕ) (P : Lambda → Type 0) → ((k : ℕ) → k < n → P (constant (name k))) → P (constant falsity) → (t : Lambda) → IsLeafBelow n t → P t
 leaf_cases n P f g (constant (name k)) h = f k h
 leaf_cases n P f g (constant falsity) h = g
 leaf_cases n P f g t h = absurd h

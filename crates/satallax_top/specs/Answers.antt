@@ -34,24 +34,30 @@ pub record IsProofOf (s : Stated) (n : ℕ) (text : List ℕ) : Type 0 where
   pub no_line_feeds : list_any has_line_feed (text_lines (names_of s.constants) refutation) ≡ false
   pub no_end_mark : list_any (begins_with end_mark) (text_lines (names_of s.constants) refutation) ≡ false
 
--- a problem that the bytes state, for whose run this holds
-pub record IsRun (bytes : List ℕ) (P : Stated → Type 0) : Type 0 where
+-- how the run over what is stated ends: an outcome, a number of commands, and the text of a refutation
+abbrev pub IsSolvedFor : Stated → Outcome → ℕ → List ℕ → Type 0
+IsSolvedFor s Theorem n text = IsTrue (is_some s.conjecture) × IsProofOf s n text
+IsSolvedFor s Unsatisfiable n text = IsTrue (is_none s.conjecture) × IsProofOf s n text
+IsSolvedFor s GaveUp n text = IsExhausted (start (question_of s)) MAX_COMMANDS n
+IsSolvedFor s (CommandLimit m) n text = (m ≡ n) × IsStopped (start (question_of s)) MAX_COMMANDS n
+IsSolvedFor s (NotYetAt at) n text = ⊥
+IsSolvedFor s Memory n text = ⊥
+IsSolvedFor s Words n text = ⊥
+IsSolvedFor s (TooLong file) n text = ⊥
+IsSolvedFor s (ReadFault file) n text = ⊥
+IsSolvedFor s WriteFault n text = ⊥
+
+-- the bytes state a problem whose run ends so
+pub record IsRun (bytes : List ℕ) (outcome : Outcome) (n : ℕ) (text : List ℕ) : Type 0 where
   pub stated : Stated
   pub states : States MAX_DEPTH bytes stated
-  pub run : P stated
+  pub solved : IsSolvedFor stated outcome n text
 
--- what the bytes of a problem's file are answered with: an outcome, a number of commands, and the text of a refutation
+-- what the bytes of a problem's file are answered with
 abbrev pub IsSolved : List ℕ → Outcome → ℕ → List ℕ → Type 0
-IsSolved bytes Theorem n text = IsRun bytes (λ s. IsTrue (is_some s.conjecture) × IsProofOf s n text)
-IsSolved bytes Unsatisfiable n text = IsRun bytes (λ s. IsTrue (is_none s.conjecture) × IsProofOf s n text)
-IsSolved bytes GaveUp n text = IsRun bytes (λ s. IsExhausted (start (question_of s)) MAX_COMMANDS n)
-IsSolved bytes (CommandLimit m) n text = IsRun bytes (λ s. (m ≡ n) × IsStopped (start (question_of s)) MAX_COMMANDS n)
 IsSolved bytes (NotYetAt at) n text = StatesNothing MAX_DEPTH bytes
 IsSolved bytes Memory n text = Unit {0}
-IsSolved bytes Words n text = ⊥
-IsSolved bytes (TooLong file) n text = ⊥
-IsSolved bytes (ReadFault file) n text = ⊥
-IsSolved bytes WriteFault n text = ⊥
+IsSolved bytes outcome n text = IsRun bytes outcome n text
 
 -- The problem's file, whose name is the word, has bytes with this property. They are those that the files tell, where they tell them.
 pub record OfFile (words : List (List ℕ)) (told : Bool) (contents : List ℕ → Option (List ℕ)) (P : List ℕ → Type 0) : Type 0 where

@@ -19,3 +19,4 @@ pub mod Report
 pub mod PlainNames
 pub mod Answers
 pub mod Headline
+pub mod Solved

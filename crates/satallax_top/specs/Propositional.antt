@@ -1,8 +1,10 @@
 -- The formulas of the first path, which are canonical as they stand.
-use Rattle.std.specs.Prelude.{ℕ, ◌<◌, List, [], ◌∷◌, Option, Some, None}
+use Rattle.std.specs.Prelude.{ℕ, ◌<◌, List, [], ◌∷◌, length, Option, Some, None}
 use Rattle.stt_core.specs.Lambda.{Lambda, constant, app, name, falsity, negation, implication}
-use Rattle.stt_tableau.specs.Literals.{Literal}
-use Rattle.satallax_top.specs.Reading.{Stated}
+use Rattle.stt_tableau.specs.Literals.{Literal, IsBranch}
+use Rattle.stt_tableau.specs.Start.{start}
+use Rattle.satallax_top.specs.Reading.{Stated, question_of}
+use Rattle.satallax_top.specs.PlainNames.{ArePlain}
 
 -- a formula of names, falsity, negations and implications
 abbrev pub IsPropositional : Lambda → Type 0
@@ -43,3 +45,12 @@ IsLeafBelow n t = ⊥
 abbrev pub AreLeavesBelow : ℕ → List Literal → Type 0
 AreLeavesBelow n [] = Unit {0}
 AreLeavesBelow n (l ∷ ls) = IsLeafBelow n l.atom × AreLeavesBelow n ls
+
+-- What a file of the first path states is run as it stands: its formulas are propositional and its names lower words, and the literals of
+-- its start are leaves, and literals over its names.
+pub record IsRunnable (s : Stated) : Type 0 where
+  pub propositional : StatesPropositional s
+  pub plain : ArePlain s.constants
+  pub leaves : AreLeaves (start (question_of s))
+  pub leaves_below : AreLeavesBelow (length s.constants) (start (question_of s))
+  pub typed : IsBranch (question_of s).scope (start (question_of s))

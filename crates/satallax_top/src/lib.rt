@@ -7,6 +7,7 @@ mod problem;
 mod reader;
 mod refusal;
 mod run;
+mod solve;
 mod start;
 mod statement;
 mod text;
