@@ -4,16 +4,20 @@ use Rattle.std.specs.List.{list_any, All}
 use Rattle.sat_base.specs.declared.literal.Var.{Var}
 use Rattle.sat_base.specs.declared.literal.SatLit.{SatLit}
 
--- the literal that says the variable, and the one that denies it
+-- the literal on a variable, with a sign
+abbrev pub literal : Var → Bool → SatLit
+literal v sign = record { var = v; positive = sign }
+
+-- the literal that is true where the variable is, and the one that is true where it is not
 abbrev pub positive : Var → SatLit
-positive v = record { var = v; positive = true }
+positive v = literal v true
 
 abbrev pub negative : Var → SatLit
-negative v = record { var = v; positive = false }
+negative v = literal v false
 
 -- the literal on the same variable with the other sign
 abbrev pub negated : SatLit → SatLit
-negated l = record { var = l.var; positive = not l.positive }
+negated l = literal l.var (not l.positive)
 
 -- whether two variables are one
 abbrev pub same_var : Var → Var → Bool
