@@ -1,0 +1,2 @@
+pub mod ResolutionLaws
+pub mod ResolverLaws
