@@ -3,9 +3,10 @@ use Rattle.std.proofs.Common.{◌≡◌, ◌⊎◌, ◌||◌, not, ℕ, ◌<◌,
 use Rattle.std.proofs.lemmas.Bool.{false≢true, and_parts, and_from, or_cases, or_left, or_right, eqb-true, eq-eqb}
 use Rattle.std.proofs.lemmas.List.Folds.{list_any-append}
 use Rattle.std.proofs.lemmas.List.Elements.{All-head, All-tail}
+use Rattle.std.specs.Bool.{beq}
 use Rattle.sat_base.specs.declared.literal.Var.{Var}
 use Rattle.sat_base.specs.declared.literal.SatLit.{SatLit}
-use Rattle.sat_base.specs.Literal.{literal, positive, negative, negated, same_var, same_sign, same_literal, holds, mentions, HoldsNoVariableTwice, IsOver}
+use Rattle.sat_base.specs.Literal.{literal, positive, negative, negated, same_var, same_literal, holds, mentions, HoldsNoVariableTwice, IsOver}
 
 -- the tests for equality tell the truth
 pub same_var-refl : (v : Var) → same_var v v ≡ true
@@ -14,23 +15,23 @@ same_var-refl v = eq-eqb v.0 v.0 refl
 pub same_var-true : (v w : Var) → same_var v w ≡ true → v ≡ w
 same_var-true v w e = ap (λ (n : ℕ). let u : Var = record { 0 = n } in u) (eqb-true v.0 w.0 e)
 
-pub same_sign-refl : (a : Bool) → same_sign a a ≡ true
-same_sign-refl true = refl
-same_sign-refl false = refl
+beq-refl : (a : Bool) → beq a a ≡ true
+beq-refl true = refl
+beq-refl false = refl
 
-pub same_sign-true : (a b : Bool) → same_sign a b ≡ true → a ≡ b
-same_sign-true true true e = refl
-same_sign-true false false e = refl
-same_sign-true true false e = absurd (false≢true e)
-same_sign-true false true e = absurd (false≢true e)
+beq-true : (a b : Bool) → beq a b ≡ true → a ≡ b
+beq-true true true e = refl
+beq-true false false e = refl
+beq-true true false e = absurd (false≢true e)
+beq-true false true e = absurd (false≢true e)
 
 pub same_literal-refl : (l : SatLit) → same_literal l l ≡ true
-same_literal-refl l = and_from _ _ (same_var-refl l.var) (same_sign-refl l.positive)
+same_literal-refl l = and_from _ _ (same_var-refl l.var) (beq-refl l.positive)
 
 pub same_literal-true : (l m : SatLit) → same_literal l m ≡ true → l ≡ m
 same_literal-true l m e =
-    let parts = and_parts (same_var l.var m.var) (same_sign l.positive m.positive) e in
-    ap₂ literal (same_var-true l.var m.var parts.0) (same_sign-true l.positive m.positive parts.1)
+    let parts = and_parts (same_var l.var m.var) (beq l.positive m.positive) e in
+    ap₂ literal (same_var-true l.var m.var parts.0) (beq-true l.positive m.positive parts.1)
 
 pub same_literal-comm : (l m : SatLit) → same_literal l m ≡ same_literal m l
 same_literal-comm l m = go (same_literal l m) (same_literal m l) refl refl

@@ -1,5 +1,6 @@
 -- Literals, and which of them a clause holds. A clause is the list of its literals.
 use Rattle.std.specs.Prelude.{Bool, true, false, not, ◌==◌, ◌&&◌, ◌≡◌, ℕ, ◌<◌, List, [], ◌∷◌}
+use Rattle.std.specs.Bool.{beq}
 use Rattle.std.specs.List.{list_any, All}
 use Rattle.sat_base.specs.declared.literal.Var.{Var}
 use Rattle.sat_base.specs.declared.literal.SatLit.{SatLit}
@@ -23,14 +24,9 @@ negated l = literal l.var (not l.positive)
 abbrev pub same_var : Var → Var → Bool
 same_var v w = v.0 == w.0
 
--- whether two signs are one
-abbrev pub same_sign : Bool → Bool → Bool
-same_sign true b = b
-same_sign false b = not b
-
 -- whether two literals are one
 abbrev pub same_literal : SatLit → SatLit → Bool
-same_literal l m = same_var l.var m.var && same_sign l.positive m.positive
+same_literal l m = same_var l.var m.var && beq l.positive m.positive
 
 -- whether the literal is in the list
 abbrev pub holds : List SatLit → SatLit → Bool

@@ -1,13 +1,14 @@
 -- Facts about lists without some literal or without repeats, and about resolvents.
-use Rattle.std.proofs.Common.{◌≡◌, ◌⊎◌, ◌||◌, ◌&&◌, not, cond, Bool, true, false, List, [], ◌∷◌, ◌++◌, Option, Some, None, refl, sym, ap, ap₂, ◌∙◌, subst, inl, inr, append_assoc, append-nil}
+use Rattle.std.proofs.Common.{◌≡◌, ◌<◌, ◌+◌, ℕ, take, get_or, length, IsSome, ◌⊎◌, ◌||◌, ◌&&◌, not, cond, Bool, true, false, List, [], ◌∷◌, ◌++◌, Option, Some, None, refl, sym, ap, ap₂, ◌∙◌, subst, inl, inr, append_assoc, append-nil}
 use Rattle.std.specs.List.{list_any, filter}
 use Rattle.std.proofs.lemmas.Bool.{false≢true, cases_Bool, or_parts, or_cases, or_left, and_right}
+use Rattle.std.proofs.lemmas.List.{take_more}
 use Rattle.std.proofs.lemmas.List.Elements.{filter-append}
 use Rattle.sat_base.specs.declared.literal.Var.{Var}
 use Rattle.sat_base.specs.declared.literal.SatLit.{SatLit}
 use Rattle.sat_base.specs.Literal.{positive, negative, same_literal, holds}
 use Rattle.sat_base.proofs.LiteralLaws.{same_literal-refl, same_literal-true, same_literal-comm, holds-append}
-use Rattle.sat_log.specs.Resolution.{without, without_repeats, resolvent, resolved}
+use Rattle.sat_log.specs.Resolution.{without, without_repeats, HasNoRepeats, resolvent, resolved}
 
 -- literals that are one with a third are one, and one that is not is another
 same_both : (l m x : SatLit) → same_literal l x ≡ true → same_literal m x ≡ true → same_literal l m ≡ true
@@ -150,3 +151,58 @@ resolved-without_repeats v a b =
       ap (λ (r : List SatLit). without_repeats (without (positive v) b ++ r)) (without-without_repeats (negative v) a)
       ∙ without_repeats-append_right (without (positive v) b) (without (negative v) a) in
     cc
+
+-- a literal is put at the back of a list without repeats where it is not there yet
+pub add_held : (xs : List SatLit) (l : SatLit) → HasNoRepeats xs → holds xs l ≡ true → xs ≡ without_repeats (xs ++ l ∷ [])
+add_held xs l once h = sym (without_repeats-push_held xs l h ∙ once)
+
+pub add_new : (xs : List SatLit) (l : SatLit) → HasNoRepeats xs → holds xs l ≡ false → without l xs ++ l ∷ [] ≡ without_repeats (xs ++ l ∷ [])
+add_new xs l once h =
+    ap (λ (r : List SatLit). r ++ l ∷ []) (without-absent l xs h ∙ sym once) ∙ sym (without_repeats-push_new xs l h)
+
+pub HasNoRepeats-made : (made xs : List SatLit) → made ≡ without_repeats xs → HasNoRepeats made
+HasNoRepeats-made made xs e = subst HasNoRepeats (sym e) (without_repeats-without_repeats xs)
+
+-- a list without repeats has none after a literal is taken out
+pub HasNoRepeats-without : (l : SatLit) (xs : List SatLit) → HasNoRepeats xs → HasNoRepeats (without l xs)
+HasNoRepeats-without l xs once = sym (without-without_repeats l xs) ∙ ap (without l) once
+
+-- one more literal of a clause, after those of xs and some others
+pub added_more : (xs ys : List SatLit) (x : SatLit) (so_far next : List SatLit) → so_far ≡ without_repeats (xs ++ ys) → next ≡ without_repeats (so_far ++ x ∷ []) → next ≡ without_repeats (xs ++ (ys ++ x ∷ []))
+added_more xs ys x so_far next e step =
+    step
+    ∙ ap (λ (r : List SatLit). without_repeats (r ++ x ∷ [])) e
+    ∙ without_repeats-append_left (xs ++ ys) (x ∷ [])
+    ∙ ap without_repeats (append_assoc xs ys (x ∷ []))
+
+-- the next literal of a clause is another than the one that is left out, or is that one
+pub others_more_kept : (l : SatLit) (literals : List SatLit) (i : ℕ) (d : SatLit) → i < length literals → same_literal l (get_or literals i d) ≡ false
+    → without l (take (i + 1) literals) ≡ without l (take i literals) ++ get_or literals i d ∷ []
+others_more_kept l literals i d h e =
+    ap (without l) (take_more literals i d h)
+    ∙ without-append l (take i literals) (get_or literals i d ∷ [])
+    ∙ ap (λ (r : List SatLit). without l (take i literals) ++ r) (without-cons_other l (get_or literals i d) [] e)
+
+pub others_more_left : (l : SatLit) (literals : List SatLit) (i : ℕ) (d : SatLit) → i < length literals → same_literal l (get_or literals i d) ≡ true
+    → without l (take (i + 1) literals) ≡ without l (take i literals)
+others_more_left l literals i d h e =
+    ap (without l) (take_more literals i d h)
+    ∙ without-append l (take i literals) (get_or literals i d ∷ [])
+    ∙ ap (λ (r : List SatLit). without l (take i literals) ++ r) (without-cons_same l (get_or literals i d) [] e)
+    ∙ append-nil (without l (take i literals))
+
+-- `contains` of a slice asks with the arguments the other way round
+pub holds-flipped : (literals : List SatLit) (l : SatLit) → list_any (λ m. same_literal m l) literals ≡ holds literals l
+holds-flipped [] l = refl
+holds-flipped (m ∷ literals) l = ap₂ ◌||◌ (same_literal-comm m l) (holds-flipped literals l)
+
+-- a step where the clause so far gives the negation
+pub resolved_other_way : (v : Var) (a b : List SatLit) → IsSome (resolved v a b) → (holds a (positive v) && holds b (negative v)) ≡ false
+    → resolved v a b ≡ Some (resolvent v b a)
+resolved_other_way v a b some otherwise = go (holds a (negative v) && holds b (positive v)) refl some
+  where
+    go : (t : Bool) → (holds a (negative v) && holds b (positive v)) ≡ t → IsSome (resolved v a b) → resolved v a b ≡ Some (resolvent v b a)
+    go true e s = simp (otherwise, e)
+    go false e s =
+      let none : resolved v a b ≡ None = simp (otherwise, e) in
+      absurd (false≢true (subst IsSome none s))

@@ -1,8 +1,10 @@
 -- The clause of a chain while it is built.
-use Rattle.std.proofs.Common.{◌≡◌, ◌<◌, ◌+◌, ℕ, suc, cond, not, ◌&&◌, ◌||◌, Bool, true, false, List, [], ◌∷◌, ◌++◌, Option, Some, None, is_some, length, reverse, refl, sym, ap, ap₂, ◌∙◌, subst, arith, append_assoc, length-append}
+use Rattle.std.proofs.Common.{◌≡◌, ◌<◌, ◌≤◌, ◌+◌, ◌-◌, ℕ, suc, take, drop, get_or, append-nil, cond, not, ◌&&◌, ◌||◌, Bool, true, false, List, [], ◌∷◌, ◌++◌, Option, Some, None, is_some, length, reverse, refl, sym, ap, ap₂, ◌∙◌, subst, arith, append_assoc, length-append}
 use Rattle.std.specs.List.{All, list_any}
-use Rattle.std.proofs.lemmas.Bool.{ne_eqb, eq-eqb}
-use Rattle.std.proofs.lemmas.List.{reverse-append, length-reverse}
+use Rattle.std.proofs.lemmas.Bool.{ne_eqb, eq-eqb, or_parts, or_from}
+use Rattle.std.proofs.lemmas.List.{take_more, reverse-append, length-reverse}
+use Rattle.std.proofs.lemmas.List.Folds.{list_any-append}
+use Rattle.std.proofs.Math.Seq.{drop-cons}
 use Rattle.std.proofs.lemmas.List.Elements.{All-nil, All-cons, All-head, All-tail, All-push, All-weaker}
 use Rattle.sat_base.specs.declared.literal.SatLit.{SatLit}
 use Rattle.sat_base.specs.Literal.{same_literal, holds}
@@ -156,3 +158,103 @@ pushed_to_back front back longer old new l n pushed e marks updates =
     let Moves : List Placed → Type 0 = λ placed. IsMarked placed new × (live new placed ≡ without l (live old (in_order front back)) ++ l ∷ []) in
     let order : in_order front back ++ p ∷ [] ≡ in_order front longer = append_assoc (reverse front) back (p ∷ []) ∙ ap (λ (b : List Placed). reverse front ++ b) (sym pushed) in
     subst Moves order (moved_to_back (in_order front back) old new l n (e ∙ sym (length-in_order front back)) marks updates)
+
+-- whether a literal was placed, however it is now
+abbrev is_named : List Placed → SatLit → Bool
+is_named placed l = list_any (λ p. same_literal p.literal l) placed
+
+-- only what was placed is in the clause
+live_unnamed : (table : List Stamps) (placed : List Placed) (l : SatLit) → is_named placed l ≡ false → holds (live table placed) l ≡ false
+live_unnamed table [] l unnamed = refl
+live_unnamed table (p ∷ placed) l unnamed =
+    go (is_live table p) refl (live_unnamed table placed l (or_parts (same_literal p.literal l) _ unnamed).1)
+  where
+    go : (b : Bool) → is_live table p ≡ b → holds (live table placed) l ≡ false → holds (live table (p ∷ placed)) l ≡ false
+    go true e rest = simp e (or_from _ _ (same_literal-comm l p.literal ∙ (or_parts (same_literal p.literal l) _ unnamed).0) rest)
+    go false e rest = simp e rest
+
+-- a literal that is pushed to a clause with some others stands behind them
+pub pushed_more : (start so_far next others : List SatLit) (l : SatLit) → so_far ≡ start ++ others → next ≡ so_far ++ l ∷ [] → next ≡ start ++ (others ++ l ∷ [])
+pushed_more start so_far next others l e step = step ∙ ap (λ (r : List SatLit). r ++ l ∷ []) e ∙ append_assoc start others (l ∷ [])
+
+-- the next placed literal counts or does not
+pub live_more : (table : List Stamps) (placed : List Placed) (i : ℕ) (d : Placed) → i < length placed → is_live table (get_or placed i d) ≡ true
+    → live table (take (i + 1) placed) ≡ live table (take i placed) ++ (get_or placed i d).literal ∷ []
+live_more table placed i d h e =
+    ap (live table) (take_more placed i d h)
+    ∙ live-append table (take i placed) (get_or placed i d ∷ [])
+    ∙ ap (λ (r : List SatLit). live table (take i placed) ++ r) (simp e)
+
+pub live_same : (table : List Stamps) (placed : List Placed) (i : ℕ) (d : Placed) → i < length placed → is_live table (get_or placed i d) ≡ false
+    → live table (take (i + 1) placed) ≡ live table (take i placed)
+live_same table placed i d h e =
+    ap (live table) (take_more placed i d h)
+    ∙ live-append table (take i placed) (get_or placed i d ∷ [])
+    ∙ ap (λ (r : List SatLit). live table (take i placed) ++ r) (simp e)
+    ∙ append-nil (live table (take i placed))
+
+-- the same, from the last placed literal down
+drop_before : (placed : List Placed) (i : ℕ) (d : Placed) → 0 < i → i ≤ length placed → drop (i - 1) placed ≡ get_or placed (i - 1) d ∷ drop i placed
+drop_before placed i d low high =
+    let next : suc (i - 1) ≡ i = omega arith in
+    drop-cons placed (i - 1) d (omega arith) ∙ ap (λ (k : ℕ). get_or placed (i - 1) d ∷ drop k placed) next
+
+reverse_before : (placed : List Placed) (i : ℕ) (d : Placed) → 0 < i → i ≤ length placed → reverse (drop (i - 1) placed) ≡ reverse (drop i placed) ++ get_or placed (i - 1) d ∷ []
+reverse_before placed i d low high =
+    ap (λ (ps : List Placed). reverse ps) (drop_before placed i d low high) ∙ reverse-append (get_or placed (i - 1) d ∷ []) (drop i placed)
+
+pub live_reversed_more : (table : List Stamps) (placed : List Placed) (i : ℕ) (d : Placed) → 0 < i → i ≤ length placed → is_live table (get_or placed (i - 1) d) ≡ true
+    → live table (reverse (drop (i - 1) placed)) ≡ live table (reverse (drop i placed)) ++ (get_or placed (i - 1) d).literal ∷ []
+live_reversed_more table placed i d low high e =
+    ap (live table) (reverse_before placed i d low high)
+    ∙ live-append table (reverse (drop i placed)) (get_or placed (i - 1) d ∷ [])
+    ∙ ap (λ (r : List SatLit). live table (reverse (drop i placed)) ++ r) (simp e)
+
+pub live_reversed_same : (table : List Stamps) (placed : List Placed) (i : ℕ) (d : Placed) → 0 < i → i ≤ length placed → is_live table (get_or placed (i - 1) d) ≡ false
+    → live table (reverse (drop (i - 1) placed)) ≡ live table (reverse (drop i placed))
+live_reversed_same table placed i d low high e =
+    ap (live table) (reverse_before placed i d low high)
+    ∙ live-append table (reverse (drop i placed)) (get_or placed (i - 1) d ∷ [])
+    ∙ ap (λ (r : List SatLit). live table (reverse (drop i placed)) ++ r) (simp e)
+    ∙ append-nil (live table (reverse (drop i placed)))
+
+is_named-reverse : (placed : List Placed) (l : SatLit) → is_named (reverse placed) l ≡ is_named placed l
+is_named-reverse [] l = refl
+is_named-reverse (p ∷ placed) l =
+    ap (λ (ps : List Placed). is_named ps l) (reverse-append (p ∷ []) placed)
+    ∙ list_any-append (λ q. same_literal q.literal l) (reverse placed) (p ∷ [])
+    ∙ ap (λ (b : Bool). b || (same_literal p.literal l || false)) (is_named-reverse placed l)
+    ∙ turned (is_named placed l) (same_literal p.literal l)
+  where
+    turned : (a b : Bool) → (a || (b || false)) ≡ (b || a)
+    turned true true = refl
+    turned true false = refl
+    turned false true = refl
+    turned false false = refl
+
+-- a table from which all placed literals are taken fits the clause of no literal
+pub IsMarked-forgotten : (front back : List Placed) (old between new : List Stamps) → IsMarked (in_order front back) old
+    → ((l : SatLit) → stamp_of between l ≡ cond (is_named front l) None (stamp_of old l))
+    → ((l : SatLit) → stamp_of new l ≡ cond (is_named back l) None (stamp_of between l))
+    → IsMarked [] new
+IsMarked-forgotten front back old between new marks first second = record {
+  stamps = All-nil (λ p. p.stamp < 0);
+  marked = λ l. ap is_some (second l ∙ ap (λ (s : Option ℕ). cond (is_named back l) None s) (first l)) ∙ go l (is_named front l) (is_named back l) refl refl;
+}
+  where
+    go : (l : SatLit) (a b : Bool) → is_named front l ≡ a → is_named back l ≡ b → is_some (cond b None (cond a None (stamp_of old l))) ≡ false
+    go l a true e f = refl
+    go l true false e f = refl
+    go l false false e f =
+      marks.marked l
+      ∙ live_unnamed old (in_order front back) l
+          (list_any-append (λ p. same_literal p.literal l) (reverse front) back ∙ or_from _ _ (is_named-reverse front l ∙ e) f)
+
+-- the clause, collected from the two lists
+pub collected : (table : List Stamps) (front back f b : List Placed) (empty first whole : List SatLit) → f ≡ front → b ≡ back
+    → empty ≡ [] → first ≡ empty ++ live table (reverse f) → whole ≡ first ++ live table b → whole ≡ live table (in_order front back)
+collected table front back f b empty first whole f_is b_is empty_is first_is whole_is =
+    let joined = live-append table (reverse front) back in
+    let started : first ≡ live table (reverse front) =
+      first_is ∙ ap₂ (λ (r : List SatLit) (ps : List Placed). r ++ live table (reverse ps)) empty_is f_is in
+    whole_is ∙ ap₂ (λ (r : List SatLit) (ps : List Placed). r ++ live table ps) started b_is ∙ sym joined

@@ -1,5 +1,5 @@
 -- Resolution of two clauses. Source: Robinson, A machine-oriented logic based on the resolution principle, 1965.
-use Rattle.std.specs.Prelude.{Bool, not, ◌&&◌, if◌then◌else◌, List, [], ◌∷◌, ◌++◌, Option, Some, None, filter}
+use Rattle.std.specs.Prelude.{◌≡◌, Bool, not, ◌&&◌, if◌then◌else◌, List, [], ◌∷◌, ◌++◌, Option, Some, None, filter}
 use Rattle.sat_base.specs.declared.literal.Var.{Var}
 use Rattle.sat_base.specs.declared.literal.SatLit.{SatLit}
 use Rattle.sat_base.specs.Literal.{positive, negative, same_literal, holds}
@@ -12,6 +12,10 @@ without l literals = filter (λ m. not (same_literal l m)) literals
 abbrev pub without_repeats : List SatLit → List SatLit
 without_repeats [] = []
 without_repeats (l ∷ literals) = l ∷ without l (without_repeats literals)
+
+-- no literal stands in the list twice
+abbrev pub HasNoRepeats : List SatLit → Type 0
+HasNoRepeats literals = without_repeats literals ≡ literals
 
 -- the resolvent on v of a, which holds v, and b, which holds its negation: a without v and b without its negation, without repeats
 abbrev pub resolvent : Var → List SatLit → List SatLit → List SatLit
