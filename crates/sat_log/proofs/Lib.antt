@@ -1,2 +1,3 @@
 pub mod ResolutionLaws
 pub mod ResolverLaws
+pub mod ChainLaws

@@ -32,7 +32,7 @@ holds-without l [] m = refl
 holds-without l (x ∷ literals) m = go (same_literal l x) (same_literal m x) refl refl (holds-without l literals m)
   where
     go : (a b : Bool) → same_literal l x ≡ a → same_literal m x ≡ b → holds (without l literals) m ≡ (holds literals m && not (same_literal l m))
-      → holds (without l (x ∷ literals)) m ≡ (holds (x ∷ literals) m && not (same_literal l m))
+        → holds (without l (x ∷ literals)) m ≡ (holds (x ∷ literals) m && not (same_literal l m))
     go true true p q rest = let e = same_both l m x p q in simp (p, q, e) (rest ∙ and_right (holds literals m) _ (rw e refl))
     go true false p q rest = simp (p, q) rest
     go false true p q rest = let e = apart_from_same l m x p q in simp (p, q, e)
@@ -53,7 +53,7 @@ without-comm l m [] = refl
 without-comm l m (x ∷ literals) = go (same_literal l x) (same_literal m x) refl refl (without-comm l m literals)
   where
     go : (a b : Bool) → same_literal l x ≡ a → same_literal m x ≡ b → without l (without m literals) ≡ without m (without l literals)
-      → without l (without m (x ∷ literals)) ≡ without m (without l (x ∷ literals))
+        → without l (without m (x ∷ literals)) ≡ without m (without l (x ∷ literals))
     go true true p q rest = simp (p, q) rest
     go true false p q rest = simp (p, q) rest
     go false true p q rest = simp (p, q) rest
@@ -71,32 +71,32 @@ holds-without_repeats (x ∷ literals) m = go (same_literal m x) refl (holds-wit
     go : (b : Bool) → same_literal m x ≡ b → holds (without_repeats literals) m ≡ holds literals m → holds (without_repeats (x ∷ literals)) m ≡ holds (x ∷ literals) m
     go true q rest = simp q
     go false q rest =
-      let other : same_literal x m ≡ false = same_literal-comm x m ∙ q in
-      simp q (holds-without x (without_repeats literals) m ∙ rw other (and_true (holds (without_repeats literals) m)) ∙ rest)
+        let other : same_literal x m ≡ false = same_literal-comm x m ∙ q in
+        simp q (holds-without x (without_repeats literals) m ∙ rw other (and_true (holds (without_repeats literals) m)) ∙ rest)
 
 pub without-without_repeats : (l : SatLit) (literals : List SatLit) → without l (without_repeats literals) ≡ without_repeats (without l literals)
 without-without_repeats l [] = refl
 without-without_repeats l (x ∷ literals) = go (same_literal l x) refl (without-without_repeats l literals)
   where
     go : (b : Bool) → same_literal l x ≡ b → without l (without_repeats literals) ≡ without_repeats (without l literals)
-      → without l (without_repeats (x ∷ literals)) ≡ without_repeats (without l (x ∷ literals))
+        → without l (without_repeats (x ∷ literals)) ≡ without_repeats (without l (x ∷ literals))
     go true p rest =
-      without-cons_same l x _ p
-      ∙ ap (λ (k : SatLit). without l (without k (without_repeats literals))) (sym (same_literal-true l x p))
-      ∙ without-without l (without_repeats literals)
-      ∙ rest ∙ ap without_repeats (sym (without-cons_same l x literals p))
+        without-cons_same l x _ p
+        ∙ ap (λ (k : SatLit). without l (without k (without_repeats literals))) (sym (same_literal-true l x p))
+        ∙ without-without l (without_repeats literals)
+        ∙ rest ∙ ap without_repeats (sym (without-cons_same l x literals p))
     go false p rest =
-      without-cons_other l x _ p
-      ∙ ap (λ (r : List SatLit). x ∷ r) (without-comm l x (without_repeats literals) ∙ ap (without x) rest)
-      ∙ ap without_repeats (sym (without-cons_other l x literals p))
+        without-cons_other l x _ p
+        ∙ ap (λ (r : List SatLit). x ∷ r) (without-comm l x (without_repeats literals) ∙ ap (without x) rest)
+        ∙ ap without_repeats (sym (without-cons_other l x literals p))
 
 pub without_repeats-without_repeats : (literals : List SatLit) → without_repeats (without_repeats literals) ≡ without_repeats literals
 without_repeats-without_repeats [] = refl
 without_repeats-without_repeats (x ∷ literals) =
     ap (λ (r : List SatLit). x ∷ r)
-      (ap (without x) (sym (without-without_repeats x (without_repeats literals)))
-      ∙ without-without x (without_repeats (without_repeats literals))
-      ∙ ap (without x) (without_repeats-without_repeats literals))
+    (ap (without x) (sym (without-without_repeats x (without_repeats literals)))
+    ∙ without-without x (without_repeats (without_repeats literals))
+    ∙ ap (without x) (without_repeats-without_repeats literals))
 
 -- repeats may be taken out of either part of a list first
 pub without_repeats-append_right : (xs ys : List SatLit) → without_repeats (xs ++ without_repeats ys) ≡ without_repeats (xs ++ ys)
@@ -110,24 +110,24 @@ without_repeats-append_left (x ∷ xs) ys =
   where
     once_less : (zs : List SatLit) → without x (without_repeats (without x zs ++ ys)) ≡ without x (without_repeats (zs ++ ys))
     once_less zs =
-      without-without_repeats x (without x zs ++ ys)
-      ∙ ap without_repeats
-          (without-append x (without x zs) ys ∙ ap (λ (r : List SatLit). r ++ without x ys) (without-without x zs) ∙ sym (without-append x zs ys))
-      ∙ sym (without-without_repeats x (zs ++ ys))
+        without-without_repeats x (without x zs ++ ys)
+        ∙ ap without_repeats
+        (without-append x (without x zs) ys ∙ ap (λ (r : List SatLit). r ++ without x ys) (without-without x zs) ∙ sym (without-append x zs ys))
+        ∙ sym (without-without_repeats x (zs ++ ys))
 
 -- one more literal at the end is left out where it is there
 pub without_repeats-push_held : (xs : List SatLit) (l : SatLit) → holds xs l ≡ true → without_repeats (xs ++ l ∷ []) ≡ without_repeats xs
 without_repeats-push_held [] l h = absurd (false≢true h)
 without_repeats-push_held (x ∷ xs) l h =
     elim (or_cases (same_literal l x) (holds xs l) h) [
-      inl here ↦ ap (λ (r : List SatLit). x ∷ r)
-        (without-without_repeats x (xs ++ l ∷ [])
-        ∙ ap without_repeats
-            (without-append x xs (l ∷ [])
-            ∙ ap (λ (r : List SatLit). without x xs ++ r) (without-cons_same x l [] (same_literal-comm x l ∙ here))
-            ∙ append-nil (without x xs))
-        ∙ sym (without-without_repeats x xs))
-    | inr later ↦ ap (λ (r : List SatLit). x ∷ without x r) (without_repeats-push_held xs l later)
+      | inl here ↦ ap (λ (r : List SatLit). x ∷ r)
+          (without-without_repeats x (xs ++ l ∷ [])
+          ∙ ap without_repeats
+          (without-append x xs (l ∷ [])
+          ∙ ap (λ (r : List SatLit). without x xs ++ r) (without-cons_same x l [] (same_literal-comm x l ∙ here))
+          ∙ append-nil (without x xs))
+          ∙ sym (without-without_repeats x xs))
+      | inr later ↦ ap (λ (r : List SatLit). x ∷ without x r) (without_repeats-push_held xs l later)
     ]
 
 pub without_repeats-push_new : (xs : List SatLit) (l : SatLit) → holds xs l ≡ false → without_repeats (xs ++ l ∷ []) ≡ without_repeats xs ++ l ∷ []
@@ -135,9 +135,9 @@ without_repeats-push_new [] l h = refl
 without_repeats-push_new (x ∷ xs) l h =
     let parts = or_parts (same_literal l x) (holds xs l) h in
     ap (λ (r : List SatLit). x ∷ r)
-      (ap (without x) (without_repeats-push_new xs l parts.1)
-      ∙ without-append x (without_repeats xs) (l ∷ [])
-      ∙ ap (λ (r : List SatLit). without x (without_repeats xs) ++ r) (without-cons_other x l [] (same_literal-comm x l ∙ parts.0)))
+    (ap (without x) (without_repeats-push_new xs l parts.1)
+    ∙ without-append x (without_repeats xs) (l ∷ [])
+    ∙ ap (λ (r : List SatLit). without x (without_repeats xs) ++ r) (without-cons_other x l [] (same_literal-comm x l ∙ parts.0)))
 
 -- repeats in the first clause do not change a step
 pub resolved-without_repeats : (v : Var) (a b : List SatLit) → resolved v (without_repeats a) b ≡ resolved v a b
@@ -145,11 +145,11 @@ resolved-without_repeats v a b =
     let first = holds-without_repeats a (positive v) in
     let second = holds-without_repeats a (negative v) in
     let left : resolvent v (without_repeats a) b ≡ resolvent v a b =
-      ap (λ (r : List SatLit). without_repeats (r ++ without (negative v) b)) (without-without_repeats (positive v) a)
-      ∙ without_repeats-append_left (without (positive v) a) (without (negative v) b) in
+    ap (λ (r : List SatLit). without_repeats (r ++ without (negative v) b)) (without-without_repeats (positive v) a)
+    ∙ without_repeats-append_left (without (positive v) a) (without (negative v) b) in
     let right : resolvent v b (without_repeats a) ≡ resolvent v b a =
-      ap (λ (r : List SatLit). without_repeats (without (positive v) b ++ r)) (without-without_repeats (negative v) a)
-      ∙ without_repeats-append_right (without (positive v) b) (without (negative v) a) in
+    ap (λ (r : List SatLit). without_repeats (without (positive v) b ++ r)) (without-without_repeats (negative v) a)
+    ∙ without_repeats-append_right (without (positive v) b) (without (negative v) a) in
     cc
 
 -- a literal is put at the back of a list without repeats where it is not there yet
@@ -204,5 +204,5 @@ resolved_other_way v a b some otherwise = go (holds a (negative v) && holds b (p
     go : (t : Bool) → (holds a (negative v) && holds b (positive v)) ≡ t → IsSome (resolved v a b) → resolved v a b ≡ Some (resolvent v b a)
     go true e s = simp (otherwise, e)
     go false e s =
-      let none : resolved v a b ≡ None = simp (otherwise, e) in
-      absurd (false≢true (subst IsSome none s))
+        let none : resolved v a b ≡ None = simp (otherwise, e) in
+        absurd (false≢true (subst IsSome none s))

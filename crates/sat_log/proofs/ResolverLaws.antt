@@ -33,19 +33,19 @@ live-updated old new l stamp updates (p ∷ placed) apart =
   where
     go : (a b : Bool) → same_literal l p.literal ≡ a → is_live old p ≡ b → live new placed ≡ without l (live old placed) → live new (p ∷ placed) ≡ without l (live old (p ∷ placed))
     go true true e f rest =
-      let dead : is_live new p ≡ false =
+        let dead : is_live new p ≡ false =
         ap (λ s. is_stamp s p.stamp) (updates p.literal ∙ rw e refl) ∙ All-head (λ q. is_stamp stamp q.stamp ≡ false) p placed apart in
-      simp (dead, f) (rest ∙ sym (without-cons_same l p.literal (live old placed) e))
+        simp (dead, f) (rest ∙ sym (without-cons_same l p.literal (live old placed) e))
     go true false e f rest =
-      let dead : is_live new p ≡ false =
+        let dead : is_live new p ≡ false =
         ap (λ s. is_stamp s p.stamp) (updates p.literal ∙ rw e refl) ∙ All-head (λ q. is_stamp stamp q.stamp ≡ false) p placed apart in
-      simp (dead, f) rest
+        simp (dead, f) rest
     go false true e f rest =
-      let alive : is_live new p ≡ true = ap (λ s. is_stamp s p.stamp) (updates p.literal ∙ rw e refl) ∙ f in
-      simp (alive, f) (ap (λ (r : List SatLit). p.literal ∷ r) rest ∙ sym (without-cons_other l p.literal (live old placed) e))
+        let alive : is_live new p ≡ true = ap (λ s. is_stamp s p.stamp) (updates p.literal ∙ rw e refl) ∙ f in
+        simp (alive, f) (ap (λ (r : List SatLit). p.literal ∷ r) rest ∙ sym (without-cons_other l p.literal (live old placed) e))
     go false false e f rest =
-      let still : is_live new p ≡ false = ap (λ s. is_stamp s p.stamp) (updates p.literal ∙ rw e refl) ∙ f in
-      simp (still, f) rest
+        let still : is_live new p ≡ false = ap (λ s. is_stamp s p.stamp) (updates p.literal ∙ rw e refl) ∙ f in
+        simp (still, f) rest
 
 -- which literals the table has a number for after an update
 marked-updated : (placed : List Placed) (old new : List Stamps) (l : SatLit) (stamp : Option ℕ) → IsMarked placed old → Updates old new l stamp
@@ -79,14 +79,16 @@ at_back_test false false = refl
 pub removed : (placed : List Placed) (old new : List Stamps) (l : SatLit) → IsMarked placed old → Updates old new l None
     → IsMarked placed new × (live new placed ≡ without l (live old placed))
 removed placed old new l marks updates =
-    let rest : live new placed ≡ without l (live old placed) = live-updated old new l None updates placed (λ _ _ _. refl) in
-    (record {
-      stamps = marks.stamps;
-      marked = λ m.
-        marked-updated placed old new l None marks updates m
-        ∙ sym (without_test (holds (live old placed) m) (same_literal l m))
-        ∙ sym (ap (λ (r : List SatLit). holds r m) rest ∙ holds-without l (live old placed) m);
-    }, rest)
+    let rest : live new placed ≡ without l (live old placed) = live-updated old new l None updates placed (λ _ _ _. refl) in (
+      record {
+        stamps = marks.stamps;
+        marked = λ m.
+            marked-updated placed old new l None marks updates m
+            ∙ sym (without_test (holds (live old placed) m) (same_literal l m))
+            ∙ sym (ap (λ (r : List SatLit). holds r m) rest ∙ holds-without l (live old placed) m);
+      },
+      rest,
+    )
 
 -- a number that none has is none of those placed
 fresh : (placed : List Placed) (table : List Stamps) (n : ℕ) → n ≡ length placed → IsMarked placed table → All (λ p. is_stamp (Some n) p.stamp ≡ false) placed
@@ -106,15 +108,17 @@ moved_to_front placed old new l n e marks updates =
     let p : Placed = record { literal = l; stamp = n } in
     let rest = live-updated old new l (Some n) updates placed (fresh placed old n e marks) in
     let here : is_live new p ≡ true = counts old new l n updates in
-    let whole : live new (p ∷ placed) ≡ l ∷ without l (live old placed) = simp here (ap (λ (r : List SatLit). l ∷ r) rest) in
-    (record {
-      stamps = All-cons (λ q. q.stamp < length (p ∷ placed)) p placed (omega arith)
-        (All-weaker (λ q. q.stamp < length placed) (λ q. q.stamp < length (p ∷ placed)) (λ q h. omega arith) placed marks.stamps);
-      marked = λ m.
-        marked-updated placed old new l (Some n) marks updates m
-        ∙ sym (in_front_test (holds (live old placed) m) (same_literal l m))
-        ∙ sym (ap (λ (r : List SatLit). holds r m) whole ∙ ap₂ ◌||◌ (same_literal-comm m l) (holds-without l (live old placed) m));
-    }, whole)
+    let whole : live new (p ∷ placed) ≡ l ∷ without l (live old placed) = simp here (ap (λ (r : List SatLit). l ∷ r) rest) in (
+      record {
+        stamps = All-cons (λ q. q.stamp < length (p ∷ placed)) p placed (omega arith)
+            (All-weaker (λ q. q.stamp < length placed) (λ q. q.stamp < length (p ∷ placed)) (λ q h. omega arith) placed marks.stamps);
+        marked = λ m.
+            marked-updated placed old new l (Some n) marks updates m
+            ∙ sym (in_front_test (holds (live old placed) m) (same_literal l m))
+            ∙ sym (ap (λ (r : List SatLit). holds r m) whole ∙ ap₂ ◌||◌ (same_literal-comm m l) (holds-without l (live old placed) m));
+      },
+      whole,
+    )
 
 -- a literal that is placed at the back, with a new number, moves there
 pub moved_to_back : (placed : List Placed) (old new : List Stamps) (l : SatLit) (n : ℕ) → n ≡ length placed → IsMarked placed old → Updates old new l (Some n)
@@ -125,17 +129,19 @@ moved_to_back placed old new l n e marks updates =
     let here : is_live new p ≡ true = counts old new l n updates in
     let last : live new (p ∷ []) ≡ l ∷ [] = simp here refl in
     let whole : live new (placed ++ p ∷ []) ≡ without l (live old placed) ++ l ∷ [] = live-append new placed (p ∷ []) ∙ ap₂ ◌++◌ rest last in
-    let longer : length (placed ++ p ∷ []) ≡ suc (length placed) = length-append placed (p ∷ []) ∙ omega arith in
-    (record {
-      stamps = All-push (λ q. q.stamp < length (placed ++ p ∷ [])) placed p
-        (All-weaker (λ q. q.stamp < length placed) (λ q. q.stamp < length (placed ++ p ∷ [])) (λ q h. omega arith) placed marks.stamps)
-        (omega arith);
-      marked = λ m.
-        marked-updated placed old new l (Some n) marks updates m
-        ∙ sym (at_back_test (holds (live old placed) m) (same_literal l m))
-        ∙ sym (ap (λ (r : List SatLit). holds r m) whole ∙ holds-append (without l (live old placed)) (l ∷ []) m
-          ∙ ap₂ ◌||◌ (holds-without l (live old placed) m) (ap (λ (b : Bool). b || false) (same_literal-comm m l)));
-    }, whole)
+    let longer : length (placed ++ p ∷ []) ≡ suc (length placed) = length-append placed (p ∷ []) ∙ omega arith in (
+      record {
+        stamps = All-push (λ q. q.stamp < length (placed ++ p ∷ [])) placed p
+            (All-weaker (λ q. q.stamp < length placed) (λ q. q.stamp < length (placed ++ p ∷ [])) (λ q h. omega arith) placed marks.stamps)
+            (omega arith);
+        marked = λ m.
+            marked-updated placed old new l (Some n) marks updates m
+            ∙ sym (at_back_test (holds (live old placed) m) (same_literal l m))
+            ∙ sym (ap (λ (r : List SatLit). holds r m) whole ∙ holds-append (without l (live old placed)) (l ∷ []) m
+            ∙ ap₂ ◌||◌ (holds-without l (live old placed) m) (ap (λ (b : Bool). b || false) (same_literal-comm m l)));
+      },
+      whole,
+    )
 
 length-in_order : (front back : List Placed) → length (in_order front back) ≡ length front + length back
 length-in_order front back = length-append (reverse front) back ∙ ap (λ (n : ℕ). n + length back) (length-reverse front)
@@ -246,9 +252,9 @@ IsMarked-forgotten front back old between new marks first second = record {
     go l a true e f = refl
     go l true false e f = refl
     go l false false e f =
-      marks.marked l
-      ∙ live_unnamed old (in_order front back) l
-          (list_any-append (λ p. same_literal p.literal l) (reverse front) back ∙ or_from _ _ (is_named-reverse front l ∙ e) f)
+        marks.marked l
+        ∙ live_unnamed old (in_order front back) l
+        (list_any-append (λ p. same_literal p.literal l) (reverse front) back ∙ or_from _ _ (is_named-reverse front l ∙ e) f)
 
 -- the clause, collected from the two lists
 pub collected : (table : List Stamps) (front back f b : List Placed) (empty first whole : List SatLit) → f ≡ front → b ≡ back
@@ -256,5 +262,5 @@ pub collected : (table : List Stamps) (front back f b : List Placed) (empty firs
 collected table front back f b empty first whole f_is b_is empty_is first_is whole_is =
     let joined = live-append table (reverse front) back in
     let started : first ≡ live table (reverse front) =
-      first_is ∙ ap₂ (λ (r : List SatLit) (ps : List Placed). r ++ live table (reverse ps)) empty_is f_is in
+    first_is ∙ ap₂ (λ (r : List SatLit) (ps : List Placed). r ++ live table (reverse ps)) empty_is f_is in
     whole_is ∙ ap₂ (λ (r : List SatLit) (ps : List Placed). r ++ live table ps) started b_is ∙ sym joined

@@ -7,4 +7,4 @@ mod resolver;
 mod stamps;
 
 pub use chain::{Chain, ChainStep, ChainSteps, Premise};
-pub use log::LogEntry;
+pub use log::{Log, LogEntry};

@@ -205,7 +205,11 @@ fn push_live(clause: &mut Clause, table: &StampTable, placed: &[Placed]) -> Resu
     Ok(())
 }
 
-fn push_live_reversed(clause: &mut Clause, table: &StampTable, placed: &[Placed]) -> Result<(), AllocError>
+fn push_live_reversed(
+    clause: &mut Clause,
+    table: &StampTable,
+    placed: &[Placed],
+) -> Result<(), AllocError>
     ensures { OnOk result (clause.new ≡ clause.old ++ live table.now (reverse placed.now)) }
 {
     for i in (0..placed.len()).rev() {

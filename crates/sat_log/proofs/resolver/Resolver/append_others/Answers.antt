@@ -16,12 +16,12 @@ loop-literal-preserved c =
     let i = c.loop-literal.literal-index in
     let clause = λ (r : List SatLit). without_repeats (c.args.self.now ++ r) in
     elim c.if-ne.branch [
-      then-ne+in_ok-add w ↦
-        w.self-is
-        ∙ added_more c.args.self.now (without c.args.dropped (take i literals)) _ c.loop-literal.self w.add.new.self c.loop-literal.invariant w.in_ok-add.ensures
-        ∙ ap clause (sym (others_more_kept c.args.dropped literals i _ c.loop-literal-test.true (not-true _ (sym c.ne.ensures ∙ w.if-ne.true))))
-    | else-ne w ↦
-        w.self-is
-        ∙ c.loop-literal.invariant
-        ∙ ap clause (sym (others_more_left c.args.dropped literals i _ c.loop-literal-test.true (not-false _ (sym c.ne.ensures ∙ w.if-ne.false))))
+      | then-ne+in_ok-add w ↦
+          w.self-is
+          ∙ added_more c.args.self.now (without c.args.dropped (take i literals)) _ c.loop-literal.self w.add.new.self c.loop-literal.invariant w.in_ok-add.ensures
+          ∙ ap clause (sym (others_more_kept c.args.dropped literals i _ c.loop-literal-test.true (not-true _ (sym c.ne.ensures ∙ w.if-ne.true))))
+      | else-ne w ↦
+          w.self-is
+          ∙ c.loop-literal.invariant
+          ∙ ap clause (sym (others_more_left c.args.dropped literals i _ c.loop-literal-test.true (not-false _ (sym c.ne.ensures ∙ w.if-ne.false))))
     ]
