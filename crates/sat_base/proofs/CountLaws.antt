@@ -11,7 +11,7 @@ use Rattle.std.proofs.lemmas.Map.Steps.{length-le_from_distinct_below}
 use Rattle.sat_base.specs.declared.literal.Var.{Var}
 use Rattle.sat_base.specs.declared.literal.SatLit.{SatLit}
 use Rattle.sat_base.specs.Literal.{positive, negative, holds, HoldsNoVariableTwice, IsAlike, IsOver}
-use Rattle.sat_base.proofs.LiteralLaws.{sign_cases, not_both, IsOver-held}
+use Rattle.sat_base.proofs.LiteralLaws.{sign_cases, not_both, All-held}
 
 abbrev digit_of : Bool → Bool → ℕ
 digit_of true n = 1
@@ -72,7 +72,7 @@ same_literals a b v once_a once_b e =
 
 -- a literal whose variable has the number n or more is not held
 not_held : (n : ℕ) (clause : List SatLit) (l : SatLit) → IsOver n clause → n ≤ l.var.0 → holds clause l ≡ false
-not_held n clause l over high = false_from_ne_true (holds clause l) (λ h. let low : l.var.0 < n = IsOver-held n clause l over h in omega arith)
+not_held n clause l over high = false_from_ne_true (holds clause l) (λ h. let low : l.var.0 < n = All-held (λ m. m.var.0 < n) clause l over h in omega arith)
 
 -- clauses with one number are alike
 IsAlike-code : (n : ℕ) (a b : List SatLit) → IsOver n a → IsOver n b → HoldsNoVariableTwice a → HoldsNoVariableTwice b → code n a ≡ code n b → IsAlike a b

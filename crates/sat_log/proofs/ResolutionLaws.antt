@@ -1,13 +1,13 @@
 -- Facts about lists without some literal or without repeats, and about resolvents.
-use Rattle.std.proofs.Common.{◌≡◌, ◌<◌, ◌+◌, ℕ, take, get_or, length, IsSome, ◌⊎◌, ◌||◌, ◌&&◌, not, cond, Bool, true, false, List, [], ◌∷◌, ◌++◌, Option, Some, None, refl, sym, ap, ap₂, ◌∙◌, subst, inl, inr, append_assoc, append-nil}
-use Rattle.std.specs.List.{list_any, filter}
-use Rattle.std.proofs.lemmas.Bool.{false≢true, cases_Bool, or_parts, or_cases, or_left, and_right}
+use Rattle.std.proofs.Common.{◌≡◌, ◌<◌, ◌+◌, ℕ, take, get_or, length, IsSome, ◌||◌, ◌&&◌, not, Bool, true, false, List, [], ◌∷◌, ◌++◌, Some, None, refl, sym, ap, ap₂, ◌∙◌, subst, inl, inr, append_assoc, append-nil}
+use Rattle.std.specs.List.{list_any}
+use Rattle.std.proofs.lemmas.Bool.{false≢true, or_parts, or_cases, and_right}
 use Rattle.std.proofs.lemmas.List.{take_more}
 use Rattle.std.proofs.lemmas.List.Elements.{filter-append}
 use Rattle.sat_base.specs.declared.literal.Var.{Var}
 use Rattle.sat_base.specs.declared.literal.SatLit.{SatLit}
 use Rattle.sat_base.specs.Literal.{positive, negative, same_literal, holds}
-use Rattle.sat_base.proofs.LiteralLaws.{same_literal-refl, same_literal-true, same_literal-comm, holds-append}
+use Rattle.sat_base.proofs.LiteralLaws.{same_literal-refl, same_literal-true, same_literal-comm}
 use Rattle.sat_log.specs.Resolution.{without, without_repeats, HasNoRepeats, resolvent, resolved}
 
 -- literals that are one with a third are one, and one that is not is another

@@ -1,8 +1,9 @@
 -- Unit propagation. Source: Davis and Putnam, A computing procedure for quantification theory, 1960.
-use Rattle.std.specs.Prelude.{◌≡◌, ◌≢◌, true, false, IsTrue, List, [], ◌∷◌, ◌++◌}
+use Rattle.std.specs.Prelude.{◌≡◌, ◌≢◌, false, IsTrue, List, [], ◌∷◌, ◌++◌, map}
 use Rattle.std.specs.List.{All, Any, Contains}
 use Rattle.sat_base.specs.declared.literal.SatLit.{SatLit}
 use Rattle.sat_base.specs.Literal.{negated, holds}
+use Rattle.sat_log.specs.Resolution.{without}
 
 -- a literal is the only one of a clause whose negation is not in the list
 pub record IsUnit (literals clause : List SatLit) (l : SatLit) : Type 0 where
@@ -13,6 +14,10 @@ pub record IsUnit (literals clause : List SatLit) (l : SatLit) : Type 0 where
 -- the negations of all literals of a clause are in the list
 abbrev pub IsFalseIn : List SatLit → List SatLit → Type 0
 IsFalseIn literals clause = All (λ l. IsTrue (holds literals (negated l))) clause
+
+-- the list holds no literal beside its negation
+abbrev pub IsConsistent : List SatLit → Type 0
+IsConsistent literals = (l : SatLit) → IsTrue (holds literals l) → IsTrue (holds literals (negated l)) → ⊥
 
 -- each later literal is the only one of some clause whose negation is not earlier in the list
 abbrev pub Propagates : List (List SatLit) → List SatLit → List SatLit → Type 0
@@ -47,3 +52,15 @@ pub record AreFailingDecisions (clauses : List (List SatLit)) (decisions : List 
   pub undecided : ¬ Reaches clauses before last
   pub not_denied : ¬ Reaches clauses before (negated last)
   pub fails : ReachesFalse clauses decisions
+
+-- a clause is new to unit propagation: from the negations of its literals other than one, propagation reaches neither that
+-- one nor a false clause
+pub record IsNew (clauses : List (List SatLit)) (clause : List SatLit) : Type 0 where
+  pub literal : SatLit
+  pub member : IsTrue (holds clause literal)
+  pub unreached : ¬ Reaches clauses (map negated (without literal clause)) literal
+  pub consistent : ¬ ReachesFalse clauses (map negated (without literal clause))
+
+-- all clauses of one list are in another
+abbrev pub Includes : List (List SatLit) → List (List SatLit) → Type 0
+Includes clauses others = (clause : List SatLit) → Contains clauses clause → Contains others clause

@@ -1,8 +1,8 @@
 -- Resolution of two clauses. Source: Robinson, A machine-oriented logic based on the resolution principle, 1965.
-use Rattle.std.specs.Prelude.{◌≡◌, Bool, not, ◌&&◌, if◌then◌else◌, List, [], ◌∷◌, ◌++◌, Option, Some, None, filter}
+use Rattle.std.specs.Prelude.{◌≡◌, IsTrue, not, ◌&&◌, if◌then◌else◌, List, [], ◌∷◌, ◌++◌, Option, Some, None, filter}
 use Rattle.sat_base.specs.declared.literal.Var.{Var}
 use Rattle.sat_base.specs.declared.literal.SatLit.{SatLit}
-use Rattle.sat_base.specs.Literal.{positive, negative, same_literal, holds}
+use Rattle.sat_base.specs.Literal.{positive, negative, negated, same_literal, holds}
 
 -- the list without this literal
 abbrev pub without : SatLit → List SatLit → List SatLit
@@ -26,3 +26,7 @@ abbrev pub resolved : Var → List SatLit → List SatLit → Option (List SatLi
 resolved v a b =
     if holds a (positive v) && holds b (negative v) then Some (resolvent v a b)
     else (if holds a (negative v) && holds b (positive v) then Some (resolvent v b a) else None)
+
+-- the two clauses clash on v alone: no other literal of a has its negation in b
+abbrev pub ClashesOnlyOn : Var → List SatLit → List SatLit → Type 0
+ClashesOnlyOn v a b = (l : SatLit) → IsTrue (holds a l) → IsTrue (holds b (negated l)) → l ≡ positive v

@@ -14,7 +14,7 @@ loop-step-preserved c =
     record {
       once = HasNoRepeats-resolved _ so_far _ next c.in_ok-resolve.ensures;
       ahead =
-        sym (after_steps_more clauses outcomes so_far next steps i _ c.loop-step-test.true
+          sym (after_steps_more clauses outcomes so_far next steps i _ c.loop-step-test.true
           (after_step_is clauses outcomes so_far next _ _ (get_or steps i _) c.premise_clause-premise.ensures c.as_slice.ensures c.in_ok-resolve.ensures))
-        ∙ c.loop-step.invariant.ahead;
+          ∙ c.loop-step.invariant.ahead;
     }

@@ -8,5 +8,5 @@ pub returns-clause-right : goal.returns-clause-right
 returns-clause-right c =
     let last : LogEntry = record { chain = c.args.chain; result = c.in_ok-result.result } in
     let longer : c.push.new.self.items ≡ c.args.self.now ++ last ∷ [] =
-      c.in_ok-push.ensures.items ∙ ap (λ (entries : List LogEntry). entries ++ last ∷ []) (c.self.view_is ∙ c.derived.ensures.same) in
+    c.in_ok-push.ensures.items ∙ ap (λ (entries : List LogEntry). entries ++ last ∷ []) (c.self.view_is ∙ c.derived.ensures.same) in
     subst (IsLogOver c.args.clauses.now) (sym longer) (IsLogOver-push c.args.clauses.now c.args.self.now last c.requires.right c.in_ok-result.ensures.ok)

@@ -1,5 +1,4 @@
 use Rattle.std.proofs.Common.{sym, ◌∙◌}
-use Rattle.std.proofs.lemmas.Bool.{false_from_ne_true}
 use Rattle.sat_log.proofs.ResolutionLaws.{add_held, add_new}
 use Rattle.sat_log.proofs.resolver.Resolver.add.Goals as goal
 

@@ -1,4 +1,3 @@
-use Rattle.std.proofs.Common.{◌≡◌}
 use Rattle.sat_log.proofs.ResolverLaws.{IsMarked-forgotten}
 use Rattle.sat_log.proofs.resolver.Resolver.clear.Goals as goal
 

@@ -1,4 +1,4 @@
-use Rattle.std.proofs.Common.{sym, ap, ◌∙◌}
+use Rattle.std.proofs.Common.{ap, ◌∙◌}
 use Rattle.sat_log.specs.Resolution.{without}
 use Rattle.sat_log.specs.Resolver.{in_order}
 use Rattle.sat_log.proofs.ResolverLaws.{removed}

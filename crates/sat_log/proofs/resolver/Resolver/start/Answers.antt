@@ -1,4 +1,4 @@
-use Rattle.std.proofs.Common.{[], take, get_or, sym, ap, ◌∙◌}
+use Rattle.std.proofs.Common.{[], take, sym, ap, ◌∙◌}
 use Rattle.std.proofs.lemmas.List.{take_more}
 use Rattle.sat_log.specs.Resolution.{without_repeats}
 use Rattle.sat_log.proofs.ResolutionLaws.{HasNoRepeats-made, added_more}
