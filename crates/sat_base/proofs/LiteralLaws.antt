@@ -1,5 +1,5 @@
 -- Facts about literals, and about which of them a list holds.
-use Rattle.std.proofs.Common.{◌≡◌, ◌⊎◌, ◌||◌, not, ℕ, ◌<◌, Bool, true, false, List, [], ◌∷◌, ◌++◌, refl, sym, ap, ap₂, ◌∙◌, subst, inl, inr}
+use Rattle.std.proofs.Common.{◌≡◌, ◌⊎◌, ◌||◌, not, ℕ, Bool, true, false, List, [], ◌∷◌, ◌++◌, refl, sym, ap, ap₂, ◌∙◌, subst, inl, inr}
 use Rattle.std.proofs.lemmas.Bool.{false≢true, and_parts, and_from, or_cases, or_left, or_right, eqb-true, eq-eqb}
 use Rattle.std.proofs.lemmas.List.Folds.{list_any-append}
 use Rattle.std.proofs.lemmas.List.Elements.{All-nil, All-cons, All-head, All-tail}
@@ -7,7 +7,7 @@ use Rattle.std.specs.Bool.{beq}
 use Rattle.std.specs.List.{All}
 use Rattle.sat_base.specs.declared.literal.Var.{Var}
 use Rattle.sat_base.specs.declared.literal.SatLit.{SatLit}
-use Rattle.sat_base.specs.Literal.{literal, positive, negative, negated, same_var, same_literal, holds, mentions, HoldsNoVariableTwice, IsOver}
+use Rattle.sat_base.specs.Literal.{literal, positive, negative, negated, same_var, same_literal, holds, mentions, HoldsNoVariableTwice}
 
 -- the tests for equality tell the truth
 pub same_var-refl : (v : Var) → same_var v v ≡ true
@@ -98,12 +98,12 @@ pub All-held : (P : SatLit → Type 0) (literals : List SatLit) (l : SatLit) →
 All-held P [] l each h = absurd (false≢true h)
 All-held P (m ∷ literals) l each h =
     elim (or_cases (same_literal l m) (holds literals l) h) [
-      inl e ↦ subst P (sym (same_literal-true l m e)) (All-head P m literals each)
-    | inr t ↦ All-held P literals l (All-tail P m literals each) t
+      | inl e ↦ subst P (sym (same_literal-true l m e)) (All-head P m literals each)
+      | inr t ↦ All-held P literals l (All-tail P m literals each) t
     ]
 
 pub All-from_held : (P : SatLit → Type 0) (literals : List SatLit) → ((l : SatLit) → holds literals l ≡ true → P l) → All P literals
 All-from_held P [] each = All-nil P
 All-from_held P (m ∷ literals) each =
     All-cons P m literals (each m (or_left _ _ (same_literal-refl m)))
-      (All-from_held P literals (λ l h. each l (or_right (same_literal l m) _ h)))
+    (All-from_held P literals (λ l h. each l (or_right (same_literal l m) _ h)))

@@ -193,3 +193,25 @@ fn chains(rt: HostRuntime) -> Result<(), Fail> {
     check(&rt, rt.alloc(), &rows)?;
     Ok(())
 }
+
+// The four clauses over two variables: from them first `P`, and from that the empty clause.
+#[test]
+fn a_log_ends_in_the_empty_clause(rt: HostRuntime) -> Result<(), Fail> {
+    let alloc = rt.alloc();
+    let store = store_of(alloc, &[&[P, Q], &[P, NOT_Q], &[NOT_P, Q], &[NOT_P, NOT_Q]])?;
+    let mut log = Log::new(alloc);
+    let first = Premise::Clause(0);
+    let steps = steps_of(alloc, &[(1, 1)])?;
+    log.push(&store, Chain { first, steps })?;
+    let first = Premise::Result(0);
+    let mut steps = steps_of(alloc, &[(0, 2), (1, 3)])?;
+    steps.push(ChainStep {
+        var: Var(0),
+        premise: first,
+    })?;
+    log.push(&store, Chain { first, steps })?;
+    assert_eq!(rt; log.len(), 2);
+    assert_eq!(rt; log.result(1).as_slice(), [].as_slice());
+    assert_eq!(rt; log.chain(1).steps.len(), 3);
+    Ok(())
+}
