@@ -1,0 +1,5 @@
+pub mod Resolution
+pub mod Chains
+pub mod Propagation
+pub mod Stamps
+pub mod Resolver
