@@ -1,6 +1,8 @@
 //! Types, terms and canonical terms of simple type theory, signatures and problems, with their values in finite models.
 #![tactic(auto)]
 
+mod law;
+mod measure;
 mod nf;
 mod problem;
 mod same;
@@ -9,10 +11,12 @@ mod term;
 mod ty;
 mod typing;
 
+pub use law::values_depend_on_occurrences;
+pub use measure::{closed, occurs, size_sat};
 pub use nf::{Head, Nf, Nfs};
 pub use problem::{Problem, Terms};
 pub use same::same_nf;
 pub use signature::{Consts, Names, Signature, Symbol};
 pub use term::Term;
 pub use ty::{Ty, Types};
-pub use typing::type_of_closed;
+pub use typing::{Context, Declared, head_type, type_of_closed};

@@ -16,16 +16,18 @@ use std::alloc::{AllocError, Global};
 
 /// The types of the bound variables in scope, as a list that is linked from the innermost one outwards.
 #[derive(Drop)]
-enum Context<'a> {
+pub enum Context<'a> {
     Empty,
+    /// The types of a list, whose last one is the innermost.
+    Outer(&'a Types),
     Inner(&'a Ty, &'a Context<'a>),
 }
 
 /// What is declared: the names of a signature, and the types of the witnesses.
 #[derive(Drop)]
-struct Declared<'a> {
-    sig: &'a Signature,
-    wits: &'a Types,
+pub struct Declared<'a> {
+    pub sig: &'a Signature,
+    pub wits: &'a Types,
 }
 
 impl Context<'_> {
@@ -35,6 +37,7 @@ impl Context<'_> {
     {
         match self {
             Context::Empty => None,
+            Context::Outer(types) => types.get_from_end(k as usize),
             Context::Inner(ty, outer) => { if k == 0 { Some(*ty) } else { outer.get(k - 1) } }
         }
     }
@@ -96,7 +99,11 @@ fn applied_to(function: Option<Ty>, argument: Option<Ty>) -> Option<Ty>
 fn where_over(declared: &Declared, a: &Ty, ty: Ty) -> Option<Ty>
     ensures { option_map the_type result ≡ where_declared (declared_scope declared.now) (the_type a.now) (the_type ty) }
 {
-    if a.is_over(declared.sig.bases.len()) { Some(ty) } else { None }
+    if a.is_over(declared.sig.bases.len()) {
+        Some(ty)
+    } else {
+        None
+    }
 }
 
 fn where_of_base(ty: Option<Ty>) -> Option<Ty>
@@ -127,8 +134,8 @@ fn abstracted(
     }
 }
 
-/// The type of a head.
-fn head_type(
+/// The type of a head, or none where it has none.
+pub fn head_type(
     alloc: Global,
     declared: &Declared,
     ctx: &Context,
@@ -142,7 +149,11 @@ fn head_type(
         Head::Wit(k) => try_clone_some(alloc, declared.wits.get(*k as usize)),
         Head::False => Ok(Some(Ty::Base(0))),
         Head::Not => Ok(Some(predicate_type(alloc, &Ty::Base(0))?)),
-        Head::Imp => Ok(Some(function_type(alloc, Ty::Base(0), predicate_type(alloc, &Ty::Base(0))?)?)),
+        Head::Imp => Ok(Some(function_type(
+            alloc,
+            Ty::Base(0),
+            predicate_type(alloc, &Ty::Base(0))?,
+        )?)),
         Head::All(a) => {
             let ty = function_type(alloc, predicate_type(alloc, a)?, Ty::Base(0))?;
             Ok(where_over(declared, a, ty))
