@@ -78,6 +78,15 @@ impl Types {
         Ok(())
     }
 
+    /// Adds a type before those of the list.
+    pub fn push_front(&mut self, ty: Ty) -> Result<(), AllocError>
+        ensures ok { OnOk result (self.new ≡ the_type ty ∷ self.old) }
+        ensures err { OnErr result (self.new ≡ self.old) }
+    {
+        self.items.insert(0, ty)?;
+        Ok(())
+    }
+
     pub fn len(&self) -> usize
         ensures { result ≡ length self.now }
     {
