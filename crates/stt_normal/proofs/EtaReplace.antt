@@ -1,8 +1,8 @@
 -- Eta-long forms of variables rename, and a canonical term is its own normal form.
-use Rattle.std.proofs.Common.{◌≡◌, ℕ, zero, suc, List, [], ◌∷◌, ◌++◌, length, Option, Some, None, slice_get, ◌⊎◌, inl, inr, refl, sym, ap, ap₂, subst, ◌∙◌}
+use Rattle.std.proofs.Common.{◌≡◌, ℕ, zero, suc, List, [], ◌∷◌, ◌++◌, length, Some, slice_get, ◌⊎◌, inl, inr, refl, sym, ap, ap₂, subst, ◌∙◌}
 use Rattle.stt_core.specs.SimpleType.{SimpleType, base, arrow}
 use Rattle.stt_core.specs.Lambda.{Lambda, bound, constant, lam, app, applied}
-use Rattle.stt_core.specs.Typing.{Scope, constant_type}
+use Rattle.stt_core.specs.Typing.{Scope}
 use Rattle.stt_core.specs.Canonical.{IsBase, IsFrom, IsCanonical, IsNeutral}
 use Rattle.stt_normal.specs.Lift.{raised, lift}
 use Rattle.stt_normal.specs.Normal.{Way, later, by_first, ways_at, ways_of, put, replace, apply, apply_by, ways, eta, eta_if, apply_each, normal_form}

@@ -1,19 +1,23 @@
 -- What the calls of the normaliser owe, and what they give.
-use Rattle.std.proofs.Common.{◌≡◌, ◌<◌, ◌+◌, ℕ, List, [], ◌∷◌, ◌++◌, reverse, Option, Some, None, slice_get, drop, length, refl, sym, ap, subst, subst₂, ◌∙◌, arith}
+use Rattle.std.proofs.Common.{◌≡◌, ◌<◌, ◌+◌, ℕ, List, [], ◌∷◌, ◌++◌, reverse, Option, Some, None, slice_get, drop, length, refl, sym, ap, subst, ◌∙◌, arith}
 use Rattle.std.specs.Prelude.{IsSome}
 use Rattle.std.proofs.lemmas.Grind.{reverse_onto}
 use Rattle.stt_core.specs.SimpleType.{SimpleType, base, arrow}
 use Rattle.stt_core.specs.Lambda.{Lambda, bound, constant, lam, app, applied, node_count}
 use Rattle.stt_core.specs.Typing.{Scope, IsScope, AreDeclared, type_of}
 use Rattle.stt_core.specs.Canonical.{IsCanonical}
+use Rattle.stt_core.specs.CanonicalType.{canonical_type}
+use Rattle.stt_core.specs.Meaning.{value}
+use Rattle.stt_core.proofs.CanonicalTypes.{canonical_type-at}
 use Rattle.stt_core.proofs.ListLaws.{drop_got}
 use Rattle.stt_core.proofs.SpineLaws.{IsAtom}
 use Rattle.stt_core.proofs.TypeLaws.{Applies, applies, abstracts}
 use Rattle.stt_normal.specs.Normal.{eta, eta_if, apply, apply_each, normal_form}
+use Rattle.stt_normal.specs.Laws.{HaveSameValue}
 use Rattle.stt_normal.specs.Ready.{CanApply, ArgumentsFit, ArgumentsApply, IsApplicable, IsNormalisable, result_after}
 use Rattle.stt_normal.proofs.CanonicalLaws.{canonical-apply}
 use Rattle.stt_normal.proofs.EtaReplace.{apply_each-eta}
-use Rattle.stt_normal.proofs.NormalValues.{canonical-normal_form}
+use Rattle.stt_normal.proofs.NormalValues.{canonical-normal_form, value-normal_form}
 
 -- A TERM WITH ARGUMENTS
 
@@ -149,3 +153,17 @@ whole_ready scope ctx t none over d h n =
       term = record { scope_declared = over; ctx_declared = AreDeclared-reverse scope.bases ctx d; type = f.type; has_type = f.is };
       arguments = subst (ArgumentsFit scope (reverse ctx) f.type) (sym n) tt;
     }
+
+pub whole_is : (t nf : Lambda) (none : List Lambda) → none ≡ [] → nf ≡ apply_each t none → nf ≡ t
+whole_is t nf none n e = e ∙ ap (apply_each t) n
+
+pub whole_type : (scope : Scope) (ctx : List SimpleType) (t nf : Lambda) → IsNormalisable scope ctx t → nf ≡ normal_form scope ctx t → canonical_type scope ctx nf ≡ type_of scope ctx t
+whole_type scope ctx t nf h e =
+    ap (canonical_type scope ctx) e
+    ∙ canonical_type-at scope ctx h.type (normal_form scope ctx t) (canonical-normal_form scope h.scope_declared ctx h.type t h.ctx_declared h.has_type)
+    ∙ sym h.has_type
+
+pub whole_value : (scope : Scope) (ctx : List SimpleType) (t nf : Lambda) → IsNormalisable scope ctx t → nf ≡ normal_form scope ctx t → HaveSameValue scope ctx nf t
+whole_value scope ctx t nf h e =
+    λ m env good fits.
+    ap (value scope m ctx env) e ∙ value-normal_form scope h.scope_declared m good ctx env h.type t h.ctx_declared h.has_type fits

@@ -2,11 +2,13 @@
 
 ghost use Rattle.std.specs.Prelude.{◌≡◌, length, reverse, IfOk, IsSome};
 ghost use Rattle.stt_core.specs.Typing.{IsScope, AreDeclared, type_of};
+ghost use Rattle.stt_core.specs.CanonicalType.{canonical_type};
 ghost use Rattle.stt_core.specs.View.{the_head, the_type, the_term};
 ghost use Rattle.stt_core.specs.ScopeView.{the_scope};
 ghost use Rattle.stt_core.specs.ContextView.{the_context, declared_scope};
 ghost use Rattle.stt_core.proofs.SpineLaws.{IsAtom};
 ghost use Rattle.stt_normal.specs.Normal.{apply_each, eta_if, normal_form};
+ghost use Rattle.stt_normal.specs.Laws.{HaveSameValue};
 ghost use Rattle.stt_normal.specs.Ready.{ArgumentsApply, IsApplicable, result_after};
 
 use crate::apply::apply_nf;
@@ -118,7 +120,11 @@ pub fn normalise(
     requires typed { IsSome (type_of (the_scope sig.now wits.now) (reverse ctx.now) (the_term term.now)) }
     requires declared { IsScope (the_scope sig.now wits.now) }
     requires context_declared { AreDeclared (length sig.now.bases) ctx.now }
-    ensures { IfOk result (λ nf. nf ≡ normal_form (the_scope sig.now wits.now) (reverse ctx.now) (the_term term.now)) }
+    ensures form { IfOk result (λ nf. nf ≡ normal_form (the_scope sig.now wits.now) (reverse ctx.now) (the_term term.now)) }
+
+    // The same type and value as the term.
+    ensures same_type { IfOk result (λ nf. canonical_type (the_scope sig.now wits.now) (reverse ctx.now) nf ≡ type_of (the_scope sig.now wits.now) (reverse ctx.now) (the_term term.now)) }
+    ensures same_value { IfOk result (λ nf. HaveSameValue (the_scope sig.now wits.now) (reverse ctx.now) nf (the_term term.now)) }
 {
     let declared = Declared { sig, wits };
     Ok(normal_applied(
