@@ -8,6 +8,7 @@ mod problem;
 mod same;
 mod signature;
 mod term;
+mod term_type;
 mod ty;
 mod typing;
 
@@ -18,5 +19,6 @@ pub use problem::{Problem, Terms};
 pub use same::same_nf;
 pub use signature::{Consts, Names, Signature, Symbol};
 pub use term::Term;
+pub use term_type::type_of;
 pub use ty::{Ty, Types};
 pub use typing::{Context, Declared, head_type, type_of_closed};

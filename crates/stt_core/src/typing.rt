@@ -83,7 +83,7 @@ fn where_same(a: &Ty, b: Ty, c: &Ty) -> Option<Ty>
 }
 
 /// The type of what a function gives at an argument.
-fn applied_to(function: Option<Ty>, argument: Option<Ty>) -> Option<Ty>
+pub fn applied_to(function: Option<Ty>, argument: Option<Ty>) -> Option<Ty>
     ensures { option_map the_type result ≡ applied_type (option_map the_type function) (option_map the_type argument) }
 {
     match function {
@@ -117,7 +117,7 @@ fn where_of_base(ty: Option<Ty>) -> Option<Ty>
 }
 
 /// The type of functions from `a`, where that is declared and the result has a type.
-fn abstracted(
+pub fn abstracted(
     alloc: Global,
     declared: &Declared,
     a: &Ty,

@@ -3,14 +3,13 @@ use Rattle.std.proofs.Common.{◌≡◌, ◌<◌, ◌+◌, ℕ, List, [], ◌∷
 use Rattle.std.specs.Prelude.{IsSome}
 use Rattle.std.proofs.lemmas.Grind.{reverse_onto}
 use Rattle.stt_core.specs.SimpleType.{SimpleType, base, arrow}
-use Rattle.stt_core.specs.Lambda.{Lambda, bound, constant, lam, app, applied, node_count}
+use Rattle.stt_core.specs.Lambda.{Lambda, bound, constant, lam, app, applied, node_count, IsLeaf}
 use Rattle.stt_core.specs.Typing.{Scope, IsScope, AreDeclared, type_of}
 use Rattle.stt_core.specs.Canonical.{IsCanonical}
 use Rattle.stt_core.specs.CanonicalType.{canonical_type}
 use Rattle.stt_core.specs.Meaning.{value}
 use Rattle.stt_core.proofs.CanonicalTypes.{canonical_type-at}
 use Rattle.stt_core.proofs.ListLaws.{drop_got}
-use Rattle.stt_core.proofs.SpineLaws.{IsAtom}
 use Rattle.stt_core.proofs.TypeLaws.{Applies, applies, abstracts}
 use Rattle.stt_normal.specs.Normal.{eta, eta_if, apply, apply_each, normal_form}
 use Rattle.stt_normal.specs.Laws.{HaveSameValue}
@@ -101,13 +100,13 @@ turn_taken f u f' us i whole h g e =
 
 -- A VARIABLE OR A CONSTANT WITH ARGUMENTS
 
-normal_form-atom : (scope : Scope) (ctx : List SimpleType) (t : Lambda) → IsAtom t → normal_form scope ctx t ≡ eta_if (type_of scope ctx t) t
-normal_form-atom scope ctx (bound k) o = refl
-normal_form-atom scope ctx (constant c) o = refl
-normal_form-atom scope ctx (lam a s) o = absurd o
-normal_form-atom scope ctx (app s u) o = absurd o
+normal_form-leaf : (scope : Scope) (ctx : List SimpleType) (t : Lambda) → IsLeaf t → normal_form scope ctx t ≡ eta_if (type_of scope ctx t) t
+normal_form-leaf scope ctx (bound k) o = refl
+normal_form-leaf scope ctx (constant c) o = refl
+normal_form-leaf scope ctx (lam a s) o = absurd o
+normal_form-leaf scope ctx (app s u) o = absurd o
 
-pub head_returns : (scope : Scope) (ctx : List SimpleType) (t h nf : Lambda) (a b : SimpleType) (us : List Lambda) (n : ℕ) → IsAtom t → IsApplicable scope ctx t us → h ≡ t → Some a ≡ type_of scope ctx h → n ≡ length us → b ≡ result_after n a → nf ≡ eta b (applied h us) → nf ≡ apply_each (normal_form scope ctx t) us
+pub head_returns : (scope : Scope) (ctx : List SimpleType) (t h nf : Lambda) (a b : SimpleType) (us : List Lambda) (n : ℕ) → IsLeaf t → IsApplicable scope ctx t us → h ≡ t → Some a ≡ type_of scope ctx h → n ≡ length us → b ≡ result_after n a → nf ≡ eta b (applied h us) → nf ≡ apply_each (normal_form scope ctx t) us
 head_returns scope ctx t h nf a b us n o r e p l q k =
     let typed : type_of scope ctx t ≡ Some a = ap (type_of scope ctx) (sym e) ∙ sym p in
     let found = r.term.has_type in
@@ -118,7 +117,7 @@ head_returns scope ctx t h nf a b us n o r e p l q k =
     ∙ ap (λ x. eta (result_after (length us) a) (applied x us)) e
     ∙ sym (apply_each-eta scope ctx a t us fit)
     ∙ ap (λ c. apply_each (eta_if c t) us) (sym typed)
-    ∙ ap (λ x. apply_each x us) (sym (normal_form-atom scope ctx t o))
+    ∙ ap (λ x. apply_each x us) (sym (normal_form-leaf scope ctx t o))
 
 pub head_typed : (scope : Scope) (ctx : List SimpleType) (t h : Lambda) (us : List Lambda) → IsApplicable scope ctx t us → h ≡ t → None ≡ type_of scope ctx h → ⊥
 head_typed scope ctx t h us r e p =

@@ -1,12 +1,12 @@
 //! Normal forms of typed terms.
 
 ghost use Rattle.std.specs.Prelude.{◌≡◌, length, reverse, IfOk, IsSome};
+ghost use Rattle.stt_core.specs.Lambda.{IsLeaf};
 ghost use Rattle.stt_core.specs.Typing.{IsScope, AreDeclared, type_of};
 ghost use Rattle.stt_core.specs.CanonicalType.{canonical_type};
 ghost use Rattle.stt_core.specs.View.{the_head, the_type, the_term};
 ghost use Rattle.stt_core.specs.ScopeView.{the_scope};
 ghost use Rattle.stt_core.specs.ContextView.{the_context, declared_scope};
-ghost use Rattle.stt_core.proofs.SpineLaws.{IsAtom};
 ghost use Rattle.stt_normal.specs.Normal.{apply_each, eta_if, normal_form};
 ghost use Rattle.stt_normal.specs.Laws.{HaveSameValue};
 ghost use Rattle.stt_normal.specs.Ready.{ArgumentsApply, IsApplicable, result_after};
@@ -15,27 +15,7 @@ use crate::apply::apply_nf;
 use crate::eta::eta_long;
 use crate::part::bind;
 use std::alloc::{AllocError, Global};
-use stt_core::{Context, Declared, Head, Nf, Nfs, Signature, Term, Ty, Types, head_type};
-
-/// A variable or a constant as a head.
-fn head_of(alloc: Global, term: &Term) -> Result<Head, AllocError>
-    requires { IsAtom (the_term term.now) }
-    ensures { IfOk result (λ head. the_head head ≡ the_term term.now) }
-{
-    match term {
-        Term::Bound(k) => Ok(Head::Bound(*k)),
-        Term::Name(k) => Ok(Head::Name(*k)),
-        Term::Wit(k) => Ok(Head::Wit(*k)),
-        Term::False => Ok(Head::False),
-        Term::Not => Ok(Head::Not),
-        Term::Imp => Ok(Head::Imp),
-        Term::All(a) => Ok(Head::All(a.try_clone(alloc)?)),
-        Term::Eq(a) => Ok(Head::Eq(a.try_clone(alloc)?)),
-        Term::Choice(a) => Ok(Head::Choice(a.try_clone(alloc)?)),
-        Term::Lam(_, _) => unreachable!(),
-        Term::App(_, _) => unreachable!(),
-    }
-}
+use stt_core::{Context, Declared, Nf, Nfs, Signature, Term, Ty, Types, head_type};
 
 /// The type of what a function of this type gives at `n` arguments.
 fn outcome(ty: &Ty, n: usize) -> &Ty
@@ -58,11 +38,11 @@ fn normal_head(
     term: &Term,
     args: Nfs,
 ) -> Result<Nf, AllocError>
-    requires atom { IsAtom (the_term term.now) }
+    requires leaf { IsLeaf (the_term term.now) }
     requires fits { IsApplicable (declared_scope declared.now) (the_context ctx.now) (the_term term.now) args }
     ensures { IfOk result (λ nf. nf ≡ apply_each (normal_form (declared_scope declared.now) (the_context ctx.now) (the_term term.now)) args) }
 {
-    let head = head_of(alloc, term)?;
+    let head = term.to_head(alloc)?;
     match head_type(alloc, declared, ctx, &head)? {
         Some(ty) => Ok(eta_long(alloc, outcome(&ty, args.len()), head, args)?),
         None => unreachable!(),

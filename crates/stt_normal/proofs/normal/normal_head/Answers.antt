@@ -6,7 +6,7 @@ use Rattle.stt_normal.proofs.normal.normal_head.Goals as goal
 
 pub returns : goal.returns
 returns c =
-    head_returns (declared_scope c.args.declared.now) (the_context c.args.ctx.now) (the_term c.args.term.now) (the_head c.in_ok-head.head) c.in_ok-eta_long-in-Some.field-0 (the_type c.in-Some.ty) (the_type c.outcome.result.now) c.args.args c.len.result c.requires.atom c.requires.fits
+    head_returns (declared_scope c.args.declared.now) (the_context c.args.ctx.now) (the_term c.args.term.now) (the_head c.in_ok-head.head) c.in_ok-eta_long-in-Some.field-0 (the_type c.in-Some.ty) (the_type c.outcome.result.now) c.args.args c.len.result c.requires.leaf c.requires.fits
     c.in_ok-head.ensures
     (ap (option_map the_type) (sym c.in-Some.is) ∙ c.in_ok-ty.ensures)
     c.len.ensures
