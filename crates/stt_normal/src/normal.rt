@@ -30,7 +30,9 @@ fn outcome(ty: &Ty, n: usize) -> &Ty
     }
 }
 
-/// The normal form of a variable or a constant that is applied to canonical arguments.
+/// The normal form of a variable or a constant that is applied to canonical arguments. It isn't inlined, so that the function above it,
+/// which calls itself for each level of a term, takes little of the stack.
+#[inline(never)]
 fn normal_head(
     alloc: Global,
     declared: &Declared,
