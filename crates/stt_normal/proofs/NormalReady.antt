@@ -1,16 +1,16 @@
 -- What the calls of the normaliser owe, and what they give.
-use Rattle.std.proofs.Common.{◌≡◌, ◌<◌, ◌+◌, ℕ, List, [], ◌∷◌, ◌++◌, reverse, Option, Some, None, slice_get, drop, length, refl, sym, ap, subst, ◌∙◌, arith}
+use Rattle.std.proofs.Common.{◌≡◌, ◌<◌, ◌+◌, ℕ, List, [], ◌∷◌, ◌++◌, reverse, Option, Some, None, true, slice_get, drop, length, refl, sym, ap, subst, ◌∙◌, arith}
 use Rattle.std.specs.Prelude.{IsSome}
 use Rattle.std.proofs.lemmas.Grind.{reverse_onto}
-use Rattle.stt_core.specs.SimpleType.{SimpleType, base, arrow}
+use Rattle.stt_core.specs.SimpleType.{SimpleType, base, arrow, same_type}
 use Rattle.stt_core.specs.Lambda.{Lambda, bound, constant, lam, app, applied, node_count, IsLeaf}
 use Rattle.stt_core.specs.Typing.{Scope, IsScope, AreDeclared, type_of}
 use Rattle.stt_core.specs.Canonical.{IsCanonical}
 use Rattle.stt_core.specs.CanonicalType.{canonical_type}
 use Rattle.stt_core.specs.Meaning.{value}
-use Rattle.stt_core.proofs.CanonicalTypes.{canonical_type-at}
+use Rattle.stt_core.proofs.CanonicalTypes.{canonical-is, canonical_type-at}
 use Rattle.stt_core.proofs.ListLaws.{drop_got}
-use Rattle.stt_core.proofs.TypeLaws.{Applies, applies, abstracts}
+use Rattle.stt_core.proofs.TypeLaws.{Applies, applies, abstracts, same_type-true}
 use Rattle.stt_normal.specs.Normal.{eta, eta_if, apply, apply_each, normal_form}
 use Rattle.stt_normal.specs.Laws.{HaveSameValue}
 use Rattle.stt_normal.specs.Ready.{CanApply, ArgumentsFit, ArgumentsApply, IsApplicable, IsNormalisable, result_after}
@@ -166,3 +166,18 @@ pub whole_value : (scope : Scope) (ctx : List SimpleType) (t nf : Lambda) → Is
 whole_value scope ctx t nf h e =
     λ m env good fits.
     ap (value scope m ctx env) e ∙ value-normal_form scope h.scope_declared m good ctx env h.type t h.ctx_declared h.has_type fits
+
+-- terms of these types may be applied
+pub can_apply : (scope : Scope) (ctx : List SimpleType) (t a b c : SimpleType) (f u : Lambda) → Some t ≡ canonical_type scope ctx f → t ≡ arrow a b → Some c ≡ canonical_type scope ctx u → same_type a c ≡ true → CanApply f u
+can_apply scope ctx t a b c f u p e q s =
+    let same = same_type-true a c s in
+    record {
+      scope = scope;
+      ctx = ctx;
+      applies = record {
+        argument = a;
+        result = b;
+        function_in = canonical-is scope ctx (arrow a b) f (sym p ∙ ap Some e);
+        argument_in = canonical-is scope ctx a u (sym q ∙ ap Some (sym same));
+      };
+    }
