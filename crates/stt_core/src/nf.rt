@@ -39,7 +39,6 @@ pub struct Nfs {
 
 impl Model for Nf {
     ghost use Rattle.stt_core.specs.Lambda.{Lambda, lambdas, applied, node_count};
-
     ghost use Rattle.stt_core.specs.LambdaCode.{lambda_code};
 
     ghost Value = { Lambda };
