@@ -81,7 +81,7 @@ module _ (scope : Scope) where
   canonical_type-spine ctx (lam a s) us o = absurd o
   canonical_type-spine ctx (app s u) us o = absurd o
 
-applied-more : (t : Lambda) (us : List Lambda) (u : Lambda) → applied t (us ++ u ∷ []) ≡ app (applied t us) u
+pub applied-more : (t : Lambda) (us : List Lambda) (u : Lambda) → applied t (us ++ u ∷ []) ≡ app (applied t us) u
 applied-more t [] u = refl
 applied-more t (v ∷ us) u = applied-more (app t v) us u
 

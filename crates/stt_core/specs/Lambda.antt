@@ -53,3 +53,10 @@ node_count (bound k) = 1
 node_count (constant c) = 1
 node_count (lam a s) = suc (node_count s)
 node_count (app s u) = suc (node_count s + node_count u)
+
+-- a variable or a constant
+abbrev pub IsLeaf : Lambda → Type 0
+IsLeaf (bound k) = Unit {0}
+IsLeaf (constant c) = Unit {0}
+IsLeaf (lam a s) = ⊥
+IsLeaf (app s u) = ⊥

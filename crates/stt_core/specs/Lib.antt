@@ -6,6 +6,8 @@ pub mod Canonical
 pub mod CanonicalType
 pub mod Digits
 pub mod Meaning
+pub mod Occurrence
+pub mod OccurrenceLaw
 pub mod Meets
 pub mod TypedName
 pub mod Signature

@@ -94,6 +94,15 @@ impl Nfs {
         Ok(())
     }
 
+    /// Adds a term before those of the list.
+    pub fn push_front(&mut self, nf: Nf) -> Result<(), AllocError>
+        ensures ok { OnOk result (self.new ≡ nf ∷ self.old) }
+        ensures err { OnErr result (self.new ≡ self.old) }
+    {
+        self.items.insert(0, nf)?;
+        Ok(())
+    }
+
     pub fn len(&self) -> usize
         ensures { result ≡ length self.now }
     {

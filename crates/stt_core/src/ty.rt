@@ -1,6 +1,6 @@
 //! Types.
 
-ghost use Rattle.std.specs.Prelude.{◌≡◌, ◌<◌, ◌++◌, [], ◌∷◌, length, OnOk, OnErr, IfOk, slice_get, option_map};
+ghost use Rattle.std.specs.Prelude.{◌≡◌, ◌<◌, ◌++◌, [], ◌∷◌, length, OnOk, OnErr, IfOk, slice_get, drop, reverse, option_map};
 ghost use Rattle.stt_core.specs.SimpleType.{same_type};
 ghost use Rattle.stt_core.specs.View.{the_type};
 
@@ -78,6 +78,15 @@ impl Types {
         Ok(())
     }
 
+    /// Adds a type before those of the list.
+    pub fn push_front(&mut self, ty: Ty) -> Result<(), AllocError>
+        ensures ok { OnOk result (self.new ≡ the_type ty ∷ self.old) }
+        ensures err { OnErr result (self.new ≡ self.old) }
+    {
+        self.items.insert(0, ty)?;
+        Ok(())
+    }
+
     pub fn len(&self) -> usize
         ensures { result ≡ length self.now }
     {
@@ -97,5 +106,32 @@ impl Types {
         ensures { slice_get self.now i ≡ Some (the_type result.now) }
     {
         &self.items[i]
+    }
+
+    /// The type at a place that counts from 0 at the end of the list.
+    pub fn get_from_end(&self, k: usize) -> Option<&Ty>
+        ensures { option_map (λ ty. the_type ty.now) result ≡ slice_get (reverse self.now) k }
+    {
+        if k < self.items.len() {
+            Some(&self.items[self.items.len() - 1 - k])
+        } else {
+            None
+        }
+    }
+
+    /// Adds copies of the other list's types, from place `start` on.
+    pub fn append_from(
+        &mut self,
+        alloc: Global,
+        other: &Types,
+        start: usize,
+    ) -> Result<(), AllocError>
+        ensures { OnOk result (self.new ≡ self.old ++ drop start other.now) }
+    {
+        for i in start..other.len() {
+            let ty = other.at(i).try_clone(alloc)?;
+            self.push(ty)?;
+        }
+        Ok(())
     }
 }

@@ -16,16 +16,18 @@ use std::alloc::{AllocError, Global};
 
 /// The types of the bound variables in scope, as a list that is linked from the innermost one outwards.
 #[derive(Drop)]
-enum Context<'a> {
+pub enum Context<'a> {
     Empty,
+    /// The types of a list, whose last one is the innermost.
+    Outer(&'a Types),
     Inner(&'a Ty, &'a Context<'a>),
 }
 
 /// What is declared: the names of a signature, and the types of the witnesses.
 #[derive(Drop)]
-struct Declared<'a> {
-    sig: &'a Signature,
-    wits: &'a Types,
+pub struct Declared<'a> {
+    pub sig: &'a Signature,
+    pub wits: &'a Types,
 }
 
 impl Context<'_> {
@@ -35,6 +37,7 @@ impl Context<'_> {
     {
         match self {
             Context::Empty => None,
+            Context::Outer(types) => types.get_from_end(k as usize),
             Context::Inner(ty, outer) => { if k == 0 { Some(*ty) } else { outer.get(k - 1) } }
         }
     }
@@ -80,7 +83,7 @@ fn where_same(a: &Ty, b: Ty, c: &Ty) -> Option<Ty>
 }
 
 /// The type of what a function gives at an argument.
-fn applied_to(function: Option<Ty>, argument: Option<Ty>) -> Option<Ty>
+pub fn applied_to(function: Option<Ty>, argument: Option<Ty>) -> Option<Ty>
     ensures { option_map the_type result ≡ applied_type (option_map the_type function) (option_map the_type argument) }
 {
     match function {
@@ -114,7 +117,7 @@ fn where_of_base(ty: Option<Ty>) -> Option<Ty>
 }
 
 /// The type of functions from `a`, where that is declared and the result has a type.
-fn abstracted(
+pub fn abstracted(
     alloc: Global,
     declared: &Declared,
     a: &Ty,
@@ -131,8 +134,8 @@ fn abstracted(
     }
 }
 
-/// The type of a head.
-fn head_type(
+/// The type of a head, or none where it has none.
+pub fn head_type(
     alloc: Global,
     declared: &Declared,
     ctx: &Context,

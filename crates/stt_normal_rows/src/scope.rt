@@ -1,0 +1,56 @@
+//! What the terms are over.
+
+ghost use Rattle.std.specs.Prelude.{◌≡◌, [], ◌∷◌, IfOk};
+ghost use Rattle.stt_core.specs.SimpleType.{base, arrow};
+ghost use Rattle.stt_core.specs.Typing.{IsScope};
+ghost use Rattle.stt_core.specs.View.{the_type};
+ghost use Rattle.stt_core.specs.ScopeView.{the_scope};
+
+use std::alloc::{AllocError, Global};
+use stt_core::{Signature, Ty, Types};
+
+fn function(alloc: Global, argument: Ty, outcome: Ty) -> Result<Ty, AllocError>
+    ensures { IfOk result (λ ty. the_type ty ≡ arrow (the_type argument) (the_type outcome)) }
+{
+    Ok(Ty::Arrow(Box::new(alloc, argument)?, Box::new(alloc, outcome)?))
+}
+
+/// `i > i`
+fn endo(alloc: Global) -> Result<Ty, AllocError>
+    ensures { IfOk result (λ ty. the_type ty ≡ arrow (base 1) (base 1)) }
+{
+    function(alloc, Ty::Base(1), Ty::Base(1))
+}
+
+/// The type of the witness.
+pub fn witness_types(alloc: Global) -> Result<Types, AllocError>
+    ensures { IfOk result (λ types. types ≡ base 1 ∷ []) }
+{
+    let mut types = Types::new(alloc);
+    types.push(Ty::Base(1))?;
+    Ok(types)
+}
+
+/// The types of the free variables, that of `0` last.
+pub fn variable_types(alloc: Global) -> Result<Types, AllocError>
+    ensures { IfOk result (λ types. types ≡ base 1 ∷ arrow (base 1) (base 1) ∷ []) }
+{
+    let mut types = Types::new(alloc);
+    types.push(Ty::Base(1))?;
+    types.push(endo(alloc)?)?;
+    Ok(types)
+}
+
+/// The constants.
+pub fn signature(alloc: Global) -> Result<Signature, AllocError>
+    ensures { IfOk result (λ sig. IsScope (the_scope sig (base 1 ∷ []))) }
+{
+    let mut sig = Signature::new(alloc);
+    sig.consts.push(b"c", Ty::Base(1))?;
+    sig.consts.push(b"d", endo(alloc)?)?;
+    sig.consts
+        .push(b"f", function(alloc, endo(alloc)?, Ty::Base(1))?)?;
+    sig.consts
+        .push(b"g", function(alloc, Ty::Base(1), endo(alloc)?)?)?;
+    Ok(sig)
+}
