@@ -1,0 +1,18 @@
+use Rattle.std.proofs.Common.{◌≡◌, ◌≤◌, ◌++◌, ◌-◌, List, ℕ, Some, length, IsTrue}
+use Rattle.outside.proofs.reading.read_whole.Given as goal
+
+abbrev pub invariant-loop-count : goal.invariant-loop-count
+invariant-loop-count g l =
+    let files = g.F.Files in
+    record {
+      current : IsTrue (files.has_current l.files);
+      named : files.goes_by l.files l.name;
+      short : length l.bytes ≤ l.limit;
+      read : IsTrue (files.tells l.fn.files) → files.contents l.fn.files l.name ≡ Some (l.bytes ++ files.left l.files);
+      later : (other : List ℕ) → files.faults l.fn.files other ≤ files.faults l.files other;
+      same : files.contents l.files ≡ files.contents l.fn.files;
+      telling : files.tells l.files ≡ files.tells l.fn.files;
+    }
+
+abbrev pub decreases-loop-count : goal.decreases-loop-count
+decreases-loop-count g l = l.limit - length l.bytes

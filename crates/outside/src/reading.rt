@@ -1,0 +1,57 @@
+// Reads whole files.
+ghost use Rattle.std.specs.Prelude.{◌≡◌, ◌≤◌, ◌<◌, List, ℕ, Some, length, IfOk, IsErrOf, IsTrue};
+ghost use Rattle.outside.specs.Causes.{Rose};
+
+use crate::{Bytes, Files};
+use std::alloc::Global;
+
+/// How many bytes are asked for at once, and so read past a limit at most.
+const BUFFER: usize = 8192;
+
+/// Why a file was not read whole.
+#[derive(Clone, Copy, Debug, PartialEq, Eq)]
+pub enum ReadRefused {
+    /// A call failed, and the count of the file's name rose.
+    Fault,
+    /// More bytes were read than the limit.
+    TooLong,
+    /// There is no memory for the bytes.
+    Memory,
+}
+
+/// Reads a whole file of at most `limit` bytes.
+pub fn read_whole<F: Files>(
+    alloc: Global,
+    files: &mut F,
+    name: &str,
+    limit: usize,
+) -> Result<Bytes, ReadRefused>
+    ensures whole { IfOk result (λ bytes. IsTrue (F.tells files.old) → F.contents files.old name.now ≡ Some bytes) }
+    ensures short { IfOk result (λ bytes. length bytes ≤ limit) }
+    ensures fault { IsErrOf result ReadRefused.Fault → Rose (F.faults files.old name.now) (F.faults files.new name.now) }
+    ensures long { IsErrOf result ReadRefused.TooLong → IsTrue (F.tells files.old)
+        → (bytes : List ℕ) × (F.contents files.old name.now ≡ Some bytes) × (limit < length bytes) }
+    ensures later { (other : List ℕ) → F.faults files.old other ≤ F.faults files.new other }
+    ensures same { F.contents files.new ≡ F.contents files.old }
+    ensures telling { F.tells files.new ≡ F.tells files.old }
+{
+    let mut bytes = Bytes::new(alloc);
+    if files.open_file(name).is_err() {
+        return Err(ReadRefused::Fault);
+    }
+    let mut buf = [0; BUFFER];
+    loop {
+        let Ok(count) = files.read(&mut buf) else {
+            return Err(ReadRefused::Fault);
+        };
+        if count == 0 {
+            return Ok(bytes);
+        }
+        if count > limit - bytes.len() {
+            return Err(ReadRefused::TooLong);
+        }
+        if bytes.extend_from_slice(&buf[..count]).is_err() {
+            return Err(ReadRefused::Memory);
+        }
+    }
+}
