@@ -1,5 +1,5 @@
 -- The longest white space or comment at the front of bytes.
-use Rattle.std.proofs.Common.{◌≡◌, ◌≢◌, ℕ, zero, suc, ◌+◌, ◌-◌, ◌<◌, ◌≤◌, Bool, true, false, ◌⊎◌, inl, inr, List, [], ◌∷◌, length, get_or, take, refl, sym, ap, ◌∙◌, subst, min, arith, eqb}
+use Rattle.std.proofs.Common.{◌≡◌, ◌≢◌, ℕ, zero, suc, ◌+◌, ◌-◌, ◌<◌, ◌≤◌, true, false, ◌⊎◌, inl, inr, List, [], ◌∷◌, length, get_or, take, sym, ap, ◌∙◌, subst, arith, eqb}
 use Rattle.std.specs.List.{prefix_len}
 use Rattle.std.proofs.lemmas.Bool.{cases_order}
 use Rattle.std.proofs.lemmas.Bool.Decides.{nat_tests}
@@ -8,7 +8,7 @@ use Rattle.std.proofs.lemmas.List.Sums.{prefix_len-le-length}
 use Rattle.thf_lex.specs.declared.token.TokenKind.TheVariants.{Bad}
 use Rattle.thf_lex.specs.Bytes.{is_white_space, is_in_line, percent, slash}
 use Rattle.thf_lex.specs.Kind.{kind_of}
-use Rattle.thf_lex.specs.Texts.{IsRun, IsWhiteSpace, IsLineComment, IsBlockComment, IsClosedAt, IsGap}
+use Rattle.thf_lex.specs.Texts.{IsWhiteSpace, IsLineComment, IsBlockComment, IsClosedAt, IsGap}
 use Rattle.thf_lex.specs.Longest.{IsLongestGap, BeginsNothing}
 use Rattle.thf_lex.proofs.Pieces.{first_kind, longest_gap, no_gap}
 use Rattle.thf_lex.proofs.Runs.{longest_run}

@@ -1,6 +1,6 @@
 -- The reading, step by step from a place in the bytes.
-use Rattle.std.proofs.Common.{◌≡◌, ℕ, ◌+◌, ◌-◌, ◌<◌, ◌≤◌, List, [], ◌∷◌, length, take, drop, subst, refl, sym, ap, ◌∙◌, arith}
-use Rattle.std.proofs.lemmas.List.{drop-drop, length-drop, take_rest}
+use Rattle.std.proofs.Common.{◌≡◌, ℕ, ◌+◌, ◌<◌, List, [], ◌∷◌, length, take, drop, subst, refl, sym, ◌∙◌, arith}
+use Rattle.std.proofs.lemmas.List.{drop-drop}
 use Rattle.thf_lex.specs.declared.token.TokenKind.{TokenKind}
 use Rattle.thf_lex.specs.declared.token.TokenKind.TheVariants.{Bad, End}
 use Rattle.thf_lex.specs.declared.token.Token.{Token}

@@ -1,18 +1,17 @@
 -- The longest words, integers and stretches of white space at the front of bytes.
-use Rattle.std.proofs.Common.{◌≡◌, ◌≢◌, ℕ, zero, suc, ◌+◌, ◌-◌, ◌<◌, ◌≤◌, Bool, true, false, ◌⊎◌, inl, inr, List, [], ◌∷◌, length, get_or, take, drop, refl, sym, ap, ◌∙◌, subst, arith}
+use Rattle.std.proofs.Common.{◌≡◌, ℕ, zero, suc, ◌+◌, ◌-◌, ◌<◌, ◌≤◌, true, false, ◌⊎◌, inl, inr, List, [], ◌∷◌, length, get_or, take, drop, sym, ap, ◌∙◌, subst, arith}
 use Rattle.std.specs.List.{prefix_len}
 use Rattle.std.specs.Char.{is_ascii_lowercase, is_ascii_uppercase, is_ascii_digit}
 use Rattle.std.proofs.lemmas.Bool.{false≢true}
 use Rattle.std.proofs.lemmas.Bool.Decides.{nat_tests}
 use Rattle.std.proofs.lemmas.List.Sums.{prefix_len-le-length, prefix_len_passes}
 use Rattle.thf_lex.specs.declared.token.TokenKind.{TokenKind}
-use Rattle.thf_lex.specs.declared.token.TokenKind.TheVariants.{Lower, Upper, Dollar, Integer, Bad}
-use Rattle.thf_lex.specs.Bytes.{is_white_space, is_word_byte, is_in_line, is_sign, percent}
-use Rattle.thf_lex.specs.Kind.{kind_of}
-use Rattle.thf_lex.specs.Texts.{IsRun, IsInteger, IsDigits, IsDollarWord, IsLowerWord, IsToken, IsGap}
-use Rattle.thf_lex.specs.Longest.{IsLongestToken, IsLongestGap, BeginsNothing}
+use Rattle.thf_lex.specs.declared.token.TokenKind.TheVariants.{Lower, Upper, Dollar, Integer}
+use Rattle.thf_lex.specs.Bytes.{is_word_byte, is_sign}
+use Rattle.thf_lex.specs.Texts.{IsInteger, IsDigits, IsDollarWord, IsLowerWord}
+use Rattle.thf_lex.specs.Longest.{IsLongestToken, BeginsNothing}
 use Rattle.thf_lex.proofs.Firsts.{lower_first, upper_first, integer_first, dollar_first}
-use Rattle.thf_lex.proofs.Pieces.{first_kind, longest_token, longest_gap, no_token, no_gap}
+use Rattle.thf_lex.proofs.Pieces.{first_kind, longest_token, no_token}
 use Rattle.thf_lex.proofs.Runs.{longest_run}
 
 lower_word : (bytes : List ℕ) → 0 < length bytes → first_kind bytes ≡ Lower → (0 < prefix_len is_word_byte bytes) × IsLongestToken Lower bytes (prefix_len is_word_byte bytes)

@@ -1,6 +1,6 @@
 -- The bytes that begin and fill the tokens of THF.
 use Rattle.std.specs.Prelude.{ℕ, Bool, not, ◌&&◌, ◌||◌, ◌==◌, nat_le}
-use Rattle.std.specs.Char.{is_ascii_lowercase, is_ascii_alphanumeric}
+use Rattle.std.specs.Char.{is_ascii_alphanumeric}
 
 abbrev pub line_feed : ℕ
 line_feed = 10

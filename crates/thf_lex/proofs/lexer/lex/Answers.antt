@@ -1,7 +1,7 @@
-use Rattle.std.proofs.Common.{◌≡◌, ◌+◌, ◌≤◌, ◌++◌, ◌∷◌, [], ◌∙◌, sym, ap, subst, drop, take, length, append_assoc, arith}
-use Rattle.std.proofs.lemmas.List.{take_rest, length-drop, append-nil}
+use Rattle.std.proofs.Common.{◌≡◌, ◌+◌, ◌++◌, ◌∷◌, [], subst, append_assoc, arith}
+use Rattle.std.proofs.lemmas.List.{take_rest, length-drop}
 use Rattle.thf_lex.specs.declared.token.TokenKind.TheVariants.{Bad, End}
-use Rattle.thf_lex.specs.Longest.{IsLongestToken, IsLongestGap, BeginsNothing}
+use Rattle.thf_lex.specs.Longest.{IsLongestToken, IsLongestGap}
 use Rattle.thf_lex.specs.Reading.{Reads, token_at}
 use Rattle.thf_lex.proofs.Readings.{reads_gap, reads_token, reads_bad, reads_end}
 use Rattle.thf_lex.proofs.lexer.lex.Goals as goal

@@ -1,5 +1,4 @@
-use Rattle.std.proofs.Common.{◌≡◌, ◌<◌, ◌∙◌, sym, ap, subst, drop, length, get_or, arith, true, false}
-use Rattle.std.specs.Char.{is_ascii_lowercase}
+use Rattle.std.proofs.Common.{◌≡◌, ◌∙◌, ap, drop, get_or, arith}
 use Rattle.std.specs.List.{prefix_len}
 use Rattle.std.proofs.lemmas.Bool.Decides.{nat_tests}
 use Rattle.std.proofs.lemmas.List.{take_rest, length-drop, get_or-drop}

@@ -1,9 +1,7 @@
-use Rattle.std.proofs.Common.{◌≡◌, ◌<◌, ◌∙◌, sym, ap, subst, drop, length, arith, true}
+use Rattle.std.proofs.Common.{◌≡◌, ◌∙◌, sym, ap, drop, arith}
 use Rattle.std.specs.Char.{is_ascii_digit}
 use Rattle.std.specs.List.{prefix_len}
 use Rattle.std.proofs.lemmas.List.{take_rest}
-use Rattle.thf_lex.specs.Longest.{IsLongestToken}
-use Rattle.thf_lex.specs.declared.token.TokenKind.TheVariants.{Integer}
 use Rattle.thf_lex.proofs.Words.{unsigned_integer, signed_integer, lone_sign}
 use Rattle.thf_lex.proofs.piece.integer.Goals as goal
 
