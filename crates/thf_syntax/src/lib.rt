@@ -3,6 +3,8 @@
 
 mod formula;
 mod statement;
+#[cfg(test)]
+mod tests;
 mod types;
 
 pub use formula::{Binder, Conn, Surface};
