@@ -1,0 +1,17 @@
+//! The tokens of THF files.
+#![tactic(auto)]
+
+mod bytes;
+mod comment;
+mod law;
+mod lexer;
+mod piece;
+mod quoted;
+mod symbol;
+#[cfg(test)]
+mod tests;
+mod token;
+
+pub use law::one_reading;
+pub use lexer::lex;
+pub use token::{Token, TokenKind, Tokens};
