@@ -1,10 +1,14 @@
 pub mod ListLaws
 pub mod LiteralLaws
 pub mod EquationLaws
+pub mod FunctionLaws
+pub mod ChoiceLaws
 pub mod RuleLaws
 pub mod ClosedLaws
+pub mod InstanceTypes
 pub mod AcceptedLaws
 pub mod WitnessLaws
+pub mod AlongLaws
 pub mod Soundness
 pub mod ShapeLaws
 pub mod SpineShapes

@@ -1,14 +1,16 @@
 -- What the parts of the check of a refutation answer.
-use Rattle.std.specs.Prelude.{◌≡◌, ℕ, Bool, List, Option, Some, None, slice_get}
-use Rattle.stt_core.specs.Lambda.{Lambda, constant, falsity, neg, imp, eq}
-use Rattle.stt_core.specs.SimpleType.{SimpleType}
+use Rattle.std.specs.Prelude.{◌≡◌, ℕ, Bool, true, List, [], map, Option, Some, None, slice_get}
+use Rattle.stt_core.specs.Lambda.{Lambda, constant, falsity, neg, imp, eq, every}
+use Rattle.stt_core.specs.SimpleType.{SimpleType, arrow, predicate, is_declared}
 use Rattle.stt_core.specs.View.{the_type}
 use Rattle.stt_core.specs.Typing.{Scope}
-use Rattle.stt_tableau.specs.Literals.{Literal}
+use Rattle.stt_core.specs.Canonical.{IsCanonical}
+use Rattle.stt_tableau.specs.Literals.{Literal, IsBranch}
 use Rattle.stt_tableau.specs.Witnesses.{Row, IsTypedRow, IsTwice}
 use Rattle.stt_tableau.specs.Rules.{IsInstance}
 use Rattle.stt_tableau.specs.Accepted.{IsRightLine, RowFails, LineFails}
 use Rattle.stt_tableau.specs.declared.equation.Equation.{Equation}
+use Rattle.stt_tableau.specs.declared.quantifier.Quantified.{Quantified}
 use Rattle.stt_tableau.specs.declared.shape.Shape.{Shape}
 use Rattle.stt_tableau.specs.declared.shape.Shape.TheVariants as shape
 use Rattle.stt_tableau.specs.declared.refutation.RuleUse.{RuleUse}
@@ -36,6 +38,41 @@ HasShapeAt branch i sign shape.Other = StandsOther branch i sign
 abbrev pub IsEquationAt : List Literal → ℕ → Bool → Option Equation → Type 0
 IsEquationAt branch i sign (Some e) = StandsAt branch i sign (eq (the_type e.ty.now) e.left.now e.right.now)
 IsEquationAt branch i sign None = (a : SimpleType) (s t : Lambda) → StandsAt branch i sign (eq a s t) → ⊥
+
+-- the literal of this sign that stands at the place is a quantified formula, with these parts, or none is
+abbrev pub IsQuantifiedAt : List Literal → ℕ → Bool → Option Quantified → Type 0
+IsQuantifiedAt branch i sign (Some q) = StandsAt branch i sign (every (the_type q.ty.now) q.predicate.now)
+IsQuantifiedAt branch i sign None = (a : SimpleType) (f : Lambda) → StandsAt branch i sign (every a f) → ⊥
+
+-- the row at the place has this type and this predicate, or none has them
+abbrev pub IsRowOf : List Row → SimpleType → Lambda → Option ℕ → Type 0
+IsRowOf rows a f (Some k) = slice_get rows k ≡ Some (record { type = a; predicate = f })
+IsRowOf rows a f None = (k : ℕ) → slice_get rows k ≡ Some (record { type = a; predicate = f }) → ⊥
+
+-- the term is a closed canonical function from this type, which is declared
+pub record IsFunctionFrom (a : SimpleType) (f : Lambda) : Type 0 where
+  pub scope : Scope
+  pub result : SimpleType
+  pub declared : is_declared scope.bases a ≡ true
+  pub function_in : IsCanonical scope [] (arrow a result) f
+
+-- the term is a closed canonical predicate on this type
+abbrev pub IsPredicateOn : SimpleType → Lambda → Type 0
+IsPredicateOn a f = (scope : Scope) × IsCanonical scope [] (predicate a) f
+
+-- both terms are functions from this type
+abbrev pub AreFunctionsFrom : SimpleType → Lambda → Lambda → Type 0
+AreFunctionsFrom a s t = IsFunctionFrom a s × IsFunctionFrom a t
+
+-- the literals are literals over something
+abbrev pub IsTypedSomewhere : List Literal → Type 0
+IsTypedSomewhere branch = (scope : Scope) × IsBranch scope branch
+
+-- the literals are literals over something with the witnesses of the rows
+pub record IsTypedWith (rows : List Row) (branch : List Literal) : Type 0 where
+  pub scope : Scope
+  pub types : scope.witnesses ≡ map (λ r. r.type) rows
+  pub branch_in : IsBranch scope branch
 
 -- the alternatives of the rule's instance in the branch, or that it has none
 abbrev pub FindsInstance : Scope → List Row → List Literal → RuleUse → Option (List (List Literal)) → Type 0

@@ -2,8 +2,9 @@
 use Rattle.std.specs.Prelude.{◌≡◌, Option, Some, None}
 use Rattle.stt_core.specs.SimpleType.{SimpleType}
 use Rattle.stt_core.specs.View.{the_type}
-use Rattle.stt_core.specs.Lambda.{name, witness, falsity, negation, implication, all, equality, choice, Lambda, bound, constant, lam, app, neg, imp, eq}
+use Rattle.stt_core.specs.Lambda.{name, witness, falsity, negation, implication, all, equality, choice, Lambda, bound, constant, lam, app, neg, imp, eq, every}
 use Rattle.stt_tableau.specs.declared.equation.Equation.{Equation}
+use Rattle.stt_tableau.specs.declared.quantifier.Quantified.{Quantified}
 use Rattle.stt_tableau.specs.declared.shape.Connective.{Connective}
 use Rattle.stt_tableau.specs.declared.shape.Connective.TheVariants as connective
 use Rattle.stt_tableau.specs.declared.shape.Shape.{Shape}
@@ -54,3 +55,22 @@ equality_of (app s u) = None
 abbrev pub IsEquation : Lambda → Option Equation → Type 0
 IsEquation t (Some e) = t ≡ eq (the_type e.ty.now) e.left.now e.right.now
 IsEquation t None = (a : SimpleType) (s u : Lambda) → t ≡ eq a s u → ⊥
+
+-- the type that a quantifier that is a head ranges over
+abbrev pub quantified_by : Lambda → Option SimpleType
+quantified_by (constant (all a)) = Some a
+quantified_by (constant (name k)) = None
+quantified_by (constant (witness k)) = None
+quantified_by (constant falsity) = None
+quantified_by (constant negation) = None
+quantified_by (constant implication) = None
+quantified_by (constant (equality a)) = None
+quantified_by (constant (choice a)) = None
+quantified_by (bound k) = None
+quantified_by (lam a s) = None
+quantified_by (app s u) = None
+
+-- the term says of a predicate that it holds everywhere, and has these parts, or says no such thing
+abbrev pub IsQuantified : Lambda → Option Quantified → Type 0
+IsQuantified t (Some q) = t ≡ every (the_type q.ty.now) q.predicate.now
+IsQuantified t None = (a : SimpleType) (f : Lambda) → t ≡ every a f → ⊥

@@ -57,12 +57,21 @@ impl Alternatives {
 }
 
 /// A list of one literal.
-pub fn alone(alloc: Global, lit: Lit) -> Result<Lits, AllocError>
+fn alone(alloc: Global, lit: Lit) -> Result<Lits, AllocError>
     ensures { IfOk result (λ ls. ls ≡ lit ∷ []) }
 {
     let mut lits = Lits::new(alloc);
     lits.push(lit)?;
     Ok(lits)
+}
+
+/// One alternative of one literal.
+pub fn one(alloc: Global, lit: Lit) -> Result<Alternatives, AllocError>
+    ensures { IfOk result (λ a. a ≡ (lit ∷ []) ∷ []) }
+{
+    let mut alternatives = Alternatives::new(alloc);
+    alternatives.push(alone(alloc, lit)?)?;
+    Ok(alternatives)
 }
 
 /// Two alternatives of one literal each.

@@ -12,6 +12,9 @@ use crate::lit::Lits;
 use crate::propositional::{
     close_instance, cut_instance, false_instance, imp_neg_instance, imp_pos_instance,
 };
+use crate::quantifier::{
+    all_neg_instance, all_pos_instance, cho_instance, fun_neg_instance, fun_pos_instance,
+};
 use crate::refutation::{Rows, RuleUse};
 use std::alloc::{AllocError, Global};
 use stt_core::{Signature, Types};
@@ -39,13 +42,13 @@ pub fn instance(
         RuleUse::Refl(i) => Ok(refl_instance(alloc, branch, *i)),
         RuleUse::BoolPos(i) => Ok(bool_pos_instance(alloc, branch, *i)?),
         RuleUse::BoolNeg(i) => Ok(bool_neg_instance(alloc, branch, *i)?),
+        RuleUse::FunPos(i) => Ok(fun_pos_instance(alloc, branch, *i)?),
+        RuleUse::FunNeg(i) => Ok(fun_neg_instance(alloc, branch, *i)?),
+        RuleUse::AllPos(i, u) => Ok(all_pos_instance(alloc, sig, types, branch, *i, u)?),
+        RuleUse::AllNeg(i) => Ok(all_neg_instance(alloc, rows, branch, *i)?),
+        RuleUse::Cho(f) => Ok(cho_instance(alloc, sig, types, branch, f)?),
         RuleUse::Con(i, j) => Ok(con_instance(alloc, branch, *i, *j)?),
-        RuleUse::FunPos(_) => Ok(None),
-        RuleUse::FunNeg(_) => Ok(None),
-        RuleUse::AllPos(_, _) => Ok(None),
-        RuleUse::AllNeg(_) => Ok(None),
         RuleUse::Mat(_, _) => Ok(None),
         RuleUse::Dec(_) => Ok(None),
-        RuleUse::Cho(_) => Ok(None),
     }
 }
