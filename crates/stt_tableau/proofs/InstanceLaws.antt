@@ -1,14 +1,15 @@
 -- A rule has at most one instance at its places.
 use Rattle.std.proofs.Common.{◌≡◌, ℕ, suc, List, [], ◌∷◌, Some, slice_get, refl, sym, ap, ap₂, subst, ◌∙◌}
 use Rattle.stt_core.specs.SimpleType.{SimpleType, base, arrow, formula, predicate}
-use Rattle.stt_core.specs.Lambda.{witness, falsity, Lambda, constant, imp, eq, every}
-use Rattle.stt_core.specs.Typing.{Scope}
+use Rattle.stt_core.specs.Lambda.{Constant, witness, falsity, Lambda, constant, imp, eq, every, applied}
+use Rattle.stt_core.specs.Typing.{Scope, constant_type}
 use Rattle.stt_core.specs.Canonical.{IsCanonical}
 use Rattle.stt_core.proofs.CanonicalTypes.{canonical_type-at}
+use Rattle.stt_core.proofs.SpineLaws.{parts}
 use Rattle.stt_normal.specs.Normal.{eta, apply}
 use Rattle.stt_tableau.specs.Literals.{Literal, plus, minus, literal, opposite, IsLiteral}
 use Rattle.stt_tableau.specs.Witnesses.{Row}
-use Rattle.stt_tableau.specs.Rules.{Rule, false_rule, close_rule, refl_rule, imp_pos_rule, imp_neg_rule, bool_pos_rule, bool_neg_rule, fun_pos_rule, fun_neg_rule, all_pos_rule, all_neg_rule, con_rule, cho_rule, cut_rule, agreement, nowhere, chosen, places, AreAt, IsInstance}
+use Rattle.stt_tableau.specs.Rules.{Rule, false_rule, close_rule, refl_rule, imp_pos_rule, imp_neg_rule, bool_pos_rule, bool_neg_rule, fun_pos_rule, fun_neg_rule, all_pos_rule, all_neg_rule, mat_rule, dec_rule, con_rule, IsDecomposed, differ_each, cho_rule, cut_rule, agreement, nowhere, chosen, places, AreAt, IsInstance}
 use Rattle.stt_tableau.specs.declared.refutation.RuleUse.{RuleUse}
 use Rattle.stt_tableau.specs.declared.refutation.RuleUse.TheVariants.{False, Close, Refl, ImpPos, ImpNeg, BoolPos, BoolNeg, FunPos, FunNeg, AllPos, AllNeg, Mat, Dec, Con, Cho, Cut}
 
@@ -43,8 +44,10 @@ Fits scope rows (AllPos i u) ps as' =
     (a : SimpleType) × (f : Lambda) × IsCanonical scope [] a u × (ps ≡ plus (every a f) ∷ []) × (as' ≡ (literal (apply f u) ∷ []) ∷ [])
 Fits scope rows (AllNeg i) ps as' =
     (k : ℕ) × (a : SimpleType) × (f : Lambda) × (slice_get rows k ≡ Some (record { type = a; predicate = f })) × (ps ≡ minus (every a f) ∷ []) × (as' ≡ (opposite (literal (apply f (eta a (constant (witness k))))) ∷ []) ∷ [])
-Fits scope rows (Mat i j) ps as' = ⊥
-Fits scope rows (Dec i) ps as' = ⊥
+Fits scope rows (Mat i j) ps as' =
+    (c : Constant) × (a : SimpleType) × (s : Lambda) × (t : Lambda) × (ss : List Lambda) × (ts : List Lambda) × IsDecomposed c × (constant_type scope c ≡ Some a) × (ps ≡ plus (applied (constant c) (s ∷ ss)) ∷ minus (applied (constant c) (t ∷ ts)) ∷ []) × (as' ≡ differ_each a (s ∷ ss) (t ∷ ts))
+Fits scope rows (Dec i) ps as' =
+    (n : ℕ) × (c : Constant) × (a : SimpleType) × (s : Lambda) × (t : Lambda) × (ss : List Lambda) × (ts : List Lambda) × IsDecomposed c × (constant_type scope c ≡ Some a) × (ps ≡ minus (eq (base (suc n)) (applied (constant c) (s ∷ ss)) (applied (constant c) (t ∷ ts))) ∷ []) × (as' ≡ differ_each a (s ∷ ss) (t ∷ ts))
 Fits scope rows (Cho f) ps as' =
     (a : SimpleType) × IsCanonical scope [] (predicate a) f × (ps ≡ []) × (as' ≡ (literal (nowhere a f) ∷ []) ∷ (literal (apply f (chosen a f)) ∷ []) ∷ [])
 
@@ -61,8 +64,21 @@ fits scope rows _ _ _ (fun_neg_rule i a b s t) = (a, b, s, t, refl, refl)
 fits scope rows _ _ _ (all_pos_rule i a f u c) = (a, f, c, refl, refl)
 fits scope rows _ _ _ (all_neg_rule i k a f g) = (k, a, f, g, refl, refl)
 fits scope rows _ _ _ (cho_rule a f c) = (a, c, refl, refl)
+fits scope rows _ _ _ (mat_rule i j c a s t ss ts d e) = (c, a, s, t, ss, ts, d, e, refl, refl)
+fits scope rows _ _ _ (dec_rule i n c a s t ss ts d e) = (n, c, a, s, t, ss, ts, d, e, refl, refl)
 fits scope rows _ _ _ (con_rule i j n s t u v) = (n, s, t, u, v, refl, refl)
 fits scope rows _ _ _ (cut_rule l h) = (refl, refl)
+
+-- one head with its arguments has one type and one list of arguments
+same_differences : (scope : Scope) (c d : Constant) (a b : SimpleType) (ss us ts vs : List Lambda) → constant_type scope c ≡ Some a → constant_type scope d ≡ Some b → applied (constant c) ss ≡ applied (constant d) us → applied (constant c) ts ≡ applied (constant d) vs → differ_each a ss ts ≡ differ_each b us vs
+same_differences scope c d a b ss us ts vs e f p q =
+    let left = parts [] [] (constant c) (constant d) ss us tt tt p in
+    let right = parts [] [] (constant c) (constant d) ts vs tt tt q in
+    let head = left.head in
+    let same : c ≡ d = cc in
+    let types : Some a ≡ Some b = sym e ∙ ap (constant_type scope) same ∙ f in
+    let type : a ≡ b = cc in
+    ap (λ x. differ_each x ss ts) type ∙ ap₂ (differ_each b) left.arguments right.arguments
 
 same_alternatives : (scope : Scope) (rows : List Row) → AreDistinct rows → (rule : RuleUse) (ps : List Literal) (as' bs : List (List Literal)) → Fits scope rows rule ps as' → Fits scope rows rule ps bs → as' ≡ bs
 same_alternatives scope rows distinct (False i) ps as' bs h k = h.1 ∙ sym k.1
@@ -141,8 +157,18 @@ same_alternatives scope rows distinct (AllNeg i) ps as' bs h k =
     let f : h.2 ≡ k.2 = cc in
     let w = distinct h.0 k.0 (record { type = h.1; predicate = h.2 }) (record { type = k.1; predicate = k.2 }) h.3 k.3 f in
     h.5 ∙ ap₂ (λ x y. (opposite (literal (apply y (eta x (constant (witness h.0))))) ∷ []) ∷ []) a f ∙ ap (λ x. (opposite (literal (apply k.2 (eta k.1 (constant (witness x))))) ∷ []) ∷ []) w ∙ sym k.5
-same_alternatives scope rows distinct (Mat i j) ps as' bs h k = absurd h
-same_alternatives scope rows distinct (Dec i) ps as' bs h k = absurd h
+same_alternatives scope rows distinct (Mat i j) ps as' bs h k =
+    let e : plus (applied (constant h.0) (h.2 ∷ h.4)) ∷ minus (applied (constant h.0) (h.3 ∷ h.5)) ∷ [] ≡ plus (applied (constant k.0) (k.2 ∷ k.4)) ∷ minus (applied (constant k.0) (k.3 ∷ k.5)) ∷ [] = sym h.8 ∙ k.8 in
+    let l : plus (applied (constant h.0) (h.2 ∷ h.4)) ≡ plus (applied (constant k.0) (k.2 ∷ k.4)) = cc in
+    let o : minus (applied (constant h.0) (h.3 ∷ h.5)) ≡ minus (applied (constant k.0) (k.3 ∷ k.5)) = cc in
+    h.9 ∙ same_differences scope h.0 k.0 h.1 k.1 (h.2 ∷ h.4) (k.2 ∷ k.4) (h.3 ∷ h.5) (k.3 ∷ k.5) h.7 k.7 (ap (λ x. x.atom) l) (ap (λ x. x.atom) o) ∙ sym k.9
+same_alternatives scope rows distinct (Dec i) ps as' bs h k =
+    let e : minus (eq (base (suc h.0)) (applied (constant h.1) (h.3 ∷ h.5)) (applied (constant h.1) (h.4 ∷ h.6))) ∷ [] ≡ minus (eq (base (suc k.0)) (applied (constant k.1) (k.3 ∷ k.5)) (applied (constant k.1) (k.4 ∷ k.6))) ∷ [] = sym h.9 ∙ k.9 in
+    let l : minus (eq (base (suc h.0)) (applied (constant h.1) (h.3 ∷ h.5)) (applied (constant h.1) (h.4 ∷ h.6))) ≡ minus (eq (base (suc k.0)) (applied (constant k.1) (k.3 ∷ k.5)) (applied (constant k.1) (k.4 ∷ k.6))) = cc in
+    let x : eq (base (suc h.0)) (applied (constant h.1) (h.3 ∷ h.5)) (applied (constant h.1) (h.4 ∷ h.6)) ≡ eq (base (suc k.0)) (applied (constant k.1) (k.3 ∷ k.5)) (applied (constant k.1) (k.4 ∷ k.6)) = ap (λ y. y.atom) l in
+    let p : applied (constant h.1) (h.3 ∷ h.5) ≡ applied (constant k.1) (k.3 ∷ k.5) = cc in
+    let q : applied (constant h.1) (h.4 ∷ h.6) ≡ applied (constant k.1) (k.4 ∷ k.6) = cc in
+    h.10 ∙ same_differences scope h.1 k.1 h.2 k.2 (h.3 ∷ h.5) (k.3 ∷ k.5) (h.4 ∷ h.6) (k.4 ∷ k.6) h.8 k.8 p q ∙ sym k.10
 same_alternatives scope rows distinct (Cho f) ps as' bs h k =
     let e : Some (predicate h.0) ≡ Some (predicate k.0) = sym (canonical_type-at scope [] (predicate h.0) f h.1) ∙ canonical_type-at scope [] (predicate k.0) f k.1 in
     let a : h.0 ≡ k.0 = cc in

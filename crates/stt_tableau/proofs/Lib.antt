@@ -3,6 +3,7 @@ pub mod LiteralLaws
 pub mod EquationLaws
 pub mod FunctionLaws
 pub mod ChoiceLaws
+pub mod DecompositionLaws
 pub mod RuleLaws
 pub mod ClosedLaws
 pub mod InstanceTypes
@@ -13,6 +14,7 @@ pub mod Soundness
 pub mod ShapeLaws
 pub mod SpineShapes
 pub mod InstanceLaws
+pub mod DecompositionInstances
 pub mod TypedLaws
 pub mod ChildLaws
 pub mod FailureLaws

@@ -3,7 +3,8 @@ use Rattle.std.proofs.Common.{◌≡◌, ◌≤◌, ◌<◌, ℕ, List, [], ◌�
 use Rattle.stt_core.specs.SimpleType.{SimpleType}
 use Rattle.stt_core.specs.Lambda.{Constant, name, witness, falsity, negation, implication, all, equality, choice, Lambda, bound, constant, lam, app, eq, every, lambdas, applied}
 use Rattle.stt_core.proofs.SpineLaws.{IsAtom, SameParts, parts}
-use Rattle.stt_tableau.specs.Shape.{equality_of, quantified_by}
+use Rattle.stt_tableau.specs.Rules.{IsDecomposed}
+use Rattle.stt_tableau.specs.Shape.{equality_of, quantified_by, IsDecomposedHead}
 
 no_binders : (bs : List SimpleType) → length bs ≤ 0 → bs ≡ []
 no_binders [] l = refl
@@ -78,3 +79,19 @@ module _ (bs : List SimpleType) (h : Lambda) (us : List Lambda) (whole : Lambda)
 
   pub is_quantified : length bs ≤ 0 → (a : SimpleType) (f : Lambda) → Some a ≡ quantified_by h → length us ≡ 1 → slice_get us 0 ≡ Some f → whole ≡ every a f
   is_quantified unbound a f e n g = spine_is unbound (constant (all a)) (quantifier_head h a (sym e)) (f ∷ []) (one us f n g)
+
+  pub no_spine-binders : 0 < length bs → (c : Constant) (s : Lambda) (ss : List Lambda) → IsDecomposed c → whole ≡ applied (constant c) (s ∷ ss) → ⊥
+  no_spine-binders some c s ss d e = absurd (omega (arith, some, ap length (spine_parts c (s ∷ ss) e).binders))
+
+  pub no_spine-count : length us ≡ 0 → (c : Constant) (s : Lambda) (ss : List Lambda) → IsDecomposed c → whole ≡ applied (constant c) (s ∷ ss) → ⊥
+  no_spine-count none c s ss d e = absurd (omega (arith, none, ap length (spine_parts c (s ∷ ss) e).arguments))
+
+  pub no_spine-head : (IsDecomposedHead h → ⊥) → (c : Constant) (s : Lambda) (ss : List Lambda) → IsDecomposed c → whole ≡ applied (constant c) (s ∷ ss) → ⊥
+  no_spine-head other c s ss d e = other (c, d, (spine_parts c (s ∷ ss) e).head)
+
+  pub is_spine : length bs ≤ 0 → (length us ≡ 0 → ⊥) → IsDecomposedHead h → (c : Constant) × (s : Lambda) × (ss : List Lambda) × IsDecomposed c × (h ≡ constant c) × (us ≡ s ∷ ss) × (whole ≡ applied (constant c) (s ∷ ss))
+  is_spine unbound some (c, d, e) = go us refl some
+    where
+      go : (vs : List Lambda) → us ≡ vs → (length vs ≡ 0 → ⊥) → (k : Constant) × (s : Lambda) × (ss : List Lambda) × IsDecomposed k × (h ≡ constant k) × (us ≡ s ∷ ss) × (whole ≡ applied (constant k) (s ∷ ss))
+      go [] f n = absurd (n refl)
+      go (v ∷ vs) f n = (c, v, vs, d, e, f, spine_is unbound (constant c) e (v ∷ vs) f)

@@ -1,4 +1,3 @@
-pub mod Shape
 pub mod Literals
 pub mod Witnesses
 pub mod Rules
@@ -8,5 +7,6 @@ pub mod Closed
 pub mod Meets
 pub mod Laws
 pub mod Start
+pub mod Shape
 pub mod Checks
 pub mod Refused

@@ -1,10 +1,13 @@
 -- What stands at a formula's head.
-use Rattle.std.specs.Prelude.{◌≡◌, Option, Some, None}
+use Rattle.std.specs.Prelude.{◌≡◌, List, [], ◌∷◌, Option, Some, None}
 use Rattle.stt_core.specs.SimpleType.{SimpleType}
 use Rattle.stt_core.specs.View.{the_type}
-use Rattle.stt_core.specs.Lambda.{name, witness, falsity, negation, implication, all, equality, choice, Lambda, bound, constant, lam, app, neg, imp, eq, every}
+use Rattle.stt_core.specs.Lambda.{Constant, name, witness, falsity, negation, implication, all, equality, choice, Lambda, bound, constant, lam, app, neg, imp, eq, every, applied}
 use Rattle.stt_tableau.specs.declared.equation.Equation.{Equation}
 use Rattle.stt_tableau.specs.declared.quantifier.Quantified.{Quantified}
+use Rattle.stt_core.specs.View.{the_head}
+use Rattle.stt_tableau.specs.Rules.{IsDecomposed}
+use Rattle.stt_tableau.specs.declared.decompose.Spine.{Spine}
 use Rattle.stt_tableau.specs.declared.shape.Connective.{Connective}
 use Rattle.stt_tableau.specs.declared.shape.Connective.TheVariants as connective
 use Rattle.stt_tableau.specs.declared.shape.Shape.{Shape}
@@ -74,3 +77,13 @@ quantified_by (app s u) = None
 abbrev pub IsQuantified : Lambda → Option Quantified → Type 0
 IsQuantified t (Some q) = t ≡ every (the_type q.ty.now) q.predicate.now
 IsQuantified t None = (a : SimpleType) (f : Lambda) → t ≡ every a f → ⊥
+
+-- the head is a constant whose arguments are compared
+abbrev pub IsDecomposedHead : Lambda → Type 0
+IsDecomposedHead h = (c : Constant) × IsDecomposed c × (h ≡ constant c)
+
+-- the term is such a constant with arguments, or isn't
+abbrev pub IsSpine : Lambda → Option Spine → Type 0
+IsSpine t (Some p) =
+    (c : Constant) × (s : Lambda) × (ss : List Lambda) × IsDecomposed c × (the_head p.head.now ≡ constant c) × (p.args.now ≡ s ∷ ss) × (t ≡ applied (constant c) (s ∷ ss))
+IsSpine t None = (c : Constant) (s : Lambda) (ss : List Lambda) → IsDecomposed c → t ≡ applied (constant c) (s ∷ ss) → ⊥

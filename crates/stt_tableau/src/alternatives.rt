@@ -57,7 +57,7 @@ impl Alternatives {
 }
 
 /// A list of one literal.
-fn alone(alloc: Global, lit: Lit) -> Result<Lits, AllocError>
+pub fn alone(alloc: Global, lit: Lit) -> Result<Lits, AllocError>
     ensures { IfOk result (λ ls. ls ≡ lit ∷ []) }
 {
     let mut lits = Lits::new(alloc);

@@ -7,6 +7,7 @@ ghost use Rattle.stt_tableau.specs.Accepted.{IsTypedUse};
 ghost use Rattle.stt_tableau.specs.Checks.{FindsInstance};
 
 use crate::alternatives::Alternatives;
+use crate::decompose::{dec_instance, mat_instance};
 use crate::equation::{bool_neg_instance, bool_pos_instance, con_instance, refl_instance};
 use crate::lit::Lits;
 use crate::propositional::{
@@ -47,8 +48,8 @@ pub fn instance(
         RuleUse::AllPos(i, u) => Ok(all_pos_instance(alloc, sig, types, branch, *i, u)?),
         RuleUse::AllNeg(i) => Ok(all_neg_instance(alloc, rows, branch, *i)?),
         RuleUse::Cho(f) => Ok(cho_instance(alloc, sig, types, branch, f)?),
+        RuleUse::Mat(i, j) => Ok(mat_instance(alloc, sig, types, branch, *i, *j)?),
+        RuleUse::Dec(i) => Ok(dec_instance(alloc, sig, types, branch, *i)?),
         RuleUse::Con(i, j) => Ok(con_instance(alloc, branch, *i, *j)?),
-        RuleUse::Mat(_, _) => Ok(None),
-        RuleUse::Dec(_) => Ok(None),
     }
 }

@@ -4,6 +4,7 @@
 mod accepts;
 mod alternatives;
 mod children;
+mod decompose;
 mod equation;
 mod formula;
 mod instance;

@@ -80,3 +80,13 @@ all_neg_instance-requires c = record { scope = the_scope c.args.sig.now c.args.t
 
 pub cho_instance-requires : goal.cho_instance-requires
 cho_instance-requires c = subst (IsTypedUse (the_scope c.args.sig.now c.args.types.now)) c.in-Cho.is c.requires.typed
+
+pub returns-in_ok-mat_instance-in-Mat : goal.returns-in_ok-mat_instance-in-Mat
+returns-in_ok-mat_instance-in-Mat c =
+    let scope = the_scope c.args.sig.now c.args.types.now in
+    subst (λ rule. FindsInstance scope c.args.rows.now c.args.branch.now rule c.in_ok-mat_instance-in-Mat.field-0) (sym c.in-Mat.is) (c.in_ok-mat_instance-in-Mat.ensures c.args.rows.now)
+
+pub returns-in_ok-dec_instance-in-Dec : goal.returns-in_ok-dec_instance-in-Dec
+returns-in_ok-dec_instance-in-Dec c =
+    let scope = the_scope c.args.sig.now c.args.types.now in
+    subst (λ rule. FindsInstance scope c.args.rows.now c.args.branch.now rule c.in_ok-dec_instance-in-Dec.field-0) (sym c.in-Dec.is) (c.in_ok-dec_instance-in-Dec.ensures c.args.rows.now)
