@@ -14,8 +14,8 @@ use crate::lit::Lits;
 use crate::refutation::{Refutation, Rows};
 use stt_core::Signature;
 
-/// The types of the signature's constants are over it. Where a refutation is accepted for a start that names no witness, no model meets the start, and the tableau of the refutation's
-/// last line closes it.
+/// Where a refutation is accepted for a start that names no witness, no model meets the start, and the tableau of the refutation's
+/// last line closes it. The types of the signature's constants must be over the signature.
 pub fn soundness_law(sig: &Signature, start: &Lits, refutation: &Refutation)
     requires declared { IsScope (the_scope sig.now []) }
     requires unnamed { NoneNamesWitness start.now }
