@@ -2,15 +2,15 @@
 use Rattle.std.proofs.Common.{◌≡◌, ℕ, zero, suc, ◌+◌, ◌<◌, ◌≤◌, List, [], ◌∷◌, ◌++◌, length, map, Some, refl, ap, ap₂, subst, sym, ◌∙◌, Bool, true, false, nat_eq, slice_get, slice_index, if◌then◌else◌, append_assoc, append-nil, length-append, eqb-true, eq-eqb, add-zero, ⊎_elim, arith}
 use Rattle.std.proofs.Math.Nat.{eq-or-lt_of_le}
 use mathlib.Core.Path.{fun_ext}
-use Rattle.stt_core.specs.SimpleType.{SimpleType, base, arrow, predicate, is_declared}
+use Rattle.stt_core.specs.SimpleType.{SimpleType, base, arrow, predicate}
 use Rattle.stt_core.specs.Lambda.{Constant, name, witness, falsity, negation, implication, all, equality, choice, Lambda, bound, constant, lam, app}
 use Rattle.stt_core.specs.Typing.{Scope, IsScope, AreDeclared, type_of, constant_type}
-use Rattle.stt_core.specs.Canonical.{IsFrom, IsCanonical, IsNeutral}
+use Rattle.stt_core.specs.Canonical.{IsCanonical, IsNeutral}
 use Rattle.stt_core.specs.Digits.{entry, table}
 use Rattle.stt_core.specs.Meaning.{Model, size, size_of, result_size, value, constant_value, IsModel}
 use Rattle.stt_core.proofs.ValueLaws.{size_pos, test_below}
-use Rattle.stt_tableau.specs.Witnesses.{Row, with_rows, IsTypedRow, IsTwice, IsTableAfter, IsTable}
-use Rattle.stt_tableau.specs.Along.{least_zero, with_witnesses, witness_list, extended, GoesAlong, IsModelAlong}
+use Rattle.stt_tableau.specs.Witnesses.{Row, with_rows, IsTwice, IsTableAfter, IsTable}
+use Rattle.stt_tableau.specs.Along.{least_zero, with_witnesses, witness_list, extended, GoesAlong}
 use Rattle.stt_tableau.proofs.FunctionLaws.{predicate_declared}
 
 -- the term names no witness from k on

@@ -3,7 +3,7 @@ use Rattle.std.proofs.Common.{◌≡◌, ◌+◌, ◌≤◌, ℕ, zero, suc, Boo
 use Rattle.stt_core.specs.SimpleType.{SimpleType, base, arrow}
 use Rattle.stt_core.specs.Lambda.{Constant, Lambda, constant, eq, applied}
 use Rattle.stt_core.specs.Typing.{Scope, type_of, constant_type}
-use Rattle.stt_core.specs.View.{the_type, the_head}
+use Rattle.stt_core.specs.View.{the_head}
 use Rattle.stt_core.proofs.ListLaws.{drop_got}
 use Rattle.stt_core.proofs.SpineLaws.{parts}
 use Rattle.stt_tableau.specs.Literals.{Literal, plus, minus}

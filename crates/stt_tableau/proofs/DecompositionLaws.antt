@@ -1,18 +1,18 @@
 -- Arguments of one head.
-use Rattle.std.proofs.Common.{◌≡◌, ℕ, List, [], ◌∷◌, Some, refl, sym, ap, ap₂, subst, ◌∙◌, true, ⊎_elim, inl, inr}
+use Rattle.std.proofs.Common.{◌≡◌, List, [], ◌∷◌, Some, refl, sym, ap₂, subst, ◌∙◌, true, ⊎_elim, inl, inr}
 use Rattle.std.proofs.lemmas.Bool.{and_parts}
 use Rattle.stt_core.specs.SimpleType.{SimpleType, base, arrow, is_declared}
-use Rattle.stt_core.specs.Lambda.{Constant, Lambda, constant, app, eq, applied}
-use Rattle.stt_core.specs.Typing.{Scope, IsScope, type_of, constant_type, applied_type}
+use Rattle.stt_core.specs.Lambda.{Constant, Lambda, constant, app, applied}
+use Rattle.stt_core.specs.Typing.{Scope, type_of, constant_type, applied_type}
 use Rattle.stt_core.specs.Canonical.{IsBase, IsCanonical, IsNeutral}
 use Rattle.stt_core.specs.Digits.{entry}
 use Rattle.stt_core.specs.Meaning.{Model, size, value, IsModel}
 use Rattle.stt_core.proofs.TypeLaws.{type_of-canonical, applied as applied_is}
 use Rattle.stt_core.proofs.ValueLaws.{value-app}
-use Rattle.stt_tableau.specs.Literals.{Literal, minus, IsBranch}
+use Rattle.stt_tableau.specs.Literals.{Literal, IsBranch}
 use Rattle.stt_tableau.specs.Meets.{MeetsOne}
 use Rattle.stt_tableau.specs.Rules.{differ_each}
-use Rattle.stt_tableau.proofs.EquationLaws.{Sides, differ-is_literal, same_or_not, meets-differ}
+use Rattle.stt_tableau.proofs.EquationLaws.{differ-is_literal, same_or_not, meets-differ}
 
 -- the literals of each alternative are literals
 abbrev pub AreBranches : Scope → List (List Literal) → Type 0

@@ -1,12 +1,12 @@
 -- Equations between canonical terms, and when a model meets them.
-use Rattle.std.proofs.Common.{◌≡◌, ℕ, ◌<◌, List, [], Some, None, refl, sym, ap, subst, ◌∙◌, Bool, true, false, nat_eq, if◌then◌else◌, ◌⊎◌, inl, inr, eqb-true, eq-eqb, arith}
+use Rattle.std.proofs.Common.{◌≡◌, ℕ, List, [], Some, None, refl, sym, ap, subst, ◌∙◌, Bool, true, false, nat_eq, if◌then◌else◌, ◌⊎◌, inl, inr, eqb-true, eq-eqb, arith}
 use Rattle.stt_core.specs.SimpleType.{SimpleType, arrow, formula, predicate, is_declared}
-use Rattle.stt_core.specs.Lambda.{Lambda, equality, eq}
+use Rattle.stt_core.specs.Lambda.{Lambda, eq}
 use Rattle.stt_core.specs.Typing.{Scope}
 use Rattle.stt_core.specs.Canonical.{IsCanonical}
 use Rattle.stt_core.specs.Meaning.{Model, value, IsModel}
 use Rattle.stt_core.proofs.TypeLaws.{type_of-canonical, given}
-use Rattle.stt_core.proofs.ConstantValues.{EqualTypes, value-eq}
+use Rattle.stt_core.proofs.ConstantValues.{value-eq}
 use Rattle.stt_tableau.specs.Literals.{plus, minus, IsLiteral}
 use Rattle.stt_tableau.specs.Meets.{MeetsLiteral}
 

@@ -1,19 +1,18 @@
 -- Rows and lines are right one after the other, up to the first failure.
-use Rattle.std.proofs.Common.{◌≡◌, ◌<◌, ◌≤◌, ◌+◌, ◌-◌, ℕ, zero, suc, List, [], ◌∷◌, ◌++◌, Some, None, length, take, drop, map, slice_get, Contains, refl, sym, ap, ap₂, subst, ◌∙◌, append_assoc, append-nil, take_all, arith}
+use Rattle.std.proofs.Common.{◌≡◌, ◌<◌, ◌≤◌, ◌+◌, ◌-◌, ℕ, zero, suc, List, [], ◌∷◌, ◌++◌, Some, length, take, drop, map, slice_get, Contains, refl, sym, ap, ap₂, subst, ◌∙◌, append_assoc, append-nil, take_all, arith}
 use Rattle.std.proofs.lemmas.List.{length-take-le, take-append-drop}
 use Rattle.stt_core.specs.SimpleType.{SimpleType}
 use Rattle.stt_core.proofs.ListLaws.{take_got, drop_got, map_more}
 use Rattle.stt_core.specs.Typing.{Scope}
 use Rattle.stt_core.specs.ScopeView.{the_scope}
 use Rattle.stt_core.specs.declared.signature.Signature.{Signature}
-use Rattle.stt_tableau.specs.Checks.{FindsInstance}
 use Rattle.stt_tableau.specs.Literals.{Literal}
 use Rattle.stt_tableau.specs.Witnesses.{Row, with_rows, IsTypedRow, IsTwice, IsTableAfter, IsTable}
-use Rattle.stt_tableau.specs.Accepted.{Within, IsTypedLine, IsRightLine, AreRightLines, EndsWithin, RowFails, LineFails, FirstFailure, at_row, at_line, at_last, no_line}
+use Rattle.stt_tableau.specs.Accepted.{Within, IsRightLine, AreRightLines, EndsWithin, RowFails, LineFails, FirstFailure, at_row, at_line, at_last, no_line}
 use Rattle.stt_tableau.specs.declared.refutation.Line.{Line}
 use Rattle.stt_tableau.specs.declared.refutation.Refutation.{Refutation}
 use Rattle.stt_tableau.specs.declared.refutation.Why.{Why}
-use Rattle.stt_tableau.specs.declared.refutation.Why.TheVariants.{Principal, Last}
+use Rattle.stt_tableau.specs.declared.refutation.Why.TheVariants.{Last}
 
 pub split_at : {A : Type 0} (xs : List A) (i : ℕ) (x : A) → slice_get xs i ≡ Some x → xs ≡ take i xs ++ x ∷ drop (i + 1) xs
 split_at xs i x h = sym (take-append-drop i xs) ∙ ap (λ l. take i xs ++ l) (drop_got xs i x h)

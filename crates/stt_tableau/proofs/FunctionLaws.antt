@@ -1,16 +1,16 @@
 -- Functions at new variables, and quantified formulas.
-use Rattle.std.proofs.Common.{◌≡◌, ℕ, ◌+◌, ◌-◌, ◌^◌, ◌<◌, List, [], ◌∷◌, Some, None, refl, ap, ap₂, subst, sym, ◌∙◌, true, nat_eq, eq-eqb, if◌then◌else◌, arith, mod-eq_of_lt, mod-lt, ◌/◌, ⊎_elim}
-use Rattle.std.proofs.lemmas.Bool.{and_parts, and_from, lt-ltb}
-use Rattle.stt_core.specs.SimpleType.{SimpleType, base, arrow, formula, predicate, is_declared}
-use Rattle.stt_core.specs.Lambda.{all, choice, equality, negation, Lambda, bound, constant, lam, app, neg, eq, every}
+use Rattle.std.proofs.Common.{◌≡◌, ℕ, ◌-◌, ◌^◌, ◌<◌, [], ◌∷◌, Some, None, refl, ap, ap₂, subst, sym, ◌∙◌, true, nat_eq, eq-eqb, if◌then◌else◌, arith, mod-eq_of_lt, mod-lt, ◌/◌}
+use Rattle.std.proofs.lemmas.Bool.{and_parts}
+use Rattle.stt_core.specs.SimpleType.{SimpleType, arrow, formula, predicate, is_declared}
+use Rattle.stt_core.specs.Lambda.{choice, Lambda, bound, constant, lam, app, neg, eq, every}
 use Rattle.stt_core.specs.Typing.{Scope, type_of, constant_type}
 use Rattle.stt_core.specs.Canonical.{IsCanonical}
 use Rattle.stt_core.specs.Digits.{entry}
 use Rattle.stt_core.specs.Meaning.{Model, size, value, IsModel}
 use Rattle.stt_core.proofs.DigitLaws.{entry-table, table-entry, table_same}
-use Rattle.stt_core.proofs.TypeLaws.{type_of-canonical, type_of-neutral, given}
+use Rattle.stt_core.proofs.TypeLaws.{type_of-canonical, given}
 use Rattle.stt_core.proofs.ValueLaws.{size_pos, value-lt, value-lam, value-app}
-use Rattle.stt_core.proofs.ConstantValues.{value-neg, value-eq, value-every, bit, ones_each, some_zero, each_one}
+use Rattle.stt_core.proofs.ConstantValues.{value-neg, value-eq, value-every, ones_each, some_zero, each_one}
 use Rattle.stt_normal.specs.Lift.{lift}
 use Rattle.stt_normal.specs.Normal.{eta, apply}
 use Rattle.stt_normal.proofs.LiftLaws.{value-lift}

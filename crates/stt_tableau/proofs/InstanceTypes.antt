@@ -1,16 +1,16 @@
 -- What the principals in a typed branch are typed as.
-use Rattle.std.proofs.Common.{◌≡◌, ℕ, Bool, true, List, [], ◌∷◌, Some, map, slice_get, refl, sym, ap, ap₂, subst, subst₂, ◌∙◌}
+use Rattle.std.proofs.Common.{◌≡◌, ℕ, Bool, true, List, [], ◌∷◌, Some, slice_get, refl, sym, ap, subst, subst₂, ◌∙◌}
 use Rattle.std.proofs.lemmas.Bool.{and_parts}
 use Rattle.stt_core.specs.SimpleType.{SimpleType, arrow, formula, predicate, is_declared}
-use Rattle.stt_core.specs.Lambda.{witness, Lambda, bound, constant, app, eq, every, applied}
+use Rattle.stt_core.specs.Lambda.{witness, Lambda, bound, constant, eq, every, applied}
 use Rattle.stt_core.specs.Typing.{Scope}
 use Rattle.stt_core.specs.Canonical.{IsCanonical}
-use Rattle.stt_normal.specs.Lift.{lift, lift_by}
+use Rattle.stt_normal.specs.Lift.{lift_by}
 use Rattle.stt_normal.specs.Normal.{eta}
 use Rattle.stt_normal.specs.Ready.{CanApply}
 use Rattle.stt_normal.proofs.CanonicalLaws.{canonical-lift}
 use Rattle.stt_normal.proofs.NormalValues.{canonical-eta}
-use Rattle.stt_tableau.specs.Literals.{Literal, IsLiteral, IsBranch}
+use Rattle.stt_tableau.specs.Literals.{Literal, IsBranch}
 use Rattle.stt_tableau.specs.Witnesses.{Row}
 use Rattle.stt_tableau.specs.Rules.{chosen}
 use Rattle.stt_tableau.specs.Checks.{StandsAt, IsFunctionFrom, AreFunctionsFrom, IsPredicateOn, IsTypedSomewhere, IsTypedWith}

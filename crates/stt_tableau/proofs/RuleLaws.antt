@@ -1,7 +1,7 @@
 -- Each rule keeps a model.
 use Rattle.std.proofs.Common.{◌≡◌, ℕ, zero, suc, ◌<◌, List, [], ◌∷◌, Some, slice_get, map, refl, sym, ap, ◌∙◌, true, nat_eq, if◌then◌else◌, ◌⊎◌, inl, inr, ⊎_elim, arith}
-use Rattle.stt_core.specs.SimpleType.{SimpleType, is_declared, base, arrow, formula, predicate}
-use Rattle.stt_core.specs.Lambda.{witness, Lambda, constant, imp, eq, every, applied}
+use Rattle.stt_core.specs.SimpleType.{SimpleType, is_declared, base, arrow, formula}
+use Rattle.stt_core.specs.Lambda.{witness, Lambda, constant, imp, applied}
 use Rattle.stt_core.specs.Typing.{Scope, IsScope}
 use Rattle.stt_core.specs.Canonical.{IsCanonical}
 use Rattle.stt_core.specs.Meaning.{Model, value, IsModel}
@@ -20,7 +20,7 @@ use Rattle.stt_normal.proofs.NormalValues.{canonical-eta, value-eta}
 use Rattle.stt_tableau.specs.Along.{GoesAlong}
 use Rattle.stt_tableau.proofs.FunctionLaws.{every_canonical, canonical-agreement, canonical-nowhere, canonical-chosen, canonical-applied, value-applied, value-every-canonical, value-agreement, value-chosen}
 use Rattle.stt_tableau.proofs.DecompositionLaws.{AreBranches, arguments_taken, differ_each-literals, differ_one}
-use Rattle.stt_tableau.proofs.EquationLaws.{Sides, eq_canonical, differ-is_literal, same_or_not, met-eq, met-differ, meets-differ}
+use Rattle.stt_tableau.proofs.EquationLaws.{eq_canonical, differ-is_literal, same_or_not, met-eq, met-differ, meets-differ}
 
 -- the type of a witness is that of its row
 witness_typed : (scope : Scope) (rows : List Row) → scope.witnesses ≡ map (λ r. r.type) rows → (k : ℕ) (r : Row) → slice_get rows k ≡ Some r → slice_get scope.witnesses k ≡ Some r.type

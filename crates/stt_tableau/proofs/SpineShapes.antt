@@ -1,5 +1,5 @@
 -- When a term is a constant with arguments.
-use Rattle.std.proofs.Common.{◌≡◌, ◌≤◌, ◌<◌, ℕ, List, [], ◌∷◌, Some, None, length, slice_get, refl, sym, ap, ap₂, ◌∙◌, arith}
+use Rattle.std.proofs.Common.{◌≡◌, ◌≤◌, ◌<◌, List, [], ◌∷◌, Some, None, length, slice_get, refl, sym, ap, ap₂, ◌∙◌, arith}
 use Rattle.stt_core.specs.SimpleType.{SimpleType}
 use Rattle.stt_core.specs.Lambda.{Constant, name, witness, falsity, negation, implication, all, equality, choice, Lambda, bound, constant, lam, app, eq, every, lambdas, applied}
 use Rattle.stt_core.proofs.SpineLaws.{IsAtom, SameParts, parts}

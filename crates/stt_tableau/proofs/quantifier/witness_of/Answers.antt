@@ -1,4 +1,4 @@
-use Rattle.std.proofs.Common.{◌≡◌, ◌≤◌, Some, refl, subst, sym, ap, ◌∙◌, take, take_all, length, arith}
+use Rattle.std.proofs.Common.{◌≡◌, ◌≤◌, Some, refl, subst, ap, ◌∙◌, take_all, length, arith}
 use Rattle.stt_core.specs.View.{the_type}
 use Rattle.stt_tableau.proofs.ListLaws.{untrue, Each, each-more, contains-get}
 use Rattle.stt_tableau.proofs.quantifier.witness_of.Goals as goal
