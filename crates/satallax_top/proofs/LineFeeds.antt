@@ -16,11 +16,11 @@ use Rattle.satallax_top.proofs.TextLaws.{leaf_cases}
 
 pub no_feed-append : (xs ys : List ℕ) → has_line_feed xs ≡ false → has_line_feed ys ≡ false → has_line_feed (xs ++ ys) ≡ false
 no_feed-append [] ys h k = k
-no_feed-append (x ∷ xs) ys h k = go (x == 10) h
+no_feed-append (x ∷ xs) ys h k = go (x == 10) (λ e. no_feed-append xs ys e k) h
   where
-    go : (b : Bool) → b || has_line_feed xs ≡ false → b || has_line_feed (xs ++ ys) ≡ false
-    go true e = cc
-    go false e = no_feed-append xs ys e k
+    go : (b : Bool) → (has_line_feed xs ≡ false → has_line_feed (xs ++ ys) ≡ false) → b || has_line_feed xs ≡ false → b || has_line_feed (xs ++ ys) ≡ false
+    go true rest e = cc
+    go false rest e = rest e
 
 no_feed-cons : (x : ℕ) (xs : List ℕ) → (x == 10) ≡ false → has_line_feed xs ≡ false → has_line_feed (x ∷ xs) ≡ false
 no_feed-cons x xs h k = ap₂ (λ a b. a || b) h k
