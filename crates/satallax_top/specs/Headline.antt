@@ -1,5 +1,5 @@
 -- What a reported proof means.
-use Rattle.std.specs.Prelude.{◌≡◌, ℕ, Bool, IsTrue, List, ◌++◌, Option, Some, unwrap_or, []}
+use Rattle.std.specs.Prelude.{◌≡◌, ℕ, Bool, IsTrue, List, ◌++◌, Option, Some}
 use Rattle.outside.specs.Prefix.{AppendsProperly}
 use Rattle.stt_core.specs.Meaning.{Model, IsModel}
 use Rattle.stt_core.specs.Meets.{MeetsProblem}
@@ -16,14 +16,10 @@ use Rattle.satallax_top.specs.Text.{text_lines, as_bytes}
 use Rattle.satallax_top.specs.PlainNames.{names_of}
 use Rattle.satallax_top.specs.Block.{HoldsText}
 use Rattle.satallax_top.specs.Report.{report}
-use Rattle.satallax_top.specs.Words.{problem_word}
+use Rattle.satallax_top.specs.Words.{problem_word, name_of}
 use Rattle.satallax_top.specs.Answers.{IsAnswer}
 use Rattle.satallax_top.specs.declared.outcome.Outcome.{Outcome}
 use Rattle.satallax_top.specs.declared.outcome.Outcome.TheVariants.{WriteFault}
-
--- the problem's name, or nothing where the words name none
-abbrev pub name_of : List (List ℕ) → List ℕ
-name_of words = unwrap_or (problem_word words) []
 
 -- The problem that the file states has no standard model whose base types are finite: no such model meets its assumed formulas without
 -- meeting its conjecture.

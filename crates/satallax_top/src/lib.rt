@@ -6,13 +6,16 @@ mod outcome;
 mod problem;
 mod reader;
 mod refusal;
+mod report;
 mod run;
 mod solve;
 mod start;
 mod statement;
 mod text;
 mod token;
+mod top;
 mod words;
 
 pub use outcome::{FileRef, Outcome};
+pub use top::satallax;
 pub use words::Words;
