@@ -171,7 +171,12 @@ fn outcomes_and_reports(rt: HostRuntime) -> Result<(), Fail> {
     let alloc = rt.alloc();
     for (texts, outcome, status, report) in ROWS {
         let mut out = GrowSink::new(alloc);
-        let ended = satallax(alloc, &words(alloc, texts)?, &mut files(alloc, &[])?, &mut out);
+        let ended = satallax(
+            alloc,
+            &words(alloc, texts)?,
+            &mut files(alloc, &[])?,
+            &mut out,
+        );
         assert_eq!(rt; ended, *outcome, "the outcome of {texts:?}");
         assert_eq!(rt; ended.status(), *status, "the status of {texts:?}");
         assert_eq!(rt; out.bytes(), report.as_bytes(), "the report of {texts:?}");
@@ -244,9 +249,18 @@ fn faults(rt: HostRuntime) -> Result<(), Fail> {
     let alloc = rt.alloc();
     for (reads, room, writes, outcome, report) in FAULTS {
         let mut out = MemSink::new(alloc, *room, calls(alloc, writes)?)?;
-        let ended = satallax(alloc, &words(alloc, &["t.p"])?, &mut files(alloc, reads)?, &mut out);
+        let ended = satallax(
+            alloc,
+            &words(alloc, &["t.p"])?,
+            &mut files(alloc, reads)?,
+            &mut out,
+        );
         assert_eq!(rt; ended, *outcome, "{reads:?} {room} {writes:?}");
-        assert_eq!(rt; out.bytes(), report.as_bytes(), "{reads:?} {room} {writes:?}");
+        assert_eq!(rt;
+            out.bytes(),
+            report.as_bytes(),
+            "{reads:?} {room} {writes:?}"
+        );
     }
     Ok(())
 }

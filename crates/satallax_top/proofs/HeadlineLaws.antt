@@ -1,5 +1,5 @@
 -- What a call answers and writes has the meaning that it claims.
-use Rattle.std.proofs.Common.{◌≡◌, ℕ, Bool, true, false, IsTrue, not, ◌||◌, ◌&&◌, ◌==◌, nat_lt, nat_le, List, [], ◌∷◌, ◌++◌, length, codes, decimal, Option, Some, None, unwrap_or, if◌then◌else◌, refl, sym, ap, ap₂, subst, ◌∙◌, append_assoc, append-nil}
+use Rattle.std.proofs.Common.{◌≡◌, ℕ, Bool, true, false, IsTrue, not, ◌||◌, ◌&&◌, ◌==◌, nat_lt, List, [], ◌∷◌, ◌++◌, codes, decimal, Option, Some, None, unwrap_or, if◌then◌else◌, refl, sym, ap, ap₂, subst, ◌∙◌, append_assoc, append-nil}
 use Rattle.std.specs.List.{list_any}
 use Rattle.std.proofs.lemmas.Bool.{and_parts, eqb-true}
 use Rattle.stt_core.specs.Meaning.{Model, IsModel}
@@ -8,13 +8,13 @@ use Rattle.stt_tableau.specs.Start.{start}
 use Rattle.stt_tableau.proofs.Soundness.{accepted_closes_start, accepted_refutes}
 use Rattle.satallax_top.specs.declared.statement.TheConstants.{MAX_DEPTH}
 use Rattle.satallax_top.specs.Reading.{Stated, States, question_of}
-use Rattle.satallax_top.specs.Text.{Names, text_lines, as_bytes}
+use Rattle.satallax_top.specs.Text.{text_lines, as_bytes}
 use Rattle.satallax_top.specs.PlainNames.{names_of}
 use Rattle.satallax_top.specs.Block.{start_mark, end_mark, begins_with, has_line_feed, HoldsText}
-use Rattle.satallax_top.specs.Report.{counted_report, proof_report, report}
+use Rattle.satallax_top.specs.Report.{proof_report, report}
 use Rattle.satallax_top.specs.Words.{is_control, is_file_name, is_option, problem_word, name_of}
-use Rattle.satallax_top.specs.Answers.{IsProofOf, IsSolvedFor, IsRun, IsSolved, OfFile, IsAnswer, IsProvedOutcome}
-use Rattle.satallax_top.specs.Headline.{HasNoModel, IsProofReport, Appends, IsReported, IsWritten}
+use Rattle.satallax_top.specs.Answers.{IsProofOf, IsAnswer, IsProvedOutcome}
+use Rattle.satallax_top.specs.Headline.{HasNoModel, IsProofReport, Appends, IsWritten}
 use Rattle.satallax_top.specs.declared.outcome.Outcome.{Outcome}
 use Rattle.satallax_top.specs.declared.outcome.Outcome.TheVariants.{Theorem, Unsatisfiable, GaveUp, CommandLimit, Words, TooLong, NotYetAt, ReadFault, WriteFault, Memory}
 use Rattle.satallax_top.proofs.LineFeeds.{no_feed-append, decimal_no_feed}

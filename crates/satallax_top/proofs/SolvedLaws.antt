@@ -1,6 +1,6 @@
 -- A run that ended with a proof has its text.
-use Rattle.std.proofs.Common.{◌≡◌, ℕ, ◌||◌, ◌==◌, Bool, true, false, List, [], ◌∷◌, ◌++◌, length, codes, decimal, refl, sym, ap, ap₂, subst, ◌∙◌, arith}
-use Rattle.std.specs.List.{list_any, list_all}
+use Rattle.std.proofs.Common.{◌≡◌, ℕ, ◌||◌, false, List, [], ◌++◌, length, codes, decimal, refl, ap, ◌∙◌, arith}
+use Rattle.std.specs.List.{list_any}
 use Rattle.stt_core.specs.TypedName.{TypedName}
 use Rattle.stt_tableau.specs.Literals.{Literal}
 use Rattle.stt_tableau.specs.Start.{start}
@@ -10,7 +10,7 @@ use Rattle.std.proofs.lemmas.Fmt.{decimal_digit}
 use Rattle.satallax_top.proofs.LineFeeds.{no_feed-append, decimal_no_feed, branch_no_feed}
 use Rattle.satallax_top.specs.Block.{end_mark, begins_with, has_line_feed}
 use Rattle.satallax_top.specs.PlainNames.{names_of, ArePlain}
-use Rattle.satallax_top.specs.Propositional.{IsRunnable, IsLeafBelow, AreLeavesBelow}
+use Rattle.satallax_top.specs.Propositional.{IsRunnable, AreLeavesBelow}
 use Rattle.satallax_top.specs.Ended.{EndsAs, closing_rule, one_line_refutation}
 use Rattle.satallax_top.specs.Answers.{IsProofOf, IsSolvedFor}
 use Rattle.satallax_top.specs.Solved.{IsProvedFor}

@@ -1,12 +1,11 @@
 -- The literals of the start.
-use Rattle.std.proofs.Common.{◌≡◌, ℕ, zero, suc, ◌+◌, Bool, true, false, List, [], ◌∷◌, ◌++◌, map, take, slice_get, Some, Contains, refl, sym, ap, subst, ◌∙◌, if◌then◌else◌, append-nil}
-use Rattle.std.specs.List.{list_any}
+use Rattle.std.proofs.Common.{◌≡◌, ℕ, zero, suc, ◌+◌, Bool, true, false, List, [], ◌∷◌, ◌++◌, map, take, slice_get, Some, Contains, refl, sym, ap, subst, ◌∙◌, if◌then◌else◌}
 use Rattle.stt_core.specs.Lambda.{Lambda}
 use Rattle.stt_core.proofs.SameTerms.{same_term-refl}
 use Rattle.stt_core.proofs.ListLaws.{take_got, map-append}
 use Rattle.satallax_top.specs.Propositional.{IsPropositional, ArePropositional}
 use Rattle.stt_tableau.specs.Literals.{Literal, opposite, literal}
-use Rattle.stt_tableau.specs.Start.{same_sign, same_literal, has, added, without_repeats, denied, start}
+use Rattle.stt_tableau.specs.Start.{same_literal, has, added, without_repeats, denied, start}
 use Rattle.satallax_top.specs.Reading.{Stated, question_of}
 use Rattle.stt_tableau.proofs.ListLaws.{contains-first, contains-later, contains_cases}
 use Rattle.satallax_top.proofs.SatisfiableLaws.{same_literal-true, or_cases, or_true_left, or_true_right, none_contained}

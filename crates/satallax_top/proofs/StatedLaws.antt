@@ -1,5 +1,5 @@
 -- What the formulas are that a file states, and the literals of its start.
-use Rattle.std.proofs.Common.{◌≡◌, ℕ, zero, suc, ◌+◌, ◌<◌, ◌≤◌, Bool, true, false, List, [], ◌∷◌, ◌++◌, map, length, slice_get, position, Option, Some, None, option_map, is_some, cond, nat_lt, nat_le, ◌||◌, ◌&&◌, ◌==◌, Contains, ◌⊎◌, inl, inr, ⊎_elim, refl, sym, ap, subst, ◌∙◌, if◌then◌else◌, arith, length-append}
+use Rattle.std.proofs.Common.{◌≡◌, ℕ, zero, suc, ◌<◌, ◌≤◌, Bool, true, false, List, [], ◌∷◌, ◌++◌, map, length, slice_get, position, Option, Some, None, option_map, is_some, cond, nat_lt, nat_le, ◌||◌, ◌&&◌, ◌==◌, Contains, ◌⊎◌, inl, inr, ⊎_elim, refl, sym, ap, subst, ◌∙◌, if◌then◌else◌, arith, length-append}
 use Rattle.std.specs.Str.{bytes_eq}
 use Rattle.std.specs.List.{position_or_len}
 use Rattle.std.proofs.lemmas.List.Elements.{Contains-push_cases}
@@ -19,7 +19,6 @@ use Rattle.stt_core.specs.Signature.{symbol_named, first_symbol}
 use Rattle.stt_core.specs.Meets.{MeetsFormulas, Refutes, MeetsProblem}
 use Rattle.stt_core.specs.Meaning.{Model, IsModel, value}
 use Rattle.stt_core.specs.declared.signature.Symbol.{Symbol}
-use Rattle.stt_core.specs.declared.signature.Symbol.TheVariants.{Base, Const}
 use Rattle.stt_tableau.specs.Literals.{Literal, opposite, literal, IsLiteral, IsBranch}
 use Rattle.stt_tableau.specs.Witnesses.{NamesNoWitness, NoneNamesWitness}
 use Rattle.stt_tableau.specs.Meets.{MeetsLiteral, MeetsBranch}

@@ -1,23 +1,18 @@
 -- What a call answers.
-use Rattle.std.specs.Prelude.{◌≡◌, ◌<◌, ◌≤◌, ◌^◌, ℕ, Bool, true, false, IsTrue, List, [], length, Option, Some, None, is_some, is_none}
+use Rattle.std.specs.Prelude.{◌≡◌, ◌<◌, ℕ, Bool, false, IsTrue, List, length, Option, Some, None, is_some, is_none}
 use Rattle.std.specs.List.{list_any}
-use Rattle.stt_tableau.specs.Witnesses.{with_rows}
 use Rattle.stt_tableau.specs.Accepted.{IsAccepted}
-use Rattle.stt_tableau.specs.Closed.{Closes, tableau_of}
 use Rattle.stt_tableau.specs.Start.{start}
 use Rattle.stt_tableau.specs.declared.refutation.Refutation.{Refutation}
-use Rattle.stt_core.specs.Meaning.{Model, IsModel}
-use Rattle.stt_core.specs.Meets.{MeetsProblem}
 use Rattle.satallax_top.specs.declared.statement.TheConstants.{MAX_DEPTH}
 use Rattle.satallax_top.specs.declared.run.TheConstants.{MAX_COMMANDS}
 use Rattle.satallax_top.specs.Reading.{Stated, States, question_of}
 use Rattle.satallax_top.specs.Problems.{StatesNothing}
 use Rattle.satallax_top.specs.Run.{IsProved, IsExhausted, IsStopped}
-use Rattle.satallax_top.specs.Text.{Names, text_lines, as_bytes}
+use Rattle.satallax_top.specs.Text.{text_lines, as_bytes}
 use Rattle.satallax_top.specs.PlainNames.{names_of}
 use Rattle.satallax_top.specs.Block.{end_mark, begins_with, has_line_feed}
 use Rattle.satallax_top.specs.Words.{problem_word}
-use Rattle.satallax_top.specs.declared.outcome.FileRef.{FileRef}
 use Rattle.satallax_top.specs.declared.outcome.Outcome.{Outcome}
 use Rattle.satallax_top.specs.declared.outcome.Outcome.TheVariants.{Theorem, Unsatisfiable, GaveUp, CommandLimit, Words, TooLong, NotYetAt, ReadFault, WriteFault, Memory}
 

@@ -1,5 +1,5 @@
 -- The term of a shape.
-use Rattle.stt_core.specs.Lambda.{Lambda, constant, app, name, falsity, negation, implication, neg, imp}
+use Rattle.stt_core.specs.Lambda.{Lambda, constant, name, falsity, neg, imp}
 use Rattle.stt_core.specs.View.{the_term}
 use Rattle.satallax_top.specs.declared.start.Shape.{Shape}
 use Rattle.satallax_top.specs.declared.start.Shape.TheVariants.{Name, False, Not, Imp}

@@ -1,4 +1,4 @@
-use Rattle.std.proofs.Common.{ap, ◌∙◌}
+use Rattle.std.proofs.Common.{◌∙◌}
 use Rattle.satallax_top.specs.Words.{name_of}
 use Rattle.satallax_top.proofs.HeadlineLaws.{written_whole, proof_appended, no_model_answer, report_at}
 use Rattle.satallax_top.proofs.top.satallax.Goals as goal
