@@ -19,12 +19,13 @@ use Rattle.satallax_top.specs.declared.outcome.Outcome.{Outcome}
 use Rattle.satallax_top.specs.declared.outcome.Outcome.TheVariants.{Theorem, Unsatisfiable, GaveUp, CommandLimit, Words, TooLong, NotYetAt, ReadFault, WriteFault, Memory}
 use Rattle.satallax_top.proofs.LineFeeds.{no_feed-append, decimal_no_feed}
 use Rattle.satallax_top.proofs.StatedLaws.{states_sound, start_unnamed, start_met}
+use Rattle.satallax_top.specs.NormalQuestion.{normal_question}
 
 -- no model meets what is stated where a run over it is a proof
 no_model_of : (bytes : List ℕ) (s : Stated) (n : ℕ) (text : List ℕ) → States MAX_DEPTH bytes s → IsProofOf s n text → (m : Model) → IsModel (question_of s).scope m → MeetsProblem (question_of s) m → ⊥
 no_model_of bytes s n text h p m good met =
     let g = states_sound MAX_DEPTH bytes s h in
-    accepted_refutes (question_of s).scope (start (question_of s)) p.refutation p.accepted (start_unnamed s g) m good (start_met s g m good met)
+    accepted_refutes (question_of s).scope (start (normal_question s)) p.refutation p.accepted (start_unnamed s g) m good (start_met s g m good met)
 
 -- an answer that is a proof, whichever of the two outcomes it has
 pub record ProvedAnswer (words : List (List ℕ)) (told : Bool) (contents : List ℕ → Option (List ℕ)) (n : ℕ) (text : List ℕ) : Type 0 where
@@ -163,7 +164,7 @@ proof_reported words told contents o n text written a p w =
       is_report = is ∙ ap (report o q.name n) q.proof.is_text;
       holds_text = subst (λ x. HoldsText (names_of s.constants) x q.proof.refutation) (sym is) (holds_report o q.name s n text q.proof p (name_no_feed words q.name q.named));
       accepted = q.proof.accepted;
-      closed = accepted_closes_start (question_of s).scope (start (question_of s)) q.proof.refutation q.proof.accepted;
+      closed = accepted_closes_start (normal_question s).scope (start (normal_question s)) q.proof.refutation q.proof.accepted;
       no_model = no_model_of q.bytes s n text q.states q.proof;
     }
 

@@ -15,6 +15,7 @@ use Rattle.satallax_top.specs.Block.{end_mark, begins_with, has_line_feed}
 use Rattle.satallax_top.specs.Words.{problem_word}
 use Rattle.satallax_top.specs.declared.outcome.Outcome.{Outcome}
 use Rattle.satallax_top.specs.declared.outcome.Outcome.TheVariants.{Theorem, Unsatisfiable, GaveUp, CommandLimit, Words, TooLong, NotYetAt, ReadFault, WriteFault, Memory}
+use Rattle.satallax_top.specs.NormalQuestion.{normal_question}
 
 -- the most bytes of a problem's file
 abbrev pub max_bytes : ℕ
@@ -22,9 +23,9 @@ max_bytes = 16777216
 
 -- The run over what is stated ends after n commands, with a refutation that is accepted for its start, and whose lines are these.
 pub record IsProofOf (s : Stated) (n : ℕ) (text : List ℕ) : Type 0 where
-  pub proved : IsProved (start (question_of s)) MAX_COMMANDS n
+  pub proved : IsProved (start (normal_question s)) MAX_COMMANDS n
   pub refutation : Refutation
-  pub accepted : IsAccepted (question_of s).scope (start (question_of s)) refutation
+  pub accepted : IsAccepted (question_of s).scope (start (normal_question s)) refutation
   pub is_text : text ≡ as_bytes (text_lines (names_of s.constants) refutation)
   pub no_line_feeds : list_any has_line_feed (text_lines (names_of s.constants) refutation) ≡ false
   pub no_end_mark : list_any (begins_with end_mark) (text_lines (names_of s.constants) refutation) ≡ false
@@ -33,8 +34,8 @@ pub record IsProofOf (s : Stated) (n : ℕ) (text : List ℕ) : Type 0 where
 abbrev pub IsSolvedFor : Stated → Outcome → ℕ → List ℕ → Type 0
 IsSolvedFor s Theorem n text = IsTrue (is_some s.conjecture) × IsProofOf s n text
 IsSolvedFor s Unsatisfiable n text = IsTrue (is_none s.conjecture) × IsProofOf s n text
-IsSolvedFor s GaveUp n text = IsExhausted (start (question_of s)) MAX_COMMANDS n
-IsSolvedFor s (CommandLimit m) n text = (m ≡ n) × IsStopped (start (question_of s)) MAX_COMMANDS n
+IsSolvedFor s GaveUp n text = IsExhausted (start (normal_question s)) MAX_COMMANDS n
+IsSolvedFor s (CommandLimit m) n text = (m ≡ n) × IsStopped (start (normal_question s)) MAX_COMMANDS n
 IsSolvedFor s (NotYetAt at) n text = ⊥
 IsSolvedFor s Memory n text = ⊥
 IsSolvedFor s Words n text = ⊥

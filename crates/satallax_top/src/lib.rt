@@ -2,6 +2,7 @@
 #![tactic(auto)]
 
 mod formula;
+mod law;
 mod outcome;
 mod problem;
 mod reader;
@@ -16,6 +17,7 @@ mod token;
 mod top;
 mod words;
 
+pub use law::formulas_are_normal;
 pub use outcome::{FileRef, Outcome};
 pub use top::satallax;
 pub use words::Words;
