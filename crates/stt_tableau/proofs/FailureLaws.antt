@@ -112,9 +112,6 @@ element (x ∷ xs) (suc i) h = element xs i (omega (arith, h))
 pub types-more : (rows : List Row) (i : ℕ) (r q : Row) (done all : List SimpleType) (a : SimpleType) → slice_get rows i ≡ Some r → done ≡ map (λ x. x.type) (take i rows) → q ≡ r → a ≡ q.type → all ≡ done ++ a ∷ [] → all ≡ map (λ x. x.type) (take (i + 1) rows)
 types-more rows i r q done all a at before same is e = map_more (λ x. x.type) rows i r done all a at before (is ∙ ap (λ x. x.type) same) e
 
--- a typed line whose rule has no instance in its branch
-pub principal_fails : (sig : Signature) (types : List SimpleType) (rows : List Row) (earlier : List Line) (l line : Line) → types ≡ map (λ r. r.type) rows → l ≡ line → IsTypedLine (the_scope sig types) l → FindsInstance l.branch l.rule None → LineFails (with_rows (the_scope sig []) rows) rows earlier line Principal
-principal_fails sig types rows earlier l line e same typed none =
-    let scope : the_scope sig types ≡ with_rows (the_scope sig []) rows = ap (the_scope sig) e in
-    subst (λ k. LineFails (with_rows (the_scope sig []) rows) rows earlier k Principal) same
-    (subst (λ s. IsTypedLine s l) scope typed, λ alternatives. none (with_rows (the_scope sig []) rows) rows alternatives)
+-- a line's answer over the scope with the rows' witnesses is one over the scope with witnesses of their types
+pub over_rows : (P : Scope → Type 0) (sig : Signature) (types : List SimpleType) (rows : List Row) → types ≡ map (λ r. r.type) rows → P (the_scope sig types) → P (with_rows (the_scope sig []) rows)
+over_rows P sig types rows e h = subst (λ ts. P (the_scope sig ts)) e h

@@ -1,11 +1,13 @@
 pub mod ListLaws
 pub mod LiteralLaws
+pub mod EquationLaws
 pub mod RuleLaws
 pub mod ClosedLaws
 pub mod AcceptedLaws
 pub mod WitnessLaws
 pub mod Soundness
 pub mod ShapeLaws
+pub mod SpineShapes
 pub mod InstanceLaws
 pub mod TypedLaws
 pub mod ChildLaws

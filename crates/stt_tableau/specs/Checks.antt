@@ -1,11 +1,14 @@
 -- What the parts of the check of a refutation answer.
 use Rattle.std.specs.Prelude.{◌≡◌, ℕ, Bool, List, Option, Some, None, slice_get}
-use Rattle.stt_core.specs.Lambda.{Lambda, constant, falsity, neg, imp}
+use Rattle.stt_core.specs.Lambda.{Lambda, constant, falsity, neg, imp, eq}
+use Rattle.stt_core.specs.SimpleType.{SimpleType}
+use Rattle.stt_core.specs.View.{the_type}
 use Rattle.stt_core.specs.Typing.{Scope}
 use Rattle.stt_tableau.specs.Literals.{Literal}
 use Rattle.stt_tableau.specs.Witnesses.{Row, IsTypedRow, IsTwice}
 use Rattle.stt_tableau.specs.Rules.{IsInstance}
-use Rattle.stt_tableau.specs.Accepted.{IsTypedUse, IsRightLine, RowFails, LineFails}
+use Rattle.stt_tableau.specs.Accepted.{IsRightLine, RowFails, LineFails}
+use Rattle.stt_tableau.specs.declared.equation.Equation.{Equation}
 use Rattle.stt_tableau.specs.declared.shape.Shape.{Shape}
 use Rattle.stt_tableau.specs.declared.shape.Shape.TheVariants as shape
 use Rattle.stt_tableau.specs.declared.refutation.RuleUse.{RuleUse}
@@ -29,10 +32,15 @@ HasShapeAt branch i sign (shape.Not s) = StandsAt branch i sign (neg s.now)
 HasShapeAt branch i sign (shape.Imp s t) = StandsAt branch i sign (imp s.now t.now)
 HasShapeAt branch i sign shape.Other = StandsOther branch i sign
 
+-- the literal of this sign that stands at the place is an equation, with these parts, or none is
+abbrev pub IsEquationAt : List Literal → ℕ → Bool → Option Equation → Type 0
+IsEquationAt branch i sign (Some e) = StandsAt branch i sign (eq (the_type e.ty.now) e.left.now e.right.now)
+IsEquationAt branch i sign None = (a : SimpleType) (s t : Lambda) → StandsAt branch i sign (eq a s t) → ⊥
+
 -- the alternatives of the rule's instance in the branch, or that it has none
-abbrev pub FindsInstance : List Literal → RuleUse → Option (List (List Literal)) → Type 0
-FindsInstance branch rule (Some alternatives) = (scope : Scope) (rows : List Row) → IsTypedUse scope rule → IsInstance scope rows branch rule alternatives
-FindsInstance branch rule None = (scope : Scope) (rows : List Row) (alternatives : List (List Literal)) → IsInstance scope rows branch rule alternatives → ⊥
+abbrev pub FindsInstance : Scope → List Row → List Literal → RuleUse → Option (List (List Literal)) → Type 0
+FindsInstance scope rows branch rule (Some alternatives) = IsInstance scope rows branch rule alternatives
+FindsInstance scope rows branch rule None = (alternatives : List (List Literal)) → IsInstance scope rows branch rule alternatives → ⊥
 
 -- that the row is right, or why it fails
 abbrev pub RowAnswer : Scope → List Row → Row → Option Why → Type 0

@@ -1,6 +1,9 @@
--- The connective at a formula's head.
+-- What stands at a formula's head.
 use Rattle.std.specs.Prelude.{◌≡◌, Option, Some, None}
-use Rattle.stt_core.specs.Lambda.{name, witness, falsity, negation, implication, all, equality, choice, Lambda, bound, constant, lam, app, neg, imp}
+use Rattle.stt_core.specs.SimpleType.{SimpleType}
+use Rattle.stt_core.specs.View.{the_type}
+use Rattle.stt_core.specs.Lambda.{name, witness, falsity, negation, implication, all, equality, choice, Lambda, bound, constant, lam, app, neg, imp, eq}
+use Rattle.stt_tableau.specs.declared.equation.Equation.{Equation}
 use Rattle.stt_tableau.specs.declared.shape.Connective.{Connective}
 use Rattle.stt_tableau.specs.declared.shape.Connective.TheVariants as connective
 use Rattle.stt_tableau.specs.declared.shape.Shape.{Shape}
@@ -32,3 +35,22 @@ HasShape False t = t ≡ constant falsity
 HasShape (Not s) t = t ≡ neg s.now
 HasShape (Imp s u) t = t ≡ imp s.now u.now
 HasShape Other t = IsOther t
+
+-- the type of an equality that is a head
+abbrev pub equality_of : Lambda → Option SimpleType
+equality_of (constant (equality a)) = Some a
+equality_of (constant (name k)) = None
+equality_of (constant (witness k)) = None
+equality_of (constant falsity) = None
+equality_of (constant negation) = None
+equality_of (constant implication) = None
+equality_of (constant (all a)) = None
+equality_of (constant (choice a)) = None
+equality_of (bound k) = None
+equality_of (lam a s) = None
+equality_of (app s u) = None
+
+-- the term is an equation with these parts, or no equation
+abbrev pub IsEquation : Lambda → Option Equation → Type 0
+IsEquation t (Some e) = t ≡ eq (the_type e.ty.now) e.left.now e.right.now
+IsEquation t None = (a : SimpleType) (s u : Lambda) → t ≡ eq a s u → ⊥

@@ -13,7 +13,7 @@ ghost use Rattle.stt_tableau.specs.declared.refutation.Line.{Line as TheLine};
 use crate::children::are_children;
 use crate::instance::instance;
 use crate::lit::Lits;
-use crate::refutation::{Line, Lines, Refutation, Rows, Why, WitnessRow};
+use crate::refutation::{Line, Refutation, Rows, Why, WitnessRow};
 use crate::typed::{is_typed_branch, is_typed_row, is_typed_use};
 use std::alloc::{AllocError, Global};
 use stt_core::{Signature, Types, same_nf};
@@ -114,17 +114,26 @@ fn line_failure(
     alloc: Global,
     sig: &Signature,
     types: &Types,
-    lines: &Lines,
+    refutation: &Refutation,
     i: usize,
 ) -> Result<Option<Why>, AllocError>
-    requires { i < length lines.now }
-    ensures { IfOk result (λ why. (rows : List Row) (line : TheLine) → types.now ≡ map (λ r. r.type) rows → slice_get lines.now i ≡ Some line → LineAnswer (with_rows (the_scope sig.now []) rows) rows (take i lines.now) line why) }
+    requires at { i < length refutation.now.lines }
+    requires types { types.now ≡ map (λ r. r.type) refutation.now.witnesses }
+    ensures { IfOk result (λ why. (line : TheLine) → slice_get refutation.now.lines i ≡ Some line → LineAnswer (with_rows (the_scope sig.now []) refutation.now.witnesses) refutation.now.witnesses (take i refutation.now.lines) line why) }
 {
+    let lines = &refutation.lines;
     let line = lines.at(i);
     if !is_typed_line(alloc, sig, types, line)? {
         return Ok(Some(Why::Typing));
     }
-    match instance(alloc, &line.branch, &line.rule)? {
+    match instance(
+        alloc,
+        sig,
+        types,
+        &refutation.witnesses,
+        &line.branch,
+        &line.rule,
+    )? {
         None => Ok(Some(Why::Principal)),
         Some(alternatives) => {
             if are_children(alloc, lines, i, &line.branch, &alternatives, &line.children)? {
@@ -149,7 +158,7 @@ fn check_lines(
 {
     let lines = &refutation.lines;
     for i in 0..lines.len() {
-        if let Some(why) = line_failure(alloc, sig, types, lines, i)? {
+        if let Some(why) = line_failure(alloc, sig, types, refutation, i)? {
             let line = refutation.witnesses.len() + i;
             return Err(PlainRefused::Refused { line, why });
         }

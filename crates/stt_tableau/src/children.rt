@@ -3,7 +3,7 @@
 ghost use Rattle.std.specs.Prelude.{◌≡◌, ◌≤◌, ◌↔◌, ◌++◌, IfOk, IsTrue, length, take};
 ghost use Rattle.stt_tableau.specs.Accepted.{ClosesBy, AreChildren};
 
-use crate::instance::Alternatives;
+use crate::alternatives::Alternatives;
 use crate::lit::Lits;
 use crate::refutation::{Child, Children, Lines};
 use std::alloc::{AllocError, Global};

@@ -2,11 +2,14 @@
 #![tactic(auto)]
 
 mod accepts;
+mod alternatives;
 mod children;
+mod equation;
 mod formula;
 mod instance;
 mod law;
 mod lit;
+mod propositional;
 mod refutation;
 mod shape;
 mod typed;

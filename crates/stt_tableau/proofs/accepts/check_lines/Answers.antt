@@ -13,7 +13,7 @@ returns-in-Some-clause-refused c = λ start.
     let below : c.loop-i.i < length lines = omega (arith, c.loop-i-test.true, c.len-i-end.ensures.len) in
     let line = element lines c.loop-i.i below in
     line_refused scope start c.args.refutation.now c.len.result c.loop-i.i line.0 c.in-Some.why c.len.ensures.len line.1 c.requires.table c.loop-i.invariant
-    (subst (LineAnswer (with_rows scope rows) rows (take c.loop-i.i lines) line.0) c.in-Some.is (c.in_ok-why.ensures rows line.0 c.requires.types line.1))
+    (subst (LineAnswer (with_rows scope rows) rows (take c.loop-i.i lines) line.0) c.in-Some.is (c.in_ok-why.ensures line.0 line.1))
 
 pub loop-i-preserved : goal.loop-i-preserved
 loop-i-preserved c =
@@ -23,4 +23,4 @@ loop-i-preserved c =
     let below : c.loop-i.i < length lines = omega (arith, c.loop-i-test.true, c.len-i-end.ensures.len) in
     let line = element lines c.loop-i.i below in
     lines-more (with_rows scope rows) rows lines c.loop-i.i line.0 line.1 c.loop-i.invariant
-    (subst (LineAnswer (with_rows scope rows) rows (take c.loop-i.i lines) line.0) c.in_default.is (c.in_ok-why.ensures rows line.0 c.requires.types line.1))
+    (subst (LineAnswer (with_rows scope rows) rows (take c.loop-i.i lines) line.0) c.in_default.is (c.in_ok-why.ensures line.0 line.1))

@@ -5,4 +5,4 @@ use Rattle.stt_tableau.specs.Accepted.{AreRightLines}
 use Rattle.stt_tableau.proofs.accepts.check_lines.Given as goal
 
 abbrev pub invariant-loop-i : goal.invariant-loop-i
-invariant-loop-i l = AreRightLines (with_rows (the_scope l.sig []) l.refutation.witnesses) l.refutation.witnesses [] (take l.i l.lines)
+invariant-loop-i l = AreRightLines (with_rows (the_scope l.sig []) l.refutation.witnesses) l.refutation.witnesses [] (take l.i l.refutation.lines)

@@ -1,0 +1,50 @@
+-- When a term is a constant with arguments.
+use Rattle.std.proofs.Common.{◌≡◌, ◌≤◌, ◌<◌, ℕ, List, [], ◌∷◌, Some, None, length, slice_get, refl, sym, ap, ap₂, ◌∙◌, arith}
+use Rattle.stt_core.specs.SimpleType.{SimpleType}
+use Rattle.stt_core.specs.Lambda.{Constant, name, witness, falsity, negation, implication, all, equality, choice, Lambda, bound, constant, lam, app, eq, lambdas, applied}
+use Rattle.stt_core.proofs.SpineLaws.{IsAtom, SameParts, parts}
+use Rattle.stt_tableau.specs.Shape.{equality_of}
+
+no_binders : (bs : List SimpleType) → length bs ≤ 0 → bs ≡ []
+no_binders [] l = refl
+no_binders (b ∷ bs) l = absurd (omega (arith, l))
+
+two : (us : List Lambda) (s t : Lambda) → length us ≡ 2 → slice_get us 0 ≡ Some s → slice_get us 1 ≡ Some t → us ≡ s ∷ t ∷ []
+two [] s t n e f = absurd (omega (arith, n))
+two (v ∷ []) s t n e f = absurd (omega (arith, n))
+two (v ∷ w ∷ []) s t n e f = let p : v ≡ s = cc in let q : w ≡ t = cc in ap₂ (λ x y. x ∷ y ∷ []) p q
+two (v ∷ w ∷ x ∷ us) s t n e f = absurd (omega (arith, n))
+
+equality_head : (h : Lambda) (a : SimpleType) → equality_of h ≡ Some a → h ≡ constant (equality a)
+equality_head (bound j) a e = cc
+equality_head (lam b s) a e = cc
+equality_head (app s u) a e = cc
+equality_head (constant (name j)) a e = cc
+equality_head (constant (witness j)) a e = cc
+equality_head (constant falsity) a e = cc
+equality_head (constant negation) a e = cc
+equality_head (constant implication) a e = cc
+equality_head (constant (all b)) a e = cc
+equality_head (constant (equality b)) a e = let same : b ≡ a = cc in ap (λ x. constant (equality x)) same
+equality_head (constant (choice b)) a e = cc
+
+module _ (bs : List SimpleType) (h : Lambda) (us : List Lambda) (whole : Lambda) (atom : IsAtom h) (view : lambdas bs (applied h us) ≡ whole) where
+  -- the parts of a term that is a constant with arguments
+  pub spine_parts : (c : Constant) (vs : List Lambda) → whole ≡ applied (constant c) vs → SameParts bs [] h (constant c) us vs
+  spine_parts c vs e = parts bs [] h (constant c) us vs atom tt (view ∙ e)
+
+  -- a term without binders is its head with its arguments
+  pub spine_is : length bs ≤ 0 → (k : Lambda) → h ≡ k → (vs : List Lambda) → us ≡ vs → whole ≡ applied k vs
+  spine_is unbound k e vs f = sym view ∙ ap₂ lambdas (no_binders bs unbound) (ap₂ applied e f)
+
+  pub no_equation-binders : 0 < length bs → (a : SimpleType) (s t : Lambda) → whole ≡ eq a s t → ⊥
+  no_equation-binders some a s t e = absurd (omega (arith, some, ap length (spine_parts (equality a) (s ∷ t ∷ []) e).binders))
+
+  pub no_equation-count : (length us ≡ 2 → ⊥) → (a : SimpleType) (s t : Lambda) → whole ≡ eq a s t → ⊥
+  no_equation-count count a s t e = count (ap length (spine_parts (equality a) (s ∷ t ∷ []) e).arguments)
+
+  pub no_equation-head : None ≡ equality_of h → (a : SimpleType) (s t : Lambda) → whole ≡ eq a s t → ⊥
+  no_equation-head none a s t e = let p : None ≡ Some a = none ∙ ap equality_of (spine_parts (equality a) (s ∷ t ∷ []) e).head in cc
+
+  pub is_equation : length bs ≤ 0 → (a : SimpleType) (s t : Lambda) → Some a ≡ equality_of h → length us ≡ 2 → slice_get us 0 ≡ Some s → slice_get us 1 ≡ Some t → whole ≡ eq a s t
+  is_equation unbound a s t e n f g = spine_is unbound (constant (equality a)) (equality_head h a (sym e)) (s ∷ t ∷ []) (two us s t n f g)

@@ -1,6 +1,0 @@
-use Rattle.std.proofs.Common.{sym}
-use Rattle.stt_tableau.proofs.InstanceLaws.{close_is}
-use Rattle.stt_tableau.proofs.instance.close_instance.Goals as goal
-
-pub returns-then-is_opposite : goal.returns-then-is_opposite
-returns-then-is_opposite c = λ scope rows typed. close_is scope rows c.args.branch.now c.args.i c.args.j c.in-Some.lit.now c.in-Some-get.other.now c.new.result (sym c.in-Some.ensures) (sym c.in-Some-get.ensures) (c.is_opposite.ensures.0 c.if-is_opposite.true) c.new.ensures
