@@ -9,6 +9,18 @@ use crate::outcome::Outcome;
 use itoa::Buffer;
 use outside::{Failed, Sink, write_all_counted, write_pieces};
 
+const THEOREM: &[u8] = b"% SZS status Theorem for ";
+
+const UNSATISFIABLE: &[u8] = b"% SZS status Unsatisfiable for ";
+
+const GAVE_UP: &[u8] = b"% SZS status GaveUp for ";
+
+const RESOURCE_OUT: &[u8] = b"% SZS status ResourceOut for ";
+
+const INPUT_ERROR: &[u8] = b"% SZS status InputError for ";
+
+const USAGE: &[u8] = b"% usage: satallax [--mode FILE] [--check FILE] [--demo N] PROBLEM\n";
+
 /// Writes a report of two lines.
 fn write_headed<S: Sink>(
     out: &mut S,
@@ -116,68 +128,17 @@ pub(crate) fn write_report<S: Sink>(
     ensures later { S.faults out.old ≤ S.faults out.new }
 {
     match outcome {
-        Outcome::Theorem => { write_proof(out, b"% SZS status Theorem for ", name, commands, text) }
-        Outcome::Unsatisfiable => {
-            write_proof(
-                out,
-                b"% SZS status Unsatisfiable for ",
-                name,
-                commands,
-                text,
-            )
-        }
-        Outcome::GaveUp => {
-            write_numbered(
-                out,
-                b"% SZS status GaveUp for ",
-                name,
-                b"% commands ",
-                commands,
-            )
-        }
+        Outcome::Theorem => write_proof(out, THEOREM, name, commands, text),
+        Outcome::Unsatisfiable => write_proof(out, UNSATISFIABLE, name, commands, text),
+        Outcome::GaveUp => write_numbered(out, GAVE_UP, name, b"% commands ", commands),
         Outcome::CommandLimit { commands: limit } => {
-            write_numbered(
-                out,
-                b"% SZS status ResourceOut for ",
-                name,
-                b"% command limit ",
-                limit,
-            )
+            write_numbered(out, RESOURCE_OUT, name, b"% command limit ", limit)
         }
-        Outcome::Words => write_all_counted(
-            out,
-            b"% usage: satallax [--mode FILE] [--check FILE] [--demo N] PROBLEM\n",
-        ),
-        Outcome::TooLong { .. } => {
-            write_headed(
-                out,
-                b"% SZS status InputError for ",
-                name,
-                b"% too long ",
-                name,
-            )
-        }
-        Outcome::NotYetAt { at } => {
-            write_numbered(out, b"% SZS status GaveUp for ", name, b"% not yet ", at)
-        }
-        Outcome::ReadFault { .. } => {
-            write_headed(
-                out,
-                b"% SZS status InputError for ",
-                name,
-                b"% read fault ",
-                name,
-            )
-        }
+        Outcome::Words => write_all_counted(out, USAGE),
+        Outcome::TooLong { .. } => write_headed(out, INPUT_ERROR, name, b"% too long ", name),
+        Outcome::NotYetAt { at } => write_numbered(out, GAVE_UP, name, b"% not yet ", at),
+        Outcome::ReadFault { .. } => write_headed(out, INPUT_ERROR, name, b"% read fault ", name),
         Outcome::WriteFault => Ok(()),
-        Outcome::Memory => {
-            write_headed(
-                out,
-                b"% SZS status ResourceOut for ",
-                name,
-                b"% memory",
-                b"",
-            )
-        }
+        Outcome::Memory => write_headed(out, RESOURCE_OUT, name, b"% memory", b""),
     }
 }
