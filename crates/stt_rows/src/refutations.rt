@@ -9,7 +9,7 @@ use stt_tableau::{
     accepts_plain,
 };
 
-/// A rule with the places of its principals, and for the cut with its literal.
+/// A rule with the places of its principals, and with the text of the term or the literal that it takes.
 #[derive(Clone, Copy, Debug)]
 enum Rule {
     False(usize),
@@ -17,6 +17,16 @@ enum Rule {
     Refl(usize),
     ImpPos(usize),
     ImpNeg(usize),
+    BoolPos(usize),
+    BoolNeg(usize),
+    FunPos(usize),
+    FunNeg(usize),
+    AllPos(usize, &'static str),
+    AllNeg(usize),
+    Mat(usize, usize),
+    Dec(usize),
+    Con(usize, usize),
+    Cho(&'static str),
     Cut(&'static str),
 }
 
@@ -186,11 +196,502 @@ const ROWS: &[Row] = &[
         &[(&["+>pq", "-p"], Rule::ImpNeg(0), &[Child::Closed])],
         Some((0, Why::Principal)),
     ),
+    // Equations with equal sides, and with unlike ones.
+    (&[], &["-=cc"], &[(&["-=cc"], Rule::Refl(0), &[])], None),
     (
         &[],
-        &["+p"],
-        &[(&["+p"], Rule::Refl(0), &[])],
+        &["-E^f0^f0"],
+        &[(&["-E^f0^f0"], Rule::Refl(0), &[])],
+        None,
+    ),
+    (
+        &[],
+        &["-=cd"],
+        &[(&["-=cd"], Rule::Refl(0), &[])],
         Some((0, Why::Principal)),
+    ),
+    (
+        &[],
+        &["+=cc"],
+        &[(&["+=cc"], Rule::Refl(0), &[])],
+        Some((0, Why::Principal)),
+    ),
+    (
+        &[],
+        &["-bpp"],
+        &[(&["-bpp"], Rule::Refl(0), &[Child::Closed])],
+        Some((0, Why::Child)),
+    ),
+    // Equations of formulas.
+    (
+        &[],
+        &["+bpq", "+p", "-q"],
+        &[(
+            &["+bpq", "+p", "-q"],
+            Rule::BoolPos(0),
+            &[Child::Closed, Child::Closed],
+        )],
+        None,
+    ),
+    (
+        &[],
+        &["-b~pq", "+p", "-q"],
+        &[(
+            &["-b~pq", "+p", "-q"],
+            Rule::BoolNeg(0),
+            &[Child::Closed, Child::Closed],
+        )],
+        None,
+    ),
+    (
+        &[],
+        &["-bpq", "+p", "+q"],
+        &[(
+            &["-bpq", "+p", "+q"],
+            Rule::BoolNeg(0),
+            &[Child::Closed, Child::Closed],
+        )],
+        None,
+    ),
+    (
+        &[],
+        &["-bpq", "+p", "-q"],
+        &[(
+            &["-bpq", "+p", "-q"],
+            Rule::BoolPos(0),
+            &[Child::Closed, Child::Closed],
+        )],
+        Some((0, Why::Principal)),
+    ),
+    (
+        &[],
+        &["+bpq", "+p", "+q"],
+        &[(
+            &["+bpq", "+p", "+q"],
+            Rule::BoolNeg(0),
+            &[Child::Closed, Child::Closed],
+        )],
+        Some((0, Why::Principal)),
+    ),
+    (
+        &[],
+        &["+=cd"],
+        &[(&["+=cd"], Rule::BoolPos(0), &[Child::Closed, Child::Closed])],
+        Some((0, Why::Principal)),
+    ),
+    (
+        &[],
+        &["-=cd"],
+        &[(&["-=cd"], Rule::BoolNeg(0), &[Child::Closed, Child::Closed])],
+        Some((0, Why::Principal)),
+    ),
+    (
+        &[],
+        &["+bpq", "+p", "-q"],
+        &[(&["+bpq", "+p", "-q"], Rule::BoolPos(0), &[Child::Closed])],
+        Some((0, Why::Child)),
+    ),
+    (
+        &[],
+        &["+bpq", "+p", "+q"],
+        &[(
+            &["+bpq", "+p", "+q"],
+            Rule::BoolPos(0),
+            &[Child::Closed, Child::Closed],
+        )],
+        Some((0, Why::Child)),
+    ),
+    (
+        &[],
+        &["-bpq", "+p", "-q"],
+        &[(
+            &["-bpq", "+p", "-q"],
+            Rule::BoolNeg(0),
+            &[Child::Closed, Child::Closed],
+        )],
+        Some((0, Why::Child)),
+    ),
+    // Equations of functions.
+    (
+        &[],
+        &["+E^f0^k0", "-A^=f0k0"],
+        &[(&["+E^f0^k0", "-A^=f0k0"], Rule::FunPos(0), &[Child::Closed])],
+        None,
+    ),
+    (
+        &[],
+        &["-E^f0^k0", "+A^=f0k0"],
+        &[(&["-E^f0^k0", "+A^=f0k0"], Rule::FunNeg(0), &[Child::Closed])],
+        None,
+    ),
+    (
+        &[],
+        &["+P^h0^l0", "-A^bh0l0"],
+        &[(&["+P^h0^l0", "-A^bh0l0"], Rule::FunPos(0), &[Child::Closed])],
+        None,
+    ),
+    (
+        &[],
+        &["-E^f0^k0", "-A^=f0k0"],
+        &[(&["-E^f0^k0", "-A^=f0k0"], Rule::FunPos(0), &[Child::Closed])],
+        Some((0, Why::Principal)),
+    ),
+    (
+        &[],
+        &["+E^f0^k0", "+A^=f0k0"],
+        &[(&["+E^f0^k0", "+A^=f0k0"], Rule::FunNeg(0), &[Child::Closed])],
+        Some((0, Why::Principal)),
+    ),
+    (
+        &[],
+        &["+=cd"],
+        &[(&["+=cd"], Rule::FunPos(0), &[Child::Closed])],
+        Some((0, Why::Principal)),
+    ),
+    (
+        &[],
+        &["-bpq"],
+        &[(&["-bpq"], Rule::FunNeg(0), &[Child::Closed])],
+        Some((0, Why::Principal)),
+    ),
+    (
+        &[],
+        &["+E^f0^k0", "-A^=k0f0"],
+        &[(&["+E^f0^k0", "-A^=k0f0"], Rule::FunPos(0), &[Child::Closed])],
+        Some((0, Why::Child)),
+    ),
+    // Quantified formulas, with terms and with witnesses.
+    (
+        &[],
+        &["+A^h0", "-hc"],
+        &[(&["+A^h0", "-hc"], Rule::AllPos(0, "c"), &[Child::Closed])],
+        None,
+    ),
+    (
+        &[],
+        &["+A^>h0m00", "-hc"],
+        &[(
+            &["+A^>h0m00", "-hc"],
+            Rule::AllPos(0, "d"),
+            &[Child::Closed],
+        )],
+        Some((0, Why::Child)),
+    ),
+    (
+        &[],
+        &["+A^~h0", "+hfc"],
+        &[(&["+A^~h0", "+hfc"], Rule::AllPos(0, "fc"), &[Child::Closed])],
+        None,
+    ),
+    (
+        &[(1, "^h0")],
+        &["+A^h0", "-hw"],
+        &[(&["+A^h0", "-hw"], Rule::AllPos(0, "w"), &[Child::Closed])],
+        None,
+    ),
+    (
+        &[],
+        &["-A^h0", "-hc"],
+        &[(&["-A^h0", "-hc"], Rule::AllPos(0, "c"), &[Child::Closed])],
+        Some((0, Why::Principal)),
+    ),
+    (
+        &[],
+        &["+hc", "-hc"],
+        &[(&["+hc", "-hc"], Rule::AllPos(0, "c"), &[Child::Closed])],
+        Some((0, Why::Principal)),
+    ),
+    (
+        &[],
+        &["+A^h0", "-hc"],
+        &[(&["+A^h0", "-hc"], Rule::AllPos(0, "p"), &[Child::Closed])],
+        Some((0, Why::Principal)),
+    ),
+    (
+        &[],
+        &["+A^h0", "-hc"],
+        &[(&["+A^h0", "-hc"], Rule::AllPos(0, "^h0"), &[Child::Closed])],
+        Some((0, Why::Principal)),
+    ),
+    (
+        &[],
+        &["+A^h0", "-hc"],
+        &[(&["+A^h0", "-hc"], Rule::AllPos(0, "0"), &[Child::Closed])],
+        Some((0, Why::Typing)),
+    ),
+    (
+        &[],
+        &["+A^h0", "-hc"],
+        &[(&["+A^h0", "-hc"], Rule::AllPos(0, "w"), &[Child::Closed])],
+        Some((0, Why::Typing)),
+    ),
+    (
+        &[],
+        &["+A^h0", "-hc"],
+        &[(&["+A^h0", "-hc"], Rule::AllPos(0, "d"), &[Child::Closed])],
+        Some((0, Why::Child)),
+    ),
+    (
+        &[(1, "^h0")],
+        &["-A^h0", "+hw"],
+        &[(&["-A^h0", "+hw"], Rule::AllNeg(0), &[Child::Closed])],
+        None,
+    ),
+    (
+        &[(1, "^~h0"), (1, "^h0")],
+        &["-A^h0", "+hx"],
+        &[(&["-A^h0", "+hx"], Rule::AllNeg(0), &[Child::Closed])],
+        None,
+    ),
+    (
+        &[(1, "^~h0")],
+        &["-A^h0", "+hw"],
+        &[(&["-A^h0", "+hw"], Rule::AllNeg(0), &[Child::Closed])],
+        Some((1, Why::Principal)),
+    ),
+    (
+        &[],
+        &["-A^h0", "+hc"],
+        &[(&["-A^h0", "+hc"], Rule::AllNeg(0), &[Child::Closed])],
+        Some((0, Why::Principal)),
+    ),
+    (
+        &[(1, "^h0")],
+        &["+A^h0", "-hw"],
+        &[(&["+A^h0", "-hw"], Rule::AllNeg(0), &[Child::Closed])],
+        Some((1, Why::Principal)),
+    ),
+    (
+        &[(1, "^~h0"), (1, "^h0")],
+        &["-A^h0", "+hw"],
+        &[(&["-A^h0", "+hw"], Rule::AllNeg(0), &[Child::Closed])],
+        Some((2, Why::Child)),
+    ),
+    (
+        &[(1, "^h0")],
+        &["-A^h0", "-hw"],
+        &[(&["-A^h0", "-hw"], Rule::AllNeg(0), &[Child::Closed])],
+        Some((1, Why::Child)),
+    ),
+    // Choice.
+    (
+        &[],
+        &["-A^~h0", "-hC^h0"],
+        &[(
+            &["-A^~h0", "-hC^h0"],
+            Rule::Cho("^h0"),
+            &[Child::Closed, Child::Closed],
+        )],
+        None,
+    ),
+    (
+        &[],
+        &["+q", "-A^~h0", "-hC^h0"],
+        &[(
+            &["+q", "-A^~h0", "-hC^h0"],
+            Rule::Cho("^h0"),
+            &[Child::Closed],
+        )],
+        Some((0, Why::Child)),
+    ),
+    (
+        &[],
+        &["-A^h0", "-hC^h0"],
+        &[(
+            &["-A^h0", "-hC^h0"],
+            Rule::Cho("^h0"),
+            &[Child::Closed, Child::Closed],
+        )],
+        Some((0, Why::Child)),
+    ),
+    (
+        &[],
+        &["-A^~h0", "-hC^h0"],
+        &[(
+            &["-A^~h0", "-hC^h0"],
+            Rule::Cho("c"),
+            &[Child::Closed, Child::Closed],
+        )],
+        Some((0, Why::Typing)),
+    ),
+    (
+        &[],
+        &["-A^~h0", "-hC^h0"],
+        &[(
+            &["-A^~h0", "-hC^h0"],
+            Rule::Cho("^c"),
+            &[Child::Closed, Child::Closed],
+        )],
+        Some((0, Why::Typing)),
+    ),
+    // Heads with arguments.
+    (
+        &[],
+        &["+hc", "-hd", "+=cd"],
+        &[(&["+hc", "-hd", "+=cd"], Rule::Mat(0, 1), &[Child::Closed])],
+        None,
+    ),
+    (
+        &[],
+        &["-mdc", "+=cd", "+mcd", "+=dc"],
+        &[(
+            &["-mdc", "+=cd", "+mcd", "+=dc"],
+            Rule::Mat(2, 0),
+            &[Child::Closed, Child::Closed],
+        )],
+        None,
+    ),
+    (
+        &[],
+        &["-=C^h0C^l0", "+P^h0^l0"],
+        &[(&["-=C^h0C^l0", "+P^h0^l0"], Rule::Dec(0), &[Child::Closed])],
+        None,
+    ),
+    (
+        &[],
+        &["-=fcfd", "+=cd"],
+        &[(&["-=fcfd", "+=cd"], Rule::Dec(0), &[Child::Closed])],
+        None,
+    ),
+    (
+        &[],
+        &["+hc", "-hd", "+=cd"],
+        &[(&["+hc", "-hd", "+=cd"], Rule::Mat(1, 0), &[Child::Closed])],
+        Some((0, Why::Principal)),
+    ),
+    (
+        &[],
+        &["+hc", "-ld", "+=cd"],
+        &[(&["+hc", "-ld", "+=cd"], Rule::Mat(0, 1), &[Child::Closed])],
+        Some((0, Why::Principal)),
+    ),
+    (
+        &[],
+        &["+p", "-p"],
+        &[(&["+p", "-p"], Rule::Mat(0, 1), &[])],
+        Some((0, Why::Principal)),
+    ),
+    (
+        &[],
+        &["+A^h0", "-A^l0"],
+        &[(&["+A^h0", "-A^l0"], Rule::Mat(0, 1), &[Child::Closed])],
+        Some((0, Why::Principal)),
+    ),
+    (
+        &[],
+        &["+>pq", "->qp"],
+        &[(
+            &["+>pq", "->qp"],
+            Rule::Mat(0, 1),
+            &[Child::Closed, Child::Closed],
+        )],
+        Some((0, Why::Principal)),
+    ),
+    (
+        &[],
+        &["+mcd", "-mdc", "+=cd"],
+        &[(&["+mcd", "-mdc", "+=cd"], Rule::Mat(0, 1), &[Child::Closed])],
+        Some((0, Why::Child)),
+    ),
+    (
+        &[],
+        &["+hc", "-hd", "+=dc"],
+        &[(&["+hc", "-hd", "+=dc"], Rule::Mat(0, 1), &[Child::Closed])],
+        Some((0, Why::Child)),
+    ),
+    (
+        &[],
+        &["+=fcfd", "+=cd"],
+        &[(&["+=fcfd", "+=cd"], Rule::Dec(0), &[Child::Closed])],
+        Some((0, Why::Principal)),
+    ),
+    (
+        &[],
+        &["-=fckd", "+=cd"],
+        &[(&["-=fckd", "+=cd"], Rule::Dec(0), &[Child::Closed])],
+        Some((0, Why::Principal)),
+    ),
+    (
+        &[],
+        &["-=cd", "+=cd"],
+        &[(&["-=cd", "+=cd"], Rule::Dec(0), &[])],
+        Some((0, Why::Principal)),
+    ),
+    (
+        &[],
+        &["-bhchd", "+=cd"],
+        &[(&["-bhchd", "+=cd"], Rule::Dec(0), &[Child::Closed])],
+        Some((0, Why::Principal)),
+    ),
+    (
+        &[],
+        &["-=fcfd", "+=dc"],
+        &[(&["-=fcfd", "+=dc"], Rule::Dec(0), &[Child::Closed])],
+        Some((0, Why::Child)),
+    ),
+    // Two equations.
+    (
+        &[],
+        &["+=cd", "-=dc"],
+        &[
+            (&["-=cc"], Rule::Refl(0), &[]),
+            (
+                &["+=cd", "-=dc"],
+                Rule::Con(0, 1),
+                &[Child::Closed, Child::Line(0)],
+            ),
+        ],
+        None,
+    ),
+    (
+        &[],
+        &["+=cd", "-=dc"],
+        &[(
+            &["+=cd", "-=dc"],
+            Rule::Con(1, 0),
+            &[Child::Closed, Child::Closed],
+        )],
+        Some((0, Why::Principal)),
+    ),
+    (
+        &[],
+        &["+=cd", "-bpq"],
+        &[(
+            &["+=cd", "-bpq"],
+            Rule::Con(0, 1),
+            &[Child::Closed, Child::Closed],
+        )],
+        Some((0, Why::Principal)),
+    ),
+    (
+        &[],
+        &["+bpq", "-bqp"],
+        &[(
+            &["+bpq", "-bqp"],
+            Rule::Con(0, 1),
+            &[Child::Closed, Child::Closed],
+        )],
+        Some((0, Why::Principal)),
+    ),
+    (
+        &[],
+        &["+E^f0^k0", "-E^k0^f0"],
+        &[(
+            &["+E^f0^k0", "-E^k0^f0"],
+            Rule::Con(0, 1),
+            &[Child::Closed, Child::Closed],
+        )],
+        Some((0, Why::Principal)),
+    ),
+    (
+        &[],
+        &["+=cd", "-=dc"],
+        &[(
+            &["+=cd", "-=dc"],
+            Rule::Con(0, 1),
+            &[Child::Closed, Child::Closed],
+        )],
+        Some((0, Why::Child)),
     ),
     // A child too few, one too many, one that is no earlier line, one about more, and one that isn't closed.
     (
@@ -326,6 +827,16 @@ fn rule_use(alloc: Global, rule: Rule) -> Result<RuleUse, Fail> {
         Rule::Refl(i) => Ok(RuleUse::Refl(i)),
         Rule::ImpPos(i) => Ok(RuleUse::ImpPos(i)),
         Rule::ImpNeg(i) => Ok(RuleUse::ImpNeg(i)),
+        Rule::BoolPos(i) => Ok(RuleUse::BoolPos(i)),
+        Rule::BoolNeg(i) => Ok(RuleUse::BoolNeg(i)),
+        Rule::FunPos(i) => Ok(RuleUse::FunPos(i)),
+        Rule::FunNeg(i) => Ok(RuleUse::FunNeg(i)),
+        Rule::AllPos(i, text) => Ok(RuleUse::AllPos(i, term(alloc, text)?)),
+        Rule::AllNeg(i) => Ok(RuleUse::AllNeg(i)),
+        Rule::Mat(i, j) => Ok(RuleUse::Mat(i, j)),
+        Rule::Dec(i) => Ok(RuleUse::Dec(i)),
+        Rule::Con(i, j) => Ok(RuleUse::Con(i, j)),
+        Rule::Cho(text) => Ok(RuleUse::Cho(term(alloc, text)?)),
         Rule::Cut(text) => Ok(RuleUse::Cut(literal(alloc, text)?)),
     }
 }

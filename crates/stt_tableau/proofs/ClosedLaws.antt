@@ -1,15 +1,17 @@
 -- No model meets a branch that a tableau closes.
-use Rattle.std.proofs.Common.{List, [], ◌∷◌, ◌++◌, ⊎_elim, Contains, subst, arith}
-use Rattle.stt_core.specs.Typing.{Scope}
+use Rattle.std.proofs.Common.{◌≡◌, map, List, [], ◌∷◌, ◌++◌, ⊎_elim, Contains, subst, arith}
+use Rattle.stt_core.specs.Typing.{Scope, IsScope}
 use Rattle.stt_core.specs.Meaning.{Model, IsModel}
 use Rattle.stt_tableau.specs.Literals.{Literal, opposite, IsLiteral, IsBranch}
 use Rattle.stt_tableau.specs.Meets.{MeetsLiteral, MeetsBranch, MeetsOne}
 use Rattle.stt_tableau.specs.Witnesses.{Row}
+use Rattle.stt_tableau.specs.Along.{GoesAlong}
 use Rattle.stt_tableau.specs.Accepted.{Within}
 use Rattle.stt_tableau.specs.Closed.{Tableau, leaf, node, Tableaux, none, more, Closes, CloseAll}
 use Rattle.stt_tableau.proofs.ListLaws.{contains_cases}
 use Rattle.stt_tableau.proofs.LiteralLaws.{branch-append, meets-append, not_both}
-use Rattle.stt_tableau.proofs.RuleLaws.{AreBranches, alternatives_are_literals, rule_keeps}
+use Rattle.stt_tableau.proofs.DecompositionLaws.{AreBranches}
+use Rattle.stt_tableau.proofs.RuleLaws.{alternatives_are_literals, rule_keeps}
 
 pub literal_in : (scope : Scope) (l : Literal) (branch : List Literal) → Contains branch l → IsBranch scope branch → IsLiteral scope l
 literal_in scope l [] c h = absurd (omega (arith, c.1))
@@ -29,7 +31,7 @@ pub meets-within : (scope : Scope) (m : Model) (ls branch : List Literal) → Wi
 meets-within scope m [] branch w h = tt
 meets-within scope m (l ∷ ls) branch w h = (met_in scope m l branch w.0 h, meets-within scope m ls branch w.1 h)
 
-module _ (scope : Scope) (rows : List Row) (m : Model) (good : IsModel scope m) where
+module _ (scope : Scope) (over : IsScope scope) (rows : List Row) (types : scope.witnesses ≡ map (λ r. r.type) rows) (m : Model) (good : IsModel scope m) (along : GoesAlong scope m rows) where
   mutual
     -- a branch of literals that a tableau closes is met by no model
     pub closes_refutes : (tableau : Tableau) (branch : List Literal) → Closes scope rows tableau branch → IsBranch scope branch → MeetsBranch scope m branch → ⊥
@@ -37,8 +39,8 @@ module _ (scope : Scope) (rows : List Row) (m : Model) (good : IsModel scope m) 
         not_both scope m c.literal (met_in scope m c.literal branch c.holds met) (met_in scope m (opposite c.literal) branch c.holds_opposite met)
     closes_refutes (node rule principals children) branch c typed met =
         let principals_typed = branch-within scope principals branch c.2 typed in
-        close_all_refutes children c.0 branch c.3 typed (alternatives_are_literals scope rows rule principals c.0 c.1 principals_typed) met
-        (rule_keeps scope m good rows rule principals c.0 c.1 principals_typed (meets-within scope m principals branch c.2 met))
+        close_all_refutes children c.0 branch c.3 typed (alternatives_are_literals scope over rows types rule principals c.0 c.1 principals_typed) met
+        (rule_keeps scope over m good rows types along rule principals c.0 c.1 principals_typed (meets-within scope m principals branch c.2 met))
 
     close_all_refutes : (children : Tableaux) (alternatives : List (List Literal)) (branch : List Literal) → CloseAll scope rows children alternatives branch → IsBranch scope branch → AreBranches scope alternatives → MeetsBranch scope m branch → MeetsOne scope m alternatives → ⊥
     close_all_refutes children [] branch c typed _ met one = one

@@ -1,5 +1,5 @@
 -- Equations between canonical terms, and when a model meets them.
-use Rattle.std.proofs.Common.{◌≡◌, ℕ, ◌<◌, [], Some, None, refl, sym, ap, subst, ◌∙◌, Bool, true, false, nat_eq, if◌then◌else◌, ◌⊎◌, inl, inr, eqb-true, eq-eqb, arith}
+use Rattle.std.proofs.Common.{◌≡◌, ℕ, ◌<◌, List, [], Some, None, refl, sym, ap, subst, ◌∙◌, Bool, true, false, nat_eq, if◌then◌else◌, ◌⊎◌, inl, inr, eqb-true, eq-eqb, arith}
 use Rattle.stt_core.specs.SimpleType.{SimpleType, arrow, formula, predicate, is_declared}
 use Rattle.stt_core.specs.Lambda.{Lambda, equality, eq}
 use Rattle.stt_core.specs.Typing.{Scope}
@@ -11,13 +11,13 @@ use Rattle.stt_tableau.specs.Literals.{plus, minus, IsLiteral}
 use Rattle.stt_tableau.specs.Meets.{MeetsLiteral}
 
 -- the type of a canonical equation is declared, and its sides are canonical and have it
-pub record Sides (scope : Scope) (a : SimpleType) (s t : Lambda) : Type 0 where
+pub record Sides (scope : Scope) (ctx : List SimpleType) (a : SimpleType) (s t : Lambda) : Type 0 where
   pub declared : is_declared scope.bases a ≡ true
-  pub left : IsCanonical scope [] a s
-  pub right : IsCanonical scope [] a t
+  pub left : IsCanonical scope ctx a s
+  pub right : IsCanonical scope ctx a t
 
 module _ (scope : Scope) (a : SimpleType) (s t : Lambda) where
-  pub eq_canonical : IsCanonical scope [] formula (eq a s t) → Sides scope a s t
+  pub eq_canonical : IsCanonical scope [] formula (eq a s t) → Sides scope [] a s t
   eq_canonical h =
       let g = given scope a (arrow a (predicate a)) (arrow h.1.1.0 (arrow h.1.0 formula)) h.1.1.1 in
       let is = g.is in
@@ -25,13 +25,13 @@ module _ (scope : Scope) (a : SimpleType) (s t : Lambda) where
       let q : h.1.0 ≡ a = cc in
       record { declared = g.declared; left = subst (λ c. IsCanonical scope [] c s) p h.1.1.2; right = subst (λ c. IsCanonical scope [] c t) q h.1.2 }
 
-  pub canonical-eq : Sides scope a s t → IsCanonical scope [] formula (eq a s t)
-  canonical-eq e =
+  pub canonical-eq : (ctx : List SimpleType) → Sides scope ctx a s t → IsCanonical scope ctx formula (eq a s t)
+  canonical-eq ctx e =
       (tt, (a, (a, ap (λ b. if b then Some (arrow a (predicate a)) else None) e.declared, e.left), e.right))
 
   -- that the sides differ is a literal
-  pub differ-is_literal : Sides scope a s t → IsLiteral scope (minus (eq a s t))
-  differ-is_literal e = record { formula = canonical-eq e; unsigned = refl }
+  pub differ-is_literal : Sides scope [] a s t → IsLiteral scope (minus (eq a s t))
+  differ-is_literal e = record { formula = canonical-eq [] e; unsigned = refl }
 
 -- two numbers are the same or not
 pub same_or_not : (x y : ℕ) → (x ≡ y) ⊎ (x ≡ y → ⊥)
@@ -41,10 +41,10 @@ same_or_not x y = go (nat_eq x y) refl
     go true e = inl (eqb-true x y e)
     go false e = inr (λ q. let p : nat_eq x y ≡ true = eq-eqb x y q in cc)
 
-abbrev test : Bool → ℕ
+abbrev pub test : Bool → ℕ
 test b = if b then 1 else 0
 
-test_one : (x y : ℕ) → test (nat_eq x y) ≡ 1 → x ≡ y
+pub test_one : (x y : ℕ) → test (nat_eq x y) ≡ 1 → x ≡ y
 test_one x y h = go (nat_eq x y) refl h
   where
     go : (b : Bool) → nat_eq x y ≡ b → test b ≡ 1 → x ≡ y
@@ -58,7 +58,7 @@ test_zero x y n = go (nat_eq x y) refl
     go true e = absurd (n (eqb-true x y e))
     go false e = refl
 
-module _ (scope : Scope) (m : Model) (good : IsModel scope m) (a : SimpleType) (s t : Lambda) (sides : Sides scope a s t) where
+module _ (scope : Scope) (m : Model) (good : IsModel scope m) (a : SimpleType) (s t : Lambda) (sides : Sides scope [] a s t) where
   value-eq-canonical : value scope m [] [] (eq a s t) ≡ test (nat_eq (value scope m [] [] s) (value scope m [] [] t))
   value-eq-canonical =
       value-eq scope m good [] [] tt a s t (record { declared = sides.declared; left = type_of-canonical scope [] a s sides.left; right = type_of-canonical scope [] a t sides.right })

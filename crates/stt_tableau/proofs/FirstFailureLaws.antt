@@ -11,7 +11,8 @@ use Rattle.stt_tableau.specs.declared.refutation.Why.TheVariants.{Form, Start, E
 use Rattle.stt_tableau.specs.Refused.{IfRefused}
 use Rattle.stt_tableau.specs.declared.accepts.PlainRefused.{PlainRefused}
 use Rattle.stt_tableau.specs.declared.accepts.PlainRefused.TheVariants.{Refused, Memory}
-use Rattle.stt_tableau.proofs.InstanceLaws.{one_instance}
+use Rattle.stt_tableau.proofs.InstanceLaws.{AreDistinct, one_instance}
+use Rattle.stt_tableau.proofs.AlongLaws.{same_row}
 
 -- two ways to take an element out of a list: the same one, or the one stands before the other
 pub split_cases : {A : Type 0} (P : Type 0) (f g b c : List A) (x y : A) → f ++ x ∷ b ≡ g ++ y ∷ c → (f ≡ g → x ≡ y → P) → ((mid : List A) → g ≡ f ++ x ∷ mid → P) → ((mid : List A) → f ≡ g ++ y ∷ mid → P) → P
@@ -73,12 +74,12 @@ module _ (scope : Scope) (earlier : List Row) (r : Row) where
   one_row_why ChildWrong other h k = absurd h
   one_row_why Last other h k = absurd h
 
-module _ (scope : Scope) (rows : List Row) (earlier : List Line) (line : Line) where
+module _ (scope : Scope) (rows : List Row) (distinct : AreDistinct rows) (earlier : List Line) (line : Line) where
   line_fails_not : (why : Why) → LineFails scope rows earlier line why → IsRightLine scope rows earlier line → ⊥
   line_fails_not Typing h right = h right.typed
   line_fails_not Principal h right = h.1 right.alternatives right.instance
   line_fails_not ChildWrong h right =
-      let same = one_instance scope rows line.branch line.rule right.alternatives h.1.0 right.instance h.1.1 in
+      let same = one_instance scope rows distinct line.branch line.rule right.alternatives h.1.0 right.instance h.1.1 in
       h.1.2 (subst (λ a. AreChildren earlier line.branch a line.children) same right.children)
   line_fails_not Form h right = h
   line_fails_not Start h right = h
@@ -129,7 +130,7 @@ module _ (scope : Scope) (start : List Literal) (refutation : Refutation) where
       row_fails_not scope front r why fails (table_at scope [] front back r (subst (IsTable scope) is accepted.table))
   accepted_no_failure _ _ (at_line front back line why table is right fails) accepted =
       let rows = refutation.witnesses in
-      line_fails_not (with_rows scope rows) rows front line why fails (lines_at (with_rows scope rows) rows [] front back line (subst (AreRightLines (with_rows scope rows) rows []) is accepted.lines))
+      line_fails_not (with_rows scope rows) rows (same_row scope [] rows table) front line why fails (lines_at (with_rows scope rows) rows [] front back line (subst (AreRightLines (with_rows scope rows) rows []) is accepted.lines))
   accepted_no_failure _ _ (at_last front line table is right outside) accepted =
       split_cases ⊥ front accepted.last.front [] [] line accepted.last.last (sym is ∙ accepted.last.are)
       (λ e same. outside (subst (λ l. Within l.branch start) (sym same) accepted.last.within))
@@ -141,10 +142,10 @@ module _ (scope : Scope) (start : List Literal) (refutation : Refutation) where
   row_not_table : (front back : List Row) (r : Row) (why : Why) (rows : List Row) → rows ≡ front ++ r ∷ back → RowFails scope front r why → IsTable scope rows → ⊥
   row_not_table front back r why rows is fails table = row_fails_not scope front r why fails (table_at scope [] front back r (subst (IsTable scope) is table))
 
-  line_not_right : (front back : List Line) (line : Line) (why : Why) (lines : List Line) → lines ≡ front ++ line ∷ back → LineFails (with_rows scope refutation.witnesses) refutation.witnesses front line why → AreRightLines (with_rows scope refutation.witnesses) refutation.witnesses [] lines → ⊥
-  line_not_right front back line why lines is fails right =
+  line_not_right : IsTable scope refutation.witnesses → (front back : List Line) (line : Line) (why : Why) (lines : List Line) → lines ≡ front ++ line ∷ back → LineFails (with_rows scope refutation.witnesses) refutation.witnesses front line why → AreRightLines (with_rows scope refutation.witnesses) refutation.witnesses [] lines → ⊥
+  line_not_right table front back line why lines is fails right =
       let rows = refutation.witnesses in
-      line_fails_not (with_rows scope rows) rows front line why fails (lines_at (with_rows scope rows) rows [] front back line (subst (AreRightLines (with_rows scope rows) rows []) is right))
+      line_fails_not (with_rows scope rows) rows (same_row scope [] rows table) front line why fails (lines_at (with_rows scope rows) rows [] front back line (subst (AreRightLines (with_rows scope rows) rows []) is right))
 
   -- a refutation has one first failure at most
   pub one_first_failure : (n k : ℕ) (why other : Why) → FirstFailure scope start refutation n why → FirstFailure scope start refutation k other → (n ≡ k) × (why ≡ other)
@@ -160,13 +161,13 @@ module _ (scope : Scope) (start : List Literal) (refutation : Refutation) where
   one_first_failure _ _ _ _ (at_line f b l why table is right fails) (at_line g c m other table' are right' fails') =
       let rows = refutation.witnesses in
       split_cases ((length rows + length f ≡ length rows + length g) × (why ≡ other)) f g b c l m (sym is ∙ are)
-      (λ e same. (ap (λ x. length rows + length x) e, one_line_why (with_rows scope rows) rows g m why other (subst₂ (λ x y. LineFails (with_rows scope rows) rows x y why) e same fails) fails'))
-      (λ mid e. absurd (line_not_right f mid l why g e fails right'))
-      (λ mid e. absurd (line_not_right g mid m other f e fails' right))
-  one_first_failure _ _ _ _ (at_line f b l why table is right fails) (at_last g m table' are right' outside) = absurd (line_not_right f b l why refutation.lines is fails right')
+      (λ e same. (ap (λ x. length rows + length x) e, one_line_why (with_rows scope rows) rows (same_row scope [] rows table) g m why other (subst₂ (λ x y. LineFails (with_rows scope rows) rows x y why) e same fails) fails'))
+      (λ mid e. absurd (line_not_right table f mid l why g e fails right'))
+      (λ mid e. absurd (line_not_right table g mid m other f e fails' right))
+  one_first_failure _ _ _ _ (at_line f b l why table is right fails) (at_last g m table' are right' outside) = absurd (line_not_right table f b l why refutation.lines is fails right')
   one_first_failure _ _ _ _ (at_line f b l why table is right fails) (no_line table' none) = absurd (not_empty f b l (sym is ∙ none))
   one_first_failure _ _ _ _ (at_last f l table is right outside) (at_row g c q other are table' fails') = absurd (row_not_table g c q other refutation.witnesses are fails' table)
-  one_first_failure _ _ _ _ (at_last f l table is right outside) (at_line g c m other table' are right' fails') = absurd (line_not_right g c m other refutation.lines are fails' right)
+  one_first_failure _ _ _ _ (at_last f l table is right outside) (at_line g c m other table' are right' fails') = absurd (line_not_right table g c m other refutation.lines are fails' right)
   one_first_failure _ _ _ _ (at_last f l table is right outside) (at_last g m table' are right' outside') =
       (omega (arith, ap length (sym is ∙ are), length-append f (l ∷ []), length-append g (m ∷ [])), refl)
   one_first_failure _ _ _ _ (at_last f l table is right outside) (no_line table' none) = absurd (not_empty f [] l (sym is ∙ none))

@@ -1,11 +1,15 @@
 -- A rule has at most one instance at its places.
 use Rattle.std.proofs.Common.{◌≡◌, ℕ, suc, List, [], ◌∷◌, Some, slice_get, refl, sym, ap, ap₂, subst, ◌∙◌}
-use Rattle.stt_core.specs.SimpleType.{SimpleType, base, formula}
-use Rattle.stt_core.specs.Lambda.{falsity, Lambda, constant, imp, eq}
-use Rattle.stt_core.specs.Typing.{Scope}
+use Rattle.stt_core.specs.SimpleType.{SimpleType, base, arrow, formula, predicate}
+use Rattle.stt_core.specs.Lambda.{Constant, witness, falsity, Lambda, constant, imp, eq, every, applied}
+use Rattle.stt_core.specs.Typing.{Scope, constant_type}
+use Rattle.stt_core.specs.Canonical.{IsCanonical}
+use Rattle.stt_core.proofs.CanonicalTypes.{canonical_type-at}
+use Rattle.stt_core.proofs.SpineLaws.{parts}
+use Rattle.stt_normal.specs.Normal.{eta, apply}
 use Rattle.stt_tableau.specs.Literals.{Literal, plus, minus, literal, opposite, IsLiteral}
 use Rattle.stt_tableau.specs.Witnesses.{Row}
-use Rattle.stt_tableau.specs.Rules.{Rule, false_rule, close_rule, refl_rule, imp_pos_rule, imp_neg_rule, bool_pos_rule, bool_neg_rule, con_rule, cut_rule, places, AreAt, IsInstance}
+use Rattle.stt_tableau.specs.Rules.{Rule, false_rule, close_rule, refl_rule, imp_pos_rule, imp_neg_rule, bool_pos_rule, bool_neg_rule, fun_pos_rule, fun_neg_rule, all_pos_rule, all_neg_rule, mat_rule, dec_rule, con_rule, IsDecomposed, differ_each, cho_rule, cut_rule, agreement, nowhere, chosen, places, AreAt, IsInstance}
 use Rattle.stt_tableau.specs.declared.refutation.RuleUse.{RuleUse}
 use Rattle.stt_tableau.specs.declared.refutation.RuleUse.TheVariants.{False, Close, Refl, ImpPos, ImpNeg, BoolPos, BoolNeg, FunPos, FunNeg, AllPos, AllNeg, Mat, Dec, Con, Cho, Cut}
 
@@ -14,29 +18,40 @@ abbrev confronted : ℕ → Lambda → Lambda → Lambda → Lambda → List (Li
 confronted n s t u v =
     (minus (eq (base (suc n)) s u) ∷ minus (eq (base (suc n)) t u) ∷ []) ∷ (minus (eq (base (suc n)) s v) ∷ minus (eq (base (suc n)) t v) ∷ []) ∷ []
 
--- what the table says of a rule, by the rule
-abbrev pub Fits : RuleUse → List Literal → List (List Literal) → Type 0
-Fits (False i) ps as' = (ps ≡ plus (constant falsity) ∷ []) × (as' ≡ [])
-Fits (Close i j) ps as' = (l : Literal) × (ps ≡ l ∷ opposite l ∷ []) × (as' ≡ [])
-Fits (ImpPos i) ps as' = (s : Lambda) × (t : Lambda) × (ps ≡ plus (imp s t) ∷ []) × (as' ≡ (opposite (literal s) ∷ []) ∷ (literal t ∷ []) ∷ [])
-Fits (ImpNeg i) ps as' = (s : Lambda) × (t : Lambda) × (ps ≡ minus (imp s t) ∷ []) × (as' ≡ (literal s ∷ opposite (literal t) ∷ []) ∷ [])
-Fits (Cut l) ps as' = (ps ≡ []) × (as' ≡ (l ∷ []) ∷ (opposite l ∷ []) ∷ [])
-Fits (Refl i) ps as' = (a : SimpleType) × (s : Lambda) × (ps ≡ minus (eq a s s) ∷ []) × (as' ≡ [])
-Fits (BoolPos i) ps as' =
-    (s : Lambda) × (t : Lambda) × (ps ≡ plus (eq formula s t) ∷ []) × (as' ≡ (literal s ∷ literal t ∷ []) ∷ (opposite (literal s) ∷ opposite (literal t) ∷ []) ∷ [])
-Fits (BoolNeg i) ps as' =
-    (s : Lambda) × (t : Lambda) × (ps ≡ minus (eq formula s t) ∷ []) × (as' ≡ (literal s ∷ opposite (literal t) ∷ []) ∷ (opposite (literal s) ∷ literal t ∷ []) ∷ [])
-Fits (Con i j) ps as' =
-    (n : ℕ) × (s : Lambda) × (t : Lambda) × (u : Lambda) × (v : Lambda) × (ps ≡ plus (eq (base (suc n)) s t) ∷ minus (eq (base (suc n)) u v) ∷ []) × (as' ≡ confronted n s t u v)
-Fits (FunPos i) ps as' = ⊥
-Fits (FunNeg i) ps as' = ⊥
-Fits (AllPos i u) ps as' = ⊥
-Fits (AllNeg i) ps as' = ⊥
-Fits (Mat i j) ps as' = ⊥
-Fits (Dec i) ps as' = ⊥
-Fits (Cho f) ps as' = ⊥
+-- predicates of different rows differ
+abbrev pub AreDistinct : List Row → Type 0
+AreDistinct rows = (j k : ℕ) (q r : Row) → slice_get rows j ≡ Some q → slice_get rows k ≡ Some r → q.predicate ≡ r.predicate → j ≡ k
 
-pub fits : (scope : Scope) (rows : List Row) (rule : RuleUse) (ps : List Literal) (as' : List (List Literal)) → Rule scope rows rule ps as' → Fits rule ps as'
+-- what the table says of a rule, by the rule
+abbrev pub Fits : Scope → List Row → RuleUse → List Literal → List (List Literal) → Type 0
+Fits scope rows (False i) ps as' = (ps ≡ plus (constant falsity) ∷ []) × (as' ≡ [])
+Fits scope rows (Close i j) ps as' = (l : Literal) × (ps ≡ l ∷ opposite l ∷ []) × (as' ≡ [])
+Fits scope rows (ImpPos i) ps as' = (s : Lambda) × (t : Lambda) × (ps ≡ plus (imp s t) ∷ []) × (as' ≡ (opposite (literal s) ∷ []) ∷ (literal t ∷ []) ∷ [])
+Fits scope rows (ImpNeg i) ps as' = (s : Lambda) × (t : Lambda) × (ps ≡ minus (imp s t) ∷ []) × (as' ≡ (literal s ∷ opposite (literal t) ∷ []) ∷ [])
+Fits scope rows (Cut l) ps as' = (ps ≡ []) × (as' ≡ (l ∷ []) ∷ (opposite l ∷ []) ∷ [])
+Fits scope rows (Refl i) ps as' = (a : SimpleType) × (s : Lambda) × (ps ≡ minus (eq a s s) ∷ []) × (as' ≡ [])
+Fits scope rows (BoolPos i) ps as' =
+    (s : Lambda) × (t : Lambda) × (ps ≡ plus (eq formula s t) ∷ []) × (as' ≡ (literal s ∷ literal t ∷ []) ∷ (opposite (literal s) ∷ opposite (literal t) ∷ []) ∷ [])
+Fits scope rows (BoolNeg i) ps as' =
+    (s : Lambda) × (t : Lambda) × (ps ≡ minus (eq formula s t) ∷ []) × (as' ≡ (literal s ∷ opposite (literal t) ∷ []) ∷ (opposite (literal s) ∷ literal t ∷ []) ∷ [])
+Fits scope rows (Con i j) ps as' =
+    (n : ℕ) × (s : Lambda) × (t : Lambda) × (u : Lambda) × (v : Lambda) × (ps ≡ plus (eq (base (suc n)) s t) ∷ minus (eq (base (suc n)) u v) ∷ []) × (as' ≡ confronted n s t u v)
+Fits scope rows (FunPos i) ps as' =
+    (a : SimpleType) × (b : SimpleType) × (s : Lambda) × (t : Lambda) × (ps ≡ plus (eq (arrow a b) s t) ∷ []) × (as' ≡ (literal (agreement a b s t) ∷ []) ∷ [])
+Fits scope rows (FunNeg i) ps as' =
+    (a : SimpleType) × (b : SimpleType) × (s : Lambda) × (t : Lambda) × (ps ≡ minus (eq (arrow a b) s t) ∷ []) × (as' ≡ (opposite (literal (agreement a b s t)) ∷ []) ∷ [])
+Fits scope rows (AllPos i u) ps as' =
+    (a : SimpleType) × (f : Lambda) × IsCanonical scope [] a u × (ps ≡ plus (every a f) ∷ []) × (as' ≡ (literal (apply f u) ∷ []) ∷ [])
+Fits scope rows (AllNeg i) ps as' =
+    (k : ℕ) × (a : SimpleType) × (f : Lambda) × (slice_get rows k ≡ Some (record { type = a; predicate = f })) × (ps ≡ minus (every a f) ∷ []) × (as' ≡ (opposite (literal (apply f (eta a (constant (witness k))))) ∷ []) ∷ [])
+Fits scope rows (Mat i j) ps as' =
+    (c : Constant) × (a : SimpleType) × (s : Lambda) × (t : Lambda) × (ss : List Lambda) × (ts : List Lambda) × IsDecomposed c × (constant_type scope c ≡ Some a) × (ps ≡ plus (applied (constant c) (s ∷ ss)) ∷ minus (applied (constant c) (t ∷ ts)) ∷ []) × (as' ≡ differ_each a (s ∷ ss) (t ∷ ts))
+Fits scope rows (Dec i) ps as' =
+    (n : ℕ) × (c : Constant) × (a : SimpleType) × (s : Lambda) × (t : Lambda) × (ss : List Lambda) × (ts : List Lambda) × IsDecomposed c × (constant_type scope c ≡ Some a) × (ps ≡ minus (eq (base (suc n)) (applied (constant c) (s ∷ ss)) (applied (constant c) (t ∷ ts))) ∷ []) × (as' ≡ differ_each a (s ∷ ss) (t ∷ ts))
+Fits scope rows (Cho f) ps as' =
+    (a : SimpleType) × IsCanonical scope [] (predicate a) f × (ps ≡ []) × (as' ≡ (literal (nowhere a f) ∷ []) ∷ (literal (apply f (chosen a f)) ∷ []) ∷ [])
+
+pub fits : (scope : Scope) (rows : List Row) (rule : RuleUse) (ps : List Literal) (as' : List (List Literal)) → Rule scope rows rule ps as' → Fits scope rows rule ps as'
 fits scope rows _ _ _ (false_rule i) = (refl, refl)
 fits scope rows _ _ _ (close_rule i j l) = (l, refl, refl)
 fits scope rows _ _ _ (imp_pos_rule i s t) = (s, t, refl, refl)
@@ -44,43 +59,61 @@ fits scope rows _ _ _ (imp_neg_rule i s t) = (s, t, refl, refl)
 fits scope rows _ _ _ (refl_rule i a s) = (a, s, refl, refl)
 fits scope rows _ _ _ (bool_pos_rule i s t) = (s, t, refl, refl)
 fits scope rows _ _ _ (bool_neg_rule i s t) = (s, t, refl, refl)
+fits scope rows _ _ _ (fun_pos_rule i a b s t) = (a, b, s, t, refl, refl)
+fits scope rows _ _ _ (fun_neg_rule i a b s t) = (a, b, s, t, refl, refl)
+fits scope rows _ _ _ (all_pos_rule i a f u c) = (a, f, c, refl, refl)
+fits scope rows _ _ _ (all_neg_rule i k a f g) = (k, a, f, g, refl, refl)
+fits scope rows _ _ _ (cho_rule a f c) = (a, c, refl, refl)
+fits scope rows _ _ _ (mat_rule i j c a s t ss ts d e) = (c, a, s, t, ss, ts, d, e, refl, refl)
+fits scope rows _ _ _ (dec_rule i n c a s t ss ts d e) = (n, c, a, s, t, ss, ts, d, e, refl, refl)
 fits scope rows _ _ _ (con_rule i j n s t u v) = (n, s, t, u, v, refl, refl)
 fits scope rows _ _ _ (cut_rule l h) = (refl, refl)
 
-same_alternatives : (rule : RuleUse) (ps : List Literal) (as' bs : List (List Literal)) → Fits rule ps as' → Fits rule ps bs → as' ≡ bs
-same_alternatives (False i) ps as' bs h k = h.1 ∙ sym k.1
-same_alternatives (Close i j) ps as' bs h k = h.2 ∙ sym k.2
-same_alternatives (ImpPos i) ps as' bs h k =
+-- one head with its arguments has one type and one list of arguments
+same_differences : (scope : Scope) (c d : Constant) (a b : SimpleType) (ss us ts vs : List Lambda) → constant_type scope c ≡ Some a → constant_type scope d ≡ Some b → applied (constant c) ss ≡ applied (constant d) us → applied (constant c) ts ≡ applied (constant d) vs → differ_each a ss ts ≡ differ_each b us vs
+same_differences scope c d a b ss us ts vs e f p q =
+    let left = parts [] [] (constant c) (constant d) ss us tt tt p in
+    let right = parts [] [] (constant c) (constant d) ts vs tt tt q in
+    let head = left.head in
+    let same : c ≡ d = cc in
+    let types : Some a ≡ Some b = sym e ∙ ap (constant_type scope) same ∙ f in
+    let type : a ≡ b = cc in
+    ap (λ x. differ_each x ss ts) type ∙ ap₂ (differ_each b) left.arguments right.arguments
+
+same_alternatives : (scope : Scope) (rows : List Row) → AreDistinct rows → (rule : RuleUse) (ps : List Literal) (as' bs : List (List Literal)) → Fits scope rows rule ps as' → Fits scope rows rule ps bs → as' ≡ bs
+same_alternatives scope rows distinct (False i) ps as' bs h k = h.1 ∙ sym k.1
+same_alternatives scope rows distinct (Close i j) ps as' bs h k = h.2 ∙ sym k.2
+same_alternatives scope rows distinct (ImpPos i) ps as' bs h k =
     let e : plus (imp h.0 h.1) ∷ [] ≡ plus (imp k.0 k.1) ∷ [] = sym h.2 ∙ k.2 in
     let l : plus (imp h.0 h.1) ≡ plus (imp k.0 k.1) = cc in
     let a : imp h.0 h.1 ≡ imp k.0 k.1 = ap (λ x. x.atom) l in
     let p : h.0 ≡ k.0 = cc in
     let q : h.1 ≡ k.1 = cc in
     h.3 ∙ ap₂ (λ s t. (opposite (literal s) ∷ []) ∷ (literal t ∷ []) ∷ []) p q ∙ sym k.3
-same_alternatives (ImpNeg i) ps as' bs h k =
+same_alternatives scope rows distinct (ImpNeg i) ps as' bs h k =
     let e : minus (imp h.0 h.1) ∷ [] ≡ minus (imp k.0 k.1) ∷ [] = sym h.2 ∙ k.2 in
     let l : minus (imp h.0 h.1) ≡ minus (imp k.0 k.1) = cc in
     let a : imp h.0 h.1 ≡ imp k.0 k.1 = ap (λ x. x.atom) l in
     let p : h.0 ≡ k.0 = cc in
     let q : h.1 ≡ k.1 = cc in
     h.3 ∙ ap₂ (λ s t. (literal s ∷ opposite (literal t) ∷ []) ∷ []) p q ∙ sym k.3
-same_alternatives (Cut l) ps as' bs h k = h.1 ∙ sym k.1
-same_alternatives (Refl i) ps as' bs h k = h.3 ∙ sym k.3
-same_alternatives (BoolPos i) ps as' bs h k =
+same_alternatives scope rows distinct (Cut l) ps as' bs h k = h.1 ∙ sym k.1
+same_alternatives scope rows distinct (Refl i) ps as' bs h k = h.3 ∙ sym k.3
+same_alternatives scope rows distinct (BoolPos i) ps as' bs h k =
     let e : plus (eq formula h.0 h.1) ∷ [] ≡ plus (eq formula k.0 k.1) ∷ [] = sym h.2 ∙ k.2 in
     let l : plus (eq formula h.0 h.1) ≡ plus (eq formula k.0 k.1) = cc in
     let a : eq formula h.0 h.1 ≡ eq formula k.0 k.1 = ap (λ x. x.atom) l in
     let p : h.0 ≡ k.0 = cc in
     let q : h.1 ≡ k.1 = cc in
     h.3 ∙ ap₂ (λ s t. (literal s ∷ literal t ∷ []) ∷ (opposite (literal s) ∷ opposite (literal t) ∷ []) ∷ []) p q ∙ sym k.3
-same_alternatives (BoolNeg i) ps as' bs h k =
+same_alternatives scope rows distinct (BoolNeg i) ps as' bs h k =
     let e : minus (eq formula h.0 h.1) ∷ [] ≡ minus (eq formula k.0 k.1) ∷ [] = sym h.2 ∙ k.2 in
     let l : minus (eq formula h.0 h.1) ≡ minus (eq formula k.0 k.1) = cc in
     let a : eq formula h.0 h.1 ≡ eq formula k.0 k.1 = ap (λ x. x.atom) l in
     let p : h.0 ≡ k.0 = cc in
     let q : h.1 ≡ k.1 = cc in
     h.3 ∙ ap₂ (λ s t. (literal s ∷ opposite (literal t) ∷ []) ∷ (opposite (literal s) ∷ literal t ∷ []) ∷ []) p q ∙ sym k.3
-same_alternatives (Con i j) ps as' bs h k =
+same_alternatives scope rows distinct (Con i j) ps as' bs h k =
     let e : plus (eq (base (suc h.0)) h.1 h.2) ∷ minus (eq (base (suc h.0)) h.3 h.4) ∷ [] ≡ plus (eq (base (suc k.0)) k.1 k.2) ∷ minus (eq (base (suc k.0)) k.3 k.4) ∷ [] = sym h.5 ∙ k.5 in
     let l : plus (eq (base (suc h.0)) h.1 h.2) ≡ plus (eq (base (suc k.0)) k.1 k.2) = cc in
     let o : minus (eq (base (suc h.0)) h.3 h.4) ≡ minus (eq (base (suc k.0)) k.3 k.4) = cc in
@@ -92,13 +125,54 @@ same_alternatives (Con i j) ps as' bs h k =
     let u : h.3 ≡ k.3 = cc in
     let v : h.4 ≡ k.4 = cc in
     h.6 ∙ ap (λ x. confronted x h.1 h.2 h.3 h.4) n ∙ ap₂ (λ x y. confronted k.0 x y h.3 h.4) s t ∙ ap₂ (λ x y. confronted k.0 k.1 k.2 x y) u v ∙ sym k.6
-same_alternatives (FunPos i) ps as' bs h k = absurd h
-same_alternatives (FunNeg i) ps as' bs h k = absurd h
-same_alternatives (AllPos i u) ps as' bs h k = absurd h
-same_alternatives (AllNeg i) ps as' bs h k = absurd h
-same_alternatives (Mat i j) ps as' bs h k = absurd h
-same_alternatives (Dec i) ps as' bs h k = absurd h
-same_alternatives (Cho f) ps as' bs h k = absurd h
+same_alternatives scope rows distinct (FunPos i) ps as' bs h k =
+    let e : plus (eq (arrow h.0 h.1) h.2 h.3) ∷ [] ≡ plus (eq (arrow k.0 k.1) k.2 k.3) ∷ [] = sym h.4 ∙ k.4 in
+    let l : plus (eq (arrow h.0 h.1) h.2 h.3) ≡ plus (eq (arrow k.0 k.1) k.2 k.3) = cc in
+    let x : eq (arrow h.0 h.1) h.2 h.3 ≡ eq (arrow k.0 k.1) k.2 k.3 = ap (λ y. y.atom) l in
+    let a : h.0 ≡ k.0 = cc in
+    let b : h.1 ≡ k.1 = cc in
+    let s : h.2 ≡ k.2 = cc in
+    let t : h.3 ≡ k.3 = cc in
+    h.5 ∙ ap₂ (λ x y. (literal (agreement x y h.2 h.3) ∷ []) ∷ []) a b ∙ ap₂ (λ x y. (literal (agreement k.0 k.1 x y) ∷ []) ∷ []) s t ∙ sym k.5
+same_alternatives scope rows distinct (FunNeg i) ps as' bs h k =
+    let e : minus (eq (arrow h.0 h.1) h.2 h.3) ∷ [] ≡ minus (eq (arrow k.0 k.1) k.2 k.3) ∷ [] = sym h.4 ∙ k.4 in
+    let l : minus (eq (arrow h.0 h.1) h.2 h.3) ≡ minus (eq (arrow k.0 k.1) k.2 k.3) = cc in
+    let x : eq (arrow h.0 h.1) h.2 h.3 ≡ eq (arrow k.0 k.1) k.2 k.3 = ap (λ y. y.atom) l in
+    let a : h.0 ≡ k.0 = cc in
+    let b : h.1 ≡ k.1 = cc in
+    let s : h.2 ≡ k.2 = cc in
+    let t : h.3 ≡ k.3 = cc in
+    h.5 ∙ ap₂ (λ x y. (opposite (literal (agreement x y h.2 h.3)) ∷ []) ∷ []) a b ∙ ap₂ (λ x y. (opposite (literal (agreement k.0 k.1 x y)) ∷ []) ∷ []) s t ∙ sym k.5
+same_alternatives scope rows distinct (AllPos i u) ps as' bs h k =
+    let e : plus (every h.0 h.1) ∷ [] ≡ plus (every k.0 k.1) ∷ [] = sym h.3 ∙ k.3 in
+    let l : plus (every h.0 h.1) ≡ plus (every k.0 k.1) = cc in
+    let x : every h.0 h.1 ≡ every k.0 k.1 = ap (λ y. y.atom) l in
+    let f : h.1 ≡ k.1 = cc in
+    h.4 ∙ ap (λ x. (literal (apply x u) ∷ []) ∷ []) f ∙ sym k.4
+same_alternatives scope rows distinct (AllNeg i) ps as' bs h k =
+    let e : minus (every h.1 h.2) ∷ [] ≡ minus (every k.1 k.2) ∷ [] = sym h.4 ∙ k.4 in
+    let l : minus (every h.1 h.2) ≡ minus (every k.1 k.2) = cc in
+    let x : every h.1 h.2 ≡ every k.1 k.2 = ap (λ y. y.atom) l in
+    let a : h.1 ≡ k.1 = cc in
+    let f : h.2 ≡ k.2 = cc in
+    let w = distinct h.0 k.0 (record { type = h.1; predicate = h.2 }) (record { type = k.1; predicate = k.2 }) h.3 k.3 f in
+    h.5 ∙ ap₂ (λ x y. (opposite (literal (apply y (eta x (constant (witness h.0))))) ∷ []) ∷ []) a f ∙ ap (λ x. (opposite (literal (apply k.2 (eta k.1 (constant (witness x))))) ∷ []) ∷ []) w ∙ sym k.5
+same_alternatives scope rows distinct (Mat i j) ps as' bs h k =
+    let e : plus (applied (constant h.0) (h.2 ∷ h.4)) ∷ minus (applied (constant h.0) (h.3 ∷ h.5)) ∷ [] ≡ plus (applied (constant k.0) (k.2 ∷ k.4)) ∷ minus (applied (constant k.0) (k.3 ∷ k.5)) ∷ [] = sym h.8 ∙ k.8 in
+    let l : plus (applied (constant h.0) (h.2 ∷ h.4)) ≡ plus (applied (constant k.0) (k.2 ∷ k.4)) = cc in
+    let o : minus (applied (constant h.0) (h.3 ∷ h.5)) ≡ minus (applied (constant k.0) (k.3 ∷ k.5)) = cc in
+    h.9 ∙ same_differences scope h.0 k.0 h.1 k.1 (h.2 ∷ h.4) (k.2 ∷ k.4) (h.3 ∷ h.5) (k.3 ∷ k.5) h.7 k.7 (ap (λ x. x.atom) l) (ap (λ x. x.atom) o) ∙ sym k.9
+same_alternatives scope rows distinct (Dec i) ps as' bs h k =
+    let e : minus (eq (base (suc h.0)) (applied (constant h.1) (h.3 ∷ h.5)) (applied (constant h.1) (h.4 ∷ h.6))) ∷ [] ≡ minus (eq (base (suc k.0)) (applied (constant k.1) (k.3 ∷ k.5)) (applied (constant k.1) (k.4 ∷ k.6))) ∷ [] = sym h.9 ∙ k.9 in
+    let l : minus (eq (base (suc h.0)) (applied (constant h.1) (h.3 ∷ h.5)) (applied (constant h.1) (h.4 ∷ h.6))) ≡ minus (eq (base (suc k.0)) (applied (constant k.1) (k.3 ∷ k.5)) (applied (constant k.1) (k.4 ∷ k.6))) = cc in
+    let x : eq (base (suc h.0)) (applied (constant h.1) (h.3 ∷ h.5)) (applied (constant h.1) (h.4 ∷ h.6)) ≡ eq (base (suc k.0)) (applied (constant k.1) (k.3 ∷ k.5)) (applied (constant k.1) (k.4 ∷ k.6)) = ap (λ y. y.atom) l in
+    let p : applied (constant h.1) (h.3 ∷ h.5) ≡ applied (constant k.1) (k.3 ∷ k.5) = cc in
+    let q : applied (constant h.1) (h.4 ∷ h.6) ≡ applied (constant k.1) (k.4 ∷ k.6) = cc in
+    h.10 ∙ same_differences scope h.1 k.1 h.2 k.2 (h.3 ∷ h.5) (k.3 ∷ k.5) (h.4 ∷ h.6) (k.4 ∷ k.6) h.8 k.8 p q ∙ sym k.10
+same_alternatives scope rows distinct (Cho f) ps as' bs h k =
+    let e : Some (predicate h.0) ≡ Some (predicate k.0) = sym (canonical_type-at scope [] (predicate h.0) f h.1) ∙ canonical_type-at scope [] (predicate k.0) f k.1 in
+    let a : h.0 ≡ k.0 = cc in
+    h.3 ∙ ap (λ x. (literal (nowhere x f) ∷ []) ∷ (literal (apply f (chosen x f)) ∷ []) ∷ []) a ∙ sym k.3
 
 same_at : (branch : List Literal) (is : List ℕ) (ls ks : List Literal) → AreAt branch is ls → AreAt branch is ks → ls ≡ ks
 same_at branch [] [] [] h k = refl
@@ -112,10 +186,10 @@ same_at branch (i ∷ is) (l ∷ ls) (k' ∷ ks) h k =
     ap₂ (λ x xs. x ∷ xs) p (same_at branch is ls ks h.1 k.1)
 
 -- two instances of a rule in a branch have the same alternatives
-pub one_instance : (scope : Scope) (rows : List Row) (branch : List Literal) (rule : RuleUse) (as' bs : List (List Literal)) → IsInstance scope rows branch rule as' → IsInstance scope rows branch rule bs → as' ≡ bs
-one_instance scope rows branch rule as' bs h k =
-    same_alternatives rule k.principals as' bs
-    (subst (λ ps. Fits rule ps as') (same_at branch (places rule) h.principals k.principals h.at_places k.at_places) (fits scope rows rule h.principals as' h.fits))
+pub one_instance : (scope : Scope) (rows : List Row) → AreDistinct rows → (branch : List Literal) (rule : RuleUse) (as' bs : List (List Literal)) → IsInstance scope rows branch rule as' → IsInstance scope rows branch rule bs → as' ≡ bs
+one_instance scope rows distinct branch rule as' bs h k =
+    same_alternatives scope rows distinct rule k.principals as' bs
+    (subst (λ ps. Fits scope rows rule ps as') (same_at branch (places rule) h.principals k.principals h.at_places k.at_places) (fits scope rows rule h.principals as' h.fits))
     (fits scope rows rule k.principals bs k.fits)
 
 module _ (scope : Scope) (rows : List Row) (branch : List Literal) where
@@ -146,6 +220,26 @@ module _ (scope : Scope) (rows : List Row) (branch : List Literal) where
   pub bool_neg_is : (i : ℕ) (a : SimpleType) (s t : Lambda) (as' : List (List Literal)) → slice_get branch i ≡ Some (minus (eq a s t)) → a ≡ formula → as' ≡ (literal s ∷ opposite (literal t) ∷ []) ∷ (opposite (literal s) ∷ literal t ∷ []) ∷ [] → IsInstance scope rows branch (BoolNeg i) as'
   bool_neg_is i a s t as' h is e =
       subst (IsInstance scope rows branch (BoolNeg i)) (sym e) (record { principals = minus (eq formula s t) ∷ []; at_places = (h ∙ ap (λ x. Some (minus (eq x s t))) is, tt); fits = bool_neg_rule i s t })
+
+  pub fun_pos_is : (i : ℕ) (c a b : SimpleType) (s t whole : Lambda) (l : Literal) (as' : List (List Literal)) → slice_get branch i ≡ Some (plus (eq c s t)) → c ≡ arrow a b → whole ≡ agreement a b s t → l ≡ literal whole → as' ≡ (l ∷ []) ∷ [] → IsInstance scope rows branch (FunPos i) as'
+  fun_pos_is i c a b s t whole l as' h is p q e =
+      subst (IsInstance scope rows branch (FunPos i)) (sym (e ∙ ap (λ x. (x ∷ []) ∷ []) (q ∙ ap literal p))) (record { principals = plus (eq (arrow a b) s t) ∷ []; at_places = (h ∙ ap (λ x. Some (plus (eq x s t))) is, tt); fits = fun_pos_rule i a b s t })
+
+  pub fun_neg_is : (i : ℕ) (c a b : SimpleType) (s t whole : Lambda) (l k : Literal) (as' : List (List Literal)) → slice_get branch i ≡ Some (minus (eq c s t)) → c ≡ arrow a b → whole ≡ agreement a b s t → l ≡ literal whole → k ≡ opposite l → as' ≡ (k ∷ []) ∷ [] → IsInstance scope rows branch (FunNeg i) as'
+  fun_neg_is i c a b s t whole l k as' h is p q o e =
+      subst (IsInstance scope rows branch (FunNeg i)) (sym (e ∙ ap (λ x. (x ∷ []) ∷ []) (o ∙ ap opposite (q ∙ ap literal p)))) (record { principals = minus (eq (arrow a b) s t) ∷ []; at_places = (h ∙ ap (λ x. Some (minus (eq x s t))) is, tt); fits = fun_neg_rule i a b s t })
+
+  pub all_pos_is : (i : ℕ) (a : SimpleType) (f u whole : Lambda) (l : Literal) (as' : List (List Literal)) → slice_get branch i ≡ Some (plus (every a f)) → IsCanonical scope [] a u → whole ≡ apply f u → l ≡ literal whole → as' ≡ (l ∷ []) ∷ [] → IsInstance scope rows branch (AllPos i u) as'
+  all_pos_is i a f u whole l as' h c p q e =
+      subst (IsInstance scope rows branch (AllPos i u)) (sym (e ∙ ap (λ x. (x ∷ []) ∷ []) (q ∙ ap literal p))) (record { principals = plus (every a f) ∷ []; at_places = (h, tt); fits = all_pos_rule i a f u c })
+
+  pub all_neg_is : (i k : ℕ) (a : SimpleType) (f w whole : Lambda) (l m : Literal) (as' : List (List Literal)) → slice_get branch i ≡ Some (minus (every a f)) → slice_get rows k ≡ Some (record { type = a; predicate = f }) → w ≡ eta a (constant (witness k)) → whole ≡ apply f w → l ≡ literal whole → m ≡ opposite l → as' ≡ (m ∷ []) ∷ [] → IsInstance scope rows branch (AllNeg i) as'
+  all_neg_is i k a f w whole l m as' h g is p q o e =
+      subst (IsInstance scope rows branch (AllNeg i)) (sym (e ∙ ap (λ x. (x ∷ []) ∷ []) (o ∙ ap opposite (q ∙ ap literal (p ∙ ap (apply f) is))))) (record { principals = minus (every a f) ∷ []; at_places = (h, tt); fits = all_neg_rule i k a f g })
+
+  pub cho_is : (a : SimpleType) (f : Lambda) (as' : List (List Literal)) → IsCanonical scope [] (predicate a) f → as' ≡ (literal (nowhere a f) ∷ []) ∷ (literal (apply f (chosen a f)) ∷ []) ∷ [] → IsInstance scope rows branch (Cho f) as'
+  cho_is a f as' c e =
+      subst (IsInstance scope rows branch (Cho f)) (sym e) (record { principals = []; at_places = tt; fits = cho_rule a f c })
 
   pub con_is : (i j n : ℕ) (a b : SimpleType) → a ≡ base (suc n) → a ≡ b → (s t u v : Lambda) (first second : Literal × Literal) (as' : List (List Literal)) → slice_get branch i ≡ Some (plus (eq a s t)) → slice_get branch j ≡ Some (minus (eq b u v)) → (first.0 ≡ minus (eq a s u)) × (first.1 ≡ minus (eq a t u)) → (second.0 ≡ minus (eq a s v)) × (second.1 ≡ minus (eq a t v)) → as' ≡ (first.0 ∷ first.1 ∷ []) ∷ (second.0 ∷ second.1 ∷ []) ∷ [] → IsInstance scope rows branch (Con i j) as'
   con_is i j n a b is same s t u v first second as' h k p q e =

@@ -5,23 +5,11 @@ use Rattle.stt_core.specs.SimpleType.{SimpleType, formula, arrow, is_declared}
 use Rattle.stt_core.specs.Lambda.{Constant, name, witness, falsity, negation, implication, all, equality, choice, Lambda, bound, constant, lam, app}
 use Rattle.stt_core.specs.Typing.{Scope, type_of, constant_type, applied_type}
 use Rattle.stt_core.specs.Digits.{entry, table}
-use Rattle.stt_core.specs.Meaning.{Model, size, result_size, value, constant_value, IsModel}
-use Rattle.stt_core.proofs.ValueLaws.{size_pos}
+use Rattle.stt_core.specs.Meaning.{Model, size, result_size, value, constant_value}
 use Rattle.stt_tableau.specs.Literals.{Literal}
 use Rattle.stt_tableau.specs.Meets.{MeetsBranch}
+use Rattle.stt_tableau.specs.Along.{with_witnesses}
 use Rattle.stt_tableau.specs.Witnesses.{Row, with_rows, IsNoWitness, NamesNoWitness, NoneNamesWitness}
-
--- the model with other values for the witnesses
-abbrev pub with_witnesses : Model → (ℕ → ℕ) → Model
-with_witnesses m values = record { sizes = m.sizes; name_values = m.name_values; witness_values = values; choices = m.choices }
-
--- the values of the witnesses in the extended model
-abbrev pub witness_values : Scope → Model → List Row → ℕ → ℕ
-witness_values scope m rows k = 0
-
--- a model without witnesses extended to those of the rows
-abbrev pub extended : Scope → Model → List Row → Model
-extended scope m rows = with_witnesses m (witness_values scope m rows)
 
 module _ (scope : Scope) (rows : List Row) where
   constant_type-rows : (c : Constant) → IsNoWitness c → constant_type (with_rows scope rows) c ≡ constant_type scope c
@@ -40,7 +28,7 @@ module _ (scope : Scope) (rows : List Row) where
   type_of-rows ctx (lam a s) h = ap (λ o. if is_declared scope.bases a then option_map (arrow a) o else None) (type_of-rows (a ∷ ctx) s h)
   type_of-rows ctx (app s u) h = ap₂ applied_type (type_of-rows ctx s h.0) (type_of-rows ctx u h.1)
 
-  module _ (m : Model) (values : ℕ → ℕ) where
+  module _ (m : Model) (values : List ℕ) where
     constant_value-witnesses : (c : Constant) → IsNoWitness c → constant_value (with_witnesses m values) c ≡ constant_value m c
     constant_value-witnesses (name k) h = refl
     constant_value-witnesses (witness k) h = absurd h
@@ -64,13 +52,3 @@ module _ (scope : Scope) (rows : List Row) where
     pub met-rows : (branch : List Literal) → NoneNamesWitness branch → MeetsBranch scope m branch → MeetsBranch (with_rows scope rows) (with_witnesses m values) branch
     met-rows [] h met = tt
     met-rows (l ∷ branch) h met = (value-rows [] [] l.atom h.0 ∙ met.0, met-rows branch h.1 met.1)
-
-  -- a model of a scope extends to one of the scope with the witnesses of the rows
-  pub extended_is_model : (m : Model) → IsModel scope m → IsModel (with_rows scope rows) (extended scope m rows)
-  extended_is_model m good = record {
-    sizes_pos = good.sizes_pos;
-    names_in = good.names_in;
-    witnesses_in = λ k a e. size_pos scope m good a;
-    choices_in = good.choices_in;
-    choices_law = good.choices_law;
-  }

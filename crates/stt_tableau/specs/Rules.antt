@@ -1,13 +1,50 @@
 -- The rules of the calculus (Brown and Smolka 2010, section 4; Backes and Brown, Analytic tableaux for higher-order logic with choice,
 -- 2011, section 3). The cut is this project's own.
 use Rattle.std.specs.Prelude.{◌≡◌, ℕ, suc, List, [], ◌∷◌, Some, slice_get}
-use Rattle.stt_core.specs.SimpleType.{SimpleType, base, formula}
-use Rattle.stt_core.specs.Lambda.{Lambda, constant, falsity, imp, eq}
-use Rattle.stt_core.specs.Typing.{Scope}
+use Rattle.stt_core.specs.SimpleType.{SimpleType, base, arrow, formula, predicate}
+use Rattle.stt_core.specs.Lambda.{Constant, name, witness, falsity, negation, implication, all, equality, choice, Lambda, bound, constant, lam, app, neg, imp, eq, every, applied}
+use Rattle.stt_core.specs.Typing.{Scope, constant_type}
+use Rattle.stt_core.specs.Canonical.{IsCanonical}
+use Rattle.stt_normal.specs.Lift.{lift}
+use Rattle.stt_normal.specs.Normal.{eta, apply}
 use Rattle.stt_tableau.specs.Literals.{Literal, plus, minus, opposite, literal, IsLiteral}
 use Rattle.stt_tableau.specs.Witnesses.{Row}
 use Rattle.stt_tableau.specs.declared.refutation.RuleUse.{RuleUse}
 use Rattle.stt_tableau.specs.declared.refutation.RuleUse.TheVariants.{False, Close, Refl, ImpPos, ImpNeg, BoolPos, BoolNeg, FunPos, FunNeg, AllPos, AllNeg, Mat, Dec, Con, Cho, Cut}
+
+-- what a function gives at a new variable of this type, which is its argument type
+abbrev pub at_new : SimpleType → Lambda → Lambda
+at_new a f = apply (lift 0 f) (eta a (bound 0))
+
+-- the formula that two functions from the first type to the second agree everywhere
+abbrev pub agreement : SimpleType → SimpleType → Lambda → Lambda → Lambda
+agreement a b s t = every a (lam a (eq b (at_new a s) (at_new a t)))
+
+-- the formula that a predicate on a type holds nowhere
+abbrev pub nowhere : SimpleType → Lambda → Lambda
+nowhere a f = every a (lam a (neg (at_new a f)))
+
+-- what is chosen by a predicate on a type
+abbrev pub chosen : SimpleType → Lambda → Lambda
+chosen a f = eta a (app (constant (choice a)) f)
+
+-- a constant whose arguments are compared: a name, a witness, or the choice from a type
+abbrev pub IsDecomposed : Constant → Type 0
+IsDecomposed (name k) = Unit {0}
+IsDecomposed (witness k) = Unit {0}
+IsDecomposed (choice a) = Unit {0}
+IsDecomposed falsity = ⊥
+IsDecomposed negation = ⊥
+IsDecomposed implication = ⊥
+IsDecomposed (all a) = ⊥
+IsDecomposed (equality a) = ⊥
+
+-- for each argument of a function of this type, first one first, the alternative that the two there differ
+abbrev pub differ_each : SimpleType → List Lambda → List Lambda → List (List Literal)
+differ_each (base n) ss ts = []
+differ_each (arrow a b) [] ts = []
+differ_each (arrow a b) (s ∷ ss) [] = []
+differ_each (arrow a b) (s ∷ ss) (t ∷ ts) = (minus (eq a s t) ∷ []) ∷ differ_each b ss ts
 
 -- The table: a rule with what it takes, its principals, and its alternatives. A branch that holds the principals is met only by models
 -- that meet a whole alternative too. A base type whose number is a successor is one other than that of formulas.
@@ -19,7 +56,14 @@ pub data Rule (scope : Scope) (rows : List Row) : RuleUse → List Literal → L
   imp_neg_rule : (i : ℕ) (s t : Lambda) → Rule scope rows (ImpNeg i) (minus (imp s t) ∷ []) ((literal s ∷ opposite (literal t) ∷ []) ∷ [])
   bool_pos_rule : (i : ℕ) (s t : Lambda) → Rule scope rows (BoolPos i) (plus (eq formula s t) ∷ []) ((literal s ∷ literal t ∷ []) ∷ (opposite (literal s) ∷ opposite (literal t) ∷ []) ∷ [])
   bool_neg_rule : (i : ℕ) (s t : Lambda) → Rule scope rows (BoolNeg i) (minus (eq formula s t) ∷ []) ((literal s ∷ opposite (literal t) ∷ []) ∷ (opposite (literal s) ∷ literal t ∷ []) ∷ [])
+  fun_pos_rule : (i : ℕ) (a b : SimpleType) (s t : Lambda) → Rule scope rows (FunPos i) (plus (eq (arrow a b) s t) ∷ []) ((literal (agreement a b s t) ∷ []) ∷ [])
+  fun_neg_rule : (i : ℕ) (a b : SimpleType) (s t : Lambda) → Rule scope rows (FunNeg i) (minus (eq (arrow a b) s t) ∷ []) ((opposite (literal (agreement a b s t)) ∷ []) ∷ [])
+  all_pos_rule : (i : ℕ) (a : SimpleType) (f u : Lambda) → IsCanonical scope [] a u → Rule scope rows (AllPos i u) (plus (every a f) ∷ []) ((literal (apply f u) ∷ []) ∷ [])
+  all_neg_rule : (i k : ℕ) (a : SimpleType) (f : Lambda) → slice_get rows k ≡ Some (record { type = a; predicate = f }) → Rule scope rows (AllNeg i) (minus (every a f) ∷ []) ((opposite (literal (apply f (eta a (constant (witness k))))) ∷ []) ∷ [])
+  mat_rule : (i j : ℕ) (c : Constant) (a : SimpleType) (s t : Lambda) (ss ts : List Lambda) → IsDecomposed c → constant_type scope c ≡ Some a → Rule scope rows (Mat i j) (plus (applied (constant c) (s ∷ ss)) ∷ minus (applied (constant c) (t ∷ ts)) ∷ []) (differ_each a (s ∷ ss) (t ∷ ts))
+  dec_rule : (i n : ℕ) (c : Constant) (a : SimpleType) (s t : Lambda) (ss ts : List Lambda) → IsDecomposed c → constant_type scope c ≡ Some a → Rule scope rows (Dec i) (minus (eq (base (suc n)) (applied (constant c) (s ∷ ss)) (applied (constant c) (t ∷ ts))) ∷ []) (differ_each a (s ∷ ss) (t ∷ ts))
   con_rule : (i j n : ℕ) (s t u v : Lambda) → Rule scope rows (Con i j) (plus (eq (base (suc n)) s t) ∷ minus (eq (base (suc n)) u v) ∷ []) ((minus (eq (base (suc n)) s u) ∷ minus (eq (base (suc n)) t u) ∷ []) ∷ (minus (eq (base (suc n)) s v) ∷ minus (eq (base (suc n)) t v) ∷ []) ∷ [])
+  cho_rule : (a : SimpleType) (f : Lambda) → IsCanonical scope [] (predicate a) f → Rule scope rows (Cho f) [] ((literal (nowhere a f) ∷ []) ∷ (literal (apply f (chosen a f)) ∷ []) ∷ [])
   cut_rule : (l : Literal) → IsLiteral scope l → Rule scope rows (Cut l) [] ((l ∷ []) ∷ (opposite l ∷ []) ∷ [])
 
 -- the places of the principals in the branch

@@ -1,9 +1,13 @@
 -- What stands at a formula's head.
-use Rattle.std.specs.Prelude.{◌≡◌, Option, Some, None}
+use Rattle.std.specs.Prelude.{◌≡◌, List, [], ◌∷◌, Option, Some, None}
 use Rattle.stt_core.specs.SimpleType.{SimpleType}
 use Rattle.stt_core.specs.View.{the_type}
-use Rattle.stt_core.specs.Lambda.{name, witness, falsity, negation, implication, all, equality, choice, Lambda, bound, constant, lam, app, neg, imp, eq}
+use Rattle.stt_core.specs.Lambda.{Constant, name, witness, falsity, negation, implication, all, equality, choice, Lambda, bound, constant, lam, app, neg, imp, eq, every, applied}
 use Rattle.stt_tableau.specs.declared.equation.Equation.{Equation}
+use Rattle.stt_tableau.specs.declared.quantifier.Quantified.{Quantified}
+use Rattle.stt_core.specs.View.{the_head}
+use Rattle.stt_tableau.specs.Rules.{IsDecomposed}
+use Rattle.stt_tableau.specs.declared.decompose.Spine.{Spine}
 use Rattle.stt_tableau.specs.declared.shape.Connective.{Connective}
 use Rattle.stt_tableau.specs.declared.shape.Connective.TheVariants as connective
 use Rattle.stt_tableau.specs.declared.shape.Shape.{Shape}
@@ -54,3 +58,32 @@ equality_of (app s u) = None
 abbrev pub IsEquation : Lambda → Option Equation → Type 0
 IsEquation t (Some e) = t ≡ eq (the_type e.ty.now) e.left.now e.right.now
 IsEquation t None = (a : SimpleType) (s u : Lambda) → t ≡ eq a s u → ⊥
+
+-- the type that a quantifier that is a head ranges over
+abbrev pub quantified_by : Lambda → Option SimpleType
+quantified_by (constant (all a)) = Some a
+quantified_by (constant (name k)) = None
+quantified_by (constant (witness k)) = None
+quantified_by (constant falsity) = None
+quantified_by (constant negation) = None
+quantified_by (constant implication) = None
+quantified_by (constant (equality a)) = None
+quantified_by (constant (choice a)) = None
+quantified_by (bound k) = None
+quantified_by (lam a s) = None
+quantified_by (app s u) = None
+
+-- the term says of a predicate that it holds everywhere, and has these parts, or says no such thing
+abbrev pub IsQuantified : Lambda → Option Quantified → Type 0
+IsQuantified t (Some q) = t ≡ every (the_type q.ty.now) q.predicate.now
+IsQuantified t None = (a : SimpleType) (f : Lambda) → t ≡ every a f → ⊥
+
+-- the head is a constant whose arguments are compared
+abbrev pub IsDecomposedHead : Lambda → Type 0
+IsDecomposedHead h = (c : Constant) × IsDecomposed c × (h ≡ constant c)
+
+-- the term is such a constant with arguments, or isn't
+abbrev pub IsSpine : Lambda → Option Spine → Type 0
+IsSpine t (Some p) =
+    (c : Constant) × (s : Lambda) × (ss : List Lambda) × IsDecomposed c × (the_head p.head.now ≡ constant c) × (p.args.now ≡ s ∷ ss) × (t ≡ applied (constant c) (s ∷ ss))
+IsSpine t None = (c : Constant) (s : Lambda) (ss : List Lambda) → IsDecomposed c → t ≡ applied (constant c) (s ∷ ss) → ⊥

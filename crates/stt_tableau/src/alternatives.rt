@@ -65,6 +65,15 @@ pub fn alone(alloc: Global, lit: Lit) -> Result<Lits, AllocError>
     Ok(lits)
 }
 
+/// One alternative of one literal.
+pub fn one(alloc: Global, lit: Lit) -> Result<Alternatives, AllocError>
+    ensures { IfOk result (λ a. a ≡ (lit ∷ []) ∷ []) }
+{
+    let mut alternatives = Alternatives::new(alloc);
+    alternatives.push(alone(alloc, lit)?)?;
+    Ok(alternatives)
+}
+
 /// Two alternatives of one literal each.
 pub fn either(alloc: Global, left: Lit, right: Lit) -> Result<Alternatives, AllocError>
     ensures { IfOk result (λ a. a ≡ (left ∷ []) ∷ (right ∷ []) ∷ []) }

@@ -7,10 +7,14 @@ ghost use Rattle.stt_tableau.specs.Accepted.{IsTypedUse};
 ghost use Rattle.stt_tableau.specs.Checks.{FindsInstance};
 
 use crate::alternatives::Alternatives;
+use crate::decompose::{dec_instance, mat_instance};
 use crate::equation::{bool_neg_instance, bool_pos_instance, con_instance, refl_instance};
 use crate::lit::Lits;
 use crate::propositional::{
     close_instance, cut_instance, false_instance, imp_neg_instance, imp_pos_instance,
+};
+use crate::quantifier::{
+    all_neg_instance, all_pos_instance, cho_instance, fun_neg_instance, fun_pos_instance,
 };
 use crate::refutation::{Rows, RuleUse};
 use std::alloc::{AllocError, Global};
@@ -39,13 +43,13 @@ pub fn instance(
         RuleUse::Refl(i) => Ok(refl_instance(alloc, branch, *i)),
         RuleUse::BoolPos(i) => Ok(bool_pos_instance(alloc, branch, *i)?),
         RuleUse::BoolNeg(i) => Ok(bool_neg_instance(alloc, branch, *i)?),
+        RuleUse::FunPos(i) => Ok(fun_pos_instance(alloc, branch, *i)?),
+        RuleUse::FunNeg(i) => Ok(fun_neg_instance(alloc, branch, *i)?),
+        RuleUse::AllPos(i, u) => Ok(all_pos_instance(alloc, sig, types, branch, *i, u)?),
+        RuleUse::AllNeg(i) => Ok(all_neg_instance(alloc, rows, branch, *i)?),
+        RuleUse::Cho(f) => Ok(cho_instance(alloc, sig, types, branch, f)?),
+        RuleUse::Mat(i, j) => Ok(mat_instance(alloc, sig, types, branch, *i, *j)?),
+        RuleUse::Dec(i) => Ok(dec_instance(alloc, sig, types, branch, *i)?),
         RuleUse::Con(i, j) => Ok(con_instance(alloc, branch, *i, *j)?),
-        RuleUse::FunPos(_) => Ok(None),
-        RuleUse::FunNeg(_) => Ok(None),
-        RuleUse::AllPos(_, _) => Ok(None),
-        RuleUse::AllNeg(_) => Ok(None),
-        RuleUse::Mat(_, _) => Ok(None),
-        RuleUse::Dec(_) => Ok(None),
-        RuleUse::Cho(_) => Ok(None),
     }
 }

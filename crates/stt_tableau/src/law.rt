@@ -1,21 +1,35 @@
-//! Soundness: an accepted refutation shows that its start has no model.
+//! Soundness: rules keep models along the witness table, and an accepted refutation shows that its start has no model.
 
 ghost use Rattle.std.specs.Prelude.{[]};
+ghost use Rattle.stt_core.specs.Typing.{IsScope};
 ghost use Rattle.stt_core.specs.Meaning.{Model, IsModel};
 ghost use Rattle.stt_core.specs.ScopeView.{the_scope};
 ghost use Rattle.stt_tableau.specs.Meets.{MeetsBranch};
 ghost use Rattle.stt_tableau.specs.Witnesses.{with_rows, NoneNamesWitness};
 ghost use Rattle.stt_tableau.specs.Accepted.{IsAccepted};
+ghost use Rattle.stt_tableau.specs.Laws.{ModelsExtend, RulesKeepModels};
 ghost use Rattle.stt_tableau.specs.Closed.{Closes, tableau_of};
 
 use crate::lit::Lits;
-use crate::refutation::Refutation;
+use crate::refutation::{Refutation, Rows};
 use stt_core::Signature;
 
-/// Where a refutation is accepted for a start that names no witness, no model meets the start, and the tableau of the refutation's
+/// The types of the signature's constants are over it. Where a refutation is accepted for a start that names no witness, no model meets the start, and the tableau of the refutation's
 /// last line closes it.
 pub fn soundness_law(sig: &Signature, start: &Lits, refutation: &Refutation)
-    requires { NoneNamesWitness start.now }
+    requires declared { IsScope (the_scope sig.now []) }
+    requires unnamed { NoneNamesWitness start.now }
     ensures no_model { IsAccepted (the_scope sig.now []) start.now refutation.now → (m : Model) → IsModel (the_scope sig.now []) m → MeetsBranch (the_scope sig.now []) m start.now → ⊥ }
     ensures closed { IsAccepted (the_scope sig.now []) start.now refutation.now → Closes (with_rows (the_scope sig.now []) refutation.now.witnesses) refutation.now.witnesses (tableau_of refutation.now) start.now }
+{}
+
+/// Every model of a signature extends along a witness table: the value of a witness is the least at which its predicate doesn't hold,
+/// or 0 where it holds of every value.
+pub fn models_extend(sig: &Signature, rows: &Rows)
+    ensures { ModelsExtend (the_scope sig.now []) rows.now }
+{}
+
+/// Each rule keeps models along the witness table.
+pub fn rules_keep_models(sig: &Signature, rows: &Rows)
+    ensures { RulesKeepModels (the_scope sig.now []) rows.now }
 {}

@@ -42,6 +42,20 @@ fn is_predicate(found: Option<Ty>) -> bool
     }
 }
 
+/// Whether the term is closed, canonical and of this type, over the signature and witnesses of these types.
+pub fn is_typed_at(
+    alloc: Global,
+    sig: &Signature,
+    types: &Types,
+    nf: &Nf,
+    ty: &Ty,
+) -> Result<bool, AllocError>
+    ensures { IfOk result (λ b. IsTrue b ↔ IsCanonical (the_scope sig.now types.now) [] (the_type ty.now) nf.now) }
+{
+    let found = type_of_closed(alloc, sig, types, nf)?;
+    Ok(is_type(found, ty))
+}
+
 /// Whether the literal is one over the signature and witnesses of these types.
 fn is_typed_literal(
     alloc: Global,

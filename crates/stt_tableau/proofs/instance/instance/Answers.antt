@@ -1,5 +1,6 @@
 use Rattle.std.proofs.Common.{sym, subst}
 use Rattle.stt_core.specs.ScopeView.{the_scope}
+use Rattle.stt_tableau.specs.Accepted.{IsTypedUse}
 use Rattle.stt_tableau.specs.Checks.{FindsInstance}
 use Rattle.stt_tableau.proofs.instance.instance.Goals as goal
 
@@ -42,3 +43,50 @@ pub returns-in_ok-con_instance-in-Con : goal.returns-in_ok-con_instance-in-Con
 returns-in_ok-con_instance-in-Con c =
     let scope = the_scope c.args.sig.now c.args.types.now in
     subst (λ rule. FindsInstance scope c.args.rows.now c.args.branch.now rule c.in_ok-con_instance-in-Con.field-0) (sym c.in-Con.is) (c.in_ok-con_instance-in-Con.ensures scope c.args.rows.now)
+
+pub returns-in_ok-fun_pos_instance-in-FunPos : goal.returns-in_ok-fun_pos_instance-in-FunPos
+returns-in_ok-fun_pos_instance-in-FunPos c =
+    let scope = the_scope c.args.sig.now c.args.types.now in
+    subst (λ rule. FindsInstance scope c.args.rows.now c.args.branch.now rule c.in_ok-fun_pos_instance-in-FunPos.field-0) (sym c.in-FunPos.is) (c.in_ok-fun_pos_instance-in-FunPos.ensures scope c.args.rows.now)
+
+pub returns-in_ok-fun_neg_instance-in-FunNeg : goal.returns-in_ok-fun_neg_instance-in-FunNeg
+returns-in_ok-fun_neg_instance-in-FunNeg c =
+    let scope = the_scope c.args.sig.now c.args.types.now in
+    subst (λ rule. FindsInstance scope c.args.rows.now c.args.branch.now rule c.in_ok-fun_neg_instance-in-FunNeg.field-0) (sym c.in-FunNeg.is) (c.in_ok-fun_neg_instance-in-FunNeg.ensures scope c.args.rows.now)
+
+pub returns-in_ok-all_pos_instance-in-AllPos : goal.returns-in_ok-all_pos_instance-in-AllPos
+returns-in_ok-all_pos_instance-in-AllPos c =
+    let scope = the_scope c.args.sig.now c.args.types.now in
+    subst (λ rule. FindsInstance scope c.args.rows.now c.args.branch.now rule c.in_ok-all_pos_instance-in-AllPos.field-0) (sym c.in-AllPos.is) (c.in_ok-all_pos_instance-in-AllPos.ensures c.args.rows.now)
+
+pub returns-in_ok-all_neg_instance-in-AllNeg : goal.returns-in_ok-all_neg_instance-in-AllNeg
+returns-in_ok-all_neg_instance-in-AllNeg c =
+    let scope = the_scope c.args.sig.now c.args.types.now in
+    subst (λ rule. FindsInstance scope c.args.rows.now c.args.branch.now rule c.in_ok-all_neg_instance-in-AllNeg.field-0) (sym c.in-AllNeg.is) (c.in_ok-all_neg_instance-in-AllNeg.ensures scope)
+
+pub returns-in_ok-cho_instance-in-Cho : goal.returns-in_ok-cho_instance-in-Cho
+returns-in_ok-cho_instance-in-Cho c =
+    let scope = the_scope c.args.sig.now c.args.types.now in
+    subst (λ rule. FindsInstance scope c.args.rows.now c.args.branch.now rule c.in_ok-cho_instance-in-Cho.field-0) (sym c.in-Cho.is) (c.in_ok-cho_instance-in-Cho.ensures c.args.rows.now)
+
+pub fun_pos_instance-requires : goal.fun_pos_instance-requires
+fun_pos_instance-requires c = (the_scope c.args.sig.now c.args.types.now, c.requires.branch)
+
+pub fun_neg_instance-requires : goal.fun_neg_instance-requires
+fun_neg_instance-requires c = (the_scope c.args.sig.now c.args.types.now, c.requires.branch)
+
+pub all_neg_instance-requires : goal.all_neg_instance-requires
+all_neg_instance-requires c = record { scope = the_scope c.args.sig.now c.args.types.now; types = c.requires.types; branch_in = c.requires.branch }
+
+pub cho_instance-requires : goal.cho_instance-requires
+cho_instance-requires c = subst (IsTypedUse (the_scope c.args.sig.now c.args.types.now)) c.in-Cho.is c.requires.typed
+
+pub returns-in_ok-mat_instance-in-Mat : goal.returns-in_ok-mat_instance-in-Mat
+returns-in_ok-mat_instance-in-Mat c =
+    let scope = the_scope c.args.sig.now c.args.types.now in
+    subst (λ rule. FindsInstance scope c.args.rows.now c.args.branch.now rule c.in_ok-mat_instance-in-Mat.field-0) (sym c.in-Mat.is) (c.in_ok-mat_instance-in-Mat.ensures c.args.rows.now)
+
+pub returns-in_ok-dec_instance-in-Dec : goal.returns-in_ok-dec_instance-in-Dec
+returns-in_ok-dec_instance-in-Dec c =
+    let scope = the_scope c.args.sig.now c.args.types.now in
+    subst (λ rule. FindsInstance scope c.args.rows.now c.args.branch.now rule c.in_ok-dec_instance-in-Dec.field-0) (sym c.in-Dec.is) (c.in_ok-dec_instance-in-Dec.ensures c.args.rows.now)

@@ -1,0 +1,13 @@
+use Rattle.std.proofs.Common.{ap, refl}
+use Rattle.stt_core.specs.Lambda.{name, witness, choice}
+use Rattle.stt_core.specs.View.{the_head, the_type}
+use Rattle.stt_tableau.proofs.decompose.is_decomposed.Goals as goal
+
+pub returns-in-Name : goal.returns-in-Name
+returns-in-Name c = (λ _. (name c.in-Name.field-0, tt, ap the_head c.in-Name.is), λ _. refl)
+
+pub returns-in-Wit : goal.returns-in-Wit
+returns-in-Wit c = (λ _. (witness c.in-Wit.field-0, tt, ap the_head c.in-Wit.is), λ _. refl)
+
+pub returns-in-Choice : goal.returns-in-Choice
+returns-in-Choice c = (λ _. (choice (the_type c.in-Choice.field-0), tt, ap the_head c.in-Choice.is), λ _. refl)
