@@ -1,5 +1,5 @@
 -- A file is read statement by statement.
-use Rattle.std.proofs.Common.{◌≡◌, ◌≢◌, ℕ, List, [], ◌∷◌, Option, Some, None, Result, Ok, Err, length, refl, ap, sym, ◌∙◌, arith}
+use Rattle.std.proofs.Common.{◌≡◌, ◌≢◌, ℕ, List, [], ◌∷◌, Err, length, ap, sym, ◌∙◌, arith}
 use Rattle.satallax_top.specs.Bytes.{skipped}
 use Rattle.satallax_top.specs.Reading.{Stated, States, Leads, at_end}
 use Rattle.satallax_top.specs.Reader.{statement_at}

@@ -11,3 +11,5 @@ pub mod StatedLaws
 pub mod TextLaws
 pub mod LineFeeds
 pub mod SolvedLaws
+pub mod ReportLaws
+pub mod HeadlineLaws

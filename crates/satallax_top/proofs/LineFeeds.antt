@@ -1,6 +1,6 @@
 -- Texts that have no line feed in them.
-use Rattle.std.proofs.Common.{◌≡◌, ◌≢◌, ℕ, zero, suc, ◌+◌, ◌<◌, ◌/◌, ◌%◌, ◌||◌, ◌&&◌, ◌==◌, nat_lt, Bool, true, false, List, [], ◌∷◌, ◌++◌, map, length, codes, decimal, refl, sym, ap, ap₂, subst, ◌∙◌, if◌then◌else◌, arith}
-use Rattle.std.specs.List.{list_any, list_all, flat_map}
+use Rattle.std.proofs.Common.{◌≡◌, ℕ, zero, suc, ◌+◌, ◌<◌, ◌/◌, ◌%◌, ◌||◌, ◌==◌, nat_lt, Bool, true, false, List, [], ◌∷◌, ◌++◌, map, length, codes, decimal, refl, ap, ap₂, ◌∙◌, if◌then◌else◌, arith}
+use Rattle.std.specs.List.{list_all, flat_map}
 use Rattle.std.specs.Fmt.{digits, digits_onto, digit_glyph}
 use Rattle.std.proofs.lemmas.Bool.{and_parts, eqb-true}
 use Rattle.std.proofs.lemmas.Bool.Decides.{nat_tests}
@@ -8,7 +8,7 @@ use Rattle.stt_core.specs.TypedName.{TypedName}
 use Rattle.stt_core.specs.Lambda.{Lambda}
 use Rattle.stt_tableau.specs.Literals.{Literal}
 use Rattle.satallax_top.specs.Bytes.{is_word_byte}
-use Rattle.satallax_top.specs.Text.{Names, name_at, is_plain, name_text, escaped, term_text, sign_text, literal_text, literal_texts, separated}
+use Rattle.satallax_top.specs.Text.{name_at, is_plain, name_text, escaped, term_text, sign_text, literal_text, literal_texts, separated}
 use Rattle.satallax_top.specs.Block.{has_line_feed}
 use Rattle.satallax_top.specs.PlainNames.{names_of, ArePlain}
 use Rattle.satallax_top.specs.Propositional.{IsLeafBelow, AreLeavesBelow}
@@ -16,11 +16,11 @@ use Rattle.satallax_top.proofs.TextLaws.{leaf_cases}
 
 pub no_feed-append : (xs ys : List ℕ) → has_line_feed xs ≡ false → has_line_feed ys ≡ false → has_line_feed (xs ++ ys) ≡ false
 no_feed-append [] ys h k = k
-no_feed-append (x ∷ xs) ys h k = go (x == 10) h
+no_feed-append (x ∷ xs) ys h k = go (x == 10) (λ e. no_feed-append xs ys e k) h
   where
-    go : (b : Bool) → b || has_line_feed xs ≡ false → b || has_line_feed (xs ++ ys) ≡ false
-    go true e = cc
-    go false e = no_feed-append xs ys e k
+    go : (b : Bool) → (has_line_feed xs ≡ false → has_line_feed (xs ++ ys) ≡ false) → b || has_line_feed xs ≡ false → b || has_line_feed (xs ++ ys) ≡ false
+    go true rest e = cc
+    go false rest e = rest e
 
 no_feed-cons : (x : ℕ) (xs : List ℕ) → (x == 10) ≡ false → has_line_feed xs ≡ false → has_line_feed (x ∷ xs) ≡ false
 no_feed-cons x xs h k = ap₂ (λ a b. a || b) h k

@@ -1,8 +1,8 @@
 -- The reader goes as the grammar says.
-use Rattle.std.proofs.Common.{◌≡◌, ℕ, zero, suc, List, [], ◌∷◌, Option, Some, None, refl, sym, ap, ap₂, subst, ◌∙◌, Bool, true, false, codes, if◌then◌else◌, option_map, is_some}
+use Rattle.std.proofs.Common.{◌≡◌, ℕ, List, Option, Some, None, refl, sym, ap, ap₂, ◌∙◌, Bool, true, false, codes, if◌then◌else◌}
 use Rattle.std.specs.Str.{bytes_eq}
 use Rattle.std.proofs.lemmas.Slice.Eq.{bytes_eq-Decides}
-use Rattle.satallax_top.specs.Bytes.{token_at, skipped, first_token, is_lower_word}
+use Rattle.satallax_top.specs.Bytes.{token_at, is_lower_word}
 use Rattle.satallax_top.specs.Reading.{Begins, IsHead, IsEnd, IsTyping}
 use Rattle.satallax_top.specs.Reader.{◌>>=◌, where_text, behind, where_word, word_at, head_at, end_at, typing_at}
 

@@ -2,11 +2,9 @@
 use Rattle.std.proofs.Common.{◌≡◌, ℕ, suc, List, [], ◌∷◌, Some, slice_get, refl, sym, subst, arith}
 use Rattle.std.proofs.lemmas.Option.{slice_get_within}
 use Rattle.stt_core.specs.Lambda.{constant, falsity}
-use Rattle.stt_core.specs.Typing.{Scope}
-use Rattle.stt_tableau.specs.Literals.{Literal, plus, opposite, IsBranch}
-use Rattle.stt_tableau.specs.Witnesses.{with_rows}
+use Rattle.stt_tableau.specs.Literals.{Literal, plus, opposite}
 use Rattle.stt_tableau.specs.Rules.{false_rule, close_rule}
-use Rattle.stt_tableau.specs.Accepted.{IsClosed, IsAccepted, Within}
+use Rattle.stt_tableau.specs.Accepted.{IsClosed}
 use Rattle.stt_tableau.specs.declared.refutation.RuleUse.TheVariants.{False, Close}
 use Rattle.stt_tableau.proofs.ListLaws.{contains-get, within-itself}
 use Rattle.satallax_top.specs.Propositional.{AreLeaves}

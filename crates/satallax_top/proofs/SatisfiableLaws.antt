@@ -1,5 +1,5 @@
 -- Which lists of unit clauses are satisfiable.
-use Rattle.std.proofs.Common.{◌≡◌, ◌≢◌, ℕ, arith, ap₂, Bool, true, false, not, List, [], ◌∷◌, ◌++◌, map, Contains, refl, sym, ap, subst, ◌∙◌, if◌then◌else◌, ◌||◌}
+use Rattle.std.proofs.Common.{◌≡◌, arith, ap₂, Bool, true, false, not, List, [], ◌∷◌, ◌++◌, map, Contains, refl, sym, ap, subst, ◌∙◌, if◌then◌else◌, ◌||◌}
 use Rattle.std.specs.List.{list_any}
 use Rattle.stt_core.specs.Lambda.{Lambda}
 use Rattle.stt_core.specs.SameTerm.{same_term}

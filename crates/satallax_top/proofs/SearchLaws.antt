@@ -1,18 +1,16 @@
 -- The search over names and falsity, of which each command processes the next literal of the start.
-use Rattle.std.proofs.Common.{◌≡◌, ◌≢◌, ℕ, zero, suc, ◌+◌, ◌<◌, ◌≤◌, ◌==◌, ◌&&◌, ◌||◌, nat_lt, Bool, true, false, not, List, [], ◌∷◌, ◌++◌, map, filter, length, take, drop, slice_get, Contains, Option, Some, None, refl, sym, ap, ap₂, subst, ◌∙◌, cond, if◌then◌else◌, eq-eqb, arith, add-one}
-use Rattle.std.specs.List.{list_any}
+use Rattle.std.proofs.Common.{◌≡◌, ℕ, zero, suc, ◌<◌, ◌≤◌, ◌==◌, ◌&&◌, ◌||◌, nat_lt, Bool, true, false, not, List, [], ◌∷◌, ◌++◌, map, filter, length, take, drop, slice_get, Contains, Some, refl, sym, ap, subst, ◌∙◌, cond, if◌then◌else◌, eq-eqb, arith, add-one}
 use Rattle.std.proofs.lemmas.Bool.Decides.{nat_tests}
-use Rattle.stt_core.specs.Lambda.{Lambda, bound, constant, lam, app, name, witness, falsity, negation, implication, all, equality, choice}
-use Rattle.stt_core.proofs.SameTerms.{same_term-true}
+use Rattle.stt_core.specs.Lambda.{Lambda, constant, name, falsity}
 use Rattle.stt_core.proofs.ListLaws.{drop_got, take_got}
 use Rattle.std.proofs.Math.Seq.{drop-length}
 use Rattle.stt_tableau.specs.Literals.{Literal, plus, minus, opposite}
 use Rattle.stt_tableau.specs.Accepted.{IsClosed}
 use Rattle.stt_tableau.proofs.ListLaws.{contains-get}
 use Rattle.satallax_top.specs.Propositional.{IsLeafTerm, AreLeaves}
-use Rattle.satallax_top.specs.Clauses.{Clause, same_clause, with_clauses, Unsatisfiable}
-use Rattle.satallax_top.specs.Search.{is_shallow, Command, process, Waiting, State, pushed, started, worked, carried_out, is_before, first_of, next_command, without, after_command, stepped, after}
-use Rattle.satallax_top.specs.Run.{IsOpen, GoesOn, GoesOnUntil, IsProved, IsExhausted, IsStopped}
+use Rattle.satallax_top.specs.Clauses.{Clause, with_clauses}
+use Rattle.satallax_top.specs.Search.{is_shallow, process, Waiting, State, pushed, started, worked, carried_out, is_before, first_of, next_command, without, after_command, stepped, after}
+use Rattle.satallax_top.specs.Run.{IsOpen, GoesOnUntil, IsProved, IsExhausted, IsStopped}
 use Rattle.satallax_top.specs.Ended.{NoFalsity}
 use Rattle.satallax_top.proofs.SatisfiableLaws.{unit_clause, pair_unsatisfiable, contains-unit, units_satisfiable, contains-new, contains-kept}
 

@@ -1,6 +1,6 @@
 -- A run that ended with a proof has its text.
-use Rattle.std.proofs.Common.{◌≡◌, ℕ, ◌||◌, ◌==◌, Bool, true, false, List, [], ◌∷◌, ◌++◌, length, codes, decimal, refl, sym, ap, ap₂, subst, ◌∙◌, arith}
-use Rattle.std.specs.List.{list_any, list_all}
+use Rattle.std.proofs.Common.{◌≡◌, ℕ, ◌||◌, false, List, [], ◌++◌, length, codes, decimal, refl, ap, ◌∙◌, arith}
+use Rattle.std.specs.List.{list_any}
 use Rattle.stt_core.specs.TypedName.{TypedName}
 use Rattle.stt_tableau.specs.Literals.{Literal}
 use Rattle.stt_tableau.specs.Start.{start}
@@ -10,7 +10,7 @@ use Rattle.std.proofs.lemmas.Fmt.{decimal_digit}
 use Rattle.satallax_top.proofs.LineFeeds.{no_feed-append, decimal_no_feed, branch_no_feed}
 use Rattle.satallax_top.specs.Block.{end_mark, begins_with, has_line_feed}
 use Rattle.satallax_top.specs.PlainNames.{names_of, ArePlain}
-use Rattle.satallax_top.specs.Propositional.{IsRunnable, IsLeafBelow, AreLeavesBelow}
+use Rattle.satallax_top.specs.Propositional.{IsRunnable, AreLeavesBelow}
 use Rattle.satallax_top.specs.Ended.{EndsAs, closing_rule, one_line_refutation}
 use Rattle.satallax_top.specs.Answers.{IsProofOf, IsSolvedFor}
 use Rattle.satallax_top.specs.Solved.{IsProvedFor}
@@ -20,6 +20,7 @@ use Rattle.satallax_top.specs.declared.run.TheConstants.{MAX_COMMANDS}
 use Rattle.satallax_top.specs.declared.run.Closing.{Closing}
 use Rattle.satallax_top.specs.declared.run.Closing.TheVariants as closing
 use Rattle.satallax_top.specs.declared.run.Ended.TheVariants.{Proved}
+use Rattle.satallax_top.specs.NormalQuestion.{normal_question}
 
 -- no line of such a refutation begins like an end line
 no_end_mark-lines : (names : Names) (branch : List Literal) (rule : Closing) → list_any (begins_with end_mark) (text_lines names (one_line_refutation branch (closing_rule rule))) ≡ false
@@ -38,16 +39,16 @@ no_line_feeds-lines cs branch rule plain leaves =
     (no_feed-append (rule_text (names_of cs) (closing_rule rule)) (codes " [" ++ (separated (literal_texts (names_of cs) branch) ++ (codes "] [" ++ (separated [] ++ codes "]")))) (rule_no_feed (names_of cs) rule)
     (no_feed-append (separated (literal_texts (names_of cs) branch)) (codes "] [" ++ (separated [] ++ codes "]")) (branch_no_feed cs plain branch leaves) refl)))
 
-pub proof_of_run : (s : Stated) (n : ℕ) (branch : List Literal) (rule : Closing) (text : List ℕ) → IsRunnable s → EndsAs (start (question_of s)) MAX_COMMANDS (Proved n branch rule) → text ≡ as_bytes (text_lines (names_of s.constants) (one_line_refutation branch (closing_rule rule))) → IsProofOf s n text
+pub proof_of_run : (s : Stated) (n : ℕ) (branch : List Literal) (rule : Closing) (text : List ℕ) → IsRunnable s → EndsAs (start (normal_question s)) MAX_COMMANDS (Proved n branch rule) → text ≡ as_bytes (text_lines (names_of s.constants) (one_line_refutation branch (closing_rule rule))) → IsProofOf s n text
 proof_of_run s n branch rule text r e t =
-    let whole = one_line_refutation (start (question_of s)) (closing_rule rule) in
+    let whole = one_line_refutation (start (normal_question s)) (closing_rule rule) in
     record {
       proved = e.1;
       refutation = whole;
       accepted = e.2 (question_of s).scope r.typed;
       is_text = t ∙ ap (λ b. as_bytes (text_lines (names_of s.constants) (one_line_refutation b (closing_rule rule)))) e.0;
-      no_line_feeds = no_line_feeds-lines s.constants (start (question_of s)) rule r.plain r.leaves_below;
-      no_end_mark = no_end_mark-lines (names_of s.constants) (start (question_of s)) rule;
+      no_line_feeds = no_line_feeds-lines s.constants (start (normal_question s)) rule r.plain r.leaves_below;
+      no_end_mark = no_end_mark-lines (names_of s.constants) (start (normal_question s)) rule;
     }
 
 -- the outcome of a problem that is proved, with the text of its refutation

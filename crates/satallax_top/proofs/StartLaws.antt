@@ -1,12 +1,16 @@
 -- The literals of the start.
-use Rattle.std.proofs.Common.{◌≡◌, ℕ, zero, suc, ◌+◌, Bool, true, false, List, [], ◌∷◌, ◌++◌, map, take, slice_get, Some, Contains, refl, sym, ap, subst, ◌∙◌, if◌then◌else◌, append-nil}
-use Rattle.std.specs.List.{list_any}
+use Rattle.std.proofs.Common.{◌≡◌, ℕ, zero, suc, ◌+◌, Bool, true, false, List, [], ◌∷◌, ◌++◌, map, take, slice_get, length, option_map, Some, Contains, refl, sym, ap, subst, ◌∙◌, if◌then◌else◌}
 use Rattle.stt_core.specs.Lambda.{Lambda}
 use Rattle.stt_core.proofs.SameTerms.{same_term-refl}
 use Rattle.stt_core.proofs.ListLaws.{take_got, map-append}
-use Rattle.satallax_top.specs.Propositional.{IsPropositional, ArePropositional}
+use Rattle.stt_core.specs.Typing.{Scope}
+use Rattle.stt_core.specs.ScopeView.{the_scope}
+use Rattle.stt_core.specs.declared.problem.Problem.{Problem}
+use Rattle.satallax_top.specs.Propositional.{IsFormula, AreFormulas}
+use Rattle.satallax_top.specs.NormalQuestion.{normal_in, normal_question}
+use Rattle.satallax_top.specs.StatedView.{stated}
 use Rattle.stt_tableau.specs.Literals.{Literal, opposite, literal}
-use Rattle.stt_tableau.specs.Start.{same_sign, same_literal, has, added, without_repeats, denied, start}
+use Rattle.stt_tableau.specs.Start.{same_literal, has, added, without_repeats, denied, start}
 use Rattle.satallax_top.specs.Reading.{Stated, question_of}
 use Rattle.stt_tableau.proofs.ListLaws.{contains-first, contains-later, contains_cases}
 use Rattle.satallax_top.proofs.SatisfiableLaws.{same_literal-true, or_cases, or_true_left, or_true_right, none_contained}
@@ -47,24 +51,33 @@ added-append : (ls xs ys : List Literal) → added ls (xs ++ ys) ≡ added (adde
 added-append ls [] ys = refl
 added-append ls (x ∷ xs) ys = added-append (if has ls x then ls else ls ++ x ∷ []) xs ys
 
--- the literal of one formula more
-pub added-more : (ts : List Lambda) (i : ℕ) (t : Lambda) (before after : List Literal) → slice_get ts i ≡ Some t → before ≡ added [] (map literal (take i ts)) → after ≡ added before (literal t ∷ []) → after ≡ added [] (map literal (take (i + 1) ts))
-added-more ts i t before after g h k =
+-- the literal of one formula more, in normal form
+pub added-more : (f : Lambda → Lambda) (ts : List Lambda) (i : ℕ) (t : Lambda) (before after : List Literal) → slice_get ts i ≡ Some t → before ≡ added [] (map literal (map f (take i ts))) → after ≡ added before (literal (f t) ∷ []) → after ≡ added [] (map literal (map f (take (i + 1) ts)))
+added-more f ts i t before after g h k =
     k
-    ∙ ap (λ ls. added ls (literal t ∷ [])) h
-    ∙ sym (ap (λ us. added [] (map literal us)) (take_got ts i t g)
-    ∙ ap (added []) (map-append literal (take i ts) (t ∷ []))
-    ∙ added-append [] (map literal (take i ts)) (literal t ∷ []))
+    ∙ ap (λ ls. added ls (literal (f t) ∷ [])) h
+    ∙ sym (ap (λ us. added [] (map literal (map f us))) (take_got ts i t g)
+    ∙ ap (λ us. added [] (map literal us)) (map-append f (take i ts) (t ∷ []))
+    ∙ ap (added []) (map-append literal (map f (take i ts)) (f t ∷ []))
+    ∙ added-append [] (map literal (map f (take i ts))) (literal (f t) ∷ []))
 
 start-ends : (ts : List Lambda) (ls denied_ones : List Literal) → ls ≡ added [] (map literal ts) → added ls denied_ones ≡ added [] (map literal ts ++ denied_ones)
 start-ends ts ls denied_ones h = ap (λ xs. added xs denied_ones) h ∙ sym (added-append [] (map literal ts) denied_ones)
 
-pub formula_at : (ts : List Lambda) (i : ℕ) (t : Lambda) → slice_get ts i ≡ Some t → ArePropositional ts → IsPropositional t
-formula_at [] i t g h = cc
-formula_at (u ∷ ts) zero t g h = let e : u ≡ t = cc in subst IsPropositional e h.0
-formula_at (u ∷ ts) (suc i) t g h = formula_at ts i t g h.1
+pub formula_at : (scope : Scope) (ts : List Lambda) (i : ℕ) (t : Lambda) → slice_get ts i ≡ Some t → AreFormulas scope ts → IsFormula scope t
+formula_at scope [] i t g h = cc
+formula_at scope (u ∷ ts) zero t g h = let e : u ≡ t = cc in subst (IsFormula scope) e h.0
+formula_at scope (u ∷ ts) (suc i) t g h = formula_at scope ts i t g h.1
+
+-- the scope of a signature without base types of its own
+pub scope_of : (p : Problem) → p.signature.bases ≡ [] → the_scope p.signature [] ≡ (question_of (stated p)).scope
+scope_of p h = ap (λ bs. record { bases = length bs; names = map (λ c. c.type) p.signature.consts; witnesses = [] }) h
 
 -- the start of a problem with a conjecture
-pub start-denied : (s : Stated) (t : Lambda) (d : Literal) (ls after : List Literal) → s.conjecture ≡ Some t → d ≡ opposite (literal t) → ls ≡ without_repeats (map literal s.assumed) → after ≡ added ls (d ∷ []) → after ≡ start (question_of s)
+pub start-denied : (s : Stated) (t : Lambda) (d : Literal) (ls after : List Literal) → s.conjecture ≡ Some t → d ≡ opposite (literal (normal_in s t)) → ls ≡ without_repeats (map literal (map (normal_in s) s.assumed)) → after ≡ added ls (d ∷ []) → after ≡ start (normal_question s)
 start-denied s t d ls after c e h k =
-    k ∙ ap (λ x. added ls (x ∷ [])) e ∙ start-ends s.assumed ls (opposite (literal t) ∷ []) h ∙ ap (λ o. without_repeats (map literal s.assumed ++ denied o)) (sym c)
+    let us = map (normal_in s) s.assumed in
+    k
+    ∙ ap (λ x. added ls (x ∷ [])) e
+    ∙ start-ends us ls (opposite (literal (normal_in s t)) ∷ []) h
+    ∙ ap (λ o. without_repeats (map literal us ++ denied (option_map (normal_in s) o))) (sym c)

@@ -1,5 +1,5 @@
 -- What the formulas are that a file states, and the literals of its start.
-use Rattle.std.proofs.Common.{◌≡◌, ℕ, zero, suc, ◌+◌, ◌<◌, ◌≤◌, Bool, true, false, List, [], ◌∷◌, ◌++◌, map, length, slice_get, position, Option, Some, None, option_map, is_some, cond, nat_lt, nat_le, ◌||◌, ◌&&◌, ◌==◌, Contains, ◌⊎◌, inl, inr, ⊎_elim, refl, sym, ap, subst, ◌∙◌, if◌then◌else◌, arith, length-append}
+use Rattle.std.proofs.Common.{◌≡◌, ℕ, zero, suc, ◌<◌, ◌≤◌, Bool, true, false, List, [], ◌∷◌, ◌++◌, map, length, slice_get, position, Option, Some, None, option_map, ap₂, is_some, cond, nat_lt, nat_le, ◌||◌, ◌&&◌, ◌==◌, Contains, ◌⊎◌, inl, inr, ⊎_elim, refl, sym, ap, subst, ◌∙◌, if◌then◌else◌, arith, length-append}
 use Rattle.std.specs.Str.{bytes_eq}
 use Rattle.std.specs.List.{position_or_len}
 use Rattle.std.proofs.lemmas.List.Elements.{Contains-push_cases}
@@ -12,14 +12,17 @@ use Rattle.satallax_top.specs.PlainNames.{ArePlain}
 use Rattle.satallax_top.proofs.StatementLaws.{some_same}
 use Rattle.stt_core.specs.SimpleType.{formula}
 use Rattle.stt_core.specs.Lambda.{Lambda, constant, app, name, falsity, negation, neg}
-use Rattle.stt_core.specs.Typing.{Scope}
+use Rattle.stt_core.specs.SimpleType.{is_declared}
+use Rattle.stt_core.specs.Typing.{Scope, AreDeclared}
+use Rattle.stt_core.proofs.TypeLaws.{type_of-canonical}
+use Rattle.stt_normal.proofs.EtaReplace.{normal_form-canonical}
+use Rattle.satallax_top.specs.NormalQuestion.{normal_in, normal_question}
 use Rattle.stt_core.specs.Canonical.{IsCanonical}
 use Rattle.stt_core.specs.TypedName.{TypedName}
 use Rattle.stt_core.specs.Signature.{symbol_named, first_symbol}
 use Rattle.stt_core.specs.Meets.{MeetsFormulas, Refutes, MeetsProblem}
 use Rattle.stt_core.specs.Meaning.{Model, IsModel, value}
 use Rattle.stt_core.specs.declared.signature.Symbol.{Symbol}
-use Rattle.stt_core.specs.declared.signature.Symbol.TheVariants.{Base, Const}
 use Rattle.stt_tableau.specs.Literals.{Literal, opposite, literal, IsLiteral, IsBranch}
 use Rattle.stt_tableau.specs.Witnesses.{NamesNoWitness, NoneNamesWitness}
 use Rattle.stt_tableau.specs.Meets.{MeetsLiteral, MeetsBranch}
@@ -27,7 +30,7 @@ use Rattle.stt_tableau.specs.Start.{has, added, denied, start}
 use Rattle.stt_tableau.proofs.ListLaws.{contains-first, contains-later, contains_cases, Each}
 use Rattle.stt_tableau.proofs.LiteralLaws.{literal-is_literal, opposite-is_literal, literal-says, value-bit}
 use Rattle.satallax_top.specs.Reading.{Begins, IsStatement, typing_statement, axiom_statement, conjecture_statement, Formula, named, truth, falsehood, negated, Statement, declares, assumes, asks, Stated, named_constant, term_of, with_name, with_assumed, with_conjecture, stated_more, Leads, at_end, by_statement, States, nothing_stated, question_of}
-use Rattle.satallax_top.specs.Propositional.{IsPropositional, ArePropositional, IsPropositionalIfThere, StatesPropositional, IsLeafTerm, AreLeaves, IsLeafBelow, AreLeavesBelow, IsRunnable}
+use Rattle.satallax_top.specs.Propositional.{IsFormula, AreFormulas, IsFormulaIfThere, IsTyped, IsLeafTerm, AreLeaves, IsLeafBelow, AreLeavesBelow, IsRunnable}
 use Rattle.satallax_top.proofs.UnitLaws.{maps}
 use Rattle.satallax_top.proofs.SatisfiableLaws.{none_contained}
 
@@ -47,9 +50,6 @@ signed_cases n P f g h t s = absurd s
 
 signed_more : (n m : ℕ) → n ≤ m → (t : Lambda) → IsSigned n t → IsSigned m t
 signed_more n m h = signed_cases n (IsSigned m) (λ k l. omega arith) tt (λ s k. k)
-
-pub propositional-signed : (n : ℕ) (t : Lambda) → IsSigned n t → IsPropositional t
-propositional-signed n = signed_cases n IsPropositional (λ k l. tt) tt (λ s k. k)
 
 unnamed-signed : (n : ℕ) (t : Lambda) → IsSigned n t → NamesNoWitness t
 unnamed-signed n = signed_cases n NamesNoWitness (λ k l. tt) tt (λ s k. (tt, k))
@@ -225,42 +225,69 @@ meets_branch : (scope : Scope) (m : Model) (ls : List Literal) → Every (MeetsL
 meets_branch scope m [] h = tt
 meets_branch scope m (l ∷ ls) h = (h.0, meets_branch scope m ls h.1)
 
-propositional_all : (n : ℕ) (ts : List Lambda) → AreSigned n ts → ArePropositional ts
-propositional_all n [] h = tt
-propositional_all n (t ∷ ts) h = (propositional-signed n t h.0, propositional_all n ts h.1)
-
-propositional_one : (n : ℕ) (o : Option Lambda) → IsSignedIfThere n o → IsPropositionalIfThere o
-propositional_one n None h = tt
-propositional_one n (Some t) h = propositional-signed n t h
+formulas_declared : (cs : List TypedName) → ConstantsAreFormulas cs → AreDeclared 0 (map (λ c. c.type) cs)
+formulas_declared [] h = tt
+formulas_declared (c ∷ cs) h = (ap (is_declared 0) h.0, formulas_declared cs h.1)
 
 module _ (s : Stated) (g : IsSound s) where
   scope : Scope
   scope = (question_of s).scope
 
-  pub sound_propositional : StatesPropositional s
-  sound_propositional = record {
-    assumed = propositional_all (length s.constants) s.assumed g.assumed;
-    conjecture = propositional_one (length s.constants) s.conjecture g.conjecture;
-  }
-
-  pub start_leaves : AreLeaves (start (question_of s))
-  start_leaves =
-      let n = length s.constants in
-      are_leaves _ (every_start (λ l. IsLeafTerm l.atom) n (leaf-signed n) (leaf-signed n) s refl g)
-
-  pub start_unnamed : NoneNamesWitness (start (question_of s))
-  start_unnamed =
-      let n = length s.constants in
-      none_named _ (every_start (λ l. NamesNoWitness l.atom) n (unnamed-literal n) (unnamed-literal n) s refl g)
-
   canonical : (t : Lambda) → IsSigned (length s.constants) t → IsCanonical (question_of s).scope [] formula t
   canonical = canonical-signed (question_of s).scope (length s.constants) (names_are_formulas s.constants g.constants)
 
-  pub start_typed : IsBranch (question_of s).scope (start (question_of s))
-  start_typed =
+  is_formula : (t : Lambda) → IsSigned (length s.constants) t → IsFormula (question_of s).scope t
+  is_formula t h = type_of-canonical (question_of s).scope [] formula t (canonical t h)
+
+  are_formulas : (ts : List Lambda) → AreSigned (length s.constants) ts → AreFormulas (question_of s).scope ts
+  are_formulas [] h = tt
+  are_formulas (t ∷ ts) h = (is_formula t h.0, are_formulas ts h.1)
+
+  is_formula_if_there : (o : Option Lambda) → IsSignedIfThere (length s.constants) o → IsFormulaIfThere (question_of s).scope o
+  is_formula_if_there None h = tt
+  is_formula_if_there (Some t) h = is_formula t h
+
+  pub sound_typed : IsTyped (question_of s)
+  sound_typed = record {
+    scope = record { names_declared = formulas_declared s.constants g.constants; witnesses_declared = tt };
+    assumed = are_formulas s.assumed g.assumed;
+    conjecture = is_formula_if_there s.conjecture g.conjecture;
+  }
+
+  is_normal : (t : Lambda) → IsSigned (length s.constants) t → normal_in s t ≡ t
+  is_normal t h = normal_form-canonical (question_of s).scope [] formula t (canonical t h)
+
+  are_normal : (ts : List Lambda) → AreSigned (length s.constants) ts → map (normal_in s) ts ≡ ts
+  are_normal [] h = refl
+  are_normal (t ∷ ts) h = ap₂ (λ x xs. x ∷ xs) (is_normal t h.0) (are_normal ts h.1)
+
+  is_normal_if_there : (o : Option Lambda) → IsSignedIfThere (length s.constants) o → option_map (normal_in s) o ≡ o
+  is_normal_if_there None h = refl
+  is_normal_if_there (Some t) h = ap Some (is_normal t h)
+
+  -- the formulas of the first path are their own normal forms
+  pub normal_question-sound : normal_question s ≡ question_of s
+  normal_question-sound =
+      ap₂ (λ ts o. record { scope = (question_of s).scope; assumed = ts; conjecture = o }) (are_normal s.assumed g.assumed) (is_normal_if_there s.conjecture g.conjecture)
+
+  normally : (P : List Literal → Type 0) → P (start (question_of s)) → P (start (normal_question s))
+  normally P = subst (λ q. P (start q)) (sym normal_question-sound)
+
+  pub start_leaves : AreLeaves (start (normal_question s))
+  start_leaves = normally AreLeaves (
+      let n = length s.constants in
+      are_leaves _ (every_start (λ l. IsLeafTerm l.atom) n (leaf-signed n) (leaf-signed n) s refl g))
+
+  pub start_unnamed : NoneNamesWitness (start (normal_question s))
+  start_unnamed = normally NoneNamesWitness (
+      let n = length s.constants in
+      none_named _ (every_start (λ l. NamesNoWitness l.atom) n (unnamed-literal n) (unnamed-literal n) s refl g))
+
+  pub start_typed : IsBranch (question_of s).scope (start (normal_question s))
+  start_typed = normally (IsBranch (question_of s).scope) (
       let k = (question_of s).scope in
       is_branch k _
-      (every_start (IsLiteral k) (length s.constants) (λ t h. literal-is_literal k t (canonical t h)) (λ t h. opposite-is_literal k (literal t) (literal-is_literal k t (canonical t h))) s refl g)
+      (every_start (IsLiteral k) (length s.constants) (λ t h. literal-is_literal k t (canonical t h)) (λ t h. opposite-is_literal k (literal t) (literal-is_literal k t (canonical t h))) s refl g))
 
   -- a model of the problem meets the start
   module _ (m : Model) (good : IsModel (question_of s).scope m) where
@@ -283,11 +310,11 @@ module _ (s : Stated) (g : IsSound s) where
     both P [] ys h k = k
     both P (x ∷ xs) ys h k = (h.0, both P xs ys h.1 k)
 
-    pub start_met : MeetsProblem (question_of s) m → MeetsBranch (question_of s).scope m (start (question_of s))
-    start_met h =
+    pub start_met : MeetsProblem (question_of s) m → MeetsBranch (question_of s).scope m (start (normal_question s))
+    start_met h = normally (MeetsBranch (question_of s).scope m) (
         meets_branch (question_of s).scope m _
         (added_each (MeetsLiteral (question_of s).scope m) (map literal s.assumed ++ denied s.conjecture)
-        (both (MeetsLiteral (question_of s).scope m) (map literal s.assumed) (denied s.conjecture) (literals_met s.assumed g.assumed h.assumed) (denied_met s.conjecture g.conjecture h.conjecture)))
+        (both (MeetsLiteral (question_of s).scope m) (map literal s.assumed) (denied s.conjecture) (literals_met s.assumed g.assumed h.assumed) (denied_met s.conjecture g.conjecture h.conjecture))))
 
 -- names in texts
 word_front_bytes : (bytes : List ℕ) → list_all is_word_byte (word_front bytes) ≡ true
@@ -362,16 +389,16 @@ are_leaves_below : (n : ℕ) (ls : List Literal) → Every (λ l. IsLeafBelow n 
 are_leaves_below n [] h = tt
 are_leaves_below n (l ∷ ls) h = (h.0, are_leaves_below n ls h.1)
 
-pub start_leaves_below : (s : Stated) → IsSound s → AreLeavesBelow (length s.constants) (start (question_of s))
-start_leaves_below s g =
+pub start_leaves_below : (s : Stated) → IsSound s → AreLeavesBelow (length s.constants) (start (normal_question s))
+start_leaves_below s g = normally s g (AreLeavesBelow (length s.constants)) (
     let n = length s.constants in
-    are_leaves_below n _ (every_start (λ l. IsLeafBelow n l.atom) n (leaf_below-signed n) (leaf_below-signed n) s refl g)
+    are_leaves_below n _ (every_start (λ l. IsLeafBelow n l.atom) n (leaf_below-signed n) (leaf_below-signed n) s refl g))
 
 pub states_runnable : (depth : ℕ) (bytes : List ℕ) (s : Stated) → States depth bytes s → IsRunnable s
 states_runnable depth bytes s h =
     let g = states_sound depth bytes s h in
     record {
-      propositional = sound_propositional s g;
+      formulas = sound_typed s g;
       plain = states_plain depth bytes s h;
       leaves = start_leaves s g;
       leaves_below = start_leaves_below s g;

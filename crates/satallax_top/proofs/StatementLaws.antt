@@ -1,12 +1,11 @@
 -- Statements are read as the grammar says, and files are lists of statements.
-use Rattle.std.proofs.Common.{◌≡◌, ◌≢◌, ℕ, List, [], ◌∷◌, ◌++◌, Option, Some, None, refl, sym, ap, ap₂, subst, ◌∙◌, Bool, true, false, codes, if◌then◌else◌, option_map, is_some}
-use Rattle.std.specs.Str.{bytes_eq}
+use Rattle.std.proofs.Common.{◌≡◌, ◌≢◌, ℕ, List, [], Option, Some, None, refl, sym, ap, subst, ◌∙◌, Bool, true, false, codes, if◌then◌else◌, option_map, is_some}
 use Rattle.stt_core.specs.Signature.{symbol_named}
 use Rattle.satallax_top.specs.Bytes.{token_at, skipped, first_token}
 use Rattle.satallax_top.specs.Reading.{Begins, IsHead, IsEnd, IsTyping, Statement, declares, assumes, asks, IsStatement, typing_statement as typing_is, axiom_statement as axiom_is, conjecture_statement as conjecture_is, Stated, with_name, with_assumed, with_conjecture, term_of, stated_more, Leads, at_end, by_statement}
-use Rattle.satallax_top.specs.Reader.{◌>>=◌, behind, head_at, end_at, typing_at, unit_at, Read, MoreStated, declared_more, typing_statement, axiom_statement, conjecture_statement, by_role, statement_at}
+use Rattle.satallax_top.specs.Reader.{behind, head_at, end_at, typing_at, unit_at, Read, MoreStated, typing_statement, axiom_statement, conjecture_statement, by_role, statement_at}
 use Rattle.satallax_top.proofs.ReaderLaws.{binds, bind, head_at-is, head_at-at, end_at-is, end_at-at, typing_at-is, typing_at-at}
-use Rattle.satallax_top.proofs.UnitLaws.{maps, tested, if_false, if_true, ReadsUnit, unit_at-is, unit_at-at}
+use Rattle.satallax_top.proofs.UnitLaws.{maps, tested, ReadsUnit, unit_at-is, unit_at-at}
 
 abbrev found : Stated → List ℕ → Option MoreStated
 found s rest = Some (s, rest)

@@ -1,9 +1,9 @@
 -- The text of refutations of one line.
-use Rattle.std.proofs.Common.{◌≡◌, ℕ, zero, suc, ◌+◌, ◌<◌, ◌≤◌, ◌&&◌, Bool, true, false, List, [], ◌∷◌, ◌++◌, map, length, take, drop, slice_get, codes, decimal, Option, Some, None, option_map, unwrap_or, refl, sym, ap, ap₂, subst, ◌∙◌, if◌then◌else◌, arith, append_assoc, add-one}
-use Rattle.stt_core.specs.Lambda.{Lambda, bound, constant, lam, app, name, witness, falsity, negation, implication, all, equality, choice, lambdas, applied}
+use Rattle.std.proofs.Common.{◌≡◌, ℕ, zero, suc, ◌+◌, ◌<◌, ◌≤◌, List, [], ◌∷◌, ◌++◌, map, length, take, slice_get, codes, Some, option_map, refl, sym, ap, ap₂, subst, ◌∙◌, if◌then◌else◌, arith, append_assoc}
+use Rattle.stt_core.specs.Lambda.{Lambda, constant, name, falsity, lambdas, applied}
 use Rattle.stt_core.specs.SimpleType.{SimpleType}
 use Rattle.stt_core.specs.TypedName.{TypedName}
-use Rattle.stt_core.specs.View.{the_head, the_type}
+use Rattle.stt_core.specs.View.{the_head}
 use Rattle.stt_core.specs.declared.nf.Head.{Head}
 use Rattle.stt_core.specs.declared.nf.Head.TheVariants as head
 use Rattle.stt_core.proofs.HeadLaws.{atom_head}
@@ -13,7 +13,7 @@ use Rattle.stt_tableau.specs.Literals.{Literal}
 use Rattle.std.specs.List.{flat_map}
 use Rattle.std.proofs.lemmas.Option.{slice_get_within}
 use Rattle.std.proofs.lemmas.List.{length-take-le}
-use Rattle.satallax_top.specs.Text.{Names, name_at, is_plain, escaped, name_text, term_text, literal_text, literal_texts, separated, comma_before, rule_text, text_lines, as_bytes}
+use Rattle.satallax_top.specs.Text.{Names, name_at, escaped, name_text, term_text, literal_text, literal_texts, separated, comma_before, rule_text, text_lines, as_bytes}
 use Rattle.satallax_top.specs.PlainNames.{names_of, ArePlain}
 use Rattle.std.proofs.lemmas.Fmt.{decimal_digit}
 use Rattle.satallax_top.specs.Ended.{closing_rule, one_line_refutation}

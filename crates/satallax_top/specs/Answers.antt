@@ -1,25 +1,21 @@
 -- What a call answers.
-use Rattle.std.specs.Prelude.{◌≡◌, ◌<◌, ◌≤◌, ◌^◌, ℕ, Bool, true, false, IsTrue, List, [], length, Option, Some, None, is_some, is_none}
+use Rattle.std.specs.Prelude.{◌≡◌, ◌<◌, ℕ, Bool, false, IsTrue, List, length, Option, Some, None, is_some, is_none}
 use Rattle.std.specs.List.{list_any}
-use Rattle.stt_tableau.specs.Witnesses.{with_rows}
 use Rattle.stt_tableau.specs.Accepted.{IsAccepted}
-use Rattle.stt_tableau.specs.Closed.{Closes, tableau_of}
 use Rattle.stt_tableau.specs.Start.{start}
 use Rattle.stt_tableau.specs.declared.refutation.Refutation.{Refutation}
-use Rattle.stt_core.specs.Meaning.{Model, IsModel}
-use Rattle.stt_core.specs.Meets.{MeetsProblem}
 use Rattle.satallax_top.specs.declared.statement.TheConstants.{MAX_DEPTH}
 use Rattle.satallax_top.specs.declared.run.TheConstants.{MAX_COMMANDS}
 use Rattle.satallax_top.specs.Reading.{Stated, States, question_of}
 use Rattle.satallax_top.specs.Problems.{StatesNothing}
 use Rattle.satallax_top.specs.Run.{IsProved, IsExhausted, IsStopped}
-use Rattle.satallax_top.specs.Text.{Names, text_lines, as_bytes}
+use Rattle.satallax_top.specs.Text.{text_lines, as_bytes}
 use Rattle.satallax_top.specs.PlainNames.{names_of}
 use Rattle.satallax_top.specs.Block.{end_mark, begins_with, has_line_feed}
 use Rattle.satallax_top.specs.Words.{problem_word}
-use Rattle.satallax_top.specs.declared.outcome.FileRef.{FileRef}
 use Rattle.satallax_top.specs.declared.outcome.Outcome.{Outcome}
 use Rattle.satallax_top.specs.declared.outcome.Outcome.TheVariants.{Theorem, Unsatisfiable, GaveUp, CommandLimit, Words, TooLong, NotYetAt, ReadFault, WriteFault, Memory}
+use Rattle.satallax_top.specs.NormalQuestion.{normal_question}
 
 -- the most bytes of a problem's file
 abbrev pub max_bytes : ℕ
@@ -27,9 +23,9 @@ max_bytes = 16777216
 
 -- The run over what is stated ends after n commands, with a refutation that is accepted for its start, and whose lines are these.
 pub record IsProofOf (s : Stated) (n : ℕ) (text : List ℕ) : Type 0 where
-  pub proved : IsProved (start (question_of s)) MAX_COMMANDS n
+  pub proved : IsProved (start (normal_question s)) MAX_COMMANDS n
   pub refutation : Refutation
-  pub accepted : IsAccepted (question_of s).scope (start (question_of s)) refutation
+  pub accepted : IsAccepted (question_of s).scope (start (normal_question s)) refutation
   pub is_text : text ≡ as_bytes (text_lines (names_of s.constants) refutation)
   pub no_line_feeds : list_any has_line_feed (text_lines (names_of s.constants) refutation) ≡ false
   pub no_end_mark : list_any (begins_with end_mark) (text_lines (names_of s.constants) refutation) ≡ false
@@ -38,8 +34,8 @@ pub record IsProofOf (s : Stated) (n : ℕ) (text : List ℕ) : Type 0 where
 abbrev pub IsSolvedFor : Stated → Outcome → ℕ → List ℕ → Type 0
 IsSolvedFor s Theorem n text = IsTrue (is_some s.conjecture) × IsProofOf s n text
 IsSolvedFor s Unsatisfiable n text = IsTrue (is_none s.conjecture) × IsProofOf s n text
-IsSolvedFor s GaveUp n text = IsExhausted (start (question_of s)) MAX_COMMANDS n
-IsSolvedFor s (CommandLimit m) n text = (m ≡ n) × IsStopped (start (question_of s)) MAX_COMMANDS n
+IsSolvedFor s GaveUp n text = IsExhausted (start (normal_question s)) MAX_COMMANDS n
+IsSolvedFor s (CommandLimit m) n text = (m ≡ n) × IsStopped (start (normal_question s)) MAX_COMMANDS n
 IsSolvedFor s (NotYetAt at) n text = ⊥
 IsSolvedFor s Memory n text = ⊥
 IsSolvedFor s Words n text = ⊥

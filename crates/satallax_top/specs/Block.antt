@@ -1,5 +1,5 @@
 -- Where bytes hold the text of a refutation.
-use Rattle.std.specs.Prelude.{◌≡◌, ℕ, ◌==◌, Bool, true, false, List, [], ◌∷◌, ◌++◌, codes, nat_eq}
+use Rattle.std.specs.Prelude.{◌≡◌, ℕ, ◌==◌, Bool, true, false, List, ◌∷◌, ◌++◌, codes, nat_eq}
 use Rattle.std.specs.List.{list_any, starts_with}
 use Rattle.stt_tableau.specs.declared.refutation.Refutation.{Refutation}
 use Rattle.satallax_top.specs.Text.{Names, text_lines, as_bytes}

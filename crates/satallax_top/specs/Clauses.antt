@@ -1,7 +1,7 @@
 -- The clauses of the search, and when no assignment satisfies them (Brown, Reducing higher-order theorem proving to a sequence of SAT
 -- problems, Journal of Automated Reasoning, 2013).
 use Rattle.std.specs.Prelude.{◌≡◌, Bool, true, false, not, List, [], ◌∷◌, ◌++◌, map, filter, Contains, if◌then◌else◌}
-use Rattle.std.specs.List.{list_any, list_all, flat_map}
+use Rattle.std.specs.List.{list_any, flat_map}
 use Rattle.stt_core.specs.Lambda.{Lambda}
 use Rattle.stt_core.specs.SameTerm.{same_term}
 use Rattle.stt_tableau.specs.Literals.{Literal, opposite}

@@ -1,5 +1,5 @@
 -- What a reported proof means.
-use Rattle.std.specs.Prelude.{◌≡◌, ℕ, Bool, IsTrue, List, ◌++◌, Option, Some, unwrap_or, []}
+use Rattle.std.specs.Prelude.{◌≡◌, ℕ, Bool, IsTrue, List, ◌++◌, Option, Some}
 use Rattle.outside.specs.Prefix.{AppendsProperly}
 use Rattle.stt_core.specs.Meaning.{Model, IsModel}
 use Rattle.stt_core.specs.Meets.{MeetsProblem}
@@ -16,14 +16,11 @@ use Rattle.satallax_top.specs.Text.{text_lines, as_bytes}
 use Rattle.satallax_top.specs.PlainNames.{names_of}
 use Rattle.satallax_top.specs.Block.{HoldsText}
 use Rattle.satallax_top.specs.Report.{report}
-use Rattle.satallax_top.specs.Words.{problem_word}
+use Rattle.satallax_top.specs.Words.{problem_word, name_of}
 use Rattle.satallax_top.specs.Answers.{IsAnswer}
 use Rattle.satallax_top.specs.declared.outcome.Outcome.{Outcome}
 use Rattle.satallax_top.specs.declared.outcome.Outcome.TheVariants.{WriteFault}
-
--- the problem's name, or nothing where the words name none
-abbrev pub name_of : List (List ℕ) → List ℕ
-name_of words = unwrap_or (problem_word words) []
+use Rattle.satallax_top.specs.NormalQuestion.{normal_question}
 
 -- The problem that the file states has no standard model whose base types are finite: no such model meets its assumed formulas without
 -- meeting its conjecture.
@@ -47,12 +44,12 @@ pub record IsProofReport (words : List (List ℕ)) (told : Bool) (contents : Lis
   pub stated : Stated
   pub states : States MAX_DEPTH bytes stated
   pub commands : ℕ
-  pub proved : IsProved (start (question_of stated)) MAX_COMMANDS commands
+  pub proved : IsProved (start (normal_question stated)) MAX_COMMANDS commands
   pub refutation : Refutation
   pub is_report : written ≡ report outcome name commands (as_bytes (text_lines (names_of stated.constants) refutation))
   pub holds_text : HoldsText (names_of stated.constants) written refutation
-  pub accepted : IsAccepted (question_of stated).scope (start (question_of stated)) refutation
-  pub closed : Closes (with_rows (question_of stated).scope refutation.witnesses) refutation.witnesses (tableau_of refutation) (start (question_of stated))
+  pub accepted : IsAccepted (question_of stated).scope (start (normal_question stated)) refutation
+  pub closed : Closes (with_rows (question_of stated).scope refutation.witnesses) refutation.witnesses (tableau_of refutation) (start (normal_question stated))
   pub no_model : (m : Model) → IsModel (question_of stated).scope m → MeetsProblem (question_of stated) m → ⊥
 
 -- the bytes appended to old are written as one of the reports for which R holds

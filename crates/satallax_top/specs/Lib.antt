@@ -6,7 +6,7 @@ pub mod NotYet
 pub mod Refusals
 pub mod Problems
 pub mod Propositional
-pub mod ShapeView
+pub mod NormalQuestion
 pub mod Clauses
 pub mod Search
 pub mod Run

@@ -1,5 +1,4 @@
 -- The refusal of a form that isn't built yet.
-use Rattle.std.specs.Prelude.{◌≡◌, ℕ}
 use Rattle.satallax_top.specs.declared.refusal.Refusal.{Refusal}
 use Rattle.satallax_top.specs.declared.refusal.Refusal.TheVariants.{NotYet, Memory}
 

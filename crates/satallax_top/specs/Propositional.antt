@@ -1,30 +1,32 @@
--- The formulas of the first path, which are canonical as they stand.
-use Rattle.std.specs.Prelude.{ℕ, ◌<◌, List, [], ◌∷◌, length, Option, Some, None}
-use Rattle.stt_core.specs.Lambda.{Lambda, constant, app, name, falsity, negation, implication}
+-- What is run, and the formulas of the first path.
+use Rattle.std.specs.Prelude.{◌≡◌, ℕ, ◌<◌, List, [], ◌∷◌, length, Option, Some, None}
+use Rattle.stt_core.specs.SimpleType.{formula}
+use Rattle.stt_core.specs.Lambda.{Lambda, constant, name, falsity}
+use Rattle.stt_core.specs.Typing.{Scope, type_of, IsScope}
+use Rattle.stt_core.specs.Meets.{Question}
 use Rattle.stt_tableau.specs.Literals.{Literal, IsBranch}
 use Rattle.stt_tableau.specs.Start.{start}
 use Rattle.satallax_top.specs.Reading.{Stated, question_of}
 use Rattle.satallax_top.specs.PlainNames.{ArePlain}
+use Rattle.satallax_top.specs.NormalQuestion.{normal_question}
 
--- a formula of names, falsity, negations and implications
-abbrev pub IsPropositional : Lambda → Type 0
-IsPropositional (constant (name k)) = Unit {0}
-IsPropositional (constant falsity) = Unit {0}
-IsPropositional (app (constant negation) s) = IsPropositional s
-IsPropositional (app (app (constant implication) s) t) = IsPropositional s × IsPropositional t
-IsPropositional t = ⊥
+-- the term is a formula
+abbrev pub IsFormula : Scope → Lambda → Type 0
+IsFormula scope t = type_of scope [] t ≡ Some formula
 
-abbrev pub ArePropositional : List Lambda → Type 0
-ArePropositional [] = Unit {0}
-ArePropositional (t ∷ ts) = IsPropositional t × ArePropositional ts
+abbrev pub AreFormulas : Scope → List Lambda → Type 0
+AreFormulas scope [] = Unit {0}
+AreFormulas scope (t ∷ ts) = IsFormula scope t × AreFormulas scope ts
 
-abbrev pub IsPropositionalIfThere : Option Lambda → Type 0
-IsPropositionalIfThere None = Unit {0}
-IsPropositionalIfThere (Some t) = IsPropositional t
+abbrev pub IsFormulaIfThere : Scope → Option Lambda → Type 0
+IsFormulaIfThere scope None = Unit {0}
+IsFormulaIfThere scope (Some t) = IsFormula scope t
 
-pub record StatesPropositional (s : Stated) : Type 0 where
-  pub assumed : ArePropositional s.assumed
-  pub conjecture : IsPropositionalIfThere s.conjecture
+-- what is stated is typed: its constants have types that are declared, and its terms are formulas
+pub record IsTyped (question : Question) : Type 0 where
+  pub scope : IsScope question.scope
+  pub assumed : AreFormulas question.scope question.assumed
+  pub conjecture : IsFormulaIfThere question.scope question.conjecture
 
 -- a literal whose atom is a name or falsity
 abbrev pub IsLeafTerm : Lambda → Type 0
@@ -46,11 +48,11 @@ abbrev pub AreLeavesBelow : ℕ → List Literal → Type 0
 AreLeavesBelow n [] = Unit {0}
 AreLeavesBelow n (l ∷ ls) = IsLeafBelow n l.atom × AreLeavesBelow n ls
 
--- What a file of the first path states is run as it stands: its formulas are propositional and its names lower words, and the literals of
--- its start are leaves, and literals over its names.
+-- What a file of the first path states is run as it stands: it is typed, its names are lower words, and the literals of its start are
+-- leaves, and literals over its names.
 pub record IsRunnable (s : Stated) : Type 0 where
-  pub propositional : StatesPropositional s
+  pub formulas : IsTyped (question_of s)
   pub plain : ArePlain s.constants
-  pub leaves : AreLeaves (start (question_of s))
-  pub leaves_below : AreLeavesBelow (length s.constants) (start (question_of s))
-  pub typed : IsBranch (question_of s).scope (start (question_of s))
+  pub leaves : AreLeaves (start (normal_question s))
+  pub leaves_below : AreLeavesBelow (length s.constants) (start (normal_question s))
+  pub typed : IsBranch (question_of s).scope (start (normal_question s))

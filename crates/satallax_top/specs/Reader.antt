@@ -1,5 +1,5 @@
 -- How the reader goes, token by token.
-use Rattle.std.specs.Prelude.{◌≡◌, ℕ, zero, suc, List, [], ◌∷◌, ◌++◌, codes, Option, Some, None, Result, Ok, Err, option_map, is_some, if◌then◌else◌, length, ◌<◌, IfOk}
+use Rattle.std.specs.Prelude.{ℕ, zero, suc, List, [], codes, Option, Some, None, option_map, is_some, if◌then◌else◌}
 use Rattle.std.specs.Str.{bytes_eq}
 use Rattle.stt_core.specs.Lambda.{Lambda, constant, falsity, neg}
 use Rattle.stt_core.specs.TypedName.{TypedName}

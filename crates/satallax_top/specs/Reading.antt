@@ -5,8 +5,7 @@
 --               | "thf" "(" Lower "," ("axiom" | "conjecture") "," formula ")" "."
 --     formula   = unit
 --     unit      = "~" unit | Lower | "$true" | "$false" | "(" formula ")"
-use Rattle.std.specs.Prelude.{◌≡◌, ℕ, suc, true, Bool, List, [], ◌∷◌, ◌++◌, map, codes, Option, Some, None, option_map, is_some, if◌then◌else◌}
-use Rattle.std.specs.Str.{bytes_eq}
+use Rattle.std.specs.Prelude.{◌≡◌, ℕ, suc, true, List, [], ◌∷◌, ◌++◌, map, codes, Option, Some, None, option_map, is_some, if◌then◌else◌}
 use Rattle.stt_core.specs.SimpleType.{formula}
 use Rattle.stt_core.specs.Lambda.{Lambda, constant, name, falsity, neg}
 use Rattle.stt_core.specs.TypedName.{TypedName}

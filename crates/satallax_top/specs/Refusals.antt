@@ -1,5 +1,5 @@
 -- What a reader answers.
-use Rattle.std.specs.Prelude.{◌≡◌, ℕ, List, Option, Some, None, Result, Ok, Err}
+use Rattle.std.specs.Prelude.{◌≡◌, Option, Some, None, Result, Ok, Err}
 use Rattle.stt_core.specs.View.{the_term}
 use Rattle.satallax_top.specs.Reader.{Read}
 use Rattle.satallax_top.specs.declared.formula.UnitRead.{UnitRead}

@@ -10,9 +10,12 @@ abbrev pub headed : List ℕ → List ℕ → List ℕ → List ℕ → List ℕ
 headed status name word what = as_bytes ((status ++ name) ∷ (word ++ what) ∷ [])
 
 -- the report of a proof: its head, and the text of the refutation between its marks
+abbrev pub counted_report : List ℕ → List ℕ → List ℕ → List ℕ → List ℕ
+counted_report status name count text =
+    as_bytes ((status ++ name) ∷ (codes "% commands " ++ count) ∷ (start_mark ++ name) ∷ []) ++ (text ++ as_bytes ((end_mark ++ name) ∷ []))
+
 abbrev pub proof_report : List ℕ → List ℕ → ℕ → List ℕ → List ℕ
-proof_report status name n text =
-    as_bytes ((status ++ name) ∷ (codes "% commands " ++ decimal n) ∷ (start_mark ++ name) ∷ []) ++ (text ++ as_bytes ((end_mark ++ name) ∷ []))
+proof_report status name n text = counted_report status name (decimal n) text
 
 -- The report of an outcome, for the problem's name, a number of commands, and the text of a refutation. A file is named as it was opened,
 -- which is the problem's name here.

@@ -1,5 +1,5 @@
 -- The search of the first path: formulas are processed one by one, and each step gives clauses (Brown 2013).
-use Rattle.std.specs.Prelude.{◌≡◌, ℕ, zero, suc, ◌+◌, ◌==◌, ◌&&◌, ◌||◌, nat_lt, nat_le, max, Bool, true, false, not, List, [], ◌∷◌, ◌++◌, map, filter, length, Option, Some, None, if◌then◌else◌}
+use Rattle.std.specs.Prelude.{ℕ, zero, suc, ◌+◌, ◌==◌, ◌&&◌, ◌||◌, nat_lt, nat_le, max, Bool, true, false, not, List, [], ◌∷◌, ◌++◌, map, filter, length, Option, Some, None, if◌then◌else◌}
 use Rattle.std.specs.List.{list_all}
 use Rattle.stt_core.specs.Lambda.{Lambda, bound, constant, lam, app, falsity, implication, imp}
 use Rattle.stt_tableau.specs.Literals.{Literal, plus, minus, opposite, literal}

@@ -1,5 +1,5 @@
 -- The words of the command line.
-use Rattle.std.specs.Prelude.{ℕ, List, [], ◌∷◌, length, Bool, true, false, not, ◌==◌, ◌||◌, ◌&&◌, nat_lt, nat_le, Option, Some, None, if◌then◌else◌}
+use Rattle.std.specs.Prelude.{ℕ, List, [], ◌∷◌, length, Bool, false, not, ◌==◌, ◌||◌, ◌&&◌, nat_lt, nat_le, Option, Some, None, unwrap_or, if◌then◌else◌}
 use Rattle.std.specs.List.{list_any}
 
 -- a byte that no name of a file has
@@ -20,3 +20,7 @@ abbrev pub problem_word : List (List ℕ) → Option (List ℕ)
 problem_word [] = None
 problem_word (w ∷ []) = if is_file_name w && not (is_option w) then Some w else None
 problem_word (w ∷ v ∷ words) = None
+
+-- the problem's name, or nothing where the words name no problem
+abbrev pub name_of : List (List ℕ) → List ℕ
+name_of words = unwrap_or (problem_word words) []

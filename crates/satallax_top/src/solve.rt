@@ -2,7 +2,7 @@
 
 ghost use Rattle.std.specs.Prelude.{◌≡◌, ◌<◌, ◌≤◌, ◌^◌, length, [], IfOk};
 ghost use Rattle.stt_tableau.specs.Start.{start};
-ghost use Rattle.satallax_top.specs.Reading.{question_of};
+ghost use Rattle.satallax_top.specs.NormalQuestion.{normal_question};
 ghost use Rattle.satallax_top.specs.StatedView.{stated};
 ghost use Rattle.satallax_top.specs.Propositional.{IsRunnable};
 ghost use Rattle.satallax_top.specs.Ended.{EndsAs};
@@ -55,7 +55,7 @@ fn proved_outcome(problem: &Problem) -> Outcome
 /// The answer for a run over a problem that has ended.
 fn ended_answer(alloc: Global, problem: &Problem, ended: Ended) -> Result<Answer, AllocError>
     requires runnable { IsRunnable (stated problem.now) }
-    requires ended { EndsAs (start (question_of (stated problem.now))) MAX_COMMANDS ended }
+    requires ended { EndsAs (start (normal_question (stated problem.now))) MAX_COMMANDS ended }
     ensures { IfOk result (λ a. IsSolvedFor (stated problem.now) a.outcome a.commands a.text) }
 {
     match ended {
@@ -81,6 +81,7 @@ fn ended_answer(alloc: Global, problem: &Problem, ended: Ended) -> Result<Answer
 
 /// The answer for a problem.
 fn solve_problem(alloc: Global, problem: &Problem) -> Result<Answer, AllocError>
+    requires bases { problem.now.signature.bases ≡ [] }
     requires runnable { IsRunnable (stated problem.now) }
     ensures { IfOk result (λ a. IsSolvedFor (stated problem.now) a.outcome a.commands a.text) }
 {

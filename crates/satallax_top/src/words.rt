@@ -2,7 +2,7 @@
 
 ghost use Rattle.std.specs.Prelude.{◌≡◌, [], ◌∷◌, ◌++◌, OnOk, OnErr, option_map};
 ghost use Rattle.std.specs.List.{list_any};
-ghost use Rattle.satallax_top.specs.Words.{is_control, is_file_name, is_option, problem_word};
+ghost use Rattle.satallax_top.specs.Words.{is_control, is_file_name, is_option, problem_word, name_of};
 
 use std::alloc::{AllocError, Global};
 use std::marker::Model;
@@ -72,5 +72,12 @@ impl Words {
             }
             _ => None,
         }
+    }
+
+    /// The problem's name, or nothing where the words name no problem.
+    pub(crate) fn name(&self) -> &str
+        ensures { result.now ≡ name_of self.now }
+    {
+        self.problem().unwrap_or("")
     }
 }

@@ -4,4 +4,4 @@ use Rattle.satallax_top.proofs.StatedLaws.{states_runnable}
 use Rattle.satallax_top.proofs.solve.solve_stated.Goals as goal
 
 pub solve_problem-requires : goal.solve_problem-requires
-solve_problem-requires c = record { runnable = states_runnable MAX_DEPTH c.args.bytes.now (stated c.in-Ok.problem) c.in-Ok.ensures.read }
+solve_problem-requires c = record { bases = c.in-Ok.ensures.bases; runnable = states_runnable MAX_DEPTH c.args.bytes.now (stated c.in-Ok.problem) c.in-Ok.ensures.read }

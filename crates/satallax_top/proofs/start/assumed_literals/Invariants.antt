@@ -1,7 +1,10 @@
-use Rattle.std.proofs.Common.{◌≡◌, map, take}
+use Rattle.std.proofs.Common.{◌≡◌, [], map, take}
+use Rattle.stt_core.specs.ScopeView.{the_scope}
+use Rattle.stt_normal.specs.Normal.{normal_form}
 use Rattle.stt_tableau.specs.Literals.{literal}
 use Rattle.stt_tableau.specs.Start.{without_repeats}
 use Rattle.satallax_top.proofs.start.assumed_literals.Given as goal
 
 abbrev pub invariant-loop-i : goal.invariant-loop-i
-invariant-loop-i l = l.lits ≡ without_repeats (map literal (take l.i l.assumed))
+invariant-loop-i l =
+    l.lits ≡ without_repeats (map literal (map (normal_form (the_scope l.sig []) []) (take l.i l.assumed)))

@@ -1,0 +1,5 @@
+//! Whole calls of the prover, with what they write, worked out by hand.
+#![tactic(auto)]
+
+#[cfg(test)]
+mod calls;
