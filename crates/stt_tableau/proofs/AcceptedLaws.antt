@@ -1,7 +1,7 @@
 -- The tableau of an accepted refutation closes each branch that its last line's branch is within.
 use Rattle.std.proofs.Common.{◌≡◌, ℕ, zero, suc, List, [], ◌∷◌, ◌++◌, Some, slice_get, unwrap_or, refl, sym, ap, subst}
 use Rattle.stt_core.specs.Typing.{Scope}
-use Rattle.stt_tableau.specs.Literals.{Literal, IsBranch}
+use Rattle.stt_tableau.specs.Literals.{Literal}
 use Rattle.stt_tableau.specs.Witnesses.{Row, with_rows}
 use Rattle.stt_tableau.specs.Rules.{Rule, places, AreAt}
 use Rattle.stt_tableau.specs.Accepted.{Within, AreChildren, IsRightLine, AreRightLines, IsAccepted}
@@ -86,14 +86,3 @@ accepted_closes scope start refutation accepted branch w =
     let rows = refutation.witnesses in
     let covers = last_covers (with_rows scope rows) rows accepted.last.front accepted.last.last refutation.lines [] leaf [] accepted.last.are tt accepted.lines in
     covers.closes branch w
-
--- the branch of the last of the right lines is a branch
-pub last_is_branch : (scope : Scope) (rows : List Row) (front : List Line) (last : Line) (lines earlier : List Line) → lines ≡ front ++ last ∷ [] → AreRightLines scope rows earlier lines → IsBranch scope last.branch
-last_is_branch scope rows [] last [] earlier e right = cc
-last_is_branch scope rows (f ∷ front) last [] earlier e right = cc
-last_is_branch scope rows [] last (line ∷ lines) earlier e right =
-    let same : line ≡ last = cc in
-    subst (λ l. IsBranch scope l.branch) same right.0.typed.0
-last_is_branch scope rows (f ∷ front) last (line ∷ lines) earlier e right =
-    let rest : lines ≡ front ++ last ∷ [] = cc in
-    last_is_branch scope rows front last lines (earlier ++ line ∷ []) rest right.1

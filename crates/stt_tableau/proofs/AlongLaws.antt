@@ -4,14 +4,13 @@ use Rattle.std.proofs.Math.Nat.{eq-or-lt_of_le}
 use mathlib.Core.Path.{fun_ext}
 use Rattle.stt_core.specs.SimpleType.{SimpleType, base, arrow, predicate}
 use Rattle.stt_core.specs.Lambda.{Constant, name, witness, falsity, negation, implication, all, equality, choice, Lambda, bound, constant, lam, app}
-use Rattle.stt_core.specs.Typing.{Scope, IsScope, AreDeclared, type_of, constant_type}
+use Rattle.stt_core.specs.Typing.{Scope, type_of, constant_type}
 use Rattle.stt_core.specs.Canonical.{IsCanonical, IsNeutral}
 use Rattle.stt_core.specs.Digits.{entry, table}
 use Rattle.stt_core.specs.Meaning.{Model, size, size_of, result_size, value, constant_value, IsModel}
 use Rattle.stt_core.proofs.ValueLaws.{size_pos, test_below}
 use Rattle.stt_tableau.specs.Witnesses.{Row, with_rows, IsTwice, IsTableAfter, IsTable}
 use Rattle.stt_tableau.specs.Along.{least_zero, with_witnesses, witness_list, extended, GoesAlong}
-use Rattle.stt_tableau.proofs.FunctionLaws.{predicate_declared}
 
 -- the term names no witness from k on
 abbrev IsConstantBelow : ℕ → Constant → Type 0
@@ -193,14 +192,6 @@ module _ (scope : Scope) (rows : List Row) where
         subst (λ j. entry 2 (value (with_rows scope rows) (extended scope m rows) [] [] r.predicate) (slice_index (witness_list (with_rows scope rows) m [] rows) j) ≡ 0) (zero_add k)
         (along (with_rows scope rows) m [] rows (table_below scope [] rows is) k r g x l z);
   }
-
-  -- the types of the witnesses are declared
-  pub rows_are_scope : IsScope scope → IsTable scope rows → IsScope (with_rows scope rows)
-  rows_are_scope over is = record { names_declared = over.names_declared; witnesses_declared = declared [] rows is }
-    where
-      declared : (earlier qs : List Row) → IsTableAfter scope earlier qs → AreDeclared scope.bases (map (λ r. r.type) qs)
-      declared earlier [] h = tt
-      declared earlier (q ∷ qs) h = (predicate_declared (with_rows scope earlier) q.type q.predicate h.0, declared (earlier ++ q ∷ []) qs h.2)
 
 twice-front : (earlier more : List Row) (r : Row) → IsTwice earlier r → IsTwice (earlier ++ more) r
 twice-front [] more r h = absurd (omega (arith, h.1))

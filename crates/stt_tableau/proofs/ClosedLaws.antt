@@ -1,17 +1,20 @@
--- No model meets a branch that a tableau closes.
-use Rattle.std.proofs.Common.{◌≡◌, map, List, [], ◌∷◌, ◌++◌, ⊎_elim, Contains, subst, arith}
-use Rattle.stt_core.specs.Typing.{Scope, IsScope}
+-- No model meets the branch of a right line.
+use Rattle.std.proofs.Common.{◌≡◌, ℕ, zero, suc, map, List, [], ◌∷◌, ◌++◌, Some, slice_get, ⊎_elim, Contains, subst, arith}
+use Rattle.stt_core.specs.Typing.{Scope}
 use Rattle.stt_core.specs.Meaning.{Model, IsModel}
 use Rattle.stt_tableau.specs.Literals.{Literal, opposite, IsLiteral, IsBranch}
 use Rattle.stt_tableau.specs.Meets.{MeetsLiteral, MeetsBranch, MeetsOne}
 use Rattle.stt_tableau.specs.Witnesses.{Row}
 use Rattle.stt_tableau.specs.Along.{GoesAlong}
-use Rattle.stt_tableau.specs.Accepted.{Within}
-use Rattle.stt_tableau.specs.Closed.{Tableau, leaf, node, Tableaux, none, more, Closes, CloseAll}
+use Rattle.stt_tableau.specs.Rules.{places}
+use Rattle.stt_tableau.specs.Accepted.{Within, ClosesBy, AreChildren, IsRightLine, AreRightLines}
+use Rattle.stt_tableau.specs.declared.refutation.Child.{Child}
+use Rattle.stt_tableau.specs.declared.refutation.Child.TheVariants.{Closed, Line as Numbered}
+use Rattle.stt_tableau.specs.declared.refutation.Line.{Line}
 use Rattle.stt_tableau.proofs.ListLaws.{contains_cases}
-use Rattle.stt_tableau.proofs.LiteralLaws.{branch-append, meets-append, not_both}
-use Rattle.stt_tableau.proofs.DecompositionLaws.{AreBranches}
-use Rattle.stt_tableau.proofs.RuleLaws.{alternatives_are_literals, rule_keeps}
+use Rattle.stt_tableau.proofs.LiteralLaws.{meets-append, not_both}
+use Rattle.stt_tableau.proofs.AcceptedLaws.{within-at}
+use Rattle.stt_tableau.proofs.RuleLaws.{rule_keeps}
 
 pub literal_in : (scope : Scope) (l : Literal) (branch : List Literal) → Contains branch l → IsBranch scope branch → IsLiteral scope l
 literal_in scope l [] c h = absurd (omega (arith, c.1))
@@ -31,22 +34,50 @@ pub meets-within : (scope : Scope) (m : Model) (ls branch : List Literal) → Wi
 meets-within scope m [] branch w h = tt
 meets-within scope m (l ∷ ls) branch w h = (met_in scope m l branch w.0 h, meets-within scope m ls branch w.1 h)
 
-module _ (scope : Scope) (over : IsScope scope) (rows : List Row) (types : scope.witnesses ≡ map (λ r. r.type) rows) (m : Model) (good : IsModel scope m) (along : GoesAlong scope m rows) where
-  mutual
-    -- a branch of literals that a tableau closes is met by no model
-    pub closes_refutes : (tableau : Tableau) (branch : List Literal) → Closes scope rows tableau branch → IsBranch scope branch → MeetsBranch scope m branch → ⊥
-    closes_refutes leaf branch c typed met =
-        not_both scope m c.literal (met_in scope m c.literal branch c.holds met) (met_in scope m (opposite c.literal) branch c.holds_opposite met)
-    closes_refutes (node rule principals children) branch c typed met =
-        let principals_typed = branch-within scope principals branch c.2 typed in
-        close_all_refutes children c.0 branch c.3 typed (alternatives_are_literals scope over rows types rule principals c.0 c.1 principals_typed) met
-        (rule_keeps scope over m good rows types along rule principals c.0 c.1 principals_typed (meets-within scope m principals branch c.2 met))
+module _ (scope : Scope) (rows : List Row) (types : scope.witnesses ≡ map (λ r. r.type) rows) (m : Model) (good : IsModel scope m) (along : GoesAlong scope m rows) where
+  -- the model meets the branch of none of the lines
+  abbrev pub MeetsNone : List Line → Type 0
+  MeetsNone [] = Unit {0}
+  MeetsNone (line ∷ lines) = (MeetsBranch scope m line.branch → ⊥) × MeetsNone lines
 
-    close_all_refutes : (children : Tableaux) (alternatives : List (List Literal)) (branch : List Literal) → CloseAll scope rows children alternatives branch → IsBranch scope branch → AreBranches scope alternatives → MeetsBranch scope m branch → MeetsOne scope m alternatives → ⊥
-    close_all_refutes children [] branch c typed _ met one = one
-    close_all_refutes none (a ∷ as') branch c typed are met one = c
-    close_all_refutes (more t ts) (a ∷ as') branch c typed are met one =
-        ⊎_elim
-        (λ k. closes_refutes t (a ++ branch) c.0 (branch-append scope a branch are.0 typed) (meets-append scope m a branch k met))
-        (λ k. close_all_refutes ts as' branch c.1 typed are.1 met k)
-        one
+  none_at : (lines : List Line) (j : ℕ) (line : Line) → MeetsNone lines → slice_get lines j ≡ Some line → MeetsBranch scope m line.branch → ⊥
+  none_at [] j line h e = cc
+  none_at (l ∷ lines) zero line h e = let same : l ≡ line = cc in subst (λ k. MeetsBranch scope m k.branch → ⊥) same h.0
+  none_at (l ∷ lines) (suc j) line h e = none_at lines j line h.1 e
+
+  none-append : (lines : List Line) (line : Line) → MeetsNone lines → (MeetsBranch scope m line.branch → ⊥) → MeetsNone (lines ++ line ∷ [])
+  none-append [] line h k = (k, tt)
+  none-append (l ∷ lines) line h k = (h.0, none-append lines line h.1 k)
+
+  child_refutes : (earlier : List Line) → MeetsNone earlier → (branch : List Literal) (child : Child) → ClosesBy earlier branch child → MeetsBranch scope m branch → ⊥
+  child_refutes earlier none branch Closed c met =
+      not_both scope m c.literal (met_in scope m c.literal branch c.holds met) (met_in scope m (opposite c.literal) branch c.holds_opposite met)
+  child_refutes earlier none branch (Numbered j) c met = none_at earlier j c.0 none c.1 (meets-within scope m c.0.branch branch c.2 met)
+
+  children_refute : (earlier : List Line) → MeetsNone earlier → (branch : List Literal) → MeetsBranch scope m branch → (alternatives : List (List Literal)) (children : List Child) → AreChildren earlier branch alternatives children → MeetsOne scope m alternatives → ⊥
+  children_refute earlier none branch met [] children c one = one
+  children_refute earlier none branch met (a ∷ as') [] c one = c
+  children_refute earlier none branch met (a ∷ as') (child ∷ cs) c one =
+      ⊎_elim
+      (λ k. child_refutes earlier none (a ++ branch) child c.0 (meets-append scope m a branch k met))
+      (λ k. children_refute earlier none branch met as' cs c.1 k)
+      one
+
+  -- the branch of a right line isn't met where those of the earlier lines aren't
+  line_refutes : (earlier : List Line) → MeetsNone earlier → (line : Line) → IsRightLine scope rows earlier line → MeetsBranch scope m line.branch → ⊥
+  line_refutes earlier none line right met =
+      let principals = right.instance.principals in
+      let there = within-at line.branch (places line.rule) principals right.instance.at_places in
+      children_refute earlier none line.branch met right.alternatives line.children right.children
+      (rule_keeps scope m good rows types along line.rule principals right.alternatives right.instance.fits (branch-within scope principals line.branch there right.typed.0) (meets-within scope m principals line.branch there met))
+
+  -- nor is that of the last of right lines
+  pub last_refutes : (front : List Line) (last : Line) (lines earlier : List Line) → lines ≡ front ++ last ∷ [] → MeetsNone earlier → AreRightLines scope rows earlier lines → MeetsBranch scope m last.branch → ⊥
+  last_refutes [] last [] earlier e none right = cc
+  last_refutes (f ∷ front) last [] earlier e none right = cc
+  last_refutes [] last (line ∷ lines) earlier e none right =
+      let same : line ≡ last = cc in
+      subst (λ l. MeetsBranch scope m l.branch → ⊥) same (line_refutes earlier none line right.0)
+  last_refutes (f ∷ front) last (line ∷ lines) earlier e none right =
+      let rest : lines ≡ front ++ last ∷ [] = cc in
+      last_refutes front last lines (earlier ++ line ∷ []) rest (none-append earlier line none (line_refutes earlier none line right.0)) right.1

@@ -1,23 +1,18 @@
 -- Arguments of one head.
-use Rattle.std.proofs.Common.{◌≡◌, List, [], ◌∷◌, Some, refl, sym, ap₂, subst, ◌∙◌, true, ⊎_elim, inl, inr}
-use Rattle.std.proofs.lemmas.Bool.{and_parts}
-use Rattle.stt_core.specs.SimpleType.{SimpleType, base, arrow, is_declared}
-use Rattle.stt_core.specs.Lambda.{Constant, Lambda, constant, app, applied}
+use Rattle.std.proofs.Common.{◌≡◌, Bool, List, [], ◌∷◌, Some, None, refl, sym, ap, ap₂, subst, ◌∙◌, true, false, if◌then◌else◌, ⊎_elim, inl, inr}
+use Rattle.std.proofs.Math.Nat.{mod-one}
+use Rattle.stt_core.specs.SimpleType.{SimpleType, base, arrow, predicate, is_declared}
+use Rattle.stt_core.specs.Lambda.{Constant, equality, Lambda, constant, app, applied, eq}
 use Rattle.stt_core.specs.Typing.{Scope, type_of, constant_type, applied_type}
 use Rattle.stt_core.specs.Canonical.{IsBase, IsCanonical, IsNeutral}
 use Rattle.stt_core.specs.Digits.{entry}
-use Rattle.stt_core.specs.Meaning.{Model, size, value, IsModel}
+use Rattle.stt_core.specs.Meaning.{Model, size, result_size, value, IsModel}
 use Rattle.stt_core.proofs.TypeLaws.{type_of-canonical, applied as applied_is}
 use Rattle.stt_core.proofs.ValueLaws.{value-app}
-use Rattle.stt_tableau.specs.Literals.{Literal, IsBranch}
-use Rattle.stt_tableau.specs.Meets.{MeetsOne}
+use Rattle.stt_tableau.specs.Literals.{minus}
+use Rattle.stt_tableau.specs.Meets.{MeetsLiteral, MeetsOne}
 use Rattle.stt_tableau.specs.Rules.{differ_each}
-use Rattle.stt_tableau.proofs.EquationLaws.{differ-is_literal, same_or_not, meets-differ}
-
--- the literals of each alternative are literals
-abbrev pub AreBranches : Scope → List (List Literal) → Type 0
-AreBranches scope [] = Unit {0}
-AreBranches scope (a ∷ alternatives) = IsBranch scope a × AreBranches scope alternatives
+use Rattle.stt_tableau.proofs.EquationLaws.{same_or_not, meets-differ}
 
 module _ (scope : Scope) where
   -- a function of the first type takes these canonical arguments, and gives a value of the second
@@ -44,13 +39,11 @@ module _ (scope : Scope) where
       let p : found.0 ≡ a = cc in
       subst (λ x. Takes x (u ∷ us) b) p found.2
 
-  pub differ_each-literals : (a b : SimpleType) (ss ts : List Lambda) → is_declared scope.bases a ≡ true → Takes a ss b → Takes a ts b → AreBranches scope (differ_each a ss ts)
-  differ_each-literals (base n) b ss ts d h k = tt
-  differ_each-literals (arrow c e) b [] ts d h k = tt
-  differ_each-literals (arrow c e) b (s ∷ ss) [] d h k = tt
-  differ_each-literals (arrow c e) b (s ∷ ss) (t ∷ ts) d h k =
-      let parts = and_parts _ _ d in
-      ((differ-is_literal scope c s t (record { declared = parts.0; left = h.0; right = k.0 }), tt), differ_each-literals e b ss ts parts.1 h.1 k.1)
+-- where the type of its sides isn't declared, an equation has the value 0
+value-undeclared : (scope : Scope) (m : Model) (a : SimpleType) (s t : Lambda) → is_declared scope.bases a ≡ false → value scope m [] [] (eq a s t) ≡ 0
+value-undeclared scope m a s t d =
+    ap (λ b. entry (result_size m (applied_type (if b then Some (arrow a (predicate a)) else None) (type_of scope [] s))) (value scope m [] [] (app (constant (equality a)) s)) (value scope m [] [] t)) d
+    ∙ mod-one _
 
 no_arrow : (c d b : SimpleType) → IsBase b → arrow c d ≡ b → ⊥
 no_arrow c d (base n) h e = cc
@@ -58,17 +51,20 @@ no_arrow c d (arrow x y) h e = h
 
 module _ (scope : Scope) (m : Model) (good : IsModel scope m) where
   -- where one head at two lists of arguments has two values, the arguments at some place have
-  pub differ_one : (a b : SimpleType) (h k : Lambda) (ss ts : List Lambda) → IsBase b → is_declared scope.bases a ≡ true → type_of scope [] h ≡ Some a → type_of scope [] k ≡ Some a → value scope m [] [] h ≡ value scope m [] [] k → Takes scope a ss b → Takes scope a ts b → (value scope m [] [] (applied h ss) ≡ value scope m [] [] (applied k ts) → ⊥) → MeetsOne scope m (differ_each a ss ts)
-  differ_one (base n) b h k [] [] of_base d p q e hs ht apart = apart e
-  differ_one (base n) b h k [] (t ∷ ts) of_base d p q e hs ht apart = absurd ht
-  differ_one (base n) b h k (s ∷ ss) ts of_base d p q e hs ht apart = absurd hs
-  differ_one (arrow c f) b h k [] ts of_base d p q e hs ht apart = absurd (no_arrow c f b of_base hs)
-  differ_one (arrow c f) b h k (s ∷ ss) [] of_base d p q e hs ht apart = absurd (no_arrow c f b of_base ht)
-  differ_one (arrow c f) b h k (s ∷ ss) (t ∷ ts) of_base d p q e hs ht apart =
-      let parts = and_parts _ _ d in
+  pub differ_one : (a b : SimpleType) (h k : Lambda) (ss ts : List Lambda) → IsBase b → type_of scope [] h ≡ Some a → type_of scope [] k ≡ Some a → value scope m [] [] h ≡ value scope m [] [] k → Takes scope a ss b → Takes scope a ts b → (value scope m [] [] (applied h ss) ≡ value scope m [] [] (applied k ts) → ⊥) → MeetsOne scope m (differ_each a ss ts)
+  differ_one (base n) b h k [] [] of_base p q e hs ht apart = apart e
+  differ_one (base n) b h k [] (t ∷ ts) of_base p q e hs ht apart = absurd ht
+  differ_one (base n) b h k (s ∷ ss) ts of_base p q e hs ht apart = absurd hs
+  differ_one (arrow c f) b h k [] ts of_base p q e hs ht apart = absurd (no_arrow c f b of_base hs)
+  differ_one (arrow c f) b h k (s ∷ ss) [] of_base p q e hs ht apart = absurd (no_arrow c f b of_base ht)
+  differ_one (arrow c f) b h k (s ∷ ss) (t ∷ ts) of_base p q e hs ht apart =
       let st = type_of-canonical scope [] c s hs.0 in
       let tt' = type_of-canonical scope [] c t ht.0 in
       let rest = λ (x : value scope m [] [] s ≡ value scope m [] [] t).
-      differ_one f b (app h s) (app k t) ss ts of_base parts.1 (ap₂ applied_type p st ∙ applied_is c f) (ap₂ applied_type q tt' ∙ applied_is c f)
+      differ_one f b (app h s) (app k t) ss ts of_base (ap₂ applied_type p st ∙ applied_is c f) (ap₂ applied_type q tt' ∙ applied_is c f)
       (value-app scope m [] [] c f h s p ∙ ap₂ (entry (size m f)) e x ∙ sym (value-app scope m [] [] c f k t q)) hs.1 ht.1 apart in
-      ⊎_elim (λ x. inr (rest x)) (λ n. inl (meets-differ scope m good c s t (record { declared = parts.0; left = hs.0; right = ht.0 }) n, tt)) (same_or_not (value scope m [] [] s) (value scope m [] [] t))
+      ⊎_elim (λ x. inr (rest x)) (λ n. inl (differ_there (is_declared scope.bases c) refl n, tt)) (same_or_not (value scope m [] [] s) (value scope m [] [] t))
+    where
+      differ_there : (d : Bool) → is_declared scope.bases c ≡ d → (value scope m [] [] s ≡ value scope m [] [] t → ⊥) → MeetsLiteral scope m (minus (eq c s t))
+      differ_there true d n = meets-differ scope m good c s t (record { declared = d; left = hs.0; right = ht.0 }) n
+      differ_there false d n = value-undeclared scope m c s t d

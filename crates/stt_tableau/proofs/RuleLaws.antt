@@ -2,25 +2,25 @@
 use Rattle.std.proofs.Common.{◌≡◌, ℕ, zero, suc, ◌<◌, List, [], ◌∷◌, Some, slice_get, map, refl, sym, ap, ◌∙◌, true, nat_eq, if◌then◌else◌, ◌⊎◌, inl, inr, ⊎_elim, arith}
 use Rattle.stt_core.specs.SimpleType.{SimpleType, is_declared, base, arrow, formula}
 use Rattle.stt_core.specs.Lambda.{witness, Lambda, constant, imp, applied}
-use Rattle.stt_core.specs.Typing.{Scope, IsScope}
+use Rattle.stt_core.specs.Typing.{Scope}
 use Rattle.stt_core.specs.Canonical.{IsCanonical}
 use Rattle.stt_core.specs.Meaning.{Model, value, IsModel}
-use Rattle.stt_core.proofs.TypeLaws.{type_of-canonical, constant_declared}
+use Rattle.stt_core.proofs.TypeLaws.{type_of-canonical}
 use Rattle.stt_core.specs.Digits.{entry}
 use Rattle.stt_core.proofs.ValueLaws.{value-lt}
 use Rattle.stt_core.proofs.ConstantValues.{value-imp, bit}
-use Rattle.stt_tableau.specs.Literals.{Literal, literal, IsBranch}
+use Rattle.stt_tableau.specs.Literals.{Literal, IsBranch}
 use Rattle.stt_tableau.specs.Meets.{MeetsBranch, MeetsOne}
 use Rattle.stt_tableau.specs.Witnesses.{Row}
 use Rattle.stt_tableau.specs.Rules.{Rule, false_rule, close_rule, refl_rule, imp_pos_rule, imp_neg_rule, bool_pos_rule, bool_neg_rule, fun_pos_rule, fun_neg_rule, all_pos_rule, all_neg_rule, mat_rule, dec_rule, con_rule, cho_rule, cut_rule, agreement, nowhere, chosen}
 use Rattle.stt_tableau.specs.declared.refutation.RuleUse.{RuleUse}
-use Rattle.stt_tableau.proofs.LiteralLaws.{imp_canonical, literal-is_literal, opposite-is_literal, value-bit, literal-says, literal_or_opposite, not_both}
+use Rattle.stt_tableau.proofs.LiteralLaws.{imp_canonical, value-bit, literal-says, literal_or_opposite, not_both}
 use Rattle.stt_normal.specs.Normal.{eta, apply}
 use Rattle.stt_normal.proofs.NormalValues.{canonical-eta, value-eta}
 use Rattle.stt_tableau.specs.Along.{GoesAlong}
 use Rattle.stt_tableau.proofs.FunctionLaws.{every_canonical, canonical-agreement, canonical-nowhere, canonical-chosen, canonical-applied, value-applied, value-every-canonical, value-agreement, value-chosen}
-use Rattle.stt_tableau.proofs.DecompositionLaws.{AreBranches, arguments_taken, differ_each-literals, differ_one}
-use Rattle.stt_tableau.proofs.EquationLaws.{eq_canonical, differ-is_literal, same_or_not, met-eq, met-differ, meets-differ}
+use Rattle.stt_tableau.proofs.DecompositionLaws.{arguments_taken, differ_one}
+use Rattle.stt_tableau.proofs.EquationLaws.{eq_canonical, same_or_not, met-eq, met-differ, meets-differ}
 
 -- the type of a witness is that of its row
 witness_typed : (scope : Scope) (rows : List Row) → scope.witnesses ≡ map (λ r. r.type) rows → (k : ℕ) (r : Row) → slice_get rows k ≡ Some r → slice_get scope.witnesses k ≡ Some r.type
@@ -34,58 +34,6 @@ witness_typed scope rows e k r h = ap (λ ws. slice_get ws k) e ∙ typed_at row
 pub canonical-witness : (scope : Scope) (rows : List Row) → scope.witnesses ≡ map (λ r. r.type) rows → (k : ℕ) (a : SimpleType) (f : Lambda) → slice_get rows k ≡ Some (record { type = a; predicate = f }) → is_declared scope.bases a ≡ true → IsCanonical scope [] a (eta a (constant (witness k)))
 canonical-witness scope rows e k a f h d = canonical-eta scope [] a (constant (witness k)) d (witness_typed scope rows e k (record { type = a; predicate = f }) h)
 
-pub alternatives_are_literals : (scope : Scope) → IsScope scope → (rows : List Row) → scope.witnesses ≡ map (λ r. r.type) rows → (rule : RuleUse) (principals : List Literal) (alternatives : List (List Literal)) → Rule scope rows rule principals alternatives → IsBranch scope principals → AreBranches scope alternatives
-alternatives_are_literals scope over rows types _ _ _ (false_rule i) h = tt
-alternatives_are_literals scope over rows types _ _ _ (close_rule i j l) h = tt
-alternatives_are_literals scope over rows types _ _ _ (imp_pos_rule i s t) h =
-    let sides = imp_canonical scope s t h.0.formula in
-    ((opposite-is_literal scope (literal s) (literal-is_literal scope s sides.0), tt), ((literal-is_literal scope t sides.1, tt), tt))
-alternatives_are_literals scope over rows types _ _ _ (imp_neg_rule i s t) h =
-    let sides = imp_canonical scope s t h.0.formula in
-    ((literal-is_literal scope s sides.0, (opposite-is_literal scope (literal t) (literal-is_literal scope t sides.1), tt)), tt)
-alternatives_are_literals scope over rows types _ _ _ (refl_rule i a s) h = tt
-alternatives_are_literals scope over rows types _ _ _ (bool_pos_rule i s t) h =
-    let sides = eq_canonical scope formula s t h.0.formula in
-    let l = literal-is_literal scope s sides.left in
-    let k = literal-is_literal scope t sides.right in
-    ((l, (k, tt)), ((opposite-is_literal scope (literal s) l, (opposite-is_literal scope (literal t) k, tt)), tt))
-alternatives_are_literals scope over rows types _ _ _ (bool_neg_rule i s t) h =
-    let sides = eq_canonical scope formula s t h.0.formula in
-    let l = literal-is_literal scope s sides.left in
-    let k = literal-is_literal scope t sides.right in
-    ((l, (opposite-is_literal scope (literal t) k, tt)), ((opposite-is_literal scope (literal s) l, (k, tt)), tt))
-alternatives_are_literals scope over rows types _ _ _ (fun_pos_rule i a b s t) h =
-    ((literal-is_literal scope (agreement a b s t) (canonical-agreement scope a b s t (eq_canonical scope (arrow a b) s t h.0.formula)), tt), tt)
-alternatives_are_literals scope over rows types _ _ _ (fun_neg_rule i a b s t) h =
-    let l = literal-is_literal scope (agreement a b s t) (canonical-agreement scope a b s t (eq_canonical scope (arrow a b) s t h.0.formula)) in
-    ((opposite-is_literal scope (literal (agreement a b s t)) l, tt), tt)
-alternatives_are_literals scope over rows types _ _ _ (all_pos_rule i a f u c) h =
-    let e = every_canonical scope a f h.0.formula in
-    ((literal-is_literal scope (apply f u) (canonical-applied scope a f u e.1 c), tt), tt)
-alternatives_are_literals scope over rows types _ _ _ (all_neg_rule i k a f g) h =
-    let e = every_canonical scope a f h.0.formula in
-    let w = eta a (constant (witness k)) in
-    let l = literal-is_literal scope (apply f w) (canonical-applied scope a f w e.1 (canonical-witness scope rows types k a f g e.0)) in
-    ((opposite-is_literal scope (literal (apply f w)) l, tt), tt)
-alternatives_are_literals scope over rows types _ _ _ (cho_rule a f c) h =
-    let l = literal-is_literal scope (nowhere a f) (canonical-nowhere scope a f c) in
-    let k = literal-is_literal scope (apply f (chosen a f)) (canonical-applied scope a f (chosen a f) c (canonical-chosen scope a f c)) in
-    ((l, tt), ((k, tt), tt))
-alternatives_are_literals scope over rows types _ _ _ (mat_rule i j c a s t ss ts d e) h =
-    differ_each-literals scope a formula (s ∷ ss) (t ∷ ts) (constant_declared scope over c a e) (arguments_taken scope c a s ss formula e h.0.formula) (arguments_taken scope c a t ts formula e h.1.0.formula)
-alternatives_are_literals scope over rows types _ _ _ (dec_rule i n c a s t ss ts d e) h =
-    let b = base (suc n) in
-    let sides = eq_canonical scope b (applied (constant c) (s ∷ ss)) (applied (constant c) (t ∷ ts)) h.0.formula in
-    differ_each-literals scope a b (s ∷ ss) (t ∷ ts) (constant_declared scope over c a e) (arguments_taken scope c a s ss b e sides.left) (arguments_taken scope c a t ts b e sides.right)
-alternatives_are_literals scope over rows types _ _ _ (con_rule i j n s t u v) h =
-    let b = base (suc n) in
-    let e = eq_canonical scope b s t h.0.formula in
-    let g = eq_canonical scope b u v h.1.0.formula in
-    let d = λ (x y : Lambda) (p : IsCanonical scope [] b x) (q : IsCanonical scope [] b y). differ-is_literal scope b x y (record { declared = e.declared; left = p; right = q }) in
-    ((d s u e.left g.left, (d t u e.right g.left, tt)), ((d s v e.left g.right, (d t v e.right g.right, tt)), tt))
-alternatives_are_literals scope over rows types _ _ _ (cut_rule l is_literal) h =
-    ((is_literal, tt), ((opposite-is_literal scope l is_literal, tt), tt))
-
 imp_one : (x y : ℕ) → x < 2 → (if nat_eq x 1 then y else 1) ≡ 1 → (x ≡ 0) ⊎ (y ≡ 1)
 imp_one zero y h e = inl refl
 imp_one (suc zero) y h e = inr e
@@ -96,7 +44,7 @@ imp_zero zero y h e = absurd (omega arith)
 imp_zero (suc zero) y h e = (refl, e)
 imp_zero (suc (suc x)) y h e = absurd (omega arith)
 
-module _ (scope : Scope) (over : IsScope scope) (m : Model) (good : IsModel scope m) where
+module _ (scope : Scope) (m : Model) (good : IsModel scope m) where
   value-imp-canonical : (s t : Lambda) → IsCanonical scope [] formula (imp s t) → value scope m [] [] (imp s t) ≡ (if nat_eq (value scope m [] [] s) 1 then value scope m [] [] t else 1)
   value-imp-canonical s t h =
       let sides = imp_canonical scope s t h in
@@ -164,12 +112,12 @@ module _ (scope : Scope) (over : IsScope scope) (m : Model) (good : IsModel scop
       (λ o. inl ((literal-says scope m good (nowhere a f) n).at_one o, tt))
       (bit (value scope m [] [] (nowhere a f)) (value-bit scope m good (nowhere a f) n))
   rule_keeps rows types along _ _ _ (mat_rule i j c a s t ss ts d e) typed met =
-      differ_one scope m good a formula (constant c) (constant c) (s ∷ ss) (t ∷ ts) tt (constant_declared scope over c a e) e e refl (arguments_taken scope c a s ss formula e typed.0.formula) (arguments_taken scope c a t ts formula e typed.1.0.formula)
+      differ_one scope m good a formula (constant c) (constant c) (s ∷ ss) (t ∷ ts) tt e e refl (arguments_taken scope c a s ss formula e typed.0.formula) (arguments_taken scope c a t ts formula e typed.1.0.formula)
       (λ k. absurd (omega (arith, met.0, met.1.0, k)))
   rule_keeps rows types along _ _ _ (dec_rule i n c a s t ss ts d e) typed met =
       let b = base (suc n) in
       let sides = eq_canonical scope b (applied (constant c) (s ∷ ss)) (applied (constant c) (t ∷ ts)) typed.0.formula in
-      differ_one scope m good a b (constant c) (constant c) (s ∷ ss) (t ∷ ts) tt (constant_declared scope over c a e) e e refl (arguments_taken scope c a s ss b e sides.left) (arguments_taken scope c a t ts b e sides.right)
+      differ_one scope m good a b (constant c) (constant c) (s ∷ ss) (t ∷ ts) tt e e refl (arguments_taken scope c a s ss b e sides.left) (arguments_taken scope c a t ts b e sides.right)
       (met-differ scope m good b (applied (constant c) (s ∷ ss)) (applied (constant c) (t ∷ ts)) sides met.0)
   rule_keeps rows types along _ _ _ (con_rule i j n s t u v) typed met =
       let b = base (suc n) in

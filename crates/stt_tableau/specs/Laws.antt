@@ -1,6 +1,6 @@
 -- What holds of witness tables and of rules, whichever they are.
 use Rattle.std.specs.Prelude.{List}
-use Rattle.stt_core.specs.Typing.{Scope, IsScope}
+use Rattle.stt_core.specs.Typing.{Scope}
 use Rattle.stt_core.specs.Meaning.{Model, IsModel}
 use Rattle.stt_tableau.specs.Literals.{Literal, IsBranch}
 use Rattle.stt_tableau.specs.Meets.{MeetsBranch, MeetsOne}
@@ -16,4 +16,4 @@ ModelsExtend scope rows = IsTable scope rows → (m : Model) → IsModel scope m
 -- where the types of what is declared are declared, a model along the rows that meets the principals of a rule meets one whole alternative
 abbrev pub RulesKeepModels : Scope → List Row → Type 0
 RulesKeepModels scope rows =
-    IsScope (with_rows scope rows) → (m : Model) → IsModelAlong scope rows m → (rule : RuleUse) (principals : List Literal) (alternatives : List (List Literal)) → Rule (with_rows scope rows) rows rule principals alternatives → IsBranch (with_rows scope rows) principals → MeetsBranch (with_rows scope rows) m principals → MeetsOne (with_rows scope rows) m alternatives
+    (m : Model) → IsModelAlong scope rows m → (rule : RuleUse) (principals : List Literal) (alternatives : List (List Literal)) → Rule (with_rows scope rows) rows rule principals alternatives → IsBranch (with_rows scope rows) principals → MeetsBranch (with_rows scope rows) m principals → MeetsOne (with_rows scope rows) m alternatives

@@ -1,7 +1,6 @@
 //! Soundness: rules keep models along the witness table, and an accepted refutation shows that its start has no model.
 
 ghost use Rattle.std.specs.Prelude.{[]};
-ghost use Rattle.stt_core.specs.Typing.{IsScope};
 ghost use Rattle.stt_core.specs.Meaning.{Model, IsModel};
 ghost use Rattle.stt_core.specs.ScopeView.{the_scope};
 ghost use Rattle.stt_tableau.specs.Meets.{MeetsBranch};
@@ -15,10 +14,9 @@ use crate::refutation::{Refutation, Rows};
 use stt_core::Signature;
 
 /// Where a refutation is accepted for a start that names no witness, no model meets the start, and the tableau of the refutation's
-/// last line closes it. The types of the signature's constants must be over the signature.
+/// last line closes it.
 pub fn soundness_law(sig: &Signature, start: &Lits, refutation: &Refutation)
-    requires declared { IsScope (the_scope sig.now []) }
-    requires unnamed { NoneNamesWitness start.now }
+    requires { NoneNamesWitness start.now }
     ensures no_model { IsAccepted (the_scope sig.now []) start.now refutation.now → (m : Model) → IsModel (the_scope sig.now []) m → MeetsBranch (the_scope sig.now []) m start.now → ⊥ }
     ensures closed { IsAccepted (the_scope sig.now []) start.now refutation.now → Closes (with_rows (the_scope sig.now []) refutation.now.witnesses) refutation.now.witnesses (tableau_of refutation.now) start.now }
 {}

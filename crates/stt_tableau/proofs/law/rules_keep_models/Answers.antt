@@ -5,6 +5,6 @@ use Rattle.stt_tableau.proofs.RuleLaws.{rule_keeps}
 use Rattle.stt_tableau.proofs.law.rules_keep_models.Goals as goal
 
 pub returns : goal.returns
-returns c = λ over m h rule principals alternatives.
+returns c = λ m h rule principals alternatives.
     let rows = c.args.rows.now in
-    rule_keeps (with_rows (the_scope c.args.sig.now []) rows) over m h.model rows refl h.along rule principals alternatives
+    rule_keeps (with_rows (the_scope c.args.sig.now []) rows) m h.model rows refl h.along rule principals alternatives
