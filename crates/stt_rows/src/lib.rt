@@ -2,8 +2,18 @@
 #![tactic(auto)]
 
 #[cfg(test)]
+mod equations;
+#[cfg(test)]
+mod heads;
+#[cfg(test)]
+mod implications;
+#[cfg(test)]
 mod notation;
+#[cfg(test)]
+mod quantifiers;
 #[cfg(test)]
 mod refutations;
 #[cfg(test)]
 mod terms;
+#[cfg(test)]
+mod whole;

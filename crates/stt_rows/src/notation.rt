@@ -1,22 +1,35 @@
-//! Canonical terms and literals as short texts, in which a function stands before its arguments. `p`, `q` and `r` are formulas, `c` is an
-//! individual, and `h` a predicate, which takes the next term. `w` and `x` are the witnesses of the rows 0 and 1, and `0` is the innermost
-//! bound variable. `F` is falsity, `~` negates the next formula, `>` makes an implication of the next two, and `^` is a function whose
-//! argument is an individual. A literal is its sign and its atom.
+//! Canonical terms and literals as short texts, in which a function stands before its arguments. `p`, `q` and `r` are formulas, `c` and
+//! `d` are individuals, `h` and `l` predicates, which take the next term, `m` a relation, which takes the next two, and `f` and `k`
+//! functions from individuals to individuals. `w` and `x` are the witnesses of the rows 0 and 1, and `0` is the innermost bound variable.
+//! `F` is falsity, `~` negates the next formula, `>` makes an implication of the next two, and `^` is a function whose argument is an
+//! individual. `=` is an equation of the next two individuals, `b` one of formulas, `E` one of functions, and `P` one of predicates. `A`
+//! says that the next predicate holds of each individual, and `C` chooses an individual by it. A literal is its sign and its atom.
 
 use std::alloc::{AllocError, Global};
 use std::test::Fail;
 use stt_core::{Head, Nf, Nfs, Signature, Ty, Types};
 use stt_tableau::{Lit, Lits, literal_of};
 
-/// `p`, `q`, `r`, `c` and `h`.
+/// The type of functions of an individual.
+fn from_individual(alloc: Global, outcome: Ty) -> Result<Ty, AllocError> {
+    Ok(Ty::Arrow(Box::new(alloc, Ty::Base(1))?, Box::new(alloc, outcome)?))
+}
+
+/// `p`, `q`, `r`, `c`, `h`, `d`, `l`, `m`, `f` and `k`.
 pub fn signature(alloc: Global) -> Result<Signature, AllocError> {
     let mut sig = Signature::new(alloc);
     for name in [b"p", b"q", b"r"] {
         sig.consts.push(name, Ty::Base(0))?;
     }
     sig.consts.push(b"c", Ty::Base(1))?;
-    let predicate = Ty::Arrow(Box::new(alloc, Ty::Base(1))?, Box::new(alloc, Ty::Base(0))?);
-    sig.consts.push(b"h", predicate)?;
+    sig.consts.push(b"h", from_individual(alloc, Ty::Base(0))?)?;
+    sig.consts.push(b"d", Ty::Base(1))?;
+    sig.consts.push(b"l", from_individual(alloc, Ty::Base(0))?)?;
+    let predicate = from_individual(alloc, Ty::Base(0))?;
+    sig.consts.push(b"m", from_individual(alloc, predicate)?)?;
+    for name in [b"f", b"k"] {
+        sig.consts.push(name, from_individual(alloc, Ty::Base(1))?)?;
+    }
     Ok(sig)
 }
 
@@ -65,8 +78,21 @@ impl Reader {
         if byte == b'^' {
             return self.function();
         }
+        if let Some(outcome) = compared(byte) {
+            let ty = from_individual(self.alloc, Ty::Base(outcome))?;
+            return self.applied(Head::Eq(ty), 2);
+        }
         let (head, count) = symbol(byte).ok_or("an unknown letter")?;
         self.applied(head, count)
+    }
+}
+
+/// The base type of what the functions give that are the sides of an equation with this letter.
+fn compared(byte: u8) -> Option<u32> {
+    match byte {
+        b'E' => Some(1),
+        b'P' => Some(0),
+        _ => None,
     }
 }
 
@@ -78,6 +104,15 @@ fn symbol(byte: u8) -> Option<(Head, usize)> {
         b'r' => Some((Head::Name(2), 0)),
         b'c' => Some((Head::Name(3), 0)),
         b'h' => Some((Head::Name(4), 1)),
+        b'd' => Some((Head::Name(5), 0)),
+        b'l' => Some((Head::Name(6), 1)),
+        b'm' => Some((Head::Name(7), 2)),
+        b'f' => Some((Head::Name(8), 1)),
+        b'k' => Some((Head::Name(9), 1)),
+        b'=' => Some((Head::Eq(Ty::Base(1)), 2)),
+        b'b' => Some((Head::Eq(Ty::Base(0)), 2)),
+        b'A' => Some((Head::All(Ty::Base(1)), 1)),
+        b'C' => Some((Head::Choice(Ty::Base(1)), 1)),
         b'w' => Some((Head::Wit(0), 0)),
         b'x' => Some((Head::Wit(1), 0)),
         b'0' => Some((Head::Bound(0), 0)),

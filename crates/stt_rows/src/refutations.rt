@@ -9,315 +9,39 @@ use stt_tableau::{
     accepts_plain,
 };
 
-/// A rule with the places of its principals, and for the cut with its literal.
+/// A rule with the places of its principals, and with the text of the term or the literal that it takes.
 #[derive(Clone, Copy, Debug)]
-enum Rule {
+pub enum Rule {
     False(usize),
     Close(usize, usize),
     Refl(usize),
     ImpPos(usize),
     ImpNeg(usize),
+    BoolPos(usize),
+    BoolNeg(usize),
+    FunPos(usize),
+    FunNeg(usize),
+    AllPos(usize, &'static str),
+    AllNeg(usize),
+    Mat(usize, usize),
+    Dec(usize),
+    Con(usize, usize),
+    Cho(&'static str),
     Cut(&'static str),
 }
 
 /// The literals of a branch, a rule, and its children.
-type LineText = (&'static [&'static str], Rule, &'static [Child]);
+pub type LineText = (&'static [&'static str], Rule, &'static [Child]);
 
 /// The base types and the predicates of the rows, the start, the lines, and the first failure, where there is one.
-type Row = (
+pub type Row = (
     &'static [(u32, &'static str)],
     &'static [&'static str],
     &'static [LineText],
     Option<(usize, Why)>,
 );
 
-const CLASH: LineText = (&["+p", "-p"], Rule::Close(0, 1), &[]);
-
-const ROWS: &[Row] = &[
-    // A clash, and falsity.
-    (&[], &["+p", "-p"], &[CLASH], None),
-    (
-        &[],
-        &["+p", "-p"],
-        &[(&["+p", "-p"], Rule::Close(1, 0), &[])],
-        None,
-    ),
-    (&[], &["+F"], &[(&["+F"], Rule::False(0), &[])], None),
-    // Repeated literals, and a start that holds more.
-    (
-        &[],
-        &["-p", "+p"],
-        &[(&["+p", "+p", "-p"], Rule::Close(1, 2), &[])],
-        None,
-    ),
-    (&[], &["+q", "-p", "+p"], &[CLASH], None),
-    // Implications.
-    (
-        &[],
-        &["+>pq", "+p", "-q"],
-        &[(
-            &["+>pq", "+p", "-q"],
-            Rule::ImpPos(0),
-            &[Child::Closed, Child::Closed],
-        )],
-        None,
-    ),
-    (
-        &[],
-        &["+>~pq", "-p", "-q"],
-        &[(
-            &["+>~pq", "-p", "-q"],
-            Rule::ImpPos(0),
-            &[Child::Closed, Child::Closed],
-        )],
-        None,
-    ),
-    (
-        &[],
-        &["+>p~q", "+p", "+q"],
-        &[(
-            &["+q", "+>p~q", "+p"],
-            Rule::ImpPos(1),
-            &[Child::Closed, Child::Closed],
-        )],
-        None,
-    ),
-    (
-        &[],
-        &["->pq", "-p"],
-        &[(&["->pq", "-p"], Rule::ImpNeg(0), &[Child::Closed])],
-        None,
-    ),
-    (
-        &[],
-        &["->p~q", "-q"],
-        &[(&["->p~q", "-q"], Rule::ImpNeg(0), &[Child::Closed])],
-        None,
-    ),
-    // Children by number, and a cut.
-    (
-        &[],
-        &["->pp"],
-        &[CLASH, (&["->pp"], Rule::ImpNeg(0), &[Child::Line(0)])],
-        None,
-    ),
-    (
-        &[],
-        &["+p", "-p"],
-        &[(
-            &["-p", "+p"],
-            Rule::Cut("+q"),
-            &[Child::Closed, Child::Closed],
-        )],
-        None,
-    ),
-    (
-        &[],
-        &["+>pq", "+>p~q", "+p"],
-        &[
-            (
-                &["+q", "+>p~q", "+p"],
-                Rule::ImpPos(1),
-                &[Child::Closed, Child::Closed],
-            ),
-            (
-                &["-q", "+>pq", "+p"],
-                Rule::ImpPos(1),
-                &[Child::Closed, Child::Closed],
-            ),
-            (
-                &["+>pq", "+>p~q", "+p"],
-                Rule::Cut("+q"),
-                &[Child::Line(0), Child::Line(1)],
-            ),
-        ],
-        None,
-    ),
-    // A place that isn't there, and a wrong sign or connective.
-    (
-        &[],
-        &["+F"],
-        &[(&["+F"], Rule::False(1), &[])],
-        Some((0, Why::Principal)),
-    ),
-    (
-        &[],
-        &["-F"],
-        &[(&["-F"], Rule::False(0), &[])],
-        Some((0, Why::Principal)),
-    ),
-    (
-        &[],
-        &["+p"],
-        &[(&["+p"], Rule::False(0), &[])],
-        Some((0, Why::Principal)),
-    ),
-    (
-        &[],
-        &["+p", "-p"],
-        &[(&["+p", "-p"], Rule::Close(0, 2), &[])],
-        Some((0, Why::Principal)),
-    ),
-    (
-        &[],
-        &["+p", "-q"],
-        &[(&["+p", "-q"], Rule::Close(0, 1), &[])],
-        Some((0, Why::Principal)),
-    ),
-    (
-        &[],
-        &["+p"],
-        &[(&["+p", "+p"], Rule::Close(0, 1), &[])],
-        Some((0, Why::Principal)),
-    ),
-    (
-        &[],
-        &["->pq", "+p", "-q"],
-        &[(
-            &["->pq", "+p", "-q"],
-            Rule::ImpPos(0),
-            &[Child::Closed, Child::Closed],
-        )],
-        Some((0, Why::Principal)),
-    ),
-    (
-        &[],
-        &["+>pq", "-p"],
-        &[(&["+>pq", "-p"], Rule::ImpNeg(0), &[Child::Closed])],
-        Some((0, Why::Principal)),
-    ),
-    (
-        &[],
-        &["+p"],
-        &[(&["+p"], Rule::Refl(0), &[])],
-        Some((0, Why::Principal)),
-    ),
-    // A child too few, one too many, one that is no earlier line, one about more, and one that isn't closed.
-    (
-        &[],
-        &["+>pq", "+p", "-q"],
-        &[(&["+>pq", "+p", "-q"], Rule::ImpPos(0), &[Child::Closed])],
-        Some((0, Why::Child)),
-    ),
-    (
-        &[],
-        &["+F"],
-        &[(&["+F"], Rule::False(0), &[Child::Closed])],
-        Some((0, Why::Child)),
-    ),
-    (
-        &[],
-        &["->pq", "-p"],
-        &[(&["->pq", "-p"], Rule::ImpNeg(0), &[Child::Line(0)])],
-        Some((0, Why::Child)),
-    ),
-    (
-        &[],
-        &["->pp"],
-        &[(&["->pp"], Rule::ImpNeg(0), &[Child::Line(1)]), CLASH],
-        Some((0, Why::Child)),
-    ),
-    (
-        &[],
-        &["->pq"],
-        &[CLASH, (&["->pq"], Rule::ImpNeg(0), &[Child::Line(0)])],
-        Some((1, Why::Child)),
-    ),
-    (
-        &[],
-        &["->pq"],
-        &[(&["->pq"], Rule::ImpNeg(0), &[Child::Closed])],
-        Some((0, Why::Child)),
-    ),
-    (
-        &[],
-        &["+>pq", "+p"],
-        &[(
-            &["+>pq", "+p"],
-            Rule::ImpPos(0),
-            &[Child::Closed, Child::Closed],
-        )],
-        Some((0, Why::Child)),
-    ),
-    // A last line about more than the start, and none.
-    (&[], &["+p"], &[CLASH], Some((0, Why::Last))),
-    (
-        &[],
-        &["+p", "-p"],
-        &[CLASH, (&["+q", "-q"], Rule::Close(0, 1), &[])],
-        Some((1, Why::Last)),
-    ),
-    (&[], &["+p", "-p"], &[], Some((0, Why::Last))),
-    // Literals that aren't typed, the branch before the rule.
-    (
-        &[],
-        &["+c"],
-        &[(&["+c"], Rule::False(0), &[])],
-        Some((0, Why::Typing)),
-    ),
-    (
-        &[],
-        &["+h0"],
-        &[(&["+h0"], Rule::False(0), &[])],
-        Some((0, Why::Typing)),
-    ),
-    (
-        &[],
-        &["+hw"],
-        &[(&["+hw"], Rule::False(0), &[])],
-        Some((0, Why::Typing)),
-    ),
-    (
-        &[],
-        &["+p", "-p"],
-        &[(
-            &["+p", "-p"],
-            Rule::Cut("+c"),
-            &[Child::Closed, Child::Closed],
-        )],
-        Some((0, Why::Typing)),
-    ),
-    // Witness rows, which are counted before the lines.
-    (
-        &[(1, "^h0"), (1, "^hw"), (1, "^p")],
-        &["+p", "-p"],
-        &[(&["+hx", "-hx"], Rule::Close(0, 1), &[]), CLASH],
-        None,
-    ),
-    (
-        &[(1, "^h0"), (1, "^h0")],
-        &["+p", "-p"],
-        &[CLASH],
-        Some((1, Why::Twice)),
-    ),
-    (
-        &[(1, "^hw")],
-        &["+p", "-p"],
-        &[CLASH],
-        Some((0, Why::Typing)),
-    ),
-    (
-        &[(1, "^h0"), (1, "^hx")],
-        &["+p", "-p"],
-        &[CLASH],
-        Some((1, Why::Typing)),
-    ),
-    (
-        &[(0, "^h0")],
-        &["+p", "-p"],
-        &[CLASH],
-        Some((0, Why::Typing)),
-    ),
-    (&[(1, "p")], &["+p", "-p"], &[CLASH], Some((0, Why::Typing))),
-    (
-        &[(1, "^h0")],
-        &["+p", "-p"],
-        &[CLASH, (&["+p", "-p"], Rule::False(0), &[])],
-        Some((2, Why::Principal)),
-    ),
-    (&[(1, "^h0")], &["+p"], &[CLASH], Some((1, Why::Last))),
-    (&[(1, "^h0")], &["+p"], &[], Some((1, Why::Last))),
-];
+pub const CLASH: LineText = (&["+p", "-p"], Rule::Close(0, 1), &[]);
 
 fn rule_use(alloc: Global, rule: Rule) -> Result<RuleUse, Fail> {
     match rule {
@@ -326,6 +50,16 @@ fn rule_use(alloc: Global, rule: Rule) -> Result<RuleUse, Fail> {
         Rule::Refl(i) => Ok(RuleUse::Refl(i)),
         Rule::ImpPos(i) => Ok(RuleUse::ImpPos(i)),
         Rule::ImpNeg(i) => Ok(RuleUse::ImpNeg(i)),
+        Rule::BoolPos(i) => Ok(RuleUse::BoolPos(i)),
+        Rule::BoolNeg(i) => Ok(RuleUse::BoolNeg(i)),
+        Rule::FunPos(i) => Ok(RuleUse::FunPos(i)),
+        Rule::FunNeg(i) => Ok(RuleUse::FunNeg(i)),
+        Rule::AllPos(i, text) => Ok(RuleUse::AllPos(i, term(alloc, text)?)),
+        Rule::AllNeg(i) => Ok(RuleUse::AllNeg(i)),
+        Rule::Mat(i, j) => Ok(RuleUse::Mat(i, j)),
+        Rule::Dec(i) => Ok(RuleUse::Dec(i)),
+        Rule::Con(i, j) => Ok(RuleUse::Con(i, j)),
+        Rule::Cho(text) => Ok(RuleUse::Cho(term(alloc, text)?)),
         Rule::Cut(text) => Ok(RuleUse::Cut(literal(alloc, text)?)),
     }
 }
@@ -370,12 +104,13 @@ fn failure(alloc: Global, sig: &Signature, row: &Row) -> Result<Option<(usize, W
     }
 }
 
-#[test]
-fn first_failures(rt: HostRuntime) -> Result<(), Fail> {
-    let alloc = rt.alloc();
+/// The number of the first row whose failure is another one than it says.
+pub fn first_wrong(alloc: Global, rows: &[Row]) -> Result<Option<usize>, Fail> {
     let sig = signature(alloc)?;
-    for (number, row) in ROWS.iter().enumerate() {
-        assert_eq!(rt; failure(alloc, &sig, row)?, row.3, "row {number}");
+    for (number, row) in rows.iter().enumerate() {
+        if failure(alloc, &sig, row)? != row.3 {
+            return Ok(Some(number));
+        }
     }
-    Ok(())
+    Ok(None)
 }

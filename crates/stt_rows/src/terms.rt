@@ -57,7 +57,7 @@ fn names(rt: HostRuntime) -> Result<(), Fail> {
     let mut sig = signature(rt.alloc())?;
     sig.bases.push(b"t")?;
     sig.bases.push(b"u")?;
-    assert!(rt; sig.bases.len() == 2 && sig.consts.len() == 5);
+    assert!(rt; sig.bases.len() == 2 && sig.consts.len() == 10);
     for (name, symbol) in [
         ("p", Some(Symbol::Const(0))),
         ("h", Some(Symbol::Const(4))),
