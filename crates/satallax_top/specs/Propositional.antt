@@ -1,14 +1,15 @@
 -- What is run, and the formulas of the first path.
-use Rattle.std.specs.Prelude.{◌≡◌, ℕ, ◌<◌, List, [], ◌∷◌, length, Option, Some, None}
+use Rattle.std.specs.Prelude.{◌≡◌, true, false, List, [], ◌∷◌, Option, Some, None}
 use Rattle.stt_core.specs.SimpleType.{formula}
-use Rattle.stt_core.specs.Lambda.{Lambda, constant, name, falsity}
+use Rattle.stt_core.specs.Lambda.{Lambda, constant, app, name, falsity, negation, implication}
 use Rattle.stt_core.specs.Typing.{Scope, type_of, IsScope}
 use Rattle.stt_core.specs.Meets.{Question}
-use Rattle.stt_tableau.specs.Literals.{Literal, IsBranch}
+use Rattle.stt_tableau.specs.Literals.{Literal, is_negated, IsBranch}
 use Rattle.stt_tableau.specs.Start.{start}
 use Rattle.satallax_top.specs.Reading.{Stated, question_of}
 use Rattle.satallax_top.specs.PlainNames.{ArePlain}
 use Rattle.satallax_top.specs.NormalQuestion.{normal_question}
+use Rattle.satallax_top.specs.Search.{is_shallow}
 
 -- the term is a formula
 abbrev pub IsFormula : Scope → Lambda → Type 0
@@ -28,31 +29,28 @@ pub record IsTyped (question : Question) : Type 0 where
   pub assumed : AreFormulas question.scope question.assumed
   pub conjecture : IsFormulaIfThere question.scope question.conjecture
 
--- a literal whose atom is a name or falsity
-abbrev pub IsLeafTerm : Lambda → Type 0
-IsLeafTerm (constant (name k)) = Unit {0}
-IsLeafTerm (constant falsity) = Unit {0}
-IsLeafTerm t = ⊥
+-- a formula of names, falsity, negations and implications
+abbrev pub IsPropositional : Lambda → Type 0
+IsPropositional (constant (name k)) = Unit {0}
+IsPropositional (constant falsity) = Unit {0}
+IsPropositional (app (constant negation) s) = IsPropositional s
+IsPropositional (app (app (constant implication) s) t) = IsPropositional s × IsPropositional t
+IsPropositional t = ⊥
 
-abbrev pub AreLeaves : List Literal → Type 0
-AreLeaves [] = Unit {0}
-AreLeaves (l ∷ ls) = IsLeafTerm l.atom × AreLeaves ls
+-- a literal that the search takes: its atom is such a formula, isn't a negation, and isn't too deep
+pub record IsSearched (l : Literal) : Type 0 where
+  pub formula : IsPropositional l.atom
+  pub unsigned : is_negated l.atom ≡ false
+  pub shallow : is_shallow l ≡ true
 
--- a literal whose atom is falsity or one of the first n names
-abbrev pub IsLeafBelow : ℕ → Lambda → Type 0
-IsLeafBelow n (constant (name k)) = k < n
-IsLeafBelow n (constant falsity) = Unit {0}
-IsLeafBelow n t = ⊥
-
-abbrev pub AreLeavesBelow : ℕ → List Literal → Type 0
-AreLeavesBelow n [] = Unit {0}
-AreLeavesBelow n (l ∷ ls) = IsLeafBelow n l.atom × AreLeavesBelow n ls
+abbrev pub AreSearched : List Literal → Type 0
+AreSearched [] = Unit {0}
+AreSearched (l ∷ ls) = IsSearched l × AreSearched ls
 
 -- What a file of the first path states is run as it stands: it is typed, its names are lower words, and the literals of its start are
--- leaves, and literals over its names.
+-- typed and are such that the search takes them.
 pub record IsRunnable (s : Stated) : Type 0 where
   pub formulas : IsTyped (question_of s)
   pub plain : ArePlain s.constants
-  pub leaves : AreLeaves (start (normal_question s))
-  pub leaves_below : AreLeavesBelow (length s.constants) (start (normal_question s))
+  pub searched : AreSearched (start (normal_question s))
   pub typed : IsBranch (question_of s).scope (start (normal_question s))
