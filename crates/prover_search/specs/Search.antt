@@ -4,7 +4,7 @@ use Rattle.std.specs.List.{list_all}
 use Rattle.stt_core.specs.Lambda.{Lambda, bound, constant, lam, app, falsity, implication, imp}
 use Rattle.stt_tableau.specs.Literals.{Literal, plus, minus, opposite, literal}
 use Rattle.stt_tableau.specs.Start.{has}
-use Rattle.satallax_top.specs.Clauses.{Clause, instance_clauses, with_clauses}
+use Rattle.prover_search.specs.Clauses.{Clause, instance_clauses, with_clauses}
 
 -- The depth of a canonical term: its binders, and one more than the greatest depth of an argument, where it has arguments.
 abbrev pub depth : Lambda → ℕ

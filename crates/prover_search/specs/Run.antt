@@ -1,8 +1,8 @@
 -- How the search ends.
 use Rattle.std.specs.Prelude.{◌≡◌, ◌≢◌, ◌<◌, ℕ, List, [], Some}
 use Rattle.stt_tableau.specs.Literals.{Literal}
-use Rattle.satallax_top.specs.Clauses.{Unsatisfiable}
-use Rattle.satallax_top.specs.Search.{State, after}
+use Rattle.prover_search.specs.Clauses.{Unsatisfiable}
+use Rattle.prover_search.specs.Search.{State, after}
 
 -- the search comes to the state after n commands, and its clauses are satisfiable
 pub record IsOpen (start : List Literal) (n : ℕ) (s : State) : Type 0 where

@@ -1,0 +1,162 @@
+-- When a clause of an instance is false: its principals are true, and each alternative has a literal that is false.
+use Rattle.std.proofs.Common.{◌≡◌, ◌&&◌, ◌||◌, Bool, true, false, not, List, [], ◌∷◌, ◌++◌, map, filter, Contains, refl, sym, ap, ap₂, subst, ◌∙◌, if◌then◌else◌}
+use Rattle.std.specs.List.{list_any, list_all, flat_map}
+use Rattle.std.proofs.lemmas.Bool.{and_parts}
+use Rattle.std.proofs.lemmas.List.Folds.{list_any-append}
+use Rattle.stt_core.specs.Lambda.{Lambda}
+use Rattle.stt_core.specs.SameTerm.{same_term}
+use Rattle.stt_core.proofs.SameTerms.{same_term-refl, same_term-true}
+use Rattle.stt_tableau.specs.Literals.{Literal, plus, opposite}
+use Rattle.stt_tableau.specs.Start.{same_sign, same_literal, has, added, without_repeats}
+use Rattle.stt_tableau.proofs.ListLaws.{contains-first, contains-later, contains_cases}
+use Rattle.prover_search.specs.Clauses.{Clause, holds, HasFalse, Unsatisfiable, choices, is_tautology, instance_clauses, same_clause, with_clauses}
+use Rattle.prover_search.specs.Decided.{is_false_clause, is_falsified}
+use Rattle.prover_search.proofs.BooleanLaws.{or_cases, or_true_left, or_true_right, or-false, or-assoc, or-absorbs, not-or, none_contained, One, any_one, one_any, any-same, any-map, any-filter, any-flat_map, any-and, any-and_right, false_from_not}
+
+-- lists of literals and clauses in which one may be there already
+same_sign-true : (a b : Bool) → same_sign a b ≡ true → a ≡ b
+same_sign-true true true h = refl
+same_sign-true true false h = cc
+same_sign-true false true h = cc
+same_sign-true false false h = refl
+
+pub same_literal-true : (l k : Literal) → same_literal l k ≡ true → l ≡ k
+same_literal-true l k h =
+    let p = and_parts (same_sign l.positive k.positive) (same_term l.atom k.atom) h in
+    ap₂ (λ b t. record { positive = b; atom = t }) (same_sign-true l.positive k.positive p.0) (same_term-true l.atom k.atom p.1)
+
+pub same_literal-refl : (l : Literal) → same_literal l l ≡ true
+same_literal-refl l = go l.positive
+  where
+    go : (p : Bool) → same_literal (record { positive = p; atom = l.atom }) (record { positive = p; atom = l.atom }) ≡ true
+    go true = same_term-refl l.atom
+    go false = same_term-refl l.atom
+
+-- the test whether a literal is in a list tells whether it is
+pub has-true : (ls : List Literal) (l : Literal) → has ls l ≡ true → Contains ls l
+has-true ls l h =
+    let o = any_one (same_literal l) ls h in
+    subst (Contains ls) (sym (same_literal-true l o.element o.passes)) o.is_one
+
+pub has-of : (ls : List Literal) (l : Literal) → Contains ls l → has ls l ≡ true
+has-of ls l h = one_any (same_literal l) ls l h (same_literal-refl l)
+
+same_clause-true : (c d : Clause) → same_clause c d ≡ true → c ≡ d
+same_clause-true [] [] h = refl
+same_clause-true [] (k ∷ ks) h = cc
+same_clause-true (l ∷ ls) [] h = cc
+same_clause-true (l ∷ ls) (k ∷ ks) h = go (same_literal l k) refl (same_clause-true ls ks) h
+  where
+    go : (b : Bool) → same_literal l k ≡ b → (same_clause ls ks ≡ true → ls ≡ ks) → (if b then same_clause ls ks else false) ≡ true → l ∷ ls ≡ k ∷ ks
+    go true e rest r = ap₂ (λ x xs. x ∷ xs) (same_literal-true l k e) (rest r)
+    go false e rest r = cc
+
+-- a test of one more element that is added where it isn't there yet
+once_more : {A : Type 0} (p : A → Bool) (front : List A) (x : A) (b : Bool) (rest : Bool) → (b ≡ true → Contains front x) → list_any p (if b then front else front ++ x ∷ []) || rest ≡ list_any p front || (p x || rest)
+once_more p front x true rest h = or-absorbs (list_any p front) (p x) rest (λ e. one_any p front x (h refl) e)
+once_more p front x false rest h =
+    ap (λ b. b || rest) (list_any-append p front (x ∷ []) ∙ ap (λ b. list_any p front || b) (or-false (p x)))
+    ∙ or-assoc (list_any p front) (p x) rest
+
+any-added : (p : Literal → Bool) (front ks : List Literal) → list_any p (added front ks) ≡ list_any p front || list_any p ks
+any-added p front [] = sym (or-false (list_any p front))
+any-added p front (k ∷ ks) =
+    any-added p (if has front k then front else front ++ k ∷ []) ks
+    ∙ once_more p front k (has front k) (list_any p ks) (has-true front k)
+
+any-with_clauses : (p : Clause → Bool) (front cs : List Clause) → list_any p (with_clauses front cs) ≡ list_any p front || list_any p cs
+any-with_clauses p front [] = sym (or-false (list_any p front))
+any-with_clauses p front (c ∷ cs) =
+    any-with_clauses p (if list_any (same_clause c) front then front else front ++ c ∷ []) cs
+    ∙ once_more p front c (list_any (same_clause c) front) (list_any p cs) (λ e. there (any_one (same_clause c) front e))
+  where
+    there : One (same_clause c) front → Contains front c
+    there o = subst (Contains front) (sym (same_clause-true c o.element o.passes)) o.is_one
+
+module _ (atoms : List Lambda) where
+  pub holds-opposite : (l : Literal) → holds atoms (opposite l) ≡ not (holds atoms l)
+  holds-opposite l = go (list_any (same_term l.atom) atoms)
+    where
+      go : (b : Bool) → (if b then not l.positive else not (not l.positive)) ≡ not (if b then l.positive else not l.positive)
+      go true = refl
+      go false = refl
+
+  pub has_false : (cs : List Clause) → list_any (is_false_clause atoms) cs ≡ true → HasFalse atoms cs
+  has_false cs h =
+      let o = any_one (is_false_clause atoms) cs h in
+      record { clause = o.element; is_one = o.is_one; none_holds = false_from_not (list_any (holds atoms) o.element) o.passes }
+
+  pub false_one : (cs : List Clause) → HasFalse atoms cs → list_any (is_false_clause atoms) cs ≡ true
+  false_one cs h = one_any (is_false_clause atoms) cs h.clause h.is_one (ap not h.none_holds)
+
+  -- a clause with opposite literals isn't false
+  tautology_holds : (c : Clause) → is_tautology c ≡ true → list_any (holds atoms) c ≡ true
+  tautology_holds c h =
+      let o = any_one (λ l. has c (opposite l)) c h in
+      go o.element o.is_one (has-true c (opposite o.element) o.passes) (holds atoms o.element) refl
+    where
+      go : (l : Literal) → Contains c l → Contains c (opposite l) → (b : Bool) → holds atoms l ≡ b → list_any (holds atoms) c ≡ true
+      go l i j true e = one_any (holds atoms) c l i e
+      go l i j false e = one_any (holds atoms) c (opposite l) j (holds-opposite l ∙ ap not e)
+
+  false_is_none : (c : Clause) → is_false_clause atoms c ≡ true → not (is_tautology c) ≡ true
+  false_is_none c h = go (is_tautology c) refl
+    where
+      go : (b : Bool) → is_tautology c ≡ b → not b ≡ true
+      go true e = let f : false ≡ true = sym (ap not (tautology_holds c e)) ∙ h in cc
+      go false e = refl
+
+  chosen_false : (as' : List (List Literal)) → list_any (is_false_clause atoms) (choices as') ≡ list_all (list_any (λ k. not (holds atoms k))) as'
+  chosen_false [] = refl
+  chosen_false (a ∷ as') =
+      any-flat_map (is_false_clause atoms) (λ l. map (λ ls. l ∷ ls) (choices as')) a
+      ∙ any-same (λ l. list_any (is_false_clause atoms) (map (λ ls. l ∷ ls) (choices as'))) (λ l. not (holds atoms l) && rest) (λ l. with_first (chosen_false as') l) a
+      ∙ any-and_right rest (λ l. not (holds atoms l)) a
+    where
+      rest : Bool
+      rest = list_all (list_any (λ k. not (holds atoms k))) as'
+
+      with_first : list_any (is_false_clause atoms) (choices as') ≡ rest → (l : Literal) → list_any (is_false_clause atoms) (map (λ ls. l ∷ ls) (choices as')) ≡ (not (holds atoms l) && rest)
+      with_first ih l =
+          any-map (is_false_clause atoms) (λ ls. l ∷ ls) (choices as')
+          ∙ any-same (λ ls. is_false_clause atoms (l ∷ ls)) (λ ls. not (holds atoms l) && is_false_clause atoms ls) (λ ls. not-or (holds atoms l) (list_any (holds atoms) ls)) (choices as')
+          ∙ any-and (not (holds atoms l)) (is_false_clause atoms) (choices as')
+          ∙ ap (λ b. not (holds atoms l) && b) ih
+
+  negated_false : (ps ls : List Literal) → is_false_clause atoms (map opposite ps ++ ls) ≡ (list_all (holds atoms) ps && is_false_clause atoms ls)
+  negated_false [] ls = refl
+  negated_false (p ∷ ps) ls = ap (λ b. not (b || list_any (holds atoms) (map opposite ps ++ ls))) (holds-opposite p) ∙ go (holds atoms p) (negated_false ps ls)
+    where
+      go : (b : Bool) → is_false_clause atoms (map opposite ps ++ ls) ≡ (list_all (holds atoms) ps && is_false_clause atoms ls) → not (not b || list_any (holds atoms) (map opposite ps ++ ls)) ≡ ((b && list_all (holds atoms) ps) && is_false_clause atoms ls)
+      go true ih = ih
+      go false ih = refl
+
+  pub instance_false : (ps : List Literal) (as' : List (List Literal)) → list_any (is_false_clause atoms) (instance_clauses ps as') ≡ is_falsified atoms ps as'
+  instance_false ps as' =
+      any-filter (is_false_clause atoms) (λ c. not (is_tautology c)) false_is_none (map (λ ls. without_repeats (map opposite ps ++ ls)) (choices as'))
+      ∙ any-map (is_false_clause atoms) (λ ls. without_repeats (map opposite ps ++ ls)) (choices as')
+      ∙ any-same (λ ls. is_false_clause atoms (without_repeats (map opposite ps ++ ls))) (λ ls. list_all (holds atoms) ps && is_false_clause atoms ls) each (choices as')
+      ∙ any-and (list_all (holds atoms) ps) (is_false_clause atoms) (choices as')
+      ∙ ap (λ b. list_all (holds atoms) ps && b) (chosen_false as')
+    where
+      each : (ls : List Literal) → is_false_clause atoms (without_repeats (map opposite ps ++ ls)) ≡ (list_all (holds atoms) ps && is_false_clause atoms ls)
+      each ls = ap not (any-added (holds atoms) [] (map opposite ps ++ ls)) ∙ negated_false ps ls
+
+  pub with_instance_false : (cs : List Clause) (ps : List Literal) (as' : List (List Literal)) → list_any (is_false_clause atoms) (with_clauses cs (instance_clauses ps as')) ≡ list_any (is_false_clause atoms) cs || is_falsified atoms ps as'
+  with_instance_false cs ps as' =
+      any-with_clauses (is_false_clause atoms) cs (instance_clauses ps as')
+      ∙ ap (λ b. list_any (is_false_clause atoms) cs || b) (instance_false ps as')
+
+pub added-there : (ls : List Literal) (l : Literal) → Contains ls l → added ls (l ∷ []) ≡ ls
+added-there ls l h = ap (λ b. if b then ls else ls ++ l ∷ []) (has-of ls l h)
+
+pub added-new : (ls : List Literal) (l : Literal) → (Contains ls l → ⊥) → added ls (l ∷ []) ≡ ls ++ l ∷ []
+added-new ls l n = go (has ls l) refl
+  where
+    go : (b : Bool) → has ls l ≡ b → (if b then ls else ls ++ l ∷ []) ≡ ls ++ l ∷ []
+    go true e = absurd (n (has-true ls l e))
+    go false e = refl
+
+pub added-append : (ls xs ys : List Literal) → added ls (xs ++ ys) ≡ added (added ls xs) ys
+added-append ls [] ys = refl
+added-append ls (x ∷ xs) ys = added-append (if has ls x then ls else ls ++ x ∷ []) xs ys

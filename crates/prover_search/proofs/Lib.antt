@@ -1,0 +1,11 @@
+pub mod BooleanLaws
+pub mod ClauseLaws
+pub mod NumberLaws
+pub mod ValueLaws
+pub mod SplittingLaws
+pub mod LineLaws
+pub mod StepLaws
+pub mod SearchedLaws
+pub mod DecidedLaws
+pub mod RunLaws
+pub mod WorkLaws

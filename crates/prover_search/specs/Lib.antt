@@ -1,0 +1,11 @@
+pub mod Clauses
+pub mod Search
+pub mod Run
+pub mod Searched
+pub mod Values
+pub mod Table
+pub mod Splitting
+pub mod Lines
+pub mod Decided
+pub mod Steps
+pub mod Ended
