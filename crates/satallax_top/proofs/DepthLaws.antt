@@ -1,11 +1,11 @@
 -- How deep the terms are for which formulas stand.
-use Rattle.std.proofs.Common.{◌≡◌, ℕ, suc, ◌+◌, ◌≤◌, List, [], Option, Some, None, ap, subst, arith}
+use Rattle.std.proofs.Common.{◌≡◌, ℕ, suc, ◌+◌, ◌≤◌, List, [], Option, Some, None, refl, subst, arith}
 use Rattle.stt_core.specs.Lambda.{Lambda, constant, name, falsity, neg}
 use Rattle.stt_core.specs.TypedName.{TypedName}
 use Rattle.stt_core.specs.Signature.{symbol_named}
 use Rattle.stt_core.specs.declared.signature.Symbol.{Symbol}
 use Rattle.stt_core.specs.declared.signature.Symbol.TheVariants.{Base, Const}
-use Rattle.stt_tableau.specs.Literals.{Literal, literal}
+use Rattle.stt_tableau.specs.Literals.{literal}
 use Rattle.stt_tableau.proofs.LiteralLaws.{literal_cases}
 use Rattle.satallax_top.specs.Reading.{Formula, IsUnit, name_unit, true_unit, false_unit, negated_unit, grouped_unit, IsFormula, one_unit, two_units, named_constant, term_of}
 use Rattle.satallax_top.specs.Search.{depth as term_depth}

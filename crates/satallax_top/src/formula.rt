@@ -29,10 +29,7 @@ fn implication(alloc: Global, premise: Term, conclusion: Term) -> Result<Term, A
     ensures { IfOk result (λ t. the_term t ≡ imp (the_term premise) (the_term conclusion)) }
 {
     let applied = Term::App(Box::new(alloc, Term::Imp)?, Box::new(alloc, premise)?);
-    Ok(Term::App(
-        Box::new(alloc, applied)?,
-        Box::new(alloc, conclusion)?,
-    ))
+    Ok(Term::App(Box::new(alloc, applied)?, Box::new(alloc, conclusion)?))
 }
 
 /// A unit of one token.
