@@ -33,7 +33,7 @@ use Rattle.satallax_top.specs.Reading.{Begins, IsStatement, typing_statement, ax
 use Rattle.satallax_top.specs.Propositional.{IsFormula, AreFormulas, IsFormulaIfThere, IsTyped, IsPropositional, IsSearched, AreSearched, IsRunnable}
 use Rattle.satallax_top.specs.Search.{depth}
 use Rattle.satallax_top.proofs.UnitLaws.{maps, implies}
-use Rattle.satallax_top.proofs.DepthLaws.{depth-literal, formula-depth}
+use Rattle.satallax_top.proofs.DepthLaws.{depth-literal, depth-formula}
 use Rattle.satallax_top.proofs.SatisfiableLaws.{none_contained}
 
 -- a formula of the first n names, falsity, negations and implications
@@ -431,14 +431,14 @@ more_shallow depth_limit n s t bytes rest statement l (typing_statement bs body 
     go false e = let q : with_name s w ≡ t = cc in subst (EachFormula (λ x. depth x ≤ n)) q (record { assumed = g.assumed; conjecture = g.conjecture })
 more_shallow depth_limit n s t bytes rest statement l (axiom_statement bs body behind rs f head is_formula end) h g =
     let m = maps (with_assumed s) (term_of s.constants f) t h in
-    subst (EachFormula (λ x. depth x ≤ n)) m.same (each_assumed (λ x. depth x ≤ n) s m.value g (omega (arith, l, formula-depth s.constants depth_limit body behind f m.value is_formula m.is)))
+    subst (EachFormula (λ x. depth x ≤ n)) m.same (each_assumed (λ x. depth x ≤ n) s m.value g (omega (arith, l, depth-formula s.constants depth_limit body behind f m.value is_formula m.is)))
 more_shallow depth_limit n s t bytes rest statement l (conjecture_statement bs body behind rs f head is_formula end) h g = go (is_some s.conjecture) h
   where
     go : (b : Bool) → (if b then None else option_map (with_conjecture s) (term_of s.constants f)) ≡ Some t → EachFormula (λ x. depth x ≤ n) t
     go true e = cc
     go false e =
         let m = maps (with_conjecture s) (term_of s.constants f) t e in
-        subst (EachFormula (λ x. depth x ≤ n)) m.same (each_conjecture (λ x. depth x ≤ n) s m.value g (omega (arith, l, formula-depth s.constants depth_limit body behind f m.value is_formula m.is)))
+        subst (EachFormula (λ x. depth x ≤ n)) m.same (each_conjecture (λ x. depth x ≤ n) s m.value g (omega (arith, l, depth-formula s.constants depth_limit body behind f m.value is_formula m.is)))
 
 leads_shallow : (depth_limit n : ℕ) (s t : Stated) (bytes : List ℕ) → depth_limit + 2 ≤ n → Leads depth_limit s bytes t → EachFormula (λ x. depth x ≤ n) s → EachFormula (λ x. depth x ≤ n) t
 leads_shallow depth_limit n s t bytes l (at_end s' bs e) g = g

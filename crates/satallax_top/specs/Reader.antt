@@ -51,7 +51,7 @@ abbrev pub implied_read : Read → Option Read → Option Read
 implied_read premise None = None
 implied_read premise (Some r) = Some (imp premise.0 r.0, r.1)
 
--- a formula whose first unit was read, by what follows the `=>` behind it, where there is one, and `unit` reads units
+-- a formula whose first unit was read, by what follows `=>` behind that unit, where `=>` does; `unit` reads the second
 abbrev pub where_implied : (List ℕ → Option Read) → Read → Option (List ℕ) → Option Read
 where_implied unit first None = Some first
 where_implied unit first (Some rest) = implied_read first (unit rest)

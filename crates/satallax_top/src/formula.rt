@@ -113,8 +113,8 @@ pub(crate) fn unit<'a>(
     leaf(alloc, sig, found)
 }
 
-/// The formula that the bytes begin with: a unit, or two with `=>` between them, which is read wherever it follows the first. Of
-/// negations and parentheses at most `depth` may be open in it at once.
+/// The formula that the bytes begin with: a unit and, where `=>` follows that, a second one. Of negations and parentheses at most `depth`
+/// may be open in it at once.
 #[cycle(reading)]
 pub(crate) fn formula<'a>(
     alloc: Global,
