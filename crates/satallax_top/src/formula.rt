@@ -83,7 +83,7 @@ fn grouped(inside: TermRead<'_>) -> Result<TermRead<'_>, Refusal>
 /// The unit that the bytes begin with. Of negations and parentheses at most `depth` may be open in it at once.
 #[cycle(reading)]
 #[tactic(auto, unfolding(crate::specs::Reader::unit_at))]
-pub(crate) fn unit<'a>(
+fn unit<'a>(
     alloc: Global,
     sig: &Signature,
     depth: u32,
