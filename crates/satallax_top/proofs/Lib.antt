@@ -1,6 +1,7 @@
 pub mod WordFront
 pub mod ReaderLaws
 pub mod UnitLaws
+pub mod DepthLaws
 pub mod StatementLaws
 pub mod FileLaws
 pub mod SatisfiableLaws

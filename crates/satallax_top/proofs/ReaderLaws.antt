@@ -36,6 +36,12 @@ unfolding behind
 behind-at text bytes rest h =
     ap (where_text text) h ∙ ap (λ b. if b then Some rest else None) ((bytes_eq-Decides text text).1 refl)
 
+-- the token has another text
+pub behind-other : (text other bytes rest : List ℕ) → Begins bytes other rest → bytes_eq other text ≡ false → behind text bytes ≡ None
+unfolding behind
+behind-other text other bytes rest h n =
+    ap (where_text text) h ∙ ap (λ b. if b then Some rest else None) n
+
 where_word-is : (o : Option (List ℕ × List ℕ)) (w : List ℕ × List ℕ) → where_word o ≡ Some w → (o ≡ Some w) × (is_lower_word w.0 ≡ true)
 where_word-is None w h = cc
 where_word-is (Some t) w h = go (is_lower_word t.0) refl h

@@ -1,17 +1,17 @@
 -- What the formulas are that a file states, and the literals of its start.
-use Rattle.std.proofs.Common.{◌≡◌, ℕ, zero, suc, ◌<◌, ◌≤◌, Bool, true, false, List, [], ◌∷◌, ◌++◌, map, length, slice_get, position, Option, Some, None, option_map, ap₂, is_some, cond, nat_lt, nat_le, ◌||◌, ◌&&◌, ◌==◌, Contains, ◌⊎◌, inl, inr, ⊎_elim, refl, sym, ap, subst, ◌∙◌, if◌then◌else◌, arith, length-append}
+use Rattle.std.proofs.Common.{◌≡◌, ℕ, zero, suc, ◌+◌, ◌<◌, ◌≤◌, Bool, true, false, List, [], ◌∷◌, ◌++◌, map, length, slice_get, position, Option, Some, None, option_map, ap₂, is_some, cond, nat_lt, nat_le, ◌||◌, ◌&&◌, ◌==◌, Contains, ◌⊎◌, inl, inr, ⊎_elim, refl, sym, ap, subst, ◌∙◌, if◌then◌else◌, codes, arith, length-append}
 use Rattle.std.specs.Str.{bytes_eq}
 use Rattle.std.specs.List.{position_or_len}
 use Rattle.std.proofs.lemmas.List.Elements.{Contains-push_cases}
 use borrow.Author.Tests.{ltb-true}
-use Rattle.std.proofs.lemmas.Bool.{and_from}
+use Rattle.std.proofs.lemmas.Bool.{and_from, le-leb}
 use Rattle.std.specs.List.{list_all}
-use Rattle.satallax_top.specs.Bytes.{token_at, skipped, first_token, first_word, word_front, is_word_byte, is_lower, is_lower_word, is_dollar_word, is_sign}
+use Rattle.satallax_top.specs.Bytes.{token_at, skipped, first_token, first_word, word_front, is_word_byte, is_lower, is_lower_word, is_dollar_word, is_sign, after_byte}
 use Rattle.satallax_top.specs.Text.{is_plain}
 use Rattle.satallax_top.specs.PlainNames.{ArePlain}
 use Rattle.satallax_top.proofs.StatementLaws.{some_same}
 use Rattle.stt_core.specs.SimpleType.{formula}
-use Rattle.stt_core.specs.Lambda.{Lambda, constant, app, name, falsity, negation, neg}
+use Rattle.stt_core.specs.Lambda.{Lambda, constant, app, name, falsity, negation, implication, neg, imp}
 use Rattle.stt_core.specs.SimpleType.{is_declared}
 use Rattle.stt_core.specs.Typing.{Scope, AreDeclared}
 use Rattle.stt_core.proofs.TypeLaws.{type_of-canonical}
@@ -23,50 +23,61 @@ use Rattle.stt_core.specs.Signature.{symbol_named, first_symbol}
 use Rattle.stt_core.specs.Meets.{MeetsFormulas, Refutes, MeetsProblem}
 use Rattle.stt_core.specs.Meaning.{Model, IsModel, value}
 use Rattle.stt_core.specs.declared.signature.Symbol.{Symbol}
-use Rattle.stt_tableau.specs.Literals.{Literal, opposite, literal, IsLiteral, IsBranch}
+use Rattle.stt_tableau.specs.Literals.{Literal, opposite, literal, is_negated, IsLiteral, IsBranch}
 use Rattle.stt_tableau.specs.Witnesses.{NamesNoWitness, NoneNamesWitness}
 use Rattle.stt_tableau.specs.Meets.{MeetsLiteral, MeetsBranch}
 use Rattle.stt_tableau.specs.Start.{has, added, denied, start}
 use Rattle.stt_tableau.proofs.ListLaws.{contains-first, contains-later, contains_cases, Each}
-use Rattle.stt_tableau.proofs.LiteralLaws.{literal-is_literal, opposite-is_literal, literal-says, value-bit}
-use Rattle.satallax_top.specs.Reading.{Begins, IsStatement, typing_statement, axiom_statement, conjecture_statement, Formula, named, truth, falsehood, negated, Statement, declares, assumes, asks, Stated, named_constant, term_of, with_name, with_assumed, with_conjecture, stated_more, Leads, at_end, by_statement, States, nothing_stated, question_of}
-use Rattle.satallax_top.specs.Propositional.{IsFormula, AreFormulas, IsFormulaIfThere, IsTyped, IsLeafTerm, AreLeaves, IsLeafBelow, AreLeavesBelow, IsRunnable}
-use Rattle.satallax_top.proofs.UnitLaws.{maps}
+use Rattle.stt_tableau.proofs.LiteralLaws.{literal_cases, literal-is_literal, opposite-is_literal, literal-says, value-bit}
+use Rattle.satallax_top.specs.Reading.{Begins, IsStatement, typing_statement, axiom_statement, conjecture_statement, Formula, named, truth, falsehood, negated, implied, Statement, declares, assumes, asks, Stated, named_constant, term_of, with_name, with_assumed, with_conjecture, stated_more, Leads, at_end, by_statement, States, nothing_stated, question_of}
+use Rattle.satallax_top.specs.Propositional.{IsFormula, AreFormulas, IsFormulaIfThere, IsTyped, IsPropositional, IsSearched, AreSearched, IsRunnable}
+use Rattle.satallax_top.specs.Search.{depth}
+use Rattle.satallax_top.proofs.UnitLaws.{maps, implies}
+use Rattle.satallax_top.proofs.DepthLaws.{depth-literal, depth-formula}
 use Rattle.satallax_top.proofs.SatisfiableLaws.{none_contained}
 
--- a formula of the first n names, falsity and negations
-abbrev pub IsSigned : ℕ → Lambda → Type 0
-IsSigned n (constant (name k)) = k < n
-IsSigned n (constant falsity) = Unit {0}
-IsSigned n (app (constant negation) s) = IsSigned n s
-IsSigned n t = ⊥
+-- a formula of the first n names, falsity, negations and implications
+abbrev pub IsOver : ℕ → Lambda → Type 0
+IsOver n (constant (name k)) = k < n
+IsOver n (constant falsity) = Unit {0}
+IsOver n (app (constant negation) s) = IsOver n s
+IsOver n (app (app (constant implication) s) t) = IsOver n s × IsOver n t
+IsOver n t = ⊥
 
--- a fact about all signed formulas, by their three forms
-pub signed_cases : (n : ℕ) (P : Lambda → Type 0) → ((k : ℕ) → k < n → P (constant (name k))) → P (constant falsity) → ((s : Lambda) → P s → P (neg s)) → (t : Lambda) → IsSigned n t → P t
-signed_cases n P f g h (constant (name k)) s = f k s
-signed_cases n P f g h (constant falsity) s = g
-signed_cases n P f g h (app (constant negation) t) s = h t (signed_cases n P f g h t s)
-signed_cases n P f g h t s = absurd s
+-- a fact about all such formulas, by their four forms
+over_cases : (n : ℕ) (P : Lambda → Type 0) → ((k : ℕ) → k < n → P (constant (name k))) → P (constant falsity) → ((s : Lambda) → P s → P (neg s)) → ((s t : Lambda) → P s → P t → P (imp s t)) → (t : Lambda) → IsOver n t → P t
+over_cases n P f g h i (constant (name k)) o = f k o
+over_cases n P f g h i (constant falsity) o = g
+over_cases n P f g h i (app (constant negation) s) o = h s (over_cases n P f g h i s o)
+over_cases n P f g h i (app (app (constant implication) s) t) o = i s t (over_cases n P f g h i s o.0) (over_cases n P f g h i t o.1)
+over_cases n P f g h i t o = absurd o
 
-signed_more : (n m : ℕ) → n ≤ m → (t : Lambda) → IsSigned n t → IsSigned m t
-signed_more n m h = signed_cases n (IsSigned m) (λ k l. omega arith) tt (λ s k. k)
+over_more : (n m : ℕ) → n ≤ m → (t : Lambda) → IsOver n t → IsOver m t
+over_more n m h = over_cases n (IsOver m) (λ k l. omega arith) tt (λ s k. k) (λ s t k l. (k, l))
 
-unnamed-signed : (n : ℕ) (t : Lambda) → IsSigned n t → NamesNoWitness t
-unnamed-signed n = signed_cases n NamesNoWitness (λ k l. tt) tt (λ s k. (tt, k))
+unnamed-over : (n : ℕ) (t : Lambda) → IsOver n t → NamesNoWitness t
+unnamed-over n = over_cases n NamesNoWitness (λ k l. tt) tt (λ s k. (tt, k)) (λ s t k l. ((tt, k), l))
 
-leaf-signed : (n : ℕ) (t : Lambda) → IsSigned n t → IsLeafTerm (literal t).atom
-leaf-signed n = signed_cases n (λ t. IsLeafTerm (literal t).atom) (λ k l. tt) tt (λ s k. k)
+propositional-over : (n : ℕ) (t : Lambda) → IsOver n t → IsPropositional t
+propositional-over n = over_cases n IsPropositional (λ k l. tt) tt (λ s k. k) (λ s t k l. (k, l))
 
-unnamed-literal : (n : ℕ) (t : Lambda) → IsSigned n t → NamesNoWitness (literal t).atom
-unnamed-literal n = signed_cases n (λ t. NamesNoWitness (literal t).atom) (λ k l. tt) tt (λ s k. k)
+-- facts of a formula that its literal's atom has, too
+unnamed-literal : (t : Lambda) → NamesNoWitness t → NamesNoWitness (literal t).atom
+unnamed-literal = literal_cases (λ t l. NamesNoWitness t → NamesNoWitness l.atom) (λ s inside h. inside h.1) (λ t unsigned h. h)
+
+propositional-literal : (t : Lambda) → IsPropositional t → IsPropositional (literal t).atom
+propositional-literal = literal_cases (λ t l. IsPropositional t → IsPropositional l.atom) (λ s inside h. inside h) (λ t unsigned h. h)
+
+unsigned-literal : (t : Lambda) → is_negated (literal t).atom ≡ false
+unsigned-literal = literal_cases (λ t l. is_negated l.atom ≡ false) (λ s inside. inside) (λ t unsigned. unsigned)
 
 -- each of the first n names has the type of formulas
 abbrev pub NamesAreFormulas : Scope → ℕ → Type 0
 NamesAreFormulas scope n = (k : ℕ) → k < n → slice_get scope.names k ≡ Some formula
 
-canonical-signed : (scope : Scope) (n : ℕ) → NamesAreFormulas scope n → (t : Lambda) → IsSigned n t → IsCanonical scope [] formula t
-canonical-signed scope n names =
-    signed_cases n (IsCanonical scope [] formula) (λ k l. (tt, names k l)) (tt, refl) (λ s h. (tt, (formula, refl, h)))
+canonical-over : (scope : Scope) (n : ℕ) → NamesAreFormulas scope n → (t : Lambda) → IsOver n t → IsCanonical scope [] formula t
+canonical-over scope n names =
+    over_cases n (IsCanonical scope [] formula) (λ k l. (tt, names k l)) (tt, refl) (λ s h. (tt, (formula, refl, h))) (λ s t h k. (tt, (formula, (formula, refl, h), k)))
 
 -- every element of the list has the property
 abbrev Every : {A : Type 0} → (A → Type 0) → List A → Type 0
@@ -96,23 +107,36 @@ added_each P ks h = every_each P (added [] ks) (λ l c. ⊎_elim (λ d. absurd (
     at_of [] e l d = absurd (none_contained l d)
     at_of (k ∷ ls) e l d = contains_cases (P l) l k ls d (λ q. subst P q e.0) (λ r. at_of ls e.1 l r)
 
--- what a file states: the constants have the type of formulas, and the formulas are signed ones of them
-abbrev pub AreSigned : ℕ → List Lambda → Type 0
-AreSigned n [] = Unit {0}
-AreSigned n (t ∷ ts) = IsSigned n t × AreSigned n ts
+-- what is there has the property
+abbrev IfThere : {A : Type 0} → (A → Type 0) → Option A → Type 0
+IfThere P None = Unit {0}
+IfThere P (Some x) = P x
 
-abbrev pub IsSignedIfThere : ℕ → Option Lambda → Type 0
-IsSignedIfThere n None = Unit {0}
-IsSignedIfThere n (Some t) = IsSigned n t
+every_more : {A : Type 0} (P Q : A → Type 0) → ((x : A) → P x → Q x) → (xs : List A) → Every P xs → Every Q xs
+every_more P Q f [] h = tt
+every_more P Q f (x ∷ xs) h = (f x h.0, every_more P Q f xs h.1)
+
+if_there_more : {A : Type 0} (P Q : A → Type 0) → ((x : A) → P x → Q x) → (o : Option A) → IfThere P o → IfThere Q o
+if_there_more P Q f None h = tt
+if_there_more P Q f (Some x) h = f x h
+
+every_both : {A : Type 0} (P : A → Type 0) (xs ys : List A) → Every P xs → Every P ys → Every P (xs ++ ys)
+every_both P [] ys h k = k
+every_both P (x ∷ xs) ys h k = (h.0, every_both P xs ys h.1 k)
+
+-- the formulas that are stated have the property
+pub record EachFormula (P : Lambda → Type 0) (s : Stated) : Type 0 where
+  pub assumed : Every P s.assumed
+  pub conjecture : IfThere P s.conjecture
 
 abbrev pub ConstantsAreFormulas : List TypedName → Type 0
 ConstantsAreFormulas [] = Unit {0}
 ConstantsAreFormulas (c ∷ cs) = (c.type ≡ formula) × ConstantsAreFormulas cs
 
+-- what a file states: the constants have the type of formulas, and the formulas are made of them
 pub record IsSound (s : Stated) : Type 0 where
   pub constants : ConstantsAreFormulas s.constants
-  pub assumed : AreSigned (length s.constants) s.assumed
-  pub conjecture : IsSignedIfThere (length s.constants) s.conjecture
+  pub formulas : EachFormula (IsOver (length s.constants)) s
 
 position_below : {A : Type 0} (p : A → Bool) (xs : List A) (k : ℕ) → position p xs ≡ Some k → k < length xs
 position_below p xs k h = go (nat_lt (position_or_len p xs) (length xs)) refl h
@@ -124,42 +148,41 @@ position_below p xs k h = go (nat_lt (position_or_len p xs) (length xs)) refl h
 abbrev symbol_at : Option ℕ → Option Symbol
 symbol_at o = first_symbol None o
 
-constant_below : (constants : List TypedName) (w : List ℕ) (t : Lambda) → named_constant (symbol_named [] constants w) ≡ Some t → IsSigned (length constants) t
+constant_below : (constants : List TypedName) (w : List ℕ) (t : Lambda) → named_constant (symbol_named [] constants w) ≡ Some t → IsOver (length constants) t
 constant_below constants w t h = go (position (λ c. bytes_eq c.name w) constants) refl h
   where
-    go : (o : Option ℕ) → position (λ c. bytes_eq c.name w) constants ≡ o → named_constant (symbol_at o) ≡ Some t → IsSigned (length constants) t
+    go : (o : Option ℕ) → position (λ c. bytes_eq c.name w) constants ≡ o → named_constant (symbol_at o) ≡ Some t → IsOver (length constants) t
     go None e q = cc
-    go (Some k) e q = let n : constant (name k) ≡ t = cc in subst (IsSigned (length constants)) n (position_below (λ c. bytes_eq c.name w) constants k e)
+    go (Some k) e q = let n : constant (name k) ≡ t = cc in subst (IsOver (length constants)) n (position_below (λ c. bytes_eq c.name w) constants k e)
 
-term_of-signed : (constants : List TypedName) (f : Formula) (t : Lambda) → term_of constants f ≡ Some t → IsSigned (length constants) t
-term_of-signed constants (named w) t h = constant_below constants w t h
-term_of-signed constants truth t h = let e : neg (constant falsity) ≡ t = cc in subst (IsSigned (length constants)) e tt
-term_of-signed constants falsehood t h = let e : constant falsity ≡ t = cc in subst (IsSigned (length constants)) e tt
-term_of-signed constants (negated f) t h =
+term_of-over : (constants : List TypedName) (f : Formula) (t : Lambda) → term_of constants f ≡ Some t → IsOver (length constants) t
+term_of-over constants (named w) t h = constant_below constants w t h
+term_of-over constants truth t h = let e : neg (constant falsity) ≡ t = cc in subst (IsOver (length constants)) e tt
+term_of-over constants falsehood t h = let e : constant falsity ≡ t = cc in subst (IsOver (length constants)) e tt
+term_of-over constants (negated f) t h =
     let m = maps neg (term_of constants f) t h in
-    subst (IsSigned (length constants)) m.same (term_of-signed constants f m.value m.is)
-
-signed_all_more : (n m : ℕ) → n ≤ m → (ts : List Lambda) → AreSigned n ts → AreSigned m ts
-signed_all_more n m l [] h = tt
-signed_all_more n m l (t ∷ ts) h = (signed_more n m l t h.0, signed_all_more n m l ts h.1)
-
-signed_one_more : (n m : ℕ) → n ≤ m → (o : Option Lambda) → IsSignedIfThere n o → IsSignedIfThere m o
-signed_one_more n m l None h = tt
-signed_one_more n m l (Some t) h = signed_more n m l t h
-
-signed_append : (n : ℕ) (ts : List Lambda) (t : Lambda) → AreSigned n ts → IsSigned n t → AreSigned n (ts ++ t ∷ [])
-signed_append n [] t h k = (k, tt)
-signed_append n (u ∷ ts) t h k = (h.0, signed_append n ts t h.1 k)
+    subst (IsOver (length constants)) m.same (term_of-over constants f m.value m.is)
+term_of-over constants (implied f g) t h =
+    let m = implies (term_of constants f) (term_of constants g) t h in
+    subst (IsOver (length constants)) m.same (term_of-over constants f m.premise m.first, term_of-over constants g m.conclusion m.second)
 
 constants_append : (cs : List TypedName) (w : List ℕ) → ConstantsAreFormulas cs → ConstantsAreFormulas (cs ++ record { name = w; type = formula } ∷ [])
 constants_append [] w h = (refl, tt)
 constants_append (c ∷ cs) w h = (h.0, constants_append cs w h.1)
 
+-- the formulas of what is stated after one more statement
+module _ (P : Lambda → Type 0) where
+  each_assumed : (s : Stated) (t : Lambda) → EachFormula P s → P t → EachFormula P (with_assumed s t)
+  each_assumed s t g h = record { assumed = every_both P s.assumed (t ∷ []) g.assumed (h, tt); conjecture = g.conjecture }
+
+  each_conjecture : (s : Stated) (t : Lambda) → EachFormula P s → P t → EachFormula P (with_conjecture s t)
+  each_conjecture s t g h = record { assumed = g.assumed; conjecture = h }
+
 more_sound : (s t : Stated) (statement : Statement) → stated_more s statement ≡ Some t → IsSound s → IsSound t
 more_sound s t (declares w) h g = go (is_some (symbol_named [] s.constants w)) h
   where
-    longer : length s.constants ≤ length (with_name s w).constants
-    longer = omega (arith, length-append s.constants (record { name = w; type = formula } ∷ []))
+    over : (x : Lambda) → IsOver (length s.constants) x → IsOver (length (with_name s w).constants) x
+    over = over_more (length s.constants) _ (omega (arith, length-append s.constants (record { name = w; type = formula } ∷ [])))
 
     go : (b : Bool) → (if b then None else Some (with_name s w)) ≡ Some t → IsSound t
     go true e = cc
@@ -167,51 +190,44 @@ more_sound s t (declares w) h g = go (is_some (symbol_named [] s.constants w)) h
         let q : with_name s w ≡ t = cc in
         subst IsSound q (record {
           constants = constants_append s.constants w g.constants;
-          assumed = signed_all_more (length s.constants) _ longer s.assumed g.assumed;
-          conjecture = signed_one_more (length s.constants) _ longer s.conjecture g.conjecture;
+          formulas = record { assumed = every_more _ _ over s.assumed g.formulas.assumed; conjecture = if_there_more _ _ over s.conjecture g.formulas.conjecture };
         })
 more_sound s t (assumes f) h g =
     let m = maps (with_assumed s) (term_of s.constants f) t h in
-    subst IsSound m.same (record {
-      constants = g.constants;
-      assumed = signed_append (length s.constants) s.assumed m.value g.assumed (term_of-signed s.constants f m.value m.is);
-      conjecture = g.conjecture;
-    })
+    subst IsSound m.same (record { constants = g.constants; formulas = each_assumed (IsOver (length s.constants)) s m.value g.formulas (term_of-over s.constants f m.value m.is) })
 more_sound s t (asks f) h g = go (is_some s.conjecture) h
   where
     go : (b : Bool) → (if b then None else option_map (with_conjecture s) (term_of s.constants f)) ≡ Some t → IsSound t
     go true e = cc
     go false e =
         let m = maps (with_conjecture s) (term_of s.constants f) t e in
-        subst IsSound m.same (record { constants = g.constants; assumed = g.assumed; conjecture = term_of-signed s.constants f m.value m.is })
+        subst IsSound m.same (record { constants = g.constants; formulas = each_conjecture (IsOver (length s.constants)) s m.value g.formulas (term_of-over s.constants f m.value m.is) })
 
 leads_sound : (depth : ℕ) (s t : Stated) (bytes : List ℕ) → Leads depth s bytes t → IsSound s → IsSound t
 leads_sound depth s t bytes (at_end s' bs e) g = g
 leads_sound depth s t bytes (by_statement s' t' u' bs rs statement is_statement stated l) g = leads_sound depth t' u' rs l (more_sound s' t' statement stated g)
 
 pub states_sound : (depth : ℕ) (bytes : List ℕ) (s : Stated) → States depth bytes s → IsSound s
-states_sound depth bytes s h = leads_sound depth nothing_stated s bytes h (record { constants = tt; assumed = tt; conjecture = tt })
+states_sound depth bytes s h = leads_sound depth nothing_stated s bytes h (record { constants = tt; formulas = record { assumed = tt; conjecture = tt } })
 
 names_are_formulas : (cs : List TypedName) → ConstantsAreFormulas cs → (k : ℕ) → k < length cs → slice_get (map (λ c. c.type) cs) k ≡ Some formula
 names_are_formulas [] h k l = absurd (omega arith)
 names_are_formulas (c ∷ cs) h zero l = ap Some h.0
 names_are_formulas (c ∷ cs) h (suc k) l = names_are_formulas cs h.1 k (omega arith)
 
--- a fact about the literals of signed formulas is one about the start
-module _ (P : Literal → Type 0) (n : ℕ) (of_literal : (t : Lambda) → IsSigned n t → P (literal t)) (of_opposite : (t : Lambda) → IsSigned n t → P (opposite (literal t))) where
-  every_literal : (ts : List Lambda) (o : Option Lambda) → AreSigned n ts → IsSignedIfThere n o → Every P (map literal ts ++ denied o)
+-- a fact about the literals of the formulas that are stated is one about the start
+module _ (Q : Lambda → Type 0) (P : Literal → Type 0) (of_literal : (t : Lambda) → Q t → P (literal t)) (of_opposite : (t : Lambda) → Q t → P (opposite (literal t))) where
+  every_literal : (ts : List Lambda) (o : Option Lambda) → Every Q ts → IfThere Q o → Every P (map literal ts ++ denied o)
   every_literal [] None h k = tt
   every_literal [] (Some t) h k = (of_opposite t k, tt)
   every_literal (t ∷ ts) o h k = (of_literal t h.0, every_literal ts o h.1 k)
 
-  every_start : (s : Stated) → length s.constants ≡ n → IsSound s → Every P (start (question_of s))
-  every_start s e g =
-      added_each P (map literal s.assumed ++ denied s.conjecture)
-      (every_literal s.assumed s.conjecture (subst (λ m. AreSigned m s.assumed) e g.assumed) (subst (λ m. IsSignedIfThere m s.conjecture) e g.conjecture))
+  every_start : (s : Stated) → EachFormula Q s → Every P (start (question_of s))
+  every_start s g = added_each P (map literal s.assumed ++ denied s.conjecture) (every_literal s.assumed s.conjecture g.assumed g.conjecture)
 
-are_leaves : (ls : List Literal) → Every (λ l. IsLeafTerm l.atom) ls → AreLeaves ls
-are_leaves [] h = tt
-are_leaves (l ∷ ls) h = (h.0, are_leaves ls h.1)
+are_searched : (ls : List Literal) → Every IsSearched ls → AreSearched ls
+are_searched [] h = tt
+are_searched (l ∷ ls) h = (h.0, are_searched ls h.1)
 
 none_named : (ls : List Literal) → Every (λ l. NamesNoWitness l.atom) ls → NoneNamesWitness ls
 none_named [] h = tt
@@ -233,65 +249,85 @@ module _ (s : Stated) (g : IsSound s) where
   scope : Scope
   scope = (question_of s).scope
 
-  canonical : (t : Lambda) → IsSigned (length s.constants) t → IsCanonical (question_of s).scope [] formula t
-  canonical = canonical-signed (question_of s).scope (length s.constants) (names_are_formulas s.constants g.constants)
+  canonical : (t : Lambda) → IsOver (length s.constants) t → IsCanonical (question_of s).scope [] formula t
+  canonical = canonical-over (question_of s).scope (length s.constants) (names_are_formulas s.constants g.constants)
 
-  is_formula : (t : Lambda) → IsSigned (length s.constants) t → IsFormula (question_of s).scope t
+  is_formula : (t : Lambda) → IsOver (length s.constants) t → IsFormula (question_of s).scope t
   is_formula t h = type_of-canonical (question_of s).scope [] formula t (canonical t h)
 
-  are_formulas : (ts : List Lambda) → AreSigned (length s.constants) ts → AreFormulas (question_of s).scope ts
+  are_formulas : (ts : List Lambda) → Every (IsOver (length s.constants)) ts → AreFormulas (question_of s).scope ts
   are_formulas [] h = tt
   are_formulas (t ∷ ts) h = (is_formula t h.0, are_formulas ts h.1)
 
-  is_formula_if_there : (o : Option Lambda) → IsSignedIfThere (length s.constants) o → IsFormulaIfThere (question_of s).scope o
+  is_formula_if_there : (o : Option Lambda) → IfThere (IsOver (length s.constants)) o → IsFormulaIfThere (question_of s).scope o
   is_formula_if_there None h = tt
   is_formula_if_there (Some t) h = is_formula t h
 
   pub sound_typed : IsTyped (question_of s)
   sound_typed = record {
     scope = record { names_declared = formulas_declared s.constants g.constants; witnesses_declared = tt };
-    assumed = are_formulas s.assumed g.assumed;
-    conjecture = is_formula_if_there s.conjecture g.conjecture;
+    assumed = are_formulas s.assumed g.formulas.assumed;
+    conjecture = is_formula_if_there s.conjecture g.formulas.conjecture;
   }
 
-  is_normal : (t : Lambda) → IsSigned (length s.constants) t → normal_in s t ≡ t
+  is_normal : (t : Lambda) → IsOver (length s.constants) t → normal_in s t ≡ t
   is_normal t h = normal_form-canonical (question_of s).scope [] formula t (canonical t h)
 
-  are_normal : (ts : List Lambda) → AreSigned (length s.constants) ts → map (normal_in s) ts ≡ ts
+  are_normal : (ts : List Lambda) → Every (IsOver (length s.constants)) ts → map (normal_in s) ts ≡ ts
   are_normal [] h = refl
   are_normal (t ∷ ts) h = ap₂ (λ x xs. x ∷ xs) (is_normal t h.0) (are_normal ts h.1)
 
-  is_normal_if_there : (o : Option Lambda) → IsSignedIfThere (length s.constants) o → option_map (normal_in s) o ≡ o
+  is_normal_if_there : (o : Option Lambda) → IfThere (IsOver (length s.constants)) o → option_map (normal_in s) o ≡ o
   is_normal_if_there None h = refl
   is_normal_if_there (Some t) h = ap Some (is_normal t h)
 
   -- the formulas of the first path are their own normal forms
   pub normal_question-sound : normal_question s ≡ question_of s
   normal_question-sound =
-      ap₂ (λ ts o. record { scope = (question_of s).scope; assumed = ts; conjecture = o }) (are_normal s.assumed g.assumed) (is_normal_if_there s.conjecture g.conjecture)
+      ap₂ (λ ts o. record { scope = (question_of s).scope; assumed = ts; conjecture = o }) (are_normal s.assumed g.formulas.assumed) (is_normal_if_there s.conjecture g.formulas.conjecture)
 
   normally : (P : List Literal → Type 0) → P (start (question_of s)) → P (start (normal_question s))
   normally P = subst (λ q. P (start q)) (sym normal_question-sound)
 
-  pub start_leaves : AreLeaves (start (normal_question s))
-  start_leaves = normally AreLeaves (
-      let n = length s.constants in
-      are_leaves _ (every_start (λ l. IsLeafTerm l.atom) n (leaf-signed n) (leaf-signed n) s refl g))
-
   pub start_unnamed : NoneNamesWitness (start (normal_question s))
   start_unnamed = normally NoneNamesWitness (
       let n = length s.constants in
-      none_named _ (every_start (λ l. NamesNoWitness l.atom) n (unnamed-literal n) (unnamed-literal n) s refl g))
+      let unnamed : (t : Lambda) → IsOver n t → NamesNoWitness (literal t).atom = λ t h. unnamed-literal t (unnamed-over n t h) in
+      none_named _ (every_start (IsOver n) (λ l. NamesNoWitness l.atom) unnamed unnamed s g.formulas))
 
   pub start_typed : IsBranch (question_of s).scope (start (normal_question s))
   start_typed = normally (IsBranch (question_of s).scope) (
       let k = (question_of s).scope in
       is_branch k _
-      (every_start (IsLiteral k) (length s.constants) (λ t h. literal-is_literal k t (canonical t h)) (λ t h. opposite-is_literal k (literal t) (literal-is_literal k t (canonical t h))) s refl g))
+      (every_start (IsOver (length s.constants)) (IsLiteral k) (λ t h. literal-is_literal k t (canonical t h)) (λ t h. opposite-is_literal k (literal t) (literal-is_literal k t (canonical t h))) s g.formulas))
+
+  -- the search takes the literals of the start, where no formula that is stated is too deep
+  pub start_searched : EachFormula (λ t. depth t ≤ 4096) s → AreSearched (start (normal_question s))
+  start_searched d = normally AreSearched (
+      let n = length s.constants in
+      are_searched _ (every_start (λ t. IsOver n t × (depth t ≤ 4096)) IsSearched (λ t h. searched n t (literal t).positive h) (λ t h. searched n t (opposite (literal t)).positive h) s both))
+    where
+      searched : (n : ℕ) (t : Lambda) (sign : Bool) → IsOver n t × (depth t ≤ 4096) → IsSearched (record { positive = sign; atom = (literal t).atom })
+      searched n t sign h = record {
+        formula = propositional-literal t (propositional-over n t h.0);
+        unsigned = unsigned-literal t;
+        shallow = le-leb (depth (literal t).atom) 4096 (omega (arith, depth-literal t, h.1));
+      }
+
+      every_two : (P Q : Lambda → Type 0) (ts : List Lambda) → Every P ts → Every Q ts → Every (λ t. P t × Q t) ts
+      every_two P Q [] h k = tt
+      every_two P Q (t ∷ ts) h k = ((h.0, k.0), every_two P Q ts h.1 k.1)
+
+      if_there_two : (P Q : Lambda → Type 0) (o : Option Lambda) → IfThere P o → IfThere Q o → IfThere (λ t. P t × Q t) o
+      if_there_two P Q None h k = tt
+      if_there_two P Q (Some t) h k = (h, k)
+
+      both : EachFormula (λ t. IsOver (length s.constants) t × (depth t ≤ 4096)) s
+      both = record { assumed = every_two _ _ s.assumed g.formulas.assumed d.assumed; conjecture = if_there_two _ _ s.conjecture g.formulas.conjecture d.conjecture }
 
   -- a model of the problem meets the start
   module _ (m : Model) (good : IsModel (question_of s).scope m) where
-    literals_met : (ts : List Lambda) → AreSigned (length s.constants) ts → MeetsFormulas (question_of s).scope m ts → Every (MeetsLiteral (question_of s).scope m) (map literal ts)
+    literals_met : (ts : List Lambda) → Every (IsOver (length s.constants)) ts → MeetsFormulas (question_of s).scope m ts → Every (MeetsLiteral (question_of s).scope m) (map literal ts)
     literals_met [] h k = tt
     literals_met (t ∷ ts) h k = ((literal-says (question_of s).scope m good t (canonical t h.0)).at_one k.0, literals_met ts h.1 k.1)
 
@@ -300,21 +336,17 @@ module _ (s : Stated) (g : IsSound s) where
     not_one (suc zero) l h = absurd (h refl)
     not_one (suc (suc v)) l h = absurd (omega arith)
 
-    denied_met : (o : Option Lambda) → IsSignedIfThere (length s.constants) o → Refutes (question_of s).scope m o → Every (MeetsLiteral (question_of s).scope m) (denied o)
+    denied_met : (o : Option Lambda) → IfThere (IsOver (length s.constants)) o → Refutes (question_of s).scope m o → Every (MeetsLiteral (question_of s).scope m) (denied o)
     denied_met None h k = tt
     denied_met (Some t) h k =
         let v = value (question_of s).scope m [] [] t in
         ((literal-says (question_of s).scope m good t (canonical t h)).at_zero (not_one v (value-bit (question_of s).scope m good t (canonical t h)) k), tt)
 
-    both : {A : Type 0} (P : A → Type 0) (xs ys : List A) → Every P xs → Every P ys → Every P (xs ++ ys)
-    both P [] ys h k = k
-    both P (x ∷ xs) ys h k = (h.0, both P xs ys h.1 k)
-
     pub start_met : MeetsProblem (question_of s) m → MeetsBranch (question_of s).scope m (start (normal_question s))
     start_met h = normally (MeetsBranch (question_of s).scope m) (
         meets_branch (question_of s).scope m _
         (added_each (MeetsLiteral (question_of s).scope m) (map literal s.assumed ++ denied s.conjecture)
-        (both (MeetsLiteral (question_of s).scope m) (map literal s.assumed) (denied s.conjecture) (literals_met s.assumed g.assumed h.assumed) (denied_met s.conjecture g.conjecture h.conjecture))))
+        (every_both (MeetsLiteral (question_of s).scope m) (map literal s.assumed) (denied s.conjecture) (literals_met s.assumed g.formulas.assumed h.assumed) (denied_met s.conjecture g.formulas.conjecture h.conjecture))))
 
 -- names in texts
 word_front_bytes : (bytes : List ℕ) → list_all is_word_byte (word_front bytes) ≡ true
@@ -328,28 +360,36 @@ word_front_bytes (c ∷ cs) = go (is_word_byte c) refl (word_front_bytes cs)
 lower_is_word : (c : ℕ) → is_lower c ≡ true → is_word_byte c ≡ true
 lower_is_word c h = ap (λ b. ((b || (nat_le 65 c && nat_le c 90)) || (nat_le 48 c && nat_le c 57)) || (c == 95)) h
 
--- one of two answers, of which each has the property
-one_of_two : {A : Type 0} (P : A → Type 0) (b d : Bool) (x y r : A) → P x → P y → (if b then Some x else (if d then Some y else None)) ≡ Some r → P r
-one_of_two P true d x y r h k e = subst P (some_same x r e) h
-one_of_two P false true x y r h k e = subst P (some_same y r e) k
-one_of_two P false false x y r h k e = cc
+-- one of three answers, of which each has the property
+one_of_three : {A : Type 0} (P : A → Type 0) (b d e : Bool) (x y : A) (o : Option A) (r : A) → P x → P y → ((z : A) → o ≡ Some z → P z) → (if b then Some x else (if d then Some y else (if e then o else None))) ≡ Some r → P r
+one_of_three P true d e x y o r h k f q = subst P (some_same x r q) h
+one_of_three P false true e x y o r h k f q = subst P (some_same y r q) k
+one_of_three P false false true x y o r h k f q = f r q
+one_of_three P false false false x y o r h k f q = cc
 
 -- a token that begins like a lower word is a lower word
 plain_token : (bytes : List ℕ) (t : List ℕ × List ℕ) → first_token bytes ≡ Some t → is_lower_word t.0 ≡ true → is_plain t.0 ≡ true
 plain_token [] t h k = cc
 plain_token (c ∷ cs) t h k = go (is_lower c) refl
   where
-    first_byte : is_lower_word t.0 ≡ is_lower c
-    first_byte = one_of_two (λ x. is_lower_word x.0 ≡ is_lower c) (is_lower c || is_dollar_word (c ∷ word_front cs)) (is_sign c) (first_word (c ∷ cs)) (c ∷ [], cs) t refl refl h
+    arrow : Option (List ℕ × List ℕ)
+    arrow = option_map (λ rest. (codes "=>", rest)) (after_byte 62 cs)
+
+    token_where : Bool → Option (List ℕ × List ℕ)
+    token_where b = if b || is_dollar_word (c ∷ word_front cs) then Some (first_word (c ∷ cs)) else (if is_sign c then Some (c ∷ [], cs) else (if c == 61 then arrow else None))
+
+    arrow_no_word : (z : List ℕ × List ℕ) → arrow ≡ Some z → is_lower_word z.0 ≡ false
+    arrow_no_word z e =
+        let m = maps (λ rest. (codes "=>", rest)) (after_byte 62 cs) z e in
+        ap (λ x. is_lower_word x.0) (sym m.same)
 
     go : (b : Bool) → is_lower c ≡ b → is_plain t.0 ≡ true
     go true l =
         let q = some_same (first_word (c ∷ cs)) t (sym (ap (λ b. token_where b) l) ∙ h) in
         subst (λ x. is_plain x.0 ≡ true) q (and_from (is_lower c) (list_all is_word_byte (c ∷ word_front cs)) l (and_from (is_word_byte c) (list_all is_word_byte (word_front cs)) (lower_is_word c l) (word_front_bytes cs)))
-      where
-        token_where : Bool → Option (List ℕ × List ℕ)
-        token_where b = if b || is_dollar_word (c ∷ word_front cs) then Some (first_word (c ∷ cs)) else (if is_sign c then Some (c ∷ [], cs) else None)
-    go false l = let n : is_lower_word t.0 ≡ false = first_byte ∙ l in cc
+    go false l =
+        let n : is_lower_word t.0 ≡ false = one_of_three (λ x. is_lower_word x.0 ≡ false) (is_lower c || is_dollar_word (c ∷ word_front cs)) (is_sign c) (c == 61) (first_word (c ∷ cs)) (c ∷ [], cs) arrow t l l arrow_no_word h in
+        cc
 
 plain_begins : (bytes w rest : List ℕ) → Begins bytes w rest → is_lower_word w ≡ true → is_plain w ≡ true
 unfolding token_at
@@ -382,25 +422,40 @@ leads_plain depth s t bytes (by_statement s' t' u' bs rs statement is_statement 
 pub states_plain : (depth : ℕ) (bytes : List ℕ) (s : Stated) → States depth bytes s → ArePlain s.constants
 states_plain depth bytes s h = leads_plain depth nothing_stated s bytes h tt
 
-leaf_below-signed : (n : ℕ) (t : Lambda) → IsSigned n t → IsLeafBelow n (literal t).atom
-leaf_below-signed n = signed_cases n (λ t. IsLeafBelow n (literal t).atom) (λ k l. l) tt (λ s k. k)
+-- no formula of a statement is too deep
+more_shallow : (depth_limit n : ℕ) (s t : Stated) (bytes rest : List ℕ) (statement : Statement) → depth_limit + 2 ≤ n → IsStatement depth_limit bytes statement rest → stated_more s statement ≡ Some t → EachFormula (λ x. depth x ≤ n) s → EachFormula (λ x. depth x ≤ n) t
+more_shallow depth_limit n s t bytes rest statement l (typing_statement bs body behind rs w head typing end) h g = go (is_some (symbol_named [] s.constants w)) h
+  where
+    go : (b : Bool) → (if b then None else Some (with_name s w)) ≡ Some t → EachFormula (λ x. depth x ≤ n) t
+    go true e = cc
+    go false e = let q : with_name s w ≡ t = cc in subst (EachFormula (λ x. depth x ≤ n)) q (record { assumed = g.assumed; conjecture = g.conjecture })
+more_shallow depth_limit n s t bytes rest statement l (axiom_statement bs body behind rs f head is_formula end) h g =
+    let m = maps (with_assumed s) (term_of s.constants f) t h in
+    subst (EachFormula (λ x. depth x ≤ n)) m.same (each_assumed (λ x. depth x ≤ n) s m.value g (omega (arith, l, depth-formula s.constants depth_limit body behind f m.value is_formula m.is)))
+more_shallow depth_limit n s t bytes rest statement l (conjecture_statement bs body behind rs f head is_formula end) h g = go (is_some s.conjecture) h
+  where
+    go : (b : Bool) → (if b then None else option_map (with_conjecture s) (term_of s.constants f)) ≡ Some t → EachFormula (λ x. depth x ≤ n) t
+    go true e = cc
+    go false e =
+        let m = maps (with_conjecture s) (term_of s.constants f) t e in
+        subst (EachFormula (λ x. depth x ≤ n)) m.same (each_conjecture (λ x. depth x ≤ n) s m.value g (omega (arith, l, depth-formula s.constants depth_limit body behind f m.value is_formula m.is)))
 
-are_leaves_below : (n : ℕ) (ls : List Literal) → Every (λ l. IsLeafBelow n l.atom) ls → AreLeavesBelow n ls
-are_leaves_below n [] h = tt
-are_leaves_below n (l ∷ ls) h = (h.0, are_leaves_below n ls h.1)
+leads_shallow : (depth_limit n : ℕ) (s t : Stated) (bytes : List ℕ) → depth_limit + 2 ≤ n → Leads depth_limit s bytes t → EachFormula (λ x. depth x ≤ n) s → EachFormula (λ x. depth x ≤ n) t
+leads_shallow depth_limit n s t bytes l (at_end s' bs e) g = g
+leads_shallow depth_limit n s t bytes l (by_statement s' t' u' bs rs statement is_statement stated more) g =
+    leads_shallow depth_limit n t' u' rs l more (more_shallow depth_limit n s' t' bs rs statement l is_statement stated g)
 
-pub start_leaves_below : (s : Stated) → IsSound s → AreLeavesBelow (length s.constants) (start (normal_question s))
-start_leaves_below s g = normally s g (AreLeavesBelow (length s.constants)) (
-    let n = length s.constants in
-    are_leaves_below n _ (every_start (λ l. IsLeafBelow n l.atom) n (leaf_below-signed n) (leaf_below-signed n) s refl g))
+-- the terms of a file's formulas are at most two deeper than what may be open in them
+pub states_shallow : (depth_limit n : ℕ) (bytes : List ℕ) (s : Stated) → depth_limit + 2 ≤ n → States depth_limit bytes s → EachFormula (λ x. depth x ≤ n) s
+states_shallow depth_limit n bytes s l h = leads_shallow depth_limit n nothing_stated s bytes l h (record { assumed = tt; conjecture = tt })
 
-pub states_runnable : (depth : ℕ) (bytes : List ℕ) (s : Stated) → States depth bytes s → IsRunnable s
-states_runnable depth bytes s h =
-    let g = states_sound depth bytes s h in
+-- what a file states is run as it stands, where few enough things may be open in its formulas
+pub states_runnable : (depth_limit : ℕ) (bytes : List ℕ) (s : Stated) → depth_limit + 2 ≤ 4096 → States depth_limit bytes s → IsRunnable s
+states_runnable depth_limit bytes s l h =
+    let g = states_sound depth_limit bytes s h in
     record {
       formulas = sound_typed s g;
-      plain = states_plain depth bytes s h;
-      leaves = start_leaves s g;
-      leaves_below = start_leaves_below s g;
+      plain = states_plain depth_limit bytes s h;
+      searched = start_searched s g (states_shallow depth_limit 4096 bytes s l h);
       typed = start_typed s g;
     }

@@ -3,9 +3,9 @@ use Rattle.std.proofs.Common.{◌≡◌, ◌≢◌, ℕ, List, [], Option, Some,
 use Rattle.stt_core.specs.Signature.{symbol_named}
 use Rattle.satallax_top.specs.Bytes.{token_at, skipped, first_token}
 use Rattle.satallax_top.specs.Reading.{Begins, IsHead, IsEnd, IsTyping, Statement, declares, assumes, asks, IsStatement, typing_statement as typing_is, axiom_statement as axiom_is, conjecture_statement as conjecture_is, Stated, with_name, with_assumed, with_conjecture, term_of, stated_more, Leads, at_end, by_statement}
-use Rattle.satallax_top.specs.Reader.{behind, head_at, end_at, typing_at, unit_at, Read, MoreStated, typing_statement, axiom_statement, conjecture_statement, by_role, statement_at}
+use Rattle.satallax_top.specs.Reader.{behind, head_at, end_at, typing_at, formula_at, Read, MoreStated, typing_statement, axiom_statement, conjecture_statement, by_role, statement_at}
 use Rattle.satallax_top.proofs.ReaderLaws.{binds, bind, head_at-is, head_at-at, end_at-is, end_at-at, typing_at-is, typing_at-at}
-use Rattle.satallax_top.proofs.UnitLaws.{maps, tested, ReadsUnit, unit_at-is, unit_at-at}
+use Rattle.satallax_top.proofs.UnitLaws.{maps, tested, ReadsFormula, formula_at-is, formula_at-at}
 
 abbrev found : Stated → List ℕ → Option MoreStated
 found s rest = Some (s, rest)
@@ -34,23 +34,23 @@ module _ (depth : ℕ) (s : Stated) (bytes role body : List ℕ) (head : IsHead 
 
   axiom-reads : (r : MoreStated) → role ≡ codes "axiom" → axiom_statement depth s body ≡ Some r → ReadsStatement depth s bytes r
   axiom-reads r e h =
-      let s1 = binds (unit_at s.constants depth body) _ r h in
+      let s1 = binds (formula_at s.constants depth body) _ r h in
       let s2 = binds (end_at s1.value.1) _ r s1.second in
-      let u = unit_at-is s.constants depth body s1.value s1.first in
+      let u = formula_at-is s.constants depth body s1.value s1.first in
       let q : (with_assumed s s1.value.0, s2.value) ≡ r = cc in
-      subst (ReadsStatement depth s bytes) q (record { statement = assumes u.formula; is_statement = axiom_is bytes body s1.value.1 s2.value u.formula (with_role (codes "axiom") e) u.is_unit (end_at-is s1.value.1 s2.value s2.first); stated = ap (option_map (with_assumed s)) u.stands_for })
+      subst (ReadsStatement depth s bytes) q (record { statement = assumes u.formula; is_statement = axiom_is bytes body s1.value.1 s2.value u.formula (with_role (codes "axiom") e) u.is_formula (end_at-is s1.value.1 s2.value s2.first); stated = ap (option_map (with_assumed s)) u.stands_for })
 
   conjecture-reads : (r : MoreStated) → role ≡ codes "conjecture" → conjecture_statement depth s body ≡ Some r → ReadsStatement depth s bytes r
   conjecture-reads r e h =
-      let s1 = binds (unit_at s.constants depth body) _ r h in
+      let s1 = binds (formula_at s.constants depth body) _ r h in
       let s2 = binds (end_at s1.value.1) _ r s1.second in
-      go s1.value s2.value (unit_at-is s.constants depth body s1.value s1.first) (end_at-is s1.value.1 s2.value s2.first) (is_some s.conjecture) refl s2.second
+      go s1.value s2.value (formula_at-is s.constants depth body s1.value s1.first) (end_at-is s1.value.1 s2.value s2.first) (is_some s.conjecture) refl s2.second
     where
-      go : (v : Read) (rest : List ℕ) → ReadsUnit s.constants depth body v → IsEnd v.1 rest → (b : Bool) → is_some s.conjecture ≡ b → (if b then None else Some (with_conjecture s v.0, rest)) ≡ Some r → ReadsStatement depth s bytes r
+      go : (v : Read) (rest : List ℕ) → ReadsFormula s.constants depth body v → IsEnd v.1 rest → (b : Bool) → is_some s.conjecture ≡ b → (if b then None else Some (with_conjecture s v.0, rest)) ≡ Some r → ReadsStatement depth s bytes r
       go v rest u n true f k = cc
       go v rest u n false f k =
           let q : (with_conjecture s v.0, rest) ≡ r = cc in
-          subst (ReadsStatement depth s bytes) q (record { statement = asks u.formula; is_statement = conjecture_is bytes body v.1 rest u.formula (with_role (codes "conjecture") e) u.is_unit n; stated = ap (λ b. if b then None else option_map (with_conjecture s) (term_of s.constants u.formula)) f ∙ ap (option_map (with_conjecture s)) u.stands_for })
+          subst (ReadsStatement depth s bytes) q (record { statement = asks u.formula; is_statement = conjecture_is bytes body v.1 rest u.formula (with_role (codes "conjecture") e) u.is_formula n; stated = ap (λ b. if b then None else option_map (with_conjecture s) (term_of s.constants u.formula)) f ∙ ap (option_map (with_conjecture s)) u.stands_for })
 
   role-reads : (r : MoreStated) → by_role depth s role body ≡ Some r → ReadsStatement depth s bytes r
   role-reads r h =
@@ -74,12 +74,12 @@ statement_at-at depth s t bytes rest statement (typing_is bs body behind rs w he
     go : (b : Bool) → (if b then None else Some (with_name s w)) ≡ Some t → (if b then None else found (with_name s w) rs) ≡ found t rs
     go true k = cc
     go false k = let e : with_name s w ≡ t = cc in ap (λ x. Some (x, rs)) e
-statement_at-at depth s t bytes rest statement (axiom_is bs body behind rs f head unit end) h =
+statement_at-at depth s t bytes rest statement (axiom_is bs body behind rs f head formula end) h =
     let m = maps (with_assumed s) (term_of s.constants f) t h in
     bind (head_at bs) _ (codes "axiom", body) (t, rs) (head_at-at bs (codes "axiom") body head)
-    (bind (unit_at s.constants depth body) _ (m.value, behind) (t, rs) (unit_at-at s.constants depth body behind f m.value unit m.is)
+    (bind (formula_at s.constants depth body) _ (m.value, behind) (t, rs) (formula_at-at s.constants depth body behind f end.b1 m.value formula end.closing m.is)
     (bind (end_at behind) _ rs (t, rs) (end_at-at behind rs end) (ap (λ x. Some (x, rs)) m.same)))
-statement_at-at depth s t bytes rest statement (conjecture_is bs body behind rs f head unit end) h =
+statement_at-at depth s t bytes rest statement (conjecture_is bs body behind rs f head formula end) h =
     go (is_some s.conjecture) refl h
   where
     go : (b : Bool) → is_some s.conjecture ≡ b → (if b then None else option_map (with_conjecture s) (term_of s.constants f)) ≡ Some t → statement_at depth s bs ≡ Some (t, rs)
@@ -87,7 +87,7 @@ statement_at-at depth s t bytes rest statement (conjecture_is bs body behind rs 
     go false e k =
         let m = maps (with_conjecture s) (term_of s.constants f) t k in
         bind (head_at bs) _ (codes "conjecture", body) (t, rs) (head_at-at bs (codes "conjecture") body head)
-        (bind (unit_at s.constants depth body) _ (m.value, behind) (t, rs) (unit_at-at s.constants depth body behind f m.value unit m.is)
+        (bind (formula_at s.constants depth body) _ (m.value, behind) (t, rs) (formula_at-at s.constants depth body behind f end.b1 m.value formula end.closing m.is)
         (bind (end_at behind) _ rs (t, rs) (end_at-at behind rs end)
         (ap (λ b. if b then None else found (with_conjecture s m.value) rs) e ∙ ap (λ x. Some (x, rs)) m.same)))
 
@@ -98,8 +98,8 @@ nothing_begins bytes token rest h b = let e : first_token (skipped bytes) ≡ No
 
 no_statement : (depth : ℕ) (bytes rest : List ℕ) (statement : Statement) → skipped bytes ≡ [] → IsStatement depth bytes statement rest → ⊥
 no_statement depth bytes rest statement h (typing_is bs body behind rs w head typing end) = nothing_begins bs (codes "thf") head.b1 h head.keyword
-no_statement depth bytes rest statement h (axiom_is bs body behind rs f head unit end) = nothing_begins bs (codes "thf") head.b1 h head.keyword
-no_statement depth bytes rest statement h (conjecture_is bs body behind rs f head unit end) = nothing_begins bs (codes "thf") head.b1 h head.keyword
+no_statement depth bytes rest statement h (axiom_is bs body behind rs f head formula end) = nothing_begins bs (codes "thf") head.b1 h head.keyword
+no_statement depth bytes rest statement h (conjecture_is bs body behind rs f head formula end) = nothing_begins bs (codes "thf") head.b1 h head.keyword
 
 pub some_same : {A : Type 0} (x y : A) → Some x ≡ Some y → x ≡ y
 some_same x y e = cc

@@ -1,5 +1,5 @@
 -- The tokens of a THF file, of those forms that the first path reads.
-use Rattle.std.specs.Prelude.{ℕ, ◌==◌, ◌||◌, ◌&&◌, nat_le, List, [], ◌∷◌, Bool, false, codes, if◌then◌else◌, Option, Some, None}
+use Rattle.std.specs.Prelude.{ℕ, ◌==◌, ◌||◌, ◌&&◌, nat_le, List, [], ◌∷◌, Bool, false, codes, if◌then◌else◌, Option, Some, None, option_map}
 use Rattle.std.specs.Str.{bytes_eq}
 
 -- space, tab, line feed, vertical tab, form feed and carriage return
@@ -37,7 +37,7 @@ after_word (c ∷ cs) = if is_word_byte c then after_word cs else c ∷ cs
 abbrev pub is_dollar_word : List ℕ → Bool
 is_dollar_word w = bytes_eq w (codes "$o") || bytes_eq w (codes "$true") || bytes_eq w (codes "$false")
 
--- whether it is one of the signs `(`, `)`, `,`, `.`, `:` and `~`
+-- whether it is one of the signs of one byte, `(`, `)`, `,`, `.`, `:` and `~`
 abbrev pub is_sign : ℕ → Bool
 is_sign c = (c == 40) || (c == 41) || (c == 44) || (c == 46) || (c == 58) || (c == 126)
 
@@ -46,11 +46,23 @@ abbrev pub first_word : List ℕ → List ℕ × List ℕ
 first_word [] = ([], [])
 first_word (c ∷ cs) = (c ∷ word_front cs, after_word cs)
 
+-- what follows the byte, where the bytes begin with it
+abbrev pub after_byte : ℕ → List ℕ → Option (List ℕ)
+after_byte b [] = None
+after_byte b (c ∷ cs) = if c == b then Some cs else None
+
+-- the sign at the front, which is one of a single byte or `=>`, and what follows it
+abbrev pub first_sign : List ℕ → Option (List ℕ × List ℕ)
+first_sign [] = None
+first_sign (c ∷ cs) =
+    if is_sign c then Some (c ∷ [], cs)
+    else (if c == 61 then option_map (λ rest. (codes "=>", rest)) (after_byte 62 cs) else None)
+
 -- the longest token from its first byte c on, which is a lower word, a dollar word or a sign, and what follows it
 abbrev pub token_from : ℕ → List ℕ → Option (List ℕ × List ℕ)
 token_from c cs =
     if is_lower c || is_dollar_word (first_word (c ∷ cs)).0 then Some (first_word (c ∷ cs))
-    else (if is_sign c then Some (c ∷ [], cs) else None)
+    else first_sign (c ∷ cs)
 
 abbrev pub first_token : List ℕ → Option (List ℕ × List ℕ)
 first_token [] = None

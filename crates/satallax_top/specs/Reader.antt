@@ -1,7 +1,7 @@
 -- How the reader goes, token by token.
 use Rattle.std.specs.Prelude.{ℕ, zero, suc, List, [], codes, Option, Some, None, option_map, is_some, if◌then◌else◌}
 use Rattle.std.specs.Str.{bytes_eq}
-use Rattle.stt_core.specs.Lambda.{Lambda, constant, falsity, neg}
+use Rattle.stt_core.specs.Lambda.{Lambda, constant, falsity, neg, imp}
 use Rattle.stt_core.specs.TypedName.{TypedName}
 use Rattle.stt_core.specs.Signature.{symbol_named}
 use Rattle.satallax_top.specs.Bytes.{token_at, is_lower_word}
@@ -46,22 +46,39 @@ abbrev pub grouped_read : Option Read → Option Read
 grouped_read None = None
 grouped_read (Some r) = option_map (λ rest. (r.0, rest)) (behind (codes ")") r.1)
 
--- a unit whose first token is `text`, where `inside` reads what is inside
+-- an implication whose premise was read
+abbrev pub implied_read : Read → Option Read → Option Read
+implied_read premise None = None
+implied_read premise (Some r) = Some (imp premise.0 r.0, r.1)
+
+-- a formula whose first unit was read, by what follows `=>` behind that unit, where `=>` does; `unit` reads the second
+abbrev pub where_implied : (List ℕ → Option Read) → Read → Option (List ℕ) → Option Read
+where_implied unit first None = Some first
+where_implied unit first (Some rest) = implied_read first (unit rest)
+
+abbrev pub formula_behind : (List ℕ → Option Read) → Read → Option Read
+formula_behind unit first = where_implied unit first (behind (codes "=>") first.1)
+
+-- a formula, where `unit` reads units
+abbrev pub formula_from : (List ℕ → Option Read) → List ℕ → Option Read
+formula_from unit bytes = unit bytes >>= formula_behind unit
+
+-- a unit whose first token is `text`, where `inside` reads units inside it
 abbrev pub unit_from : List TypedName → (List ℕ → Option Read) → List ℕ → List ℕ → Option Read
 unit_from constants inside text rest =
     if bytes_eq text (codes "~") then negated_read (inside rest)
-    else (if bytes_eq text (codes "(") then grouped_read (inside rest) else leaf constants text rest)
+    else (if bytes_eq text (codes "(") then grouped_read (formula_from inside rest) else leaf constants text rest)
 
 abbrev pub with_token : (List ℕ → List ℕ → Option Read) → Option (List ℕ × List ℕ) → Option Read
 with_token f None = None
 with_token f (Some t) = f t.0 t.1
 
-abbrev pub no_read : List ℕ → Option Read
-no_read bytes = None
-
 unfoldable pub unit_at : List TypedName → ℕ → List ℕ → Option Read
 unit_at constants zero bytes = with_token (leaf constants) (token_at bytes)
 unit_at constants (suc depth) bytes = with_token (unit_from constants (unit_at constants depth)) (token_at bytes)
+
+abbrev pub formula_at : List TypedName → ℕ → List ℕ → Option Read
+formula_at constants depth bytes = formula_from (unit_at constants depth) bytes
 
 -- a statement's role and what follows its head
 unfoldable pub head_at : List ℕ → Option (List ℕ × List ℕ)
@@ -104,13 +121,13 @@ typing_statement s body = do
 
 abbrev pub axiom_statement : ℕ → Stated → List ℕ → Option MoreStated
 axiom_statement depth s body = do
-  r ← unit_at s.constants depth body
+  r ← formula_at s.constants depth body
   rest ← end_at r.1
   Some (with_assumed s r.0, rest)
 
 abbrev pub conjecture_statement : ℕ → Stated → List ℕ → Option MoreStated
 conjecture_statement depth s body = do
-  r ← unit_at s.constants depth body
+  r ← formula_at s.constants depth body
   rest ← end_at r.1
   if is_some s.conjecture then None else Some (with_conjecture s r.0, rest)
 

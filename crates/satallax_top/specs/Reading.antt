@@ -3,11 +3,11 @@
 --     file      = {statement}
 --     statement = "thf" "(" Lower "," "type" "," Lower ":" "$o" ")" "."
 --               | "thf" "(" Lower "," ("axiom" | "conjecture") "," formula ")" "."
---     formula   = unit
+--     formula   = unit | unit "=>" unit
 --     unit      = "~" unit | Lower | "$true" | "$false" | "(" formula ")"
 use Rattle.std.specs.Prelude.{◌≡◌, ℕ, suc, true, List, [], ◌∷◌, ◌++◌, map, codes, Option, Some, None, option_map, is_some, if◌then◌else◌}
 use Rattle.stt_core.specs.SimpleType.{formula}
-use Rattle.stt_core.specs.Lambda.{Lambda, constant, name, falsity, neg}
+use Rattle.stt_core.specs.Lambda.{Lambda, constant, name, falsity, neg, imp}
 use Rattle.stt_core.specs.TypedName.{TypedName}
 use Rattle.stt_core.specs.Signature.{symbol_named}
 use Rattle.stt_core.specs.Meets.{Question}
@@ -25,14 +25,21 @@ pub data Formula : Type 0 where
   truth : Formula
   falsehood : Formula
   negated : Formula → Formula
+  implied : Formula → Formula → Formula
 
--- The bytes begin with a unit, and `rest` follows it. Of negations and parentheses at most `depth` are open in it at once.
-pub data IsUnit : ℕ → List ℕ → Formula → List ℕ → Type 0 where
-  name_unit : (depth : ℕ) (bytes w rest : List ℕ) → Begins bytes w rest → is_lower_word w ≡ true → IsUnit depth bytes (named w) rest
-  true_unit : (depth : ℕ) (bytes rest : List ℕ) → Begins bytes (codes "$true") rest → IsUnit depth bytes truth rest
-  false_unit : (depth : ℕ) (bytes rest : List ℕ) → Begins bytes (codes "$false") rest → IsUnit depth bytes falsehood rest
-  negated_unit : (depth : ℕ) (bytes inside rest : List ℕ) (f : Formula) → Begins bytes (codes "~") inside → IsUnit depth inside f rest → IsUnit (suc depth) bytes (negated f) rest
-  grouped_unit : (depth : ℕ) (bytes inside behind rest : List ℕ) (f : Formula) → Begins bytes (codes "(") inside → IsUnit depth inside f behind → Begins behind (codes ")") rest → IsUnit (suc depth) bytes f rest
+mutual
+  -- The bytes begin with a unit, and `rest` follows it. Of negations and parentheses at most `depth` are open in it at once.
+  pub data IsUnit : ℕ → List ℕ → Formula → List ℕ → Type 0 where
+    name_unit : (depth : ℕ) (bytes w rest : List ℕ) → Begins bytes w rest → is_lower_word w ≡ true → IsUnit depth bytes (named w) rest
+    true_unit : (depth : ℕ) (bytes rest : List ℕ) → Begins bytes (codes "$true") rest → IsUnit depth bytes truth rest
+    false_unit : (depth : ℕ) (bytes rest : List ℕ) → Begins bytes (codes "$false") rest → IsUnit depth bytes falsehood rest
+    negated_unit : (depth : ℕ) (bytes inside rest : List ℕ) (f : Formula) → Begins bytes (codes "~") inside → IsUnit depth inside f rest → IsUnit (suc depth) bytes (negated f) rest
+    grouped_unit : (depth : ℕ) (bytes inside behind rest : List ℕ) (f : Formula) → Begins bytes (codes "(") inside → IsFormula depth inside f behind → Begins behind (codes ")") rest → IsUnit (suc depth) bytes f rest
+
+  -- The bytes begin with a formula, and `rest` follows it: a unit, or two with `=>` between them, each with at most `depth` things open.
+  pub data IsFormula : ℕ → List ℕ → Formula → List ℕ → Type 0 where
+    one_unit : (depth : ℕ) (bytes rest : List ℕ) (f : Formula) → IsUnit depth bytes f rest → IsFormula depth bytes f rest
+    two_units : (depth : ℕ) (bytes arrow behind rest : List ℕ) (f g : Formula) → IsUnit depth bytes f arrow → Begins arrow (codes "=>") behind → IsUnit depth behind g rest → IsFormula depth bytes (implied f g) rest
 
 pub data Statement : Type 0 where
   declares : List ℕ → Statement
@@ -73,8 +80,8 @@ pub record IsTyping (bytes w rest : List ℕ) : Type 0 where
 -- The bytes begin with a statement, and `rest` follows it.
 pub data IsStatement (depth : ℕ) : List ℕ → Statement → List ℕ → Type 0 where
   typing_statement : (bytes body behind rest w : List ℕ) → IsHead bytes (codes "type") body → IsTyping body w behind → IsEnd behind rest → IsStatement depth bytes (declares w) rest
-  axiom_statement : (bytes body behind rest : List ℕ) (f : Formula) → IsHead bytes (codes "axiom") body → IsUnit depth body f behind → IsEnd behind rest → IsStatement depth bytes (assumes f) rest
-  conjecture_statement : (bytes body behind rest : List ℕ) (f : Formula) → IsHead bytes (codes "conjecture") body → IsUnit depth body f behind → IsEnd behind rest → IsStatement depth bytes (asks f) rest
+  axiom_statement : (bytes body behind rest : List ℕ) (f : Formula) → IsHead bytes (codes "axiom") body → IsFormula depth body f behind → IsEnd behind rest → IsStatement depth bytes (assumes f) rest
+  conjecture_statement : (bytes body behind rest : List ℕ) (f : Formula) → IsHead bytes (codes "conjecture") body → IsFormula depth body f behind → IsEnd behind rest → IsStatement depth bytes (asks f) rest
 
 -- what was stated so far: the constants, all of the type of formulas, the assumed formulas and the conjecture
 pub record Stated : Type 0 where
@@ -88,12 +95,19 @@ named_constant (Some (Const k)) = Some (constant (name k))
 named_constant (Some (Base n)) = None
 named_constant None = None
 
+-- the implication between two terms, where both are there
+abbrev pub implication_of : Option Lambda → Option Lambda → Option Lambda
+implication_of None o = None
+implication_of (Some s) None = None
+implication_of (Some s) (Some t) = Some (imp s t)
+
 -- the term that a formula stands for, where its names are declared
 abbrev pub term_of : List TypedName → Formula → Option Lambda
 term_of constants (named w) = named_constant (symbol_named [] constants w)
 term_of constants truth = Some (neg (constant falsity))
 term_of constants falsehood = Some (constant falsity)
 term_of constants (negated f) = option_map neg (term_of constants f)
+term_of constants (implied f g) = implication_of (term_of constants f) (term_of constants g)
 
 abbrev pub with_name : Stated → List ℕ → Stated
 with_name s w = record { constants = s.constants ++ record { name = w; type = formula } ∷ []; assumed = s.assumed; conjecture = s.conjecture }

@@ -1,9 +1,9 @@
 //! Reads formulas into terms.
 
 ghost use Rattle.std.specs.Prelude.{◌≡◌, ◌<◌, ◌-◌, ◌^◌, length, [], Some, IfOk};
-ghost use Rattle.stt_core.specs.Lambda.{neg, constant, falsity};
+ghost use Rattle.stt_core.specs.Lambda.{neg, imp, constant, falsity};
 ghost use Rattle.stt_core.specs.View.{the_term};
-ghost use Rattle.satallax_top.specs.Reader.{leaf, unit_at};
+ghost use Rattle.satallax_top.specs.Reader.{leaf, grouped_read, unit_at, formula_at};
 ghost use Rattle.satallax_top.specs.Refusals.{Answers};
 
 use crate::reader::behind;
@@ -12,9 +12,9 @@ use crate::token::{Found, is_lower_word, token};
 use std::alloc::{AllocError, Global};
 use stt_core::{Signature, Symbol, Term};
 
-/// A unit as a term, and what follows it.
+/// A unit or a formula as a term, and what follows it.
 #[derive(Drop)]
-pub(crate) struct UnitRead<'a> {
+pub(crate) struct TermRead<'a> {
     pub term: Term,
     pub rest: &'a [u8],
 }
@@ -25,8 +25,15 @@ fn negation(alloc: Global, term: Term) -> Result<Term, AllocError>
     Ok(Term::App(Box::new(alloc, Term::Not)?, Box::new(alloc, term)?))
 }
 
+fn implication(alloc: Global, premise: Term, conclusion: Term) -> Result<Term, AllocError>
+    ensures { IfOk result (λ t. the_term t ≡ imp (the_term premise) (the_term conclusion)) }
+{
+    let applied = Term::App(Box::new(alloc, Term::Imp)?, Box::new(alloc, premise)?);
+    Ok(Term::App(Box::new(alloc, applied)?, Box::new(alloc, conclusion)?))
+}
+
 /// A unit of one token.
-fn leaf<'a>(alloc: Global, sig: &Signature, found: Found<'a>) -> Result<UnitRead<'a>, Refusal>
+fn leaf<'a>(alloc: Global, sig: &Signature, found: Found<'a>) -> Result<TermRead<'a>, Refusal>
     requires bases { sig.now.bases ≡ [] }
     requires consts { length sig.now.consts < 2 ^ 32 }
     ensures read { Answers result (leaf sig.now.consts found.entry.text.now found.entry.rest.now) }
@@ -35,13 +42,13 @@ fn leaf<'a>(alloc: Global, sig: &Signature, found: Found<'a>) -> Result<UnitRead
     let rest = found.rest;
     let left = found.left();
     if found.text == b"$true".as_slice() {
-        return Ok(UnitRead {
+        return Ok(TermRead {
             term: negation(alloc, Term::False)?,
             rest,
         });
     }
     if found.text == b"$false".as_slice() {
-        return Ok(UnitRead {
+        return Ok(TermRead {
             term: Term::False,
             rest,
         });
@@ -50,7 +57,7 @@ fn leaf<'a>(alloc: Global, sig: &Signature, found: Found<'a>) -> Result<UnitRead
         return Err(Refusal::NotYet { left });
     }
     match sig.find(found.text) {
-        Some(Symbol::Const(k)) => Ok(UnitRead {
+        Some(Symbol::Const(k)) => Ok(TermRead {
             term: Term::Name(k),
             rest,
         }),
@@ -59,14 +66,29 @@ fn leaf<'a>(alloc: Global, sig: &Signature, found: Found<'a>) -> Result<UnitRead
     }
 }
 
+/// The formula that was read, where a closing parenthesis follows it.
+fn grouped(inside: TermRead<'_>) -> Result<TermRead<'_>, Refusal>
+    ensures read { Answers result (grouped_read (Some (the_term inside.entry.term, inside.entry.rest.now))) }
+    ensures shorter { IfOk result (λ r. length r.rest.now < length inside.entry.rest.now) }
+{
+    let Some(rest) = behind(b")", inside.rest) else {
+        return Err(Refusal::not_yet(inside.rest));
+    };
+    Ok(TermRead {
+        term: inside.term,
+        rest,
+    })
+}
+
 /// The unit that the bytes begin with. Of negations and parentheses at most `depth` may be open in it at once.
+#[cycle(reading)]
 #[tactic(auto, unfolding(crate::specs::Reader::unit_at))]
-pub(crate) fn unit<'a>(
+fn unit<'a>(
     alloc: Global,
     sig: &Signature,
     depth: u32,
     bytes: &'a [u8],
-) -> Result<UnitRead<'a>, Refusal>
+) -> Result<TermRead<'a>, Refusal>
     requires bases { sig.now.bases ≡ [] }
     requires consts { length sig.now.consts < 2 ^ 32 }
     ensures read { Answers result (unit_at sig.now.consts depth bytes.now) }
@@ -80,20 +102,38 @@ pub(crate) fn unit<'a>(
     }
     if found.text == b"~".as_slice() {
         let inside = unit(alloc, sig, depth - 1, found.rest)?;
-        return Ok(UnitRead {
+        return Ok(TermRead {
             term: negation(alloc, inside.term)?,
             rest: inside.rest,
         });
     }
     if found.text == b"(".as_slice() {
-        let inside = unit(alloc, sig, depth - 1, found.rest)?;
-        return match behind(b")", inside.rest) {
-            Some(rest) => Ok(UnitRead {
-                term: inside.term,
-                rest,
-            }),
-            None => Err(Refusal::not_yet(inside.rest)),
-        };
+        return grouped(formula(alloc, sig, depth - 1, found.rest)?);
     }
     leaf(alloc, sig, found)
+}
+
+/// The formula that the bytes begin with: a unit and, where `=>` follows that, a second one. Of negations and parentheses at most `depth`
+/// may be open in it at once.
+#[cycle(reading)]
+pub(crate) fn formula<'a>(
+    alloc: Global,
+    sig: &Signature,
+    depth: u32,
+    bytes: &'a [u8],
+) -> Result<TermRead<'a>, Refusal>
+    requires bases { sig.now.bases ≡ [] }
+    requires consts { length sig.now.consts < 2 ^ 32 }
+    ensures read { Answers result (formula_at sig.now.consts depth bytes.now) }
+    ensures shorter { IfOk result (λ r. length r.rest.now < length bytes.now) }
+{
+    let premise = unit(alloc, sig, depth, bytes)?;
+    let Some(rest) = behind(b"=>", premise.rest) else {
+        return Ok(premise);
+    };
+    let conclusion = unit(alloc, sig, depth, rest)?;
+    Ok(TermRead {
+        term: implication(alloc, premise.term, conclusion.term)?,
+        rest: conclusion.rest,
+    })
 }

@@ -5,7 +5,7 @@ ghost use Rattle.satallax_top.specs.Reader.{statement_at, declared_more, typing_
 ghost use Rattle.satallax_top.specs.Refusals.{IsRefusal};
 ghost use Rattle.satallax_top.specs.StatedView.{stated};
 
-use crate::formula::unit;
+use crate::formula::formula;
 use crate::reader::{end, head, typing};
 use crate::refusal::Refusal;
 use std::alloc::Global;
@@ -49,7 +49,7 @@ fn read_axiom<'a>(alloc: Global, problem: &mut Problem, body: &'a [u8]) -> Resul
     ensures counted { length problem.new.signature.consts ≤ length problem.old.signature.consts + 1 }
     ensures shorter { IfOk result (λ rest. length rest.now < length body.now) }
 {
-    let read = unit(alloc, &problem.signature, MAX_DEPTH, body)?;
+    let read = formula(alloc, &problem.signature, MAX_DEPTH, body)?;
     let Some(rest) = end(read.rest) else {
         return Err(Refusal::not_yet(read.rest));
     };
@@ -72,7 +72,7 @@ fn read_conjecture<'a>(
     ensures counted { length problem.new.signature.consts ≤ length problem.old.signature.consts + 1 }
     ensures shorter { IfOk result (λ rest. length rest.now < length body.now) }
 {
-    let read = unit(alloc, &problem.signature, MAX_DEPTH, body)?;
+    let read = formula(alloc, &problem.signature, MAX_DEPTH, body)?;
     let Some(rest) = end(read.rest) else {
         return Err(Refusal::not_yet(read.rest));
     };

@@ -2,7 +2,7 @@
 
 ghost use Rattle.std.specs.Prelude.{◌≡◌, ◌<◌, ◌≤◌, length, option_map, IfSome, ◌∷◌, [], Some, None};
 ghost use Rattle.std.specs.Str.{bytes_eq};
-ghost use Rattle.satallax_top.specs.Bytes.{skipped, after_line, is_white, is_lower, is_word_byte, first_word, after_word, is_dollar_word, is_sign, first_token, token_at, is_lower_word};
+ghost use Rattle.satallax_top.specs.Bytes.{skipped, after_line, is_white, is_lower, is_word_byte, first_word, after_word, is_dollar_word, is_sign, after_byte, first_sign, first_token, token_at, is_lower_word};
 
 fn is_white(byte: u8) -> bool
     ensures { result ≡ is_white byte }
@@ -114,24 +114,51 @@ fn first_word(bytes: &[u8]) -> Found<'_>
     }
 }
 
-/// The token that begins with the first byte, where one does.
-fn first_token(bytes: &[u8]) -> Option<Found<'_>>
-    ensures found { option_map (λ f. (f.text.now, f.rest.now)) result ≡ first_token bytes.now }
+/// What follows the byte, where the bytes begin with it.
+fn after_byte(byte: u8, bytes: &[u8]) -> Option<&[u8]>
+    ensures found { option_map (λ rest. rest.now) result ≡ after_byte byte bytes.now }
+    ensures shorter { IfSome result (λ rest. length rest.now < length bytes.now) }
+{
+    let [first, rest @ ..] = bytes else {
+        return None;
+    };
+    if *first == byte { Some(rest) } else { None }
+}
+
+/// The sign that the bytes begin with.
+fn first_sign(bytes: &[u8]) -> Option<Found<'_>>
+    ensures found { option_map (λ f. (f.text.now, f.rest.now)) result ≡ first_sign bytes.now }
     ensures shorter { IfSome result (λ f. length f.rest.now < length bytes.now) }
 {
     let [byte, behind @ ..] = bytes else {
         return None;
     };
+    if is_sign(*byte) {
+        return Some(Found {
+            text: &bytes[..1],
+            rest: behind,
+        });
+    }
+    if *byte != b'=' {
+        return None;
+    }
+    let rest = after_byte(b'>', behind)?;
+    Some(Found { text: b"=>", rest })
+}
+
+/// The token that begins with the first byte, where one does.
+fn first_token(bytes: &[u8]) -> Option<Found<'_>>
+    ensures found { option_map (λ f. (f.text.now, f.rest.now)) result ≡ first_token bytes.now }
+    ensures shorter { IfSome result (λ f. length f.rest.now < length bytes.now) }
+{
+    let [byte, ..] = bytes else {
+        return None;
+    };
     let word = first_word(bytes);
     if is_lower(*byte) || is_dollar_word(word.text) {
         Some(word)
-    } else if is_sign(*byte) {
-        Some(Found {
-            text: &bytes[..1],
-            rest: behind,
-        })
     } else {
-        None
+        first_sign(bytes)
     }
 }
 
