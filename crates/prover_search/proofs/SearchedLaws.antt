@@ -1,5 +1,5 @@
 -- What rules do with literals that the search takes, and with typed ones.
-use Rattle.std.proofs.Common.{◌≡◌, ℕ, zero, suc, ◌≤◌, ◌&&◌, nat_le, max, Bool, true, false, List, [], ◌∷◌, ◌++◌, filter, refl, sym, ap, ap₂, subst, ◌∙◌, cond, if◌then◌else◌, arith, Some}
+use Rattle.std.proofs.Common.{◌≡◌, ℕ, zero, suc, ◌≤◌, ◌&&◌, nat_le, max, Bool, true, false, List, [], ◌∷◌, ◌++◌, filter, refl, sym, ap, ap₂, subst, ◌∙◌, cond, if◌then◌else◌, arith, Some, Contains, ⊎_elim}
 use Rattle.std.specs.List.{list_all, flat_map}
 use Rattle.std.proofs.lemmas.Bool.Decides.{nat_tests}
 use Rattle.stt_core.specs.SimpleType.{SimpleType, formula, arrow}
@@ -11,7 +11,11 @@ use Rattle.stt_tableau.specs.Start.{has, added}
 use Rattle.stt_tableau.proofs.LiteralLaws.{literal_cases, literal-is_literal, opposite-is_literal}
 use Rattle.prover_search.specs.Search.{depth, is_shallow, State, worked, with_instance, with_alternatives}
 use Rattle.prover_search.specs.Clauses.{with_clauses, instance_clauses}
-use Rattle.prover_search.specs.Searched.{IsPropositional, IsSearched, AreSearched}
+use Rattle.prover_search.specs.Searched.{IsPropositional, IsSearched, AreSearched, AreDifferent}
+use Rattle.prover_search.proofs.BooleanLaws.{none_contained}
+use Rattle.prover_search.proofs.ClauseLaws.{has-of}
+use Rattle.stt_tableau.proofs.ListLaws.{contains-first, contains-later}
+use Rattle.std.proofs.lemmas.List.Elements.{Contains-push_cases}
 use Rattle.prover_search.specs.Table.{HasRule, false_rule, imp_pos_rule, imp_neg_rule, AreBranches}
 use Rattle.prover_search.specs.Steps.{HasNoRule, with_seen}
 
@@ -140,3 +144,19 @@ worked-nothing l s n h = go l.positive l.atom h.formula h.unsigned n
     go true (app (app (constant implication) a) b) f u n = absurd (n _ (imp_pos_rule a b))
     go false (app (app (constant implication) a) b) f u n = absurd (n _ (imp_neg_rule a b))
     go p t f u n = absurd f
+
+different-push : (ls : List Literal) (l : Literal) → AreDifferent ls → (Contains ls l → ⊥) → AreDifferent (ls ++ l ∷ [])
+different-push [] l h n = ((λ c. none_contained l c), tt)
+different-push (k ∷ ls) l h n =
+    (
+      λ c. ⊎_elim h.0 (λ e. n (subst (λ x. Contains (x ∷ ls) l) e (contains-first l ls))) (Contains-push_cases ls l k c),
+      different-push ls l h.1 (λ c. n (contains-later l k ls c)),
+    )
+
+pub added-different : (ls ks : List Literal) → AreDifferent ls → AreDifferent (added ls ks)
+added-different ls [] h = h
+added-different ls (l ∷ ks) h = go (has ls l) refl (λ front f. added-different front ks f)
+  where
+    go : (b : Bool) → has ls l ≡ b → ((front : List Literal) → AreDifferent front → AreDifferent (added front ks)) → AreDifferent (added (if b then ls else ls ++ l ∷ []) ks)
+    go true e rest = rest ls h
+    go false e rest = rest (ls ++ l ∷ []) (different-push ls l h (λ c. (let t = has-of ls l c in let f : true ≡ false = sym t ∙ e in cc)))

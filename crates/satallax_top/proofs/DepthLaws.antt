@@ -8,7 +8,7 @@ use Rattle.stt_core.specs.declared.signature.Symbol.TheVariants.{Base, Const}
 use Rattle.stt_tableau.specs.Literals.{literal}
 use Rattle.stt_tableau.proofs.LiteralLaws.{literal_cases}
 use Rattle.satallax_top.specs.Reading.{Formula, IsUnit, name_unit, true_unit, false_unit, negated_unit, grouped_unit, IsFormula, one_unit, two_units, named_constant, term_of}
-use Rattle.satallax_top.specs.Search.{depth as term_depth}
+use Rattle.prover_search.specs.Search.{depth as term_depth}
 use Rattle.satallax_top.proofs.UnitLaws.{maps, implies}
 
 -- a literal's atom is no deeper than its formula

@@ -8,7 +8,8 @@ use Rattle.stt_tableau.specs.Start.{start}
 use Rattle.stt_tableau.proofs.Soundness.{accepted_closes_start, accepted_refutes}
 use Rattle.satallax_top.specs.declared.statement.TheConstants.{MAX_DEPTH}
 use Rattle.satallax_top.specs.Reading.{Stated, States, question_of}
-use Rattle.satallax_top.specs.Text.{text_lines, as_bytes}
+use Rattle.refute_text.specs.Text.{text_lines, as_bytes}
+use Rattle.refute_text.specs.Named.{named_refutation}
 use Rattle.satallax_top.specs.PlainNames.{names_of}
 use Rattle.satallax_top.specs.Block.{start_mark, end_mark, begins_with, has_line_feed, HoldsText}
 use Rattle.satallax_top.specs.Report.{proof_report, report}
@@ -107,7 +108,7 @@ or_false a b h k = ap₂ (λ x y. x || y) h k
 holds_proof_report : (status name : List ℕ) (s : Stated) (n : ℕ) (text : List ℕ) (p : IsProofOf s n text) → has_line_feed name ≡ false → has_line_feed status ≡ false → begins_with start_mark (status ++ name) ≡ false → HoldsText (names_of s.constants) (proof_report status name n text) p.refutation
 holds_proof_report status name s n text p clean plain_status other =
     let names = names_of s.constants in
-    let lines = text_lines names p.refutation in
+    let lines = text_lines (named_refutation names p.refutation) in
     let before : List (List ℕ) = (status ++ name) ∷ (codes "% commands " ++ decimal n) ∷ [] in
     let last : List ℕ = end_mark ++ name in
     record {

@@ -4,13 +4,10 @@ pub mod UnitLaws
 pub mod DepthLaws
 pub mod StatementLaws
 pub mod FileLaws
-pub mod SatisfiableLaws
-pub mod SearchLaws
-pub mod RunLaws
 pub mod StartLaws
 pub mod StatedLaws
-pub mod TextLaws
 pub mod LineFeeds
+pub mod NameLaws
 pub mod SolvedLaws
 pub mod ReportLaws
 pub mod HeadlineLaws

@@ -1,6 +1,6 @@
 -- The pieces in which a report is written.
 use Rattle.std.proofs.Common.{◌≡◌, ℕ, List, [], ◌∷◌, ◌++◌, codes, refl, ap, ◌∙◌, append_assoc}
-use Rattle.satallax_top.specs.Text.{as_bytes}
+use Rattle.refute_text.specs.Text.{as_bytes}
 use Rattle.satallax_top.specs.Block.{start_mark, end_mark}
 use Rattle.satallax_top.specs.Report.{counted_report}
 

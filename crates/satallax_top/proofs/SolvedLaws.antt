@@ -1,55 +1,41 @@
 -- A run that ended with a proof has its text.
-use Rattle.std.proofs.Common.{◌≡◌, ℕ, ◌||◌, false, List, [], ◌++◌, length, codes, decimal, refl, ap, ◌∙◌, arith}
-use Rattle.std.specs.List.{list_any}
+use Rattle.std.proofs.Common.{◌≡◌, ℕ, suc, List, [], ◌∷◌, map, length, refl, ap}
 use Rattle.stt_core.specs.TypedName.{TypedName}
-use Rattle.stt_tableau.specs.Literals.{Literal}
 use Rattle.stt_tableau.specs.Start.{start}
+use Rattle.stt_tableau.specs.declared.refutation.Refutation.{Refutation}
+use Rattle.refute_text.specs.Text.{text_lines, as_bytes}
+use Rattle.refute_text.specs.Named.{named_refutation, IsNamed}
+use Rattle.prover_search.specs.Ended.{EndsAs}
+use Rattle.prover_search.specs.declared.commands.TheConstants.{MAX_COMMANDS}
+use Rattle.prover_search.specs.declared.commands.Ended.TheVariants.{Proved}
 use Rattle.satallax_top.specs.Reading.{Stated, question_of}
-use Rattle.satallax_top.specs.Text.{Names, text_lines, as_bytes, rule_text, separated, literal_texts}
-use Rattle.std.proofs.lemmas.Fmt.{decimal_digit}
-use Rattle.satallax_top.proofs.LineFeeds.{no_feed-append, decimal_no_feed, branch_no_feed}
-use Rattle.satallax_top.specs.Block.{end_mark, begins_with, has_line_feed}
-use Rattle.satallax_top.specs.PlainNames.{names_of, ArePlain}
-use Rattle.satallax_top.specs.Propositional.{IsRunnable, AreLeavesBelow}
-use Rattle.satallax_top.specs.Ended.{EndsAs, closing_rule, one_line_refutation}
+use Rattle.satallax_top.specs.PlainNames.{names_of}
+use Rattle.satallax_top.specs.Propositional.{IsRunnable}
+use Rattle.satallax_top.specs.NormalQuestion.{normal_question}
 use Rattle.satallax_top.specs.Answers.{IsProofOf, IsSolvedFor}
 use Rattle.satallax_top.specs.Solved.{IsProvedFor}
 use Rattle.satallax_top.specs.declared.outcome.Outcome.{Outcome}
 use Rattle.satallax_top.specs.declared.outcome.Outcome.TheVariants.{Theorem, Unsatisfiable, GaveUp, CommandLimit, Words, TooLong, NotYetAt, ReadFault, WriteFault, Memory}
-use Rattle.satallax_top.specs.declared.run.TheConstants.{MAX_COMMANDS}
-use Rattle.satallax_top.specs.declared.run.Closing.{Closing}
-use Rattle.satallax_top.specs.declared.run.Closing.TheVariants as closing
-use Rattle.satallax_top.specs.declared.run.Ended.TheVariants.{Proved}
-use Rattle.satallax_top.specs.NormalQuestion.{normal_question}
+use Rattle.satallax_top.proofs.LineFeeds.{no_line_feeds-lines, no_end_mark-lines}
+use Rattle.satallax_top.proofs.NameLaws.{NamesAll, accepted_named}
 
--- no line of such a refutation begins like an end line
-no_end_mark-lines : (names : Names) (branch : List Literal) (rule : Closing) → list_any (begins_with end_mark) (text_lines names (one_line_refutation branch (closing_rule rule))) ≡ false
-no_end_mark-lines names branch rule =
-    ap (λ number. begins_with end_mark (number ++ (codes ": " ++ (rule_text names (closing_rule rule) ++ (codes " [" ++ (separated (literal_texts names branch) ++ (codes "] [" ++ (separated [] ++ codes "]"))))))) || false) (decimal_digit 0 (omega arith))
+same_length : (cs : List TypedName) → length (map (λ c. c.type) cs) ≡ length (map (λ c. c.name) cs)
+same_length [] = refl
+same_length (c ∷ cs) = ap suc (same_length cs)
 
-rule_no_feed : (names : Names) (rule : Closing) → has_line_feed (rule_text names (closing_rule rule)) ≡ false
-rule_no_feed names (closing.False i) = no_feed-append (decimal i) (codes ")") (decimal_no_feed i) refl
-rule_no_feed names (closing.Close i j) =
-    no_feed-append (decimal i) (codes "," ++ (decimal j ++ codes ")")) (decimal_no_feed i) (no_feed-append (decimal j) (codes ")") (decimal_no_feed j) refl)
+module _ (s : Stated) (n : ℕ) (refutation : Refutation) (r : IsRunnable s) (e : EndsAs (start (normal_question s)) MAX_COMMANDS (Proved n refutation)) where
+  pub run_named : IsNamed (names_of s.constants) refutation
+  run_named = accepted_named (names_of s.constants) (question_of s).scope (record { bases = refl; constants = same_length s.constants }) (start (normal_question s)) refutation (e.1 (question_of s).scope r.typed)
 
-no_line_feeds-lines : (cs : List TypedName) (branch : List Literal) (rule : Closing) → ArePlain cs → AreLeavesBelow (length cs) branch → list_any has_line_feed (text_lines (names_of cs) (one_line_refutation branch (closing_rule rule))) ≡ false
-no_line_feeds-lines cs branch rule plain leaves =
-    ap (λ b. b || false)
-    (no_feed-append (decimal 0) (codes ": " ++ (rule_text (names_of cs) (closing_rule rule) ++ (codes " [" ++ (separated (literal_texts (names_of cs) branch) ++ (codes "] [" ++ (separated [] ++ codes "]")))))) (decimal_no_feed 0)
-    (no_feed-append (rule_text (names_of cs) (closing_rule rule)) (codes " [" ++ (separated (literal_texts (names_of cs) branch) ++ (codes "] [" ++ (separated [] ++ codes "]")))) (rule_no_feed (names_of cs) rule)
-    (no_feed-append (separated (literal_texts (names_of cs) branch)) (codes "] [" ++ (separated [] ++ codes "]")) (branch_no_feed cs plain branch leaves) refl)))
-
-pub proof_of_run : (s : Stated) (n : ℕ) (branch : List Literal) (rule : Closing) (text : List ℕ) → IsRunnable s → EndsAs (start (normal_question s)) MAX_COMMANDS (Proved n branch rule) → text ≡ as_bytes (text_lines (names_of s.constants) (one_line_refutation branch (closing_rule rule))) → IsProofOf s n text
-proof_of_run s n branch rule text r e t =
-    let whole = one_line_refutation (start (normal_question s)) (closing_rule rule) in
-    record {
-      proved = e.1;
-      refutation = whole;
-      accepted = e.2 (question_of s).scope r.typed;
-      is_text = t ∙ ap (λ b. as_bytes (text_lines (names_of s.constants) (one_line_refutation b (closing_rule rule)))) e.0;
-      no_line_feeds = no_line_feeds-lines s.constants (start (normal_question s)) rule r.plain r.leaves_below;
-      no_end_mark = no_end_mark-lines (names_of s.constants) (start (normal_question s)) rule;
-    }
+  pub proof_of_run : (text : List ℕ) → text ≡ as_bytes (text_lines (named_refutation (names_of s.constants) refutation)) → IsProofOf s n text
+  proof_of_run text t = record {
+    proved = e.0;
+    refutation = refutation;
+    accepted = e.1 (question_of s).scope r.typed;
+    is_text = t;
+    no_line_feeds = no_line_feeds-lines s.constants r.plain refutation;
+    no_end_mark = no_end_mark-lines s.constants r.plain refutation;
+  }
 
 -- the outcome of a problem that is proved, with the text of its refutation
 pub proved_for : (s : Stated) (o : Outcome) (n : ℕ) (text : List ℕ) → IsProvedFor s o → IsProofOf s n text → IsSolvedFor s o n text

@@ -13,43 +13,7 @@ use Rattle.stt_tableau.specs.Literals.{Literal, opposite, literal}
 use Rattle.stt_tableau.specs.Start.{same_literal, has, added, without_repeats, denied, start}
 use Rattle.satallax_top.specs.Reading.{Stated, question_of}
 use Rattle.stt_tableau.proofs.ListLaws.{contains-first, contains-later, contains_cases}
-use Rattle.satallax_top.proofs.SatisfiableLaws.{same_literal-true, or_cases, or_true_left, or_true_right, none_contained}
-
-same_literal-refl : (l : Literal) → same_literal l l ≡ true
-same_literal-refl l = go l.positive
-  where
-    go : (p : Bool) → same_literal (record { positive = p; atom = l.atom }) (record { positive = p; atom = l.atom }) ≡ true
-    go true = same_term-refl l.atom
-    go false = same_term-refl l.atom
-
--- the test whether a literal is in a list tells whether it is
-has-true : (ls : List Literal) (l : Literal) → has ls l ≡ true → Contains ls l
-has-true [] l h = cc
-has-true (k ∷ ls) l h =
-    or_cases (same_literal l k) (has ls l) (Contains (k ∷ ls) l) h
-    (λ e. subst (λ x. Contains (x ∷ ls) l) (same_literal-true l k e) (contains-first l ls))
-    (λ e. contains-later l k ls (has-true ls l e))
-
-has-of : (ls : List Literal) (l : Literal) → Contains ls l → has ls l ≡ true
-has-of [] l h = absurd (none_contained l h)
-has-of (k ∷ ls) l h =
-    contains_cases (has (k ∷ ls) l ≡ true) l k ls h
-    (λ e. or_true_left (same_literal l k) (has ls l) (ap (same_literal l) e ∙ same_literal-refl l))
-    (λ c. or_true_right (same_literal l k) (has ls l) (has-of ls l c))
-
-pub added-there : (ls : List Literal) (l : Literal) → Contains ls l → added ls (l ∷ []) ≡ ls
-added-there ls l h = ap (λ b. if b then ls else ls ++ l ∷ []) (has-of ls l h)
-
-pub added-new : (ls : List Literal) (l : Literal) → (Contains ls l → ⊥) → added ls (l ∷ []) ≡ ls ++ l ∷ []
-added-new ls l n = go (has ls l) refl
-  where
-    go : (b : Bool) → has ls l ≡ b → (if b then ls else ls ++ l ∷ []) ≡ ls ++ l ∷ []
-    go true e = absurd (n (has-true ls l e))
-    go false e = refl
-
-added-append : (ls xs ys : List Literal) → added ls (xs ++ ys) ≡ added (added ls xs) ys
-added-append ls [] ys = refl
-added-append ls (x ∷ xs) ys = added-append (if has ls x then ls else ls ++ x ∷ []) xs ys
+use Rattle.prover_search.proofs.ClauseLaws.{added-append}
 
 -- the literal of one formula more, in normal form
 pub added-more : (f : Lambda → Lambda) (ts : List Lambda) (i : ℕ) (t : Lambda) (before after : List Literal) → slice_get ts i ≡ Some t → before ≡ added [] (map literal (map f (take i ts))) → after ≡ added before (literal (f t) ∷ []) → after ≡ added [] (map literal (map f (take (i + 1) ts)))

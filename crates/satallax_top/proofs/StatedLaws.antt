@@ -7,7 +7,7 @@ use borrow.Author.Tests.{ltb-true}
 use Rattle.std.proofs.lemmas.Bool.{and_from, le-leb}
 use Rattle.std.specs.List.{list_all}
 use Rattle.satallax_top.specs.Bytes.{token_at, skipped, first_token, first_word, word_front, is_word_byte, is_lower, is_lower_word, is_dollar_word, is_sign, after_byte}
-use Rattle.satallax_top.specs.Text.{is_plain}
+use Rattle.refute_text.specs.Letters.{is_plain}
 use Rattle.satallax_top.specs.PlainNames.{ArePlain}
 use Rattle.satallax_top.proofs.StatementLaws.{some_same}
 use Rattle.stt_core.specs.SimpleType.{formula}
@@ -30,11 +30,13 @@ use Rattle.stt_tableau.specs.Start.{has, added, denied, start}
 use Rattle.stt_tableau.proofs.ListLaws.{contains-first, contains-later, contains_cases, Each}
 use Rattle.stt_tableau.proofs.LiteralLaws.{literal_cases, literal-is_literal, opposite-is_literal, literal-says, value-bit}
 use Rattle.satallax_top.specs.Reading.{Begins, IsStatement, typing_statement, axiom_statement, conjecture_statement, Formula, named, truth, falsehood, negated, implied, Statement, declares, assumes, asks, Stated, named_constant, term_of, with_name, with_assumed, with_conjecture, stated_more, Leads, at_end, by_statement, States, nothing_stated, question_of}
-use Rattle.satallax_top.specs.Propositional.{IsFormula, AreFormulas, IsFormulaIfThere, IsTyped, IsPropositional, IsSearched, AreSearched, IsRunnable}
-use Rattle.satallax_top.specs.Search.{depth}
+use Rattle.satallax_top.specs.Propositional.{IsFormula, AreFormulas, IsFormulaIfThere, IsTyped, IsRunnable}
+use Rattle.prover_search.specs.Searched.{IsPropositional, IsSearched, AreSearched}
+use Rattle.prover_search.specs.Search.{depth}
 use Rattle.satallax_top.proofs.UnitLaws.{maps, implies}
 use Rattle.satallax_top.proofs.DepthLaws.{depth-literal, depth-formula}
-use Rattle.satallax_top.proofs.SatisfiableLaws.{none_contained}
+use Rattle.prover_search.proofs.BooleanLaws.{none_contained}
+use Rattle.prover_search.proofs.SearchedLaws.{added-different}
 
 -- a formula of the first n names, falsity, negations and implications
 abbrev pub IsOver : ℕ → Lambda → Type 0
@@ -457,5 +459,6 @@ states_runnable depth_limit bytes s l h =
       formulas = sound_typed s g;
       plain = states_plain depth_limit bytes s h;
       searched = start_searched s g (states_shallow depth_limit 4096 bytes s l h);
+      different = added-different [] (map literal (normal_question s).assumed ++ denied (normal_question s).conjecture) tt;
       typed = start_typed s g;
     }

@@ -5,11 +5,12 @@ use Rattle.stt_tableau.specs.Accepted.{IsAccepted}
 use Rattle.stt_tableau.specs.Start.{start}
 use Rattle.stt_tableau.specs.declared.refutation.Refutation.{Refutation}
 use Rattle.satallax_top.specs.declared.statement.TheConstants.{MAX_DEPTH}
-use Rattle.satallax_top.specs.declared.run.TheConstants.{MAX_COMMANDS}
+use Rattle.prover_search.specs.declared.commands.TheConstants.{MAX_COMMANDS}
 use Rattle.satallax_top.specs.Reading.{Stated, States, question_of}
 use Rattle.satallax_top.specs.Problems.{StatesNothing}
-use Rattle.satallax_top.specs.Run.{IsProved, IsExhausted, IsStopped}
-use Rattle.satallax_top.specs.Text.{text_lines, as_bytes}
+use Rattle.prover_search.specs.Run.{IsProved, IsExhausted, IsStopped}
+use Rattle.refute_text.specs.Text.{text_lines, as_bytes}
+use Rattle.refute_text.specs.Named.{named_refutation}
 use Rattle.satallax_top.specs.PlainNames.{names_of}
 use Rattle.satallax_top.specs.Block.{end_mark, begins_with, has_line_feed}
 use Rattle.satallax_top.specs.Words.{problem_word}
@@ -26,9 +27,9 @@ pub record IsProofOf (s : Stated) (n : ℕ) (text : List ℕ) : Type 0 where
   pub proved : IsProved (start (normal_question s)) MAX_COMMANDS n
   pub refutation : Refutation
   pub accepted : IsAccepted (question_of s).scope (start (normal_question s)) refutation
-  pub is_text : text ≡ as_bytes (text_lines (names_of s.constants) refutation)
-  pub no_line_feeds : list_any has_line_feed (text_lines (names_of s.constants) refutation) ≡ false
-  pub no_end_mark : list_any (begins_with end_mark) (text_lines (names_of s.constants) refutation) ≡ false
+  pub is_text : text ≡ as_bytes (text_lines (named_refutation (names_of s.constants) refutation))
+  pub no_line_feeds : list_any has_line_feed (text_lines (named_refutation (names_of s.constants) refutation)) ≡ false
+  pub no_end_mark : list_any (begins_with end_mark) (text_lines (named_refutation (names_of s.constants) refutation)) ≡ false
 
 -- how the run over what is stated ends: an outcome, a number of commands, and the text of a refutation
 abbrev pub IsSolvedFor : Stated → Outcome → ℕ → List ℕ → Type 0

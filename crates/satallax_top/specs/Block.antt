@@ -2,7 +2,8 @@
 use Rattle.std.specs.Prelude.{◌≡◌, ℕ, ◌==◌, Bool, true, false, List, ◌∷◌, ◌++◌, codes, nat_eq}
 use Rattle.std.specs.List.{list_any, starts_with}
 use Rattle.stt_tableau.specs.declared.refutation.Refutation.{Refutation}
-use Rattle.satallax_top.specs.Text.{Names, text_lines, as_bytes}
+use Rattle.refute_text.specs.Text.{text_lines, as_bytes}
+use Rattle.refute_text.specs.Named.{Names, named_refutation}
 
 abbrev pub start_mark : List ℕ
 start_mark = codes "% SZS output start Refutation for "
@@ -26,9 +27,9 @@ pub record HoldsText (names : Names) (bytes : List ℕ) (refutation : Refutation
   pub last : List ℕ
   pub after : List (List ℕ)
   pub rest : List ℕ
-  pub are_lines : bytes ≡ as_bytes (before ++ (first ∷ (text_lines names refutation ++ (last ∷ after)))) ++ rest
-  pub no_line_feeds : list_any has_line_feed (before ++ (first ∷ (text_lines names refutation ++ (last ∷ after)))) ≡ false
+  pub are_lines : bytes ≡ as_bytes (before ++ (first ∷ (text_lines (named_refutation names refutation) ++ (last ∷ after)))) ++ rest
+  pub no_line_feeds : list_any has_line_feed (before ++ (first ∷ (text_lines (named_refutation names refutation) ++ (last ∷ after)))) ≡ false
   pub no_start_before : list_any (begins_with start_mark) before ≡ false
   pub starts : begins_with start_mark first ≡ true
-  pub no_end_within : list_any (begins_with end_mark) (text_lines names refutation) ≡ false
+  pub no_end_within : list_any (begins_with end_mark) (text_lines (named_refutation names refutation)) ≡ false
   pub ends : begins_with end_mark last ≡ true

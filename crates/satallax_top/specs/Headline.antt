@@ -9,10 +9,11 @@ use Rattle.stt_tableau.specs.Closed.{Closes, tableau_of}
 use Rattle.stt_tableau.specs.Start.{start}
 use Rattle.stt_tableau.specs.declared.refutation.Refutation.{Refutation}
 use Rattle.satallax_top.specs.declared.statement.TheConstants.{MAX_DEPTH}
-use Rattle.satallax_top.specs.declared.run.TheConstants.{MAX_COMMANDS}
+use Rattle.prover_search.specs.declared.commands.TheConstants.{MAX_COMMANDS}
 use Rattle.satallax_top.specs.Reading.{Stated, States, question_of}
-use Rattle.satallax_top.specs.Run.{IsProved}
-use Rattle.satallax_top.specs.Text.{text_lines, as_bytes}
+use Rattle.prover_search.specs.Run.{IsProved}
+use Rattle.refute_text.specs.Text.{text_lines, as_bytes}
+use Rattle.refute_text.specs.Named.{named_refutation}
 use Rattle.satallax_top.specs.PlainNames.{names_of}
 use Rattle.satallax_top.specs.Block.{HoldsText}
 use Rattle.satallax_top.specs.Report.{report}
@@ -46,7 +47,7 @@ pub record IsProofReport (words : List (List ℕ)) (told : Bool) (contents : Lis
   pub commands : ℕ
   pub proved : IsProved (start (normal_question stated)) MAX_COMMANDS commands
   pub refutation : Refutation
-  pub is_report : written ≡ report outcome name commands (as_bytes (text_lines (names_of stated.constants) refutation))
+  pub is_report : written ≡ report outcome name commands (as_bytes (text_lines (named_refutation (names_of stated.constants) refutation)))
   pub holds_text : HoldsText (names_of stated.constants) written refutation
   pub accepted : IsAccepted (question_of stated).scope (start (normal_question stated)) refutation
   pub closed : Closes (with_rows (question_of stated).scope refutation.witnesses) refutation.witnesses (tableau_of refutation) (start (normal_question stated))

@@ -7,11 +7,6 @@ pub mod Refusals
 pub mod Problems
 pub mod Propositional
 pub mod NormalQuestion
-pub mod Clauses
-pub mod Search
-pub mod Run
-pub mod Ended
-pub mod Text
 pub mod Block
 pub mod Words
 pub mod Status

@@ -1,7 +1,8 @@
 -- The names of constants in texts.
 use Rattle.std.specs.Prelude.{◌≡◌, true, List, [], ◌∷◌, map}
 use Rattle.stt_core.specs.TypedName.{TypedName}
-use Rattle.satallax_top.specs.Text.{Names, is_plain}
+use Rattle.refute_text.specs.Letters.{is_plain}
+use Rattle.refute_text.specs.Named.{Names}
 
 -- the names of a problem without base types of its own
 abbrev pub names_of : List TypedName → Names

@@ -9,7 +9,7 @@ use Rattle.stt_tableau.specs.Start.{start}
 use Rattle.satallax_top.specs.Reading.{Stated, question_of}
 use Rattle.satallax_top.specs.PlainNames.{ArePlain}
 use Rattle.satallax_top.specs.NormalQuestion.{normal_question}
-use Rattle.satallax_top.specs.Search.{is_shallow}
+use Rattle.prover_search.specs.Searched.{AreSearched, AreDifferent}
 
 -- the term is a formula
 abbrev pub IsFormula : Scope → Lambda → Type 0
@@ -29,28 +29,11 @@ pub record IsTyped (question : Question) : Type 0 where
   pub assumed : AreFormulas question.scope question.assumed
   pub conjecture : IsFormulaIfThere question.scope question.conjecture
 
--- a formula of names, falsity, negations and implications
-abbrev pub IsPropositional : Lambda → Type 0
-IsPropositional (constant (name k)) = Unit {0}
-IsPropositional (constant falsity) = Unit {0}
-IsPropositional (app (constant negation) s) = IsPropositional s
-IsPropositional (app (app (constant implication) s) t) = IsPropositional s × IsPropositional t
-IsPropositional t = ⊥
-
--- a literal that the search takes: its atom is such a formula, isn't a negation, and isn't too deep
-pub record IsSearched (l : Literal) : Type 0 where
-  pub formula : IsPropositional l.atom
-  pub unsigned : is_negated l.atom ≡ false
-  pub shallow : is_shallow l ≡ true
-
-abbrev pub AreSearched : List Literal → Type 0
-AreSearched [] = Unit {0}
-AreSearched (l ∷ ls) = IsSearched l × AreSearched ls
-
 -- What a file of the first path states is run as it stands: it is typed, its names are lower words, and the literals of its start are
--- typed and are such that the search takes them.
+-- typed, differ from one another, and are such that the search takes them.
 pub record IsRunnable (s : Stated) : Type 0 where
   pub formulas : IsTyped (question_of s)
   pub plain : ArePlain s.constants
   pub searched : AreSearched (start (normal_question s))
+  pub different : AreDifferent (start (normal_question s))
   pub typed : IsBranch (question_of s).scope (start (normal_question s))

@@ -1,6 +1,6 @@
 -- What is written at the end of a call (Sutcliffe, The SZS ontologies for automated reasoning software, 2008).
 use Rattle.std.specs.Prelude.{ℕ, List, [], ◌∷◌, ◌++◌, codes, decimal}
-use Rattle.satallax_top.specs.Text.{as_bytes}
+use Rattle.refute_text.specs.Text.{as_bytes}
 use Rattle.satallax_top.specs.Block.{start_mark, end_mark}
 use Rattle.satallax_top.specs.declared.outcome.Outcome.{Outcome}
 use Rattle.satallax_top.specs.declared.outcome.Outcome.TheVariants.{Theorem, Unsatisfiable, GaveUp, CommandLimit, Words, TooLong, NotYetAt, ReadFault, WriteFault, Memory}

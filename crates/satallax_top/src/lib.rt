@@ -8,7 +8,6 @@ mod problem;
 mod reader;
 mod refusal;
 mod report;
-mod run;
 mod solve;
 mod start;
 mod statement;

@@ -5,17 +5,18 @@ ghost use Rattle.stt_tableau.specs.Start.{start};
 ghost use Rattle.satallax_top.specs.NormalQuestion.{normal_question};
 ghost use Rattle.satallax_top.specs.StatedView.{stated};
 ghost use Rattle.satallax_top.specs.Propositional.{IsRunnable};
-ghost use Rattle.satallax_top.specs.Ended.{EndsAs};
+ghost use Rattle.prover_search.specs.Ended.{EndsAs};
+ghost use Rattle.prover_search.specs.declared.commands.TheConstants.{MAX_COMMANDS};
 ghost use Rattle.satallax_top.specs.Answers.{IsSolvedFor, IsSolved};
 ghost use Rattle.satallax_top.specs.Solved.{AnswersProblem, IsProvedFor};
 
 use crate::outcome::Outcome;
 use crate::problem::read_problem;
 use crate::refusal::Refusal;
-use crate::run::{Ended, MAX_COMMANDS, run};
 use crate::start::start;
 use crate::text::refutation_text;
 use outside::Bytes;
+use prover_search::{Ended, run};
 use std::alloc::{AllocError, Global};
 use stt_core::Problem;
 
@@ -54,6 +55,7 @@ fn proved_outcome(problem: &Problem) -> Outcome
 
 /// The answer for a run over a problem that has ended.
 fn ended_answer(alloc: Global, problem: &Problem, ended: Ended) -> Result<Answer, AllocError>
+    requires bases { problem.now.signature.bases ≡ [] }
     requires runnable { IsRunnable (stated problem.now) }
     requires ended { EndsAs (start (normal_question (stated problem.now))) MAX_COMMANDS ended }
     ensures { IfOk result (λ a. IsSolvedFor (stated problem.now) a.outcome a.commands a.text) }
@@ -61,10 +63,9 @@ fn ended_answer(alloc: Global, problem: &Problem, ended: Ended) -> Result<Answer
     match ended {
         Ended::Proved {
             commands,
-            start,
-            rule,
+            refutation,
         } => {
-            let text = refutation_text(alloc, &problem.signature, &start, rule)?;
+            let text = refutation_text(alloc, &problem.signature, &refutation)?;
             Ok(Answer {
                 outcome: proved_outcome(problem),
                 commands,
@@ -86,7 +87,8 @@ fn solve_problem(alloc: Global, problem: &Problem) -> Result<Answer, AllocError>
     ensures { IfOk result (λ a. IsSolvedFor (stated problem.now) a.outcome a.commands a.text) }
 {
     let start = start(alloc, problem)?;
-    Ok(ended_answer(alloc, problem, run(start))?)
+    let ended = run(alloc, start)?;
+    Ok(ended_answer(alloc, problem, ended)?)
 }
 
 /// The answer for a problem that the bytes state.

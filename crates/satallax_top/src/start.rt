@@ -1,17 +1,18 @@
 //! The literals from which the search starts.
 
-ghost use Rattle.std.specs.Prelude.{◌≡◌, [], ◌∷◌, map, OnOk, IfOk};
+ghost use Rattle.std.specs.Prelude.{◌≡◌, [], map, IfOk};
 ghost use Rattle.stt_core.specs.View.{the_term};
 ghost use Rattle.stt_core.specs.ScopeView.{the_scope};
 ghost use Rattle.stt_core.specs.Typing.{IsScope};
 ghost use Rattle.stt_normal.specs.Normal.{normal_form};
 ghost use Rattle.stt_tableau.specs.Literals.{literal};
-ghost use Rattle.stt_tableau.specs.Start.{added, without_repeats, start};
+ghost use Rattle.stt_tableau.specs.Start.{without_repeats, start};
 ghost use Rattle.satallax_top.specs.Reading.{question_of};
 ghost use Rattle.satallax_top.specs.NormalQuestion.{normal_question};
 ghost use Rattle.satallax_top.specs.StatedView.{stated};
 ghost use Rattle.satallax_top.specs.Propositional.{IsFormula, AreFormulas, IsTyped};
 
+use prover_search::add;
 use std::alloc::{AllocError, Global};
 use stt_core::{Problem, Signature, Term, Terms, Types};
 use stt_normal::normalise;
@@ -26,16 +27,6 @@ fn formula_literal(alloc: Global, sig: &Signature, formula: &Term) -> Result<Lit
     let none = Types::new(alloc);
     let canonical = normalise(alloc, sig, &none, &none, formula)?;
     Ok(literal_of(alloc, &canonical)?)
-}
-
-/// Adds the literal at the end, where it isn't in the list yet.
-fn add(lits: &mut Lits, lit: Lit) -> Result<(), AllocError>
-    ensures { OnOk result (lits.new ≡ added lits.old (lit ∷ [])) }
-{
-    if !lits.contains(&lit) {
-        lits.push(lit)?;
-    }
-    Ok(())
 }
 
 /// The literals of the assumed formulas, without repeats.
