@@ -1,17 +1,16 @@
 -- When a clause of an instance is false: its principals are true, and each alternative has a literal that is false.
-use Rattle.std.proofs.Common.{◌≡◌, ◌&&◌, ◌||◌, Bool, true, false, not, List, [], ◌∷◌, ◌++◌, map, filter, Contains, refl, sym, ap, ap₂, subst, ◌∙◌, if◌then◌else◌}
-use Rattle.std.specs.List.{list_any, list_all, flat_map}
+use Rattle.std.proofs.Common.{◌≡◌, ◌&&◌, ◌||◌, Bool, true, false, not, List, [], ◌∷◌, ◌++◌, map, Contains, refl, sym, ap, ap₂, subst, ◌∙◌, if◌then◌else◌}
+use Rattle.std.specs.List.{list_any, list_all}
 use Rattle.std.proofs.lemmas.Bool.{and_parts}
 use Rattle.std.proofs.lemmas.List.Folds.{list_any-append}
 use Rattle.stt_core.specs.Lambda.{Lambda}
 use Rattle.stt_core.specs.SameTerm.{same_term}
 use Rattle.stt_core.proofs.SameTerms.{same_term-refl, same_term-true}
-use Rattle.stt_tableau.specs.Literals.{Literal, plus, opposite}
+use Rattle.stt_tableau.specs.Literals.{Literal, opposite}
 use Rattle.stt_tableau.specs.Start.{same_sign, same_literal, has, added, without_repeats}
-use Rattle.stt_tableau.proofs.ListLaws.{contains-first, contains-later, contains_cases}
-use Rattle.prover_search.specs.Clauses.{Clause, holds, HasFalse, Unsatisfiable, choices, is_tautology, instance_clauses, same_clause, with_clauses}
+use Rattle.prover_search.specs.Clauses.{Clause, holds, HasFalse, choices, is_tautology, instance_clauses, same_clause, with_clauses}
 use Rattle.prover_search.specs.Decided.{is_false_clause, is_falsified}
-use Rattle.prover_search.proofs.BooleanLaws.{or_cases, or_true_left, or_true_right, or-false, or-assoc, or-absorbs, not-or, none_contained, One, any_one, one_any, any-same, any-map, any-filter, any-flat_map, any-and, any-and_right, false_from_not}
+use Rattle.prover_search.proofs.BooleanLaws.{or-false, or-assoc, or-absorbs, not-or, One, any_one, one_any, any-same, any-map, any-filter, any-flat_map, any-and, any-and_right, false_from_not}
 
 -- lists of literals and clauses in which one may be there already
 same_sign-true : (a b : Bool) → same_sign a b ≡ true → a ≡ b

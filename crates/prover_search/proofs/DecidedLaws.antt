@@ -1,5 +1,5 @@
 -- The clauses of the search have a false one where a literal of the start is false or an instance is violated.
-use Rattle.std.proofs.Common.{◌≡◌, ℕ, suc, ◌||◌, ◌&&◌, Bool, true, false, not, List, [], ◌∷◌, ◌++◌, map, length, refl, sym, ap, ap₂, subst, ◌∙◌, arith}
+use Rattle.std.proofs.Common.{◌≡◌, suc, ◌||◌, ◌&&◌, Bool, true, false, not, List, [], ◌∷◌, ◌++◌, map, length, refl, sym, ap, ap₂, ◌∙◌, arith}
 use Rattle.std.specs.List.{list_any, list_all}
 use Rattle.std.proofs.lemmas.List.Folds.{list_any-append}
 use Rattle.stt_core.specs.Lambda.{Lambda}
@@ -12,7 +12,7 @@ use Rattle.prover_search.specs.Table.{IsMade, AreOfRules}
 use Rattle.prover_search.specs.Splitting.{Tree, Closes, StaysOpen}
 use Rattle.prover_search.specs.Decided.{is_false_clause, is_falsified, values_in, falsifies}
 use Rattle.prover_search.specs.Steps.{signs, IsTable, IsSatisfied}
-use Rattle.prover_search.proofs.BooleanLaws.{or-false, or-assoc, or_true_right, any-map, any-same, any-not}
+use Rattle.prover_search.proofs.BooleanLaws.{or-false, or-assoc, any-map, any-same, any-not}
 use Rattle.prover_search.proofs.ClauseLaws.{holds-opposite, has_false, false_one}
 use Rattle.prover_search.proofs.NumberLaws.{made-append}
 use Rattle.prover_search.proofs.ValueLaws.{violated_falsified, values-append, length-values, true_atoms, values_in-true_atoms, all_hold, hold_all}

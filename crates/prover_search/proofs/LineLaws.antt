@@ -1,16 +1,15 @@
 -- The lines of a decision tree are right, and the last of them is about the tree's branch.
 use Rattle.stt_core.proofs.ListLaws.{take_got}
 use Rattle.stt_tableau.proofs.FailureLaws.{length-front}
-use Rattle.std.proofs.Common.{ap₂, take, map, ◌||◌, ◌≡◌, ℕ, zero, suc, ◌<◌, ◌≤◌, ◌+◌, ◌&&◌, Bool, true, false, not, List, [], ◌∷◌, ◌++◌, length, length-append, slice_get, Contains, Option, Some, None, option_map, refl, sym, ap, subst, ◌∙◌, append_assoc, append-nil, ◌⊎◌, inl, inr, arith}
+use Rattle.std.proofs.Common.{ap₂, take, map, ◌||◌, ◌≡◌, ℕ, zero, suc, ◌<◌, ◌+◌, ◌&&◌, Bool, true, false, not, List, [], ◌∷◌, ◌++◌, length, length-append, slice_get, Contains, Option, Some, None, refl, sym, ap, subst, ◌∙◌, append_assoc, append-nil, arith}
 use Rattle.std.proofs.lemmas.Bool.{and_parts}
-use Rattle.std.proofs.lemmas.Option.{slice_get_within}
-use Rattle.stt_core.specs.Lambda.{Lambda, imp}
+use Rattle.stt_core.specs.Lambda.{imp}
 use Rattle.stt_core.specs.Typing.{Scope}
 use Rattle.stt_tableau.specs.Literals.{literal, Literal, plus, minus, opposite, IsLiteral, IsBranch}
 use Rattle.stt_tableau.specs.Start.{same_sign}
 use Rattle.stt_tableau.specs.Witnesses.{Row}
-use Rattle.stt_tableau.specs.Rules.{Rule, false_rule, imp_pos_rule, imp_neg_rule, cut_rule, IsInstance}
-use Rattle.stt_tableau.specs.Accepted.{IsClosed, Within, IsRightLine, AreRightLines, AreChildren, EndsWithin}
+use Rattle.stt_tableau.specs.Rules.{false_rule, imp_pos_rule, imp_neg_rule, cut_rule}
+use Rattle.stt_tableau.specs.Accepted.{IsClosed, Within, IsRightLine, AreRightLines, EndsWithin}
 use Rattle.stt_tableau.specs.declared.refutation.Line.{Line}
 use Rattle.stt_tableau.proofs.ListLaws.{contains-get, contains-first, contains-later, within-itself, within-behind, within-before, within-both}
 use Rattle.std.proofs.lemmas.List.Elements.{Contains-append_left, Contains-append_right}
@@ -20,10 +19,10 @@ use Rattle.prover_search.specs.declared.table.Instance.{Instance}
 use Rattle.prover_search.specs.declared.table.Instance.TheVariants.{False, ImpPos, ImpNeg}
 use Rattle.prover_search.specs.Values.{is_value, has_value, is_false, is_violated}
 use Rattle.prover_search.specs.Table.{signed, numbered, HasRule, false_rule as of_false, imp_pos_rule as of_imp_pos, imp_neg_rule as of_imp_neg, IsMade, IsOfRule, AreOfRules}
-use Rattle.prover_search.specs.Splitting.{Tree, leaf, cut, IsViolatedAt, Closes}
-use Rattle.prover_search.specs.Lines.{branch_of, rule_of, children_of, instance_line, cut_line, last_number, instance_lines, cut_lines, lines_of}
+use Rattle.prover_search.specs.Splitting.{Tree, leaf, cut, Closes}
+use Rattle.prover_search.specs.Lines.{branch_of, instance_line, cut_line, last_number, instance_lines, cut_lines, lines_of}
 use Rattle.prover_search.proofs.BooleanLaws.{or_cases}
-use Rattle.prover_search.proofs.NumberLaws.{slice_get-append, slice_get-end, StandsAt, stands_at, branch-append}
+use Rattle.prover_search.proofs.NumberLaws.{slice_get-append, slice_get-end, stands_at}
 
 same_sign-true : (a b : Bool) → same_sign a b ≡ true → a ≡ b
 same_sign-true true true h = refl

@@ -1,12 +1,10 @@
 -- The numbers of atoms in lists that grow.
-use Rattle.std.proofs.Common.{◌≡◌, ℕ, zero, suc, ◌<◌, ◌≤◌, ◌+◌, Bool, true, false, List, [], ◌∷◌, ◌++◌, length, slice_get, take, Option, Some, None, option_map, Contains, refl, sym, ap, subst, ◌∙◌, append_assoc, arith}
-use Rattle.stt_core.specs.Lambda.{Lambda}
+use Rattle.std.proofs.Common.{◌≡◌, ℕ, zero, suc, Bool, true, false, List, [], ◌∷◌, ◌++◌, length, slice_get, Option, Some, None, option_map, refl, sym, ap, subst, ◌∙◌, append_assoc}
 use Rattle.stt_core.specs.Typing.{Scope}
 use Rattle.stt_core.specs.SimpleType.{formula}
 use Rattle.stt_core.specs.Canonical.{IsCanonical}
 use Rattle.stt_tableau.specs.Literals.{Literal, is_negated, IsLiteral, IsBranch}
 use Rattle.stt_tableau.proofs.ListLaws.{Each, contains-first, contains-later}
-use Rattle.sat_base.specs.declared.literal.Var.{Var}
 use Rattle.sat_base.specs.declared.literal.SatLit.{SatLit}
 use Rattle.prover_search.specs.declared.table.Instance.{Instance}
 use Rattle.prover_search.specs.declared.table.Instance.TheVariants.{False, ImpPos, ImpNeg}
@@ -53,16 +51,15 @@ made-append atoms more (ImpNeg p a b) l as' h = (numbered-append atoms more p.0 
 
 pub rules-append : (atoms more : List Literal) (instances : List Instance) → AreOfRules atoms instances → AreOfRules (atoms ++ more) instances
 rules-append atoms more [] h = tt
-rules-append atoms more (i ∷ instances) h =
-    (
-      record {
-        principal = h.0.principal;
-        alternatives = h.0.alternatives;
-        has_rule = h.0.has_rule;
-        made = made-append atoms more i h.0.principal h.0.alternatives h.0.made;
-      },
-      rules-append atoms more instances h.1,
-    )
+rules-append atoms more (i ∷ instances) h = (
+  record {
+    principal = h.0.principal;
+    alternatives = h.0.alternatives;
+    has_rule = h.0.has_rule;
+    made = made-append atoms more i h.0.principal h.0.alternatives h.0.made;
+  },
+  rules-append atoms more instances h.1,
+)
 
 pub rules-push : (atoms : List Literal) (instances : List Instance) (i : Instance) → AreOfRules atoms instances → IsOfRule atoms i → AreOfRules atoms (instances ++ i ∷ [])
 rules-push atoms [] i h k = (k, tt)

@@ -1,8 +1,7 @@
 -- The run: its start, its steps and its ends.
-use Rattle.std.proofs.Common.{take, length-append, IfSome, IfNone, ◌⊎◌, inl, inr, length-drop, ◌≡◌, ◌≢◌, ℕ, zero, suc, ◌+◌, ◌<◌, ◌≤◌, ◌||◌, Bool, true, false, not, List, [], ◌∷◌, ◌++◌, map, filter, length, drop, slice_get, Contains, Option, Some, None, refl, sym, ap, ap₂, subst, ◌∙◌, arith, append_assoc}
+use Rattle.std.proofs.Common.{take, length-append, IfSome, IfNone, ◌⊎◌, inl, inr, length-drop, ◌≡◌, ◌≢◌, ℕ, zero, suc, ◌<◌, ◌≤◌, ◌||◌, Bool, true, false, not, List, [], ◌∷◌, ◌++◌, map, length, drop, slice_get, Contains, Option, Some, None, refl, sym, ap, ap₂, subst, ◌∙◌, arith, append_assoc}
 use Rattle.std.specs.List.{list_any, list_all, flat_map}
 use Rattle.std.proofs.Math.Seq.{drop-length, take-append_seam}
-use Rattle.std.proofs.lemmas.Option.{slice_get_within}
 use Rattle.stt_core.specs.Lambda.{Lambda}
 use Rattle.stt_core.specs.Typing.{Scope}
 use Rattle.stt_tableau.specs.Literals.{Literal, opposite, IsLiteral, IsBranch}
@@ -14,20 +13,20 @@ use Rattle.stt_tableau.proofs.ListLaws.{contains-get, contains-first, contains-l
 use Rattle.prover_search.specs.declared.table.Table.{Table}
 use Rattle.prover_search.specs.declared.table.Instance.{Instance}
 use Rattle.prover_search.specs.declared.decide.Split.{Split}
-use Rattle.prover_search.specs.Clauses.{Clause, holds, instance_clauses, with_clauses, Unsatisfiable}
-use Rattle.prover_search.specs.Search.{State, Waiting, is_shallow, process, started, noted, carried_out, stepped, after}
+use Rattle.prover_search.specs.Clauses.{holds, instance_clauses, with_clauses}
+use Rattle.prover_search.specs.Search.{State, Waiting, started, noted, stepped}
 use Rattle.prover_search.specs.Run.{IsOpen, GoesOn, GoesOnUntil, IsProved, IsExhausted, IsStopped}
 use Rattle.prover_search.specs.Searched.{AreSearched, IsSearched, AreDifferent}
-use Rattle.prover_search.specs.Table.{AreDistinct, NoneHasAtom, HasRule, IsMade, AreOfRules, AddsInstance}
+use Rattle.prover_search.specs.Table.{AreDistinct, NoneHasAtom, IsMade, AreOfRules}
 use Rattle.prover_search.specs.Splitting.{Tree, the_tree, Closes, StaysOpen}
 use Rattle.prover_search.specs.Lines.{branch_of, tree_refutation}
 use Rattle.prover_search.specs.Values.{is_violated}
 use Rattle.prover_search.specs.Decided.{is_false_clause, is_falsified, falsifies}
-use Rattle.prover_search.specs.Steps.{HasNoRule, with_seen, IsPassed, no_rule, tautology, IsSameTable, IsExtended, Processes, IsProcessed, AreWaiting, IsListed, IsTable, IsCome, IsSatisfied, signs, IsSearching, IsClosedBy, GoesOnBy}
+use Rattle.prover_search.specs.Steps.{with_seen, IsPassed, no_rule, tautology, IsSameTable, IsExtended, IsProcessed, AreWaiting, IsListed, IsTable, IsCome, IsSatisfied, signs, IsSearching, IsClosedBy, GoesOnBy}
 use Rattle.prover_search.specs.Ended.{IsPair, Refutes, pair_refutation}
 use Rattle.prover_search.proofs.BooleanLaws.{or-false, one_fails}
 use Rattle.prover_search.proofs.ClauseLaws.{with_instance_false, has_false, holds-opposite}
-use Rattle.prover_search.proofs.NumberLaws.{rules-append, rules-push, slice_get-append}
+use Rattle.prover_search.proofs.NumberLaws.{rules-append, rules-push}
 use Rattle.prover_search.proofs.LineLaws.{lines_right, ends_about, branch_of-signs}
 use Rattle.prover_search.proofs.StepLaws.{listed-started, take_next, listed-alternatives, clauses-alternatives, listed-noted}
 use Rattle.prover_search.proofs.SearchedLaws.{rule-searched, rule-typed, added-searched, seen-typed, filter-searched, extended, worked-rule, worked-nothing}
@@ -47,11 +46,10 @@ literal_at scope (k ∷ ls) (suc n) l g h = literal_at scope ls n l g h.1
 module _ (start : List Literal) (branch_open : IsClosed start → ⊥) where
   none_alike : (l : Literal) → Contains start l → (ls : List Literal) → ((k : Literal) → Contains ls k → Contains start k) → (Contains ls l → ⊥) → NoneHasAtom ls l
   none_alike l h [] w n = tt
-  none_alike l h (k ∷ ls) w n =
-      (
-        λ e. alike k (w k (contains-first k ls)) e (λ same. n (subst (λ x. Contains (x ∷ ls) l) (sym same) (contains-first l ls))) k.positive refl l.positive refl,
-        none_alike l h ls (λ j c. w j (contains-later j k ls c)) (λ c. n (contains-later l k ls c)),
-      )
+  none_alike l h (k ∷ ls) w n = (
+    λ e. alike k (w k (contains-first k ls)) e (λ same. n (subst (λ x. Contains (x ∷ ls) l) (sym same) (contains-first l ls))) k.positive refl l.positive refl,
+    none_alike l h ls (λ j c. w j (contains-later j k ls c)) (λ c. n (contains-later l k ls c)),
+  )
     where
       alike : (k : Literal) → Contains start k → k.atom ≡ l.atom → (k ≡ l → ⊥) → (p : Bool) → k.positive ≡ p → (q : Bool) → l.positive ≡ q → ⊥
       alike k c e other true f true g = other (ap₂ (λ b t. record { positive = b; atom = t }) (f ∙ sym g) e)
@@ -132,11 +130,11 @@ module _ (start : List Literal) (limit n : ℕ) (seen : List Literal) (table : T
           comes_to = ap stepped c.comes_to ∙ k.steps ∙ ap (λ st. Some (noted l st)) (worked-rule l x.alternatives k.taken x.has_rule own);
           listed = subst (λ ls. IsListed (suc n) ls (noted l next)) (sym x.sees) (listed-noted (suc n) (with_seen seen x.alternatives) next l (listed-alternatives (suc n) seen with_clauses_of x.alternatives listed_now));
           decides = λ ts. (
-            ap (list_any (is_false_clause ts)) (clauses-alternatives with_clauses_of x.alternatives)
-            ∙ with_instance_false ts k.taken.clauses (l ∷ []) x.alternatives
-            ∙ ap (λ b. b || is_falsified ts (l ∷ []) x.alternatives) (ap (list_any (is_false_clause ts)) k.clauses ∙ c.decides ts)
-            ∙ sym (falsifies-more ts start table.atoms x.adds.more table.instances.items x.adds.instance l x.alternatives c.of_start.rules (subst (λ ls. IsMade ls x.adds.instance l x.alternatives) x.adds.extends x.adds.made))
-            ∙ ap₂ (falsifies ts start) (sym x.adds.extends) (sym x.adds.instances));
+              ap (list_any (is_false_clause ts)) (clauses-alternatives with_clauses_of x.alternatives)
+              ∙ with_instance_false ts k.taken.clauses (l ∷ []) x.alternatives
+              ∙ ap (λ b. b || is_falsified ts (l ∷ []) x.alternatives) (ap (list_any (is_false_clause ts)) k.clauses ∙ c.decides ts)
+              ∙ sym (falsifies-more ts start table.atoms x.adds.more table.instances.items x.adds.instance l x.alternatives c.of_start.rules (subst (λ ls. IsMade ls x.adds.instance l x.alternatives) x.adds.extends x.adds.made))
+              ∙ ap₂ (falsifies ts start) (sym x.adds.extends) (sym x.adds.instances));
           searched = subst AreSearched (sym x.sees) (added-searched seen (flat_map (λ (a : List Literal). a) x.alternatives) c.searched (rule-searched l x.alternatives x.has_rule own));
           typed = λ scope b. (let t = c.typed scope b in subst (IsBranch scope) (sym x.sees) (seen-typed scope seen x.alternatives t (rule-typed scope l x.alternatives x.has_rule (literal_at scope seen n l g t))));
           of_start = record {
@@ -186,11 +184,11 @@ module _ (start : List Literal) (limit n : ℕ) (seen : List Literal) (table : T
           comes_to = ap stepped c.comes_to ∙ k.steps ∙ ap (λ st. Some (noted l st)) (worked-rule l as' k.taken rule own);
           listed = listed-noted (suc n) (with_seen seen as') next l (listed-alternatives (suc n) seen with_clauses_of as' listed_now);
           decides = λ ts. (
-            ap (list_any (is_false_clause ts)) (clauses-alternatives with_clauses_of as')
-            ∙ with_instance_false ts k.taken.clauses (l ∷ []) as'
-            ∙ ap₂ (λ a b. a || b) (ap (list_any (is_false_clause ts)) k.clauses ∙ c.decides ts) (tautology-falsified ts l x)
-            ∙ or-false (falsifies ts start table.atoms table.instances.items)
-            ∙ ap₂ (falsifies ts start) (sym same.atoms) (sym same.instances));
+              ap (list_any (is_false_clause ts)) (clauses-alternatives with_clauses_of as')
+              ∙ with_instance_false ts k.taken.clauses (l ∷ []) as'
+              ∙ ap₂ (λ a b. a || b) (ap (list_any (is_false_clause ts)) k.clauses ∙ c.decides ts) (tautology-falsified ts l x)
+              ∙ or-false (falsifies ts start table.atoms table.instances.items)
+              ∙ ap₂ (falsifies ts start) (sym same.atoms) (sym same.instances));
           searched = added-searched seen (flat_map (λ (a : List Literal). a) as') c.searched (rule-searched l as' rule own);
           typed = λ scope b. (let t = c.typed scope b in seen-typed scope seen as' t (rule-typed scope l as' rule (literal_at scope seen n l g t)));
           of_start = come-same new same;
@@ -278,9 +276,9 @@ pair_proved start limit i j h p = record {
   state = started start;
   comes_to = refl;
   unsatisfiable = λ ts. has_false ts (started start).clauses (
-    ap (λ ls. list_any (is_false_clause ts) (map (λ (l : Literal). l ∷ []) ls)) (filter-searched start h)
-    ∙ falsifies-start ts start
-    ∙ ap (λ b. not b || false) (pair_false ts start (closed_by_pair start i j p)));
+      ap (λ ls. list_any (is_false_clause ts) (map (λ (l : Literal). l ∷ []) ls)) (filter-searched start h)
+      ∙ falsifies-start ts start
+      ∙ ap (λ b. not b || false) (pair_false ts start (closed_by_pair start i j p)));
 }
 
 -- the search at its start

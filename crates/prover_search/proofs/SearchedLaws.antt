@@ -1,15 +1,15 @@
 -- What rules do with literals that the search takes, and with typed ones.
-use Rattle.std.proofs.Common.{◌≡◌, ℕ, zero, suc, ◌≤◌, ◌&&◌, nat_le, max, Bool, true, false, List, [], ◌∷◌, ◌++◌, filter, refl, sym, ap, ap₂, subst, ◌∙◌, cond, if◌then◌else◌, arith, Some, Contains, ⊎_elim}
+use Rattle.std.proofs.Common.{◌≡◌, ℕ, ◌≤◌, ◌&&◌, nat_le, Bool, true, false, List, [], ◌∷◌, ◌++◌, filter, refl, sym, ap, ap₂, subst, ◌∙◌, cond, if◌then◌else◌, arith, Contains, ⊎_elim}
 use Rattle.std.specs.List.{list_all, flat_map}
 use Rattle.std.proofs.lemmas.Bool.Decides.{nat_tests}
-use Rattle.stt_core.specs.SimpleType.{SimpleType, formula, arrow}
-use Rattle.stt_core.specs.Lambda.{Lambda, constant, app, name, falsity, negation, implication, imp, neg}
+use Rattle.stt_core.specs.SimpleType.{formula}
+use Rattle.stt_core.specs.Lambda.{Lambda, constant, app, name, falsity, negation, implication, imp}
 use Rattle.stt_core.specs.Typing.{Scope}
 use Rattle.stt_core.specs.Canonical.{IsCanonical}
-use Rattle.stt_tableau.specs.Literals.{Literal, plus, minus, opposite, literal, is_negated, IsLiteral, IsBranch}
+use Rattle.stt_tableau.specs.Literals.{Literal, opposite, literal, is_negated, IsLiteral, IsBranch}
 use Rattle.stt_tableau.specs.Start.{has, added}
 use Rattle.stt_tableau.proofs.LiteralLaws.{literal_cases, literal-is_literal, opposite-is_literal}
-use Rattle.prover_search.specs.Search.{depth, is_shallow, State, worked, with_instance, with_alternatives}
+use Rattle.prover_search.specs.Search.{depth, is_shallow, State, worked, with_alternatives}
 use Rattle.prover_search.specs.Clauses.{with_clauses, instance_clauses}
 use Rattle.prover_search.specs.Searched.{IsPropositional, IsSearched, AreSearched, AreDifferent}
 use Rattle.prover_search.proofs.BooleanLaws.{none_contained}
@@ -147,11 +147,10 @@ worked-nothing l s n h = go l.positive l.atom h.formula h.unsigned n
 
 different-push : (ls : List Literal) (l : Literal) → AreDifferent ls → (Contains ls l → ⊥) → AreDifferent (ls ++ l ∷ [])
 different-push [] l h n = ((λ c. none_contained l c), tt)
-different-push (k ∷ ls) l h n =
-    (
-      λ c. ⊎_elim h.0 (λ e. n (subst (λ x. Contains (x ∷ ls) l) e (contains-first l ls))) (Contains-push_cases ls l k c),
-      different-push ls l h.1 (λ c. n (contains-later l k ls c)),
-    )
+different-push (k ∷ ls) l h n = (
+  λ c. ⊎_elim h.0 (λ e. n (subst (λ x. Contains (x ∷ ls) l) e (contains-first l ls))) (Contains-push_cases ls l k c),
+  different-push ls l h.1 (λ c. n (contains-later l k ls c)),
+)
 
 pub added-different : (ls ks : List Literal) → AreDifferent ls → AreDifferent (added ls ks)
 added-different ls [] h = h

@@ -1,10 +1,10 @@
 -- What a decision tree says, and what values say that violate no instance.
-use Rattle.std.proofs.Common.{◌≡◌, ℕ, suc, ◌<◌, ◌≤◌, Bool, true, false, List, [], ◌∷◌, ◌++◌, length, length-append, refl, sym, ap, subst, ◌∙◌, append_assoc, append-nil, arith}
+use Rattle.std.proofs.Common.{◌≡◌, ℕ, Bool, true, false, List, [], ◌∷◌, ◌++◌, length, sym, ap, ◌∙◌, append_assoc, append-nil, arith}
 use Rattle.std.specs.List.{list_any}
 use Rattle.stt_tableau.proofs.ListLaws.{contains-get}
 use Rattle.prover_search.specs.declared.table.Instance.{Instance}
 use Rattle.prover_search.specs.Values.{is_violated}
-use Rattle.prover_search.specs.Splitting.{Tree, leaf, cut, IsViolatedAt, Closes, StaysOpen}
+use Rattle.prover_search.specs.Splitting.{Tree, leaf, cut, Closes, StaysOpen}
 use Rattle.prover_search.proofs.BooleanLaws.{one_any}
 use Rattle.prover_search.proofs.ValueLaws.{violated-append}
 

@@ -1,5 +1,5 @@
 -- One command of the search: what is seen and what waits after it.
-use Rattle.std.proofs.Common.{◌≡◌, ℕ, zero, suc, ◌+◌, ◌<◌, ◌≤◌, ◌==◌, ◌&&◌, ◌||◌, nat_lt, Bool, true, false, not, List, [], ◌∷◌, ◌++◌, map, filter, length, drop, slice_get, Some, refl, sym, ap, ap₂, subst, ◌∙◌, cond, if◌then◌else◌, eq-eqb, arith, add-one, length-append, length-drop}
+use Rattle.std.proofs.Common.{◌≡◌, ℕ, suc, ◌+◌, ◌<◌, ◌≤◌, ◌==◌, ◌&&◌, ◌||◌, nat_lt, Bool, true, false, not, List, [], ◌∷◌, ◌++◌, map, filter, length, drop, slice_get, Some, refl, sym, ap, ap₂, subst, ◌∙◌, cond, if◌then◌else◌, eq-eqb, arith, add-one, length-append, length-drop}
 use Rattle.std.specs.List.{flat_map}
 use Rattle.std.proofs.lemmas.Bool.Decides.{nat_tests}
 use Rattle.stt_core.proofs.ListLaws.{drop_got}

@@ -1,5 +1,5 @@
 -- Values of the atoms, and those that an assignment gives them.
-use Rattle.std.proofs.Common.{take, ◌+◌, ◌≡◌, ℕ, zero, suc, ◌<◌, ◌≤◌, ◌&&◌, ◌||◌, Bool, true, false, not, List, [], ◌∷◌, ◌++◌, map, length, slice_get, Option, Some, None, option_map, refl, sym, ap, ap₂, subst, ◌∙◌, if◌then◌else◌, append_assoc, arith}
+use Rattle.std.proofs.Common.{take, ◌+◌, ◌≡◌, ℕ, zero, suc, ◌&&◌, ◌||◌, Bool, true, false, not, List, [], ◌∷◌, ◌++◌, map, length, slice_get, Option, Some, None, refl, sym, ap, ap₂, ◌∙◌, if◌then◌else◌, append_assoc, arith}
 use Rattle.std.specs.List.{list_any, list_all}
 use Rattle.std.proofs.lemmas.List.Folds.{list_any-append}
 use Rattle.std.proofs.Math.Seq.{take-append_seam}
@@ -7,7 +7,7 @@ use Rattle.stt_core.specs.Lambda.{Lambda}
 use Rattle.stt_core.specs.SameTerm.{same_term}
 use Rattle.stt_core.proofs.SameTerms.{same_term-refl, same_term-true}
 use Rattle.stt_core.proofs.ListLaws.{take_got, map-append}
-use Rattle.stt_tableau.specs.Literals.{Literal, plus, opposite}
+use Rattle.stt_tableau.specs.Literals.{Literal}
 use Rattle.stt_tableau.specs.Start.{same_sign}
 use Rattle.sat_base.specs.declared.literal.Var.{Var}
 use Rattle.sat_base.specs.declared.literal.SatLit.{SatLit}
@@ -15,9 +15,9 @@ use Rattle.prover_search.specs.declared.table.Instance.{Instance}
 use Rattle.prover_search.specs.declared.table.Instance.TheVariants.{False, ImpPos, ImpNeg}
 use Rattle.prover_search.specs.Clauses.{holds}
 use Rattle.prover_search.specs.Values.{is_value, has_value, is_false, is_violated}
-use Rattle.prover_search.specs.Table.{signed, numbered, NoneHasAtom, AreDistinct, IsMade, AreOfRules}
-use Rattle.prover_search.proofs.BooleanLaws.{or-false, one_any}
-use Rattle.prover_search.proofs.NumberLaws.{slice_get-append, StandsAt, stands_at}
+use Rattle.prover_search.specs.Table.{numbered, NoneHasAtom, AreDistinct, IsMade}
+use Rattle.prover_search.proofs.BooleanLaws.{or-false}
+use Rattle.prover_search.proofs.NumberLaws.{slice_get-append, stands_at}
 use Rattle.prover_search.specs.Decided.{is_falsified, values_in}
 use Rattle.prover_search.specs.Steps.{signs}
 
@@ -153,12 +153,11 @@ none_true (k ∷ atoms) (false ∷ values) l h = none_true atoms values l h.1
 
 outside-push : (extra : List Lambda) (l : Literal) (atoms : List Literal) → Outside extra atoms → NoneHasAtom atoms l → Outside (extra ++ l.atom ∷ []) atoms
 outside-push extra l [] h n = tt
-outside-push extra l (k ∷ atoms) h n =
-    (
-      list_any-append (same_term k.atom) extra (l.atom ∷ [])
+outside-push extra l (k ∷ atoms) h n = (
+  list_any-append (same_term k.atom) extra (l.atom ∷ [])
       ∙ or_neither (list_any (same_term k.atom) extra) _ h.0 (or-false (same_term k.atom l.atom) ∙ other_term k.atom l.atom n.0),
-      outside-push extra l atoms h.1 n.1,
-    )
+  outside-push extra l atoms h.1 n.1,
+)
 
 values_back : (extra : List Lambda) (atoms : List Literal) (values : List Bool) → Outside extra atoms → AreDistinct atoms → length values ≡ length atoms → values_in (extra ++ true_atoms atoms values) atoms ≡ values
 values_back extra [] [] o d e = refl

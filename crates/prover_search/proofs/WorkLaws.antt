@@ -1,6 +1,6 @@
 -- What is processed, by the work that a literal asks for.
 use Rattle.std.proofs.Common.{◌≡◌, ℕ, true, false, List, [], ◌∷◌, Some, slice_get, refl, sym, ap, subst, ◌∙◌}
-use Rattle.stt_core.specs.Lambda.{constant, falsity, imp}
+use Rattle.stt_core.specs.Lambda.{imp}
 use Rattle.stt_tableau.specs.Literals.{Literal, plus, minus, opposite, literal}
 use Rattle.prover_search.specs.declared.work.Work.{Work}
 use Rattle.prover_search.specs.declared.work.Work.TheVariants.{Nothing, False, ImpPos, ImpNeg}

@@ -1,9 +1,8 @@
 -- The numbers of atoms, and instances of rules over them.
-use Rattle.std.specs.Prelude.{◌≡◌, ℕ, Bool, true, false, List, [], ◌∷◌, ◌++◌, Option, Some, None, option_map, slice_get}
+use Rattle.std.specs.Prelude.{◌≡◌, ℕ, Bool, true, false, List, [], ◌∷◌, ◌++◌, Option, Some, option_map, slice_get}
 use Rattle.stt_core.specs.Lambda.{Lambda, constant, falsity, imp}
 use Rattle.stt_core.specs.Typing.{Scope}
 use Rattle.stt_tableau.specs.Literals.{Literal, plus, minus, opposite, literal, IsLiteral, IsBranch}
-use Rattle.sat_base.specs.declared.literal.Var.{Var}
 use Rattle.sat_base.specs.declared.literal.SatLit.{SatLit}
 use Rattle.prover_search.specs.declared.table.Instance.{Instance}
 use Rattle.prover_search.specs.declared.table.Instance.TheVariants.{False, ImpPos, ImpNeg}

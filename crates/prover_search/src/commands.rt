@@ -85,13 +85,7 @@ fn search(alloc: Global, start: Lits) -> Result<Ended, AllocError>
         if commands as usize >= seen.len() {
             return Ok(Ended::GaveUp { commands });
         }
-        if let Some(tree) = step(
-            alloc,
-            &mut seen,
-            &mut table,
-            &mut values,
-            commands as usize,
-        )? {
+        if let Some(tree) = step(alloc, &mut seen, &mut table, &mut values, commands as usize)? {
             let refutation = tree_refutation(alloc, &table, &mut values, &tree)?;
             return Ok(Ended::Proved {
                 commands: commands + 1,

@@ -59,8 +59,5 @@ pub(crate) fn decide(
         return Ok(None);
     };
     values.truncate(own);
-    Ok(Some(Split::Cut(
-        Box::new(alloc, held)?,
-        Box::new(alloc, failed)?,
-    )))
+    Ok(Some(Split::Cut(Box::new(alloc, held)?, Box::new(alloc, failed)?)))
 }

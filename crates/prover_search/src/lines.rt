@@ -132,7 +132,13 @@ fn push_tree(
             let second = push_tree(alloc, table, values, failed, lines)?;
             values.truncate(count);
             let number = lines.len();
-            push_cut(alloc, &table.atoms, values.as_slice(), (first, second), lines)?;
+            push_cut(
+                alloc,
+                &table.atoms,
+                values.as_slice(),
+                (first, second),
+                lines,
+            )?;
             Ok(number)
         }
     }

@@ -15,7 +15,9 @@ use stt_tableau::{Lit, Lits};
 #[derive(Clone, Copy, Debug, PartialEq, Eq)]
 pub(crate) enum Instance {
     /// A positive falsity, with no alternative.
-    False { principal: Var },
+    False {
+        principal: Var,
+    },
     /// A positive implication, with an alternative for each of the two literals.
     ImpPos {
         principal: Var,
@@ -65,7 +67,9 @@ pub(crate) fn is_violated(values: &[bool], instance: Instance) -> bool
             first,
             second,
         } => {
-            has_value(values, principal, true) && is_false(values, first) && is_false(values, second)
+            has_value(values, principal, true)
+                && is_false(values, first)
+                && is_false(values, second)
         }
         Instance::ImpNeg {
             principal,

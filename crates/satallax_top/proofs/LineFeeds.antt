@@ -1,6 +1,6 @@
 -- The lines of a refutation's text have no line feed in them, and none of them begins like an end line.
-use Rattle.std.proofs.Common.{◌≡◌, ℕ, zero, suc, ◌+◌, ◌<◌, ◌/◌, ◌%◌, ◌||◌, ◌&&◌, ◌==◌, nat_lt, Bool, true, false, List, [], ◌∷◌, ◌++◌, map, slice_get, unwrap_or, codes, decimal, refl, ap, ap₂, ◌∙◌, if◌then◌else◌, arith}
-use Rattle.std.specs.List.{list_all, list_any, flat_map}
+use Rattle.std.proofs.Common.{◌≡◌, ℕ, zero, suc, ◌+◌, ◌/◌, ◌%◌, ◌||◌, ◌&&◌, ◌==◌, nat_lt, Bool, true, false, List, [], ◌∷◌, ◌++◌, map, codes, decimal, refl, ap, ap₂, ◌∙◌, if◌then◌else◌, arith}
+use Rattle.std.specs.List.{list_all, list_any}
 use Rattle.std.specs.Fmt.{digits, digits_onto, digit_glyph}
 use Rattle.std.proofs.lemmas.Bool.{and_parts, eqb-true}
 use Rattle.std.proofs.lemmas.Bool.Decides.{nat_tests}
@@ -15,11 +15,11 @@ use Rattle.stt_tableau.specs.declared.refutation.Child.{Child}
 use Rattle.stt_tableau.specs.declared.refutation.Child.TheVariants.{Closed, Line as Numbered}
 use Rattle.stt_tableau.specs.declared.refutation.Line.{Line}
 use Rattle.stt_tableau.specs.declared.refutation.Refutation.{Refutation}
-use Rattle.refute_text.specs.Letters.{is_word_byte, is_plain, escaped, quoted, name_text}
+use Rattle.refute_text.specs.Letters.{is_word_byte, is_plain, quoted, name_text}
 use Rattle.refute_text.specs.Trees.{OnePlace, TwoPlaces}
 use Rattle.refute_text.specs.Trees as tree
-use Rattle.refute_text.specs.Text.{type_text, constant_text, term_text, spine_text, sign_text, literal_text, after_commas, separated, child_text, one_place_name, two_places_name, rule_text, row_text, branch_text, children_text, line_text, row_texts, line_texts, text_lines}
-use Rattle.refute_text.specs.Named.{Names, names_of, name_at, named_type, named_constant, named_term, named_literal, named_rule, named_line, named_refutation}
+use Rattle.refute_text.specs.Text.{type_text, constant_text, term_text, spine_text, sign_text, literal_text, after_commas, child_text, one_place_name, two_places_name, rule_text, row_text, branch_text, children_text, line_text, row_texts, line_texts, text_lines}
+use Rattle.refute_text.specs.Named.{names_of, name_at, named_type, named_constant, named_term, named_literal, named_rule, named_line, named_refutation}
 use Rattle.satallax_top.specs.Block.{has_line_feed, end_mark, begins_with}
 use Rattle.satallax_top.specs.PlainNames.{ArePlain}
 
@@ -115,7 +115,6 @@ name_no_feed (c ∷ cs) zero h = plain_no_feed c.name h.0
 name_no_feed (c ∷ cs) (suc k) h = name_no_feed cs k h.1
 
 module _ (cs : List TypedName) (plain : ArePlain cs) where
-
   type_no_feed : (a : SimpleType) → has_line_feed (type_text (named_type (names_of [] cs) a)) ≡ false
   type_no_feed (base zero) = refl
   type_no_feed (base (suc zero)) = refl
@@ -147,10 +146,9 @@ module _ (cs : List TypedName) (plain : ArePlain cs) where
   clean (lam a s) = let h = clean s in (binder_no_feed a s h.0, binder_no_feed a s h.0)
   clean (app s u) =
       let h = clean s in
-      let k = clean u in
-      (
+      let k = clean u in (
         no_feed-append (spine_text (named_term (names_of [] cs) s)) (codes " " ++ (term_text (named_term (names_of [] cs) u) ++ codes ")")) h.1
-        (no_feed-append (term_text (named_term (names_of [] cs) u)) (codes ")") k.0 refl),
+            (no_feed-append (term_text (named_term (names_of [] cs) u)) (codes ")") k.0 refl),
         no_feed-append (spine_text (named_term (names_of [] cs) s)) (codes " " ++ term_text (named_term (names_of [] cs) u)) h.1 k.0,
       )
 

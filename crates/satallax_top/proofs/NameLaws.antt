@@ -1,5 +1,5 @@
 -- What is typed has names.
-use Rattle.std.proofs.Common.{◌≡◌, ℕ, zero, suc, ◌<◌, true, List, [], ◌∷◌, ◌++◌, map, length, slice_get, Some, IsTrue, refl, sym, ap, subst, ◌∙◌, arith}
+use Rattle.std.proofs.Common.{◌≡◌, ◌<◌, true, List, [], ◌∷◌, ◌++◌, length, Some, IsTrue, subst}
 use Rattle.std.proofs.lemmas.Option.{slice_get_within}
 use Rattle.stt_core.specs.SimpleType.{SimpleType, base, arrow, predicate, formula, is_declared}
 use Rattle.stt_core.specs.Lambda.{Constant, name, witness, falsity, negation, implication, all, equality, choice, Lambda, bound, constant, lam, app}
@@ -77,11 +77,10 @@ module _ (names : Names) (scope : Scope) (n : NamesAll names scope) where
 
 rows_named : (names : Names) (scope : Scope) (n : NamesAll names scope) (earlier rows : List Row) → IsTableAfter scope earlier rows → RowsHaveNames names rows
 rows_named names scope n earlier [] h = tt
-rows_named names scope n earlier (r ∷ rows) h =
-    (
-      canonical_named names (with_rows scope earlier) (record { bases = n.bases; constants = n.constants }) [] (predicate r.type) r.predicate h.0,
-      rows_named names scope n (earlier ++ r ∷ []) rows h.2,
-    )
+rows_named names scope n earlier (r ∷ rows) h = (
+  canonical_named names (with_rows scope earlier) (record { bases = n.bases; constants = n.constants }) [] (predicate r.type) r.predicate h.0,
+  rows_named names scope n (earlier ++ r ∷ []) rows h.2,
+)
 
 -- every name of an accepted refutation is declared
 pub accepted_named : (names : Names) (scope : Scope) → NamesAll names scope → (start : List Literal) (r : Refutation) → IsAccepted scope start r → IsNamed names r

@@ -17,7 +17,7 @@ use Rattle.satallax_top.specs.Solved.{IsProvedFor}
 use Rattle.satallax_top.specs.declared.outcome.Outcome.{Outcome}
 use Rattle.satallax_top.specs.declared.outcome.Outcome.TheVariants.{Theorem, Unsatisfiable, GaveUp, CommandLimit, Words, TooLong, NotYetAt, ReadFault, WriteFault, Memory}
 use Rattle.satallax_top.proofs.LineFeeds.{no_line_feeds-lines, no_end_mark-lines}
-use Rattle.satallax_top.proofs.NameLaws.{NamesAll, accepted_named}
+use Rattle.satallax_top.proofs.NameLaws.{accepted_named}
 
 same_length : (cs : List TypedName) → length (map (λ c. c.type) cs) ≡ length (map (λ c. c.name) cs)
 same_length [] = refl

@@ -1,7 +1,6 @@
 -- The literals of the start.
-use Rattle.std.proofs.Common.{◌≡◌, ℕ, zero, suc, ◌+◌, Bool, true, false, List, [], ◌∷◌, ◌++◌, map, take, slice_get, length, option_map, Some, Contains, refl, sym, ap, subst, ◌∙◌, if◌then◌else◌}
+use Rattle.std.proofs.Common.{◌≡◌, ℕ, zero, suc, ◌+◌, List, [], ◌∷◌, ◌++◌, map, take, slice_get, length, option_map, Some, sym, ap, subst, ◌∙◌}
 use Rattle.stt_core.specs.Lambda.{Lambda}
-use Rattle.stt_core.proofs.SameTerms.{same_term-refl}
 use Rattle.stt_core.proofs.ListLaws.{take_got, map-append}
 use Rattle.stt_core.specs.Typing.{Scope}
 use Rattle.stt_core.specs.ScopeView.{the_scope}
@@ -10,9 +9,8 @@ use Rattle.satallax_top.specs.Propositional.{IsFormula, AreFormulas}
 use Rattle.satallax_top.specs.NormalQuestion.{normal_in, normal_question}
 use Rattle.satallax_top.specs.StatedView.{stated}
 use Rattle.stt_tableau.specs.Literals.{Literal, opposite, literal}
-use Rattle.stt_tableau.specs.Start.{same_literal, has, added, without_repeats, denied, start}
+use Rattle.stt_tableau.specs.Start.{added, without_repeats, denied, start}
 use Rattle.satallax_top.specs.Reading.{Stated, question_of}
-use Rattle.stt_tableau.proofs.ListLaws.{contains-first, contains-later, contains_cases}
 use Rattle.prover_search.proofs.ClauseLaws.{added-append}
 
 -- the literal of one formula more, in normal form

@@ -1,10 +1,10 @@
 -- What is run, and the formulas of the first path.
-use Rattle.std.specs.Prelude.{◌≡◌, true, false, List, [], ◌∷◌, Option, Some, None}
+use Rattle.std.specs.Prelude.{◌≡◌, List, [], ◌∷◌, Option, Some, None}
 use Rattle.stt_core.specs.SimpleType.{formula}
-use Rattle.stt_core.specs.Lambda.{Lambda, constant, app, name, falsity, negation, implication}
+use Rattle.stt_core.specs.Lambda.{Lambda}
 use Rattle.stt_core.specs.Typing.{Scope, type_of, IsScope}
 use Rattle.stt_core.specs.Meets.{Question}
-use Rattle.stt_tableau.specs.Literals.{Literal, is_negated, IsBranch}
+use Rattle.stt_tableau.specs.Literals.{IsBranch}
 use Rattle.stt_tableau.specs.Start.{start}
 use Rattle.satallax_top.specs.Reading.{Stated, question_of}
 use Rattle.satallax_top.specs.PlainNames.{ArePlain}

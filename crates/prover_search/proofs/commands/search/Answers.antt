@@ -30,8 +30,7 @@ pub returns-in-Some : goal.returns-in-Some
 returns-in-Some c =
     let n = c.loop-commands.commands in
     let h = c.in_ok-tree.ensures c.args.start MAX_COMMANDS (λ e. absurd (omega (arith, e, c.loop-commands-test.true))) c.loop-commands.invariant in
-    let g = subst (λ o. GoesOnBy o c.args.start MAX_COMMANDS n c.step.new.seen c.step.new.table c.step.new.values.items) c.in-Some.is h in
-    (
+    let g = subst (λ o. GoesOnBy o c.args.start MAX_COMMANDS n c.step.new.seen c.step.new.table c.step.new.values.items) c.in-Some.is h in (
       subst (IsProved c.args.start MAX_COMMANDS) (sym (add-one n)) g.proved,
       subst (Refutes c.args.start) (sym c.in_ok-refutation.ensures) (closed_refutes c.in-Some.tree c.args.start MAX_COMMANDS (suc n) c.step.new.table c.step.new.values.items g),
     )

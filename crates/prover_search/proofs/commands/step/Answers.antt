@@ -1,4 +1,4 @@
-use Rattle.std.proofs.Common.{sym, subst, ap, ◌∙◌, true, false, length, take, arith}
+use Rattle.std.proofs.Common.{subst, ap, ◌∙◌, take}
 use Rattle.prover_search.specs.Steps.{IsProcessed}
 use Rattle.prover_search.proofs.RunLaws.{searching-passed, searching-extended, after_decide_at}
 use Rattle.prover_search.proofs.commands.step.Goals as goal

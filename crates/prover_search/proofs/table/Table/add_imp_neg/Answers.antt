@@ -1,4 +1,3 @@
-use Rattle.std.proofs.Common.{refl}
 use Rattle.prover_search.proofs.NumberLaws.{all_interned, imp_neg_added}
 use Rattle.prover_search.proofs.table.Table.add_imp_neg.Goals as goal
 

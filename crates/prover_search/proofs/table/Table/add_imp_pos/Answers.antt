@@ -1,4 +1,3 @@
-use Rattle.std.proofs.Common.{refl}
 use Rattle.prover_search.proofs.NumberLaws.{all_interned, imp_pos_added}
 use Rattle.prover_search.proofs.table.Table.add_imp_pos.Goals as goal
 
