@@ -101,96 +101,97 @@ fn check(rt: &impl Abort, alloc: Global, rows: &[Row]) -> Result<(), AllocError>
     Ok(())
 }
 
+const CHAINS: &[Row] = &[
+    // The clause so far gives the variable, and its literals come first.
+    Row {
+        clauses: &[&[P, Q], &[NOT_P, R]],
+        first: 0,
+        steps: &[(0, 1)],
+        outcome: &[Q, R],
+    },
+    Row {
+        clauses: &[&[Q, P, S], &[R, NOT_P, Q]],
+        first: 0,
+        steps: &[(0, 1)],
+        outcome: &[Q, S, R],
+    },
+    // It gives the negation, and the literals of the other clause come first.
+    Row {
+        clauses: &[&[NOT_P, Q], &[P, R]],
+        first: 0,
+        steps: &[(0, 1)],
+        outcome: &[R, Q],
+    },
+    Row {
+        clauses: &[&[NOT_P, Q, S], &[P, S, R]],
+        first: 0,
+        steps: &[(0, 1)],
+        outcome: &[S, R, Q],
+    },
+    // Nothing is left, or a literal and its negation.
+    Row {
+        clauses: &[&[P], &[NOT_P]],
+        first: 0,
+        steps: &[(0, 1)],
+        outcome: &[],
+    },
+    Row {
+        clauses: &[&[P, Q], &[NOT_P, NOT_Q]],
+        first: 0,
+        steps: &[(0, 1)],
+        outcome: &[Q, NOT_Q],
+    },
+    // A literal stands in a clause more than once.
+    Row {
+        clauses: &[&[P, Q, P, Q], &[NOT_P, R]],
+        first: 0,
+        steps: &[(0, 1)],
+        outcome: &[Q, R],
+    },
+    // The variable stands twice in one clause, and in both.
+    Row {
+        clauses: &[&[P, NOT_P, Q], &[NOT_P, R]],
+        first: 0,
+        steps: &[(0, 1)],
+        outcome: &[NOT_P, Q, R],
+    },
+    Row {
+        clauses: &[&[NOT_P, Q], &[P, NOT_P, R]],
+        first: 0,
+        steps: &[(0, 1)],
+        outcome: &[NOT_P, R, Q],
+    },
+    Row {
+        clauses: &[&[P, NOT_P, Q], &[P, NOT_P, R]],
+        first: 0,
+        steps: &[(0, 1)],
+        outcome: &[NOT_P, Q, P, R],
+    },
+    // A chain without steps is its first premise as it is.
+    Row {
+        clauses: &[&[P], &[Q, P, Q]],
+        first: 1,
+        steps: &[],
+        outcome: &[Q, P, Q],
+    },
+    // Two steps, and two that end in the empty clause.
+    Row {
+        clauses: &[&[P], &[NOT_P, Q], &[NOT_Q, R, S]],
+        first: 2,
+        steps: &[(1, 1), (0, 0)],
+        outcome: &[R, S],
+    },
+    Row {
+        clauses: &[&[P], &[NOT_P, Q], &[NOT_Q]],
+        first: 2,
+        steps: &[(1, 1), (0, 0)],
+        outcome: &[],
+    },
+];
+
 #[test]
 fn chains(rt: HostRuntime) -> Result<(), Fail> {
-    let rows = [
-        // The clause so far gives the variable, and its literals come first.
-        Row {
-            clauses: &[&[P, Q], &[NOT_P, R]],
-            first: 0,
-            steps: &[(0, 1)],
-            outcome: &[Q, R],
-        },
-        Row {
-            clauses: &[&[Q, P, S], &[R, NOT_P, Q]],
-            first: 0,
-            steps: &[(0, 1)],
-            outcome: &[Q, S, R],
-        },
-        // It gives the negation, and the literals of the other clause come first.
-        Row {
-            clauses: &[&[NOT_P, Q], &[P, R]],
-            first: 0,
-            steps: &[(0, 1)],
-            outcome: &[R, Q],
-        },
-        Row {
-            clauses: &[&[NOT_P, Q, S], &[P, S, R]],
-            first: 0,
-            steps: &[(0, 1)],
-            outcome: &[S, R, Q],
-        },
-        // Nothing is left, or a literal and its negation.
-        Row {
-            clauses: &[&[P], &[NOT_P]],
-            first: 0,
-            steps: &[(0, 1)],
-            outcome: &[],
-        },
-        Row {
-            clauses: &[&[P, Q], &[NOT_P, NOT_Q]],
-            first: 0,
-            steps: &[(0, 1)],
-            outcome: &[Q, NOT_Q],
-        },
-        // A literal stands in a clause more than once.
-        Row {
-            clauses: &[&[P, Q, P, Q], &[NOT_P, R]],
-            first: 0,
-            steps: &[(0, 1)],
-            outcome: &[Q, R],
-        },
-        // The variable stands twice in one clause, and in both.
-        Row {
-            clauses: &[&[P, NOT_P, Q], &[NOT_P, R]],
-            first: 0,
-            steps: &[(0, 1)],
-            outcome: &[NOT_P, Q, R],
-        },
-        Row {
-            clauses: &[&[NOT_P, Q], &[P, NOT_P, R]],
-            first: 0,
-            steps: &[(0, 1)],
-            outcome: &[NOT_P, R, Q],
-        },
-        Row {
-            clauses: &[&[P, NOT_P, Q], &[P, NOT_P, R]],
-            first: 0,
-            steps: &[(0, 1)],
-            outcome: &[NOT_P, Q, P, R],
-        },
-        // A chain without steps is its first premise as it is.
-        Row {
-            clauses: &[&[P], &[Q, P, Q]],
-            first: 1,
-            steps: &[],
-            outcome: &[Q, P, Q],
-        },
-        // Two steps, and two that end in the empty clause.
-        Row {
-            clauses: &[&[P], &[NOT_P, Q], &[NOT_Q, R, S]],
-            first: 2,
-            steps: &[(1, 1), (0, 0)],
-            outcome: &[R, S],
-        },
-        Row {
-            clauses: &[&[P], &[NOT_P, Q], &[NOT_Q]],
-            first: 2,
-            steps: &[(1, 1), (0, 0)],
-            outcome: &[],
-        },
-    ];
-    check(&rt, rt.alloc(), &rows)?;
+    check(&rt, rt.alloc(), CHAINS)?;
     Ok(())
 }
 
