@@ -40,9 +40,9 @@ pub record ProvedAnswer (words : List (List ℕ)) (told : Bool) (contents : List
 
 pub proved_answer : (words : List (List ℕ)) (told : Bool) (contents : List ℕ → Option (List ℕ)) (o : Outcome) (n : ℕ) (text : List ℕ) → IsProvedOutcome o → IsAnswer words told contents o n text → ProvedAnswer words told contents n text
 proved_answer words told contents Theorem n text p a =
-    record { name = a.name; named = a.named; bytes = a.bytes; told_bytes = a.told_bytes; stated = a.holds.stated; states = a.holds.states; proof = a.holds.solved.1 }
+    record { name = a.name; named = a.named; bytes = a.bytes; told_bytes = a.told_bytes; stated = a.holds.1.stated; states = a.holds.1.states; proof = a.holds.1.solved.1 }
 proved_answer words told contents Unsatisfiable n text p a =
-    record { name = a.name; named = a.named; bytes = a.bytes; told_bytes = a.told_bytes; stated = a.holds.stated; states = a.holds.states; proof = a.holds.solved.1 }
+    record { name = a.name; named = a.named; bytes = a.bytes; told_bytes = a.told_bytes; stated = a.holds.1.stated; states = a.holds.1.states; proof = a.holds.1.solved.1 }
 proved_answer words told contents GaveUp n text p a = absurd p
 proved_answer words told contents (CommandLimit m) n text p a = absurd p
 proved_answer words told contents Words n text p a = absurd p

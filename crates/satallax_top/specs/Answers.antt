@@ -1,5 +1,5 @@
 -- What a call answers.
-use Rattle.std.specs.Prelude.{◌≡◌, ◌<◌, ℕ, Bool, false, IsTrue, List, length, Option, Some, None, is_some, is_none}
+use Rattle.std.specs.Prelude.{◌≡◌, ◌<◌, ◌≤◌, ℕ, Bool, false, IsTrue, List, length, Option, Some, None, is_some, is_none}
 use Rattle.std.specs.List.{list_any}
 use Rattle.stt_tableau.specs.Accepted.{IsAccepted}
 use Rattle.stt_tableau.specs.Start.{start}
@@ -56,6 +56,10 @@ IsSolved bytes (NotYetAt at) n text = StatesNothing MAX_DEPTH bytes
 IsSolved bytes Memory n text = Unit {0}
 IsSolved bytes outcome n text = IsRun bytes outcome n text
 
+-- the bytes aren't too many, and are answered so
+abbrev pub IsSolvedFile : List ℕ → Outcome → ℕ → List ℕ → Type 0
+IsSolvedFile bytes outcome n text = (length bytes ≤ max_bytes) × IsSolved bytes outcome n text
+
 -- The problem's file, whose name is the word, has bytes with this property. They are those that the files tell, where they tell them.
 pub record OfFile (words : List (List ℕ)) (told : Bool) (contents : List ℕ → Option (List ℕ)) (P : List ℕ → Type 0) : Type 0 where
   pub name : List ℕ
@@ -66,11 +70,11 @@ pub record OfFile (words : List (List ℕ)) (told : Bool) (contents : List ℕ �
 
 -- What a call answers with these words and contents: an outcome, a number of commands, and the text of a refutation.
 abbrev pub IsAnswer : List (List ℕ) → Bool → (List ℕ → Option (List ℕ)) → Outcome → ℕ → List ℕ → Type 0
-IsAnswer words told contents Theorem n text = OfFile words told contents (λ bytes. IsSolved bytes Theorem n text)
-IsAnswer words told contents Unsatisfiable n text = OfFile words told contents (λ bytes. IsSolved bytes Unsatisfiable n text)
-IsAnswer words told contents GaveUp n text = OfFile words told contents (λ bytes. IsSolved bytes GaveUp n text)
-IsAnswer words told contents (CommandLimit m) n text = OfFile words told contents (λ bytes. IsSolved bytes (CommandLimit m) n text)
-IsAnswer words told contents (NotYetAt at) n text = OfFile words told contents (λ bytes. IsSolved bytes (NotYetAt at) n text)
+IsAnswer words told contents Theorem n text = OfFile words told contents (λ bytes. IsSolvedFile bytes Theorem n text)
+IsAnswer words told contents Unsatisfiable n text = OfFile words told contents (λ bytes. IsSolvedFile bytes Unsatisfiable n text)
+IsAnswer words told contents GaveUp n text = OfFile words told contents (λ bytes. IsSolvedFile bytes GaveUp n text)
+IsAnswer words told contents (CommandLimit m) n text = OfFile words told contents (λ bytes. IsSolvedFile bytes (CommandLimit m) n text)
+IsAnswer words told contents (NotYetAt at) n text = OfFile words told contents (λ bytes. IsSolvedFile bytes (NotYetAt at) n text)
 IsAnswer words told contents (TooLong file) n text = (IsTrue (is_some (problem_word words))) × (IsTrue told → OfFile words told contents (λ bytes. max_bytes < length bytes))
 IsAnswer words told contents (ReadFault file) n text = IsTrue (is_some (problem_word words))
 IsAnswer words told contents Memory n text = IsTrue (is_some (problem_word words))
@@ -81,3 +85,13 @@ abbrev pub IsProvedOutcome : Outcome → Type 0
 IsProvedOutcome Theorem = Unit {0}
 IsProvedOutcome Unsatisfiable = Unit {0}
 IsProvedOutcome outcome = ⊥
+
+-- What a call is answered with where the words name a file, its contents are told and nothing fails: the defined outcome, unless memory
+-- runs out.
+abbrev pub IsDefined : List ℕ → Outcome → Type 0
+IsDefined bytes Memory = Unit {0}
+IsDefined bytes (TooLong file) = max_bytes < length bytes
+IsDefined bytes Words = ⊥
+IsDefined bytes (ReadFault file) = ⊥
+IsDefined bytes WriteFault = ⊥
+IsDefined bytes outcome = (n : ℕ) × (text : List ℕ) × IsSolvedFile bytes outcome n text

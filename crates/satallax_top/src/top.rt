@@ -1,8 +1,8 @@
 //! The call that does all that the program does.
 
-ghost use Rattle.std.specs.Prelude.{◌≡◌, ◌≤◌, ◌++◌, List, ℕ, IsTrue, None};
+ghost use Rattle.std.specs.Prelude.{◌≡◌, ◌≤◌, ◌++◌, List, ℕ, IsTrue, Some, None};
 ghost use Rattle.outside.specs.Causes.{Rose};
-ghost use Rattle.satallax_top.specs.Answers.{IsAnswer, IsProvedOutcome};
+ghost use Rattle.satallax_top.specs.Answers.{IsAnswer, IsProvedOutcome, IsDefined};
 ghost use Rattle.satallax_top.specs.Headline.{HasNoModel, IsProofReport, Appends, IsWritten, IsOutcome};
 ghost use Rattle.satallax_top.specs.Words.{problem_word, name_of};
 ghost use Rattle.satallax_top.specs.declared.outcome.FileRef.{FileRef};
@@ -71,6 +71,12 @@ pub fn satallax<F: Files, S: Sink>(
     ensures read { (file : FileRef) → result ≡ Outcome.ReadFault file
         → Rose (F.faults files.old (name_of words.now)) (F.faults files.new (name_of words.now)) }
     ensures write { result ≡ Outcome.WriteFault → Rose (S.faults out.old) (S.faults out.new) }
+
+    // Where the words name a file whose contents are told and no count of faults rises, the outcome is the defined one, or memory ran out.
+    ensures complete { IsTrue (F.tells files.old) → (name : List ℕ) → (bytes : List ℕ)
+        → problem_word words.now ≡ Some name → F.contents files.old name ≡ Some bytes
+        → (Rose (F.faults files.old name) (F.faults files.new name) → ⊥) → (Rose (S.faults out.old) (S.faults out.new) → ⊥)
+        → IsDefined bytes result }
 {
     let answer = answer(alloc, words, files);
     let name = words.name().as_bytes();
