@@ -1,0 +1,7 @@
+//! The parser of THF files.
+#![tactic(auto)]
+
+mod refusal;
+mod terminal;
+mod types;
+mod words;
