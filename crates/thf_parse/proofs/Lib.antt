@@ -1,0 +1,5 @@
+pub mod Locals
+pub mod Finds
+pub mod Goes
+pub mod MarkLaws
+pub mod TypeLaws
