@@ -7,27 +7,12 @@ use Rattle.thf_parse.specs.declared.terminal.Terminal.TheVariants as terminal
 use Rattle.thf_parse.specs.Terminals.{same_mark}
 use Rattle.thf_parse.specs.Words.{Lexeme, Word, plain, terminal_of, Is}
 use Rattle.thf_parse.specs.Outcome.{Outcome, found, wrong, deep, Reader, ◌>>=◌, first_terminal, behind, is_mark, expect, expect_by}
-use Rattle.thf_parse.proofs.Locals.{IsLocal, local-found, local-wrong, local-behind, local-bind, local-terminal}
+use Rattle.thf_parse.proofs.Locals.{IsLocal, IsLocalAt, is_proper, at, local-found, local-wrong, local-behind, local-bind, local-terminal}
 use Rattle.thf_parse.proofs.Finds.{word, Reading, Finds, finds-bind, finds-token, Nothing, finds-nothing}
 use Rattle.thf_parse.proofs.Goes.{Goes, goes-bind, goes-token, goes-found}
 
 abbrev unit : Unit {0}
 unit = tt
-
-local-expect_by : (m : Mark) (b : Bool) → IsLocal {A = Unit {0}} (λ ts. if b then found unit (behind ts) else wrong ts)
-local-expect_by m true = local-behind (λ ts. found unit ts) (local-found unit)
-local-expect_by m false = local-wrong
-
-pub local-expect : (m : Mark) → IsLocal {A = Unit {0}} (λ ts. expect m ts)
-unfolding expect
-local-expect m = local-terminal (λ x ts. expect_by m x ts) (λ x. local-expect_by m (is_mark m x))
-
-pub local-past : {A : Type 0} (m : Mark) (f : Reader A) → IsLocal f → IsLocal (λ ts. expect m ts >>= λ _ after. f after)
-local-past m f l = local-bind (expect m) (λ _ after. f after) (local-expect m) (λ _. l)
-
--- something before a mark
-pub local-closed : {A : Type 0} (m : Mark) (r : Reader A) → IsLocal r → IsLocal (λ ts. r ts >>= λ x mid. expect m mid >>= λ _ after. found x after)
-local-closed m r l = local-bind r (λ x mid. expect m mid >>= λ _ after. found x after) l (λ x. local-past m (λ after. found x after) (local-found x))
 
 pub same_mark-is : (m n : Mark) → same_mark m n ≡ true → n ≡ m
 same_mark-is mark.Open mark.Open h = refl
@@ -55,6 +40,21 @@ same_mark-self mark.At = refl
 pub is_mark-is : (m : Mark) (x : Terminal) → is_mark m x ≡ true → x ≡ terminal.Mark m
 is_mark-is m (terminal.Mark n) h = ap (λ k. terminal.Mark k) (same_mark-is m n h)
 is_mark-is m _ h = cc
+
+local-expect_by : (m : Mark) (x : Terminal) (b : Bool) → is_mark m x ≡ b → IsLocalAt {A = Unit {0}} x (λ ts. if b then found unit (behind ts) else wrong ts)
+local-expect_by m x true e = local-behind x (λ ts. found unit ts) (ap is_proper (is_mark-is m x e)) (local-found unit)
+local-expect_by m x false e = at x (λ ts. wrong ts) local-wrong
+
+pub local-expect : (m : Mark) → IsLocal {A = Unit {0}} (λ ts. expect m ts)
+unfolding expect
+local-expect m = local-terminal (λ x ts. expect_by m x ts) (λ x. local-expect_by m x (is_mark m x) refl)
+
+pub local-past : {A : Type 0} (m : Mark) (f : Reader A) → IsLocal f → IsLocal (λ ts. expect m ts >>= λ _ after. f after)
+local-past m f l = local-bind (expect m) (λ _ after. f after) (local-expect m) (λ _. l)
+
+-- something before a mark
+pub local-closed : {A : Type 0} (m : Mark) (r : Reader A) → IsLocal r → IsLocal (λ ts. r ts >>= λ x mid. expect m mid >>= λ _ after. found x after)
+local-closed m r l = local-bind r (λ x mid. expect m mid >>= λ _ after. found x after) l (λ x. local-past m (λ after. found x after) (local-found x))
 
 -- a mark, and then something
 pub finds-past : {A : Type 0} (K M : A → List Word → List Word → Type 0) (m : Mark) (depth : ℕ) (ts : List Lexeme) (f : Reader A) → ((mid : List Lexeme) → Finds K mid (f mid)) → ((x : A) (w : Word) (ws rest : List Word) → Is (terminal.Mark m) depth w → K x ws rest → M x (w ∷ ws) rest) → Finds M ts (expect m ts >>= λ _ after. f after)

@@ -8,50 +8,53 @@ use Rattle.thf_parse.specs.Words.{Lexeme, Word, plain, terminal_of, name_of, Is,
 use Rattle.thf_parse.specs.Types.{IsType, simple_type as simple_is, arrow_type as arrow_is, IsSimpleType, indiv_type as indiv_is, form_type as form_is, named_type as named_is, group_type as group_is}
 use Rattle.thf_parse.specs.Outcome.{Outcome, found, wrong, deep, Reader, ◌>>=◌, first_terminal, first_place, first_name, behind, is_mark, expect, enter}
 use Rattle.thf_parse.specs.Reader.{group_type, named_type, simple_type_by, simple_type, right_type, arrow_by, type_with, inner_type}
-use Rattle.thf_parse.proofs.Locals.{IsLocal, AreLocal, local-found, local-wrong, local-deep, local-behind, local-bind, local-terminal, local-place, local-name, local-enter}
+use Rattle.thf_parse.proofs.Locals.{IsLocal, IsLocalAt, AreLocal, is_proper, at, local-found, local-wrong, local-behind, local-bind, local-terminal, place-at, name-at, enter-at}
 use Rattle.thf_parse.proofs.Finds.{word, Reading, Finds, finds-bind, finds-token, finds-as, finds-nothing, Nothing, FindIn, finds-enter}
 use Rattle.thf_parse.proofs.Goes.{Goes, GoIn, goes-bind, goes-token, goes-found, goes-enter}
 use Rattle.thf_parse.proofs.MarkLaws.{local-closed, Closed, finds-closed, goes-closed}
 
 -- what is read is decided by the tokens up to the first that is left
 
-local-named : IsLocal named_type
-local-named =
-    local-place (λ p ts. found (named p (first_name ts)) (behind ts))
-    (λ p. local-name (λ n ts. found (named p n) (behind ts))
-    (λ n. local-behind (λ ts. found (named p n) ts) (local-found (named p n))))
+named-at : (x : Terminal) → is_proper x ≡ true → IsLocalAt x named_type
+named-at x p =
+    place-at x (λ q ts. found (named q (first_name ts)) (behind ts))
+    (λ q. name-at x (λ n ts. found (named q n) (behind ts))
+    (λ n. local-behind x (λ ts. found (named q n) ts) p (local-found (named q n))))
 
 module _ (inside : Option (Reader TypeTree)) (l : AreLocal IsLocal inside) where
-  local-group : IsLocal (group_type inside)
-  local-group =
-      local-enter IsLocal inside (λ type ts. type (behind ts) >>= λ t rest. expect mark.Close rest >>= λ _ after. found t after) l
-      (λ type k. local-behind (λ ts. type ts >>= λ t rest. expect mark.Close rest >>= λ _ after. found t after) (local-closed mark.Close type k))
+  group-at : IsLocalAt (terminal.Mark mark.Open) (group_type inside)
+  group-at =
+      enter-at (terminal.Mark mark.Open) IsLocal inside (λ type ts. type (behind ts) >>= λ t rest. expect mark.Close rest >>= λ _ after. found t after) l
+      (λ type k. local-behind (terminal.Mark mark.Open) (λ ts. type ts >>= λ t rest. expect mark.Close rest >>= λ _ after. found t after) refl (local-closed mark.Close type k))
 
-  local-simple_by : (x : Terminal) → IsLocal (simple_type_by inside x)
-  local-simple_by terminal.Indiv = local-place (λ p ts. found (indiv p) (behind ts)) (λ p. local-behind (λ ts. found (indiv p) ts) (local-found (indiv p)))
-  local-simple_by terminal.Form = local-place (λ p ts. found (form p) (behind ts)) (λ p. local-behind (λ ts. found (form p) ts) (local-found (form p)))
-  local-simple_by terminal.Lower = local-named
-  local-simple_by terminal.Quoted = local-named
-  local-simple_by (terminal.Mark mark.Open) = local-group
-  local-simple_by _ = local-wrong
+  one-at : (x : Terminal) (f : ℕ → TypeTree) → is_proper x ≡ true → IsLocalAt x (λ ts. found (f (first_place ts)) (behind ts))
+  one-at x f p = place-at x (λ q ts. found (f q) (behind ts)) (λ q. local-behind x (λ ts. found (f q) ts) p (local-found (f q)))
+
+  simple_by-at : (x : Terminal) → IsLocalAt x (simple_type_by inside x)
+  simple_by-at terminal.Indiv = one-at terminal.Indiv indiv refl
+  simple_by-at terminal.Form = one-at terminal.Form form refl
+  simple_by-at terminal.Lower = named-at terminal.Lower refl
+  simple_by-at terminal.Quoted = named-at terminal.Quoted refl
+  simple_by-at (terminal.Mark mark.Open) = group-at
+  simple_by-at _ = at _ (λ ts. wrong ts) local-wrong
 
   local-simple : IsLocal (simple_type inside)
   unfolding simple_type
-  local-simple = local-terminal (simple_type_by inside) local-simple_by
+  local-simple = local-terminal (simple_type_by inside) simple_by-at
 
-  local-right : (t : TypeTree) → IsLocal (right_type inside t)
-  local-right t =
-      local-enter IsLocal inside (λ type ts. type (behind ts) >>= λ u rest. found (arrow (first_place ts) t u) rest) l
-      (λ type k. local-place (λ p ts. type (behind ts) >>= λ u rest. found (arrow p t u) rest)
-      (λ p. local-behind (λ ts. type ts >>= λ u rest. found (arrow p t u) rest) (local-bind type (λ u rest. found (arrow p t u) rest) k (λ u. local-found (arrow p t u)))))
+  right-at : (t : TypeTree) → IsLocalAt (terminal.Mark mark.Arrow) (right_type inside t)
+  right-at t =
+      enter-at (terminal.Mark mark.Arrow) IsLocal inside (λ type ts. type (behind ts) >>= λ u rest. found (arrow (first_place ts) t u) rest) l
+      (λ type k. place-at (terminal.Mark mark.Arrow) (λ p ts. type (behind ts) >>= λ u rest. found (arrow p t u) rest)
+      (λ p. local-behind (terminal.Mark mark.Arrow) (λ ts. type ts >>= λ u rest. found (arrow p t u) rest) refl (local-bind type (λ u rest. found (arrow p t u) rest) k (λ u. local-found (arrow p t u)))))
 
-  local-arrow_by : (t : TypeTree) (x : Terminal) → IsLocal (arrow_by inside t x)
-  local-arrow_by t (terminal.Mark mark.Arrow) = local-right t
-  local-arrow_by t _ = local-found t
+  arrow_by-at : (t : TypeTree) (x : Terminal) → IsLocalAt x (arrow_by inside t x)
+  arrow_by-at t (terminal.Mark mark.Arrow) = right-at t
+  arrow_by-at t _ = at _ (λ ts. found t ts) (local-found t)
 
   pub local-type_with : IsLocal (type_with inside)
   unfolding type_with
-  local-type_with = local-bind (simple_type inside) (λ t rest. arrow_by inside t (first_terminal rest) rest) local-simple (λ t. local-terminal (arrow_by inside t) (local-arrow_by t))
+  local-type_with = local-bind (simple_type inside) (λ t rest. arrow_by inside t (first_terminal rest) rest) local-simple (λ t. local-terminal (arrow_by inside t) (arrow_by-at t))
 
 pub local-inner_type : (room : ℕ) → AreLocal IsLocal (inner_type room)
 unfolding inner_type
