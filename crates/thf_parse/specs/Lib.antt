@@ -1,7 +1,9 @@
 pub mod Terminals
 pub mod Words
 pub mod Types
+pub mod Formulas
 pub mod Outcome
 pub mod Reader
+pub mod FormulaReader
 pub mod Passes
 pub mod Reads

@@ -1,7 +1,9 @@
 //! The parser of THF files.
 #![tactic(auto)]
 
+mod formula;
 mod refusal;
 mod terminal;
 mod types;
+mod variable;
 mod words;
