@@ -3,3 +3,4 @@ pub mod Finds
 pub mod Goes
 pub mod MarkLaws
 pub mod TypeLaws
+pub mod FormulaLocals
