@@ -51,10 +51,11 @@ abbrev pub lone_depth : Conn → ℕ → ℕ
 lone_depth Not d = suc d
 lone_depth _ d = d
 
--- The variables of a binder, inside their brackets. Each is open from then on; the second number is how many things are open behind them.
-pub data AreVars : ℕ → List Word → List VarTree → ℕ → List Word → Type 0 where
-  last_var : (d : ℕ) (ws rest : List Word) (v : VarTree) → IsVar (suc (suc d)) ws v rest → AreVars d ws (v ∷ []) (suc d) rest
-  more_vars : (d e : ℕ) (ws behind rest : List Word) (w : Word) (v : VarTree) (vs : List VarTree) → IsVar (suc (suc d)) ws v (w ∷ behind) → Is (terminal.Mark Comma) (suc (suc d)) w → AreVars (suc d) behind vs e rest → AreVars d ws (v ∷ vs) e rest
+-- The variables of a binder, inside their brackets; more than one only where the binder takes any number. Each is open from then on: the
+-- second number is how many things are open behind them.
+pub data AreVars (b : Binder) : ℕ → List Word → List VarTree → ℕ → List Word → Type 0 where
+  last_var : (d : ℕ) (ws rest : List Word) (v : VarTree) → IsVar (suc (suc d)) ws v rest → AreVars b d ws (v ∷ []) (suc d) rest
+  more_vars : (d e : ℕ) (ws behind rest : List Word) (w : Word) (v : VarTree) (vs : List VarTree) → IsVar (suc (suc d)) ws v (w ∷ behind) → binds_many b ≡ true → Is (terminal.Mark Comma) (suc (suc d)) w → AreVars b (suc d) behind vs e rest → AreVars b d ws (v ∷ vs) e rest
 
 mutual
   pub data IsFormula : ℕ → List Word → FormulaTree → List Word → Type 0 where
@@ -98,5 +99,4 @@ mutual
     operator_primary : (d : ℕ) (w o v : Word) (rest : List Word) (c : Conn) → Is (terminal.Mark Open) (suc d) w → Is (terminal.Conn c) (lone_depth c (suc d)) o → Is (terminal.Mark Close) (suc d) v → IsPrimary d (w ∷ o ∷ v ∷ rest) (operator (place o) c) rest
 
   pub data IsBinder : ℕ → List Word → FormulaTree → List Word → Type 0 where
-    many_binder : (d e : ℕ) (w opening closing colon : Word) (ws body rest : List Word) (b : Binder) (vs : List VarTree) (t : FormulaTree) → Is (terminal.Binder b) d w → binds_many b ≡ true → Is (terminal.Mark OpenList) (suc d) opening → AreVars d ws vs e (closing ∷ colon ∷ body) → Is (terminal.Mark CloseList) (suc e) closing → Is (terminal.Mark Colon) e colon → IsUnit e body t rest → IsBinder d (w ∷ opening ∷ ws) (binding (place w) b vs t) rest
-    one_binder : (d : ℕ) (w opening closing colon : Word) (ws body rest : List Word) (b : Binder) (v : VarTree) (t : FormulaTree) → Is (terminal.Binder b) d w → binds_many b ≡ false → Is (terminal.Mark OpenList) (suc d) opening → IsVar (suc (suc d)) ws v (closing ∷ colon ∷ body) → Is (terminal.Mark CloseList) (suc (suc d)) closing → Is (terminal.Mark Colon) (suc d) colon → IsUnit (suc d) body t rest → IsBinder d (w ∷ opening ∷ ws) (binding (place w) b (v ∷ []) t) rest
+    bound : (d e : ℕ) (w opening closing colon : Word) (ws body rest : List Word) (b : Binder) (vs : List VarTree) (t : FormulaTree) → Is (terminal.Binder b) d w → Is (terminal.Mark OpenList) (suc d) opening → AreVars b d ws vs e (closing ∷ colon ∷ body) → Is (terminal.Mark CloseList) (suc e) closing → Is (terminal.Mark Colon) e colon → IsUnit e body t rest → IsBinder d (w ∷ opening ∷ ws) (binding (place w) b vs t) rest
