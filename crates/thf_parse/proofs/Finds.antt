@@ -61,3 +61,23 @@ FindIn F (Some r) = F r
 pub finds-enter : {A R : Type 0} (N : A → List Word → List Word → Type 0) (F : R → Type 0) (inside : Option R) (ts us : List Lexeme) (f : R → Outcome A) → FindIn F inside → ((r : R) → F r → Finds N ts (f r)) → Finds N ts (enter inside us f)
 finds-enter N F None ts us f h k = tt
 finds-enter N F (Some r) ts us f h k = k r h
+
+-- the same, where the token stands in the relation
+pub finds-behind : {A : Type 0} (M : A → List Word → List Word → Type 0) (t : Lexeme) (depth : ℕ) (ts : List Lexeme) (o : Outcome A) → Finds (λ x ws rest. M x (word t depth ∷ ws) rest) ts o → Finds M (t ∷ ts) o
+finds-behind M t depth ts o h = finds-token (λ x ws rest. M x (word t depth ∷ ws) rest) M t depth ts o h (λ x ws rest k. k)
+
+-- what is made of something that is found
+pub finds-map : {A B : Type 0} (N : A → List Word → List Word → Type 0) (M : B → List Word → List Word → Type 0) (g : A → B) (ts : List Lexeme) (o : Outcome A) → Finds N ts o → ((x : A) (ws rest : List Word) → N x ws rest → M (g x) ws rest) → Finds M ts (o >>= λ x rest. found (g x) rest)
+finds-map N M g ts (wrong rest) h join = tt
+finds-map N M g ts (deep rest) h join = tt
+finds-map N M g ts (found x rest) h join = λ after e.
+    let r = h after e in
+    record { words = r.words; plainly = r.plainly; read = join x r.words after r.read }
+
+-- one token
+pub finds-one : {A : Type 0} (M : A → List Word → List Word → Type 0) (t : Lexeme) (depth : ℕ) (ts : List Lexeme) (x : A) → ((after : List Word) → M x (word t depth ∷ after) after) → Finds M (t ∷ ts) (found x ts)
+finds-one M t depth ts x h = λ after e. record { words = word t depth ∷ after; plainly = ap (λ us. t ∷ us) e; read = h after }
+
+-- no token
+pub finds-none : {A : Type 0} (M : A → List Word → List Word → Type 0) (ts : List Lexeme) (x : A) → ((after : List Word) → M x after after) → Finds M ts (found x ts)
+finds-none M ts x h = λ after e. record { words = after; plainly = e; read = h after }

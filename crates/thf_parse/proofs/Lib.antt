@@ -4,3 +4,4 @@ pub mod Goes
 pub mod MarkLaws
 pub mod TypeLaws
 pub mod FormulaLocals
+pub mod FormulaFinds
