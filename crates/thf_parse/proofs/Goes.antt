@@ -51,3 +51,8 @@ module _ (limit : ℕ) where
   pub goes-enter : {A R : Type 0} (G : R → Type 0) (d : ℕ) (inside : Option R) (w : Word) (ws rest : List Word) (x : A) (f : R → Outcome A) → GoIn G d inside → w.depth ≡ suc d → ((r : R) → G r → suc d ≤ limit → Goes limit ws rest x (f r)) → Goes limit (w ∷ ws) rest x (enter inside (plain (w ∷ ws)) f)
   goes-enter G d None w ws rest x f h e k = inr (record { first = w; back = ws; before = here (w ∷ ws); sunk = omega arith; is = refl })
   goes-enter G d (Some r) w ws rest x f h e k = goes-token w ws rest x (f r) (omega (arith, h.0)) (k r h.1 h.0)
+
+  -- the same, where the reader one level deeper begins at the token itself
+  pub goes-into : {A R : Type 0} (G : R → Type 0) (d : ℕ) (inside : Option R) (w : Word) (ws rest : List Word) (x : A) (f : R → Outcome A) → GoIn G d inside → suc d ≤ w.depth → ((r : R) → G r → suc d ≤ limit → Goes limit (w ∷ ws) rest x (f r)) → Goes limit (w ∷ ws) rest x (enter inside (plain (w ∷ ws)) f)
+  goes-into G d None w ws rest x f h e k = inr (record { first = w; back = ws; before = here (w ∷ ws); sunk = omega arith; is = refl })
+  goes-into G d (Some r) w ws rest x f h e k = k r h.1 h.0

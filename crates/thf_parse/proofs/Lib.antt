@@ -5,3 +5,4 @@ pub mod MarkLaws
 pub mod TypeLaws
 pub mod FormulaLocals
 pub mod FormulaFinds
+pub mod FormulaGoes

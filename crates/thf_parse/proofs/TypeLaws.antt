@@ -133,7 +133,7 @@ abbrev pub NoArrow : List Word → Type 0
 NoArrow rest = is_mark mark.Arrow (first_terminal (plain rest)) ≡ false
 
 module _ (limit : ℕ) where
-  abbrev GoesTypes : ℕ → Reader TypeTree → Type 0
+  abbrev pub GoesTypes : ℕ → Reader TypeTree → Type 0
   GoesTypes d r = (ws rest : List Word) (t : TypeTree) → IsType d ws t rest → NoArrow rest → Goes limit ws rest t (r (plain ws))
 
   module _ (d : ℕ) (within : d ≤ limit) (inside : Option (Reader TypeTree)) (h : GoIn limit (GoesTypes (suc d)) d inside) where
