@@ -373,3 +373,214 @@ module _ (limit : ℕ) where
             (subst (λ x. Goes limit (l.token ∷ l.right) rest u (tail_by inside t x (plain (l.token ∷ l.right)))) (sym l.is.terminal)
             (subst (λ o. Goes limit (l.token ∷ l.right) rest u o) (sym (chained-tail inside t c (plain (l.token ∷ l.right)) e))
             (subst (λ us. Goes limit us rest u (links inside c t (plain us))) l.whole (goes-links c t u ws rest e l.links end))))
+
+    goes-applied : (t u : FormulaTree) (ws rest : List Word) → NoAt ws → Goes limit ws rest u (tail inside t (plain ws)) → Goes limit ws rest u (applied inside t (plain ws))
+    unfolding applied
+    goes-applied t u ws rest stop g = subst (λ o. Goes limit ws rest u o) (sym (no_at-applied inside t (first_of ws) (plain ws) stop)) g
+
+    goes-behind : (t u : FormulaTree) (ws rest : List Word) → NoEquality ws → Goes limit ws rest u (applied inside t (plain ws)) → Goes limit ws rest u (behind_primary inside t (plain ws))
+    unfolding behind_primary
+    goes-behind t u ws rest stop g = subst (λ o. Goes limit ws rest u o) (sym (no_equality-behind inside t (first_of ws) (plain ws) stop)) g
+
+    goes-from_primary : (ws mid rest : List Word) (t u : FormulaTree) → IsPrimary d ws t mid → Goes limit mid rest u (behind_primary inside t (plain mid)) → Goes limit ws rest u (formula inside (plain ws))
+    unfolding formula
+    goes-from_primary ws mid rest t u p g =
+        subst (λ o. Goes limit ws rest u o) (sym (primary-formula inside (plain ws) (first_of ws) (primary-begins d ws mid t p)))
+        (goes-bind limit ws mid rest t u (primary inside (plain ws)) _ (goes-primary ws mid t p) g)
+
+    goes-from_binder : (ws mid rest : List Word) (t u : FormulaTree) → IsBinder d ws t mid → NoEquality mid → Goes limit mid rest u (applied inside t (plain mid)) → Goes limit ws rest u (formula inside (plain ws))
+    unfolding formula
+    goes-from_binder ws mid rest t u p stop g =
+        let b = goes-binder ws mid t p stop in
+        subst (λ x. Goes limit ws rest u (formula_by inside x (plain ws))) (sym b.begins) (goes-bind limit ws mid rest t u (binder_at inside b.binder (plain ws)) _ b.goes g)
+
+    -- a formula by its first unit and what follows it
+    goes-by_unit : (ws mid rest : List Word) (t u : FormulaTree) → IsUnit d ws t mid → Follows d t mid u rest → Ends rest → Goes limit ws rest u (formula inside (plain ws))
+    unfolding formula behind_primary first_terminal
+    goes-by_unit ws mid rest t u (is.unitary_unit _ _ _ _ (is.primary_unitary _ _ _ _ p)) f end =
+        let stop = follows-stop d t u mid rest f end in
+        goes-from_primary ws mid rest t u p (goes-behind t u mid rest stop.0 (goes-applied t u mid rest stop.1 (goes-tail t u mid rest f end)))
+    goes-by_unit ws mid rest t u (is.unitary_unit _ _ _ _ (is.binder_unitary _ _ _ _ p)) f end =
+        let stop = follows-stop d t u mid rest f end in
+        goes-from_binder ws mid rest t u p stop.0 (goes-applied t u mid rest stop.1 (goes-tail t u mid rest f end))
+    goes-by_unit ws mid rest t u (is.negation_unit _ _ _ _ p) f end =
+        let stop = follows-stop d t u mid rest f end in
+        subst (λ x. Goes limit ws rest u (formula_by inside x (plain ws))) (sym (negation-begins d ws mid t p)) (goes-bind limit ws mid rest t u (negation_at inside (plain ws)) _ (goes-negation ws mid t p stop.0) (goes-tail t u mid rest f end))
+    goes-by_unit ws mid rest _ u (is.equation_unit _ _ right _ w b s v p k q) f end =
+        let stop = follows-stop d (equation w.lexeme.at b s v) u mid rest f end in
+        goes-from_primary ws (w ∷ right) rest s u p (equates stop.0)
+      where
+        equates : NoEquality mid → Goes limit (w ∷ right) rest u (behind_primary inside s (plain (w ∷ right)))
+        equates stop =
+            subst (λ x. Goes limit (w ∷ right) rest u (behind_primary_by inside s x (plain (w ∷ right)))) (sym k.terminal)
+            (goes-bind limit (w ∷ right) mid rest (equation w.lexeme.at b s v) u (right_side inside b s (plain (w ∷ right))) _ (goes-right_side w right mid b s v k q stop) (goes-tail (equation w.lexeme.at b s v) u mid rest f end))
+
+    -- an application by what is applied and its arguments
+    goes-by_unitary : (ws right mid rest : List Word) (w : Word) (t u v : FormulaTree) → IsUnitary d ws t (w ∷ right) → Is (terminal.Mark At) (suc d) w → IsOperand (suc d) right u mid → AreArguments (suc d) (application w.lexeme.at t u) mid v rest → Ends rest → Goes limit ws rest v (formula inside (plain ws))
+    unfolding applied first_terminal
+    goes-by_unitary ws right mid rest w t u v p k q m end = go p
+      where
+        args : Goes limit (w ∷ right) rest v (arguments inside t (plain (w ∷ right)))
+        args = goes-arguments t v (w ∷ right) rest (is.more_arguments d t u v w right mid rest k q m) end
+        apply : Goes limit (w ∷ right) rest v (applied inside t (plain (w ∷ right)))
+        apply = subst (λ x. Goes limit (w ∷ right) rest v (applied_by inside t x (plain (w ∷ right)))) (sym k.terminal) args
+        go : IsUnitary d ws t (w ∷ right) → Goes limit ws rest v (formula inside (plain ws))
+        go (is.primary_unitary _ _ _ _ r) = goes-from_primary ws (w ∷ right) rest t v r (goes-behind t v (w ∷ right) rest (ap is_equality k.terminal) apply)
+        go (is.binder_unitary _ _ _ _ r) = goes-from_binder ws (w ∷ right) rest t v r (ap is_equality k.terminal) apply
+
+    goes-by_quantifier : (q w : Word) (right mid rest : List Word) (all : Bool) (u v : FormulaTree) → Is (terminal.Quant all) d q → Is (terminal.Mark At) (suc d) w → IsOperand (suc d) right u mid → AreArguments (suc d) (quantified w.lexeme.at all u) mid v rest → Ends rest → Goes limit (q ∷ w ∷ right) rest v (formula inside (plain (q ∷ w ∷ right)))
+    unfolding formula first_terminal behind
+    goes-by_quantifier q w right mid rest all u v k m p r end =
+        subst (λ x. Goes limit (q ∷ w ∷ right) rest v (formula_by inside x (plain (q ∷ w ∷ right)))) (sym k.terminal)
+        (goes-token limit q (w ∷ right) rest v _ (let e = k.deep in omega arith) (goes-quantified w right mid rest all u v m p r end))
+
+    linked : (c : Conn) (t u v : FormulaTree) (w : Word) (right mid rest : List Word) → Is (terminal.Conn c) (suc d) w → IsUnit (suc d) right u mid → AreLinks c (suc d) (binary w.lexeme.at c t u) mid v rest → Linked c d t (w ∷ right) v rest
+    linked c t u v w right mid rest k q m = record { token = w; right = right; whole = refl; is = k; links = is.more_links c d t u v w right mid rest k q m }
+
+    pub goes-formula : (ws rest : List Word) (t : FormulaTree) → IsFormula d ws t rest → Ends rest → Goes limit ws rest t (formula inside (plain ws))
+    goes-formula ws rest t (is.unit_formula _ _ _ _ p) end = goes-by_unit ws rest rest t t p (ends d t rest) end
+    goes-formula ws rest _ (is.pair_formula _ _ right _ w c t u p k e q) end = goes-by_unit ws (w ∷ right) rest t (binary w.lexeme.at c t u) p (pairs d t u w right rest c k e q) end
+    goes-formula ws rest v (is.chain_formula _ _ right mid _ w c t u _ p k e q m) end = goes-by_unit ws (w ∷ right) rest t v p (chains d t v c e (linked c t u v w right mid rest k q m)) end
+    goes-formula ws rest v (is.apply_formula _ _ right mid _ w t u _ p k q m) end = goes-by_unitary ws right mid rest w t u v p k q m end
+    goes-formula _ rest v (is.quantified_formula _ q w right mid _ all u _ k m p r) end = goes-by_quantifier q w right mid rest all u v k m p r end
+
+  -- a token that an operand begins with
+  abbrev begins_operand : Terminal → Bool
+  begins_operand (terminal.Conn Not) = true
+  begins_operand (terminal.Binder b) = true
+  begins_operand x = begins_primary x
+
+  begins_more : (x : Terminal) → begins_primary x ≡ true → begins_operand x ≡ true
+  begins_more (terminal.Conn Not) e = refl
+  begins_more (terminal.Binder b) e = refl
+  begins_more _ e = e
+
+  operand-begins : (d : ℕ) (ws rest : List Word) (t : FormulaTree) → IsOperand d ws t rest → begins_operand (first_of ws) ≡ true
+  operand-begins d ws rest t (is.unitary_operand _ _ _ _ (is.primary_unitary _ _ _ _ p)) = begins_more (first_of ws) (primary-begins d ws rest t p)
+  operand-begins d ws rest t (is.unitary_operand _ _ _ _ (is.binder_unitary _ _ _ _ p)) = ap begins_operand (binder-begins d ws rest t p).1
+  operand-begins d ws rest t (is.negation_operand _ _ _ _ p) = ap begins_operand (negation-begins d ws rest t p)
+
+  operand-negated : (inside : Inside) (n : ℕ) (x : Terminal) (ts : List Lexeme) → begins_operand x ≡ true → negated_by inside n x ts ≡ negated_operand inside n ts
+  operand-negated inside n (terminal.Mark Close) ts e = cc
+  operand-negated inside n _ ts e = refl
+
+  close-ends : (d : ℕ) (v : Word) (rest : List Word) → Is (terminal.Mark Close) d v → Ends (v ∷ rest)
+  unfolding first_terminal
+  close-ends d v rest k = ap ends_formula k.terminal
+
+  -- what stands behind `(` `~`
+  goes-negated : (d : ℕ) → suc d ≤ limit → (inside : Inside) → GoIn limit (GoReaders (suc d)) (suc d) inside → (w v : Word) (ins mid rest : List Word) (t u : FormulaTree) → Is (terminal.Conn Not) (suc (suc d)) w → IsOperand (suc (suc d)) ins t mid → Follows (suc d) (negation w.lexeme.at t) mid u (v ∷ rest) → Is (terminal.Mark Close) (suc d) v → Goes limit (w ∷ ins) rest u (negated_at inside (plain (w ∷ ins)))
+  unfolding first_place behind
+  goes-negated d within None h w v ins mid rest t u k p f c = goes-enter limit (λ (r : Readers). ⊥) (suc d) None w ins rest u (λ r. found u []) h k.deep (λ r m deeper. absurd m)
+  goes-negated d within (Some r) h w v ins mid rest t u k p f c =
+      goes-token limit w ins rest u _ (let q = k.deep in let z = h.0 in omega arith)
+      (subst (λ o. Goes limit ins rest u o) (sym (operand-negated (Some r) w.lexeme.at (first_of ins) (plain ins) (operand-begins (suc (suc d)) ins mid t p)))
+      (goes-bind limit ins mid rest t u (r.operand (plain ins)) _ (h.1.operand ins mid t p stop)
+      (goes-closed limit Close (suc d) mid v rest u (tail (Some r) (negation w.lexeme.at t) (plain mid)) within c (goes-tail (suc d) within (Some r) h (negation w.lexeme.at t) u mid (v ∷ rest) f (close-ends (suc d) v rest c)))))
+    where
+      stop : NoEquality mid
+      stop = (follows-stop (suc d) (negation w.lexeme.at t) u mid (v ∷ rest) f (close-ends (suc d) v rest c)).0
+
+  module _ (d : ℕ) (within : suc d ≤ limit) (inside : Inside) (h : GoIn limit (GoReaders (suc d)) (suc d) inside) where
+    -- a formula behind `(` that doesn't begin with a connective
+    goes-plainly : (ws rest : List Word) (v : Word) (t : FormulaTree) → grouped_by inside (first_of ws) (plain ws) ≡ (formula inside (plain ws) >>= λ u mid. closed u mid) → IsFormula (suc d) ws t (v ∷ rest) → Is (terminal.Mark Close) (suc d) v → Goes limit ws rest t (grouped inside (plain ws))
+    unfolding grouped
+    goes-plainly ws rest v t e p c =
+        subst (λ o. Goes limit ws rest t o) (sym e)
+        (goes-closed limit Close (suc d) ws v rest t (formula inside (plain ws)) within c (goes-formula (suc d) within inside h ws (v ∷ rest) t p (close-ends (suc d) v rest c)))
+
+    unitary-plainly : (ws mid : List Word) (t : FormulaTree) → IsUnitary (suc d) ws t mid → grouped_by inside (first_of ws) (plain ws) ≡ (formula inside (plain ws) >>= λ u rest. closed u rest)
+    unitary-plainly ws mid t (is.primary_unitary _ _ _ _ p) = primary-grouped inside (plain ws) (first_of ws) (primary-begins (suc d) ws mid t p)
+    unitary-plainly ws mid t (is.binder_unitary _ _ _ _ p) = ap (λ x. grouped_by inside x (plain ws)) (binder-begins (suc d) ws mid t p).1
+
+    -- by the first unit and what follows it
+    goes-grouped_unit : (ws mid rest : List Word) (v : Word) (t u : FormulaTree) → IsUnit (suc d) ws t mid → Follows (suc d) t mid u (v ∷ rest) → IsFormula (suc d) ws u (v ∷ rest) → Is (terminal.Mark Close) (suc d) v → Goes limit ws rest u (grouped inside (plain ws))
+    unfolding grouped first_terminal
+    goes-grouped_unit ws mid rest v t u (is.unitary_unit _ _ _ _ p) f whole c = goes-plainly ws rest v u (unitary-plainly ws mid t p) whole c
+    goes-grouped_unit ws mid rest v t u (is.equation_unit _ _ right _ w b s r p k q) f whole c = goes-plainly ws rest v u (primary-grouped inside (plain ws) (first_of ws) (primary-begins (suc d) ws (w ∷ right) s p)) whole c
+    goes-grouped_unit _ mid rest v _ u (is.negation_unit _ _ _ _ (is.negated _ w ins _ t k p)) f whole c =
+        subst (λ x. Goes limit (w ∷ ins) rest u (grouped_by inside x (plain (w ∷ ins)))) (sym k.terminal) (goes-negated d within inside h w v ins mid rest t u k p f c)
+
+    goes-grouped : (ws rest : List Word) (v : Word) (t : FormulaTree) → IsFormula (suc d) ws t (v ∷ rest) → Is (terminal.Mark Close) (suc d) v → Goes limit ws rest t (grouped inside (plain ws))
+    unfolding first_terminal
+    goes-grouped ws rest v t (is.unit_formula _ _ _ _ p) c = goes-grouped_unit ws (v ∷ rest) rest v t t p (ends (suc d) t (v ∷ rest)) (is.unit_formula (suc d) ws (v ∷ rest) t p) c
+    goes-grouped ws rest v _ (is.pair_formula _ _ right _ w o t u p k e q) c = goes-grouped_unit ws (w ∷ right) rest v t (binary w.lexeme.at o t u) p (pairs (suc d) t u w right (v ∷ rest) o k e q) (is.pair_formula (suc d) ws right (v ∷ rest) w o t u p k e q) c
+    goes-grouped ws rest v s (is.chain_formula _ _ right mid _ w o t u _ p k e q m) c = goes-grouped_unit ws (w ∷ right) rest v t s p (chains (suc d) t s o e (linked (suc d) within inside h o t u s w right mid (v ∷ rest) k q m)) (is.chain_formula (suc d) ws right mid (v ∷ rest) w o t u s p k e q m) c
+    goes-grouped ws rest v s (is.apply_formula _ _ right mid _ w t u _ p k q m) c = goes-plainly ws rest v s (unitary-plainly ws (w ∷ right) t p) (is.apply_formula (suc d) ws right mid (v ∷ rest) w t u s p k q m) c
+    goes-grouped _ rest v s (is.quantified_formula _ q w right mid _ all u _ k m p r) c = goes-plainly (q ∷ w ∷ right) rest v s (ap (λ x. grouped_by inside x (plain (q ∷ w ∷ right))) k.terminal) (is.quantified_formula (suc d) q w right mid (v ∷ rest) all u s k m p r) c
+
+    goes-lone : (o v : Word) (rest : List Word) (c : Conn) → lone_depth c (suc d) ≡ suc d → Is (terminal.Conn c) (lone_depth c (suc d)) o → Is (terminal.Mark Close) (suc d) v → Goes limit (o ∷ v ∷ rest) rest (operator o.lexeme.at c) (lone c (plain (o ∷ v ∷ rest)))
+    unfolding lone first_place behind
+    goes-lone o v rest c e k m =
+        goes-token limit o (v ∷ rest) rest (operator o.lexeme.at c) _ (let q = k.deep in omega arith)
+        (goes-past limit Close (suc d) v rest rest (operator o.lexeme.at c) (λ after. found (operator o.lexeme.at c) after) within m (goes-found limit rest (operator o.lexeme.at c)))
+
+    goes-lone_not : (o v : Word) (rest : List Word) → Is (terminal.Conn Not) (suc (suc d)) o → Is (terminal.Mark Close) (suc d) v → Goes limit (o ∷ v ∷ rest) rest (operator o.lexeme.at Not) (negated_at inside (plain (o ∷ v ∷ rest)))
+    unfolding first_terminal first_place behind
+    goes-lone_not o v rest k m =
+        goes-enter limit (GoReaders (suc d)) (suc d) inside o (v ∷ rest) rest (operator o.lexeme.at Not) _ h k.deep
+        (λ r n deeper. subst (λ x. Goes limit (v ∷ rest) rest (operator o.lexeme.at Not) (negated_by inside o.lexeme.at x (plain (v ∷ rest)))) (sym m.terminal)
+        (goes-token limit v rest rest (operator o.lexeme.at Not) _ (let q = m.deep in omega arith) (goes-found limit rest (operator o.lexeme.at Not))))
+
+    goes-alone : (o v : Word) (rest : List Word) (c : Conn) → Is (terminal.Conn c) (lone_depth c (suc d)) o → Is (terminal.Mark Close) (suc d) v → Goes limit (o ∷ v ∷ rest) rest (operator o.lexeme.at c) (grouped inside (plain (o ∷ v ∷ rest)))
+    unfolding grouped first_terminal
+    goes-alone o v rest c k m = subst (λ x. Goes limit (o ∷ v ∷ rest) rest (operator o.lexeme.at c) (grouped_by inside x (plain (o ∷ v ∷ rest)))) (sym k.terminal) (go c k)
+      where
+        go : (c : Conn) → Is (terminal.Conn c) (lone_depth c (suc d)) o → Goes limit (o ∷ v ∷ rest) rest (operator o.lexeme.at c) (grouped_by inside (terminal.Conn c) (plain (o ∷ v ∷ rest)))
+        go Not k = goes-lone_not o v rest k m
+        go c k = goes-lone o v rest c refl k m
+
+    goes-body : (b : Binder) (n : ℕ) (vs : List VarTree) (body_words rest : List Word) (closing colon : Word) (t : FormulaTree) → Is (terminal.Mark CloseList) (suc (suc d)) closing → suc (suc d) ≤ limit → Is (terminal.Mark Colon) (suc d) colon → IsUnit (suc d) body_words t rest → NoEquality rest → Goes limit (closing ∷ colon ∷ body_words) rest (binding n b vs t) (behind_variable inside b n vs (plain (closing ∷ colon ∷ body_words)))
+    unfolding behind_variable body first_terminal behind
+    goes-body b n vs ws rest closing colon t c deeper k u stop =
+        subst (λ x. Goes limit (closing ∷ colon ∷ ws) rest (binding n b vs t) (bound_by inside b n vs x (plain (closing ∷ colon ∷ ws)))) (sym c.terminal)
+        (goes-token limit closing (colon ∷ ws) rest (binding n b vs t) _ (let q = c.deep in omega arith)
+        (goes-past limit Colon (suc d) colon ws rest (binding n b vs t) _ within k
+        (goes-bind limit ws rest rest t (binding n b vs t) (unit inside (plain ws)) _ (goes-unit (suc d) within inside h ws rest t u stop) (goes-found limit rest (binding n b vs t)))))
+
+    goes-comma : (b : Binder) (n : ℕ) (vs more : List VarTree) (e : ℕ) (w : Word) (ws body_words rest : List Word) (closing colon : Word) (t : FormulaTree) → Is (terminal.Mark Comma) (suc (suc d)) w → suc (suc d) ≤ limit → binds_many b ≡ true → AreVars b (suc d) ws more e (closing ∷ colon ∷ body_words) → Is (terminal.Mark CloseList) (suc e) closing → Is (terminal.Mark Colon) e colon → IsUnit e body_words t rest → NoEquality rest → Goes limit (w ∷ ws) rest (binding n b (vs ++ more) t) (behind_variable inside b n vs (plain (w ∷ ws)))
+    unfolding behind_variable first_terminal behind
+    goes-comma b n vs more e w ws bs rest closing colon t m deeper many vars c k u stop =
+        subst (λ x. Goes limit (w ∷ ws) rest (binding n b (vs ++ more) t) (bound_by inside b n vs x (plain (w ∷ ws)))) (sym m.terminal)
+        (subst (λ y. Goes limit (w ∷ ws) rest (binding n b (vs ++ more) t) (if y then next_variable inside b n vs (plain ws) else wrong (plain (w ∷ ws)))) (sym many)
+        (goes-token limit w ws rest (binding n b (vs ++ more) t) _ (let q = m.deep in omega arith)
+        (goes-next_variable (suc d) within inside h b n vs more e ws bs rest closing colon t vars c k u stop)))
+
+    goes-bound : (b : Binder) (n : ℕ) (vs more : List VarTree) (e : ℕ) (ws body_words rest : List Word) (closing colon : Word) (t : FormulaTree) → AreVars b d ws more e (closing ∷ colon ∷ body_words) → Is (terminal.Mark CloseList) (suc e) closing → Is (terminal.Mark Colon) e colon → IsUnit e body_words t rest → NoEquality rest → Goes limit ws rest (binding n b (vs ++ more) t) (bound inside b n vs (plain ws))
+    unfolding bound first_terminal
+    goes-bound b n vs more e ws bs rest closing colon t (is.last_var _ _ _ v k) c m u stop = go (var-first d ws (closing ∷ colon ∷ bs) v k)
+      where
+        go : FirstVar d ws → Goes limit ws rest (binding n b (vs ++ v ∷ []) t) (enter inside (plain ws) (λ r. variable_at r.type (plain ws) >>= λ x mid. behind_variable inside b n (vs ++ x ∷ []) mid))
+        go first =
+            subst (λ us. Goes limit us rest (binding n b (vs ++ v ∷ []) t) (enter inside (plain us) (λ r. variable_at r.type (plain us) >>= λ x mid. behind_variable inside b n (vs ++ x ∷ []) mid))) (sym first.whole)
+            (goes-into limit (GoReaders (suc d)) (suc d) inside first.token first.back rest (binding n b (vs ++ v ∷ []) t) _ h (let q = first.is.deep in omega arith)
+            (λ r g deeper. subst (λ us. Goes limit us rest (binding n b (vs ++ v ∷ []) t) (variable_at r.type (plain us) >>= λ x mid. behind_variable inside b n (vs ++ x ∷ []) mid)) first.whole
+            (goes-bind limit ws (closing ∷ colon ∷ bs) rest v (binding n b (vs ++ v ∷ []) t) (variable_at r.type (plain ws)) _ (goes-variable (suc (suc d)) r.type deeper g.type ws (closing ∷ colon ∷ bs) v k (ap (is_mark Arrow) c.terminal) (ap (is_mark Colon) c.terminal))
+            (goes-body b n (vs ++ v ∷ []) bs rest closing colon t c deeper m u stop))))
+    goes-bound b n vs more e ws bs rest closing colon t (is.more_vars _ _ _ mid _ w v us k many m vars) c o u stop = go (var-first d ws (w ∷ mid) v k)
+      where
+        go : FirstVar d ws → Goes limit ws rest (binding n b (vs ++ v ∷ us) t) (enter inside (plain ws) (λ r. variable_at r.type (plain ws) >>= λ x mid. behind_variable inside b n (vs ++ x ∷ []) mid))
+        go first =
+            subst (λ ks. Goes limit ks rest (binding n b (vs ++ v ∷ us) t) (enter inside (plain ks) (λ r. variable_at r.type (plain ks) >>= λ x mid. behind_variable inside b n (vs ++ x ∷ []) mid))) (sym first.whole)
+            (goes-into limit (GoReaders (suc d)) (suc d) inside first.token first.back rest (binding n b (vs ++ v ∷ us) t) _ h (let q = first.is.deep in omega arith)
+            (λ r g deeper. subst (λ ks. Goes limit ks rest (binding n b (vs ++ v ∷ us) t) (variable_at r.type (plain ks) >>= λ x mid. behind_variable inside b n (vs ++ x ∷ []) mid)) first.whole
+            (goes-bind limit ws (w ∷ mid) rest v (binding n b (vs ++ v ∷ us) t) (variable_at r.type (plain ws)) _ (goes-variable (suc (suc d)) r.type deeper g.type ws (w ∷ mid) v k (ap (is_mark Arrow) m.terminal) (ap (is_mark Colon) m.terminal))
+            (subst (λ ks. Goes limit (w ∷ mid) rest (binding n b ks t) (behind_variable inside b n (vs ++ v ∷ []) (plain (w ∷ mid)))) (append_assoc vs (v ∷ []) us)
+            (goes-comma b n (vs ++ v ∷ []) us e w mid bs rest closing colon t m deeper many vars c o u stop)))))
+
+    pub goes-readers : (type : Reader TypeTree) → GoesTypes limit (suc d) type → GoReaders d (readers type inside)
+    goes-readers type k = record {
+      type = k;
+      unit = goes-unit (suc d) within inside h;
+      operand = goes-operand (suc d) within inside h;
+      grouped = goes-grouped;
+      alone = goes-alone;
+      links = goes-links (suc d) within inside h;
+      arguments = goes-arguments (suc d) within inside h;
+      bound = goes-bound;
+    }
+
+  pub goes-inner : (d room : ℕ) → d + room ≡ limit → GoIn limit (GoReaders d) d (inner room)
+  unfolding inner
+  goes-inner d zero e = omega arith
+  goes-inner d (suc room) e = (omega arith, goes-readers d (omega arith) (inner room) (goes-inner (suc d) room (omega arith)) (type_with (inner_type room)) (goes-type_with limit (suc d) (omega arith) (inner_type room) (goes-inner_type limit (suc d) room (omega arith))))
