@@ -28,7 +28,7 @@ abbrev pub Goes : {A : Type 0} → ℕ → List Word → List Word → A → Out
 Goes limit ws rest x o = Arrives limit ws rest x o ⊎ Sinks limit ws o
 
 module _ (limit : ℕ) where
-  sinks-bind : {A B : Type 0} (ws : List Word) (o : Outcome A) (f : A → Reader B) → Sinks limit ws o → Sinks limit ws (o >>= f)
+  pub sinks-bind : {A B : Type 0} (ws : List Word) (o : Outcome A) (f : A → Reader B) → Sinks limit ws o → Sinks limit ws (o >>= f)
   sinks-bind ws o f s = record { first = s.first; back = s.back; before = s.before; sunk = s.sunk; is = ap (λ p. p >>= f) s.is }
 
   pub goes-bind : {A B : Type 0} (ws mid rest : List Word) (x : A) (y : B) (o : Outcome A) (f : A → Reader B) → Goes limit ws mid x o → Goes limit mid rest y (f x (plain mid)) → Goes limit ws rest y (o >>= f)

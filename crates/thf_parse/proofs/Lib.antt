@@ -6,3 +6,5 @@ pub mod TypeLaws
 pub mod FormulaLocals
 pub mod FormulaFinds
 pub mod FormulaGoes
+pub mod CommaLaws
+pub mod NoteLaws

@@ -70,6 +70,25 @@ finds-past {A} K M m depth (t ∷ ts) f h join = go (is_mark m (terminal_of t)) 
     go true e = finds-token K M t depth ts (f ts) (h ts) (λ x ws rest k. join x (word t depth) ws rest (record { terminal = is_mark-is m (terminal_of t) e; deep = refl }) k)
     go false e = tt
 
+-- a mark, and nothing behind it
+pub record Expected (m : Mark) (depth : ℕ) (x : Unit {0}) (ws rest : List Word) : Type 0 where
+  pub token : Word
+  pub whole : ws ≡ token ∷ rest
+  pub is : Is (terminal.Mark m) depth token
+
+pub finds-expect : (m : Mark) (depth : ℕ) (ts : List Lexeme) → Finds (Expected m depth) ts (expect m ts)
+unfolding expect first_terminal behind
+finds-expect m depth [] = go (is_mark m terminal.Other) refl
+  where
+    go : (b : Bool) → is_mark m terminal.Other ≡ b → Finds (Expected m depth) [] (if b then found unit [] else wrong [])
+    go true e = cc
+    go false e = tt
+finds-expect m depth (t ∷ ts) = go (is_mark m (terminal_of t)) refl
+  where
+    go : (b : Bool) → is_mark m (terminal_of t) ≡ b → Finds (Expected m depth) (t ∷ ts) (if b then found unit ts else wrong (t ∷ ts))
+    go true e = finds-token (Nothing unit) (Expected m depth) t depth ts (found unit ts) (finds-nothing unit ts) (λ x ws rest k. record { token = word t depth; whole = ap (λ us. word t depth ∷ us) k.1; is = record { terminal = is_mark-is m (terminal_of t) e; deep = refl } })
+    go false e = tt
+
 -- something before a mark
 pub record Closed {A : Type 0} (N : A → List Word → List Word → Type 0) (m : Mark) (depth : ℕ) (x : A) (ws rest : List Word) : Type 0 where
   pub closing : Word

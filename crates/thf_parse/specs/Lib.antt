@@ -2,8 +2,10 @@ pub mod Terminals
 pub mod Words
 pub mod Types
 pub mod Formulas
+pub mod Notes
 pub mod Outcome
 pub mod Reader
 pub mod FormulaReader
+pub mod NoteReader
 pub mod Passes
 pub mod Reads

@@ -2,6 +2,7 @@
 #![tactic(auto)]
 
 mod formula;
+mod notes;
 mod refusal;
 mod terminal;
 mod types;

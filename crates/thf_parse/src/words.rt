@@ -1,9 +1,8 @@
 //! The first of the tokens that are left.
-ghost use Rattle.std.specs.Prelude.{◌≡◌, ℕ, List, length, slice_range, IfOk, MatchResult};
+ghost use Rattle.std.specs.Prelude.{◌≡◌, ℕ, List, length, slice_range, IfOk};
 ghost use Rattle.thf_parse.specs.Words.{lexemes, unescaped, name_in};
 ghost use Rattle.thf_parse.specs.Outcome as spec;
-ghost use Rattle.thf_parse.specs.Outcome.{found};
-ghost use Rattle.thf_parse.specs.Passes.{IsRefusal};
+ghost use Rattle.thf_parse.specs.Passes.{Passes};
 
 use crate::refusal::Refusal;
 use crate::terminal::{Mark, Terminal, terminal_of};
@@ -128,7 +127,7 @@ pub fn is_mark(mark: Mark, found: Terminal) -> bool
 /// The tokens behind the mark that they begin with.
 #[tactic(auto, unfolding(crate::specs::Outcome::expect))]
 pub fn expect<'a>(mark: Mark, bytes: &[u8], tokens: &'a [Token]) -> Result<&'a [Token], Refusal<'a>>
-    ensures { let o = spec.expect mark (lexemes bytes.now tokens.now) in MatchResult result (λ rest. o ≡ found tt (lexemes bytes.now rest.now)) (λ e. IsRefusal bytes.now e o) }
+    ensures { Passes bytes.now result (spec.expect mark (lexemes bytes.now tokens.now)) }
 {
     if is_mark(mark, first_terminal(bytes, tokens)) {
         Ok(behind(tokens))
