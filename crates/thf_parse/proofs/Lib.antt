@@ -8,3 +8,4 @@ pub mod FormulaFinds
 pub mod FormulaGoes
 pub mod CommaLaws
 pub mod NoteLaws
+pub mod NoteSteps

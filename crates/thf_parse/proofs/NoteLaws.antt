@@ -211,3 +211,168 @@ pub finds-inner_notes : (d room : ℕ) → FindIn (FindNotes (suc d)) (inner_not
 unfolding inner_notes
 finds-inner_notes d zero = tt
 finds-inner_notes d (suc room) = record { general = finds-general (suc d) (inner_notes room) (finds-inner_notes (suc d) room); generals = finds-generals (suc d) (inner_notes room) (finds-inner_notes (suc d) room) }
+
+-- notes are found, or a token of them is too deep
+
+-- what may follow a general
+abbrev pub ends_note : Terminal → Bool
+ends_note (terminal.Mark Comma) = true
+ends_note (terminal.Mark Close) = true
+ends_note (terminal.Mark CloseList) = true
+ends_note _ = false
+
+abbrev pub EndsNote : List Word → Type 0
+EndsNote rest = ends_note (first_terminal (plain rest)) ≡ true
+
+module _ (limit : ℕ) where
+  pub record GoNotes (d : ℕ) (r : NoteReaders) : Type 0 where
+    pub general : (ws rest : List Word) → IsGeneral d ws rest → EndsNote rest → Goes limit ws rest passed (r.general (plain ws))
+    pub generals : (ws rest : List Word) → AreGenerals d ws rest → EndsNote rest → is_mark Comma (first_terminal (plain rest)) ≡ false → Goes limit ws rest passed (r.generals (plain ws))
+
+  module _ (d : ℕ) (within : d ≤ limit) (inside : Option NoteReaders) (h : GoIn limit (GoNotes (suc d)) d inside) where
+    uncalled : (x : Terminal) (ts : List Lexeme) → is_mark Open x ≡ false → called_by inside x ts ≡ found passed ts
+    uncalled (terminal.Mark Open) ts e = cc
+    uncalled _ ts e = refl
+
+    goes-uncalled : (rest : List Word) → is_mark Open (first_terminal (plain rest)) ≡ false → Goes limit rest rest passed (called inside (plain rest))
+    unfolding called
+    goes-uncalled rest e = subst (λ o. Goes limit rest rest passed o) (sym (uncalled (first_terminal (plain rest)) (plain rest) e)) (goes-found limit rest passed)
+
+    goes-called : (o v : Word) (ins rest : List Word) → Is (terminal.Mark Open) (suc d) o → AreGenerals (suc d) ins (v ∷ rest) → Is (terminal.Mark Close) (suc d) v → Goes limit (o ∷ ins) rest passed (called inside (plain (o ∷ ins)))
+    unfolding called first_terminal behind
+    goes-called o v ins rest k p m =
+        subst (λ x. Goes limit (o ∷ ins) rest passed (called_by inside x (plain (o ∷ ins)))) (sym k.terminal)
+        (goes-enter limit (GoNotes (suc d)) d inside o ins rest passed _ h k.deep
+        (λ r n deeper. goes-bind limit ins (v ∷ rest) rest passed passed (r.generals (plain ins)) (λ _ us. expect Close us) (n.generals ins (v ∷ rest) p (ap ends_note m.terminal) (ap (is_mark Comma) m.terminal)) (goes-expect limit Close (suc d) v rest deeper m)))
+
+    goes-name : (w : Word) (ws rest : List Word) → IsName d w → Goes limit ws rest passed (called inside (plain ws)) → Goes limit (w ∷ ws) rest passed (data_at inside (plain (w ∷ ws)))
+    unfolding data_at first_terminal behind
+    goes-name w ws rest (lower k) g = subst (λ x. Goes limit (w ∷ ws) rest passed (data_by inside x (plain (w ∷ ws)))) (sym k.terminal) (goes-token limit w ws rest passed _ (let q = k.deep in omega arith) g)
+    goes-name w ws rest (quoted k) g = subst (λ x. Goes limit (w ∷ ws) rest passed (data_by inside x (plain (w ∷ ws)))) (sym k.terminal) (goes-token limit w ws rest passed _ (let q = k.deep in omega arith) g)
+
+    goes-single : (w : Word) (rest : List Word) (x : Terminal) → Is x d w → data_by inside x (plain (w ∷ rest)) ≡ found passed (plain rest) → Goes limit (w ∷ rest) rest passed (data_at inside (plain (w ∷ rest)))
+    unfolding data_at first_terminal
+    goes-single w rest x k e =
+        subst (λ o. Goes limit (w ∷ rest) rest passed o) (sym (ap (λ y. data_by inside y (plain (w ∷ rest))) k.terminal ∙ e))
+        (goes-token limit w rest rest passed (found passed (plain rest)) (let q = k.deep in omega arith) (goes-found limit rest passed))
+
+    -- data is found where no `(` follows it
+    goes-data : (ws rest : List Word) → IsData d ws rest → is_mark Open (first_terminal (plain rest)) ≡ false → Goes limit ws rest passed (data_at inside (plain ws))
+    unfolding behind
+    goes-data ws rest (is.name_data _ w _ n) e = goes-name w rest rest n (goes-uncalled rest e)
+    goes-data ws rest (is.call_data _ w o v ins _ n k p m) e = goes-name w (o ∷ ins) rest n (goes-called o v ins rest k p m)
+    goes-data ws rest (is.upper_data _ w _ k) e = goes-single w rest terminal.Upper k refl
+    goes-data ws rest (is.integer_data _ w _ k) e = goes-single w rest terminal.Integer k refl
+    goes-data ws rest (is.distinct_data _ w _ k) e = goes-single w rest terminal.Distinct k refl
+
+    begins_data : Terminal → Bool
+    begins_data terminal.Lower = true
+    begins_data terminal.Quoted = true
+    begins_data terminal.Upper = true
+    begins_data terminal.Integer = true
+    begins_data terminal.Distinct = true
+    begins_data _ = false
+
+    data-begins : (ws rest : List Word) → IsData d ws rest → begins_data (first_terminal (plain ws)) ≡ true
+    unfolding first_terminal begins_data
+    data-begins ws rest (is.name_data _ w _ (lower k)) = ap begins_data k.terminal
+    data-begins ws rest (is.name_data _ w _ (quoted k)) = ap begins_data k.terminal
+    data-begins ws rest (is.call_data _ w o v ins _ (lower k) _ _ _) = ap begins_data k.terminal
+    data-begins ws rest (is.call_data _ w o v ins _ (quoted k) _ _ _) = ap begins_data k.terminal
+    data-begins ws rest (is.upper_data _ w _ k) = ap begins_data k.terminal
+    data-begins ws rest (is.integer_data _ w _ k) = ap begins_data k.terminal
+    data-begins ws rest (is.distinct_data _ w _ k) = ap begins_data k.terminal
+
+    data-general : (x : Terminal) (ts : List Lexeme) → begins_data x ≡ true → general_by inside x ts ≡ (data_at inside ts >>= λ _ rest. paired inside rest)
+    unfolding begins_data
+    data-general (terminal.Mark OpenList) ts e = cc
+    data-general _ ts e = refl
+
+    goes-paired : (ws mid rest : List Word) → IsData d ws mid → is_mark Open (first_terminal (plain mid)) ≡ false → Goes limit mid rest passed (paired inside (plain mid)) → Goes limit ws rest passed (general inside (plain ws))
+    unfolding general
+    goes-paired ws mid rest p e g =
+        subst (λ o. Goes limit ws rest passed o) (sym (data-general (first_terminal (plain ws)) (plain ws) (data-begins ws mid p)))
+        (goes-bind limit ws mid rest passed passed (data_at inside (plain ws)) (λ _ us. paired inside us) (goes-data ws mid p e) g)
+
+    end-open : (x : Terminal) → ends_note x ≡ true → is_mark Open x ≡ false
+    end-open (terminal.Mark Comma) e = refl
+    end-open (terminal.Mark Close) e = refl
+    end-open (terminal.Mark CloseList) e = refl
+    end-open _ e = cc
+
+    end-paired : (x : Terminal) (ts : List Lexeme) → ends_note x ≡ true → paired_by inside x ts ≡ found passed ts
+    end-paired (terminal.Mark Comma) ts e = refl
+    end-paired (terminal.Mark Close) ts e = refl
+    end-paired (terminal.Mark CloseList) ts e = refl
+    end-paired _ ts e = cc
+
+    general-begins : (n : ℕ) (ws rest : List Word) → IsGeneral n ws rest → is_mark CloseList (first_terminal (plain ws)) ≡ false
+    unfolding first_terminal
+    general-begins n ws rest (is.data_general _ _ _ (is.name_data _ w _ (lower k))) = ap (is_mark CloseList) k.terminal
+    general-begins n ws rest (is.data_general _ _ _ (is.name_data _ w _ (quoted k))) = ap (is_mark CloseList) k.terminal
+    general-begins n ws rest (is.data_general _ _ _ (is.call_data _ w o v ins _ (lower k) _ _ _)) = ap (is_mark CloseList) k.terminal
+    general-begins n ws rest (is.data_general _ _ _ (is.call_data _ w o v ins _ (quoted k) _ _ _)) = ap (is_mark CloseList) k.terminal
+    general-begins n ws rest (is.data_general _ _ _ (is.upper_data _ w _ k)) = ap (is_mark CloseList) k.terminal
+    general-begins n ws rest (is.data_general _ _ _ (is.integer_data _ w _ k)) = ap (is_mark CloseList) k.terminal
+    general-begins n ws rest (is.data_general _ _ _ (is.distinct_data _ w _ k)) = ap (is_mark CloseList) k.terminal
+    general-begins n ws rest (is.pair_general _ _ right _ s (is.name_data _ w _ (lower k)) _ _) = ap (is_mark CloseList) k.terminal
+    general-begins n ws rest (is.pair_general _ _ right _ s (is.name_data _ w _ (quoted k)) _ _) = ap (is_mark CloseList) k.terminal
+    general-begins n ws rest (is.pair_general _ _ right _ s (is.call_data _ w o v ins _ (lower k) _ _ _) _ _) = ap (is_mark CloseList) k.terminal
+    general-begins n ws rest (is.pair_general _ _ right _ s (is.call_data _ w o v ins _ (quoted k) _ _ _) _ _) = ap (is_mark CloseList) k.terminal
+    general-begins n ws rest (is.pair_general _ _ right _ s (is.upper_data _ w _ k) _ _) = ap (is_mark CloseList) k.terminal
+    general-begins n ws rest (is.pair_general _ _ right _ s (is.integer_data _ w _ k) _ _) = ap (is_mark CloseList) k.terminal
+    general-begins n ws rest (is.pair_general _ _ right _ s (is.distinct_data _ w _ k) _ _) = ap (is_mark CloseList) k.terminal
+    general-begins n ws rest (is.empty_general _ w v _ k m) = ap (is_mark CloseList) k.terminal
+    general-begins n ws rest (is.list_general _ w v ins _ k p m) = ap (is_mark CloseList) k.terminal
+
+    generals-begin : (n : ℕ) (ws rest : List Word) → AreGenerals n ws rest → is_mark CloseList (first_terminal (plain ws)) ≡ false
+    generals-begin n ws rest (is.last_general _ _ _ p) = general-begins n ws rest p
+    generals-begin n ws rest (is.more_generals _ _ right _ w p m q) = general-begins n ws (w ∷ right) p
+
+    unlisted : (generals : Reader (Unit {0})) (x : Terminal) (ts : List Lexeme) → is_mark CloseList x ≡ false → listed_by generals x ts ≡ (generals ts >>= λ _ rest. expect CloseList rest)
+    unlisted generals (terminal.Mark CloseList) ts e = cc
+    unlisted generals _ ts e = refl
+
+    goes-empty : (w v : Word) (rest : List Word) → Is (terminal.Mark OpenList) (suc d) w → Is (terminal.Mark CloseList) (suc d) v → Goes limit (w ∷ v ∷ rest) rest passed (general inside (plain (w ∷ v ∷ rest)))
+    unfolding general first_terminal behind
+    goes-empty w v rest k m =
+        subst (λ x. Goes limit (w ∷ v ∷ rest) rest passed (general_by inside x (plain (w ∷ v ∷ rest)))) (sym k.terminal)
+        (goes-enter limit (GoNotes (suc d)) d inside w (v ∷ rest) rest passed _ h k.deep
+        (λ r n deeper. subst (λ x. Goes limit (v ∷ rest) rest passed (listed_by r.generals x (plain (v ∷ rest)))) (sym m.terminal)
+        (goes-token limit v rest rest passed (found passed (plain rest)) (let q = m.deep in omega arith) (goes-found limit rest passed))))
+
+    goes-list : (w v : Word) (ins rest : List Word) → Is (terminal.Mark OpenList) (suc d) w → AreGenerals (suc d) ins (v ∷ rest) → Is (terminal.Mark CloseList) (suc d) v → Goes limit (w ∷ ins) rest passed (general inside (plain (w ∷ ins)))
+    unfolding general first_terminal behind
+    goes-list w v ins rest k p m =
+        subst (λ x. Goes limit (w ∷ ins) rest passed (general_by inside x (plain (w ∷ ins)))) (sym k.terminal)
+        (goes-enter limit (GoNotes (suc d)) d inside w ins rest passed _ h k.deep
+        (λ r n deeper. subst (λ o. Goes limit ins rest passed o) (sym (unlisted r.generals (first_terminal (plain ins)) (plain ins) (generals-begin (suc d) ins (v ∷ rest) p)))
+        (goes-bind limit ins (v ∷ rest) rest passed passed (r.generals (plain ins)) (λ _ us. expect CloseList us) (n.generals ins (v ∷ rest) p (ap ends_note m.terminal) (ap (is_mark Comma) m.terminal)) (goes-expect limit CloseList (suc d) v rest deeper m))))
+
+    pub goes-general : (ws rest : List Word) → IsGeneral d ws rest → EndsNote rest → Goes limit ws rest passed (general inside (plain ws))
+    unfolding paired first_terminal behind
+    goes-general ws rest (is.data_general _ _ _ p) end =
+        goes-paired ws rest rest p (end-open (first_terminal (plain rest)) end)
+        (subst (λ o. Goes limit rest rest passed o) (sym (end-paired (first_terminal (plain rest)) (plain rest) end)) (goes-found limit rest passed))
+    goes-general ws rest (is.pair_general _ _ right _ w p k q) end =
+        goes-paired ws (w ∷ right) rest p (ap (is_mark Open) k.terminal)
+        (subst (λ x. Goes limit (w ∷ right) rest passed (paired_by inside x (plain (w ∷ right)))) (sym k.terminal)
+        (goes-enter limit (GoNotes (suc d)) d inside w right rest passed _ h k.deep (λ r n deeper. n.general right rest q end)))
+    goes-general _ rest (is.empty_general _ w v _ k m) end = goes-empty w v rest k m
+    goes-general _ rest (is.list_general _ w v ins _ k p m) end = goes-list w v ins rest k p m
+
+    separated : (ws rest : List Word) → AreGenerals d ws rest → Separated (λ (_ : Unit {0}). GeneralIs d) d passed passed ws rest
+    separated ws rest (is.last_general _ _ _ p) = last passed passed ws rest p
+    separated ws rest (is.more_generals _ _ right _ w p m q) = more passed passed passed ws right rest w p m (separated right rest q)
+
+    pub goes-generals : AreLocal LocalNotes inside → (ws rest : List Word) → AreGenerals d ws rest → EndsNote rest → is_mark Comma (first_terminal (plain rest)) ≡ false → Goes limit ws rest passed (generals inside (plain ws))
+    unfolding generals
+    goes-generals l ws rest p end stop =
+        goes-commas (λ _. general inside) (λ _. local-general inside l) (λ _. GeneralIs d) limit d within ends_note refl (λ s x us after k f. goes-general us after k f) (suc (length (plain ws))) passed passed ws rest (separated ws rest p) (omega arith) end stop
+
+  pub goes-inner_notes : (d room : ℕ) → d + room ≡ limit → GoIn limit (GoNotes (suc d)) d (inner_notes room)
+  unfolding inner_notes
+  goes-inner_notes d zero e = omega arith
+  goes-inner_notes d (suc room) e =
+      let deeper = goes-inner_notes (suc d) room (omega arith) in
+      (omega arith, record { general = goes-general (suc d) (omega arith) (inner_notes room) deeper; generals = goes-generals (suc d) (omega arith) (inner_notes room) deeper (local-inner_notes room) })

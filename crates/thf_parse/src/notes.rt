@@ -5,7 +5,7 @@ ghost use Rattle.thf_parse.specs.Passes.{Passes};
 
 use crate::refusal::Refusal;
 use crate::terminal::{Mark, Terminal};
-use crate::words::{behind, expect, first_terminal};
+use crate::words::{behind, expect, first_terminal, is_mark};
 use thf_lex::Token;
 
 /// The tokens behind the arguments of a name, where it has any.
@@ -105,10 +105,10 @@ fn generals<'a>(bytes: &[u8], room: u32, tokens: &'a [Token]) -> Result<&'a [Tok
             Ok(after) => after,
             Err(refusal) => return Err(refusal),
         };
-        match first_terminal(bytes, after) {
-            Terminal::Mark(Mark::Comma) => rest = behind(after),
-            _ => return Ok(after),
+        if !is_mark(Mark::Comma, first_terminal(bytes, after)) {
+            return Ok(after);
         }
+        rest = behind(after);
     }
 }
 
