@@ -33,6 +33,10 @@ unfoldable pub first_name : List Lexeme → List ℕ
 first_name [] = []
 first_name (t ∷ ts) = name_of t
 
+unfoldable pub first_text : List Lexeme → List ℕ
+first_text [] = []
+first_text (t ∷ ts) = t.text
+
 unfoldable pub behind : List Lexeme → List Lexeme
 behind [] = []
 behind (t ∷ ts) = ts

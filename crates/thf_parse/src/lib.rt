@@ -2,9 +2,12 @@
 #![tactic(auto)]
 
 mod formula;
+mod include;
 mod notes;
 mod refusal;
+mod statement;
 mod terminal;
 mod types;
+mod typing;
 mod variable;
 mod words;

@@ -43,6 +43,17 @@ pub fn first_terminal(bytes: &[u8], tokens: &[Token]) -> Terminal
     }
 }
 
+/// The bytes of the first token.
+#[tactic(auto, unfolding(crate::specs::Outcome::first_text))]
+pub fn first_text<'b>(bytes: &'b [u8], tokens: &[Token]) -> &'b [u8]
+    ensures { result.now ≡ spec.first_text (lexemes bytes.now tokens.now) }
+{
+    match tokens {
+        [token, ..] => text(bytes, token),
+        [] => &[],
+    }
+}
+
 /// The place of the first token.
 #[tactic(auto, unfolding(crate::specs::Outcome::first_place))]
 pub fn first_place(tokens: &[Token]) -> u32
