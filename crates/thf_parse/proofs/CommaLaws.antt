@@ -11,6 +11,12 @@ use Rattle.thf_parse.proofs.Locals.{IsLocal, IsLocalAt, Decided, ArePassed, rest
 use Rattle.thf_parse.proofs.Finds.{word, Finds, finds-bind, finds-token, finds-none}
 use Rattle.thf_parse.proofs.Goes.{Goes, sinks-bind, goes-bind, goes-token, goes-found}
 
+-- a comma is a token
+pub comma-shorter : (rest : List Lexeme) → is_mark Comma (first_terminal rest) ≡ true → length (behind rest) < length rest
+unfolding first_terminal behind
+comma-shorter [] c = cc
+comma-shorter (t ∷ more) c = omega arith
+
 module _ {S : Type 0} (item : S → Reader S) (l : (s : S) → IsLocal (item s)) where
   comma_by-at : (again : S → Reader S) → ((s : S) → IsLocal (again s)) → (s : S) (x : Terminal) → IsLocalAt x (comma_by again s x)
   comma_by-at again k s (terminal.Mark Comma) = local-behind (terminal.Mark Comma) (again s) refl (k s)

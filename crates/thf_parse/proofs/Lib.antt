@@ -9,3 +9,5 @@ pub mod FormulaGoes
 pub mod CommaLaws
 pub mod NoteLaws
 pub mod NoteSteps
+pub mod StatementLocals
+pub mod LabelSteps

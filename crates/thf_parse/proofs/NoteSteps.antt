@@ -10,7 +10,7 @@ use Rattle.thf_parse.specs.Passes.{IsRefusal}
 use Rattle.thf_parse.specs.NoteReader.{passed, all_commas, general, generals, inner_notes}
 use Rattle.thf_parse.proofs.Locals.{IsLocal, rest_of, rest-length}
 use Rattle.thf_parse.proofs.MarkLaws.{is_mark-is}
-use Rattle.thf_parse.proofs.CommaLaws.{all-more, all-last, all-wrong, all-deep}
+use Rattle.thf_parse.proofs.CommaLaws.{all-more, all-last, all-wrong, all-deep, comma-shorter}
 use Rattle.thf_parse.proofs.NoteLaws.{local-general, local-inner_notes}
 
 module _ (room : ℕ) (us ts : List Lexeme) where
@@ -32,11 +32,6 @@ module _ (room : ℕ) (us ts : List Lexeme) where
 
   pub generals-more : (rest : List Lexeme) → all_commas item passed us ≡ all_commas item passed ts → general (inner_notes room) us ≡ found passed rest → is_mark Comma (first_terminal rest) ≡ true → all_commas item passed (behind rest) ≡ all_commas item passed ts
   generals-more rest e h c = sym (all-more item local-item passed passed us rest h (is_mark-is Comma (first_terminal rest) c)) ∙ e
-
-  comma-shorter : (rest : List Lexeme) → is_mark Comma (first_terminal rest) ≡ true → length (behind rest) < length rest
-  unfolding first_terminal behind
-  comma-shorter [] c = cc
-  comma-shorter (t ∷ more) c = omega arith
 
   pub generals-shorter : (rest : List Lexeme) → general (inner_notes room) us ≡ found passed rest → is_mark Comma (first_terminal rest) ≡ true → length (behind rest) < length us
   generals-shorter rest h c = omega (arith, rest-length (item passed) (local-item passed) us, ap (λ o. length (rest_of o)) h, comma-shorter rest c)

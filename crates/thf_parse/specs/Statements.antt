@@ -27,7 +27,7 @@ pub data IsLabel (w : Word) : Type 0 where
 -- the token is a lower word with this text
 pub record IsKeyword (text : List ℕ) (w : Word) : Type 0 where
   pub lower : Is terminal.Lower 0 w
-  pub text : w.lexeme.text ≡ text
+  pub spelled : w.lexeme.text ≡ text
 
 abbrev pub selected : Word → SelectedTree
 selected w = record { at = place w; name = name w }
