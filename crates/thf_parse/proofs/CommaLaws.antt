@@ -1,13 +1,12 @@
 -- What stands between commas.
 use Rattle.std.proofs.Common.{◌≡◌, ℕ, zero, suc, ◌+◌, ◌<◌, ◌≤◌, List, [], ◌∷◌, ◌++◌, length, Bool, true, false, inl, inr, refl, sym, ap, subst, ◌∙◌, length-append, arith}
-use Rattle.std.proofs.lemmas.List.{append_cancel_right}
 use Rattle.thf_parse.specs.declared.terminal.Mark.TheVariants.{Comma}
 use Rattle.thf_parse.specs.declared.terminal.Terminal.{Terminal}
 use Rattle.thf_parse.specs.declared.terminal.Terminal.TheVariants as terminal
 use Rattle.thf_parse.specs.Words.{Lexeme, Word, plain, terminal_of, Is}
 use Rattle.thf_parse.specs.Outcome.{Outcome, found, wrong, deep, Reader, ◌>>=◌, first_terminal, behind, is_mark}
 use Rattle.thf_parse.specs.NoteReader.{comma_by, commas, all_commas}
-use Rattle.thf_parse.proofs.Locals.{IsLocal, IsLocalAt, Decided, ArePassed, rest_of, with_rest, at, local-found, local-wrong, local-behind, local-bind, local-terminal, rest-length}
+use Rattle.thf_parse.proofs.Locals.{IsLocal, IsLocalAt, Decided, ArePassed, rest_of, with_rest, at, local-found, local-wrong, local-behind, local-bind, local-terminal, rest-length, local-counted}
 use Rattle.thf_parse.proofs.Finds.{word, Finds, finds-bind, finds-token, finds-none}
 use Rattle.thf_parse.proofs.Goes.{Goes, sinks-bind, goes-bind, goes-token, goes-found}
 
@@ -46,25 +45,7 @@ module _ {S : Type 0} (item : S → Reader S) (l : (s : S) → IsLocal (item s))
       go again (found x rest) q = after again x rest q
 
   pub local-all : (s : S) → IsLocal (all_commas item s)
-  local-all s ts = record {
-    front = d.front;
-    whole = d.whole;
-    passed = d.passed;
-    same = λ t back other e.
-        let us = d.front ++ t ∷ other in
-        let n = suc (length ts + length us) in
-        let more = local-commas n s ts in
-        let as_before : commas item n s ts ≡ commas item (suc (length ts)) s ts = commas-more n (suc (length ts)) s ts (omega arith) (omega arith) in
-        let rests : rest_of (commas item n s ts) ≡ rest_of (commas item (suc (length ts)) s ts) = ap rest_of as_before in
-        let fronts : more.front ≡ d.front = append_cancel_right more.front d.front (rest_of (commas item (suc (length ts)) s ts)) (ap (λ r. more.front ++ r) (sym rests) ∙ sym more.whole ∙ d.whole) in
-        commas-more (suc (length us)) n s us (omega arith) (omega arith)
-        ∙ ap (λ f. commas item n s (f ++ t ∷ other)) (sym fronts)
-        ∙ more.same t back other (rests ∙ e)
-        ∙ ap (λ o. with_rest o (t ∷ other)) as_before;
-  }
-    where
-      d : Decided (commas item (suc (length ts)) s) ts
-      d = local-commas (suc (length ts)) s ts
+  local-all s = local-counted (λ n. commas item n s) (λ n. local-commas n s) (λ n m ts h k. commas-more n m s ts h k)
 
   -- a step of the loop over what stands between commas
   pub all-more : (s x : S) (ts rest : List Lexeme) → item s ts ≡ found x rest → first_terminal rest ≡ terminal.Mark Comma → all_commas item s ts ≡ all_commas item x (behind rest)

@@ -11,3 +11,4 @@ pub mod NoteLaws
 pub mod NoteSteps
 pub mod StatementLocals
 pub mod LabelSteps
+pub mod StatementFinds

@@ -1,6 +1,7 @@
 -- Readers that decide by the tokens up to and including the first one that they leave, and pass no token that stands nowhere in a
 -- statement.
-use Rattle.std.proofs.Common.{◌≡◌, ℕ, ◌≤◌, List, [], ◌∷◌, ◌++◌, length, Bool, true, false, Option, Some, None, refl, sym, ap, subst, ◌∙◌, append_assoc, length-append, arith}
+use Rattle.std.proofs.Common.{◌≡◌, ℕ, suc, ◌+◌, ◌<◌, ◌≤◌, List, [], ◌∷◌, ◌++◌, length, Bool, true, false, Option, Some, None, refl, sym, ap, subst, ◌∙◌, append_assoc, length-append, arith}
+use Rattle.std.proofs.lemmas.List.{append_cancel_right}
 use Rattle.thf_parse.specs.declared.terminal.Terminal.{Terminal}
 use Rattle.thf_parse.specs.declared.terminal.Terminal.TheVariants as terminal
 use Rattle.thf_parse.specs.Words.{Lexeme, terminal_of}
@@ -146,3 +147,25 @@ enter-at x L (Some r) f h l = l r h
 -- the tokens that are left are no more
 pub rest-length : {A : Type 0} (r : Reader A) → IsLocal r → (ts : List Lexeme) → length (rest_of (r ts)) ≤ length ts
 rest-length r l ts = let d = l ts in omega (arith, ap length d.whole, length-append d.front (rest_of (r ts)))
+
+-- a reader that counts down, from more than there are tokens
+pub local-counted : {A : Type 0} (r : ℕ → Reader A) → ((n : ℕ) → IsLocal (r n)) → ((n m : ℕ) (ts : List Lexeme) → length ts < n → length ts < m → r n ts ≡ r m ts) → IsLocal (λ ts. r (suc (length ts)) ts)
+local-counted r l enough ts = record {
+  front = d.front;
+  whole = d.whole;
+  passed = d.passed;
+  same = λ t back other e.
+      let us = d.front ++ t ∷ other in
+      let n = suc (length ts + length us) in
+      let more = l n ts in
+      let as_before : r n ts ≡ r (suc (length ts)) ts = enough n (suc (length ts)) ts (omega arith) (omega arith) in
+      let rests : rest_of (r n ts) ≡ rest_of (r (suc (length ts)) ts) = ap rest_of as_before in
+      let fronts : more.front ≡ d.front = append_cancel_right more.front d.front (rest_of (r (suc (length ts)) ts)) (ap (λ k. more.front ++ k) (sym rests) ∙ sym more.whole ∙ d.whole) in
+      enough (suc (length us)) n us (omega arith) (omega arith)
+      ∙ ap (λ f. r n (f ++ t ∷ other)) (sym fronts)
+      ∙ more.same t back other (rests ∙ e)
+      ∙ ap (λ o. with_rest o (t ∷ other)) as_before;
+}
+  where
+    d : Decided (r (suc (length ts))) ts
+    d = l (suc (length ts)) ts

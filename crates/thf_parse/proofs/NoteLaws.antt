@@ -87,7 +87,7 @@ local-inner_notes (suc room) = record { general = local-general (inner_notes roo
 
 -- what is found is in the grammar
 
-abbrev GeneralIs : ℕ → Unit {0} → List Word → List Word → Type 0
+abbrev pub GeneralIs : ℕ → Unit {0} → List Word → List Word → Type 0
 GeneralIs d _ ws rest = IsGeneral d ws rest
 
 abbrev GeneralsAre : ℕ → Unit {0} → List Word → List Word → Type 0

@@ -12,8 +12,8 @@ use Rattle.thf_parse.specs.Outcome.{Outcome, found, wrong, deep, Reader, ◌>>=�
 use Rattle.thf_parse.specs.Reader.{type_with, inner_type}
 use Rattle.thf_parse.specs.FormulaReader.{formula, inner}
 use Rattle.thf_parse.specs.NoteReader.{notes, inner_notes}
-use Rattle.thf_parse.specs.StatementReader.{selected, named_at, label_by, label, role_by, role, quoted_by, quoted, declared_by, declared, group_typing, typing_by, typing_with, inner_typing, body, Head, head_of, head, finish, annotated_of, annotated, more_label, labels, names, selection_by, selection, include, keyword_in, keyword_by, keyword, statement_by, statement, statements_by, statements, file}
-use Rattle.thf_parse.proofs.Locals.{IsLocal, IsLocalAt, AreLocal, Decided, is_proper, rest_of, at, local-found, local-wrong, local-behind, local-bind, bind-at, local-terminal, place-at, name-at, enter-at, decided-head, rest-length}
+use Rattle.thf_parse.specs.StatementReader.{selected, named_at, label_by, label, role_by, role, quoted_by, quoted, declared_by, declared, group_typing, typing_by, typing_with, inner_typing, body, Head, head_of, head, finish, annotated_of, annotated, more_label, labels, names, selection_by, selection, include, keyword_in, keyword_by, keyword, statement_by, statement, is_end, statements_by, statements, file}
+use Rattle.thf_parse.proofs.Locals.{IsLocal, IsLocalAt, AreLocal, Decided, is_proper, rest_of, at, local-found, local-wrong, local-behind, local-bind, bind-at, local-terminal, place-at, name-at, enter-at, decided-head, rest-length, local-counted}
 use Rattle.thf_parse.proofs.MarkLaws.{local-past, local-expect, local-closed}
 use Rattle.thf_parse.proofs.TypeLaws.{local-type_with, local-inner_type}
 use Rattle.thf_parse.proofs.FormulaLocals.{local-formula, local-inner}
@@ -165,11 +165,50 @@ statement-shorter room (t ∷ ts) rest s e = go (keyword (t ∷ ts)) e
     go Unknown h = cc
 
 module _ (room : ℕ) where
-  statements_by-at : (again : List StatementTree → Reader (List StatementTree)) → ((ss : List StatementTree) → IsLocal (again ss)) → (ss : List StatementTree) (x : Terminal) → IsLocalAt x (statements_by room again ss x)
-  statements_by-at again l ss terminal.End = at terminal.End (λ ts. found ss ts) (local-found ss)
-  statements_by-at again l ss _ = at _ (λ ts. statement room ts >>= λ s rest. again (ss ++ s ∷ []) rest) (local-bind (statement room) (λ s rest. again (ss ++ s ∷ []) rest) (local-statement room) (λ s. l (ss ++ s ∷ [])))
+  statements_by-local : (again : List StatementTree → Reader (List StatementTree)) → ((ss : List StatementTree) → IsLocal (again ss)) → (ss : List StatementTree) (b : Bool) → IsLocal (statements_by room again ss b)
+  statements_by-local again l ss true = local-found ss
+  statements_by-local again l ss false = local-bind (statement room) (λ s rest. again (ss ++ s ∷ []) rest) (local-statement room) (λ s. l (ss ++ s ∷ []))
 
   pub local-statements : (n : ℕ) (ss : List StatementTree) → IsLocal (statements room n ss)
   unfolding statements
   local-statements zero ss = local-wrong
-  local-statements (suc n) ss = local-terminal (statements_by room (statements room n) ss) (statements_by-at (statements room n) (local-statements n) ss)
+  local-statements (suc n) ss = local-terminal (λ x ts. statements_by room (statements room n) ss (is_end x) ts) (λ x. at x (statements_by room (statements room n) ss (is_end x)) (statements_by-local (statements room n) (local-statements n) ss (is_end x)))
+
+  -- more room for statements makes no difference
+  pub statements-more : (n m : ℕ) (ss : List StatementTree) (ts : List Lexeme) → length ts < n → length ts < m → statements room n ss ts ≡ statements room m ss ts
+  unfolding statements
+  statements-more zero m ss ts h k = absurd (omega arith)
+  statements-more (suc n) zero ss ts h k = absurd (omega arith)
+  statements-more (suc n) (suc m) ss ts h k = go (λ rs us p q. statements-more n m rs us p q) (is_end (first_terminal ts))
+    where
+      after : ((rs : List StatementTree) (us : List Lexeme) → length us < n → length us < m → statements room n rs us ≡ statements room m rs us) → (o : Outcome StatementTree) → statement room ts ≡ o → (o >>= λ s rest. statements room n (ss ++ s ∷ []) rest) ≡ (o >>= λ s rest. statements room m (ss ++ s ∷ []) rest)
+      after again (wrong rest) e = refl
+      after again (deep rest) e = refl
+      after again (found s rest) e = again (ss ++ s ∷ []) rest (omega (arith, statement-shorter room ts rest s e)) (omega (arith, statement-shorter room ts rest s e))
+      go : ((rs : List StatementTree) (us : List Lexeme) → length us < n → length us < m → statements room n rs us ≡ statements room m rs us) → (b : Bool) → statements_by room (statements room n) ss b ts ≡ statements_by room (statements room m) ss b ts
+      go again true = refl
+      go again false = after again (statement room ts) refl
+
+  pub local-file : (ss : List StatementTree) → IsLocal (file room ss)
+  unfolding file
+  local-file ss = local-counted (λ n. statements room n ss) (λ n. local-statements n ss) (λ n m ts h k. statements-more n m ss ts h k)
+
+  -- a step of the loop over statements
+  pub file-ended : (ss : List StatementTree) (ts : List Lexeme) → is_end (first_terminal ts) ≡ true → file room ss ts ≡ found ss ts
+  unfolding file statements
+  file-ended ss ts e = ap (λ b. statements_by room (statements room (length ts)) ss b ts) e
+
+  pub file-more : (ss : List StatementTree) (s : StatementTree) (ts rest : List Lexeme) → is_end (first_terminal ts) ≡ false → statement room ts ≡ found s rest → file room ss ts ≡ file room (ss ++ s ∷ []) rest
+  unfolding file statements
+  file-more ss s ts rest e h =
+      ap (λ b. statements_by room (statements room (length ts)) ss b ts) e
+      ∙ ap (λ o. o >>= λ r after. statements room (length ts) (ss ++ r ∷ []) after) h
+      ∙ statements-more (length ts) (suc (length rest)) (ss ++ s ∷ []) rest (statement-shorter room ts rest s h) (omega arith)
+
+  pub file-wrong : (ss : List StatementTree) (ts rest : List Lexeme) → is_end (first_terminal ts) ≡ false → statement room ts ≡ wrong rest → file room ss ts ≡ wrong rest
+  unfolding file statements
+  file-wrong ss ts rest e h = ap (λ b. statements_by room (statements room (length ts)) ss b ts) e ∙ ap (λ o. o >>= λ r after. statements room (length ts) (ss ++ r ∷ []) after) h
+
+  pub file-deep : (ss : List StatementTree) (ts rest : List Lexeme) → is_end (first_terminal ts) ≡ false → statement room ts ≡ deep rest → file room ss ts ≡ deep rest
+  unfolding file statements
+  file-deep ss ts rest e h = ap (λ b. statements_by room (statements room (length ts)) ss b ts) e ∙ ap (λ o. o >>= λ r after. statements room (length ts) (ss ++ r ∷ []) after) h

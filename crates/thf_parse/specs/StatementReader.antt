@@ -1,5 +1,5 @@
 -- How the reader goes through statements.
-use Rattle.std.specs.Prelude.{ℕ, zero, suc, List, [], ◌∷◌, ◌++◌, length, Option, Some, None, codes, if◌then◌else◌}
+use Rattle.std.specs.Prelude.{ℕ, zero, suc, Bool, true, false, List, [], ◌∷◌, ◌++◌, length, Option, Some, None, codes, if◌then◌else◌}
 use Rattle.std.specs.Str.{bytes_eq}
 use Rattle.thf_syntax.specs.Trees.{TypeTree, BodyTree, base, typing, formula as formula_body, SelectedTree, StatementTree, annotated as annotated_tree, include as include_tree}
 use Rattle.thf_parse.specs.declared.statement.Keyword.{Keyword}
@@ -140,14 +140,18 @@ statement_by room Unknown ts = wrong ts
 unfoldable pub statement : ℕ → Reader StatementTree
 statement room ts = statement_by room (keyword ts) ts
 
+abbrev pub is_end : Terminal → Bool
+is_end terminal.End = true
+is_end _ = false
+
 -- the statements up to the end, n at most, behind those that were found before
-abbrev pub statements_by : ℕ → (List StatementTree → Reader (List StatementTree)) → List StatementTree → Terminal → Reader (List StatementTree)
-statements_by room again ss terminal.End ts = found ss ts
-statements_by room again ss _ ts = statement room ts >>= λ s rest. again (ss ++ s ∷ []) rest
+abbrev pub statements_by : ℕ → (List StatementTree → Reader (List StatementTree)) → List StatementTree → Bool → Reader (List StatementTree)
+statements_by room again ss true ts = found ss ts
+statements_by room again ss false ts = statement room ts >>= λ s rest. again (ss ++ s ∷ []) rest
 
 unfoldable pub statements : ℕ → ℕ → List StatementTree → Reader (List StatementTree)
 statements room zero ss ts = wrong ts
-statements room (suc n) ss ts = statements_by room (statements room n) ss (first_terminal ts) ts
+statements room (suc n) ss ts = statements_by room (statements room n) ss (is_end (first_terminal ts)) ts
 
 unfoldable pub file : ℕ → List StatementTree → Reader (List StatementTree)
 file room ss ts = statements room (suc (length ts)) ss ts
