@@ -12,3 +12,5 @@ pub mod NoteSteps
 pub mod StatementLocals
 pub mod LabelSteps
 pub mod StatementFinds
+pub mod FileSteps
+pub mod StatementGoes

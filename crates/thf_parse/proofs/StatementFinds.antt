@@ -31,11 +31,11 @@ here : (t : Lexeme) (x : Terminal) (depth : ℕ) → terminal_of t ≡ x → Is 
 here t x depth e = record { terminal = e; deep = refl }
 
 -- one token that is a name of a kind
-record OneName (K : Word → Type 0) (n : SelectedTree) (ws rest : List Word) : Type 0 where
-  token : Word
-  whole : ws ≡ token ∷ rest
-  is : K token
-  named : n ≡ labelled token
+pub record OneName (K : Word → Type 0) (n : SelectedTree) (ws rest : List Word) : Type 0 where
+  pub token : Word
+  pub whole : ws ≡ token ∷ rest
+  pub is : K token
+  pub named : n ≡ labelled token
 
 finds-named : (K : Word → Type 0) (t : Lexeme) (ts : List Lexeme) (d : ℕ) → K (word t d) → Finds (OneName K) (t ∷ ts) (named_at (t ∷ ts))
 unfolding first_place first_name behind
@@ -271,7 +271,7 @@ finds-annotated room ts =
 
 -- includes
 
-abbrev LabelsAre : List SelectedTree → List SelectedTree → List Word → List Word → Type 0
+abbrev pub LabelsAre : List SelectedTree → List SelectedTree → List Word → List Word → Type 0
 LabelsAre ns ms ws rest = (n : SelectedTree) × (ms ≡ ns ++ n ∷ []) × OneName IsLabel n ws rest
 
 finds-more_label : (ns : List SelectedTree) (ts : List Lexeme) → Finds (LabelsAre ns) ts (more_label ns ts)

@@ -11,3 +11,5 @@ pub mod NoteReader
 pub mod StatementReader
 pub mod Passes
 pub mod Reads
+pub mod Parsing
+pub mod ReadsFile

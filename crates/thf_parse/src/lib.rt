@@ -3,7 +3,9 @@
 
 mod formula;
 mod include;
+mod law;
 mod notes;
+mod parser;
 mod refusal;
 mod statement;
 mod terminal;
@@ -11,3 +13,6 @@ mod types;
 mod typing;
 mod variable;
 mod words;
+
+pub use law::one_tree;
+pub use parser::{MAX_DEPTH, ParseRefused, parse};
