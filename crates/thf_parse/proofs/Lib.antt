@@ -14,3 +14,4 @@ pub mod LabelSteps
 pub mod StatementFinds
 pub mod FileSteps
 pub mod StatementGoes
+pub mod ParseLaws

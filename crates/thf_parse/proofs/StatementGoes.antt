@@ -237,6 +237,10 @@ module _ (limit : ℕ) where
   statement-begins _ rest s (is.annotated_statement k o l c r e ws mid after _ b kw p q u v w x y z) = ap is_end kw.lower.terminal
   statement-begins _ rest s (is.include_statement k o f ws after _ only kw p q u e) = ap is_end kw.lower.terminal
 
+  file-end : (ws : List Word) (ss : List StatementTree) → IsFile ws ss → (e : Word) × Is terminal.End 0 e
+  file-end _ _ (is.no_statement w k) = (w, k)
+  file-end _ _ (is.more_statements ws rest s ss p f) = file-end rest ss f
+
   -- the statements are found up to the token at the end
   pub record GoesFile (n : ℕ) (so_far ss : List StatementTree) (ws : List Word) : Type 0 where
     pub end : Word
@@ -268,4 +272,11 @@ module _ (limit : ℕ) where
                 (goes-bind limit ws rest (g.end ∷ []) s (so_far ++ s ∷ ss) (statement limit (plain ws)) _ (inl a)
                 (subst (λ all. Goes limit rest (g.end ∷ []) all (statements limit n (so_far ++ s ∷ []) (plain rest))) (append_assoc so_far (s ∷ []) ss) g.goes));
           }
-      go (inr k) again = ?
+      go (inr k) again = record {
+        end = (file-end rest ss f).0;
+        is = (file-end rest ss f).1;
+        goes = subst (λ o. Goes limit ws ((file-end rest ss f).0 ∷ []) (so_far ++ s ∷ ss) o) (sym begun) (inr (sinks-bind limit ws (statement limit (plain ws)) (λ r us. statements limit n (so_far ++ r ∷ []) us) k));
+      }
+
+  pub goes-file : (ss : List StatementTree) (ws : List Word) → IsFile ws ss → GoesFile (suc (length (plain ws))) [] ss ws
+  goes-file ss ws f = goes-statements (suc (length (plain ws))) [] ss ws f (omega arith)
