@@ -15,3 +15,4 @@ pub mod StatementFinds
 pub mod FileSteps
 pub mod StatementGoes
 pub mod ParseLaws
+pub mod LexemeLaws
