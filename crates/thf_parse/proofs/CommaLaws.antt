@@ -1,12 +1,12 @@
 -- What stands between commas.
-use Rattle.std.proofs.Common.{◌≡◌, ℕ, zero, suc, ◌+◌, ◌<◌, ◌≤◌, List, [], ◌∷◌, ◌++◌, length, Bool, true, false, inl, inr, refl, sym, ap, subst, ◌∙◌, length-append, arith}
+use Rattle.std.proofs.Common.{◌≡◌, ℕ, zero, suc, ◌<◌, ◌≤◌, List, [], ◌∷◌, length, Bool, true, false, inl, inr, refl, sym, ap, subst, ◌∙◌, arith}
 use Rattle.thf_parse.specs.declared.terminal.Mark.TheVariants.{Comma}
 use Rattle.thf_parse.specs.declared.terminal.Terminal.{Terminal}
 use Rattle.thf_parse.specs.declared.terminal.Terminal.TheVariants as terminal
 use Rattle.thf_parse.specs.Words.{Lexeme, Word, plain, terminal_of, Is}
 use Rattle.thf_parse.specs.Outcome.{Outcome, found, wrong, deep, Reader, ◌>>=◌, first_terminal, behind, is_mark}
 use Rattle.thf_parse.specs.NoteReader.{comma_by, commas, all_commas}
-use Rattle.thf_parse.proofs.Locals.{IsLocal, IsLocalAt, Decided, ArePassed, rest_of, with_rest, at, local-found, local-wrong, local-behind, local-bind, local-terminal, rest-length, local-counted}
+use Rattle.thf_parse.proofs.Locals.{IsLocal, IsLocalAt, rest_of, at, local-found, local-wrong, local-behind, local-bind, local-terminal, rest-length, local-counted}
 use Rattle.thf_parse.proofs.Finds.{word, Finds, finds-bind, finds-token, finds-none}
 use Rattle.thf_parse.proofs.Goes.{Goes, sinks-bind, goes-bind, goes-token, goes-found}
 
@@ -36,9 +36,11 @@ module _ {S : Type 0} (item : S → Reader S) (l : (s : S) → IsLocal (item s))
       more : ((x : S) (us : List Lexeme) → length us < n → length us < m → commas item n x us ≡ commas item m x us) → (x : S) (t : Lexeme) (us : List Lexeme) (y : Terminal) → length (t ∷ us) ≤ length ts → comma_by (commas item n) x y (t ∷ us) ≡ comma_by (commas item m) x y (t ∷ us)
       more again x t us (terminal.Mark Comma) q = again x us (omega arith) (omega arith)
       more again x t us _ q = refl
+
       after : ((x : S) (us : List Lexeme) → length us < n → length us < m → commas item n x us ≡ commas item m x us) → (x : S) (rest : List Lexeme) → length rest ≤ length ts → comma_by (commas item n) x (first_terminal rest) rest ≡ comma_by (commas item m) x (first_terminal rest) rest
       after again x [] q = refl
       after again x (t ∷ us) q = more again x t us (terminal_of t) q
+
       go : ((x : S) (us : List Lexeme) → length us < n → length us < m → commas item n x us ≡ commas item m x us) → (o : Outcome S) → length (rest_of o) ≤ length ts → (o >>= λ x rest. comma_by (commas item n) x (first_terminal rest) rest) ≡ (o >>= λ x rest. comma_by (commas item m) x (first_terminal rest) rest)
       go again (wrong rest) q = refl
       go again (deep rest) q = refl
@@ -91,11 +93,13 @@ module _ {S : Type 0} (item : S → Reader S) (N : S → S → List Word → Lis
     where
       none : (x : S) (us : List Lexeme) → Finds (FollowIs s x) us (found x us)
       none x us = finds-none (FollowIs s x) us x (λ after front p. last s x front after p)
+
       go : ((x : S) (us : List Lexeme) → Finds (λ y ws rest. Separated N d x y ws rest) us (commas item n x us)) → (x : S) (t : Lexeme) (us : List Lexeme) (y : Terminal) → terminal_of t ≡ y → Finds (FollowIs s x) (t ∷ us) (comma_by (commas item n) x y (t ∷ us))
       go again x t us (terminal.Mark Comma) e =
           finds-token (λ y ws rest. Separated N d x y ws rest) (FollowIs s x) t d us (commas item n x us) (again x us)
           (λ y ws rest p front q. more s x y front ws rest (word t d) q (record { terminal = e; deep = refl }) p)
       go again x t us _ e = none x (t ∷ us)
+
       follow : ((x : S) (us : List Lexeme) → Finds (λ y ws rest. Separated N d x y ws rest) us (commas item n x us)) → (x : S) (us : List Lexeme) → Finds (FollowIs s x) us (comma_by (commas item n) x (first_terminal us) us)
       follow again x [] = none x []
       follow again x (t ∷ us) = go again x t us (terminal_of t) refl

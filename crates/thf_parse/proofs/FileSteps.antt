@@ -1,10 +1,10 @@
 -- The loop over statements.
-use Rattle.std.proofs.Common.{◌≡◌, ℕ, ◌<◌, List, [], ◌∷◌, ◌++◌, length, true, false, refl, sym, ap, ◌∙◌}
+use Rattle.std.proofs.Common.{◌≡◌, ℕ, List, [], ◌∷◌, ◌++◌, true, false, sym, ◌∙◌}
 use Rattle.thf_syntax.specs.Trees.{StatementTree}
 use Rattle.thf_parse.specs.declared.refusal.Refusal.{Refusal}
 use Rattle.thf_parse.specs.declared.refusal.Refusal.TheVariants.{Wrong, TooDeep, Memory}
 use Rattle.thf_parse.specs.Words.{Lexeme, lexemes}
-use Rattle.thf_parse.specs.Outcome.{Outcome, found, wrong, deep, first_terminal}
+use Rattle.thf_parse.specs.Outcome.{found, first_terminal}
 use Rattle.thf_parse.specs.Passes.{IsRefusal}
 use Rattle.thf_parse.specs.StatementReader.{statement, is_end, file}
 use Rattle.thf_parse.proofs.StatementLocals.{file-ended, file-more, file-wrong, file-deep}

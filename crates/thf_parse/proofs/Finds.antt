@@ -1,5 +1,5 @@
 -- What readers find is in the grammar.
-use Rattle.std.proofs.Common.{◌≡◌, ℕ, List, [], ◌∷◌, Option, Some, None, refl, sym, ap}
+use Rattle.std.proofs.Common.{◌≡◌, ℕ, List, ◌∷◌, Option, Some, None, refl, ap}
 use Rattle.thf_parse.specs.Words.{Lexeme, Word, plain}
 use Rattle.thf_parse.specs.Outcome.{Outcome, found, wrong, deep, ◌>>=◌, Reader, enter}
 

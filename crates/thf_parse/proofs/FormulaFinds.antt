@@ -1,5 +1,5 @@
 -- What is found is a formula.
-use Rattle.std.proofs.Common.{◌≡◌, ℕ, zero, suc, List, [], ◌∷◌, ◌++◌, Bool, true, false, if◌then◌else◌, Option, Some, None, refl, sym, ap, subst, ◌∙◌, append_assoc}
+use Rattle.std.proofs.Common.{◌≡◌, ℕ, zero, suc, List, [], ◌∷◌, ◌++◌, Bool, true, false, if◌then◌else◌, refl, sym, ap, subst, ◌∙◌, append_assoc}
 use Rattle.thf_syntax.specs.Trees.{TypeTree, indiv, VarTree, FormulaTree, constant, variable, truth, operator, negation, binary, equation, application, quantified, binding}
 use Rattle.thf_syntax.specs.declared.formula.Conn.{Conn}
 use Rattle.thf_syntax.specs.declared.formula.Conn.TheVariants.{Not, And, Or}
@@ -7,14 +7,14 @@ use Rattle.thf_syntax.specs.declared.formula.Binder.{Binder}
 use Rattle.thf_parse.specs.declared.terminal.Mark.TheVariants.{Open, Close, OpenList, CloseList, Comma, Colon, At}
 use Rattle.thf_parse.specs.declared.terminal.Terminal.{Terminal}
 use Rattle.thf_parse.specs.declared.terminal.Terminal.TheVariants as terminal
-use Rattle.thf_parse.specs.Words.{Lexeme, Word, terminal_of, name_of, Is, IsName, lower, quoted}
-use Rattle.thf_parse.specs.Types.{IsType, IsVar, plain_var, typed_var}
+use Rattle.thf_parse.specs.Words.{Lexeme, Word, terminal_of, name_of, Is, lower, quoted}
+use Rattle.thf_parse.specs.Types.{IsVar, plain_var, typed_var}
 use Rattle.thf_parse.specs.Formulas as is
 use Rattle.thf_parse.specs.Formulas.{binds_many, is_chained, is_nonassoc, lone_depth, AreVars, IsFormula, AreLinks, AreArguments, IsUnit, IsOperand, IsNegation, IsUnitary, IsPrimary, IsBinder}
-use Rattle.thf_parse.specs.Outcome.{Outcome, found, wrong, Reader, ◌>>=◌, first_terminal, first_place, first_name, behind, expect, enter}
+use Rattle.thf_parse.specs.Outcome.{found, wrong, Reader, ◌>>=◌, first_terminal, first_place, first_name, behind}
 use Rattle.thf_parse.specs.Reader.{type_with, inner_type}
-use Rattle.thf_parse.specs.FormulaReader.{Readers, Inside, var, typed_by, variable_at, negation_at, group_at, constant_at, variable_term_at, primary_by, primary, next_variable_by, next_variable, bracket_by, binder_at, unitary_by, unitary, operand_by, operand, right_side, equated_by, unit_by, unit, next_link, is_link, links_by, links, next_argument, arguments_by, arguments, quantified_by, quantified_at, second, tail_by, tail, applied_by, applied, behind_primary_by, behind_primary, formula_by, formula, closed, lone, negated_operand, negated_by, negated_at, grouped_by, grouped, body, bound_by, behind_variable, bound, readers, inner}
-use Rattle.thf_parse.proofs.Finds.{word, Reading, Finds, finds-bind, finds-token, finds-as, finds-behind, finds-map, finds-one, finds-none, FindIn, finds-enter}
+use Rattle.thf_parse.specs.FormulaReader.{Readers, Inside, var, typed_by, variable_at, negation_at, primary_by, primary, next_variable_by, next_variable, bracket_by, binder_at, unitary_by, unitary, operand_by, operand, right_side, equated_by, unit_by, unit, next_link, is_link, links_by, links, arguments_by, arguments, quantified_by, quantified_at, second, tail_by, tail, applied_by, applied, behind_primary_by, behind_primary, formula_by, formula, closed, lone, negated_operand, negated_by, negated_at, grouped_by, grouped, body, bound_by, behind_variable, bound, readers, inner}
+use Rattle.thf_parse.proofs.Finds.{word, Finds, finds-bind, finds-token, finds-as, finds-behind, finds-map, finds-one, finds-none, FindIn, finds-enter}
 use Rattle.thf_parse.proofs.MarkLaws.{Closed, finds-closed, finds-past}
 use Rattle.thf_parse.proofs.TypeLaws.{TypeIs, finds-type_with, finds-inner_type}
 
@@ -87,6 +87,7 @@ finds-variable d type h t (s ∷ ts) e = go (terminal_of s) refl
   where
     none : Finds (VarIs d) (t ∷ s ∷ ts) (found (var t.at (name_of t) (indiv t.at)) (s ∷ ts))
     none = finds-one (VarIs d) t d (s ∷ ts) (var t.at (name_of t) (indiv t.at)) (λ after. plain_var d (word t d) after (here t terminal.Upper d e))
+
     go : (x : Terminal) → terminal_of s ≡ x → Finds (VarIs d) (t ∷ s ∷ ts) (typed_by type t.at (name_of t) x (s ∷ ts))
     go (terminal.Mark Colon) f =
         finds-behind (VarIs d) t d (s ∷ ts) _
@@ -161,9 +162,11 @@ module _ (d : ℕ) (inside : Inside) (h : FindIn (FindReaders d) inside) where
     where
       plainly : (us : List Lexeme) → Finds (UnitaryIs d) us (primary inside us)
       plainly us = finds-as (PrimaryIs d) (UnitaryIs d) us (primary inside us) (finds-primary us) (λ u ws rest p. is.primary_unitary d ws rest u p)
+
       go : (t : Lexeme) (us : List Lexeme) (x : Terminal) → terminal_of t ≡ x → Finds (UnitaryIs d) (t ∷ us) (unitary_by inside x (t ∷ us))
       go t us (terminal.Binder b) e = finds-as (BinderIs d) (UnitaryIs d) (t ∷ us) (binder_at inside b (t ∷ us)) (finds-binder b t us e) (λ u ws rest p. is.binder_unitary d ws rest u p)
       go t us _ e = plainly (t ∷ us)
+
       cases : (us : List Lexeme) → Finds (UnitaryIs d) us (unitary_by inside (first_terminal us) us)
       cases [] = plainly []
       cases (t ∷ us) = go t us (terminal_of t) refl
@@ -174,9 +177,11 @@ module _ (d : ℕ) (inside : Inside) (h : FindIn (FindReaders d) inside) where
     where
       plainly : (us : List Lexeme) → Finds (OperandIs d) us (unitary inside us)
       plainly us = finds-as (UnitaryIs d) (OperandIs d) us (unitary inside us) (finds-unitary us) (λ u ws rest p. is.unitary_operand d ws rest u p)
+
       go : (t : Lexeme) (us : List Lexeme) (x : Terminal) → terminal_of t ≡ x → Finds (OperandIs d) (t ∷ us) (operand_by inside x (t ∷ us))
       go t us (terminal.Conn Not) e = finds-as (NegationIs d) (OperandIs d) (t ∷ us) (negation_at inside (t ∷ us)) (finds-negation t us e) (λ u ws rest p. is.negation_operand d ws rest u p)
       go t us _ e = plainly (t ∷ us)
+
       cases : (us : List Lexeme) → Finds (OperandIs d) us (operand_by inside (first_terminal us) us)
       cases [] = plainly []
       cases (t ∷ us) = go t us (terminal_of t) refl
@@ -198,9 +203,11 @@ module _ (d : ℕ) (inside : Inside) (h : FindIn (FindReaders d) inside) where
     where
       none : (us : List Lexeme) → Finds (RightIs t) us (found t us)
       none us = finds-none (RightIs t) us t (λ after front p. is.unitary_unit d front after t (is.primary_unitary d front after t p))
+
       go : (s : Lexeme) (us : List Lexeme) (x : Terminal) → terminal_of s ≡ x → Finds (RightIs t) (s ∷ us) (equated_by inside t x (s ∷ us))
       go s us (terminal.Equality b) e = finds-right_side b t s us e
       go s us _ e = none (s ∷ us)
+
       cases : (us : List Lexeme) → Finds (RightIs t) us (equated_by inside t (first_terminal us) us)
       cases [] = none []
       cases (s ∷ us) = go s us (terminal_of s) refl
@@ -211,10 +218,12 @@ module _ (d : ℕ) (inside : Inside) (h : FindIn (FindReaders d) inside) where
     where
       plainly : (us : List Lexeme) → Finds (UnitIs d) us (primary inside us >>= λ t rest. equated_by inside t (first_terminal rest) rest)
       plainly us = finds-bind (PrimaryIs d) RightIs (UnitIs d) us (primary inside us) _ (finds-primary us) (λ t mid. finds-equated t mid) (λ t u ws mid rest p q. q ws p)
+
       go : (t : Lexeme) (us : List Lexeme) (x : Terminal) → terminal_of t ≡ x → Finds (UnitIs d) (t ∷ us) (unit_by inside x (t ∷ us))
       go t us (terminal.Conn Not) e = finds-as (NegationIs d) (UnitIs d) (t ∷ us) (negation_at inside (t ∷ us)) (finds-negation t us e) (λ u ws rest p. is.negation_unit d ws rest u p)
       go t us (terminal.Binder b) e = finds-as (BinderIs d) (UnitIs d) (t ∷ us) (binder_at inside b (t ∷ us)) (finds-binder b t us e) (λ u ws rest p. is.unitary_unit d ws rest u (is.binder_unitary d ws rest u p))
       go t us _ e = plainly (t ∷ us)
+
       cases : (us : List Lexeme) → Finds (UnitIs d) us (unit_by inside (first_terminal us) us)
       cases [] = plainly []
       cases (t ∷ us) = go t us (terminal_of t) refl
@@ -225,6 +234,7 @@ module _ (d : ℕ) (inside : Inside) (h : FindIn (FindReaders d) inside) where
     where
       none : (us : List Lexeme) → Finds (LinksAre c d t) us (found t us)
       none us = finds-none (LinksAre c d t) us t (λ after. is.no_links c d t after)
+
       go : (s : Lexeme) (us : List Lexeme) (b : Bool) → is_link c (terminal_of s) ≡ b → Finds (LinksAre c d t) (s ∷ us) (if b then next_link inside c t (s ∷ us) else found t (s ∷ us))
       go s us true e =
           finds-enter (LinksAre c d t) (FindReaders d) inside (s ∷ us) (s ∷ us) _ h
@@ -232,9 +242,11 @@ module _ (d : ℕ) (inside : Inside) (h : FindIn (FindReaders d) inside) where
           (finds-bind (UnitIs (suc d)) (λ u. LinksAre c (suc d) (binary s.at c t u)) (λ v ws rest. AreLinks c d t (word s (suc d) ∷ ws) v rest) us (r.unit us) _ (k.unit us) (λ u mid. k.links c (binary s.at c t u) mid)
           (λ u v ws mid rest p q. is.more_links c d t u v (word s (suc d)) ws mid rest (here s (terminal.Conn c) (suc d) (is_link-is c (terminal_of s) e)) p q)))
       go s us false e = none (s ∷ us)
+
       empty : (b : Bool) → is_link c terminal.Other ≡ b → Finds (LinksAre c d t) [] (if b then next_link inside c t [] else found t [])
       empty true e = let q = is_link-is c terminal.Other e in cc
       empty false e = none []
+
       cases : (us : List Lexeme) → Finds (LinksAre c d t) us (links_by inside c t (first_terminal us) us)
       cases [] = empty (is_link c terminal.Other) refl
       cases (s ∷ us) = go s us (is_link c (terminal_of s)) refl
@@ -245,6 +257,7 @@ module _ (d : ℕ) (inside : Inside) (h : FindIn (FindReaders d) inside) where
     where
       none : (us : List Lexeme) → Finds (ArgumentsAre d t) us (found t us)
       none us = finds-none (ArgumentsAre d t) us t (λ after. is.no_arguments d t after)
+
       go : (s : Lexeme) (us : List Lexeme) (x : Terminal) → terminal_of s ≡ x → Finds (ArgumentsAre d t) (s ∷ us) (arguments_by inside t x (s ∷ us))
       go s us (terminal.Mark At) e =
           finds-enter (ArgumentsAre d t) (FindReaders d) inside (s ∷ us) (s ∷ us) _ h
@@ -252,6 +265,7 @@ module _ (d : ℕ) (inside : Inside) (h : FindIn (FindReaders d) inside) where
           (finds-bind (OperandIs (suc d)) (λ u. ArgumentsAre (suc d) (application s.at t u)) (λ v ws rest. AreArguments d t (word s (suc d) ∷ ws) v rest) us (r.operand us) _ (k.operand us) (λ u mid. k.arguments (application s.at t u) mid)
           (λ u v ws mid rest p q. is.more_arguments d t u v (word s (suc d)) ws mid rest (here s (terminal.Mark At) (suc d) e) p q)))
       go s us _ e = none (s ∷ us)
+
       cases : (us : List Lexeme) → Finds (ArgumentsAre d t) us (arguments_by inside t (first_terminal us) us)
       cases [] = none []
       cases (s ∷ us) = go s us (terminal_of s) refl
@@ -287,14 +301,17 @@ module _ (d : ℕ) (inside : Inside) (h : FindIn (FindReaders d) inside) where
     where
       none : (us : List Lexeme) → Finds (TailIs t) us (found t us)
       none us = finds-none (TailIs t) us t (λ after front p. is.unit_formula d front after t p)
+
       chain : (c : Conn) → is_chained c ≡ true → (us : List Lexeme) → Finds (TailIs t) us (links inside c t us)
       chain c e us = finds-as (LinksAre c d t) (TailIs t) us (links inside c t us) (finds-links c t us) (λ u ws rest p front q. links-formula c d t u front ws rest e q p)
+
       go : (s : Lexeme) (us : List Lexeme) (x : Terminal) → terminal_of s ≡ x → Finds (TailIs t) (s ∷ us) (tail_by inside t x (s ∷ us))
       go s us (terminal.Conn Not) e = none (s ∷ us)
       go s us (terminal.Conn And) e = chain And refl (s ∷ us)
       go s us (terminal.Conn Or) e = chain Or refl (s ∷ us)
       go s us (terminal.Conn c) e = finds-second c t s us refl e
       go s us _ e = none (s ∷ us)
+
       cases : (us : List Lexeme) → Finds (TailIs t) us (tail_by inside t (first_terminal us) us)
       cases [] = none []
       cases (s ∷ us) = go s us (terminal_of s) refl
@@ -309,9 +326,11 @@ module _ (d : ℕ) (inside : Inside) (h : FindIn (FindReaders d) inside) where
     where
       none : (us : List Lexeme) → Finds (AppliedIs t) us (tail inside t us)
       none us = finds-as (TailIs t) (AppliedIs t) us (tail inside t us) (finds-tail t us) (λ u ws rest p front q. p front (is.unitary_unit d front ws t q))
+
       go : (s : Lexeme) (us : List Lexeme) (x : Terminal) → terminal_of s ≡ x → Finds (AppliedIs t) (s ∷ us) (applied_by inside t x (s ∷ us))
       go s us (terminal.Mark At) e = finds-as (ArgumentsAre d t) (AppliedIs t) (s ∷ us) (arguments inside t (s ∷ us)) (finds-arguments t (s ∷ us)) (λ u ws rest p front q. arguments-formula d t u front ws rest q p)
       go s us _ e = none (s ∷ us)
+
       cases : (us : List Lexeme) → Finds (AppliedIs t) us (applied_by inside t (first_terminal us) us)
       cases [] = none []
       cases (s ∷ us) = go s us (terminal_of s) refl
@@ -326,10 +345,12 @@ module _ (d : ℕ) (inside : Inside) (h : FindIn (FindReaders d) inside) where
     where
       none : (us : List Lexeme) → Finds (BehindPrimaryIs t) us (applied inside t us)
       none us = finds-as (AppliedIs t) (BehindPrimaryIs t) us (applied inside t us) (finds-applied t us) (λ u ws rest p front q. p front (is.primary_unitary d front ws t q))
+
       go : (s : Lexeme) (us : List Lexeme) (x : Terminal) → terminal_of s ≡ x → Finds (BehindPrimaryIs t) (s ∷ us) (behind_primary_by inside t x (s ∷ us))
       go s us (terminal.Equality b) e =
           finds-bind (RightIs t) TailIs (BehindPrimaryIs t) (s ∷ us) (right_side inside b t (s ∷ us)) _ (finds-right_side b t s us e) (λ u mid. finds-tail u mid) (λ u v ws mid rest p q front k. q front (p front k))
       go s us _ e = none (s ∷ us)
+
       cases : (us : List Lexeme) → Finds (BehindPrimaryIs t) us (behind_primary_by inside t (first_terminal us) us)
       cases [] = none []
       cases (s ∷ us) = go s us (terminal_of s) refl
@@ -340,11 +361,13 @@ module _ (d : ℕ) (inside : Inside) (h : FindIn (FindReaders d) inside) where
     where
       plainly : (us : List Lexeme) → Finds (FormulaIs d) us (primary inside us >>= λ t rest. behind_primary inside t rest)
       plainly us = finds-bind (PrimaryIs d) BehindPrimaryIs (FormulaIs d) us (primary inside us) _ (finds-primary us) (λ t mid. finds-behind_primary t mid) (λ t u ws mid rest p q. q ws p)
+
       go : (t : Lexeme) (us : List Lexeme) (x : Terminal) → terminal_of t ≡ x → Finds (FormulaIs d) (t ∷ us) (formula_by inside x (t ∷ us))
       go t us (terminal.Conn Not) e = finds-bind (NegationIs d) TailIs (FormulaIs d) (t ∷ us) (negation_at inside (t ∷ us)) _ (finds-negation t us e) (λ u mid. finds-tail u mid) (λ u v ws mid rest p q. q ws (is.negation_unit d ws mid u p))
       go t us (terminal.Quant all) e = finds-quantified all t us e
       go t us (terminal.Binder b) e = finds-bind (BinderIs d) AppliedIs (FormulaIs d) (t ∷ us) (binder_at inside b (t ∷ us)) _ (finds-binder b t us e) (λ u mid. finds-applied u mid) (λ u v ws mid rest p q. q ws (is.binder_unitary d ws mid u p))
       go t us _ e = plainly (t ∷ us)
+
       cases : (us : List Lexeme) → Finds (FormulaIs d) us (formula_by inside (first_terminal us) us)
       cases [] = plainly []
       cases (t ∷ us) = go t us (terminal_of t) refl
@@ -377,12 +400,14 @@ module _ (d : ℕ) (inside : Inside) (h : FindIn (FindReaders (suc d)) inside) w
             read = q.read (word t (suc (suc d)) ∷ ws) (is.negation_unit (suc d) (word t (suc (suc d)) ∷ ws) mid (negation t.at u) (is.negated (suc d) (word t (suc (suc d))) ws mid u (here t (terminal.Conn Not) (suc (suc d)) e) p));
             closes = q.closes;
           }))))
+
       go : (s : Lexeme) (us : List Lexeme) (x : Terminal) → terminal_of s ≡ x → Finds (GroupedIs d) (t ∷ s ∷ us) (negated_by inside t.at x (s ∷ us))
       go s us (terminal.Mark Close) f =
           finds-behind (GroupedIs d) t (suc (suc d)) (s ∷ us) (found (operator t.at Not) us)
           (finds-one (λ u ws rest. GroupedIs d u (word t (suc (suc d)) ∷ ws) rest) s (suc d) us (operator t.at Not)
           (λ after w o. is.operator_primary d w (word t (suc (suc d))) (word s (suc d)) after Not o (here t (terminal.Conn Not) (suc (suc d)) e) (here s (terminal.Mark Close) (suc d) f)))
       go s us _ f = negates (s ∷ us)
+
       cases : (us : List Lexeme) → Finds (GroupedIs d) (t ∷ us) (negated_by inside t.at (first_terminal us) us)
       cases [] = negates []
       cases (s ∷ us) = go s us (terminal_of s) refl
@@ -393,10 +418,12 @@ module _ (d : ℕ) (inside : Inside) (h : FindIn (FindReaders (suc d)) inside) w
     where
       plainly : (us : List Lexeme) → Finds (GroupedIs d) us (formula inside us >>= λ t rest. closed t rest)
       plainly us = finds-as (Closed (FormulaIs (suc d)) Close (suc d)) (GroupedIs d) us _ (finds-closed (FormulaIs (suc d)) Close (suc d) us (formula inside us) (finds-formula (suc d) inside h us)) group-closed
+
       go : (t : Lexeme) (us : List Lexeme) (x : Terminal) → terminal_of t ≡ x → Finds (GroupedIs d) (t ∷ us) (grouped_by inside x (t ∷ us))
       go t us (terminal.Conn Not) e = finds-negated t us e
       go t us (terminal.Conn c) e = finds-lone c t us refl e
       go t us _ e = plainly (t ∷ us)
+
       cases : (us : List Lexeme) → Finds (GroupedIs d) us (grouped_by inside (first_terminal us) us)
       cases [] = plainly []
       cases (t ∷ us) = go t us (terminal_of t) refl

@@ -1,19 +1,19 @@
 -- A formula is found, or a token of it is too deep.
-use Rattle.std.proofs.Common.{◌≡◌, ℕ, zero, suc, ◌+◌, ◌≤◌, List, [], ◌∷◌, ◌++◌, Bool, true, false, if◌then◌else◌, Option, Some, None, refl, sym, ap, subst, ◌∙◌, append_assoc, arith}
-use Rattle.thf_syntax.specs.Trees.{TypeTree, indiv, VarTree, FormulaTree, constant, variable, truth, operator, negation, binary, equation, application, quantified, binding}
+use Rattle.std.proofs.Common.{◌≡◌, ℕ, zero, suc, ◌+◌, ◌≤◌, List, [], ◌∷◌, ◌++◌, Bool, true, false, if◌then◌else◌, Some, None, refl, sym, ap, subst, ◌∙◌, append_assoc, arith}
+use Rattle.thf_syntax.specs.Trees.{TypeTree, indiv, VarTree, FormulaTree, operator, negation, binary, equation, application, quantified, binding}
 use Rattle.thf_syntax.specs.declared.formula.Conn.{Conn}
 use Rattle.thf_syntax.specs.declared.formula.Conn.TheVariants.{Not, And, Or, Imp, If, Iff, Xor, Nor, Nand}
 use Rattle.thf_syntax.specs.declared.formula.Binder.{Binder}
-use Rattle.thf_parse.specs.declared.terminal.Mark.TheVariants.{Open, Close, OpenList, CloseList, Comma, Colon, Arrow, At}
+use Rattle.thf_parse.specs.declared.terminal.Mark.TheVariants.{Open, Close, CloseList, Comma, Colon, Arrow, At}
 use Rattle.thf_parse.specs.declared.terminal.Terminal.{Terminal}
 use Rattle.thf_parse.specs.declared.terminal.Terminal.TheVariants as terminal
-use Rattle.thf_parse.specs.Words.{Lexeme, Word, plain, terminal_of, name_of, Is, IsName, lower, quoted}
-use Rattle.thf_parse.specs.Types.{IsType, IsVar, plain_var, typed_var}
+use Rattle.thf_parse.specs.Words.{Lexeme, Word, plain, name_of, Is, lower, quoted}
+use Rattle.thf_parse.specs.Types.{IsVar, plain_var, typed_var}
 use Rattle.thf_parse.specs.Formulas as is
 use Rattle.thf_parse.specs.Formulas.{binds_many, is_chained, is_nonassoc, lone_depth, AreVars, IsFormula, AreLinks, AreArguments, IsUnit, IsOperand, IsNegation, IsUnitary, IsPrimary, IsBinder}
-use Rattle.thf_parse.specs.Outcome.{Outcome, found, wrong, Reader, ◌>>=◌, first_terminal, first_place, first_name, behind, is_mark, expect, enter}
+use Rattle.thf_parse.specs.Outcome.{found, wrong, Reader, ◌>>=◌, first_terminal, first_place, first_name, behind, is_mark, enter}
 use Rattle.thf_parse.specs.Reader.{type_with, inner_type}
-use Rattle.thf_parse.specs.FormulaReader.{Readers, Inside, var, typed_by, variable_at, negation_at, group_at, constant_at, variable_term_at, primary_by, primary, next_variable_by, next_variable, bracket_by, binder_at, unitary_by, unitary, operand_by, operand, right_side, equated_by, unit_by, unit, next_link, is_link, links_by, links, next_argument, arguments_by, arguments, quantified_by, quantified_at, second, tail_by, tail, applied_by, applied, behind_primary_by, behind_primary, formula_by, formula, closed, lone, negated_operand, negated_by, negated_at, grouped_by, grouped, body, bound_by, behind_variable, bound, readers, inner}
+use Rattle.thf_parse.specs.FormulaReader.{Readers, Inside, var, typed_by, variable_at, negation_at, primary_by, primary, next_variable_by, next_variable, bracket_by, binder_at, unitary_by, unitary, operand_by, operand, right_side, equated_by, unit_by, unit, next_link, is_link, links, arguments_by, arguments, quantified_by, quantified_at, second, tail_by, tail, applied_by, applied, behind_primary_by, behind_primary, formula_by, formula, closed, lone, negated_operand, negated_by, negated_at, grouped_by, grouped, body, bound_by, behind_variable, bound, readers, inner}
 use Rattle.thf_parse.proofs.Goes.{Goes, GoIn, goes-bind, goes-token, goes-found, goes-enter, goes-into}
 use Rattle.thf_parse.proofs.MarkLaws.{goes-closed, goes-past}
 use Rattle.thf_parse.proofs.TypeLaws.{NoArrow, GoesTypes, goes-type_with, goes-inner_type}
@@ -422,8 +422,10 @@ module _ (limit : ℕ) where
       where
         args : Goes limit (w ∷ right) rest v (arguments inside t (plain (w ∷ right)))
         args = goes-arguments t v (w ∷ right) rest (is.more_arguments d t u v w right mid rest k q m) end
+
         apply : Goes limit (w ∷ right) rest v (applied inside t (plain (w ∷ right)))
         apply = subst (λ x. Goes limit (w ∷ right) rest v (applied_by inside t x (plain (w ∷ right)))) (sym k.terminal) args
+
         go : IsUnitary d ws t (w ∷ right) → Goes limit ws rest v (formula inside (plain ws))
         go (is.primary_unitary _ _ _ _ r) = goes-from_primary ws (w ∷ right) rest t v r (goes-behind t v (w ∷ right) rest (ap is_equality k.terminal) apply)
         go (is.binder_unitary _ _ _ _ r) = goes-from_binder ws (w ∷ right) rest t v r (ap is_equality k.terminal) apply

@@ -1,11 +1,11 @@
 -- The loop over labels.
-use Rattle.std.proofs.Common.{◌≡◌, ℕ, suc, ◌<◌, ◌≤◌, List, [], ◌∷◌, ◌++◌, length, true, false, refl, sym, ap, ◌∙◌, arith}
+use Rattle.std.proofs.Common.{◌≡◌, ℕ, ◌<◌, List, [], ◌∷◌, ◌++◌, length, true, false, sym, ap, ◌∙◌, arith}
 use Rattle.thf_syntax.specs.Trees.{SelectedTree}
 use Rattle.thf_parse.specs.declared.refusal.Refusal.{Refusal}
 use Rattle.thf_parse.specs.declared.refusal.Refusal.TheVariants.{Wrong, TooDeep, Memory}
 use Rattle.thf_parse.specs.declared.terminal.Mark.TheVariants.{Comma}
 use Rattle.thf_parse.specs.Words.{Lexeme, lexemes}
-use Rattle.thf_parse.specs.Outcome.{Outcome, found, wrong, deep, ◌>>=◌, first_terminal, behind, is_mark}
+use Rattle.thf_parse.specs.Outcome.{found, ◌>>=◌, first_terminal, behind, is_mark}
 use Rattle.thf_parse.specs.Passes.{IsRefusal}
 use Rattle.thf_parse.specs.NoteReader.{all_commas}
 use Rattle.thf_parse.specs.StatementReader.{label, more_label, labels}

@@ -1,5 +1,5 @@
 -- The tokens of a file end with its end, or with a byte that begins nothing.
-use Rattle.std.proofs.Common.{◌≡◌, ℕ, List, [], ◌∷◌, ◌+◌, length, map, take, drop, Bool, true, false, if◌then◌else◌, ◌==◌, ◌&&◌, ◌||◌, codes, refl, arith}
+use Rattle.std.proofs.Common.{◌≡◌, ℕ, List, [], ◌∷◌, ◌+◌, take, drop, Bool, true, false, if◌then◌else◌, ◌==◌, ◌&&◌, ◌||◌, codes, refl}
 use Rattle.std.specs.Str.{bytes_eq}
 use Rattle.thf_lex.specs.declared.token.TokenKind.{TokenKind}
 use Rattle.thf_lex.specs.declared.token.TokenKind.TheVariants as kind

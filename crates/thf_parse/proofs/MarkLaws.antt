@@ -6,9 +6,9 @@ use Rattle.thf_parse.specs.declared.terminal.Terminal.{Terminal}
 use Rattle.thf_parse.specs.declared.terminal.Terminal.TheVariants as terminal
 use Rattle.thf_parse.specs.Terminals.{same_mark}
 use Rattle.thf_parse.specs.Words.{Lexeme, Word, plain, terminal_of, Is}
-use Rattle.thf_parse.specs.Outcome.{Outcome, found, wrong, deep, Reader, ◌>>=◌, first_terminal, behind, is_mark, expect, expect_by}
+use Rattle.thf_parse.specs.Outcome.{Outcome, found, wrong, Reader, ◌>>=◌, first_terminal, behind, is_mark, expect, expect_by}
 use Rattle.thf_parse.proofs.Locals.{IsLocal, IsLocalAt, is_proper, at, local-found, local-wrong, local-behind, local-bind, local-terminal}
-use Rattle.thf_parse.proofs.Finds.{word, Reading, Finds, finds-bind, finds-token, Nothing, finds-nothing}
+use Rattle.thf_parse.proofs.Finds.{word, Finds, finds-bind, finds-token, Nothing, finds-nothing}
 use Rattle.thf_parse.proofs.Goes.{Goes, goes-bind, goes-token, goes-found}
 
 abbrev unit : Unit {0}

@@ -1,17 +1,17 @@
 -- Notes are read as the grammar says.
-use Rattle.std.proofs.Common.{◌≡◌, ℕ, zero, suc, ◌+◌, ◌≤◌, List, [], ◌∷◌, length, Bool, true, false, Option, Some, None, refl, sym, ap, subst, ◌∙◌, arith}
+use Rattle.std.proofs.Common.{◌≡◌, ℕ, zero, suc, ◌+◌, ◌≤◌, List, [], ◌∷◌, length, Bool, true, false, Option, refl, sym, ap, subst, ◌∙◌, arith}
 use Rattle.thf_parse.specs.declared.terminal.Mark.TheVariants.{Open, Close, OpenList, CloseList, Comma, Colon}
 use Rattle.thf_parse.specs.declared.terminal.Terminal.{Terminal}
 use Rattle.thf_parse.specs.declared.terminal.Terminal.TheVariants as terminal
 use Rattle.thf_parse.specs.Words.{Lexeme, Word, plain, terminal_of, Is, IsName, lower, quoted}
 use Rattle.thf_parse.specs.Notes as is
 use Rattle.thf_parse.specs.Notes.{IsGeneral, AreGenerals, IsData, AreNotes}
-use Rattle.thf_parse.specs.Outcome.{Outcome, found, wrong, Reader, ◌>>=◌, first_terminal, behind, is_mark, expect, enter}
-use Rattle.thf_parse.specs.NoteReader.{passed, all_commas, commas, NoteReaders, called_by, called, data_by, data_at, listed_by, listed, list_at, paired_by, paired, general_by, general, generals, inner_notes, second_note, notes_by, notes}
-use Rattle.thf_parse.proofs.Locals.{IsLocal, IsLocalAt, AreLocal, is_proper, at, local-found, local-wrong, local-behind, local-bind, local-terminal, enter-at}
-use Rattle.thf_parse.proofs.Finds.{word, Finds, finds-bind, finds-token, finds-as, finds-behind, finds-one, finds-none, FindIn, finds-enter}
+use Rattle.thf_parse.specs.Outcome.{found, wrong, Reader, ◌>>=◌, first_terminal, behind, is_mark, expect}
+use Rattle.thf_parse.specs.NoteReader.{passed, NoteReaders, called_by, called, data_by, data_at, listed_by, listed, paired_by, paired, general_by, general, generals, inner_notes, second_note, notes_by, notes}
+use Rattle.thf_parse.proofs.Locals.{IsLocal, IsLocalAt, AreLocal, at, local-found, local-wrong, local-behind, local-bind, local-terminal, enter-at}
+use Rattle.thf_parse.proofs.Finds.{word, Finds, finds-bind, finds-token, finds-as, finds-one, finds-none, FindIn, finds-enter}
 use Rattle.thf_parse.proofs.Goes.{Goes, GoIn, goes-bind, goes-token, goes-found, goes-enter}
-use Rattle.thf_parse.proofs.MarkLaws.{local-expect, finds-past, goes-past, goes-expect, finds-expect, Expected}
+use Rattle.thf_parse.proofs.MarkLaws.{local-expect, goes-expect, finds-expect, Expected}
 use Rattle.thf_parse.proofs.CommaLaws.{local-all, Separated, last, more, finds-commas, goes-commas}
 
 pub record LocalNotes (r : NoteReaders) : Type 0 where
@@ -124,12 +124,14 @@ module _ (d : ℕ) (inside : Option NoteReaders) (h : FindIn (FindNotes (suc d))
     where
       none : (us : List Lexeme) → Finds CalledIs us (found passed us)
       none us = finds-none CalledIs us passed (λ after w k. is.name_data d w after k)
+
       go : (t : Lexeme) (us : List Lexeme) (x : Terminal) → terminal_of t ≡ x → Finds CalledIs (t ∷ us) (called_by inside x (t ∷ us))
       go t us (terminal.Mark Open) e =
           finds-enter CalledIs (FindNotes (suc d)) inside (t ∷ us) (t ∷ us) _ h
           (λ r k. finds-token (ListIs (terminal.Mark Close) (suc d)) CalledIs t (suc d) us _ (finds-list r.generals k.generals us)
           (λ x ws rest p w n. is.call_data d w (word t (suc d)) p.closing ws rest n (record { terminal = e; deep = refl }) p.inner p.closes))
       go t us _ e = none (t ∷ us)
+
       cases : (us : List Lexeme) → Finds CalledIs us (called_by inside (first_terminal us) us)
       cases [] = none []
       cases (t ∷ us) = go t us (terminal_of t) refl
@@ -144,6 +146,7 @@ module _ (d : ℕ) (inside : Option NoteReaders) (h : FindIn (FindNotes (suc d))
     where
       here : (x : Terminal) → terminal_of t ≡ x → Is x d (word t d)
       here x e = record { terminal = e; deep = refl }
+
       go : (x : Terminal) → terminal_of t ≡ x → Finds DataIs (t ∷ ts) (data_by inside x (t ∷ ts))
       go terminal.Lower e = finds-token CalledIs DataIs t d ts (called inside ts) (finds-called ts) (λ x ws rest p. p (word t d) (lower (here terminal.Lower e)))
       go terminal.Quoted e = finds-token CalledIs DataIs t d ts (called inside ts) (finds-called ts) (λ x ws rest p. p (word t d) (quoted (here terminal.Quoted e)))
@@ -162,9 +165,11 @@ module _ (d : ℕ) (inside : Option NoteReaders) (h : FindIn (FindNotes (suc d))
     where
       some : (us : List Lexeme) → Finds ListedIs us (generals us >>= λ _ rest. expect CloseList rest)
       some us = finds-as (ListIs (terminal.Mark CloseList) (suc d)) ListedIs us _ (finds-list_end generals k us) (λ x ws rest p w o. is.list_general d w p.closing ws rest o p.inner p.closes)
+
       go : (t : Lexeme) (us : List Lexeme) (x : Terminal) → terminal_of t ≡ x → Finds ListedIs (t ∷ us) (listed_by generals x (t ∷ us))
       go t us (terminal.Mark CloseList) e = finds-one ListedIs t (suc d) us passed (λ after w o. is.empty_general d w (word t (suc d)) after o (record { terminal = e; deep = refl }))
       go t us _ e = some (t ∷ us)
+
       cases : (us : List Lexeme) → Finds ListedIs us (listed_by generals (first_terminal us) us)
       cases [] = some []
       cases (t ∷ us) = go t us (terminal_of t) refl
@@ -179,11 +184,13 @@ module _ (d : ℕ) (inside : Option NoteReaders) (h : FindIn (FindNotes (suc d))
     where
       none : (us : List Lexeme) → Finds PairedIs us (found passed us)
       none us = finds-none PairedIs us passed (λ after front p. is.data_general d front after p)
+
       go : (t : Lexeme) (us : List Lexeme) (x : Terminal) → terminal_of t ≡ x → Finds PairedIs (t ∷ us) (paired_by inside x (t ∷ us))
       go t us (terminal.Mark Colon) e =
           finds-enter PairedIs (FindNotes (suc d)) inside (t ∷ us) (t ∷ us) _ h
           (λ r k. finds-token (GeneralIs (suc d)) PairedIs t (suc d) us (r.general us) (k.general us) (λ x ws rest p front q. is.pair_general d front ws rest (word t (suc d)) q (record { terminal = e; deep = refl }) p))
       go t us _ e = none (t ∷ us)
+
       cases : (us : List Lexeme) → Finds PairedIs us (paired_by inside (first_terminal us) us)
       cases [] = none []
       cases (t ∷ us) = go t us (terminal_of t) refl
@@ -194,11 +201,13 @@ module _ (d : ℕ) (inside : Option NoteReaders) (h : FindIn (FindNotes (suc d))
     where
       plainly : (us : List Lexeme) → Finds (GeneralIs d) us (data_at inside us >>= λ _ rest. paired inside rest)
       plainly us = finds-bind DataIs (λ _. PairedIs) (GeneralIs d) us (data_at inside us) _ (finds-data us) (λ _ mid. finds-paired mid) (λ x y ws mid rest p q. q ws p)
+
       go : (t : Lexeme) (us : List Lexeme) (x : Terminal) → terminal_of t ≡ x → Finds (GeneralIs d) (t ∷ us) (general_by inside x (t ∷ us))
       go t us (terminal.Mark OpenList) e =
           finds-enter (GeneralIs d) (FindNotes (suc d)) inside (t ∷ us) (t ∷ us) _ h
           (λ r k. finds-token ListedIs (GeneralIs d) t (suc d) us (listed r.generals us) (finds-listed r.generals k.generals us) (λ x ws rest p. p (word t (suc d)) (record { terminal = e; deep = refl })))
       go t us _ e = plainly (t ∷ us)
+
       cases : (us : List Lexeme) → Finds (GeneralIs d) us (general_by inside (first_terminal us) us)
       cases [] = plainly []
       cases (t ∷ us) = go t us (terminal_of t) refl

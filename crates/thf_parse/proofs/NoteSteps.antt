@@ -1,11 +1,10 @@
 -- The loop over what stands between commas in notes.
-use Rattle.std.proofs.Common.{◌≡◌, ℕ, suc, ◌<◌, ◌≤◌, List, [], ◌∷◌, length, true, false, refl, sym, ap, ◌∙◌, arith}
+use Rattle.std.proofs.Common.{◌≡◌, ℕ, ◌<◌, List, length, true, false, sym, ap, ◌∙◌, arith}
 use Rattle.thf_parse.specs.declared.refusal.Refusal.{Refusal}
 use Rattle.thf_parse.specs.declared.refusal.Refusal.TheVariants.{Wrong, TooDeep, Memory}
 use Rattle.thf_parse.specs.declared.terminal.Mark.TheVariants.{Comma}
-use Rattle.thf_parse.specs.declared.terminal.Terminal.TheVariants as terminal
 use Rattle.thf_parse.specs.Words.{Lexeme, lexemes}
-use Rattle.thf_parse.specs.Outcome.{Outcome, found, wrong, deep, Reader, first_terminal, behind, is_mark}
+use Rattle.thf_parse.specs.Outcome.{found, Reader, first_terminal, behind, is_mark}
 use Rattle.thf_parse.specs.Passes.{IsRefusal}
 use Rattle.thf_parse.specs.NoteReader.{passed, all_commas, general, generals, inner_notes}
 use Rattle.thf_parse.proofs.Locals.{IsLocal, rest_of, rest-length}

@@ -1,7 +1,6 @@
 -- The tree of a file's tokens, and the tokens at which others are refused.
-use Rattle.std.proofs.Common.{◌≡◌, ◌≢◌, ℕ, zero, suc, ◌+◌, ◌<◌, ◌≤◌, List, [], ◌∷◌, ◌++◌, length, map, Bool, true, false, ◌⊎◌, inl, inr, refl, sym, ap, subst, ◌∙◌, append_assoc, length-append, zero-add, arith}
+use Rattle.std.proofs.Common.{◌≡◌, ℕ, suc, ◌+◌, ◌<◌, ◌≤◌, List, [], ◌∷◌, ◌++◌, length, map, true, false, inl, inr, refl, sym, ap, subst, ◌∙◌, append_assoc, length-append, arith}
 use Rattle.std.proofs.lemmas.List.{append_cancel_right, append-nil, length-map}
-use Rattle.std.specs.List.{AllByRecursion}
 use Rattle.thf_syntax.specs.Trees.{StatementTree}
 use Rattle.thf_parse.specs.declared.terminal.Terminal.{Terminal}
 use Rattle.thf_parse.specs.declared.terminal.Terminal.TheVariants as terminal
@@ -10,12 +9,12 @@ use Rattle.thf_parse.specs.Statements.{IsFile, no_statement}
 use Rattle.thf_parse.specs.Outcome.{Outcome, found, wrong, deep, Reader, first_terminal, first_place}
 use Rattle.thf_parse.specs.StatementReader.{is_end, statements, file}
 use Rattle.thf_parse.specs.Parsing.{AreWithin, HasTree, IsWrongAt, IsTooDeepAt}
-use Rattle.thf_parse.proofs.Locals.{IsLocal, Decided, ArePassed, none, more, is_proper, rest_of, with_rest}
+use Rattle.thf_parse.proofs.Locals.{Decided, ArePassed, none, more, is_proper, rest_of, with_rest}
 use Rattle.thf_parse.proofs.Finds.{Reading, Finds, word}
 use Rattle.thf_parse.proofs.Goes.{IsShallow, here, there, Sinks, Arrives, Goes}
 use Rattle.thf_parse.proofs.StatementLocals.{local-file}
 use Rattle.thf_parse.proofs.StatementFinds.{FileIs, finds-file}
-use Rattle.thf_parse.proofs.StatementGoes.{GoesFile, goes-file}
+use Rattle.thf_parse.proofs.StatementGoes.{goes-file}
 
 -- the last token, and no other, is no token of a statement
 abbrev pub IsEnded : List Lexeme → Type 0
@@ -117,6 +116,7 @@ module _ (room : ℕ) where
           let told : file room [] (plain p.before ++ s.first.lexeme ∷ (plain m ++ rest)) ≡ deep (s.first.lexeme ∷ (plain m ++ rest)) = deep-front (before ++ after) p.before s.back after s.first (plain m ++ rest) p.whole s.is in
           let same : ts ≡ plain p.before ++ s.first.lexeme ∷ (plain m ++ rest) = whole ∙ ap (λ k. k ++ rest) (sym e ∙ ap plain q ∙ plain-append p.before (s.first ∷ m)) ∙ append_assoc (plain p.before) (plain (s.first ∷ m)) rest in
           absurd (never s.first.lexeme (plain m) (ap (file room []) same ∙ told))
+
       go : (x : Word) → Is terminal.End 0 x → Goes room (before ++ after) (x ∷ []) tree (file room [] (plain (before ++ after))) → AreWithin room before
       go x k (inl a) = within-front room before after (found-within (before ++ after) x tree _ k a)
       go x k (inr s) =
@@ -186,13 +186,16 @@ module _ (room : ℕ) where
     where
       d : Decided (file room []) ts
       d = local-file room [] ts
+
       whole : ts ≡ d.front ++ token ∷ back
       whole = d.whole ∙ ap (λ o. d.front ++ rest_of o) e
+
       no_file : (before after : List Word) (w : Word) (tree : List StatementTree) → plain before ≡ d.front → w.lexeme ≡ token → IsFile (before ++ w ∷ after) tree → ⊥
       no_file before after w tree p q f = go ((file-goes (before ++ w ∷ after) tree f).2)
         where
           told : file room [] (plain (before ++ w ∷ after)) ≡ wrong (token ∷ plain after)
           told = ap (file room []) (words-are d.front token before after w p q) ∙ d.same token back (plain after) (ap rest_of e) ∙ ap (λ o. with_rest o (token ∷ plain after)) e
+
           go : Goes room (before ++ w ∷ after) ((file-goes (before ++ w ∷ after) tree f).0 ∷ []) tree (file room [] (plain (before ++ w ∷ after))) → ⊥
           go (inl a) = let z = sym a.is ∙ told in cc
           go (inr s) = let z = sym s.is ∙ told in cc
@@ -212,15 +215,19 @@ module _ (room : ℕ) where
     where
       d : Decided (file room []) ts
       d = local-file room [] ts
+
       whole : ts ≡ d.front ++ token ∷ back
       whole = d.whole ∙ ap (λ o. d.front ++ rest_of o) e
+
       shorter : (x : Lexeme) (us : List Lexeme) → deep_here (token ∷ back) ≡ deep_here (x ∷ us ++ token ∷ back) → ⊥
       shorter x us k = let z : token ∷ back ≡ x ∷ us ++ token ∷ back = cc in omega (arith, ap length z, length-append us (token ∷ back))
+
       is_deeper : (before after : List Word) (w : Word) (tree : List StatementTree) → plain before ≡ d.front → w.lexeme ≡ token → IsFile (before ++ w ∷ after) tree → room < w.depth
       is_deeper before after w tree p q f = go ((file-goes (before ++ w ∷ after) tree f).2)
         where
           told : file room [] (plain (before ++ w ∷ after)) ≡ deep (token ∷ plain after)
           told = ap (file room []) (words-are d.front token before after w p q) ∙ d.same token back (plain after) (ap rest_of e) ∙ ap (λ o. with_rest o (token ∷ plain after)) e
+
           go : Goes room (before ++ w ∷ after) ((file-goes (before ++ w ∷ after) tree f).0 ∷ []) tree (file room [] (plain (before ++ w ∷ after))) → room < w.depth
           go (inl a) = let z = sym a.is ∙ told in cc
           go (inr s) =

@@ -1,25 +1,25 @@
 -- What is found is a statement.
-use Rattle.std.proofs.Common.{◌≡◌, ◌≢◌, ℕ, zero, suc, List, [], ◌∷◌, ◌++◌, length, Bool, true, false, if◌then◌else◌, Option, Some, None, codes, refl, sym, ap, subst, ◌∙◌, append_assoc}
+use Rattle.std.proofs.Common.{◌≡◌, ℕ, zero, suc, List, [], ◌∷◌, ◌++◌, length, Bool, true, false, if◌then◌else◌, Option, Some, None, codes, refl, sym, ap, subst, ◌∙◌, append_assoc}
 use Rattle.std.proofs.lemmas.List.{append-nil}
 use Rattle.std.specs.Str.{bytes_eq}
 use Rattle.std.proofs.lemmas.Slice.Eq.{bytes_eq-Decides}
-use Rattle.thf_syntax.specs.Trees.{TypeTree, FormulaTree, BodyTree, base, typing, formula as formula_body, SelectedTree, StatementTree, include as include_tree}
+use Rattle.thf_syntax.specs.Trees.{TypeTree, BodyTree, base, typing, formula as formula_body, SelectedTree, StatementTree, include as include_tree}
 use Rattle.thf_parse.specs.declared.statement.Keyword.{Keyword}
 use Rattle.thf_parse.specs.declared.statement.Keyword.TheVariants.{Thf, Include, Unknown}
 use Rattle.thf_parse.specs.declared.terminal.Mark.TheVariants.{Open, Close, OpenList, CloseList, Comma, Stop, Colon}
 use Rattle.thf_parse.specs.declared.terminal.Terminal.{Terminal}
 use Rattle.thf_parse.specs.declared.terminal.Terminal.TheVariants as terminal
-use Rattle.thf_parse.specs.Words.{Lexeme, Word, plain, terminal_of, name_of, name, place, Is, IsName, lower, quoted}
+use Rattle.thf_parse.specs.Words.{Lexeme, Word, plain, terminal_of, name_of, name, Is, IsName, lower, quoted}
 use Rattle.thf_parse.specs.Statements as is
 use Rattle.thf_parse.specs.Statements.{selected as labelled, IsLabel, IsKeyword, IsTyping, IsBody, AreLabels, IsSelection, IsEnd, IsStatement, IsFile}
 use Rattle.thf_parse.specs.Notes as notes_are
 use Rattle.thf_parse.specs.Notes.{AreNotes}
-use Rattle.thf_parse.specs.Outcome.{Outcome, found, wrong, deep, Reader, ◌>>=◌, first_terminal, first_place, first_name, first_text, behind, expect, enter}
+use Rattle.thf_parse.specs.Outcome.{Outcome, found, Reader, ◌>>=◌, first_terminal, first_place, first_name, first_text, behind, expect}
 use Rattle.thf_parse.specs.Reader.{type_with, inner_type}
 use Rattle.thf_parse.specs.FormulaReader.{formula, inner}
-use Rattle.thf_parse.specs.NoteReader.{passed, commas, general, second_note, notes_by, notes, inner_notes}
-use Rattle.thf_parse.specs.StatementReader.{selected, named_at, label_by, label, role_by, role, quoted_by, quoted as quoted_reader, declared_by, declared, group_typing, typing_by, typing_with, inner_typing, body, Head, head_of, head, finish, annotated_of, annotated, more_label, labels, names, selection_by, selection, include, keyword_in, keyword_by, keyword, statement_by, statement, is_end, statements_by, statements, file}
-use Rattle.thf_parse.proofs.Finds.{word, Reading, Finds, finds-bind, finds-token, finds-as, finds-behind, finds-map, finds-one, finds-none, FindIn, finds-enter}
+use Rattle.thf_parse.specs.NoteReader.{passed, general, second_note, notes_by, notes, inner_notes}
+use Rattle.thf_parse.specs.StatementReader.{selected, named_at, label_by, label, role_by, role, quoted_by, quoted as quoted_reader, declared_by, declared, typing_by, typing_with, inner_typing, body, Head, head_of, head, finish, annotated_of, annotated, more_label, labels, names, selection_by, selection, include, keyword_in, keyword_by, keyword, statement_by, statement, is_end, statements_by, statements, file}
+use Rattle.thf_parse.proofs.Finds.{word, Finds, finds-bind, finds-token, finds-as, finds-behind, finds-map, finds-one, finds-none, FindIn, finds-enter}
 use Rattle.thf_parse.proofs.MarkLaws.{Closed, finds-closed, finds-past, Expected, finds-expect}
 use Rattle.thf_parse.proofs.TypeLaws.{TypeIs, finds-type_with, finds-inner_type}
 use Rattle.thf_parse.proofs.FormulaFinds.{FormulaIs, finds-formula, finds-inner}
@@ -95,10 +95,12 @@ module _ (d : ℕ) (type : Reader TypeTree) (h : (ts : List Lexeme) → Finds (T
       of_type : (us : List Lexeme) → Finds (BehindColon n) us (type us >>= λ t rest. found (typing n.at n.name t) rest)
       of_type us = finds-map (TypeIs d) (BehindColon n) (typing n.at n.name) us (type us) (h us)
           (λ t ws rest p w v k e m. subst (λ (m : SelectedTree). IsTyping d (w ∷ v ∷ ws) (typing m.at m.name t) rest) (sym e) (is.constant_typing d w v ws rest t k m p))
+
       go : (t : Lexeme) (us : List Lexeme) (x : Terminal) → terminal_of t ≡ x → Finds (BehindColon n) (t ∷ us) (declared_by type n x (t ∷ us))
       go t us terminal.TypeOfTypes e = finds-one (BehindColon n) t d us (base n.at n.name)
           (λ after w v k q m. subst (λ (m : SelectedTree). IsTyping d (w ∷ v ∷ word t d ∷ after) (base m.at m.name) after) (sym q) (is.base_typing d w v (word t d) after k m (here t terminal.TypeOfTypes d e)))
       go t us _ e = of_type (t ∷ us)
+
       cases : (us : List Lexeme) → Finds (BehindColon n) us (declared_by type n (first_terminal us) us)
       cases [] = of_type []
       cases (t ∷ us) = go t us (terminal_of t) refl
@@ -114,6 +116,7 @@ module _ (d : ℕ) (type : Reader TypeTree) (h : (ts : List Lexeme) → Finds (T
     where
       of_name : IsName d (word t d) → Finds (TypingIs d) (t ∷ ts) (named_at (t ∷ ts) >>= λ n rest. declared type n rest)
       of_name m = finds-after (IsName d) DeclaredIs (TypingIs d) (t ∷ ts) (named_at (t ∷ ts)) (λ n rest. declared type n rest) (finds-named (IsName d) t ts d m) finds-declared (λ w b ws rest q p. p w q refl)
+
       go : (x : Terminal) → terminal_of t ≡ x → Finds (TypingIs d) (t ∷ ts) (typing_by type inside x (t ∷ ts))
       go terminal.Lower e = of_name (lower (here t terminal.Lower d e))
       go terminal.Quoted e = of_name (quoted (here t terminal.Quoted d e))
@@ -152,11 +155,13 @@ finds-second room ts = cases ts
   where
     none : (us : List Lexeme) → Finds SecondIs us (found passed us)
     none us = finds-none SecondIs us passed (λ after w front m p. notes_are.one_note w front after m p)
+
     go : (t : Lexeme) (us : List Lexeme) (x : Terminal) → terminal_of t ≡ x → Finds SecondIs (t ∷ us) (second_note (inner_notes room) x (t ∷ us))
     go t us (terminal.Mark Comma) e =
         finds-token (GeneralIs 0) SecondIs t 0 us (general (inner_notes room) us) (finds-general 0 (inner_notes room) (finds-inner_notes 0 room) us)
         (λ x ws rest p w front m q. notes_are.two_notes w (word t 0) front ws rest m q (here t (terminal.Mark Comma) 0 e) p)
     go t us _ e = none (t ∷ us)
+
     cases : (us : List Lexeme) → Finds SecondIs us (second_note (inner_notes room) (first_terminal us) us)
     cases [] = none []
     cases (t ∷ us) = go t us (terminal_of t) refl
@@ -167,12 +172,14 @@ finds-notes room ts = cases ts
   where
     none : (us : List Lexeme) → Finds NotesAre us (found passed us)
     none us = finds-none NotesAre us passed (λ after. notes_are.no_notes after)
+
     go : (t : Lexeme) (us : List Lexeme) (x : Terminal) → terminal_of t ≡ x → Finds NotesAre (t ∷ us) (notes_by (inner_notes room) x (t ∷ us))
     go t us (terminal.Mark Comma) e =
         finds-behind NotesAre t 0 us _
         (finds-bind (GeneralIs 0) (λ _. SecondIs) (λ y ws rest. AreNotes (word t 0 ∷ ws) rest) us (general (inner_notes room) us) _ (finds-general 0 (inner_notes room) (finds-inner_notes 0 room) us) (λ _ mid. finds-second room mid)
         (λ x y ws mid rest p q. q (word t 0) ws (here t (terminal.Mark Comma) 0 e) p))
     go t us _ e = none (t ∷ us)
+
     cases : (us : List Lexeme) → Finds NotesAre us (notes_by (inner_notes room) (first_terminal us) us)
     cases [] = none []
     cases (t ∷ us) = go t us (terminal_of t) refl
@@ -335,9 +342,11 @@ finds-selection ts = cases ts
   where
     none : (us : List Lexeme) → Finds SelectionIs us (found None us)
     none us = finds-none SelectionIs us None (λ after. is.everything after)
+
     go : (t : Lexeme) (us : List Lexeme) (x : Terminal) → terminal_of t ≡ x → Finds SelectionIs (t ∷ us) (selection_by x (t ∷ us))
     go t us (terminal.Mark Comma) e = finds-token NamesAre SelectionIs t 0 us (names us) (finds-names us) (λ only ws rest p. p (word t 0) (here t (terminal.Mark Comma) 0 e))
     go t us _ e = none (t ∷ us)
+
     cases : (us : List Lexeme) → Finds SelectionIs us (selection_by (first_terminal us) us)
     cases [] = none []
     cases (t ∷ us) = go t us (terminal_of t) refl
@@ -378,8 +387,10 @@ finds-statement room (t ∷ ts) = go (keyword (t ∷ ts)) refl
   where
     lower_word : (keyword (t ∷ ts) ≡ Unknown → ⊥) → terminal_of t ≡ terminal.Lower
     lower_word h = keyword-first (t ∷ ts) h
+
     text_of : (x : Terminal) (k : Keyword) → x ≡ terminal.Lower → keyword_by x t.text ≡ k → keyword_in t.text ≡ k
     text_of x k e h = ap (λ y. keyword_by y t.text) (sym e) ∙ h
+
     thf : keyword_in t.text ≡ Thf → t.text ≡ codes "thf"
     thf h = first_of (bytes_eq t.text (codes "thf")) refl h
       where
@@ -390,15 +401,18 @@ finds-statement room (t ∷ ts) = go (keyword (t ∷ ts)) refl
             second_of : (b : Bool) → (if b then Include else Unknown) ≡ Thf → t.text ≡ codes "thf"
             second_of true k = cc
             second_of false k = cc
+
     included : keyword_in t.text ≡ Include → t.text ≡ codes "include"
     included h = first_of (bytes_eq t.text (codes "thf")) h
       where
         second_of : (b : Bool) → bytes_eq t.text (codes "include") ≡ b → (if b then Include else Unknown) ≡ Include → t.text ≡ codes "include"
         second_of true e k = (bytes_eq-Decides t.text (codes "include")).0 e
         second_of false e k = cc
+
         first_of : (b : Bool) → (if b then Thf else (if bytes_eq t.text (codes "include") then Include else Unknown)) ≡ Include → t.text ≡ codes "include"
         first_of true k = cc
         first_of false k = second_of (bytes_eq t.text (codes "include")) refl k
+
     go : (k : Keyword) → keyword (t ∷ ts) ≡ k → Finds StatementIs (t ∷ ts) (statement_by room k (t ∷ ts))
     go Thf e =
         let low : terminal_of t ≡ terminal.Lower = lower_word (λ u. let q : Thf ≡ Unknown = sym e ∙ u in cc) in

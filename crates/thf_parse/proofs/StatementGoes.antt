@@ -1,34 +1,31 @@
 -- A statement is found, or a token of it is too deep.
-use Rattle.std.proofs.Common.{◌≡◌, ◌≢◌, ℕ, zero, suc, ◌+◌, ◌<◌, ◌≤◌, List, [], ◌∷◌, ◌++◌, length, Bool, true, false, if◌then◌else◌, Option, Some, None, inl, inr, codes, refl, sym, ap, subst, ◌∙◌, append_assoc, zero-add, arith}
+use Rattle.std.proofs.Common.{◌≡◌, ℕ, zero, suc, ◌+◌, ◌<◌, ◌≤◌, List, [], ◌∷◌, ◌++◌, length, Bool, true, false, if◌then◌else◌, Option, Some, None, inl, inr, codes, refl, sym, ap, subst, ◌∙◌, append_assoc, zero-add, arith}
 use Rattle.std.proofs.lemmas.List.{append-nil}
 use Rattle.std.specs.Str.{bytes_eq}
 use Rattle.std.proofs.lemmas.Slice.Eq.{bytes_eq-Decides}
-use Rattle.thf_syntax.specs.Trees.{TypeTree, FormulaTree, BodyTree, base, typing, formula as formula_body, SelectedTree, StatementTree, include as include_tree}
-use Rattle.thf_parse.specs.declared.statement.Keyword.{Keyword}
-use Rattle.thf_parse.specs.declared.statement.Keyword.TheVariants.{Thf, Include, Unknown}
+use Rattle.thf_syntax.specs.Trees.{TypeTree, BodyTree, base, typing, formula as formula_body, SelectedTree, StatementTree, include as include_tree}
 use Rattle.thf_parse.specs.declared.terminal.Mark.TheVariants.{Open, Close, OpenList, CloseList, Comma, Stop, Colon, Arrow}
 use Rattle.thf_parse.specs.declared.terminal.Terminal.{Terminal}
 use Rattle.thf_parse.specs.declared.terminal.Terminal.TheVariants as terminal
-use Rattle.thf_parse.specs.Words.{Lexeme, Word, plain, terminal_of, name_of, name, place, Is, IsName, lower, quoted}
+use Rattle.thf_parse.specs.Words.{Lexeme, Word, plain, name, place, Is, IsName, lower, quoted}
 use Rattle.thf_parse.specs.Types.{IsType, IsSimpleType, simple_type, arrow_type, indiv_type, form_type, named_type, group_type}
 use Rattle.thf_parse.specs.Statements as is
 use Rattle.thf_parse.specs.Statements.{selected as labelled, IsLabel, IsKeyword, IsTyping, IsBody, AreLabels, IsSelection, IsEnd, IsStatement, IsFile}
 use Rattle.thf_parse.specs.Notes as notes_are
 use Rattle.thf_parse.specs.Notes.{AreNotes}
-use Rattle.thf_parse.specs.Outcome.{Outcome, found, wrong, deep, Reader, ◌>>=◌, first_terminal, first_place, first_name, first_text, behind, is_mark, expect, enter}
+use Rattle.thf_parse.specs.Outcome.{found, Reader, ◌>>=◌, first_terminal, first_place, first_name, first_text, behind, is_mark, expect}
 use Rattle.thf_parse.specs.Reader.{type_with, inner_type}
 use Rattle.thf_parse.specs.FormulaReader.{formula, inner}
-use Rattle.thf_parse.specs.NoteReader.{passed, commas, general, second_note, notes_by, notes, inner_notes}
-use Rattle.thf_parse.specs.StatementReader.{selected, named_at, label_by, label, role_by, role, quoted_by, quoted as quoted_reader, declared_by, declared, group_typing, typing_by, typing_with, inner_typing, body, Head, head_of, head, finish, annotated_of, annotated, more_label, labels, names, selection_by, selection, include, keyword_in, keyword_by, keyword, statement_by, statement, is_end, statements_by, statements, file}
-use Rattle.thf_parse.proofs.Locals.{rest_of}
+use Rattle.thf_parse.specs.NoteReader.{passed, general, second_note, notes_by, notes, inner_notes}
+use Rattle.thf_parse.specs.StatementReader.{named_at, label_by, label, role_by, role, quoted_by, quoted as quoted_reader, declared_by, declared, typing_by, typing_with, inner_typing, body, head_of, head, finish, annotated_of, annotated, more_label, labels, names, selection_by, selection, include, keyword_in, keyword_by, keyword, statement_by, statement, is_end, statements_by, statements}
 use Rattle.thf_parse.proofs.Goes.{Goes, GoIn, sinks-bind, goes-bind, goes-token, goes-found, goes-enter}
 use Rattle.thf_parse.proofs.MarkLaws.{goes-expect, goes-past, goes-closed}
-use Rattle.thf_parse.proofs.TypeLaws.{NoArrow, GoesTypes, goes-type_with, goes-inner_type}
+use Rattle.thf_parse.proofs.TypeLaws.{GoesTypes, goes-type_with, goes-inner_type}
 use Rattle.thf_parse.proofs.FormulaGoes.{ends_formula, Ends, goes-formula, goes-inner}
 use Rattle.thf_parse.proofs.CommaLaws.{Separated, last, more, goes-commas}
 use Rattle.thf_parse.proofs.NoteLaws.{ends_note, EndsNote, goes-general, goes-inner_notes}
 use Rattle.thf_parse.proofs.StatementLocals.{local-more_label, statement-shorter}
-use Rattle.thf_parse.proofs.StatementFinds.{LabelsAre, OneName}
+use Rattle.thf_parse.proofs.StatementFinds.{LabelsAre}
 
 first_of : List Word → Terminal
 first_of ws = first_terminal (plain ws)
@@ -261,6 +258,7 @@ module _ (limit : ℕ) where
     where
       begun : statements_by limit (statements limit n) so_far (is_end (first_terminal (plain ws))) (plain ws) ≡ (statement limit (plain ws) >>= λ r us. statements limit n (so_far ++ r ∷ []) us)
       begun = ap (λ b. statements_by limit (statements limit n) so_far b (plain ws)) (statement-begins ws rest s p)
+
       go : Goes limit ws rest s (statement limit (plain ws)) → (length (plain rest) < n → GoesFile n (so_far ++ s ∷ []) ss rest) → GoesFile (suc n) so_far (s ∷ ss) ws
       go (inl a) again =
           let g = again (omega (arith, statement-shorter limit (plain ws) (plain rest) s a.is)) in

@@ -1,18 +1,18 @@
 -- Statements are read by the tokens up to the first that is left.
-use Rattle.std.proofs.Common.{◌≡◌, ℕ, zero, suc, ◌<◌, ◌≤◌, List, [], ◌∷◌, ◌++◌, length, Bool, true, false, if◌then◌else◌, Option, Some, None, codes, refl, sym, ap, ◌∙◌, arith}
+use Rattle.std.proofs.Common.{◌≡◌, ℕ, zero, suc, ◌<◌, List, [], ◌∷◌, ◌++◌, length, Bool, true, false, if◌then◌else◌, Option, Some, None, codes, refl, sym, ap, ◌∙◌, arith}
 use Rattle.std.specs.Str.{bytes_eq}
-use Rattle.thf_syntax.specs.Trees.{TypeTree, FormulaTree, BodyTree, base, typing, formula as formula_body, SelectedTree, StatementTree, include as include_tree}
+use Rattle.thf_syntax.specs.Trees.{TypeTree, BodyTree, base, typing, formula as formula_body, SelectedTree, StatementTree, include as include_tree}
 use Rattle.thf_parse.specs.declared.statement.Keyword.{Keyword}
 use Rattle.thf_parse.specs.declared.statement.Keyword.TheVariants.{Thf, Include, Unknown}
 use Rattle.thf_parse.specs.declared.terminal.Mark.TheVariants.{Open, Close, OpenList, CloseList, Comma, Stop, Colon}
 use Rattle.thf_parse.specs.declared.terminal.Terminal.{Terminal}
 use Rattle.thf_parse.specs.declared.terminal.Terminal.TheVariants as terminal
-use Rattle.thf_parse.specs.Words.{Lexeme, terminal_of}
-use Rattle.thf_parse.specs.Outcome.{Outcome, found, wrong, deep, Reader, ◌>>=◌, first_terminal, first_place, first_name, first_text, behind, expect, enter}
+use Rattle.thf_parse.specs.Words.{Lexeme}
+use Rattle.thf_parse.specs.Outcome.{Outcome, found, wrong, deep, Reader, ◌>>=◌, first_terminal, first_name, first_text, behind, expect}
 use Rattle.thf_parse.specs.Reader.{type_with, inner_type}
 use Rattle.thf_parse.specs.FormulaReader.{formula, inner}
 use Rattle.thf_parse.specs.NoteReader.{notes, inner_notes}
-use Rattle.thf_parse.specs.StatementReader.{selected, named_at, label_by, label, role_by, role, quoted_by, quoted, declared_by, declared, group_typing, typing_by, typing_with, inner_typing, body, Head, head_of, head, finish, annotated_of, annotated, more_label, labels, names, selection_by, selection, include, keyword_in, keyword_by, keyword, statement_by, statement, is_end, statements_by, statements, file}
+use Rattle.thf_parse.specs.StatementReader.{selected, named_at, label_by, label, role_by, role, quoted_by, quoted, declared_by, declared, typing_by, typing_with, inner_typing, body, head_of, head, finish, annotated_of, annotated, more_label, labels, names, selection_by, selection, include, keyword_by, keyword, statement_by, statement, is_end, statements_by, statements, file}
 use Rattle.thf_parse.proofs.Locals.{IsLocal, IsLocalAt, AreLocal, Decided, is_proper, rest_of, at, local-found, local-wrong, local-behind, local-bind, bind-at, local-terminal, place-at, name-at, enter-at, decided-head, rest-length, local-counted}
 use Rattle.thf_parse.proofs.MarkLaws.{local-past, local-expect, local-closed}
 use Rattle.thf_parse.proofs.TypeLaws.{local-type_with, local-inner_type}
@@ -185,6 +185,7 @@ module _ (room : ℕ) where
       after again (wrong rest) e = refl
       after again (deep rest) e = refl
       after again (found s rest) e = again (ss ++ s ∷ []) rest (omega (arith, statement-shorter room ts rest s e)) (omega (arith, statement-shorter room ts rest s e))
+
       go : ((rs : List StatementTree) (us : List Lexeme) → length us < n → length us < m → statements room n rs us ≡ statements room m rs us) → (b : Bool) → statements_by room (statements room n) ss b ts ≡ statements_by room (statements room m) ss b ts
       go again true = refl
       go again false = after again (statement room ts) refl

@@ -1,15 +1,15 @@
 -- Types are read as the grammar says.
-use Rattle.std.proofs.Common.{◌≡◌, ℕ, zero, suc, ◌+◌, ◌≤◌, List, [], ◌∷◌, Bool, true, false, Option, Some, None, refl, sym, ap, subst, ◌∙◌, arith}
+use Rattle.std.proofs.Common.{◌≡◌, ℕ, zero, suc, ◌+◌, ◌≤◌, List, [], ◌∷◌, true, false, Option, refl, sym, ap, subst, ◌∙◌, arith}
 use Rattle.thf_syntax.specs.Trees.{TypeTree, form, indiv, named, arrow}
 use Rattle.thf_parse.specs.declared.terminal.Mark.TheVariants as mark
 use Rattle.thf_parse.specs.declared.terminal.Terminal.{Terminal}
 use Rattle.thf_parse.specs.declared.terminal.Terminal.TheVariants as terminal
-use Rattle.thf_parse.specs.Words.{Lexeme, Word, plain, terminal_of, name_of, Is, IsName, lower, quoted}
+use Rattle.thf_parse.specs.Words.{Lexeme, Word, plain, terminal_of, name_of, Is, lower, quoted}
 use Rattle.thf_parse.specs.Types.{IsType, simple_type as simple_is, arrow_type as arrow_is, IsSimpleType, indiv_type as indiv_is, form_type as form_is, named_type as named_is, group_type as group_is}
-use Rattle.thf_parse.specs.Outcome.{Outcome, found, wrong, deep, Reader, ◌>>=◌, first_terminal, first_place, first_name, behind, is_mark, expect, enter}
+use Rattle.thf_parse.specs.Outcome.{found, wrong, Reader, ◌>>=◌, first_terminal, first_place, first_name, behind, is_mark, expect}
 use Rattle.thf_parse.specs.Reader.{group_type, named_type, simple_type_by, simple_type, right_type, arrow_by, type_with, inner_type}
 use Rattle.thf_parse.proofs.Locals.{IsLocal, IsLocalAt, AreLocal, is_proper, at, local-found, local-wrong, local-behind, local-bind, local-terminal, place-at, name-at, enter-at}
-use Rattle.thf_parse.proofs.Finds.{word, Reading, Finds, finds-bind, finds-token, finds-as, finds-nothing, Nothing, FindIn, finds-enter}
+use Rattle.thf_parse.proofs.Finds.{word, Finds, finds-bind, finds-token, finds-nothing, Nothing, FindIn, finds-enter}
 use Rattle.thf_parse.proofs.Goes.{Goes, GoIn, goes-bind, goes-token, goes-found, goes-enter}
 use Rattle.thf_parse.proofs.MarkLaws.{local-closed, Closed, finds-closed, goes-closed}
 
@@ -88,8 +88,10 @@ module _ (d : ℕ) (inside : Option (Reader TypeTree)) (h : FindIn (FindsTypes (
     where
       one : (u : TypeTree) → ((after : List Word) → IsSimpleType d (word t d ∷ after) u after) → Finds (SimpleIs d) (t ∷ ts) (found u ts)
       one u k = finds-token (Nothing u) (SimpleIs d) t d ts (found u ts) (finds-nothing u ts) (λ v ws rest n. subst (λ x. IsSimpleType d (word t d ∷ ws) x rest) (sym n.0) (subst (λ us. IsSimpleType d (word t d ∷ us) u rest) (sym n.1) (k rest)))
+
       is : (x : Terminal) → terminal_of t ≡ x → Is x d (word t d)
       is x e = record { terminal = e; deep = refl }
+
       go : (x : Terminal) → terminal_of t ≡ x → Finds (SimpleIs d) (t ∷ ts) (simple_type_by inside x (t ∷ ts))
       go terminal.Indiv e = one (indiv t.at) (λ after. indiv_is d (word t d) after (is terminal.Indiv e))
       go terminal.Form e = one (form t.at) (λ after. form_is d (word t d) after (is terminal.Form e))
@@ -109,6 +111,7 @@ module _ (d : ℕ) (inside : Option (Reader TypeTree)) (h : FindIn (FindsTypes (
     where
       none : Finds (RightOf t) (s ∷ ts) (found t (s ∷ ts))
       none = λ after e. record { words = after; plainly = e; read = λ ws k. simple_is d ws after t k }
+
       go : (x : Terminal) → terminal_of s ≡ x → Finds (RightOf t) (s ∷ ts) (arrow_by inside t x (s ∷ ts))
       go (terminal.Mark mark.Arrow) e =
           finds-enter (RightOf t) (FindsTypes (suc d)) inside (s ∷ ts) (s ∷ ts) _ h

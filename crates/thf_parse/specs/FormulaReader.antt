@@ -7,9 +7,8 @@ use Rattle.thf_syntax.specs.declared.formula.Binder.{Binder}
 use Rattle.thf_parse.specs.declared.terminal.Mark.TheVariants.{Open, Close, OpenList, CloseList, Comma, Colon, At}
 use Rattle.thf_parse.specs.declared.terminal.Terminal.{Terminal}
 use Rattle.thf_parse.specs.declared.terminal.Terminal.TheVariants as terminal
-use Rattle.thf_parse.specs.Words.{Lexeme}
 use Rattle.thf_parse.specs.Formulas.{binds_many}
-use Rattle.thf_parse.specs.Outcome.{Outcome, found, wrong, Reader, ◌>>=◌, first_terminal, first_place, first_name, behind, expect, enter}
+use Rattle.thf_parse.specs.Outcome.{found, wrong, Reader, ◌>>=◌, first_terminal, first_place, first_name, behind, expect, enter}
 use Rattle.thf_parse.specs.Reader.{type_with, inner_type}
 
 -- the readers of one level: of types; of units, of operands, and of what stands behind a `(`; of the further operands of a chain, and of

@@ -15,9 +15,9 @@
 -- What is open: a `(` or `[` until its close, a `~` until its operand ends, a variable of a binder until the binder's body ends, and
 -- each `@`, `&` and `|` of a chain until the chain ends.
 use Rattle.std.specs.Prelude.{◌≡◌, ℕ, suc, Bool, true, false, List, [], ◌∷◌}
-use Rattle.thf_syntax.specs.Trees.{TypeTree, VarTree, FormulaTree, constant, variable, truth, operator, negation, binary, equation, application, quantified, binding}
+use Rattle.thf_syntax.specs.Trees.{VarTree, FormulaTree, constant, variable, truth, operator, negation, binary, equation, application, quantified, binding}
 use Rattle.thf_syntax.specs.declared.formula.Conn.{Conn}
-use Rattle.thf_syntax.specs.declared.formula.Conn.TheVariants.{Not, And, Or, Imp, If, Iff, Xor, Nor, Nand}
+use Rattle.thf_syntax.specs.declared.formula.Conn.TheVariants.{Not, And, Or}
 use Rattle.thf_syntax.specs.declared.formula.Binder.{Binder}
 use Rattle.thf_syntax.specs.declared.formula.Binder.TheVariants.{All, Exists, Lam, Choice, Desc}
 use Rattle.thf_parse.specs.declared.terminal.Mark.TheVariants.{Open, Close, OpenList, CloseList, Comma, Colon, At}

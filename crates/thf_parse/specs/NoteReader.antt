@@ -1,10 +1,9 @@
 -- How the reader goes through notes, and through what stands between commas.
-use Rattle.std.specs.Prelude.{ℕ, zero, suc, List, length, Option, Some, None}
+use Rattle.std.specs.Prelude.{ℕ, zero, suc, length, Option, Some, None}
 use Rattle.thf_parse.specs.declared.terminal.Mark.TheVariants.{Open, Close, OpenList, CloseList, Comma, Colon}
 use Rattle.thf_parse.specs.declared.terminal.Terminal.{Terminal}
 use Rattle.thf_parse.specs.declared.terminal.Terminal.TheVariants as terminal
-use Rattle.thf_parse.specs.Words.{Lexeme}
-use Rattle.thf_parse.specs.Outcome.{Outcome, found, wrong, Reader, ◌>>=◌, first_terminal, behind, expect, enter}
+use Rattle.thf_parse.specs.Outcome.{found, wrong, Reader, ◌>>=◌, first_terminal, behind, expect, enter}
 
 -- what follows something that may stand before a comma
 abbrev pub comma_by : {S : Type 0} → (S → Reader S) → S → Terminal → Reader S

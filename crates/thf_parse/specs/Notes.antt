@@ -6,7 +6,7 @@
 --
 -- Each relation has the number of things that are open before, the tokens, and the tokens behind. A colon is open until the `general`
 -- after it ends.
-use Rattle.std.specs.Prelude.{ℕ, suc, List, [], ◌∷◌}
+use Rattle.std.specs.Prelude.{ℕ, suc, List, ◌∷◌}
 use Rattle.thf_parse.specs.declared.terminal.Mark.TheVariants.{Open, Close, OpenList, CloseList, Comma, Colon}
 use Rattle.thf_parse.specs.declared.terminal.Terminal.TheVariants as terminal
 use Rattle.thf_parse.specs.Words.{Word, Is, IsName}

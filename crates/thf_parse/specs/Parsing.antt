@@ -1,9 +1,7 @@
 -- Files: the tree of a list of tokens within a depth, and the token at which a list of tokens is refused.
-use Rattle.std.specs.Prelude.{◌≡◌, ℕ, ◌<◌, ◌≤◌, List, [], ◌∷◌, ◌++◌, Result, Ok, Err}
+use Rattle.std.specs.Prelude.{◌≡◌, ℕ, ◌<◌, ◌≤◌, List, ◌∷◌, ◌++◌}
 use Rattle.std.specs.List.{AllByRecursion}
 use Rattle.thf_syntax.specs.Trees.{StatementTree}
-use Rattle.thf_syntax.specs.View.{the_file}
-use Rattle.thf_syntax.specs.declared.statement.Statement.{Statement}
 use Rattle.thf_parse.specs.declared.parser.ParseRefused.{ParseRefused}
 use Rattle.thf_parse.specs.declared.parser.ParseRefused.TheVariants.{At, TooDeep, Memory}
 use Rattle.thf_parse.specs.Words.{Lexeme, Word, plain}

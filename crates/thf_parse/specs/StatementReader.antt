@@ -8,7 +8,7 @@ use Rattle.thf_parse.specs.declared.terminal.Mark.TheVariants.{Open, Close, Open
 use Rattle.thf_parse.specs.declared.terminal.Terminal.{Terminal}
 use Rattle.thf_parse.specs.declared.terminal.Terminal.TheVariants as terminal
 use Rattle.thf_parse.specs.Words.{Lexeme}
-use Rattle.thf_parse.specs.Outcome.{Outcome, found, wrong, Reader, ◌>>=◌, first_terminal, first_place, first_name, first_text, behind, expect, enter}
+use Rattle.thf_parse.specs.Outcome.{found, wrong, Reader, ◌>>=◌, first_terminal, first_place, first_name, first_text, behind, expect, enter}
 use Rattle.thf_parse.specs.Reader.{type_with, inner_type}
 use Rattle.thf_parse.specs.FormulaReader.{formula, inner}
 use Rattle.thf_parse.specs.NoteReader.{all_commas, notes, inner_notes}

@@ -6,7 +6,7 @@
 --     var    = Upper | Upper ":" type
 --
 -- Each relation has the number of things that are open before, the tokens, the tree that they begin with, and the tokens behind it.
-use Rattle.std.specs.Prelude.{ℕ, suc, List, [], ◌∷◌}
+use Rattle.std.specs.Prelude.{ℕ, suc, List, ◌∷◌}
 use Rattle.thf_syntax.specs.Trees.{TypeTree, form, indiv, named, arrow, VarTree}
 use Rattle.thf_parse.specs.declared.terminal.Mark.TheVariants.{Open, Close, Colon, Arrow}
 use Rattle.thf_parse.specs.declared.terminal.Terminal.TheVariants.{Mark, Form, Indiv, Upper}

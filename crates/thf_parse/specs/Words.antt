@@ -1,5 +1,5 @@
 -- Tokens with their texts, and with their depths.
-use Rattle.std.specs.Prelude.{◌≡◌, ℕ, ◌-◌, ◌+◌, Bool, ◌==◌, if◌then◌else◌, ◌⊎◌, List, [], ◌∷◌, length, map, slice_range, codes}
+use Rattle.std.specs.Prelude.{◌≡◌, ℕ, ◌-◌, ◌==◌, if◌then◌else◌, List, [], ◌∷◌, length, map, slice_range}
 use Rattle.thf_lex.specs.declared.token.TokenKind.{TokenKind}
 use Rattle.thf_lex.specs.declared.token.TokenKind.TheVariants as kind
 use Rattle.thf_lex.specs.declared.token.Token.{Token}

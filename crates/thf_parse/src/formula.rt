@@ -177,7 +177,13 @@ fn right_side<'a>(
 {
     let right = unitary(alloc, bytes, room, behind(left.rest))?;
     Ok(FormulaRead {
-        tree: Surface::equation(alloc, first_place(left.rest), positive, left.tree, right.tree)?,
+        tree: Surface::equation(
+            alloc,
+            first_place(left.rest),
+            positive,
+            left.tree,
+            right.tree,
+        )?,
         rest: right.rest,
     })
 }

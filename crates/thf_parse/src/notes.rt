@@ -28,7 +28,11 @@ fn called<'a>(bytes: &[u8], room: u32, tokens: &'a [Token]) -> Result<&'a [Token
 
 #[cycle(notes)]
 #[tactic(auto, unfolding(crate::specs::NoteReader::data_at))]
-fn general_data<'a>(bytes: &[u8], room: u32, tokens: &'a [Token]) -> Result<&'a [Token], Refusal<'a>>
+fn general_data<'a>(
+    bytes: &[u8],
+    room: u32,
+    tokens: &'a [Token],
+) -> Result<&'a [Token], Refusal<'a>>
     ensures { Passes bytes.now result (reader.data_at (reader.inner_notes room) (lexemes bytes.now tokens.now)) }
 {
     match first_terminal(bytes, tokens) {

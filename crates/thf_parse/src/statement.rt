@@ -64,11 +64,7 @@ fn first_keyword(bytes: &[u8], tokens: &[Token]) -> Keyword
 }
 
 #[tactic(auto, unfolding(crate::specs::StatementReader::role))]
-fn role<'a>(
-    alloc: Global,
-    bytes: &[u8],
-    tokens: &'a [Token],
-) -> Result<LabelRead<'a>, Refusal<'a>>
+fn role<'a>(alloc: Global, bytes: &[u8], tokens: &'a [Token]) -> Result<LabelRead<'a>, Refusal<'a>>
     ensures { ReadsLabel bytes.now result (reader.role (lexemes bytes.now tokens.now)) }
 {
     match first_terminal(bytes, tokens) {
@@ -79,11 +75,7 @@ fn role<'a>(
 
 /// An annotated formula from its parenthesis up to its body.
 #[tactic(auto, unfolding(crate::specs::StatementReader::head))]
-fn head<'a>(
-    alloc: Global,
-    bytes: &[u8],
-    tokens: &'a [Token],
-) -> Result<HeadRead<'a>, Refusal<'a>>
+fn head<'a>(alloc: Global, bytes: &[u8], tokens: &'a [Token]) -> Result<HeadRead<'a>, Refusal<'a>>
     ensures { ReadsHead bytes.now result (reader.head (lexemes bytes.now tokens.now)) }
 {
     let rest = expect(Mark::Open, bytes, tokens)?;

@@ -69,11 +69,15 @@ fn simple_type<'a>(
 {
     match first_terminal(bytes, tokens) {
         Terminal::Indiv => Ok(TypeRead {
-            ty: SurfaceTy::Indiv { at: first_place(tokens) },
+            ty: SurfaceTy::Indiv {
+                at: first_place(tokens),
+            },
             rest: behind(tokens),
         }),
         Terminal::Form => Ok(TypeRead {
-            ty: SurfaceTy::Form { at: first_place(tokens) },
+            ty: SurfaceTy::Form {
+                at: first_place(tokens),
+            },
             rest: behind(tokens),
         }),
         Terminal::Lower | Terminal::Quoted => named_type(alloc, bytes, tokens),

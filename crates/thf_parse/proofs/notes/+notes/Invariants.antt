@@ -1,5 +1,5 @@
 -- A reader calls those with less room, or those that stand below it here.
-use Rattle.std.proofs.Common.{◌≡◌, ◌+◌, ◌*◌, ◌≤◌, length}
+use Rattle.std.proofs.Common.{◌≡◌, ◌+◌, ◌*◌, length}
 use Rattle.thf_parse.specs.Words.{lexemes}
 use Rattle.thf_parse.specs.NoteReader.{passed, all_commas, general, inner_notes}
 use Rattle.thf_parse.proofs.notes.+notes.Given as goal

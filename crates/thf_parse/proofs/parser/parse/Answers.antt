@@ -1,8 +1,7 @@
-use Rattle.std.proofs.Common.{◌≡◌, [], sym, ap, subst, ◌∙◌}
+use Rattle.std.proofs.Common.{[], sym, ap, subst, ◌∙◌}
 use Rattle.thf_syntax.specs.View.{the_file}
 use Rattle.thf_parse.specs.declared.parser.TheConstants.{MAX_DEPTH}
 use Rattle.thf_parse.specs.Words.{lexemes}
-use Rattle.thf_parse.specs.Outcome.{found, wrong, deep, first_place}
 use Rattle.thf_parse.specs.StatementReader.{file}
 use Rattle.thf_parse.specs.Parsing.{IsWrongAt, IsTooDeepAt}
 use Rattle.thf_parse.proofs.ParseLaws.{parsed, refused-wrong, refused-deep}
