@@ -1,6 +1,8 @@
 //! The parser of THF files.
 #![tactic(auto)]
 
+#[cfg(test)]
+mod deep_tests;
 mod formula;
 mod include;
 mod law;
@@ -9,6 +11,8 @@ mod parser;
 mod refusal;
 mod statement;
 mod terminal;
+#[cfg(test)]
+mod tests;
 mod types;
 mod typing;
 mod variable;
