@@ -1,0 +1,33 @@
+-- A reader calls those with less room, or those that stand below it here.
+use Rattle.std.proofs.Common.{◌≡◌, ◌+◌, ◌*◌, length}
+use Rattle.thf_parse.specs.Words.{lexemes}
+use Rattle.thf_parse.specs.NoteReader.{passed, all_commas, general, inner_notes}
+use Rattle.thf_parse.proofs.notes.+notes.Given as goal
+
+abbrev pub decreases-called : goal.decreases-called
+decreases-called l = 8 * l.room
+
+abbrev pub decreases-list : goal.decreases-list
+decreases-list l = 8 * l.room
+
+abbrev pub decreases-paired : goal.decreases-paired
+decreases-paired l = 8 * l.room
+
+abbrev pub decreases-general_data : goal.decreases-general_data
+decreases-general_data l = 8 * l.room + 1
+
+abbrev pub decreases-general : goal.decreases-general
+decreases-general l = 8 * l.room + 2
+
+abbrev pub decreases-generals : goal.decreases-generals
+decreases-generals l = 8 * l.room + 3
+
+-- what is left is read as all is
+abbrev pub invariant-generals-loop-after : goal.invariant-generals-loop-after
+invariant-generals-loop-after l = all_commas (λ _. general (inner_notes l.room)) passed (lexemes l.bytes l.rest) ≡ all_commas (λ _. general (inner_notes l.room)) passed (lexemes l.bytes l.tokens)
+
+abbrev pub decreases-generals-loop-after : goal.decreases-generals-loop-after
+decreases-generals-loop-after l = length l.rest
+
+abbrev pub decreases-listed : goal.decreases-listed
+decreases-listed l = 8 * l.room + 4

@@ -1,0 +1,15 @@
+pub mod Terminals
+pub mod Words
+pub mod Types
+pub mod Formulas
+pub mod Notes
+pub mod Statements
+pub mod Outcome
+pub mod Reader
+pub mod FormulaReader
+pub mod NoteReader
+pub mod StatementReader
+pub mod Passes
+pub mod Reads
+pub mod Parsing
+pub mod ReadsFile

@@ -1,0 +1,22 @@
+//! The parser of THF files.
+#![tactic(auto)]
+
+#[cfg(test)]
+mod deep_tests;
+mod formula;
+mod include;
+mod law;
+mod notes;
+mod parser;
+mod refusal;
+mod statement;
+mod terminal;
+#[cfg(test)]
+mod tests;
+mod types;
+mod typing;
+mod variable;
+mod words;
+
+pub use law::one_tree;
+pub use parser::{MAX_DEPTH, ParseRefused, parse};

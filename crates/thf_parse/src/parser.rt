@@ -1,0 +1,90 @@
+//! Files.
+ghost use Rattle.std.specs.Prelude.{◌≡◌, ◌∷◌, [], ◌++◌, map, IfOk, OnErr, IfErr};
+ghost use Rattle.thf_lex.specs.Reading.{AreTokens};
+ghost use Rattle.thf_syntax.specs.View.{the_statement, the_file};
+ghost use Rattle.thf_parse.specs.Words.{lexemes};
+ghost use Rattle.thf_parse.specs.StatementReader as reader;
+ghost use Rattle.thf_parse.specs.Parsing.{HasTree, IsRefusedAt};
+ghost use Rattle.thf_parse.specs.ReadsFile.{ReadsFile};
+
+use crate::refusal::Refusal;
+use crate::statement::statement;
+use crate::terminal::Terminal;
+use crate::words::{first_place, first_terminal};
+use std::alloc::{AllocError, Global};
+use thf_lex::{Token, Tokens};
+use thf_syntax::{FileTree, Statement};
+
+/// How many things may be open at once in a body or in notes.
+pub const MAX_DEPTH: u32 = 512;
+
+/// Why tokens have no tree, or want of memory. Each `at` is the byte place of a token.
+#[derive(Debug, Drop)]
+pub enum ParseRefused {
+    /// The first token with which the tokens begin no file.
+    At { at: u32 },
+    /// The first token at which more than `MAX_DEPTH` things are open.
+    TooDeep { at: u32 },
+    Memory,
+}
+
+/// Statements, and the tokens from the end on.
+#[derive(Drop)]
+struct FileRead<'a> {
+    file: FileTree,
+    rest: &'a [Token],
+}
+
+fn is_end(found: Terminal) -> bool
+    ensures { result ≡ reader.is_end found }
+{
+    matches!(found, Terminal::End)
+}
+
+/// The statements with one more.
+fn with_statement(mut file: FileTree, statement: Statement) -> Result<FileTree, AllocError>
+    ensures { IfOk result (λ more. map the_statement more ≡ map the_statement file ++ the_statement statement ∷ []) }
+{
+    file.push(statement)?;
+    Ok(file)
+}
+
+/// The statements up to the end of the tokens, where `room` things may be open at once.
+fn statements<'a>(
+    alloc: Global,
+    bytes: &[u8],
+    room: u32,
+    tokens: &'a [Token],
+) -> Result<FileRead<'a>, Refusal<'a>>
+    ensures { ReadsFile bytes.now result (reader.file room [] (lexemes bytes.now tokens.now)) }
+{
+    let mut file = FileTree::new(alloc);
+    let mut rest = tokens;
+    'statements: while !is_end(first_terminal(bytes, rest)) {
+        let read = match statement(alloc, bytes, room, rest) {
+            Ok(read) => read,
+            Err(refusal) => return Err(refusal),
+        };
+        rest = read.rest;
+        file = with_statement(file, read.statement)?;
+    }
+    Ok(FileRead { file, rest })
+}
+
+/// The tree of a file's tokens.
+pub fn parse(alloc: Global, bytes: &[u8], tokens: &Tokens) -> Result<FileTree, ParseRefused>
+    requires { AreTokens bytes.now tokens.now }
+    ensures tree { IfOk result (λ file. HasTree MAX_DEPTH (lexemes bytes.now tokens.now) (the_file file)) }
+    ensures refused { IfErr result (λ refused. IsRefusedAt MAX_DEPTH (lexemes bytes.now tokens.now) refused) }
+{
+    match statements(alloc, bytes, MAX_DEPTH, tokens.as_slice()) {
+        Ok(read) => Ok(read.file),
+        Err(Refusal::Wrong(rest)) => Err(ParseRefused::At {
+            at: first_place(rest),
+        }),
+        Err(Refusal::TooDeep(rest)) => Err(ParseRefused::TooDeep {
+            at: first_place(rest),
+        }),
+        Err(Refusal::Memory) => Err(ParseRefused::Memory),
+    }
+}

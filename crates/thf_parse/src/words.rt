@@ -1,0 +1,148 @@
+//! The first of the tokens that are left.
+ghost use Rattle.std.specs.Prelude.{◌≡◌, ℕ, List, length, slice_range, IfOk};
+ghost use Rattle.thf_parse.specs.Words.{lexemes, unescaped, name_in};
+ghost use Rattle.thf_parse.specs.Outcome as spec;
+ghost use Rattle.thf_parse.specs.Passes.{Passes};
+
+use crate::refusal::Refusal;
+use crate::terminal::{Mark, Terminal, terminal_of};
+use outside::Bytes;
+use std::alloc::{AllocError, Global};
+use thf_lex::{Token, TokenKind};
+
+/// The bytes of a token.
+fn text<'b>(bytes: &'b [u8], token: &Token) -> &'b [u8]
+    ensures { result.now ≡ slice_range bytes.now token.now.from token.now.to }
+{
+    let from = token.from as usize;
+    let to = token.to as usize;
+    if from <= to && to <= bytes.len() {
+        &bytes[from..to]
+    } else {
+        clipped(bytes, from, to)
+    }
+}
+
+/// The part of the bytes between two places.
+fn clipped(bytes: &[u8], from: usize, to: usize) -> &[u8]
+    ensures { result.now ≡ slice_range bytes.now from to }
+{
+    let to = to.min(bytes.len());
+    let from = from.min(to);
+    &bytes[from..to]
+}
+
+/// The terminal of the first token.
+#[tactic(auto, unfolding(crate::specs::Outcome::first_terminal, crate::specs::Words::terminal_of))]
+pub fn first_terminal(bytes: &[u8], tokens: &[Token]) -> Terminal
+    ensures { result ≡ spec.first_terminal (lexemes bytes.now tokens.now) }
+{
+    match tokens {
+        [token, ..] => terminal_of(token.kind, text(bytes, token)),
+        [] => Terminal::Other,
+    }
+}
+
+/// The bytes of the first token.
+#[tactic(auto, unfolding(crate::specs::Outcome::first_text))]
+pub fn first_text<'b>(bytes: &'b [u8], tokens: &[Token]) -> &'b [u8]
+    ensures { result.now ≡ spec.first_text (lexemes bytes.now tokens.now) }
+{
+    match tokens {
+        [token, ..] => text(bytes, token),
+        [] => &[],
+    }
+}
+
+/// The place of the first token.
+#[tactic(auto, unfolding(crate::specs::Outcome::first_place))]
+pub fn first_place(tokens: &[Token]) -> u32
+    ensures { (bytes : List ℕ) → result ≡ spec.first_place (lexemes bytes tokens.now) }
+{
+    match tokens {
+        [token, ..] => token.from,
+        [] => 0,
+    }
+}
+
+/// The tokens behind the first.
+#[tactic(auto, unfolding(crate::specs::Outcome::behind))]
+pub fn behind(tokens: &[Token]) -> &[Token]
+    ensures { (bytes : List ℕ) → lexemes bytes result.now ≡ spec.behind (lexemes bytes tokens.now) }
+{
+    match tokens {
+        [_, rest @ ..] => rest,
+        [] => tokens,
+    }
+}
+
+/// The characters of a quoted name, without the backslashes before them.
+fn unescaped(alloc: Global, text: &[u8]) -> Result<Bytes, AllocError>
+    ensures { IfOk result (λ name. name ≡ unescaped text.now) }
+{
+    let mut name = Bytes::new(alloc);
+    let mut rest = text;
+    while let [byte, more @ ..] = rest {
+        match more {
+            [next, after @ ..] if *byte == b'\\' => {
+                name.push(*next)?;
+                rest = after;
+            }
+            _ => {
+                name.push(*byte)?;
+                rest = more;
+            }
+        }
+    }
+    Ok(name)
+}
+
+/// The name that a token of this kind with this text is.
+fn name_in(alloc: Global, kind: TokenKind, text: &[u8]) -> Result<Bytes, AllocError>
+    ensures { IfOk result (λ name. name ≡ name_in kind text.now) }
+{
+    match kind {
+        TokenKind::Quoted => unescaped(alloc, clipped(text, 1, text.len().saturating_sub(1))),
+        TokenKind::Lower
+        | TokenKind::Upper
+        | TokenKind::Dollar
+        | TokenKind::Integer
+        | TokenKind::Distinct
+        | TokenKind::Symbol
+        | TokenKind::End
+        | TokenKind::Bad => Bytes::from_slice(alloc, text),
+    }
+}
+
+/// The name that the first token is.
+#[tactic(auto, unfolding(crate::specs::Outcome::first_name, crate::specs::Words::name_of))]
+pub fn first_name(alloc: Global, bytes: &[u8], tokens: &[Token]) -> Result<Bytes, AllocError>
+    ensures { IfOk result (λ name. name ≡ spec.first_name (lexemes bytes.now tokens.now)) }
+{
+    match tokens {
+        [token, ..] => name_in(alloc, token.kind, text(bytes, token)),
+        [] => Ok(Bytes::new(alloc)),
+    }
+}
+
+/// Whether the terminal is this mark.
+pub fn is_mark(mark: Mark, found: Terminal) -> bool
+    ensures { result ≡ spec.is_mark mark found }
+{
+    match found {
+        Terminal::Mark(other) => mark.is(other),
+        _ => false,
+    }
+}
+
+/// The tokens behind the mark that they begin with.
+#[tactic(auto, unfolding(crate::specs::Outcome::expect))]
+pub fn expect<'a>(mark: Mark, bytes: &[u8], tokens: &'a [Token]) -> Result<&'a [Token], Refusal<'a>>
+    ensures { Passes bytes.now result (spec.expect mark (lexemes bytes.now tokens.now)) }
+{
+    if is_mark(mark, first_terminal(bytes, tokens)) {
+        Ok(behind(tokens))
+    } else {
+        Err(Refusal::Wrong(tokens))
+    }
+}
