@@ -1,0 +1,3 @@
+mod LiftLaws
+mod Maps
+mod Symbols

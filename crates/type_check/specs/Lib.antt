@@ -1,0 +1,10 @@
+pub mod Outcome
+pub mod Answers
+pub mod Declarations
+pub mod Types
+pub mod Typed
+pub mod TypedView
+pub mod Lift
+pub mod Rows
+pub mod Terms
+pub mod ScopeView
