@@ -8,3 +8,6 @@ pub mod Lift
 pub mod Rows
 pub mod Terms
 pub mod ScopeView
+pub mod Statements
+pub mod ReadingView
+pub mod Checks

@@ -29,9 +29,13 @@ abbrev pub known : ℕ → Option TypedTerm → Reading
 known at (Some x) = Ok x
 known at None = ill at Unknown
 
+-- the constant at that place of the signature
+abbrev pub constant_at : List TypedName → ℕ → Option TypedTerm
+constant_at consts k = option_map (λ c. typed (constant (constant_name k)) c.type) (slice_get consts k)
+
 -- a declared constant; a type's name is none
 abbrev pub constant_named : List TypedName → Option Symbol → Option TypedTerm
-constant_named consts (Some (Const k)) = option_map (λ c. typed (constant (constant_name k)) c.type) (slice_get consts k)
+constant_named consts (Some (Const k)) = constant_at consts k
 constant_named consts (Some (Base n)) = None
 constant_named consts None = None
 

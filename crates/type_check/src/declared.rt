@@ -1,13 +1,16 @@
 //! What is declared so far, with its names in a map.
 
-ghost use Rattle.std.specs.Prelude.{◌≡◌, ◌+◌, ◌<◌, ◌^◌, ◌-◌, ◌++◌, [], ◌∷◌, length, OnOk, IfOk, None};
+ghost use Rattle.std.specs.Prelude.{◌≡◌, ◌+◌, ◌<◌, ◌^◌, ◌-◌, ◌++◌, [], ◌∷◌, length, IfOk, None, option_map};
+ghost use Rattle.type_check.specs.Terms.{constant_named, constant_at};
+ghost use Rattle.type_check.specs.TypedView.{the_typed};
 ghost use Rattle.stt_core.specs.Signature.{symbol_named};
 ghost use Rattle.stt_core.specs.View.{the_type};
 
-use std::alloc::{AllocError, AllocFailed, Global};
+use crate::typed::{TypeOf, Typed};
+use std::alloc::{AllocError, Global};
 use std::collections::BTreeMap;
 use std::marker::Model;
-use stt_core::{Signature, Symbol, Ty};
+use stt_core::{Signature, Symbol, Term, Ty};
 
 /// What is declared: a signature, and what each of its names stands for.
 #[derive(Drop)]
@@ -51,6 +54,34 @@ impl Declared {
         ensures { result ≡ symbol_named self.now.bases self.now.consts name.now }
     {
         self.symbols.get(name).copied()
+    }
+
+    /// The constant of that name.
+    pub(crate) fn constant(&self, name: &[u8]) -> Option<Typed<'_>>
+        ensures { option_map the_typed result ≡ constant_named self.now.consts (symbol_named self.now.bases self.now.consts name.now) }
+    {
+        match self.find(name) {
+            Some(Symbol::Const(k)) => self.const_at(k),
+            Some(Symbol::Base(_)) | None => None,
+        }
+    }
+
+    /// The constant at that place of the signature.
+    fn const_at(&self, k: u32) -> Option<Typed<'_>>
+        ensures { option_map the_typed result ≡ constant_at self.now.consts k }
+    {
+        self.signature.consts.type_of(k as usize).map(|ty| Typed {
+            term: Term::Name(k),
+            ty: TypeOf::Kept(ty),
+        })
+    }
+
+    /// The signature alone.
+    pub(crate) fn into_signature(self) -> Signature
+        ensures bases { result.bases ≡ self.bases }
+        ensures consts { result.consts ≡ self.consts }
+    {
+        self.signature
     }
 
     /// Declares a base type.

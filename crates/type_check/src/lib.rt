@@ -1,14 +1,18 @@
 //! Types, and the reading of statements into terms.
 #![tactic(auto)]
 
+mod problem;
 mod declared;
 mod lift;
 mod nodes;
 mod refusal;
 mod rows;
 mod scope;
+mod statements;
 mod term;
+mod terms;
 mod typed;
 mod types;
 
-pub use refusal::IllWhy;
+pub use problem::check;
+pub use refusal::{Ill, IllWhy};

@@ -46,3 +46,11 @@ impl<T: Drop> From<AllocFailed<T>> for Refusal {
         Refusal::Memory
     }
 }
+
+/// Why a problem isn't read: the first ill place of its first ill statement, with the number of that statement's file, or want of
+/// memory.
+#[derive(Clone, Copy, Debug, PartialEq, Eq)]
+pub enum Ill {
+    At { file: u32, at: u32, why: IllWhy },
+    Memory,
+}
