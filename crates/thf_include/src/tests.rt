@@ -12,8 +12,8 @@ fn names_are_kept_in_order(rt: HostRuntime) -> Result<(), Fail> {
     names.push(Bytes::from_slice(alloc, b"p.p")?)?;
     names.push(Bytes::from_slice(alloc, b"a.ax")?)?;
     assert_eq!(rt; names.len(), 2);
-    assert_eq!(rt; names.get(0), b"p.p");
-    assert_eq!(rt; names.get(1), b"a.ax");
+    assert_eq!(rt; names.get(0), b"p.p".as_slice());
+    assert_eq!(rt; names.get(1), b"a.ax".as_slice());
     Ok(())
 }
 

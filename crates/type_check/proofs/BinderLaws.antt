@@ -1,5 +1,5 @@
 -- A binder is read from its first variable on.
-use Rattle.std.proofs.Common.{◌≡◌, ℕ, List, ◌∷◌, Result, Ok, Err, ap, sym, subst, ◌∙◌}
+use Rattle.std.proofs.Common.{◌≡◌, ℕ, List, ◌∷◌, Result, Ok, ap, sym, ◌∙◌}
 use Rattle.stt_core.specs.SimpleType.{SimpleType}
 use Rattle.stt_core.specs.TypedName.{TypedName}
 use Rattle.thf_syntax.specs.Trees.{VarTree}

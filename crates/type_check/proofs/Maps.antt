@@ -1,13 +1,13 @@
 -- Maps whose keys are lists of bytes, and what one more entry changes.
-use Rattle.std.proofs.Common.{◌≡◌, ℕ, Bool, true, false, cond, List, Option, Some, ap, sym, subst, ◌∙◌, ⊎_elim, Vec, Global}
+use Rattle.std.proofs.Common.{◌≡◌, ℕ, Bool, true, false, cond, List, Option, Some, sym, subst, ◌∙◌, ⊎_elim, Vec, Global}
 use Rattle.std.proofs.lemmas.Bool.{cases_Bool, cond-true, cond-false}
 use Rattle.std.proofs.lemmas.Map.Text.{is_eq-slice_cmp}
 use Rattle.std.specs.Str.{bytes_eq}
-use Rattle.std.specs.Ordering.{is_eq, nat_cmp, eq_by_cmp}
+use Rattle.std.specs.Ordering.{is_eq, nat_cmp}
 use Rattle.std.specs.Cmp.{eq_by_cmp_equiv}
 use Rattle.std.specs.Cmp.Lexicographic.{slice_cmp, bytes_decides, nat_list_cmp_total, nat_list_eq_equiv}
 use Rattle.std.specs.BTreeMap.{BTreeMap, Updates, get_by}
-use Rattle.std.specs.Map.{update, lookup, IsKeyTest, AreApart, KeepsOthers}
+use Rattle.std.specs.Map.{lookup, IsKeyTest, AreApart, KeepsOthers}
 
 apart : (bs cs ks : List ℕ) → bytes_eq bs cs ≡ false → is_eq (slice_cmp nat_cmp bs ks) ≡ true → is_eq (slice_cmp nat_cmp cs ks) ≡ false
 apart bs cs ks n y =

@@ -1,5 +1,5 @@
 -- Statements are read one after the other.
-use Rattle.std.proofs.Common.{◌≡◌, ℕ, zero, suc, ◌+◌, List, [], ◌∷◌, Option, Some, Result, Ok, Err, map, drop, slice_get, refl, ap, sym, ◌∙◌}
+use Rattle.std.proofs.Common.{◌≡◌, ℕ, zero, suc, ◌+◌, List, [], ◌∷◌, Some, Result, map, drop, slice_get, ap}
 use Rattle.stt_core.proofs.ListLaws.{drop_got}
 use Rattle.thf_include.specs.View.{PlacedTree}
 use Rattle.type_check.specs.Outcome.{◌>>=◌}

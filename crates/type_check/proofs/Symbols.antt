@@ -1,14 +1,12 @@
 -- What one more declared name changes.
-use Rattle.std.proofs.Common.{◌≡◌, ◌<◌, ℕ, suc, ◌+◌, Bool, not, true, false, cond, List, [], ◌∷◌, ◌++◌, length, Option, Some, None, position, refl, ap, ap₂, sym, subst, ◌∙◌, ⊎_elim, arith}
+use Rattle.std.proofs.Common.{◌≡◌, ℕ, ◌+◌, Bool, not, true, false, cond, List, [], ◌∷◌, ◌++◌, length, Option, Some, None, position, refl, ap, ap₂, arith}
 use Rattle.std.proofs.lemmas.Grind.{common_steps}
 use Rattle.std.proofs.lemmas.List.Folds.{position_or_len_push}
 use Rattle.std.proofs.lemmas.List.Sums.{prefix_len-le-length}
 use Rattle.std.specs.Str.{bytes_eq}
 use Rattle.std.specs.Cmp.Lexicographic.{nat_list_eq_equiv}
 use Rattle.stt_core.specs.TypedName.{TypedName}
-use Rattle.stt_core.specs.SimpleType.{SimpleType}
 use Rattle.stt_core.specs.Signature.{symbol_named, first_symbol}
-use Rattle.stt_core.specs.declared.signature.Symbol.{Symbol}
 use Rattle.stt_core.specs.declared.signature.Symbol.TheVariants.{Base, Const}
 use Rattle.type_check.proofs.Maps.{by_bytes}
 

@@ -1,5 +1,5 @@
 -- What a check answers, against what is defined.
-use Rattle.std.specs.Prelude.{◌≡◌, Result, Ok, Err, option_map}
+use Rattle.std.specs.Prelude.{◌≡◌, Result, Err, option_map}
 use Rattle.stt_core.specs.View.{the_term}
 use Rattle.stt_core.specs.declared.problem.Problem.{Problem}
 use Rattle.type_check.specs.Statements.{ReadProblem, IllInFile}

@@ -1,8 +1,8 @@
 -- The terms that texts stand for, with their types. The parts of a node are read before the node: the left one, the right one, and of
 -- a binder its types and its body. The first node that has no type is the ill place.
-use Rattle.std.specs.Prelude.{ℕ, zero, suc, Bool, ◌&&◌, List, [], ◌∷◌, Option, Some, None, Result, Ok, slice_get, option_map, if◌then◌else◌}
+use Rattle.std.specs.Prelude.{ℕ, zero, suc, Bool, List, [], ◌∷◌, Option, Some, None, Result, Ok, slice_get, option_map, if◌then◌else◌}
 use Rattle.std.specs.Str.{bytes_eq}
-use Rattle.stt_core.specs.SimpleType.{SimpleType, arrow, formula, same_type}
+use Rattle.stt_core.specs.SimpleType.{SimpleType, arrow, formula}
 use Rattle.stt_core.specs.Lambda.{Lambda, bound, constant, name as constant_name, choice, lam, app, neg, eq}
 use Rattle.stt_core.specs.Typing.{applied_type}
 use Rattle.stt_core.specs.TypedName.{TypedName}
@@ -11,7 +11,6 @@ use Rattle.stt_core.specs.declared.signature.Symbol.{Symbol}
 use Rattle.stt_core.specs.declared.signature.Symbol.TheVariants.{Base, Const}
 use Rattle.thf_syntax.specs.Trees.{VarTree, FormulaTree, constant as name_tree, variable, truth, operator, negation, binary, equation, application, quantified, binding}
 use Rattle.thf_syntax.specs.declared.formula.Conn.{Conn}
-use Rattle.thf_syntax.specs.declared.formula.Conn.TheVariants as conn
 use Rattle.thf_syntax.specs.declared.formula.Binder.{Binder}
 use Rattle.thf_syntax.specs.declared.formula.Binder.TheVariants as binder
 use Rattle.type_check.specs.Outcome.{IllPlace, ill, ◌>>=◌}

@@ -1,5 +1,5 @@
 -- The types that texts name.
-use Rattle.std.specs.Prelude.{ℕ, List, Option, Some, None, Result, Ok}
+use Rattle.std.specs.Prelude.{ℕ, Option, Some, None, Result, Ok}
 use Rattle.stt_core.specs.SimpleType.{SimpleType, base, arrow, formula}
 use Rattle.stt_core.specs.Signature.{symbol_named}
 use Rattle.stt_core.specs.declared.signature.Symbol.{Symbol}

@@ -1,16 +1,18 @@
 //! Types, and the reading of statements into terms.
 #![tactic(auto)]
 
-mod problem;
 mod declared;
 mod lift;
 mod nodes;
+mod problem;
 mod refusal;
 mod rows;
 mod scope;
 mod statements;
 mod term;
 mod terms;
+#[cfg(test)]
+mod tests;
 mod typed;
 mod types;
 

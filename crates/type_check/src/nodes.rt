@@ -14,11 +14,7 @@ use stt_core::{Term, Ty};
 use thf_syntax::{Binder, Conn};
 
 /// `~`.
-pub(crate) fn negated(
-    alloc: Global,
-    at: u32,
-    x: Typed,
-) -> Result<Typed<'static>, Refusal>
+pub(crate) fn negated(alloc: Global, at: u32, x: Typed) -> Result<Typed<'static>, Refusal>
     ensures { Answers the_typed result (defined.negated at (the_typed x.entry)) }
 {
     let s = x.of_type(at, &Ty::Base(0))?;

@@ -74,8 +74,8 @@ pub(crate) fn for_all(alloc: Global, a: Ty, s: Term) -> Result<Term, AllocError>
 pub(crate) fn for_some(alloc: Global, a: Ty, s: Term) -> Result<Term, AllocError>
     ensures { IfOk result (λ t. the_term t ≡ defined.for_some (the_type a) (the_term s)) }
 {
-    let not = neg(alloc, s)?;
-    let none = for_all(alloc, a, not)?;
+    let fails = neg(alloc, s)?;
+    let none = for_all(alloc, a, fails)?;
     neg(alloc, none)
 }
 

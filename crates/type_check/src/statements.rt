@@ -147,12 +147,7 @@ impl Reading {
     }
 
     /// Reads what a statement declares or states.
-    fn read_body(
-        self,
-        alloc: Global,
-        conjecture: bool,
-        body: &Body,
-    ) -> Result<Reading, Refusal>
+    fn read_body(self, alloc: Global, conjecture: bool, body: &Body) -> Result<Reading, Refusal>
         requires bases { length self.declared.bases < 2 ^ 32 - 2 }
         requires consts { length self.declared.consts < 2 ^ 32 }
         ensures answer { Answers the_reading result (defined.read_body (the_reading self) conjecture (the_body body.now)) }

@@ -40,10 +40,7 @@ fn known(at: u32, x: Option<Typed>) -> Result<Typed, Refusal>
 fn from_formulas(alloc: Global, to: Ty) -> Result<Ty, AllocError>
     ensures { IfOk result (λ ty. the_type ty ≡ arrow formula (the_type to)) }
 {
-    Ok(Ty::Arrow(
-        Box::new(alloc, Ty::Base(0))?,
-        Box::new(alloc, to)?,
-    ))
+    Ok(Ty::Arrow(Box::new(alloc, Ty::Base(0))?, Box::new(alloc, to)?))
 }
 
 /// `~` as a function.

@@ -25,11 +25,7 @@ fn base_named(at: u32, symbol: Option<Symbol>) -> Result<Ty, Refusal>
 }
 
 /// Reads a type.
-pub(crate) fn read_type(
-    alloc: Global,
-    declared: &Declared,
-    ty: &SurfaceTy,
-) -> Result<Ty, Refusal>
+pub(crate) fn read_type(alloc: Global, declared: &Declared, ty: &SurfaceTy) -> Result<Ty, Refusal>
     ensures { Answers core.the_type result (defined.read_type declared.now (surface.the_type ty.now)) }
 {
     match ty {

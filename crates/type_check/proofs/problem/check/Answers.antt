@@ -1,4 +1,4 @@
-use Rattle.std.proofs.Common.{◌≡◌, ◌+◌, drop, ap, sym, subst, ◌∙◌, arith}
+use Rattle.std.proofs.Common.{◌+◌, drop, ap, sym, subst, ◌∙◌, arith}
 use Rattle.std.proofs.lemmas.Result.{err_from_is_err_and}
 use Rattle.thf_include.specs.View.{the_placed, the_statements}
 use Rattle.type_check.specs.Outcome.{◌>>=◌}
@@ -24,6 +24,7 @@ loop-i-preserved c =
     let all = the_statements c.args.gathered.now in
     let i = c.loop-i.i in
     let s = the_placed c.at.result.now in
-    let step = read_statements-got (the_reading c.loop-i.reading) all i s (got-map the_placed c.args.gathered.now i c.at.result.now c.at.ensures) in
-    (sym (step ∙ ap (λ r. r >>= (λ q. read_statements q (drop (i + 1) all))) c.in_ok-reading.ensures.read) ∙ c.loop-i.invariant.0,
-     omega (arith, c.in_ok-reading.ensures.grows, c.loop-i.invariant.1))
+    let step = read_statements-got (the_reading c.loop-i.reading) all i s (got-map the_placed c.args.gathered.now i c.at.result.now c.at.ensures) in (
+      sym (step ∙ ap (λ r. r >>= (λ q. read_statements q (drop (i + 1) all))) c.in_ok-reading.ensures.read) ∙ c.loop-i.invariant.0,
+      omega (arith, c.in_ok-reading.ensures.grows, c.loop-i.invariant.1),
+    )
