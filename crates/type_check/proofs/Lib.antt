@@ -1,0 +1,6 @@
+mod BinderLaws
+mod LiftLaws
+mod Maps
+mod StatementLaws
+mod Symbols
+mod TreeSizes

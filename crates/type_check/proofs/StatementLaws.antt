@@ -1,0 +1,24 @@
+-- Statements are read one after the other.
+use Rattle.std.proofs.Common.{◌≡◌, ℕ, zero, suc, ◌+◌, List, [], ◌∷◌, Some, Result, map, drop, slice_get, ap}
+use Rattle.stt_core.proofs.ListLaws.{drop_got}
+use Rattle.thf_include.specs.View.{PlacedTree}
+use Rattle.type_check.specs.Outcome.{◌>>=◌}
+use Rattle.type_check.specs.Checks.{IsIll}
+use Rattle.type_check.specs.Statements.{ReadProblem, IllInFile, in_file, read_statement, read_statements}
+use Rattle.type_check.specs.declared.refusal.Ill.{Ill}
+use Rattle.type_check.specs.declared.refusal.Ill.TheVariants.{At, Memory}
+
+-- what a reading refuses is refused
+pub ill-then : {A B : Type 0} (e : Ill) (r : Result A IllInFile) (f : A → Result B IllInFile) → IsIll e r → IsIll e (r >>= f)
+ill-then (At file at why) r f h = ap (λ r. r >>= f) h
+ill-then Memory r f h = tt
+
+pub got-map : {A B : Type 0} (f : A → B) (xs : List A) (i : ℕ) (x : A) → slice_get xs i ≡ Some x → slice_get (map f xs) i ≡ Some (f x)
+got-map f [] i x h = cc
+got-map f (y ∷ xs) zero x h = let e : y ≡ x = cc in ap (λ z. Some (f z)) e
+got-map f (y ∷ xs) (suc i) x h = got-map f xs i x h
+
+-- the statements from one of them on
+pub read_statements-got : (p : ReadProblem) (all : List PlacedTree) (i : ℕ) (s : PlacedTree) → slice_get all i ≡ Some s
+    → read_statements p (drop i all) ≡ in_file s.file (read_statement p s.statement) >>= (λ q. read_statements q (drop (i + 1) all))
+read_statements-got p all i s h = ap (read_statements p) (drop_got all i s h)

@@ -1,0 +1,10 @@
+use Rattle.std.proofs.Common.{◌+◌, length}
+use Rattle.thf_syntax.specs.View.{the_formula}
+use Rattle.type_check.proofs.TreeSizes.{tree_size}
+use Rattle.type_check.proofs.terms.+terms.Given as goal
+
+abbrev pub decreases-read_term : goal.decreases-read_term
+decreases-read_term l = tree_size (the_formula l.tree.now)
+
+abbrev pub decreases-read_binder : goal.decreases-read_binder
+decreases-read_binder l = length l.vars.now + tree_size (the_formula l.body.now) + 1

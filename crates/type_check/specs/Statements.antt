@@ -1,0 +1,121 @@
+-- What the statements of a problem say, one after the other.
+use Rattle.std.specs.Prelude.{ℕ, Bool, ◌&&◌, List, [], ◌∷◌, ◌++◌, codes, Option, Some, None, Result, Ok, Err, is_some, if◌then◌else◌}
+use Rattle.std.specs.Str.{bytes_eq}
+use Rattle.std.specs.List.{list_any}
+use Rattle.stt_core.specs.SimpleType.{SimpleType, formula as formula_type, same_type}
+use Rattle.stt_core.specs.Lambda.{Lambda}
+use Rattle.stt_core.specs.Signature.{symbol_named}
+use Rattle.thf_syntax.specs.Trees.{TypeTree, FormulaTree, constant, variable, truth, operator, negation, binary, equation, application, quantified, binding, BodyTree, base, typing, formula, AnnotatedTree}
+use Rattle.thf_include.specs.View.{PlacedTree}
+use Rattle.type_check.specs.Outcome.{IllPlace, ill, ◌>>=◌}
+use Rattle.type_check.specs.Declarations.{Declarations}
+use Rattle.type_check.specs.Types.{read_type}
+use Rattle.type_check.specs.Typed.{TypedTerm}
+use Rattle.type_check.specs.Terms.{read_term}
+use Rattle.type_check.specs.declared.refusal.IllWhy.{IllWhy}
+use Rattle.type_check.specs.declared.refusal.IllWhy.TheVariants.{Twice, NotFormula, SecondConjecture, RoleUnknown}
+
+-- a problem: what is declared, the formulas that are assumed, in order, and the conjecture, where there is one
+pub record ReadProblem : Type 0 where
+  pub declared : Declarations
+  pub assumed : List Lambda
+  pub conjecture : Option Lambda
+
+-- the roles (TPTP)
+abbrev pub roles : List (List ℕ)
+roles = codes "type" ∷ codes "conjecture" ∷ codes "axiom" ∷ codes "hypothesis" ∷ codes "definition" ∷ codes "assumption" ∷ codes "lemma" ∷ codes "theorem" ∷ codes "corollary" ∷ codes "plain" ∷ codes "negated_conjecture" ∷ []
+
+abbrev pub is_role : List ℕ → Bool
+is_role role = list_any (bytes_eq role) roles
+
+abbrev pub is_conjecture : List ℕ → Bool
+is_conjecture role = bytes_eq role (codes "conjecture")
+
+-- the byte place of a node's own token
+abbrev pub own_place : FormulaTree → ℕ
+own_place (constant at name) = at
+own_place (variable at name) = at
+own_place (truth at value) = at
+own_place (operator at conn) = at
+own_place (negation at s) = at
+own_place (binary at conn s t) = at
+own_place (equation at positive s t) = at
+own_place (application at s t) = at
+own_place (quantified at all s) = at
+own_place (binding at binder vars s) = at
+
+-- the term, where it is a formula
+abbrev pub where_formula : ℕ → TypedTerm → Result Lambda IllPlace
+where_formula at x = if same_type x.type formula_type then Ok x.term else ill at NotFormula
+
+abbrev pub read_formula : Declarations → FormulaTree → Result Lambda IllPlace
+read_formula d tree = do
+  x ← read_term d [] tree
+  where_formula (own_place tree) x
+
+-- one more base type, constant or formula
+abbrev pub with_base : List ℕ → ReadProblem → ReadProblem
+with_base name p = record { declared = record { bases = p.declared.bases ++ name ∷ []; consts = p.declared.consts }; assumed = p.assumed; conjecture = p.conjecture }
+
+abbrev pub with_const : List ℕ → SimpleType → ReadProblem → ReadProblem
+with_const name a p = record { declared = record { bases = p.declared.bases; consts = p.declared.consts ++ record { name = name; type = a } ∷ [] }; assumed = p.assumed; conjecture = p.conjecture }
+
+abbrev pub with_assumed : Lambda → ReadProblem → ReadProblem
+with_assumed t p = record { declared = p.declared; assumed = p.assumed ++ t ∷ []; conjecture = p.conjecture }
+
+abbrev pub with_conjecture : Lambda → ReadProblem → ReadProblem
+with_conjecture t p = record { declared = p.declared; assumed = p.assumed; conjecture = Some t }
+
+abbrev pub with_formula : Bool → Lambda → ReadProblem → ReadProblem
+with_formula conjecture t p = if conjecture then with_conjecture t p else with_assumed t p
+
+-- what follows for a name that isn't declared yet
+abbrev pub where_new : ℕ → List ℕ → ReadProblem → Result ReadProblem IllPlace → Result ReadProblem IllPlace
+where_new at name p next = if is_some (symbol_named p.declared.bases p.declared.consts name) then ill at Twice else next
+
+abbrev pub read_base : ReadProblem → ℕ → List ℕ → Result ReadProblem IllPlace
+read_base p at name = where_new at name p (Ok (with_base name p))
+
+abbrev pub read_const : ReadProblem → ℕ → List ℕ → TypeTree → Result ReadProblem IllPlace
+read_const p at name ty = where_new at name p (do
+  a ← read_type p.declared ty
+  Ok (with_const name a p))
+
+-- What is declared or stated; a formula is the conjecture or is assumed.
+abbrev pub read_body : ReadProblem → Bool → BodyTree → Result ReadProblem IllPlace
+read_body p conjecture (base at name) = read_base p at name
+read_body p conjecture (typing at name ty) = read_const p at name ty
+read_body p conjecture (formula tree) = do
+  t ← read_formula p.declared tree
+  Ok (with_formula conjecture t p)
+
+-- a statement whose role is known
+abbrev pub read_known : ReadProblem → AnnotatedTree → Result ReadProblem IllPlace
+read_known p s =
+    if is_conjecture s.role && is_some p.conjecture then ill s.role_at SecondConjecture
+    else read_body p (is_conjecture s.role) s.body
+
+abbrev pub read_statement : ReadProblem → AnnotatedTree → Result ReadProblem IllPlace
+read_statement p s = if is_role s.role then read_known p s else ill s.role_at RoleUnknown
+
+-- an ill place of a problem's files
+pub record IllInFile : Type 0 where
+  pub file : ℕ
+  pub at : ℕ
+  pub why : IllWhy
+
+abbrev pub in_file : {A : Type 0} → ℕ → Result A IllPlace → Result A IllInFile
+in_file file (Ok a) = Ok a
+in_file file (Err e) = Err (record { file = file; at = e.at; why = e.why })
+
+abbrev pub read_statements : ReadProblem → List PlacedTree → Result ReadProblem IllInFile
+read_statements p [] = Ok p
+read_statements p (s ∷ statements) = in_file s.file (read_statement p s.statement) >>= λ q. read_statements q statements
+
+-- nothing is declared or stated
+abbrev pub nothing : ReadProblem
+nothing = record { declared = record { bases = []; consts = [] }; assumed = []; conjecture = None }
+
+-- What the statements of a problem say together, or the first ill place.
+abbrev pub problem_of : List PlacedTree → Result ReadProblem IllInFile
+problem_of statements = read_statements nothing statements

@@ -1,0 +1,20 @@
+//! Types, and the reading of statements into terms.
+#![tactic(auto)]
+
+mod declared;
+mod lift;
+mod nodes;
+mod problem;
+mod refusal;
+mod rows;
+mod scope;
+mod statements;
+mod term;
+mod terms;
+#[cfg(test)]
+mod tests;
+mod typed;
+mod types;
+
+pub use problem::check;
+pub use refusal::{Ill, IllWhy};

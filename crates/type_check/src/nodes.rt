@@ -1,0 +1,166 @@
+//! Nodes of formulas over parts that are read.
+
+ghost use Rattle.stt_core.specs.View.{the_type, the_term};
+ghost use Rattle.type_check.specs.Answers.{Answers};
+ghost use Rattle.type_check.specs.Terms as defined;
+ghost use Rattle.type_check.specs.TypedView.{the_typed};
+
+use crate::refusal::{IllWhy, Refusal};
+use crate::rows::{for_all, for_some, join, quantify, signed};
+use crate::term::{app, eq, lam, neg};
+use crate::typed::{TypeOf, Typed};
+use std::alloc::Global;
+use stt_core::{Term, Ty};
+use thf_syntax::{Binder, Conn};
+
+/// `~`.
+pub(crate) fn negated(alloc: Global, at: u32, x: Typed) -> Result<Typed<'static>, Refusal>
+    ensures { Answers the_typed result (defined.negated at (the_typed x.entry)) }
+{
+    let s = x.of_type(at, &Ty::Base(0))?;
+    Ok(Typed {
+        term: neg(alloc, s)?,
+        ty: TypeOf::Made(Ty::Base(0)),
+    })
+}
+
+/// Two formulas that are joined by a connective.
+pub(crate) fn joined(
+    alloc: Global,
+    at: u32,
+    conn: Conn,
+    x: Typed,
+    y: Typed,
+) -> Result<Typed<'static>, Refusal>
+    ensures { Answers the_typed result (defined.joined at conn (the_typed x.entry) (the_typed y.entry)) }
+{
+    let s = x.of_type(at, &Ty::Base(0))?;
+    let t = y.of_type(at, &Ty::Base(0))?;
+    Ok(Typed {
+        term: join(alloc, conn, s, t)?,
+        ty: TypeOf::Made(Ty::Base(0)),
+    })
+}
+
+/// `=`, or `!=` where it isn't positive.
+pub(crate) fn equated(
+    alloc: Global,
+    at: u32,
+    positive: bool,
+    x: Typed,
+    y: Typed,
+) -> Result<Typed<'static>, Refusal>
+    ensures { Answers the_typed result (defined.equated at positive (the_typed x.entry) (the_typed y.entry)) }
+{
+    let t = y.of_type(at, x.ty.get())?;
+    let a = x.ty.into_made(alloc)?;
+    let equation = eq(alloc, a, x.term, t)?;
+    Ok(Typed {
+        term: signed(alloc, positive, equation)?,
+        ty: TypeOf::Made(Ty::Base(0)),
+    })
+}
+
+/// `@`.
+pub(crate) fn applied<'a>(
+    alloc: Global,
+    at: u32,
+    x: Typed<'a>,
+    y: Typed,
+) -> Result<Typed<'a>, Refusal>
+    ensures { Answers the_typed result (defined.applied at (the_typed x.entry) (the_typed y.entry)) }
+{
+    match x.ty.applied_to(y.ty.get()) {
+        Some(ty) => Ok(Typed {
+            term: app(alloc, x.term, y.term)?,
+            ty,
+        }),
+        None => Err(Refusal::At {
+            at,
+            why: IllWhy::Mismatch,
+        }),
+    }
+}
+
+/// `!! @`, or `?? @` where not all are meant.
+pub(crate) fn quantified(
+    alloc: Global,
+    at: u32,
+    all: bool,
+    x: Typed,
+) -> Result<Typed<'static>, Refusal>
+    ensures { Answers the_typed result (defined.quantified_by at all (the_typed x.entry)) }
+{
+    match x.ty.into_domain(alloc)? {
+        Some(a) => Ok(Typed {
+            term: quantify(alloc, all, a, x.term)?,
+            ty: TypeOf::Made(Ty::Base(0)),
+        }),
+        None => Err(Refusal::At {
+            at,
+            why: IllWhy::Mismatch,
+        }),
+    }
+}
+
+/// The choice of a value of type `a` at which the formula `s` holds.
+fn chosen(alloc: Global, a: Ty, s: Term) -> Result<Typed<'static>, Refusal>
+    ensures { Answers the_typed result (defined.chosen (the_type a) (the_term s)) }
+{
+    let predicate = lam(alloc, a.try_clone(alloc)?, s)?;
+    let choice = Term::Choice(a.try_clone(alloc)?);
+    Ok(Typed {
+        term: app(alloc, choice, predicate)?,
+        ty: TypeOf::Made(a),
+    })
+}
+
+/// The function of a variable of type `a` with these values.
+fn abstracted(alloc: Global, a: Ty, x: Typed) -> Result<Typed<'static>, Refusal>
+    ensures { Answers the_typed result (defined.abstracted (the_type a) (the_typed x.entry)) }
+{
+    let outcome = x.ty.into_made(alloc)?;
+    let term = lam(alloc, a.try_clone(alloc)?, x.term)?;
+    let ty = Ty::Arrow(Box::new(alloc, a)?, Box::new(alloc, outcome)?);
+    Ok(Typed {
+        term,
+        ty: TypeOf::Made(ty),
+    })
+}
+
+/// A binder of one variable, of type `a`, over a body.
+pub(crate) fn bind(
+    alloc: Global,
+    at: u32,
+    binder: Binder,
+    a: Ty,
+    x: Typed,
+) -> Result<Typed<'static>, Refusal>
+    ensures { Answers the_typed result (defined.bind at binder (the_type a) (the_typed x.entry)) }
+{
+    match binder {
+        Binder::All => {
+            let s = x.of_type(at, &Ty::Base(0))?;
+            Ok(Typed {
+                term: for_all(alloc, a, s)?,
+                ty: TypeOf::Made(Ty::Base(0)),
+            })
+        }
+        Binder::Exists => {
+            let s = x.of_type(at, &Ty::Base(0))?;
+            Ok(Typed {
+                term: for_some(alloc, a, s)?,
+                ty: TypeOf::Made(Ty::Base(0)),
+            })
+        }
+        Binder::Lam => abstracted(alloc, a, x),
+        Binder::Choice => {
+            let s = x.of_type(at, &Ty::Base(0))?;
+            chosen(alloc, a, s)
+        }
+        Binder::Desc => Err(Refusal::At {
+            at,
+            why: IllWhy::LeftOut,
+        }),
+    }
+}

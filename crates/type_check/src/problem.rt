@@ -1,0 +1,49 @@
+//! The reading of a whole problem.
+
+ghost use Rattle.std.specs.Prelude.{◌≡◌, ◌+◌, ◌-◌, ◌<◌, ◌≤◌, ◌^◌, Ok, length, IfOk, IfErr};
+ghost use Rattle.thf_include.specs.View.{the_placed, the_statements};
+ghost use Rattle.type_check.specs.Checks.{IsIll, the_problem};
+ghost use Rattle.type_check.specs.ReadingView.{the_reading};
+ghost use Rattle.type_check.specs.Statements.{in_file, read_statement, problem_of};
+
+use crate::refusal::{Ill, Refusal};
+use crate::statements::Reading;
+use std::alloc::Global;
+use stt_core::Problem;
+use thf_include::{Gathered, Placed};
+
+/// Reads a statement of a file.
+fn read_placed(alloc: Global, reading: Reading, placed: &Placed) -> Result<Reading, Ill>
+    requires bases { length reading.declared.bases < 2 ^ 32 - 2 }
+    requires consts { length reading.declared.consts < 2 ^ 32 }
+    ensures read { IfOk result (λ r. in_file placed.now.file (read_statement (the_reading reading) (the_placed placed.now).statement) ≡ Ok (the_reading r)) }
+    ensures ill { IfErr result (λ e. IsIll e (in_file placed.now.file (read_statement (the_reading reading) (the_placed placed.now).statement))) }
+    ensures grows { IfOk result (λ r. length r.declared.bases + length r.declared.consts ≤ length reading.declared.bases + length reading.declared.consts + 1) }
+{
+    match reading.read_statement(alloc, &placed.statement) {
+        Ok(reading) => Ok(reading),
+        Err(Refusal::At { at, why }) => Err(Ill::At {
+            file: placed.file,
+            at,
+            why,
+        }),
+        Err(Refusal::Memory) => Err(Ill::Memory),
+    }
+}
+
+/// Reads the statements of a problem, in their order.
+pub fn check(alloc: Global, gathered: &Gathered) -> Result<Problem, Ill>
+    requires { length gathered.now < 2 ^ 32 - 2 }
+    ensures read { IfOk result (λ p. problem_of (the_statements gathered.now) ≡ Ok (the_problem p)) }
+    ensures ill { IfErr result (λ e. IsIll e (problem_of (the_statements gathered.now))) }
+{
+    let mut reading = Reading::new(alloc);
+    for i in 0..gathered.len() {
+        reading = read_placed(alloc, reading, gathered.at(i))?;
+    }
+    Ok(Problem {
+        signature: reading.declared.into_signature(),
+        assumed: reading.assumed,
+        conjecture: reading.conjecture,
+    })
+}

@@ -1,0 +1,193 @@
+//! What statements say.
+
+ghost use Rattle.std.specs.Prelude.{◌≡◌, ◌+◌, ◌-◌, ◌<◌, ◌≤◌, ◌^◌, length, IfOk};
+ghost use Rattle.stt_core.specs.View.{the_term};
+ghost use Rattle.thf_syntax.specs.View.{the_annotated, the_body, the_formula, the_type};
+ghost use Rattle.type_check.specs.Answers.{Answers};
+ghost use Rattle.type_check.specs.Statements as defined;
+ghost use Rattle.type_check.specs.ReadingView.{the_reading};
+
+use crate::declared::Declared;
+use crate::refusal::{IllWhy, Refusal};
+use crate::scope::Scope;
+use crate::terms::read_term;
+use crate::types::read_type;
+use std::alloc::{AllocError, Global};
+use stt_core::{Term, Terms, Ty};
+use thf_syntax::{Annotated, Body, Surface, SurfaceTy};
+
+/// What the statements say so far: what is declared, the formulas that are assumed, in order, and the conjecture, where there is one.
+#[derive(Drop)]
+pub(crate) struct Reading {
+    pub(crate) declared: Declared,
+    pub(crate) assumed: Terms,
+    pub(crate) conjecture: Option<Term>,
+}
+
+fn is_conjecture(role: &[u8]) -> bool
+    ensures { result ≡ defined.is_conjecture role.now }
+{
+    role == b"conjecture".as_slice()
+}
+
+fn is_role(role: &[u8]) -> bool
+    ensures { result ≡ defined.is_role role.now }
+{
+    role == b"type".as_slice()
+        || role == b"conjecture".as_slice()
+        || role == b"axiom".as_slice()
+        || role == b"hypothesis".as_slice()
+        || role == b"definition".as_slice()
+        || role == b"assumption".as_slice()
+        || role == b"lemma".as_slice()
+        || role == b"theorem".as_slice()
+        || role == b"corollary".as_slice()
+        || role == b"plain".as_slice()
+        || role == b"negated_conjecture".as_slice()
+}
+
+/// The byte place of a node's own token.
+fn own_place(tree: &Surface) -> u32
+    ensures { result ≡ defined.own_place (the_formula tree.now) }
+{
+    match tree {
+        Surface::Name { at, .. } => *at,
+        Surface::Var { at, .. } => *at,
+        Surface::Truth { at, .. } => *at,
+        Surface::Op { at, .. } => *at,
+        Surface::Not { at, .. } => *at,
+        Surface::Binary { at, .. } => *at,
+        Surface::Equation { at, .. } => *at,
+        Surface::Apply { at, .. } => *at,
+        Surface::Quant { at, .. } => *at,
+        Surface::Bind { at, .. } => *at,
+    }
+}
+
+/// Reads a formula.
+fn read_formula(alloc: Global, declared: &Declared, tree: &Surface) -> Result<Term, Refusal>
+    ensures { Answers the_term result (defined.read_formula declared.now (the_formula tree.now)) }
+{
+    let x = read_term(alloc, declared, &Scope::Empty, tree)?;
+    if x.ty.get().same(&Ty::Base(0)) {
+        Ok(x.term)
+    } else {
+        Err(Refusal::At {
+            at: own_place(tree),
+            why: IllWhy::NotFormula,
+        })
+    }
+}
+
+impl Reading {
+    pub(crate) fn new(alloc: Global) -> Reading
+        ensures { the_reading result ≡ defined.nothing }
+    {
+        Reading {
+            declared: Declared::new(alloc),
+            assumed: Terms::new(alloc),
+            conjecture: None,
+        }
+    }
+
+    /// Declares a base type.
+    fn read_base(self, at: u32, name: &[u8]) -> Result<Reading, Refusal>
+        requires { length self.declared.bases < 2 ^ 32 - 2 }
+        ensures answer { Answers the_reading result (defined.read_base (the_reading self) at name.now) }
+        ensures grows { IfOk result (λ r. length r.declared.bases + length r.declared.consts ≤ length self.declared.bases + length self.declared.consts + 1) }
+    {
+        if self.declared.find(name).is_some() {
+            return Err(Refusal::At {
+                at,
+                why: IllWhy::Twice,
+            });
+        }
+        Ok(Reading {
+            declared: self.declared.with_base(name)?,
+            ..self
+        })
+    }
+
+    /// Declares a constant.
+    fn read_const(
+        self,
+        alloc: Global,
+        at: u32,
+        name: &[u8],
+        ty: &SurfaceTy,
+    ) -> Result<Reading, Refusal>
+        requires { length self.declared.consts < 2 ^ 32 }
+        ensures answer { Answers the_reading result (defined.read_const (the_reading self) at name.now (the_type ty.now)) }
+        ensures grows { IfOk result (λ r. length r.declared.bases + length r.declared.consts ≤ length self.declared.bases + length self.declared.consts + 1) }
+    {
+        if self.declared.find(name).is_some() {
+            return Err(Refusal::At {
+                at,
+                why: IllWhy::Twice,
+            });
+        }
+        let a = read_type(alloc, &self.declared, ty)?;
+        Ok(Reading {
+            declared: self.declared.with_const(name, a)?,
+            ..self
+        })
+    }
+
+    /// Adds a formula: the conjecture, or one that is assumed.
+    fn with_formula(mut self, conjecture: bool, t: Term) -> Result<Reading, AllocError>
+        ensures formula { IfOk result (λ p. the_reading p ≡ defined.with_formula conjecture (the_term t) (the_reading self)) }
+        ensures same { IfOk result (λ r. r.declared ≡ self.declared) }
+    {
+        if conjecture {
+            self.conjecture = Some(t);
+        } else {
+            self.assumed.push(t)?;
+        }
+        Ok(self)
+    }
+
+    /// Reads what a statement declares or states.
+    fn read_body(self, alloc: Global, conjecture: bool, body: &Body) -> Result<Reading, Refusal>
+        requires bases { length self.declared.bases < 2 ^ 32 - 2 }
+        requires consts { length self.declared.consts < 2 ^ 32 }
+        ensures answer { Answers the_reading result (defined.read_body (the_reading self) conjecture (the_body body.now)) }
+        ensures grows { IfOk result (λ r. length r.declared.bases + length r.declared.consts ≤ length self.declared.bases + length self.declared.consts + 1) }
+    {
+        match body {
+            Body::Base { at, name } => self.read_base(*at, name.as_slice()),
+            Body::Typing { at, name, ty } => self.read_const(alloc, *at, name.as_slice(), ty),
+            Body::Formula(tree) => {
+                let t = read_formula(alloc, &self.declared, tree)?;
+                Ok(self.with_formula(conjecture, t)?)
+            }
+        }
+    }
+
+    /// Reads a statement.
+    pub(crate) fn read_statement(
+        self,
+        alloc: Global,
+        statement: &Annotated,
+    ) -> Result<Reading, Refusal>
+        requires bases { length self.declared.bases < 2 ^ 32 - 2 }
+        requires consts { length self.declared.consts < 2 ^ 32 }
+        ensures answer { Answers the_reading result (defined.read_statement (the_reading self) (the_annotated statement.now)) }
+        ensures grows { IfOk result (λ r. length r.declared.bases + length r.declared.consts ≤ length self.declared.bases + length self.declared.consts + 1) }
+    {
+        let role = statement.role.as_slice();
+        if !is_role(role) {
+            return Err(Refusal::At {
+                at: statement.role_at,
+                why: IllWhy::RoleUnknown,
+            });
+        }
+        let conjecture = is_conjecture(role);
+        if conjecture && self.conjecture.is_some() {
+            return Err(Refusal::At {
+                at: statement.role_at,
+                why: IllWhy::SecondConjecture,
+            });
+        }
+        self.read_body(alloc, conjecture, &statement.body)
+    }
+}

@@ -1,0 +1,174 @@
+//! The terms that texts stand for.
+
+ghost use Rattle.std.specs.Prelude.{◌≡◌, IfOk, option_map};
+ghost use Rattle.stt_core.specs.SimpleType.{arrow, formula};
+ghost use Rattle.stt_core.specs.View.{the_type};
+ghost use Rattle.thf_syntax.specs.View.{the_formula, the_vars};
+ghost use Rattle.type_check.specs.Answers.{Answers};
+ghost use Rattle.type_check.specs.Rows as rows;
+ghost use Rattle.thf_syntax.specs.declared.formula.Conn.TheVariants as conn;
+ghost use Rattle.type_check.specs.Terms as defined;
+ghost use Rattle.type_check.specs.ScopeView.{the_variables};
+ghost use Rattle.type_check.specs.TypedView.{the_typed};
+
+use crate::declared::Declared;
+use crate::nodes::{applied, bind, equated, joined, negated, quantified};
+use crate::refusal::{IllWhy, Refusal};
+use crate::rows::{join, truth_value};
+use crate::scope::Scope;
+use crate::term::{lam, neg};
+use crate::typed::{TypeOf, Typed};
+use crate::types::read_type;
+use std::alloc::{AllocError, Global};
+use stt_core::{Term, Ty};
+use thf_syntax::{Binder, Conn, Surface, SurfaceVar};
+
+/// What a name stands for, where it stands for a term.
+fn known(at: u32, x: Option<Typed>) -> Result<Typed, Refusal>
+    ensures { Answers the_typed result (defined.known at (option_map the_typed x.entry)) }
+{
+    match x {
+        Some(x) => Ok(x),
+        None => Err(Refusal::At {
+            at,
+            why: IllWhy::Unknown,
+        }),
+    }
+}
+
+/// The type of functions from formulas to values of type `to`.
+fn from_formulas(alloc: Global, to: Ty) -> Result<Ty, AllocError>
+    ensures { IfOk result (λ ty. the_type ty ≡ arrow formula (the_type to)) }
+{
+    Ok(Ty::Arrow(Box::new(alloc, Ty::Base(0))?, Box::new(alloc, to)?))
+}
+
+/// `~` as a function.
+fn negating(alloc: Global) -> Result<Typed<'static>, AllocError>
+    ensures { IfOk result (λ x. the_typed x ≡ rows.operator_term conn.Not) }
+{
+    let body = neg(alloc, Term::Bound(0))?;
+    Ok(Typed {
+        term: lam(alloc, Ty::Base(0), body)?,
+        ty: TypeOf::Made(from_formulas(alloc, Ty::Base(0))?),
+    })
+}
+
+/// The function that joins two formulas by a connective.
+fn joining(alloc: Global, connective: Conn) -> Result<Typed<'static>, AllocError>
+    ensures { IfOk result (λ x. the_typed x ≡ rows.joining connective) }
+{
+    let body = join(alloc, connective, Term::Bound(1), Term::Bound(0))?;
+    let inner = lam(alloc, Ty::Base(0), body)?;
+    let outcome = from_formulas(alloc, Ty::Base(0))?;
+    Ok(Typed {
+        term: lam(alloc, Ty::Base(0), inner)?,
+        ty: TypeOf::Made(from_formulas(alloc, outcome)?),
+    })
+}
+
+/// A connective in parentheses.
+fn operator(alloc: Global, connective: Conn) -> Result<Typed<'static>, AllocError>
+    ensures { IfOk result (λ x. the_typed x ≡ rows.operator_term connective) }
+{
+    match connective {
+        Conn::Not => negating(alloc),
+        Conn::And
+        | Conn::Or
+        | Conn::Imp
+        | Conn::If
+        | Conn::Iff
+        | Conn::Xor
+        | Conn::Nor
+        | Conn::Nand => joining(alloc, connective),
+    }
+}
+
+/// Reads a term under the variables in scope.
+#[cycle(terms)]
+pub(crate) fn read_term<'a>(
+    alloc: Global,
+    declared: &'a Declared,
+    scope: &Scope<'a>,
+    tree: &Surface,
+) -> Result<Typed<'a>, Refusal>
+    ensures { Answers the_typed result (defined.read_term declared.now (the_variables scope.now) (the_formula tree.now)) }
+{
+    match tree {
+        Surface::Name { at, name } => known(*at, declared.constant(name.as_slice())),
+        Surface::Var { at, name } => known(*at, scope.variable(0, name.as_slice())?),
+        Surface::Truth { value, .. } => Ok(Typed {
+            term: truth_value(alloc, *value)?,
+            ty: TypeOf::Made(Ty::Base(0)),
+        }),
+        Surface::Op { conn, .. } => Ok(operator(alloc, *conn)?),
+        Surface::Not { at, body } => {
+            let x = read_term(alloc, declared, scope, body)?;
+            negated(alloc, *at, x)
+        }
+        Surface::Binary {
+            at,
+            conn,
+            left,
+            right,
+        } => {
+            let x = read_term(alloc, declared, scope, left)?;
+            let y = read_term(alloc, declared, scope, right)?;
+            joined(alloc, *at, *conn, x, y)
+        }
+        Surface::Equation {
+            at,
+            positive,
+            left,
+            right,
+        } => {
+            let x = read_term(alloc, declared, scope, left)?;
+            let y = read_term(alloc, declared, scope, right)?;
+            equated(alloc, *at, *positive, x, y)
+        }
+        Surface::Apply { at, fun, arg } => {
+            let x = read_term(alloc, declared, scope, fun)?;
+            let y = read_term(alloc, declared, scope, arg)?;
+            applied(alloc, *at, x, y)
+        }
+        Surface::Quant { at, all, arg } => {
+            let x = read_term(alloc, declared, scope, arg)?;
+            quantified(alloc, *at, *all, x)
+        }
+        Surface::Bind {
+            at,
+            binder,
+            vars,
+            body,
+        } => read_binder(alloc, declared, scope, *at, *binder, vars.as_slice(), body),
+    }
+}
+
+/// Reads a binder of these variables over a body.
+#[cycle(terms)]
+fn read_binder<'a>(
+    alloc: Global,
+    declared: &'a Declared,
+    scope: &Scope<'a>,
+    at: u32,
+    binder: Binder,
+    vars: &[SurfaceVar],
+    body: &Surface,
+) -> Result<Typed<'a>, Refusal>
+    ensures { Answers the_typed result (defined.read_binder declared.now at binder (the_vars vars.now) (the_variables scope.now) (λ inner. defined.read_term declared.now inner (the_formula body.now))) }
+{
+    let Some((var, rest)) = vars.split_first() else {
+        return read_term(alloc, declared, scope, body);
+    };
+    let a = read_type(alloc, declared, &var.ty)?;
+    let bound = {
+        let inner = Scope::Inner {
+            name: var.name.as_slice(),
+            ty: &a,
+            outer: &*scope,
+        };
+        let bound = read_binder(alloc, &*declared, &inner, at, binder, rest, body)?;
+        bound.into_made(alloc)?
+    };
+    bind(alloc, at, binder, a, bound)
+}
