@@ -13,7 +13,7 @@ use Rattle.prover_search.specs.Decided.{is_false_clause, is_falsified}
 use Rattle.prover_search.proofs.BooleanLaws.{or-false, or-assoc, or-absorbs, not-or, One, any_one, one_any, any-same, any-map, any-filter, any-flat_map, any-and, any-and_right, false_from_not}
 
 -- lists of literals and clauses in which one may be there already
-same_sign-true : (a b : Bool) → same_sign a b ≡ true → a ≡ b
+pub same_sign-true : (a b : Bool) → same_sign a b ≡ true → a ≡ b
 same_sign-true true true h = refl
 same_sign-true true false h = cc
 same_sign-true false true h = cc

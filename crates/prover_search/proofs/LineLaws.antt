@@ -6,7 +6,6 @@ use Rattle.std.proofs.lemmas.Bool.{and_parts}
 use Rattle.stt_core.specs.Lambda.{imp}
 use Rattle.stt_core.specs.Typing.{Scope}
 use Rattle.stt_tableau.specs.Literals.{literal, Literal, plus, minus, opposite, IsLiteral, IsBranch}
-use Rattle.stt_tableau.specs.Start.{same_sign}
 use Rattle.stt_tableau.specs.Witnesses.{Row}
 use Rattle.stt_tableau.specs.Rules.{false_rule, imp_pos_rule, imp_neg_rule, cut_rule}
 use Rattle.stt_tableau.specs.Accepted.{IsClosed, Within, IsRightLine, AreRightLines, EndsWithin}
@@ -22,13 +21,8 @@ use Rattle.prover_search.specs.Table.{signed, numbered, HasRule, false_rule as o
 use Rattle.prover_search.specs.Splitting.{Tree, leaf, cut, Closes}
 use Rattle.prover_search.specs.Lines.{branch_of, instance_line, cut_line, last_number, instance_lines, cut_lines, lines_of}
 use Rattle.prover_search.proofs.BooleanLaws.{or_cases}
-use Rattle.prover_search.proofs.NumberLaws.{slice_get-append, slice_get-end, stands_at}
-
-same_sign-true : (a b : Bool) → same_sign a b ≡ true → a ≡ b
-same_sign-true true true h = refl
-same_sign-true true false h = cc
-same_sign-true false true h = cc
-same_sign-true false false h = refl
+use Rattle.prover_search.proofs.ClauseLaws.{same_sign-true}
+use Rattle.prover_search.proofs.NumberLaws.{slice_get-append, slice_get-end, stands_at, literal_at}
 
 value_at : (values : List Bool) (v : Var) (b : Bool) → has_value values v b ≡ true → slice_get values v.0 ≡ Some b
 value_at values v b h = go (slice_get values v.0) h
@@ -80,11 +74,6 @@ branch_typed : (scope : Scope) (atoms : List Literal) (values : List Bool) → I
 branch_typed scope [] values h = tt
 branch_typed scope (l ∷ atoms) [] h = tt
 branch_typed scope (l ∷ atoms) (b ∷ values) h = (record { formula = h.0.formula; unsigned = h.0.unsigned }, branch_typed scope atoms values h.1)
-
-literal_at : (scope : Scope) (ls : List Literal) (n : ℕ) (l : Literal) → slice_get ls n ≡ Some l → IsBranch scope ls → IsLiteral scope l
-literal_at scope [] n l g h = cc
-literal_at scope (k ∷ ls) zero l g h = let e : k ≡ l = cc in subst (IsLiteral scope) e h.0
-literal_at scope (k ∷ ls) (suc n) l g h = literal_at scope ls n l g h.1
 
 rule_at : (atoms : List Literal) (instances : List Instance) (n : ℕ) (i : Instance) → slice_get instances n ≡ Some i → AreOfRules atoms instances → IsOfRule atoms i
 rule_at atoms [] n i g h = cc

@@ -1,5 +1,5 @@
 -- The numbers of atoms in lists that grow.
-use Rattle.std.proofs.Common.{◌≡◌, ℕ, zero, suc, Bool, true, false, List, [], ◌∷◌, ◌++◌, length, slice_get, Option, Some, None, option_map, refl, sym, ap, subst, ◌∙◌, append_assoc}
+use Rattle.std.proofs.Common.{◌≡◌, ℕ, zero, suc, Bool, true, false, List, [], ◌∷◌, ◌++◌, length, slice_get, Option, Some, None, option_map, refl, sym, ap, subst, ◌∙◌, append_assoc, append-nil}
 use Rattle.stt_core.specs.Typing.{Scope}
 use Rattle.stt_core.specs.SimpleType.{formula}
 use Rattle.stt_core.specs.Canonical.{IsCanonical}
@@ -73,13 +73,19 @@ distinct-push : (ls : List Literal) (l : Literal) → AreDistinct ls → NoneHas
 distinct-push [] l h n = (tt, tt)
 distinct-push (k ∷ ls) l h n = (none-push ls l k h.0 (λ e. n.0 (sym e)), distinct-push ls l h.1 n.1)
 
-branch-push : (scope : Scope) (ls : List Literal) (l : Literal) → IsBranch scope ls → IsLiteral scope l → IsBranch scope (ls ++ l ∷ [])
+pub branch-push : (scope : Scope) (ls : List Literal) (l : Literal) → IsBranch scope ls → IsLiteral scope l → IsBranch scope (ls ++ l ∷ [])
 branch-push scope [] l h k = (k, tt)
 branch-push scope (j ∷ ls) l h k = (h.0, branch-push scope ls l h.1 k)
 
 pub branch-append : (scope : Scope) (ls ks : List Literal) → IsBranch scope ls → IsBranch scope ks → IsBranch scope (ls ++ ks)
 branch-append scope [] ks h k = k
 branch-append scope (l ∷ ls) ks h k = (h.0, branch-append scope ls ks h.1 k)
+
+-- a literal of a branch is one over what is declared
+pub literal_at : (scope : Scope) (ls : List Literal) (n : ℕ) (l : Literal) → slice_get ls n ≡ Some l → IsBranch scope ls → IsLiteral scope l
+literal_at scope [] n l g h = cc
+literal_at scope (k ∷ ls) zero l g h = let e : k ≡ l = cc in subst (IsLiteral scope) e h.0
+literal_at scope (k ∷ ls) (suc n) l g h = literal_at scope ls n l g h.1
 
 pub none_of_each : (ls : List Literal) (l : Literal) → Each (λ k. k.atom ≡ l.atom → ⊥) ls → NoneHasAtom ls l
 none_of_each [] l h = tt
@@ -92,15 +98,11 @@ number_found atoms i k l g e = ap (option_map (signed l.positive)) g ∙ ap (λ 
 pub interned_found : (atoms : List Literal) (l : Literal) (s : SatLit) → IsNumber atoms l s.var.0 → s.positive ≡ l.positive → IsInterned atoms atoms l s
 interned_found atoms l s h e = record {
   more = [];
-  extends = sym (nothing_more atoms);
+  extends = sym (append-nil atoms);
   number = ap (numbered atoms s.var.0) e ∙ h;
   distinct = λ d. d;
   typed = λ scope b k. b;
 }
-  where
-    nothing_more : (ls : List Literal) → ls ++ [] ≡ ls
-    nothing_more [] = refl
-    nothing_more (k ∷ ls) = ap (λ xs. k ∷ xs) (nothing_more ls)
 
 -- an atom that has none gets the next one
 pub interned_new : (old new : List Literal) (l k : Literal) (s : SatLit) → NoneHasAtom old l → k.atom ≡ l.atom → new ≡ old ++ k ∷ [] → s.var.0 ≡ length old → s.positive ≡ l.positive → IsInterned old new l s

@@ -1,10 +1,10 @@
 -- The run: its start, its steps and its ends.
-use Rattle.std.proofs.Common.{take, length-append, IfSome, IfNone, ◌⊎◌, inl, inr, length-drop, ◌≡◌, ◌≢◌, ℕ, zero, suc, ◌<◌, ◌≤◌, ◌||◌, Bool, true, false, not, List, [], ◌∷◌, ◌++◌, map, length, drop, slice_get, Contains, Option, Some, None, refl, sym, ap, ap₂, subst, ◌∙◌, arith, append_assoc}
+use Rattle.std.proofs.Common.{take, length-append, IfSome, IfNone, ◌⊎◌, inl, inr, length-drop, ◌≡◌, ◌≢◌, ℕ, zero, suc, ◌<◌, ◌≤◌, ◌||◌, Bool, true, false, not, List, [], ◌∷◌, ◌++◌, map, length, drop, slice_get, Contains, Option, Some, None, refl, sym, ap, ap₂, subst, ◌∙◌, arith, append_assoc, append-nil}
 use Rattle.std.specs.List.{list_any, list_all, flat_map}
 use Rattle.std.proofs.Math.Seq.{drop-length, take-append_seam}
 use Rattle.stt_core.specs.Lambda.{Lambda}
 use Rattle.stt_core.specs.Typing.{Scope}
-use Rattle.stt_tableau.specs.Literals.{Literal, opposite, IsLiteral, IsBranch}
+use Rattle.stt_tableau.specs.Literals.{Literal, opposite, IsBranch}
 use Rattle.stt_tableau.specs.Accepted.{IsClosed}
 use Rattle.stt_tableau.specs.Witnesses.{with_rows}
 use Rattle.stt_tableau.specs.Rules.{close_rule}
@@ -14,10 +14,10 @@ use Rattle.prover_search.specs.declared.table.Table.{Table}
 use Rattle.prover_search.specs.declared.table.Instance.{Instance}
 use Rattle.prover_search.specs.declared.decide.Split.{Split}
 use Rattle.prover_search.specs.Clauses.{holds, instance_clauses, with_clauses}
-use Rattle.prover_search.specs.Search.{State, Waiting, started, noted, stepped}
+use Rattle.prover_search.specs.Search.{State, Waiting, started, noted, stepped, after}
 use Rattle.prover_search.specs.Run.{IsOpen, GoesOn, GoesOnUntil, IsProved, IsExhausted, IsStopped}
 use Rattle.prover_search.specs.Searched.{AreSearched, IsSearched, AreDifferent}
-use Rattle.prover_search.specs.Table.{AreDistinct, NoneHasAtom, IsMade, AreOfRules}
+use Rattle.prover_search.specs.Table.{AreDistinct, NoneHasAtom, IsMade, AreOfRules, HasRule}
 use Rattle.prover_search.specs.Splitting.{Tree, the_tree, Closes, StaysOpen}
 use Rattle.prover_search.specs.Lines.{branch_of, tree_refutation}
 use Rattle.prover_search.specs.Values.{is_violated}
@@ -26,7 +26,7 @@ use Rattle.prover_search.specs.Steps.{with_seen, IsPassed, no_rule, tautology, I
 use Rattle.prover_search.specs.Ended.{IsPair, Refutes, pair_refutation}
 use Rattle.prover_search.proofs.BooleanLaws.{or-false, one_fails}
 use Rattle.prover_search.proofs.ClauseLaws.{with_instance_false, has_false, holds-opposite}
-use Rattle.prover_search.proofs.NumberLaws.{rules-append, rules-push}
+use Rattle.prover_search.proofs.NumberLaws.{rules-append, rules-push, literal_at}
 use Rattle.prover_search.proofs.LineLaws.{lines_right, ends_about, branch_of-signs}
 use Rattle.prover_search.proofs.StepLaws.{listed-started, take_next, listed-alternatives, clauses-alternatives, listed-noted}
 use Rattle.prover_search.proofs.SearchedLaws.{rule-searched, rule-typed, added-searched, seen-typed, filter-searched, extended, worked-rule, worked-nothing}
@@ -36,11 +36,6 @@ searched_at : (ls : List Literal) (n : ℕ) (l : Literal) → slice_get ls n ≡
 searched_at [] n l g h = cc
 searched_at (k ∷ ls) zero l g h = let e : k ≡ l = cc in subst IsSearched e h.0
 searched_at (k ∷ ls) (suc n) l g h = searched_at ls n l g h.1
-
-literal_at : (scope : Scope) (ls : List Literal) (n : ℕ) (l : Literal) → slice_get ls n ≡ Some l → IsBranch scope ls → IsLiteral scope l
-literal_at scope [] n l g h = cc
-literal_at scope (k ∷ ls) zero l g h = let e : k ≡ l = cc in subst (IsLiteral scope) e h.0
-literal_at scope (k ∷ ls) (suc n) l g h = literal_at scope ls n l g h.1
 
 -- different literals of which no two are opposite have different atoms
 module _ (start : List Literal) (branch_open : IsClosed start → ⊥) where
@@ -68,15 +63,11 @@ module _ (start : List Literal) (branch_open : IsClosed start → ⊥) where
   pub distinct-start : AreDifferent start → AreDistinct start
   distinct-start d = distinct_in start (λ k c. c) d
 
-nothing_more : (ls : List Literal) → ls ++ [] ≡ ls
-nothing_more [] = refl
-nothing_more (l ∷ ls) = ap (λ xs. l ∷ xs) (nothing_more ls)
-
 -- the table of the start, without instances
 table-start : (start : List Literal) (table : Table) → table.atoms ≡ start → table.instances.items ≡ [] → AreDistinct start → IsTable start table
 table-start start table a i d = record {
   more = [];
-  front = a ∙ sym (nothing_more start);
+  front = a ∙ sym (append-nil start);
   distinct = subst AreDistinct (sym a) d;
   rules = subst (AreOfRules table.atoms) (sym i) tt;
   typed = λ scope h. subst (IsBranch scope) (sym a) h;
@@ -116,27 +107,49 @@ module _ (start : List Literal) (limit n : ℕ) (seen : List Literal) (table : T
     own : IsSearched l
     own = searched_at seen n l g c.searched
 
+    -- what a rule's instance adds to the state
+    record IsRuled (as' : List (List Literal)) : Type 0 where
+      pub next : State
+      pub comes_to : after start (suc n) ≡ Some next
+      pub listed : IsListed (suc n) (with_seen seen as') next
+      pub decides : (ts : List Lambda) → list_any (is_false_clause ts) next.clauses ≡ falsifies ts start table.atoms table.instances.items || is_falsified ts (l ∷ []) as'
+      pub searched : AreSearched (with_seen seen as')
+      pub typed : (scope : Scope) → IsBranch scope start → IsBranch scope (with_seen seen as')
+
+    ruled : (as' : List (List Literal)) → HasRule l as' → IsRuled as'
+    ruled as' rule =
+        let k = take_next n seen c.state l c.listed g in
+        let with_clauses_of : State = record { clauses = with_clauses k.taken.clauses (instance_clauses (l ∷ []) as'); seen = k.taken.seen; noted = k.taken.noted; queue = k.taken.queue; pushes = k.taken.pushes; done = k.taken.done } in
+        let listed_now : IsListed (suc n) seen with_clauses_of = record { is_seen = k.listed.is_seen; waiting = k.listed.waiting; pushes = k.listed.pushes; done = k.listed.done; within = k.listed.within } in
+        let next = extended l as' k.taken in
+        record {
+          next = noted l next;
+          comes_to = ap stepped c.comes_to ∙ k.steps ∙ ap (λ st. Some (noted l st)) (worked-rule l as' k.taken rule own);
+          listed = listed-noted (suc n) (with_seen seen as') next l (listed-alternatives (suc n) seen with_clauses_of as' listed_now);
+          decides = λ ts. (
+              ap (list_any (is_false_clause ts)) (clauses-alternatives with_clauses_of as')
+              ∙ with_instance_false ts k.taken.clauses (l ∷ []) as'
+              ∙ ap (λ b. b || is_falsified ts (l ∷ []) as') (ap (list_any (is_false_clause ts)) k.clauses ∙ c.decides ts));
+          searched = added-searched seen (flat_map (λ (a : List Literal). a) as') c.searched (rule-searched l as' rule own);
+          typed = λ scope b. (let t = c.typed scope b in seen-typed scope seen as' t (rule-typed scope l as' rule (literal_at scope seen n l g t)));
+        }
+
     -- an instance is added
     pub come-extended : (seen' : List Literal) (new : Table) → IsExtended l seen seen' table new → IsCome start limit (suc n) seen' new
     come-extended seen' new x =
-        let k = take_next n seen c.state l c.listed g in
-        let with_clauses_of : State = record { clauses = with_clauses k.taken.clauses (instance_clauses (l ∷ []) x.alternatives); seen = k.taken.seen; noted = k.taken.noted; queue = k.taken.queue; pushes = k.taken.pushes; done = k.taken.done } in
-        let next = extended l x.alternatives k.taken in
-        let listed_now : IsListed (suc n) seen with_clauses_of = record { is_seen = k.listed.is_seen; waiting = k.listed.waiting; pushes = k.listed.pushes; done = k.listed.done; within = k.listed.within } in
+        let r = ruled x.alternatives x.has_rule in
         let rules_now : AreOfRules new.atoms table.instances.items = subst (λ ls. AreOfRules ls table.instances.items) (sym x.adds.extends) (rules-append table.atoms x.adds.more table.instances.items c.of_start.rules) in
         record {
           until = until-more c s other;
-          state = noted l next;
-          comes_to = ap stepped c.comes_to ∙ k.steps ∙ ap (λ st. Some (noted l st)) (worked-rule l x.alternatives k.taken x.has_rule own);
-          listed = subst (λ ls. IsListed (suc n) ls (noted l next)) (sym x.sees) (listed-noted (suc n) (with_seen seen x.alternatives) next l (listed-alternatives (suc n) seen with_clauses_of x.alternatives listed_now));
+          state = r.next;
+          comes_to = r.comes_to;
+          listed = subst (λ ls. IsListed (suc n) ls r.next) (sym x.sees) r.listed;
           decides = λ ts. (
-              ap (list_any (is_false_clause ts)) (clauses-alternatives with_clauses_of x.alternatives)
-              ∙ with_instance_false ts k.taken.clauses (l ∷ []) x.alternatives
-              ∙ ap (λ b. b || is_falsified ts (l ∷ []) x.alternatives) (ap (list_any (is_false_clause ts)) k.clauses ∙ c.decides ts)
+              r.decides ts
               ∙ sym (falsifies-more ts start table.atoms x.adds.more table.instances.items x.adds.instance l x.alternatives c.of_start.rules (subst (λ ls. IsMade ls x.adds.instance l x.alternatives) x.adds.extends x.adds.made))
               ∙ ap₂ (falsifies ts start) (sym x.adds.extends) (sym x.adds.instances));
-          searched = subst AreSearched (sym x.sees) (added-searched seen (flat_map (λ (a : List Literal). a) x.alternatives) c.searched (rule-searched l x.alternatives x.has_rule own));
-          typed = λ scope b. (let t = c.typed scope b in subst (IsBranch scope) (sym x.sees) (seen-typed scope seen x.alternatives t (rule-typed scope l x.alternatives x.has_rule (literal_at scope seen n l g t))));
+          searched = subst AreSearched (sym x.sees) r.searched;
+          typed = λ scope b. subst (IsBranch scope) (sym x.sees) (r.typed scope b);
           of_start = record {
             more = c.of_start.more ++ x.adds.more;
             front = x.adds.extends ∙ ap (λ ls. ls ++ x.adds.more) c.of_start.front ∙ append_assoc start c.of_start.more x.adds.more;
@@ -173,24 +186,19 @@ module _ (start : List Literal) (limit n : ℕ) (seen : List Literal) (table : T
           of_start = come-same new same;
         }
     come-passed seen' new same (tautology x rule) =
-        let as' = (x ∷ []) ∷ (opposite x ∷ []) ∷ [] in
-        let k = take_next n seen c.state l c.listed g in
-        let with_clauses_of : State = record { clauses = with_clauses k.taken.clauses (instance_clauses (l ∷ []) as'); seen = k.taken.seen; noted = k.taken.noted; queue = k.taken.queue; pushes = k.taken.pushes; done = k.taken.done } in
-        let next = extended l as' k.taken in
-        let listed_now : IsListed (suc n) seen with_clauses_of = record { is_seen = k.listed.is_seen; waiting = k.listed.waiting; pushes = k.listed.pushes; done = k.listed.done; within = k.listed.within } in
+        let r = ruled ((x ∷ []) ∷ (opposite x ∷ []) ∷ []) rule in
         record {
           until = until-more c s other;
-          state = noted l next;
-          comes_to = ap stepped c.comes_to ∙ k.steps ∙ ap (λ st. Some (noted l st)) (worked-rule l as' k.taken rule own);
-          listed = listed-noted (suc n) (with_seen seen as') next l (listed-alternatives (suc n) seen with_clauses_of as' listed_now);
+          state = r.next;
+          comes_to = r.comes_to;
+          listed = r.listed;
           decides = λ ts. (
-              ap (list_any (is_false_clause ts)) (clauses-alternatives with_clauses_of as')
-              ∙ with_instance_false ts k.taken.clauses (l ∷ []) as'
-              ∙ ap₂ (λ a b. a || b) (ap (list_any (is_false_clause ts)) k.clauses ∙ c.decides ts) (tautology-falsified ts l x)
+              r.decides ts
+              ∙ ap (λ b. falsifies ts start table.atoms table.instances.items || b) (tautology-falsified ts l x)
               ∙ or-false (falsifies ts start table.atoms table.instances.items)
               ∙ ap₂ (falsifies ts start) (sym same.atoms) (sym same.instances));
-          searched = added-searched seen (flat_map (λ (a : List Literal). a) as') c.searched (rule-searched l as' rule own);
-          typed = λ scope b. (let t = c.typed scope b in seen-typed scope seen as' t (rule-typed scope l as' rule (literal_at scope seen n l g t)));
+          searched = r.searched;
+          typed = r.typed;
           of_start = come-same new same;
         }
 
@@ -290,16 +298,12 @@ search_start start limit seen table values h d o s a i v =
       come = subst (λ ls. IsCome start limit 0 ls table) (sym s) (come-start start limit table a i h distinct);
       satisfied = open_satisfied start table of_start (signs start) (record {
         more = [];
-        extends = sym (no_value (signs start));
+        extends = sym (append-nil (signs start));
         each = length-signs start ∙ ap length (sym a);
         none_violated = ap (list_any (is_violated (signs start))) i;
       });
       are_signs = v;
     }
-  where
-    no_value : (bs : List Bool) → bs ++ [] ≡ bs
-    no_value [] = refl
-    no_value (b ∷ bs) = ap (λ xs. b ∷ xs) (no_value bs)
 
 module _ (start : List Literal) (limit n : ℕ) (seen seen' : List Literal) (table new : Table) (values : List Bool) where
   pub searching-passed : IsSearching start limit n seen table values → n ≢ limit → IsProcessed false seen seen' table new n → IsSearching start limit (suc n) seen' new values
@@ -320,17 +324,13 @@ module _ (start : List Literal) (limit n : ℕ) (seen seen' : List Literal) (tab
     are_signs = e ∙ ap (take (length values)) stays.extends ∙ take-append_seam values stays.more ∙ v;
   }
   after_decide (Some split) decided left c v closed kept stays e =
-      let same : left ≡ values = e ∙ ap (take (length values)) (kept ∙ sym (nothing values)) ∙ take-append_seam values [] in
+      let same : left ≡ values = e ∙ ap (take (length values)) (kept ∙ sym (append-nil values)) ∙ take-append_seam values [] in
       record {
         proved = closed_proved start limit (suc n) seen' new c (the_tree split) (subst (λ bs. Closes (length new.atoms) new.instances.items bs (the_tree split)) v closed);
         closes = subst (λ bs. Closes (length new.atoms) new.instances.items bs (the_tree split)) (sym same) closed;
         of_start = c.of_start;
         are_signs = same ∙ v;
       }
-    where
-      nothing : (bs : List Bool) → bs ++ [] ≡ bs
-      nothing [] = refl
-      nothing (b ∷ bs) = ap (λ xs. b ∷ xs) (nothing bs)
 
   -- the same, for the number of atoms and the instances as they were handed on
   pub after_decide_at : (tree : Option Split) (decided left : List Bool) (count : ℕ) (instances : List Instance) → IsCome start limit (suc n) seen' new → values ≡ signs start → count ≡ length new.atoms → instances ≡ new.instances.items → IfSome tree (λ split. Closes count instances values (the_tree split)) → IfSome tree (λ split. decided ≡ values) → IfNone tree (StaysOpen count instances values decided) → left ≡ take (length values) decided → GoesOnBy tree start limit n seen' new left

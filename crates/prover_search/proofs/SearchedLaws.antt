@@ -14,6 +14,7 @@ use Rattle.prover_search.specs.Clauses.{with_clauses, instance_clauses}
 use Rattle.prover_search.specs.Searched.{IsPropositional, IsSearched, AreSearched, AreDifferent}
 use Rattle.prover_search.proofs.BooleanLaws.{none_contained}
 use Rattle.prover_search.proofs.ClauseLaws.{has-of}
+use Rattle.prover_search.proofs.NumberLaws.{branch-push, branch-append}
 use Rattle.stt_tableau.proofs.ListLaws.{contains-first, contains-later}
 use Rattle.std.proofs.lemmas.List.Elements.{Contains-push_cases}
 use Rattle.prover_search.specs.Table.{HasRule, false_rule, imp_pos_rule, imp_neg_rule, AreBranches}
@@ -92,10 +93,6 @@ added-searched ls (l ∷ ks) h k = go (has ls l) (λ front f. added-searched fro
     go true rest = rest ls h
     go false rest = rest (ls ++ l ∷ []) (searched-push ls l h k.0)
 
-branch-push : (scope : Scope) (ls : List Literal) (l : Literal) → IsBranch scope ls → IsLiteral scope l → IsBranch scope (ls ++ l ∷ [])
-branch-push scope [] l h k = (k, tt)
-branch-push scope (j ∷ ls) l h k = (h.0, branch-push scope ls l h.1 k)
-
 added-typed : (scope : Scope) (ls ks : List Literal) → IsBranch scope ls → IsBranch scope ks → IsBranch scope (added ls ks)
 added-typed scope ls [] h k = h
 added-typed scope ls (l ∷ ks) h k = go (has ls l) (λ front f. added-typed scope front ks f k.1)
@@ -106,11 +103,7 @@ added-typed scope ls (l ∷ ks) h k = go (has ls l) (λ front f. added-typed sco
 
 flat-typed : (scope : Scope) (as' : List (List Literal)) → AreBranches scope as' → IsBranch scope (flat_map (λ (a : List Literal). a) as')
 flat-typed scope [] h = tt
-flat-typed scope (a ∷ as') h = both a (flat_map (λ (b : List Literal). b) as') h.0 (flat-typed scope as' h.1)
-  where
-    both : (xs ys : List Literal) → IsBranch scope xs → IsBranch scope ys → IsBranch scope (xs ++ ys)
-    both [] ys f g = g
-    both (x ∷ xs) ys f g = (f.0, both xs ys f.1 g)
+flat-typed scope (a ∷ as') h = branch-append scope a (flat_map (λ (b : List Literal). b) as') h.0 (flat-typed scope as' h.1)
 
 pub seen-typed : (scope : Scope) (seen : List Literal) (as' : List (List Literal)) → IsBranch scope seen → AreBranches scope as' → IsBranch scope (with_seen seen as')
 seen-typed scope seen as' h k = added-typed scope seen (flat_map (λ (a : List Literal). a) as') h (flat-typed scope as' k)
