@@ -4,3 +4,10 @@ pub mod Text
 pub mod Named
 pub mod Pieces
 pub mod Writing
+pub mod Reader
+pub mod View
+pub mod TreeCode
+pub mod TreeSizes
+pub mod TreeView
+pub mod TreeFalls
+pub mod Refusals

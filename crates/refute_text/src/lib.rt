@@ -1,9 +1,14 @@
 //! The text of refutations.
 #![tactic(auto)]
 
+mod read_name;
+mod read_type;
+mod refusal;
+mod tree;
 mod write_line;
 mod write_name;
 mod write_rule;
 mod write_term;
 
+pub use tree::{TextHead, TextNode, TextTerm, TextTerms, TextTy};
 pub use write_line::write_text;
