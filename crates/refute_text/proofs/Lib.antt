@@ -4,3 +4,7 @@ mod TermTexts
 mod LineTexts
 pub mod Numbers
 pub mod Readers
+pub mod Inversions
+pub mod NameReads
+pub mod TypeReads
+pub mod TermReaders

@@ -3,6 +3,7 @@ pub mod Trees
 pub mod Text
 pub mod Named
 pub mod Pieces
+pub mod Limits
 pub mod Writing
 pub mod Reader
 pub mod View
@@ -10,4 +11,5 @@ pub mod TreeCode
 pub mod TreeSizes
 pub mod TreeView
 pub mod TreeFalls
+pub mod TermReader
 pub mod Refusals

@@ -2,6 +2,7 @@
 #![tactic(auto)]
 
 mod read_name;
+mod read_term;
 mod read_type;
 mod refusal;
 mod tree;

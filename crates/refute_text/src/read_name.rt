@@ -102,7 +102,8 @@ fn value(digits: &[u8]) -> Option<u64>
 /// A number up to the greatest one.
 #[tactic(auto, unfolding(crate::specs::Reader::number_at))]
 pub(crate) fn number(greatest: u64, bytes: &[u8]) -> Option<NumberRead<'_>>
-    ensures { option_map (λ r. (r.number, r.rest.now)) result ≡ number_at (greatest + 1) bytes.now }
+    ensures read { option_map (λ r. (r.number, r.rest.now)) result ≡ number_at (greatest + 1) bytes.now }
+    ensures bound { IfSome result (λ r. r.number ≤ greatest) }
 {
     let split = digits(bytes);
     if !is_decimal(split.front) {
