@@ -7,4 +7,6 @@ pub mod Readers
 pub mod Inversions
 pub mod NameReads
 pub mod TypeReads
-pub mod TermReaders
+pub mod TreeTexts
+pub mod TermReads
+pub mod Repeats

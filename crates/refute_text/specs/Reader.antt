@@ -27,6 +27,16 @@ abbrev pub by_front : {A : Type 0} → Option (List ℕ) → (List ℕ → Optio
 by_front (Some rest) f other = f rest
 by_front None f other = other
 
+abbrev pub with_item : {X : Type 0} → X → Option (List X × List ℕ) → Option (List X × List ℕ)
+with_item x None = None
+with_item x (Some r) = Some (x ∷ r.0, r.1)
+
+-- items, each behind a mark, at most so many
+unfoldable pub repeated_at : {X : Type 0} → List ℕ → (List ℕ → Option (X × List ℕ)) → ℕ → List ℕ → Option (List X × List ℕ)
+repeated_at mark item zero bytes = Some ([], bytes)
+repeated_at mark item (suc n) bytes =
+    by_front (behind mark bytes) (λ rest. item rest >>= (λ x. with_item x.0 (repeated_at mark item n x.1))) (Some ([], bytes))
+
 abbrev pub is_digit : ℕ → Bool
 is_digit c = nat_le 48 c && nat_le c 57
 

@@ -2,7 +2,7 @@
 use Rattle.std.specs.Prelude.{ℕ, zero, suc, ◌^◌, length, List, [], ◌∷◌, codes, Option, Some, None, option_map}
 use Rattle.refute_text.specs.Trees.{TypeTree, ConstantTree, name, witness, falsity, negation, implication, all, equality, choice, TermTree, bound, constant, lam}
 use Rattle.refute_text.specs.TreeSizes.{applied}
-use Rattle.refute_text.specs.Reader.{◌>>=◌, behind, by_front, number_at, name_at, type_at}
+use Rattle.refute_text.specs.Reader.{◌>>=◌, behind, by_front, number_at, name_at, type_at, repeated_at}
 
 -- a term and what follows it
 abbrev pub TermAt : Type 0
@@ -50,18 +50,9 @@ head_at depth bytes =
     by_front (behind (codes "$") bytes) (dollar_head_at depth)
     (by_front (behind (codes "#") bytes) (counted_at bound) (named_head_at bytes))
 
-abbrev pub TermsAt : Type 0
-TermsAt = Option (List TermTree × List ℕ)
-
-abbrev pub with_term : TermTree → TermsAt → TermsAt
-with_term u None = None
-with_term u (Some r) = Some (u ∷ r.0, r.1)
-
 -- arguments, each behind a space, at most so many
-unfoldable pub arguments_at : (List ℕ → TermAt) → ℕ → List ℕ → TermsAt
-arguments_at term zero bytes = Some ([], bytes)
-arguments_at term (suc n) bytes =
-    by_front (behind (codes " ") bytes) (λ rest. term rest >>= (λ u. with_term u.0 (arguments_at term n u.1))) (Some ([], bytes))
+abbrev pub arguments_at : (List ℕ → TermAt) → ℕ → List ℕ → Option (List TermTree × List ℕ)
+arguments_at term n bytes = repeated_at (codes " ") term n bytes
 
 -- a head with some arguments
 abbrev pub applied_to : TermTree → List TermTree → List ℕ → TermAt

@@ -131,9 +131,13 @@ fn arguments(alloc: Global, depth: u32, bytes: &[u8]) -> Result<TermsRead<'_>, R
     let mut terms = TextTerms::new(alloc);
     let mut rest = bytes;
     while let Some(more) = behind(b" ", rest) {
-        let read = read_term(alloc, depth, more)?;
-        terms.push(read.term)?;
-        rest = read.rest;
+        match read_term(alloc, depth, more) {
+            Ok(read) => {
+                terms.push(read.term)?;
+                rest = read.rest;
+            }
+            Err(refusal) => return Err(refusal),
+        }
     }
     Ok(TermsRead { terms, rest })
 }
