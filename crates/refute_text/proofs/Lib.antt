@@ -9,4 +9,6 @@ pub mod NameReads
 pub mod TypeReads
 pub mod TreeTexts
 pub mod TermReads
+pub mod LiteralReads
 pub mod Repeats
+pub mod Negations

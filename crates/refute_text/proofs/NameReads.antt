@@ -1,11 +1,11 @@
 -- The names and numbers that are read stand at the front of the bytes.
-use Rattle.std.proofs.Common.{◌≡◌, ℕ, zero, suc, ◌+◌, ◌^◌, ◌<◌, ◌≤◌, ◌&&◌, ◌||◌, ◌==◌, not, nat_eq, nat_lt, nat_le, Bool, true, false, List, [], ◌∷◌, ◌++◌, Option, Some, None, length, get_or, take, drop, decimal, codes, refl, sym, ap, ap₂, subst, ◌∙◌, append_assoc, arith, if◌then◌else◌}
-use Rattle.std.specs.List.{starts_with, list_all, flat_map}
+use Rattle.std.proofs.Common.{◌≡◌, ℕ, ◌^◌, ◌<◌, ◌≤◌, ◌&&◌, ◌||◌, ◌==◌, not, nat_lt, Bool, true, false, List, [], ◌∷◌, ◌++◌, Option, Some, None, length, get_or, decimal, codes, refl, sym, ap, ap₂, subst, ◌∙◌, append_assoc, arith, if◌then◌else◌}
+use Rattle.std.specs.List.{list_all, flat_map}
 use Rattle.std.proofs.lemmas.Bool.{and_parts, eqb-true}
 use Rattle.std.proofs.lemmas.Bool.Decides.{nat_tests}
 use Rattle.std.proofs.lemmas.Fmt.{decimal-digits_value}
-use Rattle.refute_text.specs.Letters.{is_lower, is_word_byte, is_printable, is_plain, starts_lower, escaped, quoted, name_text, is_name}
-use Rattle.refute_text.specs.Reader.{◌>>=◌, behind, by_front, front, after, is_digit, is_decimal, number_from, number_of, number_at, with_first, characters_at, escaped_at, needs_quotes, where_quoted, plain_at, name_at}
+use Rattle.refute_text.specs.Letters.{is_lower, is_word_byte, is_printable, is_plain, escaped, quoted, name_text, is_name}
+use Rattle.refute_text.specs.Reader.{behind, front, after, is_digit, is_decimal, number_from, number_of, number_at, with_first, characters_at, escaped_at, needs_quotes, where_quoted, plain_at, name_at}
 use Rattle.refute_text.proofs.Numbers.{own}
 use Rattle.refute_text.proofs.Readers.{list_all-front}
 use Rattle.refute_text.proofs.Inversions.{found, found_first, found_second, front_sound, behind_some, front-after}
@@ -42,9 +42,10 @@ number_reads limit n bs r small h =
 -- a character of a name in quotes, and more of them
 more_characters : (c : ℕ) (before cs r v w : List ℕ) → is_printable c ≡ true → escaped c ≡ before → found (c ∷ v) r ≡ found w r → cs ≡ flat_map escaped v ++ (39 ∷ r) → list_all is_printable v ≡ true → (before ++ cs ≡ flat_map escaped w ++ (39 ∷ r)) × (list_all is_printable w ≡ true)
 more_characters c before cs r v w p e q h k =
-    let same : c ∷ v ≡ w = found_first (c ∷ v) w r r q in
-    (ap₂ (λ x y. x ++ y) (sym e) h ∙ sym (append_assoc (escaped c) (flat_map escaped v) (39 ∷ r)) ∙ ap (λ x. flat_map escaped x ++ (39 ∷ r)) same,
-    ap (list_all is_printable) (sym same) ∙ ap₂ (λ x y. x && y) p k)
+    let same : c ∷ v ≡ w = found_first (c ∷ v) w r r q in (
+      ap₂ (λ x y. x ++ y) (sym e) h ∙ sym (append_assoc (escaped c) (flat_map escaped v) (39 ∷ r)) ∙ ap (λ x. flat_map escaped x ++ (39 ∷ r)) same,
+      ap (list_all is_printable) (sym same) ∙ ap₂ (λ x y. x && y) p k,
+    )
 
 escaped-quote : (c : ℕ) → (c == 39) || (c == 92) ≡ true → (escaped c ≡ 92 ∷ c ∷ []) × (is_printable c ≡ true)
 escaped-quote c h = (ap (λ b. if b then 92 ∷ c ∷ [] else c ∷ []) h, go (c == 39) (c == 92) refl refl h)
@@ -144,7 +145,7 @@ unfolding name_at
 name_reads bs w r h =
     front_sound (behind (codes "'") bs) (λ rest. where_quoted (characters_at rest)) (plain_at bs) (w, r) h
     (λ rest at k. quoted_sound (characters_at rest) w r k (λ found needs.
-        let p = characters_read rest w r found in
-        let q = quotes_needed w needs p.1 in
-        (behind_some (codes "'") bs rest at ∙ ap (λ x. codes "'" ++ x) (p.0 ∙ sym (append_assoc (flat_map escaped w) (codes "'") r)) ∙ ap (λ x. x ++ r) (sym q.0), q.1)))
+    let p = characters_read rest w r found in
+    let q = quotes_needed w needs p.1 in
+    (behind_some (codes "'") bs rest at ∙ ap (λ x. codes "'" ++ x) (p.0 ∙ sym (append_assoc (flat_map escaped w) (codes "'") r)) ∙ ap (λ x. x ++ r) (sym q.0), q.1)))
     (λ k. plain_reads bs w r k)

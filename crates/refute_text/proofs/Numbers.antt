@@ -1,11 +1,10 @@
 -- Digits and the number that they are.
-use Rattle.std.proofs.Common.{◌≡◌, ℕ, zero, suc, ◌+◌, ◌-◌, ◌*◌, ◌^◌, ◌<◌, ◌≤◌, ◌==◌, ◌&&◌, not, Bool, true, false, List, [], ◌∷◌, ◌++◌, Option, Some, None, Result, Ok, Err, length, get_or, decimal, refl, sym, ap, ap₂, ◌∙◌, arith, rules, if◌then◌else◌, nat_lt}
+use Rattle.std.proofs.Common.{◌≡◌, ℕ, ◌^◌, ◌<◌, Bool, true, false, List, Some, None, Result, Ok, Err, length, refl, sym, ap, ◌∙◌, arith, rules, if◌then◌else◌, nat_lt}
 use Rattle.std.specs.List.{list_all}
 use Rattle.std.proofs.lemmas.Bool.Decides.{nat_tests}
 use Rattle.std.proofs.lemmas.Str.Parse.{IsNumeralModel, numerals_by_fold, parse_digits}
 use Rattle.std.specs.Str.Parse.{ParsesUnsigned}
-use Rattle.std.proofs.lemmas.Fmt.{digits_decimal, digits_value-decimal, decimal-digits_value, first_decimal, decimal_nonempty, decimal_digit}
-use Rattle.refute_text.specs.Reader.{is_digit, number_from, is_decimal, number_of, number_at, front, after}
+use Rattle.refute_text.specs.Reader.{is_digit, number_from}
 
 pub own : IsNumeralModel (λ ds. list_all is_digit ds ≡ true) (number_from 0)
 own = numerals_by_fold _ (search rules) number_from (search rules)

@@ -1,9 +1,9 @@
 -- How the readers go on.
-use Rattle.std.proofs.Common.{◌≡◌, ℕ, zero, suc, ◌+◌, ◌-◌, ◌<◌, ◌≤◌, ◌==◌, ◌||◌, ◌&&◌, Bool, true, false, List, [], ◌∷◌, ◌++◌, Option, Some, None, length, take, drop, refl, sym, ap, ap₂, ◌∙◌, append_assoc, arith, if◌then◌else◌, codes}
+use Rattle.std.proofs.Common.{◌≡◌, ℕ, ◌==◌, ◌||◌, ◌&&◌, Bool, true, false, List, [], ◌∷◌, ◌++◌, Option, Some, None, refl, ap₂, arith, if◌then◌else◌, codes}
 use Rattle.std.specs.List.{list_all}
 use Rattle.std.proofs.lemmas.Bool.Decides.{nat_tests}
 use Rattle.refute_text.specs.Letters.{is_printable}
-use Rattle.refute_text.specs.Reader.{front, after, behind, by_front, is_digit, with_first, characters_at, escaped_at, escaped_character, character_at, ◌>>=◌}
+use Rattle.refute_text.specs.Reader.{front, behind, by_front, with_first, characters_at, escaped_at, escaped_character, character_at}
 
 -- more before the name that is read
 abbrev pub with_front : List ℕ → Option (List ℕ × List ℕ) → Option (List ℕ × List ℕ)

@@ -1,15 +1,10 @@
 -- How the readers of repeated items go on.
-use Rattle.std.proofs.Common.{◌≡◌, ℕ, zero, suc, ◌+◌, ◌<◌, ◌≤◌, List, [], ◌∷◌, ◌++◌, Option, Some, None, length, codes, refl, sym, ap, ap₂, ◌∙◌, append_assoc, append-nil, arith, length-append}
-use Rattle.refute_text.specs.Reader.{◌>>=◌, behind, by_front, with_item, repeated_at}
+use Rattle.std.proofs.Common.{◌≡◌, ℕ, zero, suc, ◌+◌, ◌<◌, ◌≤◌, List, [], ◌∷◌, ◌++◌, Option, Some, None, length, refl, sym, ap, ◌∙◌, append_assoc, append-nil, arith, length-append}
+use Rattle.refute_text.specs.Reader.{◌>>=◌, behind, by_front, with_item, with_items, repeated_at}
 use Rattle.refute_text.specs.Refusals.{IsRefusal}
 use Rattle.refute_text.specs.declared.refusal.Refusal.{Refusal}
 use Rattle.refute_text.specs.declared.refusal.Refusal.TheVariants.{Form, Memory}
 use Rattle.refute_text.proofs.Inversions.{found, behind_some}
-
--- items before those that are read
-abbrev pub with_items : {X : Type 0} → List X → Option (List X × List ℕ) → Option (List X × List ℕ)
-with_items xs None = None
-with_items xs (Some r) = Some (xs ++ r.0, r.1)
 
 -- the items so far and those of the rest are the whole
 abbrev pub ItemsLeft : {X : Type 0} → List ℕ → (List ℕ → Option (X × List ℕ)) → List X → List ℕ → Option (List X × List ℕ) → Type 0

@@ -1,11 +1,10 @@
 -- The terms that are read stand at the front of the bytes.
-use Rattle.std.proofs.Common.{◌≡◌, ℕ, zero, suc, ◌+◌, ◌^◌, ◌<◌, ◌≤◌, max, List, [], ◌∷◌, ◌++◌, Option, Some, None, length, codes, decimal, refl, sym, ap, ap₂, subst, ◌∙◌, append_assoc, arith, length-append}
-use Rattle.refute_text.specs.Letters.{name_text, is_name}
-use Rattle.refute_text.specs.Trees.{TypeTree, ConstantTree, name, witness, falsity, negation, implication, all, equality, choice, TermTree, bound, constant, lam, app}
+use Rattle.std.proofs.Common.{◌≡◌, ℕ, zero, suc, ◌^◌, ◌<◌, ◌≤◌, List, [], ◌∷◌, ◌++◌, Option, Some, None, length, codes, decimal, refl, sym, ap, ap₂, subst, ◌∙◌, append_assoc, arith, length-append}
+use Rattle.refute_text.specs.Trees.{TypeTree, ConstantTree, name, witness, falsity, negation, implication, all, equality, choice, TermTree, bound, constant, lam}
 use Rattle.refute_text.specs.Text.{type_text, constant_text, term_text}
 use Rattle.refute_text.specs.Limits.{IsType, type_depth, IsConstant, constant_depth, IsTerm, term_depth}
 use Rattle.refute_text.specs.TreeSizes.{applied}
-use Rattle.refute_text.specs.Reader.{◌>>=◌, behind, by_front, number_at, name_at, type_at, with_item, repeated_at}
+use Rattle.refute_text.specs.Reader.{behind, number_at, name_at, type_at, with_item, repeated_at}
 use Rattle.refute_text.specs.TermReader.{TermAt, counted_at, named_head_at, opened_type_at, bracketed_type_at, bracketed_at, dollar_head_at, head_at, arguments_at, applied_to, application_at, lambda_at, no_term, term_at}
 use Rattle.refute_text.proofs.Inversions.{found, found_first, found_second, bind_sound, front_sound, behind_some}
 use Rattle.refute_text.proofs.NameReads.{name_reads, number_reads}
@@ -44,17 +43,17 @@ head_stands depth bs t u r s head text is within h =
 counted_reads : (depth : ℕ) (make : ℕ → TermTree) (mark bs : List ℕ) (t : TermTree) (r : List ℕ) → ((k : ℕ) → IsHead (make k) × ((term_text (make k) ≡ mark ++ decimal k) × ((k < 2 ^ 32 → IsTerm (make k)) × (term_depth (make k) ≡ 0)))) → counted_at make bs ≡ Some (t, r) → HeadStands depth (mark ++ bs) t r
 counted_reads depth make mark bs t r made h =
     bind_sound (number_at (2 ^ 32) bs) (λ k. found (make k.0) k.1) (t, r) h (λ k at e.
-        let p = number_reads (2 ^ 32) k.0 bs k.1 (omega arith) at in
-        let m = made k.0 in
-        head_stands depth (mark ++ bs) (make k.0) t k.1 r m.0
-        (ap (λ x. mark ++ x) p.0 ∙ sym (append_assoc mark (decimal k.0) k.1) ∙ ap (λ x. x ++ k.1) (sym m.1.0))
-        (m.1.1.0 p.1) (let z = m.1.1.1 in omega (arith, z)) e)
+    let p = number_reads (2 ^ 32) k.0 bs k.1 (omega arith) at in
+    let m = made k.0 in
+    head_stands depth (mark ++ bs) (make k.0) t k.1 r m.0
+    (ap (λ x. mark ++ x) p.0 ∙ sym (append_assoc mark (decimal k.0) k.1) ∙ ap (λ x. x ++ k.1) (sym m.1.0))
+    (m.1.1.0 p.1) (let z = m.1.1.1 in omega (arith, z)) e)
 
 named_head_reads : (depth : ℕ) (bs : List ℕ) (t : TermTree) (r : List ℕ) → named_head_at bs ≡ Some (t, r) → HeadStands depth bs t r
 named_head_reads depth bs t r h =
     bind_sound (name_at bs) (λ w. found (constant (name w.0)) w.1) (t, r) h (λ w at e.
-        let p = name_reads bs w.0 w.1 at in
-        head_stands depth bs (constant (name w.0)) t w.1 r tt p.0 p.1 (omega arith) e)
+    let p = name_reads bs w.0 w.1 at in
+    head_stands depth bs (constant (name w.0)) t w.1 r tt p.0 p.1 (omega arith) e)
 
 opened_reads : (depth : ℕ) (bs : List ℕ) (a : TypeTree) (r : List ℕ) → opened_type_at depth bs ≡ Some (a, r) → TypeStands (depth) bs a r × (suc (type_depth a) ≤ depth)
 opened_reads zero bs a r h = cc
@@ -68,14 +67,14 @@ bracketed_reads depth make mark bs t r made h =
     bind_sound (bracketed_type_at depth bs) (λ a. found (constant (make a.0)) a.1) (t, r) h (λ b at0 e0.
     bind_sound (opened_type_at depth bs) _ b at0 (λ a at e1.
     bind_sound (behind (codes "]") a.1) (λ rest. found a.0 rest) b e1 (λ rest at1 e2.
-        let p = opened_reads depth bs a.0 a.1 at in
-        let m = made a.0 in
-        let w = p.1 in
-        let z = m.1.1 in
-        head_stands depth (mark ++ bs) (constant (make a.0)) t rest r tt
-        (ap (λ x. mark ++ x) (p.0.text ∙ ap (λ x. type_text a.0 ++ x) (behind_some (codes "]") a.1 rest at1)) ∙ regroup mark (type_text a.0) rest ∙ ap (λ x. x ++ rest) (sym m.0))
-        (m.1.0 p.0.is_type) (omega (arith, w, z))
-        (ap₂ (λ x y. found (constant (make x)) y) (found_first a.0 b.0 rest b.1 e2) (found_second a.0 b.0 rest b.1 e2) ∙ e0))))
+    let p = opened_reads depth bs a.0 a.1 at in
+    let m = made a.0 in
+    let w = p.1 in
+    let z = m.1.1 in
+    head_stands depth (mark ++ bs) (constant (make a.0)) t rest r tt
+    (ap (λ x. mark ++ x) (p.0.text ∙ ap (λ x. type_text a.0 ++ x) (behind_some (codes "]") a.1 rest at1)) ∙ regroup mark (type_text a.0) rest ∙ ap (λ x. x ++ rest) (sym m.0))
+    (m.1.0 p.0.is_type) (omega (arith, w, z))
+    (ap₂ (λ x y. found (constant (make x)) y) (found_first a.0 b.0 rest b.1 e2) (found_second a.0 b.0 rest b.1 e2) ∙ e0))))
   where
     regroup : (m a r : List ℕ) → m ++ (a ++ (codes "]" ++ r)) ≡ (m ++ (a ++ codes "]")) ++ r
     regroup m a r = simp append_assoc
@@ -137,14 +136,14 @@ arguments_read depth term reads (suc n) bs us r h =
     front_sound (behind (codes " ") bs) _ _ (us, r) h
     (λ rest at k. bind_sound (term rest) _ (us, r) k (λ u at1 e.
     with_sound u.0 (arguments_at term n u.1) us r e (λ vs at2 same.
-        let p = reads rest u.0 u.1 at1 in
-        let q = more u.1 vs r at2 in
-        record {
-          text =
+    let p = reads rest u.0 u.1 at1 in
+    let q = more u.1 vs r at2 in
+    record {
+      text =
           behind_some (codes " ") bs rest at ∙ ap (λ x. codes " " ++ x) (p.text ∙ ap (λ x. term_text u.0 ++ x) q.text)
           ∙ ap (λ x. codes " " ++ x) (sym (append_assoc (term_text u.0) (arguments_text vs) r)) ∙ ap (λ x. arguments_text x ++ r) same;
-          are_terms = subst (AreTerms depth) same (p.is_term, (p.within, q.are_terms));
-        })))
+      are_terms = subst (AreTerms depth) same (p.is_term, (p.within, q.are_terms));
+    })))
     (λ k. none_stand depth bs us r k)
 
 applied_reads : (depth : ℕ) (bs : List ℕ) (h : TermTree) (hr : List ℕ) (us : List TermTree) (ur rest : List ℕ) (t : TermTree) (r : List ℕ) → HeadStands depth bs h hr → ArgumentsStand depth hr us ur → ur ≡ codes ")" ++ rest → applied_to h us rest ≡ Some (t, r) → TermStands (suc depth) (codes "(" ++ bs) t r
@@ -163,18 +162,18 @@ application_reads depth term bs t r reads k =
     bind_sound (head_at depth bs) _ (t, r) k (λ h at k1.
     bind_sound (arguments_at term (length h.1) h.1) _ (t, r) k1 (λ us at1 k2.
     bind_sound (behind (codes ")") us.1) _ (t, r) k2 (λ rest at2 k3.
-        applied_reads depth bs h.0 h.1 us.0 us.1 rest t r (head_reads depth bs h.0 h.1 at) (arguments_read depth term reads (length h.1) h.1 us.0 us.1 at1) (behind_some (codes ")") us.1 rest at2) k3)))
+    applied_reads depth bs h.0 h.1 us.0 us.1 rest t r (head_reads depth bs h.0 h.1 at) (arguments_read depth term reads (length h.1) h.1 us.0 us.1 at1) (behind_some (codes ")") us.1 rest at2) k3)))
 
 lambda_reads : (depth : ℕ) (term : List ℕ → TermAt) (bs : List ℕ) (t : TermTree) (r : List ℕ) → ((cs : List ℕ) (u : TermTree) (s : List ℕ) → term cs ≡ Some (u, s) → TermStands depth cs u s) → lambda_at depth term bs ≡ Some (t, r) → TermStands (suc depth) (codes "^" ++ bs) t r
 lambda_reads depth term bs t r reads k =
     bind_sound (type_at depth bs) _ (t, r) k (λ a at k1.
     bind_sound (behind (codes ".") a.1) _ (t, r) k1 (λ rest at1 k2.
     bind_sound (term rest) (λ s. found (lam a.0 s.0) s.1) (t, r) k2 (λ s at2 k3.
-        let p = type_reads depth bs a.0 a.1 at in
-        let q = reads rest s.0 s.1 at2 in
-        term_stands (suc depth) (codes "^" ++ bs) (lam a.0 s.0) t s.1 r
-        (ap (λ x. codes "^" ++ x) (p.text ∙ ap (λ x. type_text a.0 ++ x) (behind_some (codes ".") a.1 rest at1 ∙ ap (λ x. codes "." ++ x) q.text)) ∙ regroup (type_text a.0) (term_text s.0) s.1)
-        (p.is_type, q.is_term) (let m = p.within in let n = q.within in omega (arith, m, n)) k3)))
+    let p = type_reads depth bs a.0 a.1 at in
+    let q = reads rest s.0 s.1 at2 in
+    term_stands (suc depth) (codes "^" ++ bs) (lam a.0 s.0) t s.1 r
+    (ap (λ x. codes "^" ++ x) (p.text ∙ ap (λ x. type_text a.0 ++ x) (behind_some (codes ".") a.1 rest at1 ∙ ap (λ x. codes "." ++ x) q.text)) ∙ regroup (type_text a.0) (term_text s.0) s.1)
+    (p.is_type, q.is_term) (let m = p.within in let n = q.within in omega (arith, m, n)) k3)))
   where
     regroup : (a s r : List ℕ) → codes "^" ++ (a ++ (codes "." ++ (s ++ r))) ≡ (codes "^" ++ (a ++ (codes "." ++ s))) ++ r
     regroup a s r = simp append_assoc

@@ -1,8 +1,8 @@
 -- The text of a term that is given by its head and arguments.
-use Rattle.std.proofs.Common.{◌≡◌, ℕ, zero, suc, ◌+◌, ◌<◌, ◌≤◌, max, List, [], ◌∷◌, ◌++◌, codes, refl, sym, ap, ap₂, subst, ◌∙◌, append_assoc, append-nil, arith}
+use Rattle.std.proofs.Common.{◌≡◌, ℕ, suc, ◌≤◌, List, [], ◌∷◌, ◌++◌, codes, refl, sym, ap, ◌∙◌, append_assoc, append-nil, arith}
 use Rattle.std.specs.List.{flat_map}
-use Rattle.refute_text.specs.Trees.{TypeTree, TermTree, bound, constant, lam, app}
-use Rattle.refute_text.specs.Text.{type_text, term_text, spine_text}
+use Rattle.refute_text.specs.Trees.{TermTree, bound, constant, lam, app}
+use Rattle.refute_text.specs.Text.{term_text, spine_text}
 use Rattle.refute_text.specs.Limits.{IsTerm, IsSpine, term_depth, spine_depth}
 use Rattle.refute_text.specs.TreeSizes.{applied}
 

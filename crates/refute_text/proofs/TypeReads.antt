@@ -1,10 +1,9 @@
 -- The types that are read stand at the front of the bytes.
-use Rattle.std.proofs.Common.{◌≡◌, ℕ, zero, suc, ◌+◌, ◌<◌, ◌≤◌, max, List, [], ◌∷◌, ◌++◌, Option, Some, None, codes, refl, sym, ap, ap₂, subst, ◌∙◌, append_assoc, arith}
-use Rattle.refute_text.specs.Letters.{name_text, is_name}
+use Rattle.std.proofs.Common.{◌≡◌, ℕ, zero, suc, ◌≤◌, List, ◌++◌, Option, Some, codes, sym, ap, ap₂, subst, ◌∙◌, append_assoc, arith}
 use Rattle.refute_text.specs.Trees.{TypeTree, formula, individual, named, arrow}
 use Rattle.refute_text.specs.Text.{type_text}
 use Rattle.refute_text.specs.Limits.{IsType, type_depth}
-use Rattle.refute_text.specs.Reader.{◌>>=◌, behind, by_front, name_at, named_at, arrow_at, no_type, type_from, type_at}
+use Rattle.refute_text.specs.Reader.{behind, name_at, named_at, arrow_at, no_type, type_from, type_at}
 use Rattle.refute_text.proofs.Inversions.{found, found_first, found_second, bind_sound, front_sound, behind_some}
 use Rattle.refute_text.proofs.NameReads.{name_reads}
 
@@ -35,12 +34,12 @@ arrow_reads depth inside bs a r reads h =
     bind_sound (behind (codes ">") from.1) _ (a, r) h1 (λ rest at1 h2.
     bind_sound (inside rest) _ (a, r) h2 (λ to at2 h3.
     bind_sound (behind (codes ")") to.1) _ (a, r) h3 (λ end at3 h4.
-        let p = reads bs from.0 from.1 at in
-        let q = reads rest to.0 to.1 at2 in
-        stands_at (suc depth) (codes "(" ++ bs) (arrow from.0 to.0) a end r
-        (ap (λ x. codes "(" ++ x) (p.text ∙ ap (λ x. type_text from.0 ++ x) (behind_some (codes ">") from.1 rest at1 ∙ ap (λ x. codes ">" ++ x) (q.text ∙ ap (λ x. type_text to.0 ++ x) (behind_some (codes ")") to.1 end at3))))
-        ∙ regroup (type_text from.0) (type_text to.0) end)
-        (p.is_type, q.is_type) (let m = p.within in let n = q.within in omega (arith, m, n)) h4))))
+    let p = reads bs from.0 from.1 at in
+    let q = reads rest to.0 to.1 at2 in
+    stands_at (suc depth) (codes "(" ++ bs) (arrow from.0 to.0) a end r
+    (ap (λ x. codes "(" ++ x) (p.text ∙ ap (λ x. type_text from.0 ++ x) (behind_some (codes ">") from.1 rest at1 ∙ ap (λ x. codes ">" ++ x) (q.text ∙ ap (λ x. type_text to.0 ++ x) (behind_some (codes ")") to.1 end at3))))
+    ∙ regroup (type_text from.0) (type_text to.0) end)
+    (p.is_type, q.is_type) (let m = p.within in let n = q.within in omega (arith, m, n)) h4))))
   where
     regroup : (a b r : List ℕ) → codes "(" ++ (a ++ (codes ">" ++ (b ++ (codes ")" ++ r)))) ≡ (codes "(" ++ (a ++ (codes ">" ++ (b ++ codes ")")))) ++ r
     regroup a b r = simp append_assoc

@@ -8,8 +8,12 @@ pub mod Writing
 pub mod Reader
 pub mod View
 pub mod TreeCode
+pub mod LiteralCode
 pub mod TreeSizes
 pub mod TreeView
 pub mod TreeFalls
 pub mod TermReader
+pub mod LineReader
+pub mod LineView
+pub mod TextView
 pub mod Refusals

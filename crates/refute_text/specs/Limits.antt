@@ -1,7 +1,10 @@
 -- Which trees have a text: names are THF's, numbers are in range, a head isn't a function, and not too much is open at once.
-use Rattle.std.specs.Prelude.{◌≡◌, ℕ, suc, ◌^◌, ◌<◌, ◌≤◌, max, true, List}
+use Rattle.std.specs.Prelude.{◌≡◌, ℕ, suc, ◌^◌, ◌<◌, ◌≤◌, max, Bool, true, false}
+use Rattle.std.specs.List.{AllByRecursion}
+use Rattle.stt_tableau.specs.declared.refutation.Child.{Child}
+use Rattle.stt_tableau.specs.declared.refutation.Child.TheVariants.{Closed, Line as Numbered}
 use Rattle.refute_text.specs.Letters.{is_name}
-use Rattle.refute_text.specs.Trees.{TypeTree, formula, individual, named, arrow, ConstantTree, name, witness, falsity, negation, implication, all, equality, choice, TermTree, bound, constant, lam, app}
+use Rattle.refute_text.specs.Trees.{TypeTree, formula, individual, named, arrow, ConstantTree, name, witness, falsity, negation, implication, all, equality, choice, TermTree, bound, constant, lam, app, LiteralTree, RuleTree, at_one, at_two, with_instance, with_predicate, with_cut, LineTree}
 
 -- the greatest number of parentheses that are open at once
 abbrev pub type_depth : TypeTree → ℕ
@@ -64,3 +67,42 @@ abbrev mutual
   IsSpine (constant c) = IsConstant c
   IsSpine (lam a s) = ⊥
   IsSpine (app s u) = IsSpine s × IsTerm u
+
+-- whether a term's head is negation
+abbrev pub is_negated : TermTree → Bool
+is_negated (bound k) = false
+is_negated (constant negation) = true
+is_negated (constant c) = false
+is_negated (lam a s) = false
+is_negated (app s u) = is_negated s
+
+-- how many things may be open at once
+abbrev pub greatest_depth : ℕ
+greatest_depth = 8192
+
+-- a term of a text
+pub record IsWithin (t : TermTree) : Type 0 where
+  pub is_term : IsTerm t
+  pub within : term_depth t ≤ greatest_depth
+
+-- a literal of a text: negation is its sign, and not its head
+pub record IsLiteral (l : LiteralTree) : Type 0 where
+  pub atom : IsWithin l.atom
+  pub unsigned : is_negated l.atom ≡ false
+
+abbrev pub IsRule : RuleTree → Type 0
+IsRule (at_one r i) = i < 2 ^ 64
+IsRule (at_two r i j) = (i < 2 ^ 64) × (j < 2 ^ 64)
+IsRule (with_instance i u) = (i < 2 ^ 64) × IsWithin u
+IsRule (with_predicate f) = IsWithin f
+IsRule (with_cut l) = IsLiteral l
+
+abbrev pub IsChild : Child → Type 0
+IsChild Closed = Unit {0}
+IsChild (Numbered k) = k < 2 ^ 64
+
+-- a line of a text
+pub record IsLine (line : LineTree) : Type 0 where
+  pub branch : AllByRecursion IsLiteral line.branch
+  pub rule : IsRule line.rule
+  pub children : AllByRecursion IsChild line.children

@@ -1,5 +1,5 @@
 -- How the reader goes: what stands at the front of bytes, and what follows it.
-use Rattle.std.specs.Prelude.{ℕ, zero, suc, ◌+◌, ◌-◌, ◌*◌, ◌^◌, ◌==◌, ◌||◌, ◌&&◌, not, nat_eq, nat_le, nat_lt, drop, length, Bool, true, false, List, [], ◌∷◌, codes, Option, Some, None, if◌then◌else◌}
+use Rattle.std.specs.Prelude.{ℕ, zero, suc, ◌+◌, ◌-◌, ◌*◌, ◌==◌, ◌||◌, ◌&&◌, not, nat_eq, nat_le, nat_lt, drop, length, Bool, true, false, List, [], ◌∷◌, ◌++◌, codes, Option, Some, None, if◌then◌else◌}
 use Rattle.std.specs.List.{starts_with}
 use Rattle.refute_text.specs.Letters.{is_word_byte, is_printable, is_plain}
 use Rattle.refute_text.specs.Trees.{TypeTree, formula, individual, named, arrow}
@@ -36,6 +36,11 @@ unfoldable pub repeated_at : {X : Type 0} → List ℕ → (List ℕ → Option 
 repeated_at mark item zero bytes = Some ([], bytes)
 repeated_at mark item (suc n) bytes =
     by_front (behind mark bytes) (λ rest. item rest >>= (λ x. with_item x.0 (repeated_at mark item n x.1))) (Some ([], bytes))
+
+-- items before those that are read
+abbrev pub with_items : {X : Type 0} → List X → Option (List X × List ℕ) → Option (List X × List ℕ)
+with_items xs None = None
+with_items xs (Some r) = Some (xs ++ r.0, r.1)
 
 abbrev pub is_digit : ℕ → Bool
 is_digit c = nat_le 48 c && nat_le c 57

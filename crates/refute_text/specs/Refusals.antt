@@ -1,5 +1,5 @@
 -- What a reader answers.
-use Rattle.std.specs.Prelude.{◌≡◌, ℕ, List, Option, Some, None, Result, Ok, Err}
+use Rattle.std.specs.Prelude.{◌≡◌, Option, Some, None, Result, Ok, Err}
 use Rattle.refute_text.specs.declared.refusal.Refusal.{Refusal}
 use Rattle.refute_text.specs.declared.refusal.Refusal.TheVariants.{Form, Memory}
 

@@ -1,5 +1,5 @@
 -- How the reader of terms goes.
-use Rattle.std.specs.Prelude.{ℕ, zero, suc, ◌^◌, length, List, [], ◌∷◌, codes, Option, Some, None, option_map}
+use Rattle.std.specs.Prelude.{ℕ, zero, suc, ◌^◌, length, List, [], ◌∷◌, codes, Option, Some, None}
 use Rattle.refute_text.specs.Trees.{TypeTree, ConstantTree, name, witness, falsity, negation, implication, all, equality, choice, TermTree, bound, constant, lam}
 use Rattle.refute_text.specs.TreeSizes.{applied}
 use Rattle.refute_text.specs.Reader.{◌>>=◌, behind, by_front, number_at, name_at, type_at, repeated_at}

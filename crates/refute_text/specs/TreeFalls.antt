@@ -1,5 +1,5 @@
 -- The terms inside a term are smaller.
-use Rattle.std.specs.Prelude.{◌+◌, ◌≤◌, max}
+use Rattle.std.specs.Prelude.{◌≤◌, max}
 use Rattle.std.proofs.Common.{arith}
 use Rattle.refute_text.specs.declared.tree.TextNode.{TextNode}
 use Rattle.refute_text.specs.declared.tree.TextNode.TheVariants.{Lam, App}

@@ -2,7 +2,7 @@
 use Rattle.std.specs.Prelude.{◌≡◌, ℕ, suc, ◌+◌, ◌≤◌, List, [], ◌∷◌}
 use Rattle.std.proofs.Common.{arith}
 use denote.Param.Weighed.{most}
-use Rattle.refute_text.specs.Trees.{TypeTree, TermTree, bound, constant, lam, app}
+use Rattle.refute_text.specs.Trees.{TermTree, bound, constant, lam, app}
 
 -- a term applied to arguments, first one first
 abbrev pub applied : TermTree → List TermTree → TermTree

@@ -1,5 +1,5 @@
 -- The terms of the code as plain trees.
-use Rattle.refute_text.specs.Trees.{TypeTree, TermTree, bound, constant, lam, name, witness, falsity, negation, implication, all, equality, choice}
+use Rattle.refute_text.specs.Trees.{TermTree, bound, constant, lam, name, witness, falsity, negation, implication, all, equality, choice}
 use Rattle.refute_text.specs.TreeSizes.{applied}
 use Rattle.refute_text.specs.View.{the_type}
 use Rattle.refute_text.specs.declared.tree.TextHead.{TextHead}

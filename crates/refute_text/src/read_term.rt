@@ -16,12 +16,12 @@ use std::alloc::Global;
 
 /// A number below 2^32, and what follows it.
 #[derive(Drop)]
-struct IndexRead<'a> {
-    index: u32,
-    rest: &'a [u8],
+pub(crate) struct IndexRead<'a> {
+    pub index: u32,
+    pub rest: &'a [u8],
 }
 
-fn index(bytes: &[u8]) -> Result<IndexRead<'_>, Refusal>
+pub(crate) fn index(bytes: &[u8]) -> Result<IndexRead<'_>, Refusal>
     ensures { Answers (λ r. (r.index, r.rest.now)) result (number_at (2 ^ 32) bytes.now) }
 {
     match number(0xffff_ffff, bytes) {

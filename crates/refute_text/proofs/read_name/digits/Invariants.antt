@@ -1,5 +1,4 @@
 use Rattle.std.proofs.Common.{◌≡◌, ◌≤◌, ◌-◌, ◌++◌, length, take, drop}
-use Rattle.refute_text.specs.Letters.{is_word_byte}
 use Rattle.refute_text.specs.Reader.{is_digit, front, after}
 use Rattle.refute_text.proofs.read_name.digits.Given as goal
 

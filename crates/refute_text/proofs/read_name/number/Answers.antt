@@ -1,4 +1,4 @@
-use Rattle.std.proofs.Common.{ap, ◌∙◌, true}
+use Rattle.std.proofs.Common.{ap, ◌∙◌}
 use Rattle.std.specs.List.{list_all}
 use Rattle.refute_text.specs.Reader.{is_digit}
 use Rattle.refute_text.proofs.Readers.{list_all-front}
