@@ -33,7 +33,7 @@ pub(crate) fn write_numbered<S: Sink>(
     Ok(())
 }
 
-fn is_lower(byte: u8) -> bool
+pub(crate) fn is_lower(byte: u8) -> bool
     ensures { result ≡ is_lower byte }
 {
     byte.is_ascii_lowercase()
