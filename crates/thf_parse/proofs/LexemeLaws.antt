@@ -16,19 +16,32 @@ use Rattle.thf_parse.specs.Words.{Lexeme, lexeme, lexemes, terminal_of}
 use Rattle.thf_parse.specs.StatementReader.{is_end}
 use Rattle.thf_parse.proofs.ParseLaws.{IsEnded}
 
--- the terminal isn't the end
-record NoEnd (x : Terminal) : Type 0 where
-  is : is_end x ≡ false
+-- a terminal that a token's kind tells alone
+abbrev pub is_kind : Terminal → Bool
+is_kind terminal.Lower = true
+is_kind terminal.Upper = true
+is_kind terminal.Quoted = true
+is_kind terminal.Integer = true
+is_kind terminal.Distinct = true
+is_kind terminal.End = true
+is_kind _ = false
 
-either : (b : Bool) (x y : Terminal) → NoEnd x → NoEnd y → NoEnd (if b then x else y)
+no_kind-no_end : (x : Terminal) → is_kind x ≡ false → is_end x ≡ false
+no_kind-no_end terminal.End e = cc
+no_kind-no_end _ e = refl
+
+record NoKind (x : Terminal) : Type 0 where
+  is : is_kind x ≡ false
+
+either : (b : Bool) (x y : Terminal) → NoKind x → NoKind y → NoKind (if b then x else y)
 either true x y h k = h
 either false x y h k = k
 
-one : (x : Terminal) → is_end x ≡ false → NoEnd x
+one : (x : Terminal) → is_kind x ≡ false → NoKind x
 one x e = record { is = e }
 
-dollar-no_end : (text : List ℕ) → NoEnd (dollar_word text)
-dollar-no_end text =
+dollar : (text : List ℕ) → NoKind (dollar_word text)
+dollar text =
     (either (bytes_eq text (codes "$i") || bytes_eq text (codes "$iType")) (terminal.Indiv) _ (one (terminal.Indiv) refl)
     (either (bytes_eq text (codes "$o") || bytes_eq text (codes "$oType")) (terminal.Form) _ (one (terminal.Form) refl)
     (either (bytes_eq text (codes "$tType")) (terminal.TypeOfTypes) _ (one (terminal.TypeOfTypes) refl)
@@ -36,8 +49,11 @@ dollar-no_end text =
     (either (bytes_eq text (codes "$false")) (terminal.Truth false) _ (one (terminal.Truth false) refl)
     (one terminal.Other refl))))))
 
-single-no_end : (a : ℕ) → NoEnd (single a)
-single-no_end a =
+pub dollar-no_kind : (text : List ℕ) → is_kind (dollar_word text) ≡ false
+dollar-no_kind text = (dollar text).is
+
+single-no_kind : (a : ℕ) → NoKind (single a)
+single-no_kind a =
     (either (a == 40) (terminal.Mark mark.Open) _ (one (terminal.Mark mark.Open) refl)
     (either (a == 41) (terminal.Mark mark.Close) _ (one (terminal.Mark mark.Close) refl)
     (either (a == 91) (terminal.Mark mark.OpenList) _ (one (terminal.Mark mark.OpenList) refl)
@@ -56,8 +72,8 @@ single-no_end a =
     (either (a == 94) (terminal.Binder Lam) _ (one (terminal.Binder Lam) refl)
     (one terminal.Other refl)))))))))))))))))
 
-pair-no_end : (a b : ℕ) → NoEnd (pair a b)
-pair-no_end a b =
+pair-no_kind : (a b : ℕ) → NoKind (pair a b)
+pair-no_kind a b =
     (either (a == 61 && b == 62) (terminal.Conn Imp) _ (one (terminal.Conn Imp) refl)
     (either (a == 60 && b == 61) (terminal.Conn If) _ (one (terminal.Conn If) refl)
     (either (a == 126 && b == 124) (terminal.Conn Nor) _ (one (terminal.Conn Nor) refl)
@@ -69,18 +85,18 @@ pair-no_end a b =
     (either (a == 64 && b == 45) (terminal.Binder Desc) _ (one (terminal.Binder Desc) refl)
     (one terminal.Other refl))))))))))
 
-triple-no_end : (a b c : ℕ) → NoEnd (triple a b c)
-triple-no_end a b c =
+triple-no_kind : (a b c : ℕ) → NoKind (triple a b c)
+triple-no_kind a b c =
     (either ((a == 60 && b == 61) && c == 62) (terminal.Conn Iff) _ (one (terminal.Conn Iff) refl)
     (either ((a == 60 && b == 126) && c == 62) (terminal.Conn Xor) _ (one (terminal.Conn Xor) refl)
     (one terminal.Other refl)))
 
-symbol-no_end : (text : List ℕ) → is_end (symbol text) ≡ false
-symbol-no_end [] = refl
-symbol-no_end (a ∷ []) = (single-no_end a).is
-symbol-no_end (a ∷ b ∷ []) = (pair-no_end a b).is
-symbol-no_end (a ∷ b ∷ c ∷ []) = (triple-no_end a b c).is
-symbol-no_end (a ∷ b ∷ c ∷ d ∷ text) = refl
+pub symbol-no_kind : (text : List ℕ) → is_kind (symbol text) ≡ false
+symbol-no_kind [] = refl
+symbol-no_kind (a ∷ []) = (single-no_kind a).is
+symbol-no_kind (a ∷ b ∷ []) = (pair-no_kind a b).is
+symbol-no_kind (a ∷ b ∷ c ∷ []) = (triple-no_kind a b c).is
+symbol-no_kind (a ∷ b ∷ c ∷ d ∷ text) = refl
 
 token-no_end : (k : TokenKind) (text other : List ℕ) → IsToken k other → is_end (of_kind k text) ≡ false
 token-no_end kind.Lower text other h = refl
@@ -88,8 +104,8 @@ token-no_end kind.Upper text other h = refl
 token-no_end kind.Quoted text other h = refl
 token-no_end kind.Integer text other h = refl
 token-no_end kind.Distinct text other h = refl
-token-no_end kind.Dollar text other h = (dollar-no_end text).is
-token-no_end kind.Symbol text other h = symbol-no_end text
+token-no_end kind.Dollar text other h = no_kind-no_end (dollar_word text) (dollar-no_kind text)
+token-no_end kind.Symbol text other h = no_kind-no_end (symbol text) (symbol-no_kind text)
 token-no_end kind.End text other h = absurd h
 token-no_end kind.Bad text other h = absurd h
 

@@ -16,3 +16,5 @@ pub mod FileSteps
 pub mod StatementGoes
 pub mod ParseLaws
 pub mod LexemeLaws
+pub mod Lefts
+pub mod PrintableLaws

@@ -13,3 +13,4 @@ pub mod Passes
 pub mod Reads
 pub mod Parsing
 pub mod ReadsFile
+pub mod Printable
