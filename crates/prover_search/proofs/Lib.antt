@@ -9,3 +9,4 @@ pub mod SearchedLaws
 pub mod DecidedLaws
 pub mod RunLaws
 pub mod WorkLaws
+pub mod ShallowLaws

@@ -12,6 +12,15 @@ IsPropositional (app (constant negation) s) = IsPropositional s
 IsPropositional (app (app (constant implication) s) t) = IsPropositional s × IsPropositional t
 IsPropositional t = ⊥
 
+-- the literal's atom is such a formula, and isn't a negation
+pub record HasPropositionalAtom (l : Literal) : Type 0 where
+  pub formula : IsPropositional l.atom
+  pub unsigned : is_negated l.atom ≡ false
+
+abbrev pub ArePropositional : List Literal → Type 0
+ArePropositional [] = Unit {0}
+ArePropositional (l ∷ ls) = HasPropositionalAtom l × ArePropositional ls
+
 -- a literal that the search takes: its atom is such a formula, isn't a negation, and isn't too deep
 pub record IsSearched (l : Literal) : Type 0 where
   pub formula : IsPropositional l.atom

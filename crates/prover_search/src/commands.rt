@@ -3,13 +3,14 @@
 ghost use Rattle.std.specs.Prelude.{◌≡◌, ◌≢◌, ◌≤◌, ◌<◌, ℕ, List, [], map, length, Some, IfOk, IfNone};
 ghost use Rattle.stt_tableau.specs.Literals.{Literal};
 ghost use Rattle.stt_tableau.specs.Accepted.{IsClosed};
-ghost use Rattle.prover_search.specs.Searched.{AreSearched, AreDifferent};
+ghost use Rattle.prover_search.specs.Searched.{ArePropositional, AreSearched, AreDifferent};
 ghost use Rattle.prover_search.specs.Steps.{IsSearching, signs, GoesOnBy};
 ghost use Rattle.prover_search.specs.Ended.{EndsAs};
 
 use crate::decide::{Split, decide};
 use crate::lines::tree_refutation;
 use crate::pair::{first_pair, pair_refutation};
+use crate::shallow::shallow;
 use crate::table::Table;
 use crate::work::process;
 use std::alloc::{AllocError, Global};
@@ -101,8 +102,8 @@ fn search(alloc: Global, start: Lits) -> Result<Ended, AllocError>
     }
 }
 
-/// The run from these literals, which are its start.
-pub fn run(alloc: Global, start: Lits) -> Result<Ended, AllocError>
+/// The run from a start of which no literal is too deep.
+fn run_shallow(alloc: Global, start: Lits) -> Result<Ended, AllocError>
     requires searched { AreSearched start }
     requires different { AreDifferent start }
     ensures { IfOk result (EndsAs start MAX_COMMANDS) }
@@ -114,4 +115,14 @@ pub fn run(alloc: Global, start: Lits) -> Result<Ended, AllocError>
         }),
         None => Ok(search(alloc, start)?),
     }
+}
+
+/// The run from these literals, which are its start. Those whose atoms have a depth above 4,096 are left out.
+pub fn run(alloc: Global, start: &Lits) -> Result<Ended, AllocError>
+    requires formulas { ArePropositional start.now }
+    requires different { AreDifferent start.now }
+    ensures { IfOk result (EndsAs start.now MAX_COMMANDS) }
+{
+    let taken = shallow(alloc, start)?;
+    Ok(run_shallow(alloc, taken)?)
 }

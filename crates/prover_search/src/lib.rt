@@ -6,6 +6,7 @@ mod decide;
 mod lines;
 mod pair;
 mod seen;
+mod shallow;
 mod table;
 mod work;
 

@@ -4,6 +4,7 @@ use outside::{CallList, FileList, GrowSink, MemFiles, MemSink};
 use satallax_top::{FileRef, Outcome, Words, satallax};
 use std::alloc::{AllocError, Global};
 use std::test::Fail;
+use type_check::IllWhy;
 
 /// The words behind the program's name, the outcome, the status and what is written.
 type Row = (&'static [&'static str], Outcome, u8, &'static str);
@@ -19,6 +20,10 @@ const FILES: &[(&str, &str)] = &[
     ("lone.p", "thf(p,type,p: $o).\nthf(c,conjecture,p).\n"),
     ("comment.p", "% nothing is said\n \t % nor here"),
     ("block.p", "% a line\n/* a block */"),
+    ("quoted.p", "thf(t,type,'q': $o).\nthf(a,axiom,q).\nthf(c,conjecture,'q').\n"),
+    ("chain.p", "thf(a,axiom,(p => q => r)).\n"),
+    ("ill.p", "thf(p,type,p: $i > $o).\nthf(a,axiom,(p @ p)).\n"),
+    ("predicate.p", "thf(p,type,p: $i > $o). thf(c,type,c: $i). thf(a,axiom,( p @ c ))."),
     ("false.p", "thf(a,axiom,$false).\n"),
     (
         "names.p",
@@ -32,9 +37,6 @@ const FILES: &[(&str, &str)] = &[
         "third.p",
         "thf(p,type,p: $o).thf(a,axiom,p).thf(b,axiom,p).thf(c,axiom,~$false).thf(d,conjecture,$true).",
     ),
-    ("or.p", "thf(p,type,p: $o).\nthf(a,axiom,( p | p )).\n"),
-    ("unknown.p", "thf(p,type,p: $o). thf(a,axiom,~ (q))."),
-    ("again.p", "thf(p,type,p: $o).thf(p,type, p: $o)."),
     ("open.p", "thf(a,axiom,$true"),
 ];
 
@@ -98,34 +100,51 @@ const ROWS: &[Row] = &[
         "% SZS status Theorem for third.p\n% commands 0\n% SZS output start Refutation for third.p\nversion 1\n0: Close(1,2) [+p,-$f,+$f] []\n% SZS output end Refutation for third.p\n",
     ),
     (
-        &["or.p"],
-        Outcome::NotYetAt { at: 35 },
-        16,
-        "% SZS status GaveUp for or.p\n% not yet 35\n",
+        &["block.p"],
+        Outcome::GaveUp,
+        1,
+        "% SZS status GaveUp for block.p\n% commands 0\n",
     ),
     (
-        &["unknown.p"],
-        Outcome::NotYetAt { at: 34 },
-        16,
-        "% SZS status GaveUp for unknown.p\n% not yet 34\n",
-    ),
-    (
-        &["again.p"],
-        Outcome::NotYetAt { at: 30 },
-        16,
-        "% SZS status GaveUp for again.p\n% not yet 30\n",
+        &["quoted.p"],
+        Outcome::Theorem,
+        0,
+        "% SZS status Theorem for quoted.p\n% commands 0\n% SZS output start Refutation for quoted.p\nversion 1\n0: Close(0,1) [+q,-q] []\n% SZS output end Refutation for quoted.p\n",
     ),
     (
         &["open.p"],
-        Outcome::NotYetAt { at: 17 },
-        16,
-        "% SZS status GaveUp for open.p\n% not yet 17\n",
+        Outcome::SyntaxAt {
+            file: FileRef::Part(0),
+            at: 17,
+        },
+        10,
+        "% SZS status SyntaxError for open.p\n% syntax open.p 17\n",
     ),
     (
-        &["block.p"],
-        Outcome::NotYetAt { at: 9 },
+        &["chain.p"],
+        Outcome::SyntaxAt {
+            file: FileRef::Part(0),
+            at: 20,
+        },
+        10,
+        "% SZS status SyntaxError for chain.p\n% syntax chain.p 20\n",
+    ),
+    (
+        &["ill.p"],
+        Outcome::TypeAt {
+            file: FileRef::Part(0),
+            at: 39,
+            why: IllWhy::Mismatch,
+        },
+        11,
+        "% SZS status InputError for ill.p\n% type ill.p 39 mismatch\n",
+    ),
+    // The predicate's name stands before the `@`.
+    (
+        &["predicate.p"],
+        Outcome::NotYetAt { at: 57 },
         16,
-        "% SZS status GaveUp for block.p\n% not yet 9\n",
+        "% SZS status GaveUp for predicate.p\n% not yet 57\n",
     ),
     (
         &["none.p"],

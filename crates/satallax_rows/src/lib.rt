@@ -4,6 +4,8 @@
 #[cfg(test)]
 mod calls;
 #[cfg(test)]
-mod implications;
+mod connectives;
+#[cfg(test)]
+mod includes;
 #[cfg(test)]
 mod reading;

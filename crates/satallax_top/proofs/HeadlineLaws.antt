@@ -1,61 +1,110 @@
 -- What a call answers and writes has the meaning that it claims.
-use Rattle.std.proofs.Common.{◌≡◌, ℕ, Bool, true, false, IsTrue, not, ◌||◌, ◌&&◌, ◌==◌, nat_lt, List, [], ◌∷◌, ◌++◌, codes, decimal, Option, Some, None, unwrap_or, if◌then◌else◌, refl, sym, ap, ap₂, subst, ◌∙◌, append_assoc, append-nil}
+use Rattle.std.proofs.Common.{◌≡◌, ℕ, Bool, true, false, IsTrue, not, ◌||◌, ◌&&◌, ◌==◌, nat_lt, List, [], ◌∷◌, ◌++◌, codes, decimal, Option, Some, None, Ok, unwrap_or, if◌then◌else◌, refl, sym, ap, ap₂, subst, ◌∙◌, append_assoc, append-nil}
 use Rattle.std.specs.List.{list_any}
 use Rattle.std.proofs.lemmas.Bool.{and_parts, eqb-true}
 use Rattle.stt_core.specs.Meaning.{Model, IsModel}
 use Rattle.stt_core.specs.Meets.{MeetsProblem}
 use Rattle.stt_tableau.specs.Start.{start}
 use Rattle.stt_tableau.proofs.Soundness.{accepted_closes_start, accepted_refutes}
-use Rattle.satallax_top.specs.declared.statement.TheConstants.{MAX_DEPTH}
-use Rattle.satallax_top.specs.Reading.{Stated, States, question_of}
+use Rattle.thf_include.specs.View.{PlacedTree}
+use Rattle.thf_include.specs.Gathering.{Ending, done, stopped, Stop, wants, too_long, no_tree, cycle, too_many, no_name}
+use Rattle.type_check.specs.Statements.{ReadProblem, problem_of}
+use Rattle.type_check.specs.TypedProblem.{question_of, IsTyped}
+use Rattle.type_check.proofs.TypedProblem.{problem_of-typed}
+use Rattle.run_forms.specs.Forms.{first_unbuilt}
+use Rattle.run_forms.specs.Propositional.{AllPropositional}
+use Rattle.run_forms.proofs.PropositionalLaws.{built-propositional}
 use Rattle.refute_text.specs.Text.{text_lines, as_bytes}
 use Rattle.refute_text.specs.Named.{named_refutation}
-use Rattle.satallax_top.specs.PlainNames.{names_of}
 use Rattle.satallax_top.specs.Block.{start_mark, end_mark, begins_with, has_line_feed, HoldsText}
 use Rattle.satallax_top.specs.Report.{proof_report, report}
 use Rattle.satallax_top.specs.Words.{is_control, is_file_name, is_option, problem_word, name_of}
-use Rattle.satallax_top.specs.Answers.{IsProofOf, IsAnswer, IsProvedOutcome}
-use Rattle.satallax_top.specs.Headline.{HasNoModel, IsProofReport, Appends, IsWritten}
-use Rattle.satallax_top.specs.declared.outcome.Outcome.{Outcome}
-use Rattle.satallax_top.specs.declared.outcome.Outcome.TheVariants.{Theorem, Unsatisfiable, GaveUp, CommandLimit, Words, TooLong, NotYetAt, ReadFault, WriteFault, Memory}
-use Rattle.satallax_top.proofs.LineFeeds.{no_feed-append, decimal_no_feed}
-use Rattle.satallax_top.proofs.StatedLaws.{states_sound, start_unnamed, start_met}
+use Rattle.satallax_top.specs.Files.{OfFiles, Statements, State}
+use Rattle.satallax_top.specs.Runnable.{names_in}
 use Rattle.satallax_top.specs.NormalQuestion.{normal_question}
+use Rattle.satallax_top.specs.Answers.{IsProofOf, IsRun, stop_outcome, AnswersEnding, IsAnswer, IsProvedOutcome}
+use Rattle.satallax_top.specs.Headline.{IsWithoutModel, HasNoModel, IsProofReport, Appends, IsWritten}
+use Rattle.satallax_top.specs.declared.outcome.Outcome.{Outcome}
+use Rattle.satallax_top.specs.declared.outcome.Outcome.TheVariants.{Theorem, Unsatisfiable, WriteFault}
+use Rattle.satallax_top.proofs.LineFeeds.{no_feed-append, decimal_no_feed}
+use Rattle.satallax_top.proofs.ProblemLaws.{start_unnamed, start_met}
 
--- no model meets what is stated where a run over it is a proof
-no_model_of : (bytes : List ℕ) (s : Stated) (n : ℕ) (text : List ℕ) → States MAX_DEPTH bytes s → IsProofOf s n text → (m : Model) → IsModel (question_of s).scope m → MeetsProblem (question_of s) m → ⊥
-no_model_of bytes s n text h p m good met =
-    let g = states_sound MAX_DEPTH bytes s h in
-    accepted_refutes (question_of s).scope (start (normal_question s)) p.refutation p.accepted (start_unnamed s g) m good (start_met s g m good met)
+-- no model meets a problem of which a run is a proof
+no_model_of : (p : ReadProblem) (n : ℕ) (text : List ℕ) → IsTyped (question_of p) → AllPropositional p → IsProofOf p n text → IsWithoutModel p
+no_model_of p n text typed g proof m good met =
+    accepted_refutes (question_of p).scope (start (normal_question p)) proof.refutation proof.accepted (start_unnamed p typed g) m good (start_met p typed g m good met)
+
+-- a gathering whose statements have a run that is a proof
+pub record EndsProved (n : ℕ) (text : List ℕ) (p : ReadProblem) (ending : Ending) : Type 0 where
+  pub stated : Statements p ending
+  pub typed : IsTyped (question_of p)
+  pub propositional : AllPropositional p
+  pub proof : IsProofOf p n text
+
+ends_proved : (ss : List PlacedTree) (p : ReadProblem) (n : ℕ) (text : List ℕ) → problem_of ss ≡ Ok p → first_unbuilt p.declared.consts ss ≡ None → IsProofOf p n text → EndsProved n text p (done ss)
+ends_proved ss p n text read built proof = record {
+  stated = record { statements = ss; gathered = refl; read = read };
+  typed = problem_of-typed ss p read;
+  propositional = built-propositional ss p read built;
+  proof = proof;
+}
+
+theorem_no_stop : (s : Stop) → Theorem ≡ stop_outcome s → ⊥
+theorem_no_stop (wants file) e = cc
+theorem_no_stop (too_long file) e = cc
+theorem_no_stop (no_tree file at) e = cc
+theorem_no_stop (cycle file at) e = cc
+theorem_no_stop (too_many file at) e = cc
+theorem_no_stop (no_name file at) e = cc
+
+unsatisfiable_no_stop : (s : Stop) → Unsatisfiable ≡ stop_outcome s → ⊥
+unsatisfiable_no_stop (wants file) e = cc
+unsatisfiable_no_stop (too_long file) e = cc
+unsatisfiable_no_stop (no_tree file at) e = cc
+unsatisfiable_no_stop (cycle file at) e = cc
+unsatisfiable_no_stop (too_many file at) e = cc
+unsatisfiable_no_stop (no_name file at) e = cc
+
+-- the ending of which a proof is answered
+proved_ending : (o : Outcome) (n : ℕ) (text : List ℕ) (ending : Ending) → IsProvedOutcome o → AnswersEnding o n text ending → (p : ReadProblem) × EndsProved n text p ending
+proved_ending Theorem n text (done ss) h a = (a.problem, ends_proved ss a.problem n text a.read a.built a.solved.1)
+proved_ending Theorem n text (stopped s) h a = absurd (theorem_no_stop s a)
+proved_ending Unsatisfiable n text (done ss) h a = (a.problem, ends_proved ss a.problem n text a.read a.built a.solved.1)
+proved_ending Unsatisfiable n text (stopped s) h a = absurd (unsatisfiable_no_stop s a)
+proved_ending o n text ending h a = absurd h
 
 -- an answer that is a proof, whichever of the two outcomes it has
-pub record ProvedAnswer (words : List (List ℕ)) (told : Bool) (contents : List ℕ → Option (List ℕ)) (n : ℕ) (text : List ℕ) : Type 0 where
+pub record ProvedAnswer (words : List (List ℕ)) (told : Bool) (contents : List ℕ → Option (List ℕ)) (names : List (List ℕ)) (n : ℕ) (text : List ℕ) : Type 0 where
   pub name : List ℕ
   pub named : problem_word words ≡ Some name
-  pub bytes : List ℕ
-  pub told_bytes : IsTrue told → contents name ≡ Some bytes
-  pub stated : Stated
-  pub states : States MAX_DEPTH bytes stated
-  pub proof : IsProofOf stated n text
+  pub problem : ReadProblem
+  pub stated : State words told contents names problem
+  pub typed : IsTyped (question_of problem)
+  pub propositional : AllPropositional problem
+  pub proof : IsProofOf problem n text
 
-pub proved_answer : (words : List (List ℕ)) (told : Bool) (contents : List ℕ → Option (List ℕ)) (o : Outcome) (n : ℕ) (text : List ℕ) → IsProvedOutcome o → IsAnswer words told contents o n text → ProvedAnswer words told contents n text
-proved_answer words told contents Theorem n text p a =
-    record { name = a.name; named = a.named; bytes = a.bytes; told_bytes = a.told_bytes; stated = a.holds.1.stated; states = a.holds.1.states; proof = a.holds.1.solved.1 }
-proved_answer words told contents Unsatisfiable n text p a =
-    record { name = a.name; named = a.named; bytes = a.bytes; told_bytes = a.told_bytes; stated = a.holds.1.stated; states = a.holds.1.states; proof = a.holds.1.solved.1 }
-proved_answer words told contents GaveUp n text p a = absurd p
-proved_answer words told contents (CommandLimit m) n text p a = absurd p
-proved_answer words told contents Words n text p a = absurd p
-proved_answer words told contents (TooLong file) n text p a = absurd p
-proved_answer words told contents (NotYetAt at) n text p a = absurd p
-proved_answer words told contents (ReadFault file) n text p a = absurd p
-proved_answer words told contents WriteFault n text p a = absurd p
-proved_answer words told contents Memory n text p a = absurd p
+proved_files : (words : List (List ℕ)) (told : Bool) (contents : List ℕ → Option (List ℕ)) (o : Outcome) (names : List (List ℕ)) (n : ℕ) (text : List ℕ) → IsProvedOutcome o → OfFiles words told contents names (AnswersEnding o n text) → ProvedAnswer words told contents names n text
+proved_files words told contents o names n text h a =
+    let e = proved_ending o n text a.ending h a.holds in
+    record {
+      name = a.name;
+      named = a.named;
+      problem = e.0;
+      stated = record { name = a.name; named = a.named; texts = a.texts; told_texts = a.told_texts; ending = a.ending; gathers = a.gathers; holds = e.1.stated };
+      typed = e.1.typed;
+      propositional = e.1.propositional;
+      proof = e.1.proof;
+    }
 
-pub no_model_answer : (words : List (List ℕ)) (told : Bool) (contents : List ℕ → Option (List ℕ)) (o : Outcome) (n : ℕ) (text : List ℕ) → IsAnswer words told contents o n text → IsProvedOutcome o → HasNoModel words told contents
-no_model_answer words told contents o n text a p =
-    let q = proved_answer words told contents o n text p a in
-    record { name = q.name; named = q.named; bytes = q.bytes; told_bytes = q.told_bytes; stated = q.stated; states = q.states; no_model = no_model_of q.bytes q.stated n text q.states q.proof }
+pub proved_answer : (words : List (List ℕ)) (told : Bool) (contents : List ℕ → Option (List ℕ)) (o : Outcome) (names : List (List ℕ)) (n : ℕ) (text : List ℕ) → IsProvedOutcome o → IsAnswer words told contents o names n text → ProvedAnswer words told contents names n text
+proved_answer words told contents Theorem names n text h a = proved_files words told contents Theorem names n text h a
+proved_answer words told contents Unsatisfiable names n text h a = proved_files words told contents Unsatisfiable names n text h a
+proved_answer words told contents o names n text h a = absurd h
+
+pub no_model_answer : (words : List (List ℕ)) (told : Bool) (contents : List ℕ → Option (List ℕ)) (o : Outcome) (names : List (List ℕ)) (n : ℕ) (text : List ℕ) → IsAnswer words told contents o names n text → IsProvedOutcome o → HasNoModel words told contents
+no_model_answer words told contents o names n text a h =
+    let q = proved_answer words told contents o names n text h a in
+    record { names = names; problem = q.problem; stated = q.stated; no_model = no_model_of q.problem n text q.typed q.propositional q.proof }
 
 false_from_not : (b : Bool) → not b ≡ true → b ≡ false
 false_from_not true h = cc
@@ -105,10 +154,9 @@ or_false : (a b : Bool) → a ≡ false → b ≡ false → a || b ≡ false
 or_false a b h k = ap₂ (λ x y. x || y) h k
 
 -- the report of a proof holds the text of its refutation
-holds_proof_report : (status name : List ℕ) (s : Stated) (n : ℕ) (text : List ℕ) (p : IsProofOf s n text) → has_line_feed name ≡ false → has_line_feed status ≡ false → begins_with start_mark (status ++ name) ≡ false → HoldsText (names_of s.constants) (proof_report status name n text) p.refutation
-holds_proof_report status name s n text p clean plain_status other =
-    let names = names_of s.constants in
-    let lines = text_lines (named_refutation names p.refutation) in
+holds_proof_report : (status name : List ℕ) (p : ReadProblem) (n : ℕ) (text : List ℕ) (proof : IsProofOf p n text) → has_line_feed name ≡ false → has_line_feed status ≡ false → begins_with start_mark (status ++ name) ≡ false → HoldsText (names_in p) (proof_report status name n text) proof.refutation
+holds_proof_report status name p n text proof clean plain_status other =
+    let lines = text_lines (named_refutation (names_in p) proof.refutation) in
     let before : List (List ℕ) = (status ++ name) ∷ (codes "% commands " ++ decimal n) ∷ [] in
     let last : List ℕ = end_mark ++ name in
     record {
@@ -118,7 +166,7 @@ holds_proof_report status name s n text p clean plain_status other =
       after = [];
       rest = [];
       are_lines =
-          ap (λ t. as_bytes ((status ++ name) ∷ (codes "% commands " ++ decimal n) ∷ (start_mark ++ name) ∷ []) ++ (t ++ as_bytes (last ∷ []))) p.is_text
+          ap (λ t. as_bytes ((status ++ name) ∷ (codes "% commands " ++ decimal n) ∷ (start_mark ++ name) ∷ []) ++ (t ++ as_bytes (last ∷ []))) proof.is_text
           ∙ ap (λ z. as_bytes ((status ++ name) ∷ (codes "% commands " ++ decimal n) ∷ (start_mark ++ name) ∷ []) ++ z) (sym (as_bytes-both lines (last ∷ [])))
           ∙ sym (as_bytes-both ((status ++ name) ∷ (codes "% commands " ++ decimal n) ∷ (start_mark ++ name) ∷ []) (lines ++ (last ∷ [])))
           ∙ sym (append-nil (as_bytes (before ++ ((start_mark ++ name) ∷ (lines ++ (last ∷ []))))));
@@ -126,62 +174,54 @@ holds_proof_report status name s n text p clean plain_status other =
           or_false _ _ (no_feed-append status name plain_status clean)
           (or_false _ _ (no_feed-append (codes "% commands ") (decimal n) refl (decimal_no_feed n))
           (or_false _ _ (no_feed-append start_mark name refl clean)
-          (none_in_both has_line_feed lines (last ∷ []) p.no_line_feeds (or_false _ _ (no_feed-append end_mark name refl clean) refl))));
+          (none_in_both has_line_feed lines (last ∷ []) proof.no_line_feeds (or_false _ _ (no_feed-append end_mark name refl clean) refl))));
       no_start_before = or_false _ _ other refl;
       starts = refl;
-      no_end_within = p.no_end_mark;
+      no_end_within = proof.no_end_mark;
       ends = refl;
     }
 
-holds_report : (o : Outcome) (name : List ℕ) (s : Stated) (n : ℕ) (text : List ℕ) (p : IsProofOf s n text) → IsProvedOutcome o → has_line_feed name ≡ false → HoldsText (names_of s.constants) (report o name n text) p.refutation
-holds_report Theorem name s n text p h clean = holds_proof_report (codes "% SZS status Theorem for ") name s n text p clean refl refl
-holds_report Unsatisfiable name s n text p h clean = holds_proof_report (codes "% SZS status Unsatisfiable for ") name s n text p clean refl refl
-holds_report GaveUp name s n text p h clean = absurd h
-holds_report (CommandLimit m) name s n text p h clean = absurd h
-holds_report Words name s n text p h clean = absurd h
-holds_report (TooLong file) name s n text p h clean = absurd h
-holds_report (NotYetAt at) name s n text p h clean = absurd h
-holds_report (ReadFault file) name s n text p h clean = absurd h
-holds_report WriteFault name s n text p h clean = absurd h
-holds_report Memory name s n text p h clean = absurd h
+holds_report : (o : Outcome) (name : List ℕ) (names : List (List ℕ)) (p : ReadProblem) (n : ℕ) (text : List ℕ) (proof : IsProofOf p n text) → IsProvedOutcome o → has_line_feed name ≡ false → HoldsText (names_in p) (report o name names n text) proof.refutation
+holds_report Theorem name names p n text proof h clean = holds_proof_report (codes "% SZS status Theorem for ") name p n text proof clean refl refl
+holds_report Unsatisfiable name names p n text proof h clean = holds_proof_report (codes "% SZS status Unsatisfiable for ") name p n text proof clean refl refl
+holds_report o name names p n text proof h clean = absurd h
+
+-- a name that the words give has no line feed
+name_of_no_feed : (words : List (List ℕ)) (name : List ℕ) → problem_word words ≡ Some name → has_line_feed (name_of words) ≡ false
+name_of_no_feed words name h = subst (λ o. has_line_feed (unwrap_or o []) ≡ false) (sym h) (name_no_feed words name h)
 
 -- the report of an answer that is a proof
-pub proof_reported : (words : List (List ℕ)) (told : Bool) (contents : List ℕ → Option (List ℕ)) (o : Outcome) (n : ℕ) (text written : List ℕ) → IsAnswer words told contents o n text → IsProvedOutcome o → written ≡ report o (name_of words) n text → IsProofReport words told contents o written
-proof_reported words told contents o n text written a p w =
-    let q = proved_answer words told contents o n text p a in
-    let s = q.stated in
-    let g = states_sound MAX_DEPTH q.bytes s q.states in
-    let is : written ≡ report o q.name n text = w ∙ ap (λ x. report o (unwrap_or x []) n text) q.named in
+pub proof_reported : (words : List (List ℕ)) (told : Bool) (contents : List ℕ → Option (List ℕ)) (o : Outcome) (names : List (List ℕ)) (n : ℕ) (text written : List ℕ) → IsAnswer words told contents o names n text → IsProvedOutcome o → written ≡ report o (name_of words) names n text → IsProofReport words told contents o written
+proof_reported words told contents o names n text written a h w =
+    let q = proved_answer words told contents o names n text h a in
+    let p = q.problem in
     record {
-      name = q.name;
-      named = q.named;
-      bytes = q.bytes;
-      told_bytes = q.told_bytes;
-      stated = s;
-      states = q.states;
+      names = names;
+      problem = p;
+      stated = q.stated;
       commands = n;
       proved = q.proof.proved;
       refutation = q.proof.refutation;
-      is_report = is ∙ ap (report o q.name n) q.proof.is_text;
-      holds_text = subst (λ x. HoldsText (names_of s.constants) x q.proof.refutation) (sym is) (holds_report o q.name s n text q.proof p (name_no_feed words q.name q.named));
+      is_report = w ∙ ap (report o (name_of words) names n) q.proof.is_text;
+      holds_text = subst (λ x. HoldsText (names_in p) x q.proof.refutation) (sym w) (holds_report o (name_of words) names p n text q.proof h (name_of_no_feed words q.name q.named));
       accepted = q.proof.accepted;
-      closed = accepted_closes_start (normal_question s).scope (start (normal_question s)) q.proof.refutation q.proof.accepted;
-      no_model = no_model_of q.bytes s n text q.states q.proof;
+      closed = accepted_closes_start (normal_question p).scope (start (normal_question p)) q.proof.refutation q.proof.accepted;
+      no_model = no_model_of p n text q.typed q.propositional q.proof;
     }
 
 -- what is written for an answer
-pub written_whole : (words : List (List ℕ)) (told : Bool) (contents : List ℕ → Option (List ℕ)) (o : Outcome) (n : ℕ) (text old new : List ℕ) → IsAnswer words told contents o n text → new ≡ old ++ report o (name_of words) n text → IsWritten words told contents old new o
-written_whole words told contents o n text old new a w = go o a w
+pub written_whole : (words : List (List ℕ)) (told : Bool) (contents : List ℕ → Option (List ℕ)) (o : Outcome) (names : List (List ℕ)) (n : ℕ) (text old new : List ℕ) → IsAnswer words told contents o names n text → new ≡ old ++ report o (name_of words) names n text → IsWritten words told contents old new o
+written_whole words told contents o names n text old new a w = go o a w
   where
-    go : (o : Outcome) → IsAnswer words told contents o n text → new ≡ old ++ report o (name_of words) n text → IsWritten words told contents old new o
+    go : (o : Outcome) → IsAnswer words told contents o names n text → new ≡ old ++ report o (name_of words) names n text → IsWritten words told contents old new o
     go WriteFault a w = absurd a
-    go o a w = record { written = report o (name_of words) n text; appended = w; is_report = record { commands = n; text = text; is_answer = a; is_report = refl } }
+    go o a w = record { written = report o (name_of words) names n text; appended = w; is_report = record { names = names; commands = n; text = text; is_answer = a; is_report = refl } }
 
 -- the bytes that are appended for an answer that is a proof
-pub proof_appended : (words : List (List ℕ)) (told : Bool) (contents : List ℕ → Option (List ℕ)) (o : Outcome) (n : ℕ) (text old new : List ℕ) → IsAnswer words told contents o n text → new ≡ old ++ report o (name_of words) n text → IsProvedOutcome o → Appends old new (IsProofReport words told contents o)
-proof_appended words told contents o n text old new a w p =
-    record { written = report o (name_of words) n text; appended = w; is_report = proof_reported words told contents o n text (report o (name_of words) n text) a p refl }
+pub proof_appended : (words : List (List ℕ)) (told : Bool) (contents : List ℕ → Option (List ℕ)) (o : Outcome) (names : List (List ℕ)) (n : ℕ) (text old new : List ℕ) → IsAnswer words told contents o names n text → new ≡ old ++ report o (name_of words) names n text → IsProvedOutcome o → Appends old new (IsProofReport words told contents o)
+proof_appended words told contents o names n text old new a w h =
+    record { written = report o (name_of words) names n text; appended = w; is_report = proof_reported words told contents o names n text (report o (name_of words) names n text) a h refl }
 
 -- a report by the name and the text that were handed on
-pub report_at : (o : Outcome) (n : ℕ) (name other text own old new : List ℕ) → name ≡ other → text ≡ own → new ≡ old ++ report o name n text → new ≡ old ++ report o other n own
-report_at o n name other text own old new e f w = w ∙ ap₂ (λ x y. old ++ report o x n y) e f
+pub report_at : (o : Outcome) (names : List (List ℕ)) (n : ℕ) (name other text own old new : List ℕ) → name ≡ other → text ≡ own → new ≡ old ++ report o name names n text → new ≡ old ++ report o other names n own
+report_at o names n name other text own old new e f w = w ∙ ap₂ (λ x y. old ++ report o x names n y) e f

@@ -1,10 +1,7 @@
-pub mod WordFront
-pub mod ReaderLaws
-pub mod UnitLaws
-pub mod DepthLaws
-pub mod StatementLaws
-pub mod FileLaws
+pub mod PropositionalLaws
 pub mod StartLaws
+pub mod ProblemLaws
+pub mod PrintableLaws
 pub mod StatedLaws
 pub mod LineFeeds
 pub mod NameLaws

@@ -1,11 +1,11 @@
 -- The lines of a refutation's text have no line feed in them, and none of them begins like an end line.
 use Rattle.std.proofs.Common.{◌≡◌, ℕ, zero, suc, ◌+◌, ◌/◌, ◌%◌, ◌||◌, ◌&&◌, ◌==◌, nat_lt, Bool, true, false, List, [], ◌∷◌, ◌++◌, map, codes, decimal, refl, ap, ap₂, ◌∙◌, if◌then◌else◌, arith}
-use Rattle.std.specs.List.{list_all, list_any}
+use Rattle.std.specs.List.{AllByRecursion, flat_map, list_all, list_any}
 use Rattle.std.specs.Fmt.{digits, digits_onto, digit_glyph}
 use Rattle.std.proofs.lemmas.Bool.{and_parts, eqb-true}
+use Rattle.std.proofs.lemmas.List.Sums.{list_all-from_AllPass}
 use Rattle.std.proofs.lemmas.Bool.Decides.{nat_tests}
 use Rattle.stt_core.specs.SimpleType.{SimpleType, base, arrow}
-use Rattle.stt_core.specs.TypedName.{TypedName}
 use Rattle.stt_core.specs.Lambda.{Constant, name, witness, falsity, negation, implication, all, equality, choice, Lambda, bound, constant, lam, app}
 use Rattle.stt_tableau.specs.Literals.{Literal}
 use Rattle.stt_tableau.specs.Witnesses.{Row}
@@ -15,13 +15,18 @@ use Rattle.stt_tableau.specs.declared.refutation.Child.{Child}
 use Rattle.stt_tableau.specs.declared.refutation.Child.TheVariants.{Closed, Line as Numbered}
 use Rattle.stt_tableau.specs.declared.refutation.Line.{Line}
 use Rattle.stt_tableau.specs.declared.refutation.Refutation.{Refutation}
-use Rattle.refute_text.specs.Letters.{is_word_byte, is_plain, quoted, name_text}
+use Rattle.refute_text.specs.Letters.{is_plain, escaped, quoted, name_text}
 use Rattle.refute_text.specs.Trees.{OnePlace, TwoPlaces}
 use Rattle.refute_text.specs.Trees as tree
 use Rattle.refute_text.specs.Text.{type_text, constant_text, term_text, spine_text, sign_text, literal_text, after_commas, child_text, one_place_name, two_places_name, rule_text, row_text, branch_text, children_text, line_text, row_texts, line_texts, text_lines}
-use Rattle.refute_text.specs.Named.{names_of, name_at, named_type, named_constant, named_term, named_literal, named_rule, named_line, named_refutation}
+use Rattle.refute_text.specs.Named.{Names, name_at, named_type, named_constant, named_term, named_literal, named_rule, named_line, named_refutation}
 use Rattle.satallax_top.specs.Block.{has_line_feed, end_mark, begins_with}
-use Rattle.satallax_top.specs.PlainNames.{ArePlain}
+use Rattle.thf_parse.specs.Printable.{is_printable, IsPrintable}
+use Rattle.satallax_top.specs.Runnable.{ArePrintable}
+
+or_parts : (a b : Bool) → a || b ≡ false → (a ≡ false) × (b ≡ false)
+or_parts true b h = cc
+or_parts false b h = (refl, h)
 
 pub no_feed-append : (xs ys : List ℕ) → has_line_feed xs ≡ false → has_line_feed ys ≡ false → has_line_feed (xs ++ ys) ≡ false
 no_feed-append [] ys h k = k
@@ -93,52 +98,67 @@ no_end_mark [] ys h = absurd h
 no_end_mark (c ∷ cs) ys h = first_fails (37 == c) _ h
 
 -- names
-word_byte_no_feed : (c : ℕ) → is_word_byte c ≡ true → (c == 10) ≡ false
-word_byte_no_feed c h = go (c == 10) refl
+printable_no_feed : (c : ℕ) → is_printable c ≡ true → (c == 10) ≡ false
+printable_no_feed c h = go (c == 10) refl
   where
     go : (b : Bool) → (c == 10) ≡ b → (c == 10) ≡ false
-    go true e = let q : is_word_byte c ≡ false = ap is_word_byte (eqb-true c 10 e) in cc
+    go true e = let q : is_printable c ≡ false = ap is_printable (eqb-true c 10 e) in cc
     go false e = e
 
-word_no_feed : (w : List ℕ) → list_all is_word_byte w ≡ true → has_line_feed w ≡ false
-word_no_feed [] h = refl
-word_no_feed (c ∷ cs) h =
-    let p = and_parts (is_word_byte c) (list_all is_word_byte cs) h in
-    no_feed-cons c cs (word_byte_no_feed c p.0) (word_no_feed cs p.1)
+bytes_no_feed : (w : List ℕ) → list_all is_printable w ≡ true → has_line_feed w ≡ false
+bytes_no_feed [] h = refl
+bytes_no_feed (c ∷ cs) h =
+    let p = and_parts (is_printable c) (list_all is_printable cs) h in
+    no_feed-cons c cs (printable_no_feed c p.0) (bytes_no_feed cs p.1)
 
-plain_no_feed : (w : List ℕ) → is_plain w ≡ true → has_line_feed (name_text w) ≡ false
-plain_no_feed w h = ap (λ b. has_line_feed (if b then w else quoted w)) h ∙ word_no_feed w (and_parts _ (list_all is_word_byte w) h).1
+escaped_no_feed : (w : List ℕ) → has_line_feed w ≡ false → has_line_feed (flat_map escaped w) ≡ false
+escaped_no_feed [] h = refl
+escaped_no_feed (c ∷ cs) h = no_feed-append (escaped c) (flat_map escaped cs) (go ((c == 39) || (c == 92))) (escaped_no_feed cs (or_parts (c == 10) (has_line_feed cs) h).1)
+  where
+    first : (c == 10) ≡ false
+    first = (or_parts (c == 10) (has_line_feed cs) h).0
 
-name_no_feed : (cs : List TypedName) (k : ℕ) → ArePlain cs → has_line_feed (name_text (name_at (map (λ c. c.name) cs) k)) ≡ false
+    go : (b : Bool) → has_line_feed (if b then 92 ∷ c ∷ [] else c ∷ []) ≡ false
+    go true = no_feed-cons c [] first refl
+    go false = no_feed-cons c [] first refl
+
+name_text_no_feed : (w : List ℕ) → has_line_feed w ≡ false → has_line_feed (name_text w) ≡ false
+name_text_no_feed w h = go (is_plain w)
+  where
+    go : (b : Bool) → has_line_feed (if b then w else quoted w) ≡ false
+    go true = h
+    go false = no_feed-append (flat_map escaped w) (codes "'") (escaped_no_feed w h) refl
+
+name_no_feed : (names : List (List ℕ)) (k : ℕ) → AllByRecursion IsPrintable names → has_line_feed (name_text (name_at names k)) ≡ false
 name_no_feed [] k h = refl
-name_no_feed (c ∷ cs) zero h = plain_no_feed c.name h.0
-name_no_feed (c ∷ cs) (suc k) h = name_no_feed cs k h.1
+name_no_feed (w ∷ names) zero h = name_text_no_feed w (bytes_no_feed w (list_all-from_AllPass is_printable w h.0.1))
+name_no_feed (w ∷ names) (suc k) h = name_no_feed names k h.1
 
-module _ (cs : List TypedName) (plain : ArePlain cs) where
-  type_no_feed : (a : SimpleType) → has_line_feed (type_text (named_type (names_of [] cs) a)) ≡ false
+module _ (names : Names) (printable : ArePrintable names) where
+  type_no_feed : (a : SimpleType) → has_line_feed (type_text (named_type names a)) ≡ false
   type_no_feed (base zero) = refl
   type_no_feed (base (suc zero)) = refl
-  type_no_feed (base (suc (suc k))) = refl
+  type_no_feed (base (suc (suc k))) = name_no_feed names.bases k printable.bases
   type_no_feed (arrow a b) =
-      no_feed-append (type_text (named_type (names_of [] cs) a)) (codes ">" ++ (type_text (named_type (names_of [] cs) b) ++ codes ")")) (type_no_feed a)
-      (no_feed-append (type_text (named_type (names_of [] cs) b)) (codes ")") (type_no_feed b) refl)
+      no_feed-append (type_text (named_type names a)) (codes ">" ++ (type_text (named_type names b) ++ codes ")")) (type_no_feed a)
+      (no_feed-append (type_text (named_type names b)) (codes ")") (type_no_feed b) refl)
 
-  constant_no_feed : (c : Constant) → has_line_feed (constant_text (named_constant (names_of [] cs) c)) ≡ false
-  constant_no_feed (name k) = name_no_feed cs k plain
+  constant_no_feed : (c : Constant) → has_line_feed (constant_text (named_constant names c)) ≡ false
+  constant_no_feed (name k) = name_no_feed names.constants k printable.constants
   constant_no_feed (witness k) = decimal_no_feed k
   constant_no_feed falsity = refl
   constant_no_feed negation = refl
   constant_no_feed implication = refl
-  constant_no_feed (all a) = no_feed-append (type_text (named_type (names_of [] cs) a)) (codes "]") (type_no_feed a) refl
-  constant_no_feed (equality a) = no_feed-append (type_text (named_type (names_of [] cs) a)) (codes "]") (type_no_feed a) refl
-  constant_no_feed (choice a) = no_feed-append (type_text (named_type (names_of [] cs) a)) (codes "]") (type_no_feed a) refl
+  constant_no_feed (all a) = no_feed-append (type_text (named_type names a)) (codes "]") (type_no_feed a) refl
+  constant_no_feed (equality a) = no_feed-append (type_text (named_type names a)) (codes "]") (type_no_feed a) refl
+  constant_no_feed (choice a) = no_feed-append (type_text (named_type names a)) (codes "]") (type_no_feed a) refl
 
   -- a term, alone and as a head with its arguments
   abbrev IsClean : Lambda → Type 0
-  IsClean t = (has_line_feed (term_text (named_term (names_of [] cs) t)) ≡ false) × (has_line_feed (spine_text (named_term (names_of [] cs) t)) ≡ false)
+  IsClean t = (has_line_feed (term_text (named_term names t)) ≡ false) × (has_line_feed (spine_text (named_term names t)) ≡ false)
 
-  binder_no_feed : (a : SimpleType) (s : Lambda) → has_line_feed (term_text (named_term (names_of [] cs) s)) ≡ false → has_line_feed (type_text (named_type (names_of [] cs) a) ++ (codes "." ++ term_text (named_term (names_of [] cs) s))) ≡ false
-  binder_no_feed a s h = no_feed-append (type_text (named_type (names_of [] cs) a)) (codes "." ++ term_text (named_term (names_of [] cs) s)) (type_no_feed a) h
+  binder_no_feed : (a : SimpleType) (s : Lambda) → has_line_feed (term_text (named_term names s)) ≡ false → has_line_feed (type_text (named_type names a) ++ (codes "." ++ term_text (named_term names s))) ≡ false
+  binder_no_feed a s h = no_feed-append (type_text (named_type names a)) (codes "." ++ term_text (named_term names s)) (type_no_feed a) h
 
   clean : (t : Lambda) → IsClean t
   clean (bound k) = (decimal_no_feed k, decimal_no_feed k)
@@ -147,27 +167,27 @@ module _ (cs : List TypedName) (plain : ArePlain cs) where
   clean (app s u) =
       let h = clean s in
       let k = clean u in (
-        no_feed-append (spine_text (named_term (names_of [] cs) s)) (codes " " ++ (term_text (named_term (names_of [] cs) u) ++ codes ")")) h.1
-            (no_feed-append (term_text (named_term (names_of [] cs) u)) (codes ")") k.0 refl),
-        no_feed-append (spine_text (named_term (names_of [] cs) s)) (codes " " ++ term_text (named_term (names_of [] cs) u)) h.1 k.0,
+        no_feed-append (spine_text (named_term names s)) (codes " " ++ (term_text (named_term names u) ++ codes ")")) h.1
+            (no_feed-append (term_text (named_term names u)) (codes ")") k.0 refl),
+        no_feed-append (spine_text (named_term names s)) (codes " " ++ term_text (named_term names u)) h.1 k.0,
       )
 
-  literal_no_feed : (l : Literal) → has_line_feed (literal_text (named_literal (names_of [] cs) l)) ≡ false
-  literal_no_feed l = no_feed-append (sign_text l.positive) (term_text (named_term (names_of [] cs) l.atom)) (sign l.positive) (clean l.atom).0
+  literal_no_feed : (l : Literal) → has_line_feed (literal_text (named_literal names l)) ≡ false
+  literal_no_feed l = no_feed-append (sign_text l.positive) (term_text (named_term names l.atom)) (sign l.positive) (clean l.atom).0
     where
       sign : (b : Bool) → has_line_feed (sign_text b) ≡ false
       sign true = refl
       sign false = refl
 
-  after_no_feed : (ls : List Literal) → has_line_feed (after_commas (map literal_text (map (named_literal (names_of [] cs)) ls))) ≡ false
+  after_no_feed : (ls : List Literal) → has_line_feed (after_commas (map literal_text (map (named_literal names) ls))) ≡ false
   after_no_feed [] = refl
   after_no_feed (l ∷ ls) =
-      no_feed-append (literal_text (named_literal (names_of [] cs) l)) (after_commas (map literal_text (map (named_literal (names_of [] cs)) ls))) (literal_no_feed l) (after_no_feed ls)
+      no_feed-append (literal_text (named_literal names l)) (after_commas (map literal_text (map (named_literal names) ls))) (literal_no_feed l) (after_no_feed ls)
 
-  branch_no_feed : (ls : List Literal) → has_line_feed (branch_text (map (named_literal (names_of [] cs)) ls)) ≡ false
+  branch_no_feed : (ls : List Literal) → has_line_feed (branch_text (map (named_literal names) ls)) ≡ false
   branch_no_feed [] = refl
   branch_no_feed (l ∷ ls) =
-      no_feed-append (literal_text (named_literal (names_of [] cs) l)) (after_commas (map literal_text (map (named_literal (names_of [] cs)) ls))) (literal_no_feed l) (after_no_feed ls)
+      no_feed-append (literal_text (named_literal names l)) (after_commas (map literal_text (map (named_literal names) ls))) (literal_no_feed l) (after_no_feed ls)
 
   child_no_feed : (c : Child) → has_line_feed (child_text c) ≡ false
   child_no_feed Closed = refl
@@ -206,7 +226,7 @@ module _ (cs : List TypedName) (plain : ArePlain cs) where
       own tree.Mat = refl
       own tree.Con = refl
 
-  rule_no_feed : (r : RuleUse) → has_line_feed (rule_text (named_rule (names_of [] cs) r)) ≡ false
+  rule_no_feed : (r : RuleUse) → has_line_feed (rule_text (named_rule names r)) ≡ false
   rule_no_feed (rule.False i) = at_one_no_feed tree.False i
   rule_no_feed (rule.Close i j) = at_two_no_feed tree.Close i j
   rule_no_feed (rule.Refl i) = at_one_no_feed tree.Refl i
@@ -217,28 +237,28 @@ module _ (cs : List TypedName) (plain : ArePlain cs) where
   rule_no_feed (rule.FunPos i) = at_one_no_feed tree.FunPos i
   rule_no_feed (rule.FunNeg i) = at_one_no_feed tree.FunNeg i
   rule_no_feed (rule.AllPos i u) =
-      no_feed-append (decimal i) (codes ";" ++ (term_text (named_term (names_of [] cs) u) ++ codes ")")) (decimal_no_feed i)
-      (no_feed-append (term_text (named_term (names_of [] cs) u)) (codes ")") (clean u).0 refl)
+      no_feed-append (decimal i) (codes ";" ++ (term_text (named_term names u) ++ codes ")")) (decimal_no_feed i)
+      (no_feed-append (term_text (named_term names u)) (codes ")") (clean u).0 refl)
   rule_no_feed (rule.AllNeg i) = at_one_no_feed tree.AllNeg i
   rule_no_feed (rule.Mat i j) = at_two_no_feed tree.Mat i j
   rule_no_feed (rule.Dec i) = at_one_no_feed tree.Dec i
   rule_no_feed (rule.Con i j) = at_two_no_feed tree.Con i j
-  rule_no_feed (rule.Cho f) = no_feed-append (term_text (named_term (names_of [] cs) f)) (codes ")") (clean f).0 refl
-  rule_no_feed (rule.Cut l) = no_feed-append (literal_text (named_literal (names_of [] cs) l)) (codes ")") (literal_no_feed l) refl
+  rule_no_feed (rule.Cho f) = no_feed-append (term_text (named_term names f)) (codes ")") (clean f).0 refl
+  rule_no_feed (rule.Cut l) = no_feed-append (literal_text (named_literal names l)) (codes ")") (literal_no_feed l) refl
 
-  line_no_feed : (k : ℕ) (line : Line) → has_line_feed (line_text k (named_line (names_of [] cs) line)) ≡ false
+  line_no_feed : (k : ℕ) (line : Line) → has_line_feed (line_text k (named_line names line)) ≡ false
   line_no_feed k line =
-      let branch = branch_text (map (named_literal (names_of [] cs)) line.branch) in
+      let branch = branch_text (map (named_literal names) line.branch) in
       let children = children_text line.children in
-      let own = rule_text (named_rule (names_of [] cs) line.rule) in
+      let own = rule_text (named_rule names line.rule) in
       no_feed-append (decimal k) (codes ": " ++ (own ++ (codes " [" ++ (branch ++ (codes "] [" ++ (children ++ codes "]")))))) (decimal_no_feed k)
       (no_feed-append own (codes " [" ++ (branch ++ (codes "] [" ++ (children ++ codes "]")))) (rule_no_feed line.rule)
       (no_feed-append branch (codes "] [" ++ (children ++ codes "]")) (branch_no_feed line.branch)
       (no_feed-append children (codes "]") (children_no_feed line.children) refl)))
 
-  row_no_feed : (k : ℕ) (row : Row) → has_line_feed (row_text k (named_term (names_of [] cs) row.predicate)) ≡ false
+  row_no_feed : (k : ℕ) (row : Row) → has_line_feed (row_text k (named_term names row.predicate)) ≡ false
   row_no_feed k row =
-      no_feed-append (decimal k) (codes " " ++ term_text (named_term (names_of [] cs) row.predicate)) (decimal_no_feed k) (clean row.predicate).0
+      no_feed-append (decimal k) (codes " " ++ term_text (named_term names row.predicate)) (decimal_no_feed k) (clean row.predicate).0
 
   none_in_both : (p : List ℕ → Bool) (xs ys : List (List ℕ)) → list_any p xs ≡ false → list_any p ys ≡ false → list_any p (xs ++ ys) ≡ false
   none_in_both p [] ys h k = k
@@ -248,29 +268,29 @@ module _ (cs : List TypedName) (plain : ArePlain cs) where
       go true rest e = cc
       go false rest e = rest e
 
-  rows_no_feed : (k : ℕ) (rows : List Row) → list_any has_line_feed (row_texts k (map (λ r. named_term (names_of [] cs) r.predicate) rows)) ≡ false
+  rows_no_feed : (k : ℕ) (rows : List Row) → list_any has_line_feed (row_texts k (map (λ r. named_term names r.predicate) rows)) ≡ false
   rows_no_feed k [] = refl
   rows_no_feed k (r ∷ rows) = ap₂ (λ a b. a || b) (row_no_feed k r) (rows_no_feed (suc k) rows)
 
-  lines_no_feed : (k : ℕ) (lines : List Line) → list_any has_line_feed (line_texts k (map (named_line (names_of [] cs)) lines)) ≡ false
+  lines_no_feed : (k : ℕ) (lines : List Line) → list_any has_line_feed (line_texts k (map (named_line names) lines)) ≡ false
   lines_no_feed k [] = refl
   lines_no_feed k (l ∷ lines) = ap₂ (λ a b. a || b) (line_no_feed k l) (lines_no_feed (suc k) lines)
 
-  pub no_line_feeds-lines : (r : Refutation) → list_any has_line_feed (text_lines (named_refutation (names_of [] cs) r)) ≡ false
+  pub no_line_feeds-lines : (r : Refutation) → list_any has_line_feed (text_lines (named_refutation names r)) ≡ false
   no_line_feeds-lines r =
-      none_in_both has_line_feed (row_texts 0 (map (λ row. named_term (names_of [] cs) row.predicate) r.witnesses)) (line_texts 0 (map (named_line (names_of [] cs)) r.lines)) (rows_no_feed 0 r.witnesses) (lines_no_feed 0 r.lines)
+      none_in_both has_line_feed (row_texts 0 (map (λ row. named_term names row.predicate) r.witnesses)) (line_texts 0 (map (named_line names) r.lines)) (rows_no_feed 0 r.witnesses) (lines_no_feed 0 r.lines)
 
-  rows_no_mark : (k : ℕ) (rows : List Row) → list_any (begins_with end_mark) (row_texts k (map (λ r. named_term (names_of [] cs) r.predicate) rows)) ≡ false
+  rows_no_mark : (k : ℕ) (rows : List Row) → list_any (begins_with end_mark) (row_texts k (map (λ r. named_term names r.predicate) rows)) ≡ false
   rows_no_mark k [] = refl
   rows_no_mark k (r ∷ rows) = rows_no_mark (suc k) rows
 
   abbrev line_rest : Line → List ℕ
-  line_rest line = codes ": " ++ (rule_text (named_rule (names_of [] cs) line.rule) ++ (codes " [" ++ (branch_text (map (named_literal (names_of [] cs)) line.branch) ++ (codes "] [" ++ (children_text line.children ++ codes "]")))))
+  line_rest line = codes ": " ++ (rule_text (named_rule names line.rule) ++ (codes " [" ++ (branch_text (map (named_literal names) line.branch) ++ (codes "] [" ++ (children_text line.children ++ codes "]")))))
 
-  lines_no_mark : (k : ℕ) (lines : List Line) → list_any (begins_with end_mark) (line_texts k (map (named_line (names_of [] cs)) lines)) ≡ false
+  lines_no_mark : (k : ℕ) (lines : List Line) → list_any (begins_with end_mark) (line_texts k (map (named_line names) lines)) ≡ false
   lines_no_mark k [] = refl
   lines_no_mark k (l ∷ lines) = ap₂ (λ a b. a || b) (no_end_mark (decimal k) (line_rest l) (decimal_begins k)) (lines_no_mark (suc k) lines)
 
-  pub no_end_mark-lines : (r : Refutation) → list_any (begins_with end_mark) (text_lines (named_refutation (names_of [] cs) r)) ≡ false
+  pub no_end_mark-lines : (r : Refutation) → list_any (begins_with end_mark) (text_lines (named_refutation names r)) ≡ false
   no_end_mark-lines r =
-      none_in_both (begins_with end_mark) (row_texts 0 (map (λ row. named_term (names_of [] cs) row.predicate) r.witnesses)) (line_texts 0 (map (named_line (names_of [] cs)) r.lines)) (rows_no_mark 0 r.witnesses) (lines_no_mark 0 r.lines)
+      none_in_both (begins_with end_mark) (row_texts 0 (map (λ row. named_term names row.predicate) r.witnesses)) (line_texts 0 (map (named_line names) r.lines)) (rows_no_mark 0 r.witnesses) (lines_no_mark 0 r.lines)

@@ -8,14 +8,13 @@ use Rattle.refute_text.specs.Named.{named_refutation, IsNamed}
 use Rattle.prover_search.specs.Ended.{EndsAs}
 use Rattle.prover_search.specs.declared.commands.TheConstants.{MAX_COMMANDS}
 use Rattle.prover_search.specs.declared.commands.Ended.TheVariants.{Proved}
-use Rattle.satallax_top.specs.Reading.{Stated, question_of}
-use Rattle.satallax_top.specs.PlainNames.{names_of}
-use Rattle.satallax_top.specs.Propositional.{IsRunnable}
+use Rattle.type_check.specs.Statements.{ReadProblem}
+use Rattle.type_check.specs.TypedProblem.{question_of}
+use Rattle.satallax_top.specs.Runnable.{names_in, IsRunnable}
 use Rattle.satallax_top.specs.NormalQuestion.{normal_question}
-use Rattle.satallax_top.specs.Answers.{IsProofOf, IsSolvedFor}
-use Rattle.satallax_top.specs.Solved.{IsProvedFor}
+use Rattle.satallax_top.specs.Answers.{IsProofOf, IsSolvedFor, IsProvedFor}
 use Rattle.satallax_top.specs.declared.outcome.Outcome.{Outcome}
-use Rattle.satallax_top.specs.declared.outcome.Outcome.TheVariants.{Theorem, Unsatisfiable, GaveUp, CommandLimit, Words, TooLong, NotYetAt, ReadFault, WriteFault, Memory}
+use Rattle.satallax_top.specs.declared.outcome.Outcome.TheVariants.{Theorem, Unsatisfiable, GaveUp, CommandLimit, SyntaxAt, TypeAt, IncludeAt, Words, TooLong, NotYetAt, ReadFault, WriteFault, Memory}
 use Rattle.satallax_top.proofs.LineFeeds.{no_line_feeds-lines, no_end_mark-lines}
 use Rattle.satallax_top.proofs.NameLaws.{accepted_named}
 
@@ -23,29 +22,32 @@ same_length : (cs : List TypedName) → length (map (λ c. c.type) cs) ≡ lengt
 same_length [] = refl
 same_length (c ∷ cs) = ap suc (same_length cs)
 
-module _ (s : Stated) (n : ℕ) (refutation : Refutation) (r : IsRunnable s) (e : EndsAs (start (normal_question s)) MAX_COMMANDS (Proved n refutation)) where
-  pub run_named : IsNamed (names_of s.constants) refutation
-  run_named = accepted_named (names_of s.constants) (question_of s).scope (record { bases = refl; constants = same_length s.constants }) (start (normal_question s)) refutation (e.1 (question_of s).scope r.typed)
+module _ (p : ReadProblem) (n : ℕ) (refutation : Refutation) (r : IsRunnable p) (e : EndsAs (start (normal_question p)) MAX_COMMANDS (Proved n refutation)) where
+  pub run_named : IsNamed (names_in p) refutation
+  run_named = accepted_named (names_in p) (question_of p).scope (record { bases = refl; constants = same_length p.declared.consts }) (start (normal_question p)) refutation (e.1 (question_of p).scope r.typed)
 
-  pub proof_of_run : (text : List ℕ) → text ≡ as_bytes (text_lines (named_refutation (names_of s.constants) refutation)) → IsProofOf s n text
+  pub proof_of_run : (text : List ℕ) → text ≡ as_bytes (text_lines (named_refutation (names_in p) refutation)) → IsProofOf p n text
   proof_of_run text t = record {
     proved = e.0;
     refutation = refutation;
-    accepted = e.1 (question_of s).scope r.typed;
+    accepted = e.1 (question_of p).scope r.typed;
     is_text = t;
-    no_line_feeds = no_line_feeds-lines s.constants r.plain refutation;
-    no_end_mark = no_end_mark-lines s.constants r.plain refutation;
+    no_line_feeds = no_line_feeds-lines (names_in p) r.printable refutation;
+    no_end_mark = no_end_mark-lines (names_in p) refutation;
   }
 
 -- the outcome of a problem that is proved, with the text of its refutation
-pub proved_for : (s : Stated) (o : Outcome) (n : ℕ) (text : List ℕ) → IsProvedFor s o → IsProofOf s n text → IsSolvedFor s o n text
-proved_for s Theorem n text h p = (h, p)
-proved_for s Unsatisfiable n text h p = (h, p)
-proved_for s GaveUp n text h p = absurd h
-proved_for s (CommandLimit m) n text h p = absurd h
-proved_for s Words n text h p = absurd h
-proved_for s (TooLong file) n text h p = absurd h
-proved_for s (NotYetAt at) n text h p = absurd h
-proved_for s (ReadFault file) n text h p = absurd h
-proved_for s WriteFault n text h p = absurd h
-proved_for s Memory n text h p = absurd h
+pub proved_for : (p : ReadProblem) (o : Outcome) (n : ℕ) (text : List ℕ) → IsProvedFor p o → IsProofOf p n text → IsSolvedFor p o n text
+proved_for p Theorem n text h proof = (h, proof)
+proved_for p Unsatisfiable n text h proof = (h, proof)
+proved_for p GaveUp n text h proof = absurd h
+proved_for p (CommandLimit m) n text h proof = absurd h
+proved_for p (SyntaxAt file at) n text h proof = absurd h
+proved_for p (TypeAt file at why) n text h proof = absurd h
+proved_for p (IncludeAt file at why) n text h proof = absurd h
+proved_for p Words n text h proof = absurd h
+proved_for p (TooLong file) n text h proof = absurd h
+proved_for p (NotYetAt at) n text h proof = absurd h
+proved_for p (ReadFault file) n text h proof = absurd h
+proved_for p WriteFault n text h proof = absurd h
+proved_for p Memory n text h proof = absurd h

@@ -3,14 +3,11 @@ use Rattle.std.proofs.Common.{◌≡◌, ℕ, zero, suc, ◌+◌, List, [], ◌�
 use Rattle.stt_core.specs.Lambda.{Lambda}
 use Rattle.stt_core.proofs.ListLaws.{take_got, map-append}
 use Rattle.stt_core.specs.Typing.{Scope}
-use Rattle.stt_core.specs.ScopeView.{the_scope}
-use Rattle.stt_core.specs.declared.problem.Problem.{Problem}
-use Rattle.satallax_top.specs.Propositional.{IsFormula, AreFormulas}
+use Rattle.type_check.specs.Statements.{ReadProblem}
+use Rattle.type_check.specs.TypedProblem.{IsFormula, AreFormulas}
 use Rattle.satallax_top.specs.NormalQuestion.{normal_in, normal_question}
-use Rattle.satallax_top.specs.StatedView.{stated}
 use Rattle.stt_tableau.specs.Literals.{Literal, opposite, literal}
 use Rattle.stt_tableau.specs.Start.{added, without_repeats, denied, start}
-use Rattle.satallax_top.specs.Reading.{Stated, question_of}
 use Rattle.prover_search.proofs.ClauseLaws.{added-append}
 
 -- the literal of one formula more, in normal form
@@ -31,15 +28,11 @@ formula_at scope [] i t g h = cc
 formula_at scope (u ∷ ts) zero t g h = let e : u ≡ t = cc in subst (IsFormula scope) e h.0
 formula_at scope (u ∷ ts) (suc i) t g h = formula_at scope ts i t g h.1
 
--- the scope of a signature without base types of its own
-pub scope_of : (p : Problem) → p.signature.bases ≡ [] → the_scope p.signature [] ≡ (question_of (stated p)).scope
-scope_of p h = ap (λ bs. record { bases = length bs; names = map (λ c. c.type) p.signature.consts; witnesses = [] }) h
-
 -- the start of a problem with a conjecture
-pub start-denied : (s : Stated) (t : Lambda) (d : Literal) (ls after : List Literal) → s.conjecture ≡ Some t → d ≡ opposite (literal (normal_in s t)) → ls ≡ without_repeats (map literal (map (normal_in s) s.assumed)) → after ≡ added ls (d ∷ []) → after ≡ start (normal_question s)
-start-denied s t d ls after c e h k =
-    let us = map (normal_in s) s.assumed in
+pub start-denied : (p : ReadProblem) (t : Lambda) (d : Literal) (ls after : List Literal) → p.conjecture ≡ Some t → d ≡ opposite (literal (normal_in p t)) → ls ≡ without_repeats (map literal (map (normal_in p) p.assumed)) → after ≡ added ls (d ∷ []) → after ≡ start (normal_question p)
+start-denied p t d ls after c e h k =
+    let us = map (normal_in p) p.assumed in
     k
     ∙ ap (λ x. added ls (x ∷ [])) e
-    ∙ start-ends us ls (opposite (literal (normal_in s t)) ∷ []) h
-    ∙ ap (λ o. without_repeats (map literal us ++ denied (option_map (normal_in s) o))) (sym c)
+    ∙ start-ends us ls (opposite (literal (normal_in p t)) ∷ []) h
+    ∙ ap (λ o. without_repeats (map literal us ++ denied (option_map (normal_in p) o))) (sym c)

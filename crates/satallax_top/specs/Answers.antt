@@ -1,97 +1,125 @@
 -- What a call answers.
-use Rattle.std.specs.Prelude.{◌≡◌, ◌<◌, ◌≤◌, ℕ, Bool, false, IsTrue, List, length, Option, Some, None, is_some, is_none}
+use Rattle.std.specs.Prelude.{◌≡◌, ℕ, Bool, true, false, IsTrue, List, Option, Some, None, Ok, Err, is_some, is_none, slice_get}
 use Rattle.std.specs.List.{list_any}
+use Rattle.outside.specs.Causes.{Rose}
 use Rattle.stt_tableau.specs.Accepted.{IsAccepted}
 use Rattle.stt_tableau.specs.Start.{start}
 use Rattle.stt_tableau.specs.declared.refutation.Refutation.{Refutation}
-use Rattle.satallax_top.specs.declared.statement.TheConstants.{MAX_DEPTH}
+use Rattle.thf_include.specs.View.{PlacedTree}
+use Rattle.thf_include.specs.Gathering.{Ending, done, stopped, Stop, wants, too_long, no_tree, cycle, too_many, no_name}
+use Rattle.thf_include.specs.declared.refused.GatherRefused.{GatherRefused}
+use Rattle.thf_include.specs.declared.refused.GatherRefused.TheVariants as refusal
+use Rattle.thf_include.specs.declared.refused.GatherRefused.TheVariants.{Fault, Syntax}
+use Rattle.type_check.specs.Statements.{ReadProblem, problem_of}
+use Rattle.type_check.specs.TypedProblem.{question_of}
+use Rattle.run_forms.specs.Forms.{first_unbuilt}
 use Rattle.prover_search.specs.declared.commands.TheConstants.{MAX_COMMANDS}
-use Rattle.satallax_top.specs.Reading.{Stated, States, question_of}
-use Rattle.satallax_top.specs.Problems.{StatesNothing}
 use Rattle.prover_search.specs.Run.{IsProved, IsExhausted, IsStopped}
 use Rattle.refute_text.specs.Text.{text_lines, as_bytes}
 use Rattle.refute_text.specs.Named.{named_refutation}
-use Rattle.satallax_top.specs.PlainNames.{names_of}
 use Rattle.satallax_top.specs.Block.{end_mark, begins_with, has_line_feed}
 use Rattle.satallax_top.specs.Words.{problem_word}
-use Rattle.satallax_top.specs.declared.outcome.Outcome.{Outcome}
-use Rattle.satallax_top.specs.declared.outcome.Outcome.TheVariants.{Theorem, Unsatisfiable, GaveUp, CommandLimit, Words, TooLong, NotYetAt, ReadFault, WriteFault, Memory}
+use Rattle.satallax_top.specs.Files.{OfFiles}
+use Rattle.satallax_top.specs.Runnable.{names_in}
 use Rattle.satallax_top.specs.NormalQuestion.{normal_question}
+use Rattle.satallax_top.specs.declared.outcome.FileRef.TheVariants.{Part}
+use Rattle.satallax_top.specs.declared.outcome.IncludeWhy.TheVariants.{Cycle, NoSuchName, TooMany}
+use Rattle.satallax_top.specs.declared.outcome.Outcome.{Outcome}
+use Rattle.satallax_top.specs.declared.outcome.Outcome.TheVariants.{Theorem, Unsatisfiable, GaveUp, CommandLimit, SyntaxAt, TypeAt, IncludeAt, Words, TooLong, NotYetAt, ReadFault, WriteFault, Memory}
 
--- the most bytes of a problem's file
-abbrev pub max_bytes : ℕ
-max_bytes = 16777216
-
--- The run over what is stated ends after n commands, with a refutation that is accepted for its start, and whose lines are these.
-pub record IsProofOf (s : Stated) (n : ℕ) (text : List ℕ) : Type 0 where
-  pub proved : IsProved (start (normal_question s)) MAX_COMMANDS n
+-- The run over the problem ends after n commands, with a refutation that is accepted for its start, and whose lines are these.
+pub record IsProofOf (p : ReadProblem) (n : ℕ) (text : List ℕ) : Type 0 where
+  pub proved : IsProved (start (normal_question p)) MAX_COMMANDS n
   pub refutation : Refutation
-  pub accepted : IsAccepted (question_of s).scope (start (normal_question s)) refutation
-  pub is_text : text ≡ as_bytes (text_lines (named_refutation (names_of s.constants) refutation))
-  pub no_line_feeds : list_any has_line_feed (text_lines (named_refutation (names_of s.constants) refutation)) ≡ false
-  pub no_end_mark : list_any (begins_with end_mark) (text_lines (named_refutation (names_of s.constants) refutation)) ≡ false
+  pub accepted : IsAccepted (question_of p).scope (start (normal_question p)) refutation
+  pub is_text : text ≡ as_bytes (text_lines (named_refutation (names_in p) refutation))
+  pub no_line_feeds : list_any has_line_feed (text_lines (named_refutation (names_in p) refutation)) ≡ false
+  pub no_end_mark : list_any (begins_with end_mark) (text_lines (named_refutation (names_in p) refutation)) ≡ false
 
--- how the run over what is stated ends: an outcome, a number of commands, and the text of a refutation
-abbrev pub IsSolvedFor : Stated → Outcome → ℕ → List ℕ → Type 0
-IsSolvedFor s Theorem n text = IsTrue (is_some s.conjecture) × IsProofOf s n text
-IsSolvedFor s Unsatisfiable n text = IsTrue (is_none s.conjecture) × IsProofOf s n text
-IsSolvedFor s GaveUp n text = IsExhausted (start (normal_question s)) MAX_COMMANDS n
-IsSolvedFor s (CommandLimit m) n text = (m ≡ n) × IsStopped (start (normal_question s)) MAX_COMMANDS n
-IsSolvedFor s (NotYetAt at) n text = ⊥
-IsSolvedFor s Memory n text = ⊥
-IsSolvedFor s Words n text = ⊥
-IsSolvedFor s (TooLong file) n text = ⊥
-IsSolvedFor s (ReadFault file) n text = ⊥
-IsSolvedFor s WriteFault n text = ⊥
+-- how the run over the problem ends: an outcome, a number of commands, and the text of a refutation
+abbrev pub IsSolvedFor : ReadProblem → Outcome → ℕ → List ℕ → Type 0
+IsSolvedFor p Theorem n text = IsTrue (is_some p.conjecture) × IsProofOf p n text
+IsSolvedFor p Unsatisfiable n text = IsTrue (is_none p.conjecture) × IsProofOf p n text
+IsSolvedFor p GaveUp n text = IsExhausted (start (normal_question p)) MAX_COMMANDS n
+IsSolvedFor p (CommandLimit m) n text = (m ≡ n) × IsStopped (start (normal_question p)) MAX_COMMANDS n
+IsSolvedFor p outcome n text = ⊥
 
--- the bytes state a problem whose run ends so
-pub record IsRun (bytes : List ℕ) (outcome : Outcome) (n : ℕ) (text : List ℕ) : Type 0 where
-  pub stated : Stated
-  pub states : States MAX_DEPTH bytes stated
-  pub solved : IsSolvedFor stated outcome n text
+-- the outcome of a problem that is proved
+abbrev pub IsProvedFor : ReadProblem → Outcome → Type 0
+IsProvedFor p Theorem = IsTrue (is_some p.conjecture)
+IsProvedFor p Unsatisfiable = IsTrue (is_none p.conjecture)
+IsProvedFor p outcome = ⊥
 
--- what the bytes of a problem's file are answered with
-abbrev pub IsSolved : List ℕ → Outcome → ℕ → List ℕ → Type 0
-IsSolved bytes (NotYetAt at) n text = StatesNothing MAX_DEPTH bytes
-IsSolved bytes Memory n text = Unit {0}
-IsSolved bytes outcome n text = IsRun bytes outcome n text
+-- the statements state a problem of forms that are run, and its run ends so
+pub record IsRun (statements : List PlacedTree) (outcome : Outcome) (n : ℕ) (text : List ℕ) : Type 0 where
+  pub problem : ReadProblem
+  pub read : problem_of statements ≡ Ok problem
+  pub built : first_unbuilt problem.declared.consts statements ≡ None
+  pub solved : IsSolvedFor problem outcome n text
 
--- the bytes aren't too many, and are answered so
-abbrev pub IsSolvedFile : List ℕ → Outcome → ℕ → List ℕ → Type 0
-IsSolvedFile bytes outcome n text = (length bytes ≤ max_bytes) × IsSolved bytes outcome n text
+-- the statements state a problem, and the first of them with a form that isn't run has it at this place
+pub record IsUnbuiltAt (statements : List PlacedTree) (at : ℕ) : Type 0 where
+  pub problem : ReadProblem
+  pub read : problem_of statements ≡ Ok problem
+  pub unbuilt : first_unbuilt problem.declared.consts statements ≡ Some at
 
--- The problem's file, whose name is the word, has bytes with this property. They are those that the files tell, where they tell them.
-pub record OfFile (words : List (List ℕ)) (told : Bool) (contents : List ℕ → Option (List ℕ)) (P : List ℕ → Type 0) : Type 0 where
-  pub name : List ℕ
-  pub named : problem_word words ≡ Some name
-  pub bytes : List ℕ
-  pub told_bytes : IsTrue told → contents name ≡ Some bytes
-  pub holds : P bytes
+-- what the statements of a problem are answered with; want of memory may come anywhere
+abbrev pub AnswersStatements : List PlacedTree → Outcome → ℕ → List ℕ → Type 0
+AnswersStatements ss Memory n text = Unit {0}
+AnswersStatements ss (TypeAt (Part file) at why) n text = problem_of ss ≡ Err (record { file = file; at = at; why = why })
+AnswersStatements ss (NotYetAt at) n text = IsUnbuiltAt ss at
+AnswersStatements ss outcome n text = IsRun ss outcome n text
 
--- What a call answers with these words and contents: an outcome, a number of commands, and the text of a refutation.
-abbrev pub IsAnswer : List (List ℕ) → Bool → (List ℕ → Option (List ℕ)) → Outcome → ℕ → List ℕ → Type 0
-IsAnswer words told contents Theorem n text = OfFile words told contents (λ bytes. IsSolvedFile bytes Theorem n text)
-IsAnswer words told contents Unsatisfiable n text = OfFile words told contents (λ bytes. IsSolvedFile bytes Unsatisfiable n text)
-IsAnswer words told contents GaveUp n text = OfFile words told contents (λ bytes. IsSolvedFile bytes GaveUp n text)
-IsAnswer words told contents (CommandLimit m) n text = OfFile words told contents (λ bytes. IsSolvedFile bytes (CommandLimit m) n text)
-IsAnswer words told contents (NotYetAt at) n text = OfFile words told contents (λ bytes. IsSolvedFile bytes (NotYetAt at) n text)
-IsAnswer words told contents (TooLong file) n text = (IsTrue (is_some (problem_word words))) × (IsTrue told → OfFile words told contents (λ bytes. max_bytes < length bytes))
-IsAnswer words told contents (ReadFault file) n text = IsTrue (is_some (problem_word words))
-IsAnswer words told contents Memory n text = IsTrue (is_some (problem_word words))
-IsAnswer words told contents Words n text = problem_word words ≡ None
-IsAnswer words told contents WriteFault n text = ⊥
+-- what the stop of a gathering is answered with
+abbrev pub stop_outcome : Stop → Outcome
+stop_outcome (wants file) = ReadFault (Part file)
+stop_outcome (too_long file) = TooLong (Part file)
+stop_outcome (no_tree file at) = SyntaxAt (Part file) at
+stop_outcome (cycle file at) = IncludeAt (Part file) at Cycle
+stop_outcome (too_many file at) = IncludeAt (Part file) at TooMany
+stop_outcome (no_name file at) = IncludeAt (Part file) at NoSuchName
+
+-- what a refusal to gather is answered with
+abbrev pub refused_outcome : GatherRefused → Outcome
+refused_outcome (Fault file) = ReadFault (Part file)
+refused_outcome (refusal.TooLong file) = TooLong (Part file)
+refused_outcome (Syntax file at) = SyntaxAt (Part file) at
+refused_outcome (refusal.Cycle file at) = IncludeAt (Part file) at Cycle
+refused_outcome (refusal.NoSuchName file at) = IncludeAt (Part file) at NoSuchName
+refused_outcome (refusal.TooMany file at) = IncludeAt (Part file) at TooMany
+refused_outcome refusal.Memory = Memory
+
+-- what the ending of a gathering is answered with
+abbrev pub AnswersEnding : Outcome → ℕ → List ℕ → Ending → Type 0
+AnswersEnding outcome n text (done ss) = AnswersStatements ss outcome n text
+AnswersEnding outcome n text (stopped s) = outcome ≡ stop_outcome s
+
+-- What a call answers with these words and contents: an outcome, the names of the files that were opened, a number of commands, and the
+-- text of a refutation. Want of memory may come wherever the words name a file.
+abbrev pub IsAnswer : List (List ℕ) → Bool → (List ℕ → Option (List ℕ)) → Outcome → List (List ℕ) → ℕ → List ℕ → Type 0
+IsAnswer words told contents Words names n text = problem_word words ≡ None
+IsAnswer words told contents Memory names n text = IsTrue (is_some (problem_word words))
+IsAnswer words told contents WriteFault names n text = ⊥
+IsAnswer words told contents outcome names n text = OfFiles words told contents names (AnswersEnding outcome n text)
+
+-- File number k was to be read next, and the count of faults of its name rose.
+pub record IsFaultOf (words : List (List ℕ)) (told : Bool) (contents : List ℕ → Option (List ℕ)) (before now : List ℕ → ℕ) (k : ℕ) : Type 0 where
+  pub names : List (List ℕ)
+  pub file : List ℕ
+  pub name : slice_get names k ≡ Some file
+  pub wanted : OfFiles words told contents names (λ ending. ending ≡ stopped (wants k))
+  pub rose : Rose (before file) (now file)
 
 abbrev pub IsProvedOutcome : Outcome → Type 0
 IsProvedOutcome Theorem = Unit {0}
 IsProvedOutcome Unsatisfiable = Unit {0}
 IsProvedOutcome outcome = ⊥
 
--- What a call is answered with where the words name a file, its contents are told and nothing fails: the defined outcome, unless memory
--- runs out.
-abbrev pub IsDefined : List ℕ → Outcome → Type 0
-IsDefined bytes Memory = Unit {0}
-IsDefined bytes (TooLong file) = max_bytes < length bytes
-IsDefined bytes Words = ⊥
-IsDefined bytes (ReadFault file) = ⊥
-IsDefined bytes WriteFault = ⊥
-IsDefined bytes outcome = (n : ℕ) × (text : List ℕ) × IsSolvedFile bytes outcome n text
+-- What a call is answered with where the words name a file, contents are told and nothing fails: the defined outcome, unless memory runs
+-- out.
+abbrev pub IsDefined : List (List ℕ) → (List ℕ → Option (List ℕ)) → Outcome → Type 0
+IsDefined words contents Memory = Unit {0}
+IsDefined words contents Words = ⊥
+IsDefined words contents (ReadFault file) = ⊥
+IsDefined words contents WriteFault = ⊥
+IsDefined words contents outcome = (names : List (List ℕ)) × (n : ℕ) × (text : List ℕ) × IsAnswer words true contents outcome names n text

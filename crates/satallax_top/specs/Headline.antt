@@ -1,5 +1,5 @@
 -- What a reported proof means.
-use Rattle.std.specs.Prelude.{◌≡◌, ℕ, Bool, IsTrue, List, ◌++◌, Option, Some}
+use Rattle.std.specs.Prelude.{◌≡◌, ℕ, Bool, IsTrue, List, ◌++◌, Option}
 use Rattle.outside.specs.Prefix.{AppendsProperly}
 use Rattle.stt_core.specs.Meaning.{Model, IsModel}
 use Rattle.stt_core.specs.Meets.{MeetsProblem}
@@ -8,50 +8,48 @@ use Rattle.stt_tableau.specs.Accepted.{IsAccepted}
 use Rattle.stt_tableau.specs.Closed.{Closes, tableau_of}
 use Rattle.stt_tableau.specs.Start.{start}
 use Rattle.stt_tableau.specs.declared.refutation.Refutation.{Refutation}
-use Rattle.satallax_top.specs.declared.statement.TheConstants.{MAX_DEPTH}
+use Rattle.type_check.specs.Statements.{ReadProblem}
+use Rattle.type_check.specs.TypedProblem.{question_of}
 use Rattle.prover_search.specs.declared.commands.TheConstants.{MAX_COMMANDS}
-use Rattle.satallax_top.specs.Reading.{Stated, States, question_of}
 use Rattle.prover_search.specs.Run.{IsProved}
 use Rattle.refute_text.specs.Text.{text_lines, as_bytes}
 use Rattle.refute_text.specs.Named.{named_refutation}
-use Rattle.satallax_top.specs.PlainNames.{names_of}
 use Rattle.satallax_top.specs.Block.{HoldsText}
 use Rattle.satallax_top.specs.Report.{report}
-use Rattle.satallax_top.specs.Words.{problem_word, name_of}
+use Rattle.satallax_top.specs.Words.{name_of}
+use Rattle.satallax_top.specs.Files.{State}
+use Rattle.satallax_top.specs.Runnable.{names_in}
+use Rattle.satallax_top.specs.NormalQuestion.{normal_question}
 use Rattle.satallax_top.specs.Answers.{IsAnswer}
 use Rattle.satallax_top.specs.declared.outcome.Outcome.{Outcome}
 use Rattle.satallax_top.specs.declared.outcome.Outcome.TheVariants.{WriteFault}
-use Rattle.satallax_top.specs.NormalQuestion.{normal_question}
 
--- The problem that the file states has no standard model whose base types are finite: no such model meets its assumed formulas without
--- meeting its conjecture.
+-- no standard model whose base types are finite meets the problem's assumed formulas without meeting its conjecture
+abbrev pub IsWithoutModel : ReadProblem → Type 0
+IsWithoutModel p = (m : Model) → IsModel (question_of p).scope m → MeetsProblem (question_of p) m → ⊥
+
+-- the problem that the files state has no standard model whose base types are finite
 pub record HasNoModel (words : List (List ℕ)) (told : Bool) (contents : List ℕ → Option (List ℕ)) : Type 0 where
-  pub name : List ℕ
-  pub named : problem_word words ≡ Some name
-  pub bytes : List ℕ
-  pub told_bytes : IsTrue told → contents name ≡ Some bytes
-  pub stated : Stated
-  pub states : States MAX_DEPTH bytes stated
-  pub no_model : (m : Model) → IsModel (question_of stated).scope m → MeetsProblem (question_of stated) m → ⊥
+  pub names : List (List ℕ)
+  pub problem : ReadProblem
+  pub stated : State words told contents names problem
+  pub no_model : IsWithoutModel problem
 
 -- What is written where a proof is reported. The bytes hold the text of a refutation, which is accepted for the start of the problem that
--- the file states; the tableau of its last line closes the start; after the number of commands that is reported, and not before, the
+-- the files state; the tableau of its last line closes the start; after the number of commands that is reported, and not before, the
 -- clauses of the search are unsatisfiable; and no standard model with finite base types meets the problem.
 pub record IsProofReport (words : List (List ℕ)) (told : Bool) (contents : List ℕ → Option (List ℕ)) (outcome : Outcome) (written : List ℕ) : Type 0 where
-  pub name : List ℕ
-  pub named : problem_word words ≡ Some name
-  pub bytes : List ℕ
-  pub told_bytes : IsTrue told → contents name ≡ Some bytes
-  pub stated : Stated
-  pub states : States MAX_DEPTH bytes stated
+  pub names : List (List ℕ)
+  pub problem : ReadProblem
+  pub stated : State words told contents names problem
   pub commands : ℕ
-  pub proved : IsProved (start (normal_question stated)) MAX_COMMANDS commands
+  pub proved : IsProved (start (normal_question problem)) MAX_COMMANDS commands
   pub refutation : Refutation
-  pub is_report : written ≡ report outcome name commands (as_bytes (text_lines (named_refutation (names_of stated.constants) refutation)))
-  pub holds_text : HoldsText (names_of stated.constants) written refutation
-  pub accepted : IsAccepted (question_of stated).scope (start (normal_question stated)) refutation
-  pub closed : Closes (with_rows (question_of stated).scope refutation.witnesses) refutation.witnesses (tableau_of refutation) (start (normal_question stated))
-  pub no_model : (m : Model) → IsModel (question_of stated).scope m → MeetsProblem (question_of stated) m → ⊥
+  pub is_report : written ≡ report outcome (name_of words) names commands (as_bytes (text_lines (named_refutation (names_in problem) refutation)))
+  pub holds_text : HoldsText (names_in problem) written refutation
+  pub accepted : IsAccepted (question_of problem).scope (start (normal_question problem)) refutation
+  pub closed : Closes (with_rows (question_of problem).scope refutation.witnesses) refutation.witnesses (tableau_of refutation) (start (normal_question problem))
+  pub no_model : IsWithoutModel problem
 
 -- the bytes appended to old are written as one of the reports for which R holds
 pub record Appends (old new : List ℕ) (R : List ℕ → Type 0) : Type 0 where
@@ -61,10 +59,11 @@ pub record Appends (old new : List ℕ) (R : List ℕ → Type 0) : Type 0 where
 
 -- an answer of the call, with its report
 pub record IsReported (words : List (List ℕ)) (told : Bool) (contents : List ℕ → Option (List ℕ)) (outcome : Outcome) (written : List ℕ) : Type 0 where
+  pub names : List (List ℕ)
   pub commands : ℕ
   pub text : List ℕ
-  pub is_answer : IsAnswer words told contents outcome commands text
-  pub is_report : written ≡ report outcome (name_of words) commands text
+  pub is_answer : IsAnswer words told contents outcome names commands text
+  pub is_report : written ≡ report outcome (name_of words) names commands text
 
 -- a write failed: a proper front of the report of an answer was written
 pub record IsCutShort (words : List (List ℕ)) (told : Bool) (contents : List ℕ → Option (List ℕ)) (old new : List ℕ) : Type 0 where
@@ -81,4 +80,4 @@ IsWritten words told contents old new outcome = Appends old new (IsReported word
 -- the outcome is an answer of the call, unless a write failed
 abbrev pub IsOutcome : List (List ℕ) → Bool → (List ℕ → Option (List ℕ)) → Outcome → Type 0
 IsOutcome words told contents WriteFault = Unit {0}
-IsOutcome words told contents outcome = (n : ℕ) × (text : List ℕ) × IsAnswer words told contents outcome n text
+IsOutcome words told contents outcome = (names : List (List ℕ)) × (n : ℕ) × (text : List ℕ) × IsAnswer words told contents outcome names n text

@@ -1,9 +1,15 @@
 -- What is written at the end of a call (Sutcliffe, The SZS ontologies for automated reasoning software, 2008).
-use Rattle.std.specs.Prelude.{ℕ, List, [], ◌∷◌, ◌++◌, codes, decimal}
+use Rattle.std.specs.Prelude.{ℕ, List, [], ◌∷◌, ◌++◌, codes, decimal, slice_get, unwrap_or}
 use Rattle.refute_text.specs.Text.{as_bytes}
+use Rattle.type_check.specs.declared.refusal.IllWhy.{IllWhy}
+use Rattle.type_check.specs.declared.refusal.IllWhy.TheVariants.{Unknown, Twice, Mismatch, NotFormula, SecondConjecture, RoleUnknown, LeftOut}
 use Rattle.satallax_top.specs.Block.{start_mark, end_mark}
+use Rattle.satallax_top.specs.declared.outcome.FileRef.{FileRef}
+use Rattle.satallax_top.specs.declared.outcome.FileRef.TheVariants.{Part}
+use Rattle.satallax_top.specs.declared.outcome.IncludeWhy.{IncludeWhy}
+use Rattle.satallax_top.specs.declared.outcome.IncludeWhy.TheVariants.{Cycle, NoSuchName, TooMany}
 use Rattle.satallax_top.specs.declared.outcome.Outcome.{Outcome}
-use Rattle.satallax_top.specs.declared.outcome.Outcome.TheVariants.{Theorem, Unsatisfiable, GaveUp, CommandLimit, Words, TooLong, NotYetAt, ReadFault, WriteFault, Memory}
+use Rattle.satallax_top.specs.declared.outcome.Outcome.TheVariants.{Theorem, Unsatisfiable, GaveUp, CommandLimit, SyntaxAt, TypeAt, IncludeAt, Words, TooLong, NotYetAt, ReadFault, WriteFault, Memory}
 
 -- the two lines at the head of most reports
 abbrev pub headed : List ℕ → List ℕ → List ℕ → List ℕ → List ℕ
@@ -17,16 +23,45 @@ counted_report status name count text =
 abbrev pub proof_report : List ℕ → List ℕ → ℕ → List ℕ → List ℕ
 proof_report status name n text = counted_report status name (decimal n) text
 
--- The report of an outcome, for the problem's name, a number of commands, and the text of a refutation. A file is named as it was opened,
--- which is the problem's name here.
-abbrev pub report : Outcome → List ℕ → ℕ → List ℕ → List ℕ
-report Theorem name n text = proof_report (codes "% SZS status Theorem for ") name n text
-report Unsatisfiable name n text = proof_report (codes "% SZS status Unsatisfiable for ") name n text
-report GaveUp name n text = headed (codes "% SZS status GaveUp for ") name (codes "% commands ") (decimal n)
-report (CommandLimit m) name n text = headed (codes "% SZS status ResourceOut for ") name (codes "% command limit ") (decimal m)
-report Words name n text = codes "% usage: satallax [--mode FILE] [--check FILE] [--demo N] PROBLEM\n"
-report (TooLong file) name n text = headed (codes "% SZS status InputError for ") name (codes "% too long ") name
-report (NotYetAt at) name n text = headed (codes "% SZS status GaveUp for ") name (codes "% not yet ") (decimal at)
-report (ReadFault file) name n text = headed (codes "% SZS status InputError for ") name (codes "% read fault ") name
-report WriteFault name n text = []
-report Memory name n text = headed (codes "% SZS status ResourceOut for ") name (codes "% memory") []
+-- the name of a file, as it was opened
+abbrev pub file_name : List (List ℕ) → FileRef → List ℕ
+file_name names (Part k) = unwrap_or (slice_get names k) []
+
+-- a place of a file
+abbrev pub place_in : List ℕ → ℕ → List ℕ
+place_in file at = file ++ (codes " " ++ decimal at)
+
+abbrev pub ill_word : IllWhy → List ℕ
+ill_word Unknown = codes "unknown"
+ill_word Twice = codes "twice"
+ill_word Mismatch = codes "mismatch"
+ill_word NotFormula = codes "notformula"
+ill_word SecondConjecture = codes "conjecture"
+ill_word RoleUnknown = codes "role"
+ill_word LeftOut = codes "leftout"
+
+abbrev pub include_word : IncludeWhy → List ℕ
+include_word Cycle = codes "cycle"
+include_word NoSuchName = codes "noname"
+include_word TooMany = codes "toomany"
+
+-- a place of a file, and why it is refused
+abbrev pub refused_in : List ℕ → ℕ → List ℕ → List ℕ
+refused_in file at why = place_in file at ++ (codes " " ++ why)
+
+-- The report of an outcome, for the problem's name, the names of its files in the order in which they were opened, a number of commands,
+-- and the text of a refutation.
+abbrev pub report : Outcome → List ℕ → List (List ℕ) → ℕ → List ℕ → List ℕ
+report Theorem name names n text = proof_report (codes "% SZS status Theorem for ") name n text
+report Unsatisfiable name names n text = proof_report (codes "% SZS status Unsatisfiable for ") name n text
+report GaveUp name names n text = headed (codes "% SZS status GaveUp for ") name (codes "% commands ") (decimal n)
+report (CommandLimit m) name names n text = headed (codes "% SZS status ResourceOut for ") name (codes "% command limit ") (decimal m)
+report (SyntaxAt file at) name names n text = headed (codes "% SZS status SyntaxError for ") name (codes "% syntax ") (place_in (file_name names file) at)
+report (TypeAt file at why) name names n text = headed (codes "% SZS status InputError for ") name (codes "% type ") (refused_in (file_name names file) at (ill_word why))
+report (IncludeAt file at why) name names n text = headed (codes "% SZS status InputError for ") name (codes "% include ") (refused_in (file_name names file) at (include_word why))
+report Words name names n text = codes "% usage: satallax [--mode FILE] [--check FILE] [--demo N] PROBLEM\n"
+report (TooLong file) name names n text = headed (codes "% SZS status InputError for ") name (codes "% too long ") (file_name names file)
+report (NotYetAt at) name names n text = headed (codes "% SZS status GaveUp for ") name (codes "% not yet ") (decimal at)
+report (ReadFault file) name names n text = headed (codes "% SZS status InputError for ") name (codes "% read fault ") (file_name names file)
+report WriteFault name names n text = []
+report Memory name names n text = headed (codes "% SZS status ResourceOut for ") name (codes "% memory") []

@@ -1,22 +1,16 @@
 //! The whole prover as one call.
 #![tactic(auto)]
 
-mod formula;
 mod law;
 mod outcome;
-mod problem;
-mod reader;
-mod refusal;
 mod report;
 mod solve;
 mod start;
-mod statement;
 mod text;
-mod token;
 mod top;
 mod words;
 
-pub use law::formulas_are_normal;
-pub use outcome::{FileRef, Outcome};
+pub use law::propositional_formulas_are_normal;
+pub use outcome::{FileRef, IncludeWhy, Outcome};
 pub use top::satallax;
 pub use words::Words;

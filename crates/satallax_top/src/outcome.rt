@@ -3,10 +3,24 @@
 ghost use Rattle.std.specs.Prelude.{◌≡◌};
 ghost use Rattle.satallax_top.specs.Status.{status_of};
 
-/// A file that a call reads: the problem is part 0.
+use type_check::IllWhy;
+
+/// A file that a call reads: the files of the problem are numbered from 0 in the order in which they are opened, and the problem itself is
+/// part 0.
 #[derive(Clone, Copy, Debug, PartialEq, Eq)]
 pub enum FileRef {
     Part(u32),
+}
+
+/// Why an include isn't followed.
+#[derive(Clone, Copy, Debug, PartialEq, Eq)]
+pub enum IncludeWhy {
+    /// The file is open already, further up the chain of includes.
+    Cycle,
+    /// No statement of the file has the selected name.
+    NoSuchName,
+    /// The file would be number 257.
+    TooMany,
 }
 
 /// How a call of the prover ends. Places count the bytes of a file from 0.
@@ -20,11 +34,25 @@ pub enum Outcome {
     GaveUp,
     /// The limit of commands is reached.
     CommandLimit { commands: u32 },
+    /// The file's tokens are wrong at this one, or too much is open there.
+    SyntaxAt { file: FileRef, at: u32 },
+    /// The statement has no meaning, from this place on.
+    TypeAt {
+        file: FileRef,
+        at: u32,
+        why: IllWhy,
+    },
+    /// The include at this place isn't followed.
+    IncludeAt {
+        file: FileRef,
+        at: u32,
+        why: IncludeWhy,
+    },
     /// The words aren't one name of a file.
     Words,
-    /// The file has more than 16,777,216 bytes.
+    /// With this file, the files have more than 16,777,216 bytes together.
     TooLong { file: FileRef },
-    /// The form at this place of the problem isn't built yet.
+    /// The form at this place isn't run yet.
     NotYetAt { at: u32 },
     /// The file can't be read.
     ReadFault { file: FileRef },
@@ -43,6 +71,9 @@ impl Outcome {
             Outcome::Theorem | Outcome::Unsatisfiable => 0,
             Outcome::GaveUp => 1,
             Outcome::CommandLimit { .. } => 2,
+            Outcome::SyntaxAt { .. } => 10,
+            Outcome::TypeAt { .. } => 11,
+            Outcome::IncludeAt { .. } => 12,
             Outcome::Words => 14,
             Outcome::TooLong { .. } => 15,
             Outcome::NotYetAt { .. } => 16,

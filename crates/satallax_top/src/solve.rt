@@ -1,24 +1,26 @@
-//! Solves a problem's file.
+//! From the statements of a problem to the answer.
 
-ghost use Rattle.std.specs.Prelude.{◌≡◌, ◌<◌, ◌≤◌, ◌^◌, length, [], IfOk};
+ghost use Rattle.std.specs.Prelude.{◌≡◌, ◌<◌, ◌-◌, ◌^◌, Ok, length, [], IfOk};
 ghost use Rattle.stt_tableau.specs.Start.{start};
-ghost use Rattle.satallax_top.specs.NormalQuestion.{normal_question};
-ghost use Rattle.satallax_top.specs.StatedView.{stated};
-ghost use Rattle.satallax_top.specs.Propositional.{IsRunnable};
+ghost use Rattle.thf_include.specs.View.{the_statements};
+ghost use Rattle.type_check.specs.Checks.{the_problem};
+ghost use Rattle.type_check.specs.Statements.{problem_of};
 ghost use Rattle.prover_search.specs.Ended.{EndsAs};
 ghost use Rattle.prover_search.specs.declared.commands.TheConstants.{MAX_COMMANDS};
-ghost use Rattle.satallax_top.specs.Answers.{IsSolvedFor, IsSolved};
-ghost use Rattle.satallax_top.specs.Solved.{AnswersProblem, IsProvedFor};
+ghost use Rattle.satallax_top.specs.NormalQuestion.{normal_question};
+ghost use Rattle.satallax_top.specs.Runnable.{IsRunnable, DeclarePrintable};
+ghost use Rattle.satallax_top.specs.Answers.{IsProvedFor, IsSolvedFor, AnswersStatements};
 
-use crate::outcome::Outcome;
-use crate::problem::read_problem;
-use crate::refusal::Refusal;
+use crate::outcome::{FileRef, Outcome};
 use crate::start::start;
 use crate::text::refutation_text;
 use outside::Bytes;
 use prover_search::{Ended, run};
+use run_forms::first_unbuilt;
 use std::alloc::{AllocError, Global};
 use stt_core::Problem;
+use thf_include::Gathered;
+use type_check::{Ill, check};
 
 /// What is answered for a problem: an outcome, a number of commands, and the text of a refutation, where there is one.
 #[derive(Drop)]
@@ -45,7 +47,7 @@ impl Answer {
 
 /// The outcome of a problem that is proved.
 fn proved_outcome(problem: &Problem) -> Outcome
-    ensures { IsProvedFor (stated problem.now) result }
+    ensures { IsProvedFor (the_problem problem.now) result }
 {
     match &problem.conjecture {
         Some(_) => Outcome::Theorem,
@@ -55,10 +57,9 @@ fn proved_outcome(problem: &Problem) -> Outcome
 
 /// The answer for a run over a problem that has ended.
 fn ended_answer(alloc: Global, problem: &Problem, ended: Ended) -> Result<Answer, AllocError>
-    requires bases { problem.now.signature.bases ≡ [] }
-    requires runnable { IsRunnable (stated problem.now) }
-    requires ended { EndsAs (start (normal_question (stated problem.now))) MAX_COMMANDS ended }
-    ensures { IfOk result (λ a. IsSolvedFor (stated problem.now) a.outcome a.commands a.text) }
+    requires runnable { IsRunnable (the_problem problem.now) }
+    requires ended { EndsAs (start (normal_question (the_problem problem.now))) MAX_COMMANDS ended }
+    ensures { IfOk result (λ a. IsSolvedFor (the_problem problem.now) a.outcome a.commands a.text) }
 {
     match ended {
         Ended::Proved {
@@ -82,40 +83,45 @@ fn ended_answer(alloc: Global, problem: &Problem, ended: Ended) -> Result<Answer
 
 /// The answer for a problem.
 fn solve_problem(alloc: Global, problem: &Problem) -> Result<Answer, AllocError>
-    requires bases { problem.now.signature.bases ≡ [] }
-    requires runnable { IsRunnable (stated problem.now) }
-    ensures { IfOk result (λ a. IsSolvedFor (stated problem.now) a.outcome a.commands a.text) }
+    requires { IsRunnable (the_problem problem.now) }
+    ensures { IfOk result (λ a. IsSolvedFor (the_problem problem.now) a.outcome a.commands a.text) }
 {
     let start = start(alloc, problem)?;
-    let ended = run(alloc, start)?;
+    let ended = run(alloc, &start)?;
     Ok(ended_answer(alloc, problem, ended)?)
 }
 
-/// The answer for a problem that the bytes state.
-fn solve_stated(alloc: Global, bytes: &[u8]) -> Result<Answer, Refusal>
-    requires { length bytes.now < 2 ^ 32 }
-    ensures { AnswersProblem bytes.now result }
+/// The answer for statements that state a problem.
+fn solve_stated(
+    alloc: Global,
+    gathered: &Gathered,
+    problem: &Problem,
+) -> Result<Answer, AllocError>
+    requires read { problem_of (the_statements gathered.now) ≡ Ok (the_problem problem.now) }
+    requires printable { DeclarePrintable (the_statements gathered.now) }
+    ensures { IfOk result (λ a. AnswersStatements (the_statements gathered.now) a.outcome a.commands a.text) }
 {
-    match read_problem(alloc, bytes) {
-        Ok(problem) => match solve_problem(alloc, &problem) {
-            Ok(answer) => Ok(answer),
-            Err(AllocError) => Err(Refusal::Memory),
-        },
-        Err(refusal) => Err(refusal),
+    match first_unbuilt(alloc, &problem.signature, gathered)? {
+        Some(at) => Ok(Answer::plain(alloc, Outcome::NotYetAt { at }, 0)),
+        None => Ok(solve_problem(alloc, problem)?),
     }
 }
 
-/// The answer for a problem's file.
-pub(crate) fn solve(alloc: Global, bytes: &[u8]) -> Answer
-    requires { length bytes.now < 2 ^ 32 }
-    ensures { IsSolved bytes.now result.outcome result.commands result.text }
+/// The answer for the statements of a problem.
+pub(crate) fn solve(alloc: Global, gathered: &Gathered) -> Answer
+    requires few { length gathered.now < 2 ^ 32 - 2 }
+    requires printable { DeclarePrintable (the_statements gathered.now) }
+    ensures { AnswersStatements (the_statements gathered.now) result.outcome result.commands result.text }
 {
-    match solve_stated(alloc, bytes) {
-        Ok(answer) => answer,
-        Err(Refusal::NotYet { left }) => {
-            let at = bytes.len().saturating_sub(left) as u32;
-            Answer::plain(alloc, Outcome::NotYetAt { at }, 0)
+    match check(alloc, gathered) {
+        Ok(problem) => match solve_stated(alloc, gathered, &problem) {
+            Ok(answer) => answer,
+            Err(AllocError) => Answer::plain(alloc, Outcome::Memory, 0),
+        },
+        Err(Ill::At { file, at, why }) => {
+            let file = FileRef::Part(file);
+            Answer::plain(alloc, Outcome::TypeAt { file, at, why }, 0)
         }
-        Err(Refusal::Memory) => Answer::plain(alloc, Outcome::Memory, 0),
+        Err(Ill::Memory) => Answer::plain(alloc, Outcome::Memory, 0),
     }
 }

@@ -7,10 +7,9 @@ ghost use Rattle.stt_core.specs.Typing.{IsScope};
 ghost use Rattle.stt_normal.specs.Normal.{normal_form};
 ghost use Rattle.stt_tableau.specs.Literals.{literal};
 ghost use Rattle.stt_tableau.specs.Start.{without_repeats, start};
-ghost use Rattle.satallax_top.specs.Reading.{question_of};
+ghost use Rattle.type_check.specs.Checks.{the_problem};
+ghost use Rattle.type_check.specs.TypedProblem.{question_of, IsFormula, AreFormulas, IsTyped};
 ghost use Rattle.satallax_top.specs.NormalQuestion.{normal_question};
-ghost use Rattle.satallax_top.specs.StatedView.{stated};
-ghost use Rattle.satallax_top.specs.Propositional.{IsFormula, AreFormulas, IsTyped};
 
 use prover_search::add;
 use std::alloc::{AllocError, Global};
@@ -45,9 +44,8 @@ fn assumed_literals(alloc: Global, sig: &Signature, assumed: &Terms) -> Result<L
 
 /// The literals of the assumed formulas and the negation of the conjecture's, without repeats.
 pub(crate) fn start(alloc: Global, problem: &Problem) -> Result<Lits, AllocError>
-    requires bases { problem.now.signature.bases ≡ [] }
-    requires formulas { IsTyped (question_of (stated problem.now)) }
-    ensures { IfOk result (λ lits. lits ≡ start (normal_question (stated problem.now))) }
+    requires { IsTyped (question_of (the_problem problem.now)) }
+    ensures { IfOk result (λ lits. lits ≡ start (normal_question (the_problem problem.now))) }
 {
     let sig = &problem.signature;
     let mut lits = assumed_literals(alloc, sig, &problem.assumed)?;

@@ -1,9 +1,8 @@
 //! The text of a refutation.
 
-ghost use Rattle.std.specs.Prelude.{◌≡◌, [], IfOk};
+ghost use Rattle.std.specs.Prelude.{◌≡◌, IfOk};
 ghost use Rattle.refute_text.specs.Text.{text_lines, as_bytes};
-ghost use Rattle.refute_text.specs.Named.{named_refutation, IsNamed};
-ghost use Rattle.satallax_top.specs.PlainNames.{names_of};
+ghost use Rattle.refute_text.specs.Named.{names_of, named_refutation, IsNamed};
 
 use outside::{Bytes, Failed, GrowSink};
 use refute_text::write_text;
@@ -17,9 +16,8 @@ pub(crate) fn refutation_text(
     sig: &Signature,
     refutation: &Refutation,
 ) -> Result<Bytes, AllocError>
-    requires bases { sig.now.bases ≡ [] }
-    requires named { IsNamed (names_of sig.now.consts) refutation.now }
-    ensures { IfOk result (λ text. text ≡ as_bytes (text_lines (named_refutation (names_of sig.now.consts) refutation.now))) }
+    requires { IsNamed (names_of sig.now.bases sig.now.consts) refutation.now }
+    ensures { IfOk result (λ text. text ≡ as_bytes (text_lines (named_refutation (names_of sig.now.bases sig.now.consts) refutation.now))) }
 {
     let mut sink = GrowSink::new(alloc);
     match write_text(sig, refutation, &mut sink) {

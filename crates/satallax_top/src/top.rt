@@ -1,48 +1,70 @@
 //! The call that does all that the program does.
 
-ghost use Rattle.std.specs.Prelude.{◌≡◌, ◌≤◌, ◌++◌, List, ℕ, IsTrue, Some, None};
+ghost use Rattle.std.specs.Prelude.{◌≡◌, ◌≤◌, ◌++◌, ℕ, List, [], IsTrue, Some, None};
 ghost use Rattle.outside.specs.Causes.{Rose};
-ghost use Rattle.satallax_top.specs.Answers.{IsAnswer, IsProvedOutcome, IsDefined};
+ghost use Rattle.satallax_top.specs.Answers.{refused_outcome, IsAnswer, IsFaultOf, IsProvedOutcome, IsDefined};
 ghost use Rattle.satallax_top.specs.Headline.{HasNoModel, IsProofReport, Appends, IsWritten, IsOutcome};
-ghost use Rattle.satallax_top.specs.Words.{problem_word, name_of};
-ghost use Rattle.satallax_top.specs.declared.outcome.FileRef.{FileRef};
+ghost use Rattle.satallax_top.specs.Words.{problem_word};
+ghost use Rattle.satallax_top.specs.declared.outcome.FileRef.TheVariants.{Part};
 
-use crate::outcome::{FileRef, Outcome};
+use crate::outcome::{FileRef, IncludeWhy, Outcome};
 use crate::report::write_report;
 use crate::solve::{Answer, solve};
 use crate::words::Words;
-use outside::{Failed, Files, ReadRefused, Sink, read_whole};
+use outside::{Failed, Files, Sink};
 use std::alloc::Global;
+use thf_include::{FileNames, GatherRefused, gather};
 
-/// The greatest number of bytes that a problem's file may have.
-const MAX_BYTES: usize = 16_777_216;
+/// The outcome where the files aren't gathered.
+fn refused_outcome(refused: GatherRefused) -> Outcome
+    ensures { result ≡ refused_outcome refused }
+{
+    match refused {
+        GatherRefused::Fault { file } => Outcome::ReadFault {
+            file: FileRef::Part(file),
+        },
+        GatherRefused::TooLong { file } => Outcome::TooLong {
+            file: FileRef::Part(file),
+        },
+        GatherRefused::Syntax { file, at } => Outcome::SyntaxAt {
+            file: FileRef::Part(file),
+            at,
+        },
+        GatherRefused::Cycle { file, at } => include_at(file, at, IncludeWhy::Cycle),
+        GatherRefused::NoSuchName { file, at } => include_at(file, at, IncludeWhy::NoSuchName),
+        GatherRefused::TooMany { file, at } => include_at(file, at, IncludeWhy::TooMany),
+        GatherRefused::Memory => Outcome::Memory,
+    }
+}
 
-/// The answer of a call, before it is reported.
-fn answer<F: Files>(alloc: Global, words: &Words, files: &mut F) -> Answer
-    ensures answer { IsAnswer words.now (F.tells files.old) (F.contents files.old) result.outcome result.commands result.text }
-    ensures read { (file : FileRef) → result.outcome ≡ Outcome.ReadFault file
-        → Rose (F.faults files.old (name_of words.now)) (F.faults files.new (name_of words.now)) }
+fn include_at(file: u32, at: u32, why: IncludeWhy) -> Outcome
+    ensures { result ≡ Outcome.IncludeAt (Part file) at why }
+{
+    Outcome::IncludeAt {
+        file: FileRef::Part(file),
+        at,
+        why,
+    }
+}
+
+/// The answer of a call, before it is reported. The names are those of the files that are opened.
+fn answer<F: Files>(
+    alloc: Global,
+    words: &Words,
+    files: &mut F,
+    names: &mut FileNames,
+) -> Answer
+    requires { names.old ≡ [] }
+    ensures answer { IsAnswer words.now (F.tells files.old) (F.contents files.old) result.outcome names.new result.commands result.text }
+    ensures read { (k : ℕ) → result.outcome ≡ Outcome.ReadFault (Part k)
+        → IsFaultOf words.now (F.tells files.old) (F.contents files.old) (F.faults files.old) (F.faults files.new) k }
 {
     let Some(name) = words.problem() else {
         return Answer::plain(alloc, Outcome::Words, 0);
     };
-    match read_whole(alloc, files, name, MAX_BYTES) {
-        Ok(bytes) => solve(alloc, bytes.as_slice()),
-        Err(ReadRefused::Fault) => Answer::plain(
-            alloc,
-            Outcome::ReadFault {
-                file: FileRef::Part(0),
-            },
-            0,
-        ),
-        Err(ReadRefused::TooLong) => Answer::plain(
-            alloc,
-            Outcome::TooLong {
-                file: FileRef::Part(0),
-            },
-            0,
-        ),
-        Err(ReadRefused::Memory) => Answer::plain(alloc, Outcome::Memory, 0),
+    match gather(alloc, files, names, name) {
+        Ok(gathered) => solve(alloc, &gathered),
+        Err(refused) => Answer::plain(alloc, refused_outcome(refused), 0),
     }
 }
 
@@ -54,7 +76,7 @@ pub fn satallax<F: Files, S: Sink>(
     files: &mut F,
     out: &mut S,
 ) -> Outcome
-    // The outcome is an answer for these words and for the contents of the problem's file.
+    // The outcome is an answer for these words and for the contents of the problem's files.
     ensures outcome { IsOutcome words.now (F.tells files.old) (F.contents files.old) result }
 
     // What is written is the report of the outcome, or where a write failed a proper front of the report of an answer.
@@ -68,20 +90,21 @@ pub fn satallax<F: Files, S: Sink>(
 
     // The causes of what doesn't hang on contents.
     ensures words { result ≡ Outcome.Words → problem_word words.now ≡ None }
-    ensures read { (file : FileRef) → result ≡ Outcome.ReadFault file
-        → Rose (F.faults files.old (name_of words.now)) (F.faults files.new (name_of words.now)) }
+    ensures read { (k : ℕ) → result ≡ Outcome.ReadFault (Part k)
+        → IsFaultOf words.now (F.tells files.old) (F.contents files.old) (F.faults files.old) (F.faults files.new) k }
     ensures write { result ≡ Outcome.WriteFault → Rose (S.faults out.old) (S.faults out.new) }
 
-    // Where the words name a file whose contents are told and no count of faults rises, the outcome is the defined one, or memory ran out.
-    ensures complete { IsTrue (F.tells files.old) → (name : List ℕ) → (bytes : List ℕ)
-        → problem_word words.now ≡ Some name → F.contents files.old name ≡ Some bytes
-        → (Rose (F.faults files.old name) (F.faults files.new name) → ⊥) → (Rose (S.faults out.old) (S.faults out.new) → ⊥)
-        → IsDefined bytes result }
+    // Where the words name a file, contents are told and no count of faults rises, the outcome is the defined one, or memory ran out.
+    ensures complete { IsTrue (F.tells files.old) → (name : List ℕ) → problem_word words.now ≡ Some name
+        → ((file : List ℕ) → Rose (F.faults files.old file) (F.faults files.new file) → ⊥)
+        → (Rose (S.faults out.old) (S.faults out.new) → ⊥)
+        → IsDefined words.now (F.contents files.old) result }
 {
-    let answer = answer(alloc, words, files);
+    let mut names = FileNames::new(alloc);
+    let answer = answer(alloc, words, files, &mut names);
     let name = words.name().as_bytes();
     let text = answer.text.as_slice();
-    match write_report(out, answer.outcome, name, answer.commands, text) {
+    match write_report(out, answer.outcome, name, &names, answer.commands, text) {
         Ok(()) => answer.outcome,
         Err(Failed) => Outcome::WriteFault,
     }

@@ -6,16 +6,18 @@ use Rattle.satallax_top.proofs.top.satallax.Goals as goal
 pub returns-in-Ok-clause-bytes : goal.returns-in-Ok-clause-bytes
 returns-in-Ok-clause-bytes g c told =
     let a = c.answer-answer.result in
-    written_whole c.args.words.now (g.F.Files.tells c.args.files.now) (g.F.Files.contents c.args.files.now) a.outcome a.commands a.text (g.S.Sink.written c.args.out.now) (g.S.Sink.written c.write_report.new.out) c.answer-answer.ensures.answer
-    (report_at a.outcome a.commands c.as_bytes-name.result.now (name_of c.args.words.now) c.as_slice-text.result.now a.text (g.S.Sink.written c.args.out.now) (g.S.Sink.written c.write_report.new.out) (c.as_bytes-name.ensures.value ∙ c.name.ensures) c.as_slice-text.ensures (c.in-Ok.ensures.appended told))
+    let names = c.answer-answer.new.names in
+    written_whole c.args.words.now (g.F.Files.tells c.args.files.now) (g.F.Files.contents c.args.files.now) a.outcome names a.commands a.text (g.S.Sink.written c.args.out.now) (g.S.Sink.written c.write_report.new.out) c.answer-answer.ensures.answer
+    (report_at a.outcome names a.commands c.as_bytes-name.result.now (name_of c.args.words.now) c.as_slice-text.result.now a.text (g.S.Sink.written c.args.out.now) (g.S.Sink.written c.write_report.new.out) (c.as_bytes-name.ensures.value ∙ c.name.ensures) c.as_slice-text.ensures (c.in-Ok.ensures.appended told))
 
 pub returns-in-Ok-clause-proof : goal.returns-in-Ok-clause-proof
 returns-in-Ok-clause-proof g c told =
     let a = c.answer-answer.result in
-    proof_appended c.args.words.now (g.F.Files.tells c.args.files.now) (g.F.Files.contents c.args.files.now) a.outcome a.commands a.text (g.S.Sink.written c.args.out.now) (g.S.Sink.written c.write_report.new.out) c.answer-answer.ensures.answer
-    (report_at a.outcome a.commands c.as_bytes-name.result.now (name_of c.args.words.now) c.as_slice-text.result.now a.text (g.S.Sink.written c.args.out.now) (g.S.Sink.written c.write_report.new.out) (c.as_bytes-name.ensures.value ∙ c.name.ensures) c.as_slice-text.ensures (c.in-Ok.ensures.appended told))
+    let names = c.answer-answer.new.names in
+    proof_appended c.args.words.now (g.F.Files.tells c.args.files.now) (g.F.Files.contents c.args.files.now) a.outcome names a.commands a.text (g.S.Sink.written c.args.out.now) (g.S.Sink.written c.write_report.new.out) c.answer-answer.ensures.answer
+    (report_at a.outcome names a.commands c.as_bytes-name.result.now (name_of c.args.words.now) c.as_slice-text.result.now a.text (g.S.Sink.written c.args.out.now) (g.S.Sink.written c.write_report.new.out) (c.as_bytes-name.ensures.value ∙ c.name.ensures) c.as_slice-text.ensures (c.in-Ok.ensures.appended told))
 
 pub returns-in-Ok-clause-no_model : goal.returns-in-Ok-clause-no_model
 returns-in-Ok-clause-no_model g c =
     let a = c.answer-answer.result in
-    no_model_answer c.args.words.now (g.F.Files.tells c.args.files.now) (g.F.Files.contents c.args.files.now) a.outcome a.commands a.text c.answer-answer.ensures.answer
+    no_model_answer c.args.words.now (g.F.Files.tells c.args.files.now) (g.F.Files.contents c.args.files.now) a.outcome c.answer-answer.new.names a.commands a.text c.answer-answer.ensures.answer

@@ -1,4 +1,4 @@
-//! Files with implications: how they end after how many commands, and the whole report of some of them.
+//! Files with connectives: how they end after how many commands, and the refutations of some of them.
 
 use outside::{CallList, FileList, GrowSink, MemFiles};
 use satallax_top::{Outcome, Words, satallax};
@@ -79,6 +79,54 @@ const PROVED: &[Row] = &[
         Outcome::Unsatisfiable,
         "% SZS status Unsatisfiable for x.p\n% commands 0\n",
     ),
+    // Each other connective by what it says.
+    (
+        "thf(a,axiom,( p & q )). thf(c,conjecture,p).",
+        Outcome::Theorem,
+        "% SZS status Theorem for x.p\n% commands 1\n",
+    ),
+    (
+        "thf(a,axiom,( p | q )). thf(b,axiom,~ p). thf(c,conjecture,q).",
+        Outcome::Theorem,
+        "% SZS status Theorem for x.p\n% commands 1\n",
+    ),
+    (
+        "thf(a,axiom,( p <= q )). thf(b,axiom,q). thf(c,conjecture,p).",
+        Outcome::Theorem,
+        "% SZS status Theorem for x.p\n% commands 1\n",
+    ),
+    (
+        "thf(a,axiom,( p ~& q )). thf(b,axiom,p). thf(c,conjecture,~ q).",
+        Outcome::Theorem,
+        "% SZS status Theorem for x.p\n% commands 1\n",
+    ),
+    (
+        "thf(a,axiom,( p ~| q )). thf(c,conjecture,~ p).",
+        Outcome::Theorem,
+        "% SZS status Theorem for x.p\n% commands 1\n",
+    ),
+    (
+        "thf(a,axiom,( $true & p )). thf(c,conjecture,p).",
+        Outcome::Theorem,
+        "% SZS status Theorem for x.p\n% commands 1\n",
+    ),
+    // A chain groups to the left; the literal of `p & q` is processed behind those of the start.
+    (
+        "thf(a,axiom,( p & q & r )). thf(c,conjecture,q).",
+        Outcome::Theorem,
+        "% SZS status Theorem for x.p\n% commands 3\n",
+    ),
+    (
+        "thf(a,axiom,( p | q )). thf(b,axiom,( p | ~ q )). thf(d,axiom,( ~ p | q )). thf(e,axiom,( ~ p | ~ q )).",
+        Outcome::Unsatisfiable,
+        "% SZS status Unsatisfiable for x.p\n% commands 4\n",
+    ),
+    // Other roles than `axiom` assume formulas, too, and all types may be declared.
+    (
+        "thf(m,type,mu: $tType). thf(f,type,f: mu > $i > $o). thf(a,hypothesis,p). thf(c,conjecture,'p').",
+        Outcome::Theorem,
+        "% SZS status Theorem for x.p\n% commands 0\n",
+    ),
 ];
 
 const NOT_PROVED: &[Row] = &[
@@ -100,6 +148,21 @@ const NOT_PROVED: &[Row] = &[
     ),
     (
         "thf(a,axiom,( p => q )). thf(b,axiom,( p => q )).",
+        Outcome::GaveUp,
+        "% SZS status GaveUp for x.p\n% commands 3\n",
+    ),
+    (
+        "thf(a,axiom,( p <= q )). thf(b,axiom,p). thf(c,conjecture,q).",
+        Outcome::GaveUp,
+        "% SZS status GaveUp for x.p\n% commands 3\n",
+    ),
+    (
+        "thf(a,axiom,( p & q )).",
+        Outcome::GaveUp,
+        "% SZS status GaveUp for x.p\n% commands 3\n",
+    ),
+    (
+        "thf(a,axiom,( p | q )).",
         Outcome::GaveUp,
         "% SZS status GaveUp for x.p\n% commands 3\n",
     ),
@@ -163,6 +226,10 @@ const PROOFS: &[Proof] = &[
     (
         "thf(a,axiom,( p => q )). thf(b,axiom,~ ( p => q )).",
         "version 1\n0: Close(0,1) [+($imp p q),-($imp p q)] []\n",
+    ),
+    (
+        "thf(n,type,'a \\'b\\' c': $o). thf(a,axiom,~ 'a \\'b\\' c'). thf(b,axiom,'a \\'b\\' c').",
+        "version 1\n0: Close(0,1) [-'a \\'b\\' c',+'a \\'b\\' c'] []\n",
     ),
     (
         "thf(c,conjecture,~ ~ p => p).",
