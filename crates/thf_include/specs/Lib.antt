@@ -1,1 +1,4 @@
 pub mod View
+pub mod Gathering
+pub mod Places
+pub mod Answer

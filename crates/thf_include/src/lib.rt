@@ -2,9 +2,15 @@
 #![tactic(auto)]
 
 mod gathered;
+mod gathering;
+mod limits;
 mod names;
+mod refused;
 #[cfg(test)]
 mod tests;
 
 pub use gathered::{Gathered, Placed};
+pub use gathering::gather;
+pub use limits::{MAX_BYTES, MAX_FILES};
 pub use names::FileNames;
+pub use refused::GatherRefused;

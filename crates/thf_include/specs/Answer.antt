@@ -1,0 +1,36 @@
+-- What a call that gathers answers.
+use Rattle.std.specs.Prelude.{◌≡◌, ℕ, ◌+◌, ◌-◌, Bool, ◌⊎◌, IsTrue, List, [], ◌∷◌, length, Option, Some, Result, Ok, Err}
+use Rattle.thf_include.specs.declared.gathered.Placed.{Placed}
+use Rattle.thf_include.specs.declared.refused.GatherRefused.{GatherRefused}
+use Rattle.thf_include.specs.declared.refused.GatherRefused.TheVariants.{Fault, TooLong, Syntax, Cycle, NoSuchName, TooMany, Memory}
+use Rattle.thf_include.specs.View.{the_statements}
+use Rattle.thf_include.specs.Gathering.{done, stopped, wants, too_long, no_tree, cycle, too_many, no_name, IsGathering}
+
+-- the texts are the contents of the first names, one for each
+abbrev pub AreContents : (List ℕ → Option (List ℕ)) → List (List ℕ) → List (List ℕ) → Type 0
+AreContents contents names [] = Unit {0}
+AreContents contents [] (text ∷ texts) = ⊥
+AreContents contents (name ∷ names) (text ∷ texts) = (contents name ≡ Some text) × AreContents contents names texts
+
+-- The answer is how the gathering over these texts ends. A fault is that of the file that is wanted. Want of memory may come anywhere: the
+-- names are then those that are opened up to some file, or none.
+abbrev pub IsAnswer : List (List ℕ) → List ℕ → List (List ℕ) → Result (List Placed) GatherRefused → Type 0
+IsAnswer texts name names (Ok gathered) = IsGathering texts name names (done (the_statements gathered)) × (length texts ≡ length names)
+IsAnswer texts name names (Err (Fault file)) = IsGathering texts name names (stopped (wants file)) × (length names ≡ file + 1)
+IsAnswer texts name names (Err (TooLong file)) = IsGathering texts name names (stopped (too_long file))
+IsAnswer texts name names (Err (Syntax file at)) = IsGathering texts name names (stopped (no_tree file at))
+IsAnswer texts name names (Err (Cycle file at)) = IsGathering texts name names (stopped (cycle file at))
+IsAnswer texts name names (Err (NoSuchName file at)) = IsGathering texts name names (stopped (no_name file at))
+IsAnswer texts name names (Err (TooMany file at)) = IsGathering texts name names (stopped (too_many file at))
+IsAnswer texts name names (Err Memory) = (names ≡ []) ⊎ IsGathering texts name names (stopped (wants (length names - 1)))
+
+-- the answer is how the gathering ends over some texts, which are the contents of its files where these are told
+pub record Gathers (tells : Bool) (contents : List ℕ → Option (List ℕ)) (name : List ℕ) (names : List (List ℕ)) (answer : Result (List Placed) GatherRefused) : Type 0 where
+  pub texts : List (List ℕ)
+  pub told : IsTrue tells → AreContents contents names texts
+  pub answered : IsAnswer texts name names answer
+
+-- P holds of the number of a file with a fault
+abbrev pub OfFault : (ℕ → Type 0) → GatherRefused → Type 0
+OfFault P (Fault file) = P file
+OfFault P _ = Unit {0}
