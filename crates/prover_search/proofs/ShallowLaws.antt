@@ -1,18 +1,18 @@
 -- The literals that aren't too deep: what they are, and that the run is the run from them.
-use Rattle.std.proofs.Common.{◌≡◌, ℕ, zero, suc, ◌+◌, ◌-◌, ◌<◌, ◌≤◌, ◌^◌, max, min, Bool, true, false, List, [], ◌∷◌, ◌++◌, map, filter, take, length, slice_get, Contains, Option, Some, refl, sym, ap, ap₂, subst, ◌∙◌, cond, arith}
+use Rattle.std.proofs.Common.{◌≡◌, ℕ, zero, suc, ◌+◌, max, min, Bool, true, false, List, [], ◌∷◌, ◌++◌, map, filter, take, length, slice_get, Contains, Some, refl, sym, ap, ap₂, subst, ◌∙◌, cond, arith}
 use Rattle.stt_core.specs.SimpleType.{SimpleType}
 use Rattle.stt_core.specs.Lambda.{Lambda, bound, constant, lam, app, lambdas, applied}
 use Rattle.stt_core.specs.Typing.{Scope}
 use Rattle.stt_core.proofs.CanonicalTypes.{applied-more}
 use Rattle.stt_core.proofs.ListLaws.{take_got}
 use Rattle.stt_core.proofs.SpineLaws.{IsAtom}
-use Rattle.stt_tableau.specs.Literals.{Literal, is_negated, IsBranch}
-use Rattle.stt_tableau.specs.Accepted.{Within, IsAccepted}
+use Rattle.stt_tableau.specs.Literals.{Literal, IsBranch}
+use Rattle.stt_tableau.specs.Accepted.{Within}
 use Rattle.stt_tableau.specs.Witnesses.{with_rows}
 use Rattle.stt_tableau.specs.declared.refutation.Refutation.{Refutation}
 use Rattle.stt_tableau.proofs.ListLaws.{contains-first, contains-later, contains_cases, within-each, within-trans}
 use Rattle.prover_search.specs.Search.{depth, is_shallow, State, process, pushed, stepped, after}
-use Rattle.prover_search.specs.Run.{IsOpen, GoesOn, GoesOnUntil, IsProved, IsExhausted, IsStopped}
+use Rattle.prover_search.specs.Run.{IsOpen, GoesOnUntil}
 use Rattle.prover_search.specs.Searched.{ArePropositional, AreSearched, AreDifferent}
 use Rattle.prover_search.specs.Ended.{Refutes, EndsAs}
 use Rattle.prover_search.specs.declared.commands.Ended.{Ended}
@@ -41,56 +41,56 @@ depth_more h us i greatest u deepest d more g e f m =
 pub depth_whole : (bs : List SimpleType) (h : Lambda) (us vs : List Lambda) (whole : Lambda) (greatest deepest d : ℕ) → deepest ≡ min (depth (applied h vs)) greatest → d ≡ min (deepest + length bs) greatest → vs ≡ us → lambdas bs (applied h us) ≡ whole → d ≡ min (depth whole) greatest
 depth_whole bs h us vs whole greatest deepest d e q v w =
     let same : deepest ≡ min (depth (applied h us)) greatest = e ∙ ap (λ xs. min (depth (applied h xs)) greatest) v in
-    omega (arith, same, q, sym (ap depth w) , depth-lambdas bs (applied h us))
+    omega (arith, same, q, sym (ap depth w), depth-lambdas bs (applied h us))
 
 -- THE LITERALS THAT AREN'T TOO DEEP
 
--- with or without one that is added at the end
-pub shallow_more : (ls : List Literal) (i : ℕ) (l : Literal) → slice_get ls i ≡ Some l → filter is_shallow (take (i + 1) ls) ≡ filter is_shallow (take i ls) ++ cond (is_shallow l) (l ∷ []) []
-shallow_more ls i l g = ap (filter is_shallow) (take_got ls i l g) ∙ filter-append is_shallow (take i ls) (l ∷ [])
+pub shallow_more : (ls : List Literal) (i : ℕ) (l : Literal) (taken more : List Literal) → slice_get ls i ≡ Some l → taken ≡ filter is_shallow (take i ls) → more ≡ taken ++ filter is_shallow (l ∷ []) → more ≡ filter is_shallow (take (i + 1) ls)
+shallow_more ls i l taken more g t m =
+    m ∙ ap (λ xs. xs ++ filter is_shallow (l ∷ [])) t ∙ sym (ap (filter is_shallow) (take_got ls i l g) ∙ filter-append is_shallow (take i ls) (l ∷ []))
 
 filter-filter : {A : Type 0} (p : A → Bool) (xs : List A) → filter p (filter p xs) ≡ filter p xs
 filter-filter p [] = refl
-filter-filter p (x ∷ xs) = go (p x) refl
+filter-filter p (x ∷ xs) = go (p x) refl (filter-filter p xs)
   where
-    go : (b : Bool) → p x ≡ b → filter p (cond b (x ∷ filter p xs) (filter p xs)) ≡ cond b (x ∷ filter p xs) (filter p xs)
-    go true e = ap₂ (λ c rest. cond c (x ∷ rest) rest) e (filter-filter p xs)
-    go false e = filter-filter p xs
+    go : (b : Bool) → p x ≡ b → filter p (filter p xs) ≡ filter p xs → filter p (cond b (x ∷ filter p xs) (filter p xs)) ≡ cond b (x ∷ filter p xs) (filter p xs)
+    go true e rest = ap₂ (λ c ys. cond c (x ∷ ys) ys) e rest
+    go false e rest = rest
 
 contains-filter : (p : Literal → Bool) (ls : List Literal) (l : Literal) → Contains (filter p ls) l → Contains ls l
 contains-filter p [] l h = absurd (none_contained l h)
-contains-filter p (k ∷ ls) l h = go (p k) h
+contains-filter p (k ∷ ls) l h = go (p k) (λ c. contains-later l k ls (contains-filter p ls l c)) h
   where
-    go : (b : Bool) → Contains (cond b (k ∷ filter p ls) (filter p ls)) l → Contains (k ∷ ls) l
-    go true c = contains_cases (Contains (k ∷ ls) l) l k (filter p ls) c (λ e. subst (λ x. Contains (x ∷ ls) l) e (contains-first l ls)) (λ d. contains-later l k ls (contains-filter p ls l d))
-    go false c = contains-later l k ls (contains-filter p ls l c)
+    go : (b : Bool) → (Contains (filter p ls) l → Contains (k ∷ ls) l) → Contains (cond b (k ∷ filter p ls) (filter p ls)) l → Contains (k ∷ ls) l
+    go true later c = contains_cases (Contains (k ∷ ls) l) l k (filter p ls) c (λ e. subst (Contains (k ∷ ls)) e (contains-first k ls)) later
+    go false later c = later c
 
 pub shallow-searched : (ls : List Literal) → ArePropositional ls → AreSearched (filter is_shallow ls)
 shallow-searched [] h = tt
-shallow-searched (l ∷ ls) h = go (is_shallow l) refl
+shallow-searched (l ∷ ls) h = go (is_shallow l) refl (shallow-searched ls h.1)
   where
-    go : (b : Bool) → is_shallow l ≡ b → AreSearched (cond b (l ∷ filter is_shallow ls) (filter is_shallow ls))
-    go true e = (record { formula = h.0.formula; unsigned = h.0.unsigned; shallow = e }, shallow-searched ls h.1)
-    go false e = shallow-searched ls h.1
+    go : (b : Bool) → is_shallow l ≡ b → AreSearched (filter is_shallow ls) → AreSearched (cond b (l ∷ filter is_shallow ls) (filter is_shallow ls))
+    go true e rest = (record { formula = h.0.formula; unsigned = h.0.unsigned; shallow = e }, rest)
+    go false e rest = rest
 
 pub shallow-different : (ls : List Literal) → AreDifferent ls → AreDifferent (filter is_shallow ls)
 shallow-different [] h = tt
-shallow-different (l ∷ ls) h = go (is_shallow l)
+shallow-different (l ∷ ls) h = go (is_shallow l) (shallow-different ls h.1)
   where
-    go : (b : Bool) → AreDifferent (cond b (l ∷ filter is_shallow ls) (filter is_shallow ls))
-    go true = ((λ c. h.0 (contains-filter is_shallow ls l c)), shallow-different ls h.1)
-    go false = shallow-different ls h.1
+    go : (b : Bool) → AreDifferent (filter is_shallow ls) → AreDifferent (cond b (l ∷ filter is_shallow ls) (filter is_shallow ls))
+    go true rest = ((λ c. h.0 (contains-filter is_shallow ls l c)), rest)
+    go false rest = rest
 
 shallow-within : (ls : List Literal) → Within (filter is_shallow ls) ls
 shallow-within ls = within-each (filter is_shallow ls) ls (λ l c. contains-filter is_shallow ls l c)
 
 shallow-typed : (scope : Scope) (ls : List Literal) → IsBranch scope ls → IsBranch scope (filter is_shallow ls)
 shallow-typed scope [] h = tt
-shallow-typed scope (l ∷ ls) h = go (is_shallow l)
+shallow-typed scope (l ∷ ls) h = go (is_shallow l) (shallow-typed scope ls h.1)
   where
-    go : (b : Bool) → IsBranch scope (cond b (l ∷ filter is_shallow ls) (filter is_shallow ls))
-    go true = (h.0, shallow-typed scope ls h.1)
-    go false = shallow-typed scope ls h.1
+    go : (b : Bool) → IsBranch scope (filter is_shallow ls) → IsBranch scope (cond b (l ∷ filter is_shallow ls) (filter is_shallow ls))
+    go true rest = (h.0, rest)
+    go false rest = rest
 
 -- THE RUN FROM THEM
 

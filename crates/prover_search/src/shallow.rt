@@ -1,6 +1,6 @@
 //! Literals that aren't too deep for the search.
 
-ghost use Rattle.std.specs.Prelude.{◌≡◌, ◌-◌, ◌^◌, min, filter, IfOk};
+ghost use Rattle.std.specs.Prelude.{◌≡◌, ◌-◌, ◌^◌, ◌++◌, [], ◌∷◌, min, filter, IfOk, OnOk};
 ghost use Rattle.prover_search.specs.Search.{depth, is_shallow};
 
 use std::alloc::{AllocError, Global};
@@ -27,15 +27,23 @@ fn is_shallow(lit: &Lit) -> bool
     depth(&lit.atom) <= MAX_DEPTH
 }
 
+/// Adds a copy of the literal, where the search takes it.
+fn push_shallow(alloc: Global, taken: &mut Lits, lit: &Lit) -> Result<(), AllocError>
+    ensures { OnOk result (taken.new ≡ taken.old ++ filter is_shallow (lit.now ∷ [])) }
+{
+    if is_shallow(lit) {
+        taken.push(lit.try_clone(alloc)?)?;
+    }
+    Ok(())
+}
+
 /// The literals that the search takes, in their order.
 pub(crate) fn shallow(alloc: Global, lits: &Lits) -> Result<Lits, AllocError>
     ensures { IfOk result (λ taken. taken ≡ filter is_shallow lits.now) }
 {
     let mut taken = Lits::new(alloc);
     for i in 0..lits.len() {
-        if is_shallow(lits.at(i)) {
-            taken.push(lits.at(i).try_clone(alloc)?)?;
-        }
+        push_shallow(alloc, &mut taken, lits.at(i))?;
     }
     Ok(taken)
 }

@@ -4,7 +4,7 @@ use Rattle.std.specs.List.{AllByRecursion}
 use Rattle.thf_syntax.specs.Trees.{AnnotatedTree, SelectedTree, StatementTree, annotated, include}
 use Rattle.thf_parse.specs.declared.parser.TheConstants.{MAX_DEPTH}
 use Rattle.thf_parse.specs.Printable.{DeclaresPrintable, DeclaredArePrintable, BodyDeclaresPrintable}
-use Rattle.thf_parse.proofs.PrintableLaws.{declared_printable}
+use Rattle.thf_parse.proofs.PrintableLaws.{declared-printable}
 use Rattle.thf_include.specs.View.{PlacedTree}
 use Rattle.thf_include.specs.Gathering.{Ending, done, stopped, behind, is_selected, is_missing, select_by, select, FileEnds, unread, long, refused, followed, StatementEnds, stays, in_cycle, past_limit, stops, selects, StatementsEnd, no_more, ends, goes_on}
 use Rattle.satallax_top.specs.Runnable.{DeclarePrintable}
@@ -24,11 +24,11 @@ behind_printable ss (stopped why) h k = tt
 
 filter_printable : (p : PlacedTree → Bool) (ss : List PlacedTree) → DeclarePrintable ss → DeclarePrintable (filter p ss)
 filter_printable p [] h = tt
-filter_printable p (s ∷ ss) h = go (p s)
+filter_printable p (s ∷ ss) h = go (p s) (filter_printable p ss h.1)
   where
-    go : (b : Bool) → DeclarePrintable (cond b (s ∷ filter p ss) (filter p ss))
-    go true = (h.0, filter_printable p ss h.1)
-    go false = filter_printable p ss h.1
+    go : (b : Bool) → DeclarePrintable (filter p ss) → DeclarePrintable (cond b (s ∷ filter p ss) (filter p ss))
+    go true rest = (h.0, rest)
+    go false rest = rest
 
 select_printable : (file : ℕ) (only : Option (List SelectedTree)) (ss : List PlacedTree) → DeclarePrintable ss → EndsPrintable (select file only ss)
 select_printable file None ss h = h
@@ -45,7 +45,7 @@ module _ (texts : List (List ℕ)) where
     file_printable chain file name opened ending (long chain' file' name' l m) = tt
     file_printable chain file name opened ending (refused chain' file' at name' text g l r) = tt
     file_printable chain file name opened ending (followed chain' opened' file' name' text tree ending' g l t e) =
-        statements_printable (name' ∷ chain') file' (file' + 1) tree opened' ending' (declared_printable text t.tokens MAX_DEPTH tree t.read t.parsed) e
+        statements_printable (name' ∷ chain') file' (file' + 1) tree opened' ending' (declared-printable text t.tokens MAX_DEPTH tree t.read t.parsed) e
 
     statement_printable : (chain : List (List ℕ)) (file next : ℕ) (s : StatementTree) (opened : List (List ℕ)) (ending : Ending) → DeclaresPrintable s → StatementEnds texts chain file next s opened ending → EndsPrintable ending
     statement_printable chain file next s opened ending h (stays chain' file' next' a) = (h, tt)
