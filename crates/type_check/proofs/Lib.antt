@@ -1,6 +1,13 @@
+pub mod DeclaredNames
+pub mod TypedProblems
 mod BinderLaws
-mod LiftLaws
+mod DeclaredTypes
 mod Maps
+mod MoreDeclared
+mod OutcomeLaws
+mod ProblemLaws
+mod RowTypes
 mod StatementLaws
 mod Symbols
 mod TreeSizes
+mod TypedTerms

@@ -17,7 +17,7 @@ position_push-other : {X : Type 0} (p : X → Bool) (xs : List X) (y : X) → p 
 position_push-other p xs y e = grind (arith, common_steps, position_or_len_push p xs y, prefix_len-le-length (λ x. not (p x)) xs)
 
 -- a name that stands for nothing stands in neither list
-fresh : (a b : Option ℕ) → first_symbol a b ≡ None → (a ≡ None) × (b ≡ None)
+pub fresh : (a b : Option ℕ) → first_symbol a b ≡ None → (a ≡ None) × (b ≡ None)
 fresh None None h = (refl, refl)
 fresh None (Some i) h = cc
 fresh (Some i) b h = cc

@@ -4,10 +4,10 @@ pub mod Declarations
 pub mod Types
 pub mod Typed
 pub mod TypedView
-pub mod Lift
 pub mod Rows
 pub mod Terms
 pub mod ScopeView
 pub mod Statements
 pub mod ReadingView
+pub mod TypedProblem
 pub mod Checks
