@@ -1,0 +1,6 @@
+mod LeastLaws
+mod NameLaws
+mod OkLaws
+mod TermLaws
+mod StatementLaws
+pub mod FormLaws

@@ -1,0 +1,8 @@
+//! Which statements of a problem the run takes: those whose formulas become propositional ones.
+#![tactic(auto)]
+
+mod first;
+mod law;
+
+pub use first::first_unbuilt;
+pub use law::built_formulas_are_propositional;
