@@ -1,5 +1,6 @@
 mod LeastLaws
 mod NameLaws
+mod ShapeLaws
 mod OkLaws
 mod TermLaws
 mod StatementLaws

@@ -1,5 +1,6 @@
 -- Sets of names, and the names of the first constants.
 use Rattle.std.proofs.Common.{◌≡◌, ℕ, ◌+◌, Bool, true, false, cond, ◌&&◌, ◌||◌, List, [], ◌∷◌, ◌++◌, Some, take, slice_get, refl, sym, ap, ap₂, ◌∙◌}
+use Rattle.std.proofs.lemmas.Bool.{and_right}
 use Rattle.std.proofs.lemmas.List.Folds.{list_any-append}
 use Rattle.std.proofs.lemmas.Map.Text.{is_eq-slice_cmp}
 use Rattle.std.specs.Borrow.{Bor}
@@ -31,3 +32,23 @@ names_formula-more consts i c name h =
     ap (list_any test) (take_got consts i c h)
     ∙ list_any-append test (take i consts) (c ∷ [])
     ∙ ap (λ b. names_formula (take i consts) name || b) (or-none (test c))
+
+-- the set has the names of one constant more
+module _ (consts : List TypedName) (i : ℕ) (c : TypedName) (at : slice_get consts i ≡ Some c) (old : BTreeSet (Bor (List ℕ))) (same : (name : List ℕ) → has_name old name ≡ names_formula (take i consts) name) where
+  pub has_name-kept : same_type c.type formula ≡ false → (name : List ℕ) → has_name old name ≡ names_formula (take (i + 1) consts) name
+  has_name-kept h name =
+      same name ∙ sym (names_formula-more consts i c name at ∙ ap (λ b. names_formula (take i consts) name || b) (and_right (bytes_eq c.name name) (same_type c.type formula) h) ∙ or-none (names_formula (take i consts) name))
+
+  pub has_name-more : (new : BTreeSet (Bor (List ℕ))) (key : Bor (List ℕ)) → key.now ≡ c.name → same_type c.type formula ≡ true → Updates (λ x y. slice_cmp nat_cmp x.now y.now) old new key true
+      → (name : List ℕ) → has_name new name ≡ names_formula (take (i + 1) consts) name
+  has_name-more new key n h u name =
+      has_name-inserted old new key u name
+      ∙ ap₂ (λ k b. cond (bytes_eq k name) true b) n (same name)
+      ∙ added (bytes_eq c.name name) (same_type c.type formula) (names_formula (take i consts) name) h
+      ∙ sym (names_formula-more consts i c name at)
+    where
+      added : (a b d : Bool) → b ≡ true → cond a true d ≡ (d || (a && b))
+      added true b true h = refl
+      added true b false h = sym h
+      added false b true h = refl
+      added false b false h = refl

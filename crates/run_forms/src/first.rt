@@ -6,6 +6,9 @@ ghost use Rattle.type_check.specs.Checks.{the_problem};
 ghost use Rattle.type_check.specs.Statements.{problem_of};
 ghost use Rattle.run_forms.specs.Forms as defined;
 
+use crate::names::formula_names;
+use crate::place::least_place;
+use crate::shape::first_unbuilt_shape;
 use std::alloc::{AllocError, Global};
 use stt_core::Problem;
 use thf_include::Gathered;
@@ -22,5 +25,11 @@ pub fn first_unbuilt(
     requires { problem_of (the_statements gathered.now) ≡ Ok (the_problem problem.now) }
     ensures { IfOk result (λ place. place ≡ defined.first_unbuilt problem.now.signature.consts (the_statements gathered.now)) }
 {
-    Err(AllocError)
+    match first_unbuilt_shape(gathered) {
+        Some(tree) => {
+            let names = formula_names(alloc, &problem.signature.consts)?;
+            Ok(least_place(&names, tree))
+        }
+        None => Ok(None),
+    }
 }

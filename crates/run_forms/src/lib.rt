@@ -3,6 +3,11 @@
 
 mod first;
 mod law;
+mod names;
+mod place;
+mod shape;
+#[cfg(test)]
+mod tests;
 
 pub use first::first_unbuilt;
 pub use law::built_formulas_are_propositional;
