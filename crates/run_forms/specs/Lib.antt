@@ -1,0 +1,4 @@
+pub mod Least
+pub mod Forms
+pub mod Names
+pub mod Propositional
