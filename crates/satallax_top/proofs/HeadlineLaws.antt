@@ -10,10 +10,10 @@ use Rattle.thf_include.specs.View.{PlacedTree}
 use Rattle.thf_include.specs.Gathering.{Ending, done, stopped, Stop, wants, too_long, no_tree, cycle, too_many, no_name}
 use Rattle.type_check.specs.Statements.{ReadProblem, problem_of}
 use Rattle.type_check.specs.TypedProblem.{question_of, IsTyped}
-use Rattle.type_check.proofs.TypedProblem.{problem_of-typed}
+use Rattle.type_check.proofs.TypedProblems.{problem_of-typed}
 use Rattle.run_forms.specs.Forms.{first_unbuilt}
 use Rattle.run_forms.specs.Propositional.{AllPropositional}
-use Rattle.run_forms.proofs.PropositionalLaws.{built-propositional}
+use Rattle.run_forms.proofs.FormLaws.{built_formulas_are_propositional}
 use Rattle.refute_text.specs.Text.{text_lines, as_bytes}
 use Rattle.refute_text.specs.Named.{named_refutation}
 use Rattle.satallax_top.specs.Block.{start_mark, end_mark, begins_with, has_line_feed, HoldsText}
@@ -45,7 +45,7 @@ ends_proved : (ss : List PlacedTree) (p : ReadProblem) (n : â„•) (text : List â„
 ends_proved ss p n text read built proof = record {
   stated = record { statements = ss; gathered = refl; read = read };
   typed = problem_of-typed ss p read;
-  propositional = built-propositional ss p read built;
+  propositional = built_formulas_are_propositional ss p read built;
   proof = proof;
 }
 

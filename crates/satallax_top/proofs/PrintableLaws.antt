@@ -1,16 +1,26 @@
 -- The names that a problem's statements declare are printable.
 use Rattle.std.proofs.Common.{◌≡◌, ℕ, Bool, true, false, List, [], ◌∷◌, ◌++◌, filter, find, cond, Option, Some, None}
 use Rattle.std.specs.List.{AllByRecursion}
-use Rattle.thf_syntax.specs.Trees.{AnnotatedTree, SelectedTree, StatementTree, annotated, include}
+use Rattle.std.proofs.lemmas.List.Elements.{All-from_recursion}
+use Rattle.thf_syntax.specs.Trees.{BodyTree, base, typing, formula, AnnotatedTree, SelectedTree, StatementTree, annotated, include}
 use Rattle.thf_parse.specs.declared.parser.TheConstants.{MAX_DEPTH}
-use Rattle.thf_parse.specs.Printable.{DeclaresPrintable, DeclaredArePrintable, BodyDeclaresPrintable}
+use Rattle.thf_parse.specs.Printable.{IsPrintable, BodyDeclaresPrintable, DeclaresPrintable, DeclaredArePrintable}
 use Rattle.thf_parse.proofs.PrintableLaws.{declared-printable}
 use Rattle.thf_include.specs.View.{PlacedTree}
-use Rattle.thf_include.specs.Gathering.{Ending, done, stopped, behind, is_selected, is_missing, select_by, select, FileEnds, unread, long, refused, followed, StatementEnds, stays, in_cycle, past_limit, stops, selects, StatementsEnd, no_more, ends, goes_on}
-use Rattle.satallax_top.specs.Runnable.{DeclarePrintable}
+use Rattle.thf_include.specs.Gathering.{Ending, done, stopped, behind, is_selected, is_missing, select_by, select, FileEnds, unread, long, refused, followed, StatementEnds, stays, in_cycle, past_limit, stops, selects, StatementsEnd, no_more, ends, goes_on, IsGathering}
+use Rattle.type_check.specs.TypedProblem.{IsDeclaredWith, AllDeclared}
+
+-- each name that a statement declares is printable
+abbrev DeclarePrintable : List PlacedTree → Type 0
+DeclarePrintable statements = AllByRecursion (λ (s : PlacedTree). IsDeclaredWith IsPrintable s.statement.body) statements
+
+body_printable : (b : BodyTree) → BodyDeclaresPrintable b → IsDeclaredWith IsPrintable b
+body_printable (base at name) h = h
+body_printable (typing at name ty) h = h
+body_printable (formula tree) h = tt
 
 -- the statements that are gathered declare printable names
-abbrev pub EndsPrintable : Ending → Type 0
+abbrev EndsPrintable : Ending → Type 0
 EndsPrintable (done ss) = DeclarePrintable ss
 EndsPrintable (stopped why) = Unit {0}
 
@@ -40,7 +50,7 @@ select_printable file (Some only) ss h = go (find (is_missing ss) only)
 
 module _ (texts : List (List ℕ)) where
   mutual
-    pub file_printable : (chain : List (List ℕ)) (file : ℕ) (name : List ℕ) (opened : List (List ℕ)) (ending : Ending) → FileEnds texts chain file name opened ending → EndsPrintable ending
+    file_printable : (chain : List (List ℕ)) (file : ℕ) (name : List ℕ) (opened : List (List ℕ)) (ending : Ending) → FileEnds texts chain file name opened ending → EndsPrintable ending
     file_printable chain file name opened ending (unread chain' file' name' l) = tt
     file_printable chain file name opened ending (long chain' file' name' l m) = tt
     file_printable chain file name opened ending (refused chain' file' at name' text g l r) = tt
@@ -48,7 +58,7 @@ module _ (texts : List (List ℕ)) where
         statements_printable (name' ∷ chain') file' (file' + 1) tree opened' ending' (declared-printable text t.tokens MAX_DEPTH tree t.read t.parsed) e
 
     statement_printable : (chain : List (List ℕ)) (file next : ℕ) (s : StatementTree) (opened : List (List ℕ)) (ending : Ending) → DeclaresPrintable s → StatementEnds texts chain file next s opened ending → EndsPrintable ending
-    statement_printable chain file next s opened ending h (stays chain' file' next' a) = (h, tt)
+    statement_printable chain file next s opened ending h (stays chain' file' next' a) = (body_printable a.body h, tt)
     statement_printable chain file next s opened ending h (in_cycle chain' file' next' at name only c) = tt
     statement_printable chain file next s opened ending h (past_limit chain' file' next' at name only c l) = tt
     statement_printable chain file next s opened ending h (stops chain' opened' file' next' at name only why c l e) = tt
@@ -60,3 +70,8 @@ module _ (texts : List (List ℕ)) where
     statements_printable chain file next tree opened ending h (ends chain' opened' file' next' s later why e) = tt
     statements_printable chain file next tree opened ending h (goes_on chain' opened' others file' next' s later front ending' e f) =
         behind_printable front ending' (statement_printable chain' file' next' s opened' (done front) h.0 e) (statements_printable chain' file' (next' + length opened') later others ending' h.1 f)
+
+-- the statements that are gathered from a file declare printable names
+pub gathered_printable : (texts : List (List ℕ)) (name : List ℕ) (names : List (List ℕ)) (ss : List PlacedTree) → IsGathering texts name names (done ss) → AllDeclared IsPrintable ss
+gathered_printable texts name names ss h =
+    All-from_recursion (λ (s : PlacedTree). IsDeclaredWith IsPrintable s.statement.body) ss (file_printable texts [] 0 name names (done ss) h)

@@ -1,6 +1,7 @@
 -- The start of a problem of names, falsity, negations and implications.
-use Rattle.std.proofs.Common.{◌≡◌, ℕ, zero, suc, ◌<◌, Bool, true, false, List, [], ◌∷◌, ◌++◌, map, Option, Some, None, option_map, Contains, ◌⊎◌, inl, inr, ⊎_elim, refl, sym, ap, ap₂, subst, if◌then◌else◌, arith}
-use Rattle.std.proofs.lemmas.List.Elements.{Contains-push_cases}
+use Rattle.std.proofs.Common.{◌≡◌, ℕ, zero, suc, ◌<◌, Bool, true, false, List, [], ◌∷◌, ◌++◌, map, Option, Some, None, option_map, IfSome, Contains, ◌⊎◌, inl, inr, ⊎_elim, refl, sym, ap, ap₂, subst, if◌then◌else◌, arith}
+use Rattle.std.specs.List.{AllByRecursion as Every}
+use Rattle.std.proofs.lemmas.List.Elements.{Contains-push_cases, recursion_from_All}
 use Rattle.stt_core.specs.SimpleType.{formula}
 use Rattle.stt_core.specs.Lambda.{Lambda}
 use Rattle.stt_core.specs.Typing.{Scope}
@@ -23,11 +24,6 @@ use Rattle.prover_search.proofs.SearchedLaws.{added-different}
 use Rattle.satallax_top.specs.Runnable.{ArePrintable, names_in, IsRunnable}
 use Rattle.satallax_top.specs.NormalQuestion.{normal_in, normal_question}
 use Rattle.satallax_top.proofs.PropositionalLaws.{canonical-propositional, propositional-literal, unnamed-literal, unsigned-literal}
-
--- every element of the list has the property
-abbrev Every : {A : Type 0} → (A → Type 0) → List A → Type 0
-Every P [] = Unit {0}
-Every P (x ∷ xs) = P x × Every P xs
 
 every_each : {A : Type 0} (P : A → Type 0) (xs : List A) → Each P xs → Every P xs
 every_each P [] h = tt
@@ -95,13 +91,13 @@ run_formulas : (scope : Scope) (ts : List Lambda) → Every IsPropositional ts �
 run_formulas scope [] h k = tt
 run_formulas scope (t ∷ ts) h k = ((h.0, k.0), run_formulas scope ts h.1 k.1)
 
-run_formula_if_there : (scope : Scope) (o : Option Lambda) → IfThere IsPropositional o → IsFormulaIfThere scope o → IfThere (IsRunFormula scope) o
+run_formula_if_there : (scope : Scope) (o : Option Lambda) → IfSome o IsPropositional → IsFormulaIfThere scope o → IfThere (IsRunFormula scope) o
 run_formula_if_there scope None h k = tt
 run_formula_if_there scope (Some t) h k = (h, k)
 
 module _ (p : ReadProblem) (typed : IsTyped (question_of p)) (g : AllPropositional p) where
   assumed : Every (IsRunFormula (question_of p).scope) p.assumed
-  assumed = run_formulas (question_of p).scope p.assumed g.assumed typed.assumed
+  assumed = run_formulas (question_of p).scope p.assumed (recursion_from_All IsPropositional p.assumed g.assumed) typed.assumed
 
   conjecture : IfThere (IsRunFormula (question_of p).scope) p.conjecture
   conjecture = run_formula_if_there (question_of p).scope p.conjecture g.conjecture typed.conjecture

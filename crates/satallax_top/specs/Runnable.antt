@@ -1,10 +1,8 @@
 -- Problems that are run.
-use Rattle.std.specs.Prelude.{List, ℕ}
 use Rattle.std.specs.List.{AllByRecursion}
 use Rattle.stt_tableau.specs.Literals.{IsBranch}
 use Rattle.stt_tableau.specs.Start.{start}
-use Rattle.thf_parse.specs.Printable.{IsPrintable, BodyDeclaresPrintable}
-use Rattle.thf_include.specs.View.{PlacedTree}
+use Rattle.thf_parse.specs.Printable.{IsPrintable}
 use Rattle.type_check.specs.Statements.{ReadProblem}
 use Rattle.type_check.specs.TypedProblem.{question_of, IsTyped}
 use Rattle.refute_text.specs.Named.{Names, names_of}
@@ -14,10 +12,6 @@ use Rattle.satallax_top.specs.NormalQuestion.{normal_question}
 -- the names that a problem declares, as the texts of refutations have them
 abbrev pub names_in : ReadProblem → Names
 names_in p = names_of p.declared.bases p.declared.consts
-
--- each name that a statement declares is printable
-abbrev pub DeclarePrintable : List PlacedTree → Type 0
-DeclarePrintable statements = AllByRecursion (λ (s : PlacedTree). BodyDeclaresPrintable s.statement.body) statements
 
 pub record ArePrintable (names : Names) : Type 0 where
   pub bases : AllByRecursion IsPrintable names.bases

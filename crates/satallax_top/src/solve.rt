@@ -2,13 +2,15 @@
 
 ghost use Rattle.std.specs.Prelude.{◌≡◌, ◌<◌, ◌-◌, ◌^◌, Ok, length, [], IfOk};
 ghost use Rattle.stt_tableau.specs.Start.{start};
+ghost use Rattle.thf_parse.specs.Printable.{IsPrintable};
 ghost use Rattle.thf_include.specs.View.{the_statements};
 ghost use Rattle.type_check.specs.Checks.{the_problem};
 ghost use Rattle.type_check.specs.Statements.{problem_of};
+ghost use Rattle.type_check.specs.TypedProblem.{AllDeclared};
 ghost use Rattle.prover_search.specs.Ended.{EndsAs};
 ghost use Rattle.prover_search.specs.declared.commands.TheConstants.{MAX_COMMANDS};
 ghost use Rattle.satallax_top.specs.NormalQuestion.{normal_question};
-ghost use Rattle.satallax_top.specs.Runnable.{IsRunnable, DeclarePrintable};
+ghost use Rattle.satallax_top.specs.Runnable.{IsRunnable};
 ghost use Rattle.satallax_top.specs.Answers.{IsProvedFor, IsSolvedFor, AnswersStatements};
 
 use crate::outcome::{FileRef, Outcome};
@@ -98,10 +100,10 @@ fn solve_stated(
     problem: &Problem,
 ) -> Result<Answer, AllocError>
     requires read { problem_of (the_statements gathered.now) ≡ Ok (the_problem problem.now) }
-    requires printable { DeclarePrintable (the_statements gathered.now) }
+    requires printable { AllDeclared IsPrintable (the_statements gathered.now) }
     ensures { IfOk result (λ a. AnswersStatements (the_statements gathered.now) a.outcome a.commands a.text) }
 {
-    match first_unbuilt(alloc, &problem.signature, gathered)? {
+    match first_unbuilt(alloc, problem, gathered)? {
         Some(at) => Ok(Answer::plain(alloc, Outcome::NotYetAt { at }, 0)),
         None => Ok(solve_problem(alloc, problem)?),
     }
@@ -110,7 +112,7 @@ fn solve_stated(
 /// The answer for the statements of a problem.
 pub(crate) fn solve(alloc: Global, gathered: &Gathered) -> Answer
     requires few { length gathered.now < 2 ^ 32 - 2 }
-    requires printable { DeclarePrintable (the_statements gathered.now) }
+    requires printable { AllDeclared IsPrintable (the_statements gathered.now) }
     ensures { AnswersStatements (the_statements gathered.now) result.outcome result.commands result.text }
 {
     match check(alloc, gathered) {
