@@ -1,5 +1,5 @@
 -- The names that a problem's statements declare are printable.
-use Rattle.std.proofs.Common.{◌≡◌, ℕ, Bool, true, false, List, [], ◌∷◌, ◌++◌, filter, find, cond, Option, Some, None}
+use Rattle.std.proofs.Common.{◌≡◌, ◌+◌, ℕ, Bool, true, false, List, [], ◌∷◌, ◌++◌, length, filter, find, cond, Option, Some, None}
 use Rattle.std.specs.List.{AllByRecursion}
 use Rattle.std.proofs.lemmas.List.Elements.{All-from_recursion}
 use Rattle.thf_syntax.specs.Trees.{BodyTree, base, typing, formula, AnnotatedTree, SelectedTree, StatementTree, annotated, include}

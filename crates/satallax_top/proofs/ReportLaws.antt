@@ -2,7 +2,7 @@
 use Rattle.std.proofs.Common.{◌≡◌, ℕ, List, [], ◌∷◌, ◌++◌, codes, refl, ap, ◌∙◌, append_assoc}
 use Rattle.refute_text.specs.Text.{as_bytes}
 use Rattle.satallax_top.specs.Block.{start_mark, end_mark}
-use Rattle.satallax_top.specs.Report.{counted_report}
+use Rattle.satallax_top.specs.Report.{headed, counted_report}
 
 -- lines, and what follows them
 abbrev lines_then : List (List ℕ) → List ℕ → List ℕ
@@ -17,3 +17,18 @@ pub counted_report-pieces : (status name count text : List ℕ) → counted_repo
 counted_report-pieces status name count text =
     as_bytes-append ((status ++ name) ∷ (codes "% commands " ++ count) ∷ (start_mark ++ name) ∷ []) (text ++ as_bytes ((end_mark ++ name) ∷ []))
     ∙ append_assoc status name _
+
+headed-pieces : (status name word what : List ℕ) → headed status name word what ≡ status ++ (name ++ (codes "\n" ++ (word ++ (what ++ codes "\n"))))
+headed-pieces status name word what =
+    append_assoc status name (10 ∷ ((word ++ what) ++ codes "\n")) ∙ ap (λ x. status ++ (name ++ (10 ∷ x))) (append_assoc word what (codes "\n"))
+
+pub place-pieces : (status name word file count : List ℕ) → headed status name word (file ++ (codes " " ++ count)) ≡ status ++ (name ++ (codes "\n" ++ (word ++ (file ++ (codes " " ++ (count ++ (codes "\n" ++ [])))))))
+place-pieces status name word file count =
+    headed-pieces status name word (file ++ (codes " " ++ count))
+    ∙ ap (λ x. status ++ (name ++ (codes "\n" ++ (word ++ x)))) (append_assoc file (codes " " ++ count) (codes "\n"))
+
+pub place_why-pieces : (status name word file count why : List ℕ) → headed status name word ((file ++ (codes " " ++ count)) ++ (codes " " ++ why)) ≡ status ++ (name ++ (codes "\n" ++ (word ++ (file ++ (codes " " ++ (count ++ (codes " " ++ (why ++ (codes "\n" ++ [])))))))))
+place_why-pieces status name word file count why =
+    headed-pieces status name word ((file ++ (codes " " ++ count)) ++ (codes " " ++ why))
+    ∙ ap (λ x. status ++ (name ++ (codes "\n" ++ (word ++ x))))
+    (append_assoc (file ++ (codes " " ++ count)) (codes " " ++ why) (codes "\n") ∙ append_assoc file (codes " " ++ count) (codes " " ++ (why ++ codes "\n")))

@@ -33,7 +33,7 @@ module _ (p : ReadProblem) (n : ℕ) (refutation : Refutation) (r : IsRunnable p
     accepted = e.1 (question_of p).scope r.typed;
     is_text = t;
     no_line_feeds = no_line_feeds-lines (names_in p) r.printable refutation;
-    no_end_mark = no_end_mark-lines (names_in p) refutation;
+    no_end_mark = no_end_mark-lines (names_in p) r.printable refutation;
   }
 
 -- the outcome of a problem that is proved, with the text of its refutation

@@ -33,9 +33,14 @@ pub enum Outcome {
     /// No command is left, and nothing is proved.
     GaveUp,
     /// The limit of commands is reached.
-    CommandLimit { commands: u32 },
+    CommandLimit {
+        commands: u32,
+    },
     /// The file's tokens are wrong at this one, or too much is open there.
-    SyntaxAt { file: FileRef, at: u32 },
+    SyntaxAt {
+        file: FileRef,
+        at: u32,
+    },
     /// The statement has no meaning, from this place on.
     TypeAt {
         file: FileRef,
@@ -51,11 +56,17 @@ pub enum Outcome {
     /// The words aren't one name of a file.
     Words,
     /// With this file, the files have more than 16,777,216 bytes together.
-    TooLong { file: FileRef },
+    TooLong {
+        file: FileRef,
+    },
     /// The form at this place isn't run yet.
-    NotYetAt { at: u32 },
+    NotYetAt {
+        at: u32,
+    },
     /// The file can't be read.
-    ReadFault { file: FileRef },
+    ReadFault {
+        file: FileRef,
+    },
     /// The report can't be written.
     WriteFault,
     /// Memory ran out.

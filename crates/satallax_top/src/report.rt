@@ -1,6 +1,6 @@
 //! Writes the report of a call. It takes no memory.
 
-ghost use Rattle.std.specs.Prelude.{◌≡◌, ◌≤◌, ◌++◌, List, ℕ, OnOk, OnErr, IsTrue, decimal};
+ghost use Rattle.std.specs.Prelude.{◌≡◌, ◌≤◌, ◌++◌, List, ℕ, OnOk, OnErr, IsTrue, codes, decimal};
 ghost use Rattle.outside.specs.Causes.{Rose};
 ghost use Rattle.outside.specs.Prefix.{AppendsProperly};
 ghost use Rattle.satallax_top.specs.Report.{headed, counted_report, proof_report, file_name, place_in, ill_word, include_word, refused_in, report};
@@ -152,6 +152,25 @@ fn file_name(names: &FileNames, file: FileRef) -> &[u8]
     }
 }
 
+/// Writes the pieces of the report of a place of a file, in digits.
+fn write_place<S: Sink>(
+    out: &mut S,
+    status: &[u8],
+    name: &[u8],
+    word: &[u8],
+    file: &[u8],
+    digits: &[u8],
+) -> Result<(), Failed>
+    ensures appended { OnOk result (IsTrue (S.tells out.old)
+        → S.written out.new ≡ S.written out.old ++ headed status.now name.now word.now (file.now ++ (codes " " ++ digits.now))) }
+    ensures failed { OnErr result (IsTrue (S.tells out.old)
+        → AppendsProperly (S.written out.old) (S.written out.new) (headed status.now name.now word.now (file.now ++ (codes " " ++ digits.now)))) }
+    ensures cause { OnErr result (Rose (S.faults out.old) (S.faults out.new)) }
+    ensures later { S.faults out.old ≤ S.faults out.new }
+{
+    write_pieces(out, &[status, name, b"\n", word, file, b" ", digits, b"\n"])
+}
+
 /// Writes the report of a wrong token of a file.
 fn write_syntax<S: Sink>(
     out: &mut S,
@@ -170,13 +189,43 @@ fn write_syntax<S: Sink>(
     let mut buffer = Buffer::new();
     let digits = buffer.format(at).as_bytes();
     let file = file_name(names, file);
+    write_place(out, SYNTAX_ERROR, name, b"% syntax ", file, digits)
+}
+
+/// Writes the pieces of the report of a place of a file that is refused, in digits, and why it is.
+fn write_place_why<S: Sink>(
+    out: &mut S,
+    name: &[u8],
+    word: &[u8],
+    file: &[u8],
+    digits: &[u8],
+    why: &[u8],
+) -> Result<(), Failed>
+    ensures appended { OnOk result (IsTrue (S.tells out.old)
+        → S.written out.new ≡ S.written out.old ++ headed (codes "% SZS status InputError for ") name.now word.now ((file.now ++ (codes " " ++ digits.now)) ++ (codes " " ++ why.now))) }
+    ensures failed { OnErr result (IsTrue (S.tells out.old)
+        → AppendsProperly (S.written out.old) (S.written out.new) (headed (codes "% SZS status InputError for ") name.now word.now ((file.now ++ (codes " " ++ digits.now)) ++ (codes " " ++ why.now)))) }
+    ensures cause { OnErr result (Rose (S.faults out.old) (S.faults out.new)) }
+    ensures later { S.faults out.old ≤ S.faults out.new }
+{
     write_pieces(
         out,
-        &[SYNTAX_ERROR, name, b"\n% syntax ", file, b" ", digits, b"\n"],
+        &[
+            INPUT_ERROR,
+            name,
+            b"\n",
+            word,
+            file,
+            b" ",
+            digits,
+            b" ",
+            why,
+            b"\n",
+        ],
     )
 }
 
-/// Writes the report of a place of a file that is refused, and why.
+/// Writes the report of a place of a file that is refused, and why it is.
 fn write_refused<S: Sink>(
     out: &mut S,
     name: &[u8],
@@ -194,21 +243,7 @@ fn write_refused<S: Sink>(
 {
     let mut buffer = Buffer::new();
     let digits = buffer.format(at).as_bytes();
-    write_pieces(
-        out,
-        &[
-            INPUT_ERROR,
-            name,
-            b"\n",
-            word,
-            file,
-            b" ",
-            digits,
-            b" ",
-            why,
-            b"\n",
-        ],
-    )
+    write_place_why(out, name, word, file, digits, why)
 }
 
 /// Writes the report of an ill place of a file.

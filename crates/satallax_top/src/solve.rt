@@ -94,11 +94,7 @@ fn solve_problem(alloc: Global, problem: &Problem) -> Result<Answer, AllocError>
 }
 
 /// The answer for statements that state a problem.
-fn solve_stated(
-    alloc: Global,
-    gathered: &Gathered,
-    problem: &Problem,
-) -> Result<Answer, AllocError>
+fn solve_stated(alloc: Global, gathered: &Gathered, problem: &Problem) -> Result<Answer, AllocError>
     requires read { problem_of (the_statements gathered.now) ≡ Ok (the_problem problem.now) }
     requires printable { AllDeclared IsPrintable (the_statements gathered.now) }
     ensures { IfOk result (λ a. AnswersStatements (the_statements gathered.now) a.outcome a.commands a.text) }

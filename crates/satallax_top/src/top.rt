@@ -48,12 +48,7 @@ fn include_at(file: u32, at: u32, why: IncludeWhy) -> Outcome
 }
 
 /// The answer of a call, before it is reported. The names are those of the files that are opened.
-fn answer<F: Files>(
-    alloc: Global,
-    words: &Words,
-    files: &mut F,
-    names: &mut FileNames,
-) -> Answer
+fn answer<F: Files>(alloc: Global, words: &Words, files: &mut F, names: &mut FileNames) -> Answer
     requires { names.old ≡ [] }
     ensures answer { IsAnswer words.now (F.tells files.old) (F.contents files.old) result.outcome names.new result.commands result.text }
     ensures read { (k : ℕ) → result.outcome ≡ Outcome.ReadFault (Part k)
