@@ -22,10 +22,11 @@ use Rattle.satallax_top.specs.Words.{is_control, is_file_name, is_option, proble
 use Rattle.satallax_top.specs.Files.{OfFiles, Statements, State}
 use Rattle.satallax_top.specs.Runnable.{names_in}
 use Rattle.satallax_top.specs.NormalQuestion.{normal_question}
-use Rattle.satallax_top.specs.Answers.{IsProofOf, IsRun, stop_outcome, AnswersEnding, IsAnswer, IsProvedOutcome}
+use Rattle.satallax_top.specs.Answers.{IsProofOf, stop_outcome, AnswersEnding, IsAnswer, IsProvedOutcome, IsDefined}
 use Rattle.satallax_top.specs.Headline.{IsWithoutModel, HasNoModel, IsProofReport, Appends, IsWritten}
 use Rattle.satallax_top.specs.declared.outcome.Outcome.{Outcome}
-use Rattle.satallax_top.specs.declared.outcome.Outcome.TheVariants.{Theorem, Unsatisfiable, WriteFault}
+use Rattle.satallax_top.specs.declared.outcome.Outcome.TheVariants.{Theorem, Unsatisfiable, Words, ReadFault, WriteFault, Memory}
+use Rattle.satallax_top.specs.declared.outcome.FileRef.TheVariants.{Part}
 use Rattle.satallax_top.proofs.LineFeeds.{no_feed-append, decimal_no_feed}
 use Rattle.satallax_top.proofs.ProblemLaws.{start_unnamed, start_met}
 
@@ -225,3 +226,11 @@ proof_appended words told contents o names n text old new a w h =
 -- a report by the name and the text that were handed on
 pub report_at : (o : Outcome) (names : List (List ℕ)) (n : ℕ) (name other text own old new : List ℕ) → name ≡ other → text ≡ own → new ≡ old ++ report o name names n text → new ≡ old ++ report o other names n own
 report_at o names n name other text own old new e f w = w ∙ ap₂ (λ x y. old ++ report o x names n y) e f
+
+-- where contents are told, an answer that isn't a fault is the defined one
+pub defined_answer : (words : List (List ℕ)) (told : Bool) (contents : List ℕ → Option (List ℕ)) (o : Outcome) (names : List (List ℕ)) (n : ℕ) (text : List ℕ) → IsAnswer words told contents o names n text → IsTrue told → (name : List ℕ) → problem_word words ≡ Some name → ((k : ℕ) → o ≡ ReadFault (Part k) → ⊥) → IsDefined words contents o
+defined_answer words told contents Memory names n text a t name named f = tt
+defined_answer words told contents Words names n text a t name named f = cc
+defined_answer words told contents (ReadFault (Part k)) names n text a t name named f = absurd (f k refl)
+defined_answer words told contents WriteFault names n text a t name named f = absurd a
+defined_answer words told contents o names n text a t name named f = (names, n, text, subst (λ b. IsAnswer words b contents o names n text) t a)

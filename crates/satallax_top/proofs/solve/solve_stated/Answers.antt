@@ -5,4 +5,5 @@ use Rattle.satallax_top.proofs.StatedLaws.{stated_runnable}
 use Rattle.satallax_top.proofs.solve.solve_stated.Goals as goal
 
 pub solve_problem-requires : goal.solve_problem-requires
-solve_problem-requires c = stated_runnable (the_statements c.args.gathered.now) (the_problem c.args.problem.now) c.requires.read ?a c.requires.printable
+solve_problem-requires c =
+    stated_runnable (the_statements c.args.gathered.now) (the_problem c.args.problem.now) c.requires.read (sym c.in_ok-at.ensures ∙ c.in-None.is) c.requires.printable

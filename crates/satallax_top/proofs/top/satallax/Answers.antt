@@ -1,6 +1,6 @@
 use Rattle.std.proofs.Common.{◌∙◌}
 use Rattle.satallax_top.specs.Words.{name_of}
-use Rattle.satallax_top.proofs.HeadlineLaws.{written_whole, proof_appended, no_model_answer, report_at}
+use Rattle.satallax_top.proofs.HeadlineLaws.{written_whole, proof_appended, no_model_answer, defined_answer, report_at}
 use Rattle.satallax_top.proofs.top.satallax.Goals as goal
 
 pub returns-in-Ok-clause-bytes : goal.returns-in-Ok-clause-bytes
@@ -21,3 +21,9 @@ pub returns-in-Ok-clause-no_model : goal.returns-in-Ok-clause-no_model
 returns-in-Ok-clause-no_model g c =
     let a = c.answer-answer.result in
     no_model_answer c.args.words.now (g.F.Files.tells c.args.files.now) (g.F.Files.contents c.args.files.now) a.outcome c.answer-answer.new.names a.commands a.text c.answer-answer.ensures.answer
+
+pub returns-in-Ok-clause-complete : goal.returns-in-Ok-clause-complete
+returns-in-Ok-clause-complete g c told name named quiet still =
+    let a = c.answer-answer.result in
+    defined_answer c.args.words.now (g.F.Files.tells c.args.files.now) (g.F.Files.contents c.args.files.now) a.outcome c.answer-answer.new.names a.commands a.text c.answer-answer.ensures.answer told name named
+    (λ k e. let h = c.answer-answer.ensures.read k e in quiet h.file h.rose)
