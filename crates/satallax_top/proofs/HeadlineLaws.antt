@@ -2,8 +2,6 @@
 use Rattle.std.proofs.Common.{◌≡◌, ℕ, Bool, true, false, IsTrue, not, ◌||◌, ◌&&◌, ◌==◌, nat_lt, List, [], ◌∷◌, ◌++◌, codes, decimal, Option, Some, None, Ok, unwrap_or, if◌then◌else◌, refl, sym, ap, ap₂, subst, ◌∙◌, append_assoc, append-nil}
 use Rattle.std.specs.List.{list_any}
 use Rattle.std.proofs.lemmas.Bool.{and_parts, eqb-true}
-use Rattle.stt_core.specs.Meaning.{Model, IsModel}
-use Rattle.stt_core.specs.Meets.{MeetsProblem}
 use Rattle.stt_tableau.specs.Start.{start}
 use Rattle.stt_tableau.proofs.Soundness.{accepted_closes_start, accepted_refutes}
 use Rattle.thf_include.specs.View.{PlacedTree}

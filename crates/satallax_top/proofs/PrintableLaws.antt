@@ -1,8 +1,8 @@
 -- The names that a problem's statements declare are printable.
-use Rattle.std.proofs.Common.{◌≡◌, ◌+◌, ℕ, Bool, true, false, List, [], ◌∷◌, ◌++◌, length, filter, find, cond, Option, Some, None}
+use Rattle.std.proofs.Common.{◌+◌, ℕ, Bool, true, false, List, [], ◌∷◌, ◌++◌, length, filter, find, cond, Option, Some, None}
 use Rattle.std.specs.List.{AllByRecursion}
 use Rattle.std.proofs.lemmas.List.Elements.{All-from_recursion}
-use Rattle.thf_syntax.specs.Trees.{BodyTree, base, typing, formula, AnnotatedTree, SelectedTree, StatementTree, annotated, include}
+use Rattle.thf_syntax.specs.Trees.{BodyTree, base, typing, formula, SelectedTree, StatementTree}
 use Rattle.thf_parse.specs.declared.parser.TheConstants.{MAX_DEPTH}
 use Rattle.thf_parse.specs.Printable.{IsPrintable, BodyDeclaresPrintable, DeclaresPrintable, DeclaredArePrintable}
 use Rattle.thf_parse.proofs.PrintableLaws.{declared-printable}
