@@ -1,6 +1,5 @@
 -- The first place of a form that isn't built, and problems without one.
-use Rattle.std.proofs.Common.{◌≡◌, ℕ, Bool, true, false, List, [], ◌∷◌, ◌++◌, Option, Some, None, Ok, refl, sym, ap, subst, ◌∙◌, if◌then◌else◌}
-use Rattle.std.specs.Prelude.{All}
+use Rattle.std.proofs.Common.{◌≡◌, ℕ, Bool, true, false, List, [], ◌∷◌, ◌++◌, Option, Some, None, Ok, refl, ap, subst, ◌∙◌, if◌then◌else◌}
 use Rattle.std.specs.Option.{option_or}
 use Rattle.std.proofs.lemmas.Bool.{and_from}
 use Rattle.std.proofs.lemmas.List.Elements.{All-nil, All-push}
@@ -9,15 +8,14 @@ use Rattle.stt_core.specs.TypedName.{TypedName}
 use Rattle.thf_syntax.specs.Trees.{FormulaTree, constant, variable, truth, operator, negation, binary, equation, application, quantified, binding, BodyTree, base, typing, formula}
 use Rattle.thf_include.specs.View.{PlacedTree}
 use Rattle.prover_search.specs.Searched.{IsPropositional}
-use Rattle.type_check.specs.Declarations.{Declarations}
 use Rattle.type_check.specs.Statements.{ReadProblem, is_conjecture, with_formula, read_body, read_statements, nothing, problem_of}
 use Rattle.run_forms.specs.Least.{least}
 use Rattle.run_forms.specs.Forms.{is_built, names_formula, unless_built, places_by, unbuilt_places, body_places, first_unbuilt, has_built_shape, unbuilt_shape, first_unbuilt_shape}
 use Rattle.run_forms.specs.Propositional.{AllPropositional}
 use Rattle.run_forms.proofs.OkLaws.{same_Ok}
 use Rattle.run_forms.proofs.LeastLaws.{least-none}
-use Rattle.run_forms.proofs.TermLaws.{IsBuilt, read_term-built}
-use Rattle.run_forms.proofs.StatementLaws.{ReadsFirst, read_statements-first, base-read, Declares, typing-read, States, formula-read, names_formula-stays}
+use Rattle.run_forms.proofs.TermLaws.{read_term-built}
+use Rattle.run_forms.proofs.StatementLaws.{read_statements-first, base-read, typing-read, formula-read, names_formula-stays}
 
 -- lists without elements
 append-empty : {A : Type 0} (xs ys : List A) → xs ++ ys ≡ [] → (xs ≡ []) × (ys ≡ [])

@@ -8,10 +8,6 @@ lesser-assoc (Some l) None c = refl
 lesser-assoc (Some l) (Some m) None = refl
 lesser-assoc (Some l) (Some m) (Some n) = let e : min (min l m) n ≡ min l (min m n) = omega arith in ap Some e
 
-lesser-none : (o : Option ℕ) → lesser o None ≡ o
-lesser-none None = refl
-lesser-none (Some n) = refl
-
 pub least_append : (xs ys : List ℕ) → least (xs ++ ys) ≡ lesser (least xs) (least ys)
 least_append [] ys = refl
 least_append (x ∷ xs) ys = ap (lesser (Some x)) (least_append xs ys) ∙ sym (lesser-assoc (Some x) (least xs) (least ys))

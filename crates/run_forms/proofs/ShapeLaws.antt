@@ -1,5 +1,5 @@
 -- The first formula of an unbuilt shape is looked for from one statement to the next.
-use Rattle.std.proofs.Common.{◌≡◌, ℕ, ◌+◌, List, ◌∷◌, Some, option_map, drop, slice_get, ap, ◌∙◌}
+use Rattle.std.proofs.Common.{◌≡◌, ℕ, ◌+◌, List, Some, option_map, drop, slice_get, ap, ◌∙◌}
 use Rattle.std.specs.Option.{option_or}
 use Rattle.std.proofs.lemmas.Option.{slice_get-map}
 use Rattle.stt_core.proofs.ListLaws.{drop_got}

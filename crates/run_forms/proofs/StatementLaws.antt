@@ -1,22 +1,20 @@
 -- What a statement that is read adds to a problem.
-use Rattle.std.proofs.Common.{◌≡◌, ℕ, Bool, true, false, ◌&&◌, ◌||◌, List, [], ◌∷◌, ◌++◌, Result, Ok, Err, refl, sym, ap, subst, ◌∙◌, is_some}
+use Rattle.std.proofs.Common.{◌≡◌, ℕ, Bool, true, false, ◌&&◌, List, [], ◌∷◌, Result, Ok, Err, refl, sym, ap, subst, ◌∙◌, is_some}
 use Rattle.std.specs.Str.{bytes_eq}
-use Rattle.std.specs.List.{list_any}
 use Rattle.std.proofs.lemmas.Bool.{or_left}
 use Rattle.std.proofs.lemmas.List.Folds.{list_any-append}
 use Rattle.stt_core.specs.SimpleType.{SimpleType, formula as formula_type, same_type}
 use Rattle.stt_core.specs.Lambda.{Lambda}
 use Rattle.stt_core.specs.Signature.{symbol_named}
-use Rattle.stt_core.specs.TypedName.{TypedName}
 use Rattle.thf_syntax.specs.Trees.{TypeTree, FormulaTree, BodyTree, base, typing, formula, AnnotatedTree}
 use Rattle.thf_include.specs.View.{PlacedTree}
 use Rattle.type_check.specs.Outcome.{IllPlace, ◌>>=◌}
 use Rattle.type_check.specs.Types.{read_type}
 use Rattle.type_check.specs.Typed.{TypedTerm}
 use Rattle.type_check.specs.Terms.{read_term}
-use Rattle.type_check.specs.Statements.{ReadProblem, IllInFile, is_role, is_conjecture, own_place, where_formula, read_formula, with_base, with_const, with_assumed, with_conjecture, with_formula, where_new, read_body, read_known, read_statement, in_file, read_statements}
+use Rattle.type_check.specs.Statements.{ReadProblem, is_role, is_conjecture, own_place, where_formula, read_formula, with_base, with_const, with_formula, where_new, read_body, read_known, read_statement, in_file, read_statements}
 use Rattle.run_forms.specs.Forms.{names_formula}
-use Rattle.run_forms.proofs.OkLaws.{same_Ok, BothRead, both_read, then_read, else_read}
+use Rattle.run_forms.proofs.OkLaws.{same_Ok, both_read, then_read, else_read}
 
 -- a statement that is read before others
 pub record ReadsFirst (p : ReadProblem) (s : PlacedTree) (statements : List PlacedTree) (r : ReadProblem) : Type 0 where

@@ -1,13 +1,12 @@
 -- What terms are that are read of formulas of a built shape.
-use Rattle.std.proofs.Common.{◌≡◌, ℕ, Bool, true, false, ◌&&◌, List, [], ◌∷◌, ◌++◌, Option, Some, None, Result, Ok, slice_get, option_map, position, refl, sym, ap, ap₂, subst, ◌∙◌, get_or}
+use Rattle.std.proofs.Common.{◌≡◌, ℕ, Bool, true, false, ◌&&◌, List, [], ◌++◌, Option, Some, None, Ok, slice_get, option_map, position, refl, ap, ap₂, subst, ◌∙◌}
 use Rattle.std.specs.Str.{bytes_eq}
-use Rattle.std.specs.List.{list_any}
 use Rattle.std.proofs.lemmas.Bool.{and_parts, and_from}
 use Rattle.std.proofs.lemmas.List.Quantifiers.{position-Some}
 use Rattle.std.proofs.lemmas.Map.Keys.{any_passes_from_place}
 use Rattle.std.proofs.lemmas.Option.{get_or_from_slice_get}
 use Rattle.stt_core.specs.SimpleType.{formula, same_type}
-use Rattle.stt_core.specs.Lambda.{Lambda, constant, name as constant_name, falsity, neg}
+use Rattle.stt_core.specs.Lambda.{Lambda, constant, name as constant_name, neg}
 use Rattle.stt_core.specs.TypedName.{TypedName}
 use Rattle.stt_core.specs.Signature.{symbol_named, first_symbol}
 use Rattle.stt_core.specs.declared.signature.Symbol.{Symbol}
@@ -16,13 +15,13 @@ use Rattle.thf_syntax.specs.Trees.{FormulaTree, constant as name_tree, variable,
 use Rattle.thf_syntax.specs.declared.formula.Conn.{Conn}
 use Rattle.thf_syntax.specs.declared.formula.Conn.TheVariants as conn
 use Rattle.prover_search.specs.Searched.{IsPropositional}
-use Rattle.type_check.specs.Outcome.{IllPlace, ◌>>=◌}
+use Rattle.type_check.specs.Outcome.{◌>>=◌}
 use Rattle.type_check.specs.Declarations.{Declarations}
 use Rattle.type_check.specs.Typed.{TypedTerm, typed, of_type}
 use Rattle.type_check.specs.Rows.{truth_value, join}
 use Rattle.type_check.specs.Terms.{known, constant_at, constant_named, negated, joined, read_term}
 use Rattle.run_forms.specs.Forms.{is_built, names_formula, unless_built, places_by, has_built_shape}
-use Rattle.run_forms.proofs.OkLaws.{same_Ok, BothRead, both_read, then_read}
+use Rattle.run_forms.proofs.OkLaws.{same_Ok, both_read, then_read}
 
 -- the term, where a formula is wanted
 pub record IsFormula (y : TypedTerm) (s : Lambda) : Type 0 where

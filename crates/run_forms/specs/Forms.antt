@@ -1,5 +1,5 @@
--- The nodes of formulas by whether the run takes their form, and the places of those whose form it doesn't take. A form that it takes is
--- built: a name of type `$o`, `$true`, `$false`, and the connectives that negations and implications say.
+-- The nodes of formulas that the run takes, and the places of the others. A node that it takes is of a built form: a name of type `$o`,
+-- `$true`, `$false`, `~`, or one of `=>`, `<=`, `&`, `|`, `~&`, `~|` between two formulas.
 use Rattle.std.specs.Prelude.{ℕ, Bool, true, false, ◌&&◌, List, [], ◌∷◌, ◌++◌, Option, Some, None, if◌then◌else◌}
 use Rattle.std.specs.Option.{option_or}
 use Rattle.std.specs.List.{list_any}

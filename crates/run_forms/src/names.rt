@@ -21,10 +21,7 @@ fn is_formula(consts: &Consts, i: usize) -> bool
 }
 
 /// The names of the constants of type `$o`.
-pub(crate) fn formula_names(
-    alloc: Global,
-    consts: &Consts,
-) -> Result<BTreeSet<&[u8]>, AllocError>
+pub(crate) fn formula_names(alloc: Global, consts: &Consts) -> Result<BTreeSet<&[u8]>, AllocError>
     ensures { IfOk result (λ names. has_name names ≡ names_formula consts.now) }
 {
     let mut names = BTreeSet::new(alloc);

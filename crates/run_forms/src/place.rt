@@ -49,7 +49,10 @@ pub(crate) fn least_place(names: &BTreeSet<&[u8]>, tree: &Surface) -> Option<u32
             lesser(unless_built(is_built(*conn), *at), parts)
         }
         Surface::Equation {
-            at, left, right, ..
+            at,
+            left,
+            right,
+            ..
         } => {
             let parts = lesser(least_place(names, left), least_place(names, right));
             lesser(Some(*at), parts)

@@ -27,7 +27,10 @@ fn has_built_shape(tree: &Surface) -> bool
         Surface::Truth { .. } => true,
         Surface::Not { body, .. } => has_built_shape(body),
         Surface::Binary {
-            conn, left, right, ..
+            conn,
+            left,
+            right,
+            ..
         } => is_built(*conn) && has_built_shape(left) && has_built_shape(right),
         Surface::Var { .. } => false,
         Surface::Op { .. } => false,

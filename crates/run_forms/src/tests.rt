@@ -13,7 +13,8 @@ use thf_syntax::Statement;
 use type_check::{Ill, check};
 
 /// What all problems declare.
-const DECLARED: &str = "thf(d,type,d: $tType). thf(e,type,e: d). thf(a,type,a: $i). thf(b,type,b: $i).
+const DECLARED: &str =
+    "thf(d,type,d: $tType). thf(e,type,e: d). thf(a,type,a: $i). thf(b,type,b: $i).
 thf(p,type,p: $o). thf(q,type,q: $o). thf(r,type,r: $o). thf(pq,type,'p q': $o).
 thf(f,type,f: $i > $o). thf(g,type,g: $o > $o). thf(h,type,h: $o > $o > $o). thf(k,type,k: ( $i > $o ) > $o).";
 
@@ -92,7 +93,10 @@ static TAKEN: [(&str, Option<u32>); 17] = [
     ("thf(x,axiom,p | q | r).", None),
     ("thf(x,axiom,p ~& q).", None),
     ("thf(x,axiom,p ~| q).", None),
-    ("thf(x,axiom,( p & ~ $true ) => ( q | ( r <= $false ) )).", None),
+    (
+        "thf(x,axiom,( p & ~ $true ) => ( q | ( r <= $false ) )).",
+        None,
+    ),
     ("thf(x,conjecture,~ ~ p).", None),
     ("thf(x,type,c: $i > $i).", None),
     ("thf(x,type,c: $tType).", None),
@@ -149,12 +153,24 @@ static LEAST: [(&str, Option<u32>); 16] = [
 
 // Two files: the first statement decides, wherever it stands in its file.
 static FILES: [(&str, &str, Option<u32>); 6] = [
-    ("thf(x,axiom,p & ( q & ( p <=> q ) )).", "thf(y,axiom,f @ a).", Some(26)),
+    (
+        "thf(x,axiom,p & ( q & ( p <=> q ) )).",
+        "thf(y,axiom,f @ a).",
+        Some(26),
+    ),
     ("thf(x,axiom,p).", "thf(y,axiom,f @ a).", Some(12)),
     ("thf(x,axiom,p).", "thf(y,axiom,q).", None),
-    ("thf(x,axiom,p).thf(z,axiom,q <=> r).", "thf(y,axiom,a = b).", Some(29)),
+    (
+        "thf(x,axiom,p).thf(z,axiom,q <=> r).",
+        "thf(y,axiom,a = b).",
+        Some(29),
+    ),
     ("", "thf(y,axiom,p | ( q = r )).", Some(20)),
-    ("thf(x,type,c: $o).", "thf(y,axiom,c => ( g @ c )).", Some(19)),
+    (
+        "thf(x,type,c: $o).",
+        "thf(y,axiom,c => ( g @ c )).",
+        Some(19),
+    ),
 ];
 
 #[test]
