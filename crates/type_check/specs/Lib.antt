@@ -6,6 +6,7 @@ pub mod Typed
 pub mod TypedView
 pub mod Rows
 pub mod Terms
+pub mod Infixes
 pub mod ScopeView
 pub mod Statements
 pub mod ReadingView

@@ -2,6 +2,7 @@
 
 ghost use Rattle.stt_core.specs.View.{the_type, the_term};
 ghost use Rattle.type_check.specs.Answers.{Answers};
+ghost use Rattle.type_check.specs.Infixes as infixes;
 ghost use Rattle.type_check.specs.Terms as defined;
 ghost use Rattle.type_check.specs.TypedView.{the_typed};
 
@@ -79,6 +80,34 @@ pub(crate) fn applied<'a>(
             at,
             why: IllWhy::Mismatch,
         }),
+    }
+}
+
+/// What stands between two operands.
+#[derive(Clone, Copy)]
+pub(crate) enum Infix {
+    /// A connective.
+    Join(Conn),
+    /// `=` where it is positive, or else `!=`.
+    Equality(bool),
+    /// `@`.
+    Application,
+}
+
+/// Two operands with what stands between them.
+pub(crate) fn combined<'a>(
+    alloc: Global,
+    at: u32,
+    between: Infix,
+    x: Typed<'a>,
+    y: Typed,
+) -> Result<Typed<'a>, Refusal>
+    ensures { Answers the_typed result (infixes.combined at between (the_typed x.entry) (the_typed y.entry)) }
+{
+    match between {
+        Infix::Join(conn) => joined(alloc, at, conn, x, y),
+        Infix::Equality(positive) => equated(alloc, at, positive, x, y),
+        Infix::Application => applied(alloc, at, x, y),
     }
 }
 

@@ -5,14 +5,16 @@ ghost use Rattle.stt_core.specs.SimpleType.{arrow, formula};
 ghost use Rattle.stt_core.specs.View.{the_type};
 ghost use Rattle.thf_syntax.specs.View.{the_formula, the_vars};
 ghost use Rattle.type_check.specs.Answers.{Answers};
+ghost use Rattle.type_check.specs.Infixes as infixes;
 ghost use Rattle.type_check.specs.Rows as rows;
+ghost use Rattle.type_check.specs.Typed.{typed};
 ghost use Rattle.thf_syntax.specs.declared.formula.Conn.TheVariants as conn;
 ghost use Rattle.type_check.specs.Terms as defined;
 ghost use Rattle.type_check.specs.ScopeView.{the_variables};
 ghost use Rattle.type_check.specs.TypedView.{the_typed};
 
 use crate::declared::Declared;
-use crate::nodes::{applied, bind, equated, joined, negated, quantified};
+use crate::nodes::{Infix, bind, combined, negated, quantified};
 use crate::refusal::{IllWhy, Refusal};
 use crate::rows::{join, truth_value};
 use crate::scope::Scope;
@@ -34,6 +36,16 @@ fn known(at: u32, x: Option<Typed>) -> Result<Typed, Refusal>
             why: IllWhy::Unknown,
         }),
     }
+}
+
+/// `$true` or `$false`.
+fn truth(alloc: Global, value: bool) -> Result<Typed<'static>, AllocError>
+    ensures { IfOk result (λ x. the_typed x ≡ typed (rows.truth_value value) formula) }
+{
+    Ok(Typed {
+        term: truth_value(alloc, value)?,
+        ty: TypeOf::Made(Ty::Base(0)),
+    })
 }
 
 /// The type of functions from formulas to values of type `to`.
@@ -97,10 +109,7 @@ pub(crate) fn read_term<'a>(
     match tree {
         Surface::Name { at, name } => known(*at, declared.constant(name.as_slice())),
         Surface::Var { at, name } => known(*at, scope.variable(0, name.as_slice())?),
-        Surface::Truth { value, .. } => Ok(Typed {
-            term: truth_value(alloc, *value)?,
-            ty: TypeOf::Made(Ty::Base(0)),
-        }),
+        Surface::Truth { value, .. } => Ok(truth(alloc, *value)?),
         Surface::Op { conn, .. } => Ok(operator(alloc, *conn)?),
         Surface::Not { at, body } => {
             let x = read_term(alloc, declared, scope, body)?;
@@ -111,25 +120,18 @@ pub(crate) fn read_term<'a>(
             conn,
             left,
             right,
-        } => {
-            let x = read_term(alloc, declared, scope, left)?;
-            let y = read_term(alloc, declared, scope, right)?;
-            joined(alloc, *at, *conn, x, y)
-        }
+        } => read_infix(alloc, declared, scope, *at, Infix::Join(*conn), left, right),
         Surface::Equation {
             at,
             positive,
             left,
             right,
         } => {
-            let x = read_term(alloc, declared, scope, left)?;
-            let y = read_term(alloc, declared, scope, right)?;
-            equated(alloc, *at, *positive, x, y)
+            let between = Infix::Equality(*positive);
+            read_infix(alloc, declared, scope, *at, between, left, right)
         }
         Surface::Apply { at, fun, arg } => {
-            let x = read_term(alloc, declared, scope, fun)?;
-            let y = read_term(alloc, declared, scope, arg)?;
-            applied(alloc, *at, x, y)
+            read_infix(alloc, declared, scope, *at, Infix::Application, fun, arg)
         }
         Surface::Quant { at, all, arg } => {
             let x = read_term(alloc, declared, scope, arg)?;
@@ -142,6 +144,24 @@ pub(crate) fn read_term<'a>(
             body,
         } => read_binder(alloc, declared, scope, *at, *binder, vars.as_slice(), body),
     }
+}
+
+/// Reads two operands, and what stands between them.
+#[cycle(terms)]
+fn read_infix<'a>(
+    alloc: Global,
+    declared: &'a Declared,
+    scope: &Scope<'a>,
+    at: u32,
+    between: Infix,
+    left: &Surface,
+    right: &Surface,
+) -> Result<Typed<'a>, Refusal>
+    ensures { Answers the_typed result (infixes.read_infix declared.now at between (the_variables scope.now) (the_formula left.now) (the_formula right.now)) }
+{
+    let x = read_term(alloc, declared, scope, left)?;
+    let y = read_term(alloc, declared, scope, right)?;
+    combined(alloc, at, between, x, y)
 }
 
 /// Reads a binder of these variables over a body.
