@@ -2,3 +2,7 @@ pub mod View
 pub mod Gathering
 pub mod Places
 pub mod Answer
+pub mod Chain
+pub mod Names
+pub mod Opening
+pub mod Steps

@@ -1,11 +1,33 @@
 //! The gathering of a problem's statements.
-ghost use Rattle.std.specs.Prelude.{◌≡◌, ◌≤◌, ◌<◌, ◌^◌, [], All, List, ℕ, length, slice_get, IsSomeAnd, IfOk, IfErr};
-ghost use Rattle.outside.specs.Causes.{Rose};
-ghost use Rattle.thf_include.specs.Answer.{Gathers, OfFault};
 
-use crate::{FileNames, GatherRefused, Gathered};
-use outside::Files;
+ghost use Rattle.std.specs.Prelude.{◌≡◌, ◌≤◌, ◌<◌, ◌^◌, [], All, List, ℕ, length, map, slice_get, IsSomeAnd, IfOk, IfErr, IsUtf8};
+ghost use Rattle.outside.specs.Causes.{Rose};
+ghost use Rattle.thf_syntax.specs.Trees.{include};
+ghost use Rattle.thf_syntax.specs.View.{the_file, the_statement, the_selection};
+ghost use Rattle.thf_include.specs.Answer.{Gathers, OfFault};
+ghost use Rattle.thf_include.specs.Chain.{the_chain};
+ghost use Rattle.thf_include.specs.Names.{IsNamed, AreNamed};
+ghost use Rattle.thf_include.specs.Steps.{FileSteps, StatementSteps, StatementsStep};
+ghost use Rattle.thf_include.specs.View.{the_statements};
+
+use crate::chain::Chain;
+use crate::limits::MAX_FILES;
+use crate::opened::Opened;
+use crate::selection::keep_selected;
+use crate::text::{statements_in, text_of};
+use crate::{FileNames, GatherRefused, Gathered, Placed};
+use outside::{Bytes, Files};
 use std::alloc::Global;
+use thf_syntax::{Selection, Statement};
+
+/// An include in the file with the number `file`.
+#[derive(Drop)]
+struct Include {
+    file: u32,
+    at: u32,
+    name: Bytes,
+    only: Option<Selection>,
+}
 
 /// The statements of the file of this name, with those of the files that it includes in their place.
 /// `names` gets the names of the files that are opened, in their order.
@@ -26,6 +48,163 @@ pub fn gather<F: Files>(
     ensures same { F.contents files.new ≡ F.contents files.old }
     ensures telling { F.tells files.new ≡ F.tells files.old }
 {
-    let (_, _, _, _) = (alloc, files, names, name);
-    Err(GatherRefused::Memory)
+    let mut opened = Opened::new(alloc);
+    let mut gathered = Gathered::new(alloc);
+    let answer = gather_file(
+        alloc,
+        files,
+        &mut opened,
+        &Chain::Empty,
+        name,
+        &mut gathered,
+    );
+    *names = opened.names;
+    match answer {
+        Ok(()) => Ok(gathered),
+        Err(refused) => Err(refused),
+    }
+}
+
+/// Opens the next file, which those of the chain include, and gathers from it.
+#[cycle(gathering)]
+fn gather_file<F: Files>(
+    alloc: Global,
+    files: &mut F,
+    opened: &mut Opened,
+    chain: &Chain,
+    name: &str,
+    gathered: &mut Gathered,
+) -> Result<(), GatherRefused>
+    requires { length opened.old.names < MAX_FILES }
+    ensures steps { FileSteps (F.tells files.old) (F.contents files.old) (the_chain chain.now) name.now
+        opened.old opened.new (the_statements gathered.old) (the_statements gathered.new) result }
+    ensures fault { IfErr result (OfFault (λ file. IsSomeAnd (slice_get opened.new.names file) (λ n.
+        Rose (F.faults files.old n) (F.faults files.new n)))) }
+
+    ensures grows { length opened.old.names ≤ length opened.new.names }
+    ensures later { (other : List ℕ) → F.faults files.old other ≤ F.faults files.new other }
+    ensures same { F.contents files.new ≡ F.contents files.old }
+    ensures telling { F.tells files.new ≡ F.tells files.old }
+{
+    let file = opened.names.len() as u32;
+    let text = opened.read(alloc, files, name)?;
+    let statements = statements_in(alloc, file, &text)?;
+    drop(text);
+    let chain = Chain::File(name.as_bytes(), &*chain);
+    gather_statements(alloc, files, opened, &chain, file, statements, gathered)
+}
+
+/// Gathers from the statements of the file with this number, which is the innermost of the chain.
+#[cycle(gathering)]
+fn gather_statements<F: Files>(
+    alloc: Global,
+    files: &mut F,
+    opened: &mut Opened,
+    chain: &Chain,
+    file: u32,
+    statements: Vec<Statement>,
+    gathered: &mut Gathered,
+) -> Result<(), GatherRefused>
+    requires { AreNamed (the_file statements.items) }
+    ensures steps { StatementsStep (F.tells files.old) (F.contents files.old) (the_chain chain.now) file (the_file statements.items)
+        opened.old opened.new (the_statements gathered.old) (the_statements gathered.new) result }
+    ensures fault { IfErr result (OfFault (λ file. IsSomeAnd (slice_get opened.new.names file) (λ n.
+        Rose (F.faults files.old n) (F.faults files.new n)))) }
+
+    ensures grows { length opened.old.names ≤ length opened.new.names }
+    ensures later { (other : List ℕ) → F.faults files.old other ≤ F.faults files.new other }
+    ensures same { F.contents files.new ≡ F.contents files.old }
+    ensures telling { F.tells files.new ≡ F.tells files.old }
+{
+    for statement in statements {
+        gather_statement(alloc, files, opened, &*chain, file, statement, gathered)?;
+    }
+    Ok(())
+}
+
+#[cycle(gathering)]
+fn gather_statement<F: Files>(
+    alloc: Global,
+    files: &mut F,
+    opened: &mut Opened,
+    chain: &Chain,
+    file: u32,
+    statement: Statement,
+    gathered: &mut Gathered,
+) -> Result<(), GatherRefused>
+    requires { IsNamed (the_statement statement) }
+    ensures steps { StatementSteps (F.tells files.old) (F.contents files.old) (the_chain chain.now) file (the_statement statement)
+        opened.old opened.new (the_statements gathered.old) (the_statements gathered.new) result }
+    ensures fault { IfErr result (OfFault (λ file. IsSomeAnd (slice_get opened.new.names file) (λ n.
+        Rose (F.faults files.old n) (F.faults files.new n)))) }
+
+    ensures grows { length opened.old.names ≤ length opened.new.names }
+    ensures later { (other : List ℕ) → F.faults files.old other ≤ F.faults files.new other }
+    ensures same { F.contents files.new ≡ F.contents files.old }
+    ensures telling { F.tells files.new ≡ F.tells files.old }
+{
+    match statement {
+        Statement::Annotated(statement) => {
+            gathered.push(Placed { file, statement })?;
+            Ok(())
+        }
+        Statement::Include {
+            at,
+            file: name,
+            only,
+        } => {
+            let include = Include {
+                file,
+                at,
+                name,
+                only,
+            };
+            gather_include(alloc, files, opened, &*chain, include, gathered)
+        }
+    }
+}
+
+/// Gathers what an include stands for.
+#[cycle(gathering)]
+fn gather_include<F: Files>(
+    alloc: Global,
+    files: &mut F,
+    opened: &mut Opened,
+    chain: &Chain,
+    statement: Include,
+    gathered: &mut Gathered,
+) -> Result<(), GatherRefused>
+    requires { IsUtf8 statement.name }
+    ensures steps { StatementSteps (F.tells files.old) (F.contents files.old) (the_chain chain.now) statement.file
+        (include statement.at statement.name (the_selection statement.only))
+        opened.old opened.new (the_statements gathered.old) (the_statements gathered.new) result }
+    ensures fault { IfErr result (OfFault (λ file. IsSomeAnd (slice_get opened.new.names file) (λ n.
+        Rose (F.faults files.old n) (F.faults files.new n)))) }
+
+    ensures grows { length opened.old.names ≤ length opened.new.names }
+    ensures later { (other : List ℕ) → F.faults files.old other ≤ F.faults files.new other }
+    ensures same { F.contents files.new ≡ F.contents files.old }
+    ensures telling { F.tells files.new ≡ F.tells files.old }
+{
+    let Include {
+        file,
+        at,
+        name,
+        only,
+    } = statement;
+    if chain.contains(name.as_slice()) {
+        return Err(GatherRefused::Cycle { file, at });
+    }
+    if opened.names.len() >= MAX_FILES {
+        return Err(GatherRefused::TooMany { file, at });
+    }
+    let name = text_of(name.as_slice());
+    match only {
+        None => gather_file(alloc, files, opened, &*chain, name, gathered),
+        Some(only) => {
+            let mut included = Gathered::new(alloc);
+            gather_file(alloc, files, opened, &*chain, name, &mut included)?;
+            keep_selected(alloc, file, &only, included, gathered)
+        }
+    }
 }

@@ -1,13 +1,17 @@
 //! The statements of a problem: those of a file, and of the files that it includes, in their place.
 #![tactic(auto)]
 
+mod chain;
 mod gathered;
 mod gathering;
 mod limits;
 mod names;
+mod opened;
 mod refused;
+mod selection;
 #[cfg(test)]
 mod tests;
+mod text;
 
 pub use gathered::{Gathered, Placed};
 pub use gathering::gather;

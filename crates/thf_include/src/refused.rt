@@ -1,5 +1,10 @@
 //! Why statements aren't gathered.
 
+ghost use Rattle.std.specs.Prelude.{◌≡◌};
+ghost use Rattle.thf_include.specs.declared.refused.GatherRefused.TheVariants.{Memory};
+
+use std::alloc::{AllocError, AllocFailed};
+
 /// Why statements aren't gathered, or want of memory. Each `file` is a file's number, and each `at` a byte place in that file.
 #[derive(Clone, Copy, Debug, PartialEq, Eq)]
 pub enum GatherRefused {
@@ -16,4 +21,20 @@ pub enum GatherRefused {
     /// The include of a file past `MAX_FILES`, at the place of its name.
     TooMany { file: u32, at: u32 },
     Memory,
+}
+
+impl From<AllocError> for GatherRefused {
+    ghost from_gives = { λ _ e. e ≡ Memory };
+
+    fn from(_: AllocError) -> Self {
+        GatherRefused::Memory
+    }
+}
+
+impl<T: Drop> From<AllocFailed<T>> for GatherRefused {
+    ghost from_gives = { λ _ e. e ≡ Memory };
+
+    fn from(_: AllocFailed<T>) -> Self {
+        GatherRefused::Memory
+    }
 }

@@ -125,4 +125,10 @@ impl FileTree {
     {
         &self.items
     }
+
+    pub fn into_statements(self) -> Vec<Statement>
+        ensures { result.items ≡ self }
+    {
+        self.items
+    }
 }

@@ -1,0 +1,14 @@
+pub mod Texts
+pub mod SameTexts
+pub mod Cuts
+pub mod FileTexts
+pub mod OneEnding
+pub mod Trees
+pub mod Bounds
+pub mod IncludeNames
+pub mod ChainLaws
+pub mod TooLong
+pub mod Stops
+pub mod FileSteps
+pub mod StatementSteps
+pub mod Totals

@@ -1,0 +1,32 @@
+-- The opening of one file.
+use Rattle.std.specs.Prelude.{◌≡◌, ℕ, ◌<◌, Bool, ◌⊎◌, IsTrue, List, [], ◌∷◌, ◌++◌, length, Option, Some}
+use Rattle.thf_include.specs.declared.refused.GatherRefused.{GatherRefused}
+use Rattle.thf_include.specs.declared.refused.GatherRefused.TheVariants.{Fault, TooLong, Syntax, Cycle, NoSuchName, TooMany, Memory}
+use Rattle.thf_include.specs.Gathering.{IsRefusedText}
+
+-- a text that has more bytes than are left
+pub record IsTooLong (tells : Bool) (contents : List ℕ → Option (List ℕ)) (name : List ℕ) (left : ℕ) : Type 0 where
+  pub text : List ℕ
+  pub told : IsTrue tells → contents name ≡ Some text
+  pub longer : left < length text
+
+-- the file of this name, which has the next number, isn't read: it has a fault, or more bytes than are left; or memory is wanted, before
+-- or after it is opened
+abbrev pub IsReadRefusal : Bool → (List ℕ → Option (List ℕ)) → List ℕ → List (List ℕ) → List (List ℕ) → ℕ → GatherRefused → Type 0
+IsReadRefusal tells contents name before after left (Fault file) = (file ≡ length before) × (after ≡ before ++ name ∷ [])
+IsReadRefusal tells contents name before after left (TooLong file) = (file ≡ length before) × (after ≡ before ++ name ∷ []) × IsTooLong tells contents name left
+IsReadRefusal tells contents name before after left Memory = (after ≡ before) ⊎ (after ≡ before ++ name ∷ [])
+IsReadRefusal tells contents name before after left (Syntax file at) = ⊥
+IsReadRefusal tells contents name before after left (Cycle file at) = ⊥
+IsReadRefusal tells contents name before after left (NoSuchName file at) = ⊥
+IsReadRefusal tells contents name before after left (TooMany file at) = ⊥
+
+-- the text of the file with this number has no tree, by its token at a place
+abbrev pub IsTextRefusal : List ℕ → ℕ → GatherRefused → Type 0
+IsTextRefusal text number (Syntax file at) = (file ≡ number) × IsRefusedText text at
+IsTextRefusal text number Memory = Unit {0}
+IsTextRefusal text number (Fault file) = ⊥
+IsTextRefusal text number (TooLong file) = ⊥
+IsTextRefusal text number (Cycle file at) = ⊥
+IsTextRefusal text number (NoSuchName file at) = ⊥
+IsTextRefusal text number (TooMany file at) = ⊥

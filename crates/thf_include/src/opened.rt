@@ -1,0 +1,64 @@
+//! The files that were opened.
+
+ghost use Rattle.std.specs.Prelude.{◌≡◌, ◌+◌, ◌∷◌, [], ◌++◌, ◌≤◌, ◌<◌, List, ℕ, Some, length, slice_get, IsSomeAnd, IfOk, IfErr, OnOk, IsTrue};
+ghost use Rattle.outside.specs.Causes.{Rose};
+ghost use Rattle.thf_include.specs.declared.limits.TheConstants.{MAX_BYTES};
+ghost use Rattle.thf_include.specs.Answer.{OfFault};
+ghost use Rattle.thf_include.specs.Opening.{IsReadRefusal};
+
+use crate::limits::{MAX_BYTES, MAX_FILES};
+use crate::{FileNames, GatherRefused};
+use outside::{Bytes, Files, ReadRefused, read_whole};
+use std::alloc::Global;
+
+/// The names of the files that were opened, and how many bytes more the files may have.
+#[derive(Drop)]
+pub struct Opened {
+    pub names: FileNames,
+    pub left: usize,
+    ghost within: { left ≤ MAX_BYTES },
+}
+
+impl Opened {
+    pub fn new(alloc: Global) -> Self
+        ensures names { result.names ≡ [] }
+        ensures left { result.left ≡ MAX_BYTES }
+    {
+        Opened {
+            names: FileNames::new(alloc),
+            left: MAX_BYTES,
+        }
+    }
+
+    /// Opens a file, and reads it whole.
+    pub fn read<F: Files>(
+        &mut self,
+        alloc: Global,
+        files: &mut F,
+        name: &str,
+    ) -> Result<Bytes, GatherRefused>
+        requires { length self.old.names < MAX_FILES }
+        ensures names { OnOk result (self.new.names ≡ self.old.names ++ name.now ∷ []) }
+        ensures left { IfOk result (λ text. self.new.left + length text ≡ self.old.left) }
+        ensures told { IfOk result (λ text. IsTrue (F.tells files.old) → F.contents files.old name.now ≡ Some text) }
+        ensures refused { IfErr result (IsReadRefusal (F.tells files.old) (F.contents files.old) name.now self.old.names self.new.names self.old.left) }
+        ensures fault { IfErr result (OfFault (λ file. IsSomeAnd (slice_get self.new.names file) (λ n.
+            Rose (F.faults files.old n) (F.faults files.new n)))) }
+
+        ensures later { (other : List ℕ) → F.faults files.old other ≤ F.faults files.new other }
+        ensures same { F.contents files.new ≡ F.contents files.old }
+        ensures telling { F.tells files.new ≡ F.tells files.old }
+    {
+        let file = self.names.len() as u32;
+        self.names.push(Bytes::from_slice(alloc, name.as_bytes())?)?;
+        match read_whole(alloc, files, name, self.left) {
+            Ok(text) => {
+                self.left -= text.len();
+                Ok(text)
+            }
+            Err(ReadRefused::Fault) => Err(GatherRefused::Fault { file }),
+            Err(ReadRefused::TooLong) => Err(GatherRefused::TooLong { file }),
+            Err(ReadRefused::Memory) => Err(GatherRefused::Memory),
+        }
+    }
+}
