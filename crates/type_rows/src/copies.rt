@@ -36,51 +36,46 @@ fn variables(alloc: Global, vars: &SurfaceVars) -> Result<SurfaceVars, AllocErro
     Ok(copy)
 }
 
-fn formula(alloc: Global, tree: &Surface) -> Result<Surface, AllocError> {
+fn name(alloc: Global, at: u32, name: &Bytes) -> Result<Surface, AllocError> {
+    Ok(Surface::Name {
+        at,
+        name: bytes(alloc, name)?,
+    })
+}
+
+fn variable(alloc: Global, at: u32, name: &Bytes) -> Result<Surface, AllocError> {
+    Ok(Surface::Var {
+        at,
+        name: bytes(alloc, name)?,
+    })
+}
+
+fn copy(alloc: Global, tree: &Surface) -> Result<Surface, AllocError> {
     match tree {
-        Surface::Name { at, name } => Ok(Surface::Name {
-            at: *at,
-            name: bytes(alloc, name)?,
-        }),
-        Surface::Var { at, name } => Ok(Surface::Var {
-            at: *at,
-            name: bytes(alloc, name)?,
-        }),
-        Surface::Truth { at, value } => Ok(Surface::Truth {
-            at: *at,
-            value: *value,
-        }),
-        Surface::Op { at, conn } => Ok(Surface::Op {
-            at: *at,
-            conn: *conn,
-        }),
-        Surface::Not { at, body } => Surface::not(alloc, *at, formula(alloc, body)?),
+        Surface::Name { at, name: of } => name(alloc, *at, of),
+        Surface::Var { at, name } => variable(alloc, *at, name),
+        &Surface::Truth { at, value } => Ok(Surface::Truth { at, value }),
+        &Surface::Op { at, conn } => Ok(Surface::Op { at, conn }),
+        Surface::Not { at, body } => Surface::not(alloc, *at, copy(alloc, body)?),
         Surface::Binary {
             at,
             conn,
             left,
             right,
-        } => {
-            let left = formula(alloc, left)?;
-            let right = formula(alloc, right)?;
-            Surface::binary(alloc, *at, *conn, left, right)
-        }
+        } => Surface::binary(alloc, *at, *conn, copy(alloc, left)?, copy(alloc, right)?),
         Surface::Equation {
             at,
             positive,
             left,
             right,
         } => {
-            let left = formula(alloc, left)?;
-            let right = formula(alloc, right)?;
-            Surface::equation(alloc, *at, *positive, left, right)
+            let left = copy(alloc, left)?;
+            Surface::equation(alloc, *at, *positive, left, copy(alloc, right)?)
         }
         Surface::Apply { at, fun, arg } => {
-            let fun = formula(alloc, fun)?;
-            let arg = formula(alloc, arg)?;
-            Surface::apply(alloc, *at, fun, arg)
+            Surface::apply(alloc, *at, copy(alloc, fun)?, copy(alloc, arg)?)
         }
-        Surface::Quant { at, all, arg } => Surface::quant(alloc, *at, *all, formula(alloc, arg)?),
+        Surface::Quant { at, all, arg } => Surface::quant(alloc, *at, *all, copy(alloc, arg)?),
         Surface::Bind {
             at,
             binder,
@@ -88,7 +83,7 @@ fn formula(alloc: Global, tree: &Surface) -> Result<Surface, AllocError> {
             body,
         } => {
             let vars = variables(alloc, vars)?;
-            Surface::bind(alloc, *at, *binder, vars, formula(alloc, body)?)
+            Surface::bind(alloc, *at, *binder, vars, copy(alloc, body)?)
         }
     }
 }
@@ -104,7 +99,7 @@ fn body(alloc: Global, tree: &Body) -> Result<Body, AllocError> {
             name: bytes(alloc, name)?,
             ty: ty(alloc, of)?,
         }),
-        Body::Formula(tree) => Ok(Body::Formula(formula(alloc, tree)?)),
+        Body::Formula(tree) => Ok(Body::Formula(copy(alloc, tree)?)),
     }
 }
 
