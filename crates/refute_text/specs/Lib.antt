@@ -5,15 +5,11 @@ pub mod Named
 pub mod Pieces
 pub mod Limits
 pub mod Writing
-pub mod Reader
 pub mod View
 pub mod TreeCode
 pub mod LiteralCode
 pub mod TreeSizes
 pub mod TreeView
 pub mod TreeFalls
-pub mod TermReader
-pub mod LineReader
 pub mod LineView
 pub mod TextView
-pub mod Refusals

@@ -1,19 +1,15 @@
-//! The text of refutations.
+//! Refutations as they are written: their trees, and the text of one, written.
 #![tactic(auto)]
 
+mod letters;
 mod line;
-mod read_line;
-mod read_name;
-mod read_rule;
-mod read_term;
-mod read_type;
-mod refusal;
 mod tree;
 mod write_line;
 mod write_name;
 mod write_rule;
 mod write_term;
 
+pub use letters::{is_plain, is_word_byte};
 pub use line::{RefutationText, TextLine, TextLines, TextLit, TextLits, TextRule};
 pub use tree::{TextHead, TextNode, TextTerm, TextTerms, TextTy};
 pub use write_line::write_text;

@@ -1,10 +1,11 @@
 //! Writes numbers and names.
 
 ghost use Rattle.std.specs.Prelude.{◌≡◌, ◌++◌, decimal, OnOk, OnErr};
-ghost use Rattle.std.specs.List.{flat_map, list_all};
-ghost use Rattle.refute_text.specs.Letters.{is_lower, is_word_byte, is_plain, escaped, quoted, name_text};
+ghost use Rattle.std.specs.List.{flat_map};
+ghost use Rattle.refute_text.specs.Letters.{escaped, quoted, name_text};
 ghost use Rattle.refute_text.specs.Writing.{Took, Stopped};
 
+use crate::letters::is_plain;
 use itoa::Buffer;
 use outside::{Failed, Sink, write_all_counted, write_pieces};
 
@@ -31,34 +32,6 @@ pub(crate) fn write_numbered<S: Sink>(
     let digits = buffer.format(number).as_bytes();
     write_pieces(sink, &[before, digits, after])?;
     Ok(())
-}
-
-pub(crate) fn is_lower(byte: u8) -> bool
-    ensures { result ≡ is_lower byte }
-{
-    byte.is_ascii_lowercase()
-}
-
-pub(crate) fn is_word_byte(byte: u8) -> bool
-    ensures { result ≡ is_word_byte byte }
-{
-    byte.is_ascii_alphanumeric() || byte == b'_'
-}
-
-fn are_word_bytes(bytes: &[u8]) -> bool
-    ensures { result ≡ list_all is_word_byte bytes.now }
-{
-    bytes.iter().all(|&byte| is_word_byte(byte))
-}
-
-/// Whether the name is a lower word.
-pub(crate) fn is_plain(name: &[u8]) -> bool
-    ensures { result ≡ is_plain name.now }
-{
-    match name {
-        [byte, ..] => is_lower(*byte) && are_word_bytes(name),
-        [] => false,
-    }
 }
 
 fn write_escaped<S: Sink>(sink: &mut S, byte: u8) -> Result<(), Failed>

@@ -1,0 +1,5 @@
+pub mod Reader
+pub mod TermReader
+pub mod LineReader
+pub mod Refusals
+pub mod Reading

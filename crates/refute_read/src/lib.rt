@@ -1,0 +1,9 @@
+//! The reading of refutations' texts.
+#![tactic(auto)]
+
+mod read_line;
+mod read_name;
+mod read_rule;
+mod read_term;
+mod read_type;
+mod refusal;
