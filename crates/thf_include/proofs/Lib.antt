@@ -12,3 +12,5 @@ pub mod Stops
 pub mod FileSteps
 pub mod StatementSteps
 pub mod Totals
+pub mod NameSets
+pub mod Selections

@@ -5,4 +5,5 @@ pub mod Answer
 pub mod Chain
 pub mod Names
 pub mod Opening
+pub mod Selection
 pub mod Steps

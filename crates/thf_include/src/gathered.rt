@@ -69,4 +69,10 @@ impl Gathered {
     {
         &self.items
     }
+
+    pub(crate) fn into_items(self) -> Vec<Placed>
+        ensures { result.items ≡ self }
+    {
+        self.items
+    }
 }

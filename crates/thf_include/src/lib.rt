@@ -4,6 +4,7 @@
 mod chain;
 mod gathered;
 mod gathering;
+mod law;
 mod limits;
 mod names;
 mod opened;
@@ -15,6 +16,7 @@ mod text;
 
 pub use gathered::{Gathered, Placed};
 pub use gathering::gather;
+pub use law::one_gathering;
 pub use limits::{MAX_BYTES, MAX_FILES};
 pub use names::FileNames;
 pub use refused::GatherRefused;
