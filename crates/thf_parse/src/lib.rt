@@ -3,6 +3,7 @@
 
 #[cfg(test)]
 mod deep_tests;
+mod cursor;
 mod formula;
 mod include;
 mod law;
