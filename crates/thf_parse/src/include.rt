@@ -64,7 +64,7 @@ fn labels(alloc: Global, cursor: &mut Cursor) -> Result<Selection, Refusal>
     ensures { ReadsLabels cursor.new result (reader.labels cursor.old) }
 {
     let mut labels = Selection::new(alloc);
-    loop {
+    'labels: loop {
         let read = match label(alloc, cursor) {
             Ok(read) => read,
             Err(refusal) => return Err(refusal),

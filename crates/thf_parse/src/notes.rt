@@ -110,7 +110,7 @@ fn general(room: u32, cursor: &mut Cursor) -> Result<(), Refusal>
 fn generals(room: u32, cursor: &mut Cursor) -> Result<(), Refusal>
     ensures { Passes cursor.new result (reader.generals (reader.inner_notes room) cursor.old) }
 {
-    loop {
+    'items: loop {
         match general(room, cursor) {
             Ok(()) => (),
             Err(refusal) => return Err(refusal),
