@@ -1,9 +1,9 @@
 //! The parser of THF files.
 #![tactic(auto)]
 
+mod cursor;
 #[cfg(test)]
 mod deep_tests;
-mod cursor;
 mod formula;
 mod include;
 mod law;

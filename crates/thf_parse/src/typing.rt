@@ -15,12 +15,7 @@ use thf_syntax::{Body, Selected};
 
 /// What the name is declared as, from the colon behind it on.
 #[tactic(auto, unfolding(crate::specs::StatementReader::declared))]
-fn declared(
-    alloc: Global,
-    room: u32,
-    label: Selected,
-    cursor: &mut Cursor,
-) -> Result<Body, Refusal>
+fn declared(alloc: Global, room: u32, label: Selected, cursor: &mut Cursor) -> Result<Body, Refusal>
     ensures { ReadsBody cursor.new result (reader.declared (type_with (inner_type room)) (the_selected label) cursor.old) }
 {
     let Selected { at, name } = label;
