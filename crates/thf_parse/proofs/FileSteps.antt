@@ -3,17 +3,17 @@ use Rattle.std.proofs.Common.{◌≡◌, ℕ, List, [], ◌∷◌, ◌++◌, tru
 use Rattle.thf_syntax.specs.Trees.{StatementTree}
 use Rattle.thf_parse.specs.declared.refusal.Refusal.{Refusal}
 use Rattle.thf_parse.specs.declared.refusal.Refusal.TheVariants.{Wrong, TooDeep, Memory}
-use Rattle.thf_parse.specs.Words.{Lexeme, lexemes}
+use Rattle.thf_parse.specs.Words.{Lexeme}
 use Rattle.thf_parse.specs.Outcome.{found, first_terminal}
 use Rattle.thf_parse.specs.Passes.{IsRefusal}
 use Rattle.thf_parse.specs.StatementReader.{statement, is_end, file}
 use Rattle.thf_parse.proofs.StatementLocals.{file-ended, file-more, file-wrong, file-deep}
 
 module _ (room : ℕ) (so_far : List StatementTree) (us ts : List Lexeme) (before : file room so_far us ≡ file room [] ts) where
-  pub file-refused : (bytes : List ℕ) (refusal : Refusal) → is_end (first_terminal us) ≡ false → IsRefusal bytes refusal (statement room us) → IsRefusal bytes refusal (file room [] ts)
-  file-refused bytes (Wrong tokens) e h = sym before ∙ file-wrong room so_far us (lexemes bytes tokens.now) e h
-  file-refused bytes (TooDeep tokens) e h = sym before ∙ file-deep room so_far us (lexemes bytes tokens.now) e h
-  file-refused bytes Memory e h = tt
+  pub file-refused : (left : List Lexeme) (refusal : Refusal) → is_end (first_terminal us) ≡ false → IsRefusal left refusal (statement room us) → IsRefusal left refusal (file room [] ts)
+  file-refused left Wrong e h = sym before ∙ file-wrong room so_far us left e h
+  file-refused left TooDeep e h = sym before ∙ file-deep room so_far us left e h
+  file-refused left Memory e h = tt
 
   pub file-done : is_end (first_terminal us) ≡ true → file room [] ts ≡ found so_far us
   file-done e = sym before ∙ file-ended room so_far us e

@@ -1,10 +1,10 @@
 -- The loop over labels.
-use Rattle.std.proofs.Common.{◌≡◌, ℕ, ◌<◌, List, [], ◌∷◌, ◌++◌, length, true, false, sym, ap, ◌∙◌, arith}
+use Rattle.std.proofs.Common.{◌≡◌, ◌<◌, List, [], ◌∷◌, ◌++◌, length, true, false, sym, ap, ◌∙◌, arith}
 use Rattle.thf_syntax.specs.Trees.{SelectedTree}
 use Rattle.thf_parse.specs.declared.refusal.Refusal.{Refusal}
 use Rattle.thf_parse.specs.declared.refusal.Refusal.TheVariants.{Wrong, TooDeep, Memory}
 use Rattle.thf_parse.specs.declared.terminal.Mark.TheVariants.{Comma}
-use Rattle.thf_parse.specs.Words.{Lexeme, lexemes}
+use Rattle.thf_parse.specs.Words.{Lexeme}
 use Rattle.thf_parse.specs.Outcome.{found, ◌>>=◌, first_terminal, behind, is_mark}
 use Rattle.thf_parse.specs.Passes.{IsRefusal}
 use Rattle.thf_parse.specs.NoteReader.{all_commas}
@@ -15,11 +15,11 @@ use Rattle.thf_parse.proofs.CommaLaws.{all-more, all-last, all-wrong, all-deep, 
 use Rattle.thf_parse.proofs.StatementLocals.{local-label, local-more_label}
 
 module _ (so_far : List SelectedTree) (us ts : List Lexeme) (before : all_commas more_label so_far us ≡ all_commas more_label [] ts) where
-  pub labels-refused : (bytes : List ℕ) (refusal : Refusal) → IsRefusal bytes refusal (label us) → IsRefusal bytes refusal (labels ts)
+  pub labels-refused : (left : List Lexeme) (refusal : Refusal) → IsRefusal left refusal (label us) → IsRefusal left refusal (labels ts)
   unfolding labels
-  labels-refused bytes (Wrong tokens) h = sym before ∙ all-wrong more_label local-more_label so_far us (lexemes bytes tokens.now) (ap (λ o. o >>= λ n rest. found (so_far ++ n ∷ []) rest) h)
-  labels-refused bytes (TooDeep tokens) h = sym before ∙ all-deep more_label local-more_label so_far us (lexemes bytes tokens.now) (ap (λ o. o >>= λ n rest. found (so_far ++ n ∷ []) rest) h)
-  labels-refused bytes Memory h = tt
+  labels-refused left Wrong h = sym before ∙ all-wrong more_label local-more_label so_far us left (ap (λ o. o >>= λ n rest. found (so_far ++ n ∷ []) rest) h)
+  labels-refused left TooDeep h = sym before ∙ all-deep more_label local-more_label so_far us left (ap (λ o. o >>= λ n rest. found (so_far ++ n ∷ []) rest) h)
+  labels-refused left Memory h = tt
 
   pub labels-ended : (n : SelectedTree) (rest : List Lexeme) → label us ≡ found n rest → is_mark Comma (first_terminal rest) ≡ false → labels ts ≡ found (so_far ++ n ∷ []) rest
   unfolding labels

@@ -1,16 +1,25 @@
--- The loop over what stands between commas in notes.
-use Rattle.std.proofs.Common.{◌≡◌, ℕ, ◌<◌, List, length, true, false, sym, ap, ◌∙◌, arith}
+-- The list behind a `[`, and the loop over what stands between commas in notes.
+use Rattle.std.proofs.Common.{◌≡◌, ◌≢◌, ℕ, zero, suc, ◌-◌, ◌<◌, List, length, Result, true, false, refl, sym, ap, subst, ◌∙◌, arith}
 use Rattle.thf_parse.specs.declared.refusal.Refusal.{Refusal}
 use Rattle.thf_parse.specs.declared.refusal.Refusal.TheVariants.{Wrong, TooDeep, Memory}
 use Rattle.thf_parse.specs.declared.terminal.Mark.TheVariants.{Comma}
-use Rattle.thf_parse.specs.Words.{Lexeme, lexemes}
+use Rattle.thf_parse.specs.Words.{Lexeme}
 use Rattle.thf_parse.specs.Outcome.{found, Reader, first_terminal, behind, is_mark}
-use Rattle.thf_parse.specs.Passes.{IsRefusal}
-use Rattle.thf_parse.specs.NoteReader.{passed, all_commas, general, generals, inner_notes}
+use Rattle.thf_parse.specs.Passes.{IsRefusal, Passes}
+use Rattle.thf_parse.specs.NoteReader.{passed, all_commas, general, generals, listed, list_at, inner_notes}
 use Rattle.thf_parse.proofs.Locals.{IsLocal, rest_of, rest-length}
 use Rattle.thf_parse.proofs.MarkLaws.{is_mark-is}
 use Rattle.thf_parse.proofs.CommaLaws.{all-more, all-last, all-wrong, all-deep, comma-shorter}
 use Rattle.thf_parse.proofs.NoteLaws.{local-general, local-inner_notes}
+
+-- what stands behind a `[` is read with room for one level less
+pub list-entered : (room : ℕ) (ts us left : List Lexeme) (result : Result (Unit {0}) Refusal) → room ≢ 0 → us ≡ behind ts → Passes left result (listed (generals (inner_notes (room - 1))) us) → Passes left result (list_at (inner_notes room) ts)
+unfolding inner_notes
+list-entered zero ts us left result some e h = absurd (some refl)
+list-entered (suc room) ts us left result some e h =
+    let less : suc room - 1 ≡ room = omega arith in
+    subst (λ vs. Passes left result (listed (generals (inner_notes room)) vs)) e
+    (subst (λ n. Passes left result (listed (generals (inner_notes n)) us)) less h)
 
 module _ (room : ℕ) (us ts : List Lexeme) where
   abbrev item : Unit {0} → Reader (Unit {0})
@@ -19,11 +28,11 @@ module _ (room : ℕ) (us ts : List Lexeme) where
   local-item : (x : Unit {0}) → IsLocal (item x)
   local-item x = local-general (inner_notes room) (local-inner_notes room)
 
-  pub generals-refused : (bytes : List ℕ) (refusal : Refusal) → all_commas item passed us ≡ all_commas item passed ts → IsRefusal bytes refusal (general (inner_notes room) us) → IsRefusal bytes refusal (generals (inner_notes room) ts)
+  pub generals-refused : (left : List Lexeme) (refusal : Refusal) → all_commas item passed us ≡ all_commas item passed ts → IsRefusal left refusal (general (inner_notes room) us) → IsRefusal left refusal (generals (inner_notes room) ts)
   unfolding generals
-  generals-refused bytes (Wrong tokens) e h = sym e ∙ all-wrong item local-item passed us (lexemes bytes tokens.now) h
-  generals-refused bytes (TooDeep tokens) e h = sym e ∙ all-deep item local-item passed us (lexemes bytes tokens.now) h
-  generals-refused bytes Memory e h = tt
+  generals-refused left Wrong e h = sym e ∙ all-wrong item local-item passed us left h
+  generals-refused left TooDeep e h = sym e ∙ all-deep item local-item passed us left h
+  generals-refused left Memory e h = tt
 
   pub generals-ended : (rest : List Lexeme) → all_commas item passed us ≡ all_commas item passed ts → general (inner_notes room) us ≡ found passed rest → is_mark Comma (first_terminal rest) ≡ false → generals (inner_notes room) ts ≡ found passed rest
   unfolding generals

@@ -48,11 +48,14 @@ constant_at ts = found (constant (first_place ts) (first_name ts)) (behind ts)
 abbrev pub variable_term_at : Reader FormulaTree
 variable_term_at ts = found (variable (first_place ts) (first_name ts)) (behind ts)
 
+abbrev pub truth_at : Bool → Reader FormulaTree
+truth_at value ts = found (truth (first_place ts) value) (behind ts)
+
 abbrev pub primary_by : Inside → Terminal → Reader FormulaTree
 primary_by inside terminal.Lower ts = constant_at ts
 primary_by inside terminal.Quoted ts = constant_at ts
 primary_by inside terminal.Upper ts = variable_term_at ts
-primary_by inside (terminal.Truth value) ts = found (truth (first_place ts) value) (behind ts)
+primary_by inside (terminal.Truth value) ts = truth_at value ts
 primary_by inside (terminal.Mark Open) ts = group_at inside ts
 primary_by inside _ ts = wrong ts
 

@@ -12,5 +12,4 @@ pub mod StatementReader
 pub mod Passes
 pub mod Reads
 pub mod Parsing
-pub mod ReadsFile
 pub mod Printable

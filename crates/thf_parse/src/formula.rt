@@ -2,25 +2,16 @@
 ghost use Rattle.std.specs.Prelude.{◌≡◌, [], ◌∷◌, ◌++◌, true, false};
 ghost use Rattle.thf_syntax.specs.View.{the_formula, the_vars};
 ghost use Rattle.thf_syntax.specs.declared.formula.Conn.TheVariants.{And, Or};
-ghost use Rattle.thf_parse.specs.Words.{lexemes};
 ghost use Rattle.thf_parse.specs.Formulas as grammar;
 ghost use Rattle.thf_parse.specs.FormulaReader as reader;
 ghost use Rattle.thf_parse.specs.Reads.{ReadsFormula};
 
+use crate::cursor::Cursor;
 use crate::refusal::Refusal;
 use crate::terminal::{Mark, Terminal};
 use crate::variable::{variable, with_variable};
-use crate::words::{behind, expect, first_name, first_place, first_terminal};
 use std::alloc::Global;
-use thf_lex::Token;
 use thf_syntax::{Binder, Conn, Surface, SurfaceVars};
-
-/// A formula, and the tokens behind it.
-#[derive(Drop)]
-pub struct FormulaRead<'a> {
-    pub tree: Surface,
-    pub rest: &'a [Token],
-}
 
 /// A binder and the place where it stands.
 #[derive(Clone, Copy)]
@@ -47,164 +38,132 @@ fn is_link(conn: Conn, found: Terminal) -> bool
     )
 }
 
-fn constant<'a>(
-    alloc: Global,
-    bytes: &[u8],
-    tokens: &'a [Token],
-) -> Result<FormulaRead<'a>, Refusal<'a>>
-    ensures { ReadsFormula bytes.now result (reader.constant_at (lexemes bytes.now tokens.now)) }
+fn constant(alloc: Global, cursor: &mut Cursor) -> Result<Box<Surface>, Refusal>
+    ensures { ReadsFormula cursor.new result (reader.constant_at cursor.old) }
 {
-    Ok(FormulaRead {
-        tree: Surface::Name {
-            at: first_place(tokens),
-            name: first_name(alloc, bytes, tokens)?,
-        },
-        rest: behind(tokens),
-    })
+    let at = cursor.place();
+    let name = cursor.name(alloc)?;
+    cursor.advance();
+    Ok(Box::new(alloc, Surface::Name { at, name })?)
 }
 
-fn variable_term<'a>(
-    alloc: Global,
-    bytes: &[u8],
-    tokens: &'a [Token],
-) -> Result<FormulaRead<'a>, Refusal<'a>>
-    ensures { ReadsFormula bytes.now result (reader.variable_term_at (lexemes bytes.now tokens.now)) }
+fn variable_term(alloc: Global, cursor: &mut Cursor) -> Result<Box<Surface>, Refusal>
+    ensures { ReadsFormula cursor.new result (reader.variable_term_at cursor.old) }
 {
-    Ok(FormulaRead {
-        tree: Surface::Var {
-            at: first_place(tokens),
-            name: first_name(alloc, bytes, tokens)?,
-        },
-        rest: behind(tokens),
-    })
+    let at = cursor.place();
+    let name = cursor.name(alloc)?;
+    cursor.advance();
+    Ok(Box::new(alloc, Surface::Var { at, name })?)
+}
+
+fn truth(alloc: Global, value: bool, cursor: &mut Cursor) -> Result<Box<Surface>, Refusal>
+    ensures { ReadsFormula cursor.new result (reader.truth_at value cursor.old) }
+{
+    let at = cursor.place();
+    cursor.advance();
+    Ok(Box::new(alloc, Surface::Truth { at, value })?)
 }
 
 #[cycle(formulas)]
 #[tactic(auto, unfolding(crate::specs::FormulaReader::inner))]
-fn negation<'a>(
-    alloc: Global,
-    bytes: &[u8],
-    room: u32,
-    tokens: &'a [Token],
-) -> Result<FormulaRead<'a>, Refusal<'a>>
-    ensures { ReadsFormula bytes.now result (reader.negation_at (reader.inner room) (lexemes bytes.now tokens.now)) }
+fn negation(alloc: Global, room: u32, cursor: &mut Cursor) -> Result<Box<Surface>, Refusal>
+    ensures { ReadsFormula cursor.new result (reader.negation_at (reader.inner room) cursor.old) }
 {
     if room == 0 {
-        return Err(Refusal::TooDeep(tokens));
+        return Err(Refusal::TooDeep);
     }
-    let inside = operand(alloc, bytes, room - 1, behind(tokens))?;
-    Ok(FormulaRead {
-        tree: Surface::not(alloc, first_place(tokens), inside.tree)?,
-        rest: inside.rest,
-    })
+    let at = cursor.place();
+    cursor.advance();
+    let body = operand(alloc, room - 1, cursor)?;
+    Ok(Box::new(alloc, Surface::Not { at, body })?)
 }
 
 #[cycle(formulas)]
-#[tactic(auto, unfolding(crate::specs::FormulaReader::primary, crate::specs::FormulaReader::inner))]
-fn primary<'a>(
-    alloc: Global,
-    bytes: &[u8],
-    room: u32,
-    tokens: &'a [Token],
-) -> Result<FormulaRead<'a>, Refusal<'a>>
-    ensures { ReadsFormula bytes.now result (reader.primary (reader.inner room) (lexemes bytes.now tokens.now)) }
+#[tactic(auto, unfolding(crate::specs::FormulaReader::inner))]
+fn group(alloc: Global, room: u32, cursor: &mut Cursor) -> Result<Box<Surface>, Refusal>
+    ensures { ReadsFormula cursor.new result (reader.group_at (reader.inner room) cursor.old) }
 {
-    match first_terminal(bytes, tokens) {
-        Terminal::Lower | Terminal::Quoted => constant(alloc, bytes, tokens),
-        Terminal::Upper => variable_term(alloc, bytes, tokens),
-        Terminal::Truth(value) => Ok(FormulaRead {
-            tree: Surface::Truth {
-                at: first_place(tokens),
-                value,
-            },
-            rest: behind(tokens),
-        }),
-        Terminal::Mark(Mark::Open) => {
-            if room == 0 {
-                return Err(Refusal::TooDeep(tokens));
-            }
-            grouped(alloc, bytes, room - 1, behind(tokens))
-        }
-        _ => Err(Refusal::Wrong(tokens)),
+    if room == 0 {
+        return Err(Refusal::TooDeep);
+    }
+    cursor.advance();
+    grouped(alloc, room - 1, cursor)
+}
+
+#[cycle(formulas)]
+#[tactic(auto, unfolding(crate::specs::FormulaReader::primary))]
+fn primary(alloc: Global, room: u32, cursor: &mut Cursor) -> Result<Box<Surface>, Refusal>
+    ensures { ReadsFormula cursor.new result (reader.primary (reader.inner room) cursor.old) }
+{
+    match cursor.found() {
+        Terminal::Lower | Terminal::Quoted => constant(alloc, cursor),
+        Terminal::Upper => variable_term(alloc, cursor),
+        Terminal::Truth(value) => truth(alloc, value, cursor),
+        Terminal::Mark(Mark::Open) => group(alloc, room, cursor),
+        _ => Err(Refusal::Wrong),
     }
 }
 
 /// A primary formula or a binder's.
 #[cycle(formulas)]
 #[tactic(auto, unfolding(crate::specs::FormulaReader::unitary))]
-fn unitary<'a>(
-    alloc: Global,
-    bytes: &[u8],
-    room: u32,
-    tokens: &'a [Token],
-) -> Result<FormulaRead<'a>, Refusal<'a>>
-    ensures { ReadsFormula bytes.now result (reader.unitary (reader.inner room) (lexemes bytes.now tokens.now)) }
+fn unitary(alloc: Global, room: u32, cursor: &mut Cursor) -> Result<Box<Surface>, Refusal>
+    ensures { ReadsFormula cursor.new result (reader.unitary (reader.inner room) cursor.old) }
 {
-    match first_terminal(bytes, tokens) {
-        Terminal::Binder(binder) => bind(alloc, bytes, room, binder, tokens),
-        _ => primary(alloc, bytes, room, tokens),
+    match cursor.found() {
+        Terminal::Binder(binder) => bind(alloc, room, binder, cursor),
+        _ => primary(alloc, room, cursor),
     }
 }
 
 /// A unitary formula or a negation.
 #[cycle(formulas)]
 #[tactic(auto, unfolding(crate::specs::FormulaReader::operand))]
-fn operand<'a>(
-    alloc: Global,
-    bytes: &[u8],
-    room: u32,
-    tokens: &'a [Token],
-) -> Result<FormulaRead<'a>, Refusal<'a>>
-    ensures { ReadsFormula bytes.now result (reader.operand (reader.inner room) (lexemes bytes.now tokens.now)) }
+fn operand(alloc: Global, room: u32, cursor: &mut Cursor) -> Result<Box<Surface>, Refusal>
+    ensures { ReadsFormula cursor.new result (reader.operand (reader.inner room) cursor.old) }
 {
-    match first_terminal(bytes, tokens) {
-        Terminal::Conn(Conn::Not) => negation(alloc, bytes, room, tokens),
-        _ => unitary(alloc, bytes, room, tokens),
+    match cursor.found() {
+        Terminal::Conn(Conn::Not) => negation(alloc, room, cursor),
+        _ => unitary(alloc, room, cursor),
     }
 }
 
-/// The equation with `left` on its left, where the tokens behind begin with its sign.
+/// The equation with `left` on its left, where the tokens begin with its sign.
 #[cycle(formulas)]
 #[tactic(auto, unfolding(crate::specs::FormulaReader::right_side))]
-fn right_side<'a>(
+fn right_side(
     alloc: Global,
-    bytes: &[u8],
     room: u32,
     positive: bool,
-    left: FormulaRead<'a>,
-) -> Result<FormulaRead<'a>, Refusal<'a>>
-    ensures { ReadsFormula bytes.now result (reader.right_side (reader.inner room) positive (the_formula left.entry.tree) (lexemes bytes.now left.entry.rest.now)) }
+    left: Box<Surface>,
+    cursor: &mut Cursor,
+) -> Result<Box<Surface>, Refusal>
+    ensures { ReadsFormula cursor.new result (reader.right_side (reader.inner room) positive (the_formula left.value) cursor.old) }
 {
-    let right = unitary(alloc, bytes, room, behind(left.rest))?;
-    Ok(FormulaRead {
-        tree: Surface::equation(
-            alloc,
-            first_place(left.rest),
-            positive,
-            left.tree,
-            right.tree,
-        )?,
-        rest: right.rest,
-    })
+    let at = cursor.place();
+    cursor.advance();
+    let right = unitary(alloc, room, cursor)?;
+    let equation = Surface::Equation {
+        at,
+        positive,
+        left,
+        right,
+    };
+    Ok(Box::new(alloc, equation)?)
 }
 
 #[cycle(formulas)]
 #[tactic(auto, unfolding(crate::specs::FormulaReader::unit))]
-fn unit<'a>(
-    alloc: Global,
-    bytes: &[u8],
-    room: u32,
-    tokens: &'a [Token],
-) -> Result<FormulaRead<'a>, Refusal<'a>>
-    ensures { ReadsFormula bytes.now result (reader.unit (reader.inner room) (lexemes bytes.now tokens.now)) }
+fn unit(alloc: Global, room: u32, cursor: &mut Cursor) -> Result<Box<Surface>, Refusal>
+    ensures { ReadsFormula cursor.new result (reader.unit (reader.inner room) cursor.old) }
 {
-    match first_terminal(bytes, tokens) {
-        Terminal::Conn(Conn::Not) => negation(alloc, bytes, room, tokens),
-        Terminal::Binder(binder) => bind(alloc, bytes, room, binder, tokens),
+    match cursor.found() {
+        Terminal::Conn(Conn::Not) => negation(alloc, room, cursor),
+        Terminal::Binder(binder) => bind(alloc, room, binder, cursor),
         _ => {
-            let left = primary(alloc, bytes, room, tokens)?;
-            match first_terminal(bytes, left.rest) {
-                Terminal::Equality(positive) => right_side(alloc, bytes, room, positive, left),
+            let left = primary(alloc, room, cursor)?;
+            match cursor.found() {
+                Terminal::Equality(positive) => right_side(alloc, room, positive, left, cursor),
                 _ => Ok(left),
             }
         }
@@ -214,139 +173,137 @@ fn unit<'a>(
 /// The binder's formula that begins with the first token.
 #[cycle(formulas)]
 #[tactic(auto, unfolding(crate::specs::FormulaReader::binder_at, crate::specs::FormulaReader::inner))]
-fn bind<'a>(
+fn bind(
     alloc: Global,
-    bytes: &[u8],
     room: u32,
     binder: Binder,
-    tokens: &'a [Token],
-) -> Result<FormulaRead<'a>, Refusal<'a>>
-    ensures { ReadsFormula bytes.now result (reader.binder_at (reader.inner room) binder (lexemes bytes.now tokens.now)) }
+    cursor: &mut Cursor,
+) -> Result<Box<Surface>, Refusal>
+    ensures { ReadsFormula cursor.new result (reader.binder_at (reader.inner room) binder cursor.old) }
 {
-    let bound = Bound {
-        at: first_place(tokens),
-        binder,
-    };
-    let opening = behind(tokens);
-    match first_terminal(bytes, opening) {
+    let at = cursor.place();
+    let bound = Bound { at, binder };
+    cursor.advance();
+    match cursor.found() {
         Terminal::Mark(Mark::OpenList) => {
             if room == 0 {
-                return Err(Refusal::TooDeep(opening));
+                return Err(Refusal::TooDeep);
             }
-            let vars = SurfaceVars::new(alloc);
-            next_variable(alloc, bytes, room, bound, vars, behind(opening))
+            cursor.advance();
+            next_variable(alloc, room, bound, SurfaceVars::new(alloc), cursor)
         }
-        _ => Err(Refusal::Wrong(opening)),
+        _ => Err(Refusal::Wrong),
     }
 }
 
 /// The rest of a binder's formula from a variable on.
 #[cycle(formulas)]
 #[tactic(auto, unfolding(crate::specs::FormulaReader::next_variable, crate::specs::FormulaReader::inner))]
-fn next_variable<'a>(
+fn next_variable(
     alloc: Global,
-    bytes: &[u8],
     room: u32,
     bound: Bound,
     vars: SurfaceVars,
-    tokens: &'a [Token],
-) -> Result<FormulaRead<'a>, Refusal<'a>>
-    ensures { ReadsFormula bytes.now result (reader.next_variable (reader.inner room) bound.binder bound.at (the_vars vars) (lexemes bytes.now tokens.now)) }
+    cursor: &mut Cursor,
+) -> Result<Box<Surface>, Refusal>
+    ensures { ReadsFormula cursor.new result (reader.next_variable (reader.inner room) bound.binder bound.at (the_vars vars) cursor.old) }
 {
-    match first_terminal(bytes, tokens) {
+    match cursor.found() {
         Terminal::Upper => {
             if room == 0 {
-                return Err(Refusal::TooDeep(tokens));
+                return Err(Refusal::TooDeep);
             }
-            variables(alloc, bytes, room - 1, bound, vars, tokens)
+            variables(alloc, room - 1, bound, vars, cursor)
         }
-        _ => Err(Refusal::Wrong(tokens)),
+        _ => Err(Refusal::Wrong),
     }
 }
 
 /// The rest of a binder's formula from a variable on that is counted.
 #[cycle(formulas)]
 #[tactic(auto, unfolding(crate::specs::FormulaReader::bound, crate::specs::FormulaReader::inner))]
-fn variables<'a>(
+fn variables(
     alloc: Global,
-    bytes: &[u8],
     room: u32,
     bound: Bound,
     vars: SurfaceVars,
-    tokens: &'a [Token],
-) -> Result<FormulaRead<'a>, Refusal<'a>>
-    ensures { ReadsFormula bytes.now result (reader.bound (reader.inner room) bound.binder bound.at (the_vars vars) (lexemes bytes.now tokens.now)) }
+    cursor: &mut Cursor,
+) -> Result<Box<Surface>, Refusal>
+    ensures { ReadsFormula cursor.new result (reader.bound (reader.inner room) bound.binder bound.at (the_vars vars) cursor.old) }
 {
     if room == 0 {
-        return Err(Refusal::TooDeep(tokens));
+        return Err(Refusal::TooDeep);
     }
-    let read = variable(alloc, bytes, room - 1, tokens)?;
-    let rest = read.rest;
-    let vars = with_variable(vars, read.var)?;
-    behind_variable(alloc, bytes, room, bound, vars, rest)
+    let var = variable(alloc, room - 1, cursor)?;
+    let vars = with_variable(vars, var)?;
+    behind_variable(alloc, room, bound, vars, cursor)
 }
 
 /// The rest of a binder's formula behind a variable.
 #[cycle(formulas)]
 #[tactic(auto, unfolding(crate::specs::FormulaReader::behind_variable))]
-fn behind_variable<'a>(
+fn behind_variable(
     alloc: Global,
-    bytes: &[u8],
     room: u32,
     bound: Bound,
     vars: SurfaceVars,
-    tokens: &'a [Token],
-) -> Result<FormulaRead<'a>, Refusal<'a>>
-    ensures { ReadsFormula bytes.now result (reader.behind_variable (reader.inner room) bound.binder bound.at (the_vars vars) (lexemes bytes.now tokens.now)) }
+    cursor: &mut Cursor,
+) -> Result<Box<Surface>, Refusal>
+    ensures { ReadsFormula cursor.new result (reader.behind_variable (reader.inner room) bound.binder bound.at (the_vars vars) cursor.old) }
 {
-    match first_terminal(bytes, tokens) {
+    match cursor.found() {
         Terminal::Mark(Mark::Comma) => {
-            if binds_many(bound.binder) {
-                next_variable(alloc, bytes, room, bound, vars, behind(tokens))
-            } else {
-                Err(Refusal::Wrong(tokens))
+            if !binds_many(bound.binder) {
+                return Err(Refusal::Wrong);
             }
+            cursor.advance();
+            next_variable(alloc, room, bound, vars, cursor)
         }
-        Terminal::Mark(Mark::CloseList) => body(alloc, bytes, room, bound, vars, behind(tokens)),
-        _ => Err(Refusal::Wrong(tokens)),
+        Terminal::Mark(Mark::CloseList) => {
+            cursor.advance();
+            body(alloc, room, bound, vars, cursor)
+        }
+        _ => Err(Refusal::Wrong),
     }
 }
 
 /// A binder's formula, from the colon before its body on.
 #[cycle(formulas)]
 #[tactic(auto, unfolding(crate::specs::FormulaReader::body))]
-fn body<'a>(
+fn body(
     alloc: Global,
-    bytes: &[u8],
     room: u32,
     bound: Bound,
     vars: SurfaceVars,
-    tokens: &'a [Token],
-) -> Result<FormulaRead<'a>, Refusal<'a>>
-    ensures { ReadsFormula bytes.now result (reader.body (reader.inner room) bound.binder bound.at (the_vars vars) (lexemes bytes.now tokens.now)) }
+    cursor: &mut Cursor,
+) -> Result<Box<Surface>, Refusal>
+    ensures { ReadsFormula cursor.new result (reader.body (reader.inner room) bound.binder bound.at (the_vars vars) cursor.old) }
 {
-    let rest = expect(Mark::Colon, bytes, tokens)?;
-    let inside = unit(alloc, bytes, room, rest)?;
-    Ok(FormulaRead {
-        tree: Surface::bind(alloc, bound.at, bound.binder, vars, inside.tree)?,
-        rest: inside.rest,
-    })
+    cursor.expect(Mark::Colon)?;
+    let body = unit(alloc, room, cursor)?;
+    let binding = Surface::Bind {
+        at: bound.at,
+        binder: bound.binder,
+        vars,
+        body,
+    };
+    Ok(Box::new(alloc, binding)?)
 }
 
 /// The chain of `conn` from its operator on, where `left` is the tree of the operands before.
 #[cycle(formulas)]
 #[tactic(auto, unfolding(crate::specs::FormulaReader::links))]
-fn links<'a>(
+fn links(
     alloc: Global,
-    bytes: &[u8],
     room: u32,
     conn: Conn,
-    left: FormulaRead<'a>,
-) -> Result<FormulaRead<'a>, Refusal<'a>>
-    ensures { ReadsFormula bytes.now result (reader.links (reader.inner room) conn (the_formula left.entry.tree) (lexemes bytes.now left.entry.rest.now)) }
+    left: Box<Surface>,
+    cursor: &mut Cursor,
+) -> Result<Box<Surface>, Refusal>
+    ensures { ReadsFormula cursor.new result (reader.links (reader.inner room) conn (the_formula left.value) cursor.old) }
 {
-    if is_link(conn, first_terminal(bytes, left.rest)) {
-        next_link(alloc, bytes, room, conn, left)
+    if is_link(conn, cursor.found()) {
+        next_link(alloc, room, conn, left, cursor)
     } else {
         Ok(left)
     }
@@ -355,37 +312,43 @@ fn links<'a>(
 /// The chain of `conn` from an operator on that is there.
 #[cycle(formulas)]
 #[tactic(auto, unfolding(crate::specs::FormulaReader::inner))]
-fn next_link<'a>(
+fn next_link(
     alloc: Global,
-    bytes: &[u8],
     room: u32,
     conn: Conn,
-    left: FormulaRead<'a>,
-) -> Result<FormulaRead<'a>, Refusal<'a>>
-    ensures { ReadsFormula bytes.now result (reader.next_link (reader.inner room) conn (the_formula left.entry.tree) (lexemes bytes.now left.entry.rest.now)) }
+    left: Box<Surface>,
+    cursor: &mut Cursor,
+) -> Result<Box<Surface>, Refusal>
+    ensures { ReadsFormula cursor.new result (reader.next_link (reader.inner room) conn (the_formula left.value) cursor.old) }
 {
     if room == 0 {
-        return Err(Refusal::TooDeep(left.rest));
+        return Err(Refusal::TooDeep);
     }
-    let right = unit(alloc, bytes, room - 1, behind(left.rest))?;
-    let tree = Surface::binary(alloc, first_place(left.rest), conn, left.tree, right.tree)?;
-    let rest = right.rest;
-    links(alloc, bytes, room - 1, conn, FormulaRead { tree, rest })
+    let at = cursor.place();
+    cursor.advance();
+    let right = unit(alloc, room - 1, cursor)?;
+    let pair = Surface::Binary {
+        at,
+        conn,
+        left,
+        right,
+    };
+    links(alloc, room - 1, conn, Box::new(alloc, pair)?, cursor)
 }
 
 /// What is applied to further arguments, from their `@` on, where `left` is the tree of what stands before.
 #[cycle(formulas)]
 #[tactic(auto, unfolding(crate::specs::FormulaReader::arguments))]
-fn arguments<'a>(
+fn arguments(
     alloc: Global,
-    bytes: &[u8],
     room: u32,
-    left: FormulaRead<'a>,
-) -> Result<FormulaRead<'a>, Refusal<'a>>
-    ensures { ReadsFormula bytes.now result (reader.arguments (reader.inner room) (the_formula left.entry.tree) (lexemes bytes.now left.entry.rest.now)) }
+    left: Box<Surface>,
+    cursor: &mut Cursor,
+) -> Result<Box<Surface>, Refusal>
+    ensures { ReadsFormula cursor.new result (reader.arguments (reader.inner room) (the_formula left.value) cursor.old) }
 {
-    match first_terminal(bytes, left.rest) {
-        Terminal::Mark(Mark::At) => next_argument(alloc, bytes, room, left),
+    match cursor.found() {
+        Terminal::Mark(Mark::At) => next_argument(alloc, room, left, cursor),
         _ => Ok(left),
     }
 }
@@ -393,84 +356,90 @@ fn arguments<'a>(
 /// What is applied to further arguments, from an `@` on that is there.
 #[cycle(formulas)]
 #[tactic(auto, unfolding(crate::specs::FormulaReader::inner))]
-fn next_argument<'a>(
+fn next_argument(
     alloc: Global,
-    bytes: &[u8],
     room: u32,
-    left: FormulaRead<'a>,
-) -> Result<FormulaRead<'a>, Refusal<'a>>
-    ensures { ReadsFormula bytes.now result (reader.next_argument (reader.inner room) (the_formula left.entry.tree) (lexemes bytes.now left.entry.rest.now)) }
+    left: Box<Surface>,
+    cursor: &mut Cursor,
+) -> Result<Box<Surface>, Refusal>
+    ensures { ReadsFormula cursor.new result (reader.next_argument (reader.inner room) (the_formula left.value) cursor.old) }
 {
     if room == 0 {
-        return Err(Refusal::TooDeep(left.rest));
+        return Err(Refusal::TooDeep);
     }
-    let right = operand(alloc, bytes, room - 1, behind(left.rest))?;
-    let tree = Surface::apply(alloc, first_place(left.rest), left.tree, right.tree)?;
-    let rest = right.rest;
-    arguments(alloc, bytes, room - 1, FormulaRead { tree, rest })
+    let at = cursor.place();
+    cursor.advance();
+    let arg = operand(alloc, room - 1, cursor)?;
+    let application = Surface::Apply { at, fun: left, arg };
+    arguments(alloc, room - 1, Box::new(alloc, application)?, cursor)
 }
 
 /// The argument of `!!` or `??`, and those behind it, from the `@` on.
 #[cycle(formulas)]
 #[tactic(auto, unfolding(crate::specs::FormulaReader::quantified_at, crate::specs::FormulaReader::inner))]
-fn quantified<'a>(
+fn quantified(
     alloc: Global,
-    bytes: &[u8],
     room: u32,
     all: bool,
-    tokens: &'a [Token],
-) -> Result<FormulaRead<'a>, Refusal<'a>>
-    ensures { ReadsFormula bytes.now result (reader.quantified_at (reader.inner room) all (lexemes bytes.now tokens.now)) }
+    cursor: &mut Cursor,
+) -> Result<Box<Surface>, Refusal>
+    ensures { ReadsFormula cursor.new result (reader.quantified_at (reader.inner room) all cursor.old) }
 {
-    match first_terminal(bytes, tokens) {
+    match cursor.found() {
         Terminal::Mark(Mark::At) => {
             if room == 0 {
-                return Err(Refusal::TooDeep(tokens));
+                return Err(Refusal::TooDeep);
             }
-            let right = operand(alloc, bytes, room - 1, behind(tokens))?;
-            let tree = Surface::quant(alloc, first_place(tokens), all, right.tree)?;
-            let rest = right.rest;
-            arguments(alloc, bytes, room - 1, FormulaRead { tree, rest })
+            let at = cursor.place();
+            cursor.advance();
+            let arg = operand(alloc, room - 1, cursor)?;
+            let quantified = Surface::Quant { at, all, arg };
+            arguments(alloc, room - 1, Box::new(alloc, quantified)?, cursor)
         }
-        _ => Err(Refusal::Wrong(tokens)),
+        _ => Err(Refusal::Wrong),
     }
 }
 
 /// The formula of a connective that has two operands, from the connective on.
 #[cycle(formulas)]
 #[tactic(auto, unfolding(crate::specs::FormulaReader::second))]
-fn second<'a>(
+fn second(
     alloc: Global,
-    bytes: &[u8],
     room: u32,
     conn: Conn,
-    left: FormulaRead<'a>,
-) -> Result<FormulaRead<'a>, Refusal<'a>>
-    ensures { ReadsFormula bytes.now result (reader.second (reader.inner room) conn (the_formula left.entry.tree) (lexemes bytes.now left.entry.rest.now)) }
+    left: Box<Surface>,
+    cursor: &mut Cursor,
+) -> Result<Box<Surface>, Refusal>
+    ensures { ReadsFormula cursor.new result (reader.second (reader.inner room) conn (the_formula left.value) cursor.old) }
 {
-    let right = unit(alloc, bytes, room, behind(left.rest))?;
-    Ok(FormulaRead {
-        tree: Surface::binary(alloc, first_place(left.rest), conn, left.tree, right.tree)?,
-        rest: right.rest,
-    })
+    let at = cursor.place();
+    cursor.advance();
+    let right = unit(alloc, room, cursor)?;
+    let pair = Surface::Binary {
+        at,
+        conn,
+        left,
+        right,
+    };
+    Ok(Box::new(alloc, pair)?)
 }
 
 /// The formula whose first unit is `left`.
 #[cycle(formulas)]
 #[tactic(auto, unfolding(crate::specs::FormulaReader::tail))]
-fn tail<'a>(
+fn tail(
     alloc: Global,
-    bytes: &[u8],
     room: u32,
-    left: FormulaRead<'a>,
-) -> Result<FormulaRead<'a>, Refusal<'a>>
-    ensures { ReadsFormula bytes.now result (reader.tail (reader.inner room) (the_formula left.entry.tree) (lexemes bytes.now left.entry.rest.now)) }
+    left: Box<Surface>,
+    cursor: &mut Cursor,
+) -> Result<Box<Surface>, Refusal>
+    ensures { ReadsFormula cursor.new result (reader.tail (reader.inner room) (the_formula left.value) cursor.old) }
 {
-    match first_terminal(bytes, left.rest) {
+    match cursor.found() {
         Terminal::Conn(Conn::Not) => Ok(left),
-        Terminal::Conn(Conn::And) => links(alloc, bytes, room, Conn::And, left),
-        Terminal::Conn(Conn::Or) => links(alloc, bytes, room, Conn::Or, left),
-        Terminal::Conn(conn) => second(alloc, bytes, room, conn, left),
+        Terminal::Conn(Conn::And) => links(alloc, room, Conn::And, left, cursor),
+        Terminal::Conn(Conn::Or) => links(alloc, room, Conn::Or, left, cursor),
+        Terminal::Conn(conn) => second(alloc, room, conn, left, cursor),
         _ => Ok(left),
     }
 }
@@ -478,160 +447,137 @@ fn tail<'a>(
 /// The formula that begins with the unitary formula `left`, which isn't a side of an equation.
 #[cycle(formulas)]
 #[tactic(auto, unfolding(crate::specs::FormulaReader::applied))]
-fn applied<'a>(
+fn applied(
     alloc: Global,
-    bytes: &[u8],
     room: u32,
-    left: FormulaRead<'a>,
-) -> Result<FormulaRead<'a>, Refusal<'a>>
-    ensures { ReadsFormula bytes.now result (reader.applied (reader.inner room) (the_formula left.entry.tree) (lexemes bytes.now left.entry.rest.now)) }
+    left: Box<Surface>,
+    cursor: &mut Cursor,
+) -> Result<Box<Surface>, Refusal>
+    ensures { ReadsFormula cursor.new result (reader.applied (reader.inner room) (the_formula left.value) cursor.old) }
 {
-    match first_terminal(bytes, left.rest) {
-        Terminal::Mark(Mark::At) => arguments(alloc, bytes, room, left),
-        _ => tail(alloc, bytes, room, left),
+    match cursor.found() {
+        Terminal::Mark(Mark::At) => arguments(alloc, room, left, cursor),
+        _ => tail(alloc, room, left, cursor),
     }
 }
 
 /// The formula that begins with the primary formula `left`.
 #[cycle(formulas)]
 #[tactic(auto, unfolding(crate::specs::FormulaReader::behind_primary))]
-fn behind_primary<'a>(
+fn behind_primary(
     alloc: Global,
-    bytes: &[u8],
     room: u32,
-    left: FormulaRead<'a>,
-) -> Result<FormulaRead<'a>, Refusal<'a>>
-    ensures { ReadsFormula bytes.now result (reader.behind_primary (reader.inner room) (the_formula left.entry.tree) (lexemes bytes.now left.entry.rest.now)) }
+    left: Box<Surface>,
+    cursor: &mut Cursor,
+) -> Result<Box<Surface>, Refusal>
+    ensures { ReadsFormula cursor.new result (reader.behind_primary (reader.inner room) (the_formula left.value) cursor.old) }
 {
-    match first_terminal(bytes, left.rest) {
+    match cursor.found() {
         Terminal::Equality(positive) => {
-            let equation = right_side(alloc, bytes, room, positive, left)?;
-            tail(alloc, bytes, room, equation)
+            let equation = right_side(alloc, room, positive, left, cursor)?;
+            tail(alloc, room, equation, cursor)
         }
-        _ => applied(alloc, bytes, room, left),
+        _ => applied(alloc, room, left, cursor),
     }
 }
 
 #[cycle(formulas)]
 #[tactic(auto, unfolding(crate::specs::FormulaReader::formula))]
-pub fn formula<'a>(
-    alloc: Global,
-    bytes: &[u8],
-    room: u32,
-    tokens: &'a [Token],
-) -> Result<FormulaRead<'a>, Refusal<'a>>
-    ensures { ReadsFormula bytes.now result (reader.formula (reader.inner room) (lexemes bytes.now tokens.now)) }
+pub fn formula(alloc: Global, room: u32, cursor: &mut Cursor) -> Result<Box<Surface>, Refusal>
+    ensures { ReadsFormula cursor.new result (reader.formula (reader.inner room) cursor.old) }
 {
-    match first_terminal(bytes, tokens) {
+    match cursor.found() {
         Terminal::Conn(Conn::Not) => {
-            let left = negation(alloc, bytes, room, tokens)?;
-            tail(alloc, bytes, room, left)
+            let left = negation(alloc, room, cursor)?;
+            tail(alloc, room, left, cursor)
         }
-        Terminal::Quant(all) => quantified(alloc, bytes, room, all, behind(tokens)),
+        Terminal::Quant(all) => {
+            cursor.advance();
+            quantified(alloc, room, all, cursor)
+        }
         Terminal::Binder(binder) => {
-            let left = bind(alloc, bytes, room, binder, tokens)?;
-            applied(alloc, bytes, room, left)
+            let left = bind(alloc, room, binder, cursor)?;
+            applied(alloc, room, left, cursor)
         }
         _ => {
-            let left = primary(alloc, bytes, room, tokens)?;
-            behind_primary(alloc, bytes, room, left)
+            let left = primary(alloc, room, cursor)?;
+            behind_primary(alloc, room, left, cursor)
         }
     }
 }
 
 /// A connective alone, up to the `)` behind it.
 #[tactic(auto, unfolding(crate::specs::FormulaReader::lone))]
-fn lone<'a>(bytes: &[u8], conn: Conn, tokens: &'a [Token]) -> Result<FormulaRead<'a>, Refusal<'a>>
-    ensures { ReadsFormula bytes.now result (reader.lone conn (lexemes bytes.now tokens.now)) }
+fn lone(alloc: Global, conn: Conn, cursor: &mut Cursor) -> Result<Box<Surface>, Refusal>
+    ensures { ReadsFormula cursor.new result (reader.lone conn cursor.old) }
 {
-    let rest = expect(Mark::Close, bytes, behind(tokens))?;
-    Ok(FormulaRead {
-        tree: Surface::Op {
-            at: first_place(tokens),
-            conn,
-        },
-        rest,
-    })
+    let at = cursor.place();
+    cursor.advance();
+    cursor.expect(Mark::Close)?;
+    Ok(Box::new(alloc, Surface::Op { at, conn })?)
 }
 
 /// What stands behind a `(` and begins with a `~`, up to its `)`.
 #[cycle(formulas)]
 #[tactic(auto, unfolding(crate::specs::FormulaReader::inner))]
-fn negated<'a>(
-    alloc: Global,
-    bytes: &[u8],
-    room: u32,
-    tokens: &'a [Token],
-) -> Result<FormulaRead<'a>, Refusal<'a>>
-    ensures { ReadsFormula bytes.now result (reader.negated_at (reader.inner room) (lexemes bytes.now tokens.now)) }
+fn negated(alloc: Global, room: u32, cursor: &mut Cursor) -> Result<Box<Surface>, Refusal>
+    ensures { ReadsFormula cursor.new result (reader.negated_at (reader.inner room) cursor.old) }
 {
     if room == 0 {
-        return Err(Refusal::TooDeep(tokens));
+        return Err(Refusal::TooDeep);
     }
-    let at = first_place(tokens);
-    let rest = behind(tokens);
-    match first_terminal(bytes, rest) {
-        Terminal::Mark(Mark::Close) => Ok(FormulaRead {
-            tree: Surface::Op {
-                at,
-                conn: Conn::Not,
-            },
-            rest: behind(rest),
-        }),
-        _ => negated_operand(alloc, bytes, room, at, rest),
+    let at = cursor.place();
+    cursor.advance();
+    match cursor.found() {
+        Terminal::Mark(Mark::Close) => {
+            cursor.advance();
+            let conn = Conn::Not;
+            Ok(Box::new(alloc, Surface::Op { at, conn })?)
+        }
+        _ => negated_operand(alloc, room, at, cursor),
     }
 }
 
 /// What is negated behind a `(` and a `~` at the place `at`, and what follows it, up to the `)`.
 #[cycle(formulas)]
 #[tactic(auto, unfolding(crate::specs::FormulaReader::inner))]
-fn negated_operand<'a>(
+fn negated_operand(
     alloc: Global,
-    bytes: &[u8],
     room: u32,
     at: u32,
-    tokens: &'a [Token],
-) -> Result<FormulaRead<'a>, Refusal<'a>>
-    ensures { ReadsFormula bytes.now result (reader.negated_operand (reader.inner room) at (lexemes bytes.now tokens.now)) }
+    cursor: &mut Cursor,
+) -> Result<Box<Surface>, Refusal>
+    ensures { ReadsFormula cursor.new result (reader.negated_operand (reader.inner room) at cursor.old) }
 {
     if room == 0 {
-        return Err(Refusal::TooDeep(tokens));
+        return Err(Refusal::TooDeep);
     }
-    let inside = operand(alloc, bytes, room - 1, tokens)?;
-    let tree = Surface::not(alloc, at, inside.tree)?;
-    let rest = inside.rest;
-    let whole = tail(alloc, bytes, room, FormulaRead { tree, rest })?;
-    closed(bytes, whole)
+    let body = operand(alloc, room - 1, cursor)?;
+    let left = Box::new(alloc, Surface::Not { at, body })?;
+    let whole = tail(alloc, room, left, cursor)?;
+    closed(whole, cursor)
 }
 
 /// The formula, where a `)` stands behind it.
-fn closed<'a>(bytes: &[u8], inside: FormulaRead<'a>) -> Result<FormulaRead<'a>, Refusal<'a>>
-    ensures { ReadsFormula bytes.now result (reader.closed (the_formula inside.entry.tree) (lexemes bytes.now inside.entry.rest.now)) }
+fn closed(inside: Box<Surface>, cursor: &mut Cursor) -> Result<Box<Surface>, Refusal>
+    ensures { ReadsFormula cursor.new result (reader.closed (the_formula inside.value) cursor.old) }
 {
-    let rest = expect(Mark::Close, bytes, inside.rest)?;
-    Ok(FormulaRead {
-        tree: inside.tree,
-        rest,
-    })
+    cursor.expect(Mark::Close)?;
+    Ok(inside)
 }
 
 /// What stands behind a `(`, up to its `)`.
 #[cycle(formulas)]
 #[tactic(auto, unfolding(crate::specs::FormulaReader::grouped))]
-fn grouped<'a>(
-    alloc: Global,
-    bytes: &[u8],
-    room: u32,
-    tokens: &'a [Token],
-) -> Result<FormulaRead<'a>, Refusal<'a>>
-    ensures { ReadsFormula bytes.now result (reader.grouped (reader.inner room) (lexemes bytes.now tokens.now)) }
+fn grouped(alloc: Global, room: u32, cursor: &mut Cursor) -> Result<Box<Surface>, Refusal>
+    ensures { ReadsFormula cursor.new result (reader.grouped (reader.inner room) cursor.old) }
 {
-    match first_terminal(bytes, tokens) {
-        Terminal::Conn(Conn::Not) => negated(alloc, bytes, room, tokens),
-        Terminal::Conn(conn) => lone(bytes, conn, tokens),
+    match cursor.found() {
+        Terminal::Conn(Conn::Not) => negated(alloc, room, cursor),
+        Terminal::Conn(conn) => lone(alloc, conn, cursor),
         _ => {
-            let inside = formula(alloc, bytes, room, tokens)?;
-            closed(bytes, inside)
+            let inside = formula(alloc, room, cursor)?;
+            closed(inside, cursor)
         }
     }
 }

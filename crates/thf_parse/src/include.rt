@@ -1,81 +1,43 @@
 //! Labels, and includes.
 ghost use Rattle.std.specs.Prelude.{◌≡◌, ◌∷◌, [], ◌++◌, map, IfOk};
 ghost use Rattle.thf_syntax.specs.View.{the_selected};
-ghost use Rattle.thf_parse.specs.Words.{lexemes};
 ghost use Rattle.thf_parse.specs.StatementReader as reader;
 ghost use Rattle.thf_parse.specs.Reads.{ReadsLabel, ReadsLabels, ReadsSelection, ReadsStatement};
 
+use crate::cursor::Cursor;
 use crate::refusal::Refusal;
-use crate::statement::{StatementRead, finish};
+use crate::statement::finish;
 use crate::terminal::{Mark, Terminal};
-use crate::words::{behind, expect, first_name, first_place, first_terminal, is_mark};
 use std::alloc::{AllocError, Global};
-use thf_lex::Token;
 use thf_syntax::{Selected, Selection, Statement};
 
-/// A label with its place, and the tokens behind it.
-#[derive(Drop)]
-pub struct LabelRead<'a> {
-    pub label: Selected,
-    pub rest: &'a [Token],
-}
-
-/// Labels, and the tokens behind them.
-#[derive(Drop)]
-pub struct LabelsRead<'a> {
-    pub labels: Selection,
-    pub rest: &'a [Token],
-}
-
-/// A selection, and the tokens behind it.
-#[derive(Drop)]
-pub struct SelectionRead<'a> {
-    pub only: Option<Selection>,
-    pub rest: &'a [Token],
-}
-
 /// The first token as a name with its place.
-pub fn named<'a>(
-    alloc: Global,
-    bytes: &[u8],
-    tokens: &'a [Token],
-) -> Result<LabelRead<'a>, Refusal<'a>>
-    ensures { ReadsLabel bytes.now result (reader.named_at (lexemes bytes.now tokens.now)) }
+pub fn named(alloc: Global, cursor: &mut Cursor) -> Result<Selected, Refusal>
+    ensures { ReadsLabel cursor.new result (reader.named_at cursor.old) }
 {
-    Ok(LabelRead {
-        label: Selected {
-            at: first_place(tokens),
-            name: first_name(alloc, bytes, tokens)?,
-        },
-        rest: behind(tokens),
-    })
+    let at = cursor.place();
+    let name = cursor.name(alloc)?;
+    cursor.advance();
+    Ok(Selected { at, name })
 }
 
 #[tactic(auto, unfolding(crate::specs::StatementReader::label))]
-pub fn label<'a>(
-    alloc: Global,
-    bytes: &[u8],
-    tokens: &'a [Token],
-) -> Result<LabelRead<'a>, Refusal<'a>>
-    ensures { ReadsLabel bytes.now result (reader.label (lexemes bytes.now tokens.now)) }
+pub fn label(alloc: Global, cursor: &mut Cursor) -> Result<Selected, Refusal>
+    ensures { ReadsLabel cursor.new result (reader.label cursor.old) }
 {
-    match first_terminal(bytes, tokens) {
-        Terminal::Lower | Terminal::Quoted | Terminal::Integer => named(alloc, bytes, tokens),
-        _ => Err(Refusal::Wrong(tokens)),
+    match cursor.found() {
+        Terminal::Lower | Terminal::Quoted | Terminal::Integer => named(alloc, cursor),
+        _ => Err(Refusal::Wrong),
     }
 }
 
 #[tactic(auto, unfolding(crate::specs::StatementReader::quoted))]
-pub fn quoted<'a>(
-    alloc: Global,
-    bytes: &[u8],
-    tokens: &'a [Token],
-) -> Result<LabelRead<'a>, Refusal<'a>>
-    ensures { ReadsLabel bytes.now result (reader.quoted (lexemes bytes.now tokens.now)) }
+fn quoted(alloc: Global, cursor: &mut Cursor) -> Result<Selected, Refusal>
+    ensures { ReadsLabel cursor.new result (reader.quoted cursor.old) }
 {
-    match first_terminal(bytes, tokens) {
-        Terminal::Quoted => named(alloc, bytes, tokens),
-        _ => Err(Refusal::Wrong(tokens)),
+    match cursor.found() {
+        Terminal::Quoted => named(alloc, cursor),
+        _ => Err(Refusal::Wrong),
     }
 }
 
@@ -89,84 +51,57 @@ fn with_label(mut labels: Selection, label: Selected) -> Result<Selection, Alloc
 
 /// The selected names in brackets.
 #[tactic(auto, unfolding(crate::specs::StatementReader::names))]
-fn names<'a>(
-    alloc: Global,
-    bytes: &[u8],
-    tokens: &'a [Token],
-) -> Result<SelectionRead<'a>, Refusal<'a>>
-    ensures { ReadsSelection bytes.now result (reader.names (lexemes bytes.now tokens.now)) }
+fn names(alloc: Global, cursor: &mut Cursor) -> Result<Option<Selection>, Refusal>
+    ensures { ReadsSelection cursor.new result (reader.names cursor.old) }
 {
-    let rest = expect(Mark::OpenList, bytes, tokens)?;
-    let read = labels(alloc, bytes, rest)?;
-    let rest = expect(Mark::CloseList, bytes, read.rest)?;
-    Ok(SelectionRead {
-        only: Some(read.labels),
-        rest,
-    })
+    cursor.expect(Mark::OpenList)?;
+    let labels = labels(alloc, cursor)?;
+    cursor.expect(Mark::CloseList)?;
+    Ok(Some(labels))
 }
 
-fn labels<'a>(
-    alloc: Global,
-    bytes: &[u8],
-    tokens: &'a [Token],
-) -> Result<LabelsRead<'a>, Refusal<'a>>
-    ensures { ReadsLabels bytes.now result (reader.labels (lexemes bytes.now tokens.now)) }
+fn labels(alloc: Global, cursor: &mut Cursor) -> Result<Selection, Refusal>
+    ensures { ReadsLabels cursor.new result (reader.labels cursor.old) }
 {
     let mut labels = Selection::new(alloc);
-    let mut rest = tokens;
-    loop {
-        let read = match label(alloc, bytes, rest) {
+    'labels: loop {
+        let read = match label(alloc, cursor) {
             Ok(read) => read,
             Err(refusal) => return Err(refusal),
         };
-        let after = read.rest;
-        labels = with_label(labels, read.label)?;
-        if !is_mark(Mark::Comma, first_terminal(bytes, after)) {
-            return Ok(LabelsRead {
-                labels,
-                rest: after,
-            });
+        labels = with_label(labels, read)?;
+        if !cursor.found().is_mark(Mark::Comma) {
+            return Ok(labels);
         }
-        rest = behind(after);
+        cursor.advance();
     }
 }
 
 #[tactic(auto, unfolding(crate::specs::StatementReader::selection))]
-fn selection<'a>(
-    alloc: Global,
-    bytes: &[u8],
-    tokens: &'a [Token],
-) -> Result<SelectionRead<'a>, Refusal<'a>>
-    ensures { ReadsSelection bytes.now result (reader.selection (lexemes bytes.now tokens.now)) }
+fn selection(alloc: Global, cursor: &mut Cursor) -> Result<Option<Selection>, Refusal>
+    ensures { ReadsSelection cursor.new result (reader.selection cursor.old) }
 {
-    match first_terminal(bytes, tokens) {
-        Terminal::Mark(Mark::Comma) => names(alloc, bytes, behind(tokens)),
-        _ => Ok(SelectionRead {
-            only: None,
-            rest: tokens,
-        }),
+    match cursor.found() {
+        Terminal::Mark(Mark::Comma) => {
+            cursor.advance();
+            names(alloc, cursor)
+        }
+        _ => Ok(None),
     }
 }
 
 /// An include from its parenthesis on.
 #[tactic(auto, unfolding(crate::specs::StatementReader::include))]
-pub fn include<'a>(
-    alloc: Global,
-    bytes: &[u8],
-    tokens: &'a [Token],
-) -> Result<StatementRead<'a>, Refusal<'a>>
-    ensures { ReadsStatement bytes.now result (reader.include (lexemes bytes.now tokens.now)) }
+pub fn include(alloc: Global, cursor: &mut Cursor) -> Result<Statement, Refusal>
+    ensures { ReadsStatement cursor.new result (reader.include cursor.old) }
 {
-    let rest = expect(Mark::Open, bytes, tokens)?;
-    let file = quoted(alloc, bytes, rest)?;
-    let only = selection(alloc, bytes, file.rest)?;
-    let rest = finish(bytes, only.rest)?;
-    Ok(StatementRead {
-        statement: Statement::Include {
-            at: file.label.at,
-            file: file.label.name,
-            only: only.only,
-        },
-        rest,
+    cursor.expect(Mark::Open)?;
+    let file = quoted(alloc, cursor)?;
+    let only = selection(alloc, cursor)?;
+    finish(cursor)?;
+    Ok(Statement::Include {
+        at: file.at,
+        file: file.name,
+        only,
     })
 }

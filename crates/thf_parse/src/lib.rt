@@ -1,6 +1,7 @@
 //! The parser of THF files.
 #![tactic(auto)]
 
+mod cursor;
 #[cfg(test)]
 mod deep_tests;
 mod formula;

@@ -1,134 +1,151 @@
 //! Notes, which are read and not kept. In each reader, `room` is how many more things may be open at once.
-ghost use Rattle.thf_parse.specs.Words.{lexemes};
 ghost use Rattle.thf_parse.specs.NoteReader as reader;
+ghost use Rattle.thf_parse.specs.Outcome.{first_terminal};
 ghost use Rattle.thf_parse.specs.Passes.{Passes};
 
+use crate::cursor::Cursor;
 use crate::refusal::Refusal;
 use crate::terminal::{Mark, Terminal};
-use crate::words::{behind, expect, first_terminal, is_mark};
-use thf_lex::Token;
 
-/// The tokens behind the arguments of a name, where it has any.
+/// The arguments of a name, where it has any.
 #[cycle(notes)]
 #[tactic(auto, unfolding(crate::specs::NoteReader::called, crate::specs::NoteReader::inner_notes))]
-fn called<'a>(bytes: &[u8], room: u32, tokens: &'a [Token]) -> Result<&'a [Token], Refusal<'a>>
-    ensures { Passes bytes.now result (reader.called (reader.inner_notes room) (lexemes bytes.now tokens.now)) }
+fn called(room: u32, cursor: &mut Cursor) -> Result<(), Refusal>
+    ensures { Passes cursor.new result (reader.called (reader.inner_notes room) cursor.old) }
 {
-    match first_terminal(bytes, tokens) {
+    match cursor.found() {
         Terminal::Mark(Mark::Open) => {
             if room == 0 {
-                return Err(Refusal::TooDeep(tokens));
+                return Err(Refusal::TooDeep);
             }
-            let rest = generals(bytes, room - 1, behind(tokens))?;
-            expect(Mark::Close, bytes, rest)
+            cursor.advance();
+            generals(room - 1, cursor)?;
+            cursor.expect(Mark::Close)
         }
-        _ => Ok(tokens),
+        _ => Ok(()),
     }
 }
 
 #[cycle(notes)]
 #[tactic(auto, unfolding(crate::specs::NoteReader::data_at))]
-fn general_data<'a>(
-    bytes: &[u8],
-    room: u32,
-    tokens: &'a [Token],
-) -> Result<&'a [Token], Refusal<'a>>
-    ensures { Passes bytes.now result (reader.data_at (reader.inner_notes room) (lexemes bytes.now tokens.now)) }
+fn general_data(room: u32, cursor: &mut Cursor) -> Result<(), Refusal>
+    ensures { Passes cursor.new result (reader.data_at (reader.inner_notes room) cursor.old) }
 {
-    match first_terminal(bytes, tokens) {
-        Terminal::Lower | Terminal::Quoted => called(bytes, room, behind(tokens)),
-        Terminal::Upper | Terminal::Integer | Terminal::Distinct => Ok(behind(tokens)),
-        _ => Err(Refusal::Wrong(tokens)),
+    match cursor.found() {
+        Terminal::Lower | Terminal::Quoted => {
+            cursor.advance();
+            called(room, cursor)
+        }
+        Terminal::Upper | Terminal::Integer | Terminal::Distinct => {
+            cursor.advance();
+            Ok(())
+        }
+        _ => Err(Refusal::Wrong),
     }
 }
 
-/// The tokens behind a list, from its `[` on.
+/// A list, from its `[` on.
 #[cycle(notes)]
 #[tactic(auto, unfolding(crate::specs::NoteReader::inner_notes))]
-fn list<'a>(bytes: &[u8], room: u32, tokens: &'a [Token]) -> Result<&'a [Token], Refusal<'a>>
-    ensures { Passes bytes.now result (reader.list_at (reader.inner_notes room) (lexemes bytes.now tokens.now)) }
+fn list(room: u32, cursor: &mut Cursor) -> Result<(), Refusal>
+    ensures { Passes cursor.new result (reader.list_at (reader.inner_notes room) cursor.old) }
 {
     if room == 0 {
-        return Err(Refusal::TooDeep(tokens));
+        return Err(Refusal::TooDeep);
     }
-    listed(bytes, room - 1, behind(tokens))
+    cursor.advance();
+    listed(room - 1, cursor)
 }
 
-/// The tokens behind a list, from what stands behind its `[` on.
+/// A list, from what stands behind its `[` on.
 #[cycle(notes)]
-fn listed<'a>(bytes: &[u8], room: u32, tokens: &'a [Token]) -> Result<&'a [Token], Refusal<'a>>
-    ensures { Passes bytes.now result (reader.listed (reader.generals (reader.inner_notes room)) (lexemes bytes.now tokens.now)) }
+fn listed(room: u32, cursor: &mut Cursor) -> Result<(), Refusal>
+    ensures { Passes cursor.new result (reader.listed (reader.generals (reader.inner_notes room)) cursor.old) }
 {
-    match first_terminal(bytes, tokens) {
-        Terminal::Mark(Mark::CloseList) => Ok(behind(tokens)),
+    match cursor.found() {
+        Terminal::Mark(Mark::CloseList) => {
+            cursor.advance();
+            Ok(())
+        }
         _ => {
-            let rest = generals(bytes, room, tokens)?;
-            expect(Mark::CloseList, bytes, rest)
+            generals(room, cursor)?;
+            cursor.expect(Mark::CloseList)
         }
     }
 }
 
-/// The tokens behind a colon and what follows it, where there is one.
+/// A colon and what follows it, where there is one.
 #[cycle(notes)]
 #[tactic(auto, unfolding(crate::specs::NoteReader::paired, crate::specs::NoteReader::inner_notes))]
-fn paired<'a>(bytes: &[u8], room: u32, tokens: &'a [Token]) -> Result<&'a [Token], Refusal<'a>>
-    ensures { Passes bytes.now result (reader.paired (reader.inner_notes room) (lexemes bytes.now tokens.now)) }
+fn paired(room: u32, cursor: &mut Cursor) -> Result<(), Refusal>
+    ensures { Passes cursor.new result (reader.paired (reader.inner_notes room) cursor.old) }
 {
-    match first_terminal(bytes, tokens) {
+    match cursor.found() {
         Terminal::Mark(Mark::Colon) => {
             if room == 0 {
-                return Err(Refusal::TooDeep(tokens));
+                return Err(Refusal::TooDeep);
             }
-            general(bytes, room - 1, behind(tokens))
+            cursor.advance();
+            general(room - 1, cursor)
         }
-        _ => Ok(tokens),
+        _ => Ok(()),
     }
 }
 
 #[cycle(notes)]
 #[tactic(auto, unfolding(crate::specs::NoteReader::general))]
-fn general<'a>(bytes: &[u8], room: u32, tokens: &'a [Token]) -> Result<&'a [Token], Refusal<'a>>
-    ensures { Passes bytes.now result (reader.general (reader.inner_notes room) (lexemes bytes.now tokens.now)) }
+fn general(room: u32, cursor: &mut Cursor) -> Result<(), Refusal>
+    ensures { Passes cursor.new result (reader.general (reader.inner_notes room) cursor.old) }
 {
-    match first_terminal(bytes, tokens) {
-        Terminal::Mark(Mark::OpenList) => list(bytes, room, tokens),
+    match cursor.found() {
+        Terminal::Mark(Mark::OpenList) => list(room, cursor),
         _ => {
-            let rest = general_data(bytes, room, tokens)?;
-            paired(bytes, room, rest)
+            general_data(room, cursor)?;
+            paired(room, cursor)
         }
     }
 }
 
 #[cycle(notes)]
-fn generals<'a>(bytes: &[u8], room: u32, tokens: &'a [Token]) -> Result<&'a [Token], Refusal<'a>>
-    ensures { Passes bytes.now result (reader.generals (reader.inner_notes room) (lexemes bytes.now tokens.now)) }
+fn generals(room: u32, cursor: &mut Cursor) -> Result<(), Refusal>
+    ensures { Passes cursor.new result (reader.generals (reader.inner_notes room) cursor.old) }
 {
-    let mut rest = tokens;
-    loop {
-        let after = match general(bytes, room, rest) {
-            Ok(after) => after,
+    'items: loop {
+        match general(room, cursor) {
+            Ok(()) => (),
             Err(refusal) => return Err(refusal),
-        };
-        if !is_mark(Mark::Comma, first_terminal(bytes, after)) {
-            return Ok(after);
         }
-        rest = behind(after);
+        if !cursor.found().is_mark(Mark::Comma) {
+            return Ok(());
+        }
+        cursor.advance();
     }
 }
 
-/// The tokens behind the notes, where there are any.
+/// The notes, where there are any.
 #[tactic(auto, unfolding(crate::specs::NoteReader::notes))]
-pub fn notes<'a>(bytes: &[u8], room: u32, tokens: &'a [Token]) -> Result<&'a [Token], Refusal<'a>>
-    ensures { Passes bytes.now result (reader.notes (reader.inner_notes room) (lexemes bytes.now tokens.now)) }
+pub fn notes(room: u32, cursor: &mut Cursor) -> Result<(), Refusal>
+    ensures { Passes cursor.new result (reader.notes (reader.inner_notes room) cursor.old) }
 {
-    match first_terminal(bytes, tokens) {
+    match cursor.found() {
         Terminal::Mark(Mark::Comma) => {
-            let rest = general(bytes, room, behind(tokens))?;
-            match first_terminal(bytes, rest) {
-                Terminal::Mark(Mark::Comma) => general(bytes, room, behind(rest)),
-                _ => Ok(rest),
-            }
+            cursor.advance();
+            general(room, cursor)?;
+            second_note(room, cursor)
         }
-        _ => Ok(tokens),
+        _ => Ok(()),
+    }
+}
+
+/// A second note, where there is one.
+fn second_note(room: u32, cursor: &mut Cursor) -> Result<(), Refusal>
+    ensures { Passes cursor.new result (reader.second_note (reader.inner_notes room) (first_terminal cursor.old) cursor.old) }
+{
+    match cursor.found() {
+        Terminal::Mark(Mark::Comma) => {
+            cursor.advance();
+            general(room, cursor)
+        }
+        _ => Ok(()),
     }
 }

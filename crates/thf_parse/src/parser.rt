@@ -5,14 +5,14 @@ ghost use Rattle.thf_syntax.specs.View.{the_statement, the_file};
 ghost use Rattle.thf_parse.specs.Words.{lexemes};
 ghost use Rattle.thf_parse.specs.StatementReader as reader;
 ghost use Rattle.thf_parse.specs.Parsing.{HasTree, IsRefusedAt};
-ghost use Rattle.thf_parse.specs.ReadsFile.{ReadsFile};
+ghost use Rattle.thf_parse.specs.Reads.{ReadsFile};
 
+use crate::cursor::Cursor;
 use crate::refusal::Refusal;
 use crate::statement::statement;
 use crate::terminal::Terminal;
-use crate::words::{first_place, first_terminal};
 use std::alloc::{AllocError, Global};
-use thf_lex::{Token, Tokens};
+use thf_lex::Tokens;
 use thf_syntax::{FileTree, Statement};
 
 /// How many things may be open at once in a body or in notes.
@@ -26,13 +26,6 @@ pub enum ParseRefused {
     /// The first token at which more than `MAX_DEPTH` things are open.
     TooDeep { at: u32 },
     Memory,
-}
-
-/// Statements, and the tokens from the end on.
-#[derive(Drop)]
-struct FileRead<'a> {
-    file: FileTree,
-    rest: &'a [Token],
 }
 
 fn is_end(found: Terminal) -> bool
@@ -50,25 +43,18 @@ fn with_statement(mut file: FileTree, statement: Statement) -> Result<FileTree, 
 }
 
 /// The statements up to the end of the tokens, where `room` things may be open at once.
-fn statements<'a>(
-    alloc: Global,
-    bytes: &[u8],
-    room: u32,
-    tokens: &'a [Token],
-) -> Result<FileRead<'a>, Refusal<'a>>
-    ensures { ReadsFile bytes.now result (reader.file room [] (lexemes bytes.now tokens.now)) }
+fn statements(alloc: Global, room: u32, cursor: &mut Cursor) -> Result<FileTree, Refusal>
+    ensures { ReadsFile cursor.new result (reader.file room [] cursor.old) }
 {
     let mut file = FileTree::new(alloc);
-    let mut rest = tokens;
-    'statements: while !is_end(first_terminal(bytes, rest)) {
-        let read = match statement(alloc, bytes, room, rest) {
+    'statements: while !is_end(cursor.found()) {
+        let read = match statement(alloc, room, cursor) {
             Ok(read) => read,
             Err(refusal) => return Err(refusal),
         };
-        rest = read.rest;
-        file = with_statement(file, read.statement)?;
+        file = with_statement(file, read)?;
     }
-    Ok(FileRead { file, rest })
+    Ok(file)
 }
 
 /// The tree of a file's tokens.
@@ -77,14 +63,11 @@ pub fn parse(alloc: Global, bytes: &[u8], tokens: &Tokens) -> Result<FileTree, P
     ensures tree { IfOk result (λ file. HasTree MAX_DEPTH (lexemes bytes.now tokens.now) (the_file file)) }
     ensures refused { IfErr result (λ refused. IsRefusedAt MAX_DEPTH (lexemes bytes.now tokens.now) refused) }
 {
-    match statements(alloc, bytes, MAX_DEPTH, tokens.as_slice()) {
-        Ok(read) => Ok(read.file),
-        Err(Refusal::Wrong(rest)) => Err(ParseRefused::At {
-            at: first_place(rest),
-        }),
-        Err(Refusal::TooDeep(rest)) => Err(ParseRefused::TooDeep {
-            at: first_place(rest),
-        }),
+    let mut cursor = Cursor::new(bytes, tokens.as_slice());
+    match statements(alloc, MAX_DEPTH, &mut cursor) {
+        Ok(file) => Ok(file),
+        Err(Refusal::Wrong) => Err(ParseRefused::At { at: cursor.place() }),
+        Err(Refusal::TooDeep) => Err(ParseRefused::TooDeep { at: cursor.place() }),
         Err(Refusal::Memory) => Err(ParseRefused::Memory),
     }
 }

@@ -3,17 +3,16 @@ ghost use Rattle.std.specs.Prelude.{◌≡◌};
 ghost use Rattle.thf_parse.specs.declared.refusal.Refusal.TheVariants.{Memory};
 
 use std::alloc::{AllocError, AllocFailed};
-use thf_lex::Token;
 
-/// Why tokens aren't read: the tokens from the one on that is wrong or too deep, or want of memory.
-#[derive(Clone, Copy, Drop)]
-pub enum Refusal<'a> {
-    Wrong(&'a [Token]),
-    TooDeep(&'a [Token]),
+/// Why tokens aren't read: the first of those that are left is wrong or too deep, or want of memory.
+#[derive(Clone, Copy)]
+pub enum Refusal {
+    Wrong,
+    TooDeep,
     Memory,
 }
 
-impl From<AllocError> for Refusal<'_> {
+impl From<AllocError> for Refusal {
     ghost from_gives = { λ _ e. e ≡ Memory };
 
     fn from(_: AllocError) -> Self {
@@ -21,7 +20,7 @@ impl From<AllocError> for Refusal<'_> {
     }
 }
 
-impl<T: Drop> From<AllocFailed<T>> for Refusal<'_> {
+impl<T: Drop> From<AllocFailed<T>> for Refusal {
     ghost from_gives = { λ _ e. e ≡ Memory };
 
     fn from(_: AllocFailed<T>) -> Self {

@@ -1,6 +1,7 @@
 //! What the grammar tells apart among tokens.
 ghost use Rattle.std.specs.Prelude.{◌≡◌, [], ◌∷◌};
 ghost use Rattle.thf_parse.specs.Terminals as spec;
+ghost use Rattle.thf_parse.specs.Outcome.{is_mark};
 
 use thf_lex::TokenKind;
 use thf_syntax::{Binder, Conn};
@@ -64,6 +65,18 @@ pub enum Terminal {
     End,
     /// A token that stands nowhere in the grammar.
     Other,
+}
+
+impl Terminal {
+    /// Whether it is this mark.
+    pub fn is_mark(self, mark: Mark) -> bool
+        ensures { result ≡ is_mark mark self }
+    {
+        match self {
+            Terminal::Mark(found) => mark.is(found),
+            _ => false,
+        }
+    }
 }
 
 /// The terminal of a token with this kind and text.

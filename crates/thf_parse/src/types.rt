@@ -1,125 +1,88 @@
-//! Types.
-ghost use Rattle.thf_parse.specs.Words.{lexemes};
+//! Types. In each reader, `room` is how many more things may be open at once.
 ghost use Rattle.thf_parse.specs.Reader as reader;
 ghost use Rattle.thf_parse.specs.Reads.{ReadsType};
 ghost use Rattle.thf_syntax.specs.View.{the_type};
 
+use crate::cursor::Cursor;
 use crate::refusal::Refusal;
 use crate::terminal::{Mark, Terminal};
-use crate::words::{behind, expect, first_name, first_place, first_terminal};
 use std::alloc::Global;
-use thf_lex::Token;
 use thf_syntax::SurfaceTy;
 
-/// A type, and the tokens behind it.
-#[derive(Drop)]
-pub struct TypeRead<'a> {
-    pub ty: SurfaceTy,
-    pub rest: &'a [Token],
-}
-
-/// The type that the tokens begin with, where `room` more things may be open at once.
+/// The type that the tokens begin with.
 #[cycle(types)]
 #[tactic(auto, unfolding(crate::specs::Reader::type_with))]
-pub fn type_tree<'a>(
-    alloc: Global,
-    bytes: &[u8],
-    room: u32,
-    tokens: &'a [Token],
-) -> Result<TypeRead<'a>, Refusal<'a>>
-    ensures { ReadsType bytes.now result (reader.type_with (reader.inner_type room) (lexemes bytes.now tokens.now)) }
+pub fn type_tree(alloc: Global, room: u32, cursor: &mut Cursor) -> Result<SurfaceTy, Refusal>
+    ensures { ReadsType cursor.new result (reader.type_with (reader.inner_type room) cursor.old) }
 {
-    let left = simple_type(alloc, bytes, room, tokens)?;
-    match first_terminal(bytes, left.rest) {
-        Terminal::Mark(Mark::Arrow) => right_type(alloc, bytes, room, left),
+    let left = simple_type(alloc, room, cursor)?;
+    match cursor.found() {
+        Terminal::Mark(Mark::Arrow) => right_type(alloc, room, left, cursor),
         _ => Ok(left),
     }
 }
 
-/// The type behind an arrow, where the tokens behind `left` begin with it.
+/// The type from `left` to the one behind the arrow that the tokens begin with.
 #[cycle(types)]
 #[tactic(auto, unfolding(crate::specs::Reader::inner_type))]
-fn right_type<'a>(
+fn right_type(
     alloc: Global,
-    bytes: &[u8],
     room: u32,
-    left: TypeRead<'a>,
-) -> Result<TypeRead<'a>, Refusal<'a>>
-    ensures { ReadsType bytes.now result (reader.right_type (reader.inner_type room) (the_type left.entry.ty) (lexemes bytes.now left.entry.rest.now)) }
+    left: SurfaceTy,
+    cursor: &mut Cursor,
+) -> Result<SurfaceTy, Refusal>
+    ensures { ReadsType cursor.new result (reader.right_type (reader.inner_type room) (the_type left) cursor.old) }
 {
     if room == 0 {
-        return Err(Refusal::TooDeep(left.rest));
+        return Err(Refusal::TooDeep);
     }
-    let right = type_tree(alloc, bytes, room - 1, behind(left.rest))?;
-    Ok(TypeRead {
-        ty: SurfaceTy::arrow(alloc, first_place(left.rest), left.ty, right.ty)?,
-        rest: right.rest,
-    })
+    let at = cursor.place();
+    cursor.advance();
+    let right = type_tree(alloc, room - 1, cursor)?;
+    Ok(SurfaceTy::arrow(alloc, at, left, right)?)
 }
 
 #[cycle(types)]
 #[tactic(auto, unfolding(crate::specs::Reader::simple_type))]
-fn simple_type<'a>(
-    alloc: Global,
-    bytes: &[u8],
-    room: u32,
-    tokens: &'a [Token],
-) -> Result<TypeRead<'a>, Refusal<'a>>
-    ensures { ReadsType bytes.now result (reader.simple_type (reader.inner_type room) (lexemes bytes.now tokens.now)) }
+fn simple_type(alloc: Global, room: u32, cursor: &mut Cursor) -> Result<SurfaceTy, Refusal>
+    ensures { ReadsType cursor.new result (reader.simple_type (reader.inner_type room) cursor.old) }
 {
-    match first_terminal(bytes, tokens) {
-        Terminal::Indiv => Ok(TypeRead {
-            ty: SurfaceTy::Indiv {
-                at: first_place(tokens),
-            },
-            rest: behind(tokens),
-        }),
-        Terminal::Form => Ok(TypeRead {
-            ty: SurfaceTy::Form {
-                at: first_place(tokens),
-            },
-            rest: behind(tokens),
-        }),
-        Terminal::Lower | Terminal::Quoted => named_type(alloc, bytes, tokens),
-        Terminal::Mark(Mark::Open) => group_type(alloc, bytes, room, tokens),
-        _ => Err(Refusal::Wrong(tokens)),
+    let at = cursor.place();
+    match cursor.found() {
+        Terminal::Indiv => {
+            cursor.advance();
+            Ok(SurfaceTy::Indiv { at })
+        }
+        Terminal::Form => {
+            cursor.advance();
+            Ok(SurfaceTy::Form { at })
+        }
+        Terminal::Lower | Terminal::Quoted => named_type(alloc, cursor),
+        Terminal::Mark(Mark::Open) => group_type(alloc, room, cursor),
+        _ => Err(Refusal::Wrong),
     }
 }
 
-fn named_type<'a>(
-    alloc: Global,
-    bytes: &[u8],
-    tokens: &'a [Token],
-) -> Result<TypeRead<'a>, Refusal<'a>>
-    ensures { ReadsType bytes.now result (reader.named_type (lexemes bytes.now tokens.now)) }
+fn named_type(alloc: Global, cursor: &mut Cursor) -> Result<SurfaceTy, Refusal>
+    ensures { ReadsType cursor.new result (reader.named_type cursor.old) }
 {
-    Ok(TypeRead {
-        ty: SurfaceTy::Named {
-            at: first_place(tokens),
-            name: first_name(alloc, bytes, tokens)?,
-        },
-        rest: behind(tokens),
-    })
+    let at = cursor.place();
+    let name = cursor.name(alloc)?;
+    cursor.advance();
+    Ok(SurfaceTy::Named { at, name })
 }
 
 /// A type in parentheses.
 #[cycle(types)]
 #[tactic(auto, unfolding(crate::specs::Reader::inner_type))]
-fn group_type<'a>(
-    alloc: Global,
-    bytes: &[u8],
-    room: u32,
-    tokens: &'a [Token],
-) -> Result<TypeRead<'a>, Refusal<'a>>
-    ensures { ReadsType bytes.now result (reader.group_type (reader.inner_type room) (lexemes bytes.now tokens.now)) }
+fn group_type(alloc: Global, room: u32, cursor: &mut Cursor) -> Result<SurfaceTy, Refusal>
+    ensures { ReadsType cursor.new result (reader.group_type (reader.inner_type room) cursor.old) }
 {
     if room == 0 {
-        return Err(Refusal::TooDeep(tokens));
+        return Err(Refusal::TooDeep);
     }
-    let inside = type_tree(alloc, bytes, room - 1, behind(tokens))?;
-    let rest = expect(Mark::Close, bytes, inside.rest)?;
-    Ok(TypeRead {
-        ty: inside.ty,
-        rest,
-    })
+    cursor.advance();
+    let inside = type_tree(alloc, room - 1, cursor)?;
+    cursor.expect(Mark::Close)?;
+    Ok(inside)
 }

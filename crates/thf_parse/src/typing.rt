@@ -1,121 +1,76 @@
-//! The bodies of annotated formulas.
+//! The bodies of annotated formulas. In each reader, `room` is how many more things may be open at once.
 ghost use Rattle.thf_syntax.specs.View.{the_selected};
-ghost use Rattle.thf_parse.specs.Words.{lexemes};
 ghost use Rattle.thf_parse.specs.Reader.{inner_type, type_with};
 ghost use Rattle.thf_parse.specs.StatementReader as reader;
 ghost use Rattle.thf_parse.specs.Reads.{ReadsBody};
 
+use crate::cursor::Cursor;
 use crate::formula::formula;
-use crate::include::{LabelRead, named};
+use crate::include::named;
 use crate::refusal::Refusal;
 use crate::terminal::{Mark, Terminal};
 use crate::types::type_tree;
-use crate::words::{behind, expect, first_terminal};
 use std::alloc::Global;
-use thf_lex::Token;
-use thf_syntax::Body;
+use thf_syntax::{Body, Selected};
 
-/// A body, and the tokens behind it.
-#[derive(Drop)]
-pub struct BodyRead<'a> {
-    pub body: Body,
-    pub rest: &'a [Token],
-}
-
-/// What the name is declared as, where the tokens behind it are left.
+/// What the name is declared as, from the colon behind it on.
 #[tactic(auto, unfolding(crate::specs::StatementReader::declared))]
-fn declared<'a>(
-    alloc: Global,
-    bytes: &[u8],
-    room: u32,
-    name: LabelRead<'a>,
-) -> Result<BodyRead<'a>, Refusal<'a>>
-    ensures { ReadsBody bytes.now result (reader.declared (type_with (inner_type room)) (the_selected name.entry.label) (lexemes bytes.now name.entry.rest.now)) }
+fn declared(alloc: Global, room: u32, label: Selected, cursor: &mut Cursor) -> Result<Body, Refusal>
+    ensures { ReadsBody cursor.new result (reader.declared (type_with (inner_type room)) (the_selected label) cursor.old) }
 {
-    let LabelRead { label, rest } = name;
-    let rest = expect(Mark::Colon, bytes, rest)?;
-    match first_terminal(bytes, rest) {
-        Terminal::TypeOfTypes => Ok(BodyRead {
-            body: Body::Base {
-                at: label.at,
-                name: label.name,
-            },
-            rest: behind(rest),
-        }),
+    let Selected { at, name } = label;
+    cursor.expect(Mark::Colon)?;
+    match cursor.found() {
+        Terminal::TypeOfTypes => {
+            cursor.advance();
+            Ok(Body::Base { at, name })
+        }
         _ => {
-            let read = type_tree(alloc, bytes, room, rest)?;
-            Ok(BodyRead {
-                body: Body::Typing {
-                    at: label.at,
-                    name: label.name,
-                    ty: read.ty,
-                },
-                rest: read.rest,
-            })
+            let ty = type_tree(alloc, room, cursor)?;
+            Ok(Body::Typing { at, name, ty })
         }
     }
 }
 
-/// A typing, where `room` more things may be open at once.
+/// A typing.
 #[cycle(typing)]
 #[tactic(auto, unfolding(crate::specs::StatementReader::typing_with))]
-fn typing<'a>(
-    alloc: Global,
-    bytes: &[u8],
-    room: u32,
-    tokens: &'a [Token],
-) -> Result<BodyRead<'a>, Refusal<'a>>
-    ensures { ReadsBody bytes.now result (reader.typing_with (type_with (inner_type room)) (reader.inner_typing room) (lexemes bytes.now tokens.now)) }
+fn typing(alloc: Global, room: u32, cursor: &mut Cursor) -> Result<Body, Refusal>
+    ensures { ReadsBody cursor.new result (reader.typing_with (type_with (inner_type room)) (reader.inner_typing room) cursor.old) }
 {
-    match first_terminal(bytes, tokens) {
+    match cursor.found() {
         Terminal::Lower | Terminal::Quoted => {
-            let name = named(alloc, bytes, tokens)?;
-            declared(alloc, bytes, room, name)
+            let name = named(alloc, cursor)?;
+            declared(alloc, room, name, cursor)
         }
-        Terminal::Mark(Mark::Open) => group_typing(alloc, bytes, room, tokens),
-        _ => Err(Refusal::Wrong(tokens)),
+        Terminal::Mark(Mark::Open) => group_typing(alloc, room, cursor),
+        _ => Err(Refusal::Wrong),
     }
 }
 
 /// A typing in parentheses.
 #[cycle(typing)]
 #[tactic(auto, unfolding(crate::specs::StatementReader::inner_typing))]
-fn group_typing<'a>(
-    alloc: Global,
-    bytes: &[u8],
-    room: u32,
-    tokens: &'a [Token],
-) -> Result<BodyRead<'a>, Refusal<'a>>
-    ensures { ReadsBody bytes.now result (reader.group_typing (reader.inner_typing room) (lexemes bytes.now tokens.now)) }
+fn group_typing(alloc: Global, room: u32, cursor: &mut Cursor) -> Result<Body, Refusal>
+    ensures { ReadsBody cursor.new result (reader.group_typing (reader.inner_typing room) cursor.old) }
 {
     if room == 0 {
-        return Err(Refusal::TooDeep(tokens));
+        return Err(Refusal::TooDeep);
     }
-    let inside = typing(alloc, bytes, room - 1, behind(tokens))?;
-    let rest = expect(Mark::Close, bytes, inside.rest)?;
-    Ok(BodyRead {
-        body: inside.body,
-        rest,
-    })
+    cursor.advance();
+    let inside = typing(alloc, room - 1, cursor)?;
+    cursor.expect(Mark::Close)?;
+    Ok(inside)
 }
 
 /// The body of an annotated formula with this role.
 #[tactic(auto, unfolding(crate::specs::StatementReader::body))]
-pub fn body<'a>(
-    alloc: Global,
-    bytes: &[u8],
-    room: u32,
-    role: &[u8],
-    tokens: &'a [Token],
-) -> Result<BodyRead<'a>, Refusal<'a>>
-    ensures { ReadsBody bytes.now result (reader.body room role.now (lexemes bytes.now tokens.now)) }
+pub fn body(alloc: Global, room: u32, role: &[u8], cursor: &mut Cursor) -> Result<Body, Refusal>
+    ensures { ReadsBody cursor.new result (reader.body room role.now cursor.old) }
 {
     if role == b"type".as_slice() {
-        return typing(alloc, bytes, room, tokens);
+        return typing(alloc, room, cursor);
     }
-    let read = formula(alloc, bytes, room, tokens)?;
-    Ok(BodyRead {
-        body: Body::Formula(read.tree),
-        rest: read.rest,
-    })
+    let tree = formula(alloc, room, cursor)?;
+    Ok(Body::Formula(Box::into_inner(tree)))
 }

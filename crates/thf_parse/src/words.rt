@@ -1,11 +1,9 @@
-//! The first of the tokens that are left.
+//! The first of some tokens.
 ghost use Rattle.std.specs.Prelude.{◌≡◌, ℕ, List, length, slice_range, IfOk};
 ghost use Rattle.thf_parse.specs.Words.{lexemes, unescaped, name_in};
 ghost use Rattle.thf_parse.specs.Outcome as spec;
-ghost use Rattle.thf_parse.specs.Passes.{Passes};
 
-use crate::refusal::Refusal;
-use crate::terminal::{Mark, Terminal, terminal_of};
+use crate::terminal::{Terminal, terminal_of};
 use outside::Bytes;
 use std::alloc::{AllocError, Global};
 use thf_lex::{Token, TokenKind};
@@ -65,17 +63,6 @@ pub fn first_place(tokens: &[Token]) -> u32
     }
 }
 
-/// The tokens behind the first.
-#[tactic(auto, unfolding(crate::specs::Outcome::behind))]
-pub fn behind(tokens: &[Token]) -> &[Token]
-    ensures { (bytes : List ℕ) → lexemes bytes result.now ≡ spec.behind (lexemes bytes tokens.now) }
-{
-    match tokens {
-        [_, rest @ ..] => rest,
-        [] => tokens,
-    }
-}
-
 /// The characters of a quoted name, without the backslashes before them.
 fn unescaped(alloc: Global, text: &[u8]) -> Result<Bytes, AllocError>
     ensures { IfOk result (λ name. name ≡ unescaped text.now) }
@@ -122,27 +109,5 @@ pub fn first_name(alloc: Global, bytes: &[u8], tokens: &[Token]) -> Result<Bytes
     match tokens {
         [token, ..] => name_in(alloc, token.kind, text(bytes, token)),
         [] => Ok(Bytes::new(alloc)),
-    }
-}
-
-/// Whether the terminal is this mark.
-pub fn is_mark(mark: Mark, found: Terminal) -> bool
-    ensures { result ≡ spec.is_mark mark found }
-{
-    match found {
-        Terminal::Mark(other) => mark.is(other),
-        _ => false,
-    }
-}
-
-/// The tokens behind the mark that they begin with.
-#[tactic(auto, unfolding(crate::specs::Outcome::expect))]
-pub fn expect<'a>(mark: Mark, bytes: &[u8], tokens: &'a [Token]) -> Result<&'a [Token], Refusal<'a>>
-    ensures { Passes bytes.now result (spec.expect mark (lexemes bytes.now tokens.now)) }
-{
-    if is_mark(mark, first_terminal(bytes, tokens)) {
-        Ok(behind(tokens))
-    } else {
-        Err(Refusal::Wrong(tokens))
     }
 }

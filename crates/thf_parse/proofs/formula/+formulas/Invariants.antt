@@ -5,8 +5,11 @@ use Rattle.thf_parse.proofs.formula.+formulas.Given as goal
 abbrev pub decreases-negation : goal.decreases-negation
 decreases-negation l = 16 * l.room
 
+abbrev pub decreases-group : goal.decreases-group
+decreases-group l = 16 * l.room
+
 abbrev pub decreases-primary : goal.decreases-primary
-decreases-primary l = 16 * l.room
+decreases-primary l = 16 * l.room + 1
 
 abbrev pub decreases-bind : goal.decreases-bind
 decreases-bind l = 16 * l.room + 3

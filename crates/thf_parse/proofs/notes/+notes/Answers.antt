@@ -1,29 +1,30 @@
 use Rattle.std.proofs.Common.{◌≡◌, ◌<◌, length, true, false, ap, ◌∙◌, arith}
-use Rattle.std.proofs.lemmas.List.{length-map}
 use Rattle.std.proofs.lemmas.Bool.Decides.{nat_tests}
 use Rattle.thf_parse.specs.declared.terminal.Mark.TheVariants.{Comma}
-use Rattle.thf_parse.specs.Words.{lexeme, lexemes}
 use Rattle.thf_parse.specs.Outcome.{first_terminal, behind, is_mark}
 use Rattle.thf_parse.specs.NoteReader.{passed, all_commas, general, inner_notes}
-use Rattle.thf_parse.proofs.NoteSteps.{generals-refused, generals-ended, generals-more, generals-shorter}
+use Rattle.thf_parse.proofs.NoteSteps.{list-entered, generals-refused, generals-ended, generals-more, generals-shorter}
 use Rattle.thf_parse.proofs.notes.+notes.Goals as goal
 
 pub generals-returns-in-Err : goal.generals-returns-in-Err
-generals-returns-in-Err t c = generals-refused c.args.room (lexemes c.args.bytes.now c.loop-after.rest.now) (lexemes c.args.bytes.now c.args.tokens.now) c.args.bytes.now c.in-Err.refusal c.loop-after.invariant c.in-Err.ensures
+generals-returns-in-Err t c = generals-refused c.args.room c.items.cursor c.args.cursor.now c.general.new.cursor c.in-Err.refusal c.items.invariant c.in-Err.ensures
 
 pub generals-returns-then-not-is_mark : goal.generals-returns-then-not-is_mark
 generals-returns-then-not-is_mark t c =
-    let none : is_mark Comma (first_terminal (lexemes c.args.bytes.now c.in-Ok.after.now)) ≡ false = grind (arith, nat_tests) in
-    generals-ended c.args.room (lexemes c.args.bytes.now c.loop-after.rest.now) (lexemes c.args.bytes.now c.args.tokens.now) (lexemes c.args.bytes.now c.in-Ok.after.now) c.loop-after.invariant c.in-Ok.ensures none
+    let none : is_mark Comma (first_terminal c.general.new.cursor) ≡ false = grind (arith, nat_tests) in
+    generals-ended c.args.room c.items.cursor c.args.cursor.now c.general.new.cursor c.items.invariant c.in-Ok.ensures none
 
-pub generals-loop-after-smaller : goal.generals-loop-after-smaller
-generals-loop-after-smaller t c =
-    let some : is_mark Comma (first_terminal (lexemes c.args.bytes.now c.in-Ok.after.now)) ≡ true = grind (arith, nat_tests) in
-    let shorter : length (behind (lexemes c.args.bytes.now c.in-Ok.after.now)) < length (lexemes c.args.bytes.now c.loop-after.rest.now) = generals-shorter c.args.room (lexemes c.args.bytes.now c.loop-after.rest.now) (lexemes c.args.bytes.now c.args.tokens.now) (lexemes c.args.bytes.now c.in-Ok.after.now) c.in-Ok.ensures some in
-    omega (arith, shorter, ap length (c.behind-rest.ensures c.args.bytes.now), length-map c.behind-rest.result.now (lexeme c.args.bytes.now), length-map c.loop-after.rest.now (lexeme c.args.bytes.now))
+pub generals-items-smaller : goal.generals-items-smaller
+generals-items-smaller t c =
+    let some : is_mark Comma (first_terminal c.general.new.cursor) ≡ true = grind (arith, nat_tests) in
+    let shorter : length (behind c.general.new.cursor) < length c.items.cursor = generals-shorter c.args.room c.items.cursor c.args.cursor.now c.general.new.cursor c.in-Ok.ensures some in
+    omega (arith, shorter, ap length c.advance.ensures)
 
-pub generals-loop-after-preserved : goal.generals-loop-after-preserved
-generals-loop-after-preserved t c =
-    let some : is_mark Comma (first_terminal (lexemes c.args.bytes.now c.in-Ok.after.now)) ≡ true = grind (arith, nat_tests) in
-    ap (λ us. all_commas (λ _. general (inner_notes c.args.room)) passed us) (c.behind-rest.ensures c.args.bytes.now)
-    ∙ generals-more c.args.room (lexemes c.args.bytes.now c.loop-after.rest.now) (lexemes c.args.bytes.now c.args.tokens.now) (lexemes c.args.bytes.now c.in-Ok.after.now) c.loop-after.invariant c.in-Ok.ensures some
+pub generals-items-preserved : goal.generals-items-preserved
+generals-items-preserved t c =
+    let some : is_mark Comma (first_terminal c.general.new.cursor) ≡ true = grind (arith, nat_tests) in
+    ap (λ us. all_commas (λ _. general (inner_notes c.args.room)) passed us) c.advance.ensures
+    ∙ generals-more c.args.room c.items.cursor c.args.cursor.now c.general.new.cursor c.items.invariant c.in-Ok.ensures some
+
+pub list-returns : goal.list-returns
+list-returns t c = list-entered c.args.room c.args.cursor.now c.advance.new.self c.listed.new.cursor c.listed.result c.if-room-eq0.false c.advance.ensures c.listed.ensures

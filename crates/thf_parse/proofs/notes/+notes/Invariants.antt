@@ -1,6 +1,5 @@
 -- A reader calls those with less room, or those that stand below it here.
 use Rattle.std.proofs.Common.{◌≡◌, ◌+◌, ◌*◌, length}
-use Rattle.thf_parse.specs.Words.{lexemes}
 use Rattle.thf_parse.specs.NoteReader.{passed, all_commas, general, inner_notes}
 use Rattle.thf_parse.proofs.notes.+notes.Given as goal
 
@@ -23,11 +22,11 @@ abbrev pub decreases-generals : goal.decreases-generals
 decreases-generals l = 8 * l.room + 3
 
 -- what is left is read as all is
-abbrev pub invariant-generals-loop-after : goal.invariant-generals-loop-after
-invariant-generals-loop-after l = all_commas (λ _. general (inner_notes l.room)) passed (lexemes l.bytes l.rest) ≡ all_commas (λ _. general (inner_notes l.room)) passed (lexemes l.bytes l.tokens)
+abbrev pub invariant-generals-items : goal.invariant-generals-items
+invariant-generals-items l = all_commas (λ _. general (inner_notes l.room)) passed l.cursor ≡ all_commas (λ _. general (inner_notes l.room)) passed l.fn.cursor
 
-abbrev pub decreases-generals-loop-after : goal.decreases-generals-loop-after
-decreases-generals-loop-after l = length l.rest
+abbrev pub decreases-generals-items : goal.decreases-generals-items
+decreases-generals-items l = length l.cursor
 
 abbrev pub decreases-listed : goal.decreases-listed
 decreases-listed l = 8 * l.room + 4

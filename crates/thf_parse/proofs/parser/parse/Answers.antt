@@ -9,14 +9,18 @@ use Rattle.thf_parse.proofs.LexemeLaws.{tokens-ended}
 use Rattle.thf_parse.proofs.parser.parse.Goals as goal
 
 pub returns-in-Ok-clause-tree : goal.returns-in-Ok-clause-tree
-returns-in-Ok-clause-tree c = parsed MAX_DEPTH (lexemes c.args.bytes.now c.args.tokens.now) (lexemes c.args.bytes.now c.in-Ok.read.rest.now) (the_file c.in-Ok.read.file) (tokens-ended c.args.bytes.now c.args.tokens.now c.requires) (ap (λ ts. file MAX_DEPTH [] (lexemes c.args.bytes.now ts)) (sym c.as_slice.ensures) ∙ c.in-Ok.ensures)
+returns-in-Ok-clause-tree c =
+    let all = sym (c.new-cursor.ensures ∙ ap (lexemes c.args.bytes.now) c.as_slice.ensures) in
+    parsed MAX_DEPTH (lexemes c.args.bytes.now c.args.tokens.now) c.statements.new.cursor (the_file c.in-Ok.file) (tokens-ended c.args.bytes.now c.args.tokens.now c.requires) (ap (file MAX_DEPTH []) all ∙ c.in-Ok.ensures)
 
 pub returns-in-Err-Wrong-clause-refused : goal.returns-in-Err-Wrong-clause-refused
 returns-in-Err-Wrong-clause-refused c =
-    subst (λ at. IsWrongAt MAX_DEPTH (lexemes c.args.bytes.now c.args.tokens.now) at) (sym (c.first_place.ensures c.args.bytes.now))
-    (refused-wrong MAX_DEPTH (lexemes c.args.bytes.now c.args.tokens.now) (lexemes c.args.bytes.now c.in-Err-Wrong.rest.now) (tokens-ended c.args.bytes.now c.args.tokens.now c.requires) (ap (λ ts. file MAX_DEPTH [] (lexemes c.args.bytes.now ts)) (sym c.as_slice.ensures) ∙ (rw c.in-Err-Wrong.field-0-is at c.in-Err-Wrong.ensures)))
+    let all = sym (c.new-cursor.ensures ∙ ap (lexemes c.args.bytes.now) c.as_slice.ensures) in
+    subst (λ at. IsWrongAt MAX_DEPTH (lexemes c.args.bytes.now c.args.tokens.now) at) (sym c.place.ensures)
+    (refused-wrong MAX_DEPTH (lexemes c.args.bytes.now c.args.tokens.now) c.statements.new.cursor (tokens-ended c.args.bytes.now c.args.tokens.now c.requires) (ap (file MAX_DEPTH []) all ∙ (rw c.in-Err-Wrong.field-0-is at c.in-Err-Wrong.ensures)))
 
 pub returns-in-Err-TooDeep-clause-refused : goal.returns-in-Err-TooDeep-clause-refused
 returns-in-Err-TooDeep-clause-refused c =
-    subst (λ at. IsTooDeepAt MAX_DEPTH (lexemes c.args.bytes.now c.args.tokens.now) at) (sym (c.first_place-in-Err-TooDeep.ensures c.args.bytes.now))
-    (refused-deep MAX_DEPTH (lexemes c.args.bytes.now c.args.tokens.now) (lexemes c.args.bytes.now c.in-Err-TooDeep.rest.now) (tokens-ended c.args.bytes.now c.args.tokens.now c.requires) (ap (λ ts. file MAX_DEPTH [] (lexemes c.args.bytes.now ts)) (sym c.as_slice.ensures) ∙ (rw c.in-Err-TooDeep.field-0-is at c.in-Err-TooDeep.ensures)))
+    let all = sym (c.new-cursor.ensures ∙ ap (lexemes c.args.bytes.now) c.as_slice.ensures) in
+    subst (λ at. IsTooDeepAt MAX_DEPTH (lexemes c.args.bytes.now c.args.tokens.now) at) (sym c.place-in-Err-TooDeep.ensures)
+    (refused-deep MAX_DEPTH (lexemes c.args.bytes.now c.args.tokens.now) c.statements.new.cursor (tokens-ended c.args.bytes.now c.args.tokens.now c.requires) (ap (file MAX_DEPTH []) all ∙ (rw c.in-Err-TooDeep.field-0-is at c.in-Err-TooDeep.ensures)))

@@ -1,12 +1,11 @@
 use Rattle.std.proofs.Common.{◌≡◌, [], map, length}
 use Rattle.thf_syntax.specs.View.{the_statement}
-use Rattle.thf_parse.specs.Words.{lexemes}
 use Rattle.thf_parse.specs.StatementReader.{file}
 use Rattle.thf_parse.proofs.parser.statements.Given as goal
 
 -- what is left is read as all is
 abbrev pub invariant-statements : goal.invariant-statements
-invariant-statements l = file l.room (map the_statement l.file) (lexemes l.bytes l.rest) ≡ file l.room [] (lexemes l.bytes l.tokens)
+invariant-statements l = file l.room (map the_statement l.file) l.cursor ≡ file l.room [] l.fn.cursor
 
 abbrev pub decreases-statements : goal.decreases-statements
-decreases-statements l = length l.rest
+decreases-statements l = length l.cursor
