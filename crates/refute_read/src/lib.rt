@@ -1,9 +1,14 @@
 //! The reading of refutations' texts.
 #![tactic(auto)]
 
+mod lines;
 mod read_line;
 mod read_name;
 mod read_rule;
 mod read_term;
 mod read_type;
 mod refusal;
+mod text;
+
+pub use refusal::TextRefused;
+pub use text::read_text;
