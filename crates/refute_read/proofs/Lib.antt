@@ -24,3 +24,5 @@ pub mod ReadingLaws
 pub mod Passes
 pub mod Grows
 pub mod Bodies
+pub mod Printable
+pub mod BackLaws

@@ -4,7 +4,7 @@ use Rattle.std.specs.List.{list_all, onto_first}
 use Rattle.std.proofs.lemmas.Bool.{and_parts, not-true}
 use Rattle.refute_text.specs.Text.{as_bytes}
 use Rattle.refute_read.specs.Reader.{front, after, is_no_feed}
-use Rattle.refute_read.specs.Reading.{lines_of}
+use Rattle.refute_read.specs.Reading.{lines_of, AreLines}
 
 pub lines_of-front : (c : ℕ) (cs : List ℕ) → lines_of (c ∷ cs) ≡ front is_no_feed (c ∷ cs) ∷ lines_of (drop 1 (after is_no_feed (c ∷ cs)))
 lines_of-front c [] = go (c == 10)
@@ -17,11 +17,6 @@ lines_of-front c (d ∷ ds) = go (c == 10) (lines_of-front d ds)
     go : (b : Bool) → lines_of (d ∷ ds) ≡ front is_no_feed (d ∷ ds) ∷ lines_of (drop 1 (after is_no_feed (d ∷ ds))) → (if b then [] ∷ lines_of (d ∷ ds) else onto_first c (lines_of (d ∷ ds))) ≡ (if not b then c ∷ front is_no_feed (d ∷ ds) else []) ∷ lines_of (drop 1 (if not b then after is_no_feed (d ∷ ds) else c ∷ d ∷ ds))
     go true h = refl
     go false h = ap (onto_first c) h
-
--- lines without line feeds
-abbrev pub AreLines : List (List ℕ) → Type 0
-AreLines [] = Unit {0}
-AreLines (l ∷ ls) = (list_all is_no_feed l ≡ true) × AreLines ls
 
 line-feed : (l rest : List ℕ) → list_all is_no_feed l ≡ true → lines_of (l ++ (10 ∷ rest)) ≡ l ∷ lines_of rest
 line-feed [] rest h = refl

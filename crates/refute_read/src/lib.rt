@@ -1,6 +1,7 @@
 //! The reading of refutations' texts.
 #![tactic(auto)]
 
+mod law;
 mod lines;
 mod read_line;
 mod read_name;
@@ -10,5 +11,6 @@ mod read_type;
 mod refusal;
 mod text;
 
+pub use law::{one_reading, one_refutation, texts_read_back};
 pub use refusal::TextRefused;
 pub use text::read_text;
