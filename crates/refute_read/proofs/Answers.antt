@@ -1,5 +1,5 @@
 -- How a reader answers.
-use Rattle.std.proofs.Common.{◌≡◌, ℕ, ◌&&◌, nat_eq, Bool, true, false, List, [], ◌∷◌, ◌++◌, Option, Some, None, length, drop, refl, ap, ap₂, ◌∙◌, if◌then◌else◌}
+use Rattle.std.proofs.Common.{◌≡◌, ℕ, ◌&&◌, nat_eq, true, false, List, [], ◌∷◌, ◌++◌, Option, Some, None, length, drop, refl, ap, ap₂, ◌∙◌, if◌then◌else◌}
 use Rattle.std.specs.List.{starts_with}
 use Rattle.std.proofs.lemmas.Bool.{eq-eqb}
 use Rattle.std.proofs.lemmas.List.{drop_at}

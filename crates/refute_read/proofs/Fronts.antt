@@ -1,14 +1,12 @@
 -- The lines with which a text begins.
-use Rattle.std.proofs.Common.{◌≡◌, ℕ, zero, suc, ◌+◌, ◌^◌, ◌<◌, ◌≤◌, ◌||◌, ◌⊎◌, inl, inr, nat_eq, Bool, true, false, List, [], ◌∷◌, ◌++◌, Option, Some, None, length, codes, decimal, refl, sym, ap, ap₂, subst, ◌∙◌, append_assoc, append-nil, arith, length-append}
+use Rattle.std.proofs.Common.{◌≡◌, ℕ, suc, ◌+◌, ◌^◌, ◌<◌, ◌≤◌, ◌||◌, ◌⊎◌, inl, inr, nat_eq, Bool, true, false, List, [], ◌∷◌, ◌++◌, length, codes, refl, sym, ap, ap₂, subst, ◌∙◌, append_assoc, append-nil, arith}
 use Rattle.std.specs.List.{AllByRecursion, list_any, starts_with}
 use Rattle.refute_text.specs.Trees.{TermTree, LineTree, RefutationTree}
 use Rattle.refute_text.specs.Text.{rule_text, branch_text, children_text, row_text, line_text, row_texts, line_texts, text_lines}
 use Rattle.refute_text.specs.Limits.{IsWithin, IsLine}
-use Rattle.refute_read.specs.LineReader.{row_at, line_at}
-use Rattle.refute_read.specs.Reading.{is_end, end_mark, HasText, IsFront}
+use Rattle.refute_read.specs.Reading.{is_end, HasText, IsFront}
 use Rattle.refute_read.proofs.LineReads.{IsRowText, IsLineText}
 use Rattle.refute_read.proofs.LiteralBack.{starts_with-decimal}
-use Rattle.refute_read.proofs.LineBack.{row_at-text, line_at-text}
 
 -- a line behind its number
 abbrev numbered_rest : LineTree → List ℕ
@@ -34,7 +32,7 @@ lines_without_end k [] h = refl
 lines_without_end k (l ∷ lines) h =
     ap₂ (λ a b. a || b) (starts_with-decimal 37 (codes " SZS output end Refutation for ") k (numbered_rest l) refl (omega (arith, h))) (lines_without_end (suc k) lines (omega (arith, h)))
 
-list_any-append : {X : Type 0} (p : X → Bool) (xs ys : List X) → list_any p (xs ++ ys) ≡ list_any p xs || list_any p ys
+pub list_any-append : {X : Type 0} (p : X → Bool) (xs ys : List X) → list_any p (xs ++ ys) ≡ list_any p xs || list_any p ys
 list_any-append p [] ys = refl
 list_any-append p (x ∷ xs) ys = go (p x) (list_any-append p xs ys)
   where

@@ -17,7 +17,12 @@ pub mod RepeatsBack
 pub mod TermBack
 pub mod LiteralBack
 pub mod LineBack
-pub mod Lines
+pub mod LineFeeds
 pub mod Fronts
 pub mod TextLaws
 pub mod ReadingLaws
+pub mod Passes
+pub mod Grows
+pub mod Bodies
+pub mod Printable
+pub mod BackLaws

@@ -1,5 +1,5 @@
 -- The texts of literals, children and lists of them are read back.
-use Rattle.std.proofs.Common.{◌≡◌, ℕ, zero, suc, ◌^◌, ◌<◌, ◌≤◌, ◌&&◌, nat_eq, Bool, true, false, List, [], ◌∷◌, ◌++◌, Option, Some, None, length, drop, map, codes, decimal, refl, ap, ◌∙◌, append_assoc, arith, if◌then◌else◌}
+use Rattle.std.proofs.Common.{◌≡◌, ℕ, ◌^◌, ◌<◌, ◌&&◌, nat_eq, Bool, true, false, List, [], ◌∷◌, ◌++◌, Option, Some, None, length, drop, map, codes, decimal, refl, ap, ◌∙◌, append_assoc, arith, if◌then◌else◌}
 use Rattle.std.specs.List.{AllByRecursion, list_all, starts_with}
 use Rattle.std.proofs.lemmas.Bool.{and_parts}
 use Rattle.std.proofs.lemmas.Bool.Decides.{nat_tests}
@@ -9,7 +9,7 @@ use Rattle.stt_tableau.specs.declared.refutation.Child.TheVariants.{Closed, Line
 use Rattle.refute_text.specs.Trees.{TermTree, LiteralTree}
 use Rattle.refute_text.specs.Text.{term_text, sign_text, literal_text, child_text, after_commas, branch_text, children_text}
 use Rattle.refute_text.specs.Limits.{is_negated, greatest_depth, IsWithin, IsLiteral, IsChild}
-use Rattle.refute_read.specs.Reader.{behind, by_front, is_digit, number_at, with_items, repeated_at}
+use Rattle.refute_read.specs.Reader.{behind, is_digit, number_at, with_items, repeated_at}
 use Rattle.refute_read.specs.TermReader.{term_at}
 use Rattle.refute_read.specs.LineReader.{read_literal, unsigned_at, signed_at, literal_at, child_at, some_items_at, items_at}
 use Rattle.refute_read.proofs.Numbers.{own}
@@ -17,7 +17,7 @@ use Rattle.refute_read.proofs.Inversions.{found}
 use Rattle.refute_read.proofs.Answers.{bind_gives, front_skips}
 use Rattle.refute_read.proofs.NameBack.{stops, number_at-decimal}
 use Rattle.refute_read.proofs.TermBack.{term_at-text}
-use Rattle.refute_read.proofs.RepeatsBack.{IsReadBack, AreReadBack, marked, more_stop, length-marked, repeated_at-texts}
+use Rattle.refute_read.proofs.RepeatsBack.{AreReadBack, marked, more_stop, length-marked, repeated_at-texts}
 
 pub within_back : (t : TermTree) (rest : List ℕ) → IsWithin t → stops rest ≡ true → term_at greatest_depth (term_text t ++ rest) ≡ Some (t, rest)
 within_back t rest h stop = term_at-text greatest_depth t rest h.is_term h.within stop

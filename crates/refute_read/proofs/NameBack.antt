@@ -1,11 +1,11 @@
 -- The texts of numbers and names are read back.
-use Rattle.std.proofs.Common.{◌≡◌, ℕ, zero, suc, ◌+◌, ◌^◌, ◌<◌, ◌≤◌, ◌==◌, ◌&&◌, ◌||◌, not, nat_eq, nat_lt, nat_le, Bool, true, false, List, [], ◌∷◌, ◌++◌, Option, Some, None, length, get_or, decimal, codes, refl, sym, ap, ap₂, ◌∙◌, append_assoc, append-nil, arith, if◌then◌else◌}
+use Rattle.std.proofs.Common.{◌≡◌, ℕ, zero, suc, ◌^◌, ◌<◌, ◌≤◌, ◌==◌, ◌&&◌, ◌||◌, not, nat_eq, nat_lt, nat_le, Bool, true, false, List, [], ◌∷◌, ◌++◌, Some, None, length, get_or, decimal, codes, refl, ap, ap₂, ◌∙◌, append_assoc, append-nil, arith, if◌then◌else◌}
 use Rattle.std.specs.List.{list_all, flat_map}
-use Rattle.std.proofs.lemmas.Bool.{and_parts, not-true, not_from_false, or_left, or_right, lt-ltb}
+use Rattle.std.proofs.lemmas.Bool.{and_parts, not-true, or_left, or_right, lt-ltb}
 use Rattle.std.proofs.lemmas.Bool.Decides.{nat_tests}
 use Rattle.std.proofs.lemmas.Fmt.{decimal_digit, decimal_nonempty, first_decimal, digits_decimal, digits_value-decimal}
 use Rattle.refute_text.specs.Letters.{is_lower, is_word_byte, is_printable, is_plain, escaped, quoted, name_text, is_name}
-use Rattle.refute_read.specs.Reader.{behind, front, after, is_digit, is_decimal, number_from, number_of, number_at, with_first, characters_at, escaped_at, needs_quotes, where_quoted, plain_at, name_at}
+use Rattle.refute_read.specs.Reader.{behind, front, after, is_digit, is_decimal, number_of, number_at, with_first, characters_at, escaped_at, where_quoted, plain_at, name_at}
 use Rattle.refute_read.proofs.Numbers.{own}
 use Rattle.refute_read.proofs.Inversions.{found}
 use Rattle.refute_read.proofs.Answers.{front_skips, behind_other}

@@ -1,10 +1,9 @@
 -- Lines have one reading.
-use Rattle.std.proofs.Common.{◌≡◌, ℕ, ◌+◌, ◌||◌, ◌⊎◌, inl, inr, Bool, true, false, List, [], ◌∷◌, ◌++◌, length, refl, sym, ap, ap₂, subst, ◌∙◌, append_assoc, arith}
+use Rattle.std.proofs.Common.{◌≡◌, ℕ, ◌+◌, Bool, true, false, List, [], ◌∷◌, ◌++◌, length, refl, sym, ap, ap₂, subst, ◌∙◌, append_assoc}
 use Rattle.std.specs.List.{list_any}
-use Rattle.std.proofs.lemmas.Bool.{or_parts}
 use Rattle.refute_text.specs.Trees.{RefutationTree}
 use Rattle.refute_text.specs.Text.{text_lines}
-use Rattle.refute_read.specs.Reading.{is_start, is_end, IsFront, Starts, HoldsText, IsBadAt, Reading, read, bad_line, no_start, no_end, ReadsAs, HasBadLine, HasNoStart, HasNoEnd, Reads}
+use Rattle.refute_read.specs.Reading.{is_start, is_end, IsFront, Starts, HoldsText, IsBadAt, Reading, read, bad_line, no_start, no_end, ReadsAs, HasBadLine, HasNoEnd, Reads}
 use Rattle.refute_read.proofs.Fronts.{any_inside, front-append, front-text, front-without_end}
 use Rattle.refute_read.proofs.TextLaws.{text_lines-same}
 

@@ -1,5 +1,5 @@
 -- The rules that are read stand at the front of the bytes.
-use Rattle.std.proofs.Common.{◌≡◌, ℕ, ◌^◌, ◌<◌, List, [], ◌∷◌, ◌++◌, Option, Some, None, codes, decimal, refl, sym, ap, ap₂, subst, ◌∙◌, append_assoc, arith}
+use Rattle.std.proofs.Common.{◌≡◌, ℕ, ◌^◌, ◌<◌, List, ◌++◌, Option, Some, None, codes, decimal, sym, ap, ap₂, subst, ◌∙◌, append_assoc, arith}
 use Rattle.refute_text.specs.Trees.{OnePlace, False, Refl, ImpPos, ImpNeg, BoolPos, BoolNeg, FunPos, FunNeg, AllNeg, Dec, TwoPlaces, Close, Mat, Con, RuleTree, at_one, at_two, with_instance, with_predicate, with_cut}
 use Rattle.refute_text.specs.Text.{term_text, literal_text, one_place_name, two_places_name, rule_text}
 use Rattle.refute_text.specs.Limits.{greatest_depth, IsRule}

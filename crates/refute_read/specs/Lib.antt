@@ -3,3 +3,5 @@ pub mod TermReader
 pub mod LineReader
 pub mod Refusals
 pub mod Reading
+pub mod Places
+pub mod Answered

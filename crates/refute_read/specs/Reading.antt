@@ -1,8 +1,8 @@
 -- How a text is read: line by line.
-use Rattle.std.specs.Prelude.{◌≡◌, ℕ, ◌+◌, ◌^◌, ◌≤◌, ◌==◌, nat_eq, Bool, true, false, List, [], ◌∷◌, ◌++◌, length, codes, if◌then◌else◌}
-use Rattle.std.specs.List.{AllByRecursion, list_any, onto_first, starts_with}
+use Rattle.std.specs.Prelude.{◌≡◌, ℕ, ◌+◌, ◌^◌, ◌≤◌, ◌==◌, nat_eq, not, Bool, true, false, List, [], ◌∷◌, ◌++◌, length, codes, if◌then◌else◌}
+use Rattle.std.specs.List.{AllByRecursion, list_all, list_any, onto_first, starts_with}
 use Rattle.refute_text.specs.Trees.{RefutationTree}
-use Rattle.refute_text.specs.Text.{text_lines}
+use Rattle.refute_text.specs.Text.{text_lines, as_bytes}
 use Rattle.refute_text.specs.Limits.{IsWithin, IsLine}
 
 -- the lines of bytes: a line feed ends each, and the bytes behind the last line feed are one more line, where there are any
@@ -102,3 +102,26 @@ Reads lines (read r first) = ReadsAs lines r first
 Reads lines (bad_line line) = HasBadLine lines line
 Reads lines (no_start line) = HasNoStart lines line
 Reads lines (no_end line) = HasNoEnd lines line
+
+-- whether no line feed is in a line
+abbrev pub is_one_line : List ℕ → Bool
+is_one_line line = list_all (λ c. not (c == 10)) line
+
+abbrev pub AreLines : List (List ℕ) → Type 0
+AreLines [] = Unit {0}
+AreLines (l ∷ ls) = (is_one_line l ≡ true) × AreLines ls
+
+-- The text of a refutation stands in bytes between a start line, the first that begins so, and an end line. The first row, or else the
+-- first line, or else the end line, stands at the line of this number.
+pub record TextStands (bytes : List ℕ) (r : RefutationTree) (first : ℕ) : Type 0 where
+  pub before : List (List ℕ)
+  pub start : List ℕ
+  pub last : List ℕ
+  pub rest : List ℕ
+  pub bytes_are : bytes ≡ as_bytes (before ++ start ∷ []) ++ (as_bytes (text_lines r) ++ (as_bytes (last ∷ []) ++ rest))
+  pub lines_before : AreLines (before ++ start ∷ [])
+  pub last_line : is_one_line last ≡ true
+  pub none_before : list_any is_start before ≡ false
+  pub starts : is_start start ≡ true
+  pub ends : is_end last ≡ true
+  pub first_is : first ≡ length before + 3

@@ -1,9 +1,16 @@
 //! The reading of refutations' texts.
 #![tactic(auto)]
 
+mod law;
+mod lines;
 mod read_line;
 mod read_name;
 mod read_rule;
 mod read_term;
 mod read_type;
 mod refusal;
+mod text;
+
+pub use law::{one_reading, one_refutation, texts_read_back};
+pub use refusal::TextRefused;
+pub use text::read_text;

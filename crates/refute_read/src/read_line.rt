@@ -7,12 +7,12 @@ ghost use Rattle.refute_read.specs.Refusals.{Answers};
 ghost use Rattle.refute_text.specs.LineView.{the_rule};
 ghost use Rattle.refute_text.specs.TextView.{the_line};
 
-use refute_text::{TextLine, TextLits, TextRule, TextTerm};
 use crate::read_name::behind;
 use crate::read_rule::{DEPTH, read_literal, read_number, read_rule};
 use crate::read_term::{index, read_term};
 use crate::read_type::expect;
 use crate::refusal::Refusal;
+use refute_text::{TextLine, TextLits, TextRule, TextTerm};
 use std::alloc::Global;
 use stt_tableau::{Child, Children};
 

@@ -7,8 +7,8 @@ ghost use Rattle.refute_read.specs.Reader.{front, after, behind, is_digit, is_de
 ghost use Rattle.refute_read.specs.Refusals.{Answers};
 
 use crate::refusal::Refusal;
-use refute_text::{is_plain, is_word_byte};
 use outside::Bytes;
+use refute_text::{is_plain, is_word_byte};
 use std::alloc::Global;
 use std::str;
 

@@ -8,11 +8,11 @@ ghost use Rattle.refute_read.specs.Refusals.{Answers};
 ghost use Rattle.refute_text.specs.LineView.{the_rule};
 ghost use Rattle.refute_text.specs.TreeView.{the_head};
 
-use refute_text::{TextHead, TextLit, TextNode, TextRule, TextTerm};
 use crate::read_name::{behind, number};
 use crate::read_term::read_term;
 use crate::read_type::expect;
 use crate::refusal::Refusal;
+use refute_text::{TextHead, TextLit, TextNode, TextRule, TextTerm};
 use std::alloc::Global;
 
 /// How many parentheses, brackets and functions of types and terms may be open at once.

@@ -27,3 +27,16 @@ impl<T: Drop> From<AllocFailed<T>> for Refusal {
         Refusal::Memory
     }
 }
+
+/// Why a text isn't read. Lines are counted from 1.
+#[derive(Clone, Copy, Debug, PartialEq, Eq)]
+pub enum TextRefused {
+    /// The first line behind the start line that isn't as it should be.
+    BadLine { line: usize },
+    /// There is no start line: one line past the last.
+    NoStart { line: usize },
+    /// There is no end line, and no bad line: one line past the last.
+    NoEnd { line: usize },
+    /// There is no memory for the refutation.
+    Memory,
+}
