@@ -5,9 +5,13 @@ mod chain;
 mod gathered;
 mod gathering;
 mod law;
+#[cfg(test)]
+mod limit_tests;
 mod limits;
 mod names;
 mod opened;
+#[cfg(test)]
+mod problem_tests;
 mod refused;
 mod selection;
 #[cfg(test)]
