@@ -12,8 +12,8 @@ reads_back bytes r first h s =
     let end = as_bytes (s.last ∷ []) ++ s.rest in
     let text = as_bytes (text_lines r) ++ end in
     let lines : lines_of bytes ≡ (s.before ++ s.start ∷ []) ++ (text_lines r ++ (s.last ∷ lines_of s.rest)) =
-        ap lines_of s.bytes_are ∙ lines_of-as_bytes (s.before ++ s.start ∷ []) text s.lines_before
-        ∙ ap (λ x. (s.before ++ s.start ∷ []) ++ x) (lines_of-as_bytes (text_lines r) end (text_lines-are_lines r h) ∙ ap (λ x. text_lines r ++ x) (lines_of-as_bytes (s.last ∷ []) s.rest (s.last_line, tt)))
+    ap lines_of s.bytes_are ∙ lines_of-as_bytes (s.before ++ s.start ∷ []) text s.lines_before
+    ∙ ap (λ x. (s.before ++ s.start ∷ []) ++ x) (lines_of-as_bytes (text_lines r) end (text_lines-are_lines r h) ∙ ap (λ x. text_lines r ++ x) (lines_of-as_bytes (s.last ∷ []) s.rest (s.last_line, tt)))
     in
     record {
       before = s.before;

@@ -20,10 +20,16 @@ const FILES: &[(&str, &str)] = &[
     ("lone.p", "thf(p,type,p: $o).\nthf(c,conjecture,p).\n"),
     ("comment.p", "% nothing is said\n \t % nor here"),
     ("block.p", "% a line\n/* a block */"),
-    ("quoted.p", "thf(t,type,'q': $o).\nthf(a,axiom,q).\nthf(c,conjecture,'q').\n"),
+    (
+        "quoted.p",
+        "thf(t,type,'q': $o).\nthf(a,axiom,q).\nthf(c,conjecture,'q').\n",
+    ),
     ("chain.p", "thf(a,axiom,(p => q => r)).\n"),
     ("ill.p", "thf(p,type,p: $i > $o).\nthf(a,axiom,(p @ p)).\n"),
-    ("predicate.p", "thf(p,type,p: $i > $o). thf(c,type,c: $i). thf(a,axiom,( p @ c ))."),
+    (
+        "predicate.p",
+        "thf(p,type,p: $i > $o). thf(c,type,c: $i). thf(a,axiom,( p @ c )).",
+    ),
     ("false.p", "thf(a,axiom,$false).\n"),
     (
         "names.p",

@@ -85,10 +85,7 @@ const NOT_YET: &[(&str, u32)] = &[
         "thf(a,axiom,( $true = $true )). thf(b,axiom,( ! [X:$i] : $true )).",
         20,
     ),
-    (
-        "thf(a,axiom,( ~ $true => ( $true <=> $true ) )).",
-        33,
-    ),
+    ("thf(a,axiom,( ~ $true => ( $true <=> $true ) )).", 33),
 ];
 
 fn outcome(alloc: Global, text: &[u8]) -> Result<Outcome, AllocError> {

@@ -5,7 +5,15 @@ use std::alloc::{AllocError, Global};
 use std::test::Fail;
 
 /// A term: what stands before, then so many times what stands around, the middle, and what stands behind. Then whether it is read.
-type Row = (&'static str, &'static str, usize, &'static str, &'static str, &'static str, bool);
+type Row = (
+    &'static str,
+    &'static str,
+    usize,
+    &'static str,
+    &'static str,
+    &'static str,
+    bool,
+);
 
 const ROWS: &[Row] = &[
     // Parentheses of terms.
@@ -57,7 +65,14 @@ fn depths(rt: HostRuntime) -> Result<(), Fail> {
     let alloc = rt.alloc();
     for row in ROWS {
         let wanted = if row.6 { None } else { Some(3) };
-        assert_eq!(rt; bad_line(alloc, row)?, wanted, "{} {} {}", row.0, row.1, row.2);
+        assert_eq!(rt;
+            bad_line(alloc, row)?,
+            wanted,
+            "{} {} {}",
+            row.0,
+            row.1,
+            row.2
+        );
     }
     Ok(())
 }

@@ -68,23 +68,41 @@ const LINES: &[(&str, &str)] = &[
     ("Close(0,1) [+p,-p] []", "Close 0 1 | +{p} -{p} |"),
     ("Close(1,0) [+p,-p] []", "Close 1 0 | +{p} -{p} |"),
     ("Refl(0) [-($eq[$i] c c)] []", "Refl 0 | -Ei[{c}{c}] |"),
-    ("Imp+(0) [+($imp p q)] [x,12]", "ImpPos 0 | +I[{p}{q}] | x 12"),
+    (
+        "Imp+(0) [+($imp p q)] [x,12]",
+        "ImpPos 0 | +I[{p}{q}] | x 12",
+    ),
     ("Imp-(0) [-($imp p q)] [x]", "ImpNeg 0 | -I[{p}{q}] | x"),
-    ("Bool+(0) [+($eq[$o] p q)] [0,1]", "BoolPos 0 | +Eo[{p}{q}] | 0 1"),
+    (
+        "Bool+(0) [+($eq[$o] p q)] [0,1]",
+        "BoolPos 0 | +Eo[{p}{q}] | 0 1",
+    ),
     ("Bool-(3) [] [1,0]", "BoolNeg 3 | | 1 0"),
-    ("Fun+(0) [+($eq[($i>$i)] f g)] [x]", "FunPos 0 | +E>ii[{f}{g}] | x"),
+    (
+        "Fun+(0) [+($eq[($i>$i)] f g)] [x]",
+        "FunPos 0 | +E>ii[{f}{g}] | x",
+    ),
     ("Fun-(0) [] []", "FunNeg 0 | |"),
     ("All+(2;(f #0)) [] [x]", "AllPos 2 {f}[#0] | | x"),
-    ("All-(18446744073709551615) [] []", "AllNeg 18446744073709551615 | |"),
+    (
+        "All-(18446744073709551615) [] []",
+        "AllNeg 18446744073709551615 | |",
+    ),
     ("Mat(0,1) [] [x,x,x]", "Mat 0 1 | | x x x"),
     ("Dec(0) [] []", "Dec 0 | |"),
-    ("Con(5,4) [] [18446744073709551615,x]", "Con 5 4 | | 18446744073709551615 x"),
+    (
+        "Con(5,4) [] [18446744073709551615,x]",
+        "Con 5 4 | | 18446744073709551615 x",
+    ),
     ("Cho(^$i.(p #0)) [] [x,x]", "Cho ^i{p}[#0] | | x x"),
     ("Cut(-p) [] [0,x]", "Cut -{p} | | 0 x"),
     ("Cut(+'P') [-'P',-'P'] [0,x]", "Cut +{P} | -{P} -{P} | 0 x"),
     // A function has no head, and negation may stand inside.
     ("False(0) [+^$o.($not #0)] []", "False 0 | +^oN[#0] |"),
-    ("False(0) [+(p $not ($not q))] []", "False 0 | +{p}[NN[{q}]] |"),
+    (
+        "False(0) [+(p $not ($not q))] []",
+        "False 0 | +{p}[NN[{q}]] |",
+    ),
 ];
 
 /// The text with one row, or one line, behind its number.
