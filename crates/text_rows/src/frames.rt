@@ -189,7 +189,7 @@ const READ: &[(&str, Answer)] = &[
     ),
 ];
 
-fn answer(alloc: Global, bytes: &[u8]) -> Answer {
+fn read_as(alloc: Global, bytes: &[u8]) -> Answer {
     match read_text(alloc, bytes) {
         Ok(text) => Read(text.first, text.witnesses.len(), text.lines.len()),
         Err(TextRefused::BadLine { line }) => Bad(line),
@@ -204,7 +204,7 @@ fn whole_texts(rt: HostRuntime) -> Result<(), Fail> {
     let alloc = rt.alloc();
     for table in [ENDS, VERSIONS, READ] {
         for (text, wanted) in table {
-            assert_eq!(rt; answer(alloc, text.as_bytes()), *wanted, "{text}");
+            assert_eq!(rt; read_as(alloc, text.as_bytes()), *wanted, "{text}");
         }
     }
     Ok(())
@@ -213,7 +213,7 @@ fn whole_texts(rt: HostRuntime) -> Result<(), Fail> {
 // Bytes that are no text may stand before the start line and behind the end line.
 #[test]
 fn any_bytes(rt: HostRuntime) -> Result<(), Fail> {
-    let read = answer(
+    let read = read_as(
         rt.alloc(),
         b"\xff\0\n% SZS output start Refutation for \x80\nversion 1\n% SZS output end Refutation for \xfe\n\xff",
     );
