@@ -1,0 +1,192 @@
+//! Files with the texts of their trees, worked out by hand, and whether these have the same trees.
+use crate::write_surface;
+use outside::{CallList, Failed, GrowSink, MemSink};
+use std::alloc::{AllocError, Global};
+use std::process::Abort;
+use std::test::Fail;
+use thf_lex::lex;
+use thf_parse::{ParseRefused, parse};
+use thf_syntax::FileTree;
+
+/// The tree of a file that has one.
+fn tree_of(rt: &impl Abort, alloc: Global, text: &[u8]) -> Result<FileTree, AllocError> {
+    assert!(rt; text.len() <= 16_777_216);
+    let tokens = lex(alloc, text)?;
+    match parse(alloc, text, &tokens) {
+        Ok(tree) => Ok(tree),
+        Err(ParseRefused::Memory) => Err(AllocError),
+        Err(refused) => {
+            assert!(rt; false, "{refused:?} in {:?}", str::from_utf8(text));
+            Err(AllocError)
+        }
+    }
+}
+
+/// A tree as text, without its places.
+fn shown(alloc: Global, tree: &FileTree) -> Result<String, AllocError> {
+    let whole = format!(in alloc; "{tree:?}")?;
+    let mut text = String::new(alloc);
+    for (number, part) in whole.as_str().split("at: ").enumerate() {
+        if number == 0 {
+            text.push_str(part)?;
+        } else {
+            text.push_str("at: ")?;
+            text.push_str(part.trim_start_matches(|c: char| c.is_ascii_digit()))?;
+        }
+    }
+    Ok(text)
+}
+
+fn check(rt: &impl Abort, alloc: Global, text: &str, expected: &str) -> Result<(), AllocError> {
+    let tree = tree_of(rt, alloc, text.as_bytes())?;
+    let mut sink = GrowSink::new(alloc);
+    if write_surface(&tree, &mut sink) == Err(Failed) {
+        return Err(AllocError);
+    }
+    assert_eq!(rt; str::from_utf8(sink.bytes()), Ok(expected), "{text}");
+    let again = tree_of(rt, alloc, sink.bytes())?;
+    let (one, other) = (shown(alloc, &tree)?, shown(alloc, &again)?);
+    assert_eq!(rt; one.as_str(), other.as_str(), "{text}");
+    Ok(())
+}
+
+static STATEMENTS: [(&str, &str); 22] = [
+    ("", ""),
+    ("% nothing\n", ""),
+    ("thf(a,axiom,p).", "thf(a,axiom,p).\n"),
+    (
+        " thf ( a , axiom , ( p ) ) . thf(b,lemma,q).",
+        "thf(a,axiom,p).\nthf(b,lemma,q).\n",
+    ),
+    // Names of statements.
+    ("thf(007,axiom,p).", "thf(007,axiom,p).\n"),
+    ("thf(-1,axiom,p).", "thf(-1,axiom,p).\n"),
+    ("thf('+1',axiom,p).", "thf(+1,axiom,p).\n"),
+    ("thf('+',axiom,p).", "thf('+',axiom,p).\n"),
+    ("thf('1a',axiom,p).", "thf('1a',axiom,p).\n"),
+    ("thf('A',axiom,p).", "thf('A',axiom,p).\n"),
+    ("thf('aB_9',axiom,p).", "thf(aB_9,axiom,p).\n"),
+    ("thf('a b',axiom,p).", "thf('a b',axiom,p).\n"),
+    // Notes aren't kept.
+    (
+        "thf(a,axiom,p,file('a b',1),[x:Y,\"z\"]).",
+        "thf(a,axiom,p).\n",
+    ),
+    // Declarations.
+    ("thf(a,type,( ( c : $tType ) )).", "thf(a,type,c: $tType).\n"),
+    (
+        "thf(a,type,'C':$oType>$iType).",
+        "thf(a,type,'C': $o > $i).\n",
+    ),
+    (
+        "thf(a,type,c: (a > b) > ((c > d) > e)).",
+        "thf(a,type,c: ( a > b ) > ( c > d ) > e).\n",
+    ),
+    (
+        "thf(a,type,c: ((a > b) > c) > 'D').",
+        "thf(a,type,c: ( ( a > b ) > c ) > 'D').\n",
+    ),
+    // Includes.
+    ("include('a.ax').", "include('a.ax').\n"),
+    ("include('a').", "include('a').\n"),
+    (
+        "include('a',[ b , 'c' , 1 , 'D e' ]).",
+        "include('a',[b,c,1,'D e']).\n",
+    ),
+    ("include('a',['2']).", "include('a',[2]).\n"),
+    ("include('a\\'b\\\\c').", "include('a\\'b\\\\c').\n"),
+];
+
+// What stands as the formula of an axiom.
+static FORMULAS: [(&str, &str); 40] = [
+    ("'p'", "p"),
+    ("'P q'", "'P q'"),
+    ("'\\'\\\\'", "'\\'\\\\'"),
+    ("X", "X"),
+    ("$true", "$true"),
+    ("$false", "$false"),
+    ("((((p))))", "p"),
+    // Connectives in parentheses.
+    ("(~)=( & )", "(~) = (&)"),
+    ("(|)=(=>)", "(|) = (=>)"),
+    ("(<=)=(<=>)", "(<=) = (<=>)"),
+    ("(<~>)=(~|)", "(<~>) = (~|)"),
+    ("(~&)!=p", "(~&) != p"),
+    // Negations.
+    ("~~p", "~ ~ p"),
+    ("~(p=q)", "~ ( p = q )"),
+    ("(~p)=(~q)", "( ~ p ) = ( ~ q )"),
+    ("~(p&q)", "~ ( p & q )"),
+    ("~![X]:p", "~ ! [X: $i] : p"),
+    ("~(f@p)", "~ ( f @ p )"),
+    // Connectives that stand between two operands.
+    ("(p=>q)=>r", "( p => q ) => r"),
+    ("p=>(q=>r)", "p => ( q => r )"),
+    ("(p<=q)<=>(p<~>q)", "( p <= q ) <=> ( p <~> q )"),
+    ("(p~|q)~&~r", "( p ~| q ) ~& ~ r"),
+    ("(p=q)=>(f@p)", "p = q => ( f @ p )"),
+    // Chains.
+    ("p&q&r&s", "p & q & r & s"),
+    ("(p&q)&(r&s)", "p & q & ( r & s )"),
+    ("p|(q|r)", "p | ( q | r )"),
+    ("(p|q)&r", "( p | q ) & r"),
+    ("(p&q)|r", "( p & q ) | r"),
+    ("((p|q)|r)|(p=>q)", "p | q | r | ( p => q )"),
+    // Equations.
+    ("(p=q)=r", "( p = q ) = r"),
+    ("p=(q=r)", "p = ( q = r )"),
+    ("(f@p)!=(g@q)", "( f @ p ) != ( g @ q )"),
+    ("p=(![X]:q)", "p = ! [X: $i] : q"),
+    ("(![X]:q)=p", "( ! [X: $i] : q ) = p"),
+    // Applications.
+    ("f@p@q", "f @ p @ q"),
+    ("(f@p)@(g@q)@~r", "f @ p @ ( g @ q ) @ ~ r"),
+    ("(~f)@(p=q)", "( ~ f ) @ ( p = q )"),
+    ("!!@f@p", "!! @ f @ p"),
+    ("(??@f)@(??@(!!@^[X:a]:p))", "?? @ f @ ( ?? @ ( !! @ ^ [X: a] : p ) )"),
+    ("((^[X]:f)@p)@(@+[X:$o]:p)", "^ [X: $i] : f @ p @ @+ [X: $o] : p"),
+];
+
+// The same for binders.
+static BINDERS: [(&str, &str); 7] = [
+    ("![X,Y:a>$o,Z:'B']:p", "! [X: $i, Y: a > $o, Z: 'B'] : p"),
+    ("?[X:(a>b)>c]:(X=X)", "? [X: ( a > b ) > c] : X = X"),
+    ("^[X]:^[Y]:(X@Y)", "^ [X: $i] : ^ [Y: $i] : ( X @ Y )"),
+    ("(![X]:p)&(?[X]:q)", "! [X: $i] : p & ? [X: $i] : q"),
+    ("![X]:(p&q)", "! [X: $i] : ( p & q )"),
+    ("@+[X]:~p", "@+ [X: $i] : ~ p"),
+    ("p@(@-[X:$i]:(p=>q))", "p @ @- [X: $i] : ( p => q )"),
+];
+
+#[test]
+fn statements_are_written(rt: HostRuntime) -> Result<(), Fail> {
+    for (text, expected) in STATEMENTS.iter() {
+        check(&rt, rt.alloc(), text, expected)?;
+    }
+    Ok(())
+}
+
+fn check_formulas(
+    rt: &impl Abort,
+    alloc: Global,
+    cases: &[(&str, &str)],
+) -> Result<(), AllocError> {
+    for (text, expected) in cases.iter() {
+        let text = format!(in alloc; "thf(a,axiom,{text}).")?;
+        let expected = format!(in alloc; "thf(a,axiom,{expected}).\n")?;
+        check(rt, alloc, text.as_str(), expected.as_str())?;
+    }
+    Ok(())
+}
+
+#[test]
+fn formulas_are_written(rt: HostRuntime) -> Result<(), Fail> {
+    check_formulas(&rt, rt.alloc(), &FORMULAS)?;
+    Ok(())
+}
+
+#[test]
+fn binders_are_written(rt: HostRuntime) -> Result<(), Fail> {
+    check_formulas(&rt, rt.alloc(), &BINDERS)?;
+    Ok(())
+}
