@@ -1,11 +1,13 @@
 -- The text of a tree that some tokens have is one of it.
-use Rattle.std.proofs.Common.{◌≡◌, ℕ, ◌+◌, List, [], ◌∷◌, refl, sym, ap, subst, ◌∙◌}
+use Rattle.std.proofs.Common.{◌≡◌, ℕ, ◌+◌, Bool, List, [], ◌∷◌, refl, sym, ap, subst, ◌∙◌}
 use Rattle.thf_lex.specs.Reading.{AreTokens}
 use Rattle.thf_syntax.specs.Trees.{StatementTree}
 use Rattle.thf_parse.specs.Words.{Word, plain}
 use Rattle.std.specs.List.{AllByRecursion}
 use Rattle.thf_print.specs.Texts.{surface_text}
-use Rattle.thf_print.specs.Law.{IsSpelled, IsPrintable, IsTextOf}
+use Rattle.thf_print.specs.Law.{IsSpelled, IsPrintable, IsTextOf, AppendsTextOf}
+use Rattle.thf_print.specs.Writing.{Took}
+use Rattle.std.specs.Prelude.{IsTrue}
 use Rattle.thf_print.proofs.Pieces.{bytes_of, words_at, tokens_at}
 use Rattle.thf_print.proofs.Printed.{file_pieces}
 use Rattle.thf_print.proofs.PrintedTexts.{bytes_of-file_pieces}
@@ -42,3 +44,7 @@ printable-is_text tree h =
     let text = proper-is_text h.other (proper-file h.file (words-spelled h.words h.spelled)) in
     subst (IsTextOf tree) (sym (surface_text-same tree h.other h.same))
     (record { tokens = text.tokens; words = text.words; other = text.other; read = text.read; placed = text.placed; file = text.file; same = h.same ∙ text.same })
+
+-- what is appended where a tree is written
+pub took-appends : {S : Type 0} {tells : S → Bool} {written : S → List ℕ} {faults : S → ℕ} {s t : S} (tree : List StatementTree) → Took tells written faults s t (surface_text tree) → IsTrue (tells s) → IsPrintable tree → AppendsTextOf tree (written s) (written t)
+took-appends tree h told printable = record { text = surface_text tree; appended = h.appended told; is_text = printable-is_text tree printable }

@@ -11,6 +11,7 @@ pub mod Places
 pub mod Printed
 pub mod PrintedTexts
 pub mod Proper
+pub mod Spelled
 pub mod Spelling
 pub mod StatementFound
 pub mod TypeFound

@@ -6,7 +6,7 @@ use Rattle.thf_print.specs.declared.slot.Slot.{Slot}
 use Rattle.thf_print.specs.declared.slot.Slot.TheVariants.{Primary, Unitary, Head, Operand, Member}
 use Rattle.thf_print.specs.Names.{quoted, name_text, label_text}
 use Rattle.thf_print.specs.Slots.{left_slot, takes, is_simple}
-use Rattle.thf_print.specs.Texts.{grouped_unless, separated, type_text, var_text, conn_text, binder_text, truth_text, equality_text, quantifier_text, infixed, formula_text, body_text, selected_text, selection_text, annotated_text, statement_text, surface_text}
+use Rattle.thf_print.specs.Texts.{grouped_unless, separated, type_text, var_text, conn_text, binder_text, truth_text, equality_text, quantifier_text, infixed, formula_text, body_text, selected_text, selection_text, heading_text, annotated_text, statement_text, surface_text}
 use Rattle.thf_print.specs.Places.{bare_type, bare_var, bare_formula, bare_body, bare_annotated, bare_selected, bare_selection, bare_statement, SamePlacesAside}
 
 is_simple-bare_type : (t : TypeTree) → is_simple (bare_type t) ≡ is_simple t
@@ -59,7 +59,7 @@ formula_text-bare_formula (application at fun arg) =
 formula_text-bare_formula (quantified at all arg) =
     ap (λ u. infixed (quantifier_text all) (codes "@") u) (slot-bare Operand arg (formula_text-bare_formula arg))
 formula_text-bare_formula (binding at binder vars body) =
-    ap₂ (λ names t. binder_text binder ++ (codes " [" ++ (separated (codes ", ") names ++ (codes "] : " ++ t)))) (vars-bare vars) (slot-bare Member body (formula_text-bare_formula body))
+    ap₂ (λ names t. (binder_text binder ++ (codes " [" ++ (separated (codes ", ") names ++ codes "] : "))) ++ t) (vars-bare vars) (slot-bare Member body (formula_text-bare_formula body))
 
 body_text-bare_body : (b : BodyTree) → body_text (bare_body b) ≡ body_text b
 body_text-bare_body (base at name) = refl
@@ -76,7 +76,7 @@ selection_text-bare_selection (Some only) = ap (λ names. codes ",[" ++ (separat
 
 statement_text-bare_statement : (s : StatementTree) → statement_text (bare_statement s) ≡ statement_text s
 statement_text-bare_statement (annotated a) =
-    ap (λ body. codes "thf(" ++ (label_text a.name ++ (codes "," ++ (a.role ++ (codes "," ++ (body ++ codes ").\n")))))) (body_text-bare_body a.body)
+    ap (λ body. heading_text a ++ (body ++ codes ").\n")) (body_text-bare_body a.body)
 statement_text-bare_statement (include at file only) =
     ap (λ names. codes "include(" ++ (quoted file ++ (names ++ codes ").\n"))) (selection_text-bare_selection only)
 

@@ -5,7 +5,7 @@ use Rattle.thf_syntax.specs.Trees.{TypeTree, form, indiv, named, arrow, VarTree,
 use Rattle.thf_print.specs.declared.slot.Slot.TheVariants.{Primary, Unitary, Head, Operand, Member}
 use Rattle.thf_print.specs.Names.{quoted, name_text, label_text}
 use Rattle.thf_print.specs.Slots.{left_slot, takes, is_simple}
-use Rattle.thf_print.specs.Texts.{grouped_unless, separated, type_text, var_text, conn_text, binder_text, truth_text, equality_text, quantifier_text, infixed, formula_text, body_text, selected_text, selection_text, annotated_text, statement_text, surface_text}
+use Rattle.thf_print.specs.Texts.{grouped_unless, separated, type_text, var_text, conn_text, binder_text, truth_text, equality_text, quantifier_text, behind_symbol, infixed, opening_text, formula_text, body_text, selected_text, selection_text, heading_text, annotated_text, statement_text, surface_text}
 use Rattle.thf_print.proofs.Pieces.{Piece, token, gap, bytes_of}
 use Rattle.thf_print.proofs.Printed.{grouped, type_pieces, var_pieces, vars_pieces, behind_vars, conn_depth, behind_arguments, infixed_pieces, formula_pieces, body_pieces, labels_pieces, selection_pieces, end_pieces, statement_pieces, file_pieces}
 
@@ -23,8 +23,9 @@ make-grouped false pieces text h = record {
 infixed-bytes : (left right : ℕ → List Piece → List Piece) (before symbol after : List ℕ) → Make left before → Make right after → (d e : ℕ) (rest : List Piece) → bytes_of (infixed_pieces left d symbol right e rest) ≡ infixed before symbol after ++ bytes_of rest
 infixed-bytes left right before symbol after h k d e rest =
     h.same d _
-    ∙ ap (λ t. before ++ (32 ∷ t)) (ap (λ t. symbol ++ (32 ∷ t)) (k.same e rest) ∙ sym (append_assoc symbol (32 ∷ after) (bytes_of rest)))
-    ∙ sym (append_assoc before (32 ∷ (symbol ++ (32 ∷ after))) (bytes_of rest))
+    ∙ ap (λ t. before ++ (32 ∷ t)) (ap (λ t. symbol ++ (32 ∷ t)) (k.same e rest) ∙ sym (append_assoc symbol (32 ∷ []) (after ++ bytes_of rest)))
+    ∙ ap (λ t. before ++ t) (sym (append_assoc (32 ∷ (symbol ++ 32 ∷ [])) after (bytes_of rest)))
+    ∙ sym (append_assoc before (behind_symbol symbol after) (bytes_of rest))
 
 pub make-type : (t : TypeTree) → Make (type_pieces t) (type_text t)
 make-type (form at) = record { same = λ d rest. refl }
@@ -92,8 +93,9 @@ make-formula (binding at binder vars body) =
           ap (λ t. binder_text binder ++ (32 ∷ 91 ∷ t))
           ((make-vars vars).same d _
           ∙ ap (λ t. names ++ (93 ∷ 32 ∷ 58 ∷ 32 ∷ t)) (k.same (behind_vars vars d) rest)
-          ∙ sym (append_assoc names (93 ∷ 32 ∷ 58 ∷ 32 ∷ inner) (bytes_of rest)))
-          ∙ sym (append_assoc (binder_text binder) (32 ∷ 91 ∷ (names ++ (93 ∷ 32 ∷ 58 ∷ 32 ∷ inner))) (bytes_of rest));
+          ∙ sym (append_assoc names (codes "] : ") (inner ++ bytes_of rest)))
+          ∙ sym (append_assoc (binder_text binder) (32 ∷ 91 ∷ (names ++ codes "] : ")) (inner ++ bytes_of rest))
+          ∙ sym (append_assoc (opening_text binder vars) inner (bytes_of rest));
     }
 
 body-bytes : (b : BodyTree) (rest : List Piece) → bytes_of (body_pieces b rest) ≡ body_text b ++ bytes_of rest
@@ -116,12 +118,13 @@ selection-bytes (Some only) rest =
 
 annotated-bytes : (a : AnnotatedTree) (rest : List Piece) → bytes_of (statement_pieces (annotated a) rest) ≡ annotated_text a ++ bytes_of rest
 annotated-bytes a rest =
-    let body = body_text a.body in
+    let behind = body_text a.body ++ codes ").\n" in
     ap (λ t. codes "thf(" ++ t)
     (ap (λ t. label_text a.name ++ (44 ∷ t))
-    (ap (λ t. a.role ++ (44 ∷ t)) (body-bytes a.body (end_pieces rest) ∙ sym (append_assoc body (codes ").\n") (bytes_of rest)))
-    ∙ sym (append_assoc a.role (44 ∷ (body ++ codes ").\n")) (bytes_of rest)))
-    ∙ sym (append_assoc (label_text a.name) (44 ∷ (a.role ++ (44 ∷ (body ++ codes ").\n")))) (bytes_of rest)))
+    (ap (λ t. a.role ++ (44 ∷ t)) (body-bytes a.body (end_pieces rest) ∙ sym (append_assoc (body_text a.body) (codes ").\n") (bytes_of rest)))
+    ∙ sym (append_assoc a.role (codes ",") (behind ++ bytes_of rest)))
+    ∙ sym (append_assoc (label_text a.name) (44 ∷ (a.role ++ codes ",")) (behind ++ bytes_of rest)))
+    ∙ sym (append_assoc (heading_text a) behind (bytes_of rest))
 
 include-bytes : (at : ℕ) (file : List ℕ) (only : Option (List SelectedTree)) (rest : List Piece) → bytes_of (statement_pieces (include at file only) rest) ≡ statement_text (include at file only) ++ bytes_of rest
 include-bytes at file only rest =

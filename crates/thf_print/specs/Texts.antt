@@ -60,9 +60,17 @@ abbrev pub quantifier_text : Bool → List ℕ
 quantifier_text true = codes "!!"
 quantifier_text false = codes "??"
 
+-- a symbol between spaces, and a text behind it
+abbrev pub behind_symbol : List ℕ → List ℕ → List ℕ
+behind_symbol symbol right = (codes " " ++ (symbol ++ codes " ")) ++ right
+
 -- two texts with a symbol between them
 abbrev pub infixed : List ℕ → List ℕ → List ℕ → List ℕ
-infixed left symbol right = left ++ (codes " " ++ (symbol ++ (codes " " ++ right)))
+infixed left symbol right = left ++ behind_symbol symbol right
+
+-- a binder with its variables, up to its colon
+abbrev pub opening_text : Binder → List VarTree → List ℕ
+opening_text binder vars = binder_text binder ++ (codes " [" ++ (separated (codes ", ") (map var_text vars) ++ codes "] : "))
 
 abbrev pub formula_text : FormulaTree → List ℕ
 formula_text (constant at name) = name_text name
@@ -77,8 +85,7 @@ formula_text (equation at positive left right) =
 formula_text (application at fun arg) =
     infixed (grouped_unless (takes Head fun) (formula_text fun)) (codes "@") (grouped_unless (takes Operand arg) (formula_text arg))
 formula_text (quantified at all arg) = infixed (quantifier_text all) (codes "@") (grouped_unless (takes Operand arg) (formula_text arg))
-formula_text (binding at binder vars body) =
-    binder_text binder ++ (codes " [" ++ (separated (codes ", ") (map var_text vars) ++ (codes "] : " ++ grouped_unless (takes Member body) (formula_text body))))
+formula_text (binding at binder vars body) = opening_text binder vars ++ grouped_unless (takes Member body) (formula_text body)
 
 abbrev pub body_text : BodyTree → List ℕ
 body_text (base at name) = name_text name ++ codes ": $tType"
@@ -92,8 +99,12 @@ abbrev pub selection_text : Option (List SelectedTree) → List ℕ
 selection_text None = []
 selection_text (Some only) = codes ",[" ++ (separated (codes ",") (map selected_text only) ++ codes "]")
 
+-- what stands before the body of an annotated formula
+abbrev pub heading_text : AnnotatedTree → List ℕ
+heading_text a = codes "thf(" ++ (label_text a.name ++ (codes "," ++ (a.role ++ codes ",")))
+
 abbrev pub annotated_text : AnnotatedTree → List ℕ
-annotated_text a = codes "thf(" ++ (label_text a.name ++ (codes "," ++ (a.role ++ (codes "," ++ (body_text a.body ++ codes ").\n")))))
+annotated_text a = heading_text a ++ (body_text a.body ++ codes ").\n")
 
 abbrev pub statement_text : StatementTree → List ℕ
 statement_text (annotated a) = annotated_text a

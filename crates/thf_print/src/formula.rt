@@ -1,5 +1,5 @@
 //! Writes formulas.
-ghost use Rattle.std.specs.Prelude.{◌≡◌, ◌++◌, codes, map, OnOk, OnErr};
+ghost use Rattle.std.specs.Prelude.{◌≡◌, OnOk, OnErr};
 ghost use Rattle.thf_syntax.specs.View.{the_formula, the_vars};
 ghost use Rattle.thf_print.specs.Slots.{takes};
 ghost use Rattle.thf_print.specs.Texts as spec;
@@ -61,9 +61,9 @@ fn quantifier_text(all: bool) -> &'static [u8]
 /// Writes a binder up to its colon.
 fn write_binder<S: Sink>(sink: &mut S, binder: Binder, vars: &[SurfaceVar]) -> Result<(), Failed>
     ensures took { OnOk result (Took S.tells S.written S.faults sink.old sink.new
-        (spec.binder_text binder ++ (codes " [" ++ (spec.separated (codes ", ") (map spec.var_text (the_vars vars.now)) ++ codes "] : ")))) }
+        (spec.opening_text binder (the_vars vars.now))) }
     ensures stopped { OnErr result (Stopped S.tells S.written S.faults sink.old sink.new
-        (spec.binder_text binder ++ (codes " [" ++ (spec.separated (codes ", ") (map spec.var_text (the_vars vars.now)) ++ codes "] : ")))) }
+        (spec.opening_text binder (the_vars vars.now))) }
 {
     write(sink, binder_text(binder))?;
     write(sink, b" [")?;
@@ -127,9 +127,9 @@ fn write_right<S: Sink>(
     tree: &Surface,
 ) -> Result<(), Failed>
     ensures took { OnOk result (Took S.tells S.written S.faults sink.old sink.new
-        (codes " " ++ (symbol.now ++ (codes " " ++ spec.grouped_unless (takes slot (the_formula tree.now)) (spec.formula_text (the_formula tree.now)))))) }
+        (spec.behind_symbol symbol.now (spec.grouped_unless (takes slot (the_formula tree.now)) (spec.formula_text (the_formula tree.now))))) }
     ensures stopped { OnErr result (Stopped S.tells S.written S.faults sink.old sink.new
-        (codes " " ++ (symbol.now ++ (codes " " ++ spec.grouped_unless (takes slot (the_formula tree.now)) (spec.formula_text (the_formula tree.now)))))) }
+        (spec.behind_symbol symbol.now (spec.grouped_unless (takes slot (the_formula tree.now)) (spec.formula_text (the_formula tree.now))))) }
 {
     write_between(sink, b" ", symbol, b" ")?;
     write_in(sink, slot, tree)

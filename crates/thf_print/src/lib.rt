@@ -11,5 +11,5 @@ mod statement;
 mod tests;
 mod types;
 
-pub use law::texts_have_their_trees;
+pub use law::{read_trees_are_printable, texts_have_their_trees};
 pub use statement::write_surface;

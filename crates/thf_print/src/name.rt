@@ -76,8 +76,8 @@ fn write_characters<S: Sink>(sink: &mut S, name: &[u8]) -> Result<(), Failed>
     ensures took { OnOk result (Took S.tells S.written S.faults sink.old sink.new (flat_map spec.escaped name.now)) }
     ensures stopped { OnErr result (Stopped S.tells S.written S.faults sink.old sink.new (flat_map spec.escaped name.now)) }
 {
-    for i in 0..name.len() {
-        write_escaped(sink, name[i])?;
+    for byte in name {
+        write_escaped(sink, *byte)?;
     }
     Ok(())
 }

@@ -190,3 +190,60 @@ fn binders_are_written(rt: HostRuntime) -> Result<(), Fail> {
     check_formulas(&rt, rt.alloc(), &BINDERS)?;
     Ok(())
 }
+
+/// The first bytes of a text, as many as a sink has room for.
+fn check_room(rt: &impl Abort, alloc: Global, tree: &FileTree, room: usize) -> Result<(), AllocError> {
+    let whole = "thf(a,axiom,p & 'Q').\n";
+    let mut sink = MemSink::new(alloc, room, CallList::new(alloc))?;
+    let written = write_surface(tree, &mut sink);
+    assert_eq!(rt; written.is_ok(), whole.len() <= room, "room for {room}");
+    assert_eq!(rt; sink.bytes(), &whole.as_bytes()[..room.min(whole.len())], "room for {room}");
+    Ok(())
+}
+
+#[test]
+fn a_full_sink_holds_a_front(rt: HostRuntime) -> Result<(), Fail> {
+    let tree = tree_of(&rt, rt.alloc(), b"thf(a,axiom,(p&'Q')).")?;
+    for room in 0..30 {
+        check_room(&rt, rt.alloc(), &tree, room)?;
+    }
+    Ok(())
+}
+
+/// A chain of 301 operands, each link but the last in parentheses, where the last operand has 300
+/// negations.
+fn grouped_chain(alloc: Global) -> Result<String, AllocError> {
+    let mut text = String::new(alloc);
+    text.push_str("thf(a,axiom,")?;
+    for _ in 0..299 {
+        text.push_str("(")?;
+    }
+    text.push_str("p")?;
+    for _ in 0..299 {
+        text.push_str("&p)")?;
+    }
+    text.push_str("&")?;
+    for _ in 0..300 {
+        text.push_str("~")?;
+    }
+    text.push_str("p).")?;
+    Ok(text)
+}
+
+// The parentheses end a link before the next begins, so without them more links are open at once.
+#[test]
+fn a_text_may_be_deeper_than_one_with_more_parentheses(rt: HostRuntime) -> Result<(), Fail> {
+    let alloc = rt.alloc();
+    let text = grouped_chain(alloc)?;
+    let tree = tree_of(&rt, alloc, text.as_str().as_bytes())?;
+    let mut sink = GrowSink::new(alloc);
+    assert!(rt; write_surface(&tree, &mut sink).is_ok());
+    assert!(rt; sink.bytes().len() <= 16_777_216);
+    let tokens = lex(alloc, sink.bytes())?;
+    // The token is the 213th of the negations: 300 links are open before them.
+    match parse(alloc, sink.bytes(), &tokens) {
+        Err(ParseRefused::TooDeep { at }) => assert_eq!(rt; at, 12 + 300 * 4 + 212 * 2),
+        other => assert!(rt; false, "{other:?}"),
+    }
+    Ok(())
+}

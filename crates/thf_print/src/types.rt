@@ -1,5 +1,6 @@
 //! Writes types and variables.
 ghost use Rattle.std.specs.Prelude.{◌≡◌, ◌++◌, codes, map, OnOk, OnErr};
+ghost use Rattle.std.specs.List.{flat_map};
 ghost use Rattle.thf_syntax.specs.View.{the_type, the_var, the_vars};
 ghost use Rattle.thf_print.specs.Slots.{is_simple};
 ghost use Rattle.thf_print.specs.Texts.{type_text, var_text, separated, grouped_unless};
@@ -51,8 +52,8 @@ fn write_argument_type<S: Sink>(sink: &mut S, ty: &SurfaceTy) -> Result<(), Fail
     }
 }
 
-/// Writes a name with its type, behind other bytes.
-pub fn write_typed<S: Sink>(sink: &mut S, before: &[u8], var: &SurfaceVar) -> Result<(), Failed>
+/// Writes a variable with its type, behind other bytes.
+fn write_var<S: Sink>(sink: &mut S, before: &[u8], var: &SurfaceVar) -> Result<(), Failed>
     ensures took { OnOk result (Took S.tells S.written S.faults sink.old sink.new (before.now ++ var_text (the_var var.now))) }
     ensures stopped { OnErr result (Stopped S.tells S.written S.faults sink.old sink.new (before.now ++ var_text (the_var var.now))) }
 {
@@ -62,6 +63,19 @@ pub fn write_typed<S: Sink>(sink: &mut S, before: &[u8], var: &SurfaceVar) -> Re
     write_type(sink, &var.ty)
 }
 
+/// Writes variables, each behind a comma.
+fn write_further_vars<S: Sink>(sink: &mut S, vars: &[SurfaceVar]) -> Result<(), Failed>
+    ensures took { OnOk result (Took S.tells S.written S.faults sink.old sink.new
+        (flat_map (λ text. codes ", " ++ text) (map var_text (the_vars vars.now)))) }
+    ensures stopped { OnErr result (Stopped S.tells S.written S.faults sink.old sink.new
+        (flat_map (λ text. codes ", " ++ text) (map var_text (the_vars vars.now)))) }
+{
+    for var in vars {
+        write_var(sink, b", ", var)?;
+    }
+    Ok(())
+}
+
 /// Writes the variables of a binder, with commas between them.
 pub fn write_vars<S: Sink>(sink: &mut S, vars: &[SurfaceVar]) -> Result<(), Failed>
     ensures took { OnOk result (Took S.tells S.written S.faults sink.old sink.new
@@ -69,11 +83,11 @@ pub fn write_vars<S: Sink>(sink: &mut S, vars: &[SurfaceVar]) -> Result<(), Fail
     ensures stopped { OnErr result (Stopped S.tells S.written S.faults sink.old sink.new
         (separated (codes ", ") (map var_text (the_vars vars.now)))) }
 {
-    if let [first, others @ ..] = vars {
-        write_typed(sink, b"", first)?;
-        for var in others {
-            write_typed(sink, b", ", var)?;
+    match vars {
+        [first, others @ ..] => {
+            write_var(sink, b"", first)?;
+            write_further_vars(sink, others)
         }
+        [] => Ok(()),
     }
-    Ok(())
 }
