@@ -118,7 +118,7 @@ module _ (pieces : ℕ → List Piece → List Piece) (t : FormulaTree) where
         end = f.end + 1 + 1;
         tree = f.tree;
         read = grammar.group_primary d _ _ _ _ f.tree (is-word (terminal.Mark mark.Open) kind.Symbol (codes "(") at (suc d) refl) f.read
-          (is-word (terminal.Mark mark.Close) kind.Symbol (codes ")") (f.end + 1) (suc d) refl);
+            (is-word (terminal.Mark mark.Close) kind.Symbol (codes ")") (f.end + 1) (suc d) refl);
         same = f.same;
       }
 
@@ -200,8 +200,8 @@ operator-primary p c d at rest = record {
   end = at + 1 + length (conn_text c) + 1;
   tree = operator (at + 1) c;
   read = grammar.operator_primary d _ _ _ _ c (is-word (terminal.Mark mark.Open) kind.Symbol (codes "(") at (suc d) refl)
-    (is-word (terminal.Conn c) kind.Symbol (conn_text c) (at + 1) (lone_depth c (suc d)) (symbol-conn c))
-    (is-word (terminal.Mark mark.Close) kind.Symbol (codes ")") (at + 1 + length (conn_text c)) (suc d) refl);
+      (is-word (terminal.Conn c) kind.Symbol (conn_text c) (at + 1) (lone_depth c (suc d)) (symbol-conn c))
+      (is-word (terminal.Mark mark.Close) kind.Symbol (codes ")") (at + 1 + length (conn_text c)) (suc d) refl);
   same = refl;
 }
 
@@ -447,9 +447,9 @@ binding-laws p b vs t proper l = record {
           end = g.end;
           tree = binding at b f.vars g.tree;
           read = grammar.bound d e _ _ _ _ _ _ _ b f.vars g.tree (is-word (terminal.Binder b) kind.Symbol (binder_text b) at d (symbol-binder b))
-            (is-word (terminal.Mark mark.OpenList) kind.Symbol (codes "[") start (suc d) refl) f.read
-            (is-word (terminal.Mark mark.CloseList) kind.Symbol (codes "]") f.end (suc e) refl)
-            (is-word (terminal.Mark mark.Colon) kind.Symbol (codes ":") (f.end + 1 + 1) e refl) g.read;
+              (is-word (terminal.Mark mark.OpenList) kind.Symbol (codes "[") start (suc d) refl) f.read
+              (is-word (terminal.Mark mark.CloseList) kind.Symbol (codes "]") f.end (suc e) refl)
+              (is-word (terminal.Mark mark.Colon) kind.Symbol (codes ":") (f.end + 1 + 1) e refl) g.read;
           same = ap₂ (binding 0 b) f.same g.same;
         }
 

@@ -155,9 +155,9 @@ longest-quoted k quote t rest apart h quoted =
     let long : length t ≡ length q.inside + 2 = ap length q.whole ∙ omega (arith, length-append q.inside (quote ∷ [])) in
     (longest_token k (t ++ rest) (length t) (omega (arith, length-append t rest)) (subst (IsToken k) (sym (take-append_seam t rest)) h)
     (λ m short other.
-        let found = closes_from_quoted quote (t ++ rest) m short (quoted (take m (t ++ rest)) other) in
-        let here = closes-length quote q.inside rest found.0 apart q.characters (subst (λ x. Closes quote x found.0) tail found.3) in
-        omega (arith, found.2, here, long))).1
+    let found = closes_from_quoted quote (t ++ rest) m short (quoted (take m (t ++ rest)) other) in
+    let here = closes-length quote q.inside rest found.0 apart q.characters (subst (λ x. Closes quote x found.0) tail found.3) in
+    omega (arith, found.2, here, long))).1
 
 -- a text that begins with a mark has one byte
 abbrev is_short : List ℕ → Bool

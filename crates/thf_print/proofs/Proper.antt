@@ -61,4 +61,3 @@ IsProperStatement (include at file only) = IsTrue (is_nameable file) × IsProper
 abbrev pub AreProperStatements : List StatementTree → Type 0
 AreProperStatements [] = Unit {0}
 AreProperStatements (s ∷ ss) = IsProperStatement s × AreProperStatements ss
-

@@ -39,8 +39,8 @@ reads-body role (base p n) h at rest =
       end = there + 1 + 1 + length (codes "$tType");
       tree = _;
       read = grammar.typing_body _ _ _ h.0 (grammar.base_typing 0 _ _ _ _ (is_name-word n at 0)
-        (is-word (terminal.Mark mark.Colon) kind.Symbol (codes ":") there 0 refl)
-        (is-word terminal.TypeOfTypes kind.Dollar (codes "$tType") (there + 1 + 1) 0 refl));
+          (is-word (terminal.Mark mark.Colon) kind.Symbol (codes ":") there 0 refl)
+          (is-word terminal.TypeOfTypes kind.Dollar (codes "$tType") (there + 1 + 1) 0 refl));
       same = ap (base 0) (name-name_word n at 0);
     }
 reads-body role (typing p n ty) h at rest =
@@ -50,7 +50,7 @@ reads-body role (typing p n ty) h at rest =
       end = f.end;
       tree = _;
       read = grammar.typing_body _ _ _ h.0 (grammar.constant_typing 0 _ _ _ _ f.tree (is_name-word n at 0)
-        (is-word (terminal.Mark mark.Colon) kind.Symbol (codes ":") there 0 refl) f.read);
+          (is-word (terminal.Mark mark.Colon) kind.Symbol (codes ":") there 0 refl) f.read);
       same = ap₂ (typing 0) (name-name_word n at 0) f.same;
     }
 reads-body role (formula t) h at rest =
@@ -86,8 +86,8 @@ reads-selection (Some only) h at rest =
       end = f.end + 1;
       tree = Some f.tree;
       read = grammar.only _ _ _ _ _ f.tree (is-word (terminal.Mark mark.Comma) kind.Symbol (codes ",") at 0 refl)
-        (is-word (terminal.Mark mark.OpenList) kind.Symbol (codes "[") (at + 1) 0 refl) f.read
-        (is-word (terminal.Mark mark.CloseList) kind.Symbol (codes "]") f.end 0 refl);
+          (is-word (terminal.Mark mark.OpenList) kind.Symbol (codes "[") (at + 1) 0 refl) f.read
+          (is-word (terminal.Mark mark.CloseList) kind.Symbol (codes "]") f.end 0 refl);
       same = ap Some f.same;
     }
 
@@ -113,13 +113,13 @@ reads-annotated a h at rest =
       end = f.end + 1 + 1 + 1;
       tree = _;
       read = grammar.annotated_statement _ _ _ _ _ _ _ _ _ _ f.tree (keyword (codes "thf") at)
-        (is-word (terminal.Mark mark.Open) kind.Symbol (codes "(") (at + 3) 0 refl)
-        (is_label-word a.name label_at)
-        (is-word (terminal.Mark mark.Comma) kind.Symbol (codes ",") comma_at 0 refl)
-        (is-word terminal.Lower kind.Lower a.role role_at 0 refl)
-        (is-word (terminal.Mark mark.Comma) kind.Symbol (codes ",") behind_role 0 refl)
-        (subst (λ role. IsBody role (words_at (behind_role + 1) (body_pieces a.body (end_pieces rest))) f.tree (words_at f.end (end_pieces rest))) (sym role_is) f.read)
-        (no_notes _) (is_end-words f.end rest);
+          (is-word (terminal.Mark mark.Open) kind.Symbol (codes "(") (at + 3) 0 refl)
+          (is_label-word a.name label_at)
+          (is-word (terminal.Mark mark.Comma) kind.Symbol (codes ",") comma_at 0 refl)
+          (is-word terminal.Lower kind.Lower a.role role_at 0 refl)
+          (is-word (terminal.Mark mark.Comma) kind.Symbol (codes ",") behind_role 0 refl)
+          (subst (λ role. IsBody role (words_at (behind_role + 1) (body_pieces a.body (end_pieces rest))) f.tree (words_at f.end (end_pieces rest))) (sym role_is) f.read)
+          (no_notes _) (is_end-words f.end rest);
       same =
           ap₂ (λ n role. annotated_as n role (bare_body f.tree)) (name-label_word a.name label_at) role_is
           ∙ ap (annotated_as a.name a.role) f.same;
@@ -133,8 +133,8 @@ reads-include p file only h at rest =
       end = f.end + 1 + 1 + 1;
       tree = _;
       read = grammar.include_statement _ _ _ _ _ _ f.tree (keyword (codes "include") at)
-        (is-word (terminal.Mark mark.Open) kind.Symbol (codes "(") (at + 7) 0 refl)
-        (is-word terminal.Quoted kind.Quoted (spec.quoted file) file_at 0 refl) f.read (is_end-words f.end rest);
+          (is-word (terminal.Mark mark.Open) kind.Symbol (codes "(") (at + 7) 0 refl)
+          (is-word terminal.Quoted kind.Quoted (spec.quoted file) file_at 0 refl) f.read (is_end-words f.end rest);
       same = ap₂ (include 0) (name-word kind.Quoted (spec.quoted file) file_at 0 ∙ name_in-quoted file) f.same;
     }
 

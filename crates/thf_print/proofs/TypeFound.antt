@@ -22,7 +22,7 @@ simple-grouped pieces t h d at rest =
       end = f.end + 1 + 1;
       tree = f.tree;
       read = group_type d _ _ _ _ f.tree (is-word (terminal.Mark mark.Open) kind.Symbol (codes "(") at (suc d) refl) f.read
-        (is-word (terminal.Mark mark.Close) kind.Symbol (codes ")") (f.end + 1) (suc d) refl);
+          (is-word (terminal.Mark mark.Close) kind.Symbol (codes ")") (f.end + 1) (suc d) refl);
       same = f.same;
     }
 
@@ -89,7 +89,7 @@ reads-var v d at rest =
       end = f.end;
       tree = record { at = at; name = name (word_at kind.Upper v.name at d); ty = f.tree };
       read = typed_var d _ _ _ _ f.tree (is-word terminal.Upper kind.Upper v.name at d refl)
-        (is-word (terminal.Mark mark.Colon) kind.Symbol (codes ":") (at + length v.name) d refl) f.read;
+          (is-word (terminal.Mark mark.Colon) kind.Symbol (codes ":") (at + length v.name) d refl) f.read;
       same = ap₂ (λ n ty. record { at = 0; name = n; ty = ty }) (name-word kind.Upper v.name at d) f.same;
     }
 

@@ -87,7 +87,10 @@ pub fn write_formula<S: Sink>(sink: &mut S, tree: &Surface) -> Result<(), Failed
             write_in(sink, Slot::Operand, body)
         }
         Surface::Binary {
-            conn, left, right, ..
+            conn,
+            left,
+            right,
+            ..
         } => {
             write_in(sink, Slot::left_of(*conn), left)?;
             write_right(sink, conn_text(*conn), Slot::Member, right)
@@ -110,7 +113,10 @@ pub fn write_formula<S: Sink>(sink: &mut S, tree: &Surface) -> Result<(), Failed
             write_right(sink, b"@", Slot::Operand, arg)
         }
         Surface::Bind {
-            binder, vars, body, ..
+            binder,
+            vars,
+            body,
+            ..
         } => {
             write_binder(sink, *binder, vars.as_slice())?;
             write_in(sink, Slot::Member, body)

@@ -32,13 +32,8 @@ impl Slot {
         match conn {
             Conn::And => Slot::Conjunction,
             Conn::Or => Slot::Disjunction,
-            Conn::Not
-            | Conn::Imp
-            | Conn::If
-            | Conn::Iff
-            | Conn::Xor
-            | Conn::Nor
-            | Conn::Nand => Slot::Member,
+            Conn::Not | Conn::Imp | Conn::If | Conn::Iff | Conn::Xor | Conn::Nor | Conn::Nand =>
+                Slot::Member,
         }
     }
 
@@ -72,13 +67,8 @@ impl Slot {
         match conn {
             Conn::And => matches!(self, Slot::Conjunction),
             Conn::Or => matches!(self, Slot::Disjunction),
-            Conn::Not
-            | Conn::Imp
-            | Conn::If
-            | Conn::Iff
-            | Conn::Xor
-            | Conn::Nor
-            | Conn::Nand => false,
+            Conn::Not | Conn::Imp | Conn::If | Conn::Iff | Conn::Xor | Conn::Nor | Conn::Nand =>
+                false,
         }
     }
 

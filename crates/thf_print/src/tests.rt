@@ -73,7 +73,10 @@ static STATEMENTS: [(&str, &str); 22] = [
         "thf(a,axiom,p).\n",
     ),
     // Declarations.
-    ("thf(a,type,( ( c : $tType ) )).", "thf(a,type,c: $tType).\n"),
+    (
+        "thf(a,type,( ( c : $tType ) )).",
+        "thf(a,type,c: $tType).\n",
+    ),
     (
         "thf(a,type,'C':$oType>$iType).",
         "thf(a,type,'C': $o > $i).\n",
@@ -143,8 +146,14 @@ static FORMULAS: [(&str, &str); 40] = [
     ("(f@p)@(g@q)@~r", "f @ p @ ( g @ q ) @ ~ r"),
     ("(~f)@(p=q)", "( ~ f ) @ ( p = q )"),
     ("!!@f@p", "!! @ f @ p"),
-    ("(??@f)@(??@(!!@^[X:a]:p))", "?? @ f @ ( ?? @ ( !! @ ^ [X: a] : p ) )"),
-    ("((^[X]:f)@p)@(@+[X:$o]:p)", "^ [X: $i] : f @ p @ @+ [X: $o] : p"),
+    (
+        "(??@f)@(??@(!!@^[X:a]:p))",
+        "?? @ f @ ( ?? @ ( !! @ ^ [X: a] : p ) )",
+    ),
+    (
+        "((^[X]:f)@p)@(@+[X:$o]:p)",
+        "^ [X: $i] : f @ p @ @+ [X: $o] : p",
+    ),
 ];
 
 // The same for binders.
@@ -192,12 +201,21 @@ fn binders_are_written(rt: HostRuntime) -> Result<(), Fail> {
 }
 
 /// The first bytes of a text, as many as a sink has room for.
-fn check_room(rt: &impl Abort, alloc: Global, tree: &FileTree, room: usize) -> Result<(), AllocError> {
+fn check_room(
+    rt: &impl Abort,
+    alloc: Global,
+    tree: &FileTree,
+    room: usize,
+) -> Result<(), AllocError> {
     let whole = "thf(a,axiom,p & 'Q').\n";
     let mut sink = MemSink::new(alloc, room, CallList::new(alloc))?;
     let written = write_surface(tree, &mut sink);
     assert_eq!(rt; written.is_ok(), whole.len() <= room, "room for {room}");
-    assert_eq!(rt; sink.bytes(), &whole.as_bytes()[..room.min(whole.len())], "room for {room}");
+    assert_eq!(rt;
+        sink.bytes(),
+        &whole.as_bytes()[..room.min(whole.len())],
+        "room for {room}"
+    );
     Ok(())
 }
 

@@ -11,5 +11,5 @@ returns-in_err-write_labels-in-Some-clause-stopped g c = on_err c.from_residual-
 
 pub returns-in_ok-write_labels-in-Some-clause-stopped : goal.returns-in_ok-write_labels-in-Some-clause-stopped
 returns-in_ok-write_labels-in-Some-clause-stopped g c = rw (c.in-Some.is, ← c.as_slice.ensures)
-    (err_later c.write.new.sink c.write.result (codes ",[") _ c.in_ok-write-in-Some.ensures.took
-    (err_later c.write.new.sink c.write.result _ (codes "]") c.in_ok-write_labels-in-Some.ensures.took c.write.ensures.stopped))
+    (err_later c.write-in-Some.new.sink c.write-in-Some.result (codes ",[") _ c.in_ok-write-in-Some.ensures.took
+    (err_later c.write-in-Some.new.sink c.write-in-Some.result _ (codes "]") c.in_ok-write_labels-in-Some.ensures.took c.write-in-Some.ensures.stopped))

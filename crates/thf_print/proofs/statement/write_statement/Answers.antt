@@ -16,6 +16,6 @@ returns-in_err-write_selection-in-Include-clause-stopped g c = on_err c.from_res
 
 pub returns-in_ok-write_selection-in-Include-clause-stopped : goal.returns-in_ok-write_selection-in-Include-clause-stopped
 returns-in_ok-write_selection-in-Include-clause-stopped g c = rw (c.in-Include.is, ← c.as_slice.ensures)
-    (err_later c.write.new.sink c.write.result (codes "include(") _ c.in_ok-write-in-Include.ensures.took
-    (err_later c.write.new.sink c.write.result _ _ c.in_ok-write_quoted-in-Include.ensures.took
-    (err_later c.write.new.sink c.write.result _ (codes ").\n") c.in_ok-write_selection-in-Include.ensures.took c.write.ensures.stopped)))
+    (err_later c.write-in-Include.new.sink c.write-in-Include.result (codes "include(") _ c.in_ok-write-in-Include.ensures.took
+    (err_later c.write-in-Include.new.sink c.write-in-Include.result _ _ c.in_ok-write_quoted-in-Include.ensures.took
+    (err_later c.write-in-Include.new.sink c.write-in-Include.result _ (codes ").\n") c.in_ok-write_selection-in-Include.ensures.took c.write-in-Include.ensures.stopped)))
