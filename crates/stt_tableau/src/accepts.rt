@@ -11,7 +11,7 @@ ghost use Rattle.stt_tableau.specs.Refused.{IfRefused};
 ghost use Rattle.stt_tableau.specs.declared.refutation.Line.{Line as TheLine};
 
 use crate::children::are_children;
-use crate::instance::instance;
+use crate::instance::find_instance;
 use crate::lit::Lits;
 use crate::refutation::{Line, Refutation, Rows, Why, WitnessRow};
 use crate::typed::{is_typed_branch, is_typed_row, is_typed_use};
@@ -126,7 +126,7 @@ fn line_failure(
     if !is_typed_line(alloc, sig, types, line)? {
         return Ok(Some(Why::Typing));
     }
-    match instance(
+    match find_instance(
         alloc,
         sig,
         types,

@@ -21,7 +21,7 @@ use std::alloc::{AllocError, Global};
 use stt_core::{Signature, Types};
 
 /// The alternatives of a rule whose principals stand at its places in the branch, or none where it doesn't fit.
-pub fn instance(
+pub fn find_instance(
     alloc: Global,
     sig: &Signature,
     types: &Types,

@@ -17,8 +17,12 @@ mod shape;
 mod typed;
 
 pub use accepts::{PlainRefused, accepts_plain};
+pub use alternatives::Alternatives;
 pub use formula::literal_of;
+pub use instance::find_instance;
 pub use law::{models_extend, rules_keep_models, soundness_law};
 pub use lit::{Lit, Lits};
+pub use quantifier::{Quantified, denied_of_witness, quantified_at};
 pub use refutation::{Child, Children, Line, Lines, Refutation, Rows, RuleUse, Why, WitnessRow};
 pub use shape::{Connective, Shape, shape_of};
+pub use typed::{is_typed_literal, is_typed_row, is_typed_use};

@@ -69,7 +69,7 @@ fn quantified_of(nf: &Nf) -> Option<Quantified<'_>>
 }
 
 /// The quantified formula of this sign at a place, where one stands there.
-fn quantified_at(branch: &Lits, i: usize, positive: bool) -> Option<Quantified<'_>>
+pub fn quantified_at(branch: &Lits, i: usize, positive: bool) -> Option<Quantified<'_>>
     ensures { IsQuantifiedAt branch.now i positive result }
 {
     match branch.get(i) {
@@ -258,6 +258,19 @@ fn witness_literal(alloc: Global, k: usize, ty: &Ty, f: &Nf) -> Result<Lit, Allo
     Ok(applied_literal(alloc, f, &value)?)
 }
 
+/// The alternative of the rule for a negated quantified formula: its predicate doesn't hold of the witness of this number.
+pub fn denied_of_witness(
+    alloc: Global,
+    quantified: &Quantified,
+    k: usize,
+) -> Result<Alternatives, AllocError>
+    requires { CanApply quantified.now.predicate.now (eta (the_type quantified.now.ty.now) (constant (witness k))) }
+    ensures { IfOk result (λ a. a ≡ (opposite (literal (apply quantified.now.predicate.now (eta (the_type quantified.now.ty.now) (constant (witness k))))) ∷ []) ∷ []) }
+{
+    let holds = witness_literal(alloc, k, quantified.ty, quantified.predicate)?;
+    Ok(one(alloc, holds.opposite())?)
+}
+
 pub fn all_neg_instance(
     alloc: Global,
     rows: &Rows,
@@ -269,10 +282,7 @@ pub fn all_neg_instance(
 {
     match quantified_at(branch, i, false) {
         Some(quantified) => match witness_of(rows, &quantified) {
-            Some(k) => {
-                let holds = witness_literal(alloc, k, quantified.ty, quantified.predicate)?;
-                Ok(Some(one(alloc, holds.opposite())?))
-            }
+            Some(k) => Ok(Some(denied_of_witness(alloc, &quantified, k)?)),
             None => Ok(None),
         },
         None => Ok(None),

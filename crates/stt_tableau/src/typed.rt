@@ -57,7 +57,7 @@ pub fn is_typed_at(
 }
 
 /// Whether the literal is one over the signature and witnesses of these types.
-fn is_typed_literal(
+pub fn is_typed_literal(
     alloc: Global,
     sig: &Signature,
     types: &Types,

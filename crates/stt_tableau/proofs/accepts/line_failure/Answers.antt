@@ -19,4 +19,4 @@ returns-in-None c = λ line at.
     let same : l ≡ line = cc in
     subst (λ k. LineFails (with_rows (the_scope sig []) rows) rows (take c.args.i c.args.refutation.now.lines) k Principal) same
     (over_rows (λ s. IsTypedLine s l × ((alternatives : List (List Literal)) → IsInstance s rows l.branch l.rule alternatives → ⊥)) sig c.args.types.now rows c.requires.types
-    (c.in_ok-is_typed_line.ensures.0 c.if-not-branch.false, subst (FindsInstance (the_scope sig c.args.types.now) rows l.branch l.rule) c.in-None.is c.in_ok-instance.ensures))
+    (c.in_ok-is_typed_line.ensures.0 c.if-not-branch.false, subst (FindsInstance (the_scope sig c.args.types.now) rows l.branch l.rule) c.in-None.is c.in_ok-find_instance.ensures))

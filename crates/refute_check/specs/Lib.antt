@@ -1,0 +1,3 @@
+pub mod NormalQuestion
+pub mod Numbered
+pub mod Refusal

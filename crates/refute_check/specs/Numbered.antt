@@ -1,0 +1,92 @@
+-- A refutation's text, with the numbers of what a signature declares in place of the names.
+use Rattle.std.specs.Prelude.{ℕ, suc, ◌+◌, List, map, length}
+use Rattle.std.specs.List.{position_or_len}
+use Rattle.std.specs.Str.{bytes_eq}
+use Rattle.stt_core.specs.SimpleType.{SimpleType, base, arrow}
+use Rattle.stt_core.specs.Lambda.{Constant, name, witness, falsity, negation, implication, all, equality, choice, Lambda, bound, constant, lam, app}
+use Rattle.stt_tableau.specs.Literals.{Literal}
+use Rattle.stt_tableau.specs.Witnesses.{Row}
+use Rattle.stt_tableau.specs.declared.refutation.RuleUse.{RuleUse}
+use Rattle.stt_tableau.specs.declared.refutation.RuleUse.TheVariants as rule
+use Rattle.stt_tableau.specs.declared.refutation.Line.{Line}
+use Rattle.stt_tableau.specs.declared.refutation.Refutation.{Refutation}
+use Rattle.refute_text.specs.Trees.{TypeTree, ConstantTree, TermTree, LiteralTree, OnePlace, False, Refl, ImpPos, ImpNeg, BoolPos, BoolNeg, FunPos, FunNeg, AllNeg, Dec, TwoPlaces, Close, Mat, Con, RuleTree, at_one, at_two, with_instance, with_predicate, with_cut, LineTree, RefutationTree}
+use Rattle.refute_text.specs.Trees as tree
+use Rattle.refute_text.specs.Named.{Names}
+
+-- The first place of the name in the list. A name that isn't there gets the length of the list, a place at which nothing stands.
+abbrev pub place_of : List (List ℕ) → List ℕ → ℕ
+place_of names w = position_or_len (λ n. bytes_eq n w) names
+
+-- A base type that isn't declared gets the least number that isn't declared.
+abbrev pub numbered_type : Names → TypeTree → SimpleType
+numbered_type names tree.formula = base 0
+numbered_type names tree.individual = base 1
+numbered_type names (tree.named w) = base (place_of names.bases w + 2)
+numbered_type names (tree.arrow a b) = arrow (numbered_type names a) (numbered_type names b)
+
+-- The same holds of a constant.
+abbrev pub numbered_constant : Names → ConstantTree → Constant
+numbered_constant names (tree.name w) = name (place_of names.constants w)
+numbered_constant names (tree.witness k) = witness k
+numbered_constant names tree.falsity = falsity
+numbered_constant names tree.negation = negation
+numbered_constant names tree.implication = implication
+numbered_constant names (tree.all a) = all (numbered_type names a)
+numbered_constant names (tree.equality a) = equality (numbered_type names a)
+numbered_constant names (tree.choice a) = choice (numbered_type names a)
+
+abbrev pub numbered_term : Names → TermTree → Lambda
+numbered_term names (tree.bound k) = bound k
+numbered_term names (tree.constant c) = constant (numbered_constant names c)
+numbered_term names (tree.lam a s) = lam (numbered_type names a) (numbered_term names s)
+numbered_term names (tree.app s u) = app (numbered_term names s) (numbered_term names u)
+
+abbrev pub numbered_literal : Names → LiteralTree → Literal
+numbered_literal names l = record { positive = l.positive; atom = numbered_term names l.atom }
+
+abbrev pub numbered_one_place : OnePlace → ℕ → RuleUse
+numbered_one_place False i = rule.False i
+numbered_one_place Refl i = rule.Refl i
+numbered_one_place ImpPos i = rule.ImpPos i
+numbered_one_place ImpNeg i = rule.ImpNeg i
+numbered_one_place BoolPos i = rule.BoolPos i
+numbered_one_place BoolNeg i = rule.BoolNeg i
+numbered_one_place FunPos i = rule.FunPos i
+numbered_one_place FunNeg i = rule.FunNeg i
+numbered_one_place AllNeg i = rule.AllNeg i
+numbered_one_place Dec i = rule.Dec i
+
+abbrev pub numbered_two_places : TwoPlaces → ℕ → ℕ → RuleUse
+numbered_two_places Close i j = rule.Close i j
+numbered_two_places Mat i j = rule.Mat i j
+numbered_two_places Con i j = rule.Con i j
+
+abbrev pub numbered_rule : Names → RuleTree → RuleUse
+numbered_rule names (at_one r i) = numbered_one_place r i
+numbered_rule names (at_two r i j) = numbered_two_places r i j
+numbered_rule names (with_instance i u) = rule.AllPos i (numbered_term names u)
+numbered_rule names (with_predicate f) = rule.Cho (numbered_term names f)
+numbered_rule names (with_cut l) = rule.Cut (numbered_literal names l)
+
+abbrev pub numbered_line : Names → LineTree → Line
+numbered_line names line = record {
+  branch = map (numbered_literal names) line.branch;
+  rule = numbered_rule names line.rule;
+  children = line.children;
+}
+
+-- the type of a function's argument; what is no function is no predicate either, whatever the type
+abbrev pub argument_type : Lambda → SimpleType
+argument_type (lam a s) = a
+argument_type t = base 0
+
+-- The witness of a row has the type that the row's predicate takes.
+abbrev pub numbered_row : Names → TermTree → Row
+numbered_row names f = record { type = argument_type (numbered_term names f); predicate = numbered_term names f }
+
+abbrev pub numbered_refutation : Names → RefutationTree → Refutation
+numbered_refutation names r = record {
+  witnesses = map (numbered_row names) r.rows;
+  lines = map (numbered_line names) r.lines;
+}

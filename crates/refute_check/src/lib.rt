@@ -1,0 +1,8 @@
+//! The check of refutations' texts, by ordered maps.
+#![tactic(auto)]
+
+mod check;
+mod refusal;
+
+pub use check::check_refutation;
+pub use refusal::CheckRefused;

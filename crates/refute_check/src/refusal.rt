@@ -1,0 +1,22 @@
+//! Why a check refuses.
+
+use std::alloc::AllocError;
+use stt_tableau::Why;
+
+/// Why a text isn't accepted: the first of its lines that fails, counted from 1 in the whole file, and why; or want of memory.
+#[derive(Clone, Copy, Debug, PartialEq, Eq)]
+pub enum CheckRefused {
+    Line { line: usize, why: Why },
+    Memory,
+}
+
+impl From<AllocError> for CheckRefused {
+    ghost use Rattle.std.specs.Prelude.{◌≡◌};
+    ghost use Rattle.refute_check.specs.declared.refusal.CheckRefused.TheVariants.{Memory};
+
+    ghost from_gives = { λ _ e. e ≡ Memory };
+
+    fn from(_: AllocError) -> CheckRefused {
+        CheckRefused::Memory
+    }
+}
