@@ -1,3 +1,6 @@
 pub mod NormalQuestion
 pub mod Numbered
 pub mod Refusal
+pub mod Keys
+pub mod TermNumbers
+pub mod Branches

@@ -1,8 +1,11 @@
 //! The check of refutations' texts, by ordered maps.
 #![tactic(auto)]
 
+mod branch;
 mod check;
+mod key;
 mod refusal;
+mod term_numbers;
 
 pub use check::check_refutation;
 pub use refusal::CheckRefused;

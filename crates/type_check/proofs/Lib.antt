@@ -2,7 +2,7 @@ pub mod DeclaredNames
 pub mod TypedProblems
 mod BinderLaws
 mod DeclaredTypes
-mod Maps
+pub mod Maps
 mod MoreDeclared
 mod OutcomeLaws
 mod ProblemLaws

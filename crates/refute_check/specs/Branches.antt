@@ -1,0 +1,30 @@
+-- Branches as sets of numbers.
+use Rattle.std.specs.Prelude.{◌≡◌, ℕ, Bool, true, false, ◌||◌, ◌&&◌, ◌==◌, List, [], ◌∷◌, Some, IsTrue, ◌↔◌, Contains}
+use Rattle.std.specs.BTreeSet.{contains}
+use Rattle.std.specs.Ordering.{nat_cmp}
+use Rattle.stt_core.specs.Lambda.{Lambda}
+use Rattle.stt_tableau.specs.Literals.{Literal}
+use Rattle.stt_tableau.specs.Start.{same_sign}
+use Rattle.refute_check.specs.TermNumbers.{number_in}
+use Rattle.refute_check.specs.declared.branch.Branch.{Branch}
+
+-- whether the set has the literal of this sign whose atom has this number
+abbrev pub has : Branch → Bool → ℕ → Bool
+has b true k = contains nat_cmp b.positive k
+has b false k = contains nat_cmp b.negative k
+
+-- one of the literals has this sign, and its atom this number
+pub record IsLiteralOf (terms : List Lambda) (ls : List Literal) (sign : Bool) (k : ℕ) : Type 0 where
+  pub atom : Lambda
+  pub numbered : number_in terms atom ≡ Some k
+  pub among : Contains ls (record { positive = sign; atom = atom })
+
+-- the set has the literals, as far as their atoms have numbers
+pub record Represents (terms : List Lambda) (ls : List Literal) (b : Branch) : Type 0 where
+  pub sound : (sign : Bool) (k : ℕ) → IsTrue (has b sign k) → IsLiteralOf terms ls sign k
+  pub whole : (sign : Bool) (k : ℕ) → IsLiteralOf terms ls sign k → IsTrue (has b sign k)
+
+-- the atom of each literal has a number
+abbrev pub AreNumbered : List Lambda → List Literal → Type 0
+AreNumbered terms [] = Unit {0}
+AreNumbered terms (l ∷ ls) = ((k : ℕ) × (number_in terms l.atom ≡ Some k)) × AreNumbered terms ls

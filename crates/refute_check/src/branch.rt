@@ -1,0 +1,70 @@
+//! Branches as sets of numbers.
+
+ghost use Rattle.std.specs.Prelude.{◌≡◌, ℕ, Bool, false, ◌&&◌, ◌||◌, not, ◌==◌, OnOk, IfOk, IsTrue, ◌↔◌, List};
+ghost use Rattle.std.specs.List.{list_all, list_any};
+ghost use Rattle.std.specs.BTreeSet.{contains};
+ghost use Rattle.std.specs.Ordering.{nat_cmp};
+ghost use Rattle.stt_tableau.specs.Start.{same_sign};
+ghost use Rattle.refute_check.specs.Branches.{has};
+
+use std::alloc::{AllocError, Global};
+use std::collections::BTreeSet;
+
+/// The literals of a branch: the numbers of the atoms that stand in it, and of those that stand in it negated.
+#[derive(Drop)]
+pub(crate) struct Branch {
+    positive: BTreeSet<usize>,
+    negative: BTreeSet<usize>,
+}
+
+/// Whether each number of the first set is in one of the other two.
+fn is_among(set: &BTreeSet<usize>, left: &BTreeSet<usize>, right: &BTreeSet<usize>) -> bool
+    ensures { result ≡ list_all (λ k. contains nat_cmp left.now k || contains nat_cmp right.now k) set.now.keys }
+{
+    set.iter().all(|k| left.contains(k) || right.contains(k))
+}
+
+/// Whether the two sets have a number in common.
+fn meet(few: &BTreeSet<usize>, many: &BTreeSet<usize>) -> bool
+    ensures { result ≡ list_any (contains nat_cmp many.now) few.now.keys }
+{
+    few.iter().any(|k| many.contains(k))
+}
+
+impl Branch {
+    pub(crate) fn new(alloc: Global) -> Self
+        ensures { (sign : Bool) (k : ℕ) → has result sign k ≡ false }
+    {
+        Branch {
+            positive: BTreeSet::new(alloc),
+            negative: BTreeSet::new(alloc),
+        }
+    }
+
+    /// Adds the literal of this sign whose atom has this number.
+    pub(crate) fn insert(&mut self, positive: bool, number: usize) -> Result<(), AllocError>
+        ensures { OnOk result ((sign : Bool) (k : ℕ) → has self.new sign k ≡ (has self.old sign k || (same_sign positive sign && number == k))) }
+    {
+        if positive {
+            self.positive.insert(number)?;
+        } else {
+            self.negative.insert(number)?;
+        }
+        Ok(())
+    }
+
+    /// Whether each literal is one of the two other branches.
+    pub(crate) fn is_within(&self, left: &Branch, right: &Branch) -> bool
+        ensures { IsTrue result ↔ ((sign : Bool) (k : ℕ) → IsTrue (has self.now sign k) → IsTrue (has left.now sign k || has right.now sign k)) }
+    {
+        is_among(&self.positive, &left.positive, &right.positive)
+            && is_among(&self.negative, &left.negative, &right.negative)
+    }
+
+    /// Whether a literal's negation is in the other branch. It takes the time of this one's literals.
+    pub(crate) fn clashes(&self, other: &Branch) -> bool
+        ensures { IsTrue result ↔ ((k : ℕ) × (sign : Bool) × IsTrue (has self.now sign k) × IsTrue (has other.now (not sign) k)) }
+    {
+        meet(&self.positive, &other.negative) || meet(&self.negative, &other.positive)
+    }
+}
