@@ -1,3 +1,4 @@
 mod Keys
 mod NumberLaws
 mod SetLaws
+mod BranchLaws

@@ -4,6 +4,7 @@
 mod branch;
 mod check;
 mod key;
+mod number_branch;
 mod refusal;
 mod term_numbers;
 

@@ -1,0 +1,164 @@
+-- Branches as sets of numbers.
+use Rattle.std.proofs.Common.{◌≡◌, ℕ, zero, suc, ◌+◌, ◌<◌, Bool, true, false, not, ◌||◌, ◌&&◌, ◌==◌, List, [], ◌∷◌, ◌++◌, Option, Some, None, option_map, length, slice_get, take, IsTrue, Contains, refl, sym, ap, subst, ◌∙◌, append_assoc, ⊎_elim, if◌then◌else◌, arith}
+use Rattle.std.proofs.lemmas.Bool.{eqb-true, eq-eqb}
+use Rattle.std.proofs.lemmas.List.Elements.{Contains-push, Contains-append_left, Contains-append_right, Contains-push_cases, Contains-append_cases}
+use Rattle.stt_core.specs.Lambda.{Lambda}
+use Rattle.stt_core.specs.SameTerm.{same_term}
+use Rattle.stt_core.specs.Typing.{Scope}
+use Rattle.stt_core.proofs.ListLaws.{take_got}
+use Rattle.stt_core.proofs.SameTerms.{same_term-of}
+use Rattle.stt_tableau.specs.Literals.{Literal, plus, opposite, IsLiteral, IsBranch}
+use Rattle.stt_tableau.specs.Start.{same_sign}
+use Rattle.stt_tableau.specs.Accepted.{Within, IsClosed}
+use Rattle.stt_tableau.specs.declared.refutation.Line.{Line}
+use Rattle.stt_tableau.proofs.ListLaws.{untrue, contains-get, contains-within, within-each, contains-first}
+use Rattle.refute_check.specs.TermNumbers.{number_in, KeepsNumbers}
+use Rattle.refute_check.specs.declared.term_numbers.TermNumbers.{TermNumbers}
+use Rattle.refute_check.specs.Branches.{has, IsLiteralOf, Represents, AreNumbered, AreAtoms, Grow, AreBranches}
+use Rattle.refute_check.specs.declared.branch.Branch.{Branch}
+use Rattle.refute_check.proofs.NumberLaws.{number_in-at, number_in-append, or_length}
+use Rattle.refute_check.proofs.SetLaws.{or_true, or_right, or_split}
+
+-- two terms with the same number are the same
+pub same_number : (terms : List Lambda) (t u : Lambda) (k : ℕ) → number_in terms t ≡ Some k → number_in terms u ≡ Some k → t ≡ u
+same_number terms t u k h g = let e : Some t ≡ Some u = sym (number_in-at terms t k h) ∙ number_in-at terms u k g in cc
+
+-- numbers stay
+pub number_in-grown : (ts us : List Lambda) (t : Lambda) (k : ℕ) → number_in ts t ≡ Some k → number_in (ts ++ us) t ≡ Some k
+number_in-grown [] us t k h = cc
+number_in-grown (u ∷ ts) us t k h = go (λ j. number_in-grown ts us t j) (same_term u t) (number_in ts t) refl h
+  where
+    go : ((j : ℕ) → number_in ts t ≡ Some j → number_in (ts ++ us) t ≡ Some j) → (b : Bool) (o : Option ℕ) → number_in ts t ≡ o → (if b then Some 0 else option_map (λ n. suc n) o) ≡ Some k → (if b then Some 0 else option_map (λ n. suc n) (number_in (ts ++ us) t)) ≡ Some k
+    go more true o e g = g
+    go more false None e g = cc
+    go more false (Some j) e g = ap (option_map (λ n. suc n)) (more j e) ∙ g
+
+-- a term that is added last has its number
+pub number_in-last : (ts : List Lambda) (t : Lambda) → number_in ts t ≡ None → number_in (ts ++ t ∷ []) t ≡ Some (length ts)
+number_in-last ts t h =
+    number_in-append ts t t ∙ ap (λ o. or_length o (same_term t t) (length ts)) h ∙ ap (λ b. or_length None b (length ts)) (same_term-of t t refl)
+
+pub grow-more : (a b c : List Lambda) → Grow a b → Grow b c → Grow a c
+grow-more a b c h g = (h.0 ++ g.0, g.1 ∙ ap (λ l. l ++ g.0) h.1 ∙ append_assoc a h.0 g.0)
+
+pub atoms-more : (scope : Scope) (ts : List Lambda) (t : Lambda) → AreAtoms scope ts → IsLiteral scope (plus t) → AreAtoms scope (ts ++ t ∷ [])
+atoms-more scope ts t h g u c = ⊎_elim (h u) (λ same. subst (λ x. IsLiteral scope (plus x)) same g) (Contains-push_cases ts t u c)
+
+pub numbered_atom : (scope : Scope) (ts : List Lambda) (l : Literal) (k : ℕ) → AreAtoms scope ts → number_in ts l.atom ≡ Some k → IsLiteral scope l
+numbered_atom scope ts l k h g =
+    let is = h l.atom (contains-get ts k l.atom (number_in-at ts l.atom k g)) in
+    record { formula = is.formula; unsigned = is.unsigned }
+
+module _ (terms : List Lambda) where
+  pub numbered-more : (ls : List Literal) (l : Literal) (k : ℕ) → AreNumbered terms ls → number_in terms l.atom ≡ Some k → AreNumbered terms (ls ++ l ∷ [])
+  numbered-more ls l k h g m c = ⊎_elim (h m) (λ same. (k, ap (λ x. number_in terms x.atom) (sym same) ∙ g)) (Contains-push_cases ls l m c)
+
+  pub represents-none : (b : Branch) → ((sign : Bool) (k : ℕ) → has b sign k ≡ false) → Represents terms [] b
+  represents-none b h = record {
+    sound = λ sign k e. absurd (untrue e (h sign k));
+    whole = λ sign k l. absurd (omega (arith, l.among.1));
+  }
+
+  literal_in-more : (ls : List Literal) (l : Literal) (sign : Bool) (k : ℕ) → IsLiteralOf terms ls sign k → IsLiteralOf terms (ls ++ l ∷ []) sign k
+  literal_in-more ls l sign k h = record { atom = h.atom; numbered = h.numbered; among = Contains-append_left ls (l ∷ []) (record { positive = sign; atom = h.atom }) h.among }
+
+  same_signs : (a b : Bool) → same_sign a b ≡ true → a ≡ b
+  same_signs true true h = refl
+  same_signs true false h = cc
+  same_signs false true h = cc
+  same_signs false false h = refl
+
+  sign-itself : (a : Bool) → same_sign a a ≡ true
+  sign-itself true = refl
+  sign-itself false = refl
+
+  both_true : (a b : Bool) → (a && b) ≡ true → (a ≡ true) × (b ≡ true)
+  both_true true b h = (refl, h)
+  both_true false b h = cc
+
+  true_both : (a b : Bool) → a ≡ true → b ≡ true → (a && b) ≡ true
+  true_both true b h g = g
+  true_both false b h g = cc
+
+  -- one literal more, whose atom has a number
+  pub represents-more : (ls : List Literal) (b new : Branch) (l : Literal) (n : ℕ) → Represents terms ls b → number_in terms l.atom ≡ Some n → ((sign : Bool) (k : ℕ) → has new sign k ≡ (has b sign k || (same_sign l.positive sign && n == k))) → Represents terms (ls ++ l ∷ []) new
+  represents-more ls b new l n h g e = record {
+    sound = λ sign k i. or_split (has b sign k) (same_sign l.positive sign && n == k) (sym (e sign k) ∙ i)
+      (λ j. literal_in-more ls l sign k (h.sound sign k j))
+      (λ j.
+        let parts = both_true (same_sign l.positive sign) (n == k) j in
+        let same : l ≡ record { positive = sign; atom = l.atom } = ap (λ s. record { positive = s; atom = l.atom }) (same_signs l.positive sign parts.0) in
+        record { atom = l.atom; numbered = g ∙ ap Some (eqb-true n k parts.1); among = subst (Contains (ls ++ l ∷ [])) same (Contains-push ls l) });
+    whole = λ sign k i. e sign k ∙ ⊎_elim
+      (λ c. or_true (has b sign k) (same_sign l.positive sign && n == k) (h.whole sign k (record { atom = i.atom; numbered = i.numbered; among = c })))
+      (λ same.
+        let sides : l.positive ≡ sign = ap (λ x. x.positive) same in
+        let atoms : l.atom ≡ i.atom = ap (λ x. x.atom) same in
+        let numbers : Some n ≡ Some k = sym g ∙ ap (number_in terms) atoms ∙ i.numbered in
+        let equal : n ≡ k = cc in
+        or_right (has b sign k) (same_sign l.positive sign && n == k) (true_both (same_sign l.positive sign) (n == k) (ap (same_sign l.positive) (sym sides) ∙ sign-itself l.positive) (eq-eqb n k equal)))
+      (Contains-push_cases ls l (record { positive = sign; atom = i.atom }) i.among);
+  }
+
+  -- one literal more, whose atom has none
+  pub represents-unknown : (ls : List Literal) (b : Branch) (l : Literal) → Represents terms ls b → number_in terms l.atom ≡ None → Represents terms (ls ++ l ∷ []) b
+  represents-unknown ls b l h g = record {
+    sound = λ sign k i. literal_in-more ls l sign k (h.sound sign k i);
+    whole = λ sign k i. ⊎_elim
+      (λ c. h.whole sign k (record { atom = i.atom; numbered = i.numbered; among = c }))
+      (λ same. let bad : None ≡ Some k = sym g ∙ ap (λ x. number_in terms x.atom) same ∙ i.numbered in cc)
+      (Contains-push_cases ls l (record { positive = sign; atom = i.atom }) i.among);
+  }
+
+-- more terms
+pub numbered-grown : (ts us : List Lambda) (ls : List Literal) → AreNumbered ts ls → AreNumbered (ts ++ us) ls
+numbered-grown ts us ls h l c = let n = h l c in (n.0, number_in-grown ts us l.atom n.0 n.1)
+
+pub represents-grown : (ts us : List Lambda) (ls : List Literal) (b : Branch) → AreNumbered ts ls → Represents ts ls b → Represents (ts ++ us) ls b
+represents-grown ts us ls b n h = record {
+  sound = λ sign k e. let l = h.sound sign k e in record { atom = l.atom; numbered = number_in-grown ts us l.atom k l.numbered; among = l.among };
+  whole = λ sign k l.
+    let m = n (record { positive = sign; atom = l.atom }) l.among in
+    let numbers : Some m.0 ≡ Some k = sym (number_in-grown ts us l.atom m.0 m.1) ∙ l.numbered in
+    let equal : m.0 ≡ k = cc in
+    h.whole sign k (record { atom = l.atom; numbered = m.1 ∙ ap Some equal; among = l.among });
+}
+
+pub branches-grown : (ts us : List Lambda) (lines : List Line) (bs : List Branch) → AreBranches ts lines bs → AreBranches (ts ++ us) lines bs
+branches-grown ts us [] [] h = tt
+branches-grown ts us [] (b ∷ bs) h = absurd h
+branches-grown ts us (line ∷ lines) [] h = absurd h
+branches-grown ts us (line ∷ lines) (b ∷ bs) h =
+    (numbered-grown ts us line.branch h.0, represents-grown ts us line.branch b h.0 h.1, branches-grown ts us lines bs h.2)
+
+-- the literals that are numbered so far
+pub record IsNumberedTo (scope : Scope) (before : List Lambda) (atoms : TermNumbers) (done : List Literal) (b : Branch) : Type 0 where
+  pub keeps : KeepsNumbers atoms
+  pub typed : AreAtoms scope atoms.terms
+  pub grow : Grow before atoms.terms
+  pub branch : IsBranch scope done
+  pub numbered : AreNumbered atoms.terms done
+  pub represents : Represents atoms.terms done b
+
+branch-append : (scope : Scope) (ls : List Literal) (l : Literal) → IsBranch scope ls → IsLiteral scope l → IsBranch scope (ls ++ l ∷ [])
+branch-append scope [] l h g = (g, tt)
+branch-append scope (k ∷ ls) l h g = (h.0, branch-append scope ls l h.1 g)
+
+-- one literal more is numbered
+pub numbered_to-more : (scope : Scope) (before : List Lambda) (atoms after : TermNumbers) (branch : List Literal) (i : ℕ) (b new : Branch) (l : Literal) (sign : Bool) (n : ℕ)
+    → slice_get branch i ≡ Some l → IsNumberedTo scope before atoms (take i branch) b → KeepsNumbers after → AreAtoms scope after.terms → Grow atoms.terms after.terms
+    → IsLiteral scope l × (number_in after.terms l.atom ≡ Some n) → sign ≡ l.positive → ((s : Bool) (k : ℕ) → has new s k ≡ (has b s k || (same_sign sign s && n == k)))
+    → IsNumberedTo scope before after (take (i + 1) branch) new
+numbered_to-more scope before atoms after branch i b new l sign n at h keeps typed grow is signs e =
+    let done = take i branch in
+    let grown : Represents after.terms done b = subst (λ ts. Represents ts done b) (sym grow.1) (represents-grown atoms.terms grow.0 done b h.numbered h.represents) in
+    let numbered : AreNumbered after.terms done = subst (λ ts. AreNumbered ts done) (sym grow.1) (numbered-grown atoms.terms grow.0 done h.numbered) in
+    subst (λ ls. IsNumberedTo scope before after ls new) (sym (take_got branch i l at))
+    (record {
+      keeps = keeps;
+      typed = typed;
+      grow = grow-more before atoms.terms after.terms h.grow grow;
+      branch = branch-append scope done l h.branch is.0;
+      numbered = numbered-more after.terms done l n numbered is.1;
+      represents = represents-more after.terms done b new l n grown is.1 (λ s k. e s k ∙ ap (λ x. has b s k || (same_sign x s && n == k)) signs);
+    })
