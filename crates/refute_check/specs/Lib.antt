@@ -1,3 +1,4 @@
 pub mod NormalQuestion
 pub mod Numbered
+pub mod Places
 pub mod Refusal

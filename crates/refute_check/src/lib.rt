@@ -2,6 +2,9 @@
 #![tactic(auto)]
 
 mod check;
+mod number_line;
+mod number_term;
+mod numbering;
 mod refusal;
 
 pub use check::check_refutation;
