@@ -1,5 +1,5 @@
 -- First places, and maps that have them.
-use Rattle.std.proofs.Common.{◌≡◌, ℕ, ◌+◌, Bool, not, true, false, cond, List, [], ◌∷◌, ◌++◌, length, take, slice_get, Option, Some, None, position, is_some, unwrap_or, option_map, map, refl, sym, ap, ap₂, subst, ◌∙◌, ⊎_elim, arith}
+use Rattle.std.proofs.Common.{◌≡◌, ℕ, ◌+◌, Bool, not, true, false, cond, List, [], ◌∷◌, ◌++◌, length, take, slice_get, Option, Some, None, position, is_some, unwrap_or, refl, sym, ap, ap₂, ◌∙◌, ⊎_elim, arith}
 use Rattle.std.proofs.lemmas.Bool.{cases_Bool}
 use Rattle.std.proofs.lemmas.Grind.{common_steps}
 use Rattle.std.proofs.lemmas.List.Folds.{position_or_len_push}
@@ -9,7 +9,6 @@ use Rattle.std.specs.BTreeMap.{BTreeMap, Updates}
 use Rattle.std.proofs.lemmas.Map.Text.{is_eq-slice_cmp}
 use Rattle.std.specs.Cmp.Lexicographic.{slice_cmp, bytes_decides}
 use Rattle.std.specs.Ordering.{nat_cmp}
-use Rattle.std.specs.List.{position_or_len}
 use Rattle.std.specs.Str.{bytes_eq}
 use Rattle.stt_core.proofs.ListLaws.{take_got}
 use Rattle.stt_tableau.proofs.FailureLaws.{length-front}
@@ -51,6 +50,7 @@ module _ (old new : BTreeMap (Bor (List ℕ)) ℕ) (key : Bor (List ℕ)) (place
       here : (b : Bool) (o : Option ℕ) → b ≡ true → o ≡ None → b ≡ bytes_eq key.now other → cond b (Some place) o ≡ noted_next o key.now place other
       here b None h k e = ap (λ c. cond c (Some place) None) e
       here b (Some j) h k e = cc
+
       elsewhere : (b : Bool) (o : Option ℕ) → b ≡ false → b ≡ bytes_eq key.now other → cond b (Some place) o ≡ noted_next o key.now place other
       elsewhere b None h e = ap (λ c. cond c (Some place) None) e
       elsewhere b (Some j) h e = ap (λ c. cond c (Some place) (Some j)) h

@@ -1,5 +1,5 @@
 -- Numbered terms by their parts.
-use Rattle.std.proofs.Common.{◌≡◌, ℕ, zero, suc, ◌+◌, ◌<◌, List, [], ◌∷◌, ◌++◌, Some, None, slice_get, map, refl, sym, ap, ap₂, ◌∙◌, arith}
+use Rattle.std.proofs.Common.{◌≡◌, ℕ, zero, suc, ◌<◌, List, [], ◌∷◌, ◌++◌, Some, None, slice_get, map, refl, sym, ap, ap₂, ◌∙◌, arith}
 use Rattle.stt_core.specs.SimpleType.{SimpleType, base}
 use Rattle.stt_core.specs.Lambda.{Lambda, lam, lambdas}
 use Rattle.stt_core.specs.Lambda as lambda

@@ -8,7 +8,8 @@ ghost use Rattle.stt_tableau.specs.Accepted.{IsTypedUse, IsTypedLine};
 ghost use Rattle.stt_tableau.specs.declared.refutation.RuleUse.TheVariants as variant;
 ghost use Rattle.refute_text.specs.LineView.{the_rule};
 ghost use Rattle.refute_text.specs.TextView.{the_line};
-ghost use Rattle.refute_check.specs.Numbered as numbered;
+ghost use Rattle.refute_check.specs.Numbered.{numbered_term, numbered_row, numbered_literal, numbered_rule, numbered_line};
+ghost use Rattle.refute_check.specs.Numbered.{argument_type as type_of_argument};
 
 use crate::number_term::number_term;
 use crate::numbering::Numbering;
@@ -19,7 +20,7 @@ use stt_tableau::{Children, Line, Lit, Lits, RuleUse, Shape, WitnessRow, shape_o
 
 /// The type of a function's argument, or else that of formulas.
 fn argument_type(alloc: Global, nf: &Nf) -> Result<Ty, AllocError>
-    ensures { IfOk result (λ ty. the_type ty ≡ numbered.argument_type nf.now) }
+    ensures { IfOk result (λ ty. the_type ty ≡ type_of_argument nf.now) }
 {
     match nf.binders.get(0) {
         Some(ty) => Ok(ty.try_clone(alloc)?),
@@ -27,20 +28,20 @@ fn argument_type(alloc: Global, nf: &Nf) -> Result<Ty, AllocError>
     }
 }
 
-/// The row of a predicate, with a number for each name.
+/// The witness row of the predicate, with a number for each name.
 pub(crate) fn number_row(
     alloc: Global,
     numbering: &Numbering<'_>,
     predicate: &TextTerm,
 ) -> Result<WitnessRow, AllocError>
-    ensures { IfOk result (λ row. row ≡ numbered.numbered_row numbering.now predicate.now) }
+    ensures { IfOk result (λ row. row ≡ numbered_row numbering.now predicate.now) }
 {
     let predicate = number_term(alloc, numbering, predicate)?;
     let ty = argument_type(alloc, &predicate)?;
     Ok(WitnessRow { ty, predicate })
 }
 
-/// Whether negation is the head.
+/// Whether the formula's head is negation.
 fn has_negation(nf: &Nf) -> bool
     ensures { result ≡ is_negated nf.now }
 {
@@ -52,14 +53,14 @@ fn has_negation(nf: &Nf) -> bool
     }
 }
 
-/// The literal, with a number for each name, or none where it has a negation at its head.
+/// The literal, with a number for each name, or none where its formula's head is negation.
 pub(crate) fn number_literal(
     alloc: Global,
     numbering: &Numbering<'_>,
     lit: &TextLit,
 ) -> Result<Option<Lit>, AllocError>
-    ensures literal { IfOk result (λ o. IfSome o (λ l. l ≡ numbered.numbered_literal numbering.now lit.now)) }
-    ensures negated { IfOk result (λ o. IfNone o (is_negated (numbered.numbered_term numbering.now lit.now.atom) ≡ true)) }
+    ensures literal { IfOk result (λ o. IfSome o (λ l. l ≡ numbered_literal numbering.now lit.now)) }
+    ensures negated { IfOk result (λ o. IfNone o (is_negated (numbered_term numbering.now lit.now.atom) ≡ true)) }
 {
     let atom = number_term(alloc, numbering, &lit.atom)?;
     if has_negation(&atom) {
@@ -69,14 +70,14 @@ pub(crate) fn number_literal(
     Ok(Some(Lit { positive, atom }))
 }
 
-/// The branch, with a number for each name, or none where it is one of no scope.
+/// The branch, with a number for each name, or none where it is a branch over no scope.
 fn number_branch(
     alloc: Global,
     numbering: &Numbering<'_>,
     lits: &TextLits,
 ) -> Result<Option<Lits>, AllocError>
-    ensures branch { IfOk result (λ o. IfSome o (λ ls. ls ≡ map (numbered.numbered_literal numbering.now) lits.now)) }
-    ensures untyped { IfOk result (λ o. IfNone o ((scope : Scope) → IsBranch scope (map (numbered.numbered_literal numbering.now) lits.now) → ⊥)) }
+    ensures branch { IfOk result (λ o. IfSome o (λ ls. ls ≡ map (numbered_literal numbering.now) lits.now)) }
+    ensures untyped { IfOk result (λ o. IfNone o ((scope : Scope) → IsBranch scope (map (numbered_literal numbering.now) lits.now) → ⊥)) }
 {
     let mut branch = Lits::new(alloc);
     for i in 0..lits.len() {
@@ -88,14 +89,14 @@ fn number_branch(
     Ok(Some(branch))
 }
 
-/// The rule of a cut, with a number for each name, or none where its literal is one of no scope.
+/// The cut with the literal, with a number for each name, or none where it is a literal over no scope.
 fn number_cut(
     alloc: Global,
     numbering: &Numbering<'_>,
     lit: &TextLit,
 ) -> Result<Option<RuleUse>, AllocError>
-    ensures cut { IfOk result (λ o. IfSome o (λ r. r ≡ variant.Cut (numbered.numbered_literal numbering.now lit.now))) }
-    ensures untyped { IfOk result (λ o. IfNone o ((scope : Scope) → IsLiteral scope (numbered.numbered_literal numbering.now lit.now) → ⊥)) }
+    ensures cut { IfOk result (λ o. IfSome o (λ r. r ≡ variant.Cut (numbered_literal numbering.now lit.now))) }
+    ensures untyped { IfOk result (λ o. IfNone o ((scope : Scope) → IsLiteral scope (numbered_literal numbering.now lit.now) → ⊥)) }
 {
     match number_literal(alloc, numbering, lit)? {
         Some(lit) => Ok(Some(RuleUse::Cut(lit))),
@@ -109,8 +110,8 @@ fn number_rule(
     numbering: &Numbering<'_>,
     rule: &TextRule,
 ) -> Result<Option<RuleUse>, AllocError>
-    ensures rule { IfOk result (λ o. IfSome o (λ r. r ≡ numbered.numbered_rule numbering.now (the_rule rule.now))) }
-    ensures untyped { IfOk result (λ o. IfNone o ((scope : Scope) → IsTypedUse scope (numbered.numbered_rule numbering.now (the_rule rule.now)) → ⊥)) }
+    ensures rule { IfOk result (λ o. IfSome o (λ r. r ≡ numbered_rule numbering.now (the_rule rule.now))) }
+    ensures untyped { IfOk result (λ o. IfNone o ((scope : Scope) → IsTypedUse scope (numbered_rule numbering.now (the_rule rule.now)) → ⊥)) }
 {
     match rule {
         TextRule::False(i) => Ok(Some(RuleUse::False(*i))),
@@ -155,8 +156,8 @@ pub(crate) fn number_line(
     numbering: &Numbering<'_>,
     line: &TextLine,
 ) -> Result<Option<Line>, AllocError>
-    ensures line { IfOk result (λ o. IfSome o (λ l. l ≡ numbered.numbered_line numbering.now (the_line line.now))) }
-    ensures untyped { IfOk result (λ o. IfNone o ((scope : Scope) → IsTypedLine scope (numbered.numbered_line numbering.now (the_line line.now)) → ⊥)) }
+    ensures line { IfOk result (λ o. IfSome o (λ l. l ≡ numbered_line numbering.now (the_line line.now))) }
+    ensures untyped { IfOk result (λ o. IfNone o ((scope : Scope) → IsTypedLine scope (numbered_line numbering.now (the_line line.now)) → ⊥)) }
 {
     let Some(branch) = number_branch(alloc, numbering, &line.branch)? else {
         return Ok(None);

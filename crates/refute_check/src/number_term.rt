@@ -12,7 +12,7 @@ use refute_text::{TextHead, TextNode, TextTerm, TextTerms, TextTy};
 use std::alloc::{AllocError, Global};
 use stt_core::{Head, Nf, Nfs, Ty, Types};
 
-/// The number. A number that doesn't fit is one of a list that doesn't fit in memory.
+/// The number in 32 bits. A list of more names than these can count is taken as one that doesn't fit in memory.
 fn fitting(n: usize) -> Result<u32, AllocError>
     ensures { IfOk result (λ k. k ≡ n) }
 {
@@ -22,7 +22,7 @@ fn fitting(n: usize) -> Result<u32, AllocError>
     }
 }
 
-/// The number of the base type at a place: numbers 0 and 1 are those of `$o` and `$i`.
+/// The number of the base type at the place, behind `$o` and `$i`.
 fn base_number(place: usize) -> Result<u32, AllocError>
     ensures { IfOk result (λ k. k ≡ place + 2) }
 {

@@ -10,7 +10,7 @@ use std::collections::BTreeMap;
 use std::marker::Model;
 use stt_core::{Consts, Names, Signature};
 
-/// Notes that the name stands at the place, where no place of the name is noted.
+/// Notes that the name stands at the place, unless a place of the name is noted already.
 fn note<'a>(
     places: &mut BTreeMap<&'a [u8], usize>,
     name: &'a [u8],
@@ -53,7 +53,7 @@ fn const_places(alloc: Global, consts: &Consts) -> Result<BTreeMap<&[u8], usize>
     Ok(places)
 }
 
-/// A signature with the first places of its names in maps. Contracts see the names.
+/// A signature, with the first places of its names in ordered maps. Contracts see the names that it declares.
 #[derive(Drop)]
 pub(crate) struct Numbering<'a> {
     signature: &'a Signature,
@@ -74,6 +74,7 @@ impl<'a> Model for Numbering<'a> {
 }
 
 impl<'a> Numbering<'a> {
+    /// The maps are made once, by one insertion for each name.
     pub(crate) fn new(alloc: Global, signature: &'a Signature) -> Result<Self, AllocError>
         ensures { IfOk result (λ n. n ≡ names_of signature.now.bases signature.now.consts) }
     {
@@ -84,14 +85,14 @@ impl<'a> Numbering<'a> {
         })
     }
 
-    /// The first place of a base type, or else their number.
+    /// The first place of the name among the base types, or else their number.
     pub(crate) fn base(&self, name: &[u8]) -> usize
         ensures { result ≡ place_of self.now.bases name.now }
     {
         find(&self.bases, name, self.signature.bases.len())
     }
 
-    /// The first place of a constant, or else their number.
+    /// The first place of the name among the constants, or else their number.
     pub(crate) fn constant(&self, name: &[u8]) -> usize
         ensures { result ≡ place_of self.now.constants name.now }
     {

@@ -2,7 +2,6 @@ use Rattle.std.proofs.Common.{ap, sym, ◌∙◌, arith}
 use Rattle.stt_core.proofs.ListLaws.{map_more}
 use Rattle.stt_core.specs.Lambda.{lambdas}
 use Rattle.stt_core.specs.View.{the_type as plain_type, the_head as plain_head}
-use Rattle.refute_text.specs.TreeSizes.{node_count, applied_falls}
 use Rattle.refute_text.specs.View.{the_type}
 use Rattle.refute_text.specs.TreeView.{the_head, the_node}
 use Rattle.refute_check.specs.Numbered.{numbered_term}

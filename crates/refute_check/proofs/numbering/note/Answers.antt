@@ -1,4 +1,4 @@
-use Rattle.std.proofs.Common.{◌≡◌, None, Some, Option, ℕ, is_some, false, sym, ◌∙◌}
+use Rattle.std.proofs.Common.{sym, ◌∙◌}
 use Rattle.refute_check.specs.Places.{noted}
 use Rattle.refute_check.proofs.PlaceLaws.{noted-new, none_is}
 use Rattle.refute_check.proofs.numbering.note.Goals as goal
