@@ -1,5 +1,6 @@
 pub mod NormalQuestion
 pub mod Numbered
+pub mod Places
 pub mod Refusal
 pub mod Keys
 pub mod TermNumbers

@@ -5,6 +5,9 @@ mod branch;
 mod check;
 mod key;
 mod number_branch;
+mod number_line;
+mod number_term;
+mod numbering;
 mod refusal;
 mod term_numbers;
 
