@@ -2,6 +2,8 @@ mod Keys
 mod NumberLaws
 mod SetLaws
 mod BranchLaws
+mod ChildLaws
+mod WitnessNumbers
 pub mod LineLaws
 pub mod PlaceLaws
 pub mod TermLaws

@@ -5,3 +5,4 @@ pub mod Refusal
 pub mod Keys
 pub mod TermNumbers
 pub mod Branches
+pub mod Witnesses

@@ -3,6 +3,7 @@
 
 mod branch;
 mod check;
+mod children;
 mod key;
 mod number_branch;
 mod number_line;
@@ -10,6 +11,7 @@ mod number_term;
 mod numbering;
 mod refusal;
 mod term_numbers;
+mod witnesses;
 
 pub use check::check_refutation;
 pub use refusal::CheckRefused;
