@@ -6,3 +6,4 @@ pub mod Keys
 pub mod TermNumbers
 pub mod Branches
 pub mod Witnesses
+pub mod Lines

@@ -14,7 +14,8 @@ use crate::term_numbers::TermNumbers;
 use std::alloc::{AllocError, Global};
 use stt_tableau::{Alternatives, Child, Children, Lits};
 
-fn branch_at(earlier: &[Branch], j: usize) -> Option<&Branch>
+/// The branch of a line.
+pub(crate) fn branch_at(earlier: &[Branch], j: usize) -> Option<&Branch>
     ensures { option_copied result ≡ slice_get earlier.now j }
 {
     earlier.get(j)
