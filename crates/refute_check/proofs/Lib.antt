@@ -5,6 +5,7 @@ mod BranchLaws
 mod ChildLaws
 mod WitnessNumbers
 pub mod StartLaws
+mod CheckLaws
 pub mod LineLaws
 pub mod PlaceLaws
 pub mod TermLaws
