@@ -19,7 +19,7 @@ use Rattle.satallax_top.specs.Report.{proof_report, report}
 use Rattle.satallax_top.specs.Words.{is_control, is_file_name, is_option, problem_word, name_of}
 use Rattle.satallax_top.specs.Files.{OfFiles, Statements, State}
 use Rattle.satallax_top.specs.Runnable.{names_in}
-use Rattle.satallax_top.specs.NormalQuestion.{normal_question}
+use Rattle.refute_check.specs.NormalQuestion.{normal_question}
 use Rattle.satallax_top.specs.Answers.{IsProofOf, stop_outcome, AnswersEnding, IsAnswer, IsProvedOutcome, IsDefined}
 use Rattle.satallax_top.specs.Headline.{IsWithoutModel, HasNoModel, IsProofReport, Appends, IsWritten}
 use Rattle.satallax_top.specs.declared.outcome.Outcome.{Outcome}

@@ -22,7 +22,7 @@ use Rattle.prover_search.specs.Searched.{IsPropositional, HasPropositionalAtom, 
 use Rattle.prover_search.proofs.BooleanLaws.{none_contained}
 use Rattle.prover_search.proofs.SearchedLaws.{added-different}
 use Rattle.satallax_top.specs.Runnable.{ArePrintable, names_in, IsRunnable}
-use Rattle.satallax_top.specs.NormalQuestion.{normal_in, normal_question}
+use Rattle.refute_check.specs.NormalQuestion.{normal_in, normal_question}
 use Rattle.satallax_top.proofs.PropositionalLaws.{canonical-propositional, propositional-literal, unnamed-literal, unsigned-literal}
 
 every_each : {A : Type 0} (P : A → Type 0) (xs : List A) → Each P xs → Every P xs

@@ -11,7 +11,7 @@ use Rattle.prover_search.specs.declared.commands.Ended.TheVariants.{Proved}
 use Rattle.type_check.specs.Statements.{ReadProblem}
 use Rattle.type_check.specs.TypedProblem.{question_of}
 use Rattle.satallax_top.specs.Runnable.{names_in, IsRunnable}
-use Rattle.satallax_top.specs.NormalQuestion.{normal_question}
+use Rattle.refute_check.specs.NormalQuestion.{normal_question}
 use Rattle.satallax_top.specs.Answers.{IsProofOf, IsSolvedFor, IsProvedFor}
 use Rattle.satallax_top.specs.declared.outcome.Outcome.{Outcome}
 use Rattle.satallax_top.specs.declared.outcome.Outcome.TheVariants.{Theorem, Unsatisfiable, GaveUp, CommandLimit, SyntaxAt, TypeAt, IncludeAt, Words, TooLong, NotYetAt, ReadFault, WriteFault, Memory}

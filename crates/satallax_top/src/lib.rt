@@ -1,6 +1,7 @@
 //! The whole prover as one call.
 #![tactic(auto)]
 
+mod check;
 mod law;
 mod outcome;
 mod report;
