@@ -9,9 +9,15 @@ use Rattle.type_check.specs.Statements.{ReadProblem, problem_of}
 use Rattle.type_check.specs.TypedProblem.{question_of}
 use Rattle.refute_text.specs.Trees.{RefutationTree}
 use Rattle.refute_read.specs.Reading.{lines_of, Reading, read, bad_line, no_start, no_end, Reads}
+use Rattle.refute_read.specs.declared.refusal.TextRefused.{TextRefused}
+use Rattle.refute_read.specs.declared.refusal.TextRefused.TheVariants as unread
+use Rattle.refute_read.specs.declared.refusal.TextRefused.TheVariants.{BadLine, NoStart, NoEnd}
 use Rattle.refute_check.specs.NormalQuestion.{normal_question}
 use Rattle.refute_check.specs.Numbered.{numbered_refutation}
 use Rattle.refute_check.specs.Refusal.{FailsAt}
+use Rattle.refute_check.specs.declared.refusal.CheckRefused.{CheckRefused}
+use Rattle.refute_check.specs.declared.refusal.CheckRefused.TheVariants as failed
+use Rattle.refute_check.specs.declared.refusal.CheckRefused.TheVariants.{Line}
 use Rattle.satallax_top.specs.Runnable.{names_in}
 use Rattle.satallax_top.specs.declared.check.TheConstants.{MAX_TEXT_BYTES}
 use Rattle.satallax_top.specs.declared.outcome.FileRef.TheVariants.{Part, Check}
@@ -44,6 +50,18 @@ AnswersBytes p bytes Memory = Unit {0}
 AnswersBytes p bytes Accepted = IsAcceptedText p bytes
 AnswersBytes p bytes (Refused line why) = IsRefusedText p bytes line why
 AnswersBytes p bytes outcome = ⊥
+
+-- what a text that isn't read is answered with
+abbrev pub unread_outcome : TextRefused → Outcome
+unread_outcome (BadLine line) = Refused line Form
+unread_outcome (NoStart line) = Refused line Start
+unread_outcome (NoEnd line) = Refused line End
+unread_outcome unread.Memory = Memory
+
+-- what a refutation that isn't accepted is answered with
+abbrev pub failed_outcome : CheckRefused → Outcome
+failed_outcome (Line line why) = Refused line why
+failed_outcome failed.Memory = Memory
 
 -- A file holds bytes with this property, and no more of them than a text may have. They are those that are told, where they are told.
 pub record OfText (told : Bool) (contents : List ℕ → Option (List ℕ)) (file : List ℕ) (P : List ℕ → Type 0) : Type 0 where

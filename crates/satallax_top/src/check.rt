@@ -5,7 +5,7 @@ ghost use Rattle.outside.specs.Causes.{Rose};
 ghost use Rattle.thf_include.specs.View.{the_statements};
 ghost use Rattle.type_check.specs.Checks.{the_problem};
 ghost use Rattle.type_check.specs.TypedProblem.{question_of, IsTyped};
-ghost use Rattle.satallax_top.specs.Checked.{AnswersBytes, AnswersText, AnswersCheck};
+ghost use Rattle.satallax_top.specs.Checked.{unread_outcome, failed_outcome, AnswersBytes, AnswersText, AnswersCheck};
 ghost use Rattle.satallax_top.specs.declared.outcome.FileRef.TheVariants.{Check};
 
 use crate::outcome::{FileRef, Outcome};
@@ -21,6 +21,37 @@ use type_check::{Ill, check};
 /// How many bytes the text of a refutation has at most.
 pub(crate) const MAX_TEXT_BYTES: usize = 16_777_216;
 
+/// The outcome where a text isn't read.
+fn unread_outcome(refused: TextRefused) -> Outcome
+    ensures { result ≡ unread_outcome refused }
+{
+    match refused {
+        TextRefused::BadLine { line } => Outcome::Refused {
+            line,
+            why: Why::Form,
+        },
+        TextRefused::NoStart { line } => Outcome::Refused {
+            line,
+            why: Why::Start,
+        },
+        TextRefused::NoEnd { line } => Outcome::Refused {
+            line,
+            why: Why::End,
+        },
+        TextRefused::Memory => Outcome::Memory,
+    }
+}
+
+/// The outcome where what is read isn't accepted.
+fn failed_outcome(refused: CheckRefused) -> Outcome
+    ensures { result ≡ failed_outcome refused }
+{
+    match refused {
+        CheckRefused::Line { line, why } => Outcome::Refused { line, why },
+        CheckRefused::Memory => Outcome::Memory,
+    }
+}
+
 /// The outcome for the bytes of a text.
 fn check_bytes(alloc: Global, problem: &Problem, bytes: &[u8]) -> Outcome
     requires { IsTyped (question_of (the_problem problem.now)) }
@@ -29,22 +60,9 @@ fn check_bytes(alloc: Global, problem: &Problem, bytes: &[u8]) -> Outcome
     match read_text(alloc, bytes) {
         Ok(text) => match check_refutation(alloc, problem, &text) {
             Ok(()) => Outcome::Accepted,
-            Err(CheckRefused::Line { line, why }) => Outcome::Refused { line, why },
-            Err(CheckRefused::Memory) => Outcome::Memory,
+            Err(refused) => failed_outcome(refused),
         },
-        Err(TextRefused::BadLine { line }) => Outcome::Refused {
-            line,
-            why: Why::Form,
-        },
-        Err(TextRefused::NoStart { line }) => Outcome::Refused {
-            line,
-            why: Why::Start,
-        },
-        Err(TextRefused::NoEnd { line }) => Outcome::Refused {
-            line,
-            why: Why::End,
-        },
-        Err(TextRefused::Memory) => Outcome::Memory,
+        Err(refused) => unread_outcome(refused),
     }
 }
 

@@ -1,6 +1,6 @@
 //! The words of the command line.
 
-ghost use Rattle.std.specs.Prelude.{◌≡◌, [], ◌∷◌, ◌++◌, OnOk, OnErr, option_map};
+ghost use Rattle.std.specs.Prelude.{◌≡◌, [], ◌∷◌, ◌++◌, OnOk, OnErr, option_map, Some, None, if◌then◌else◌};
 ghost use Rattle.std.specs.List.{list_any};
 ghost use Rattle.satallax_top.specs.Words.{is_control, is_file_name, is_option, names_file, asks_check, problem_word, check_word, name_of, text_name_of};
 
@@ -56,6 +56,13 @@ fn asks_check(option: &str, text: &str, problem: &str) -> bool
     option == "--check" && names_file(text) && names_file(problem)
 }
 
+/// The word, where the condition holds.
+fn where_true(holds: bool, word: &str) -> Option<&str>
+    ensures { option_map (λ w. w.now) result ≡ (if holds then Some word.now else None) }
+{
+    if holds { Some(word) } else { None }
+}
+
 impl Words {
     pub fn new(alloc: Global) -> Self
         ensures { result ≡ [] }
@@ -81,13 +88,14 @@ impl Words {
         ensures { option_map (λ name. name.now) result ≡ problem_word self.now }
     {
         match self.texts.as_slice() {
-            [word] if names_file(word.as_str()) => Some(word.as_str()),
-            [option, text, problem]
-                if asks_check(option.as_str(), text.as_str(), problem.as_str()) =>
-            {
-                Some(problem.as_str())
-            }
-            _ => None,
+            [] => None,
+            [word] => where_true(names_file(word.as_str()), word.as_str()),
+            [_, _] => None,
+            [option, text, problem] => where_true(
+                asks_check(option.as_str(), text.as_str(), problem.as_str()),
+                problem.as_str(),
+            ),
+            [_, _, _, _, ..] => None,
         }
     }
 
@@ -96,12 +104,14 @@ impl Words {
         ensures { option_map (λ name. name.now) result ≡ check_word self.now }
     {
         match self.texts.as_slice() {
-            [option, text, problem]
-                if asks_check(option.as_str(), text.as_str(), problem.as_str()) =>
-            {
-                Some(text.as_str())
-            }
-            _ => None,
+            [] => None,
+            [_] => None,
+            [_, _] => None,
+            [option, text, problem] => where_true(
+                asks_check(option.as_str(), text.as_str(), problem.as_str()),
+                text.as_str(),
+            ),
+            [_, _, _, _, ..] => None,
         }
     }
 
