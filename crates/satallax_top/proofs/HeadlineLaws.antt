@@ -91,12 +91,15 @@ pub record EndsAccepted (p : ReadProblem) (ending : Ending) : Type 0 where
 accepted_ending : (checked : Option (List ℕ)) (told : Bool) (contents : List ℕ → Option (List ℕ)) (n : ℕ) (text : List ℕ) (ending : Ending) → AnswersEnding (AnswersAsked checked told contents Accepted n text) Accepted ending → (p : ReadProblem) × EndsAccepted p ending
 accepted_ending checked told contents n text (stopped s) a = absurd (accepted_no_stop s a)
 accepted_ending None told contents n text (done ss) a = absurd a.solved
-accepted_ending (Some file) told contents n text (done ss) a = (a.problem, record {
-  stated = record { statements = ss; gathered = refl; read = a.read };
-  typed = problem_of-typed ss a.problem a.read;
-  refutation = numbered_refutation (names_in a.problem) a.checked.holds.refutation;
-  accepted = a.checked.holds.accepted;
-})
+accepted_ending (Some file) told contents n text (done ss) a = (
+  a.problem,
+  record {
+    stated = record { statements = ss; gathered = refl; read = a.read };
+    typed = problem_of-typed ss a.problem a.read;
+    refutation = numbered_refutation (names_in a.problem) a.checked.holds.refutation;
+    accepted = a.checked.holds.accepted;
+  },
+)
 
 -- no model meets a problem against which a text is accepted
 pub no_model_accepted : (words : List (List ℕ)) (told : Bool) (contents : List ℕ → Option (List ℕ)) (o : Outcome) (names : List (List ℕ)) (n : ℕ) (text : List ℕ) → IsAnswer words told contents o names n text → o ≡ Accepted → HasNoModel words told contents

@@ -331,7 +331,13 @@ fn write_file<S: Sink>(
     ensures cause { OnErr result (Rose (S.faults out.old) (S.faults out.new)) }
     ensures later { S.faults out.old ≤ S.faults out.new }
 {
-    write_headed(out, INPUT_ERROR, name, word, file_name(names, checked, file))
+    write_headed(
+        out,
+        INPUT_ERROR,
+        name,
+        word,
+        file_name(names, checked, file),
+    )
 }
 
 /// Writes the report of a text that is accepted.
@@ -417,11 +423,20 @@ pub(crate) fn write_report<S: Sink>(
         Outcome::Refused { line, why } => write_refusal(out, name, line, why),
         Outcome::SyntaxAt { file, at } => write_syntax(out, name, names, checked, file, at),
         Outcome::TypeAt { file, at, why } => write_ill(out, name, names, checked, file, at, why),
-        Outcome::IncludeAt { file, at, why } => write_include(out, name, names, checked, file, at, why),
+        Outcome::IncludeAt { file, at, why } => write_include(
+            out, name, names, checked, file, at, why,
+        ),
         Outcome::Words => write_all_counted(out, USAGE),
         Outcome::TooLong { file } => write_file(out, name, b"% too long ", names, checked, file),
         Outcome::NotYetAt { at } => write_numbered(out, GAVE_UP, name, b"% not yet ", at),
-        Outcome::ReadFault { file } => write_file(out, name, b"% read fault ", names, checked, file),
+        Outcome::ReadFault { file } => write_file(
+            out,
+            name,
+            b"% read fault ",
+            names,
+            checked,
+            file,
+        ),
         Outcome::WriteFault => Ok(()),
         Outcome::Memory => write_headed(out, RESOURCE_OUT, name, b"% memory", b""),
     }
