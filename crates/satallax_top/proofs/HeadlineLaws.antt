@@ -2,49 +2,47 @@
 use Rattle.std.proofs.Common.{◌≡◌, ℕ, Bool, true, false, IsTrue, not, ◌||◌, ◌&&◌, ◌==◌, nat_lt, List, [], ◌∷◌, ◌++◌, codes, decimal, Option, Some, None, Ok, unwrap_or, if◌then◌else◌, refl, sym, ap, ap₂, subst, ◌∙◌, append_assoc, append-nil}
 use Rattle.std.specs.List.{list_any}
 use Rattle.std.proofs.lemmas.Bool.{and_parts, eqb-true}
+use Rattle.stt_tableau.specs.Accepted.{IsAccepted}
 use Rattle.stt_tableau.specs.Start.{start}
+use Rattle.stt_tableau.specs.declared.refutation.Refutation.{Refutation}
 use Rattle.stt_tableau.proofs.Soundness.{accepted_closes_start, accepted_refutes}
 use Rattle.thf_include.specs.View.{PlacedTree}
 use Rattle.thf_include.specs.Gathering.{Ending, done, stopped, Stop, wants, too_long, no_tree, cycle, too_many, no_name}
 use Rattle.type_check.specs.Statements.{ReadProblem, problem_of}
 use Rattle.type_check.specs.TypedProblem.{question_of, IsTyped}
 use Rattle.type_check.proofs.TypedProblems.{problem_of-typed}
-use Rattle.run_forms.specs.Forms.{first_unbuilt}
-use Rattle.run_forms.specs.Propositional.{AllPropositional}
-use Rattle.run_forms.proofs.FormLaws.{built_formulas_are_propositional}
 use Rattle.refute_text.specs.Text.{text_lines, as_bytes}
 use Rattle.refute_text.specs.Named.{named_refutation}
+use Rattle.refute_check.specs.Numbered.{numbered_refutation}
 use Rattle.satallax_top.specs.Block.{start_mark, end_mark, begins_with, has_line_feed, HoldsText}
 use Rattle.satallax_top.specs.Report.{proof_report, report}
-use Rattle.satallax_top.specs.Words.{is_control, is_file_name, is_option, problem_word, name_of}
+use Rattle.satallax_top.specs.Words.{is_control, is_file_name, is_option, names_file, asks_check, problem_word, check_word, name_of, text_name_of}
 use Rattle.satallax_top.specs.Files.{OfFiles, Statements, State}
 use Rattle.satallax_top.specs.Runnable.{names_in}
-use Rattle.satallax_top.specs.NormalQuestion.{normal_question}
-use Rattle.satallax_top.specs.Answers.{IsProofOf, stop_outcome, AnswersEnding, IsAnswer, IsProvedOutcome, IsDefined}
+use Rattle.refute_check.specs.NormalQuestion.{normal_question}
+use Rattle.satallax_top.specs.Answers.{IsProofOf, stop_outcome, AnswersAsked, AnswersEnding, IsAnswer, IsProvedOutcome, IsDefined}
 use Rattle.satallax_top.specs.Headline.{IsWithoutModel, HasNoModel, IsProofReport, Appends, IsWritten}
 use Rattle.satallax_top.specs.declared.outcome.Outcome.{Outcome}
-use Rattle.satallax_top.specs.declared.outcome.Outcome.TheVariants.{Theorem, Unsatisfiable, Words, ReadFault, WriteFault, Memory}
-use Rattle.satallax_top.specs.declared.outcome.FileRef.TheVariants.{Part}
+use Rattle.satallax_top.specs.declared.outcome.Outcome.TheVariants.{Theorem, Unsatisfiable, Accepted, Words, ReadFault, WriteFault, Memory}
+use Rattle.satallax_top.specs.declared.outcome.FileRef.TheVariants.{Part, Check}
 use Rattle.satallax_top.proofs.LineFeeds.{no_feed-append, decimal_no_feed}
 use Rattle.satallax_top.proofs.ProblemLaws.{start_unnamed, start_met}
 
--- no model meets a problem of which a run is a proof
-no_model_of : (p : ReadProblem) (n : ℕ) (text : List ℕ) → IsTyped (question_of p) → AllPropositional p → IsProofOf p n text → IsWithoutModel p
-no_model_of p n text typed g proof m good met =
-    accepted_refutes (question_of p).scope (start (normal_question p)) proof.refutation proof.accepted (start_unnamed p typed g) m good (start_met p typed g m good met)
+-- no model meets a problem for whose start a refutation is accepted
+no_model_of : (p : ReadProblem) (refutation : Refutation) → IsTyped (question_of p) → IsAccepted (question_of p).scope (start (normal_question p)) refutation → IsWithoutModel p
+no_model_of p refutation typed accepted m good met =
+    accepted_refutes (question_of p).scope (start (normal_question p)) refutation accepted (start_unnamed p typed) m good (start_met p typed m good met)
 
 -- a gathering whose statements have a run that is a proof
 pub record EndsProved (n : ℕ) (text : List ℕ) (p : ReadProblem) (ending : Ending) : Type 0 where
   pub stated : Statements p ending
   pub typed : IsTyped (question_of p)
-  pub propositional : AllPropositional p
   pub proof : IsProofOf p n text
 
-ends_proved : (ss : List PlacedTree) (p : ReadProblem) (n : ℕ) (text : List ℕ) → problem_of ss ≡ Ok p → first_unbuilt p.declared.consts ss ≡ None → IsProofOf p n text → EndsProved n text p (done ss)
-ends_proved ss p n text read built proof = record {
+ends_proved : (ss : List PlacedTree) (p : ReadProblem) (n : ℕ) (text : List ℕ) → problem_of ss ≡ Ok p → IsProofOf p n text → EndsProved n text p (done ss)
+ends_proved ss p n text read proof = record {
   stated = record { statements = ss; gathered = refl; read = read };
   typed = problem_of-typed ss p read;
-  propositional = built_formulas_are_propositional ss p read built;
   proof = proof;
 }
 
@@ -64,13 +62,58 @@ unsatisfiable_no_stop (cycle file at) e = cc
 unsatisfiable_no_stop (too_many file at) e = cc
 unsatisfiable_no_stop (no_name file at) e = cc
 
+accepted_no_stop : (s : Stop) → Accepted ≡ stop_outcome s → ⊥
+accepted_no_stop (wants file) e = cc
+accepted_no_stop (too_long file) e = cc
+accepted_no_stop (no_tree file at) e = cc
+accepted_no_stop (cycle file at) e = cc
+accepted_no_stop (too_many file at) e = cc
+accepted_no_stop (no_name file at) e = cc
+
 -- the ending of which a proof is answered
-proved_ending : (o : Outcome) (n : ℕ) (text : List ℕ) (ending : Ending) → IsProvedOutcome o → AnswersEnding o n text ending → (p : ReadProblem) × EndsProved n text p ending
-proved_ending Theorem n text (done ss) h a = (a.problem, ends_proved ss a.problem n text a.read a.built a.solved.1)
-proved_ending Theorem n text (stopped s) h a = absurd (theorem_no_stop s a)
-proved_ending Unsatisfiable n text (done ss) h a = (a.problem, ends_proved ss a.problem n text a.read a.built a.solved.1)
-proved_ending Unsatisfiable n text (stopped s) h a = absurd (unsatisfiable_no_stop s a)
-proved_ending o n text ending h a = absurd h
+proved_ending : (checked : Option (List ℕ)) (told : Bool) (contents : List ℕ → Option (List ℕ)) (o : Outcome) (n : ℕ) (text : List ℕ) (ending : Ending) → IsProvedOutcome o → AnswersEnding (AnswersAsked checked told contents o n text) o ending → (p : ReadProblem) × EndsProved n text p ending
+proved_ending None told contents Theorem n text (done ss) h a = (a.problem, ends_proved ss a.problem n text a.read a.solved.1)
+proved_ending (Some file) told contents Theorem n text (done ss) h a = absurd a.checked.holds
+proved_ending checked told contents Theorem n text (stopped s) h a = absurd (theorem_no_stop s a)
+proved_ending None told contents Unsatisfiable n text (done ss) h a = (a.problem, ends_proved ss a.problem n text a.read a.solved.1)
+proved_ending (Some file) told contents Unsatisfiable n text (done ss) h a = absurd a.checked.holds
+proved_ending checked told contents Unsatisfiable n text (stopped s) h a = absurd (unsatisfiable_no_stop s a)
+proved_ending checked told contents o n text ending h a = absurd h
+
+-- a gathering whose statements have an accepted text
+pub record EndsAccepted (p : ReadProblem) (ending : Ending) : Type 0 where
+  pub stated : Statements p ending
+  pub typed : IsTyped (question_of p)
+  pub refutation : Refutation
+  pub accepted : IsAccepted (question_of p).scope (start (normal_question p)) refutation
+
+-- the ending of which an accepted text is answered
+accepted_ending : (checked : Option (List ℕ)) (told : Bool) (contents : List ℕ → Option (List ℕ)) (n : ℕ) (text : List ℕ) (ending : Ending) → AnswersEnding (AnswersAsked checked told contents Accepted n text) Accepted ending → (p : ReadProblem) × EndsAccepted p ending
+accepted_ending checked told contents n text (stopped s) a = absurd (accepted_no_stop s a)
+accepted_ending None told contents n text (done ss) a = absurd a.solved
+accepted_ending (Some file) told contents n text (done ss) a = (
+  a.problem,
+  record {
+    stated = record { statements = ss; gathered = refl; read = a.read };
+    typed = problem_of-typed ss a.problem a.read;
+    refutation = numbered_refutation (names_in a.problem) a.checked.holds.refutation;
+    accepted = a.checked.holds.accepted;
+  },
+)
+
+-- no model meets a problem against which a text is accepted
+pub no_model_accepted : (words : List (List ℕ)) (told : Bool) (contents : List ℕ → Option (List ℕ)) (o : Outcome) (names : List (List ℕ)) (n : ℕ) (text : List ℕ) → IsAnswer words told contents o names n text → o ≡ Accepted → HasNoModel words told contents
+no_model_accepted words told contents o names n text answer e = go (subst (λ x. IsAnswer words told contents x names n text) e answer)
+  where
+    go : IsAnswer words told contents Accepted names n text → HasNoModel words told contents
+    go a =
+        let q = accepted_ending (check_word words) told contents n text a.ending a.holds in
+        record {
+          names = names;
+          problem = q.0;
+          stated = record { name = a.name; named = a.named; texts = a.texts; told_texts = a.told_texts; ending = a.ending; gathers = a.gathers; holds = q.1.stated };
+          no_model = no_model_of q.0 q.1.refutation q.1.typed q.1.accepted;
+        }
 
 -- an answer that is a proof, whichever of the two outcomes it has
 pub record ProvedAnswer (words : List (List ℕ)) (told : Bool) (contents : List ℕ → Option (List ℕ)) (names : List (List ℕ)) (n : ℕ) (text : List ℕ) : Type 0 where
@@ -79,19 +122,17 @@ pub record ProvedAnswer (words : List (List ℕ)) (told : Bool) (contents : List
   pub problem : ReadProblem
   pub stated : State words told contents names problem
   pub typed : IsTyped (question_of problem)
-  pub propositional : AllPropositional problem
   pub proof : IsProofOf problem n text
 
-proved_files : (words : List (List ℕ)) (told : Bool) (contents : List ℕ → Option (List ℕ)) (o : Outcome) (names : List (List ℕ)) (n : ℕ) (text : List ℕ) → IsProvedOutcome o → OfFiles words told contents names (AnswersEnding o n text) → ProvedAnswer words told contents names n text
+proved_files : (words : List (List ℕ)) (told : Bool) (contents : List ℕ → Option (List ℕ)) (o : Outcome) (names : List (List ℕ)) (n : ℕ) (text : List ℕ) → IsProvedOutcome o → OfFiles words told contents names (AnswersEnding (AnswersAsked (check_word words) told contents o n text) o) → ProvedAnswer words told contents names n text
 proved_files words told contents o names n text h a =
-    let e = proved_ending o n text a.ending h a.holds in
+    let e = proved_ending (check_word words) told contents o n text a.ending h a.holds in
     record {
       name = a.name;
       named = a.named;
       problem = e.0;
       stated = record { name = a.name; named = a.named; texts = a.texts; told_texts = a.told_texts; ending = a.ending; gathers = a.gathers; holds = e.1.stated };
       typed = e.1.typed;
-      propositional = e.1.propositional;
       proof = e.1.proof;
     }
 
@@ -103,7 +144,7 @@ proved_answer words told contents o names n text h a = absurd h
 pub no_model_answer : (words : List (List ℕ)) (told : Bool) (contents : List ℕ → Option (List ℕ)) (o : Outcome) (names : List (List ℕ)) (n : ℕ) (text : List ℕ) → IsAnswer words told contents o names n text → IsProvedOutcome o → HasNoModel words told contents
 no_model_answer words told contents o names n text a h =
     let q = proved_answer words told contents o names n text h a in
-    record { names = names; problem = q.problem; stated = q.stated; no_model = no_model_of q.problem n text q.typed q.propositional q.proof }
+    record { names = names; problem = q.problem; stated = q.stated; no_model = no_model_of q.problem q.proof.refutation q.typed q.proof.accepted }
 
 false_from_not : (b : Bool) → not b ≡ true → b ≡ false
 false_from_not true h = cc
@@ -124,18 +165,22 @@ no_control-no_feed (x ∷ xs) h = go (x == 10) refl (is_control x) refl (no_cont
     go false e false f rest k = rest k
 
 -- the names of files have no line feed
+named_no_feed : (w name : List ℕ) → names_file w ≡ true → w ≡ name → has_line_feed name ≡ false
+named_no_feed w name e same =
+    let file = (and_parts (is_file_name w) (not (is_option w)) e).0 in
+    let clean = (and_parts _ (not (list_any is_control w)) file).1 in
+    subst (λ x. has_line_feed x ≡ false) same (no_control-no_feed w (false_from_not (list_any is_control w) clean))
+
+if_named_no_feed : (b : Bool) (w name : List ℕ) → (b ≡ true → names_file w ≡ true) → (if b then Some w else None) ≡ Some name → has_line_feed name ≡ false
+if_named_no_feed false w name h k = cc
+if_named_no_feed true w name h k = let same : w ≡ name = cc in named_no_feed w name (h refl) same
+
 name_no_feed : (words : List (List ℕ)) (name : List ℕ) → problem_word words ≡ Some name → has_line_feed name ≡ false
 name_no_feed [] name h = cc
-name_no_feed (w ∷ v ∷ words) name h = cc
-name_no_feed (w ∷ []) name h = go (is_file_name w && not (is_option w)) refl h
-  where
-    go : (b : Bool) → (is_file_name w && not (is_option w)) ≡ b → (if b then Some w else None) ≡ Some name → has_line_feed name ≡ false
-    go false e k = cc
-    go true e k =
-        let same : w ≡ name = cc in
-        let file = (and_parts (is_file_name w) (not (is_option w)) e).0 in
-        let clean = (and_parts _ (not (list_any is_control w)) file).1 in
-        subst (λ x. has_line_feed x ≡ false) same (no_control-no_feed w (false_from_not (list_any is_control w) clean))
+name_no_feed (w ∷ []) name h = if_named_no_feed (names_file w) w name (λ e. e) h
+name_no_feed (w ∷ v ∷ []) name h = cc
+name_no_feed (w ∷ v ∷ u ∷ []) name h = if_named_no_feed (asks_check w v u) u name (λ e. (and_parts _ (names_file u) e).1) h
+name_no_feed (w ∷ v ∷ u ∷ t ∷ words) name h = cc
 
 as_bytes-both : (xs ys : List (List ℕ)) → as_bytes (xs ++ ys) ≡ as_bytes xs ++ as_bytes ys
 as_bytes-both [] ys = refl
@@ -180,17 +225,17 @@ holds_proof_report status name p n text proof clean plain_status other =
       ends = refl;
     }
 
-holds_report : (o : Outcome) (name : List ℕ) (names : List (List ℕ)) (p : ReadProblem) (n : ℕ) (text : List ℕ) (proof : IsProofOf p n text) → IsProvedOutcome o → has_line_feed name ≡ false → HoldsText (names_in p) (report o name names n text) proof.refutation
-holds_report Theorem name names p n text proof h clean = holds_proof_report (codes "% SZS status Theorem for ") name p n text proof clean refl refl
-holds_report Unsatisfiable name names p n text proof h clean = holds_proof_report (codes "% SZS status Unsatisfiable for ") name p n text proof clean refl refl
-holds_report o name names p n text proof h clean = absurd h
+holds_report : (o : Outcome) (name : List ℕ) (names : List (List ℕ)) (checked : List ℕ) (p : ReadProblem) (n : ℕ) (text : List ℕ) (proof : IsProofOf p n text) → IsProvedOutcome o → has_line_feed name ≡ false → HoldsText (names_in p) (report o name names checked n text) proof.refutation
+holds_report Theorem name names checked p n text proof h clean = holds_proof_report (codes "% SZS status Theorem for ") name p n text proof clean refl refl
+holds_report Unsatisfiable name names checked p n text proof h clean = holds_proof_report (codes "% SZS status Unsatisfiable for ") name p n text proof clean refl refl
+holds_report o name names checked p n text proof h clean = absurd h
 
 -- a name that the words give has no line feed
 name_of_no_feed : (words : List (List ℕ)) (name : List ℕ) → problem_word words ≡ Some name → has_line_feed (name_of words) ≡ false
 name_of_no_feed words name h = subst (λ o. has_line_feed (unwrap_or o []) ≡ false) (sym h) (name_no_feed words name h)
 
 -- the report of an answer that is a proof
-pub proof_reported : (words : List (List ℕ)) (told : Bool) (contents : List ℕ → Option (List ℕ)) (o : Outcome) (names : List (List ℕ)) (n : ℕ) (text written : List ℕ) → IsAnswer words told contents o names n text → IsProvedOutcome o → written ≡ report o (name_of words) names n text → IsProofReport words told contents o written
+pub proof_reported : (words : List (List ℕ)) (told : Bool) (contents : List ℕ → Option (List ℕ)) (o : Outcome) (names : List (List ℕ)) (n : ℕ) (text written : List ℕ) → IsAnswer words told contents o names n text → IsProvedOutcome o → written ≡ report o (name_of words) names (text_name_of words) n text → IsProofReport words told contents o written
 proof_reported words told contents o names n text written a h w =
     let q = proved_answer words told contents o names n text h a in
     let p = q.problem in
@@ -201,34 +246,36 @@ proof_reported words told contents o names n text written a h w =
       commands = n;
       proved = q.proof.proved;
       refutation = q.proof.refutation;
-      is_report = w ∙ ap (report o (name_of words) names n) q.proof.is_text;
-      holds_text = subst (λ x. HoldsText (names_in p) x q.proof.refutation) (sym w) (holds_report o (name_of words) names p n text q.proof h (name_of_no_feed words q.name q.named));
+      is_report = w ∙ ap (report o (name_of words) names (text_name_of words) n) q.proof.is_text;
+      holds_text = subst (λ x. HoldsText (names_in p) x q.proof.refutation) (sym w) (holds_report o (name_of words) names (text_name_of words) p n text q.proof h (name_of_no_feed words q.name q.named));
       accepted = q.proof.accepted;
       closed = accepted_closes_start (normal_question p).scope (start (normal_question p)) q.proof.refutation q.proof.accepted;
-      no_model = no_model_of p n text q.typed q.propositional q.proof;
+      no_model = no_model_of p q.proof.refutation q.typed q.proof.accepted;
     }
 
 -- what is written for an answer
-pub written_whole : (words : List (List ℕ)) (told : Bool) (contents : List ℕ → Option (List ℕ)) (o : Outcome) (names : List (List ℕ)) (n : ℕ) (text old new : List ℕ) → IsAnswer words told contents o names n text → new ≡ old ++ report o (name_of words) names n text → IsWritten words told contents old new o
+pub written_whole : (words : List (List ℕ)) (told : Bool) (contents : List ℕ → Option (List ℕ)) (o : Outcome) (names : List (List ℕ)) (n : ℕ) (text old new : List ℕ) → IsAnswer words told contents o names n text → new ≡ old ++ report o (name_of words) names (text_name_of words) n text → IsWritten words told contents old new o
 written_whole words told contents o names n text old new a w = go o a w
   where
-    go : (o : Outcome) → IsAnswer words told contents o names n text → new ≡ old ++ report o (name_of words) names n text → IsWritten words told contents old new o
+    go : (o : Outcome) → IsAnswer words told contents o names n text → new ≡ old ++ report o (name_of words) names (text_name_of words) n text → IsWritten words told contents old new o
     go WriteFault a w = absurd a
-    go o a w = record { written = report o (name_of words) names n text; appended = w; is_report = record { names = names; commands = n; text = text; is_answer = a; is_report = refl } }
+    go o a w = record { written = report o (name_of words) names (text_name_of words) n text; appended = w; is_report = record { names = names; commands = n; text = text; is_answer = a; is_report = refl } }
 
 -- the bytes that are appended for an answer that is a proof
-pub proof_appended : (words : List (List ℕ)) (told : Bool) (contents : List ℕ → Option (List ℕ)) (o : Outcome) (names : List (List ℕ)) (n : ℕ) (text old new : List ℕ) → IsAnswer words told contents o names n text → new ≡ old ++ report o (name_of words) names n text → IsProvedOutcome o → Appends old new (IsProofReport words told contents o)
+pub proof_appended : (words : List (List ℕ)) (told : Bool) (contents : List ℕ → Option (List ℕ)) (o : Outcome) (names : List (List ℕ)) (n : ℕ) (text old new : List ℕ) → IsAnswer words told contents o names n text → new ≡ old ++ report o (name_of words) names (text_name_of words) n text → IsProvedOutcome o → Appends old new (IsProofReport words told contents o)
 proof_appended words told contents o names n text old new a w h =
-    record { written = report o (name_of words) names n text; appended = w; is_report = proof_reported words told contents o names n text (report o (name_of words) names n text) a h refl }
+    record { written = report o (name_of words) names (text_name_of words) n text; appended = w; is_report = proof_reported words told contents o names n text (report o (name_of words) names (text_name_of words) n text) a h refl }
 
--- a report by the name and the text that were handed on
-pub report_at : (o : Outcome) (names : List (List ℕ)) (n : ℕ) (name other text own old new : List ℕ) → name ≡ other → text ≡ own → new ≡ old ++ report o name names n text → new ≡ old ++ report o other names n own
-report_at o names n name other text own old new e f w = w ∙ ap₂ (λ x y. old ++ report o x names n y) e f
+-- a report by the names and the text that were handed on
+pub report_at : (o : Outcome) (names : List (List ℕ)) (n : ℕ) (name other checked own_checked text own old new : List ℕ) → name ≡ other → checked ≡ own_checked → text ≡ own → new ≡ old ++ report o name names checked n text → new ≡ old ++ report o other names own_checked n own
+report_at o names n name other checked own_checked text own old new e d f w =
+    w ∙ ap₂ (λ x y. old ++ report o x names checked n y) e f ∙ ap (λ z. old ++ report o other names z n own) d
 
 -- where contents are told, an answer that isn't a fault is the defined one
-pub defined_answer : (words : List (List ℕ)) (told : Bool) (contents : List ℕ → Option (List ℕ)) (o : Outcome) (names : List (List ℕ)) (n : ℕ) (text : List ℕ) → IsAnswer words told contents o names n text → IsTrue told → (name : List ℕ) → problem_word words ≡ Some name → ((k : ℕ) → o ≡ ReadFault (Part k) → ⊥) → IsDefined words contents o
-defined_answer words told contents Memory names n text a t name named f = tt
-defined_answer words told contents Words names n text a t name named f = cc
-defined_answer words told contents (ReadFault (Part k)) names n text a t name named f = absurd (f k refl)
-defined_answer words told contents WriteFault names n text a t name named f = absurd a
-defined_answer words told contents o names n text a t name named f = (names, n, text, subst (λ b. IsAnswer words b contents o names n text) t a)
+pub defined_answer : (words : List (List ℕ)) (told : Bool) (contents : List ℕ → Option (List ℕ)) (o : Outcome) (names : List (List ℕ)) (n : ℕ) (text : List ℕ) → IsAnswer words told contents o names n text → IsTrue told → (name : List ℕ) → problem_word words ≡ Some name → ((k : ℕ) → o ≡ ReadFault (Part k) → ⊥) → (o ≡ ReadFault Check → ⊥) → IsDefined words contents o
+defined_answer words told contents Memory names n text a t name named f g = tt
+defined_answer words told contents Words names n text a t name named f g = cc
+defined_answer words told contents (ReadFault (Part k)) names n text a t name named f g = absurd (f k refl)
+defined_answer words told contents (ReadFault Check) names n text a t name named f g = absurd (g refl)
+defined_answer words told contents WriteFault names n text a t name named f g = absurd a
+defined_answer words told contents o names n text a t name named f g = (names, n, text, subst (λ b. IsAnswer words b contents o names n text) t a)

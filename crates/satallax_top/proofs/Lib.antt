@@ -1,10 +1,14 @@
+pub mod WordLaws
 pub mod PropositionalLaws
 pub mod StartLaws
 pub mod ProblemLaws
+pub mod RunnableLaws
 pub mod PrintableLaws
 pub mod StatedLaws
 pub mod LineFeeds
 pub mod NameLaws
 pub mod SolvedLaws
 pub mod ReportLaws
+pub mod AnswerLaws
+pub mod CheckedLaws
 pub mod HeadlineLaws

@@ -6,7 +6,6 @@ use Rattle.stt_core.specs.Typing.{Scope, type_of}
 use Rattle.stt_core.specs.Canonical.{IsCanonical}
 use Rattle.stt_core.proofs.TypeLaws.{applies}
 use Rattle.stt_tableau.specs.Literals.{literal, is_negated}
-use Rattle.stt_tableau.specs.Witnesses.{NamesNoWitness}
 use Rattle.stt_tableau.proofs.LiteralLaws.{literal_cases}
 use Rattle.type_check.specs.TypedProblem.{IsFormula}
 use Rattle.prover_search.specs.Searched.{IsPropositional}
@@ -27,20 +26,9 @@ canonical-propositional scope (app (app (constant implication) s) t) p f =
     (tt, (formula, (formula, refl, canonical-propositional scope s p.0 (b.argument_type ∙ ap Some g)), canonical-propositional scope t p.1 (a.argument_type ∙ ap Some e)))
 canonical-propositional scope t p f = absurd p
 
--- they name no witness
-unnamed-propositional : (t : Lambda) → IsPropositional t → NamesNoWitness t
-unnamed-propositional (constant (name k)) p = tt
-unnamed-propositional (constant falsity) p = tt
-unnamed-propositional (app (constant negation) s) p = (tt, unnamed-propositional s p)
-unnamed-propositional (app (app (constant implication) s) t) p = ((tt, unnamed-propositional s p.0), unnamed-propositional t p.1)
-unnamed-propositional t p = absurd p
-
 -- facts of a formula that its literal's atom has, too
 pub propositional-literal : (t : Lambda) → IsPropositional t → IsPropositional (literal t).atom
 propositional-literal = literal_cases (λ t l. IsPropositional t → IsPropositional l.atom) (λ s inside h. inside h) (λ t unsigned h. h)
-
-pub unnamed-literal : (t : Lambda) → IsPropositional t → NamesNoWitness (literal t).atom
-unnamed-literal t h = unnamed-propositional (literal t).atom (propositional-literal t h)
 
 pub unsigned-literal : (t : Lambda) → is_negated (literal t).atom ≡ false
 unsigned-literal = literal_cases (λ t l. is_negated l.atom ≡ false) (λ s inside. inside) (λ t unsigned. unsigned)

@@ -2,7 +2,7 @@
 use Rattle.std.proofs.Common.{◌≡◌, ℕ, List, [], ◌∷◌, ◌++◌, codes, refl, ap, ◌∙◌, append_assoc}
 use Rattle.refute_text.specs.Text.{as_bytes}
 use Rattle.satallax_top.specs.Block.{start_mark, end_mark}
-use Rattle.satallax_top.specs.Report.{headed, counted_report}
+use Rattle.satallax_top.specs.Report.{headed, counted_report, refused_report}
 
 -- lines, and what follows them
 abbrev lines_then : List (List ℕ) → List ℕ → List ℕ
@@ -32,3 +32,9 @@ place_why-pieces status name word file count why =
     headed-pieces status name word ((file ++ (codes " " ++ count)) ++ (codes " " ++ why))
     ∙ ap (λ x. status ++ (name ++ (codes "\n" ++ (word ++ x))))
     (append_assoc (file ++ (codes " " ++ count)) (codes " " ++ why) (codes "\n") ∙ append_assoc file (codes " " ++ count) (codes " " ++ (why ++ codes "\n")))
+
+pub refused-pieces : (name line word : List ℕ) → refused_report name line word ≡ codes "% refutation refused for " ++ (name ++ (codes " line " ++ (line ++ (codes " " ++ (word ++ (codes "\n" ++ []))))))
+refused-pieces name line word =
+    ap (λ x. codes "% refutation refused for " ++ x)
+    (append_assoc name (codes " line " ++ (line ++ (codes " " ++ word))) (codes "\n")
+    ∙ ap (λ x. name ++ (codes " line " ++ x)) (append_assoc line (codes " " ++ word) (codes "\n")))

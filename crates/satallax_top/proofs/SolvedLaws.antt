@@ -11,10 +11,10 @@ use Rattle.prover_search.specs.declared.commands.Ended.TheVariants.{Proved}
 use Rattle.type_check.specs.Statements.{ReadProblem}
 use Rattle.type_check.specs.TypedProblem.{question_of}
 use Rattle.satallax_top.specs.Runnable.{names_in, IsRunnable}
-use Rattle.satallax_top.specs.NormalQuestion.{normal_question}
+use Rattle.refute_check.specs.NormalQuestion.{normal_question}
 use Rattle.satallax_top.specs.Answers.{IsProofOf, IsSolvedFor, IsProvedFor}
 use Rattle.satallax_top.specs.declared.outcome.Outcome.{Outcome}
-use Rattle.satallax_top.specs.declared.outcome.Outcome.TheVariants.{Theorem, Unsatisfiable, GaveUp, CommandLimit, SyntaxAt, TypeAt, IncludeAt, Words, TooLong, NotYetAt, ReadFault, WriteFault, Memory}
+use Rattle.satallax_top.specs.declared.outcome.Outcome.TheVariants.{Theorem, Unsatisfiable, GaveUp, CommandLimit, Accepted, Refused, SyntaxAt, TypeAt, IncludeAt, Words, TooLong, NotYetAt, ReadFault, WriteFault, Memory}
 use Rattle.satallax_top.proofs.LineFeeds.{no_line_feeds-lines, no_end_mark-lines}
 use Rattle.satallax_top.proofs.NameLaws.{accepted_named}
 
@@ -42,6 +42,8 @@ proved_for p Theorem n text h proof = (h, proof)
 proved_for p Unsatisfiable n text h proof = (h, proof)
 proved_for p GaveUp n text h proof = absurd h
 proved_for p (CommandLimit m) n text h proof = absurd h
+proved_for p Accepted n text h proof = absurd h
+proved_for p (Refused line why) n text h proof = absurd h
 proved_for p (SyntaxAt file at) n text h proof = absurd h
 proved_for p (TypeAt file at why) n text h proof = absurd h
 proved_for p (IncludeAt file at why) n text h proof = absurd h

@@ -5,7 +5,7 @@ use Rattle.stt_core.proofs.ListLaws.{take_got, map-append}
 use Rattle.stt_core.specs.Typing.{Scope}
 use Rattle.type_check.specs.Statements.{ReadProblem}
 use Rattle.type_check.specs.TypedProblem.{IsFormula, AreFormulas}
-use Rattle.satallax_top.specs.NormalQuestion.{normal_in, normal_question}
+use Rattle.refute_check.specs.NormalQuestion.{normal_in, normal_question}
 use Rattle.stt_tableau.specs.Literals.{Literal, opposite, literal}
 use Rattle.stt_tableau.specs.Start.{added, without_repeats, denied, start}
 use Rattle.prover_search.proofs.ClauseLaws.{added-append}

@@ -10,7 +10,7 @@ use Rattle.type_check.proofs.DeclaredNames.{problem_of-declares}
 use Rattle.run_forms.specs.Forms.{first_unbuilt}
 use Rattle.run_forms.proofs.FormLaws.{built_formulas_are_propositional}
 use Rattle.satallax_top.specs.Runnable.{ArePrintable, names_in, IsRunnable}
-use Rattle.satallax_top.proofs.ProblemLaws.{runnable}
+use Rattle.satallax_top.proofs.RunnableLaws.{runnable}
 
 names_printable : (p : ReadProblem) → AllNames IsPrintable p.declared → ArePrintable (names_in p)
 names_printable p h = record {

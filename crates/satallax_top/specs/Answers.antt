@@ -18,14 +18,15 @@ use Rattle.prover_search.specs.Run.{IsProved, IsExhausted, IsStopped}
 use Rattle.refute_text.specs.Text.{text_lines, as_bytes}
 use Rattle.refute_text.specs.Named.{named_refutation}
 use Rattle.satallax_top.specs.Block.{end_mark, begins_with, has_line_feed}
-use Rattle.satallax_top.specs.Words.{problem_word}
-use Rattle.satallax_top.specs.Files.{OfFiles}
+use Rattle.satallax_top.specs.Words.{problem_word, check_word}
+use Rattle.satallax_top.specs.Files.{OfFiles, State}
+use Rattle.satallax_top.specs.Checked.{AnswersCheck}
 use Rattle.satallax_top.specs.Runnable.{names_in}
-use Rattle.satallax_top.specs.NormalQuestion.{normal_question}
-use Rattle.satallax_top.specs.declared.outcome.FileRef.TheVariants.{Part}
+use Rattle.refute_check.specs.NormalQuestion.{normal_question}
+use Rattle.satallax_top.specs.declared.outcome.FileRef.TheVariants.{Part, Check}
 use Rattle.satallax_top.specs.declared.outcome.IncludeWhy.TheVariants.{Cycle, NoSuchName, TooMany}
 use Rattle.satallax_top.specs.declared.outcome.Outcome.{Outcome}
-use Rattle.satallax_top.specs.declared.outcome.Outcome.TheVariants.{Theorem, Unsatisfiable, GaveUp, CommandLimit, SyntaxAt, TypeAt, IncludeAt, Words, TooLong, NotYetAt, ReadFault, WriteFault, Memory}
+use Rattle.satallax_top.specs.declared.outcome.Outcome.TheVariants.{Theorem, Unsatisfiable, GaveUp, CommandLimit, Accepted, SyntaxAt, TypeAt, IncludeAt, Words, TooLong, NotYetAt, ReadFault, WriteFault, Memory}
 
 -- The run over the problem ends after n commands, with a refutation that is accepted for its start, and whose lines are these.
 pub record IsProofOf (p : ReadProblem) (n : ℕ) (text : List ℕ) : Type 0 where
@@ -63,7 +64,7 @@ pub record IsUnbuiltAt (statements : List PlacedTree) (at : ℕ) : Type 0 where
   pub read : problem_of statements ≡ Ok problem
   pub unbuilt : first_unbuilt problem.declared.consts statements ≡ Some at
 
--- what the statements of a problem are answered with; want of memory may come anywhere
+-- what the statements of a problem are answered with, where it is to be proved; want of memory may come anywhere
 abbrev pub AnswersStatements : List PlacedTree → Outcome → ℕ → List ℕ → Type 0
 AnswersStatements ss Memory n text = Unit {0}
 AnswersStatements ss (TypeAt (Part file) at why) n text = problem_of ss ≡ Err (record { file = file; at = at; why = why })
@@ -89,25 +90,39 @@ refused_outcome (refusal.NoSuchName file at) = IncludeAt (Part file) at NoSuchNa
 refused_outcome (refusal.TooMany file at) = IncludeAt (Part file) at TooMany
 refused_outcome refusal.Memory = Memory
 
--- what the ending of a gathering is answered with
-abbrev pub AnswersEnding : Outcome → ℕ → List ℕ → Ending → Type 0
-AnswersEnding outcome n text (done ss) = AnswersStatements ss outcome n text
-AnswersEnding outcome n text (stopped s) = outcome ≡ stop_outcome s
+-- what the statements are answered with: where the words name a text it is checked, and otherwise the problem is to be proved
+abbrev pub AnswersAsked : Option (List ℕ) → Bool → (List ℕ → Option (List ℕ)) → Outcome → ℕ → List ℕ → List PlacedTree → Type 0
+AnswersAsked None told contents outcome n text ss = AnswersStatements ss outcome n text
+AnswersAsked (Some file) told contents outcome n text ss = AnswersCheck told contents file ss outcome
 
--- What a call answers with these words and contents: an outcome, the names of the files that were opened, a number of commands, and the
--- text of a refutation. Want of memory may come wherever the words name a file.
+-- what the ending of a gathering is answered with, where Asked says what statements are answered with
+abbrev pub AnswersEnding : (List PlacedTree → Type 0) → Outcome → Ending → Type 0
+AnswersEnding Asked outcome (done ss) = Asked ss
+AnswersEnding Asked outcome (stopped s) = outcome ≡ stop_outcome s
+
+-- What a call answers with these words and contents: an outcome, the names of the problem's files that were opened, a number of commands,
+-- and the text of a refutation. Want of memory may come wherever the words name a file.
 abbrev pub IsAnswer : List (List ℕ) → Bool → (List ℕ → Option (List ℕ)) → Outcome → List (List ℕ) → ℕ → List ℕ → Type 0
 IsAnswer words told contents Words names n text = problem_word words ≡ None
 IsAnswer words told contents Memory names n text = IsTrue (is_some (problem_word words))
 IsAnswer words told contents WriteFault names n text = ⊥
-IsAnswer words told contents outcome names n text = OfFiles words told contents names (AnswersEnding outcome n text)
+IsAnswer words told contents outcome names n text = OfFiles words told contents names (AnswersEnding (AnswersAsked (check_word words) told contents outcome n text) outcome)
 
--- File number k was to be read next, and the count of faults of its name rose.
+-- File number k of the problem was to be read next, and the count of faults of its name rose.
 pub record IsFaultOf (words : List (List ℕ)) (told : Bool) (contents : List ℕ → Option (List ℕ)) (before now : List ℕ → ℕ) (k : ℕ) : Type 0 where
   pub names : List (List ℕ)
   pub file : List ℕ
   pub name : slice_get names k ≡ Some file
   pub wanted : OfFiles words told contents names (λ ending. ending ≡ stopped (wants k))
+  pub rose : Rose (before file) (now file)
+
+-- The problem's files state a problem, the text that the words name was to be read next, and the count of faults of its name rose.
+pub record IsTextFault (words : List (List ℕ)) (told : Bool) (contents : List ℕ → Option (List ℕ)) (before now : List ℕ → ℕ) : Type 0 where
+  pub names : List (List ℕ)
+  pub problem : ReadProblem
+  pub stated : State words told contents names problem
+  pub file : List ℕ
+  pub name : check_word words ≡ Some file
   pub rose : Rose (before file) (now file)
 
 abbrev pub IsProvedOutcome : Outcome → Type 0

@@ -16,10 +16,10 @@ use Rattle.refute_text.specs.Text.{text_lines, as_bytes}
 use Rattle.refute_text.specs.Named.{named_refutation}
 use Rattle.satallax_top.specs.Block.{HoldsText}
 use Rattle.satallax_top.specs.Report.{report}
-use Rattle.satallax_top.specs.Words.{name_of}
+use Rattle.satallax_top.specs.Words.{name_of, text_name_of}
 use Rattle.satallax_top.specs.Files.{State}
 use Rattle.satallax_top.specs.Runnable.{names_in}
-use Rattle.satallax_top.specs.NormalQuestion.{normal_question}
+use Rattle.refute_check.specs.NormalQuestion.{normal_question}
 use Rattle.satallax_top.specs.Answers.{IsAnswer}
 use Rattle.satallax_top.specs.declared.outcome.Outcome.{Outcome}
 use Rattle.satallax_top.specs.declared.outcome.Outcome.TheVariants.{WriteFault}
@@ -45,7 +45,7 @@ pub record IsProofReport (words : List (List ℕ)) (told : Bool) (contents : Lis
   pub commands : ℕ
   pub proved : IsProved (start (normal_question problem)) MAX_COMMANDS commands
   pub refutation : Refutation
-  pub is_report : written ≡ report outcome (name_of words) names commands (as_bytes (text_lines (named_refutation (names_in problem) refutation)))
+  pub is_report : written ≡ report outcome (name_of words) names (text_name_of words) commands (as_bytes (text_lines (named_refutation (names_in problem) refutation)))
   pub holds_text : HoldsText (names_in problem) written refutation
   pub accepted : IsAccepted (question_of problem).scope (start (normal_question problem)) refutation
   pub closed : Closes (with_rows (question_of problem).scope refutation.witnesses) refutation.witnesses (tableau_of refutation) (start (normal_question problem))
@@ -63,7 +63,7 @@ pub record IsReported (words : List (List ℕ)) (told : Bool) (contents : List �
   pub commands : ℕ
   pub text : List ℕ
   pub is_answer : IsAnswer words told contents outcome names commands text
-  pub is_report : written ≡ report outcome (name_of words) names commands text
+  pub is_report : written ≡ report outcome (name_of words) names (text_name_of words) commands text
 
 -- a write failed: a proper front of the report of an answer was written
 pub record IsCutShort (words : List (List ℕ)) (told : Bool) (contents : List ℕ → Option (List ℕ)) (old new : List ℕ) : Type 0 where

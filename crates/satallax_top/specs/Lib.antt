@@ -1,9 +1,9 @@
 pub mod Words
 pub mod Files
-pub mod NormalQuestion
 pub mod Runnable
 pub mod Block
 pub mod Status
 pub mod Report
+pub mod Checked
 pub mod Answers
 pub mod Headline

@@ -1,15 +1,17 @@
 -- What is written at the end of a call (Sutcliffe, The SZS ontologies for automated reasoning software, 2008).
 use Rattle.std.specs.Prelude.{ℕ, List, [], ◌∷◌, ◌++◌, codes, decimal, slice_get, unwrap_or}
+use Rattle.stt_tableau.specs.declared.refutation.Why.{Why}
+use Rattle.stt_tableau.specs.declared.refutation.Why.TheVariants as cause
 use Rattle.refute_text.specs.Text.{as_bytes}
 use Rattle.type_check.specs.declared.refusal.IllWhy.{IllWhy}
 use Rattle.type_check.specs.declared.refusal.IllWhy.TheVariants.{Unknown, Twice, Mismatch, NotFormula, SecondConjecture, RoleUnknown, LeftOut}
 use Rattle.satallax_top.specs.Block.{start_mark, end_mark}
 use Rattle.satallax_top.specs.declared.outcome.FileRef.{FileRef}
-use Rattle.satallax_top.specs.declared.outcome.FileRef.TheVariants.{Part}
+use Rattle.satallax_top.specs.declared.outcome.FileRef.TheVariants.{Part, Check}
 use Rattle.satallax_top.specs.declared.outcome.IncludeWhy.{IncludeWhy}
 use Rattle.satallax_top.specs.declared.outcome.IncludeWhy.TheVariants.{Cycle, NoSuchName, TooMany}
 use Rattle.satallax_top.specs.declared.outcome.Outcome.{Outcome}
-use Rattle.satallax_top.specs.declared.outcome.Outcome.TheVariants.{Theorem, Unsatisfiable, GaveUp, CommandLimit, SyntaxAt, TypeAt, IncludeAt, Words, TooLong, NotYetAt, ReadFault, WriteFault, Memory}
+use Rattle.satallax_top.specs.declared.outcome.Outcome.TheVariants.{Theorem, Unsatisfiable, GaveUp, CommandLimit, Accepted, Refused, SyntaxAt, TypeAt, IncludeAt, Words, TooLong, NotYetAt, ReadFault, WriteFault, Memory}
 
 -- the two lines at the head of most reports
 abbrev pub headed : List ℕ → List ℕ → List ℕ → List ℕ → List ℕ
@@ -23,9 +25,10 @@ counted_report status name count text =
 abbrev pub proof_report : List ℕ → List ℕ → ℕ → List ℕ → List ℕ
 proof_report status name n text = counted_report status name (decimal n) text
 
--- the name of a file, as it was opened
-abbrev pub file_name : List (List ℕ) → FileRef → List ℕ
-file_name names (Part k) = unwrap_or (slice_get names k) []
+-- the name of a file, as it was opened: one of the problem's, or the checked text's
+abbrev pub file_name : List (List ℕ) → List ℕ → FileRef → List ℕ
+file_name names checked (Part k) = unwrap_or (slice_get names k) []
+file_name names checked Check = checked
 
 -- a place of a file
 abbrev pub place_in : List ℕ → ℕ → List ℕ
@@ -45,23 +48,40 @@ include_word Cycle = codes "cycle"
 include_word NoSuchName = codes "noname"
 include_word TooMany = codes "toomany"
 
+-- why a refutation isn't accepted
+abbrev pub why_word : Why → List ℕ
+why_word cause.Form = codes "form"
+why_word cause.Start = codes "start"
+why_word cause.End = codes "end"
+why_word cause.Typing = codes "type"
+why_word cause.Twice = codes "twice"
+why_word cause.Principal = codes "principal"
+why_word cause.Child = codes "child"
+why_word cause.Last = codes "last"
+
+-- the report of a refutation's text that is refused at a line
+abbrev pub refused_report : List ℕ → List ℕ → List ℕ → List ℕ
+refused_report name line word = as_bytes ((codes "% refutation refused for " ++ (name ++ (codes " line " ++ (line ++ (codes " " ++ word))))) ∷ [])
+
 -- a place of a file, and why it is refused
 abbrev pub refused_in : List ℕ → ℕ → List ℕ → List ℕ
 refused_in file at why = place_in file at ++ (codes " " ++ why)
 
--- The report of an outcome, for the problem's name, the names of its files in the order in which they were opened, a number of commands,
--- and the text of a refutation.
-abbrev pub report : Outcome → List ℕ → List (List ℕ) → ℕ → List ℕ → List ℕ
-report Theorem name names n text = proof_report (codes "% SZS status Theorem for ") name n text
-report Unsatisfiable name names n text = proof_report (codes "% SZS status Unsatisfiable for ") name n text
-report GaveUp name names n text = headed (codes "% SZS status GaveUp for ") name (codes "% commands ") (decimal n)
-report (CommandLimit m) name names n text = headed (codes "% SZS status ResourceOut for ") name (codes "% command limit ") (decimal m)
-report (SyntaxAt file at) name names n text = headed (codes "% SZS status SyntaxError for ") name (codes "% syntax ") (place_in (file_name names file) at)
-report (TypeAt file at why) name names n text = headed (codes "% SZS status InputError for ") name (codes "% type ") (refused_in (file_name names file) at (ill_word why))
-report (IncludeAt file at why) name names n text = headed (codes "% SZS status InputError for ") name (codes "% include ") (refused_in (file_name names file) at (include_word why))
-report Words name names n text = codes "% usage: satallax [--mode FILE] [--check FILE] [--demo N] PROBLEM\n"
-report (TooLong file) name names n text = headed (codes "% SZS status InputError for ") name (codes "% too long ") (file_name names file)
-report (NotYetAt at) name names n text = headed (codes "% SZS status GaveUp for ") name (codes "% not yet ") (decimal at)
-report (ReadFault file) name names n text = headed (codes "% SZS status InputError for ") name (codes "% read fault ") (file_name names file)
-report WriteFault name names n text = []
-report Memory name names n text = headed (codes "% SZS status ResourceOut for ") name (codes "% memory") []
+-- The report of an outcome, for the problem's name, the names of its files in the order in which they were opened, the name of the text
+-- that is checked, a number of commands, and the text of a refutation.
+abbrev pub report : Outcome → List ℕ → List (List ℕ) → List ℕ → ℕ → List ℕ → List ℕ
+report Theorem name names checked n text = proof_report (codes "% SZS status Theorem for ") name n text
+report Unsatisfiable name names checked n text = proof_report (codes "% SZS status Unsatisfiable for ") name n text
+report GaveUp name names checked n text = headed (codes "% SZS status GaveUp for ") name (codes "% commands ") (decimal n)
+report (CommandLimit m) name names checked n text = headed (codes "% SZS status ResourceOut for ") name (codes "% command limit ") (decimal m)
+report Accepted name names checked n text = as_bytes ((codes "% refutation accepted for " ++ name) ∷ [])
+report (Refused line why) name names checked n text = refused_report name (decimal line) (why_word why)
+report (SyntaxAt file at) name names checked n text = headed (codes "% SZS status SyntaxError for ") name (codes "% syntax ") (place_in (file_name names checked file) at)
+report (TypeAt file at why) name names checked n text = headed (codes "% SZS status InputError for ") name (codes "% type ") (refused_in (file_name names checked file) at (ill_word why))
+report (IncludeAt file at why) name names checked n text = headed (codes "% SZS status InputError for ") name (codes "% include ") (refused_in (file_name names checked file) at (include_word why))
+report Words name names checked n text = codes "% usage: satallax [--mode FILE] [--check FILE] [--demo N] PROBLEM\n"
+report (TooLong file) name names checked n text = headed (codes "% SZS status InputError for ") name (codes "% too long ") (file_name names checked file)
+report (NotYetAt at) name names checked n text = headed (codes "% SZS status GaveUp for ") name (codes "% not yet ") (decimal at)
+report (ReadFault file) name names checked n text = headed (codes "% SZS status InputError for ") name (codes "% read fault ") (file_name names checked file)
+report WriteFault name names checked n text = []
+report Memory name names checked n text = headed (codes "% SZS status ResourceOut for ") name (codes "% memory") []

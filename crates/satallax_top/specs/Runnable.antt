@@ -7,7 +7,7 @@ use Rattle.type_check.specs.Statements.{ReadProblem}
 use Rattle.type_check.specs.TypedProblem.{question_of, IsTyped}
 use Rattle.refute_text.specs.Named.{Names, names_of}
 use Rattle.prover_search.specs.Searched.{ArePropositional, AreDifferent}
-use Rattle.satallax_top.specs.NormalQuestion.{normal_question}
+use Rattle.refute_check.specs.NormalQuestion.{normal_question}
 
 -- the names that a problem declares, as the texts of refutations have them
 abbrev pub names_in : ReadProblem → Names

@@ -1,6 +1,7 @@
 //! The whole prover as one call.
 #![tactic(auto)]
 
+mod check;
 mod law;
 mod outcome;
 mod report;
@@ -10,7 +11,7 @@ mod text;
 mod top;
 mod words;
 
-pub use law::propositional_formulas_are_normal;
+pub use law::{one_check, propositional_formulas_are_normal};
 pub use outcome::{FileRef, IncludeWhy, Outcome};
 pub use top::satallax;
 pub use words::Words;

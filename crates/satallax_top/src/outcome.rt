@@ -3,6 +3,7 @@
 ghost use Rattle.std.specs.Prelude.{◌≡◌};
 ghost use Rattle.satallax_top.specs.Status.{status_of};
 
+use stt_tableau::Why;
 use type_check::IllWhy;
 
 /// A file that a call reads: the files of the problem are numbered from 0 in the order in which they are opened, and the problem itself is
@@ -10,6 +11,8 @@ use type_check::IllWhy;
 #[derive(Clone, Copy, Debug, PartialEq, Eq)]
 pub enum FileRef {
     Part(u32),
+    /// The text of a refutation that is checked.
+    Check,
 }
 
 /// Why an include isn't followed.
@@ -36,6 +39,13 @@ pub enum Outcome {
     CommandLimit {
         commands: u32,
     },
+    /// The refutation's text is accepted for the problem.
+    Accepted,
+    /// The refutation's text fails first at this line, counted from 1.
+    Refused {
+        line: usize,
+        why: Why,
+    },
     /// The file's tokens are wrong at this one, or too much is open there.
     SyntaxAt {
         file: FileRef,
@@ -53,9 +63,9 @@ pub enum Outcome {
         at: u32,
         why: IncludeWhy,
     },
-    /// The words aren't one name of a file.
+    /// The words are neither one name of a file, nor `--check` and the names of two files.
     Words,
-    /// With this file, the files have more than 16,777,216 bytes together.
+    /// With this file, the problem's files have more than 16,777,216 bytes together, or the text that is checked has more of them.
     TooLong {
         file: FileRef,
     },
@@ -79,9 +89,10 @@ impl Outcome {
         ensures { result ≡ status_of self.now }
     {
         match self {
-            Outcome::Theorem | Outcome::Unsatisfiable => 0,
+            Outcome::Theorem | Outcome::Unsatisfiable | Outcome::Accepted => 0,
             Outcome::GaveUp => 1,
             Outcome::CommandLimit { .. } => 2,
+            Outcome::Refused { .. } => 4,
             Outcome::SyntaxAt { .. } => 10,
             Outcome::TypeAt { .. } => 11,
             Outcome::IncludeAt { .. } => 12,

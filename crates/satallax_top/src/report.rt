@@ -1,13 +1,15 @@
 //! Writes the report of a call. It takes no memory.
 
-ghost use Rattle.std.specs.Prelude.{◌≡◌, ◌≤◌, ◌++◌, List, ℕ, OnOk, OnErr, IsTrue, codes, decimal};
+ghost use Rattle.std.specs.Prelude.{◌≡◌, ◌≤◌, ◌++◌, [], ◌∷◌, List, ℕ, OnOk, OnErr, IsTrue, codes, decimal, slice_get, unwrap_or};
 ghost use Rattle.outside.specs.Causes.{Rose};
 ghost use Rattle.outside.specs.Prefix.{AppendsProperly};
-ghost use Rattle.satallax_top.specs.Report.{headed, counted_report, proof_report, file_name, place_in, ill_word, include_word, refused_in, report};
+ghost use Rattle.refute_text.specs.Text.{as_bytes};
+ghost use Rattle.satallax_top.specs.Report.{headed, counted_report, proof_report, file_name, place_in, ill_word, include_word, why_word, refused_report, refused_in, report};
 
 use crate::outcome::{FileRef, IncludeWhy, Outcome};
 use itoa::Buffer;
 use outside::{Failed, Sink, write_all_counted, write_pieces};
+use stt_tableau::Why;
 use thf_include::FileNames;
 use type_check::IllWhy;
 
@@ -140,15 +142,39 @@ fn include_word(why: IncludeWhy) -> &'static [u8]
     }
 }
 
-/// The name of a file, as it was opened.
-fn file_name(names: &FileNames, file: FileRef) -> &[u8]
-    ensures { result.now ≡ file_name names.now file }
+fn why_word(why: Why) -> &'static [u8]
+    ensures { result.now ≡ why_word why }
 {
-    let FileRef::Part(k) = file;
+    match why {
+        Why::Form => b"form",
+        Why::Start => b"start",
+        Why::End => b"end",
+        Why::Typing => b"type",
+        Why::Twice => b"twice",
+        Why::Principal => b"principal",
+        Why::Child => b"child",
+        Why::Last => b"last",
+    }
+}
+
+/// The name of a file of the problem, as it was opened.
+fn part_name(names: &FileNames, k: u32) -> &[u8]
+    ensures { result.now ≡ unwrap_or (slice_get names.now k) [] }
+{
     if (k as usize) < names.len() {
         names.get(k as usize)
     } else {
         b""
+    }
+}
+
+/// The name of a file, as it was opened.
+fn file_name<'a>(names: &'a FileNames, checked: &'a [u8], file: FileRef) -> &'a [u8]
+    ensures { result.now ≡ file_name names.now checked.now file }
+{
+    match file {
+        FileRef::Part(k) => part_name(names, k),
+        FileRef::Check => checked,
     }
 }
 
@@ -176,19 +202,20 @@ fn write_syntax<S: Sink>(
     out: &mut S,
     name: &[u8],
     names: &FileNames,
+    checked: &[u8],
     file: FileRef,
     at: u32,
 ) -> Result<(), Failed>
     ensures appended { OnOk result (IsTrue (S.tells out.old)
-        → S.written out.new ≡ S.written out.old ++ headed (codes "% SZS status SyntaxError for ") name.now (codes "% syntax ") (place_in (file_name names.now file) at)) }
+        → S.written out.new ≡ S.written out.old ++ headed (codes "% SZS status SyntaxError for ") name.now (codes "% syntax ") (place_in (file_name names.now checked.now file) at)) }
     ensures failed { OnErr result (IsTrue (S.tells out.old)
-        → AppendsProperly (S.written out.old) (S.written out.new) (headed (codes "% SZS status SyntaxError for ") name.now (codes "% syntax ") (place_in (file_name names.now file) at))) }
+        → AppendsProperly (S.written out.old) (S.written out.new) (headed (codes "% SZS status SyntaxError for ") name.now (codes "% syntax ") (place_in (file_name names.now checked.now file) at))) }
     ensures cause { OnErr result (Rose (S.faults out.old) (S.faults out.new)) }
     ensures later { S.faults out.old ≤ S.faults out.new }
 {
     let mut buffer = Buffer::new();
     let digits = buffer.format(at).as_bytes();
-    let file = file_name(names, file);
+    let file = file_name(names, checked, file);
     write_place(out, SYNTAX_ERROR, name, b"% syntax ", file, digits)
 }
 
@@ -251,18 +278,19 @@ fn write_ill<S: Sink>(
     out: &mut S,
     name: &[u8],
     names: &FileNames,
+    checked: &[u8],
     file: FileRef,
     at: u32,
     why: IllWhy,
 ) -> Result<(), Failed>
     ensures appended { OnOk result (IsTrue (S.tells out.old)
-        → S.written out.new ≡ S.written out.old ++ headed (codes "% SZS status InputError for ") name.now (codes "% type ") (refused_in (file_name names.now file) at (ill_word why))) }
+        → S.written out.new ≡ S.written out.old ++ headed (codes "% SZS status InputError for ") name.now (codes "% type ") (refused_in (file_name names.now checked.now file) at (ill_word why))) }
     ensures failed { OnErr result (IsTrue (S.tells out.old)
-        → AppendsProperly (S.written out.old) (S.written out.new) (headed (codes "% SZS status InputError for ") name.now (codes "% type ") (refused_in (file_name names.now file) at (ill_word why)))) }
+        → AppendsProperly (S.written out.old) (S.written out.new) (headed (codes "% SZS status InputError for ") name.now (codes "% type ") (refused_in (file_name names.now checked.now file) at (ill_word why)))) }
     ensures cause { OnErr result (Rose (S.faults out.old) (S.faults out.new)) }
     ensures later { S.faults out.old ≤ S.faults out.new }
 {
-    let file = file_name(names, file);
+    let file = file_name(names, checked, file);
     write_refused(out, name, b"% type ", file, at, ill_word(why))
 }
 
@@ -271,18 +299,19 @@ fn write_include<S: Sink>(
     out: &mut S,
     name: &[u8],
     names: &FileNames,
+    checked: &[u8],
     file: FileRef,
     at: u32,
     why: IncludeWhy,
 ) -> Result<(), Failed>
     ensures appended { OnOk result (IsTrue (S.tells out.old)
-        → S.written out.new ≡ S.written out.old ++ headed (codes "% SZS status InputError for ") name.now (codes "% include ") (refused_in (file_name names.now file) at (include_word why))) }
+        → S.written out.new ≡ S.written out.old ++ headed (codes "% SZS status InputError for ") name.now (codes "% include ") (refused_in (file_name names.now checked.now file) at (include_word why))) }
     ensures failed { OnErr result (IsTrue (S.tells out.old)
-        → AppendsProperly (S.written out.old) (S.written out.new) (headed (codes "% SZS status InputError for ") name.now (codes "% include ") (refused_in (file_name names.now file) at (include_word why)))) }
+        → AppendsProperly (S.written out.old) (S.written out.new) (headed (codes "% SZS status InputError for ") name.now (codes "% include ") (refused_in (file_name names.now checked.now file) at (include_word why)))) }
     ensures cause { OnErr result (Rose (S.faults out.old) (S.faults out.new)) }
     ensures later { S.faults out.old ≤ S.faults out.new }
 {
-    let file = file_name(names, file);
+    let file = file_name(names, checked, file);
     write_refused(out, name, b"% include ", file, at, include_word(why))
 }
 
@@ -292,31 +321,94 @@ fn write_file<S: Sink>(
     name: &[u8],
     word: &[u8],
     names: &FileNames,
+    checked: &[u8],
     file: FileRef,
 ) -> Result<(), Failed>
     ensures appended { OnOk result (IsTrue (S.tells out.old)
-        → S.written out.new ≡ S.written out.old ++ headed (codes "% SZS status InputError for ") name.now word.now (file_name names.now file)) }
+        → S.written out.new ≡ S.written out.old ++ headed (codes "% SZS status InputError for ") name.now word.now (file_name names.now checked.now file)) }
     ensures failed { OnErr result (IsTrue (S.tells out.old)
-        → AppendsProperly (S.written out.old) (S.written out.new) (headed (codes "% SZS status InputError for ") name.now word.now (file_name names.now file))) }
+        → AppendsProperly (S.written out.old) (S.written out.new) (headed (codes "% SZS status InputError for ") name.now word.now (file_name names.now checked.now file))) }
     ensures cause { OnErr result (Rose (S.faults out.old) (S.faults out.new)) }
     ensures later { S.faults out.old ≤ S.faults out.new }
 {
-    write_headed(out, INPUT_ERROR, name, word, file_name(names, file))
+    write_headed(
+        out,
+        INPUT_ERROR,
+        name,
+        word,
+        file_name(names, checked, file),
+    )
 }
 
-/// Writes the report of an outcome, after so many commands, with the text of a refutation. The names are those of the problem's files.
+/// Writes the report of a text that is accepted.
+fn write_accepted<S: Sink>(out: &mut S, name: &[u8]) -> Result<(), Failed>
+    ensures appended { OnOk result (IsTrue (S.tells out.old)
+        → S.written out.new ≡ S.written out.old ++ as_bytes ((codes "% refutation accepted for " ++ name.now) ∷ [])) }
+    ensures failed { OnErr result (IsTrue (S.tells out.old)
+        → AppendsProperly (S.written out.old) (S.written out.new) (as_bytes ((codes "% refutation accepted for " ++ name.now) ∷ []))) }
+    ensures cause { OnErr result (Rose (S.faults out.old) (S.faults out.new)) }
+    ensures later { S.faults out.old ≤ S.faults out.new }
+{
+    write_pieces(out, &[b"% refutation accepted for ", name, b"\n"])
+}
+
+/// Writes the pieces of the report of a text that is refused at a line, in digits.
+fn write_refusal_pieces<S: Sink>(
+    out: &mut S,
+    name: &[u8],
+    line: &[u8],
+    word: &[u8],
+) -> Result<(), Failed>
+    ensures appended { OnOk result (IsTrue (S.tells out.old)
+        → S.written out.new ≡ S.written out.old ++ refused_report name.now line.now word.now) }
+    ensures failed { OnErr result (IsTrue (S.tells out.old)
+        → AppendsProperly (S.written out.old) (S.written out.new) (refused_report name.now line.now word.now)) }
+    ensures cause { OnErr result (Rose (S.faults out.old) (S.faults out.new)) }
+    ensures later { S.faults out.old ≤ S.faults out.new }
+{
+    write_pieces(
+        out,
+        &[
+            b"% refutation refused for ",
+            name,
+            b" line ",
+            line,
+            b" ",
+            word,
+            b"\n",
+        ],
+    )
+}
+
+/// Writes the report of a text that is refused at a line.
+fn write_refusal<S: Sink>(out: &mut S, name: &[u8], line: usize, why: Why) -> Result<(), Failed>
+    ensures appended { OnOk result (IsTrue (S.tells out.old)
+        → S.written out.new ≡ S.written out.old ++ refused_report name.now (decimal line) (why_word why)) }
+    ensures failed { OnErr result (IsTrue (S.tells out.old)
+        → AppendsProperly (S.written out.old) (S.written out.new) (refused_report name.now (decimal line) (why_word why))) }
+    ensures cause { OnErr result (Rose (S.faults out.old) (S.faults out.new)) }
+    ensures later { S.faults out.old ≤ S.faults out.new }
+{
+    let mut buffer = Buffer::new();
+    let digits = buffer.format(line).as_bytes();
+    write_refusal_pieces(out, name, digits, why_word(why))
+}
+
+/// Writes the report of an outcome, after so many commands, with the text of a refutation. The names are those of the problem's files
+/// and of the text that is checked.
 pub(crate) fn write_report<S: Sink>(
     out: &mut S,
     outcome: Outcome,
     name: &[u8],
     names: &FileNames,
+    checked: &[u8],
     commands: u32,
     text: &[u8],
 ) -> Result<(), Failed>
     ensures appended { OnOk result (IsTrue (S.tells out.old)
-        → S.written out.new ≡ S.written out.old ++ report outcome name.now names.now commands text.now) }
+        → S.written out.new ≡ S.written out.old ++ report outcome name.now names.now checked.now commands text.now) }
     ensures failed { OnErr result (IsTrue (S.tells out.old)
-        → AppendsProperly (S.written out.old) (S.written out.new) (report outcome name.now names.now commands text.now)) }
+        → AppendsProperly (S.written out.old) (S.written out.new) (report outcome name.now names.now checked.now commands text.now)) }
     ensures cause { OnErr result (Rose (S.faults out.old) (S.faults out.new)) }
     ensures later { S.faults out.old ≤ S.faults out.new }
 {
@@ -327,13 +419,24 @@ pub(crate) fn write_report<S: Sink>(
         Outcome::CommandLimit { commands: limit } => {
             write_numbered(out, RESOURCE_OUT, name, b"% command limit ", limit)
         }
-        Outcome::SyntaxAt { file, at } => write_syntax(out, name, names, file, at),
-        Outcome::TypeAt { file, at, why } => write_ill(out, name, names, file, at, why),
-        Outcome::IncludeAt { file, at, why } => write_include(out, name, names, file, at, why),
+        Outcome::Accepted => write_accepted(out, name),
+        Outcome::Refused { line, why } => write_refusal(out, name, line, why),
+        Outcome::SyntaxAt { file, at } => write_syntax(out, name, names, checked, file, at),
+        Outcome::TypeAt { file, at, why } => write_ill(out, name, names, checked, file, at, why),
+        Outcome::IncludeAt { file, at, why } => write_include(
+            out, name, names, checked, file, at, why,
+        ),
         Outcome::Words => write_all_counted(out, USAGE),
-        Outcome::TooLong { file } => write_file(out, name, b"% too long ", names, file),
+        Outcome::TooLong { file } => write_file(out, name, b"% too long ", names, checked, file),
         Outcome::NotYetAt { at } => write_numbered(out, GAVE_UP, name, b"% not yet ", at),
-        Outcome::ReadFault { file } => write_file(out, name, b"% read fault ", names, file),
+        Outcome::ReadFault { file } => write_file(
+            out,
+            name,
+            b"% read fault ",
+            names,
+            checked,
+            file,
+        ),
         Outcome::WriteFault => Ok(()),
         Outcome::Memory => write_headed(out, RESOURCE_OUT, name, b"% memory", b""),
     }

@@ -9,7 +9,7 @@ ghost use Rattle.type_check.specs.Statements.{problem_of};
 ghost use Rattle.type_check.specs.TypedProblem.{AllDeclared};
 ghost use Rattle.prover_search.specs.Ended.{EndsAs};
 ghost use Rattle.prover_search.specs.declared.commands.TheConstants.{MAX_COMMANDS};
-ghost use Rattle.satallax_top.specs.NormalQuestion.{normal_question};
+ghost use Rattle.refute_check.specs.NormalQuestion.{normal_question};
 ghost use Rattle.satallax_top.specs.Runnable.{IsRunnable};
 ghost use Rattle.satallax_top.specs.Answers.{IsProvedFor, IsSolvedFor, AnswersStatements};
 

@@ -9,7 +9,7 @@ ghost use Rattle.stt_tableau.specs.Literals.{literal};
 ghost use Rattle.stt_tableau.specs.Start.{without_repeats, start};
 ghost use Rattle.type_check.specs.Checks.{the_problem};
 ghost use Rattle.type_check.specs.TypedProblem.{question_of, IsFormula, AreFormulas, IsTyped};
-ghost use Rattle.satallax_top.specs.NormalQuestion.{normal_question};
+ghost use Rattle.refute_check.specs.NormalQuestion.{normal_question};
 
 use prover_search::add;
 use std::alloc::{AllocError, Global};

@@ -2,11 +2,12 @@
 
 ghost use Rattle.std.specs.Prelude.{◌≡◌, ◌≤◌, ◌++◌, ℕ, List, [], IsTrue, Some, None};
 ghost use Rattle.outside.specs.Causes.{Rose};
-ghost use Rattle.satallax_top.specs.Answers.{refused_outcome, IsAnswer, IsFaultOf, IsProvedOutcome, IsDefined};
+ghost use Rattle.satallax_top.specs.Answers.{refused_outcome, IsAnswer, IsFaultOf, IsTextFault, IsProvedOutcome, IsDefined};
 ghost use Rattle.satallax_top.specs.Headline.{HasNoModel, IsProofReport, Appends, IsWritten, IsOutcome};
 ghost use Rattle.satallax_top.specs.Words.{problem_word};
-ghost use Rattle.satallax_top.specs.declared.outcome.FileRef.TheVariants.{Part};
+ghost use Rattle.satallax_top.specs.declared.outcome.FileRef.TheVariants.{Part, Check};
 
+use crate::check::check_statements;
 use crate::outcome::{FileRef, IncludeWhy, Outcome};
 use crate::report::write_report;
 use crate::solve::{Answer, solve};
@@ -47,31 +48,39 @@ fn include_at(file: u32, at: u32, why: IncludeWhy) -> Outcome
     }
 }
 
-/// The answer of a call, before it is reported. The names are those of the files that are opened.
+/// The answer of a call, before it is reported. The names are those of the problem's files that are opened.
 fn answer<F: Files>(alloc: Global, words: &Words, files: &mut F, names: &mut FileNames) -> Answer
     requires { names.old ≡ [] }
     ensures answer { IsAnswer words.now (F.tells files.old) (F.contents files.old) result.outcome names.new result.commands result.text }
     ensures read { (k : ℕ) → result.outcome ≡ Outcome.ReadFault (Part k)
         → IsFaultOf words.now (F.tells files.old) (F.contents files.old) (F.faults files.old) (F.faults files.new) k }
+    ensures text_read { result.outcome ≡ Outcome.ReadFault Check
+        → IsTextFault words.now (F.tells files.old) (F.contents files.old) (F.faults files.old) (F.faults files.new) }
 {
     let Some(name) = words.problem() else {
         return Answer::plain(alloc, Outcome::Words, 0);
     };
     match gather(alloc, files, names, name) {
-        Ok(gathered) => solve(alloc, &gathered),
+        Ok(gathered) => match words.checked() {
+            None => solve(alloc, &gathered),
+            Some(text) => {
+                let outcome = check_statements(alloc, files, &gathered, text);
+                Answer::plain(alloc, outcome, 0)
+            }
+        },
         Err(refused) => Answer::plain(alloc, refused_outcome(refused), 0),
     }
 }
 
-/// Proves the problem that the words name, and writes the report. The words are those behind the program's name. All is built before the
-/// first byte is written, and from then on no memory is taken.
+/// Proves the problem that the words name, or checks the text of a refutation against it, and writes the report. The words are those
+/// behind the program's name. All is built before the first byte is written, and from then on no memory is taken.
 pub fn satallax<F: Files, S: Sink>(
     alloc: Global,
     words: &Words,
     files: &mut F,
     out: &mut S,
 ) -> Outcome
-    // The outcome is an answer for these words and for the contents of the problem's files.
+    // The outcome is an answer for these words and for the contents of the problem's files, and of the text's where one is checked.
     ensures outcome { IsOutcome words.now (F.tells files.old) (F.contents files.old) result }
 
     // What is written is the report of the outcome, or where a write failed a proper front of the report of an answer.
@@ -83,13 +92,18 @@ pub fn satallax<F: Files, S: Sink>(
         → Appends (S.written out.old) (S.written out.new) (IsProofReport words.now (F.tells files.old) (F.contents files.old) result) }
     ensures no_model { IsProvedOutcome result → HasNoModel words.now (F.tells files.old) (F.contents files.old) }
 
+    // Where a text is accepted, no model meets the problem.
+    ensures accepted_no_model { result ≡ Outcome.Accepted → HasNoModel words.now (F.tells files.old) (F.contents files.old) }
+
     // The causes of what doesn't hang on contents.
     ensures words { result ≡ Outcome.Words → problem_word words.now ≡ None }
     ensures read { (k : ℕ) → result ≡ Outcome.ReadFault (Part k)
         → IsFaultOf words.now (F.tells files.old) (F.contents files.old) (F.faults files.old) (F.faults files.new) k }
+    ensures text_read { result ≡ Outcome.ReadFault Check
+        → IsTextFault words.now (F.tells files.old) (F.contents files.old) (F.faults files.old) (F.faults files.new) }
     ensures write { result ≡ Outcome.WriteFault → Rose (S.faults out.old) (S.faults out.new) }
 
-    // Where the words name a file, contents are told and no count of faults rises, the outcome is the defined one, or memory ran out.
+    // Where the words name a problem, contents are told and no count of faults rises, the outcome is the defined one, or memory ran out.
     ensures complete { IsTrue (F.tells files.old) → (name : List ℕ) → problem_word words.now ≡ Some name
         → ((file : List ℕ) → Rose (F.faults files.old file) (F.faults files.new file) → ⊥)
         → (Rose (S.faults out.old) (S.faults out.new) → ⊥)
@@ -98,8 +112,17 @@ pub fn satallax<F: Files, S: Sink>(
     let mut names = FileNames::new(alloc);
     let answer = answer(alloc, words, files, &mut names);
     let name = words.name().as_bytes();
+    let checked = words.text_name().as_bytes();
     let text = answer.text.as_slice();
-    match write_report(out, answer.outcome, name, &names, answer.commands, text) {
+    match write_report(
+        out,
+        answer.outcome,
+        name,
+        &names,
+        checked,
+        answer.commands,
+        text,
+    ) {
         Ok(()) => answer.outcome,
         Err(Failed) => Outcome::WriteFault,
     }

@@ -1,8 +1,8 @@
 //! The words of the command line.
 
-ghost use Rattle.std.specs.Prelude.{◌≡◌, [], ◌∷◌, ◌++◌, OnOk, OnErr, option_map};
+ghost use Rattle.std.specs.Prelude.{◌≡◌, [], ◌∷◌, ◌++◌, OnOk, OnErr, option_map, Some, None, if◌then◌else◌};
 ghost use Rattle.std.specs.List.{list_any};
-ghost use Rattle.satallax_top.specs.Words.{is_control, is_file_name, is_option, problem_word, name_of};
+ghost use Rattle.satallax_top.specs.Words.{is_control, is_file_name, is_option, names_file, asks_check, problem_word, check_word, name_of, text_name_of};
 
 use std::alloc::{AllocError, Global};
 use std::marker::Model;
@@ -43,6 +43,26 @@ fn is_option(word: &str) -> bool
     }
 }
 
+fn names_file(word: &str) -> bool
+    ensures { result ≡ names_file word.now }
+{
+    is_file_name(word) && !is_option(word)
+}
+
+/// Whether the words ask for the check of a text against a problem.
+fn asks_check(option: &str, text: &str, problem: &str) -> bool
+    ensures { result ≡ asks_check option.now text.now problem.now }
+{
+    option == "--check" && names_file(text) && names_file(problem)
+}
+
+/// The word, where the condition holds.
+fn where_true(holds: bool, word: &str) -> Option<&str>
+    ensures { option_map (λ w. w.now) result ≡ (if holds then Some word.now else None) }
+{
+    if holds { Some(word) } else { None }
+}
+
 impl Words {
     pub fn new(alloc: Global) -> Self
         ensures { result ≡ [] }
@@ -62,15 +82,36 @@ impl Words {
         Ok(())
     }
 
-    /// The problem's name, where the words are one name of a file that doesn't begin with `-`.
+    /// The problem's name, where the words are the name of a file, or `--check` and the names of two files, of which the problem's is the
+    /// second. No name begins with `-`.
     pub fn problem(&self) -> Option<&str>
         ensures { option_map (λ name. name.now) result ≡ problem_word self.now }
     {
         match self.texts.as_slice() {
-            [word] if is_file_name(word.as_str()) && !is_option(word.as_str()) => {
-                Some(word.as_str())
-            }
-            _ => None,
+            [] => None,
+            [word] => where_true(names_file(word.as_str()), word.as_str()),
+            [_, _] => None,
+            [option, text, problem] => where_true(
+                asks_check(option.as_str(), text.as_str(), problem.as_str()),
+                problem.as_str(),
+            ),
+            [_, _, _, _, ..] => None,
+        }
+    }
+
+    /// The name of the text that is checked, where the words are `--check` and the names of two files, of which the text's is the first.
+    pub fn checked(&self) -> Option<&str>
+        ensures { option_map (λ name. name.now) result ≡ check_word self.now }
+    {
+        match self.texts.as_slice() {
+            [] => None,
+            [_] => None,
+            [_, _] => None,
+            [option, text, problem] => where_true(
+                asks_check(option.as_str(), text.as_str(), problem.as_str()),
+                text.as_str(),
+            ),
+            [_, _, _, _, ..] => None,
         }
     }
 
@@ -79,5 +120,12 @@ impl Words {
         ensures { result.now ≡ name_of self.now }
     {
         self.problem().unwrap_or("")
+    }
+
+    /// The name of the text that is checked, or nothing where none is.
+    pub(crate) fn text_name(&self) -> &str
+        ensures { result.now ≡ text_name_of self.now }
+    {
+        self.checked().unwrap_or("")
     }
 }

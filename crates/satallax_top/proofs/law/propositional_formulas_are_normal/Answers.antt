@@ -1,4 +1,4 @@
-use Rattle.satallax_top.proofs.ProblemLaws.{normal_question-propositional}
+use Rattle.satallax_top.proofs.RunnableLaws.{normal_question-propositional}
 use Rattle.satallax_top.proofs.law.propositional_formulas_are_normal.Goals as goal
 
 pub returns : goal.returns

@@ -3,7 +3,7 @@ use Rattle.stt_tableau.specs.Start.{start}
 use Rattle.type_check.specs.Checks.{the_problem}
 use Rattle.prover_search.specs.Ended.{EndsAs}
 use Rattle.prover_search.specs.declared.commands.TheConstants.{MAX_COMMANDS}
-use Rattle.satallax_top.specs.NormalQuestion.{normal_question}
+use Rattle.refute_check.specs.NormalQuestion.{normal_question}
 use Rattle.satallax_top.proofs.SolvedLaws.{run_named, proof_of_run, proved_for}
 use Rattle.satallax_top.proofs.solve.ended_answer.Goals as goal
 

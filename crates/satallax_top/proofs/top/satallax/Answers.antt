@@ -1,6 +1,6 @@
 use Rattle.std.proofs.Common.{◌∙◌}
-use Rattle.satallax_top.specs.Words.{name_of}
-use Rattle.satallax_top.proofs.HeadlineLaws.{written_whole, proof_appended, no_model_answer, defined_answer, report_at}
+use Rattle.satallax_top.specs.Words.{name_of, text_name_of}
+use Rattle.satallax_top.proofs.HeadlineLaws.{written_whole, proof_appended, no_model_answer, no_model_accepted, defined_answer, report_at}
 use Rattle.satallax_top.proofs.top.satallax.Goals as goal
 
 pub returns-in-Ok-clause-bytes : goal.returns-in-Ok-clause-bytes
@@ -8,22 +8,28 @@ returns-in-Ok-clause-bytes g c told =
     let a = c.answer-answer.result in
     let names = c.answer-answer.new.names in
     written_whole c.args.words.now (g.F.Files.tells c.args.files.now) (g.F.Files.contents c.args.files.now) a.outcome names a.commands a.text (g.S.Sink.written c.args.out.now) (g.S.Sink.written c.write_report.new.out) c.answer-answer.ensures.answer
-    (report_at a.outcome names a.commands c.as_bytes-name.result.now (name_of c.args.words.now) c.as_slice-text.result.now a.text (g.S.Sink.written c.args.out.now) (g.S.Sink.written c.write_report.new.out) (c.as_bytes-name.ensures.value ∙ c.name.ensures) c.as_slice-text.ensures (c.in-Ok.ensures.appended told))
+    (report_at a.outcome names a.commands c.as_bytes-name.result.now (name_of c.args.words.now) c.as_bytes-checked.result.now (text_name_of c.args.words.now) c.as_slice-text.result.now a.text (g.S.Sink.written c.args.out.now) (g.S.Sink.written c.write_report.new.out) (c.as_bytes-name.ensures.value ∙ c.name.ensures) (c.as_bytes-checked.ensures.value ∙ c.text_name.ensures) c.as_slice-text.ensures (c.in-Ok.ensures.appended told))
 
 pub returns-in-Ok-clause-proof : goal.returns-in-Ok-clause-proof
 returns-in-Ok-clause-proof g c told =
     let a = c.answer-answer.result in
     let names = c.answer-answer.new.names in
     proof_appended c.args.words.now (g.F.Files.tells c.args.files.now) (g.F.Files.contents c.args.files.now) a.outcome names a.commands a.text (g.S.Sink.written c.args.out.now) (g.S.Sink.written c.write_report.new.out) c.answer-answer.ensures.answer
-    (report_at a.outcome names a.commands c.as_bytes-name.result.now (name_of c.args.words.now) c.as_slice-text.result.now a.text (g.S.Sink.written c.args.out.now) (g.S.Sink.written c.write_report.new.out) (c.as_bytes-name.ensures.value ∙ c.name.ensures) c.as_slice-text.ensures (c.in-Ok.ensures.appended told))
+    (report_at a.outcome names a.commands c.as_bytes-name.result.now (name_of c.args.words.now) c.as_bytes-checked.result.now (text_name_of c.args.words.now) c.as_slice-text.result.now a.text (g.S.Sink.written c.args.out.now) (g.S.Sink.written c.write_report.new.out) (c.as_bytes-name.ensures.value ∙ c.name.ensures) (c.as_bytes-checked.ensures.value ∙ c.text_name.ensures) c.as_slice-text.ensures (c.in-Ok.ensures.appended told))
 
 pub returns-in-Ok-clause-no_model : goal.returns-in-Ok-clause-no_model
 returns-in-Ok-clause-no_model g c =
     let a = c.answer-answer.result in
     no_model_answer c.args.words.now (g.F.Files.tells c.args.files.now) (g.F.Files.contents c.args.files.now) a.outcome c.answer-answer.new.names a.commands a.text c.answer-answer.ensures.answer
 
+pub returns-in-Ok-clause-accepted_no_model : goal.returns-in-Ok-clause-accepted_no_model
+returns-in-Ok-clause-accepted_no_model g c =
+    let a = c.answer-answer.result in
+    no_model_accepted c.args.words.now (g.F.Files.tells c.args.files.now) (g.F.Files.contents c.args.files.now) a.outcome c.answer-answer.new.names a.commands a.text c.answer-answer.ensures.answer
+
 pub returns-in-Ok-clause-complete : goal.returns-in-Ok-clause-complete
 returns-in-Ok-clause-complete g c told name named quiet still =
     let a = c.answer-answer.result in
     defined_answer c.args.words.now (g.F.Files.tells c.args.files.now) (g.F.Files.contents c.args.files.now) a.outcome c.answer-answer.new.names a.commands a.text c.answer-answer.ensures.answer told name named
     (λ k e. let h = c.answer-answer.ensures.read k e in quiet h.file h.rose)
+    (λ e. let h = c.answer-answer.ensures.text_read e in quiet h.file h.rose)

@@ -1,0 +1,88 @@
+-- The start of a problem of names, falsity, negations and implications.
+use Rattle.std.proofs.Common.{◌≡◌, List, [], ◌∷◌, ◌++◌, map, Option, Some, None, option_map, IfSome, refl, sym, ap, ap₂, subst}
+use Rattle.std.specs.List.{AllByRecursion as Every}
+use Rattle.std.proofs.lemmas.List.Elements.{recursion_from_All}
+use Rattle.stt_core.specs.SimpleType.{formula}
+use Rattle.stt_core.specs.Lambda.{Lambda}
+use Rattle.stt_core.specs.Typing.{Scope}
+use Rattle.stt_core.specs.Canonical.{IsCanonical}
+use Rattle.stt_normal.proofs.EtaReplace.{normal_form-canonical}
+use Rattle.stt_tableau.specs.Literals.{Literal, opposite, literal}
+use Rattle.stt_tableau.specs.Start.{denied, start}
+use Rattle.type_check.specs.Statements.{ReadProblem}
+use Rattle.type_check.specs.TypedProblem.{question_of, IsFormula, AreFormulas, IsFormulaIfThere, IsTyped}
+use Rattle.run_forms.specs.Propositional.{AllPropositional}
+use Rattle.prover_search.specs.Searched.{IsPropositional, HasPropositionalAtom, ArePropositional}
+use Rattle.prover_search.proofs.SearchedLaws.{added-different}
+use Rattle.satallax_top.specs.Runnable.{ArePrintable, names_in, IsRunnable}
+use Rattle.refute_check.specs.NormalQuestion.{normal_in, normal_question}
+use Rattle.satallax_top.proofs.PropositionalLaws.{canonical-propositional, propositional-literal, unsigned-literal}
+use Rattle.satallax_top.proofs.ProblemLaws.{IfThere, every_start, start_typed}
+
+are_propositional : (ls : List Literal) → Every HasPropositionalAtom ls → ArePropositional ls
+are_propositional [] h = tt
+are_propositional (l ∷ ls) h = (h.0, are_propositional ls h.1)
+
+-- a typed formula that is run
+abbrev IsRunFormula : Scope → Lambda → Type 0
+IsRunFormula scope t = IsPropositional t × IsFormula scope t
+
+run_formulas : (scope : Scope) (ts : List Lambda) → Every IsPropositional ts → AreFormulas scope ts → Every (IsRunFormula scope) ts
+run_formulas scope [] h k = tt
+run_formulas scope (t ∷ ts) h k = ((h.0, k.0), run_formulas scope ts h.1 k.1)
+
+run_formula_if_there : (scope : Scope) (o : Option Lambda) → IfSome o IsPropositional → IsFormulaIfThere scope o → IfThere (IsRunFormula scope) o
+run_formula_if_there scope None h k = tt
+run_formula_if_there scope (Some t) h k = (h, k)
+
+module _ (p : ReadProblem) (typed : IsTyped (question_of p)) (g : AllPropositional p) where
+  assumed : Every (IsRunFormula (question_of p).scope) p.assumed
+  assumed = run_formulas (question_of p).scope p.assumed (recursion_from_All IsPropositional p.assumed g.assumed) typed.assumed
+
+  conjecture : IfThere (IsRunFormula (question_of p).scope) p.conjecture
+  conjecture = run_formula_if_there (question_of p).scope p.conjecture g.conjecture typed.conjecture
+
+  canonical : (t : Lambda) → IsRunFormula (question_of p).scope t → IsCanonical (question_of p).scope [] formula t
+  canonical t h = canonical-propositional (question_of p).scope t h.0 h.1
+
+  is_normal : (t : Lambda) → IsRunFormula (question_of p).scope t → normal_in p t ≡ t
+  is_normal t h = normal_form-canonical (question_of p).scope [] formula t (canonical t h)
+
+  are_normal : (ts : List Lambda) → Every (IsRunFormula (question_of p).scope) ts → map (normal_in p) ts ≡ ts
+  are_normal [] h = refl
+  are_normal (t ∷ ts) h = ap₂ (λ x xs. x ∷ xs) (is_normal t h.0) (are_normal ts h.1)
+
+  is_normal_if_there : (o : Option Lambda) → IfThere (IsRunFormula (question_of p).scope) o → option_map (normal_in p) o ≡ o
+  is_normal_if_there None h = refl
+  is_normal_if_there (Some t) h = ap Some (is_normal t h)
+
+  -- such formulas are their own normal forms
+  pub normal_question-propositional : normal_question p ≡ question_of p
+  normal_question-propositional =
+      ap₂ (λ ts o. record { scope = (question_of p).scope; assumed = ts; conjecture = o }) (are_normal p.assumed assumed) (is_normal_if_there p.conjecture conjecture)
+
+  normally : (P : List Literal → Type 0) → P (start (question_of p)) → P (start (normal_question p))
+  normally P = subst (λ q. P (start q)) (sym normal_question-propositional)
+
+  of_start : (P : Literal → Type 0) → ((t : Lambda) → IsRunFormula (question_of p).scope t → P (literal t)) → ((t : Lambda) → IsRunFormula (question_of p).scope t → P (opposite (literal t))) → Every P (start (question_of p))
+  of_start P f h = every_start (IsRunFormula (question_of p).scope) P f h (question_of p) assumed conjecture
+
+  -- the search takes the literals of the start
+  start_searched : ArePropositional (start (normal_question p))
+  start_searched = normally ArePropositional (are_propositional _ (of_start HasPropositionalAtom (λ t h. taken t h.0) (λ t h. taken-opposite t h.0)))
+    where
+      taken : (t : Lambda) → IsPropositional t → HasPropositionalAtom (literal t)
+      taken t h = record { formula = propositional-literal t h; unsigned = unsigned-literal t }
+
+      taken-opposite : (t : Lambda) → IsPropositional t → HasPropositionalAtom (opposite (literal t))
+      taken-opposite t h = record { formula = propositional-literal t h; unsigned = unsigned-literal t }
+
+  -- such a problem is run, where its names are printable
+  pub runnable : ArePrintable (names_in p) → IsRunnable p
+  runnable printable = record {
+    formulas = typed;
+    printable = printable;
+    searched = start_searched;
+    different = added-different [] (map literal (normal_question p).assumed ++ denied (normal_question p).conjecture) tt;
+    typed = start_typed p typed;
+  }
