@@ -81,8 +81,8 @@ pub enum Surface {
         arg: Box<Surface>,
     },
     Bind {
-        at: u32,
         binder: Binder,
+        at: u32,
         vars: SurfaceVars,
         body: Box<Surface>,
     },
