@@ -80,6 +80,7 @@ pub enum Surface {
         all: bool,
         arg: Box<Surface>,
     },
+    /// A binder's formula. The binder stands before the place, beside the variant's tag, which makes formulas smaller.
     Bind {
         binder: Binder,
         at: u32,
