@@ -101,10 +101,14 @@ impl TextTerms {
         }
     }
 
+    /// Most terms with arguments have one or two, so that room for one is taken at first.
     pub fn push(&mut self, term: TextTerm) -> Result<(), AllocError>
         ensures ok { OnOk result (self.new ≡ self.old ++ term ∷ []) }
         ensures err { OnErr result (self.new ≡ self.old) }
     {
+        if self.items.is_empty() {
+            self.items.reserve_exact(1)?;
+        }
         self.items.push(term)?;
         Ok(())
     }

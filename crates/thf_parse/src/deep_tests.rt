@@ -256,7 +256,7 @@ static TREES: [(&str, &str); 8] = [
     ),
     (
         "thf('a\\'b',axiom,![X]:p).",
-        "FileTree { items: [Annotated(Annotated { name: Bytes { items: [97, 39, 98] }, role: Bytes { items: [97, 120, 105, 111, 109] }, role_at: 11, body: Formula(Bind { at: 17, binder: All, vars: SurfaceVars { items: [SurfaceVar { at: 19, name: Bytes { items: [88] }, ty: Indiv { at: 19 } }] }, body: Name { at: 22, name: Bytes { items: [112] } } }) })] }",
+        "FileTree { items: [Annotated(Annotated { name: Bytes { items: [97, 39, 98] }, role: Bytes { items: [97, 120, 105, 111, 109] }, role_at: 11, body: Formula(Bind { binder: All, at: 17, vars: SurfaceVars { items: [SurfaceVar { at: 19, name: Bytes { items: [88] }, ty: Indiv { at: 19 } }] }, body: Name { at: 22, name: Bytes { items: [112] } } }) })] }",
     ),
     (
         "include('x',[b,1]).",

@@ -2,6 +2,7 @@
 ghost use Rattle.std.specs.Prelude.{◌≡◌, ℕ, List, length, slice_range, IfOk};
 ghost use Rattle.thf_parse.specs.Words.{lexemes, unescaped, name_in};
 ghost use Rattle.thf_parse.specs.Outcome as spec;
+ghost use Rattle.thf_parse.specs.Terminals.{of_kind};
 
 use crate::terminal::{Terminal, terminal_of};
 use outside::Bytes;
@@ -12,13 +13,7 @@ use thf_lex::{Token, TokenKind};
 fn text<'b>(bytes: &'b [u8], token: &Token) -> &'b [u8]
     ensures { result.now ≡ slice_range bytes.now token.now.from token.now.to }
 {
-    let from = token.from as usize;
-    let to = token.to as usize;
-    if from <= to && to <= bytes.len() {
-        &bytes[from..to]
-    } else {
-        clipped(bytes, from, to)
-    }
+    clipped(bytes, token.from as usize, token.to as usize)
 }
 
 /// The part of the bytes between two places.
@@ -30,13 +25,24 @@ fn clipped(bytes: &[u8], from: usize, to: usize) -> &[u8]
     &bytes[from..to]
 }
 
+/// The terminal of a token. Words are told by their kind, without their text.
+fn terminal(bytes: &[u8], token: &Token) -> Terminal
+    ensures { result ≡ of_kind token.now.kind (slice_range bytes.now token.now.from token.now.to) }
+{
+    match token.kind {
+        TokenKind::Lower => Terminal::Lower,
+        TokenKind::Upper => Terminal::Upper,
+        kind => terminal_of(kind, text(bytes, token)),
+    }
+}
+
 /// The terminal of the first token.
 #[tactic(auto, unfolding(crate::specs::Outcome::first_terminal, crate::specs::Words::terminal_of))]
 pub fn first_terminal(bytes: &[u8], tokens: &[Token]) -> Terminal
     ensures { result ≡ spec.first_terminal (lexemes bytes.now tokens.now) }
 {
     match tokens {
-        [token, ..] => terminal_of(token.kind, text(bytes, token)),
+        [token, ..] => terminal(bytes, token),
         [] => Terminal::Other,
     }
 }

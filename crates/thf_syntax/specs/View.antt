@@ -35,7 +35,7 @@ the_formula (Binary' at conn p left q right) = binary at conn (the_formula left)
 the_formula (Equation' at positive p left q right) = equation at positive (the_formula left) (the_formula right)
 the_formula (Apply' at p fun q arg) = application at (the_formula fun) (the_formula arg)
 the_formula (Quant' at all p arg) = quantified at all (the_formula arg)
-the_formula (Bind' at binder vars p body) = binding at binder (the_vars vars) (the_formula body)
+the_formula (Bind' binder at vars p body) = binding at binder (the_vars vars) (the_formula body)
 
 abbrev pub the_body : Body → BodyTree
 the_body (body.Base at name) = base at name

@@ -80,9 +80,10 @@ pub enum Surface {
         all: bool,
         arg: Box<Surface>,
     },
+    /// A binder's formula. The binder stands before the place, beside the variant's tag, which makes formulas smaller.
     Bind {
-        at: u32,
         binder: Binder,
+        at: u32,
         vars: SurfaceVars,
         body: Box<Surface>,
     },

@@ -28,7 +28,7 @@ fn trees_are_built(rt: HostRuntime) -> Result<(), Fail> {
     let shown = format!(in alloc; "{tree:?}")?;
     assert_eq!(rt;
         shown.as_str(),
-        "Bind { at: 0, binder: All, vars: SurfaceVars { items: [SurfaceVar { at: 2, name: Bytes { items: [88] }, ty: Arrow { at: 5, from: Form { at: 4 }, to: Indiv { at: 6 } } }] }, body: Quant { at: 16, all: true, arg: Apply { at: 14, fun: Equation { at: 12, positive: false, left: Binary { at: 10, conn: And, left: Not { at: 8, body: Truth { at: 9, value: true } }, right: Truth { at: 11, value: true } }, right: Truth { at: 13, value: true } }, arg: Truth { at: 15, value: true } } } }"
+        "Bind { binder: All, at: 0, vars: SurfaceVars { items: [SurfaceVar { at: 2, name: Bytes { items: [88] }, ty: Arrow { at: 5, from: Form { at: 4 }, to: Indiv { at: 6 } } }] }, body: Quant { at: 16, all: true, arg: Apply { at: 14, fun: Equation { at: 12, positive: false, left: Binary { at: 10, conn: And, left: Not { at: 8, body: Truth { at: 9, value: true } }, right: Truth { at: 11, value: true } }, right: Truth { at: 13, value: true } }, arg: Truth { at: 15, value: true } } } }"
     );
     let mut only = Selection::new(alloc);
     let name = Bytes::from_slice(alloc, b"a")?;

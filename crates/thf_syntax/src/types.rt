@@ -80,10 +80,14 @@ impl SurfaceVars {
         }
     }
 
+    /// Most binders have one variable, so that room for one is taken at first.
     pub fn push(&mut self, var: SurfaceVar) -> Result<(), AllocError>
         ensures ok { OnOk result (self.new ≡ self.old ++ var ∷ []) }
         ensures err { OnErr result (self.new ≡ self.old) }
     {
+        if self.items.is_empty() {
+            self.items.reserve_exact(1)?;
+        }
         self.items.push(var)?;
         Ok(())
     }
