@@ -1,17 +1,16 @@
 -- Branches as sets of numbers.
-use Rattle.std.proofs.Common.{◌≡◌, ℕ, zero, suc, ◌+◌, ◌<◌, Bool, true, false, not, ◌||◌, ◌&&◌, ◌==◌, List, [], ◌∷◌, ◌++◌, Option, Some, None, option_map, length, slice_get, take, IsTrue, Contains, refl, sym, ap, subst, ◌∙◌, append_assoc, ⊎_elim, if◌then◌else◌, arith}
+use Rattle.std.proofs.Common.{◌≡◌, ℕ, suc, ◌+◌, Bool, true, false, ◌||◌, ◌&&◌, ◌==◌, List, [], ◌∷◌, ◌++◌, Option, Some, None, option_map, length, slice_get, take, Contains, refl, sym, ap, subst, ◌∙◌, append_assoc, ⊎_elim, if◌then◌else◌, arith}
 use Rattle.std.proofs.lemmas.Bool.{eqb-true, eq-eqb}
-use Rattle.std.proofs.lemmas.List.Elements.{Contains-push, Contains-append_left, Contains-append_right, Contains-push_cases, Contains-append_cases}
+use Rattle.std.proofs.lemmas.List.Elements.{Contains-push, Contains-append_left, Contains-push_cases}
 use Rattle.stt_core.specs.Lambda.{Lambda}
 use Rattle.stt_core.specs.SameTerm.{same_term}
 use Rattle.stt_core.specs.Typing.{Scope}
 use Rattle.stt_core.proofs.ListLaws.{take_got}
 use Rattle.stt_core.proofs.SameTerms.{same_term-of}
-use Rattle.stt_tableau.specs.Literals.{Literal, plus, opposite, IsLiteral, IsBranch}
+use Rattle.stt_tableau.specs.Literals.{Literal, plus, IsLiteral, IsBranch}
 use Rattle.stt_tableau.specs.Start.{same_sign}
-use Rattle.stt_tableau.specs.Accepted.{Within, IsClosed}
 use Rattle.stt_tableau.specs.declared.refutation.Line.{Line}
-use Rattle.stt_tableau.proofs.ListLaws.{untrue, contains-get, contains-within, within-each, contains-first}
+use Rattle.stt_tableau.proofs.ListLaws.{untrue, contains-get}
 use Rattle.refute_check.specs.TermNumbers.{number_in, KeepsNumbers}
 use Rattle.refute_check.specs.declared.term_numbers.TermNumbers.{TermNumbers}
 use Rattle.refute_check.specs.Branches.{has, IsLiteralOf, Represents, AreNumbered, AreAtoms, Grow, AreBranches}

@@ -1,5 +1,5 @@
 -- The check of a whole text.
-use Rattle.std.proofs.Common.{◌≡◌, ◌≤◌, ◌<◌, ◌+◌, ℕ, zero, suc, List, [], ◌∷◌, ◌++◌, Option, map, length, take, slice_get, Some, None, refl, sym, ap, subst, subst₂, ◌∙◌, length-append, arith}
+use Rattle.std.proofs.Common.{◌≡◌, ◌≤◌, ◌+◌, ℕ, suc, List, [], ◌∷◌, Option, map, length, Some, None, refl, ap, subst, length-append, arith}
 use Rattle.std.specs.Option.{IfNone}
 use Rattle.stt_core.specs.SimpleType.{SimpleType}
 use Rattle.stt_core.specs.Typing.{Scope}

@@ -1,12 +1,11 @@
 -- What closes a branch with an alternative, by numbers.
-use Rattle.std.proofs.Common.{◌≡◌, ℕ, zero, suc, ◌+◌, Bool, true, false, not, ◌||◌, List, [], ◌∷◌, ◌++◌, Some, None, slice_get, IsTrue, ◌↔◌, Contains, refl, sym, ap, subst, ◌∙◌, ⊎_elim}
+use Rattle.std.proofs.Common.{◌≡◌, ℕ, zero, suc, Bool, true, false, not, ◌||◌, List, [], ◌∷◌, ◌++◌, Some, None, slice_get, IsTrue, ◌↔◌, Contains, refl, sym, subst, ⊎_elim}
 use Rattle.std.proofs.lemmas.List.Elements.{Contains-append_left, Contains-append_right, Contains-append_cases}
 use Rattle.stt_core.specs.Lambda.{Lambda}
 use Rattle.stt_tableau.specs.Literals.{Literal, opposite}
-use Rattle.stt_tableau.specs.Accepted.{Within, IsClosed, ClosesBy}
+use Rattle.stt_tableau.specs.Accepted.{Within, IsClosed}
 use Rattle.stt_tableau.specs.declared.refutation.Line.{Line}
-use Rattle.stt_tableau.specs.declared.refutation.Child.{Child}
-use Rattle.stt_tableau.proofs.ListLaws.{untrue, contains-within, within-each, within-before, within-behind, closed-within}
+use Rattle.stt_tableau.proofs.ListLaws.{contains-within, within-each}
 use Rattle.refute_check.specs.TermNumbers.{number_in}
 use Rattle.refute_check.specs.Branches.{has, IsLiteralOf, Represents, AreNumbered, AreBranches}
 use Rattle.refute_check.specs.declared.branch.Branch.{Branch}

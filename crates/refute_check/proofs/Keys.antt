@@ -1,8 +1,7 @@
 -- Terms that differ have keys that differ: a reader with two stacks takes back the steps.
-use Rattle.std.proofs.Common.{◌≡◌, ℕ, ◌+◌, ◌==◌, zero, suc, List, [], ◌∷◌, ◌++◌, Some, take, slice_get, refl, sym, ap, ap₂, ◌∙◌, append_assoc, if◌then◌else◌}
+use Rattle.std.proofs.Common.{◌≡◌, ℕ, ◌==◌, List, [], ◌∷◌, ◌++◌, refl, sym, ap, ◌∙◌, append_assoc, if◌then◌else◌}
 use Rattle.stt_core.specs.SimpleType.{SimpleType, base, arrow}
 use Rattle.stt_core.specs.Lambda.{Constant, name, witness, falsity, negation, implication, all, equality, choice, Lambda, bound, constant, lam, app, lambdas, applied}
-use Rattle.stt_core.proofs.ListLaws.{take_got}
 use Rattle.refute_check.specs.Keys.{step, type_key, constant_key, term_key, types_key, functions_key, arguments_key}
 
 -- the types and the terms that are built so far, the last one first

@@ -1,12 +1,12 @@
 -- Numbers of terms, and the map that keeps them.
-use Rattle.std.proofs.Common.{Vec, Global, ◌≡◌, ℕ, zero, suc, ◌+◌, Bool, true, false, cond, List, [], ◌∷◌, ◌++◌, Option, Some, None, option_map, length, slice_get, refl, sym, ap, subst, ◌∙◌, Contains, if◌then◌else◌}
-use Rattle.std.specs.BTreeMap.{BTreeMap, get_by, Updates}
+use Rattle.std.proofs.Common.{Vec, Global, ◌≡◌, ℕ, suc, Bool, true, false, cond, List, [], ◌∷◌, ◌++◌, Option, Some, None, option_map, length, slice_get, refl, sym, ap, subst, ◌∙◌, if◌then◌else◌}
+use Rattle.std.specs.BTreeMap.{BTreeMap, Updates}
 use Rattle.std.specs.Cmp.Lexicographic.{slice_cmp}
 use Rattle.std.specs.Ordering.{nat_cmp}
 use Rattle.std.specs.Str.{bytes_eq}
 use Rattle.stt_core.specs.Lambda.{Lambda}
 use Rattle.stt_core.specs.SameTerm.{same_term}
-use Rattle.stt_core.proofs.SameTerms.{same_term-refl, same_term-true, same_term-of}
+use Rattle.stt_core.proofs.SameTerms.{same_term-true, same_term-of}
 use Rattle.std.specs.Cmp.Lexicographic.{bytes_decides}
 use Rattle.stt_tableau.proofs.ListLaws.{untrue}
 use Rattle.type_check.proofs.Maps.{at_bytes, at_bytes-inserted, same_change}

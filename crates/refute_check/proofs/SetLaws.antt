@@ -1,5 +1,5 @@
 -- Sets of numbers.
-use Rattle.std.proofs.Common.{◌≡◌, ℕ, Bool, true, false, ◌||◌, ◌&&◌, ◌==◌, not, nat_lt, List, [], ◌∷◌, IsTrue, refl, sym, ap, subst, ◌∙◌, cond, arith}
+use Rattle.std.proofs.Common.{◌≡◌, ℕ, Bool, true, false, ◌||◌, ◌&&◌, ◌==◌, not, nat_lt, List, [], ◌∷◌, IsTrue, refl, sym, subst, ◌∙◌, cond, arith}
 use Rattle.std.proofs.lemmas.Bool.{and_parts, eqb-true, eq-eqb, ltb-true}
 use Rattle.std.specs.List.{list_all, list_any}
 use Rattle.std.specs.Ordering.{is_eq, nat_cmp}
@@ -7,7 +7,6 @@ use Rattle.std.specs.BTreeSet.{BTreeSet, contains}
 use Rattle.stt_tableau.proofs.ListLaws.{untrue}
 use Rattle.refute_check.specs.Branches.{has}
 use Rattle.refute_check.specs.declared.branch.Branch.{Branch}
-use Rattle.std.specs.declared.cmp.Ordering.{Ordering}
 use Rattle.std.specs.declared.cmp.Ordering.TheVariants.{Less, Equal, Greater}
 
 is_eq-nat_cmp : (k x : ℕ) → is_eq (nat_cmp k x) ≡ (k == x)

@@ -1,19 +1,18 @@
 -- The start as a set of literals.
-use Rattle.std.proofs.Common.{◌≡◌, ℕ, zero, suc, ◌+◌, Bool, true, false, not, ◌&&◌, List, [], ◌∷◌, ◌++◌, Option, Some, None, option_map, map, take, slice_get, Contains, refl, sym, ap, ap₂, subst, ◌∙◌, ⊎_elim, ◌⊎◌, inl, inr, if◌then◌else◌, arith}
-use Rattle.std.specs.List.{list_any}
-use Rattle.std.proofs.lemmas.List.Elements.{Contains-push, Contains-append_left, Contains-append_right, Contains-push_cases, Contains-append_cases}
+use Rattle.std.proofs.Common.{◌≡◌, ℕ, zero, suc, ◌+◌, Bool, true, false, ◌&&◌, List, [], ◌∷◌, ◌++◌, Option, Some, option_map, map, take, slice_get, Contains, refl, sym, ap, ap₂, subst, ◌∙◌, ⊎_elim, ◌⊎◌, inl, inr, if◌then◌else◌, arith}
+use Rattle.std.proofs.lemmas.List.Elements.{Contains-push, Contains-append_left, Contains-push_cases}
 use Rattle.stt_core.specs.Lambda.{Lambda}
 use Rattle.stt_core.specs.SameTerm.{same_term}
 use Rattle.stt_core.specs.Typing.{Scope}
 use Rattle.stt_core.proofs.ListLaws.{take_got, map-append}
 use Rattle.stt_core.proofs.SameTerms.{same_term-true}
-use Rattle.stt_tableau.specs.Literals.{Literal, opposite, literal}
+use Rattle.stt_tableau.specs.Literals.{Literal, literal}
 use Rattle.stt_tableau.specs.Start.{same_sign, same_literal, has, added, without_repeats, denied, start}
 use Rattle.stt_tableau.proofs.ListLaws.{contains-first, contains-later, contains_cases}
 use Rattle.type_check.specs.TypedProblem.{IsFormula, AreFormulas}
 use Rattle.type_check.specs.Statements.{ReadProblem}
 use Rattle.refute_check.specs.NormalQuestion.{normal_in, normal_question}
-use Rattle.refute_check.specs.Branches.{IsLiteralOf, Represents}
+use Rattle.refute_check.specs.Branches.{Represents}
 use Rattle.refute_check.specs.declared.branch.Branch.{Branch}
 use Rattle.refute_check.proofs.SetLaws.{or_split}
 

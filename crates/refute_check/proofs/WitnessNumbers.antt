@@ -6,8 +6,7 @@ use Rattle.stt_core.specs.SimpleType.{SimpleType}
 use Rattle.stt_core.specs.SameTerm.{same_term}
 use Rattle.stt_core.specs.Typing.{Scope}
 use Rattle.stt_core.proofs.SameTerms.{same_term-of}
-use Rattle.stt_tableau.specs.Witnesses.{Row, IsTwice, IsTable}
-use Rattle.stt_tableau.specs.Checks.{IsRowOf}
+use Rattle.stt_tableau.specs.Witnesses.{Row, IsTable}
 use Rattle.stt_tableau.proofs.ListLaws.{untrue, contains_cases, contains-get}
 use Rattle.stt_tableau.proofs.AlongLaws.{same_row}
 use Rattle.refute_check.specs.TermNumbers.{number_in}

@@ -1,5 +1,5 @@
 -- A refutation's text, with the numbers of what a signature declares in place of the names.
-use Rattle.std.specs.Prelude.{ℕ, suc, ◌+◌, List, map, length}
+use Rattle.std.specs.Prelude.{ℕ, ◌+◌, List, map}
 use Rattle.std.specs.List.{position_or_len}
 use Rattle.std.specs.Str.{bytes_eq}
 use Rattle.stt_core.specs.SimpleType.{SimpleType, base, arrow}

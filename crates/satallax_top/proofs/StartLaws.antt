@@ -23,11 +23,6 @@ added-more f ts i t before after g h k =
 start-ends : (ts : List Lambda) (ls denied_ones : List Literal) → ls ≡ added [] (map literal ts) → added ls denied_ones ≡ added [] (map literal ts ++ denied_ones)
 start-ends ts ls denied_ones h = ap (λ xs. added xs denied_ones) h ∙ sym (added-append [] (map literal ts) denied_ones)
 
-pub formula_at : (scope : Scope) (ts : List Lambda) (i : ℕ) (t : Lambda) → slice_get ts i ≡ Some t → AreFormulas scope ts → IsFormula scope t
-formula_at scope [] i t g h = cc
-formula_at scope (u ∷ ts) zero t g h = let e : u ≡ t = cc in subst (IsFormula scope) e h.0
-formula_at scope (u ∷ ts) (suc i) t g h = formula_at scope ts i t g h.1
-
 -- the start of a problem with a conjecture
 pub start-denied : (p : ReadProblem) (t : Lambda) (d : Literal) (ls after : List Literal) → p.conjecture ≡ Some t → d ≡ opposite (literal (normal_in p t)) → ls ≡ without_repeats (map literal (map (normal_in p) p.assumed)) → after ≡ added ls (d ∷ []) → after ≡ start (normal_question p)
 start-denied p t d ls after c e h k =

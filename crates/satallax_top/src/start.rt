@@ -1,32 +1,20 @@
 //! The literals from which the search starts.
 
 ghost use Rattle.std.specs.Prelude.{◌≡◌, [], map, IfOk};
-ghost use Rattle.stt_core.specs.View.{the_term};
 ghost use Rattle.stt_core.specs.ScopeView.{the_scope};
 ghost use Rattle.stt_core.specs.Typing.{IsScope};
 ghost use Rattle.stt_normal.specs.Normal.{normal_form};
 ghost use Rattle.stt_tableau.specs.Literals.{literal};
 ghost use Rattle.stt_tableau.specs.Start.{without_repeats, start};
 ghost use Rattle.type_check.specs.Checks.{the_problem};
-ghost use Rattle.type_check.specs.TypedProblem.{question_of, IsFormula, AreFormulas, IsTyped};
+ghost use Rattle.type_check.specs.TypedProblem.{question_of, AreFormulas, IsTyped};
 ghost use Rattle.refute_check.specs.NormalQuestion.{normal_question};
 
 use prover_search::add;
+use refute_check::formula_literal;
 use std::alloc::{AllocError, Global};
-use stt_core::{Problem, Signature, Term, Terms, Types};
-use stt_normal::normalise;
-use stt_tableau::{Lit, Lits, literal_of};
-
-/// The literal of a formula.
-fn formula_literal(alloc: Global, sig: &Signature, formula: &Term) -> Result<Lit, AllocError>
-    requires scope { IsScope (the_scope sig.now []) }
-    requires formula { IsFormula (the_scope sig.now []) (the_term formula.now) }
-    ensures { IfOk result (λ lit. lit ≡ literal (normal_form (the_scope sig.now []) [] (the_term formula.now))) }
-{
-    let none = Types::new(alloc);
-    let canonical = normalise(alloc, sig, &none, &none, formula)?;
-    Ok(literal_of(alloc, &canonical)?)
-}
+use stt_core::{Problem, Signature, Terms};
+use stt_tableau::Lits;
 
 /// The literals of the assumed formulas, without repeats.
 fn assumed_literals(alloc: Global, sig: &Signature, assumed: &Terms) -> Result<Lits, AllocError>

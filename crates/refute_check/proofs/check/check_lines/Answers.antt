@@ -1,4 +1,4 @@
-use Rattle.std.proofs.Common.{◌+◌, ◌∙◌, [], Some, None, map, take, ap, sym, subst}
+use Rattle.std.proofs.Common.{◌∙◌, [], map, take, sym, subst}
 use Rattle.stt_core.specs.ScopeView.{the_scope}
 use Rattle.stt_core.proofs.ListLaws.{take_got}
 use Rattle.stt_tableau.specs.Witnesses.{with_rows}

@@ -1,5 +1,4 @@
-use Rattle.std.proofs.Common.{ap, ◌∙◌, subst}
-use Rattle.std.specs.Result.{IfErr}
+use Rattle.std.proofs.Common.{subst}
 use Rattle.stt_tableau.specs.Start.{start}
 use Rattle.stt_tableau.specs.Accepted.{FirstFailure}
 use Rattle.stt_tableau.specs.Refused.{IfRefused}

@@ -1,5 +1,5 @@
-use Rattle.std.proofs.Common.{refl, ◌++◌, ◌∷◌, take, sym, subst, arith, IsTrue}
-use Rattle.stt_tableau.specs.Accepted.{ClosesBy, AreChildren}
+use Rattle.std.proofs.Common.{refl, arith}
+use Rattle.stt_tableau.specs.Accepted.{AreChildren}
 use Rattle.stt_tableau.proofs.ListLaws.{untrue}
 use Rattle.stt_tableau.proofs.ChildLaws.{children_length, children_at, children-more}
 use Rattle.refute_check.proofs.ChildLaws.{clashes_closed}

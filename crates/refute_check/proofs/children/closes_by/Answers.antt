@@ -1,7 +1,5 @@
-use Rattle.std.proofs.Common.{◌≡◌, ◌∙◌, ◌++◌, false, Some, None, slice_get, option_copied, IsTrue, ap, sym, subst}
+use Rattle.std.proofs.Common.{◌≡◌, ◌∙◌, ◌++◌, false, Some, option_copied, IsTrue, ap, sym, subst}
 use Rattle.stt_tableau.specs.Accepted.{Within, ClosesBy}
-use Rattle.stt_tableau.specs.declared.refutation.Child.TheVariants.{Line as Numbered}
-use Rattle.stt_tableau.proofs.ListLaws.{untrue}
 use Rattle.refute_check.proofs.ChildLaws.{line_at, no_line_at, within-numbers, numbers-within}
 use Rattle.refute_check.proofs.children.closes_by.Goals as goal
 

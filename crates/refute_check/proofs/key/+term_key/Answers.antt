@@ -1,10 +1,9 @@
-use Rattle.std.proofs.Common.{◌∙◌, ◌+◌, ◌++◌, ap, sym, refl, take, append_assoc, arith}
-use Rattle.stt_core.specs.Lambda.{applied}
+use Rattle.std.proofs.Common.{◌∙◌, ◌+◌, ◌++◌, ap, sym, take, append_assoc, arith}
 use Rattle.stt_core.specs.View.{the_head}
 use Rattle.stt_core.proofs.SizeLaws.{node_count-at, node_count-spine}
 use Rattle.stt_core.proofs.ListLaws.{take_got}
-use Rattle.refute_check.specs.Keys.{step, types_key, term_key, arguments_key, functions_key}
-use Rattle.refute_check.proofs.Keys.{appended, arguments_key-append, term_key-lambdas, term_key-applied, whole_key}
+use Rattle.refute_check.specs.Keys.{step, term_key, arguments_key}
+use Rattle.refute_check.proofs.Keys.{appended, arguments_key-append, whole_key}
 use Rattle.refute_check.proofs.key.+term_key.Goals as goal
 
 pub push_arguments-loop-i-preserved : goal.push_arguments-loop-i-preserved

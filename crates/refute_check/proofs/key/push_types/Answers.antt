@@ -1,4 +1,4 @@
-use Rattle.std.proofs.Common.{◌+◌, ◌∙◌, [], ◌∷◌, ap, take}
+use Rattle.std.proofs.Common.{◌+◌, ◌∙◌, ap, take}
 use Rattle.stt_core.specs.View.{the_type}
 use Rattle.stt_core.proofs.ListLaws.{take_got}
 use Rattle.refute_check.specs.Keys.{type_key, types_key}

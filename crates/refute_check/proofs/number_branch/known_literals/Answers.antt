@@ -1,4 +1,4 @@
-use Rattle.std.proofs.Common.{◌≡◌, ◌+◌, ◌∙◌, ◌++◌, [], ◌∷◌, ◌||◌, ◌&&◌, ◌==◌, Some, None, ap, sym, subst, take}
+use Rattle.std.proofs.Common.{◌∙◌, ◌++◌, [], ◌∷◌, ◌||◌, ◌&&◌, ◌==◌, ap, sym, subst, take}
 use Rattle.stt_core.proofs.ListLaws.{take_got}
 use Rattle.stt_tableau.specs.Start.{same_sign}
 use Rattle.refute_check.specs.TermNumbers.{number_in}

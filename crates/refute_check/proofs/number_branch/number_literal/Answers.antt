@@ -1,4 +1,4 @@
-use Rattle.std.proofs.Common.{◌≡◌, ◌∙◌, Some, [], ap, sym, subst}
+use Rattle.std.proofs.Common.{◌≡◌, ◌∙◌, Some, ap, sym, subst}
 use Rattle.stt_core.specs.ScopeView.{the_scope}
 use Rattle.stt_tableau.specs.Literals.{plus, IsLiteral}
 use Rattle.refute_check.specs.TermNumbers.{number_in}

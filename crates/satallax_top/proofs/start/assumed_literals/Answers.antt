@@ -3,7 +3,8 @@ use Rattle.stt_core.specs.View.{the_term}
 use Rattle.stt_core.specs.ScopeView.{the_scope}
 use Rattle.stt_normal.specs.Normal.{normal_form}
 use Rattle.stt_tableau.specs.Start.{added}
-use Rattle.satallax_top.proofs.StartLaws.{added-more, formula_at}
+use Rattle.refute_check.proofs.StartLaws.{formula_at}
+use Rattle.satallax_top.proofs.StartLaws.{added-more}
 use Rattle.satallax_top.proofs.start.assumed_literals.Goals as goal
 
 pub formula_literal-requires : goal.formula_literal-requires

@@ -1,4 +1,4 @@
-use Rattle.std.proofs.Common.{◌≡◌, ◌∙◌, ◌++◌, Some, false, slice_get, option_copied, ap, sym, subst}
+use Rattle.std.proofs.Common.{◌≡◌, ◌∙◌, ◌++◌, Some, slice_get, option_copied, ap, sym, subst}
 use Rattle.stt_tableau.specs.Accepted.{Within}
 use Rattle.stt_tableau.proofs.ListLaws.{within-trans, within-itself, within-behind, within-both}
 use Rattle.refute_check.proofs.ChildLaws.{line_at, no_line_at, within-numbers, numbers-within}

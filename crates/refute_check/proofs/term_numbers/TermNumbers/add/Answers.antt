@@ -1,4 +1,4 @@
-use Rattle.std.proofs.Common.{◌∙◌, ap, [], ◌∷◌, ◌++◌, sym, subst}
+use Rattle.std.proofs.Common.{◌∙◌, ap, [], ◌∷◌, ◌++◌, sym}
 use Rattle.refute_check.specs.TermNumbers.{number_in}
 use Rattle.refute_check.proofs.NumberLaws.{kept-more}
 use Rattle.refute_check.proofs.term_numbers.TermNumbers.add.Goals as goal

@@ -1,4 +1,4 @@
-use Rattle.std.proofs.Common.{◌≡◌, ◌∙◌, Some, ap, sym, subst}
+use Rattle.std.proofs.Common.{◌≡◌, ◌∙◌, Some, ap, sym}
 use Rattle.stt_core.specs.SimpleType.{same_type}
 use Rattle.stt_core.specs.View.{the_type}
 use Rattle.stt_core.proofs.TypeLaws.{same_type_refl, same_type-true}
