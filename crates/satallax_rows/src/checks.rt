@@ -78,10 +78,10 @@ const START: &str = "% SZS output start Refutation for cantor.p";
 
 const VERSION: &str = "version 1";
 
-const W0: &str =
+const ROW_0: &str =
     "w0 ^($i>($i>$o)).($not ($all[($i>$o)] ^($i>$o).($not ($all[$i] ^$i.($not ($eq[($i>$o)] ^$i.(#3 #1 #0) ^$i.(#2 #0)))))))";
 
-const W1: &str = "w1 ^$i.($not ($eq[($i>$o)] ^$i.($w0 #1 #0) ^$i.($not ($w0 #0 #0))))";
+const ROW_1: &str = "w1 ^$i.($not ($eq[($i>$o)] ^$i.($w0 #1 #0) ^$i.($not ($w0 #0 #0))))";
 
 const LINE_0: &str = "0: Bool+(0) [+($eq[$o] ($w0 $w1 $w1) ($not ($w0 $w1 $w1)))] [x,x]";
 
@@ -103,7 +103,7 @@ const END: &str = "% SZS output end Refutation for cantor.p";
 
 /// Cantor's theorem: what is true of no member of its own is no value of the function.
 const CANTOR: &[&str] = &[
-    START, VERSION, W0, W1, LINE_0, LINE_1, LINE_2, LINE_3, LINE_4, LINE_5, END,
+    START, VERSION, ROW_0, ROW_1, LINE_0, LINE_1, LINE_2, LINE_3, LINE_4, LINE_5, END,
 ];
 
 /// The problem, the lines of the text, the outcome and what is written.
@@ -120,7 +120,7 @@ const ROWS: &[Row] = &[
     (
         "cantor.p",
         &[
-            START, VERSION, W1, W0, LINE_0, LINE_1, LINE_2, LINE_3, LINE_4, LINE_5, END,
+            START, VERSION, ROW_1, ROW_0, LINE_0, LINE_1, LINE_2, LINE_3, LINE_4, LINE_5, END,
         ],
         Outcome::Refused {
             line: 3,
@@ -164,7 +164,7 @@ const ROWS: &[Row] = &[
     (
         "cantor.p",
         &[
-            START, VERSION, W0, W1, LINE_0, LINE_1, LINE_2, LINE_3, LINE_4, LINE_5,
+            START, VERSION, ROW_0, ROW_1, LINE_0, LINE_1, LINE_2, LINE_3, LINE_4, LINE_5,
         ],
         Outcome::Refused {
             line: 11,
@@ -240,8 +240,8 @@ const ROWS: &[Row] = &[
         &[
             START,
             VERSION,
-            W0,
-            W1,
+            ROW_0,
+            ROW_1,
             "w2 ^$i.($not ($eq[($i>$o)] ^$i.($w0 #1 #0) ^$i.($not ($w0 #0 #0))))",
             LINE_0,
             LINE_1,
@@ -263,8 +263,8 @@ const ROWS: &[Row] = &[
         &[
             START,
             VERSION,
-            W0,
-            W1,
+            ROW_0,
+            ROW_1,
             "0: Bool+(0) [+($eq[$o] ($w0 $w1 $w1) ($not ($w0 $w1 $w1)))] [x]",
             LINE_1,
             LINE_2,
@@ -285,8 +285,8 @@ const ROWS: &[Row] = &[
         &[
             START,
             VERSION,
-            W0,
-            W1,
+            ROW_0,
+            ROW_1,
             "0: Bool-(0) [+($eq[$o] ($w0 $w1 $w1) ($not ($w0 $w1 $w1)))] [x,x]",
             LINE_1,
             LINE_2,
