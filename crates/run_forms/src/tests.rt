@@ -1,7 +1,5 @@
 //! Problems with the place that isn't taken, worked out by hand from the forms.
 
-mod copy;
-
 use crate::first_unbuilt;
 use std::alloc::{AllocError, Global};
 use std::process::Abort;
@@ -30,12 +28,9 @@ fn gather(
     let tokens = lex(alloc, text)?;
     match parse(alloc, text, &tokens) {
         Ok(tree) => {
-            for statement in tree.as_slice() {
-                if let Statement::Annotated(annotated) = statement {
-                    gathered.push(Placed {
-                        file,
-                        statement: copy::copy_statement(alloc, annotated)?,
-                    })?;
+            for statement in tree.into_statements() {
+                if let Statement::Annotated(statement) = statement {
+                    gathered.push(Placed { file, statement })?;
                 }
             }
         }

@@ -1,6 +1,5 @@
 //! Files as texts, in which a mark stands before the token that is ill.
 
-use crate::copies::annotated;
 use outside::Bytes;
 use std::alloc::{AllocError, Global};
 use std::process::Abort;
@@ -52,13 +51,13 @@ fn marked(alloc: Global, front: &str, text: &str) -> Result<MarkedFile, AllocErr
 }
 
 /// The statements of a file that includes no other.
-fn gathered(alloc: Global, file: &FileTree) -> Result<Gathered, Fail> {
+fn gathered(alloc: Global, file: FileTree) -> Result<Gathered, Fail> {
     let mut gathered = Gathered::new(alloc);
-    for statement in file.as_slice() {
+    for statement in file.into_statements() {
         match statement {
             Statement::Annotated(statement) => gathered.push(Placed {
                 file: FILE,
-                statement: annotated(alloc, statement)?,
+                statement,
             })?,
             Statement::Include { .. } => return Err(Fail::new("an include")),
         }
@@ -71,7 +70,7 @@ fn outcome(rt: &impl Abort, alloc: Global, bytes: &[u8]) -> Result<Result<Proble
     assert!(rt; bytes.len() <= 16_777_216);
     let tokens = lex(alloc, bytes)?;
     let file = parse(alloc, bytes, &tokens)?;
-    let gathered = gathered(alloc, &file)?;
+    let gathered = gathered(alloc, file)?;
     assert!(rt; gathered.len() < 1000);
     Ok(check(alloc, &gathered))
 }

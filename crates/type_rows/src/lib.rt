@@ -6,8 +6,6 @@ mod applications;
 #[cfg(test)]
 mod binders;
 #[cfg(test)]
-mod copies;
-#[cfg(test)]
 mod files;
 #[cfg(test)]
 mod formulas;
