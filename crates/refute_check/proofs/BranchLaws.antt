@@ -162,3 +162,12 @@ numbered_to-more scope before atoms after branch i b new l sign n at h keeps typ
       numbered = numbered-more after.terms done l n numbered is.1;
       represents = represents-more after.terms done b new l n grown is.1 (λ s k. e s k ∙ ap (λ x. has b s k || (same_sign x s && n == k)) signs);
     })
+
+pub branches-append : (ts : List Lambda) (lines : List Line) (bs : List Branch) (line : Line) (b : Branch) → AreBranches ts lines bs → AreNumbered ts line.branch → Represents ts line.branch b → AreBranches ts (lines ++ line ∷ []) (bs ++ b ∷ [])
+branches-append ts [] [] line b h n r = (n, r, tt)
+branches-append ts [] (c ∷ bs) line b h n r = absurd h
+branches-append ts (l ∷ lines) [] line b h n r = absurd h
+branches-append ts (l ∷ lines) (c ∷ bs) line b h n r = (h.0, h.1, branches-append ts lines bs line b h.2 n r)
+
+pub branches-grow : (ts us : List Lambda) (lines : List Line) (bs : List Branch) → Grow ts us → AreBranches ts lines bs → AreBranches us lines bs
+branches-grow ts us lines bs g h = subst (λ vs. AreBranches vs lines bs) (sym g.1) (branches-grown ts g.0 lines bs h)

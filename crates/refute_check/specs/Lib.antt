@@ -5,3 +5,5 @@ pub mod Refusal
 pub mod Keys
 pub mod TermNumbers
 pub mod Branches
+pub mod Witnesses
+pub mod Lines

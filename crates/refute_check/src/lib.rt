@@ -3,13 +3,18 @@
 
 mod branch;
 mod check;
+mod children;
 mod key;
+mod lines;
 mod number_branch;
 mod number_line;
 mod number_term;
 mod numbering;
 mod refusal;
+mod start;
 mod term_numbers;
+mod witnesses;
 
 pub use check::check_refutation;
 pub use refusal::CheckRefused;
+pub use start::formula_literal;
