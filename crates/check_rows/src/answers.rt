@@ -3,68 +3,70 @@
 use outside::{CallList, FileList, MemFiles};
 use refute_check::{CheckRefused, check_refutation};
 use refute_read::{TextRefused, read_text};
-use std::alloc::{AllocError, Global};
+use std::alloc::Global;
 use std::process::Abort;
 use std::test::Fail;
 use stt_tableau::Why;
 use thf_include::{FileNames, gather};
 use type_check::check;
 
-/// The answer to a text: it is accepted; the reader refuses the form of a line; or the check refuses a line, and why. Lines are counted
-/// from 1.
-#[derive(Clone, Copy, Debug, PartialEq, Eq)]
-pub enum Answer {
-    Accepted,
-    BadForm(usize),
-    Refused(usize, Why),
+fn word(why: Why) -> &'static str {
+    match why {
+        Why::Form => "form",
+        Why::Start => "start",
+        Why::End => "end",
+        Why::Typing => "type",
+        Why::Twice => "twice",
+        Why::Principal => "principal",
+        Why::Child => "child",
+        Why::Last => "last",
+    }
 }
 
-/// The rows and lines of a text, the first of which stands at line 3, and the answer.
-pub type Case = (&'static [&'static str], Answer);
-
-/// The answer to the text for the problem. Want of memory fails.
-pub fn answer_to(alloc: Global, problem: &str, text: &str) -> Result<Answer, Fail> {
+/// The answer to the text for the problem: `accepted`, or why a line is refused, and the line. Want of memory fails.
+pub fn answer_to(alloc: Global, problem: &str, text: &str) -> Result<String, Fail> {
     let mut files = FileList::new(alloc);
     files.push("p.p", problem.as_bytes())?;
     let mut files = MemFiles::new(files, CallList::new(alloc));
     let mut names = FileNames::new(alloc);
     let gathered = gather(alloc, &mut files, &mut names, "p.p")?;
     let problem = check(alloc, &gathered)?;
-    let text = match read_text(alloc, text.as_bytes()) {
-        Ok(text) => text,
-        Err(TextRefused::BadLine { line }) => return Ok(Answer::BadForm(line)),
+    let (word, line) = match read_text(alloc, text.as_bytes()) {
+        Ok(text) => match check_refutation(alloc, &problem, &text) {
+            Ok(()) => return Ok(String::from_str(alloc, "accepted")?),
+            Err(CheckRefused::Line { line, why }) => (word(why), line),
+            Err(refused) => return Err(refused.into()),
+        },
+        Err(TextRefused::BadLine { line }) => ("form", line),
         Err(refused) => return Err(refused.into()),
     };
-    match check_refutation(alloc, &problem, &text) {
-        Ok(()) => Ok(Answer::Accepted),
-        Err(CheckRefused::Line { line, why }) => Ok(Answer::Refused(line, why)),
-        Err(refused) => Err(refused.into()),
-    }
+    Ok(format!(in alloc; "{word} {line}")?)
 }
 
-/// The text with these rows and lines, the first of which stands at line 3.
-fn framed(alloc: Global, lines: &[&str]) -> Result<String, AllocError> {
-    let mut text = String::new(alloc);
-    text.push_str("% SZS output start Refutation for p.p\nversion 1\n")?;
-    for line in lines {
-        text.push_str(line)?;
-        text.push_str("\n")?;
+/// What follows the comments.
+pub fn behind_comments(mut case: &str) -> Result<&str, Fail> {
+    while let Some(comment) = case.strip_prefix("%") {
+        case = comment.split_once('\n').ok_or("a case is missing")?.1;
     }
-    text.push_str("% SZS output end Refutation for p.p\n")?;
-    Ok(text)
+    Ok(case)
 }
 
-/// The texts are answered for the problem as the cases say.
-pub fn check_cases(
-    rt: &impl Abort,
-    alloc: Global,
-    problem: &str,
-    cases: &[Case],
-) -> Result<(), Fail> {
-    for (lines, wanted) in cases {
-        let text = framed(alloc, lines)?;
+/// The table has a problem, and then cases, with an empty line before each. A case has comments, the answer, and then the rows and lines
+/// of the text, the first of which stands at line 3.
+pub fn check_table(rt: &impl Abort, alloc: Global, table: &str) -> Result<(), Fail> {
+    let (problem, cases) = table.trim_end().split_once("\n\n").ok_or("no cases")?;
+    for case in cases.split("\n\n") {
+        let case = behind_comments(case)?;
+        let (wanted, lines) = case.split_once('\n').unwrap_or((case, ""));
+        let mut text = String::new(alloc);
+        text.push_str("% SZS output start Refutation for p.p\nversion 1\n")?;
+        text.push_str(lines)?;
+        if !lines.is_empty() {
+            text.push_str("\n")?;
+        }
+        text.push_str("% SZS output end Refutation for p.p\n")?;
         let given = answer_to(alloc, problem, text.as_str())?;
-        assert_eq!(rt; given, *wanted, "{text}");
+        assert_eq!(rt; given.as_str(), wanted, "{case}");
     }
     Ok(())
 }

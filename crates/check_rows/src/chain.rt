@@ -1,9 +1,7 @@
 //! A chain of thirty implications, refuted from its end.
 
-use crate::pairs::Pair;
-
-pub const CHAIN: Pair = Pair {
-    problem: "\
+/// As the other pairs.
+pub const CHAIN: &str = "\
 thf(c_type,type,c: $i).
 thf(p0_type,type,p0: $i > $o).
 thf(p1_type,type,p1: $i > $o).
@@ -68,67 +66,72 @@ thf(a28,axiom,( ( p27 @ c ) => ( ( ^ [X:$i] : ( p28 @ X ) ) @ c ) )).
 thf(a29,axiom,( ( p28 @ c ) => ( ( ^ [X:$i] : ( p29 @ X ) ) @ c ) )).
 thf(a30,axiom,( ( p29 @ c ) => ( ( ^ [X:$i] : ( p30 @ X ) ) @ c ) )).
 thf(goal,conjecture,( p30 @ c )).
-",
-    rows: &[],
-    lines: &[
-        "Imp+(0) [+($imp (p29 c) (p30 c)),+(p29 c),-(p30 c)] [x,x]",
-        "Imp+(0) [+($imp (p28 c) (p29 c)),+(p28 c),-(p29 c)] [x,x]",
-        "Cut(+(p29 c)) [+($imp (p29 c) (p30 c)),-(p30 c),+($imp (p28 c) (p29 c)),+(p28 c)] [0,1]",
-        "Imp+(0) [+($imp (p27 c) (p28 c)),+(p27 c),-(p28 c)] [x,x]",
-        "Cut(+(p28 c)) [+($imp (p29 c) (p30 c)),-(p30 c),+($imp (p28 c) (p29 c)),+($imp (p27 c) (p28 c)),+(p27 c)] [2,3]",
-        "Imp+(0) [+($imp (p26 c) (p27 c)),+(p26 c),-(p27 c)] [x,x]",
-        "Cut(+(p27 c)) [+($imp (p29 c) (p30 c)),-(p30 c),+($imp (p28 c) (p29 c)),+($imp (p27 c) (p28 c)),+($imp (p26 c) (p27 c)),+(p26 c)] [4,5]",
-        "Imp+(0) [+($imp (p25 c) (p26 c)),+(p25 c),-(p26 c)] [x,x]",
-        "Cut(+(p26 c)) [+($imp (p29 c) (p30 c)),-(p30 c),+($imp (p28 c) (p29 c)),+($imp (p27 c) (p28 c)),+($imp (p26 c) (p27 c)),+($imp (p25 c) (p26 c)),+(p25 c)] [6,7]",
-        "Imp+(0) [+($imp (p24 c) (p25 c)),+(p24 c),-(p25 c)] [x,x]",
-        "Cut(+(p25 c)) [+($imp (p29 c) (p30 c)),-(p30 c),+($imp (p28 c) (p29 c)),+($imp (p27 c) (p28 c)),+($imp (p26 c) (p27 c)),+($imp (p25 c) (p26 c)),+($imp (p24 c) (p25 c)),+(p24 c)] [8,9]",
-        "Imp+(0) [+($imp (p23 c) (p24 c)),+(p23 c),-(p24 c)] [x,x]",
-        "Cut(+(p24 c)) [+($imp (p29 c) (p30 c)),-(p30 c),+($imp (p28 c) (p29 c)),+($imp (p27 c) (p28 c)),+($imp (p26 c) (p27 c)),+($imp (p25 c) (p26 c)),+($imp (p24 c) (p25 c)),+($imp (p23 c) (p24 c)),+(p23 c)] [10,11]",
-        "Imp+(0) [+($imp (p22 c) (p23 c)),+(p22 c),-(p23 c)] [x,x]",
-        "Cut(+(p23 c)) [+($imp (p29 c) (p30 c)),-(p30 c),+($imp (p28 c) (p29 c)),+($imp (p27 c) (p28 c)),+($imp (p26 c) (p27 c)),+($imp (p25 c) (p26 c)),+($imp (p24 c) (p25 c)),+($imp (p23 c) (p24 c)),+($imp (p22 c) (p23 c)),+(p22 c)] [12,13]",
-        "Imp+(0) [+($imp (p21 c) (p22 c)),+(p21 c),-(p22 c)] [x,x]",
-        "Cut(+(p22 c)) [+($imp (p29 c) (p30 c)),-(p30 c),+($imp (p28 c) (p29 c)),+($imp (p27 c) (p28 c)),+($imp (p26 c) (p27 c)),+($imp (p25 c) (p26 c)),+($imp (p24 c) (p25 c)),+($imp (p23 c) (p24 c)),+($imp (p22 c) (p23 c)),+($imp (p21 c) (p22 c)),+(p21 c)] [14,15]",
-        "Imp+(0) [+($imp (p20 c) (p21 c)),+(p20 c),-(p21 c)] [x,x]",
-        "Cut(+(p21 c)) [+($imp (p29 c) (p30 c)),-(p30 c),+($imp (p28 c) (p29 c)),+($imp (p27 c) (p28 c)),+($imp (p26 c) (p27 c)),+($imp (p25 c) (p26 c)),+($imp (p24 c) (p25 c)),+($imp (p23 c) (p24 c)),+($imp (p22 c) (p23 c)),+($imp (p21 c) (p22 c)),+($imp (p20 c) (p21 c)),+(p20 c)] [16,17]",
-        "Imp+(0) [+($imp (p19 c) (p20 c)),+(p19 c),-(p20 c)] [x,x]",
-        "Cut(+(p20 c)) [+($imp (p29 c) (p30 c)),-(p30 c),+($imp (p28 c) (p29 c)),+($imp (p27 c) (p28 c)),+($imp (p26 c) (p27 c)),+($imp (p25 c) (p26 c)),+($imp (p24 c) (p25 c)),+($imp (p23 c) (p24 c)),+($imp (p22 c) (p23 c)),+($imp (p21 c) (p22 c)),+($imp (p20 c) (p21 c)),+($imp (p19 c) (p20 c)),+(p19 c)] [18,19]",
-        "Imp+(0) [+($imp (p18 c) (p19 c)),+(p18 c),-(p19 c)] [x,x]",
-        "Cut(+(p19 c)) [+($imp (p29 c) (p30 c)),-(p30 c),+($imp (p28 c) (p29 c)),+($imp (p27 c) (p28 c)),+($imp (p26 c) (p27 c)),+($imp (p25 c) (p26 c)),+($imp (p24 c) (p25 c)),+($imp (p23 c) (p24 c)),+($imp (p22 c) (p23 c)),+($imp (p21 c) (p22 c)),+($imp (p20 c) (p21 c)),+($imp (p19 c) (p20 c)),+($imp (p18 c) (p19 c)),+(p18 c)] [20,21]",
-        "Imp+(0) [+($imp (p17 c) (p18 c)),+(p17 c),-(p18 c)] [x,x]",
-        "Cut(+(p18 c)) [+($imp (p29 c) (p30 c)),-(p30 c),+($imp (p28 c) (p29 c)),+($imp (p27 c) (p28 c)),+($imp (p26 c) (p27 c)),+($imp (p25 c) (p26 c)),+($imp (p24 c) (p25 c)),+($imp (p23 c) (p24 c)),+($imp (p22 c) (p23 c)),+($imp (p21 c) (p22 c)),+($imp (p20 c) (p21 c)),+($imp (p19 c) (p20 c)),+($imp (p18 c) (p19 c)),+($imp (p17 c) (p18 c)),+(p17 c)] [22,23]",
-        "Imp+(0) [+($imp (p16 c) (p17 c)),+(p16 c),-(p17 c)] [x,x]",
-        "Cut(+(p17 c)) [+($imp (p29 c) (p30 c)),-(p30 c),+($imp (p28 c) (p29 c)),+($imp (p27 c) (p28 c)),+($imp (p26 c) (p27 c)),+($imp (p25 c) (p26 c)),+($imp (p24 c) (p25 c)),+($imp (p23 c) (p24 c)),+($imp (p22 c) (p23 c)),+($imp (p21 c) (p22 c)),+($imp (p20 c) (p21 c)),+($imp (p19 c) (p20 c)),+($imp (p18 c) (p19 c)),+($imp (p17 c) (p18 c)),+($imp (p16 c) (p17 c)),+(p16 c)] [24,25]",
-        "Imp+(0) [+($imp (p15 c) (p16 c)),+(p15 c),-(p16 c)] [x,x]",
-        "Cut(+(p16 c)) [+($imp (p29 c) (p30 c)),-(p30 c),+($imp (p28 c) (p29 c)),+($imp (p27 c) (p28 c)),+($imp (p26 c) (p27 c)),+($imp (p25 c) (p26 c)),+($imp (p24 c) (p25 c)),+($imp (p23 c) (p24 c)),+($imp (p22 c) (p23 c)),+($imp (p21 c) (p22 c)),+($imp (p20 c) (p21 c)),+($imp (p19 c) (p20 c)),+($imp (p18 c) (p19 c)),+($imp (p17 c) (p18 c)),+($imp (p16 c) (p17 c)),+($imp (p15 c) (p16 c)),+(p15 c)] [26,27]",
-        "Imp+(0) [+($imp (p14 c) (p15 c)),+(p14 c),-(p15 c)] [x,x]",
-        "Cut(+(p15 c)) [+($imp (p29 c) (p30 c)),-(p30 c),+($imp (p28 c) (p29 c)),+($imp (p27 c) (p28 c)),+($imp (p26 c) (p27 c)),+($imp (p25 c) (p26 c)),+($imp (p24 c) (p25 c)),+($imp (p23 c) (p24 c)),+($imp (p22 c) (p23 c)),+($imp (p21 c) (p22 c)),+($imp (p20 c) (p21 c)),+($imp (p19 c) (p20 c)),+($imp (p18 c) (p19 c)),+($imp (p17 c) (p18 c)),+($imp (p16 c) (p17 c)),+($imp (p15 c) (p16 c)),+($imp (p14 c) (p15 c)),+(p14 c)] [28,29]",
-        "Imp+(0) [+($imp (p13 c) (p14 c)),+(p13 c),-(p14 c)] [x,x]",
-        "Cut(+(p14 c)) [+($imp (p29 c) (p30 c)),-(p30 c),+($imp (p28 c) (p29 c)),+($imp (p27 c) (p28 c)),+($imp (p26 c) (p27 c)),+($imp (p25 c) (p26 c)),+($imp (p24 c) (p25 c)),+($imp (p23 c) (p24 c)),+($imp (p22 c) (p23 c)),+($imp (p21 c) (p22 c)),+($imp (p20 c) (p21 c)),+($imp (p19 c) (p20 c)),+($imp (p18 c) (p19 c)),+($imp (p17 c) (p18 c)),+($imp (p16 c) (p17 c)),+($imp (p15 c) (p16 c)),+($imp (p14 c) (p15 c)),+($imp (p13 c) (p14 c)),+(p13 c)] [30,31]",
-        "Imp+(0) [+($imp (p12 c) (p13 c)),+(p12 c),-(p13 c)] [x,x]",
-        "Cut(+(p13 c)) [+($imp (p29 c) (p30 c)),-(p30 c),+($imp (p28 c) (p29 c)),+($imp (p27 c) (p28 c)),+($imp (p26 c) (p27 c)),+($imp (p25 c) (p26 c)),+($imp (p24 c) (p25 c)),+($imp (p23 c) (p24 c)),+($imp (p22 c) (p23 c)),+($imp (p21 c) (p22 c)),+($imp (p20 c) (p21 c)),+($imp (p19 c) (p20 c)),+($imp (p18 c) (p19 c)),+($imp (p17 c) (p18 c)),+($imp (p16 c) (p17 c)),+($imp (p15 c) (p16 c)),+($imp (p14 c) (p15 c)),+($imp (p13 c) (p14 c)),+($imp (p12 c) (p13 c)),+(p12 c)] [32,33]",
-        "Imp+(0) [+($imp (p11 c) (p12 c)),+(p11 c),-(p12 c)] [x,x]",
-        "Cut(+(p12 c)) [+($imp (p29 c) (p30 c)),-(p30 c),+($imp (p28 c) (p29 c)),+($imp (p27 c) (p28 c)),+($imp (p26 c) (p27 c)),+($imp (p25 c) (p26 c)),+($imp (p24 c) (p25 c)),+($imp (p23 c) (p24 c)),+($imp (p22 c) (p23 c)),+($imp (p21 c) (p22 c)),+($imp (p20 c) (p21 c)),+($imp (p19 c) (p20 c)),+($imp (p18 c) (p19 c)),+($imp (p17 c) (p18 c)),+($imp (p16 c) (p17 c)),+($imp (p15 c) (p16 c)),+($imp (p14 c) (p15 c)),+($imp (p13 c) (p14 c)),+($imp (p12 c) (p13 c)),+($imp (p11 c) (p12 c)),+(p11 c)] [34,35]",
-        "Imp+(0) [+($imp (p10 c) (p11 c)),+(p10 c),-(p11 c)] [x,x]",
-        "Cut(+(p11 c)) [+($imp (p29 c) (p30 c)),-(p30 c),+($imp (p28 c) (p29 c)),+($imp (p27 c) (p28 c)),+($imp (p26 c) (p27 c)),+($imp (p25 c) (p26 c)),+($imp (p24 c) (p25 c)),+($imp (p23 c) (p24 c)),+($imp (p22 c) (p23 c)),+($imp (p21 c) (p22 c)),+($imp (p20 c) (p21 c)),+($imp (p19 c) (p20 c)),+($imp (p18 c) (p19 c)),+($imp (p17 c) (p18 c)),+($imp (p16 c) (p17 c)),+($imp (p15 c) (p16 c)),+($imp (p14 c) (p15 c)),+($imp (p13 c) (p14 c)),+($imp (p12 c) (p13 c)),+($imp (p11 c) (p12 c)),+($imp (p10 c) (p11 c)),+(p10 c)] [36,37]",
-        "Imp+(0) [+($imp (p9 c) (p10 c)),+(p9 c),-(p10 c)] [x,x]",
-        "Cut(+(p10 c)) [+($imp (p29 c) (p30 c)),-(p30 c),+($imp (p28 c) (p29 c)),+($imp (p27 c) (p28 c)),+($imp (p26 c) (p27 c)),+($imp (p25 c) (p26 c)),+($imp (p24 c) (p25 c)),+($imp (p23 c) (p24 c)),+($imp (p22 c) (p23 c)),+($imp (p21 c) (p22 c)),+($imp (p20 c) (p21 c)),+($imp (p19 c) (p20 c)),+($imp (p18 c) (p19 c)),+($imp (p17 c) (p18 c)),+($imp (p16 c) (p17 c)),+($imp (p15 c) (p16 c)),+($imp (p14 c) (p15 c)),+($imp (p13 c) (p14 c)),+($imp (p12 c) (p13 c)),+($imp (p11 c) (p12 c)),+($imp (p10 c) (p11 c)),+($imp (p9 c) (p10 c)),+(p9 c)] [38,39]",
-        "Imp+(0) [+($imp (p8 c) (p9 c)),+(p8 c),-(p9 c)] [x,x]",
-        "Cut(+(p9 c)) [+($imp (p29 c) (p30 c)),-(p30 c),+($imp (p28 c) (p29 c)),+($imp (p27 c) (p28 c)),+($imp (p26 c) (p27 c)),+($imp (p25 c) (p26 c)),+($imp (p24 c) (p25 c)),+($imp (p23 c) (p24 c)),+($imp (p22 c) (p23 c)),+($imp (p21 c) (p22 c)),+($imp (p20 c) (p21 c)),+($imp (p19 c) (p20 c)),+($imp (p18 c) (p19 c)),+($imp (p17 c) (p18 c)),+($imp (p16 c) (p17 c)),+($imp (p15 c) (p16 c)),+($imp (p14 c) (p15 c)),+($imp (p13 c) (p14 c)),+($imp (p12 c) (p13 c)),+($imp (p11 c) (p12 c)),+($imp (p10 c) (p11 c)),+($imp (p9 c) (p10 c)),+($imp (p8 c) (p9 c)),+(p8 c)] [40,41]",
-        "Imp+(0) [+($imp (p7 c) (p8 c)),+(p7 c),-(p8 c)] [x,x]",
-        "Cut(+(p8 c)) [+($imp (p29 c) (p30 c)),-(p30 c),+($imp (p28 c) (p29 c)),+($imp (p27 c) (p28 c)),+($imp (p26 c) (p27 c)),+($imp (p25 c) (p26 c)),+($imp (p24 c) (p25 c)),+($imp (p23 c) (p24 c)),+($imp (p22 c) (p23 c)),+($imp (p21 c) (p22 c)),+($imp (p20 c) (p21 c)),+($imp (p19 c) (p20 c)),+($imp (p18 c) (p19 c)),+($imp (p17 c) (p18 c)),+($imp (p16 c) (p17 c)),+($imp (p15 c) (p16 c)),+($imp (p14 c) (p15 c)),+($imp (p13 c) (p14 c)),+($imp (p12 c) (p13 c)),+($imp (p11 c) (p12 c)),+($imp (p10 c) (p11 c)),+($imp (p9 c) (p10 c)),+($imp (p8 c) (p9 c)),+($imp (p7 c) (p8 c)),+(p7 c)] [42,43]",
-        "Imp+(0) [+($imp (p6 c) (p7 c)),+(p6 c),-(p7 c)] [x,x]",
-        "Cut(+(p7 c)) [+($imp (p29 c) (p30 c)),-(p30 c),+($imp (p28 c) (p29 c)),+($imp (p27 c) (p28 c)),+($imp (p26 c) (p27 c)),+($imp (p25 c) (p26 c)),+($imp (p24 c) (p25 c)),+($imp (p23 c) (p24 c)),+($imp (p22 c) (p23 c)),+($imp (p21 c) (p22 c)),+($imp (p20 c) (p21 c)),+($imp (p19 c) (p20 c)),+($imp (p18 c) (p19 c)),+($imp (p17 c) (p18 c)),+($imp (p16 c) (p17 c)),+($imp (p15 c) (p16 c)),+($imp (p14 c) (p15 c)),+($imp (p13 c) (p14 c)),+($imp (p12 c) (p13 c)),+($imp (p11 c) (p12 c)),+($imp (p10 c) (p11 c)),+($imp (p9 c) (p10 c)),+($imp (p8 c) (p9 c)),+($imp (p7 c) (p8 c)),+($imp (p6 c) (p7 c)),+(p6 c)] [44,45]",
-        "Imp+(0) [+($imp (p5 c) (p6 c)),+(p5 c),-(p6 c)] [x,x]",
-        "Cut(+(p6 c)) [+($imp (p29 c) (p30 c)),-(p30 c),+($imp (p28 c) (p29 c)),+($imp (p27 c) (p28 c)),+($imp (p26 c) (p27 c)),+($imp (p25 c) (p26 c)),+($imp (p24 c) (p25 c)),+($imp (p23 c) (p24 c)),+($imp (p22 c) (p23 c)),+($imp (p21 c) (p22 c)),+($imp (p20 c) (p21 c)),+($imp (p19 c) (p20 c)),+($imp (p18 c) (p19 c)),+($imp (p17 c) (p18 c)),+($imp (p16 c) (p17 c)),+($imp (p15 c) (p16 c)),+($imp (p14 c) (p15 c)),+($imp (p13 c) (p14 c)),+($imp (p12 c) (p13 c)),+($imp (p11 c) (p12 c)),+($imp (p10 c) (p11 c)),+($imp (p9 c) (p10 c)),+($imp (p8 c) (p9 c)),+($imp (p7 c) (p8 c)),+($imp (p6 c) (p7 c)),+($imp (p5 c) (p6 c)),+(p5 c)] [46,47]",
-        "Imp+(0) [+($imp (p4 c) (p5 c)),+(p4 c),-(p5 c)] [x,x]",
-        "Cut(+(p5 c)) [+($imp (p29 c) (p30 c)),-(p30 c),+($imp (p28 c) (p29 c)),+($imp (p27 c) (p28 c)),+($imp (p26 c) (p27 c)),+($imp (p25 c) (p26 c)),+($imp (p24 c) (p25 c)),+($imp (p23 c) (p24 c)),+($imp (p22 c) (p23 c)),+($imp (p21 c) (p22 c)),+($imp (p20 c) (p21 c)),+($imp (p19 c) (p20 c)),+($imp (p18 c) (p19 c)),+($imp (p17 c) (p18 c)),+($imp (p16 c) (p17 c)),+($imp (p15 c) (p16 c)),+($imp (p14 c) (p15 c)),+($imp (p13 c) (p14 c)),+($imp (p12 c) (p13 c)),+($imp (p11 c) (p12 c)),+($imp (p10 c) (p11 c)),+($imp (p9 c) (p10 c)),+($imp (p8 c) (p9 c)),+($imp (p7 c) (p8 c)),+($imp (p6 c) (p7 c)),+($imp (p5 c) (p6 c)),+($imp (p4 c) (p5 c)),+(p4 c)] [48,49]",
-        "Imp+(0) [+($imp (p3 c) (p4 c)),+(p3 c),-(p4 c)] [x,x]",
-        "Cut(+(p4 c)) [+($imp (p29 c) (p30 c)),-(p30 c),+($imp (p28 c) (p29 c)),+($imp (p27 c) (p28 c)),+($imp (p26 c) (p27 c)),+($imp (p25 c) (p26 c)),+($imp (p24 c) (p25 c)),+($imp (p23 c) (p24 c)),+($imp (p22 c) (p23 c)),+($imp (p21 c) (p22 c)),+($imp (p20 c) (p21 c)),+($imp (p19 c) (p20 c)),+($imp (p18 c) (p19 c)),+($imp (p17 c) (p18 c)),+($imp (p16 c) (p17 c)),+($imp (p15 c) (p16 c)),+($imp (p14 c) (p15 c)),+($imp (p13 c) (p14 c)),+($imp (p12 c) (p13 c)),+($imp (p11 c) (p12 c)),+($imp (p10 c) (p11 c)),+($imp (p9 c) (p10 c)),+($imp (p8 c) (p9 c)),+($imp (p7 c) (p8 c)),+($imp (p6 c) (p7 c)),+($imp (p5 c) (p6 c)),+($imp (p4 c) (p5 c)),+($imp (p3 c) (p4 c)),+(p3 c)] [50,51]",
-        "Imp+(0) [+($imp (p2 c) (p3 c)),+(p2 c),-(p3 c)] [x,x]",
-        "Cut(+(p3 c)) [+($imp (p29 c) (p30 c)),-(p30 c),+($imp (p28 c) (p29 c)),+($imp (p27 c) (p28 c)),+($imp (p26 c) (p27 c)),+($imp (p25 c) (p26 c)),+($imp (p24 c) (p25 c)),+($imp (p23 c) (p24 c)),+($imp (p22 c) (p23 c)),+($imp (p21 c) (p22 c)),+($imp (p20 c) (p21 c)),+($imp (p19 c) (p20 c)),+($imp (p18 c) (p19 c)),+($imp (p17 c) (p18 c)),+($imp (p16 c) (p17 c)),+($imp (p15 c) (p16 c)),+($imp (p14 c) (p15 c)),+($imp (p13 c) (p14 c)),+($imp (p12 c) (p13 c)),+($imp (p11 c) (p12 c)),+($imp (p10 c) (p11 c)),+($imp (p9 c) (p10 c)),+($imp (p8 c) (p9 c)),+($imp (p7 c) (p8 c)),+($imp (p6 c) (p7 c)),+($imp (p5 c) (p6 c)),+($imp (p4 c) (p5 c)),+($imp (p3 c) (p4 c)),+($imp (p2 c) (p3 c)),+(p2 c)] [52,53]",
-        "Imp+(0) [+($imp (p1 c) (p2 c)),+(p1 c),-(p2 c)] [x,x]",
-        "Cut(+(p2 c)) [+($imp (p29 c) (p30 c)),-(p30 c),+($imp (p28 c) (p29 c)),+($imp (p27 c) (p28 c)),+($imp (p26 c) (p27 c)),+($imp (p25 c) (p26 c)),+($imp (p24 c) (p25 c)),+($imp (p23 c) (p24 c)),+($imp (p22 c) (p23 c)),+($imp (p21 c) (p22 c)),+($imp (p20 c) (p21 c)),+($imp (p19 c) (p20 c)),+($imp (p18 c) (p19 c)),+($imp (p17 c) (p18 c)),+($imp (p16 c) (p17 c)),+($imp (p15 c) (p16 c)),+($imp (p14 c) (p15 c)),+($imp (p13 c) (p14 c)),+($imp (p12 c) (p13 c)),+($imp (p11 c) (p12 c)),+($imp (p10 c) (p11 c)),+($imp (p9 c) (p10 c)),+($imp (p8 c) (p9 c)),+($imp (p7 c) (p8 c)),+($imp (p6 c) (p7 c)),+($imp (p5 c) (p6 c)),+($imp (p4 c) (p5 c)),+($imp (p3 c) (p4 c)),+($imp (p2 c) (p3 c)),+($imp (p1 c) (p2 c)),+(p1 c)] [54,55]",
-        "Imp+(0) [+($imp (p0 c) (p1 c)),+(p0 c),-(p1 c)] [x,x]",
-        "Cut(+(p1 c)) [+($imp (p29 c) (p30 c)),-(p30 c),+($imp (p28 c) (p29 c)),+($imp (p27 c) (p28 c)),+($imp (p26 c) (p27 c)),+($imp (p25 c) (p26 c)),+($imp (p24 c) (p25 c)),+($imp (p23 c) (p24 c)),+($imp (p22 c) (p23 c)),+($imp (p21 c) (p22 c)),+($imp (p20 c) (p21 c)),+($imp (p19 c) (p20 c)),+($imp (p18 c) (p19 c)),+($imp (p17 c) (p18 c)),+($imp (p16 c) (p17 c)),+($imp (p15 c) (p16 c)),+($imp (p14 c) (p15 c)),+($imp (p13 c) (p14 c)),+($imp (p12 c) (p13 c)),+($imp (p11 c) (p12 c)),+($imp (p10 c) (p11 c)),+($imp (p9 c) (p10 c)),+($imp (p8 c) (p9 c)),+($imp (p7 c) (p8 c)),+($imp (p6 c) (p7 c)),+($imp (p5 c) (p6 c)),+($imp (p4 c) (p5 c)),+($imp (p3 c) (p4 c)),+($imp (p2 c) (p3 c)),+($imp (p1 c) (p2 c)),+($imp (p0 c) (p1 c)),+(p0 c)] [56,57]",
-    ],
-};
+
+0: Imp+(0) [+($imp (p29 c) (p30 c)),+(p29 c),-(p30 c)] [x,x]
+1: Imp+(0) [+($imp (p28 c) (p29 c)),+(p28 c),-(p29 c)] [x,x]
+2: Cut(+(p29 c)) [+($imp (p29 c) (p30 c)),-(p30 c),+($imp (p28 c) (p29 c)),+(p28 c)] [0,1]
+3: Imp+(0) [+($imp (p27 c) (p28 c)),+(p27 c),-(p28 c)] [x,x]
+4: Cut(+(p28 c)) [+($imp (p29 c) (p30 c)),-(p30 c),+($imp (p28 c) (p29 c)),+($imp (p27 c) (p28 c)),+(p27 c)] [2,3]
+5: Imp+(0) [+($imp (p26 c) (p27 c)),+(p26 c),-(p27 c)] [x,x]
+6: Cut(+(p27 c)) [+($imp (p29 c) (p30 c)),-(p30 c),+($imp (p28 c) (p29 c)),+($imp (p27 c) (p28 c)),+($imp (p26 c) (p27 c)),+(p26 c)] [4,5]
+7: Imp+(0) [+($imp (p25 c) (p26 c)),+(p25 c),-(p26 c)] [x,x]
+8: Cut(+(p26 c)) [+($imp (p29 c) (p30 c)),-(p30 c),+($imp (p28 c) (p29 c)),+($imp (p27 c) (p28 c)),+($imp (p26 c) (p27 c)),+($imp (p25 c) (p26 c)),+(p25 c)] [6,7]
+9: Imp+(0) [+($imp (p24 c) (p25 c)),+(p24 c),-(p25 c)] [x,x]
+10: Cut(+(p25 c)) [+($imp (p29 c) (p30 c)),-(p30 c),+($imp (p28 c) (p29 c)),+($imp (p27 c) (p28 c)),+($imp (p26 c) (p27 c)),+($imp (p25 c) (p26 c)),+($imp (p24 c) (p25 c)),+(p24 c)] [8,9]
+11: Imp+(0) [+($imp (p23 c) (p24 c)),+(p23 c),-(p24 c)] [x,x]
+12: Cut(+(p24 c)) [+($imp (p29 c) (p30 c)),-(p30 c),+($imp (p28 c) (p29 c)),+($imp (p27 c) (p28 c)),+($imp (p26 c) (p27 c)),+($imp (p25 c) (p26 c)),+($imp (p24 c) (p25 c)),+($imp (p23 c) (p24 c)),+(p23 c)] [10,11]
+13: Imp+(0) [+($imp (p22 c) (p23 c)),+(p22 c),-(p23 c)] [x,x]
+14: Cut(+(p23 c)) [+($imp (p29 c) (p30 c)),-(p30 c),+($imp (p28 c) (p29 c)),+($imp (p27 c) (p28 c)),+($imp (p26 c) (p27 c)),+($imp (p25 c) (p26 c)),+($imp (p24 c) (p25 c)),+($imp (p23 c) (p24 c)),+($imp (p22 c) (p23 c)),+(p22 c)] [12,13]
+15: Imp+(0) [+($imp (p21 c) (p22 c)),+(p21 c),-(p22 c)] [x,x]
+16: Cut(+(p22 c)) [+($imp (p29 c) (p30 c)),-(p30 c),+($imp (p28 c) (p29 c)),+($imp (p27 c) (p28 c)),+($imp (p26 c) (p27 c)),+($imp (p25 c) (p26 c)),+($imp (p24 c) (p25 c)),+($imp (p23 c) (p24 c)),+($imp (p22 c) (p23 c)),+($imp (p21 c) (p22 c)),+(p21 c)] [14,15]
+17: Imp+(0) [+($imp (p20 c) (p21 c)),+(p20 c),-(p21 c)] [x,x]
+18: Cut(+(p21 c)) [+($imp (p29 c) (p30 c)),-(p30 c),+($imp (p28 c) (p29 c)),+($imp (p27 c) (p28 c)),+($imp (p26 c) (p27 c)),+($imp (p25 c) (p26 c)),+($imp (p24 c) (p25 c)),+($imp (p23 c) (p24 c)),+($imp (p22 c) (p23 c)),+($imp (p21 c) (p22 c)),+($imp (p20 c) (p21 c)),+(p20 c)] [16,17]
+19: Imp+(0) [+($imp (p19 c) (p20 c)),+(p19 c),-(p20 c)] [x,x]
+20: Cut(+(p20 c)) [+($imp (p29 c) (p30 c)),-(p30 c),+($imp (p28 c) (p29 c)),+($imp (p27 c) (p28 c)),+($imp (p26 c) (p27 c)),+($imp (p25 c) (p26 c)),+($imp (p24 c) (p25 c)),+($imp (p23 c) (p24 c)),+($imp (p22 c) (p23 c)),+($imp (p21 c) (p22 c)),+($imp (p20 c) (p21 c)),+($imp (p19 c) (p20 c)),+(p19 c)] [18,19]
+21: Imp+(0) [+($imp (p18 c) (p19 c)),+(p18 c),-(p19 c)] [x,x]
+22: Cut(+(p19 c)) [+($imp (p29 c) (p30 c)),-(p30 c),+($imp (p28 c) (p29 c)),+($imp (p27 c) (p28 c)),+($imp (p26 c) (p27 c)),+($imp (p25 c) (p26 c)),+($imp (p24 c) (p25 c)),+($imp (p23 c) (p24 c)),+($imp (p22 c) (p23 c)),+($imp (p21 c) (p22 c)),+($imp (p20 c) (p21 c)),+($imp (p19 c) (p20 c)),+($imp (p18 c) (p19 c)),+(p18 c)] [20,21]
+23: Imp+(0) [+($imp (p17 c) (p18 c)),+(p17 c),-(p18 c)] [x,x]
+24: Cut(+(p18 c)) [+($imp (p29 c) (p30 c)),-(p30 c),+($imp (p28 c) (p29 c)),+($imp (p27 c) (p28 c)),+($imp (p26 c) (p27 c)),+($imp (p25 c) (p26 c)),+($imp (p24 c) (p25 c)),+($imp (p23 c) (p24 c)),+($imp (p22 c) (p23 c)),+($imp (p21 c) (p22 c)),+($imp (p20 c) (p21 c)),+($imp (p19 c) (p20 c)),+($imp (p18 c) (p19 c)),+($imp (p17 c) (p18 c)),+(p17 c)] [22,23]
+25: Imp+(0) [+($imp (p16 c) (p17 c)),+(p16 c),-(p17 c)] [x,x]
+26: Cut(+(p17 c)) [+($imp (p29 c) (p30 c)),-(p30 c),+($imp (p28 c) (p29 c)),+($imp (p27 c) (p28 c)),+($imp (p26 c) (p27 c)),+($imp (p25 c) (p26 c)),+($imp (p24 c) (p25 c)),+($imp (p23 c) (p24 c)),+($imp (p22 c) (p23 c)),+($imp (p21 c) (p22 c)),+($imp (p20 c) (p21 c)),+($imp (p19 c) (p20 c)),+($imp (p18 c) (p19 c)),+($imp (p17 c) (p18 c)),+($imp (p16 c) (p17 c)),+(p16 c)] [24,25]
+27: Imp+(0) [+($imp (p15 c) (p16 c)),+(p15 c),-(p16 c)] [x,x]
+28: Cut(+(p16 c)) [+($imp (p29 c) (p30 c)),-(p30 c),+($imp (p28 c) (p29 c)),+($imp (p27 c) (p28 c)),+($imp (p26 c) (p27 c)),+($imp (p25 c) (p26 c)),+($imp (p24 c) (p25 c)),+($imp (p23 c) (p24 c)),+($imp (p22 c) (p23 c)),+($imp (p21 c) (p22 c)),+($imp (p20 c) (p21 c)),+($imp (p19 c) (p20 c)),+($imp (p18 c) (p19 c)),+($imp (p17 c) (p18 c)),+($imp (p16 c) (p17 c)),+($imp (p15 c) (p16 c)),+(p15 c)] [26,27]
+29: Imp+(0) [+($imp (p14 c) (p15 c)),+(p14 c),-(p15 c)] [x,x]
+30: Cut(+(p15 c)) [+($imp (p29 c) (p30 c)),-(p30 c),+($imp (p28 c) (p29 c)),+($imp (p27 c) (p28 c)),+($imp (p26 c) (p27 c)),+($imp (p25 c) (p26 c)),+($imp (p24 c) (p25 c)),+($imp (p23 c) (p24 c)),+($imp (p22 c) (p23 c)),+($imp (p21 c) (p22 c)),+($imp (p20 c) (p21 c)),+($imp (p19 c) (p20 c)),+($imp (p18 c) (p19 c)),+($imp (p17 c) (p18 c)),+($imp (p16 c) (p17 c)),+($imp (p15 c) (p16 c)),+($imp (p14 c) (p15 c)),+(p14 c)] [28,29]
+31: Imp+(0) [+($imp (p13 c) (p14 c)),+(p13 c),-(p14 c)] [x,x]
+32: Cut(+(p14 c)) [+($imp (p29 c) (p30 c)),-(p30 c),+($imp (p28 c) (p29 c)),+($imp (p27 c) (p28 c)),+($imp (p26 c) (p27 c)),+($imp (p25 c) (p26 c)),+($imp (p24 c) (p25 c)),+($imp (p23 c) (p24 c)),+($imp (p22 c) (p23 c)),+($imp (p21 c) (p22 c)),+($imp (p20 c) (p21 c)),+($imp (p19 c) (p20 c)),+($imp (p18 c) (p19 c)),+($imp (p17 c) (p18 c)),+($imp (p16 c) (p17 c)),+($imp (p15 c) (p16 c)),+($imp (p14 c) (p15 c)),+($imp (p13 c) (p14 c)),+(p13 c)] [30,31]
+33: Imp+(0) [+($imp (p12 c) (p13 c)),+(p12 c),-(p13 c)] [x,x]
+34: Cut(+(p13 c)) [+($imp (p29 c) (p30 c)),-(p30 c),+($imp (p28 c) (p29 c)),+($imp (p27 c) (p28 c)),+($imp (p26 c) (p27 c)),+($imp (p25 c) (p26 c)),+($imp (p24 c) (p25 c)),+($imp (p23 c) (p24 c)),+($imp (p22 c) (p23 c)),+($imp (p21 c) (p22 c)),+($imp (p20 c) (p21 c)),+($imp (p19 c) (p20 c)),+($imp (p18 c) (p19 c)),+($imp (p17 c) (p18 c)),+($imp (p16 c) (p17 c)),+($imp (p15 c) (p16 c)),+($imp (p14 c) (p15 c)),+($imp (p13 c) (p14 c)),+($imp (p12 c) (p13 c)),+(p12 c)] [32,33]
+35: Imp+(0) [+($imp (p11 c) (p12 c)),+(p11 c),-(p12 c)] [x,x]
+36: Cut(+(p12 c)) [+($imp (p29 c) (p30 c)),-(p30 c),+($imp (p28 c) (p29 c)),+($imp (p27 c) (p28 c)),+($imp (p26 c) (p27 c)),+($imp (p25 c) (p26 c)),+($imp (p24 c) (p25 c)),+($imp (p23 c) (p24 c)),+($imp (p22 c) (p23 c)),+($imp (p21 c) (p22 c)),+($imp (p20 c) (p21 c)),+($imp (p19 c) (p20 c)),+($imp (p18 c) (p19 c)),+($imp (p17 c) (p18 c)),+($imp (p16 c) (p17 c)),+($imp (p15 c) (p16 c)),+($imp (p14 c) (p15 c)),+($imp (p13 c) (p14 c)),+($imp (p12 c) (p13 c)),+($imp (p11 c) (p12 c)),+(p11 c)] [34,35]
+37: Imp+(0) [+($imp (p10 c) (p11 c)),+(p10 c),-(p11 c)] [x,x]
+38: Cut(+(p11 c)) [+($imp (p29 c) (p30 c)),-(p30 c),+($imp (p28 c) (p29 c)),+($imp (p27 c) (p28 c)),+($imp (p26 c) (p27 c)),+($imp (p25 c) (p26 c)),+($imp (p24 c) (p25 c)),+($imp (p23 c) (p24 c)),+($imp (p22 c) (p23 c)),+($imp (p21 c) (p22 c)),+($imp (p20 c) (p21 c)),+($imp (p19 c) (p20 c)),+($imp (p18 c) (p19 c)),+($imp (p17 c) (p18 c)),+($imp (p16 c) (p17 c)),+($imp (p15 c) (p16 c)),+($imp (p14 c) (p15 c)),+($imp (p13 c) (p14 c)),+($imp (p12 c) (p13 c)),+($imp (p11 c) (p12 c)),+($imp (p10 c) (p11 c)),+(p10 c)] [36,37]
+39: Imp+(0) [+($imp (p9 c) (p10 c)),+(p9 c),-(p10 c)] [x,x]
+40: Cut(+(p10 c)) [+($imp (p29 c) (p30 c)),-(p30 c),+($imp (p28 c) (p29 c)),+($imp (p27 c) (p28 c)),+($imp (p26 c) (p27 c)),+($imp (p25 c) (p26 c)),+($imp (p24 c) (p25 c)),+($imp (p23 c) (p24 c)),+($imp (p22 c) (p23 c)),+($imp (p21 c) (p22 c)),+($imp (p20 c) (p21 c)),+($imp (p19 c) (p20 c)),+($imp (p18 c) (p19 c)),+($imp (p17 c) (p18 c)),+($imp (p16 c) (p17 c)),+($imp (p15 c) (p16 c)),+($imp (p14 c) (p15 c)),+($imp (p13 c) (p14 c)),+($imp (p12 c) (p13 c)),+($imp (p11 c) (p12 c)),+($imp (p10 c) (p11 c)),+($imp (p9 c) (p10 c)),+(p9 c)] [38,39]
+41: Imp+(0) [+($imp (p8 c) (p9 c)),+(p8 c),-(p9 c)] [x,x]
+42: Cut(+(p9 c)) [+($imp (p29 c) (p30 c)),-(p30 c),+($imp (p28 c) (p29 c)),+($imp (p27 c) (p28 c)),+($imp (p26 c) (p27 c)),+($imp (p25 c) (p26 c)),+($imp (p24 c) (p25 c)),+($imp (p23 c) (p24 c)),+($imp (p22 c) (p23 c)),+($imp (p21 c) (p22 c)),+($imp (p20 c) (p21 c)),+($imp (p19 c) (p20 c)),+($imp (p18 c) (p19 c)),+($imp (p17 c) (p18 c)),+($imp (p16 c) (p17 c)),+($imp (p15 c) (p16 c)),+($imp (p14 c) (p15 c)),+($imp (p13 c) (p14 c)),+($imp (p12 c) (p13 c)),+($imp (p11 c) (p12 c)),+($imp (p10 c) (p11 c)),+($imp (p9 c) (p10 c)),+($imp (p8 c) (p9 c)),+(p8 c)] [40,41]
+43: Imp+(0) [+($imp (p7 c) (p8 c)),+(p7 c),-(p8 c)] [x,x]
+44: Cut(+(p8 c)) [+($imp (p29 c) (p30 c)),-(p30 c),+($imp (p28 c) (p29 c)),+($imp (p27 c) (p28 c)),+($imp (p26 c) (p27 c)),+($imp (p25 c) (p26 c)),+($imp (p24 c) (p25 c)),+($imp (p23 c) (p24 c)),+($imp (p22 c) (p23 c)),+($imp (p21 c) (p22 c)),+($imp (p20 c) (p21 c)),+($imp (p19 c) (p20 c)),+($imp (p18 c) (p19 c)),+($imp (p17 c) (p18 c)),+($imp (p16 c) (p17 c)),+($imp (p15 c) (p16 c)),+($imp (p14 c) (p15 c)),+($imp (p13 c) (p14 c)),+($imp (p12 c) (p13 c)),+($imp (p11 c) (p12 c)),+($imp (p10 c) (p11 c)),+($imp (p9 c) (p10 c)),+($imp (p8 c) (p9 c)),+($imp (p7 c) (p8 c)),+(p7 c)] [42,43]
+45: Imp+(0) [+($imp (p6 c) (p7 c)),+(p6 c),-(p7 c)] [x,x]
+46: Cut(+(p7 c)) [+($imp (p29 c) (p30 c)),-(p30 c),+($imp (p28 c) (p29 c)),+($imp (p27 c) (p28 c)),+($imp (p26 c) (p27 c)),+($imp (p25 c) (p26 c)),+($imp (p24 c) (p25 c)),+($imp (p23 c) (p24 c)),+($imp (p22 c) (p23 c)),+($imp (p21 c) (p22 c)),+($imp (p20 c) (p21 c)),+($imp (p19 c) (p20 c)),+($imp (p18 c) (p19 c)),+($imp (p17 c) (p18 c)),+($imp (p16 c) (p17 c)),+($imp (p15 c) (p16 c)),+($imp (p14 c) (p15 c)),+($imp (p13 c) (p14 c)),+($imp (p12 c) (p13 c)),+($imp (p11 c) (p12 c)),+($imp (p10 c) (p11 c)),+($imp (p9 c) (p10 c)),+($imp (p8 c) (p9 c)),+($imp (p7 c) (p8 c)),+($imp (p6 c) (p7 c)),+(p6 c)] [44,45]
+47: Imp+(0) [+($imp (p5 c) (p6 c)),+(p5 c),-(p6 c)] [x,x]
+48: Cut(+(p6 c)) [+($imp (p29 c) (p30 c)),-(p30 c),+($imp (p28 c) (p29 c)),+($imp (p27 c) (p28 c)),+($imp (p26 c) (p27 c)),+($imp (p25 c) (p26 c)),+($imp (p24 c) (p25 c)),+($imp (p23 c) (p24 c)),+($imp (p22 c) (p23 c)),+($imp (p21 c) (p22 c)),+($imp (p20 c) (p21 c)),+($imp (p19 c) (p20 c)),+($imp (p18 c) (p19 c)),+($imp (p17 c) (p18 c)),+($imp (p16 c) (p17 c)),+($imp (p15 c) (p16 c)),+($imp (p14 c) (p15 c)),+($imp (p13 c) (p14 c)),+($imp (p12 c) (p13 c)),+($imp (p11 c) (p12 c)),+($imp (p10 c) (p11 c)),+($imp (p9 c) (p10 c)),+($imp (p8 c) (p9 c)),+($imp (p7 c) (p8 c)),+($imp (p6 c) (p7 c)),+($imp (p5 c) (p6 c)),+(p5 c)] [46,47]
+49: Imp+(0) [+($imp (p4 c) (p5 c)),+(p4 c),-(p5 c)] [x,x]
+50: Cut(+(p5 c)) [+($imp (p29 c) (p30 c)),-(p30 c),+($imp (p28 c) (p29 c)),+($imp (p27 c) (p28 c)),+($imp (p26 c) (p27 c)),+($imp (p25 c) (p26 c)),+($imp (p24 c) (p25 c)),+($imp (p23 c) (p24 c)),+($imp (p22 c) (p23 c)),+($imp (p21 c) (p22 c)),+($imp (p20 c) (p21 c)),+($imp (p19 c) (p20 c)),+($imp (p18 c) (p19 c)),+($imp (p17 c) (p18 c)),+($imp (p16 c) (p17 c)),+($imp (p15 c) (p16 c)),+($imp (p14 c) (p15 c)),+($imp (p13 c) (p14 c)),+($imp (p12 c) (p13 c)),+($imp (p11 c) (p12 c)),+($imp (p10 c) (p11 c)),+($imp (p9 c) (p10 c)),+($imp (p8 c) (p9 c)),+($imp (p7 c) (p8 c)),+($imp (p6 c) (p7 c)),+($imp (p5 c) (p6 c)),+($imp (p4 c) (p5 c)),+(p4 c)] [48,49]
+51: Imp+(0) [+($imp (p3 c) (p4 c)),+(p3 c),-(p4 c)] [x,x]
+52: Cut(+(p4 c)) [+($imp (p29 c) (p30 c)),-(p30 c),+($imp (p28 c) (p29 c)),+($imp (p27 c) (p28 c)),+($imp (p26 c) (p27 c)),+($imp (p25 c) (p26 c)),+($imp (p24 c) (p25 c)),+($imp (p23 c) (p24 c)),+($imp (p22 c) (p23 c)),+($imp (p21 c) (p22 c)),+($imp (p20 c) (p21 c)),+($imp (p19 c) (p20 c)),+($imp (p18 c) (p19 c)),+($imp (p17 c) (p18 c)),+($imp (p16 c) (p17 c)),+($imp (p15 c) (p16 c)),+($imp (p14 c) (p15 c)),+($imp (p13 c) (p14 c)),+($imp (p12 c) (p13 c)),+($imp (p11 c) (p12 c)),+($imp (p10 c) (p11 c)),+($imp (p9 c) (p10 c)),+($imp (p8 c) (p9 c)),+($imp (p7 c) (p8 c)),+($imp (p6 c) (p7 c)),+($imp (p5 c) (p6 c)),+($imp (p4 c) (p5 c)),+($imp (p3 c) (p4 c)),+(p3 c)] [50,51]
+53: Imp+(0) [+($imp (p2 c) (p3 c)),+(p2 c),-(p3 c)] [x,x]
+54: Cut(+(p3 c)) [+($imp (p29 c) (p30 c)),-(p30 c),+($imp (p28 c) (p29 c)),+($imp (p27 c) (p28 c)),+($imp (p26 c) (p27 c)),+($imp (p25 c) (p26 c)),+($imp (p24 c) (p25 c)),+($imp (p23 c) (p24 c)),+($imp (p22 c) (p23 c)),+($imp (p21 c) (p22 c)),+($imp (p20 c) (p21 c)),+($imp (p19 c) (p20 c)),+($imp (p18 c) (p19 c)),+($imp (p17 c) (p18 c)),+($imp (p16 c) (p17 c)),+($imp (p15 c) (p16 c)),+($imp (p14 c) (p15 c)),+($imp (p13 c) (p14 c)),+($imp (p12 c) (p13 c)),+($imp (p11 c) (p12 c)),+($imp (p10 c) (p11 c)),+($imp (p9 c) (p10 c)),+($imp (p8 c) (p9 c)),+($imp (p7 c) (p8 c)),+($imp (p6 c) (p7 c)),+($imp (p5 c) (p6 c)),+($imp (p4 c) (p5 c)),+($imp (p3 c) (p4 c)),+($imp (p2 c) (p3 c)),+(p2 c)] [52,53]
+55: Imp+(0) [+($imp (p1 c) (p2 c)),+(p1 c),-(p2 c)] [x,x]
+56: Cut(+(p2 c)) [+($imp (p29 c) (p30 c)),-(p30 c),+($imp (p28 c) (p29 c)),+($imp (p27 c) (p28 c)),+($imp (p26 c) (p27 c)),+($imp (p25 c) (p26 c)),+($imp (p24 c) (p25 c)),+($imp (p23 c) (p24 c)),+($imp (p22 c) (p23 c)),+($imp (p21 c) (p22 c)),+($imp (p20 c) (p21 c)),+($imp (p19 c) (p20 c)),+($imp (p18 c) (p19 c)),+($imp (p17 c) (p18 c)),+($imp (p16 c) (p17 c)),+($imp (p15 c) (p16 c)),+($imp (p14 c) (p15 c)),+($imp (p13 c) (p14 c)),+($imp (p12 c) (p13 c)),+($imp (p11 c) (p12 c)),+($imp (p10 c) (p11 c)),+($imp (p9 c) (p10 c)),+($imp (p8 c) (p9 c)),+($imp (p7 c) (p8 c)),+($imp (p6 c) (p7 c)),+($imp (p5 c) (p6 c)),+($imp (p4 c) (p5 c)),+($imp (p3 c) (p4 c)),+($imp (p2 c) (p3 c)),+($imp (p1 c) (p2 c)),+(p1 c)] [54,55]
+57: Imp+(0) [+($imp (p0 c) (p1 c)),+(p0 c),-(p1 c)] [x,x]
+58: Cut(+(p1 c)) [+($imp (p29 c) (p30 c)),-(p30 c),+($imp (p28 c) (p29 c)),+($imp (p27 c) (p28 c)),+($imp (p26 c) (p27 c)),+($imp (p25 c) (p26 c)),+($imp (p24 c) (p25 c)),+($imp (p23 c) (p24 c)),+($imp (p22 c) (p23 c)),+($imp (p21 c) (p22 c)),+($imp (p20 c) (p21 c)),+($imp (p19 c) (p20 c)),+($imp (p18 c) (p19 c)),+($imp (p17 c) (p18 c)),+($imp (p16 c) (p17 c)),+($imp (p15 c) (p16 c)),+($imp (p14 c) (p15 c)),+($imp (p13 c) (p14 c)),+($imp (p12 c) (p13 c)),+($imp (p11 c) (p12 c)),+($imp (p10 c) (p11 c)),+($imp (p9 c) (p10 c)),+($imp (p8 c) (p9 c)),+($imp (p7 c) (p8 c)),+($imp (p6 c) (p7 c)),+($imp (p5 c) (p6 c)),+($imp (p4 c) (p5 c)),+($imp (p3 c) (p4 c)),+($imp (p2 c) (p3 c)),+($imp (p1 c) (p2 c)),+($imp (p0 c) (p1 c)),+(p0 c)] [56,57]
+
+62
+
+principal 5
+0: Imp+(0) [-($imp (p29 c) (p30 c)),+(p29 c),-(p30 c)] [x,x]
+
+child 62
+57: Imp+(0) [+($imp (p0 c) (p1 c)),+(p0 c),+(p1 c)] [x,x]
+";

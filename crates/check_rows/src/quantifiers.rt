@@ -1,11 +1,7 @@
 //! Quantifiers: terms for variables, and witness rows.
 
-use crate::answers::Answer::{Accepted, Refused};
-use crate::answers::Case;
-use stt_tableau::Why::{Child, Last, Principal, Twice, Typing};
-
 /// Start is `-($all[$i] ^$i.($not ($all[$i] ^$i.(r #1 #0))))` and `-($all[$i] ^$i.($not ($all[$i] ^$i.($not (r #0 #1)))))`.
-pub const PROBLEM: &str = "\
+pub const CASES: &str = "\
 thf(t,type,t: $tType).
 thf(d,type,d: t).
 thf(c,type,c: $i).
@@ -14,439 +10,408 @@ thf(s,type,s: $i > $o).
 thf(r,type,r: $i > $i > $o).
 thf(row,axiom,( ? [X:$i] : ! [Y:$i] : ( r @ X @ Y ) )).
 thf(goal,conjecture,( ! [Y:$i] : ? [X:$i] : ( r @ X @ Y ) )).
+
+accepted
+w0 ^$i.($not ($all[$i] ^$i.(r #1 #0)))
+w1 ^$i.($not ($all[$i] ^$i.($not (r #0 #1))))
+0: All+(0;$w0) [+($all[$i] ^$i.($not (r #0 $w1))),+(r $w0 $w1)] [x]
+1: All+(1;$w1) [+($all[$i] ^$i.($not (r #0 $w1))),+($all[$i] ^$i.(r $w0 #0))] [0]
+2: All-(0) [-($all[$i] ^$i.($not ($all[$i] ^$i.($not (r #0 #1))))),+($all[$i] ^$i.(r $w0 #0))] [1]
+3: All-(0) [-($all[$i] ^$i.($not ($all[$i] ^$i.(r #1 #0)))),-($all[$i] ^$i.($not ($all[$i] ^$i.($not (r #0 #1)))))] [2]
+
+% Further rows that no line needs, one of which names an earlier one, and one that says the same of another type.
+accepted
+w0 ^$i.($not ($all[$i] ^$i.(r #1 #0)))
+w1 ^$i.($not ($all[$i] ^$i.($not (r #0 #1))))
+w2 ^$i.(r $w0 #0)
+w3 ^$i.(r $w1 $w2)
+0: All+(0;$w0) [+($all[$i] ^$i.($not (r #0 $w1))),+(r $w0 $w1)] [x]
+1: All+(1;$w1) [+($all[$i] ^$i.($not (r #0 $w1))),+($all[$i] ^$i.(r $w0 #0))] [0]
+2: All-(0) [-($all[$i] ^$i.($not ($all[$i] ^$i.($not (r #0 #1))))),+($all[$i] ^$i.(r $w0 #0))] [1]
+3: All-(0) [-($all[$i] ^$i.($not ($all[$i] ^$i.(r #1 #0)))),-($all[$i] ^$i.($not ($all[$i] ^$i.($not (r #0 #1)))))] [2]
+
+accepted
+w0 ^$i.($not ($all[$i] ^$i.(r #1 #0)))
+w1 ^$i.($not ($all[$i] ^$i.($not (r #0 #1))))
+w2 ^$i.$f
+w3 ^t.$f
+0: All+(0;$w0) [+($all[$i] ^$i.($not (r #0 $w1))),+(r $w0 $w1)] [x]
+1: All+(1;$w1) [+($all[$i] ^$i.($not (r #0 $w1))),+($all[$i] ^$i.(r $w0 #0))] [0]
+2: All-(0) [-($all[$i] ^$i.($not ($all[$i] ^$i.($not (r #0 #1))))),+($all[$i] ^$i.(r $w0 #0))] [1]
+3: All-(0) [-($all[$i] ^$i.($not ($all[$i] ^$i.(r #1 #0)))),-($all[$i] ^$i.($not ($all[$i] ^$i.($not (r #0 #1)))))] [2]
+
+% The rows exchanged under their lines: the witness of the third line is another one.
+child 7
+w0 ^$i.($not ($all[$i] ^$i.($not (r #0 #1))))
+w1 ^$i.($not ($all[$i] ^$i.(r #1 #0)))
+0: All+(0;$w0) [+($all[$i] ^$i.($not (r #0 $w1))),+(r $w0 $w1)] [x]
+1: All+(1;$w1) [+($all[$i] ^$i.($not (r #0 $w1))),+($all[$i] ^$i.(r $w0 #0))] [0]
+2: All-(0) [-($all[$i] ^$i.($not ($all[$i] ^$i.($not (r #0 #1))))),+($all[$i] ^$i.(r $w0 #0))] [1]
+3: All-(0) [-($all[$i] ^$i.($not ($all[$i] ^$i.(r #1 #0)))),-($all[$i] ^$i.($not ($all[$i] ^$i.($not (r #0 #1)))))] [2]
+
+% A row left out.
+type 4
+w0 ^$i.($not ($all[$i] ^$i.(r #1 #0)))
+0: All+(0;$w0) [+($all[$i] ^$i.($not (r #0 $w1))),+(r $w0 $w1)] [x]
+1: All+(1;$w1) [+($all[$i] ^$i.($not (r #0 $w1))),+($all[$i] ^$i.(r $w0 #0))] [0]
+2: All-(0) [-($all[$i] ^$i.($not ($all[$i] ^$i.($not (r #0 #1))))),+($all[$i] ^$i.(r $w0 #0))] [1]
+3: All-(0) [-($all[$i] ^$i.($not ($all[$i] ^$i.(r #1 #0)))),-($all[$i] ^$i.($not ($all[$i] ^$i.($not (r #0 #1)))))] [2]
+
+% No lines, and the last lines left out.
+last 5
+w0 ^$i.($not ($all[$i] ^$i.(r #1 #0)))
+w1 ^$i.($not ($all[$i] ^$i.($not (r #0 #1))))
+
+last 7
+w0 ^$i.($not ($all[$i] ^$i.(r #1 #0)))
+w1 ^$i.($not ($all[$i] ^$i.($not (r #0 #1))))
+0: All+(0;$w0) [+($all[$i] ^$i.($not (r #0 $w1))),+(r $w0 $w1)] [x]
+1: All+(1;$w1) [+($all[$i] ^$i.($not (r #0 $w1))),+($all[$i] ^$i.(r $w0 #0))] [0]
+2: All-(0) [-($all[$i] ^$i.($not ($all[$i] ^$i.($not (r #0 #1))))),+($all[$i] ^$i.(r $w0 #0))] [1]
+
+% Rows that aren't predicates of one type.
+type 3
+w0 c
+
+type 3
+w0 $f
+
+type 3
+w0 #0
+
+type 3
+w0 ($not $f)
+
+type 3
+w0 ^$i.c
+
+type 3
+w0 ^$i.#0
+
+last 4
+w0 ^$o.#0
+
+type 3
+w0 ^$i.^$i.(r #1 #0)
+
+% Not with all variables.
+type 3
+w0 s
+
+type 3
+w0 $not
+
+type 3
+w0 (r c)
+
+type 3
+w0 ^$i.(r #0)
+
+type 3
+w0 ^($i>$o).($all[$i] #0)
+
+last 4
+w0 ^($i>$o).($all[$i] ^$i.(#1 #0))
+
+% Not closed, not typed, or with a name that isn't declared.
+type 3
+w0 ^$i.(s #1)
+
+type 3
+w0 ^$i.(s d)
+
+type 3
+w0 ^t.(s #0)
+
+type 3
+w0 ^$i.(z #0)
+
+type 3
+w0 ^u.$f
+
+type 3
+w0 ^c.$f
+
+last 4
+w0 ^(t>$o).(#0 d)
+
+% Witnesses of the row itself and of later ones.
+type 3
+w0 ^$i.(r #0 $w0)
+
+type 3
+w0 ^$i.(r #0 $w1)
+w1 ^$i.(s #0)
+
+type 4
+w0 ^$i.(s #0)
+w1 ^$i.(r $w1 #0)
+
+type 4
+w0 ^$i.(s #0)
+w1 ^$i.(r $w2 #0)
+
+last 6
+w0 ^$i.(s #0)
+w1 ^$i.(r $w0 #0)
+w2 ^$i.(r $w0 $w1)
+
+% The type of an earlier witness is that of its row.
+type 4
+w0 ^t.$f
+w1 ^$i.(r $w0 #0)
+
+last 5
+w0 ^t.$f
+w1 ^$i.($eq[t] $w0 d)
+
+% The same predicate twice.
+twice 4
+w0 ^$i.(s #0)
+w1 ^$i.(s #0)
+
+twice 5
+w0 ^$i.$f
+w1 ^$i.(s #0)
+w2 ^$i.$f
+
+twice 5
+w0 ^$i.$f
+w1 ^t.$f
+w2 ^t.$f
+
+last 5
+w0 ^$i.$f
+w1 ^t.$f
+
+twice 4
+w0 ^$i.(s #0)
+w1 ^$i.(s #0)
+w2 c
+
+type 3
+w0 ^$i.(z #0)
+w1 ^$i.(z #0)
+
+twice 6
+w0 ^$i.(s #0)
+w1 ^$i.(r $w0 #0)
+w2 ^$i.(r $w1 #0)
+w3 ^$i.(r $w0 #0)
+
+% Rows come before lines.
+type 4
+w0 ^$i.($not ($all[$i] ^$i.(r #1 #0)))
+w1 c
+0: False(0) [+z] []
+
+twice 4
+w0 ^$i.($not ($all[$i] ^$i.(r #1 #0)))
+w1 ^$i.($not ($all[$i] ^$i.(r #1 #0)))
+0: False(0) [+z] []
+
+type 4
+w0 ^$i.($not ($all[$i] ^$i.(r #1 #0)))
+0: False(0) [+z] []
+
+% Right lines that aren't about the problem: a term under functions, a function applied, and both.
+last 3
+0: All+(0;c) [+($all[$i] ^$i.($all[$i] ^$i.(r #1 #0))),-($all[$i] ^$i.(r c #0))] [x]
+
+last 3
+0: All+(0;^$i.(s #0)) [+($all[($i>$o)] ^($i>$o).(#0 c)),-(s c)] [x]
+
+last 3
+0: All+(0;^$i.(k (k #0))) [+($all[($i>$i)] ^($i>$i).(r (#0 c) (#0 (#0 c)))),-(r (k (k c)) (k (k (k (k c)))))] [x]
+
+last 3
+0: All+(0;^$i.(r c #0)) [+($all[($i>$o)] ^($i>$o).($all[$i] ^$i.($imp (#1 #0) (#1 c)))),-($all[$i] ^$i.($imp (r c #0) (r c c)))] [x]
+
+last 3
+0: All+(0;^$i.($not (s #0))) [+($all[($i>$o)] ^($i>$o).($not (#0 c))),-(s c)] [x]
+
+child 3
+0: All+(0;^$i.($not (s #0))) [+($all[($i>$o)] ^($i>$o).($not (#0 c))),+(s c)] [x]
+
+% The wrong argument, and the wrong term.
+child 3
+0: All+(0;c) [+($all[$i] ^$i.($all[$i] ^$i.(r #1 #0))),-($all[$i] ^$i.(r #0 c))] [x]
+
+child 3
+0: All+(0;(k c)) [+($all[$i] ^$i.(s #0)),-(s c)] [x]
+
+child 3
+0: All+(0;c) [+($all[$i] ^$i.(s #0)),-(s c)] []
+
+child 3
+0: All+(0;c) [+($all[$i] ^$i.(s #0)),-(s c)] [x,x]
+
+% Terms that are typed but not as the quantifier wants.
+principal 3
+0: All+(0;d) [+($all[$i] ^$i.(s #0)),-(s c)] [x]
+
+principal 3
+0: All+(0;^$i.#0) [+($all[$i] ^$i.(s #0)),-(s c)] [x]
+
+principal 3
+0: All+(0;($not $f)) [+($all[$i] ^$i.(s #0)),-(s c)] [x]
+
+principal 3
+0: All+(0;c) [+($all[t] ^t.$f)] [x]
+
+% Principals that are no such quantifiers.
+principal 3
+0: All+(0;c) [-($all[$i] ^$i.(s #0)),+(s c)] [x]
+
+principal 3
+0: All+(1;c) [+($all[$i] ^$i.(s #0)),-(s c)] [x]
+
+principal 3
+0: All+(2;c) [+($all[$i] ^$i.(s #0)),-(s c)] [x]
+
+% Terms that aren't closed, typed and with all variables.
+type 3
+0: All+(0;#0) [+($all[$i] ^$i.(s #0)),-(s c)] [x]
+
+type 3
+0: All+(0;z) [+($all[$i] ^$i.(s #0)),-(s c)] [x]
+
+type 3
+0: All+(0;$w0) [+($all[$i] ^$i.(s #0)),-(s c)] [x]
+
+type 3
+0: All+(0;s) [+($all[$i] ^$i.(s #0)),-(s c)] [x]
+
+type 3
+0: All+(0;s) [+($all[($i>$o)] ^($i>$o).(#0 c)),-(s c)] [x]
+
+type 3
+0: All+(0;(k d)) [+($all[$i] ^$i.(s #0)),-(s c)] [x]
+
+type 3
+0: All+(0;^u.c) [+($all[$i] ^$i.(s #0)),-(s c)] [x]
+
+type 3
+0: All+(7;z) [+($all[$i] ^$i.(s #0)),-(s c)] []
+
+type 3
+0: False(0) [+$f,+($all[$i] s)] []
+
+type 3
+0: False(0) [+$f,+($all[$i] ^t.$f)] []
+
+% Right lines that aren't about the problem.
+last 4
+w0 ^$i.($not $f)
+0: All-(0) [-($all[$i] ^$i.($not $f)),-$f] [x]
+
+last 4
+w0 ^$i.(s #0)
+0: All-(0) [-($all[$i] ^$i.(s #0)),+(s $w0)] [x]
+
+last 5
+w0 ^$i.$f
+w1 ^$i.(s #0)
+0: All-(1) [+(s $w1),-($all[$i] ^$i.(s #0))] [x]
+
+last 4
+w0 ^($i>$o).(#0 c)
+0: All-(0) [-($all[($i>$o)] ^($i>$o).(#0 c)),+($w0 c)] [x]
+
+last 4
+w0 ^($i>$o).$f
+0: All+(0;^$i.($w0 #0)) [+($all[($i>$o)] ^($i>$o).(#0 c)),-($w0 c)] [x]
+
+% Another witness, and another sign.
+child 5
+w0 ^$i.$f
+w1 ^$i.(s #0)
+0: All-(1) [+(s $w0),-($all[$i] ^$i.(s #0))] [x]
+
+child 4
+w0 ^$i.(s #0)
+0: All-(0) [-($all[$i] ^$i.(s #0)),-(s $w0)] [x]
+
+child 4
+w0 ^$i.($not (s #0))
+0: All-(0) [-($all[$i] ^$i.($not (s #0))),+(s $w0)] [x]
+
+last 4
+w0 ^$i.($not (s #0))
+0: All-(0) [-($all[$i] ^$i.($not (s #0))),-(s $w0)] [x]
+
+child 4
+w0 ^$i.(s #0)
+0: All-(0) [-($all[$i] ^$i.(s #0)),+(s $w0)] []
+
+% No row holds the predicate.
+principal 3
+0: All-(0) [-($all[$i] ^$i.($not $f)),-$f] [x]
+
+principal 4
+w0 ^$i.($not ($all[$i] ^$i.(r #1 #0)))
+0: All-(0) [-($all[$i] ^$i.($not $f)),-$f] [x]
+
+principal 4
+w0 ^t.($not $f)
+0: All-(0) [-($all[$i] ^$i.($not $f)),-$f] [x]
+
+principal 4
+w0 ^$i.($not ($not (s #0)))
+0: All-(0) [-($all[$i] ^$i.(s #0)),+(s $w0)] [x]
+
+% Principals that are no such quantifiers.
+principal 4
+w0 ^$i.(s #0)
+0: All-(0) [+($all[$i] ^$i.(s #0)),-(s $w0)] [x]
+
+principal 4
+w0 ^$i.(s #0)
+0: All-(1) [-($all[$i] ^$i.(s #0)),+(s $w0)] [x]
+
+principal 4
+w0 ^$i.(s #0)
+0: All-(2) [-($all[$i] ^$i.(s #0)),+(s $w0)] [x]
+
+% The witness is of another type, or stands without its variables.
+principal 4
+w0 ^t.$f
+0: All+(0;$w0) [+($all[$i] ^$i.(s #0)),-(s c)] [x]
+
+type 4
+w0 ^t.$f
+0: False(0) [+$f,+(s $w0)] []
+
+type 4
+w0 ^($i>$o).$f
+0: All+(0;$w0) [+($all[($i>$o)] ^($i>$o).(#0 c)),-($w0 c)] [x]
+
+% Lines may name every row.
+last 5
+w0 ^$i.($not ($all[$i] ^$i.(r #1 #0)))
+w1 ^$i.($not ($all[$i] ^$i.($not (r #0 #1))))
+0: False(0) [+$f,+(r $w1 $w0)] []
+
+type 5
+w0 ^$i.($not ($all[$i] ^$i.(r #1 #0)))
+w1 ^$i.($not ($all[$i] ^$i.($not (r #0 #1))))
+0: False(0) [+$f,+(r $w1 $w2)] []
+
+% Witnesses as heads.
+last 4
+w0 ^($i>$o).$f
+0: Mat(0,1) [+($w0 c),-($w0 (k c)),+($eq[$i] c (k c))] [x]
+
+principal 5
+w0 ^($i>$o).$f
+w1 ^($i>$o).($not $f)
+0: Mat(0,1) [+($w0 c),-($w1 c),+($eq[$i] c c)] [x]
+
+last 4
+w0 ^($i>$i).$f
+0: Dec(0) [-($eq[$i] ($w0 c) ($w0 (k c))),+($eq[$i] c (k c))] [x]
+
+principal 4
+w0 ^($i>$i).$f
+0: Dec(0) [-($eq[$i] ($w0 c) (k c)),+($eq[$i] c c)] [x]
 ";
-
-const ROW0: &str = "w0 ^$i.($not ($all[$i] ^$i.(r #1 #0)))";
-
-const ROW1: &str = "w1 ^$i.($not ($all[$i] ^$i.($not (r #0 #1))))";
-
-const LINE0: &str = "0: All+(0;$w0) [+($all[$i] ^$i.($not (r #0 $w1))),+(r $w0 $w1)] [x]";
-
-const LINE1: &str =
-    "1: All+(1;$w1) [+($all[$i] ^$i.($not (r #0 $w1))),+($all[$i] ^$i.(r $w0 #0))] [0]";
-
-const LINE2: &str =
-    "2: All-(0) [-($all[$i] ^$i.($not ($all[$i] ^$i.($not (r #0 #1))))),+($all[$i] ^$i.(r $w0 #0))] [1]";
-
-const LINE3: &str =
-    "3: All-(0) [-($all[$i] ^$i.($not ($all[$i] ^$i.(r #1 #0)))),-($all[$i] ^$i.($not ($all[$i] ^$i.($not (r #0 #1)))))] [2]";
-
-const WHOLE: &[Case] = &[
-    (&[ROW0, ROW1, LINE0, LINE1, LINE2, LINE3], Accepted),
-    // Further rows that no line needs, one of which names an earlier one, and one that says the same of another type.
-    (
-        &[
-            ROW0,
-            ROW1,
-            "w2 ^$i.(r $w0 #0)",
-            "w3 ^$i.(r $w1 $w2)",
-            LINE0,
-            LINE1,
-            LINE2,
-            LINE3,
-        ],
-        Accepted,
-    ),
-    (
-        &[
-            ROW0,
-            ROW1,
-            "w2 ^$i.$f",
-            "w3 ^t.$f",
-            LINE0,
-            LINE1,
-            LINE2,
-            LINE3,
-        ],
-        Accepted,
-    ),
-    // The rows exchanged under their lines: the witness of the third line is another one.
-    (
-        &[
-            "w0 ^$i.($not ($all[$i] ^$i.($not (r #0 #1))))",
-            "w1 ^$i.($not ($all[$i] ^$i.(r #1 #0)))",
-            LINE0,
-            LINE1,
-            LINE2,
-            LINE3,
-        ],
-        Refused(7, Child),
-    ),
-    // A row left out.
-    (&[ROW0, LINE0, LINE1, LINE2, LINE3], Refused(4, Typing)),
-    // No lines, and the last lines left out.
-    (&[ROW0, ROW1], Refused(5, Last)),
-    (&[ROW0, ROW1, LINE0, LINE1, LINE2], Refused(7, Last)),
-];
-
-const ROWS: &[Case] = &[
-    // Rows that aren't predicates of one type.
-    (&["w0 c"], Refused(3, Typing)),
-    (&["w0 $f"], Refused(3, Typing)),
-    (&["w0 #0"], Refused(3, Typing)),
-    (&["w0 ($not $f)"], Refused(3, Typing)),
-    (&["w0 ^$i.c"], Refused(3, Typing)),
-    (&["w0 ^$i.#0"], Refused(3, Typing)),
-    (&["w0 ^$o.#0"], Refused(4, Last)),
-    (&["w0 ^$i.^$i.(r #1 #0)"], Refused(3, Typing)),
-    // Not with all variables.
-    (&["w0 s"], Refused(3, Typing)),
-    (&["w0 $not"], Refused(3, Typing)),
-    (&["w0 (r c)"], Refused(3, Typing)),
-    (&["w0 ^$i.(r #0)"], Refused(3, Typing)),
-    (&["w0 ^($i>$o).($all[$i] #0)"], Refused(3, Typing)),
-    (&["w0 ^($i>$o).($all[$i] ^$i.(#1 #0))"], Refused(4, Last)),
-    // Not closed, not typed, or with a name that isn't declared.
-    (&["w0 ^$i.(s #1)"], Refused(3, Typing)),
-    (&["w0 ^$i.(s d)"], Refused(3, Typing)),
-    (&["w0 ^t.(s #0)"], Refused(3, Typing)),
-    (&["w0 ^$i.(z #0)"], Refused(3, Typing)),
-    (&["w0 ^u.$f"], Refused(3, Typing)),
-    (&["w0 ^c.$f"], Refused(3, Typing)),
-    (&["w0 ^(t>$o).(#0 d)"], Refused(4, Last)),
-    // Witnesses of the row itself and of later ones.
-    (&["w0 ^$i.(r #0 $w0)"], Refused(3, Typing)),
-    (&["w0 ^$i.(r #0 $w1)", "w1 ^$i.(s #0)"], Refused(3, Typing)),
-    (&["w0 ^$i.(s #0)", "w1 ^$i.(r $w1 #0)"], Refused(4, Typing)),
-    (&["w0 ^$i.(s #0)", "w1 ^$i.(r $w2 #0)"], Refused(4, Typing)),
-    (
-        &["w0 ^$i.(s #0)", "w1 ^$i.(r $w0 #0)", "w2 ^$i.(r $w0 $w1)"],
-        Refused(6, Last),
-    ),
-    // The type of an earlier witness is that of its row.
-    (&["w0 ^t.$f", "w1 ^$i.(r $w0 #0)"], Refused(4, Typing)),
-    (&["w0 ^t.$f", "w1 ^$i.($eq[t] $w0 d)"], Refused(5, Last)),
-    // The same predicate twice.
-    (&["w0 ^$i.(s #0)", "w1 ^$i.(s #0)"], Refused(4, Twice)),
-    (
-        &["w0 ^$i.$f", "w1 ^$i.(s #0)", "w2 ^$i.$f"],
-        Refused(5, Twice),
-    ),
-    (&["w0 ^$i.$f", "w1 ^t.$f", "w2 ^t.$f"], Refused(5, Twice)),
-    (&["w0 ^$i.$f", "w1 ^t.$f"], Refused(5, Last)),
-    (
-        &["w0 ^$i.(s #0)", "w1 ^$i.(s #0)", "w2 c"],
-        Refused(4, Twice),
-    ),
-    (&["w0 ^$i.(z #0)", "w1 ^$i.(z #0)"], Refused(3, Typing)),
-    (
-        &[
-            "w0 ^$i.(s #0)",
-            "w1 ^$i.(r $w0 #0)",
-            "w2 ^$i.(r $w1 #0)",
-            "w3 ^$i.(r $w0 #0)",
-        ],
-        Refused(6, Twice),
-    ),
-    // Rows come before lines.
-    (&[ROW0, "w1 c", "0: False(0) [+z] []"], Refused(4, Typing)),
-    (
-        &[
-            ROW0,
-            "w1 ^$i.($not ($all[$i] ^$i.(r #1 #0)))",
-            "0: False(0) [+z] []",
-        ],
-        Refused(4, Twice),
-    ),
-    (&[ROW0, "0: False(0) [+z] []"], Refused(4, Typing)),
-];
-
-const INSTANCES: &[Case] = &[
-    // Right lines that aren't about the problem: a term under functions, a function applied, and both.
-    (
-        &["0: All+(0;c) [+($all[$i] ^$i.($all[$i] ^$i.(r #1 #0))),-($all[$i] ^$i.(r c #0))] [x]"],
-        Refused(3, Last),
-    ),
-    (
-        &["0: All+(0;^$i.(s #0)) [+($all[($i>$o)] ^($i>$o).(#0 c)),-(s c)] [x]"],
-        Refused(3, Last),
-    ),
-    (
-        &[
-            "0: All+(0;^$i.(k (k #0))) [+($all[($i>$i)] ^($i>$i).(r (#0 c) (#0 (#0 c)))),-(r (k (k c)) (k (k (k (k c)))))] [x]",
-        ],
-        Refused(3, Last),
-    ),
-    (
-        &[
-            "0: All+(0;^$i.(r c #0)) [+($all[($i>$o)] ^($i>$o).($all[$i] ^$i.($imp (#1 #0) (#1 c)))),-($all[$i] ^$i.($imp (r c #0) (r c c)))] [x]",
-        ],
-        Refused(3, Last),
-    ),
-    (
-        &["0: All+(0;^$i.($not (s #0))) [+($all[($i>$o)] ^($i>$o).($not (#0 c))),-(s c)] [x]"],
-        Refused(3, Last),
-    ),
-    (
-        &["0: All+(0;^$i.($not (s #0))) [+($all[($i>$o)] ^($i>$o).($not (#0 c))),+(s c)] [x]"],
-        Refused(3, Child),
-    ),
-    // The wrong argument, and the wrong term.
-    (
-        &["0: All+(0;c) [+($all[$i] ^$i.($all[$i] ^$i.(r #1 #0))),-($all[$i] ^$i.(r #0 c))] [x]"],
-        Refused(3, Child),
-    ),
-    (
-        &["0: All+(0;(k c)) [+($all[$i] ^$i.(s #0)),-(s c)] [x]"],
-        Refused(3, Child),
-    ),
-    (
-        &["0: All+(0;c) [+($all[$i] ^$i.(s #0)),-(s c)] []"],
-        Refused(3, Child),
-    ),
-    (
-        &["0: All+(0;c) [+($all[$i] ^$i.(s #0)),-(s c)] [x,x]"],
-        Refused(3, Child),
-    ),
-    // Terms that are typed but not as the quantifier wants.
-    (
-        &["0: All+(0;d) [+($all[$i] ^$i.(s #0)),-(s c)] [x]"],
-        Refused(3, Principal),
-    ),
-    (
-        &["0: All+(0;^$i.#0) [+($all[$i] ^$i.(s #0)),-(s c)] [x]"],
-        Refused(3, Principal),
-    ),
-    (
-        &["0: All+(0;($not $f)) [+($all[$i] ^$i.(s #0)),-(s c)] [x]"],
-        Refused(3, Principal),
-    ),
-    (
-        &["0: All+(0;c) [+($all[t] ^t.$f)] [x]"],
-        Refused(3, Principal),
-    ),
-    // Principals that are no such quantifiers.
-    (
-        &["0: All+(0;c) [-($all[$i] ^$i.(s #0)),+(s c)] [x]"],
-        Refused(3, Principal),
-    ),
-    (
-        &["0: All+(1;c) [+($all[$i] ^$i.(s #0)),-(s c)] [x]"],
-        Refused(3, Principal),
-    ),
-    (
-        &["0: All+(2;c) [+($all[$i] ^$i.(s #0)),-(s c)] [x]"],
-        Refused(3, Principal),
-    ),
-    // Terms that aren't closed, typed and with all variables.
-    (
-        &["0: All+(0;#0) [+($all[$i] ^$i.(s #0)),-(s c)] [x]"],
-        Refused(3, Typing),
-    ),
-    (
-        &["0: All+(0;z) [+($all[$i] ^$i.(s #0)),-(s c)] [x]"],
-        Refused(3, Typing),
-    ),
-    (
-        &["0: All+(0;$w0) [+($all[$i] ^$i.(s #0)),-(s c)] [x]"],
-        Refused(3, Typing),
-    ),
-    (
-        &["0: All+(0;s) [+($all[$i] ^$i.(s #0)),-(s c)] [x]"],
-        Refused(3, Typing),
-    ),
-    (
-        &["0: All+(0;s) [+($all[($i>$o)] ^($i>$o).(#0 c)),-(s c)] [x]"],
-        Refused(3, Typing),
-    ),
-    (
-        &["0: All+(0;(k d)) [+($all[$i] ^$i.(s #0)),-(s c)] [x]"],
-        Refused(3, Typing),
-    ),
-    (
-        &["0: All+(0;^u.c) [+($all[$i] ^$i.(s #0)),-(s c)] [x]"],
-        Refused(3, Typing),
-    ),
-    (
-        &["0: All+(7;z) [+($all[$i] ^$i.(s #0)),-(s c)] []"],
-        Refused(3, Typing),
-    ),
-    (&["0: False(0) [+$f,+($all[$i] s)] []"], Refused(3, Typing)),
-    (
-        &["0: False(0) [+$f,+($all[$i] ^t.$f)] []"],
-        Refused(3, Typing),
-    ),
-];
-
-const WITNESSES: &[Case] = &[
-    // Right lines that aren't about the problem.
-    (
-        &[
-            "w0 ^$i.($not $f)",
-            "0: All-(0) [-($all[$i] ^$i.($not $f)),-$f] [x]",
-        ],
-        Refused(4, Last),
-    ),
-    (
-        &[
-            "w0 ^$i.(s #0)",
-            "0: All-(0) [-($all[$i] ^$i.(s #0)),+(s $w0)] [x]",
-        ],
-        Refused(4, Last),
-    ),
-    (
-        &[
-            "w0 ^$i.$f",
-            "w1 ^$i.(s #0)",
-            "0: All-(1) [+(s $w1),-($all[$i] ^$i.(s #0))] [x]",
-        ],
-        Refused(5, Last),
-    ),
-    (
-        &[
-            "w0 ^($i>$o).(#0 c)",
-            "0: All-(0) [-($all[($i>$o)] ^($i>$o).(#0 c)),+($w0 c)] [x]",
-        ],
-        Refused(4, Last),
-    ),
-    (
-        &[
-            "w0 ^($i>$o).$f",
-            "0: All+(0;^$i.($w0 #0)) [+($all[($i>$o)] ^($i>$o).(#0 c)),-($w0 c)] [x]",
-        ],
-        Refused(4, Last),
-    ),
-    // Another witness, and another sign.
-    (
-        &[
-            "w0 ^$i.$f",
-            "w1 ^$i.(s #0)",
-            "0: All-(1) [+(s $w0),-($all[$i] ^$i.(s #0))] [x]",
-        ],
-        Refused(5, Child),
-    ),
-    (
-        &[
-            "w0 ^$i.(s #0)",
-            "0: All-(0) [-($all[$i] ^$i.(s #0)),-(s $w0)] [x]",
-        ],
-        Refused(4, Child),
-    ),
-    (
-        &[
-            "w0 ^$i.($not (s #0))",
-            "0: All-(0) [-($all[$i] ^$i.($not (s #0))),+(s $w0)] [x]",
-        ],
-        Refused(4, Child),
-    ),
-    (
-        &[
-            "w0 ^$i.($not (s #0))",
-            "0: All-(0) [-($all[$i] ^$i.($not (s #0))),-(s $w0)] [x]",
-        ],
-        Refused(4, Last),
-    ),
-    (
-        &[
-            "w0 ^$i.(s #0)",
-            "0: All-(0) [-($all[$i] ^$i.(s #0)),+(s $w0)] []",
-        ],
-        Refused(4, Child),
-    ),
-    // No row holds the predicate.
-    (
-        &["0: All-(0) [-($all[$i] ^$i.($not $f)),-$f] [x]"],
-        Refused(3, Principal),
-    ),
-    (
-        &[ROW0, "0: All-(0) [-($all[$i] ^$i.($not $f)),-$f] [x]"],
-        Refused(4, Principal),
-    ),
-    (
-        &[
-            "w0 ^t.($not $f)",
-            "0: All-(0) [-($all[$i] ^$i.($not $f)),-$f] [x]",
-        ],
-        Refused(4, Principal),
-    ),
-    (
-        &[
-            "w0 ^$i.($not ($not (s #0)))",
-            "0: All-(0) [-($all[$i] ^$i.(s #0)),+(s $w0)] [x]",
-        ],
-        Refused(4, Principal),
-    ),
-    // Principals that are no such quantifiers.
-    (
-        &[
-            "w0 ^$i.(s #0)",
-            "0: All-(0) [+($all[$i] ^$i.(s #0)),-(s $w0)] [x]",
-        ],
-        Refused(4, Principal),
-    ),
-    (
-        &[
-            "w0 ^$i.(s #0)",
-            "0: All-(1) [-($all[$i] ^$i.(s #0)),+(s $w0)] [x]",
-        ],
-        Refused(4, Principal),
-    ),
-    (
-        &[
-            "w0 ^$i.(s #0)",
-            "0: All-(2) [-($all[$i] ^$i.(s #0)),+(s $w0)] [x]",
-        ],
-        Refused(4, Principal),
-    ),
-    // The witness is of another type, or stands without its variables.
-    (
-        &[
-            "w0 ^t.$f",
-            "0: All+(0;$w0) [+($all[$i] ^$i.(s #0)),-(s c)] [x]",
-        ],
-        Refused(4, Principal),
-    ),
-    (
-        &["w0 ^t.$f", "0: False(0) [+$f,+(s $w0)] []"],
-        Refused(4, Typing),
-    ),
-    (
-        &[
-            "w0 ^($i>$o).$f",
-            "0: All+(0;$w0) [+($all[($i>$o)] ^($i>$o).(#0 c)),-($w0 c)] [x]",
-        ],
-        Refused(4, Typing),
-    ),
-    // Lines may name every row.
-    (
-        &[ROW0, ROW1, "0: False(0) [+$f,+(r $w1 $w0)] []"],
-        Refused(5, Last),
-    ),
-    (
-        &[ROW0, ROW1, "0: False(0) [+$f,+(r $w1 $w2)] []"],
-        Refused(5, Typing),
-    ),
-    // Witnesses as heads.
-    (
-        &[
-            "w0 ^($i>$o).$f",
-            "0: Mat(0,1) [+($w0 c),-($w0 (k c)),+($eq[$i] c (k c))] [x]",
-        ],
-        Refused(4, Last),
-    ),
-    (
-        &[
-            "w0 ^($i>$o).$f",
-            "w1 ^($i>$o).($not $f)",
-            "0: Mat(0,1) [+($w0 c),-($w1 c),+($eq[$i] c c)] [x]",
-        ],
-        Refused(5, Principal),
-    ),
-    (
-        &[
-            "w0 ^($i>$i).$f",
-            "0: Dec(0) [-($eq[$i] ($w0 c) ($w0 (k c))),+($eq[$i] c (k c))] [x]",
-        ],
-        Refused(4, Last),
-    ),
-    (
-        &[
-            "w0 ^($i>$i).$f",
-            "0: Dec(0) [-($eq[$i] ($w0 c) (k c)),+($eq[$i] c c)] [x]",
-        ],
-        Refused(4, Principal),
-    ),
-];
-
-/// All cases of the problem.
-pub const TABLES: &[&[Case]] = &[WHOLE, ROWS, INSTANCES, WITNESSES];

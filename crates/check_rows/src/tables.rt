@@ -1,22 +1,22 @@
-//! Five problems with texts for each rule and each refusal.
+//! The texts for each problem are answered as the tables say.
 
-use crate::answers::check_cases;
-use crate::{booleans, choice, equality, propositional, quantifiers};
+use crate::answers::check_table;
+use crate::{booleans, cantor, choice, equality, propositional, quantifiers};
 use std::test::Fail;
 
 #[test]
-fn five_problems(rt: HostRuntime) -> Result<(), Fail> {
-    let alloc = rt.alloc();
-    for (problem, tables) in [
-        (propositional::PROBLEM, propositional::TABLES),
-        (equality::PROBLEM, equality::TABLES),
-        (quantifiers::PROBLEM, quantifiers::TABLES),
-        (choice::PROBLEM, choice::TABLES),
-        (booleans::PROBLEM, booleans::TABLES),
+fn tables(rt: HostRuntime) -> Result<(), Fail> {
+    for table in [
+        cantor::CANTOR,
+        cantor::TRUTH,
+        cantor::INJECTION,
+        propositional::CASES,
+        equality::CASES,
+        quantifiers::CASES,
+        choice::CASES,
+        booleans::CASES,
     ] {
-        for cases in tables {
-            check_cases(&rt, alloc, problem, cases)?;
-        }
+        check_table(&rt, rt.alloc(), table)?;
     }
     Ok(())
 }
