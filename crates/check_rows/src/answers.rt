@@ -43,20 +43,19 @@ pub fn answer_to(alloc: Global, problem: &str, text: &str) -> Result<String, Fai
     Ok(format!(in alloc; "{word} {line}")?)
 }
 
-/// What follows the comments.
-pub fn behind_comments(mut case: &str) -> Result<&str, Fail> {
-    while let Some(comment) = case.strip_prefix("%") {
-        case = comment.split_once('\n').ok_or("a case is missing")?.1;
-    }
-    Ok(case)
+/// Whether a part of a table is there for its readers alone.
+pub fn is_comment(part: &str) -> bool {
+    part.starts_with('%')
 }
 
-/// The table has a problem, and then cases, with an empty line before each. A case has comments, the answer, and then the rows and lines
+/// The table has a problem, and then comments and cases, with an empty line before each. A case is the answer, and then the rows and lines
 /// of the text, the first of which stands at line 3.
 pub fn check_table(rt: &impl Abort, alloc: Global, table: &str) -> Result<(), Fail> {
     let (problem, cases) = table.trim_end().split_once("\n\n").ok_or("no cases")?;
     for case in cases.split("\n\n") {
-        let case = behind_comments(case)?;
+        if is_comment(case) {
+            continue;
+        }
         let (wanted, lines) = case.split_once('\n').unwrap_or((case, ""));
         let mut text = String::new(alloc);
         text.push_str("% SZS output start Refutation for p.p\nversion 1\n")?;

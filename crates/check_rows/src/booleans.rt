@@ -33,6 +33,7 @@ child 3
 0: Mat(0,1) [+(n p),-(n q),-($eq[$o] p ($not q))] [x]
 
 % Lines that are right aren't about the problem.
+
 last 3
 0: Bool+(0) [+($eq[$o] p q),+p,-q] [x,x]
 
@@ -43,6 +44,7 @@ child 3
 0: Bool+(0) [+($eq[$o] p q)] [x,x]
 
 % Negations are taken off.
+
 last 3
 0: Bool+(0) [+($eq[$o] ($not p) q),+p,+q] [x,x]
 
@@ -71,6 +73,7 @@ last 3
 0: Imp+(0) [+($imp ($not p) ($not q)),-p,+q] [x,x]
 
 % Both alternatives clash alone, or one does.
+
 last 3
 0: Bool+(0) [+($eq[$o] p ($not p))] [x,x]
 
@@ -84,6 +87,7 @@ child 3
 0: Bool-(0) [-($eq[$o] p ($not p))] [x,x]
 
 % Too few children, and too many.
+
 child 3
 0: Bool+(0) [+($eq[$o] p q),+p,-q] [x]
 
@@ -124,6 +128,7 @@ principal 3
 0: Bool-(0) [] []
 
 % Formulas for variables.
+
 last 3
 0: All+(0;($not $f)) [+($all[$o] ^$o.(n #0)),-(n ($not $f))] [x]
 
@@ -164,6 +169,7 @@ w0 ^$o.($not #0)
 0: All-(0) [-($all[$o] ^$o.($not #0)),+$w0] [x]
 
 % Formulas as arguments.
+
 last 3
 0: Mat(0,1) [+(n ($not p)),-(n ($not q)),+($eq[$o] ($not p) ($not q))] [x]
 
@@ -174,6 +180,7 @@ principal 3
 0: Dec(0) [-($eq[$o] (n p) (n q)),+($eq[$o] p q)] [x]
 
 % Connectives without their variables, and functions that are none of them.
+
 type 3
 0: False(0) [+$f,+(n $not)] []
 

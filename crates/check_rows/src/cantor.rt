@@ -15,6 +15,7 @@ w1 ^$i.($not ($eq[($i>$o)] ^$i.($w0 #1 #0) ^$i.($not ($w0 #0 #0))))
 5: All-(0) [-($all[($i>($i>$o))] ^($i>($i>$o)).($not ($all[($i>$o)] ^($i>$o).($not ($all[$i] ^$i.($not ($eq[($i>$o)] ^$i.(#3 #1 #0) ^$i.(#2 #0))))))))] [4]
 
 % The rows exchanged, and their numbers everywhere: the first names the second.
+
 type 3
 w0 ^$i.($not ($eq[($i>$o)] ^$i.($w1 #1 #0) ^$i.($not ($w1 #0 #0))))
 w1 ^($i>($i>$o)).($not ($all[($i>$o)] ^($i>$o).($not ($all[$i] ^$i.($not ($eq[($i>$o)] ^$i.(#3 #1 #0) ^$i.(#2 #0)))))))
@@ -26,6 +27,7 @@ w1 ^($i>($i>$o)).($not ($all[($i>$o)] ^($i>$o).($not ($all[$i] ^$i.($not ($eq[($
 5: All-(0) [-($all[($i>($i>$o))] ^($i>($i>$o)).($not ($all[($i>$o)] ^($i>$o).($not ($all[$i] ^$i.($not ($eq[($i>$o)] ^$i.(#3 #1 #0) ^$i.(#2 #0))))))))] [4]
 
 % A third row with the predicate of the second.
+
 twice 5
 w0 ^($i>($i>$o)).($not ($all[($i>$o)] ^($i>$o).($not ($all[$i] ^$i.($not ($eq[($i>$o)] ^$i.(#3 #1 #0) ^$i.(#2 #0)))))))
 w1 ^$i.($not ($eq[($i>$o)] ^$i.($w0 #1 #0) ^$i.($not ($w0 #0 #0))))
@@ -38,6 +40,7 @@ w2 ^$i.($not ($eq[($i>$o)] ^$i.($w0 #1 #0) ^$i.($not ($w0 #0 #0))))
 5: All-(0) [-($all[($i>($i>$o))] ^($i>($i>$o)).($not ($all[($i>$o)] ^($i>$o).($not ($all[$i] ^$i.($not ($eq[($i>$o)] ^$i.(#3 #1 #0) ^$i.(#2 #0))))))))] [4]
 
 % Without a row: its witness isn't there.
+
 type 4
 w0 ^($i>($i>$o)).($not ($all[($i>$o)] ^($i>$o).($not ($all[$i] ^$i.($not ($eq[($i>$o)] ^$i.(#3 #1 #0) ^$i.(#2 #0)))))))
 0: Bool+(0) [+($eq[$o] ($w0 $w1 $w1) ($not ($w0 $w1 $w1)))] [x,x]
@@ -48,6 +51,7 @@ w0 ^($i>($i>$o)).($not ($all[($i>$o)] ^($i>$o).($not ($all[$i] ^$i.($not ($eq[($
 5: All-(0) [-($all[($i>($i>$o))] ^($i>($i>$o)).($not ($all[($i>$o)] ^($i>$o).($not ($all[$i] ^$i.($not ($eq[($i>$o)] ^$i.(#3 #1 #0) ^$i.(#2 #0))))))))] [4]
 
 % The first line with one child, and by another rule.
+
 child 5
 w0 ^($i>($i>$o)).($not ($all[($i>$o)] ^($i>$o).($not ($all[$i] ^$i.($not ($eq[($i>$o)] ^$i.(#3 #1 #0) ^$i.(#2 #0)))))))
 w1 ^$i.($not ($eq[($i>$o)] ^$i.($w0 #1 #0) ^$i.($not ($w0 #0 #0))))
@@ -69,6 +73,7 @@ w1 ^$i.($not ($eq[($i>$o)] ^$i.($w0 #1 #0) ^$i.($not ($w0 #0 #0))))
 5: All-(0) [-($all[($i>($i>$o))] ^($i>($i>$o)).($not ($all[($i>$o)] ^($i>$o).($not ($all[$i] ^$i.($not ($eq[($i>$o)] ^$i.(#3 #1 #0) ^$i.(#2 #0))))))))] [4]
 
 % The term of a line is a witness without its arguments.
+
 type 6
 w0 ^($i>($i>$o)).($not ($all[($i>$o)] ^($i>$o).($not ($all[$i] ^$i.($not ($eq[($i>$o)] ^$i.(#3 #1 #0) ^$i.(#2 #0)))))))
 w1 ^$i.($not ($eq[($i>$o)] ^$i.($w0 #1 #0) ^$i.($not ($w0 #0 #0))))
@@ -80,6 +85,7 @@ w1 ^$i.($not ($eq[($i>$o)] ^$i.($w0 #1 #0) ^$i.($not ($w0 #0 #0))))
 5: All-(0) [-($all[($i>($i>$o))] ^($i>($i>$o)).($not ($all[($i>$o)] ^($i>$o).($not ($all[$i] ^$i.($not ($eq[($i>$o)] ^$i.(#3 #1 #0) ^$i.(#2 #0))))))))] [4]
 
 % The term isn't negated, so that the branch of the child isn't within.
+
 child 9
 w0 ^($i>($i>$o)).($not ($all[($i>$o)] ^($i>$o).($not ($all[$i] ^$i.($not ($eq[($i>$o)] ^$i.(#3 #1 #0) ^$i.(#2 #0)))))))
 w1 ^$i.($not ($eq[($i>$o)] ^$i.($w0 #1 #0) ^$i.($not ($w0 #0 #0))))
@@ -91,6 +97,7 @@ w1 ^$i.($not ($eq[($i>$o)] ^$i.($w0 #1 #0) ^$i.($not ($w0 #0 #0))))
 5: All-(0) [-($all[($i>($i>$o))] ^($i>($i>$o)).($not ($all[($i>$o)] ^($i>$o).($not ($all[$i] ^$i.($not ($eq[($i>$o)] ^$i.(#3 #1 #0) ^$i.(#2 #0))))))))] [4]
 
 % Without the last line, the last branch isn't the negated theorem.
+
 last 9
 w0 ^($i>($i>$o)).($not ($all[($i>$o)] ^($i>$o).($not ($all[$i] ^$i.($not ($eq[($i>$o)] ^$i.(#3 #1 #0) ^$i.(#2 #0)))))))
 w1 ^$i.($not ($eq[($i>$o)] ^$i.($w0 #1 #0) ^$i.($not ($w0 #0 #0))))
@@ -110,6 +117,7 @@ pub const TRUTH: &str = "\
 thf(c,conjecture,$true).
 
 % Checked for the true conjecture.
+
 accepted
 0: False(0) [+$f] []
 
@@ -132,6 +140,7 @@ thf(inj,axiom,( ! [X:$i,Y:$i] : ( ( ( s @ X ) = ( s @ Y ) ) => ( X = Y ) ) )).
 thf(miss,axiom,( ! [X:$i] : ( ( s @ X ) != z ) )).
 
 % Checked for the function.
+
 last 3
 0: False(0) [+$f] []
 ";

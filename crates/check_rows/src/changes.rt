@@ -1,13 +1,12 @@
 //! Refutations that another program wrote, as they stand and with one change.
 
-use crate::answers::{answer_to, behind_comments};
+use crate::answers::{answer_to, is_comment};
 use crate::chain::CHAIN;
 use crate::pairs::{
     PAIR01, PAIR02, PAIR03, PAIR04, PAIR05, PAIR06, PAIR07, PAIR08, PAIR09, PAIR10, PAIR11, PAIR12,
     PAIR13, PAIR14,
 };
 use std::alloc::{AllocError, Global};
-use std::fmt::Write;
 use std::process::Abort;
 use std::test::Fail;
 
@@ -16,7 +15,7 @@ fn report(alloc: Global, lines: &str) -> Result<String, AllocError> {
     let mut text = String::new(alloc);
     text.push_str("% SZS status Theorem for p.p\n% commands 1\n")?;
     text.push_str("% SZS output start Refutation for p.p\nversion 1\n")?;
-    text.push_str(lines)?;
+    text.push_str(lines.trim_end())?;
     text.push_str("\n% SZS output end Refutation for p.p\n")?;
     Ok(text)
 }
@@ -63,12 +62,11 @@ fn check_ends(
 fn changed(alloc: Global, lines: &str, by: &str) -> Result<String, Fail> {
     let (number, _) = by.split_once(": ").ok_or("no number")?;
     let mut text = String::new(alloc);
-    let mut between = "";
     for line in lines.split('\n') {
         let is_changed = line.split_once(": ").is_some_and(|(i, _)| i == number);
         let line = if is_changed { by } else { line };
-        write!(text, "{between}{line}")?;
-        between = "\n";
+        text.push_str(line)?;
+        text.push_str("\n")?;
     }
     Ok(text)
 }
@@ -79,7 +77,10 @@ fn check_pair(rt: &impl Abort, alloc: Global, pair: &str) -> Result<(), Fail> {
     let (place, changes) = rest.split_once("\n\n").ok_or("no changes")?;
     check_ends(rt, alloc, problem, lines, place)?;
     for change in changes.split("\n\n") {
-        let (wanted, by) = behind_comments(change)?.split_once('\n').ok_or("no line")?;
+        if is_comment(change) {
+            continue;
+        }
+        let (wanted, by) = change.split_once('\n').ok_or("no line")?;
         let lines = changed(alloc, lines, by)?;
         check_report(rt, alloc, problem, lines.as_str(), wanted)?;
     }

@@ -28,6 +28,7 @@ accepted
 2: Cut(+($all[t] ^t.($not (s #0)))) [+(s d),-(s ($eps[t] ^t.(s #0)))] [0,1]
 
 % Children of wrong numbers, places and branches.
+
 child 4
 0: All+(0;d) [+($all[t] ^t.($not (s #0))),+(s d)] [x]
 1: Cho(^t.(s #0)) [+(s d),-(s ($eps[t] ^t.(s #0)))] [0]
@@ -60,6 +61,7 @@ last 4
 1: Cho(^t.(s #0)) [+(s d),-(s ($eps[t] ^t.(s #0))),+(s (k d))] [0,x]
 
 % The two things that a choice leaves, for predicates of all kinds. The lines that are right aren't about the problem.
+
 last 3
 0: Cho(^t.$f) [-($all[t] ^t.($not $f)),-$f] [x,x]
 
@@ -88,10 +90,12 @@ child 3
 0: Cho(^(t>$o).(#0 d)) [-($all[(t>$o)] ^(t>$o).($not (#0 d))),-(s d)] [x,x]
 
 % A choice under the variable of a quantifier.
+
 last 3
 0: Cho(^t.($all[t] ^t.($eq[t] #1 #0))) [-($all[t] ^t.($not ($all[t] ^t.($eq[t] #1 #0)))),-($all[t] ^t.($eq[t] ($eps[t] ^t.($all[t] ^t.($eq[t] #1 #0))) #0))] [x,x]
 
 % Choices as terms.
+
 last 3
 0: All+(0;($eps[t] ^t.(s #0))) [+($all[t] ^t.($not (s #0))),+(s ($eps[t] ^t.(s #0)))] [x]
 
@@ -103,6 +107,7 @@ w0 ^$i.$f
 0: Cho(^$i.($eq[$i] #0 $w0)) [-($all[$i] ^$i.($not ($eq[$i] #0 $w0))),-($eq[$i] ($eps[$i] ^$i.($eq[$i] #0 $w0)) $w0)] [x,x]
 
 % Terms that are no predicates of one type.
+
 type 3
 0: Cho(d) [] [x,x]
 
@@ -119,6 +124,7 @@ type 3
 0: Cho(^t.^t.$f) [] [x,x]
 
 % Not with all variables, not closed, not typed.
+
 type 3
 0: Cho(s) [] [x,x]
 
@@ -144,6 +150,7 @@ type 3
 0: Cho(^t.$f) [+z] [x,x]
 
 % Choices of wrong types.
+
 type 3
 0: False(0) [+$f,+(s ($eps[$i] ^$i.$f))] []
 

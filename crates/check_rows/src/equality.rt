@@ -32,12 +32,14 @@ accepted
 0: Dec(0) [-($eq[$i] (f a) (f b)),+($eq[$i] a b)] [x]
 
 % The functions' equation by all their values, on both sides.
+
 accepted
 0: Fun-(0) [-($eq[($i>$i)] ^$i.(f #0) ^$i.(g #0)),+($all[$i] ^$i.($eq[$i] (f #0) (g #0)))] [x]
 1: Fun+(1) [-($eq[($i>$i)] ^$i.(f #0) ^$i.(g #0)),+($eq[($i>$i)] ^$i.(f #0) ^$i.(g #0))] [0]
 2: Mat(0,1) [+(m ^$i.(f #0)),-(m ^$i.(g #0)),+($eq[($i>$i)] ^$i.(f #0) ^$i.(g #0))] [1]
 
 % Equations confronted, by either of two lines and in either order.
+
 accepted
 0: Refl(0) [-($eq[$i] a a)] []
 1: Con(0,1) [+($eq[$i] a b),-($eq[$i] b a)] [x,0]
@@ -52,6 +54,7 @@ accepted
 2: Con(0,1) [+($eq[$i] a b),-($eq[$i] b a)] [1,0]
 
 % Lines that nothing needs. An equation between functions, and one between formulas, with equal sides.
+
 accepted
 0: Refl(0) [-($eq[($i>$i)] ^$i.#0 ^$i.#0)] []
 1: Dec(0) [-($eq[$i] (f a) (f b)),+($eq[$i] a b)] [x]
@@ -61,6 +64,7 @@ accepted
 1: Dec(0) [-($eq[$i] (f a) (f b)),+($eq[$i] a b)] [x]
 
 % A formula among the arguments, and another base type.
+
 accepted
 0: Dec(0) [-($eq[t] (h p d) (h q e)),+($eq[$o] p q),+($eq[t] d e)] [x,x]
 1: Dec(0) [-($eq[$i] (f a) (f b)),+($eq[$i] a b)] [x]
@@ -75,6 +79,7 @@ accepted
 1: Dec(0) [-($eq[$i] (f a) (f b)),+($eq[$i] a b)] [x]
 
 % Choices of one type, with more arguments than their predicates.
+
 accepted
 0: Refl(0) [-($eq[(($i>$o)>$o)] ^($i>$o).$f ^($i>$o).$f)] []
 1: Mat(0,1) [+($eps[($i>$o)] ^($i>$o).$f a),-($eps[($i>$o)] ^($i>$o).$f b),+($eq[$i] a b)] [0,x]
@@ -85,6 +90,7 @@ accepted
 1: Dec(0) [-($eq[$i] (f a) (f b)),+($eq[$i] a b)] [x]
 
 % All values of functions of two arguments are functions.
+
 accepted
 0: Fun+(0) [+($eq[($i>($i>$i))] ^$i.^$i.#1 ^$i.^$i.#0),-($all[$i] ^$i.($eq[($i>$i)] ^$i.#1 ^$i.#0))] [x]
 1: Dec(0) [-($eq[$i] (f a) (f b)),+($eq[$i] a b)] [x]
@@ -131,6 +137,7 @@ principal 3
 0: Fun-(0) [-($eq[$o] p q)] [x]
 
 % Heads that differ, that have no arguments, or that are none of those that are mated; and signs.
+
 principal 3
 0: Mat(1,0) [+(m ^$i.(f #0)),-(m ^$i.(g #0)),+($eq[($i>$i)] ^$i.(f #0) ^$i.(g #0))] [x]
 
@@ -207,6 +214,7 @@ principal 3
 0: Con(0,1) [+($eq[($i>$i)] ^$i.(f #0) ^$i.(g #0)),-($eq[($i>$i)] ^$i.(f #0) ^$i.(g #0))] [x,x]
 
 % A function stands for itself without its variables, or has too few of them.
+
 type 3
 0: False(0) [+$f,+(m f)] []
 
@@ -235,10 +243,12 @@ type 3
 0: False(0) [+$f,+($eq[$i] (f a b) a)] []
 
 % A function applied has no text.
+
 form 3
 0: False(0) [+$f,+(^$i.p a)] []
 
 % Types that differ from those wanted.
+
 type 3
 0: False(0) [+$f,+(m ^$i.^$i.#0)] []
 
@@ -282,6 +292,7 @@ child 3
 0: Mat(0,1) [+(m ^$i.(f #0)),-(m ^$i.(g #0)),+($eq[($i>$i)] ^$i.(f #0) ^$i.(g #0))] [x,x]
 
 % An equation isn't the one with its sides exchanged, nor is one side the other without its variable.
+
 child 3
 0: Mat(0,1) [+(m ^$i.(f #0)),-(m ^$i.(g #0)),+($eq[($i>$i)] ^$i.(g #0) ^$i.(f #0))] [x]
 
@@ -298,6 +309,7 @@ child 3
 0: Fun-(0) [-($eq[($i>$i)] ^$i.(f #0) ^$i.(g #0)),+($all[$i] ^$i.($eq[$i] (g #0) (f #0)))] [x]
 
 % Of the four equations, the first two belong together and the last two.
+
 child 4
 0: Refl(0) [-($eq[$i] a a)] []
 1: Con(0,1) [+($eq[$i] a b),-($eq[$i] b a)] [0,x]
@@ -310,6 +322,7 @@ child 3
 0: Con(0,1) [+($eq[$i] a b),-($eq[$i] b a)] [x]
 
 % The alternatives stand in the order of the arguments.
+
 child 4
 0: Close(0,1) [+($eq[t] d e),-($eq[t] d e)] []
 1: Dec(0) [-($eq[t] (h p d) (h q e)),+($eq[$o] p q),+($eq[t] d e)] [0,x]
@@ -321,6 +334,7 @@ child 3
 0: Dec(0) [-($eq[t] (h p d) (h q e)),+($eq[$o] p q)] [x,x]
 
 % Right, but not about the problem.
+
 last 3
 0: Dec(0) [-($eq[$i] (g a) (g b)),+($eq[$i] a b)] [x]
 

@@ -47,6 +47,7 @@ principal 6
 1: Imp-(0) [+($imp $f $f),+$f] [x]
 
 % The alternative clashes all the same, but the next line has this one as a child.
+
 child 7
 1: Imp-(0) [-($imp $f $f),-$f] [x]
 ";
@@ -125,6 +126,7 @@ principal 12
 5: False(0) [-$f] []
 
 % As above: the next line has this one as a child.
+
 child 15
 7: Imp-(0) [-($imp ($not ($not $f)) $f),+$f] [x]
 ";

@@ -24,12 +24,14 @@ accepted
 2: Cut(-q) [+($imp p q),+p,+($imp q r),-r] [0,1]
 
 % Neither order nor repeats matter at the end.
+
 accepted
 0: Imp+(0) [+($imp p q),+p,-q] [x,x]
 1: Imp+(0) [+($imp q r),+q,-r] [x,x]
 2: Cut(+q) [-r,+($imp q r),+p,-r,+p,+($imp p q)] [1,0]
 
 % All of start.
+
 accepted
 0: Imp+(0) [+($imp p q),+p,-q] [x,x]
 1: Imp+(0) [+($imp q r),+q,-r] [x,x]
@@ -40,6 +42,7 @@ accepted
 1: Imp+(0) [+($imp p q),+p,+($imp q r),-r] [x,0]
 
 % Places count repeats.
+
 accepted
 0: Imp+(2) [+q,+q,+($imp q r),-r,-r] [x,x]
 1: Imp+(0) [+($imp p q),+p,+($imp q r),-r] [x,0]
@@ -49,6 +52,7 @@ accepted
 1: Imp+(1) [+p,+($imp p q),+($imp q r),-r] [x,0]
 
 % A closed child where the alternative alone clashes, and where the branch alone does. Both lines are children of none.
+
 accepted
 0: Imp+(1) [+q,+($imp q r),-r] [x,x]
 1: Imp-(0) [-($imp p p)] [x]
@@ -65,12 +69,14 @@ accepted
 2: Imp+(0) [+($imp p q),+p,+($imp q r),-r] [x,0]
 
 % A cut with what the branch holds.
+
 accepted
 0: Imp+(1) [+q,+($imp q r),-r] [x,x]
 1: Imp+(0) [+($imp p q),+p,+($imp q r),-r] [x,0]
 2: Cut(-p) [+($imp p q),+p,+($imp q r),-r] [x,1]
 
 % An implication's two sides.
+
 accepted
 0: Imp+(1) [+q,+($imp q r),-r] [x,x]
 1: Imp-(0) [-($imp q r),+($imp q r)] [0]
@@ -78,6 +84,7 @@ accepted
 3: Imp+(0) [+($imp p q),+p,+($imp q r),-r] [x,2]
 
 % Numbered children where they could be closed.
+
 accepted
 0: Close(1,0) [-r,+r] []
 1: Close(0,1) [+q,-q] []
@@ -139,6 +146,7 @@ principal 3
 0: Imp-(0) [-($eq[$o] p q),-p] [x]
 
 % An empty branch has no principals.
+
 principal 3
 0: False(0) [] []
 
@@ -149,6 +157,7 @@ child 3
 0: Cut(+p) [] [x,x]
 
 % Names that aren't declared: of a constant, of a base type, and of an axiom.
+
 type 3
 0: False(0) [+$f,+z] []
 
@@ -165,6 +174,7 @@ type 3
 0: False(0) [+$f,+first] []
 
 % Literals that aren't formulas, and parts of wrong types.
+
 type 3
 0: False(0) [+$f,+c] []
 
@@ -199,6 +209,7 @@ type 3
 0: False(0) [+$f,+^$o.#0] []
 
 % Free variables, and a witness that isn't there.
+
 type 3
 0: False(0) [+$f,+#0] []
 
@@ -218,6 +229,7 @@ type 3
 0: False(0) [+$f,+($imp p $w4294967295)] []
 
 % The literal of a cut.
+
 type 3
 0: Cut(+z) [+p,-p] [x,x]
 
@@ -237,6 +249,7 @@ last 3
 0: Cut(+q) [+p,-p] [x,x]
 
 % Too few, and too many.
+
 child 4
 0: Imp+(1) [+q,+($imp q r),-r] [x,x]
 1: Imp+(0) [+($imp p q),+p,+($imp q r),-r] [x]
@@ -265,6 +278,7 @@ child 3
 0: Cut(+q) [+p,-p] [x]
 
 % A later line, the line itself, and no line.
+
 child 3
 0: Imp+(0) [+($imp p q),+p,+($imp q r),-r] [x,1]
 1: Imp+(1) [+q,+($imp q r),-r] [x,x]
@@ -285,6 +299,7 @@ child 3
 0: Imp+(0) [+($imp p q),+p,-q] [0,0]
 
 % The branch of the child isn't within.
+
 child 4
 0: Imp+(1) [+q,+($imp q r),-r] [x,x]
 1: Imp+(0) [+($imp p q),+p,+($imp q r)] [x,0]
@@ -307,6 +322,7 @@ child 5
 2: Cut(+q) [+($imp p q),+p,+($imp q r),-r] [0,1]
 
 % Nothing clashes.
+
 child 4
 0: Imp+(1) [+q,+($imp q r),-r] [x,x]
 1: Imp+(0) [+($imp p q),+p,+($imp q r),-r] [x,x]
@@ -328,6 +344,7 @@ child 3
 0: Cut(+q) [-q] [x,x]
 
 % No line: the end line.
+
 last 3
 
 last 3
@@ -337,6 +354,7 @@ last 3
 0: Close(0,1) [+r,-r] []
 
 % One literal too many, or with the other sign.
+
 last 5
 0: Imp+(0) [+($imp p q),+p,-q] [x,x]
 1: Imp+(0) [+($imp q r),+q,-r] [x,x]
@@ -353,12 +371,14 @@ last 5
 2: Cut(+q) [+q,+($imp p q),+p,+($imp q r),-r] [1,x]
 
 % A line behind the one that would do.
+
 last 5
 0: Imp+(1) [+q,+($imp q r),-r] [x,x]
 1: Imp+(0) [+($imp p q),+p,+($imp q r),-r] [x,0]
 2: Close(0,1) [+r,-r] []
 
 % At one line: typed terms, then principals, then children, and at the end the last branch.
+
 type 3
 0: False(7) [+z] [x]
 
@@ -375,6 +395,7 @@ child 3
 0: Close(0,1) [+r,-r] [x]
 
 % The first line that fails, whatever fails there.
+
 child 3
 0: Close(0,1) [+p,-p] [x]
 1: False(0) [-$f] []

@@ -20,6 +20,7 @@ w1 ^$i.($not ($all[$i] ^$i.($not (r #0 #1))))
 3: All-(0) [-($all[$i] ^$i.($not ($all[$i] ^$i.(r #1 #0)))),-($all[$i] ^$i.($not ($all[$i] ^$i.($not (r #0 #1)))))] [2]
 
 % Further rows that no line needs, one of which names an earlier one, and one that says the same of another type.
+
 accepted
 w0 ^$i.($not ($all[$i] ^$i.(r #1 #0)))
 w1 ^$i.($not ($all[$i] ^$i.($not (r #0 #1))))
@@ -41,6 +42,7 @@ w3 ^t.$f
 3: All-(0) [-($all[$i] ^$i.($not ($all[$i] ^$i.(r #1 #0)))),-($all[$i] ^$i.($not ($all[$i] ^$i.($not (r #0 #1)))))] [2]
 
 % The rows exchanged under their lines: the witness of the third line is another one.
+
 child 7
 w0 ^$i.($not ($all[$i] ^$i.($not (r #0 #1))))
 w1 ^$i.($not ($all[$i] ^$i.(r #1 #0)))
@@ -50,6 +52,7 @@ w1 ^$i.($not ($all[$i] ^$i.(r #1 #0)))
 3: All-(0) [-($all[$i] ^$i.($not ($all[$i] ^$i.(r #1 #0)))),-($all[$i] ^$i.($not ($all[$i] ^$i.($not (r #0 #1)))))] [2]
 
 % A row left out.
+
 type 4
 w0 ^$i.($not ($all[$i] ^$i.(r #1 #0)))
 0: All+(0;$w0) [+($all[$i] ^$i.($not (r #0 $w1))),+(r $w0 $w1)] [x]
@@ -58,6 +61,7 @@ w0 ^$i.($not ($all[$i] ^$i.(r #1 #0)))
 3: All-(0) [-($all[$i] ^$i.($not ($all[$i] ^$i.(r #1 #0)))),-($all[$i] ^$i.($not ($all[$i] ^$i.($not (r #0 #1)))))] [2]
 
 % No lines, and the last lines left out.
+
 last 5
 w0 ^$i.($not ($all[$i] ^$i.(r #1 #0)))
 w1 ^$i.($not ($all[$i] ^$i.($not (r #0 #1))))
@@ -70,6 +74,7 @@ w1 ^$i.($not ($all[$i] ^$i.($not (r #0 #1))))
 2: All-(0) [-($all[$i] ^$i.($not ($all[$i] ^$i.($not (r #0 #1))))),+($all[$i] ^$i.(r $w0 #0))] [1]
 
 % Rows that aren't predicates of one type.
+
 type 3
 w0 c
 
@@ -95,6 +100,7 @@ type 3
 w0 ^$i.^$i.(r #1 #0)
 
 % Not with all variables.
+
 type 3
 w0 s
 
@@ -114,6 +120,7 @@ last 4
 w0 ^($i>$o).($all[$i] ^$i.(#1 #0))
 
 % Not closed, not typed, or with a name that isn't declared.
+
 type 3
 w0 ^$i.(s #1)
 
@@ -136,6 +143,7 @@ last 4
 w0 ^(t>$o).(#0 d)
 
 % Witnesses of the row itself and of later ones.
+
 type 3
 w0 ^$i.(r #0 $w0)
 
@@ -157,6 +165,7 @@ w1 ^$i.(r $w0 #0)
 w2 ^$i.(r $w0 $w1)
 
 % The type of an earlier witness is that of its row.
+
 type 4
 w0 ^t.$f
 w1 ^$i.(r $w0 #0)
@@ -166,6 +175,7 @@ w0 ^t.$f
 w1 ^$i.($eq[t] $w0 d)
 
 % The same predicate twice.
+
 twice 4
 w0 ^$i.(s #0)
 w1 ^$i.(s #0)
@@ -200,6 +210,7 @@ w2 ^$i.(r $w1 #0)
 w3 ^$i.(r $w0 #0)
 
 % Rows come before lines.
+
 type 4
 w0 ^$i.($not ($all[$i] ^$i.(r #1 #0)))
 w1 c
@@ -215,6 +226,7 @@ w0 ^$i.($not ($all[$i] ^$i.(r #1 #0)))
 0: False(0) [+z] []
 
 % Right lines that aren't about the problem: a term under functions, a function applied, and both.
+
 last 3
 0: All+(0;c) [+($all[$i] ^$i.($all[$i] ^$i.(r #1 #0))),-($all[$i] ^$i.(r c #0))] [x]
 
@@ -234,6 +246,7 @@ child 3
 0: All+(0;^$i.($not (s #0))) [+($all[($i>$o)] ^($i>$o).($not (#0 c))),+(s c)] [x]
 
 % The wrong argument, and the wrong term.
+
 child 3
 0: All+(0;c) [+($all[$i] ^$i.($all[$i] ^$i.(r #1 #0))),-($all[$i] ^$i.(r #0 c))] [x]
 
@@ -247,6 +260,7 @@ child 3
 0: All+(0;c) [+($all[$i] ^$i.(s #0)),-(s c)] [x,x]
 
 % Terms that are typed but not as the quantifier wants.
+
 principal 3
 0: All+(0;d) [+($all[$i] ^$i.(s #0)),-(s c)] [x]
 
@@ -260,6 +274,7 @@ principal 3
 0: All+(0;c) [+($all[t] ^t.$f)] [x]
 
 % Principals that are no such quantifiers.
+
 principal 3
 0: All+(0;c) [-($all[$i] ^$i.(s #0)),+(s c)] [x]
 
@@ -270,6 +285,7 @@ principal 3
 0: All+(2;c) [+($all[$i] ^$i.(s #0)),-(s c)] [x]
 
 % Terms that aren't closed, typed and with all variables.
+
 type 3
 0: All+(0;#0) [+($all[$i] ^$i.(s #0)),-(s c)] [x]
 
@@ -301,6 +317,7 @@ type 3
 0: False(0) [+$f,+($all[$i] ^t.$f)] []
 
 % Right lines that aren't about the problem.
+
 last 4
 w0 ^$i.($not $f)
 0: All-(0) [-($all[$i] ^$i.($not $f)),-$f] [x]
@@ -323,6 +340,7 @@ w0 ^($i>$o).$f
 0: All+(0;^$i.($w0 #0)) [+($all[($i>$o)] ^($i>$o).(#0 c)),-($w0 c)] [x]
 
 % Another witness, and another sign.
+
 child 5
 w0 ^$i.$f
 w1 ^$i.(s #0)
@@ -345,6 +363,7 @@ w0 ^$i.(s #0)
 0: All-(0) [-($all[$i] ^$i.(s #0)),+(s $w0)] []
 
 % No row holds the predicate.
+
 principal 3
 0: All-(0) [-($all[$i] ^$i.($not $f)),-$f] [x]
 
@@ -361,6 +380,7 @@ w0 ^$i.($not ($not (s #0)))
 0: All-(0) [-($all[$i] ^$i.(s #0)),+(s $w0)] [x]
 
 % Principals that are no such quantifiers.
+
 principal 4
 w0 ^$i.(s #0)
 0: All-(0) [+($all[$i] ^$i.(s #0)),-(s $w0)] [x]
@@ -374,6 +394,7 @@ w0 ^$i.(s #0)
 0: All-(2) [-($all[$i] ^$i.(s #0)),+(s $w0)] [x]
 
 % The witness is of another type, or stands without its variables.
+
 principal 4
 w0 ^t.$f
 0: All+(0;$w0) [+($all[$i] ^$i.(s #0)),-(s c)] [x]
@@ -387,6 +408,7 @@ w0 ^($i>$o).$f
 0: All+(0;$w0) [+($all[($i>$o)] ^($i>$o).(#0 c)),-($w0 c)] [x]
 
 % Lines may name every row.
+
 last 5
 w0 ^$i.($not ($all[$i] ^$i.(r #1 #0)))
 w1 ^$i.($not ($all[$i] ^$i.($not (r #0 #1))))
@@ -398,6 +420,7 @@ w1 ^$i.($not ($all[$i] ^$i.($not (r #0 #1))))
 0: False(0) [+$f,+(r $w1 $w2)] []
 
 % Witnesses as heads.
+
 last 4
 w0 ^($i>$o).$f
 0: Mat(0,1) [+($w0 c),-($w0 (k c)),+($eq[$i] c (k c))] [x]
