@@ -83,20 +83,20 @@ module _ (terms : List Lambda) where
   pub represents-more : (ls : List Literal) (b new : Branch) (l : Literal) (n : ℕ) → Represents terms ls b → number_in terms l.atom ≡ Some n → ((sign : Bool) (k : ℕ) → has new sign k ≡ (has b sign k || (same_sign l.positive sign && n == k))) → Represents terms (ls ++ l ∷ []) new
   represents-more ls b new l n h g e = record {
     sound = λ sign k i. or_split (has b sign k) (same_sign l.positive sign && n == k) (sym (e sign k) ∙ i)
-      (λ j. literal_in-more ls l sign k (h.sound sign k j))
-      (λ j.
+        (λ j. literal_in-more ls l sign k (h.sound sign k j))
+        (λ j.
         let parts = both_true (same_sign l.positive sign) (n == k) j in
         let same : l ≡ record { positive = sign; atom = l.atom } = ap (λ s. record { positive = s; atom = l.atom }) (same_signs l.positive sign parts.0) in
         record { atom = l.atom; numbered = g ∙ ap Some (eqb-true n k parts.1); among = subst (Contains (ls ++ l ∷ [])) same (Contains-push ls l) });
     whole = λ sign k i. e sign k ∙ ⊎_elim
-      (λ c. or_true (has b sign k) (same_sign l.positive sign && n == k) (h.whole sign k (record { atom = i.atom; numbered = i.numbered; among = c })))
-      (λ same.
+        (λ c. or_true (has b sign k) (same_sign l.positive sign && n == k) (h.whole sign k (record { atom = i.atom; numbered = i.numbered; among = c })))
+        (λ same.
         let sides : l.positive ≡ sign = ap (λ x. x.positive) same in
         let atoms : l.atom ≡ i.atom = ap (λ x. x.atom) same in
         let numbers : Some n ≡ Some k = sym g ∙ ap (number_in terms) atoms ∙ i.numbered in
         let equal : n ≡ k = cc in
         or_right (has b sign k) (same_sign l.positive sign && n == k) (true_both (same_sign l.positive sign) (n == k) (ap (same_sign l.positive) (sym sides) ∙ sign-itself l.positive) (eq-eqb n k equal)))
-      (Contains-push_cases ls l (record { positive = sign; atom = i.atom }) i.among);
+        (Contains-push_cases ls l (record { positive = sign; atom = i.atom }) i.among);
   }
 
   -- one literal more, whose atom has none
@@ -104,9 +104,9 @@ module _ (terms : List Lambda) where
   represents-unknown ls b l h g = record {
     sound = λ sign k i. literal_in-more ls l sign k (h.sound sign k i);
     whole = λ sign k i. ⊎_elim
-      (λ c. h.whole sign k (record { atom = i.atom; numbered = i.numbered; among = c }))
-      (λ same. let bad : None ≡ Some k = sym g ∙ ap (λ x. number_in terms x.atom) same ∙ i.numbered in cc)
-      (Contains-push_cases ls l (record { positive = sign; atom = i.atom }) i.among);
+        (λ c. h.whole sign k (record { atom = i.atom; numbered = i.numbered; among = c }))
+        (λ same. let bad : None ≡ Some k = sym g ∙ ap (λ x. number_in terms x.atom) same ∙ i.numbered in cc)
+        (Contains-push_cases ls l (record { positive = sign; atom = i.atom }) i.among);
   }
 
 -- more terms
@@ -117,10 +117,10 @@ pub represents-grown : (ts us : List Lambda) (ls : List Literal) (b : Branch) �
 represents-grown ts us ls b n h = record {
   sound = λ sign k e. let l = h.sound sign k e in record { atom = l.atom; numbered = number_in-grown ts us l.atom k l.numbered; among = l.among };
   whole = λ sign k l.
-    let m = n (record { positive = sign; atom = l.atom }) l.among in
-    let numbers : Some m.0 ≡ Some k = sym (number_in-grown ts us l.atom m.0 m.1) ∙ l.numbered in
-    let equal : m.0 ≡ k = cc in
-    h.whole sign k (record { atom = l.atom; numbered = m.1 ∙ ap Some equal; among = l.among });
+      let m = n (record { positive = sign; atom = l.atom }) l.among in
+      let numbers : Some m.0 ≡ Some k = sym (number_in-grown ts us l.atom m.0 m.1) ∙ l.numbered in
+      let equal : m.0 ≡ k = cc in
+      h.whole sign k (record { atom = l.atom; numbered = m.1 ∙ ap Some equal; among = l.among });
 }
 
 pub branches-grown : (ts us : List Lambda) (lines : List Line) (bs : List Branch) → AreBranches ts lines bs → AreBranches (ts ++ us) lines bs

@@ -83,11 +83,11 @@ module _ (terms : List Lambda) where
   -- whether a branch is closed, by numbers
   pub clashes_closed : (branch : List Literal) (own : Branch) (answer : Bool) → AreNumbered terms branch → Represents terms branch own → (IsTrue answer ↔ ((k : ℕ) × (sign : Bool) × IsTrue (has own sign k) × IsTrue (has own (not sign) k))) → IsTrue answer ↔ IsClosed branch
   clashes_closed branch own answer n o h = (
-      λ e. let c = h.0 e in itself-closed branch own o c.1 c.0 c.2 c.3,
-      λ c.
+    λ e. let c = h.0 e in itself-closed branch own o c.1 c.0 c.2 c.3,
+    λ c.
         let k = n c.literal c.holds in
         h.1 (k.0, c.literal.positive, o.whole c.literal.positive k.0 (record { atom = c.literal.atom; numbered = k.1; among = c.holds }), o.whole (not c.literal.positive) k.0 (record { atom = c.literal.atom; numbered = k.1; among = c.holds_opposite })),
-    )
+  )
 
   not_not : (b : Bool) → not (not b) ≡ b
   not_not true = refl
@@ -103,16 +103,15 @@ module _ (terms : List Lambda) where
         let l = c.literal in
         ⊎_elim
         (λ h. ⊎_elim
-          (λ g. alone (record { literal = l; holds = h; holds_opposite = g }))
-          (λ g. let k = n (opposite l) g in
-            clash l.positive k.0 (a.whole l.positive k.0 (record { atom = l.atom; numbered = k.1; among = h })) (o.whole (not l.positive) k.0 (record { atom = l.atom; numbered = k.1; among = g })))
-          (Contains-append_cases alternative branch (opposite l) c.holds_opposite))
+        (λ g. alone (record { literal = l; holds = h; holds_opposite = g }))
+        (λ g. let k = n (opposite l) g in
+        clash l.positive k.0 (a.whole l.positive k.0 (record { atom = l.atom; numbered = k.1; among = h })) (o.whole (not l.positive) k.0 (record { atom = l.atom; numbered = k.1; among = g })))
+        (Contains-append_cases alternative branch (opposite l) c.holds_opposite))
         (λ h. ⊎_elim
-          (λ g. let k = n l h in
-            clash (not l.positive) k.0 (a.whole (not l.positive) k.0 (record { atom = l.atom; numbered = k.1; among = g }))
-            (subst (λ s. IsTrue (has own s k.0)) (sym (not_not l.positive)) (o.whole l.positive k.0 (record { atom = l.atom; numbered = k.1; among = h }))))
-          (λ g. let k = n l h in
-            own_closed l.positive k.0 (o.whole l.positive k.0 (record { atom = l.atom; numbered = k.1; among = h })) (o.whole (not l.positive) k.0 (record { atom = l.atom; numbered = k.1; among = g })))
-          (Contains-append_cases alternative branch (opposite l) c.holds_opposite))
+        (λ g. let k = n l h in
+        clash (not l.positive) k.0 (a.whole (not l.positive) k.0 (record { atom = l.atom; numbered = k.1; among = g }))
+        (subst (λ s. IsTrue (has own s k.0)) (sym (not_not l.positive)) (o.whole l.positive k.0 (record { atom = l.atom; numbered = k.1; among = h }))))
+        (λ g. let k = n l h in
+        own_closed l.positive k.0 (o.whole l.positive k.0 (record { atom = l.atom; numbered = k.1; among = h })) (o.whole (not l.positive) k.0 (record { atom = l.atom; numbered = k.1; among = g })))
+        (Contains-append_cases alternative branch (opposite l) c.holds_opposite))
         (Contains-append_cases alternative branch l c.holds)
-

@@ -22,6 +22,7 @@ number_in-at (u ∷ us) t k h = go (λ j. number_in-at us t j) (same_term u t) r
     inside : ((j : ℕ) → number_in us t ≡ Some j → slice_get us j ≡ Some t) → (o : Option ℕ) → number_in us t ≡ o → option_map (λ n. suc n) o ≡ Some k → slice_get (u ∷ us) k ≡ Some t
     inside at None e g = cc
     inside at (Some j) e g = let same : suc j ≡ k = cc in subst (λ n. slice_get (u ∷ us) n ≡ Some t) same (at j e)
+
     go : ((j : ℕ) → number_in us t ≡ Some j → slice_get us j ≡ Some t) → (b : Bool) → same_term u t ≡ b → (if b then Some 0 else option_map (λ n. suc n) (number_in us t)) ≡ Some k → slice_get (u ∷ us) k ≡ Some t
     go at true e g = let same : 0 ≡ k = cc in subst (λ n. slice_get (u ∷ us) n ≡ Some t) same (ap Some (same_term-true u t e))
     go at false e g = inside at (number_in us t) refl g

@@ -62,9 +62,9 @@ contains-added ls (k ∷ ks) l h =
     let more = if has ls k then ls else ls ++ k ∷ [] in
     contains-added more ks l
     (⊎_elim
-      (λ c. inl (kept ls k l (has ls k) c))
-      (λ c. contains_cases (Contains more l ⊎ Contains ks l) l k ks c (λ same. inl (subst (Contains more) same (joined ls k (has ls k) refl))) (λ later. inr later))
-      h)
+    (λ c. inl (kept ls k l (has ls k) c))
+    (λ c. contains_cases (Contains more l ⊎ Contains ks l) l k ks c (λ same. inl (subst (Contains more) same (joined ls k (has ls k) refl))) (λ later. inr later))
+    h)
 
 -- what represents a list represents each list with the same literals
 pub represents-same : (terms : List Lambda) (ls ks : List Literal) (b : Branch) → ((l : Literal) → Contains ls l → Contains ks l) → ((l : Literal) → Contains ks l → Contains ls l) → Represents terms ls b → Represents terms ks b

@@ -148,11 +148,7 @@ fn check_last(
 }
 
 /// Whether the text is accepted, or the place of its first failure: its rows count from 0, and then its lines.
-fn check_text(
-    alloc: Global,
-    problem: &Problem,
-    text: &RefutationText,
-) -> Result<(), PlainRefused>
+fn check_text(alloc: Global, problem: &Problem, text: &RefutationText) -> Result<(), PlainRefused>
     requires problem { IsTyped (question_of (the_problem problem.now)) }
     requires room { length text.now.witnesses + length text.now.lines < 2 ^ 64 }
     ensures accepted { OnOk result (IsAccepted (question_of (the_problem problem.now)).scope (start (normal_question (the_problem problem.now)))

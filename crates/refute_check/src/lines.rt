@@ -96,8 +96,7 @@ impl RightLines {
         ensures keeps { OnOk result (KeepsLines (the_scope sig.now witnesses.now.types) self.new) }
     {
         let branch = &line.branch;
-        let Some(own) = number_branch(alloc, sig, &witnesses.types, &mut self.atoms, branch)?
-        else {
+        let Some(own) = number_branch(alloc, sig, &witnesses.types, &mut self.atoms, branch)? else {
             return Ok(Some(Why::Typing));
         };
         if let Some(why) = self.failure(alloc, sig, witnesses, line, &own)? {

@@ -21,11 +21,7 @@ use stt_normal::normalise;
 use stt_tableau::{Lit, literal_of};
 
 /// The literal of a formula's normal form.
-pub fn formula_literal(
-    alloc: Global,
-    sig: &Signature,
-    formula: &Term,
-) -> Result<Lit, AllocError>
+pub fn formula_literal(alloc: Global, sig: &Signature, formula: &Term) -> Result<Lit, AllocError>
     requires scope { IsScope (the_scope sig.now []) }
     requires formula { IsFormula (the_scope sig.now []) (the_term formula.now) }
     ensures { IfOk result (λ lit. lit ≡ literal (normal_form (the_scope sig.now []) [] (the_term formula.now))) }

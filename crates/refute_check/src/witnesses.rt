@@ -127,14 +127,7 @@ impl Witnesses {
     {
         match rule {
             RuleUse::AllNeg(i) => Ok(self.all_neg_instance(alloc, branch, *i)?),
-            other => Ok(find_instance(
-                alloc,
-                sig,
-                &self.types,
-                &self.rows,
-                branch,
-                other,
-            )?),
+            other => Ok(find_instance(alloc, sig, &self.types, &self.rows, branch, other)?),
         }
     }
 }

@@ -40,8 +40,7 @@ loop-i-preserved c =
     let i = c.loop-i.i in
     let line = numbered_line names (the_line c.at-line.result.now) in
     let at = slice_get-map (numbered_line names) (map the_line text.lines) i (the_line c.at-line.result.now) (slice_get-map the_line text.lines i c.at-line.result.now c.at-line.ensures) in
-    let answer = answer_over sig w.types w.rows rows c.requires.keeps.types c.requires.rows (take i lines) line c.in_ok-why.field-0 (c.in_ok-why.ensures.answer (take i lines) c.loop-i.invariant.1) in
-    (
+    let answer = answer_over sig w.types w.rows rows c.requires.keeps.types c.requires.rows (take i lines) line c.in_ok-why.field-0 (c.in_ok-why.ensures.answer (take i lines) c.loop-i.invariant.1) in (
       c.in_ok-why.ensures.keeps,
       subst (λ ls. AreBranches c.check_line.new.lines.atoms.terms ls c.check_line.new.lines.branches.items) (sym (take_got lines i line at)) (c.in_ok-why.ensures.added c.in_default.is (take i lines) c.loop-i.invariant.1),
       lines-more (with_rows (the_scope sig []) rows) rows lines i line at c.loop-i.invariant.2 (subst (LineAnswer (with_rows (the_scope sig []) rows) rows (take i lines) line) c.in_default.is answer),

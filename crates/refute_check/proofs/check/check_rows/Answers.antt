@@ -27,8 +27,7 @@ loop-i-preserved c =
     let i = c.loop-i.i in
     let row = c.in_ok-row.row in
     let at = slice_get-map (numbered_row names) c.args.text.now.witnesses i c.at.result.now c.at.ensures ∙ ap Some (sym c.in_ok-row.ensures) in
-    let right = subst (RowAnswer scope (take i rows) row) c.in_default.is (subst (λ rs. RowAnswer scope rs row c.in_ok-why.field-0) c.loop-i.invariant.0 c.in_ok-why.ensures) in
-    (
+    let right = subst (RowAnswer scope (take i rows) row) c.in_default.is (subst (λ rs. RowAnswer scope rs row c.in_ok-why.field-0) c.loop-i.invariant.0 c.in_ok-why.ensures) in (
       c.in_ok-push.ensures.rows ∙ ap (λ rs. rs ++ row ∷ []) c.loop-i.invariant.0 ∙ sym (take_got rows i row at),
       c.in_ok-push.ensures.keeps,
       table-more scope rows i row at c.loop-i.invariant.2 right.0 right.1,

@@ -11,9 +11,9 @@ returns-in-Some c = λ terms lines alternative branch are own known closed.
     subst (λ child. (IsTrue c.is_within.result → ClosesBy lines (alternative ++ branch) child) × (ClosesBy lines (alternative ++ branch) child → IsTrue c.is_within.result)) (sym c.in-Line.is) (
       λ h. (l.line, l.at, numbers-within terms alternative branch c.args.known.now c.args.own.now known own l.line.branch b l.numbered l.represents (c.is_within.ensures.0 h)),
       λ w.
-        let e : Some w.0 ≡ Some l.line = sym w.1 ∙ l.at in
-        let same : w.0 ≡ l.line = cc in
-        c.is_within.ensures.1 (within-numbers terms alternative branch c.args.known.now c.args.own.now known own l.line.branch b l.represents (subst (λ x. Within x.branch (alternative ++ branch)) same w.2)),
+          let e : Some w.0 ≡ Some l.line = sym w.1 ∙ l.at in
+          let same : w.0 ≡ l.line = cc in
+          c.is_within.ensures.1 (within-numbers terms alternative branch c.args.known.now c.args.own.now known own l.line.branch b l.represents (subst (λ x. Within x.branch (alternative ++ branch)) same w.2)),
     )
 
 pub returns-in-None : goal.returns-in-None

@@ -17,7 +17,7 @@ returns c = λ terms branch n o a closed.
     let front = c.args.alternative.now in (
       λ h. closed-within front (front ++ branch) (c.is_closed.ensures.0 h) (within-before front branch),
       λ h. closed-cases terms front branch c.args.known.now c.args.own.now n a o h
-        (λ sign k e g. absurd (untrue (closed.1 (itself-closed terms branch c.args.own.now o sign k e g)) c.if-own_is_closed.false))
-        (λ sign k e g. absurd (untrue (c.clashes.ensures.1 (k, sign, e, g)) c.if-clashes.false))
-        c.is_closed.ensures.1,
+          (λ sign k e g. absurd (untrue (closed.1 (itself-closed terms branch c.args.own.now o sign k e g)) c.if-own_is_closed.false))
+          (λ sign k e g. absurd (untrue (c.clashes.ensures.1 (k, sign, e, g)) c.if-clashes.false))
+          c.is_closed.ensures.1,
     )

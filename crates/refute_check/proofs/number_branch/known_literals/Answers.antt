@@ -17,11 +17,11 @@ loop-i-preserved c =
     let found = ap (λ x. number_in terms x.atom) (sym c.lit.view_is) ∙ sym c.in_ok-n.ensures in
     let all = sym (take_got lits i l c.at-lit.ensures) in
     elim c.match-branch-2.branch [
-      in-Some+in_ok-insert w ↦ (subst (λ ls. Represents terms ls c.match-branch-2.known) all
-        (subst (Represents terms (done ++ l ∷ [])) (sym w.known-is)
-        (represents-more terms done c.loop-i.known w.insert.new.self l w.in-Some.n c.loop-i.invariant (found ∙ w.in-Some.is)
-        (λ s k. w.in_ok-insert.ensures s k ∙ ap (λ x. has c.loop-i.known s k || (same_sign x s && w.in-Some.n == k)) (ap (λ x. x.positive) c.lit.view_is)))))
-    | in_default w ↦ (subst (λ ls. Represents terms ls c.match-branch-2.known) all
-        (subst (Represents terms (done ++ l ∷ [])) (sym w.known-is)
-        (represents-unknown terms done c.loop-i.known l c.loop-i.invariant (found ∙ w.in_default.is))))
+      | in-Some+in_ok-insert w ↦ (subst (λ ls. Represents terms ls c.match-branch-2.known) all
+          (subst (Represents terms (done ++ l ∷ [])) (sym w.known-is)
+          (represents-more terms done c.loop-i.known w.insert.new.self l w.in-Some.n c.loop-i.invariant (found ∙ w.in-Some.is)
+          (λ s k. w.in_ok-insert.ensures s k ∙ ap (λ x. has c.loop-i.known s k || (same_sign x s && w.in-Some.n == k)) (ap (λ x. x.positive) c.lit.view_is)))))
+      | in_default w ↦ (subst (λ ls. Represents terms ls c.match-branch-2.known) all
+          (subst (Represents terms (done ++ l ∷ [])) (sym w.known-is)
+          (represents-unknown terms done c.loop-i.known l c.loop-i.invariant (found ∙ w.in_default.is))))
     ]

@@ -27,7 +27,7 @@ returns-in_ok-add-clause-number c =
     let terms = c.args.atoms.now.terms in (
       c.in_ok-is_typed_literal.ensures.0 c.if-branch.true,
       ap (λ x. number_in c.add.new.self.terms x.atom) (sym c.lit.view_is)
-      ∙ ap (λ ts. number_in ts c.lit.inside.atom) c.in_ok-add.ensures.terms
-      ∙ number_in-last terms c.lit.inside.atom (sym c.in_ok-n.ensures ∙ c.in_default.is)
-      ∙ ap Some (sym c.in_ok-add.ensures.number),
+          ∙ ap (λ ts. number_in ts c.lit.inside.atom) c.in_ok-add.ensures.terms
+          ∙ number_in-last terms c.lit.inside.atom (sym c.in_ok-n.ensures ∙ c.in_default.is)
+          ∙ ap Some (sym c.in_ok-add.ensures.number),
     )

@@ -7,6 +7,6 @@ returns-then-meet c = (λ h. positive_clash c.args.self.now c.args.other.now (sy
 
 pub returns-else-meet : goal.returns-else-meet
 returns-else-meet c = (
-    λ h. negative_clash c.args.self.now c.args.other.now (sym c.meet-else-meet.ensures ∙ h),
-    λ h. c.meet-else-meet.ensures ∙ clash_sides c.args.self.now c.args.other.now (sym c.meet.ensures ∙ c.if-meet.false) h.1 h.0 h.2 h.3,
-  )
+  λ h. negative_clash c.args.self.now c.args.other.now (sym c.meet-else-meet.ensures ∙ h),
+  λ h. c.meet-else-meet.ensures ∙ clash_sides c.args.self.now c.args.other.now (sym c.meet.ensures ∙ c.if-meet.false) h.1 h.0 h.2 h.3,
+)

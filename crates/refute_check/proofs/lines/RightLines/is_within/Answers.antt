@@ -13,10 +13,9 @@ returns-in-Some c = λ lines line ls are at r.
     let found = ap (λ bs. slice_get bs c.args.i) (sym c.as_slice.ensures.value) ∙ sym c.branch_at.ensures ∙ ap option_copied c.in-Some.is in
     let l = line_at terms lines branches c.args.i b are found in
     let e : Some l.line ≡ Some line = sym l.at ∙ at in
-    let same : l.line ≡ line = cc in
-    (
+    let same : l.line ≡ line = cc in (
       λ h. subst (λ x. Within x.branch ls) same
-        (within-trans l.line.branch (ls ++ ls) ls (numbers-within terms ls ls s s r r l.line.branch b l.numbered l.represents (c.is_within.ensures.0 h)) (within-both ls ls ls (within-itself ls) (within-itself ls))),
+          (within-trans l.line.branch (ls ++ ls) ls (numbers-within terms ls ls s s r r l.line.branch b l.numbered l.represents (c.is_within.ensures.0 h)) (within-both ls ls ls (within-itself ls) (within-itself ls))),
       λ w. c.is_within.ensures.1 (within-numbers terms ls ls s s r r l.line.branch b l.represents (within-behind ls l.line.branch ls (subst (λ x. Within x.branch ls) (sym same) w))),
     )
 
