@@ -1,6 +1,6 @@
 -- Branches as sets of numbers.
 use Rattle.std.proofs.Common.{◌≡◌, ℕ, suc, ◌+◌, Bool, true, false, ◌||◌, ◌&&◌, ◌==◌, List, [], ◌∷◌, ◌++◌, Option, Some, None, option_map, length, slice_get, take, Contains, refl, sym, ap, subst, ◌∙◌, append_assoc, ⊎_elim, if◌then◌else◌, arith}
-use Rattle.std.proofs.lemmas.Bool.{eqb-true, eq-eqb}
+use Rattle.std.proofs.lemmas.Bool.{and_from, and_parts, or_left, or_right, eqb-true, eq-eqb}
 use Rattle.std.proofs.lemmas.List.Elements.{Contains-push, Contains-append_left, Contains-push_cases}
 use Rattle.stt_core.specs.Lambda.{Lambda}
 use Rattle.stt_core.specs.SameTerm.{same_term}
@@ -16,7 +16,8 @@ use Rattle.refute_check.specs.declared.term_numbers.TermNumbers.{TermNumbers}
 use Rattle.refute_check.specs.Branches.{has, IsLiteralOf, Represents, AreNumbered, AreAtoms, Grow, AreBranches}
 use Rattle.refute_check.specs.declared.branch.Branch.{Branch}
 use Rattle.refute_check.proofs.NumberLaws.{number_in-at, number_in-append, or_length}
-use Rattle.refute_check.proofs.SetLaws.{or_true, or_right, or_split}
+use Rattle.refute_check.proofs.SetLaws.{or_split}
+use Rattle.refute_check.proofs.StartLaws.{same_sign-true}
 
 -- two terms with the same number are the same
 pub same_number : (terms : List Lambda) (t u : Lambda) (k : ℕ) → number_in terms t ≡ Some k → number_in terms u ≡ Some k → t ≡ u
@@ -61,23 +62,9 @@ module _ (terms : List Lambda) where
   literal_in-more : (ls : List Literal) (l : Literal) (sign : Bool) (k : ℕ) → IsLiteralOf terms ls sign k → IsLiteralOf terms (ls ++ l ∷ []) sign k
   literal_in-more ls l sign k h = record { atom = h.atom; numbered = h.numbered; among = Contains-append_left ls (l ∷ []) (record { positive = sign; atom = h.atom }) h.among }
 
-  same_signs : (a b : Bool) → same_sign a b ≡ true → a ≡ b
-  same_signs true true h = refl
-  same_signs true false h = cc
-  same_signs false true h = cc
-  same_signs false false h = refl
-
   sign-itself : (a : Bool) → same_sign a a ≡ true
   sign-itself true = refl
   sign-itself false = refl
-
-  both_true : (a b : Bool) → (a && b) ≡ true → (a ≡ true) × (b ≡ true)
-  both_true true b h = (refl, h)
-  both_true false b h = cc
-
-  true_both : (a b : Bool) → a ≡ true → b ≡ true → (a && b) ≡ true
-  true_both true b h g = g
-  true_both false b h g = cc
 
   -- one literal more, whose atom has a number
   pub represents-more : (ls : List Literal) (b new : Branch) (l : Literal) (n : ℕ) → Represents terms ls b → number_in terms l.atom ≡ Some n → ((sign : Bool) (k : ℕ) → has new sign k ≡ (has b sign k || (same_sign l.positive sign && n == k))) → Represents terms (ls ++ l ∷ []) new
@@ -85,17 +72,17 @@ module _ (terms : List Lambda) where
     sound = λ sign k i. or_split (has b sign k) (same_sign l.positive sign && n == k) (sym (e sign k) ∙ i)
         (λ j. literal_in-more ls l sign k (h.sound sign k j))
         (λ j.
-        let parts = both_true (same_sign l.positive sign) (n == k) j in
-        let same : l ≡ record { positive = sign; atom = l.atom } = ap (λ s. record { positive = s; atom = l.atom }) (same_signs l.positive sign parts.0) in
+        let parts = and_parts (same_sign l.positive sign) (n == k) j in
+        let same : l ≡ record { positive = sign; atom = l.atom } = ap (λ s. record { positive = s; atom = l.atom }) (same_sign-true l.positive sign parts.0) in
         record { atom = l.atom; numbered = g ∙ ap Some (eqb-true n k parts.1); among = subst (Contains (ls ++ l ∷ [])) same (Contains-push ls l) });
     whole = λ sign k i. e sign k ∙ ⊎_elim
-        (λ c. or_true (has b sign k) (same_sign l.positive sign && n == k) (h.whole sign k (record { atom = i.atom; numbered = i.numbered; among = c })))
+        (λ c. or_left (has b sign k) (same_sign l.positive sign && n == k) (h.whole sign k (record { atom = i.atom; numbered = i.numbered; among = c })))
         (λ same.
         let sides : l.positive ≡ sign = ap (λ x. x.positive) same in
         let atoms : l.atom ≡ i.atom = ap (λ x. x.atom) same in
         let numbers : Some n ≡ Some k = sym g ∙ ap (number_in terms) atoms ∙ i.numbered in
         let equal : n ≡ k = cc in
-        or_right (has b sign k) (same_sign l.positive sign && n == k) (true_both (same_sign l.positive sign) (n == k) (ap (same_sign l.positive) (sym sides) ∙ sign-itself l.positive) (eq-eqb n k equal)))
+        or_right (has b sign k) (same_sign l.positive sign && n == k) (and_from (same_sign l.positive sign) (n == k) (ap (same_sign l.positive) (sym sides) ∙ sign-itself l.positive) (eq-eqb n k equal)))
         (Contains-push_cases ls l (record { positive = sign; atom = i.atom }) i.among);
   }
 

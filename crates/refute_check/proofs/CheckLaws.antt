@@ -14,10 +14,6 @@ use Rattle.stt_tableau.specs.declared.refutation.Refutation.{Refutation}
 use Rattle.stt_tableau.specs.declared.refutation.Why.{Why}
 use Rattle.stt_tableau.proofs.FailureLaws.{over_rows}
 
-pub length-mapped : {A B : Type 0} (f : A → B) (xs : List A) → length (map f xs) ≡ length xs
-length-mapped f [] = refl
-length-mapped f (x ∷ xs) = ap (λ n. suc n) (length-mapped f xs)
-
 -- a line's answer over the witnesses of the table
 pub answer_over : (sig : Signature) (types : List SimpleType) (rows whole : List Row) → types ≡ map (λ r. r.type) rows → rows ≡ whole → (earlier : List Line) (line : Line) (why : Option Why) → LineAnswer (the_scope sig types) rows earlier line why → LineAnswer (with_rows (the_scope sig []) whole) whole earlier line why
 answer_over sig types rows whole types_are rows_are earlier line why h =

@@ -1,5 +1,6 @@
 -- What closes a branch with an alternative, by numbers.
 use Rattle.std.proofs.Common.{◌≡◌, ℕ, zero, suc, Bool, true, false, not, ◌||◌, List, [], ◌∷◌, ◌++◌, Some, None, slice_get, IsTrue, ◌↔◌, Contains, refl, sym, subst, ⊎_elim}
+use Rattle.std.proofs.lemmas.Bool.{or_left, or_right}
 use Rattle.std.proofs.lemmas.List.Elements.{Contains-append_left, Contains-append_right, Contains-append_cases}
 use Rattle.stt_core.specs.Lambda.{Lambda}
 use Rattle.stt_tableau.specs.Literals.{Literal, opposite}
@@ -10,7 +11,7 @@ use Rattle.refute_check.specs.TermNumbers.{number_in}
 use Rattle.refute_check.specs.Branches.{has, IsLiteralOf, Represents, AreNumbered, AreBranches}
 use Rattle.refute_check.specs.declared.branch.Branch.{Branch}
 use Rattle.refute_check.proofs.BranchLaws.{same_number}
-use Rattle.refute_check.proofs.SetLaws.{or_true, or_right, or_split}
+use Rattle.refute_check.proofs.SetLaws.{or_split}
 
 -- the branch of the line at a place, by numbers
 pub record LineAt (terms : List Lambda) (lines : List Line) (j : ℕ) (b : Branch) : Type 0 where
@@ -41,7 +42,7 @@ module _ (terms : List Lambda) where
   module _ (alternative branch : List Literal) (known own : Branch) (a : Represents terms alternative known) (o : Represents terms branch own) where
     in_either : (sign : Bool) (k : ℕ) (t : Lambda) → number_in terms t ≡ Some k → Contains (alternative ++ branch) (record { positive = sign; atom = t }) → IsTrue (has known sign k || has own sign k)
     in_either sign k t n c = ⊎_elim
-        (λ h. or_true (has known sign k) (has own sign k) (a.whole sign k (record { atom = t; numbered = n; among = h })))
+        (λ h. or_left (has known sign k) (has own sign k) (a.whole sign k (record { atom = t; numbered = n; among = h })))
         (λ h. or_right (has known sign k) (has own sign k) (o.whole sign k (record { atom = t; numbered = n; among = h })))
         (Contains-append_cases alternative branch (record { positive = sign; atom = t }) c)
 

@@ -1,5 +1,5 @@
 -- Terms that differ have keys that differ: a reader with two stacks takes back the steps.
-use Rattle.std.proofs.Common.{◌≡◌, ℕ, ◌==◌, List, [], ◌∷◌, ◌++◌, refl, sym, ap, ◌∙◌, append_assoc, if◌then◌else◌}
+use Rattle.std.proofs.Common.{◌≡◌, ℕ, ◌==◌, List, [], ◌∷◌, ◌++◌, refl, sym, ap, ◌∙◌, append-nil, append_assoc, if◌then◌else◌}
 use Rattle.stt_core.specs.SimpleType.{SimpleType, base, arrow}
 use Rattle.stt_core.specs.Lambda.{Constant, name, witness, falsity, negation, implication, all, equality, choice, Lambda, bound, constant, lam, app, lambdas, applied}
 use Rattle.refute_check.specs.Keys.{step, type_key, constant_key, term_key, types_key, functions_key, arguments_key}
@@ -89,10 +89,6 @@ built-term (app t u) rest s =
 
 abbrev empty : Stacks
 empty = record { types = []; terms = [] }
-
-append-nil : (xs : List ℕ) → xs ++ [] ≡ xs
-append-nil [] = refl
-append-nil (x ∷ xs) = ap (λ l. x ∷ l) (append-nil xs)
 
 -- what is appended in two parts
 pub appended : (old front more middle whole new : List ℕ) → middle ≡ old ++ front → new ≡ middle ++ more → whole ≡ front ++ more → new ≡ old ++ whole

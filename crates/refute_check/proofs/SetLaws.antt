@@ -1,6 +1,6 @@
 -- Sets of numbers.
-use Rattle.std.proofs.Common.{◌≡◌, ℕ, Bool, true, false, ◌||◌, ◌&&◌, ◌==◌, not, nat_lt, List, [], ◌∷◌, IsTrue, refl, sym, subst, ◌∙◌, cond, arith}
-use Rattle.std.proofs.lemmas.Bool.{and_parts, eqb-true, eq-eqb, ltb-true}
+use Rattle.std.proofs.Common.{◌≡◌, ℕ, Bool, true, false, ◌||◌, ◌&&◌, ◌==◌, not, nat_lt, List, [], ◌∷◌, IsTrue, refl, sym, subst, ◌∙◌, ⊎_elim, cond, arith}
+use Rattle.std.proofs.lemmas.Bool.{and_from, and_parts, or_cases, or_left, or_right, eqb-true, eq-eqb, ltb-true}
 use Rattle.std.specs.List.{list_all, list_any}
 use Rattle.std.specs.Ordering.{is_eq, nat_cmp}
 use Rattle.std.specs.BTreeSet.{BTreeSet, contains}
@@ -18,21 +18,8 @@ is_eq-nat_cmp k x = go (nat_lt k x) (k == x) refl refl
     go false true e d = refl
     go false false e d = refl
 
-pub or_true : (a b : Bool) → a ≡ true → (a || b) ≡ true
-or_true true b h = refl
-or_true false b h = cc
-
-pub or_right : (a b : Bool) → b ≡ true → (a || b) ≡ true
-or_right true b h = refl
-or_right false b h = h
-
 pub or_split : {P : Type 0} (a b : Bool) → (a || b) ≡ true → (a ≡ true → P) → (b ≡ true → P) → P
-or_split true b h f g = f refl
-or_split false b h f g = g h
-
-and_both : (a b : Bool) → a ≡ true → b ≡ true → (a && b) ≡ true
-and_both true b h g = g
-and_both false b h g = cc
+or_split a b h f g = ⊎_elim f g (or_cases a b h)
 
 -- what holds of all keys holds of those that are found
 all_found : (p : ℕ → Bool) (xs : List ℕ) (k : ℕ) → list_all p xs ≡ true → list_any (λ x. is_eq (nat_cmp k x)) xs ≡ true → p k ≡ true
@@ -49,7 +36,7 @@ found_first x = is_eq-nat_cmp x x ∙ eq-eqb x x refl
 found_all : (p : ℕ → Bool) (xs : List ℕ) → ((k : ℕ) → list_any (λ x. is_eq (nat_cmp k x)) xs ≡ true → p k ≡ true) → list_all p xs ≡ true
 found_all p [] h = refl
 found_all p (x ∷ xs) h =
-    and_both (p x) (list_all p xs) (h x (or_true (is_eq (nat_cmp x x)) (list_any (λ y. is_eq (nat_cmp x y)) xs) (found_first x)))
+    and_from (p x) (list_all p xs) (h x (or_left (is_eq (nat_cmp x x)) (list_any (λ y. is_eq (nat_cmp x y)) xs) (found_first x)))
     (found_all p xs (λ k e. h k (or_right (is_eq (nat_cmp k x)) (list_any (λ y. is_eq (nat_cmp k y)) xs) e)))
 
 -- a test passes all keys of a set
@@ -63,14 +50,14 @@ any_found : (p : ℕ → Bool) (xs : List ℕ) (k : ℕ) → list_any (λ x. is_
 any_found p [] k h g = cc
 any_found p (x ∷ xs) k h g =
     or_split (is_eq (nat_cmp k x)) (list_any (λ y. is_eq (nat_cmp k y)) xs) h
-    (λ e. let same : k ≡ x = eqb-true k x (sym (is_eq-nat_cmp k x) ∙ e) in or_true (p x) (list_any p xs) (subst (λ j. p j ≡ true) same g))
+    (λ e. let same : k ≡ x = eqb-true k x (sym (is_eq-nat_cmp k x) ∙ e) in or_left (p x) (list_any p xs) (subst (λ j. p j ≡ true) same g))
     (λ e. or_right (p x) (list_any p xs) (any_found p xs k e g))
 
 found_any : (p : ℕ → Bool) (xs : List ℕ) → list_any p xs ≡ true → (k : ℕ) × (list_any (λ x. is_eq (nat_cmp k x)) xs ≡ true) × (p k ≡ true)
 found_any p [] h = cc
 found_any p (x ∷ xs) h =
     or_split (p x) (list_any p xs) h
-    (λ e. (x, or_true (is_eq (nat_cmp x x)) (list_any (λ y. is_eq (nat_cmp x y)) xs) (found_first x), e))
+    (λ e. (x, or_left (is_eq (nat_cmp x x)) (list_any (λ y. is_eq (nat_cmp x y)) xs) (found_first x), e))
     (λ e. let r = found_any p xs e in (r.0, or_right (is_eq (nat_cmp r.0 x)) (list_any (λ y. is_eq (nat_cmp r.0 y)) xs) r.1, r.2))
 
 -- a test passes one of a set's keys

@@ -1,5 +1,6 @@
 -- The start as a set of literals.
 use Rattle.std.proofs.Common.{◌≡◌, ℕ, zero, suc, ◌+◌, Bool, true, false, ◌&&◌, List, [], ◌∷◌, ◌++◌, Option, Some, option_map, map, take, slice_get, Contains, refl, sym, ap, ap₂, subst, ◌∙◌, ⊎_elim, ◌⊎◌, inl, inr, if◌then◌else◌, arith}
+use Rattle.std.proofs.lemmas.Bool.{and_parts}
 use Rattle.std.proofs.lemmas.List.Elements.{Contains-push, Contains-append_left, Contains-push_cases}
 use Rattle.stt_core.specs.Lambda.{Lambda}
 use Rattle.stt_core.specs.SameTerm.{same_term}
@@ -16,20 +17,16 @@ use Rattle.refute_check.specs.Branches.{Represents}
 use Rattle.refute_check.specs.declared.branch.Branch.{Branch}
 use Rattle.refute_check.proofs.SetLaws.{or_split}
 
-signs_same : (a b : Bool) → same_sign a b ≡ true → a ≡ b
-signs_same true true h = refl
-signs_same true false h = cc
-signs_same false true h = cc
-signs_same false false h = refl
-
-parts : (a b : Bool) → (a && b) ≡ true → (a ≡ true) × (b ≡ true)
-parts true b h = (refl, h)
-parts false b h = cc
+pub same_sign-true : (a b : Bool) → same_sign a b ≡ true → a ≡ b
+same_sign-true true true h = refl
+same_sign-true true false h = cc
+same_sign-true false true h = cc
+same_sign-true false false h = refl
 
 literals_same : (l k : Literal) → same_literal l k ≡ true → l ≡ k
 literals_same l k h =
-    let p = parts (same_sign l.positive k.positive) (same_term l.atom k.atom) h in
-    ap₂ (λ s t. record { positive = s; atom = t }) (signs_same l.positive k.positive p.0) (same_term-true l.atom k.atom p.1)
+    let p = and_parts (same_sign l.positive k.positive) (same_term l.atom k.atom) h in
+    ap₂ (λ s t. record { positive = s; atom = t }) (same_sign-true l.positive k.positive p.0) (same_term-true l.atom k.atom p.1)
 
 -- a literal that is found in a list is one of it
 pub has-contains : (ls : List Literal) (l : Literal) → has ls l ≡ true → Contains ls l

@@ -1,5 +1,6 @@
 -- The numbers of the rows' predicates.
 use Rattle.std.proofs.Common.{◌≡◌, ℕ, zero, suc, Bool, true, false, List, [], ◌∷◌, Option, Some, None, option_map, map, slice_get, Contains, refl, sym, ap, ap₂, subst, ◌∙◌, if◌then◌else◌, arith}
+use Rattle.std.proofs.lemmas.Option.{slice_get-map}
 use Rattle.std.specs.Option.{is_some}
 use Rattle.stt_core.specs.Lambda.{Lambda}
 use Rattle.stt_core.specs.SimpleType.{SimpleType}
@@ -22,10 +23,8 @@ number_in-none (u ∷ ts) t h c = go (λ g. number_in-none ts t g) (same_term u 
     go more false (Some k) e d g = cc
     go more false None e d g = contains_cases ⊥ t u ts c (λ same. untrue (same_term-of u t same) e) (more d)
 
-pub slice_get-map : {A B : Type 0} (f : A → B) (xs : List A) (k : ℕ) (x : A) → slice_get xs k ≡ Some x → slice_get (map f xs) k ≡ Some (f x)
-slice_get-map f [] k x h = cc
-slice_get-map f (y ∷ xs) zero x h = let same : y ≡ x = cc in ap (λ z. Some (f z)) same
-slice_get-map f (y ∷ xs) (suc k) x h = slice_get-map f xs k x h
+pub mapped_get : {A B : Type 0} (f : A → B) (xs : List A) (k : ℕ) (x : A) → slice_get xs k ≡ Some x → slice_get (map f xs) k ≡ Some (f x)
+mapped_get f xs k x h = slice_get-map f xs k ∙ ap (option_map f) h
 
 pub mapped_at : {A B : Type 0} (f : A → B) (xs : List A) (k : ℕ) (y : B) → slice_get (map f xs) k ≡ Some y → (x : A) × (slice_get xs k ≡ Some x) × (f x ≡ y)
 mapped_at f [] k y h = cc

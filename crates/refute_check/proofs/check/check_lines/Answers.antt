@@ -1,4 +1,5 @@
 use Rattle.std.proofs.Common.{◌∙◌, [], map, take, sym, subst}
+use Rattle.std.proofs.lemmas.List.{length-map}
 use Rattle.stt_core.specs.ScopeView.{the_scope}
 use Rattle.stt_core.proofs.ListLaws.{take_got}
 use Rattle.stt_tableau.specs.Witnesses.{with_rows}
@@ -7,8 +8,8 @@ use Rattle.stt_tableau.proofs.FailureLaws.{line_refused, lines-more}
 use Rattle.refute_text.specs.TextView.{the_line, the_text}
 use Rattle.refute_check.specs.Numbered.{numbered_row, numbered_line, numbered_refutation}
 use Rattle.refute_check.specs.Branches.{AreBranches}
-use Rattle.refute_check.proofs.WitnessNumbers.{slice_get-map}
-use Rattle.refute_check.proofs.CheckLaws.{length-mapped, answer_over}
+use Rattle.refute_check.proofs.WitnessNumbers.{mapped_get}
+use Rattle.refute_check.proofs.CheckLaws.{answer_over}
 use Rattle.refute_check.proofs.check.check_lines.Goals as goal
 
 pub loop-i-init : goal.loop-i-init
@@ -24,9 +25,9 @@ returns-in-Some-clause-refused c = λ start.
     let lines = map (numbered_line names) (map the_line text.lines) in
     let i = c.loop-i.i in
     let line = numbered_line names (the_line c.at-line.result.now) in
-    let at = slice_get-map (numbered_line names) (map the_line text.lines) i (the_line c.at-line.result.now) (slice_get-map the_line text.lines i c.at-line.result.now c.at-line.ensures) in
+    let at = mapped_get (numbered_line names) (map the_line text.lines) i (the_line c.at-line.result.now) (mapped_get the_line text.lines i c.at-line.result.now c.at-line.ensures) in
     let answer = answer_over sig w.types w.rows rows c.requires.keeps.types c.requires.rows (take i lines) line c.in_ok-why.field-0 (c.in_ok-why.ensures.answer (take i lines) c.loop-i.invariant.1) in
-    line_refused (the_scope sig []) start (numbered_refutation names (the_text text)) c.len-rows.result i line c.in-Some.why (c.len-rows.ensures ∙ sym (length-mapped (numbered_row names) text.witnesses)) at c.requires.table c.loop-i.invariant.2
+    line_refused (the_scope sig []) start (numbered_refutation names (the_text text)) c.len-rows.result i line c.in-Some.why (c.len-rows.ensures ∙ sym (length-map text.witnesses (numbered_row names))) at c.requires.table c.loop-i.invariant.2
     (subst (LineAnswer (with_rows (the_scope sig []) rows) rows (take i lines) line) c.in-Some.is answer)
 
 pub loop-i-preserved : goal.loop-i-preserved
@@ -39,7 +40,7 @@ loop-i-preserved c =
     let lines = map (numbered_line names) (map the_line text.lines) in
     let i = c.loop-i.i in
     let line = numbered_line names (the_line c.at-line.result.now) in
-    let at = slice_get-map (numbered_line names) (map the_line text.lines) i (the_line c.at-line.result.now) (slice_get-map the_line text.lines i c.at-line.result.now c.at-line.ensures) in
+    let at = mapped_get (numbered_line names) (map the_line text.lines) i (the_line c.at-line.result.now) (mapped_get the_line text.lines i c.at-line.result.now c.at-line.ensures) in
     let answer = answer_over sig w.types w.rows rows c.requires.keeps.types c.requires.rows (take i lines) line c.in_ok-why.field-0 (c.in_ok-why.ensures.answer (take i lines) c.loop-i.invariant.1) in (
       c.in_ok-why.ensures.keeps,
       subst (λ ls. AreBranches c.check_line.new.lines.atoms.terms ls c.check_line.new.lines.branches.items) (sym (take_got lines i line at)) (c.in_ok-why.ensures.added c.in_default.is (take i lines) c.loop-i.invariant.1),

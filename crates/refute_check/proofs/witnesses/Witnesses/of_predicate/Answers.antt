@@ -4,7 +4,7 @@ use Rattle.stt_core.specs.View.{the_type}
 use Rattle.stt_core.proofs.TypeLaws.{same_type_refl, same_type-true}
 use Rattle.stt_tableau.proofs.ListLaws.{untrue, contains-get}
 use Rattle.stt_tableau.proofs.FailureLaws.{below_length}
-use Rattle.refute_check.proofs.WitnessNumbers.{slice_get-map, numbered_row, no_row, is_row, other_type}
+use Rattle.refute_check.proofs.WitnessNumbers.{mapped_get, numbered_row, no_row, is_row, other_type}
 use Rattle.refute_check.proofs.witnesses.Witnesses.of_predicate.Goals as goal
 
 pub returns-in_default : goal.returns-in_default
@@ -12,7 +12,7 @@ returns-in_default c = λ scope table k h.
     let w = c.args.self.now in
     let f = c.args.quantified.now.predicate.now in
     no_row w.rows w.predicates.terms c.requires.predicates f c.in_ok-k.field-0 c.in_ok-k.ensures c.in_default.is
-    (contains-get _ k f (slice_get-map (λ r. r.predicate) w.rows k (record { type = the_type c.args.quantified.now.ty.now; predicate = f }) h))
+    (contains-get _ k f (mapped_get (λ r. r.predicate) w.rows k (record { type = the_type c.args.quantified.now.ty.now; predicate = f }) h))
 
 pub at-requires : goal.at-requires
 at-requires c =
