@@ -3,8 +3,8 @@ use Rattle.std.proofs.Common.{◌+◌, ℕ, Bool, true, false, List, [], ◌∷�
 use Rattle.std.specs.List.{AllByRecursion}
 use Rattle.std.proofs.lemmas.List.Elements.{All-from_recursion}
 use Rattle.thf_syntax.specs.Trees.{BodyTree, base, typing, formula, SelectedTree, StatementTree}
-use Rattle.thf_parse.specs.declared.parser.TheConstants.{MAX_DEPTH}
 use Rattle.thf_parse.specs.Printable.{IsPrintable, BodyDeclaresPrintable, DeclaresPrintable, DeclaredArePrintable}
+use Rattle.thf_parse.specs.Parsing.{depth_limit}
 use Rattle.thf_parse.proofs.PrintableLaws.{declared-printable}
 use Rattle.thf_include.specs.View.{PlacedTree}
 use Rattle.thf_include.specs.Gathering.{Ending, done, stopped, behind, is_selected, is_missing, select_by, select, FileEnds, unread, long, refused, followed, StatementEnds, stays, in_cycle, past_limit, stops, selects, StatementsEnd, no_more, ends, goes_on, IsGathering}
@@ -55,7 +55,7 @@ module _ (texts : List (List ℕ)) where
     file_printable chain file name opened ending (long chain' file' name' l m) = tt
     file_printable chain file name opened ending (refused chain' file' at name' text g l r) = tt
     file_printable chain file name opened ending (followed chain' opened' file' name' text tree ending' g l t e) =
-        statements_printable (name' ∷ chain') file' (file' + 1) tree opened' ending' (declared-printable text t.tokens MAX_DEPTH tree t.read t.parsed) e
+        statements_printable (name' ∷ chain') file' (file' + 1) tree opened' ending' (declared-printable text t.tokens depth_limit tree t.read t.parsed) e
 
     statement_printable : (chain : List (List ℕ)) (file next : ℕ) (s : StatementTree) (opened : List (List ℕ)) (ending : Ending) → DeclaresPrintable s → StatementEnds texts chain file next s opened ending → EndsPrintable ending
     statement_printable chain file next s opened ending h (stays chain' file' next' a) = (body_printable a.body h, tt)

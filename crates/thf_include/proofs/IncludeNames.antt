@@ -16,14 +16,13 @@ use Rattle.thf_lex.specs.Reading.{Reads, gap, token, bad, end, token_at}
 use Rattle.thf_syntax.specs.declared.formula.Conn.TheVariants.{Not, And, Or, Imp, If, Iff, Xor, Nor, Nand}
 use Rattle.thf_syntax.specs.declared.formula.Binder.TheVariants.{All, Exists, Lam, Choice, Desc}
 use Rattle.thf_syntax.specs.Trees.{StatementTree, annotated, include}
-use Rattle.thf_parse.specs.declared.parser.TheConstants.{MAX_DEPTH}
 use Rattle.thf_parse.specs.declared.terminal.Mark.TheVariants as mark
 use Rattle.thf_parse.specs.declared.terminal.Terminal.{Terminal}
 use Rattle.thf_parse.specs.declared.terminal.Terminal.TheVariants as terminal
 use Rattle.thf_parse.specs.Terminals.{single, pair, triple, symbol, dollar_word, of_kind}
 use Rattle.thf_parse.specs.Words.{Lexeme, lexeme, lexemes, Word, plain, terminal_of, name_of, name_in, unescaped, name, Is}
 use Rattle.thf_parse.specs.Statements.{IsStatement, annotated_statement, include_statement, IsFile, no_statement, more_statements}
-use Rattle.thf_parse.specs.Parsing.{AreWithin}
+use Rattle.thf_parse.specs.Parsing.{depth_limit, AreWithin}
 use Rattle.thf_include.specs.Gathering.{IsFileText}
 use Rattle.thf_include.specs.Names.{IsNamed, AreNamed}
 use Rattle.thf_include.proofs.Trees.{follows, behind-all}
@@ -189,5 +188,5 @@ file-named limit ws _ (more_statements _ rest s ss first later) within h =
 -- the includes of a text have names that are text
 pub tree-named : (text : List ℕ) (tree : List StatementTree) → IsFileText text tree → AreNamed tree
 tree-named text tree h =
-    file-named MAX_DEPTH h.parsed.words tree h.parsed.file h.parsed.within
+    file-named depth_limit h.parsed.words tree h.parsed.file h.parsed.within
     (all-plain h.parsed.words (subst (AllByRecursion IsProperly) (sym h.parsed.tokens) (properly text 0 text h.tokens h.read refl)))

@@ -1,20 +1,14 @@
 -- Texts have one gathering.
-use Rattle.std.proofs.Common.{◌≡◌, ℕ, ◌+◌, ◌<◌, ◌≤◌, List, [], ◌∷◌, ◌++◌, length, Some, refl, sym, ap, ap₂, subst, ◌∙◌, arith}
+use Rattle.std.proofs.Common.{◌≡◌, ℕ, ◌+◌, List, ◌∷◌, ◌++◌, length, Some, refl, sym, ap, ap₂, subst, arith}
 use Rattle.std.specs.Prelude.{slice_get}
 use Rattle.std.proofs.lemmas.Option.{slice_get_within}
 use Rattle.thf_syntax.specs.Trees.{StatementTree}
-use Rattle.thf_include.specs.View.{PlacedTree}
-use Rattle.thf_include.specs.Gathering.{Ending, done, stopped, behind, select, IsFileText, IsRefusedText, FileEnds, unread, long, refused, followed, StatementEnds, stays, in_cycle, past_limit, stops, selects, StatementsEnd, no_more, ends, goes_on}
-use Rattle.thf_include.specs.Places.{placeless}
-use Rattle.thf_include.proofs.FileTexts.{not-refused, same-tree}
+use Rattle.thf_include.specs.Gathering.{no_tree, Ending, done, stopped, behind, select, IsFileText, IsRefusedText, FileEnds, unread, long, refused, followed, StatementEnds, stays, in_cycle, past_limit, stops, selects, StatementsEnd, no_more, ends, goes_on}
+use Rattle.thf_include.proofs.FileTexts.{not-refused, same-place, same-tree}
 
 pub record SameEnds (opened others : List (List ℕ)) (one other : Ending) : Type 0 where
   pub names : opened ≡ others
-  pub endings : placeless one ≡ placeless other
-
-placeless-behind : (front : List PlacedTree) (e : Ending) → placeless (behind front e) ≡ behind front (placeless e)
-placeless-behind front (done statements) = refl
-placeless-behind front (stopped why) = refl
+  pub endings : one ≡ other
 
 module _ (texts : List (List ℕ)) where
   apart : (file at : ℕ) (text other : List ℕ) (tree : List StatementTree) → slice_get texts file ≡ Some text → slice_get texts file ≡ Some other → IsFileText text tree → IsRefusedText other at → ⊥
@@ -22,6 +16,9 @@ module _ (texts : List (List ℕ)) where
 
   one : (file : ℕ) (text other : List ℕ) (tree another : List StatementTree) → slice_get texts file ≡ Some text → slice_get texts file ≡ Some other → IsFileText text tree → IsFileText other another → another ≡ tree
   one file text other tree another get again h k = let e : other ≡ text = cc in same-tree text another tree (subst (λ t. IsFileText t another) e k) h
+
+  at_one : (file at place : ℕ) (text other : List ℕ) → slice_get texts file ≡ Some text → slice_get texts file ≡ Some other → IsRefusedText text at → IsRefusedText other place → at ≡ place
+  at_one file at place text other get again r s = let e : other ≡ text = cc in same-place text at place r (subst (λ t. IsRefusedText t place) e s)
 
   mutual
     pub one-file : (chain : List (List ℕ)) (file : ℕ) (name : List ℕ) (opened : List (List ℕ)) (e : Ending) → FileEnds texts chain file name opened e → (others : List (List ℕ)) (f : Ending) → FileEnds texts chain file name others f → SameEnds opened others e f
@@ -35,7 +32,7 @@ module _ (texts : List (List ℕ)) where
     one-file _ _ _ _ _ (long chain file name there over) _ _ (followed _ opened _ _ text tree ending get within is inside) = absurd (omega arith)
     one-file _ _ _ _ _ (refused chain file at name text get within is) _ _ (unread _ _ _ short) = absurd (omega (arith, slice_get_within texts file text get))
     one-file _ _ _ _ _ (refused chain file at name text get within is) _ _ (long _ _ _ there over) = absurd (omega arith)
-    one-file _ _ _ _ _ (refused chain file at name text get within is) _ _ (refused _ _ place _ other again small so) = record { names = refl; endings = refl }
+    one-file _ _ _ _ _ (refused chain file at name text get within is) _ _ (refused _ _ place _ other again small so) = record { names = refl; endings = ap (λ p. stopped (no_tree file p)) (at_one file at place text other get again is so) }
     one-file _ _ _ _ _ (refused chain file at name text get within is) _ _ (followed _ opened _ _ other tree ending again small so inside) = absurd (apart file at other text tree again get so is)
     one-file _ _ _ _ _ (followed chain opened file name text tree ending get within is inside) _ _ (unread _ _ _ short) = absurd (omega (arith, slice_get_within texts file text get))
     one-file _ _ _ _ _ (followed chain opened file name text tree ending get within is inside) _ _ (long _ _ _ there over) = absurd (omega arith)
@@ -66,7 +63,7 @@ module _ (texts : List (List ℕ)) where
     one-statement _ _ _ _ _ _ (selects chain opened file next at name only statements new room inside) _ _ (selects _ others _ _ _ _ _ gathered again more within) =
         let same = one-file chain next name opened (done statements) inside others (done gathered) within in
         let e : statements ≡ gathered = let d = same.endings in cc in
-        record { names = same.names; endings = ap (λ ps. placeless (select file only ps)) e }
+        record { names = same.names; endings = ap (λ ps. select file only ps) e }
 
     pub one-statements : (chain : List (List ℕ)) (file next : ℕ) (tree : List StatementTree) (opened : List (List ℕ)) (e : Ending) → StatementsEnd texts chain file next tree opened e → (others : List (List ℕ)) (f : Ending) → StatementsEnd texts chain file next tree others f → SameEnds opened others e f
     one-statements _ _ _ _ _ _ (no_more chain file next) _ _ (no_more _ _ _) = record { names = refl; endings = refl }
@@ -81,5 +78,5 @@ module _ (texts : List (List ℕ)) where
         let after = one-statements chain file (next + length opened) later more ending rest most last (subst (λ ns. StatementsEnd texts chain file (next + length ns) later most last) (sym same.names) end) in
         record {
           names = ap₂ (λ xs ys. xs ++ ys) same.names after.names;
-          endings = placeless-behind front ending ∙ ap₂ behind e after.endings ∙ sym (placeless-behind before last);
+          endings = ap₂ behind e after.endings;
         }

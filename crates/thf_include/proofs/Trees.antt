@@ -6,10 +6,9 @@ use Rattle.thf_lex.specs.declared.token.Token.{Token}
 use Rattle.thf_lex.specs.Reading.{Reads, gap, token, bad, end}
 use Rattle.thf_lex.proofs.Pieces.{token_front}
 use Rattle.thf_syntax.specs.Trees.{StatementTree}
-use Rattle.thf_parse.specs.declared.parser.TheConstants.{MAX_DEPTH}
 use Rattle.thf_parse.specs.Words.{Lexeme, lexeme, lexemes, Word, plain}
 use Rattle.thf_parse.specs.Statements.{IsStatement, IsFile, no_statement, more_statements}
-use Rattle.thf_parse.specs.Parsing.{AreWithin}
+use Rattle.thf_parse.specs.Parsing.{depth_limit, AreWithin}
 use Rattle.thf_parse.specs.StatementReader.{statement}
 use Rattle.thf_parse.proofs.Goes.{IsShallow, here, there, Arrives, Goes}
 use Rattle.thf_parse.proofs.StatementGoes.{goes-statement}
@@ -55,7 +54,7 @@ pub tree-short : (text : List ℕ) (tree : List StatementTree) → IsFileText te
 tree-short text tree h =
     omega (
       arith,
-      file-longer MAX_DEPTH h.parsed.words tree h.parsed.file h.parsed.within,
+      file-longer depth_limit h.parsed.words tree h.parsed.file h.parsed.within,
       length-map h.parsed.words (λ (w : Word). w.lexeme),
       ap length h.parsed.tokens,
       length-map h.tokens (lexeme text),

@@ -5,9 +5,8 @@ use Rattle.std.specs.Str.{bytes_eq}
 use Rattle.thf_lex.specs.declared.token.Token.{Token}
 use Rattle.thf_lex.specs.Reading.{AreTokens}
 use Rattle.thf_syntax.specs.Trees.{AnnotatedTree, SelectedTree, StatementTree, annotated, include}
-use Rattle.thf_parse.specs.declared.parser.TheConstants.{MAX_DEPTH}
 use Rattle.thf_parse.specs.Words.{lexemes}
-use Rattle.thf_parse.specs.Parsing.{HasTree, IsWrongAt, IsTooDeepAt}
+use Rattle.thf_parse.specs.Parsing.{depth_limit, HasTree, IsWrongAt, IsTooDeepAt}
 use Rattle.thf_include.specs.declared.limits.TheConstants.{MAX_BYTES, MAX_FILES}
 use Rattle.thf_include.specs.View.{PlacedTree}
 
@@ -37,13 +36,13 @@ bytes_of texts n = sum_by length (take n texts)
 pub record IsFileText (text : List ℕ) (tree : List StatementTree) : Type 0 where
   pub tokens : List Token
   pub read : AreTokens text tokens
-  pub parsed : HasTree MAX_DEPTH (lexemes text tokens) tree
+  pub parsed : HasTree depth_limit (lexemes text tokens) tree
 
 -- the tokens of a text have no tree, and the first that is wrong or too deep stands at this place
 pub record IsRefusedText (text : List ℕ) (at : ℕ) : Type 0 where
   pub tokens : List Token
   pub read : AreTokens text tokens
-  pub refused : IsWrongAt MAX_DEPTH (lexemes text tokens) at ⊎ IsTooDeepAt MAX_DEPTH (lexemes text tokens) at
+  pub refused : IsWrongAt depth_limit (lexemes text tokens) at ⊎ IsTooDeepAt depth_limit (lexemes text tokens) at
 
 abbrev pub placed : ℕ → AnnotatedTree → PlacedTree
 placed file statement = record { file = file; statement = statement }

@@ -1,6 +1,5 @@
 pub mod View
 pub mod Gathering
-pub mod Places
 pub mod Answer
 pub mod Chain
 pub mod Names

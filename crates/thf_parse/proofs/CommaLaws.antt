@@ -7,7 +7,7 @@ use Rattle.thf_parse.specs.Words.{Lexeme, Word, plain, terminal_of, Is}
 use Rattle.thf_parse.specs.Outcome.{Outcome, found, wrong, deep, Reader, ◌>>=◌, first_terminal, behind, is_mark}
 use Rattle.thf_parse.specs.NoteReader.{comma_by, commas, all_commas}
 use Rattle.thf_parse.proofs.Locals.{IsLocal, IsLocalAt, rest_of, at, local-found, local-wrong, local-behind, local-bind, local-terminal, rest-length, local-counted}
-use Rattle.thf_parse.proofs.Finds.{word, Finds, finds-bind, finds-token, finds-none}
+use Rattle.thf_parse.proofs.Finds.{word, Ending, Finds, stopped-here, ending-as, finds-bind, finds-token, finds-none}
 use Rattle.thf_parse.proofs.Goes.{Goes, sinks-bind, goes-bind, goes-token, goes-found}
 
 -- a comma is a token
@@ -85,11 +85,16 @@ module _ {S : Type 0} (item : S → Reader S) (N : S → S → List Word → Lis
   abbrev FollowIs : S → S → S → List Word → List Word → Type 0
   FollowIs s x y ws rest = (front : List Word) → N s x front ws → Separated N d s y front rest
 
-  pub finds-commas : ((s : S) (ts : List Lexeme) → Finds (N s) ts (item s ts)) → (n : ℕ) (s : S) (ts : List Lexeme) → Finds (λ y ws rest. Separated N d s y ws rest) ts (commas item n s ts)
+  pub separated-ends : (s : S) → Ending (N s) → Ending (λ y ws rest. Separated N d s y ws rest)
+  separated-ends s e = ending-as (N s) (λ y ws rest. Separated N d s y ws rest) e (λ y ws rest p. last s y ws rest p)
+
+  pub finds-commas : ((s : S) → Ending (N s)) → ((s : S) (ts : List Lexeme) → Finds (N s) ts (item s ts)) → (n : ℕ) (s : S) (ts : List Lexeme) → Finds (λ y ws rest. Separated N d s y ws rest) ts (commas item n s ts)
   unfolding commas first_terminal behind
-  finds-commas h zero s ts = tt
-  finds-commas h (suc n) s ts =
-      finds-bind (N s) (FollowIs s) (λ y ws rest. Separated N d s y ws rest) ts (item s ts) _ (h s ts) (λ x mid. follow (finds-commas h n) x mid) (λ x y ws mid rest p q. q ws p)
+  finds-commas close h zero s ts = stopped-here (λ y ws rest. Separated N d s y ws rest) ts (separated-ends s (close s))
+  finds-commas close h (suc n) s ts =
+      finds-bind (N s) (FollowIs s) (λ y ws rest. Separated N d s y ws rest) ts (item s ts) _ (h s ts)
+      (λ x. record { value = x; words = []; read = λ after front p. last s x front after p })
+      (λ x mid. follow (finds-commas close h n) x mid) (λ x y ws mid rest p q. q ws p)
     where
       none : (x : S) (us : List Lexeme) → Finds (FollowIs s x) us (found x us)
       none x us = finds-none (FollowIs s x) us x (λ after front p. last s x front after p)

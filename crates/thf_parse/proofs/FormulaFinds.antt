@@ -1,5 +1,5 @@
 -- What is found is a formula.
-use Rattle.std.proofs.Common.{◌≡◌, ℕ, zero, suc, List, [], ◌∷◌, ◌++◌, Bool, true, false, if◌then◌else◌, refl, sym, ap, subst, ◌∙◌, append_assoc}
+use Rattle.std.proofs.Common.{◌≡◌, ℕ, zero, suc, List, [], ◌∷◌, ◌++◌, Bool, true, false, if◌then◌else◌, Some, refl, sym, ap, subst, ◌∙◌, append_assoc}
 use Rattle.thf_syntax.specs.Trees.{TypeTree, indiv, VarTree, FormulaTree, constant, variable, truth, operator, negation, binary, equation, application, quantified, binding}
 use Rattle.thf_syntax.specs.declared.formula.Conn.{Conn}
 use Rattle.thf_syntax.specs.declared.formula.Conn.TheVariants.{Not, And, Or}
@@ -7,15 +7,16 @@ use Rattle.thf_syntax.specs.declared.formula.Binder.{Binder}
 use Rattle.thf_parse.specs.declared.terminal.Mark.TheVariants.{Open, Close, OpenList, CloseList, Comma, Colon, At}
 use Rattle.thf_parse.specs.declared.terminal.Terminal.{Terminal}
 use Rattle.thf_parse.specs.declared.terminal.Terminal.TheVariants as terminal
-use Rattle.thf_parse.specs.Words.{Lexeme, Word, terminal_of, name_of, Is, lower, quoted}
+use Rattle.thf_parse.specs.Words.{Lexeme, Word, terminal_of, name_of, name, Is, lower, quoted}
 use Rattle.thf_parse.specs.Types.{IsVar, plain_var, typed_var}
 use Rattle.thf_parse.specs.Formulas as is
 use Rattle.thf_parse.specs.Formulas.{binds_many, is_chained, is_nonassoc, lone_depth, AreVars, IsFormula, AreLinks, AreArguments, IsUnit, IsOperand, IsNegation, IsUnitary, IsPrimary, IsBinder}
-use Rattle.thf_parse.specs.Outcome.{found, wrong, Reader, ◌>>=◌, first_terminal, first_place, first_name, behind}
+use Rattle.thf_parse.specs.Outcome.{found, wrong, Reader, ◌>>=◌, first_terminal, first_place, first_name, behind, enter}
 use Rattle.thf_parse.specs.Reader.{type_with, inner_type}
 use Rattle.thf_parse.specs.FormulaReader.{Readers, Inside, var, typed_by, variable_at, negation_at, primary_by, primary, next_variable_by, next_variable, bracket_by, binder_at, unitary_by, unitary, operand_by, operand, right_side, equated_by, unit_by, unit, next_link, is_link, links_by, links, arguments_by, arguments, quantified_by, quantified_at, second, tail_by, tail, applied_by, applied, behind_primary_by, behind_primary, formula_by, formula, closed, lone, negated_operand, negated_by, negated_at, grouped_by, grouped, body, bound_by, behind_variable, bound, readers, inner}
-use Rattle.thf_parse.proofs.Finds.{word, Finds, finds-bind, finds-token, finds-as, finds-behind, finds-map, finds-one, finds-none, FindIn, finds-enter}
-use Rattle.thf_parse.proofs.MarkLaws.{Closed, finds-closed, finds-past}
+use Rattle.thf_parse.proofs.Finds.{word, Ending, Stopped, Finds, stopped-here, stopped-token, stopped-behind, ending-map, ending-as, finds-bind, finds-token, finds-as, finds-behind, finds-map, finds-one, finds-none, FindIn, finds-enter, finds-entered}
+use Rattle.thf_parse.proofs.Endings.{mark_word, mark-is, truth_word, truth-is, upper_word, upper-is}
+use Rattle.thf_parse.proofs.MarkLaws.{Closed, closed-ends, finds-closed, finds-past}
 use Rattle.thf_parse.proofs.TypeLaws.{TypeIs, finds-type_with, finds-inner_type}
 
 abbrev pub UnitIs : ℕ → FormulaTree → List Word → List Word → Type 0
@@ -109,18 +110,90 @@ is_link-is And (terminal.Conn And) e = refl
 is_link-is Or (terminal.Conn Or) e = refl
 is_link-is _ _ e = cc
 
+-- a formula of each kind ends with `$true`
+primary-ends : (d : ℕ) → Ending (PrimaryIs d)
+primary-ends d = record { value = truth 0 true; words = truth_word d ∷ []; read = λ after. is.truth_primary d (truth_word d) after true (truth-is d) }
+
+unitary-ends : (d : ℕ) → Ending (UnitaryIs d)
+unitary-ends d = ending-as (PrimaryIs d) (UnitaryIs d) (primary-ends d) (λ u ws rest p. is.primary_unitary d ws rest u p)
+
+operand-ends : (d : ℕ) → Ending (OperandIs d)
+operand-ends d = ending-as (UnitaryIs d) (OperandIs d) (unitary-ends d) (λ u ws rest p. is.unitary_operand d ws rest u p)
+
+unit-ends : (d : ℕ) → Ending (UnitIs d)
+unit-ends d = ending-as (UnitaryIs d) (UnitIs d) (unitary-ends d) (λ u ws rest p. is.unitary_unit d ws rest u p)
+
+pub formula-ends : (d : ℕ) → Ending (FormulaIs d)
+formula-ends d = ending-as (UnitIs d) (FormulaIs d) (unit-ends d) (λ u ws rest p. is.unit_formula d ws rest u p)
+
+-- a chain and arguments end where they are
+links-end : (c : Conn) (d : ℕ) (t : FormulaTree) → Ending (LinksAre c d t)
+links-end c d t = record { value = t; words = []; read = λ after. is.no_links c d t after }
+
+arguments-end : (d : ℕ) (t : FormulaTree) → Ending (ArgumentsAre d t)
+arguments-end d t = record { value = t; words = []; read = λ after. is.no_arguments d t after }
+
+group-closed : (d : ℕ) (u : FormulaTree) (ws rest : List Word) → Closed (FormulaIs (suc d)) Close (suc d) u ws rest → GroupedIs d u ws rest
+group-closed d u ws rest p w o = is.group_primary d w p.closing ws rest u o p.read p.closes
+
+-- what stands behind a `(` ends with `$true` and `)`
+grouped-ends : (d : ℕ) → Ending (GroupedIs d)
+grouped-ends d = ending-as (Closed (FormulaIs (suc d)) Close (suc d)) (GroupedIs d) (closed-ends (FormulaIs (suc d)) Close (suc d) (formula-ends (suc d))) (group-closed d)
+
+-- what follows a variable
+abbrev BehindIs : ℕ → Binder → ℕ → List VarTree → VarTree → FormulaTree → List Word → List Word → Type 0
+BehindIs d b n vs v u ws rest = (front : List Word) → IsVar (suc (suc d)) front v ws → BoundIs d b n vs u front rest
+
+-- a binder ends behind a variable with `]`, `:` and `$true`
+behind-ends : (d : ℕ) (b : Binder) (n : ℕ) (vs : List VarTree) (v : VarTree) → Ending (BehindIs d b n vs v)
+behind-ends d b n vs v = record {
+  value = binding n b (vs ++ v ∷ []) (unit-ends (suc d)).value;
+  words = mark_word CloseList (suc (suc d)) ∷ mark_word Colon (suc d) ∷ (unit-ends (suc d)).words;
+  read = λ after front k. record {
+    more = v ∷ [];
+    open_behind = suc d;
+    closing = mark_word CloseList (suc (suc d));
+    colon = mark_word Colon (suc d);
+    inside = (unit-ends (suc d)).words ++ after;
+    tree = (unit-ends (suc d)).value;
+    vars = is.last_var d front (mark_word CloseList (suc (suc d)) ∷ mark_word Colon (suc d) ∷ ((unit-ends (suc d)).words ++ after)) v k;
+    closes = mark-is CloseList (suc (suc d));
+    colons = mark-is Colon (suc d);
+    unit = (unit-ends (suc d)).read after;
+    whole = refl;
+  };
+}
+
+variable-behind : (d : ℕ) (b : Binder) (n : ℕ) (vs : List VarTree) (w : Word) → Is terminal.Upper (suc (suc d)) w → Ending (λ u ws rest. BoundIs d b n vs u (w ∷ ws) rest)
+variable-behind d b n vs w k =
+    let v : VarTree = record { at = w.lexeme.at; name = name w; ty = indiv w.lexeme.at } in
+    ending-as (BehindIs d b n vs v) (λ u ws rest. BoundIs d b n vs u (w ∷ ws) rest) (behind-ends d b n vs v) (λ u ws rest p. p (w ∷ ws) (plain_var (suc (suc d)) w ws k))
+
+-- a binder ends before a variable with that and a variable
+bound-ends : (d : ℕ) (b : Binder) (n : ℕ) (vs : List VarTree) → Ending (BoundIs d b n vs)
+bound-ends d b n vs =
+    let e = variable-behind d b n vs (upper_word (suc (suc d))) (upper-is (suc (suc d))) in
+    record { value = e.value; words = upper_word (suc (suc d)) ∷ e.words; read = e.read }
+
+variable-stops : (d : ℕ) (b : Binder) (n : ℕ) (vs : List VarTree) (t : Lexeme) (ts : List Lexeme) → terminal_of t ≡ terminal.Upper → Stopped (BoundIs d b n vs) (t ∷ ts) ts
+variable-stops d b n vs t ts e = stopped-behind (BoundIs d b n vs) t (suc (suc d)) ts (variable-behind d b n vs (word t (suc (suc d))) (here t terminal.Upper (suc (suc d)) e))
+
 module _ (d : ℕ) (inside : Inside) (h : FindIn (FindReaders d) inside) where
+  negate : (t : Lexeme) → terminal_of t ≡ terminal.Conn Not → (u : FormulaTree) (ws rest : List Word) → IsOperand (suc d) ws u rest → IsNegation d (word t (suc d) ∷ ws) (negation t.at u) rest
+  negate t e u ws rest p = is.negated d (word t (suc d)) ws rest u (here t (terminal.Conn Not) (suc d) e) p
+
   finds-negation : (t : Lexeme) (ts : List Lexeme) → terminal_of t ≡ terminal.Conn Not → Finds (NegationIs d) (t ∷ ts) (negation_at inside (t ∷ ts))
   unfolding behind first_place
   finds-negation t ts e =
       finds-enter (NegationIs d) (FindReaders d) inside (t ∷ ts) (t ∷ ts) _ h
+      (stopped-behind (NegationIs d) t (suc d) ts (ending-map (OperandIs (suc d)) (λ u ws rest. IsNegation d (word t (suc d) ∷ ws) u rest) (negation t.at) (operand-ends (suc d)) (negate t e)))
       (λ r k. finds-behind (NegationIs d) t (suc d) ts _
       (finds-map (OperandIs (suc d)) (λ u ws rest. IsNegation d (word t (suc d) ∷ ws) u rest) (negation t.at) ts (r.operand ts) (k.operand ts)
-      (λ u ws rest p. is.negated d (word t (suc d)) ws rest u (here t (terminal.Conn Not) (suc d) e) p)))
+      (negate t e)))
 
   finds-primary : (ts : List Lexeme) → Finds (PrimaryIs d) ts (primary inside ts)
   unfolding primary first_terminal first_place first_name behind
-  finds-primary [] = tt
+  finds-primary [] = stopped-here (PrimaryIs d) [] (primary-ends d)
   finds-primary (t ∷ ts) = go (terminal_of t) refl
     where
       go : (x : Terminal) → terminal_of t ≡ x → Finds (PrimaryIs d) (t ∷ ts) (primary_by inside x (t ∷ ts))
@@ -130,31 +203,46 @@ module _ (d : ℕ) (inside : Inside) (h : FindIn (FindReaders d) inside) where
       go (terminal.Truth v) e = finds-one (PrimaryIs d) t d ts (truth t.at v) (λ after. is.truth_primary d (word t d) after v (here t (terminal.Truth v) d e))
       go (terminal.Mark Open) e =
           finds-enter (PrimaryIs d) (FindReaders d) inside (t ∷ ts) (t ∷ ts) _ h
+          (stopped-behind (PrimaryIs d) t (suc d) ts (ending-as (GroupedIs d) (λ u ws rest. IsPrimary d (word t (suc d) ∷ ws) u rest) (grouped-ends d) (λ u ws rest p. p (word t (suc d)) (here t (terminal.Mark Open) (suc d) e))))
           (λ r k. finds-token (GroupedIs d) (PrimaryIs d) t (suc d) ts (r.grouped ts) (k.grouped ts) (λ u ws rest p. p (word t (suc d)) (here t (terminal.Mark Open) (suc d) e)))
-      go _ e = tt
+      go _ e = stopped-here (PrimaryIs d) (t ∷ ts) (primary-ends d)
 
   finds-next_variable : (b : Binder) (n : ℕ) (vs : List VarTree) (ts : List Lexeme) → Finds (BoundIs d b n vs) ts (next_variable inside b n vs ts)
-  unfolding next_variable first_terminal
-  finds-next_variable b n vs [] = tt
+  unfolding next_variable first_terminal behind
+  finds-next_variable b n vs [] = stopped-here (BoundIs d b n vs) [] (bound-ends d b n vs)
   finds-next_variable b n vs (t ∷ ts) = go (terminal_of t) refl
     where
       go : (x : Terminal) → terminal_of t ≡ x → Finds (BoundIs d b n vs) (t ∷ ts) (next_variable_by inside b n vs x (t ∷ ts))
-      go terminal.Upper e = finds-enter (BoundIs d b n vs) (FindReaders d) inside (t ∷ ts) (t ∷ ts) _ h (λ r k. k.bound b n vs t ts e)
-      go _ e = tt
+      go terminal.Upper e = finds-enter (BoundIs d b n vs) (FindReaders d) inside (t ∷ ts) (t ∷ ts) _ h (variable-stops d b n vs t ts e) (λ r k. k.bound b n vs t ts e)
+      go _ e = stopped-here (BoundIs d b n vs) (t ∷ ts) (bound-ends d b n vs)
+
+  bind-from : (b : Binder) (t : Lexeme) → terminal_of t ≡ terminal.Binder b → (o : Word) → Is (terminal.Mark OpenList) (suc d) o → (u : FormulaTree) (ws rest : List Word) → BoundIs d b t.at [] u ws rest → IsBinder d (word t d ∷ o ∷ ws) u rest
+  bind-from b t e o k u ws rest p =
+      subst (λ v. IsBinder d (word t d ∷ o ∷ ws) v rest) (sym p.whole)
+      (is.bound d p.open_behind (word t d) o p.closing p.colon ws p.inside rest b p.more p.tree (here t (terminal.Binder b) d e) k p.vars p.closes p.colons p.unit)
+
+  bracket-behind : (b : Binder) (t : Lexeme) → terminal_of t ≡ terminal.Binder b → (o : Word) → Is (terminal.Mark OpenList) (suc d) o → Ending (λ u ws rest. IsBinder d (word t d ∷ o ∷ ws) u rest)
+  bracket-behind b t e o k = ending-as (BoundIs d b t.at []) (λ u ws rest. IsBinder d (word t d ∷ o ∷ ws) u rest) (bound-ends d b t.at []) (bind-from b t e o k)
+
+  -- a binder's formula ends behind the binder with `[`, a variable, `]`, `:` and `$true`
+  binder-behind : (b : Binder) (t : Lexeme) → terminal_of t ≡ terminal.Binder b → Ending (λ u ws rest. IsBinder d (word t d ∷ ws) u rest)
+  binder-behind b t e =
+      let more = bracket-behind b t e (mark_word OpenList (suc d)) (mark-is OpenList (suc d)) in
+      record { value = more.value; words = mark_word OpenList (suc d) ∷ more.words; read = more.read }
 
   finds-binder : (b : Binder) (t : Lexeme) (ts : List Lexeme) → terminal_of t ≡ terminal.Binder b → Finds (BinderIs d) (t ∷ ts) (binder_at inside b (t ∷ ts))
   unfolding binder_at first_terminal first_place behind
-  finds-binder b t [] e = tt
+  finds-binder b t [] e = stopped-behind (BinderIs d) t d [] (binder-behind b t e)
   finds-binder b t (s ∷ ts) e = go (terminal_of s) refl
     where
       go : (x : Terminal) → terminal_of s ≡ x → Finds (BinderIs d) (t ∷ s ∷ ts) (bracket_by inside b t.at x (s ∷ ts))
       go (terminal.Mark OpenList) f =
           finds-enter (BinderIs d) (FindReaders d) inside (t ∷ s ∷ ts) (s ∷ ts) _ h
+          (stopped-token (BinderIs d) t d (s ∷ ts) ts (stopped-behind (λ u ws rest. IsBinder d (word t d ∷ ws) u rest) s (suc d) ts (bracket-behind b t e (word s (suc d)) (here s (terminal.Mark OpenList) (suc d) f))))
           (λ r k. finds-behind (BinderIs d) t d (s ∷ ts) _
           (finds-token (BoundIs d b t.at []) (λ u ws rest. IsBinder d (word t d ∷ ws) u rest) s (suc d) ts _ (finds-next_variable b t.at [] ts)
-          (λ u ws rest p. subst (λ v. IsBinder d (word t d ∷ word s (suc d) ∷ ws) v rest) (sym p.whole)
-          (is.bound d p.open_behind (word t d) (word s (suc d)) p.closing p.colon ws p.inside rest b p.more p.tree (here t (terminal.Binder b) d e) (here s (terminal.Mark OpenList) (suc d) f) p.vars p.closes p.colons p.unit))))
-      go _ f = tt
+          (bind-from b t e (word s (suc d)) (here s (terminal.Mark OpenList) (suc d) f))))
+      go _ f = stopped-behind (BinderIs d) t d (s ∷ ts) (binder-behind b t e)
 
   finds-unitary : (ts : List Lexeme) → Finds (UnitaryIs d) ts (unitary inside ts)
   unfolding unitary first_terminal
@@ -217,7 +305,9 @@ module _ (d : ℕ) (inside : Inside) (h : FindIn (FindReaders d) inside) where
   finds-unit ts = cases ts
     where
       plainly : (us : List Lexeme) → Finds (UnitIs d) us (primary inside us >>= λ t rest. equated_by inside t (first_terminal rest) rest)
-      plainly us = finds-bind (PrimaryIs d) RightIs (UnitIs d) us (primary inside us) _ (finds-primary us) (λ t mid. finds-equated t mid) (λ t u ws mid rest p q. q ws p)
+      plainly us = finds-bind (PrimaryIs d) RightIs (UnitIs d) us (primary inside us) _ (finds-primary us)
+          (λ t. record { value = t; words = []; read = λ after front p. is.unitary_unit d front after t (is.primary_unitary d front after t p) })
+          (λ t mid. finds-equated t mid) (λ t u ws mid rest p q. q ws p)
 
       go : (t : Lexeme) (us : List Lexeme) (x : Terminal) → terminal_of t ≡ x → Finds (UnitIs d) (t ∷ us) (unit_by inside x (t ∷ us))
       go t us (terminal.Conn Not) e = finds-as (NegationIs d) (UnitIs d) (t ∷ us) (negation_at inside (t ∷ us)) (finds-negation t us e) (λ u ws rest p. is.negation_unit d ws rest u p)
@@ -238,8 +328,10 @@ module _ (d : ℕ) (inside : Inside) (h : FindIn (FindReaders d) inside) where
       go : (s : Lexeme) (us : List Lexeme) (b : Bool) → is_link c (terminal_of s) ≡ b → Finds (LinksAre c d t) (s ∷ us) (if b then next_link inside c t (s ∷ us) else found t (s ∷ us))
       go s us true e =
           finds-enter (LinksAre c d t) (FindReaders d) inside (s ∷ us) (s ∷ us) _ h
+          (stopped-behind (LinksAre c d t) s (suc d) us (ending-map (UnitIs (suc d)) (λ v ws rest. AreLinks c d t (word s (suc d) ∷ ws) v rest) (binary s.at c t) (unit-ends (suc d))
+          (λ u ws rest p. is.more_links c d t u (binary s.at c t u) (word s (suc d)) ws rest rest (here s (terminal.Conn c) (suc d) (is_link-is c (terminal_of s) e)) p (is.no_links c (suc d) (binary s.at c t u) rest))))
           (λ r k. finds-behind (LinksAre c d t) s (suc d) us _
-          (finds-bind (UnitIs (suc d)) (λ u. LinksAre c (suc d) (binary s.at c t u)) (λ v ws rest. AreLinks c d t (word s (suc d) ∷ ws) v rest) us (r.unit us) _ (k.unit us) (λ u mid. k.links c (binary s.at c t u) mid)
+          (finds-bind (UnitIs (suc d)) (λ u. LinksAre c (suc d) (binary s.at c t u)) (λ v ws rest. AreLinks c d t (word s (suc d) ∷ ws) v rest) us (r.unit us) _ (k.unit us) (λ u. links-end c (suc d) (binary s.at c t u)) (λ u mid. k.links c (binary s.at c t u) mid)
           (λ u v ws mid rest p q. is.more_links c d t u v (word s (suc d)) ws mid rest (here s (terminal.Conn c) (suc d) (is_link-is c (terminal_of s) e)) p q)))
       go s us false e = none (s ∷ us)
 
@@ -261,8 +353,10 @@ module _ (d : ℕ) (inside : Inside) (h : FindIn (FindReaders d) inside) where
       go : (s : Lexeme) (us : List Lexeme) (x : Terminal) → terminal_of s ≡ x → Finds (ArgumentsAre d t) (s ∷ us) (arguments_by inside t x (s ∷ us))
       go s us (terminal.Mark At) e =
           finds-enter (ArgumentsAre d t) (FindReaders d) inside (s ∷ us) (s ∷ us) _ h
+          (stopped-behind (ArgumentsAre d t) s (suc d) us (ending-map (OperandIs (suc d)) (λ v ws rest. AreArguments d t (word s (suc d) ∷ ws) v rest) (application s.at t) (operand-ends (suc d))
+          (λ u ws rest p. is.more_arguments d t u (application s.at t u) (word s (suc d)) ws rest rest (here s (terminal.Mark At) (suc d) e) p (is.no_arguments (suc d) (application s.at t u) rest))))
           (λ r k. finds-behind (ArgumentsAre d t) s (suc d) us _
-          (finds-bind (OperandIs (suc d)) (λ u. ArgumentsAre (suc d) (application s.at t u)) (λ v ws rest. AreArguments d t (word s (suc d) ∷ ws) v rest) us (r.operand us) _ (k.operand us) (λ u mid. k.arguments (application s.at t u) mid)
+          (finds-bind (OperandIs (suc d)) (λ u. ArgumentsAre (suc d) (application s.at t u)) (λ v ws rest. AreArguments d t (word s (suc d) ∷ ws) v rest) us (r.operand us) _ (k.operand us) (λ u. arguments-end (suc d) (application s.at t u)) (λ u mid. k.arguments (application s.at t u) mid)
           (λ u v ws mid rest p q. is.more_arguments d t u v (word s (suc d)) ws mid rest (here s (terminal.Mark At) (suc d) e) p q)))
       go s us _ e = none (s ∷ us)
 
@@ -270,23 +364,39 @@ module _ (d : ℕ) (inside : Inside) (h : FindIn (FindReaders d) inside) where
       cases [] = none []
       cases (s ∷ us) = go s us (terminal_of s) refl
 
+  quantify : (all : Bool) (t : Lexeme) → terminal_of t ≡ terminal.Quant all → (w : Word) → Is (terminal.Mark At) (suc d) w → (u : FormulaTree) (ws rest : List Word) → IsOperand (suc d) ws u rest → IsFormula d (word t d ∷ w ∷ ws) (quantified w.lexeme.at all u) rest
+  quantify all t e w k u ws rest p = is.quantified_formula d (word t d) w ws rest rest all u (quantified w.lexeme.at all u) (here t (terminal.Quant all) d e) k p (is.no_arguments (suc d) (quantified w.lexeme.at all u) rest)
+
+  at-behind : (all : Bool) (t : Lexeme) → terminal_of t ≡ terminal.Quant all → (w : Word) → Is (terminal.Mark At) (suc d) w → Ending (λ u ws rest. IsFormula d (word t d ∷ w ∷ ws) u rest)
+  at-behind all t e w k = ending-map (OperandIs (suc d)) (λ u ws rest. IsFormula d (word t d ∷ w ∷ ws) u rest) (quantified w.lexeme.at all) (operand-ends (suc d)) (quantify all t e w k)
+
+  -- a formula ends behind `!!` or `??` with `@` and `$true`
+  quantified-behind : (all : Bool) (t : Lexeme) → terminal_of t ≡ terminal.Quant all → Ending (λ u ws rest. IsFormula d (word t d ∷ ws) u rest)
+  quantified-behind all t e =
+      let more = at-behind all t e (mark_word At (suc d)) (mark-is At (suc d)) in
+      record { value = more.value; words = mark_word At (suc d) ∷ more.words; read = more.read }
+
   finds-quantified : (all : Bool) (t : Lexeme) (ts : List Lexeme) → terminal_of t ≡ terminal.Quant all → Finds (FormulaIs d) (t ∷ ts) (quantified_at inside all ts)
   unfolding quantified_at first_terminal first_place behind
-  finds-quantified all t [] e = tt
+  finds-quantified all t [] e = stopped-behind (FormulaIs d) t d [] (quantified-behind all t e)
   finds-quantified all t (s ∷ ts) e = go (terminal_of s) refl
     where
       go : (x : Terminal) → terminal_of s ≡ x → Finds (FormulaIs d) (t ∷ s ∷ ts) (quantified_by inside all x (s ∷ ts))
       go (terminal.Mark At) f =
           finds-enter (FormulaIs d) (FindReaders d) inside (t ∷ s ∷ ts) (s ∷ ts) _ h
+          (stopped-token (FormulaIs d) t d (s ∷ ts) ts (stopped-behind (λ u ws rest. IsFormula d (word t d ∷ ws) u rest) s (suc d) ts (at-behind all t e (word s (suc d)) (here s (terminal.Mark At) (suc d) f))))
           (λ r k. finds-behind (FormulaIs d) t d (s ∷ ts) _
           (finds-behind (λ u ws rest. IsFormula d (word t d ∷ ws) u rest) s (suc d) ts _
-          (finds-bind (OperandIs (suc d)) (λ u. ArgumentsAre (suc d) (quantified s.at all u)) (λ v ws rest. IsFormula d (word t d ∷ word s (suc d) ∷ ws) v rest) ts (r.operand ts) _ (k.operand ts) (λ u mid. k.arguments (quantified s.at all u) mid)
+          (finds-bind (OperandIs (suc d)) (λ u. ArgumentsAre (suc d) (quantified s.at all u)) (λ v ws rest. IsFormula d (word t d ∷ word s (suc d) ∷ ws) v rest) ts (r.operand ts) _ (k.operand ts) (λ u. arguments-end (suc d) (quantified s.at all u)) (λ u mid. k.arguments (quantified s.at all u) mid)
           (λ u v ws mid rest p q. is.quantified_formula d (word t d) (word s (suc d)) ws mid rest all u v (here t (terminal.Quant all) d e) (here s (terminal.Mark At) (suc d) f) p q))))
-      go _ f = tt
+      go _ f = stopped-behind (FormulaIs d) t d (s ∷ ts) (quantified-behind all t e)
 
   -- the rest of a formula behind its first unit
   abbrev TailIs : FormulaTree → FormulaTree → List Word → List Word → Type 0
   TailIs t u ws rest = (front : List Word) → IsUnit d front t ws → IsFormula d front u rest
+
+  tail-ends : (t : FormulaTree) → Ending (TailIs t)
+  tail-ends t = record { value = t; words = []; read = λ after front p. is.unit_formula d front after t p }
 
   finds-second : (c : Conn) (t : FormulaTree) (s : Lexeme) (ts : List Lexeme) → is_nonassoc c ≡ true → terminal_of s ≡ terminal.Conn c → Finds (TailIs t) (s ∷ ts) (second inside c t (s ∷ ts))
   unfolding second first_place behind
@@ -320,6 +430,9 @@ module _ (d : ℕ) (inside : Inside) (h : FindIn (FindReaders d) inside) where
   abbrev AppliedIs : FormulaTree → FormulaTree → List Word → List Word → Type 0
   AppliedIs t u ws rest = (front : List Word) → IsUnitary d front t ws → IsFormula d front u rest
 
+  applied-ends : (t : FormulaTree) → Ending (AppliedIs t)
+  applied-ends t = ending-as (TailIs t) (AppliedIs t) (tail-ends t) (λ u ws rest p front q. p front (is.unitary_unit d front ws t q))
+
   finds-applied : (t : FormulaTree) (ts : List Lexeme) → Finds (AppliedIs t) ts (applied inside t ts)
   unfolding applied first_terminal
   finds-applied t ts = cases ts
@@ -339,6 +452,9 @@ module _ (d : ℕ) (inside : Inside) (h : FindIn (FindReaders d) inside) where
   abbrev BehindPrimaryIs : FormulaTree → FormulaTree → List Word → List Word → Type 0
   BehindPrimaryIs t u ws rest = (front : List Word) → IsPrimary d front t ws → IsFormula d front u rest
 
+  behind_primary-ends : (t : FormulaTree) → Ending (BehindPrimaryIs t)
+  behind_primary-ends t = ending-as (AppliedIs t) (BehindPrimaryIs t) (applied-ends t) (λ u ws rest p front q. p front (is.primary_unitary d front ws t q))
+
   finds-behind_primary : (t : FormulaTree) (ts : List Lexeme) → Finds (BehindPrimaryIs t) ts (behind_primary inside t ts)
   unfolding behind_primary first_terminal
   finds-behind_primary t ts = cases ts
@@ -348,7 +464,7 @@ module _ (d : ℕ) (inside : Inside) (h : FindIn (FindReaders d) inside) where
 
       go : (s : Lexeme) (us : List Lexeme) (x : Terminal) → terminal_of s ≡ x → Finds (BehindPrimaryIs t) (s ∷ us) (behind_primary_by inside t x (s ∷ us))
       go s us (terminal.Equality b) e =
-          finds-bind (RightIs t) TailIs (BehindPrimaryIs t) (s ∷ us) (right_side inside b t (s ∷ us)) _ (finds-right_side b t s us e) (λ u mid. finds-tail u mid) (λ u v ws mid rest p q front k. q front (p front k))
+          finds-bind (RightIs t) TailIs (BehindPrimaryIs t) (s ∷ us) (right_side inside b t (s ∷ us)) _ (finds-right_side b t s us e) tail-ends (λ u mid. finds-tail u mid) (λ u v ws mid rest p q front k. q front (p front k))
       go s us _ e = none (s ∷ us)
 
       cases : (us : List Lexeme) → Finds (BehindPrimaryIs t) us (behind_primary_by inside t (first_terminal us) us)
@@ -360,12 +476,12 @@ module _ (d : ℕ) (inside : Inside) (h : FindIn (FindReaders d) inside) where
   finds-formula ts = cases ts
     where
       plainly : (us : List Lexeme) → Finds (FormulaIs d) us (primary inside us >>= λ t rest. behind_primary inside t rest)
-      plainly us = finds-bind (PrimaryIs d) BehindPrimaryIs (FormulaIs d) us (primary inside us) _ (finds-primary us) (λ t mid. finds-behind_primary t mid) (λ t u ws mid rest p q. q ws p)
+      plainly us = finds-bind (PrimaryIs d) BehindPrimaryIs (FormulaIs d) us (primary inside us) _ (finds-primary us) behind_primary-ends (λ t mid. finds-behind_primary t mid) (λ t u ws mid rest p q. q ws p)
 
       go : (t : Lexeme) (us : List Lexeme) (x : Terminal) → terminal_of t ≡ x → Finds (FormulaIs d) (t ∷ us) (formula_by inside x (t ∷ us))
-      go t us (terminal.Conn Not) e = finds-bind (NegationIs d) TailIs (FormulaIs d) (t ∷ us) (negation_at inside (t ∷ us)) _ (finds-negation t us e) (λ u mid. finds-tail u mid) (λ u v ws mid rest p q. q ws (is.negation_unit d ws mid u p))
+      go t us (terminal.Conn Not) e = finds-bind (NegationIs d) TailIs (FormulaIs d) (t ∷ us) (negation_at inside (t ∷ us)) _ (finds-negation t us e) tail-ends (λ u mid. finds-tail u mid) (λ u v ws mid rest p q. q ws (is.negation_unit d ws mid u p))
       go t us (terminal.Quant all) e = finds-quantified all t us e
-      go t us (terminal.Binder b) e = finds-bind (BinderIs d) AppliedIs (FormulaIs d) (t ∷ us) (binder_at inside b (t ∷ us)) _ (finds-binder b t us e) (λ u mid. finds-applied u mid) (λ u v ws mid rest p q. q ws (is.binder_unitary d ws mid u p))
+      go t us (terminal.Binder b) e = finds-bind (BinderIs d) AppliedIs (FormulaIs d) (t ∷ us) (binder_at inside b (t ∷ us)) _ (finds-binder b t us e) applied-ends (λ u mid. finds-applied u mid) (λ u v ws mid rest p q. q ws (is.binder_unitary d ws mid u p))
       go t us _ e = plainly (t ∷ us)
 
       cases : (us : List Lexeme) → Finds (FormulaIs d) us (formula_by inside (first_terminal us) us)
@@ -373,51 +489,57 @@ module _ (d : ℕ) (inside : Inside) (h : FindIn (FindReaders d) inside) where
       cases (t ∷ us) = go t us (terminal_of t) refl
 
 module _ (d : ℕ) (inside : Inside) (h : FindIn (FindReaders (suc d)) inside) where
-  group-closed : (u : FormulaTree) (ws rest : List Word) → Closed (FormulaIs (suc d)) Close (suc d) u ws rest → GroupedIs d u ws rest
-  group-closed u ws rest p w o = is.group_primary d w p.closing ws rest u o p.read p.closes
-
   finds-lone : (c : Conn) (t : Lexeme) (ts : List Lexeme) → lone_depth c (suc d) ≡ suc d → terminal_of t ≡ terminal.Conn c → Finds (GroupedIs d) (t ∷ ts) (lone c (t ∷ ts))
   unfolding lone first_place behind
   finds-lone c t ts n e =
       finds-behind (GroupedIs d) t (suc d) ts _
       (finds-past (λ u ws rest. (u ≡ operator t.at c) × (ws ≡ rest)) (λ u ws rest. GroupedIs d u (word t (suc d) ∷ ws) rest) Close (suc d) ts (λ after. found (operator t.at c) after)
+      (record { value = operator t.at c; words = []; read = λ after. (refl, refl) })
       (λ after. finds-none (λ u ws rest. (u ≡ operator t.at c) × (ws ≡ rest)) after (operator t.at c) (λ us. (refl, refl)))
       (λ u v ws rest q p w o. subst (λ y. IsPrimary d (w ∷ word t (suc d) ∷ v ∷ ws) y rest) (sym p.0) (subst (λ us. IsPrimary d (w ∷ word t (suc d) ∷ v ∷ us) (operator t.at c) rest) (sym p.1)
       (is.operator_primary d w (word t (suc d)) v rest c o (record { terminal = e; deep = sym n }) q))))
 
   finds-negated : (t : Lexeme) (ts : List Lexeme) → terminal_of t ≡ terminal.Conn Not → Finds (GroupedIs d) (t ∷ ts) (negated_at inside (t ∷ ts))
   unfolding first_terminal first_place behind
-  finds-negated t ts e = finds-enter (GroupedIs d) (FindReaders (suc d)) inside (t ∷ ts) (t ∷ ts) _ h (λ r k. cases ts)
+  finds-negated t ts e = finds-entered (GroupedIs d) (FindReaders (suc d)) inside (t ∷ ts) (t ∷ ts) _ h (stopped-behind (GroupedIs d) t (suc (suc d)) ts alone) (λ r k room. cases r k room ts)
     where
-      negates : (us : List Lexeme) → Finds (GroupedIs d) (t ∷ us) (negated_operand inside t.at us)
-      negates us =
-          finds-enter (GroupedIs d) (FindReaders (suc d)) inside (t ∷ us) us _ h
-          (λ r k. finds-behind (GroupedIs d) t (suc (suc d)) us _
+      alone : Ending (λ u ws rest. GroupedIs d u (word t (suc (suc d)) ∷ ws) rest)
+      alone = record {
+        value = operator t.at Not;
+        words = mark_word Close (suc d) ∷ [];
+        read = λ after w o. is.operator_primary d w (word t (suc (suc d))) (mark_word Close (suc d)) after Not o (here t (terminal.Conn Not) (suc (suc d)) e) (mark-is Close (suc d));
+      }
+
+      negates : (r : Readers) → FindReaders (suc d) r → inside ≡ Some r → (us : List Lexeme) → Finds (GroupedIs d) (t ∷ us) (negated_operand inside t.at us)
+      negates r k room us =
+          subst (λ i. Finds (GroupedIs d) (t ∷ us) (enter i us (λ s. s.operand us >>= λ u mid. tail inside (negation t.at u) mid >>= λ v rest. closed v rest))) (sym room)
+          (finds-behind (GroupedIs d) t (suc (suc d)) us _
           (finds-bind (OperandIs (suc (suc d))) (λ u. Closed (TailIs (suc d) inside h (negation t.at u)) Close (suc d)) (λ v ws rest. GroupedIs d v (word t (suc (suc d)) ∷ ws) rest) us (r.operand us) _ (k.operand us)
+          (λ u. closed-ends (TailIs (suc d) inside h (negation t.at u)) Close (suc d) (tail-ends (suc d) inside h (negation t.at u)))
           (λ u mid. finds-closed (TailIs (suc d) inside h (negation t.at u)) Close (suc d) mid (tail inside (negation t.at u) mid) (finds-tail (suc d) inside h (negation t.at u) mid))
-          (λ u v ws mid rest p q. group-closed v (word t (suc (suc d)) ∷ ws) rest (record {
+          (λ u v ws mid rest p q. group-closed d v (word t (suc (suc d)) ∷ ws) rest (record {
             closing = q.closing;
             read = q.read (word t (suc (suc d)) ∷ ws) (is.negation_unit (suc d) (word t (suc (suc d)) ∷ ws) mid (negation t.at u) (is.negated (suc d) (word t (suc (suc d))) ws mid u (here t (terminal.Conn Not) (suc (suc d)) e) p));
             closes = q.closes;
           }))))
 
-      go : (s : Lexeme) (us : List Lexeme) (x : Terminal) → terminal_of s ≡ x → Finds (GroupedIs d) (t ∷ s ∷ us) (negated_by inside t.at x (s ∷ us))
-      go s us (terminal.Mark Close) f =
+      go : (r : Readers) → FindReaders (suc d) r → inside ≡ Some r → (s : Lexeme) (us : List Lexeme) (x : Terminal) → terminal_of s ≡ x → Finds (GroupedIs d) (t ∷ s ∷ us) (negated_by inside t.at x (s ∷ us))
+      go r k room s us (terminal.Mark Close) f =
           finds-behind (GroupedIs d) t (suc (suc d)) (s ∷ us) (found (operator t.at Not) us)
           (finds-one (λ u ws rest. GroupedIs d u (word t (suc (suc d)) ∷ ws) rest) s (suc d) us (operator t.at Not)
           (λ after w o. is.operator_primary d w (word t (suc (suc d))) (word s (suc d)) after Not o (here t (terminal.Conn Not) (suc (suc d)) e) (here s (terminal.Mark Close) (suc d) f)))
-      go s us _ f = negates (s ∷ us)
+      go r k room s us _ f = negates r k room (s ∷ us)
 
-      cases : (us : List Lexeme) → Finds (GroupedIs d) (t ∷ us) (negated_by inside t.at (first_terminal us) us)
-      cases [] = negates []
-      cases (s ∷ us) = go s us (terminal_of s) refl
+      cases : (r : Readers) → FindReaders (suc d) r → inside ≡ Some r → (us : List Lexeme) → Finds (GroupedIs d) (t ∷ us) (negated_by inside t.at (first_terminal us) us)
+      cases r k room [] = negates r k room []
+      cases r k room (s ∷ us) = go r k room s us (terminal_of s) refl
 
   finds-grouped : (ts : List Lexeme) → Finds (GroupedIs d) ts (grouped inside ts)
   unfolding grouped first_terminal
   finds-grouped ts = cases ts
     where
       plainly : (us : List Lexeme) → Finds (GroupedIs d) us (formula inside us >>= λ t rest. closed t rest)
-      plainly us = finds-as (Closed (FormulaIs (suc d)) Close (suc d)) (GroupedIs d) us _ (finds-closed (FormulaIs (suc d)) Close (suc d) us (formula inside us) (finds-formula (suc d) inside h us)) group-closed
+      plainly us = finds-as (Closed (FormulaIs (suc d)) Close (suc d)) (GroupedIs d) us _ (finds-closed (FormulaIs (suc d)) Close (suc d) us (formula inside us) (finds-formula (suc d) inside h us)) (group-closed d)
 
       go : (t : Lexeme) (us : List Lexeme) (x : Terminal) → terminal_of t ≡ x → Finds (GroupedIs d) (t ∷ us) (grouped_by inside x (t ∷ us))
       go t us (terminal.Conn Not) e = finds-negated t us e
@@ -428,15 +550,12 @@ module _ (d : ℕ) (inside : Inside) (h : FindIn (FindReaders (suc d)) inside) w
       cases [] = plainly []
       cases (t ∷ us) = go t us (terminal_of t) refl
 
-  -- what follows a variable
-  abbrev BehindIs : Binder → ℕ → List VarTree → VarTree → FormulaTree → List Word → List Word → Type 0
-  BehindIs b n vs v u ws rest = (front : List Word) → IsVar (suc (suc d)) front v ws → BoundIs d b n vs u front rest
-
-  finds-body : (b : Binder) (n : ℕ) (vs : List VarTree) (v : VarTree) (s : Lexeme) (ts : List Lexeme) → terminal_of s ≡ terminal.Mark CloseList → Finds (BehindIs b n vs v) (s ∷ ts) (body inside b n (vs ++ v ∷ []) ts)
+  finds-body : (b : Binder) (n : ℕ) (vs : List VarTree) (v : VarTree) (s : Lexeme) (ts : List Lexeme) → terminal_of s ≡ terminal.Mark CloseList → Finds (BehindIs d b n vs v) (s ∷ ts) (body inside b n (vs ++ v ∷ []) ts)
   unfolding body
   finds-body b n vs v s ts e =
-      finds-behind (BehindIs b n vs v) s (suc (suc d)) ts _
-      (finds-past (λ u ws rest. (t : FormulaTree) × (u ≡ binding n b (vs ++ v ∷ []) t) × IsUnit (suc d) ws t rest) (λ u ws rest. BehindIs b n vs v u (word s (suc (suc d)) ∷ ws) rest) Colon (suc d) ts _
+      finds-behind (BehindIs d b n vs v) s (suc (suc d)) ts _
+      (finds-past (λ u ws rest. (t : FormulaTree) × (u ≡ binding n b (vs ++ v ∷ []) t) × IsUnit (suc d) ws t rest) (λ u ws rest. BehindIs d b n vs v u (word s (suc (suc d)) ∷ ws) rest) Colon (suc d) ts _
+      (ending-map (UnitIs (suc d)) (λ u ws rest. (t : FormulaTree) × (u ≡ binding n b (vs ++ v ∷ []) t) × IsUnit (suc d) ws t rest) (binding n b (vs ++ v ∷ [])) (unit-ends (suc d)) (λ t ws rest p. (t, refl, p)))
       (λ mid. finds-map (UnitIs (suc d)) (λ u ws rest. (t : FormulaTree) × (u ≡ binding n b (vs ++ v ∷ []) t) × IsUnit (suc d) ws t rest) (binding n b (vs ++ v ∷ [])) mid (unit inside mid) (finds-unit (suc d) inside h mid) (λ t ws rest p. (t, refl, p)))
       (λ u w ws rest q p front k. record {
         more = v ∷ [];
@@ -452,10 +571,10 @@ module _ (d : ℕ) (inside : Inside) (h : FindIn (FindReaders (suc d)) inside) w
         whole = p.1;
       }))
 
-  finds-comma : (b : Binder) (n : ℕ) (vs : List VarTree) (v : VarTree) (s : Lexeme) (ts : List Lexeme) (many : Bool) → binds_many b ≡ many → terminal_of s ≡ terminal.Mark Comma → Finds (BehindIs b n vs v) (s ∷ ts) (if many then next_variable inside b n (vs ++ v ∷ []) ts else wrong (s ∷ ts))
-  finds-comma b n vs v s ts false m e = tt
+  finds-comma : (b : Binder) (n : ℕ) (vs : List VarTree) (v : VarTree) (s : Lexeme) (ts : List Lexeme) (many : Bool) → binds_many b ≡ many → terminal_of s ≡ terminal.Mark Comma → Finds (BehindIs d b n vs v) (s ∷ ts) (if many then next_variable inside b n (vs ++ v ∷ []) ts else wrong (s ∷ ts))
+  finds-comma b n vs v s ts false m e = stopped-here (BehindIs d b n vs v) (s ∷ ts) (behind-ends d b n vs v)
   finds-comma b n vs v s ts true m e =
-      finds-token (BoundIs (suc d) b n (vs ++ v ∷ [])) (BehindIs b n vs v) s (suc (suc d)) ts _ (finds-next_variable (suc d) inside h b n (vs ++ v ∷ []) ts)
+      finds-token (BoundIs (suc d) b n (vs ++ v ∷ [])) (BehindIs d b n vs v) s (suc (suc d)) ts _ (finds-next_variable (suc d) inside h b n (vs ++ v ∷ []) ts)
       (λ u ws rest p front k. record {
         more = v ∷ p.more;
         open_behind = p.open_behind;
@@ -470,21 +589,22 @@ module _ (d : ℕ) (inside : Inside) (h : FindIn (FindReaders (suc d)) inside) w
         whole = p.whole ∙ ap (λ us. binding n b us p.tree) (append_assoc vs (v ∷ []) p.more);
       })
 
-  finds-behind_variable : (b : Binder) (n : ℕ) (vs : List VarTree) (v : VarTree) (ts : List Lexeme) → Finds (BehindIs b n vs v) ts (behind_variable inside b n (vs ++ v ∷ []) ts)
+  finds-behind_variable : (b : Binder) (n : ℕ) (vs : List VarTree) (v : VarTree) (ts : List Lexeme) → Finds (BehindIs d b n vs v) ts (behind_variable inside b n (vs ++ v ∷ []) ts)
   unfolding behind_variable first_terminal behind
-  finds-behind_variable b n vs v [] = tt
+  finds-behind_variable b n vs v [] = stopped-here (BehindIs d b n vs v) [] (behind-ends d b n vs v)
   finds-behind_variable b n vs v (s ∷ ts) = go (terminal_of s) refl
     where
-      go : (x : Terminal) → terminal_of s ≡ x → Finds (BehindIs b n vs v) (s ∷ ts) (bound_by inside b n (vs ++ v ∷ []) x (s ∷ ts))
+      go : (x : Terminal) → terminal_of s ≡ x → Finds (BehindIs d b n vs v) (s ∷ ts) (bound_by inside b n (vs ++ v ∷ []) x (s ∷ ts))
       go (terminal.Mark Comma) e = finds-comma b n vs v s ts (binds_many b) refl e
       go (terminal.Mark CloseList) e = finds-body b n vs v s ts e
-      go _ e = tt
+      go _ e = stopped-here (BehindIs d b n vs v) (s ∷ ts) (behind-ends d b n vs v)
 
   finds-bound : (b : Binder) (n : ℕ) (vs : List VarTree) (t : Lexeme) (ts : List Lexeme) → terminal_of t ≡ terminal.Upper → Finds (BoundIs d b n vs) (t ∷ ts) (bound inside b n vs (t ∷ ts))
-  unfolding bound
+  unfolding bound behind
   finds-bound b n vs t ts e =
       finds-enter (BoundIs d b n vs) (FindReaders (suc d)) inside (t ∷ ts) (t ∷ ts) _ h
-      (λ r k. finds-bind (VarIs (suc (suc d))) (BehindIs b n vs) (BoundIs d b n vs) (t ∷ ts) (variable_at r.type (t ∷ ts)) _ (finds-variable (suc (suc d)) r.type k.type t ts e) (λ v mid. finds-behind_variable b n vs v mid) (λ v u ws mid rest p q. q ws p))
+      (variable-stops d b n vs t ts e)
+      (λ r k. finds-bind (VarIs (suc (suc d))) (BehindIs d b n vs) (BoundIs d b n vs) (t ∷ ts) (variable_at r.type (t ∷ ts)) _ (finds-variable (suc (suc d)) r.type k.type t ts e) (behind-ends d b n vs) (λ v mid. finds-behind_variable b n vs v mid) (λ v u ws mid rest p q. q ws p))
 
   pub finds-readers : (type : Reader TypeTree) → ((ts : List Lexeme) → Finds (TypeIs (suc d)) ts (type ts)) → FindReaders d (readers type inside)
   finds-readers type k = record {

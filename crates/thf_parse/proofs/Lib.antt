@@ -1,5 +1,6 @@
 pub mod Locals
 pub mod Finds
+pub mod Endings
 pub mod Goes
 pub mod MarkLaws
 pub mod TypeLaws
@@ -15,6 +16,7 @@ pub mod StatementFinds
 pub mod FileSteps
 pub mod StatementGoes
 pub mod ParseLaws
+pub mod RefusalLaws
 pub mod LexemeLaws
 pub mod Lefts
 pub mod PrintableLaws

@@ -1,5 +1,5 @@
 -- Marks are read as the grammar says.
-use Rattle.std.proofs.Common.{◌≡◌, ℕ, ◌≤◌, List, [], ◌∷◌, Bool, true, false, if◌then◌else◌, refl, sym, ap, subst, ◌∙◌, arith}
+use Rattle.std.proofs.Common.{◌≡◌, ℕ, ◌≤◌, List, [], ◌∷◌, ◌++◌, Bool, true, false, if◌then◌else◌, refl, sym, ap, subst, ◌∙◌, arith}
 use Rattle.thf_parse.specs.declared.terminal.Mark.{Mark}
 use Rattle.thf_parse.specs.declared.terminal.Mark.TheVariants as mark
 use Rattle.thf_parse.specs.declared.terminal.Terminal.{Terminal}
@@ -8,7 +8,8 @@ use Rattle.thf_parse.specs.Terminals.{same_mark}
 use Rattle.thf_parse.specs.Words.{Lexeme, Word, plain, terminal_of, Is}
 use Rattle.thf_parse.specs.Outcome.{Outcome, found, wrong, Reader, ◌>>=◌, first_terminal, behind, is_mark, expect, expect_by}
 use Rattle.thf_parse.proofs.Locals.{IsLocal, IsLocalAt, is_proper, at, local-found, local-wrong, local-behind, local-bind, local-terminal}
-use Rattle.thf_parse.proofs.Finds.{word, Finds, finds-bind, finds-token, Nothing, finds-nothing}
+use Rattle.thf_parse.proofs.Finds.{word, Ending, ending-then, Finds, stopped-here, finds-bind, finds-token, Nothing, nothing-ends, finds-nothing}
+use Rattle.thf_parse.proofs.Endings.{mark_word, mark-is}
 use Rattle.thf_parse.proofs.Goes.{Goes, goes-bind, goes-token, goes-found}
 
 abbrev unit : Unit {0}
@@ -56,19 +57,33 @@ local-past m f l = local-bind (expect m) (λ _ after. f after) (local-expect m) 
 pub local-closed : {A : Type 0} (m : Mark) (r : Reader A) → IsLocal r → IsLocal (λ ts. r ts >>= λ x mid. expect m mid >>= λ _ after. found x after)
 local-closed m r l = local-bind r (λ x mid. expect m mid >>= λ _ after. found x after) l (λ x. local-past m (λ after. found x after) (local-found x))
 
--- a mark, and then something
-pub finds-past : {A : Type 0} (K M : A → List Word → List Word → Type 0) (m : Mark) (depth : ℕ) (ts : List Lexeme) (f : Reader A) → ((mid : List Lexeme) → Finds K mid (f mid)) → ((x : A) (w : Word) (ws rest : List Word) → Is (terminal.Mark m) depth w → K x ws rest → M x (w ∷ ws) rest) → Finds M ts (expect m ts >>= λ _ after. f after)
+-- a mark, and then the words with which something ends
+pub past-ends : {A : Type 0} (K M : A → List Word → List Word → Type 0) (m : Mark) (depth : ℕ) → Ending K → ((x : A) (w : Word) (ws rest : List Word) → Is (terminal.Mark m) depth w → K x ws rest → M x (w ∷ ws) rest) → Ending M
+past-ends K M m depth e join = record {
+  value = e.value;
+  words = mark_word m depth ∷ e.words;
+  read = λ after. join e.value (mark_word m depth) (e.words ++ after) after (mark-is m depth) (e.read after);
+}
+
+-- a mark, and then something, which ends with some words
+pub finds-past : {A : Type 0} (K M : A → List Word → List Word → Type 0) (m : Mark) (depth : ℕ) (ts : List Lexeme) (f : Reader A) → Ending K → ((mid : List Lexeme) → Finds K mid (f mid)) → ((x : A) (w : Word) (ws rest : List Word) → Is (terminal.Mark m) depth w → K x ws rest → M x (w ∷ ws) rest) → Finds M ts (expect m ts >>= λ _ after. f after)
 unfolding expect first_terminal behind
-finds-past {A} K M m depth [] f h join = go (is_mark m terminal.Other) refl
+finds-past {A} K M m depth ts f close h join = cases ts
   where
-    go : (b : Bool) → is_mark m terminal.Other ≡ b → Finds M [] ((if b then found unit [] else wrong []) >>= λ _ after. f after)
-    go true e = cc
-    go false e = tt
-finds-past {A} K M m depth (t ∷ ts) f h join = go (is_mark m (terminal_of t)) refl
-  where
-    go : (b : Bool) → is_mark m (terminal_of t) ≡ b → Finds M (t ∷ ts) ((if b then found unit ts else wrong (t ∷ ts)) >>= λ _ after. f after)
-    go true e = finds-token K M t depth ts (f ts) (h ts) (λ x ws rest k. join x (word t depth) ws rest (record { terminal = is_mark-is m (terminal_of t) e; deep = refl }) k)
-    go false e = tt
+    ending : Ending M
+    ending = past-ends K M m depth close join
+
+    cases : (us : List Lexeme) → Finds M us (expect_by m (first_terminal us) us >>= λ _ after. f after)
+    cases [] = go (is_mark m terminal.Other) refl
+      where
+        go : (b : Bool) → is_mark m terminal.Other ≡ b → Finds M [] ((if b then found unit [] else wrong []) >>= λ _ after. f after)
+        go true e = cc
+        go false e = stopped-here M [] ending
+    cases (t ∷ us) = go (is_mark m (terminal_of t)) refl
+      where
+        go : (b : Bool) → is_mark m (terminal_of t) ≡ b → Finds M (t ∷ us) ((if b then found unit us else wrong (t ∷ us)) >>= λ _ after. f after)
+        go true e = finds-token K M t depth us (f us) (h us) (λ x ws rest k. join x (word t depth) ws rest (record { terminal = is_mark-is m (terminal_of t) e; deep = refl }) k)
+        go false e = stopped-here M (t ∷ us) ending
 
 -- a mark, and nothing behind it
 pub record Expected (m : Mark) (depth : ℕ) (x : Unit {0}) (ws rest : List Word) : Type 0 where
@@ -76,18 +91,21 @@ pub record Expected (m : Mark) (depth : ℕ) (x : Unit {0}) (ws rest : List Word
   pub whole : ws ≡ token ∷ rest
   pub is : Is (terminal.Mark m) depth token
 
+pub expected-ends : (m : Mark) (depth : ℕ) → Ending (Expected m depth)
+expected-ends m depth = record { value = unit; words = mark_word m depth ∷ []; read = λ after. record { token = mark_word m depth; whole = refl; is = mark-is m depth } }
+
 pub finds-expect : (m : Mark) (depth : ℕ) (ts : List Lexeme) → Finds (Expected m depth) ts (expect m ts)
 unfolding expect first_terminal behind
 finds-expect m depth [] = go (is_mark m terminal.Other) refl
   where
     go : (b : Bool) → is_mark m terminal.Other ≡ b → Finds (Expected m depth) [] (if b then found unit [] else wrong [])
     go true e = cc
-    go false e = tt
+    go false e = stopped-here (Expected m depth) [] (expected-ends m depth)
 finds-expect m depth (t ∷ ts) = go (is_mark m (terminal_of t)) refl
   where
     go : (b : Bool) → is_mark m (terminal_of t) ≡ b → Finds (Expected m depth) (t ∷ ts) (if b then found unit ts else wrong (t ∷ ts))
     go true e = finds-token (Nothing unit) (Expected m depth) t depth ts (found unit ts) (finds-nothing unit ts) (λ x ws rest k. record { token = word t depth; whole = ap (λ us. word t depth ∷ us) k.1; is = record { terminal = is_mark-is m (terminal_of t) e; deep = refl } })
-    go false e = tt
+    go false e = stopped-here (Expected m depth) (t ∷ ts) (expected-ends m depth)
 
 -- something before a mark
 pub record Closed {A : Type 0} (N : A → List Word → List Word → Type 0) (m : Mark) (depth : ℕ) (x : A) (ws rest : List Word) : Type 0 where
@@ -98,15 +116,26 @@ pub record Closed {A : Type 0} (N : A → List Word → List Word → Type 0) (m
 abbrev Closes : {A : Type 0} → Mark → ℕ → A → A → List Word → List Word → Type 0
 Closes m depth x y ws rest = (w : Word) × (ws ≡ w ∷ rest) × Is (terminal.Mark m) depth w × (y ≡ x)
 
+closes-end : {A : Type 0} (m : Mark) (depth : ℕ) (x : A) → Ending (Closes m depth x)
+closes-end m depth x = past-ends (Nothing x) (Closes m depth x) m depth (nothing-ends x) (λ y w ws rest is k. (w, ap (λ us. w ∷ us) k.1, is, k.0))
+
+closed-of : {A : Type 0} (N : A → List Word → List Word → Type 0) (m : Mark) (depth : ℕ) (x y : A) (ws mid rest : List Word) → N x ws mid → Closes m depth x y mid rest → Closed N m depth y ws rest
+closed-of N m depth x y ws mid rest p q = record {
+  closing = q.0;
+  read = subst (λ z. N z ws (q.0 ∷ rest)) (sym q.3) (subst (λ us. N x ws us) q.1 p);
+  closes = q.2;
+}
+
+-- something that ends, and its mark
+pub closed-ends : {A : Type 0} (N : A → List Word → List Word → Type 0) (m : Mark) (depth : ℕ) → Ending N → Ending (Closed N m depth)
+closed-ends N m depth e = ending-then N (Closes m depth) (Closed N m depth) (closed-of N m depth) e (closes-end m depth)
+
 pub finds-closed : {A : Type 0} (N : A → List Word → List Word → Type 0) (m : Mark) (depth : ℕ) (ts : List Lexeme) (o : Outcome A) → Finds N ts o → Finds (Closed N m depth) ts (o >>= λ x mid. expect m mid >>= λ _ after. found x after)
 finds-closed {A} N m depth ts o h =
     finds-bind N (Closes m depth) (Closed N m depth) ts o _ h
-    (λ x mid. finds-past (Nothing x) (Closes m depth x) m depth mid (λ after. found x after) (λ after. finds-nothing x after) (λ y w ws rest is k. (w, ap (λ us. w ∷ us) k.1, is, k.0)))
-    (λ x y ws mid rest p q. record {
-      closing = q.0;
-      read = subst (λ z. N z ws (q.0 ∷ rest)) (sym q.3) (subst (λ us. N x ws us) q.1 p);
-      closes = q.2;
-    })
+    (closes-end m depth)
+    (λ x mid. finds-past (Nothing x) (Closes m depth x) m depth mid (λ after. found x after) (nothing-ends x) (λ after. finds-nothing x after) (λ y w ws rest is k. (w, ap (λ us. w ∷ us) k.1, is, k.0)))
+    (closed-of N m depth)
 
 pub goes-expect : (limit : ℕ) (m : Mark) (depth : ℕ) (w : Word) (rest : List Word) → depth ≤ limit → Is (terminal.Mark m) depth w → Goes limit (w ∷ rest) rest unit (expect m (plain (w ∷ rest)))
 unfolding expect first_terminal behind

@@ -1,5 +1,6 @@
 -- Notes are read as the grammar says.
 use Rattle.std.proofs.Common.{◌≡◌, ℕ, zero, suc, ◌+◌, ◌≤◌, List, [], ◌∷◌, length, Bool, true, false, Option, refl, sym, ap, subst, ◌∙◌, arith}
+use Rattle.thf_parse.specs.declared.terminal.Mark.{Mark}
 use Rattle.thf_parse.specs.declared.terminal.Mark.TheVariants.{Open, Close, OpenList, CloseList, Comma, Colon}
 use Rattle.thf_parse.specs.declared.terminal.Terminal.{Terminal}
 use Rattle.thf_parse.specs.declared.terminal.Terminal.TheVariants as terminal
@@ -9,9 +10,10 @@ use Rattle.thf_parse.specs.Notes.{IsGeneral, AreGenerals, IsData, AreNotes}
 use Rattle.thf_parse.specs.Outcome.{found, wrong, Reader, ◌>>=◌, first_terminal, behind, is_mark, expect}
 use Rattle.thf_parse.specs.NoteReader.{passed, NoteReaders, called_by, called, data_by, data_at, listed_by, listed, paired_by, paired, general_by, general, generals, inner_notes, second_note, notes_by, notes}
 use Rattle.thf_parse.proofs.Locals.{IsLocal, IsLocalAt, AreLocal, at, local-found, local-wrong, local-behind, local-bind, local-terminal, enter-at}
-use Rattle.thf_parse.proofs.Finds.{word, Finds, finds-bind, finds-token, finds-as, finds-one, finds-none, FindIn, finds-enter}
+use Rattle.thf_parse.proofs.Finds.{word, Ending, ending-then, Finds, stopped-here, stopped-behind, ending-as, finds-bind, finds-token, finds-as, finds-one, finds-none, FindIn, finds-enter}
+use Rattle.thf_parse.proofs.Endings.{mark_word, mark-is, upper_word, upper-is}
 use Rattle.thf_parse.proofs.Goes.{Goes, GoIn, goes-bind, goes-token, goes-found, goes-enter}
-use Rattle.thf_parse.proofs.MarkLaws.{local-expect, goes-expect, finds-expect, Expected}
+use Rattle.thf_parse.proofs.MarkLaws.{local-expect, goes-expect, expected-ends, finds-expect, Expected}
 use Rattle.thf_parse.proofs.CommaLaws.{local-all, Separated, last, more, finds-commas, goes-commas}
 
 pub record LocalNotes (r : NoteReaders) : Type 0 where
@@ -101,11 +103,28 @@ generals-separated : (d : ℕ) (x y : Unit {0}) (ws rest : List Word) → Separa
 generals-separated d x y ws rest (last _ _ _ _ p) = is.last_general d ws rest p
 generals-separated d x y ws rest (more _ _ _ _ mid _ w p m q) = is.more_generals d ws mid rest w p m (generals-separated d _ _ mid rest q)
 
+-- a variable is data, a general, and a list of them
+data-ends : (d : ℕ) → Ending (λ (_ : Unit {0}) ws rest. IsData d ws rest)
+data-ends d = record { value = passed; words = upper_word d ∷ []; read = λ after. is.upper_data d (upper_word d) after (upper-is d) }
+
+pub general-ends : (d : ℕ) → Ending (GeneralIs d)
+general-ends d = ending-as (λ _ ws rest. IsData d ws rest) (GeneralIs d) (data-ends d) (λ _ ws rest p. is.data_general d ws rest p)
+
+generals-end : (d : ℕ) → Ending (GeneralsAre d)
+generals-end d = ending-as (GeneralIs d) (GeneralsAre d) (general-ends d) (λ _ ws rest p. is.last_general d ws rest p)
+
 -- a list of generals and its closing mark
 record ListIs (m : Terminal) (d : ℕ) (x : Unit {0}) (ws rest : List Word) : Type 0 where
   closing : Word
   inner : AreGenerals d ws (closing ∷ rest)
   closes : Is m d closing
+
+list-of : (m : Mark) (d : ℕ) (x y : Unit {0}) (ws mid rest : List Word) → AreGenerals d ws mid → Expected m d y mid rest → ListIs (terminal.Mark m) d y ws rest
+list-of m d x y ws mid rest p q = record { closing = q.token; inner = subst (λ us. AreGenerals d ws us) q.whole p; closes = q.is }
+
+-- a variable and the closing mark
+list-ends : (m : Mark) (d : ℕ) → Ending (ListIs (terminal.Mark m) d)
+list-ends m d = ending-then (GeneralsAre d) (λ _. Expected m d) (ListIs (terminal.Mark m) d) (list-of m d) (generals-end d) (λ _. expected-ends m d)
 
 module _ (d : ℕ) (inside : Option NoteReaders) (h : FindIn (FindNotes (suc d)) inside) where
   -- what follows a name
@@ -113,10 +132,10 @@ module _ (d : ℕ) (inside : Option NoteReaders) (h : FindIn (FindNotes (suc d))
   CalledIs _ ws rest = (w : Word) → IsName d w → IsData d (w ∷ ws) rest
 
   finds-list : (generals : Reader (Unit {0})) → ((ts : List Lexeme) → Finds (GeneralsAre (suc d)) ts (generals ts)) → (ts : List Lexeme) → Finds (ListIs (terminal.Mark Close) (suc d)) ts (generals ts >>= λ _ rest. expect Close rest)
-  finds-list generals k ts = finds-bind (GeneralsAre (suc d)) (λ _. Expected Close (suc d)) (ListIs (terminal.Mark Close) (suc d)) ts (generals ts) _ (k ts) (λ _ mid. finds-expect Close (suc d) mid) (λ x y ws mid rest p q. record { closing = q.token; inner = subst (λ us. AreGenerals (suc d) ws us) q.whole p; closes = q.is })
+  finds-list generals k ts = finds-bind (GeneralsAre (suc d)) (λ _. Expected Close (suc d)) (ListIs (terminal.Mark Close) (suc d)) ts (generals ts) _ (k ts) (λ _. expected-ends Close (suc d)) (λ _ mid. finds-expect Close (suc d) mid) (list-of Close (suc d))
 
   finds-list_end : (generals : Reader (Unit {0})) → ((ts : List Lexeme) → Finds (GeneralsAre (suc d)) ts (generals ts)) → (ts : List Lexeme) → Finds (ListIs (terminal.Mark CloseList) (suc d)) ts (generals ts >>= λ _ rest. expect CloseList rest)
-  finds-list_end generals k ts = finds-bind (GeneralsAre (suc d)) (λ _. Expected CloseList (suc d)) (ListIs (terminal.Mark CloseList) (suc d)) ts (generals ts) _ (k ts) (λ _ mid. finds-expect CloseList (suc d) mid) (λ x y ws mid rest p q. record { closing = q.token; inner = subst (λ us. AreGenerals (suc d) ws us) q.whole p; closes = q.is })
+  finds-list_end generals k ts = finds-bind (GeneralsAre (suc d)) (λ _. Expected CloseList (suc d)) (ListIs (terminal.Mark CloseList) (suc d)) ts (generals ts) _ (k ts) (λ _. expected-ends CloseList (suc d)) (λ _ mid. finds-expect CloseList (suc d) mid) (list-of CloseList (suc d))
 
   finds-called : (ts : List Lexeme) → Finds CalledIs ts (called inside ts)
   unfolding called first_terminal behind
@@ -125,11 +144,14 @@ module _ (d : ℕ) (inside : Option NoteReaders) (h : FindIn (FindNotes (suc d))
       none : (us : List Lexeme) → Finds CalledIs us (found passed us)
       none us = finds-none CalledIs us passed (λ after w k. is.name_data d w after k)
 
+      call : (t : Lexeme) → terminal_of t ≡ terminal.Mark Open → (x : Unit {0}) (ws rest : List Word) → ListIs (terminal.Mark Close) (suc d) x ws rest → CalledIs x (word t (suc d) ∷ ws) rest
+      call t e x ws rest p w n = is.call_data d w (word t (suc d)) p.closing ws rest n (record { terminal = e; deep = refl }) p.inner p.closes
+
       go : (t : Lexeme) (us : List Lexeme) (x : Terminal) → terminal_of t ≡ x → Finds CalledIs (t ∷ us) (called_by inside x (t ∷ us))
       go t us (terminal.Mark Open) e =
           finds-enter CalledIs (FindNotes (suc d)) inside (t ∷ us) (t ∷ us) _ h
-          (λ r k. finds-token (ListIs (terminal.Mark Close) (suc d)) CalledIs t (suc d) us _ (finds-list r.generals k.generals us)
-          (λ x ws rest p w n. is.call_data d w (word t (suc d)) p.closing ws rest n (record { terminal = e; deep = refl }) p.inner p.closes))
+          (stopped-behind CalledIs t (suc d) us (ending-as (ListIs (terminal.Mark Close) (suc d)) (λ x ws rest. CalledIs x (word t (suc d) ∷ ws) rest) (list-ends Close (suc d)) (call t e)))
+          (λ r k. finds-token (ListIs (terminal.Mark Close) (suc d)) CalledIs t (suc d) us _ (finds-list r.generals k.generals us) (call t e))
       go t us _ e = none (t ∷ us)
 
       cases : (us : List Lexeme) → Finds CalledIs us (called_by inside (first_terminal us) us)
@@ -141,7 +163,7 @@ module _ (d : ℕ) (inside : Option NoteReaders) (h : FindIn (FindNotes (suc d))
 
   finds-data : (ts : List Lexeme) → Finds DataIs ts (data_at inside ts)
   unfolding data_at first_terminal behind
-  finds-data [] = tt
+  finds-data [] = stopped-here DataIs [] (data-ends d)
   finds-data (t ∷ ts) = go (terminal_of t) refl
     where
       here : (x : Terminal) → terminal_of t ≡ x → Is x d (word t d)
@@ -153,11 +175,14 @@ module _ (d : ℕ) (inside : Option NoteReaders) (h : FindIn (FindNotes (suc d))
       go terminal.Upper e = finds-one DataIs t d ts passed (λ after. is.upper_data d (word t d) after (here terminal.Upper e))
       go terminal.Integer e = finds-one DataIs t d ts passed (λ after. is.integer_data d (word t d) after (here terminal.Integer e))
       go terminal.Distinct e = finds-one DataIs t d ts passed (λ after. is.distinct_data d (word t d) after (here terminal.Distinct e))
-      go _ e = tt
+      go _ e = stopped-here DataIs (t ∷ ts) (data-ends d)
 
   -- what stands behind a `[`
   abbrev ListedIs : Unit {0} → List Word → List Word → Type 0
   ListedIs _ ws rest = (w : Word) → Is (terminal.Mark OpenList) (suc d) w → IsGeneral d (w ∷ ws) rest
+
+  listed-ends : Ending ListedIs
+  listed-ends = record { value = passed; words = mark_word CloseList (suc d) ∷ []; read = λ after w o. is.empty_general d w (mark_word CloseList (suc d)) after o (mark-is CloseList (suc d)) }
 
   finds-listed : (generals : Reader (Unit {0})) → ((ts : List Lexeme) → Finds (GeneralsAre (suc d)) ts (generals ts)) → (ts : List Lexeme) → Finds ListedIs ts (listed generals ts)
   unfolding first_terminal behind
@@ -185,10 +210,14 @@ module _ (d : ℕ) (inside : Option NoteReaders) (h : FindIn (FindNotes (suc d))
       none : (us : List Lexeme) → Finds PairedIs us (found passed us)
       none us = finds-none PairedIs us passed (λ after front p. is.data_general d front after p)
 
+      pair : (t : Lexeme) → terminal_of t ≡ terminal.Mark Colon → (x : Unit {0}) (ws rest : List Word) → IsGeneral (suc d) ws rest → PairedIs x (word t (suc d) ∷ ws) rest
+      pair t e x ws rest p front q = is.pair_general d front ws rest (word t (suc d)) q (record { terminal = e; deep = refl }) p
+
       go : (t : Lexeme) (us : List Lexeme) (x : Terminal) → terminal_of t ≡ x → Finds PairedIs (t ∷ us) (paired_by inside x (t ∷ us))
       go t us (terminal.Mark Colon) e =
           finds-enter PairedIs (FindNotes (suc d)) inside (t ∷ us) (t ∷ us) _ h
-          (λ r k. finds-token (GeneralIs (suc d)) PairedIs t (suc d) us (r.general us) (k.general us) (λ x ws rest p front q. is.pair_general d front ws rest (word t (suc d)) q (record { terminal = e; deep = refl }) p))
+          (stopped-behind PairedIs t (suc d) us (ending-as (GeneralIs (suc d)) (λ x ws rest. PairedIs x (word t (suc d) ∷ ws) rest) (general-ends (suc d)) (pair t e)))
+          (λ r k. finds-token (GeneralIs (suc d)) PairedIs t (suc d) us (r.general us) (k.general us) (pair t e))
       go t us _ e = none (t ∷ us)
 
       cases : (us : List Lexeme) → Finds PairedIs us (paired_by inside (first_terminal us) us)
@@ -200,11 +229,12 @@ module _ (d : ℕ) (inside : Option NoteReaders) (h : FindIn (FindNotes (suc d))
   finds-general ts = cases ts
     where
       plainly : (us : List Lexeme) → Finds (GeneralIs d) us (data_at inside us >>= λ _ rest. paired inside rest)
-      plainly us = finds-bind DataIs (λ _. PairedIs) (GeneralIs d) us (data_at inside us) _ (finds-data us) (λ _ mid. finds-paired mid) (λ x y ws mid rest p q. q ws p)
+      plainly us = finds-bind DataIs (λ _. PairedIs) (GeneralIs d) us (data_at inside us) _ (finds-data us) (λ _. record { value = passed; words = []; read = λ after front p. is.data_general d front after p }) (λ _ mid. finds-paired mid) (λ x y ws mid rest p q. q ws p)
 
       go : (t : Lexeme) (us : List Lexeme) (x : Terminal) → terminal_of t ≡ x → Finds (GeneralIs d) (t ∷ us) (general_by inside x (t ∷ us))
       go t us (terminal.Mark OpenList) e =
           finds-enter (GeneralIs d) (FindNotes (suc d)) inside (t ∷ us) (t ∷ us) _ h
+          (stopped-behind (GeneralIs d) t (suc d) us (ending-as ListedIs (λ _ ws rest. IsGeneral d (word t (suc d) ∷ ws) rest) listed-ends (λ x ws rest p. p (word t (suc d)) (record { terminal = e; deep = refl }))))
           (λ r k. finds-token ListedIs (GeneralIs d) t (suc d) us (listed r.generals us) (finds-listed r.generals k.generals us) (λ x ws rest p. p (word t (suc d)) (record { terminal = e; deep = refl })))
       go t us _ e = plainly (t ∷ us)
 
@@ -214,7 +244,7 @@ module _ (d : ℕ) (inside : Option NoteReaders) (h : FindIn (FindNotes (suc d))
 
   pub finds-generals : (ts : List Lexeme) → Finds (GeneralsAre d) ts (generals inside ts)
   unfolding generals
-  finds-generals ts = finds-as (λ y ws rest. Separated (λ (_ : Unit {0}). GeneralIs d) d passed y ws rest) (GeneralsAre d) ts _ (finds-commas (λ _. general inside) (λ _. GeneralIs d) d (λ _ us. finds-general us) (suc (length ts)) passed ts) (λ y ws rest p. generals-separated d passed y ws rest p)
+  finds-generals ts = finds-as (λ y ws rest. Separated (λ (_ : Unit {0}). GeneralIs d) d passed y ws rest) (GeneralsAre d) ts _ (finds-commas (λ _. general inside) (λ _. GeneralIs d) d (λ _. general-ends d) (λ _ us. finds-general us) (suc (length ts)) passed ts) (λ y ws rest p. generals-separated d passed y ws rest p)
 
 pub finds-inner_notes : (d room : ℕ) → FindIn (FindNotes (suc d)) (inner_notes room)
 unfolding inner_notes

@@ -1,19 +1,20 @@
 -- The tree of a file's tokens, and the tokens at which others are refused.
-use Rattle.std.proofs.Common.{◌≡◌, ℕ, suc, ◌+◌, ◌<◌, ◌≤◌, List, [], ◌∷◌, ◌++◌, length, map, true, false, inl, inr, refl, sym, ap, subst, ◌∙◌, append_assoc, length-append, arith}
+use Rattle.std.proofs.Common.{◌≡◌, ℕ, suc, ◌+◌, ◌<◌, ◌≤◌, List, [], ◌∷◌, ◌++◌, length, map, true, false, ◌⊎◌, inl, inr, refl, sym, ap, subst, ◌∙◌, append_assoc, length-append, arith}
 use Rattle.std.proofs.lemmas.List.{append_cancel_right, append-nil, length-map}
 use Rattle.thf_syntax.specs.Trees.{StatementTree}
 use Rattle.thf_parse.specs.declared.terminal.Terminal.{Terminal}
 use Rattle.thf_parse.specs.declared.terminal.Terminal.TheVariants as terminal
 use Rattle.thf_parse.specs.Words.{Lexeme, Word, plain, terminal_of, Is}
 use Rattle.thf_parse.specs.Statements.{IsFile, no_statement}
-use Rattle.thf_parse.specs.Outcome.{Outcome, found, wrong, deep, Reader, first_terminal, first_place}
+use Rattle.thf_parse.specs.Outcome.{Outcome, found, wrong, deep, Reader, first_terminal, first_place, behind}
 use Rattle.thf_parse.specs.StatementReader.{is_end, statements, file}
-use Rattle.thf_parse.specs.Parsing.{AreWithin, HasTree, IsWrongAt, IsTooDeepAt}
+use Rattle.thf_parse.specs.Parsing.{AreWithin, HasTree, BeginsFile, IsWrongAt, IsTooDeepAt}
 use Rattle.thf_parse.proofs.Locals.{Decided, ArePassed, none, more, is_proper, rest_of, with_rest}
-use Rattle.thf_parse.proofs.Finds.{Reading, Finds, word}
+use Rattle.thf_parse.proofs.Finds.{Reading, Stopped, Finds, word, plain-append}
+use Rattle.thf_parse.proofs.Endings.{end_word, end-is}
 use Rattle.thf_parse.proofs.Goes.{IsShallow, here, there, Sinks, Arrives, Goes}
 use Rattle.thf_parse.proofs.StatementLocals.{local-file}
-use Rattle.thf_parse.proofs.StatementFinds.{FileIs, finds-file}
+use Rattle.thf_parse.proofs.StatementFinds.{FileIs, finds-file, file-end}
 use Rattle.thf_parse.proofs.StatementGoes.{goes-file}
 
 -- the last token, and no other, is no token of a statement
@@ -75,10 +76,6 @@ same-suffix [] b [] d x y e n = cc
 same-suffix [] b (z ∷ zs) d x y e n = let p : b ≡ zs ++ y ∷ d = cc in absurd (omega (arith, n, ap length p, length-append zs (y ∷ d)))
 same-suffix (z ∷ zs) b [] d x y e n = let p : zs ++ x ∷ b ≡ d = cc in absurd (omega (arith, n, ap length p, length-append zs (x ∷ b)))
 same-suffix (z ∷ zs) b (v ∷ vs) d x y e n = let p : zs ++ x ∷ b ≡ vs ++ y ∷ d = cc in same-suffix zs b vs d x y p n
-
-plain-append : (xs ys : List Word) → plain (xs ++ ys) ≡ plain xs ++ plain ys
-plain-append [] ys = refl
-plain-append (x ∷ xs) ys = ap (λ us. x.lexeme ∷ us) (plain-append xs ys)
 
 abbrev deep_here : List Lexeme → Outcome (List StatementTree)
 deep_here ts = deep ts
@@ -147,12 +144,16 @@ module _ (room : ℕ) where
   found-file : (ts us : List Lexeme) (t : Lexeme) (tree : List StatementTree) → IsEnded ts → file room [] ts ≡ found tree (t ∷ us) → (ws : List Word) × (plain ws ≡ ts) × IsFile ws tree
   unfolding first_terminal
   found-file ts us t tree h e =
-      let r : Reading (λ all ws after. FileIs [] all ws after) tree ts (flat (t ∷ us)) = subst (λ o. Finds (λ all ws after. FileIs [] all ws after) ts o) e (finds-file room [] ts) (flat (t ∷ us)) (plain-flat (t ∷ us)) in
-      let d = local-file room [] ts in
-      let whole : ts ≡ d.front ++ t ∷ us = d.whole ∙ ap (λ o. d.front ++ rest_of o) e in
-      let alone : us ≡ [] = ended-rest d.front t us (subst IsEnded whole h) r.read.ends in
-      let last : IsFile (flat (t ∷ us)) [] = subst (λ k. IsFile (flat (t ∷ k)) []) (sym alone) (no_statement (word t 0) (record { terminal = end_is (terminal_of t) r.read.ends; deep = refl })) in
-      (r.words, r.plainly, subst (λ k. IsFile r.words k) (append-nil r.read.new ∙ sym r.read.whole) (r.read.file [] last))
+      let r : Reading (FileIs []) tree ts (t ∷ us) = subst (λ o. Finds (FileIs []) ts o) e (finds-file room [] ts) in
+      let ends = file-end room [] tree ts (t ∷ us) e in
+      let alone : us ≡ [] = ended-rest (plain r.front) t us (subst IsEnded r.whole h) ends in
+      let last : IsFile (flat (t ∷ us)) [] = subst (λ k. IsFile (flat (t ∷ k)) []) (sym alone) (no_statement (word t 0) (record { terminal = end_is (terminal_of t) ends; deep = refl })) in
+      let words : List Word = r.front ++ flat (t ∷ us) in
+      let read : FileIs [] tree words (flat (t ∷ us)) = r.read (flat (t ∷ us)) in (
+        words,
+        plain-append r.front (flat (t ∷ us)) ∙ ap (λ k. plain r.front ++ k) (plain-flat (t ∷ us)) ∙ sym r.whole,
+        subst (λ k. IsFile words k) (append-nil read.new ∙ sym read.whole) (read.file [] last),
+      )
 
   file-within : (ts us : List Lexeme) (ws : List Word) (tree : List StatementTree) → file room [] ts ≡ found tree us → plain ws ≡ ts → IsFile ws tree → AreWithin room ws
   file-within ts us ws tree e p f = let g = file-goes ws tree f in go g.0 g.1 g.2
@@ -171,6 +172,22 @@ module _ (room : ℕ) where
   words-are : (front : List Lexeme) (token : Lexeme) (before after : List Word) (w : Word) → plain before ≡ front → w.lexeme ≡ token → plain (before ++ w ∷ after) ≡ front ++ token ∷ plain after
   words-are front token before after w p q = plain-append before (w ∷ after) ∙ ap (λ k. k ++ w.lexeme ∷ plain after) p ∙ ap (λ k. front ++ k ∷ plain after) q
 
+  -- a file begins with what stands before the tokens that are left
+  begins : (ts left front : List Lexeme) → Stopped (FileIs []) ts left → ts ≡ front ++ left → BeginsFile front
+  begins ts left front s whole =
+      let read = s.ending.read (end_word ∷ []) in
+      record {
+        words = s.front;
+        tokens = append_cancel_right (plain s.front) front left (sym s.whole ∙ whole);
+        more = s.ending.words ++ end_word ∷ [];
+        tree = read.new ++ [];
+        file = read.file [] (no_statement end_word end-is);
+      }
+
+  -- the tokens of a file that begins with these tokens
+  begun-are : (front : List Lexeme) (token : Lexeme) (words after : List Word) → plain words ≡ front ++ token ∷ [] → plain (words ++ after) ≡ front ++ token ∷ plain after
+  begun-are front token words after p = plain-append words after ∙ ap (λ k. k ++ plain after) p ∙ append_assoc front (token ∷ []) (plain after)
+
   pub refused-wrong : (ts rest : List Lexeme) → IsEnded ts → file room [] ts ≡ wrong rest → IsWrongAt room ts (first_place rest)
   unfolding first_place
   refused-wrong ts [] h e = absurd (some-left (file room []) ts h (local-file room [] ts) (ap rest_of e))
@@ -180,7 +197,8 @@ module _ (room : ℕ) where
     back = back;
     whole = whole;
     place = refl;
-    none = λ before after w tree p q f. no_file before after w tree p q f;
+    begun = begins ts (token ∷ back) d.front (subst (λ o. Finds (FileIs []) ts o) e (finds-file room [] ts)) whole;
+    wrong = λ b. no_file b;
     earlier = earlier-within ts d.front (token ∷ back) whole (λ x us k. let z = sym e ∙ k in cc);
   }
     where
@@ -190,18 +208,18 @@ module _ (room : ℕ) where
       whole : ts ≡ d.front ++ token ∷ back
       whole = d.whole ∙ ap (λ o. d.front ++ rest_of o) e
 
-      no_file : (before after : List Word) (w : Word) (tree : List StatementTree) → plain before ≡ d.front → w.lexeme ≡ token → IsFile (before ++ w ∷ after) tree → ⊥
-      no_file before after w tree p q f = go ((file-goes (before ++ w ∷ after) tree f).2)
+      no_file : BeginsFile (d.front ++ token ∷ []) → ⊥
+      no_file b = go ((file-goes (b.words ++ b.more) b.tree b.file).2)
         where
-          told : file room [] (plain (before ++ w ∷ after)) ≡ wrong (token ∷ plain after)
-          told = ap (file room []) (words-are d.front token before after w p q) ∙ d.same token back (plain after) (ap rest_of e) ∙ ap (λ o. with_rest o (token ∷ plain after)) e
+          told : file room [] (plain (b.words ++ b.more)) ≡ wrong (token ∷ plain b.more)
+          told = ap (file room []) (begun-are d.front token b.words b.more b.tokens) ∙ d.same token back (plain b.more) (ap rest_of e) ∙ ap (λ o. with_rest o (token ∷ plain b.more)) e
 
-          go : Goes room (before ++ w ∷ after) ((file-goes (before ++ w ∷ after) tree f).0 ∷ []) tree (file room [] (plain (before ++ w ∷ after))) → ⊥
+          go : Goes room (b.words ++ b.more) ((file-goes (b.words ++ b.more) b.tree b.file).0 ∷ []) b.tree (file room [] (plain (b.words ++ b.more))) → ⊥
           go (inl a) = let z = sym a.is ∙ told in cc
           go (inr s) = let z = sym s.is ∙ told in cc
 
   pub refused-deep : (ts rest : List Lexeme) → IsEnded ts → file room [] ts ≡ deep rest → IsTooDeepAt room ts (first_place rest)
-  unfolding first_place
+  unfolding first_place behind
   refused-deep ts [] h e = absurd (some-left (file room []) ts h (local-file room [] ts) (ap rest_of e))
   refused-deep ts (token ∷ back) h e = record {
     front = d.front;
@@ -209,6 +227,7 @@ module _ (room : ℕ) where
     back = back;
     whole = whole;
     place = refl;
+    begun = begins ts back (d.front ++ token ∷ []) (subst (λ o. Finds (FileIs []) ts o) e (finds-file room [] ts)) (whole ∙ sym (append_assoc d.front (token ∷ []) back));
     deeper = λ before after w tree p q f. is_deeper before after w tree p q f;
     earlier = earlier-within ts d.front (token ∷ back) whole (λ x us k. shorter x us (sym e ∙ k));
   }
@@ -237,6 +256,18 @@ module _ (room : ℕ) where
               let lengths : length s.back ≡ length after = omega (arith, ap length lists, length-map s.back (λ (v : Word). v.lexeme), length-map after (λ (v : Word). v.lexeme)) in
               let same : s.first ≡ w = same-suffix g.before s.back before after s.first w (sym g.whole) lengths in
               subst (λ v. room < v.depth) same s.sunk
+
+  abbrev pub Answered : List Lexeme → Type 0
+  Answered ts = ((tree : List StatementTree) × HasTree room ts tree) ⊎ ((at : ℕ) × (IsWrongAt room ts at ⊎ IsTooDeepAt room ts at))
+
+  -- tokens that end have a tree, or they are refused
+  pub answered : (ts : List Lexeme) → IsEnded ts → Answered ts
+  answered ts h = go (file room [] ts) refl
+    where
+      go : (o : Outcome (List StatementTree)) → file room [] ts ≡ o → Answered ts
+      go (found tree rest) e = inl (tree, parsed ts rest tree h e)
+      go (wrong rest) e = inr (first_place rest, inl (refused-wrong ts rest h e))
+      go (deep rest) e = inr (first_place rest, inr (refused-deep ts rest h e))
 
 -- the depths of tokens in sum
 total : List Word → ℕ

@@ -9,9 +9,10 @@ use Rattle.thf_parse.specs.Types.{IsType, simple_type as simple_is, arrow_type a
 use Rattle.thf_parse.specs.Outcome.{found, wrong, Reader, ◌>>=◌, first_terminal, first_place, first_name, behind, is_mark, expect}
 use Rattle.thf_parse.specs.Reader.{group_type, named_type, simple_type_by, simple_type, right_type, arrow_by, type_with, inner_type}
 use Rattle.thf_parse.proofs.Locals.{IsLocal, IsLocalAt, AreLocal, is_proper, at, local-found, local-wrong, local-behind, local-bind, local-terminal, place-at, name-at, enter-at}
-use Rattle.thf_parse.proofs.Finds.{word, Finds, finds-bind, finds-token, finds-nothing, Nothing, FindIn, finds-enter}
+use Rattle.thf_parse.proofs.Finds.{word, Ending, Finds, stopped-here, stopped-behind, ending-as, ending-map, finds-bind, finds-token, finds-behind, finds-map, finds-one, finds-none, FindIn, finds-enter}
+use Rattle.thf_parse.proofs.Endings.{indiv_word, indiv-is}
 use Rattle.thf_parse.proofs.Goes.{Goes, GoIn, goes-bind, goes-token, goes-found, goes-enter}
-use Rattle.thf_parse.proofs.MarkLaws.{local-closed, Closed, finds-closed, goes-closed}
+use Rattle.thf_parse.proofs.MarkLaws.{local-closed, Closed, closed-ends, finds-closed, goes-closed}
 
 -- what is read is decided by the tokens up to the first that is left
 
@@ -72,22 +73,33 @@ FindsTypes d r = (ts : List Lexeme) → Finds (TypeIs d) ts (r ts)
 abbrev SimpleIs : ℕ → TypeTree → List Word → List Word → Type 0
 SimpleIs d t ws rest = IsSimpleType d ws t rest
 
+-- a type ends with `$i`
+simple-ends : (d : ℕ) → Ending (SimpleIs d)
+simple-ends d = record { value = indiv 0; words = indiv_word d ∷ []; read = λ after. indiv_is d (indiv_word d) after (indiv-is d) }
+
+pub type-ends : (d : ℕ) → Ending (TypeIs d)
+type-ends d = record { value = indiv 0; words = indiv_word d ∷ []; read = λ after. simple_is d (indiv_word d ∷ after) after (indiv 0) (indiv_is d (indiv_word d) after (indiv-is d)) }
+
 module _ (d : ℕ) (inside : Option (Reader TypeTree)) (h : FindIn (FindsTypes (suc d)) inside) where
+  group-of : (t : Lexeme) → terminal_of t ≡ terminal.Mark mark.Open → (u : TypeTree) (ws rest : List Word) → Closed (TypeIs (suc d)) mark.Close (suc d) u ws rest → IsSimpleType d (word t (suc d) ∷ ws) u rest
+  group-of t e u ws rest c = group_is d (word t (suc d)) c.closing ws rest u (record { terminal = e; deep = refl }) c.read c.closes
+
   finds-group : (t : Lexeme) (ts : List Lexeme) → terminal_of t ≡ terminal.Mark mark.Open → Finds (SimpleIs d) (t ∷ ts) (group_type inside (t ∷ ts))
   unfolding behind
   finds-group t ts e =
       finds-enter (SimpleIs d) (FindsTypes (suc d)) inside (t ∷ ts) (t ∷ ts) _ h
+      (stopped-behind (SimpleIs d) t (suc d) ts (ending-as (Closed (TypeIs (suc d)) mark.Close (suc d)) (λ u ws rest. IsSimpleType d (word t (suc d) ∷ ws) u rest) (closed-ends (TypeIs (suc d)) mark.Close (suc d) (type-ends (suc d))) (group-of t e)))
       (λ type k. finds-token (Closed (TypeIs (suc d)) mark.Close (suc d)) (SimpleIs d) t (suc d) ts _
       (finds-closed (TypeIs (suc d)) mark.Close (suc d) ts (type ts) (k ts))
-      (λ u ws rest c. group_is d (word t (suc d)) c.closing ws rest u (record { terminal = e; deep = refl }) c.read c.closes))
+      (group-of t e))
 
   finds-simple : (ts : List Lexeme) → Finds (SimpleIs d) ts (simple_type inside ts)
   unfolding simple_type first_terminal first_place first_name behind
-  finds-simple [] = tt
+  finds-simple [] = stopped-here (SimpleIs d) [] (simple-ends d)
   finds-simple (t ∷ ts) = go (terminal_of t) refl
     where
       one : (u : TypeTree) → ((after : List Word) → IsSimpleType d (word t d ∷ after) u after) → Finds (SimpleIs d) (t ∷ ts) (found u ts)
-      one u k = finds-token (Nothing u) (SimpleIs d) t d ts (found u ts) (finds-nothing u ts) (λ v ws rest n. subst (λ x. IsSimpleType d (word t d ∷ ws) x rest) (sym n.0) (subst (λ us. IsSimpleType d (word t d ∷ us) u rest) (sym n.1) (k rest)))
+      one u k = finds-one (SimpleIs d) t d ts u k
 
       is : (x : Terminal) → terminal_of t ≡ x → Is x d (word t d)
       is x e = record { terminal = e; deep = refl }
@@ -98,32 +110,37 @@ module _ (d : ℕ) (inside : Option (Reader TypeTree)) (h : FindIn (FindsTypes (
       go terminal.Lower e = one (named t.at (name_of t)) (λ after. named_is d (word t d) after (lower (is terminal.Lower e)))
       go terminal.Quoted e = one (named t.at (name_of t)) (λ after. named_is d (word t d) after (quoted (is terminal.Quoted e)))
       go (terminal.Mark mark.Open) e = finds-group t ts e
-      go _ e = tt
+      go _ e = stopped-here (SimpleIs d) (t ∷ ts) (simple-ends d)
 
   -- what follows a type
   abbrev RightOf : TypeTree → TypeTree → List Word → List Word → Type 0
   RightOf t u ws rest = (ws' : List Word) → IsSimpleType d ws' t ws → IsType d ws' u rest
 
+  behind-arrow : (t : TypeTree) (s : Lexeme) → terminal_of s ≡ terminal.Mark mark.Arrow → (v : TypeTree) (ws rest : List Word) → IsType (suc d) ws v rest → RightOf t (arrow s.at t v) (word s (suc d) ∷ ws) rest
+  behind-arrow t s e v ws rest p ws' q = arrow_is d ws' ws rest (word s (suc d)) t v q (record { terminal = e; deep = refl }) p
+
+  right-ends : (t : TypeTree) → Ending (RightOf t)
+  right-ends t = record { value = t; words = []; read = λ after ws k. simple_is d ws after t k }
+
   finds-arrow : (t : TypeTree) (ts : List Lexeme) → Finds (RightOf t) ts (arrow_by inside t (first_terminal ts) ts)
   unfolding first_terminal first_place behind
-  finds-arrow t [] = λ after e. record { words = after; plainly = e; read = λ ws k. simple_is d ws after t k }
+  finds-arrow t [] = finds-none (RightOf t) [] t (λ after ws k. simple_is d ws after t k)
   finds-arrow t (s ∷ ts) = go (terminal_of s) refl
     where
       none : Finds (RightOf t) (s ∷ ts) (found t (s ∷ ts))
-      none = λ after e. record { words = after; plainly = e; read = λ ws k. simple_is d ws after t k }
+      none = finds-none (RightOf t) (s ∷ ts) t (λ after ws k. simple_is d ws after t k)
 
       go : (x : Terminal) → terminal_of s ≡ x → Finds (RightOf t) (s ∷ ts) (arrow_by inside t x (s ∷ ts))
       go (terminal.Mark mark.Arrow) e =
           finds-enter (RightOf t) (FindsTypes (suc d)) inside (s ∷ ts) (s ∷ ts) _ h
-          (λ type k. finds-token (λ u ws rest. (v : TypeTree) × (u ≡ arrow s.at t v) × IsType (suc d) ws v rest) (RightOf t) s (suc d) ts _
-          (finds-bind (TypeIs (suc d)) (λ v. Nothing (arrow s.at t v)) _ ts (type ts) _ (k ts) (λ v mid. finds-nothing (arrow s.at t v) mid)
-          (λ v u ws mid rest p q. (v, q.0, subst (λ us. IsType (suc d) ws v us) q.1 p)))
-          (λ u ws rest p ws' q. subst (λ y. IsType d ws' y rest) (sym p.1) (arrow_is d ws' ws rest (word s (suc d)) t p.0 q (record { terminal = e; deep = refl }) p.2)))
+          (stopped-behind (RightOf t) s (suc d) ts (ending-map (TypeIs (suc d)) (λ u ws rest. RightOf t u (word s (suc d) ∷ ws) rest) (arrow s.at t) (type-ends (suc d)) (behind-arrow t s e)))
+          (λ type k. finds-behind (RightOf t) s (suc d) ts _
+          (finds-map (TypeIs (suc d)) (λ u ws rest. RightOf t u (word s (suc d) ∷ ws) rest) (arrow s.at t) ts (type ts) (k ts) (behind-arrow t s e)))
       go _ e = none
 
   pub finds-type_with : FindsTypes d (type_with inside)
   unfolding type_with
-  finds-type_with ts = finds-bind (SimpleIs d) RightOf (TypeIs d) ts (simple_type inside ts) _ (finds-simple ts) (λ t mid. finds-arrow t mid) (λ t u ws mid rest p q. q ws p)
+  finds-type_with ts = finds-bind (SimpleIs d) RightOf (TypeIs d) ts (simple_type inside ts) _ (finds-simple ts) right-ends (λ t mid. finds-arrow t mid) (λ t u ws mid rest p q. q ws p)
 
 pub finds-inner_type : (d room : ℕ) → FindIn (FindsTypes (suc d)) (inner_type room)
 unfolding inner_type

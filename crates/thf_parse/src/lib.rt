@@ -19,5 +19,5 @@ mod typing;
 mod variable;
 mod words;
 
-pub use law::{declared_are_printable, included_are_printable, one_tree};
+pub use law::{declared_are_printable, included_are_printable, one_refusal, one_tree};
 pub use parser::{MAX_DEPTH, ParseRefused, parse};

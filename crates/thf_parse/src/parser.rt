@@ -4,7 +4,7 @@ ghost use Rattle.thf_lex.specs.Reading.{AreTokens};
 ghost use Rattle.thf_syntax.specs.View.{the_statement, the_file};
 ghost use Rattle.thf_parse.specs.Words.{lexemes};
 ghost use Rattle.thf_parse.specs.StatementReader as reader;
-ghost use Rattle.thf_parse.specs.Parsing.{HasTree, IsRefusedAt};
+ghost use Rattle.thf_parse.specs.Parsing.{depth_limit, HasTree, IsRefusedAt};
 ghost use Rattle.thf_parse.specs.Reads.{ReadsFile};
 
 use crate::cursor::Cursor;
@@ -60,8 +60,8 @@ fn statements(alloc: Global, room: u32, cursor: &mut Cursor) -> Result<FileTree,
 /// The tree of a file's tokens.
 pub fn parse(alloc: Global, bytes: &[u8], tokens: &Tokens) -> Result<FileTree, ParseRefused>
     requires { AreTokens bytes.now tokens.now }
-    ensures tree { IfOk result (λ file. HasTree MAX_DEPTH (lexemes bytes.now tokens.now) (the_file file)) }
-    ensures refused { IfErr result (λ refused. IsRefusedAt MAX_DEPTH (lexemes bytes.now tokens.now) refused) }
+    ensures tree { IfOk result (λ file. HasTree depth_limit (lexemes bytes.now tokens.now) (the_file file)) }
+    ensures refused { IfErr result (λ refused. IsRefusedAt depth_limit (lexemes bytes.now tokens.now) refused) }
 {
     let mut cursor = Cursor::new(bytes, tokens.as_slice());
     match statements(alloc, MAX_DEPTH, &mut cursor) {
