@@ -1,7 +1,7 @@
 -- Terms that differ have keys that differ: a reader with two stacks takes back the steps.
 use Rattle.std.proofs.Common.{◌≡◌, ℕ, ◌==◌, List, [], ◌∷◌, ◌++◌, refl, sym, ap, ◌∙◌, append-nil, append_assoc, if◌then◌else◌}
 use Rattle.stt_core.specs.SimpleType.{SimpleType, base, arrow}
-use Rattle.stt_core.specs.Lambda.{Constant, name, witness, falsity, negation, implication, all, equality, choice, Lambda, bound, constant, lam, app, lambdas, applied}
+use Rattle.stt_core.specs.Lambda.{Constant, name, witness, falsity, negation, implication, all, equality, choice, description, Lambda, bound, constant, lam, app, lambdas, applied}
 use Rattle.refute_check.specs.Keys.{step, type_key, constant_key, term_key, types_key, functions_key, arguments_key}
 
 -- the types and the terms that are built so far, the last one first
@@ -45,6 +45,7 @@ build kind n s =
     if kind == 9 then take_type (λ a. choice a) s.types s.terms else
     if kind == 10 then with_term (bound n) s else
     if kind == 11 then bind s.types s.terms else
+    if kind == 13 then take_type (λ a. description a) s.types s.terms else
     join_terms s.types s.terms
 
 abbrev built : List ℕ → Stacks → Stacks
@@ -72,6 +73,7 @@ built-constant implication rest s = refl
 built-constant (all a) rest s = with_kind a 7 rest s
 built-constant (equality a) rest s = with_kind a 8 rest s
 built-constant (choice a) rest s = with_kind a 9 rest s
+built-constant (description a) rest s = with_kind a 13 rest s
 
 built-term : (t : Lambda) (rest : List ℕ) (s : Stacks) → built (term_key t ++ rest) s ≡ built rest (with_term t s)
 built-term (bound k) rest s = refl

@@ -7,12 +7,12 @@ use Rattle.stt_core.specs.SameTerm.{same_term}
 use Rattle.stt_core.specs.Typing.{Scope}
 use Rattle.stt_core.proofs.ListLaws.{take_got, map-append}
 use Rattle.stt_core.proofs.SameTerms.{same_term-true}
+use Rattle.stt_core.specs.Meets.{Question}
+use Rattle.stt_normal.specs.Normal.{normal_form}
+use Rattle.stt_normal.specs.NormalQuestion.{normal_question}
 use Rattle.stt_tableau.specs.Literals.{Literal, literal}
 use Rattle.stt_tableau.specs.Start.{same_sign, same_literal, has, added, without_repeats, denied, start}
 use Rattle.stt_tableau.proofs.ListLaws.{contains-first, contains-later, contains_cases}
-use Rattle.type_check.specs.TypedProblem.{IsFormula, AreFormulas}
-use Rattle.type_check.specs.Statements.{ReadProblem}
-use Rattle.refute_check.specs.NormalQuestion.{normal_in, normal_question}
 use Rattle.refute_check.specs.Branches.{Represents}
 use Rattle.refute_check.specs.declared.branch.Branch.{Branch}
 use Rattle.refute_check.proofs.SetLaws.{or_split}
@@ -80,13 +80,8 @@ literals-more f ts i t h =
     ∙ ap (map literal) (map-append f (take i ts) (t ∷ []))
     ∙ map-append literal (map f (take i ts)) (f t ∷ [])
 
-pub formula_at : (scope : Scope) (ts : List Lambda) (i : ℕ) (t : Lambda) → slice_get ts i ≡ Some t → AreFormulas scope ts → IsFormula scope t
-formula_at scope [] i t g h = cc
-formula_at scope (u ∷ ts) zero t g h = let e : u ≡ t = cc in subst (IsFormula scope) e h.0
-formula_at scope (u ∷ ts) (suc i) t g h = formula_at scope ts i t g h.1
-
 -- what represents the formulas and the negation of the conjecture represents the start
-pub start_represented : (terms : List Lambda) (p : ReadProblem) (b : Branch) (o : Option Lambda) → p.conjecture ≡ o → Represents terms (map literal (map (normal_in p) p.assumed) ++ denied (option_map (normal_in p) o)) b → Represents terms (start (normal_question p)) b
-start_represented terms p b o e h =
-    subst (λ c. Represents terms (without_repeats (map literal (map (normal_in p) p.assumed) ++ denied (option_map (normal_in p) c))) b) (sym e)
-    (represents-once terms (map literal (map (normal_in p) p.assumed) ++ denied (option_map (normal_in p) o)) b h)
+pub start_represented : (terms : List Lambda) (q : Question) (b : Branch) (o : Option Lambda) → q.conjecture ≡ o → Represents terms (map literal (map (normal_form q.scope []) q.assumed) ++ denied (option_map (normal_form q.scope []) o)) b → Represents terms (start (normal_question q)) b
+start_represented terms q b o e h =
+    subst (λ c. Represents terms (without_repeats (map literal (map (normal_form q.scope []) q.assumed) ++ denied (option_map (normal_form q.scope []) c))) b) (sym e)
+    (represents-once terms (map literal (map (normal_form q.scope []) q.assumed) ++ denied (option_map (normal_form q.scope []) o)) b h)

@@ -57,6 +57,7 @@ no_function head.Imp = refl
 no_function (head.All a) = refl
 no_function (head.Eq a) = refl
 no_function (head.Choice a) = refl
+no_function (head.Desc a) = refl
 
 -- the first binder's type is the argument's
 pub argument_type-first : (bs : List SimpleType) (b : SimpleType) (t whole : Lambda) → slice_get bs 0 ≡ Some b → lambdas bs t ≡ whole → b ≡ argument_type whole

@@ -2,7 +2,7 @@
 -- what is built and a number of its own. Terms that differ have keys that differ.
 use Rattle.std.specs.Prelude.{ℕ, List, [], ◌∷◌, ◌++◌}
 use Rattle.stt_core.specs.SimpleType.{SimpleType, base, arrow}
-use Rattle.stt_core.specs.Lambda.{Constant, name, witness, falsity, negation, implication, all, equality, choice, Lambda, bound, constant, lam, app}
+use Rattle.stt_core.specs.Lambda.{Constant, name, witness, falsity, negation, implication, all, equality, choice, description, Lambda, bound, constant, lam, app}
 
 abbrev pub step : ℕ → ℕ → List ℕ
 step kind n = kind ∷ n ∷ []
@@ -20,6 +20,7 @@ constant_key implication = step 6 0
 constant_key (all a) = type_key a ++ step 7 0
 constant_key (equality a) = type_key a ++ step 8 0
 constant_key (choice a) = type_key a ++ step 9 0
+constant_key (description a) = type_key a ++ step 13 0
 
 abbrev pub term_key : Lambda → List ℕ
 term_key (bound k) = step 10 k

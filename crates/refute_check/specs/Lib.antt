@@ -1,4 +1,3 @@
-pub mod NormalQuestion
 pub mod Numbered
 pub mod Places
 pub mod Refusal

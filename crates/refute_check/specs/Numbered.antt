@@ -3,14 +3,14 @@ use Rattle.std.specs.Prelude.{ℕ, ◌+◌, List, map}
 use Rattle.std.specs.List.{position_or_len}
 use Rattle.std.specs.Str.{bytes_eq}
 use Rattle.stt_core.specs.SimpleType.{SimpleType, base, arrow}
-use Rattle.stt_core.specs.Lambda.{Constant, name, witness, falsity, negation, implication, all, equality, choice, Lambda, bound, constant, lam, app}
+use Rattle.stt_core.specs.Lambda.{Constant, name, witness, falsity, negation, implication, all, equality, choice, description, Lambda, bound, constant, lam, app}
 use Rattle.stt_tableau.specs.Literals.{Literal}
 use Rattle.stt_tableau.specs.Witnesses.{Row}
 use Rattle.stt_tableau.specs.declared.refutation.RuleUse.{RuleUse}
 use Rattle.stt_tableau.specs.declared.refutation.RuleUse.TheVariants as rule
 use Rattle.stt_tableau.specs.declared.refutation.Line.{Line}
 use Rattle.stt_tableau.specs.declared.refutation.Refutation.{Refutation}
-use Rattle.refute_text.specs.Trees.{TypeTree, ConstantTree, TermTree, LiteralTree, OnePlace, False, Refl, ImpPos, ImpNeg, BoolPos, BoolNeg, FunPos, FunNeg, AllNeg, Dec, TwoPlaces, Close, Mat, Con, RuleTree, at_one, at_two, with_instance, with_predicate, with_cut, LineTree, RefutationTree}
+use Rattle.refute_text.specs.Trees.{TypeTree, ConstantTree, TermTree, LiteralTree, OnePlace, False, Refl, ImpPos, ImpNeg, BoolPos, BoolNeg, FunPos, FunNeg, AllNeg, Dec, TwoPlaces, Close, Mat, Con, OfPredicate, Cho, Des, RuleTree, at_one, at_two, with_instance, with_predicate, with_cut, LineTree, RefutationTree}
 use Rattle.refute_text.specs.Trees as tree
 use Rattle.refute_text.specs.Named.{Names}
 
@@ -35,6 +35,7 @@ numbered_constant names tree.implication = implication
 numbered_constant names (tree.all a) = all (numbered_type names a)
 numbered_constant names (tree.equality a) = equality (numbered_type names a)
 numbered_constant names (tree.choice a) = choice (numbered_type names a)
+numbered_constant names (tree.description a) = description (numbered_type names a)
 
 abbrev pub numbered_term : Names → TermTree → Lambda
 numbered_term names (tree.bound k) = bound k
@@ -62,11 +63,15 @@ numbered_two_places Close i j = rule.Close i j
 numbered_two_places Mat i j = rule.Mat i j
 numbered_two_places Con i j = rule.Con i j
 
+abbrev pub numbered_of_predicate : OfPredicate → Lambda → RuleUse
+numbered_of_predicate Cho f = rule.Cho f
+numbered_of_predicate Des f = rule.Des f
+
 abbrev pub numbered_rule : Names → RuleTree → RuleUse
 numbered_rule names (at_one r i) = numbered_one_place r i
 numbered_rule names (at_two r i j) = numbered_two_places r i j
 numbered_rule names (with_instance i u) = rule.AllPos i (numbered_term names u)
-numbered_rule names (with_predicate f) = rule.Cho (numbered_term names f)
+numbered_rule names (with_predicate r f) = numbered_of_predicate r (numbered_term names f)
 numbered_rule names (with_cut l) = rule.Cut (numbered_literal names l)
 
 abbrev pub numbered_line : Names → LineTree → Line

@@ -3,6 +3,9 @@
 ghost use Rattle.std.specs.Prelude.{◌≡◌, ◌+◌, ◌^◌, ◌<◌, ◌++◌, [], ◌∷◌, None, List, length, map, OnOk, IfOk, IfErr};
 ghost use Rattle.stt_core.specs.Typing.{Scope};
 ghost use Rattle.stt_core.specs.ScopeView.{the_scope};
+ghost use Rattle.stt_core.specs.PlainProblem.{question_of};
+ghost use Rattle.stt_core.specs.TypedProblem.{IsTyped};
+ghost use Rattle.stt_normal.specs.NormalQuestion.{normal_question};
 ghost use Rattle.stt_tableau.specs.Literals.{Literal};
 ghost use Rattle.stt_tableau.specs.Witnesses.{IsTable};
 ghost use Rattle.stt_tableau.specs.Start.{start};
@@ -10,11 +13,8 @@ ghost use Rattle.stt_tableau.specs.Accepted.{EndsWithin, IsAccepted, FirstFailur
 ghost use Rattle.stt_tableau.specs.Refused.{IfRefused};
 ghost use Rattle.stt_tableau.specs.Checks.{LineAnswer};
 ghost use Rattle.stt_tableau.specs.declared.refutation.Line.{Line};
-ghost use Rattle.type_check.specs.Checks.{the_problem};
-ghost use Rattle.type_check.specs.TypedProblem.{question_of, IsTyped};
 ghost use Rattle.refute_text.specs.TextView.{the_line, the_text};
 ghost use Rattle.refute_text.specs.Named.{names_of};
-ghost use Rattle.refute_check.specs.NormalQuestion.{normal_question};
 ghost use Rattle.refute_check.specs.Numbered.{numbered_line, numbered_refutation};
 ghost use Rattle.refute_check.specs.Refusal.{IfLine, FailsAt};
 ghost use Rattle.refute_check.specs.TermNumbers.{KeepsNumbers};
@@ -119,14 +119,14 @@ fn check_last(
     lines: &RightLines,
     text: &RefutationText,
 ) -> Result<(), PlainRefused>
-    requires problem { IsTyped (question_of (the_problem problem.now)) }
+    requires problem { IsTyped (question_of problem.now) }
     requires branches { AreBranches lines.now.atoms.terms (numbered_refutation numbering.now (the_text text.now)).lines lines.now.branches.items }
     requires numbers { KeepsNumbers lines.now.atoms }
     requires room { length text.now.witnesses + length text.now.lines < 2 ^ 64 }
-    ensures last { OnOk result (EndsWithin (start (normal_question (the_problem problem.now))) (numbered_refutation numbering.now (the_text text.now)).lines) }
+    ensures last { OnOk result (EndsWithin (start (normal_question (question_of problem.now))) (numbered_refutation numbering.now (the_text text.now)).lines) }
     ensures refused { IfErr result (λ e. IfRefused e (λ place why. (scope : Scope) → IsTable scope (numbered_refutation numbering.now (the_text text.now)).witnesses
         → AreRightIn scope (numbered_refutation numbering.now (the_text text.now))
-        → FirstFailure scope (start (normal_question (the_problem problem.now))) (numbered_refutation numbering.now (the_text text.now)) place why)) }
+        → FirstFailure scope (start (normal_question (question_of problem.now))) (numbered_refutation numbering.now (the_text text.now)) place why)) }
 {
     let rows = text.witnesses.len();
     let count = text.lines.len();
@@ -147,21 +147,37 @@ fn check_last(
     }
 }
 
-/// Whether the text is accepted, or the place of its first failure: its rows count from 0, and then its lines.
-fn check_text(alloc: Global, problem: &Problem, text: &RefutationText) -> Result<(), PlainRefused>
-    requires problem { IsTyped (question_of (the_problem problem.now)) }
+/// Whether the text is accepted for the start of the problem, over the signature.
+fn check_over(
+    alloc: Global,
+    sig: &Signature,
+    problem: &Problem,
+    text: &RefutationText,
+) -> Result<(), PlainRefused>
+    requires problem { IsTyped (question_of problem.now) }
     requires room { length text.now.witnesses + length text.now.lines < 2 ^ 64 }
-    ensures accepted { OnOk result (IsAccepted (question_of (the_problem problem.now)).scope (start (normal_question (the_problem problem.now)))
-        (numbered_refutation (names_of problem.now.signature.bases problem.now.signature.consts) (the_text text.now))) }
-    ensures refused { IfErr result (λ e. IfRefused e (FirstFailure (question_of (the_problem problem.now)).scope (start (normal_question (the_problem problem.now)))
-        (numbered_refutation (names_of problem.now.signature.bases problem.now.signature.consts) (the_text text.now)))) }
+    ensures accepted { OnOk result (IsAccepted (the_scope sig.now []) (start (normal_question (question_of problem.now)))
+        (numbered_refutation (names_of sig.now.bases sig.now.consts) (the_text text.now))) }
+    ensures refused { IfErr result (λ e. IfRefused e (FirstFailure (the_scope sig.now []) (start (normal_question (question_of problem.now)))
+        (numbered_refutation (names_of sig.now.bases sig.now.consts) (the_text text.now)))) }
 {
-    let sig = &problem.signature;
     let numbering = Numbering::new(alloc, sig)?;
     let witnesses = check_rows(alloc, sig, &numbering, text)?;
     let lines = check_lines(alloc, sig, &numbering, &witnesses, text)?;
     check_last(alloc, problem, &numbering, &lines, text)?;
     Ok(())
+}
+
+/// Whether the text is accepted, or the place of its first failure: its rows count from 0, and then its lines.
+fn check_text(alloc: Global, problem: &Problem, text: &RefutationText) -> Result<(), PlainRefused>
+    requires problem { IsTyped (question_of problem.now) }
+    requires room { length text.now.witnesses + length text.now.lines < 2 ^ 64 }
+    ensures accepted { OnOk result (IsAccepted (question_of problem.now).scope (start (normal_question (question_of problem.now)))
+        (numbered_refutation (names_of problem.now.declared.bases problem.now.declared.consts) (the_text text.now))) }
+    ensures refused { IfErr result (λ e. IfRefused e (FirstFailure (question_of problem.now).scope (start (normal_question (question_of problem.now)))
+        (numbered_refutation (names_of problem.now.declared.bases problem.now.declared.consts) (the_text text.now)))) }
+{
+    check_over(alloc, &problem.signature, problem, text)
 }
 
 /// Whether the text is an accepted refutation of the problem, over the names that it declares. Answers the first line that fails
@@ -171,14 +187,14 @@ pub fn check_refutation(
     problem: &Problem,
     text: &RefutationText,
 ) -> Result<(), CheckRefused>
-    requires problem { IsTyped (question_of (the_problem problem.now)) }
+    requires problem { IsTyped (question_of problem.now) }
     requires lines { text.now.first + length text.now.witnesses + length text.now.lines < 2 ^ 64 }
-    ensures accepted { OnOk result (IsAccepted (question_of (the_problem problem.now)).scope (start (normal_question (the_problem problem.now)))
-        (numbered_refutation (names_of problem.now.signature.bases problem.now.signature.consts) (the_text text.now))) }
-    ensures refused { IfErr result (λ e. IfLine e (FailsAt (question_of (the_problem problem.now)).scope (start (normal_question (the_problem problem.now)))
-        (numbered_refutation (names_of problem.now.signature.bases problem.now.signature.consts) (the_text text.now)) text.now.first)) }
-    ensures refused_only { IfErr result (λ e. IfLine e (λ _ _. IsAccepted (question_of (the_problem problem.now)).scope (start (normal_question (the_problem problem.now)))
-        (numbered_refutation (names_of problem.now.signature.bases problem.now.signature.consts) (the_text text.now)) → ⊥)) }
+    ensures accepted { OnOk result (IsAccepted (question_of problem.now).scope (start (normal_question (question_of problem.now)))
+        (numbered_refutation (names_of problem.now.declared.bases problem.now.declared.consts) (the_text text.now))) }
+    ensures refused { IfErr result (λ e. IfLine e (FailsAt (question_of problem.now).scope (start (normal_question (question_of problem.now)))
+        (numbered_refutation (names_of problem.now.declared.bases problem.now.declared.consts) (the_text text.now)) text.now.first)) }
+    ensures refused_only { IfErr result (λ e. IfLine e (λ _ _. IsAccepted (question_of problem.now).scope (start (normal_question (question_of problem.now)))
+        (numbered_refutation (names_of problem.now.declared.bases problem.now.declared.consts) (the_text text.now)) → ⊥)) }
 {
     match check_text(alloc, problem, text) {
         Ok(()) => Ok(()),

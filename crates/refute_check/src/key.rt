@@ -48,6 +48,7 @@ fn push_head(key: &mut Vec<u32>, head: &Head) -> Result<(), AllocError>
         Head::All(ty) => push_typed(key, ty, 7),
         Head::Eq(ty) => push_typed(key, ty, 8),
         Head::Choice(ty) => push_typed(key, ty, 9),
+        Head::Desc(ty) => push_typed(key, ty, 13),
     }
 }
 

@@ -17,4 +17,3 @@ mod witnesses;
 
 pub use check::check_refutation;
 pub use refusal::CheckRefused;
-pub use start::formula_literal;

@@ -135,6 +135,10 @@ fn number_rule(
             let predicate = number_term(alloc, numbering, predicate)?;
             Ok(Some(RuleUse::Cho(predicate)))
         }
+        TextRule::Des(predicate) => {
+            let predicate = number_term(alloc, numbering, predicate)?;
+            Ok(Some(RuleUse::Des(predicate)))
+        }
         TextRule::Cut(lit) => Ok(number_cut(alloc, numbering, lit)?),
     }
 }

@@ -70,6 +70,7 @@ fn number_head(
         TextHead::All(ty) => Ok(Head::All(number_type(alloc, numbering, ty)?)),
         TextHead::Eq(ty) => Ok(Head::Eq(number_type(alloc, numbering, ty)?)),
         TextHead::Choice(ty) => Ok(Head::Choice(number_type(alloc, numbering, ty)?)),
+        TextHead::Desc(ty) => Ok(Head::Desc(number_type(alloc, numbering, ty)?)),
     }
 }
 

@@ -1,35 +1,22 @@
 //! The literals that a problem starts from.
 
 ghost use Rattle.std.specs.Prelude.{◌≡◌, ◌++◌, [], ◌∷◌, List, map, IfOk, OnOk};
-ghost use Rattle.stt_core.specs.View.{the_term};
 ghost use Rattle.stt_core.specs.ScopeView.{the_scope};
 ghost use Rattle.stt_core.specs.Typing.{IsScope};
+ghost use Rattle.stt_core.specs.PlainProblem.{question_of};
+ghost use Rattle.stt_core.specs.TypedProblem.{AreFormulas, IsTyped};
+ghost use Rattle.stt_normal.specs.NormalQuestion.{normal_question};
 ghost use Rattle.stt_normal.specs.Normal.{normal_form};
 ghost use Rattle.stt_tableau.specs.Literals.{Literal, literal};
 ghost use Rattle.stt_tableau.specs.Start.{start};
-ghost use Rattle.type_check.specs.Checks.{the_problem};
-ghost use Rattle.type_check.specs.TypedProblem.{question_of, IsFormula, AreFormulas, IsTyped};
-ghost use Rattle.refute_check.specs.NormalQuestion.{normal_question};
 ghost use Rattle.refute_check.specs.TermNumbers.{KeepsNumbers};
 ghost use Rattle.refute_check.specs.Branches.{Represents};
 
 use crate::branch::Branch;
 use crate::term_numbers::TermNumbers;
 use std::alloc::{AllocError, Global};
-use stt_core::{Problem, Signature, Term, Terms, Types};
-use stt_normal::normalise;
-use stt_tableau::{Lit, literal_of};
-
-/// The literal of a formula's normal form.
-pub fn formula_literal(alloc: Global, sig: &Signature, formula: &Term) -> Result<Lit, AllocError>
-    requires scope { IsScope (the_scope sig.now []) }
-    requires formula { IsFormula (the_scope sig.now []) (the_term formula.now) }
-    ensures { IfOk result (λ lit. lit ≡ literal (normal_form (the_scope sig.now []) [] (the_term formula.now))) }
-{
-    let none = Types::new(alloc);
-    let canonical = normalise(alloc, sig, &none, &none, formula)?;
-    Ok(literal_of(alloc, &canonical)?)
-}
+use stt_core::{Problem, Signature, Terms};
+use stt_tableau::{Lit, formula_literal};
 
 /// Adds the literal, where its atom has a number.
 fn add_known(
@@ -74,8 +61,8 @@ pub(crate) fn start_branch(
     atoms: &TermNumbers,
 ) -> Result<Branch, AllocError>
     requires keeps { KeepsNumbers atoms.now }
-    requires problem { IsTyped (question_of (the_problem problem.now)) }
-    ensures { IfOk result (Represents atoms.now.terms (start (normal_question (the_problem problem.now)))) }
+    requires problem { IsTyped (question_of problem.now) }
+    ensures { IfOk result (Represents atoms.now.terms (start (normal_question (question_of problem.now)))) }
 {
     let sig = &problem.signature;
     let mut known = assumed_branch(alloc, sig, atoms, &problem.assumed)?;

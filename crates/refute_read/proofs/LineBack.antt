@@ -1,7 +1,7 @@
 -- The texts of rules, rows and lines are read back.
 use Rattle.std.proofs.Common.{◌≡◌, ℕ, ◌^◌, ◌<◌, List, [], ◌++◌, Option, Some, None, codes, decimal, refl, sym, ap, ◌∙◌, append_assoc, append-nil, arith, if◌then◌else◌}
 use Rattle.std.proofs.lemmas.Bool.{eq-eqb}
-use Rattle.refute_text.specs.Trees.{TermTree, LiteralTree, OnePlace, False, Refl, ImpPos, ImpNeg, BoolPos, BoolNeg, FunPos, FunNeg, AllNeg, Dec, TwoPlaces, Close, Mat, Con, RuleTree, at_one, at_two, with_instance, with_predicate, with_cut, LineTree}
+use Rattle.refute_text.specs.Trees.{TermTree, LiteralTree, OnePlace, False, Refl, ImpPos, ImpNeg, BoolPos, BoolNeg, FunPos, FunNeg, AllNeg, Dec, TwoPlaces, Close, Mat, Con, OfPredicate, Cho, Des, RuleTree, at_one, at_two, with_instance, with_predicate, with_cut, LineTree}
 use Rattle.refute_text.specs.Text.{term_text, literal_text, rule_text, row_text, branch_text, children_text, line_text}
 use Rattle.refute_text.specs.Limits.{greatest_depth, IsWithin, IsLiteral, IsRule, IsLine}
 use Rattle.refute_read.specs.Reader.{number_at}
@@ -42,11 +42,11 @@ instance_back i u rest small within =
     regroup : (i u r : List ℕ) → (i ++ (codes ";" ++ (u ++ codes ")"))) ++ r ≡ i ++ (codes ";" ++ (u ++ (codes ")" ++ r)))
     regroup i u r = simp append_assoc
 
-predicate_back : (f : TermTree) (rest : List ℕ) → IsWithin f → predicate_at ((term_text f ++ codes ")") ++ rest) ≡ found (with_predicate f) rest
-predicate_back f rest within =
+predicate_back : (name : OfPredicate) (f : TermTree) (rest : List ℕ) → IsWithin f → predicate_at name ((term_text f ++ codes ")") ++ rest) ≡ found (with_predicate name f) rest
+predicate_back name f rest within =
     let end = codes ")" ++ rest in
-    ap predicate_at (append_assoc (term_text f) (codes ")") rest)
-    ∙ bind_gives (term_at greatest_depth (term_text f ++ end)) _ (f, end) (with_predicate f, rest) (within_back f end within refl) refl
+    ap (predicate_at name) (append_assoc (term_text f) (codes ")") rest)
+    ∙ bind_gives (term_at greatest_depth (term_text f ++ end)) _ (f, end) (with_predicate name f, rest) (within_back f end within refl) refl
 
 cut_back : (l : LiteralTree) (rest : List ℕ) → IsLiteral l → cut_at ((literal_text l ++ codes ")") ++ rest) ≡ found (with_cut l) rest
 cut_back l rest is =
@@ -70,7 +70,8 @@ rule_at-text (at_two Close i j) rest h = two_places_back Close i j rest h.0 h.1
 rule_at-text (at_two Mat i j) rest h = two_places_back Mat i j rest h.0 h.1
 rule_at-text (at_two Con i j) rest h = two_places_back Con i j rest h.0 h.1
 rule_at-text (with_instance i u) rest h = instance_back i u rest h.0 h.1
-rule_at-text (with_predicate f) rest h = predicate_back f rest h
+rule_at-text (with_predicate Cho f) rest h = predicate_back Cho f rest h
+rule_at-text (with_predicate Des f) rest h = predicate_back Des f rest h
 rule_at-text (with_cut l) rest h = cut_back l rest h
 
 number_back : (k : ℕ) (rest : List ℕ) (o : Option (ℕ × List ℕ)) → o ≡ found k rest → where_number k o ≡ Some rest

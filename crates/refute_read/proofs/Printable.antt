@@ -7,8 +7,8 @@ use Rattle.std.proofs.lemmas.Fmt.{digits_decimal}
 use Rattle.stt_tableau.specs.declared.refutation.Child.{Child}
 use Rattle.stt_tableau.specs.declared.refutation.Child.TheVariants.{Closed, Line as Numbered}
 use Rattle.refute_text.specs.Letters.{is_word_byte, is_printable, is_plain, starts_lower, escaped, quoted, name_text, is_name}
-use Rattle.refute_text.specs.Trees.{TypeTree, formula, individual, named, arrow, ConstantTree, name, witness, falsity, negation, implication, all, equality, choice, TermTree, bound, constant, lam, app, LiteralTree, OnePlace, False, Refl, ImpPos, ImpNeg, BoolPos, BoolNeg, FunPos, FunNeg, AllNeg, Dec, TwoPlaces, Close, Mat, Con, RuleTree, at_one, at_two, with_instance, with_predicate, with_cut, LineTree, RefutationTree}
-use Rattle.refute_text.specs.Text.{type_text, constant_text, term_text, spine_text, sign_text, literal_text, after_commas, separated, branch_text, child_text, children_text, one_place_name, two_places_name, rule_text, row_text, line_text, row_texts, line_texts, text_lines}
+use Rattle.refute_text.specs.Trees.{TypeTree, formula, individual, named, arrow, ConstantTree, name, witness, falsity, negation, implication, all, equality, choice, description, TermTree, bound, constant, lam, app, LiteralTree, OnePlace, False, Refl, ImpPos, ImpNeg, BoolPos, BoolNeg, FunPos, FunNeg, AllNeg, Dec, TwoPlaces, Close, Mat, Con, OfPredicate, Cho, Des, RuleTree, at_one, at_two, with_instance, with_predicate, with_cut, LineTree, RefutationTree}
+use Rattle.refute_text.specs.Text.{type_text, constant_text, term_text, spine_text, sign_text, literal_text, after_commas, separated, branch_text, child_text, children_text, one_place_name, two_places_name, predicate_name, rule_text, row_text, line_text, row_texts, line_texts, text_lines}
 use Rattle.refute_text.specs.Limits.{IsType, IsConstant, IsTerm, IsSpine, IsWithin, IsLiteral, IsRule, IsChild, IsLine}
 use Rattle.refute_read.specs.Reader.{is_digit}
 use Rattle.refute_read.specs.Reading.{HasText, is_one_line, AreLines}
@@ -74,6 +74,7 @@ constant_printable implication h = refl
 constant_printable (all a) h = both (type_text a) (codes "]") (type_printable a h) refl
 constant_printable (equality a) h = both (type_text a) (codes "]") (type_printable a h) refl
 constant_printable (choice a) h = both (type_text a) (codes "]") (type_printable a h) refl
+constant_printable (description a) h = both (type_text a) (codes "]") (type_printable a h) refl
 
 mutual
   term_printable : (t : TermTree) → IsTerm t → IsPrintable (term_text t)
@@ -125,6 +126,10 @@ two_places_printable Close = refl
 two_places_printable Mat = refl
 two_places_printable Con = refl
 
+predicate_printable : (r : OfPredicate) → IsPrintable (predicate_name r)
+predicate_printable Cho = refl
+predicate_printable Des = refl
+
 rule_printable : (r : RuleTree) → IsRule r → IsPrintable (rule_text r)
 rule_printable (at_one r i) h =
     both (one_place_name r) (codes "(" ++ (decimal i ++ codes ")")) (one_place_printable r) (both (decimal i) (codes ")") (decimal_printable i h) refl)
@@ -133,7 +138,8 @@ rule_printable (at_two r i j) h =
     (both (decimal i) (codes "," ++ (decimal j ++ codes ")")) (decimal_printable i h.0) (both (decimal j) (codes ")") (decimal_printable j h.1) refl))
 rule_printable (with_instance i u) h =
     both (decimal i) (codes ";" ++ (term_text u ++ codes ")")) (decimal_printable i h.0) (both (term_text u) (codes ")") (term_printable u h.1.is_term) refl)
-rule_printable (with_predicate f) h = both (term_text f) (codes ")") (term_printable f h.is_term) refl
+rule_printable (with_predicate r f) h =
+    both (predicate_name r) (codes "(" ++ (term_text f ++ codes ")")) (predicate_printable r) (both (term_text f) (codes ")") (term_printable f h.is_term) refl)
 rule_printable (with_cut l) h = both (literal_text l) (codes ")") (literal_printable l h) refl
 
 row_printable : (k : ℕ) (t : TermTree) → k < 2 ^ 64 → IsWithin t → IsPrintable (row_text k t)

@@ -1,7 +1,7 @@
 -- The rules that are read stand at the front of the bytes.
 use Rattle.std.proofs.Common.{◌≡◌, ℕ, ◌^◌, ◌<◌, List, ◌++◌, Option, Some, None, codes, decimal, sym, ap, ap₂, subst, ◌∙◌, append_assoc, arith}
-use Rattle.refute_text.specs.Trees.{OnePlace, False, Refl, ImpPos, ImpNeg, BoolPos, BoolNeg, FunPos, FunNeg, AllNeg, Dec, TwoPlaces, Close, Mat, Con, RuleTree, at_one, at_two, with_instance, with_predicate, with_cut}
-use Rattle.refute_text.specs.Text.{term_text, literal_text, one_place_name, two_places_name, rule_text}
+use Rattle.refute_text.specs.Trees.{OnePlace, False, Refl, ImpPos, ImpNeg, BoolPos, BoolNeg, FunPos, FunNeg, AllNeg, Dec, TwoPlaces, Close, Mat, Con, OfPredicate, Cho, Des, RuleTree, at_one, at_two, with_instance, with_predicate, with_cut}
+use Rattle.refute_text.specs.Text.{term_text, literal_text, one_place_name, two_places_name, predicate_name, rule_text}
 use Rattle.refute_text.specs.Limits.{greatest_depth, IsRule}
 use Rattle.refute_read.specs.Reader.{behind, by_front, number_at}
 use Rattle.refute_read.specs.TermReader.{term_at}
@@ -71,17 +71,17 @@ instance_reads bs rule r h =
     regroup : (i u r : List ℕ) → codes "All+(" ++ (i ++ (codes ";" ++ (u ++ (codes ")" ++ r)))) ≡ (codes "All+(" ++ (i ++ (codes ";" ++ (u ++ codes ")")))) ++ r
     regroup i u r = simp append_assoc
 
-predicate_reads : (bs : List ℕ) (rule : RuleTree) (r : List ℕ) → predicate_at bs ≡ Some (rule, r) → RuleStands (codes "Cho(" ++ bs) rule r
-predicate_reads bs rule r h =
+predicate_reads : (name : OfPredicate) (bs : List ℕ) (rule : RuleTree) (r : List ℕ) → predicate_at name bs ≡ Some (rule, r) → RuleStands ((predicate_name name ++ codes "(") ++ bs) rule r
+predicate_reads name bs rule r h =
     bind_sound (term_at greatest_depth bs) _ (rule, r) h (λ f at h1.
-    bind_sound (behind (codes ")") f.1) (λ end. found (with_predicate f.0) end) (rule, r) h1 (λ end at1 h2.
+    bind_sound (behind (codes ")") f.1) (λ end. found (with_predicate name f.0) end) (rule, r) h1 (λ end at1 h2.
     let t = term_reads greatest_depth bs f.0 f.1 at in
-    rule_stands (codes "Cho(" ++ bs) (with_predicate f.0) rule end r
-    (ap (λ x. codes "Cho(" ++ x) (t.text ∙ ap (λ x. term_text f.0 ++ x) (behind_some (codes ")") f.1 end at1)) ∙ regroup (term_text f.0) end)
+    rule_stands ((predicate_name name ++ codes "(") ++ bs) (with_predicate name f.0) rule end r
+    (ap (λ x. (predicate_name name ++ codes "(") ++ x) (t.text ∙ ap (λ x. term_text f.0 ++ x) (behind_some (codes ")") f.1 end at1)) ∙ regroup (predicate_name name) (term_text f.0) end)
     (record { is_term = t.is_term; within = t.within }) h2))
   where
-    regroup : (f r : List ℕ) → codes "Cho(" ++ (f ++ (codes ")" ++ r)) ≡ (codes "Cho(" ++ (f ++ codes ")")) ++ r
-    regroup f r = simp append_assoc
+    regroup : (n f r : List ℕ) → (n ++ codes "(") ++ (f ++ (codes ")" ++ r)) ≡ (n ++ (codes "(" ++ (f ++ codes ")"))) ++ r
+    regroup n f r = simp append_assoc
 
 cut_reads : (bs : List ℕ) (rule : RuleTree) (r : List ℕ) → cut_at bs ≡ Some (rule, r) → RuleStands (codes "Cut(" ++ bs) rule r
 cut_reads bs rule r h =
@@ -123,6 +123,7 @@ rule_reads bs rule r h =
     (λ h1. named_reads (codes "Mat(") bs (two_places_at Mat) _ rule r h1 (reads Mat)
     (λ h2. named_reads (codes "Con(") bs (two_places_at Con) _ rule r h2 (reads Con)
     (λ h3. named_reads (codes "All+(") bs instance_at _ rule r h3 (λ rest k. instance_reads rest rule r k)
-    (λ h4. named_reads (codes "Cho(") bs predicate_at _ rule r h4 (λ rest k. predicate_reads rest rule r k)
-    (λ h5. named_reads (codes "Cut(") bs cut_at (one_place_rule_at bs) rule r h5 (λ rest k. cut_reads rest rule r k)
-    (λ k. one_place_rule_reads bs rule r k))))))
+    (λ h4. named_reads (codes "Cho(") bs (predicate_at Cho) _ rule r h4 (λ rest k. predicate_reads Cho rest rule r k)
+    (λ h5. named_reads (codes "Des(") bs (predicate_at Des) _ rule r h5 (λ rest k. predicate_reads Des rest rule r k)
+    (λ h6. named_reads (codes "Cut(") bs cut_at (one_place_rule_at bs) rule r h6 (λ rest k. cut_reads rest rule r k)
+    (λ k. one_place_rule_reads bs rule r k)))))))

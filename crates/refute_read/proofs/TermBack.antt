@@ -1,6 +1,6 @@
 -- The texts of terms are read back.
 use Rattle.std.proofs.Common.{◌≡◌, ℕ, zero, suc, ◌^◌, ◌<◌, ◌≤◌, true, List, [], ◌∷◌, ◌++◌, Some, length, codes, decimal, refl, sym, ap, subst, ◌∙◌, append_assoc, arith}
-use Rattle.refute_text.specs.Trees.{TypeTree, ConstantTree, name, witness, falsity, negation, implication, all, equality, choice, TermTree, bound, constant, lam, app}
+use Rattle.refute_text.specs.Trees.{TypeTree, ConstantTree, name, witness, falsity, negation, implication, all, equality, choice, description, TermTree, bound, constant, lam, app}
 use Rattle.refute_text.specs.TreeSizes.{applied}
 use Rattle.refute_text.specs.Text.{type_text, term_text}
 use Rattle.refute_text.specs.Limits.{IsType, type_depth, IsTerm, IsSpine, term_depth, spine_depth}
@@ -46,6 +46,7 @@ head_at-text depth (constant implication) rest head is within stop = refl
 head_at-text depth (constant (all a)) rest head is within stop = bracketed_back all depth a rest is within
 head_at-text depth (constant (equality a)) rest head is within stop = bracketed_back equality depth a rest is within
 head_at-text depth (constant (choice a)) rest head is within stop = bracketed_back choice depth a rest is within
+head_at-text depth (constant (description a)) rest head is within stop = bracketed_back description depth a rest is within
 head_at-text depth (lam a s) rest head is within stop = absurd head
 head_at-text depth (app s u) rest head is within stop = absurd head
 
@@ -144,6 +145,7 @@ leaf_back f g other (constant implication) rest head is e = e
 leaf_back f g other (constant (all a)) rest head is e = e
 leaf_back f g other (constant (equality a)) rest head is e = e
 leaf_back f g other (constant (choice a)) rest head is e = e
+leaf_back f g other (constant (description a)) rest head is e = e
 leaf_back f g other (lam a s) rest head is e = absurd head
 leaf_back f g other (app s u) rest head is e = absurd head
 

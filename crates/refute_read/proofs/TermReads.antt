@@ -1,6 +1,6 @@
 -- The terms that are read stand at the front of the bytes.
 use Rattle.std.proofs.Common.{◌≡◌, ℕ, zero, suc, ◌^◌, ◌<◌, ◌≤◌, List, [], ◌∷◌, ◌++◌, Option, Some, None, length, codes, decimal, refl, sym, ap, ap₂, subst, ◌∙◌, append_assoc, arith, length-append}
-use Rattle.refute_text.specs.Trees.{TypeTree, ConstantTree, name, witness, falsity, negation, implication, all, equality, choice, TermTree, bound, constant, lam}
+use Rattle.refute_text.specs.Trees.{TypeTree, ConstantTree, name, witness, falsity, negation, implication, all, equality, choice, description, TermTree, bound, constant, lam}
 use Rattle.refute_text.specs.Text.{type_text, constant_text, term_text}
 use Rattle.refute_text.specs.Limits.{IsType, type_depth, IsConstant, constant_depth, IsTerm, term_depth}
 use Rattle.refute_text.specs.TreeSizes.{applied}
@@ -101,7 +101,9 @@ dollar_reads depth bs t r h =
     (λ rest at k. subst P (sym (behind_some (codes "eq[") bs rest at)) (bracketed_reads depth equality (codes "$eq[") rest t r (λ a. (refl, (λ i. i, refl))) k))
     (λ h6. front_sound (behind (codes "eps[") bs) _ _ (t, r) h6
     (λ rest at k. subst P (sym (behind_some (codes "eps[") bs rest at)) (bracketed_reads depth choice (codes "$eps[") rest t r (λ a. (refl, (λ i. i, refl))) k))
-    (λ h7. cc)))))))
+    (λ h7. front_sound (behind (codes "the[") bs) _ _ (t, r) h7
+    (λ rest at k. subst P (sym (behind_some (codes "the[") bs rest at)) (bracketed_reads depth description (codes "$the[") rest t r (λ a. (refl, (λ i. i, refl))) k))
+    (λ h8. cc))))))))
 
 pub head_reads : (depth : ℕ) (bs : List ℕ) (t : TermTree) (r : List ℕ) → head_at depth bs ≡ Some (t, r) → HeadStands depth bs t r
 unfolding head_at

@@ -2,7 +2,7 @@
 use Rattle.std.specs.Prelude.{ℕ, ◌==◌, ◌^◌, length, Bool, true, false, List, [], ◌∷◌, codes, Option, Some, None, if◌then◌else◌}
 use Rattle.stt_tableau.specs.declared.refutation.Child.{Child}
 use Rattle.stt_tableau.specs.declared.refutation.Child.TheVariants.{Closed, Line as Numbered}
-use Rattle.refute_text.specs.Trees.{TermTree, LiteralTree, OnePlace, False, Refl, ImpPos, ImpNeg, BoolPos, BoolNeg, FunPos, FunNeg, AllNeg, Dec, TwoPlaces, Close, Mat, Con, RuleTree, at_one, at_two, with_instance, with_predicate, with_cut, LineTree}
+use Rattle.refute_text.specs.Trees.{TermTree, LiteralTree, OnePlace, False, Refl, ImpPos, ImpNeg, BoolPos, BoolNeg, FunPos, FunNeg, AllNeg, Dec, TwoPlaces, Close, Mat, Con, OfPredicate, Cho, Des, RuleTree, at_one, at_two, with_instance, with_predicate, with_cut, LineTree}
 use Rattle.refute_text.specs.Limits.{is_negated, greatest_depth}
 use Rattle.refute_read.specs.Reader.{◌>>=◌, behind, by_front, number_at, repeated_at, with_items}
 use Rattle.refute_read.specs.TermReader.{term_at}
@@ -72,11 +72,11 @@ instance_at bytes = do
   rest ← behind (codes ")") u.1
   Some (with_instance i.0 u.0, rest)
 
-abbrev pub predicate_at : List ℕ → RuleAt
-predicate_at bytes = do
+abbrev pub predicate_at : OfPredicate → List ℕ → RuleAt
+predicate_at rule bytes = do
   f ← term_at greatest_depth bytes
   rest ← behind (codes ")") f.1
-  Some (with_predicate f.0, rest)
+  Some (with_predicate rule f.0, rest)
 
 abbrev pub cut_at : List ℕ → RuleAt
 cut_at bytes = do
@@ -103,8 +103,9 @@ rule_at bytes =
     (by_front (behind (codes "Mat(") bytes) (two_places_at Mat)
     (by_front (behind (codes "Con(") bytes) (two_places_at Con)
     (by_front (behind (codes "All+(") bytes) instance_at
-    (by_front (behind (codes "Cho(") bytes) predicate_at
-    (by_front (behind (codes "Cut(") bytes) cut_at (one_place_rule_at bytes))))))
+    (by_front (behind (codes "Cho(") bytes) (predicate_at Cho)
+    (by_front (behind (codes "Des(") bytes) (predicate_at Des)
+    (by_front (behind (codes "Cut(") bytes) cut_at (one_place_rule_at bytes)))))))
 
 -- a number that is the wanted one
 abbrev pub where_number : ℕ → Option (ℕ × List ℕ) → Option (List ℕ)

@@ -1,6 +1,6 @@
 -- How the reader of terms goes.
 use Rattle.std.specs.Prelude.{ℕ, zero, suc, ◌^◌, length, List, [], ◌∷◌, codes, Option, Some, None}
-use Rattle.refute_text.specs.Trees.{TypeTree, ConstantTree, name, witness, falsity, negation, implication, all, equality, choice, TermTree, bound, constant, lam}
+use Rattle.refute_text.specs.Trees.{TypeTree, ConstantTree, name, witness, falsity, negation, implication, all, equality, choice, description, TermTree, bound, constant, lam}
 use Rattle.refute_text.specs.TreeSizes.{applied}
 use Rattle.refute_read.specs.Reader.{◌>>=◌, behind, by_front, number_at, name_at, type_at, repeated_at}
 
@@ -43,7 +43,8 @@ dollar_head_at depth bytes =
     (by_front (behind (codes "w") bytes) (counted_at (λ k. constant (witness k)))
     (by_front (behind (codes "all[") bytes) (bracketed_at all depth)
     (by_front (behind (codes "eq[") bytes) (bracketed_at equality depth)
-    (by_front (behind (codes "eps[") bytes) (bracketed_at choice depth) None))))))
+    (by_front (behind (codes "eps[") bytes) (bracketed_at choice depth)
+    (by_front (behind (codes "the[") bytes) (bracketed_at description depth) None)))))))
 
 unfoldable pub head_at : ℕ → List ℕ → TermAt
 head_at depth bytes =

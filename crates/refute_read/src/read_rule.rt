@@ -2,6 +2,7 @@
 
 ghost use Rattle.std.specs.Prelude.{◌≡◌, ◌^◌};
 ghost use Rattle.refute_text.specs.Limits.{is_negated};
+ghost use Rattle.refute_text.specs.Trees.{Cho, Des};
 ghost use Rattle.refute_read.specs.Reader.{number_at};
 ghost use Rattle.refute_read.specs.LineReader.{signed_at, literal_at, place_at, places_at, instance_at, predicate_at, cut_at, one_place_rule_at, rule_at};
 ghost use Rattle.refute_read.specs.Refusals.{Answers};
@@ -187,13 +188,24 @@ fn instance(alloc: Global, bytes: &[u8]) -> Result<RuleRead<'_>, Refusal>
     })
 }
 
-fn predicate(alloc: Global, bytes: &[u8]) -> Result<RuleRead<'_>, Refusal>
-    ensures { Answers (λ r. (the_rule r.rule, r.rest.now)) result (predicate_at bytes.now) }
+fn choice(alloc: Global, bytes: &[u8]) -> Result<RuleRead<'_>, Refusal>
+    ensures { Answers (λ r. (the_rule r.rule, r.rest.now)) result (predicate_at Cho bytes.now) }
 {
     let term = read_term(alloc, DEPTH, bytes)?;
     let rest = expect(b")", term.rest)?;
     Ok(RuleRead {
         rule: TextRule::Cho(term.term),
+        rest,
+    })
+}
+
+fn description(alloc: Global, bytes: &[u8]) -> Result<RuleRead<'_>, Refusal>
+    ensures { Answers (λ r. (the_rule r.rule, r.rest.now)) result (predicate_at Des bytes.now) }
+{
+    let term = read_term(alloc, DEPTH, bytes)?;
+    let rest = expect(b")", term.rest)?;
+    Ok(RuleRead {
+        rule: TextRule::Des(term.term),
         rest,
     })
 }
@@ -226,7 +238,9 @@ pub(crate) fn read_rule(alloc: Global, bytes: &[u8]) -> Result<RuleRead<'_>, Ref
     } else if let Some(rest) = behind(b"All+(", bytes) {
         return instance(alloc, rest);
     } else if let Some(rest) = behind(b"Cho(", bytes) {
-        return predicate(alloc, rest);
+        return choice(alloc, rest);
+    } else if let Some(rest) = behind(b"Des(", bytes) {
+        return description(alloc, rest);
     } else if let Some(rest) = behind(b"Cut(", bytes) {
         return cut(alloc, rest);
     } else {

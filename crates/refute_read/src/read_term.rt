@@ -1,7 +1,7 @@
 //! Reads terms.
 
 ghost use Rattle.std.specs.Prelude.{◌≡◌, ◌<◌, ◌^◌, option_map, IfSome, length};
-ghost use Rattle.refute_text.specs.Trees.{bound, constant, witness, all, equality, choice};
+ghost use Rattle.refute_text.specs.Trees.{bound, constant, witness, all, equality, choice, description};
 ghost use Rattle.refute_read.specs.Reader.{number_at, type_at};
 ghost use Rattle.refute_read.specs.TermReader.{named_head_at, bracketed_at, bracketed_type_at, dollar_head_at, head_at, arguments_at, application_at, lambda_at, term_at};
 ghost use Rattle.refute_read.specs.Refusals.{Answers};
@@ -85,6 +85,9 @@ fn dollar_head(alloc: Global, depth: u32, bytes: &[u8]) -> Result<HeadRead<'_>, 
     } else if let Some(rest) = behind(b"eps[", bytes) {
         let read = bracketed(alloc, depth, rest)?;
         (TextHead::Choice(read.ty), read.rest)
+    } else if let Some(rest) = behind(b"the[", bytes) {
+        let read = bracketed(alloc, depth, rest)?;
+        (TextHead::Desc(read.ty), read.rest)
     } else {
         return Err(Refusal::Form);
     };

@@ -100,3 +100,4 @@ leaf_head head.Imp = tt
 leaf_head (head.All a) = tt
 leaf_head (head.Eq a) = tt
 leaf_head (head.Choice a) = tt
+leaf_head (head.Desc a) = tt

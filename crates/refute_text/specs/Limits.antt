@@ -4,7 +4,7 @@ use Rattle.std.specs.List.{AllByRecursion}
 use Rattle.stt_tableau.specs.declared.refutation.Child.{Child}
 use Rattle.stt_tableau.specs.declared.refutation.Child.TheVariants.{Closed, Line as Numbered}
 use Rattle.refute_text.specs.Letters.{is_name}
-use Rattle.refute_text.specs.Trees.{TypeTree, formula, individual, named, arrow, ConstantTree, name, witness, falsity, negation, implication, all, equality, choice, TermTree, bound, constant, lam, app, LiteralTree, RuleTree, at_one, at_two, with_instance, with_predicate, with_cut, LineTree}
+use Rattle.refute_text.specs.Trees.{TypeTree, formula, individual, named, arrow, ConstantTree, name, witness, falsity, negation, implication, all, equality, choice, description, TermTree, bound, constant, lam, app, LiteralTree, RuleTree, at_one, at_two, with_instance, with_predicate, with_cut, LineTree}
 
 -- the greatest number of parentheses that are open at once
 abbrev pub type_depth : TypeTree → ℕ
@@ -22,6 +22,7 @@ constant_depth implication = 0
 constant_depth (all a) = suc (type_depth a)
 constant_depth (equality a) = suc (type_depth a)
 constant_depth (choice a) = suc (type_depth a)
+constant_depth (description a) = suc (type_depth a)
 
 abbrev mutual
   -- the greatest number of parentheses, brackets and functions that are open at once
@@ -53,6 +54,7 @@ IsConstant implication = Unit {0}
 IsConstant (all a) = IsType a
 IsConstant (equality a) = IsType a
 IsConstant (choice a) = IsType a
+IsConstant (description a) = IsType a
 
 abbrev mutual
   pub IsTerm : TermTree → Type 0
@@ -94,7 +96,7 @@ abbrev pub IsRule : RuleTree → Type 0
 IsRule (at_one r i) = i < 2 ^ 64
 IsRule (at_two r i j) = (i < 2 ^ 64) × (j < 2 ^ 64)
 IsRule (with_instance i u) = (i < 2 ^ 64) × IsWithin u
-IsRule (with_predicate f) = IsWithin f
+IsRule (with_predicate r f) = IsWithin f
 IsRule (with_cut l) = IsLiteral l
 
 abbrev pub IsChild : Child → Type 0

@@ -1,5 +1,5 @@
 -- The lines of the code as plain trees.
-use Rattle.refute_text.specs.Trees.{False, Refl, ImpPos, ImpNeg, BoolPos, BoolNeg, FunPos, FunNeg, AllNeg, Dec, Close, Mat, Con, RuleTree, at_one, at_two, with_instance, with_predicate, with_cut}
+use Rattle.refute_text.specs.Trees.{False, Refl, ImpPos, ImpNeg, BoolPos, BoolNeg, FunPos, FunNeg, AllNeg, Dec, Close, Mat, Con, Cho, Des, RuleTree, at_one, at_two, with_instance, with_predicate, with_cut}
 use Rattle.refute_text.specs.declared.line.TextRule.{TextRule}
 use Rattle.refute_text.specs.declared.line.TextRule.TheVariants as rule
 
@@ -18,5 +18,6 @@ the_rule (rule.AllNeg i) = at_one AllNeg i
 the_rule (rule.Mat i j) = at_two Mat i j
 the_rule (rule.Dec i) = at_one Dec i
 the_rule (rule.Con i j) = at_two Con i j
-the_rule (rule.Cho f) = with_predicate f
+the_rule (rule.Cho f) = with_predicate Cho f
+the_rule (rule.Des f) = with_predicate Des f
 the_rule (rule.Cut l) = with_cut l

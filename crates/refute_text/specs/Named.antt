@@ -1,7 +1,7 @@
 -- A refutation with the names of a signature in place of their numbers.
 use Rattle.std.specs.Prelude.{ℕ, zero, suc, ◌<◌, List, [], ◌∷◌, map, length, slice_get, unwrap_or, IsTrue}
 use Rattle.stt_core.specs.SimpleType.{SimpleType, base, arrow, is_declared}
-use Rattle.stt_core.specs.Lambda.{Constant, name, witness, falsity, negation, implication, all, equality, choice, Lambda, bound, constant, lam, app}
+use Rattle.stt_core.specs.Lambda.{Constant, name, witness, falsity, negation, implication, all, equality, choice, description, Lambda, bound, constant, lam, app}
 use Rattle.stt_core.specs.TypedName.{TypedName}
 use Rattle.stt_tableau.specs.Literals.{Literal}
 use Rattle.stt_tableau.specs.Witnesses.{Row}
@@ -38,6 +38,7 @@ named_constant names implication = tree.implication
 named_constant names (all a) = tree.all (named_type names a)
 named_constant names (equality a) = tree.equality (named_type names a)
 named_constant names (choice a) = tree.choice (named_type names a)
+named_constant names (description a) = tree.description (named_type names a)
 
 abbrev pub named_term : Names → Lambda → TermTree
 named_term names (bound k) = tree.bound k
@@ -63,7 +64,8 @@ named_rule names (rule.AllNeg i) = tree.at_one tree.AllNeg i
 named_rule names (rule.Mat i j) = tree.at_two tree.Mat i j
 named_rule names (rule.Dec i) = tree.at_one tree.Dec i
 named_rule names (rule.Con i j) = tree.at_two tree.Con i j
-named_rule names (rule.Cho f) = tree.with_predicate (named_term names f)
+named_rule names (rule.Cho f) = tree.with_predicate tree.Cho (named_term names f)
+named_rule names (rule.Des f) = tree.with_predicate tree.Des (named_term names f)
 named_rule names (rule.Cut l) = tree.with_cut (named_literal names l)
 
 abbrev pub named_line : Names → Line → LineTree
@@ -93,6 +95,7 @@ HasConstantNames names implication = Unit {0}
 HasConstantNames names (all a) = HasTypeNames names a
 HasConstantNames names (equality a) = HasTypeNames names a
 HasConstantNames names (choice a) = HasTypeNames names a
+HasConstantNames names (description a) = HasTypeNames names a
 
 abbrev pub HasNames : Names → Lambda → Type 0
 HasNames names (bound k) = Unit {0}
@@ -120,6 +123,7 @@ HasRuleNames names (rule.Mat i j) = Unit {0}
 HasRuleNames names (rule.Dec i) = Unit {0}
 HasRuleNames names (rule.Con i j) = Unit {0}
 HasRuleNames names (rule.Cho f) = HasNames names f
+HasRuleNames names (rule.Des f) = HasNames names f
 HasRuleNames names (rule.Cut l) = HasNames names l.atom
 
 pub record HasLineNames (names : Names) (line : Line) : Type 0 where

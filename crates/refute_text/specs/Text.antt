@@ -3,7 +3,7 @@ use Rattle.std.specs.Prelude.{ℕ, suc, Bool, true, false, List, [], ◌∷◌, 
 use Rattle.stt_tableau.specs.declared.refutation.Child.{Child}
 use Rattle.stt_tableau.specs.declared.refutation.Child.TheVariants.{Closed, Line as Numbered}
 use Rattle.refute_text.specs.Letters.{name_text}
-use Rattle.refute_text.specs.Trees.{TypeTree, formula, individual, named, arrow, ConstantTree, name, witness, falsity, negation, implication, all, equality, choice, TermTree, bound, constant, lam, app, LiteralTree, OnePlace, False, Refl, ImpPos, ImpNeg, BoolPos, BoolNeg, FunPos, FunNeg, AllNeg, Dec, TwoPlaces, Close, Mat, Con, RuleTree, at_one, at_two, with_instance, with_predicate, with_cut, LineTree, RefutationTree}
+use Rattle.refute_text.specs.Trees.{TypeTree, formula, individual, named, arrow, ConstantTree, name, witness, falsity, negation, implication, all, equality, choice, description, TermTree, bound, constant, lam, app, LiteralTree, OnePlace, False, Refl, ImpPos, ImpNeg, BoolPos, BoolNeg, FunPos, FunNeg, AllNeg, Dec, TwoPlaces, Close, Mat, Con, OfPredicate, Cho, Des, RuleTree, at_one, at_two, with_instance, with_predicate, with_cut, LineTree, RefutationTree}
 
 abbrev pub type_text : TypeTree → List ℕ
 type_text formula = codes "$o"
@@ -20,6 +20,7 @@ constant_text implication = codes "$imp"
 constant_text (all a) = codes "$all[" ++ (type_text a ++ codes "]")
 constant_text (equality a) = codes "$eq[" ++ (type_text a ++ codes "]")
 constant_text (choice a) = codes "$eps[" ++ (type_text a ++ codes "]")
+constant_text (description a) = codes "$the[" ++ (type_text a ++ codes "]")
 
 abbrev mutual
   pub term_text : TermTree → List ℕ
@@ -73,11 +74,15 @@ two_places_name Close = codes "Close"
 two_places_name Mat = codes "Mat"
 two_places_name Con = codes "Con"
 
+abbrev pub predicate_name : OfPredicate → List ℕ
+predicate_name Cho = codes "Cho"
+predicate_name Des = codes "Des"
+
 abbrev pub rule_text : RuleTree → List ℕ
 rule_text (at_one r i) = one_place_name r ++ (codes "(" ++ (decimal i ++ codes ")"))
 rule_text (at_two r i j) = two_places_name r ++ (codes "(" ++ (decimal i ++ (codes "," ++ (decimal j ++ codes ")"))))
 rule_text (with_instance i u) = codes "All+(" ++ (decimal i ++ (codes ";" ++ (term_text u ++ codes ")")))
-rule_text (with_predicate f) = codes "Cho(" ++ (term_text f ++ codes ")")
+rule_text (with_predicate r f) = predicate_name r ++ (codes "(" ++ (term_text f ++ codes ")"))
 rule_text (with_cut l) = codes "Cut(" ++ (literal_text l ++ codes ")")
 
 -- the line of a witness row, by its number

@@ -3,7 +3,7 @@
 use Rattle.std.specs.Prelude.{◌≡◌, ℕ, zero, suc, List, [], ◌∷◌, refl}
 use Rattle.std.proofs.Common.{ap, ◌∙◌}
 use Rattle.std.specs.Coded.{Coded, code_by, coded_ℕ, coded_list, coded×}
-use Rattle.refute_text.specs.Trees.{TypeTree, formula, individual, named, arrow, ConstantTree, name, witness, falsity, negation, implication, all, equality, choice, TermTree, bound, constant, lam, app}
+use Rattle.refute_text.specs.Trees.{TypeTree, formula, individual, named, arrow, ConstantTree, name, witness, falsity, negation, implication, all, equality, choice, description, TermTree, bound, constant, lam, app}
 
 abbrev pub type_nodes : TypeTree → List (ℕ × List ℕ) → List (ℕ × List ℕ)
 type_nodes formula rest = (0, []) ∷ rest
@@ -53,12 +53,13 @@ constant_node implication = (4, (0, ([], formula)))
 constant_node (all a) = (5, (0, ([], a)))
 constant_node (equality a) = (6, (0, ([], a)))
 constant_node (choice a) = (7, (0, ([], a)))
+constant_node (description a) = (8, (0, ([], a)))
 
 abbrev pub nodes : TermTree → List Node → List Node
 nodes (constant c) rest = constant_node c ∷ rest
-nodes (bound k) rest = (8, (k, ([], formula))) ∷ rest
-nodes (lam a s) rest = nodes s ((9, (0, ([], a))) ∷ rest)
-nodes (app s u) rest = nodes s (nodes u ((10, (0, ([], formula))) ∷ rest))
+nodes (bound k) rest = (9, (k, ([], formula))) ∷ rest
+nodes (lam a s) rest = nodes s ((10, (0, ([], a))) ∷ rest)
+nodes (app s u) rest = nodes s (nodes u ((11, (0, ([], formula))) ∷ rest))
 
 abbrev pub bind_top : TypeTree → List TermTree → List TermTree
 bind_top a [] = []
@@ -78,9 +79,10 @@ read_node (suc (suc (suc (suc zero)))) k w a stack = constant implication ∷ st
 read_node (suc (suc (suc (suc (suc zero))))) k w a stack = constant (all a) ∷ stack
 read_node (suc (suc (suc (suc (suc (suc zero)))))) k w a stack = constant (equality a) ∷ stack
 read_node (suc (suc (suc (suc (suc (suc (suc zero))))))) k w a stack = constant (choice a) ∷ stack
-read_node (suc (suc (suc (suc (suc (suc (suc (suc zero)))))))) k w a stack = bound k ∷ stack
-read_node (suc (suc (suc (suc (suc (suc (suc (suc (suc zero))))))))) k w a stack = bind_top a stack
-read_node (suc (suc (suc (suc (suc (suc (suc (suc (suc (suc n)))))))))) k w a stack = join_top stack
+read_node (suc (suc (suc (suc (suc (suc (suc (suc zero)))))))) k w a stack = constant (description a) ∷ stack
+read_node (suc (suc (suc (suc (suc (suc (suc (suc (suc zero))))))))) k w a stack = bound k ∷ stack
+read_node (suc (suc (suc (suc (suc (suc (suc (suc (suc (suc zero)))))))))) k w a stack = bind_top a stack
+read_node (suc (suc (suc (suc (suc (suc (suc (suc (suc (suc (suc n))))))))))) k w a stack = join_top stack
 
 abbrev pub read_nodes : List Node → List TermTree → List TermTree
 read_nodes [] stack = stack
@@ -99,12 +101,13 @@ read_constant_node implication rest stack = refl
 read_constant_node (all a) rest stack = refl
 read_constant_node (equality a) rest stack = refl
 read_constant_node (choice a) rest stack = refl
+read_constant_node (description a) rest stack = refl
 
 pub read-nodes : (t : TermTree) (rest : List Node) (stack : List TermTree) → read_nodes (nodes t rest) stack ≡ read_nodes rest (t ∷ stack)
 read-nodes (constant c) rest stack = read_constant_node c rest stack
 read-nodes (bound k) rest stack = refl
-read-nodes (lam a s) rest stack = read-nodes s ((9, (0, ([], a))) ∷ rest) stack
-read-nodes (app s u) rest stack = read-nodes s (nodes u ((10, (0, ([], formula))) ∷ rest)) stack ∙ read-nodes u ((10, (0, ([], formula))) ∷ rest) (s ∷ stack)
+read-nodes (lam a s) rest stack = read-nodes s ((10, (0, ([], a))) ∷ rest) stack
+read-nodes (app s u) rest stack = read-nodes s (nodes u ((11, (0, ([], formula))) ∷ rest)) stack ∙ read-nodes u ((11, (0, ([], formula))) ∷ rest) (s ∷ stack)
 
 abbrev pub term_tree_code : Coded TermTree
 term_tree_code =

@@ -1,9 +1,9 @@
 -- The terms of the code as plain trees.
-use Rattle.refute_text.specs.Trees.{TermTree, bound, constant, lam, name, witness, falsity, negation, implication, all, equality, choice}
+use Rattle.refute_text.specs.Trees.{TermTree, bound, constant, lam, name, witness, falsity, negation, implication, all, equality, choice, description}
 use Rattle.refute_text.specs.TreeSizes.{applied}
 use Rattle.refute_text.specs.View.{the_type}
 use Rattle.refute_text.specs.declared.tree.TextHead.{TextHead}
-use Rattle.refute_text.specs.declared.tree.TextHead.TheVariants.{Bound, Name, Wit, False, Not, Imp, All, Eq, Choice}
+use Rattle.refute_text.specs.declared.tree.TextHead.TheVariants.{Bound, Name, Wit, False, Not, Imp, All, Eq, Choice, Desc}
 use Rattle.refute_text.specs.declared.tree.TextNode.{TextNode}
 use Rattle.refute_text.specs.declared.tree.TextNode.TheVariants.{Lam, App}
 
@@ -17,6 +17,7 @@ the_head Imp = constant implication
 the_head (All a) = constant (all (the_type a))
 the_head (Eq a) = constant (equality (the_type a))
 the_head (Choice a) = constant (choice (the_type a))
+the_head (Desc a) = constant (description (the_type a))
 
 abbrev pub the_node : TextNode → TermTree
 the_node (Lam a s) = lam (the_type a) s.value

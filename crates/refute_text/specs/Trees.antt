@@ -10,7 +10,7 @@ pub data TypeTree : Type 0 where
   arrow : TypeTree → TypeTree → TypeTree
 
 -- a constant by its name, a witness by its number, falsity, negation, implication, and for each type the quantifier over it, the
--- equality on it and the choice from it
+-- equality on it, the choice from it and the description of its values
 pub data ConstantTree : Type 0 where
   name : List ℕ → ConstantTree
   witness : ℕ → ConstantTree
@@ -20,6 +20,7 @@ pub data ConstantTree : Type 0 where
   all : TypeTree → ConstantTree
   equality : TypeTree → ConstantTree
   choice : TypeTree → ConstantTree
+  description : TypeTree → ConstantTree
 
 -- a bound variable, which counts the binders between it and its own, a constant, a function, whose argument has the given type, or an
 -- application
@@ -34,7 +35,7 @@ pub record LiteralTree : Type 0 where
   pub positive : Bool
   pub atom : TermTree
 
--- the rules whose instances are given by one place of the branch, and by two
+-- the rules whose instances are given by one place of the branch, by two, and by a predicate
 pub data OnePlace : Type 0 where
   False : OnePlace
   Refl : OnePlace
@@ -52,12 +53,16 @@ pub data TwoPlaces : Type 0 where
   Mat : TwoPlaces
   Con : TwoPlaces
 
+pub data OfPredicate : Type 0 where
+  Cho : OfPredicate
+  Des : OfPredicate
+
 -- a rule with what its instance takes: places of the branch, which count from 0, a term or a literal
 pub data RuleTree : Type 0 where
   at_one : OnePlace → ℕ → RuleTree
   at_two : TwoPlaces → ℕ → ℕ → RuleTree
   with_instance : ℕ → TermTree → RuleTree
-  with_predicate : TermTree → RuleTree
+  with_predicate : OfPredicate → TermTree → RuleTree
   with_cut : LiteralTree → RuleTree
 
 pub record LineTree : Type 0 where

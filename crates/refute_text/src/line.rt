@@ -94,6 +94,7 @@ pub enum TextRule {
     Dec(usize),
     Con(usize, usize),
     Cho(TextTerm),
+    Des(TextTerm),
     Cut(TextLit),
 }
 

@@ -27,6 +27,7 @@ pub enum TextHead {
     All(TextTy),
     Eq(TextTy),
     Choice(TextTy),
+    Desc(TextTy),
 }
 
 /// A term. Contracts see it as the plain tree that it is.

@@ -66,14 +66,20 @@ fn write_instance<S: Sink>(
     Ok(())
 }
 
-fn write_choice<S: Sink>(sink: &mut S, sig: &Signature, predicate: &Nf) -> Result<(), Failed>
+/// Writes a rule that takes a predicate.
+fn write_predicate<S: Sink>(
+    sink: &mut S,
+    sig: &Signature,
+    rule: &[u8],
+    predicate: &Nf,
+) -> Result<(), Failed>
     requires { HasNames (names_of sig.now.bases sig.now.consts) predicate.now }
     ensures took { OnOk result (Took S.tells S.written S.faults sink.old sink.new
-        (codes "Cho(" ++ (term_text (named_term (names_of sig.now.bases sig.now.consts) predicate.now) ++ codes ")"))) }
+        (rule.now ++ (term_text (named_term (names_of sig.now.bases sig.now.consts) predicate.now) ++ codes ")"))) }
     ensures stopped { OnErr result (Stopped S.tells S.written S.faults sink.old sink.new
-        (codes "Cho(" ++ (term_text (named_term (names_of sig.now.bases sig.now.consts) predicate.now) ++ codes ")"))) }
+        (rule.now ++ (term_text (named_term (names_of sig.now.bases sig.now.consts) predicate.now) ++ codes ")"))) }
 {
-    write(sink, b"Cho(")?;
+    write(sink, rule)?;
     write_term(sink, sig, predicate)?;
     write(sink, b")")?;
     Ok(())
@@ -119,7 +125,8 @@ pub(crate) fn write_rule<S: Sink>(
         RuleUse::Mat(i, j) => write_two_places(sink, b"Mat(", *i, *j)?,
         RuleUse::Dec(i) => write_numbered(sink, b"Dec(", *i, b")")?,
         RuleUse::Con(i, j) => write_two_places(sink, b"Con(", *i, *j)?,
-        RuleUse::Cho(predicate) => write_choice(sink, sig, predicate)?,
+        RuleUse::Cho(predicate) => write_predicate(sink, sig, b"Cho(", predicate)?,
+        RuleUse::Des(predicate) => write_predicate(sink, sig, b"Des(", predicate)?,
         RuleUse::Cut(lit) => write_cut(sink, sig, lit)?,
     }
     Ok(())

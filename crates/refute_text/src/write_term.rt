@@ -89,6 +89,7 @@ fn write_head<S: Sink>(sink: &mut S, sig: &Signature, head: &Head) -> Result<(),
         Head::All(a) => write_around_type(sink, sig, b"$all[", a, b"]")?,
         Head::Eq(a) => write_around_type(sink, sig, b"$eq[", a, b"]")?,
         Head::Choice(a) => write_around_type(sink, sig, b"$eps[", a, b"]")?,
+        Head::Desc(a) => write_around_type(sink, sig, b"$the[", a, b"]")?,
     }
     Ok(())
 }

@@ -11,12 +11,12 @@ use Rattle.stt_core.specs.TypedName.{TypedName}
 use Rattle.stt_core.specs.Signature.{symbol_named, first_symbol}
 use Rattle.stt_core.specs.declared.signature.Symbol.{Symbol}
 use Rattle.stt_core.specs.declared.signature.Symbol.TheVariants.{Base, Const}
+use Rattle.stt_core.specs.Declarations.{Declarations}
 use Rattle.thf_syntax.specs.Trees.{FormulaTree, constant as name_tree, variable, truth, operator, negation, binary, equation, application, quantified, binding}
 use Rattle.thf_syntax.specs.declared.formula.Conn.{Conn}
 use Rattle.thf_syntax.specs.declared.formula.Conn.TheVariants as conn
 use Rattle.prover_search.specs.Searched.{IsPropositional}
 use Rattle.type_check.specs.Outcome.{◌>>=◌}
-use Rattle.type_check.specs.Declarations.{Declarations}
 use Rattle.type_check.specs.Typed.{TypedTerm, typed, of_type}
 use Rattle.type_check.specs.Rows.{truth_value, join}
 use Rattle.type_check.specs.Terms.{known, constant_at, constant_named, negated, joined, read_term}

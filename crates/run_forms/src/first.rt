@@ -2,7 +2,6 @@
 
 ghost use Rattle.std.specs.Prelude.{◌≡◌, Ok, IfOk};
 ghost use Rattle.thf_include.specs.View.{the_statements};
-ghost use Rattle.type_check.specs.Checks.{the_problem};
 ghost use Rattle.type_check.specs.Statements.{problem_of};
 ghost use Rattle.run_forms.specs.Forms as defined;
 
@@ -22,8 +21,8 @@ pub fn first_unbuilt(
     problem: &Problem,
     gathered: &Gathered,
 ) -> Result<Option<u32>, AllocError>
-    requires { problem_of (the_statements gathered.now) ≡ Ok (the_problem problem.now) }
-    ensures { IfOk result (λ place. place ≡ defined.first_unbuilt problem.now.signature.consts (the_statements gathered.now)) }
+    requires { problem_of (the_statements gathered.now) ≡ Ok problem.now }
+    ensures { IfOk result (λ place. place ≡ defined.first_unbuilt problem.now.declared.consts (the_statements gathered.now)) }
 {
     match first_unbuilt_shape(gathered) {
         Some(tree) => {

@@ -48,11 +48,6 @@ const ILL: &[(&str, u32, IllWhy)] = &[
         31,
         IllWhy::SecondConjecture,
     ),
-    (
-        "thf(c,conjecture,((@- [X:$i] : (X = X)) = (@- [X:$i] : (X = X)))).",
-        19,
-        IllWhy::LeftOut,
-    ),
     // An ill place comes before every form that isn't run yet.
     (
         "thf(a,axiom,( $true = $true )). thf(b,axiom,q).",

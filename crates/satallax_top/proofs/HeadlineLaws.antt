@@ -2,14 +2,16 @@
 use Rattle.std.proofs.Common.{◌≡◌, ℕ, Bool, true, false, IsTrue, not, ◌||◌, ◌&&◌, ◌==◌, nat_lt, List, [], ◌∷◌, ◌++◌, codes, decimal, Option, Some, None, Ok, unwrap_or, if◌then◌else◌, refl, sym, ap, ap₂, subst, ◌∙◌, append_assoc, append-nil}
 use Rattle.std.specs.List.{list_any}
 use Rattle.std.proofs.lemmas.Bool.{and_parts, eqb-true}
+use Rattle.stt_core.specs.PlainProblem.{PlainProblem, question_of}
+use Rattle.stt_core.specs.TypedProblem.{IsTyped}
+use Rattle.stt_normal.specs.NormalQuestion.{normal_question}
 use Rattle.stt_tableau.specs.Accepted.{IsAccepted}
 use Rattle.stt_tableau.specs.Start.{start}
 use Rattle.stt_tableau.specs.declared.refutation.Refutation.{Refutation}
 use Rattle.stt_tableau.proofs.Soundness.{accepted_closes_start, accepted_refutes}
 use Rattle.thf_include.specs.View.{PlacedTree}
 use Rattle.thf_include.specs.Gathering.{Ending, done, stopped, Stop, wants, too_long, no_tree, cycle, too_many, no_name}
-use Rattle.type_check.specs.Statements.{ReadProblem, problem_of}
-use Rattle.type_check.specs.TypedProblem.{question_of, IsTyped}
+use Rattle.type_check.specs.Statements.{problem_of}
 use Rattle.type_check.proofs.TypedProblems.{problem_of-typed}
 use Rattle.refute_text.specs.Text.{text_lines, as_bytes}
 use Rattle.refute_text.specs.Named.{named_refutation}
@@ -19,7 +21,6 @@ use Rattle.satallax_top.specs.Report.{proof_report, report}
 use Rattle.satallax_top.specs.Words.{is_control, is_file_name, is_option, names_file, asks_check, problem_word, check_word, name_of, text_name_of}
 use Rattle.satallax_top.specs.Files.{OfFiles, Statements, State}
 use Rattle.satallax_top.specs.Runnable.{names_in}
-use Rattle.refute_check.specs.NormalQuestion.{normal_question}
 use Rattle.satallax_top.specs.Answers.{IsProofOf, stop_outcome, AnswersAsked, AnswersEnding, IsAnswer, IsProvedOutcome, IsDefined}
 use Rattle.satallax_top.specs.Headline.{IsWithoutModel, HasNoModel, IsProofReport, Appends, IsWritten}
 use Rattle.satallax_top.specs.declared.outcome.Outcome.{Outcome}
@@ -29,17 +30,17 @@ use Rattle.satallax_top.proofs.LineFeeds.{no_feed-append, decimal_no_feed}
 use Rattle.satallax_top.proofs.ProblemLaws.{start_unnamed, start_met}
 
 -- no model meets a problem for whose start a refutation is accepted
-no_model_of : (p : ReadProblem) (refutation : Refutation) → IsTyped (question_of p) → IsAccepted (question_of p).scope (start (normal_question p)) refutation → IsWithoutModel p
+no_model_of : (p : PlainProblem) (refutation : Refutation) → IsTyped (question_of p) → IsAccepted (question_of p).scope (start (normal_question (question_of p))) refutation → IsWithoutModel p
 no_model_of p refutation typed accepted m good met =
-    accepted_refutes (question_of p).scope (start (normal_question p)) refutation accepted (start_unnamed p typed) m good (start_met p typed m good met)
+    accepted_refutes (question_of p).scope (start (normal_question (question_of p))) refutation accepted (start_unnamed p typed) m good (start_met p typed m good met)
 
 -- a gathering whose statements have a run that is a proof
-pub record EndsProved (n : ℕ) (text : List ℕ) (p : ReadProblem) (ending : Ending) : Type 0 where
+pub record EndsProved (n : ℕ) (text : List ℕ) (p : PlainProblem) (ending : Ending) : Type 0 where
   pub stated : Statements p ending
   pub typed : IsTyped (question_of p)
   pub proof : IsProofOf p n text
 
-ends_proved : (ss : List PlacedTree) (p : ReadProblem) (n : ℕ) (text : List ℕ) → problem_of ss ≡ Ok p → IsProofOf p n text → EndsProved n text p (done ss)
+ends_proved : (ss : List PlacedTree) (p : PlainProblem) (n : ℕ) (text : List ℕ) → problem_of ss ≡ Ok p → IsProofOf p n text → EndsProved n text p (done ss)
 ends_proved ss p n text read proof = record {
   stated = record { statements = ss; gathered = refl; read = read };
   typed = problem_of-typed ss p read;
@@ -71,7 +72,7 @@ accepted_no_stop (too_many file at) e = cc
 accepted_no_stop (no_name file at) e = cc
 
 -- the ending of which a proof is answered
-proved_ending : (checked : Option (List ℕ)) (told : Bool) (contents : List ℕ → Option (List ℕ)) (o : Outcome) (n : ℕ) (text : List ℕ) (ending : Ending) → IsProvedOutcome o → AnswersEnding (AnswersAsked checked told contents o n text) o ending → (p : ReadProblem) × EndsProved n text p ending
+proved_ending : (checked : Option (List ℕ)) (told : Bool) (contents : List ℕ → Option (List ℕ)) (o : Outcome) (n : ℕ) (text : List ℕ) (ending : Ending) → IsProvedOutcome o → AnswersEnding (AnswersAsked checked told contents o n text) o ending → (p : PlainProblem) × EndsProved n text p ending
 proved_ending None told contents Theorem n text (done ss) h a = (a.problem, ends_proved ss a.problem n text a.read a.solved.1)
 proved_ending (Some file) told contents Theorem n text (done ss) h a = absurd a.checked.holds
 proved_ending checked told contents Theorem n text (stopped s) h a = absurd (theorem_no_stop s a)
@@ -81,14 +82,14 @@ proved_ending checked told contents Unsatisfiable n text (stopped s) h a = absur
 proved_ending checked told contents o n text ending h a = absurd h
 
 -- a gathering whose statements have an accepted text
-pub record EndsAccepted (p : ReadProblem) (ending : Ending) : Type 0 where
+pub record EndsAccepted (p : PlainProblem) (ending : Ending) : Type 0 where
   pub stated : Statements p ending
   pub typed : IsTyped (question_of p)
   pub refutation : Refutation
-  pub accepted : IsAccepted (question_of p).scope (start (normal_question p)) refutation
+  pub accepted : IsAccepted (question_of p).scope (start (normal_question (question_of p))) refutation
 
 -- the ending of which an accepted text is answered
-accepted_ending : (checked : Option (List ℕ)) (told : Bool) (contents : List ℕ → Option (List ℕ)) (n : ℕ) (text : List ℕ) (ending : Ending) → AnswersEnding (AnswersAsked checked told contents Accepted n text) Accepted ending → (p : ReadProblem) × EndsAccepted p ending
+accepted_ending : (checked : Option (List ℕ)) (told : Bool) (contents : List ℕ → Option (List ℕ)) (n : ℕ) (text : List ℕ) (ending : Ending) → AnswersEnding (AnswersAsked checked told contents Accepted n text) Accepted ending → (p : PlainProblem) × EndsAccepted p ending
 accepted_ending checked told contents n text (stopped s) a = absurd (accepted_no_stop s a)
 accepted_ending None told contents n text (done ss) a = absurd a.solved
 accepted_ending (Some file) told contents n text (done ss) a = (
@@ -119,7 +120,7 @@ no_model_accepted words told contents o names n text answer e = go (subst (λ x.
 pub record ProvedAnswer (words : List (List ℕ)) (told : Bool) (contents : List ℕ → Option (List ℕ)) (names : List (List ℕ)) (n : ℕ) (text : List ℕ) : Type 0 where
   pub name : List ℕ
   pub named : problem_word words ≡ Some name
-  pub problem : ReadProblem
+  pub problem : PlainProblem
   pub stated : State words told contents names problem
   pub typed : IsTyped (question_of problem)
   pub proof : IsProofOf problem n text
@@ -198,7 +199,7 @@ or_false : (a b : Bool) → a ≡ false → b ≡ false → a || b ≡ false
 or_false a b h k = ap₂ (λ x y. x || y) h k
 
 -- the report of a proof holds the text of its refutation
-holds_proof_report : (status name : List ℕ) (p : ReadProblem) (n : ℕ) (text : List ℕ) (proof : IsProofOf p n text) → has_line_feed name ≡ false → has_line_feed status ≡ false → begins_with start_mark (status ++ name) ≡ false → HoldsText (names_in p) (proof_report status name n text) proof.refutation
+holds_proof_report : (status name : List ℕ) (p : PlainProblem) (n : ℕ) (text : List ℕ) (proof : IsProofOf p n text) → has_line_feed name ≡ false → has_line_feed status ≡ false → begins_with start_mark (status ++ name) ≡ false → HoldsText (names_in p) (proof_report status name n text) proof.refutation
 holds_proof_report status name p n text proof clean plain_status other =
     let lines = text_lines (named_refutation (names_in p) proof.refutation) in
     let before : List (List ℕ) = (status ++ name) ∷ (codes "% commands " ++ decimal n) ∷ [] in
@@ -225,7 +226,7 @@ holds_proof_report status name p n text proof clean plain_status other =
       ends = refl;
     }
 
-holds_report : (o : Outcome) (name : List ℕ) (names : List (List ℕ)) (checked : List ℕ) (p : ReadProblem) (n : ℕ) (text : List ℕ) (proof : IsProofOf p n text) → IsProvedOutcome o → has_line_feed name ≡ false → HoldsText (names_in p) (report o name names checked n text) proof.refutation
+holds_report : (o : Outcome) (name : List ℕ) (names : List (List ℕ)) (checked : List ℕ) (p : PlainProblem) (n : ℕ) (text : List ℕ) (proof : IsProofOf p n text) → IsProvedOutcome o → has_line_feed name ≡ false → HoldsText (names_in p) (report o name names checked n text) proof.refutation
 holds_report Theorem name names checked p n text proof h clean = holds_proof_report (codes "% SZS status Theorem for ") name p n text proof clean refl refl
 holds_report Unsatisfiable name names checked p n text proof h clean = holds_proof_report (codes "% SZS status Unsatisfiable for ") name p n text proof clean refl refl
 holds_report o name names checked p n text proof h clean = absurd h
@@ -249,7 +250,7 @@ proof_reported words told contents o names n text written a h w =
       is_report = w ∙ ap (report o (name_of words) names (text_name_of words) n) q.proof.is_text;
       holds_text = subst (λ x. HoldsText (names_in p) x q.proof.refutation) (sym w) (holds_report o (name_of words) names (text_name_of words) p n text q.proof h (name_of_no_feed words q.name q.named));
       accepted = q.proof.accepted;
-      closed = accepted_closes_start (normal_question p).scope (start (normal_question p)) q.proof.refutation q.proof.accepted;
+      closed = accepted_closes_start (normal_question (question_of p)).scope (start (normal_question (question_of p))) q.proof.refutation q.proof.accepted;
       no_model = no_model_of p q.proof.refutation q.typed q.proof.accepted;
     }
 

@@ -6,7 +6,7 @@ use Rattle.std.proofs.lemmas.Bool.{and_parts, eqb-true}
 use Rattle.std.proofs.lemmas.List.Sums.{list_all-from_AllPass}
 use Rattle.std.proofs.lemmas.Bool.Decides.{nat_tests}
 use Rattle.stt_core.specs.SimpleType.{SimpleType, base, arrow}
-use Rattle.stt_core.specs.Lambda.{Constant, name, witness, falsity, negation, implication, all, equality, choice, Lambda, bound, constant, lam, app}
+use Rattle.stt_core.specs.Lambda.{Constant, name, witness, falsity, negation, implication, all, equality, choice, description, Lambda, bound, constant, lam, app}
 use Rattle.stt_tableau.specs.Literals.{Literal}
 use Rattle.stt_tableau.specs.Witnesses.{Row}
 use Rattle.stt_tableau.specs.declared.refutation.RuleUse.{RuleUse}
@@ -152,6 +152,7 @@ module _ (names : Names) (printable : ArePrintable names) where
   constant_no_feed (all a) = no_feed-append (type_text (named_type names a)) (codes "]") (type_no_feed a) refl
   constant_no_feed (equality a) = no_feed-append (type_text (named_type names a)) (codes "]") (type_no_feed a) refl
   constant_no_feed (choice a) = no_feed-append (type_text (named_type names a)) (codes "]") (type_no_feed a) refl
+  constant_no_feed (description a) = no_feed-append (type_text (named_type names a)) (codes "]") (type_no_feed a) refl
 
   -- a term, alone and as a head with its arguments
   abbrev IsClean : Lambda → Type 0
@@ -244,6 +245,7 @@ module _ (names : Names) (printable : ArePrintable names) where
   rule_no_feed (rule.Dec i) = at_one_no_feed tree.Dec i
   rule_no_feed (rule.Con i j) = at_two_no_feed tree.Con i j
   rule_no_feed (rule.Cho f) = no_feed-append (term_text (named_term names f)) (codes ")") (clean f).0 refl
+  rule_no_feed (rule.Des f) = no_feed-append (term_text (named_term names f)) (codes ")") (clean f).0 refl
   rule_no_feed (rule.Cut l) = no_feed-append (literal_text (named_literal names l)) (codes ")") (literal_no_feed l) refl
 
   line_no_feed : (k : ℕ) (line : Line) → has_line_feed (line_text k (named_line names line)) ≡ false

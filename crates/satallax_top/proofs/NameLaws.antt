@@ -2,7 +2,7 @@
 use Rattle.std.proofs.Common.{◌≡◌, ◌<◌, true, List, [], ◌∷◌, ◌++◌, length, Some, IsTrue, subst}
 use Rattle.std.proofs.lemmas.Option.{slice_get_within}
 use Rattle.stt_core.specs.SimpleType.{SimpleType, base, arrow, predicate, formula, is_declared}
-use Rattle.stt_core.specs.Lambda.{Constant, name, witness, falsity, negation, implication, all, equality, choice, Lambda, bound, constant, lam, app}
+use Rattle.stt_core.specs.Lambda.{Constant, name, witness, falsity, negation, implication, all, equality, choice, description, Lambda, bound, constant, lam, app}
 use Rattle.stt_core.specs.Typing.{Scope, constant_type}
 use Rattle.stt_core.specs.Canonical.{IsCanonical, IsNeutral}
 use Rattle.stt_core.proofs.TypeLaws.{given}
@@ -33,6 +33,7 @@ module _ (names : Names) (scope : Scope) (n : NamesAll names scope) where
   constant_named (all b) a h = type_named b (given scope b (arrow (predicate b) formula) a h).declared
   constant_named (equality b) a h = type_named b (given scope b (arrow b (predicate b)) a h).declared
   constant_named (choice b) a h = type_named b (given scope b (arrow (predicate b) b) a h).declared
+  constant_named (description b) a h = type_named b (given scope b (arrow (predicate b) b) a h).declared
 
   mutual
     canonical_named : (ctx : List SimpleType) (a : SimpleType) (t : Lambda) → IsCanonical scope ctx a t → HasNames names t
@@ -68,6 +69,7 @@ module _ (names : Names) (scope : Scope) (n : NamesAll names scope) where
   use_named (rule.Dec i) h = tt
   use_named (rule.Con i j) h = tt
   use_named (rule.Cho f) h = canonical_named [] (predicate h.0) f h.1
+  use_named (rule.Des f) h = canonical_named [] (predicate h.0) f h.1
   use_named (rule.Cut l) h = canonical_named [] formula l.atom h.formula
 
   lines_named : (rows : List Row) (earlier lines : List Line) → AreRightLines scope rows earlier lines → LinesHaveNames names lines

@@ -3,11 +3,15 @@ use Rattle.std.proofs.Common.{◌≡◌, ℕ, zero, suc, ◌<◌, Bool, true, fa
 use Rattle.std.specs.List.{AllByRecursion as Every}
 use Rattle.std.proofs.lemmas.List.Elements.{Contains-push_cases}
 use Rattle.stt_core.specs.SimpleType.{SimpleType, base, arrow, formula}
-use Rattle.stt_core.specs.Lambda.{Constant, name, witness, falsity, negation, implication, all, equality, choice, Lambda, bound, constant, lam, app}
+use Rattle.stt_core.specs.Lambda.{Constant, name, witness, falsity, negation, implication, all, equality, choice, description, Lambda, bound, constant, lam, app}
 use Rattle.stt_core.specs.Typing.{Scope, constant_type}
 use Rattle.stt_core.specs.Canonical.{IsCanonical, IsNeutral}
 use Rattle.stt_core.specs.Meaning.{Model, IsModel, value}
 use Rattle.stt_core.specs.Meets.{Question, MeetsFormula, MeetsFormulas, Refutes, MeetsProblem}
+use Rattle.stt_core.specs.PlainProblem.{PlainProblem, question_of}
+use Rattle.stt_core.specs.TypedProblem.{IsFormula, AreFormulas, IsFormulaIfThere, IsTyped}
+use Rattle.stt_normal.specs.Normal.{normal_form}
+use Rattle.stt_normal.specs.NormalQuestion.{normal_question}
 use Rattle.stt_normal.proofs.NormalValues.{canonical-normal_form, value-normal_form}
 use Rattle.stt_tableau.specs.Literals.{Literal, opposite, literal, IsLiteral, IsBranch}
 use Rattle.stt_tableau.specs.Witnesses.{IsNoWitness, NamesNoWitness, NoneNamesWitness}
@@ -15,10 +19,7 @@ use Rattle.stt_tableau.specs.Meets.{MeetsLiteral, MeetsBranch}
 use Rattle.stt_tableau.specs.Start.{has, added, denied, start}
 use Rattle.stt_tableau.proofs.ListLaws.{contains-first, contains-later, contains_cases, Each}
 use Rattle.stt_tableau.proofs.LiteralLaws.{literal-is_literal, opposite-is_literal, literal-says, value-bit}
-use Rattle.type_check.specs.Statements.{ReadProblem}
-use Rattle.type_check.specs.TypedProblem.{question_of, IsFormula, AreFormulas, IsFormulaIfThere, IsTyped}
 use Rattle.prover_search.proofs.BooleanLaws.{none_contained}
-use Rattle.refute_check.specs.NormalQuestion.{normal_in, normal_question}
 
 every_each : {A : Type 0} (P : A → Type 0) (xs : List A) → Each P xs → Every P xs
 every_each P [] h = tt
@@ -84,6 +85,7 @@ unnamed_constant scope implication a e h = tt
 unnamed_constant scope (all b) a e h = tt
 unnamed_constant scope (equality b) a e h = tt
 unnamed_constant scope (choice b) a e h = tt
+unnamed_constant scope (description b) a e h = tt
 
 mutual
   unnamed-canonical : (scope : Scope) (ctx : List SimpleType) (a : SimpleType) (t : Lambda) → scope.witnesses ≡ [] → IsCanonical scope ctx a t → NamesNoWitness t
@@ -99,42 +101,42 @@ mutual
   unnamed-neutral scope ctx a (app s u) e h = (unnamed-neutral scope ctx (arrow h.0 a) s e h.1, unnamed-canonical scope ctx h.0 u e h.2)
   unnamed-neutral scope ctx a (lam c s) e h = absurd h
 
-module _ (p : ReadProblem) (typed : IsTyped (question_of p)) where
-  normal-canonical : (t : Lambda) → IsFormula (question_of p).scope t → IsCanonical (question_of p).scope [] formula (normal_in p t)
+module _ (p : PlainProblem) (typed : IsTyped (question_of p)) where
+  normal-canonical : (t : Lambda) → IsFormula (question_of p).scope t → IsCanonical (question_of p).scope [] formula (normal_form (question_of p).scope [] t)
   normal-canonical t h = canonical-normal_form (question_of p).scope typed.scope [] formula t tt h
 
-  normals-canonical : (ts : List Lambda) → AreFormulas (question_of p).scope ts → Every (IsCanonical (question_of p).scope [] formula) (map (normal_in p) ts)
+  normals-canonical : (ts : List Lambda) → AreFormulas (question_of p).scope ts → Every (IsCanonical (question_of p).scope [] formula) (map (normal_form (question_of p).scope []) ts)
   normals-canonical [] h = tt
   normals-canonical (t ∷ ts) h = (normal-canonical t h.0, normals-canonical ts h.1)
 
-  normal_if_there-canonical : (o : Option Lambda) → IsFormulaIfThere (question_of p).scope o → IfThere (IsCanonical (question_of p).scope [] formula) (option_map (normal_in p) o)
+  normal_if_there-canonical : (o : Option Lambda) → IsFormulaIfThere (question_of p).scope o → IfThere (IsCanonical (question_of p).scope [] formula) (option_map (normal_form (question_of p).scope []) o)
   normal_if_there-canonical None h = tt
   normal_if_there-canonical (Some t) h = normal-canonical t h
 
-  of_start : (P : Literal → Type 0) → ((t : Lambda) → IsCanonical (question_of p).scope [] formula t → P (literal t)) → ((t : Lambda) → IsCanonical (question_of p).scope [] formula t → P (opposite (literal t))) → Every P (start (normal_question p))
+  of_start : (P : Literal → Type 0) → ((t : Lambda) → IsCanonical (question_of p).scope [] formula t → P (literal t)) → ((t : Lambda) → IsCanonical (question_of p).scope [] formula t → P (opposite (literal t))) → Every P (start (normal_question (question_of p)))
   of_start P f h =
-      every_start (IsCanonical (question_of p).scope [] formula) P f h (normal_question p) (normals-canonical p.assumed typed.assumed) (normal_if_there-canonical p.conjecture typed.conjecture)
+      every_start (IsCanonical (question_of p).scope [] formula) P f h (normal_question (question_of p)) (normals-canonical p.assumed typed.assumed) (normal_if_there-canonical p.conjecture typed.conjecture)
 
   unnamed-literal : (t : Lambda) → IsCanonical (question_of p).scope [] formula t → NamesNoWitness (literal t).atom
   unnamed-literal t h = unnamed-canonical (question_of p).scope [] formula (literal t).atom refl (literal-is_literal (question_of p).scope t h).formula
 
-  pub start_unnamed : NoneNamesWitness (start (normal_question p))
+  pub start_unnamed : NoneNamesWitness (start (normal_question (question_of p)))
   start_unnamed = none_named _ (of_start (λ l. NamesNoWitness l.atom) unnamed-literal unnamed-literal)
 
-  pub start_typed : IsBranch (question_of p).scope (start (normal_question p))
+  pub start_typed : IsBranch (question_of p).scope (start (normal_question (question_of p)))
   start_typed =
       let k = (question_of p).scope in
       is_branch k _ (of_start (IsLiteral k) (literal-is_literal k) (λ t h. opposite-is_literal k (literal t) (literal-is_literal k t h)))
 
   -- a model of the problem meets the start
   module _ (m : Model) (good : IsModel (question_of p).scope m) where
-    normal-value : (t : Lambda) → IsFormula (question_of p).scope t → value (question_of p).scope m [] [] (normal_in p t) ≡ value (question_of p).scope m [] [] t
+    normal-value : (t : Lambda) → IsFormula (question_of p).scope t → value (question_of p).scope m [] [] (normal_form (question_of p).scope [] t) ≡ value (question_of p).scope m [] [] t
     normal-value t h = value-normal_form (question_of p).scope typed.scope m good [] [] formula t tt h tt
 
-    literal_met : (t : Lambda) → IsFormula (question_of p).scope t → MeetsFormula (question_of p).scope m t → MeetsLiteral (question_of p).scope m (literal (normal_in p t))
-    literal_met t h k = (literal-says (question_of p).scope m good (normal_in p t) (normal-canonical t h)).at_one (normal-value t h ∙ k)
+    literal_met : (t : Lambda) → IsFormula (question_of p).scope t → MeetsFormula (question_of p).scope m t → MeetsLiteral (question_of p).scope m (literal (normal_form (question_of p).scope [] t))
+    literal_met t h k = (literal-says (question_of p).scope m good (normal_form (question_of p).scope [] t) (normal-canonical t h)).at_one (normal-value t h ∙ k)
 
-    literals_met : (ts : List Lambda) → AreFormulas (question_of p).scope ts → MeetsFormulas (question_of p).scope m ts → Every (MeetsLiteral (question_of p).scope m) (map literal (map (normal_in p) ts))
+    literals_met : (ts : List Lambda) → AreFormulas (question_of p).scope ts → MeetsFormulas (question_of p).scope m ts → Every (MeetsLiteral (question_of p).scope m) (map literal (map (normal_form (question_of p).scope []) ts))
     literals_met [] h k = tt
     literals_met (t ∷ ts) h k = (literal_met t h.0 k.0, literals_met ts h.1 k.1)
 
@@ -143,15 +145,15 @@ module _ (p : ReadProblem) (typed : IsTyped (question_of p)) where
     not_one (suc zero) l h = absurd (h refl)
     not_one (suc (suc v)) l h = absurd (omega arith)
 
-    denied_met : (o : Option Lambda) → IsFormulaIfThere (question_of p).scope o → Refutes (question_of p).scope m o → Every (MeetsLiteral (question_of p).scope m) (denied (option_map (normal_in p) o))
+    denied_met : (o : Option Lambda) → IsFormulaIfThere (question_of p).scope o → Refutes (question_of p).scope m o → Every (MeetsLiteral (question_of p).scope m) (denied (option_map (normal_form (question_of p).scope []) o))
     denied_met None h k = tt
     denied_met (Some t) h k =
-        let s = normal_in p t in
+        let s = normal_form (question_of p).scope [] t in
         let v = value (question_of p).scope m [] [] s in
         ((literal-says (question_of p).scope m good s (normal-canonical t h)).at_zero (not_one v (value-bit (question_of p).scope m good s (normal-canonical t h)) (λ e. k (sym (normal-value t h) ∙ e))), tt)
 
-    pub start_met : MeetsProblem (question_of p) m → MeetsBranch (question_of p).scope m (start (normal_question p))
+    pub start_met : MeetsProblem (question_of p) m → MeetsBranch (question_of p).scope m (start (normal_question (question_of p)))
     start_met h =
         meets_branch (question_of p).scope m _
-        (added_each (MeetsLiteral (question_of p).scope m) (map literal (map (normal_in p) p.assumed) ++ denied (option_map (normal_in p) p.conjecture))
-        (every_both (MeetsLiteral (question_of p).scope m) (map literal (map (normal_in p) p.assumed)) (denied (option_map (normal_in p) p.conjecture)) (literals_met p.assumed typed.assumed h.assumed) (denied_met p.conjecture typed.conjecture h.conjecture)))
+        (added_each (MeetsLiteral (question_of p).scope m) (map literal (map (normal_form (question_of p).scope []) p.assumed) ++ denied (option_map (normal_form (question_of p).scope []) p.conjecture))
+        (every_both (MeetsLiteral (question_of p).scope m) (map literal (map (normal_form (question_of p).scope []) p.assumed)) (denied (option_map (normal_form (question_of p).scope []) p.conjecture)) (literals_met p.assumed typed.assumed h.assumed) (denied_met p.conjecture typed.conjecture h.conjecture)))

@@ -5,9 +5,9 @@ use Rattle.stt_core.specs.Lambda.{Lambda, constant, app, name, falsity, negation
 use Rattle.stt_core.specs.Typing.{Scope, type_of}
 use Rattle.stt_core.specs.Canonical.{IsCanonical}
 use Rattle.stt_core.proofs.TypeLaws.{applies}
+use Rattle.stt_core.specs.TypedProblem.{IsFormula}
 use Rattle.stt_tableau.specs.Literals.{literal, is_negated}
 use Rattle.stt_tableau.proofs.LiteralLaws.{literal_cases}
-use Rattle.type_check.specs.TypedProblem.{IsFormula}
 use Rattle.prover_search.specs.Searched.{IsPropositional}
 
 -- they are canonical

@@ -6,16 +6,17 @@ use Rattle.stt_core.specs.SimpleType.{formula}
 use Rattle.stt_core.specs.Lambda.{Lambda}
 use Rattle.stt_core.specs.Typing.{Scope}
 use Rattle.stt_core.specs.Canonical.{IsCanonical}
+use Rattle.stt_core.specs.PlainProblem.{PlainProblem, question_of}
+use Rattle.stt_core.specs.TypedProblem.{IsFormula, AreFormulas, IsFormulaIfThere, IsTyped}
+use Rattle.stt_normal.specs.Normal.{normal_form}
+use Rattle.stt_normal.specs.NormalQuestion.{normal_question}
 use Rattle.stt_normal.proofs.EtaReplace.{normal_form-canonical}
 use Rattle.stt_tableau.specs.Literals.{Literal, opposite, literal}
 use Rattle.stt_tableau.specs.Start.{denied, start}
-use Rattle.type_check.specs.Statements.{ReadProblem}
-use Rattle.type_check.specs.TypedProblem.{question_of, IsFormula, AreFormulas, IsFormulaIfThere, IsTyped}
 use Rattle.run_forms.specs.Propositional.{AllPropositional}
 use Rattle.prover_search.specs.Searched.{IsPropositional, HasPropositionalAtom, ArePropositional}
 use Rattle.prover_search.proofs.SearchedLaws.{added-different}
 use Rattle.satallax_top.specs.Runnable.{ArePrintable, names_in, IsRunnable}
-use Rattle.refute_check.specs.NormalQuestion.{normal_in, normal_question}
 use Rattle.satallax_top.proofs.PropositionalLaws.{canonical-propositional, propositional-literal, unsigned-literal}
 use Rattle.satallax_top.proofs.ProblemLaws.{IfThere, every_start, start_typed}
 
@@ -35,7 +36,7 @@ run_formula_if_there : (scope : Scope) (o : Option Lambda) → IfSome o IsPropos
 run_formula_if_there scope None h k = tt
 run_formula_if_there scope (Some t) h k = (h, k)
 
-module _ (p : ReadProblem) (typed : IsTyped (question_of p)) (g : AllPropositional p) where
+module _ (p : PlainProblem) (typed : IsTyped (question_of p)) (g : AllPropositional p) where
   assumed : Every (IsRunFormula (question_of p).scope) p.assumed
   assumed = run_formulas (question_of p).scope p.assumed (recursion_from_All IsPropositional p.assumed g.assumed) typed.assumed
 
@@ -45,30 +46,30 @@ module _ (p : ReadProblem) (typed : IsTyped (question_of p)) (g : AllProposition
   canonical : (t : Lambda) → IsRunFormula (question_of p).scope t → IsCanonical (question_of p).scope [] formula t
   canonical t h = canonical-propositional (question_of p).scope t h.0 h.1
 
-  is_normal : (t : Lambda) → IsRunFormula (question_of p).scope t → normal_in p t ≡ t
+  is_normal : (t : Lambda) → IsRunFormula (question_of p).scope t → normal_form (question_of p).scope [] t ≡ t
   is_normal t h = normal_form-canonical (question_of p).scope [] formula t (canonical t h)
 
-  are_normal : (ts : List Lambda) → Every (IsRunFormula (question_of p).scope) ts → map (normal_in p) ts ≡ ts
+  are_normal : (ts : List Lambda) → Every (IsRunFormula (question_of p).scope) ts → map (normal_form (question_of p).scope []) ts ≡ ts
   are_normal [] h = refl
   are_normal (t ∷ ts) h = ap₂ (λ x xs. x ∷ xs) (is_normal t h.0) (are_normal ts h.1)
 
-  is_normal_if_there : (o : Option Lambda) → IfThere (IsRunFormula (question_of p).scope) o → option_map (normal_in p) o ≡ o
+  is_normal_if_there : (o : Option Lambda) → IfThere (IsRunFormula (question_of p).scope) o → option_map (normal_form (question_of p).scope []) o ≡ o
   is_normal_if_there None h = refl
   is_normal_if_there (Some t) h = ap Some (is_normal t h)
 
   -- such formulas are their own normal forms
-  pub normal_question-propositional : normal_question p ≡ question_of p
+  pub normal_question-propositional : normal_question (question_of p) ≡ question_of p
   normal_question-propositional =
       ap₂ (λ ts o. record { scope = (question_of p).scope; assumed = ts; conjecture = o }) (are_normal p.assumed assumed) (is_normal_if_there p.conjecture conjecture)
 
-  normally : (P : List Literal → Type 0) → P (start (question_of p)) → P (start (normal_question p))
+  normally : (P : List Literal → Type 0) → P (start (question_of p)) → P (start (normal_question (question_of p)))
   normally P = subst (λ q. P (start q)) (sym normal_question-propositional)
 
   of_start : (P : Literal → Type 0) → ((t : Lambda) → IsRunFormula (question_of p).scope t → P (literal t)) → ((t : Lambda) → IsRunFormula (question_of p).scope t → P (opposite (literal t))) → Every P (start (question_of p))
   of_start P f h = every_start (IsRunFormula (question_of p).scope) P f h (question_of p) assumed conjecture
 
   -- the search takes the literals of the start
-  start_searched : ArePropositional (start (normal_question p))
+  start_searched : ArePropositional (start (normal_question (question_of p)))
   start_searched = normally ArePropositional (are_propositional _ (of_start HasPropositionalAtom (λ t h. taken t h.0) (λ t h. taken-opposite t h.0)))
     where
       taken : (t : Lambda) → IsPropositional t → HasPropositionalAtom (literal t)
@@ -83,6 +84,6 @@ module _ (p : ReadProblem) (typed : IsTyped (question_of p)) (g : AllProposition
     formulas = typed;
     printable = printable;
     searched = start_searched;
-    different = added-different [] (map literal (normal_question p).assumed ++ denied (normal_question p).conjecture) tt;
+    different = added-different [] (map literal (normal_question (question_of p)).assumed ++ denied (normal_question (question_of p)).conjecture) tt;
     typed = start_typed p typed;
   }

@@ -1,6 +1,8 @@
 -- A run that ended with a proof has its text.
 use Rattle.std.proofs.Common.{◌≡◌, ℕ, suc, List, [], ◌∷◌, map, length, refl, ap}
 use Rattle.stt_core.specs.TypedName.{TypedName}
+use Rattle.stt_core.specs.PlainProblem.{PlainProblem, question_of}
+use Rattle.stt_normal.specs.NormalQuestion.{normal_question}
 use Rattle.stt_tableau.specs.Start.{start}
 use Rattle.stt_tableau.specs.declared.refutation.Refutation.{Refutation}
 use Rattle.refute_text.specs.Text.{text_lines, as_bytes}
@@ -8,10 +10,7 @@ use Rattle.refute_text.specs.Named.{named_refutation, IsNamed}
 use Rattle.prover_search.specs.Ended.{EndsAs}
 use Rattle.prover_search.specs.declared.commands.TheConstants.{MAX_COMMANDS}
 use Rattle.prover_search.specs.declared.commands.Ended.TheVariants.{Proved}
-use Rattle.type_check.specs.Statements.{ReadProblem}
-use Rattle.type_check.specs.TypedProblem.{question_of}
 use Rattle.satallax_top.specs.Runnable.{names_in, IsRunnable}
-use Rattle.refute_check.specs.NormalQuestion.{normal_question}
 use Rattle.satallax_top.specs.Answers.{IsProofOf, IsSolvedFor, IsProvedFor}
 use Rattle.satallax_top.specs.declared.outcome.Outcome.{Outcome}
 use Rattle.satallax_top.specs.declared.outcome.Outcome.TheVariants.{Theorem, Unsatisfiable, GaveUp, CommandLimit, Accepted, Refused, SyntaxAt, TypeAt, IncludeAt, Words, TooLong, NotYetAt, ReadFault, WriteFault, Memory}
@@ -22,9 +21,9 @@ same_length : (cs : List TypedName) → length (map (λ c. c.type) cs) ≡ lengt
 same_length [] = refl
 same_length (c ∷ cs) = ap suc (same_length cs)
 
-module _ (p : ReadProblem) (n : ℕ) (refutation : Refutation) (r : IsRunnable p) (e : EndsAs (start (normal_question p)) MAX_COMMANDS (Proved n refutation)) where
+module _ (p : PlainProblem) (n : ℕ) (refutation : Refutation) (r : IsRunnable p) (e : EndsAs (start (normal_question (question_of p))) MAX_COMMANDS (Proved n refutation)) where
   pub run_named : IsNamed (names_in p) refutation
-  run_named = accepted_named (names_in p) (question_of p).scope (record { bases = refl; constants = same_length p.declared.consts }) (start (normal_question p)) refutation (e.1 (question_of p).scope r.typed)
+  run_named = accepted_named (names_in p) (question_of p).scope (record { bases = refl; constants = same_length p.declared.consts }) (start (normal_question (question_of p))) refutation (e.1 (question_of p).scope r.typed)
 
   pub proof_of_run : (text : List ℕ) → text ≡ as_bytes (text_lines (named_refutation (names_in p) refutation)) → IsProofOf p n text
   proof_of_run text t = record {
@@ -37,7 +36,7 @@ module _ (p : ReadProblem) (n : ℕ) (refutation : Refutation) (r : IsRunnable p
   }
 
 -- the outcome of a problem that is proved, with the text of its refutation
-pub proved_for : (p : ReadProblem) (o : Outcome) (n : ℕ) (text : List ℕ) → IsProvedFor p o → IsProofOf p n text → IsSolvedFor p o n text
+pub proved_for : (p : PlainProblem) (o : Outcome) (n : ℕ) (text : List ℕ) → IsProvedFor p o → IsProofOf p n text → IsSolvedFor p o n text
 proved_for p Theorem n text h proof = (h, proof)
 proved_for p Unsatisfiable n text h proof = (h, proof)
 proved_for p GaveUp n text h proof = absurd h

@@ -1,6 +1,8 @@
 -- What a call answers.
 use Rattle.std.specs.Prelude.{◌≡◌, ℕ, Bool, true, false, IsTrue, List, Option, Some, None, Ok, Err, is_some, is_none, slice_get}
 use Rattle.std.specs.List.{list_any}
+use Rattle.stt_core.specs.PlainProblem.{PlainProblem, question_of}
+use Rattle.stt_normal.specs.NormalQuestion.{normal_question}
 use Rattle.outside.specs.Causes.{Rose}
 use Rattle.stt_tableau.specs.Accepted.{IsAccepted}
 use Rattle.stt_tableau.specs.Start.{start}
@@ -10,8 +12,7 @@ use Rattle.thf_include.specs.Gathering.{Ending, done, stopped, Stop, wants, too_
 use Rattle.thf_include.specs.declared.refused.GatherRefused.{GatherRefused}
 use Rattle.thf_include.specs.declared.refused.GatherRefused.TheVariants as refusal
 use Rattle.thf_include.specs.declared.refused.GatherRefused.TheVariants.{Fault, Syntax}
-use Rattle.type_check.specs.Statements.{ReadProblem, problem_of}
-use Rattle.type_check.specs.TypedProblem.{question_of}
+use Rattle.type_check.specs.Statements.{problem_of}
 use Rattle.run_forms.specs.Forms.{first_unbuilt}
 use Rattle.prover_search.specs.declared.commands.TheConstants.{MAX_COMMANDS}
 use Rattle.prover_search.specs.Run.{IsProved, IsExhausted, IsStopped}
@@ -22,45 +23,44 @@ use Rattle.satallax_top.specs.Words.{problem_word, check_word}
 use Rattle.satallax_top.specs.Files.{OfFiles, State}
 use Rattle.satallax_top.specs.Checked.{AnswersCheck}
 use Rattle.satallax_top.specs.Runnable.{names_in}
-use Rattle.refute_check.specs.NormalQuestion.{normal_question}
 use Rattle.satallax_top.specs.declared.outcome.FileRef.TheVariants.{Part, Check}
 use Rattle.satallax_top.specs.declared.outcome.IncludeWhy.TheVariants.{Cycle, NoSuchName, TooMany}
 use Rattle.satallax_top.specs.declared.outcome.Outcome.{Outcome}
 use Rattle.satallax_top.specs.declared.outcome.Outcome.TheVariants.{Theorem, Unsatisfiable, GaveUp, CommandLimit, Accepted, SyntaxAt, TypeAt, IncludeAt, Words, TooLong, NotYetAt, ReadFault, WriteFault, Memory}
 
 -- The run over the problem ends after n commands, with a refutation that is accepted for its start, and whose lines are these.
-pub record IsProofOf (p : ReadProblem) (n : ℕ) (text : List ℕ) : Type 0 where
-  pub proved : IsProved (start (normal_question p)) MAX_COMMANDS n
+pub record IsProofOf (p : PlainProblem) (n : ℕ) (text : List ℕ) : Type 0 where
+  pub proved : IsProved (start (normal_question (question_of p))) MAX_COMMANDS n
   pub refutation : Refutation
-  pub accepted : IsAccepted (question_of p).scope (start (normal_question p)) refutation
+  pub accepted : IsAccepted (question_of p).scope (start (normal_question (question_of p))) refutation
   pub is_text : text ≡ as_bytes (text_lines (named_refutation (names_in p) refutation))
   pub no_line_feeds : list_any has_line_feed (text_lines (named_refutation (names_in p) refutation)) ≡ false
   pub no_end_mark : list_any (begins_with end_mark) (text_lines (named_refutation (names_in p) refutation)) ≡ false
 
 -- how the run over the problem ends: an outcome, a number of commands, and the text of a refutation
-abbrev pub IsSolvedFor : ReadProblem → Outcome → ℕ → List ℕ → Type 0
+abbrev pub IsSolvedFor : PlainProblem → Outcome → ℕ → List ℕ → Type 0
 IsSolvedFor p Theorem n text = IsTrue (is_some p.conjecture) × IsProofOf p n text
 IsSolvedFor p Unsatisfiable n text = IsTrue (is_none p.conjecture) × IsProofOf p n text
-IsSolvedFor p GaveUp n text = IsExhausted (start (normal_question p)) MAX_COMMANDS n
-IsSolvedFor p (CommandLimit m) n text = (m ≡ n) × IsStopped (start (normal_question p)) MAX_COMMANDS n
+IsSolvedFor p GaveUp n text = IsExhausted (start (normal_question (question_of p))) MAX_COMMANDS n
+IsSolvedFor p (CommandLimit m) n text = (m ≡ n) × IsStopped (start (normal_question (question_of p))) MAX_COMMANDS n
 IsSolvedFor p outcome n text = ⊥
 
 -- the outcome of a problem that is proved
-abbrev pub IsProvedFor : ReadProblem → Outcome → Type 0
+abbrev pub IsProvedFor : PlainProblem → Outcome → Type 0
 IsProvedFor p Theorem = IsTrue (is_some p.conjecture)
 IsProvedFor p Unsatisfiable = IsTrue (is_none p.conjecture)
 IsProvedFor p outcome = ⊥
 
 -- the statements state a problem of forms that are run, and its run ends so
 pub record IsRun (statements : List PlacedTree) (outcome : Outcome) (n : ℕ) (text : List ℕ) : Type 0 where
-  pub problem : ReadProblem
+  pub problem : PlainProblem
   pub read : problem_of statements ≡ Ok problem
   pub built : first_unbuilt problem.declared.consts statements ≡ None
   pub solved : IsSolvedFor problem outcome n text
 
 -- the statements state a problem, and the first of them with a form that isn't run has it at this place
 pub record IsUnbuiltAt (statements : List PlacedTree) (at : ℕ) : Type 0 where
-  pub problem : ReadProblem
+  pub problem : PlainProblem
   pub read : problem_of statements ≡ Ok problem
   pub unbuilt : first_unbuilt problem.declared.consts statements ≡ Some at
 
@@ -119,7 +119,7 @@ pub record IsFaultOf (words : List (List ℕ)) (told : Bool) (contents : List �
 -- The problem's files state a problem, the text that the words name was to be read next, and the count of faults of its name rose.
 pub record IsTextFault (words : List (List ℕ)) (told : Bool) (contents : List ℕ → Option (List ℕ)) (before now : List ℕ → ℕ) : Type 0 where
   pub names : List (List ℕ)
-  pub problem : ReadProblem
+  pub problem : PlainProblem
   pub stated : State words told contents names problem
   pub file : List ℕ
   pub name : check_word words ≡ Some file

@@ -1,18 +1,18 @@
 -- What the check of a refutation's text is answered with.
 use Rattle.std.specs.Prelude.{◌≡◌, ℕ, ◌<◌, ◌≤◌, Bool, IsTrue, List, length, Option, Some, Ok, Err}
+use Rattle.stt_core.specs.PlainProblem.{PlainProblem, question_of}
+use Rattle.stt_normal.specs.NormalQuestion.{normal_question}
 use Rattle.stt_tableau.specs.Accepted.{IsAccepted}
 use Rattle.stt_tableau.specs.Start.{start}
 use Rattle.stt_tableau.specs.declared.refutation.Why.{Why}
 use Rattle.stt_tableau.specs.declared.refutation.Why.TheVariants.{Form, Start, End}
 use Rattle.thf_include.specs.View.{PlacedTree}
-use Rattle.type_check.specs.Statements.{ReadProblem, problem_of}
-use Rattle.type_check.specs.TypedProblem.{question_of}
+use Rattle.type_check.specs.Statements.{problem_of}
 use Rattle.refute_text.specs.Trees.{RefutationTree}
 use Rattle.refute_read.specs.Reading.{lines_of, Reading, read, bad_line, no_start, no_end, Reads}
 use Rattle.refute_read.specs.declared.refusal.TextRefused.{TextRefused}
 use Rattle.refute_read.specs.declared.refusal.TextRefused.TheVariants as unread
 use Rattle.refute_read.specs.declared.refusal.TextRefused.TheVariants.{BadLine, NoStart, NoEnd}
-use Rattle.refute_check.specs.NormalQuestion.{normal_question}
 use Rattle.refute_check.specs.Numbered.{numbered_refutation}
 use Rattle.refute_check.specs.Refusal.{FailsAt}
 use Rattle.refute_check.specs.declared.refusal.CheckRefused.{CheckRefused}
@@ -25,27 +25,27 @@ use Rattle.satallax_top.specs.declared.outcome.Outcome.{Outcome}
 use Rattle.satallax_top.specs.declared.outcome.Outcome.TheVariants.{Accepted, Refused, TypeAt, TooLong, ReadFault, Memory}
 
 -- The bytes hold the text of a refutation that is accepted for the problem's start.
-pub record IsAcceptedText (p : ReadProblem) (bytes : List ℕ) : Type 0 where
+pub record IsAcceptedText (p : PlainProblem) (bytes : List ℕ) : Type 0 where
   pub refutation : RefutationTree
   pub first : ℕ
   pub reads : Reads (lines_of bytes) (read refutation first)
-  pub accepted : IsAccepted (question_of p).scope (start (normal_question p)) (numbered_refutation (names_in p) refutation)
+  pub accepted : IsAccepted (question_of p).scope (start (normal_question (question_of p))) (numbered_refutation (names_in p) refutation)
 
 -- what is read fails first at this line, and why: its form is wrong there, or the refutation isn't right there
-abbrev pub FailsFirst : ReadProblem → Reading → ℕ → Why → Type 0
-FailsFirst p (read r first) line why = FailsAt (question_of p).scope (start (normal_question p)) (numbered_refutation (names_in p) r) first line why
+abbrev pub FailsFirst : PlainProblem → Reading → ℕ → Why → Type 0
+FailsFirst p (read r first) line why = FailsAt (question_of p).scope (start (normal_question (question_of p))) (numbered_refutation (names_in p) r) first line why
 FailsFirst p (bad_line at) line why = (line ≡ at) × (why ≡ Form)
 FailsFirst p (no_start at) line why = (line ≡ at) × (why ≡ Start)
 FailsFirst p (no_end at) line why = (line ≡ at) × (why ≡ End)
 
 -- The bytes hold no such text.
-pub record IsRefusedText (p : ReadProblem) (bytes : List ℕ) (line : ℕ) (why : Why) : Type 0 where
+pub record IsRefusedText (p : PlainProblem) (bytes : List ℕ) (line : ℕ) (why : Why) : Type 0 where
   pub reading : Reading
   pub reads : Reads (lines_of bytes) reading
   pub fails : FailsFirst p reading line why
 
 -- what the bytes of a text are answered with; want of memory may come anywhere
-abbrev pub AnswersBytes : ReadProblem → List ℕ → Outcome → Type 0
+abbrev pub AnswersBytes : PlainProblem → List ℕ → Outcome → Type 0
 AnswersBytes p bytes Memory = Unit {0}
 AnswersBytes p bytes Accepted = IsAcceptedText p bytes
 AnswersBytes p bytes (Refused line why) = IsRefusedText p bytes line why
@@ -75,7 +75,7 @@ abbrev pub IsLong : Bool → (List ℕ → Option (List ℕ)) → List ℕ → T
 IsLong told contents file = IsTrue told → (bytes : List ℕ) × (contents file ≡ Some bytes) × (MAX_TEXT_BYTES < length bytes)
 
 -- what the text in a file is answered with, where it is checked against this problem; it is a fault's, where the file can't be read
-abbrev pub AnswersText : Bool → (List ℕ → Option (List ℕ)) → List ℕ → ReadProblem → Outcome → Type 0
+abbrev pub AnswersText : Bool → (List ℕ → Option (List ℕ)) → List ℕ → PlainProblem → Outcome → Type 0
 AnswersText told contents file p Memory = Unit {0}
 AnswersText told contents file p (ReadFault Check) = Unit {0}
 AnswersText told contents file p (TooLong Check) = IsLong told contents file
@@ -83,7 +83,7 @@ AnswersText told contents file p outcome = OfText told contents file (λ bytes. 
 
 -- the statements state a problem, and the text in the file is answered so
 pub record IsChecked (told : Bool) (contents : List ℕ → Option (List ℕ)) (file : List ℕ) (statements : List PlacedTree) (outcome : Outcome) : Type 0 where
-  pub problem : ReadProblem
+  pub problem : PlainProblem
   pub read : problem_of statements ≡ Ok problem
   pub checked : AnswersText told contents file problem outcome
 

@@ -1,9 +1,10 @@
 -- The files of a problem, and what they state.
 use Rattle.std.specs.Prelude.{◌≡◌, ℕ, Bool, IsTrue, List, Option, Some, Ok}
+use Rattle.stt_core.specs.PlainProblem.{PlainProblem}
 use Rattle.thf_include.specs.View.{PlacedTree}
 use Rattle.thf_include.specs.Gathering.{Ending, done, IsGathering}
 use Rattle.thf_include.specs.Answer.{AreContents}
-use Rattle.type_check.specs.Statements.{ReadProblem, problem_of}
+use Rattle.type_check.specs.Statements.{problem_of}
 use Rattle.satallax_top.specs.Words.{problem_word}
 
 -- The gathering of the problem's files, in which files of these names are opened, in order, comes to an ending with this property. The texts
@@ -18,10 +19,10 @@ pub record OfFiles (words : List (List ℕ)) (told : Bool) (contents : List ℕ 
   pub holds : P ending
 
 -- the problem's files state this problem
-pub record Statements (p : ReadProblem) (ending : Ending) : Type 0 where
+pub record Statements (p : PlainProblem) (ending : Ending) : Type 0 where
   pub statements : List PlacedTree
   pub gathered : ending ≡ done statements
   pub read : problem_of statements ≡ Ok p
 
-abbrev pub State : List (List ℕ) → Bool → (List ℕ → Option (List ℕ)) → List (List ℕ) → ReadProblem → Type 0
+abbrev pub State : List (List ℕ) → Bool → (List ℕ → Option (List ℕ)) → List (List ℕ) → PlainProblem → Type 0
 State words told contents names p = OfFiles words told contents names (Statements p)

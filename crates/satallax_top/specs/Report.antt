@@ -4,7 +4,7 @@ use Rattle.stt_tableau.specs.declared.refutation.Why.{Why}
 use Rattle.stt_tableau.specs.declared.refutation.Why.TheVariants as cause
 use Rattle.refute_text.specs.Text.{as_bytes}
 use Rattle.type_check.specs.declared.refusal.IllWhy.{IllWhy}
-use Rattle.type_check.specs.declared.refusal.IllWhy.TheVariants.{Unknown, Twice, Mismatch, NotFormula, SecondConjecture, RoleUnknown, LeftOut}
+use Rattle.type_check.specs.declared.refusal.IllWhy.TheVariants.{Unknown, Twice, Mismatch, NotFormula, SecondConjecture, RoleUnknown}
 use Rattle.satallax_top.specs.Block.{start_mark, end_mark}
 use Rattle.satallax_top.specs.declared.outcome.FileRef.{FileRef}
 use Rattle.satallax_top.specs.declared.outcome.FileRef.TheVariants.{Part, Check}
@@ -41,7 +41,6 @@ ill_word Mismatch = codes "mismatch"
 ill_word NotFormula = codes "notformula"
 ill_word SecondConjecture = codes "conjecture"
 ill_word RoleUnknown = codes "role"
-ill_word LeftOut = codes "leftout"
 
 abbrev pub include_word : IncludeWhy → List ℕ
 include_word Cycle = codes "cycle"

@@ -1,16 +1,16 @@
 -- Problems that are run.
 use Rattle.std.specs.List.{AllByRecursion}
+use Rattle.stt_core.specs.PlainProblem.{PlainProblem, question_of}
+use Rattle.stt_core.specs.TypedProblem.{IsTyped}
+use Rattle.stt_normal.specs.NormalQuestion.{normal_question}
 use Rattle.stt_tableau.specs.Literals.{IsBranch}
 use Rattle.stt_tableau.specs.Start.{start}
 use Rattle.thf_parse.specs.Printable.{IsPrintable}
-use Rattle.type_check.specs.Statements.{ReadProblem}
-use Rattle.type_check.specs.TypedProblem.{question_of, IsTyped}
 use Rattle.refute_text.specs.Named.{Names, names_of}
 use Rattle.prover_search.specs.Searched.{ArePropositional, AreDifferent}
-use Rattle.refute_check.specs.NormalQuestion.{normal_question}
 
 -- the names that a problem declares, as the texts of refutations have them
-abbrev pub names_in : ReadProblem → Names
+abbrev pub names_in : PlainProblem → Names
 names_in p = names_of p.declared.bases p.declared.consts
 
 pub record ArePrintable (names : Names) : Type 0 where
@@ -19,9 +19,9 @@ pub record ArePrintable (names : Names) : Type 0 where
 
 -- The problem is run: it is typed, its names are printable, and the literals of its start are typed, differ from one another, and are such
 -- that the search takes them.
-pub record IsRunnable (p : ReadProblem) : Type 0 where
+pub record IsRunnable (p : PlainProblem) : Type 0 where
   pub formulas : IsTyped (question_of p)
   pub printable : ArePrintable (names_in p)
-  pub searched : ArePropositional (start (normal_question p))
-  pub different : AreDifferent (start (normal_question p))
-  pub typed : IsBranch (question_of p).scope (start (normal_question p))
+  pub searched : ArePropositional (start (normal_question (question_of p)))
+  pub different : AreDifferent (start (normal_question (question_of p)))
+  pub typed : IsBranch (question_of p).scope (start (normal_question (question_of p)))

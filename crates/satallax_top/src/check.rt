@@ -1,10 +1,10 @@
 //! From the statements of a problem and the text of a refutation to the outcome.
 
 ghost use Rattle.std.specs.Prelude.{◌≡◌, ◌<◌, ◌≤◌, ◌-◌, ◌^◌, List, ℕ, length};
+ghost use Rattle.stt_core.specs.PlainProblem.{question_of};
+ghost use Rattle.stt_core.specs.TypedProblem.{IsTyped};
 ghost use Rattle.outside.specs.Causes.{Rose};
 ghost use Rattle.thf_include.specs.View.{the_statements};
-ghost use Rattle.type_check.specs.Checks.{the_problem};
-ghost use Rattle.type_check.specs.TypedProblem.{question_of, IsTyped};
 ghost use Rattle.satallax_top.specs.Checked.{unread_outcome, failed_outcome, AnswersBytes, AnswersText, AnswersCheck};
 ghost use Rattle.satallax_top.specs.declared.outcome.FileRef.TheVariants.{Check};
 
@@ -54,8 +54,8 @@ fn failed_outcome(refused: CheckRefused) -> Outcome
 
 /// The outcome for the bytes of a text.
 fn check_bytes(alloc: Global, problem: &Problem, bytes: &[u8]) -> Outcome
-    requires { IsTyped (question_of (the_problem problem.now)) }
-    ensures { AnswersBytes (the_problem problem.now) bytes.now result }
+    requires { IsTyped (question_of problem.now) }
+    ensures { AnswersBytes problem.now bytes.now result }
 {
     match read_text(alloc, bytes) {
         Ok(text) => match check_refutation(alloc, problem, &text) {
@@ -68,8 +68,8 @@ fn check_bytes(alloc: Global, problem: &Problem, bytes: &[u8]) -> Outcome
 
 /// The outcome for the text in a file.
 fn check_file<F: Files>(alloc: Global, files: &mut F, problem: &Problem, name: &str) -> Outcome
-    requires { IsTyped (question_of (the_problem problem.now)) }
-    ensures answers { AnswersText (F.tells files.old) (F.contents files.old) name.now (the_problem problem.now) result }
+    requires { IsTyped (question_of problem.now) }
+    ensures answers { AnswersText (F.tells files.old) (F.contents files.old) name.now problem.now result }
     ensures fault { result ≡ Outcome.ReadFault Check → Rose (F.faults files.old name.now) (F.faults files.new name.now) }
 {
     match read_whole(alloc, files, name, MAX_TEXT_BYTES) {

@@ -6,7 +6,6 @@ mod law;
 mod outcome;
 mod report;
 mod solve;
-mod start;
 mod text;
 mod top;
 mod words;

@@ -128,7 +128,6 @@ fn ill_word(why: IllWhy) -> &'static [u8]
         IllWhy::NotFormula => b"notformula",
         IllWhy::SecondConjecture => b"conjecture",
         IllWhy::RoleUnknown => b"role",
-        IllWhy::LeftOut => b"leftout",
     }
 }
 

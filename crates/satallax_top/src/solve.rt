@@ -1,26 +1,26 @@
 //! From the statements of a problem to the answer.
 
 ghost use Rattle.std.specs.Prelude.{◌≡◌, ◌<◌, ◌-◌, ◌^◌, Ok, length, [], IfOk};
+ghost use Rattle.stt_core.specs.PlainProblem.{question_of};
+ghost use Rattle.stt_normal.specs.NormalQuestion.{normal_question};
 ghost use Rattle.stt_tableau.specs.Start.{start};
 ghost use Rattle.thf_parse.specs.Printable.{IsPrintable};
 ghost use Rattle.thf_include.specs.View.{the_statements};
-ghost use Rattle.type_check.specs.Checks.{the_problem};
 ghost use Rattle.type_check.specs.Statements.{problem_of};
-ghost use Rattle.type_check.specs.TypedProblem.{AllDeclared};
+ghost use Rattle.type_check.specs.ProblemNames.{AllDeclared};
 ghost use Rattle.prover_search.specs.Ended.{EndsAs};
 ghost use Rattle.prover_search.specs.declared.commands.TheConstants.{MAX_COMMANDS};
-ghost use Rattle.refute_check.specs.NormalQuestion.{normal_question};
 ghost use Rattle.satallax_top.specs.Runnable.{IsRunnable};
 ghost use Rattle.satallax_top.specs.Answers.{IsProvedFor, IsSolvedFor, AnswersStatements};
 
 use crate::outcome::{FileRef, Outcome};
-use crate::start::start;
 use crate::text::refutation_text;
 use outside::Bytes;
 use prover_search::{Ended, run};
 use run_forms::first_unbuilt;
 use std::alloc::{AllocError, Global};
 use stt_core::Problem;
+use stt_tableau::start_literals;
 use thf_include::Gathered;
 use type_check::{Ill, check};
 
@@ -49,7 +49,7 @@ impl Answer {
 
 /// The outcome of a problem that is proved.
 fn proved_outcome(problem: &Problem) -> Outcome
-    ensures { IsProvedFor (the_problem problem.now) result }
+    ensures { IsProvedFor problem.now result }
 {
     match &problem.conjecture {
         Some(_) => Outcome::Theorem,
@@ -59,9 +59,9 @@ fn proved_outcome(problem: &Problem) -> Outcome
 
 /// The answer for a run over a problem that has ended.
 fn ended_answer(alloc: Global, problem: &Problem, ended: Ended) -> Result<Answer, AllocError>
-    requires runnable { IsRunnable (the_problem problem.now) }
-    requires ended { EndsAs (start (normal_question (the_problem problem.now))) MAX_COMMANDS ended }
-    ensures { IfOk result (λ a. IsSolvedFor (the_problem problem.now) a.outcome a.commands a.text) }
+    requires runnable { IsRunnable problem.now }
+    requires ended { EndsAs (start (normal_question (question_of problem.now))) MAX_COMMANDS ended }
+    ensures { IfOk result (λ a. IsSolvedFor problem.now a.outcome a.commands a.text) }
 {
     match ended {
         Ended::Proved {
@@ -85,17 +85,17 @@ fn ended_answer(alloc: Global, problem: &Problem, ended: Ended) -> Result<Answer
 
 /// The answer for a problem.
 fn solve_problem(alloc: Global, problem: &Problem) -> Result<Answer, AllocError>
-    requires { IsRunnable (the_problem problem.now) }
-    ensures { IfOk result (λ a. IsSolvedFor (the_problem problem.now) a.outcome a.commands a.text) }
+    requires { IsRunnable problem.now }
+    ensures { IfOk result (λ a. IsSolvedFor problem.now a.outcome a.commands a.text) }
 {
-    let start = start(alloc, problem)?;
+    let start = start_literals(alloc, problem)?;
     let ended = run(alloc, &start)?;
     Ok(ended_answer(alloc, problem, ended)?)
 }
 
 /// The answer for statements that state a problem.
 fn solve_stated(alloc: Global, gathered: &Gathered, problem: &Problem) -> Result<Answer, AllocError>
-    requires read { problem_of (the_statements gathered.now) ≡ Ok (the_problem problem.now) }
+    requires read { problem_of (the_statements gathered.now) ≡ Ok problem.now }
     requires printable { AllDeclared IsPrintable (the_statements gathered.now) }
     ensures { IfOk result (λ a. AnswersStatements (the_statements gathered.now) a.outcome a.commands a.text) }
 {

@@ -3,10 +3,10 @@ use Rattle.std.proofs.Common.{◌≡◌, ℕ, Bool, true, refl, sym, ap, ◌∙�
 use Rattle.stt_core.specs.SimpleType.{SimpleType, same_type}
 use Rattle.stt_core.proofs.TypeLaws.{same_type_tells}
 use Rattle.stt_core.proofs.SpineLaws.{IsAtom}
-use Rattle.stt_core.specs.Lambda.{Constant, name, witness, falsity, negation, implication, all, equality, choice, Lambda, constant}
+use Rattle.stt_core.specs.Lambda.{Constant, name, witness, falsity, negation, implication, all, equality, choice, description, Lambda, constant}
 use Rattle.stt_core.specs.View.{the_type, the_head}
 use Rattle.stt_core.specs.declared.nf.Head.{Head}
-use Rattle.stt_core.specs.declared.nf.Head.TheVariants.{Bound, Name, Wit, False, Not, Imp, All, Eq, Choice}
+use Rattle.stt_core.specs.declared.nf.Head.TheVariants.{Bound, Name, Wit, False, Not, Imp, All, Eq, Choice, Desc}
 
 pub constant_head : (h : Head) → ((k : ℕ) → h ≡ Bound k → ⊥) → (c : Constant) × (the_head h ≡ constant c)
 constant_head (Bound k) other = absurd (other k refl)
@@ -18,6 +18,7 @@ constant_head Imp other = (implication, refl)
 constant_head (All a) other = (all (the_type a), refl)
 constant_head (Eq a) other = (equality (the_type a), refl)
 constant_head (Choice a) other = (choice (the_type a), refl)
+constant_head (Desc a) other = (description (the_type a), refl)
 
 -- heads that hold a type are the same where the types are
 pub heads_tell : (f : SimpleType → Lambda) → ((x y : SimpleType) → f x ≡ f y → x ≡ y) → (a b : SimpleType) (h k : Lambda) (r : Bool) → h ≡ f a → k ≡ f b → r ≡ same_type a b → (r ≡ true → h ≡ k) × (h ≡ k → r ≡ true)
@@ -35,3 +36,4 @@ atom_head Imp = tt
 atom_head (All a) = tt
 atom_head (Eq a) = tt
 atom_head (Choice a) = tt
+atom_head (Desc a) = tt

@@ -2,10 +2,10 @@
 use Rattle.std.proofs.Common.{◌≡◌, ℕ, zero, suc, ◌^◌, List, ◌∷◌, slice_index, unwrap_or, refl, ap, ap₂, ◌∙◌, inl, inr}
 use mathlib.Core.Path.{fun_ext}
 use Rattle.stt_core.specs.SimpleType.{SimpleType, base, arrow, formula}
-use Rattle.stt_core.specs.Lambda.{Constant, name, witness, falsity, negation, implication, all, equality, choice, Lambda, bound, constant, lam, app}
+use Rattle.stt_core.specs.Lambda.{Constant, name, witness, falsity, negation, implication, all, equality, choice, description, Lambda, bound, constant, lam, app}
 use Rattle.stt_core.specs.Typing.{Scope, type_of}
 use Rattle.stt_core.specs.Digits.{entry, table}
-use Rattle.stt_core.specs.Meaning.{Model, size, result_size, constant_value, value, all_ones, least_from}
+use Rattle.stt_core.specs.Meaning.{Model, size, result_size, constant_value, value, all_ones}
 use Rattle.stt_core.specs.Occurrence.{IsFree}
 use Rattle.stt_core.specs.OccurrenceLaw.{AgreeOn}
 use Rattle.std.specs.Prelude.{Option, Some, None, nat_eq, if◌then◌else◌}
@@ -30,11 +30,11 @@ module _ (m n : Model) where
   constant_value_same env other (all a) h = ap (λ x. table 2 (2 ^ x) (λ p. all_ones p x)) (size_same h.sizes a)
   constant_value_same env other (equality a) h =
       ap (λ b. table (2 ^ b) b (λ x. table 2 b (λ y. if nat_eq x y then 1 else 0))) (size_same h.sizes a)
-  constant_value_same env other (choice a) h =
-      ap₂ (λ o x. unwrap_or o (table x (2 ^ x) (λ p. least_from p x 0))) (h.choices a refl) (size_same h.sizes a)
+  constant_value_same env other (choice a) h = h.choices a refl
+  constant_value_same env other (description a) h = h.descriptions a refl
 
   in_body : (env other : List ℕ) (x : ℕ) (a : SimpleType) (s : Lambda) → AgreeOn m n env other (lam a s) → AgreeOn m n (x ∷ env) (x ∷ other) s
-  in_body env other x a s h = record { sizes = h.sizes; names = h.names; witnesses = h.witnesses; choices = h.choices; variables = inner }
+  in_body env other x a s h = record { sizes = h.sizes; names = h.names; witnesses = h.witnesses; choices = h.choices; descriptions = h.descriptions; variables = inner }
     where
       inner : (k : ℕ) → IsFree k s → slice_index (x ∷ env) k ≡ slice_index (x ∷ other) k
       inner zero f = refl
@@ -46,6 +46,7 @@ module _ (m n : Model) where
     names = λ k o. h.names k (inl o);
     witnesses = λ k o. h.witnesses k (inl o);
     choices = λ a o. h.choices a (inl o);
+    descriptions = λ a o. h.descriptions a (inl o);
     variables = λ k f. h.variables k (inl f);
   }
 
@@ -55,6 +56,7 @@ module _ (m n : Model) where
     names = λ k o. h.names k (inr o);
     witnesses = λ k o. h.witnesses k (inr o);
     choices = λ a o. h.choices a (inr o);
+    descriptions = λ a o. h.descriptions a (inr o);
     variables = λ k f. h.variables k (inr f);
   }
 

@@ -2,7 +2,7 @@
 use Rattle.std.proofs.Common.{◌≡◌, refl, ap, ap₂, sym, ◌∙◌, Bool, true, false, eq-eqb}
 use Rattle.std.proofs.lemmas.Bool.{eqb-true, and_parts, and_from}
 use Rattle.stt_core.specs.SimpleType.{same_type}
-use Rattle.stt_core.specs.Lambda.{Constant, name, witness, falsity, negation, implication, all, equality, choice, Lambda, bound, constant, lam, app}
+use Rattle.stt_core.specs.Lambda.{Constant, name, witness, falsity, negation, implication, all, equality, choice, description, Lambda, bound, constant, lam, app}
 use Rattle.stt_core.specs.SameTerm.{same_constant, same_term}
 use Rattle.stt_core.proofs.TypeLaws.{same_type_refl, same_type-true}
 
@@ -15,6 +15,7 @@ same_constant-refl implication = refl
 same_constant-refl (all a) = same_type_refl a
 same_constant-refl (equality a) = same_type_refl a
 same_constant-refl (choice a) = same_type_refl a
+same_constant-refl (description a) = same_type_refl a
 
 same_constant-true : (c d : Constant) → same_constant c d ≡ true → c ≡ d
 same_constant-true (name j) (name k) h = ap name (eqb-true j k h)
@@ -25,6 +26,7 @@ same_constant-true implication implication h = refl
 same_constant-true (all a) (all b) h = ap all (same_type-true a b h)
 same_constant-true (equality a) (equality b) h = ap equality (same_type-true a b h)
 same_constant-true (choice a) (choice b) h = ap choice (same_type-true a b h)
+same_constant-true (description a) (description b) h = ap description (same_type-true a b h)
 same_constant-true c d h = cc
 
 pub same_term-refl : (t : Lambda) → same_term t t ≡ true

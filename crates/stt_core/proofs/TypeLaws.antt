@@ -2,7 +2,7 @@
 use Rattle.std.proofs.Common.{◌≡◌, ◌+◌, ℕ, zero, suc, List, [], ◌∷◌, Option, Some, None, refl, ap, ap₂, subst, sym, ◌∙◌, Bool, true, false, slice_get, option_map, if◌then◌else◌, eq-eqb, arith}
 use Rattle.std.proofs.lemmas.Bool.{eqb-true, and_parts, and_from, lt-ltb}
 use Rattle.stt_core.specs.SimpleType.{SimpleType, base, arrow, formula, is_declared, same_type}
-use Rattle.stt_core.specs.Lambda.{Constant, name, witness, falsity, negation, implication, all, equality, choice, Lambda, bound, constant, lam, app}
+use Rattle.stt_core.specs.Lambda.{Constant, name, witness, falsity, negation, implication, all, equality, choice, description, Lambda, bound, constant, lam, app}
 use Rattle.stt_core.specs.Typing.{Scope, IsScope, AreDeclared, where_declared, type_of, constant_type, applied_type}
 use Rattle.stt_core.specs.Canonical.{IsFrom, IsCanonical, IsNeutral}
 
@@ -117,6 +117,10 @@ module _ (scope : Scope) (over : IsScope scope) where
       let g = given scope b _ a h in
       subst (λ b. is_declared scope.bases b ≡ true) g.is (and_from _ _ g.declared (and_from _ _ g.declared f))
   constant_declared (choice b) a h =
+      let f = formula_declared scope.bases in
+      let g = given scope b _ a h in
+      subst (λ b. is_declared scope.bases b ≡ true) g.is (and_from _ _ (and_from _ _ g.declared f) g.declared)
+  constant_declared (description b) a h =
       let f = formula_declared scope.bases in
       let g = given scope b _ a h in
       subst (λ b. is_declared scope.bases b ≡ true) g.is (and_from _ _ (and_from _ _ g.declared f) g.declared)

@@ -1,10 +1,10 @@
 -- Every value is one of its type.
 use Rattle.std.proofs.Common.{◌≡◌, ℕ, zero, suc, ◌+◌, ◌*◌, ◌-◌, ◌/◌, ◌^◌, mul-le-mul, ◌<◌, ◌≤◌, List, [], ◌∷◌, Option, Some, None, refl, ap, subst, subst₂, sym, Bool, true, false, nat_eq, slice_get, slice_index, unwrap_or, if◌then◌else◌, arith}
-use Rattle.stt_core.specs.SimpleType.{SimpleType, base, arrow, formula, is_declared}
-use Rattle.stt_core.specs.Lambda.{Constant, name, witness, falsity, negation, implication, all, equality, choice, Lambda, bound, constant, lam, app}
+use Rattle.stt_core.specs.SimpleType.{SimpleType, base, arrow, formula, predicate, is_declared}
+use Rattle.stt_core.specs.Lambda.{Constant, name, witness, falsity, negation, implication, all, equality, choice, description, Lambda, bound, constant, lam, app}
 use Rattle.stt_core.specs.Typing.{Scope, type_of, constant_type, where_declared}
 use Rattle.stt_core.specs.Digits.{entry, table}
-use Rattle.stt_core.specs.Meaning.{Model, size, listed, value, result_size, constant_value, least_from, all_ones, Fits, IsModel}
+use Rattle.stt_core.specs.Meaning.{Model, size, listed, value, result_size, constant_value, least_from, least_table, all_ones, Fits, IsModel}
 use Rattle.stt_core.proofs.DigitLaws.{table-lt, power_pos}
 use Rattle.stt_core.proofs.TypeLaws.{applies, abstracts}
 use Rattle.std.proofs.Math.Nat.{mod-lt}
@@ -52,9 +52,9 @@ module _ (scope : Scope) (m : Model) (good : IsModel scope m) where
   size_pos (base (suc n)) = good.sizes_pos (suc n)
   size_pos (arrow a b) = power_pos (size m b) (size m a) (size_pos b)
 
-  choice-lt : (a : SimpleType) (o : Option ℕ) → listed m.choices a ≡ o → unwrap_or o (table (size m a) (2 ^ size m a) (λ p. least_from p (size m a) 0)) < size m (arrow (arrow a formula) a)
-  choice-lt a None e = table-lt (size m a) (2 ^ size m a) _ (λ p k. least-lt p (size m a) 0 (size m a) (size_pos a) (omega arith))
-  choice-lt a (Some v) e = good.choices_in a v e
+  listed-lt : (values : List (SimpleType × ℕ)) → ((a : SimpleType) (v : ℕ) → listed values a ≡ Some v → v < size m (arrow (predicate a) a)) → (a : SimpleType) (o : Option ℕ) → listed values a ≡ o → unwrap_or o (least_table (size m a)) < size m (arrow (predicate a) a)
+  listed-lt values below a None e = table-lt (size m a) (2 ^ size m a) _ (λ p k. least-lt p (size m a) 0 (size m a) (size_pos a) (omega arith))
+  listed-lt values below a (Some v) e = below a v e
 
   pub constant-lt : (c : Constant) (a : SimpleType) → constant_type scope c ≡ Some a → constant_value m c < size m a
   constant-lt (name k) a h = good.names_in k a h
@@ -73,7 +73,9 @@ module _ (scope : Scope) (m : Model) (good : IsModel scope m) where
       subst (λ c. constant_value m (equality b) < size m c) (declared_only scope b _ a h)
       (table-lt (2 ^ size m b) (size m b) _ (λ x k. table-lt 2 (size m b) _ (λ y l. test_below (nat_eq x y) 1 0 2 (omega arith) (omega arith))))
   constant-lt (choice b) a h =
-      subst (λ c. constant_value m (choice b) < size m c) (declared_only scope b _ a h) (choice-lt b (listed m.choices b) refl)
+      subst (λ c. constant_value m (choice b) < size m c) (declared_only scope b _ a h) (listed-lt m.choices good.choices_in b (listed m.choices b) refl)
+  constant-lt (description b) a h =
+      subst (λ c. constant_value m (description b) < size m c) (declared_only scope b _ a h) (listed-lt m.descriptions good.descriptions_in b (listed m.descriptions b) refl)
 
   -- the value of a typed term is one of its type
   pub value-lt : (ctx : List SimpleType) (env : List ℕ) (a : SimpleType) (t : Lambda) → type_of scope ctx t ≡ Some a → Fits m ctx env → value scope m ctx env t < size m a

@@ -1,10 +1,10 @@
--- Terms of simple type theory with choice (Church 1940, sections 1 to 3), without names for bound variables (de Bruijn, Lambda
+-- Terms of simple type theory with choice and definite description (Church 1940, sections 1 to 3), without names for bound variables (de Bruijn, Lambda
 -- calculus notation with nameless dummies, 1972).
 use Rattle.std.specs.Prelude.{ℕ, suc, ◌+◌, List, [], ◌∷◌}
 use Rattle.stt_core.specs.SimpleType.{SimpleType}
 
 -- What a term names: a constant of the signature or a witness by its number, falsity, negation, implication, and for each type the
--- quantifier over it, the equality on it, and the choice from it.
+-- quantifier over it, the equality on it, the choice from it, and the description of its one value with a property.
 pub data Constant : Type 0 where
   name : ℕ → Constant
   witness : ℕ → Constant
@@ -14,6 +14,7 @@ pub data Constant : Type 0 where
   all : SimpleType → Constant
   equality : SimpleType → Constant
   choice : SimpleType → Constant
+  description : SimpleType → Constant
 
 -- A bound variable, which counts the binders between it and its own, a constant, a function, whose argument has the given type, or an
 -- application.

@@ -17,4 +17,7 @@ pub mod ConstView
 pub mod ContextView
 pub mod TypeCode
 pub mod LambdaCode
+pub mod Declarations
+pub mod PlainProblem
+pub mod TypedProblem
 pub mod Sizes

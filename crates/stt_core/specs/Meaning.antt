@@ -2,17 +2,18 @@
 -- Andrews, An introduction to mathematical logic and type theory, 2002, section 54).
 use Rattle.std.specs.Prelude.{◌≡◌, ◌<◌, ℕ, zero, suc, ◌*◌, ◌^◌, ◌-◌, List, [], ◌∷◌, Option, Some, None, unwrap_or, slice_get, slice_index, nat_eq, if◌then◌else◌}
 use Rattle.stt_core.specs.SimpleType.{SimpleType, base, arrow, formula, predicate, same_type}
-use Rattle.stt_core.specs.Lambda.{Constant, name, witness, falsity, negation, implication, all, equality, choice, Lambda, bound, constant, lam, app}
+use Rattle.stt_core.specs.Lambda.{Constant, name, witness, falsity, negation, implication, all, equality, choice, description, Lambda, bound, constant, lam, app}
 use Rattle.stt_core.specs.Typing.{Scope, type_of}
 use Rattle.stt_core.specs.Digits.{entry, table}
 
 -- A model: how many values each base type from `$i` on has, the values of the constants of the signature and of the witnesses, and
--- the values of the choices from some types.
+-- the values of the choices from some types and of the descriptions of values of some types.
 pub record Model : Type 0 where
   pub sizes : ℕ → ℕ
   pub name_values : ℕ → ℕ
   pub witness_values : ℕ → ℕ
   pub choices : List (SimpleType × ℕ)
+  pub descriptions : List (SimpleType × ℕ)
 
 -- How many values a type has. The values of type a are the numbers below `size m a`; of a function they are the digits, one for each
 -- argument.
@@ -21,15 +22,19 @@ size m (base zero) = 2
 size m (base (suc n)) = m.sizes (suc n)
 size m (arrow a b) = size m b ^ size m a
 
--- the value of the choice from a type, where one is listed
+-- the value that is listed for a type, where one is
 abbrev pub listed : List (SimpleType × ℕ) → SimpleType → Option ℕ
 listed [] a = None
-listed (c ∷ choices) a = if same_type c.0 a then Some c.1 else listed choices a
+listed (v ∷ values) a = if same_type v.0 a then Some v.1 else listed values a
 
 -- the least of the n numbers from x on at which p has the entry 1, or 0 where there is none
 abbrev pub least_from : ℕ → ℕ → ℕ → ℕ
 least_from p zero x = 0
 least_from p (suc n) x = if nat_eq (entry 2 p x) 1 then x else least_from p n (suc x)
+
+-- the function that gives the least number with the entry 1 in a predicate on n numbers, or 0 where there is none
+abbrev pub least_table : ℕ → ℕ
+least_table n = table n (2 ^ n) (λ p. least_from p n 0)
 
 -- 1 where each of the first n entries of p is 1, else 0
 abbrev pub all_ones : ℕ → ℕ → ℕ
@@ -45,7 +50,8 @@ constant_value m negation = table 2 2 (λ p. 1 - p)
 constant_value m implication = table 4 2 (λ p. table 2 2 (λ q. if nat_eq p 1 then q else 1))
 constant_value m (all a) = table 2 (2 ^ size m a) (λ p. all_ones p (size m a))
 constant_value m (equality a) = table (2 ^ size m a) (size m a) (λ x. table 2 (size m a) (λ y. if nat_eq x y then 1 else 0))
-constant_value m (choice a) = unwrap_or (listed m.choices a) (table (size m a) (2 ^ size m a) (λ p. least_from p (size m a) 0))
+constant_value m (choice a) = unwrap_or (listed m.choices a) (least_table (size m a))
+constant_value m (description a) = unwrap_or (listed m.descriptions a) (least_table (size m a))
 
 -- how many values the type of a term has
 abbrev pub size_of : Scope → Model → List SimpleType → Lambda → ℕ
@@ -70,11 +76,13 @@ Fits m [] env = Unit {0}
 Fits m (a ∷ ctx) [] = ⊥
 Fits m (a ∷ ctx) (x ∷ env) = (x < size m a) × Fits m ctx env
 
--- A model for what is declared: no base type is empty, each constant and each witness has a value of its type, and a choice that is
--- listed takes an entry 1 where there is one.
+-- A model for what is declared: no base type is empty, each constant and each witness has a value of its type, a choice that is listed
+-- takes an entry 1 where there is one, and a description that is listed takes the one entry 1 where there is just one.
 pub record IsModel (scope : Scope) (m : Model) : Type 0 where
   pub sizes_pos : (n : ℕ) → 0 < m.sizes n
   pub names_in : (k : ℕ) (a : SimpleType) → slice_get scope.names k ≡ Some a → m.name_values k < size m a
   pub witnesses_in : (k : ℕ) (a : SimpleType) → slice_get scope.witnesses k ≡ Some a → m.witness_values k < size m a
   pub choices_in : (a : SimpleType) (e : ℕ) → listed m.choices a ≡ Some e → e < size m (arrow (predicate a) a)
   pub choices_law : (a : SimpleType) (e : ℕ) → listed m.choices a ≡ Some e → (p : ℕ) → p < size m (predicate a) → (x : ℕ) → x < size m a → entry 2 p x ≡ 1 → entry 2 p (entry (size m a) e p) ≡ 1
+  pub descriptions_in : (a : SimpleType) (d : ℕ) → listed m.descriptions a ≡ Some d → d < size m (arrow (predicate a) a)
+  pub descriptions_law : (a : SimpleType) (d : ℕ) → listed m.descriptions a ≡ Some d → (p : ℕ) → p < size m (predicate a) → (x : ℕ) → x < size m a → entry 2 p x ≡ 1 → ((y : ℕ) → y < size m a → entry 2 p y ≡ 1 → y ≡ x) → entry (size m a) d p ≡ x

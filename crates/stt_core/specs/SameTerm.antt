@@ -1,7 +1,7 @@
 -- Whether two terms are the same.
 use Rattle.std.specs.Prelude.{Bool, true, false, ◌&&◌, nat_eq}
 use Rattle.stt_core.specs.SimpleType.{same_type}
-use Rattle.stt_core.specs.Lambda.{Constant, name, witness, falsity, negation, implication, all, equality, choice, Lambda, bound, constant, lam, app}
+use Rattle.stt_core.specs.Lambda.{Constant, name, witness, falsity, negation, implication, all, equality, choice, description, Lambda, bound, constant, lam, app}
 
 abbrev pub same_constant : Constant → Constant → Bool
 same_constant (name j) (name k) = nat_eq j k
@@ -12,6 +12,7 @@ same_constant implication implication = true
 same_constant (all a) (all b) = same_type a b
 same_constant (equality a) (equality b) = same_type a b
 same_constant (choice a) (choice b) = same_type a b
+same_constant (description a) (description b) = same_type a b
 same_constant c d = false
 
 abbrev pub same_term : Lambda → Lambda → Bool

@@ -1,7 +1,7 @@
 -- Which type a term has (Church 1940, section 3).
 use Rattle.std.specs.Prelude.{◌≡◌, ℕ, true, List, [], ◌∷◌, Option, Some, None, slice_get, option_map, if◌then◌else◌}
 use Rattle.stt_core.specs.SimpleType.{SimpleType, base, arrow, formula, predicate, is_declared, same_type}
-use Rattle.stt_core.specs.Lambda.{Constant, name, witness, falsity, negation, implication, all, equality, choice, Lambda, bound, constant, lam, app}
+use Rattle.stt_core.specs.Lambda.{Constant, name, witness, falsity, negation, implication, all, equality, choice, description, Lambda, bound, constant, lam, app}
 
 -- What is declared: how many base types beside `$o` and `$i`, and the types of the constants of the signature and of the witnesses.
 pub record Scope : Type 0 where
@@ -22,6 +22,7 @@ constant_type scope implication = Some (arrow formula (arrow formula formula))
 constant_type scope (all a) = where_declared scope a (arrow (predicate a) formula)
 constant_type scope (equality a) = where_declared scope a (arrow a (predicate a))
 constant_type scope (choice a) = where_declared scope a (arrow (predicate a) a)
+constant_type scope (description a) = where_declared scope a (arrow (predicate a) a)
 
 -- the type of a function applied to an argument
 abbrev pub applied_type : Option SimpleType → Option SimpleType → Option SimpleType

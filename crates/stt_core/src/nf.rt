@@ -19,6 +19,7 @@ pub enum Head {
     All(Ty),
     Eq(Ty),
     Choice(Ty),
+    Desc(Ty),
 }
 
 /// A canonical term: binders, the outermost first, over a head with its arguments. Contracts see it as the term that it is.
@@ -139,6 +140,7 @@ impl Head {
             Head::All(a) => Ok(Head::All(a.try_clone(alloc)?)),
             Head::Eq(a) => Ok(Head::Eq(a.try_clone(alloc)?)),
             Head::Choice(a) => Ok(Head::Choice(a.try_clone(alloc)?)),
+            Head::Desc(a) => Ok(Head::Desc(a.try_clone(alloc)?)),
         }
     }
 }

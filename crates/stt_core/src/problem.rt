@@ -60,10 +60,22 @@ impl Terms {
     }
 }
 
-/// A typed problem: the formulas that it assumes, in order, and its conjecture, where it has one.
+/// A typed problem: the formulas that it assumes, in order, and its conjecture, where it has one. Contracts see it as plain data.
 #[derive(Drop)]
 pub struct Problem {
     pub signature: Signature,
     pub assumed: Terms,
     pub conjecture: Option<Term>,
+}
+
+impl Model for Problem {
+    ghost use Rattle.std.specs.Prelude.{option_map};
+    ghost use Rattle.stt_core.specs.PlainProblem.{PlainProblem, problem_code};
+    ghost use Rattle.stt_core.specs.View.{the_term};
+
+    ghost Value = { PlainProblem };
+
+    ghost coded = { problem_code };
+
+    ghost view = { λ p. record { declared = record { bases = p.signature.bases; consts = p.signature.consts }; assumed = p.assumed; conjecture = option_map the_term p.conjecture } };
 }

@@ -53,6 +53,7 @@ impl Head {
             (Head::All(a), Head::All(b)) => a.same(b),
             (Head::Eq(a), Head::Eq(b)) => a.same(b),
             (Head::Choice(a), Head::Choice(b)) => a.same(b),
+            (Head::Desc(a), Head::Desc(b)) => a.same(b),
             _ => false,
         }
     }

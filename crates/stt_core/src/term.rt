@@ -15,6 +15,7 @@ pub enum Term {
     All(Ty),
     Eq(Ty),
     Choice(Ty),
+    Desc(Ty),
     Lam(Ty, Box<Term>),
     App(Box<Term>, Box<Term>),
 }

@@ -30,6 +30,7 @@ impl Term {
             Term::All(a) => Ok(Head::All(a.try_clone(alloc)?)),
             Term::Eq(a) => Ok(Head::Eq(a.try_clone(alloc)?)),
             Term::Choice(a) => Ok(Head::Choice(a.try_clone(alloc)?)),
+            Term::Desc(a) => Ok(Head::Desc(a.try_clone(alloc)?)),
             Term::Lam(_, _) => unreachable!(),
             Term::App(_, _) => unreachable!(),
         }

@@ -166,6 +166,10 @@ pub fn head_type(
             let ty = function_type(alloc, predicate_type(alloc, a)?, a.try_clone(alloc)?)?;
             Ok(where_over(declared, a, ty))
         }
+        Head::Desc(a) => {
+            let ty = function_type(alloc, predicate_type(alloc, a)?, a.try_clone(alloc)?)?;
+            Ok(where_over(declared, a, ty))
+        }
     }
 }
 

@@ -5,7 +5,7 @@ use Rattle.stt_core.specs.Lambda.{Constant, Lambda, bound, constant, lam, app, l
 use Rattle.stt_core.specs.Typing.{Scope}
 use Rattle.stt_core.specs.View.{the_head}
 use Rattle.stt_core.specs.declared.nf.Head.{Head}
-use Rattle.stt_core.specs.declared.nf.Head.TheVariants.{Bound, Name, Wit, False, Not, Imp, All, Eq, Choice}
+use Rattle.stt_core.specs.declared.nf.Head.TheVariants.{Bound, Name, Wit, False, Not, Imp, All, Eq, Choice, Desc}
 use Rattle.stt_core.specs.Canonical.{IsCanonical, IsNeutral}
 use Rattle.stt_core.proofs.ListLaws.{drop_got}
 use Rattle.stt_normal.specs.Lift.{lift_by}
@@ -177,3 +177,4 @@ not_function_head Imp = tt
 not_function_head (All a) = tt
 not_function_head (Eq a) = tt
 not_function_head (Choice a) = tt
+not_function_head (Desc a) = tt

@@ -1,6 +1,6 @@
 //! Types and terms as short texts, in which a function stands before its arguments. A type is `o`, `i`, or `>` and two types. A term is a
 //! digit, for the variable with so many binders before its own, the letter of a constant or of the witness, `F`, `N` or `I` for falsity,
-//! negation and implication, `A`, `E` or `C` and a type for a quantifier, an equality and a choice, `^`, a type and a body for a function,
+//! negation and implication, `A`, `E`, `C` or `D` and a type for a quantifier, an equality, a choice and a description, `^`, a type and a body for a function,
 //! or `@`, a function and its argument. So `^>ii@0c` is the function that applies its argument, of type `i > i`, to `c`.
 
 use anyhow::Context;
@@ -53,6 +53,7 @@ impl Reader {
             b'A' => Ok(Term::All(self.pop_type()?)),
             b'E' => Ok(Term::Eq(self.pop_type()?)),
             b'C' => Ok(Term::Choice(self.pop_type()?)),
+            b'D' => Ok(Term::Desc(self.pop_type()?)),
             _ => constant(byte),
         }
     }
@@ -139,6 +140,7 @@ fn write_head(out: &mut String, head: &Head) -> Result<(), AllocError> {
         Head::All(a) => write_with_type(out, 'A', a)?,
         Head::Eq(a) => write_with_type(out, 'E', a)?,
         Head::Choice(a) => write_with_type(out, 'C', a)?,
+        Head::Desc(a) => write_with_type(out, 'D', a)?,
     }
     Ok(())
 }

@@ -1,4 +1,4 @@
-//! Quantified formulas and choice.
+//! Quantified formulas, choice and description.
 
 use crate::refutations::{Row, Rule, first_wrong};
 use std::test::Fail;
@@ -166,6 +166,57 @@ const ROWS: &[Row] = &[
             &["-A^~h0", "-hC^h0"],
             Rule::Cho("^c"),
             &[Child::Closed, Child::Closed],
+        )],
+        Some((0, Why::Typing)),
+    ),
+    // Description.
+    (
+        &[],
+        &["-A^~h0", "+A^A^>h1>h0=10", "-hD^h0"],
+        &[(
+            &["-A^~h0", "+A^A^>h1>h0=10", "-hD^h0"],
+            Rule::Des("^h0"),
+            &[Child::Closed, Child::Closed, Child::Closed],
+        )],
+        None,
+    ),
+    (
+        &[],
+        &["-A^~h0", "+A^A^>h1>h0=10", "-hD^h0"],
+        &[(
+            &["-A^~h0", "+A^A^>h1>h0=10", "-hD^h0"],
+            Rule::Des("^h0"),
+            &[Child::Closed, Child::Closed],
+        )],
+        Some((0, Why::Child)),
+    ),
+    (
+        &[],
+        &["-A^~h0", "+A^A^>h1>h0=01", "-hD^h0"],
+        &[(
+            &["-A^~h0", "+A^A^>h1>h0=01", "-hD^h0"],
+            Rule::Des("^h0"),
+            &[Child::Closed, Child::Closed, Child::Closed],
+        )],
+        Some((0, Why::Child)),
+    ),
+    (
+        &[],
+        &["-A^~h0", "-hC^h0", "+A^A^>h1>h0=10"],
+        &[(
+            &["-A^~h0", "-hC^h0", "+A^A^>h1>h0=10"],
+            Rule::Des("^h0"),
+            &[Child::Closed, Child::Closed, Child::Closed],
+        )],
+        Some((0, Why::Child)),
+    ),
+    (
+        &[],
+        &["-A^~h0", "+A^A^>h1>h0=10", "-hD^h0"],
+        &[(
+            &["-A^~h0", "+A^A^>h1>h0=10", "-hD^h0"],
+            Rule::Des("^c"),
+            &[Child::Closed, Child::Closed, Child::Closed],
         )],
         Some((0, Why::Typing)),
     ),

@@ -27,6 +27,7 @@ pub enum Rule {
     Dec(usize),
     Con(usize, usize),
     Cho(&'static str),
+    Des(&'static str),
     Cut(&'static str),
 }
 
@@ -60,6 +61,7 @@ fn rule_use(alloc: Global, rule: Rule) -> Result<RuleUse, Fail> {
         Rule::Dec(i) => Ok(RuleUse::Dec(i)),
         Rule::Con(i, j) => Ok(RuleUse::Con(i, j)),
         Rule::Cho(text) => Ok(RuleUse::Cho(term(alloc, text)?)),
+        Rule::Des(text) => Ok(RuleUse::Des(term(alloc, text)?)),
         Rule::Cut(text) => Ok(RuleUse::Cut(literal(alloc, text)?)),
     }
 }

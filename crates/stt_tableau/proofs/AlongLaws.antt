@@ -3,7 +3,7 @@ use Rattle.std.proofs.Common.{◌≡◌, ℕ, zero, suc, ◌+◌, ◌<◌, ◌�
 use Rattle.std.proofs.Math.Nat.{eq-or-lt_of_le}
 use mathlib.Core.Path.{fun_ext}
 use Rattle.stt_core.specs.SimpleType.{SimpleType, base, arrow, predicate}
-use Rattle.stt_core.specs.Lambda.{Constant, name, witness, falsity, negation, implication, all, equality, choice, Lambda, bound, constant, lam, app}
+use Rattle.stt_core.specs.Lambda.{Constant, name, witness, falsity, negation, implication, all, equality, choice, description, Lambda, bound, constant, lam, app}
 use Rattle.stt_core.specs.Typing.{Scope, type_of, constant_type}
 use Rattle.stt_core.specs.Canonical.{IsCanonical, IsNeutral}
 use Rattle.stt_core.specs.Digits.{entry, table}
@@ -22,6 +22,7 @@ IsConstantBelow k implication = Unit {0}
 IsConstantBelow k (all a) = Unit {0}
 IsConstantBelow k (equality a) = Unit {0}
 IsConstantBelow k (choice a) = Unit {0}
+IsConstantBelow k (description a) = Unit {0}
 
 abbrev IsBelow : ℕ → Lambda → Type 0
 IsBelow k (bound j) = Unit {0}
@@ -44,6 +45,7 @@ module _ (scope : Scope) (rows : List Row) where
   constant_below (all b) a h = tt
   constant_below (equality b) a h = tt
   constant_below (choice b) a h = tt
+  constant_below (description b) a h = tt
 
   mutual
     canonical_below : (ctx : List SimpleType) (a : SimpleType) (t : Lambda) → IsCanonical (with_rows scope rows) ctx a t → IsBelow (length rows) t
@@ -80,6 +82,7 @@ module _ (scope : Scope) (m : Model) (ws vs : List ℕ) (k : ℕ) (same : (j : �
   same_constant (all a) h = refl
   same_constant (equality a) h = refl
   same_constant (choice a) h = refl
+  same_constant (description a) h = refl
 
   -- a value depends only on the witnesses that the term names
   same_value : (ctx : List SimpleType) (env : List ℕ) (t : Lambda) → IsBelow k t → value scope (with_witnesses m ws) ctx env t ≡ value scope (with_witnesses m vs) ctx env t
@@ -184,6 +187,8 @@ module _ (scope : Scope) (rows : List Row) where
     witnesses_in = λ k a h. subst (λ j. slice_index (witness_list (with_rows scope rows) m [] rows) j < size m a) (zero_add k) (witness_in (with_rows scope rows) m (size_pos scope m good) [] rows k a h);
     choices_in = good.choices_in;
     choices_law = good.choices_law;
+    descriptions_in = good.descriptions_in;
+    descriptions_law = good.descriptions_law;
   }
 
   pub extended_along : IsTable scope rows → (m : Model) → GoesAlong (with_rows scope rows) (extended scope m rows) rows

@@ -9,9 +9,9 @@ use Rattle.stt_core.proofs.SpineLaws.{parts}
 use Rattle.stt_normal.specs.Normal.{eta, apply}
 use Rattle.stt_tableau.specs.Literals.{Literal, plus, minus, literal, opposite, IsLiteral}
 use Rattle.stt_tableau.specs.Witnesses.{Row}
-use Rattle.stt_tableau.specs.Rules.{Rule, false_rule, close_rule, refl_rule, imp_pos_rule, imp_neg_rule, bool_pos_rule, bool_neg_rule, fun_pos_rule, fun_neg_rule, all_pos_rule, all_neg_rule, mat_rule, dec_rule, con_rule, IsDecomposed, differ_each, cho_rule, cut_rule, agreement, nowhere, chosen, places, AreAt, IsInstance}
+use Rattle.stt_tableau.specs.Rules.{Rule, false_rule, close_rule, refl_rule, imp_pos_rule, imp_neg_rule, bool_pos_rule, bool_neg_rule, fun_pos_rule, fun_neg_rule, all_pos_rule, all_neg_rule, mat_rule, dec_rule, con_rule, IsDecomposed, differ_each, cho_rule, des_rule, cut_rule, agreement, nowhere, chosen, at_most_once, described, places, AreAt, IsInstance}
 use Rattle.stt_tableau.specs.declared.refutation.RuleUse.{RuleUse}
-use Rattle.stt_tableau.specs.declared.refutation.RuleUse.TheVariants.{False, Close, Refl, ImpPos, ImpNeg, BoolPos, BoolNeg, FunPos, FunNeg, AllPos, AllNeg, Mat, Dec, Con, Cho, Cut}
+use Rattle.stt_tableau.specs.declared.refutation.RuleUse.TheVariants.{False, Close, Refl, ImpPos, ImpNeg, BoolPos, BoolNeg, FunPos, FunNeg, AllPos, AllNeg, Mat, Dec, Con, Cho, Des, Cut}
 
 -- the alternatives of a confrontation
 abbrev confronted : ℕ → Lambda → Lambda → Lambda → Lambda → List (List Literal)
@@ -50,6 +50,8 @@ Fits scope rows (Dec i) ps as' =
     (n : ℕ) × (c : Constant) × (a : SimpleType) × (s : Lambda) × (t : Lambda) × (ss : List Lambda) × (ts : List Lambda) × IsDecomposed c × (constant_type scope c ≡ Some a) × (ps ≡ minus (eq (base (suc n)) (applied (constant c) (s ∷ ss)) (applied (constant c) (t ∷ ts))) ∷ []) × (as' ≡ differ_each a (s ∷ ss) (t ∷ ts))
 Fits scope rows (Cho f) ps as' =
     (a : SimpleType) × IsCanonical scope [] (predicate a) f × (ps ≡ []) × (as' ≡ (literal (nowhere a f) ∷ []) ∷ (literal (apply f (chosen a f)) ∷ []) ∷ [])
+Fits scope rows (Des f) ps as' =
+    (a : SimpleType) × IsCanonical scope [] (predicate a) f × (ps ≡ []) × (as' ≡ (literal (nowhere a f) ∷ []) ∷ (opposite (literal (at_most_once a f)) ∷ []) ∷ (literal (apply f (described a f)) ∷ []) ∷ [])
 
 pub fits : (scope : Scope) (rows : List Row) (rule : RuleUse) (ps : List Literal) (as' : List (List Literal)) → Rule scope rows rule ps as' → Fits scope rows rule ps as'
 fits scope rows _ _ _ (false_rule i) = (refl, refl)
@@ -64,6 +66,7 @@ fits scope rows _ _ _ (fun_neg_rule i a b s t) = (a, b, s, t, refl, refl)
 fits scope rows _ _ _ (all_pos_rule i a f u c) = (a, f, c, refl, refl)
 fits scope rows _ _ _ (all_neg_rule i k a f g) = (k, a, f, g, refl, refl)
 fits scope rows _ _ _ (cho_rule a f c) = (a, c, refl, refl)
+fits scope rows _ _ _ (des_rule a f c) = (a, c, refl, refl)
 fits scope rows _ _ _ (mat_rule i j c a s t ss ts d e) = (c, a, s, t, ss, ts, d, e, refl, refl)
 fits scope rows _ _ _ (dec_rule i n c a s t ss ts d e) = (n, c, a, s, t, ss, ts, d, e, refl, refl)
 fits scope rows _ _ _ (con_rule i j n s t u v) = (n, s, t, u, v, refl, refl)
@@ -173,6 +176,10 @@ same_alternatives scope rows distinct (Cho f) ps as' bs h k =
     let e : Some (predicate h.0) ≡ Some (predicate k.0) = sym (canonical_type-at scope [] (predicate h.0) f h.1) ∙ canonical_type-at scope [] (predicate k.0) f k.1 in
     let a : h.0 ≡ k.0 = cc in
     h.3 ∙ ap (λ x. (literal (nowhere x f) ∷ []) ∷ (literal (apply f (chosen x f)) ∷ []) ∷ []) a ∙ sym k.3
+same_alternatives scope rows distinct (Des f) ps as' bs h k =
+    let e : Some (predicate h.0) ≡ Some (predicate k.0) = sym (canonical_type-at scope [] (predicate h.0) f h.1) ∙ canonical_type-at scope [] (predicate k.0) f k.1 in
+    let a : h.0 ≡ k.0 = cc in
+    h.3 ∙ ap (λ x. (literal (nowhere x f) ∷ []) ∷ (opposite (literal (at_most_once x f)) ∷ []) ∷ (literal (apply f (described x f)) ∷ []) ∷ []) a ∙ sym k.3
 
 same_at : (branch : List Literal) (is : List ℕ) (ls ks : List Literal) → AreAt branch is ls → AreAt branch is ks → ls ≡ ks
 same_at branch [] [] [] h k = refl
@@ -240,6 +247,10 @@ module _ (scope : Scope) (rows : List Row) (branch : List Literal) where
   pub cho_is : (a : SimpleType) (f : Lambda) (as' : List (List Literal)) → IsCanonical scope [] (predicate a) f → as' ≡ (literal (nowhere a f) ∷ []) ∷ (literal (apply f (chosen a f)) ∷ []) ∷ [] → IsInstance scope rows branch (Cho f) as'
   cho_is a f as' c e =
       subst (IsInstance scope rows branch (Cho f)) (sym e) (record { principals = []; at_places = tt; fits = cho_rule a f c })
+
+  pub des_is : (a : SimpleType) (f : Lambda) (as' : List (List Literal)) → IsCanonical scope [] (predicate a) f → as' ≡ (literal (nowhere a f) ∷ []) ∷ (opposite (literal (at_most_once a f)) ∷ []) ∷ (literal (apply f (described a f)) ∷ []) ∷ [] → IsInstance scope rows branch (Des f) as'
+  des_is a f as' c e =
+      subst (IsInstance scope rows branch (Des f)) (sym e) (record { principals = []; at_places = tt; fits = des_rule a f c })
 
   pub con_is : (i j n : ℕ) (a b : SimpleType) → a ≡ base (suc n) → a ≡ b → (s t u v : Lambda) (first second : Literal × Literal) (as' : List (List Literal)) → slice_get branch i ≡ Some (plus (eq a s t)) → slice_get branch j ≡ Some (minus (eq b u v)) → (first.0 ≡ minus (eq a s u)) × (first.1 ≡ minus (eq a t u)) → (second.0 ≡ minus (eq a s v)) × (second.1 ≡ minus (eq a t v)) → as' ≡ (first.0 ∷ first.1 ∷ []) ∷ (second.0 ∷ second.1 ∷ []) ∷ [] → IsInstance scope rows branch (Con i j) as'
   con_is i j n a b is same s t u v first second as' h k p q e =

@@ -19,3 +19,4 @@ pub mod TypedLaws
 pub mod ChildLaws
 pub mod FailureLaws
 pub mod FirstFailureLaws
+pub mod StartLaws

@@ -1,7 +1,7 @@
 -- A formula's literal says what its value is.
 use Rattle.std.proofs.Common.{◌≡◌, ℕ, ◌-◌, ◌<◌, List, [], ◌∷◌, ◌++◌, refl, ap, subst, sym, ◌∙◌, Bool, true, false, not, arith, ◌⊎◌, inl, inr}
 use Rattle.stt_core.specs.SimpleType.{formula}
-use Rattle.stt_core.specs.Lambda.{name, witness, falsity, negation, implication, all, equality, choice, Lambda, bound, constant, lam, app, neg, imp}
+use Rattle.stt_core.specs.Lambda.{name, witness, falsity, negation, implication, all, equality, choice, description, Lambda, bound, constant, lam, app, neg, imp}
 use Rattle.stt_core.specs.Typing.{Scope}
 use Rattle.stt_core.specs.Canonical.{IsCanonical}
 use Rattle.stt_core.specs.Meaning.{Model, value, IsModel}
@@ -27,6 +27,7 @@ literal_cases P step rest (app (constant implication) u) = rest (app (constant i
 literal_cases P step rest (app (constant (all a)) u) = rest (app (constant (all a)) u) refl
 literal_cases P step rest (app (constant (equality a)) u) = rest (app (constant (equality a)) u) refl
 literal_cases P step rest (app (constant (choice a)) u) = rest (app (constant (choice a)) u) refl
+literal_cases P step rest (app (constant (description a)) u) = rest (app (constant (description a)) u) refl
 
 not_twice : (b : Bool) → not (not b) ≡ b
 not_twice true = refl

@@ -12,13 +12,13 @@ use Rattle.stt_core.proofs.ConstantValues.{value-imp, bit}
 use Rattle.stt_tableau.specs.Literals.{Literal, IsBranch}
 use Rattle.stt_tableau.specs.Meets.{MeetsBranch, MeetsOne}
 use Rattle.stt_tableau.specs.Witnesses.{Row}
-use Rattle.stt_tableau.specs.Rules.{Rule, false_rule, close_rule, refl_rule, imp_pos_rule, imp_neg_rule, bool_pos_rule, bool_neg_rule, fun_pos_rule, fun_neg_rule, all_pos_rule, all_neg_rule, mat_rule, dec_rule, con_rule, cho_rule, cut_rule, agreement, nowhere, chosen}
+use Rattle.stt_tableau.specs.Rules.{Rule, false_rule, close_rule, refl_rule, imp_pos_rule, imp_neg_rule, bool_pos_rule, bool_neg_rule, fun_pos_rule, fun_neg_rule, all_pos_rule, all_neg_rule, mat_rule, dec_rule, con_rule, cho_rule, des_rule, cut_rule, agreement, nowhere, chosen, at_most_once, described}
 use Rattle.stt_tableau.specs.declared.refutation.RuleUse.{RuleUse}
 use Rattle.stt_tableau.proofs.LiteralLaws.{imp_canonical, value-bit, literal-says, literal_or_opposite, not_both}
 use Rattle.stt_normal.specs.Normal.{eta, apply}
 use Rattle.stt_normal.proofs.NormalValues.{canonical-eta, value-eta}
 use Rattle.stt_tableau.specs.Along.{GoesAlong}
-use Rattle.stt_tableau.proofs.FunctionLaws.{every_canonical, canonical-agreement, canonical-nowhere, canonical-chosen, canonical-applied, value-applied, value-every-canonical, value-agreement, value-chosen}
+use Rattle.stt_tableau.proofs.FunctionLaws.{every_canonical, canonical-agreement, canonical-nowhere, canonical-chosen, canonical-at_most_once, canonical-described, canonical-applied, value-applied, value-every-canonical, value-agreement, value-chosen, value-described}
 use Rattle.stt_tableau.proofs.DecompositionLaws.{arguments_taken, differ_one}
 use Rattle.stt_tableau.proofs.EquationLaws.{eq_canonical, same_or_not, met-eq, met-differ, meets-differ}
 
@@ -109,6 +109,17 @@ module _ (scope : Scope) (m : Model) (good : IsModel scope m) where
       let k = canonical-applied scope a f (chosen a f) c (canonical-chosen scope a f c) in
       ⊎_elim
       (λ z. inr (inl ((literal-says scope m good (apply f (chosen a f)) k).at_one (value-chosen scope m good a f c z), tt)))
+      (λ o. inl ((literal-says scope m good (nowhere a f) n).at_one o, tt))
+      (bit (value scope m [] [] (nowhere a f)) (value-bit scope m good (nowhere a f) n))
+  rule_keeps rows types along _ _ _ (des_rule a f c) typed met =
+      let n = canonical-nowhere scope a f c in
+      let u = canonical-at_most_once scope a f c in
+      let k = canonical-applied scope a f (described a f) c (canonical-described scope a f c) in
+      ⊎_elim
+      (λ z. inr (⊎_elim
+      (λ v. inl ((literal-says scope m good (at_most_once a f) u).at_zero v, tt))
+      (λ o. inr (inl ((literal-says scope m good (apply f (described a f)) k).at_one (value-described scope m good a f c z o), tt)))
+      (bit (value scope m [] [] (at_most_once a f)) (value-bit scope m good (at_most_once a f) u))))
       (λ o. inl ((literal-says scope m good (nowhere a f) n).at_one o, tt))
       (bit (value scope m [] [] (nowhere a f)) (value-bit scope m good (nowhere a f) n))
   rule_keeps rows types along _ _ _ (mat_rule i j c a s t ss ts d e) typed met =

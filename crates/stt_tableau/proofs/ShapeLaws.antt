@@ -1,7 +1,7 @@
 -- The shape of a term from its binders, its head and its arguments.
 use Rattle.std.proofs.Common.{◌≡◌, ◌≤◌, ◌<◌, ℕ, List, [], ◌∷◌, Some, None, length, slice_get, refl, sym, ap, ap₂, ◌∙◌, arith}
 use Rattle.stt_core.specs.SimpleType.{SimpleType}
-use Rattle.stt_core.specs.Lambda.{Constant, name, witness, falsity, negation, implication, all, equality, choice, Lambda, bound, constant, lam, app, lambdas, applied}
+use Rattle.stt_core.specs.Lambda.{Constant, name, witness, falsity, negation, implication, all, equality, choice, description, Lambda, bound, constant, lam, app, lambdas, applied}
 use Rattle.stt_core.proofs.SpineLaws.{IsAtom, parts}
 use Rattle.stt_tableau.specs.Shape.{connective_of, IsOther}
 use Rattle.stt_tableau.specs.declared.shape.Connective.{Connective}
@@ -30,6 +30,7 @@ connective_head (constant implication) k e = let same : Imp ≡ k = cc in ap (λ
 connective_head (constant (all a)) k e = cc
 connective_head (constant (equality a)) k e = cc
 connective_head (constant (choice a)) k e = cc
+connective_head (constant (description a)) k e = cc
 
 module _ (bs : List SimpleType) (h : Lambda) (us : List Lambda) (whole : Lambda) (atom : IsAtom h) (view : lambdas bs (applied h us) ≡ whole) where
   -- a term has none of the shapes where no connective stands at its head, without binders and with all its arguments

@@ -1,7 +1,7 @@
 -- When a term is a constant with arguments.
 use Rattle.std.proofs.Common.{◌≡◌, ◌≤◌, ◌<◌, List, [], ◌∷◌, Some, None, length, slice_get, refl, sym, ap, ap₂, ◌∙◌, arith}
 use Rattle.stt_core.specs.SimpleType.{SimpleType}
-use Rattle.stt_core.specs.Lambda.{Constant, name, witness, falsity, negation, implication, all, equality, choice, Lambda, bound, constant, lam, app, eq, every, lambdas, applied}
+use Rattle.stt_core.specs.Lambda.{Constant, name, witness, falsity, negation, implication, all, equality, choice, description, Lambda, bound, constant, lam, app, eq, every, lambdas, applied}
 use Rattle.stt_core.proofs.SpineLaws.{IsAtom, SameParts, parts}
 use Rattle.stt_tableau.specs.Rules.{IsDecomposed}
 use Rattle.stt_tableau.specs.Shape.{equality_of, quantified_by, IsDecomposedHead}
@@ -33,6 +33,7 @@ quantifier_head (constant implication) a e = cc
 quantifier_head (constant (all b)) a e = let same : b ≡ a = cc in ap (λ x. constant (all x)) same
 quantifier_head (constant (equality b)) a e = cc
 quantifier_head (constant (choice b)) a e = cc
+quantifier_head (constant (description b)) a e = cc
 
 equality_head : (h : Lambda) (a : SimpleType) → equality_of h ≡ Some a → h ≡ constant (equality a)
 equality_head (bound j) a e = cc
@@ -46,6 +47,7 @@ equality_head (constant implication) a e = cc
 equality_head (constant (all b)) a e = cc
 equality_head (constant (equality b)) a e = let same : b ≡ a = cc in ap (λ x. constant (equality x)) same
 equality_head (constant (choice b)) a e = cc
+equality_head (constant (description b)) a e = cc
 
 module _ (bs : List SimpleType) (h : Lambda) (us : List Lambda) (whole : Lambda) (atom : IsAtom h) (view : lambdas bs (applied h us) ≡ whole) where
   -- the parts of a term that is a constant with arguments

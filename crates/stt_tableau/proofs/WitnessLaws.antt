@@ -2,7 +2,7 @@
 use Rattle.std.proofs.Common.{◌≡◌, ℕ, List, [], ◌∷◌, refl, ap, ap₂, ◌∙◌, option_map, if◌then◌else◌, None, unwrap_or}
 use mathlib.Core.Path.{fun_ext}
 use Rattle.stt_core.specs.SimpleType.{SimpleType, formula, arrow, is_declared}
-use Rattle.stt_core.specs.Lambda.{Constant, name, witness, falsity, negation, implication, all, equality, choice, Lambda, bound, constant, lam, app}
+use Rattle.stt_core.specs.Lambda.{Constant, name, witness, falsity, negation, implication, all, equality, choice, description, Lambda, bound, constant, lam, app}
 use Rattle.stt_core.specs.Typing.{Scope, type_of, constant_type, applied_type}
 use Rattle.stt_core.specs.Digits.{entry, table}
 use Rattle.stt_core.specs.Meaning.{Model, size, result_size, value, constant_value}
@@ -21,6 +21,7 @@ module _ (scope : Scope) (rows : List Row) where
   constant_type-rows (all a) h = refl
   constant_type-rows (equality a) h = refl
   constant_type-rows (choice a) h = refl
+  constant_type-rows (description a) h = refl
 
   pub type_of-rows : (ctx : List SimpleType) (t : Lambda) → NamesNoWitness t → type_of (with_rows scope rows) ctx t ≡ type_of scope ctx t
   type_of-rows ctx (bound k) h = refl
@@ -38,6 +39,7 @@ module _ (scope : Scope) (rows : List Row) where
     constant_value-witnesses (all a) h = refl
     constant_value-witnesses (equality a) h = refl
     constant_value-witnesses (choice a) h = refl
+    constant_value-witnesses (description a) h = refl
 
     -- the value of a term that names no witness is the same over any rows, whatever the values of their witnesses
     pub value-rows : (ctx : List SimpleType) (env : List ℕ) (t : Lambda) → NamesNoWitness t → value (with_rows scope rows) (with_witnesses m values) ctx env t ≡ value scope m ctx env t

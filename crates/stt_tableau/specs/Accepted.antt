@@ -7,7 +7,7 @@ use Rattle.stt_tableau.specs.Literals.{Literal, opposite, IsLiteral, IsBranch}
 use Rattle.stt_tableau.specs.Witnesses.{Row, with_rows, IsTypedRow, IsTwice, IsTable}
 use Rattle.stt_tableau.specs.Rules.{IsInstance}
 use Rattle.stt_tableau.specs.declared.refutation.RuleUse.{RuleUse}
-use Rattle.stt_tableau.specs.declared.refutation.RuleUse.TheVariants.{AllPos, Cho, Cut}
+use Rattle.stt_tableau.specs.declared.refutation.RuleUse.TheVariants.{AllPos, Cho, Des, Cut}
 use Rattle.stt_tableau.specs.declared.refutation.Child.{Child}
 use Rattle.stt_tableau.specs.declared.refutation.Child.TheVariants as child
 use Rattle.stt_tableau.specs.declared.refutation.Line.{Line}
@@ -30,6 +30,7 @@ pub record IsClosed (branch : List Literal) : Type 0 where
 abbrev pub IsTypedUse : Scope → RuleUse → Type 0
 IsTypedUse scope (AllPos i u) = (a : SimpleType) × IsCanonical scope [] a u
 IsTypedUse scope (Cho f) = (a : SimpleType) × IsCanonical scope [] (predicate a) f
+IsTypedUse scope (Des f) = (a : SimpleType) × IsCanonical scope [] (predicate a) f
 IsTypedUse scope (Cut l) = IsLiteral scope l
 IsTypedUse scope rule = Unit {0}
 

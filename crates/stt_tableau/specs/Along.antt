@@ -12,7 +12,7 @@ least_zero p (suc n) x = if nat_eq (entry 2 p x) 0 then x else least_zero p n (s
 
 -- the model with these values for the witnesses
 abbrev pub with_witnesses : Model → List ℕ → Model
-with_witnesses m values = record { sizes = m.sizes; name_values = m.name_values; witness_values = slice_index values; choices = m.choices }
+with_witnesses m values = record { sizes = m.sizes; name_values = m.name_values; witness_values = slice_index values; choices = m.choices; descriptions = m.descriptions }
 
 -- The values of the witnesses of further rows behind those that are there: each is the least one at which the row's predicate is 0, or
 -- 0. The scope has the witnesses of all rows.

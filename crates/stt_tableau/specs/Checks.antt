@@ -71,12 +71,13 @@ abbrev pub IsRowOf : List Row → SimpleType → Lambda → Option ℕ → Type 
 IsRowOf rows a f (Some k) = slice_get rows k ≡ Some (record { type = a; predicate = f })
 IsRowOf rows a f None = (k : ℕ) → slice_get rows k ≡ Some (record { type = a; predicate = f }) → ⊥
 
--- the term is a closed canonical function from this type, which is declared
+-- the term is a canonical function from this type, which is declared
 pub record IsFunctionFrom (a : SimpleType) (f : Lambda) : Type 0 where
   pub scope : Scope
+  pub ctx : List SimpleType
   pub result : SimpleType
   pub declared : is_declared scope.bases a ≡ true
-  pub function_in : IsCanonical scope [] (arrow a result) f
+  pub function_in : IsCanonical scope ctx (arrow a result) f
 
 -- the term is a closed canonical predicate on this type
 abbrev pub IsPredicateOn : SimpleType → Lambda → Type 0

@@ -1,8 +1,8 @@
 -- The rules of the calculus (Brown and Smolka 2010, section 4; Backes and Brown, Analytic tableaux for higher-order logic with choice,
--- 2011, section 3). The cut is this project's own.
+-- 2011, section 3). The rule for descriptions and the cut are this project's own.
 use Rattle.std.specs.Prelude.{◌≡◌, ℕ, suc, List, [], ◌∷◌, Some, slice_get}
 use Rattle.stt_core.specs.SimpleType.{SimpleType, base, arrow, formula, predicate}
-use Rattle.stt_core.specs.Lambda.{Constant, name, witness, falsity, negation, implication, all, equality, choice, Lambda, bound, constant, lam, app, neg, imp, eq, every, applied}
+use Rattle.stt_core.specs.Lambda.{Constant, name, witness, falsity, negation, implication, all, equality, choice, description, Lambda, bound, constant, lam, app, neg, imp, eq, every, applied}
 use Rattle.stt_core.specs.Typing.{Scope, constant_type}
 use Rattle.stt_core.specs.Canonical.{IsCanonical}
 use Rattle.stt_normal.specs.Lift.{lift}
@@ -10,7 +10,7 @@ use Rattle.stt_normal.specs.Normal.{eta, apply}
 use Rattle.stt_tableau.specs.Literals.{Literal, plus, minus, opposite, literal, IsLiteral}
 use Rattle.stt_tableau.specs.Witnesses.{Row}
 use Rattle.stt_tableau.specs.declared.refutation.RuleUse.{RuleUse}
-use Rattle.stt_tableau.specs.declared.refutation.RuleUse.TheVariants.{False, Close, Refl, ImpPos, ImpNeg, BoolPos, BoolNeg, FunPos, FunNeg, AllPos, AllNeg, Mat, Dec, Con, Cho, Cut}
+use Rattle.stt_tableau.specs.declared.refutation.RuleUse.TheVariants.{False, Close, Refl, ImpPos, ImpNeg, BoolPos, BoolNeg, FunPos, FunNeg, AllPos, AllNeg, Mat, Dec, Con, Cho, Des, Cut}
 
 -- what a function gives at a new variable of this type, which is its argument type
 abbrev pub at_new : SimpleType → Lambda → Lambda
@@ -28,11 +28,28 @@ nowhere a f = every a (lam a (neg (at_new a f)))
 abbrev pub chosen : SimpleType → Lambda → Lambda
 chosen a f = eta a (app (constant (choice a)) f)
 
--- a constant whose arguments are compared: a name, a witness, or the choice from a type
+-- what a predicate on a type gives at the outer and at the inner one of two new variables
+abbrev pub at_outer : SimpleType → Lambda → Lambda
+at_outer a f = lift 0 (at_new a f)
+
+abbrev pub at_inner : SimpleType → Lambda → Lambda
+at_inner a f = at_new a (lift 0 f)
+
+-- the formula that a predicate on a type holds of one value at most: of two of which it holds each is the other
+abbrev pub at_most_once : SimpleType → Lambda → Lambda
+at_most_once a f =
+    every a (lam a (every a (lam a (imp (at_outer a f) (imp (at_inner a f) (eq a (eta a (bound 1)) (eta a (bound 0))))))))
+
+-- what a predicate on a type describes: the value of which alone it holds
+abbrev pub described : SimpleType → Lambda → Lambda
+described a f = eta a (app (constant (description a)) f)
+
+-- a constant whose arguments are compared: a name, a witness, or the choice from a type or a description of its values
 abbrev pub IsDecomposed : Constant → Type 0
 IsDecomposed (name k) = Unit {0}
 IsDecomposed (witness k) = Unit {0}
 IsDecomposed (choice a) = Unit {0}
+IsDecomposed (description a) = Unit {0}
 IsDecomposed falsity = ⊥
 IsDecomposed negation = ⊥
 IsDecomposed implication = ⊥
@@ -64,6 +81,7 @@ pub data Rule (scope : Scope) (rows : List Row) : RuleUse → List Literal → L
   dec_rule : (i n : ℕ) (c : Constant) (a : SimpleType) (s t : Lambda) (ss ts : List Lambda) → IsDecomposed c → constant_type scope c ≡ Some a → Rule scope rows (Dec i) (minus (eq (base (suc n)) (applied (constant c) (s ∷ ss)) (applied (constant c) (t ∷ ts))) ∷ []) (differ_each a (s ∷ ss) (t ∷ ts))
   con_rule : (i j n : ℕ) (s t u v : Lambda) → Rule scope rows (Con i j) (plus (eq (base (suc n)) s t) ∷ minus (eq (base (suc n)) u v) ∷ []) ((minus (eq (base (suc n)) s u) ∷ minus (eq (base (suc n)) t u) ∷ []) ∷ (minus (eq (base (suc n)) s v) ∷ minus (eq (base (suc n)) t v) ∷ []) ∷ [])
   cho_rule : (a : SimpleType) (f : Lambda) → IsCanonical scope [] (predicate a) f → Rule scope rows (Cho f) [] ((literal (nowhere a f) ∷ []) ∷ (literal (apply f (chosen a f)) ∷ []) ∷ [])
+  des_rule : (a : SimpleType) (f : Lambda) → IsCanonical scope [] (predicate a) f → Rule scope rows (Des f) [] ((literal (nowhere a f) ∷ []) ∷ (opposite (literal (at_most_once a f)) ∷ []) ∷ (literal (apply f (described a f)) ∷ []) ∷ [])
   cut_rule : (l : Literal) → IsLiteral scope l → Rule scope rows (Cut l) [] ((l ∷ []) ∷ (opposite l ∷ []) ∷ [])
 
 -- the places of the principals in the branch
@@ -83,6 +101,7 @@ places (Mat i j) = i ∷ j ∷ []
 places (Dec i) = i ∷ []
 places (Con i j) = i ∷ j ∷ []
 places (Cho f) = []
+places (Des f) = []
 places (Cut l) = []
 
 -- the literals stand at these places of the branch

@@ -2,7 +2,7 @@
 use Rattle.std.specs.Prelude.{◌≡◌, List, ◌∷◌, Option, Some, None}
 use Rattle.stt_core.specs.SimpleType.{SimpleType}
 use Rattle.stt_core.specs.View.{the_type}
-use Rattle.stt_core.specs.Lambda.{Constant, name, witness, falsity, negation, implication, all, equality, choice, Lambda, bound, constant, lam, app, neg, imp, eq, every, applied}
+use Rattle.stt_core.specs.Lambda.{Constant, name, witness, falsity, negation, implication, all, equality, choice, description, Lambda, bound, constant, lam, app, neg, imp, eq, every, applied}
 use Rattle.stt_tableau.specs.declared.equation.Equation.{Equation}
 use Rattle.stt_tableau.specs.declared.quantifier.Quantified.{Quantified}
 use Rattle.stt_core.specs.View.{the_head}
@@ -23,6 +23,7 @@ connective_of (constant (witness k)) = None
 connective_of (constant (all a)) = None
 connective_of (constant (equality a)) = None
 connective_of (constant (choice a)) = None
+connective_of (constant (description a)) = None
 connective_of (bound k) = None
 connective_of (lam a s) = None
 connective_of (app s u) = None
@@ -50,6 +51,7 @@ equality_of (constant negation) = None
 equality_of (constant implication) = None
 equality_of (constant (all a)) = None
 equality_of (constant (choice a)) = None
+equality_of (constant (description a)) = None
 equality_of (bound k) = None
 equality_of (lam a s) = None
 equality_of (app s u) = None
@@ -69,6 +71,7 @@ quantified_by (constant negation) = None
 quantified_by (constant implication) = None
 quantified_by (constant (equality a)) = None
 quantified_by (constant (choice a)) = None
+quantified_by (constant (description a)) = None
 quantified_by (bound k) = None
 quantified_by (lam a s) = None
 quantified_by (app s u) = None

@@ -3,7 +3,7 @@ use Rattle.std.specs.Prelude.{List, [], ◌∷◌, ◌++◌, map, refl, Contains
 use Rattle.std.specs.Coded.{Coded, code_by, coded×}
 use Rattle.stt_core.specs.SimpleType.{SimpleType, predicate}
 use Rattle.stt_core.specs.TypeCode.{type_code}
-use Rattle.stt_core.specs.Lambda.{Constant, name, witness, falsity, negation, implication, all, equality, choice, Lambda, bound, constant, lam, app}
+use Rattle.stt_core.specs.Lambda.{Constant, name, witness, falsity, negation, implication, all, equality, choice, description, Lambda, bound, constant, lam, app}
 use Rattle.stt_core.specs.LambdaCode.{lambda_code}
 use Rattle.stt_core.specs.Typing.{Scope}
 use Rattle.stt_core.specs.Canonical.{IsCanonical}
@@ -47,6 +47,7 @@ IsNoWitness implication = Unit {0}
 IsNoWitness (all a) = Unit {0}
 IsNoWitness (equality a) = Unit {0}
 IsNoWitness (choice a) = Unit {0}
+IsNoWitness (description a) = Unit {0}
 
 -- no constant of the term is a witness
 abbrev pub NamesNoWitness : Lambda → Type 0

@@ -84,6 +84,20 @@ pub fn either(alloc: Global, left: Lit, right: Lit) -> Result<Alternatives, Allo
     Ok(alternatives)
 }
 
+/// Three alternatives of one literal each.
+pub fn any_of_three(
+    alloc: Global,
+    first: Lit,
+    second: Lit,
+    third: Lit,
+) -> Result<Alternatives, AllocError>
+    ensures { IfOk result (λ a. a ≡ (first ∷ []) ∷ (second ∷ []) ∷ (third ∷ []) ∷ []) }
+{
+    let mut alternatives = either(alloc, first, second)?;
+    alternatives.push(alone(alloc, third)?)?;
+    Ok(alternatives)
+}
+
 /// One alternative of two literals.
 pub fn both(alloc: Global, left: Lit, right: Lit) -> Result<Alternatives, AllocError>
     ensures { IfOk result (λ a. a ≡ (left ∷ right ∷ []) ∷ []) }

@@ -1,4 +1,4 @@
-//! Names, witnesses and choices with arguments, and the rules that compare their arguments.
+//! Names, witnesses, choices and descriptions with arguments, and the rules that compare their arguments.
 
 ghost use Rattle.std.specs.Prelude.{◌≡◌, ◌↔◌, ◌++◌, [], ◌∷◌, List, drop, IfOk, IsTrue};
 ghost use Rattle.stt_core.specs.View.{the_head, the_type};
@@ -15,7 +15,7 @@ use crate::lit::Lits;
 use std::alloc::{AllocError, Global};
 use stt_core::{Context, Declared, Head, Nf, Nfs, Signature, Ty, Types, head_type};
 
-/// A name, a witness or a choice, with its arguments, of which there is one at least.
+/// A name, a witness, a choice or a description, with its arguments, of which there is one at least.
 #[derive(Drop)]
 pub struct Spine<'a> {
     pub head: &'a Head,
@@ -35,10 +35,11 @@ fn is_decomposed(head: &Head) -> bool
         Head::All(_) => false,
         Head::Eq(_) => false,
         Head::Choice(_) => true,
+        Head::Desc(_) => true,
     }
 }
 
-/// The head and the arguments of a term, where it is a name, a witness or a choice with arguments.
+/// The head and the arguments of a term, where it is a name, a witness, a choice or a description with arguments.
 fn spine_of(nf: &Nf) -> Option<Spine<'_>>
     ensures { IsSpine nf.now result }
 {

@@ -38,6 +38,7 @@ fn equality_type(head: &Head) -> Option<&Ty>
         Head::All(_) => None,
         Head::Eq(ty) => Some(ty),
         Head::Choice(_) => None,
+        Head::Desc(_) => None,
     }
 }
 

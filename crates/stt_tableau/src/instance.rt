@@ -8,6 +8,7 @@ ghost use Rattle.stt_tableau.specs.Checks.{FindsInstance};
 
 use crate::alternatives::Alternatives;
 use crate::decompose::{dec_instance, mat_instance};
+use crate::description::des_instance;
 use crate::equation::{bool_neg_instance, bool_pos_instance, con_instance, refl_instance};
 use crate::lit::Lits;
 use crate::propositional::{
@@ -48,6 +49,7 @@ pub fn find_instance(
         RuleUse::AllPos(i, u) => Ok(all_pos_instance(alloc, sig, types, branch, *i, u)?),
         RuleUse::AllNeg(i) => Ok(all_neg_instance(alloc, rows, branch, *i)?),
         RuleUse::Cho(f) => Ok(cho_instance(alloc, sig, types, branch, f)?),
+        RuleUse::Des(f) => Ok(des_instance(alloc, sig, types, branch, f)?),
         RuleUse::Mat(i, j) => Ok(mat_instance(alloc, sig, types, branch, *i, *j)?),
         RuleUse::Dec(i) => Ok(dec_instance(alloc, sig, types, branch, *i)?),
         RuleUse::Con(i, j) => Ok(con_instance(alloc, branch, *i, *j)?),

@@ -46,6 +46,7 @@ fn quantifier_type(head: &Head) -> Option<&Ty>
         Head::All(ty) => Some(ty),
         Head::Eq(_) => None,
         Head::Choice(_) => None,
+        Head::Desc(_) => None,
     }
 }
 
@@ -85,7 +86,7 @@ pub fn quantified_at(branch: &Lits, i: usize, positive: bool) -> Option<Quantifi
 }
 
 /// What a function gives at a new variable of its argument type.
-fn at_new_variable(alloc: Global, ty: &Ty, f: &Nf) -> Result<Nf, AllocError>
+pub fn at_new_variable(alloc: Global, ty: &Ty, f: &Nf) -> Result<Nf, AllocError>
     requires { IsFunctionFrom (the_type ty.now) f.now }
     ensures { IfOk result (λ nf. nf ≡ at_new (the_type ty.now) f.now) }
 {
@@ -94,18 +95,25 @@ fn at_new_variable(alloc: Global, ty: &Ty, f: &Nf) -> Result<Nf, AllocError>
     Ok(apply_nf(alloc, &lifted, &variable)?)
 }
 
-/// The formula that what a head gives with these arguments holds for each value of the new variable.
-fn everywhere(alloc: Global, ty: &Ty, head: Head, args: Nfs) -> Result<Nf, AllocError>
-    ensures { IfOk result (λ nf. nf ≡ every (the_type ty.now) (lam (the_type ty.now) (applied (the_head head) args))) }
+/// The function that takes the new variable to what a head gives with these arguments.
+pub fn of_new_variable(alloc: Global, ty: &Ty, head: Head, args: Nfs) -> Result<Nf, AllocError>
+    ensures { IfOk result (λ nf. nf ≡ lam (the_type ty.now) (applied (the_head head) args)) }
 {
     let mut binders = Types::new(alloc);
     binders.push(ty.try_clone(alloc)?)?;
-    let mut predicates = Nfs::new(alloc);
-    predicates.push(Nf {
+    Ok(Nf {
         binders,
         head,
         args,
-    })?;
+    })
+}
+
+/// The formula that what a head gives with these arguments holds for each value of the new variable.
+pub fn everywhere(alloc: Global, ty: &Ty, head: Head, args: Nfs) -> Result<Nf, AllocError>
+    ensures { IfOk result (λ nf. nf ≡ every (the_type ty.now) (lam (the_type ty.now) (applied (the_head head) args))) }
+{
+    let mut predicates = Nfs::new(alloc);
+    predicates.push(of_new_variable(alloc, ty, head, args)?)?;
     Ok(Nf {
         binders: Types::new(alloc),
         head: Head::All(ty.try_clone(alloc)?),
@@ -144,7 +152,7 @@ fn agreement_literal(alloc: Global, a: &Ty, b: &Ty, s: &Nf, t: &Nf) -> Result<Li
 }
 
 /// The literal of what a predicate gives at an argument.
-fn applied_literal(alloc: Global, f: &Nf, u: &Nf) -> Result<Lit, AllocError>
+pub fn applied_literal(alloc: Global, f: &Nf, u: &Nf) -> Result<Lit, AllocError>
     requires { CanApply f.now u.now }
     ensures { IfOk result (λ l. l ≡ literal (apply f.now u.now)) }
 {
@@ -299,7 +307,7 @@ fn chosen_by(alloc: Global, ty: &Ty, f: &Nf) -> Result<Nf, AllocError>
 }
 
 /// The literal that a predicate holds nowhere.
-fn nowhere_literal(alloc: Global, ty: &Ty, f: &Nf) -> Result<Lit, AllocError>
+pub fn nowhere_literal(alloc: Global, ty: &Ty, f: &Nf) -> Result<Lit, AllocError>
     requires { IsFunctionFrom (the_type ty.now) f.now }
     ensures { IfOk result (λ l. l ≡ literal (nowhere (the_type ty.now) f.now)) }
 {

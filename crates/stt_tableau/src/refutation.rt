@@ -25,6 +25,7 @@ pub enum RuleUse {
     Dec(usize),
     Con(usize, usize),
     Cho(Nf),
+    Des(Nf),
     Cut(Lit),
 }
 

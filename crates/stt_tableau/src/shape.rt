@@ -36,6 +36,7 @@ fn head_connective(head: &Head) -> Option<Connective>
         Head::All(_) => None,
         Head::Eq(_) => None,
         Head::Choice(_) => None,
+        Head::Desc(_) => None,
     }
 }
 

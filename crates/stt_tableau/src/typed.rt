@@ -118,6 +118,7 @@ pub fn is_typed_use(
     match rule {
         RuleUse::AllPos(_, term) => Ok(has_some_type(alloc, sig, types, term)?),
         RuleUse::Cho(term) => Ok(is_typed_predicate(alloc, sig, types, term)?),
+        RuleUse::Des(term) => Ok(is_typed_predicate(alloc, sig, types, term)?),
         RuleUse::Cut(lit) => Ok(is_typed_literal(alloc, sig, types, lit)?),
         RuleUse::False(_) => Ok(true),
         RuleUse::Close(_, _) => Ok(true),

@@ -1,6 +1,6 @@
 //! What was read, as short texts. A type is `o`, `i`, a name in braces, or `>` with the type before the arrow and the one behind it. A head
-//! is `#` or `w` with its number, a name in braces, `F` for falsity, `N` for negation, `I` for implication, or `A`, `E` or `C` with a type
-//! for the quantifier over it, the equality on it and the choice from it; its arguments stand behind it in brackets. `^` with a type and a
+//! is `#` or `w` with its number, a name in braces, `F` for falsity, `N` for negation, `I` for implication, or `A`, `E`, `C` or `D` with a
+//! type for the quantifier over it, the equality on it, the choice from it and the description; its arguments stand behind it in brackets. `^` with a type and a
 //! term is a function. A line is its rule, its branch and its children, with `|` between them.
 
 use refute_text::{TextHead, TextLine, TextLit, TextNode, TextRule, TextTerm, TextTerms, TextTy};
@@ -45,6 +45,7 @@ fn show_head(text: &mut String, head: &TextHead) -> Result<(), AllocError> {
         TextHead::All(ty) => show_typed(text, 'A', ty),
         TextHead::Eq(ty) => show_typed(text, 'E', ty),
         TextHead::Choice(ty) => show_typed(text, 'C', ty),
+        TextHead::Desc(ty) => show_typed(text, 'D', ty),
     }
 }
 
@@ -100,6 +101,10 @@ fn show_rule(text: &mut String, rule: &TextRule) -> Result<(), AllocError> {
         TextRule::Con(i, j) => write!(text, "Con {i} {j}"),
         TextRule::Cho(term) => {
             text.push_str("Cho ")?;
+            show_term(text, term)
+        }
+        TextRule::Des(term) => {
+            text.push_str("Des ")?;
             show_term(text, term)
         }
         TextRule::Cut(literal) => {

@@ -2,11 +2,11 @@
 use Rattle.std.proofs.Common.{◌≡◌, ℕ, List, ◌∷◌, Result, Ok, ap, sym, ◌∙◌}
 use Rattle.stt_core.specs.SimpleType.{SimpleType}
 use Rattle.stt_core.specs.TypedName.{TypedName}
+use Rattle.stt_core.specs.Declarations.{Declarations}
 use Rattle.thf_syntax.specs.Trees.{VarTree}
 use Rattle.thf_syntax.specs.declared.formula.Binder.{Binder}
 use Rattle.type_check.specs.Outcome.{IllPlace, ◌>>=◌}
 use Rattle.type_check.specs.Answers.{Refuses}
-use Rattle.type_check.specs.Declarations.{Declarations}
 use Rattle.type_check.specs.Types.{read_type}
 use Rattle.type_check.specs.Terms.{Reading, bind, read_binder}
 use Rattle.type_check.specs.declared.refusal.Refusal.{Refusal}

@@ -10,11 +10,12 @@ use Rattle.stt_core.specs.Lambda.{Lambda}
 use Rattle.stt_core.specs.TypedName.{TypedName}
 use Rattle.stt_core.specs.Signature.{symbol_named}
 use Rattle.stt_core.proofs.ListLaws.{map-append}
+use Rattle.stt_core.specs.Declarations.{Declarations}
+use Rattle.stt_core.specs.PlainProblem.{PlainProblem}
 use Rattle.thf_include.specs.View.{PlacedTree}
-use Rattle.type_check.specs.Declarations.{Declarations}
 use Rattle.type_check.specs.Types.{read_type}
-use Rattle.type_check.specs.Statements.{ReadProblem, read_formula, with_const, with_formula, problem_of}
-use Rattle.type_check.specs.TypedProblem.{declared_names, NamesDiffer, IsDeclaredWith, AllDeclared, AllNames}
+use Rattle.type_check.specs.Statements.{read_formula, with_const, with_formula, problem_of}
+use Rattle.type_check.specs.ProblemNames.{declared_names, NamesDiffer, IsDeclaredWith, AllDeclared, AllNames}
 use Rattle.type_check.proofs.OutcomeLaws.{if_ok-always}
 use Rattle.type_check.proofs.ProblemLaws.{Keeps, problem_of-keeps}
 use Rattle.type_check.proofs.Symbols.{fresh}
@@ -78,7 +79,7 @@ AreDifferent-const d c new h =
     subst AreDifferent (sym all)
     (AreDifferent-insert names [] c.name (subst (All (λ y. c.name ≢ y)) (sym (append-nil names)) (All-symbol_named d c.name new)) (subst AreDifferent (sym (append-nil names)) h))
 
-with_formula-declared : (conjecture : Bool) (t : Lambda) (p : ReadProblem) → p.declared ≡ (with_formula conjecture t p).declared
+with_formula-declared : (conjecture : Bool) (t : Lambda) (p : PlainProblem) → p.declared ≡ (with_formula conjecture t p).declared
 with_formula-declared true t p = refl
 with_formula-declared false t p = refl
 
@@ -90,7 +91,7 @@ keeps_different = record {
   at_formula = λ p conjecture tree h kind. if_ok-always (λ t. AreDifferent (declared_names (with_formula conjecture t p).declared)) (read_formula p.declared tree) (λ t. subst (λ d. AreDifferent (declared_names d)) (with_formula-declared conjecture t p) h);
 }
 
-pub problem_of-names_differ : (ss : List PlacedTree) (p : ReadProblem) → problem_of ss ≡ Ok p → NamesDiffer p.declared
+pub problem_of-names_differ : (ss : List PlacedTree) (p : PlainProblem) → problem_of ss ≡ Ok p → NamesDiffer p.declared
 problem_of-names_differ ss p h =
     AllPairs-from_different (declared_names p.declared)
     (IfOk-at_ok (λ q. AreDifferent (declared_names q.declared)) h (problem_of-keeps (λ body. Unit {0}) (λ q. AreDifferent (declared_names q.declared)) keeps_different ss (λ k d l. tt)))
@@ -105,5 +106,5 @@ keeps_names P = record {
 }
 
 -- a property of the names that the statements declare is one of the names of the problem
-pub problem_of-declares : (P : List ℕ → Type 0) (ss : List PlacedTree) (p : ReadProblem) → problem_of ss ≡ Ok p → AllDeclared P ss → AllNames P p.declared
+pub problem_of-declares : (P : List ℕ → Type 0) (ss : List PlacedTree) (p : PlainProblem) → problem_of ss ≡ Ok p → AllDeclared P ss → AllNames P p.declared
 problem_of-declares P ss p h all = IfOk-at_ok (λ q. AllNames P q.declared) h (problem_of-keeps (IsDeclaredWith P) (λ q. AllNames P q.declared) (keeps_names P) ss all)

@@ -3,10 +3,10 @@ use Rattle.std.proofs.Common.{◌≡◌, ℕ, ◌≤◌, ◌+◌, true, List, []
 use Rattle.std.proofs.lemmas.Bool.{and_parts, and_from, lt-ltb}
 use borrow.Author.Tests.{ltb-true}
 use Rattle.stt_core.specs.SimpleType.{SimpleType, base, arrow, formula, predicate, is_declared}
-use Rattle.stt_core.specs.Lambda.{Constant, name, witness, falsity, negation, implication, all, equality, choice, Lambda, bound, constant, lam, app}
+use Rattle.stt_core.specs.Lambda.{Constant, name, witness, falsity, negation, implication, all, equality, choice, description, Lambda, bound, constant, lam, app}
 use Rattle.stt_core.specs.Typing.{Scope, AreDeclared, where_declared, constant_type, applied_type, type_of}
 use Rattle.stt_core.proofs.TypeLaws.{given, applies, abstracts, applied}
-use Rattle.type_check.specs.TypedProblem.{AreFormulas, IsFormulaIfThere}
+use Rattle.stt_core.specs.TypedProblem.{AreFormulas, IsFormulaIfThere}
 
 -- the second declares all that the first declares
 pub record Extends (old new : Scope) : Type 0 where
@@ -37,6 +37,7 @@ module _ (old new : Scope) (more : Extends old new) where
   constant_type-more (all b) a h = where_declared-more b (arrow (predicate b) formula) a h
   constant_type-more (equality b) a h = where_declared-more b (arrow b (predicate b)) a h
   constant_type-more (choice b) a h = where_declared-more b (arrow (predicate b) b) a h
+  constant_type-more (description b) a h = where_declared-more b (arrow (predicate b) b) a h
 
   pub type_of-more : (ctx : List SimpleType) (t : Lambda) (a : SimpleType) → type_of old ctx t ≡ Some a → type_of new ctx t ≡ Some a
   type_of-more ctx (bound k) a h = h

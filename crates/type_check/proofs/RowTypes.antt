@@ -2,7 +2,7 @@
 use Rattle.std.proofs.Common.{◌≡◌, Bool, true, false, List, [], ◌∷◌, Some, None, refl, ap, ap₂, ◌∙◌, if◌then◌else◌}
 use Rattle.std.proofs.lemmas.Bool.{and_parts, and_from}
 use Rattle.stt_core.specs.SimpleType.{SimpleType, arrow, formula, predicate, is_declared}
-use Rattle.stt_core.specs.Lambda.{Lambda, bound, constant, falsity, choice, lam, app, neg, imp, eq, every}
+use Rattle.stt_core.specs.Lambda.{Lambda, bound, constant, falsity, choice, description, lam, app, neg, imp, eq, every}
 use Rattle.stt_core.specs.Typing.{Scope, IsScope, AreDeclared, type_of, applied_type}
 use Rattle.stt_core.proofs.TypeLaws.{lambda_type, applied, constant_declared, get_declared, applies, abstracts}
 use Rattle.thf_syntax.specs.declared.formula.Conn.{Conn}
@@ -37,6 +37,10 @@ module _ (scope : Scope) where
 
   pub choice-type : (ctx : List SimpleType) (a : SimpleType) (s : Lambda) → is_declared scope.bases a ≡ true → Has (a ∷ ctx) s formula → Has ctx (app (constant (choice a)) (lam a s)) a
   choice-type ctx a s d h =
+      ap₂ applied_type (where_declared-is a (arrow (predicate a) a) d) (lam-type ctx a formula s d h) ∙ applied (predicate a) a
+
+  pub description-type : (ctx : List SimpleType) (a : SimpleType) (s : Lambda) → is_declared scope.bases a ≡ true → Has (a ∷ ctx) s formula → Has ctx (app (constant (description a)) (lam a s)) a
+  description-type ctx a s d h =
       ap₂ applied_type (where_declared-is a (arrow (predicate a) a) d) (lam-type ctx a formula s d h) ∙ applied (predicate a) a
 
   pub signed-type : (ctx : List SimpleType) (positive : Bool) (s : Lambda) → Has ctx s formula → Has ctx (signed positive s) formula

@@ -7,14 +7,15 @@ use Rattle.stt_core.specs.TypedName.{TypedName}
 use Rattle.stt_core.specs.Typing.{Scope, AreDeclared, IsScope}
 use Rattle.stt_core.proofs.TypeLaws.{same_type-true}
 use Rattle.stt_core.proofs.ListLaws.{map-append}
+use Rattle.stt_core.specs.Declarations.{Declarations, scope_of}
+use Rattle.stt_core.specs.PlainProblem.{PlainProblem, question_of}
+use Rattle.stt_core.specs.TypedProblem.{IsFormula, AreFormulas, IsTyped}
 use Rattle.thf_syntax.specs.Trees.{FormulaTree}
 use Rattle.thf_include.specs.View.{PlacedTree}
 use Rattle.type_check.specs.declared.refusal.IllWhy.TheVariants.{NotFormula}
-use Rattle.type_check.specs.Declarations.{Declarations}
 use Rattle.type_check.specs.Types.{read_type}
 use Rattle.type_check.specs.Terms.{read_term}
-use Rattle.type_check.specs.Statements.{ReadProblem, own_place, where_formula, read_formula, with_base, with_const, with_formula, problem_of}
-use Rattle.type_check.specs.TypedProblem.{scope_of, question_of, IsFormula, AreFormulas, IsTyped}
+use Rattle.type_check.specs.Statements.{own_place, where_formula, read_formula, with_base, with_const, with_formula, problem_of}
 use Rattle.type_check.proofs.OutcomeLaws.{if_ok-then, if_ok-where}
 use Rattle.type_check.proofs.MoreDeclared.{Extends, AreDeclared-more, AreFormulas-more, IsFormulaIfThere-more}
 use Rattle.type_check.proofs.DeclaredTypes.{read_type-declared}
@@ -41,7 +42,7 @@ read_formula-typed d over tree =
     (λ x h. if_ok-where (IsFormula (scope_of d)) (same_type x.type formula_type) (own_place tree) NotFormula (Ok x.term) (λ e. h ∙ ap Some (same_type-true x.type formula_type e)))
 
 -- what is typed stays typed where more is declared
-IsTyped-more : (p : ReadProblem) (d : Declarations) → Extends (scope_of p.declared) (scope_of d) → IsScope (scope_of d) → IsTyped (question_of p)
+IsTyped-more : (p : PlainProblem) (d : Declarations) → Extends (scope_of p.declared) (scope_of d) → IsScope (scope_of d) → IsTyped (question_of p)
     → IsTyped (question_of (record { declared = d; assumed = p.assumed; conjecture = p.conjecture }))
 IsTyped-more p d more over h = record {
   scope = over;
@@ -52,7 +53,7 @@ IsTyped-more p d more over h = record {
 length-more : (names : List (List ℕ)) (name : List ℕ) → length names ≤ length (names ++ name ∷ [])
 length-more names name = omega (arith, length-append names (name ∷ []))
 
-with_base-typed : (name : List ℕ) (p : ReadProblem) → IsTyped (question_of p) → IsTyped (question_of (with_base name p))
+with_base-typed : (name : List ℕ) (p : PlainProblem) → IsTyped (question_of p) → IsTyped (question_of (with_base name p))
 with_base-typed name p h =
     let more = length-more p.declared.bases name in
     IsTyped-more p (with_base name p).declared
@@ -60,7 +61,7 @@ with_base-typed name p h =
     (record { names_declared = AreDeclared-more (length p.declared.bases) (length (p.declared.bases ++ name ∷ [])) more (map (λ c. c.type) p.declared.consts) h.scope.names_declared; witnesses_declared = tt })
     h
 
-with_const-typed : (name : List ℕ) (a : SimpleType) (p : ReadProblem) → is_declared (length p.declared.bases) a ≡ true → IsTyped (question_of p) → IsTyped (question_of (with_const name a p))
+with_const-typed : (name : List ℕ) (a : SimpleType) (p : PlainProblem) → is_declared (length p.declared.bases) a ≡ true → IsTyped (question_of p) → IsTyped (question_of (with_const name a p))
 with_const-typed name a p d h =
     let type_in : TypedName → SimpleType = λ c. c.type in
     let types = map type_in p.declared.consts in
@@ -70,7 +71,7 @@ with_const-typed name a p d h =
     (record { names_declared = subst (AreDeclared (length p.declared.bases)) all (AreDeclared-push (length p.declared.bases) types a h.scope.names_declared d); witnesses_declared = tt })
     h
 
-with_formula-typed : (conjecture : Bool) (t : Lambda) (p : ReadProblem) → IsFormula (scope_of p.declared) t → IsTyped (question_of p) → IsTyped (question_of (with_formula conjecture t p))
+with_formula-typed : (conjecture : Bool) (t : Lambda) (p : PlainProblem) → IsFormula (scope_of p.declared) t → IsTyped (question_of p) → IsTyped (question_of (with_formula conjecture t p))
 with_formula-typed true t p f h = record { scope = h.scope; assumed = h.assumed; conjecture = f }
 with_formula-typed false t p f h = record { scope = h.scope; assumed = AreFormulas-push (scope_of p.declared) p.assumed t h.assumed f; conjecture = h.conjecture }
 
@@ -82,5 +83,5 @@ keeps_typed = record {
   at_formula = λ p conjecture tree h kind. IfOk-weaker (read_formula p.declared tree) (IsFormula (scope_of p.declared)) (λ t. IsTyped (question_of (with_formula conjecture t p))) (λ t f. with_formula-typed conjecture t p f h) (read_formula-typed p.declared h.scope tree);
 }
 
-pub problem_of-typed : (ss : List PlacedTree) (p : ReadProblem) → problem_of ss ≡ Ok p → IsTyped (question_of p)
+pub problem_of-typed : (ss : List PlacedTree) (p : PlainProblem) → problem_of ss ≡ Ok p → IsTyped (question_of p)
 problem_of-typed ss p h = IfOk-at_ok (λ q. IsTyped (question_of q)) h (problem_of-keeps (λ body. Unit {0}) (λ q. IsTyped (question_of q)) keeps_typed ss (λ k d l. tt))

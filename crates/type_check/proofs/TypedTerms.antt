@@ -11,21 +11,20 @@ use Rattle.stt_core.specs.Signature.{symbol_named}
 use Rattle.stt_core.specs.declared.signature.Symbol.{Symbol}
 use Rattle.stt_core.specs.declared.signature.Symbol.TheVariants.{Base, Const}
 use Rattle.stt_core.proofs.TypeLaws.{same_type-true}
+use Rattle.stt_core.specs.Declarations.{Declarations, scope_of}
 use Rattle.thf_syntax.specs.Trees.{VarTree, FormulaTree, constant as name_tree, variable, truth, operator, negation, binary, equation, application, quantified, binding}
 use Rattle.thf_syntax.specs.declared.formula.Conn.{Conn}
 use Rattle.thf_syntax.specs.declared.formula.Binder.{Binder}
 use Rattle.thf_syntax.specs.declared.formula.Binder.TheVariants as binder
 use Rattle.type_check.specs.Outcome.{◌>>=◌}
-use Rattle.type_check.specs.Declarations.{Declarations}
 use Rattle.type_check.specs.Types.{read_type}
 use Rattle.type_check.specs.Typed.{TypedTerm, typed, of_type, where_typed, domain}
-use Rattle.type_check.specs.Terms.{Reading, known, constant_at, constant_named, variable_named, negated, joined, equated, applied, quantified_over, quantified_by, chosen, bind, read_binder, read_term}
+use Rattle.type_check.specs.Terms.{Reading, known, constant_at, constant_named, variable_named, negated, joined, equated, applied, quantified_over, quantified_by, chosen, described, bind, read_binder, read_term}
 use Rattle.type_check.specs.Rows.{signed, join, for_all, for_some}
 use Rattle.type_check.specs.declared.refusal.IllWhy.TheVariants.{Mismatch}
-use Rattle.type_check.specs.TypedProblem.{scope_of}
 use Rattle.type_check.proofs.OutcomeLaws.{if_ok-then, if_ok-where}
 use Rattle.type_check.proofs.DeclaredTypes.{read_type-declared}
-use Rattle.type_check.proofs.RowTypes.{neg-type, eq-type, lam-type, choice-type, signed-type, truth_value-type, for_all-type, for_some-type, quantify-type, join-type, operator_term-type, type_of-declared}
+use Rattle.type_check.proofs.RowTypes.{neg-type, eq-type, lam-type, choice-type, description-type, signed-type, truth_value-type, for_all-type, for_some-type, quantify-type, join-type, operator_term-type, type_of-declared}
 
 -- the types of the variables in scope, innermost first
 abbrev pub types_of : List TypedName → List SimpleType
@@ -155,7 +154,8 @@ module _ (scope : Scope) (over : IsScope scope) (ctx : List SimpleType) (declare
     bind-typed at binder.Lam = lam-type scope ctx a x.type x.term a_declared h
     bind-typed at binder.Choice =
         if_ok-then GivesBody (HasItsType scope ctx) (of_type at formula x) (chosen a) (body-typed at) (λ s k. choice-type scope ctx a s a_declared k)
-    bind-typed at binder.Desc = tt
+    bind-typed at binder.Desc =
+        if_ok-then GivesBody (HasItsType scope ctx) (of_type at formula x) (described a) (body-typed at) (λ s k. description-type scope ctx a s a_declared k)
 
 module _ (d : Declarations) (over : IsScope (scope_of d)) where
   abbrev IsTypedUnder : List TypedName → Reading → Type 0

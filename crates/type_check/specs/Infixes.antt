@@ -1,9 +1,9 @@
 -- Nodes over two operands, which are read before the node, the left one first.
 use Rattle.std.specs.Prelude.{ℕ, List}
 use Rattle.stt_core.specs.TypedName.{TypedName}
+use Rattle.stt_core.specs.Declarations.{Declarations}
 use Rattle.thf_syntax.specs.Trees.{FormulaTree}
 use Rattle.type_check.specs.Outcome.{◌>>=◌}
-use Rattle.type_check.specs.Declarations.{Declarations}
 use Rattle.type_check.specs.Typed.{TypedTerm}
 use Rattle.type_check.specs.Terms.{Reading, joined, equated, applied, read_term}
 use Rattle.type_check.specs.declared.nodes.Infix.{Infix}

@@ -1,6 +1,5 @@
 pub mod Outcome
 pub mod Answers
-pub mod Declarations
 pub mod Types
 pub mod Typed
 pub mod TypedView
@@ -10,5 +9,5 @@ pub mod Infixes
 pub mod ScopeView
 pub mod Statements
 pub mod ReadingView
-pub mod TypedProblem
+pub mod ProblemNames
 pub mod Checks

@@ -5,21 +5,16 @@ use Rattle.std.specs.List.{list_any}
 use Rattle.stt_core.specs.SimpleType.{SimpleType, formula as formula_type, same_type}
 use Rattle.stt_core.specs.Lambda.{Lambda}
 use Rattle.stt_core.specs.Signature.{symbol_named}
+use Rattle.stt_core.specs.Declarations.{Declarations}
+use Rattle.stt_core.specs.PlainProblem.{PlainProblem}
 use Rattle.thf_syntax.specs.Trees.{TypeTree, FormulaTree, constant, variable, truth, operator, negation, binary, equation, application, quantified, binding, BodyTree, base, typing, formula, AnnotatedTree}
 use Rattle.thf_include.specs.View.{PlacedTree}
 use Rattle.type_check.specs.Outcome.{IllPlace, ill, ◌>>=◌}
-use Rattle.type_check.specs.Declarations.{Declarations}
 use Rattle.type_check.specs.Types.{read_type}
 use Rattle.type_check.specs.Typed.{TypedTerm}
 use Rattle.type_check.specs.Terms.{read_term}
 use Rattle.type_check.specs.declared.refusal.IllWhy.{IllWhy}
 use Rattle.type_check.specs.declared.refusal.IllWhy.TheVariants.{Twice, NotFormula, SecondConjecture, RoleUnknown}
-
--- a problem: what is declared, the formulas that are assumed, in order, and the conjecture, where there is one
-pub record ReadProblem : Type 0 where
-  pub declared : Declarations
-  pub assumed : List Lambda
-  pub conjecture : Option Lambda
 
 -- the roles (TPTP)
 abbrev pub roles : List (List ℕ)
@@ -54,35 +49,35 @@ read_formula d tree = do
   where_formula (own_place tree) x
 
 -- one more base type, constant or formula
-abbrev pub with_base : List ℕ → ReadProblem → ReadProblem
+abbrev pub with_base : List ℕ → PlainProblem → PlainProblem
 with_base name p = record { declared = record { bases = p.declared.bases ++ name ∷ []; consts = p.declared.consts }; assumed = p.assumed; conjecture = p.conjecture }
 
-abbrev pub with_const : List ℕ → SimpleType → ReadProblem → ReadProblem
+abbrev pub with_const : List ℕ → SimpleType → PlainProblem → PlainProblem
 with_const name a p = record { declared = record { bases = p.declared.bases; consts = p.declared.consts ++ record { name = name; type = a } ∷ [] }; assumed = p.assumed; conjecture = p.conjecture }
 
-abbrev pub with_assumed : Lambda → ReadProblem → ReadProblem
+abbrev pub with_assumed : Lambda → PlainProblem → PlainProblem
 with_assumed t p = record { declared = p.declared; assumed = p.assumed ++ t ∷ []; conjecture = p.conjecture }
 
-abbrev pub with_conjecture : Lambda → ReadProblem → ReadProblem
+abbrev pub with_conjecture : Lambda → PlainProblem → PlainProblem
 with_conjecture t p = record { declared = p.declared; assumed = p.assumed; conjecture = Some t }
 
-abbrev pub with_formula : Bool → Lambda → ReadProblem → ReadProblem
+abbrev pub with_formula : Bool → Lambda → PlainProblem → PlainProblem
 with_formula conjecture t p = if conjecture then with_conjecture t p else with_assumed t p
 
 -- what follows for a name that isn't declared yet
-abbrev pub where_new : ℕ → List ℕ → ReadProblem → Result ReadProblem IllPlace → Result ReadProblem IllPlace
+abbrev pub where_new : ℕ → List ℕ → PlainProblem → Result PlainProblem IllPlace → Result PlainProblem IllPlace
 where_new at name p next = if is_some (symbol_named p.declared.bases p.declared.consts name) then ill at Twice else next
 
-abbrev pub read_base : ReadProblem → ℕ → List ℕ → Result ReadProblem IllPlace
+abbrev pub read_base : PlainProblem → ℕ → List ℕ → Result PlainProblem IllPlace
 read_base p at name = where_new at name p (Ok (with_base name p))
 
-abbrev pub read_const : ReadProblem → ℕ → List ℕ → TypeTree → Result ReadProblem IllPlace
+abbrev pub read_const : PlainProblem → ℕ → List ℕ → TypeTree → Result PlainProblem IllPlace
 read_const p at name ty = where_new at name p (do
   a ← read_type p.declared ty
   Ok (with_const name a p))
 
 -- What is declared or stated; a formula is the conjecture or is assumed.
-abbrev pub read_body : ReadProblem → Bool → BodyTree → Result ReadProblem IllPlace
+abbrev pub read_body : PlainProblem → Bool → BodyTree → Result PlainProblem IllPlace
 read_body p conjecture (base at name) = read_base p at name
 read_body p conjecture (typing at name ty) = read_const p at name ty
 read_body p conjecture (formula tree) = do
@@ -90,12 +85,12 @@ read_body p conjecture (formula tree) = do
   Ok (with_formula conjecture t p)
 
 -- a statement whose role is known
-abbrev pub read_known : ReadProblem → AnnotatedTree → Result ReadProblem IllPlace
+abbrev pub read_known : PlainProblem → AnnotatedTree → Result PlainProblem IllPlace
 read_known p s =
     if is_conjecture s.role && is_some p.conjecture then ill s.role_at SecondConjecture
     else read_body p (is_conjecture s.role) s.body
 
-abbrev pub read_statement : ReadProblem → AnnotatedTree → Result ReadProblem IllPlace
+abbrev pub read_statement : PlainProblem → AnnotatedTree → Result PlainProblem IllPlace
 read_statement p s = if is_role s.role then read_known p s else ill s.role_at RoleUnknown
 
 -- an ill place of a problem's files
@@ -108,14 +103,14 @@ abbrev pub in_file : {A : Type 0} → ℕ → Result A IllPlace → Result A Ill
 in_file file (Ok a) = Ok a
 in_file file (Err e) = Err (record { file = file; at = e.at; why = e.why })
 
-abbrev pub read_statements : ReadProblem → List PlacedTree → Result ReadProblem IllInFile
+abbrev pub read_statements : PlainProblem → List PlacedTree → Result PlainProblem IllInFile
 read_statements p [] = Ok p
 read_statements p (s ∷ statements) = in_file s.file (read_statement p s.statement) >>= λ q. read_statements q statements
 
 -- nothing is declared or stated
-abbrev pub nothing : ReadProblem
+abbrev pub nothing : PlainProblem
 nothing = record { declared = record { bases = []; consts = [] }; assumed = []; conjecture = None }
 
 -- What the statements of a problem say together, or the first ill place.
-abbrev pub problem_of : List PlacedTree → Result ReadProblem IllInFile
+abbrev pub problem_of : List PlacedTree → Result PlainProblem IllInFile
 problem_of statements = read_statements nothing statements

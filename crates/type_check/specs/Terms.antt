@@ -3,22 +3,22 @@
 use Rattle.std.specs.Prelude.{ℕ, zero, suc, Bool, List, [], ◌∷◌, Option, Some, None, Result, Ok, slice_get, option_map, if◌then◌else◌}
 use Rattle.std.specs.Str.{bytes_eq}
 use Rattle.stt_core.specs.SimpleType.{SimpleType, arrow, formula}
-use Rattle.stt_core.specs.Lambda.{Lambda, bound, constant, name as constant_name, choice, lam, app, neg, eq}
+use Rattle.stt_core.specs.Lambda.{Lambda, bound, constant, name as constant_name, choice, description, lam, app, neg, eq}
 use Rattle.stt_core.specs.Typing.{applied_type}
 use Rattle.stt_core.specs.TypedName.{TypedName}
 use Rattle.stt_core.specs.Signature.{symbol_named}
 use Rattle.stt_core.specs.declared.signature.Symbol.{Symbol}
 use Rattle.stt_core.specs.declared.signature.Symbol.TheVariants.{Base, Const}
+use Rattle.stt_core.specs.Declarations.{Declarations}
 use Rattle.thf_syntax.specs.Trees.{VarTree, FormulaTree, constant as name_tree, variable, truth, operator, negation, binary, equation, application, quantified, binding}
 use Rattle.thf_syntax.specs.declared.formula.Conn.{Conn}
 use Rattle.thf_syntax.specs.declared.formula.Binder.{Binder}
 use Rattle.thf_syntax.specs.declared.formula.Binder.TheVariants as binder
 use Rattle.type_check.specs.Outcome.{IllPlace, ill, ◌>>=◌}
-use Rattle.type_check.specs.Declarations.{Declarations}
 use Rattle.type_check.specs.Types.{read_type}
 use Rattle.type_check.specs.Typed.{TypedTerm, typed, of_type, where_typed, domain}
 use Rattle.type_check.specs.Rows.{signed, truth_value, join, operator_term, for_all, for_some, quantify}
-use Rattle.type_check.specs.declared.refusal.IllWhy.TheVariants.{Unknown, Mismatch, LeftOut}
+use Rattle.type_check.specs.declared.refusal.IllWhy.TheVariants.{Unknown, Mismatch}
 
 abbrev pub Reading : Type 0
 Reading = Result TypedTerm IllPlace
@@ -82,6 +82,10 @@ abstracted a x = Ok (typed (lam a x.term) (arrow a x.type))
 abbrev pub chosen : SimpleType → Lambda → Reading
 chosen a s = Ok (typed (app (constant (choice a)) (lam a s)) a)
 
+-- `@-`, of a variable of type a, over a formula
+abbrev pub described : SimpleType → Lambda → Reading
+described a s = Ok (typed (app (constant (description a)) (lam a s)) a)
+
 -- a binder of one variable, of type a, over a body
 abbrev pub bind : ℕ → Binder → SimpleType → TypedTerm → Reading
 bind at binder.All a x = do
@@ -94,7 +98,9 @@ bind at binder.Lam a x = abstracted a x
 bind at binder.Choice a x = do
   s ← of_type at formula x
   chosen a s
-bind at binder.Desc a x = ill at LeftOut
+bind at binder.Desc a x = do
+  s ← of_type at formula x
+  described a s
 
 -- A binder of several variables is one of the first over one of the others. `body` reads what is bound, under the variables in scope.
 abbrev pub read_binder : Declarations → ℕ → Binder → List VarTree → List TypedName → (List TypedName → Reading) → Reading

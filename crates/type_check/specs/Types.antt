@@ -4,9 +4,9 @@ use Rattle.stt_core.specs.SimpleType.{SimpleType, base, arrow, formula}
 use Rattle.stt_core.specs.Signature.{symbol_named}
 use Rattle.stt_core.specs.declared.signature.Symbol.{Symbol}
 use Rattle.stt_core.specs.declared.signature.Symbol.TheVariants.{Base, Const}
+use Rattle.stt_core.specs.Declarations.{Declarations}
 use Rattle.thf_syntax.specs.Trees.{TypeTree, form, indiv, named, arrow as arrow_tree}
 use Rattle.type_check.specs.Outcome.{IllPlace, ill, ◌>>=◌}
-use Rattle.type_check.specs.Declarations.{Declarations}
 use Rattle.type_check.specs.declared.refusal.IllWhy.TheVariants.{Unknown}
 
 -- the type that a name stands for: a declared base type, and no constant

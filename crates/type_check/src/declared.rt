@@ -26,7 +26,7 @@ impl Model for Declared {
     ghost use Rattle.std.specs.Cmp.Lexicographic.{slice_cmp};
     ghost use Rattle.std.specs.Ordering.{nat_cmp};
     ghost use Rattle.stt_core.specs.Signature.{symbol_named};
-    ghost use Rattle.type_check.specs.Declarations.{Declarations, declarations_code};
+    ghost use Rattle.stt_core.specs.Declarations.{Declarations, declarations_code};
 
     ghost Value = { Declarations };
 

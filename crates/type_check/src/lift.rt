@@ -48,5 +48,6 @@ pub(crate) fn lift(alloc: Global, k: u32, term: Term) -> Result<Term, AllocError
         Term::All(a) => Ok(Term::All(a)),
         Term::Eq(a) => Ok(Term::Eq(a)),
         Term::Choice(a) => Ok(Term::Choice(a)),
+        Term::Desc(a) => Ok(Term::Desc(a)),
     }
 }

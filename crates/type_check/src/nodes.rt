@@ -144,6 +144,18 @@ fn chosen(alloc: Global, a: Ty, s: Term) -> Result<Typed<'static>, Refusal>
     })
 }
 
+/// The description of the one value of type `a` at which the formula `s` holds.
+fn described(alloc: Global, a: Ty, s: Term) -> Result<Typed<'static>, Refusal>
+    ensures { Answers the_typed result (defined.described (the_type a) (the_term s)) }
+{
+    let predicate = lam(alloc, a.try_clone(alloc)?, s)?;
+    let description = Term::Desc(a.try_clone(alloc)?);
+    Ok(Typed {
+        term: app(alloc, description, predicate)?,
+        ty: TypeOf::Made(a),
+    })
+}
+
 /// The function of a variable of type `a` with these values.
 fn abstracted(alloc: Global, a: Ty, x: Typed) -> Result<Typed<'static>, Refusal>
     ensures { Answers the_typed result (defined.abstracted (the_type a) (the_typed x.entry)) }
@@ -187,9 +199,9 @@ pub(crate) fn bind(
             let s = x.of_type(at, &Ty::Base(0))?;
             chosen(alloc, a, s)
         }
-        Binder::Desc => Err(Refusal::At {
-            at,
-            why: IllWhy::LeftOut,
-        }),
+        Binder::Desc => {
+            let s = x.of_type(at, &Ty::Base(0))?;
+            described(alloc, a, s)
+        }
     }
 }

@@ -1,11 +1,13 @@
 //! The reading of a whole problem.
 
 ghost use Rattle.std.specs.Prelude.{◌≡◌, ◌+◌, ◌-◌, ◌<◌, ◌≤◌, ◌^◌, Ok, length, IfOk, IfErr};
+ghost use Rattle.stt_core.specs.PlainProblem.{question_of};
+ghost use Rattle.stt_core.specs.TypedProblem.{IsTyped};
 ghost use Rattle.thf_include.specs.View.{the_placed, the_statements};
-ghost use Rattle.type_check.specs.Checks.{IsIll, the_problem};
+ghost use Rattle.type_check.specs.Checks.{IsIll};
 ghost use Rattle.type_check.specs.ReadingView.{the_reading};
 ghost use Rattle.type_check.specs.Statements.{in_file, read_statement, problem_of};
-ghost use Rattle.type_check.specs.TypedProblem.{question_of, IsTyped, NamesDiffer};
+ghost use Rattle.type_check.specs.ProblemNames.{NamesDiffer};
 
 use crate::refusal::{Ill, Refusal};
 use crate::statements::Reading;
@@ -35,14 +37,14 @@ fn read_placed(alloc: Global, reading: Reading, placed: &Placed) -> Result<Readi
 /// Reads the statements of a problem, in their order.
 pub fn check(alloc: Global, gathered: &Gathered) -> Result<Problem, Ill>
     requires { length gathered.now < 2 ^ 32 - 2 }
-    ensures read { IfOk result (λ p. problem_of (the_statements gathered.now) ≡ Ok (the_problem p)) }
+    ensures read { IfOk result (λ p. problem_of (the_statements gathered.now) ≡ Ok p) }
     ensures ill { IfErr result (λ e. IsIll e (problem_of (the_statements gathered.now))) }
 
     // What is read is typed, and its names differ.
-    ensures typed { IfOk result (λ p. IsTyped (question_of (the_problem p))) }
-    ensures names { IfOk result (λ p. NamesDiffer (the_problem p).declared) }
-    ensures few_bases { IfOk result (λ p. length p.signature.bases < 2 ^ 32 - 2) }
-    ensures few_consts { IfOk result (λ p. length p.signature.consts < 2 ^ 32) }
+    ensures typed { IfOk result (λ p. IsTyped (question_of p)) }
+    ensures names { IfOk result (λ p. NamesDiffer p.declared) }
+    ensures few_bases { IfOk result (λ p. length p.declared.bases < 2 ^ 32 - 2) }
+    ensures few_consts { IfOk result (λ p. length p.declared.consts < 2 ^ 32) }
 {
     let mut reading = Reading::new(alloc);
     for i in 0..gathered.len() {

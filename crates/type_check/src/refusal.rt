@@ -20,8 +20,6 @@ pub enum IllWhy {
     SecondConjecture,
     /// A role that isn't known.
     RoleUnknown,
-    /// A definite description.
-    LeftOut,
 }
 
 /// Why a statement isn't read: its first ill place, or want of memory.

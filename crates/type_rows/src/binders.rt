@@ -4,7 +4,7 @@ use crate::files::check_ill;
 use std::test::Fail;
 use type_check::IllWhy;
 
-// `!`, `?` and `@+` want a formula under them.
+// `!`, `?`, `@+` and `@-` want a formula under them.
 const BODIES: &[&str] = &[
     "thf(a,axiom,`! [X] : c).",
     "thf(a,axiom,`! [X:b] : g).",
@@ -15,6 +15,9 @@ const BODIES: &[&str] = &[
     "thf(a,axiom,g @ ( `@+ [X] : X )).",
     "thf(a,axiom,g @ ( `@+ [X] : f )).",
     "thf(a,axiom,g `@ ( @+ [X:b] : p )).",
+    "thf(a,axiom,`@- [X] : X).",
+    "thf(a,axiom,`@- [X] : c).",
+    "thf(a,axiom,g `@ ( @- [X:b] : p )).",
     "thf(a,axiom,! [X] : ( p & ( `! [Y] : ( f @ X ) ) )).",
 ];
 
@@ -37,16 +40,6 @@ const HIDDEN: &[&str] = &[
     "thf(a,axiom,! [X:b] : ( ( ^ [X] : ( r @ X `@ X ) ) = g )).",
 ];
 
-// Definite descriptions, whatever their bodies are.
-const LEFT_OUT: &[&str] = &[
-    "thf(a,axiom,`@- [X] : ( g @ X )).",
-    "thf(a,axiom,`@- [X] : c).",
-    "thf(a,axiom,`@- [X:$o] : X).",
-    "thf(a,axiom,g @ ( `@- [X] : p )).",
-    "thf(a,axiom,@- [X] : `@- [Y] : p).",
-    "thf(a,axiom,( `@- [X] : p ) = ( @- [X] : p )).",
-];
-
 #[test]
 fn binders_want_formulas(rt: HostRuntime) -> Result<(), Fail> {
     check_ill(&rt, rt.alloc(), IllWhy::Mismatch, BODIES)
@@ -56,9 +49,4 @@ fn binders_want_formulas(rt: HostRuntime) -> Result<(), Fail> {
 fn variables_in_scope(rt: HostRuntime) -> Result<(), Fail> {
     check_ill(&rt, rt.alloc(), IllWhy::Mismatch, UNTYPED)?;
     check_ill(&rt, rt.alloc(), IllWhy::Mismatch, HIDDEN)
-}
-
-#[test]
-fn descriptions_are_left_out(rt: HostRuntime) -> Result<(), Fail> {
-    check_ill(&rt, rt.alloc(), IllWhy::LeftOut, LEFT_OUT)
 }

@@ -1,6 +1,6 @@
 //! Problems as short texts, in which a function stands before its argument. `o` and `i` are the types of formulas and of individuals, and
 //! `>` makes an arrow of the next two types. A base type and a constant stand as their names, and a bound variable as its number. `F` is
-//! falsity, `~` negation, and `>` implication; `A`, `=` and `C` are the quantifier, the equality and the choice of the next type. `@`
+//! falsity, `~` negation, and `>` implication; `A`, `=`, `C` and `D` are the quantifier, the equality, the choice and the description of the next type. `@`
 //! applies the next term to the one after it, and `^` is a function whose argument has the next type and whose value is the term after it.
 
 use std::alloc::{AllocError, Global};
@@ -69,6 +69,7 @@ fn write_term(text: &mut String, sig: &Signature, term: &Term) -> Result<(), All
         Term::All(a) => write_with_ty(text, sig, 'A', a),
         Term::Eq(a) => write_with_ty(text, sig, '=', a),
         Term::Choice(a) => write_with_ty(text, sig, 'C', a),
+        Term::Desc(a) => write_with_ty(text, sig, 'D', a),
         Term::Lam(a, s) => {
             write_with_ty(text, sig, '^', a)?;
             write_term(text, sig, s)

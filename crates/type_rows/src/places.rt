@@ -28,11 +28,6 @@ const NUMBERED: &[(&str, u32, IllWhy)] = &[
         31,
         IllWhy::SecondConjecture,
     ),
-    (
-        "thf(c,conjecture,((@- [X:$i] : (X = X)) = (@- [X:$i] : (X = X)))).",
-        19,
-        IllWhy::LeftOut,
-    ),
 ];
 
 const UNKNOWN_ROLES: &[&str] = &[

@@ -75,6 +75,7 @@ const BINDERS: &[Row] = &[
     ("thf(a,axiom,( ^ [X] : p ) @ c).", "@^ipc "),
     ("thf(a,axiom,g @ ( @+ [X] : ( g @ X ) )).", "@g@Ci^i@g0 "),
     ("thf(a,axiom,@+ [X:$o] : X).", "@Co^o0 "),
+    ("thf(a,axiom,@- [X:$o] : X).", "@Do^o0 "),
     (
         "thf(a,axiom,! [X:$iType > $oType] : ( X @ c )).",
         "@A>io^>io@0c ",

@@ -4,7 +4,8 @@ use Rattle.stt_core.specs.ScopeView.{the_scope}
 use Rattle.stt_normal.specs.Normal.{normal_form}
 use Rattle.stt_tableau.specs.Literals.{literal}
 use Rattle.refute_check.specs.Branches.{Represents}
-use Rattle.refute_check.proofs.StartLaws.{literals-more, formula_at}
+use Rattle.stt_tableau.proofs.StartLaws.{formula_at}
+use Rattle.refute_check.proofs.StartLaws.{literals-more}
 use Rattle.refute_check.proofs.start.assumed_branch.Goals as goal
 
 pub formula_literal-requires-clause-formula : goal.formula_literal-requires-clause-formula

@@ -69,6 +69,11 @@ returns-in_ok-cho_instance-in-Cho c =
     let scope = the_scope c.args.sig.now c.args.types.now in
     subst (λ rule. FindsInstance scope c.args.rows.now c.args.branch.now rule c.in_ok-cho_instance-in-Cho.field-0) (sym c.in-Cho.is) (c.in_ok-cho_instance-in-Cho.ensures c.args.rows.now)
 
+pub returns-in_ok-des_instance-in-Des : goal.returns-in_ok-des_instance-in-Des
+returns-in_ok-des_instance-in-Des c =
+    let scope = the_scope c.args.sig.now c.args.types.now in
+    subst (λ rule. FindsInstance scope c.args.rows.now c.args.branch.now rule c.in_ok-des_instance-in-Des.field-0) (sym c.in-Des.is) (c.in_ok-des_instance-in-Des.ensures c.args.rows.now)
+
 pub fun_pos_instance-requires : goal.fun_pos_instance-requires
 fun_pos_instance-requires c = (the_scope c.args.sig.now c.args.types.now, c.requires.branch)
 
@@ -80,6 +85,9 @@ all_neg_instance-requires c = record { scope = the_scope c.args.sig.now c.args.t
 
 pub cho_instance-requires : goal.cho_instance-requires
 cho_instance-requires c = subst (IsTypedUse (the_scope c.args.sig.now c.args.types.now)) c.in-Cho.is c.requires.typed
+
+pub des_instance-requires : goal.des_instance-requires
+des_instance-requires c = subst (IsTypedUse (the_scope c.args.sig.now c.args.types.now)) c.in-Des.is c.requires.typed
 
 pub returns-in_ok-mat_instance-in-Mat : goal.returns-in_ok-mat_instance-in-Mat
 returns-in_ok-mat_instance-in-Mat c =

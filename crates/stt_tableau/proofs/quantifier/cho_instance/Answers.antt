@@ -8,19 +8,8 @@ use Rattle.stt_core.specs.View.{the_type}
 use Rattle.stt_core.specs.ScopeView.{the_scope}
 use Rattle.stt_core.proofs.CanonicalTypes.{canonical_type-at}
 use Rattle.stt_tableau.proofs.InstanceLaws.{cho_is}
+use Rattle.stt_tableau.proofs.InstanceTypes.{predicate_on, not_untyped}
 use Rattle.stt_tableau.proofs.quantifier.cho_instance.Goals as goal
-
--- the type of functions that a predicate was found to have is that of predicates
-predicate_on : (scope : Scope) (a x y : SimpleType) (f : Lambda) (o : Option SimpleType) → IsCanonical scope [] (predicate a) f → o ≡ canonical_type scope [] f → o ≡ Some (arrow x y) → IsCanonical scope [] (predicate x) f
-predicate_on scope a x y f o h e is =
-    let p : Some (arrow x y) ≡ Some (predicate a) = sym is ∙ e ∙ canonical_type-at scope [] (predicate a) f h in
-    let q : a ≡ x = cc in
-    subst (λ b. IsCanonical scope [] (predicate b) f) q h
-
-not_untyped : (scope : Scope) (a : SimpleType) (f : Lambda) (o : Option SimpleType) → IsCanonical scope [] (predicate a) f → o ≡ canonical_type scope [] f → o ≡ None → ⊥
-not_untyped scope a f o h e is =
-    let p : None ≡ Some (predicate a) = sym is ∙ e ∙ canonical_type-at scope [] (predicate a) f h in
-    cc
 
 pub nowhere_or_chosen-requires : goal.nowhere_or_chosen-requires
 nowhere_or_chosen-requires c =

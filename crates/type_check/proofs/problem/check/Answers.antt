@@ -1,13 +1,15 @@
 use Rattle.std.proofs.Common.{◌≡◌, ℕ, ◌+◌, ◌≤◌, List, Ok, length, drop, ap₂, ap, sym, subst, ◌∙◌, arith}
 use Rattle.std.proofs.lemmas.List.{length-map}
 use Rattle.std.proofs.lemmas.Result.{err_from_is_err_and}
+use Rattle.stt_core.specs.PlainProblem.{PlainProblem, question_of}
+use Rattle.stt_core.specs.TypedProblem.{IsTyped}
 use Rattle.thf_include.specs.declared.gathered.Placed.{Placed}
 use Rattle.thf_include.specs.View.{the_placed, the_statements}
 use Rattle.type_check.specs.Outcome.{◌>>=◌}
 use Rattle.type_check.specs.Checks.{IsIll}
 use Rattle.type_check.specs.ReadingView.{the_reading}
-use Rattle.type_check.specs.Statements.{ReadProblem, in_file, read_statement, read_statements, problem_of}
-use Rattle.type_check.specs.TypedProblem.{question_of, IsTyped, NamesDiffer}
+use Rattle.type_check.specs.Statements.{in_file, read_statement, read_statements, problem_of}
+use Rattle.type_check.specs.ProblemNames.{NamesDiffer}
 use Rattle.type_check.proofs.StatementLaws.{ill-then, got-map, read_statements-got, read_statements-end}
 use Rattle.type_check.proofs.TypedProblems.{problem_of-typed}
 use Rattle.type_check.proofs.DeclaredNames.{problem_of-names_differ}
@@ -35,7 +37,7 @@ loop-i-preserved c =
     )
 
 -- what holds of the problem that all the statements state holds of what was read
-ended : (P : ReadProblem → Type 0) (gathered : List Placed) (i : ℕ) (p q : ReadProblem) → ((r : ReadProblem) → problem_of (the_statements gathered) ≡ Ok r → P r) → length gathered ≤ i
+ended : (P : PlainProblem → Type 0) (gathered : List Placed) (i : ℕ) (p q : PlainProblem) → ((r : PlainProblem) → problem_of (the_statements gathered) ≡ Ok r → P r) → length gathered ≤ i
     → read_statements p (drop i (the_statements gathered)) ≡ problem_of (the_statements gathered) → p ≡ q → P q
 ended P gathered i p q holds l h e = subst P e (holds p (read_statements-end (the_statements gathered) i p (omega (arith, length-map gathered the_placed)) h))
 

@@ -3,7 +3,7 @@ use Rattle.stt_core.specs.ScopeView.{the_scope}
 use Rattle.stt_normal.specs.Normal.{normal_form}
 use Rattle.stt_tableau.specs.Literals.{literal}
 use Rattle.stt_tableau.specs.Start.{without_repeats}
-use Rattle.satallax_top.proofs.start.assumed_literals.Given as goal
+use Rattle.stt_tableau.proofs.start.assumed_literals.Given as goal
 
 abbrev pub invariant-loop-i : goal.invariant-loop-i
 invariant-loop-i l =

@@ -3,9 +3,8 @@ use Rattle.stt_core.specs.View.{the_term}
 use Rattle.stt_core.specs.ScopeView.{the_scope}
 use Rattle.stt_normal.specs.Normal.{normal_form}
 use Rattle.stt_tableau.specs.Start.{added}
-use Rattle.refute_check.proofs.StartLaws.{formula_at}
-use Rattle.satallax_top.proofs.StartLaws.{added-more}
-use Rattle.satallax_top.proofs.start.assumed_literals.Goals as goal
+use Rattle.stt_tableau.proofs.StartLaws.{formula_at, added-more}
+use Rattle.stt_tableau.proofs.start.assumed_literals.Goals as goal
 
 pub formula_literal-requires : goal.formula_literal-requires
 formula_literal-requires c = record {
@@ -15,5 +14,5 @@ formula_literal-requires c = record {
 
 pub loop-i-preserved : goal.loop-i-preserved
 loop-i-preserved c =
-    added-more (normal_form (the_scope c.args.sig.now []) []) c.args.assumed.now c.loop-i.i (the_term c.at.result.now) c.loop-i.lits c.add.new.lits c.at.ensures c.loop-i.invariant
+    added-more (normal_form (the_scope c.args.sig.now []) []) c.args.assumed.now c.loop-i.i (the_term c.at.result.now) c.loop-i.lits c.add.new.self c.at.ensures c.loop-i.invariant
     (c.in_ok-add.ensures ∙ ap (λ l. added c.loop-i.lits (l ∷ [])) c.in_ok-lit.ensures)

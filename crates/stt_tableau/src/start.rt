@@ -1,0 +1,72 @@
+//! The literals from which the refutations of a problem start.
+
+ghost use Rattle.std.specs.Prelude.{◌≡◌, [], ◌∷◌, map, IfOk, OnOk};
+ghost use Rattle.stt_core.specs.View.{the_term};
+ghost use Rattle.stt_core.specs.ScopeView.{the_scope};
+ghost use Rattle.stt_core.specs.Typing.{IsScope};
+ghost use Rattle.stt_core.specs.PlainProblem.{question_of};
+ghost use Rattle.stt_core.specs.TypedProblem.{IsFormula, AreFormulas, IsTyped};
+ghost use Rattle.stt_normal.specs.Normal.{normal_form};
+ghost use Rattle.stt_normal.specs.NormalQuestion.{normal_question};
+ghost use Rattle.stt_tableau.specs.Literals.{literal};
+ghost use Rattle.stt_tableau.specs.Start.{added, without_repeats, start};
+
+use crate::formula::literal_of;
+use crate::lit::{Lit, Lits};
+use std::alloc::{AllocError, Global};
+use stt_core::{Problem, Signature, Term, Terms, Types};
+use stt_normal::normalise;
+
+impl Lits {
+    /// Adds the literal where the list doesn't have it.
+    pub fn add(&mut self, lit: Lit) -> Result<(), AllocError>
+        ensures { OnOk result (self.new ≡ added self.old (lit ∷ [])) }
+    {
+        if !self.contains(&lit) {
+            self.push(lit)?;
+        }
+        Ok(())
+    }
+}
+
+/// The literal of a formula's normal form.
+pub fn formula_literal(alloc: Global, sig: &Signature, formula: &Term) -> Result<Lit, AllocError>
+    requires scope { IsScope (the_scope sig.now []) }
+    requires formula { IsFormula (the_scope sig.now []) (the_term formula.now) }
+    ensures { IfOk result (λ lit. lit ≡ literal (normal_form (the_scope sig.now []) [] (the_term formula.now))) }
+{
+    let none = Types::new(alloc);
+    let canonical = normalise(alloc, sig, &none, &none, formula)?;
+    Ok(literal_of(alloc, &canonical)?)
+}
+
+/// The literals of the assumed formulas, without repeats.
+fn assumed_literals(alloc: Global, sig: &Signature, assumed: &Terms) -> Result<Lits, AllocError>
+    requires scope { IsScope (the_scope sig.now []) }
+    requires assumed { AreFormulas (the_scope sig.now []) assumed.now }
+    ensures { IfOk result (λ lits. lits ≡ without_repeats (map literal (map (normal_form (the_scope sig.now []) []) assumed.now))) }
+{
+    let mut lits = Lits::new(alloc);
+    for i in 0..assumed.len() {
+        let lit = formula_literal(alloc, sig, assumed.at(i))?;
+        lits.add(lit)?;
+    }
+    Ok(lits)
+}
+
+/// The start of a problem: the literals of the assumed formulas and the negation of the conjecture's, without repeats.
+pub fn start_literals(alloc: Global, problem: &Problem) -> Result<Lits, AllocError>
+    requires { IsTyped (question_of problem.now) }
+    ensures { IfOk result (λ lits. lits ≡ start (normal_question (question_of problem.now))) }
+{
+    let sig = &problem.signature;
+    let mut lits = assumed_literals(alloc, sig, &problem.assumed)?;
+    match &problem.conjecture {
+        None => Ok(lits),
+        Some(conjecture) => {
+            let denied = formula_literal(alloc, sig, conjecture)?.opposite();
+            lits.add(denied)?;
+            Ok(lits)
+        }
+    }
+}
