@@ -32,6 +32,7 @@ pub trait Files {
         ensures named { OnOk result (goes_by self.new name.now) }
         ensures all_left { OnOk result (IsTrue (tells self.old)
             → contents self.old name.now ≡ Some (left self.new)) }
+        ensures quiet { OnOk result ((other : List ℕ) → faults self.new other ≡ faults self.old other) }
         ensures cause { OnErr result (Rose (faults self.old name.now) (faults self.new name.now)) }
 
         ensures later { (other : List ℕ) → faults self.old other ≤ faults self.new other }
@@ -46,6 +47,7 @@ pub trait Files {
         ensures bytes { IfOk result (λ n. IsTrue (tells self.old)
             → left self.old ≡ take n buf.new ++ left self.new) }
         ensures end { IfOk result (λ n. IsTrue (tells self.old) → (n ≡ 0) ↔ (left self.old ≡ [])) }
+        ensures quiet { OnOk result ((other : List ℕ) → faults self.new other ≡ faults self.old other) }
         ensures cause { OnErr result ((name : List ℕ) → goes_by self.old name
             → Rose (faults self.old name) (faults self.new name)) }
 

@@ -4,18 +4,22 @@ ghost use Rattle.outside.specs.Causes.{Rose};
 
 use crate::{Bytes, Files};
 use std::alloc::Global;
+use thiserror::Error;
 
 /// How many bytes are asked for at once, and so read past a limit at most.
 const BUFFER: usize = 8192;
 
 /// Why a file was not read whole.
-#[derive(Clone, Copy, Debug, PartialEq, Eq)]
+#[derive(Clone, Copy, Debug, PartialEq, Eq, Error)]
 pub enum ReadRefused {
     /// A call failed, and the count of the file's name rose.
+    #[error("the file can't be read")]
     Fault,
     /// More bytes were read than the limit.
+    #[error("the file is too long")]
     TooLong,
     /// There is no memory for the bytes.
+    #[error("no memory is left")]
     Memory,
 }
 
@@ -33,6 +37,8 @@ pub fn read_whole<F: Files>(
         → Rose (F.faults files.old name.now) (F.faults files.new name.now) }
     ensures long { IsErrOf result ReadRefused.TooLong → IsTrue (F.tells files.old)
         → (bytes : List ℕ) × (F.contents files.old name.now ≡ Some bytes) × (limit < length bytes) }
+    ensures quiet { (IsErrOf result ReadRefused.Fault → ⊥)
+        → (other : List ℕ) → F.faults files.new other ≡ F.faults files.old other }
 
     ensures later { (other : List ℕ) → F.faults files.old other ≤ F.faults files.new other }
     ensures same { F.contents files.new ≡ F.contents files.old }

@@ -1,5 +1,5 @@
 // Where bytes are written.
-ghost use Rattle.std.specs.Prelude.{◌≡◌, ◌≤◌, ◌<◌, ◌++◌, List, ℕ, Bool, length, take, IfOk, OnErr, IsTrue};
+ghost use Rattle.std.specs.Prelude.{◌≡◌, ◌≤◌, ◌<◌, ◌++◌, List, ℕ, Bool, length, take, IfOk, OnOk, OnErr, IsTrue};
 ghost use Rattle.outside.specs.Causes.{Rose};
 
 use crate::Failed;
@@ -24,6 +24,7 @@ pub trait Sink {
             → written self.new ≡ written self.old ++ take n bytes.now) }
         ensures failed { OnErr result (IsTrue (tells self.old)
             → written self.new ≡ written self.old) }
+        ensures quiet { OnOk result (faults self.new ≡ faults self.old) }
         ensures cause { OnErr result (Rose (faults self.old) (faults self.new)) }
         ensures later { faults self.old ≤ faults self.new }
         ensures telling { IsTrue (tells self.old) → IsTrue (tells self.new) };

@@ -12,6 +12,7 @@ pub fn write_all_counted<S: Sink>(sink: &mut S, bytes: &[u8]) -> Result<(), Fail
         → S.written sink.new ≡ S.written sink.old ++ bytes.now) }
     ensures failed { OnErr result (IsTrue (S.tells sink.old)
         → AppendsProperly (S.written sink.old) (S.written sink.new) bytes.now) }
+    ensures quiet { OnOk result (S.faults sink.new ≡ S.faults sink.old) }
     ensures cause { OnErr result (Rose (S.faults sink.old) (S.faults sink.new)) }
     ensures later { S.faults sink.old ≤ S.faults sink.new }
     ensures telling { IsTrue (S.tells sink.old) → IsTrue (S.tells sink.new) }
@@ -30,6 +31,7 @@ pub fn write_pieces<S: Sink>(sink: &mut S, pieces: &[&[u8]]) -> Result<(), Faile
     ensures failed { OnErr result (IsTrue (S.tells sink.old)
         → AppendsProperly (S.written sink.old) (S.written sink.new)
         (flat_map (λ piece. piece.now) pieces.now)) }
+    ensures quiet { OnOk result (S.faults sink.new ≡ S.faults sink.old) }
     ensures cause { OnErr result (Rose (S.faults sink.old) (S.faults sink.new)) }
     ensures later { S.faults sink.old ≤ S.faults sink.new }
     ensures telling { IsTrue (S.tells sink.old) → IsTrue (S.tells sink.new) }

@@ -1,45 +1,17 @@
 -- When a clause of an instance is false: its principals are true, and each alternative has a literal that is false.
 use Rattle.std.proofs.Common.{◌≡◌, ◌&&◌, ◌||◌, Bool, true, false, not, List, [], ◌∷◌, ◌++◌, map, Contains, refl, sym, ap, ap₂, subst, ◌∙◌, if◌then◌else◌}
 use Rattle.std.specs.List.{list_any, list_all}
-use Rattle.std.proofs.lemmas.Bool.{and_parts}
 use Rattle.std.proofs.lemmas.List.Folds.{list_any-append}
 use Rattle.stt_core.specs.Lambda.{Lambda}
 use Rattle.stt_core.specs.SameTerm.{same_term}
-use Rattle.stt_core.proofs.SameTerms.{same_term-refl, same_term-true}
 use Rattle.stt_tableau.specs.Literals.{Literal, opposite}
-use Rattle.stt_tableau.specs.Start.{same_sign, same_literal, has, added, without_repeats}
+use Rattle.stt_tableau.specs.Start.{same_literal, has, added, without_repeats}
+use Rattle.stt_tableau.proofs.AddedLaws.{same_literal-true, has-true}
 use Rattle.prover_search.specs.Clauses.{Clause, holds, HasFalse, choices, is_tautology, instance_clauses, same_clause, with_clauses}
 use Rattle.prover_search.specs.Decided.{is_false_clause, is_falsified}
 use Rattle.prover_search.proofs.BooleanLaws.{or-false, or-assoc, or-absorbs, not-or, One, any_one, one_any, any-same, any-map, any-filter, any-flat_map, any-and, any-and_right, false_from_not}
 
--- lists of literals and clauses in which one may be there already
-pub same_sign-true : (a b : Bool) → same_sign a b ≡ true → a ≡ b
-same_sign-true true true h = refl
-same_sign-true true false h = cc
-same_sign-true false true h = cc
-same_sign-true false false h = refl
-
-pub same_literal-true : (l k : Literal) → same_literal l k ≡ true → l ≡ k
-same_literal-true l k h =
-    let p = and_parts (same_sign l.positive k.positive) (same_term l.atom k.atom) h in
-    ap₂ (λ b t. record { positive = b; atom = t }) (same_sign-true l.positive k.positive p.0) (same_term-true l.atom k.atom p.1)
-
-pub same_literal-refl : (l : Literal) → same_literal l l ≡ true
-same_literal-refl l = go l.positive
-  where
-    go : (p : Bool) → same_literal (record { positive = p; atom = l.atom }) (record { positive = p; atom = l.atom }) ≡ true
-    go true = same_term-refl l.atom
-    go false = same_term-refl l.atom
-
--- the test whether a literal is in a list tells whether it is
-pub has-true : (ls : List Literal) (l : Literal) → has ls l ≡ true → Contains ls l
-has-true ls l h =
-    let o = any_one (same_literal l) ls h in
-    subst (Contains ls) (sym (same_literal-true l o.element o.passes)) o.is_one
-
-pub has-of : (ls : List Literal) (l : Literal) → Contains ls l → has ls l ≡ true
-has-of ls l h = one_any (same_literal l) ls l h (same_literal-refl l)
-
+-- lists of clauses in which one may be there already
 same_clause-true : (c d : Clause) → same_clause c d ≡ true → c ≡ d
 same_clause-true [] [] h = refl
 same_clause-true [] (k ∷ ks) h = cc
@@ -145,17 +117,3 @@ module _ (atoms : List Lambda) where
   with_instance_false cs ps as' =
       any-with_clauses (is_false_clause atoms) cs (instance_clauses ps as')
       ∙ ap (λ b. list_any (is_false_clause atoms) cs || b) (instance_false ps as')
-
-pub added-there : (ls : List Literal) (l : Literal) → Contains ls l → added ls (l ∷ []) ≡ ls
-added-there ls l h = ap (λ b. if b then ls else ls ++ l ∷ []) (has-of ls l h)
-
-pub added-new : (ls : List Literal) (l : Literal) → (Contains ls l → ⊥) → added ls (l ∷ []) ≡ ls ++ l ∷ []
-added-new ls l n = go (has ls l) refl
-  where
-    go : (b : Bool) → has ls l ≡ b → (if b then ls else ls ++ l ∷ []) ≡ ls ++ l ∷ []
-    go true e = absurd (n (has-true ls l e))
-    go false e = refl
-
-pub added-append : (ls xs ys : List Literal) → added ls (xs ++ ys) ≡ added (added ls xs) ys
-added-append ls [] ys = refl
-added-append ls (x ∷ xs) ys = added-append (if has ls x then ls else ls ++ x ∷ []) xs ys

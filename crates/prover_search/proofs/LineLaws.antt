@@ -21,7 +21,7 @@ use Rattle.prover_search.specs.Table.{signed, numbered, HasRule, false_rule as o
 use Rattle.prover_search.specs.Splitting.{Tree, leaf, cut, Closes}
 use Rattle.prover_search.specs.Lines.{branch_of, instance_line, cut_line, last_number, instance_lines, cut_lines, lines_of}
 use Rattle.prover_search.proofs.BooleanLaws.{or_cases}
-use Rattle.prover_search.proofs.ClauseLaws.{same_sign-true}
+use Rattle.stt_tableau.proofs.AddedLaws.{same_sign-true}
 use Rattle.prover_search.proofs.NumberLaws.{slice_get-append, slice_get-end, stands_at, literal_at}
 
 value_at : (values : List Bool) (v : Var) (b : Bool) → has_value values v b ≡ true → slice_get values v.0 ≡ Some b

@@ -9,11 +9,12 @@ use Rattle.stt_core.specs.Canonical.{IsCanonical}
 use Rattle.stt_tableau.specs.Literals.{Literal, opposite, literal, is_negated, IsLiteral, IsBranch}
 use Rattle.stt_tableau.specs.Start.{has, added}
 use Rattle.stt_tableau.proofs.LiteralLaws.{literal_cases, literal-is_literal, opposite-is_literal}
-use Rattle.prover_search.specs.Search.{depth, is_shallow, State, worked, with_alternatives}
+use Rattle.stt_core.specs.Depth.{depth}
+use Rattle.prover_search.specs.Search.{is_shallow, State, worked, with_alternatives}
 use Rattle.prover_search.specs.Clauses.{with_clauses, instance_clauses}
 use Rattle.prover_search.specs.Searched.{IsPropositional, IsSearched, AreSearched, AreDifferent}
 use Rattle.prover_search.proofs.BooleanLaws.{none_contained}
-use Rattle.prover_search.proofs.ClauseLaws.{has-of}
+use Rattle.stt_tableau.proofs.AddedLaws.{has-of}
 use Rattle.prover_search.proofs.NumberLaws.{branch-push, branch-append}
 use Rattle.stt_tableau.proofs.ListLaws.{contains-first, contains-later}
 use Rattle.std.proofs.lemmas.List.Elements.{Contains-push_cases}

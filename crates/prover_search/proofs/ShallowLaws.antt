@@ -11,7 +11,8 @@ use Rattle.stt_tableau.specs.Accepted.{Within}
 use Rattle.stt_tableau.specs.Witnesses.{with_rows}
 use Rattle.stt_tableau.specs.declared.refutation.Refutation.{Refutation}
 use Rattle.stt_tableau.proofs.ListLaws.{contains-first, contains-later, contains_cases, within-each, within-trans}
-use Rattle.prover_search.specs.Search.{depth, is_shallow, State, process, pushed, stepped, after}
+use Rattle.stt_core.specs.Depth.{depth}
+use Rattle.prover_search.specs.Search.{is_shallow, State, process, pushed, stepped, after}
 use Rattle.prover_search.specs.Run.{IsOpen, GoesOnUntil}
 use Rattle.prover_search.specs.Searched.{ArePropositional, AreSearched, AreDifferent}
 use Rattle.prover_search.specs.Ended.{Refutes, EndsAs}

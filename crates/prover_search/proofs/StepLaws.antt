@@ -9,7 +9,7 @@ use Rattle.stt_tableau.specs.Literals.{Literal}
 use Rattle.stt_tableau.specs.Start.{has, added}
 use Rattle.prover_search.specs.Search.{is_shallow, process, Waiting, State, delay, pushed, started, with_literal, with_literals, with_alternatives, noted, carried_out, is_before, first_of, next_command, without, after_command, stepped}
 use Rattle.prover_search.specs.Steps.{with_seen, AreWaiting, IsListed}
-use Rattle.prover_search.proofs.ClauseLaws.{added-append}
+use Rattle.stt_tableau.proofs.AddedLaws.{added-append}
 
 -- commands that wait
 not_before : (p q : Waiting) → q.due ≤ p.due → q.number < p.number → is_before p q ≡ false

@@ -4,6 +4,10 @@ use Rattle.stt_tableau.specs.Literals.{Literal}
 use Rattle.prover_search.specs.Clauses.{Unsatisfiable}
 use Rattle.prover_search.specs.Search.{State, after}
 
+-- how many commands a run may take
+abbrev pub command_limit : ℕ
+command_limit = 20000
+
 -- the search comes to the state after n commands, and its clauses are satisfiable
 pub record IsOpen (start : List Literal) (n : ℕ) (s : State) : Type 0 where
   pub comes_to : after start n ≡ Some s

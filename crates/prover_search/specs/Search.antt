@@ -1,17 +1,11 @@
 -- The search of the first path: formulas are processed one by one, and each step gives clauses (Brown 2013).
-use Rattle.std.specs.Prelude.{ℕ, zero, suc, ◌+◌, ◌==◌, ◌&&◌, ◌||◌, nat_lt, nat_le, max, Bool, true, false, not, List, [], ◌∷◌, ◌++◌, map, filter, length, Option, Some, None, if◌then◌else◌}
+use Rattle.std.specs.Prelude.{ℕ, zero, suc, ◌+◌, ◌==◌, ◌&&◌, ◌||◌, nat_lt, nat_le, Bool, true, false, not, List, [], ◌∷◌, ◌++◌, map, filter, length, Option, Some, None, if◌then◌else◌}
 use Rattle.std.specs.List.{list_all}
-use Rattle.stt_core.specs.Lambda.{Lambda, bound, constant, lam, app, falsity, implication, imp}
+use Rattle.stt_core.specs.Lambda.{Lambda, constant, app, falsity, implication, imp}
+use Rattle.stt_core.specs.Depth.{depth}
 use Rattle.stt_tableau.specs.Literals.{Literal, plus, minus, opposite, literal}
 use Rattle.stt_tableau.specs.Start.{has}
 use Rattle.prover_search.specs.Clauses.{Clause, instance_clauses, with_clauses}
-
--- The depth of a canonical term: its binders, and one more than the greatest depth of an argument, where it has arguments.
-abbrev pub depth : Lambda → ℕ
-depth (bound k) = 0
-depth (constant c) = 0
-depth (lam a s) = suc (depth s)
-depth (app s u) = max (depth s) (suc (depth u))
 
 -- whether the literal may enter the clauses
 abbrev pub is_shallow : Literal → Bool

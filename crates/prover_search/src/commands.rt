@@ -6,6 +6,7 @@ ghost use Rattle.stt_tableau.specs.Accepted.{IsClosed};
 ghost use Rattle.prover_search.specs.Searched.{ArePropositional, AreSearched, AreDifferent};
 ghost use Rattle.prover_search.specs.Steps.{IsSearching, signs, GoesOnBy};
 ghost use Rattle.prover_search.specs.Ended.{EndsAs};
+ghost use Rattle.prover_search.specs.Run.{command_limit};
 
 use crate::decide::{Split, decide};
 use crate::lines::tree_refutation;
@@ -74,7 +75,7 @@ fn search(alloc: Global, start: Lits) -> Result<Ended, AllocError>
     requires searched { AreSearched start }
     requires different { AreDifferent start }
     requires open { IsClosed start → ⊥ }
-    ensures { IfOk result (EndsAs start MAX_COMMANDS) }
+    ensures { IfOk result (EndsAs start command_limit) }
 {
     let mut values = signs(alloc, &start)?;
     let mut seen = start.try_clone(alloc)?;
@@ -106,7 +107,7 @@ fn search(alloc: Global, start: Lits) -> Result<Ended, AllocError>
 fn run_shallow(alloc: Global, start: Lits) -> Result<Ended, AllocError>
     requires searched { AreSearched start }
     requires different { AreDifferent start }
-    ensures { IfOk result (EndsAs start MAX_COMMANDS) }
+    ensures { IfOk result (EndsAs start command_limit) }
 {
     match first_pair(&start) {
         Some((i, j)) => Ok(Ended::Proved {
@@ -121,7 +122,7 @@ fn run_shallow(alloc: Global, start: Lits) -> Result<Ended, AllocError>
 pub fn run(alloc: Global, start: &Lits) -> Result<Ended, AllocError>
     requires formulas { ArePropositional start.now }
     requires different { AreDifferent start.now }
-    ensures { IfOk result (EndsAs start.now MAX_COMMANDS) }
+    ensures { IfOk result (EndsAs start.now command_limit) }
 {
     let taken = shallow(alloc, start)?;
     Ok(run_shallow(alloc, taken)?)

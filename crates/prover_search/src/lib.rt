@@ -5,10 +5,8 @@ mod commands;
 mod decide;
 mod lines;
 mod pair;
-mod seen;
 mod shallow;
 mod table;
 mod work;
 
 pub use commands::{Ended, MAX_COMMANDS, run};
-pub use seen::add;

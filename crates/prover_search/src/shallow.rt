@@ -1,7 +1,8 @@
 //! Literals that aren't too deep for the search.
 
 ghost use Rattle.std.specs.Prelude.{◌≡◌, ◌-◌, ◌^◌, ◌++◌, [], ◌∷◌, min, filter, IfOk, OnOk};
-ghost use Rattle.prover_search.specs.Search.{depth, is_shallow};
+ghost use Rattle.stt_core.specs.Depth.{depth};
+ghost use Rattle.prover_search.specs.Search.{is_shallow};
 
 use std::alloc::{AllocError, Global};
 use stt_core::Nf;

@@ -4,7 +4,6 @@ ghost use Rattle.std.specs.Prelude.{◌≡◌, [], ◌∷◌, IfOk, OnOk, length
 ghost use Rattle.stt_tableau.specs.Start.{added};
 ghost use Rattle.prover_search.specs.Steps.{IsWorkFor, IsProcessed};
 
-use crate::seen::add;
 use crate::table::Table;
 use std::alloc::{AllocError, Global};
 use stt_tableau::{Lit, Lits, Shape, literal_of, shape_of};
@@ -48,8 +47,8 @@ fn work_for(alloc: Global, lit: &Lit) -> Result<Work, AllocError>
 fn add_both(seen: &mut Lits, first: Lit, second: Lit) -> Result<(), AllocError>
     ensures { OnOk result (seen.new ≡ added seen.old (first ∷ second ∷ [])) }
 {
-    add(seen, first)?;
-    add(seen, second)?;
+    seen.add(first)?;
+    seen.add(second)?;
     Ok(())
 }
 

@@ -11,13 +11,13 @@ use Rattle.stt_tableau.specs.Literals.{Literal, plus, IsLiteral, IsBranch}
 use Rattle.stt_tableau.specs.Start.{same_sign}
 use Rattle.stt_tableau.specs.declared.refutation.Line.{Line}
 use Rattle.stt_tableau.proofs.ListLaws.{untrue, contains-get}
-use Rattle.refute_check.specs.TermNumbers.{number_in, KeepsNumbers}
+use Rattle.refute_check.specs.Means.TermNumbers.{number_in, KeepsNumbers}
 use Rattle.refute_check.specs.declared.term_numbers.TermNumbers.{TermNumbers}
-use Rattle.refute_check.specs.Branches.{has, IsLiteralOf, Represents, AreNumbered, AreAtoms, Grow, AreBranches}
+use Rattle.refute_check.specs.Means.Branches.{has, IsLiteralOf, Represents, AreNumbered, AreAtoms, Grow, AreBranches}
 use Rattle.refute_check.specs.declared.branch.Branch.{Branch}
 use Rattle.refute_check.proofs.NumberLaws.{number_in-at, number_in-append, or_length}
 use Rattle.refute_check.proofs.SetLaws.{or_split}
-use Rattle.refute_check.proofs.StartLaws.{same_sign-true}
+use Rattle.stt_tableau.proofs.AddedLaws.{same_sign-true}
 
 -- two terms with the same number are the same
 pub same_number : (terms : List Lambda) (t u : Lambda) (k : ℕ) → number_in terms t ≡ Some k → number_in terms u ≡ Some k → t ≡ u

@@ -1,5 +1,5 @@
 -- The check of a whole text.
-use Rattle.std.proofs.Common.{◌≡◌, ◌≤◌, ◌+◌, ℕ, suc, List, [], ◌∷◌, Option, map, length, Some, None, refl, ap, subst, length-append, arith}
+use Rattle.std.proofs.Common.{◌≡◌, ◌≤◌, ◌+◌, ℕ, List, [], ◌∷◌, Option, map, length, Some, None, ap, subst, length-append, arith}
 use Rattle.std.specs.Option.{IfNone}
 use Rattle.stt_core.specs.SimpleType.{SimpleType}
 use Rattle.stt_core.specs.Typing.{Scope}
@@ -7,7 +7,7 @@ use Rattle.stt_core.specs.ScopeView.{the_scope}
 use Rattle.stt_core.specs.declared.signature.Signature.{Signature}
 use Rattle.stt_tableau.specs.Literals.{Literal}
 use Rattle.stt_tableau.specs.Witnesses.{Row, with_rows}
-use Rattle.stt_tableau.specs.Checks.{LineAnswer}
+use Rattle.stt_tableau.specs.Means.Answers.{LineAnswer}
 use Rattle.stt_tableau.specs.Accepted.{FirstFailure, at_row, at_line, at_last, no_line}
 use Rattle.stt_tableau.specs.declared.refutation.Line.{Line}
 use Rattle.stt_tableau.specs.declared.refutation.Refutation.{Refutation}

@@ -2,7 +2,7 @@
 use Rattle.std.proofs.Common.{◌≡◌, ℕ, ◌==◌, List, [], ◌∷◌, ◌++◌, refl, sym, ap, ◌∙◌, append-nil, append_assoc, if◌then◌else◌}
 use Rattle.stt_core.specs.SimpleType.{SimpleType, base, arrow}
 use Rattle.stt_core.specs.Lambda.{Constant, name, witness, falsity, negation, implication, all, equality, choice, description, Lambda, bound, constant, lam, app, lambdas, applied}
-use Rattle.refute_check.specs.Keys.{step, type_key, constant_key, term_key, types_key, functions_key, arguments_key}
+use Rattle.refute_check.specs.Means.Keys.{step, type_key, constant_key, term_key, types_key, functions_key, arguments_key}
 
 -- the types and the terms that are built so far, the last one first
 record Stacks : Type 0 where

@@ -9,9 +9,9 @@ use Rattle.stt_core.specs.SameTerm.{same_term}
 use Rattle.stt_core.proofs.SameTerms.{same_term-true, same_term-of}
 use Rattle.std.specs.Cmp.Lexicographic.{bytes_decides}
 use Rattle.stt_tableau.proofs.ListLaws.{untrue}
-use Rattle.type_check.proofs.Maps.{at_bytes, at_bytes-inserted, same_change}
-use Rattle.refute_check.specs.Keys.{term_key}
-use Rattle.refute_check.specs.TermNumbers.{number_in}
+use Rattle.stt_core.proofs.Maps.{at_bytes, at_bytes-inserted, same_change}
+use Rattle.refute_check.specs.Means.Keys.{term_key}
+use Rattle.refute_check.specs.Means.TermNumbers.{number_in}
 use Rattle.refute_check.proofs.Keys.{term_key-injective}
 
 -- a term that has a number stands at its place

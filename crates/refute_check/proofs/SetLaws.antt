@@ -1,11 +1,11 @@
 -- Sets of numbers.
-use Rattle.std.proofs.Common.{◌≡◌, ℕ, Bool, true, false, ◌||◌, ◌&&◌, ◌==◌, not, nat_lt, List, [], ◌∷◌, IsTrue, refl, sym, subst, ◌∙◌, ⊎_elim, cond, arith}
+use Rattle.std.proofs.Common.{◌≡◌, ℕ, Bool, true, false, ◌||◌, ◌==◌, not, nat_lt, List, [], ◌∷◌, IsTrue, refl, sym, subst, ◌∙◌, ⊎_elim, cond, arith}
 use Rattle.std.proofs.lemmas.Bool.{and_from, and_parts, or_cases, or_left, or_right, eqb-true, eq-eqb, ltb-true}
 use Rattle.std.specs.List.{list_all, list_any}
 use Rattle.std.specs.Ordering.{is_eq, nat_cmp}
 use Rattle.std.specs.BTreeSet.{BTreeSet, contains}
 use Rattle.stt_tableau.proofs.ListLaws.{untrue}
-use Rattle.refute_check.specs.Branches.{has}
+use Rattle.refute_check.specs.Means.Branches.{has}
 use Rattle.refute_check.specs.declared.branch.Branch.{Branch}
 use Rattle.std.specs.declared.cmp.Ordering.TheVariants.{Less, Equal, Greater}
 

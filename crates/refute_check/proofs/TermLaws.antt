@@ -8,7 +8,7 @@ use Rattle.stt_core.specs.declared.nf.Head.{Head}
 use Rattle.stt_core.specs.declared.nf.Head.TheVariants as head
 use Rattle.refute_text.specs.Trees.{TypeTree, TermTree, app}
 use Rattle.refute_text.specs.Trees as tree
-use Rattle.refute_text.specs.TreeSizes.{applied, node_count, counts}
+use Rattle.refute_text.specs.Means.TreeSizes.{applied, node_count, counts}
 use Rattle.refute_text.specs.Named.{Names}
 use Rattle.refute_check.specs.Numbered.{numbered_type, numbered_term, argument_type}
 

@@ -1,6 +1,5 @@
 -- The numbers of the rows' predicates.
 use Rattle.std.proofs.Common.{◌≡◌, ℕ, zero, suc, Bool, true, false, List, [], ◌∷◌, Option, Some, None, option_map, map, slice_get, Contains, refl, sym, ap, ap₂, subst, ◌∙◌, if◌then◌else◌, arith}
-use Rattle.std.proofs.lemmas.Option.{slice_get-map}
 use Rattle.std.specs.Option.{is_some}
 use Rattle.stt_core.specs.Lambda.{Lambda}
 use Rattle.stt_core.specs.SimpleType.{SimpleType}
@@ -10,7 +9,7 @@ use Rattle.stt_core.proofs.SameTerms.{same_term-of}
 use Rattle.stt_tableau.specs.Witnesses.{Row, IsTable}
 use Rattle.stt_tableau.proofs.ListLaws.{untrue, contains_cases, contains-get}
 use Rattle.stt_tableau.proofs.AlongLaws.{same_row}
-use Rattle.refute_check.specs.TermNumbers.{number_in}
+use Rattle.refute_check.specs.Means.TermNumbers.{number_in}
 use Rattle.refute_check.proofs.NumberLaws.{number_in-at}
 
 -- a term that stands in the list has a number
@@ -22,9 +21,6 @@ number_in-none (u ∷ ts) t h c = go (λ g. number_in-none ts t g) (same_term u 
     go more true o e d g = cc
     go more false (Some k) e d g = cc
     go more false None e d g = contains_cases ⊥ t u ts c (λ same. untrue (same_term-of u t same) e) (more d)
-
-pub mapped_get : {A B : Type 0} (f : A → B) (xs : List A) (k : ℕ) (x : A) → slice_get xs k ≡ Some x → slice_get (map f xs) k ≡ Some (f x)
-mapped_get f xs k x h = slice_get-map f xs k ∙ ap (option_map f) h
 
 pub mapped_at : {A B : Type 0} (f : A → B) (xs : List A) (k : ℕ) (y : B) → slice_get (map f xs) k ≡ Some y → (x : A) × (slice_get xs k ≡ Some x) × (f x ≡ y)
 mapped_at f [] k y h = cc

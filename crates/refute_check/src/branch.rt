@@ -5,7 +5,7 @@ ghost use Rattle.std.specs.List.{list_all, list_any};
 ghost use Rattle.std.specs.BTreeSet.{contains};
 ghost use Rattle.std.specs.Ordering.{nat_cmp};
 ghost use Rattle.stt_tableau.specs.Start.{same_sign};
-ghost use Rattle.refute_check.specs.Branches.{has};
+ghost use Rattle.refute_check.specs.Means.Branches.{has};
 
 use std::alloc::{AllocError, Global};
 use std::collections::BTreeSet;

@@ -3,24 +3,23 @@
 ghost use Rattle.std.specs.Prelude.{◌≡◌, ◌+◌, ◌^◌, ◌<◌, ◌++◌, [], ◌∷◌, None, List, length, map, OnOk, IfOk, IfErr};
 ghost use Rattle.stt_core.specs.Typing.{Scope};
 ghost use Rattle.stt_core.specs.ScopeView.{the_scope};
-ghost use Rattle.stt_core.specs.PlainProblem.{question_of};
 ghost use Rattle.stt_core.specs.TypedProblem.{IsTyped};
-ghost use Rattle.stt_normal.specs.NormalQuestion.{normal_question};
+ghost use Rattle.stt_core.specs.Declarations.{scope_of};
 ghost use Rattle.stt_tableau.specs.Literals.{Literal};
 ghost use Rattle.stt_tableau.specs.Witnesses.{IsTable};
 ghost use Rattle.stt_tableau.specs.Start.{start};
 ghost use Rattle.stt_tableau.specs.Accepted.{EndsWithin, IsAccepted, FirstFailure};
 ghost use Rattle.stt_tableau.specs.Refused.{IfRefused};
-ghost use Rattle.stt_tableau.specs.Checks.{LineAnswer};
+ghost use Rattle.stt_tableau.specs.Means.Answers.{LineAnswer};
 ghost use Rattle.stt_tableau.specs.declared.refutation.Line.{Line};
 ghost use Rattle.refute_text.specs.TextView.{the_line, the_text};
 ghost use Rattle.refute_text.specs.Named.{names_of};
 ghost use Rattle.refute_check.specs.Numbered.{numbered_line, numbered_refutation};
 ghost use Rattle.refute_check.specs.Refusal.{IfLine, FailsAt};
-ghost use Rattle.refute_check.specs.TermNumbers.{KeepsNumbers};
-ghost use Rattle.refute_check.specs.Branches.{AreBranches};
-ghost use Rattle.refute_check.specs.Witnesses.{KeepsRows};
-ghost use Rattle.refute_check.specs.Lines.{KeepsLines, AreRightIn};
+ghost use Rattle.refute_check.specs.Means.TermNumbers.{KeepsNumbers};
+ghost use Rattle.refute_check.specs.Means.Branches.{AreBranches};
+ghost use Rattle.refute_check.specs.Means.Witnesses.{KeepsRows};
+ghost use Rattle.refute_check.specs.Means.Lines.{KeepsLines, AreRightIn};
 
 use crate::lines::RightLines;
 use crate::number_line::{number_line, number_row};
@@ -119,14 +118,14 @@ fn check_last(
     lines: &RightLines,
     text: &RefutationText,
 ) -> Result<(), PlainRefused>
-    requires problem { IsTyped (question_of problem.now) }
+    requires problem { IsTyped problem.now }
     requires branches { AreBranches lines.now.atoms.terms (numbered_refutation numbering.now (the_text text.now)).lines lines.now.branches.items }
     requires numbers { KeepsNumbers lines.now.atoms }
     requires room { length text.now.witnesses + length text.now.lines < 2 ^ 64 }
-    ensures last { OnOk result (EndsWithin (start (normal_question (question_of problem.now))) (numbered_refutation numbering.now (the_text text.now)).lines) }
+    ensures last { OnOk result (EndsWithin (start problem.now) (numbered_refutation numbering.now (the_text text.now)).lines) }
     ensures refused { IfErr result (λ e. IfRefused e (λ place why. (scope : Scope) → IsTable scope (numbered_refutation numbering.now (the_text text.now)).witnesses
         → AreRightIn scope (numbered_refutation numbering.now (the_text text.now))
-        → FirstFailure scope (start (normal_question (question_of problem.now))) (numbered_refutation numbering.now (the_text text.now)) place why)) }
+        → FirstFailure scope (start problem.now) (numbered_refutation numbering.now (the_text text.now)) place why)) }
 {
     let rows = text.witnesses.len();
     let count = text.lines.len();
@@ -154,11 +153,11 @@ fn check_over(
     problem: &Problem,
     text: &RefutationText,
 ) -> Result<(), PlainRefused>
-    requires problem { IsTyped (question_of problem.now) }
+    requires problem { IsTyped problem.now }
     requires room { length text.now.witnesses + length text.now.lines < 2 ^ 64 }
-    ensures accepted { OnOk result (IsAccepted (the_scope sig.now []) (start (normal_question (question_of problem.now)))
+    ensures accepted { OnOk result (IsAccepted (the_scope sig.now []) (start problem.now)
         (numbered_refutation (names_of sig.now.bases sig.now.consts) (the_text text.now))) }
-    ensures refused { IfErr result (λ e. IfRefused e (FirstFailure (the_scope sig.now []) (start (normal_question (question_of problem.now)))
+    ensures refused { IfErr result (λ e. IfRefused e (FirstFailure (the_scope sig.now []) (start problem.now)
         (numbered_refutation (names_of sig.now.bases sig.now.consts) (the_text text.now)))) }
 {
     let numbering = Numbering::new(alloc, sig)?;
@@ -170,11 +169,11 @@ fn check_over(
 
 /// Whether the text is accepted, or the place of its first failure: its rows count from 0, and then its lines.
 fn check_text(alloc: Global, problem: &Problem, text: &RefutationText) -> Result<(), PlainRefused>
-    requires problem { IsTyped (question_of problem.now) }
+    requires problem { IsTyped problem.now }
     requires room { length text.now.witnesses + length text.now.lines < 2 ^ 64 }
-    ensures accepted { OnOk result (IsAccepted (question_of problem.now).scope (start (normal_question (question_of problem.now)))
+    ensures accepted { OnOk result (IsAccepted (scope_of problem.now.declared) (start problem.now)
         (numbered_refutation (names_of problem.now.declared.bases problem.now.declared.consts) (the_text text.now))) }
-    ensures refused { IfErr result (λ e. IfRefused e (FirstFailure (question_of problem.now).scope (start (normal_question (question_of problem.now)))
+    ensures refused { IfErr result (λ e. IfRefused e (FirstFailure (scope_of problem.now.declared) (start problem.now)
         (numbered_refutation (names_of problem.now.declared.bases problem.now.declared.consts) (the_text text.now)))) }
 {
     check_over(alloc, &problem.signature, problem, text)
@@ -187,13 +186,13 @@ pub fn check_refutation(
     problem: &Problem,
     text: &RefutationText,
 ) -> Result<(), CheckRefused>
-    requires problem { IsTyped (question_of problem.now) }
+    requires problem { IsTyped problem.now }
     requires lines { text.now.first + length text.now.witnesses + length text.now.lines < 2 ^ 64 }
-    ensures accepted { OnOk result (IsAccepted (question_of problem.now).scope (start (normal_question (question_of problem.now)))
+    ensures accepted { OnOk result (IsAccepted (scope_of problem.now.declared) (start problem.now)
         (numbered_refutation (names_of problem.now.declared.bases problem.now.declared.consts) (the_text text.now))) }
-    ensures refused { IfErr result (λ e. IfLine e (FailsAt (question_of problem.now).scope (start (normal_question (question_of problem.now)))
+    ensures refused { IfErr result (λ e. IfLine e (FailsAt (scope_of problem.now.declared) (start problem.now)
         (numbered_refutation (names_of problem.now.declared.bases problem.now.declared.consts) (the_text text.now)) text.now.first)) }
-    ensures refused_only { IfErr result (λ e. IfLine e (λ _ _. IsAccepted (question_of problem.now).scope (start (normal_question (question_of problem.now)))
+    ensures refused_only { IfErr result (λ e. IfLine e (λ _ _. IsAccepted (scope_of problem.now.declared) (start problem.now)
         (numbered_refutation (names_of problem.now.declared.bases problem.now.declared.consts) (the_text text.now)) → ⊥)) }
 {
     match check_text(alloc, problem, text) {

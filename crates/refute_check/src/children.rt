@@ -5,8 +5,8 @@ ghost use Rattle.stt_tableau.specs.Literals.{Literal};
 ghost use Rattle.stt_core.specs.Lambda.{Lambda};
 ghost use Rattle.stt_tableau.specs.Accepted.{IsClosed, ClosesBy, AreChildren};
 ghost use Rattle.stt_tableau.specs.declared.refutation.Line.{Line};
-ghost use Rattle.refute_check.specs.TermNumbers.{KeepsNumbers};
-ghost use Rattle.refute_check.specs.Branches.{Represents, AreNumbered, AreBranches};
+ghost use Rattle.refute_check.specs.Means.TermNumbers.{KeepsNumbers};
+ghost use Rattle.refute_check.specs.Means.Branches.{Represents, AreNumbered, AreBranches};
 
 use crate::branch::Branch;
 use crate::number_branch::known_literals;

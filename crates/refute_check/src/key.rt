@@ -2,7 +2,7 @@
 
 ghost use Rattle.std.specs.Prelude.{◌≡◌, ◌++◌, OnOk, IfOk};
 ghost use Rattle.stt_core.specs.View.{the_type, the_head};
-ghost use Rattle.refute_check.specs.Keys.{step, type_key, term_key, types_key, functions_key, arguments_key};
+ghost use Rattle.refute_check.specs.Means.Keys.{step, type_key, term_key, types_key, functions_key, arguments_key};
 
 use std::alloc::{AllocError, Global};
 use stt_core::{Head, Nf, Nfs, Ty, Types};

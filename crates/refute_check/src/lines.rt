@@ -6,11 +6,11 @@ ghost use Rattle.stt_core.specs.ScopeView.{the_scope};
 ghost use Rattle.stt_tableau.specs.Literals.{Literal, IsBranch};
 ghost use Rattle.stt_tableau.specs.Accepted.{Within};
 ghost use Rattle.stt_tableau.specs.Witnesses.{IsTable};
-ghost use Rattle.stt_tableau.specs.Checks.{LineAnswer};
+ghost use Rattle.stt_tableau.specs.Means.Answers.{LineAnswer};
 ghost use Rattle.stt_tableau.specs.declared.refutation.Line.{Line as TheLine};
-ghost use Rattle.refute_check.specs.Branches.{Represents, AreNumbered, AreBranches};
-ghost use Rattle.refute_check.specs.Lines.{KeepsLines};
-ghost use Rattle.refute_check.specs.Witnesses.{KeepsRows};
+ghost use Rattle.refute_check.specs.Means.Branches.{Represents, AreNumbered, AreBranches};
+ghost use Rattle.refute_check.specs.Means.Lines.{KeepsLines};
+ghost use Rattle.refute_check.specs.Means.Witnesses.{KeepsRows};
 
 use crate::branch::Branch;
 use crate::children::{are_children, branch_at};

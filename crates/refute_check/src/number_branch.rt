@@ -2,8 +2,8 @@
 
 ghost use Rattle.std.specs.Prelude.{OnOk, IfOk};
 ghost use Rattle.stt_core.specs.ScopeView.{the_scope};
-ghost use Rattle.refute_check.specs.TermNumbers.{KeepsNumbers};
-ghost use Rattle.refute_check.specs.Branches.{Represents, AreAtoms, Grow, NumbersLiteral, NumbersBranch};
+ghost use Rattle.refute_check.specs.Means.TermNumbers.{KeepsNumbers};
+ghost use Rattle.refute_check.specs.Means.Branches.{Represents, AreAtoms, Grow, NumbersLiteral, NumbersBranch};
 
 use crate::branch::Branch;
 use crate::term_numbers::TermNumbers;

@@ -3,7 +3,7 @@
 ghost use Rattle.std.specs.Prelude.{◌≡◌, List, ℕ, IfOk, OnOk, unwrap_or, map};
 ghost use Rattle.refute_text.specs.Named.{names_of};
 ghost use Rattle.refute_check.specs.Numbered.{place_of};
-ghost use Rattle.refute_check.specs.Places.{noted, noted_next, HasPlaces};
+ghost use Rattle.refute_check.specs.Means.Places.{noted, noted_next, HasPlaces};
 
 use std::alloc::{AllocError, Global};
 use std::collections::BTreeMap;
@@ -64,7 +64,7 @@ pub(crate) struct Numbering<'a> {
 impl<'a> Model for Numbering<'a> {
     ghost use Rattle.std.specs.Prelude.{map};
     ghost use Rattle.refute_text.specs.Named.{Names, names_of};
-    ghost use Rattle.refute_check.specs.Places.{HasPlaces};
+    ghost use Rattle.refute_check.specs.Means.Places.{HasPlaces};
 
     ghost Value = { Names };
 

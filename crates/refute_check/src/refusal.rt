@@ -2,11 +2,14 @@
 
 use std::alloc::AllocError;
 use stt_tableau::Why;
+use thiserror::Error;
 
 /// Why a text isn't accepted: the first of its lines that fails, counted from 1 in the whole file, and why; or want of memory.
-#[derive(Clone, Copy, Debug, PartialEq, Eq)]
+#[derive(Clone, Copy, Debug, PartialEq, Eq, Error)]
 pub enum CheckRefused {
+    #[error("line {line}: {why}")]
     Line { line: usize, why: Why },
+    #[error("no memory is left")]
     Memory,
 }
 

@@ -3,14 +3,11 @@
 ghost use Rattle.std.specs.Prelude.{◌≡◌, ◌++◌, [], ◌∷◌, List, map, IfOk, OnOk};
 ghost use Rattle.stt_core.specs.ScopeView.{the_scope};
 ghost use Rattle.stt_core.specs.Typing.{IsScope};
-ghost use Rattle.stt_core.specs.PlainProblem.{question_of};
 ghost use Rattle.stt_core.specs.TypedProblem.{AreFormulas, IsTyped};
-ghost use Rattle.stt_normal.specs.NormalQuestion.{normal_question};
-ghost use Rattle.stt_normal.specs.Normal.{normal_form};
-ghost use Rattle.stt_tableau.specs.Literals.{Literal, literal};
-ghost use Rattle.stt_tableau.specs.Start.{start};
-ghost use Rattle.refute_check.specs.TermNumbers.{KeepsNumbers};
-ghost use Rattle.refute_check.specs.Branches.{Represents};
+ghost use Rattle.stt_tableau.specs.Literals.{Literal};
+ghost use Rattle.stt_tableau.specs.Start.{normal_literal, start};
+ghost use Rattle.refute_check.specs.Means.TermNumbers.{KeepsNumbers};
+ghost use Rattle.refute_check.specs.Means.Branches.{Represents};
 
 use crate::branch::Branch;
 use crate::term_numbers::TermNumbers;
@@ -44,7 +41,7 @@ fn assumed_branch(
     requires keeps { KeepsNumbers atoms.now }
     requires scope { IsScope (the_scope sig.now []) }
     requires assumed { AreFormulas (the_scope sig.now []) assumed.now }
-    ensures { IfOk result (Represents atoms.now.terms (map literal (map (normal_form (the_scope sig.now []) []) assumed.now))) }
+    ensures { IfOk result (Represents atoms.now.terms (map (normal_literal (the_scope sig.now [])) assumed.now)) }
 {
     let mut known = Branch::new(alloc);
     for i in 0..assumed.len() {
@@ -61,8 +58,8 @@ pub(crate) fn start_branch(
     atoms: &TermNumbers,
 ) -> Result<Branch, AllocError>
     requires keeps { KeepsNumbers atoms.now }
-    requires problem { IsTyped (question_of problem.now) }
-    ensures { IfOk result (Represents atoms.now.terms (start (normal_question (question_of problem.now)))) }
+    requires problem { IsTyped problem.now }
+    ensures { IfOk result (Represents atoms.now.terms (start problem.now)) }
 {
     let sig = &problem.signature;
     let mut known = assumed_branch(alloc, sig, atoms, &problem.assumed)?;

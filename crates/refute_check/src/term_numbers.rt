@@ -1,7 +1,7 @@
 //! Numbers of terms.
 
 ghost use Rattle.std.specs.Prelude.{◌≡◌, ◌++◌, [], ◌∷◌, None, length, OnOk, IfOk};
-ghost use Rattle.refute_check.specs.TermNumbers.{number_in, KeepsNumbers};
+ghost use Rattle.refute_check.specs.Means.TermNumbers.{number_in, KeepsNumbers};
 
 use crate::key::term_key;
 use std::alloc::{AllocError, Global};

@@ -6,10 +6,12 @@ ghost use Rattle.stt_core.specs.View.{the_type};
 ghost use Rattle.stt_core.specs.ScopeView.{the_scope};
 ghost use Rattle.stt_tableau.specs.Literals.{IsBranch};
 ghost use Rattle.stt_tableau.specs.Accepted.{IsTypedUse};
-ghost use Rattle.stt_tableau.specs.Checks.{RowAnswer, IsRowOf, FindsInstance, IsTypedWith};
+ghost use Rattle.stt_tableau.specs.Checks.{FindsInstance, IsTypedWith};
+ghost use Rattle.stt_tableau.specs.Means.Instances.{IsRowOf};
+ghost use Rattle.stt_tableau.specs.Means.Answers.{RowAnswer};
 ghost use Rattle.stt_tableau.specs.declared.refutation.RuleUse.TheVariants.{AllNeg};
 ghost use Rattle.stt_tableau.specs.Witnesses.{IsTwice, IsTable};
-ghost use Rattle.refute_check.specs.Witnesses.{KeepsRows};
+ghost use Rattle.refute_check.specs.Means.Witnesses.{KeepsRows};
 
 use crate::term_numbers::TermNumbers;
 use std::alloc::{AllocError, Global};

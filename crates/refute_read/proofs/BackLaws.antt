@@ -1,5 +1,5 @@
 -- Texts are read back.
-use Rattle.std.proofs.Common.{◌≡◌, ℕ, ◌+◌, List, [], ◌∷◌, ◌++◌, length, refl, sym, ap, ◌∙◌, append_assoc, append-nil}
+use Rattle.std.proofs.Common.{◌≡◌, ℕ, List, [], ◌∷◌, ◌++◌, refl, sym, ap, ◌∙◌, append_assoc, append-nil}
 use Rattle.refute_text.specs.Trees.{RefutationTree}
 use Rattle.refute_text.specs.Text.{text_lines, as_bytes}
 use Rattle.refute_read.specs.Reading.{lines_of, HasText, ReadsAs, TextStands}

@@ -7,7 +7,7 @@ use Rattle.refute_text.specs.TextView.{the_line, the_text}
 use Rattle.refute_text.specs.declared.line.RefutationText.{RefutationText}
 use Rattle.refute_read.specs.Reading.{lines_of, is_end, HasText, IsFront, HoldsText, Reading, read, bad_line, no_start, no_end, Reads}
 use Rattle.refute_read.specs.Answered.{reading_of}
-use Rattle.refute_read.specs.Places.{BehindStart, RefusesBehind}
+use Rattle.refute_read.specs.Means.Places.{BehindStart, RefusesBehind}
 use Rattle.refute_read.specs.declared.refusal.TextRefused.{TextRefused}
 use Rattle.refute_read.specs.declared.refusal.TextRefused.TheVariants.{BadLine, NoStart, NoEnd, Memory}
 use Rattle.refute_read.proofs.Fronts.{front-text, first-same}

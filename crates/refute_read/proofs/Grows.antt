@@ -8,10 +8,10 @@ use Rattle.refute_text.specs.Limits.{IsWithin, IsLine}
 use Rattle.refute_text.specs.TextView.{the_line, the_text}
 use Rattle.refute_text.specs.declared.line.TextLine.{TextLine}
 use Rattle.refute_text.specs.declared.line.RefutationText.{RefutationText}
-use Rattle.refute_read.specs.LineReader.{row_at, line_at}
+use Rattle.refute_read.specs.Means.LineReader.{row_at, line_at}
 use Rattle.refute_read.specs.Reading.{HasText, IsFront}
-use Rattle.refute_read.specs.Refusals.{IsRefusal}
-use Rattle.refute_read.specs.Places.{IfForm}
+use Rattle.refute_read.specs.Means.Refusals.{IsRefusal}
+use Rattle.refute_read.specs.Means.Places.{IfForm}
 use Rattle.refute_read.specs.declared.refusal.Refusal.{Refusal}
 use Rattle.refute_read.specs.declared.refusal.Refusal.TheVariants.{Form, Memory}
 use Rattle.refute_read.proofs.LineReads.{row_reads, line_reads}

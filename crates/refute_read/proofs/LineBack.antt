@@ -4,9 +4,9 @@ use Rattle.std.proofs.lemmas.Bool.{eq-eqb}
 use Rattle.refute_text.specs.Trees.{TermTree, LiteralTree, OnePlace, False, Refl, ImpPos, ImpNeg, BoolPos, BoolNeg, FunPos, FunNeg, AllNeg, Dec, TwoPlaces, Close, Mat, Con, OfPredicate, Cho, Des, RuleTree, at_one, at_two, with_instance, with_predicate, with_cut, LineTree}
 use Rattle.refute_text.specs.Text.{term_text, literal_text, rule_text, row_text, branch_text, children_text, line_text}
 use Rattle.refute_text.specs.Limits.{greatest_depth, IsWithin, IsLiteral, IsRule, IsLine}
-use Rattle.refute_read.specs.Reader.{number_at}
-use Rattle.refute_read.specs.TermReader.{term_at}
-use Rattle.refute_read.specs.LineReader.{literal_at, child_at, items_at, place_at, one_place_at, places_at, two_places_at, instance_at, predicate_at, cut_at, one_place_rule_at, rule_at, where_number, row_at, children_at, lists_at, line_at}
+use Rattle.refute_read.specs.Means.Reader.{number_at}
+use Rattle.refute_read.specs.Means.TermReader.{term_at}
+use Rattle.refute_read.specs.Means.LineReader.{literal_at, child_at, items_at, place_at, one_place_at, places_at, two_places_at, instance_at, predicate_at, cut_at, one_place_rule_at, rule_at, where_number, row_at, children_at, lists_at, line_at}
 use Rattle.refute_read.proofs.Inversions.{found}
 use Rattle.refute_read.proofs.Answers.{bind_gives}
 use Rattle.refute_read.proofs.NameBack.{number_at-decimal}

@@ -3,7 +3,7 @@ use Rattle.std.proofs.Common.{◌≡◌, ℕ, ◌==◌, not, Bool, true, false, 
 use Rattle.std.specs.List.{list_all, onto_first}
 use Rattle.std.proofs.lemmas.Bool.{and_parts, not-true}
 use Rattle.refute_text.specs.Text.{as_bytes}
-use Rattle.refute_read.specs.Reader.{front, after, is_no_feed}
+use Rattle.refute_read.specs.Means.Reader.{front, after, is_no_feed}
 use Rattle.refute_read.specs.Reading.{lines_of, AreLines}
 
 pub lines_of-front : (c : ℕ) (cs : List ℕ) → lines_of (c ∷ cs) ≡ front is_no_feed (c ∷ cs) ∷ lines_of (drop 1 (after is_no_feed (c ∷ cs)))

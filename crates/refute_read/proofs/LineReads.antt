@@ -6,9 +6,9 @@ use Rattle.stt_tableau.specs.declared.refutation.Child.{Child}
 use Rattle.refute_text.specs.Trees.{TermTree, LiteralTree, RuleTree, LineTree}
 use Rattle.refute_text.specs.Text.{term_text, literal_text, child_text, after_commas, separated, branch_text, children_text, rule_text, row_text, line_text}
 use Rattle.refute_text.specs.Limits.{greatest_depth, IsWithin, IsLiteral, IsRule, IsChild, IsLine}
-use Rattle.refute_read.specs.Reader.{behind, number_at, with_items, repeated_at}
-use Rattle.refute_read.specs.TermReader.{term_at}
-use Rattle.refute_read.specs.LineReader.{literal_at, child_at, some_items_at, items_at, rule_at, where_number, end_at, row_at, branch_at, children_at, lists_at, line_at}
+use Rattle.refute_read.specs.Means.Reader.{behind, number_at, with_items, repeated_at}
+use Rattle.refute_read.specs.Means.TermReader.{term_at}
+use Rattle.refute_read.specs.Means.LineReader.{literal_at, child_at, some_items_at, items_at, rule_at, where_number, end_at, row_at, branch_at, children_at, lists_at, line_at}
 use Rattle.refute_read.proofs.Inversions.{found, found_first, found_second, bind_sound, front_sound, behind_some}
 use Rattle.refute_read.proofs.NameReads.{number_reads}
 use Rattle.refute_read.proofs.TermReads.{with_sound, term_reads}

@@ -9,9 +9,9 @@ use Rattle.stt_tableau.specs.declared.refutation.Child.TheVariants.{Closed, Line
 use Rattle.refute_text.specs.Trees.{TermTree, LiteralTree}
 use Rattle.refute_text.specs.Text.{term_text, sign_text, literal_text, child_text, after_commas, branch_text, children_text}
 use Rattle.refute_text.specs.Limits.{is_negated, greatest_depth, IsWithin, IsLiteral, IsChild}
-use Rattle.refute_read.specs.Reader.{behind, is_digit, number_at, with_items, repeated_at}
-use Rattle.refute_read.specs.TermReader.{term_at}
-use Rattle.refute_read.specs.LineReader.{read_literal, unsigned_at, signed_at, literal_at, child_at, some_items_at, items_at}
+use Rattle.refute_read.specs.Means.Reader.{behind, is_digit, number_at, with_items, repeated_at}
+use Rattle.refute_read.specs.Means.TermReader.{term_at}
+use Rattle.refute_read.specs.Means.LineReader.{read_literal, unsigned_at, signed_at, literal_at, child_at, some_items_at, items_at}
 use Rattle.refute_read.proofs.Numbers.{own}
 use Rattle.refute_read.proofs.Inversions.{found}
 use Rattle.refute_read.proofs.Answers.{bind_gives, front_skips}

@@ -5,9 +5,9 @@ use Rattle.stt_tableau.specs.declared.refutation.Child.TheVariants.{Closed, Line
 use Rattle.refute_text.specs.Trees.{TermTree, LiteralTree}
 use Rattle.refute_text.specs.Text.{term_text, sign_text, literal_text, child_text}
 use Rattle.refute_text.specs.Limits.{is_negated, greatest_depth, IsLiteral, IsChild}
-use Rattle.refute_read.specs.Reader.{behind, number_at}
-use Rattle.refute_read.specs.TermReader.{term_at}
-use Rattle.refute_read.specs.LineReader.{read_literal, unsigned_at, signed_at, literal_at, child_at}
+use Rattle.refute_read.specs.Means.Reader.{behind, number_at}
+use Rattle.refute_read.specs.Means.TermReader.{term_at}
+use Rattle.refute_read.specs.Means.LineReader.{read_literal, unsigned_at, signed_at, literal_at, child_at}
 use Rattle.refute_read.proofs.Inversions.{found, found_first, found_second, bind_sound, front_sound, behind_some}
 use Rattle.refute_read.proofs.NameReads.{number_reads}
 use Rattle.refute_read.proofs.TermReads.{TermStands, term_reads}

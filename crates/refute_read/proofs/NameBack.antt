@@ -5,7 +5,7 @@ use Rattle.std.proofs.lemmas.Bool.{and_parts, not-true, or_left, or_right, lt-lt
 use Rattle.std.proofs.lemmas.Bool.Decides.{nat_tests}
 use Rattle.std.proofs.lemmas.Fmt.{decimal_digit, decimal_nonempty, first_decimal, digits_decimal, digits_value-decimal}
 use Rattle.refute_text.specs.Letters.{is_lower, is_word_byte, is_printable, is_plain, escaped, quoted, name_text, is_name}
-use Rattle.refute_read.specs.Reader.{behind, front, after, is_digit, is_decimal, number_of, number_at, with_first, characters_at, escaped_at, where_quoted, plain_at, name_at}
+use Rattle.refute_read.specs.Means.Reader.{behind, front, after, is_digit, is_decimal, number_of, number_at, with_first, characters_at, escaped_at, where_quoted, plain_at, name_at}
 use Rattle.refute_read.proofs.Numbers.{own}
 use Rattle.refute_read.proofs.Inversions.{found}
 use Rattle.refute_read.proofs.Answers.{front_skips, behind_other}

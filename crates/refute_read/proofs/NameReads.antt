@@ -5,7 +5,7 @@ use Rattle.std.proofs.lemmas.Bool.{and_parts, eqb-true}
 use Rattle.std.proofs.lemmas.Bool.Decides.{nat_tests}
 use Rattle.std.proofs.lemmas.Fmt.{decimal-digits_value}
 use Rattle.refute_text.specs.Letters.{is_lower, is_word_byte, is_printable, is_plain, escaped, quoted, name_text, is_name}
-use Rattle.refute_read.specs.Reader.{behind, front, after, is_digit, is_decimal, number_from, number_of, number_at, with_first, characters_at, escaped_at, needs_quotes, where_quoted, plain_at, name_at}
+use Rattle.refute_read.specs.Means.Reader.{behind, front, after, is_digit, is_decimal, number_from, number_of, number_at, with_first, characters_at, escaped_at, needs_quotes, where_quoted, plain_at, name_at}
 use Rattle.refute_read.proofs.Numbers.{own}
 use Rattle.refute_read.proofs.Readers.{list_all-front}
 use Rattle.refute_read.proofs.Inversions.{found, found_first, found_second, front_sound, behind_some, front-after}

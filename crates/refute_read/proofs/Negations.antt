@@ -2,7 +2,7 @@
 use Rattle.std.proofs.Common.{◌≡◌, List, [], ◌∷◌, refl}
 use Rattle.refute_text.specs.Trees.{TermTree, app}
 use Rattle.refute_text.specs.Limits.{is_negated}
-use Rattle.refute_text.specs.TreeSizes.{applied}
+use Rattle.refute_text.specs.Means.TreeSizes.{applied}
 
 pub negated-applied : (h : TermTree) (us : List TermTree) → is_negated (applied h us) ≡ is_negated h
 negated-applied h [] = refl

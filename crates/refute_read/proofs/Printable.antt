@@ -1,16 +1,16 @@
 -- Texts are made of characters from space to `~`, so that no line feed is in them.
-use Rattle.std.proofs.Common.{◌≡◌, ℕ, zero, suc, ◌+◌, ◌^◌, ◌<◌, ◌≤◌, ◌&&◌, ◌||◌, ◌==◌, Bool, true, false, List, [], ◌∷◌, ◌++◌, length, map, codes, decimal, refl, ap, ap₂, ◌∙◌, arith, if◌then◌else◌}
+use Rattle.std.proofs.Common.{◌≡◌, ℕ, suc, ◌+◌, ◌^◌, ◌<◌, ◌≤◌, ◌&&◌, ◌||◌, ◌==◌, Bool, true, false, List, [], ◌∷◌, ◌++◌, length, map, codes, decimal, refl, ap, ap₂, arith, if◌then◌else◌}
 use Rattle.std.specs.List.{AllByRecursion, list_all, flat_map}
 use Rattle.std.proofs.lemmas.Bool.{and_parts, not_from_false}
 use Rattle.std.proofs.lemmas.Bool.Decides.{nat_tests}
 use Rattle.std.proofs.lemmas.Fmt.{digits_decimal}
 use Rattle.stt_tableau.specs.declared.refutation.Child.{Child}
 use Rattle.stt_tableau.specs.declared.refutation.Child.TheVariants.{Closed, Line as Numbered}
-use Rattle.refute_text.specs.Letters.{is_word_byte, is_printable, is_plain, starts_lower, escaped, quoted, name_text, is_name}
+use Rattle.refute_text.specs.Letters.{is_printable, is_plain, escaped, quoted, name_text, is_name}
 use Rattle.refute_text.specs.Trees.{TypeTree, formula, individual, named, arrow, ConstantTree, name, witness, falsity, negation, implication, all, equality, choice, description, TermTree, bound, constant, lam, app, LiteralTree, OnePlace, False, Refl, ImpPos, ImpNeg, BoolPos, BoolNeg, FunPos, FunNeg, AllNeg, Dec, TwoPlaces, Close, Mat, Con, OfPredicate, Cho, Des, RuleTree, at_one, at_two, with_instance, with_predicate, with_cut, LineTree, RefutationTree}
 use Rattle.refute_text.specs.Text.{type_text, constant_text, term_text, spine_text, sign_text, literal_text, after_commas, separated, branch_text, child_text, children_text, one_place_name, two_places_name, predicate_name, rule_text, row_text, line_text, row_texts, line_texts, text_lines}
 use Rattle.refute_text.specs.Limits.{IsType, IsConstant, IsTerm, IsSpine, IsWithin, IsLiteral, IsRule, IsChild, IsLine}
-use Rattle.refute_read.specs.Reader.{is_digit}
+use Rattle.refute_read.specs.Means.Reader.{is_digit}
 use Rattle.refute_read.specs.Reading.{HasText, is_one_line, AreLines}
 use Rattle.refute_read.proofs.Numbers.{own}
 

@@ -3,9 +3,9 @@ use Rattle.std.proofs.Common.{◌≡◌, ℕ, ◌^◌, ◌<◌, List, ◌++◌, 
 use Rattle.refute_text.specs.Trees.{OnePlace, False, Refl, ImpPos, ImpNeg, BoolPos, BoolNeg, FunPos, FunNeg, AllNeg, Dec, TwoPlaces, Close, Mat, Con, OfPredicate, Cho, Des, RuleTree, at_one, at_two, with_instance, with_predicate, with_cut}
 use Rattle.refute_text.specs.Text.{term_text, literal_text, one_place_name, two_places_name, predicate_name, rule_text}
 use Rattle.refute_text.specs.Limits.{greatest_depth, IsRule}
-use Rattle.refute_read.specs.Reader.{behind, by_front, number_at}
-use Rattle.refute_read.specs.TermReader.{term_at}
-use Rattle.refute_read.specs.LineReader.{literal_at, place_at, one_place_at, places_at, two_places_at, instance_at, predicate_at, cut_at, one_place_rule_at, rule_at}
+use Rattle.refute_read.specs.Means.Reader.{behind, by_front, number_at}
+use Rattle.refute_read.specs.Means.TermReader.{term_at}
+use Rattle.refute_read.specs.Means.LineReader.{literal_at, place_at, one_place_at, places_at, two_places_at, instance_at, predicate_at, cut_at, one_place_rule_at, rule_at}
 use Rattle.refute_read.proofs.Inversions.{found, found_first, found_second, bind_sound, front_sound, behind_some}
 use Rattle.refute_read.proofs.NameReads.{number_reads}
 use Rattle.refute_read.proofs.TermReads.{term_reads}

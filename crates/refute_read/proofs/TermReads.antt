@@ -3,9 +3,9 @@ use Rattle.std.proofs.Common.{◌≡◌, ℕ, zero, suc, ◌^◌, ◌<◌, ◌�
 use Rattle.refute_text.specs.Trees.{TypeTree, ConstantTree, name, witness, falsity, negation, implication, all, equality, choice, description, TermTree, bound, constant, lam}
 use Rattle.refute_text.specs.Text.{type_text, constant_text, term_text}
 use Rattle.refute_text.specs.Limits.{IsType, type_depth, IsConstant, constant_depth, IsTerm, term_depth}
-use Rattle.refute_text.specs.TreeSizes.{applied}
-use Rattle.refute_read.specs.Reader.{behind, number_at, name_at, type_at, with_item, repeated_at}
-use Rattle.refute_read.specs.TermReader.{TermAt, counted_at, named_head_at, opened_type_at, bracketed_type_at, bracketed_at, dollar_head_at, head_at, arguments_at, applied_to, application_at, lambda_at, no_term, term_at}
+use Rattle.refute_text.specs.Means.TreeSizes.{applied}
+use Rattle.refute_read.specs.Means.Reader.{behind, number_at, name_at, type_at, with_item, repeated_at}
+use Rattle.refute_read.specs.Means.TermReader.{TermAt, counted_at, named_head_at, opened_type_at, bracketed_type_at, bracketed_at, dollar_head_at, head_at, arguments_at, applied_to, application_at, lambda_at, no_term, term_at}
 use Rattle.refute_read.proofs.Inversions.{found, found_first, found_second, bind_sound, front_sound, behind_some}
 use Rattle.refute_read.proofs.NameReads.{name_reads, number_reads}
 use Rattle.refute_read.proofs.TypeReads.{TypeStands, type_reads}

@@ -4,7 +4,7 @@ use Rattle.std.specs.List.{AllByRecursion}
 use Rattle.refute_text.specs.Trees.{TermTree, LineTree, RefutationTree}
 use Rattle.refute_text.specs.Text.{row_text, line_text, row_texts, line_texts, text_lines}
 use Rattle.refute_text.specs.Limits.{IsWithin, IsLine}
-use Rattle.refute_read.specs.LineReader.{row_at, line_at}
+use Rattle.refute_read.specs.Means.LineReader.{row_at, line_at}
 use Rattle.refute_read.specs.Reading.{HasText}
 use Rattle.refute_read.proofs.LineBack.{row_at-text, line_at-text}
 use Rattle.refute_read.proofs.Fronts.{first-same, rest-same, row-then_line}

@@ -4,7 +4,7 @@ use Rattle.std.specs.List.{flat_map}
 use Rattle.refute_text.specs.Trees.{TermTree, bound, constant, lam, app}
 use Rattle.refute_text.specs.Text.{term_text, spine_text}
 use Rattle.refute_text.specs.Limits.{IsTerm, IsSpine, term_depth, spine_depth}
-use Rattle.refute_text.specs.TreeSizes.{applied}
+use Rattle.refute_text.specs.Means.TreeSizes.{applied}
 
 abbrev pub IsHead : TermTree → Type 0
 IsHead (bound k) = Unit {0}

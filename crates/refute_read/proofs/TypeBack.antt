@@ -4,7 +4,7 @@ use Rattle.refute_text.specs.Letters.{is_name, name_text}
 use Rattle.refute_text.specs.Trees.{TypeTree, formula, individual, named, arrow}
 use Rattle.refute_text.specs.Text.{type_text}
 use Rattle.refute_text.specs.Limits.{IsType, type_depth}
-use Rattle.refute_read.specs.Reader.{behind, name_at, named_at, arrow_at, no_type, type_from, type_at}
+use Rattle.refute_read.specs.Means.Reader.{behind, name_at, named_at, arrow_at, no_type, type_from, type_at}
 use Rattle.refute_read.proofs.Inversions.{found}
 use Rattle.refute_read.proofs.Answers.{bind_gives, front_skips}
 use Rattle.refute_read.proofs.NameBack.{stops, behind-name, name_at-text}

@@ -3,7 +3,7 @@ use Rattle.std.proofs.Common.{◌≡◌, ℕ, zero, suc, ◌≤◌, List, ◌++�
 use Rattle.refute_text.specs.Trees.{TypeTree, formula, individual, named, arrow}
 use Rattle.refute_text.specs.Text.{type_text}
 use Rattle.refute_text.specs.Limits.{IsType, type_depth}
-use Rattle.refute_read.specs.Reader.{behind, name_at, named_at, arrow_at, no_type, type_from, type_at}
+use Rattle.refute_read.specs.Means.Reader.{behind, name_at, named_at, arrow_at, no_type, type_from, type_at}
 use Rattle.refute_read.proofs.Inversions.{found, found_first, found_second, bind_sound, front_sound, behind_some}
 use Rattle.refute_read.proofs.NameReads.{name_reads}
 

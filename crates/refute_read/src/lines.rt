@@ -1,9 +1,9 @@
 //! The lines of a text.
 
 ghost use Rattle.std.specs.Prelude.{◌≡◌, ◌+◌, ◌<◌, ◌≤◌, ◌^◌, ◌∷◌, [], length, IfOk, IfErr, IfSome, IfNone, drop};
-ghost use Rattle.refute_read.specs.Reader.{front, after, is_no_feed};
+ghost use Rattle.refute_read.specs.Means.Reader.{front, after, is_no_feed};
 ghost use Rattle.refute_read.specs.Reading.{lines_of, is_start, is_end, HasNoStart};
-ghost use Rattle.refute_read.specs.Places.{BehindStart};
+ghost use Rattle.refute_read.specs.Means.Places.{BehindStart};
 
 /// Bytes of a text, and the number of the line that begins with them.
 #[derive(Clone, Copy, Drop)]

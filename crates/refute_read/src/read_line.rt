@@ -1,9 +1,9 @@
 //! Reads the lines of a text.
 
 ghost use Rattle.std.specs.Prelude.{◌≡◌, ◌^◌, length, codes};
-ghost use Rattle.refute_read.specs.Reader.{number_at, repeated_at, with_items};
-ghost use Rattle.refute_read.specs.LineReader.{literal_at, child_at, items_at, where_number, end_at, row_at, branch_at, children_at, lists_at, line_at};
-ghost use Rattle.refute_read.specs.Refusals.{Answers};
+ghost use Rattle.refute_read.specs.Means.Reader.{number_at, repeated_at, with_items};
+ghost use Rattle.refute_read.specs.Means.LineReader.{literal_at, child_at, items_at, where_number, end_at, row_at, branch_at, children_at, lists_at, line_at};
+ghost use Rattle.refute_read.specs.Means.Refusals.{Answers};
 ghost use Rattle.refute_text.specs.LineView.{the_rule};
 ghost use Rattle.refute_text.specs.TextView.{the_line};
 
@@ -70,7 +70,7 @@ struct ChildRead<'a> {
     rest: &'a [u8],
 }
 
-#[tactic(auto, unfolding(crate::specs::LineReader::child_at))]
+#[tactic(auto, unfolding(crate::specs::Means::LineReader::child_at))]
 fn child(bytes: &[u8]) -> Result<ChildRead<'_>, Refusal>
     ensures { Answers (λ r. (r.child, r.rest.now)) result (child_at bytes.now) }
 {
@@ -165,7 +165,7 @@ fn line_number(number: usize, bytes: &[u8]) -> Result<&[u8], Refusal>
 }
 
 /// The predicate of the witness row of this number.
-#[tactic(auto, unfolding(crate::specs::LineReader::row_at))]
+#[tactic(auto, unfolding(crate::specs::Means::LineReader::row_at))]
 pub(crate) fn read_row(alloc: Global, number: usize, line: &[u8]) -> Result<TextTerm, Refusal>
     ensures { Answers (λ t. t) result (row_at number line.now) }
 {
@@ -196,7 +196,7 @@ fn line_children(alloc: Global, bytes: &[u8]) -> Result<Children, Refusal>
 }
 
 /// The branch and the children behind a rule.
-#[tactic(auto, unfolding(crate::specs::LineReader::lists_at))]
+#[tactic(auto, unfolding(crate::specs::Means::LineReader::lists_at))]
 fn lists(alloc: Global, rule: TextRule, bytes: &[u8]) -> Result<TextLine, Refusal>
     ensures { Answers (λ l. the_line l) result (lists_at (the_rule rule) bytes.now) }
 {
@@ -210,7 +210,7 @@ fn lists(alloc: Global, rule: TextRule, bytes: &[u8]) -> Result<TextLine, Refusa
 }
 
 /// The line of this number.
-#[tactic(auto, unfolding(crate::specs::LineReader::line_at))]
+#[tactic(auto, unfolding(crate::specs::Means::LineReader::line_at))]
 pub(crate) fn read_line(alloc: Global, number: usize, line: &[u8]) -> Result<TextLine, Refusal>
     ensures { Answers (λ l. the_line l) result (line_at number line.now) }
 {

@@ -3,8 +3,8 @@
 ghost use Rattle.std.specs.Prelude.{◌≡◌, ◌++◌, ◌≤◌, ◌<◌, ◌^◌, length, option_map, IfSome, Some, None, nat_lt, ◌+◌, true, if◌then◌else◌};
 ghost use Rattle.std.specs.List.{list_all};
 ghost use Rattle.refute_text.specs.Letters.{is_word_byte, is_printable};
-ghost use Rattle.refute_read.specs.Reader.{front, after, behind, is_digit, is_decimal, number_from, number_at, escaped_character, character_at, characters_at, needs_quotes, plain_at, name_at};
-ghost use Rattle.refute_read.specs.Refusals.{Answers};
+ghost use Rattle.refute_read.specs.Means.Reader.{front, after, behind, is_digit, is_decimal, number_from, number_at, escaped_character, character_at, characters_at, needs_quotes, plain_at, name_at};
+ghost use Rattle.refute_read.specs.Means.Refusals.{Answers};
 
 use crate::refusal::Refusal;
 use outside::Bytes;
@@ -100,7 +100,7 @@ fn value(digits: &[u8]) -> Option<u64>
 }
 
 /// A number up to the greatest one.
-#[tactic(auto, unfolding(crate::specs::Reader::number_at))]
+#[tactic(auto, unfolding(crate::specs::Means::Reader::number_at))]
 pub(crate) fn number(greatest: u64, bytes: &[u8]) -> Option<NumberRead<'_>>
     ensures read { option_map (λ r. (r.number, r.rest.now)) result ≡ number_at (greatest + 1) bytes.now }
     ensures bound { IfSome result (λ r. r.number ≤ greatest) }
@@ -215,7 +215,7 @@ fn plain(alloc: Global, bytes: &[u8]) -> Result<NameRead<'_>, Refusal>
 }
 
 /// A name.
-#[tactic(auto, unfolding(crate::specs::Reader::name_at))]
+#[tactic(auto, unfolding(crate::specs::Means::Reader::name_at))]
 pub(crate) fn name(alloc: Global, bytes: &[u8]) -> Result<NameRead<'_>, Refusal>
     ensures { Answers (λ r. (r.name, r.rest.now)) result (name_at bytes.now) }
 {

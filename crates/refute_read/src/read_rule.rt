@@ -3,9 +3,9 @@
 ghost use Rattle.std.specs.Prelude.{◌≡◌, ◌^◌};
 ghost use Rattle.refute_text.specs.Limits.{is_negated};
 ghost use Rattle.refute_text.specs.Trees.{Cho, Des};
-ghost use Rattle.refute_read.specs.Reader.{number_at};
-ghost use Rattle.refute_read.specs.LineReader.{signed_at, literal_at, place_at, places_at, instance_at, predicate_at, cut_at, one_place_rule_at, rule_at};
-ghost use Rattle.refute_read.specs.Refusals.{Answers};
+ghost use Rattle.refute_read.specs.Means.Reader.{number_at};
+ghost use Rattle.refute_read.specs.Means.LineReader.{signed_at, literal_at, place_at, places_at, instance_at, predicate_at, cut_at, one_place_rule_at, rule_at};
+ghost use Rattle.refute_read.specs.Means.Refusals.{Answers};
 ghost use Rattle.refute_text.specs.LineView.{the_rule};
 ghost use Rattle.refute_text.specs.TreeView.{the_head};
 
@@ -62,7 +62,7 @@ fn signed(alloc: Global, positive: bool, bytes: &[u8]) -> Result<LiteralRead<'_>
 }
 
 /// A literal.
-#[tactic(auto, unfolding(crate::specs::LineReader::literal_at))]
+#[tactic(auto, unfolding(crate::specs::Means::LineReader::literal_at))]
 pub(crate) fn read_literal(alloc: Global, bytes: &[u8]) -> Result<LiteralRead<'_>, Refusal>
     ensures { Answers (λ r. (r.literal, r.rest.now)) result (literal_at bytes.now) }
 {
@@ -94,7 +94,7 @@ pub(crate) fn read_number(bytes: &[u8]) -> Result<PlaceRead<'_>, Refusal>
 }
 
 /// A place, and the parenthesis behind it.
-#[tactic(auto, unfolding(crate::specs::LineReader::place_at))]
+#[tactic(auto, unfolding(crate::specs::Means::LineReader::place_at))]
 fn place(bytes: &[u8]) -> Result<PlaceRead<'_>, Refusal>
     ensures { Answers (λ r. (r.place, r.rest.now)) result (place_at bytes.now) }
 {
@@ -114,7 +114,7 @@ pub(crate) struct RuleRead<'a> {
 }
 
 /// A rule of one place.
-#[tactic(auto, unfolding(crate::specs::LineReader::one_place_rule_at))]
+#[tactic(auto, unfolding(crate::specs::Means::LineReader::one_place_rule_at))]
 fn one_place_rule(bytes: &[u8]) -> Result<RuleRead<'_>, Refusal>
     ensures { Answers (λ r. (the_rule r.rule, r.rest.now)) result (one_place_rule_at bytes.now) }
 {
@@ -222,7 +222,7 @@ fn cut(alloc: Global, bytes: &[u8]) -> Result<RuleRead<'_>, Refusal>
 }
 
 /// A rule.
-#[tactic(auto, unfolding(crate::specs::LineReader::rule_at))]
+#[tactic(auto, unfolding(crate::specs::Means::LineReader::rule_at))]
 pub(crate) fn read_rule(alloc: Global, bytes: &[u8]) -> Result<RuleRead<'_>, Refusal>
     ensures { Answers (λ r. (the_rule r.rule, r.rest.now)) result (rule_at bytes.now) }
 {

@@ -2,9 +2,9 @@
 
 ghost use Rattle.std.specs.Prelude.{◌≡◌, ◌<◌, ◌^◌, option_map, IfSome, length};
 ghost use Rattle.refute_text.specs.Trees.{bound, constant, witness, all, equality, choice, description};
-ghost use Rattle.refute_read.specs.Reader.{number_at, type_at};
-ghost use Rattle.refute_read.specs.TermReader.{named_head_at, bracketed_at, bracketed_type_at, dollar_head_at, head_at, arguments_at, application_at, lambda_at, term_at};
-ghost use Rattle.refute_read.specs.Refusals.{Answers};
+ghost use Rattle.refute_read.specs.Means.Reader.{number_at, type_at};
+ghost use Rattle.refute_read.specs.Means.TermReader.{named_head_at, bracketed_at, bracketed_type_at, dollar_head_at, head_at, arguments_at, application_at, lambda_at, term_at};
+ghost use Rattle.refute_read.specs.Means.Refusals.{Answers};
 ghost use Rattle.refute_text.specs.View.{the_type};
 ghost use Rattle.refute_text.specs.TreeView.{the_head};
 
@@ -63,7 +63,7 @@ fn bracketed(alloc: Global, depth: u32, bytes: &[u8]) -> Result<TypeRead<'_>, Re
 }
 
 /// A head behind its `$`.
-#[tactic(auto, unfolding(crate::specs::TermReader::dollar_head_at))]
+#[tactic(auto, unfolding(crate::specs::Means::TermReader::dollar_head_at))]
 fn dollar_head(alloc: Global, depth: u32, bytes: &[u8]) -> Result<HeadRead<'_>, Refusal>
     ensures { Answers (λ r. (the_head r.head, r.rest.now)) result (dollar_head_at depth bytes.now) }
 {
@@ -95,7 +95,7 @@ fn dollar_head(alloc: Global, depth: u32, bytes: &[u8]) -> Result<HeadRead<'_>, 
 }
 
 /// The head of a term.
-#[tactic(auto, unfolding(crate::specs::TermReader::head_at))]
+#[tactic(auto, unfolding(crate::specs::Means::TermReader::head_at))]
 fn read_head(alloc: Global, depth: u32, bytes: &[u8]) -> Result<HeadRead<'_>, Refusal>
     ensures { Answers (λ r. (the_head r.head, r.rest.now)) result (head_at depth bytes.now) }
 {
@@ -180,7 +180,7 @@ fn function(alloc: Global, depth: u32, bytes: &[u8]) -> Result<TermRead<'_>, Ref
 
 /// A term in which at most so many parentheses, brackets and functions are open at once.
 #[cycle(read_term)]
-#[tactic(auto, unfolding(crate::specs::TermReader::term_at))]
+#[tactic(auto, unfolding(crate::specs::Means::TermReader::term_at))]
 pub(crate) fn read_term(alloc: Global, depth: u32, bytes: &[u8]) -> Result<TermRead<'_>, Refusal>
     ensures { Answers (λ r. (r.term, r.rest.now)) result (term_at depth bytes.now) }
 {

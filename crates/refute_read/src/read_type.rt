@@ -1,8 +1,8 @@
 //! Reads types.
 
 ghost use Rattle.std.specs.Prelude.{◌≡◌};
-ghost use Rattle.refute_read.specs.Reader.{behind, named_at, type_at};
-ghost use Rattle.refute_read.specs.Refusals.{Answers};
+ghost use Rattle.refute_read.specs.Means.Reader.{behind, named_at, type_at};
+ghost use Rattle.refute_read.specs.Means.Refusals.{Answers};
 ghost use Rattle.refute_text.specs.View.{the_type};
 
 use crate::read_name::{behind, name};
@@ -38,7 +38,7 @@ fn named(alloc: Global, bytes: &[u8]) -> Result<TypeRead<'_>, Refusal>
 }
 
 /// A type in which at most so many parentheses are open at once.
-#[tactic(auto, unfolding(crate::specs::Reader::type_at))]
+#[tactic(auto, unfolding(crate::specs::Means::Reader::type_at))]
 pub(crate) fn read_type(alloc: Global, depth: u32, bytes: &[u8]) -> Result<TypeRead<'_>, Refusal>
     ensures { Answers (λ r. (the_type r.ty, r.rest.now)) result (type_at depth bytes.now) }
 {

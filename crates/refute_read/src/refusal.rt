@@ -4,6 +4,7 @@ ghost use Rattle.std.specs.Prelude.{◌≡◌};
 ghost use Rattle.refute_read.specs.declared.refusal.Refusal.TheVariants.{Memory};
 
 use std::alloc::{AllocError, AllocFailed};
+use thiserror::Error;
 
 /// Why a text isn't read: a form that isn't the format's, or want of memory.
 #[derive(Clone, Copy, Debug, PartialEq, Eq)]
@@ -29,14 +30,18 @@ impl<T: Drop> From<AllocFailed<T>> for Refusal {
 }
 
 /// Why a text isn't read. Lines are counted from 1.
-#[derive(Clone, Copy, Debug, PartialEq, Eq)]
+#[derive(Clone, Copy, Debug, PartialEq, Eq, Error)]
 pub enum TextRefused {
     /// The first line behind the start line that isn't as it should be.
+    #[error("line {line} isn't as it should be")]
     BadLine { line: usize },
     /// There is no start line: one line past the last.
+    #[error("line {line}: there is no start line")]
     NoStart { line: usize },
     /// There is no end line, and no bad line: one line past the last.
+    #[error("line {line}: there is no end line")]
     NoEnd { line: usize },
     /// There is no memory for the refutation.
+    #[error("no memory is left")]
     Memory,
 }

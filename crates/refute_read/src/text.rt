@@ -5,7 +5,7 @@ ghost use Rattle.std.specs.List.{starts_with};
 ghost use Rattle.refute_text.specs.Text.{text_lines};
 ghost use Rattle.refute_text.specs.TextView.{the_text};
 ghost use Rattle.refute_read.specs.Reading.{lines_of, HasText, IsFront, HoldsText, Reading, Reads};
-ghost use Rattle.refute_read.specs.Places.{RefusesBehind, IfForm};
+ghost use Rattle.refute_read.specs.Means.Places.{RefusesBehind, IfForm};
 ghost use Rattle.refute_read.specs.Answered.{reading_of};
 
 use crate::lines::{Place, behind_start, is_end, next_line};

@@ -6,7 +6,7 @@ use Rattle.stt_tableau.specs.declared.refutation.Child.{Child}
 use Rattle.stt_tableau.specs.declared.refutation.Line.{Line}
 use Rattle.refute_text.specs.Text.{term_text, literal_text, child_text, rule_text, after_commas, separated, branch_text, children_text, row_texts, line_texts, as_bytes}
 use Rattle.refute_text.specs.Named.{Names, named_term, named_literal, named_rule, named_line, HasNames, HaveNames, HasLineNames, RowsHaveNames, LinesHaveNames}
-use Rattle.refute_text.specs.Pieces.{comma_before, literal_at, child_at, row_line, line_line}
+use Rattle.refute_text.specs.Means.Pieces.{comma_before, literal_at, child_at, row_line, line_line}
 use Rattle.refute_text.proofs.Lists.{all_texts}
 
 -- a text that ends with a number, and what follows it

@@ -8,7 +8,7 @@ use Rattle.stt_core.specs.declared.nf.Head.TheVariants as head
 use Rattle.refute_text.specs.Letters.{name_text}
 use Rattle.refute_text.specs.Text.{type_text, term_text, spine_text}
 use Rattle.refute_text.specs.Named.{Names, named_type, named_term, HasTypeNames, HasNames}
-use Rattle.refute_text.specs.Pieces.{binder_text, binders_text, argument_text, arguments_text, applied_text, BindersHaveNames, ArgumentsHaveNames}
+use Rattle.refute_text.specs.Means.Pieces.{binder_text, binders_text, argument_text, arguments_text, applied_text, BindersHaveNames, ArgumentsHaveNames}
 
 -- the text of a declared base type is its name's
 pub base_text : (names : Names) (n : ℕ) (w : List ℕ) → n ≢ 0 → n ≢ 1 → slice_get names.bases (n - 2) ≡ Some w → name_text w ≡ type_text (named_type names (base n))

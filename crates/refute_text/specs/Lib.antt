@@ -2,14 +2,9 @@ pub mod Letters
 pub mod Trees
 pub mod Text
 pub mod Named
-pub mod Pieces
 pub mod Limits
-pub mod Writing
 pub mod View
-pub mod TreeCode
-pub mod LiteralCode
-pub mod TreeSizes
 pub mod TreeView
-pub mod TreeFalls
 pub mod LineView
 pub mod TextView
+pub mod Means

@@ -1,6 +1,6 @@
 -- The terms of the code as plain trees.
 use Rattle.refute_text.specs.Trees.{TermTree, bound, constant, lam, name, witness, falsity, negation, implication, all, equality, choice, description}
-use Rattle.refute_text.specs.TreeSizes.{applied}
+use Rattle.refute_text.specs.Means.TreeSizes.{applied}
 use Rattle.refute_text.specs.View.{the_type}
 use Rattle.refute_text.specs.declared.tree.TextHead.{TextHead}
 use Rattle.refute_text.specs.declared.tree.TextHead.TheVariants.{Bound, Name, Wit, False, Not, Imp, All, Eq, Choice, Desc}

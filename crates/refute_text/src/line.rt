@@ -16,7 +16,7 @@ pub struct TextLit {
 
 impl Model for TextLit {
     ghost use Rattle.refute_text.specs.Trees.{LiteralTree};
-    ghost use Rattle.refute_text.specs.LiteralCode.{literal_tree_code};
+    ghost use Rattle.refute_text.specs.Means.LiteralCode.{literal_tree_code};
 
     ghost Value = { LiteralTree };
 
@@ -35,7 +35,7 @@ impl Model for TextLits {
     ghost use Rattle.std.specs.Prelude.{List};
     ghost use Rattle.std.specs.Coded.{coded_list};
     ghost use Rattle.refute_text.specs.Trees.{LiteralTree};
-    ghost use Rattle.refute_text.specs.LiteralCode.{literal_tree_code};
+    ghost use Rattle.refute_text.specs.Means.LiteralCode.{literal_tree_code};
 
     ghost Value = { List LiteralTree };
 
@@ -115,8 +115,8 @@ pub struct TextLines {
 impl Model for TextLines {
     ghost use Rattle.std.specs.Prelude.{List};
     ghost use Rattle.std.specs.Coded.{codes};
-    ghost use Rattle.refute_text.specs.TreeCode.{term_tree_code};
-    ghost use Rattle.refute_text.specs.LiteralCode.{literal_tree_code};
+    ghost use Rattle.refute_text.specs.Means.TreeCode.{term_tree_code};
+    ghost use Rattle.refute_text.specs.Means.LiteralCode.{literal_tree_code};
     ghost use Rattle.refute_text.specs.declared.line.TextLine.{TextLine};
 
     ghost Value = { List TextLine };

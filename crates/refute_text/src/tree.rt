@@ -54,13 +54,13 @@ pub struct TextTerms {
 
 impl Model for TextTerm {
     ghost use Rattle.refute_text.specs.Trees.{TermTree};
-    ghost use Rattle.refute_text.specs.TreeCode.{term_tree_code};
+    ghost use Rattle.refute_text.specs.Means.TreeCode.{term_tree_code};
 
     ghost Value = { TermTree };
 
     ghost coded = { term_tree_code };
 
-    ghost use Rattle.refute_text.specs.TreeSizes.{node_count};
+    ghost use Rattle.refute_text.specs.Means.TreeSizes.{node_count};
     ghost use Rattle.refute_text.specs.TreeView.{the_node};
 
     ghost view = { λ a. the_node a.node };
@@ -68,7 +68,7 @@ impl Model for TextTerm {
     ghost size = { node_count };
 
     ghost use Rattle.std.proofs.Common.{arith};
-    ghost use Rattle.refute_text.specs.TreeFalls.{node_falls};
+    ghost use Rattle.refute_text.specs.Means.TreeFalls.{node_falls};
 
     ghost size_decreases = { λ a h. omega (arith, node_falls a.node) };
 }
@@ -77,7 +77,7 @@ impl Model for TextTerms {
     ghost use Rattle.std.specs.Prelude.{List};
     ghost use Rattle.std.specs.Coded.{coded_list};
     ghost use Rattle.refute_text.specs.Trees.{TermTree};
-    ghost use Rattle.refute_text.specs.TreeCode.{term_tree_code};
+    ghost use Rattle.refute_text.specs.Means.TreeCode.{term_tree_code};
 
     ghost Value = { List TermTree };
 
@@ -86,7 +86,7 @@ impl Model for TextTerms {
     ghost view = { λ a. a.items.items };
 
     ghost use Rattle.std.proofs.Common.{arith};
-    ghost use Rattle.refute_text.specs.TreeSizes.{counts, terms_fall};
+    ghost use Rattle.refute_text.specs.Means.TreeSizes.{counts, terms_fall};
 
     ghost size = { counts };
 

@@ -5,8 +5,8 @@ ghost use Rattle.outside.specs.Causes.{Rose};
 ghost use Rattle.outside.specs.Prefix.{AppendsProperly};
 ghost use Rattle.refute_text.specs.Text.{child_text, branch_text, children_text, row_texts, line_texts, text_lines, as_bytes};
 ghost use Rattle.refute_text.specs.Named.{names_of, named_term, named_literal, named_line, named_refutation, HasNames, HaveNames, HasLineNames, RowsHaveNames, LinesHaveNames, IsNamed};
-ghost use Rattle.refute_text.specs.Pieces.{comma_before, literal_at, child_at, row_line, line_end, line_line};
-ghost use Rattle.refute_text.specs.Writing.{Took, Stopped};
+ghost use Rattle.refute_text.specs.Means.Pieces.{comma_before, literal_at, child_at, row_line, line_end, line_line};
+ghost use Rattle.outside.specs.Writing.{Took, Stopped};
 
 use crate::write_name::{write, write_numbered};
 use crate::write_rule::{write_literal, write_rule};
@@ -197,6 +197,7 @@ pub fn write_text<S: Sink>(
     ensures failed { OnErr result (IsTrue (S.tells sink.old)
         → AppendsProperly (S.written sink.old) (S.written sink.new)
         (as_bytes (text_lines (named_refutation (names_of sig.now.bases sig.now.consts) refutation.now)))) }
+    ensures quiet { OnOk result (S.faults sink.new ≡ S.faults sink.old) }
     ensures cause { OnErr result (Rose (S.faults sink.old) (S.faults sink.new)) }
     ensures later { S.faults sink.old ≤ S.faults sink.new }
     ensures telling { IsTrue (S.tells sink.old) → IsTrue (S.tells sink.new) }

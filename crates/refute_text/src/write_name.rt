@@ -3,7 +3,7 @@
 ghost use Rattle.std.specs.Prelude.{◌≡◌, ◌++◌, decimal, OnOk, OnErr};
 ghost use Rattle.std.specs.List.{flat_map};
 ghost use Rattle.refute_text.specs.Letters.{escaped, quoted, name_text};
-ghost use Rattle.refute_text.specs.Writing.{Took, Stopped};
+ghost use Rattle.outside.specs.Writing.{Took, Stopped};
 
 use crate::letters::is_plain;
 use itoa::Buffer;

@@ -3,7 +3,7 @@
 ghost use Rattle.std.specs.Prelude.{◌≡◌, ◌++◌, codes, decimal, OnOk, OnErr};
 ghost use Rattle.refute_text.specs.Text.{term_text, sign_text, literal_text, rule_text};
 ghost use Rattle.refute_text.specs.Named.{names_of, named_term, named_literal, named_rule, HasNames, HasRuleNames};
-ghost use Rattle.refute_text.specs.Writing.{Took, Stopped};
+ghost use Rattle.outside.specs.Writing.{Took, Stopped};
 
 use crate::write_name::{write, write_numbered};
 use crate::write_term::write_term;

@@ -5,8 +5,8 @@ ghost use Rattle.stt_core.specs.SimpleType.{base};
 ghost use Rattle.stt_core.specs.View.{the_type, the_head};
 ghost use Rattle.refute_text.specs.Text.{type_text, term_text};
 ghost use Rattle.refute_text.specs.Named.{names_of, named_type, named_term, HasTypeNames, HasNames};
-ghost use Rattle.refute_text.specs.Pieces.{binders_text, argument_text, arguments_text, applied_text, BindersHaveNames, ArgumentsHaveNames};
-ghost use Rattle.refute_text.specs.Writing.{Took, Stopped};
+ghost use Rattle.refute_text.specs.Means.Pieces.{binders_text, argument_text, arguments_text, applied_text, BindersHaveNames, ArgumentsHaveNames};
+ghost use Rattle.outside.specs.Writing.{Took, Stopped};
 
 use crate::write_name::{write, write_name, write_numbered};
 use outside::{Failed, Sink};

@@ -9,7 +9,8 @@ use Rattle.stt_core.specs.PlainProblem.{PlainProblem}
 use Rattle.thf_syntax.specs.Trees.{FormulaTree, constant, variable, truth, operator, negation, binary, equation, application, quantified, binding, BodyTree, base, typing, formula}
 use Rattle.thf_include.specs.View.{PlacedTree}
 use Rattle.prover_search.specs.Searched.{IsPropositional}
-use Rattle.type_check.specs.Statements.{is_conjecture, with_formula, read_body, read_statements, nothing, problem_of}
+use Rattle.type_check.specs.Statements.{with_formula, read_body, read_statements, nothing, problem_of}
+use Rattle.type_check.proofs.ProblemLaws.{with_formula-cases}
 use Rattle.run_forms.specs.Least.{least}
 use Rattle.run_forms.specs.Forms.{is_built, names_formula, unless_built, places_by, unbuilt_places, body_places, first_unbuilt, has_built_shape, unbuilt_shape, first_unbuilt_shape}
 use Rattle.run_forms.specs.Propositional.{AllPropositional}
@@ -58,16 +59,16 @@ least_of consts None = None
 least_of consts (Some tree) = least (unbuilt_places consts tree)
 
 -- the first statement with an unbuilt form is the first with an unbuilt shape
-body-read : (p q : PlainProblem) (consts : List TypedName) (conjecture : Bool) (body : BodyTree) (place : Option ℕ) (shape : Option FormulaTree)
-    → read_body p conjecture body ≡ Ok q → ((name : List ℕ) → names_formula p.declared.consts name ≡ true → names_formula consts name ≡ true) → place ≡ least_of consts shape
+body-read : (p q : PlainProblem) (consts : List TypedName) (role : List ℕ) (body : BodyTree) (place : Option ℕ) (shape : Option FormulaTree)
+    → read_body p role body ≡ Ok q → ((name : List ℕ) → names_formula p.declared.consts name ≡ true → names_formula consts name ≡ true) → place ≡ least_of consts shape
     → option_or (least (body_places consts body)) place ≡ least_of consts (option_or (unbuilt_shape body) shape)
-body-read p q consts conjecture (base at name) place shape h g e = e
-body-read p q consts conjecture (typing at name ty) place shape h g e = e
-body-read p q consts conjecture (formula tree) place shape h g e = go (has_built_shape tree) refl
+body-read p q consts role (base at name) place shape h g e = e
+body-read p q consts role (typing at name ty) place shape h g e = e
+body-read p q consts role (formula tree) place shape h g e = go (has_built_shape tree) refl
   where
     go : (b : Bool) → has_built_shape tree ≡ b → option_or (least (unbuilt_places consts tree)) place ≡ least_of consts (option_or (if b then None else Some tree) shape)
     go true s =
-        let f = formula-read tree p q conjecture h in
+        let f = formula-read tree p q role h in
         ap (λ ns. option_or (least ns) place) ((read_term-built p.declared (names_formula consts) g tree f.term s f.read).places f.type) ∙ e
     go false s =
         option_or-some (least (unbuilt_places consts tree)) place (λ n. let b = places_by-empty (names_formula consts) tree (least-none (unbuilt_places consts tree) n) in cc)
@@ -76,31 +77,33 @@ read_statements-unbuilt : (statements : List PlacedTree) (p r : PlainProblem) �
 read_statements-unbuilt [] p r h = refl
 read_statements-unbuilt (s ∷ statements) p r h =
     let f = read_statements-first p r s statements h in
-    body-read p f.problem r.declared.consts (is_conjecture s.statement.role) s.statement.body (first_unbuilt r.declared.consts statements) (first_unbuilt_shape statements) f.body (names_formula-stays (s ∷ statements) p r h) (read_statements-unbuilt statements f.problem r f.rest)
+    body-read p f.problem r.declared.consts s.statement.role s.statement.body (first_unbuilt r.declared.consts statements) (first_unbuilt_shape statements) f.body (names_formula-stays (s ∷ statements) p r h) (read_statements-unbuilt statements f.problem r f.rest)
 
 pub first_unbuilt-read : (statements : List PlacedTree) (p : PlainProblem) → problem_of statements ≡ Ok p → first_unbuilt p.declared.consts statements ≡ least_of p.declared.consts (first_unbuilt_shape statements)
 first_unbuilt-read statements p h = read_statements-unbuilt statements nothing p h
 
 -- one formula more
-with_formula-propositional : (conjecture : Bool) (t : Lambda) (p : PlainProblem) → IsPropositional t → AllPropositional p → AllPropositional (with_formula conjecture t p)
-with_formula-propositional true t p h g = record { assumed = g.assumed; conjecture = h }
-with_formula-propositional false t p h g = record { assumed = All-push IsPropositional p.assumed t g.assumed h; conjecture = g.conjecture }
+with_formula-propositional : (role : List ℕ) (t : Lambda) (p : PlainProblem) → IsPropositional t → AllPropositional p → AllPropositional (with_formula role t p)
+with_formula-propositional role t p h g =
+    with_formula-cases AllPropositional role t p
+    (record { assumed = g.assumed; conjecture = h })
+    (record { assumed = All-push IsPropositional p.assumed t g.assumed h; conjecture = g.conjecture })
 
-body-propositional : (p q : PlainProblem) (consts : List TypedName) (conjecture : Bool) (body : BodyTree) → read_body p conjecture body ≡ Ok q → least (body_places consts body) ≡ None → AllPropositional p → AllPropositional q
-body-propositional p q consts conjecture (base at name) h n g = subst AllPropositional (base-read at name p q conjecture h) (record { assumed = g.assumed; conjecture = g.conjecture })
-body-propositional p q consts conjecture (typing at name ty) h n g = subst AllPropositional (typing-read at name ty p q conjecture h).same (record { assumed = g.assumed; conjecture = g.conjecture })
-body-propositional p q consts conjecture (formula tree) h n g =
-    let f = formula-read tree p q conjecture h in
+body-propositional : (p q : PlainProblem) (consts : List TypedName) (role : List ℕ) (body : BodyTree) → read_body p role body ≡ Ok q → least (body_places consts body) ≡ None → AllPropositional p → AllPropositional q
+body-propositional p q consts role (base at name) h n g = subst AllPropositional (base-read at name p q role h) (record { assumed = g.assumed; conjecture = g.conjecture })
+body-propositional p q consts role (typing at name ty) h n g = subst AllPropositional (typing-read at name ty p q role h).same (record { assumed = g.assumed; conjecture = g.conjecture })
+body-propositional p q consts role (formula tree) h n g =
+    let f = formula-read tree p q role h in
     let shape = places_by-empty (names_formula consts) tree (least-none (unbuilt_places consts tree) n) in
     let built = read_term-built p.declared (names_formula p.declared.consts) (λ name k. k) tree f.term shape f.read in
-    subst AllPropositional f.same (with_formula-propositional conjecture f.term.term p built.propositional g)
+    subst AllPropositional f.same (with_formula-propositional role f.term.term p built.propositional g)
 
 read_statements-propositional : (statements : List PlacedTree) (p r : PlainProblem) (consts : List TypedName) → read_statements p statements ≡ Ok r → first_unbuilt consts statements ≡ None → AllPropositional p → AllPropositional r
 read_statements-propositional [] p r consts h n g = subst AllPropositional (same_Ok p r h) g
 read_statements-propositional (s ∷ statements) p r consts h n g =
     let f = read_statements-first p r s statements h in
     let o = option_or-none (least (body_places consts s.statement.body)) (first_unbuilt consts statements) n in
-    read_statements-propositional statements f.problem r consts f.rest o.1 (body-propositional p f.problem consts (is_conjecture s.statement.role) s.statement.body f.body o.0 g)
+    read_statements-propositional statements f.problem r consts f.rest o.1 (body-propositional p f.problem consts s.statement.role s.statement.body f.body o.0 g)
 
 -- Where all nodes are of a built form, the formulas are propositional.
 pub built_formulas_are_propositional : (statements : List PlacedTree) (p : PlainProblem) → problem_of statements ≡ Ok p → first_unbuilt p.declared.consts statements ≡ None → AllPropositional p

@@ -6,8 +6,6 @@ mod law;
 mod names;
 mod place;
 mod shape;
-#[cfg(test)]
-mod tests;
 
 pub use first::first_unbuilt;
 pub use law::built_formulas_are_propositional;

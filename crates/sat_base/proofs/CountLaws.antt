@@ -13,12 +13,12 @@ use Rattle.sat_base.specs.declared.literal.SatLit.{SatLit}
 use Rattle.sat_base.specs.Literal.{positive, negative, holds, HoldsNoVariableTwice, IsAlike, IsOver}
 use Rattle.sat_base.proofs.LiteralLaws.{sign_cases, not_both, All-held}
 
-abbrev digit_of : Bool → Bool → ℕ
+abbrev pub digit_of : Bool → Bool → ℕ
 digit_of true n = 1
 digit_of false true = 2
 digit_of false false = 0
 
-abbrev digit : List SatLit → Var → ℕ
+abbrev pub digit : List SatLit → Var → ℕ
 digit clause v = digit_of (holds clause (positive v)) (holds clause (negative v))
 
 abbrev var_of : ℕ → Var
@@ -28,7 +28,7 @@ abbrev code : ℕ → List SatLit → ℕ
 code zero clause = 0
 code (suc n) clause = digit clause (var_of n) + 3 * code n clause
 
-digit-lt : (clause : List SatLit) (v : Var) → digit clause v < 3
+pub digit-lt : (clause : List SatLit) (v : Var) → digit clause v < 3
 digit-lt clause v = go (holds clause (positive v)) (holds clause (negative v))
   where
     go : (p n : Bool) → digit_of p n < 3
@@ -52,7 +52,7 @@ digits_agree (suc n) a b e k h =
     ]
 
 -- an equal digit says that the same literals on the variable are held
-same_literals : (a b : List SatLit) (v : Var) → HoldsNoVariableTwice a → HoldsNoVariableTwice b → digit a v ≡ digit b v
+pub same_literals : (a b : List SatLit) (v : Var) → HoldsNoVariableTwice a → HoldsNoVariableTwice b → digit a v ≡ digit b v
     → (holds a (positive v) ≡ holds b (positive v)) × (holds a (negative v) ≡ holds b (negative v))
 same_literals a b v once_a once_b e =
     go (holds a (positive v)) (holds a (negative v)) (holds b (positive v)) (holds b (negative v)) (not_both a v once_a) (not_both b v once_b) e

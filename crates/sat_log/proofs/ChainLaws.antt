@@ -84,12 +84,12 @@ slice_get-append [] ys n x e = absurd (cc)
 slice_get-append (y ∷ xs) ys zero x e = e
 slice_get-append (y ∷ xs) ys (suc n) x e = slice_get-append xs ys n x e
 
-slice_get-before : {X : Type 0} (xs ys : List X) (n : ℕ) → n < length xs → slice_get (xs ++ ys) n ≡ slice_get xs n
+pub slice_get-before : {X : Type 0} (xs ys : List X) (n : ℕ) → n < length xs → slice_get (xs ++ ys) n ≡ slice_get xs n
 slice_get-before [] ys n h = absurd (omega arith)
 slice_get-before (y ∷ xs) ys zero h = refl
 slice_get-before (y ∷ xs) ys (suc n) h = slice_get-before xs ys n (omega arith)
 
-slice_get-seam : {X : Type 0} (xs : List X) (y : X) → slice_get (xs ++ y ∷ []) (length xs) ≡ Some y
+pub slice_get-seam : {X : Type 0} (xs : List X) (y : X) → slice_get (xs ++ y ∷ []) (length xs) ≡ Some y
 slice_get-seam [] y = refl
 slice_get-seam (x ∷ xs) y = slice_get-seam xs y
 

@@ -11,7 +11,7 @@ use Rattle.sat_log.specs.Propagation.{IsFalseIn, IsConsistent}
 use Rattle.sat_log.proofs.ResolutionLaws.{holds-without, holds-without_repeats, without_repeats-without_repeats, HasNoRepeats-made, without-without_repeats}
 
 -- a list that holds no variable twice holds no literal beside its negation
-no_clash : (literals : List SatLit) (l : SatLit) → HoldsNoVariableTwice literals → holds literals l ≡ true → holds literals (negated l) ≡ true → ⊥
+pub no_clash : (literals : List SatLit) (l : SatLit) → HoldsNoVariableTwice literals → holds literals l ≡ true → holds literals (negated l) ≡ true → ⊥
 no_clash literals l once h n =
     elim (sign_cases l) [
       | inl is ↦ not_both literals l.var once (ap (holds literals) (sym is) ∙ h) (ap (λ (k : SatLit). holds literals (negated k)) (sym is) ∙ n)
@@ -25,7 +25,7 @@ beq_not false true e = refl
 beq_not false false e = absurd (false≢true (sym e))
 
 -- a variable that is mentioned is that of one of two literals
-mentioned_as : (literals : List SatLit) (l : SatLit) → mentions literals l.var ≡ true → (holds literals l ≡ true) ⊎ (holds literals (negated l) ≡ true)
+pub mentioned_as : (literals : List SatLit) (l : SatLit) → mentions literals l.var ≡ true → (holds literals l ≡ true) ⊎ (holds literals (negated l) ≡ true)
 mentioned_as [] l h = absurd (false≢true h)
 mentioned_as (m ∷ literals) l h =
     elim (or_cases (same_var l.var m.var) (mentions literals l.var) h) [
@@ -46,7 +46,7 @@ tail_of : (x : SatLit) (xs ys : List SatLit) → x ∷ xs ≡ x ∷ ys → xs �
 tail_of x xs ys e = cc
 
 -- a list without repeats that holds no literal beside its negation holds no variable twice
-HoldsNoVariableTwice-from : (literals : List SatLit) → HasNoRepeats literals → IsConsistent literals → HoldsNoVariableTwice literals
+pub HoldsNoVariableTwice-from : (literals : List SatLit) → HasNoRepeats literals → IsConsistent literals → HoldsNoVariableTwice literals
 HoldsNoVariableTwice-from [] once apart = tt
 HoldsNoVariableTwice-from (l ∷ literals) once apart =
     let rest : without l (without_repeats literals) ≡ literals = tail_of l (without l (without_repeats literals)) literals once in

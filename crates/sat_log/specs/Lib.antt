@@ -1,5 +1,4 @@
 pub mod Resolution
 pub mod Chains
 pub mod Propagation
-pub mod Stamps
-pub mod Resolver
+pub mod Means

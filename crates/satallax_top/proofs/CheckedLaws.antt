@@ -1,7 +1,7 @@
 -- What the check of a text is answered with.
 use Rattle.std.proofs.Common.{◌≡◌, ℕ, ◌+◌, List, IfSome, Err, refl, sym, ap, subst, ◌∙◌}
-use Rattle.stt_core.specs.PlainProblem.{PlainProblem, question_of}
-use Rattle.stt_normal.specs.NormalQuestion.{normal_question}
+use Rattle.stt_core.specs.PlainProblem.{PlainProblem}
+use Rattle.stt_core.specs.Declarations.{scope_of}
 use Rattle.stt_tableau.specs.Accepted.{IsAccepted}
 use Rattle.stt_tableau.specs.Start.{start}
 use Rattle.stt_tableau.specs.declared.refutation.Why.{Why}
@@ -29,7 +29,7 @@ unread_answer p bytes (NoEnd line) h = record { reading = no_end line; reads = h
 unread_answer p bytes unread.Memory h = tt
 
 -- the answer where what is read isn't accepted
-pub failed_answer : (p : PlainProblem) (bytes : List ℕ) (r : RefutationTree) (first : ℕ) (refused : CheckRefused) → Reads (lines_of bytes) (read r first) → IfLine refused (FailsAt (question_of p).scope (start (normal_question (question_of p))) (numbered_refutation (names_in p) r) first) → AnswersBytes p bytes (failed_outcome refused)
+pub failed_answer : (p : PlainProblem) (bytes : List ℕ) (r : RefutationTree) (first : ℕ) (refused : CheckRefused) → Reads (lines_of bytes) (read r first) → IfLine refused (FailsAt (scope_of p.declared) (start p) (numbered_refutation (names_in p) r) first) → AnswersBytes p bytes (failed_outcome refused)
 failed_answer p bytes r first (Line line why) reads h = record { reading = read r first; reads = reads; fails = h }
 failed_answer p bytes r first failed.Memory reads h = tt
 
@@ -40,8 +40,8 @@ accepted_not_refused p bytes line why a r = go r.reading (reading-same (lines_of
     go : (o : Reading) → read a.refutation a.first ≡ o → FailsFirst p o line why → ⊥
     go (read s k) e f =
         let same : a.refutation ≡ s = cc in
-        accepted_no_failure (question_of p).scope (start (normal_question (question_of p))) (numbered_refutation (names_in p) s) f.place why f.is_first
-        (subst (λ x. IsAccepted (question_of p).scope (start (normal_question (question_of p))) (numbered_refutation (names_in p) x)) same a.accepted)
+        accepted_no_failure (scope_of p.declared) (start p) (numbered_refutation (names_in p) s) f.place why f.is_first
+        (subst (λ x. IsAccepted (scope_of p.declared) (start p) (numbered_refutation (names_in p) x)) same a.accepted)
     go (bad_line at) e f = cc
     go (no_start at) e f = cc
     go (no_end at) e f = cc
@@ -53,7 +53,7 @@ one_refusal p bytes line other why cause a b =
   where
     go : (o : Reading) → FailsFirst p o line why → FailsFirst p o other cause → (line ≡ other) × (why ≡ cause)
     go (read s k) f g =
-        let h = one_first_failure (question_of p).scope (start (normal_question (question_of p))) (numbered_refutation (names_in p) s) f.place g.place why cause f.is_first g.is_first in
+        let h = one_first_failure (scope_of p.declared) (start p) (numbered_refutation (names_in p) s) f.place g.place why cause f.is_first g.is_first in
         (f.line_is ∙ ap (λ n. k + n) h.0 ∙ sym g.line_is, h.1)
     go (bad_line at) f g = (f.0 ∙ sym g.0, f.1 ∙ sym g.1)
     go (no_start at) f g = (f.0 ∙ sym g.0, f.1 ∙ sym g.1)

@@ -1,10 +1,10 @@
 -- What a call answers and writes has the meaning that it claims.
-use Rattle.std.proofs.Common.{◌≡◌, ℕ, Bool, true, false, IsTrue, not, ◌||◌, ◌&&◌, ◌==◌, nat_lt, List, [], ◌∷◌, ◌++◌, codes, decimal, Option, Some, None, Ok, unwrap_or, if◌then◌else◌, refl, sym, ap, ap₂, subst, ◌∙◌, append_assoc, append-nil}
+use Rattle.std.proofs.Common.{◌≡◌, ℕ, Bool, true, false, IsTrue, not, ◌||◌, ◌==◌, nat_lt, List, [], ◌∷◌, ◌++◌, codes, decimal, Option, Some, None, Ok, unwrap_or, if◌then◌else◌, refl, sym, ap, ap₂, subst, ◌∙◌, append_assoc, append-nil}
 use Rattle.std.specs.List.{list_any}
 use Rattle.std.proofs.lemmas.Bool.{and_parts, eqb-true}
-use Rattle.stt_core.specs.PlainProblem.{PlainProblem, question_of}
+use Rattle.stt_core.specs.PlainProblem.{PlainProblem}
 use Rattle.stt_core.specs.TypedProblem.{IsTyped}
-use Rattle.stt_normal.specs.NormalQuestion.{normal_question}
+use Rattle.stt_core.specs.Declarations.{scope_of}
 use Rattle.stt_tableau.specs.Accepted.{IsAccepted}
 use Rattle.stt_tableau.specs.Start.{start}
 use Rattle.stt_tableau.specs.declared.refutation.Refutation.{Refutation}
@@ -27,17 +27,17 @@ use Rattle.satallax_top.specs.declared.outcome.Outcome.{Outcome}
 use Rattle.satallax_top.specs.declared.outcome.Outcome.TheVariants.{Theorem, Unsatisfiable, Accepted, Words, ReadFault, WriteFault, Memory}
 use Rattle.satallax_top.specs.declared.outcome.FileRef.TheVariants.{Part, Check}
 use Rattle.satallax_top.proofs.LineFeeds.{no_feed-append, decimal_no_feed}
-use Rattle.satallax_top.proofs.ProblemLaws.{start_unnamed, start_met}
+use Rattle.stt_tableau.proofs.StartMeets.{start_unnamed, start_met}
 
 -- no model meets a problem for whose start a refutation is accepted
-no_model_of : (p : PlainProblem) (refutation : Refutation) → IsTyped (question_of p) → IsAccepted (question_of p).scope (start (normal_question (question_of p))) refutation → IsWithoutModel p
+no_model_of : (p : PlainProblem) (refutation : Refutation) → IsTyped p → IsAccepted (scope_of p.declared) (start p) refutation → IsWithoutModel p
 no_model_of p refutation typed accepted m good met =
-    accepted_refutes (question_of p).scope (start (normal_question (question_of p))) refutation accepted (start_unnamed p typed) m good (start_met p typed m good met)
+    accepted_refutes (scope_of p.declared) (start p) refutation accepted (start_unnamed p typed) m good (start_met p typed m good met)
 
 -- a gathering whose statements have a run that is a proof
 pub record EndsProved (n : ℕ) (text : List ℕ) (p : PlainProblem) (ending : Ending) : Type 0 where
   pub stated : Statements p ending
-  pub typed : IsTyped (question_of p)
+  pub typed : IsTyped p
   pub proof : IsProofOf p n text
 
 ends_proved : (ss : List PlacedTree) (p : PlainProblem) (n : ℕ) (text : List ℕ) → problem_of ss ≡ Ok p → IsProofOf p n text → EndsProved n text p (done ss)
@@ -84,9 +84,9 @@ proved_ending checked told contents o n text ending h a = absurd h
 -- a gathering whose statements have an accepted text
 pub record EndsAccepted (p : PlainProblem) (ending : Ending) : Type 0 where
   pub stated : Statements p ending
-  pub typed : IsTyped (question_of p)
+  pub typed : IsTyped p
   pub refutation : Refutation
-  pub accepted : IsAccepted (question_of p).scope (start (normal_question (question_of p))) refutation
+  pub accepted : IsAccepted (scope_of p.declared) (start p) refutation
 
 -- the ending of which an accepted text is answered
 accepted_ending : (checked : Option (List ℕ)) (told : Bool) (contents : List ℕ → Option (List ℕ)) (n : ℕ) (text : List ℕ) (ending : Ending) → AnswersEnding (AnswersAsked checked told contents Accepted n text) Accepted ending → (p : PlainProblem) × EndsAccepted p ending
@@ -122,7 +122,7 @@ pub record ProvedAnswer (words : List (List ℕ)) (told : Bool) (contents : List
   pub named : problem_word words ≡ Some name
   pub problem : PlainProblem
   pub stated : State words told contents names problem
-  pub typed : IsTyped (question_of problem)
+  pub typed : IsTyped problem
   pub proof : IsProofOf problem n text
 
 proved_files : (words : List (List ℕ)) (told : Bool) (contents : List ℕ → Option (List ℕ)) (o : Outcome) (names : List (List ℕ)) (n : ℕ) (text : List ℕ) → IsProvedOutcome o → OfFiles words told contents names (AnswersEnding (AnswersAsked (check_word words) told contents o n text) o) → ProvedAnswer words told contents names n text
@@ -250,7 +250,7 @@ proof_reported words told contents o names n text written a h w =
       is_report = w ∙ ap (report o (name_of words) names (text_name_of words) n) q.proof.is_text;
       holds_text = subst (λ x. HoldsText (names_in p) x q.proof.refutation) (sym w) (holds_report o (name_of words) names (text_name_of words) p n text q.proof h (name_of_no_feed words q.name q.named));
       accepted = q.proof.accepted;
-      closed = accepted_closes_start (normal_question (question_of p)).scope (start (normal_question (question_of p))) q.proof.refutation q.proof.accepted;
+      closed = accepted_closes_start (scope_of p.declared) (start p) q.proof.refutation q.proof.accepted;
       no_model = no_model_of p q.proof.refutation q.typed q.proof.accepted;
     }
 

@@ -1,6 +1,5 @@
 pub mod WordLaws
 pub mod PropositionalLaws
-pub mod ProblemLaws
 pub mod RunnableLaws
 pub mod PrintableLaws
 pub mod StatedLaws

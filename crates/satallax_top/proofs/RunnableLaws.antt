@@ -6,19 +6,19 @@ use Rattle.stt_core.specs.SimpleType.{formula}
 use Rattle.stt_core.specs.Lambda.{Lambda}
 use Rattle.stt_core.specs.Typing.{Scope}
 use Rattle.stt_core.specs.Canonical.{IsCanonical}
-use Rattle.stt_core.specs.PlainProblem.{PlainProblem, question_of}
+use Rattle.stt_core.specs.PlainProblem.{PlainProblem}
 use Rattle.stt_core.specs.TypedProblem.{IsFormula, AreFormulas, IsFormulaIfThere, IsTyped}
+use Rattle.stt_core.specs.Declarations.{scope_of}
 use Rattle.stt_normal.specs.Normal.{normal_form}
-use Rattle.stt_normal.specs.NormalQuestion.{normal_question}
 use Rattle.stt_normal.proofs.EtaReplace.{normal_form-canonical}
 use Rattle.stt_tableau.specs.Literals.{Literal, opposite, literal}
-use Rattle.stt_tableau.specs.Start.{denied, start}
+use Rattle.stt_tableau.specs.Start.{normal_literal, denied, start}
 use Rattle.run_forms.specs.Propositional.{AllPropositional}
 use Rattle.prover_search.specs.Searched.{IsPropositional, HasPropositionalAtom, ArePropositional}
 use Rattle.prover_search.proofs.SearchedLaws.{added-different}
 use Rattle.satallax_top.specs.Runnable.{ArePrintable, names_in, IsRunnable}
 use Rattle.satallax_top.proofs.PropositionalLaws.{canonical-propositional, propositional-literal, unsigned-literal}
-use Rattle.satallax_top.proofs.ProblemLaws.{IfThere, every_start, start_typed}
+use Rattle.stt_tableau.proofs.StartMeets.{every_start, start_typed}
 
 are_propositional : (ls : List Literal) → Every HasPropositionalAtom ls → ArePropositional ls
 are_propositional [] h = tt
@@ -32,45 +32,45 @@ run_formulas : (scope : Scope) (ts : List Lambda) → Every IsPropositional ts �
 run_formulas scope [] h k = tt
 run_formulas scope (t ∷ ts) h k = ((h.0, k.0), run_formulas scope ts h.1 k.1)
 
-run_formula_if_there : (scope : Scope) (o : Option Lambda) → IfSome o IsPropositional → IsFormulaIfThere scope o → IfThere (IsRunFormula scope) o
+run_formula_if_there : (scope : Scope) (o : Option Lambda) → IfSome o IsPropositional → IsFormulaIfThere scope o → IfSome o (IsRunFormula scope)
 run_formula_if_there scope None h k = tt
 run_formula_if_there scope (Some t) h k = (h, k)
 
-module _ (p : PlainProblem) (typed : IsTyped (question_of p)) (g : AllPropositional p) where
-  assumed : Every (IsRunFormula (question_of p).scope) p.assumed
-  assumed = run_formulas (question_of p).scope p.assumed (recursion_from_All IsPropositional p.assumed g.assumed) typed.assumed
+module _ (p : PlainProblem) (typed : IsTyped p) (g : AllPropositional p) where
+  assumed : Every (IsRunFormula (scope_of p.declared)) p.assumed
+  assumed = run_formulas (scope_of p.declared) p.assumed (recursion_from_All IsPropositional p.assumed g.assumed) typed.assumed
 
-  conjecture : IfThere (IsRunFormula (question_of p).scope) p.conjecture
-  conjecture = run_formula_if_there (question_of p).scope p.conjecture g.conjecture typed.conjecture
+  conjecture : IfSome p.conjecture (IsRunFormula (scope_of p.declared))
+  conjecture = run_formula_if_there (scope_of p.declared) p.conjecture g.conjecture typed.conjecture
 
-  canonical : (t : Lambda) → IsRunFormula (question_of p).scope t → IsCanonical (question_of p).scope [] formula t
-  canonical t h = canonical-propositional (question_of p).scope t h.0 h.1
+  canonical : (t : Lambda) → IsRunFormula (scope_of p.declared) t → IsCanonical (scope_of p.declared) [] formula t
+  canonical t h = canonical-propositional (scope_of p.declared) t h.0 h.1
 
-  is_normal : (t : Lambda) → IsRunFormula (question_of p).scope t → normal_form (question_of p).scope [] t ≡ t
-  is_normal t h = normal_form-canonical (question_of p).scope [] formula t (canonical t h)
+  is_normal : (t : Lambda) → IsRunFormula (scope_of p.declared) t → normal_form (scope_of p.declared) [] t ≡ t
+  is_normal t h = normal_form-canonical (scope_of p.declared) [] formula t (canonical t h)
 
-  are_normal : (ts : List Lambda) → Every (IsRunFormula (question_of p).scope) ts → map (normal_form (question_of p).scope []) ts ≡ ts
+  are_normal : (ts : List Lambda) → Every (IsRunFormula (scope_of p.declared)) ts → map (normal_form (scope_of p.declared) []) ts ≡ ts
   are_normal [] h = refl
   are_normal (t ∷ ts) h = ap₂ (λ x xs. x ∷ xs) (is_normal t h.0) (are_normal ts h.1)
 
-  is_normal_if_there : (o : Option Lambda) → IfThere (IsRunFormula (question_of p).scope) o → option_map (normal_form (question_of p).scope []) o ≡ o
+  is_normal_if_there : (o : Option Lambda) → IfSome o (IsRunFormula (scope_of p.declared)) → option_map (normal_form (scope_of p.declared) []) o ≡ o
   is_normal_if_there None h = refl
   is_normal_if_there (Some t) h = ap Some (is_normal t h)
 
   -- such formulas are their own normal forms
-  pub normal_question-propositional : normal_question (question_of p) ≡ question_of p
-  normal_question-propositional =
-      ap₂ (λ ts o. record { scope = (question_of p).scope; assumed = ts; conjecture = o }) (are_normal p.assumed assumed) (is_normal_if_there p.conjecture conjecture)
+  pub assumed_normal : map (normal_form (scope_of p.declared) []) p.assumed ≡ p.assumed
+  assumed_normal = are_normal p.assumed assumed
 
-  normally : (P : List Literal → Type 0) → P (start (question_of p)) → P (start (normal_question (question_of p)))
-  normally P = subst (λ q. P (start q)) (sym normal_question-propositional)
+  pub conjecture_normal : option_map (normal_form (scope_of p.declared) []) p.conjecture ≡ p.conjecture
+  conjecture_normal = is_normal_if_there p.conjecture conjecture
 
-  of_start : (P : Literal → Type 0) → ((t : Lambda) → IsRunFormula (question_of p).scope t → P (literal t)) → ((t : Lambda) → IsRunFormula (question_of p).scope t → P (opposite (literal t))) → Every P (start (question_of p))
-  of_start P f h = every_start (IsRunFormula (question_of p).scope) P f h (question_of p) assumed conjecture
+  of_start : (P : Literal → Type 0) → ((t : Lambda) → IsRunFormula (scope_of p.declared) t → P (literal t)) → ((t : Lambda) → IsRunFormula (scope_of p.declared) t → P (opposite (literal t))) → Every P (start p)
+  of_start P f g =
+      every_start p (IsRunFormula (scope_of p.declared)) P (λ t h. subst (λ s. P (literal s)) (sym (is_normal t h)) (f t h)) (λ t h. subst (λ s. P (opposite (literal s))) (sym (is_normal t h)) (g t h)) assumed conjecture
 
   -- the search takes the literals of the start
-  start_searched : ArePropositional (start (normal_question (question_of p)))
-  start_searched = normally ArePropositional (are_propositional _ (of_start HasPropositionalAtom (λ t h. taken t h.0) (λ t h. taken-opposite t h.0)))
+  start_searched : ArePropositional (start p)
+  start_searched = are_propositional _ (of_start HasPropositionalAtom (λ t h. taken t h.0) (λ t h. taken-opposite t h.0))
     where
       taken : (t : Lambda) → IsPropositional t → HasPropositionalAtom (literal t)
       taken t h = record { formula = propositional-literal t h; unsigned = unsigned-literal t }
@@ -84,6 +84,6 @@ module _ (p : PlainProblem) (typed : IsTyped (question_of p)) (g : AllPropositio
     formulas = typed;
     printable = printable;
     searched = start_searched;
-    different = added-different [] (map literal (normal_question (question_of p)).assumed ++ denied (normal_question (question_of p)).conjecture) tt;
+    different = added-different [] (map (normal_literal (scope_of p.declared)) p.assumed ++ denied (scope_of p.declared) p.conjecture) tt;
     typed = start_typed p typed;
   }

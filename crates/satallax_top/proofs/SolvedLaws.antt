@@ -1,14 +1,14 @@
 -- A run that ended with a proof has its text.
 use Rattle.std.proofs.Common.{◌≡◌, ℕ, suc, List, [], ◌∷◌, map, length, refl, ap}
 use Rattle.stt_core.specs.TypedName.{TypedName}
-use Rattle.stt_core.specs.PlainProblem.{PlainProblem, question_of}
-use Rattle.stt_normal.specs.NormalQuestion.{normal_question}
+use Rattle.stt_core.specs.PlainProblem.{PlainProblem}
+use Rattle.stt_core.specs.Declarations.{scope_of}
 use Rattle.stt_tableau.specs.Start.{start}
 use Rattle.stt_tableau.specs.declared.refutation.Refutation.{Refutation}
 use Rattle.refute_text.specs.Text.{text_lines, as_bytes}
 use Rattle.refute_text.specs.Named.{named_refutation, IsNamed}
 use Rattle.prover_search.specs.Ended.{EndsAs}
-use Rattle.prover_search.specs.declared.commands.TheConstants.{MAX_COMMANDS}
+use Rattle.prover_search.specs.Run.{command_limit}
 use Rattle.prover_search.specs.declared.commands.Ended.TheVariants.{Proved}
 use Rattle.satallax_top.specs.Runnable.{names_in, IsRunnable}
 use Rattle.satallax_top.specs.Answers.{IsProofOf, IsSolvedFor, IsProvedFor}
@@ -21,15 +21,15 @@ same_length : (cs : List TypedName) → length (map (λ c. c.type) cs) ≡ lengt
 same_length [] = refl
 same_length (c ∷ cs) = ap suc (same_length cs)
 
-module _ (p : PlainProblem) (n : ℕ) (refutation : Refutation) (r : IsRunnable p) (e : EndsAs (start (normal_question (question_of p))) MAX_COMMANDS (Proved n refutation)) where
+module _ (p : PlainProblem) (n : ℕ) (refutation : Refutation) (r : IsRunnable p) (e : EndsAs (start p) command_limit (Proved n refutation)) where
   pub run_named : IsNamed (names_in p) refutation
-  run_named = accepted_named (names_in p) (question_of p).scope (record { bases = refl; constants = same_length p.declared.consts }) (start (normal_question (question_of p))) refutation (e.1 (question_of p).scope r.typed)
+  run_named = accepted_named (names_in p) (scope_of p.declared) (record { bases = refl; constants = same_length p.declared.consts }) (start p) refutation (e.1 (scope_of p.declared) r.typed)
 
   pub proof_of_run : (text : List ℕ) → text ≡ as_bytes (text_lines (named_refutation (names_in p) refutation)) → IsProofOf p n text
   proof_of_run text t = record {
     proved = e.0;
     refutation = refutation;
-    accepted = e.1 (question_of p).scope r.typed;
+    accepted = e.1 (scope_of p.declared) r.typed;
     is_text = t;
     no_line_feeds = no_line_feeds-lines (names_in p) r.printable refutation;
     no_end_mark = no_end_mark-lines (names_in p) r.printable refutation;

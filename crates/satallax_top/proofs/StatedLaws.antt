@@ -5,7 +5,7 @@ use Rattle.stt_core.specs.PlainProblem.{PlainProblem}
 use Rattle.thf_parse.specs.Printable.{IsPrintable}
 use Rattle.thf_include.specs.View.{PlacedTree}
 use Rattle.type_check.specs.Statements.{problem_of}
-use Rattle.type_check.specs.ProblemNames.{AllDeclared, AllNames}
+use Rattle.type_check.specs.Means.ProblemNames.{AllDeclared, AllNames}
 use Rattle.type_check.proofs.TypedProblems.{problem_of-typed}
 use Rattle.type_check.proofs.DeclaredNames.{problem_of-declares}
 use Rattle.run_forms.specs.Forms.{first_unbuilt}

@@ -1,8 +1,8 @@
 -- What a call answers.
 use Rattle.std.specs.Prelude.{◌≡◌, ℕ, Bool, true, false, IsTrue, List, Option, Some, None, Ok, Err, is_some, is_none, slice_get}
 use Rattle.std.specs.List.{list_any}
-use Rattle.stt_core.specs.PlainProblem.{PlainProblem, question_of}
-use Rattle.stt_normal.specs.NormalQuestion.{normal_question}
+use Rattle.stt_core.specs.PlainProblem.{PlainProblem}
+use Rattle.stt_core.specs.Declarations.{scope_of}
 use Rattle.outside.specs.Causes.{Rose}
 use Rattle.stt_tableau.specs.Accepted.{IsAccepted}
 use Rattle.stt_tableau.specs.Start.{start}
@@ -14,7 +14,7 @@ use Rattle.thf_include.specs.declared.refused.GatherRefused.TheVariants as refus
 use Rattle.thf_include.specs.declared.refused.GatherRefused.TheVariants.{Fault, Syntax}
 use Rattle.type_check.specs.Statements.{problem_of}
 use Rattle.run_forms.specs.Forms.{first_unbuilt}
-use Rattle.prover_search.specs.declared.commands.TheConstants.{MAX_COMMANDS}
+use Rattle.prover_search.specs.Run.{command_limit}
 use Rattle.prover_search.specs.Run.{IsProved, IsExhausted, IsStopped}
 use Rattle.refute_text.specs.Text.{text_lines, as_bytes}
 use Rattle.refute_text.specs.Named.{named_refutation}
@@ -23,16 +23,16 @@ use Rattle.satallax_top.specs.Words.{problem_word, check_word}
 use Rattle.satallax_top.specs.Files.{OfFiles, State}
 use Rattle.satallax_top.specs.Checked.{AnswersCheck}
 use Rattle.satallax_top.specs.Runnable.{names_in}
-use Rattle.satallax_top.specs.declared.outcome.FileRef.TheVariants.{Part, Check}
+use Rattle.satallax_top.specs.declared.outcome.FileRef.TheVariants.{Part}
 use Rattle.satallax_top.specs.declared.outcome.IncludeWhy.TheVariants.{Cycle, NoSuchName, TooMany}
 use Rattle.satallax_top.specs.declared.outcome.Outcome.{Outcome}
-use Rattle.satallax_top.specs.declared.outcome.Outcome.TheVariants.{Theorem, Unsatisfiable, GaveUp, CommandLimit, Accepted, SyntaxAt, TypeAt, IncludeAt, Words, TooLong, NotYetAt, ReadFault, WriteFault, Memory}
+use Rattle.satallax_top.specs.declared.outcome.Outcome.TheVariants.{Theorem, Unsatisfiable, GaveUp, CommandLimit, SyntaxAt, TypeAt, IncludeAt, Words, TooLong, NotYetAt, ReadFault, WriteFault, Memory}
 
 -- The run over the problem ends after n commands, with a refutation that is accepted for its start, and whose lines are these.
 pub record IsProofOf (p : PlainProblem) (n : ℕ) (text : List ℕ) : Type 0 where
-  pub proved : IsProved (start (normal_question (question_of p))) MAX_COMMANDS n
+  pub proved : IsProved (start p) command_limit n
   pub refutation : Refutation
-  pub accepted : IsAccepted (question_of p).scope (start (normal_question (question_of p))) refutation
+  pub accepted : IsAccepted (scope_of p.declared) (start p) refutation
   pub is_text : text ≡ as_bytes (text_lines (named_refutation (names_in p) refutation))
   pub no_line_feeds : list_any has_line_feed (text_lines (named_refutation (names_in p) refutation)) ≡ false
   pub no_end_mark : list_any (begins_with end_mark) (text_lines (named_refutation (names_in p) refutation)) ≡ false
@@ -41,8 +41,8 @@ pub record IsProofOf (p : PlainProblem) (n : ℕ) (text : List ℕ) : Type 0 whe
 abbrev pub IsSolvedFor : PlainProblem → Outcome → ℕ → List ℕ → Type 0
 IsSolvedFor p Theorem n text = IsTrue (is_some p.conjecture) × IsProofOf p n text
 IsSolvedFor p Unsatisfiable n text = IsTrue (is_none p.conjecture) × IsProofOf p n text
-IsSolvedFor p GaveUp n text = IsExhausted (start (normal_question (question_of p))) MAX_COMMANDS n
-IsSolvedFor p (CommandLimit m) n text = (m ≡ n) × IsStopped (start (normal_question (question_of p))) MAX_COMMANDS n
+IsSolvedFor p GaveUp n text = IsExhausted (start p) command_limit n
+IsSolvedFor p (CommandLimit m) n text = (m ≡ n) × IsStopped (start p) command_limit n
 IsSolvedFor p outcome n text = ⊥
 
 -- the outcome of a problem that is proved

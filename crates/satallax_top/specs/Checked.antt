@@ -1,7 +1,7 @@
 -- What the check of a refutation's text is answered with.
 use Rattle.std.specs.Prelude.{◌≡◌, ℕ, ◌<◌, ◌≤◌, Bool, IsTrue, List, length, Option, Some, Ok, Err}
-use Rattle.stt_core.specs.PlainProblem.{PlainProblem, question_of}
-use Rattle.stt_normal.specs.NormalQuestion.{normal_question}
+use Rattle.stt_core.specs.PlainProblem.{PlainProblem}
+use Rattle.stt_core.specs.Declarations.{scope_of}
 use Rattle.stt_tableau.specs.Accepted.{IsAccepted}
 use Rattle.stt_tableau.specs.Start.{start}
 use Rattle.stt_tableau.specs.declared.refutation.Why.{Why}
@@ -19,21 +19,24 @@ use Rattle.refute_check.specs.declared.refusal.CheckRefused.{CheckRefused}
 use Rattle.refute_check.specs.declared.refusal.CheckRefused.TheVariants as failed
 use Rattle.refute_check.specs.declared.refusal.CheckRefused.TheVariants.{Line}
 use Rattle.satallax_top.specs.Runnable.{names_in}
-use Rattle.satallax_top.specs.declared.check.TheConstants.{MAX_TEXT_BYTES}
 use Rattle.satallax_top.specs.declared.outcome.FileRef.TheVariants.{Part, Check}
 use Rattle.satallax_top.specs.declared.outcome.Outcome.{Outcome}
 use Rattle.satallax_top.specs.declared.outcome.Outcome.TheVariants.{Accepted, Refused, TypeAt, TooLong, ReadFault, Memory}
+
+-- how many bytes the text of a refutation may have
+abbrev pub text_byte_limit : ℕ
+text_byte_limit = 16777216
 
 -- The bytes hold the text of a refutation that is accepted for the problem's start.
 pub record IsAcceptedText (p : PlainProblem) (bytes : List ℕ) : Type 0 where
   pub refutation : RefutationTree
   pub first : ℕ
   pub reads : Reads (lines_of bytes) (read refutation first)
-  pub accepted : IsAccepted (question_of p).scope (start (normal_question (question_of p))) (numbered_refutation (names_in p) refutation)
+  pub accepted : IsAccepted (scope_of p.declared) (start p) (numbered_refutation (names_in p) refutation)
 
 -- what is read fails first at this line, and why: its form is wrong there, or the refutation isn't right there
 abbrev pub FailsFirst : PlainProblem → Reading → ℕ → Why → Type 0
-FailsFirst p (read r first) line why = FailsAt (question_of p).scope (start (normal_question (question_of p))) (numbered_refutation (names_in p) r) first line why
+FailsFirst p (read r first) line why = FailsAt (scope_of p.declared) (start p) (numbered_refutation (names_in p) r) first line why
 FailsFirst p (bad_line at) line why = (line ≡ at) × (why ≡ Form)
 FailsFirst p (no_start at) line why = (line ≡ at) × (why ≡ Start)
 FailsFirst p (no_end at) line why = (line ≡ at) × (why ≡ End)
@@ -67,12 +70,12 @@ failed_outcome failed.Memory = Memory
 pub record OfText (told : Bool) (contents : List ℕ → Option (List ℕ)) (file : List ℕ) (P : List ℕ → Type 0) : Type 0 where
   pub bytes : List ℕ
   pub told_bytes : IsTrue told → contents file ≡ Some bytes
-  pub short : length bytes ≤ MAX_TEXT_BYTES
+  pub short : length bytes ≤ text_byte_limit
   pub holds : P bytes
 
 -- a file holds more bytes than a text may have
 abbrev pub IsLong : Bool → (List ℕ → Option (List ℕ)) → List ℕ → Type 0
-IsLong told contents file = IsTrue told → (bytes : List ℕ) × (contents file ≡ Some bytes) × (MAX_TEXT_BYTES < length bytes)
+IsLong told contents file = IsTrue told → (bytes : List ℕ) × (contents file ≡ Some bytes) × (text_byte_limit < length bytes)
 
 -- what the text in a file is answered with, where it is checked against this problem; it is a fault's, where the file can't be read
 abbrev pub AnswersText : Bool → (List ℕ → Option (List ℕ)) → List ℕ → PlainProblem → Outcome → Type 0

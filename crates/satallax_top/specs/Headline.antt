@@ -3,14 +3,14 @@ use Rattle.std.specs.Prelude.{◌≡◌, ℕ, Bool, List, ◌++◌, Option}
 use Rattle.outside.specs.Prefix.{AppendsProperly}
 use Rattle.stt_core.specs.Meaning.{Model, IsModel}
 use Rattle.stt_core.specs.Meets.{MeetsProblem}
-use Rattle.stt_core.specs.PlainProblem.{PlainProblem, question_of}
-use Rattle.stt_normal.specs.NormalQuestion.{normal_question}
+use Rattle.stt_core.specs.PlainProblem.{PlainProblem}
+use Rattle.stt_core.specs.Declarations.{scope_of}
 use Rattle.stt_tableau.specs.Witnesses.{with_rows}
 use Rattle.stt_tableau.specs.Accepted.{IsAccepted}
 use Rattle.stt_tableau.specs.Closed.{Closes, tableau_of}
 use Rattle.stt_tableau.specs.Start.{start}
 use Rattle.stt_tableau.specs.declared.refutation.Refutation.{Refutation}
-use Rattle.prover_search.specs.declared.commands.TheConstants.{MAX_COMMANDS}
+use Rattle.prover_search.specs.Run.{command_limit}
 use Rattle.prover_search.specs.Run.{IsProved}
 use Rattle.refute_text.specs.Text.{text_lines, as_bytes}
 use Rattle.refute_text.specs.Named.{named_refutation}
@@ -25,7 +25,7 @@ use Rattle.satallax_top.specs.declared.outcome.Outcome.TheVariants.{WriteFault}
 
 -- no standard model whose base types are finite meets the problem's assumed formulas without meeting its conjecture
 abbrev pub IsWithoutModel : PlainProblem → Type 0
-IsWithoutModel p = (m : Model) → IsModel (question_of p).scope m → MeetsProblem (question_of p) m → ⊥
+IsWithoutModel p = (m : Model) → IsModel (scope_of p.declared) m → MeetsProblem p m → ⊥
 
 -- the problem that the files state has no standard model whose base types are finite
 pub record HasNoModel (words : List (List ℕ)) (told : Bool) (contents : List ℕ → Option (List ℕ)) : Type 0 where
@@ -42,12 +42,12 @@ pub record IsProofReport (words : List (List ℕ)) (told : Bool) (contents : Lis
   pub problem : PlainProblem
   pub stated : State words told contents names problem
   pub commands : ℕ
-  pub proved : IsProved (start (normal_question (question_of problem))) MAX_COMMANDS commands
+  pub proved : IsProved (start problem) command_limit commands
   pub refutation : Refutation
   pub is_report : written ≡ report outcome (name_of words) names (text_name_of words) commands (as_bytes (text_lines (named_refutation (names_in problem) refutation)))
   pub holds_text : HoldsText (names_in problem) written refutation
-  pub accepted : IsAccepted (question_of problem).scope (start (normal_question (question_of problem))) refutation
-  pub closed : Closes (with_rows (question_of problem).scope refutation.witnesses) refutation.witnesses (tableau_of refutation) (start (normal_question (question_of problem)))
+  pub accepted : IsAccepted (scope_of problem.declared) (start problem) refutation
+  pub closed : Closes (with_rows (scope_of problem.declared) refutation.witnesses) refutation.witnesses (tableau_of refutation) (start problem)
   pub no_model : IsWithoutModel problem
 
 -- the bytes appended to old are written as one of the reports for which R holds

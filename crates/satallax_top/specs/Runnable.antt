@@ -1,8 +1,8 @@
 -- Problems that are run.
 use Rattle.std.specs.List.{AllByRecursion}
-use Rattle.stt_core.specs.PlainProblem.{PlainProblem, question_of}
+use Rattle.stt_core.specs.PlainProblem.{PlainProblem}
 use Rattle.stt_core.specs.TypedProblem.{IsTyped}
-use Rattle.stt_normal.specs.NormalQuestion.{normal_question}
+use Rattle.stt_core.specs.Declarations.{scope_of}
 use Rattle.stt_tableau.specs.Literals.{IsBranch}
 use Rattle.stt_tableau.specs.Start.{start}
 use Rattle.thf_parse.specs.Printable.{IsPrintable}
@@ -20,8 +20,8 @@ pub record ArePrintable (names : Names) : Type 0 where
 -- The problem is run: it is typed, its names are printable, and the literals of its start are typed, differ from one another, and are such
 -- that the search takes them.
 pub record IsRunnable (p : PlainProblem) : Type 0 where
-  pub formulas : IsTyped (question_of p)
+  pub formulas : IsTyped p
   pub printable : ArePrintable (names_in p)
-  pub searched : ArePropositional (start (normal_question (question_of p)))
-  pub different : AreDifferent (start (normal_question (question_of p)))
-  pub typed : IsBranch (question_of p).scope (start (normal_question (question_of p)))
+  pub searched : ArePropositional (start p)
+  pub different : AreDifferent (start p)
+  pub typed : IsBranch (scope_of p.declared) (start p)

@@ -1,7 +1,6 @@
 //! From the statements of a problem and the text of a refutation to the outcome.
 
 ghost use Rattle.std.specs.Prelude.{◌≡◌, ◌<◌, ◌≤◌, ◌-◌, ◌^◌, List, ℕ, length};
-ghost use Rattle.stt_core.specs.PlainProblem.{question_of};
 ghost use Rattle.stt_core.specs.TypedProblem.{IsTyped};
 ghost use Rattle.outside.specs.Causes.{Rose};
 ghost use Rattle.thf_include.specs.View.{the_statements};
@@ -54,7 +53,7 @@ fn failed_outcome(refused: CheckRefused) -> Outcome
 
 /// The outcome for the bytes of a text.
 fn check_bytes(alloc: Global, problem: &Problem, bytes: &[u8]) -> Outcome
-    requires { IsTyped (question_of problem.now) }
+    requires { IsTyped problem.now }
     ensures { AnswersBytes problem.now bytes.now result }
 {
     match read_text(alloc, bytes) {
@@ -68,7 +67,7 @@ fn check_bytes(alloc: Global, problem: &Problem, bytes: &[u8]) -> Outcome
 
 /// The outcome for the text in a file.
 fn check_file<F: Files>(alloc: Global, files: &mut F, problem: &Problem, name: &str) -> Outcome
-    requires { IsTyped (question_of problem.now) }
+    requires { IsTyped problem.now }
     ensures answers { AnswersText (F.tells files.old) (F.contents files.old) name.now problem.now result }
     ensures fault { result ≡ Outcome.ReadFault Check → Rose (F.faults files.old name.now) (F.faults files.new name.now) }
 {

@@ -1,15 +1,13 @@
 //! From the statements of a problem to the answer.
 
 ghost use Rattle.std.specs.Prelude.{◌≡◌, ◌<◌, ◌-◌, ◌^◌, Ok, length, [], IfOk};
-ghost use Rattle.stt_core.specs.PlainProblem.{question_of};
-ghost use Rattle.stt_normal.specs.NormalQuestion.{normal_question};
 ghost use Rattle.stt_tableau.specs.Start.{start};
 ghost use Rattle.thf_parse.specs.Printable.{IsPrintable};
 ghost use Rattle.thf_include.specs.View.{the_statements};
 ghost use Rattle.type_check.specs.Statements.{problem_of};
-ghost use Rattle.type_check.specs.ProblemNames.{AllDeclared};
+ghost use Rattle.type_check.specs.Means.ProblemNames.{AllDeclared};
 ghost use Rattle.prover_search.specs.Ended.{EndsAs};
-ghost use Rattle.prover_search.specs.declared.commands.TheConstants.{MAX_COMMANDS};
+ghost use Rattle.prover_search.specs.Run.{command_limit};
 ghost use Rattle.satallax_top.specs.Runnable.{IsRunnable};
 ghost use Rattle.satallax_top.specs.Answers.{IsProvedFor, IsSolvedFor, AnswersStatements};
 
@@ -60,7 +58,7 @@ fn proved_outcome(problem: &Problem) -> Outcome
 /// The answer for a run over a problem that has ended.
 fn ended_answer(alloc: Global, problem: &Problem, ended: Ended) -> Result<Answer, AllocError>
     requires runnable { IsRunnable problem.now }
-    requires ended { EndsAs (start (normal_question (question_of problem.now))) MAX_COMMANDS ended }
+    requires ended { EndsAs (start problem.now) command_limit ended }
     ensures { IfOk result (λ a. IsSolvedFor problem.now a.outcome a.commands a.text) }
 {
     match ended {

@@ -1,10 +1,10 @@
 -- The type of a canonical term is the one at which it is canonical.
-use Rattle.std.proofs.Common.{◌≡◌, ℕ, ◌+◌, List, [], ◌∷◌, ◌++◌, Option, Some, None, refl, sym, ap, ap₂, subst, ◌∙◌, Bool, true, false, slice_get, option_map, if◌then◌else◌, take, drop, length, ◌≤◌}
+use Rattle.std.proofs.Common.{◌≡◌, ℕ, ◌+◌, List, [], ◌∷◌, ◌++◌, Option, Some, None, refl, sym, ap, ap₂, subst, ◌∙◌, true, slice_get, take}
 use Rattle.stt_core.specs.SimpleType.{SimpleType, base, arrow, is_declared}
-use Rattle.stt_core.specs.Lambda.{Lambda, bound, constant, lam, app, applied, lambdas}
+use Rattle.stt_core.specs.Lambda.{Lambda, bound, constant, lam, app, applied}
 use Rattle.stt_core.specs.Typing.{Scope, constant_type, applied_type}
 use Rattle.stt_core.specs.Canonical.{IsBase, IsFrom, IsCanonical, IsNeutral}
-use Rattle.stt_core.specs.CanonicalType.{where_base, abstracted_type, canonical_type, neutral_type}
+use Rattle.stt_core.specs.Means.CanonicalType.{where_base, abstracted_type, canonical_type, neutral_type}
 use Rattle.stt_core.proofs.TypeLaws.{applies, abstracts, applied as applied_is}
 use Rattle.stt_core.proofs.SpineLaws.{IsAtom}
 use Rattle.stt_core.proofs.ListLaws.{take_got}

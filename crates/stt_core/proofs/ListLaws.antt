@@ -1,5 +1,5 @@
 -- Lists that are gone through by an index.
-use Rattle.std.proofs.Common.{◌≡◌, ℕ, zero, suc, ◌+◌, List, [], ◌∷◌, ◌++◌, Option, Some, None, Bool, not, cond, map, nat_lt, position, take, drop, slice_get, refl, sym, ap, ap₂, ◌∙◌, append_assoc, add-one}
+use Rattle.std.proofs.Common.{◌≡◌, ℕ, zero, suc, ◌+◌, List, [], ◌∷◌, ◌++◌, Option, Some, None, Bool, not, cond, map, nat_lt, length, position, take, drop, slice_get, refl, sym, ap, ap₂, ◌∙◌, append_assoc, add-one}
 use Rattle.std.specs.List.{prefix_len}
 use Rattle.std.proofs.lemmas.List.{length-map}
 
@@ -35,6 +35,21 @@ take_got (y ∷ xs) (suc i) x h =
 -- one element more is copied
 pub copy_more : {A : Type 0} (xs : List A) (i : ℕ) (x : A) (done all : List A) (y : A) → slice_get xs i ≡ Some x → done ≡ take i xs → y ≡ x → all ≡ done ++ y ∷ [] → all ≡ take (i + 1) xs
 copy_more xs i x done all y h e k g = g ∙ ap₂ (λ l z. l ++ z ∷ []) e k ∙ sym (take_got xs i x h)
+
+pub slice_get-append : {A : Type 0} (xs ys : List A) (i : ℕ) (x : A) → slice_get xs i ≡ Some x → slice_get (xs ++ ys) i ≡ Some x
+slice_get-append [] ys i x h = cc
+slice_get-append (y ∷ xs) ys zero x h = h
+slice_get-append (y ∷ xs) ys (suc i) x h = slice_get-append xs ys i x h
+
+pub slice_get-end : {A : Type 0} (xs : List A) (x : A) → slice_get (xs ++ x ∷ []) (length xs) ≡ Some x
+slice_get-end [] x = refl
+slice_get-end (y ∷ xs) x = slice_get-end xs x
+
+-- what stands at a place of a list that is seen through f
+pub mapped_get : {A B : Type 0} (f : A → B) (xs : List A) (i : ℕ) (x : A) → slice_get xs i ≡ Some x → slice_get (map f xs) i ≡ Some (f x)
+mapped_get f [] i x h = cc
+mapped_get f (y ∷ xs) zero x h = cc
+mapped_get f (y ∷ xs) (suc i) x h = mapped_get f xs i x h
 
 pub map-append : {A B : Type 0} (f : A → B) (xs ys : List A) → map f (xs ++ ys) ≡ map f xs ++ map f ys
 map-append f [] ys = refl

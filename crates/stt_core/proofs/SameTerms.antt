@@ -1,7 +1,6 @@
 -- The test whether two terms are the same tells whether they are.
-use Rattle.std.proofs.Common.{◌≡◌, refl, ap, ap₂, sym, ◌∙◌, Bool, true, false, eq-eqb}
+use Rattle.std.proofs.Common.{◌≡◌, refl, ap, ap₂, sym, ◌∙◌, true, eq-eqb}
 use Rattle.std.proofs.lemmas.Bool.{eqb-true, and_parts, and_from}
-use Rattle.stt_core.specs.SimpleType.{same_type}
 use Rattle.stt_core.specs.Lambda.{Constant, name, witness, falsity, negation, implication, all, equality, choice, description, Lambda, bound, constant, lam, app}
 use Rattle.stt_core.specs.SameTerm.{same_constant, same_term}
 use Rattle.stt_core.proofs.TypeLaws.{same_type_refl, same_type-true}

@@ -3,6 +3,8 @@ use Rattle.std.specs.Prelude.{◌≡◌, List, [], ◌∷◌, Option, Some, None
 use Rattle.stt_core.specs.Lambda.{Lambda}
 use Rattle.stt_core.specs.Typing.{Scope}
 use Rattle.stt_core.specs.Meaning.{Model, value}
+use Rattle.stt_core.specs.Declarations.{scope_of}
+use Rattle.stt_core.specs.PlainProblem.{PlainProblem}
 
 -- the model meets a closed formula: its value is 1
 abbrev pub MeetsFormula : Scope → Model → Lambda → Type 0
@@ -17,14 +19,7 @@ abbrev pub Refutes : Scope → Model → Option Lambda → Type 0
 Refutes scope m None = Unit {0}
 Refutes scope m (Some t) = MeetsFormula scope m t → ⊥
 
--- What a problem asks: whether each model of the formulas that it assumes is one of its conjecture, or, without a conjecture,
--- whether they have no model.
-pub record Question : Type 0 where
-  pub scope : Scope
-  pub assumed : List Lambda
-  pub conjecture : Option Lambda
-
--- the model shows that the answer is no
-pub record MeetsProblem (question : Question) (m : Model) : Type 0 where
-  pub assumed : MeetsFormulas question.scope m question.assumed
-  pub conjecture : Refutes question.scope m question.conjecture
+-- the model meets each formula that the problem assumes and not its conjecture, so it shows that the problem's answer is no
+pub record MeetsProblem (p : PlainProblem) (m : Model) : Type 0 where
+  pub assumed : MeetsFormulas (scope_of p.declared) m p.assumed
+  pub conjecture : Refutes (scope_of p.declared) m p.conjecture

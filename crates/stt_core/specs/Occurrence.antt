@@ -1,5 +1,5 @@
 -- What occurs in a term.
-use Rattle.std.specs.Prelude.{◌≡◌, ℕ, suc, ◌-◌, max, ◌⊎◌}
+use Rattle.std.specs.Prelude.{◌≡◌, ℕ, suc, ◌⊎◌}
 use Rattle.stt_core.specs.Lambda.{Constant, Lambda, bound, constant, lam, app}
 
 -- a constant occurs in a term
@@ -19,10 +19,3 @@ IsFree k (app s u) = IsFree k s ⊎ IsFree k u
 -- no variable is free in the term
 abbrev pub IsClosed : Lambda → Type 0
 IsClosed t = (k : ℕ) → IsFree k t → ⊥
-
--- how many binders more bind every variable of a term
-abbrev pub missing_binders : Lambda → ℕ
-missing_binders (bound j) = suc j
-missing_binders (constant c) = 0
-missing_binders (lam a s) = missing_binders s - 1
-missing_binders (app s u) = max (missing_binders s) (missing_binders u)

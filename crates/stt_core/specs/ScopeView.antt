@@ -1,5 +1,5 @@
 -- What a signature declares, beside the types of the witnesses.
-use Rattle.std.specs.Prelude.{List, length, map, option_map}
+use Rattle.std.specs.Prelude.{List, length, map}
 use Rattle.stt_core.specs.SimpleType.{SimpleType}
 use Rattle.stt_core.specs.Typing.{Scope}
 use Rattle.stt_core.specs.declared.signature.Signature.{Signature}

@@ -1,5 +1,5 @@
 -- Simple types (Church, A formulation of the simple theory of types, 1940, section 2).
-use Rattle.std.specs.Prelude.{ℕ, suc, ◌+◌, Bool, false, ◌&&◌, nat_lt, nat_eq}
+use Rattle.std.specs.Prelude.{ℕ, ◌+◌, Bool, false, ◌&&◌, nat_lt, nat_eq}
 
 -- A base type by its number, or the functions from the first type to the second. Number 0 is the type of formulas, `$o`,
 -- number 1 that of individuals, `$i`, and a signature's own base types follow from number 2 on.
@@ -14,16 +14,6 @@ formula = base 0
 -- the type of predicates on a type
 abbrev pub predicate : SimpleType → SimpleType
 predicate a = arrow a formula
-
--- the number of the base type that a function of this type gives in the end
-abbrev pub target : SimpleType → ℕ
-target (base n) = n
-target (arrow a b) = target b
-
--- how many nodes a type has
-abbrev pub type_size : SimpleType → ℕ
-type_size (base n) = 1
-type_size (arrow a b) = suc (type_size a + type_size b)
 
 -- whether a type is over a signature with so many base types of its own
 abbrev pub is_declared : ℕ → SimpleType → Bool

@@ -1,9 +1,10 @@
 -- When what a problem states is typed.
-use Rattle.std.specs.Prelude.{◌≡◌, List, [], ◌∷◌, Option, Some, None}
+use Rattle.std.specs.Prelude.{◌≡◌, ◌≢◌, ℕ, List, [], ◌∷◌, ◌++◌, map, AllPairs, Option, Some, None}
 use Rattle.stt_core.specs.SimpleType.{formula}
 use Rattle.stt_core.specs.Lambda.{Lambda}
 use Rattle.stt_core.specs.Typing.{Scope, type_of, IsScope}
-use Rattle.stt_core.specs.Meets.{Question}
+use Rattle.stt_core.specs.Declarations.{Declarations, scope_of}
+use Rattle.stt_core.specs.PlainProblem.{PlainProblem}
 
 -- the term is a formula
 abbrev pub IsFormula : Scope → Lambda → Type 0
@@ -17,8 +18,16 @@ abbrev pub IsFormulaIfThere : Scope → Option Lambda → Type 0
 IsFormulaIfThere scope None = Unit {0}
 IsFormulaIfThere scope (Some t) = IsFormula scope t
 
--- what is stated is typed: its constants have types that are declared, and its terms are formulas
-pub record IsTyped (question : Question) : Type 0 where
-  pub scope : IsScope question.scope
-  pub assumed : AreFormulas question.scope question.assumed
-  pub conjecture : IsFormulaIfThere question.scope question.conjecture
+-- what a problem states is typed: its constants have types that are declared, and its terms are formulas
+pub record IsTyped (p : PlainProblem) : Type 0 where
+  pub scope : IsScope (scope_of p.declared)
+  pub assumed : AreFormulas (scope_of p.declared) p.assumed
+  pub conjecture : IsFormulaIfThere (scope_of p.declared) p.conjecture
+
+-- the names of the base types and of the constants
+abbrev pub declared_names : Declarations → List (List ℕ)
+declared_names d = d.bases ++ map (λ c. c.name) d.consts
+
+-- no two of them are the same
+abbrev pub NamesDiffer : Declarations → Type 0
+NamesDiffer d = AllPairs (λ a b. a ≢ b) (declared_names d)

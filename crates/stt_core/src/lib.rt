@@ -2,6 +2,7 @@
 #![tactic(auto)]
 
 mod copy;
+mod flags;
 mod law;
 mod measure;
 mod nf;
@@ -13,6 +14,7 @@ mod term_type;
 mod ty;
 mod typing;
 
+pub use flags::Flags;
 pub use law::values_depend_on_occurrences;
 pub use measure::{closed, occurs, size_sat};
 pub use nf::{Head, Nf, Nfs};

@@ -1,8 +1,9 @@
 //! Problems.
 
-ghost use Rattle.std.specs.Prelude.{◌≡◌, ◌<◌, ◌++◌, [], ◌∷◌, length, OnOk, OnErr, slice_get};
+ghost use Rattle.std.specs.Prelude.{◌≡◌, ◌<◌, ◌++◌, [], ◌∷◌, length, OnOk, OnErr, option_map, slice_get};
 ghost use Rattle.stt_core.specs.View.{the_term};
 
+use crate::flags::Flags;
 use crate::signature::Signature;
 use crate::term::Term;
 use std::alloc::{AllocError, Global};
@@ -18,7 +19,7 @@ impl Model for Terms {
     ghost use Rattle.std.specs.Prelude.{List, map};
     ghost use Rattle.std.specs.Coded.{coded_list};
     ghost use Rattle.stt_core.specs.Lambda.{Lambda};
-    ghost use Rattle.stt_core.specs.LambdaCode.{lambda_code};
+    ghost use Rattle.stt_core.specs.Means.LambdaCode.{lambda_code};
     ghost use Rattle.stt_core.specs.View.{the_term};
 
     ghost Value = { List Lambda };
@@ -51,6 +52,12 @@ impl Terms {
         self.items.len()
     }
 
+    pub fn get(&self, i: usize) -> Option<&Term>
+        ensures { option_map (λ t. the_term t.now) result ≡ slice_get self.now i }
+    {
+        self.items.get(i)
+    }
+
     /// The term at a place of the list.
     pub fn at(&self, i: usize) -> &Term
         requires { i < length self.now }
@@ -60,11 +67,13 @@ impl Terms {
     }
 }
 
-/// A typed problem: the formulas that it assumes, in order, and its conjecture, where it has one. Contracts see it as plain data.
+/// A problem: the formulas that it assumes, in order, a mark for each of them that tells whether it is stated as a definition, and its
+/// conjecture, where it has one. Contracts see it as plain data.
 #[derive(Drop)]
 pub struct Problem {
     pub signature: Signature,
     pub assumed: Terms,
+    pub marked: Flags,
     pub conjecture: Option<Term>,
 }
 
@@ -77,5 +86,5 @@ impl Model for Problem {
 
     ghost coded = { problem_code };
 
-    ghost view = { λ p. record { declared = record { bases = p.signature.bases; consts = p.signature.consts }; assumed = p.assumed; conjecture = option_map the_term p.conjecture } };
+    ghost view = { λ p. record { declared = record { bases = p.signature.bases; consts = p.signature.consts }; assumed = p.assumed; marked = p.marked; conjecture = option_map the_term p.conjecture } };
 }

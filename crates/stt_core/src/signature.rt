@@ -1,9 +1,10 @@
 //! Signatures: the names that a problem declares.
 
-ghost use Rattle.std.specs.Prelude.{◌≡◌, ◌<◌, ◌+◌, ◌-◌, ◌^◌, ◌++◌, [], ◌∷◌, length, OnOk, OnErr, slice_get, option_map, position};
+ghost use Rattle.std.specs.Prelude.{◌≡◌, ◌<◌, ◌+◌, ◌-◌, ◌^◌, ◌++◌, [], ◌∷◌, length, OnOk, OnErr, IfOk, Some, slice_get, option_map, position};
 ghost use Rattle.std.specs.Str.{bytes_eq};
 ghost use Rattle.stt_core.specs.View.{the_type};
 ghost use Rattle.stt_core.specs.Signature.{symbol_named};
+ghost use Rattle.stt_core.specs.ConstView.{typed_name};
 
 use crate::ty::Ty;
 use std::alloc::{AllocError, Global};
@@ -135,6 +136,13 @@ impl Consts {
         place_of_const(&self.items, name)
     }
 
+    fn at(&self, i: usize) -> &Const
+        requires { i < length self.now }
+        ensures { slice_get self.now i ≡ Some (typed_name result.now) }
+    {
+        &self.items[i]
+    }
+
     /// The name of the constant at a place of the list.
     pub fn name_at(&self, i: usize) -> &[u8]
         requires { i < length self.now }
@@ -186,5 +194,46 @@ impl Signature {
             Some(i) => Some(Symbol::Base(i as u32 + 2)),
             None => self.consts.place_of(name).map(|i| Symbol::Const(i as u32)),
         }
+    }
+}
+
+impl Names {
+    /// A copy of the list.
+    pub fn try_clone(&self, alloc: Global) -> Result<Names, AllocError>
+        ensures { IfOk result (λ names. names ≡ self.now) }
+    {
+        let mut names = Names::new(alloc);
+        for i in 0..self.len() {
+            names.push(self.at(i))?;
+        }
+        Ok(names)
+    }
+}
+
+impl Consts {
+    /// A copy of the list.
+    pub fn try_clone(&self, alloc: Global) -> Result<Consts, AllocError>
+        ensures { IfOk result (λ consts. consts ≡ self.now) }
+    {
+        let mut consts = Consts::new(alloc);
+        for i in 0..self.len() {
+            let constant = self.at(i);
+            let ty = constant.ty.try_clone(alloc)?;
+            consts.push(constant.name.as_slice(), ty)?;
+        }
+        Ok(consts)
+    }
+}
+
+impl Signature {
+    /// A copy of the signature.
+    pub fn try_clone(&self, alloc: Global) -> Result<Signature, AllocError>
+        ensures bases { IfOk result (λ sig. sig.bases ≡ self.now.bases) }
+        ensures consts { IfOk result (λ sig. sig.consts ≡ self.now.consts) }
+    {
+        Ok(Signature {
+            bases: self.bases.try_clone(alloc)?,
+            consts: self.consts.try_clone(alloc)?,
+        })
     }
 }

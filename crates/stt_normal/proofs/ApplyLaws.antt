@@ -4,9 +4,10 @@ use Rattle.stt_core.specs.SimpleType.{SimpleType, base, arrow}
 use Rattle.stt_core.specs.Lambda.{Lambda, bound, constant, lam, app, applied}
 use Rattle.stt_core.specs.Typing.{Scope}
 use Rattle.stt_core.specs.Canonical.{IsCanonical}
-use Rattle.stt_normal.specs.Lift.{lift_by}
+use Rattle.stt_core.specs.Lift.{lift_by}
 use Rattle.stt_normal.specs.Normal.{ways_at, put, replace, apply, apply_by, apply_each, ways}
-use Rattle.stt_normal.specs.Ready.{apply_ways, ArgumentsFit}
+use Rattle.stt_normal.specs.Ready.{ArgumentsFit}
+use Rattle.stt_normal.specs.Means.Applying.{apply_ways}
 use Rattle.stt_normal.proofs.CanonicalLaws.{canonical-apply}
 use Rattle.stt_normal.proofs.ReplaceLaws.{apply_ways_none, replace-applied, put_same, ways_same, map_fits, lift_front}
 

@@ -10,7 +10,7 @@ use Rattle.stt_core.proofs.DigitLaws.{entry-table, table_same}
 use Rattle.stt_core.proofs.TypeLaws.{type_of-canonical, type_of-neutral}
 use Rattle.stt_core.proofs.ValueLaws.{size_pos, value-lt, value-lam, value-app}
 use Rattle.stt_normal.specs.Normal.{Way, later, by_first, ways_at, ways_of, put, replace, apply_by, ways}
-use Rattle.stt_normal.proofs.LiftLaws.{value-lift}
+use Rattle.stt_core.proofs.LiftLaws.{value-lift}
 use Rattle.stt_normal.proofs.CanonicalLaws.{Keeps, Outcome, keeps, canonical-replace, outcome-replace}
 
 -- a type from a is a function type

@@ -4,9 +4,9 @@ use Rattle.stt_core.specs.SimpleType.{SimpleType, base, arrow}
 use Rattle.stt_core.specs.Lambda.{Lambda, bound, constant, lam, app}
 use Rattle.stt_core.specs.Typing.{Scope}
 use Rattle.stt_core.specs.Canonical.{IsBase, IsFrom, IsCanonical, IsNeutral}
-use Rattle.stt_normal.specs.Lift.{lift}
+use Rattle.stt_core.specs.Lift.{lift}
 use Rattle.stt_normal.specs.Normal.{Way, later, by_first, ways_of, put, replace, apply_by, ways, apply}
-use Rattle.stt_normal.proofs.LiftLaws.{get_raised}
+use Rattle.stt_core.proofs.LiftLaws.{get_raised}
 
 from_map : (a b : SimpleType) (P Q : SimpleType → Type 0) → ((c : SimpleType) → P c → Q c) → IsFrom a b P → IsFrom a b Q
 from_map a (base n) P Q f h = h

@@ -2,7 +2,7 @@
 use Rattle.std.proofs.Common.{◌≡◌, ℕ, zero, suc, List, [], ◌∷◌, ◌++◌, length, refl, sym, ap, ap₂, ◌∙◌}
 use Rattle.stt_core.specs.SimpleType.{SimpleType, base, arrow}
 use Rattle.stt_core.specs.Lambda.{Lambda, bound, constant, lam, app}
-use Rattle.stt_normal.specs.Lift.{raised, lift}
+use Rattle.stt_core.specs.Lift.{raised, lift}
 use Rattle.stt_normal.specs.Normal.{Way, later, by_first, ways_at, ways_of, put, replace, apply_by, ways, eta}
 
 raised-raised : (pre mid : List SimpleType) (j : ℕ) → raised (suc (length (pre ++ mid))) (raised (length pre) j) ≡ raised (length pre) (raised (length (pre ++ mid)) j)

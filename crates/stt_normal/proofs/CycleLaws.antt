@@ -8,9 +8,10 @@ use Rattle.stt_core.specs.declared.nf.Head.{Head}
 use Rattle.stt_core.specs.declared.nf.Head.TheVariants.{Bound, Name, Wit, False, Not, Imp, All, Eq, Choice, Desc}
 use Rattle.stt_core.specs.Canonical.{IsCanonical, IsNeutral}
 use Rattle.stt_core.proofs.ListLaws.{drop_got}
-use Rattle.stt_normal.specs.Lift.{lift_by}
+use Rattle.stt_core.specs.Lift.{lift_by}
 use Rattle.stt_normal.specs.Normal.{Way, ways_of, put, replace, apply_by, ways}
-use Rattle.stt_normal.specs.Ready.{apply_ways, body, ArgumentsFit, Replaces, AppliesAll, HeadReplaces}
+use Rattle.stt_normal.specs.Ready.{ArgumentsFit, Replaces, AppliesAll, HeadReplaces}
+use Rattle.stt_normal.specs.Means.Applying.{apply_ways, body}
 use Rattle.stt_normal.proofs.CanonicalLaws.{keeps}
 use Rattle.stt_normal.proofs.Prices.{price, price_by, price_all, prices, argument_paid, arguments_paid}
 use Rattle.stt_normal.proofs.ReplaceLaws.{NotFunction, Spine, spine_under, under, under_front, length-under, map_fits, lift_front, apply_ways_none, put_same, ways_same, put_below, ways_below, put_above, ways_above}

@@ -4,9 +4,10 @@ use Rattle.stt_core.specs.SimpleType.{SimpleType, arrow}
 use Rattle.stt_core.specs.Lambda.{Lambda, bound, constant, lam, app, lambdas, applied}
 use Rattle.stt_core.specs.Typing.{Scope}
 use Rattle.stt_core.specs.Canonical.{IsCanonical}
-use Rattle.stt_normal.specs.Lift.{lift}
+use Rattle.stt_core.specs.Lift.{lift}
 use Rattle.stt_normal.specs.Normal.{eta, apply, replace, ways}
-use Rattle.stt_normal.specs.Ready.{CanApply, Replaces, body}
+use Rattle.stt_normal.specs.Ready.{CanApply, Replaces}
+use Rattle.stt_normal.specs.Means.Applying.{body}
 use Rattle.stt_normal.proofs.Spines.{lift-applied}
 use Rattle.stt_normal.proofs.ReplaceLaws.{NotFunction}
 use Rattle.stt_normal.proofs.CycleLaws.{function_replaces}

@@ -4,9 +4,10 @@ use Rattle.stt_core.specs.SimpleType.{SimpleType, base, arrow}
 use Rattle.stt_core.specs.Lambda.{Lambda, bound, constant, lam, app, applied}
 use Rattle.stt_core.specs.Typing.{Scope}
 use Rattle.stt_core.specs.Canonical.{IsBase, IsFrom, IsCanonical, IsNeutral}
-use Rattle.stt_normal.specs.Lift.{raised, lift}
+use Rattle.stt_core.specs.Lift.{raised, lift}
 use Rattle.stt_normal.specs.Normal.{Way, later, by_first, ways_at, ways_of, put, replace, apply, apply_by, ways, eta, eta_if, apply_each, normal_form}
-use Rattle.stt_normal.specs.Ready.{ArgumentsFit, result_after}
+use Rattle.stt_normal.specs.Ready.{ArgumentsFit}
+use Rattle.stt_normal.specs.Means.Applying.{result_after}
 use Rattle.stt_normal.proofs.CommuteLaws.{lift-lift, Lifts, lifts, of_inside, replace_inside, of_away, replace_away, replace-eta}
 
 pub lift-eta : (mid : List SimpleType) (a : SimpleType) (t : Lambda) → lift (length mid) (eta a t) ≡ eta a (lift (length mid) t)

@@ -6,14 +6,15 @@ use Rattle.stt_core.specs.SimpleType.{SimpleType, base, arrow, same_type}
 use Rattle.stt_core.specs.Lambda.{Lambda, bound, constant, lam, app, applied, node_count, IsLeaf}
 use Rattle.stt_core.specs.Typing.{Scope, IsScope, AreDeclared, type_of}
 use Rattle.stt_core.specs.Canonical.{IsCanonical}
-use Rattle.stt_core.specs.CanonicalType.{canonical_type}
+use Rattle.stt_core.specs.Means.CanonicalType.{canonical_type}
 use Rattle.stt_core.specs.Meaning.{value}
 use Rattle.stt_core.proofs.CanonicalTypes.{canonical-is, canonical_type-at}
 use Rattle.stt_core.proofs.ListLaws.{drop_got}
 use Rattle.stt_core.proofs.TypeLaws.{Applies, applies, abstracts, same_type-true}
 use Rattle.stt_normal.specs.Normal.{eta, eta_if, apply, apply_each, normal_form}
 use Rattle.stt_normal.specs.Laws.{HaveSameValue}
-use Rattle.stt_normal.specs.Ready.{CanApply, ArgumentsFit, ArgumentsApply, IsApplicable, IsNormalisable, result_after}
+use Rattle.stt_normal.specs.Ready.{CanApply, ArgumentsFit, ArgumentsApply, IsNormalisable}
+use Rattle.stt_normal.specs.Means.Applying.{IsApplicable, result_after}
 use Rattle.stt_normal.proofs.CanonicalLaws.{canonical-apply}
 use Rattle.stt_normal.proofs.EtaReplace.{apply_each-eta}
 use Rattle.stt_normal.proofs.NormalValues.{canonical-normal_form, value-normal_form}

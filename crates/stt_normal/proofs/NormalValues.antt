@@ -10,9 +10,9 @@ use Rattle.stt_core.specs.Meaning.{Model, size, value, Fits, IsModel}
 use Rattle.stt_core.proofs.DigitLaws.{table-entry, table_same}
 use Rattle.stt_core.proofs.TypeLaws.{type_of-canonical, type_of-neutral, constant_declared, get_declared, applies, abstracts}
 use Rattle.stt_core.proofs.ValueLaws.{size_pos, value-lt, value-lam, value-app}
-use Rattle.stt_normal.specs.Lift.{lift}
+use Rattle.stt_core.specs.Lift.{lift}
 use Rattle.stt_normal.specs.Normal.{eta, eta_if, ways, apply, normal_form}
-use Rattle.stt_normal.proofs.LiftLaws.{value-lift}
+use Rattle.stt_core.proofs.LiftLaws.{value-lift}
 use Rattle.stt_normal.proofs.CanonicalLaws.{keeps, of_neutral, neutral-lift, canonical-apply}
 use Rattle.stt_normal.proofs.ApplyValues.{means, value-at}
 

@@ -4,9 +4,10 @@ use Rattle.stt_core.specs.SimpleType.{SimpleType, base, arrow}
 use Rattle.stt_core.specs.Lambda.{Lambda, bound, constant, lam, app, lambdas, applied}
 use Rattle.stt_core.specs.Typing.{Scope}
 use Rattle.stt_core.specs.Canonical.{IsFrom, IsCanonical, IsNeutral}
-use Rattle.stt_normal.specs.Lift.{lift, lift_by}
+use Rattle.stt_core.specs.Lift.{lift, lift_by}
 use Rattle.stt_normal.specs.Normal.{Way, ways_at, ways_of, put, replace, ways}
-use Rattle.stt_normal.specs.Ready.{apply_ways, body, ArgumentsFit}
+use Rattle.stt_normal.specs.Ready.{ArgumentsFit}
+use Rattle.stt_normal.specs.Means.Applying.{apply_ways, body}
 use Rattle.stt_normal.proofs.CanonicalLaws.{keeps, canonical-lift, canonical-replace}
 
 pub apply_ways_none : (t : Lambda) (us : List Lambda) → apply_ways [] t us ≡ applied t us

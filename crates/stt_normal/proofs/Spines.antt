@@ -2,17 +2,8 @@
 use Rattle.std.proofs.Common.{◌≡◌, ℕ, zero, suc, ◌+◌, ◌<◌, ◌≤◌, List, [], ◌∷◌, map, length, refl, sym, ap, ap₂, ◌∙◌, add-suc, add-zero, arith}
 use Rattle.stt_core.specs.SimpleType.{SimpleType}
 use Rattle.stt_core.specs.Lambda.{Constant, Lambda, bound, constant, lam, app, lambdas, applied}
-use Rattle.stt_normal.specs.Lift.{raised, lift, lift_by}
-
-raised_below : (k j : ℕ) → j < k → raised k j ≡ j
-raised_below zero j h = absurd (omega arith)
-raised_below (suc k) zero h = refl
-raised_below (suc k) (suc j) h = ap suc (raised_below k j (omega arith))
-
-raised_above : (k j : ℕ) → k ≤ j → raised k j ≡ suc j
-raised_above zero j h = refl
-raised_above (suc k) zero h = absurd (omega arith)
-raised_above (suc k) (suc j) h = ap suc (raised_above k j (omega arith))
+use Rattle.stt_core.specs.Lift.{lift, lift_by}
+use Rattle.stt_core.proofs.LiftLaws.{raised_below, raised_above}
 
 lift-lambdas : (k : ℕ) (as' : List SimpleType) (t : Lambda) → lift k (lambdas as' t) ≡ lambdas as' (lift (k + length as') t)
 lift-lambdas k [] t = ap (λ n. lift n t) (sym (add-zero k))

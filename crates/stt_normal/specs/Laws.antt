@@ -5,7 +5,7 @@ use Rattle.stt_core.specs.Lambda.{Lambda, bound, app, applied}
 use Rattle.stt_core.specs.Typing.{Scope}
 use Rattle.stt_core.specs.Canonical.{IsCanonical}
 use Rattle.stt_core.specs.Meaning.{Model, value, Fits, IsModel}
-use Rattle.stt_normal.specs.Lift.{lift, lift_by}
+use Rattle.stt_core.specs.Lift.{lift, lift_by}
 use Rattle.stt_normal.specs.Normal.{put, replace, ways, apply, apply_each, normal_form}
 use Rattle.stt_normal.specs.Ready.{Applies, ArgumentsFit, IsNormalisable}
 

@@ -5,7 +5,7 @@ use Rattle.std.specs.Prelude.{ℕ, zero, suc, List, [], ◌∷◌, Option, Some,
 use Rattle.stt_core.specs.SimpleType.{SimpleType, base, arrow}
 use Rattle.stt_core.specs.Lambda.{Lambda, bound, constant, lam, app}
 use Rattle.stt_core.specs.Typing.{Scope, constant_type}
-use Rattle.stt_normal.specs.Lift.{lift}
+use Rattle.stt_core.specs.Lift.{lift}
 
 -- The eta-long form of a head h of this type, or of a head with arguments: λ x1 .. xn. h (eta x1) .. (eta xn) for n arguments more.
 abbrev pub eta : SimpleType → Lambda → Lambda

@@ -3,7 +3,8 @@
 ghost use Rattle.std.specs.Prelude.{◌≡◌, ◌+◌, ◌≤◌, IfOk, drop, length};
 ghost use Rattle.stt_core.specs.View.{the_head, the_type};
 ghost use Rattle.stt_normal.specs.Normal.{ways, ways_of, replace, apply};
-ghost use Rattle.stt_normal.specs.Ready.{apply_ways, body, CanApply, Replaces, AppliesAll, HeadReplaces};
+ghost use Rattle.stt_normal.specs.Ready.{CanApply, Replaces, AppliesAll, HeadReplaces};
+ghost use Rattle.stt_normal.specs.Means.Applying.{apply_ways, body};
 
 use crate::lift::{deeper, lift_nf};
 use crate::part::{bind_all, spine};

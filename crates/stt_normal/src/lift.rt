@@ -2,7 +2,7 @@
 
 ghost use Rattle.std.specs.Prelude.{◌≡◌, ◌+◌, IfOk};
 ghost use Rattle.stt_core.specs.View.{the_head};
-ghost use Rattle.stt_normal.specs.Lift.{lift_by};
+ghost use Rattle.stt_core.specs.Lift.{lift_by};
 
 use std::alloc::{AllocError, Global};
 use stt_core::{Head, Nf, Nfs, Types};

@@ -9,8 +9,9 @@ use Rattle.stt_core.proofs.SpineLaws.{parts}
 use Rattle.stt_tableau.specs.Literals.{Literal, plus, minus}
 use Rattle.stt_tableau.specs.Witnesses.{Row}
 use Rattle.stt_tableau.specs.Rules.{IsDecomposed, differ_each, mat_rule, dec_rule, AreAt, IsInstance}
-use Rattle.stt_tableau.specs.Shape.{IsSpine}
-use Rattle.stt_tableau.specs.Checks.{StandsAt, IsSpineAt, ArgumentsDiffer, SpinesDiffer, FindsInstance}
+use Rattle.stt_tableau.specs.Means.Heads.{IsSpine}
+use Rattle.stt_tableau.specs.Checks.{StandsAt, FindsInstance}
+use Rattle.stt_tableau.specs.Means.Instances.{IsSpineAt, ArgumentsDiffer, SpinesDiffer}
 use Rattle.stt_tableau.specs.declared.decompose.Spine.{Spine}
 use Rattle.stt_tableau.specs.declared.refutation.RuleUse.TheVariants.{Mat, Dec}
 use Rattle.stt_tableau.proofs.InstanceLaws.{fits}

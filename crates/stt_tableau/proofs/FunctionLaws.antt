@@ -11,9 +11,9 @@ use Rattle.stt_core.proofs.DigitLaws.{entry-table, table-entry, table_same}
 use Rattle.stt_core.proofs.TypeLaws.{type_of-canonical, given}
 use Rattle.stt_core.proofs.ValueLaws.{size_pos, value-lt, value-lam, value-app}
 use Rattle.stt_core.proofs.ConstantValues.{value-neg, value-imp, value-eq, value-every, ones_each, some_zero, each_one}
-use Rattle.stt_normal.specs.Lift.{lift}
+use Rattle.stt_core.specs.Lift.{lift}
 use Rattle.stt_normal.specs.Normal.{eta, apply}
-use Rattle.stt_normal.proofs.LiftLaws.{value-lift}
+use Rattle.stt_core.proofs.LiftLaws.{value-lift}
 use Rattle.stt_normal.proofs.CanonicalLaws.{canonical-apply, canonical-lift}
 use Rattle.stt_normal.proofs.NormalValues.{canonical-eta, value-eta, value-apply}
 use Rattle.stt_tableau.specs.Rules.{at_new, agreement, nowhere, chosen, at_outer, at_inner, at_most_once, described}

@@ -5,9 +5,9 @@ use Rattle.stt_core.specs.SimpleType.{SimpleType, arrow, formula, predicate, is_
 use Rattle.stt_core.specs.Lambda.{witness, Lambda, bound, constant, eq, every, applied}
 use Rattle.stt_core.specs.Typing.{Scope}
 use Rattle.stt_core.specs.Canonical.{IsCanonical}
-use Rattle.stt_core.specs.CanonicalType.{canonical_type}
+use Rattle.stt_core.specs.Means.CanonicalType.{canonical_type}
 use Rattle.stt_core.proofs.CanonicalTypes.{canonical_type-at}
-use Rattle.stt_normal.specs.Lift.{lift_by}
+use Rattle.stt_core.specs.Lift.{lift_by}
 use Rattle.stt_normal.specs.Normal.{eta}
 use Rattle.stt_normal.specs.Ready.{CanApply}
 use Rattle.stt_normal.proofs.CanonicalLaws.{canonical-lift}
@@ -15,7 +15,8 @@ use Rattle.stt_normal.proofs.NormalValues.{canonical-eta}
 use Rattle.stt_tableau.specs.Literals.{Literal, IsBranch}
 use Rattle.stt_tableau.specs.Witnesses.{Row}
 use Rattle.stt_tableau.specs.Rules.{chosen, described}
-use Rattle.stt_tableau.specs.Checks.{StandsAt, IsFunctionFrom, AreFunctionsFrom, IsPredicateOn, IsTypedSomewhere, IsTypedWith}
+use Rattle.stt_tableau.specs.Checks.{StandsAt, IsTypedWith}
+use Rattle.stt_tableau.specs.Means.Instances.{IsFunctionFrom, AreFunctionsFrom, IsPredicateOn, IsTypedSomewhere}
 use Rattle.stt_tableau.proofs.ListLaws.{contains-get}
 use Rattle.stt_tableau.proofs.EquationLaws.{eq_canonical}
 use Rattle.stt_tableau.proofs.FunctionLaws.{every_canonical, canonical-chosen, canonical-described, predicate_declared}

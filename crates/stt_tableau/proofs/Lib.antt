@@ -19,4 +19,6 @@ pub mod TypedLaws
 pub mod ChildLaws
 pub mod FailureLaws
 pub mod FirstFailureLaws
+pub mod AddedLaws
 pub mod StartLaws
+pub mod StartMeets

@@ -3,7 +3,8 @@ use Rattle.std.proofs.Common.{◌≡◌, ◌≤◌, ◌<◌, ℕ, List, [], ◌�
 use Rattle.stt_core.specs.SimpleType.{SimpleType}
 use Rattle.stt_core.specs.Lambda.{Constant, name, witness, falsity, negation, implication, all, equality, choice, description, Lambda, bound, constant, lam, app, lambdas, applied}
 use Rattle.stt_core.proofs.SpineLaws.{IsAtom, parts}
-use Rattle.stt_tableau.specs.Shape.{connective_of, IsOther}
+use Rattle.stt_tableau.specs.Shape.{IsOther}
+use Rattle.stt_tableau.specs.Means.Heads.{connective_of}
 use Rattle.stt_tableau.specs.declared.shape.Connective.{Connective}
 use Rattle.stt_tableau.specs.declared.shape.Connective.TheVariants.{False, Not, Imp}
 

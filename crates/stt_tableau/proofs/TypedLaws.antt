@@ -4,7 +4,7 @@ use Rattle.stt_core.specs.SimpleType.{SimpleType, arrow, formula, predicate, sam
 use Rattle.stt_core.specs.Lambda.{Lambda}
 use Rattle.stt_core.specs.Typing.{Scope}
 use Rattle.stt_core.specs.Canonical.{IsCanonical}
-use Rattle.stt_core.specs.CanonicalType.{canonical_type}
+use Rattle.stt_core.specs.Means.CanonicalType.{canonical_type}
 use Rattle.stt_core.proofs.TypeLaws.{same_type_tells}
 use Rattle.stt_core.proofs.CanonicalTypes.{canonical-is, canonical_type-at}
 use Rattle.stt_tableau.specs.Literals.{Literal, is_negated, IsLiteral, IsBranch}

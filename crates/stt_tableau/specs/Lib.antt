@@ -10,3 +10,4 @@ pub mod Start
 pub mod Shape
 pub mod Checks
 pub mod Refused
+pub mod Means

@@ -4,7 +4,7 @@ use Rattle.std.specs.Prelude.{◌≡◌, Bool, true, false, not, List, [], ◌�
 use Rattle.std.specs.Coded.{Coded, code_by, coded_bool, coded×}
 use Rattle.stt_core.specs.SimpleType.{formula}
 use Rattle.stt_core.specs.Lambda.{Lambda, constant, app, negation}
-use Rattle.stt_core.specs.LambdaCode.{lambda_code}
+use Rattle.stt_core.specs.Means.LambdaCode.{lambda_code}
 use Rattle.stt_core.specs.Typing.{Scope}
 use Rattle.stt_core.specs.Canonical.{IsCanonical}
 

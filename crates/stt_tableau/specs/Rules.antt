@@ -5,7 +5,7 @@ use Rattle.stt_core.specs.SimpleType.{SimpleType, base, arrow, formula, predicat
 use Rattle.stt_core.specs.Lambda.{Constant, name, witness, falsity, negation, implication, all, equality, choice, description, Lambda, bound, constant, lam, app, neg, imp, eq, every, applied}
 use Rattle.stt_core.specs.Typing.{Scope, constant_type}
 use Rattle.stt_core.specs.Canonical.{IsCanonical}
-use Rattle.stt_normal.specs.Lift.{lift}
+use Rattle.stt_core.specs.Lift.{lift}
 use Rattle.stt_normal.specs.Normal.{eta, apply}
 use Rattle.stt_tableau.specs.Literals.{Literal, plus, minus, opposite, literal, IsLiteral}
 use Rattle.stt_tableau.specs.Witnesses.{Row}

@@ -3,7 +3,10 @@ use Rattle.std.specs.Prelude.{Bool, true, false, not, ◌&&◌, List, [], ◌∷
 use Rattle.std.specs.List.{list_any}
 use Rattle.stt_core.specs.Lambda.{Lambda}
 use Rattle.stt_core.specs.SameTerm.{same_term}
-use Rattle.stt_core.specs.Meets.{Question}
+use Rattle.stt_core.specs.Typing.{Scope}
+use Rattle.stt_core.specs.Declarations.{scope_of}
+use Rattle.stt_core.specs.PlainProblem.{PlainProblem}
+use Rattle.stt_normal.specs.Normal.{normal_form}
 use Rattle.stt_tableau.specs.Literals.{Literal, opposite, literal}
 
 abbrev pub same_sign : Bool → Bool → Bool
@@ -27,12 +30,15 @@ added ls (k ∷ ks) = added (if has ls k then ls else ls ++ k ∷ []) ks
 abbrev pub without_repeats : List Literal → List Literal
 without_repeats ls = added [] ls
 
--- the negation of the conjecture, where there is one
-abbrev pub denied : Option Lambda → List Literal
-denied None = []
-denied (Some t) = opposite (literal t) ∷ []
+-- the literal of a formula's normal form
+abbrev pub normal_literal : Scope → Lambda → Literal
+normal_literal scope t = literal (normal_form scope [] t)
 
--- The start: the literals of the assumed formulas in order, then the negation of the conjecture's, without repeats. The formulas are
--- canonical.
-abbrev pub start : Question → List Literal
-start question = without_repeats (map literal question.assumed ++ denied question.conjecture)
+-- the negation of the conjecture, where there is one
+abbrev pub denied : Scope → Option Lambda → List Literal
+denied scope None = []
+denied scope (Some t) = opposite (normal_literal scope t) ∷ []
+
+-- The start of a problem: the literals of the assumed formulas in order, then the negation of the conjecture's, without repeats.
+abbrev pub start : PlainProblem → List Literal
+start p = without_repeats (map (normal_literal (scope_of p.declared)) p.assumed ++ denied (scope_of p.declared) p.conjecture)

@@ -2,9 +2,9 @@
 use Rattle.std.specs.Prelude.{List, [], ◌∷◌, ◌++◌, map, refl, Contains}
 use Rattle.std.specs.Coded.{Coded, code_by, coded×}
 use Rattle.stt_core.specs.SimpleType.{SimpleType, predicate}
-use Rattle.stt_core.specs.TypeCode.{type_code}
+use Rattle.stt_core.specs.Means.TypeCode.{type_code}
 use Rattle.stt_core.specs.Lambda.{Constant, name, witness, falsity, negation, implication, all, equality, choice, description, Lambda, bound, constant, lam, app}
-use Rattle.stt_core.specs.LambdaCode.{lambda_code}
+use Rattle.stt_core.specs.Means.LambdaCode.{lambda_code}
 use Rattle.stt_core.specs.Typing.{Scope}
 use Rattle.stt_core.specs.Canonical.{IsCanonical}
 use Rattle.stt_tableau.specs.Literals.{Literal}

@@ -6,7 +6,7 @@ ghost use Rattle.stt_core.specs.ScopeView.{the_scope};
 ghost use Rattle.stt_tableau.specs.Literals.{Literal};
 ghost use Rattle.stt_tableau.specs.Witnesses.{Row, with_rows, IsTwice, IsTable};
 ghost use Rattle.stt_tableau.specs.Accepted.{IsTypedLine, AreRightLines, EndsWithin, IsAccepted, FirstFailure};
-ghost use Rattle.stt_tableau.specs.Checks.{RowAnswer, LineAnswer};
+ghost use Rattle.stt_tableau.specs.Means.Answers.{RowAnswer, LineAnswer};
 ghost use Rattle.stt_tableau.specs.Refused.{IfRefused};
 ghost use Rattle.stt_tableau.specs.declared.refutation.Line.{Line as TheLine};
 
@@ -17,11 +17,14 @@ use crate::refutation::{Line, Refutation, Rows, Why, WitnessRow};
 use crate::typed::{is_typed_branch, is_typed_row, is_typed_use};
 use std::alloc::{AllocError, Global};
 use stt_core::{Signature, Types, same_nf};
+use thiserror::Error;
 
 /// Why a refutation isn't accepted: the first row or line that fails, and why, or want of memory. Rows count from 0, and then lines.
-#[derive(Debug, Drop)]
+#[derive(Debug, Drop, Error)]
 pub enum PlainRefused {
+    #[error("row or line {line}: {why}")]
     Refused { line: usize, why: Why },
+    #[error("no memory is left")]
     Memory,
 }
 

@@ -5,8 +5,9 @@ ghost use Rattle.stt_core.specs.View.{the_head, the_type};
 ghost use Rattle.stt_core.specs.ScopeView.{the_scope};
 ghost use Rattle.stt_tableau.specs.Witnesses.{Row};
 ghost use Rattle.stt_tableau.specs.Rules.{differ_each};
-ghost use Rattle.stt_tableau.specs.Shape.{IsDecomposedHead, IsSpine};
-ghost use Rattle.stt_tableau.specs.Checks.{IsSpineAt, ArgumentsDiffer, SpinesDiffer, FindsInstance};
+ghost use Rattle.stt_tableau.specs.Means.Heads.{IsDecomposedHead, IsSpine};
+ghost use Rattle.stt_tableau.specs.Checks.{FindsInstance};
+ghost use Rattle.stt_tableau.specs.Means.Instances.{IsSpineAt, ArgumentsDiffer, SpinesDiffer};
 ghost use Rattle.stt_tableau.specs.declared.refutation.RuleUse.TheVariants.{Mat, Dec};
 
 use crate::alternatives::{Alternatives, alone};

@@ -11,7 +11,8 @@ ghost use Rattle.stt_normal.specs.Ready.{CanApply};
 ghost use Rattle.stt_tableau.specs.Literals.{literal, opposite};
 ghost use Rattle.stt_tableau.specs.Witnesses.{Row};
 ghost use Rattle.stt_tableau.specs.Rules.{nowhere, at_outer, at_inner, at_most_once, described};
-ghost use Rattle.stt_tableau.specs.Checks.{FindsInstance, IsFunctionFrom, IsPredicateOn};
+ghost use Rattle.stt_tableau.specs.Checks.{FindsInstance};
+ghost use Rattle.stt_tableau.specs.Means.Instances.{IsFunctionFrom, IsPredicateOn};
 ghost use Rattle.stt_tableau.specs.declared.refutation.RuleUse.TheVariants.{Des};
 
 use crate::alternatives::{Alternatives, any_of_three};

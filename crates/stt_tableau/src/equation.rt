@@ -7,8 +7,9 @@ ghost use Rattle.stt_core.specs.Lambda.{eq};
 ghost use Rattle.stt_core.specs.View.{the_head, the_type};
 ghost use Rattle.stt_tableau.specs.Literals.{literal, opposite, minus};
 ghost use Rattle.stt_tableau.specs.Witnesses.{Row};
-ghost use Rattle.stt_tableau.specs.Shape.{equality_of, IsEquation};
-ghost use Rattle.stt_tableau.specs.Checks.{IsEquationAt, FindsInstance};
+ghost use Rattle.stt_tableau.specs.Means.Heads.{equality_of, IsEquation};
+ghost use Rattle.stt_tableau.specs.Checks.{FindsInstance};
+ghost use Rattle.stt_tableau.specs.Means.Instances.{IsEquationAt};
 ghost use Rattle.stt_tableau.specs.declared.refutation.RuleUse.TheVariants.{Refl, BoolPos, BoolNeg, Con};
 
 use crate::alternatives::{Alternatives, either_both};

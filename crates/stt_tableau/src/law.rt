@@ -1,9 +1,15 @@
-//! Soundness: rules keep models along the witness table, and an accepted refutation shows that its start has no model.
+//! Soundness: the start of a problem keeps its models, rules keep models along the witness table, and an accepted refutation shows that its
+//! start has no model.
 
 ghost use Rattle.std.specs.Prelude.{[]};
 ghost use Rattle.stt_core.specs.Meaning.{Model, IsModel};
 ghost use Rattle.stt_core.specs.ScopeView.{the_scope};
+ghost use Rattle.stt_core.specs.Declarations.{scope_of};
+ghost use Rattle.stt_core.specs.TypedProblem.{IsTyped};
+ghost use Rattle.stt_core.specs.Meets.{MeetsProblem};
+ghost use Rattle.stt_tableau.specs.Literals.{IsBranch};
 ghost use Rattle.stt_tableau.specs.Meets.{MeetsBranch};
+ghost use Rattle.stt_tableau.specs.Start.{start};
 ghost use Rattle.stt_tableau.specs.Witnesses.{with_rows, NoneNamesWitness};
 ghost use Rattle.stt_tableau.specs.Accepted.{IsAccepted};
 ghost use Rattle.stt_tableau.specs.Laws.{ModelsExtend, RulesKeepModels};
@@ -11,7 +17,15 @@ ghost use Rattle.stt_tableau.specs.Closed.{Closes, tableau_of};
 
 use crate::lit::Lits;
 use crate::refutation::{Refutation, Rows};
-use stt_core::Signature;
+use stt_core::{Problem, Signature};
+
+/// A model that meets a typed problem meets the problem's start, whose literals are typed and name no witness.
+pub fn start_keeps_models(problem: &Problem)
+    requires { IsTyped problem.now }
+    ensures meets { (m : Model) → IsModel (scope_of problem.now.declared) m → MeetsProblem problem.now m → MeetsBranch (scope_of problem.now.declared) m (start problem.now) }
+    ensures typed { IsBranch (scope_of problem.now.declared) (start problem.now) }
+    ensures unnamed { NoneNamesWitness (start problem.now) }
+{}
 
 /// Where a refutation is accepted for a start that names no witness, no model meets the start, and the tableau of the refutation's
 /// last line closes it.

@@ -22,7 +22,7 @@ pub use accepts::{PlainRefused, accepts_plain};
 pub use alternatives::Alternatives;
 pub use formula::literal_of;
 pub use instance::find_instance;
-pub use law::{models_extend, rules_keep_models, soundness_law};
+pub use law::{models_extend, rules_keep_models, soundness_law, start_keeps_models};
 pub use lit::{Lit, Lits};
 pub use quantifier::{Quantified, denied_of_witness, quantified_at};
 pub use refutation::{Child, Children, Line, Lines, Refutation, Rows, RuleUse, Why, WitnessRow};

@@ -4,7 +4,8 @@ ghost use Rattle.std.specs.Prelude.{[], ◌∷◌, List, Some, IfOk};
 ghost use Rattle.stt_core.specs.Typing.{Scope};
 ghost use Rattle.stt_tableau.specs.Literals.{IsLiteral};
 ghost use Rattle.stt_tableau.specs.Witnesses.{Row};
-ghost use Rattle.stt_tableau.specs.Checks.{HasShapeAt, FindsInstance};
+ghost use Rattle.stt_tableau.specs.Checks.{FindsInstance};
+ghost use Rattle.stt_tableau.specs.Means.Instances.{HasShapeAt};
 ghost use Rattle.stt_tableau.specs.declared.refutation.RuleUse.TheVariants.{False, Close, ImpPos, ImpNeg, Cut};
 
 use crate::alternatives::{Alternatives, both, either};

@@ -11,9 +11,10 @@ ghost use Rattle.stt_normal.specs.Normal.{eta, apply};
 ghost use Rattle.stt_normal.specs.Ready.{CanApply};
 ghost use Rattle.stt_tableau.specs.Literals.{literal, opposite, IsBranch};
 ghost use Rattle.stt_tableau.specs.Witnesses.{Row};
-ghost use Rattle.stt_tableau.specs.Shape.{quantified_by, IsQuantified};
+ghost use Rattle.stt_tableau.specs.Means.Heads.{quantified_by, IsQuantified};
 ghost use Rattle.stt_tableau.specs.Rules.{at_new, agreement, nowhere, chosen};
-ghost use Rattle.stt_tableau.specs.Checks.{IsQuantifiedAt, IsRowOf, FindsInstance, IsFunctionFrom, AreFunctionsFrom, IsPredicateOn, IsTypedSomewhere, IsTypedWith};
+ghost use Rattle.stt_tableau.specs.Checks.{IsQuantifiedAt, FindsInstance, IsTypedWith};
+ghost use Rattle.stt_tableau.specs.Means.Instances.{IsRowOf, IsFunctionFrom, AreFunctionsFrom, IsPredicateOn, IsTypedSomewhere};
 ghost use Rattle.stt_tableau.specs.declared.refutation.RuleUse.TheVariants.{FunPos, FunNeg, AllPos, AllNeg, Cho};
 
 use crate::alternatives::{Alternatives, either, one};

@@ -6,6 +6,7 @@ use crate::lit::{Lit, Lits};
 use std::alloc::{AllocError, Global};
 use std::marker::Model;
 use stt_core::{Nf, Ty};
+use thiserror::Error;
 
 /// A rule with what its instance takes. A number is the place of a principal in the branch, from 0.
 #[derive(Drop)]
@@ -101,7 +102,7 @@ impl Model for Lines {
     ghost use Rattle.std.specs.Prelude.{List};
     ghost use Rattle.stt_tableau.specs.declared.refutation.Line.{Line};
     ghost use Rattle.std.specs.Coded.{codes};
-    ghost use Rattle.stt_core.specs.LambdaCode.{lambda_code};
+    ghost use Rattle.stt_core.specs.Means.LambdaCode.{lambda_code};
     ghost use Rattle.stt_tableau.specs.Literals.{literal_code};
 
     ghost Value = { List Line };
@@ -230,14 +231,22 @@ pub struct Refutation {
 /// Why a refutation is refused. A text may fail in its form or lack its start or its end; `Typing` is a term that isn't closed,
 /// canonical and of the wanted type, `Twice` a second row with a predicate, `Principal` a rule that doesn't fit its branch, `Child` a
 /// child that doesn't close its alternative, and `Last` a last line that isn't about the start, or no line.
-#[derive(Clone, Copy, Debug, PartialEq, Eq)]
+#[derive(Clone, Copy, Debug, PartialEq, Eq, Error)]
 pub enum Why {
+    #[error("a wrong form")]
     Form,
+    #[error("no start line")]
     Start,
+    #[error("no end line")]
     End,
+    #[error("a term that isn't of the wanted type")]
     Typing,
+    #[error("a second row with this predicate")]
     Twice,
+    #[error("a rule that doesn't fit")]
     Principal,
+    #[error("a child that doesn't close its alternative")]
     Child,
+    #[error("a last line that isn't about the start")]
     Last,
 }

@@ -2,7 +2,8 @@
 
 ghost use Rattle.std.specs.Prelude.{◌≡◌};
 ghost use Rattle.stt_core.specs.View.{the_head};
-ghost use Rattle.stt_tableau.specs.Shape.{connective_of, HasShape};
+ghost use Rattle.stt_tableau.specs.Shape.{HasShape};
+ghost use Rattle.stt_tableau.specs.Means.Heads.{connective_of};
 
 use stt_core::{Head, Nf};
 

@@ -4,12 +4,8 @@ ghost use Rattle.std.specs.Prelude.{◌≡◌, [], ◌∷◌, map, IfOk, OnOk};
 ghost use Rattle.stt_core.specs.View.{the_term};
 ghost use Rattle.stt_core.specs.ScopeView.{the_scope};
 ghost use Rattle.stt_core.specs.Typing.{IsScope};
-ghost use Rattle.stt_core.specs.PlainProblem.{question_of};
 ghost use Rattle.stt_core.specs.TypedProblem.{IsFormula, AreFormulas, IsTyped};
-ghost use Rattle.stt_normal.specs.Normal.{normal_form};
-ghost use Rattle.stt_normal.specs.NormalQuestion.{normal_question};
-ghost use Rattle.stt_tableau.specs.Literals.{literal};
-ghost use Rattle.stt_tableau.specs.Start.{added, without_repeats, start};
+ghost use Rattle.stt_tableau.specs.Start.{added, without_repeats, normal_literal, start};
 
 use crate::formula::literal_of;
 use crate::lit::{Lit, Lits};
@@ -33,7 +29,7 @@ impl Lits {
 pub fn formula_literal(alloc: Global, sig: &Signature, formula: &Term) -> Result<Lit, AllocError>
     requires scope { IsScope (the_scope sig.now []) }
     requires formula { IsFormula (the_scope sig.now []) (the_term formula.now) }
-    ensures { IfOk result (λ lit. lit ≡ literal (normal_form (the_scope sig.now []) [] (the_term formula.now))) }
+    ensures { IfOk result (λ lit. lit ≡ normal_literal (the_scope sig.now []) (the_term formula.now)) }
 {
     let none = Types::new(alloc);
     let canonical = normalise(alloc, sig, &none, &none, formula)?;
@@ -44,7 +40,7 @@ pub fn formula_literal(alloc: Global, sig: &Signature, formula: &Term) -> Result
 fn assumed_literals(alloc: Global, sig: &Signature, assumed: &Terms) -> Result<Lits, AllocError>
     requires scope { IsScope (the_scope sig.now []) }
     requires assumed { AreFormulas (the_scope sig.now []) assumed.now }
-    ensures { IfOk result (λ lits. lits ≡ without_repeats (map literal (map (normal_form (the_scope sig.now []) []) assumed.now))) }
+    ensures { IfOk result (λ lits. lits ≡ without_repeats (map (normal_literal (the_scope sig.now [])) assumed.now)) }
 {
     let mut lits = Lits::new(alloc);
     for i in 0..assumed.len() {
@@ -56,8 +52,8 @@ fn assumed_literals(alloc: Global, sig: &Signature, assumed: &Terms) -> Result<L
 
 /// The start of a problem: the literals of the assumed formulas and the negation of the conjecture's, without repeats.
 pub fn start_literals(alloc: Global, problem: &Problem) -> Result<Lits, AllocError>
-    requires { IsTyped (question_of problem.now) }
-    ensures { IfOk result (λ lits. lits ≡ start (normal_question (question_of problem.now))) }
+    requires { IsTyped problem.now }
+    ensures { IfOk result (λ lits. lits ≡ start problem.now) }
 {
     let sig = &problem.signature;
     let mut lits = assumed_literals(alloc, sig, &problem.assumed)?;

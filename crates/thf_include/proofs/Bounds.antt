@@ -1,11 +1,11 @@
 -- How many statements are gathered, and the numbers of their files.
-use Rattle.std.proofs.Common.{◌≡◌, ℕ, suc, ◌+◌, ◌<◌, ◌≤◌, List, [], ◌∷◌, ◌++◌, length, Bool, true, false, Option, Some, None, refl, sym, ap, subst, ◌∙◌, length-append, arith}
+use Rattle.std.proofs.Common.{◌≡◌, ℕ, suc, ◌+◌, ◌<◌, ◌≤◌, List, [], ◌∷◌, ◌++◌, length, Bool, true, false, Option, Some, None, refl, ap, subst, length-append, arith}
 use Rattle.std.specs.Prelude.{cond, filter, find}
 use Rattle.std.specs.List.{AllByRecursion}
 use Rattle.thf_syntax.specs.Trees.{SelectedTree, StatementTree}
-use Rattle.thf_include.specs.declared.limits.TheConstants.{MAX_BYTES}
+use Rattle.thf_include.specs.Gathering.{byte_limit}
 use Rattle.thf_include.specs.View.{PlacedTree}
-use Rattle.thf_include.specs.Gathering.{Ending, done, stopped, behind, bytes_of, placed, select, select_by, is_selected, is_missing, FileEnds, unread, long, refused, followed, StatementEnds, stays, in_cycle, past_limit, stops, selects, StatementsEnd, no_more, ends, goes_on}
+use Rattle.thf_include.specs.Gathering.{Ending, done, stopped, bytes_of, placed, select, select_by, is_selected, is_missing, FileEnds, unread, long, refused, followed, StatementEnds, stays, in_cycle, past_limit, stops, selects, StatementsEnd, no_more, ends, goes_on}
 use Rattle.thf_include.proofs.Texts.{bytes_of-more}
 use Rattle.thf_include.proofs.Trees.{tree-short}
 
@@ -45,7 +45,7 @@ selected n file (Some only) ps qs e h = chosen n file only (find (is_missing ps)
 -- what is gathered where the files from the first number up to the second are opened, besides so many statements of the file itself
 pub record AreBounded (texts : List (List ℕ)) (from to own : ℕ) (ps : List PlacedTree) : Type 0 where
   pub counted : bytes_of texts from + length ps ≤ bytes_of texts to + own
-  pub within : bytes_of texts to ≤ MAX_BYTES
+  pub within : bytes_of texts to ≤ byte_limit
   pub below : AreBelow to ps
 
 module _ (texts : List (List ℕ)) where
@@ -63,7 +63,7 @@ module _ (texts : List (List ℕ)) where
           below = subst (λ n. AreBelow n ps) same b.below;
         }
 
-    statement-bounded : (chain : List (List ℕ)) (file next : ℕ) (s : StatementTree) (opened : List (List ℕ)) (ending : Ending) → StatementEnds texts chain file next s opened ending → (ps : List PlacedTree) → ending ≡ done ps → file < next → bytes_of texts next ≤ MAX_BYTES → AreBounded texts next (next + length opened) 1 ps
+    statement-bounded : (chain : List (List ℕ)) (file next : ℕ) (s : StatementTree) (opened : List (List ℕ)) (ending : Ending) → StatementEnds texts chain file next s opened ending → (ps : List PlacedTree) → ending ≡ done ps → file < next → bytes_of texts next ≤ byte_limit → AreBounded texts next (next + length opened) 1 ps
     statement-bounded _ _ _ _ _ _ (stays chain file next a) ps e earlier fits =
         let k : placed file a ∷ [] ≡ ps = cc in
         let same : next + 0 ≡ next = omega arith in
@@ -80,7 +80,7 @@ module _ (texts : List (List ℕ)) where
         let part = selected (next + length opened) file only statements ps e b.below in
         record { counted = omega (arith, b.counted, part.shorter); within = b.within; below = part.below }
 
-    statements-bounded : (chain : List (List ℕ)) (file next : ℕ) (tree : List StatementTree) (opened : List (List ℕ)) (ending : Ending) → StatementsEnd texts chain file next tree opened ending → (ps : List PlacedTree) → ending ≡ done ps → file < next → bytes_of texts next ≤ MAX_BYTES → AreBounded texts next (next + length opened) (length tree) ps
+    statements-bounded : (chain : List (List ℕ)) (file next : ℕ) (tree : List StatementTree) (opened : List (List ℕ)) (ending : Ending) → StatementsEnd texts chain file next tree opened ending → (ps : List PlacedTree) → ending ≡ done ps → file < next → bytes_of texts next ≤ byte_limit → AreBounded texts next (next + length opened) (length tree) ps
     statements-bounded _ _ _ _ _ _ (no_more chain file next) ps e earlier fits =
         let k : [] ≡ ps = cc in
         let same : next + 0 ≡ next = omega arith in

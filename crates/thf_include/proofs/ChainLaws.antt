@@ -1,5 +1,5 @@
 -- A name among names.
-use Rattle.std.proofs.Common.{◌≡◌, ℕ, zero, suc, ◌<◌, List, ◌∷◌, length, Bool, ◌↔◌, IsTrue, Contains, arith}
+use Rattle.std.proofs.Common.{◌≡◌, ℕ, zero, suc, List, ◌∷◌, Bool, ◌↔◌, IsTrue, Contains, arith}
 
 -- a name that isn't the first is among the later ones
 pub Contains-later : (first name : List ℕ) (names : List (List ℕ)) (b : Bool) → (first ≡ name → ⊥) → IsTrue b ↔ Contains names name → IsTrue b ↔ Contains (first ∷ names) name

@@ -1,19 +1,17 @@
 -- The step of a file.
 use Rattle.std.proofs.Common.{◌≡◌, ℕ, zero, suc, ◌+◌, ◌-◌, ◌<◌, ◌≤◌, Bool, ◌⊎◌, inl, inr, IsTrue, List, [], ◌∷◌, ◌++◌, length, take, slice_get, Option, Some, Result, Ok, Err, refl, sym, ap, subst, ◌∙◌, append_assoc, length-append, arith}
-use Rattle.std.specs.Prelude.{sum_by}
 use Rattle.std.proofs.lemmas.List.{append-nil}
-use Rattle.std.proofs.lemmas.List.Sums.{sum_by-append}
-use Rattle.std.proofs.Math.Seq.{take-length, take-append-add}
+use Rattle.std.proofs.Math.Seq.{take-append-add}
 use Rattle.thf_syntax.specs.Trees.{StatementTree}
-use Rattle.thf_include.specs.declared.limits.TheConstants.{MAX_BYTES}
+use Rattle.thf_include.specs.Gathering.{byte_limit}
 use Rattle.thf_include.specs.declared.opened.Opened.{Opened}
 use Rattle.thf_include.specs.declared.refused.GatherRefused.{GatherRefused}
 use Rattle.thf_include.specs.declared.refused.GatherRefused.TheVariants.{Fault, TooLong, Syntax, Cycle, NoSuchName, TooMany, Memory}
 use Rattle.thf_include.specs.View.{PlacedTree}
 use Rattle.thf_include.specs.Gathering.{Stop, Ending, stopped, wants, too_long, no_tree, bytes_of, IsFileText, FileEnds, unread, long, refused, followed, StatementsEnd}
-use Rattle.thf_include.specs.Opening.{IsReadRefusal, IsTextRefusal}
+use Rattle.thf_include.specs.Means.Opening.{IsReadRefusal, IsTextRefusal}
 use Rattle.thf_include.specs.Answer.{AreContents, StopsAs}
-use Rattle.thf_include.specs.Steps.{AreRead, IsDone, EndsAs, IsStep, FileSteps, StatementsStep}
+use Rattle.thf_include.specs.Means.Steps.{AreRead, EndsAs, IsStep, FileSteps, StatementsStep}
 use Rattle.thf_include.proofs.Texts.{same-get, same-bytes, take-append, bytes_of-more}
 use Rattle.thf_include.proofs.Stops.{StopsAs-map, StopsAs-cases, AreContents-take}
 
@@ -128,7 +126,7 @@ module _ (tells : Bool) (contents : List ℕ → Option (List ℕ)) (chain : Lis
 -- the file is read, and has this text
 module _ (tells : Bool) (contents : List ℕ → Option (List ℕ)) (chain : List (List ℕ)) (name text : List ℕ) (old mid : Opened) (file : ℕ)
     (number : file ≡ length old.names) (names : mid.names ≡ old.names ++ name ∷ []) (left : mid.left + length text ≡ old.left) (told : IsTrue tells → contents name ≡ Some text) where
-  fits : (texts : List (List ℕ)) → AreRead texts old → bytes_of (texts ++ text ∷ []) (length old.names + 1) ≤ MAX_BYTES
+  fits : (texts : List (List ℕ)) → AreRead texts old → bytes_of (texts ++ text ∷ []) (length old.names + 1) ≤ byte_limit
   fits texts r = omega (arith, r.bytes, left, bytes-here texts text (length old.names) (sym r.each))
 
   pub text-refused : {T : Type 0} (before after : List PlacedTree) (e : GatherRefused) → IsTextRefusal text file e → FileSteps {T = T} tells contents chain name old mid before after (Err e)
@@ -162,7 +160,7 @@ module _ (tells : Bool) (contents : List ℕ → Option (List ℕ)) (chain : Lis
         get : slice_get (texts ++ (text ∷ more)) (length old.names) ≡ Some text
         get = same-get (length old.names + 1) (texts ++ text ∷ []) (texts ++ (text ∷ more)) first (length old.names) (omega arith) ∙ here texts text (length old.names) (sym r.each)
 
-        within : bytes_of (texts ++ (text ∷ more)) (length old.names + 1) ≤ MAX_BYTES
+        within : bytes_of (texts ++ (text ∷ more)) (length old.names + 1) ≤ byte_limit
         within = omega (arith, fits texts r, same-bytes (length old.names + 1) (texts ++ text ∷ []) (texts ++ (text ∷ more)) first (length old.names + 1) (omega arith))
 
         next : length mid.names ≡ length old.names + 1

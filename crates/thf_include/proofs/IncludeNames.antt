@@ -1,6 +1,6 @@
 -- The names of files in a tree are text.
-use Rattle.std.proofs.Common.{◌≡◌, ℕ, zero, suc, ◌+◌, ◌-◌, ◌<◌, ◌≤◌, ◌==◌, ◌&&◌, ◌||◌, List, [], ◌∷◌, ◌++◌, length, take, drop, get_or, Bool, true, false, if◌then◌else◌, codes, refl, sym, ap, subst, ◌∙◌, arith}
-use Rattle.std.specs.Prelude.{IsAscii, IsUtf8, slice_range}
+use Rattle.std.proofs.Common.{◌≡◌, ℕ, zero, suc, ◌+◌, ◌-◌, ◌<◌, ◌≤◌, ◌==◌, ◌&&◌, ◌||◌, List, [], ◌∷◌, ◌++◌, length, take, drop, Bool, true, false, if◌then◌else◌, codes, refl, sym, ap, subst, ◌∙◌, arith}
+use Rattle.std.specs.Prelude.{IsAscii, slice_range}
 use Rattle.std.specs.List.{AllByRecursion}
 use Rattle.std.specs.Str.{bytes_eq}
 use Rattle.std.proofs.lemmas.Bool.Decides.{nat_tests}
@@ -10,21 +10,21 @@ use Rattle.std.proofs.lemmas.Str.{IsUtf8-from_ascii}
 use Rattle.thf_lex.specs.declared.token.TokenKind.{TokenKind}
 use Rattle.thf_lex.specs.declared.token.TokenKind.TheVariants as kind
 use Rattle.thf_lex.specs.declared.token.Token.{Token}
-use Rattle.thf_lex.specs.Bytes.{single_quote, backslash, is_plain}
+use Rattle.thf_lex.specs.Bytes.{single_quote, backslash}
 use Rattle.thf_lex.specs.Texts.{IsToken, IsQuotedBy, AreCharacters, none, plain as plain_character, escape}
 use Rattle.thf_lex.specs.Reading.{Reads, gap, token, bad, end, token_at}
 use Rattle.thf_syntax.specs.declared.formula.Conn.TheVariants.{Not, And, Or, Imp, If, Iff, Xor, Nor, Nand}
 use Rattle.thf_syntax.specs.declared.formula.Binder.TheVariants.{All, Exists, Lam, Choice, Desc}
-use Rattle.thf_syntax.specs.Trees.{StatementTree, annotated, include}
+use Rattle.thf_syntax.specs.Trees.{StatementTree}
 use Rattle.thf_parse.specs.declared.terminal.Mark.TheVariants as mark
 use Rattle.thf_parse.specs.declared.terminal.Terminal.{Terminal}
 use Rattle.thf_parse.specs.declared.terminal.Terminal.TheVariants as terminal
 use Rattle.thf_parse.specs.Terminals.{single, pair, triple, symbol, dollar_word, of_kind}
-use Rattle.thf_parse.specs.Words.{Lexeme, lexeme, lexemes, Word, plain, terminal_of, name_of, name_in, unescaped, name, Is}
+use Rattle.thf_parse.specs.Words.{Lexeme, lexeme, lexemes, Word, plain, terminal_of, name_of, name_in, unescaped, name}
 use Rattle.thf_parse.specs.Statements.{IsStatement, annotated_statement, include_statement, IsFile, no_statement, more_statements}
 use Rattle.thf_parse.specs.Parsing.{depth_limit, AreWithin}
 use Rattle.thf_include.specs.Gathering.{IsFileText}
-use Rattle.thf_include.specs.Names.{IsNamed, AreNamed}
+use Rattle.thf_include.specs.Means.Names.{IsNamed, AreNamed}
 use Rattle.thf_include.proofs.Trees.{follows, behind-all}
 
 -- the terminal isn't a quoted name

@@ -1,5 +1,5 @@
 -- What a selection keeps, and what it misses.
-use Rattle.std.proofs.Common.{◌≡◌, ℕ, suc, ◌+◌, ◌<◌, List, [], ◌∷◌, ◌++◌, length, map, take, drop, get_or, Bool, true, false, not, cond, ◌||◌, Option, Some, None, refl, sym, ap, ap₂, ◌∙◌, drop-cons}
+use Rattle.std.proofs.Common.{◌≡◌, ℕ, suc, ◌+◌, ◌<◌, List, [], ◌∷◌, ◌++◌, length, map, take, drop, get_or, Bool, true, false, not, cond, ◌||◌, Some, None, refl, sym, ap, ap₂, ◌∙◌, drop-cons}
 use Rattle.std.specs.Prelude.{filter, find}
 use Rattle.std.specs.Borrow.{Bor}
 use Rattle.std.specs.BTreeSet.{BTreeSet}
@@ -8,7 +8,6 @@ use Rattle.std.specs.Option.{option_or}
 use Rattle.std.specs.Str.{bytes_eq}
 use Rattle.std.proofs.lemmas.List.{map-append, take_more, take-append-drop}
 use Rattle.std.proofs.lemmas.List.Folds.{find-append}
-use Rattle.thf_syntax.specs.Trees.{SelectedTree}
 use Rattle.thf_syntax.specs.View.{the_selected}
 use Rattle.thf_syntax.specs.declared.statement.Selected.{Selected}
 use Rattle.thf_include.specs.declared.gathered.Placed.{Placed}

@@ -1,16 +1,16 @@
 -- The steps of statements and of includes.
-use Rattle.std.proofs.Common.{◌≡◌, ℕ, zero, suc, ◌+◌, ◌-◌, ◌<◌, ◌≤◌, Bool, ◌⊎◌, inl, inr, IsTrue, List, [], ◌∷◌, ◌++◌, length, take, Option, Some, None, Result, Ok, Err, refl, sym, ap, subst, ◌∙◌, append_assoc, length-append, arith}
+use Rattle.std.proofs.Common.{◌≡◌, ℕ, ◌+◌, ◌<◌, ◌≤◌, Bool, ◌⊎◌, inl, inr, IsTrue, List, [], ◌∷◌, ◌++◌, length, take, Option, Some, None, Result, Ok, Err, refl, sym, ap, subst, ◌∙◌, append_assoc, length-append, arith}
 use Rattle.std.specs.Prelude.{Contains}
 use Rattle.std.proofs.lemmas.List.{append-nil}
 use Rattle.thf_syntax.specs.Trees.{AnnotatedTree, SelectedTree, StatementTree, annotated, include}
-use Rattle.thf_include.specs.declared.limits.TheConstants.{MAX_FILES}
+use Rattle.thf_include.specs.Gathering.{file_limit}
 use Rattle.thf_include.specs.declared.opened.Opened.{Opened}
 use Rattle.thf_include.specs.declared.refused.GatherRefused.{GatherRefused}
 use Rattle.thf_include.specs.declared.refused.GatherRefused.TheVariants.{Fault, TooLong, Syntax, Cycle, NoSuchName, TooMany, Memory}
 use Rattle.thf_include.specs.View.{PlacedTree}
-use Rattle.thf_include.specs.Gathering.{Stop, Ending, done, stopped, wants, no_name, cycle, too_many, behind, placed, select, FileEnds, unread, long, refused, followed, StatementEnds, stays, in_cycle, past_limit, stops, selects, StatementsEnd, no_more, ends, goes_on}
+use Rattle.thf_include.specs.Gathering.{Stop, Ending, done, stopped, wants, no_name, behind, placed, select, FileEnds, unread, long, refused, followed, StatementEnds, stays, in_cycle, past_limit, stops, selects, StatementsEnd, no_more, ends, goes_on}
 use Rattle.thf_include.specs.Answer.{AreContents, StopsAs}
-use Rattle.thf_include.specs.Steps.{AreRead, EndsAs, IsStep, FileSteps, StatementSteps, StatementsStep, SelectsAs}
+use Rattle.thf_include.specs.Means.Steps.{AreRead, IsStep, FileSteps, StatementSteps, StatementsStep, SelectsAs}
 use Rattle.thf_include.proofs.Texts.{take-append}
 use Rattle.thf_include.proofs.SameTexts.{statements-same}
 use Rattle.thf_include.proofs.Cuts.{file-cut, statements-cut}
@@ -161,7 +161,7 @@ file-some texts _ _ _ _ _ (refused chain file at name text get within is) = omeg
 file-some texts _ _ _ _ _ (followed chain opened file name text tree ending get within is inside) = omega arith
 
 -- an include whose file is opened
-module _ (tells : Bool) (contents : List ℕ → Option (List ℕ)) (chain : List (List ℕ)) (file at : ℕ) (name : List ℕ) (old new : Opened) (apart : Contains chain name → ⊥) (room : length old.names < MAX_FILES) where
+module _ (tells : Bool) (contents : List ℕ → Option (List ℕ)) (chain : List (List ℕ)) (file at : ℕ) (name : List ℕ) (old new : Opened) (apart : Contains chain name → ⊥) (room : length old.names < file_limit) where
   pub include-stopped : {T V : Type 0} (only : Option (List SelectedTree)) (before after from to : List PlacedTree) (e : GatherRefused) → FileSteps {T = T} tells contents chain name old new before after (Err e) → StatementSteps {T = V} tells contents chain file (include at name only) old new from to (Err e)
   include-stopped {T} only before after from to e h texts r = record {
     more = s.more;
@@ -254,7 +254,7 @@ module _ (tells : Bool) (contents : List ℕ → Option (List ℕ)) (chain : Lis
       still-step tells contents (λ all ns ending. StatementEnds all chain file (length opened.names) (include at name only) ns ending) texts opened before before (Err (Cycle file at))
       (in_cycle chain file (length opened.names) at name only is)
 
-  pub full-step : {T : Type 0} (at : ℕ) (name : List ℕ) (only : Option (List SelectedTree)) → (Contains chain name → ⊥) → MAX_FILES ≤ length opened.names → StatementSteps {T = T} tells contents chain file (include at name only) opened opened before before (Err (TooMany file at))
+  pub full-step : {T : Type 0} (at : ℕ) (name : List ℕ) (only : Option (List SelectedTree)) → (Contains chain name → ⊥) → file_limit ≤ length opened.names → StatementSteps {T = T} tells contents chain file (include at name only) opened opened before before (Err (TooMany file at))
   full-step at name only new full texts r =
       still-step tells contents (λ all ns ending. StatementEnds all chain file (length opened.names) (include at name only) ns ending) texts opened before before (Err (TooMany file at))
       (past_limit chain file (length opened.names) at name only new full)

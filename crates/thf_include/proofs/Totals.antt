@@ -1,17 +1,15 @@
 -- What is gathered in all.
-use Rattle.std.proofs.Common.{◌≡◌, ℕ, zero, suc, ◌+◌, ◌<◌, ◌≤◌, Bool, List, [], ◌∷◌, ◌++◌, length, map, Option, Ok, All, refl, sym, ap, subst, ◌∙◌, length-append, arith}
-use Rattle.std.specs.List.{AllByRecursion}
+use Rattle.std.proofs.Common.{◌≡◌, ℕ, zero, suc, ◌+◌, ◌<◌, ◌≤◌, Bool, List, [], ◌∷◌, ◌++◌, length, Option, Ok, All, refl, sym, ap, subst, ◌∙◌, length-append, arith}
 use Rattle.std.proofs.lemmas.List.{length-map}
-use Rattle.thf_syntax.specs.Trees.{StatementTree}
 use Rattle.thf_syntax.specs.View.{the_statement, the_file}
 use Rattle.thf_syntax.specs.declared.statement.Statement.{Statement}
 use Rattle.thf_include.specs.declared.gathered.Placed.{Placed}
-use Rattle.thf_include.specs.declared.limits.TheConstants.{MAX_BYTES}
+use Rattle.thf_include.specs.Gathering.{byte_limit}
 use Rattle.thf_include.specs.declared.opened.Opened.{Opened}
 use Rattle.thf_include.specs.View.{the_placed, the_statements}
 use Rattle.thf_include.specs.Gathering.{done}
-use Rattle.thf_include.specs.Names.{IsNamed, AreNamed}
-use Rattle.thf_include.specs.Steps.{AreRead, FileSteps}
+use Rattle.thf_include.specs.Means.Names.{IsNamed, AreNamed}
+use Rattle.thf_include.specs.Means.Steps.{AreRead, FileSteps}
 use Rattle.thf_include.proofs.Bounds.{AreBelow, AreBounded, file-bounded}
 
 -- one of the statements
@@ -25,7 +23,7 @@ below-all n (p ∷ ps) h zero d short = h.0
 below-all n (p ∷ ps) h (suc k) d short = below-all n ps h.1 k d (omega arith)
 
 -- nothing is opened before
-module _ (old : Opened) (none : old.names ≡ []) (whole : old.left ≡ MAX_BYTES) where
+module _ (old : Opened) (none : old.names ≡ []) (whole : old.left ≡ byte_limit) where
   begun : AreRead [] old
   begun = record { each = sym (ap length none); bytes = omega arith }
 

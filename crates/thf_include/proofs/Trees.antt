@@ -1,16 +1,16 @@
 -- The words of a file, statement by statement.
-use Rattle.std.proofs.Common.{◌≡◌, ℕ, suc, ◌+◌, ◌-◌, ◌<◌, ◌≤◌, List, [], ◌∷◌, length, drop, inl, inr, refl, sym, ap, arith, length-drop}
+use Rattle.std.proofs.Common.{ℕ, ◌+◌, ◌<◌, ◌≤◌, List, ◌∷◌, length, drop, inl, inr, ap, arith, length-drop}
 use Rattle.std.specs.List.{AllByRecursion}
 use Rattle.std.proofs.lemmas.List.{length-map}
 use Rattle.thf_lex.specs.declared.token.Token.{Token}
 use Rattle.thf_lex.specs.Reading.{Reads, gap, token, bad, end}
 use Rattle.thf_lex.proofs.Pieces.{token_front}
 use Rattle.thf_syntax.specs.Trees.{StatementTree}
-use Rattle.thf_parse.specs.Words.{Lexeme, lexeme, lexemes, Word, plain}
+use Rattle.thf_parse.specs.Words.{lexeme, Word, plain}
 use Rattle.thf_parse.specs.Statements.{IsStatement, IsFile, no_statement, more_statements}
 use Rattle.thf_parse.specs.Parsing.{depth_limit, AreWithin}
-use Rattle.thf_parse.specs.StatementReader.{statement}
-use Rattle.thf_parse.proofs.Goes.{IsShallow, here, there, Arrives, Goes}
+use Rattle.thf_parse.specs.Means.StatementReader.{statement}
+use Rattle.thf_parse.proofs.Goes.{IsShallow, here, there, Goes}
 use Rattle.thf_parse.proofs.StatementGoes.{goes-statement}
 use Rattle.thf_parse.proofs.StatementLocals.{statement-shorter}
 use Rattle.thf_include.specs.Gathering.{IsFileText}

@@ -7,8 +7,14 @@ use Rattle.thf_lex.specs.Reading.{AreTokens}
 use Rattle.thf_syntax.specs.Trees.{AnnotatedTree, SelectedTree, StatementTree, annotated, include}
 use Rattle.thf_parse.specs.Words.{lexemes}
 use Rattle.thf_parse.specs.Parsing.{depth_limit, HasTree, IsWrongAt, IsTooDeepAt}
-use Rattle.thf_include.specs.declared.limits.TheConstants.{MAX_BYTES, MAX_FILES}
 use Rattle.thf_include.specs.View.{PlacedTree}
+
+-- how many bytes the files of a problem may have together, and how many files may be opened; a file that is included twice counts twice
+abbrev pub byte_limit : ℕ
+byte_limit = 16777216
+
+abbrev pub file_limit : ℕ
+file_limit = 256
 
 -- why a gathering stops: a file that is wanted while the texts are at their end, or what is wrong with one
 pub data Stop : Type 0 where
@@ -71,17 +77,17 @@ mutual
   -- from the file with this number and this name
   pub data FileEnds (texts : List (List ℕ)) : List (List ℕ) → ℕ → List ℕ → List (List ℕ) → Ending → Type 0 where
     unread : (chain : List (List ℕ)) (file : ℕ) (name : List ℕ) → length texts ≤ file → FileEnds texts chain file name (name ∷ []) (stopped (wants file))
-    long : (chain : List (List ℕ)) (file : ℕ) (name : List ℕ) → file < length texts → MAX_BYTES < bytes_of texts (file + 1) → FileEnds texts chain file name (name ∷ []) (stopped (too_long file))
-    refused : (chain : List (List ℕ)) (file at : ℕ) (name text : List ℕ) → slice_get texts file ≡ Some text → bytes_of texts (file + 1) ≤ MAX_BYTES → IsRefusedText text at → FileEnds texts chain file name (name ∷ []) (stopped (no_tree file at))
-    followed : (chain opened : List (List ℕ)) (file : ℕ) (name text : List ℕ) (tree : List StatementTree) (ending : Ending) → slice_get texts file ≡ Some text → bytes_of texts (file + 1) ≤ MAX_BYTES → IsFileText text tree → StatementsEnd texts (name ∷ chain) file (file + 1) tree opened ending → FileEnds texts chain file name (name ∷ opened) ending
+    long : (chain : List (List ℕ)) (file : ℕ) (name : List ℕ) → file < length texts → byte_limit < bytes_of texts (file + 1) → FileEnds texts chain file name (name ∷ []) (stopped (too_long file))
+    refused : (chain : List (List ℕ)) (file at : ℕ) (name text : List ℕ) → slice_get texts file ≡ Some text → bytes_of texts (file + 1) ≤ byte_limit → IsRefusedText text at → FileEnds texts chain file name (name ∷ []) (stopped (no_tree file at))
+    followed : (chain opened : List (List ℕ)) (file : ℕ) (name text : List ℕ) (tree : List StatementTree) (ending : Ending) → slice_get texts file ≡ Some text → bytes_of texts (file + 1) ≤ byte_limit → IsFileText text tree → StatementsEnd texts (name ∷ chain) file (file + 1) tree opened ending → FileEnds texts chain file name (name ∷ opened) ending
 
   -- from a statement of the file with the first number, where the next file that is opened has the second
   pub data StatementEnds (texts : List (List ℕ)) : List (List ℕ) → ℕ → ℕ → StatementTree → List (List ℕ) → Ending → Type 0 where
     stays : (chain : List (List ℕ)) (file next : ℕ) (a : AnnotatedTree) → StatementEnds texts chain file next (annotated a) [] (done (placed file a ∷ []))
     in_cycle : (chain : List (List ℕ)) (file next at : ℕ) (name : List ℕ) (only : Option (List SelectedTree)) → Contains chain name → StatementEnds texts chain file next (include at name only) [] (stopped (cycle file at))
-    past_limit : (chain : List (List ℕ)) (file next at : ℕ) (name : List ℕ) (only : Option (List SelectedTree)) → (Contains chain name → ⊥) → MAX_FILES ≤ next → StatementEnds texts chain file next (include at name only) [] (stopped (too_many file at))
-    stops : (chain opened : List (List ℕ)) (file next at : ℕ) (name : List ℕ) (only : Option (List SelectedTree)) (why : Stop) → (Contains chain name → ⊥) → next < MAX_FILES → FileEnds texts chain next name opened (stopped why) → StatementEnds texts chain file next (include at name only) opened (stopped why)
-    selects : (chain opened : List (List ℕ)) (file next at : ℕ) (name : List ℕ) (only : Option (List SelectedTree)) (statements : List PlacedTree) → (Contains chain name → ⊥) → next < MAX_FILES → FileEnds texts chain next name opened (done statements) → StatementEnds texts chain file next (include at name only) opened (select file only statements)
+    past_limit : (chain : List (List ℕ)) (file next at : ℕ) (name : List ℕ) (only : Option (List SelectedTree)) → (Contains chain name → ⊥) → file_limit ≤ next → StatementEnds texts chain file next (include at name only) [] (stopped (too_many file at))
+    stops : (chain opened : List (List ℕ)) (file next at : ℕ) (name : List ℕ) (only : Option (List SelectedTree)) (why : Stop) → (Contains chain name → ⊥) → next < file_limit → FileEnds texts chain next name opened (stopped why) → StatementEnds texts chain file next (include at name only) opened (stopped why)
+    selects : (chain opened : List (List ℕ)) (file next at : ℕ) (name : List ℕ) (only : Option (List SelectedTree)) (statements : List PlacedTree) → (Contains chain name → ⊥) → next < file_limit → FileEnds texts chain next name opened (done statements) → StatementEnds texts chain file next (include at name only) opened (select file only statements)
 
   -- from statements in their order
   pub data StatementsEnd (texts : List (List ℕ)) : List (List ℕ) → ℕ → ℕ → List StatementTree → List (List ℕ) → Ending → Type 0 where

@@ -5,10 +5,11 @@ ghost use Rattle.outside.specs.Causes.{Rose};
 ghost use Rattle.thf_syntax.specs.Trees.{include};
 ghost use Rattle.thf_syntax.specs.View.{the_file, the_statement, the_selection};
 ghost use Rattle.thf_include.specs.Answer.{Gathers, OfFault};
-ghost use Rattle.thf_include.specs.Chain.{the_chain};
-ghost use Rattle.thf_include.specs.Names.{IsNamed, AreNamed};
-ghost use Rattle.thf_include.specs.Steps.{FileSteps, StatementSteps, StatementsStep};
+ghost use Rattle.thf_include.specs.Means.Chain.{the_chain};
+ghost use Rattle.thf_include.specs.Means.Names.{IsNamed, AreNamed};
+ghost use Rattle.thf_include.specs.Means.Steps.{FileSteps, StatementSteps, StatementsStep};
 ghost use Rattle.thf_include.specs.View.{the_statements};
+ghost use Rattle.thf_include.specs.Gathering.{file_limit};
 
 use crate::chain::Chain;
 use crate::limits::MAX_FILES;
@@ -75,7 +76,7 @@ fn gather_file<F: Files>(
     name: &str,
     gathered: &mut Gathered,
 ) -> Result<(), GatherRefused>
-    requires { length opened.old.names < MAX_FILES }
+    requires { length opened.old.names < file_limit }
     ensures steps { FileSteps (F.tells files.old) (F.contents files.old) (the_chain chain.now) name.now
         opened.old opened.new (the_statements gathered.old) (the_statements gathered.new) result }
     ensures fault { IfErr result (OfFault (λ file. IsSomeAnd (slice_get opened.new.names file) (λ n.

@@ -5,17 +5,11 @@ mod chain;
 mod gathered;
 mod gathering;
 mod law;
-#[cfg(test)]
-mod limit_tests;
 mod limits;
 mod names;
 mod opened;
-#[cfg(test)]
-mod problem_tests;
 mod refused;
 mod selection;
-#[cfg(test)]
-mod tests;
 mod text;
 
 pub use gathered::{Gathered, Placed};

@@ -2,9 +2,9 @@
 
 ghost use Rattle.std.specs.Prelude.{◌≡◌, ◌+◌, ◌∷◌, [], ◌++◌, ◌≤◌, ◌<◌, List, ℕ, Some, length, slice_get, IsSomeAnd, IfOk, IfErr, OnOk, IsTrue};
 ghost use Rattle.outside.specs.Causes.{Rose};
-ghost use Rattle.thf_include.specs.declared.limits.TheConstants.{MAX_BYTES};
+ghost use Rattle.thf_include.specs.Gathering.{byte_limit, file_limit};
 ghost use Rattle.thf_include.specs.Answer.{OfFault};
-ghost use Rattle.thf_include.specs.Opening.{IsReadRefusal};
+ghost use Rattle.thf_include.specs.Means.Opening.{IsReadRefusal};
 
 use crate::limits::{MAX_BYTES, MAX_FILES};
 use crate::{FileNames, GatherRefused};
@@ -16,13 +16,13 @@ use std::alloc::Global;
 pub struct Opened {
     pub names: FileNames,
     pub left: usize,
-    ghost within: { left ≤ MAX_BYTES },
+    ghost within: { left ≤ byte_limit },
 }
 
 impl Opened {
     pub fn new(alloc: Global) -> Self
         ensures names { result.names ≡ [] }
-        ensures left { result.left ≡ MAX_BYTES }
+        ensures left { result.left ≡ byte_limit }
     {
         Opened {
             names: FileNames::new(alloc),
@@ -37,7 +37,7 @@ impl Opened {
         files: &mut F,
         name: &str,
     ) -> Result<Bytes, GatherRefused>
-        requires { length self.old.names < MAX_FILES }
+        requires { length self.old.names < file_limit }
         ensures names { OnOk result (self.new.names ≡ self.old.names ++ name.now ∷ []) }
         ensures left { IfOk result (λ text. self.new.left + length text ≡ self.old.left) }
         ensures told { IfOk result (λ text. IsTrue (F.tells files.old) → F.contents files.old name.now ≡ Some text) }

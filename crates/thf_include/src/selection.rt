@@ -7,7 +7,7 @@ ghost use Rattle.thf_syntax.specs.View.{the_selection, the_selected};
 ghost use Rattle.thf_include.specs.View.{the_statements};
 ghost use Rattle.thf_include.specs.Gathering.{select, is_selected, is_missing};
 ghost use Rattle.thf_include.specs.Selection.{has_name};
-ghost use Rattle.thf_include.specs.Steps.{SelectsAs};
+ghost use Rattle.thf_include.specs.Means.Steps.{SelectsAs};
 
 use crate::{GatherRefused, Gathered};
 use std::alloc::{AllocError, Global};

@@ -7,7 +7,7 @@ use Rattle.std.proofs.lemmas.List.{length-take, length-take-le, get_or-take}
 use Rattle.std.proofs.lemmas.List.Sums.{prefix_len-le-length}
 use Rattle.thf_lex.specs.declared.token.TokenKind.TheVariants.{Bad}
 use Rattle.thf_lex.specs.Bytes.{is_white_space, is_in_line, percent, slash}
-use Rattle.thf_lex.specs.Kind.{kind_of}
+use Rattle.thf_lex.specs.Means.Kind.{kind_of}
 use Rattle.thf_lex.specs.Texts.{IsWhiteSpace, IsLineComment, IsBlockComment, IsClosedAt, IsGap}
 use Rattle.thf_lex.specs.Longest.{IsLongestGap, BeginsNothing}
 use Rattle.thf_lex.proofs.Pieces.{first_kind, longest_gap, no_gap}

@@ -3,7 +3,7 @@ use Rattle.std.proofs.Common.{◌≡◌, ◌≢◌, ℕ, ◌<◌, ◌≤◌, Lis
 use Rattle.std.proofs.lemmas.List.{length-take, get_or-take}
 use Rattle.thf_lex.specs.declared.token.TokenKind.{TokenKind}
 use Rattle.thf_lex.specs.declared.token.TokenKind.TheVariants.{Bad}
-use Rattle.thf_lex.specs.Kind.{kind_of}
+use Rattle.thf_lex.specs.Means.Kind.{kind_of}
 use Rattle.thf_lex.specs.Texts.{IsToken, IsGap}
 use Rattle.thf_lex.specs.Longest.{IsLongestToken, IsLongestGap, BeginsNothing}
 use Rattle.thf_lex.proofs.Firsts.{BeginsAs, token_begins, gap_begins}

@@ -2,7 +2,8 @@
 use Rattle.std.proofs.Common.{◌≢◌, ℕ, ◌≤◌, List, length, take, min, subst, sym, arith}
 use Rattle.std.proofs.lemmas.List.{length-take, take_min}
 use Rattle.std.specs.Prelude.{IsTrue}
-use Rattle.thf_lex.specs.Texts.{is_symbol, BeginsWithSymbol}
+use Rattle.thf_lex.specs.Texts.{is_symbol}
+use Rattle.thf_lex.specs.Means.Symbols.{BeginsWithSymbol}
 use Rattle.thf_lex.proofs.Firsts.{symbol_len_fits}
 
 other_length : (bytes : List ℕ) (n m : ℕ) → (BeginsWithSymbol n bytes → ⊥) → m ≤ length bytes → IsTrue (is_symbol (take m bytes)) → m ≢ n

@@ -1,6 +1,5 @@
 pub mod Bytes
-pub mod Kind
 pub mod Texts
 pub mod Longest
 pub mod Reading
-pub mod Piece
+pub mod Means

@@ -1,5 +1,5 @@
 -- The texts of each kind of token, and those that stand between tokens, after the syntax of the TPTP.
-use Rattle.std.specs.Prelude.{◌≡◌, ℕ, ◌+◌, ◌-◌, ◌<◌, ◌≤◌, Bool, ◌==◌, ◌⊎◌, IsTrue, List, [], ◌∷◌, ◌++◌, length, take, slice_index, codes}
+use Rattle.std.specs.Prelude.{◌≡◌, ℕ, ◌+◌, ◌-◌, ◌<◌, ◌≤◌, Bool, ◌==◌, ◌⊎◌, IsTrue, List, [], ◌∷◌, ◌++◌, length, slice_index, codes}
 use Rattle.std.specs.List.{AllPass, list_any}
 use Rattle.std.specs.Char.{is_ascii_lowercase, is_ascii_uppercase, is_ascii_digit}
 use Rattle.std.specs.Str.{bytes_eq}
@@ -54,10 +54,6 @@ symbols =
 -- the text is one of the symbols
 abbrev pub is_symbol : List ℕ → Bool
 is_symbol text = list_any (bytes_eq text) symbols
-
--- the first n bytes are a symbol
-abbrev pub BeginsWithSymbol : ℕ → List ℕ → Type 0
-BeginsWithSymbol n bytes = (n ≤ length bytes) × IsTrue (is_symbol (take n bytes))
 
 -- the texts of the tokens of a kind; the end and a bad byte are no texts
 abbrev pub IsToken : TokenKind → List ℕ → Type 0

@@ -8,8 +8,6 @@ mod lexer;
 mod piece;
 mod quoted;
 mod symbol;
-#[cfg(test)]
-mod tests;
 mod token;
 
 pub use law::one_reading;

@@ -5,10 +5,10 @@ use Rattle.thf_parse.specs.declared.refusal.Refusal.{Refusal}
 use Rattle.thf_parse.specs.declared.refusal.Refusal.TheVariants.{Wrong, TooDeep, Memory}
 use Rattle.thf_parse.specs.declared.terminal.Mark.TheVariants.{Comma}
 use Rattle.thf_parse.specs.Words.{Lexeme}
-use Rattle.thf_parse.specs.Outcome.{found, ◌>>=◌, first_terminal, behind, is_mark}
-use Rattle.thf_parse.specs.Passes.{IsRefusal}
-use Rattle.thf_parse.specs.NoteReader.{all_commas}
-use Rattle.thf_parse.specs.StatementReader.{label, more_label, labels}
+use Rattle.thf_parse.specs.Means.Outcome.{found, ◌>>=◌, first_terminal, behind, is_mark}
+use Rattle.thf_parse.specs.Means.Passes.{IsRefusal}
+use Rattle.thf_parse.specs.Means.NoteReader.{all_commas}
+use Rattle.thf_parse.specs.Means.StatementReader.{label, more_label, labels}
 use Rattle.thf_parse.proofs.Locals.{rest_of, rest-length}
 use Rattle.thf_parse.proofs.MarkLaws.{is_mark-is}
 use Rattle.thf_parse.proofs.CommaLaws.{all-more, all-last, all-wrong, all-deep, comma-shorter}

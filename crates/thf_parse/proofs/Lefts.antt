@@ -1,5 +1,5 @@
 -- What holds of all tokens holds of those that are left behind what is read.
-use Rattle.std.proofs.Common.{ℕ, List, ◌∷◌, Bool, Option}
+use Rattle.std.proofs.Common.{ℕ, List, Option}
 use Rattle.std.specs.List.{AllByRecursion}
 use Rattle.thf_syntax.specs.Trees.{TypeTree, VarTree, FormulaTree, BodyTree, SelectedTree, StatementTree}
 use Rattle.thf_syntax.specs.declared.formula.Conn.{Conn}

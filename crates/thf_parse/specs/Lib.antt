@@ -4,12 +4,6 @@ pub mod Types
 pub mod Formulas
 pub mod Notes
 pub mod Statements
-pub mod Outcome
-pub mod Reader
-pub mod FormulaReader
-pub mod NoteReader
-pub mod StatementReader
-pub mod Passes
-pub mod Reads
 pub mod Parsing
 pub mod Printable
+pub mod Means

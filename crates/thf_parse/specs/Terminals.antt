@@ -1,26 +1,13 @@
 -- What the grammar tells apart among tokens: the terminal of a token's kind and text.
-use Rattle.std.specs.Prelude.{ℕ, Bool, true, false, ◌&&◌, ◌||◌, ◌==◌, List, [], ◌∷◌, codes, if◌then◌else◌}
+use Rattle.std.specs.Prelude.{ℕ, true, false, ◌&&◌, ◌||◌, ◌==◌, List, [], ◌∷◌, codes, if◌then◌else◌}
 use Rattle.std.specs.Str.{bytes_eq}
 use Rattle.thf_lex.specs.declared.token.TokenKind.{TokenKind}
 use Rattle.thf_lex.specs.declared.token.TokenKind.TheVariants as kind
 use Rattle.thf_syntax.specs.declared.formula.Conn.TheVariants.{Not, And, Or, Imp, If, Iff, Xor, Nor, Nand}
 use Rattle.thf_syntax.specs.declared.formula.Binder.TheVariants.{All, Exists, Lam, Choice, Desc}
-use Rattle.thf_parse.specs.declared.terminal.Mark.{Mark}
 use Rattle.thf_parse.specs.declared.terminal.Mark.TheVariants as mark
 use Rattle.thf_parse.specs.declared.terminal.Terminal.{Terminal}
 use Rattle.thf_parse.specs.declared.terminal.Terminal.TheVariants as terminal
-
-abbrev pub same_mark : Mark → Mark → Bool
-same_mark mark.Open mark.Open = true
-same_mark mark.Close mark.Close = true
-same_mark mark.OpenList mark.OpenList = true
-same_mark mark.CloseList mark.CloseList = true
-same_mark mark.Comma mark.Comma = true
-same_mark mark.Stop mark.Stop = true
-same_mark mark.Colon mark.Colon = true
-same_mark mark.Arrow mark.Arrow = true
-same_mark mark.At mark.At = true
-same_mark _ _ = false
 
 -- `(`, `)`, `[`, `]`, `,`, `.`, `:`, `>`, `@`, `~`, `&`, `|`, `=`, `!`, `?` and `^`, in this order
 abbrev pub single : ℕ → Terminal

@@ -3,8 +3,8 @@ ghost use Rattle.std.specs.Prelude.{◌≡◌, [], ◌∷◌, ◌++◌, true, fa
 ghost use Rattle.thf_syntax.specs.View.{the_formula, the_vars};
 ghost use Rattle.thf_syntax.specs.declared.formula.Conn.TheVariants.{And, Or};
 ghost use Rattle.thf_parse.specs.Formulas as grammar;
-ghost use Rattle.thf_parse.specs.FormulaReader as reader;
-ghost use Rattle.thf_parse.specs.Reads.{ReadsFormula};
+ghost use Rattle.thf_parse.specs.Means.FormulaReader as reader;
+ghost use Rattle.thf_parse.specs.Means.Reads.{ReadsFormula};
 
 use crate::cursor::Cursor;
 use crate::refusal::Refusal;
@@ -65,7 +65,7 @@ fn truth(alloc: Global, value: bool, cursor: &mut Cursor) -> Result<Box<Surface>
 }
 
 #[cycle(formulas)]
-#[tactic(auto, unfolding(crate::specs::FormulaReader::inner))]
+#[tactic(auto, unfolding(crate::specs::Means::FormulaReader::inner))]
 fn negation(alloc: Global, room: u32, cursor: &mut Cursor) -> Result<Box<Surface>, Refusal>
     ensures { ReadsFormula cursor.new result (reader.negation_at (reader.inner room) cursor.old) }
 {
@@ -79,7 +79,7 @@ fn negation(alloc: Global, room: u32, cursor: &mut Cursor) -> Result<Box<Surface
 }
 
 #[cycle(formulas)]
-#[tactic(auto, unfolding(crate::specs::FormulaReader::inner))]
+#[tactic(auto, unfolding(crate::specs::Means::FormulaReader::inner))]
 fn group(alloc: Global, room: u32, cursor: &mut Cursor) -> Result<Box<Surface>, Refusal>
     ensures { ReadsFormula cursor.new result (reader.group_at (reader.inner room) cursor.old) }
 {
@@ -91,7 +91,7 @@ fn group(alloc: Global, room: u32, cursor: &mut Cursor) -> Result<Box<Surface>, 
 }
 
 #[cycle(formulas)]
-#[tactic(auto, unfolding(crate::specs::FormulaReader::primary))]
+#[tactic(auto, unfolding(crate::specs::Means::FormulaReader::primary))]
 fn primary(alloc: Global, room: u32, cursor: &mut Cursor) -> Result<Box<Surface>, Refusal>
     ensures { ReadsFormula cursor.new result (reader.primary (reader.inner room) cursor.old) }
 {
@@ -106,7 +106,7 @@ fn primary(alloc: Global, room: u32, cursor: &mut Cursor) -> Result<Box<Surface>
 
 /// A primary formula or a binder's.
 #[cycle(formulas)]
-#[tactic(auto, unfolding(crate::specs::FormulaReader::unitary))]
+#[tactic(auto, unfolding(crate::specs::Means::FormulaReader::unitary))]
 fn unitary(alloc: Global, room: u32, cursor: &mut Cursor) -> Result<Box<Surface>, Refusal>
     ensures { ReadsFormula cursor.new result (reader.unitary (reader.inner room) cursor.old) }
 {
@@ -118,7 +118,7 @@ fn unitary(alloc: Global, room: u32, cursor: &mut Cursor) -> Result<Box<Surface>
 
 /// A unitary formula or a negation.
 #[cycle(formulas)]
-#[tactic(auto, unfolding(crate::specs::FormulaReader::operand))]
+#[tactic(auto, unfolding(crate::specs::Means::FormulaReader::operand))]
 fn operand(alloc: Global, room: u32, cursor: &mut Cursor) -> Result<Box<Surface>, Refusal>
     ensures { ReadsFormula cursor.new result (reader.operand (reader.inner room) cursor.old) }
 {
@@ -130,7 +130,7 @@ fn operand(alloc: Global, room: u32, cursor: &mut Cursor) -> Result<Box<Surface>
 
 /// The equation with `left` on its left, where the tokens begin with its sign.
 #[cycle(formulas)]
-#[tactic(auto, unfolding(crate::specs::FormulaReader::right_side))]
+#[tactic(auto, unfolding(crate::specs::Means::FormulaReader::right_side))]
 fn right_side(
     alloc: Global,
     room: u32,
@@ -153,7 +153,7 @@ fn right_side(
 }
 
 #[cycle(formulas)]
-#[tactic(auto, unfolding(crate::specs::FormulaReader::unit))]
+#[tactic(auto, unfolding(crate::specs::Means::FormulaReader::unit))]
 fn unit(alloc: Global, room: u32, cursor: &mut Cursor) -> Result<Box<Surface>, Refusal>
     ensures { ReadsFormula cursor.new result (reader.unit (reader.inner room) cursor.old) }
 {
@@ -172,7 +172,7 @@ fn unit(alloc: Global, room: u32, cursor: &mut Cursor) -> Result<Box<Surface>, R
 
 /// The binder's formula that begins with the first token.
 #[cycle(formulas)]
-#[tactic(auto, unfolding(crate::specs::FormulaReader::binder_at, crate::specs::FormulaReader::inner))]
+#[tactic(auto, unfolding(crate::specs::Means::FormulaReader::binder_at, crate::specs::Means::FormulaReader::inner))]
 fn bind(
     alloc: Global,
     room: u32,
@@ -198,7 +198,7 @@ fn bind(
 
 /// The rest of a binder's formula from a variable on.
 #[cycle(formulas)]
-#[tactic(auto, unfolding(crate::specs::FormulaReader::next_variable, crate::specs::FormulaReader::inner))]
+#[tactic(auto, unfolding(crate::specs::Means::FormulaReader::next_variable, crate::specs::Means::FormulaReader::inner))]
 fn next_variable(
     alloc: Global,
     room: u32,
@@ -221,7 +221,7 @@ fn next_variable(
 
 /// The rest of a binder's formula from a variable on that is counted.
 #[cycle(formulas)]
-#[tactic(auto, unfolding(crate::specs::FormulaReader::bound, crate::specs::FormulaReader::inner))]
+#[tactic(auto, unfolding(crate::specs::Means::FormulaReader::bound, crate::specs::Means::FormulaReader::inner))]
 fn variables(
     alloc: Global,
     room: u32,
@@ -241,7 +241,7 @@ fn variables(
 
 /// The rest of a binder's formula behind a variable.
 #[cycle(formulas)]
-#[tactic(auto, unfolding(crate::specs::FormulaReader::behind_variable))]
+#[tactic(auto, unfolding(crate::specs::Means::FormulaReader::behind_variable))]
 fn behind_variable(
     alloc: Global,
     room: u32,
@@ -269,7 +269,7 @@ fn behind_variable(
 
 /// A binder's formula, from the colon before its body on.
 #[cycle(formulas)]
-#[tactic(auto, unfolding(crate::specs::FormulaReader::body))]
+#[tactic(auto, unfolding(crate::specs::Means::FormulaReader::body))]
 fn body(
     alloc: Global,
     room: u32,
@@ -292,7 +292,7 @@ fn body(
 
 /// The chain of `conn` from its operator on, where `left` is the tree of the operands before.
 #[cycle(formulas)]
-#[tactic(auto, unfolding(crate::specs::FormulaReader::links))]
+#[tactic(auto, unfolding(crate::specs::Means::FormulaReader::links))]
 fn links(
     alloc: Global,
     room: u32,
@@ -311,7 +311,7 @@ fn links(
 
 /// The chain of `conn` from an operator on that is there.
 #[cycle(formulas)]
-#[tactic(auto, unfolding(crate::specs::FormulaReader::inner))]
+#[tactic(auto, unfolding(crate::specs::Means::FormulaReader::inner))]
 fn next_link(
     alloc: Global,
     room: u32,
@@ -338,7 +338,7 @@ fn next_link(
 
 /// What is applied to further arguments, from their `@` on, where `left` is the tree of what stands before.
 #[cycle(formulas)]
-#[tactic(auto, unfolding(crate::specs::FormulaReader::arguments))]
+#[tactic(auto, unfolding(crate::specs::Means::FormulaReader::arguments))]
 fn arguments(
     alloc: Global,
     room: u32,
@@ -355,7 +355,7 @@ fn arguments(
 
 /// What is applied to further arguments, from an `@` on that is there.
 #[cycle(formulas)]
-#[tactic(auto, unfolding(crate::specs::FormulaReader::inner))]
+#[tactic(auto, unfolding(crate::specs::Means::FormulaReader::inner))]
 fn next_argument(
     alloc: Global,
     room: u32,
@@ -376,7 +376,7 @@ fn next_argument(
 
 /// The argument of `!!` or `??`, and those behind it, from the `@` on.
 #[cycle(formulas)]
-#[tactic(auto, unfolding(crate::specs::FormulaReader::quantified_at, crate::specs::FormulaReader::inner))]
+#[tactic(auto, unfolding(crate::specs::Means::FormulaReader::quantified_at, crate::specs::Means::FormulaReader::inner))]
 fn quantified(
     alloc: Global,
     room: u32,
@@ -402,7 +402,7 @@ fn quantified(
 
 /// The formula of a connective that has two operands, from the connective on.
 #[cycle(formulas)]
-#[tactic(auto, unfolding(crate::specs::FormulaReader::second))]
+#[tactic(auto, unfolding(crate::specs::Means::FormulaReader::second))]
 fn second(
     alloc: Global,
     room: u32,
@@ -426,7 +426,7 @@ fn second(
 
 /// The formula whose first unit is `left`.
 #[cycle(formulas)]
-#[tactic(auto, unfolding(crate::specs::FormulaReader::tail))]
+#[tactic(auto, unfolding(crate::specs::Means::FormulaReader::tail))]
 fn tail(
     alloc: Global,
     room: u32,
@@ -446,7 +446,7 @@ fn tail(
 
 /// The formula that begins with the unitary formula `left`, which isn't a side of an equation.
 #[cycle(formulas)]
-#[tactic(auto, unfolding(crate::specs::FormulaReader::applied))]
+#[tactic(auto, unfolding(crate::specs::Means::FormulaReader::applied))]
 fn applied(
     alloc: Global,
     room: u32,
@@ -463,7 +463,7 @@ fn applied(
 
 /// The formula that begins with the primary formula `left`.
 #[cycle(formulas)]
-#[tactic(auto, unfolding(crate::specs::FormulaReader::behind_primary))]
+#[tactic(auto, unfolding(crate::specs::Means::FormulaReader::behind_primary))]
 fn behind_primary(
     alloc: Global,
     room: u32,
@@ -482,7 +482,7 @@ fn behind_primary(
 }
 
 #[cycle(formulas)]
-#[tactic(auto, unfolding(crate::specs::FormulaReader::formula))]
+#[tactic(auto, unfolding(crate::specs::Means::FormulaReader::formula))]
 pub fn formula(alloc: Global, room: u32, cursor: &mut Cursor) -> Result<Box<Surface>, Refusal>
     ensures { ReadsFormula cursor.new result (reader.formula (reader.inner room) cursor.old) }
 {
@@ -507,7 +507,7 @@ pub fn formula(alloc: Global, room: u32, cursor: &mut Cursor) -> Result<Box<Surf
 }
 
 /// A connective alone, up to the `)` behind it.
-#[tactic(auto, unfolding(crate::specs::FormulaReader::lone))]
+#[tactic(auto, unfolding(crate::specs::Means::FormulaReader::lone))]
 fn lone(alloc: Global, conn: Conn, cursor: &mut Cursor) -> Result<Box<Surface>, Refusal>
     ensures { ReadsFormula cursor.new result (reader.lone conn cursor.old) }
 {
@@ -519,7 +519,7 @@ fn lone(alloc: Global, conn: Conn, cursor: &mut Cursor) -> Result<Box<Surface>, 
 
 /// What stands behind a `(` and begins with a `~`, up to its `)`.
 #[cycle(formulas)]
-#[tactic(auto, unfolding(crate::specs::FormulaReader::inner))]
+#[tactic(auto, unfolding(crate::specs::Means::FormulaReader::inner))]
 fn negated(alloc: Global, room: u32, cursor: &mut Cursor) -> Result<Box<Surface>, Refusal>
     ensures { ReadsFormula cursor.new result (reader.negated_at (reader.inner room) cursor.old) }
 {
@@ -540,7 +540,7 @@ fn negated(alloc: Global, room: u32, cursor: &mut Cursor) -> Result<Box<Surface>
 
 /// What is negated behind a `(` and a `~` at the place `at`, and what follows it, up to the `)`.
 #[cycle(formulas)]
-#[tactic(auto, unfolding(crate::specs::FormulaReader::inner))]
+#[tactic(auto, unfolding(crate::specs::Means::FormulaReader::inner))]
 fn negated_operand(
     alloc: Global,
     room: u32,
@@ -568,7 +568,7 @@ fn closed(inside: Box<Surface>, cursor: &mut Cursor) -> Result<Box<Surface>, Ref
 
 /// What stands behind a `(`, up to its `)`.
 #[cycle(formulas)]
-#[tactic(auto, unfolding(crate::specs::FormulaReader::grouped))]
+#[tactic(auto, unfolding(crate::specs::Means::FormulaReader::grouped))]
 fn grouped(alloc: Global, room: u32, cursor: &mut Cursor) -> Result<Box<Surface>, Refusal>
     ensures { ReadsFormula cursor.new result (reader.grouped (reader.inner room) cursor.old) }
 {

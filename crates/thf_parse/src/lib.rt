@@ -2,8 +2,6 @@
 #![tactic(auto)]
 
 mod cursor;
-#[cfg(test)]
-mod deep_tests;
 mod formula;
 mod include;
 mod law;
@@ -12,8 +10,6 @@ mod parser;
 mod refusal;
 mod statement;
 mod terminal;
-#[cfg(test)]
-mod tests;
 mod types;
 mod typing;
 mod variable;

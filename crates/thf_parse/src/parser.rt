@@ -3,9 +3,9 @@ ghost use Rattle.std.specs.Prelude.{◌≡◌, ◌∷◌, [], ◌++◌, map, IfO
 ghost use Rattle.thf_lex.specs.Reading.{AreTokens};
 ghost use Rattle.thf_syntax.specs.View.{the_statement, the_file};
 ghost use Rattle.thf_parse.specs.Words.{lexemes};
-ghost use Rattle.thf_parse.specs.StatementReader as reader;
+ghost use Rattle.thf_parse.specs.Means.StatementReader as reader;
 ghost use Rattle.thf_parse.specs.Parsing.{depth_limit, HasTree, IsRefusedAt};
-ghost use Rattle.thf_parse.specs.Reads.{ReadsFile};
+ghost use Rattle.thf_parse.specs.Means.Reads.{ReadsFile};
 
 use crate::cursor::Cursor;
 use crate::refusal::Refusal;
@@ -14,17 +14,21 @@ use crate::terminal::Terminal;
 use std::alloc::{AllocError, Global};
 use thf_lex::Tokens;
 use thf_syntax::{FileTree, Statement};
+use thiserror::Error;
 
 /// How many things may be open at once in a body or in notes.
 pub const MAX_DEPTH: u32 = 512;
 
 /// Why tokens have no tree, or want of memory. Each `at` is the byte place of a token.
-#[derive(Debug, Drop)]
+#[derive(Debug, Drop, Error)]
 pub enum ParseRefused {
     /// The first token with which the tokens begin no file.
+    #[error("byte {at}: a wrong token")]
     At { at: u32 },
-    /// The first token at which more than `MAX_DEPTH` things are open.
+    /// The first token at which more than 512 things are open.
+    #[error("byte {at}: a token that is too deep")]
     TooDeep { at: u32 },
+    #[error("no memory is left")]
     Memory,
 }
 

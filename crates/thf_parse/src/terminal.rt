@@ -1,7 +1,8 @@
 //! What the grammar tells apart among tokens.
 ghost use Rattle.std.specs.Prelude.{◌≡◌, [], ◌∷◌};
 ghost use Rattle.thf_parse.specs.Terminals as spec;
-ghost use Rattle.thf_parse.specs.Outcome.{is_mark};
+ghost use Rattle.thf_parse.specs.Means.Outcome.{is_mark};
+ghost use Rattle.thf_parse.specs.Means.Marks.{same_mark};
 
 use thf_lex::TokenKind;
 use thf_syntax::{Binder, Conn};
@@ -22,7 +23,7 @@ pub enum Mark {
 
 impl Mark {
     pub fn is(self, other: Mark) -> bool
-        ensures { result ≡ spec.same_mark self other }
+        ensures { result ≡ same_mark self other }
     {
         matches!(
             (self, other),

@@ -1,9 +1,9 @@
 //! The variables of binders.
 ghost use Rattle.std.specs.Prelude.{◌≡◌, [], ◌∷◌, ◌++◌, IfOk};
 ghost use Rattle.thf_syntax.specs.View.{the_var, the_vars};
-ghost use Rattle.thf_parse.specs.Reader.{inner_type, type_with};
-ghost use Rattle.thf_parse.specs.FormulaReader as reader;
-ghost use Rattle.thf_parse.specs.Reads.{ReadsVar};
+ghost use Rattle.thf_parse.specs.Means.Reader.{inner_type, type_with};
+ghost use Rattle.thf_parse.specs.Means.FormulaReader as reader;
+ghost use Rattle.thf_parse.specs.Means.Reads.{ReadsVar};
 
 use crate::cursor::Cursor;
 use crate::refusal::Refusal;
@@ -13,7 +13,7 @@ use std::alloc::{AllocError, Global};
 use thf_syntax::{SurfaceTy, SurfaceVar, SurfaceVars};
 
 /// The variable whose name is the first token, where `room` more things may be open at once.
-#[tactic(auto, unfolding(crate::specs::FormulaReader::variable_at))]
+#[tactic(auto, unfolding(crate::specs::Means::FormulaReader::variable_at))]
 pub fn variable(alloc: Global, room: u32, cursor: &mut Cursor) -> Result<SurfaceVar, Refusal>
     ensures { ReadsVar cursor.new result (reader.variable_at (type_with (inner_type room)) cursor.old) }
 {

@@ -1,21 +1,19 @@
 -- The pieces of a tree that the grammar has are apart.
-use Rattle.std.proofs.Common.{◌≡◌, ◌≢◌, ℕ, suc, Bool, true, false, ◌||◌, List, [], ◌∷◌, Option, Some, None, codes, refl, ap, ◌∙◌}
-use Rattle.std.specs.Prelude.{IsTrue}
+use Rattle.std.proofs.Common.{◌≡◌, ℕ, suc, Bool, true, false, List, [], ◌∷◌, Option, Some, None, codes, refl}
 use Rattle.std.proofs.lemmas.Bool.{or_right}
 use Rattle.thf_lex.specs.declared.token.TokenKind.{TokenKind}
-use Rattle.thf_lex.specs.declared.token.TokenKind.TheVariants.{Lower, Upper, Quoted, Dollar, Integer, Symbol}
+use Rattle.thf_lex.specs.declared.token.TokenKind.TheVariants.{Lower, Upper, Quoted, Dollar, Symbol}
 use Rattle.thf_lex.specs.Texts.{IsToken}
-use Rattle.thf_syntax.specs.Trees.{TypeTree, form, indiv, named, arrow, VarTree, FormulaTree, constant, variable, truth, operator, negation, binary, equation, application, quantified, binding, BodyTree, base, typing, formula, AnnotatedTree, SelectedTree, StatementTree, annotated, include}
+use Rattle.thf_syntax.specs.Trees.{TypeTree, form, indiv, named, arrow, VarTree, FormulaTree, constant, variable, truth, operator, negation, binary, equation, application, quantified, binding, BodyTree, base, typing, formula, SelectedTree, StatementTree, annotated, include}
 use Rattle.thf_syntax.specs.declared.formula.Conn.{Conn}
 use Rattle.thf_syntax.specs.declared.formula.Conn.TheVariants.{Not, And, Or, Imp, If, Iff, Xor, Nor, Nand}
 use Rattle.thf_syntax.specs.declared.formula.Binder.{Binder}
 use Rattle.thf_syntax.specs.declared.formula.Binder.TheVariants.{All, Exists, Lam, Choice, Desc}
-use Rattle.thf_parse.specs.Formulas.{lone_depth}
 use Rattle.thf_print.specs.declared.slot.Slot.TheVariants.{Primary, Unitary, Head, Operand, Member}
 use Rattle.thf_print.specs.Names.{is_lower_word, quoted, name_text, label_text}
 use Rattle.thf_print.specs.Slots.{left_slot, takes, is_simple}
 use Rattle.thf_print.specs.Texts.{conn_text, binder_text, truth_text, equality_text, quantifier_text}
-use Rattle.thf_print.proofs.Pieces.{Piece, token, gap, is_mark, stops, begins, AreApart}
+use Rattle.thf_print.proofs.Pieces.{Piece, token, is_mark, stops, begins, AreApart}
 use Rattle.thf_print.proofs.Printed.{space, name_kind, label_kind, label_piece, grouped, type_pieces, var_pieces, vars_pieces, behind_vars, conn_depth, behind_arguments, infixed_pieces, formula_pieces, body_pieces, labels_pieces, selection_pieces, end_pieces, statement_pieces, file_pieces}
 use Rattle.thf_print.proofs.Proper.{IsProperType, AreProperVars, IsProperVar, IsProper, IsProperBody, AreProperLabels, IsProperSelection, IsProperStatement, AreProperStatements}
 use Rattle.thf_print.proofs.Spelling.{is_nameable, lower-token, quoted-token, name-token, label-token}

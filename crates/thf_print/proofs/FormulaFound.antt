@@ -1,5 +1,5 @@
 -- The pieces of formulas are read as these.
-use Rattle.std.proofs.Common.{◌≡◌, ℕ, suc, ◌+◌, Bool, true, false, inl, inr, List, [], ◌∷◌, length, map, codes, refl, ap, ap₂, ◌∙◌, subst, sym}
+use Rattle.std.proofs.Common.{◌≡◌, ℕ, suc, ◌+◌, Bool, true, false, inl, inr, List, ◌∷◌, length, codes, refl, ap, ap₂, subst, sym}
 use Rattle.thf_lex.specs.declared.token.TokenKind.TheVariants as kind
 use Rattle.thf_syntax.specs.Trees.{VarTree, FormulaTree, constant, variable, truth, operator, negation, binary, equation, application, quantified, binding}
 use Rattle.thf_syntax.specs.declared.formula.Conn.{Conn}
@@ -7,16 +7,16 @@ use Rattle.thf_syntax.specs.declared.formula.Conn.TheVariants.{Not, And, Or, Imp
 use Rattle.thf_syntax.specs.declared.formula.Binder.{Binder}
 use Rattle.thf_parse.specs.declared.terminal.Mark.TheVariants as mark
 use Rattle.thf_parse.specs.declared.terminal.Terminal.TheVariants as terminal
-use Rattle.thf_parse.specs.Words.{Word, place, Is, name}
+use Rattle.thf_parse.specs.Words.{Word, place, Is}
 use Rattle.thf_parse.specs.Formulas as grammar
 use Rattle.thf_parse.specs.Formulas.{IsFormula, AreLinks, AreArguments, IsUnit, IsOperand, IsNegation, IsUnitary, IsPrimary, IsBinder, is_chained, is_nonassoc, lone_depth}
 use Rattle.thf_print.specs.declared.slot.Slot.{Slot}
 use Rattle.thf_print.specs.declared.slot.Slot.TheVariants.{Primary, Unitary, Head, Operand, Member, Conjunction, Disjunction}
 use Rattle.thf_print.specs.Slots.{takes}
 use Rattle.thf_print.specs.Texts.{conn_text, binder_text, truth_text, equality_text, quantifier_text}
-use Rattle.thf_print.specs.Places.{bare_var, bare_formula}
-use Rattle.thf_print.proofs.Pieces.{Piece, token, gap, word_at, words_at}
-use Rattle.thf_print.proofs.Printed.{space, grouped, vars_pieces, behind_vars, behind_links, behind_arguments, infixed_pieces, formula_pieces}
+use Rattle.thf_print.specs.Places.{bare_formula}
+use Rattle.thf_print.proofs.Pieces.{Piece, token, word_at, words_at}
+use Rattle.thf_print.proofs.Printed.{space, grouped, behind_vars, behind_links, behind_arguments, infixed_pieces, formula_pieces}
 use Rattle.thf_print.proofs.Proper.{AreProperVars, IsInfix, IsProper}
 use Rattle.thf_print.proofs.Found.{Found, found-as, is-word, is_name-word, name-name_word, name-word, symbol-conn, symbol-binder, symbol-equality, symbol-quantifier, dollar-truth}
 use Rattle.thf_print.proofs.Found as found

@@ -1,10 +1,10 @@
 -- The trees that tokens have are proper, where the tokens' texts are of their kinds.
-use Rattle.std.proofs.Common.{◌≡◌, ◌≢◌, ℕ, suc, Bool, true, false, inl, inr, List, [], ◌∷◌, Option, Some, None, refl, codes}
+use Rattle.std.proofs.Common.{◌≡◌, ℕ, true, inl, inr, List, [], ◌∷◌, Option, codes}
 use Rattle.std.specs.List.{AllByRecursion}
 use Rattle.thf_syntax.specs.Trees.{TypeTree, VarTree, FormulaTree, BodyTree, SelectedTree, StatementTree}
 use Rattle.thf_syntax.specs.declared.formula.Conn.{Conn}
 use Rattle.thf_syntax.specs.declared.formula.Binder.{Binder}
-use Rattle.thf_parse.specs.Words.{Word, name}
+use Rattle.thf_parse.specs.Words.{Word}
 use Rattle.thf_parse.specs.Types.{IsType, simple_type, arrow_type, IsSimpleType, indiv_type, form_type, named_type, group_type, IsVar, plain_var, typed_var}
 use Rattle.thf_parse.specs.Formulas.{IsFormula, unit_formula, pair_formula, chain_formula, apply_formula, quantified_formula, AreLinks, no_links, more_links, AreArguments, no_arguments, more_arguments, IsUnit, unitary_unit, negation_unit, equation_unit, IsOperand, unitary_operand, negation_operand, IsNegation, negated, IsUnitary, primary_unitary, binder_unitary, IsPrimary, constant_primary, variable_primary, truth_primary, group_primary, operator_primary, IsBinder, bound, AreVars, last_var, more_vars, is_chained, binds_many}
 use Rattle.thf_parse.specs.Notes.{AreNotes, no_notes, one_note, two_notes, IsGeneral, data_general, pair_general, empty_general, list_general, AreGenerals, last_general, more_generals, IsData, name_data, call_data, upper_data, integer_data, distinct_data}

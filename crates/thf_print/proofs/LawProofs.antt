@@ -1,14 +1,14 @@
 -- The text of a tree that some tokens have is one of it.
-use Rattle.std.proofs.Common.{◌≡◌, ℕ, ◌+◌, Bool, List, [], ◌∷◌, refl, sym, ap, subst, ◌∙◌}
+use Rattle.std.proofs.Common.{ℕ, Bool, List, [], ◌∷◌, refl, sym, subst, ◌∙◌}
 use Rattle.thf_lex.specs.Reading.{AreTokens}
 use Rattle.thf_syntax.specs.Trees.{StatementTree}
 use Rattle.thf_parse.specs.Words.{Word, plain}
 use Rattle.std.specs.List.{AllByRecursion}
 use Rattle.thf_print.specs.Texts.{surface_text}
 use Rattle.thf_print.specs.Law.{IsSpelled, IsPrintable, IsTextOf, AppendsTextOf}
-use Rattle.thf_print.specs.Writing.{Took}
+use Rattle.outside.specs.Writing.{Took}
 use Rattle.std.specs.Prelude.{IsTrue}
-use Rattle.thf_print.proofs.Pieces.{bytes_of, words_at, tokens_at}
+use Rattle.thf_print.proofs.Pieces.{words_at, tokens_at}
 use Rattle.thf_print.proofs.Printed.{file_pieces}
 use Rattle.thf_print.proofs.PrintedTexts.{bytes_of-file_pieces}
 use Rattle.thf_print.proofs.Proper.{AreProperStatements}

@@ -1,6 +1,6 @@
 -- Pieces that are apart are read as their tokens.
-use Rattle.std.proofs.Common.{◌≡◌, ◌≢◌, ℕ, zero, suc, ◌+◌, ◌-◌, ◌<◌, ◌≤◌, Bool, true, false, not, ◌&&◌, ◌||◌, ◌⊎◌, inl, inr, List, [], ◌∷◌, ◌++◌, length, take, drop, get_or, map, refl, sym, ap, subst, ◌∙◌, arith, leb, eqb, codes, length-append, append_assoc, append-nil}
-use Rattle.std.specs.Prelude.{IsTrue, slice_range}
+use Rattle.std.proofs.Common.{◌≡◌, ◌≢◌, ℕ, suc, ◌+◌, ◌-◌, ◌<◌, ◌≤◌, Bool, true, false, not, ◌||◌, ◌⊎◌, inl, inr, List, [], ◌∷◌, ◌++◌, length, take, drop, get_or, refl, sym, ap, subst, ◌∙◌, arith, leb, eqb, codes, length-append, append_assoc}
+use Rattle.std.specs.Prelude.{IsTrue}
 use Rattle.std.specs.List.{list_any, list_all, prefix_len, AllPass}
 use Rattle.std.specs.Str.{bytes_eq}
 use Rattle.std.specs.Cmp.Lexicographic.{same_text}
@@ -13,13 +13,13 @@ use Rattle.std.proofs.lemmas.List.Sums.{list_all-from_AllPass}
 use Rattle.thf_lex.specs.declared.token.TokenKind.{TokenKind}
 use Rattle.thf_lex.specs.declared.token.TokenKind.TheVariants.{Lower, Upper, Quoted, Dollar, Integer, Distinct, Symbol, End, Bad}
 use Rattle.thf_lex.specs.Bytes.{is_white_space, is_word_byte, is_sign, backslash, single_quote, double_quote}
-use Rattle.thf_lex.specs.Kind.{kind_of}
+use Rattle.thf_lex.specs.Means.Kind.{kind_of}
 use Rattle.thf_lex.specs.Texts.{IsToken, IsQuotedBy, AreCharacters, none, plain, escape, is_symbol, symbols}
 use Rattle.thf_lex.specs.Longest.{IsLongestToken, IsLongestGap}
 use Rattle.thf_lex.specs.Reading as reading
 use Rattle.thf_lex.specs.Reading.{Reads}
 use Rattle.thf_lex.proofs.Firsts.{token_begins, gap_begins, symbol_len_fits}
-use Rattle.thf_lex.proofs.Pieces.{first_kind, longest_token}
+use Rattle.thf_lex.proofs.Pieces.{longest_token}
 use Rattle.thf_lex.proofs.Gaps.{white_space}
 use Rattle.thf_lex.proofs.Quotes.{Closes, closes_only_here, closes_behind_plain, closes_behind_escape, closes_from_quoted}
 use Rattle.thf_lex.proofs.Words.{letter_word, unsigned_integer, signed_integer, dollar_word}

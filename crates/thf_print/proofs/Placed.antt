@@ -1,10 +1,10 @@
 -- The tokens of pieces, with their texts and places.
-use Rattle.std.proofs.Common.{◌≡◌, ℕ, ◌+◌, ◌-◌, List, [], ◌∷◌, ◌++◌, length, take, drop, refl, sym, ap, ap₂, ◌∙◌, arith, length-append, append_assoc}
+use Rattle.std.proofs.Common.{◌≡◌, ℕ, ◌+◌, ◌-◌, List, [], ◌∷◌, ◌++◌, length, take, drop, sym, ap, ap₂, ◌∙◌, arith, length-append, append_assoc}
 use Rattle.std.specs.Prelude.{slice_range}
 use Rattle.std.proofs.Math.Seq.{take-append_seam, drop-append_seam}
 use Rattle.thf_lex.specs.declared.token.TokenKind.{TokenKind}
 use Rattle.thf_lex.specs.declared.token.TokenKind.TheVariants as kind
-use Rattle.thf_parse.specs.Words.{Lexeme, Word, lexemes, plain}
+use Rattle.thf_parse.specs.Words.{Lexeme, lexemes, plain}
 use Rattle.thf_print.proofs.Pieces.{Piece, token, gap, bytes_of, words_at, tokens_at}
 
 abbrev lexeme_at : TokenKind → ℕ → List ℕ → Lexeme

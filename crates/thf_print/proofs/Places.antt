@@ -1,13 +1,12 @@
 -- The text of a tree doesn't depend on its places.
-use Rattle.std.proofs.Common.{◌≡◌, ℕ, Bool, List, [], ◌∷◌, ◌++◌, map, Option, Some, None, codes, refl, sym, ap, ap₂, ◌∙◌}
-use Rattle.std.specs.List.{flat_map}
-use Rattle.thf_syntax.specs.Trees.{TypeTree, form, indiv, named, arrow, VarTree, FormulaTree, constant, variable, truth, operator, negation, binary, equation, application, quantified, binding, BodyTree, base, typing, formula, AnnotatedTree, SelectedTree, StatementTree, annotated, include}
+use Rattle.std.proofs.Common.{◌≡◌, ℕ, List, [], ◌∷◌, ◌++◌, map, Option, Some, None, codes, refl, sym, ap, ap₂, ◌∙◌}
+use Rattle.thf_syntax.specs.Trees.{TypeTree, form, indiv, named, arrow, VarTree, FormulaTree, constant, variable, truth, operator, negation, binary, equation, application, quantified, binding, BodyTree, base, typing, formula, SelectedTree, StatementTree, annotated, include}
 use Rattle.thf_print.specs.declared.slot.Slot.{Slot}
 use Rattle.thf_print.specs.declared.slot.Slot.TheVariants.{Primary, Unitary, Head, Operand, Member}
 use Rattle.thf_print.specs.Names.{quoted, name_text, label_text}
 use Rattle.thf_print.specs.Slots.{left_slot, takes, is_simple}
-use Rattle.thf_print.specs.Texts.{grouped_unless, separated, type_text, var_text, conn_text, binder_text, truth_text, equality_text, quantifier_text, infixed, formula_text, body_text, selected_text, selection_text, heading_text, annotated_text, statement_text, surface_text}
-use Rattle.thf_print.specs.Places.{bare_type, bare_var, bare_formula, bare_body, bare_annotated, bare_selected, bare_selection, bare_statement, SamePlacesAside}
+use Rattle.thf_print.specs.Texts.{grouped_unless, separated, type_text, var_text, conn_text, binder_text, equality_text, quantifier_text, infixed, formula_text, body_text, selected_text, selection_text, heading_text, statement_text, surface_text}
+use Rattle.thf_print.specs.Places.{bare_type, bare_var, bare_formula, bare_body, bare_selected, bare_selection, bare_statement, SamePlacesAside}
 
 is_simple-bare_type : (t : TypeTree) → is_simple (bare_type t) ≡ is_simple t
 is_simple-bare_type (form at) = refl

@@ -1,12 +1,11 @@
 -- The pieces of a tree make its text.
 use Rattle.std.proofs.Common.{◌≡◌, ℕ, suc, Bool, true, false, List, [], ◌∷◌, ◌++◌, map, Option, Some, None, codes, refl, sym, ap, ◌∙◌, append_assoc}
-use Rattle.std.specs.List.{flat_map}
 use Rattle.thf_syntax.specs.Trees.{TypeTree, form, indiv, named, arrow, VarTree, FormulaTree, constant, variable, truth, operator, negation, binary, equation, application, quantified, binding, BodyTree, base, typing, formula, AnnotatedTree, SelectedTree, StatementTree, annotated, include}
 use Rattle.thf_print.specs.declared.slot.Slot.TheVariants.{Primary, Unitary, Head, Operand, Member}
 use Rattle.thf_print.specs.Names.{quoted, name_text, label_text}
 use Rattle.thf_print.specs.Slots.{left_slot, takes, is_simple}
-use Rattle.thf_print.specs.Texts.{grouped_unless, separated, type_text, var_text, conn_text, binder_text, truth_text, equality_text, quantifier_text, behind_symbol, infixed, opening_text, formula_text, body_text, selected_text, selection_text, heading_text, annotated_text, statement_text, surface_text}
-use Rattle.thf_print.proofs.Pieces.{Piece, token, gap, bytes_of}
+use Rattle.thf_print.specs.Texts.{grouped_unless, separated, type_text, var_text, conn_text, binder_text, equality_text, quantifier_text, behind_symbol, infixed, opening_text, formula_text, body_text, selected_text, selection_text, heading_text, annotated_text, statement_text, surface_text}
+use Rattle.thf_print.proofs.Pieces.{Piece, bytes_of}
 use Rattle.thf_print.proofs.Printed.{grouped, type_pieces, var_pieces, vars_pieces, behind_vars, conn_depth, behind_arguments, infixed_pieces, formula_pieces, body_pieces, labels_pieces, selection_pieces, end_pieces, statement_pieces, file_pieces}
 
 -- the pieces make the text

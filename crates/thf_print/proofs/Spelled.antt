@@ -1,5 +1,5 @@
 -- The tokens of bytes have texts of their kinds.
-use Rattle.std.proofs.Common.{◌≡◌, ℕ, ◌+◌, ◌-◌, List, [], ◌∷◌, take, drop, refl, sym, ap, ap₂, subst, ◌∙◌, arith}
+use Rattle.std.proofs.Common.{◌≡◌, ℕ, ◌+◌, ◌-◌, List, take, drop, refl, sym, ap, ap₂, subst, ◌∙◌, arith}
 use Rattle.std.specs.Prelude.{slice_range}
 use Rattle.std.specs.List.{AllByRecursion}
 use Rattle.std.proofs.lemmas.List.{drop-drop}
@@ -9,7 +9,7 @@ use Rattle.thf_lex.specs.declared.token.Token.{Token}
 use Rattle.thf_lex.specs.Texts.{IsToken}
 use Rattle.thf_lex.specs.Reading.{Reads, gap, token, bad, end}
 use Rattle.thf_syntax.specs.Trees.{StatementTree}
-use Rattle.thf_parse.specs.Words.{Lexeme, lexemes}
+use Rattle.thf_parse.specs.Words.{lexemes}
 use Rattle.thf_print.specs.Law.{IsTextOfKind, IsSpelled, IsPrintable, IsTextOf}
 
 of-kind : (k : TokenKind) (text : List ℕ) → IsToken k text → IsTextOfKind k text

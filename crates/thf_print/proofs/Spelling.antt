@@ -1,16 +1,14 @@
 -- How names are spelled: the tokens that are written for them are tokens, and are these names.
-use Rattle.std.proofs.Common.{◌≡◌, ◌≢◌, ℕ, suc, ◌+◌, ◌-◌, ◌<◌, ◌≤◌, Bool, true, false, ◌&&◌, ◌||◌, ◌==◌, ◌⊎◌, inl, inr, List, [], ◌∷◌, ◌++◌, length, take, refl, sym, ap, subst, ◌∙◌, arith, leb, eqb, length-append, if◌then◌else◌}
-use Rattle.std.specs.Prelude.{IsTrue}
+use Rattle.std.proofs.Common.{◌≡◌, ℕ, ◌-◌, ◌<◌, Bool, true, false, ◌&&◌, ◌||◌, ◌⊎◌, inl, inr, List, [], ◌∷◌, ◌++◌, length, take, refl, ap, ◌∙◌, arith, leb, eqb, length-append, if◌then◌else◌}
 use Rattle.std.specs.List.{flat_map, list_all}
 use Rattle.std.specs.Char.{is_ascii_lowercase, is_ascii_digit}
 use Rattle.std.proofs.Math.Seq.{take-append_seam}
-use Rattle.std.proofs.lemmas.Bool.{and_parts, and_from, or_parts, or_cases, not_from_false, eqb-true}
-use Rattle.std.proofs.lemmas.Bool.Decides.{nat_tests}
+use Rattle.std.proofs.lemmas.Bool.{and_parts, and_from, or_parts, or_cases, not_from_false}
 use Rattle.std.proofs.lemmas.List.Sums.{AllPass-from_list_all}
 use Rattle.thf_lex.specs.declared.token.TokenKind.{TokenKind}
 use Rattle.thf_lex.specs.declared.token.TokenKind.TheVariants.{Lower, Quoted, Integer}
-use Rattle.thf_lex.specs.Bytes.{single_quote, backslash, is_plain, is_escaped, is_word_byte, is_sign}
-use Rattle.thf_lex.specs.Texts.{IsToken, IsLowerWord, IsInteger, IsDigits, IsQuotedBy, AreCharacters, none, plain, escape}
+use Rattle.thf_lex.specs.Bytes.{single_quote, backslash, is_word_byte, is_sign}
+use Rattle.thf_lex.specs.Texts.{IsToken, IsInteger, IsDigits, AreCharacters, none, plain, escape}
 use Rattle.thf_parse.specs.Words.{unescaped, name_in}
 use Rattle.thf_print.specs.Names.{is_lower_word, are_digits, is_integer, escaped, quoted, name_text, label_text}
 use Rattle.thf_print.proofs.Printed.{name_kind, label_kind}

@@ -1,25 +1,22 @@
 -- The pieces of statements and files are read as these.
-use Rattle.std.proofs.Common.{◌≡◌, ◌≢◌, ℕ, suc, ◌+◌, Bool, true, false, ◌||◌, List, [], ◌∷◌, Option, Some, None, length, map, codes, refl, ap, ap₂, ◌∙◌, subst, sym}
-use Rattle.std.specs.Prelude.{IsTrue}
-use Rattle.thf_lex.specs.Texts.{IsLowerWord}
+use Rattle.std.proofs.Common.{◌≡◌, ℕ, ◌+◌, Bool, true, false, ◌||◌, List, [], ◌∷◌, Option, Some, None, length, map, codes, refl, ap, ap₂, ◌∙◌, subst, sym}
 use Rattle.thf_lex.specs.declared.token.TokenKind.TheVariants as kind
-use Rattle.thf_syntax.specs.Trees.{TypeTree, FormulaTree, BodyTree, base, typing, formula, AnnotatedTree, SelectedTree, StatementTree, annotated, include}
+use Rattle.thf_syntax.specs.Trees.{BodyTree, base, typing, formula, AnnotatedTree, SelectedTree, StatementTree, annotated, include}
 use Rattle.thf_parse.specs.declared.terminal.Mark.TheVariants as mark
 use Rattle.thf_parse.specs.declared.terminal.Terminal.TheVariants as terminal
-use Rattle.thf_parse.specs.Words.{Word, place, name}
+use Rattle.thf_parse.specs.Words.{name}
 use Rattle.thf_parse.specs.Notes.{no_notes}
 use Rattle.thf_parse.specs.Statements as grammar
 use Rattle.thf_parse.specs.Statements.{IsLabel, IsKeyword, selected, IsTyping, IsBody, AreLabels, IsSelection, IsEnd, IsStatement, IsFile}
 use Rattle.thf_print.specs.Names as spec
-use Rattle.thf_print.specs.Places.{bare_type, bare_formula, bare_body, bare_selected, bare_selection, bare_statement}
-use Rattle.thf_print.proofs.Pieces.{Piece, token, gap, word_at, words_at}
-use Rattle.thf_print.proofs.Printed.{space, name_kind, label_kind, label_piece, body_pieces, labels_pieces, selection_pieces, end_pieces, statement_pieces, file_pieces, type_pieces}
+use Rattle.thf_print.specs.Places.{bare_body, bare_selected, bare_selection, bare_statement}
+use Rattle.thf_print.proofs.Pieces.{Piece, token, word_at, words_at}
+use Rattle.thf_print.proofs.Printed.{label_kind, body_pieces, labels_pieces, selection_pieces, end_pieces, statement_pieces, file_pieces}
 use Rattle.thf_print.proofs.Proper.{IsProperBody, AreProperLabels, IsProperSelection, IsProperStatement, AreProperStatements}
 use Rattle.thf_print.proofs.Spelling.{label_kind_by, text_by, name_in-label, name_in-quoted}
 use Rattle.thf_print.proofs.Found.{Found, is-word, is_name-word, name-name_word, name-word}
 use Rattle.thf_print.proofs.TypeFound.{reads-type}
 use Rattle.thf_print.proofs.FormulaFound.{reads-formula}
-use Rattle.thf_parse.specs.Words.{name_of}
 
 is_label-word : (n : List ℕ) (at : ℕ) → IsLabel (word_at (label_kind n) (spec.label_text n) at 0)
 is_label-word n at = by_word (spec.is_lower_word n) (spec.is_integer n)

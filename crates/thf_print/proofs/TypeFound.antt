@@ -1,19 +1,19 @@
 -- The pieces of types and variables are read as these.
-use Rattle.std.proofs.Common.{◌≡◌, ℕ, suc, ◌+◌, Bool, true, false, List, [], ◌∷◌, length, map, codes, refl, ap, ap₂, ◌∙◌}
+use Rattle.std.proofs.Common.{◌≡◌, ℕ, suc, ◌+◌, Bool, true, false, List, [], ◌∷◌, length, map, codes, refl, ap, ap₂}
 use Rattle.thf_lex.specs.declared.token.TokenKind.TheVariants as kind
 use Rattle.thf_syntax.specs.Trees.{TypeTree, form, indiv, named, arrow, VarTree}
 use Rattle.thf_syntax.specs.declared.formula.Binder.{Binder}
 use Rattle.thf_parse.specs.declared.terminal.Mark.TheVariants as mark
 use Rattle.thf_parse.specs.declared.terminal.Terminal.TheVariants as terminal
-use Rattle.thf_parse.specs.Words.{Word, name}
-use Rattle.thf_parse.specs.Types.{IsType, simple_type, arrow_type, IsSimpleType, indiv_type, form_type, named_type, group_type, IsVar, plain_var, typed_var}
-use Rattle.thf_parse.specs.Formulas.{AreVars, last_var, more_vars, binds_many}
+use Rattle.thf_parse.specs.Words.{name}
+use Rattle.thf_parse.specs.Types.{IsType, simple_type, arrow_type, IsSimpleType, indiv_type, form_type, named_type, group_type, IsVar, typed_var}
+use Rattle.thf_parse.specs.Formulas.{AreVars, last_var, more_vars}
 use Rattle.thf_print.specs.Slots.{is_simple}
 use Rattle.thf_print.specs.Places.{bare_type, bare_var}
-use Rattle.thf_print.proofs.Pieces.{Piece, token, gap, word_at, words_at}
+use Rattle.thf_print.proofs.Pieces.{Piece, token, word_at, words_at}
 use Rattle.thf_print.proofs.Printed.{space, grouped, type_pieces, var_pieces, vars_pieces, behind_vars}
-use Rattle.thf_print.proofs.Proper.{IsProperType, IsProperVar, AreProperVars}
-use Rattle.thf_print.proofs.Found.{Found, Reads, found-as, is-word, is_name-word, name-name_word, name-word}
+use Rattle.thf_print.proofs.Proper.{AreProperVars}
+use Rattle.thf_print.proofs.Found.{Reads, found-as, is-word, is_name-word, name-name_word, name-word}
 
 simple-grouped : (pieces : ℕ → List Piece → List Piece) (t : TypeTree) → Reads bare_type IsType pieces t → Reads bare_type IsSimpleType (grouped false pieces) t
 simple-grouped pieces t h d at rest =

@@ -1,24 +1,19 @@
 -- What a token's terminal says of its text, where its text is one of its kind.
-use Rattle.std.proofs.Common.{◌≡◌, ℕ, suc, ◌-◌, ◌<◌, Bool, true, false, ◌&&◌, ◌||◌, inl, inr, List, [], ◌∷◌, ◌++◌, length, take, refl, sym, ap, subst, ◌∙◌, arith, eqb, leb, codes, length-append, if◌then◌else◌}
-use Rattle.std.specs.Prelude.{IsTrue}
+use Rattle.std.proofs.Common.{◌≡◌, ℕ, ◌-◌, ◌<◌, Bool, true, false, inl, inr, List, [], ◌∷◌, ◌++◌, length, take, refl, sym, ap, subst, ◌∙◌, arith, eqb, length-append, if◌then◌else◌}
 use Rattle.std.specs.List.{list_all, AllPass}
-use Rattle.std.specs.Str.{bytes_eq}
 use Rattle.std.specs.Char.{is_ascii_lowercase, is_ascii_digit}
 use Rattle.std.proofs.Math.Seq.{take-append_seam}
-use Rattle.std.proofs.lemmas.Bool.{and_parts, and_from, or_cases, cond_both, eqb-true, false≢true}
+use Rattle.std.proofs.lemmas.Bool.{and_parts, and_from, cond_both, false≢true}
 use Rattle.std.proofs.lemmas.Bool.Decides.{nat_tests}
 use Rattle.std.proofs.lemmas.List.Sums.{list_all-from_AllPass}
 use Rattle.thf_lex.specs.declared.token.TokenKind.{TokenKind}
 use Rattle.thf_lex.specs.declared.token.TokenKind.TheVariants as kind
-use Rattle.thf_lex.specs.Bytes.{single_quote, backslash, is_word_byte, is_sign, is_plain, is_escaped}
-use Rattle.thf_lex.specs.Texts.{IsToken, IsLowerWord, IsUpperWord, IsInteger, IsDigits, IsQuotedBy, AreCharacters, none, plain, escape}
-use Rattle.thf_syntax.specs.declared.formula.Conn.TheVariants.{Not, And, Or, Imp, If, Iff, Xor, Nor, Nand}
-use Rattle.thf_syntax.specs.declared.formula.Binder.TheVariants.{All, Exists, Lam, Choice, Desc}
-use Rattle.thf_parse.specs.declared.terminal.Mark.TheVariants as mark
+use Rattle.thf_lex.specs.Bytes.{single_quote, backslash, is_word_byte, is_sign, is_escaped}
+use Rattle.thf_lex.specs.Texts.{IsLowerWord, IsUpperWord, IsInteger, IsDigits, IsQuotedBy, AreCharacters, none, plain, escape}
 use Rattle.thf_parse.specs.declared.terminal.Terminal.{Terminal}
 use Rattle.thf_parse.specs.declared.terminal.Terminal.TheVariants as terminal
 use Rattle.thf_parse.specs.Terminals.{single, pair, triple, symbol, dollar_word, of_kind}
-use Rattle.thf_parse.specs.Words.{Lexeme, Word, terminal_of, name_of, name_in, unescaped, Is, IsName, lower, quoted, name}
+use Rattle.thf_parse.specs.Words.{Word, terminal_of, name_of, name_in, unescaped, Is, IsName, lower, quoted, name}
 use Rattle.thf_parse.specs.Statements as grammar
 use Rattle.thf_parse.specs.Statements.{IsLabel}
 use Rattle.thf_print.specs.Law.{IsTextOfKind, IsSpelled}

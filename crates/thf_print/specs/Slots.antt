@@ -4,7 +4,7 @@ use Rattle.thf_syntax.specs.Trees.{TypeTree, form, indiv, named, arrow, FormulaT
 use Rattle.thf_syntax.specs.declared.formula.Conn.{Conn}
 use Rattle.thf_syntax.specs.declared.formula.Conn.TheVariants.{And, Or}
 use Rattle.thf_print.specs.declared.slot.Slot.{Slot}
-use Rattle.thf_print.specs.declared.slot.Slot.TheVariants.{Primary, Unitary, Head, Operand, Member, Conjunction, Disjunction}
+use Rattle.thf_print.specs.declared.slot.Slot.TheVariants.{Primary, Unitary, Head, Member, Conjunction, Disjunction}
 
 -- where the left operand of a connective stands
 abbrev pub left_slot : Conn → Slot

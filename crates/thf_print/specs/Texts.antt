@@ -6,7 +6,6 @@ use Rattle.thf_syntax.specs.declared.formula.Conn.{Conn}
 use Rattle.thf_syntax.specs.declared.formula.Conn.TheVariants.{Not, And, Or, Imp, If, Iff, Xor, Nor, Nand}
 use Rattle.thf_syntax.specs.declared.formula.Binder.{Binder}
 use Rattle.thf_syntax.specs.declared.formula.Binder.TheVariants.{All, Exists, Lam, Choice, Desc}
-use Rattle.thf_print.specs.declared.slot.Slot.{Slot}
 use Rattle.thf_print.specs.declared.slot.Slot.TheVariants.{Primary, Unitary, Head, Operand, Member}
 use Rattle.thf_print.specs.Names.{quoted, name_text, label_text}
 use Rattle.thf_print.specs.Slots.{left_slot, takes, is_simple}

@@ -1,6 +1,6 @@
 //! Writes bytes.
 ghost use Rattle.std.specs.Prelude.{◌++◌, OnOk, OnErr};
-ghost use Rattle.thf_print.specs.Writing.{Took, Stopped};
+ghost use Rattle.outside.specs.Writing.{Took, Stopped};
 
 use outside::{Failed, Sink, write_all_counted, write_pieces};
 

@@ -3,7 +3,7 @@ ghost use Rattle.std.specs.Prelude.{◌≡◌, OnOk, OnErr};
 ghost use Rattle.thf_syntax.specs.View.{the_formula, the_vars};
 ghost use Rattle.thf_print.specs.Slots.{takes};
 ghost use Rattle.thf_print.specs.Texts as spec;
-ghost use Rattle.thf_print.specs.Writing.{Took, Stopped};
+ghost use Rattle.outside.specs.Writing.{Took, Stopped};
 
 use crate::bytes::{write, write_between};
 use crate::name::write_name;

@@ -4,7 +4,7 @@ ghost use Rattle.std.specs.Char.{is_ascii_digit};
 ghost use Rattle.std.specs.List.{flat_map, list_all};
 ghost use Rattle.thf_lex.specs.Bytes as lex;
 ghost use Rattle.thf_print.specs.Names as spec;
-ghost use Rattle.thf_print.specs.Writing.{Took, Stopped};
+ghost use Rattle.outside.specs.Writing.{Took, Stopped};
 
 use crate::bytes::write;
 use outside::{Failed, Sink};

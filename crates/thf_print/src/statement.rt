@@ -7,7 +7,7 @@ ghost use Rattle.thf_syntax.specs.View.{the_type, the_body, the_annotated, the_s
 ghost use Rattle.thf_print.specs.Law.{IsPrintable, AppendsTextOf};
 ghost use Rattle.thf_print.specs.Names.{name_text};
 ghost use Rattle.thf_print.specs.Texts as spec;
-ghost use Rattle.thf_print.specs.Writing.{Took, Stopped};
+ghost use Rattle.outside.specs.Writing.{Took, Stopped};
 
 use crate::bytes::{write, write_between};
 use crate::formula::write_formula;
@@ -145,6 +145,7 @@ pub fn write_surface<S: Sink>(tree: &FileTree, sink: &mut S) -> Result<(), Faile
         → S.written sink.new ≡ S.written sink.old ++ spec.surface_text (the_file tree.now)) }
     ensures failed { OnErr result (IsTrue (S.tells sink.old)
         → AppendsProperly (S.written sink.old) (S.written sink.new) (spec.surface_text (the_file tree.now))) }
+    ensures quiet { OnOk result (S.faults sink.new ≡ S.faults sink.old) }
     ensures cause { OnErr result (Rose (S.faults sink.old) (S.faults sink.new)) }
     ensures later { S.faults sink.old ≤ S.faults sink.new }
     ensures telling { IsTrue (S.tells sink.old) → IsTrue (S.tells sink.new) }

@@ -167,14 +167,6 @@ static BINDERS: [(&str, &str); 7] = [
     ("p@(@-[X:$i]:(p=>q))", "p @ @- [X: $i] : ( p => q )"),
 ];
 
-#[test]
-fn statements_are_written(rt: HostRuntime) -> Result<(), Fail> {
-    for (text, expected) in STATEMENTS.iter() {
-        check(&rt, rt.alloc(), text, expected)?;
-    }
-    Ok(())
-}
-
 fn check_formulas(
     rt: &impl Abort,
     alloc: Global,
@@ -188,15 +180,51 @@ fn check_formulas(
     Ok(())
 }
 
-#[test]
-fn formulas_are_written(rt: HostRuntime) -> Result<(), Fail> {
-    check_formulas(&rt, rt.alloc(), &FORMULAS)?;
+/// A chain of 301 operands, each link but the last in parentheses, where the last operand has 300
+/// negations.
+fn grouped_chain(alloc: Global) -> Result<String, AllocError> {
+    let mut text = String::new(alloc);
+    text.push_str("thf(a,axiom,")?;
+    for _ in 0..299 {
+        text.push_str("(")?;
+    }
+    text.push_str("p")?;
+    for _ in 0..299 {
+        text.push_str("&p)")?;
+    }
+    text.push_str("&")?;
+    for _ in 0..300 {
+        text.push_str("~")?;
+    }
+    text.push_str("p).")?;
+    Ok(text)
+}
+
+/// A text may be deeper than one with more parentheses: these end a link before the next begins, so without them more links are open at
+/// once.
+fn check_grouped_chain(rt: &impl Abort, alloc: Global) -> Result<(), AllocError> {
+    let text = grouped_chain(alloc)?;
+    let tree = tree_of(rt, alloc, text.as_str().as_bytes())?;
+    let mut sink = GrowSink::new(alloc);
+    assert!(rt; write_surface(&tree, &mut sink).is_ok());
+    assert!(rt; sink.bytes().len() <= 16_777_216);
+    let tokens = lex(alloc, sink.bytes())?;
+    // The token is the 213th of the negations: 300 links are open before them.
+    match parse(alloc, sink.bytes(), &tokens) {
+        Err(ParseRefused::TooDeep { at }) => assert_eq!(rt; at, 12 + 300 * 4 + 212 * 2),
+        other => assert!(rt; false, "{other:?}"),
+    }
     Ok(())
 }
 
 #[test]
-fn binders_are_written(rt: HostRuntime) -> Result<(), Fail> {
+fn trees_are_written(rt: HostRuntime) -> Result<(), Fail> {
+    for (text, expected) in STATEMENTS.iter() {
+        check(&rt, rt.alloc(), text, expected)?;
+    }
+    check_formulas(&rt, rt.alloc(), &FORMULAS)?;
     check_formulas(&rt, rt.alloc(), &BINDERS)?;
+    check_grouped_chain(&rt, rt.alloc())?;
     Ok(())
 }
 
@@ -224,44 +252,6 @@ fn a_full_sink_holds_a_front(rt: HostRuntime) -> Result<(), Fail> {
     let tree = tree_of(&rt, rt.alloc(), b"thf(a,axiom,(p&'Q')).")?;
     for room in 0..30 {
         check_room(&rt, rt.alloc(), &tree, room)?;
-    }
-    Ok(())
-}
-
-/// A chain of 301 operands, each link but the last in parentheses, where the last operand has 300
-/// negations.
-fn grouped_chain(alloc: Global) -> Result<String, AllocError> {
-    let mut text = String::new(alloc);
-    text.push_str("thf(a,axiom,")?;
-    for _ in 0..299 {
-        text.push_str("(")?;
-    }
-    text.push_str("p")?;
-    for _ in 0..299 {
-        text.push_str("&p)")?;
-    }
-    text.push_str("&")?;
-    for _ in 0..300 {
-        text.push_str("~")?;
-    }
-    text.push_str("p).")?;
-    Ok(text)
-}
-
-// The parentheses end a link before the next begins, so without them more links are open at once.
-#[test]
-fn a_text_may_be_deeper_than_one_with_more_parentheses(rt: HostRuntime) -> Result<(), Fail> {
-    let alloc = rt.alloc();
-    let text = grouped_chain(alloc)?;
-    let tree = tree_of(&rt, alloc, text.as_str().as_bytes())?;
-    let mut sink = GrowSink::new(alloc);
-    assert!(rt; write_surface(&tree, &mut sink).is_ok());
-    assert!(rt; sink.bytes().len() <= 16_777_216);
-    let tokens = lex(alloc, sink.bytes())?;
-    // The token is the 213th of the negations: 300 links are open before them.
-    match parse(alloc, sink.bytes(), &tokens) {
-        Err(ParseRefused::TooDeep { at }) => assert_eq!(rt; at, 12 + 300 * 4 + 212 * 2),
-        other => assert!(rt; false, "{other:?}"),
     }
     Ok(())
 }

@@ -4,7 +4,7 @@ ghost use Rattle.std.specs.List.{flat_map};
 ghost use Rattle.thf_syntax.specs.View.{the_type, the_var, the_vars};
 ghost use Rattle.thf_print.specs.Slots.{is_simple};
 ghost use Rattle.thf_print.specs.Texts.{type_text, var_text, separated, grouped_unless};
-ghost use Rattle.thf_print.specs.Writing.{Took, Stopped};
+ghost use Rattle.outside.specs.Writing.{Took, Stopped};
 
 use crate::bytes::write;
 use crate::name::write_name;

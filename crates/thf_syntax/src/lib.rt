@@ -3,8 +3,6 @@
 
 mod formula;
 mod statement;
-#[cfg(test)]
-mod tests;
 mod types;
 
 pub use formula::{Binder, Conn, Surface};

@@ -15,9 +15,10 @@ use Rattle.stt_core.specs.PlainProblem.{PlainProblem}
 use Rattle.thf_include.specs.View.{PlacedTree}
 use Rattle.type_check.specs.Types.{read_type}
 use Rattle.type_check.specs.Statements.{read_formula, with_const, with_formula, problem_of}
-use Rattle.type_check.specs.ProblemNames.{declared_names, NamesDiffer, IsDeclaredWith, AllDeclared, AllNames}
+use Rattle.stt_core.specs.TypedProblem.{declared_names, NamesDiffer}
+use Rattle.type_check.specs.Means.ProblemNames.{IsDeclaredWith, AllDeclared, AllNames}
 use Rattle.type_check.proofs.OutcomeLaws.{if_ok-always}
-use Rattle.type_check.proofs.ProblemLaws.{Keeps, problem_of-keeps}
+use Rattle.type_check.proofs.ProblemLaws.{with_formula-cases, Keeps, problem_of-keeps}
 use Rattle.type_check.proofs.Symbols.{fresh}
 
 -- no two are the same, by recursion
@@ -79,16 +80,15 @@ AreDifferent-const d c new h =
     subst AreDifferent (sym all)
     (AreDifferent-insert names [] c.name (subst (All (λ y. c.name ≢ y)) (sym (append-nil names)) (All-symbol_named d c.name new)) (subst AreDifferent (sym (append-nil names)) h))
 
-with_formula-declared : (conjecture : Bool) (t : Lambda) (p : PlainProblem) → p.declared ≡ (with_formula conjecture t p).declared
-with_formula-declared true t p = refl
-with_formula-declared false t p = refl
+with_formula-declared : (role : List ℕ) (t : Lambda) (p : PlainProblem) → p.declared ≡ (with_formula role t p).declared
+with_formula-declared role t p = with_formula-cases (λ q. p.declared ≡ q.declared) role t p refl refl
 
 keeps_different : Keeps (λ body. Unit {0}) (λ p. AreDifferent (declared_names p.declared))
 keeps_different = record {
   at_nothing = tt;
   at_base = λ p at name h kind new. AreDifferent-base p.declared name new h;
   at_const = λ p at name ty h kind new. if_ok-always (λ a. AreDifferent (declared_names (with_const name a p).declared)) (read_type p.declared ty) (λ a. AreDifferent-const p.declared (record { name = name; type = a }) new h);
-  at_formula = λ p conjecture tree h kind. if_ok-always (λ t. AreDifferent (declared_names (with_formula conjecture t p).declared)) (read_formula p.declared tree) (λ t. subst (λ d. AreDifferent (declared_names d)) (with_formula-declared conjecture t p) h);
+  at_formula = λ p role tree h kind. if_ok-always (λ t. AreDifferent (declared_names (with_formula role t p).declared)) (read_formula p.declared tree) (λ t. subst (λ d. AreDifferent (declared_names d)) (with_formula-declared role t p) h);
 }
 
 pub problem_of-names_differ : (ss : List PlacedTree) (p : PlainProblem) → problem_of ss ≡ Ok p → NamesDiffer p.declared
@@ -102,7 +102,7 @@ keeps_names P = record {
   at_base = λ p at name h here new. record { bases = All-push P p.declared.bases name h.bases here; consts = h.consts };
   at_const = λ p at name ty h here new. if_ok-always (λ a. AllNames P (with_const name a p).declared) (read_type p.declared ty)
       (λ a. record { bases = h.bases; consts = All-push (λ c. P c.name) p.declared.consts (record { name = name; type = a }) h.consts here });
-  at_formula = λ p conjecture tree h here. if_ok-always (λ t. AllNames P (with_formula conjecture t p).declared) (read_formula p.declared tree) (λ t. subst (AllNames P) (with_formula-declared conjecture t p) h);
+  at_formula = λ p role tree h here. if_ok-always (λ t. AllNames P (with_formula role t p).declared) (read_formula p.declared tree) (λ t. subst (AllNames P) (with_formula-declared role t p) h);
 }
 
 -- a property of the names that the statements declare is one of the names of the problem

@@ -2,10 +2,9 @@ pub mod DeclaredNames
 pub mod TypedProblems
 mod BinderLaws
 mod DeclaredTypes
-pub mod Maps
 mod MoreDeclared
 mod OutcomeLaws
-mod ProblemLaws
+pub mod ProblemLaws
 mod RowTypes
 mod StatementLaws
 mod Symbols

@@ -7,8 +7,8 @@ use Rattle.stt_core.specs.Typing.{Scope, IsScope, AreDeclared, type_of, applied_
 use Rattle.stt_core.proofs.TypeLaws.{lambda_type, applied, constant_declared, get_declared, applies, abstracts}
 use Rattle.thf_syntax.specs.declared.formula.Conn.{Conn}
 use Rattle.thf_syntax.specs.declared.formula.Conn.TheVariants as conn
-use Rattle.stt_normal.specs.Lift.{lift}
-use Rattle.stt_normal.proofs.LiftLaws.{type_of-lift}
+use Rattle.stt_core.specs.Lift.{lift}
+use Rattle.stt_core.proofs.LiftLaws.{type_of-lift}
 use Rattle.type_check.specs.Rows.{signed, truth_value, join, joining, operator_term, for_all, for_some, quantify}
 
 module _ (scope : Scope) where

@@ -1,5 +1,5 @@
 -- Statements are read one after the other.
-use Rattle.std.proofs.Common.{◌≡◌, ℕ, zero, suc, ◌+◌, ◌≤◌, List, [], ◌∷◌, Some, Result, Ok, map, drop, length, slice_get, sym, ap, ◌∙◌}
+use Rattle.std.proofs.Common.{◌≡◌, ℕ, ◌+◌, ◌≤◌, List, Some, Result, Ok, drop, length, slice_get, sym, ap, ◌∙◌}
 use Rattle.std.proofs.lemmas.List.{drop_all}
 use Rattle.stt_core.proofs.ListLaws.{drop_got}
 use Rattle.stt_core.specs.PlainProblem.{PlainProblem}
@@ -14,11 +14,6 @@ use Rattle.type_check.specs.declared.refusal.Ill.TheVariants.{At, Memory}
 pub ill-then : {A B : Type 0} (e : Ill) (r : Result A IllInFile) (f : A → Result B IllInFile) → IsIll e r → IsIll e (r >>= f)
 ill-then (At file at why) r f h = ap (λ r. r >>= f) h
 ill-then Memory r f h = tt
-
-pub got-map : {A B : Type 0} (f : A → B) (xs : List A) (i : ℕ) (x : A) → slice_get xs i ≡ Some x → slice_get (map f xs) i ≡ Some (f x)
-got-map f [] i x h = cc
-got-map f (y ∷ xs) zero x h = let e : y ≡ x = cc in ap (λ z. Some (f z)) e
-got-map f (y ∷ xs) (suc i) x h = got-map f xs i x h
 
 -- the statements from one of them on
 pub read_statements-got : (p : PlainProblem) (all : List PlacedTree) (i : ℕ) (s : PlacedTree) → slice_get all i ≡ Some s

@@ -8,7 +8,7 @@ use Rattle.std.specs.Cmp.Lexicographic.{nat_list_eq_equiv}
 use Rattle.stt_core.specs.TypedName.{TypedName}
 use Rattle.stt_core.specs.Signature.{symbol_named, first_symbol}
 use Rattle.stt_core.specs.declared.signature.Symbol.TheVariants.{Base, Const}
-use Rattle.type_check.proofs.Maps.{by_bytes}
+use Rattle.stt_core.proofs.Maps.{by_bytes}
 
 position_push-here : {X : Type 0} (p : X → Bool) (xs : List X) (y : X) → position p xs ≡ None → p y ≡ true → position p (xs ++ y ∷ []) ≡ Some (length xs)
 position_push-here p xs y h e = grind (arith, common_steps, position_or_len_push p xs y, prefix_len-le-length (λ x. not (p x)) xs)

@@ -1,13 +1,8 @@
 pub mod Outcome
-pub mod Answers
 pub mod Types
 pub mod Typed
-pub mod TypedView
 pub mod Rows
 pub mod Terms
-pub mod Infixes
-pub mod ScopeView
 pub mod Statements
-pub mod ReadingView
-pub mod ProblemNames
 pub mod Checks
+pub mod Means

@@ -4,7 +4,7 @@ use Rattle.stt_core.specs.SimpleType.{SimpleType, arrow, formula}
 use Rattle.stt_core.specs.Lambda.{Lambda, bound, constant, falsity, lam, app, neg, imp, eq, every}
 use Rattle.thf_syntax.specs.declared.formula.Conn.{Conn}
 use Rattle.thf_syntax.specs.declared.formula.Conn.TheVariants as conn
-use Rattle.stt_normal.specs.Lift.{lift}
+use Rattle.stt_core.specs.Lift.{lift}
 use Rattle.type_check.specs.Typed.{TypedTerm, typed}
 
 -- a formula, or its negation

@@ -1,5 +1,5 @@
 -- What the statements of a problem say, one after the other.
-use Rattle.std.specs.Prelude.{ℕ, Bool, ◌&&◌, List, [], ◌∷◌, ◌++◌, codes, Option, Some, None, Result, Ok, Err, is_some, if◌then◌else◌}
+use Rattle.std.specs.Prelude.{ℕ, Bool, ◌&&◌, List, [], ◌∷◌, ◌++◌, codes, Some, None, Result, Ok, Err, is_some, if◌then◌else◌}
 use Rattle.std.specs.Str.{bytes_eq}
 use Rattle.std.specs.List.{list_any}
 use Rattle.stt_core.specs.SimpleType.{SimpleType, formula as formula_type, same_type}
@@ -26,6 +26,9 @@ is_role role = list_any (bytes_eq role) roles
 abbrev pub is_conjecture : List ℕ → Bool
 is_conjecture role = bytes_eq role (codes "conjecture")
 
+abbrev pub is_definition : List ℕ → Bool
+is_definition role = bytes_eq role (codes "definition")
+
 -- the byte place of a node's own token
 abbrev pub own_place : FormulaTree → ℕ
 own_place (constant at name) = at
@@ -50,19 +53,20 @@ read_formula d tree = do
 
 -- one more base type, constant or formula
 abbrev pub with_base : List ℕ → PlainProblem → PlainProblem
-with_base name p = record { declared = record { bases = p.declared.bases ++ name ∷ []; consts = p.declared.consts }; assumed = p.assumed; conjecture = p.conjecture }
+with_base name p = record { declared = record { bases = p.declared.bases ++ name ∷ []; consts = p.declared.consts }; assumed = p.assumed; marked = p.marked; conjecture = p.conjecture }
 
 abbrev pub with_const : List ℕ → SimpleType → PlainProblem → PlainProblem
-with_const name a p = record { declared = record { bases = p.declared.bases; consts = p.declared.consts ++ record { name = name; type = a } ∷ [] }; assumed = p.assumed; conjecture = p.conjecture }
+with_const name a p = record { declared = record { bases = p.declared.bases; consts = p.declared.consts ++ record { name = name; type = a } ∷ [] }; assumed = p.assumed; marked = p.marked; conjecture = p.conjecture }
 
-abbrev pub with_assumed : Lambda → PlainProblem → PlainProblem
-with_assumed t p = record { declared = p.declared; assumed = p.assumed ++ t ∷ []; conjecture = p.conjecture }
+abbrev pub with_assumed : Bool → Lambda → PlainProblem → PlainProblem
+with_assumed mark t p = record { declared = p.declared; assumed = p.assumed ++ t ∷ []; marked = p.marked ++ mark ∷ []; conjecture = p.conjecture }
 
 abbrev pub with_conjecture : Lambda → PlainProblem → PlainProblem
-with_conjecture t p = record { declared = p.declared; assumed = p.assumed; conjecture = Some t }
+with_conjecture t p = record { declared = p.declared; assumed = p.assumed; marked = p.marked; conjecture = Some t }
 
-abbrev pub with_formula : Bool → Lambda → PlainProblem → PlainProblem
-with_formula conjecture t p = if conjecture then with_conjecture t p else with_assumed t p
+-- a formula with its role: the conjecture, or one that is assumed
+abbrev pub with_formula : List ℕ → Lambda → PlainProblem → PlainProblem
+with_formula role t p = if is_conjecture role then with_conjecture t p else with_assumed (is_definition role) t p
 
 -- what follows for a name that isn't declared yet
 abbrev pub where_new : ℕ → List ℕ → PlainProblem → Result PlainProblem IllPlace → Result PlainProblem IllPlace
@@ -76,19 +80,19 @@ read_const p at name ty = where_new at name p (do
   a ← read_type p.declared ty
   Ok (with_const name a p))
 
--- What is declared or stated; a formula is the conjecture or is assumed.
-abbrev pub read_body : PlainProblem → Bool → BodyTree → Result PlainProblem IllPlace
-read_body p conjecture (base at name) = read_base p at name
-read_body p conjecture (typing at name ty) = read_const p at name ty
-read_body p conjecture (formula tree) = do
+-- what a statement of this role declares or states
+abbrev pub read_body : PlainProblem → List ℕ → BodyTree → Result PlainProblem IllPlace
+read_body p role (base at name) = read_base p at name
+read_body p role (typing at name ty) = read_const p at name ty
+read_body p role (formula tree) = do
   t ← read_formula p.declared tree
-  Ok (with_formula conjecture t p)
+  Ok (with_formula role t p)
 
 -- a statement whose role is known
 abbrev pub read_known : PlainProblem → AnnotatedTree → Result PlainProblem IllPlace
 read_known p s =
     if is_conjecture s.role && is_some p.conjecture then ill s.role_at SecondConjecture
-    else read_body p (is_conjecture s.role) s.body
+    else read_body p s.role s.body
 
 abbrev pub read_statement : PlainProblem → AnnotatedTree → Result PlainProblem IllPlace
 read_statement p s = if is_role s.role then read_known p s else ill s.role_at RoleUnknown
@@ -109,7 +113,7 @@ read_statements p (s ∷ statements) = in_file s.file (read_statement p s.statem
 
 -- nothing is declared or stated
 abbrev pub nothing : PlainProblem
-nothing = record { declared = record { bases = []; consts = [] }; assumed = []; conjecture = None }
+nothing = record { declared = record { bases = []; consts = [] }; assumed = []; marked = []; conjecture = None }
 
 -- What the statements of a problem say together, or the first ill place.
 abbrev pub problem_of : List PlacedTree → Result PlainProblem IllInFile

@@ -11,8 +11,6 @@ mod scope;
 mod statements;
 mod term;
 mod terms;
-#[cfg(test)]
-mod tests;
 mod typed;
 mod types;
 

@@ -2,7 +2,7 @@
 
 ghost use Rattle.std.specs.Prelude.{◌≡◌, suc, IfOk};
 ghost use Rattle.stt_core.specs.View.{the_term};
-ghost use Rattle.stt_normal.specs.Lift as defined;
+ghost use Rattle.stt_core.specs.Lift as defined;
 
 use std::alloc::{AllocError, Global};
 use stt_core::Term;

@@ -1,13 +1,11 @@
 //! The reading of a whole problem.
 
 ghost use Rattle.std.specs.Prelude.{◌≡◌, ◌+◌, ◌-◌, ◌<◌, ◌≤◌, ◌^◌, Ok, length, IfOk, IfErr};
-ghost use Rattle.stt_core.specs.PlainProblem.{question_of};
-ghost use Rattle.stt_core.specs.TypedProblem.{IsTyped};
+ghost use Rattle.stt_core.specs.TypedProblem.{IsTyped, NamesDiffer};
 ghost use Rattle.thf_include.specs.View.{the_placed, the_statements};
 ghost use Rattle.type_check.specs.Checks.{IsIll};
-ghost use Rattle.type_check.specs.ReadingView.{the_reading};
+ghost use Rattle.type_check.specs.Means.ReadingView.{the_reading};
 ghost use Rattle.type_check.specs.Statements.{in_file, read_statement, problem_of};
-ghost use Rattle.type_check.specs.ProblemNames.{NamesDiffer};
 
 use crate::refusal::{Ill, Refusal};
 use crate::statements::Reading;
@@ -40,9 +38,10 @@ pub fn check(alloc: Global, gathered: &Gathered) -> Result<Problem, Ill>
     ensures read { IfOk result (λ p. problem_of (the_statements gathered.now) ≡ Ok p) }
     ensures ill { IfErr result (λ e. IsIll e (problem_of (the_statements gathered.now))) }
 
-    // What is read is typed, and its names differ.
-    ensures typed { IfOk result (λ p. IsTyped (question_of p)) }
+    // What is read is typed, its names differ, and each assumed formula has a mark.
+    ensures typed { IfOk result (λ p. IsTyped p) }
     ensures names { IfOk result (λ p. NamesDiffer p.declared) }
+    ensures marked { IfOk result (λ p. length p.marked ≡ length p.assumed) }
     ensures few_bases { IfOk result (λ p. length p.declared.bases < 2 ^ 32 - 2) }
     ensures few_consts { IfOk result (λ p. length p.declared.consts < 2 ^ 32) }
 {
@@ -53,6 +52,7 @@ pub fn check(alloc: Global, gathered: &Gathered) -> Result<Problem, Ill>
     Ok(Problem {
         signature: reading.declared.into_signature(),
         assumed: reading.assumed,
+        marked: reading.marked,
         conjecture: reading.conjecture,
     })
 }

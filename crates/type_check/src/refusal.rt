@@ -4,21 +4,28 @@ ghost use Rattle.std.specs.Prelude.{◌≡◌};
 ghost use Rattle.type_check.specs.declared.refusal.Refusal.TheVariants.{Memory};
 
 use std::alloc::{AllocError, AllocFailed};
+use thiserror::Error;
 
 /// Why a place is ill.
-#[derive(Clone, Copy, Debug, PartialEq, Eq)]
+#[derive(Clone, Copy, Debug, PartialEq, Eq, Error)]
 pub enum IllWhy {
     /// A name that isn't declared or bound, a type's name used as a term, or a name in a type that is no declared base type.
+    #[error("an unknown name")]
     Unknown,
     /// A declared name that is declared again.
+    #[error("a name that is declared twice")]
     Twice,
     /// A node whose parts don't have the types that it wants.
+    #[error("types that don't fit together")]
     Mismatch,
     /// A formula that isn't of type `$o`.
+    #[error("no formula")]
     NotFormula,
     /// A conjecture after another one.
+    #[error("a second conjecture")]
     SecondConjecture,
     /// A role that isn't known.
+    #[error("an unknown role")]
     RoleUnknown,
 }
 
@@ -47,8 +54,10 @@ impl<T: Drop> From<AllocFailed<T>> for Refusal {
 
 /// Why a problem isn't read: the first ill place of its first ill statement, with the number of that statement's file, or want of
 /// memory.
-#[derive(Clone, Copy, Debug, PartialEq, Eq)]
+#[derive(Clone, Copy, Debug, PartialEq, Eq, Error)]
 pub enum Ill {
+    #[error("file {file}, byte {at}: {why}")]
     At { file: u32, at: u32, why: IllWhy },
+    #[error("no memory is left")]
     Memory,
 }

@@ -3,9 +3,9 @@
 ghost use Rattle.std.specs.Prelude.{◌≡◌, ◌+◌, ◌-◌, ◌<◌, ◌≤◌, ◌^◌, length, IfOk};
 ghost use Rattle.stt_core.specs.View.{the_term};
 ghost use Rattle.thf_syntax.specs.View.{the_annotated, the_body, the_formula, the_type};
-ghost use Rattle.type_check.specs.Answers.{Answers};
+ghost use Rattle.type_check.specs.Means.Answers.{Answers};
 ghost use Rattle.type_check.specs.Statements as defined;
-ghost use Rattle.type_check.specs.ReadingView.{the_reading};
+ghost use Rattle.type_check.specs.Means.ReadingView.{the_reading};
 
 use crate::declared::Declared;
 use crate::refusal::{IllWhy, Refusal};
@@ -13,14 +13,16 @@ use crate::scope::Scope;
 use crate::terms::read_term;
 use crate::types::read_type;
 use std::alloc::{AllocError, Global};
-use stt_core::{Term, Terms, Ty};
+use stt_core::{Flags, Term, Terms, Ty};
 use thf_syntax::{Annotated, Body, Surface, SurfaceTy};
 
-/// What the statements say so far: what is declared, the formulas that are assumed, in order, and the conjecture, where there is one.
+/// What the statements say so far: what is declared, the formulas that are assumed, in order, with a mark for each that tells whether it is
+/// a definition, and the conjecture, where there is one.
 #[derive(Drop)]
 pub(crate) struct Reading {
     pub(crate) declared: Declared,
     pub(crate) assumed: Terms,
+    pub(crate) marked: Flags,
     pub(crate) conjecture: Option<Term>,
 }
 
@@ -28,6 +30,12 @@ fn is_conjecture(role: &[u8]) -> bool
     ensures { result ≡ defined.is_conjecture role.now }
 {
     role == b"conjecture".as_slice()
+}
+
+fn is_definition(role: &[u8]) -> bool
+    ensures { result ≡ defined.is_definition role.now }
+{
+    role == b"definition".as_slice()
 }
 
 fn is_role(role: &[u8]) -> bool
@@ -86,6 +94,7 @@ impl Reading {
         Reading {
             declared: Declared::new(alloc),
             assumed: Terms::new(alloc),
+            marked: Flags::new(alloc),
             conjecture: None,
         }
     }
@@ -134,23 +143,24 @@ impl Reading {
     }
 
     /// Adds a formula: the conjecture, or one that is assumed.
-    fn with_formula(mut self, conjecture: bool, t: Term) -> Result<Reading, AllocError>
-        ensures formula { IfOk result (λ p. the_reading p ≡ defined.with_formula conjecture (the_term t) (the_reading self)) }
+    fn with_formula(mut self, role: &[u8], t: Term) -> Result<Reading, AllocError>
+        ensures formula { IfOk result (λ p. the_reading p ≡ defined.with_formula role.now (the_term t) (the_reading self)) }
         ensures same { IfOk result (λ r. r.declared ≡ self.declared) }
     {
-        if conjecture {
+        if is_conjecture(role) {
             self.conjecture = Some(t);
         } else {
             self.assumed.push(t)?;
+            self.marked.push(is_definition(role))?;
         }
         Ok(self)
     }
 
     /// Reads what a statement declares or states.
-    fn read_body(self, alloc: Global, conjecture: bool, body: &Body) -> Result<Reading, Refusal>
+    fn read_body(self, alloc: Global, role: &[u8], body: &Body) -> Result<Reading, Refusal>
         requires bases { length self.declared.bases < 2 ^ 32 - 2 }
         requires consts { length self.declared.consts < 2 ^ 32 }
-        ensures answer { Answers the_reading result (defined.read_body (the_reading self) conjecture (the_body body.now)) }
+        ensures answer { Answers the_reading result (defined.read_body (the_reading self) role.now (the_body body.now)) }
         ensures grows { IfOk result (λ r. length r.declared.bases + length r.declared.consts ≤ length self.declared.bases + length self.declared.consts + 1) }
     {
         match body {
@@ -158,7 +168,7 @@ impl Reading {
             Body::Typing { at, name, ty } => self.read_const(alloc, *at, name.as_slice(), ty),
             Body::Formula(tree) => {
                 let t = read_formula(alloc, &self.declared, tree)?;
-                Ok(self.with_formula(conjecture, t)?)
+                Ok(self.with_formula(role, t)?)
             }
         }
     }
@@ -181,13 +191,12 @@ impl Reading {
                 why: IllWhy::RoleUnknown,
             });
         }
-        let conjecture = is_conjecture(role);
-        if conjecture && self.conjecture.is_some() {
+        if is_conjecture(role) && self.conjecture.is_some() {
             return Err(Refusal::At {
                 at: statement.role_at,
                 why: IllWhy::SecondConjecture,
             });
         }
-        self.read_body(alloc, conjecture, &statement.body)
+        self.read_body(alloc, role, &statement.body)
     }
 }

@@ -9,7 +9,7 @@ invariant-loop-count g l =
       named : files.goes_by l.files l.name;
       short : length l.bytes ≤ l.limit;
       read : IsTrue (files.tells l.fn.files) → files.contents l.fn.files l.name ≡ Some (l.bytes ++ files.left l.files);
-      later : (other : List ℕ) → files.faults l.fn.files other ≤ files.faults l.files other;
+      quiet : (other : List ℕ) → files.faults l.files other ≡ files.faults l.fn.files other;
       same : files.contents l.files ≡ files.contents l.fn.files;
       telling : files.tells l.files ≡ files.tells l.fn.files;
     }

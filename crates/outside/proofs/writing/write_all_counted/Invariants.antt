@@ -7,7 +7,7 @@ invariant-loop-done g l =
     record {
       within : l.done ≤ length l.bytes;
       front : IsTrue (sink.tells l.fn.sink) → sink.written l.sink ≡ sink.written l.fn.sink ++ take l.done l.bytes;
-      later : sink.faults l.fn.sink ≤ sink.faults l.sink;
+      quiet : sink.faults l.sink ≡ sink.faults l.fn.sink;
       telling : IsTrue (sink.tells l.fn.sink) → IsTrue (sink.tells l.sink);
     }
 

@@ -1,4 +1,4 @@
-use Rattle.std.proofs.Common.{◌≡◌, ◌≤◌, ◌++◌, take, IsTrue}
+use Rattle.std.proofs.Common.{◌≡◌, ◌++◌, take, IsTrue}
 use Rattle.std.specs.List.{flat_map}
 use Rattle.outside.proofs.writing.write_pieces.Given as goal
 
@@ -7,6 +7,6 @@ invariant-loop-piece g l =
     let sink = g.S.Sink in
     record {
       front : IsTrue (sink.tells l.fn.sink) → sink.written l.sink ≡ sink.written l.fn.sink ++ flat_map (λ piece. piece.now) (take l.piece-index l.pieces);
-      later : sink.faults l.fn.sink ≤ sink.faults l.sink;
+      quiet : sink.faults l.sink ≡ sink.faults l.fn.sink;
       telling : IsTrue (sink.tells l.fn.sink) → IsTrue (sink.tells l.sink);
     }

@@ -1,5 +1,5 @@
 use Rattle.std.proofs.Common.{sym, subst}
-use Rattle.prover_search.specs.declared.commands.TheConstants.{MAX_COMMANDS}
+use Rattle.prover_search.specs.Run.{command_limit}
 use Rattle.prover_search.specs.Searched.{AreSearched, AreDifferent}
 use Rattle.prover_search.specs.Ended.{EndsAs}
 use Rattle.prover_search.proofs.ShallowLaws.{shallow-searched, shallow-different, ends-shallow}
@@ -14,4 +14,4 @@ run_shallow-requires-clause-different c = subst AreDifferent (sym c.in_ok-taken.
 pub returns : goal.returns
 returns c =
     let ended = c.in_ok-run_shallow.field-0 in
-    ends-shallow c.args.start.now MAX_COMMANDS ended (subst (λ ls. EndsAs ls MAX_COMMANDS ended) c.in_ok-taken.ensures c.in_ok-run_shallow.ensures)
+    ends-shallow c.args.start.now command_limit ended (subst (λ ls. EndsAs ls command_limit ended) c.in_ok-taken.ensures c.in_ok-run_shallow.ensures)

@@ -1,11 +1,11 @@
 use Rattle.std.proofs.Common.{subst, sym}
-use Rattle.prover_search.specs.declared.commands.TheConstants.{MAX_COMMANDS}
+use Rattle.prover_search.specs.Run.{command_limit}
 use Rattle.prover_search.specs.Ended.{Refutes}
 use Rattle.prover_search.proofs.RunLaws.{pair_proved, pair_refutes}
 use Rattle.prover_search.proofs.commands.run_shallow.Goals as goal
 
 pub returns-in_ok-pair_refutation-in-Some : goal.returns-in_ok-pair_refutation-in-Some
 returns-in_ok-pair_refutation-in-Some c = (
-  pair_proved c.args.start MAX_COMMANDS c.in-Some.i c.in-Some.j c.requires.searched c.in-Some.ensures.found,
+  pair_proved c.args.start command_limit c.in-Some.i c.in-Some.j c.requires.searched c.in-Some.ensures.found,
   subst (Refutes c.args.start) (sym c.in_ok-pair_refutation-in-Some.ensures) (pair_refutes c.args.start c.in-Some.i c.in-Some.j c.in-Some.ensures.found),
 )

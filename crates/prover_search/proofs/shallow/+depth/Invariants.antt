@@ -1,7 +1,7 @@
 use Rattle.std.proofs.Common.{◌≡◌, ◌-◌, ◌^◌, min, take}
 use Rattle.stt_core.specs.Lambda.{applied, node_count}
 use Rattle.stt_core.specs.View.{the_head}
-use Rattle.prover_search.specs.Search.{depth}
+use Rattle.stt_core.specs.Depth.{depth}
 use Rattle.prover_search.proofs.shallow.+depth.Given as goal
 
 abbrev pub decreases-depth : goal.decreases-depth

@@ -1,7 +1,5 @@
 use Rattle.std.proofs.Common.{◌<◌, ◌-◌, ◌≡◌, ◌∙◌, length, map, sym, arith}
 use Rattle.std.proofs.lemmas.List.{length-map}
-use Rattle.stt_core.specs.PlainProblem.{question_of}
-use Rattle.stt_normal.specs.NormalQuestion.{normal_question}
 use Rattle.stt_tableau.specs.Start.{start}
 use Rattle.stt_tableau.proofs.ListLaws.{untrue}
 use Rattle.stt_tableau.proofs.FailureLaws.{element, last_refused, none_refused, ends_within}
@@ -13,7 +11,7 @@ pub returns-then-count-eq0-clause-refused : goal.returns-then-count-eq0-clause-r
 returns-then-count-eq0-clause-refused c = λ scope table right.
     let names = c.args.numbering.now in
     let text = c.args.text.now in
-    none_refused scope (start (normal_question (question_of c.args.problem.now))) (numbered_refutation names (the_text text)) c.len-rows.result (c.len-rows.ensures ∙ sym (length-map text.witnesses (numbered_row names))) table right
+    none_refused scope (start c.args.problem.now) (numbered_refutation names (the_text text)) c.len-rows.result (c.len-rows.ensures ∙ sym (length-map text.witnesses (numbered_row names))) table right
     (omega (arith, c.len-count.ensures, c.if-count-eq0.true, length-map text.lines the_line, length-map (map the_line text.lines) (numbered_line names)))
 
 pub returns-then-is_within-clause-last : goal.returns-then-is_within-clause-last
@@ -21,7 +19,7 @@ returns-then-is_within-clause-last c =
     let names = c.args.numbering.now in
     let text = c.args.text.now in
     let lines = map (numbered_line names) (map the_line text.lines) in
-    let begin = start (normal_question (question_of c.args.problem.now)) in
+    let begin = start c.args.problem.now in
     let some : 0 < c.len-count.result = omega (arith, c.if-count-eq0.false) in
     let all : c.len-count.result ≡ length lines = c.len-count.ensures ∙ sym (length-map (map the_line text.lines) (numbered_line names) ∙ length-map text.lines the_line) in
     let last = element lines (c.len-count.result - 1) (omega (arith, some, all)) in
@@ -33,7 +31,7 @@ returns-clause-refused c = λ scope table right.
     let names = c.args.numbering.now in
     let text = c.args.text.now in
     let lines = map (numbered_line names) (map the_line text.lines) in
-    let begin = start (normal_question (question_of c.args.problem.now)) in
+    let begin = start c.args.problem.now in
     let some : 0 < c.len-count.result = omega (arith, c.if-count-eq0.false) in
     let all : c.len-count.result ≡ length lines = c.len-count.ensures ∙ sym (length-map (map the_line text.lines) (numbered_line names) ∙ length-map text.lines the_line) in
     let last = element lines (c.len-count.result - 1) (omega (arith, some, all)) in

@@ -4,8 +4,8 @@ use Rattle.stt_tableau.specs.Witnesses.{with_rows}
 use Rattle.stt_tableau.specs.Accepted.{AreRightLines}
 use Rattle.refute_text.specs.TextView.{the_line}
 use Rattle.refute_check.specs.Numbered.{numbered_row, numbered_line}
-use Rattle.refute_check.specs.Branches.{AreBranches}
-use Rattle.refute_check.specs.Lines.{KeepsLines}
+use Rattle.refute_check.specs.Means.Branches.{AreBranches}
+use Rattle.refute_check.specs.Means.Lines.{KeepsLines}
 use Rattle.refute_check.proofs.check.check_lines.Given as goal
 
 abbrev pub invariant-loop-i : goal.invariant-loop-i

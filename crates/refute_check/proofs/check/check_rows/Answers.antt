@@ -1,11 +1,11 @@
 use Rattle.std.proofs.Common.{◌++◌, [], ◌∷◌, ◌∙◌, Some, map, take, ap, sym, subst}
 use Rattle.stt_core.specs.ScopeView.{the_scope}
 use Rattle.stt_core.proofs.ListLaws.{take_got}
-use Rattle.stt_tableau.specs.Checks.{RowAnswer}
+use Rattle.stt_tableau.specs.Means.Answers.{RowAnswer}
 use Rattle.stt_tableau.proofs.FailureLaws.{row_refused, table-more}
 use Rattle.refute_text.specs.TextView.{the_text}
 use Rattle.refute_check.specs.Numbered.{numbered_row, numbered_refutation}
-use Rattle.refute_check.proofs.WitnessNumbers.{mapped_get}
+use Rattle.stt_core.proofs.ListLaws.{mapped_get}
 use Rattle.refute_check.proofs.check.check_rows.Goals as goal
 
 pub returns-in-Some-clause-refused : goal.returns-in-Some-clause-refused

@@ -1,6 +1,4 @@
 use Rattle.std.proofs.Common.{OnOk, IfErr, subst}
-use Rattle.stt_core.specs.PlainProblem.{question_of}
-use Rattle.stt_normal.specs.NormalQuestion.{normal_question}
 use Rattle.stt_tableau.specs.Start.{start}
 use Rattle.stt_tableau.specs.Accepted.{IsAccepted, FirstFailure}
 use Rattle.stt_tableau.specs.Refused.{IfRefused}
@@ -8,13 +6,14 @@ use Rattle.refute_text.specs.TextView.{the_text}
 use Rattle.refute_text.specs.Named.{names_of}
 use Rattle.refute_check.specs.Numbered.{numbered_refutation}
 use Rattle.refute_check.proofs.check.check_text.Goals as goal
+use Rattle.stt_core.specs.Declarations.{scope_of}
 
 pub returns-clause-accepted : goal.returns-clause-accepted
 returns-clause-accepted c =
-    let begin = start (normal_question (question_of c.args.problem.now)) in
-    subst (λ p. OnOk c.check_over.result (IsAccepted (question_of p).scope begin (numbered_refutation (names_of p.declared.bases p.declared.consts) (the_text c.args.text.now)))) c.problem.view_is c.check_over.ensures.accepted
+    let begin = start c.args.problem.now in
+    subst (λ p. OnOk c.check_over.result (IsAccepted (scope_of p.declared) begin (numbered_refutation (names_of p.declared.bases p.declared.consts) (the_text c.args.text.now)))) c.problem.view_is c.check_over.ensures.accepted
 
 pub returns-clause-refused : goal.returns-clause-refused
 returns-clause-refused c =
-    let begin = start (normal_question (question_of c.args.problem.now)) in
-    subst (λ p. IfErr c.check_over.result (λ e. IfRefused e (FirstFailure (question_of p).scope begin (numbered_refutation (names_of p.declared.bases p.declared.consts) (the_text c.args.text.now))))) c.problem.view_is c.check_over.ensures.refused
+    let begin = start c.args.problem.now in
+    subst (λ p. IfErr c.check_over.result (λ e. IfRefused e (FirstFailure (scope_of p.declared) begin (numbered_refutation (names_of p.declared.bases p.declared.consts) (the_text c.args.text.now))))) c.problem.view_is c.check_over.ensures.refused

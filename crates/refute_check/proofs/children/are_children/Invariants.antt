@@ -2,7 +2,7 @@ use Rattle.std.proofs.Common.{List, take}
 use Rattle.stt_tableau.specs.Literals.{Literal}
 use Rattle.stt_tableau.specs.Accepted.{AreChildren}
 use Rattle.stt_tableau.specs.declared.refutation.Line.{Line}
-use Rattle.refute_check.specs.Branches.{Represents, AreNumbered, AreBranches}
+use Rattle.refute_check.specs.Means.Branches.{Represents, AreNumbered, AreBranches}
 use Rattle.refute_check.proofs.children.are_children.Given as goal
 
 abbrev pub invariant-loop-i : goal.invariant-loop-i

@@ -2,7 +2,7 @@ use Rattle.std.proofs.Common.{◌∙◌, ◌+◌, ◌++◌, ap, sym, take, appen
 use Rattle.stt_core.specs.View.{the_head}
 use Rattle.stt_core.proofs.SizeLaws.{node_count-at, node_count-spine}
 use Rattle.stt_core.proofs.ListLaws.{take_got}
-use Rattle.refute_check.specs.Keys.{step, term_key, arguments_key}
+use Rattle.refute_check.specs.Means.Keys.{step, term_key, arguments_key}
 use Rattle.refute_check.proofs.Keys.{appended, arguments_key-append, whole_key}
 use Rattle.refute_check.proofs.key.+term_key.Goals as goal
 

@@ -1,7 +1,7 @@
 use Rattle.std.proofs.Common.{◌≡◌, ◌+◌, ◌*◌, ◌++◌, take}
 use Rattle.stt_core.specs.Lambda.{node_count}
 use Rattle.stt_core.specs.Sizes.{counts}
-use Rattle.refute_check.specs.Keys.{arguments_key}
+use Rattle.refute_check.specs.Means.Keys.{arguments_key}
 use Rattle.refute_check.proofs.key.+term_key.Given as goal
 
 abbrev pub decreases-push_arguments : goal.decreases-push_arguments

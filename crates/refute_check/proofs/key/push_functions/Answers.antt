@@ -1,7 +1,7 @@
 use Rattle.std.proofs.Common.{◌<◌, ◌∙◌, ◌+◌, ap, length, take, arith}
 use Rattle.stt_core.proofs.ListLaws.{take_got}
 use Rattle.stt_tableau.proofs.FailureLaws.{element}
-use Rattle.refute_check.specs.Keys.{step, functions_key}
+use Rattle.refute_check.specs.Means.Keys.{step, functions_key}
 use Rattle.refute_check.proofs.Keys.{appended, functions_key-append}
 use Rattle.refute_check.proofs.key.push_functions.Goals as goal
 

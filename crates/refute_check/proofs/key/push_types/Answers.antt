@@ -1,7 +1,7 @@
 use Rattle.std.proofs.Common.{◌+◌, ◌∙◌, ap, take}
 use Rattle.stt_core.specs.View.{the_type}
 use Rattle.stt_core.proofs.ListLaws.{take_got}
-use Rattle.refute_check.specs.Keys.{type_key, types_key}
+use Rattle.refute_check.specs.Means.Keys.{type_key, types_key}
 use Rattle.refute_check.proofs.Keys.{appended, types_key-append}
 use Rattle.refute_check.proofs.key.push_types.Goals as goal
 

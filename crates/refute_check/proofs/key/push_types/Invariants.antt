@@ -1,5 +1,5 @@
 use Rattle.std.proofs.Common.{◌≡◌, ◌++◌, take}
-use Rattle.refute_check.specs.Keys.{types_key}
+use Rattle.refute_check.specs.Means.Keys.{types_key}
 use Rattle.refute_check.proofs.key.push_types.Given as goal
 
 abbrev pub invariant-loop-i : goal.invariant-loop-i

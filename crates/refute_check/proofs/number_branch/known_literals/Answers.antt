@@ -1,8 +1,8 @@
 use Rattle.std.proofs.Common.{◌∙◌, ◌++◌, [], ◌∷◌, ◌||◌, ◌&&◌, ◌==◌, ap, sym, subst, take}
 use Rattle.stt_core.proofs.ListLaws.{take_got}
 use Rattle.stt_tableau.specs.Start.{same_sign}
-use Rattle.refute_check.specs.TermNumbers.{number_in}
-use Rattle.refute_check.specs.Branches.{has, Represents}
+use Rattle.refute_check.specs.Means.TermNumbers.{number_in}
+use Rattle.refute_check.specs.Means.Branches.{has, Represents}
 use Rattle.refute_check.proofs.BranchLaws.{represents-more, represents-unknown}
 use Rattle.refute_check.proofs.number_branch.known_literals.Goals as goal
 use Rattle.refute_check.proofs.number_branch.known_literals.Goals.{in-Some+in_ok-insert, in_default}

@@ -2,7 +2,7 @@ use Rattle.std.proofs.Common.{ap, subst}
 use Rattle.stt_core.specs.ScopeView.{the_scope}
 use Rattle.stt_tableau.proofs.ListLaws.{contains-get}
 use Rattle.stt_tableau.proofs.ClosedLaws.{literal_in}
-use Rattle.refute_check.specs.Branches.{NumbersLiteral}
+use Rattle.refute_check.specs.Means.Branches.{NumbersLiteral}
 use Rattle.refute_check.proofs.BranchLaws.{numbered_to-more}
 use Rattle.refute_check.proofs.number_branch.number_branch.Goals as goal
 

@@ -1,8 +1,8 @@
 use Rattle.std.proofs.Common.{◌≡◌, ◌∙◌, Some, ap, sym, subst}
 use Rattle.stt_core.specs.ScopeView.{the_scope}
 use Rattle.stt_tableau.specs.Literals.{plus, IsLiteral}
-use Rattle.refute_check.specs.TermNumbers.{number_in}
-use Rattle.refute_check.specs.Branches.{AreAtoms}
+use Rattle.refute_check.specs.Means.TermNumbers.{number_in}
+use Rattle.refute_check.specs.Means.Branches.{AreAtoms}
 use Rattle.refute_check.proofs.BranchLaws.{numbered_atom, atoms-more, number_in-last}
 use Rattle.refute_check.proofs.number_branch.number_literal.Goals as goal
 

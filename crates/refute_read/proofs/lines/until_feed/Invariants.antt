@@ -1,5 +1,5 @@
 use Rattle.std.proofs.Common.{◌≡◌, ◌≤◌, ◌-◌, ◌++◌, length, take, drop}
-use Rattle.refute_read.specs.Reader.{is_no_feed, front, after}
+use Rattle.refute_read.specs.Means.Reader.{is_no_feed, front, after}
 use Rattle.refute_read.proofs.lines.until_feed.Given as goal
 
 abbrev pub invariant-loop-end : goal.invariant-loop-end

@@ -1,6 +1,6 @@
 use Rattle.std.proofs.Common.{length, codes}
-use Rattle.refute_read.specs.Reader.{repeated_at, with_items}
-use Rattle.refute_read.specs.LineReader.{literal_at}
+use Rattle.refute_read.specs.Means.Reader.{repeated_at, with_items}
+use Rattle.refute_read.specs.Means.LineReader.{literal_at}
 use Rattle.refute_read.proofs.Repeats.{ItemsLeft}
 use Rattle.refute_read.proofs.read_line.more_literals.Given as goal
 

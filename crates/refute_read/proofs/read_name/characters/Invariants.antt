@@ -1,5 +1,5 @@
 use Rattle.std.proofs.Common.{◌≡◌, length}
-use Rattle.refute_read.specs.Reader.{characters_at}
+use Rattle.refute_read.specs.Means.Reader.{characters_at}
 use Rattle.refute_read.proofs.Readers.{with_front}
 use Rattle.refute_read.proofs.read_name.characters.Given as goal
 

@@ -1,6 +1,6 @@
 use Rattle.std.proofs.Common.{ap, ◌∙◌}
 use Rattle.std.specs.List.{list_all}
-use Rattle.refute_read.specs.Reader.{is_digit}
+use Rattle.refute_read.specs.Means.Reader.{is_digit}
 use Rattle.refute_read.proofs.Readers.{list_all-front}
 use Rattle.refute_read.proofs.read_name.number.Goals as goal
 

@@ -1,6 +1,6 @@
 use Rattle.std.proofs.Common.{◌≡◌, ◌≤◌, ◌-◌, ◌++◌, length, take, drop}
 use Rattle.refute_text.specs.Letters.{is_word_byte}
-use Rattle.refute_read.specs.Reader.{front, after}
+use Rattle.refute_read.specs.Means.Reader.{front, after}
 use Rattle.refute_read.proofs.read_name.word.Given as goal
 
 abbrev pub invariant-loop-end : goal.invariant-loop-end

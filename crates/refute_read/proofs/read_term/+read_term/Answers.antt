@@ -1,5 +1,5 @@
 use Rattle.std.proofs.Common.{sym, ap, subst, ◌∙◌, length, option_map, codes, arith, length-append}
-use Rattle.refute_read.specs.TermReader.{arguments_at, term_at}
+use Rattle.refute_read.specs.Means.TermReader.{arguments_at, term_at}
 use Rattle.refute_read.proofs.Inversions.{behind_some}
 use Rattle.refute_read.proofs.Repeats.{ItemsLeft, items_start, items_more, items_refused, items_end}
 use Rattle.refute_read.proofs.TermReads.{term_shorter}

@@ -1,5 +1,5 @@
 use Rattle.std.proofs.Common.{◌+◌, ◌*◌, length, codes}
-use Rattle.refute_read.specs.TermReader.{arguments_at, term_at}
+use Rattle.refute_read.specs.Means.TermReader.{arguments_at, term_at}
 use Rattle.refute_read.proofs.Repeats.{ItemsLeft}
 use Rattle.refute_read.proofs.read_term.+read_term.Given as goal
 

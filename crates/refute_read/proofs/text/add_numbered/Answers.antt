@@ -1,9 +1,9 @@
 use Rattle.std.proofs.Common.{sym, ap, subst, ◌∙◌, rules}
 use Rattle.refute_text.specs.Text.{text_lines}
 use Rattle.refute_text.specs.TextView.{the_text}
-use Rattle.refute_read.specs.LineReader.{line_at}
+use Rattle.refute_read.specs.Means.LineReader.{line_at}
 use Rattle.refute_read.specs.Reading.{HasText}
-use Rattle.refute_read.specs.Refusals.{IsRefusal}
+use Rattle.refute_read.specs.Means.Refusals.{IsRefusal}
 use Rattle.refute_read.proofs.Grows.{line_added, line_refused}
 use Rattle.refute_read.proofs.text.add_numbered.Goals as goal
 

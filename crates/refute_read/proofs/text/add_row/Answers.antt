@@ -1,9 +1,9 @@
 use Rattle.std.proofs.Common.{sym, ap, subst, ◌∙◌, rules}
 use Rattle.refute_text.specs.Text.{text_lines}
 use Rattle.refute_text.specs.TextView.{the_text}
-use Rattle.refute_read.specs.LineReader.{row_at}
+use Rattle.refute_read.specs.Means.LineReader.{row_at}
 use Rattle.refute_read.specs.Reading.{HasText}
-use Rattle.refute_read.specs.Refusals.{IsRefusal}
+use Rattle.refute_read.specs.Means.Refusals.{IsRefusal}
 use Rattle.refute_read.proofs.Grows.{row_added, row_refused}
 use Rattle.refute_read.proofs.text.add_row.Goals as goal
 

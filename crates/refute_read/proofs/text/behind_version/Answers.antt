@@ -1,6 +1,6 @@
 use Rattle.std.proofs.Common.{sym, subst}
 use Rattle.refute_read.specs.Reading.{lines_of}
-use Rattle.refute_read.specs.Places.{RefusesBehind}
+use Rattle.refute_read.specs.Means.Places.{RefusesBehind}
 use Rattle.refute_read.specs.declared.refusal.TextRefused.TheVariants.{NoEnd}
 use Rattle.refute_read.proofs.Bodies.{version_missing, version_bad}
 use Rattle.refute_read.proofs.text.behind_version.Goals as goal

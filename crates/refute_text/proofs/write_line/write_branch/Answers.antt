@@ -1,9 +1,10 @@
 use Rattle.std.proofs.Common.{subst, ◌∙◌, arith}
 use Rattle.refute_text.specs.Named.{names_of}
-use Rattle.refute_text.specs.Pieces.{literal_at}
-use Rattle.refute_text.specs.Writing.{Took, Stopped}
+use Rattle.refute_text.specs.Means.Pieces.{literal_at}
+use Rattle.outside.specs.Writing.{Took, Stopped}
 use Rattle.refute_text.proofs.Lists.{all_texts-whole}
-use Rattle.refute_text.proofs.Writes.{on_err, took_more, stopped_at}
+use Rattle.outside.proofs.Writes.{on_err}
+use Rattle.refute_text.proofs.Writes.{took_more, stopped_at}
 use Rattle.refute_text.proofs.LineTexts.{branch_members, literal_named}
 use Rattle.refute_text.proofs.write_line.write_branch.Goals as goal
 

@@ -1,7 +1,7 @@
 use Rattle.std.proofs.Common.{take}
 use Rattle.refute_text.specs.Named.{names_of}
-use Rattle.refute_text.specs.Pieces.{literal_at}
-use Rattle.refute_text.specs.Writing.{Took}
+use Rattle.refute_text.specs.Means.Pieces.{literal_at}
+use Rattle.outside.specs.Writing.{Took}
 use Rattle.refute_text.proofs.Lists.{all_texts}
 use Rattle.refute_text.proofs.write_line.write_branch.Given as goal
 

@@ -1,8 +1,9 @@
 use Rattle.std.proofs.Common.{subst, ◌∙◌, arith}
-use Rattle.refute_text.specs.Pieces.{child_at}
-use Rattle.refute_text.specs.Writing.{Took, Stopped}
+use Rattle.refute_text.specs.Means.Pieces.{child_at}
+use Rattle.outside.specs.Writing.{Took, Stopped}
 use Rattle.refute_text.proofs.Lists.{all_texts-whole}
-use Rattle.refute_text.proofs.Writes.{on_err, took_more, stopped_at}
+use Rattle.outside.proofs.Writes.{on_err}
+use Rattle.refute_text.proofs.Writes.{took_more, stopped_at}
 use Rattle.refute_text.proofs.LineTexts.{children_members}
 use Rattle.refute_text.proofs.write_line.write_children.Goals as goal
 

@@ -1,6 +1,6 @@
 use Rattle.std.proofs.Common.{take}
-use Rattle.refute_text.specs.Pieces.{child_at}
-use Rattle.refute_text.specs.Writing.{Took}
+use Rattle.refute_text.specs.Means.Pieces.{child_at}
+use Rattle.outside.specs.Writing.{Took}
 use Rattle.refute_text.proofs.Lists.{all_texts}
 use Rattle.refute_text.proofs.write_line.write_children.Given as goal
 

@@ -1,7 +1,7 @@
 use Rattle.std.proofs.Common.{take}
 use Rattle.refute_text.specs.Named.{names_of}
-use Rattle.refute_text.specs.Pieces.{line_line}
-use Rattle.refute_text.specs.Writing.{Took}
+use Rattle.refute_text.specs.Means.Pieces.{line_line}
+use Rattle.outside.specs.Writing.{Took}
 use Rattle.refute_text.proofs.Lists.{all_texts}
 use Rattle.refute_text.proofs.write_line.write_lines.Given as goal
 

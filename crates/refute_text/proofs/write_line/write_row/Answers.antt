@@ -1,9 +1,9 @@
 use Rattle.std.proofs.Common.{subst, ap, ◌∙◌, ◌++◌, codes, decimal}
 use Rattle.refute_text.specs.Text.{term_text}
 use Rattle.refute_text.specs.Named.{names_of, named_term}
-use Rattle.refute_text.specs.Pieces.{row_line}
-use Rattle.refute_text.specs.Writing.{Took, Stopped}
-use Rattle.refute_text.proofs.Writes.{on_err, took_both, stopped_first, stopped_later}
+use Rattle.refute_text.specs.Means.Pieces.{row_line}
+use Rattle.outside.specs.Writing.{Took, Stopped}
+use Rattle.outside.proofs.Writes.{on_err, took_both, stopped_first, stopped_later}
 use Rattle.refute_text.proofs.LineTexts.{numbered_then}
 use Rattle.refute_text.proofs.write_line.write_row.Goals as goal
 

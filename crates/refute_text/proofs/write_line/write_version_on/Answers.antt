@@ -1,8 +1,8 @@
 use Rattle.std.proofs.Common.{subst, sym, ap, ◌++◌, codes}
 use Rattle.refute_text.specs.Text.{row_texts, line_texts}
 use Rattle.refute_text.specs.Named.{names_of, named_refutation}
-use Rattle.refute_text.specs.Writing.{Took, Stopped}
-use Rattle.refute_text.proofs.Writes.{on_err, took_both, stopped_first, stopped_later}
+use Rattle.outside.specs.Writing.{Took, Stopped}
+use Rattle.outside.proofs.Writes.{on_err, took_both, stopped_first, stopped_later}
 use Rattle.refute_text.proofs.LineTexts.{as_bytes-append}
 use Rattle.refute_text.proofs.write_line.write_version_on.Goals as goal
 

@@ -1,8 +1,9 @@
 use Rattle.std.proofs.Common.{subst, ◌∙◌, arith}
 use Rattle.refute_text.specs.Letters.{escaped}
-use Rattle.refute_text.specs.Writing.{Took, Stopped}
+use Rattle.outside.specs.Writing.{Took, Stopped}
 use Rattle.refute_text.proofs.Lists.{flat_map-all_texts, all_texts-whole, got}
-use Rattle.refute_text.proofs.Writes.{on_err, took_more, stopped_at}
+use Rattle.outside.proofs.Writes.{on_err}
+use Rattle.refute_text.proofs.Writes.{took_more, stopped_at}
 use Rattle.refute_text.proofs.write_name.write_characters.Goals as goal
 
 pub loop-i-preserved : goal.loop-i-preserved

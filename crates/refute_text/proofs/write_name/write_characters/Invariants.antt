@@ -1,6 +1,6 @@
 use Rattle.std.proofs.Common.{take}
 use Rattle.refute_text.specs.Letters.{escaped}
-use Rattle.refute_text.specs.Writing.{Took}
+use Rattle.outside.specs.Writing.{Took}
 use Rattle.refute_text.proofs.Lists.{all_texts}
 use Rattle.refute_text.proofs.write_name.write_characters.Given as goal
 

@@ -1,5 +1,5 @@
 use Rattle.std.proofs.Common.{codes}
-use Rattle.refute_text.proofs.Writes.{on_err, stopped_first}
+use Rattle.outside.proofs.Writes.{on_err, stopped_first}
 use Rattle.refute_text.proofs.write_name.write_quoted.Goals as goal
 
 pub returns-in_err-write-clause-stopped : goal.returns-in_err-write-clause-stopped

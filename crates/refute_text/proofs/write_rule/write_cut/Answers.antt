@@ -1,4 +1,4 @@
-use Rattle.refute_text.proofs.Writes.{on_err, took_both, stopped_first, stopped_later}
+use Rattle.outside.proofs.Writes.{on_err, took_both, stopped_first, stopped_later}
 use Rattle.refute_text.proofs.write_rule.write_cut.Goals as goal
 
 pub returns-in_err-write-clause-stopped : goal.returns-in_err-write-clause-stopped

@@ -1,8 +1,8 @@
 use Rattle.std.proofs.Common.{subst, ◌++◌, codes, decimal}
 use Rattle.refute_text.specs.Text.{term_text}
 use Rattle.refute_text.specs.Named.{names_of, named_term}
-use Rattle.refute_text.specs.Writing.{Took, Stopped}
-use Rattle.refute_text.proofs.Writes.{on_err, took_both, stopped_first, stopped_later}
+use Rattle.outside.specs.Writing.{Took, Stopped}
+use Rattle.outside.proofs.Writes.{on_err, took_both, stopped_first, stopped_later}
 use Rattle.refute_text.proofs.LineTexts.{numbered_then}
 use Rattle.refute_text.proofs.write_rule.write_instance.Goals as goal
 

@@ -2,11 +2,12 @@ use Rattle.std.proofs.Common.{subst, ◌∙◌, codes, arith}
 use Rattle.stt_core.specs.View.{the_head}
 use Rattle.stt_core.proofs.SizeLaws.{node_count-at, node_count-spine}
 use Rattle.refute_text.specs.Named.{names_of}
-use Rattle.refute_text.specs.Pieces.{argument_text}
-use Rattle.refute_text.specs.Writing.{Took, Stopped}
+use Rattle.refute_text.specs.Means.Pieces.{argument_text}
+use Rattle.outside.specs.Writing.{Took, Stopped}
 use Rattle.refute_text.proofs.Lists.{flat_map-all_texts, all_texts-whole}
 use Rattle.refute_text.proofs.TermTexts.{argument_named, pieces_named, applied_text-some, leaf_head, whole_text}
-use Rattle.refute_text.proofs.Writes.{on_err, took_both, took_more, stopped_at, stopped_first, stopped_later}
+use Rattle.outside.proofs.Writes.{on_err, took_both, stopped_first, stopped_later}
+use Rattle.refute_text.proofs.Writes.{took_more, stopped_at}
 use Rattle.refute_text.proofs.write_term.+term.Goals as goal
 
 pub write_argument-returns-in_err-write-clause-stopped : goal.write_argument-returns-in_err-write-clause-stopped

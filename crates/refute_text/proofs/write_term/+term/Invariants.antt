@@ -2,8 +2,8 @@ use Rattle.std.proofs.Common.{◌+◌, ◌*◌, take}
 use Rattle.stt_core.specs.Lambda.{node_count}
 use Rattle.stt_core.specs.Sizes.{counts}
 use Rattle.refute_text.specs.Named.{names_of}
-use Rattle.refute_text.specs.Pieces.{argument_text}
-use Rattle.refute_text.specs.Writing.{Took}
+use Rattle.refute_text.specs.Means.Pieces.{argument_text}
+use Rattle.outside.specs.Writing.{Took}
 use Rattle.refute_text.proofs.Lists.{all_texts}
 use Rattle.refute_text.proofs.write_term.+term.Given as goal
 

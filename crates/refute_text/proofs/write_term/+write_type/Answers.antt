@@ -1,5 +1,5 @@
 use Rattle.std.proofs.Common.{codes}
-use Rattle.refute_text.proofs.Writes.{on_err, stopped_first, stopped_later}
+use Rattle.outside.proofs.Writes.{on_err, stopped_first, stopped_later}
 use Rattle.refute_text.proofs.write_term.+write_type.Goals as goal
 
 pub returns-in_err-write-in-Arrow-clause-stopped : goal.returns-in_err-write-in-Arrow-clause-stopped

@@ -1,4 +1,4 @@
-use Rattle.refute_text.proofs.Writes.{on_err, stopped_first, stopped_later}
+use Rattle.outside.proofs.Writes.{on_err, stopped_first, stopped_later}
 use Rattle.refute_text.proofs.write_term.write_around_type.Goals as goal
 
 pub returns-in_err-write_type-clause-stopped : goal.returns-in_err-write_type-clause-stopped

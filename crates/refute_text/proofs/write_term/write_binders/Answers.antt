@@ -1,10 +1,11 @@
 use Rattle.std.proofs.Common.{subst, ◌∙◌, arith}
 use Rattle.refute_text.specs.Named.{names_of}
-use Rattle.refute_text.specs.Pieces.{binder_text}
-use Rattle.refute_text.specs.Writing.{Took, Stopped}
+use Rattle.refute_text.specs.Means.Pieces.{binder_text}
+use Rattle.outside.specs.Writing.{Took, Stopped}
 use Rattle.refute_text.proofs.Lists.{flat_map-all_texts, all_texts-whole}
 use Rattle.refute_text.proofs.TermTexts.{binder_named}
-use Rattle.refute_text.proofs.Writes.{on_err, took_more, stopped_at}
+use Rattle.outside.proofs.Writes.{on_err}
+use Rattle.refute_text.proofs.Writes.{took_more, stopped_at}
 use Rattle.refute_text.proofs.write_term.write_binders.Goals as goal
 
 pub write_around_type-requires : goal.write_around_type-requires

@@ -1,7 +1,7 @@
 use Rattle.std.proofs.Common.{take}
 use Rattle.refute_text.specs.Named.{names_of}
-use Rattle.refute_text.specs.Pieces.{binder_text}
-use Rattle.refute_text.specs.Writing.{Took}
+use Rattle.refute_text.specs.Means.Pieces.{binder_text}
+use Rattle.outside.specs.Writing.{Took}
 use Rattle.refute_text.proofs.Lists.{all_texts}
 use Rattle.refute_text.proofs.write_term.write_binders.Given as goal
 

@@ -1,5 +1,8 @@
-use Rattle.satallax_top.proofs.RunnableLaws.{normal_question-propositional}
+use Rattle.satallax_top.proofs.RunnableLaws.{assumed_normal, conjecture_normal}
 use Rattle.satallax_top.proofs.law.propositional_formulas_are_normal.Goals as goal
 
-pub returns : goal.returns
-returns c = normal_question-propositional
+pub returns-clause-assumed : goal.returns-clause-assumed
+returns-clause-assumed c = assumed_normal
+
+pub returns-clause-conjecture : goal.returns-clause-conjecture
+returns-clause-conjecture c = conjecture_normal

@@ -1,12 +1,10 @@
 use Rattle.std.proofs.Common.{subst, sym, ap, ◌∙◌}
-use Rattle.stt_core.specs.PlainProblem.{question_of}
-use Rattle.stt_normal.specs.NormalQuestion.{normal_question}
 use Rattle.stt_tableau.specs.Start.{start}
 use Rattle.prover_search.specs.Ended.{EndsAs}
 use Rattle.refute_text.specs.Named.{named_refutation, IsNamed}
 use Rattle.refute_text.specs.Text.{text_lines, as_bytes}
 use Rattle.satallax_top.specs.Runnable.{names_in}
-use Rattle.prover_search.specs.declared.commands.TheConstants.{MAX_COMMANDS}
+use Rattle.prover_search.specs.Run.{command_limit}
 use Rattle.satallax_top.proofs.SolvedLaws.{run_named, proof_of_run, proved_for}
 use Rattle.satallax_top.proofs.solve.ended_answer.Goals as goal
 
@@ -14,7 +12,7 @@ pub refutation_text-requires : goal.refutation_text-requires
 refutation_text-requires c =
     let p = c.args.problem.now in
     subst (λ q. IsNamed (names_in q) c.in-Proved.refutation) (sym c.problem.view_is)
-    (run_named p c.in-Proved.commands c.in-Proved.refutation c.requires.runnable (subst (EndsAs (start (normal_question (question_of p))) MAX_COMMANDS) c.in-Proved.is c.requires.ended))
+    (run_named p c.in-Proved.commands c.in-Proved.refutation c.requires.runnable (subst (EndsAs (start p) command_limit) c.in-Proved.is c.requires.ended))
 
 pub returns-in_ok-text-in-Proved : goal.returns-in_ok-text-in-Proved
 returns-in_ok-text-in-Proved c =
@@ -22,5 +20,5 @@ returns-in_ok-text-in-Proved c =
     let n = c.in-Proved.commands in
     let text = c.in_ok-text-in-Proved.text in
     proved_for p c.proved_outcome.result n text c.proved_outcome.ensures
-    (proof_of_run p n c.in-Proved.refutation c.requires.runnable (subst (EndsAs (start (normal_question (question_of p))) MAX_COMMANDS) c.in-Proved.is c.requires.ended) text
+    (proof_of_run p n c.in-Proved.refutation c.requires.runnable (subst (EndsAs (start p) command_limit) c.in-Proved.is c.requires.ended) text
     (c.in_ok-text-in-Proved.ensures ∙ ap (λ q. as_bytes (text_lines (named_refutation (names_in q) c.in-Proved.refutation))) c.problem.view_is))

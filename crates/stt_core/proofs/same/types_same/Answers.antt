@@ -1,5 +1,4 @@
-use Rattle.std.proofs.Common.{◌≡◌, sym, ◌∙◌, ap, true, false}
-use Rattle.stt_core.specs.SimpleType.{same_type}
+use Rattle.std.proofs.Common.{sym}
 use Rattle.stt_core.specs.View.{the_type}
 use Rattle.stt_core.proofs.ListLaws.{take_both, differ_at}
 use Rattle.stt_core.proofs.TypeLaws.{same_type-true, differ_type}

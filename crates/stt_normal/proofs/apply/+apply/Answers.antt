@@ -5,7 +5,7 @@ use Rattle.stt_core.specs.View.{the_head, the_type}
 use Rattle.stt_core.proofs.HeadLaws.{constant_head}
 use Rattle.stt_core.proofs.ListLaws.{map_more}
 use Rattle.stt_normal.specs.Normal.{ways, replace}
-use Rattle.stt_normal.specs.Ready.{body}
+use Rattle.stt_normal.specs.Means.Applying.{body}
 use Rattle.stt_normal.proofs.ReplaceLaws.{body_view, replaced_whole}
 use Rattle.stt_normal.proofs.CycleLaws.{not_function_head, one_ready, one_returns, all_ready, all_returns, no_argument, head_ready, head_returns, below_returns, above_returns, constant_returns, argument_ready, head_of_ready}
 use Rattle.stt_normal.proofs.apply.+apply.Goals as goal

@@ -1,7 +1,7 @@
 use Rattle.std.proofs.Common.{◌≡◌, ◌+◌, map, take, drop}
 use Rattle.stt_core.specs.View.{the_type, the_head}
 use Rattle.stt_normal.specs.Normal.{ways, ways_of, replace}
-use Rattle.stt_normal.specs.Ready.{body}
+use Rattle.stt_normal.specs.Means.Applying.{body}
 use Rattle.stt_normal.proofs.Prices.{price, price_all, prices}
 use Rattle.stt_normal.proofs.apply.+apply.Given as goal
 

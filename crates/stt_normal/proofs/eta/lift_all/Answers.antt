@@ -1,6 +1,6 @@
 use Rattle.std.proofs.Common.{ap, ◌∙◌, map, take_all, arith}
 use Rattle.stt_core.proofs.ListLaws.{map_more}
-use Rattle.stt_normal.specs.Lift.{lift}
+use Rattle.stt_core.specs.Lift.{lift}
 use Rattle.stt_normal.proofs.eta.lift_all.Goals as goal
 
 pub loop-i-preserved : goal.loop-i-preserved

@@ -1,5 +1,5 @@
 use Rattle.std.proofs.Common.{◌≡◌, map, take}
-use Rattle.stt_normal.specs.Lift.{lift}
+use Rattle.stt_core.specs.Lift.{lift}
 use Rattle.stt_normal.proofs.eta.lift_all.Given as goal
 
 abbrev pub invariant-loop-i : goal.invariant-loop-i

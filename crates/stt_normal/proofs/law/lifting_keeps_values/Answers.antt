@@ -1,4 +1,4 @@
-use Rattle.stt_normal.proofs.LiftLaws.{value-lift}
+use Rattle.stt_core.proofs.LiftLaws.{value-lift}
 use Rattle.stt_normal.proofs.law.lifting_keeps_values.Goals as goal
 
 pub returns : goal.returns

@@ -1,6 +1,6 @@
 use Rattle.std.proofs.Common.{◌≡◌, map, take}
 use Rattle.stt_core.specs.Lambda.{node_count}
-use Rattle.stt_normal.specs.Lift.{lift_by}
+use Rattle.stt_core.specs.Lift.{lift_by}
 use Rattle.stt_normal.proofs.lift.+lift_nf.Given as goal
 
 abbrev pub decreases-lift_nf : goal.decreases-lift_nf

@@ -1,7 +1,7 @@
 use Rattle.std.proofs.Common.{◌<◌, length, [], take, subst, arith}
 use Rattle.stt_core.specs.ScopeView.{the_scope}
 use Rattle.stt_tableau.specs.Witnesses.{with_rows}
-use Rattle.stt_tableau.specs.Checks.{LineAnswer}
+use Rattle.stt_tableau.specs.Means.Answers.{LineAnswer}
 use Rattle.stt_tableau.proofs.FailureLaws.{element, line_refused, lines-more}
 use Rattle.stt_tableau.proofs.accepts.check_lines.Goals as goal
 

@@ -1,12 +1,8 @@
-use Rattle.std.proofs.Common.{◌≡◌, [], Option, Some, None, option_map, sym, ap, subst, ◌∙◌}
-use Rattle.stt_core.specs.SimpleType.{SimpleType, arrow, predicate}
-use Rattle.stt_core.specs.Lambda.{Lambda}
-use Rattle.stt_core.specs.Typing.{Scope}
+use Rattle.std.proofs.Common.{[], Some, option_map, sym, ap, subst, ◌∙◌}
+use Rattle.stt_core.specs.SimpleType.{predicate}
 use Rattle.stt_core.specs.Canonical.{IsCanonical}
-use Rattle.stt_core.specs.CanonicalType.{canonical_type}
 use Rattle.stt_core.specs.View.{the_type}
 use Rattle.stt_core.specs.ScopeView.{the_scope}
-use Rattle.stt_core.proofs.CanonicalTypes.{canonical_type-at}
 use Rattle.stt_tableau.proofs.InstanceLaws.{des_is}
 use Rattle.stt_tableau.proofs.InstanceTypes.{predicate_on, not_untyped}
 use Rattle.stt_tableau.proofs.description.des_instance.Goals as goal

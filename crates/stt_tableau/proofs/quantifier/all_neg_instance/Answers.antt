@@ -1,4 +1,4 @@
-use Rattle.std.proofs.Common.{false, [], ◌∷◌, refl}
+use Rattle.std.proofs.Common.{false, refl}
 use Rattle.stt_core.specs.Lambda.{witness, constant}
 use Rattle.stt_core.specs.View.{the_type}
 use Rattle.stt_normal.specs.Normal.{eta, apply}

@@ -1,7 +1,6 @@
 use Rattle.std.proofs.Common.{ap, ◌∙◌, option_map}
 use Rattle.stt_core.specs.View.{the_term}
-use Rattle.stt_core.specs.PlainProblem.{question_of}
-use Rattle.stt_normal.specs.NormalQuestion.{normal_question}
+use Rattle.stt_core.specs.PlainProblem.{PlainProblem}
 use Rattle.stt_tableau.specs.Literals.{opposite}
 use Rattle.stt_tableau.specs.Start.{start}
 use Rattle.stt_tableau.proofs.StartLaws.{start-denied}
@@ -10,10 +9,10 @@ use Rattle.stt_tableau.proofs.start.start_literals.Goals as goal
 pub returns-in_ok-add-in-Some : goal.returns-in_ok-add-in-Some
 returns-in_ok-add-in-Some c =
     let i = c.problem.inside in
-    let q = question_of (record { declared = record { bases = i.signature.bases; consts = i.signature.consts }; assumed = i.assumed; conjecture = option_map the_term i.conjecture }) in
-    start-denied q (the_term c.in-Some.conjecture) c.opposite-denied.result c.in_ok-lits.lits c.add.new.self
+    let p : PlainProblem = record { declared = record { bases = i.signature.bases; consts = i.signature.consts }; assumed = i.assumed; marked = i.marked; conjecture = option_map the_term i.conjecture } in
+    start-denied p (the_term c.in-Some.conjecture) c.opposite-denied.result c.in_ok-lits.lits c.add.new.self
     (ap (option_map the_term) c.in-Some.is)
     (c.opposite-denied.ensures ∙ ap opposite c.in_ok-formula_literal-in-Some.ensures)
     c.in_ok-lits.ensures
     c.in_ok-add-in-Some.ensures
-    ∙ ap (λ p. start (normal_question (question_of p))) c.problem.view_is
+    ∙ ap start c.problem.view_is

@@ -1,24 +1,24 @@
-use Rattle.std.proofs.Common.{◌≡◌, ℕ, List, ◌++◌, ◌+◌, ◌-◌, ◌*◌, ◌≤◌, length, Ok, IsTrue}
+use Rattle.std.proofs.Common.{◌≡◌, ℕ, List, ◌++◌, ◌+◌, ◌-◌, ◌*◌, ◌≤◌, length, Ok}
 use Rattle.std.specs.Vec.Iter.{into_iter_items}
 use Rattle.thf_syntax.specs.View.{the_file}
-use Rattle.thf_include.specs.declared.limits.TheConstants.{MAX_FILES}
-use Rattle.thf_include.specs.Chain.{the_chain}
-use Rattle.thf_include.specs.Steps.{StatementsStep}
+use Rattle.thf_include.specs.Gathering.{file_limit}
+use Rattle.thf_include.specs.Means.Chain.{the_chain}
+use Rattle.thf_include.specs.Means.Steps.{StatementsStep}
 use Rattle.thf_include.specs.View.{the_statements}
 use Rattle.thf_include.proofs.gathering.+gathering.Given as goal
 
 -- each opened file leaves room for one less
 abbrev pub decreases-gather_file : goal.decreases-gather_file
-decreases-gather_file g l = 4 * (MAX_FILES - length l.opened.now.names)
+decreases-gather_file g l = 4 * (file_limit - length l.opened.now.names)
 
 abbrev pub decreases-gather_include : goal.decreases-gather_include
-decreases-gather_include g l = 4 * (MAX_FILES - length l.opened.now.names) + 1
+decreases-gather_include g l = 4 * (file_limit - length l.opened.now.names) + 1
 
 abbrev pub decreases-gather_statement : goal.decreases-gather_statement
-decreases-gather_statement g l = 4 * (MAX_FILES - length l.opened.now.names) + 2
+decreases-gather_statement g l = 4 * (file_limit - length l.opened.now.names) + 2
 
 abbrev pub decreases-gather_statements : goal.decreases-gather_statements
-decreases-gather_statements g l = 4 * (MAX_FILES - length l.opened.now.names) + 3
+decreases-gather_statements g l = 4 * (file_limit - length l.opened.now.names) + 3
 
 abbrev pub invariant-gather_statements-loop-statement : goal.invariant-gather_statements-loop-statement
 invariant-gather_statements-loop-statement g l =

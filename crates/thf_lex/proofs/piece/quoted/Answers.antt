@@ -1,5 +1,5 @@
 use Rattle.std.proofs.Common.{◌≡◌, ◌∙◌, ap}
-use Rattle.thf_lex.specs.Kind.{kind_of}
+use Rattle.thf_lex.specs.Means.Kind.{kind_of}
 use Rattle.thf_lex.proofs.Pieces.{longest_token, no_token, first_kind}
 use Rattle.thf_lex.proofs.Quotes.{quoted_token, quote_kind}
 use Rattle.thf_lex.proofs.piece.quoted.Goals as goal

@@ -1,5 +1,6 @@
 use Rattle.std.proofs.Common.{codes}
-use Rattle.thf_print.proofs.Writes.{on_err, stopped_first, stopped_later, err_later}
+use Rattle.outside.proofs.Writes.{on_err, stopped_first}
+use Rattle.thf_print.proofs.Writes.{err_later}
 use Rattle.thf_print.proofs.formula.+formula.Goals as goal
 
 pub write_formula-returns-in_err-write-in-Not-clause-stopped : goal.write_formula-returns-in_err-write-in-Not-clause-stopped

@@ -1,6 +1,7 @@
 use Rattle.std.proofs.Common.{refl}
 use Rattle.thf_print.specs.Names.{escaped}
-use Rattle.thf_print.proofs.Writes.{on_err, stopped_at}
+use Rattle.outside.proofs.Writes.{on_err}
+use Rattle.thf_print.proofs.Writes.{stopped_at}
 use Rattle.thf_print.proofs.name.write_characters.Goals as goal
 
 pub returns-in_err-write_escaped-clause-stopped : goal.returns-in_err-write_escaped-clause-stopped

@@ -1,7 +1,7 @@
-use Rattle.std.proofs.Common.{take, codes, ◌++◌}
+use Rattle.std.proofs.Common.{take}
 use Rattle.std.specs.List.{flat_map}
 use Rattle.thf_print.specs.Names.{escaped}
-use Rattle.thf_print.specs.Writing.{Took}
+use Rattle.outside.specs.Writing.{Took}
 use Rattle.thf_print.proofs.name.write_characters.Given as goal
 
 abbrev pub invariant-loop-byte : goal.invariant-loop-byte

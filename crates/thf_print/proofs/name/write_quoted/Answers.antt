@@ -1,5 +1,5 @@
 use Rattle.std.proofs.Common.{codes}
-use Rattle.thf_print.proofs.Writes.{on_err, stopped_first}
+use Rattle.outside.proofs.Writes.{on_err, stopped_first}
 use Rattle.thf_print.proofs.name.write_quoted.Goals as goal
 
 pub returns-in_err-write-clause-stopped : goal.returns-in_err-write-clause-stopped

@@ -1,5 +1,6 @@
 use Rattle.std.proofs.Common.{codes}
-use Rattle.thf_print.proofs.Writes.{on_err, stopped_first, stopped_later, err_later}
+use Rattle.outside.proofs.Writes.{on_err, stopped_first, stopped_later}
+use Rattle.thf_print.proofs.Writes.{err_later}
 use Rattle.thf_print.proofs.statement.write_annotated.Goals as goal
 
 pub returns-in_err-write_heading-clause-stopped : goal.returns-in_err-write_heading-clause-stopped

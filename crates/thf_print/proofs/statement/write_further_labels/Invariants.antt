@@ -2,7 +2,7 @@ use Rattle.std.proofs.Common.{take, codes, ◌++◌}
 use Rattle.std.specs.List.{flat_map}
 use Rattle.thf_syntax.specs.View.{the_selected}
 use Rattle.thf_print.specs.Texts.{selected_text}
-use Rattle.thf_print.specs.Writing.{Took}
+use Rattle.outside.specs.Writing.{Took}
 use Rattle.thf_print.proofs.statement.write_further_labels.Given as goal
 
 abbrev pub invariant-loop-selected : goal.invariant-loop-selected

@@ -1,4 +1,5 @@
-use Rattle.thf_print.proofs.Writes.{on_err, stopped_first, err_later}
+use Rattle.outside.proofs.Writes.{on_err, stopped_first}
+use Rattle.thf_print.proofs.Writes.{err_later}
 use Rattle.thf_print.proofs.statement.write_selected.Goals as goal
 
 pub returns-in_err-write-clause-stopped : goal.returns-in_err-write-clause-stopped

@@ -1,7 +1,8 @@
 use Rattle.std.proofs.lemmas.List.Folds.{flat_map-map}
 use Rattle.thf_syntax.specs.View.{the_statement}
 use Rattle.thf_print.specs.Texts.{statement_text}
-use Rattle.thf_print.proofs.Writes.{on_err, stopped_at, took_all}
+use Rattle.outside.proofs.Writes.{on_err}
+use Rattle.thf_print.proofs.Writes.{stopped_at, took_all}
 use Rattle.thf_print.proofs.statement.write_statements.Goals as goal
 
 pub returns-in_err-write_statement-clause-stopped : goal.returns-in_err-write_statement-clause-stopped

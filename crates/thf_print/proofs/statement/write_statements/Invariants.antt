@@ -1,8 +1,8 @@
-use Rattle.std.proofs.Common.{take, codes, ◌++◌}
+use Rattle.std.proofs.Common.{take}
 use Rattle.std.specs.List.{flat_map}
 use Rattle.thf_syntax.specs.View.{the_statement}
 use Rattle.thf_print.specs.Texts.{statement_text}
-use Rattle.thf_print.specs.Writing.{Took}
+use Rattle.outside.specs.Writing.{Took}
 use Rattle.thf_print.proofs.statement.write_statements.Given as goal
 
 abbrev pub invariant-loop-statement : goal.invariant-loop-statement

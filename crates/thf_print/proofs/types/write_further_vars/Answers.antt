@@ -2,7 +2,8 @@ use Rattle.std.proofs.Common.{codes, ◌++◌}
 use Rattle.thf_syntax.specs.View.{the_var}
 use Rattle.thf_print.specs.Texts.{var_text}
 use Rattle.thf_print.proofs.Lists.{flat_map-map_map}
-use Rattle.thf_print.proofs.Writes.{on_err, stopped_at, took_all}
+use Rattle.outside.proofs.Writes.{on_err}
+use Rattle.thf_print.proofs.Writes.{stopped_at, took_all}
 use Rattle.thf_print.proofs.types.write_further_vars.Goals as goal
 
 pub returns-in_err-write_var-clause-stopped : goal.returns-in_err-write_var-clause-stopped

@@ -2,7 +2,7 @@ use Rattle.std.proofs.Common.{take, codes, ◌++◌}
 use Rattle.std.specs.List.{flat_map}
 use Rattle.thf_syntax.specs.View.{the_var}
 use Rattle.thf_print.specs.Texts.{var_text}
-use Rattle.thf_print.specs.Writing.{Took}
+use Rattle.outside.specs.Writing.{Took}
 use Rattle.thf_print.proofs.types.write_further_vars.Given as goal
 
 abbrev pub invariant-loop-var : goal.invariant-loop-var

@@ -2,7 +2,8 @@ use Rattle.std.proofs.Common.{codes}
 use Rattle.thf_syntax.specs.View.{the_var}
 use Rattle.thf_print.specs.Texts.{var_text}
 use Rattle.thf_print.proofs.Lists.{separated-first}
-use Rattle.thf_print.proofs.Writes.{on_err, stopped_first, err_later}
+use Rattle.outside.proofs.Writes.{on_err, stopped_first}
+use Rattle.thf_print.proofs.Writes.{err_later}
 use Rattle.thf_print.proofs.types.write_vars.Goals as goal
 
 pub returns-in_err-write_var-in-len1-up-clause-stopped : goal.returns-in_err-write_var-in-len1-up-clause-stopped

@@ -1,7 +1,7 @@
 use Rattle.std.proofs.Common.{[], ◌∷◌, ◌++◌, sym, subst}
 use Rattle.stt_core.specs.ScopeView.{the_scope}
-use Rattle.stt_tableau.specs.Checks.{LineAnswer}
-use Rattle.refute_check.specs.Branches.{NumbersBranch, AreBranches}
+use Rattle.stt_tableau.specs.Means.Answers.{LineAnswer}
+use Rattle.refute_check.specs.Means.Branches.{NumbersBranch, AreBranches}
 use Rattle.refute_check.proofs.BranchLaws.{branches-append, branches-grow}
 use Rattle.refute_check.proofs.lines.RightLines.add.Goals as goal
 

@@ -1,5 +1,5 @@
 use Rattle.std.proofs.Common.{◌∙◌, ap, [], ◌∷◌, ◌++◌, sym}
-use Rattle.refute_check.specs.TermNumbers.{number_in}
+use Rattle.refute_check.specs.Means.TermNumbers.{number_in}
 use Rattle.refute_check.proofs.NumberLaws.{kept-more}
 use Rattle.refute_check.proofs.term_numbers.TermNumbers.add.Goals as goal
 

@@ -3,7 +3,7 @@ use Rattle.stt_core.specs.Lambda.{witness, constant}
 use Rattle.stt_core.specs.View.{the_type}
 use Rattle.stt_normal.specs.Normal.{eta, apply}
 use Rattle.stt_tableau.specs.Literals.{literal, opposite}
-use Rattle.stt_tableau.specs.Checks.{IsRowOf}
+use Rattle.stt_tableau.specs.Means.Instances.{IsRowOf}
 use Rattle.stt_tableau.proofs.InstanceLaws.{all_neg_is}
 use Rattle.stt_tableau.proofs.InstanceTypes.{witness_applies}
 use Rattle.refute_check.proofs.witnesses.Witnesses.all_neg_instance.Goals as goal

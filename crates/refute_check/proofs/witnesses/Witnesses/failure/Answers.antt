@@ -2,7 +2,7 @@ use Rattle.std.proofs.Common.{◌∙◌, [], ap, sym}
 use Rattle.stt_core.specs.SimpleType.{predicate}
 use Rattle.stt_core.specs.Canonical.{IsCanonical}
 use Rattle.stt_tableau.proofs.FailureLaws.{over_rows}
-use Rattle.refute_check.specs.TermNumbers.{number_in}
+use Rattle.refute_check.specs.Means.TermNumbers.{number_in}
 use Rattle.refute_check.proofs.WitnessNumbers.{is_twice, is_once}
 use Rattle.refute_check.proofs.witnesses.Witnesses.failure.Goals as goal
 

@@ -4,7 +4,8 @@ use Rattle.stt_core.specs.View.{the_type}
 use Rattle.stt_core.proofs.TypeLaws.{same_type_refl, same_type-true}
 use Rattle.stt_tableau.proofs.ListLaws.{untrue, contains-get}
 use Rattle.stt_tableau.proofs.FailureLaws.{below_length}
-use Rattle.refute_check.proofs.WitnessNumbers.{mapped_get, numbered_row, no_row, is_row, other_type}
+use Rattle.stt_core.proofs.ListLaws.{mapped_get}
+use Rattle.refute_check.proofs.WitnessNumbers.{numbered_row, no_row, is_row, other_type}
 use Rattle.refute_check.proofs.witnesses.Witnesses.of_predicate.Goals as goal
 
 pub returns-in_default : goal.returns-in_default

@@ -1,5 +1,5 @@
 use Rattle.std.proofs.Common.{ap, ◌∙◌}
-use Rattle.refute_check.specs.TermNumbers.{number_in}
+use Rattle.refute_check.specs.Means.TermNumbers.{number_in}
 use Rattle.refute_check.proofs.WitnessNumbers.{no_number}
 use Rattle.refute_check.proofs.witnesses.Witnesses.push.Goals as goal
 

@@ -1,6 +1,6 @@
 use Rattle.std.proofs.Common.{sym, ◌∙◌}
 use Rattle.stt_tableau.proofs.ListLaws.{untrue}
-use Rattle.stt_tableau.proofs.StartLaws.{added-there, added-new}
+use Rattle.stt_tableau.proofs.AddedLaws.{added-there, added-new}
 use Rattle.stt_tableau.proofs.lit.Lits.add.Goals as goal
 
 pub returns-in_ok-push : goal.returns-in_ok-push

@@ -1,0 +1,9 @@
+-- Means of proof: what private contracts and proofs speak of.
+pub mod Outcome
+pub mod Reader
+pub mod FormulaReader
+pub mod NoteReader
+pub mod StatementReader
+pub mod Passes
+pub mod Reads
+pub mod Marks
