@@ -1,0 +1,5 @@
+pub mod CompleteLaws
+pub mod CountLaws
+pub mod TrailLaws
+pub mod WatchLaws
+pub mod AnalysisLaws

@@ -1,0 +1,5 @@
+pub mod Complete
+pub mod Counting
+pub mod Watching
+pub mod Trail
+pub mod Analysis
