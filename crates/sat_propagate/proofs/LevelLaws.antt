@@ -1,0 +1,103 @@
+-- The trail of a right propagator is complete at each decision, and whole where all of it is processed.
+use Rattle.std.proofs.Common.{◌≡◌, ◌≢◌, inl, inr, ◌<◌, ℕ, not, Bool, true, false, List, Some, IsTrue, length, take, refl, sym, ap, ◌∙◌, subst, arith}
+use Rattle.std.specs.Prelude.{if◌then◌else◌}
+use Rattle.std.specs.List.{Contains, slice_get}
+use Rattle.std.proofs.lemmas.Bool.{false≢true, cases_Bool, true_from_ne_false}
+use Rattle.std.proofs.lemmas.List.Elements.{All-weaker, All-contains_itself}
+use Rattle.sat_base.specs.declared.literal.Var.{Var}
+use Rattle.sat_base.specs.Truth.{assigned, clause_value, AllTrue}
+use Rattle.sat_base.proofs.LiteralLaws.{All-held, All-from_held}
+use Rattle.sat_base.proofs.TruthLaws.{clause_value-held}
+use Rattle.sat_log.proofs.VariableLaws.{mentioned_as}
+use Rattle.std.specs.Option.{option_map}
+use Rattle.std.proofs.lemmas.List.{length-map}
+use Rattle.std.proofs.lemmas.Option.{slice_get_cases, slice_get-map, get_or_from_slice_get}
+use Rattle.sat_base.specs.declared.literal.SatLit.{SatLit}
+use Rattle.sat_base.specs.Literal.{negated, holds, mentions, HoldsNoVariableTwice, IsOver}
+use Rattle.sat_log.specs.Propagation.{IsUnit, IsFalseIn, IsConsistent}
+use Rattle.sat_laws.specs.Complete.{IsComplete}
+use Rattle.sat_laws.specs.Watching.{IsKept}
+use Rattle.sat_laws.proofs.CompleteLaws.{consistent_once}
+use Rattle.sat_laws.proofs.WatchLaws.{kept_at, kept_now, held-take}
+use Rattle.sat_propagate.specs.Trail.{TrailState, literals, IsTrail, IsPhased}
+use Rattle.sat_propagate.specs.WatchLists.{WatchPair}
+use Rattle.sat_propagate.specs.Propagator.{IsPropagator, texts}
+use Rattle.sat_propagate.specs.declared.trail.Step.{Step}
+use Rattle.sat_propagate.specs.declared.watched.Watched.{Watched}
+
+-- a text is that of some clause
+pub text_at : (clauses : List Watched) (clause : List SatLit) → Contains (texts clauses) clause → (n : ℕ) × (watched : Watched) × (slice_get clauses n ≡ Some watched) × (watched.clause ≡ clause)
+text_at clauses clause there =
+    elim ((slice_get_cases clauses there.0).1) [
+      | inl at ↦
+          let text : slice_get (texts clauses) there.0 ≡ Some at.0.clause = slice_get-map (λ (w : Watched). w.clause) clauses there.0 ∙ ap (option_map (λ (w : Watched). w.clause)) at.2 in
+          (there.0, at.0, at.2, sym (get_or_from_slice_get (texts clauses) there.0 at.0.clause clause text) ∙ there.2)
+      | inr past ↦
+          let short = past.0 in
+          let inside = there.1 in
+          absurd (omega (arith, length-map clauses (λ (w : Watched). w.clause)))
+    ]
+
+consistent_part : (some : List SatLit) (s : ℕ) → HoldsNoVariableTwice some → IsConsistent (take s some)
+consistent_part some s once l h n = consistent_once some once l (held-take s some l h) (held-take s some (negated l) n)
+
+pub complete_at : (trail : TrailState) (processed : ℕ) (clauses : List Watched) (lists : List WatchPair) (s : ℕ) → IsPropagator trail processed clauses lists → IsTrail trail → Contains trail.starts s
+    → IsComplete (texts clauses) (take s (literals trail.steps))
+complete_at trail processed clauses lists s right whole at = record {
+  none_false = λ clause there each.
+      let w = text_at clauses clause there in
+      (kept_at trail.starts (literals trail.steps) processed w.1.clause w.1.first w.1.second s at (consistent_part (literals trail.steps) s whole.once) (right.kept w.0 w.1 w.2)).0
+      (subst (IsFalseIn (take s (literals trail.steps))) (sym w.3) each);
+  units_held = λ clause l there unit.
+      let w = text_at clauses clause there in
+      (kept_at trail.starts (literals trail.steps) processed w.1.clause w.1.first w.1.second s at (consistent_part (literals trail.steps) s whole.once) (right.kept w.0 w.1 w.2)).1 l
+      (subst (λ (c : List SatLit). IsUnit (take s (literals trail.steps)) c l) (sym w.3) unit);
+}
+
+pub complete_now : (trail : TrailState) (processed : ℕ) (clauses : List Watched) (lists : List WatchPair) → IsPropagator trail processed clauses lists → IsTrail trail → processed ≡ length trail.steps
+    → IsComplete (texts clauses) (literals trail.steps)
+complete_now trail processed clauses lists right whole all = record {
+  none_false = λ clause there each.
+      let w = text_at clauses clause there in
+      (kept_now trail.starts (literals trail.steps) w.1.clause w.1.first w.1.second (consistent_once (literals trail.steps) whole.once) (kept w.0 w.1 w.2)).0 (subst (IsFalseIn (literals trail.steps)) (sym w.3) each);
+  units_held = λ clause l there unit.
+      let w = text_at clauses clause there in
+      (kept_now trail.starts (literals trail.steps) w.1.clause w.1.first w.1.second (consistent_once (literals trail.steps) whole.once) (kept w.0 w.1 w.2)).1 l
+      (subst (λ (c : List SatLit). IsUnit (literals trail.steps) c l) (sym w.3) unit);
+}
+  where
+    kept : (n : ℕ) (w : Watched) → slice_get clauses n ≡ Some w → IsKept trail.starts (literals trail.steps) (length (literals trail.steps)) w.clause w.first w.second
+    kept n w at = subst (λ (q : ℕ). IsKept trail.starts (literals trail.steps) q w.clause w.first w.second) (all ∙ sym (length-map trail.steps (λ (s : Step). s.literal))) (right.kept n w at)
+
+-- the value that a phase gives a literal whose sign it is
+value_of : (value sign : Bool) → value ≡ sign → (if sign then value else not value) ≡ true
+value_of true true e = refl
+value_of true false e = absurd (false≢true (sym e))
+value_of false true e = absurd (false≢true e)
+value_of false false e = refl
+
+-- where each variable has a value and nothing is left to process, the phases make every clause true
+pub values_true : (trail : TrailState) (processed : ℕ) (clauses : List Watched) (lists : List WatchPair) → IsPropagator trail processed clauses lists → IsTrail trail → IsPhased trail
+    → processed ≡ length trail.steps → ((v : Var) → v.0 < length trail.phases → mentions (literals trail.steps) v ≢ false) → AllTrue (assigned trail.phases) (texts clauses)
+values_true trail processed clauses lists right whole phased all full =
+    All-weaker (Contains (texts clauses)) (λ clause. IsTrue (clause_value (assigned trail.phases) clause)) holds_each (texts clauses) (All-contains_itself (texts clauses))
+  where
+    complete : IsComplete (texts clauses) (literals trail.steps)
+    complete = complete_now trail processed clauses lists right whole all
+
+    denied : (clause : List SatLit) → Contains (texts clauses) clause → clause_value (assigned trail.phases) clause ≡ false → (l : SatLit) → holds clause l ≡ true → holds (literals trail.steps) (negated l) ≡ true
+    denied clause there not_true l h =
+        let w = text_at clauses clause there in
+        let made : l.var.0 < length trail.phases =
+        All-held (λ (m : SatLit). m.var.0 < length trail.phases) clause l (subst (IsOver (length trail.phases)) w.3 (right.over w.0 w.1 w.2)) h in
+        elim (mentioned_as (literals trail.steps) l (true_from_ne_false (mentions (literals trail.steps) l.var) (full l.var made))) [
+          | inl held ↦ absurd (false≢true (sym not_true ∙ clause_value-held (assigned trail.phases) clause l h (value_of (assigned trail.phases l.var) l.positive (phased l held))))
+          | inr negation ↦ negation
+        ]
+
+    holds_each : (clause : List SatLit) → Contains (texts clauses) clause → IsTrue (clause_value (assigned trail.phases) clause)
+    holds_each clause there =
+        elim (cases_Bool (clause_value (assigned trail.phases) clause)) [
+          | inl is ↦ is
+          | inr not_true ↦ absurd (complete.none_false clause there (All-from_held (λ (l : SatLit). IsTrue (holds (literals trail.steps) (negated l))) clause (denied clause there not_true)))
+        ]

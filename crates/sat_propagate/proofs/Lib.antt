@@ -1,0 +1,8 @@
+pub mod ListLaws
+pub mod PlaceLaws
+pub mod PropagatorLaws
+pub mod EntryLaws
+pub mod TableLaws
+pub mod LevelLaws
+pub mod BackLaws
+pub mod InsertLaws

@@ -1,0 +1,9 @@
+use Rattle.std.proofs.Common.{◌≢◌, IsTrue, take}
+use Rattle.sat_base.specs.declared.literal.SatLit.{SatLit}
+use Rattle.sat_base.specs.Literal.{holds, negated}
+use Rattle.sat_propagate.specs.Trail.{literals}
+use Rattle.sat_propagate.proofs.propagator.Propagator.replacement.Given as goal
+
+abbrev pub invariant-loop-literal : goal.invariant-loop-literal
+invariant-loop-literal l =
+    (m : SatLit) → IsTrue (holds (take l.literal-index l.among) m) → m ≢ l.a → m ≢ l.b → IsTrue (holds (literals l.self.trail.steps) (negated m))

@@ -1,0 +1,5 @@
+pub mod Trail
+pub mod WatchLists
+pub mod Propagator
+pub mod Finding
+pub mod Insertion

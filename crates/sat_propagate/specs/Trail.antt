@@ -1,0 +1,50 @@
+-- What contracts see of a trail, and what is true of each trail.
+use Rattle.std.specs.Prelude.{◌≡◌, ◌<◌, ℕ, Bool, false, ◌&&◌, IsTrue, List, Some, map, length, slice_get, slice_index_or}
+use Rattle.std.specs.Bool.{beq}
+use Rattle.std.specs.List.{All}
+use Rattle.sat_base.specs.declared.literal.Var.{Var}
+use Rattle.sat_base.specs.declared.literal.SatLit.{SatLit}
+use Rattle.sat_base.specs.Literal.{holds, HoldsNoVariableTwice, IsOver}
+use Rattle.sat_propagate.specs.declared.trail.Step.{Step}
+use Rattle.sat_propagate.specs.declared.trail.Cell.{Cell}
+
+-- the true literals with their reasons, in order; how many there were at each decision; the last value of each variable
+pub record TrailState : Type 0 where
+  pub steps : List Step
+  pub starts : List ℕ
+  pub phases : List Bool
+
+-- the literals of some steps
+abbrev pub literals : List Step → List SatLit
+literals steps = map (λ step. step.literal) steps
+
+abbrev pub open_cell : Cell
+open_cell = record { assigned = false; positive = false; place = 0 }
+
+-- what a table says of a variable
+abbrev pub cell_of : List Cell → Var → Cell
+cell_of cells v = slice_index_or cells v.0 open_cell
+
+-- whether a table says that a literal is true
+abbrev pub is_true_in : List Cell → SatLit → Bool
+is_true_in cells l = (cell_of cells l.var).assigned && beq (cell_of cells l.var).positive l.positive
+
+-- the table says of exactly the literals of the steps that they are true, and where they stand
+pub record IsTabled (cells : List Cell) (steps : List Step) : Type 0 where
+  pub values : (l : SatLit) → is_true_in cells l ≡ holds (literals steps) l
+  pub places : (i : ℕ) (step : Step) → slice_get steps i ≡ Some step → (cell_of cells step.literal.var).place ≡ i
+
+-- no variable stands on the trail twice, each is made, and the starts ascend and are within the trail
+pub record IsTrail (trail : TrailState) : Type 0 where
+  pub once : HoldsNoVariableTwice (literals trail.steps)
+  pub over : IsOver (length trail.phases) (literals trail.steps)
+  pub within : All (λ s. s < length trail.steps) trail.starts
+  pub ascending : (i j : ℕ) → i < j → j < length trail.starts → slice_index_or trail.starts i 0 < slice_index_or trail.starts j 0
+
+-- the phase of a variable that has a value is this value
+abbrev pub IsPhased : TrailState → Type 0
+IsPhased trail = (l : SatLit) → IsTrue (holds (literals trail.steps) l) → slice_index_or trail.phases l.var.0 false ≡ l.positive
+
+pub record IsTrailInside (cells : List Cell) (trail : TrailState) : Type 0 where
+  pub tabled : IsTabled cells trail.steps
+  pub right : IsTrail trail

@@ -1,0 +1,506 @@
+//! Unit propagation over clauses with two watched literals each.
+ghost use Rattle.std.specs.Prelude.{◌≡◌, ◌≢◌, ◌⊎◌, ◌<◌, ◌≤◌, [], ◌∷◌, ◌++◌, ◌+◌, ℕ, Some, None, Option, IsTrue, true, false, length, map, take, slice_get, slice_index_or, IfOk, IfSome, IfNone, OnOk, OnErr, MatchOption};
+ghost use Rattle.std.specs.List.{All, Contains};
+ghost use Rattle.sat_base.specs.declared.literal.SatLit.{SatLit};
+ghost use Rattle.sat_base.specs.Literal.{holds, negated, mentions, IsOver};
+ghost use Rattle.sat_base.specs.Truth.{AllTrue, assigned};
+ghost use Rattle.sat_laws.specs.Complete.{satisfies};
+ghost use Rattle.sat_log.specs.Propagation.{IsFalseIn};
+ghost use Rattle.sat_propagate.specs.Insertion.{IsSooner, IsRank, IsBest, IsUnseen};
+ghost use Rattle.sat_propagate.specs.Trail.{literals, IsTrail};
+ghost use Rattle.sat_propagate.specs.WatchLists.{watchers};
+ghost use Rattle.sat_propagate.specs.Propagator.{IsPropagator, AreDone, IsDone, Grew, IsConflict, Watches, Moves, texts};
+ghost use Rattle.sat_base.specs.declared.literal.Var.{Var};
+ghost use Rattle.sat_propagate.specs.Finding.{Finds, FindsOther};
+ghost use Rattle.sat_propagate.specs.declared.watched.Watched.{Watched};
+
+use crate::decider::Decider;
+use crate::trail::Trail;
+use crate::watch_lists::{Watch, WatchLists};
+use crate::watched::Watched;
+use sat_base::{Clause, SatLit, Var};
+use std::alloc::{AllocError, Global};
+
+/// What a visit of a clause found, one of whose watched literals became false.
+pub enum Finding {
+    Stale,
+    Satisfied(SatLit),
+    Other(SatLit),
+    Unit(SatLit),
+    False,
+}
+
+/// How a search ended: all variables have values, or a clause is false.
+#[derive(Clone, Copy, Debug)]
+pub enum Ended {
+    Full,
+    False(usize),
+}
+
+/// What to do after the visit of an entry.
+pub enum Visited {
+    Next,
+    Again,
+    False(usize),
+}
+
+/// Clauses in the order in which they were inserted, with a trail.
+#[derive(Debug, Drop)]
+pub struct Propagator {
+    pub trail: Trail,
+    pub processed: usize,
+    pub clauses: Vec<Watched>,
+    pub lists: WatchLists,
+    pub decider: Decider,
+}
+
+impl Propagator {
+    pub fn new(alloc: Global) -> Self
+        ensures right { IsPropagator result.trail result.processed result.clauses.items result.lists }
+        ensures trail { result.trail ≡ record { steps = []; starts = []; phases = [] } }
+        ensures clauses { result.clauses.items ≡ [] }
+    {
+        Propagator {
+            trail: Trail::new(alloc),
+            processed: 0,
+            clauses: Vec::new(alloc),
+            lists: WatchLists::new(alloc),
+            decider: Decider::new(alloc),
+        }
+    }
+
+    /// One variable more, which has no value.
+    pub fn add_variable(&mut self) -> Result<(), AllocError>
+        requires right { IsPropagator self.old.trail self.old.processed self.old.clauses.items self.old.lists }
+        ensures right { IsPropagator self.new.trail self.new.processed self.new.clauses.items self.new.lists }
+        ensures ok { OnOk result (self.new.trail ≡ record self.old.trail { phases = self.old.trail.phases ++ false ∷ [] }) }
+        ensures err { OnErr result (self.new.trail ≡ self.old.trail) }
+        ensures clauses { self.new.clauses.items ≡ self.old.clauses.items }
+    {
+        self.lists.add_variable()?;
+        self.decider.add_variable()?;
+        self.trail.add_variable()?;
+        Ok(())
+    }
+
+    /// The literals of a clause.
+    pub fn literals(&self, n: usize) -> &[SatLit]
+        requires { n < length self.now.clauses.items }
+        ensures { (watched : Watched) → slice_get self.now.clauses.items n ≡ Some watched → result.now ≡ watched.clause }
+    {
+        self.clauses[n].clause.as_slice()
+    }
+
+    /// Makes true what follows by unit propagation. The number of a clause that is false then, if there is one.
+    pub fn propagate(&mut self) -> Result<Option<usize>, AllocError>
+        requires right { IsPropagator self.old.trail self.old.processed self.old.clauses.items self.old.lists }
+        ensures right { IsPropagator self.new.trail self.new.processed self.new.clauses.items self.new.lists }
+        ensures grew { Grew self.old.trail self.old.clauses.items self.new.trail self.new.clauses.items }
+        ensures whole { IfOk result (λ r. r ≡ None → self.new.processed ≡ length self.new.trail.steps) }
+        ensures conflict { IfOk result (λ r. (n : ℕ) → r ≡ Some n → IsConflict self.new.trail self.new.clauses.items n) }
+    {
+        while self.processed < self.trail.len() {
+            let falsified = self.trail.step(self.processed).literal.negated();
+            if let Some(conflict) = self.visit(falsified)? {
+                return Ok(Some(conflict));
+            }
+            self.processed += 1;
+        }
+        Ok(None)
+    }
+
+    /// Visits the clauses that watch a literal which became false.
+    fn visit(&mut self, falsified: SatLit) -> Result<Option<usize>, AllocError>
+        requires right { IsPropagator self.old.trail self.old.processed self.old.clauses.items self.old.lists }
+        requires falsified { IsTrue (holds (literals self.old.trail.steps) (negated falsified)) }
+        requires made { falsified.var.0 < length self.old.trail.phases }
+        ensures right { IsPropagator self.new.trail self.new.processed self.new.clauses.items self.new.lists }
+        ensures grew { Grew self.old.trail self.old.clauses.items self.new.trail self.new.clauses.items }
+        ensures processed { self.new.processed ≡ self.old.processed }
+        ensures visited { IfOk result (λ r. r ≡ None → AreDone self.new.trail self.new.clauses.items self.new.lists falsified (length (watchers self.new.lists falsified))) }
+        ensures conflict { IfOk result (λ r. (n : ℕ) → r ≡ Some n → IsConflict self.new.trail self.new.clauses.items n) }
+    {
+        let mut i = 0;
+        while i < self.lists.of(falsified).len() {
+            match self.visit_entry(falsified, i)? {
+                Visited::Next => i += 1,
+                Visited::Again => {}
+                Visited::False(conflict) => return Ok(Some(conflict)),
+            }
+        }
+        Ok(None)
+    }
+
+    /// Visits one of the entries of a literal which became false.
+    fn visit_entry(&mut self, falsified: SatLit, i: usize) -> Result<Visited, AllocError>
+        requires right { IsPropagator self.old.trail self.old.processed self.old.clauses.items self.old.lists }
+        requires falsified { IsTrue (holds (literals self.old.trail.steps) (negated falsified)) }
+        requires made { falsified.var.0 < length self.old.trail.phases }
+        requires there { i < length (watchers self.old.lists falsified) }
+        ensures right { IsPropagator self.new.trail self.new.processed self.new.clauses.items self.new.lists }
+        ensures grew { Grew self.old.trail self.old.clauses.items self.new.trail self.new.clauses.items }
+        ensures processed { self.new.processed ≡ self.old.processed }
+        ensures next { IfOk result (λ r. r ≡ Visited.Next → (length (watchers self.new.lists falsified) ≡ length (watchers self.old.lists falsified)) × (AreDone self.old.trail self.old.clauses.items self.old.lists falsified i → AreDone self.new.trail self.new.clauses.items self.new.lists falsified (i + 1))) }
+        ensures again { IfOk result (λ r. r ≡ Visited.Again → (length (watchers self.new.lists falsified) + 1 ≡ length (watchers self.old.lists falsified)) × (AreDone self.old.trail self.old.clauses.items self.old.lists falsified i → AreDone self.new.trail self.new.clauses.items self.new.lists falsified i)) }
+        ensures conflict { IfOk result (λ r. (n : ℕ) → r ≡ Visited.False n → IsConflict self.new.trail self.new.clauses.items n) }
+    {
+        let watch = self.lists.entry(falsified, i);
+        if self.trail.is_true(watch.blocker) {
+            return Ok(Visited::Next);
+        }
+        let n = watch.clause;
+        match self.look_at(n, falsified) {
+            Finding::Stale => {
+                let _ = self.lists.remove(falsified, i);
+                Ok(Visited::Again)
+            }
+            Finding::Satisfied(blocker) => {
+                self.lists.set(falsified, i, Watch { clause: n, blocker });
+                Ok(Visited::Next)
+            }
+            Finding::Other(literal) => {
+                self.watch_other(n, falsified, literal)?;
+                let _ = self.lists.remove(falsified, i);
+                Ok(Visited::Again)
+            }
+            Finding::Unit(literal) => {
+                self.trail.assign(literal, Some(n))?;
+                Ok(Visited::Next)
+            }
+            Finding::False => Ok(Visited::False(n)),
+        }
+    }
+
+    /// Looks at a clause, one of whose watched literals became false.
+    fn look_at(&self, n: usize, falsified: SatLit) -> Finding
+        requires { IsTrue (holds (literals self.now.trail.steps) (negated falsified)) }
+        ensures { Finds (literals self.now.trail.steps) (slice_get self.now.clauses.items n) falsified result }
+    {
+        let Some(watched) = self.clauses.get(n) else {
+            return Finding::Stale;
+        };
+        let other = if watched.first == falsified {
+            watched.second
+        } else if watched.second == falsified {
+            watched.first
+        } else {
+            return Finding::Stale;
+        };
+        if self.trail.is_true(other) {
+            return Finding::Satisfied(other);
+        }
+        match self.replacement(watched.clause.as_slice(), falsified, other) {
+            Some(literal) => Finding::Other(literal),
+            None if self.trail.is_false(other) => Finding::False,
+            None => Finding::Unit(other),
+        }
+    }
+
+    /// A literal that is not false, other than these two.
+    fn replacement(&self, among: &[SatLit], a: SatLit, b: SatLit) -> Option<SatLit>
+        ensures some { IfSome result (λ l. IsTrue (holds among.now l) × (l ≢ a) × (l ≢ b) × (holds (literals self.now.trail.steps) (negated l) ≡ false)) }
+        ensures none { IfNone result ((l : SatLit) → IsTrue (holds among.now l) → l ≢ a → l ≢ b → IsTrue (holds (literals self.now.trail.steps) (negated l))) }
+    {
+        for literal in among {
+            if self.is_free(*literal, a, b) {
+                return Some(*literal);
+            }
+        }
+        None
+    }
+
+    fn is_free(&self, literal: SatLit, a: SatLit, b: SatLit) -> bool
+        ensures yes { IsTrue result → (literal ≢ a) × (literal ≢ b) × (holds (literals self.now.trail.steps) (negated literal) ≡ false) }
+        ensures no { result ≡ false → literal ≢ a → literal ≢ b → IsTrue (holds (literals self.now.trail.steps) (negated literal)) }
+    {
+        literal != a && literal != b && !self.trail.is_false(literal)
+    }
+
+    /// Watches a literal in place of another one.
+    fn watch_other(&mut self, n: usize, from: SatLit, to: SatLit) -> Result<(), AllocError>
+        requires found { FindsOther (literals self.old.trail.steps) (slice_get self.old.clauses.items n) from to }
+        requires made { to.var.0 < length self.old.lists }
+        ensures moved { OnOk result (Moves self.old.clauses.items self.new.clauses.items self.old.lists self.new.lists n from to) }
+        ensures clauses_kept { OnErr result (self.new.clauses.items ≡ self.old.clauses.items) }
+        ensures lists_kept { OnErr result (self.new.lists ≡ self.old.lists) }
+        ensures trail { self.new.trail ≡ self.old.trail }
+        ensures processed { self.new.processed ≡ self.old.processed }
+    {
+        let blocker = self.clauses[n].other_than(from);
+        self.lists.push(to, Watch { clause: n, blocker })?;
+        self.clauses[n].replace(from, to);
+        Ok(())
+    }
+
+    /// Decides and propagates until all variables have values or a clause is false.
+    pub fn search(&mut self) -> Result<Ended, AllocError>
+        requires right { IsPropagator self.old.trail self.old.processed self.old.clauses.items self.old.lists }
+        ensures right { IsPropagator self.new.trail self.new.processed self.new.clauses.items self.new.lists }
+        ensures made { length self.new.trail.phases ≡ length self.old.trail.phases }
+        ensures texts { texts self.new.clauses.items ≡ texts self.old.clauses.items }
+        ensures full { IfOk result (λ r. r ≡ Ended.Full → AllTrue (assigned self.new.trail.phases) (texts self.new.clauses.items)) }
+        ensures conflict { IfOk result (λ r. (n : ℕ) → r ≡ Ended.False n → IsConflict self.new.trail self.new.clauses.items n) }
+    {
+        loop {
+            if let Some(conflict) = self.propagate()? {
+                return Ok(Ended::False(conflict));
+            }
+            let _assigned = self.trail.len();
+            match self.pick() {
+                Some(var) => self.decide(var)?,
+                None => return Ok(Ended::Full),
+            }
+        }
+    }
+
+    /// A variable without a value, if there is one.
+    fn pick(&mut self) -> Option<Var>
+        ensures some { IfSome result (λ v. (v.0 < length self.old.trail.phases) × (mentions (literals self.old.trail.steps) v ≡ false)) }
+        ensures none { IfNone result ((v : Var) → v.0 < length self.old.trail.phases → mentions (literals self.old.trail.steps) v ≢ false) }
+        ensures trail { self.new.trail ≡ self.old.trail }
+        ensures processed { self.new.processed ≡ self.old.processed }
+        ensures clauses { self.new.clauses.items ≡ self.old.clauses.items }
+        ensures lists { self.new.lists ≡ self.old.lists }
+    {
+        if self.trail.len() == self.trail.variables() {
+            return None;
+        }
+        match self.decider.next(&self.trail) {
+            Some(var) => Some(var),
+            None => self.trail.first_open(),
+        }
+    }
+
+    /// Makes a variable true or false, by its last value.
+    pub fn decide(&mut self, var: Var) -> Result<(), AllocError>
+        requires right { IsPropagator self.old.trail self.old.processed self.old.clauses.items self.old.lists }
+        requires whole { self.old.processed ≡ length self.old.trail.steps }
+        requires made { var.0 < length self.old.trail.phases }
+        requires undecided { mentions (literals self.old.trail.steps) var ≡ false }
+        ensures right { IsPropagator self.new.trail self.new.processed self.new.clauses.items self.new.lists }
+        ensures clauses { self.new.clauses.items ≡ self.old.clauses.items }
+        ensures made { length self.new.trail.phases ≡ length self.old.trail.phases }
+        ensures longer { OnOk result (length self.new.trail.steps ≡ length self.old.trail.steps + 1) }
+    {
+        let positive = self.trail.phase(var);
+        self.trail.decide(SatLit { var, positive })?;
+        Ok(())
+    }
+
+    /// Variables that took part in a conflict are proposed sooner.
+    pub fn bump(&mut self, variables: &[Var])
+        ensures trail { self.new.trail ≡ self.old.trail }
+        ensures processed { self.new.processed ≡ self.old.processed }
+        ensures clauses { self.new.clauses.items ≡ self.old.clauses.items }
+        ensures lists { self.new.lists ≡ self.old.lists }
+    {
+        self.decider.advance(variables);
+    }
+
+    /// Goes back to a number of decisions, where there are more.
+    pub fn back_to(&mut self, levels: usize)
+        requires right { IsPropagator self.old.trail self.old.processed self.old.clauses.items self.old.lists }
+        ensures right { IsPropagator self.new.trail self.new.processed self.new.clauses.items self.new.lists }
+        ensures clauses { self.new.clauses.items ≡ self.old.clauses.items }
+        ensures phases { self.new.trail.phases ≡ self.old.trail.phases }
+        ensures starts { self.new.trail.starts ≡ take levels self.old.trail.starts }
+        ensures steps { levels < length self.old.trail.starts → self.new.trail.steps ≡ take (slice_index_or self.old.trail.starts levels 0) self.old.trail.steps }
+        ensures same { length self.old.trail.starts ≤ levels → self.new.trail ≡ self.old.trail }
+    {
+        if levels < self.trail.levels() {
+            let start = self.trail.start(levels);
+            propose_from(&mut self.decider, &self.trail, start);
+            self.trail.back_to(levels);
+            self.processed = start;
+        }
+    }
+
+    /// Inserts a clause, going back as far as it needs. Not inserted, and false is answered, where all its literals are
+    /// false without a decision and at most one of them is another than the others.
+    pub fn insert(&mut self, clause: Clause) -> Result<bool, AllocError>
+        requires right { IsPropagator self.old.trail self.old.processed self.old.clauses.items self.old.lists }
+        requires over { IsOver (length self.old.trail.phases) clause }
+        ensures right { IsPropagator self.new.trail self.new.processed self.new.clauses.items self.new.lists }
+        ensures made { length self.new.trail.phases ≡ length self.old.trail.phases }
+        ensures inserted { IfOk result (λ r. r ≡ true → texts self.new.clauses.items ≡ texts self.old.clauses.items ++ clause ∷ []) }
+        ensures refused { IfOk result (λ r. r ≡ false → self.new.clauses.items ≡ self.old.clauses.items) }
+        ensures falsified { IfOk result (λ r. r ≡ false → IsFalseIn (literals self.new.trail.steps) clause) }
+        ensures root { IfOk result (λ r. r ≡ false → self.new.trail.starts ≡ []) }
+        ensures err { OnErr result (self.new.clauses.items ≡ self.old.clauses.items) }
+    {
+        let Some(first) = self.best(clause.as_slice(), None) else {
+            self.back_to(0);
+            return Ok(false);
+        };
+        match self.best(clause.as_slice(), Some(first)) {
+            Some(second) => {
+                self.insert_watched(clause, first, second)?;
+                Ok(true)
+            }
+            None => self.insert_unit(clause, first),
+        }
+    }
+
+    /// The literal other than a given one that is not false, or else that became false last.
+    fn best(&self, among: &[SatLit], other: Option<SatLit>) -> Option<SatLit>
+        ensures some { IfSome result (λ l. IsBest (literals self.now.trail.steps) among.now other l) }
+        ensures none { IfNone result ((l : SatLit) → IsTrue (holds among.now l) → other ≡ Some l) }
+    {
+        let mut best = None;
+        for literal in among {
+            if self.is_better(*literal, other, best) {
+                best = Some(*literal);
+            }
+        }
+        best
+    }
+
+    fn is_better(&self, literal: SatLit, other: Option<SatLit>, than: Option<SatLit>) -> bool
+        ensures new { IsTrue result → other ≢ Some literal }
+        ensures yes { IsTrue result → (t : SatLit) → than ≡ Some t → IsSooner (literals self.now.trail.steps) t literal }
+        ensures no { result ≡ false → other ≢ Some literal → (t : SatLit) × (than ≡ Some t) × IsSooner (literals self.now.trail.steps) literal t }
+    {
+        if other == Some(literal) {
+            return false;
+        }
+        match than {
+            None => true,
+            Some(than) => self.rank(than) < self.rank(literal),
+        }
+    }
+
+    /// The place where a literal became false, or the end of the trail.
+    fn rank(&self, literal: SatLit) -> usize
+        ensures { IsRank (literals self.now.trail.steps) literal result }
+    {
+        if self.trail.is_false(literal) {
+            self.trail.place(literal.var)
+        } else {
+            self.trail.len()
+        }
+    }
+
+    fn insert_unit(&mut self, clause: Clause, literal: SatLit) -> Result<bool, AllocError>
+        requires right { IsPropagator self.old.trail self.old.processed self.old.clauses.items self.old.lists }
+        requires over { IsOver (length self.old.trail.phases) clause }
+        requires member { IsTrue (holds clause literal) }
+        requires alone { (l : SatLit) → IsTrue (holds clause l) → l ≡ literal }
+        ensures right { IsPropagator self.new.trail self.new.processed self.new.clauses.items self.new.lists }
+        ensures made { length self.new.trail.phases ≡ length self.old.trail.phases }
+        ensures inserted { IfOk result (λ r. r ≡ true → texts self.new.clauses.items ≡ texts self.old.clauses.items ++ clause ∷ []) }
+        ensures refused { IfOk result (λ r. r ≡ false → self.new.clauses.items ≡ self.old.clauses.items) }
+        ensures falsified { IfOk result (λ r. r ≡ false → IsFalseIn (literals self.new.trail.steps) clause) }
+        ensures root { IfOk result (λ r. r ≡ false → self.new.trail.starts ≡ []) }
+        ensures err { OnErr result (self.new.clauses.items ≡ self.old.clauses.items) }
+    {
+        self.back_to(0);
+        if self.trail.is_false(literal) {
+            return Ok(false);
+        }
+        self.clauses.reserve(1)?;
+        if !self.trail.is_true(literal) {
+            self.trail.assign(literal, Some(self.clauses.len()))?;
+        }
+        self.clauses.push_reserved(Watched {
+            clause,
+            first: literal,
+            second: literal,
+        });
+        Ok(true)
+    }
+
+    fn insert_watched(
+        &mut self,
+        clause: Clause,
+        first: SatLit,
+        second: SatLit,
+    ) -> Result<(), AllocError>
+        requires right { IsPropagator self.old.trail self.old.processed self.old.clauses.items self.old.lists }
+        requires over { IsOver (length self.old.trail.phases) clause }
+        requires first { IsTrue (holds clause first) }
+        requires second { IsTrue (holds clause second) }
+        requires apart { first ≢ second }
+        requires sooner { IsSooner (literals self.old.trail.steps) second first }
+        ensures right { IsPropagator self.new.trail self.new.processed self.new.clauses.items self.new.lists }
+        ensures made { length self.new.trail.phases ≡ length self.old.trail.phases }
+        ensures inserted { OnOk result (texts self.new.clauses.items ≡ texts self.old.clauses.items ++ clause ∷ []) }
+        ensures err { OnErr result (self.new.clauses.items ≡ self.old.clauses.items) }
+    {
+        self.make_room(second);
+        self.clauses.reserve(1)?;
+        let n = self.clauses.len();
+        self.lists.push(
+            first,
+            Watch {
+                clause: n,
+                blocker: second,
+            },
+        )?;
+        self.lists.push(
+            second,
+            Watch {
+                clause: n,
+                blocker: first,
+            },
+        )?;
+        self.clauses.push_reserved(Watched {
+            clause,
+            first,
+            second,
+        });
+        Ok(())
+    }
+
+    /// Goes back to where a clause may be watched whose second best literal is this one. Where it is false, the trail
+    /// is processed again from its place on, so that propagation finds what the clause makes true.
+    fn make_room(&mut self, literal: SatLit)
+        requires right { IsPropagator self.old.trail self.old.processed self.old.clauses.items self.old.lists }
+        ensures right { IsPropagator self.new.trail self.new.processed self.new.clauses.items self.new.lists }
+        ensures made { length self.new.trail.phases ≡ length self.old.trail.phases }
+        ensures clauses { self.new.clauses.items ≡ self.old.clauses.items }
+        ensures unseen { (l : SatLit) → IsSooner (literals self.old.trail.steps) literal l → IsUnseen self.new.trail.starts (literals self.new.trail.steps) self.new.processed l }
+    {
+        if self.trail.is_false(literal) {
+            let place = self.trail.place(literal.var);
+            let level = self.level_of(place);
+            self.back_to(level);
+            self.process_from(place);
+        }
+    }
+
+    /// Processes the trail again from a place on, where that is sooner.
+    fn process_from(&mut self, place: usize)
+        requires right { IsPropagator self.old.trail self.old.processed self.old.clauses.items self.old.lists }
+        requires started { (s : ℕ) → Contains self.old.trail.starts s → s ≤ place }
+        ensures right { IsPropagator self.new.trail self.new.processed self.new.clauses.items self.new.lists }
+        ensures trail { self.new.trail ≡ self.old.trail }
+        ensures clauses { self.new.clauses.items ≡ self.old.clauses.items }
+        ensures processed { self.new.processed ≤ place }
+    {
+        if place < self.processed {
+            self.processed = place;
+        }
+    }
+
+    /// How many decisions are not after a place.
+    fn level_of(&self, place: usize) -> usize
+        ensures earlier { (s : ℕ) → Contains (take result self.now.trail.starts) s → s ≤ place }
+        ensures later { result < length self.now.trail.starts → place < slice_index_or self.now.trail.starts result 0 }
+    {
+        let mut level = self.trail.levels();
+        while level > 0 {
+            if self.trail.start(level - 1) <= place {
+                return level;
+            }
+            level -= 1;
+        }
+        0
+    }
+}
+
+/// Proposes the variables that have their values from a place on.
+fn propose_from(decider: &mut Decider, trail: &Trail, start: usize) {
+    for place in start..trail.len() {
+        decider.propose(trail.step(place).literal.var);
+    }
+}
