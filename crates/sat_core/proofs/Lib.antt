@@ -1,0 +1,9 @@
+pub mod MarkLaws
+pub mod CountingLaws
+pub mod AnalysisSteps
+pub mod NameLaws
+pub mod LearnerLaws
+pub mod LearnerSteps
+pub mod DecisionLaws
+pub mod SpentLaws
+pub mod SolverLaws

@@ -1,0 +1,62 @@
+-- What callers see of a learner.
+use Rattle.std.proofs.Common.{◌≡◌, Bool, true, false, List, [], ◌∷◌, ◌++◌, length, refl, sym, ap, ◌∙◌, subst, arith, append-nil}
+use Rattle.std.specs.List.{All, Contains}
+use Rattle.std.proofs.lemmas.List.{length-map}
+use Rattle.std.proofs.lemmas.List.Elements.{All-contains, Contains-push}
+use Rattle.std.proofs.lemmas.Option.{slice_get_within}
+use Rattle.sat_base.specs.declared.literal.SatLit.{SatLit}
+use Rattle.sat_base.specs.Truth.{Unsat, Implies}
+use Rattle.sat_base.proofs.TruthLaws.{unsat_from_empty}
+use Rattle.sat_log.specs.declared.log.LogEntry.{LogEntry}
+use Rattle.sat_log.specs.Chains.{results}
+use Rattle.sat_log.specs.Propagation.{IsNew, ReachesFalse}
+use Rattle.sat_log.proofs.Implied.{results_implied}
+use Rattle.sat_core.specs.declared.learner.Learner.{Learner}
+use Rattle.sat_core.specs.Solver.{SolverState, learned_from, learned, Grows, IsSound}
+use Rattle.sat_core.specs.Learner.{IsLearner, Grew, seen}
+use Rattle.sat_core.proofs.AnalysisSteps.{contains_at}
+use Rattle.sat_core.proofs.LearnerLaws.{learned_open, learned_at}
+
+pub sound_of : (s : Learner) → IsLearner s → IsSound (seen s)
+sound_of s l = record {
+  logged = l.logged;
+  once = l.of_learned.once;
+  apart = l.of_learned.apart;
+  ends = λ e. let r = l.refuted e in r.ends ∙ ap (λ (b : Bool). learned_from b (results s.log) ++ [] ∷ []) (sym e);
+}
+
+pub implied_of : (s : Learner) → IsLearner s → All (Implies s.clauses) (results s.log)
+implied_of s l = results_implied s.clauses s.log l.logged
+
+pub unsat_of : (s : Learner) → IsLearner s → s.is_refuted ≡ true → Unsat s.clauses
+unsat_of s l e =
+    let r = l.refuted e in
+    let there : Contains (results s.log) [] = subst (λ (list : List (List SatLit)). Contains list []) (sym r.ends) (Contains-push (learned_from true (results s.log)) []) in
+    unsat_from_empty s.clauses (All-contains (Implies s.clauses) (results s.log) [] (implied_of s l) there)
+
+pub reached_of : (s : Learner) → IsLearner s → s.is_refuted ≡ true → ReachesFalse (s.clauses ++ learned (seen s)) []
+reached_of s l e = subst (λ (b : Bool). ReachesFalse (s.clauses ++ learned_from b (results s.log)) []) (sym e) (l.refuted e).propagated
+
+pub grows_of : (before after : Learner) → before.is_refuted ≡ false → IsLearner after → Grew before after → Grows (seen before) (seen after)
+grows_of before after still_open l grew = record {
+  clauses_same = grew.clauses_same;
+  made_same = grew.made_same;
+  more = grew.more;
+  appended = grew.appended;
+  new = λ k clause from at.
+      let found = learned_at after.is_refuted (results after.log) k clause at in
+      let count : length (learned (seen before)) ≡ length before.log =
+      ap (λ (list : List (List SatLit)). length list) (learned_open before.is_refuted (results before.log) still_open) ∙ length-map before.log (λ (entry : LogEntry). entry.result) in
+      subst (λ (list : List (List SatLit)). IsNew (before.clauses ++ list) clause) (sym found.1)
+      (grew.new k clause (omega (arith, from, count)) found.0 (l.of_learned.filled clause (contains_at (learned (seen after)) k clause at)));
+}
+
+-- nothing changed
+pub grows_same : (solver : SolverState) → Grows solver solver
+grows_same solver = record {
+  clauses_same = refl;
+  made_same = refl;
+  more = [];
+  appended = sym (append-nil solver.log);
+  new = λ k clause from at. let inside = slice_get_within (learned solver) k clause at in absurd (omega (arith, from, inside));
+}

@@ -1,0 +1,9 @@
+use Rattle.std.proofs.Common.{◌≡◌, length}
+use Rattle.sat_core.specs.Learned.{IsAnalysed}
+use Rattle.sat_core.proofs.analysis.learned_chain.Given as goal
+
+abbrev pub invariant-loop-place : goal.invariant-loop-place
+invariant-loop-place l = record {
+  analysed : IsAnalysed l.propagator.clauses.items l.propagator.trail l.names l.conflict l.start l.marks l.steps l.late l.place;
+  made : length l.marks ≡ length l.fn.marks;
+}

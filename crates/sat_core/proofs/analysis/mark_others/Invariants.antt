@@ -1,0 +1,15 @@
+use Rattle.std.proofs.Common.{◌≡◌, ◌≤◌, ◌+◌, ◌||◌, length, take, drop}
+use Rattle.sat_base.specs.declared.literal.Var.{Var}
+use Rattle.sat_base.specs.Literal.{mentions}
+use Rattle.sat_laws.specs.Analysis.{how_many}
+use Rattle.sat_propagate.specs.Trail.{literals}
+use Rattle.sat_core.specs.Marks.{is_marked, marks_literal, others}
+use Rattle.sat_core.proofs.analysis.mark_others.Given as goal
+
+abbrev pub invariant-loop-literal : goal.invariant-loop-literal
+invariant-loop-literal l = record {
+  marks : (v : Var) → is_marked l.marks v ≡ (is_marked l.fn.marks v || mentions (others l.own (take l.literal-index l.among)) v);
+  made : length l.marks ≡ length l.fn.marks;
+  counted : l.late + how_many (marks_literal l.fn.marks) (drop l.start (literals l.trail.steps)) ≡ how_many (marks_literal l.marks) (drop l.start (literals l.trail.steps));
+  few : l.late ≤ l.literal-index;
+}

@@ -1,0 +1,22 @@
+use Rattle.std.proofs.Common.{◌≤◌, ◌-◌, length}
+use Rattle.sat_core.specs.Learner.{IsLearner, IsUnlearned}
+use Rattle.sat_core.proofs.learner.Learner.insert_all.Given as goal
+
+abbrev pub invariant-loop-self : goal.invariant-loop-self
+invariant-loop-self l = record {
+  learner : IsLearner l.self;
+  same : IsUnlearned l.fn.self l.self;
+}
+
+abbrev pub decreases-loop-self : goal.decreases-loop-self
+decreases-loop-self l = length l.self.clauses - l.self.inserted_clauses
+
+abbrev pub invariant-loop-self-2 : goal.invariant-loop-self-2
+invariant-loop-self-2 l = record {
+  learner : IsLearner l.self;
+  same : IsUnlearned l.fn.self l.self;
+  whole : length l.self.clauses ≤ l.self.inserted_clauses;
+}
+
+abbrev pub decreases-loop-self-2 : goal.decreases-loop-self-2
+decreases-loop-self-2 l = length l.self.log - l.self.inserted_results

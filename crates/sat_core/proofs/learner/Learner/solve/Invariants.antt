@@ -1,0 +1,14 @@
+use Rattle.std.proofs.Common.{◌≡◌, ◌≤◌, ◌-◌, false, length}
+use Rattle.sat_core.specs.Learner.{IsLearner, Grew}
+use Rattle.sat_core.proofs.learner.Learner.solve.Given as goal
+
+abbrev pub invariant-loop-answer : goal.invariant-loop-answer
+invariant-loop-answer l = record {
+  learner : IsLearner l.self;
+  still_open : l.self.is_refuted ≡ false;
+  within : length l.self.log ≤ l.fn.budget;
+  grew : Grew l.fn.self l.self;
+}
+
+abbrev pub decreases-loop-answer : goal.decreases-loop-answer
+decreases-loop-answer l = l.fn.budget - length l.self.log

@@ -1,0 +1,4 @@
+pub mod Solver
+pub mod Marks
+pub mod Learned
+pub mod Learner

@@ -1,0 +1,13 @@
+//! An incremental solver for clauses: it learns a clause from each conflict, and its log shows how.
+#![tactic(auto)]
+
+mod analysis;
+mod learner;
+mod marks;
+mod restarts;
+mod solver;
+#[cfg(test)]
+mod tests;
+
+pub use learner::Answer;
+pub use solver::Solver;
