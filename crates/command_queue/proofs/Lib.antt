@@ -1,0 +1,3 @@
+pub mod OrderLaws
+pub mod HeapLaws
+pub mod AgendaLaws
