@@ -1,0 +1,13 @@
+use Rattle.std.proofs.Common.{◌≡◌, ◌≤◌, ◌-◌, ◌++◌, length, take, drop}
+use Rattle.mode_file.specs.Lines.{is_in, front, after}
+use Rattle.mode_file.proofs.bytes.split_front.Given as goal
+
+abbrev pub invariant-loop-end : goal.invariant-loop-end
+invariant-loop-end l = record {
+  within : l.end ≤ length l.bytes;
+  front_is : take l.end l.bytes ++ front (is_in l.class) (drop l.end l.bytes) ≡ front (is_in l.class) l.bytes;
+  after_is : after (is_in l.class) (drop l.end l.bytes) ≡ after (is_in l.class) l.bytes;
+}
+
+abbrev pub decreases-loop-end : goal.decreases-loop-end
+decreases-loop-end l = length l.bytes - l.end

@@ -1,0 +1,64 @@
+-- The numbers that a file gives to keys.
+use Rattle.std.specs.Prelude.{ℕ, ◌≤◌, Option, Some, None, unwrap_or}
+use Rattle.mode_file.specs.declared.Mode.{Mode}
+use Rattle.mode_file.specs.declared.given.Given.{Given}
+use Rattle.mode_file.specs.declared.keys.Key.{Key}
+use Rattle.mode_file.specs.declared.keys.Key.TheVariants.{Process, Mate, Confront, Inst, Choose, Grow, Commands, Conflicts}
+use Rattle.mode_file.specs.Keys.{standard, greatest}
+
+abbrev pub nothing : Given
+nothing = record {
+  process = None;
+  mate = None;
+  confront = None;
+  inst = None;
+  choose = None;
+  grow = None;
+  commands = None;
+  conflicts = None;
+}
+
+abbrev pub number_of : Given → Key → Option ℕ
+number_of given Process = given.process
+number_of given Mate = given.mate
+number_of given Confront = given.confront
+number_of given Inst = given.inst
+number_of given Choose = given.choose
+number_of given Grow = given.grow
+number_of given Commands = given.commands
+number_of given Conflicts = given.conflicts
+
+-- the same numbers, with one more
+abbrev pub with_number : Given → Key → ℕ → Given
+with_number given Process n = record given { process = Some n }
+with_number given Mate n = record given { mate = Some n }
+with_number given Confront n = record given { confront = Some n }
+with_number given Inst n = record given { inst = Some n }
+with_number given Choose n = record given { choose = Some n }
+with_number given Grow n = record given { grow = Some n }
+with_number given Commands n = record given { commands = Some n }
+with_number given Conflicts n = record given { conflicts = Some n }
+
+-- the mode of these numbers: the other keys have their standard ones
+abbrev pub mode_of : Given → Mode
+mode_of given = record {
+  process = unwrap_or given.process (standard Process);
+  mate = unwrap_or given.mate (standard Mate);
+  confront = unwrap_or given.confront (standard Confront);
+  inst = unwrap_or given.inst (standard Inst);
+  choose = unwrap_or given.choose (standard Choose);
+  grow = unwrap_or given.grow (standard Grow);
+  commands = unwrap_or given.commands (standard Commands);
+  conflicts = unwrap_or given.conflicts (standard Conflicts);
+}
+
+-- no number of the mode is above the greatest that its key takes
+pub record IsInRange (mode : Mode) : Type 0 where
+  pub process : mode.process ≤ greatest Process
+  pub mate : mode.mate ≤ greatest Mate
+  pub confront : mode.confront ≤ greatest Confront
+  pub inst : mode.inst ≤ greatest Inst
+  pub choose : mode.choose ≤ greatest Choose
+  pub grow : mode.grow ≤ greatest Grow
+  pub commands : mode.commands ≤ greatest Commands
+  pub conflicts : mode.conflicts ≤ greatest Conflicts

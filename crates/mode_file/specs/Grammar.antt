@@ -1,0 +1,105 @@
+-- The grammar of mode files, line by line.
+use Rattle.std.specs.Prelude.{◌≡◌, ◌⊎◌, ℕ, suc, ◌+◌, ◌*◌, ◌-◌, ◌<◌, ◌≤◌, ◌==◌, ◌||◌, ◌&&◌, not, nat_eq, Bool, true, false, List, [], ◌∷◌, ◌++◌, length, replicate, codes, Some, None, IsSome}
+use Rattle.std.specs.List.{list_all, starts_with}
+use Rattle.mode_file.specs.declared.Mode.{Mode}
+use Rattle.mode_file.specs.declared.given.Given.{Given}
+use Rattle.mode_file.specs.declared.keys.Key.{Key}
+use Rattle.mode_file.specs.declared.refused.Cause.{Cause}
+use Rattle.mode_file.specs.declared.refused.Cause.TheVariants.{UnknownKey, Twice, BadNumber, OutOfRange}
+use Rattle.mode_file.specs.Keys.{name_of, greatest, key_of}
+use Rattle.mode_file.specs.Given.{nothing, number_of, with_number, mode_of}
+use Rattle.mode_file.specs.Lines.{is_blank, is_digit, front}
+
+-- whether a line says nothing: it is blank, or a comment
+abbrev pub says_nothing : List ℕ → Bool
+says_nothing line = list_all is_blank line || starts_with nat_eq line (codes "%")
+
+-- what stands before the first blank byte
+abbrev pub first_word : List ℕ → List ℕ
+first_word line = front (λ c. not (is_blank c)) line
+
+-- digits, of which the first isn't 0 where there are several
+abbrev pub is_decimal : List ℕ → Bool
+is_decimal [] = false
+is_decimal (c ∷ []) = is_digit c
+is_decimal (c ∷ d ∷ ds) = not (c == 48) && list_all is_digit (c ∷ d ∷ ds)
+
+-- the number that these digits write behind the digits of another number
+abbrev pub number_from : ℕ → List ℕ → ℕ
+number_from n [] = n
+number_from n (c ∷ cs) = number_from (10 * n + (c - 48)) cs
+
+-- a line of a key, some spaces, a number, any spaces, and at most one carriage return
+pub record Sets (line : List ℕ) (key : Key) (n : ℕ) : Type 0 where
+  pub gap : ℕ
+  pub digits : List ℕ
+  pub spaces : ℕ
+  pub ending : List ℕ
+  pub line_is : line ≡ name_of key ++ (replicate (suc gap) 32 ++ (digits ++ (replicate spaces 32 ++ ending)))
+  pub decimal : is_decimal digits ≡ true
+  pub number_is : number_from 0 digits ≡ n
+  pub ends : (ending ≡ []) ⊎ (ending ≡ 13 ∷ [])
+
+-- a line that gives a number within its range to a key that has none yet
+pub record Gives (before : Given) (line : List ℕ) (after : Given) : Type 0 where
+  pub key : Key
+  pub n : ℕ
+  pub sets : Sets line key n
+  pub is_new : number_of before key ≡ None
+  pub in_range : n ≤ greatest key
+  pub after_is : after ≡ with_number before key n
+
+-- a good line, which says nothing or gives a number
+abbrev pub IsGood : Given → List ℕ → Given → Type 0
+IsGood before line after = ((says_nothing line ≡ true) × (after ≡ before)) ⊎ Gives before line after
+
+-- good lines, one after the other
+abbrev pub AreGood : Given → List (List ℕ) → Given → Type 0
+AreGood before [] after = after ≡ before
+AreGood before (line ∷ lines) after = (between : Given) × (IsGood before line between × AreGood between lines after)
+
+-- the line's first word is a key that has a number
+pub record IsTwice (given : Given) (line : List ℕ) : Type 0 where
+  pub key : Key
+  pub named : key_of (first_word line) ≡ Some key
+  pub has : IsSome (number_of given key)
+
+-- the line's first word is a key that has no number, and the line isn't one that gives it a number
+pub record HasBadNumber (given : Given) (line : List ℕ) : Type 0 where
+  pub key : Key
+  pub named : key_of (first_word line) ≡ Some key
+  pub is_new : number_of given key ≡ None
+  pub no_number : (n : ℕ) → Sets line key n → ⊥
+
+-- the line gives a key that has no number one above its range
+pub record IsOutOfRange (given : Given) (line : List ℕ) : Type 0 where
+  pub key : Key
+  pub n : ℕ
+  pub sets : Sets line key n
+  pub is_new : number_of given key ≡ None
+  pub above : greatest key < n
+
+-- why a line is bad that says something, behind lines that gave these numbers
+abbrev pub IsBadFor : Given → List ℕ → Cause → Type 0
+IsBadFor given line UnknownKey = key_of (first_word line) ≡ None
+IsBadFor given line Twice = IsTwice given line
+IsBadFor given line BadNumber = HasBadNumber given line
+IsBadFor given line OutOfRange = IsOutOfRange given line
+
+-- the lines state this mode
+pub record States (lines : List (List ℕ)) (mode : Mode) : Type 0 where
+  pub given : Given
+  pub good : AreGood nothing lines given
+  pub mode_is : mode ≡ mode_of given
+
+-- the line of this number, counted from 1, is the first bad one, for this cause
+pub record IsFirstBad (lines : List (List ℕ)) (number : ℕ) (cause : Cause) : Type 0 where
+  pub before : List (List ℕ)
+  pub bad : List ℕ
+  pub behind : List (List ℕ)
+  pub given : Given
+  pub lines_are : lines ≡ before ++ (bad ∷ behind)
+  pub good : AreGood nothing before given
+  pub says : says_nothing bad ≡ false
+  pub cause_is : IsBadFor given bad cause
+  pub number_is : number ≡ length before + 1

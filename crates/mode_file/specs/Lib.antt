@@ -1,0 +1,6 @@
+pub mod Keys
+pub mod Given
+pub mod Lines
+pub mod Grammar
+pub mod Reader
+pub mod Refusals

@@ -1,0 +1,36 @@
+-- Bytes by lines and by fronts.
+use Rattle.std.specs.Prelude.{ℕ, ◌==◌, ◌||◌, not, Bool, List, [], ◌∷◌, nat_le, ◌&&◌, if◌then◌else◌}
+use Rattle.std.specs.List.{onto_first}
+use Rattle.mode_file.specs.declared.bytes.ByteClass.{ByteClass}
+use Rattle.mode_file.specs.declared.bytes.ByteClass.TheVariants.{InLine, InWord, Space, Digit}
+
+-- the lines of bytes: a line feed ends each, and the bytes behind the last line feed are one more line, where there are any
+abbrev pub lines_of : List ℕ → List (List ℕ)
+lines_of [] = []
+lines_of (c ∷ cs) = if c == 10 then [] ∷ lines_of cs else onto_first c (lines_of cs)
+
+-- a space, a tab or a carriage return
+abbrev pub is_blank : ℕ → Bool
+is_blank c = (c == 32) || (c == 9) || (c == 13)
+
+abbrev pub is_space : ℕ → Bool
+is_space c = c == 32
+
+abbrev pub is_digit : ℕ → Bool
+is_digit c = nat_le 48 c && nat_le c 57
+
+-- the longest front whose bytes all meet a test, and what follows it
+abbrev pub front : (ℕ → Bool) → List ℕ → List ℕ
+front p [] = []
+front p (c ∷ cs) = if p c then c ∷ front p cs else []
+
+abbrev pub after : (ℕ → Bool) → List ℕ → List ℕ
+after p [] = []
+after p (c ∷ cs) = if p c then after p cs else c ∷ cs
+
+-- what stands in a line; in a word, which a blank byte ends; a space; a digit
+abbrev pub is_in : ByteClass → ℕ → Bool
+is_in InLine c = not (c == 10)
+is_in InWord c = not (is_blank c)
+is_in Space c = is_space c
+is_in Digit c = is_digit c
