@@ -1,0 +1,4 @@
+pub mod Numbers
+pub mod LineLaws
+pub mod TableLaws
+pub mod RowLaws

@@ -1,0 +1,6 @@
+pub mod Options
+pub mod Line
+pub mod Names
+pub mod Requests
+pub mod View
+pub mod Rows

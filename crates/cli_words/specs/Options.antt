@@ -1,0 +1,13 @@
+-- The table of the program's options, in the order in which the usage line has them. Each takes one value.
+use Rattle.std.specs.Prelude.{ℕ, List, [], ◌∷◌, codes}
+use Rattle.cli_words.specs.declared.options.OptionName.{OptionName}
+use Rattle.cli_words.specs.declared.options.OptionName.TheVariants.{Mode, Check, Demo}
+
+abbrev pub options : List OptionName
+options = Mode ∷ Check ∷ Demo ∷ []
+
+-- an option's name, which stands behind two hyphens
+abbrev pub name_of : OptionName → List ℕ
+name_of Mode = codes "mode"
+name_of Check = codes "check"
+name_of Demo = codes "demo"

@@ -1,0 +1,49 @@
+-- What words ask for.
+use Rattle.std.specs.Prelude.{ℕ, List, [], ◌∷◌, ◌++◌, codes, Option, Some, None, option_map, if◌then◌else◌}
+use Rattle.std.specs.List.{list_all}
+use Rattle.std.specs.Option.{option_to_list}
+use Rattle.cli_words.specs.declared.options.OptionName.{OptionName}
+use Rattle.cli_words.specs.declared.options.OptionName.TheVariants.{Mode, Check, Demo}
+use Rattle.cli_words.specs.Options.{options, name_of}
+use Rattle.cli_words.specs.Line.{is_taken, value_in}
+use Rattle.cli_words.specs.Names.{is_file_name, number_to}
+
+-- a value that the words give: that of an option, or the problem
+pub data Entry : Type 0 where
+  value : OptionName → List ℕ → Entry
+  problem : List ℕ → Entry
+
+-- prove a problem, with a mode or the standard mode; check a refutation's text against a problem; make and prove a problem
+pub data Request : Type 0 where
+  prove : List ℕ → Option (List ℕ) → Request
+  refutation : List ℕ → List ℕ → Request
+  generated : ℕ → Request
+
+-- the request, where these are names of files
+abbrev pub naming : List (List ℕ) → Request → Option Request
+naming names r = if list_all is_file_name names then Some r else None
+
+-- what is asked for by the entries that the words give
+abbrev pub asked : List Entry → Option Request
+asked (problem p ∷ []) = naming (p ∷ []) (prove p None)
+asked (value Mode m ∷ problem p ∷ []) = naming (m ∷ p ∷ []) (prove p (Some m))
+asked (value Check text ∷ problem p ∷ []) = naming (text ∷ p ∷ []) (refutation text p)
+asked (value Demo number ∷ []) = option_map generated (number_to 1000 number)
+asked _ = None
+
+-- one entry, where its value is given
+abbrev pub given : (List ℕ → Entry) → Option (List ℕ) → List Entry
+given entry v = option_to_list (option_map entry v)
+
+-- the values of these options that the words give, in their order
+abbrev pub values_in : List (List ℕ) → List OptionName → List Entry
+values_in words [] = []
+values_in words (o ∷ os) = given (value o) (value_in words (name_of o)) ++ values_in words os
+
+-- the entries that the words give, in the order of the table, and then the problem
+abbrev pub entries_in : List (List ℕ) → List Entry
+entries_in words = values_in words options ++ given problem (value_in words (codes "problem"))
+
+-- what the words ask for: nothing where the command doesn't take them, or where no row of the table fits
+abbrev pub asked_by : List (List ℕ) → Option Request
+asked_by words = if is_taken words then asked (entries_in words) else None

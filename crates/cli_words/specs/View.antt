@@ -1,0 +1,17 @@
+-- What the crate's types stand for.
+use Rattle.std.specs.Prelude.{option_map}
+use Rattle.cli_words.specs.Requests as request
+use Rattle.cli_words.specs.Requests.{Request}
+use Rattle.cli_words.specs.declared.Asked.{Asked}
+use Rattle.cli_words.specs.declared.Asked.TheVariants.{Prove, Check, Demo}
+use Rattle.cli_words.specs.declared.entry.Entry.{Entry}
+use Rattle.cli_words.specs.declared.entry.Entry.TheVariants as entry
+
+abbrev pub the_request : Asked → Request
+the_request (Prove problem mode) = request.prove problem.now (option_map (λ m. m.now) mode)
+the_request (Check text problem) = request.refutation text.now problem.now
+the_request (Demo n) = request.generated n
+
+abbrev pub the_entry : Entry → request.Entry
+the_entry (entry.Value o v) = request.value o v.now
+the_entry (entry.Problem p) = request.problem p.now

@@ -1,0 +1,118 @@
+//! The table of what words may ask for.
+ghost use Rattle.std.specs.Prelude.{◌≡◌, [], ◌∷◌, map, option_map, Some, None, if◌then◌else◌};
+ghost use Rattle.cli_words.specs.Requests.{asked, naming, prove, refutation, generated};
+ghost use Rattle.cli_words.specs.Names.{number_to};
+ghost use Rattle.cli_words.specs.View.{the_entry, the_request};
+
+use crate::Asked;
+use crate::names::{is_file_name, number_to};
+use crate::options::OptionName;
+
+/// A value that the words give: that of an option, or the problem.
+#[derive(Clone, Copy, Debug)]
+pub(crate) enum Entry<'a> {
+    Value(OptionName, &'a str),
+    Problem(&'a str),
+}
+
+/// What is asked for by the entries that the words give.
+pub(crate) fn asked<'a>(entries: &[Entry<'a>]) -> Option<Asked<'a>>
+    ensures { option_map the_request result ≡ asked (map the_entry entries.now) }
+{
+    match entries {
+        [] => None,
+        [only] => alone(*only),
+        [first, second] => beside(*first, *second),
+        [_, _, _, ..] => None,
+    }
+}
+
+fn alone<'a>(entry: Entry<'a>) -> Option<Asked<'a>>
+    ensures { option_map the_request result ≡ asked (the_entry entry.entry ∷ []) }
+{
+    match entry {
+        Entry::Problem(problem) => prove(problem),
+        Entry::Value(option, value) => option_alone(option, value),
+    }
+}
+
+fn beside<'a>(first: Entry<'a>, last: Entry<'a>) -> Option<Asked<'a>>
+    ensures { option_map the_request result ≡ asked (the_entry first.entry ∷ the_entry last.entry ∷ []) }
+{
+    match (first, last) {
+        (Entry::Value(option, value), Entry::Problem(problem)) => {
+            option_with_problem(option, value, problem)
+        }
+        (Entry::Problem(_), Entry::Problem(_)) => None,
+        (Entry::Problem(_), Entry::Value(_, _)) => None,
+        (Entry::Value(_, _), Entry::Value(_, _)) => None,
+    }
+}
+
+// The rows of an option alone.
+fn option_alone<'a>(option: OptionName, value: &'a str) -> Option<Asked<'a>>
+    ensures { option_map the_request result ≡ asked (the_entry (Entry.Value option value.entry) ∷ []) }
+{
+    match option {
+        OptionName::Demo => demo(value),
+        OptionName::Mode | OptionName::Check => None,
+    }
+}
+
+// The rows of an option beside PROBLEM.
+fn option_with_problem<'a>(
+    option: OptionName,
+    value: &'a str,
+    problem: &'a str,
+) -> Option<Asked<'a>>
+    ensures { option_map the_request result ≡ asked (the_entry (Entry.Value option value.entry) ∷ the_entry (Entry.Problem problem.entry) ∷ []) }
+{
+    match option {
+        OptionName::Mode => prove_with_mode(value, problem),
+        OptionName::Check => check(value, problem),
+        OptionName::Demo => None,
+    }
+}
+
+fn prove<'a>(problem: &'a str) -> Option<Asked<'a>>
+    ensures { option_map the_request result ≡ naming (problem.entry.now ∷ []) (prove problem.entry.now None) }
+{
+    if is_file_name(problem) {
+        Some(Asked::Prove {
+            problem,
+            mode: None,
+        })
+    } else {
+        None
+    }
+}
+
+fn prove_with_mode<'a>(mode: &'a str, problem: &'a str) -> Option<Asked<'a>>
+    ensures { option_map the_request result ≡ naming (mode.entry.now ∷ problem.entry.now ∷ []) (prove problem.entry.now (Some mode.entry.now)) }
+{
+    if is_file_name(mode) && is_file_name(problem) {
+        Some(Asked::Prove {
+            problem,
+            mode: Some(mode),
+        })
+    } else {
+        None
+    }
+}
+
+fn check<'a>(text: &'a str, problem: &'a str) -> Option<Asked<'a>>
+    ensures { option_map the_request result ≡ naming (text.entry.now ∷ problem.entry.now ∷ []) (refutation text.entry.now problem.entry.now) }
+{
+    if is_file_name(text) && is_file_name(problem) {
+        Some(Asked::Check { text, problem })
+    } else {
+        None
+    }
+}
+
+fn demo<'a>(number: &str) -> Option<Asked<'a>>
+    ensures { option_map the_request result ≡ option_map generated (number_to 1000 number.now) }
+{
+    let n = number_to(1000, number)?;
+    Some(Asked::Demo { n })
+}

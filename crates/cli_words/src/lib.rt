@@ -1,0 +1,66 @@
+//! Reads the words of the command line.
+#![tactic(auto)]
+
+ghost use Rattle.std.specs.Prelude.{◌≡◌, [], ◌∷◌, ◌++◌, IfOk, IsErrOf, OnOk, OnErr, Some, None};
+ghost use Rattle.cli_words.specs.Requests.{asked_by};
+ghost use Rattle.cli_words.specs.View.{the_request};
+
+mod entry;
+mod law;
+mod line;
+mod names;
+mod options;
+#[cfg(test)]
+mod tests;
+mod words;
+
+pub use law::rows_law;
+use std::alloc::{AllocError, Global};
+use thiserror::Error;
+pub use words::Words;
+
+/// What the words ask for.
+#[derive(Clone, Copy, Debug, PartialEq, Eq)]
+pub enum Asked<'a> {
+    /// Prove the problem, with the mode of a file or with the standard mode.
+    Prove {
+        problem: &'a str,
+        mode: Option<&'a str>,
+    },
+    /// Check a refutation's text against a problem.
+    Check {
+        text: &'a str,
+        problem: &'a str,
+    },
+    /// Make a problem of this number, and prove it.
+    Demo {
+        n: u32,
+    },
+}
+
+#[derive(Clone, Copy, Debug, PartialEq, Eq, Error)]
+pub enum WordsRefused {
+    #[error("usage: satallax [--mode FILE] [--check FILE] [--demo N] PROBLEM")]
+    Words,
+    #[error("no memory for the words")]
+    Memory,
+}
+
+impl From<AllocError> for WordsRefused {
+    ghost use Rattle.cli_words.specs.declared.WordsRefused.{WordsRefused};
+
+    ghost from_gives = { λ _ refused. refused ≡ WordsRefused.Memory };
+
+    fn from(_: AllocError) -> WordsRefused {
+        WordsRefused::Memory
+    }
+}
+
+/// Reads the words by the one command of the program, and then by the table of what they may ask for.
+pub fn read_words<'a>(alloc: Global, words: &'a Words) -> Result<Asked<'a>, WordsRefused>
+    ensures asked { IfOk result (λ a. asked_by words.entry.now ≡ Some (the_request a)) }
+    ensures refused { IsErrOf result WordsRefused.Words → asked_by words.entry.now ≡ None }
+{
+    let entries = line::entries(alloc, words.texts())?;
+    entry::asked(entries.as_slice()).ok_or(WordsRefused::Words)
+}

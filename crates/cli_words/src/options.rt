@@ -1,0 +1,27 @@
+//! The table of the program's options.
+ghost use Rattle.std.specs.Prelude.{◌≡◌};
+ghost use Rattle.cli_words.specs.Options.{name_of};
+
+/// An option, which takes one value.
+#[derive(Clone, Copy, Debug, PartialEq, Eq)]
+pub(crate) enum OptionName {
+    Mode,
+    Check,
+    Demo,
+}
+
+/// The options, in the order in which the usage line has them.
+pub(crate) const OPTIONS: [OptionName; 3] = [OptionName::Mode, OptionName::Check, OptionName::Demo];
+
+impl OptionName {
+    /// What stands behind the two hyphens.
+    pub(crate) fn name(self) -> &'static str
+        ensures { result.now ≡ name_of self }
+    {
+        match self {
+            OptionName::Mode => "mode",
+            OptionName::Check => "check",
+            OptionName::Demo => "demo",
+        }
+    }
+}
