@@ -1,0 +1,4 @@
+pub mod Definitions
+pub mod Unfolding
+pub mod Laws
+pub mod Means
