@@ -1,0 +1,111 @@
+-- A node that is there, and one that is added.
+use Rattle.std.proofs.Common.{◌≡◌, ℕ, zero, suc, ◌<◌, List, [], ◌∷◌, ◌++◌, map, length, get_or, slice_get, Option, Some, None, Bool, false, is_some, position, refl, sym, ap, ap₂, subst, ◌∙◌, arith, true≢false}
+use Rattle.std.proofs.lemmas.Option.{slice_get_within}
+use Rattle.std.proofs.lemmas.List.{length-map}
+use Rattle.std.proofs.lemmas.List.Quantifiers.{position-Some}
+use Rattle.indexmap.specs.IndexMap.{IndexMap, get, insert_entry}
+use Rattle.indexmap.proofs.CallerLemmas.{insert_entry-new}
+use Rattle.stt_core.specs.Typing.{Scope}
+use Rattle.stt_core.specs.Lambda.{Lambda, bound}
+use Rattle.term_bank.specs.Shape.{Shape, same_shape}
+use Rattle.term_bank.specs.Means.ShapeLaws.{shape_decides}
+use Rattle.term_bank.specs.Means.Sound.{terms_after}
+use Rattle.term_bank.specs.Terms.{term_at, shape_term, IsBelow}
+use Rattle.term_bank.specs.NodeView.{the_shape}
+use Rattle.term_bank.specs.Means.FactsView.{AreFactsOf}
+use Rattle.term_bank.specs.Means.Sound.{Entry, terms_of, AreSound}
+use Rattle.term_bank.specs.declared.node.Node.{Node}
+use Rattle.term_bank.specs.declared.facts.Facts.{Facts}
+use Rattle.stt_core.proofs.ListLaws.{slice_get-end, map-append}
+use Rattle.term_bank.proofs.ListLaws.{get_or-end, get_or-front, end_cases}
+use Rattle.term_bank.proofs.TermLaws.{terms_after-end}
+use Rattle.term_bank.proofs.SoundLaws.{entry_shape, terms_of-length, entry_term}
+
+-- A NODE THAT IS THERE
+
+-- whether a node is the same as a given one
+abbrev pub is_node : Node → Node → Bool
+is_node n m = same_shape (the_shape n) (the_shape m)
+
+key_entry : (es : List Entry) (k : ℕ) (d : Node) → k < length es → (e : Entry) × (slice_get es k ≡ Some e) × (get_or (map (λ x. x.0) es) k d ≡ e.0)
+key_entry [] k d h = absurd (omega arith)
+key_entry (e ∷ es) zero d h = (e, refl, refl)
+key_entry (e ∷ es) (suc k) d h = key_entry es k d (omega arith)
+
+pub found_term : (scope : Scope) (es : List Entry) → AreSound scope es → (n : Node) (id : ℕ) → Some id ≡ position (is_node n) (map (λ e. e.0) es) → slice_get (terms_of es) id ≡ Some (shape_term (terms_of es) (the_shape n))
+found_term scope es sound n id h =
+    let p = position-Some (is_node n) (map (λ e. e.0) es) id n (sym h) in
+    let k = key_entry es id n (omega (arith, p.0, length-map es (λ e. e.0))) in
+    let same : the_shape n ≡ the_shape k.0.0 = (shape_decides (the_shape n) (the_shape k.0.0)).0 (ap (is_node n) (sym k.2) ∙ p.1) in
+    entry_term scope es sound id k.0 k.1 ∙ ap (λ s. Some (shape_term (terms_of es) s)) (sym same)
+
+pub found_in : (scope : Scope) (es : List Entry) → AreSound scope es → (n : Node) (id : ℕ) (s : Shape) (ts : List Lambda) → Some id ≡ position (is_node n) (map (λ e. e.0) es) → the_shape n ≡ s → terms_of es ≡ ts → slice_get ts id ≡ Some (shape_term ts s)
+found_in scope es sound n id s ts h shape terms =
+    ap (λ l. slice_get l id) (sym terms) ∙ found_term scope es sound n id h ∙ ap Some (ap₂ shape_term terms shape)
+
+-- A NODE THAT IS ADDED
+
+none_of : {A : Type 0} (o : Option A) → false ≡ is_some o → o ≡ None
+none_of None h = refl
+none_of (Some x) h = absurd (true≢false (sym h))
+
+pub entries_after : {S : Type 0} (m : IndexMap Node Facts S) (n : Node) (f : Facts) → false ≡ is_some (get is_node m n) → (es : List Entry) → es ≡ insert_entry is_node m.entries n f → es ≡ m.entries ++ (n, f) ∷ []
+entries_after m n f h es e = e ∙ insert_entry-new is_node m n f (none_of (get is_node m n) h)
+
+pub terms_of-end : (es : List Entry) (e : Entry) → terms_of (es ++ e ∷ []) ≡ terms_of es ++ shape_term (terms_of es) (entry_shape e) ∷ []
+terms_of-end es e = ap (terms_after []) (map-append entry_shape es (e ∷ [])) ∙ terms_after-end [] (map entry_shape es) (entry_shape e)
+
+module _ (scope : Scope) (es : List Entry) (sound : AreSound scope es) (e : Entry) where
+  -- what is asked of the node that is added
+  pub record CanAdd : Type 0 where
+    pub below : IsBelow (length (terms_of es)) (entry_shape e)
+    pub facts : AreFactsOf scope (length (terms_of es)) (shape_term (terms_of es) (entry_shape e)) e.1
+
+  module _ (can : CanAdd) where
+    after : List Entry
+    after = es ++ e ∷ []
+
+    front_term : (k : ℕ) → k < length es → term_at (terms_of (es ++ e ∷ [])) k ≡ term_at (terms_of es) k
+    front_term k h =
+        ap (λ l. get_or l k (bound 0)) (terms_of-end es e)
+        ∙ get_or-front (terms_of es) (shape_term (terms_of es) (entry_shape e) ∷ []) k (bound 0) (omega (arith, terms_of-length es))
+
+    end_term : term_at (terms_of (es ++ e ∷ [])) (length es) ≡ shape_term (terms_of es) (entry_shape e)
+    end_term =
+        ap (λ l. get_or l (length es) (bound 0)) (terms_of-end es e)
+        ∙ ap (λ k. get_or (terms_of es ++ shape_term (terms_of es) (entry_shape e) ∷ []) k (bound 0)) (sym (terms_of-length es))
+        ∙ get_or-end (terms_of es) (shape_term (terms_of es) (entry_shape e)) (bound 0)
+
+    pub sound_after : AreSound scope (es ++ e ∷ [])
+    sound_after = record {
+      below = λ k x h. end_cases (IsBelow k (the_shape x.0)) es e x k h
+          (λ early. sound.below k x early)
+          (λ last same. subst (λ y. IsBelow k (entry_shape y)) same (subst (λ j. IsBelow j (entry_shape e)) (terms_of-length es ∙ sym last) can.below));
+      facts = λ k x h. end_cases (AreFactsOf scope k (term_at (terms_of (es ++ e ∷ [])) k) x.1) es e x k h
+          (λ early. subst (λ t. AreFactsOf scope k t x.1) (sym (front_term k (slice_get_within es k x early))) (sound.facts k x early))
+          (λ last same.
+          let here : AreFactsOf scope (length es) (term_at (terms_of (es ++ e ∷ [])) (length es)) e.1 =
+          subst (λ t. AreFactsOf scope (length es) t e.1) (sym end_term) (subst (λ j. AreFactsOf scope j (shape_term (terms_of es) (entry_shape e)) e.1) (terms_of-length es) can.facts) in
+          subst (λ y. AreFactsOf scope k (term_at (terms_of (es ++ e ∷ [])) k) y.1) same (subst (λ j. AreFactsOf scope j (term_at (terms_of (es ++ e ∷ [])) j) e.1) (sym last) here));
+    }
+
+-- what a bank's entries are after one more
+pub record Added (scope : Scope) (es after : List Entry) (t : Lambda) : Type 0 where
+  pub sound : AreSound scope after
+  pub terms : terms_of after ≡ terms_of es ++ t ∷ []
+  pub place : slice_get (terms_of after) (length es) ≡ Some t
+
+-- `ts` are the terms that are there, `t` is that of the new node `n`, and `s` is that node's shape
+pub added : (scope : Scope) (es after : List Entry) (n : Node) (f : Facts) (s : Shape) (ts : List Lambda) (t : Lambda) → AreSound scope es → the_shape n ≡ s → terms_of es ≡ ts → shape_term ts s ≡ t → IsBelow (length ts) s → AreFactsOf scope (length ts) t f → after ≡ es ++ (n, f) ∷ [] → Added scope es after t
+added scope es after n f s ts t sound shape terms term below facts is =
+    let whole : shape_term (terms_of es) (the_shape n) ≡ t = ap₂ shape_term terms shape ∙ term in
+    let can : CanAdd scope es sound (n, f) = record {
+      below = subst (λ x. IsBelow (length (terms_of es)) x) (sym shape) (subst (λ l. IsBelow (length l) s) (sym terms) below);
+      facts = subst (λ x. AreFactsOf scope (length (terms_of es)) x f) (sym whole) (subst (λ l. AreFactsOf scope (length l) t f) (sym terms) facts);
+    } in
+    let more : terms_of after ≡ terms_of es ++ t ∷ [] = ap terms_of is ∙ terms_of-end es (n, f) ∙ ap (λ x. terms_of es ++ x ∷ []) whole in
+    record {
+      sound = subst (AreSound scope) (sym is) (sound_after scope es sound (n, f) can);
+      terms = more;
+      place = ap₂ slice_get more (sym (terms_of-length es)) ∙ slice_get-end (terms_of es) t;
+    }

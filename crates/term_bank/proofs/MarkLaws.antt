@@ -1,0 +1,48 @@
+-- The marks of a head with its arguments.
+use Rattle.std.proofs.Common.{◌≡◌, ℕ, suc, ◌+◌, ◌<◌, ◌≤◌, max, List, [], ◌∷◌, map, take, take_all, length, slice_get, Some, refl, sym, ap, ap₂, subst, ◌∙◌, arith}
+use Rattle.std.specs.Prelude.{All}
+use Rattle.std.proofs.lemmas.List.Elements.{All-head, All-tail}
+use Rattle.stt_core.specs.Lambda.{Lambda, bound, constant, lam, app, applied}
+use Rattle.stt_core.specs.Means.Missing.{missing_binders}
+use Rattle.stt_core.proofs.SpineLaws.{IsAtom}
+use Rattle.stt_core.proofs.ListLaws.{take_got, map-append}
+use Rattle.stt_core.proofs.CanonicalTypes.{applied-more}
+use Rattle.stt_core.specs.Depth.{depth}
+use Rattle.term_bank.specs.Means.Marks.{greater, greatest_witness}
+use Rattle.term_bank.specs.Terms.{term_at}
+use Rattle.term_bank.specs.Means.FactsView.{AreMarksOf}
+use Rattle.term_bank.specs.declared.facts.Marks.{Marks}
+
+pub depth_atom : (h : Lambda) → IsAtom h → 0 ≡ depth h
+depth_atom (bound k) o = refl
+depth_atom (constant c) o = refl
+depth_atom (lam a s) o = absurd o
+depth_atom (app s u) o = absurd o
+
+-- one argument more
+pub spine_more : (ts : List Lambda) (h : Lambda) (args : List ℕ) (i id : ℕ) → slice_get args i ≡ Some id → applied h (map (term_at ts) (take (i + 1) args)) ≡ app (applied h (map (term_at ts) (take i args))) (term_at ts id)
+spine_more ts h args i id g =
+    ap (λ l. applied h (map (term_at ts) l)) (take_got args i id g)
+    ∙ ap (applied h) (map-append (term_at ts) (take i args) (id ∷ []))
+    ∙ applied-more h (map (term_at ts) (take i args)) (term_at ts id)
+
+pub marks_more : (ts : List Lambda) (h : Lambda) (args : List ℕ) (i id : ℕ) (before argument after : Marks) → slice_get args i ≡ Some id → AreMarksOf (applied h (map (term_at ts) (take i args))) before → argument.depth ≡ suc (depth (term_at ts id)) → argument.missing ≡ missing_binders (term_at ts id) → argument.greatest ≡ greatest_witness (term_at ts id) → after.depth ≡ max before.depth argument.depth → after.missing ≡ max before.missing argument.missing → after.greatest ≡ greater before.greatest argument.greatest → AreMarksOf (applied h (map (term_at ts) (take (i + 1) args))) after
+marks_more ts h args i id before argument after g m d e w d' e' w' =
+    let whole = spine_more ts h args i id g in record {
+      depth_is = d' ∙ ap₂ max m.depth_is d ∙ sym (ap depth whole);
+      missing_is = e' ∙ ap₂ max m.missing_is e ∙ sym (ap missing_binders whole);
+      greatest_is = w' ∙ ap₂ greater m.greatest_is w ∙ sym (ap greatest_witness whole);
+    }
+
+pub marks_whole : (ts : List Lambda) (h : Lambda) (args : List ℕ) (i : ℕ) (m : Marks) → length args ≤ i → AreMarksOf (applied h (map (term_at ts) (take i args))) m → AreMarksOf (applied h (map (term_at ts) args)) m
+marks_whole ts h args i m l h' = subst (λ us. AreMarksOf (applied h (map (term_at ts) us)) m) (take_all i args l) h'
+
+-- a head with arguments that are no deeper than their places is no deeper than the number of places
+shallow-from : (n : ℕ) (t : Lambda) (us : List Lambda) → depth t ≤ n → All (λ u. depth u < n) us → depth (applied t us) ≤ n
+shallow-from n t [] d all = d
+shallow-from n t (u ∷ us) d all =
+    let first = All-head (λ v. depth v < n) u us all in
+    shallow-from n (app t u) us (omega (arith, d, first)) (All-tail (λ v. depth v < n) u us all)
+
+pub shallow_spine : (n : ℕ) (h : Lambda) (us : List Lambda) → IsAtom h → All (λ u. depth u < n) us → depth (applied h us) ≤ n
+shallow_spine n h us o all = shallow-from n h us (omega (arith, depth_atom h o)) all

@@ -1,0 +1,8 @@
+-- Means of proof: what private contracts and proofs speak of.
+pub mod ShapeHash
+pub mod ShapeLaws
+pub mod Marks
+pub mod Target
+pub mod FactsView
+pub mod Sound
+pub mod Inside

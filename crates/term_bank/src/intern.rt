@@ -1,0 +1,77 @@
+//! Terms from the parts that are there.
+
+ghost use Rattle.std.specs.Prelude.{◌≡◌, ◌<◌, ◌-◌, suc, [], length, map, IfOk, OnOk, OnErr, All, option_map};
+ghost use Rattle.stt_core.specs.ContextView.{the_context};
+ghost use Rattle.stt_core.specs.Lambda.{lam, applied};
+ghost use Rattle.stt_core.specs.SimpleType.{SimpleType, arrow};
+ghost use Rattle.stt_core.specs.Typing.{type_of};
+ghost use Rattle.stt_core.specs.View.{the_head, the_type};
+ghost use Rattle.term_bank.specs.Content.{content_scope, HasTerm, Grows};
+ghost use Rattle.term_bank.specs.Means.FactsView.{AreMarksOf};
+ghost use Rattle.term_bank.specs.Terms.{term_at, IsTypedTerm};
+
+use crate::bank::Bank;
+use crate::node::{Id, Ids, Node};
+use std::alloc::AllocError;
+use stt_core::{Context, Declared, Head, Ty, head_type};
+
+impl Bank {
+    /// The type of a head in a context, where it has one.
+    pub fn head_type(&self, ctx: &Context, head: &Head) -> Result<Option<Ty>, AllocError>
+        ensures { IfOk result (λ o. option_map the_type o ≡ type_of (content_scope self.now) (the_context ctx.now) (the_head head.now)) }
+    {
+        let declared = Declared {
+            sig: &self.sig,
+            wits: &self.wits,
+        };
+        Ok(head_type(self.alloc, &declared, ctx, head)?)
+    }
+
+    /// The number of the function with this body, whose argument has this type.
+    #[inline(never)]
+    pub fn intern_lam(&mut self, ty: &Ty, body: Id) -> Result<Id, AllocError>
+        requires within { body < length self.old.terms }
+        requires typed { IsTypedTerm (content_scope self.old) (lam (the_type ty.now) (term_at self.old.terms body)) }
+        ensures term { IfOk result (λ id. HasTerm self.new id (lam (the_type ty.now) (term_at self.old.terms body))) }
+        ensures grows { Grows self.old self.new }
+        ensures err { OnErr result (self.new ≡ self.old) }
+    {
+        let node = Node::Lam {
+            ty: ty.try_clone(self.alloc)?,
+            body,
+        };
+        match self.nodes.get_index_of(&node) {
+            Some(id) => Ok(id),
+            None => {
+                let facts = self.lam_facts(ty, body)?;
+                let id = self.nodes.len();
+                self.nodes.insert(node, facts)?;
+                Ok(id)
+            }
+        }
+    }
+
+    /// The number of the head with all its arguments.
+    #[inline(never)]
+    pub fn intern_app(&mut self, head: &Head, args: &[Id]) -> Result<Id, AllocError>
+        requires within { All (λ i. i < length self.old.terms) args.now }
+        requires typed { IsTypedTerm (content_scope self.old) (applied (the_head head.now) (map (term_at self.old.terms) args.now)) }
+        ensures term { IfOk result (λ id. HasTerm self.new id (applied (the_head head.now) (map (term_at self.old.terms) args.now))) }
+        ensures grows { Grows self.old self.new }
+        ensures err { OnErr result (self.new ≡ self.old) }
+    {
+        let node = Node::App {
+            head: head.try_clone(self.alloc)?,
+            args: Ids::from_slice(self.alloc, args)?,
+        };
+        match self.nodes.get_index_of(&node) {
+            Some(id) => Ok(id),
+            None => {
+                let facts = self.app_facts(head, args)?;
+                let id = self.nodes.len();
+                self.nodes.insert(node, facts)?;
+                Ok(id)
+            }
+        }
+    }
+}

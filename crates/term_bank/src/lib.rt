@@ -1,0 +1,17 @@
+//! Canonical terms as shared nodes: equal terms have equal numbers.
+#![tactic(auto)]
+
+mod bank;
+mod declare;
+mod facts;
+mod intern;
+mod key;
+mod law;
+mod mark;
+mod node;
+mod read;
+mod tree;
+
+pub use bank::Bank;
+pub use law::{equal_ids_for_equal_terms, ids_keep_their_terms};
+pub use node::{Id, Ids, Node};
