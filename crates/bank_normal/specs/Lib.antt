@@ -1,0 +1,5 @@
+pub mod Known
+pub mod Right
+pub mod Fits
+pub mod Laws
+pub mod Means

@@ -1,0 +1,60 @@
+//! Eta-long forms.
+
+ghost use Rattle.std.specs.Prelude.{◌<◌, length, map, IfOk, All};
+ghost use Rattle.stt_core.specs.Lambda.{applied};
+ghost use Rattle.stt_core.specs.View.{the_head, the_type};
+ghost use Rattle.stt_normal.specs.Normal.{eta};
+ghost use Rattle.term_bank.specs.Content.{content_scope, HasTerm, Grows};
+ghost use Rattle.term_bank.specs.Terms.{term_at};
+ghost use Rattle.bank_normal.specs.Right.{IsRight};
+ghost use Rattle.bank_normal.specs.Fits.{IsNeutralOf};
+
+use crate::lift::lift_head;
+use crate::normaliser::Normaliser;
+use crate::replace::LEVELS;
+use std::alloc::AllocError;
+use stt_core::{Head, Ty};
+use term_bank::{Bank, Id, Ids};
+
+impl Normaliser {
+    /// The eta-long form of a head of this type.
+    pub fn eta(&mut self, bank: &mut Bank, head: &Head, ty: &Ty) -> Result<Id, AllocError>
+        requires fits { IsNeutralOf (content_scope bank.old) (the_type ty.now) (the_head head.now) }
+        requires right { IsRight self.old bank.old }
+        ensures term { IfOk result (λ id. HasTerm bank.new id (eta (the_type ty.now) (the_head head.now))) }
+        ensures grows { Grows bank.old bank.new }
+        ensures right { IsRight self.new bank.new }
+    {
+        let head = head.try_clone(self.alloc)?;
+        Ok(self.eta_spine(bank, ty, head, Ids::new(self.alloc))?)
+    }
+
+    /// The eta-long form of a head with arguments, which has this type.
+    pub(crate) fn eta_spine(
+        &mut self,
+        bank: &mut Bank,
+        ty: &Ty,
+        head: Head,
+        args: Ids,
+    ) -> Result<Id, AllocError>
+        requires within { All (λ id. id < length bank.old.terms) args }
+        requires fits { IsNeutralOf (content_scope bank.old) (the_type ty.now) (applied (the_head head) (map (term_at bank.old.terms) args)) }
+        requires right { IsRight self.old bank.old }
+        ensures term { IfOk result (λ id. HasTerm bank.new id (eta (the_type ty.now) (applied (the_head head) (map (term_at bank.old.terms) args)))) }
+        ensures grows { Grows bank.old bank.new }
+        ensures right { IsRight self.new bank.new }
+    {
+        match ty {
+            Ty::Base(_) => Ok(bank.intern_app(&head, args.as_slice())?),
+            Ty::Arrow(argument, rest) => {
+                let none = Ids::new(self.alloc);
+                let variable = self.eta_spine(bank, argument, Head::Bound(0), none)?;
+                let mut all = self.lift_all(bank, LEVELS, 1, 0, &args)?;
+                all.push(variable)?;
+                let head = lift_head(1, 0, head)?;
+                let body = self.eta_spine(bank, rest, head, all)?;
+                Ok(bank.intern_lam(argument, body)?)
+            }
+        }
+    }
+}

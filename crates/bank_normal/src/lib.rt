@@ -1,0 +1,13 @@
+//! Normal forms of shared terms, with memory of what was worked out before.
+#![tactic(auto)]
+
+mod eta;
+mod law;
+mod lift;
+mod memo;
+mod normal;
+mod normaliser;
+mod replace;
+
+pub use law::memos_stay_right;
+pub use normaliser::Normaliser;

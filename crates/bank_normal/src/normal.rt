@@ -1,0 +1,103 @@
+//! Normal forms of typed terms.
+
+ghost use Rattle.std.specs.Prelude.{◌≡◌, ◌<◌, [], length, map, IfOk, IsSome, All};
+ghost use Rattle.stt_core.specs.ContextView.{the_context};
+ghost use Rattle.stt_core.specs.Lambda.{IsLeaf};
+ghost use Rattle.stt_core.specs.Typing.{type_of};
+ghost use Rattle.stt_core.specs.View.{the_term, the_type};
+ghost use Rattle.stt_normal.specs.Normal.{apply_each, normal_form};
+ghost use Rattle.stt_normal.specs.Means.Applying.{IsApplicable, result_after};
+ghost use Rattle.term_bank.specs.Content.{content_scope, HasTerm, Grows};
+ghost use Rattle.term_bank.specs.Terms.{term_at};
+ghost use Rattle.bank_normal.specs.Right.{IsRight};
+
+use crate::normaliser::Normaliser;
+use crate::replace::LEVELS;
+use std::alloc::AllocError;
+use stt_core::{Context, Term, Ty};
+use term_bank::{Bank, Id, Ids};
+
+/// The type of what a function of this type gives at `n` arguments.
+fn outcome(ty: &Ty, n: usize) -> &Ty
+    ensures { the_type result.now ≡ result_after n (the_type ty.now) }
+{
+    if n == 0 {
+        return ty;
+    }
+    match ty {
+        Ty::Arrow(_, rest) => outcome(rest, n - 1),
+        Ty::Base(_) => ty,
+    }
+}
+
+impl Normaliser {
+    /// The eta-long beta-normal form of a closed term. Levels of terms are bounded as in `instantiate`.
+    pub fn normalise(&mut self, bank: &mut Bank, term: &Term) -> Result<Id, AllocError>
+        requires typed { IsSome (type_of (content_scope bank.old) [] (the_term term.now)) }
+        requires right { IsRight self.old bank.old }
+        ensures term { IfOk result (λ id. HasTerm bank.new id (normal_form (content_scope bank.old) [] (the_term term.now))) }
+        ensures grows { Grows bank.old bank.new }
+        ensures right { IsRight self.new bank.new }
+    {
+        // The signature is asked for its clause that all types in it are declared.
+        let _sig = bank.sig();
+        Ok(self.normal_applied(bank, &Context::Empty, term, Ids::new(self.alloc))?)
+    }
+
+    /// The normal form of a variable or a constant that is applied to arguments.
+    #[inline(never)]
+    fn normal_head(
+        &mut self,
+        bank: &mut Bank,
+        ctx: &Context,
+        term: &Term,
+        args: Ids,
+    ) -> Result<Id, AllocError>
+        requires leaf { IsLeaf (the_term term.now) }
+        requires within { All (λ id. id < length bank.old.terms) args }
+        requires fits { IsApplicable (content_scope bank.old) (the_context ctx.now) (the_term term.now) (map (term_at bank.old.terms) args) }
+        requires right { IsRight self.old bank.old }
+        ensures term { IfOk result (λ id. HasTerm bank.new id (apply_each (normal_form (content_scope bank.old) (the_context ctx.now) (the_term term.now)) (map (term_at bank.old.terms) args))) }
+        ensures grows { Grows bank.old bank.new }
+        ensures right { IsRight self.new bank.new }
+    {
+        let head = term.to_head(self.alloc)?;
+        match bank.head_type(ctx, &head)? {
+            Some(ty) => Ok(self.eta_spine(bank, outcome(&ty, args.len()), head, args)?),
+            None => unreachable!(),
+        }
+    }
+
+    /// The normal form of a term that is applied to arguments.
+    fn normal_applied(
+        &mut self,
+        bank: &mut Bank,
+        ctx: &Context,
+        term: &Term,
+        mut args: Ids,
+    ) -> Result<Id, AllocError>
+        requires within { All (λ id. id < length bank.old.terms) args }
+        requires fits { IsApplicable (content_scope bank.old) (the_context ctx.now) (the_term term.now) (map (term_at bank.old.terms) args) }
+        requires right { IsRight self.old bank.old }
+        ensures term { IfOk result (λ id. HasTerm bank.new id (apply_each (normal_form (content_scope bank.old) (the_context ctx.now) (the_term term.now)) (map (term_at bank.old.terms) args))) }
+        ensures grows { Grows bank.old bank.new }
+        ensures right { IsRight self.new bank.new }
+    {
+        match term {
+            Term::App(function, argument) => {
+                let none = Ids::new(self.alloc);
+                let argument = self.normal_applied(bank, ctx, argument, none)?;
+                args.push_front(argument)?;
+                Ok(self.normal_applied(bank, ctx, function, args)?)
+            }
+            Term::Lam(a, body) => {
+                let inner = Context::Inner(&*a, &*ctx);
+                let none = Ids::new(self.alloc);
+                let body = self.normal_applied(bank, &inner, body, none)?;
+                let function = bank.intern_lam(a, body)?;
+                Ok(self.apply_all(bank, LEVELS, function, &args)?)
+            }
+            _ => Ok(self.normal_head(bank, ctx, term, args)?),
+        }
+    }
+}
