@@ -1,0 +1,22 @@
+-- Terms in groups by their types.
+use Rattle.std.specs.Prelude.{◌≡◌, ℕ, suc, List, [], ◌∷◌, if◌then◌else◌}
+use Rattle.stt_core.specs.SimpleType.{SimpleType, same_type}
+use Rattle.instantiate.specs.Listing.{Listing, ids_of}
+
+-- a type with its terms
+abbrev pub Group : Type 0
+Group = SimpleType × List ℕ
+
+-- the terms in the first group of the type
+abbrev pub first_group : SimpleType → List Group → List ℕ
+first_group a [] = []
+first_group a (g ∷ gs) = if same_type a g.0 then g.1 else first_group a gs
+
+-- the place of the first group of the type, or the end
+abbrev pub place_in : SimpleType → List Group → ℕ
+place_in a [] = 0
+place_in a (g ∷ gs) = if same_type a g.0 then 0 else suc (place_in a gs)
+
+-- each type's first group has its terms
+abbrev pub AreRight : List Group → List Listing → Type 0
+AreRight groups all = (a : SimpleType) → first_group a groups ≡ ids_of a all
