@@ -1,0 +1,16 @@
+-- What numbers and atoms keep.
+use Rattle.std.specs.Prelude.{◌≡◌, ℕ, ◌<◌, List, length, All}
+use Rattle.sat_base.specs.declared.literal.SatLit.{SatLit}
+use Rattle.stt_core.specs.Lambda.{Lambda}
+use Rattle.term_bank.specs.Content.{Content, Grows}
+use Rattle.literal_map.specs.Atoms.{literal_at, IsAtom, Begins}
+
+-- where the bank grows, atoms stay atoms
+abbrev pub AtomsStay : Type 0
+AtomsStay = (old new : Content) → Grows old new → (atoms : List ℕ) → All (IsAtom old) atoms → All (IsAtom new) atoms
+
+-- where the bank and the table grow, each number keeps its literal
+abbrev pub LiteralsStay : Type 0
+LiteralsStay =
+    (old new : Content) → Grows old new → (atoms further : List ℕ) → All (IsAtom old) atoms → Begins atoms further
+    → (l : SatLit) → l.var.0 < length atoms → literal_at new.terms further l ≡ literal_at old.terms atoms l

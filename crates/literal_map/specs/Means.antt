@@ -1,0 +1,2 @@
+-- Means of proof: what private contracts speak of.
+pub mod Denied
