@@ -1,0 +1,7 @@
+use Rattle.std.proofs.Common.{◌≡◌, false, take}
+use Rattle.search_run.specs.Clauses.{has}
+use Rattle.search_run.specs.Numbered.{numbers}
+use Rattle.tableau_clauses.proofs.choice.holds.Given as goal
+
+abbrev pub invariant-loop-i : goal.invariant-loop-i
+invariant-loop-i l = has numbers (take l.i l.lits) l.fn.lit ≡ false

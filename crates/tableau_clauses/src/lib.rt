@@ -1,0 +1,15 @@
+//! The clauses of the steps of a search.
+#![tactic(auto)]
+
+mod choice;
+mod key;
+mod law;
+mod origin;
+mod steps;
+mod table;
+#[cfg(test)]
+mod tests;
+
+pub use law::clauses_hold_no_variable_twice;
+pub use origin::Origin;
+pub use table::{NewClauses, StepTable};

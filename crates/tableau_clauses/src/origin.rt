@@ -1,0 +1,8 @@
+//! Where clauses come from.
+
+/// Where a clause comes from: a literal of the start, or the instance with this number.
+#[derive(Clone, Copy, Debug, PartialEq, Eq)]
+pub enum Origin {
+    Start,
+    Instance(usize),
+}
