@@ -1,0 +1,3 @@
+-- Means of proof: what private contracts speak of.
+pub mod Parts
+pub mod Drafted
