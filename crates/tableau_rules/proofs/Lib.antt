@@ -1,2 +1,12 @@
 pub mod WideLaws
 pub mod PartLaws
+pub mod FoundLaws
+pub mod DraftLaws
+pub mod NumberLaws
+pub mod ClosedLaws
+pub mod TypedLaws
+pub mod GrownLaws
+pub mod NowhereLaws
+pub mod ConLaws
+pub mod ChoiceLaws
+pub mod ChoiceDrafts

@@ -1,3 +1,6 @@
 -- Means of proof: what private contracts speak of.
 pub mod Parts
 pub mod Drafted
+pub mod Typed
+pub mod Functions
+pub mod Numbered

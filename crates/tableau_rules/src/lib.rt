@@ -1,9 +1,15 @@
 //! The rules of the calculus over shared terms.
 #![tactic(auto)]
 
+mod choice;
 mod draft;
+mod equation;
+mod function;
 mod maker;
+mod number;
 mod part;
+mod propositional;
+mod quantifier;
 mod refusal;
 
 pub use maker::make;
