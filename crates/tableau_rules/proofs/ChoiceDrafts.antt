@@ -1,8 +1,8 @@
 -- Drafts of choice and of description.
-use Rattle.std.proofs.Common.{◌≡◌, ℕ, List, [], ◌∷◌, Some, None, sym, ap, ap₂, subst, ◌∙◌}
+use Rattle.std.proofs.Common.{◌≡◌, ◌<◌, ℕ, length, List, [], ◌∷◌, Some, None, sym, ap, ap₂, subst, ◌∙◌}
 use Rattle.stt_core.specs.SimpleType.{SimpleType}
-use Rattle.stt_core.specs.Lambda.{Lambda}
-use Rattle.stt_normal.specs.Normal.{apply}
+use Rattle.stt_core.specs.Lambda.{Constant, Lambda, constant, app}
+use Rattle.stt_normal.specs.Normal.{eta, apply}
 use Rattle.stt_tableau.specs.Literals.{Literal, literal, opposite}
 use Rattle.stt_tableau.specs.Witnesses.{Row}
 use Rattle.stt_tableau.specs.Rules.{IsInstance, chosen, nowhere, at_most_once, described}
@@ -10,7 +10,7 @@ use Rattle.stt_tableau.specs.declared.refutation.RuleUse.TheVariants.{Cho, Des}
 use Rattle.stt_tableau.proofs.InstanceLaws.{cho_is, des_is, fits}
 use Rattle.term_bank.specs.Content.{Content, content_scope, HasTerm, Grows}
 use Rattle.term_bank.specs.Terms.{term_at}
-use Rattle.term_bank.proofs.GrowLaws.{grown_scope, has_at, has_within}
+use Rattle.term_bank.proofs.GrowLaws.{grown_scope, grown_at, has_at, has_within}
 use Rattle.tableau_rules.specs.Means.Typed.{IsPredicate, IsPredicateType}
 use Rattle.tableau_rules.specs.Means.Drafted.{alternatives_at, Drafted}
 use Rattle.tableau_rules.specs.declared.draft.Signed.{Signed}
@@ -21,6 +21,10 @@ cho_none b rows f none = λ as' h. let g = fits (content_scope b) rows (Cho (ter
 
 pub des_none : (b : Content) (rows : List Row) (f : ℕ) → IsPredicateType b f None → Drafted b rows [] (Des (term_at b.terms f)) None
 des_none b rows f none = λ as' h. let g = fits (content_scope b) rows (Des (term_at b.terms f)) h.principals as' h.fits in none g.0 g.1
+
+-- what an operator gives for a predicate, over an earlier bank
+pub picked_back : (C : SimpleType → Constant) (b c e : Content) (a x : SimpleType) (f v : ℕ) → Grows b c → f < length b.terms → x ≡ a → HasTerm e v (apply (term_at c.terms f) (eta a (app (constant (C x)) (term_at c.terms f)))) → HasTerm e v (apply (term_at b.terms f) (eta a (app (constant (C a)) (term_at b.terms f))))
+picked_back C b c e a x f v g w same m = m ∙ ap₂ (λ t y. Some (apply t (eta a (app (constant (C y)) t)))) (grown_at b c f g w) same
 
 module _ (b e : Content) (rows : List Row) (a : SimpleType) (f : ℕ) (g : Grows b e) (p : IsPredicate b a f) (n : ℕ) (none : HasTerm e n (nowhere a (term_at b.terms f))) (v : ℕ) where
   first_is : literal (term_at e.terms n) ≡ literal (nowhere a (term_at b.terms f))

@@ -8,8 +8,7 @@ use Rattle.stt_core.specs.Occurrence.{IsClosed}
 use Rattle.stt_core.specs.Means.Missing.{missing_binders}
 use Rattle.stt_core.specs.Typing.{Scope}
 use Rattle.stt_core.specs.Canonical.{IsCanonical, IsNeutral, IsFrom}
-use Rattle.stt_core.specs.Means.CanonicalType.{canonical_type}
-use Rattle.stt_core.proofs.CanonicalTypes.{canonical-is, canonical_type-at}
+use Rattle.stt_core.proofs.CanonicalTypes.{canonical_type-at}
 use Rattle.stt_core.proofs.TypeLaws.{same_type-true, same_type_refl}
 use Rattle.term_bank.proofs.ClosedLaws.{closed_is}
 
@@ -40,11 +39,11 @@ missing_none scope a t h = missing_canonical scope [] a t h
 pub canonical_closed : (scope : Scope) (a : SimpleType) (t : Lambda) → IsCanonical scope [] a t → IsClosed t
 canonical_closed scope a t h = (closed_is t (missing_binders t) refl).0 (eq-eqb (missing_binders t) 0 (omega (arith, missing_canonical scope [] a t h)))
 
-pub type_tells : (scope : Scope) (a c : SimpleType) (t : Lambda) (r : Bool) → canonical_type scope [] t ≡ Some c → r ≡ same_type c a → IsTrue r ↔ IsCanonical scope [] a t
+pub type_tells : (scope : Scope) (a c : SimpleType) (t : Lambda) (r : Bool) → IsCanonical scope [] c t → r ≡ same_type c a → IsTrue r ↔ IsCanonical scope [] a t
 type_tells scope a c t r h e = (
-  λ w. canonical-is scope [] a t (h ∙ ap Some (same_type-true c a (sym e ∙ w))),
+  λ w. subst (λ x. IsCanonical scope [] x t) (same_type-true c a (sym e ∙ w)) h,
   λ k.
-    let same : c ≡ a = same_Some c a (sym h ∙ canonical_type-at scope [] a t k) in
+    let same : c ≡ a = same_Some c a (sym (canonical_type-at scope [] c t h) ∙ canonical_type-at scope [] a t k) in
     e ∙ ap (λ x. same_type x a) same ∙ same_type_refl a)
 
 pub open_tells : (scope : Scope) (a : SimpleType) (t : Lambda) (r : Bool) → (IsTrue r ↔ IsClosed t) → r ≡ false → IsTrue false ↔ IsCanonical scope [] a t

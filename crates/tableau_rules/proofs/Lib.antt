@@ -8,5 +8,6 @@ pub mod TypedLaws
 pub mod GrownLaws
 pub mod NowhereLaws
 pub mod ConLaws
+pub mod VariableLaws
 pub mod ChoiceLaws
 pub mod ChoiceDrafts

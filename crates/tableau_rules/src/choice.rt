@@ -1,10 +1,10 @@
 //! The rules for what is chosen and what is described by a predicate.
 ghost use Rattle.std.specs.Prelude.{◌≡◌, ◌<◌, [], List, length, IfOk, true, option_map};
 ghost use Rattle.stt_core.specs.SimpleType.{is_declared};
-ghost use Rattle.stt_core.specs.Lambda.{app, bound, eq};
+ghost use Rattle.stt_core.specs.Lambda.{app, bound, imp, eq};
 ghost use Rattle.stt_core.specs.View.{the_type, the_head};
 ghost use Rattle.stt_normal.specs.Normal.{eta, apply};
-ghost use Rattle.stt_tableau.specs.Rules.{at_outer, at_most_once};
+ghost use Rattle.stt_tableau.specs.Rules.{at_outer, at_inner, at_most_once};
 ghost use Rattle.stt_tableau.specs.Witnesses.{Row};
 ghost use Rattle.stt_tableau.specs.declared.refutation.RuleUse.TheVariants.{Cho, Des};
 ghost use Rattle.term_bank.specs.Content.{content_scope, Grows, HasTerm};
@@ -124,6 +124,27 @@ fn same_variables(
     Ok(bank.intern_app(&head, &[outer, inner])?)
 }
 
+/// The formula that two new variables are the same where a predicate holds of both.
+fn both_same(
+    alloc: Global,
+    bank: &mut Bank,
+    normal: &mut Normaliser,
+    ty: &Ty,
+    f: Id,
+) -> Result<Id, AllocError>
+    requires predicate { IsPredicate bank.old (the_type ty.now) f }
+    requires right { IsRight normal.old bank.old }
+    ensures term { IfOk result (λ id. HasTerm bank.new id (imp (at_outer (the_type ty.now) (term_at bank.old.terms f)) (imp (at_inner (the_type ty.now) (term_at bank.old.terms f)) (eq (the_type ty.now) (eta (the_type ty.now) (bound 1)) (eta (the_type ty.now) (bound 0)))))) }
+    ensures grows { Grows bank.old bank.new }
+    ensures right { IsRight normal.new bank.new }
+{
+    let outer = at_outer_variable(bank, normal, ty, f)?;
+    let inner = at_new_variable(bank, normal, ty, f)?;
+    let same = same_variables(alloc, bank, normal, ty)?;
+    let then = bank.intern_app(&Head::Imp, &[inner, same])?;
+    Ok(bank.intern_app(&Head::Imp, &[outer, then])?)
+}
+
 /// The formula that a predicate holds of one value at most.
 fn at_most_once_of(
     alloc: Global,
@@ -138,11 +159,7 @@ fn at_most_once_of(
     ensures grows { Grows bank.old bank.new }
     ensures right { IsRight normal.new bank.new }
 {
-    let outer = at_outer_variable(bank, normal, ty, f)?;
-    let inner = at_new_variable(bank, normal, ty, f)?;
-    let same = same_variables(alloc, bank, normal, ty)?;
-    let then = bank.intern_app(&Head::Imp, &[inner, same])?;
-    let both = bank.intern_app(&Head::Imp, &[outer, then])?;
+    let both = both_same(alloc, bank, normal, ty, f)?;
     let of_inner = everywhere(alloc, bank, ty, both)?;
     Ok(everywhere(alloc, bank, ty, of_inner)?)
 }
