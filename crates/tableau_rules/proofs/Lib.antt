@@ -11,3 +11,6 @@ pub mod ConLaws
 pub mod VariableLaws
 pub mod ChoiceLaws
 pub mod ChoiceDrafts
+pub mod DeclareLaws
+pub mod WitnessLaws
+pub mod UseLaws

@@ -11,10 +11,12 @@ use Rattle.stt_tableau.specs.Literals.{Literal, is_negated, IsLiteral}
 use Rattle.stt_tableau.specs.Witnesses.{Row, with_rows}
 use Rattle.stt_tableau.specs.Rules.{Rule, false_rule, close_rule, refl_rule, imp_pos_rule, imp_neg_rule, bool_pos_rule, bool_neg_rule, fun_pos_rule, fun_neg_rule, all_pos_rule, all_neg_rule, mat_rule, dec_rule, con_rule, cho_rule, des_rule, cut_rule, IsInstance}
 use Rattle.stt_tableau.specs.declared.refutation.RuleUse.{RuleUse}
-use Rattle.term_bank.specs.Content.{Content, content_scope, Grows}
+use Rattle.term_bank.specs.Content.{Content, content_scope, HasTerm, Grows}
 use Rattle.term_bank.specs.Terms.{term_at}
 use Rattle.term_bank.proofs.ListLaws.{get_or-front}
-use Rattle.bank_normal.specs.Right.{IsRight, IsLifted, IsReplaced, IsApplied}
+use Rattle.stt_core.specs.Lift.{lift_by}
+use Rattle.stt_normal.specs.Normal.{replace, apply}
+use Rattle.bank_normal.specs.Right.{IsRight, term_ways}
 use Rattle.bank_normal.specs.declared.normaliser.Normaliser.{Normaliser}
 use Rattle.literal_map.specs.Atoms.{IsAtom}
 use Rattle.search_run.proofs.WiderLaws.{canonical_wider, neutral_wider}
@@ -120,3 +122,25 @@ module _ (b c : Content) (w : Widens b c) where
 
   pub wide_atoms : (atoms : List ℕ) → All (IsAtom b) atoms → All (IsAtom c) atoms
   wide_atoms atoms h = All-weaker (IsAtom b) (IsAtom c) wide_atom atoms h
+
+-- a memo that is right over a bank is right over one with the same terms
+pub right_by : (n : Normaliser) (b c : Content) → c.terms ≡ b.terms → IsRight n b → IsRight n c
+right_by n b c e h = record {
+  lifted = λ k i.
+      let x = h.lifted k i in
+      record { term_within = subst (λ ts. k.term < length ts) (sym e) x.term_within; result_is = subst (λ ts. HasTerm (record c { terms = ts }) k.result (lift_by k.by k.depth (term_at ts k.term))) (sym e) x.result_is };
+  replaced = λ k i.
+      let x = h.replaced k i in
+      record {
+        term_within = subst (λ ts. k.term < length ts) (sym e) x.term_within;
+        by_within = subst (λ ts. k.by < length ts) (sym e) x.by_within;
+        result_is = subst (λ ts. HasTerm (record c { terms = ts }) k.result (replace (term_ways (term_at ts k.by)) k.depth (term_at ts k.by) (term_at ts k.term))) (sym e) x.result_is;
+      };
+  applied = λ k i.
+      let x = h.applied k i in
+      record {
+        term_within = subst (λ ts. k.term < length ts) (sym e) x.term_within;
+        by_within = subst (λ ts. k.by < length ts) (sym e) x.by_within;
+        result_is = subst (λ ts. HasTerm (record c { terms = ts }) k.result (apply (term_at ts k.term) (term_at ts k.by))) (sym e) x.result_is;
+      };
+}

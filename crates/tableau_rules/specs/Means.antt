@@ -4,3 +4,5 @@ pub mod Drafted
 pub mod Typed
 pub mod Functions
 pub mod Numbered
+pub mod Declaring
+pub mod Used

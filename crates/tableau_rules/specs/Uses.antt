@@ -1,5 +1,5 @@
 -- What rules take, by numbers.
-use Rattle.std.specs.Prelude.{◌≡◌, ℕ, List, [], ◌∷◌, ◌++◌, map, Option, Some, None}
+use Rattle.std.specs.Prelude.{◌≡◌, ℕ, Bool, true, false, List, [], ◌∷◌, ◌++◌, map, Option, Some, None, option_map, option_to_list, if◌then◌else◌}
 use Rattle.sat_base.specs.declared.literal.SatLit.{SatLit}
 use Rattle.stt_core.specs.Lambda.{Lambda}
 use Rattle.stt_tableau.specs.Literals.{Literal}
@@ -16,42 +16,39 @@ use Rattle.literal_map.specs.declared.instance.RuleKind.TheVariants as kind
 
 -- The rule with what it takes, where its principals stand first in the branch. There is none where something that the rule takes is
 -- missing, or something is given that it doesn't take.
-abbrev pub rule_of : List Lambda → List ℕ → RuleKind → Option SatLit → Option SatLit → Option ℕ → Option RuleUse
-rule_of terms atoms kind.False (Some l) None None = Some (False 0)
-rule_of terms atoms kind.Close (Some l) (Some k) None = Some (Close 0 1)
-rule_of terms atoms kind.Refl (Some l) None None = Some (Refl 0)
-rule_of terms atoms kind.ImpPos (Some l) None None = Some (ImpPos 0)
-rule_of terms atoms kind.ImpNeg (Some l) None None = Some (ImpNeg 0)
-rule_of terms atoms kind.BoolPos (Some l) None None = Some (BoolPos 0)
-rule_of terms atoms kind.BoolNeg (Some l) None None = Some (BoolNeg 0)
-rule_of terms atoms kind.FunPos (Some l) None None = Some (FunPos 0)
-rule_of terms atoms kind.FunNeg (Some l) None None = Some (FunNeg 0)
-rule_of terms atoms kind.AllPos (Some l) None (Some u) = Some (AllPos 0 (term_at terms u))
-rule_of terms atoms kind.AllNeg (Some l) None None = Some (AllNeg 0)
-rule_of terms atoms kind.Mat (Some l) (Some k) None = Some (Mat 0 1)
-rule_of terms atoms kind.Dec (Some l) None None = Some (Dec 0)
-rule_of terms atoms kind.Con (Some l) (Some k) None = Some (Con 0 1)
-rule_of terms atoms kind.Cho None None (Some f) = Some (Cho (term_at terms f))
-rule_of terms atoms kind.Des None None (Some f) = Some (Des (term_at terms f))
-rule_of terms atoms kind.Cut (Some l) None None = Some (Cut (literal_at terms atoms l))
-rule_of terms atoms rule first second term = None
+abbrev pub rule_of : RuleKind → Option Literal → Option Literal → Option Lambda → Option RuleUse
+rule_of kind.False (Some l) None None = Some (False 0)
+rule_of kind.Close (Some l) (Some k) None = Some (Close 0 1)
+rule_of kind.Refl (Some l) None None = Some (Refl 0)
+rule_of kind.ImpPos (Some l) None None = Some (ImpPos 0)
+rule_of kind.ImpNeg (Some l) None None = Some (ImpNeg 0)
+rule_of kind.BoolPos (Some l) None None = Some (BoolPos 0)
+rule_of kind.BoolNeg (Some l) None None = Some (BoolNeg 0)
+rule_of kind.FunPos (Some l) None None = Some (FunPos 0)
+rule_of kind.FunNeg (Some l) None None = Some (FunNeg 0)
+rule_of kind.AllPos (Some l) None (Some u) = Some (AllPos 0 u)
+rule_of kind.AllNeg (Some l) None None = Some (AllNeg 0)
+rule_of kind.Mat (Some l) (Some k) None = Some (Mat 0 1)
+rule_of kind.Dec (Some l) None None = Some (Dec 0)
+rule_of kind.Con (Some l) (Some k) None = Some (Con 0 1)
+rule_of kind.Cho None None (Some f) = Some (Cho f)
+rule_of kind.Des None None (Some f) = Some (Des f)
+rule_of kind.Cut (Some l) None None = Some (Cut l)
+rule_of rule first second term = None
 
+-- the rule with what it takes, over a bank and the places of the atoms in it
 abbrev pub use_of : List Lambda → List ℕ → BankUse → Option RuleUse
-use_of terms atoms by = rule_of terms atoms by.kind by.first by.second by.term
+use_of terms atoms by =
+    rule_of by.kind (option_map (literal_at terms atoms) by.first) (option_map (literal_at terms atoms) by.second) (option_map (term_at terms) by.term)
 
--- the list of what is there
-abbrev pub listed : Option SatLit → List SatLit
-listed (Some l) = l ∷ []
-listed None = []
-
--- whether what a rule takes first is a principal: a cut has none, and takes the literal that it cuts with
-abbrev pub principals_by : RuleKind → List SatLit → List SatLit
-principals_by kind.Cut ls = []
-principals_by rule ls = ls
+-- a cut has no principals: what it takes first is the literal that it cuts with
+abbrev pub is_cut : RuleKind → Bool
+is_cut kind.Cut = true
+is_cut rule = false
 
 -- the principals of a rule, in their order
 abbrev pub principals_of : BankUse → List SatLit
-principals_of by = principals_by by.kind (listed by.first ++ listed by.second)
+principals_of by = if is_cut by.kind then [] else option_to_list by.first ++ option_to_list by.second
 
 -- the rule with what it takes has an instance with these principals, and these are its alternatives
 pub record IsInstanceBy (b : Content) (atoms : List ℕ) (rows : List Row) (by : BankUse) (alternatives : List (List Literal)) : Type 0 where

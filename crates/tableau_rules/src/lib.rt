@@ -2,6 +2,7 @@
 #![tactic(auto)]
 
 mod choice;
+mod dispatch;
 mod draft;
 mod equation;
 mod function;
@@ -11,6 +12,8 @@ mod part;
 mod propositional;
 mod quantifier;
 mod refusal;
+mod spine;
+mod witness;
 
 pub use maker::make;
 pub use refusal::RuleRefused;
