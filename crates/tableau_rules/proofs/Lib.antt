@@ -14,3 +14,4 @@ pub mod ChoiceDrafts
 pub mod DeclareLaws
 pub mod WitnessLaws
 pub mod UseLaws
+pub mod MadeLaws

@@ -12,13 +12,14 @@ use Rattle.stt_tableau.specs.declared.refutation.RuleUse.{RuleUse}
 use Rattle.stt_tableau.specs.declared.refutation.RuleUse.TheVariants as use_of_table
 use Rattle.term_bank.specs.Content.{Content, content_scope, Grows}
 use Rattle.term_bank.specs.Terms.{term_at}
+use Rattle.term_bank.proofs.ListLaws.{get_or-front}
 use Rattle.literal_map.specs.Atoms.{literal_at, IsAtom, Begins}
 use Rattle.literal_map.specs.declared.instance.BankUse.{BankUse}
 use Rattle.literal_map.specs.declared.instance.RuleKind.{RuleKind}
 use Rattle.literal_map.specs.declared.instance.RuleKind.TheVariants as kind
 use Rattle.literal_map.proofs.StayLaws.{literals_same}
 use Rattle.tableau_rules.specs.Uses.{rule_of, use_of, is_cut, principals_of, IsInstanceBy}
-use Rattle.tableau_rules.specs.Changes.{AreWitnessesBy}
+use Rattle.tableau_rules.specs.Changes.{Widens, AreWitnessesAfter, AreWitnessesBy}
 use Rattle.tableau_rules.specs.Means.Drafted.{principal_at, alternatives_at, IsPrincipal, Drafted}
 use Rattle.tableau_rules.specs.Means.Declaring.{DraftedOver, IsWitnessed, WitnessedWhere, MayBeWitnessed}
 use Rattle.tableau_rules.specs.Means.Used.{DraftedBy, WitnessesWhere, IsOnlyFirst}
@@ -26,9 +27,16 @@ use Rattle.tableau_rules.specs.declared.draft.Principal.{Principal}
 use Rattle.tableau_rules.specs.declared.draft.Signed.{Signed}
 use Rattle.tableau_rules.proofs.GrownLaws.{principal_grown}
 use Rattle.tableau_rules.proofs.NumberLaws.{begins_itself}
+use Rattle.tableau_rules.proofs.WideLaws.{wide_at}
 
 pub principal_now : (b c : Content) (atoms : List ℕ) (l : SatLit) (p : Principal) → Grows b c → All (IsAtom b) atoms → l.var.0 < length atoms → IsPrincipal b p → principal_at b p ≡ literal_at b.terms atoms l → principal_at c p ≡ literal_at c.terms atoms l
 principal_now b c atoms l p g are k h e = principal_grown b c p g h ∙ e ∙ sym (literals_same b c g atoms atoms are (begins_itself atoms) l k)
+
+pub principal_wide : (b c : Content) (atoms : List ℕ) (l : SatLit) (p : Principal) → Widens b c → All (IsAtom b) atoms → l.var.0 < length atoms → IsPrincipal b p → principal_at b p ≡ literal_at b.terms atoms l → principal_at c p ≡ literal_at c.terms atoms l
+principal_wide b c atoms l p w are k h e =
+    let P : Lambda → Literal = λ t. record { positive = p.positive; atom = t } in
+    let L : Lambda → Literal = λ t. record { positive = l.positive; atom = t } in
+    ap P (wide_at b c w p.atom h.within) ∙ e ∙ sym (ap L (wide_at b c w (get_or atoms l.var.0 0) (are l.var.0 0 k).within))
 
 module _ (c : Content) (atoms : List ℕ) where
   pub drafted_by : (ps : List Principal) (by : BankUse) (rule : RuleUse) (o : Option (List (List Signed))) → use_of c.terms atoms by ≡ Some rule → map (principal_at c) ps ≡ map (literal_at c.terms atoms) (principals_of by) → ((rows : List Row) → Drafted c rows ps rule o) → (rows : List Row) → DraftedBy c atoms rows by o
@@ -36,9 +44,6 @@ module _ (c : Content) (atoms : List ℕ) where
       ((d rows).0, record { rule = rule; is_rule = is; is_instance = subst (λ ls. IsInstance (content_scope c) rows ls rule (alternatives_at c ds)) same (d rows).1 })
   drafted_by ps by rule None is same d rows = λ others as' h.
       d others as' (subst₂ (λ ls r. IsInstance (content_scope c) others ls r as') (sym same) (same_Some h.rule rule (sym h.is_rule ∙ is)) h.is_instance)
-
-  pub no_rule : (by : BankUse) → use_of c.terms atoms by ≡ None → (rows : List Row) → DraftedBy c atoms rows by None
-  no_rule by none rows = λ others as' h. let e : None ≡ Some h.rule = sym none ∙ h.is_rule in cc
 
   -- ONE PRINCIPAL AND NOTHING ELSE
 
@@ -56,28 +61,6 @@ module _ (c : Content) (atoms : List ℕ) where
         subst (λ x. DraftedBy c atoms rows (of_one x) o) (sym e)
         (drafted_by [] (of_one kind.Cut) (use_of_table.Cut (literal_at c.terms atoms l)) o refl refl (subst (λ x. (rs : List Row) → Drafted c rs [] (use_of_table.Cut x) o) same d) rows)
 
-    pub one_not : (rule ≡ kind.False → ⊥) → (rule ≡ kind.Refl → ⊥) → (rule ≡ kind.ImpPos → ⊥) → (rule ≡ kind.ImpNeg → ⊥) → (rule ≡ kind.BoolPos → ⊥) → (rule ≡ kind.BoolNeg → ⊥) → (rule ≡ kind.FunPos → ⊥) → (rule ≡ kind.FunNeg → ⊥) → (rule ≡ kind.Dec → ⊥) → (rule ≡ kind.Cut → ⊥) → (rule ≡ kind.AllNeg → ⊥) → (rows : List Row) → DraftedBy c atoms rows (of_one rule) None
-    one_not n1 n2 n3 n4 n5 n6 n7 n8 n9 n10 n11 rows = no_rule (of_one rule) (go rule refl) rows
-      where
-        go : (k : RuleKind) → rule ≡ k → rule_of k (Some (literal_at c.terms atoms l)) None None ≡ None
-        go kind.False e = absurd (n1 e)
-        go kind.Close e = refl
-        go kind.Refl e = absurd (n2 e)
-        go kind.ImpPos e = absurd (n3 e)
-        go kind.ImpNeg e = absurd (n4 e)
-        go kind.BoolPos e = absurd (n5 e)
-        go kind.BoolNeg e = absurd (n6 e)
-        go kind.FunPos e = absurd (n7 e)
-        go kind.FunNeg e = absurd (n8 e)
-        go kind.AllPos e = refl
-        go kind.AllNeg e = absurd (n11 e)
-        go kind.Mat e = refl
-        go kind.Dec e = absurd (n9 e)
-        go kind.Con e = refl
-        go kind.Cho e = refl
-        go kind.Des e = refl
-        go kind.Cut e = absurd (n10 e)
-
   -- TWO PRINCIPALS
 
   module _ (rule : RuleKind) (l m : SatLit) where
@@ -88,50 +71,6 @@ module _ (c : Content) (atoms : List ℕ) where
     two_by p q k r o e is none first second d rows =
         subst (λ x. DraftedBy c atoms rows (of_two x) o) (sym e)
         (drafted_by (p ∷ q ∷ []) (of_two k) r o is (ap₂ (λ x y. x ∷ y ∷ []) first second ∙ ap (λ x. map (literal_at c.terms atoms) (if x then [] else l ∷ m ∷ [])) (sym none)) d rows)
-
-    pub two_not : (rule ≡ kind.Close → ⊥) → (rule ≡ kind.Mat → ⊥) → (rule ≡ kind.Con → ⊥) → (rows : List Row) → DraftedBy c atoms rows (of_two rule) None
-    two_not n1 n2 n3 rows = no_rule (of_two rule) (go rule refl) rows
-      where
-        go : (k : RuleKind) → rule ≡ k → rule_of k (Some (literal_at c.terms atoms l)) (Some (literal_at c.terms atoms m)) None ≡ None
-        go kind.False e = refl
-        go kind.Close e = absurd (n1 e)
-        go kind.Refl e = refl
-        go kind.ImpPos e = refl
-        go kind.ImpNeg e = refl
-        go kind.BoolPos e = refl
-        go kind.BoolNeg e = refl
-        go kind.FunPos e = refl
-        go kind.FunNeg e = refl
-        go kind.AllPos e = refl
-        go kind.AllNeg e = refl
-        go kind.Mat e = absurd (n2 e)
-        go kind.Dec e = refl
-        go kind.Con e = absurd (n3 e)
-        go kind.Cho e = refl
-        go kind.Des e = refl
-        go kind.Cut e = refl
-
-    pub three_not : (u : ℕ) (rows : List Row) → DraftedBy c atoms rows (record { kind = rule; first = Some l; second = Some m; term = Some u }) None
-    three_not u rows = no_rule (record { kind = rule; first = Some l; second = Some m; term = Some u }) (go rule) rows
-      where
-        go : (k : RuleKind) → rule_of k (Some (literal_at c.terms atoms l)) (Some (literal_at c.terms atoms m)) (Some (term_at c.terms u)) ≡ None
-        go kind.False = refl
-        go kind.Close = refl
-        go kind.Refl = refl
-        go kind.ImpPos = refl
-        go kind.ImpNeg = refl
-        go kind.BoolPos = refl
-        go kind.BoolNeg = refl
-        go kind.FunPos = refl
-        go kind.FunNeg = refl
-        go kind.AllPos = refl
-        go kind.AllNeg = refl
-        go kind.Mat = refl
-        go kind.Dec = refl
-        go kind.Con = refl
-        go kind.Cho = refl
-        go kind.Des = refl
-        go kind.Cut = refl
 
   -- ONE PRINCIPAL AND A TERM
 
@@ -144,28 +83,6 @@ module _ (c : Content) (atoms : List ℕ) where
         subst (λ x. DraftedBy c atoms rows (of_both x) o) (sym e)
         (drafted_by (p ∷ []) (of_both kind.AllPos) (use_of_table.AllPos 0 t) o (ap (λ x. Some (use_of_table.AllPos 0 x)) (sym is)) (ap (λ x. x ∷ []) same) d rows)
 
-    pub both_not : (rule ≡ kind.AllPos → ⊥) → (rows : List Row) → DraftedBy c atoms rows (of_both rule) None
-    both_not n rows = no_rule (of_both rule) (go rule refl) rows
-      where
-        go : (k : RuleKind) → rule ≡ k → rule_of k (Some (literal_at c.terms atoms l)) None (Some (term_at c.terms u)) ≡ None
-        go kind.False e = refl
-        go kind.Close e = refl
-        go kind.Refl e = refl
-        go kind.ImpPos e = refl
-        go kind.ImpNeg e = refl
-        go kind.BoolPos e = refl
-        go kind.BoolNeg e = refl
-        go kind.FunPos e = refl
-        go kind.FunNeg e = refl
-        go kind.AllPos e = absurd (n e)
-        go kind.AllNeg e = refl
-        go kind.Mat e = refl
-        go kind.Dec e = refl
-        go kind.Con e = refl
-        go kind.Cho e = refl
-        go kind.Des e = refl
-        go kind.Cut e = refl
-
   -- A TERM ALONE
 
   module _ (rule : RuleKind) (u : ℕ) where
@@ -176,74 +93,6 @@ module _ (c : Content) (atoms : List ℕ) where
     term_by k r o e is none d rows =
         subst (λ x. DraftedBy c atoms rows (of_term x) o) (sym e)
         (drafted_by [] (of_term k) r o is (ap (λ x. map (literal_at c.terms atoms) (if x then [] else [])) (sym none)) d rows)
-
-    pub term_not : (rule ≡ kind.Cho → ⊥) → (rule ≡ kind.Des → ⊥) → (rows : List Row) → DraftedBy c atoms rows (of_term rule) None
-    term_not n m rows = no_rule (of_term rule) (go rule refl) rows
-      where
-        go : (k : RuleKind) → rule ≡ k → rule_of k None None (Some (term_at c.terms u)) ≡ None
-        go kind.False e = refl
-        go kind.Close e = refl
-        go kind.Refl e = refl
-        go kind.ImpPos e = refl
-        go kind.ImpNeg e = refl
-        go kind.BoolPos e = refl
-        go kind.BoolNeg e = refl
-        go kind.FunPos e = refl
-        go kind.FunNeg e = refl
-        go kind.AllPos e = refl
-        go kind.AllNeg e = refl
-        go kind.Mat e = refl
-        go kind.Dec e = refl
-        go kind.Con e = refl
-        go kind.Cho e = absurd (n e)
-        go kind.Des e = absurd (m e)
-        go kind.Cut e = refl
-
-  -- NO FIRST PRINCIPAL BUT A SECOND, AND NOTHING AT ALL
-
-  pub second_not : (rule : RuleKind) (m : SatLit) (t : Option ℕ) (rows : List Row) → DraftedBy c atoms rows (record { kind = rule; first = None; second = Some m; term = t }) None
-  second_not rule m t rows = no_rule (record { kind = rule; first = None; second = Some m; term = t }) (go rule (option_map (term_at c.terms) t)) rows
-    where
-      go : (k : RuleKind) (o : Option Lambda) → rule_of k None (Some (literal_at c.terms atoms m)) o ≡ None
-      go kind.False o = refl
-      go kind.Close o = refl
-      go kind.Refl o = refl
-      go kind.ImpPos o = refl
-      go kind.ImpNeg o = refl
-      go kind.BoolPos o = refl
-      go kind.BoolNeg o = refl
-      go kind.FunPos o = refl
-      go kind.FunNeg o = refl
-      go kind.AllPos o = refl
-      go kind.AllNeg o = refl
-      go kind.Mat o = refl
-      go kind.Dec o = refl
-      go kind.Con o = refl
-      go kind.Cho o = refl
-      go kind.Des o = refl
-      go kind.Cut o = refl
-
-  pub nothing_not : (rule : RuleKind) (rows : List Row) → DraftedBy c atoms rows (record { kind = rule; first = None; second = None; term = None }) None
-  nothing_not rule rows = no_rule (record { kind = rule; first = None; second = None; term = None }) (go rule) rows
-    where
-      go : (k : RuleKind) → rule_of k None None None ≡ None
-      go kind.False = refl
-      go kind.Close = refl
-      go kind.Refl = refl
-      go kind.ImpPos = refl
-      go kind.ImpNeg = refl
-      go kind.BoolPos = refl
-      go kind.BoolNeg = refl
-      go kind.FunPos = refl
-      go kind.FunNeg = refl
-      go kind.AllPos = refl
-      go kind.AllNeg = refl
-      go kind.Mat = refl
-      go kind.Dec = refl
-      go kind.Con = refl
-      go kind.Cho = refl
-      go kind.Des = refl
-      go kind.Cut = refl
 
 -- a use by its fields
 pub by_fields : (by : BankUse) (first second : Option SatLit) (term : Option ℕ) → by.first ≡ first → by.second ≡ second → by.term ≡ term → record { kind = by.kind; first = first; second = second; term = term } ≡ by
@@ -260,3 +109,73 @@ module _ (c : Content) (atoms : List ℕ) (rows : List Row) (by : BankUse) (rule
       go : (o : Option (List (List Signed))) → DraftedOver c rows (p ∷ []) (use_of_table.AllNeg 0) o → DraftedBy c atoms rows (record { kind = kind.AllNeg; first = Some l; second = None; term = None }) o
       go (Some ds) h = (h.0, record { rule = use_of_table.AllNeg 0; is_rule = refl; is_instance = subst (λ x. IsInstance (content_scope c) rows (x ∷ []) (use_of_table.AllNeg 0) (alternatives_at c ds)) same h.1 })
       go None h = λ others as' k. h others as' (subst₂ (λ x r. IsInstance (content_scope c) others (x ∷ []) r as') (sym same) (same_Some k.rule (use_of_table.AllNeg 0) (sym k.is_rule)) k.is_instance)
+
+  witness_by : (l : SatLit) (p : Principal) (old new : List ℕ) → by.first ≡ Some l → principal_at c p ≡ literal_at c.terms atoms l → IsWitnessed c p old new → AreWitnessesBy c atoms by old new
+  witness_by l p old new first same h =
+      subst (λ k. AreWitnessesAfter c atoms k by.first old new) (sym rule)
+      (record { literal = l; is_principal = first; type = h.type; predicate = h.predicate; within = h.within; denies = sym same ∙ h.denies; added = h.added })
+
+  pub witnesses_by : (l : SatLit) (p : Principal) (old new : List ℕ) (o : Option (List (List Signed))) → by.first ≡ Some l → principal_at c p ≡ literal_at c.terms atoms l → WitnessedWhere c p old new o → WitnessesWhere c atoms by old new o
+  witnesses_by l p old new (Some ds) first same h = witness_by l p old new first same h
+  witnesses_by l p old new None first same h = h
+
+  pub may_be_by : (l : SatLit) (p : Principal) (old new : List ℕ) → by.first ≡ Some l → principal_at c p ≡ literal_at c.terms atoms l → MayBeWitnessed c p old new → (new ≡ old) ⊎ AreWitnessesBy c atoms by old new
+  may_be_by l p old new first same (inl e) = inl e
+  may_be_by l p old new first same (inr h) = inr (witness_by l p old new first same h)
+
+-- a rule that makes no witness leaves the witnesses
+pub no_witness_by : (c : Content) (atoms : List ℕ) (by : BankUse) (ids : List ℕ) (o : Option (List (List Signed))) → (by.kind ≡ kind.AllNeg → ⊥) → WitnessesWhere c atoms by ids ids o
+no_witness_by c atoms by ids None n = refl
+no_witness_by c atoms by ids (Some ds) n = go by.kind n
+  where
+    go : (k : RuleKind) → (k ≡ kind.AllNeg → ⊥) → AreWitnessesAfter c atoms k by.first ids ids
+    go kind.False n = refl
+    go kind.Close n = refl
+    go kind.Refl n = refl
+    go kind.ImpPos n = refl
+    go kind.ImpNeg n = refl
+    go kind.BoolPos n = refl
+    go kind.BoolNeg n = refl
+    go kind.FunPos n = refl
+    go kind.FunNeg n = refl
+    go kind.AllPos n = refl
+    go kind.AllNeg n = absurd (n refl)
+    go kind.Mat n = refl
+    go kind.Dec n = refl
+    go kind.Con n = refl
+    go kind.Cho n = refl
+    go kind.Des n = refl
+    go kind.Cut n = refl
+
+-- the witnesses over more atoms
+pub witnesses_on : (b : Content) (atoms more : List ℕ) (by : BankUse) (old new : List ℕ) → Begins atoms more → ForSome by.first (λ l. l.var.0 < length atoms) → AreWitnessesBy b atoms by old new → AreWitnessesBy b more by old new
+witnesses_on b atoms more by old new g first = go by.kind
+  where
+    go : (k : RuleKind) → AreWitnessesAfter b atoms k by.first old new → AreWitnessesAfter b more k by.first old new
+    go kind.False h = h
+    go kind.Close h = h
+    go kind.Refl h = h
+    go kind.ImpPos h = h
+    go kind.ImpNeg h = h
+    go kind.BoolPos h = h
+    go kind.BoolNeg h = h
+    go kind.FunPos h = h
+    go kind.FunNeg h = h
+    go kind.AllPos h = h
+    go kind.AllNeg h = record {
+      literal = h.literal;
+      is_principal = h.is_principal;
+      type = h.type;
+      predicate = h.predicate;
+      within = h.within;
+      denies =
+          ap (λ x. record { positive = h.literal.positive; atom = term_at b.terms x }) (ap (λ xs. get_or xs h.literal.var.0 0) g.is ∙ get_or-front atoms g.further h.literal.var.0 0 (first h.literal h.is_principal))
+          ∙ h.denies;
+      added = h.added;
+    }
+    go kind.Mat h = h
+    go kind.Dec h = h
+    go kind.Con h = h
+    go kind.Cho h = h
+    go kind.Des h = h
+    go kind.Cut h = h

@@ -6,3 +6,4 @@ pub mod Functions
 pub mod Numbered
 pub mod Declaring
 pub mod Used
+pub mod Made
