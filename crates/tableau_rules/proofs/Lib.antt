@@ -11,3 +11,4 @@ pub mod ConLaws
 pub mod VariableLaws
 pub mod ChoiceLaws
 pub mod ChoiceDrafts
+pub mod SpineLaws

@@ -4,3 +4,4 @@ pub mod Drafted
 pub mod Typed
 pub mod Functions
 pub mod Numbered
+pub mod Compared

@@ -11,6 +11,7 @@ mod part;
 mod propositional;
 mod quantifier;
 mod refusal;
+mod spine;
 
 pub use maker::make;
 pub use refusal::RuleRefused;
