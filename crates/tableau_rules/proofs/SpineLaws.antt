@@ -1,35 +1,42 @@
 -- Arguments that are compared.
-use Rattle.std.proofs.Common.{◌≡◌, ◌<◌, ◌≤◌, ◌+◌, ℕ, zero, suc, true, false, Bool, List, [], ◌∷◌, ◌++◌, Some, None, Option, length, map, take, slice_get, refl, sym, ap, ap₂, subst, subst₂, ◌∙◌, arith}
+use Rattle.std.proofs.Common.{◌≡◌, ◌<◌, ◌≤◌, ◌+◌, ℕ, zero, suc, true, false, Bool, List, [], ◌∷◌, ◌++◌, Some, None, Option, length, map, take, take_all, slice_get, refl, sym, ap, ap₂, subst, subst₂, ◌∙◌, arith}
 use Rattle.std.specs.Prelude.{All}
 use Rattle.std.proofs.lemmas.Bool.{and_parts}
 use Rattle.std.proofs.lemmas.List.{length-map}
 use Rattle.std.proofs.lemmas.List.Elements.{All-head, All-tail}
 use Rattle.std.proofs.lemmas.Option.{same_Some}
-use Rattle.stt_core.specs.SimpleType.{SimpleType, base, arrow, is_declared}
+use Rattle.stt_core.specs.SimpleType.{SimpleType, base, arrow, formula, is_declared}
 use Rattle.stt_core.specs.Lambda.{Constant, Lambda, constant, app, eq, applied}
 use Rattle.stt_core.specs.Typing.{Scope, constant_type, IsScope}
 use Rattle.stt_core.specs.Canonical.{IsCanonical, IsNeutral}
-use Rattle.stt_core.specs.View.{the_head}
+use Rattle.stt_core.specs.View.{the_head, the_type}
 use Rattle.stt_core.proofs.CanonicalTypes.{canonical_type-at}
 use Rattle.stt_core.proofs.HeadLaws.{atom_head}
 use Rattle.stt_core.proofs.ListLaws.{take_got}
 use Rattle.stt_core.proofs.SpineLaws.{SameParts, parts}
 use Rattle.stt_core.proofs.TypeLaws.{constant_declared}
-use Rattle.stt_tableau.specs.Literals.{minus, opposite, literal}
-use Rattle.stt_tableau.specs.Rules.{IsDecomposed, differ_each}
+use Rattle.stt_tableau.specs.Literals.{Literal, plus, minus, opposite, literal}
+use Rattle.stt_tableau.specs.Rules.{IsDecomposed, differ_each, mat_rule, dec_rule, AreAt, IsInstance}
+use Rattle.stt_tableau.specs.Witnesses.{Row}
+use Rattle.stt_tableau.specs.declared.refutation.RuleUse.TheVariants.{Mat, Dec}
 use Rattle.stt_tableau.specs.Means.Heads.{IsDecomposedHead}
 use Rattle.stt_tableau.proofs.DecompositionLaws.{Takes, arguments_taken}
+use Rattle.stt_tableau.proofs.EquationLaws.{eq_canonical}
+use Rattle.stt_tableau.proofs.InstanceLaws.{fits}
 use Rattle.term_bank.specs.Content.{Content, content_scope, HasTerm, Grows}
 use Rattle.term_bank.specs.Terms.{term_at}
-use Rattle.term_bank.proofs.GrowLaws.{grows_on, has_at, has_within}
-use Rattle.tableau_rules.specs.Means.Compared.{AreNotCompared, HaveArguments, TakesBoth, DiffersAt, DifferEach, IsComparison}
-use Rattle.tableau_rules.specs.Means.Drafted.{signed_at, alternatives_at, AreWithin, IsDifference}
-use Rattle.tableau_rules.specs.Means.Parts.{IsSpineOf}
+use Rattle.term_bank.proofs.GrowLaws.{grown_scope, grows_on, has_at, has_within}
+use Rattle.tableau_rules.specs.Means.Compared.{AreNotCompared, HaveArguments, TakesBoth, DiffersAt, DifferEach, IsComparison, AreComparedBy}
+use Rattle.tableau_rules.specs.Means.Drafted.{principal_at, signed_at, alternatives_at, IsPrincipal, AreWithin, Drafted, IsDifference}
+use Rattle.tableau_rules.specs.Means.Parts.{IsSpineOf, IsEquationOf}
 use Rattle.tableau_rules.specs.Means.Typed.{AreSides}
+use Rattle.tableau_rules.specs.declared.draft.Principal.{Principal}
 use Rattle.tableau_rules.specs.declared.draft.Signed.{Signed}
+use Rattle.tableau_rules.specs.declared.part.Equation.{Equation}
 use Rattle.tableau_rules.specs.declared.part.Spine.{Spine}
 use Rattle.tableau_rules.proofs.ConLaws.{difference_grown, difference_of}
-use Rattle.tableau_rules.proofs.DraftLaws.{nay}
+use Rattle.tableau_rules.proofs.DraftLaws.{stands, nay}
+use Rattle.tableau_rules.proofs.GrownLaws.{principal_grown, drafted_grown}
 use Rattle.tableau_rules.proofs.TypedLaws.{sides_grown}
 
 -- WHERE TERMS AREN'T COMPARED
@@ -113,6 +120,10 @@ each_end b d (u ∷ ss) (v ∷ ts) ds s t x h k = (h.0, h.1 ++ (x ∷ []) ∷ []
 pub record DiffersTo (old new : Content) (ss ts : List ℕ) (i : ℕ) (ds : List (List Signed)) : Type 0 where
   pub differ : DifferEach old new (take i ss) (take i ts) ds
   pub grows : Grows old new
+
+pub differs_all : (b c : Content) (ss ts : List ℕ) (i : ℕ) (ds : List (List Signed)) → DiffersTo b c ss ts i ds → length ss ≤ i → length ss ≡ length ts → DifferEach b c ss ts ds
+differs_all b c ss ts i ds h far same =
+    subst₂ (λ l m. DifferEach b c l m ds) (take_all i ss far) (take_all i ts (omega (arith, far, same))) h.differ
 
 pub differs_more : (b c d : Content) (ss ts : List ℕ) (i s t : ℕ) (x : Signed) (ds all : List (List Signed)) (one : List Signed) → DiffersTo b c ss ts i ds → slice_get ss i ≡ Some s → slice_get ts i ≡ Some t → Grows c d → DiffersAt c d s t x → one ≡ x ∷ [] → all ≡ ds ++ one ∷ [] → DiffersTo b d ss ts (i + 1) all
 differs_more b c d ss ts i s t x ds all one h e f g k is w =
@@ -213,3 +224,74 @@ module _ (b d : Content) where
   compared_found n over s t left right sides h ds g =
       let f = arguments_fit b n over s t left right sides h in
       compared (term_at b.terms s) (term_at b.terms t) h.head h.decomposed f.0 f.1 left right h.left_some h.right_some h.left_is h.right_is f.2 ds g
+
+-- DRAFTS OF BOTH RULES
+
+module _ (b d : Content) (rows : List Row) (g : Grows b d) (p : Principal) (hp : IsPrincipal b p) where
+  module _ (q : Principal) (hq : IsPrincipal b q) where
+    -- the rule's principals, where it has an instance
+    mat_parts : (as' : List (List Literal)) → IsInstance (content_scope d) rows (principal_at d p ∷ principal_at d q ∷ []) (Mat 0 1) as' → (c : Constant) × (u : Lambda) × (v : Lambda) × (us : List Lambda) × (vs : List Lambda) × IsDecomposed c × (principal_at b p ≡ plus (applied (constant c) (u ∷ us))) × (principal_at b q ≡ minus (applied (constant c) (v ∷ vs)))
+    mat_parts as' h =
+        let f = fits (content_scope d) rows (Mat 0 1) h.principals as' h.fits in
+        let at = subst (AreAt (principal_at d p ∷ principal_at d q ∷ []) (0 ∷ 1 ∷ [])) f.8 h.at_places in
+        (f.0, f.2, f.3, f.4, f.5, f.6,
+          sym (principal_grown b d p g hp) ∙ same_Some (principal_at d p) (plus (applied (constant f.0) (f.2 ∷ f.4))) at.0,
+          sym (principal_grown b d q g hq) ∙ same_Some (principal_at d q) (minus (applied (constant f.0) (f.3 ∷ f.5))) at.1.0)
+
+    pub mat_found : p.positive ≡ true → q.positive ≡ false → (o : Option (List (List Signed))) → AreComparedBy b d (term_at b.terms p.atom) (term_at b.terms q.atom) o → Drafted d rows (p ∷ q ∷ []) (Mat 0 1) o
+    mat_found sp sq (Some ds) h =
+        let left = applied (constant h.head) (h.left_first ∷ h.left_rest) in
+        let right = applied (constant h.head) (h.right_first ∷ h.right_rest) in
+        let all : IsInstance (content_scope b) rows (principal_at b p ∷ principal_at b q ∷ []) (Mat 0 1) (differ_each h.type (h.left_first ∷ h.left_rest) (h.right_first ∷ h.right_rest)) =
+          record {
+            principals = plus left ∷ minus right ∷ [];
+            at_places = (stands b p true left sp h.left_is, (stands b q false right sq h.right_is, tt));
+            fits = mat_rule 0 1 h.head h.type h.left_first h.right_first h.left_rest h.right_rest h.decomposed h.has_type;
+          } in
+        (h.within,
+          subst (λ s. IsInstance s rows (principal_at d p ∷ principal_at d q ∷ []) (Mat 0 1) (alternatives_at d ds)) (sym (grown_scope b d g))
+          (subst₂ (λ l m. IsInstance (content_scope b) rows (l ∷ m ∷ []) (Mat 0 1) (alternatives_at d ds)) (sym (principal_grown b d p g hp)) (sym (principal_grown b d q g hq))
+          (subst (IsInstance (content_scope b) rows (principal_at b p ∷ principal_at b q ∷ []) (Mat 0 1)) (sym h.alternatives) all)))
+    mat_found sp sq None h = λ as' k.
+        let f = mat_parts as' k in
+        h f.0 f.1 f.2 f.3 f.4 f.5 (ap (λ l. l.atom) f.6) (ap (λ l. l.atom) f.7)
+
+  -- the same of the other rule, whose principal denies an equation
+  dec_parts : (as' : List (List Literal)) → IsInstance (content_scope d) rows (principal_at d p ∷ []) (Dec 0) as' → (n : ℕ) × (c : Constant) × (u : Lambda) × (v : Lambda) × (us : List Lambda) × (vs : List Lambda) × IsDecomposed c × (principal_at b p ≡ minus (eq (base (suc n)) (applied (constant c) (u ∷ us)) (applied (constant c) (v ∷ vs))))
+  dec_parts as' h =
+      let f = fits (content_scope d) rows (Dec 0) h.principals as' h.fits in
+      let at = subst (AreAt (principal_at d p ∷ []) (0 ∷ [])) f.9 h.at_places in
+      (f.0, f.1, f.3, f.4, f.5, f.6, f.7,
+        sym (principal_grown b d p g hp) ∙ same_Some (principal_at d p) (minus (eq (base (suc f.0)) (applied (constant f.1) (f.3 ∷ f.5)) (applied (constant f.1) (f.4 ∷ f.6)))) at.0)
+
+  module _ (e : Equation) (is : IsEquationOf b (term_at b.terms p.atom) (Some e)) where
+    pub dec_sides : AreSides b (the_type e.ty.now) e.left e.right
+    dec_sides =
+        let k = eq_canonical (content_scope b) (the_type e.ty.now) (term_at b.terms e.left) (term_at b.terms e.right) (subst (IsCanonical (content_scope b) [] formula) is.0 hp.typed.formula) in
+        record { left_within = is.1; right_within = is.2; declared = k.declared; left = k.left; right = k.right }
+
+    pub dec_not : (((n : ℕ) × (the_type e.ty.now ≡ base (suc n))) → ⊥) → Drafted d rows (p ∷ []) (Dec 0) None
+    dec_not other = λ as' h.
+        let f = dec_parts as' h in
+        let x : eq (the_type e.ty.now) (term_at b.terms e.left) (term_at b.terms e.right) ≡ eq (base (suc f.0)) (applied (constant f.1) (f.2 ∷ f.4)) (applied (constant f.1) (f.3 ∷ f.5)) = sym is.0 ∙ ap (λ l. l.atom) f.7 in
+        let k : the_type e.ty.now ≡ base (suc f.0) = cc in
+        other (f.0, k)
+
+    pub dec_found : p.positive ≡ false → (n : ℕ) → the_type e.ty.now ≡ base (suc n) → (o : Option (List (List Signed))) → AreComparedBy b d (term_at b.terms e.left) (term_at b.terms e.right) o → Drafted d rows (p ∷ []) (Dec 0) o
+    dec_found sp n plain (Some ds) h =
+        let left = applied (constant h.head) (h.left_first ∷ h.left_rest) in
+        let right = applied (constant h.head) (h.right_first ∷ h.right_rest) in
+        let whole : term_at b.terms p.atom ≡ eq (base (suc n)) left right = is.0 ∙ ap (λ a. eq a (term_at b.terms e.left) (term_at b.terms e.right)) plain ∙ ap₂ (eq (base (suc n))) h.left_is h.right_is in
+        drafted_grown b d rows p (Dec 0) ds g hp h.within
+        (subst (IsInstance (content_scope b) rows (principal_at b p ∷ []) (Dec 0)) (sym h.alternatives)
+        (record {
+          principals = minus (eq (base (suc n)) left right) ∷ [];
+          at_places = (stands b p false (eq (base (suc n)) left right) sp whole, tt);
+          fits = dec_rule 0 n h.head h.type h.left_first h.right_first h.left_rest h.right_rest h.decomposed h.has_type;
+        }))
+    dec_found sp n plain None h = λ as' k.
+        let f = dec_parts as' k in
+        let x : eq (the_type e.ty.now) (term_at b.terms e.left) (term_at b.terms e.right) ≡ eq (base (suc f.0)) (applied (constant f.1) (f.2 ∷ f.4)) (applied (constant f.1) (f.3 ∷ f.5)) = sym is.0 ∙ ap (λ l. l.atom) f.7 in
+        let left : term_at b.terms e.left ≡ applied (constant f.1) (f.2 ∷ f.4) = cc in
+        let right : term_at b.terms e.right ≡ applied (constant f.1) (f.3 ∷ f.5) = cc in
+        h f.1 f.2 f.3 f.4 f.5 f.6 left right
