@@ -1,5 +1,5 @@
 -- Arguments that are compared.
-use Rattle.std.proofs.Common.{◌≡◌, ◌<◌, ◌≤◌, ◌+◌, ℕ, zero, suc, true, false, Bool, List, [], ◌∷◌, ◌++◌, Some, None, Option, length, map, take, take_all, slice_get, refl, sym, ap, ap₂, subst, subst₂, ◌∙◌, arith}
+use Rattle.std.proofs.Common.{◌≡◌, ◌<◌, ◌≤◌, ◌+◌, ℕ, zero, suc, true, false, List, [], ◌∷◌, ◌++◌, Some, None, Option, length, map, take, take_all, slice_get, refl, sym, ap, ap₂, subst, subst₂, ◌∙◌, arith}
 use Rattle.std.specs.Prelude.{All}
 use Rattle.std.proofs.lemmas.Bool.{and_parts}
 use Rattle.std.proofs.lemmas.List.{length-map}
@@ -130,7 +130,7 @@ differs_more b c d ss ts i s t x ds all one h e f g k is w =
     let end = each_end b d (take i ss) (take i ts) ds s t x (each_grown b c d (take i ss) (take i ts) ds g h.differ) (differs_of b c d s t x h.grows k) in
     record {
       differ = subst₂ (λ l m. DifferEach b d l m all) (sym (take_got ss i s e)) (sym (take_got ts i t f))
-        (subst (DifferEach b d (take i ss ++ s ∷ []) (take i ts ++ t ∷ [])) (sym (w ∙ ap (λ o. ds ++ o ∷ []) is)) end);
+          (subst (DifferEach b d (take i ss ++ s ∷ []) (take i ts ++ t ∷ [])) (sym (w ∙ ap (λ o. ds ++ o ∷ []) is)) end);
       grows = grows_on b c d h.grows g;
     }
 
@@ -155,9 +155,10 @@ takes_both b (base m) n (s ∷ ss) ts d p q l r = absurd p
 takes_both b (arrow c a) n [] ts d p q l r = cc
 takes_both b (arrow c a) n (s ∷ ss) [] d p q l r = cc
 takes_both b (arrow c a) n (s ∷ ss) (t ∷ ts) d p q l r =
-    let parts = and_parts _ _ d in
-    (record { left_within = All-head (λ i. i < length b.terms) s ss l; right_within = All-head (λ i. i < length b.terms) t ts r; declared = parts.0; left = p.0; right = q.0 },
-      takes_both b a n ss ts parts.1 p.1 q.1 (All-tail (λ i. i < length b.terms) s ss l) (All-tail (λ i. i < length b.terms) t ts r))
+    let parts = and_parts _ _ d in (
+      record { left_within = All-head (λ i. i < length b.terms) s ss l; right_within = All-head (λ i. i < length b.terms) t ts r; declared = parts.0; left = p.0; right = q.0 },
+      takes_both b a n ss ts parts.1 p.1 q.1 (All-tail (λ i. i < length b.terms) s ss l) (All-tail (λ i. i < length b.terms) t ts r),
+    )
 
 module _ (b : Content) (n : ℕ) (over : IsScope (content_scope b)) where
   taken : (c : Constant) (ss ts : List ℕ) → 0 < length ss → 0 < length ts → IsCanonical (content_scope b) [] (base n) (applied (constant c) (map (term_at b.terms) ss)) → IsCanonical (content_scope b) [] (base n) (applied (constant c) (map (term_at b.terms) ts)) → All (λ i. i < length b.terms) ss → All (λ i. i < length b.terms) ts → (a : SimpleType) × (constant_type (content_scope b) c ≡ Some a) × TakesBoth b a ss ts
@@ -165,10 +166,13 @@ module _ (b : Content) (n : ℕ) (over : IsScope (content_scope b)) where
   taken c (s ∷ ss) [] k m p q l r = absurd (omega (arith, m))
   taken c (s ∷ ss) (t ∷ ts) k m p q l r =
       let scope = content_scope b in
-      let f = head_typed scope c (term_at b.terms s) (map (term_at b.terms) ss) (base n) p in
-      (f.0, f.1, takes_both b f.0 n (s ∷ ss) (t ∷ ts) (constant_declared scope over c f.0 f.1)
-        (arguments_taken scope c f.0 (term_at b.terms s) (map (term_at b.terms) ss) (base n) f.1 p)
-        (arguments_taken scope c f.0 (term_at b.terms t) (map (term_at b.terms) ts) (base n) f.1 q) l r)
+      let f = head_typed scope c (term_at b.terms s) (map (term_at b.terms) ss) (base n) p in (
+        f.0,
+        f.1,
+        takes_both b f.0 n (s ∷ ss) (t ∷ ts) (constant_declared scope over c f.0 f.1)
+            (arguments_taken scope c f.0 (term_at b.terms s) (map (term_at b.terms) ss) (base n) f.1 p)
+            (arguments_taken scope c f.0 (term_at b.terms t) (map (term_at b.terms) ts) (base n) f.1 q) l r,
+      )
 
   pub arguments_fit : (s t : ℕ) (left right : List ℕ) → AreSides b (base n) s t → (h : HaveArguments b (term_at b.terms s) (term_at b.terms t) left right) → (a : SimpleType) × (constant_type (content_scope b) h.head ≡ Some a) × TakesBoth b a left right
   arguments_fit s t left right sides h =
@@ -233,25 +237,32 @@ module _ (b d : Content) (rows : List Row) (g : Grows b d) (p : Principal) (hp :
     mat_parts : (as' : List (List Literal)) → IsInstance (content_scope d) rows (principal_at d p ∷ principal_at d q ∷ []) (Mat 0 1) as' → (c : Constant) × (u : Lambda) × (v : Lambda) × (us : List Lambda) × (vs : List Lambda) × IsDecomposed c × (principal_at b p ≡ plus (applied (constant c) (u ∷ us))) × (principal_at b q ≡ minus (applied (constant c) (v ∷ vs)))
     mat_parts as' h =
         let f = fits (content_scope d) rows (Mat 0 1) h.principals as' h.fits in
-        let at = subst (AreAt (principal_at d p ∷ principal_at d q ∷ []) (0 ∷ 1 ∷ [])) f.8 h.at_places in
-        (f.0, f.2, f.3, f.4, f.5, f.6,
+        let at = subst (AreAt (principal_at d p ∷ principal_at d q ∷ []) (0 ∷ 1 ∷ [])) f.8 h.at_places in (
+          f.0,
+          f.2,
+          f.3,
+          f.4,
+          f.5,
+          f.6,
           sym (principal_grown b d p g hp) ∙ same_Some (principal_at d p) (plus (applied (constant f.0) (f.2 ∷ f.4))) at.0,
-          sym (principal_grown b d q g hq) ∙ same_Some (principal_at d q) (minus (applied (constant f.0) (f.3 ∷ f.5))) at.1.0)
+          sym (principal_grown b d q g hq) ∙ same_Some (principal_at d q) (minus (applied (constant f.0) (f.3 ∷ f.5))) at.1.0,
+        )
 
     pub mat_found : p.positive ≡ true → q.positive ≡ false → (o : Option (List (List Signed))) → AreComparedBy b d (term_at b.terms p.atom) (term_at b.terms q.atom) o → Drafted d rows (p ∷ q ∷ []) (Mat 0 1) o
     mat_found sp sq (Some ds) h =
         let left = applied (constant h.head) (h.left_first ∷ h.left_rest) in
         let right = applied (constant h.head) (h.right_first ∷ h.right_rest) in
         let all : IsInstance (content_scope b) rows (principal_at b p ∷ principal_at b q ∷ []) (Mat 0 1) (differ_each h.type (h.left_first ∷ h.left_rest) (h.right_first ∷ h.right_rest)) =
-          record {
-            principals = plus left ∷ minus right ∷ [];
-            at_places = (stands b p true left sp h.left_is, (stands b q false right sq h.right_is, tt));
-            fits = mat_rule 0 1 h.head h.type h.left_first h.right_first h.left_rest h.right_rest h.decomposed h.has_type;
-          } in
-        (h.within,
+        record {
+          principals = plus left ∷ minus right ∷ [];
+          at_places = (stands b p true left sp h.left_is, (stands b q false right sq h.right_is, tt));
+          fits = mat_rule 0 1 h.head h.type h.left_first h.right_first h.left_rest h.right_rest h.decomposed h.has_type;
+        } in (
+          h.within,
           subst (λ s. IsInstance s rows (principal_at d p ∷ principal_at d q ∷ []) (Mat 0 1) (alternatives_at d ds)) (sym (grown_scope b d g))
-          (subst₂ (λ l m. IsInstance (content_scope b) rows (l ∷ m ∷ []) (Mat 0 1) (alternatives_at d ds)) (sym (principal_grown b d p g hp)) (sym (principal_grown b d q g hq))
-          (subst (IsInstance (content_scope b) rows (principal_at b p ∷ principal_at b q ∷ []) (Mat 0 1)) (sym h.alternatives) all)))
+              (subst₂ (λ l m. IsInstance (content_scope b) rows (l ∷ m ∷ []) (Mat 0 1) (alternatives_at d ds)) (sym (principal_grown b d p g hp)) (sym (principal_grown b d q g hq))
+              (subst (IsInstance (content_scope b) rows (principal_at b p ∷ principal_at b q ∷ []) (Mat 0 1)) (sym h.alternatives) all)),
+        )
     mat_found sp sq None h = λ as' k.
         let f = mat_parts as' k in
         h f.0 f.1 f.2 f.3 f.4 f.5 (ap (λ l. l.atom) f.6) (ap (λ l. l.atom) f.7)
@@ -260,9 +271,16 @@ module _ (b d : Content) (rows : List Row) (g : Grows b d) (p : Principal) (hp :
   dec_parts : (as' : List (List Literal)) → IsInstance (content_scope d) rows (principal_at d p ∷ []) (Dec 0) as' → (n : ℕ) × (c : Constant) × (u : Lambda) × (v : Lambda) × (us : List Lambda) × (vs : List Lambda) × IsDecomposed c × (principal_at b p ≡ minus (eq (base (suc n)) (applied (constant c) (u ∷ us)) (applied (constant c) (v ∷ vs))))
   dec_parts as' h =
       let f = fits (content_scope d) rows (Dec 0) h.principals as' h.fits in
-      let at = subst (AreAt (principal_at d p ∷ []) (0 ∷ [])) f.9 h.at_places in
-      (f.0, f.1, f.3, f.4, f.5, f.6, f.7,
-        sym (principal_grown b d p g hp) ∙ same_Some (principal_at d p) (minus (eq (base (suc f.0)) (applied (constant f.1) (f.3 ∷ f.5)) (applied (constant f.1) (f.4 ∷ f.6)))) at.0)
+      let at = subst (AreAt (principal_at d p ∷ []) (0 ∷ [])) f.9 h.at_places in (
+        f.0,
+        f.1,
+        f.3,
+        f.4,
+        f.5,
+        f.6,
+        f.7,
+        sym (principal_grown b d p g hp) ∙ same_Some (principal_at d p) (minus (eq (base (suc f.0)) (applied (constant f.1) (f.3 ∷ f.5)) (applied (constant f.1) (f.4 ∷ f.6)))) at.0,
+      )
 
   module _ (e : Equation) (is : IsEquationOf b (term_at b.terms p.atom) (Some e)) where
     pub dec_sides : AreSides b (the_type e.ty.now) e.left e.right

@@ -44,12 +44,7 @@ struct Arguments {
 }
 
 /// The arguments of both terms, where these have one head whose arguments are compared, and both have some.
-fn arguments_of(
-    alloc: Global,
-    bank: &Bank,
-    s: Id,
-    t: Id,
-) -> Result<Option<Arguments>, AllocError>
+fn arguments_of(alloc: Global, bank: &Bank, s: Id, t: Id) -> Result<Option<Arguments>, AllocError>
     requires s_within { s < length bank.now.terms }
     requires t_within { t < length bank.now.terms }
     ensures { IfOk result (AreArgumentsOf bank.now (term_at bank.now.terms s) (term_at bank.now.terms t)) }
@@ -86,11 +81,7 @@ fn differ(alloc: Global, bank: &mut Bank, s: Id, t: Id) -> Result<Signed, AllocE
 }
 
 /// For each place of the lists, that the terms there differ.
-fn differences(
-    alloc: Global,
-    bank: &mut Bank,
-    arguments: &Arguments,
-) -> Result<Drafts, AllocError>
+fn differences(alloc: Global, bank: &mut Bank, arguments: &Arguments) -> Result<Drafts, AllocError>
     requires { (a : SimpleType) × TakesBoth bank.old a arguments.now.left arguments.now.right }
     ensures differ { IfOk result (DifferEach bank.old bank.new arguments.now.left arguments.now.right) }
     ensures grows { Grows bank.old bank.new }

@@ -3,7 +3,6 @@ use Rattle.std.specs.Prelude.{◌≡◌, ℕ, ◌<◌, List, [], ◌∷◌, map,
 use Rattle.stt_core.specs.SimpleType.{SimpleType, base, arrow}
 use Rattle.stt_core.specs.Lambda.{Constant, Lambda, constant, applied}
 use Rattle.stt_core.specs.Typing.{constant_type}
-use Rattle.stt_tableau.specs.Literals.{Literal}
 use Rattle.stt_tableau.specs.Rules.{IsDecomposed, differ_each}
 use Rattle.term_bank.specs.Content.{Content, content_scope}
 use Rattle.term_bank.specs.Terms.{term_at}
