@@ -12,3 +12,4 @@ pub mod VariableLaws
 pub mod ChoiceLaws
 pub mod ChoiceDrafts
 pub mod SpineLaws
+pub mod SpineDrafts

@@ -105,6 +105,7 @@ fn compared_drafts(
     ensures compared { IfOk result (AreComparedBy bank.old bank.new (term_at bank.old.terms s) (term_at bank.old.terms t)) }
     ensures grows { Grows bank.old bank.new }
 {
+    // The signature is asked for its clause that all types in it are declared.
     let _sig = bank.sig();
     match arguments_of(alloc, &*bank, s, t)? {
         Some(arguments) => Ok(Some(differences(alloc, bank, &arguments)?)),

@@ -1,6 +1,6 @@
 use Rattle.stt_tableau.proofs.ListLaws.{untrue}
 use Rattle.term_bank.proofs.GrowLaws.{grows_itself}
-use Rattle.tableau_rules.proofs.SpineLaws.{dec_found, dec_not}
+use Rattle.tableau_rules.proofs.SpineDrafts.{dec_found, dec_not}
 use Rattle.tableau_rules.proofs.spine.dec_drafts.Goals as goal
 
 pub returns-then-not-is_plain_base-clause-drafted : goal.returns-then-not-is_plain_base-clause-drafted

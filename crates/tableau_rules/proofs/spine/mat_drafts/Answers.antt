@@ -1,4 +1,4 @@
-use Rattle.tableau_rules.proofs.SpineLaws.{mat_found}
+use Rattle.tableau_rules.proofs.SpineDrafts.{mat_found}
 use Rattle.tableau_rules.proofs.spine.mat_drafts.Goals as goal
 
 pub returns-clause-drafted : goal.returns-clause-drafted
