@@ -15,3 +15,5 @@ pub mod DeclareLaws
 pub mod WitnessLaws
 pub mod UseLaws
 pub mod MadeLaws
+pub mod SpineLaws
+pub mod SpineDrafts

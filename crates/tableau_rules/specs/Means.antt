@@ -7,3 +7,4 @@ pub mod Numbered
 pub mod Declaring
 pub mod Used
 pub mod Made
+pub mod Compared
