@@ -1,0 +1,54 @@
+use Rattle.std.proofs.Common.{Some, refl}
+use Rattle.stt_tableau.specs.declared.refutation.RuleUse.TheVariants as table
+use Rattle.literal_map.specs.declared.instance.RuleKind.TheVariants as kind
+use Rattle.bank_normal.proofs.RightLaws.{right_grown}
+use Rattle.tableau_rules.proofs.UseLaws.{principal_now, one_by, cut_by}
+use Rattle.tableau_rules.proofs.dispatch.by_one.Goals as goal
+
+pub returns-in-False-clause-drafted : goal.returns-in-False-clause-drafted
+returns-in-False-clause-drafted c = one_by c.args.bank.now c.args.lits.now c.args.kind c.args.lit c.principal_of-p.result kind.False (table.False 0) c.false_drafts.result c.in-False.is refl refl c.principal_of-p.ensures.is c.false_drafts.ensures
+
+pub returns-in-Refl-clause-drafted : goal.returns-in-Refl-clause-drafted
+returns-in-Refl-clause-drafted c = one_by c.args.bank.now c.args.lits.now c.args.kind c.args.lit c.principal_of-p.result kind.Refl (table.Refl 0) c.refl_drafts.result c.in-Refl.is refl refl c.principal_of-p.ensures.is c.refl_drafts.ensures
+
+pub returns-in_ok-imp_pos_drafts-in-ImpPos-clause-drafted : goal.returns-in_ok-imp_pos_drafts-in-ImpPos-clause-drafted
+returns-in_ok-imp_pos_drafts-in-ImpPos-clause-drafted c = one_by c.args.bank.now c.args.lits.now c.args.kind c.args.lit c.principal_of-p.result kind.ImpPos (table.ImpPos 0) c.in_ok-imp_pos_drafts-in-ImpPos.field-0 c.in-ImpPos.is refl refl c.principal_of-p.ensures.is c.in_ok-imp_pos_drafts-in-ImpPos.ensures
+
+pub returns-in_ok-imp_neg_drafts-in-ImpNeg-clause-drafted : goal.returns-in_ok-imp_neg_drafts-in-ImpNeg-clause-drafted
+returns-in_ok-imp_neg_drafts-in-ImpNeg-clause-drafted c = one_by c.args.bank.now c.args.lits.now c.args.kind c.args.lit c.principal_of-p.result kind.ImpNeg (table.ImpNeg 0) c.in_ok-imp_neg_drafts-in-ImpNeg.field-0 c.in-ImpNeg.is refl refl c.principal_of-p.ensures.is c.in_ok-imp_neg_drafts-in-ImpNeg.ensures
+
+pub returns-in_ok-bool_pos_drafts-in-BoolPos-clause-drafted : goal.returns-in_ok-bool_pos_drafts-in-BoolPos-clause-drafted
+returns-in_ok-bool_pos_drafts-in-BoolPos-clause-drafted c = one_by c.args.bank.now c.args.lits.now c.args.kind c.args.lit c.principal_of-p.result kind.BoolPos (table.BoolPos 0) c.in_ok-bool_pos_drafts-in-BoolPos.field-0 c.in-BoolPos.is refl refl c.principal_of-p.ensures.is c.in_ok-bool_pos_drafts-in-BoolPos.ensures
+
+pub returns-in_ok-bool_neg_drafts-in-BoolNeg-clause-drafted : goal.returns-in_ok-bool_neg_drafts-in-BoolNeg-clause-drafted
+returns-in_ok-bool_neg_drafts-in-BoolNeg-clause-drafted c = one_by c.args.bank.now c.args.lits.now c.args.kind c.args.lit c.principal_of-p.result kind.BoolNeg (table.BoolNeg 0) c.in_ok-bool_neg_drafts-in-BoolNeg.field-0 c.in-BoolNeg.is refl refl c.principal_of-p.ensures.is c.in_ok-bool_neg_drafts-in-BoolNeg.ensures
+
+pub returns-in_ok-fun_pos_drafts-in-FunPos-clause-drafted : goal.returns-in_ok-fun_pos_drafts-in-FunPos-clause-drafted
+returns-in_ok-fun_pos_drafts-in-FunPos-clause-drafted c =
+    let d = c.fun_pos_drafts.new.bank in
+    one_by d c.args.lits.now c.args.kind c.args.lit c.principal_of-p.result kind.FunPos (table.FunPos 0) c.in_ok-fun_pos_drafts-in-FunPos.field-0 c.in-FunPos.is refl refl
+    (principal_now c.args.bank.now d c.args.lits.now c.args.lit c.principal_of-p.result c.fun_pos_drafts.ensures.grows c.requires.atoms c.requires.number c.principal_of-p.ensures.principal c.principal_of-p.ensures.is)
+    c.in_ok-fun_pos_drafts-in-FunPos.ensures.drafted
+
+pub returns-in_ok-fun_neg_drafts-in-FunNeg-clause-drafted : goal.returns-in_ok-fun_neg_drafts-in-FunNeg-clause-drafted
+returns-in_ok-fun_neg_drafts-in-FunNeg-clause-drafted c =
+    let d = c.fun_neg_drafts.new.bank in
+    one_by d c.args.lits.now c.args.kind c.args.lit c.principal_of-p.result kind.FunNeg (table.FunNeg 0) c.in_ok-fun_neg_drafts-in-FunNeg.field-0 c.in-FunNeg.is refl refl
+    (principal_now c.args.bank.now d c.args.lits.now c.args.lit c.principal_of-p.result c.fun_neg_drafts.ensures.grows c.requires.atoms c.requires.number c.principal_of-p.ensures.principal c.principal_of-p.ensures.is)
+    c.in_ok-fun_neg_drafts-in-FunNeg.ensures.drafted
+
+pub returns-in_ok-dec_drafts-in-Dec-clause-drafted : goal.returns-in_ok-dec_drafts-in-Dec-clause-drafted
+returns-in_ok-dec_drafts-in-Dec-clause-drafted c =
+    let d = c.dec_drafts.new.bank in
+    one_by d c.args.lits.now c.args.kind c.args.lit c.principal_of-p.result kind.Dec (table.Dec 0) c.in_ok-dec_drafts-in-Dec.field-0 c.in-Dec.is refl refl
+    (principal_now c.args.bank.now d c.args.lits.now c.args.lit c.principal_of-p.result c.dec_drafts.ensures.grows c.requires.atoms c.requires.number c.principal_of-p.ensures.principal c.principal_of-p.ensures.is)
+    c.in_ok-dec_drafts-in-Dec.ensures.drafted
+
+pub returns-in_ok-cut_drafts-in-Cut-clause-drafted : goal.returns-in_ok-cut_drafts-in-Cut-clause-drafted
+returns-in_ok-cut_drafts-in-Cut-clause-drafted c = cut_by c.args.bank.now c.args.lits.now c.args.kind c.args.lit c.principal_of-p.result (Some c.in_ok-cut_drafts-in-Cut.field-0) c.in-Cut.is c.principal_of-p.ensures.is c.in_ok-cut_drafts-in-Cut.ensures
+
+pub returns-in_err-dec_drafts-in-Dec-clause-right : goal.returns-in_err-dec_drafts-in-Dec-clause-right
+returns-in_err-dec_drafts-in-Dec-clause-right c = right_grown c.args.normal.now c.args.bank.now c.dec_drafts.new.bank c.dec_drafts.ensures.grows c.requires.right
+
+pub returns-in_ok-dec_drafts-in-Dec-clause-right : goal.returns-in_ok-dec_drafts-in-Dec-clause-right
+returns-in_ok-dec_drafts-in-Dec-clause-right c = right_grown c.args.normal.now c.args.bank.now c.dec_drafts.new.bank c.dec_drafts.ensures.grows c.requires.right

@@ -1,0 +1,164 @@
+//! Functions at new variables, and the rules for equations between functions.
+ghost use Rattle.std.specs.Prelude.{◌≡◌, ◌<◌, [], ◌∷◌, List, length, IfOk};
+ghost use Rattle.stt_core.specs.View.{the_type};
+ghost use Rattle.stt_core.specs.Lambda.{every, lam};
+ghost use Rattle.stt_tableau.specs.Rules.{at_new, agreement, nowhere};
+ghost use Rattle.stt_tableau.specs.Witnesses.{Row};
+ghost use Rattle.stt_tableau.specs.declared.refutation.RuleUse.TheVariants.{FunPos, FunNeg};
+ghost use Rattle.term_bank.specs.Content.{Grows, HasTerm};
+ghost use Rattle.term_bank.specs.Terms.{term_at};
+ghost use Rattle.bank_normal.specs.Right.{IsRight};
+ghost use Rattle.tableau_rules.specs.Means.Drafted.{IsPrincipal, Drafted};
+ghost use Rattle.tableau_rules.specs.Means.Typed.{AreSides, IsFunction, IsOpenFormula, IsPredicate};
+ghost use Rattle.tableau_rules.specs.Means.Functions.{AreFunctionsOf};
+ghost use Rattle.stt_core.specs.SimpleType.{arrow};
+
+use crate::draft::{Drafts, Principal, fails, holds, one};
+use crate::part::equation_of;
+use bank_normal::Normaliser;
+use std::alloc::{AllocError, Global};
+use stt_core::{Head, Ty};
+use term_bank::{Bank, Id};
+
+/// What a closed function gives at a new variable of its argument type.
+pub(crate) fn at_new_variable(
+    bank: &mut Bank,
+    normal: &mut Normaliser,
+    ty: &Ty,
+    f: Id,
+) -> Result<Id, AllocError>
+    requires function { IsFunction bank.old (the_type ty.now) f }
+    requires right { IsRight normal.old bank.old }
+    ensures term { IfOk result (λ id. HasTerm bank.new id (at_new (the_type ty.now) (term_at bank.old.terms f))) }
+    ensures grows { Grows bank.old bank.new }
+    ensures right { IsRight normal.new bank.new }
+{
+    let variable = normal.eta(bank, &Head::Bound(0), ty)?;
+    Ok(normal.instantiate(bank, f, variable)?)
+}
+
+/// The formula that what stands under a binder of this type holds everywhere.
+pub(crate) fn everywhere(alloc: Global, bank: &mut Bank, ty: &Ty, body: Id) -> Result<Id, AllocError>
+    requires { IsOpenFormula bank.old (the_type ty.now) body }
+    ensures term { IfOk result (λ id. HasTerm bank.new id (every (the_type ty.now) (lam (the_type ty.now) (term_at bank.old.terms body)))) }
+    ensures grows { Grows bank.old bank.new }
+{
+    let predicate = bank.intern_lam(ty, body)?;
+    let head = Head::All(ty.try_clone(alloc)?);
+    Ok(bank.intern_app(&head, &[predicate])?)
+}
+
+/// Two functions from one type to another.
+#[derive(Drop)]
+struct Functions {
+    argument: Ty,
+    outcome: Ty,
+    left: Id,
+    right: Id,
+}
+
+/// The formula that two functions agree everywhere.
+fn agreement_of(
+    alloc: Global,
+    bank: &mut Bank,
+    normal: &mut Normaliser,
+    f: &Functions,
+) -> Result<Id, AllocError>
+    requires functions { AreSides bank.old (arrow (the_type f.now.argument) (the_type f.now.outcome)) f.now.left f.now.right }
+    requires right { IsRight normal.old bank.old }
+    ensures term { IfOk result (λ id. HasTerm bank.new id (agreement (the_type f.now.argument) (the_type f.now.outcome) (term_at bank.old.terms f.now.left) (term_at bank.old.terms f.now.right))) }
+    ensures grows { Grows bank.old bank.new }
+    ensures right { IsRight normal.new bank.new }
+{
+    let left = at_new_variable(bank, normal, &f.argument, f.left)?;
+    let right = at_new_variable(bank, normal, &f.argument, f.right)?;
+    let head = Head::Eq(f.outcome.try_clone(alloc)?);
+    let equation = bank.intern_app(&head, &[left, right])?;
+    Ok(everywhere(alloc, bank, &f.argument, equation)?)
+}
+
+/// The formula that a predicate holds nowhere.
+pub(crate) fn nowhere_of(
+    alloc: Global,
+    bank: &mut Bank,
+    normal: &mut Normaliser,
+    ty: &Ty,
+    f: Id,
+) -> Result<Id, AllocError>
+    requires predicate { IsPredicate bank.old (the_type ty.now) f }
+    requires right { IsRight normal.old bank.old }
+    ensures term { IfOk result (λ id. HasTerm bank.new id (nowhere (the_type ty.now) (term_at bank.old.terms f))) }
+    ensures grows { Grows bank.old bank.new }
+    ensures right { IsRight normal.new bank.new }
+{
+    let value = at_new_variable(bank, normal, ty, f)?;
+    let denied = bank.intern_app(&Head::Not, &[value])?;
+    Ok(everywhere(alloc, bank, ty, denied)?)
+}
+
+/// The sides of the equation, where it is one between functions.
+fn functions_of(alloc: Global, bank: &Bank, id: Id) -> Result<Option<Functions>, AllocError>
+    requires { id < length bank.now.terms }
+    ensures { IfOk result (AreFunctionsOf bank.now (term_at bank.now.terms id)) }
+{
+    match equation_of(bank, id) {
+        Some(equation) => match equation.ty {
+            Ty::Arrow(argument, outcome) => Ok(Some(Functions {
+                argument: argument.try_clone(alloc)?,
+                outcome: outcome.try_clone(alloc)?,
+                left: equation.left,
+                right: equation.right,
+            })),
+            Ty::Base(_) => Ok(None),
+        },
+        None => Ok(None),
+    }
+}
+
+pub(crate) fn fun_pos_drafts(
+    alloc: Global,
+    bank: &mut Bank,
+    normal: &mut Normaliser,
+    p: Principal,
+) -> Result<Option<Drafts>, AllocError>
+    requires principal { IsPrincipal bank.old p }
+    requires right { IsRight normal.old bank.old }
+    ensures drafted { IfOk result (λ o. (rows : List Row) → Drafted bank.new rows (p ∷ []) (FunPos 0) o) }
+    ensures grows { Grows bank.old bank.new }
+    ensures right { IsRight normal.new bank.new }
+{
+    if !p.positive {
+        return Ok(None);
+    }
+    match functions_of(alloc, &*bank, p.atom)? {
+        Some(functions) => {
+            let agree = agreement_of(alloc, bank, normal, &functions)?;
+            Ok(Some(one(alloc, holds(agree))?))
+        }
+        None => Ok(None),
+    }
+}
+
+pub(crate) fn fun_neg_drafts(
+    alloc: Global,
+    bank: &mut Bank,
+    normal: &mut Normaliser,
+    p: Principal,
+) -> Result<Option<Drafts>, AllocError>
+    requires principal { IsPrincipal bank.old p }
+    requires right { IsRight normal.old bank.old }
+    ensures drafted { IfOk result (λ o. (rows : List Row) → Drafted bank.new rows (p ∷ []) (FunNeg 0) o) }
+    ensures grows { Grows bank.old bank.new }
+    ensures right { IsRight normal.new bank.new }
+{
+    if p.positive {
+        return Ok(None);
+    }
+    match functions_of(alloc, &*bank, p.atom)? {
+        Some(functions) => {
+            let agree = agreement_of(alloc, bank, normal, &functions)?;
+            Ok(Some(one(alloc, fails(agree))?))
+        }
+        None => Ok(None),
+    }
+}

@@ -1,0 +1,19 @@
+//! The rules of the calculus over shared terms.
+#![tactic(auto)]
+
+mod choice;
+mod dispatch;
+mod draft;
+mod equation;
+mod function;
+mod maker;
+mod number;
+mod part;
+mod propositional;
+mod quantifier;
+mod refusal;
+mod spine;
+mod witness;
+
+pub use maker::make;
+pub use refusal::RuleRefused;
