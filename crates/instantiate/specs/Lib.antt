@@ -1,2 +1,4 @@
 pub mod Listing
+pub mod PartialView
+pub mod Growing
 pub mod Means

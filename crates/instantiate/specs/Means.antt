@@ -1,2 +1,6 @@
 -- Means of proof: what private contracts and proofs speak of.
 pub mod Groups
+pub mod PartialCode
+pub mod PartialSizes
+pub mod PartialFalls
+pub mod Holes
