@@ -1,10 +1,11 @@
 -- The holes of partial terms.
-use Rattle.std.specs.Prelude.{◌≡◌, ℕ, List, [], ◌∷◌, Option, Some, None, option_map, refl}
-use Rattle.std.proofs.Common.{ap, ap₂, sym, ◌∙◌}
+use Rattle.std.specs.Prelude.{◌≡◌, ◌<◌, ◌+◌, ℕ, zero, suc, List, [], ◌∷◌, Option, Some, None, option_map, slice_get, drop, refl}
+use Rattle.std.proofs.Common.{ap, ap₂, sym, ◌∙◌, arith}
+use Rattle.std.proofs.lemmas.Option.{same_Some}
 use Rattle.stt_core.specs.SimpleType.{SimpleType}
 use Rattle.stt_core.specs.Lambda.{Lambda}
 use Rattle.search_run.specs.Partial.{Partial, hole, head, function, application, Hole, first_hole, or_else}
-use Rattle.instantiate.specs.Means.PartialSizes.{applications}
+use Rattle.instantiate.specs.Means.PartialSizes.{applications, node_count, counts}
 use Rattle.instantiate.specs.Means.Holes.{base_in, base_among}
 
 option_map-or_else : (x y : Option Hole) → option_map (λ (h : Hole). h.base) (or_else x y) ≡ or_else (option_map (λ (h : Hole). h.base) x) (option_map (λ (h : Hole). h.base) y)
@@ -37,3 +38,23 @@ base_in-applications p (q ∷ qs) =
     base_in-applications (application p q) qs
     ∙ ap (λ x. or_else x (base_among qs)) (option_map-or_else (first_hole [] p) (first_hole [] q))
     ∙ or_else_assoc (base_in p) (base_in q) (base_among qs)
+
+pub drop-at : {X : Type 0} (xs : List X) (i : ℕ) (x : X) → slice_get xs i ≡ Some x → drop i xs ≡ x ∷ drop (i + 1) xs
+drop-at [] i x h = cc
+drop-at (y ∷ xs) zero x h = ap (λ z. z ∷ xs) (same_Some y x h)
+drop-at (y ∷ xs) (suc i) x h =
+    let next : i + 1 ≡ suc i = omega arith in
+    let later : suc i + 1 ≡ suc (suc i) = omega arith in
+    drop-at xs i x h ∙ ap (λ k. x ∷ drop k xs) next ∙ ap (λ k. x ∷ drop k (y ∷ xs)) (sym later)
+
+-- the first hole among the partial terms from a place on
+pub base_among-found : (ps : List Partial) (i n : ℕ) (p : Partial) → slice_get ps i ≡ Some p → Some n ≡ base_in p → Some n ≡ base_among (drop i ps)
+base_among-found ps i n p at e = ap (λ x. or_else x (base_among (drop (i + 1) ps))) e ∙ ap base_among (sym (drop-at ps i p at))
+
+pub base_among-later : (ps : List Partial) (i : ℕ) (p : Partial) → slice_get ps i ≡ Some p → None ≡ base_in p → base_among (drop (i + 1) ps) ≡ base_among (drop i ps)
+base_among-later ps i p at e = ap (λ x. or_else x (base_among (drop (i + 1) ps))) e ∙ ap base_among (sym (drop-at ps i p at))
+
+pub node_count-at : (ps : List Partial) (i : ℕ) (p : Partial) → slice_get ps i ≡ Some p → node_count p < counts ps
+node_count-at [] i p h = cc
+node_count-at (q ∷ ps) zero p h = omega (arith, ap node_count (same_Some q p h))
+node_count-at (q ∷ ps) (suc i) p h = omega (arith, node_count-at ps i p h)
