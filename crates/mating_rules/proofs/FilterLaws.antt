@@ -1,6 +1,6 @@
 -- What a test keeps of a list.
 use Rattle.std.specs.Prelude.{◌≡◌, Bool, true, false, List, [], ◌∷◌, map, filter, All, refl, cond}
-use Rattle.std.proofs.Common.{ap, ap₂}
+use Rattle.std.proofs.Common.{ap, ap₂, ◌∙◌}
 use Rattle.std.proofs.lemmas.List.Elements.{All-head, All-tail}
 
 -- tests that agree on each element keep the same
@@ -16,3 +16,7 @@ map-filter f q (x ∷ xs) = go (q (f x)) (map-filter f q xs)
     go : (b : Bool) → map f (filter (λ y. q (f y)) xs) ≡ filter q (map f xs) → map f (cond b (x ∷ filter (λ y. q (f y)) xs) (filter (λ y. q (f y)) xs)) ≡ cond b (f x ∷ filter q (map f xs)) (filter q (map f xs))
     go true e = ap (λ ys. f x ∷ ys) e
     go false e = e
+
+pub filter-none : {X : Type 0} (p : X → Bool) (xs : List X) → ((x : X) → p x ≡ false) → filter p xs ≡ []
+filter-none p [] h = refl
+filter-none p (x ∷ xs) h = ap (λ b. cond b (x ∷ filter p xs) (filter p xs)) (h x) ∙ filter-none p xs h

@@ -1,5 +1,5 @@
 -- An index where the bank and the table grow, and partners over formulas.
-use Rattle.std.specs.Prelude.{◌≡◌, ◌<◌, ◌&&◌, ℕ, Bool, List, length, filter, map, All, not}
+use Rattle.std.specs.Prelude.{◌≡◌, ◌<◌, ◌&&◌, ℕ, List, length, map, All, not}
 use Rattle.std.proofs.Common.{sym, ap, ◌∙◌, arith, length-append}
 use Rattle.std.proofs.lemmas.List.Elements.{All-weaker}
 use Rattle.stt_core.specs.Lambda.{Lambda}

@@ -4,6 +4,7 @@ ghost use Rattle.stt_core.specs.Lambda.{Lambda};
 ghost use Rattle.literal_map.specs.Atoms.{IsAtom};
 ghost use Rattle.mating_rules.specs.Noted.{IsRight, partners_of};
 
+use crate::heads::Heads;
 use crate::partners::Partners;
 use literal_map::LitTable;
 use sat_base::SatLit;
@@ -15,11 +16,10 @@ use term_bank::Bank;
 #[derive(Drop)]
 pub struct Index {
     noted: Vec<SatLit>,
-    alloc: Global,
+    heads: Heads,
 }
 
 impl Model for Index {
-    ghost use Rattle.std.specs.Prelude.{[]};
     ghost use Rattle.mating_rules.specs.Noted.{Notes};
     ghost use Rattle.mating_rules.specs.Means.NotesCode.{notes_code};
 
@@ -27,7 +27,7 @@ impl Model for Index {
 
     ghost coded = { notes_code };
 
-    ghost view = { λ a. record { noted = a.noted.items; heads = [] } };
+    ghost view = { λ a. record { noted = a.noted.items; heads = a.heads } };
 }
 
 impl Index {
@@ -38,12 +38,17 @@ impl Index {
     {
         Index {
             noted: Vec::new(alloc),
-            alloc,
+            heads: Heads::new(alloc),
         }
     }
 
     /// Notes a literal. The answer are its partners among those that were noted before.
-    pub fn note(&mut self, bank: &Bank, lits: &LitTable, lit: SatLit) -> Result<Partners, AllocError>
+    pub fn note(
+        &mut self,
+        bank: &Bank,
+        lits: &LitTable,
+        lit: SatLit,
+    ) -> Result<Partners, AllocError>
         requires number { lit.var.0 < length lits.now }
         requires atoms { All (IsAtom bank.now) lits.now }
         requires right { IsRight bank.now.terms lits.now self.old }
@@ -52,6 +57,10 @@ impl Index {
         ensures right { IsRight bank.now.terms lits.now self.new }
         ensures err { OnErr result (self.new ≡ self.old) }
     {
-        Err(AllocError)
+        let atom = lits.formula_of(lit);
+        self.noted.reserve(1)?;
+        let partners = self.heads.keep_under(bank.node(atom), lit)?;
+        self.noted.push(lit)?;
+        Ok(partners)
     }
 }

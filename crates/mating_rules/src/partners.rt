@@ -29,6 +29,15 @@ impl Partners {
         }
     }
 
+    /// The list of these literals.
+    pub(crate) fn from_slice(alloc: Global, lits: &[SatLit]) -> Result<Partners, AllocError>
+        ensures { IfOk result (λ list. list ≡ lits.now) }
+    {
+        let mut items = Vec::with_capacity(alloc, lits.len())?;
+        items.extend_from_slice(lits)?;
+        Ok(Partners { items })
+    }
+
     pub fn len(&self) -> usize
         ensures { result ≡ length self.now }
     {
