@@ -6,15 +6,22 @@ use Rattle.stt_core.specs.SimpleType.{SimpleType}
 use Rattle.stt_core.specs.Lambda.{Lambda}
 use Rattle.search_run.specs.Partial.{Partial, hole, head, function, application, Hole, first_hole, or_else}
 use Rattle.instantiate.specs.Means.PartialSizes.{applications, node_count, counts}
-use Rattle.instantiate.specs.Means.Holes.{base_in, base_among}
+use Rattle.instantiate.specs.Means.Holes.{base_in, base_among, first_among}
 
-option_map-or_else : (x y : Option Hole) → option_map (λ (h : Hole). h.base) (or_else x y) ≡ or_else (option_map (λ (h : Hole). h.base) x) (option_map (λ (h : Hole). h.base) y)
-option_map-or_else (Some x) y = refl
-option_map-or_else None y = refl
+option_map-or_else : {A B : Type 0} (f : A → B) (x y : Option A) → option_map f (or_else x y) ≡ or_else (option_map f x) (option_map f y)
+option_map-or_else f (Some x) y = refl
+option_map-or_else f None y = refl
 
-or_else_assoc : (x y z : Option ℕ) → or_else (or_else x y) z ≡ or_else x (or_else y z)
+or_else_assoc : {A : Type 0} (x y z : Option A) → or_else (or_else x y) z ≡ or_else x (or_else y z)
 or_else_assoc (Some x) y z = refl
 or_else_assoc None y z = refl
+
+or_else_none : {A : Type 0} (x : Option A) → x ≡ or_else x None
+or_else_none (Some n) = refl
+or_else_none None = refl
+
+abbrev base_of : Hole → ℕ
+base_of h = h.base
 
 -- the base type of the first hole doesn't depend on what is in scope around the partial term
 base_anywhere : (ctx : List SimpleType) (p : Partial) → option_map (λ (h : Hole). h.base) (first_hole ctx p) ≡ base_in p
@@ -22,22 +29,24 @@ base_anywhere ctx (hole n) = refl
 base_anywhere ctx (head h) = refl
 base_anywhere ctx (function a p) = base_anywhere (a ∷ ctx) p ∙ sym (base_anywhere (a ∷ []) p)
 base_anywhere ctx (application p q) =
-    option_map-or_else (first_hole ctx p) (first_hole ctx q) ∙ ap₂ or_else (base_anywhere ctx p) (base_anywhere ctx q)
-    ∙ sym (option_map-or_else (first_hole [] p) (first_hole [] q))
+    option_map-or_else base_of (first_hole ctx p) (first_hole ctx q) ∙ ap₂ or_else (base_anywhere ctx p) (base_anywhere ctx q)
+    ∙ sym (option_map-or_else base_of (first_hole [] p) (first_hole [] q))
 
 pub base_in-function : (a : SimpleType) (p : Partial) → base_in (function a p) ≡ base_in p
 base_in-function a p = base_anywhere (a ∷ []) p
 
-pub base_in-applications : (p : Partial) (qs : List Partial) → base_in (applications p qs) ≡ or_else (base_in p) (base_among qs)
-base_in-applications p [] = none_after (base_in p)
-  where
-    none_after : (x : Option ℕ) → x ≡ or_else x None
-    none_after (Some n) = refl
-    none_after None = refl
+pub base_in-application : (p q : Partial) → base_in (application p q) ≡ or_else (base_in p) (base_in q)
+base_in-application p q = option_map-or_else base_of (first_hole [] p) (first_hole [] q)
+
+base_in-applications : (p : Partial) (qs : List Partial) → base_in (applications p qs) ≡ or_else (base_in p) (base_among qs)
+base_in-applications p [] = or_else_none (base_in p)
 base_in-applications p (q ∷ qs) =
     base_in-applications (application p q) qs
-    ∙ ap (λ x. or_else x (base_among qs)) (option_map-or_else (first_hole [] p) (first_hole [] q))
+    ∙ ap (λ x. or_else x (base_among qs)) (base_in-application p q)
     ∙ or_else_assoc (base_in p) (base_in q) (base_among qs)
+
+pub base_in-spine : (h : Lambda) (qs : List Partial) → base_in (applications (head h) qs) ≡ base_among qs
+base_in-spine h qs = base_in-applications (head h) qs
 
 pub drop-at : {X : Type 0} (xs : List X) (i : ℕ) (x : X) → slice_get xs i ≡ Some x → drop i xs ≡ x ∷ drop (i + 1) xs
 drop-at [] i x h = cc
@@ -58,3 +67,23 @@ pub node_count-at : (ps : List Partial) (i : ℕ) (p : Partial) → slice_get ps
 node_count-at [] i p h = cc
 node_count-at (q ∷ ps) zero p h = omega (arith, ap node_count (same_Some q p h))
 node_count-at (q ∷ ps) (suc i) p h = omega (arith, node_count-at ps i p h)
+
+-- A HOLE WITH A HEAD THERE
+
+first_hole-applications : (ctx : List SimpleType) (p : Partial) (qs : List Partial) → first_hole ctx (applications p qs) ≡ or_else (first_hole ctx p) (first_among ctx qs)
+first_hole-applications ctx p [] = or_else_none (first_hole ctx p)
+first_hole-applications ctx p (q ∷ qs) = first_hole-applications ctx (application p q) qs ∙ or_else_assoc (first_hole ctx p) (first_hole ctx q) (first_among ctx qs)
+
+pub first_hole-spine : (ctx : List SimpleType) (h : Lambda) (qs : List Partial) → first_hole ctx (applications (head h) qs) ≡ first_among ctx qs
+first_hole-spine ctx h qs = first_hole-applications ctx (head h) qs
+
+module _ {B : Type 0} (f : Hole → B) (ctx : List SimpleType) (ps : List Partial) (i : ℕ) (p : Partial) (at : slice_get ps i ≡ Some p) where
+  pub first_among-found : (x : B) → Some x ≡ option_map f (first_hole ctx p) → Some x ≡ option_map f (first_among ctx (drop i ps))
+  first_among-found x e =
+      ap (λ y. or_else y (option_map f (first_among ctx (drop (i + 1) ps)))) e
+      ∙ sym (option_map-or_else f (first_hole ctx p) (first_among ctx (drop (i + 1) ps))) ∙ ap (λ qs. option_map f (first_among ctx qs)) (sym (drop-at ps i p at))
+
+  pub first_among-later : None ≡ option_map f (first_hole ctx p) → option_map f (first_among ctx (drop (i + 1) ps)) ≡ option_map f (first_among ctx (drop i ps))
+  first_among-later e =
+      ap (λ y. or_else y (option_map f (first_among ctx (drop (i + 1) ps)))) e
+      ∙ sym (option_map-or_else f (first_hole ctx p) (first_among ctx (drop (i + 1) ps))) ∙ ap (λ qs. option_map f (first_among ctx qs)) (sym (drop-at ps i p at))

@@ -4,3 +4,7 @@ pub mod PartialCode
 pub mod PartialSizes
 pub mod PartialFalls
 pub mod Holes
+pub mod Slots
+pub mod Blanks
+pub mod Interned
+pub mod Fitting

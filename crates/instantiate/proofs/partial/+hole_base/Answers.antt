@@ -1,9 +1,8 @@
 use Rattle.std.proofs.Common.{ap, sym, ◌∙◌, arith}
 use Rattle.stt_core.specs.View.{the_type, the_head}
-use Rattle.search_run.specs.Partial.{head}
 use Rattle.instantiate.specs.PartialView.{the_node}
 use Rattle.instantiate.specs.Means.Holes.{base_in, base_among}
-use Rattle.instantiate.proofs.HoleLaws.{base_in-function, base_in-applications, base_among-found, base_among-later, node_count-at}
+use Rattle.instantiate.proofs.HoleLaws.{base_in-function, base_in-spine, base_among-found, base_among-later, node_count-at}
 use Rattle.instantiate.proofs.partial.+hole_base.Goals as goal
 
 pub Partial::hole_base-returns-in-Lam : goal.Partial::hole_base-returns-in-Lam
@@ -12,7 +11,7 @@ Partial::hole_base-returns-in-Lam t c =
 
 pub Partial::hole_base-returns-in-App : goal.Partial::hole_base-returns-in-App
 Partial::hole_base-returns-in-App t c =
-    c.hole_base-in-App.ensures ∙ sym (base_in-applications (head (the_head c.in-App.field-0)) c.in-App.args) ∙ ap base_in (ap the_node (sym c.in-App.is) ∙ c.self.view_is)
+    c.hole_base-in-App.ensures ∙ sym (base_in-spine (the_head c.in-App.field-0) c.in-App.args) ∙ ap base_in (ap the_node (sym c.in-App.is) ∙ c.self.view_is)
 
 pub Partials::hole_base-hole_base-requires : goal.Partials::hole_base-hole_base-requires
 Partials::hole_base-hole_base-requires t c = (omega (arith, node_count-at c.args.self.now c.loop-i.i c.at.result.now c.at.ensures), tt)
