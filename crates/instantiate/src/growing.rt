@@ -62,6 +62,7 @@ impl Enumerator {
             Some(ty) => ty,
             None => return Ok(None),
         };
+        let _declared = bank.sig();
         let mut filler = Some(Partial::with_holes(self.alloc, head, &ty)?);
         let grown = partial.filled(self.alloc, &mut filler)?;
         match grown.hole_base() {
