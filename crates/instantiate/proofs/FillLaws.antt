@@ -1,9 +1,9 @@
 -- Partial terms whose first hole is filled.
-use Rattle.std.specs.Prelude.{◌≡◌, ◌+◌, ◌++◌, ℕ, List, [], ◌∷◌, Option, Some, None, option_map, slice_get, drop, refl}
+use Rattle.std.specs.Prelude.{◌≡◌, ◌+◌, ◌++◌, ℕ, List, [], ◌∷◌, Option, Some, None, slice_get, drop, refl}
 use Rattle.std.proofs.Common.{ap, ap₂, sym, ◌∙◌, append_assoc}
 use Rattle.stt_core.specs.SimpleType.{SimpleType, base, arrow}
 use Rattle.stt_core.specs.Lambda.{Lambda}
-use Rattle.search_run.specs.Partial.{Partial, hole, head, function, application, in_first, filled, blank, with_holes}
+use Rattle.search_run.specs.Partial.{Partial, head, application, in_first, filled, blank, with_holes}
 use Rattle.instantiate.specs.Means.PartialSizes.{applications}
 use Rattle.instantiate.specs.Means.Holes.{placed, filling, filling_all}
 use Rattle.instantiate.specs.Means.Blanks.{blanks}

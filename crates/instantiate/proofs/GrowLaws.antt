@@ -1,5 +1,5 @@
 -- What a partial term grows to is typed.
-use Rattle.std.specs.Prelude.{◌≡◌, ℕ, nat_eq, Bool, true, false, List, [], Option, Some, None, unwrap_or, refl, if◌then◌else◌}
+use Rattle.std.specs.Prelude.{◌≡◌, ℕ, nat_eq, Bool, true, false, List, [], Some, None, unwrap_or, refl, if◌then◌else◌}
 use Rattle.std.proofs.Common.{ap, sym, ◌∙◌, subst}
 use Rattle.std.proofs.lemmas.Option.{same_Some}
 use Rattle.std.proofs.lemmas.Bool.{eqb-true}
@@ -13,11 +13,12 @@ use Rattle.stt_core.specs.declared.nf.Head.TheVariants.{Bound, Name, Wit, False,
 use Rattle.stt_core.proofs.TypeLaws.{get_declared, constant_declared}
 use Rattle.term_bank.specs.Content.{Content, HasTerm}
 use Rattle.term_bank.specs.Terms.{IsTypedTerm}
-use Rattle.search_run.specs.Partial.{Partial, head, Hole, first_hole, filled, whole, with_holes}
+use Rattle.search_run.specs.Partial.{Partial, head, Hole, first_hole, filled, with_holes}
 use Rattle.search_run.specs.TypedPartial.{IsPartial}
 use Rattle.search_run.specs.Heads.{target}
 use Rattle.search_run.specs.Commands.{filled_at}
-use Rattle.search_run.proofs.PartialLaws.{with_holes_typed, fills, whole_canonical}
+use Rattle.search_run.specs.TypedState.{IsTypedSketch}
+use Rattle.search_run.proofs.PartialLaws.{Fills, with_holes_typed, fills, whole_canonical}
 use Rattle.search_run.proofs.TypedHeads.{DeclaredAt, declared_at}
 use Rattle.instantiate.specs.Growing.{IsTyped, TakesHead, IsTerm, IsPartOf}
 use Rattle.instantiate.specs.Means.Holes.{base_in, placed, filling}
@@ -62,30 +63,38 @@ module _ (scope : Scope) (good : IsScope scope) where
   leaf_declared ctx a (lam b s) d l e = absurd l
   leaf_declared ctx a (app s u) d l e = absurd l
 
+  -- a head with holes for its arguments fits a hole of its target type
+  holes_typed : (at : Hole) (a : SimpleType) (h : Lambda) → AreDeclared scope.bases at.context → IsLeaf h → type_of scope at.context h ≡ Some a → target a ≡ at.base → IsPartial scope at.context (base at.base) (with_holes a (head h))
+  holes_typed at a h d leaf type gives =
+      let OfBase : ℕ → Type 0 = λ n. IsPartial scope at.context (base n) (with_holes a (head h)) in
+      subst OfBase gives (with_holes_typed scope at.context a (head h) (leaf_declared at.context a h d leaf type) (leaf, leaf_neutral at.context a h leaf type))
+
+  copy_is : (p r q s : Partial) → filled r p ≡ Some s → q ≡ (filling (Some r) p).0 → q ≡ s
+  copy_is p r q s f copy = copy ∙ ap (λ o. (placed r p o).0) f
+
+  filled_is : (p : Partial) (h : Lambda) (at : Hole) (a : SimpleType) (q : Partial) → first_hole [] p ≡ Some at → type_of scope at.context h ≡ Some a → filled (with_holes a (head h)) p ≡ Some q → filled_at scope h p (first_hole [] p) ≡ Some q
+  filled_is p h at a q first type f = ap (filled_at scope h p) first ∙ ap (λ o. filled (with_holes (unwrap_or o formula) (head h)) p) type ∙ f
+
   -- the partial term with the head in its first hole
   pub record HasGrown (h : Lambda) (p q : Partial) (a : SimpleType) : Type 0 where
     pub is_filled : filled_at scope h p (first_hole [] p) ≡ Some q
     pub typed : IsPartial scope [] a q
 
+  at_hole : (p : Partial) (h : Lambda) (b : SimpleType) → IsTypedSketch scope (record { type = b; partial = p }) → IsLeaf h → (at : Hole) → first_hole [] p ≡ Some at → (a : SimpleType) → type_of scope at.context h ≡ Some a → target a ≡ at.base → (r q : Partial) → r ≡ with_holes a (head h) → q ≡ (filling (Some r) p).0 → HasGrown h p q b
+  at_hole p h b sketch leaf at first a type gives r q is copy =
+      let d : DeclaredAt scope good at = declared_at scope good [] b p at tt sketch.declared sketch.typed first in
+      go (fills scope (with_holes a (head h)) at (holes_typed at a h d.context leaf type gives) [] b p sketch.typed first)
+    where
+      go : Fills scope (IsPartial scope [] b) (with_holes a (head h)) p → HasGrown h p q b
+      go f =
+          let same : q ≡ f.0 = copy_is p (with_holes a (head h)) q f.0 f.1 (copy ∙ ap (λ s. (filling (Some s) p).0) is) in
+          let Typed : Partial → Type 0 = λ s. IsPartial scope [] b s in
+          record { is_filled = filled_is p h at a q first type (f.1 ∙ ap Some (sym same)); typed = subst Typed (sym same) f.2 }
+
   pub has_grown : (p : Partial) (h : Lambda) (typed : IsTyped scope p) (takes : TakesHead scope p h) → IsLeaf h → (a : SimpleType) (r q : Partial) → Some a ≡ fitting scope h (first_hole [] p) → r ≡ with_holes a (head h) → q ≡ (filling (Some r) p).0 → HasGrown h p q typed.type
   has_grown p h typed takes leaf a r q fit is copy =
-      let at = takes.hole in
-      let b = takes.type in
-      let f = fits_base at.base a b (fit ∙ ap (fitting scope h) takes.is_first ∙ ap (to_base at.base) takes.has_type) in
-      let type : type_of scope at.context h ≡ Some a = takes.has_type ∙ ap Some f.same in
-      let d : DeclaredAt scope good at = declared_at scope good [] typed.type p at tt typed.sketch.declared typed.sketch.typed takes.is_first in
-      let holes : IsPartial scope at.context (base (target a)) (with_holes a (head h)) =
-          with_holes_typed scope at.context a (head h) (leaf_declared at.context a h d.context leaf type) (leaf, leaf_neutral at.context a h leaf type) in
-      let OfBase : ℕ → Type 0 = λ n. IsPartial scope at.context (base n) (with_holes a (head h)) in
-      let filled' = fills scope (with_holes a (head h)) at (subst OfBase f.gives holes) [] typed.type p typed.sketch.typed takes.is_first in
-      let same : q ≡ filled'.0 = copy ∙ ap (λ s. (filling (Some s) p).0) is ∙ ap (λ o. (placed (with_holes a (head h)) p o).0) filled'.1 in
-      let Typed : Partial → Type 0 = λ s. IsPartial scope [] typed.type s in
-      record {
-        is_filled =
-            ap (filled_at scope h p) takes.is_first
-            ∙ ap (λ o. filled (with_holes (unwrap_or o formula) (head h)) p) type ∙ filled'.1 ∙ ap Some (sym same);
-        typed = subst Typed (sym same) filled'.2;
-      }
+      let f : Fits a takes.type takes.hole.base = fits_base takes.hole.base a takes.type (fit ∙ ap (fitting scope h) takes.is_first ∙ ap (to_base takes.hole.base) takes.has_type) in
+      at_hole p h typed.type typed.sketch leaf takes.hole takes.is_first a (takes.has_type ∙ ap Some f.same) f.gives r q is copy
 
   -- where holes are left
   pub part_of : (p : Partial) (h : Lambda) (q : Partial) (a : SimpleType) (n : ℕ) → HasGrown h p q a → Some n ≡ base_in q → IsPartOf scope h p q

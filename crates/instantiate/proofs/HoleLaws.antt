@@ -74,8 +74,8 @@ first_hole-applications : (ctx : List SimpleType) (p : Partial) (qs : List Parti
 first_hole-applications ctx p [] = or_else_none (first_hole ctx p)
 first_hole-applications ctx p (q ∷ qs) = first_hole-applications ctx (application p q) qs ∙ or_else_assoc (first_hole ctx p) (first_hole ctx q) (first_among ctx qs)
 
-pub first_hole-spine : (ctx : List SimpleType) (h : Lambda) (qs : List Partial) → first_hole ctx (applications (head h) qs) ≡ first_among ctx qs
-first_hole-spine ctx h qs = first_hole-applications ctx (head h) qs
+pub slots-spine : {B : Type 0} (f : Hole → B) (ctx : List SimpleType) (h : Lambda) (qs : List Partial) (p : Partial) (x : Option B) → applications (head h) qs ≡ p → x ≡ option_map f (first_among ctx qs) → x ≡ option_map f (first_hole ctx p)
+slots-spine f ctx h qs p x whole e = e ∙ ap (option_map f) (sym (first_hole-applications ctx (head h) qs) ∙ ap (first_hole ctx) whole)
 
 module _ {B : Type 0} (f : Hole → B) (ctx : List SimpleType) (ps : List Partial) (i : ℕ) (p : Partial) (at : slice_get ps i ≡ Some p) where
   pub first_among-found : (x : B) → Some x ≡ option_map f (first_hole ctx p) → Some x ≡ option_map f (first_among ctx (drop i ps))

@@ -1,7 +1,6 @@
 -- The partial terms of the code as plain trees.
-use Rattle.std.specs.Prelude.{List, [], ◌∷◌}
 use Rattle.stt_core.specs.View.{the_type, the_head}
-use Rattle.search_run.specs.Partial.{Partial, hole, head, function, application}
+use Rattle.search_run.specs.Partial.{Partial, hole, head, function}
 use Rattle.instantiate.specs.declared.partial.PartialNode.{PartialNode}
 use Rattle.instantiate.specs.declared.partial.PartialNode.TheVariants.{Hole, Lam, App}
 use Rattle.instantiate.specs.Means.PartialSizes.{applications}

@@ -38,7 +38,13 @@ fn fitting_type(bank: &Bank, partial: &Partial, head: &Head) -> Result<Option<Ty
     ensures { IfOk result (λ o. option_map the_type o ≡ fitting (content_scope bank.now) (the_head head.now) (first_hole [] partial.now)) }
 {
     match slot_in(bank, &Context::Empty, partial, head)? {
-        Some(Slot { base, ty: Some(ty) }) => Ok(if target_of(&ty) == base { Some(ty) } else { None }),
+        Some(Slot { base, ty: Some(ty) }) => {
+            if target_of(&ty) == base {
+                Ok(Some(ty))
+            } else {
+                Ok(None)
+            }
+        }
         _ => unreachable!(),
     }
 }
@@ -58,10 +64,10 @@ impl Enumerator {
         ensures grown { IfOk result (λ o. IfSome o (λ g. IsGrown (content_scope bank.old) (the_head head.now) partial.now bank.new g)) }
         ensures grows { Grows bank.old bank.new }
     {
-        let ty = match fitting_type(bank, partial, head)? {
-            Some(ty) => ty,
-            None => return Ok(None),
+        let Some(ty) = fitting_type(bank, partial, head)? else {
+            return Ok(None);
         };
+        // The signature is asked for its clause that what is declared is over it.
         let _declared = bank.sig();
         let mut filler = Some(Partial::with_holes(self.alloc, head, &ty)?);
         let grown = partial.filled(self.alloc, &mut filler)?;

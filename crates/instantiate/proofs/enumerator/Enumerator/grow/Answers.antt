@@ -18,7 +18,7 @@ intern-requires-clause-typed c =
     let h = the_head c.args.head.now in
     let g = has_grown scope c.sig-declared.ensures.declared c.args.partial.now h c.requires.typed c.requires.takes (head_leaf c.args.head.now) (the_type c.in-Some.ty) c.in_ok-with_holes.field-0 c.in_ok-grown.grown
     (ap (option_map the_type) (sym c.in-Some.is) ∙ c.in_ok-ty.ensures) c.in_ok-with_holes.ensures c.in_ok-grown.ensures.copy in
-    whole_typed scope c.sig-declared.ensures.declared c.args.partial.now h c.in_ok-grown.grown c.requires.typed.type g (sym c.in-None-hole_base.ensures)
+    whole_typed scope c.sig-declared.ensures.declared c.args.partial.now h c.in_ok-grown.grown c.requires.typed.type g (sym c.in-None.ensures)
 
 pub returns-clause-grown : goal.returns-clause-grown
 returns-clause-grown c =
@@ -26,4 +26,4 @@ returns-clause-grown c =
     let h = the_head c.args.head.now in
     let g = has_grown scope c.sig-declared.ensures.declared c.args.partial.now h c.requires.typed c.requires.takes (head_leaf c.args.head.now) (the_type c.in-Some.ty) c.in_ok-with_holes.field-0 c.in_ok-grown.grown
     (ap (option_map the_type) (sym c.in-Some.is) ∙ c.in_ok-ty.ensures) c.in_ok-with_holes.ensures c.in_ok-grown.ensures.copy in
-    is_term scope c.sig-declared.ensures.declared c.args.partial.now h c.in_ok-grown.grown c.requires.typed.type c.intern.new.bank c.in_ok-intern-in-None-hole_base.field-0 g (sym c.in-None-hole_base.ensures) c.in_ok-intern-in-None-hole_base.ensures.term
+    is_term scope c.sig-declared.ensures.declared c.args.partial.now h c.in_ok-grown.grown c.requires.typed.type c.intern.new.bank c.in_ok-intern-in-None.field-0 g (sym c.in-None.ensures) c.in_ok-intern-in-None.ensures.term
