@@ -1,2 +1,5 @@
 pub mod Listing
+pub mod PartialView
+pub mod Growing
+pub mod Cases
 pub mod Means

@@ -16,7 +16,7 @@ use term_bank::Id;
 pub struct Enumerator {
     lists: Vec<TermList>,
     order: Vec<Listed>,
-    alloc: Global,
+    pub(crate) alloc: Global,
 }
 
 impl Model for Enumerator {

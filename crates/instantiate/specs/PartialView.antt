@@ -1,0 +1,11 @@
+-- The partial terms of the code as plain trees.
+use Rattle.stt_core.specs.View.{the_type, the_head}
+use Rattle.search_run.specs.Partial.{Partial, hole, head, function}
+use Rattle.instantiate.specs.declared.partial.PartialNode.{PartialNode}
+use Rattle.instantiate.specs.declared.partial.PartialNode.TheVariants.{Hole, Lam, App}
+use Rattle.instantiate.specs.Means.PartialSizes.{applications}
+
+abbrev pub the_node : PartialNode → Partial
+the_node (Hole n) = hole n
+the_node (Lam a p) = function (the_type a) p.value
+the_node (App h ps) = applications (head (the_head h)) ps
