@@ -140,7 +140,7 @@ impl Resolver {
     }
 
     /// Whether the clause holds a literal and another clause a second one.
-    fn clashes(&self, own: SatLit, literals: &[SatLit], other: SatLit) -> bool
+    pub fn clashes(&self, own: SatLit, literals: &[SatLit], other: SatLit) -> bool
         ensures { result ≡ (holds self.now own && holds literals.now other) }
     {
         self.contains(own) && literals.contains(&other)
