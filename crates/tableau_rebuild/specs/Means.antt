@@ -1,0 +1,1 @@
+-- Means of proof: what private contracts and proofs speak of.
