@@ -1,1 +1,3 @@
 -- Means of proof: what private contracts and proofs speak of.
+pub mod Drafts
+pub mod Walks

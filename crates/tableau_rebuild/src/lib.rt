@@ -1,8 +1,10 @@
 //! Refutations from the log of a solver.
 #![tactic(auto)]
 
+mod draft;
 mod reached;
 mod refutation;
+mod walk;
 
 pub use reached::{UsedList, used};
 pub use refutation::rebuild;
