@@ -19,11 +19,11 @@ and_then_some : {A B : Type 0} (f : A → Option B) (o : Option A) (r : B) → o
 and_then_some f None r h = cc
 and_then_some f (Some x) r h = (x, refl, h)
 
-map_some : {A B : Type 0} (f : A → B) (o : Option A) (r : B) → option_map f o ≡ Some r → (x : A) × (o ≡ Some x) × (f x ≡ r)
+pub map_some : {A B : Type 0} (f : A → B) (o : Option A) (r : B) → option_map f o ≡ Some r → (x : A) × (o ≡ Some x) × (f x ≡ r)
 map_some f None r h = cc
 map_some f (Some x) r h = let e : f x ≡ r = cc in (x, refl, e)
 
-got_of-take : {A : Type 0} (n : ℕ) (xs : List A) (k : ℕ) (x : A) → slice_get (take n xs) k ≡ Some x → (k < n) × (slice_get xs k ≡ Some x)
+pub got_of-take : {A : Type 0} (n : ℕ) (xs : List A) (k : ℕ) (x : A) → slice_get (take n xs) k ≡ Some x → (k < n) × (slice_get xs k ≡ Some x)
 got_of-take zero xs k x h = cc
 got_of-take (suc n) [] k x h = cc
 got_of-take (suc n) (y ∷ xs) zero x h = (omega arith, h)

@@ -15,7 +15,7 @@ at_middle : (front back : List Tree) (x : Tree) → tree_at (front ++ x ∷ back
 at_middle [] back x = refl
 at_middle (y ∷ front) back x = let e : length (y ∷ front) ≡ suc (length front) = omega arith in ap (λ n. tree_at (y ∷ (front ++ x ∷ back)) n) e ∙ at_middle front back x
 
-at_front : (front back : List Tree) (i : ℕ) → i < length front → tree_at (front ++ back) i ≡ tree_at front i
+pub at_front : (front back : List Tree) (i : ℕ) → i < length front → tree_at (front ++ back) i ≡ tree_at front i
 at_front [] back i l = absurd (omega (arith, l))
 at_front (y ∷ front) back zero l = refl
 at_front (y ∷ front) back (suc i) l = at_front front back i (omega (arith, l))
@@ -27,7 +27,7 @@ record Split (earlier : List Tree) (ds : List Draft) (j : ℕ) (d : Draft) : Typ
   count : length before ≡ length earlier + j
   are : trees_after earlier ds ≡ before ++ tree_of before d ∷ behind
 
-grown : (earlier : List Tree) (ds : List Draft) → (more : List Tree) × (trees_after earlier ds ≡ earlier ++ more)
+pub grown : (earlier : List Tree) (ds : List Draft) → (more : List Tree) × (trees_after earlier ds ≡ earlier ++ more)
 grown earlier [] = ([], sym (append-nil earlier))
 grown earlier (d ∷ ds) =
     let rest = grown (earlier ++ tree_of earlier d ∷ []) ds in

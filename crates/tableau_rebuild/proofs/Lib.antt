@@ -1,2 +1,5 @@
 pub mod DraftLaws
 pub mod WalkSteps
+pub mod ArenaLaws
+pub mod JoinLaws
+pub mod ChainLaws

@@ -1,6 +1,7 @@
 //! Refutations from the log of a solver.
 #![tactic(auto)]
 
+mod arena;
 mod draft;
 mod reached;
 mod refutation;
