@@ -3,3 +3,5 @@ pub mod WalkSteps
 pub mod ArenaLaws
 pub mod JoinLaws
 pub mod ChainLaws
+pub mod FleshLaws
+pub mod NumberLaws

@@ -8,7 +8,7 @@ use Rattle.std.proofs.lemmas.List.Elements.{All-nil, All-cons, All-head, All-tai
 use Rattle.stt_core.proofs.ListLaws.{map-append}
 use Rattle.rebuilt_refutation.specs.Trees.{Place, Tree, leaf, cut, made_at, same_line}
 use Rattle.rebuilt_refutation.specs.Lines.{with_line, walked}
-use Rattle.rebuilt_refutation.proofs.WalkLaws.{same_place-refl, IsEach, IsOrdered}
+use Rattle.rebuilt_refutation.proofs.WalkLaws.{same_place-refl, get-push, IsEach, IsOrdered}
 use Rattle.rebuilt_refutation.proofs.LastLaws.{walk_ordered}
 use Rattle.rebuilt_refutation.proofs.SkipLaws.{Task as Step, visit, list, run as run_steps, run_passes}
 use Rattle.sat_base.specs.declared.literal.Var.{Var}
@@ -50,7 +50,7 @@ module _ (drafts : List Draft) (right : AreDrafts drafts) (last : ℕ) where
       let done = map (tree_at ts) order in
       let there : list_any (same_line (tree_at ts i)) done ≡ true = sym (way.marks i inside) ∙ is in
       let same : with_line done (tree_at ts i) ≡ done = ap (λ (b : Bool). if b then done else done ++ tree_at ts i ∷ []) there in
-      record { flags = way.flags; marks = way.marks; in_range = All-tail (λ t. number_of t < length drafts) (Enter i) tasks way.in_range; lines = ap (λ k. run ts k tasks) (sym same) ∙ way.lines }
+      record { flags = way.flags; marks = way.marks; in_range = All-tail (λ t. number_of t < length drafts) (Enter i) tasks way.in_range; inside = way.inside; lines = ap (λ k. run ts k tasks) (sym same) ∙ way.lines }
 
   new_mark : (order : List ℕ) (listed : List Bool) (i j : ℕ) → i < length drafts → j < length drafts → length listed ≡ length drafts → slice_index_or listed j false ≡ list_any (same_line (tree_at ts j)) (map (tree_at ts) order) → slice_index_or (slice_set listed i true) j false ≡ list_any (same_line (tree_at ts j)) (map (tree_at ts) (order ++ i ∷ []))
   new_mark order listed i j li lj count before = go (nat_eq j i) refl
@@ -89,6 +89,7 @@ module _ (drafts : List Draft) (right : AreDrafts drafts) (last : ℕ) where
         flags = length-set listed i true ∙ way.flags;
         marks = λ j l. new_mark order listed i j inside l way.flags (way.marks j l);
         in_range = All-tail (λ t. number_of t < length drafts) (Enter i) tasks way.in_range;
+        inside = λ k j h. get-push (j < length drafts) order i j k h (λ old. way.inside k j old) (λ e same. subst (λ n. n < length drafts) same inside);
         lines = ap (λ k. run ts k tasks) (map-append (tree_at ts) order (i ∷ []) ∙ sym same) ∙ way.lines;
       }
 
@@ -114,7 +115,7 @@ module _ (drafts : List Draft) (right : AreDrafts drafts) (last : ℕ) where
       let lines = run_passes Is one done whole t (map (step_of ts) tasks) ordered (each_drafted drafts right i inside) (sym (run_is ts (walked done t) tasks) ∙ way.lines) there in
       let some = size_some t in
       record {
-        way = record { flags = way.flags; marks = way.marks; in_range = All-tail (λ t. number_of t < length drafts) (Visit i) tasks way.in_range; lines = run_is ts done tasks ∙ lines };
+        way = record { flags = way.flags; marks = way.marks; in_range = All-tail (λ t. number_of t < length drafts) (Visit i) tasks way.in_range; inside = way.inside; lines = run_is ts done tasks ∙ lines };
         less = omega (arith, some);
       }
 
@@ -126,7 +127,7 @@ module _ (drafts : List Draft) (right : AreDrafts drafts) (last : ℕ) where
       let same = subst (λ t. with_line done t ≡ walked done t) (sym tree) refl in
       let some = size_some (tree_at ts i) in
       record {
-        way = record { flags = way.flags; marks = way.marks; in_range = All-cons (λ t. number_of t < length drafts) (Enter i) tasks inside rest; lines = ap (λ k. run ts k tasks) same ∙ way.lines };
+        way = record { flags = way.flags; marks = way.marks; in_range = All-cons (λ t. number_of t < length drafts) (Enter i) tasks inside rest; inside = way.inside; lines = ap (λ k. run ts k tasks) same ∙ way.lines };
         less = omega (arith, some);
       }
 
@@ -151,6 +152,7 @@ module _ (drafts : List Draft) (right : AreDrafts drafts) (last : ℕ) where
           flags = way.flags;
           marks = way.marks;
           in_range = All-cons P (Visit a) (Visit b ∷ Enter i ∷ tasks) (omega (arith, inside, below.0)) (All-cons P (Visit b) (Enter i ∷ tasks) (omega (arith, inside, below.1)) (All-cons P (Enter i) tasks inside rest));
+          inside = way.inside;
           lines = ap (λ k. run ts k tasks) same ∙ way.lines;
         };
         less = omega (arith, sizes);
@@ -164,7 +166,7 @@ pub walk_begins : (drafts : List Draft) (last : ℕ) (flags : List Bool) (order 
 walk_begins drafts last flags order none tasks below e f g h =
     let one : tasks ≡ Visit last ∷ [] = h ∙ ap (λ k. k ++ Visit last ∷ []) g in
     let P : Task → Type 0 = λ t. number_of t < length drafts in
-    let begun : IsUnderWay drafts last (map (λ _. false) drafts) [] (Visit last ∷ []) = record { flags = length-map drafts (λ _. false); marks = λ i l. no_mark drafts i; in_range = All-cons P (Visit last) [] below (All-nil P); lines = refl } in
+    let begun : IsUnderWay drafts last (map (λ _. false) drafts) [] (Visit last ∷ []) = record { flags = length-map drafts (λ _. false); marks = λ i l. no_mark drafts i; in_range = All-cons P (Visit last) [] below (All-nil P); inside = λ k i h. cc; lines = refl } in
     subst (λ k. IsUnderWay drafts last k order (reverse tasks)) (sym e)
     (subst (λ k. IsUnderWay drafts last (map (λ _. false) drafts) k (reverse tasks)) (sym f)
     (subst (λ k. IsUnderWay drafts last (map (λ _. false) drafts) [] (reverse k)) (sym one) begun))

@@ -2,3 +2,4 @@
 pub mod Drafts
 pub mod Walks
 pub mod Arenas
+pub mod Numbers

@@ -3,6 +3,7 @@
 
 mod arena;
 mod draft;
+mod numbering;
 mod reached;
 mod refutation;
 mod walk;

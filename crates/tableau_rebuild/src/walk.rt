@@ -1,5 +1,5 @@
 //! The order of the lines.
-ghost use Rattle.std.specs.Prelude.{◌≡◌, ◌<◌, false, [], ◌∷◌, length, map, reverse, IfOk, OnOk};
+ghost use Rattle.std.specs.Prelude.{◌≡◌, ◌<◌, ℕ, false, [], ◌∷◌, length, map, reverse, Some, slice_get, IfOk, OnOk};
 ghost use Rattle.rebuilt_refutation.specs.Lines.{walked};
 ghost use Rattle.tableau_rebuild.specs.declared.walk.Task.TheVariants.{Enter, Visit};
 ghost use Rattle.tableau_rebuild.specs.Means.Drafts.{trees, tree_at, AreDrafts};
@@ -84,7 +84,8 @@ pub(crate) fn walk_from(
 ) -> Result<Vec<usize>, AllocError>
     requires right { AreDrafts drafts.now }
     requires last { last < length drafts.now }
-    ensures { IfOk result (λ order. map (tree_at (trees drafts.now)) order.items ≡ walked [] (tree_at (trees drafts.now) last)) }
+    ensures walked { IfOk result (λ order. map (tree_at (trees drafts.now)) order.items ≡ walked [] (tree_at (trees drafts.now) last)) }
+    ensures inside { IfOk result (λ order. (k i : ℕ) → slice_get order.items k ≡ Some i → i < length drafts.now) }
 {
     let mut listed = no_flags(alloc, drafts)?;
     let mut order = Vec::new(alloc);

@@ -1,5 +1,5 @@
 -- A walk over lines, by what is left to do.
-use Rattle.std.specs.Prelude.{◌≡◌, ◌<◌, ◌+◌, ◌*◌, ℕ, suc, Bool, false, List, [], ◌∷◌, map, length, slice_index_or}
+use Rattle.std.specs.Prelude.{◌≡◌, ◌<◌, ◌+◌, ◌*◌, ℕ, suc, Bool, false, List, [], ◌∷◌, map, length, Some, slice_get, slice_index_or}
 use Rattle.std.specs.List.{list_any, All}
 use Rattle.rebuilt_refutation.specs.Trees.{Tree, leaf, cut, same_line}
 use Rattle.rebuilt_refutation.specs.Lines.{walked, with_line}
@@ -33,4 +33,5 @@ pub record IsUnderWay (drafts : List Draft) (last : ℕ) (listed : List Bool) (o
   pub flags : length listed ≡ length drafts
   pub marks : (i : ℕ) → i < length drafts → slice_index_or listed i false ≡ list_any (same_line (tree_at (trees drafts) i)) (map (tree_at (trees drafts)) order)
   pub in_range : All (λ t. number_of t < length drafts) tasks
+  pub inside : (k i : ℕ) → slice_get order k ≡ Some i → i < length drafts
   pub lines : run (trees drafts) (map (tree_at (trees drafts)) order) tasks ≡ walked [] (tree_at (trees drafts) last)
