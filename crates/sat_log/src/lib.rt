@@ -15,3 +15,4 @@ pub use law::{
     no_variable_twice_law, unit_propagation_law,
 };
 pub use log::{Log, LogEntry};
+pub use resolver::Resolver;

@@ -3,7 +3,7 @@ ghost use Rattle.std.specs.Prelude.{◌≡◌, ◌&&◌, [], ◌∷◌, ◌++◌
 ghost use Rattle.std.specs.List.{list_any};
 ghost use Rattle.sat_base.specs.declared.literal.SatLit.{SatLit};
 ghost use Rattle.sat_base.specs.Literal.{holds, same_literal};
-ghost use Rattle.sat_log.specs.Resolution.{without, without_repeats, HasNoRepeats, resolved};
+ghost use Rattle.sat_log.specs.Resolution.{without, without_repeats, HasNoRepeats, resolved, resolvent};
 ghost use Rattle.sat_log.specs.Means.Stamps.{stamp_of};
 ghost use Rattle.sat_log.specs.Means.Resolver.{is_live as is_live_in, live};
 
@@ -140,7 +140,7 @@ impl Resolver {
     }
 
     /// Whether the clause holds a literal and another clause a second one.
-    fn clashes(&self, own: SatLit, literals: &[SatLit], other: SatLit) -> bool
+    pub fn clashes(&self, own: SatLit, literals: &[SatLit], other: SatLit) -> bool
         ensures { result ≡ (holds self.now own && holds literals.now other) }
     {
         self.contains(own) && literals.contains(&other)
@@ -165,6 +165,29 @@ impl Resolver {
             self.prepend_others(literals, positive)?;
         }
         Ok(())
+    }
+
+    /// The resolvent on a variable of two clauses, whether or not they hold it and its negation. There is no literal before and after.
+    pub fn resolvent_of(
+        &mut self,
+        var: Var,
+        first: &[SatLit],
+        second: &[SatLit],
+    ) -> Result<Clause, AllocError>
+        requires { self.old ≡ [] }
+        ensures resolvent { IfOk result (λ clause. clause ≡ resolvent var first.now second.now) }
+        ensures empty { OnOk result (self.new ≡ []) }
+    {
+        let positive = SatLit {
+            var,
+            positive: true,
+        };
+        self.start(first)?;
+        self.remove(positive);
+        self.append_others(second, positive.negated())?;
+        let clause = self.to_clause()?;
+        self.clear();
+        Ok(clause)
     }
 
     /// The clause.

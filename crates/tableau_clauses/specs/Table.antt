@@ -1,8 +1,11 @@
 -- What a table of steps holds: clauses, each with where it comes from, and instances of rules.
-use Rattle.std.specs.Prelude.{List, map}
+use Rattle.std.specs.Prelude.{◌≡◌, ℕ, List, [], ◌∷◌, map, Some, slice_get, Contains}
 use Rattle.sat_base.specs.declared.literal.SatLit.{SatLit}
 use Rattle.literal_map.specs.declared.instance.Instance.{Instance}
+use Rattle.search_run.specs.Clauses.{instance_clauses}
+use Rattle.search_run.specs.Numbered.{numbers}
 use Rattle.tableau_clauses.specs.declared.origin.Origin.{Origin}
+use Rattle.tableau_clauses.specs.declared.origin.Origin.TheVariants.{Start, Instance as From}
 
 -- a clause with where it comes from
 abbrev pub Step : Type 0
@@ -25,3 +28,12 @@ the_origins t = origins_in t.0
 
 abbrev pub the_instances : Table → List Instance
 the_instances t = t.1
+
+-- the clause comes from there: a start unit is one literal, and another clause is one of its instance's
+abbrev pub ComesFrom : List Instance → List SatLit → Origin → Type 0
+ComesFrom instances clause Start = (l : SatLit) × (clause ≡ l ∷ [])
+ComesFrom instances clause (From k) = (i : Instance) × (slice_get instances k ≡ Some i) × Contains (instance_clauses numbers i.principals i.alternatives) clause
+
+-- each clause comes from where it is said to come from
+abbrev pub EachComes : Table → Type 0
+EachComes t = (n : ℕ) (s : Step) → slice_get t.0 n ≡ Some s → ComesFrom t.1 s.0 s.1

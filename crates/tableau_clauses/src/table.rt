@@ -5,7 +5,7 @@ ghost use Rattle.search_run.specs.Clauses.{same_clause, instance_clauses, with_c
 ghost use Rattle.search_run.specs.Numbered.{numbers};
 ghost use Rattle.tableau_clauses.specs.declared.origin.Origin.TheVariants.{Start, Instance as From};
 ghost use Rattle.tableau_clauses.specs.Means.Stepping.{with_steps, Adds};
-ghost use Rattle.tableau_clauses.specs.Table.{the_clauses, the_origins, the_instances};
+ghost use Rattle.tableau_clauses.specs.Table.{the_clauses, the_origins, the_instances, EachComes};
 
 use crate::choice::clauses_of;
 use crate::origin::Origin;
@@ -36,6 +36,10 @@ impl Model for StepTable {
     ghost Value = { Table };
 
     ghost view = { λ t. (t.steps, t.instances.items) };
+
+    ghost use Rattle.tableau_clauses.specs.Table.{EachComes};
+
+    ghost invariant = { λ t. EachComes (t.steps, t.instances.items) };
 }
 
 impl StepTable {
@@ -47,6 +51,13 @@ impl StepTable {
             instances: Vec::new(alloc),
             alloc,
         }
+    }
+
+    /// Each clause comes from its origin. This does nothing: what it says stands in its contract.
+    pub fn clauses_come_from_origins(&self)
+        ensures { EachComes self.now }
+    {
+        let _len = self.steps.len();
     }
 
     /// How many clauses there are.
@@ -93,23 +104,6 @@ impl StepTable {
         Ok(self.steps.add(clause, Origin::Start)?)
     }
 
-    /// Adds the clauses that aren't there yet, and keeps the instance. Where it is refused, some of the clauses may be there.
-    fn add_unless_refused(
-        &mut self,
-        clauses: Vec<Clause>,
-        instance: Instance,
-    ) -> Result<(), AllocError>
-        ensures steps { OnOk result (self.new.0 ≡ with_steps (From (length self.old.1)) self.old.0 clauses.items) }
-        ensures adds { Adds (From (length self.old.1)) self.old.0 self.new.0 }
-        ensures instances { OnOk result (self.new.1 ≡ self.old.1 ++ instance ∷ []) }
-        ensures err { OnErr result (self.new.1 ≡ self.old.1) }
-    {
-        self.steps
-            .add_all(clauses, Origin::Instance(self.instances.len()))?;
-        self.instances.push(instance)?;
-        Ok(())
-    }
-
     /// Keeps the instance, and adds those of its clauses that aren't there yet, in their order.
     pub fn add(&mut self, instance: Instance) -> Result<NewClauses, AllocError>
         ensures clauses { OnOk result (the_clauses self.new ≡ with_clauses numbers (the_clauses self.old) (instance_clauses numbers instance.principals instance.alternatives)) }
@@ -121,7 +115,7 @@ impl StepTable {
     {
         let start = self.len();
         let clauses = clauses_of(self.alloc, &instance)?;
-        match self.add_unless_refused(clauses, instance) {
+        match add_unless_refused(&mut self.steps, &mut self.instances, clauses, instance) {
             Ok(()) => Ok(NewClauses {
                 start,
                 end: self.len(),
@@ -132,4 +126,21 @@ impl StepTable {
             }
         }
     }
+}
+
+/// Adds the clauses that aren't there yet, and keeps the instance. Where it is refused, some of the clauses may be there.
+fn add_unless_refused(
+    steps: &mut Steps,
+    instances: &mut Vec<Instance>,
+    clauses: Vec<Clause>,
+    instance: Instance,
+) -> Result<(), AllocError>
+    ensures steps { OnOk result (steps.new ≡ with_steps (From (length instances.old.items)) steps.old clauses.items) }
+    ensures adds { Adds (From (length instances.old.items)) steps.old steps.new }
+    ensures instances { OnOk result (instances.new.items ≡ instances.old.items ++ instance ∷ []) }
+    ensures err { OnErr result (instances.new.items ≡ instances.old.items) }
+{
+    steps.add_all(clauses, Origin::Instance(instances.len()))?;
+    instances.push(instance)?;
+    Ok(())
 }

@@ -1,5 +1,5 @@
 //! Witness tables.
-ghost use Rattle.std.specs.Prelude.{◌≡◌, ◌<◌, ◌-◌, ◌^◌, length, [], Some, IfOk, OnOk, OnErr, slice_get};
+ghost use Rattle.std.specs.Prelude.{◌≡◌, ◌<◌, ◌-◌, ◌^◌, length, [], Some, IfOk, OnOk, OnErr, nat_eq, position, slice_get};
 ghost use Rattle.stt_tableau.specs.Witnesses.{IsTypedRow};
 ghost use Rattle.term_bank.specs.Content.{content_scope};
 ghost use Rattle.term_bank.specs.Terms.{term_at};
@@ -51,6 +51,16 @@ impl Witnesses {
         match self.predicates.get_index(w as usize) {
             Some(id) => *id,
             None => unreachable!(),
+        }
+    }
+
+    /// The witness of a predicate, where it has one.
+    pub fn find(&self, predicate: Id) -> Option<u32>
+        ensures { result ≡ position (nat_eq predicate) self.now }
+    {
+        match self.predicates.get_index_of(&predicate) {
+            Some(number) => Some(number as u32),
+            None => None,
         }
     }
 

@@ -1,0 +1,224 @@
+-- How many lines a rebuilt refutation has.
+use Rattle.std.proofs.Common.{◌≡◌, ◌<◌, ◌≤◌, ◌+◌, ◌&&◌, cond, not, if◌then◌else◌, ℕ, zero, suc, Bool, true, false, List, [], ◌∷◌, ◌++◌, map, length, Some, slice_get, Contains, refl, sym, ap, ◌∙◌, subst, append_assoc, length-append, arith}
+use Rattle.std.proofs.lemmas.Option.{slice_get_within}
+use Rattle.std.proofs.lemmas.List.{length-map}
+use Rattle.std.proofs.lemmas.List.Elements.{Contains-append_left, Contains-append_right}
+use Rattle.stt_tableau.proofs.ListLaws.{contains-first, contains-later, contains_cases, contains-get}
+use Rattle.sat_base.specs.declared.literal.Var.{Var}
+use Rattle.sat_base.specs.declared.literal.SatLit.{SatLit}
+use Rattle.sat_base.specs.Literal.{positive, negative, holds}
+use Rattle.sat_log.specs.declared.chain.Premise.{Premise}
+use Rattle.sat_log.specs.declared.chain.Premise.TheVariants.{Clause, Result}
+use Rattle.sat_log.specs.declared.chain.ChainStep.{ChainStep}
+use Rattle.sat_log.specs.declared.log.LogEntry.{LogEntry}
+use Rattle.rebuilt_refutation.specs.Input.{Input}
+use Rattle.rebuilt_refutation.specs.Trees.{Place, at_clause, at_step, at_result, same_place, Tree, made_at, same_line}
+use Rattle.rebuilt_refutation.specs.Stands.{Standing, start, line, joined, stepped, place_of, Stands, of_start, of_instance, of_first, of_next, of_result}
+use Rattle.rebuilt_refutation.specs.Lines.{walked, number_in, line_of, lines_from}
+use Rattle.rebuilt_refutation.specs.Used.{IsUsed, last_result, first_of, step_of, step_count, AreDistinct, AreFew}
+use Rattle.rebuilt_refutation.proofs.WalkLaws.{same_place-refl, IsEach, IsOrdered, get-middle}
+use Rattle.rebuilt_refutation.proofs.ReachedLaws.{walked_all}
+use Rattle.rebuilt_refutation.proofs.CountLaws.{HasNoneTwice, no_longer}
+
+-- the places after the steps of a chain, and of the chains of a log
+step_places : ℕ → ℕ → List ChainStep → List Place
+step_places n k [] = []
+step_places n k (step ∷ steps) = at_step n (suc k) ∷ step_places n (suc k) steps
+
+all_places : ℕ → List LogEntry → List Place
+all_places n [] = []
+all_places n (entry ∷ log) = step_places n zero entry.chain.steps ++ all_places (suc n) log
+
+step_places-length : (n k : ℕ) (steps : List ChainStep) → length (step_places n k steps) ≡ length steps
+unfolding step_places
+step_places-length n k [] = refl
+step_places-length n k (step ∷ steps) = let rest = step_places-length n (suc k) steps in omega (arith, rest)
+
+all_places-length : (n : ℕ) (log : List LogEntry) → length (all_places n log) ≡ step_count log
+unfolding all_places
+all_places-length n [] = refl
+all_places-length n (entry ∷ log) =
+    let here = step_places-length n zero entry.chain.steps in
+    let rest = all_places-length (suc n) log in
+    let both = length-append (step_places n zero entry.chain.steps) (all_places (suc n) log) in
+    omega (arith, here, rest, both)
+
+step_there : (n k : ℕ) (steps : List ChainStep) (j r : ℕ) → r ≡ k + j → j < length steps → Contains (step_places n k steps) (at_step n (suc r))
+unfolding step_places
+step_there n k [] j r e l = absurd (omega (arith, l))
+step_there n k (step ∷ steps) zero r e l =
+    let same : k ≡ r = omega (arith, e) in
+    subst (λ x. Contains (at_step n (suc k) ∷ step_places n (suc k) steps) (at_step n (suc x))) same (contains-first (at_step n (suc k)) (step_places n (suc k) steps))
+step_there n k (step ∷ steps) (suc j) r e l =
+    contains-later (at_step n (suc r)) (at_step n (suc k)) (step_places n (suc k) steps) (step_there n (suc k) steps j r (omega (arith, e)) (omega (arith, l)))
+
+place_there : (m : ℕ) (log : List LogEntry) (n : ℕ) (entry : LogEntry) (j q : ℕ) → q ≡ m + n → slice_get log n ≡ Some entry → j < length entry.chain.steps → Contains (all_places m log) (at_step q (suc j))
+unfolding all_places
+place_there m [] n entry j q e h l = cc
+place_there m (first ∷ log) zero entry j q e h l =
+    let same : first ≡ entry = cc in
+    let number : m ≡ q = omega (arith, e) in
+    Contains-append_left (step_places m zero first.chain.steps) (all_places (suc m) log) (at_step q (suc j))
+    (subst (λ x. Contains (step_places m zero first.chain.steps) (at_step x (suc j))) number (step_there m zero first.chain.steps j j (omega arith) (subst (λ x. j < length x.chain.steps) (sym same) l)))
+place_there m (first ∷ log) (suc n) entry j q e h l =
+    Contains-append_right (step_places m zero first.chain.steps) (all_places (suc m) log) (at_step q (suc j)) (place_there (suc m) log n entry j q (omega (arith, e)) h l)
+
+-- the numbers of the clauses among some places
+clause_numbers : List Place → List ℕ
+clause_numbers [] = []
+clause_numbers (at_clause n ∷ ps) = n ∷ clause_numbers ps
+clause_numbers (at_step n k ∷ ps) = clause_numbers ps
+clause_numbers (at_result n ∷ ps) = clause_numbers ps
+
+number_place : (ps : List Place) (n : ℕ) → Contains (clause_numbers ps) n → Contains ps (at_clause n)
+unfolding clause_numbers
+number_place [] n h = absurd (omega (arith, h.1))
+number_place (at_clause m ∷ ps) n h =
+    contains_cases (Contains (at_clause m ∷ ps) (at_clause n)) n m (clause_numbers ps) h (λ same. subst (λ k. Contains (at_clause m ∷ ps) (at_clause k)) same (contains-first (at_clause m) ps))
+    (λ later. contains-later (at_clause n) (at_clause m) ps (number_place ps n later))
+number_place (at_step m k ∷ ps) n h = contains-later (at_clause n) (at_step m k) ps (number_place ps n h)
+number_place (at_result m ∷ ps) n h = contains-later (at_clause n) (at_result m) ps (number_place ps n h)
+
+place_number : (ps : List Place) (n : ℕ) → Contains ps (at_clause n) → Contains (clause_numbers ps) n
+unfolding clause_numbers
+place_number [] n h = absurd (omega (arith, h.1))
+place_number (at_clause m ∷ ps) n h =
+    contains_cases (Contains (m ∷ clause_numbers ps) n) (at_clause n) (at_clause m) ps h (λ same. let e : m ≡ n = cc in subst (Contains (m ∷ clause_numbers ps)) e (contains-first m (clause_numbers ps)))
+    (λ later. contains-later n m (clause_numbers ps) (place_number ps n later))
+place_number (at_step m k ∷ ps) n h = contains_cases (Contains (clause_numbers ps) n) (at_clause n) (at_step m k) ps h (λ same. cc) (λ later. place_number ps n later)
+place_number (at_result m ∷ ps) n h = contains_cases (Contains (clause_numbers ps) n) (at_clause n) (at_result m) ps h (λ same. cc) (λ later. place_number ps n later)
+
+numbers_distinct : (ps : List Place) → HasNoneTwice ps → AreDistinct (clause_numbers ps)
+unfolding clause_numbers
+numbers_distinct [] h = tt
+numbers_distinct (at_clause m ∷ ps) h = (λ c. h.0 (number_place ps m c), numbers_distinct ps h.1)
+numbers_distinct (at_step m k ∷ ps) h = numbers_distinct ps h.1
+numbers_distinct (at_result m ∷ ps) h = numbers_distinct ps h.1
+
+contains_map : {A B : Type 0} (f : A → B) (xs : List A) (x : A) → Contains xs x → Contains (map f xs) (f x)
+contains_map f [] x h = absurd (omega (arith, h.1))
+contains_map f (y ∷ xs) x h = contains_cases (Contains (map f (y ∷ xs)) (f x)) x y xs h (λ same. subst (λ z. Contains (map f (y ∷ xs)) (f z)) same (contains-first (f y) (map f xs))) (λ later. contains-later (f x) (f y) (map f xs) (contains_map f xs x later))
+
+module _ (log : List LogEntry) where
+  -- a place that is counted: a clause that is used, or a step of the log
+  abbrev IsCounted : Place → Type 0
+  IsCounted (at_clause n) = IsUsed log (at_clause n)
+  IsCounted (at_step n zero) = ⊥
+  IsCounted (at_step n (suc k)) = (entry : LogEntry) × (slice_get log n ≡ Some entry) × (k < length entry.chain.steps)
+  IsCounted (at_result n) = ⊥
+
+  abbrev IsCountedLine : Tree → Type 0
+  IsCountedLine t = IsCounted (made_at t)
+
+  abbrev IsUsedAt : Place → Type 0
+  IsUsedAt (at_clause n) = IsUsed log (at_clause n)
+  IsUsedAt (at_step n k) = IsUsed log (at_result n)
+  IsUsedAt (at_result n) = IsUsed log (at_result n)
+
+  used_at : (p : Premise) → IsUsed log (place_of p) → IsUsedAt (place_of p)
+  used_at (Clause n) h = h
+  used_at (Result n) h = h
+
+  abbrev AreCounted : Standing → Type 0
+  AreCounted (start n l) = Unit {0}
+  AreCounted (line t) = IsEach IsCountedLine t
+
+  joined_counted : (p : Place) (v : Var) (s t : Standing) → IsCounted p → AreCounted s → AreCounted t → AreCounted (joined p v s t)
+  joined_counted p v (start m l) (start n k) here first second = here
+  joined_counted p v (start m l) (line t) here first second = second
+  joined_counted p v (line t) (start n k) here first second = first
+  joined_counted p v (line t) (line u) here first second = (here, second, first)
+
+  stepped_counted : (p : Place) (v : Var) (a b : List SatLit) (s t : Standing) → IsCounted p → AreCounted s → AreCounted t → AreCounted (stepped p v a s b t)
+  stepped_counted p v a b s t here first second = go (holds a (positive v) && holds b (negative v))
+    where
+      go : (x : Bool) → AreCounted (if x then joined p v s t else joined p v t s)
+      go true = joined_counted p v s t here first second
+      go false = joined_counted p v t s here second first
+
+module _ (input : Input) where
+  are_counted : (p : Place) (c : List SatLit) (s : Standing) → Stands input p c s → IsUsedAt input.log p → AreCounted input.log s
+  are_counted p c s (of_start n l e) used = tt
+  are_counted p c s (of_instance n d i e) used = used
+  are_counted p c s (of_first n entry d t e h) used =
+      are_counted (place_of entry.chain.first) d t h (used_at input.log entry.chain.first (first_of n entry e used))
+  are_counted p c s (of_next n k entry step a b d x y e f h j r) used =
+      let premise = used_at input.log step.premise (step_of n entry step e used (contains-get entry.chain.steps k step f)) in
+      stepped_counted input.log (at_step n (suc k)) step.var a b x y (entry, e, slice_get_within entry.chain.steps k step f) (are_counted (at_step n k) a x h used) (are_counted (place_of step.premise) b y j premise)
+  are_counted p c s (of_result n entry d t e h) used = are_counted (at_step n (length entry.chain.steps)) d t h used
+
+-- a line stands at no later place than one that is made where it is
+number_bound : (lines : List Tree) (i : ℕ) (t u : Tree) → slice_get lines i ≡ Some t → same_line u t ≡ true → number_in lines u ≤ i
+number_bound [] i t u h e = cc
+number_bound (x ∷ lines) zero t u h e =
+    let same : x ≡ t = cc in
+    let first : number_in (x ∷ lines) u ≡ 0 = ap (λ b. cond (not b) (1 + number_in lines u) 0) (subst (λ y. same_line u y ≡ true) (sym same) e) in
+    omega (arith, first)
+number_bound (x ∷ lines) (suc i) t u h e = go (same_line u x) refl (number_bound lines i t u h e)
+  where
+    go : (b : Bool) → same_line u x ≡ b → number_in lines u ≤ i → number_in (x ∷ lines) u ≤ suc i
+    go true is rest = let first : number_in (x ∷ lines) u ≡ 0 = ap (λ b. cond (not b) (1 + number_in lines u) 0) is in omega (arith, first)
+    go false is rest = let first : number_in (x ∷ lines) u ≡ 1 + number_in lines u = ap (λ b. cond (not b) (1 + number_in lines u) 0) is in omega (arith, first, rest)
+
+module _ (Is : Tree → Type 0) (trees : List Tree) (ordered : IsOrdered Is trees) where
+  -- no two lines are made at one place
+  apart : (front back : List Tree) (t : Tree) → trees ≡ front ++ t ∷ back → Contains (map made_at back) (made_at t) → ⊥
+  apart front back t e h =
+      let other = mapped back h in
+      let later = other.1.0 in
+      let at : slice_get trees (length front) ≡ Some t = ap (λ k. slice_get k (length front)) e ∙ get-middle front back t in
+      let there : slice_get trees (suc (length front) + later) ≡ Some other.0 = ap (λ k. slice_get k (suc (length front) + later)) e ∙ behind front t back later other.0 other.1.1 in
+      let number = ordered.numbered (suc (length front) + later) other.0 there in
+      let same : same_line other.0 t ≡ true = subst (λ p. same_place p (made_at t) ≡ true) (sym other.1.2) (same_place-refl (made_at t)) in
+      let few = number_bound trees (length front) t other.0 at same in
+      absurd (omega (arith, number, few))
+    where
+      mapped : (back : List Tree) → Contains (map made_at back) (made_at t) → (u : Tree) × ((i : ℕ) × (slice_get back i ≡ Some u) × (made_at u ≡ made_at t))
+      mapped [] h = absurd (omega (arith, h.1))
+      mapped (u ∷ back) h = contains_cases ((w : Tree) × ((i : ℕ) × (slice_get (u ∷ back) i ≡ Some w) × (made_at w ≡ made_at t))) (made_at t) (made_at u) (map made_at back) h (λ same. (u, (zero, refl, same))) (λ later. let r = mapped back later in (r.0, (suc r.1.0, r.1.1, r.1.2)))
+
+      behind : (front : List Tree) (t : Tree) (back : List Tree) (i : ℕ) (u : Tree) → slice_get back i ≡ Some u → slice_get (front ++ t ∷ back) (suc (length front) + i) ≡ Some u
+      behind [] t back i u h = let e : suc i ≡ suc (length {A = Tree} []) + i = omega arith in subst (λ k. slice_get (t ∷ back) k ≡ Some u) e h
+      behind (x ∷ front) t back i u h = let e : suc (suc (length front) + i) ≡ suc (length (x ∷ front)) + i = omega arith in subst (λ k. slice_get (x ∷ (front ++ t ∷ back)) k ≡ Some u) e (behind front t back i u h)
+
+  none_twice : (front back : List Tree) → trees ≡ front ++ back → HasNoneTwice (map made_at back)
+  none_twice front [] e = tt
+  none_twice front (t ∷ back) e = (apart front back t e, none_twice (front ++ t ∷ []) back (e ∙ sym (append_assoc front (t ∷ []) back)))
+
+  pub places_once : HasNoneTwice (map made_at trees)
+  places_once = none_twice [] trees refl
+
+-- the counted places are among those of the log and those of clauses
+within_counted : (log : List LogEntry) (ps : List Place) → ((p : Place) → Contains ps p → IsCounted log p) → (p : Place) → Contains ps p → Contains (all_places 0 log ++ map at_clause (clause_numbers ps)) p
+within_counted log ps counted (at_clause n) h =
+    Contains-append_right (all_places 0 log) (map at_clause (clause_numbers ps)) (at_clause n) (contains_map at_clause (clause_numbers ps) n (place_number ps n h))
+within_counted log ps counted (at_step n zero) h = absurd (counted (at_step n zero) h)
+within_counted log ps counted (at_step n (suc k)) h =
+    let there = counted (at_step n (suc k)) h in
+    Contains-append_left (all_places 0 log) (map at_clause (clause_numbers ps)) (at_step n (suc k)) (place_there 0 log n there.0 k n (omega arith) there.1 there.2)
+within_counted log ps counted (at_result n) h = absurd (counted (at_result n) h)
+
+each_place : (P : Place → Type 0) (trees : List Tree) → ((i : ℕ) (t : Tree) → slice_get trees i ≡ Some t → P (made_at t)) → (p : Place) → Contains (map made_at trees) p → P p
+each_place P [] all p h = absurd (omega (arith, h.1))
+each_place P (t ∷ trees) all p h = contains_cases (P p) p (made_at t) (map made_at trees) h (λ same. subst P same (all zero t refl)) (λ later. each_place P trees (λ i u at. all (suc i) u at) p later)
+
+pub lines_few : (input : Input) (n : ℕ) (t : Tree) → length input.log ≡ n + 1 → Stands input (at_result n) [] (line t) → (Is : Tree → Type 0) → IsOrdered Is (walked [] t) → AreFew input.log (lines_from input.atoms t)
+lines_few input n t last stands Is ordered =
+    let trees = walked [] t in
+    let ps = map made_at trees in
+    let is = are_counted input (at_result n) [] (line t) stands (last_result n last) in
+    let counted = each_place (IsCounted input.log) trees (walked_all (IsCountedLine input.log) t [] (λ i u h. cc) is) in
+    let once = places_once Is trees ordered in
+    let ys = all_places 0 input.log ++ map at_clause (clause_numbers ps) in
+    let bound = no_longer ps ys once (within_counted input.log ps counted) in
+    let lines = length-map trees (line_of input.atoms trees) in
+    let places = length-map trees made_at in
+    let both = length-append (all_places 0 input.log) (map at_clause (clause_numbers ps)) in
+    let steps = all_places-length 0 input.log in
+    let numbers = length-map (clause_numbers ps) at_clause in
+    record {
+      used = clause_numbers ps;
+      distinct = numbers_distinct ps once;
+      each_used = λ m h. counted (at_clause m) (number_place ps m h);
+      few = omega (arith, bound, lines, places, both, steps, numbers);
+    }

@@ -1,0 +1,11 @@
+pub mod Input
+pub mod Trees
+pub mod Stands
+pub mod Lines
+pub mod NeededRows
+pub mod Rebuilt
+pub mod Given
+pub mod Trimmed
+pub mod Used
+pub mod Examples
+pub mod Laws

@@ -1,0 +1,5 @@
+use Rattle.tableau_rebuild.specs.Means.Arenas.{IsOnChain}
+use Rattle.tableau_rebuild.proofs.arena.Arena.chain.Given as goal
+
+abbrev pub invariant-loop-k : goal.invariant-loop-k
+invariant-loop-k l = IsOnChain l.steps l.log l.fn.self l.self l.n l.k l.resolver l.standing

@@ -1,0 +1,5 @@
+pub mod Uses
+pub mod Tables
+pub mod Conditions
+pub mod UsedInstances
+pub mod Means

@@ -1,0 +1,5 @@
+-- Means of proof: what private contracts and proofs speak of.
+pub mod Drafts
+pub mod Walks
+pub mod Arenas
+pub mod Numbers

@@ -1,0 +1,12 @@
+//! Refutations from the log of a solver.
+#![tactic(auto)]
+
+mod arena;
+mod draft;
+mod numbering;
+mod reached;
+mod refutation;
+mod walk;
+
+pub use reached::{UsedList, used};
+pub use refutation::rebuild;
