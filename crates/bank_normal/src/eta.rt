@@ -49,7 +49,7 @@ impl Normaliser {
             Ty::Arrow(argument, rest) => {
                 let none = Ids::new(self.alloc);
                 let variable = self.eta_spine(bank, argument, Head::Bound(0), none)?;
-                let mut all = self.lift_all(bank, LEVELS, 1, 0, &args)?;
+                let mut all = self.lift_all_deep(bank, LEVELS, 1, 0, &args)?;
                 all.push(variable)?;
                 let head = lift_head(1, 0, head)?;
                 let body = self.eta_spine(bank, rest, head, all)?;

@@ -1,6 +1,7 @@
 //! Normal forms of shared terms, with memory of what was worked out before.
 #![tactic(auto)]
 
+mod deep;
 mod eta;
 mod law;
 mod lift;

@@ -1,6 +1,7 @@
 use Rattle.std.proofs.Common.{◌≡◌, ◌<◌, length, map, refl, sym, ap, subst, ◌∙◌, arith}
 use Rattle.stt_core.specs.Lambda.{bound, applied}
-use Rattle.std.specs.Prelude.{All, ◌-◌}
+use Rattle.std.specs.Prelude.{All, ◌-◌, IfSome}
+use Rattle.std.proofs.lemmas.List.Elements.{All-pop}
 use Rattle.stt_core.proofs.ListLaws.{mapped_get}
 use Rattle.bank_normal.proofs.PutLaws.{lam_put_ready, lam_put, head_put_ready, head_put, variable_ready, variable_put}
 use Rattle.stt_core.specs.View.{the_type, the_head}
@@ -13,14 +14,16 @@ use Rattle.term_bank.proofs.ClosedLaws.{missing_least}
 use Rattle.term_bank.proofs.GrowLaws.{grows_on, grown_at, grown_all, grown_within, at_has, has_within}
 use Rattle.bank_normal.specs.Right.{term_ways, IsReplaced, IsApplied, AllKnown}
 use Rattle.bank_normal.specs.Means.Replacing.{ReplacesIn}
+use Rattle.bank_normal.specs.Means.Parts.{ReplacesTask}
+use Rattle.bank_normal.proofs.PartLaws.{waiting_fits}
 use Rattle.bank_normal.proofs.NodeLaws.{have_more, within_at, all_below}
 use Rattle.bank_normal.proofs.RightLaws.{right_grown, all_known, replaced_known, applied_known}
 use Rattle.bank_normal.proofs.ReplaceLaws.{replace_none, body_fits, argument_fits, head_typed, function_fits, function_applied, below_is, above_is, constant_is}
 use Rattle.bank_normal.proofs.TurnLaws.{turn_fits, next_turn, last_turn, replaces_grown}
 use Rattle.bank_normal.proofs.normaliser.Normaliser.+apply.Goals as goal
 
-pub apply-replace-requires : goal.apply-replace-requires
-apply-replace-requires t c =
+pub apply-replace_deep-requires : goal.apply-replace_deep-requires
+apply-replace_deep-requires t c =
     let b = c.args.bank.now in
     let body = c.body_of-body.ensures in (
       omega (arith, c.decreases, c.in_ok-lower-in-None.ensures),
@@ -39,7 +42,7 @@ apply-replace-requires t c =
 pub apply-returns-in_err-insert-in-None-clause-right : goal.apply-returns-in_err-insert-in-None-clause-right
 apply-returns-in_err-insert-in-None-clause-right t c =
     let r = c.in_ok-made-in-None.ensures.right in
-    record { lifted = r.lifted; replaced = r.replaced; applied = subst (AllKnown (IsApplied c.replace.new.bank)) (sym c.in_err-insert-in-None.ensures.err) r.applied }
+    record { lifted = r.lifted; replaced = r.replaced; applied = subst (AllKnown (IsApplied c.replace_deep.new.bank)) (sym c.in_err-insert-in-None.ensures.err) r.applied }
 
 pub apply-returns-in-Some-clause-term : goal.apply-returns-in-Some-clause-term
 apply-returns-in-Some-clause-term t c = (c.requires.right.applied _ c.in-Some.ensures).result_is
@@ -48,19 +51,19 @@ pub apply-returns-in_ok-insert-in-None-clause-term : goal.apply-returns-in_ok-in
 apply-returns-in_ok-insert-in-None-clause-term t c =
     let b = c.args.bank.now in
     let body = c.body_of-body.ensures in
-    subst (HasTerm c.replace.new.bank c.in_ok-made-in-None.made) (function_applied (content_scope b) body.type (term_at b.terms c.args.f) (term_at b.terms c.body_of-body.result) (term_at b.terms c.args.arg) body.is c.requires.fits) c.in_ok-made-in-None.ensures.term
+    subst (HasTerm c.replace_deep.new.bank c.in_ok-made-in-None.made) (function_applied (content_scope b) body.type (term_at b.terms c.args.f) (term_at b.terms c.body_of-body.result) (term_at b.terms c.args.arg) body.is c.requires.fits) c.in_ok-made-in-None.ensures.term
 
 pub apply-returns-in_ok-insert-in-None-clause-right : goal.apply-returns-in_ok-insert-in-None-clause-right
 apply-returns-in_ok-insert-in-None-clause-right t c =
     let b = c.args.bank.now in
     let e = c.in_ok-made-in-None.ensures in
     let body = c.body_of-body.ensures in
-    let made = subst (HasTerm c.replace.new.bank c.in_ok-made-in-None.made) (function_applied (content_scope b) body.type (term_at b.terms c.args.f) (term_at b.terms c.body_of-body.result) (term_at b.terms c.args.arg) body.is c.requires.fits) e.term in
+    let made = subst (HasTerm c.replace_deep.new.bank c.in_ok-made-in-None.made) (function_applied (content_scope b) body.type (term_at b.terms c.args.f) (term_at b.terms c.body_of-body.result) (term_at b.terms c.args.arg) body.is c.requires.fits) e.term in
     record {
       lifted = e.right.lifted;
       replaced = e.right.replaced;
-      applied = all_known (IsApplied c.replace.new.bank) c.replace.new.self.applied c.insert.new.self _ e.right.applied c.in_ok-insert-in-None.ensures.only
-          (applied_known b c.replace.new.bank c.args.arg c.args.f c.in_ok-made-in-None.made e.grows c.requires.f_within c.requires.arg_within made);
+      applied = all_known (IsApplied c.replace_deep.new.bank) c.replace_deep.new.self.applied c.insert.new.self _ e.right.applied c.in_ok-insert-in-None.ensures.only
+          (applied_known b c.replace_deep.new.bank c.args.arg c.args.f c.in_ok-made-in-None.made e.grows c.requires.f_within c.requires.arg_within made);
     }
 
 pub apply_all-apply-requires : goal.apply_all-apply-requires
@@ -254,11 +257,11 @@ replace_head-apply_all-requires t c =
     let same : h ≡ bound c.args.k = ap the_head c.in-Bound.is ∙ ap bound c.if-j-k-2.true in (
       omega (arith, c.decreases),
       (
-        has_within c.lift.new.bank c.in_ok-f-in-Bound.f _ e.term,
+        has_within c.lift_deep.new.bank c.in_ok-f-in-Bound.f _ e.term,
         (
-          grown_all b c.lift.new.bank c.args.args.now e.grows c.requires.within,
+          grown_all b c.lift_deep.new.bank c.args.args.now e.grows c.requires.within,
           (
-            variable_ready b c.lift.new.bank c.args.arg c.args.k c.in_ok-f-in-Bound.f h c.args.args.now e.grows c.requires.within e.term same c.requires.fits,
+            variable_ready b c.lift_deep.new.bank c.args.arg c.args.k c.in_ok-f-in-Bound.f h c.args.args.now e.grows c.requires.within e.term same c.requires.fits,
             e.right,
           ),
         ),
@@ -299,7 +302,7 @@ replace_head-returns-in_ok-apply_all-in-Bound-clause-term t c =
     let h = the_head c.args.head.now in
     let e = c.in_ok-f-in-Bound.ensures in
     let same : h ≡ bound c.args.k = ap the_head c.in-Bound.is ∙ ap bound c.if-j-k-2.true in
-    variable_put b c.lift.new.bank c.args.arg c.args.k c.in_ok-f-in-Bound.f h c.args.args.now e.grows c.requires.within e.term same c.requires.fits c.apply_all.new.bank c.in_ok-apply_all-in-Bound.field-0 c.in_ok-apply_all-in-Bound.ensures.term
+    variable_put b c.lift_deep.new.bank c.args.arg c.args.k c.in_ok-f-in-Bound.f h c.args.args.now e.grows c.requires.within e.term same c.requires.fits c.apply_all.new.bank c.in_ok-apply_all-in-Bound.field-0 c.in_ok-apply_all-in-Bound.ensures.term
 
 pub replace_head-returns-in_ok-intern_app-in-Bound-2-clause-term : goal.replace_head-returns-in_ok-intern_app-in-Bound-2-clause-term
 replace_head-returns-in_ok-intern_app-in-Bound-2-clause-term t c =
@@ -321,3 +324,38 @@ replace_head-returns-in_ok-intern_app-in_default t c =
     let d = constant_head c.args.head.now c.in_default.not-Bound in
     let e = c.in_ok-intern_app-in_default.ensures in
     record { term = subst (HasTerm c.intern_app-in_default.new.self c.in_ok-intern_app-in_default.field-0) (constant_is (term_ways r) c.args.k r h (map (term_at b.terms) c.as_slice-in_default.result.now) vs d.0 d.1 (ap (map (term_at b.terms)) c.as_slice-in_default.ensures)) e.term; grows = e.grows; right = right_grown c.args.self.now b c.intern_app-in_default.new.self e.grows c.requires.right }
+
+pub replace_after_parts-loop-preserved : goal.replace_after_parts-loop-preserved
+replace_after_parts-loop-preserved t c =
+    let i = c.loop.invariant in
+    let e = c.in_ok-replace_task-in-Some.ensures in
+    let arg_within = grown_within c.args.bank.now c.loop.bank c.args.arg i.1 c.requires.arg_within in
+    let p = All-pop (ReplacesTask c.loop.bank c.args.arg) c.loop.tasks.items c.pop.new.self.items c.pop.result c.pop.ensures.items i.0 in
+    let fits = subst (λ o. IfSome o (ReplacesTask c.loop.bank c.args.arg)) c.in-Some.is p.1 in (
+      waiting_fits c.loop.bank c.replace_task.new.bank c.args.arg c.in-Some.task c.pop.new.self.items c.replace_task.new.tasks.items e.grows arg_within p.0 fits e.tasks,
+      grows_on c.args.bank.now c.loop.bank c.replace_task.new.bank i.1 e.grows,
+      e.right,
+    )
+
+pub replace_after_parts-replace_task-requires : goal.replace_after_parts-replace_task-requires
+replace_after_parts-replace_task-requires t c =
+    let i = c.loop.invariant in
+    let p = All-pop (ReplacesTask c.loop.bank c.args.arg) c.loop.tasks.items c.pop.new.self.items c.pop.result c.pop.ensures.items i.0 in
+    let fits = subst (λ o. IfSome o (ReplacesTask c.loop.bank c.args.arg)) c.in-Some.is p.1 in (
+      omega (arith, c.decreases),
+      (fits.0, (grown_within c.args.bank.now c.loop.bank c.args.arg i.1 c.requires.arg_within, (fits.1, i.2))),
+    )
+
+pub replace_after_parts-replace-requires : goal.replace_after_parts-replace-requires
+replace_after_parts-replace-requires t c =
+    let b = c.args.bank.now in
+    let i = c.loop.invariant in (
+      omega (arith, c.decreases),
+      (
+        grown_within b c.loop.bank c.args.id i.1 c.requires.within,
+        (
+          grown_within b c.loop.bank c.args.arg i.1 c.requires.arg_within,
+          (replaces_grown b c.loop.bank 0 c.args.arg c.args.id i.1 c.requires.arg_within c.requires.within c.requires.fits, i.2),
+        ),
+      ),
+    )

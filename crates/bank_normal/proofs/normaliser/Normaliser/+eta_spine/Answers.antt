@@ -43,8 +43,8 @@ eta_spine-requires-in-Arrow t c =
     let ty : the_type c.args.ty.now ≡ arrow (the_type c.deref.result.now) (the_type c.deref-in-Arrow.result.now) = ap the_type c.in-Arrow.is ∙ ap₂ (λ x y. arrow (the_type x) (the_type y)) (sym c.deref.ensures) (sym c.deref-in-Arrow.ensures) in
     let v = c.in_ok-variable-in-Arrow.ensures in
     let l = c.in_ok-all-in-Arrow.ensures in
-    let ready = inner_ready b c.eta_spine.new.bank c.lift_all.new.bank (the_type c.args.ty.now) (the_type c.deref.result.now) (the_type c.deref-in-Arrow.result.now) (the_head c.args.head) (the_head c.in_ok-head-in-Arrow.head) c.args.args c.new-none.result c.in_ok-all-in-Arrow.all c.push.new.self c.in_ok-variable-in-Arrow.variable v.grows l.grows c.requires.within ty c.new-none.ensures v.term l.terms c.in_ok-push-in-Arrow.ensures.ok c.in_ok-head-in-Arrow.ensures c.requires.fits in
-    let within = inner_within b c.eta_spine.new.bank c.lift_all.new.bank (the_type c.args.ty.now) (the_type c.deref.result.now) (the_type c.deref-in-Arrow.result.now) (the_head c.args.head) (the_head c.in_ok-head-in-Arrow.head) c.args.args c.new-none.result c.in_ok-all-in-Arrow.all c.push.new.self c.in_ok-variable-in-Arrow.variable v.grows l.grows c.requires.within ty c.new-none.ensures v.term l.terms c.in_ok-push-in-Arrow.ensures.ok c.in_ok-head-in-Arrow.ensures in
+    let ready = inner_ready b c.eta_spine.new.bank c.lift_all_deep.new.bank (the_type c.args.ty.now) (the_type c.deref.result.now) (the_type c.deref-in-Arrow.result.now) (the_head c.args.head) (the_head c.in_ok-head-in-Arrow.head) c.args.args c.new-none.result c.in_ok-all-in-Arrow.all c.push.new.self c.in_ok-variable-in-Arrow.variable v.grows l.grows c.requires.within ty c.new-none.ensures v.term l.terms c.in_ok-push-in-Arrow.ensures.ok c.in_ok-head-in-Arrow.ensures c.requires.fits in
+    let within = inner_within b c.eta_spine.new.bank c.lift_all_deep.new.bank (the_type c.args.ty.now) (the_type c.deref.result.now) (the_type c.deref-in-Arrow.result.now) (the_head c.args.head) (the_head c.in_ok-head-in-Arrow.head) c.args.args c.new-none.result c.in_ok-all-in-Arrow.all c.push.new.self c.in_ok-variable-in-Arrow.variable v.grows l.grows c.requires.within ty c.new-none.ensures v.term l.terms c.in_ok-push-in-Arrow.ensures.ok c.in_ok-head-in-Arrow.ensures in
     (omega (arith, c.decreases, ap type_size ty), (within, (ready, l.right)))
 
 pub intern_lam-requires-clause-within : goal.intern_lam-requires-clause-within
@@ -58,7 +58,7 @@ intern_lam-requires-clause-typed t c =
     let l = c.in_ok-all-in-Arrow.ensures in
     let d = c.eta_spine-in-Arrow.new.bank in
     subst (λ x. IsTypedTerm (content_scope d) (lam (the_type x) (term_at d.terms c.in_ok-body-in-Arrow.body))) (c.deref.ensures ∙ sym c.deref-in-Arrow-2.ensures)
-    (eta_ready b c.eta_spine.new.bank c.lift_all.new.bank (the_type c.args.ty.now) (the_type c.deref.result.now) (the_type c.deref-in-Arrow.result.now) (the_head c.args.head) (the_head c.in_ok-head-in-Arrow.head) c.args.args c.new-none.result c.in_ok-all-in-Arrow.all c.push.new.self c.in_ok-variable-in-Arrow.variable v.grows l.grows c.requires.within ty c.new-none.ensures v.term l.terms c.in_ok-push-in-Arrow.ensures.ok c.in_ok-head-in-Arrow.ensures d c.in_ok-body-in-Arrow.body c.in_ok-body-in-Arrow.ensures.grows c.in_ok-body-in-Arrow.ensures.term c.requires.fits)
+    (eta_ready b c.eta_spine.new.bank c.lift_all_deep.new.bank (the_type c.args.ty.now) (the_type c.deref.result.now) (the_type c.deref-in-Arrow.result.now) (the_head c.args.head) (the_head c.in_ok-head-in-Arrow.head) c.args.args c.new-none.result c.in_ok-all-in-Arrow.all c.push.new.self c.in_ok-variable-in-Arrow.variable v.grows l.grows c.requires.within ty c.new-none.ensures v.term l.terms c.in_ok-push-in-Arrow.ensures.ok c.in_ok-head-in-Arrow.ensures d c.in_ok-body-in-Arrow.body c.in_ok-body-in-Arrow.ensures.grows c.in_ok-body-in-Arrow.ensures.term c.requires.fits)
 
 pub returns-in_ok-intern_lam-in-Arrow-clause-term : goal.returns-in_ok-intern_lam-in-Arrow-clause-term
 returns-in_ok-intern_lam-in-Arrow-clause-term t c =
@@ -67,7 +67,7 @@ returns-in_ok-intern_lam-in-Arrow-clause-term t c =
     let v = c.in_ok-variable-in-Arrow.ensures in
     let l = c.in_ok-all-in-Arrow.ensures in
     let d = c.eta_spine-in-Arrow.new.bank in
-    eta_made b c.eta_spine.new.bank c.lift_all.new.bank (the_type c.args.ty.now) (the_type c.deref.result.now) (the_type c.deref-in-Arrow.result.now) (the_head c.args.head) (the_head c.in_ok-head-in-Arrow.head) c.args.args c.new-none.result c.in_ok-all-in-Arrow.all c.push.new.self c.in_ok-variable-in-Arrow.variable v.grows l.grows c.requires.within ty c.new-none.ensures v.term l.terms c.in_ok-push-in-Arrow.ensures.ok c.in_ok-head-in-Arrow.ensures d c.in_ok-body-in-Arrow.body c.in_ok-body-in-Arrow.ensures.grows c.in_ok-body-in-Arrow.ensures.term c.intern_lam.new.self c.in_ok-intern_lam-in-Arrow.field-0
+    eta_made b c.eta_spine.new.bank c.lift_all_deep.new.bank (the_type c.args.ty.now) (the_type c.deref.result.now) (the_type c.deref-in-Arrow.result.now) (the_head c.args.head) (the_head c.in_ok-head-in-Arrow.head) c.args.args c.new-none.result c.in_ok-all-in-Arrow.all c.push.new.self c.in_ok-variable-in-Arrow.variable v.grows l.grows c.requires.within ty c.new-none.ensures v.term l.terms c.in_ok-push-in-Arrow.ensures.ok c.in_ok-head-in-Arrow.ensures d c.in_ok-body-in-Arrow.body c.in_ok-body-in-Arrow.ensures.grows c.in_ok-body-in-Arrow.ensures.term c.intern_lam.new.self c.in_ok-intern_lam-in-Arrow.field-0
     (subst (λ x. HasTerm c.intern_lam.new.self c.in_ok-intern_lam-in-Arrow.field-0 (lam (the_type x) (term_at d.terms c.in_ok-body-in-Arrow.body))) (c.deref-in-Arrow-2.ensures ∙ sym c.deref.ensures) c.in_ok-intern_lam-in-Arrow.ensures.term)
 
 pub returns-in_ok-intern_lam-in-Arrow-clause-right : goal.returns-in_ok-intern_lam-in-Arrow-clause-right
