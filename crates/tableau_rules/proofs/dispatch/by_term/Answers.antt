@@ -1,4 +1,4 @@
-use Rattle.std.proofs.Common.{refl, List, Some, subst}
+use Rattle.std.proofs.Common.{refl, List, subst}
 use Rattle.stt_tableau.specs.Witnesses.{Row}
 use Rattle.stt_tableau.specs.declared.refutation.RuleUse.TheVariants as table
 use Rattle.literal_map.specs.declared.instance.RuleKind.TheVariants as kind
