@@ -1,19 +1,17 @@
 -- Closed predicates, and what operators on predicates give for them.
-use Rattle.std.proofs.Common.{◌≡◌, ◌<◌, ◌+◌, ℕ, Bool, true, false, List, [], ◌∷◌, Some, None, Option, IsTrue, length, ◌⊎◌, inl, inr, refl, sym, ap, ap₂, subst, subst₂, ◌∙◌, true≢false, if◌then◌else◌, arith}
+use Rattle.std.proofs.Common.{◌≡◌, ◌<◌, ◌+◌, ℕ, Bool, true, false, [], ◌∷◌, Some, None, Option, IsTrue, length, inl, inr, sym, ap, ap₂, subst, subst₂, ◌∙◌, true≢false, if◌then◌else◌, arith}
 use Rattle.std.specs.Prelude.{◌↔◌}
 use Rattle.std.proofs.lemmas.Option.{same_Some}
 use Rattle.std.proofs.lemmas.Bool.{and_from, lt-ltb}
 use Rattle.stt_core.specs.SimpleType.{SimpleType, base, formula, arrow, predicate, is_declared}
-use Rattle.stt_core.specs.Lambda.{Lambda, constant, choice, description, app}
+use Rattle.stt_core.specs.Lambda.{Lambda, app}
 use Rattle.stt_core.specs.Occurrence.{IsClosed}
-use Rattle.stt_core.specs.Typing.{Scope, type_of, constant_type}
+use Rattle.stt_core.specs.Typing.{type_of}
 use Rattle.stt_core.specs.Canonical.{IsCanonical, IsNeutral}
-use Rattle.stt_core.specs.Means.CanonicalType.{canonical_type}
 use Rattle.stt_core.proofs.CanonicalTypes.{canonical_type-at}
 use Rattle.stt_normal.specs.Normal.{eta, apply}
 use Rattle.stt_normal.proofs.NormalValues.{canonical-eta}
 use Rattle.stt_normal.proofs.EtaReplace.{apply_each-eta}
-use Rattle.stt_tableau.specs.Rules.{chosen, described}
 use Rattle.stt_tableau.proofs.FunctionLaws.{predicate_declared}
 use Rattle.term_bank.specs.Content.{Content, content_scope, HasTerm, Grows}
 use Rattle.term_bank.specs.Terms.{term_at}

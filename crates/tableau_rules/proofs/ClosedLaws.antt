@@ -1,5 +1,5 @@
 -- Closed canonical terms.
-use Rattle.std.proofs.Common.{◌≡◌, ◌<◌, ◌≤◌, ℕ, Bool, true, false, List, [], ◌∷◌, Some, None, IsTrue, Option, length, refl, sym, ap, subst, ◌∙◌, arith, eq-eqb, true≢false}
+use Rattle.std.proofs.Common.{◌≡◌, ◌≤◌, Bool, false, List, [], ◌∷◌, IsTrue, length, refl, sym, ap, subst, ◌∙◌, arith, eq-eqb, true≢false}
 use Rattle.std.specs.Prelude.{◌↔◌}
 use Rattle.std.proofs.lemmas.Option.{slice_get_within, same_Some}
 use Rattle.stt_core.specs.SimpleType.{SimpleType, base, arrow, same_type}
@@ -43,8 +43,9 @@ pub type_tells : (scope : Scope) (a c : SimpleType) (t : Lambda) (r : Bool) → 
 type_tells scope a c t r h e = (
   λ w. subst (λ x. IsCanonical scope [] x t) (same_type-true c a (sym e ∙ w)) h,
   λ k.
-    let same : c ≡ a = same_Some c a (sym (canonical_type-at scope [] c t h) ∙ canonical_type-at scope [] a t k) in
-    e ∙ ap (λ x. same_type x a) same ∙ same_type_refl a)
+      let same : c ≡ a = same_Some c a (sym (canonical_type-at scope [] c t h) ∙ canonical_type-at scope [] a t k) in
+      e ∙ ap (λ x. same_type x a) same ∙ same_type_refl a,
+)
 
 pub open_tells : (scope : Scope) (a : SimpleType) (t : Lambda) (r : Bool) → (IsTrue r ↔ IsClosed t) → r ≡ false → IsTrue false ↔ IsCanonical scope [] a t
 open_tells scope a t r d e = (λ w. absurd (true≢false (sym w)), λ k. absurd (true≢false (sym (d.1 (canonical_closed scope a t k)) ∙ e)))

@@ -1,20 +1,19 @@
 -- Drafts of confrontation.
-use Rattle.std.proofs.Common.{◌≡◌, ◌<◌, ℕ, suc, true, false, Bool, List, [], ◌∷◌, Some, None, length, refl, sym, ap, ap₂, subst, subst₂, ◌∙◌}
+use Rattle.std.proofs.Common.{◌≡◌, ◌<◌, ℕ, suc, true, false, List, [], ◌∷◌, Some, None, length, refl, sym, ap, ap₂, subst, subst₂, ◌∙◌}
 use Rattle.stt_core.specs.SimpleType.{SimpleType, base, formula}
-use Rattle.stt_core.specs.Lambda.{Lambda, eq}
+use Rattle.stt_core.specs.Lambda.{eq}
 use Rattle.stt_core.specs.Canonical.{IsCanonical}
 use Rattle.stt_core.specs.View.{the_type}
-use Rattle.stt_tableau.specs.Literals.{Literal, minus, opposite, literal}
+use Rattle.stt_tableau.specs.Literals.{minus, opposite, literal}
 use Rattle.stt_tableau.specs.Witnesses.{Row}
 use Rattle.stt_tableau.specs.Rules.{IsInstance}
-use Rattle.stt_tableau.specs.declared.refutation.RuleUse.{RuleUse}
 use Rattle.stt_tableau.specs.declared.refutation.RuleUse.TheVariants.{Con}
 use Rattle.stt_tableau.proofs.InstanceLaws.{con_is}
 use Rattle.stt_tableau.proofs.EquationLaws.{eq_canonical}
-use Rattle.term_bank.specs.Content.{Content, content_scope, HasTerm, Grows}
+use Rattle.term_bank.specs.Content.{Content, content_scope, Grows}
 use Rattle.term_bank.specs.Terms.{term_at}
 use Rattle.term_bank.proofs.GrowLaws.{grown_scope, grown_at, grown_term, grows_on, has_at, has_within}
-use Rattle.tableau_rules.specs.Means.Drafted.{principal_at, signed_at, alternatives_at, IsPrincipal, AreWithin, Drafted, IsDifference, DifferFromBoth}
+use Rattle.tableau_rules.specs.Means.Drafted.{principal_at, signed_at, alternatives_at, IsPrincipal, Drafted, IsDifference, DifferFromBoth}
 use Rattle.tableau_rules.specs.Means.Parts.{IsEquationOf}
 use Rattle.tableau_rules.specs.Means.Typed.{AreSides}
 use Rattle.tableau_rules.specs.declared.draft.Principal.{Principal}
@@ -22,7 +21,6 @@ use Rattle.tableau_rules.specs.declared.draft.Signed.{Signed}
 use Rattle.tableau_rules.specs.declared.part.Equation.{Equation}
 use Rattle.tableau_rules.proofs.DraftLaws.{stands}
 use Rattle.tableau_rules.proofs.GrownLaws.{principal_grown}
-use Rattle.tableau_rules.proofs.TypedLaws.{sides_grown}
 use Rattle.tableau_rules.proofs.FoundLaws.{con_none}
 
 pub difference_grown : (b c d : Content) (a : SimpleType) (s t : ℕ) (x : Signed) → Grows c d → IsDifference b c a s t x → IsDifference b d a s t x
@@ -82,15 +80,16 @@ module _ (b : Content) (p q : Principal) (e o : Equation) (hp : IsPrincipal b p)
         let h' = difference_of b c d (the_type e.ty.now) e.left o.right h x left.1 right.2 second.0 in
         let k' = difference_of b c d (the_type e.ty.now) e.right o.right k x left.2 right.2 second.1 in
         let all = con_is (content_scope b) rows (principal_at b p ∷ principal_at b q ∷ []) 0 1 n (the_type e.ty.now) (the_type o.ty.now) is same (term_at b.terms e.left) (term_at b.terms e.right) (term_at b.terms o.left) (term_at b.terms o.right)
-            (signed_at d f, signed_at d g) (signed_at d h, signed_at d k) (alternatives_at d ((f ∷ g ∷ []) ∷ (h ∷ k ∷ []) ∷ []))
-            (stands b p true (eq (the_type e.ty.now) (term_at b.terms e.left) (term_at b.terms e.right)) sp left.0) (stands b q false (eq (the_type o.ty.now) (term_at b.terms o.left) (term_at b.terms o.right)) sq right.0)
-            (difference_is b d (the_type e.ty.now) e.left o.left f f', difference_is b d (the_type e.ty.now) e.right o.left g g')
-            (difference_is b d (the_type e.ty.now) e.left o.right h h', difference_is b d (the_type e.ty.now) e.right o.right k k') refl in
+        (signed_at d f, signed_at d g) (signed_at d h, signed_at d k) (alternatives_at d ((f ∷ g ∷ []) ∷ (h ∷ k ∷ []) ∷ []))
+        (stands b p true (eq (the_type e.ty.now) (term_at b.terms e.left) (term_at b.terms e.right)) sp left.0) (stands b q false (eq (the_type o.ty.now) (term_at b.terms o.left) (term_at b.terms o.right)) sq right.0)
+        (difference_is b d (the_type e.ty.now) e.left o.left f f', difference_is b d (the_type e.ty.now) e.right o.left g g')
+        (difference_is b d (the_type e.ty.now) e.left o.right h h', difference_is b d (the_type e.ty.now) e.right o.right k k') refl in
         let z = grows_on b c d x y in
-        subst (λ l. Drafted d rows (p ∷ q ∷ []) (Con 0 1) (Some l)) (sym w)
-        (((within f e.left o.left f', (within g e.right o.left g', tt)), ((within h e.left o.right h', (within k e.right o.right k', tt)), tt)),
+        subst (λ l. Drafted d rows (p ∷ q ∷ []) (Con 0 1) (Some l)) (sym w) (
+          ((within f e.left o.left f', (within g e.right o.left g', tt)), ((within h e.left o.right h', (within k e.right o.right k', tt)), tt)),
           subst (λ s. IsInstance s rows (principal_at d p ∷ principal_at d q ∷ []) (Con 0 1) (alternatives_at d ((f ∷ g ∷ []) ∷ (h ∷ k ∷ []) ∷ []))) (sym (grown_scope b d z))
-          (subst₂ (λ l m. IsInstance (content_scope b) rows (l ∷ m ∷ []) (Con 0 1) (alternatives_at d ((f ∷ g ∷ []) ∷ (h ∷ k ∷ []) ∷ []))) (sym (principal_grown b d p z hp)) (sym (principal_grown b d q z hq)) all))
+              (subst₂ (λ l m. IsInstance (content_scope b) rows (l ∷ m ∷ []) (Con 0 1) (alternatives_at d ((f ∷ g ∷ []) ∷ (h ∷ k ∷ []) ∷ []))) (sym (principal_grown b d p z hp)) (sym (principal_grown b d q z hq)) all),
+        )
       where
         within : (t : Signed) (i j : ℕ) → IsDifference b d (the_type e.ty.now) i j t → t.formula < length d.terms
         within t i j m = has_within d t.formula (eq (the_type e.ty.now) (term_at b.terms i) (term_at b.terms j)) m.has

@@ -1,16 +1,14 @@
 -- The types of witnesses in a bank.
-use Rattle.std.proofs.Common.{◌≡◌, ◌<◌, ◌≤◌, ◌+◌, ℕ, zero, suc, true, List, [], ◌∷◌, ◌++◌, map, length, get_or, Some, slice_get, refl, sym, ap, subst, ◌∙◌, append-nil, append_assoc, length-append, arith}
-use Rattle.std.specs.Prelude.{All}
+use Rattle.std.proofs.Common.{◌≡◌, ◌≤◌, ℕ, zero, suc, true, List, [], ◌∷◌, ◌++◌, map, length, Some, slice_get, refl, sym, ap, subst, ◌∙◌, append-nil, append_assoc, length-append, arith}
 use Rattle.std.proofs.lemmas.Option.{same_Some, slice_get_within}
 use Rattle.std.proofs.lemmas.List.{length-map}
-use Rattle.stt_core.specs.SimpleType.{SimpleType, base, arrow, predicate, is_declared}
+use Rattle.stt_core.specs.SimpleType.{SimpleType, predicate, is_declared}
 use Rattle.stt_core.specs.Lambda.{Lambda, bound, constant, lam, app, applied}
 use Rattle.stt_core.specs.Typing.{Scope}
 use Rattle.stt_core.specs.Canonical.{IsCanonical}
-use Rattle.stt_core.specs.View.{the_head}
 use Rattle.stt_core.proofs.SpineLaws.{IsAtom, binders_of, binders-spine}
 use Rattle.stt_core.proofs.ListLaws.{mapped_get}
-use Rattle.stt_tableau.specs.Witnesses.{Row, with_rows, IsTypedRow, IsTableAfter, IsTable}
+use Rattle.stt_tableau.specs.Witnesses.{Row, with_rows, IsTypedRow, IsTableAfter}
 use Rattle.stt_tableau.proofs.FunctionLaws.{predicate_declared}
 use Rattle.term_bank.specs.Content.{Content, content_scope, Grows}
 use Rattle.witness_names.proofs.StayLaws.{rows_same}
@@ -30,7 +28,8 @@ table_by s t b n earlier [] h = tt
 table_by s t b n earlier (r ∷ rows) h = (
   subst (λ x. IsCanonical x [] (predicate r.type) r.predicate) (λ i. record { bases = b i; names = n i; witnesses = map (λ q. q.type) earlier }) h.0,
   h.1,
-  table_by s t b n (earlier ++ r ∷ []) rows h.2)
+  table_by s t b n (earlier ++ r ∷ []) rows h.2,
+)
 
 at_end : {A : Type 0} (xs : List A) (y : A) (ys : List A) → slice_get (xs ++ y ∷ ys) (length xs) ≡ Some y
 at_end [] y ys = refl
@@ -91,6 +90,7 @@ all_declared b ids rows l = go rows.further rows.types
   where
     count : length (map (λ (r : Row). r.type) (rows_of b.terms ids)) ≡ length ids
     count = length-map (rows_of b.terms ids) (λ (r : Row). r.type) ∙ length-map ids (λ i. row_of (term_at b.terms i))
+
     go : (further : List SimpleType) → map (λ (r : Row). r.type) (rows_of b.terms ids) ≡ b.witnesses ++ further → AreDeclaredIn b ids
     go [] e = e ∙ append-nil b.witnesses
     go (a ∷ further) e = absurd (omega (arith, sym count ∙ ap length e, length-append b.witnesses (a ∷ further), l))

@@ -1,17 +1,17 @@
 -- Drafts that are the alternatives of a rule.
-use Rattle.std.proofs.Common.{◌≡◌, ◌<◌, ℕ, Bool, true, false, not, List, [], ◌∷◌, Some, None, length, slice_get, refl, sym, ap, ap₂, subst, ◌∙◌, true≢false}
+use Rattle.std.proofs.Common.{◌≡◌, ℕ, Bool, true, false, not, List, [], ◌∷◌, Some, None, refl, sym, ap, ap₂, subst, ◌∙◌}
 use Rattle.std.specs.Bool.{beq}
-use Rattle.stt_core.specs.SimpleType.{SimpleType, formula, base, arrow}
-use Rattle.stt_core.specs.Lambda.{falsity, Lambda, constant, imp, eq, every}
+use Rattle.stt_core.specs.SimpleType.{formula}
+use Rattle.stt_core.specs.Lambda.{falsity, Lambda, constant, imp, eq}
 use Rattle.stt_core.specs.View.{the_type}
-use Rattle.stt_tableau.specs.Literals.{Literal, plus, minus, opposite, literal, IsLiteral}
+use Rattle.stt_tableau.specs.Literals.{plus, opposite, literal}
 use Rattle.stt_tableau.specs.Witnesses.{Row}
 use Rattle.stt_tableau.specs.declared.refutation.RuleUse.TheVariants.{False, Close, Refl, ImpPos, ImpNeg, BoolPos, BoolNeg, Cut}
 use Rattle.stt_tableau.proofs.InstanceLaws.{false_is, close_is, imp_pos_is, imp_neg_is, refl_is, bool_pos_is, bool_neg_is, cut_is}
 use Rattle.term_bank.specs.Content.{Content, content_scope}
 use Rattle.term_bank.specs.Terms.{term_at}
 use Rattle.literal_map.proofs.SignLaws.{unsigned_literal}
-use Rattle.tableau_rules.specs.Means.Drafted.{principal_at, signed_at, alternatives_at, IsPrincipal, IsWithin, AreWithin, Drafted}
+use Rattle.tableau_rules.specs.Means.Drafted.{principal_at, signed_at, alternatives_at, IsPrincipal, Drafted}
 use Rattle.tableau_rules.specs.Means.Parts.{IsImplicationOf, IsEquationOf}
 use Rattle.tableau_rules.specs.declared.draft.Principal.{Principal}
 use Rattle.tableau_rules.specs.declared.draft.Signed.{Signed}
@@ -81,9 +81,11 @@ module _ (b : Content) (rows : List Row) (p : Principal) where
     where
       plain : literal (term_at b.terms p.atom) ≡ plus (term_at b.terms p.atom)
       plain = sym (unsigned_literal (term_at b.terms p.atom) h.typed.unsigned)
+
       left : (s : Bool) → signed_at b (record { formula = p.atom; positive = s }) ≡ record { positive = s; atom = term_at b.terms p.atom }
       left true = plain
       left false = ap opposite plain
+
       right : (s : Bool) → signed_at b (record { formula = p.atom; positive = not s }) ≡ opposite (record { positive = s; atom = term_at b.terms p.atom })
       right true = ap opposite plain
       right false = plain

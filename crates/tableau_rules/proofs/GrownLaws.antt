@@ -1,11 +1,10 @@
 -- Drafts over a bank that has grown.
-use Rattle.std.proofs.Common.{◌≡◌, ◌<◌, ℕ, true, false, List, [], ◌∷◌, Some, None, length, refl, sym, ap, ap₂, subst, subst₂, ◌∙◌}
-use Rattle.stt_core.specs.SimpleType.{SimpleType}
-use Rattle.stt_core.specs.Lambda.{Lambda, every}
+use Rattle.std.proofs.Common.{◌≡◌, ℕ, true, false, List, [], ◌∷◌, Some, refl, sym, ap, subst, subst₂, ◌∙◌}
+use Rattle.stt_core.specs.Lambda.{every}
 use Rattle.stt_core.specs.Canonical.{IsCanonical}
 use Rattle.stt_core.specs.View.{the_type}
 use Rattle.stt_normal.specs.Normal.{apply}
-use Rattle.stt_tableau.specs.Literals.{Literal, literal}
+use Rattle.stt_tableau.specs.Literals.{literal}
 use Rattle.stt_tableau.specs.Witnesses.{Row}
 use Rattle.stt_tableau.specs.Rules.{IsInstance}
 use Rattle.stt_tableau.specs.declared.refutation.RuleUse.{RuleUse}
@@ -22,7 +21,7 @@ use Rattle.stt_tableau.proofs.InstanceLaws.{all_pos_is, fun_pos_is, fun_neg_is}
 use Rattle.term_bank.specs.Content.{Content, content_scope, HasTerm, Grows}
 use Rattle.term_bank.specs.Terms.{term_at}
 use Rattle.term_bank.proofs.GrowLaws.{grown_scope, grown_at, has_at, has_within}
-use Rattle.tableau_rules.specs.Means.Drafted.{principal_at, signed_at, alternatives_at, IsPrincipal, AreWithin, Drafted}
+use Rattle.tableau_rules.specs.Means.Drafted.{principal_at, alternatives_at, IsPrincipal, AreWithin, Drafted}
 use Rattle.tableau_rules.specs.Means.Parts.{IsQuantifiedOf}
 use Rattle.tableau_rules.specs.declared.draft.Principal.{Principal}
 use Rattle.tableau_rules.specs.declared.draft.Signed.{Signed}

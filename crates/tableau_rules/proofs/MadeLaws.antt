@@ -1,13 +1,13 @@
 -- Instances from drafts: their formulas are formulas, and numbers stand for them.
-use Rattle.std.proofs.Common.{◌≡◌, ◌<◌, ◌++◌, ℕ, zero, suc, true, false, Bool, List, [], ◌∷◌, map, length, get_or, Option, Some, None, option_map, take, slice_get, refl, sym, ap, ap₂, subst, subst₂, ◌∙◌, ◌⊎◌, inl, inr, if◌then◌else◌}
+use Rattle.std.proofs.Common.{◌≡◌, ◌<◌, ◌++◌, ℕ, true, false, Bool, List, [], ◌∷◌, map, length, get_or, Option, Some, None, option_map, take, refl, sym, ap, ap₂, subst, ◌∙◌, if◌then◌else◌}
 use Rattle.std.specs.Prelude.{All, option_to_list}
 use Rattle.std.specs.Option.{ForSome}
 use Rattle.sat_base.specs.declared.literal.SatLit.{SatLit}
 use Rattle.stt_core.specs.SimpleType.{formula}
-use Rattle.stt_core.specs.Lambda.{Lambda, neg}
+use Rattle.stt_core.specs.Lambda.{Lambda}
 use Rattle.stt_core.specs.Typing.{Scope, IsScope}
 use Rattle.stt_core.specs.Canonical.{IsCanonical}
-use Rattle.stt_tableau.specs.Literals.{Literal, plus, opposite, literal, is_negated, IsLiteral, IsBranch}
+use Rattle.stt_tableau.specs.Literals.{Literal, opposite, literal, IsLiteral, IsBranch}
 use Rattle.stt_tableau.specs.Rules.{places, AreAt, IsInstance}
 use Rattle.stt_tableau.specs.Witnesses.{Row}
 use Rattle.stt_tableau.specs.declared.refutation.RuleUse.{RuleUse}
@@ -19,13 +19,12 @@ use Rattle.term_bank.specs.Terms.{term_at}
 use Rattle.term_bank.proofs.ListLaws.{get_or-front}
 use Rattle.literal_map.specs.Atoms.{literal_at, IsAtom, Begins}
 use Rattle.literal_map.specs.declared.instance.BankUse.{BankUse}
-use Rattle.literal_map.specs.declared.instance.RuleKind.{RuleKind}
 use Rattle.search_run.specs.Each.{Each}
 use Rattle.search_run.proofs.TypedAlternatives.{alternatives_typed}
 use Rattle.tableau_rules.specs.Uses.{rule_of, use_of, is_cut, principals_of, IsInstanceBy}
 use Rattle.tableau_rules.specs.Changes.{Widens}
 use Rattle.tableau_rules.specs.Means.Drafted.{signed_at, alternatives_at, IsWithin, AreWithin}
-use Rattle.tableau_rules.specs.Means.Numbered.{IsFormula, AreFormulas, AllFormulas, IsNumbered, AreNumbered, AllNumbered}
+use Rattle.tableau_rules.specs.Means.Numbered.{AreFormulas, AllFormulas, AreNumbered, AllNumbered}
 use Rattle.tableau_rules.specs.Means.Made.{AreDraftsOf}
 use Rattle.tableau_rules.specs.declared.draft.Signed.{Signed}
 use Rattle.tableau_rules.proofs.WideLaws.{wide_at, wide_instance}

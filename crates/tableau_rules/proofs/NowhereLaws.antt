@@ -1,7 +1,7 @@
 -- The formula that a predicate holds nowhere.
-use Rattle.std.proofs.Common.{◌≡◌, ◌<◌, ℕ, true, List, [], ◌∷◌, Some, length, refl, sym, ap, ap₂, subst, subst₂, ◌∙◌}
-use Rattle.stt_core.specs.SimpleType.{SimpleType, formula, arrow, predicate, is_declared}
-use Rattle.stt_core.specs.Lambda.{Lambda, lam, neg, every}
+use Rattle.std.proofs.Common.{◌≡◌, ℕ, true, [], ◌∷◌, Some, refl, sym, ap, subst₂, ◌∙◌}
+use Rattle.stt_core.specs.SimpleType.{SimpleType, formula, is_declared}
+use Rattle.stt_core.specs.Lambda.{lam, neg, every}
 use Rattle.stt_core.specs.Canonical.{IsCanonical}
 use Rattle.stt_tableau.specs.Rules.{at_new, nowhere}
 use Rattle.stt_tableau.proofs.FunctionLaws.{canonical-at_new, predicate_declared}

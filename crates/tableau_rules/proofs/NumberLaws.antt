@@ -1,14 +1,13 @@
 -- Drafts that are numbered one formula after the other.
-use Rattle.std.proofs.Common.{◌≡◌, ◌<◌, ◌≤◌, ◌+◌, ℕ, zero, suc, List, [], ◌∷◌, ◌++◌, Some, length, take, take_all, get_or, slice_get, refl, sym, ap, subst, subst₂, ◌∙◌, arith, length-append, append_assoc, append-nil}
+use Rattle.std.proofs.Common.{◌≡◌, ◌+◌, ℕ, zero, suc, List, [], ◌∷◌, ◌++◌, Some, length, take, get_or, slice_get, sym, ap, subst, subst₂, ◌∙◌, arith, length-append, append_assoc, append-nil}
 use Rattle.std.specs.Prelude.{All}
 use Rattle.std.proofs.lemmas.Option.{same_Some}
-use Rattle.stt_core.specs.Lambda.{Lambda}
 use Rattle.stt_core.proofs.ListLaws.{take_got}
 use Rattle.sat_base.specs.declared.literal.SatLit.{SatLit}
 use Rattle.term_bank.specs.Content.{Content}
 use Rattle.term_bank.specs.Terms.{term_at}
 use Rattle.term_bank.proofs.ListLaws.{get_or-front}
-use Rattle.literal_map.specs.Atoms.{literal_at, IsAtom, Begins}
+use Rattle.literal_map.specs.Atoms.{IsAtom, Begins}
 use Rattle.tableau_rules.specs.Means.Numbered.{IsFormula, AreFormulas, AllFormulas, IsNumbered, AreNumbered, AllNumbered}
 use Rattle.tableau_rules.specs.declared.draft.Signed.{Signed}
 

@@ -1,11 +1,11 @@
 -- The parts of formulas from their heads and arguments.
-use Rattle.std.proofs.Common.{◌≡◌, ◌<◌, ℕ, Bool, true, false, List, [], ◌∷◌, Some, None, IsTrue, length, map, slice_get, refl, sym, ap, ap₂, subst, ◌∙◌, arith, true≢false}
-use Rattle.std.specs.Prelude.{◌↔◌, All}
+use Rattle.std.proofs.Common.{◌≡◌, ◌<◌, ℕ, Bool, List, [], ◌∷◌, Some, None, IsTrue, length, map, slice_get, refl, sym, ap, ap₂, ◌∙◌, arith}
+use Rattle.std.specs.Prelude.{◌↔◌}
 use Rattle.std.proofs.lemmas.List.{length-map}
 use Rattle.stt_core.specs.SimpleType.{SimpleType}
 use Rattle.stt_core.specs.Lambda.{Constant, name, witness, falsity, negation, implication, all, equality, choice, description, Lambda, bound, constant, lam, app, imp, eq, every, applied}
 use Rattle.stt_core.specs.View.{the_head}
-use Rattle.stt_core.proofs.SpineLaws.{IsAtom, SameParts, parts, binders-spine, binders_of}
+use Rattle.stt_core.proofs.SpineLaws.{SameParts, parts, binders-spine, binders_of}
 use Rattle.stt_core.proofs.HeadLaws.{atom_head}
 use Rattle.stt_tableau.specs.Means.Heads.{equality_of, quantified_by}
 use Rattle.term_bank.specs.Content.{Content}
@@ -61,7 +61,6 @@ equality_head (constant (choice b)) a e = cc
 equality_head (constant (description b)) a e = cc
 
 module _ (b : Content) (t : Lambda) (p : Spine) (h : IsSpineOf b t (Some p)) where
-
   same_parts : (c : Constant) (vs : List Lambda) → t ≡ applied (constant c) vs → SameParts [] [] (the_head p.head.now) (constant c) (map (term_at b.terms) p.args.now) vs
   same_parts c vs e = parts [] [] (the_head p.head.now) (constant c) (map (term_at b.terms) p.args.now) vs (atom_head p.head.now) tt (sym h.0 ∙ e)
 
@@ -71,7 +70,8 @@ module _ (b : Content) (t : Lambda) (p : Spine) (h : IsSpineOf b t (Some p)) whe
   pub falsity_tells : (r : Bool) → length p.args.now ≡ 0 → (IsTrue r ↔ (the_head p.head.now ≡ constant falsity)) → IsTrue r ↔ (t ≡ constant falsity)
   falsity_tells r n e = (
     λ w. h.0 ∙ ap₂ (λ x y. applied x (map (term_at b.terms) y)) (e.0 w) (no_ids p.args.now n),
-    λ w. e.1 (same_parts falsity [] w).head)
+    λ w. e.1 (same_parts falsity [] w).head,
+  )
 
   pub falsity_count : (length p.args.now ≡ 0 → ⊥) → t ≡ constant falsity → ⊥
   falsity_count n e = n (count falsity [] e)
@@ -86,7 +86,8 @@ module _ (b : Content) (t : Lambda) (p : Spine) (h : IsSpineOf b t (Some p)) whe
   implication_is is i j n e f = (
     h.0 ∙ ap₂ (λ x y. applied x (map (term_at b.terms) y)) is (two_ids p.args.now i j n e f),
     within_at (length b.terms) p.args.now 0 i h.1 e,
-    within_at (length b.terms) p.args.now 1 j h.1 f)
+    within_at (length b.terms) p.args.now 1 j h.1 f,
+  )
 
   pub equation_count : (length p.args.now ≡ 2 → ⊥) → (a : SimpleType) (s u : Lambda) → t ≡ eq a s u → ⊥
   equation_count n a s u e = n (count (equality a) (s ∷ u ∷ []) e)
@@ -98,7 +99,8 @@ module _ (b : Content) (t : Lambda) (p : Spine) (h : IsSpineOf b t (Some p)) whe
   equation_is a is i j n e f = (
     h.0 ∙ ap₂ (λ x y. applied x (map (term_at b.terms) y)) (equality_head (the_head p.head.now) a is) (two_ids p.args.now i j n e f),
     within_at (length b.terms) p.args.now 0 i h.1 e,
-    within_at (length b.terms) p.args.now 1 j h.1 f)
+    within_at (length b.terms) p.args.now 1 j h.1 f,
+  )
 
   pub quantified_count : (length p.args.now ≡ 1 → ⊥) → (a : SimpleType) (f : Lambda) → t ≡ every a f → ⊥
   quantified_count n a f e = n (count (all a) (f ∷ []) e)
@@ -109,4 +111,5 @@ module _ (b : Content) (t : Lambda) (p : Spine) (h : IsSpineOf b t (Some p)) whe
   pub quantified_is : (a : SimpleType) → Some a ≡ quantified_by (the_head p.head.now) → (i : ℕ) → length p.args.now ≡ 1 → slice_get p.args.now 0 ≡ Some i → (t ≡ every a (term_at b.terms i)) × (i < length b.terms)
   quantified_is a is i n e = (
     h.0 ∙ ap₂ (λ x y. applied x (map (term_at b.terms) y)) (quantifier_head (the_head p.head.now) a is) (one_id p.args.now i n e),
-    within_at (length b.terms) p.args.now 0 i h.1 e)
+    within_at (length b.terms) p.args.now 0 i h.1 e,
+  )

@@ -1,19 +1,14 @@
 -- Terms that fit together, and formulas made of them.
-use Rattle.std.proofs.Common.{◌≡◌, ◌<◌, ℕ, Bool, true, false, List, [], ◌∷◌, Some, None, IsTrue, Option, length, refl, sym, ap, ap₂, subst, ◌∙◌}
-use Rattle.std.specs.Prelude.{◌↔◌, All}
-use Rattle.stt_core.specs.SimpleType.{SimpleType, formula, arrow, predicate, is_declared, same_type}
+use Rattle.std.proofs.Common.{◌≡◌, ◌<◌, ℕ, true, List, [], ◌∷◌, Some, length, refl, sym, ap, ap₂, subst, ◌∙◌}
+use Rattle.std.specs.Prelude.{All}
+use Rattle.stt_core.specs.SimpleType.{SimpleType, formula, arrow, predicate, is_declared}
 use Rattle.stt_core.specs.Lambda.{Lambda, bound, lam, eq, every}
-use Rattle.stt_core.specs.Occurrence.{IsClosed}
-use Rattle.stt_core.specs.Typing.{Scope}
 use Rattle.stt_core.specs.Canonical.{IsCanonical}
-use Rattle.stt_core.specs.Means.CanonicalType.{canonical_type}
-use Rattle.stt_core.proofs.CanonicalTypes.{canonical-is, canonical_type-at}
-use Rattle.stt_core.proofs.TypeLaws.{same_type-true, same_type_refl}
-use Rattle.stt_core.specs.Lift.{lift, lift_by}
+use Rattle.stt_core.specs.Lift.{lift}
 use Rattle.stt_normal.specs.Normal.{eta, apply}
 use Rattle.stt_normal.proofs.NormalValues.{canonical-eta}
 use Rattle.stt_tableau.specs.Rules.{at_new}
-use Rattle.stt_tableau.proofs.EquationLaws.{Sides, canonical-eq}
+use Rattle.stt_tableau.proofs.EquationLaws.{canonical-eq}
 use Rattle.term_bank.specs.Content.{Content, content_scope}
 use Rattle.term_bank.specs.Terms.{term_at, IsTypedTerm}
 use Rattle.bank_normal.specs.Fits.{IsNeutralOf, AppliesIn}
@@ -24,7 +19,7 @@ use Rattle.bank_normal.proofs.LiftLaws.{lift_by_none}
 use Rattle.stt_normal.proofs.CanonicalLaws.{canonical-lift}
 use Rattle.stt_tableau.proofs.FunctionLaws.{canonical-every, canonical-at_new}
 use Rattle.term_bank.specs.Content.{HasTerm, Grows}
-use Rattle.term_bank.proofs.GrowLaws.{grown_scope, grown_at, grown_within, grown_term, has_at, has_within, grows_on}
+use Rattle.term_bank.proofs.GrowLaws.{grown_scope, grown_at, grown_within, grown_term, has_at, has_within}
 use Rattle.tableau_rules.proofs.ClosedLaws.{missing_none}
 use Rattle.tableau_rules.specs.Means.Typed.{AreSides, IsFunction, IsOpenFormula}
 
@@ -59,7 +54,7 @@ module _ (b c : Content) (a : SimpleType) (f v : ℕ) (h : IsFunction b a f) (g 
   new_applies =
       let inner : IsCanonical (content_scope c) [] (arrow a h.result) (term_at c.terms f) = canonical_grown b c g [] (arrow a h.result) f h.within h.function_in in
       let lifted : IsCanonical (content_scope c) (a ∷ []) (arrow a h.result) (term_at c.terms f) =
-        subst (IsCanonical (content_scope c) (a ∷ []) (arrow a h.result)) (unlifted c a f (function_grown b c g a f h)) (canonical-lift (content_scope c) [] a [] (arrow a h.result) (term_at c.terms f) inner) in
+      subst (IsCanonical (content_scope c) (a ∷ []) (arrow a h.result)) (unlifted c a f (function_grown b c g a f h)) (canonical-lift (content_scope c) [] a [] (arrow a h.result) (term_at c.terms f) inner) in
       subst (AppliesIn (content_scope c) (term_at c.terms f)) (sym (has_at c v (eta a (bound 0)) variable))
       (record { ctx = a ∷ []; applies = record { argument = a; result = h.result; function_in = lifted; argument_in = canonical-eta (content_scope c) (a ∷ []) a (bound 0) (declared_grown b c g a h.declared) refl } })
 

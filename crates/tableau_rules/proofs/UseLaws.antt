@@ -1,10 +1,10 @@
 -- Drafts of what a rule takes.
-use Rattle.std.proofs.Common.{◌≡◌, ◌<◌, ◌++◌, ℕ, true, false, Bool, List, [], ◌∷◌, map, length, get_or, Option, Some, None, option_map, refl, sym, ap, ap₂, subst, subst₂, ◌∙◌, ◌⊎◌, inl, inr, if◌then◌else◌, arith, length-append}
-use Rattle.std.specs.Prelude.{All, option_to_list, is_some}
+use Rattle.std.proofs.Common.{◌≡◌, ◌<◌, ℕ, false, List, [], ◌∷◌, map, length, get_or, Option, Some, None, refl, sym, ap, ap₂, subst, subst₂, ◌∙◌, ◌⊎◌, inl, inr, if◌then◌else◌}
+use Rattle.std.specs.Prelude.{All}
 use Rattle.std.specs.Option.{ForSome}
 use Rattle.std.proofs.lemmas.Option.{same_Some}
 use Rattle.sat_base.specs.declared.literal.SatLit.{SatLit}
-use Rattle.stt_core.specs.Lambda.{Lambda, bound}
+use Rattle.stt_core.specs.Lambda.{Lambda}
 use Rattle.stt_tableau.specs.Literals.{Literal}
 use Rattle.stt_tableau.specs.Witnesses.{Row}
 use Rattle.stt_tableau.specs.Rules.{IsInstance}
@@ -18,7 +18,7 @@ use Rattle.literal_map.specs.declared.instance.BankUse.{BankUse}
 use Rattle.literal_map.specs.declared.instance.RuleKind.{RuleKind}
 use Rattle.literal_map.specs.declared.instance.RuleKind.TheVariants as kind
 use Rattle.literal_map.proofs.StayLaws.{literals_same}
-use Rattle.tableau_rules.specs.Uses.{rule_of, use_of, is_cut, principals_of, IsInstanceBy}
+use Rattle.tableau_rules.specs.Uses.{rule_of, use_of, is_cut, principals_of}
 use Rattle.tableau_rules.specs.Changes.{Widens, AreWitnessesAfter, AreWitnessesBy}
 use Rattle.tableau_rules.specs.Means.Drafted.{principal_at, alternatives_at, IsPrincipal, Drafted}
 use Rattle.tableau_rules.specs.Means.Declaring.{DraftedOver, IsWitnessed, WitnessedWhere, MayBeWitnessed}
@@ -106,6 +106,7 @@ module _ (c : Content) (atoms : List ℕ) (rows : List Row) (by : BankUse) (rule
     where
       whole : record { kind = kind.AllNeg; first = Some l; second = None; term = None } ≡ by
       whole = λ i. record { kind = sym rule i; first = sym only.0 i; second = sym only.1 i; term = sym only.2 i }
+
       go : (o : Option (List (List Signed))) → DraftedOver c rows (p ∷ []) (use_of_table.AllNeg 0) o → DraftedBy c atoms rows (record { kind = kind.AllNeg; first = Some l; second = None; term = None }) o
       go (Some ds) h = (h.0, record { rule = use_of_table.AllNeg 0; is_rule = refl; is_instance = subst (λ x. IsInstance (content_scope c) rows (x ∷ []) (use_of_table.AllNeg 0) (alternatives_at c ds)) same h.1 })
       go None h = λ others as' k. h others as' (subst₂ (λ x r. IsInstance (content_scope c) others (x ∷ []) r as') (sym same) (same_Some k.rule (use_of_table.AllNeg 0) (sym k.is_rule)) k.is_instance)

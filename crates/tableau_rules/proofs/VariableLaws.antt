@@ -1,7 +1,7 @@
 -- What a closed predicate gives at new variables, and that it holds of one value at most.
-use Rattle.std.proofs.Common.{◌≡◌, ◌<◌, ℕ, zero, suc, true, List, [], ◌∷◌, Some, length, get_or, refl, sym, ap, ap₂, subst, subst₂, ◌∙◌, arith}
+use Rattle.std.proofs.Common.{◌≡◌, ◌<◌, ℕ, zero, suc, true, [], ◌∷◌, Some, length, get_or, refl, sym, ap, ap₂, subst, subst₂, ◌∙◌, arith}
 use Rattle.std.specs.Prelude.{All}
-use Rattle.stt_core.specs.SimpleType.{SimpleType, formula, arrow, predicate, is_declared}
+use Rattle.stt_core.specs.SimpleType.{SimpleType, formula, predicate, is_declared}
 use Rattle.stt_core.specs.Lambda.{Lambda, bound, constant, lam, app, imp, eq, every}
 use Rattle.stt_core.specs.Typing.{Scope}
 use Rattle.stt_core.specs.Canonical.{IsCanonical}

@@ -7,7 +7,7 @@ use Rattle.stt_core.specs.SimpleType.{SimpleType, formula, predicate}
 use Rattle.stt_core.specs.Lambda.{Constant, Lambda, bound, constant}
 use Rattle.stt_core.specs.Typing.{Scope, constant_type}
 use Rattle.stt_core.specs.Canonical.{IsCanonical, IsNeutral}
-use Rattle.stt_tableau.specs.Literals.{Literal, is_negated, IsLiteral}
+use Rattle.stt_tableau.specs.Literals.{Literal, is_negated}
 use Rattle.stt_tableau.specs.Witnesses.{Row, with_rows}
 use Rattle.stt_tableau.specs.Rules.{Rule, false_rule, close_rule, refl_rule, imp_pos_rule, imp_neg_rule, bool_pos_rule, bool_neg_rule, fun_pos_rule, fun_neg_rule, all_pos_rule, all_neg_rule, mat_rule, dec_rule, con_rule, cho_rule, des_rule, cut_rule, IsInstance}
 use Rattle.stt_tableau.specs.declared.refutation.RuleUse.{RuleUse}
@@ -40,7 +40,6 @@ grown_wide b c g = record { bases = g.bases; consts = g.consts; types = []; witn
 
 -- WHAT IS TYPED STAYS TYPED
 
-
 module _ (s : Scope) (types : List SimpleType) where
   abbrev wider : Scope
   wider = record { bases = s.bases; names = s.names; witnesses = s.witnesses ++ types }
@@ -58,7 +57,7 @@ module _ (s : Scope) (types : List SimpleType) where
   after_is : with_rows s (rows_on s.witnesses ++ rows_on types) ≡ wider
   after_is =
       let e : map (λ (r : Row). r.type) (rows_on s.witnesses ++ rows_on types) ≡ s.witnesses ++ types =
-        map-append (λ (r : Row). r.type) (rows_on s.witnesses) (rows_on types) ∙ ap₂ (λ x y. x ++ y) (types_back s.witnesses) (types_back types) in
+      map-append (λ (r : Row). r.type) (rows_on s.witnesses) (rows_on types) ∙ ap₂ (λ x y. x ++ y) (types_back s.witnesses) (types_back types) in
       λ i. record { bases = s.bases; names = s.names; witnesses = e i }
 
   pub canonical_more : (ctx : List SimpleType) (a : SimpleType) (t : Lambda) → IsCanonical s ctx a t → IsCanonical wider ctx a t

@@ -1,7 +1,7 @@
 -- The witness of a predicate that doesn't hold everywhere, and the drafts of its rule.
-use Rattle.std.proofs.Common.{◌≡◌, ◌<◌, ℕ, true, false, List, [], ◌∷◌, ◌++◌, map, length, Some, None, slice_get, ◌⊎◌, inl, inr, refl, sym, ap, ap₂, subst, subst₂, ◌∙◌}
+use Rattle.std.proofs.Common.{◌≡◌, ℕ, true, false, List, [], ◌∷◌, map, length, Some, None, slice_get, ◌⊎◌, inl, inr, refl, sym, ap, ap₂, subst, subst₂, ◌∙◌}
 use Rattle.std.specs.Prelude.{Result, Ok, Err, OnErr}
-use Rattle.stt_core.specs.SimpleType.{SimpleType, base, arrow, formula, predicate, is_declared}
+use Rattle.stt_core.specs.SimpleType.{SimpleType, formula, predicate, is_declared}
 use Rattle.stt_core.specs.Lambda.{Lambda, bound, constant, lam, app, witness, every}
 use Rattle.stt_core.specs.Typing.{Scope}
 use Rattle.stt_core.specs.Canonical.{IsCanonical}
@@ -46,8 +46,8 @@ pub row_typed : (b : Content) (a : SimpleType) (f : ℕ) (ids : List ℕ) → Is
 row_typed b a f ids p rows =
     let t = term_at b.terms f in
     let wider : IsCanonical (with_rows (content_scope b) (rows_of b.terms ids)) [] (predicate a) t =
-      subst (λ ws. IsCanonical (record { bases = length b.bases; names = map (λ k. k.type) b.consts; witnesses = ws }) [] (predicate a) t) (sym rows.types)
-      (canonical_more (content_scope b) rows.further [] (predicate a) t p.predicate_in) in
+    subst (λ ws. IsCanonical (record { bases = length b.bases; names = map (λ k. k.type) b.consts; witnesses = ws }) [] (predicate a) t) (sym rows.types)
+    (canonical_more (content_scope b) rows.further [] (predicate a) t p.predicate_in) in
     subst (λ y. IsCanonical (with_rows (content_scope b) (rows_of b.terms ids)) [] (predicate y) t) (binder_is (content_scope b) a t p.predicate_in) wider
 
 module _ (b : Content) (p : Principal) (q : Quantified) (h : IsPrincipal b p) (is : IsQuantifiedOf b (term_at b.terms p.atom) (Some q)) where
@@ -61,7 +61,7 @@ module _ (b : Content) (p : Principal) (q : Quantified) (h : IsPrincipal b p) (i
     denies : principal_at c p ≡ minus (every (the_type q.ty.now) (term_at c.terms q.predicate))
     denies =
         let e : term_at c.terms p.atom ≡ every (the_type q.ty.now) (term_at c.terms q.predicate) =
-          wide_at b c w p.atom h.within ∙ is.0 ∙ ap (every (the_type q.ty.now)) (sym (wide_at b c w q.predicate is.1)) in
+        wide_at b c w p.atom h.within ∙ is.0 ∙ ap (every (the_type q.ty.now)) (sym (wide_at b c w q.predicate is.1)) in
         λ i. record { positive = sign i; atom = e i }
 
     pub witnessed : (old new : List ℕ) → new ≡ with_predicate old q.predicate → IsWitnessed c p old new
@@ -107,10 +107,11 @@ module _ (b : Content) (p : Principal) (q : Quantified) (h : IsPrincipal b p) (i
 
       pub all_neg_found : (n : ℕ) → HasTerm c n (apply (term_at c.terms q.predicate) (eta (the_type q.ty.now) (constant (witness k)))) → (s : Signed) (ds : List (List Signed)) → s ≡ nay n → ds ≡ (s ∷ []) ∷ [] → DraftedOver c (rows_of c.terms ids) (p ∷ []) (AllNeg 0) (Some ds)
       all_neg_found n made s ds hs e =
-          subst (λ l. DraftedOver c (rows_of c.terms ids) (p ∷ []) (AllNeg 0) (Some l)) (sym (e ∙ ap (λ x. (x ∷ []) ∷ []) hs))
-          (((has_within c n (apply (term_at c.terms q.predicate) (eta (the_type q.ty.now) (constant (witness k)))) made, tt), tt),
+          subst (λ l. DraftedOver c (rows_of c.terms ids) (p ∷ []) (AllNeg 0) (Some l)) (sym (e ∙ ap (λ x. (x ∷ []) ∷ []) hs)) (
+            ((has_within c n (apply (term_at c.terms q.predicate) (eta (the_type q.ty.now) (constant (witness k)))) made, tt), tt),
             all_neg_is (content_scope c) (rows_of c.terms ids) (principal_at c p ∷ []) 0 k (the_type q.ty.now) (term_at c.terms q.predicate) (eta (the_type q.ty.now) (constant (witness k))) (term_at c.terms n) (literal (term_at c.terms n)) (opposite (literal (term_at c.terms n))) (alternatives_at c ((nay n ∷ []) ∷ []))
-            (ap Some denies) row_is refl (has_at c n (apply (term_at c.terms q.predicate) (eta (the_type q.ty.now) (constant (witness k)))) made) refl refl refl)
+                (ap Some denies) row_is refl (has_at c n (apply (term_at c.terms q.predicate) (eta (the_type q.ty.now) (constant (witness k)))) made) refl refl refl,
+          )
 
 pub all_neg_positive : (b : Content) (rows : List Row) (p : Principal) → p.positive ≡ true → DraftedOver b rows (p ∷ []) (AllNeg 0) None
 all_neg_positive b rows p sign = λ others. all_neg_none (content_scope b) others (principal_at b p) (λ a f e. let s : true ≡ false = sym sign ∙ ap (λ (l : Literal). l.positive) e in cc)

@@ -1,5 +1,5 @@
 //! The rules by what they take.
-ghost use Rattle.std.specs.Prelude.{◌≡◌, ◌<◌, ◌-◌, ◌^◌, List, length, Some, None, All, IfOk, OnOk, OnErr, ◌⊎◌};
+ghost use Rattle.std.specs.Prelude.{◌≡◌, ◌<◌, ◌-◌, ◌^◌, ℕ, List, length, Some, None, All, IfOk, OnOk, OnErr, ◌⊎◌};
 ghost use Rattle.std.specs.Option.{ForSome};
 ghost use Rattle.stt_tableau.specs.Witnesses.{Row};
 ghost use Rattle.term_bank.specs.Content.{Grows};
@@ -116,17 +116,15 @@ fn by_term(
     alloc: Global,
     bank: &mut Bank,
     normal: &mut Normaliser,
-    lits: &LitTable,
     kind: RuleKind,
     term: Id,
 ) -> Result<Option<Drafts>, AllocError>
     requires term { term < length bank.old.terms }
     requires right { IsRight normal.old bank.old }
-    ensures drafted { IfOk result (λ o. (rows : List Row) → DraftedBy bank.new lits.now rows (record { kind = kind; first = None; second = None; term = Some term }) o) }
+    ensures drafted { IfOk result (λ o. (atoms : List ℕ) (rows : List Row) → DraftedBy bank.new atoms rows (record { kind = kind; first = None; second = None; term = Some term }) o) }
     ensures grows { Grows bank.old bank.new }
     ensures right { IsRight normal.new bank.new }
 {
-    let _atoms = lits.len();
     match kind {
         RuleKind::Cho => Ok(cho_drafts(alloc, bank, normal, term)?),
         RuleKind::Des => Ok(des_drafts(alloc, bank, normal, term)?),
@@ -166,7 +164,7 @@ fn unwitnessed_drafts(
         None => match by.second {
             Some(_) => Ok(None),
             None => match by.term {
-                Some(term) => Ok(by_term(alloc, bank, normal, lits, by.kind, term)?),
+                Some(term) => Ok(by_term(alloc, bank, normal, by.kind, term)?),
                 None => Ok(None),
             },
         },

@@ -97,7 +97,13 @@ pub(crate) fn is_plain_base(ty: &Ty) -> bool
 }
 
 /// The equation of two terms of a type.
-pub(crate) fn equate(alloc: Global, bank: &mut Bank, ty: &Ty, s: Id, t: Id) -> Result<Id, AllocError>
+pub(crate) fn equate(
+    alloc: Global,
+    bank: &mut Bank,
+    ty: &Ty,
+    s: Id,
+    t: Id,
+) -> Result<Id, AllocError>
     requires { AreSides bank.old (the_type ty.now) s t }
     ensures term { IfOk result (λ id. HasTerm bank.new id (eq (the_type ty.now) (term_at bank.old.terms s) (term_at bank.old.terms t))) }
     ensures grows { Grows bank.old bank.new }

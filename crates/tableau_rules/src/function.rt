@@ -38,7 +38,12 @@ pub(crate) fn at_new_variable(
 }
 
 /// The formula that what stands under a binder of this type holds everywhere.
-pub(crate) fn everywhere(alloc: Global, bank: &mut Bank, ty: &Ty, body: Id) -> Result<Id, AllocError>
+pub(crate) fn everywhere(
+    alloc: Global,
+    bank: &mut Bank,
+    ty: &Ty,
+    body: Id,
+) -> Result<Id, AllocError>
     requires { IsOpenFormula bank.old (the_type ty.now) body }
     ensures term { IfOk result (λ id. HasTerm bank.new id (every (the_type ty.now) (lam (the_type ty.now) (term_at bank.old.terms body)))) }
     ensures grows { Grows bank.old bank.new }

@@ -1,5 +1,4 @@
 use Rattle.stt_core.specs.View.{the_type}
-use Rattle.term_bank.specs.Content.{content_scope}
 use Rattle.term_bank.proofs.GrowLaws.{grows_on}
 use Rattle.bank_normal.proofs.RightLaws.{right_grown}
 use Rattle.tableau_rules.proofs.TypedLaws.{declared_grown}

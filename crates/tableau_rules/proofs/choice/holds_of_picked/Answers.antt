@@ -1,5 +1,4 @@
 use Rattle.std.proofs.Common.{ap, sym, ◌∙◌, option_map}
-use Rattle.stt_core.specs.Lambda.{app}
 use Rattle.stt_core.specs.View.{the_type, the_head}
 use Rattle.stt_normal.specs.Normal.{apply}
 use Rattle.term_bank.specs.Terms.{term_at}

@@ -1,6 +1,5 @@
 use Rattle.std.proofs.Common.{inl, refl}
 use Rattle.std.proofs.lemmas.Result.{IfOk-from_err}
-use Rattle.bank_normal.proofs.RightLaws.{right_grown}
 use Rattle.witness_names.specs.Rows.{rows_of}
 use Rattle.witness_names.proofs.StayLaws.{rows_grown}
 use Rattle.tableau_rules.proofs.WideLaws.{grown_wide}

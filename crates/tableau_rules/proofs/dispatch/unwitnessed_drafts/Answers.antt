@@ -29,4 +29,4 @@ returns-in_ok-by_one-in-None-term-2-clause-drafted c =
 pub returns-in_ok-by_term-in-Some-term-3-clause-drafted : goal.returns-in_ok-by_term-in-Some-term-3-clause-drafted
 returns-in_ok-by_term-in-Some-term-3-clause-drafted c =
     subst (λ u. (rows : List Row) → DraftedBy c.by_term.new.bank c.args.lits.now rows u c.in_ok-by_term-in-Some-term-3.field-0)
-    (by_fields c.args.by.now None None (Some c.in-Some-term-3.term) c.in-None.is c.in-None-second-2.is c.in-Some-term-3.is) c.in_ok-by_term-in-Some-term-3.ensures.drafted
+    (by_fields c.args.by.now None None (Some c.in-Some-term-3.term) c.in-None.is c.in-None-second-2.is c.in-Some-term-3.is) (c.in_ok-by_term-in-Some-term-3.ensures.drafted c.args.lits.now)

@@ -1,4 +1,3 @@
-use Rattle.std.proofs.Common.{◌≡◌}
 use Rattle.tableau_rules.proofs.UseLaws.{principal_wide, witnessed_by, witnesses_by, may_be_by}
 use Rattle.tableau_rules.proofs.WitnessLaws.{on_err}
 use Rattle.witness_names.specs.Rows.{rows_of}

@@ -47,8 +47,8 @@ returns-in-None-clause-not_this_rule c =
     let rows = rows_of b.terms c.drafts_of.new.witnesses in
     let none = subst (DraftedBy b c.args.lits.now rows c.args.by.now) c.in-None.is c.in_ok-drafts.ensures.drafted in
     λ _ others as' h.
-        none others as'
-        (instance_wider c.args.bank.now b c.args.lits.now c.args.by.now (widens_on c.args.bank.now c.declare.new.bank b c.declare.ensures.declares.widens c.drafts_of.ensures.widens) c.requires.atoms c.requires.first c.requires.second c.requires.term others as' h)
+    none others as'
+    (instance_wider c.args.bank.now b c.args.lits.now c.args.by.now (widens_on c.args.bank.now c.declare.new.bank b c.declare.ensures.declares.widens c.drafts_of.ensures.widens) c.requires.atoms c.requires.first c.requires.second c.requires.term others as' h)
 
 pub returns-in-None-clause-atoms : goal.returns-in-None-clause-atoms
 returns-in-None-clause-atoms c = wide_atoms c.args.bank.now c.drafts_of.new.bank (widens_on c.args.bank.now c.declare.new.bank c.drafts_of.new.bank c.declare.ensures.declares.widens c.drafts_of.ensures.widens) c.args.lits.now c.requires.atoms

@@ -1,9 +1,8 @@
-use Rattle.std.proofs.Common.{refl, inr, ◌∙◌}
+use Rattle.std.proofs.Common.{inr}
 use Rattle.stt_core.specs.Lambda.{constant, witness}
 use Rattle.stt_core.specs.View.{the_type}
 use Rattle.stt_normal.specs.Normal.{eta}
 use Rattle.term_bank.proofs.GrowLaws.{grows_on, has_within}
-use Rattle.bank_normal.proofs.RightLaws.{right_grown}
 use Rattle.witness_names.specs.Rows.{rows_of}
 use Rattle.witness_names.proofs.StayLaws.{rows_grown}
 use Rattle.tableau_rules.proofs.WideLaws.{widens_itself, widens_on, grown_wide, right_by}
@@ -78,8 +77,8 @@ returns-in_ok-one-in-Some-clause-drafted c =
     let ids = c.witness_of.new.witnesses in
     let w = c.in_ok-w-in-Some.w in
     let made = value_made b c.args.p q c.requires.principal c.in-Some.ensures d c.witness_of.ensures.declares.widens c.if-p.false
-        ids w c.in_ok-w-in-Some.ensures.row c.in_ok-w-in-Some.ensures.all (the_type c.in_ok-ty-in-Some.ty) c.in_ok-ty-in-Some.ensures
-        e c.in_ok-witness-in-Some.witness c.eta.ensures.grows c.in_ok-witness-in-Some.ensures.term m n c.instantiate.ensures.grows c.in_ok-value-in-Some.ensures.term in
+    ids w c.in_ok-w-in-Some.ensures.row c.in_ok-w-in-Some.ensures.all (the_type c.in_ok-ty-in-Some.ty) c.in_ok-ty-in-Some.ensures
+    e c.in_ok-witness-in-Some.witness c.eta.ensures.grows c.in_ok-witness-in-Some.ensures.term m n c.instantiate.ensures.grows c.in_ok-value-in-Some.ensures.term in
     all_neg_found b c.args.p q c.requires.principal c.in-Some.ensures m (widens_on b d m c.witness_of.ensures.declares.widens (grown_wide d m (grows_on d e m c.eta.ensures.grows c.instantiate.ensures.grows))) c.if-p.false
     ids w c.in_ok-w-in-Some.ensures.row n made c.fails.result c.in_ok-one-in-Some.field-0 c.fails.ensures c.in_ok-one-in-Some.ensures
 

@@ -1,5 +1,5 @@
 use Rattle.std.proofs.Common.{sym, refl, arith}
-use Rattle.tableau_rules.proofs.DeclareLaws.{all_declared, declares_itself, declares_on}
+use Rattle.tableau_rules.proofs.DeclareLaws.{all_declared, declares_itself}
 use Rattle.tableau_rules.proofs.witness.declare.Goals as goal
 
 pub loop-w-init : goal.loop-w-init
