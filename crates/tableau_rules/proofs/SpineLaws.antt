@@ -1,42 +1,35 @@
 -- Arguments that are compared.
-use Rattle.std.proofs.Common.{◌≡◌, ◌<◌, ◌≤◌, ◌+◌, ℕ, zero, suc, true, false, List, [], ◌∷◌, ◌++◌, Some, None, Option, length, map, take, take_all, slice_get, refl, sym, ap, ap₂, subst, subst₂, ◌∙◌, arith}
+use Rattle.std.proofs.Common.{◌≡◌, ◌<◌, ◌≤◌, ◌+◌, ℕ, zero, suc, true, List, [], ◌∷◌, ◌++◌, Some, length, map, take, take_all, slice_get, refl, sym, ap, ap₂, subst, subst₂, ◌∙◌, arith}
 use Rattle.std.specs.Prelude.{All}
 use Rattle.std.proofs.lemmas.Bool.{and_parts}
 use Rattle.std.proofs.lemmas.List.{length-map}
 use Rattle.std.proofs.lemmas.List.Elements.{All-head, All-tail}
 use Rattle.std.proofs.lemmas.Option.{same_Some}
-use Rattle.stt_core.specs.SimpleType.{SimpleType, base, arrow, formula, is_declared}
+use Rattle.stt_core.specs.SimpleType.{SimpleType, base, arrow, is_declared}
 use Rattle.stt_core.specs.Lambda.{Constant, Lambda, constant, app, eq, applied}
 use Rattle.stt_core.specs.Typing.{Scope, constant_type, IsScope}
 use Rattle.stt_core.specs.Canonical.{IsCanonical, IsNeutral}
-use Rattle.stt_core.specs.View.{the_head, the_type}
+use Rattle.stt_core.specs.View.{the_head}
 use Rattle.stt_core.proofs.CanonicalTypes.{canonical_type-at}
 use Rattle.stt_core.proofs.HeadLaws.{atom_head}
 use Rattle.stt_core.proofs.ListLaws.{take_got}
 use Rattle.stt_core.proofs.SpineLaws.{SameParts, parts}
 use Rattle.stt_core.proofs.TypeLaws.{constant_declared}
-use Rattle.stt_tableau.specs.Literals.{Literal, plus, minus, opposite, literal}
-use Rattle.stt_tableau.specs.Rules.{IsDecomposed, differ_each, mat_rule, dec_rule, AreAt, IsInstance}
-use Rattle.stt_tableau.specs.Witnesses.{Row}
-use Rattle.stt_tableau.specs.declared.refutation.RuleUse.TheVariants.{Mat, Dec}
+use Rattle.stt_tableau.specs.Literals.{minus, opposite, literal}
+use Rattle.stt_tableau.specs.Rules.{IsDecomposed, differ_each}
 use Rattle.stt_tableau.specs.Means.Heads.{IsDecomposedHead}
 use Rattle.stt_tableau.proofs.DecompositionLaws.{Takes, arguments_taken}
-use Rattle.stt_tableau.proofs.EquationLaws.{eq_canonical}
-use Rattle.stt_tableau.proofs.InstanceLaws.{fits}
 use Rattle.term_bank.specs.Content.{Content, content_scope, HasTerm, Grows}
 use Rattle.term_bank.specs.Terms.{term_at}
-use Rattle.term_bank.proofs.GrowLaws.{grown_scope, grows_on, has_at, has_within}
-use Rattle.tableau_rules.specs.Means.Compared.{AreNotCompared, HaveArguments, TakesBoth, DiffersAt, DifferEach, IsComparison, AreComparedBy}
-use Rattle.tableau_rules.specs.Means.Drafted.{principal_at, signed_at, alternatives_at, IsPrincipal, AreWithin, Drafted, IsDifference}
-use Rattle.tableau_rules.specs.Means.Parts.{IsSpineOf, IsEquationOf}
+use Rattle.term_bank.proofs.GrowLaws.{grows_on, has_at, has_within}
+use Rattle.tableau_rules.specs.Means.Compared.{AreNotCompared, HaveArguments, TakesBoth, DiffersAt, DifferEach, IsComparison}
+use Rattle.tableau_rules.specs.Means.Drafted.{signed_at, alternatives_at, AreWithin, IsDifference}
+use Rattle.tableau_rules.specs.Means.Parts.{IsSpineOf}
 use Rattle.tableau_rules.specs.Means.Typed.{AreSides}
-use Rattle.tableau_rules.specs.declared.draft.Principal.{Principal}
 use Rattle.tableau_rules.specs.declared.draft.Signed.{Signed}
-use Rattle.tableau_rules.specs.declared.part.Equation.{Equation}
 use Rattle.tableau_rules.specs.declared.part.Spine.{Spine}
 use Rattle.tableau_rules.proofs.ConLaws.{difference_grown, difference_of}
-use Rattle.tableau_rules.proofs.DraftLaws.{stands, nay}
-use Rattle.tableau_rules.proofs.GrownLaws.{principal_grown, drafted_grown}
+use Rattle.tableau_rules.proofs.DraftLaws.{nay}
 use Rattle.tableau_rules.proofs.TypedLaws.{sides_grown}
 
 -- WHERE TERMS AREN'T COMPARED
