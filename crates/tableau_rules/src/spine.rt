@@ -12,7 +12,7 @@ ghost use Rattle.tableau_rules.specs.Means.Typed.{AreSides};
 ghost use Rattle.tableau_rules.specs.Means.Compared.{AreArgumentsOf, AreBaseSides, TakesBoth, DiffersAt, DifferEach, AreComparedBy};
 
 use crate::draft::{Drafts, Principal, Signed, alone, fails};
-use crate::equation::{equate, is_plain_base};
+use crate::equation::is_plain_base;
 use crate::part::{equation_of, spine_of};
 use std::alloc::{AllocError, Global};
 use stt_core::Head;
@@ -75,8 +75,8 @@ fn differ(alloc: Global, bank: &mut Bank, s: Id, t: Id) -> Result<Signed, AllocE
     ensures differs { IfOk result (DiffersAt bank.old bank.new s t) }
     ensures grows { Grows bank.old bank.new }
 {
-    let ty = bank.ty(s).try_clone(alloc)?;
-    let equal = equate(alloc, bank, &ty, s, t)?;
+    let head = Head::Eq(bank.ty(s).try_clone(alloc)?);
+    let equal = bank.intern_app(&head, &[s, t])?;
     Ok(fails(equal))
 }
 
