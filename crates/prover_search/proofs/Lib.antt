@@ -10,3 +10,4 @@ pub mod DecidedLaws
 pub mod RunLaws
 pub mod WorkLaws
 pub mod ShallowLaws
+pub mod SmallLaws

@@ -1,7 +1,8 @@
 -- The numbers of atoms in lists that grow.
-use Rattle.std.proofs.Common.{◌≡◌, ℕ, zero, suc, Bool, true, false, List, [], ◌∷◌, ◌++◌, length, slice_get, Option, Some, None, option_map, refl, sym, ap, subst, ◌∙◌, append_assoc, append-nil}
+use Rattle.std.proofs.Common.{◌≡◌, ℕ, zero, suc, Bool, true, false, List, [], ◌∷◌, ◌++◌, length, slice_get, Option, Some, None, option_map, nat_le, refl, sym, ap, subst, ◌∙◌, append_assoc, append-nil}
 use Rattle.stt_core.specs.Typing.{Scope}
 use Rattle.stt_core.specs.SimpleType.{formula}
+use Rattle.stt_core.specs.Depth.{depth}
 use Rattle.stt_core.specs.Canonical.{IsCanonical}
 use Rattle.stt_tableau.specs.Literals.{Literal, is_negated, IsLiteral, IsBranch}
 use Rattle.stt_tableau.proofs.ListLaws.{Each, contains-first, contains-later}
@@ -9,6 +10,7 @@ use Rattle.sat_base.specs.declared.literal.SatLit.{SatLit}
 use Rattle.prover_search.specs.declared.table.Instance.{Instance}
 use Rattle.prover_search.specs.declared.table.Instance.TheVariants.{False, ImpPos, ImpNeg}
 use Rattle.prover_search.specs.declared.table.Table.{Table}
+use Rattle.prover_search.specs.Searched.{IsPropositional, IsSearched, AreSearched}
 use Rattle.prover_search.specs.Table.{signed, numbered, IsNumber, NoneHasAtom, AreDistinct, IsInterned, AreNumbered, IsMade, IsOfRule, AreOfRules, AddsInstance}
 
 pub slice_get-append : {A : Type 0} (xs ys : List A) (i : ℕ) (x : A) → slice_get xs i ≡ Some x → slice_get (xs ++ ys) i ≡ Some x
@@ -102,6 +104,19 @@ interned_found atoms l s h e = record {
   number = ap (numbered atoms s.var.0) e ∙ h;
   distinct = λ d. d;
   typed = λ scope b k. b;
+  searched = λ h k. h;
+}
+
+searched-push : (ls : List Literal) (l : Literal) → AreSearched ls → IsSearched l → AreSearched (ls ++ l ∷ [])
+searched-push [] l h k = (k, tt)
+searched-push (j ∷ ls) l h k = (h.0, searched-push ls l h.1 k)
+
+-- whether the search takes a literal hangs on its atom
+searched-atom : (l k : Literal) → k.atom ≡ l.atom → IsSearched l → IsSearched k
+searched-atom l k e h = record {
+  formula = subst IsPropositional (sym e) h.formula;
+  unsigned = ap is_negated e ∙ h.unsigned;
+  shallow = ap (λ t. nat_le (depth t) 4096) e ∙ h.shallow;
 }
 
 -- an atom that has none gets the next one
@@ -117,6 +132,7 @@ interned_new old new l k s n e g i p = record {
       ∙ ap (λ t. Some (record { positive = l.positive; atom = t })) e;
   distinct = λ d. subst AreDistinct (sym g) (distinct-push old k d (other old n));
   typed = λ scope b h. subst (IsBranch scope) (sym g) (branch-push scope old k b (record { formula = subst (IsCanonical scope [] formula) (sym e) h.formula; unsigned = ap is_negated e ∙ h.unsigned }));
+  searched = λ h i. subst AreSearched (sym g) (searched-push old k h (searched-atom l k e i));
 }
   where
     other : (ls : List Literal) → NoneHasAtom ls l → NoneHasAtom ls k
@@ -129,6 +145,7 @@ pub record AreInterned (old new : List Literal) (l x y : Literal) (p a b : SatLi
   pub extends : new ≡ old ++ more
   pub distinct : AreDistinct old → AreDistinct new
   pub typed : (scope : Scope) → IsBranch scope old → IsLiteral scope l → IsLiteral scope x → IsLiteral scope y → IsBranch scope new
+  pub searched : AreSearched old → IsSearched l → IsSearched x → IsSearched y → AreSearched new
   pub principal : numbered new p.var.0 l.positive ≡ Some l
   pub numbers : AreNumbered new a b x y
 
@@ -152,6 +169,7 @@ all_interned old one two new l x y p a b f g h = record {
       ∙ ap (λ ls. old ++ ls) (append_assoc f.more g.more h.more);
   distinct = λ d. h.distinct (g.distinct (f.distinct d));
   typed = λ scope d i j k. h.typed scope (g.typed scope (f.typed scope d i) j) k;
+  searched = λ d i j k. h.searched (g.searched (f.searched d i) j) k;
   principal = number_kept two new h.more p.var.0 l.positive l h.extends (number_kept one two g.more p.var.0 l.positive l g.extends (own_sign one p l f.number));
   numbers = record { first = number_kept two new h.more a.var.0 a.positive x h.extends g.number; second = h.number };
 }
@@ -162,6 +180,7 @@ false_added old new l p h s e = record {
   extends = h.extends;
   distinct = h.distinct;
   typed = λ scope d k as'. h.typed scope d k;
+  searched = λ d k as'. h.searched d k;
   instance = False p.var;
   instances = e;
   made = (ap (numbered new.atoms p.var.0) (sym s) ∙ own_sign new.atoms p l h.number, refl);
@@ -173,6 +192,7 @@ imp_pos_added old new l x y p a b h s e = record {
   extends = h.extends;
   distinct = h.distinct;
   typed = λ scope d k as'. h.typed scope d k as'.0.0 as'.1.0.0;
+  searched = λ d k as'. h.searched d k as'.0 as'.1.0;
   instance = ImpPos p.var a b;
   instances = e;
   made = (ap (numbered new.atoms p.var.0) (sym s) ∙ h.principal, x, y, h.numbers, refl);
@@ -184,6 +204,7 @@ imp_neg_added old new l x y p a b h s e = record {
   extends = h.extends;
   distinct = h.distinct;
   typed = λ scope d k as'. h.typed scope d k as'.0.0 as'.0.1.0;
+  searched = λ d k as'. h.searched d k as'.0 as'.1.0;
   instance = ImpNeg p.var a b;
   instances = e;
   made = (ap (numbered new.atoms p.var.0) (sym s) ∙ h.principal, x, y, h.numbers, refl);

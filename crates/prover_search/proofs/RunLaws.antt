@@ -64,13 +64,14 @@ module _ (start : List Literal) (branch_open : IsClosed start → ⊥) where
   distinct-start d = distinct_in start (λ k c. c) d
 
 -- the table of the start, without instances
-table-start : (start : List Literal) (table : Table) → table.atoms ≡ start → table.instances.items ≡ [] → AreDistinct start → IsTable start table
-table-start start table a i d = record {
+table-start : (start : List Literal) (table : Table) → table.atoms ≡ start → table.instances.items ≡ [] → AreSearched start → AreDistinct start → IsTable start table
+table-start start table a i s d = record {
   more = [];
   front = a ∙ sym (append-nil start);
   distinct = subst AreDistinct (sym a) d;
   rules = subst (AreOfRules table.atoms) (sym i) tt;
   typed = λ scope h. subst (IsBranch scope) (sym a) h;
+  searched = subst AreSearched (sym a) s;
 }
 
 pub come-start : (start : List Literal) (limit : ℕ) (table : Table) → table.atoms ≡ start → table.instances.items ≡ [] → AreSearched start → AreDistinct start → IsCome start limit 0 start table
@@ -84,7 +85,7 @@ come-start start limit table a i h d =
       decides = λ ts. (ap (λ ls. list_any (is_false_clause ts) (map (λ (l : Literal). l ∷ []) ls)) e ∙ falsifies-start ts start ∙ ap₂ (falsifies ts start) (sym a) (sym i));
       searched = h;
       typed = λ scope b. b;
-      of_start = table-start start table a i d;
+      of_start = table-start start table a i h d;
     }
 
 module _ (start : List Literal) (limit n : ℕ) (seen : List Literal) (table : Table) where
@@ -156,6 +157,7 @@ module _ (start : List Literal) (limit n : ℕ) (seen : List Literal) (table : T
             distinct = x.adds.distinct c.of_start.distinct;
             rules = subst (AreOfRules new.atoms) (sym x.adds.instances) (rules-push new.atoms table.instances.items x.adds.instance rules_now (record { principal = l; alternatives = x.alternatives; has_rule = x.has_rule; made = x.adds.made }));
             typed = λ scope b. (let i = literal_at scope seen n l g (c.typed scope b) in x.adds.typed scope (c.of_start.typed scope b) i (rule-typed scope l x.alternatives x.has_rule i));
+            searched = x.adds.searched c.of_start.searched own (rule-searched l x.alternatives x.has_rule own);
           };
         }
 
@@ -167,6 +169,7 @@ module _ (start : List Literal) (limit n : ℕ) (seen : List Literal) (table : T
       distinct = subst AreDistinct (sym same.atoms) c.of_start.distinct;
       rules = subst (λ ls. AreOfRules ls new.instances.items) (sym same.atoms) (subst (AreOfRules table.atoms) (sym same.instances) c.of_start.rules);
       typed = λ scope b. subst (IsBranch scope) (sym same.atoms) (c.of_start.typed scope b);
+      searched = subst AreSearched (sym same.atoms) c.of_start.searched;
     }
 
     pub satisfied-same : (new : Table) → IsSameTable table new → IsSatisfied start new
@@ -293,7 +296,7 @@ pair_proved start limit i j h p = record {
 pub search_start : (start : List Literal) (limit : ℕ) (seen : List Literal) (table : Table) (values : List Bool) → AreSearched start → AreDifferent start → (IsClosed start → ⊥) → seen ≡ start → table.atoms ≡ start → table.instances.items ≡ [] → values ≡ signs start → IsSearching start limit 0 seen table values
 search_start start limit seen table values h d o s a i v =
     let distinct = distinct-start start o d in
-    let of_start = table-start start table a i distinct in
+    let of_start = table-start start table a i h distinct in
     record {
       come = subst (λ ls. IsCome start limit 0 ls table) (sym s) (come-start start limit table a i h distinct);
       satisfied = open_satisfied start table of_start (signs start) (record {

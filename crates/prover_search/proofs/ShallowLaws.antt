@@ -122,6 +122,7 @@ module _ (start : List Literal) where
   ends-shallow limit (Proved n r) h = (
     record { until = goes_on limit n h.0.until; state = h.0.state; comes_to = sym (after-shallow start n) ∙ h.0.comes_to; unsatisfiable = h.0.unsatisfiable },
     refutes r h.1,
+    h.2,
   )
   ends-shallow limit (GaveUp n) h = record { until = goes_on limit n h.until; state = h.state; open_state = is_open n h.state h.open_state; none_left = h.none_left }
   ends-shallow limit (Stopped n) h = record { until = goes_on limit n h.until; state = h.state; open_state = is_open n h.state h.open_state; some_left = h.some_left; at_limit = h.at_limit }

@@ -6,6 +6,7 @@ use Rattle.stt_tableau.specs.Witnesses.{with_rows}
 use Rattle.stt_tableau.specs.Accepted.{IsAccepted}
 use Rattle.stt_tableau.specs.declared.refutation.Refutation.{Refutation}
 use Rattle.stt_tableau.specs.declared.refutation.RuleUse.TheVariants.{Close}
+use Rattle.refute_text.specs.Sizes.{IsSmall}
 use Rattle.prover_search.specs.Run.{IsProved, IsExhausted, IsStopped}
 use Rattle.prover_search.specs.declared.commands.Ended.{Ended}
 use Rattle.prover_search.specs.declared.commands.Ended.TheVariants.{Proved, GaveUp, Stopped}
@@ -24,8 +25,9 @@ Refutes start refutation = (scope : Scope) → IsBranch (with_rows scope []) sta
 abbrev pub pair_refutation : List Literal → ℕ → ℕ → Refutation
 pair_refutation branch i j = record { witnesses = []; lines = record { branch = branch; rule = Close i j; children = [] } ∷ [] }
 
--- The answer is how the run ends: with a proof and an accepted refutation, with no command left, or at the limit.
+-- The answer is how the run ends: with a proof and a refutation that is accepted and small enough for a text, with no command left, or at
+-- the limit.
 abbrev pub EndsAs : List Literal → ℕ → Ended → Type 0
-EndsAs start limit (Proved n refutation) = IsProved start limit n × Refutes start refutation
+EndsAs start limit (Proved n refutation) = IsProved start limit n × Refutes start refutation × IsSmall refutation
 EndsAs start limit (GaveUp n) = IsExhausted start limit n
 EndsAs start limit (Stopped n) = IsStopped start limit n

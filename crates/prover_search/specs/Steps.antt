@@ -80,6 +80,7 @@ pub record IsTable (start : List Literal) (table : Table) : Type 0 where
   pub distinct : AreDistinct table.atoms
   pub rules : AreOfRules table.atoms table.instances.items
   pub typed : (scope : Scope) → IsBranch scope start → IsBranch scope table.atoms
+  pub searched : AreSearched table.atoms
 
 -- after n commands, before which the search went on, the clauses are those of the start and the table
 pub record IsCome (start : List Literal) (limit n : ℕ) (seen : List Literal) (table : Table) : Type 0 where

@@ -1,5 +1,6 @@
 -- The numbers of atoms, and instances of rules over them.
 use Rattle.std.specs.Prelude.{◌≡◌, ℕ, Bool, true, false, List, [], ◌∷◌, ◌++◌, Option, Some, option_map, slice_get}
+use Rattle.std.specs.List.{flat_map}
 use Rattle.stt_core.specs.Lambda.{Lambda, constant, falsity, imp}
 use Rattle.stt_core.specs.Typing.{Scope}
 use Rattle.stt_tableau.specs.Literals.{Literal, plus, minus, opposite, literal, IsLiteral, IsBranch}
@@ -7,6 +8,7 @@ use Rattle.sat_base.specs.declared.literal.SatLit.{SatLit}
 use Rattle.prover_search.specs.declared.table.Instance.{Instance}
 use Rattle.prover_search.specs.declared.table.Instance.TheVariants.{False, ImpPos, ImpNeg}
 use Rattle.prover_search.specs.declared.table.Table.{Table}
+use Rattle.prover_search.specs.Searched.{IsSearched, AreSearched}
 
 -- the literal's atom with this sign
 abbrev pub signed : Bool → Literal → Literal
@@ -37,6 +39,7 @@ pub record IsInterned (old new : List Literal) (l : Literal) (s : SatLit) : Type
   pub number : numbered new s.var.0 s.positive ≡ Some l
   pub distinct : AreDistinct old → AreDistinct new
   pub typed : (scope : Scope) → IsBranch scope old → IsLiteral scope l → IsBranch scope new
+  pub searched : AreSearched old → IsSearched l → AreSearched new
 
 -- The rule that processes a literal, with its alternatives.
 pub data HasRule : Literal → List (List Literal) → Type 0 where
@@ -79,6 +82,7 @@ pub record AddsInstance (old new : Table) (l : Literal) (as' : List (List Litera
   pub extends : new.atoms ≡ old.atoms ++ more
   pub distinct : AreDistinct old.atoms → AreDistinct new.atoms
   pub typed : (scope : Scope) → IsBranch scope old.atoms → IsLiteral scope l → AreBranches scope as' → IsBranch scope new.atoms
+  pub searched : AreSearched old.atoms → IsSearched l → AreSearched (flat_map (λ (a : List Literal). a) as') → AreSearched new.atoms
   pub instance : Instance
   pub instances : new.instances.items ≡ old.instances.items ++ instance ∷ []
   pub made : IsMade new.atoms instance l as'

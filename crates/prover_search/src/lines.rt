@@ -1,7 +1,8 @@
 //! The refutation of a decision tree.
 
-ghost use Rattle.std.specs.Prelude.{◌≡◌, ◌≤◌, ◌++◌, [], ◌∷◌, length, slice_get, ◌<◌, IfOk, OnOk, true, false};
+ghost use Rattle.std.specs.Prelude.{◌≡◌, ◌≤◌, ◌^◌, ◌++◌, [], ◌∷◌, length, slice_get, ◌<◌, IfOk, OnOk, true, false};
 ghost use Rattle.stt_tableau.specs.Literals.{plus};
+ghost use Rattle.refute_text.specs.Sizes.{AreSmallLiterals, IsSmallRule, AreSmallLines, IsSmall};
 ghost use Rattle.prover_search.specs.Table.{signed};
 ghost use Rattle.prover_search.specs.Splitting.{the_tree, Closes};
 ghost use Rattle.prover_search.specs.Lines.{branch_of, rule_of, children_of, instance_line, cut_lines, last_number, lines_of, tree_refutation};
@@ -33,7 +34,8 @@ fn branch(alloc: Global, atoms: &Lits, values: &[bool]) -> Result<Lits, AllocErr
 }
 
 fn rule(instance: Instance) -> RuleUse
-    ensures { result ≡ rule_of instance }
+    ensures is { result ≡ rule_of instance }
+    ensures small { IsSmallRule result }
 {
     match instance {
         Instance::False { principal } => RuleUse::False(principal.0),
@@ -65,8 +67,10 @@ fn push_instance(
     values: &[bool],
     lines: &mut Lines,
 ) -> Result<(), AllocError>
-    requires { length values.now ≤ length atoms.now }
-    ensures { OnOk result (lines.new ≡ lines.old ++ instance_line atoms.now values.now instance ∷ []) }
+    requires within { length values.now ≤ length atoms.now }
+    requires small { AreSmallLiterals atoms.now }
+    ensures pushed { OnOk result (lines.new ≡ lines.old ++ instance_line atoms.now values.now instance ∷ []) }
+    ensures small { OnOk result (AreSmallLines lines.old → length lines.old < 2 ^ 64 → AreSmallLines lines.new) }
 {
     let branch = branch(alloc, atoms, values)?;
     let children = closed_children(alloc, instance)?;
@@ -86,8 +90,10 @@ fn push_cut(
     children: (usize, usize),
     lines: &mut Lines,
 ) -> Result<(), AllocError>
-    requires { length values.now < length atoms.now }
-    ensures { OnOk result (lines.new ≡ lines.old ++ cut_lines atoms.now values.now (slice_get atoms.now (length values.now)) children.0 children.1) }
+    requires within { length values.now < length atoms.now }
+    requires small { AreSmallLiterals atoms.now }
+    ensures pushed { OnOk result (lines.new ≡ lines.old ++ cut_lines atoms.now values.now (slice_get atoms.now (length values.now)) children.0 children.1) }
+    ensures small { OnOk result (AreSmallLines lines.old → length lines.old < 2 ^ 64 → AreSmallLines lines.new) }
 {
     let branch = branch(alloc, atoms, values)?;
     let positive = signed(alloc, atoms.at(values.len()), true)?;
@@ -112,9 +118,11 @@ fn push_tree(
 ) -> Result<usize, AllocError>
     requires closes { Closes (length table.now.atoms) table.now.instances.items values.old.items (the_tree tree.now) }
     requires within { length values.old.items ≤ length table.now.atoms }
+    requires small { AreSmallLiterals table.now.atoms }
     ensures lines { OnOk result (lines.new ≡ lines.old ++ lines_of table.now.atoms table.now.instances.items values.old.items (length lines.old) (the_tree tree.now)) }
     ensures last { IfOk result (λ n. n ≡ last_number (length lines.old) (the_tree tree.now)) }
     ensures kept { OnOk result (values.new.items ≡ values.old.items) }
+    ensures small { OnOk result (AreSmallLines lines.old → AreSmallLines lines.new) }
 {
     match tree {
         Split::Violated(i) => {
@@ -153,7 +161,9 @@ pub(crate) fn tree_refutation(
 ) -> Result<Refutation, AllocError>
     requires closes { Closes (length table.now.atoms) table.now.instances.items values.old.items (the_tree tree.now) }
     requires within { length values.old.items ≤ length table.now.atoms }
-    ensures { IfOk result (λ r. r ≡ tree_refutation table.now.atoms table.now.instances.items values.old.items (the_tree tree.now)) }
+    requires small { AreSmallLiterals table.now.atoms }
+    ensures is { IfOk result (λ r. r ≡ tree_refutation table.now.atoms table.now.instances.items values.old.items (the_tree tree.now)) }
+    ensures small { IfOk result (λ r. IsSmall r) }
 {
     let mut lines = Lines::new(alloc);
     push_tree(alloc, table, values, tree, &mut lines)?;

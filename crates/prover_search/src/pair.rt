@@ -3,6 +3,7 @@
 ghost use Rattle.std.specs.Prelude.{◌≡◌, IfSome, IfNone, IfOk, Contains, Some, slice_get, [], ◌∷◌};
 ghost use Rattle.stt_tableau.specs.Literals.{opposite};
 ghost use Rattle.stt_tableau.specs.Accepted.{IsClosed};
+ghost use Rattle.refute_text.specs.Sizes.{AreSmallLiterals, IsSmall};
 ghost use Rattle.prover_search.specs.Ended.{IsPair, pair_refutation};
 
 use std::alloc::{AllocError, Global};
@@ -41,7 +42,9 @@ pub(crate) fn pair_refutation(
     i: usize,
     j: usize,
 ) -> Result<Refutation, AllocError>
-    ensures { IfOk result (λ r. r ≡ pair_refutation branch i j) }
+    requires { AreSmallLiterals branch }
+    ensures is { IfOk result (λ r. r ≡ pair_refutation branch i j) }
+    ensures small { IfOk result (λ r. IsSmall r) }
 {
     let mut lines = Lines::new(alloc);
     lines.push(Line {

@@ -3,6 +3,7 @@ pub mod Trees
 pub mod Text
 pub mod Named
 pub mod Limits
+pub mod Sizes
 pub mod View
 pub mod TreeView
 pub mod LineView

@@ -1,7 +1,6 @@
 -- What a call answers and writes has the meaning that it claims.
-use Rattle.std.proofs.Common.{◌≡◌, ℕ, Bool, true, false, IsTrue, not, ◌||◌, ◌==◌, nat_lt, List, [], ◌∷◌, ◌++◌, codes, decimal, Option, Some, None, Ok, unwrap_or, if◌then◌else◌, refl, sym, ap, ap₂, subst, ◌∙◌, append_assoc, append-nil}
-use Rattle.std.specs.List.{list_any}
-use Rattle.std.proofs.lemmas.Bool.{and_parts, eqb-true}
+use Rattle.std.proofs.Common.{◌≡◌, ℕ, Bool, true, false, IsTrue, ◌||◌, List, [], ◌∷◌, ◌++◌, codes, decimal, Option, Some, None, Ok, refl, sym, ap, ap₂, subst, ◌∙◌, append-nil}
+use Rattle.outside.specs.Prefix.{AppendsProperly}
 use Rattle.stt_core.specs.PlainProblem.{PlainProblem}
 use Rattle.stt_core.specs.TypedProblem.{IsTyped}
 use Rattle.stt_core.specs.Declarations.{scope_of}
@@ -16,17 +15,20 @@ use Rattle.type_check.proofs.TypedProblems.{problem_of-typed}
 use Rattle.refute_text.specs.Text.{text_lines, as_bytes}
 use Rattle.refute_text.specs.Named.{named_refutation}
 use Rattle.refute_check.specs.Numbered.{numbered_refutation}
-use Rattle.satallax_top.specs.Block.{start_mark, end_mark, begins_with, has_line_feed, HoldsText}
+use Rattle.refute_read.specs.Reading.{lines_of, start_mark, end_mark, is_start, is_one_line, read, Reads, TextStands}
+use Rattle.refute_read.proofs.ReadingLaws.{reading-same}
+use Rattle.refute_read.proofs.BackLaws.{reads_back}
 use Rattle.satallax_top.specs.Report.{proof_report, report}
-use Rattle.satallax_top.specs.Words.{is_control, is_file_name, is_option, names_file, asks_check, problem_word, check_word, name_of, text_name_of}
+use Rattle.satallax_top.specs.Words.{problem_word, check_word, name_of, text_name_of}
 use Rattle.satallax_top.specs.Files.{OfFiles, Statements, State}
 use Rattle.satallax_top.specs.Runnable.{names_in}
-use Rattle.satallax_top.specs.Answers.{IsProofOf, stop_outcome, AnswersAsked, AnswersEnding, IsAnswer, IsProvedOutcome, IsDefined}
-use Rattle.satallax_top.specs.Headline.{IsWithoutModel, HasNoModel, IsProofReport, Appends, IsWritten}
+use Rattle.satallax_top.specs.Answers.{IsProofOf, stop_outcome, AnswersAsked, AnswersEnding, IsAnswer, IsFaultOf, IsTextFault, IsNoReadFault, HasCause, IsProvedOutcome, IsDefined}
+use Rattle.satallax_top.specs.Checked.{IsAcceptedText}
+use Rattle.satallax_top.specs.Headline.{IsWithoutModel, HasNoModel, HoldsOnly, IsProofReport, Appends, IsWritten}
 use Rattle.satallax_top.specs.declared.outcome.Outcome.{Outcome}
 use Rattle.satallax_top.specs.declared.outcome.Outcome.TheVariants.{Theorem, Unsatisfiable, Accepted, Words, ReadFault, WriteFault, Memory}
 use Rattle.satallax_top.specs.declared.outcome.FileRef.TheVariants.{Part, Check}
-use Rattle.satallax_top.proofs.LineFeeds.{no_feed-append, decimal_no_feed}
+use Rattle.satallax_top.proofs.OneLine.{one_line-append, decimal_one_line, name_one_line}
 use Rattle.stt_tableau.proofs.StartMeets.{start_unnamed, start_met}
 
 -- no model meets a problem for whose start a refutation is accepted
@@ -41,9 +43,9 @@ pub record EndsProved (n : ℕ) (text : List ℕ) (p : PlainProblem) (ending : E
   pub proof : IsProofOf p n text
 
 ends_proved : (ss : List PlacedTree) (p : PlainProblem) (n : ℕ) (text : List ℕ) → problem_of ss ≡ Ok p → IsProofOf p n text → EndsProved n text p (done ss)
-ends_proved ss p n text read proof = record {
-  stated = record { statements = ss; gathered = refl; read = read };
-  typed = problem_of-typed ss p read;
+ends_proved ss p n text stated proof = record {
+  stated = record { statements = ss; gathered = refl; read = stated };
+  typed = problem_of-typed ss p stated;
   proof = proof;
 }
 
@@ -147,99 +149,59 @@ no_model_answer words told contents o names n text a h =
     let q = proved_answer words told contents o names n text h a in
     record { names = names; problem = q.problem; stated = q.stated; no_model = no_model_of q.problem q.proof.refutation q.typed q.proof.accepted }
 
-false_from_not : (b : Bool) → not b ≡ true → b ≡ false
-false_from_not true h = cc
-false_from_not false h = refl
-
-line_feed_control : (c : ℕ) → (c == 10) ≡ true → is_control c ≡ true
-line_feed_control c h = ap (λ x. nat_lt x 32 || (x == 127)) (eqb-true c 10 h)
-
--- bytes of which none is a control character have no line feed
-no_control-no_feed : (xs : List ℕ) → list_any is_control xs ≡ false → has_line_feed xs ≡ false
-no_control-no_feed [] h = refl
-no_control-no_feed (x ∷ xs) h = go (x == 10) refl (is_control x) refl (no_control-no_feed xs) h
-  where
-    go : (b : Bool) → (x == 10) ≡ b → (d : Bool) → is_control x ≡ d → (list_any is_control xs ≡ false → has_line_feed xs ≡ false) → d || list_any is_control xs ≡ false → b || has_line_feed xs ≡ false
-    go true e true f rest k = cc
-    go true e false f rest k = let q : is_control x ≡ true = line_feed_control x e in cc
-    go false e true f rest k = cc
-    go false e false f rest k = rest k
-
--- the names of files have no line feed
-named_no_feed : (w name : List ℕ) → names_file w ≡ true → w ≡ name → has_line_feed name ≡ false
-named_no_feed w name e same =
-    let file = (and_parts (is_file_name w) (not (is_option w)) e).0 in
-    let clean = (and_parts _ (not (list_any is_control w)) file).1 in
-    subst (λ x. has_line_feed x ≡ false) same (no_control-no_feed w (false_from_not (list_any is_control w) clean))
-
-if_named_no_feed : (b : Bool) (w name : List ℕ) → (b ≡ true → names_file w ≡ true) → (if b then Some w else None) ≡ Some name → has_line_feed name ≡ false
-if_named_no_feed false w name h k = cc
-if_named_no_feed true w name h k = let same : w ≡ name = cc in named_no_feed w name (h refl) same
-
-name_no_feed : (words : List (List ℕ)) (name : List ℕ) → problem_word words ≡ Some name → has_line_feed name ≡ false
-name_no_feed [] name h = cc
-name_no_feed (w ∷ []) name h = if_named_no_feed (names_file w) w name (λ e. e) h
-name_no_feed (w ∷ v ∷ []) name h = cc
-name_no_feed (w ∷ v ∷ u ∷ []) name h = if_named_no_feed (asks_check w v u) u name (λ e. (and_parts _ (names_file u) e).1) h
-name_no_feed (w ∷ v ∷ u ∷ t ∷ words) name h = cc
-
-as_bytes-both : (xs ys : List (List ℕ)) → as_bytes (xs ++ ys) ≡ as_bytes xs ++ as_bytes ys
-as_bytes-both [] ys = refl
-as_bytes-both (x ∷ xs) ys = ap (λ z. x ++ (10 ∷ z)) (as_bytes-both xs ys) ∙ sym (append_assoc x (10 ∷ as_bytes xs) (as_bytes ys))
-
-none_in_both : (p : List ℕ → Bool) (xs ys : List (List ℕ)) → list_any p xs ≡ false → list_any p ys ≡ false → list_any p (xs ++ ys) ≡ false
-none_in_both p [] ys h k = k
-none_in_both p (x ∷ xs) ys h k = go (p x) (λ e. none_in_both p xs ys e k) h
-  where
-    go : (b : Bool) → (list_any p xs ≡ false → list_any p (xs ++ ys) ≡ false) → b || list_any p xs ≡ false → b || list_any p (xs ++ ys) ≡ false
-    go true rest e = cc
-    go false rest e = rest e
-
 or_false : (a b : Bool) → a ≡ false → b ≡ false → a || b ≡ false
 or_false a b h k = ap₂ (λ x y. x || y) h k
 
--- the report of a proof holds the text of its refutation
-holds_proof_report : (status name : List ℕ) (p : PlainProblem) (n : ℕ) (text : List ℕ) (proof : IsProofOf p n text) → has_line_feed name ≡ false → has_line_feed status ≡ false → begins_with start_mark (status ++ name) ≡ false → HoldsText (names_in p) (proof_report status name n text) proof.refutation
-holds_proof_report status name p n text proof clean plain_status other =
+-- the text of a refutation stands in the report of its proof
+stands_in_report : (status name : List ℕ) (p : PlainProblem) (n : ℕ) (text : List ℕ) (proof : IsProofOf p n text) → is_one_line name ≡ true → is_one_line status ≡ true → is_start (status ++ name) ≡ false → TextStands (proof_report status name n text) (named_refutation (names_in p) proof.refutation) 5
+stands_in_report status name p n text proof clean plain_status other =
     let lines = text_lines (named_refutation (names_in p) proof.refutation) in
     let before : List (List ℕ) = (status ++ name) ∷ (codes "% commands " ++ decimal n) ∷ [] in
+    let head = as_bytes (before ++ (start_mark ++ name) ∷ []) in
     let last : List ℕ = end_mark ++ name in
     record {
       before = before;
-      first = start_mark ++ name;
+      start = start_mark ++ name;
       last = last;
-      after = [];
       rest = [];
-      are_lines =
-          ap (λ t. as_bytes ((status ++ name) ∷ (codes "% commands " ++ decimal n) ∷ (start_mark ++ name) ∷ []) ++ (t ++ as_bytes (last ∷ []))) proof.is_text
-          ∙ ap (λ z. as_bytes ((status ++ name) ∷ (codes "% commands " ++ decimal n) ∷ (start_mark ++ name) ∷ []) ++ z) (sym (as_bytes-both lines (last ∷ [])))
-          ∙ sym (as_bytes-both ((status ++ name) ∷ (codes "% commands " ++ decimal n) ∷ (start_mark ++ name) ∷ []) (lines ++ (last ∷ [])))
-          ∙ sym (append-nil (as_bytes (before ++ ((start_mark ++ name) ∷ (lines ++ (last ∷ []))))));
-      no_line_feeds =
-          or_false _ _ (no_feed-append status name plain_status clean)
-          (or_false _ _ (no_feed-append (codes "% commands ") (decimal n) refl (decimal_no_feed n))
-          (or_false _ _ (no_feed-append start_mark name refl clean)
-          (none_in_both has_line_feed lines (last ∷ []) proof.no_line_feeds (or_false _ _ (no_feed-append end_mark name refl clean) refl))));
-      no_start_before = or_false _ _ other refl;
+      bytes_are =
+          ap (λ t. head ++ (t ++ as_bytes (last ∷ []))) proof.is_text
+          ∙ ap (λ z. head ++ (as_bytes lines ++ z)) (sym (append-nil (as_bytes (last ∷ []))));
+      lines_before = (
+        one_line-append status name plain_status clean,
+        (one_line-append (codes "% commands ") (decimal n) refl (decimal_one_line n), (one_line-append start_mark name refl clean, tt)),
+      );
+      last_line = one_line-append end_mark name refl clean;
+      none_before = or_false _ _ other refl;
       starts = refl;
-      no_end_within = proof.no_end_mark;
       ends = refl;
+      first_is = refl;
     }
 
-holds_report : (o : Outcome) (name : List ℕ) (names : List (List ℕ)) (checked : List ℕ) (p : PlainProblem) (n : ℕ) (text : List ℕ) (proof : IsProofOf p n text) → IsProvedOutcome o → has_line_feed name ≡ false → HoldsText (names_in p) (report o name names checked n text) proof.refutation
-holds_report Theorem name names checked p n text proof h clean = holds_proof_report (codes "% SZS status Theorem for ") name p n text proof clean refl refl
-holds_report Unsatisfiable name names checked p n text proof h clean = holds_proof_report (codes "% SZS status Unsatisfiable for ") name p n text proof clean refl refl
+-- the bytes of a report hold the refutation of its proof alone
+holds_only : (status name : List ℕ) (p : PlainProblem) (n : ℕ) (text : List ℕ) (proof : IsProofOf p n text) → is_one_line name ≡ true → is_one_line status ≡ true → is_start (status ++ name) ≡ false → HoldsOnly (names_in p) (proof_report status name n text) proof.refutation
+holds_only status name p n text proof clean plain_status other =
+    let bytes = proof_report status name n text in
+    let tree = named_refutation (names_in p) proof.refutation in
+    let reads : Reads (lines_of bytes) (read tree 5) = reads_back bytes tree 5 proof.has_text (stands_in_report status name p n text proof clean plain_status other) in
+    record { first = 5; reads = reads; only = λ reading h. reading-same (lines_of bytes) reading (read tree 5) h reads; numbered = proof.numbered }
+
+holds_report : (o : Outcome) (name : List ℕ) (names : List (List ℕ)) (checked : List ℕ) (p : PlainProblem) (n : ℕ) (text : List ℕ) (proof : IsProofOf p n text) → IsProvedOutcome o → is_one_line name ≡ true → HoldsOnly (names_in p) (report o name names checked n text) proof.refutation
+holds_report Theorem name names checked p n text proof h clean = holds_only (codes "% SZS status Theorem for ") name p n text proof clean refl refl
+holds_report Unsatisfiable name names checked p n text proof h clean = holds_only (codes "% SZS status Unsatisfiable for ") name p n text proof clean refl refl
 holds_report o name names checked p n text proof h clean = absurd h
 
--- a name that the words give has no line feed
-name_of_no_feed : (words : List (List ℕ)) (name : List ℕ) → problem_word words ≡ Some name → has_line_feed (name_of words) ≡ false
-name_of_no_feed words name h = subst (λ o. has_line_feed (unwrap_or o []) ≡ false) (sym h) (name_no_feed words name h)
+-- bytes that hold a refutation that is accepted are an accepted text
+accepted_text : (p : PlainProblem) (bytes : List ℕ) (r : Refutation) → HoldsOnly (names_in p) bytes r → IsAccepted (scope_of p.declared) (start p) r → IsAcceptedText p bytes
+accepted_text p bytes r h a =
+    record { refutation = named_refutation (names_in p) r; first = h.first; reads = h.reads; accepted = subst (IsAccepted (scope_of p.declared) (start p)) (sym h.numbered) a }
 
 -- the report of an answer that is a proof
 pub proof_reported : (words : List (List ℕ)) (told : Bool) (contents : List ℕ → Option (List ℕ)) (o : Outcome) (names : List (List ℕ)) (n : ℕ) (text written : List ℕ) → IsAnswer words told contents o names n text → IsProvedOutcome o → written ≡ report o (name_of words) names (text_name_of words) n text → IsProofReport words told contents o written
 proof_reported words told contents o names n text written a h w =
     let q = proved_answer words told contents o names n text h a in
     let p = q.problem in
+    let holds = subst (λ x. HoldsOnly (names_in p) x q.proof.refutation) (sym w) (holds_report o (name_of words) names (text_name_of words) p n text q.proof h (name_one_line words q.name q.named)) in
     record {
       names = names;
       problem = p;
@@ -248,19 +210,26 @@ proof_reported words told contents o names n text written a h w =
       proved = q.proof.proved;
       refutation = q.proof.refutation;
       is_report = w ∙ ap (report o (name_of words) names (text_name_of words) n) q.proof.is_text;
-      holds_text = subst (λ x. HoldsText (names_in p) x q.proof.refutation) (sym w) (holds_report o (name_of words) names (text_name_of words) p n text q.proof h (name_of_no_feed words q.name q.named));
+      holds = holds;
       accepted = q.proof.accepted;
+      accepted_text = accepted_text p written q.proof.refutation holds q.proof.accepted;
       closed = accepted_closes_start (scope_of p.declared) (start p) q.proof.refutation q.proof.accepted;
       no_model = no_model_of p q.proof.refutation q.typed q.proof.accepted;
     }
 
 -- what is written for an answer
-pub written_whole : (words : List (List ℕ)) (told : Bool) (contents : List ℕ → Option (List ℕ)) (o : Outcome) (names : List (List ℕ)) (n : ℕ) (text old new : List ℕ) → IsAnswer words told contents o names n text → new ≡ old ++ report o (name_of words) names (text_name_of words) n text → IsWritten words told contents old new o
-written_whole words told contents o names n text old new a w = go o a w
+pub written_whole : (words : List (List ℕ)) (told : Bool) (contents : List ℕ → Option (List ℕ)) (before now : List ℕ → ℕ) (o : Outcome) (names : List (List ℕ)) (n : ℕ) (text old new : List ℕ) → IsAnswer words told contents o names n text → new ≡ old ++ report o (name_of words) names (text_name_of words) n text → IsWritten words told contents before now old new o
+written_whole words told contents before now o names n text old new a w = go o a w
   where
-    go : (o : Outcome) → IsAnswer words told contents o names n text → new ≡ old ++ report o (name_of words) names (text_name_of words) n text → IsWritten words told contents old new o
+    go : (o : Outcome) → IsAnswer words told contents o names n text → new ≡ old ++ report o (name_of words) names (text_name_of words) n text → IsWritten words told contents before now old new o
     go WriteFault a w = absurd a
     go o a w = record { written = report o (name_of words) names (text_name_of words) n text; appended = w; is_report = record { names = names; commands = n; text = text; is_answer = a; is_report = refl } }
+
+-- the cause of an outcome, by what is known of each
+pub cause_of : (words : List (List ℕ)) (told : Bool) (contents : List ℕ → Option (List ℕ)) (before now : List ℕ → ℕ) (o : Outcome) → ((k : ℕ) → o ≡ ReadFault (Part k) → IsFaultOf words told contents before now k) → (o ≡ ReadFault Check → IsTextFault words told contents before now) → (IsNoReadFault o → (file : List ℕ) → now file ≡ before file) → HasCause words told contents before now o
+cause_of words told contents before now (ReadFault (Part k)) f g h = f k refl
+cause_of words told contents before now (ReadFault Check) f g h = g refl
+cause_of words told contents before now o f g h = h tt
 
 -- the bytes that are appended for an answer that is a proof
 pub proof_appended : (words : List (List ℕ)) (told : Bool) (contents : List ℕ → Option (List ℕ)) (o : Outcome) (names : List (List ℕ)) (n : ℕ) (text old new : List ℕ) → IsAnswer words told contents o names n text → new ≡ old ++ report o (name_of words) names (text_name_of words) n text → IsProvedOutcome o → Appends old new (IsProofReport words told contents o)
@@ -271,6 +240,11 @@ proof_appended words told contents o names n text old new a w h =
 pub report_at : (o : Outcome) (names : List (List ℕ)) (n : ℕ) (name other checked own_checked text own old new : List ℕ) → name ≡ other → checked ≡ own_checked → text ≡ own → new ≡ old ++ report o name names checked n text → new ≡ old ++ report o other names own_checked n own
 report_at o names n name other checked own_checked text own old new e d f w =
     w ∙ ap₂ (λ x y. old ++ report o x names checked n y) e f ∙ ap (λ z. old ++ report o other names z n own) d
+
+-- the same of a report that was cut short
+pub report_cut : (o : Outcome) (names : List (List ℕ)) (n : ℕ) (name other checked own_checked text own old new : List ℕ) → name ≡ other → checked ≡ own_checked → text ≡ own → AppendsProperly old new (report o name names checked n text) → AppendsProperly old new (report o other names own_checked n own)
+report_cut o names n name other checked own_checked text own old new e d f h =
+    subst (AppendsProperly old new) (ap₂ (λ x y. report o x names checked n y) e f ∙ ap (λ z. report o other names z n own) d) h
 
 -- where contents are told, an answer that isn't a fault is the defined one
 pub defined_answer : (words : List (List ℕ)) (told : Bool) (contents : List ℕ → Option (List ℕ)) (o : Outcome) (names : List (List ℕ)) (n : ℕ) (text : List ℕ) → IsAnswer words told contents o names n text → IsTrue told → (name : List ℕ) → problem_word words ≡ Some name → ((k : ℕ) → o ≡ ReadFault (Part k) → ⊥) → (o ≡ ReadFault Check → ⊥) → IsDefined words contents o

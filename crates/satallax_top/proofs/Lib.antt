@@ -3,8 +3,10 @@ pub mod PropositionalLaws
 pub mod RunnableLaws
 pub mod PrintableLaws
 pub mod StatedLaws
-pub mod LineFeeds
+pub mod OneLine
 pub mod NameLaws
+pub mod Numbering
+pub mod Written
 pub mod SolvedLaws
 pub mod ReportLaws
 pub mod AnswerLaws

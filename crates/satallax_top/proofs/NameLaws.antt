@@ -21,10 +21,10 @@ pub record NamesAll (names : Names) (scope : Scope) : Type 0 where
   pub constants : length scope.names ≡ length names.constants
 
 module _ (names : Names) (scope : Scope) (n : NamesAll names scope) where
-  type_named : (a : SimpleType) → is_declared scope.bases a ≡ true → HasTypeNames names a
+  pub type_named : (a : SimpleType) → is_declared scope.bases a ≡ true → HasTypeNames names a
   type_named a h = subst (λ k. IsTrue (is_declared k a)) n.bases h
 
-  constant_named : (c : Constant) (a : SimpleType) → constant_type scope c ≡ Some a → HasConstantNames names c
+  pub constant_named : (c : Constant) (a : SimpleType) → constant_type scope c ≡ Some a → HasConstantNames names c
   constant_named (name k) a h = subst (λ m. k < m) n.constants (slice_get_within scope.names k a h)
   constant_named (witness k) a h = tt
   constant_named falsity a h = tt

@@ -7,7 +7,7 @@ use Rattle.stt_core.specs.Lambda.{Lambda}
 use Rattle.stt_core.specs.Typing.{Scope}
 use Rattle.stt_core.specs.Canonical.{IsCanonical}
 use Rattle.stt_core.specs.PlainProblem.{PlainProblem}
-use Rattle.stt_core.specs.TypedProblem.{IsFormula, AreFormulas, IsFormulaIfThere, IsTyped}
+use Rattle.stt_core.specs.TypedProblem.{IsFormula, AreFormulas, IsFormulaIfThere, IsTyped, NamesDiffer}
 use Rattle.stt_core.specs.Declarations.{scope_of}
 use Rattle.stt_normal.specs.Normal.{normal_form}
 use Rattle.stt_normal.proofs.EtaReplace.{normal_form-canonical}
@@ -78,11 +78,12 @@ module _ (p : PlainProblem) (typed : IsTyped p) (g : AllPropositional p) where
       taken-opposite : (t : Lambda) → IsPropositional t → HasPropositionalAtom (opposite (literal t))
       taken-opposite t h = record { formula = propositional-literal t h; unsigned = unsigned-literal t }
 
-  -- such a problem is run, where its names are printable
-  pub runnable : ArePrintable (names_in p) → IsRunnable p
-  runnable printable = record {
+  -- such a problem is run, where its names are printable and differ
+  pub runnable : ArePrintable (names_in p) → NamesDiffer p.declared → IsRunnable p
+  runnable printable apart = record {
     formulas = typed;
     printable = printable;
+    apart = apart;
     searched = start_searched;
     different = added-different [] (map (normal_literal (scope_of p.declared)) p.assumed ++ denied (scope_of p.declared) p.conjecture) tt;
     typed = start_typed p typed;

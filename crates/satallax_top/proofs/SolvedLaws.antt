@@ -1,5 +1,7 @@
 -- A run that ended with a proof has its text.
-use Rattle.std.proofs.Common.{◌≡◌, ℕ, suc, List, [], ◌∷◌, map, length, refl, ap}
+use Rattle.std.proofs.Common.{◌≡◌, ◌<◌, ℕ, suc, true, List, [], ◌∷◌, map, length, refl, ap, arith}
+use Rattle.std.specs.List.{AllByRecursion}
+use Rattle.std.proofs.lemmas.List.Sums.{list_all-from_AllPass}
 use Rattle.stt_core.specs.TypedName.{TypedName}
 use Rattle.stt_core.specs.PlainProblem.{PlainProblem}
 use Rattle.stt_core.specs.Declarations.{scope_of}
@@ -10,20 +12,37 @@ use Rattle.refute_text.specs.Named.{named_refutation, IsNamed}
 use Rattle.prover_search.specs.Ended.{EndsAs}
 use Rattle.prover_search.specs.Run.{command_limit}
 use Rattle.prover_search.specs.declared.commands.Ended.TheVariants.{Proved}
-use Rattle.satallax_top.specs.Runnable.{names_in, IsRunnable}
+use Rattle.satallax_top.specs.Runnable.{ArePrintable, names_in, IsRunnable}
 use Rattle.satallax_top.specs.Answers.{IsProofOf, IsSolvedFor, IsProvedFor}
 use Rattle.satallax_top.specs.declared.outcome.Outcome.{Outcome}
 use Rattle.satallax_top.specs.declared.outcome.Outcome.TheVariants.{Theorem, Unsatisfiable, GaveUp, CommandLimit, Accepted, Refused, SyntaxAt, TypeAt, IncludeAt, Words, TooLong, NotYetAt, ReadFault, WriteFault, Memory}
-use Rattle.satallax_top.proofs.LineFeeds.{no_line_feeds-lines, no_end_mark-lines}
-use Rattle.satallax_top.proofs.NameLaws.{accepted_named}
+use Rattle.thf_parse.specs.Printable.{IsPrintable}
+use Rattle.refute_text.specs.Letters.{is_printable, is_name}
+use Rattle.satallax_top.proofs.NameLaws.{NamesAll, accepted_named}
+use Rattle.satallax_top.proofs.Numbering.{declared_placed, refutation-same}
+use Rattle.satallax_top.proofs.Written.{AreWords, has_text}
 
 same_length : (cs : List TypedName) → length (map (λ c. c.type) cs) ≡ length (map (λ c. c.name) cs)
 same_length [] = refl
 same_length (c ∷ cs) = ap suc (same_length cs)
 
+word : (w : List ℕ) → IsPrintable w → is_name w ≡ true
+word [] h = absurd (omega (arith, h.0))
+word (c ∷ cs) h = list_all-from_AllPass is_printable (c ∷ cs) h.1
+
+words : (ws : List (List ℕ)) → AllByRecursion IsPrintable ws → AllByRecursion (λ w. is_name w ≡ true) ws
+words [] h = tt
+words (w ∷ ws) h = (word w h.0, words ws h.1)
+
+are_words : (p : PlainProblem) → ArePrintable (names_in p) → AreWords (names_in p)
+are_words p h = record { bases = words (names_in p).bases h.bases; constants = words (names_in p).constants h.constants }
+
+named_all : (p : PlainProblem) → NamesAll (names_in p) (scope_of p.declared)
+named_all p = record { bases = refl; constants = same_length p.declared.consts }
+
 module _ (p : PlainProblem) (n : ℕ) (refutation : Refutation) (r : IsRunnable p) (e : EndsAs (start p) command_limit (Proved n refutation)) where
   pub run_named : IsNamed (names_in p) refutation
-  run_named = accepted_named (names_in p) (scope_of p.declared) (record { bases = refl; constants = same_length p.declared.consts }) (start p) refutation (e.1 (scope_of p.declared) r.typed)
+  run_named = accepted_named (names_in p) (scope_of p.declared) (named_all p) (start p) refutation (e.1 (scope_of p.declared) r.typed)
 
   pub proof_of_run : (text : List ℕ) → text ≡ as_bytes (text_lines (named_refutation (names_in p) refutation)) → IsProofOf p n text
   proof_of_run text t = record {
@@ -31,8 +50,8 @@ module _ (p : PlainProblem) (n : ℕ) (refutation : Refutation) (r : IsRunnable 
     refutation = refutation;
     accepted = e.1 (scope_of p.declared) r.typed;
     is_text = t;
-    no_line_feeds = no_line_feeds-lines (names_in p) r.printable refutation;
-    no_end_mark = no_end_mark-lines (names_in p) r.printable refutation;
+    has_text = has_text (names_in p) (scope_of p.declared) (named_all p) (are_words p r.printable) (start p) refutation (e.1 (scope_of p.declared) r.typed) e.2;
+    numbered = refutation-same (names_in p) (declared_placed p.declared r.apart) (scope_of p.declared) refutation (e.1 (scope_of p.declared) r.typed).table run_named;
   }
 
 -- the outcome of a problem that is proved, with the text of its refutation

@@ -7,7 +7,7 @@ use Rattle.thf_include.specs.View.{PlacedTree}
 use Rattle.type_check.specs.Statements.{problem_of}
 use Rattle.type_check.specs.Means.ProblemNames.{AllDeclared, AllNames}
 use Rattle.type_check.proofs.TypedProblems.{problem_of-typed}
-use Rattle.type_check.proofs.DeclaredNames.{problem_of-declares}
+use Rattle.type_check.proofs.DeclaredNames.{problem_of-declares, problem_of-names_differ}
 use Rattle.run_forms.specs.Forms.{first_unbuilt}
 use Rattle.run_forms.proofs.FormLaws.{built_formulas_are_propositional}
 use Rattle.satallax_top.specs.Runnable.{ArePrintable, names_in, IsRunnable}
@@ -21,4 +21,4 @@ names_printable p h = record {
 
 pub stated_runnable : (ss : List PlacedTree) (p : PlainProblem) → problem_of ss ≡ Ok p → first_unbuilt p.declared.consts ss ≡ None → AllDeclared IsPrintable ss → IsRunnable p
 stated_runnable ss p read built printable =
-    runnable p (problem_of-typed ss p read) (built_formulas_are_propositional ss p read built) (names_printable p (problem_of-declares IsPrintable ss p read printable))
+    runnable p (problem_of-typed ss p read) (built_formulas_are_propositional ss p read built) (names_printable p (problem_of-declares IsPrintable ss p read printable)) (problem_of-names_differ ss p read)

@@ -1,6 +1,5 @@
 -- What a call answers.
 use Rattle.std.specs.Prelude.{◌≡◌, ℕ, Bool, true, false, IsTrue, List, Option, Some, None, Ok, Err, is_some, is_none, slice_get}
-use Rattle.std.specs.List.{list_any}
 use Rattle.stt_core.specs.PlainProblem.{PlainProblem}
 use Rattle.stt_core.specs.Declarations.{scope_of}
 use Rattle.outside.specs.Causes.{Rose}
@@ -18,24 +17,26 @@ use Rattle.prover_search.specs.Run.{command_limit}
 use Rattle.prover_search.specs.Run.{IsProved, IsExhausted, IsStopped}
 use Rattle.refute_text.specs.Text.{text_lines, as_bytes}
 use Rattle.refute_text.specs.Named.{named_refutation}
-use Rattle.satallax_top.specs.Block.{end_mark, begins_with, has_line_feed}
+use Rattle.refute_read.specs.Reading.{HasText}
+use Rattle.refute_check.specs.Numbered.{numbered_refutation}
 use Rattle.satallax_top.specs.Words.{problem_word, check_word}
 use Rattle.satallax_top.specs.Files.{OfFiles, State}
 use Rattle.satallax_top.specs.Checked.{AnswersCheck}
 use Rattle.satallax_top.specs.Runnable.{names_in}
-use Rattle.satallax_top.specs.declared.outcome.FileRef.TheVariants.{Part}
+use Rattle.satallax_top.specs.declared.outcome.FileRef.TheVariants.{Part, Check}
 use Rattle.satallax_top.specs.declared.outcome.IncludeWhy.TheVariants.{Cycle, NoSuchName, TooMany}
 use Rattle.satallax_top.specs.declared.outcome.Outcome.{Outcome}
 use Rattle.satallax_top.specs.declared.outcome.Outcome.TheVariants.{Theorem, Unsatisfiable, GaveUp, CommandLimit, SyntaxAt, TypeAt, IncludeAt, Words, TooLong, NotYetAt, ReadFault, WriteFault, Memory}
 
--- The run over the problem ends after n commands, with a refutation that is accepted for its start, and whose lines are these.
+-- The run over the problem ends after n commands, with a refutation that is accepted for its start. It has a text, which is this one, and
+-- the text has it: the numbers of the names of what is declared are those from which the names came.
 pub record IsProofOf (p : PlainProblem) (n : ℕ) (text : List ℕ) : Type 0 where
   pub proved : IsProved (start p) command_limit n
   pub refutation : Refutation
   pub accepted : IsAccepted (scope_of p.declared) (start p) refutation
   pub is_text : text ≡ as_bytes (text_lines (named_refutation (names_in p) refutation))
-  pub no_line_feeds : list_any has_line_feed (text_lines (named_refutation (names_in p) refutation)) ≡ false
-  pub no_end_mark : list_any (begins_with end_mark) (text_lines (named_refutation (names_in p) refutation)) ≡ false
+  pub has_text : HasText (named_refutation (names_in p) refutation)
+  pub numbered : numbered_refutation (names_in p) (named_refutation (names_in p) refutation) ≡ refutation
 
 -- how the run over the problem ends: an outcome, a number of commands, and the text of a refutation
 abbrev pub IsSolvedFor : PlainProblem → Outcome → ℕ → List ℕ → Type 0
@@ -124,6 +125,21 @@ pub record IsTextFault (words : List (List ℕ)) (told : Bool) (contents : List 
   pub file : List ℕ
   pub name : check_word words ≡ Some file
   pub rose : Rose (before file) (now file)
+
+-- the outcome isn't that a file can't be read
+abbrev pub IsNoReadFault : Outcome → Type 0
+IsNoReadFault (ReadFault file) = ⊥
+IsNoReadFault outcome = Unit {0}
+
+abbrev pub IsNoWriteFault : Outcome → Type 0
+IsNoWriteFault WriteFault = ⊥
+IsNoWriteFault outcome = Unit {0}
+
+-- The cause of an outcome: where it is that a file can't be read, the count of that file's name rose, and otherwise no count did.
+abbrev pub HasCause : List (List ℕ) → Bool → (List ℕ → Option (List ℕ)) → (List ℕ → ℕ) → (List ℕ → ℕ) → Outcome → Type 0
+HasCause words told contents before now (ReadFault (Part k)) = IsFaultOf words told contents before now k
+HasCause words told contents before now (ReadFault Check) = IsTextFault words told contents before now
+HasCause words told contents before now outcome = (file : List ℕ) → now file ≡ before file
 
 abbrev pub IsProvedOutcome : Outcome → Type 0
 IsProvedOutcome Theorem = Unit {0}

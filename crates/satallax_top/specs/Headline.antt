@@ -14,12 +14,15 @@ use Rattle.prover_search.specs.Run.{command_limit}
 use Rattle.prover_search.specs.Run.{IsProved}
 use Rattle.refute_text.specs.Text.{text_lines, as_bytes}
 use Rattle.refute_text.specs.Named.{named_refutation}
-use Rattle.satallax_top.specs.Block.{HoldsText}
+use Rattle.refute_text.specs.Named.{Names}
+use Rattle.refute_read.specs.Reading.{lines_of, Reading, read, Reads}
+use Rattle.refute_check.specs.Numbered.{numbered_refutation}
 use Rattle.satallax_top.specs.Report.{report}
 use Rattle.satallax_top.specs.Words.{name_of, text_name_of}
 use Rattle.satallax_top.specs.Files.{State}
 use Rattle.satallax_top.specs.Runnable.{names_in}
-use Rattle.satallax_top.specs.Answers.{IsAnswer}
+use Rattle.satallax_top.specs.Checked.{IsAcceptedText}
+use Rattle.satallax_top.specs.Answers.{IsAnswer, HasCause}
 use Rattle.satallax_top.specs.declared.outcome.Outcome.{Outcome}
 use Rattle.satallax_top.specs.declared.outcome.Outcome.TheVariants.{WriteFault}
 
@@ -34,8 +37,15 @@ pub record HasNoModel (words : List (List ℕ)) (told : Bool) (contents : List �
   pub stated : State words told contents names problem
   pub no_model : IsWithoutModel problem
 
--- What is written where a proof is reported. The bytes hold the text of a refutation, which is accepted for the start of the problem that
--- the files state; the tableau of its last line closes the start; after the number of commands that is reported, and not before, the
+-- The bytes hold one refutation, which is this one: so they are read, and in no other way.
+pub record HoldsOnly (names : Names) (bytes : List ℕ) (refutation : Refutation) : Type 0 where
+  pub first : ℕ
+  pub reads : Reads (lines_of bytes) (read (named_refutation names refutation) first)
+  pub only : (reading : Reading) → Reads (lines_of bytes) reading → reading ≡ read (named_refutation names refutation) first
+  pub numbered : numbered_refutation names (named_refutation names refutation) ≡ refutation
+
+-- What is written where a proof is reported. The bytes hold one refutation, which is accepted for the start of the problem that the files
+-- state, so that they are an accepted text for the problem; the tableau of its last line closes the start; after the number of commands that is reported, and not before, the
 -- clauses of the search are unsatisfiable; and no standard model with finite base types meets the problem.
 pub record IsProofReport (words : List (List ℕ)) (told : Bool) (contents : List ℕ → Option (List ℕ)) (outcome : Outcome) (written : List ℕ) : Type 0 where
   pub names : List (List ℕ)
@@ -45,8 +55,9 @@ pub record IsProofReport (words : List (List ℕ)) (told : Bool) (contents : Lis
   pub proved : IsProved (start problem) command_limit commands
   pub refutation : Refutation
   pub is_report : written ≡ report outcome (name_of words) names (text_name_of words) commands (as_bytes (text_lines (named_refutation (names_in problem) refutation)))
-  pub holds_text : HoldsText (names_in problem) written refutation
+  pub holds : HoldsOnly (names_in problem) written refutation
   pub accepted : IsAccepted (scope_of problem.declared) (start problem) refutation
+  pub accepted_text : IsAcceptedText problem written
   pub closed : Closes (with_rows (scope_of problem.declared) refutation.witnesses) refutation.witnesses (tableau_of refutation) (start problem)
   pub no_model : IsWithoutModel problem
 
@@ -64,17 +75,18 @@ pub record IsReported (words : List (List ℕ)) (told : Bool) (contents : List �
   pub is_answer : IsAnswer words told contents outcome names commands text
   pub is_report : written ≡ report outcome (name_of words) names (text_name_of words) commands text
 
--- a write failed: a proper front of the report of an answer was written
-pub record IsCutShort (words : List (List ℕ)) (told : Bool) (contents : List ℕ → Option (List ℕ)) (old new : List ℕ) : Type 0 where
+-- a write failed: a proper front of the report of an answer was written, and the answer's cause is there
+pub record IsCutShort (words : List (List ℕ)) (told : Bool) (contents : List ℕ → Option (List ℕ)) (before now : List ℕ → ℕ) (old new : List ℕ) : Type 0 where
   pub outcome : Outcome
+  pub cause : HasCause words told contents before now outcome
   pub whole : List ℕ
   pub is_reported : IsReported words told contents outcome whole
   pub appended : AppendsProperly old new whole
 
 -- what the call has written
-abbrev pub IsWritten : List (List ℕ) → Bool → (List ℕ → Option (List ℕ)) → List ℕ → List ℕ → Outcome → Type 0
-IsWritten words told contents old new WriteFault = IsCutShort words told contents old new
-IsWritten words told contents old new outcome = Appends old new (IsReported words told contents outcome)
+abbrev pub IsWritten : List (List ℕ) → Bool → (List ℕ → Option (List ℕ)) → (List ℕ → ℕ) → (List ℕ → ℕ) → List ℕ → List ℕ → Outcome → Type 0
+IsWritten words told contents before now old new WriteFault = IsCutShort words told contents before now old new
+IsWritten words told contents before now old new outcome = Appends old new (IsReported words told contents outcome)
 
 -- the outcome is an answer of the call, unless a write failed
 abbrev pub IsOutcome : List (List ℕ) → Bool → (List ℕ → Option (List ℕ)) → Outcome → Type 0

@@ -1,7 +1,6 @@
 pub mod Words
 pub mod Files
 pub mod Runnable
-pub mod Block
 pub mod Status
 pub mod Report
 pub mod Checked

@@ -5,7 +5,7 @@ use Rattle.stt_tableau.specs.declared.refutation.Why.TheVariants as cause
 use Rattle.refute_text.specs.Text.{as_bytes}
 use Rattle.type_check.specs.declared.refusal.IllWhy.{IllWhy}
 use Rattle.type_check.specs.declared.refusal.IllWhy.TheVariants.{Unknown, Twice, Mismatch, NotFormula, SecondConjecture, RoleUnknown}
-use Rattle.satallax_top.specs.Block.{start_mark, end_mark}
+use Rattle.refute_read.specs.Reading.{start_mark, end_mark}
 use Rattle.satallax_top.specs.declared.outcome.FileRef.{FileRef}
 use Rattle.satallax_top.specs.declared.outcome.FileRef.TheVariants.{Part, Check}
 use Rattle.satallax_top.specs.declared.outcome.IncludeWhy.{IncludeWhy}

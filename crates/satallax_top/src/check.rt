@@ -5,6 +5,7 @@ ghost use Rattle.stt_core.specs.TypedProblem.{IsTyped};
 ghost use Rattle.outside.specs.Causes.{Rose};
 ghost use Rattle.thf_include.specs.View.{the_statements};
 ghost use Rattle.satallax_top.specs.Checked.{unread_outcome, failed_outcome, AnswersBytes, AnswersText, AnswersCheck};
+ghost use Rattle.satallax_top.specs.Answers.{IsNoReadFault};
 ghost use Rattle.satallax_top.specs.declared.outcome.FileRef.TheVariants.{Check};
 
 use crate::outcome::{FileRef, Outcome};
@@ -70,6 +71,11 @@ fn check_file<F: Files>(alloc: Global, files: &mut F, problem: &Problem, name: &
     requires { IsTyped problem.now }
     ensures answers { AnswersText (F.tells files.old) (F.contents files.old) name.now problem.now result }
     ensures fault { result ≡ Outcome.ReadFault Check → Rose (F.faults files.old name.now) (F.faults files.new name.now) }
+    ensures quiet { IsNoReadFault result → (other : List ℕ) → F.faults files.new other ≡ F.faults files.old other }
+
+    ensures later { (other : List ℕ) → F.faults files.old other ≤ F.faults files.new other }
+    ensures same { F.contents files.new ≡ F.contents files.old }
+    ensures telling { F.tells files.new ≡ F.tells files.old }
 {
     match read_whole(alloc, files, name, MAX_TEXT_BYTES) {
         Ok(bytes) => check_bytes(alloc, problem, bytes.as_slice()),
@@ -93,6 +99,11 @@ pub(crate) fn check_statements<F: Files>(
     requires { length gathered.now < 2 ^ 32 - 2 }
     ensures answers { AnswersCheck (F.tells files.old) (F.contents files.old) name.now (the_statements gathered.now) result }
     ensures fault { result ≡ Outcome.ReadFault Check → Rose (F.faults files.old name.now) (F.faults files.new name.now) }
+    ensures quiet { IsNoReadFault result → (other : List ℕ) → F.faults files.new other ≡ F.faults files.old other }
+
+    ensures later { (other : List ℕ) → F.faults files.old other ≤ F.faults files.new other }
+    ensures same { F.contents files.new ≡ F.contents files.old }
+    ensures telling { F.tells files.new ≡ F.tells files.old }
 {
     match check(alloc, gathered) {
         Ok(problem) => check_file(alloc, files, &problem, name),

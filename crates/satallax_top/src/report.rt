@@ -39,8 +39,10 @@ fn write_headed<S: Sink>(
         → S.written out.new ≡ S.written out.old ++ headed status.now name.now word.now what.now) }
     ensures failed { OnErr result (IsTrue (S.tells out.old)
         → AppendsProperly (S.written out.old) (S.written out.new) (headed status.now name.now word.now what.now)) }
+    ensures quiet { OnOk result (S.faults out.new ≡ S.faults out.old) }
     ensures cause { OnErr result (Rose (S.faults out.old) (S.faults out.new)) }
     ensures later { S.faults out.old ≤ S.faults out.new }
+    ensures telling { IsTrue (S.tells out.old) → IsTrue (S.tells out.new) }
 {
     write_pieces(out, &[status, name, b"\n", word, what, b"\n"])
 }
@@ -57,8 +59,10 @@ fn write_proof_pieces<S: Sink>(
         → S.written out.new ≡ S.written out.old ++ counted_report status.now name.now commands.now text.now) }
     ensures failed { OnErr result (IsTrue (S.tells out.old)
         → AppendsProperly (S.written out.old) (S.written out.new) (counted_report status.now name.now commands.now text.now)) }
+    ensures quiet { OnOk result (S.faults out.new ≡ S.faults out.old) }
     ensures cause { OnErr result (Rose (S.faults out.old) (S.faults out.new)) }
     ensures later { S.faults out.old ≤ S.faults out.new }
+    ensures telling { IsTrue (S.tells out.old) → IsTrue (S.tells out.new) }
 {
     write_pieces(
         out,
@@ -90,8 +94,10 @@ fn write_proof<S: Sink>(
         → S.written out.new ≡ S.written out.old ++ proof_report status.now name.now commands text.now) }
     ensures failed { OnErr result (IsTrue (S.tells out.old)
         → AppendsProperly (S.written out.old) (S.written out.new) (proof_report status.now name.now commands text.now)) }
+    ensures quiet { OnOk result (S.faults out.new ≡ S.faults out.old) }
     ensures cause { OnErr result (Rose (S.faults out.old) (S.faults out.new)) }
     ensures later { S.faults out.old ≤ S.faults out.new }
+    ensures telling { IsTrue (S.tells out.old) → IsTrue (S.tells out.new) }
 {
     let mut buffer = Buffer::new();
     let digits = buffer.format(commands).as_bytes();
@@ -110,8 +116,10 @@ fn write_numbered<S: Sink>(
         → S.written out.new ≡ S.written out.old ++ headed status.now name.now word.now (decimal number)) }
     ensures failed { OnErr result (IsTrue (S.tells out.old)
         → AppendsProperly (S.written out.old) (S.written out.new) (headed status.now name.now word.now (decimal number))) }
+    ensures quiet { OnOk result (S.faults out.new ≡ S.faults out.old) }
     ensures cause { OnErr result (Rose (S.faults out.old) (S.faults out.new)) }
     ensures later { S.faults out.old ≤ S.faults out.new }
+    ensures telling { IsTrue (S.tells out.old) → IsTrue (S.tells out.new) }
 {
     let mut buffer = Buffer::new();
     let digits = buffer.format(number).as_bytes();
@@ -190,8 +198,10 @@ fn write_place<S: Sink>(
         → S.written out.new ≡ S.written out.old ++ headed status.now name.now word.now (file.now ++ (codes " " ++ digits.now))) }
     ensures failed { OnErr result (IsTrue (S.tells out.old)
         → AppendsProperly (S.written out.old) (S.written out.new) (headed status.now name.now word.now (file.now ++ (codes " " ++ digits.now)))) }
+    ensures quiet { OnOk result (S.faults out.new ≡ S.faults out.old) }
     ensures cause { OnErr result (Rose (S.faults out.old) (S.faults out.new)) }
     ensures later { S.faults out.old ≤ S.faults out.new }
+    ensures telling { IsTrue (S.tells out.old) → IsTrue (S.tells out.new) }
 {
     write_pieces(out, &[status, name, b"\n", word, file, b" ", digits, b"\n"])
 }
@@ -209,8 +219,10 @@ fn write_syntax<S: Sink>(
         → S.written out.new ≡ S.written out.old ++ headed (codes "% SZS status SyntaxError for ") name.now (codes "% syntax ") (place_in (file_name names.now checked.now file) at)) }
     ensures failed { OnErr result (IsTrue (S.tells out.old)
         → AppendsProperly (S.written out.old) (S.written out.new) (headed (codes "% SZS status SyntaxError for ") name.now (codes "% syntax ") (place_in (file_name names.now checked.now file) at))) }
+    ensures quiet { OnOk result (S.faults out.new ≡ S.faults out.old) }
     ensures cause { OnErr result (Rose (S.faults out.old) (S.faults out.new)) }
     ensures later { S.faults out.old ≤ S.faults out.new }
+    ensures telling { IsTrue (S.tells out.old) → IsTrue (S.tells out.new) }
 {
     let mut buffer = Buffer::new();
     let digits = buffer.format(at).as_bytes();
@@ -231,8 +243,10 @@ fn write_place_why<S: Sink>(
         → S.written out.new ≡ S.written out.old ++ headed (codes "% SZS status InputError for ") name.now word.now ((file.now ++ (codes " " ++ digits.now)) ++ (codes " " ++ why.now))) }
     ensures failed { OnErr result (IsTrue (S.tells out.old)
         → AppendsProperly (S.written out.old) (S.written out.new) (headed (codes "% SZS status InputError for ") name.now word.now ((file.now ++ (codes " " ++ digits.now)) ++ (codes " " ++ why.now)))) }
+    ensures quiet { OnOk result (S.faults out.new ≡ S.faults out.old) }
     ensures cause { OnErr result (Rose (S.faults out.old) (S.faults out.new)) }
     ensures later { S.faults out.old ≤ S.faults out.new }
+    ensures telling { IsTrue (S.tells out.old) → IsTrue (S.tells out.new) }
 {
     write_pieces(
         out,
@@ -264,8 +278,10 @@ fn write_refused<S: Sink>(
         → S.written out.new ≡ S.written out.old ++ headed (codes "% SZS status InputError for ") name.now word.now (refused_in file.now at why.now)) }
     ensures failed { OnErr result (IsTrue (S.tells out.old)
         → AppendsProperly (S.written out.old) (S.written out.new) (headed (codes "% SZS status InputError for ") name.now word.now (refused_in file.now at why.now))) }
+    ensures quiet { OnOk result (S.faults out.new ≡ S.faults out.old) }
     ensures cause { OnErr result (Rose (S.faults out.old) (S.faults out.new)) }
     ensures later { S.faults out.old ≤ S.faults out.new }
+    ensures telling { IsTrue (S.tells out.old) → IsTrue (S.tells out.new) }
 {
     let mut buffer = Buffer::new();
     let digits = buffer.format(at).as_bytes();
@@ -286,8 +302,10 @@ fn write_ill<S: Sink>(
         → S.written out.new ≡ S.written out.old ++ headed (codes "% SZS status InputError for ") name.now (codes "% type ") (refused_in (file_name names.now checked.now file) at (ill_word why))) }
     ensures failed { OnErr result (IsTrue (S.tells out.old)
         → AppendsProperly (S.written out.old) (S.written out.new) (headed (codes "% SZS status InputError for ") name.now (codes "% type ") (refused_in (file_name names.now checked.now file) at (ill_word why)))) }
+    ensures quiet { OnOk result (S.faults out.new ≡ S.faults out.old) }
     ensures cause { OnErr result (Rose (S.faults out.old) (S.faults out.new)) }
     ensures later { S.faults out.old ≤ S.faults out.new }
+    ensures telling { IsTrue (S.tells out.old) → IsTrue (S.tells out.new) }
 {
     let file = file_name(names, checked, file);
     write_refused(out, name, b"% type ", file, at, ill_word(why))
@@ -307,8 +325,10 @@ fn write_include<S: Sink>(
         → S.written out.new ≡ S.written out.old ++ headed (codes "% SZS status InputError for ") name.now (codes "% include ") (refused_in (file_name names.now checked.now file) at (include_word why))) }
     ensures failed { OnErr result (IsTrue (S.tells out.old)
         → AppendsProperly (S.written out.old) (S.written out.new) (headed (codes "% SZS status InputError for ") name.now (codes "% include ") (refused_in (file_name names.now checked.now file) at (include_word why)))) }
+    ensures quiet { OnOk result (S.faults out.new ≡ S.faults out.old) }
     ensures cause { OnErr result (Rose (S.faults out.old) (S.faults out.new)) }
     ensures later { S.faults out.old ≤ S.faults out.new }
+    ensures telling { IsTrue (S.tells out.old) → IsTrue (S.tells out.new) }
 {
     let file = file_name(names, checked, file);
     write_refused(out, name, b"% include ", file, at, include_word(why))
@@ -327,8 +347,10 @@ fn write_file<S: Sink>(
         → S.written out.new ≡ S.written out.old ++ headed (codes "% SZS status InputError for ") name.now word.now (file_name names.now checked.now file)) }
     ensures failed { OnErr result (IsTrue (S.tells out.old)
         → AppendsProperly (S.written out.old) (S.written out.new) (headed (codes "% SZS status InputError for ") name.now word.now (file_name names.now checked.now file))) }
+    ensures quiet { OnOk result (S.faults out.new ≡ S.faults out.old) }
     ensures cause { OnErr result (Rose (S.faults out.old) (S.faults out.new)) }
     ensures later { S.faults out.old ≤ S.faults out.new }
+    ensures telling { IsTrue (S.tells out.old) → IsTrue (S.tells out.new) }
 {
     write_headed(
         out,
@@ -345,8 +367,10 @@ fn write_accepted<S: Sink>(out: &mut S, name: &[u8]) -> Result<(), Failed>
         → S.written out.new ≡ S.written out.old ++ as_bytes ((codes "% refutation accepted for " ++ name.now) ∷ [])) }
     ensures failed { OnErr result (IsTrue (S.tells out.old)
         → AppendsProperly (S.written out.old) (S.written out.new) (as_bytes ((codes "% refutation accepted for " ++ name.now) ∷ []))) }
+    ensures quiet { OnOk result (S.faults out.new ≡ S.faults out.old) }
     ensures cause { OnErr result (Rose (S.faults out.old) (S.faults out.new)) }
     ensures later { S.faults out.old ≤ S.faults out.new }
+    ensures telling { IsTrue (S.tells out.old) → IsTrue (S.tells out.new) }
 {
     write_pieces(out, &[b"% refutation accepted for ", name, b"\n"])
 }
@@ -362,8 +386,10 @@ fn write_refusal_pieces<S: Sink>(
         → S.written out.new ≡ S.written out.old ++ refused_report name.now line.now word.now) }
     ensures failed { OnErr result (IsTrue (S.tells out.old)
         → AppendsProperly (S.written out.old) (S.written out.new) (refused_report name.now line.now word.now)) }
+    ensures quiet { OnOk result (S.faults out.new ≡ S.faults out.old) }
     ensures cause { OnErr result (Rose (S.faults out.old) (S.faults out.new)) }
     ensures later { S.faults out.old ≤ S.faults out.new }
+    ensures telling { IsTrue (S.tells out.old) → IsTrue (S.tells out.new) }
 {
     write_pieces(
         out,
@@ -385,8 +411,10 @@ fn write_refusal<S: Sink>(out: &mut S, name: &[u8], line: usize, why: Why) -> Re
         → S.written out.new ≡ S.written out.old ++ refused_report name.now (decimal line) (why_word why)) }
     ensures failed { OnErr result (IsTrue (S.tells out.old)
         → AppendsProperly (S.written out.old) (S.written out.new) (refused_report name.now (decimal line) (why_word why))) }
+    ensures quiet { OnOk result (S.faults out.new ≡ S.faults out.old) }
     ensures cause { OnErr result (Rose (S.faults out.old) (S.faults out.new)) }
     ensures later { S.faults out.old ≤ S.faults out.new }
+    ensures telling { IsTrue (S.tells out.old) → IsTrue (S.tells out.new) }
 {
     let mut buffer = Buffer::new();
     let digits = buffer.format(line).as_bytes();
@@ -408,8 +436,10 @@ pub(crate) fn write_report<S: Sink>(
         → S.written out.new ≡ S.written out.old ++ report outcome name.now names.now checked.now commands text.now) }
     ensures failed { OnErr result (IsTrue (S.tells out.old)
         → AppendsProperly (S.written out.old) (S.written out.new) (report outcome name.now names.now checked.now commands text.now)) }
+    ensures quiet { OnOk result (S.faults out.new ≡ S.faults out.old) }
     ensures cause { OnErr result (Rose (S.faults out.old) (S.faults out.new)) }
     ensures later { S.faults out.old ≤ S.faults out.new }
+    ensures telling { IsTrue (S.tells out.old) → IsTrue (S.tells out.new) }
 {
     match outcome {
         Outcome::Theorem => write_proof(out, THEOREM, name, commands, text),

@@ -2,7 +2,7 @@
 
 ghost use Rattle.std.specs.Prelude.{◌≡◌, ◌≤◌, ◌++◌, ℕ, List, [], IsTrue, Some, None};
 ghost use Rattle.outside.specs.Causes.{Rose};
-ghost use Rattle.satallax_top.specs.Answers.{refused_outcome, IsAnswer, IsFaultOf, IsTextFault, IsProvedOutcome, IsDefined};
+ghost use Rattle.satallax_top.specs.Answers.{refused_outcome, IsAnswer, IsFaultOf, IsTextFault, IsNoReadFault, IsNoWriteFault, HasCause, IsProvedOutcome, IsDefined};
 ghost use Rattle.satallax_top.specs.Headline.{HasNoModel, IsProofReport, Appends, IsWritten, IsOutcome};
 ghost use Rattle.satallax_top.specs.Words.{problem_word};
 ghost use Rattle.satallax_top.specs.declared.outcome.FileRef.TheVariants.{Part, Check};
@@ -56,6 +56,11 @@ fn answer<F: Files>(alloc: Global, words: &Words, files: &mut F, names: &mut Fil
         → IsFaultOf words.now (F.tells files.old) (F.contents files.old) (F.faults files.old) (F.faults files.new) k }
     ensures text_read { result.outcome ≡ Outcome.ReadFault Check
         → IsTextFault words.now (F.tells files.old) (F.contents files.old) (F.faults files.old) (F.faults files.new) }
+    ensures quiet { IsNoReadFault result.outcome → (other : List ℕ) → F.faults files.new other ≡ F.faults files.old other }
+
+    ensures later { (other : List ℕ) → F.faults files.old other ≤ F.faults files.new other }
+    ensures same { F.contents files.new ≡ F.contents files.old }
+    ensures telling { F.tells files.new ≡ F.tells files.old }
 {
     let Some(name) = words.problem() else {
         return Answer::plain(alloc, Outcome::Words, 0);
@@ -83,11 +88,12 @@ pub fn satallax<F: Files, S: Sink>(
     // The outcome is an answer for these words and for the contents of the problem's files, and of the text's where one is checked.
     ensures outcome { IsOutcome words.now (F.tells files.old) (F.contents files.old) result }
 
-    // What is written is the report of the outcome, or where a write failed a proper front of the report of an answer.
+    // What is written is the report of the outcome, or where a write failed a proper front of the report of an answer whose cause is there.
     ensures bytes { IsTrue (S.tells out.old)
-        → IsWritten words.now (F.tells files.old) (F.contents files.old) (S.written out.old) (S.written out.new) result }
+        → IsWritten words.now (F.tells files.old) (F.contents files.old) (F.faults files.old) (F.faults files.new) (S.written out.old) (S.written out.new) result }
 
-    // Where a proof is reported, what is written holds a refutation that is accepted, a closed tableau, and no model meets the problem.
+    // Where a proof is reported, what is written holds one refutation, the one that was found. It is accepted: so the check of these bytes
+    // accepts them, its tableau is closed, and no model meets the problem.
     ensures proof { IsTrue (S.tells out.old) → IsProvedOutcome result
         → Appends (S.written out.old) (S.written out.new) (IsProofReport words.now (F.tells files.old) (F.contents files.old) result) }
     ensures no_model { IsProvedOutcome result → HasNoModel words.now (F.tells files.old) (F.contents files.old) }
@@ -95,13 +101,19 @@ pub fn satallax<F: Files, S: Sink>(
     // Where a text is accepted, no model meets the problem.
     ensures accepted_no_model { result ≡ Outcome.Accepted → HasNoModel words.now (F.tells files.old) (F.contents files.old) }
 
-    // The causes of what doesn't hang on contents.
+    // The causes of what doesn't hang on contents. A fault is answered exactly where a call of the files or of the sink counted one.
     ensures words { result ≡ Outcome.Words → problem_word words.now ≡ None }
-    ensures read { (k : ℕ) → result ≡ Outcome.ReadFault (Part k)
-        → IsFaultOf words.now (F.tells files.old) (F.contents files.old) (F.faults files.old) (F.faults files.new) k }
-    ensures text_read { result ≡ Outcome.ReadFault Check
-        → IsTextFault words.now (F.tells files.old) (F.contents files.old) (F.faults files.old) (F.faults files.new) }
+    ensures read { IsNoWriteFault result
+        → HasCause words.now (F.tells files.old) (F.contents files.old) (F.faults files.old) (F.faults files.new) result }
     ensures write { result ≡ Outcome.WriteFault → Rose (S.faults out.old) (S.faults out.new) }
+    ensures quiet { IsNoWriteFault result → S.faults out.new ≡ S.faults out.old }
+
+    // Told contents stay, files and sink go on to tell, and no count of faults falls.
+    ensures same { F.contents files.new ≡ F.contents files.old }
+    ensures telling { F.tells files.new ≡ F.tells files.old }
+    ensures later { (other : List ℕ) → F.faults files.old other ≤ F.faults files.new other }
+    ensures out_telling { IsTrue (S.tells out.old) → IsTrue (S.tells out.new) }
+    ensures out_later { S.faults out.old ≤ S.faults out.new }
 
     // Where the words name a problem, contents are told and no count of faults rises, the outcome is the defined one, or memory ran out.
     ensures complete { IsTrue (F.tells files.old) → (name : List ℕ) → problem_word words.now ≡ Some name

@@ -38,3 +38,7 @@ pub record Gathers (tells : Bool) (contents : List ℕ → Option (List ℕ)) (n
 abbrev pub OfFault : (ℕ → Type 0) → GatherRefused → Type 0
 OfFault P (Fault file) = P file
 OfFault P _ = Unit {0}
+
+-- the refusal is no fault
+abbrev pub IsNoFault : GatherRefused → Type 0
+IsNoFault refused = OfFault (λ file. ⊥) refused

@@ -4,7 +4,7 @@ ghost use Rattle.std.specs.Prelude.{◌≡◌, ◌≤◌, ◌<◌, ◌^◌, [], 
 ghost use Rattle.outside.specs.Causes.{Rose};
 ghost use Rattle.thf_syntax.specs.Trees.{include};
 ghost use Rattle.thf_syntax.specs.View.{the_file, the_statement, the_selection};
-ghost use Rattle.thf_include.specs.Answer.{Gathers, OfFault};
+ghost use Rattle.thf_include.specs.Answer.{Gathers, OfFault, IsNoFault};
 ghost use Rattle.thf_include.specs.Means.Chain.{the_chain};
 ghost use Rattle.thf_include.specs.Means.Names.{IsNamed, AreNamed};
 ghost use Rattle.thf_include.specs.Means.Steps.{FileSteps, StatementSteps, StatementsStep};
@@ -42,6 +42,7 @@ pub fn gather<F: Files>(
     ensures gathered { Gathers (F.tells files.old) (F.contents files.old) name.now names.new result }
     ensures fault { IfErr result (OfFault (λ file. IsSomeAnd (slice_get names.new file) (λ n.
         Rose (F.faults files.old n) (F.faults files.new n)))) }
+    ensures quiet { IfErr result IsNoFault → (other : List ℕ) → F.faults files.new other ≡ F.faults files.old other }
     ensures placed { IfOk result (λ g. All (λ p. p.file < length names.new) g) }
     ensures counted { IfOk result (λ g. length g ≤ 2 ^ 24) }
 
@@ -81,6 +82,7 @@ fn gather_file<F: Files>(
         opened.old opened.new (the_statements gathered.old) (the_statements gathered.new) result }
     ensures fault { IfErr result (OfFault (λ file. IsSomeAnd (slice_get opened.new.names file) (λ n.
         Rose (F.faults files.old n) (F.faults files.new n)))) }
+    ensures quiet { IfErr result IsNoFault → (other : List ℕ) → F.faults files.new other ≡ F.faults files.old other }
 
     ensures grows { length opened.old.names ≤ length opened.new.names }
     ensures later { (other : List ℕ) → F.faults files.old other ≤ F.faults files.new other }
@@ -111,6 +113,7 @@ fn gather_statements<F: Files>(
         opened.old opened.new (the_statements gathered.old) (the_statements gathered.new) result }
     ensures fault { IfErr result (OfFault (λ file. IsSomeAnd (slice_get opened.new.names file) (λ n.
         Rose (F.faults files.old n) (F.faults files.new n)))) }
+    ensures quiet { IfErr result IsNoFault → (other : List ℕ) → F.faults files.new other ≡ F.faults files.old other }
 
     ensures grows { length opened.old.names ≤ length opened.new.names }
     ensures later { (other : List ℕ) → F.faults files.old other ≤ F.faults files.new other }
@@ -138,6 +141,7 @@ fn gather_statement<F: Files>(
         opened.old opened.new (the_statements gathered.old) (the_statements gathered.new) result }
     ensures fault { IfErr result (OfFault (λ file. IsSomeAnd (slice_get opened.new.names file) (λ n.
         Rose (F.faults files.old n) (F.faults files.new n)))) }
+    ensures quiet { IfErr result IsNoFault → (other : List ℕ) → F.faults files.new other ≡ F.faults files.old other }
 
     ensures grows { length opened.old.names ≤ length opened.new.names }
     ensures later { (other : List ℕ) → F.faults files.old other ≤ F.faults files.new other }
@@ -181,6 +185,7 @@ fn gather_include<F: Files>(
         opened.old opened.new (the_statements gathered.old) (the_statements gathered.new) result }
     ensures fault { IfErr result (OfFault (λ file. IsSomeAnd (slice_get opened.new.names file) (λ n.
         Rose (F.faults files.old n) (F.faults files.new n)))) }
+    ensures quiet { IfErr result IsNoFault → (other : List ℕ) → F.faults files.new other ≡ F.faults files.old other }
 
     ensures grows { length opened.old.names ≤ length opened.new.names }
     ensures later { (other : List ℕ) → F.faults files.old other ≤ F.faults files.new other }

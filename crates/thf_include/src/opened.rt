@@ -3,7 +3,7 @@
 ghost use Rattle.std.specs.Prelude.{◌≡◌, ◌+◌, ◌∷◌, [], ◌++◌, ◌≤◌, ◌<◌, List, ℕ, Some, length, slice_get, IsSomeAnd, IfOk, IfErr, OnOk, IsTrue};
 ghost use Rattle.outside.specs.Causes.{Rose};
 ghost use Rattle.thf_include.specs.Gathering.{byte_limit, file_limit};
-ghost use Rattle.thf_include.specs.Answer.{OfFault};
+ghost use Rattle.thf_include.specs.Answer.{OfFault, IsNoFault};
 ghost use Rattle.thf_include.specs.Means.Opening.{IsReadRefusal};
 
 use crate::limits::{MAX_BYTES, MAX_FILES};
@@ -44,6 +44,7 @@ impl Opened {
         ensures refused { IfErr result (IsReadRefusal (F.tells files.old) (F.contents files.old) name.now self.old.names self.new.names self.old.left) }
         ensures fault { IfErr result (OfFault (λ file. IsSomeAnd (slice_get self.new.names file) (λ n.
             Rose (F.faults files.old n) (F.faults files.new n)))) }
+        ensures quiet { IfErr result IsNoFault → (other : List ℕ) → F.faults files.new other ≡ F.faults files.old other }
 
         ensures later { (other : List ℕ) → F.faults files.old other ≤ F.faults files.new other }
         ensures same { F.contents files.new ≡ F.contents files.old }

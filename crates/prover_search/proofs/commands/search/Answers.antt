@@ -4,6 +4,7 @@ use Rattle.prover_search.specs.Run.{IsProved, IsExhausted, IsStopped}
 use Rattle.prover_search.specs.Steps.{IsSearching, GoesOnBy}
 use Rattle.prover_search.specs.Ended.{Refutes}
 use Rattle.prover_search.proofs.RunLaws.{search_start, exhausted, stopped, values_within, closed_refutes}
+use Rattle.prover_search.proofs.SmallLaws.{searched_small}
 use Rattle.prover_search.proofs.commands.search.Goals as goal
 
 pub loop-commands-init : goal.loop-commands-init
@@ -26,13 +27,20 @@ tree_refutation-requires-clause-within c =
     let g = subst (λ o. GoesOnBy o c.args.start command_limit c.loop-commands.commands c.step.new.seen c.step.new.table c.step.new.values.items) c.in-Some.is h in
     values_within c.args.start c.step.new.table c.step.new.values.items g.of_start g.are_signs
 
+pub tree_refutation-requires-clause-small : goal.tree_refutation-requires-clause-small
+tree_refutation-requires-clause-small c =
+    let h = c.in_ok-tree.ensures c.args.start command_limit (λ e. absurd (omega (arith, e, c.loop-commands-test.true))) c.loop-commands.invariant in
+    let g = subst (λ o. GoesOnBy o c.args.start command_limit c.loop-commands.commands c.step.new.seen c.step.new.table c.step.new.values.items) c.in-Some.is h in
+    searched_small c.step.new.table.atoms g.of_start.searched
+
 pub returns-in-Some : goal.returns-in-Some
 returns-in-Some c =
     let n = c.loop-commands.commands in
     let h = c.in_ok-tree.ensures c.args.start command_limit (λ e. absurd (omega (arith, e, c.loop-commands-test.true))) c.loop-commands.invariant in
     let g = subst (λ o. GoesOnBy o c.args.start command_limit n c.step.new.seen c.step.new.table c.step.new.values.items) c.in-Some.is h in (
       subst (IsProved c.args.start command_limit) (sym (add-one n)) g.proved,
-      subst (Refutes c.args.start) (sym c.in_ok-refutation.ensures) (closed_refutes c.in-Some.tree c.args.start command_limit (suc n) c.step.new.table c.step.new.values.items g),
+      subst (Refutes c.args.start) (sym c.in_ok-refutation.ensures.is) (closed_refutes c.in-Some.tree c.args.start command_limit (suc n) c.step.new.table c.step.new.values.items g),
+      c.in_ok-refutation.ensures.small,
     )
 
 pub loop-commands-preserved : goal.loop-commands-preserved

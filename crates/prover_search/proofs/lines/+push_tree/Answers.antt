@@ -25,7 +25,7 @@ returns-in_ok-push_cut-in-Cut-clause-lines t c =
     c.in_ok-first-in-Cut.ensures.last
     (c.in_ok-second-in-Cut.ensures.lines ∙ ap (λ bs. one ++ lines_of atoms instances bs (length one) failed) longer)
     c.in_ok-second-in-Cut.ensures.last
-    (c.in_ok-push_cut-in-Cut.ensures ∙ ap (λ bs. two ++ cut_lines atoms bs (slice_get atoms (length bs)) c.in_ok-first-in-Cut.first c.in_ok-second-in-Cut.second) (c.as_slice-in-Cut.ensures.value ∙ again))
+    (c.in_ok-push_cut-in-Cut.ensures.pushed ∙ ap (λ bs. two ++ cut_lines atoms bs (slice_get atoms (length bs)) c.in_ok-first-in-Cut.first c.in_ok-second-in-Cut.second) (c.as_slice-in-Cut.ensures.value ∙ again))
     ∙ ap (λ x. before ++ lines_of atoms instances values (length before) x) (sym is_cut)
 
 pub returns-in_ok-push_cut-in-Cut-clause-last : goal.returns-in_ok-push_cut-in-Cut-clause-last

@@ -139,6 +139,7 @@ gather_statements-loop-statement-init g t c =
       seen = sym c.into_iter-statement-iterator.ensures.into_iter_gives.0;
       steps = none-step (files.tells c.args.files.now) (files.contents c.args.files.now) (the_chain c.args.chain.now) c.args.file c.args.opened.now (the_statements c.args.gathered.now);
       grows = omega arith;
+      quiet = λ other. refl;
       later = λ other. omega arith;
       same = refl;
       telling = refl;
@@ -172,6 +173,7 @@ gather_statements-loop-statement-preserved g t c =
           (next-statement tells contents chain c.args.file (the_file c.loop-statement.yielded) (the_statement c.in-Some.statement) c.args.opened.now c.loop-statement.opened c.gather_statement.new.opened before between after so_far.steps c.in_ok-gather_statement.field-0
           (same-statement tells (files.tells c.loop-statement.files) contents (files.contents c.loop-statement.files) so_far.telling so_far.same chain c.args.file c.loop-statement.opened c.gather_statement.new.opened between after (Ok c.in_ok-gather_statement.field-0) (the_statement c.in-Some.statement) step.steps));
       grows = omega (arith, so_far.grows, step.grows);
+      quiet = λ other. step.quiet (tt {0}) other ∙ so_far.quiet other;
       later = λ other. omega (arith, so_far.later other, step.later other);
       same = step.same ∙ so_far.same;
       telling = step.telling ∙ so_far.telling;
