@@ -1,13 +1,13 @@
 -- What the search takes and writes is small enough for a text.
-use Rattle.std.proofs.Common.{◌≡◌, ℕ, zero, suc, ◌+◌, ◌≤◌, ◌<◌, ◌^◌, max, nat_le, Bool, true, false, List, [], ◌∷◌, ◌++◌, length, length-append, slice_get, Some, refl, sym, ap, ap₂, subst, ◌∙◌, arith}
+use Rattle.std.proofs.Common.{◌≡◌, ℕ, zero, suc, ◌≤◌, ◌<◌, ◌^◌, max, nat_le, Bool, true, List, [], ◌∷◌, ◌++◌, length, length-append, slice_get, Some, refl, sym, ap, ap₂, subst, arith}
 use Rattle.std.specs.List.{AllByRecursion}
 use Rattle.std.proofs.lemmas.Bool.Decides.{nat_tests}
-use Rattle.stt_core.specs.Lambda.{Lambda, bound, constant, lam, app, Constant, name, witness, falsity, negation, implication, all, equality, choice, description}
+use Rattle.stt_core.specs.Lambda.{Lambda, constant, app, name, falsity, negation, implication}
 use Rattle.stt_core.specs.Depth.{depth}
 use Rattle.stt_tableau.specs.Literals.{Literal}
 use Rattle.stt_tableau.specs.declared.refutation.Line.{Line}
 use Rattle.refute_text.specs.Limits.{IsChild}
-use Rattle.refute_text.specs.Sizes.{term_limit, type_limit, type_depth, IsSmallTerm, AreSmallLiterals, IsSmallLine, AreSmallLines}
+use Rattle.refute_text.specs.Sizes.{term_limit, type_depth, IsSmallTerm, AreSmallLiterals, IsSmallLine, AreSmallLines}
 use Rattle.prover_search.specs.declared.table.Instance.{Instance}
 use Rattle.prover_search.specs.declared.table.Instance.TheVariants.{False, ImpPos, ImpNeg}
 use Rattle.prover_search.specs.Searched.{IsPropositional, IsSearched, AreSearched}

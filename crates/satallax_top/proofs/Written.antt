@@ -1,6 +1,6 @@
 -- An accepted refutation that is small has a text, whatever printable names it has.
-use Rattle.std.proofs.Common.{◌≡◌, ◌+◌, ◌<◌, ◌≤◌, ◌^◌, ◌&&◌, nat_lt, ◌⊎◌, inl, inr, ℕ, zero, suc, max, Bool, true, false, List, [], ◌∷◌, ◌++◌, length, length-append, map, slice_get, Some, refl, sym, ap, ap₂, subst, ◌∙◌, arith}
-use Rattle.std.specs.List.{AllByRecursion, list_all}
+use Rattle.std.proofs.Common.{◌≡◌, ◌+◌, ◌<◌, ◌≤◌, ◌^◌, nat_lt, ◌⊎◌, inl, inr, ℕ, zero, suc, max, Bool, true, false, List, [], ◌∷◌, ◌++◌, length, length-append, map, Some, refl, sym, ap₂, subst, arith}
+use Rattle.std.specs.List.{AllByRecursion}
 use Rattle.std.proofs.lemmas.Bool.{and_parts}
 use Rattle.std.proofs.lemmas.Bool.Decides.{nat_tests}
 use Rattle.std.proofs.lemmas.Option.{slice_get_within}
@@ -10,7 +10,6 @@ use Rattle.stt_core.specs.Lambda.{Constant, name, witness, falsity, negation, im
 use Rattle.stt_core.specs.Depth.{depth}
 use Rattle.stt_core.specs.Typing.{Scope, constant_type}
 use Rattle.stt_core.specs.Canonical.{IsCanonical, IsNeutral}
-use Rattle.stt_core.proofs.TypeLaws.{given}
 use Rattle.stt_tableau.specs.Literals as plain
 use Rattle.stt_tableau.specs.Literals.{Literal, IsBranch}
 use Rattle.stt_tableau.specs.Witnesses.{Row, with_rows, IsTableAfter}
@@ -22,7 +21,7 @@ use Rattle.stt_tableau.specs.declared.refutation.Refutation.{Refutation}
 use Rattle.refute_text.specs.Letters.{is_name}
 use Rattle.refute_text.specs.Limits as text
 use Rattle.refute_text.specs.Limits.{constant_depth, term_depth, spine_depth, IsType, IsConstant, IsTerm, IsSpine, greatest_depth, IsWithin, IsLiteral, IsRule, IsLine}
-use Rattle.refute_text.specs.Sizes.{term_limit, type_limit, nesting, nesting_in, type_depth, IsSmallTerm, AreSmallLiterals, IsSmallRule, IsSmallLine, AreSmallLines, IsSmall}
+use Rattle.refute_text.specs.Sizes.{term_limit, nesting, nesting_in, type_depth, IsSmallTerm, AreSmallLiterals, IsSmallRule, IsSmallLine, IsSmall}
 use Rattle.refute_text.specs.Named.{Names, name_at, named_type, named_constant, named_term, named_literal, named_rule, named_line, named_refutation, HasTypeNames, HasConstantNames}
 use Rattle.refute_read.specs.Reading.{HasText}
 use Rattle.satallax_top.proofs.NameLaws.{NamesAll, type_named, constant_named}

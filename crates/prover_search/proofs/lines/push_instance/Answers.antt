@@ -1,4 +1,4 @@
-use Rattle.std.proofs.Common.{◌≡◌, sym, subst}
+use Rattle.std.proofs.Common.{sym, subst}
 use Rattle.std.specs.List.{AllByRecursion}
 use Rattle.refute_text.specs.Limits.{IsChild}
 use Rattle.refute_text.specs.Sizes.{AreSmallLiterals}
