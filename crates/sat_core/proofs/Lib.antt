@@ -1,6 +1,7 @@
 pub mod MarkLaws
 pub mod CountingLaws
 pub mod AnalysisSteps
+pub mod ShortenSteps
 pub mod NameLaws
 pub mod LearnerLaws
 pub mod LearnerSteps

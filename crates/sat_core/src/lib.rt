@@ -5,6 +5,7 @@ mod analysis;
 mod learner;
 mod marks;
 mod restarts;
+mod shorten;
 mod solver;
 #[cfg(test)]
 mod tests;
