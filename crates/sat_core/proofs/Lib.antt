@@ -7,4 +7,5 @@ pub mod LearnerLaws
 pub mod LearnerSteps
 pub mod DecisionLaws
 pub mod SpentLaws
+pub mod KeeperLaws
 pub mod SolverLaws

@@ -2,6 +2,7 @@
 #![tactic(auto)]
 
 mod analysis;
+mod keeper;
 mod learner;
 mod marks;
 mod restarts;
@@ -9,6 +10,7 @@ mod shorten;
 mod solver;
 #[cfg(test)]
 mod tests;
+mod uses;
 
 pub use learner::Answer;
 pub use solver::Solver;
