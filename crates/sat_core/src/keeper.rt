@@ -145,8 +145,8 @@ fn kept_after(
     n
 }
 
-/// Makes a clause true by a change that makes at most one of the first clauses false, if there is such a change: that
-/// one, or else the clause itself.
+/// Makes a clause true by a change that makes none of the first clauses false, or else one, if there is such a change.
+/// The one that is false then, or else the clause itself.
 fn change(
     values: &mut [bool],
     uses: &Uses,
@@ -164,15 +164,40 @@ fn change(
     ensures some { IfSome result (λ next. (next < bound) × AreTrueBut values.new next bound clauses.now) }
     ensures none { IfNone result (values.new ≡ values.old) }
 {
+    if let Some(next) = turn_first(values, uses, clauses, n, bound, false) {
+        return Some(next);
+    }
+    turn_first(values, uses, clauses, n, bound, true)
+}
+
+/// Makes the first literal of a clause true for which `turn` can do so.
+fn turn_first(
+    values: &mut [bool],
+    uses: &Uses,
+    clauses: &ClauseStore,
+    n: usize,
+    bound: usize,
+    may_break: bool,
+) -> Option<usize>
+    requires over { AreOver (length values.old) clauses.now }
+    requires inside { n < bound }
+    requires within { bound ≤ length clauses.now }
+    requires used { AreUsed uses.now bound clauses.now }
+    requires made { length values.old ≤ length uses.now }
+    requires but { AreTrueBut values.old n bound clauses.now }
+    ensures made { length values.new ≡ length values.old }
+    ensures some { IfSome result (λ next. (next < bound) × AreTrueBut values.new next bound clauses.now) }
+    ensures none { IfNone result (values.new ≡ values.old) }
+{
     for literal in clauses.get(n).as_slice() {
-        if let Some(next) = turn(values, uses, clauses, *literal, n, bound) {
+        if let Some(next) = turn(values, uses, clauses, *literal, n, bound, may_break) {
             return Some(next);
         }
     }
     None
 }
 
-/// Makes one literal of a clause true, if this makes at most one of the first clauses false.
+/// Makes one literal of a clause true, if this makes none of the first clauses false, or, where it may, at most one.
 fn turn(
     values: &mut [bool],
     uses: &Uses,
@@ -180,6 +205,7 @@ fn turn(
     literal: SatLit,
     n: usize,
     bound: usize,
+    may_break: bool,
 ) -> Option<usize>
     requires over { AreOver (length values.old) clauses.now }
     requires inside { n < bound }
@@ -195,21 +221,22 @@ fn turn(
 {
     let before = values[literal.var.0];
     values[literal.var.0] = literal.positive;
-    let next = only_false(values, uses.of(literal.var), clauses, n, bound);
+    let next = only_false(values, uses.of(literal.var), clauses, n, bound, may_break);
     if next.is_none() {
         values[literal.var.0] = before;
     }
     next
 }
 
-/// Which of the first clauses with these numbers is false, beside number `n`: this one where none is, and none where
-/// several are.
+/// Which of the first clauses with these numbers is false, beside number `n`: this one where none is. None where several
+/// are, or one that may not be.
 fn only_false(
     values: &[bool],
     numbers: &[usize],
     clauses: &ClauseStore,
     n: usize,
     bound: usize,
+    may_break: bool,
 ) -> Option<usize>
     requires over { AreOver (length values.now) clauses.now }
     requires inside { n < bound }
@@ -220,7 +247,7 @@ fn only_false(
     let mut found = n;
     for k in numbers {
         if *k != found && is_false_below(values, clauses, *k, bound) {
-            if found != n {
+            if !may_break || found != n {
                 return None;
             }
             found = *k;

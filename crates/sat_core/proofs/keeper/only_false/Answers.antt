@@ -4,7 +4,7 @@ use Rattle.std.proofs.lemmas.List.{take_all}
 use Rattle.sat_base.specs.declared.literal.SatLit.{SatLit}
 use Rattle.sat_base.specs.Truth.{clause_value, assigned}
 use Rattle.sat_core.proofs.KeeperLaws.{contains_more}
-use Rattle.sat_core.proofs.keeper.only_false.Goals.{then-k-found+then-is_false_below+else-found-n, else-k-found, else-k-found-via-then-k-found+else-is_false_below, else-k-found-via-else-k-found}
+use Rattle.sat_core.proofs.keeper.only_false.Goals.{then-k-found+then-is_false_below+else-not-may_break+else-found-n, else-k-found, else-k-found-via-then-k-found+else-is_false_below, else-k-found-via-else-k-found}
 use Rattle.sat_core.proofs.keeper.only_false.Goals as goal
 
 pub loop-k-preserved : goal.loop-k-preserved
@@ -13,7 +13,7 @@ loop-k-preserved c =
     let numbers = c.args.numbers.now in
     let i = c.loop-k.k-index in
     elim c.if-k-found.branch [
-      | then-k-found+then-is_false_below+else-found-n w ↦
+      | then-k-found+then-is_false_below+else-not-may_break+else-found-n w ↦
           subst (λ (found : ℕ). record {
             inside : found < c.args.bound;
             others : (k : ℕ) (clause : List SatLit) → Contains (take (i + 1) numbers) k → k < c.args.bound → k ≢ found → k ≢ c.args.n → slice_get c.args.clauses.now k ≡ Some clause → IsTrue (clause_value (assigned c.args.values.now) clause);
