@@ -133,11 +133,11 @@ fn kept_after(
     ensures kept { AreTrue values.new result clauses.now }
 {
     let mut n = kept;
-    for _change in 0..MOST_CHANGES {
+    for round in 0..MOST_CHANGES {
         if is_true(values, clauses.get(n).as_slice()) {
             return bound;
         }
-        match change(values, uses, clauses, n, bound) {
+        match change(values, uses, clauses, n, bound, round) {
             Some(next) => n = next,
             None => return n,
         }
@@ -153,6 +153,7 @@ fn change(
     clauses: &ClauseStore,
     n: usize,
     bound: usize,
+    from: usize,
 ) -> Option<usize>
     requires over { AreOver (length values.old) clauses.now }
     requires inside { n < bound }
@@ -164,13 +165,13 @@ fn change(
     ensures some { IfSome result (λ next. (next < bound) × AreTrueBut values.new next bound clauses.now) }
     ensures none { IfNone result (values.new ≡ values.old) }
 {
-    if let Some(next) = turn_first(values, uses, clauses, n, bound, false) {
+    if let Some(next) = turn_first(values, uses, clauses, n, bound, false, from) {
         return Some(next);
     }
-    turn_first(values, uses, clauses, n, bound, true)
+    turn_first(values, uses, clauses, n, bound, true, from)
 }
 
-/// Makes the first literal of a clause true for which `turn` can do so.
+/// Makes the first literal of a clause true for which `turn` can do so, where they are tried in turn from one on.
 fn turn_first(
     values: &mut [bool],
     uses: &Uses,
@@ -178,6 +179,7 @@ fn turn_first(
     n: usize,
     bound: usize,
     may_break: bool,
+    from: usize,
 ) -> Option<usize>
     requires over { AreOver (length values.old) clauses.now }
     requires inside { n < bound }
@@ -189,8 +191,10 @@ fn turn_first(
     ensures some { IfSome result (λ next. (next < bound) × AreTrueBut values.new next bound clauses.now) }
     ensures none { IfNone result (values.new ≡ values.old) }
 {
-    for literal in clauses.get(n).as_slice() {
-        if let Some(next) = turn(values, uses, clauses, *literal, n, bound, may_break) {
+    let literals = clauses.get(n).as_slice();
+    for i in 0..literals.len() {
+        let literal = literals[from.wrapping_add(i) % literals.len()];
+        if let Some(next) = turn(values, uses, clauses, literal, n, bound, may_break) {
             return Some(next);
         }
     }
