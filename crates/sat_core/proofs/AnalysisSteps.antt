@@ -1,4 +1,4 @@
--- The steps of `learned_chain`.
+-- The steps of `point_chain`.
 use Rattle.std.proofs.Common.{◌≡◌, ◌≢◌, ◌⊎◌, inl, inr, ◌<◌, ◌≤◌, ◌+◌, ◌-◌, ℕ, zero, suc, ◌&&◌, ◌||◌, not, Bool, true, false, List, [], ◌∷◌, ◌++◌, Some, None, IsTrue, length, take, drop, get_or, refl, sym, ap, ◌∙◌, subst, arith}
 use Rattle.std.specs.List.{slice_get, Contains}
 use Rattle.std.specs.Option.{option_map, option_and_then}
@@ -84,7 +84,7 @@ denied_there clauses trail names conflict start marks steps late place step a ri
         (held-take place (literals trail.steps) (negated step.literal) (a.below step.literal h))
 
 -- a reason does not hold the negation of its literal
-reason_undenied : (trail : TrailState) (i : ℕ) (step : Step) (reason : List SatLit) → IsTrail trail → slice_get trail.steps i ≡ Some step → IsUnit (take i (literals trail.steps)) reason step.literal
+pub reason_undenied : (trail : TrailState) (i : ℕ) (step : Step) (reason : List SatLit) → IsTrail trail → slice_get trail.steps i ≡ Some step → IsUnit (take i (literals trail.steps)) reason step.literal
     → holds reason (negated step.literal) ≡ false
 reason_undenied trail i step reason right at unit =
     false_from_ne_true (holds reason (negated step.literal)) (λ h.
@@ -101,7 +101,7 @@ resolved_is false true r s outcome e = inr (same_Some s outcome e)
 resolved_is false false r s outcome e = absurd (cc)
 
 -- a resolvent that is false in a consistent list holds no variable twice
-once_resolved : (trail : List SatLit) (v : Var) (a b outcome : List SatLit) (place : ℕ) → IsConsistent trail → resolved v a b ≡ Some outcome → IsFalseBefore place trail outcome → HoldsNoVariableTwice outcome
+pub once_resolved : (trail : List SatLit) (v : Var) (a b outcome : List SatLit) (place : ℕ) → IsConsistent trail → resolved v a b ≡ Some outcome → IsFalseBefore place trail outcome → HoldsNoVariableTwice outcome
 once_resolved trail v a b outcome place consistent e below =
     elim (resolved_is (holds a (positive v) && holds b (negative v)) (holds a (negative v) && holds b (positive v)) (resolvent v a b) (resolvent v b a) outcome e) [
       | inl same ↦ subst HoldsNoVariableTwice same (twice_from_false trail v a b consistent (subst (IsFalseIn trail) (sym same) each))
@@ -203,6 +203,11 @@ analysed_stop clauses trail names conflict start marks steps late place step a r
   last = last;
   point = step.literal;
   on_trail = held_at (literals trail.steps) (place - 1) step.literal (literal_at trail.steps (place - 1) step at);
+  late = false_from_ne_true (holds (take start (literals trail.steps)) step.literal) (λ h.
+      let found = place_below (literals trail.steps) start step.literal h in
+      let same = once_place (literals trail.steps) found.0 (place - 1) step.literal step.literal right.once found.2 (literal_at trail.steps (place - 1) step at) refl in
+      let before = found.1 in
+      absurd (omega arith));
   member = (denied_there clauses trail names conflict start marks steps late place step a right at marked).0;
   others = by_cause why;
 }

@@ -1,9 +1,11 @@
 pub mod MarkLaws
 pub mod CountingLaws
 pub mod AnalysisSteps
+pub mod ShortenSteps
 pub mod NameLaws
 pub mod LearnerLaws
 pub mod LearnerSteps
 pub mod DecisionLaws
 pub mod SpentLaws
+pub mod KeeperLaws
 pub mod SolverLaws

@@ -13,7 +13,7 @@ use Rattle.sat_log.specs.Propagation.{IsNew, ReachesFalse}
 use Rattle.sat_log.proofs.Implied.{results_implied}
 use Rattle.sat_core.specs.declared.learner.Learner.{Learner}
 use Rattle.sat_core.specs.Solver.{SolverState, learned_from, learned, Grows, IsSound}
-use Rattle.sat_core.specs.Learner.{IsLearner, Grew, seen}
+use Rattle.sat_core.specs.Learner.{IsLearner, Grew, seen, shown}
 use Rattle.sat_core.proofs.AnalysisSteps.{contains_at}
 use Rattle.sat_core.proofs.LearnerLaws.{learned_open, learned_at}
 
@@ -59,4 +59,14 @@ grows_same solver = record {
   more = [];
   appended = sym (append-nil solver.log);
   new = λ k clause from at. let inside = slice_get_within (learned solver) k clause at in absurd (omega (arith, from, inside));
+}
+
+-- with other values, as many
+pub grows_shown : (before after : Learner) (values values_after : List Bool) → length values_after ≡ length values → Grows (seen before) (seen after) → Grows (shown values before) (shown values_after after)
+grows_shown before after values values_after made grew = record {
+  clauses_same = grew.clauses_same;
+  made_same = made;
+  more = grew.more;
+  appended = grew.appended;
+  new = grew.new;
 }

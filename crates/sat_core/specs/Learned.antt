@@ -25,6 +25,7 @@ pub record IsLearned (trail : TrailState) (start : ℕ) (clause : List SatLit) :
   pub last : slice_get trail.starts (length trail.starts - 1) ≡ Some start
   pub point : SatLit
   pub on_trail : IsTrue (holds (literals trail.steps) point)
+  pub late : holds (take start (literals trail.steps)) point ≡ false
   pub member : IsTrue (holds clause (negated point))
   pub others : (l : SatLit) → IsTrue (holds clause l) → same_literal (negated point) l ≡ false → IsTrue (holds (take start (literals trail.steps)) (negated l))
 
@@ -44,6 +45,15 @@ pub record Learns (clauses : List Watched) (trail : TrailState) (names : List Pr
   pub occurring : (l : SatLit) → IsTrue (holds outcome l) → Occurs clauses l
   pub once : HoldsNoVariableTwice outcome
   pub new : IsNew (texts clauses) outcome
+
+-- a chain gives a clause that is learned, and its variables are the marked ones
+pub record IsShortening (clauses : List Watched) (trail : TrailState) (names : List Premise) (marks : List Bool) (start : ℕ) (chain : Chain) : Type 0 where
+  pub so_far : List SatLit
+  pub learned : IsLearned trail start so_far
+  pub marked : (v : Var) → is_marked marks v ≡ mentions so_far v
+  pub occurring : (l : SatLit) → IsTrue (holds so_far l) → Occurs clauses l
+  pub once : HoldsNoVariableTwice so_far
+  pub derived : (store results : List (List SatLit)) → AreNamed store results names clauses → chain_result store results chain ≡ Some so_far
 
 -- the clause that some steps made of the one with this number: it is false before a place, its variables are the marked ones, and so
 -- many of them have a place from the last decision on

@@ -79,9 +79,13 @@ pub record IsSpent (clauses learned : List (List SatLit)) (budget conflicts : �
   pub failing : AreFailingDecisions (clauses ++ learned) decisions
   pub few : (variables : List Var) → AreAmong variables clauses → budget < 3 ^ length variables
 
--- what callers see of a learner
+-- what callers see of a learner, with these values
+abbrev pub shown : List Bool → Learner → SolverState
+shown values s = record { values = values; clauses = s.clauses; log = s.log; is_refuted = s.is_refuted }
+
+-- what callers see of a learner, with the last values of its trail
 abbrev pub seen : Learner → SolverState
-seen s = record { values = s.propagator.trail.phases; clauses = s.clauses; log = s.log; is_refuted = s.is_refuted }
+seen s = shown s.propagator.trail.phases s
 
 -- what an answer says of the solver
 abbrev pub Answers : ℕ → SolverState → Answer → Type 0

@@ -1,12 +1,12 @@
 //! From a conflict to the chain of a clause.
-ghost use Rattle.std.specs.Prelude.{◌≡◌, ◌<◌, ◌≤◌, ◌≢◌, ◌⊎◌, ◌+◌, ◌&&◌, ◌||◌, ℕ, List, [], not, Some, None, IsTrue, length, drop, slice_get, IfOk, OnOk, IfSome, IfNone};
+ghost use Rattle.std.specs.Prelude.{◌≡◌, ◌<◌, ◌≤◌, ◌≢◌, ◌⊎◌, ◌+◌, ◌-◌, ◌&&◌, ◌||◌, ℕ, List, [], not, Some, None, IsTrue, length, drop, slice_get, IfOk, OnOk, IfSome, IfNone};
 ghost use Rattle.sat_base.specs.declared.literal.Var.{Var};
 ghost use Rattle.sat_base.specs.declared.literal.SatLit.{SatLit};
 ghost use Rattle.sat_base.specs.Literal.{holds, mentions, same_var, IsOver};
 ghost use Rattle.sat_laws.specs.Analysis.{how_many};
 ghost use Rattle.sat_propagate.specs.Trail.{literals, IsTrail};
 ghost use Rattle.sat_propagate.specs.Propagator.{IsPropagator, IsConflict};
-ghost use Rattle.sat_core.specs.Learned.{Learns, AreNamed};
+ghost use Rattle.sat_core.specs.Learned.{IsShortening, AreNamed};
 ghost use Rattle.sat_log.specs.Chains.{premise_clause, chain_result};
 ghost use Rattle.sat_log.specs.Propagation.{IsFalseIn};
 ghost use Rattle.sat_core.specs.Marks.{is_marked, marks_literal, others};
@@ -86,24 +86,26 @@ fn resolve_marks(
     Ok(late - 1 + more)
 }
 
-/// The chain of the first unique implication point, where a clause is false and there is a decision.
-pub fn learned_chain(
+/// The chain of the first unique implication point, where a clause is false and there is a decision: `start` is the
+/// place of the last one. The variables of the chain's clause are marked then.
+pub fn point_chain(
     alloc: Global,
     propagator: &Propagator,
     names: &[Premise],
     marks: &mut Marks,
     conflict: usize,
+    start: usize,
 ) -> Result<Chain, AllocError>
     requires right { IsPropagator propagator.now.trail propagator.now.processed propagator.now.clauses.items propagator.now.lists }
     requires conflict { IsConflict propagator.now.trail propagator.now.clauses.items conflict }
     requires decided { 0 < length propagator.now.trail.starts }
+    requires last { slice_get propagator.now.trail.starts (length propagator.now.trail.starts - 1) ≡ Some start }
     requires named { length names.now ≡ length propagator.now.clauses.items }
     requires made { length propagator.now.trail.phases ≤ length marks.old }
-    ensures learned { IfOk result (λ chain. Learns propagator.now.clauses.items propagator.now.trail names.now chain) }
+    ensures shortening { IfOk result (λ chain. IsShortening propagator.now.clauses.items propagator.now.trail names.now marks.new start chain) }
     ensures made { length marks.new ≡ length marks.old }
 {
     let trail = &propagator.trail;
-    let start = trail.start(trail.levels() - 1);
     marks.clear()?;
     let mut late = mark_others(trail, marks, propagator.literals(conflict), None, start)?;
     let mut steps = ChainSteps::new(alloc);
@@ -133,7 +135,8 @@ fn reason_to_resolve(step: Step, late: usize) -> Option<usize>
     if late == 1 { None } else { step.reason }
 }
 
-fn name_of(names: &[Premise], n: usize) -> Premise
+/// The name of a clause.
+pub fn name_of(names: &[Premise], n: usize) -> Premise
     requires { n < length names.now }
     ensures { slice_get names.now n ≡ Some result }
 {

@@ -11,9 +11,10 @@ ghost use Rattle.sat_core.specs.Learner.{IsNamedPropagator, IsLearner, IsUnlearn
 ghost use Rattle.sat_core.specs.Solver.{learned_from};
 ghost use Rattle.sat_log.specs.Chains.{premise_clause, results, IsLogOver, AppendsChain};
 
-use crate::analysis::{learned_chain, refuted_chain};
+use crate::analysis::refuted_chain;
 use crate::marks::Marks;
 use crate::restarts::Restarts;
+use crate::shorten::learned_chain;
 use sat_base::{Clause, ClauseStore, Var};
 use sat_log::{Chain, Log, Premise};
 use sat_propagate::{Ended, Propagator};

@@ -2,12 +2,15 @@
 #![tactic(auto)]
 
 mod analysis;
+mod keeper;
 mod learner;
 mod marks;
 mod restarts;
+mod shorten;
 mod solver;
 #[cfg(test)]
 mod tests;
+mod uses;
 
 pub use learner::Answer;
 pub use solver::Solver;

@@ -8,6 +8,7 @@ ghost use Rattle.sat_base.specs.Truth.{assigned, AllTrue, Unsat as AreUnsatisfia
 ghost use Rattle.sat_log.specs.Chains.{results};
 ghost use Rattle.sat_log.specs.Propagation.{ReachesFalse, AreFailingDecisions};
 
+use crate::keeper::Keeper;
 use crate::learner::{Answer, Learner};
 use sat_base::{Clause, Var};
 use sat_log::Log;
@@ -15,21 +16,23 @@ use std::alloc::{AllocError, Global};
 use std::marker::Model;
 
 /// Clauses to which more can be added between two answers, and the log of what was learned from them. Nothing that was
-/// learned is forgotten.
+/// learned is forgotten. Where few of the last values have to change for the clauses that were added, no search begins.
 #[derive(Debug, Drop)]
 pub struct Solver {
     learner: Learner,
+    keeper: Keeper,
 }
 
 impl Model for Solver {
     ghost use Rattle.sat_core.specs.Solver.{SolverState};
-    ghost use Rattle.sat_core.specs.Learner.{IsLearner, seen};
+    ghost use Rattle.sat_core.specs.Learner.{shown};
+    ghost use Rattle.sat_core.specs.Keeper.{IsSolver};
 
     ghost Value = { SolverState };
 
-    ghost view = { λ solver. seen solver.learner };
+    ghost view = { λ solver. shown solver.keeper.values.items solver.learner };
 
-    ghost invariant = { λ solver. IsLearner solver.learner };
+    ghost invariant = { λ solver. IsSolver solver.learner solver.keeper };
 }
 
 impl Solver {
@@ -41,6 +44,7 @@ impl Solver {
     {
         Solver {
             learner: Learner::new(alloc),
+            keeper: Keeper::new(alloc),
         }
     }
 
@@ -48,7 +52,7 @@ impl Solver {
     pub fn variables(&self) -> usize
         ensures { result ≡ length self.now.values }
     {
-        self.learner.propagator.trail.variables()
+        self.keeper.values.len()
     }
 
     /// One variable more.
@@ -57,7 +61,10 @@ impl Solver {
         ensures ok { OnOk result (self.new ≡ record self.old { values = self.old.values ++ false ∷ [] }) }
         ensures err { OnErr result (self.new ≡ self.old) }
     {
+        self.keeper.uses.add_variable()?;
+        self.keeper.values.reserve(1)?;
         let var = self.learner.new_var()?;
+        self.keeper.values.push_reserved(false);
         Ok(var)
     }
 
@@ -93,8 +100,16 @@ impl Solver {
         if self.learner.is_refuted {
             return Ok(Answer::Unsat);
         }
+        if self.keeper.satisfy(&self.learner.clauses)? {
+            return Ok(Answer::Sat);
+        }
         let answer = self.learner.solve(budget)?;
-        Ok(answer)
+        if answer != Answer::Sat {
+            return Ok(answer);
+        }
+        let trail = &self.learner.propagator.trail;
+        self.keeper.adopt(&self.learner.clauses, trail)?;
+        Ok(Answer::Sat)
     }
 
     /// The value of a variable. After the answer `Sat`, and until a clause is added, the values make each clause true.
@@ -102,7 +117,7 @@ impl Solver {
         requires { v.0 < length self.now.values }
         ensures { result ≡ assigned self.now.values v }
     {
-        self.learner.propagator.trail.phase(v)
+        self.keeper.values[v.0]
     }
 
     /// The chains of what was learned, over the clauses in the order in which they were added.

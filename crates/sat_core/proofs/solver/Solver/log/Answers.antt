@@ -7,4 +7,4 @@ use Rattle.sat_core.proofs.SolverLaws.{implied_of}
 use Rattle.sat_core.proofs.solver.Solver.log.Goals as goal
 
 pub returns-clause-implied : goal.returns-clause-implied
-returns-clause-implied c = subst (λ (s : SolverState). All (Implies s.clauses) (results s.log)) c.self.view_is (implied_of c.self.inside.learner c.self.invariant)
+returns-clause-implied c = subst (λ (s : SolverState). All (Implies s.clauses) (results s.log)) c.self.view_is (implied_of c.self.inside.learner c.self.invariant.learns)

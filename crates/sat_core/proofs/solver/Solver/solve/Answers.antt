@@ -1,25 +1,66 @@
-use Rattle.std.proofs.Common.{◌≡◌, true, subst}
+use Rattle.std.proofs.Common.{◌≡◌, true, ℕ, List, length, sym, subst, ◌∙◌}
+use Rattle.sat_base.specs.declared.literal.SatLit.{SatLit}
+use Rattle.sat_base.specs.Literal.{IsOver}
 use Rattle.sat_base.specs.Truth.{Unsat}
-use Rattle.sat_core.specs.Learner.{Answers, seen}
+use Rattle.sat_log.specs.declared.chain.Premise.TheVariants.{Clause}
+use Rattle.sat_core.specs.Learner.{Answers, seen, shown}
 use Rattle.sat_core.specs.Solver.{SolverState, Grows}
-use Rattle.sat_core.proofs.SolverLaws.{unsat_of, grows_of, grows_same}
+use Rattle.sat_core.proofs.SolverLaws.{unsat_of, grows_of, grows_same, grows_shown}
 use Rattle.sat_core.proofs.solver.Solver.solve.Goals as goal
 
 pub returns-then-self-clause-unsat : goal.returns-then-self-clause-unsat
-returns-then-self-clause-unsat c = λ e. subst (λ (s : SolverState). Unsat s.clauses) c.self.view_is (unsat_of c.self.inside.learner c.self.invariant c.if-self.true)
+returns-then-self-clause-unsat c = λ e. subst (λ (s : SolverState). Unsat s.clauses) c.self.view_is (unsat_of c.self.inside.learner c.self.invariant.learns c.if-self.true)
 
 pub returns-then-self-clause-grows : goal.returns-then-self-clause-grows
 returns-then-self-clause-grows c = grows_same c.args.self.now
 
+pub satisfy-requires-clause-over : goal.satisfy-requires-clause-over
+satisfy-requires-clause-over c = λ k clause at.
+    subst (λ (n : ℕ). IsOver n clause) (sym c.self.invariant.made) (c.self.invariant.learns.ready.over (Clause k) clause at)
+
+pub returns-in_err-satisfy-clause-grows : goal.returns-in_err-satisfy-clause-grows
+returns-in_err-satisfy-clause-grows c =
+    let s = c.self.inside in
+    let keeper = c.satisfy.new.self in
+    subst (λ (state : SolverState). Grows state (shown keeper.values.items s.learner)) c.self.view_is
+    (grows_shown s.learner s.learner s.keeper.values.items keeper.values.items c.satisfy.ensures.made (grows_same (seen s.learner)))
+
+pub returns-then-branch-clause-grows : goal.returns-then-branch-clause-grows
+returns-then-branch-clause-grows c =
+    let s = c.self.inside in
+    let keeper = c.satisfy.new.self in
+    subst (λ (state : SolverState). Grows state (shown keeper.values.items s.learner)) c.self.view_is
+    (grows_shown s.learner s.learner s.keeper.values.items keeper.values.items c.satisfy.ensures.made (grows_same (seen s.learner)))
+
 pub returns-in_err-answer-clause-grows : goal.returns-in_err-answer-clause-grows
 returns-in_err-answer-clause-grows c =
-    subst (λ (s : SolverState). Grows s (seen c.solve.new.self)) c.self.view_is (grows_of c.self.inside.learner c.solve.new.self c.if-self.false c.solve.ensures.learner c.solve.ensures.grew)
+    let s = c.self.inside in
+    let keeper = c.satisfy.new.self in
+    subst (λ (state : SolverState). Grows state (shown keeper.values.items c.solve.new.self)) c.self.view_is
+    (grows_shown s.learner c.solve.new.self s.keeper.values.items keeper.values.items c.satisfy.ensures.made (grows_of s.learner c.solve.new.self c.if-self.false c.solve.ensures.learner c.solve.ensures.grew))
 
-pub returns-clause-unsat : goal.returns-clause-unsat
-returns-clause-unsat c = λ e.
+pub returns-then-ne-clause-unsat : goal.returns-then-ne-clause-unsat
+returns-then-ne-clause-unsat c = λ e.
     let refuted : c.solve.new.self.is_refuted ≡ true = subst (Answers c.args.budget (seen c.solve.new.self)) e c.in_ok-answer.ensures.answer in
     unsat_of c.solve.new.self c.solve.ensures.learner refuted
 
+pub returns-then-ne-clause-grows : goal.returns-then-ne-clause-grows
+returns-then-ne-clause-grows c =
+    let s = c.self.inside in
+    let keeper = c.satisfy.new.self in
+    subst (λ (state : SolverState). Grows state (shown keeper.values.items c.solve.new.self)) c.self.view_is
+    (grows_shown s.learner c.solve.new.self s.keeper.values.items keeper.values.items c.satisfy.ensures.made (grows_of s.learner c.solve.new.self c.if-self.false c.solve.ensures.learner c.solve.ensures.grew))
+
+pub returns-in_err-adopt-clause-grows : goal.returns-in_err-adopt-clause-grows
+returns-in_err-adopt-clause-grows c =
+    let s = c.self.inside in
+    let keeper = c.adopt.new.self in
+    subst (λ (state : SolverState). Grows state (shown keeper.values.items c.solve.new.self)) c.self.view_is
+    (grows_shown s.learner c.solve.new.self s.keeper.values.items keeper.values.items (c.adopt.ensures.made ∙ c.satisfy.ensures.made) (grows_of s.learner c.solve.new.self c.if-self.false c.solve.ensures.learner c.solve.ensures.grew))
+
 pub returns-clause-grows : goal.returns-clause-grows
 returns-clause-grows c =
-    subst (λ (s : SolverState). Grows s (seen c.solve.new.self)) c.self.view_is (grows_of c.self.inside.learner c.solve.new.self c.if-self.false c.solve.ensures.learner c.solve.ensures.grew)
+    let s = c.self.inside in
+    let keeper = c.adopt.new.self in
+    subst (λ (state : SolverState). Grows state (shown keeper.values.items c.solve.new.self)) c.self.view_is
+    (grows_shown s.learner c.solve.new.self s.keeper.values.items keeper.values.items (c.adopt.ensures.made ∙ c.satisfy.ensures.made) (grows_of s.learner c.solve.new.self c.if-self.false c.solve.ensures.learner c.solve.ensures.grew))

@@ -1,6 +1,6 @@
 use Rattle.std.proofs.Common.{◌≡◌, length}
 use Rattle.sat_core.specs.Learned.{IsAnalysed}
-use Rattle.sat_core.proofs.analysis.learned_chain.Given as goal
+use Rattle.sat_core.proofs.analysis.point_chain.Given as goal
 
 abbrev pub invariant-loop-place : goal.invariant-loop-place
 invariant-loop-place l = record {

@@ -10,12 +10,10 @@ use Rattle.sat_core.specs.Marks.{is_marked, others}
 use Rattle.sat_core.specs.Learned.{IsLearned, IsAnalysed}
 use Rattle.sat_propagate.proofs.LevelLaws.{complete_at}
 use Rattle.sat_laws.specs.Complete.{IsComplete}
-use Rattle.sat_laws.proofs.AnalysisLaws.{learned_new}
-use Rattle.sat_laws.proofs.CompleteLaws.{consistent_once}
 use Rattle.sat_propagate.specs.Propagator.{texts}
 use Rattle.sat_core.proofs.CountingLaws.{held_from}
 use Rattle.sat_core.proofs.AnalysisSteps.{over_more, learned_once, contains_at, conflict_valued, reason_valued, analysed_start, analysed_next, analysed_skip, analysed_stop, analysed_end}
-use Rattle.sat_core.proofs.analysis.learned_chain.Goals as goal
+use Rattle.sat_core.proofs.analysis.point_chain.Goals as goal
 
 pub mark_others-requires-clause-valued : goal.mark_others-requires-clause-valued
 mark_others-requires-clause-valued c =
@@ -27,12 +25,12 @@ loop-place-init c =
     let trail = c.args.propagator.now.trail in
     let clauses = c.args.propagator.now.clauses.items in
     let conflict = c.requires.conflict in
-    let start = c.start-start.result in
+    let start = c.args.start in
     let read : c.literals.result.now ≡ conflict.watched.clause = c.literals.ensures conflict.watched conflict.there in
     record {
       analysed = subst (λ (steps : List ChainStep). IsAnalysed clauses trail c.args.names.now c.args.conflict start c.mark_others.new.marks steps c.in_ok-late.late c.len-place.result) (sym c.new-steps.ensures)
           (analysed_start clauses trail c.args.names.now c.args.conflict start c.clear.new.self c.mark_others.new.marks c.in_ok-late.late c.len-place.result conflict.watched c.len-place.ensures.right
-          (complete_at trail c.args.propagator.now.processed clauses c.args.propagator.now.lists start c.requires.right c.len-place.ensures.right (contains_at trail.starts (c.levels.result - 1) start c.start-start.ensures.start))
+          (complete_at trail c.args.propagator.now.processed clauses c.args.propagator.now.lists start c.requires.right c.len-place.ensures.right (contains_at trail.starts (length trail.starts - 1) start c.requires.last))
           conflict.there conflict.falsified c.in_ok-clear.ensures.ok
           (subst (λ (some : List SatLit). (v : Var) → is_marked c.mark_others.new.marks v ≡ (is_marked c.clear.new.self v || mentions (others None some) v)) read c.in_ok-late.ensures.marks)
           c.in_ok-late.ensures.counted c.len-place.ensures.number);
@@ -44,25 +42,23 @@ name_of-first-requires c =
     let inside = slice_get_within c.args.propagator.now.clauses.items c.args.conflict c.requires.conflict.watched c.requires.conflict.there in
     omega (arith, c.requires.named)
 
-pub returns-in_default-clause-learned : goal.returns-in_default-clause-learned
-returns-in_default-clause-learned c =
+pub returns-in_default-clause-shortening : goal.returns-in_default-clause-shortening
+returns-in_default-clause-shortening c =
     let trail = c.args.propagator.now.trail in
     let clauses = c.args.propagator.now.clauses.items in
     let a = c.loop-place.invariant.analysed in
-    let last : slice_get trail.starts (length trail.starts - 1) ≡ Some c.start-start.result = ap (λ (n : ℕ). slice_get trail.starts (n - 1)) (sym c.levels.ensures.number) ∙ c.start-start.ensures.start in
-    let complete : IsComplete (texts clauses) (take c.start-start.result (literals trail.steps)) =
-    complete_at trail c.args.propagator.now.processed clauses c.args.propagator.now.lists c.start-start.result c.requires.right c.len-place.ensures.right (contains_at trail.starts (c.levels.result - 1) c.start-start.result c.start-start.ensures.start) in
-    let learned : IsLearned trail c.start-start.result a.so_far = analysed_stop clauses trail c.args.names.now c.args.conflict c.start-start.result c.loop-place.marks c.loop-place.steps c.loop-place.late c.loop-place.place c.step-step.result a
-    c.len-place.ensures.right last c.loop-place-test.true c.step-step.ensures (sym c.contains.ensures ∙ c.if-contains.true)
+    let complete : IsComplete (texts clauses) (take c.args.start (literals trail.steps)) =
+    complete_at trail c.args.propagator.now.processed clauses c.args.propagator.now.lists c.args.start c.requires.right c.len-place.ensures.right (contains_at trail.starts (length trail.starts - 1) c.args.start c.requires.last) in
+    let learned : IsLearned trail c.args.start a.so_far = analysed_stop clauses trail c.args.names.now c.args.conflict c.args.start c.loop-place.marks c.loop-place.steps c.loop-place.late c.loop-place.place c.step-step.result a
+    c.len-place.ensures.right c.requires.last c.loop-place-test.true c.step-step.ensures (sym c.contains.ensures ∙ c.if-contains.true)
     ((c.requires.right.reasoned (c.loop-place.place - 1) c.step-step.result c.step-step.ensures).decided) c.in_default.ensures.none in
     record {
-      start = c.start-start.result;
-      outcome = a.so_far;
+      so_far = a.so_far;
       learned = learned;
-      derived = λ store results named. a.derived store results named c.name_of-first.result c.name_of-first.ensures;
+      marked = a.marked;
       occurring = a.occurring;
-      once = learned_once clauses trail c.start-start.result a.so_far complete c.len-place.ensures.right learned a.origin;
-      new = learned_new (texts clauses) (literals trail.steps) a.so_far c.start-start.result learned.point complete (consistent_once (literals trail.steps) c.len-place.ensures.right.once) learned.on_trail learned.member learned.others;
+      once = learned_once clauses trail c.args.start a.so_far complete c.len-place.ensures.right learned a.origin;
+      derived = λ store results named. a.derived store results named c.name_of-first.result c.name_of-first.ensures;
     }
 
 pub literals-literals-requires : goal.literals-literals-requires
@@ -88,8 +84,8 @@ resolve_marks-requires-clause-made c =
 
 pub resolve_marks-requires-clause-own_late : goal.resolve_marks-requires-clause-own_late
 resolve_marks-requires-clause-own_late c =
-    let late : c.start-start.result ≤ c.loop-place.place - 1 = omega (arith, c.loop-place-test.true) in
-    held_from c.args.propagator.now.trail.steps (c.loop-place.place - 1) c.start-start.result c.step-step.result c.step-step.ensures late
+    let late : c.args.start ≤ c.loop-place.place - 1 = omega (arith, c.loop-place-test.true) in
+    held_from c.args.propagator.now.trail.steps (c.loop-place.place - 1) c.args.start c.step-step.result c.step-step.ensures late
 
 pub name_of-requires : goal.name_of-requires
 name_of-requires c =
@@ -107,8 +103,8 @@ loop-place-preserved-in-Continue-branch-4 c =
     let read : c.literals-literals.result.now ≡ reason.0.clause = c.literals-literals.ensures reason.0 reason.1 in
     let counts = c.in_ok-late-2.ensures.counted in
     record {
-      analysed = subst (λ (steps : List ChainStep). IsAnalysed clauses trail c.args.names.now c.args.conflict c.start-start.result c.resolve_marks.new.marks steps c.in_ok-late-2.late (c.loop-place.place - 1)) (sym c.in_ok-push.ensures.ok)
-          (analysed_next clauses trail c.args.names.now c.args.conflict c.start-start.result c.loop-place.marks c.resolve_marks.new.marks c.loop-place.steps c.loop-place.late c.in_ok-late-2.late c.loop-place.place c.in-Some.reason
+      analysed = subst (λ (steps : List ChainStep). IsAnalysed clauses trail c.args.names.now c.args.conflict c.args.start c.resolve_marks.new.marks steps c.in_ok-late-2.late (c.loop-place.place - 1)) (sym c.in_ok-push.ensures.ok)
+          (analysed_next clauses trail c.args.names.now c.args.conflict c.args.start c.loop-place.marks c.resolve_marks.new.marks c.loop-place.steps c.loop-place.late c.in_ok-late-2.late c.loop-place.place c.in-Some.reason
           c.step-step.result reason.0 c.name_of.result c.loop-place.invariant.analysed c.len-place.ensures.right (omega (arith, c.loop-place-test.true)) c.step-step.ensures (sym c.contains.ensures ∙ c.if-contains.true)
           reason.1 reason.2 c.name_of.ensures
           (λ v. c.in_ok-late-2.ensures.marks v ∙ ap (λ (some : List SatLit). (is_marked c.loop-place.marks v && not (same_var v c.step-step.result.literal.var)) || mentions (others (Some c.step-step.result.literal) some) v) read)
@@ -118,12 +114,12 @@ loop-place-preserved-in-Continue-branch-4 c =
 
 pub loop-place-preserved : goal.loop-place-preserved
 loop-place-preserved c = record {
-  analysed = analysed_skip c.args.propagator.now.clauses.items c.args.propagator.now.trail c.args.names.now c.args.conflict c.start-start.result c.loop-place.marks c.loop-place.steps c.loop-place.late c.loop-place.place
+  analysed = analysed_skip c.args.propagator.now.clauses.items c.args.propagator.now.trail c.args.names.now c.args.conflict c.args.start c.loop-place.marks c.loop-place.steps c.loop-place.late c.loop-place.place
       c.step-step.result c.loop-place.invariant.analysed (omega (arith, c.loop-place-test.true)) c.step-step.ensures (sym c.contains.ensures ∙ c.if-contains.false);
   made = c.loop-place.invariant.made;
 }
 
 pub unreachable-requires : goal.unreachable-requires
 unreachable-requires c =
-    analysed_end c.args.propagator.now.clauses.items c.args.propagator.now.trail c.args.names.now c.args.conflict c.start-start.result c.loop-place.marks c.loop-place.steps c.loop-place.late c.loop-place.place
+    analysed_end c.args.propagator.now.clauses.items c.args.propagator.now.trail c.args.names.now c.args.conflict c.args.start c.loop-place.marks c.loop-place.steps c.loop-place.late c.loop-place.place
     c.loop-place.invariant.analysed c.len-place.ensures.right c.loop-place-test.false

@@ -1,0 +1,214 @@
+-- Facts about values that are changed, and about the table of uses.
+use Rattle.std.proofs.Common.{◌≡◌, ◌≢◌, ◌⊎◌, inl, inr, ◌<◌, ◌≤◌, ◌+◌, ℕ, zero, suc, ◌||◌, not, Bool, true, false, List, [], ◌∷◌, ◌++◌, Option, Some, None, IsTrue, length, length-append, take, get_or, refl, sym, ap, ap₂, ◌∙◌, subst, arith}
+use Rattle.std.specs.Prelude.{if◌then◌else◌, IfSome, IfNone, slice_set, slice_index_or}
+use Rattle.std.specs.List.{Contains, slice_get}
+use Rattle.std.proofs.lemmas.Bool.{false≢true, cases_Bool, cases_order, or_left, or_right, false_from_ne_true}
+use Rattle.std.proofs.lemmas.List.{get_or-set_same, get_or-set_other, set-set, set-get_or, take_more}
+use Rattle.std.proofs.lemmas.List.Elements.{Contains-append_left, Contains-push, Contains-push_cases}
+use Rattle.std.proofs.lemmas.Option.{slice_get-get_or, same_Some}
+use Rattle.sat_base.specs.declared.literal.Var.{Var}
+use Rattle.sat_base.specs.declared.literal.SatLit.{SatLit}
+use Rattle.sat_base.specs.Literal.{same_var, holds, mentions, IsOver}
+use Rattle.sat_base.specs.Truth.{AllTrue, assigned, literal_value, clause_value}
+use Rattle.sat_base.proofs.LiteralLaws.{same_var-refl}
+use Rattle.sat_base.proofs.TruthLaws.{clause_value-held}
+use Rattle.sat_log.proofs.ChainLaws.{slice_get-before}
+use Rattle.sat_laws.proofs.AnalysisLaws.{mentioned_by}
+use Rattle.sat_core.specs.Keeper.{uses_of, IsUsed, AreUsed, AreTrue, AreTrueBut, IsKeeper}
+
+-- Options.
+
+pub if_none : (r : Option ℕ) (P : Type 0) → P → IfNone r P
+if_none None P p = p
+if_none (Some x) P p = tt
+
+pub if_both : (r : Option ℕ) (P Q R : ℕ → Type 0) → ((x : ℕ) → P x → Q x → R x) → IfSome r P → IfSome r Q → IfSome r R
+if_both None P Q R f p q = tt
+if_both (Some x) P Q R f p q = f x p q
+
+-- Elements of a list that is read.
+
+pub contains_more : (xs : List ℕ) (i d k : ℕ) → i < length xs → Contains (take (i + 1) xs) k → Contains (take i xs) k ⊎ (get_or xs i d ≡ k)
+contains_more xs i d k inside h = Contains-push_cases (take i xs) (get_or xs i d) k (subst (λ (some : List ℕ). Contains some k) (take_more xs i d inside) h)
+
+-- Values after one is changed.
+
+pub set_back : (values : List Bool) (i : ℕ) (b : Bool) → slice_set (slice_set values i b) i (slice_index_or values i false) ≡ values
+set_back values i b = set-set values i b (slice_index_or values i false) ∙ set-get_or values i false
+
+-- a literal is true whose variable has its sign as value
+turned_literal : (values : List Bool) (l : SatLit) → l.var.0 < length values → literal_value (assigned (slice_set values l.var.0 l.positive)) l ≡ true
+turned_literal values l inside = go l.positive (assigned (slice_set values l.var.0 l.positive) l.var) (get_or-set_same values l.var.0 l.positive false inside)
+  where
+    go : (sign x : Bool) → x ≡ sign → (if sign then x else not x) ≡ true
+    go true x e = e
+    go false x e = ap not e
+
+-- a clause keeps its value in which the variable does not stand
+unturned : (values : List Bool) (v : Var) (b : Bool) (clause : List SatLit) → mentions clause v ≡ false → clause_value (assigned (slice_set values v.0 b)) clause ≡ clause_value (assigned values) clause
+unturned values v b [] h = refl
+unturned values v b (l ∷ clause) h =
+    let first : same_var v l.var ≡ false = false_from_ne_true (same_var v l.var) (λ t. false≢true (sym h ∙ or_left _ _ t)) in
+    let rest : mentions clause v ≡ false = false_from_ne_true (mentions clause v) (λ t. false≢true (sym h ∙ or_right (same_var v l.var) _ t)) in
+    let apart : l.var.0 ≢ v.0 = λ e. false≢true (sym first ∙ subst (λ (n : ℕ). same_var v (record { 0 = n }) ≡ true) (sym e) (same_var-refl v)) in
+    let value : assigned (slice_set values v.0 b) l.var ≡ assigned values l.var = get_or-set_other values v.0 l.var.0 b false apart in
+    ap₂ (λ (x y : Bool). x || y) (ap (λ (x : Bool). if l.positive then x else not x) value) (unturned values v b clause rest)
+
+-- where a literal of a clause is made true, the first clauses are true other than those that hold its variable and are found false
+pub turned_true : (values : List Bool) (uses : List (List ℕ)) (clauses : List (List SatLit)) (l : SatLit) (n bound next : ℕ) → l.var.0 < length values → AreUsed uses bound clauses
+    → ((clause : List SatLit) → slice_get clauses n ≡ Some clause → IsTrue (holds clause l)) → AreTrueBut values n bound clauses
+    → ((k : ℕ) (clause : List SatLit) → Contains (uses_of uses l.var) k → k < bound → k ≢ next → k ≢ n → slice_get clauses k ≡ Some clause → IsTrue (clause_value (assigned (slice_set values l.var.0 l.positive)) clause))
+    → AreTrueBut (slice_set values l.var.0 l.positive) next bound clauses
+turned_true values uses clauses l n bound next inside used member but others k clause below apart at =
+    elim (cases_order k n) [
+      | inl same ↦ clause_value-held (assigned (slice_set values l.var.0 l.positive)) clause l (member clause (ap (slice_get clauses) (sym same) ∙ at)) (turned_literal values l inside)
+      | inr other ↦ unlike (elim other [ inl less ↦ (λ e. absurd (omega arith)) | inr more ↦ (λ e. absurd (omega arith)) ])
+    ]
+  where
+    unlike : k ≢ n → IsTrue (clause_value (assigned (slice_set values l.var.0 l.positive)) clause)
+    unlike apart_n =
+        elim (cases_Bool (mentions clause l.var)) [
+          | inl there ↦
+              let m = mentioned_by clause l.var there in
+              others k clause (subst (λ (w : Var). Contains (uses_of uses w) k) m.2 (used k clause below at m.0 m.1)) below apart apart_n at
+          | inr absent ↦ unturned values l.var l.positive clause absent ∙ but k clause below apart_n at
+        ]
+
+-- the one that was left out is true too
+pub true_with : (values : List Bool) (clauses : List (List SatLit)) (n bound : ℕ) (clause : List SatLit) → AreTrueBut values n bound clauses → slice_get clauses n ≡ Some clause → clause_value (assigned values) clause ≡ true
+    → AreTrue values bound clauses
+true_with values clauses n bound clause but there is k other below at =
+    elim (cases_order k n) [
+      | inl same ↦ subst (λ (c : List SatLit). IsTrue (clause_value (assigned values) c)) (same_Some clause other (sym there ∙ ap (slice_get clauses) (sym same) ∙ at)) is
+      | inr order ↦ elim order [
+        | inl less ↦ but k other below (λ e. absurd (omega arith)) at
+        | inr more ↦ but k other below (λ e. absurd (omega arith)) at
+      ]
+    ]
+
+-- those before the one that is left out are true
+pub true_before : (values : List Bool) (clauses : List (List SatLit)) (n bound : ℕ) → n < bound → AreTrueBut values n bound clauses → AreTrue values n clauses
+true_before values clauses n bound inside but k clause below at = but k clause (omega arith) (λ e. absurd (omega arith)) at
+
+pub true_but : (values : List Bool) (clauses : List (List SatLit)) (n bound : ℕ) → bound ≡ n + 1 → AreTrue values n clauses → AreTrueBut values n bound clauses
+true_but values clauses n bound next are k clause below apart at =
+    elim (cases_order k n) [
+      | inl same ↦ absurd (apart same)
+      | inr order ↦ elim order [ inl less ↦ are k clause less at | inr more ↦ absurd (omega arith) ]
+    ]
+
+-- The table of uses, with a number more.
+
+pub uses_kept : (uses more : List (List ℕ)) (var : Var) (n : ℕ) → ((w : Var) → uses_of more w ≡ (if same_var var w then uses_of uses w ++ n ∷ [] else uses_of uses w))
+    → (v : Var) (k : ℕ) → Contains (uses_of uses v) k → Contains (uses_of more v) k
+uses_kept uses more var n law v k h = go (same_var var v) (uses_of uses v) (uses_of more v) (law v) h
+  where
+    go : (b : Bool) (xs ys : List ℕ) → ys ≡ (if b then xs ++ n ∷ [] else xs) → Contains xs k → Contains ys k
+    go true xs ys e h = subst (λ (some : List ℕ). Contains some k) (sym e) (Contains-append_left xs (n ∷ []) k h)
+    go false xs ys e h = subst (λ (some : List ℕ). Contains some k) (sym e) h
+
+pub uses_there : (uses more : List (List ℕ)) (var : Var) (n : ℕ) → ((w : Var) → uses_of more w ≡ (if same_var var w then uses_of uses w ++ n ∷ [] else uses_of uses w))
+    → Contains (uses_of more var) n
+uses_there uses more var n law =
+    subst (λ (some : List ℕ). Contains some n)
+    (sym (law var ∙ ap (λ (b : Bool). if b then uses_of uses var ++ n ∷ [] else uses_of uses var) (same_var-refl var)))
+    (Contains-push (uses_of uses var) n)
+
+uses_longer : (uses : List (List ℕ)) (v : Var) (k : ℕ) → Contains (uses_of uses v) k → Contains (uses_of (uses ++ [] ∷ []) v) k
+uses_longer uses v k h = subst (λ (some : List ℕ). Contains some k) (sym (go uses v.0)) h
+  where
+    go : (xs : List (List ℕ)) (i : ℕ) → get_or (xs ++ [] ∷ []) i [] ≡ get_or xs i []
+    go [] zero = refl
+    go [] (suc i) = refl
+    go (x ∷ xs) zero = refl
+    go (x ∷ xs) (suc i) = go xs i
+
+-- The keeper.
+
+pub keeper_listed : (values : List Bool) (uses more : List (List ℕ)) (listed kept : ℕ) (clauses : List (List SatLit)) (clause : List SatLit) → IsKeeper values uses listed kept clauses → listed < length clauses
+    → slice_get clauses listed ≡ Some clause → length more ≡ length uses → ((v : Var) (k : ℕ) → Contains (uses_of uses v) k → Contains (uses_of more v) k) → IsUsed more listed clause
+    → IsKeeper values more (listed + 1) kept clauses
+keeper_listed values uses more listed kept clauses clause s inside there made before new = record {
+  listed_within = omega arith;
+  kept_within = let within = s.kept_within in omega arith;
+  used = λ k other below at.
+      elim (cases_order k listed) [
+        | inl same ↦ subst (λ (c : List SatLit). IsUsed more k c) (same_Some clause other (sym there ∙ ap (slice_get clauses) (sym same) ∙ at)) (subst (λ (m : ℕ). IsUsed more m clause) (sym same) new)
+        | inr order ↦ elim order [
+          | inl less ↦ λ l h. before l.var k (s.used k other less at l h)
+          | inr more_than ↦ absurd (omega arith)
+        ]
+      ];
+  kept_true = s.kept_true;
+  uses_made = let enough = s.uses_made in omega arith;
+}
+
+pub keeper_mixed : (values : List Bool) (uses more : List (List ℕ)) (listed kept : ℕ) (clauses : List (List SatLit)) → IsKeeper values uses listed kept clauses
+    → length more ≡ length uses → ((v : Var) (k : ℕ) → Contains (uses_of uses v) k → Contains (uses_of more v) k) → IsKeeper values more listed kept clauses
+keeper_mixed values uses more listed kept clauses s made before = record {
+  listed_within = s.listed_within;
+  kept_within = s.kept_within;
+  used = λ k clause below at l h. before l.var k (s.used k clause below at l h);
+  kept_true = s.kept_true;
+  uses_made = let enough = s.uses_made in omega arith;
+}
+
+pub keeper_valued : (values after : List Bool) (uses : List (List ℕ)) (listed kept kept_after : ℕ) (clauses : List (List SatLit)) → IsKeeper values uses listed kept clauses
+    → length after ≡ length values → kept_after ≤ listed → AreTrue after kept_after clauses → IsKeeper after uses listed kept_after clauses
+keeper_valued values after uses listed kept kept_after clauses s made within are = record {
+  listed_within = s.listed_within;
+  kept_within = within;
+  used = s.used;
+  kept_true = are;
+  uses_made = let enough = s.uses_made in omega arith;
+}
+
+pub all_true : (values : List Bool) (clauses : List (List SatLit)) (kept : ℕ) → length clauses ≤ kept → AreTrue values kept clauses → AllTrue (assigned values) clauses
+all_true values clauses kept whole are = λ k d inside. are k (get_or clauses k d) (omega arith) (slice_get-get_or clauses k d inside)
+
+pub keeper_appended : (values : List Bool) (uses : List (List ℕ)) (listed kept : ℕ) (clauses : List (List SatLit)) (clause : List SatLit) → IsKeeper values uses listed kept clauses
+    → IsKeeper values uses listed kept (clauses ++ clause ∷ [])
+keeper_appended values uses listed kept clauses clause s = record {
+  listed_within = let within = s.listed_within in omega (arith, length-append clauses (clause ∷ []));
+  kept_within = s.kept_within;
+  used = λ k other below at. s.used k other below (earlier k below at);
+  kept_true = λ k other below at. s.kept_true k other below (earlier k (let within = s.kept_within in omega arith) at);
+  uses_made = s.uses_made;
+}
+  where
+    earlier : (k : ℕ) → k < listed → {other : Option (List SatLit)} → slice_get (clauses ++ clause ∷ []) k ≡ other → slice_get clauses k ≡ other
+    earlier k below at = sym (slice_get-before clauses (clause ∷ []) k (let within = s.listed_within in omega arith)) ∙ at
+
+assigned-push : (values : List Bool) (v : Var) → assigned (values ++ false ∷ []) v ≡ assigned values v
+assigned-push values v = go values v.0
+  where
+    go : (xs : List Bool) (i : ℕ) → get_or (xs ++ false ∷ []) i false ≡ get_or xs i false
+    go [] zero = refl
+    go [] (suc i) = refl
+    go (x ∷ xs) zero = refl
+    go (x ∷ xs) (suc i) = go xs i
+
+clause_value-same : (f g : Var → Bool) (clause : List SatLit) → ((v : Var) → f v ≡ g v) → clause_value f clause ≡ clause_value g clause
+clause_value-same f g [] same = refl
+clause_value-same f g (l ∷ clause) same = ap₂ (λ (x y : Bool). x || y) (ap (λ (x : Bool). if l.positive then x else not x) (same l.var)) (clause_value-same f g clause same)
+
+-- one variable more, which is false
+pub keeper_longer : (values : List Bool) (uses : List (List ℕ)) (listed kept : ℕ) (clauses : List (List SatLit)) → IsKeeper values uses listed kept clauses
+    → IsKeeper (values ++ false ∷ []) (uses ++ [] ∷ []) listed kept clauses
+keeper_longer values uses listed kept clauses s = record {
+  listed_within = s.listed_within;
+  kept_within = s.kept_within;
+  used = λ k clause below at l h. uses_longer uses l.var k (s.used k clause below at l h);
+  kept_true = λ k clause below at. clause_value-same (assigned (values ++ false ∷ [])) (assigned values) clause (assigned-push values) ∙ s.kept_true k clause below at;
+  uses_made = let enough = s.uses_made in omega (arith, length-append values (false ∷ []), length-append uses ([] ∷ []));
+}
+
+pub keeper_roomy : (values : List Bool) (uses : List (List ℕ)) (listed kept : ℕ) (clauses : List (List SatLit)) → IsKeeper values uses listed kept clauses
+    → IsKeeper values (uses ++ [] ∷ []) listed kept clauses
+keeper_roomy values uses listed kept clauses s = record {
+  listed_within = s.listed_within;
+  kept_within = s.kept_within;
+  used = λ k clause below at l h. uses_longer uses l.var k (s.used k clause below at l h);
+  kept_true = s.kept_true;
+  uses_made = let enough = s.uses_made in omega (arith, length-append uses ([] ∷ []));
+}

@@ -1,0 +1,148 @@
+-- The steps of `shorten`.
+use Rattle.std.proofs.Common.{◌≡◌, ◌≢◌, inl, inr, ◌<◌, ◌≤◌, ◌-◌, ℕ, ◌&&◌, ◌||◌, not, Bool, true, false, List, [], ◌∷◌, ◌++◌, Some, length, take, refl, sym, ap, ◌∙◌, subst, arith}
+use Rattle.std.specs.List.{slice_get}
+use Rattle.std.specs.Option.{option_and_then}
+use Rattle.std.proofs.lemmas.Bool.{false≢true, cases_Bool, and_parts, and_from, false_from_ne_true, not-true, not_from_false}
+use Rattle.std.proofs.lemmas.List.{take_all}
+use Rattle.std.proofs.lemmas.Option.{same_Some}
+use Rattle.sat_base.specs.declared.literal.Var.{Var}
+use Rattle.sat_base.specs.declared.literal.SatLit.{SatLit}
+use Rattle.sat_base.specs.Literal.{negated, same_var, same_literal, holds, mentions, HoldsNoVariableTwice}
+use Rattle.sat_base.proofs.LiteralLaws.{same_literal-refl, same_literal-true, same_var-true, negated-negated, mentions-held}
+use Rattle.sat_log.specs.declared.chain.Premise.{Premise}
+use Rattle.sat_log.specs.declared.chain.Chain.{Chain}
+use Rattle.sat_log.specs.Resolution.{without, resolved}
+use Rattle.sat_log.proofs.ResolutionLaws.{holds-without}
+use Rattle.sat_log.proofs.VariableLaws.{mentioned_as}
+use Rattle.sat_log.specs.Chains.{premise_clause}
+use Rattle.sat_log.specs.Propagation.{IsUnit, IsConsistent}
+use Rattle.sat_laws.specs.Analysis.{IsFalseBefore}
+use Rattle.sat_laws.specs.Complete.{IsComplete}
+use Rattle.sat_laws.proofs.CompleteLaws.{consistent_once}
+use Rattle.sat_laws.proofs.TrailLaws.{held_at}
+use Rattle.sat_laws.proofs.WatchLaws.{held-take}
+use Rattle.sat_laws.proofs.AnalysisLaws.{IsOutcome, step_resolves, outcome_mentions, mentioned_by, place_below, held_below, learned_new}
+use Rattle.sat_propagate.specs.Trail.{TrailState, literals, IsTrail}
+use Rattle.sat_propagate.specs.Propagator.{texts}
+use Rattle.sat_propagate.specs.declared.trail.Step.{Step}
+use Rattle.sat_propagate.specs.declared.watched.Watched.{Watched}
+use Rattle.sat_propagate.proofs.PlaceLaws.{literal_at, once_place}
+use Rattle.sat_core.specs.Marks.{is_marked}
+use Rattle.sat_core.specs.Learned.{AreNamed, IsLearned, IsShortening, Learns}
+use Rattle.sat_core.proofs.AnalysisSteps.{chain_result-push, reason_undenied, once_resolved}
+
+-- the literals of what is learned are false
+learned_false : (trail : TrailState) (start : ℕ) (clause : List SatLit) → IsLearned trail start clause → (l : SatLit) → holds clause l ≡ true → holds (literals trail.steps) (negated l) ≡ true
+learned_false trail start clause learned l h =
+    elim (cases_Bool (same_literal (negated learned.point) l)) [
+      | inl same ↦ ap (λ (k : SatLit). holds (literals trail.steps) (negated k)) (sym (same_literal-true (negated learned.point) l same))
+          ∙ ap (holds (literals trail.steps)) (negated-negated learned.point) ∙ learned.on_trail
+      | inr apart ↦ held-take start (literals trail.steps) (negated l) (learned.others l h apart)
+    ]
+
+or_absorbs : (x y : Bool) → (y ≡ true → x ≡ true) → (x || y) ≡ x
+or_absorbs true y f = refl
+or_absorbs false true f = sym (f refl)
+or_absorbs false false f = refl
+
+-- a literal is resolved away with a reason whose other variables are marked
+pub shortening_next : (clauses : List Watched) (trail : TrailState) (names : List Premise) (marks after : List Bool) (start place n : ℕ) (chain : Chain) (step : Step) (watched : Watched) (name : Premise)
+    → IsShortening clauses trail names marks start chain → IsTrail trail → place < start → slice_get trail.steps place ≡ Some step → is_marked marks step.literal.var ≡ true
+    → slice_get clauses n ≡ Some watched → IsUnit (take place (literals trail.steps)) watched.clause step.literal → slice_get names n ≡ Some name
+    → ((l : SatLit) → holds watched.clause l ≡ true → l ≢ step.literal → is_marked marks l.var ≡ true)
+    → ((v : Var) → is_marked after v ≡ (is_marked marks v && not (same_var v step.literal.var)))
+    → IsShortening clauses trail names after start (record { first = chain.first; steps = chain.steps ++ record { var = step.literal.var; premise = name } ∷ [] })
+shortening_next clauses trail names marks after start place n chain step watched name a right early at marked there unit named spare marks_after = record {
+  so_far = made.0;
+  learned = record {
+    last = a.learned.last;
+    point = a.learned.point;
+    on_trail = a.learned.on_trail;
+    late = a.learned.late;
+    member = made.2.from_first (negated a.learned.point) a.learned.member point_stays;
+    others = λ l h apart. a.learned.others l (within l h).0 apart;
+  };
+  marked = λ v. marks_after v
+      ∙ ap (λ (b : Bool). b && not (same_var v t.var)) (a.marked v)
+      ∙ sym (outcome_mentions t a.so_far watched.clause made.0 made.2 untrue (reason_undenied trail place step watched.clause right at unit) v
+      ∙ or_absorbs (mentions a.so_far v && not (same_var v t.var)) (mentions (without t watched.clause) v) (there_already v));
+  occurring = λ l h. a.occurring l (within l h).0;
+  once = once_resolved (literals trail.steps) t.var a.so_far watched.clause made.0 (length (literals trail.steps)) consistent made.1
+      (λ l h. ap (λ (some : List SatLit). holds some (negated l)) (take_all (length (literals trail.steps)) (literals trail.steps) (omega arith)) ∙ learned_false trail start a.so_far a.learned l (within l h).0);
+  derived = λ store results are_named.
+      chain_result-push store results chain.first chain.steps (record { var = t.var; premise = name }) a.so_far made.0 (a.derived store results are_named)
+      (let known = are_named n watched there in
+      ap (option_and_then (resolved t.var a.so_far)) (ap (premise_clause store results) (same_Some name known.0 (sym named ∙ known.1)) ∙ known.2) ∙ made.1);
+}
+  where
+    t : SatLit
+    t = step.literal
+
+    t_at : slice_get (literals trail.steps) place ≡ Some t
+    t_at = literal_at trail.steps place step at
+
+    consistent : IsConsistent (literals trail.steps)
+    consistent = consistent_once (literals trail.steps) right.once
+
+    untrue : holds a.so_far t ≡ false
+    untrue = false_from_ne_true (holds a.so_far t) (λ h. consistent t (held_at (literals trail.steps) place t t_at) (learned_false trail start a.so_far a.learned t h))
+
+    denied : holds a.so_far (negated t) ≡ true
+    denied = elim (mentioned_as a.so_far t (sym (a.marked t.var) ∙ marked)) [
+      | inl h ↦ absurd (false≢true (sym untrue ∙ h))
+      | inr h ↦ h
+    ]
+
+    made : (outcome : List SatLit) × (resolved t.var a.so_far watched.clause ≡ Some outcome) × IsOutcome t a.so_far watched.clause outcome
+    made = step_resolves t a.so_far watched.clause denied untrue unit.member
+
+    apart_from : (l : SatLit) → same_literal t l ≡ false → l ≢ t
+    apart_from l apart e = false≢true (sym apart ∙ ap (same_literal t) e ∙ same_literal-refl t)
+
+    of_reason : (l : SatLit) → holds watched.clause l ≡ true → same_literal t l ≡ false → (holds a.so_far l ≡ true) × (same_literal (negated t) l ≡ false)
+    of_reason l h apart = (
+      elim (mentioned_as a.so_far l (sym (a.marked l.var) ∙ spare l h (apart_from l apart))) [
+        | inl held ↦ held
+        | inr denial ↦ absurd (consistent (negated l) (held-take place (literals trail.steps) (negated l) (unit.others l h (apart_from l apart))) (learned_false trail start a.so_far a.learned (negated l) denial))
+      ],
+      false_from_ne_true (same_literal (negated t) l) (λ same.
+          false≢true (sym (reason_undenied trail place step watched.clause right at unit) ∙ ap (holds watched.clause) (same_literal-true (negated t) l same) ∙ h)),
+    )
+
+    within : (l : SatLit) → holds made.0 l ≡ true → (holds a.so_far l ≡ true) × (same_literal (negated t) l ≡ false)
+    within l h = elim (made.2.from_either l h) [
+      | inl first ↦ first
+      | inr second ↦ of_reason l second.0 second.1
+    ]
+
+    point_stays : same_literal (negated t) (negated a.learned.point) ≡ false
+    point_stays = false_from_ne_true (same_literal (negated t) (negated a.learned.point)) (λ same.
+        let is : t ≡ a.learned.point = sym (negated-negated t) ∙ ap negated (same_literal-true (negated t) (negated a.learned.point) same) ∙ negated-negated a.learned.point in
+        false≢true (sym a.learned.late ∙ ap (holds (take start (literals trail.steps))) (sym is) ∙ held_below (literals trail.steps) start place t early t_at))
+
+    -- the variables of the reason other than that of t are those of other literals of the clause
+    there_already : (v : Var) → mentions (without t watched.clause) v ≡ true → (mentions a.so_far v && not (same_var v t.var)) ≡ true
+    there_already v h =
+        let l = mentioned_by (without t watched.clause) v h in
+        let parts = and_parts (holds watched.clause l.0) (not (same_literal t l.0)) (sym (holds-without t watched.clause l.0) ∙ l.1) in
+        let apart : same_literal t l.0 ≡ false = not-true _ parts.1 in
+        let known = of_reason l.0 parts.0 apart in
+        let found = place_below (literals trail.steps) place (negated l.0) (unit.others l.0 parts.0 (apart_from l.0 apart)) in
+        let earlier = found.1 in
+        and_from _ _ (ap (mentions a.so_far) (sym l.2) ∙ mentions-held a.so_far l.0 known.0)
+        (not_from_false _ (false_from_ne_true (same_var v t.var) (λ same.
+        let places : found.0 ≡ place = once_place (literals trail.steps) found.0 place (negated l.0) t right.once found.2 t_at (l.2 ∙ same_var-true v t.var same) in
+        absurd (omega arith))))
+
+-- what is learned is new
+pub shortening_learns : (clauses : List Watched) (trail : TrailState) (names : List Premise) (marks : List Bool) (start : ℕ) (chain : Chain)
+    → IsShortening clauses trail names marks start chain → IsTrail trail → IsComplete (texts clauses) (take start (literals trail.steps)) → Learns clauses trail names chain
+shortening_learns clauses trail names marks start chain a right complete = record {
+  start = start;
+  outcome = a.so_far;
+  learned = a.learned;
+  derived = a.derived;
+  occurring = a.occurring;
+  once = a.once;
+  new = learned_new (texts clauses) (literals trail.steps) a.so_far start a.learned.point complete (consistent_once (literals trail.steps) right.once) a.learned.on_trail a.learned.member a.learned.others;
+}

@@ -1,0 +1,13 @@
+use Rattle.std.proofs.Common.{◌≡◌, ◌-◌, length}
+use Rattle.sat_core.specs.Keeper.{IsKeeper}
+use Rattle.sat_core.proofs.keeper.Keeper.satisfy.Given as goal
+
+abbrev pub invariant-loop-self : goal.invariant-loop-self
+invariant-loop-self l = record {
+  keeper : IsKeeper l.self.values.items l.self.uses l.self.listed l.self.kept l.clauses;
+  listed : l.self.listed ≡ length l.clauses;
+  made : length l.self.values.items ≡ length l.fn.self.values.items;
+}
+
+abbrev pub decreases-loop-self : goal.decreases-loop-self
+decreases-loop-self l = l.count - l.self.kept
