@@ -1,0 +1,6 @@
+//! Worked examples of the tables under the search: numbers of atoms, witnesses, and partners.
+#![tactic(auto)]
+
+mod formulas;
+#[cfg(test)]
+mod tables;
