@@ -18,7 +18,10 @@ fn check_literals(rt: &impl Abort, alloc: Global) -> Result<(), AllocError> {
     assert_eq!(rt; negative, positive.negated());
     assert_eq!(rt; again, positive);
     assert!(rt; other.var != positive.var);
-    assert_eq!(rt; found(&mut bank, &lits, &denied(alloc, p(alloc, 1)?)?)?, Some(other.negated()));
+    assert_eq!(rt;
+        found(&mut bank, &lits, &denied(alloc, p(alloc, 1)?)?)?,
+        Some(other.negated())
+    );
     assert!(rt; found(&mut bank, &lits, &q(alloc))?.is_none());
     Ok(())
 }
