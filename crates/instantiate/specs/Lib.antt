@@ -1,5 +1,4 @@
 pub mod Listing
 pub mod PartialView
 pub mod Growing
-pub mod Cases
 pub mod Means

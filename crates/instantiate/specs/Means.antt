@@ -8,3 +8,4 @@ pub mod Slots
 pub mod Blanks
 pub mod Interned
 pub mod Fitting
+pub mod Cases

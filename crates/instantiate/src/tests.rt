@@ -4,7 +4,7 @@ ghost use Rattle.stt_core.specs.SimpleType.{base, arrow, formula};
 ghost use Rattle.stt_core.specs.Typing.{type_of};
 ghost use Rattle.stt_core.specs.View.{the_type, the_head};
 ghost use Rattle.term_bank.specs.Content.{content_scope};
-ghost use Rattle.instantiate.specs.Cases.{one_constant, individual};
+ghost use Rattle.instantiate.specs.Means.Cases.{one_constant, individual};
 
 use super::*;
 use std::alloc::{AllocError, Global};
