@@ -3,3 +3,4 @@ pub mod Drafts
 pub mod Walks
 pub mod Arenas
 pub mod Numbers
+pub mod Branches

@@ -2,7 +2,9 @@
 #![tactic(auto)]
 
 mod arena;
+mod branch;
 mod draft;
+mod literals;
 mod numbering;
 mod reached;
 mod refutation;
