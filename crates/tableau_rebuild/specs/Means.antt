@@ -4,3 +4,4 @@ pub mod Walks
 pub mod Arenas
 pub mod Numbers
 pub mod Branches
+pub mod LineParts

@@ -4,6 +4,7 @@
 mod arena;
 mod branch;
 mod draft;
+mod line;
 mod literals;
 mod numbering;
 mod reached;
