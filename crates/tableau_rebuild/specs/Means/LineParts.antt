@@ -21,6 +21,21 @@ use Rattle.tableau_rebuild.specs.Tables.{the_atoms, the_instance}
 use Rattle.tableau_rebuild.specs.declared.draft.Draft.{Draft}
 use Rattle.tableau_rebuild.specs.declared.draft.Draft.TheVariants.{Clause, Close, Cut}
 
+-- the first of the places, and the two of two of them
+abbrev pub first_in : List ℕ → ℕ
+first_in [] = 0
+first_in (i ∷ is) = i
+
+abbrev pub left_in : List ℕ → ℕ
+left_in [] = 0
+left_in (i ∷ []) = 0
+left_in (i ∷ j ∷ is) = i
+
+abbrev pub right_in : List ℕ → ℕ
+right_in [] = 1
+right_in (i ∷ []) = 1
+right_in (i ∷ j ∷ is) = j
+
 -- the line of an instance, with the places of its principals in the branch
 abbrev pub instance_by : List Lambda → List SatLit → Instance → Line
 instance_by atoms branch i =
