@@ -5,3 +5,4 @@ pub mod Arenas
 pub mod Numbers
 pub mod Branches
 pub mod LineParts
+pub mod Written

@@ -5,6 +5,7 @@ mod arena;
 mod branch;
 mod draft;
 mod line;
+mod lines;
 mod literals;
 mod numbering;
 mod reached;
