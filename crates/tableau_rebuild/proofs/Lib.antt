@@ -5,3 +5,4 @@ pub mod JoinLaws
 pub mod ChainLaws
 pub mod FleshLaws
 pub mod NumberLaws
+pub mod WriteLaws

@@ -3,3 +3,6 @@ pub mod Drafts
 pub mod Walks
 pub mod Arenas
 pub mod Numbers
+pub mod Branches
+pub mod LineParts
+pub mod Written

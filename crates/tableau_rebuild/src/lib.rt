@@ -2,7 +2,11 @@
 #![tactic(auto)]
 
 mod arena;
+mod branch;
 mod draft;
+mod line;
+mod lines;
+mod literals;
 mod numbering;
 mod reached;
 mod refutation;

@@ -1,0 +1,80 @@
+use Rattle.std.proofs.Common.{◌≡◌, ◌<◌, ◌≤◌, ◌+◌, ℕ, zero, suc, List, [], ◌∷◌, map, length, take, slice_index_or, sym, ap, subst, ◌∙◌, arith}
+use Rattle.std.proofs.lemmas.List.{length-map}
+use Rattle.std.proofs.lemmas.Option.{slice_get-get_or}
+use Rattle.stt_core.proofs.ListLaws.{map_more}
+use Rattle.sat_base.specs.Literal.{IsOver}
+use Rattle.rebuilt_refutation.specs.Lines.{line_of}
+use Rattle.rebuilt_refutation.specs.Trees.{branch}
+use Rattle.tableau_rebuild.specs.declared.draft.Draft.TheVariants.{Clause}
+use Rattle.tableau_rebuild.specs.Tables.{the_atoms}
+use Rattle.tableau_rebuild.specs.Means.LineParts.{IsLineBy}
+use Rattle.tableau_rebuild.specs.Means.Written.{the_tree}
+use Rattle.tableau_rebuild.proofs.WriteLaws.{branch_made, line_made, ready}
+use Rattle.tableau_rebuild.proofs.lines.write_lines.Goals as goal
+
+length_front : {A : Type 0} (k : ℕ) (xs : List A) → k ≤ length xs → length (take k xs) ≡ k
+length_front zero xs l = omega arith
+length_front (suc k) [] l = absurd (omega (arith, l))
+length_front (suc k) (x ∷ xs) l = let rest = length_front k xs (omega (arith, l)) in omega (arith, rest)
+
+pub branch_of-requires-clause-ready : goal.branch_of-requires-clause-ready
+branch_of-requires-clause-ready c =
+    let order = c.args.order.now in
+    let ds = c.args.drafts.now in
+    let k = c.loop-k.k in
+    let within = c.loop-k-test.true in
+    let i = slice_index_or order k 0 in
+    let listed = slice_get-get_or order k 0 (omega (arith, within)) in
+    let drafted = slice_get-get_or ds i (Clause 0) (c.requires.inside k i listed) in
+    let T = λ (j : ℕ). branch (the_tree c.args.bank.now.terms c.args.atoms.now c.args.steps.now ds j) in
+    let count = ap length (c.deref.ensures.value ∙ c.loop-k.invariant.branches) ∙ length-map (take k order) T ∙ length_front k order (omega (arith, within)) in
+    ready c.args.bank.now c.args.atoms.now c.args.steps.now ds c.requires.right c.args.last c.requires.last order c.requires.walked c.requires.inside c.args.numbers.now c.requires.numbers k i (slice_index_or ds i (Clause 0)) (length c.deref.result.now) count listed drafted (c.requires.makeable k i (slice_index_or ds i (Clause 0)) listed drafted)
+
+pub line_of-requires-clause-makeable : goal.line_of-requires-clause-makeable
+line_of-requires-clause-makeable c =
+    let order = c.args.order.now in
+    let ds = c.args.drafts.now in
+    let k = c.loop-k.k in
+    let within = c.loop-k-test.true in
+    let i = slice_index_or order k 0 in
+    let listed = slice_get-get_or order k 0 (omega (arith, within)) in
+    let drafted = slice_get-get_or ds i (Clause 0) (c.requires.inside k i listed) in
+    c.requires.makeable k i (slice_index_or ds i (Clause 0)) listed drafted
+
+pub line_of-requires-clause-numbered : goal.line_of-requires-clause-numbered
+line_of-requires-clause-numbered c =
+    let order = c.args.order.now in
+    let ds = c.args.drafts.now in
+    let k = c.loop-k.k in
+    let within = c.loop-k-test.true in
+    let i = slice_index_or order k 0 in
+    let d = slice_index_or ds i (Clause 0) in
+    let listed = slice_get-get_or order k 0 (omega (arith, within)) in
+    let drafted = slice_get-get_or ds i (Clause 0) (c.requires.inside k i listed) in
+    let made = branch_made c.args.bank.now c.args.atoms.now c.args.steps.now ds c.requires.right c.args.last c.requires.last order c.requires.walked c.requires.inside c.args.numbers.now c.requires.numbers k i d c.deref.result.now listed drafted (c.requires.makeable k i d listed drafted) (c.deref.ensures.value ∙ c.loop-k.invariant.branches) in
+    subst (IsOver (length c.args.atoms.now)) (sym (c.as_slice.ensures ∙ c.in_ok-branch.ensures.branch ∙ made)) (c.requires.numbered k i listed)
+
+pub loop-k-preserved : goal.loop-k-preserved
+loop-k-preserved c =
+    let b = c.args.bank.now in
+    let atoms = c.args.atoms.now in
+    let t = c.args.steps.now in
+    let numbers = c.args.numbers.now in
+    let order = c.args.order.now in
+    let ds = c.args.drafts.now in
+    let k = c.loop-k.k in
+    let within = c.loop-k-test.true in
+    let i = slice_index_or order k 0 in
+    let d = slice_index_or ds i (Clause 0) in
+    let listed = slice_get-get_or order k 0 (omega (arith, within)) in
+    let drafted = slice_get-get_or ds i (Clause 0) (c.requires.inside k i listed) in
+    let can = c.requires.makeable k i d listed drafted in
+    let made = branch_made b atoms t ds c.requires.right c.args.last c.requires.last order c.requires.walked c.requires.inside numbers c.requires.numbers k i d c.deref.result.now listed drafted can (c.deref.ensures.value ∙ c.loop-k.invariant.branches) in
+    let is = c.in_ok-branch.ensures.branch ∙ made in
+    let line = subst (λ ls. IsLineBy b atoms t numbers ls d c.in_ok-line.line) (c.as_slice.ensures ∙ is) c.in_ok-line.ensures in
+    let right = line_made b atoms t ds c.requires.right c.args.last c.requires.last order c.requires.walked c.requires.inside numbers c.requires.numbers k i d c.in_ok-line.line listed drafted can line in
+    record {
+      branches = map_more (λ j. branch (the_tree b.terms atoms t ds j)) order k i c.loop-k.branches.items c.push-in-loop-k.new.self.items c.in_ok-branch.branch listed c.loop-k.invariant.branches is c.in_ok-push-2.ensures.items;
+      lines = map_more (λ j. line_of (the_atoms b.terms atoms) (map (the_tree b.terms atoms t ds) order) (the_tree b.terms atoms t ds j)) order k i c.loop-k.lines c.push.new.self c.in_ok-line.line listed c.loop-k.invariant.lines right c.in_ok-push.ensures.ok;
+      empty = c.in_ok-branch.ensures.empty;
+    }

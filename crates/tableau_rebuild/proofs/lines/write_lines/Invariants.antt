@@ -1,0 +1,13 @@
+use Rattle.std.proofs.Common.{◌≡◌, [], map, take}
+use Rattle.rebuilt_refutation.specs.Lines.{line_of}
+use Rattle.rebuilt_refutation.specs.Trees.{branch}
+use Rattle.tableau_rebuild.specs.Tables.{the_atoms}
+use Rattle.tableau_rebuild.specs.Means.Written.{the_tree}
+use Rattle.tableau_rebuild.proofs.lines.write_lines.Given as goal
+
+abbrev pub invariant-loop-k : goal.invariant-loop-k
+invariant-loop-k l = record {
+  branches : l.branches.items ≡ map (λ i. branch (the_tree l.bank.terms l.atoms l.steps l.drafts i)) (take l.k l.order);
+  lines : l.lines ≡ map (λ i. line_of (the_atoms l.bank.terms l.atoms) (map (the_tree l.bank.terms l.atoms l.steps l.drafts) l.order) (the_tree l.bank.terms l.atoms l.steps l.drafts i)) (take l.k l.order);
+  empty : l.resolver ≡ [];
+}

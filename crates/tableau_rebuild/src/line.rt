@@ -1,0 +1,221 @@
+//! Lines.
+ghost use Rattle.std.specs.Prelude.{◌≡◌, ◌<◌, [], ◌∷◌, length, map, Some, IsSome, IfSome, IfOk, All, unwrap_or};
+ghost use Rattle.sat_base.specs.Literal.{IsOver};
+ghost use Rattle.stt_tableau.specs.declared.refutation.RuleUse.{RuleUse};
+ghost use Rattle.stt_tableau.specs.declared.refutation.Child.TheVariants.{Closed, Line as Numbered};
+ghost use Rattle.search_run.specs.Numbered.{literal_at};
+ghost use Rattle.term_bank.specs.Terms.{term_at};
+ghost use Rattle.literal_map.specs.Atoms.{IsAtom};
+ghost use Rattle.rebuilt_refutation.specs.Input.{literals_of};
+ghost use Rattle.rebuilt_refutation.specs.Stands.{placed, place_in};
+ghost use Rattle.tableau_rebuild.specs.Uses.{use_of};
+ghost use Rattle.tableau_rebuild.specs.Tables.{no_literal, the_atoms, the_instance};
+ghost use Rattle.tableau_rebuild.specs.Means.LineParts.{first_in, left_in, right_in, instance_by, IsGoodUse, IsMakeable, IsLineBy};
+
+use crate::draft::Draft;
+use crate::literals::{lit_of, lits_of, position};
+use literal_map::{BankUse, Instance, LitList, LitLists, LitTable, RuleKind};
+use sat_base::SatLit;
+use std::alloc::{AllocError, Global};
+use stt_core::Nf;
+use stt_tableau::{Child, Children, Line, Lit, Lits, RuleUse};
+use tableau_clauses::{Origin, StepTable};
+use term_bank::Bank;
+
+/// The first of the places.
+fn first_of(places: &[usize]) -> usize
+    ensures { result ≡ first_in places.now }
+{
+    if places.is_empty() { 0 } else { places[0] }
+}
+
+/// The first of two places.
+fn left_of(places: &[usize]) -> usize
+    ensures { result ≡ left_in places.now }
+{
+    if places.len() < 2 { 0 } else { places[0] }
+}
+
+/// The second of two places.
+fn right_of(places: &[usize]) -> usize
+    ensures { result ≡ right_in places.now }
+{
+    if places.len() < 2 { 1 } else { places[1] }
+}
+
+/// The term that a rule takes.
+fn term_of(bank: &Bank, by: &BankUse) -> Result<Nf, AllocError>
+    requires some { IsSome by.now.term }
+    requires within { IfSome by.now.term (λ u. u < length bank.now.terms) }
+    ensures { IfOk result (λ u. u ≡ term_at bank.now.terms (unwrap_or by.now.term 0)) }
+{
+    match by.term {
+        Some(id) => Ok(bank.export(id)?),
+        None => unreachable!(),
+    }
+}
+
+/// The literal that a cut takes.
+fn cut_literal(bank: &Bank, atoms: &LitTable, by: &BankUse) -> Result<Lit, AllocError>
+    requires atoms { All (IsAtom bank.now) atoms.now }
+    requires some { IsSome by.now.first }
+    requires within { IfSome by.now.first (λ l. l.var.0 < length atoms.now) }
+    ensures { IfOk result (λ l. l ≡ literal_at (the_atoms bank.now.terms atoms.now) (unwrap_or by.now.first no_literal)) }
+{
+    match by.first {
+        Some(literal) => Ok(lit_of(bank, atoms, literal)?),
+        None => unreachable!(),
+    }
+}
+
+/// The rule with the places of its principals.
+fn rule_of(
+    bank: &Bank,
+    atoms: &LitTable,
+    by: &BankUse,
+    places: &[usize],
+) -> Result<RuleUse, AllocError>
+    requires atoms { All (IsAtom bank.now) atoms.now }
+    requires good { IsGoodUse bank.now atoms.now by.now }
+    ensures { IfOk result (λ rule. (use' : RuleUse) → use_of bank.now.terms atoms.now by.now ≡ Some use' → rule ≡ placed use' places.now) }
+{
+    let first = first_of(places);
+    let left = left_of(places);
+    let right = right_of(places);
+    match by.kind {
+        RuleKind::False => Ok(RuleUse::False(first)),
+        RuleKind::Close => Ok(RuleUse::Close(left, right)),
+        RuleKind::Refl => Ok(RuleUse::Refl(first)),
+        RuleKind::ImpPos => Ok(RuleUse::ImpPos(first)),
+        RuleKind::ImpNeg => Ok(RuleUse::ImpNeg(first)),
+        RuleKind::BoolPos => Ok(RuleUse::BoolPos(first)),
+        RuleKind::BoolNeg => Ok(RuleUse::BoolNeg(first)),
+        RuleKind::FunPos => Ok(RuleUse::FunPos(first)),
+        RuleKind::FunNeg => Ok(RuleUse::FunNeg(first)),
+        RuleKind::AllPos => {
+            let term = term_of(bank, by)?;
+            Ok(RuleUse::AllPos(first, term))
+        }
+        RuleKind::AllNeg => Ok(RuleUse::AllNeg(first)),
+        RuleKind::Mat => Ok(RuleUse::Mat(left, right)),
+        RuleKind::Dec => Ok(RuleUse::Dec(first)),
+        RuleKind::Con => Ok(RuleUse::Con(left, right)),
+        RuleKind::Cho => {
+            let term = term_of(bank, by)?;
+            Ok(RuleUse::Cho(term))
+        }
+        RuleKind::Des => {
+            let term = term_of(bank, by)?;
+            Ok(RuleUse::Des(term))
+        }
+        RuleKind::Cut => {
+            let literal = cut_literal(bank, atoms, by)?;
+            Ok(RuleUse::Cut(literal))
+        }
+    }
+}
+
+/// The places of literals in a branch.
+fn places_of(alloc: Global, branch: &[SatLit], literals: &LitList) -> Result<Vec<usize>, AllocError>
+    ensures { IfOk result (λ places. places.items ≡ map (place_in branch.now) literals.now) }
+{
+    let mut places = Vec::new(alloc);
+    for i in 0..literals.len() {
+        places.push(position(branch, literals.at(i)))?;
+    }
+    Ok(places)
+}
+
+/// A closed child for each alternative.
+fn all_closed(alloc: Global, alternatives: &LitLists) -> Result<Children, AllocError>
+    ensures { IfOk result (λ children. children ≡ map (λ _. Closed) alternatives.now) }
+{
+    let mut children = Children::new(alloc);
+    for _i in 0..alternatives.len() {
+        children.push(Child::Closed)?;
+    }
+    Ok(children)
+}
+
+/// Two earlier lines.
+fn two_lines(alloc: Global, first: usize, second: usize) -> Result<Children, AllocError>
+    ensures { IfOk result (λ children. children ≡ Numbered first ∷ Numbered second ∷ []) }
+{
+    let mut children = Children::new(alloc);
+    children.push(Child::Line(first))?;
+    children.push(Child::Line(second))?;
+    Ok(children)
+}
+
+/// The line of an instance, whose children are all closed.
+fn instance_line(
+    alloc: Global,
+    bank: &Bank,
+    atoms: &LitTable,
+    instance: &Instance,
+    branch: &[SatLit],
+    literals: Lits,
+) -> Result<Line, AllocError>
+    requires atoms { All (IsAtom bank.now) atoms.now }
+    requires good { IsGoodUse bank.now atoms.now instance.now.by }
+    requires literals { literals ≡ literals_of (the_atoms bank.now.terms atoms.now) branch.now }
+    ensures { IfOk result (λ line. line ≡ instance_by (the_atoms bank.now.terms atoms.now) branch.now (the_instance bank.now.terms atoms.now instance.now)) }
+{
+    let places = places_of(alloc, branch, &instance.principals)?;
+    let rule = rule_of(bank, atoms, &instance.by, &places)?;
+    let children = all_closed(alloc, &instance.alternatives)?;
+    Ok(Line {
+        branch: literals,
+        rule,
+        children,
+    })
+}
+
+/// The line of a draft, where the lines before have these numbers.
+pub(crate) fn line_of(
+    alloc: Global,
+    bank: &Bank,
+    atoms: &LitTable,
+    steps: &StepTable,
+    draft: Draft,
+    branch: &[SatLit],
+    numbers: &[usize],
+) -> Result<Line, AllocError>
+    requires atoms { All (IsAtom bank.now) atoms.now }
+    requires numbered { IsOver (length atoms.now) branch.now }
+    requires makeable { IsMakeable bank.now atoms.now steps.now numbers.now draft }
+    ensures { IfOk result (λ line. IsLineBy bank.now atoms.now steps.now numbers.now branch.now draft line) }
+{
+    let literals = lits_of(alloc, bank, atoms, branch)?;
+    match draft {
+        Draft::Clause(n) => match steps.origin(n) {
+            Origin::Instance(k) => Ok(instance_line(
+                alloc,
+                bank,
+                atoms,
+                steps.instance(k),
+                branch,
+                literals,
+            )?),
+            Origin::Start => unreachable!(),
+        },
+        Draft::Close(_, _, _) => Ok(Line {
+            branch: literals,
+            rule: RuleUse::Close(0, 1),
+            children: Children::new(alloc),
+        }),
+        Draft::Cut(_, var, on, off) => {
+            let positive = SatLit {
+                var,
+                positive: true,
+            };
+            let rule = RuleUse::Cut(lit_of(bank, atoms, positive)?);
+            let children = two_lines(alloc, numbers[on], numbers[off])?;
+            Ok(Line {
+                branch: literals,
+                rule,
+                children,
+            })
+        }
+    }
+}

@@ -1,0 +1,57 @@
+//! The lines of a refutation.
+ghost use Rattle.std.specs.Prelude.{◌≡◌, ◌<◌, ℕ, [], length, map, Some, slice_get, IfOk, All};
+ghost use Rattle.sat_base.specs.Literal.{IsOver};
+ghost use Rattle.literal_map.specs.Atoms.{IsAtom};
+ghost use Rattle.rebuilt_refutation.specs.Lines.{walked, line_of as line_in};
+ghost use Rattle.rebuilt_refutation.specs.Trees.{branch};
+ghost use Rattle.tableau_rebuild.specs.declared.draft.Draft.{Draft};
+ghost use Rattle.tableau_rebuild.specs.Tables.{the_atoms};
+ghost use Rattle.tableau_rebuild.specs.Means.Drafts.{trees, tree_at, AreDrafts};
+ghost use Rattle.tableau_rebuild.specs.Means.Numbers.{AreNumbers};
+ghost use Rattle.tableau_rebuild.specs.Means.LineParts.{IsMakeable};
+ghost use Rattle.tableau_rebuild.specs.Means.Written.{the_tree};
+
+use crate::branch::branch_of;
+use crate::draft::Draft;
+use crate::line::line_of;
+use literal_map::LitTable;
+use sat_base::Clause;
+use sat_log::Resolver;
+use std::alloc::{AllocError, Global};
+use stt_tableau::Lines;
+use tableau_clauses::StepTable;
+use term_bank::Bank;
+
+/// The lines of the drafts in this order, of which each has its number.
+pub(crate) fn write_lines(
+    alloc: Global,
+    bank: &Bank,
+    atoms: &LitTable,
+    steps: &StepTable,
+    drafts: &[Draft],
+    last: usize,
+    order: &[usize],
+    numbers: &[usize],
+) -> Result<Lines, AllocError>
+    requires atoms { All (IsAtom bank.now) atoms.now }
+    requires right { AreDrafts drafts.now }
+    requires last { last < length drafts.now }
+    requires walked { map (tree_at (trees drafts.now)) order.now ≡ walked [] (tree_at (trees drafts.now) last) }
+    requires inside { (k i : ℕ) → slice_get order.now k ≡ Some i → i < length drafts.now }
+    requires numbers { AreNumbers order.now numbers.now }
+    requires makeable { (k i : ℕ) (d : Draft) → slice_get order.now k ≡ Some i → slice_get drafts.now i ≡ Some d → IsMakeable bank.now atoms.now steps.now numbers.now d }
+    requires numbered { (k i : ℕ) → slice_get order.now k ≡ Some i → IsOver (length atoms.now) (branch (the_tree bank.now.terms atoms.now steps.now drafts.now i)) }
+    ensures { IfOk result (λ lines. lines ≡ map (λ i. line_in (the_atoms bank.now.terms atoms.now) (map (the_tree bank.now.terms atoms.now steps.now drafts.now) order.now) (the_tree bank.now.terms atoms.now steps.now drafts.now i)) order.now) }
+{
+    let mut branches: Vec<Clause> = Vec::new(alloc);
+    let mut lines = Lines::new(alloc);
+    let mut resolver = Resolver::new(alloc);
+    for k in 0..order.len() {
+        let draft = drafts[order[k]];
+        let branch = branch_of(alloc, steps, draft, numbers, &branches, &mut resolver)?;
+        let line = line_of(alloc, bank, atoms, steps, draft, branch.as_slice(), numbers)?;
+        lines.push(line)?;
+        branches.push(branch)?;
+    }
+    Ok(lines)
+}

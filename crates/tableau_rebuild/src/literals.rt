@@ -1,0 +1,69 @@
+//! Literals and branches, by numbers and as terms.
+ghost use Rattle.std.specs.Prelude.{◌≡◌, ◌<◌, [], ◌∷◌, ◌++◌, length, map, IfOk, OnOk, All};
+ghost use Rattle.sat_base.specs.Literal.{negated, IsOver};
+ghost use Rattle.search_run.specs.Numbered.{literal_at};
+ghost use Rattle.literal_map.specs.Atoms.{IsAtom};
+ghost use Rattle.rebuilt_refutation.specs.Input.{literals_of};
+ghost use Rattle.rebuilt_refutation.specs.Stands.{place_in};
+ghost use Rattle.tableau_rebuild.specs.Tables.{the_atoms};
+
+use literal_map::LitTable;
+use sat_base::{Clause, SatLit};
+use std::alloc::{AllocError, Global};
+use stt_tableau::{Lit, Lits};
+use term_bank::Bank;
+
+/// The place of a literal in a branch.
+pub(crate) fn position(branch: &[SatLit], literal: SatLit) -> usize
+    ensures { result ≡ place_in branch.now literal }
+{
+    for i in 0..branch.len() {
+        if branch[i] == literal {
+            return i;
+        }
+    }
+    branch.len()
+}
+
+/// The negations of literals.
+pub(crate) fn negations(alloc: Global, literals: &[SatLit]) -> Result<Clause, AllocError>
+    ensures { IfOk result (λ clause. clause ≡ map negated literals.now) }
+{
+    let mut clause = Clause::new(alloc);
+    for i in 0..literals.len() {
+        clause.push(literals[i].negated())?;
+    }
+    Ok(clause)
+}
+
+/// The literal that a number with a sign stands for.
+pub(crate) fn lit_of(bank: &Bank, atoms: &LitTable, literal: SatLit) -> Result<Lit, AllocError>
+    requires atoms { All (IsAtom bank.now) atoms.now }
+    requires within { literal.var.0 < length atoms.now }
+    ensures { IfOk result (λ l. l ≡ literal_at (the_atoms bank.now.terms atoms.now) literal) }
+{
+    let atom = bank.export(atoms.formula_of(literal))?;
+    Ok(Lit {
+        positive: literal.positive,
+        atom,
+    })
+}
+
+/// The literals of a branch.
+pub(crate) fn lits_of(
+    alloc: Global,
+    bank: &Bank,
+    atoms: &LitTable,
+    branch: &[SatLit],
+) -> Result<Lits, AllocError>
+    requires atoms { All (IsAtom bank.now) atoms.now }
+    requires within { IsOver (length atoms.now) branch.now }
+    ensures { IfOk result (λ ls. ls ≡ literals_of (the_atoms bank.now.terms atoms.now) branch.now) }
+{
+    let mut lits = Lits::new(alloc);
+    for i in 0..branch.len() {
+        let lit = lit_of(bank, atoms, branch[i])?;
+        lits.push(lit)?;
+    }
+    Ok(lits)
+}
