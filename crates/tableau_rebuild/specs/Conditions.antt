@@ -10,7 +10,7 @@ use Rattle.literal_map.specs.declared.instance.Instance.{Instance}
 use Rattle.tableau_clauses.specs.declared.origin.Origin.TheVariants.{Start}
 use Rattle.tableau_clauses.specs.Table.{Table}
 use Rattle.rebuilt_refutation.specs.Input.{literals_of}
-use Rattle.tableau_rebuild.specs.Uses.{use_of}
+use Rattle.tableau_rules.specs.Uses.{use_of}
 use Rattle.tableau_rebuild.specs.Tables.{the_atoms}
 
 -- the literal of each start unit has a number

@@ -1,4 +1,3 @@
-pub mod Uses
 pub mod Tables
 pub mod Conditions
 pub mod UsedInstances

@@ -13,7 +13,7 @@ use Rattle.tableau_clauses.specs.declared.origin.Origin.{Origin}
 use Rattle.tableau_clauses.specs.declared.origin.Origin.TheVariants.{Start, Instance as From}
 use Rattle.tableau_clauses.specs.Table.{Step, Table}
 use Rattle.rebuilt_refutation.specs.Input.{Instance, Sourced, start_unit, clause_by, Input, literals_of}
-use Rattle.tableau_rebuild.specs.Uses.{use_of}
+use Rattle.tableau_rules.specs.Uses.{use_of}
 
 -- the atoms at these places of the bank
 abbrev pub the_atoms : List Lambda → List ℕ → List Lambda

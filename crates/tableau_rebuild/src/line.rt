@@ -8,7 +8,7 @@ ghost use Rattle.term_bank.specs.Terms.{term_at};
 ghost use Rattle.literal_map.specs.Atoms.{IsAtom};
 ghost use Rattle.rebuilt_refutation.specs.Input.{literals_of};
 ghost use Rattle.rebuilt_refutation.specs.Stands.{placed, place_in};
-ghost use Rattle.tableau_rebuild.specs.Uses.{use_of};
+ghost use Rattle.tableau_rules.specs.Uses.{use_of};
 ghost use Rattle.tableau_rebuild.specs.Tables.{no_literal, the_atoms, the_instance};
 ghost use Rattle.tableau_rebuild.specs.Means.LineParts.{first_in, left_in, right_in, instance_by, IsGoodUse, IsMakeable, IsLineBy};
 

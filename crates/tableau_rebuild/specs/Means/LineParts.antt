@@ -16,7 +16,7 @@ use Rattle.tableau_clauses.specs.declared.origin.Origin.TheVariants.{Instance as
 use Rattle.tableau_clauses.specs.Table.{Table}
 use Rattle.rebuilt_refutation.specs.Input.{Instance, literals_of}
 use Rattle.rebuilt_refutation.specs.Stands.{placed, place_in}
-use Rattle.tableau_rebuild.specs.Uses.{use_of}
+use Rattle.tableau_rules.specs.Uses.{use_of}
 use Rattle.tableau_rebuild.specs.Tables.{the_atoms, the_instance}
 use Rattle.tableau_rebuild.specs.declared.draft.Draft.{Draft}
 use Rattle.tableau_rebuild.specs.declared.draft.Draft.TheVariants.{Clause, Close, Cut}
