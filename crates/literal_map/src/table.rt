@@ -1,5 +1,5 @@
 //! Tables of atoms.
-ghost use Rattle.std.specs.Prelude.{◌≡◌, ℕ, ◌<◌, length, [], Some, IfOk, OnErr, IfSome, IfNone, All, get_or, slice_get};
+ghost use Rattle.std.specs.Prelude.{◌≡◌, ℕ, ◌<◌, length, [], Some, IfOk, OnErr, IfSome, IfNone, All, get_or, slice_get, take};
 ghost use Rattle.stt_core.specs.Canonical.{IsCanonical};
 ghost use Rattle.stt_core.specs.SimpleType.{formula};
 ghost use Rattle.stt_tableau.specs.Literals.{literal};
@@ -69,6 +69,13 @@ impl LitTable {
             var: Var(number),
             positive: formula.positive,
         })
+    }
+
+    /// Takes the numbers from `len` on back from their atoms.
+    pub fn truncate(&mut self, len: usize)
+        ensures { self.new ≡ take len self.old }
+    {
+        self.atoms.truncate(len);
     }
 
     /// The atom of a literal.

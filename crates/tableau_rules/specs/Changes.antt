@@ -1,0 +1,47 @@
+-- What the making of an instance changes.
+use Rattle.std.specs.Prelude.{◌≡◌, ℕ, ◌<◌, List, ◌++◌, length, Option, Some, ◌⊎◌}
+use Rattle.sat_base.specs.declared.literal.SatLit.{SatLit}
+use Rattle.stt_core.specs.SimpleType.{SimpleType}
+use Rattle.stt_core.specs.Lambda.{Lambda, every}
+use Rattle.stt_tableau.specs.Literals.{minus}
+use Rattle.term_bank.specs.Content.{Content}
+use Rattle.term_bank.specs.Terms.{term_at}
+use Rattle.literal_map.specs.Atoms.{literal_at}
+use Rattle.literal_map.specs.declared.instance.BankUse.{BankUse}
+use Rattle.literal_map.specs.declared.instance.RuleKind.{RuleKind}
+use Rattle.literal_map.specs.declared.instance.RuleKind.TheVariants.{AllNeg}
+use Rattle.witness_names.specs.Rows.{with_predicate}
+use Rattle.tableau_rules.specs.declared.refusal.RuleRefused.{RuleRefused}
+use Rattle.tableau_rules.specs.declared.refusal.RuleRefused.TheVariants.{NotThisRule, Memory}
+
+-- The declarations stay, and further types of witnesses and further terms stand behind the earlier ones.
+pub record Widens (old new : Content) : Type 0 where
+  pub bases : new.bases ≡ old.bases
+  pub consts : new.consts ≡ old.consts
+  pub types : List SimpleType
+  pub witnesses : new.witnesses ≡ old.witnesses ++ types
+  pub further : List Lambda
+  pub terms : new.terms ≡ old.terms ++ further
+
+-- the literal says that the predicate doesn't hold everywhere, and the witnesses are those before with one for it
+pub record HasWitness (b : Content) (atoms : List ℕ) (principal : Option SatLit) (old new : List ℕ) : Type 0 where
+  pub literal : SatLit
+  pub is_principal : principal ≡ Some literal
+  pub type : SimpleType
+  pub predicate : ℕ
+  pub within : predicate < length b.terms
+  pub denies : literal_at b.terms atoms literal ≡ minus (every type (term_at b.terms predicate))
+  pub added : new ≡ with_predicate old predicate
+
+-- the witnesses after a rule: those before, and for a predicate that doesn't hold everywhere its own
+abbrev pub AreWitnessesAfter : Content → List ℕ → RuleKind → Option SatLit → List ℕ → List ℕ → Type 0
+AreWitnessesAfter b atoms AllNeg principal old new = HasWitness b atoms principal old new
+AreWitnessesAfter b atoms kind principal old new = new ≡ old
+
+abbrev pub AreWitnessesBy : Content → List ℕ → BankUse → List ℕ → List ℕ → Type 0
+AreWitnessesBy b atoms by old new = AreWitnessesAfter b atoms by.kind by.first old new
+
+-- The witnesses after a refusal: those before, or where memory ran out those after the rule.
+abbrev pub LeavesWitnesses : Content → List ℕ → BankUse → List ℕ → List ℕ → RuleRefused → Type 0
+LeavesWitnesses b atoms by old new NotThisRule = new ≡ old
+LeavesWitnesses b atoms by old new Memory = (new ≡ old) ⊎ AreWitnessesBy b atoms by old new
