@@ -1,3 +1,12 @@
 pub mod EachLaws
 pub mod SpacedLaws
 pub mod QueueLaws
+pub mod PlanLaws
+pub mod NamesLaws
+pub mod NumberLaws
+pub mod LoopStays
+pub mod PushLaws
+pub mod SeenLaws
+pub mod ShallowLaws
+pub mod InstanceLaws
+pub mod StateStays

@@ -1,5 +1,5 @@
 -- Pushing the commands of a loop.
-use Rattle.std.specs.Prelude.{◌≡◌, ◌≤◌, ◌+◌, ◌-◌, ℕ, zero, suc, Bool, true, false, List, [], ◌∷◌, ◌++◌, map, filter, take, drop, length, refl, if◌then◌else◌}
+use Rattle.std.specs.Prelude.{◌≡◌, ◌≤◌, ◌+◌, ◌-◌, ℕ, zero, suc, Bool, true, false, List, [], ◌∷◌, ◌++◌, map, filter, take, drop, length, Option, Some, None, refl, if◌then◌else◌}
 use Rattle.std.proofs.Common.{sym, ap, ap₂, subst, ◌∙◌, arith, length-drop}
 use Rattle.std.proofs.lemmas.List.{length-take-le}
 use Rattle.stt_core.specs.Typing.{Scope}
@@ -16,13 +16,14 @@ use Rattle.search_run.specs.Means.Loops.{Loop, entries, queue_of}
 use Rattle.search_tables.specs.declared.command.Command.{Command}
 use Rattle.search_tables.specs.declared.command.Command.TheVariants.{Process, Mate, Confront, Inst, Grow, Choose, Describe}
 use Rattle.search_tables.specs.declared.command.Over.{Over}
-use Rattle.search_tables.specs.declared.command.Over.TheVariants.{Nothing, Terms, Universals, Negatives, Positives, Heads, Parked}
+use Rattle.search_tables.specs.declared.command.Over.TheVariants.{Terms, Universals, Negatives, Positives, Heads, Parked}
 use Rattle.search_tables.specs.declared.command.Planned.{Planned}
+use Rattle.search_tables.specs.declared.command.Rest.{Rest}
 use Rattle.search_tables.specs.declared.command.Delays.{Delays}
 use Rattle.search_tables.specs.declared.tables.Tables.{Tables}
 use Rattle.search_tables.specs.Delays.{the_mode, delay_by}
 use Rattle.search_tables.specs.Names.{Names, command_at}
-use Rattle.search_tables.specs.Pending.{over_terms, over_universals, over_negatives, over_positives, over_heads, over_parked, loop_over, between, later_of, IsWithin, IsEntry, span, loop_at}
+use Rattle.search_tables.specs.Pending.{over_terms, over_universals, over_negatives, over_positives, over_heads, over_parked, loop_over, between, later_of, IsWithin, AreThere, IsEntry, span, span_of, loop_at}
 use Rattle.search_tables.specs.Standing.{declared_scope, names_in, sources, parts, loops_in, the_state, IsRight}
 use Rattle.search_tables.proofs.EachLaws.{each-last}
 use Rattle.search_tables.proofs.QueueLaws.{queue-last}
@@ -116,13 +117,21 @@ module _ (mode : Delaying) where
   parked_wait s (describe a f) = tt
 
   loop_waits : (scope : Scope) (s : State) (o : Over) (c : Meant) → Each (WaitsLike c) (loop_over scope s o c)
-  loop_waits scope s Nothing c = tt
   loop_waits scope s Terms c = terms_wait s c
   loop_waits scope s Universals c = universals_wait s c
   loop_waits scope s Negatives c = negatives_wait s c
   loop_waits scope s Positives c = positives_wait s c
   loop_waits scope s (Heads n) c = heads_wait scope s n c
   loop_waits scope s Parked c = parked_wait s c
+
+  later_waits : (scope : Scope) (s : State) (c : Meant) (r : Option Rest) → Each (WaitsLike c) (later_of scope s c r)
+  later_waits scope s c None = tt
+  later_waits scope s c (Some r) =
+      each-take (WaitsLike c) (r.end - r.next) (drop r.next (loop_over scope s r.over c)) (each-drop (WaitsLike c) r.next (loop_over scope s r.over c) (loop_waits scope s r.over c))
+
+pub length-later : (scope : Scope) (s : State) (c : Meant) (r : Option Rest) → AreThere scope s c r → length (later_of scope s c r) ≡ span_of r
+length-later scope s c None w = refl
+length-later scope s c (Some r) w = length-between r.next r.end (loop_over scope s r.over c) w.ascends w.within
 
 pub delay-numbered : (m : Mode) (names : Names) (c : Command) → delay (the_mode m) (command_at names c) ≡ delay_by m c
 delay-numbered m names (Process l) = refl
@@ -141,16 +150,15 @@ module _ (t : Tables) (old new : Queue Planned Delays) (p : Planned) (entry : Is
   first = command_at (names_in t) p.first
 
   abbrev commands : List Meant
-  commands = first ∷ later_of scope (sources t) first p
+  commands = first ∷ later_of scope (sources t) first p.rest
 
   abbrev added : Entry Planned
   added = record { due = t.done + delay_by old.rule.mode p.first; number = old.pushes; command = p }
 
   delays_are : Each (λ c. due (the_mode old.rule.mode) t.done c ≡ t.done + delay_by old.rule.mode p.first) commands
   delays_are =
-      (ap (λ d. t.done + d) (delay-numbered old.rule.mode (names_in t) p.first), each_due (later_of scope (sources t) first p)
-      (each-take (WaitsLike (the_mode old.rule.mode) first) (p.end - p.next) (drop p.next (loop_over scope (sources t) p.over first))
-      (each-drop (WaitsLike (the_mode old.rule.mode) first) p.next (loop_over scope (sources t) p.over first) (loop_waits (the_mode old.rule.mode) scope (sources t) p.over first))))
+      (ap (λ d. t.done + d) (delay-numbered old.rule.mode (names_in t) p.first), each_due (later_of scope (sources t) first p.rest)
+      (later_waits (the_mode old.rule.mode) scope (sources t) first p.rest))
     where
       each_due : (cs : List Meant) → Each (WaitsLike (the_mode old.rule.mode) first) cs → Each (λ c. due (the_mode old.rule.mode) t.done c ≡ t.done + delay_by old.rule.mode p.first) cs
       each_due [] h = tt
@@ -167,7 +175,7 @@ module _ (t : Tables) (old new : Queue Planned Delays) (p : Planned) (entry : Is
           ∙ ap (λ qs. queue_of (loops_in t old.entries) ++ qs) (sym (waiting-same (due (the_mode old.rule.mode) t.done) (t.done + delay_by old.rule.mode p.first) old.pushes commands delays_are))
 
       pushes_is : new.pushes ≡ old.pushes + length commands
-      pushes_is = adds.pushes ∙ ap (λ n. old.pushes + suc n) (sym (length-between p.next p.end (loop_over scope (sources t) p.over first) entry.later.ascends entry.later.within))
+      pushes_is = adds.pushes ∙ ap (λ n. old.pushes + suc n) (sym (length-later scope (sources t) first p.rest entry.later))
 
   pub right-pushed : IsRight t old → IsRight t new
   right-pushed r = record {

@@ -9,14 +9,15 @@ use Rattle.search_run.specs.Partial.{Hole, first_hole}
 use Rattle.search_run.specs.Heads.{heads_for}
 use Rattle.search_run.specs.Terms.{terms_of, universals}
 use Rattle.search_run.specs.Partners.{matings, confrontations}
-use Rattle.search_run.specs.State.{State, Sketch, Command, process, mate, confront, inst, grow, choose, describe}
+use Rattle.search_run.specs.State.{State, Sketch, Command as Meant, process, mate, confront, inst, grow, choose, describe}
 use Rattle.search_run.specs.Witness.{has_hole_of}
 use Rattle.search_run.specs.Means.Loops.{Loop, queue_of}
 use Rattle.search_run.specs.Each.{Each}
 use Rattle.command_queue.specs.declared.entry.Entry.{Entry}
 use Rattle.search_tables.specs.declared.command.Planned.{Planned}
+use Rattle.search_tables.specs.declared.command.Rest.{Rest}
 use Rattle.search_tables.specs.declared.command.Over.{Over}
-use Rattle.search_tables.specs.declared.command.Over.TheVariants.{Nothing, Terms, Universals, Negatives, Positives, Heads, Parked}
+use Rattle.search_tables.specs.declared.command.Over.TheVariants.{Terms, Universals, Negatives, Positives, Heads, Parked}
 use Rattle.search_tables.specs.Names.{Names, command_at, AreNumbers}
 
 -- the type over which a quantified formula ranges
@@ -34,40 +35,39 @@ base_of (Some h) = h.base
 base_of None = 0
 
 -- the loop over the terms of a type, for the literal of a command
-abbrev pub over_terms : State → Command → List Command
+abbrev pub over_terms : State → Meant → List Meant
 over_terms s (inst l u) = map (inst l) (terms_of (range_of l.atom) s)
 over_terms s c = []
 
 -- the loop over the universal literals of a type, for the term of a command
-abbrev pub over_universals : State → Command → List Command
+abbrev pub over_universals : State → Meant → List Meant
 over_universals s (inst l u) = map (λ k. inst k u) (universals (range_of l.atom) s)
 over_universals s c = []
 
 -- the loop over the partners of the positive literal of a command
-abbrev pub over_negatives : State → Command → List Command
+abbrev pub over_negatives : State → Meant → List Meant
 over_negatives s (mate l m) = matings l s.noted
 over_negatives s (confront l m) = confrontations (equation_type l.atom) l s.noted
 over_negatives s c = []
 
 -- the loop over the partners of the negative literal of a command
-abbrev pub over_positives : State → Command → List Command
+abbrev pub over_positives : State → Meant → List Meant
 over_positives s (mate l m) = matings m s.noted
 over_positives s (confront l m) = confrontations (equation_type m.atom) m s.noted
 over_positives s c = []
 
 -- the loop over the heads for the partial term of a command, with the first witnesses
-abbrev pub over_heads : Scope → State → ℕ → Command → List Command
+abbrev pub over_heads : Scope → State → ℕ → Meant → List Meant
 over_heads scope s n (grow p h) = map (grow p) (heads_for (with_rows scope (take n s.rows)) (first_hole [] p.partial))
 over_heads scope s n c = []
 
 -- the loop over the partial terms that take the head of a command
-abbrev pub over_parked : State → Command → List Command
+abbrev pub over_parked : State → Meant → List Meant
 over_parked s (grow p h) = map (λ q. grow q h) (filter (has_hole_of (base_of (first_hole [] p.partial))) s.parked)
 over_parked s c = []
 
 -- the whole loop of a command, as far as it goes by now
-abbrev pub loop_over : Scope → State → Over → Command → List Command
-loop_over scope s Nothing c = []
+abbrev pub loop_over : Scope → State → Over → Meant → List Meant
 loop_over scope s Terms c = over_terms s c
 loop_over scope s Universals c = over_universals s c
 loop_over scope s Negatives c = over_negatives s c
@@ -79,13 +79,13 @@ loop_over scope s Parked c = over_parked s c
 abbrev pub between : {X : Type 0} → ℕ → ℕ → List X → List X
 between next end xs = take (end - next) (drop next xs)
 
--- the commands that come after the first one
-abbrev pub later_of : Scope → State → Command → Planned → List Command
-later_of scope s c p = between p.next p.end (loop_over scope s p.over c)
+-- the commands that come after the first one, which is given
+abbrev pub later_of : Scope → State → Meant → Option Rest → List Meant
+later_of scope s c None = []
+later_of scope s c (Some r) = between r.next r.end (loop_over scope s r.over c)
 
 -- the witnesses with which heads are counted are there
 abbrev pub HasWitnesses : State → Over → Type 0
-HasWitnesses s Nothing = Unit {0}
 HasWitnesses s Terms = Unit {0}
 HasWitnesses s Universals = Unit {0}
 HasWitnesses s Negatives = Unit {0}
@@ -94,27 +94,35 @@ HasWitnesses s (Heads n) = n ≤ length s.rows
 HasWitnesses s Parked = Unit {0}
 
 -- the later commands are there
-pub record IsWithin (scope : Scope) (s : State) (c : Command) (p : Planned) : Type 0 where
-  pub ascends : p.next ≤ p.end
-  pub within : p.end ≤ length (loop_over scope s p.over c)
-  pub witnesses : HasWitnesses s p.over
+pub record IsWithin (scope : Scope) (s : State) (c : Meant) (r : Rest) : Type 0 where
+  pub ascends : r.next ≤ r.end
+  pub within : r.end ≤ length (loop_over scope s r.over c)
+  pub witnesses : HasWitnesses s r.over
+
+abbrev pub AreThere : Scope → State → Meant → Option Rest → Type 0
+AreThere scope s c None = Unit {0}
+AreThere scope s c (Some r) = IsWithin scope s c r
 
 -- the loop of an entry of the agenda
-abbrev pub loop_at : Scope → Names → State → Entry Planned → Loop Command
+abbrev pub loop_at : Scope → Names → State → Entry Planned → Loop Meant
 loop_at scope names s e = record {
   due = e.due; number = e.number;
   first = command_at names e.command.first;
-  later = later_of scope s (command_at names e.command.first) e.command
+  later = later_of scope s (command_at names e.command.first) e.command.rest
 }
 
 -- an entry's numbers are numbers, and its later commands are there
 pub record IsEntry (scope : Scope) (names : Names) (s : State) (p : Planned) : Type 0 where
   pub numbers : AreNumbers names p.first
-  pub later : IsWithin scope s (command_at names p.first) p
+  pub later : AreThere scope s (command_at names p.first) p.rest
 
 -- how many commands come after the first one
+abbrev pub span_of : Option Rest → ℕ
+span_of None = 0
+span_of (Some r) = r.end - r.next
+
 abbrev pub span : Planned → ℕ
-span p = p.end - p.next
+span p = span_of p.rest
 
 -- the numbers of the commands of an entry are below a number
 abbrev pub EndsBelow : ℕ → Entry Planned → Type 0

@@ -55,10 +55,7 @@ pub(crate) fn joined(alloc: Global, lists: &LitLists) -> Result<Vec<SatLit>, All
 {
     let mut all = Vec::new(alloc);
     for i in 0..lists.len() {
-        let list = lists.at(i).as_slice();
-        for j in 0..list.len() {
-            all.push(list[j])?;
-        }
+        all.extend_from_slice(lists.at(i).as_slice())?;
     }
     Ok(all)
 }

@@ -1,7 +1,7 @@
 //! Commands by numbers, and when they are due.
-ghost use Rattle.std.specs.Prelude.{◌≡◌, ◌+◌, ◌<◌, ◌^◌, ℕ};
+ghost use Rattle.std.specs.Prelude.{◌+◌};
 
-use command_queue::{DueRule, Weigher};
+use command_queue::DueRule;
 use mode_file::Mode;
 use sat_base::SatLit;
 use term_bank::Id;
@@ -24,7 +24,6 @@ pub enum Command {
 /// partial terms that take a head.
 #[derive(Clone, Copy, Debug, PartialEq, Eq)]
 pub enum Over {
-    Nothing,
     Terms,
     Universals,
     Negatives,
@@ -33,13 +32,34 @@ pub enum Over {
     Parked,
 }
 
-/// A command with the later ones of its loop: those with these places among all that the loop goes over.
+/// The later commands of a loop: those with these places among all that the loop goes over.
 #[derive(Clone, Copy, Debug, PartialEq, Eq)]
-pub struct Planned {
-    pub first: Command,
+pub struct Rest {
     pub over: Over,
     pub next: usize,
     pub end: usize,
+}
+
+/// A command with the later ones of its loop, where it is one of a loop.
+#[derive(Clone, Copy, Debug, PartialEq, Eq)]
+pub struct Planned {
+    pub first: Command,
+    pub rest: Option<Rest>,
+}
+
+impl Planned {
+    ghost use Rattle.std.specs.Prelude.{◌≡◌};
+    ghost use Rattle.search_tables.specs.Pending.{span};
+
+    /// How many commands come after the first one.
+    pub fn len(&self) -> u64
+        ensures { result ≡ span self.now }
+    {
+        match self.rest {
+            Some(rest) => rest.end.saturating_sub(rest.next) as u64,
+            None => 0,
+        }
+    }
 }
 
 /// How long commands wait.
@@ -48,27 +68,8 @@ pub struct Delays {
     pub mode: Mode,
 }
 
-impl DueRule<Planned> for Delays {
+impl DueRule<Command> for Delays {
     ghost use Rattle.search_tables.specs.Delays.{delay_by};
 
-    ghost due = { λ delays planned now. now + delay_by delays.mode planned.first };
-}
-
-/// Asks a weigher of commands for the first one of a loop.
-#[derive(Drop)]
-pub struct OfFirst<W: Weigher<Command>> {
-    pub(crate) weigher: W,
-}
-
-impl<W: Weigher<Command>> Weigher<Planned> for OfFirst<W> {
-    ghost use Rattle.search_tables.specs.declared.command.Command.{Command};
-    ghost use Rattle.search_tables.specs.declared.command.Planned.{Planned};
-
-    ghost is_callable = { λ w. W.is_callable w.weigher };
-
-    ghost answers = { λ w due. (rule : Command → ℕ → ℕ) × (W.answers w.weigher rule × ((p : Planned) (now : ℕ) → due p now ≡ rule p.first now)) };
-
-    fn weigh(&self, planned: &Planned, now: u64) -> u64 {
-        self.weigher.weigh(&planned.first, now)
-    }
+    ghost due = { λ delays command now. now + delay_by delays.mode command };
 }

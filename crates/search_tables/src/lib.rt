@@ -1,8 +1,21 @@
 //! The tables of the search, by numbers.
 #![tactic(auto)]
 
+mod clauses;
 mod command;
+mod head;
+mod instance;
 mod plan;
+mod pushing;
+mod rests;
+mod set;
+mod stem;
+mod tables;
 
-pub use command::{Command, Delays, OfFirst, Over, Planned};
+pub use clauses::DEPTH;
+pub use command::{Command, Delays, Over, Planned, Rest};
+pub use head::{HeadSet, HoleHead, head_of};
 pub use plan::Plan;
+pub use set::{IdSet, LitSet};
+pub use stem::Stem;
+pub use tables::{Core, Ground, Tables};

@@ -1,33 +1,37 @@
 //! The commands that wait.
-ghost use Rattle.std.specs.Prelude.{◌≡◌, ◌<◌, ◌≤◌, ◌+◌, ◌^◌, [], suc, ◌↔◌, IsTrue, OnOk, IsNone, IfNone, IfSome};
+ghost use Rattle.std.specs.Prelude.{◌≡◌, ◌<◌, ◌≤◌, ◌+◌, ◌^◌, [], suc, ◌↔◌, IsTrue, OnOk, IfOk, IsNone, IfNone, IfSome};
 ghost use Rattle.command_queue.specs.Queue.{AddsEntry, AddsEntryAt, TakesEntry, GainsRoom};
 ghost use Rattle.search_run.specs.Each.{Each};
 ghost use Rattle.search_tables.specs.Delays.{delay_by};
 ghost use Rattle.search_tables.specs.Pending.{span, AreSpaced, EndsBelow, IsApart};
 
-use crate::command::{Command, Delays, OfFirst, Planned};
+use crate::command::{Command, Delays, Planned};
+use crate::rests::Rests;
 use command_queue::{Agenda, Entry, Weigher};
 use mode_file::Mode;
 use std::alloc::{AllocError, Global};
 use std::marker::Model;
 
-/// The commands that wait, with the later ones of their loops. Each has its number, and the numbers of a loop follow each other.
+/// The commands that wait. Of a loop the first one waits in the agenda, and the later ones stand for themselves beside it. Contracts
+/// see a queue of first commands with the later ones.
 #[derive(Drop)]
 pub struct Plan<W: Weigher<Command>> {
-    agenda: Agenda<Planned, Delays, OfFirst<W>>,
+    agenda: Agenda<Command, Delays, W>,
+    rests: Rests,
 }
 
 impl<W: Weigher<Command>> Model for Plan<W> {
     ghost use Rattle.command_queue.specs.Queue.{Queue};
+    ghost use Rattle.search_tables.specs.Rests.{planned, with_rests};
     ghost use Rattle.search_tables.specs.Pending.{AreSpaced};
     ghost use Rattle.search_tables.specs.declared.command.Planned.{Planned};
     ghost use Rattle.search_tables.specs.declared.command.Delays.{Delays};
 
     ghost Value = { Queue Planned Delays };
 
-    ghost view = { λ p. p.agenda };
+    ghost view = { λ p. with_rests p.rests p.agenda };
 
-    ghost invariant = { λ p. AreSpaced p.agenda.entries p.agenda.pushes };
+    ghost invariant = { λ p. AreSpaced (planned p.rests p.agenda.entries) p.agenda.pushes };
 }
 
 impl<W: Weigher<Command>> Plan<W> {
@@ -40,21 +44,21 @@ impl<W: Weigher<Command>> Plan<W> {
         ensures mode { result.rule.mode ≡ mode }
     {
         Plan {
-            agenda: Agenda::new(alloc, Delays { mode }, OfFirst { weigher }),
+            agenda: Agenda::new(alloc, Delays { mode }, weigher),
+            rests: Rests::new(alloc),
         }
     }
 
     /// Pushes a command at a moment, with the later ones of its loop. Where the numbers of pushes end, there is no memory.
     pub fn push(&mut self, planned: Planned, now: u64) -> Result<(), AllocError>
         requires moment { now < 2 ^ 32 }
-        requires ascends { planned.next ≤ planned.end }
         ensures ok { OnOk result (AddsEntry self.old self.new (suc (span planned)) (now + delay_by self.old.rule.mode planned.first) planned) }
-        ensures spaced { AreSpaced self.old.entries self.old.pushes }
     {
-        let later = (planned.end - planned.next) as u64;
-        let numbers = later.checked_add(1).ok_or(AllocError)?;
-        self.agenda.pushes().checked_add(numbers).ok_or(AllocError)?;
-        self.agenda.push_first(planned, now, numbers)
+        let number = self.agenda.pushes();
+        let numbers = one_more(planned.len(), number)?;
+        self.rests.set(number, planned.rest)?;
+        self.agenda.push_first(planned.first, now, numbers)?;
+        Ok(())
     }
 
     /// Takes the command that is next, with the later ones of its loop.
@@ -64,7 +68,15 @@ impl<W: Weigher<Command>> Plan<W> {
         ensures first { IfSome result (TakesEntry self.old self.new) }
         ensures spaced { AreSpaced self.old.entries self.old.pushes }
     {
-        self.agenda.pop_entry()
+        let entry = self.agenda.pop_entry()?;
+        Some(Entry {
+            due: entry.due,
+            number: entry.number,
+            command: Planned {
+                first: entry.command,
+                rest: self.rests.take(entry.number),
+            },
+        })
     }
 
     /// Puts commands that were pushed before in their place.
@@ -73,7 +85,13 @@ impl<W: Weigher<Command>> Plan<W> {
         requires apart { Each (IsApart entry) self.old.entries }
         ensures { OnOk result (AddsEntryAt self.old self.new entry) }
     {
-        self.agenda.push_at(entry)
+        self.rests.set(entry.number, entry.command.rest)?;
+        self.agenda.push_at(Entry {
+            due: entry.due,
+            number: entry.number,
+            command: entry.command.first,
+        })?;
+        Ok(())
     }
 
     /// Makes room for so many entries.
@@ -88,4 +106,15 @@ impl<W: Weigher<Command>> Plan<W> {
     {
         self.agenda.is_empty()
     }
+}
+
+/// One more than a number, where so many pushes can be counted beside those before.
+fn one_more(later: u64, pushes: u64) -> Result<u64, AllocError>
+    ensures number { IfOk result (λ n. n ≡ suc later) }
+    ensures counted { IfOk result (λ n. pushes + n < 2 ^ 64) }
+{
+    if later >= u64::MAX - pushes {
+        return Err(AllocError);
+    }
+    Ok(later + 1)
 }

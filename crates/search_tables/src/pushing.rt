@@ -9,7 +9,7 @@ ghost use Rattle.search_tables.specs.Names.{command_at, AreNumbers, IsNumber};
 ghost use Rattle.search_tables.specs.Pending.{later_of, IsEntry};
 ghost use Rattle.search_tables.specs.Standing.{declared_scope, names_in, sources, the_state, IsRight};
 
-use crate::command::{Command, Over, Planned};
+use crate::command::{Command, Planned};
 use crate::tables::Core;
 use command_queue::Weigher;
 use sat_base::SatLit;
@@ -21,7 +21,7 @@ impl<W: Weigher<Command>> Core<W> {
     pub fn push_loop(&mut self, planned: Planned) -> Result<(), AllocError>
         requires right { IsRight self.old.tables self.old.plan }
         requires entry { IsEntry (declared_scope self.old.tables.ground.bank) (names_in self.old.tables) (sources self.old.tables) planned }
-        ensures state { OnOk result (let first = command_at (names_in self.old.tables) planned.first in the_state self.new.tables self.new.plan ≡ pushed (the_mode self.old.plan.rule.mode) (first ∷ later_of (declared_scope self.old.tables.ground.bank) (sources self.old.tables) first planned) (the_state self.old.tables self.old.plan)) }
+        ensures state { OnOk result (let first = command_at (names_in self.old.tables) planned.first in the_state self.new.tables self.new.plan ≡ pushed (the_mode self.old.plan.rule.mode) (first ∷ later_of (declared_scope self.old.tables.ground.bank) (sources self.old.tables) first planned.rest) (the_state self.old.tables self.old.plan)) }
         ensures right { OnOk result (IsRight self.new.tables self.new.plan) }
         ensures tables { self.new.tables ≡ self.old.tables }
         ensures rule { OnOk result (self.new.plan.rule ≡ self.old.plan.rule) }
@@ -41,9 +41,7 @@ impl<W: Weigher<Command>> Core<W> {
     {
         self.push_loop(Planned {
             first: command,
-            over: Over::Nothing,
-            next: 0,
-            end: 0,
+            rest: None,
         })
     }
 
