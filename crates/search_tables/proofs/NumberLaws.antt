@@ -1,8 +1,8 @@
 -- Numbers stand for formulas.
 use Rattle.std.specs.Prelude.{◌≡◌, ◌<◌, ℕ, ◌↔◌, List, map, length, get_or, slice_get, Some, refl}
 use Rattle.std.specs.List.{All}
-use Rattle.std.proofs.Common.{sym, ap, ap₂, subst, ◌∙◌, arith, length-map}
-use Rattle.std.proofs.lemmas.List.{get_or-map}
+use Rattle.std.proofs.Common.{sym, ap, ap₂, subst, ◌∙◌, arith}
+use Rattle.std.proofs.lemmas.List.{get_or-map, length-map}
 use Rattle.std.proofs.lemmas.Option.{slice_get-get_or}
 use Rattle.stt_core.specs.Lambda.{Lambda, constant, falsity}
 use Rattle.stt_tableau.specs.Literals.{Literal}

@@ -178,11 +178,10 @@ module _ (t : Tables) (old new : Queue Planned Delays) (p : Planned) (entry : Is
       pushes_is = adds.pushes ∙ ap (λ n. old.pushes + suc n) (sym (length-later scope (sources t) first p.rest entry.later))
 
   pub right-pushed : IsRight t old → IsRight t new
-  right-pushed r = record {
+  right-pushed r =
+      let Q : List (Entry Planned) → Type 0 = λ es. Each (λ e. IsEntry scope (names_in t) (sources t) e.command) es in
+      record {
     ground = r.ground; clauses = r.clauses; solver = r.solver; seen = r.seen; noted = r.noted; universals = r.universals; terms = r.terms;
     chosen = r.chosen; described = r.described; stems = r.stems; holes = r.holes;
     queue = subst Q (sym adds.entries) (each-last (λ e. IsEntry scope (names_in t) (sources t) e.command) old.entries added r.queue entry);
   }
-    where
-      abbrev Q : List (Entry Planned) → Type 0
-      Q es = Each (λ e. IsEntry scope (names_in t) (sources t) e.command) es

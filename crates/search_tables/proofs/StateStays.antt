@@ -117,7 +117,9 @@ module _ (t : Tables) (q : Queue Planned Delays) (g : Ground) (grows : GroundGro
 
   -- The tables stay right.
   pub right-stays : IsGround g → IsRight grown q
-  right-stays good = record {
+  right-stays good =
+      let Q : Scope → Type 0 = λ scope. Each (λ e. IsEntry scope (names_in grown) (sources grown) e.command) q.entries in
+      record {
     ground = good;
     clauses = each-weaker (Each (IsNumber t.ground.lits)) (Each (IsNumber g.lits)) more_numbers (the_clauses t.steps) r.clauses;
     solver = r.solver;
@@ -133,6 +135,3 @@ module _ (t : Tables) (q : Queue Planned Delays) (g : Ground) (grows : GroundGro
       (entries-stay (declared_scope t.ground.bank) (sources t) (sources grown) extends (names_in t) (names_in grown)
       (command-stays (names_in t) (names_in grown) continues) (numbers-stay (names_in t) (names_in grown) continues) q.entries r.queue);
   }
-    where
-      abbrev Q : Scope → Type 0
-      Q scope = Each (λ e. IsEntry scope (names_in grown) (sources grown) e.command) q.entries

@@ -42,7 +42,8 @@ impl<W: Weigher<Command>> Core<W> {
         self.push_loop(Planned {
             first: command,
             rest: None,
-        })
+        })?;
+        Ok(())
     }
 
     /// A literal is to be processed, unless it was seen before.
@@ -59,7 +60,8 @@ impl<W: Weigher<Command>> Core<W> {
         if !self.tables.seen.insert(lit)? {
             return Ok(());
         }
-        self.push_alone(Command::Process(lit))
+        self.push_alone(Command::Process(lit))?;
+        Ok(())
     }
 
     /// Sees literals one after the other.

@@ -16,9 +16,12 @@ returns g c =
     let p = c.args.planned in
     let S : ℕ → Type 0 = λ n. SetsRest i.rests c.set.new.self n p.rest in
     let P : Queue Planned Delays → Type 0 = λ q. AddsEntry q (with_rests c.set.new.self c.push_first.new.self) (suc (span p)) (c.args.now + delay_by q.rule.mode p.first) p in
-    subst P c.self.view_is
-    (push-adds i.rests c.set.new.self i.agenda c.push_first.new.self _ _ p (subst S c.pushes-number.ensures c.in_ok-set.ensures.ok) c.self.invariant
-    (c.in_ok-numbers.ensures.number ∙ ap suc c.len.ensures) c.in_ok-push_first.ensures.ok)
+    record {
+      ok =
+          subst P c.self.view_is
+          (push-adds i.rests c.set.new.self i.agenda c.push_first.new.self _ _ p (subst S c.pushes-number.ensures c.in_ok-set.ensures.ok) c.self.invariant
+          (c.in_ok-numbers.ensures.number ∙ ap suc c.len.ensures) c.in_ok-push_first.ensures.ok);
+    }
 
 pub invariant_of-self-2 : goal.invariant_of-self-2
 invariant_of-self-2 g c =
