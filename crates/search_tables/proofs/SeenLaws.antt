@@ -1,7 +1,8 @@
 -- Seeing a literal by its number.
-use Rattle.std.specs.Prelude.{◌≡◌, ℕ, Bool, true, false, List, [], ◌∷◌, ◌++◌, map, slice_get, Some, if◌then◌else◌}
+use Rattle.std.specs.Prelude.{◌≡◌, ◌≤◌, ◌+◌, ℕ, Bool, true, false, List, [], ◌∷◌, ◌++◌, map, drop, length, slice_get, Some, if◌then◌else◌}
 use Rattle.std.proofs.Common.{sym, ap, subst, ◌∙◌}
-use Rattle.stt_core.proofs.ListLaws.{map-append}
+use Rattle.std.proofs.Math.ListN.{drop_of_length-le}
+use Rattle.stt_core.proofs.ListLaws.{map-append, drop_got}
 use Rattle.stt_tableau.specs.Literals.{Literal}
 use Rattle.stt_tableau.specs.Start.{has as holds}
 use Rattle.sat_base.specs.declared.literal.SatLit.{SatLit}
@@ -12,7 +13,7 @@ use Rattle.search_run.specs.Clauses.{has, added}
 use Rattle.search_run.specs.Unsatisfiable.{formulas}
 use Rattle.search_run.specs.Numbered.{numbers}
 use Rattle.search_run.specs.State.{State, process, pushed}
-use Rattle.search_run.specs.Instances.{with_literal}
+use Rattle.search_run.specs.Instances.{with_literal, with_literals}
 use Rattle.search_run.proofs.NamingLaws.{has-mapped}
 use Rattle.term_bank.specs.Laws.{EqualIdsForEqualTerms}
 use Rattle.literal_map.specs.Atoms.{literal_at}
@@ -58,3 +59,15 @@ module _ (t : Tables) (q : Queue Planned Delays) (equal : EqualIdsForEqualTerms 
       go : (b : Bool) → Each (IsNumber t.ground.lits) (if b then t.seen else t.seen ++ l ∷ [])
       go true = r.seen
       go false = each-last (IsNumber t.ground.lits) t.seen l r.seen number
+
+-- one literal more is seen
+module _ (mode : Mode) (d : SatLit → Literal) (lits : List SatLit) (i : ℕ) (l : SatLit) (at : slice_get lits i ≡ Some l) (goal : State) where
+  pub seen-more : (s s' : State) (mode' : Mode) (meant' : Literal) → mode' ≡ mode → meant' ≡ d l → s' ≡ with_literal mode' meant' s → with_literals mode (map d (drop i lits)) s ≡ goal → with_literals mode (map d (drop (i + 1) lits)) s' ≡ goal
+  seen-more s s' mode' meant' m k is h =
+      ap (with_literals mode (map d (drop (i + 1) lits))) (is ∙ ap (λ (x : Mode). with_literal x meant' s) m ∙ ap (λ (x : Literal). with_literal mode x s) k)
+      ∙ sym (ap (λ ls. with_literals mode (map d ls) s) (drop_got lits i l at))
+      ∙ h
+
+-- all are seen
+pub seen-all : (mode : Mode) (d : SatLit → Literal) (lits : List SatLit) (i : ℕ) → length lits ≤ i → (s goal : State) → with_literals mode (map d (drop i lits)) s ≡ goal → s ≡ goal
+seen-all mode d lits i h s goal e = sym (ap (λ ls. with_literals mode (map d ls) s) (drop_of_length-le lits h)) ∙ e

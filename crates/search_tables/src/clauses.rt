@@ -1,5 +1,5 @@
 //! The clauses of instances, for the solver too.
-ghost use Rattle.std.specs.Prelude.{◌≡◌, ◌<◌, ◌≤◌, List, length, map, OnOk, IfOk};
+ghost use Rattle.std.specs.Prelude.{◌≡◌, ◌<◌, ◌≤◌, List, length, map, slice_get, Some, OnOk, IfOk};
 ghost use Rattle.std.specs.List.{All, list_all, flat_map};
 ghost use Rattle.sat_base.specs.declared.literal.SatLit.{SatLit};
 ghost use Rattle.stt_tableau.specs.Literals.{Literal};
@@ -21,6 +21,14 @@ use term_bank::Bank;
 /// How deep a literal is at most that enters the clauses.
 pub const DEPTH: usize = 4096;
 
+/// The literal at a place of a list.
+pub(crate) fn literal_of(literals: &[SatLit], i: usize) -> SatLit
+    requires { i < length literals.now }
+    ensures { slice_get literals.now i ≡ Some result }
+{
+    literals[i]
+}
+
 /// Whether no literal is too deep.
 pub(crate) fn are_shallow(bank: &Bank, lits: &LitTable, literals: &[SatLit]) -> bool
     requires atoms { All (IsAtom bank.now) lits.now }
@@ -28,7 +36,7 @@ pub(crate) fn are_shallow(bank: &Bank, lits: &LitTable, literals: &[SatLit]) -> 
     ensures { result ≡ list_all is_shallow_literal (map (literal_at bank.now.terms lits.now) literals.now) }
 {
     for i in 0..literals.len() {
-        if bank.depth(lits.formula_of(literals[i])) > DEPTH {
+        if bank.depth(lits.formula_of(literal_of(literals, i))) > DEPTH {
             return false;
         }
     }

@@ -10,6 +10,7 @@ ghost use Rattle.search_tables.specs.Pending.{later_of, IsEntry};
 ghost use Rattle.search_tables.specs.Standing.{declared_scope, names_in, sources, the_state, IsRight};
 
 use crate::command::{Command, Planned};
+use crate::clauses::literal_of;
 use crate::tables::Core;
 use command_queue::Weigher;
 use sat_base::SatLit;
@@ -74,7 +75,7 @@ impl<W: Weigher<Command>> Core<W> {
         ensures rule { OnOk result (self.new.plan.rule ≡ self.old.plan.rule) }
     {
         for i in 0..lits.len() {
-            self.see(lits[i])?;
+            self.see(literal_of(lits, i))?;
         }
         Ok(())
     }
