@@ -1,7 +1,8 @@
 -- What holds of each element.
-use Rattle.std.specs.Prelude.{◌≡◌, List, [], ◌∷◌, ◌++◌, map, refl}
+use Rattle.std.specs.Prelude.{◌≡◌, ℕ, zero, suc, List, [], ◌∷◌, ◌++◌, map, slice_get, Some, refl}
 use Rattle.std.specs.List.{All, AllByRecursion}
-use Rattle.std.proofs.Common.{ap₂}
+use Rattle.std.proofs.Common.{ap₂, subst}
+use Rattle.std.proofs.lemmas.Option.{same_Some}
 use Rattle.std.proofs.lemmas.List.Elements.{All-from_recursion, recursion_from_All}
 use Rattle.search_run.specs.Each.{Each}
 
@@ -56,3 +57,8 @@ module _ {X : Type 0} where
   pub map-same : {Y : Type 0} (f g : X → Y) (P : X → Type 0) → ((x : X) → P x → f x ≡ g x) → (xs : List X) → Each P xs → map f xs ≡ map g xs
   map-same f g P e [] h = refl
   map-same f g P e (x ∷ xs) h = ap₂ (λ y ys. y ∷ ys) (e x h.0) (map-same f g P e xs h.1)
+
+  pub each-at : (P : X → Type 0) (xs : List X) (i : ℕ) (x : X) → Each P xs → slice_get xs i ≡ Some x → P x
+  each-at P [] i x h e = cc
+  each-at P (y ∷ xs) zero x h e = subst P (same_Some y x e) h.0
+  each-at P (y ∷ xs) (suc i) x h e = each-at P xs i x h.1 e

@@ -8,5 +8,7 @@ pub mod LoopStays
 pub mod PushLaws
 pub mod SeenLaws
 pub mod ShallowLaws
+pub mod ClauseLaws
+pub mod RoomLaws
 pub mod InstanceLaws
 pub mod StateStays

@@ -37,6 +37,7 @@ impl<W: Weigher<Command>> Core<W> {
         self.plan.reserve(lits.len())?;
         let atoms = self.tables.ground.lits.len();
         add_clauses(&mut self.tables.steps, &mut self.tables.solver, atoms, instance)?;
-        self.see_all(lits.as_slice())
+        self.see_all(lits.as_slice())?;
+        Ok(())
     }
 }
