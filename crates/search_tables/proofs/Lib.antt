@@ -10,5 +10,6 @@ pub mod SeenLaws
 pub mod ShallowLaws
 pub mod ClauseLaws
 pub mod RoomLaws
+pub mod WholeLaws
 pub mod InstanceLaws
 pub mod StateStays

@@ -1,5 +1,5 @@
 -- The commands that are left of a loop of pushes.
-use Rattle.std.specs.Prelude.{◌≡◌, ℕ, ◌+◌, ◌-◌, ◌≤◌, ◌<◌, ◌⊎◌, List, [], ◌∷◌, ◌++◌, map, filter, take, drop, length, Option, Some, None}
+use Rattle.std.specs.Prelude.{◌≡◌, ℕ, ◌+◌, ◌-◌, ◌≤◌, ◌<◌, ◌⊎◌, List, [], ◌∷◌, ◌++◌, map, filter, take, drop, length, nat_lt, Option, Some, None, if◌then◌else◌}
 use Rattle.stt_core.specs.SimpleType.{SimpleType, formula}
 use Rattle.stt_core.specs.Lambda.{Lambda, bound, constant, lam, app, all, equality}
 use Rattle.stt_core.specs.Typing.{Scope}
@@ -102,6 +102,14 @@ pub record IsWithin (scope : Scope) (s : State) (c : Meant) (r : Rest) : Type 0 
 abbrev pub AreThere : Scope → State → Meant → Option Rest → Type 0
 AreThere scope s c None = Unit {0}
 AreThere scope s c (Some r) = IsWithin scope s c r
+
+-- what comes after the first one of so many commands
+abbrev pub rest_after : Over → ℕ → Option Rest
+rest_after over count = if nat_lt 1 count then Some (record { over = over; next = 1; end = count }) else None
+
+-- the list begins with the element
+abbrev pub BeginsWith : {X : Type 0} → X → List X → Type 0
+BeginsWith {X} x xs = (more : List X) × (xs ≡ x ∷ more)
 
 -- the loop of an entry of the agenda
 abbrev pub loop_at : Scope → Names → State → Entry Planned → Loop Meant

@@ -40,6 +40,26 @@ pub struct Rest {
     pub end: usize,
 }
 
+impl Rest {
+    ghost use Rattle.std.specs.Prelude.{◌≡◌};
+    ghost use Rattle.search_tables.specs.Pending.{rest_after};
+
+    /// What comes after the first one of so many commands.
+    pub fn after_first(over: Over, count: usize) -> Option<Rest>
+        ensures { result ≡ rest_after over count }
+    {
+        if count > 1 {
+            Some(Rest {
+                over,
+                next: 1,
+                end: count,
+            })
+        } else {
+            None
+        }
+    }
+}
+
 /// A command with the later ones of its loop, where it is one of a loop.
 #[derive(Clone, Copy, Debug, PartialEq, Eq)]
 pub struct Planned {

@@ -1,15 +1,15 @@
 //! Pushes.
-ghost use Rattle.std.specs.Prelude.{◌≡◌, [], ◌∷◌, map, OnOk};
+ghost use Rattle.std.specs.Prelude.{◌≡◌, [], ◌∷◌, map, length, OnOk};
 ghost use Rattle.literal_map.specs.Atoms.{literal_at};
 ghost use Rattle.search_run.specs.Each.{Each};
 ghost use Rattle.search_run.specs.Instances.{with_literal, with_literals};
 ghost use Rattle.search_run.specs.State.{pushed};
 ghost use Rattle.search_tables.specs.Delays.{the_mode};
 ghost use Rattle.search_tables.specs.Names.{command_at, AreNumbers, IsNumber};
-ghost use Rattle.search_tables.specs.Pending.{later_of, IsEntry};
+ghost use Rattle.search_tables.specs.Pending.{loop_over, later_of, BeginsWith, HasWitnesses, IsEntry};
 ghost use Rattle.search_tables.specs.Standing.{declared_scope, names_in, sources, the_state, IsRight};
 
-use crate::command::{Command, Planned};
+use crate::command::{Command, Over, Planned, Rest};
 use crate::clauses::literal_of;
 use crate::tables::Core;
 use command_queue::Weigher;
@@ -44,6 +44,23 @@ impl<W: Weigher<Command>> Core<W> {
             first: command,
             rest: None,
         })?;
+        Ok(())
+    }
+
+    /// Pushes a whole loop, which has so many commands and of which the first one is given.
+    pub fn push_whole(&mut self, first: Command, over: Over, count: usize) -> Result<(), AllocError>
+        requires right { IsRight self.old.tables self.old.plan }
+        requires numbers { AreNumbers (names_in self.old.tables) first }
+        requires begins { let c = command_at (names_in self.old.tables) first in BeginsWith c (loop_over (declared_scope self.old.tables.ground.bank) (sources self.old.tables) over c) }
+        requires count { count ≡ length (loop_over (declared_scope self.old.tables.ground.bank) (sources self.old.tables) over (command_at (names_in self.old.tables) first)) }
+        requires witnesses { HasWitnesses (sources self.old.tables) over }
+        ensures state { OnOk result (the_state self.new.tables self.new.plan ≡ pushed (the_mode self.old.plan.rule.mode) (loop_over (declared_scope self.old.tables.ground.bank) (sources self.old.tables) over (command_at (names_in self.old.tables) first)) (the_state self.old.tables self.old.plan)) }
+        ensures right { OnOk result (IsRight self.new.tables self.new.plan) }
+        ensures tables { self.new.tables ≡ self.old.tables }
+        ensures rule { OnOk result (self.new.plan.rule ≡ self.old.plan.rule) }
+    {
+        let rest = Rest::after_first(over, count);
+        self.push_loop(Planned { first, rest })?;
         Ok(())
     }
 
