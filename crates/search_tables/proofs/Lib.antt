@@ -10,6 +10,8 @@ pub mod SeenLaws
 pub mod ShallowLaws
 pub mod ClauseLaws
 pub mod RoomLaws
+pub mod PlaceLaws
+pub mod TermLaws
 pub mod WholeLaws
 pub mod InstanceLaws
 pub mod StateStays

@@ -1,5 +1,5 @@
 -- The state that the tables stand for.
-use Rattle.std.specs.Prelude.{◌≡◌, ◌<◌, ◌&&◌, ℕ, suc, Bool, nat_eq, List, [], ◌∷◌, ◌++◌, map, filter, length, if◌then◌else◌}
+use Rattle.std.specs.Prelude.{◌≡◌, ◌<◌, ◌&&◌, ℕ, suc, Bool, true, nat_eq, List, [], ◌∷◌, ◌++◌, map, filter, length, if◌then◌else◌}
 use Rattle.std.specs.List.{All}
 use Rattle.stt_core.specs.SimpleType.{SimpleType, base}
 use Rattle.stt_core.specs.Lambda.{Lambda}
@@ -86,6 +86,10 @@ the_state t q = record (parts t) { queue = queue_of (loops_in t q.entries); push
 -- whether a literal says of a predicate on the type that it holds everywhere
 abbrev pub is_universal : List Lambda → List ℕ → SimpleType → SatLit → Bool
 is_universal terms atoms a l = l.positive && ranges_over a (atom_at terms atoms l.var.0)
+
+-- the positive literal of a variable
+abbrev pub universal_of : ℕ → SatLit
+universal_of v = record { var = record { 0 = v }; positive = true }
 
 -- the places of the elements that pass a test, from a number on
 abbrev pub places_where : {X : Type 0} → (X → Bool) → ℕ → List X → List ℕ

@@ -11,6 +11,7 @@ mod rests;
 mod set;
 mod stem;
 mod tables;
+mod terms;
 
 pub use clauses::DEPTH;
 pub use command::{Command, Delays, Over, Planned, Rest};
