@@ -10,6 +10,8 @@ pub mod SeenLaws
 pub mod ShallowLaws
 pub mod ClauseLaws
 pub mod RoomLaws
+pub mod RowLaws
+pub mod RuleLaws
 pub mod PlaceLaws
 pub mod TermLaws
 pub mod WholeLaws

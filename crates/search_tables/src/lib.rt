@@ -8,6 +8,7 @@ mod instance;
 mod plan;
 mod pushing;
 mod rests;
+mod rule;
 mod set;
 mod stem;
 mod tables;
