@@ -1,7 +1,7 @@
 -- Instances of rules where the bank and the table of atoms grow.
 use Rattle.std.specs.Prelude.{◌≡◌, ◌<◌, ℕ, List, [], ◌∷◌, ◌++◌, map, length, Option, Some, None, refl}
 use Rattle.std.specs.Option.{ForSome}
-use Rattle.std.proofs.Common.{sym, ap, ap₂, ◌∙◌, subst, append-nil}
+use Rattle.std.proofs.Common.{sym, ap, ap₂, ◌∙◌, subst, append-nil, arith, length-append}
 use Rattle.std.proofs.lemmas.Option.{same_Some}
 use Rattle.stt_core.specs.SimpleType.{SimpleType}
 use Rattle.stt_core.specs.Lambda.{Lambda}
@@ -21,13 +21,13 @@ use Rattle.literal_map.specs.declared.instance.BankUse.{BankUse}
 use Rattle.literal_map.specs.declared.instance.RuleKind.{RuleKind}
 use Rattle.literal_map.specs.declared.instance.RuleKind.TheVariants as kind
 use Rattle.tableau_rules.specs.Uses.{rule_of, use_of, listed, principals_by, principals_of, IsInstanceBy}
-use Rattle.tableau_rules.specs.Changes.{Widens}
+use Rattle.tableau_rules.specs.Changes.{Widens, AreWitnessesAfter}
 use Rattle.search_run.specs.Each.{Each}
 use Rattle.search_tables.specs.declared.tables.Ground.{Ground}
 use Rattle.search_tables.specs.Growing.{Longer, Continues, GroundGrows}
 use Rattle.search_tables.specs.Names.{Names, IsNumber, IsPlace}
 use Rattle.search_tables.specs.Standing.{rows_in, scope_by, IsGround}
-use Rattle.search_tables.proofs.EachLaws.{map-same, each-from_All}
+use Rattle.search_tables.proofs.EachLaws.{map-same, each-from_All, each-weaker}
 use Rattle.search_tables.proofs.NamesLaws.{term-stays, literal-stays}
 use Rattle.search_tables.proofs.RowLaws.{table-distinct}
 use Rattle.witness_names.specs.Rows.{row_of, rows_of}
@@ -54,14 +54,14 @@ module _ (old new : Ground) (grows : GroundGrows old new) (good : IsGround old) 
   literal_same l h = literal-stays (plain old) (plain new) continues l h
 
   use_same : (k : RuleKind) (first second : Option SatLit) (term : Option ℕ) → ForSome first (IsNumber old.lits) → ForSome term (IsPlace old.bank.terms) → rule_of new.bank.terms new.lits k first second term ≡ rule_of old.bank.terms old.lits k first second term
-  use_same kind.AllPos (Some l) None (Some u) h i = ap (λ t. Some (AllPos 0 t)) (term_same u i)
-  use_same kind.Cho None None (Some f) h i = ap (λ t. Some (Cho t)) (term_same f i)
-  use_same kind.Des None None (Some f) h i = ap (λ t. Some (Des t)) (term_same f i)
-  use_same kind.Cut (Some l) None None h i = ap (λ (x : Literal). Some (Cut x)) (literal_same l h)
+  use_same kind.AllPos (Some l) None (Some u) h i = ap (λ t. Some (AllPos 0 t)) (term_same u (i u refl))
+  use_same kind.Cho None None (Some f) h i = ap (λ t. Some (Cho t)) (term_same f (i f refl))
+  use_same kind.Des None None (Some f) h i = ap (λ t. Some (Des t)) (term_same f (i f refl))
+  use_same kind.Cut (Some l) None None h i = ap (λ (x : Literal). Some (Cut x)) (literal_same l (h l refl))
   use_same k first second term h i = refl
 
   listed_numbers : (o : Option SatLit) → ForSome o (IsNumber old.lits) → Each (IsNumber old.lits) (listed o)
-  listed_numbers (Some l) h = (h, tt)
+  listed_numbers (Some l) h = (h l refl, tt)
   listed_numbers None h = tt
 
   both : (xs ys : List SatLit) → Each (IsNumber old.lits) xs → Each (IsNumber old.lits) ys → Each (IsNumber old.lits) (xs ++ ys)
@@ -85,7 +85,7 @@ module _ (old new : Ground) (grows : GroundGrows old new) (good : IsGround old) 
     -- an instance over what has grown has the alternatives that it had
     pub same-alternatives : (as' bs : List (List Literal)) → IsInstanceBy old.bank old.lits (rows_in old) by as' → IsInstanceBy new.bank new.lits (rows_in new) by bs → bs ≡ as'
     same-alternatives as' bs h k =
-        let rule : k.rule ≡ h.rule = same_Some h.rule k.rule (sym (sym k.is_rule ∙ use_same by.kind by.first by.second by.term first term ∙ h.is_rule)) in
+        let rule : k.rule ≡ h.rule = same_Some k.rule h.rule (sym k.is_rule ∙ use_same by.kind by.first by.second by.term first term ∙ h.is_rule) in
         let scope = grown_scope old.bank new.bank grows.bank in
         let S : Scope → Type 0 = λ s. IsInstance s (rows_in new) (map (literal_at new.bank.terms new.lits) (principals_of by)) k.rule bs in
         let R : List Row → Type 0 = λ r. IsInstance (content_scope old.bank) r (map (literal_at new.bank.terms new.lits) (principals_of by)) k.rule bs in
@@ -103,3 +103,12 @@ widened-grows old new good w same types = record {
   where
     rows_are : rows_in new ≡ rows_in old
     rows_are = ap (rows_of new.bank.terms) same ∙ map-same _ _ (IsPlace old.bank.terms) (λ i h. ap row_of (term-stays old.bank.terms new.bank.terms (w.further, w.terms) i h)) old.witnesses (each-from_All (IsPlace old.bank.terms) old.witnesses good.rows.within)
+
+-- a rule that makes no witness leaves the witnesses
+pub no-witness : (b : Content) (atoms : List ℕ) (k : RuleKind) (p : Option SatLit) (old new : List ℕ) → (k ≡ kind.AllNeg → ⊥) → AreWitnessesAfter b atoms k p old new → new ≡ old
+no-witness b atoms kind.AllNeg p old new h w = absurd (h refl)
+no-witness b atoms k p old new h w = w
+
+-- numbers of the principals are numbers in what has grown
+pub more-numbers : (old new : Ground) → GroundGrows old new → (ls : List SatLit) → Each (IsNumber old.lits) ls → Each (IsNumber new.lits) ls
+more-numbers old new grows ls h = each-weaker (IsNumber old.lits) (IsNumber new.lits) (λ l k. omega (arith, k, ap length grows.lits.is, length-append old.lits grows.lits.further)) ls h

@@ -45,8 +45,10 @@ impl Ground {
         );
         match made {
             Ok(instance) => Ok(instance),
-            Err(RuleRefused::Memory) => Err(AllocError),
-            Err(RuleRefused::NotThisRule) => unreachable!(),
+            Err(refused) => match refused {
+                RuleRefused::Memory => Err(AllocError),
+                RuleRefused::NotThisRule => unreachable!(),
+            },
         }
     }
 }
