@@ -1,5 +1,5 @@
 -- Instances by numbers.
-use Rattle.std.specs.Prelude.{◌≡◌, ℕ, Bool, true, false, List, [], ◌∷◌, ◌++◌, map, slice_get, Some, refl, if◌then◌else◌}
+use Rattle.std.specs.Prelude.{◌≡◌, ◌≤◌, ℕ, Bool, true, false, List, [], ◌∷◌, ◌++◌, map, length, slice_get, Some, refl, if◌then◌else◌}
 use Rattle.std.specs.List.{list_all, flat_map}
 use Rattle.std.proofs.Common.{sym, ap, ap₂, subst, ◌∙◌}
 use Rattle.stt_core.proofs.ListLaws.{map-append}
@@ -18,7 +18,7 @@ use Rattle.search_run.proofs.NamingLaws.{each-joined, instance_clauses-mapped, w
 use Rattle.term_bank.specs.Laws.{EqualIdsForEqualTerms}
 use Rattle.literal_map.specs.Atoms.{literal_at}
 use Rattle.tableau_clauses.specs.Table.{Table, the_clauses}
-use Rattle.sat_core.specs.Solver.{SolverState}
+use Rattle.sat_core.specs.Solver.{SolverState, learned}
 use Rattle.search_tables.specs.declared.command.Planned.{Planned}
 use Rattle.search_tables.specs.declared.command.Delays.{Delays}
 use Rattle.search_tables.specs.declared.tables.Tables.{Tables}
@@ -75,10 +75,12 @@ module _ (t : Tables) (q : Queue Planned Delays) (equal : EqualIdsForEqualTerms 
       ap₂ (λ ls (cs : List Clause). with_literals mode ls (record before { clauses = cs })) (sym (joined-mapped d as')) (ap (map (map d)) is ∙ sym further_is)
       ∙ by_test true e
 
-  pub right-added : (x : Table) (y : SolverState) → the_clauses x ≡ more → y.clauses ≡ the_clauses x → IsRight (record t { steps = x; solver = y }) q
-  right-added x y is same = record {
+  pub right-added : (x : Table) (y : SolverState) → the_clauses x ≡ more → y.clauses ≡ the_clauses x → learned y ≡ learned t.solver → IsRight (record t { steps = x; solver = y }) q
+  right-added x y is same learns =
+    let B : List (List SatLit) → Type 0 = λ ls. length ls ≤ q.rule.mode.conflicts in
+    record {
     ground = r.ground; seen = r.seen; noted = r.noted; universals = r.universals; terms = r.terms;
-    chosen = r.chosen; described = r.described; stems = r.stems; holes = r.holes; queue = r.queue;
+    chosen = r.chosen; described = r.described; stems = r.stems; holes = r.holes; budget = subst B (sym learns) r.budget; queue = r.queue;
     clauses = subst (Each (Each (IsNumber t.ground.lits))) (sym is) clauses_are_numbers;
     solver = same;
   }

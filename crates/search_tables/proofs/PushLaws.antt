@@ -5,6 +5,7 @@ use Rattle.std.proofs.lemmas.List.{length-take-le}
 use Rattle.stt_core.specs.Typing.{Scope}
 use Rattle.stt_tableau.specs.Literals.{Literal}
 use Rattle.mode_file.specs.declared.Mode.{Mode}
+use Rattle.sat_core.specs.Solver.{learned}
 use Rattle.command_queue.specs.declared.entry.Entry.{Entry}
 use Rattle.command_queue.specs.Queue.{Queue, AddsEntry}
 use Rattle.search_run.specs.Each.{Each}
@@ -179,9 +180,10 @@ module _ (t : Tables) (old new : Queue Planned Delays) (p : Planned) (entry : Is
 
   pub right-pushed : IsRight t old → IsRight t new
   right-pushed r =
+      let B : Delays → Type 0 = λ d. length (learned t.solver) ≤ d.mode.conflicts in
       let Q : List (Entry Planned) → Type 0 = λ es. Each (λ e. IsEntry scope (names_in t) (sources t) e.command) es in
       record {
     ground = r.ground; clauses = r.clauses; solver = r.solver; seen = r.seen; noted = r.noted; universals = r.universals; terms = r.terms;
-    chosen = r.chosen; described = r.described; stems = r.stems; holes = r.holes;
+    chosen = r.chosen; described = r.described; stems = r.stems; holes = r.holes; budget = subst B (sym adds.rule) r.budget;
     queue = subst Q (sym adds.entries) (each-last (λ e. IsEntry scope (names_in t) (sources t) e.command) old.entries added r.queue entry);
   }

@@ -1,6 +1,7 @@
 -- Where only the room of an agenda changes.
-use Rattle.std.specs.Prelude.{◌≡◌, ℕ, List}
+use Rattle.std.specs.Prelude.{◌≡◌, ◌≤◌, ℕ, List, length}
 use Rattle.std.proofs.Common.{sym, ap₂, subst}
+use Rattle.sat_core.specs.Solver.{learned}
 use Rattle.command_queue.specs.declared.entry.Entry.{Entry}
 use Rattle.command_queue.specs.Queue.{Queue, GainsRoom}
 use Rattle.search_run.specs.Each.{Each}
@@ -16,9 +17,10 @@ state-room t q q' room = ap₂ (λ es n. record (parts t) { queue = queue_of (lo
 
 pub right-room : (t : Tables) (q q' : Queue Planned Delays) → GainsRoom q q' → IsRight t q → IsRight t q'
 right-room t q q' room r =
+    let B : Delays → Type 0 = λ d. length (learned t.solver) ≤ d.mode.conflicts in
     let Q : List (Entry Planned) → Type 0 = λ es. Each (λ e. IsEntry (declared_scope t.ground.bank) (names_in t) (sources t) e.command) es in
     record {
       ground = r.ground; clauses = r.clauses; solver = r.solver; seen = r.seen; noted = r.noted; universals = r.universals; terms = r.terms;
-      chosen = r.chosen; described = r.described; stems = r.stems; holes = r.holes;
+      chosen = r.chosen; described = r.described; stems = r.stems; holes = r.holes; budget = subst B (sym room.rule) r.budget;
       queue = subst Q (sym room.entries) r.queue;
     }

@@ -52,7 +52,7 @@ module _ (t : Tables) (q : Queue Planned Delays) (equal : EqualIdsForEqualTerms 
   pub right-seen : (x : List SatLit) → x ≡ added numbers t.seen (l ∷ []) → IsRight (record t { seen = x }) q
   right-seen x is = record {
     ground = r.ground; clauses = r.clauses; solver = r.solver; noted = r.noted; universals = r.universals; terms = r.terms;
-    chosen = r.chosen; described = r.described; stems = r.stems; holes = r.holes; queue = r.queue;
+    chosen = r.chosen; described = r.described; stems = r.stems; holes = r.holes; budget = r.budget; queue = r.queue;
     seen = subst (Each (IsNumber t.ground.lits)) (sym is) (go (has numbers t.seen l));
   }
     where

@@ -130,6 +130,7 @@ module _ (t : Tables) (q : Queue Planned Delays) (g : Ground) (grows : GroundGro
     chosen = more_places t.chosen r.chosen;
     described = more_places t.described r.described;
     stems = r.stems;
+    budget = r.budget;
     holes = λ n. r.holes n ∙ ap (places_where (has_hole_of n) 0) (sym sketches_stay);
     queue = subst Q (sym scope_stays)
       (entries-stay (declared_scope t.ground.bank) (sources t) (sources grown) extends (names_in t) (names_in grown)

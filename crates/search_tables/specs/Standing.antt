@@ -1,5 +1,5 @@
 -- The state that the tables stand for.
-use Rattle.std.specs.Prelude.{◌≡◌, ◌<◌, ◌&&◌, ℕ, suc, Bool, true, nat_eq, List, [], ◌∷◌, ◌++◌, map, filter, length, if◌then◌else◌}
+use Rattle.std.specs.Prelude.{◌≡◌, ◌<◌, ◌≤◌, ◌&&◌, ℕ, suc, Bool, true, nat_eq, List, [], ◌∷◌, ◌++◌, map, filter, length, if◌then◌else◌}
 use Rattle.std.specs.List.{All}
 use Rattle.stt_core.specs.SimpleType.{SimpleType, base}
 use Rattle.stt_core.specs.Lambda.{Lambda}
@@ -19,6 +19,7 @@ use Rattle.literal_map.specs.Atoms.{atom_at, literal_at, IsAtom}
 use Rattle.witness_names.specs.Rows.{rows_of, AreRows}
 use Rattle.tableau_clauses.specs.Table.{the_clauses}
 use Rattle.instantiate.specs.Listing.{Listing, ids_of}
+use Rattle.sat_core.specs.Solver.{learned}
 use Rattle.command_queue.specs.declared.entry.Entry.{Entry}
 use Rattle.command_queue.specs.Queue.{Queue}
 use Rattle.search_tables.specs.declared.command.Planned.{Planned}
@@ -116,4 +117,5 @@ pub record IsRight (t : Tables) (q : Queue Planned Delays) : Type 0 where
   pub described : Each (IsPlace t.ground.bank.terms) t.described
   pub stems : AreStems (length t.heads) 0 t.stems.items
   pub holes : (n : ℕ) → ids_of (base n) t.holes ≡ places_where (has_hole_of n) 0 (sketches_in t)
+  pub budget : length (learned t.solver) ≤ q.rule.mode.conflicts
   pub queue : Each (λ e. IsEntry (declared_scope t.ground.bank) (names_in t) (sources t) e.command) q.entries

@@ -8,6 +8,7 @@ ghost use Rattle.search_run.specs.Clauses.{instance_clauses, with_clauses};
 ghost use Rattle.search_run.specs.Numbered.{numbers};
 ghost use Rattle.search_run.specs.Shallow.{is_shallow_literal};
 ghost use Rattle.literal_map.specs.Atoms.{literal_at, IsAtom};
+ghost use Rattle.sat_core.specs.Solver.{learned};
 ghost use Rattle.tableau_clauses.specs.Table.{the_clauses};
 ghost use Rattle.search_tables.specs.Names.{IsNumber};
 
@@ -71,6 +72,7 @@ pub(crate) fn joined(alloc: Global, lists: &LitLists) -> Result<Vec<SatLit>, All
 /// Makes a variable for each atom.
 pub(crate) fn make_variables(solver: &mut Solver, atoms: usize) -> Result<(), AllocError>
     ensures clauses { solver.new.clauses ≡ solver.old.clauses }
+    ensures learned { learned solver.new ≡ learned solver.old }
     ensures made { OnOk result (atoms ≤ length solver.new.values) }
 {
     while solver.variables() < atoms {
@@ -90,6 +92,7 @@ pub(crate) fn add_clauses(
     requires same { solver.old.clauses ≡ the_clauses steps.old }
     ensures clauses { OnOk result (the_clauses steps.new ≡ with_clauses numbers (the_clauses steps.old) (instance_clauses numbers instance.principals instance.alternatives)) }
     ensures same { OnOk result (solver.new.clauses ≡ the_clauses steps.new) }
+    ensures learned { learned solver.new ≡ learned solver.old }
 {
     make_variables(solver, atoms)?;
     let new = steps.add(instance)?;

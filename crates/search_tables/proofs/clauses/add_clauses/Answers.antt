@@ -1,7 +1,7 @@
 use Rattle.std.proofs.Common.{◌≡◌, ◌≤◌, ◌<◌, ◌+◌, ◌++◌, ◌∷◌, [], List, length, take, sym, ap, subst, ◌∙◌, arith}
 use Rattle.stt_core.proofs.ListLaws.{take_got}
 use Rattle.sat_base.specs.declared.literal.SatLit.{SatLit}
-use Rattle.sat_core.specs.Solver.{SolverState}
+use Rattle.sat_core.specs.Solver.{SolverState, learned}
 use Rattle.search_run.specs.Each.{Each}
 use Rattle.search_run.specs.Clauses.{instance_clauses}
 use Rattle.search_run.specs.Numbered.{numbers}
@@ -16,6 +16,7 @@ loop-n-init c = record {
   same =
       c.make_variables.ensures.clauses ∙ c.requires.same
       ∙ first_clauses numbers (the_clauses c.args.steps.now) (instance_clauses numbers c.args.instance.principals c.args.instance.alternatives) (the_clauses c.add.new.self) c.in_ok-new.new.start c.in_ok-new.ensures.start c.in_ok-new.ensures.clauses;
+  learned = c.make_variables.ensures.learned;
 }
 
 pub add-requires-in-loop-n : goal.add-requires-in-loop-n
@@ -32,4 +33,5 @@ loop-n-preserved c = record {
       ap (λ (s : SolverState). s.clauses) c.in_ok-add.ensures.ok
       ∙ ap (λ cs. cs ++ c.clause.result.now ∷ []) c.loop-n.invariant.same
       ∙ sym (take_got (the_clauses c.add.new.self) c.loop-n.n c.clause.result.now c.clause.ensures);
+  learned = ap (λ (s : SolverState). learned s) c.in_ok-add.ensures.ok ∙ c.loop-n.invariant.learned;
 }

@@ -38,7 +38,7 @@ see_all-requires-clause-right g c =
     let i = c.args.instance in
     right-room _ self.plan c.reserve.new.self c.reserve.ensures.same
     (right-added self.tables self.plan c.equal_ids_for_equal_terms.ensures c.atoms_differ.ensures c.requires.right (the_mode self.plan.rule.mode) i.principals i.alternatives c.requires.principals c.requires.alternatives
-    c.add_clauses.new.steps c.add_clauses.new.solver c.in_ok-add_clauses.ensures.clauses c.in_ok-add_clauses.ensures.same)
+    c.add_clauses.new.steps c.add_clauses.new.solver c.in_ok-add_clauses.ensures.clauses c.in_ok-add_clauses.ensures.same c.add_clauses.ensures.learned)
 
 pub see_all-requires-clause-numbers : goal.see_all-requires-clause-numbers
 see_all-requires-clause-numbers g c =
