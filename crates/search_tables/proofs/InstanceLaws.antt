@@ -34,9 +34,9 @@ pub each-flat : {K : Type 0} (P : K → Type 0) (as' : List (List K)) → Each (
 each-flat P [] h = tt
 each-flat P (a ∷ as') h = each-joined P a (flat_map (λ a. a) as') h.0 (each-flat P as' h.1)
 
-module _ (t : Tables) (q : Queue Planned Delays) (equal : EqualIdsForEqualTerms t.ground.bank) (differ : (v w id : ℕ) → slice_get t.ground.lits v ≡ Some id → slice_get t.ground.lits w ≡ Some id → v ≡ w) (r : IsRight t q) (mode : Mode) (ps : List SatLit) (as' : List (List SatLit)) (gp : Each (IsNumber t.ground.lits) ps) (ga : Each (Each (IsNumber t.ground.lits)) as') where
+module _ (t : Tables) (q : Queue Planned Delays) (equal : EqualIdsForEqualTerms t.basis.bank) (differ : (v w id : ℕ) → slice_get t.basis.lits v ≡ Some id → slice_get t.basis.lits w ≡ Some id → v ≡ w) (r : IsRight t q) (mode : Mode) (ps : List SatLit) (as' : List (List SatLit)) (gp : Each (IsNumber t.basis.lits) ps) (ga : Each (Each (IsNumber t.basis.lits)) as') where
   abbrev d : SatLit → Literal
-  d = literal_at t.ground.bank.terms t.ground.lits
+  d = literal_at t.basis.bank.terms t.basis.lits
 
   abbrev before : State
   before = the_state t q
@@ -48,17 +48,17 @@ module _ (t : Tables) (q : Queue Planned Delays) (equal : EqualIdsForEqualTerms 
   abbrev further : List Clause
   further = with_clauses formulas before.clauses (instance_clauses formulas (map d ps) (map (map d) as'))
 
-  pub clauses_are_numbers : Each (Each (IsNumber t.ground.lits)) more
+  pub clauses_are_numbers : Each (Each (IsNumber t.basis.lits)) more
   clauses_are_numbers =
-      with_clauses_good numbers (IsNumber t.ground.lits) (the_clauses t.steps) (instance_clauses numbers ps as') r.clauses
-      (instance_clauses_good numbers formulas (IsNumber t.ground.lits) d (stand t.ground.bank t.ground.lits r.ground.atoms equal differ) ps as' gp ga)
+      with_clauses_good numbers (IsNumber t.basis.lits) (the_clauses t.steps) (instance_clauses numbers ps as') r.clauses
+      (instance_clauses_good numbers formulas (IsNumber t.basis.lits) d (stand t.basis.bank t.basis.lits r.basis.atoms equal differ) ps as' gp ga)
 
   further_is : further ≡ map (map d) more
   further_is =
-      let s = stand t.ground.bank t.ground.lits r.ground.atoms equal differ in
-      ap (with_clauses formulas before.clauses) (instance_clauses-mapped numbers formulas (IsNumber t.ground.lits) d s ps as' gp ga)
-      ∙ with_clauses-mapped numbers formulas (IsNumber t.ground.lits) d s (the_clauses t.steps) (instance_clauses numbers ps as') r.clauses
-        (instance_clauses_good numbers formulas (IsNumber t.ground.lits) d s ps as' gp ga)
+      let s = stand t.basis.bank t.basis.lits r.basis.atoms equal differ in
+      ap (with_clauses formulas before.clauses) (instance_clauses-mapped numbers formulas (IsNumber t.basis.lits) d s ps as' gp ga)
+      ∙ with_clauses-mapped numbers formulas (IsNumber t.basis.lits) d s (the_clauses t.steps) (instance_clauses numbers ps as') r.clauses
+        (instance_clauses_good numbers formulas (IsNumber t.basis.lits) d s ps as' gp ga)
 
   abbrev with_all : State
   with_all = with_literals mode (flat_map (λ (a : List Literal). a) (map (map d) as')) (record before { clauses = further })
@@ -79,8 +79,8 @@ module _ (t : Tables) (q : Queue Planned Delays) (equal : EqualIdsForEqualTerms 
   right-added x y is same learns =
     let B : List (List SatLit) → Type 0 = λ ls. length ls ≤ q.rule.mode.conflicts in
     record {
-    ground = r.ground; seen = r.seen; noted = r.noted; universals = r.universals; terms = r.terms;
+    basis = r.basis; seen = r.seen; noted = r.noted; universals = r.universals; terms = r.terms;
     chosen = r.chosen; described = r.described; stems = r.stems; holes = r.holes; budget = subst B (sym learns) r.budget; queue = r.queue;
-    clauses = subst (Each (Each (IsNumber t.ground.lits))) (sym is) clauses_are_numbers;
+    clauses = subst (Each (Each (IsNumber t.basis.lits))) (sym is) clauses_are_numbers;
     solver = same;
   }

@@ -10,6 +10,9 @@ pub mod SeenLaws
 pub mod ShallowLaws
 pub mod ClauseLaws
 pub mod RoomLaws
+pub mod SameLoops
+pub mod TakeLaws
+pub mod SolveLaws
 pub mod RowLaws
 pub mod RuleLaws
 pub mod PlaceLaws

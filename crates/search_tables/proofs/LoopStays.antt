@@ -141,6 +141,7 @@ module _ (scope : Scope) (s s' : State) (ext : Extends s s') where
         ascends = w.ascends;
         within = omega (arith, w.within, ap length l.1, length-append (loop_over scope s r.over c) l.0);
         witnesses = witnesses_stay r.over w.witnesses;
+        signed = w.signed;
       }
 
   module _ (names names' : Names) (commands : (c : Command) → AreNumbers names c → command_at names' c ≡ command_at names c) (numbers : (c : Command) → AreNumbers names c → AreNumbers names' c) where

@@ -143,9 +143,9 @@ delay-numbered m names (Grow p h) = refl
 delay-numbered m names (Choose f) = refl
 delay-numbered m names (Describe f) = refl
 
-module _ (t : Tables) (old new : Queue Planned Delays) (p : Planned) (entry : IsEntry (declared_scope t.ground.bank) (names_in t) (sources t) p) (adds : AddsEntry old new (suc (span p)) (t.done + delay_by old.rule.mode p.first) p) where
+module _ (t : Tables) (old new : Queue Planned Delays) (p : Planned) (entry : IsEntry (declared_scope t.basis.bank) (names_in t) (sources t) p) (adds : AddsEntry old new (suc (span p)) (t.done + delay_by old.rule.mode p.first) p) where
   abbrev scope : Scope
-  scope = declared_scope t.ground.bank
+  scope = declared_scope t.basis.bank
 
   abbrev first : Meant
   first = command_at (names_in t) p.first
@@ -183,7 +183,7 @@ module _ (t : Tables) (old new : Queue Planned Delays) (p : Planned) (entry : Is
       let B : Delays → Type 0 = λ d. length (learned t.solver) ≤ d.mode.conflicts in
       let Q : List (Entry Planned) → Type 0 = λ es. Each (λ e. IsEntry scope (names_in t) (sources t) e.command) es in
       record {
-    ground = r.ground; clauses = r.clauses; solver = r.solver; seen = r.seen; noted = r.noted; universals = r.universals; terms = r.terms;
+    basis = r.basis; clauses = r.clauses; solver = r.solver; seen = r.seen; noted = r.noted; universals = r.universals; terms = r.terms;
     chosen = r.chosen; described = r.described; stems = r.stems; holes = r.holes; budget = subst B (sym adds.rule) r.budget;
     queue = subst Q (sym adds.entries) (each-last (λ e. IsEntry scope (names_in t) (sources t) e.command) old.entries added r.queue entry);
   }

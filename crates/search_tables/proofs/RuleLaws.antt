@@ -23,10 +23,10 @@ use Rattle.literal_map.specs.declared.instance.RuleKind.TheVariants as kind
 use Rattle.tableau_rules.specs.Uses.{rule_of, use_of, listed, principals_by, principals_of, IsInstanceBy}
 use Rattle.tableau_rules.specs.Changes.{Widens, AreWitnessesAfter}
 use Rattle.search_run.specs.Each.{Each}
-use Rattle.search_tables.specs.declared.tables.Ground.{Ground}
-use Rattle.search_tables.specs.Growing.{Longer, Continues, GroundGrows}
+use Rattle.search_tables.specs.declared.tables.Basis.{Basis}
+use Rattle.search_tables.specs.Growing.{Longer, Continues, BasisGrows}
 use Rattle.search_tables.specs.Names.{Names, IsNumber, IsPlace}
-use Rattle.search_tables.specs.Standing.{rows_in, scope_by, IsGround}
+use Rattle.search_tables.specs.Standing.{rows_in, scope_by, IsBasis}
 use Rattle.search_tables.proofs.EachLaws.{map-same, each-from_All, each-weaker}
 use Rattle.search_tables.proofs.NamesLaws.{term-stays, literal-stays}
 use Rattle.search_tables.proofs.RowLaws.{table-distinct}
@@ -34,10 +34,10 @@ use Rattle.witness_names.specs.Rows.{row_of, rows_of}
 use Rattle.witness_names.proofs.StayLaws.{rows_same}
 
 -- names without partial terms and heads
-abbrev plain : Ground → Names
+abbrev plain : Basis → Names
 plain g = record { terms = g.bank.terms; atoms = g.lits; sketches = []; heads = [] }
 
-module _ (old new : Ground) (grows : GroundGrows old new) (good : IsGround old) where
+module _ (old new : Basis) (grows : BasisGrows old new) (good : IsBasis old) where
   continues : Continues (plain old) (plain new)
   continues = record {
     within = λ k d h. (good.atoms k d h).within;
@@ -95,7 +95,7 @@ module _ (old new : Ground) (grows : GroundGrows old new) (good : IsGround old) 
         (subst U rule (subst P principals_same (subst R rows_stay (subst S scope k.is_instance)))))
 
 -- a bank that has become wider by no witness has grown
-pub widened-grows : (old new : Ground) → IsGround old → Widens old.bank new.bank → new.witnesses ≡ old.witnesses → map (λ (r : Row). r.type) (rows_in new) ≡ new.bank.witnesses → Grows old.bank new.bank
+pub widened-grows : (old new : Basis) → IsBasis old → Widens old.bank new.bank → new.witnesses ≡ old.witnesses → map (λ (r : Row). r.type) (rows_in new) ≡ new.bank.witnesses → Grows old.bank new.bank
 widened-grows old new good w same types = record {
   bases = w.bases; consts = w.consts; further = w.further; terms = w.terms;
   witnesses = sym types ∙ ap (map (λ (r : Row). r.type)) (rows_are) ∙ good.typed;
@@ -110,5 +110,5 @@ no-witness b atoms kind.AllNeg p old new h w = absurd (h refl)
 no-witness b atoms k p old new h w = w
 
 -- numbers of the principals are numbers in what has grown
-pub more-numbers : (old new : Ground) → GroundGrows old new → (ls : List SatLit) → Each (IsNumber old.lits) ls → Each (IsNumber new.lits) ls
+pub more-numbers : (old new : Basis) → BasisGrows old new → (ls : List SatLit) → Each (IsNumber old.lits) ls → Each (IsNumber new.lits) ls
 more-numbers old new grows ls h = each-weaker (IsNumber old.lits) (IsNumber new.lits) (λ l k. omega (arith, k, ap length grows.lits.is, length-append old.lits grows.lits.further)) ls h

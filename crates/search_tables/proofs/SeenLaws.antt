@@ -25,15 +25,15 @@ use Rattle.search_tables.specs.Standing.{the_state, IsRight}
 use Rattle.search_tables.proofs.EachLaws.{each-last}
 use Rattle.search_tables.proofs.NumberLaws.{stand}
 
-module _ (t : Tables) (q : Queue Planned Delays) (equal : EqualIdsForEqualTerms t.ground.bank) (differ : (v w id : ℕ) → slice_get t.ground.lits v ≡ Some id → slice_get t.ground.lits w ≡ Some id → v ≡ w) (r : IsRight t q) (mode : Mode) (l : SatLit) (number : IsNumber t.ground.lits l) where
+module _ (t : Tables) (q : Queue Planned Delays) (equal : EqualIdsForEqualTerms t.basis.bank) (differ : (v w id : ℕ) → slice_get t.basis.lits v ≡ Some id → slice_get t.basis.lits w ≡ Some id → v ≡ w) (r : IsRight t q) (mode : Mode) (l : SatLit) (number : IsNumber t.basis.lits l) where
   abbrev meant : Literal
-  meant = literal_at t.ground.bank.terms t.ground.lits l
+  meant = literal_at t.basis.bank.terms t.basis.lits l
 
   abbrev before : State
   before = the_state t q
 
   test_is : holds before.seen meant ≡ has numbers t.seen l
-  test_is = has-mapped numbers formulas (IsNumber t.ground.lits) (literal_at t.ground.bank.terms t.ground.lits) (stand t.ground.bank t.ground.lits r.ground.atoms equal differ) t.seen l r.seen number
+  test_is = has-mapped numbers formulas (IsNumber t.basis.lits) (literal_at t.basis.bank.terms t.basis.lits) (stand t.basis.bank t.basis.lits r.basis.atoms equal differ) t.seen l r.seen number
 
   by_test : (b : Bool) → holds before.seen meant ≡ b → (if b then before else pushed mode (process meant ∷ []) (record before { seen = before.seen ++ meant ∷ [] })) ≡ with_literal mode meant before
   by_test b e = sym (ap (λ x. if x then before else pushed mode (process meant ∷ []) (record before { seen = before.seen ++ meant ∷ [] })) e)
@@ -46,19 +46,19 @@ module _ (t : Tables) (q : Queue Planned Delays) (equal : EqualIdsForEqualTerms 
   pub seen_now : (x : List SatLit) → x ≡ added numbers t.seen (l ∷ []) → has numbers t.seen l ≡ false → pushed mode (process meant ∷ []) (the_state (record t { seen = x }) q) ≡ with_literal mode meant before
   seen_now x is e =
       ap (λ xs. pushed mode (process meant ∷ []) (the_state (record t { seen = xs }) q)) (is ∙ ap (λ (b : Bool). if b then t.seen else t.seen ++ l ∷ []) e)
-      ∙ ap (λ ls. pushed mode (process meant ∷ []) (record before { seen = ls })) (map-append (literal_at t.ground.bank.terms t.ground.lits) t.seen (l ∷ []))
+      ∙ ap (λ ls. pushed mode (process meant ∷ []) (record before { seen = ls })) (map-append (literal_at t.basis.bank.terms t.basis.lits) t.seen (l ∷ []))
       ∙ by_test false (test_is ∙ e)
 
   pub right-seen : (x : List SatLit) → x ≡ added numbers t.seen (l ∷ []) → IsRight (record t { seen = x }) q
   right-seen x is = record {
-    ground = r.ground; clauses = r.clauses; solver = r.solver; noted = r.noted; universals = r.universals; terms = r.terms;
+    basis = r.basis; clauses = r.clauses; solver = r.solver; noted = r.noted; universals = r.universals; terms = r.terms;
     chosen = r.chosen; described = r.described; stems = r.stems; holes = r.holes; budget = r.budget; queue = r.queue;
-    seen = subst (Each (IsNumber t.ground.lits)) (sym is) (go (has numbers t.seen l));
+    seen = subst (Each (IsNumber t.basis.lits)) (sym is) (go (has numbers t.seen l));
   }
     where
-      go : (b : Bool) → Each (IsNumber t.ground.lits) (if b then t.seen else t.seen ++ l ∷ [])
+      go : (b : Bool) → Each (IsNumber t.basis.lits) (if b then t.seen else t.seen ++ l ∷ [])
       go true = r.seen
-      go false = each-last (IsNumber t.ground.lits) t.seen l r.seen number
+      go false = each-last (IsNumber t.basis.lits) t.seen l r.seen number
 
 -- one literal more is seen
 module _ (mode : Mode) (d : SatLit → Literal) (lits : List SatLit) (i : ℕ) (l : SatLit) (at : slice_get lits i ≡ Some l) (goal : State) where

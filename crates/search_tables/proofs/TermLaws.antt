@@ -42,26 +42,26 @@ itself xs = ([], sym (append-nil xs))
 pub pushed-nothing : (mode : Mode) (s : State) → pushed mode [] s ≡ s
 pushed-nothing mode s = ap₂ (λ q n. record s { queue = q; pushes = n }) (append-nil s.queue) (add-zero s.pushes)
 
-range-is : (a : SimpleType) (l : Literal) → (l.positive && ranges_over a l.atom) ≡ true → range_of l.atom ≡ a
+pub range-is : (a : SimpleType) (l : Literal) → (l.positive && ranges_over a l.atom) ≡ true → range_of l.atom ≡ a
 range-is a l e =
     let o = is_over a l e in
     ap (λ (m : Literal). range_of m.atom) o.is
 
 module _ (t : Tables) (q : Queue Planned Delays) (r : IsRight t q) (a : SimpleType) where
   abbrev d : SatLit → Literal
-  d = literal_at t.ground.bank.terms t.ground.lits
+  d = literal_at t.basis.bank.terms t.basis.lits
 
   abbrev passing : List SatLit
-  passing = filter (is_universal t.ground.bank.terms t.ground.lits a) t.noted.items
+  passing = filter (is_universal t.basis.bank.terms t.basis.lits a) t.noted.items
 
-  positive_ones : (ls : List SatLit) → Each (λ l. IsNumber t.ground.lits l × (is_universal t.ground.bank.terms t.ground.lits a l ≡ true)) ls → ls ≡ map universal_of (map (λ l. l.var.0) ls)
+  positive_ones : (ls : List SatLit) → Each (λ l. IsNumber t.basis.lits l × (is_universal t.basis.bank.terms t.basis.lits a l ≡ true)) ls → ls ≡ map universal_of (map (λ l. l.var.0) ls)
   positive_ones [] h = refl
   positive_ones (l ∷ ls) h =
       let p = and_parts _ _ h.0.1 in
       ap₂ (λ x xs. x ∷ xs) (ap (λ (b : Bool). record l { positive = b }) p.0) (positive_ones ls h.1)
 
-  each_passing : Each (λ l. IsNumber t.ground.lits l × (is_universal t.ground.bank.terms t.ground.lits a l ≡ true)) passing
-  each_passing = each-passes (IsNumber t.ground.lits) (is_universal t.ground.bank.terms t.ground.lits a) t.noted.items r.noted
+  each_passing : Each (λ l. IsNumber t.basis.lits l × (is_universal t.basis.bank.terms t.basis.lits a l ≡ true)) passing
+  each_passing = each-passes (IsNumber t.basis.lits) (is_universal t.basis.bank.terms t.basis.lits a) t.noted.items r.noted
 
   passing_are : passing ≡ map universal_of (ids_of a t.universals)
   passing_are = positive_ones passing each_passing ∙ ap (map universal_of) (sym (r.universals a))
@@ -71,23 +71,23 @@ module _ (t : Tables) (q : Queue Planned Delays) (r : IsRight t q) (a : SimpleTy
   universals-are = filter-mapped (λ (l : Literal). l.positive && ranges_over a l.atom) d t.noted.items ∙ ap (map d) passing_are
 
   module _ (v : ℕ) (vs : List ℕ) (ids : ids_of a t.universals ≡ v ∷ vs) where
-    first_passes : IsNumber t.ground.lits (universal_of v) × (is_universal t.ground.bank.terms t.ground.lits a (universal_of v) ≡ true)
+    first_passes : IsNumber t.basis.lits (universal_of v) × (is_universal t.basis.bank.terms t.basis.lits a (universal_of v) ≡ true)
     first_passes =
-        let P : List SatLit → Type 0 = λ ls. Each (λ l. IsNumber t.ground.lits l × (is_universal t.ground.bank.terms t.ground.lits a l ≡ true)) ls in
+        let P : List SatLit → Type 0 = λ ls. Each (λ l. IsNumber t.basis.lits l × (is_universal t.basis.bank.terms t.basis.lits a l ≡ true)) ls in
         (subst P (passing_are ∙ ap (map universal_of) ids) each_passing).0
 
-    pub first-number : IsNumber t.ground.lits (universal_of v)
+    pub first-number : IsNumber t.basis.lits (universal_of v)
     first-number = first_passes.0
 
-    pub first-range : range_of (atom_at t.ground.bank.terms t.ground.lits v) ≡ a
+    pub first-range : range_of (atom_at t.basis.bank.terms t.basis.lits v) ≡ a
     first-range = range-is a (d (universal_of v)) first_passes.1
 
     -- the whole loop over the universal literals of the type
-    pub universals-loop : (u : ℕ) → loop_over (declared_scope t.ground.bank) (sources t) Universals (command_at (names_in t) (Inst (universal_of v) u)) ≡ map (λ k. inst k (term_at t.ground.bank.terms u)) (universals a (sources t))
-    universals-loop u = ap (λ b. map (λ k. inst k (term_at t.ground.bank.terms u)) (universals b (sources t))) first-range
+    pub universals-loop : (u : ℕ) → loop_over (declared_scope t.basis.bank) (sources t) Universals (command_at (names_in t) (Inst (universal_of v) u)) ≡ map (λ k. inst k (term_at t.basis.bank.terms u)) (universals a (sources t))
+    universals-loop u = ap (λ b. map (λ k. inst k (term_at t.basis.bank.terms u)) (universals b (sources t))) first-range
 
-    pub universals-begin : (u : ℕ) → map (λ k. inst k (term_at t.ground.bank.terms u)) (universals a (sources t)) ≡ command_at (names_in t) (Inst (universal_of v) u) ∷ map (λ k. inst k (term_at t.ground.bank.terms u)) (map d (map universal_of vs))
-    universals-begin u = ap (map (λ k. inst k (term_at t.ground.bank.terms u))) (universals-are ∙ ap (λ is. map d (map universal_of is)) ids)
+    pub universals-begin : (u : ℕ) → map (λ k. inst k (term_at t.basis.bank.terms u)) (universals a (sources t)) ≡ command_at (names_in t) (Inst (universal_of v) u) ∷ map (λ k. inst k (term_at t.basis.bank.terms u)) (map d (map universal_of vs))
+    universals-begin u = ap (map (λ k. inst k (term_at t.basis.bank.terms u))) (universals-are ∙ ap (λ is. map d (map universal_of is)) ids)
 
   pub universals-length : (u : Lambda) → length (map (λ k. inst k u) (universals a (sources t))) ≡ length (ids_of a t.universals)
   universals-length u =
@@ -96,14 +96,14 @@ module _ (t : Tables) (q : Queue Planned Delays) (r : IsRight t q) (a : SimpleTy
 
   -- A TERM MORE
 
-  module _ (id : ℕ) (place : IsPlace t.ground.bank.terms id) (equal : EqualIdsForEqualTerms t.ground.bank) where
+  module _ (id : ℕ) (place : IsPlace t.basis.bank.terms id) (equal : EqualIdsForEqualTerms t.basis.bank) where
     abbrev u : Lambda
-    u = term_at t.ground.bank.terms id
+    u = term_at t.basis.bank.terms id
 
     there_is : list_any (same_term u) (terms_of a (the_state t q)) ≡ list_any (nat_eq id) (ids_of a t.terms)
     there_is =
-        ap (list_any (same_term u)) (terms-of t.ground.bank.terms a t.terms)
-        ∙ any-places t.ground.bank equal id (ids_of a t.terms) place (places-of t.ground.bank.terms a t.terms r.terms)
+        ap (list_any (same_term u)) (terms-of t.basis.bank.terms a t.terms)
+        ∙ any-places t.basis.bank equal id (ids_of a t.terms) place (places-of t.basis.bank.terms a t.terms r.terms)
 
     abbrev appended : State
     appended = record (the_state t q) { terms = (the_state t q).terms ++ record { type = a; term = u } ∷ [] }
@@ -122,8 +122,8 @@ module _ (t : Tables) (q : Queue Planned Delays) (r : IsRight t q) (a : SimpleTy
     abbrev t' : Tables
     t' = record t { terms = more }
 
-    typed_more : map (typed_at t.ground.bank.terms) more ≡ map (typed_at t.ground.bank.terms) t.terms ++ record { type = a; term = u } ∷ []
-    typed_more = map-append (typed_at t.ground.bank.terms) t.terms ((a, id) ∷ [])
+    typed_more : map (typed_at t.basis.bank.terms) more ≡ map (typed_at t.basis.bank.terms) t.terms ++ record { type = a; term = u } ∷ []
+    typed_more = map-append (typed_at t.basis.bank.terms) t.terms ((a, id) ∷ [])
 
     extends : Extends (sources t) (sources t')
     extends = record {
@@ -134,17 +134,17 @@ module _ (t : Tables) (q : Queue Planned Delays) (r : IsRight t q) (a : SimpleTy
     }
 
     loops_same : loops_in t' q.entries ≡ loops_in t q.entries
-    loops_same = loops-stay (declared_scope t.ground.bank) (sources t) (sources t') extends (names_in t) (names_in t) (λ c h. refl) (λ c h. h) q.entries r.queue
+    loops_same = loops-stay (declared_scope t.basis.bank) (sources t) (sources t') extends (names_in t) (names_in t) (λ c h. refl) (λ c h. h) q.entries r.queue
 
     state_more : the_state t' q ≡ appended
     state_more = ap₂ (λ (us : List Typed) ls. record (parts t) { terms = us; queue = queue_of ls; pushes = q.pushes }) typed_more loops_same
 
     right_more : IsRight t' q
     right_more = record {
-      ground = r.ground; clauses = r.clauses; solver = r.solver; seen = r.seen; noted = r.noted; universals = r.universals;
+      basis = r.basis; clauses = r.clauses; solver = r.solver; seen = r.seen; noted = r.noted; universals = r.universals;
       chosen = r.chosen; described = r.described; stems = r.stems; holes = r.holes; budget = r.budget;
-      terms = each-last (λ (l : Listing). IsPlace t.ground.bank.terms l.1) t.terms (a, id) r.terms place;
-      queue = entries-stay (declared_scope t.ground.bank) (sources t) (sources t') extends (names_in t) (names_in t) (λ c h. refl) (λ c h. h) q.entries r.queue;
+      terms = each-last (λ (l : Listing). IsPlace t.basis.bank.terms l.1) t.terms (a, id) r.terms place;
+      queue = entries-stay (declared_scope t.basis.bank) (sources t) (sources t') extends (names_in t) (names_in t) (λ c h. refl) (λ c h. h) q.entries r.queue;
     }
 
     pub right-term : (x : List Listing) → x ≡ with_listed a id t.terms → IsRight (record t { terms = x }) q

@@ -6,13 +6,13 @@ use Rattle.stt_core.specs.Typing.{Scope}
 use Rattle.search_run.specs.State.{State, Command as Meant}
 use Rattle.search_tables.specs.declared.command.Over.{Over}
 use Rattle.search_tables.specs.declared.command.Rest.{Rest}
-use Rattle.search_tables.specs.Pending.{loop_over, later_of, between, rest_after, HasWitnesses, IsWithin, AreThere}
+use Rattle.search_tables.specs.Pending.{loop_over, later_of, between, rest_after, HasWitnesses, IsSigned, IsWithin, AreThere}
 
 no_more : {X : Type 0} (xs : List X) → length xs ≤ 0 → xs ≡ []
 no_more [] h = refl
 no_more (x ∷ xs) h = absurd (omega (arith, h))
 
-module _ (scope : Scope) (s : State) (over : Over) (c : Meant) (later : List Meant) (is : loop_over scope s over c ≡ c ∷ later) (count : ℕ) (n : count ≡ length (loop_over scope s over c)) (w : HasWitnesses s over) where
+module _ (scope : Scope) (s : State) (over : Over) (c : Meant) (later : List Meant) (is : loop_over scope s over c ≡ c ∷ later) (count : ℕ) (n : count ≡ length (loop_over scope s over c)) (w : HasWitnesses s over) (sign : IsSigned over c) where
   lengths : count ≡ length (c ∷ later)
   lengths = n ∙ ap length is
 
@@ -27,7 +27,7 @@ module _ (scope : Scope) (s : State) (over : Over) (c : Meant) (later : List Mea
   later-whole = by_test (nat_lt 1 count) refl
 
   there_by : (b : Bool) → nat_lt 1 count ≡ b → AreThere scope s c (if b then Some (record { over = over; next = 1; end = count }) else None)
-  there_by true e = record { ascends = let k = ltb-true 1 count e in omega (arith, k); within = omega (arith, n); witnesses = w }
+  there_by true e = record { ascends = let k = ltb-true 1 count e in omega (arith, k); within = omega (arith, n); witnesses = w; signed = sign }
   there_by false e = tt
 
   pub there-whole : AreThere scope s c (rest_after over count)

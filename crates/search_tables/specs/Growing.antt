@@ -7,7 +7,7 @@ use Rattle.stt_tableau.specs.Witnesses.{Row}
 use Rattle.search_run.specs.State.{State, Typed, Sketch}
 use Rattle.term_bank.specs.Content.{Grows}
 use Rattle.literal_map.specs.Atoms.{Begins}
-use Rattle.search_tables.specs.declared.tables.Ground.{Ground}
+use Rattle.search_tables.specs.declared.tables.Basis.{Basis}
 use Rattle.search_tables.specs.Names.{Names, IsPlace}
 
 -- the second list is the first one with further elements behind it
@@ -23,7 +23,7 @@ pub record Continues (old new : Names) : Type 0 where
   pub heads : Longer old.heads new.heads
 
 -- further terms and atoms stand behind the earlier ones
-pub record GroundGrows (old new : Ground) : Type 0 where
+pub record BasisGrows (old new : Basis) : Type 0 where
   pub bank : Grows old.bank new.bank
   pub lits : Begins old.lits new.lits
   pub witnesses : new.witnesses ≡ old.witnesses

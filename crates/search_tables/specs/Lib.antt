@@ -5,3 +5,4 @@ pub mod Heads
 pub mod Rests
 pub mod Standing
 pub mod Growing
+pub mod Taking

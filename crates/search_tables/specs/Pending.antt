@@ -1,5 +1,5 @@
 -- The commands that are left of a loop of pushes.
-use Rattle.std.specs.Prelude.{◌≡◌, ℕ, ◌+◌, ◌-◌, ◌≤◌, ◌<◌, ◌⊎◌, List, [], ◌∷◌, ◌++◌, map, filter, take, drop, length, nat_lt, Option, Some, None, if◌then◌else◌}
+use Rattle.std.specs.Prelude.{◌≡◌, Bool, true, not, ℕ, ◌+◌, ◌-◌, ◌≤◌, ◌<◌, ◌⊎◌, List, [], ◌∷◌, ◌++◌, map, filter, take, drop, length, nat_lt, Option, Some, None, if◌then◌else◌}
 use Rattle.stt_core.specs.SimpleType.{SimpleType, formula}
 use Rattle.stt_core.specs.Lambda.{Lambda, bound, constant, lam, app, all, equality}
 use Rattle.stt_core.specs.Typing.{Scope}
@@ -93,11 +93,31 @@ HasWitnesses s Positives = Unit {0}
 HasWitnesses s (Heads n) = n ≤ length s.rows
 HasWitnesses s Parked = Unit {0}
 
+-- the literal whose partners a loop goes over has the sign that the loop says
+abbrev pub has_positive : Meant → Bool
+has_positive (mate l m) = l.positive
+has_positive (confront l m) = l.positive
+has_positive c = true
+
+abbrev pub has_negative : Meant → Bool
+has_negative (mate l m) = not m.positive
+has_negative (confront l m) = not m.positive
+has_negative c = true
+
+abbrev pub IsSigned : Over → Meant → Type 0
+IsSigned Negatives c = has_positive c ≡ true
+IsSigned Positives c = has_negative c ≡ true
+IsSigned Terms c = Unit {0}
+IsSigned Universals c = Unit {0}
+IsSigned (Heads n) c = Unit {0}
+IsSigned Parked c = Unit {0}
+
 -- the later commands are there
 pub record IsWithin (scope : Scope) (s : State) (c : Meant) (r : Rest) : Type 0 where
   pub ascends : r.next ≤ r.end
   pub within : r.end ≤ length (loop_over scope s r.over c)
   pub witnesses : HasWitnesses s r.over
+  pub signed : IsSigned r.over c
 
 abbrev pub AreThere : Scope → State → Meant → Option Rest → Type 0
 AreThere scope s c None = Unit {0}

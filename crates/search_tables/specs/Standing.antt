@@ -24,7 +24,7 @@ use Rattle.command_queue.specs.declared.entry.Entry.{Entry}
 use Rattle.command_queue.specs.Queue.{Queue}
 use Rattle.search_tables.specs.declared.command.Planned.{Planned}
 use Rattle.search_tables.specs.declared.command.Delays.{Delays}
-use Rattle.search_tables.specs.declared.tables.Ground.{Ground}
+use Rattle.search_tables.specs.declared.tables.Basis.{Basis}
 use Rattle.search_tables.specs.declared.tables.Tables.{Tables}
 use Rattle.search_tables.specs.Delays.{the_mode}
 use Rattle.search_tables.specs.Names.{Names, typed_at, IsNumber, IsPlace}
@@ -35,32 +35,32 @@ use Rattle.search_tables.specs.Pending.{loop_at, IsEntry}
 abbrev pub declared_scope : Content → Scope
 declared_scope b = record { bases = length b.bases; names = map (λ c. c.type) b.consts; witnesses = [] }
 
-abbrev pub rows_in : Ground → List Row
+abbrev pub rows_in : Basis → List Row
 rows_in g = rows_of g.bank.terms g.witnesses
 
 -- what is declared, with the witnesses
-abbrev pub scope_by : Ground → Scope
+abbrev pub scope_by : Basis → Scope
 scope_by g = with_rows (declared_scope g.bank) (rows_in g)
 
 abbrev pub setting_by : Tables → Queue Planned Delays → Setting
-setting_by t q = record { scope = declared_scope t.ground.bank; mode = the_mode q.rule.mode }
+setting_by t q = record { scope = declared_scope t.basis.bank; mode = the_mode q.rule.mode }
 
 abbrev pub sketches_in : Tables → List Sketch
-sketches_in t = sketches_of (scope_by t.ground) (map the_hole_head t.heads) t.stems.items
+sketches_in t = sketches_of (scope_by t.basis) (map the_hole_head t.heads) t.stems.items
 
 abbrev pub names_in : Tables → Names
-names_in t = record { terms = t.ground.bank.terms; atoms = t.ground.lits; sketches = sketches_in t; heads = map the_hole_head t.heads }
+names_in t = record { terms = t.basis.bank.terms; atoms = t.basis.lits; sketches = sketches_in t; heads = map the_hole_head t.heads }
 
 -- the state without the commands that wait
 abbrev pub parts : Tables → State
 parts t = record {
-  clauses = map (map (literal_at t.ground.bank.terms t.ground.lits)) (the_clauses t.steps);
-  seen = map (literal_at t.ground.bank.terms t.ground.lits) t.seen;
-  noted = map (literal_at t.ground.bank.terms t.ground.lits) t.noted.items;
-  terms = map (typed_at t.ground.bank.terms) t.terms;
-  chosen = map (term_at t.ground.bank.terms) t.chosen;
-  described = map (term_at t.ground.bank.terms) t.described;
-  rows = rows_in t.ground;
+  clauses = map (map (literal_at t.basis.bank.terms t.basis.lits)) (the_clauses t.steps);
+  seen = map (literal_at t.basis.bank.terms t.basis.lits) t.seen;
+  noted = map (literal_at t.basis.bank.terms t.basis.lits) t.noted.items;
+  terms = map (typed_at t.basis.bank.terms) t.terms;
+  chosen = map (term_at t.basis.bank.terms) t.chosen;
+  described = map (term_at t.basis.bank.terms) t.described;
+  rows = rows_in t.basis;
   parked = sketches_in t;
   queue = [];
   pushes = 0;
@@ -70,15 +70,15 @@ parts t = record {
 -- of the state, what loops of commands go over
 abbrev pub sources : Tables → State
 sources t = record nothing_yet {
-  noted = map (literal_at t.ground.bank.terms t.ground.lits) t.noted.items;
-  terms = map (typed_at t.ground.bank.terms) t.terms;
-  rows = rows_in t.ground;
+  noted = map (literal_at t.basis.bank.terms t.basis.lits) t.noted.items;
+  terms = map (typed_at t.basis.bank.terms) t.terms;
+  rows = rows_in t.basis;
   parked = sketches_in t
 }
 
 -- the loops of the commands that wait
 abbrev pub loops_in : Tables → List (Entry Planned) → List (Loop Command)
-loops_in t entries = map (loop_at (declared_scope t.ground.bank) (names_in t) (sources t)) entries
+loops_in t entries = map (loop_at (declared_scope t.basis.bank) (names_in t) (sources t)) entries
 
 -- the state that the tables and the commands that wait stand for
 abbrev pub the_state : Tables → Queue Planned Delays → State
@@ -98,7 +98,7 @@ places_where test n [] = []
 places_where test n (x ∷ xs) = if test x then n ∷ places_where test (suc n) xs else places_where test (suc n) xs
 
 -- atoms, rows and what was worked out are right over the bank, and the witnesses with types are those of the rows
-pub record IsGround (g : Ground) : Type 0 where
+pub record IsBasis (g : Basis) : Type 0 where
   pub atoms : All (IsAtom g.bank) g.lits
   pub rows : AreRows g.bank g.witnesses
   pub typed : map (λ r. r.type) (rows_in g) ≡ g.bank.witnesses
@@ -106,16 +106,16 @@ pub record IsGround (g : Ground) : Type 0 where
 
 -- the numbers in the tables are those of atoms, terms, partial terms and heads, and what is kept twice agrees
 pub record IsRight (t : Tables) (q : Queue Planned Delays) : Type 0 where
-  pub ground : IsGround t.ground
-  pub clauses : Each (Each (IsNumber t.ground.lits)) (the_clauses t.steps)
+  pub basis : IsBasis t.basis
+  pub clauses : Each (Each (IsNumber t.basis.lits)) (the_clauses t.steps)
   pub solver : t.solver.clauses ≡ the_clauses t.steps
-  pub seen : Each (IsNumber t.ground.lits) t.seen
-  pub noted : Each (IsNumber t.ground.lits) t.noted.items
-  pub universals : (a : SimpleType) → ids_of a t.universals ≡ map (λ l. l.var.0) (filter (is_universal t.ground.bank.terms t.ground.lits a) t.noted.items)
-  pub terms : Each (λ u. IsPlace t.ground.bank.terms u.1) t.terms
-  pub chosen : Each (IsPlace t.ground.bank.terms) t.chosen
-  pub described : Each (IsPlace t.ground.bank.terms) t.described
+  pub seen : Each (IsNumber t.basis.lits) t.seen
+  pub noted : Each (IsNumber t.basis.lits) t.noted.items
+  pub universals : (a : SimpleType) → ids_of a t.universals ≡ map (λ l. l.var.0) (filter (is_universal t.basis.bank.terms t.basis.lits a) t.noted.items)
+  pub terms : Each (λ u. IsPlace t.basis.bank.terms u.1) t.terms
+  pub chosen : Each (IsPlace t.basis.bank.terms) t.chosen
+  pub described : Each (IsPlace t.basis.bank.terms) t.described
   pub stems : AreStems (length t.heads) 0 t.stems.items
   pub holes : (n : ℕ) → ids_of (base n) t.holes ≡ places_where (has_hole_of n) 0 (sketches_in t)
   pub budget : length (learned t.solver) ≤ q.rule.mode.conflicts
-  pub queue : Each (λ e. IsEntry (declared_scope t.ground.bank) (names_in t) (sources t) e.command) q.entries
+  pub queue : Each (λ e. IsEntry (declared_scope t.basis.bank) (names_in t) (sources t) e.command) q.entries

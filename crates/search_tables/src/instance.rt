@@ -20,22 +20,22 @@ impl<W: Weigher<Command>> Core<W> {
     /// for their entries is made before the clauses are added.
     pub fn add_instance(&mut self, instance: Instance) -> Result<(), AllocError>
         requires right { IsRight self.old.tables self.old.plan }
-        requires principals { Each (IsNumber self.old.tables.ground.lits) instance.principals }
-        requires alternatives { Each (Each (IsNumber self.old.tables.ground.lits)) instance.alternatives }
-        ensures state { OnOk result (let d = literal_at self.old.tables.ground.bank.terms self.old.tables.ground.lits in the_state self.new.tables self.new.plan ≡ with_instance (the_mode self.old.plan.rule.mode) (map d instance.principals) (map (map d) instance.alternatives) (the_state self.old.tables self.old.plan)) }
+        requires principals { Each (IsNumber self.old.tables.basis.lits) instance.principals }
+        requires alternatives { Each (Each (IsNumber self.old.tables.basis.lits)) instance.alternatives }
+        ensures state { OnOk result (let d = literal_at self.old.tables.basis.bank.terms self.old.tables.basis.lits in the_state self.new.tables self.new.plan ≡ with_instance (the_mode self.old.plan.rule.mode) (map d instance.principals) (map (map d) instance.alternatives) (the_state self.old.tables self.old.plan)) }
         ensures right { OnOk result (IsRight self.new.tables self.new.plan) }
         ensures tables { OnOk result (self.new.tables ≡ record self.old.tables { seen = self.new.tables.seen; steps = self.new.tables.steps; solver = self.new.tables.solver }) }
         ensures rule { OnOk result (self.new.plan.rule ≡ self.old.plan.rule) }
     {
-        let ground = &self.tables.ground;
-        equal_ids_for_equal_terms(&ground.bank);
-        ground.lits.atoms_differ();
-        if !all_shallow(&ground.bank, &ground.lits, &instance.alternatives) {
+        let basis = &self.tables.basis;
+        equal_ids_for_equal_terms(&basis.bank);
+        basis.lits.atoms_differ();
+        if !all_shallow(&basis.bank, &basis.lits, &instance.alternatives) {
             return Ok(());
         }
         let lits = joined(self.tables.alloc, &instance.alternatives)?;
         self.plan.reserve(lits.len())?;
-        let atoms = self.tables.ground.lits.len();
+        let atoms = self.tables.basis.lits.len();
         add_clauses(&mut self.tables.steps, &mut self.tables.solver, atoms, instance)?;
         self.see_all(lits.as_slice())?;
         Ok(())

@@ -10,8 +10,10 @@ mod pushing;
 mod rests;
 mod rule;
 mod set;
+mod solving;
 mod stem;
 mod tables;
+mod taking;
 mod terms;
 
 pub use clauses::DEPTH;
@@ -20,4 +22,4 @@ pub use head::{HeadSet, HoleHead, head_of};
 pub use plan::Plan;
 pub use set::{IdSet, LitSet};
 pub use stem::Stem;
-pub use tables::{Core, Ground, Tables};
+pub use tables::{Core, Basis, Tables};

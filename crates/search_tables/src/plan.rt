@@ -101,6 +101,13 @@ impl<W: Weigher<Command>> Plan<W> {
         self.agenda.reserve(n)
     }
 
+    /// How many commands were pushed so far.
+    pub fn pushes(&self) -> u64
+        ensures { result ≡ self.now.pushes }
+    {
+        self.agenda.pushes()
+    }
+
     pub fn is_empty(&self) -> bool
         ensures { IsTrue result ↔ (self.now.entries ≡ []) }
     {

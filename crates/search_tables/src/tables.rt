@@ -18,7 +18,7 @@ use witness_names::Witnesses;
 
 /// Terms, the literals of formulas, and witnesses.
 #[derive(Drop)]
-pub struct Ground {
+pub struct Basis {
     pub bank: Bank,
     pub normal: Normaliser,
     pub lits: LitTable,
@@ -31,7 +31,7 @@ pub struct Ground {
 /// holes; and how many commands were carried out.
 #[derive(Drop)]
 pub struct Tables {
-    pub ground: Ground,
+    pub basis: Basis,
     pub steps: StepTable,
     pub solver: Solver,
     pub seen: LitSet,

@@ -29,13 +29,13 @@ impl<W: Weigher<Command>> Core<W> {
     /// A term of a type is for instances: where it is new, each universal literal over the type is to be instantiated with it.
     pub fn add_term(&mut self, ty: &Ty, id: Id) -> Result<(), AllocError>
         requires right { IsRight self.old.tables self.old.plan }
-        requires place { IsPlace self.old.tables.ground.bank.terms id }
-        ensures state { OnOk result (the_state self.new.tables self.new.plan ≡ with_term (the_mode self.old.plan.rule.mode) (the_type ty.now) (term_at self.old.tables.ground.bank.terms id) (the_state self.old.tables self.old.plan)) }
+        requires place { IsPlace self.old.tables.basis.bank.terms id }
+        ensures state { OnOk result (the_state self.new.tables self.new.plan ≡ with_term (the_mode self.old.plan.rule.mode) (the_type ty.now) (term_at self.old.tables.basis.bank.terms id) (the_state self.old.tables self.old.plan)) }
         ensures right { OnOk result (IsRight self.new.tables self.new.plan) }
         ensures tables { OnOk result (self.new.tables ≡ record self.old.tables { terms = self.new.tables.terms }) }
         ensures rule { OnOk result (self.new.plan.rule ≡ self.old.plan.rule) }
     {
-        equal_ids_for_equal_terms(&self.tables.ground.bank);
+        equal_ids_for_equal_terms(&self.tables.basis.bank);
         if !self.tables.terms.add_term(ty, id)? {
             return Ok(());
         }

@@ -42,14 +42,14 @@ see_all-requires-clause-right g c =
 
 pub see_all-requires-clause-numbers : goal.see_all-requires-clause-numbers
 see_all-requires-clause-numbers g c =
-    subst (Each (IsNumber c.args.self.now.tables.ground.lits)) (sym (c.as_slice.ensures.value ∙ c.in_ok-lits.ensures))
-    (each-flat (IsNumber c.args.self.now.tables.ground.lits) c.args.instance.alternatives c.requires.alternatives)
+    subst (Each (IsNumber c.args.self.now.tables.basis.lits)) (sym (c.as_slice.ensures.value ∙ c.in_ok-lits.ensures))
+    (each-flat (IsNumber c.args.self.now.tables.basis.lits) c.args.instance.alternatives c.requires.alternatives)
 
 pub returns-clause-state : goal.returns-clause-state
 returns-clause-state g c =
     let self = c.args.self.now in
     let i = c.args.instance in
-    let d : SatLit → Literal = literal_at self.tables.ground.bank.terms self.tables.ground.lits in
+    let d : SatLit → Literal = literal_at self.tables.basis.bank.terms self.tables.basis.lits in
     let t = record self.tables { steps = c.add_clauses.new.steps; solver = c.add_clauses.new.solver } in
     let all : List SatLit = flat_map (λ (a : List SatLit). a) i.alternatives in
     c.in_ok-see_all.ensures.state

@@ -45,12 +45,12 @@ pub returns-then-count-eq0-clause-state : goal.returns-then-count-eq0-clause-sta
 returns-then-count-eq0-clause-state g c =
     let self = c.args.self.now in
     let a = the_type c.args.ty.now in
-    let u = term_at self.tables.ground.bank.terms c.args.id in
+    let u = term_at self.tables.basis.bank.terms c.args.id in
     let after = the_state (record self.tables { terms = c.add_term.new.self }) self.plan in
     let mode = the_mode self.plan.rule.mode in
     let none : ids_of a self.tables.universals ≡ [] = sym c.terms_of-universals.ensures ∙ no-head c.terms_of-universals.result.now (omega (arith, c.if-count-eq0.true)) in
     sym (pushed-nothing mode after)
-    ∙ ap (λ (vs : List ℕ). pushed mode (map (λ l. inst l u) (map (literal_at self.tables.ground.bank.terms self.tables.ground.lits) (map universal_of vs))) after) (sym none)
+    ∙ ap (λ (vs : List ℕ). pushed mode (map (λ l. inst l u) (map (literal_at self.tables.basis.bank.terms self.tables.basis.lits) (map universal_of vs))) after) (sym none)
     ∙ ap (λ ls. pushed mode (map (λ l. inst l u) ls) after) (sym (universals-are self.tables self.plan c.requires.right a))
     ∙ is-new self.tables self.plan c.requires.right a c.args.id c.requires.place c.equal_ids_for_equal_terms.ensures mode c.add_term.new.self c.in_ok-add_term.ensures.ok
       (was_new (list_any (nat_eq c.args.id) (ids_of a self.tables.terms)) (sym c.in_ok-add_term.ensures.fresh ∙ c.if-not-branch.false))
@@ -66,7 +66,7 @@ push_whole-requires-clause-numbers g c =
     let a = the_type c.args.ty.now in
     let vs = c.terms_of-universals.result.now in
     let ids : ids_of a self.tables.universals ≡ get_or vs 0 0 ∷ drop 1 vs = sym c.terms_of-universals.ensures ∙ head-is vs (omega (arith, c.if-count-eq0.false)) in
-    let N : SatLit → Type 0 = λ l. l.var.0 < length self.tables.ground.lits in
+    let N : SatLit → Type 0 = λ l. l.var.0 < length self.tables.basis.lits in
     (subst N (sym c.universal.ensures) (first-number self.tables self.plan c.requires.right a (get_or vs 0 0) (drop 1 vs) ids), c.requires.place)
 
 pub push_whole-requires-clause-begins : goal.push_whole-requires-clause-begins
@@ -76,7 +76,7 @@ push_whole-requires-clause-begins g c =
     let a = the_type c.args.ty.now in
     let vs = c.terms_of-universals.result.now in
     let ids : ids_of a self.tables.universals ≡ get_or vs 0 0 ∷ drop 1 vs = sym c.terms_of-universals.ensures ∙ head-is vs (omega (arith, c.if-count-eq0.false)) in
-    let B : SatLit → Type 0 = λ l. let d = command_at (names_in t) (Inst l c.args.id) in BeginsWith d (loop_over (declared_scope t.ground.bank) (sources t) Universals d) in
+    let B : SatLit → Type 0 = λ l. let d = command_at (names_in t) (Inst l c.args.id) in BeginsWith d (loop_over (declared_scope t.basis.bank) (sources t) Universals d) in
     subst B (sym c.universal.ensures)
     (_, universals-loop self.tables self.plan c.requires.right a (get_or vs 0 0) (drop 1 vs) ids c.args.id ∙ universals-begin self.tables self.plan c.requires.right a (get_or vs 0 0) (drop 1 vs) ids c.args.id)
 
@@ -85,10 +85,10 @@ push_whole-requires-clause-count g c =
     let self = c.args.self.now in
     let t = record self.tables { terms = c.add_term.new.self } in
     let a = the_type c.args.ty.now in
-    let u = term_at self.tables.ground.bank.terms c.args.id in
+    let u = term_at self.tables.basis.bank.terms c.args.id in
     let vs = c.terms_of-universals.result.now in
     let ids : ids_of a self.tables.universals ≡ get_or vs 0 0 ∷ drop 1 vs = sym c.terms_of-universals.ensures ∙ head-is vs (omega (arith, c.if-count-eq0.false)) in
-    let C : SatLit → Type 0 = λ l. length vs ≡ length (loop_over (declared_scope t.ground.bank) (sources t) Universals (command_at (names_in t) (Inst l c.args.id))) in
+    let C : SatLit → Type 0 = λ l. length vs ≡ length (loop_over (declared_scope t.basis.bank) (sources t) Universals (command_at (names_in t) (Inst l c.args.id))) in
     subst C (sym c.universal.ensures)
     (ap length c.terms_of-universals.ensures ∙ sym (universals-length self.tables self.plan c.requires.right a u)
     ∙ ap length (sym (universals-loop self.tables self.plan c.requires.right a (get_or vs 0 0) (drop 1 vs) ids c.args.id)))
@@ -103,7 +103,7 @@ returns-clause-state g c =
     let vs = c.terms_of-universals.result.now in
     let ids : ids_of a self.tables.universals ≡ get_or vs 0 0 ∷ drop 1 vs = sym c.terms_of-universals.ensures ∙ head-is vs (omega (arith, c.if-count-eq0.false)) in
     c.in_ok-push_whole.ensures.state
-    ∙ ap (λ (l : SatLit). pushed mode (loop_over (declared_scope t.ground.bank) (sources t) Universals (command_at (names_in t) (Inst l c.args.id))) after) c.universal.ensures
+    ∙ ap (λ (l : SatLit). pushed mode (loop_over (declared_scope t.basis.bank) (sources t) Universals (command_at (names_in t) (Inst l c.args.id))) after) c.universal.ensures
     ∙ ap (λ (cs : List Meant). pushed mode cs after) (universals-loop self.tables self.plan c.requires.right a (get_or vs 0 0) (drop 1 vs) ids c.args.id)
     ∙ is-new self.tables self.plan c.requires.right a c.args.id c.requires.place c.equal_ids_for_equal_terms.ensures mode c.add_term.new.self c.in_ok-add_term.ensures.ok
       (was_new (list_any (nat_eq c.args.id) (ids_of a self.tables.terms)) (sym c.in_ok-add_term.ensures.fresh ∙ c.if-not-branch.false))

@@ -20,25 +20,25 @@ add_instance-requires-clause-right g c =
 
 pub add_instance-requires-clause-principals : goal.add_instance-requires-clause-principals
 add_instance-requires-clause-principals g c =
-    let old = c.args.self.now.tables.ground in
+    let old = c.args.self.now.tables.basis in
     let new = c.make_instance.new.self in
     let grows = c.in_ok-instance.ensures.grows in
     subst (Each (IsNumber new.lits)) (sym c.in_ok-instance.ensures.principals)
-    (more-numbers old new grows (principals_of c.args.by) (principal-numbers old new grows c.requires.right.ground c.args.by c.requires.first c.requires.second c.requires.term))
+    (more-numbers old new grows (principals_of c.args.by) (principal-numbers old new grows c.requires.right.basis c.args.by c.requires.first c.requires.second c.requires.term))
 
 pub returns-clause-state : goal.returns-clause-state
 returns-clause-state g c = λ alternatives h.
     let self = c.args.self.now in
-    let old = self.tables.ground in
+    let old = self.tables.basis in
     let new = c.make_instance.new.self in
     let grows = c.in_ok-instance.ensures.grows in
-    let t = record self.tables { ground = new } in
+    let t = record self.tables { basis = new } in
     let mode = the_mode self.plan.rule.mode in
     let d : SatLit → Literal = literal_at new.bank.terms new.lits in
     let made = map (map d) c.in_ok-instance.instance.alternatives in
     c.in_ok-add_instance.ensures.state
     ∙ ap (λ (ps : List SatLit). with_instance mode (map d ps) made (the_state t self.plan)) c.in_ok-instance.ensures.principals
-    ∙ ap (λ (ps : List Literal). with_instance mode ps made (the_state t self.plan)) (principals_same old new grows c.requires.right.ground c.args.by c.requires.first c.requires.second c.requires.term)
+    ∙ ap (λ (ps : List Literal). with_instance mode ps made (the_state t self.plan)) (principals_same old new grows c.requires.right.basis c.args.by c.requires.first c.requires.second c.requires.term)
     ∙ ap (λ (as' : List (List Literal)). with_instance mode (map (literal_at old.bank.terms old.lits) (principals_of c.args.by)) as' (the_state t self.plan))
-      (same-alternatives old new grows c.requires.right.ground c.args.by c.requires.first c.requires.second c.requires.term alternatives made h c.in_ok-instance.ensures.instance)
+      (same-alternatives old new grows c.requires.right.basis c.args.by c.requires.first c.requires.second c.requires.term alternatives made h c.in_ok-instance.ensures.instance)
     ∙ ap (λ (s : State). with_instance mode (map (literal_at old.bank.terms old.lits) (principals_of c.args.by)) alternatives s) (state-stays self.tables self.plan new grows c.requires.right)

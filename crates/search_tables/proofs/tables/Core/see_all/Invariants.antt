@@ -11,5 +11,5 @@ invariant-loop-i g l = record {
   right : IsRight l.self.tables l.self.plan;
   tables : l.self.tables ≡ record l.fn.self.tables { seen = l.self.tables.seen };
   rule : l.self.plan.rule ≡ l.fn.self.plan.rule;
-  state : with_literals (the_mode l.fn.self.plan.rule.mode) (map (literal_at l.fn.self.tables.ground.bank.terms l.fn.self.tables.ground.lits) (drop l.i l.lits)) (the_state l.self.tables l.self.plan) ≡ with_literals (the_mode l.fn.self.plan.rule.mode) (map (literal_at l.fn.self.tables.ground.bank.terms l.fn.self.tables.ground.lits) l.lits) (the_state l.fn.self.tables l.fn.self.plan);
+  state : with_literals (the_mode l.fn.self.plan.rule.mode) (map (literal_at l.fn.self.tables.basis.bank.terms l.fn.self.tables.basis.lits) (drop l.i l.lits)) (the_state l.self.tables l.self.plan) ≡ with_literals (the_mode l.fn.self.plan.rule.mode) (map (literal_at l.fn.self.tables.basis.bank.terms l.fn.self.tables.basis.lits) l.lits) (the_state l.fn.self.tables l.fn.self.plan);
 }

@@ -1,7 +1,7 @@
 use Rattle.std.proofs.Common.{Err, ap, ◌∙◌}
-use Rattle.search_tables.specs.declared.tables.Ground.{Ground}
+use Rattle.search_tables.specs.declared.tables.Basis.{Basis}
 use Rattle.search_tables.proofs.RuleLaws.{widened-grows, no-witness}
-use Rattle.search_tables.proofs.tables.Ground.make_instance.Goals as goal
+use Rattle.search_tables.proofs.tables.Basis.make_instance.Goals as goal
 
 pub unreachable-requires : goal.unreachable-requires
 unreachable-requires c = c.make-made.ensures.not_this_rule (c.in-Err.is ∙ ap Err c.in-NotThisRule.is) _ c.requires.fits.0 c.requires.fits.1
@@ -9,7 +9,7 @@ unreachable-requires c = c.make-made.ensures.not_this_rule (c.in-Err.is ∙ ap E
 pub returns-in-Ok-clause-grows : goal.returns-in-Ok-clause-grows
 returns-in-Ok-clause-grows c =
     let old = c.args.self.now in
-    let new : Ground = record { bank = c.make-made.new.bank; normal = c.make-made.new.normal; lits = c.make-made.new.lits; witnesses = c.make-made.new.witnesses } in
+    let new : Basis = record { bank = c.make-made.new.bank; normal = c.make-made.new.normal; lits = c.make-made.new.lits; witnesses = c.make-made.new.witnesses } in
     let by = c.args.by.now in
     let same = no-witness new.bank new.lits by.kind by.first old.witnesses new.witnesses c.requires.kind c.in-Ok.ensures.witnesses in
     record {
