@@ -58,7 +58,7 @@ module _ (t : Tables) (q : Queue Planned Delays) (equal : EqualIdsForEqualTerms 
       let s = stand t.basis.bank t.basis.lits r.basis.atoms equal differ in
       ap (with_clauses formulas before.clauses) (instance_clauses-mapped numbers formulas (IsNumber t.basis.lits) d s ps as' gp ga)
       ∙ with_clauses-mapped numbers formulas (IsNumber t.basis.lits) d s (the_clauses t.steps) (instance_clauses numbers ps as') r.clauses
-        (instance_clauses_good numbers formulas (IsNumber t.basis.lits) d s ps as' gp ga)
+      (instance_clauses_good numbers formulas (IsNumber t.basis.lits) d s ps as' gp ga)
 
   abbrev with_all : State
   with_all = with_literals mode (flat_map (λ (a : List Literal). a) (map (map d) as')) (record before { clauses = further })
@@ -77,10 +77,19 @@ module _ (t : Tables) (q : Queue Planned Delays) (equal : EqualIdsForEqualTerms 
 
   pub right-added : (x : Table) (y : SolverState) → the_clauses x ≡ more → y.clauses ≡ the_clauses x → learned y ≡ learned t.solver → IsRight (record t { steps = x; solver = y }) q
   right-added x y is same learns =
-    let B : List (List SatLit) → Type 0 = λ ls. length ls ≤ q.rule.mode.conflicts in
-    record {
-    basis = r.basis; seen = r.seen; noted = r.noted; universals = r.universals; terms = r.terms;
-    chosen = r.chosen; described = r.described; stems = r.stems; holes = r.holes; budget = subst B (sym learns) r.budget; queue = r.queue;
-    clauses = subst (Each (Each (IsNumber t.basis.lits))) (sym is) clauses_are_numbers;
-    solver = same;
-  }
+      let B : List (List SatLit) → Type 0 = λ ls. length ls ≤ q.rule.mode.conflicts in
+      record {
+        basis = r.basis;
+        seen = r.seen;
+        noted = r.noted;
+        universals = r.universals;
+        terms = r.terms;
+        chosen = r.chosen;
+        described = r.described;
+        stems = r.stems;
+        holes = r.holes;
+        budget = subst B (sym learns) r.budget;
+        queue = r.queue;
+        clauses = subst (Each (Each (IsNumber t.basis.lits))) (sym is) clauses_are_numbers;
+        solver = same;
+      }

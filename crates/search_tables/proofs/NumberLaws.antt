@@ -59,6 +59,7 @@ module _ (b : Content) (atoms : List ℕ) (good : All (IsAtom b) atoms) where
     -- Clauses of numbers are unsatisfiable exactly where the clauses that they stand for are.
     pub unsatisfiable-numbers : (cs : List (List SatLit)) → Each (Each (IsNumber atoms)) cs → Unsat cs ↔ Unsatisfiable (map (map (literal_at b.terms atoms)) cs)
     unsatisfiable-numbers cs h =
-        let U : List (List Literal) → Type 0 = λ x. Unsatisfiable x in
-        ((λ u. subst U (clauses_named cs h) (unsatisfiable_formulas named cs (clauses_number cs h) u)),
-        (λ u. unsatisfiable_numbers named apart cs (clauses_number cs h) (subst U (sym (clauses_named cs h)) u)))
+        let U : List (List Literal) → Type 0 = λ x. Unsatisfiable x in (
+          (λ u. subst U (clauses_named cs h) (unsatisfiable_formulas named cs (clauses_number cs h) u)),
+          (λ u. unsatisfiable_numbers named apart cs (clauses_number cs h) (subst U (sym (clauses_named cs h)) u)),
+        )

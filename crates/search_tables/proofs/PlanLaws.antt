@@ -93,11 +93,11 @@ module _ {R : Type 0} where
       stands = ap (planned rests) takes.stands ∙ map-append (planned_at rests) takes.before (e ∷ takes.behind);
       leaves = left_are ∙ ap (planned rests) takes.leaves ∙ map-append (planned_at rests) takes.before takes.behind;
       least =
-        All-from_each (IsBefore (planned_at rests e)) (planned rests' new.entries)
-        (each-map (IsBefore (planned_at rests e)) (planned_at rests') new.entries (each-weaker (IsBefore e) (λ x. IsBefore (planned_at rests e) (planned_at rests' x)) (λ x h. h) new.entries (each-from_All (IsBefore e) new.entries takes.least)));
+          All-from_each (IsBefore (planned_at rests e)) (planned rests' new.entries)
+          (each-map (IsBefore (planned_at rests e)) (planned_at rests') new.entries (each-weaker (IsBefore e) (λ x. IsBefore (planned_at rests e) (planned_at rests' x)) (λ x h. h) new.entries (each-from_All (IsBefore e) new.entries takes.least)));
       others =
-        All-from_each (λ (x : Entry Planned). x.number ≢ e.number) (planned rests' new.entries)
-        (each-map (λ (x : Entry Planned). x.number ≢ e.number) (planned_at rests') new.entries others_differ);
+          All-from_each (λ (x : Entry Planned). x.number ≢ e.number) (planned rests' new.entries)
+          (each-map (λ (x : Entry Planned). x.number ≢ e.number) (planned_at rests') new.entries others_differ);
       taken = takes.taken;
       pushes = takes.pushes;
       spare = takes.spare;
@@ -133,17 +133,17 @@ module _ {R : Type 0} where
         behind = planned rests adds.behind;
         stood = ap (planned rests) adds.stood ∙ map-append (planned_at rests) adds.before adds.behind;
         stands =
-          ap (planned rests') adds.stands
-          ∙ map-append (planned_at rests') adds.before (record { due = e.due; number = e.number; command = e.command.first } ∷ adds.behind)
-          ∙ ap₂ (λ (xs ys : List (Entry Planned)). xs ++ ys)
+            ap (planned rests') adds.stands
+            ∙ map-append (planned_at rests') adds.before (record { due = e.due; number = e.number; command = e.command.first } ∷ adds.behind)
+            ∙ ap₂ (λ (xs ys : List (Entry Planned)). xs ++ ys)
             (others-stay rests rests' e.number e.command.rest sets adds.before (each-left (Differs e.number) adds.before adds.behind parts_differ))
             (ap₂ (λ (x : Entry Planned) (ys : List (Entry Planned)). x ∷ ys) joined_is (others-stay rests rests' e.number e.command.rest sets adds.behind (each-right (Differs e.number) adds.before adds.behind parts_differ)));
         below =
-          All-from_each (λ (x : Entry Planned). x.number < e.number) (planned rests adds.before)
-          (each-map (λ (x : Entry Planned). x.number < e.number) (planned_at rests) adds.before (each-from_All (λ (x : Entry Command). x.number < e.number) adds.before adds.below));
+            All-from_each (λ (x : Entry Planned). x.number < e.number) (planned rests adds.before)
+            (each-map (λ (x : Entry Planned). x.number < e.number) (planned_at rests) adds.before (each-from_All (λ (x : Entry Command). x.number < e.number) adds.before adds.below));
         above =
-          All-from_each (λ (x : Entry Planned). e.number < x.number) (planned rests adds.behind)
-          (each-map (λ (x : Entry Planned). e.number < x.number) (planned_at rests) adds.behind (each-from_All (λ (x : Entry Command). e.number < x.number) adds.behind adds.above));
+            All-from_each (λ (x : Entry Planned). e.number < x.number) (planned rests adds.behind)
+            (each-map (λ (x : Entry Planned). e.number < x.number) (planned_at rests) adds.behind (each-from_All (λ (x : Entry Command). e.number < x.number) adds.behind adds.above));
         pushes = adds.pushes;
         spare = adds.spare;
         rule = adds.rule;

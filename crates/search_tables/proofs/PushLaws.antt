@@ -157,9 +157,11 @@ module _ (t : Tables) (old new : Queue Planned Delays) (p : Planned) (entry : Is
   added = record { due = t.done + delay_by old.rule.mode p.first; number = old.pushes; command = p }
 
   delays_are : Each (λ c. due (the_mode old.rule.mode) t.done c ≡ t.done + delay_by old.rule.mode p.first) commands
-  delays_are =
-      (ap (λ d. t.done + d) (delay-numbered old.rule.mode (names_in t) p.first), each_due (later_of scope (sources t) first p.rest)
-      (later_waits (the_mode old.rule.mode) scope (sources t) first p.rest))
+  delays_are = (
+    ap (λ d. t.done + d) (delay-numbered old.rule.mode (names_in t) p.first),
+    each_due (later_of scope (sources t) first p.rest)
+        (later_waits (the_mode old.rule.mode) scope (sources t) first p.rest),
+  )
     where
       each_due : (cs : List Meant) → Each (WaitsLike (the_mode old.rule.mode) first) cs → Each (λ c. due (the_mode old.rule.mode) t.done c ≡ t.done + delay_by old.rule.mode p.first) cs
       each_due [] h = tt
@@ -183,7 +185,17 @@ module _ (t : Tables) (old new : Queue Planned Delays) (p : Planned) (entry : Is
       let B : Delays → Type 0 = λ d. length (learned t.solver) ≤ d.mode.conflicts in
       let Q : List (Entry Planned) → Type 0 = λ es. Each (λ e. IsEntry scope (names_in t) (sources t) e.command) es in
       record {
-    basis = r.basis; clauses = r.clauses; solver = r.solver; seen = r.seen; noted = r.noted; universals = r.universals; terms = r.terms;
-    chosen = r.chosen; described = r.described; stems = r.stems; holes = r.holes; budget = subst B (sym adds.rule) r.budget;
-    queue = subst Q (sym adds.entries) (each-last (λ e. IsEntry scope (names_in t) (sources t) e.command) old.entries added r.queue entry);
-  }
+        basis = r.basis;
+        clauses = r.clauses;
+        solver = r.solver;
+        seen = r.seen;
+        noted = r.noted;
+        universals = r.universals;
+        terms = r.terms;
+        chosen = r.chosen;
+        described = r.described;
+        stems = r.stems;
+        holes = r.holes;
+        budget = subst B (sym adds.rule) r.budget;
+        queue = subst Q (sym adds.entries) (each-last (λ e. IsEntry scope (names_in t) (sources t) e.command) old.entries added r.queue entry);
+      }

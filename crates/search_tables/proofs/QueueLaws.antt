@@ -81,8 +81,8 @@ module _ {D : Type 0} where
   one_goes_on before l behind h k =
       flat_map-append (λ x. if x.number == l.number then loop_left x.due x.number x.later else x ∷ []) before (l ∷ behind)
       ∙ ap₂ (λ xs ys. xs ++ ys) (others_stay l.number before h)
-        (ap (λ b. (if b then loop_left l.due l.number l.later else l ∷ []) ++ advanced l.number behind) (eq-eqb l.number l.number refl)
-        ∙ ap (λ ys. loop_left l.due l.number l.later ++ ys) (others_stay l.number behind k))
+      (ap (λ b. (if b then loop_left l.due l.number l.later else l ∷ []) ++ advanced l.number behind) (eq-eqb l.number l.number refl)
+      ∙ ap (λ ys. loop_left l.due l.number l.later ++ ys) (others_stay l.number behind k))
 
 -- two ways to part a list at a number are one
 parted_once : (n : ℕ) (xs ys xs' ys' : List (Entry Planned)) → xs ++ ys ≡ xs' ++ ys' → Each (λ x. x.number < n) xs → Each (λ x. n < x.number) ys → Each (λ x. x.number < n) xs' → Each (λ x. n < x.number) ys' → (xs ≡ xs') × (ys ≡ ys')
@@ -139,7 +139,7 @@ module _ {D : Type 0} (f : Entry Planned → Loop D) (due_is : (e : Entry Planne
       ∙ ap (λ es. next_command (map first_entry (map f es))) t.stands
       ∙ ap next_command (firsts t.before t.behind e)
       ∙ next-is (first_entry (f e)) (map first_entry (map f t.before)) (map first_entry (map f t.behind))
-        (earlier e t.before (each-left (IsBefore e) t.before t.behind least)) (earlier e t.behind (each-right (IsBefore e) t.before t.behind least))
+      (earlier e t.before (each-left (IsBefore e) t.before t.behind least)) (earlier e t.behind (each-right (IsBefore e) t.before t.behind least))
 
   differ_before : (n : ℕ) (xs : List (Entry Planned)) → Each (EndsBelow n) xs → Each (λ k. k.number ≡ n → ⊥) (map f xs)
   differ_before n [] h = tt
@@ -169,14 +169,14 @@ module _ {D : Type 0} (f : Entry Planned → Loop D) (due_is : (e : Entry Planne
       let below = before_ends before e behind n h in
       let above = behind_begins before e behind n h in
       let each : Each (IsFirstOrNone e.number) (map f (before ++ e ∷ behind)) =
-        subst P (sym (map-append f before (e ∷ behind)))
-        (joined_each (IsFirstOrNone e.number) (map f before) (f e ∷ map f behind) (outside_before e.number before below (each-left IsFull before (e ∷ behind) k))
-        (inl (number_is e), outside_behind e behind above)) in
+      subst P (sym (map-append f before (e ∷ behind)))
+      (joined_each (IsFirstOrNone e.number) (map f before) (f e ∷ map f behind) (outside_before e.number before below (each-left IsFull before (e ∷ behind) k))
+      (inl (number_is e), outside_behind e behind above)) in
       without_from_loops e.number (map f (before ++ e ∷ behind)) each
       ∙ ap (λ ls. queue_of (advanced e.number ls)) (map-append f before (e ∷ behind))
       ∙ ap (λ m. queue_of (advanced m (map f before ++ f e ∷ map f behind))) (sym (number_is e))
       ∙ ap queue_of (one_goes_on (map f before) (f e) (map f behind)
-        (renumbered (map f before) (differ_before e.number before below)) (renumbered (map f behind) (differ_behind e behind above)))
+      (renumbered (map f before) (differ_before e.number before below)) (renumbered (map f behind) (differ_behind e behind above)))
     where
       renumbered : (ls : List (Loop D)) → Each (λ k. k.number ≡ e.number → ⊥) ls → Each (λ k. k.number ≡ (f e).number → ⊥) ls
       renumbered ls g = each-weaker _ _ (λ l r q. r (q ∙ number_is e)) ls g
@@ -200,9 +200,9 @@ module _ {D : Type 0} (f : Entry Planned → Loop D) (due_is : (e : Entry Planne
       let h' = subst P t.stands h in
       let same : t.before ++ t.behind ≡ a.before ++ a.behind = sym t.leaves ∙ a.stood in
       let parts = parted_once e'.number t.before t.behind a.before a.behind same
-        (each-weaker (EndsBelow e.number) (λ x. x.number < e'.number) (λ x l. omega (arith, l, number_follows)) t.before (before_ends t.before e t.behind old.pushes h'))
-        (each-weaker (λ x. EndsBelow x.number e) (λ x. e'.number < x.number) (λ x l. omega (arith, l, number_follows, some)) t.behind (behind_begins t.before e t.behind old.pushes h'))
-        (each-from_All (λ x. x.number < e'.number) a.before a.below) (each-from_All (λ x. e'.number < x.number) a.behind a.above) in
+      (each-weaker (EndsBelow e.number) (λ x. x.number < e'.number) (λ x l. omega (arith, l, number_follows)) t.before (before_ends t.before e t.behind old.pushes h'))
+      (each-weaker (λ x. EndsBelow x.number e) (λ x. e'.number < x.number) (λ x l. omega (arith, l, number_follows, some)) t.behind (behind_begins t.before e t.behind old.pushes h'))
+      (each-from_All (λ x. x.number < e'.number) a.before a.below) (each-from_All (λ x. e'.number < x.number) a.behind a.above) in
       ap (λ es. without e.number (queue_of (map f es))) t.stands
       ∙ without-first t.before e t.behind old.pushes h' (subst (Each IsFull) t.stands k)
       ∙ ap (λ ls. queue_of (map f t.before ++ (ls ++ map f t.behind))) left

@@ -20,7 +20,17 @@ right-room t q q' room r =
     let B : Delays → Type 0 = λ d. length (learned t.solver) ≤ d.mode.conflicts in
     let Q : List (Entry Planned) → Type 0 = λ es. Each (λ e. IsEntry (declared_scope t.basis.bank) (names_in t) (sources t) e.command) es in
     record {
-      basis = r.basis; clauses = r.clauses; solver = r.solver; seen = r.seen; noted = r.noted; universals = r.universals; terms = r.terms;
-      chosen = r.chosen; described = r.described; stems = r.stems; holes = r.holes; budget = subst B (sym room.rule) r.budget;
+      basis = r.basis;
+      clauses = r.clauses;
+      solver = r.solver;
+      seen = r.seen;
+      noted = r.noted;
+      universals = r.universals;
+      terms = r.terms;
+      chosen = r.chosen;
+      described = r.described;
+      stems = r.stems;
+      holes = r.holes;
+      budget = subst B (sym room.rule) r.budget;
       queue = subst Q (sym room.entries) r.queue;
     }

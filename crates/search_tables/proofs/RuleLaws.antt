@@ -97,7 +97,10 @@ module _ (old new : Basis) (grows : BasisGrows old new) (good : IsBasis old) whe
 -- a bank that has become wider by no witness has grown
 pub widened-grows : (old new : Basis) → IsBasis old → Widens old.bank new.bank → new.witnesses ≡ old.witnesses → map (λ (r : Row). r.type) (rows_in new) ≡ new.bank.witnesses → Grows old.bank new.bank
 widened-grows old new good w same types = record {
-  bases = w.bases; consts = w.consts; further = w.further; terms = w.terms;
+  bases = w.bases;
+  consts = w.consts;
+  further = w.further;
+  terms = w.terms;
   witnesses = sym types ∙ ap (map (λ (r : Row). r.type)) (rows_are) ∙ good.typed;
 }
   where

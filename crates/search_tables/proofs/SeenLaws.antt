@@ -51,8 +51,18 @@ module _ (t : Tables) (q : Queue Planned Delays) (equal : EqualIdsForEqualTerms 
 
   pub right-seen : (x : List SatLit) → x ≡ added numbers t.seen (l ∷ []) → IsRight (record t { seen = x }) q
   right-seen x is = record {
-    basis = r.basis; clauses = r.clauses; solver = r.solver; noted = r.noted; universals = r.universals; terms = r.terms;
-    chosen = r.chosen; described = r.described; stems = r.stems; holes = r.holes; budget = r.budget; queue = r.queue;
+    basis = r.basis;
+    clauses = r.clauses;
+    solver = r.solver;
+    noted = r.noted;
+    universals = r.universals;
+    terms = r.terms;
+    chosen = r.chosen;
+    described = r.described;
+    stems = r.stems;
+    holes = r.holes;
+    budget = r.budget;
+    queue = r.queue;
     seen = subst (Each (IsNumber t.basis.lits)) (sym is) (go (has numbers t.seen l));
   }
     where

@@ -25,8 +25,17 @@ module _ (t : Tables) (q : Queue Planned Delays) (r : IsRight t q) (equal : Equa
 
   pub right-solved : length (learned y) ≤ q.rule.mode.conflicts → IsRight (record t { solver = y }) q
   right-solved within = record {
-    basis = r.basis; clauses = r.clauses; seen = r.seen; noted = r.noted; universals = r.universals; terms = r.terms;
-    chosen = r.chosen; described = r.described; stems = r.stems; holes = r.holes; queue = r.queue;
+    basis = r.basis;
+    clauses = r.clauses;
+    seen = r.seen;
+    noted = r.noted;
+    universals = r.universals;
+    terms = r.terms;
+    chosen = r.chosen;
+    described = r.described;
+    stems = r.stems;
+    holes = r.holes;
+    queue = r.queue;
     solver = same ∙ r.solver;
     budget = within;
   }

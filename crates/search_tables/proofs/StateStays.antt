@@ -96,14 +96,22 @@ module _ (t : Tables) (q : Queue Planned Delays) (g : Basis) (grows : BasisGrows
   loops_same =
       ap (λ scope. map (loop_at scope (names_in grown) (sources grown)) q.entries) scope_stays
       ∙ loops-stay (declared_scope t.basis.bank) (sources t) (sources grown) extends (names_in t) (names_in grown)
-        (command-stays (names_in t) (names_in grown) continues) (numbers-stay (names_in t) (names_in grown) continues) q.entries r.queue
+      (command-stays (names_in t) (names_in grown) continues) (numbers-stay (names_in t) (names_in grown) continues) q.entries r.queue
 
   -- The state stays.
   pub state-stays : the_state grown q ≡ the_state t q
   state-stays = λ i. record {
-    clauses = clauses_stay i; seen = literals_stay t.seen r.seen i; noted = literals_stay t.noted.items r.noted i; terms = terms_stay i;
-    chosen = places_stay t.chosen r.chosen i; described = places_stay t.described r.described i; rows = rows_stay i; parked = sketches_stay i;
-    queue = queue_of (loops_same i); pushes = q.pushes; done = t.done
+    clauses = clauses_stay i;
+    seen = literals_stay t.seen r.seen i;
+    noted = literals_stay t.noted.items r.noted i;
+    terms = terms_stay i;
+    chosen = places_stay t.chosen r.chosen i;
+    described = places_stay t.described r.described i;
+    rows = rows_stay i;
+    parked = sketches_stay i;
+    queue = queue_of (loops_same i);
+    pushes = q.pushes;
+    done = t.done;
   }
 
   more_numbers : (ls : List SatLit) → Each (IsNumber t.basis.lits) ls → Each (IsNumber g.lits) ls
@@ -120,19 +128,19 @@ module _ (t : Tables) (q : Queue Planned Delays) (g : Basis) (grows : BasisGrows
   right-stays good =
       let Q : Scope → Type 0 = λ scope. Each (λ e. IsEntry scope (names_in grown) (sources grown) e.command) q.entries in
       record {
-    basis = good;
-    clauses = each-weaker (Each (IsNumber t.basis.lits)) (Each (IsNumber g.lits)) more_numbers (the_clauses t.steps) r.clauses;
-    solver = r.solver;
-    seen = more_numbers t.seen r.seen;
-    noted = more_numbers t.noted.items r.noted;
-    universals = λ a. r.universals a ∙ ap (map (λ l. l.var.0)) (filter-same (is_universal t.basis.bank.terms t.basis.lits a) (is_universal g.bank.terms g.lits a) (IsNumber t.basis.lits) (universal_stays a) t.noted.items r.noted);
-    terms = each-weaker (λ u. IsPlace t.basis.bank.terms u.1) (λ u. IsPlace g.bank.terms u.1) (λ u h. place-stays t.basis.bank.terms g.bank.terms continues.terms u.1 h) t.terms r.terms;
-    chosen = more_places t.chosen r.chosen;
-    described = more_places t.described r.described;
-    stems = r.stems;
-    budget = r.budget;
-    holes = λ n. r.holes n ∙ ap (places_where (has_hole_of n) 0) (sym sketches_stay);
-    queue = subst Q (sym scope_stays)
-      (entries-stay (declared_scope t.basis.bank) (sources t) (sources grown) extends (names_in t) (names_in grown)
-      (command-stays (names_in t) (names_in grown) continues) (numbers-stay (names_in t) (names_in grown) continues) q.entries r.queue);
-  }
+        basis = good;
+        clauses = each-weaker (Each (IsNumber t.basis.lits)) (Each (IsNumber g.lits)) more_numbers (the_clauses t.steps) r.clauses;
+        solver = r.solver;
+        seen = more_numbers t.seen r.seen;
+        noted = more_numbers t.noted.items r.noted;
+        universals = λ a. r.universals a ∙ ap (map (λ l. l.var.0)) (filter-same (is_universal t.basis.bank.terms t.basis.lits a) (is_universal g.bank.terms g.lits a) (IsNumber t.basis.lits) (universal_stays a) t.noted.items r.noted);
+        terms = each-weaker (λ u. IsPlace t.basis.bank.terms u.1) (λ u. IsPlace g.bank.terms u.1) (λ u h. place-stays t.basis.bank.terms g.bank.terms continues.terms u.1 h) t.terms r.terms;
+        chosen = more_places t.chosen r.chosen;
+        described = more_places t.described r.described;
+        stems = r.stems;
+        budget = r.budget;
+        holes = λ n. r.holes n ∙ ap (places_where (has_hole_of n) 0) (sym sketches_stay);
+        queue = subst Q (sym scope_stays)
+            (entries-stay (declared_scope t.basis.bank) (sources t) (sources grown) extends (names_in t) (names_in grown)
+            (command-stays (names_in t) (names_in grown) continues) (numbers-stay (names_in t) (names_in grown) continues) q.entries r.queue);
+      }

@@ -108,7 +108,7 @@ module _ (scope : Scope) (names : Names) (s : State) (old mid : Queue Planned De
     left_is =
         ap (loop_left e.due e.number) later_is
         ∙ ap₂ (λ (n : ℕ) (l : List Meant). record { due = e.due; number = n; first = command_at names next; later = between (suc r.next) r.end l } ∷ [])
-          (let k : suc e.number ≡ e.number + 1 = omega arith in k) (sym loops.0)
+        (let k : suc e.number ≡ e.number + 1 = omega arith in k) (sym loops.0)
 
     entry_good : IsEntry scope names s entry'.command
     entry_good = record {
@@ -141,14 +141,25 @@ module _ (t : Tables) (old mid : Queue Planned Delays) (e : Entry Planned) (take
   right_with new h k =
       let B : Delays → Type 0 = λ d. length (learned t.solver) ≤ d.mode.conflicts in
       record {
-        basis = r.basis; clauses = r.clauses; solver = r.solver; seen = r.seen; noted = r.noted; universals = r.universals; terms = r.terms;
-        chosen = r.chosen; described = r.described; stems = r.stems; holes = r.holes; budget = subst B (sym k) r.budget;
+        basis = r.basis;
+        clauses = r.clauses;
+        solver = r.solver;
+        seen = r.seen;
+        noted = r.noted;
+        universals = r.universals;
+        terms = r.terms;
+        chosen = r.chosen;
+        described = r.described;
+        stems = r.stems;
+        holes = r.holes;
+        budget = subst B (sym k) r.budget;
         queue = h;
       }
 
   pub takes-alone : later_of scope (sources t) (command_at (names_in t) e.command.first) e.command.rest ≡ [] → TakesNext t old mid e.command.first
   takes-alone none = record {
-    due = e.due; number = e.number;
+    due = e.due;
+    number = e.number;
     is_next = is-next scope (names_in t) (sources t) old mid e takes spaced r.queue;
     leaves = state_after mid (leaves-alone scope (names_in t) (sources t) old mid e takes spaced r.queue none) takes.pushes;
     numbers = (entry-good scope (names_in t) (sources t) old mid e takes spaced r.queue).numbers;
@@ -165,7 +176,8 @@ module _ (t : Tables) (old mid : Queue Planned Delays) (e : Entry Planned) (take
   module _ (rest : Rest) (is : e.command.rest ≡ Some rest) (some : rest.next < rest.end) (next : Command) (at : slice_get (loop_over scope (sources t) rest.over (command_at (names_in t) e.command.first)) rest.next ≡ Some (command_at (names_in t) next)) (numbers : AreNumbers (names_in t) next) (new : Queue Planned Delays) (adds : AddsEntryAt mid new (record { due = e.due; number = e.number + 1; command = record { first = next; rest = Some (rest_behind rest) } })) where
     pub takes-more : TakesNext t old new e.command.first
     takes-more = record {
-      due = e.due; number = e.number;
+      due = e.due;
+      number = e.number;
       is_next = is-next scope (names_in t) (sources t) old mid e takes spaced r.queue;
       leaves = state_after new (leaves-more scope (names_in t) (sources t) old mid e takes spaced r.queue rest is some next at numbers new adds) (adds.pushes ∙ takes.pushes);
       numbers = (entry-good scope (names_in t) (sources t) old mid e takes spaced r.queue).numbers;

@@ -141,8 +141,17 @@ module _ (t : Tables) (q : Queue Planned Delays) (r : IsRight t q) (a : SimpleTy
 
     right_more : IsRight t' q
     right_more = record {
-      basis = r.basis; clauses = r.clauses; solver = r.solver; seen = r.seen; noted = r.noted; universals = r.universals;
-      chosen = r.chosen; described = r.described; stems = r.stems; holes = r.holes; budget = r.budget;
+      basis = r.basis;
+      clauses = r.clauses;
+      solver = r.solver;
+      seen = r.seen;
+      noted = r.noted;
+      universals = r.universals;
+      chosen = r.chosen;
+      described = r.described;
+      stems = r.stems;
+      holes = r.holes;
+      budget = r.budget;
       terms = each-last (λ (l : Listing). IsPlace t.basis.bank.terms l.1) t.terms (a, id) r.terms place;
       queue = entries-stay (declared_scope t.basis.bank) (sources t) (sources t') extends (names_in t) (names_in t) (λ c h. refl) (λ c h. h) q.entries r.queue;
     }

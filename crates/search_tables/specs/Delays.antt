@@ -8,8 +8,14 @@ use Rattle.search_tables.specs.declared.command.Command.TheVariants.{Process, Ma
 -- the mode of the definitions
 abbrev pub the_mode : Mode → Delays
 the_mode m = record {
-  process = m.process; mate = m.mate; confront = m.confront; inst = m.inst; choose = m.choose; grow = m.grow;
-  commands = m.commands; conflicts = m.conflicts
+  process = m.process;
+  mate = m.mate;
+  confront = m.confront;
+  inst = m.inst;
+  choose = m.choose;
+  grow = m.grow;
+  commands = m.commands;
+  conflicts = m.conflicts;
 }
 
 abbrev pub delay_by : Mode → Command → ℕ

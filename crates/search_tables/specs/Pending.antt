@@ -134,9 +134,10 @@ BeginsWith {X} x xs = (more : List X) × (xs ≡ x ∷ more)
 -- the loop of an entry of the agenda
 abbrev pub loop_at : Scope → Names → State → Entry Planned → Loop Meant
 loop_at scope names s e = record {
-  due = e.due; number = e.number;
+  due = e.due;
+  number = e.number;
   first = command_at names e.command.first;
-  later = later_of scope s (command_at names e.command.first) e.command.rest
+  later = later_of scope s (command_at names e.command.first) e.command.rest;
 }
 
 -- an entry's numbers are numbers, and its later commands are there

@@ -64,7 +64,7 @@ parts t = record {
   parked = sketches_in t;
   queue = [];
   pushes = 0;
-  done = t.done
+  done = t.done;
 }
 
 -- of the state, what loops of commands go over
@@ -73,7 +73,7 @@ sources t = record nothing_yet {
   noted = map (literal_at t.basis.bank.terms t.basis.lits) t.noted.items;
   terms = map (typed_at t.basis.bank.terms) t.terms;
   rows = rows_in t.basis;
-  parked = sketches_in t
+  parked = sketches_in t;
 }
 
 -- the loops of the commands that wait

@@ -36,7 +36,12 @@ impl<W: Weigher<Command>> Core<W> {
         let lits = joined(self.tables.alloc, &instance.alternatives)?;
         self.plan.reserve(lits.len())?;
         let atoms = self.tables.basis.lits.len();
-        add_clauses(&mut self.tables.steps, &mut self.tables.solver, atoms, instance)?;
+        add_clauses(
+            &mut self.tables.steps,
+            &mut self.tables.solver,
+            atoms,
+            instance,
+        )?;
         self.see_all(lits.as_slice())?;
         Ok(())
     }

@@ -22,4 +22,4 @@ pub use head::{HeadSet, HoleHead, head_of};
 pub use plan::Plan;
 pub use set::{IdSet, LitSet};
 pub use stem::Stem;
-pub use tables::{Core, Basis, Tables};
+pub use tables::{Basis, Core, Tables};

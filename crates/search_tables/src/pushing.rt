@@ -9,8 +9,8 @@ ghost use Rattle.search_tables.specs.Names.{command_at, AreNumbers, IsNumber};
 ghost use Rattle.search_tables.specs.Pending.{loop_over, later_of, BeginsWith, HasWitnesses, IsSigned, IsEntry};
 ghost use Rattle.search_tables.specs.Standing.{declared_scope, names_in, sources, the_state, IsRight};
 
-use crate::command::{Command, Over, Planned, Rest};
 use crate::clauses::literal_of;
+use crate::command::{Command, Over, Planned, Rest};
 use crate::tables::Core;
 use command_queue::Weigher;
 use sat_base::SatLit;

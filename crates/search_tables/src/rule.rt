@@ -13,7 +13,7 @@ ghost use Rattle.search_tables.specs.Names.{IsNumber, IsPlace};
 ghost use Rattle.search_tables.specs.Standing.{rows_in, the_state, IsBasis, IsRight};
 
 use crate::command::Command;
-use crate::tables::{Core, Basis};
+use crate::tables::{Basis, Core};
 use command_queue::Weigher;
 use literal_map::{BankUse, Instance};
 use std::alloc::{AllocError, Global};
@@ -21,7 +21,11 @@ use tableau_rules::{RuleRefused, make};
 
 impl Basis {
     /// The instance of a rule that makes no witness.
-    pub(crate) fn make_instance(&mut self, alloc: Global, by: &BankUse) -> Result<Instance, AllocError>
+    pub(crate) fn make_instance(
+        &mut self,
+        alloc: Global,
+        by: &BankUse,
+    ) -> Result<Instance, AllocError>
         requires good { IsBasis self.old }
         requires first { ForSome by.now.first (IsNumber self.old.lits) }
         requires second { ForSome by.now.second (IsNumber self.old.lits) }

@@ -13,7 +13,12 @@ use std::alloc::AllocError;
 impl Tables {
     /// The command at a place of the loop of a command. This isn't built yet, and answers want of memory. Heads have their numbers before
     /// commands with them are pushed.
-    pub fn command_of(&self, first: Command, over: Over, place: usize) -> Result<Command, AllocError>
+    pub fn command_of(
+        &self,
+        first: Command,
+        over: Over,
+        place: usize,
+    ) -> Result<Command, AllocError>
         requires numbers { AreNumbers (names_in self.now) first }
         requires witnesses { HasWitnesses (sources self.now) over }
         requires within { place < length (loop_over (declared_scope self.now.basis.bank) (sources self.now) over (command_at (names_in self.now) first)) }

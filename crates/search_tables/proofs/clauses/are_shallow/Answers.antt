@@ -14,7 +14,7 @@ loop-i-preserved c =
     let terms = c.args.bank.now.terms in
     let l = c.literal_of.result in
     let deep : depth (atom_at terms c.args.lits.now l.var.0) ≡ c.depth.result =
-      ap (λ id. depth (term_at terms id)) (get_or_from_slice_get c.args.lits.now l.var.0 c.formula_of.result 0 c.formula_of.ensures) ∙ sym c.depth.ensures in
+    ap (λ id. depth (term_at terms id)) (get_or_from_slice_get c.args.lits.now l.var.0 c.formula_of.result 0 c.formula_of.ensures) ∙ sym c.depth.ensures in
     passes is_shallow_literal (literal_at terms c.args.lits.now) c.args.literals.now c.loop-i.i l c.literal_of.ensures _ c.loop-i.invariant
     (le-leb (depth (atom_at terms c.args.lits.now l.var.0)) 4096 (omega (arith, deep, c.if-depth-gt-DEPTH.false)))
 
@@ -23,6 +23,6 @@ returns-then-depth-gt-DEPTH c =
     let terms = c.args.bank.now.terms in
     let l = c.literal_of.result in
     let deep : depth (atom_at terms c.args.lits.now l.var.0) ≡ c.depth.result =
-      ap (λ id. depth (term_at terms id)) (get_or_from_slice_get c.args.lits.now l.var.0 c.formula_of.result 0 c.formula_of.ensures) ∙ sym c.depth.ensures in
+    ap (λ id. depth (term_at terms id)) (get_or_from_slice_get c.args.lits.now l.var.0 c.formula_of.result 0 c.formula_of.ensures) ∙ sym c.depth.ensures in
     fails is_shallow_literal (literal_at terms c.args.lits.now) c.args.literals.now c.loop-i.i l c.literal_of.ensures _ c.loop-i.invariant
     (lt-leb (depth (atom_at terms c.args.lits.now l.var.0)) 4096 (omega (arith, deep, c.if-depth-gt-DEPTH.true)))

@@ -57,4 +57,4 @@ returns-clause-state g c =
     ∙ ap (λ (r : Delays). with_literals (the_mode r.mode) (map d all) (the_state t c.reserve.new.self)) c.reserve.ensures.same.rule
     ∙ ap (with_literals (the_mode self.plan.rule.mode) (map d all)) (state-room t self.plan c.reserve.new.self c.reserve.ensures.same)
     ∙ shallow_added self.tables self.plan c.equal_ids_for_equal_terms.ensures c.atoms_differ.ensures c.requires.right (the_mode self.plan.rule.mode) i.principals i.alternatives c.requires.principals c.requires.alternatives
-      c.add_clauses.new.steps c.add_clauses.new.solver c.in_ok-add_clauses.ensures.clauses (sym c.all_shallow.ensures ∙ c.if-not-all_shallow.false)
+    c.add_clauses.new.steps c.add_clauses.new.solver c.in_ok-add_clauses.ensures.clauses (sym c.all_shallow.ensures ∙ c.if-not-all_shallow.false)

@@ -53,7 +53,7 @@ returns-then-count-eq0-clause-state g c =
     ∙ ap (λ (vs : List ℕ). pushed mode (map (λ l. inst l u) (map (literal_at self.tables.basis.bank.terms self.tables.basis.lits) (map universal_of vs))) after) (sym none)
     ∙ ap (λ ls. pushed mode (map (λ l. inst l u) ls) after) (sym (universals-are self.tables self.plan c.requires.right a))
     ∙ is-new self.tables self.plan c.requires.right a c.args.id c.requires.place c.equal_ids_for_equal_terms.ensures mode c.add_term.new.self c.in_ok-add_term.ensures.ok
-      (was_new (list_any (nat_eq c.args.id) (ids_of a self.tables.terms)) (sym c.in_ok-add_term.ensures.fresh ∙ c.if-not-branch.false))
+    (was_new (list_any (nat_eq c.args.id) (ids_of a self.tables.terms)) (sym c.in_ok-add_term.ensures.fresh ∙ c.if-not-branch.false))
 
 pub push_whole-requires-clause-right : goal.push_whole-requires-clause-right
 push_whole-requires-clause-right g c =
@@ -106,4 +106,4 @@ returns-clause-state g c =
     ∙ ap (λ (l : SatLit). pushed mode (loop_over (declared_scope t.basis.bank) (sources t) Universals (command_at (names_in t) (Inst l c.args.id))) after) c.universal.ensures
     ∙ ap (λ (cs : List Meant). pushed mode cs after) (universals-loop self.tables self.plan c.requires.right a (get_or vs 0 0) (drop 1 vs) ids c.args.id)
     ∙ is-new self.tables self.plan c.requires.right a c.args.id c.requires.place c.equal_ids_for_equal_terms.ensures mode c.add_term.new.self c.in_ok-add_term.ensures.ok
-      (was_new (list_any (nat_eq c.args.id) (ids_of a self.tables.terms)) (sym c.in_ok-add_term.ensures.fresh ∙ c.if-not-branch.false))
+    (was_new (list_any (nat_eq c.args.id) (ids_of a self.tables.terms)) (sym c.in_ok-add_term.ensures.fresh ∙ c.if-not-branch.false))

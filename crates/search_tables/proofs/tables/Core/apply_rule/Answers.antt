@@ -40,5 +40,5 @@ returns-clause-state g c = λ alternatives h.
     ∙ ap (λ (ps : List SatLit). with_instance mode (map d ps) made (the_state t self.plan)) c.in_ok-instance.ensures.principals
     ∙ ap (λ (ps : List Literal). with_instance mode ps made (the_state t self.plan)) (principals_same old new grows c.requires.right.basis c.args.by c.requires.first c.requires.second c.requires.term)
     ∙ ap (λ (as' : List (List Literal)). with_instance mode (map (literal_at old.bank.terms old.lits) (principals_of c.args.by)) as' (the_state t self.plan))
-      (same-alternatives old new grows c.requires.right.basis c.args.by c.requires.first c.requires.second c.requires.term alternatives made h c.in_ok-instance.ensures.instance)
+    (same-alternatives old new grows c.requires.right.basis c.args.by c.requires.first c.requires.second c.requires.term alternatives made h c.in_ok-instance.ensures.instance)
     ∙ ap (λ (s : State). with_instance mode (map (literal_at old.bank.terms old.lits) (principals_of c.args.by)) alternatives s) (state-stays self.tables self.plan new grows c.requires.right)

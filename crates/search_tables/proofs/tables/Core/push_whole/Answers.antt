@@ -27,4 +27,4 @@ returns-clause-state g c =
     c.in_ok-push_loop.ensures.state
     ∙ ap (λ (r : Option Rest). pushed (the_mode self.plan.rule.mode) (first ∷ later_of scope (sources t) first r) (the_state t self.plan)) c.after_first-rest.ensures
     ∙ ap (λ (cs : List Meant). pushed (the_mode self.plan.rule.mode) cs (the_state t self.plan))
-      (whole-is scope (sources t) c.args.over first c.requires.begins.0 c.requires.begins.1 c.args.count c.requires.count c.requires.witnesses c.requires.signed)
+    (whole-is scope (sources t) c.args.over first c.requires.begins.0 c.requires.begins.1 c.args.count c.requires.count c.requires.witnesses c.requires.signed)

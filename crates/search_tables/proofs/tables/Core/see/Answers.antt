@@ -30,7 +30,7 @@ returns-clause-state g c =
     let self = c.args.self.now in
     c.in_ok-push_alone.ensures.state
     ∙ seen_now self.tables self.plan c.equal_ids_for_equal_terms.ensures c.atoms_differ.ensures c.requires.right (the_mode self.plan.rule.mode) c.args.lit c.requires.number
-      c.insert.new.self c.in_ok-insert.ensures.list (was_new (has numbers self.tables.seen c.args.lit) (sym c.in_ok-insert.ensures.new ∙ c.if-not-branch.false))
+    c.insert.new.self c.in_ok-insert.ensures.list (was_new (has numbers self.tables.seen c.args.lit) (sym c.in_ok-insert.ensures.new ∙ c.if-not-branch.false))
 
 pub push_alone-requires-clause-right : goal.push_alone-requires-clause-right
 push_alone-requires-clause-right g c =
