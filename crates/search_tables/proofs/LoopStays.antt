@@ -1,6 +1,6 @@
 -- Loops that wait stay what they are, where what they go over becomes longer.
-use Rattle.std.specs.Prelude.{◌≡◌, ◌≤◌, ◌-◌, ℕ, Bool, List, [], ◌∷◌, ◌++◌, map, filter, take, drop, length, Option, Some, None, refl}
-use Rattle.std.proofs.Common.{sym, ap, ap₂, subst, ◌∙◌, arith, append-nil, length-append}
+use Rattle.std.specs.Prelude.{◌≡◌, ◌≤◌, ◌-◌, ℕ, Bool, List, [], map, filter, take, drop, length, Option, Some, None, refl}
+use Rattle.std.proofs.Common.{sym, ap, subst, ◌∙◌, arith, append-nil, length-append}
 use Rattle.std.proofs.lemmas.List.{take-append-le, drop-append-le}
 use Rattle.std.proofs.lemmas.List.Elements.{filter-append}
 use Rattle.std.proofs.Common.{length-drop}
@@ -16,7 +16,7 @@ use Rattle.search_run.specs.Partial.{first_hole}
 use Rattle.search_run.specs.Partners.{positive_first, matings, confrontations}
 use Rattle.search_run.specs.Terms.{terms_of, universals}
 use Rattle.search_run.specs.Witness.{has_hole_of}
-use Rattle.search_run.specs.State.{State, Typed, Sketch, Command as Meant, process, mate, confront, inst, grow, choose, describe}
+use Rattle.search_run.specs.State.{State, Typed, Command as Meant, process, mate, confront, inst, grow, choose, describe}
 use Rattle.search_run.specs.Means.Loops.{Loop}
 use Rattle.search_tables.specs.declared.command.Command.{Command}
 use Rattle.search_tables.specs.declared.command.Over.{Over}
@@ -25,7 +25,7 @@ use Rattle.search_tables.specs.declared.command.Planned.{Planned}
 use Rattle.search_tables.specs.declared.command.Rest.{Rest}
 use Rattle.search_tables.specs.Growing.{Longer, Extends}
 use Rattle.search_tables.specs.Names.{Names, command_at, AreNumbers}
-use Rattle.search_tables.specs.Pending.{range_of, equation_type, base_of, over_terms, over_universals, over_negatives, over_positives, over_heads, over_parked, loop_over, between, later_of, HasWitnesses, IsWithin, AreThere, IsEntry, loop_at}
+use Rattle.search_tables.specs.Pending.{range_of, equation_type, base_of, over_terms, over_universals, over_negatives, over_positives, over_heads, over_parked, loop_over, between, later_of, HasWitnesses, AreThere, IsEntry, loop_at}
 use Rattle.search_tables.proofs.EachLaws.{each-weaker, map-same}
 
 -- what is made of a longer list is longer

@@ -1,13 +1,12 @@
 -- Numbers keep what they stand for.
-use Rattle.std.specs.Prelude.{◌≡◌, ◌<◌, ℕ, List, ◌++◌, map, length, get_or}
-use Rattle.std.proofs.Common.{sym, ap, ap₂, ◌∙◌, arith, length-append}
-use Rattle.stt_core.specs.SimpleType.{SimpleType, formula}
+use Rattle.std.specs.Prelude.{◌≡◌, ◌<◌, ℕ, List, length, get_or}
+use Rattle.std.proofs.Common.{ap, ap₂, ◌∙◌, arith, length-append}
+use Rattle.stt_core.specs.SimpleType.{formula}
 use Rattle.stt_core.specs.Lambda.{Lambda, bound}
 use Rattle.stt_tableau.specs.Literals.{Literal}
 use Rattle.sat_base.specs.declared.literal.SatLit.{SatLit}
-use Rattle.search_run.specs.Each.{Each}
 use Rattle.search_run.specs.Partial.{hole}
-use Rattle.search_run.specs.State.{Typed, Sketch, Command as Meant, process, mate, confront, inst, grow, choose, describe}
+use Rattle.search_run.specs.State.{Typed, process, mate, confront, inst, grow, choose, describe}
 use Rattle.term_bank.specs.Terms.{term_at}
 use Rattle.term_bank.proofs.ListLaws.{get_or-front}
 use Rattle.literal_map.specs.Atoms.{literal_at}

@@ -1,5 +1,5 @@
 -- Pushing the commands of a loop.
-use Rattle.std.specs.Prelude.{◌≡◌, ◌≤◌, ◌+◌, ◌-◌, ℕ, zero, suc, Bool, true, false, List, [], ◌∷◌, ◌++◌, map, filter, take, drop, length, Option, Some, None, refl, if◌then◌else◌}
+use Rattle.std.specs.Prelude.{◌≡◌, ◌≤◌, ◌+◌, ◌-◌, ℕ, zero, suc, Bool, true, false, List, [], ◌∷◌, ◌++◌, map, take, drop, length, Option, Some, None, refl, if◌then◌else◌}
 use Rattle.std.proofs.Common.{sym, ap, ap₂, subst, ◌∙◌, arith, length-drop}
 use Rattle.std.proofs.lemmas.List.{length-take-le}
 use Rattle.stt_core.specs.Typing.{Scope}
@@ -13,7 +13,7 @@ use Rattle.search_run.specs.Mode.{Mode as Delaying}
 use Rattle.search_run.specs.Queue.{waiting}
 use Rattle.search_run.specs.Partners.{positive_first}
 use Rattle.search_run.specs.State.{State, Command as Meant, process, mate, confront, inst, grow, choose, describe, delay, due, pushed}
-use Rattle.search_run.specs.Means.Loops.{Loop, entries, queue_of}
+use Rattle.search_run.specs.Means.Loops.{queue_of}
 use Rattle.search_tables.specs.declared.command.Command.{Command}
 use Rattle.search_tables.specs.declared.command.Command.TheVariants.{Process, Mate, Confront, Inst, Grow, Choose, Describe}
 use Rattle.search_tables.specs.declared.command.Over.{Over}
@@ -24,7 +24,7 @@ use Rattle.search_tables.specs.declared.command.Delays.{Delays}
 use Rattle.search_tables.specs.declared.tables.Tables.{Tables}
 use Rattle.search_tables.specs.Delays.{the_mode, delay_by}
 use Rattle.search_tables.specs.Names.{Names, command_at}
-use Rattle.search_tables.specs.Pending.{over_terms, over_universals, over_negatives, over_positives, over_heads, over_parked, loop_over, between, later_of, IsWithin, AreThere, IsEntry, span, span_of, loop_at}
+use Rattle.search_tables.specs.Pending.{over_terms, over_universals, over_negatives, over_positives, over_heads, over_parked, loop_over, between, later_of, AreThere, IsEntry, span, span_of, loop_at}
 use Rattle.search_tables.specs.Standing.{declared_scope, names_in, sources, parts, loops_in, the_state, IsRight}
 use Rattle.search_tables.proofs.EachLaws.{each-last}
 use Rattle.search_tables.proofs.QueueLaws.{queue-last}

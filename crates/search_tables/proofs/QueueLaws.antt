@@ -1,19 +1,18 @@
 -- The queue that the entries of an agenda stand for, as entries join and leave.
-use Rattle.std.specs.Prelude.{◌≡◌, ◌<◌, ◌+◌, ◌==◌, ◌&&◌, ◌||◌, nat_lt, ℕ, suc, Bool, true, false, ◌⊎◌, length, List, [], ◌∷◌, ◌++◌, map, Some, refl, if◌then◌else◌}
-use Rattle.std.specs.List.{All, flat_map}
+use Rattle.std.specs.Prelude.{◌≡◌, ◌<◌, ◌==◌, ◌&&◌, ◌||◌, nat_lt, ℕ, suc, Bool, true, false, length, List, [], ◌∷◌, ◌++◌, map, Some, refl, if◌then◌else◌}
 use Rattle.std.proofs.Common.{inl, inr, arith, ap, ap₂, ◌∙◌, sym, subst, append-nil}
-use Rattle.std.proofs.lemmas.Bool.{ne_eqb, eq-eqb, ltb-false, le-ltb, ltb-true, eqb-true}
+use Rattle.std.proofs.lemmas.Bool.{ne_eqb, eq-eqb, le-ltb, ltb-true, eqb-true}
 use Rattle.std.proofs.lemmas.Grind.{flat_map-append}
 use Rattle.stt_core.proofs.ListLaws.{map-append}
 use Rattle.command_queue.specs.declared.entry.Entry.{Entry}
-use Rattle.command_queue.specs.Queue.{Queue, comes_before, IsBefore, TakesEntry, AddsEntryAt}
+use Rattle.command_queue.specs.Queue.{Queue, IsBefore, TakesEntry, AddsEntryAt}
 use Rattle.search_run.specs.Each.{Each}
-use Rattle.search_run.specs.Queue.{Waiting, waiting, is_before, first_of, next_command, without}
+use Rattle.search_run.specs.Queue.{Waiting, is_before, first_of, next_command, without}
 use Rattle.search_run.specs.Means.Loops.{Loop, entries, first_entry, queue_of, loop_left, advanced, IsFirstOrNone}
 use Rattle.search_run.proofs.LoopLaws.{next_of_loops, without_from_loops}
 use Rattle.search_tables.specs.declared.command.Planned.{Planned}
 use Rattle.search_tables.specs.Pending.{span, EndsBelow, AreSpaced}
-use Rattle.search_tables.proofs.EachLaws.{each-from_All, each-weaker, each-left, each-right, each-map}
+use Rattle.search_tables.proofs.EachLaws.{each-from_All, each-weaker, each-left, each-right}
 use Rattle.search_tables.proofs.SpacedLaws.{before_ends, behind_begins}
 
 -- what comes before another thing doesn't come after it

@@ -1,10 +1,8 @@
 -- Instances of rules where the bank and the table of atoms grow.
-use Rattle.std.specs.Prelude.{◌≡◌, ◌<◌, ℕ, List, [], ◌∷◌, ◌++◌, map, length, Option, Some, None, refl}
+use Rattle.std.specs.Prelude.{◌≡◌, ℕ, List, [], ◌∷◌, ◌++◌, map, length, Option, Some, None, refl}
 use Rattle.std.specs.Option.{ForSome}
-use Rattle.std.proofs.Common.{sym, ap, ap₂, ◌∙◌, subst, append-nil, arith, length-append}
+use Rattle.std.proofs.Common.{sym, ap, ◌∙◌, subst, arith, length-append}
 use Rattle.std.proofs.lemmas.Option.{same_Some}
-use Rattle.stt_core.specs.SimpleType.{SimpleType}
-use Rattle.stt_core.specs.Lambda.{Lambda}
 use Rattle.stt_core.specs.Typing.{Scope}
 use Rattle.stt_tableau.specs.Literals.{Literal}
 use Rattle.stt_tableau.specs.Witnesses.{Row}
@@ -20,13 +18,13 @@ use Rattle.literal_map.specs.Atoms.{literal_at}
 use Rattle.literal_map.specs.declared.instance.BankUse.{BankUse}
 use Rattle.literal_map.specs.declared.instance.RuleKind.{RuleKind}
 use Rattle.literal_map.specs.declared.instance.RuleKind.TheVariants as kind
-use Rattle.tableau_rules.specs.Uses.{rule_of, use_of, listed, principals_by, principals_of, IsInstanceBy}
+use Rattle.tableau_rules.specs.Uses.{rule_of, listed, principals_by, principals_of, IsInstanceBy}
 use Rattle.tableau_rules.specs.Changes.{Widens, AreWitnessesAfter}
 use Rattle.search_run.specs.Each.{Each}
 use Rattle.search_tables.specs.declared.tables.Basis.{Basis}
-use Rattle.search_tables.specs.Growing.{Longer, Continues, BasisGrows}
+use Rattle.search_tables.specs.Growing.{Continues, BasisGrows}
 use Rattle.search_tables.specs.Names.{Names, IsNumber, IsPlace}
-use Rattle.search_tables.specs.Standing.{rows_in, scope_by, IsBasis}
+use Rattle.search_tables.specs.Standing.{rows_in, IsBasis}
 use Rattle.search_tables.proofs.EachLaws.{map-same, each-from_All, each-weaker}
 use Rattle.search_tables.proofs.NamesLaws.{term-stays, literal-stays}
 use Rattle.search_tables.proofs.RowLaws.{table-distinct}

@@ -1,21 +1,17 @@
 -- Each command of a loop has the loop.
-use Rattle.std.specs.Prelude.{◌≡◌, ◌≤◌, ◌&&◌, not, nat_eq, ℕ, zero, suc, Bool, true, false, List, [], ◌∷◌, map, filter, slice_get, Option, Some, None, refl, if◌then◌else◌}
-use Rattle.std.proofs.Common.{sym, ap, ap₂, subst, ◌∙◌, eqb-true}
-use Rattle.std.proofs.lemmas.Bool.{and_parts}
+use Rattle.std.specs.Prelude.{◌≡◌, ◌&&◌, not, ℕ, zero, suc, Bool, true, false, List, [], ◌∷◌, map, filter, slice_get, Option, Some, None, refl, if◌then◌else◌}
+use Rattle.std.proofs.Common.{sym, ap, subst, ◌∙◌, eqb-true}
 use Rattle.std.proofs.lemmas.Option.{same_Some}
-use Rattle.stt_core.specs.SimpleType.{SimpleType, same_type}
 use Rattle.stt_core.specs.Typing.{Scope}
-use Rattle.stt_core.proofs.TypeLaws.{same_type-true}
 use Rattle.stt_tableau.specs.Literals.{Literal}
-use Rattle.stt_tableau.specs.Witnesses.{Row, with_rows}
 use Rattle.search_run.specs.Partial.{Hole, first_hole}
-use Rattle.search_run.specs.Partners.{positive_first, matings, confrontations, partners}
+use Rattle.search_run.specs.Partners.{positive_first}
 use Rattle.search_run.specs.Terms.{terms_of, ranges_over, universals}
 use Rattle.search_run.specs.Witness.{is_hole_of, has_hole_of}
 use Rattle.search_run.specs.State.{State, Sketch, Command as Meant, process, mate, confront, inst, grow, choose, describe}
 use Rattle.search_tables.specs.declared.command.Over.{Over}
 use Rattle.search_tables.specs.declared.command.Over.TheVariants.{Terms, Universals, Negatives, Positives, Heads, Parked}
-use Rattle.search_tables.specs.Pending.{range_of, equation_type, base_of, over_terms, over_universals, over_negatives, over_positives, over_heads, over_parked, loop_over, IsSigned}
+use Rattle.search_tables.specs.Pending.{range_of, base_of, over_terms, over_universals, over_negatives, over_positives, over_heads, over_parked, loop_over, IsSigned}
 use Rattle.search_tables.proofs.TermLaws.{range-is}
 
 -- what stands in a mapped list comes from an element

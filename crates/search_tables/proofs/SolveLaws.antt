@@ -1,14 +1,11 @@
 -- What the solver's answers say of the state.
-use Rattle.std.specs.Prelude.{◌≡◌, ◌≤◌, ℕ, List, map, length, slice_get, Some}
-use Rattle.std.proofs.Common.{sym, ap, subst, ◌∙◌}
-use Rattle.sat_base.specs.declared.literal.SatLit.{SatLit}
-use Rattle.sat_base.specs.Truth.{AllTrue, Unsat}
+use Rattle.std.specs.Prelude.{◌≡◌, ◌≤◌, ℕ, length, slice_get, Some}
+use Rattle.std.proofs.Common.{sym, subst, ◌∙◌}
+use Rattle.sat_base.specs.Truth.{Unsat}
 use Rattle.sat_core.specs.Solver.{SolverState, learned}
 use Rattle.command_queue.specs.Queue.{Queue}
-use Rattle.search_run.specs.Each.{Each}
 use Rattle.search_run.specs.Unsatisfiable.{Unsatisfiable}
 use Rattle.term_bank.specs.Laws.{EqualIdsForEqualTerms}
-use Rattle.literal_map.specs.Atoms.{literal_at}
 use Rattle.tableau_clauses.specs.Table.{the_clauses}
 use Rattle.search_tables.specs.declared.command.Planned.{Planned}
 use Rattle.search_tables.specs.declared.command.Delays.{Delays}

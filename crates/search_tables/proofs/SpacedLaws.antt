@@ -1,11 +1,11 @@
 -- Entries whose commands have their numbers one after the other.
-use Rattle.std.specs.Prelude.{◌≡◌, ◌<◌, ◌≤◌, ◌+◌, ℕ, ◌⊎◌, List, [], ◌∷◌, ◌++◌}
-use Rattle.std.proofs.Common.{inl, inr, arith, ap, ◌∙◌, sym}
+use Rattle.std.specs.Prelude.{◌≡◌, ◌<◌, ◌≤◌, ℕ, List, [], ◌∷◌, ◌++◌}
+use Rattle.std.proofs.Common.{inl, inr, arith}
 use Rattle.command_queue.specs.declared.entry.Entry.{Entry}
 use Rattle.search_run.specs.Each.{Each}
 use Rattle.search_tables.specs.declared.command.Planned.{Planned}
-use Rattle.search_tables.specs.Pending.{span, EndsBelow, AreSpaced, IsApart}
-use Rattle.search_tables.proofs.EachLaws.{each-weaker, each-last, each-left, each-right, each-between, each-without}
+use Rattle.search_tables.specs.Pending.{EndsBelow, AreSpaced, IsApart}
+use Rattle.search_tables.proofs.EachLaws.{each-last, each-between, each-without}
 
 abbrev Entries : Type 0
 Entries = List (Entry Planned)

@@ -1,26 +1,20 @@
 -- The state stays the same where the bank and the table of atoms grow.
-use Rattle.std.specs.Prelude.{◌≡◌, ◌<◌, ◌&&◌, ℕ, Bool, true, false, List, [], ◌∷◌, ◌++◌, map, filter, length, refl, if◌then◌else◌}
-use Rattle.std.specs.List.{All}
+use Rattle.std.specs.Prelude.{◌≡◌, ◌&&◌, ℕ, Bool, List, [], ◌∷◌, map, filter, length, refl, if◌then◌else◌}
 use Rattle.std.proofs.Common.{sym, ap, ap₂, subst, ◌∙◌, append-nil}
-use Rattle.stt_core.specs.SimpleType.{SimpleType, base}
-use Rattle.stt_core.specs.Lambda.{Lambda}
+use Rattle.stt_core.specs.SimpleType.{SimpleType}
 use Rattle.stt_core.specs.Typing.{Scope}
 use Rattle.stt_tableau.specs.Literals.{Literal}
 use Rattle.stt_tableau.specs.Witnesses.{Row, with_rows}
 use Rattle.sat_base.specs.declared.literal.SatLit.{SatLit}
-use Rattle.command_queue.specs.declared.entry.Entry.{Entry}
 use Rattle.command_queue.specs.Queue.{Queue}
 use Rattle.search_run.specs.Each.{Each}
 use Rattle.search_run.specs.Terms.{ranges_over}
 use Rattle.search_run.specs.Witness.{has_hole_of}
-use Rattle.search_run.specs.State.{State, Typed, Sketch, Command as Meant}
-use Rattle.search_run.specs.Means.Loops.{Loop, queue_of}
-use Rattle.term_bank.specs.Content.{Content, Grows}
+use Rattle.search_run.specs.Means.Loops.{queue_of}
 use Rattle.term_bank.specs.Terms.{term_at}
-use Rattle.literal_map.specs.Atoms.{literal_at, atom_at, IsAtom}
+use Rattle.literal_map.specs.Atoms.{literal_at}
 use Rattle.witness_names.specs.Rows.{rows_of}
 use Rattle.witness_names.proofs.StayLaws.{rows_same}
-use Rattle.instantiate.specs.Listing.{Listing, ids_of}
 use Rattle.tableau_clauses.specs.Table.{the_clauses}
 use Rattle.search_tables.specs.declared.command.Planned.{Planned}
 use Rattle.search_tables.specs.declared.command.Delays.{Delays}
@@ -28,9 +22,9 @@ use Rattle.search_tables.specs.declared.tables.Basis.{Basis}
 use Rattle.search_tables.specs.declared.tables.Tables.{Tables}
 use Rattle.search_tables.specs.Growing.{Longer, Continues, BasisGrows, Extends}
 use Rattle.search_tables.specs.Heads.{the_hole_head, sketches_of}
-use Rattle.search_tables.specs.Names.{Names, typed_at, IsNumber, IsPlace}
+use Rattle.search_tables.specs.Names.{typed_at, IsNumber, IsPlace}
 use Rattle.search_tables.specs.Pending.{loop_at, IsEntry}
-use Rattle.search_tables.specs.Standing.{declared_scope, rows_in, scope_by, sketches_in, names_in, parts, sources, loops_in, the_state, is_universal, places_where, IsBasis, IsRight}
+use Rattle.search_tables.specs.Standing.{declared_scope, rows_in, sketches_in, names_in, sources, loops_in, the_state, is_universal, places_where, IsBasis, IsRight}
 use Rattle.search_tables.proofs.EachLaws.{each-weaker, map-same}
 use Rattle.search_tables.proofs.NamesLaws.{place-stays, term-stays, number-stays, literal-stays, typed-stays, command-stays, numbers-stay}
 use Rattle.search_tables.proofs.LoopStays.{loops-stay, entries-stay}

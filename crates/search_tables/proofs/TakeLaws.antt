@@ -1,16 +1,14 @@
 -- The next command is taken from the queue.
-use Rattle.std.specs.Prelude.{◌≡◌, ◌≢◌, ◌<◌, ◌≤◌, ◌+◌, ◌-◌, ℕ, suc, List, [], ◌∷◌, ◌++◌, map, take, drop, length, slice_get, Option, Some, None, refl}
-use Rattle.std.specs.List.{All}
-use Rattle.std.proofs.Common.{sym, ap, ap₂, subst, ◌∙◌, arith, inl, inr, append-nil, length-drop}
-use Rattle.stt_core.specs.Lambda.{Lambda}
+use Rattle.std.specs.Prelude.{◌≡◌, ◌<◌, ◌≤◌, ◌+◌, ◌-◌, ℕ, suc, List, [], ◌∷◌, ◌++◌, map, take, drop, length, slice_get, Option, Some, refl}
+use Rattle.std.proofs.Common.{sym, ap, ap₂, subst, ◌∙◌, arith, inl, inr}
 use Rattle.stt_core.specs.Typing.{Scope}
-use Rattle.stt_core.proofs.ListLaws.{drop_got, map-append}
+use Rattle.stt_core.proofs.ListLaws.{drop_got}
 use Rattle.command_queue.specs.declared.entry.Entry.{Entry}
 use Rattle.command_queue.specs.Queue.{Queue, TakesEntry, AddsEntryAt}
 use Rattle.search_run.specs.Each.{Each}
 use Rattle.search_run.specs.Queue.{next_command, without}
-use Rattle.search_run.specs.State.{State, Sketch, Command as Meant}
-use Rattle.search_run.specs.Means.Loops.{Loop, queue_of, loop_left, first_entry}
+use Rattle.search_run.specs.State.{State, Command as Meant}
+use Rattle.search_run.specs.Means.Loops.{Loop, queue_of, loop_left}
 use Rattle.search_tables.specs.declared.command.Command.{Command}
 use Rattle.search_tables.specs.declared.command.Planned.{Planned}
 use Rattle.search_tables.specs.declared.command.Rest.{Rest}
@@ -21,7 +19,7 @@ use Rattle.search_tables.specs.Pending.{loop_over, later_of, between, AreThere, 
 use Rattle.sat_core.specs.Solver.{learned}
 use Rattle.search_tables.specs.Standing.{declared_scope, names_in, sources, parts, loops_in, the_state, IsRight}
 use Rattle.search_tables.specs.Taking.{TakesNext, rest_behind}
-use Rattle.search_tables.proofs.EachLaws.{each-weaker, each-between, each-without, each-left, each-right, each-at}
+use Rattle.search_tables.proofs.EachLaws.{each-weaker, each-between, each-without, each-at}
 use Rattle.search_tables.proofs.SpacedLaws.{each_ends, before_ends, behind_begins}
 use Rattle.search_tables.proofs.PushLaws.{length-later}
 use Rattle.search_tables.proofs.SameLoops.{same-loop}

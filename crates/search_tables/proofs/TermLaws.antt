@@ -1,39 +1,37 @@
 -- Terms for instances.
-use Rattle.std.specs.Prelude.{◌≡◌, ◌<◌, ◌≤◌, ◌+◌, ◌&&◌, nat_eq, ℕ, Bool, true, false, List, [], ◌∷◌, ◌++◌, map, filter, drop, get_or, length, refl, if◌then◌else◌}
+use Rattle.std.specs.Prelude.{◌≡◌, ◌<◌, ◌≤◌, ◌&&◌, nat_eq, ℕ, Bool, true, false, List, [], ◌∷◌, ◌++◌, map, filter, drop, get_or, length, refl, if◌then◌else◌}
 use Rattle.std.specs.List.{list_any}
 use Rattle.std.proofs.Common.{sym, ap, ap₂, subst, ◌∙◌, append-nil, add-zero, arith}
 use Rattle.std.proofs.lemmas.Bool.{and_parts}
 use Rattle.std.proofs.lemmas.List.{length-map}
-use Rattle.stt_core.specs.SimpleType.{SimpleType, same_type}
+use Rattle.stt_core.specs.SimpleType.{SimpleType}
 use Rattle.stt_core.specs.Lambda.{Lambda}
 use Rattle.stt_core.specs.SameTerm.{same_term}
 use Rattle.stt_core.proofs.ListLaws.{map-append}
-use Rattle.stt_core.proofs.TypeLaws.{same_type-true}
-use Rattle.stt_tableau.specs.Literals.{Literal, plus}
+use Rattle.stt_tableau.specs.Literals.{Literal}
 use Rattle.sat_base.specs.declared.literal.SatLit.{SatLit}
 use Rattle.command_queue.specs.Queue.{Queue}
 use Rattle.search_run.specs.Each.{Each}
 use Rattle.search_run.specs.Mode.{Mode}
 use Rattle.search_run.specs.Terms.{terms_of, ranges_over, universals, with_term}
-use Rattle.search_run.specs.State.{State, Typed, Command as Meant, inst, pushed}
+use Rattle.search_run.specs.State.{State, Typed, inst, pushed}
 use Rattle.search_run.specs.Means.Loops.{queue_of}
-use Rattle.search_run.proofs.TypedPushes.{IsOver, is_over}
+use Rattle.search_run.proofs.TypedPushes.{is_over}
 use Rattle.term_bank.specs.Laws.{EqualIdsForEqualTerms}
 use Rattle.term_bank.specs.Terms.{term_at}
 use Rattle.literal_map.specs.Atoms.{literal_at, atom_at}
 use Rattle.instantiate.specs.Listing.{Listing, ids_of, with_listed}
-use Rattle.search_tables.specs.declared.command.Command.{Command}
 use Rattle.search_tables.specs.declared.command.Command.TheVariants.{Inst}
 use Rattle.search_tables.specs.declared.command.Over.TheVariants.{Universals}
 use Rattle.search_tables.specs.declared.command.Planned.{Planned}
 use Rattle.search_tables.specs.declared.command.Delays.{Delays}
 use Rattle.search_tables.specs.declared.tables.Tables.{Tables}
 use Rattle.search_tables.specs.Growing.{Longer, Extends}
-use Rattle.search_tables.specs.Names.{typed_at, command_at, AreNumbers, IsNumber, IsPlace}
-use Rattle.search_tables.specs.Pending.{range_of, loop_over, IsEntry}
+use Rattle.search_tables.specs.Names.{typed_at, command_at, IsNumber, IsPlace}
+use Rattle.search_tables.specs.Pending.{range_of, loop_over}
 use Rattle.search_tables.specs.Standing.{declared_scope, names_in, sources, parts, loops_in, the_state, is_universal, universal_of, IsRight}
-use Rattle.search_tables.proofs.EachLaws.{each-last, each-at}
-use Rattle.search_tables.proofs.PlaceLaws.{any-places, filter-mapped, map-mapped, terms-of, each-passes, places-of}
+use Rattle.search_tables.proofs.EachLaws.{each-last}
+use Rattle.search_tables.proofs.PlaceLaws.{any-places, filter-mapped, terms-of, each-passes, places-of}
 use Rattle.search_tables.proofs.LoopStays.{loops-stay, entries-stay}
 
 itself : {X : Type 0} (xs : List X) → Longer xs xs

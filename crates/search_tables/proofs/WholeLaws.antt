@@ -1,12 +1,11 @@
 -- Whole loops of commands.
-use Rattle.std.specs.Prelude.{◌≡◌, ◌≤◌, ◌<◌, ◌-◌, ℕ, Bool, true, false, List, [], ◌∷◌, take, drop, length, nat_lt, Option, Some, None, refl, if◌then◌else◌}
+use Rattle.std.specs.Prelude.{◌≡◌, ◌≤◌, ◌-◌, ℕ, Bool, true, false, List, [], ◌∷◌, take, drop, length, nat_lt, Some, None, refl, if◌then◌else◌}
 use Rattle.std.proofs.Common.{sym, ap, ◌∙◌, arith, ltb-true, ltb-false}
 use Rattle.std.proofs.Math.Seq.{take-length}
 use Rattle.stt_core.specs.Typing.{Scope}
 use Rattle.search_run.specs.State.{State, Command as Meant}
 use Rattle.search_tables.specs.declared.command.Over.{Over}
-use Rattle.search_tables.specs.declared.command.Rest.{Rest}
-use Rattle.search_tables.specs.Pending.{loop_over, later_of, between, rest_after, HasWitnesses, IsSigned, IsWithin, AreThere}
+use Rattle.search_tables.specs.Pending.{loop_over, later_of, rest_after, HasWitnesses, IsSigned, AreThere}
 
 no_more : {X : Type 0} (xs : List X) → length xs ≤ 0 → xs ≡ []
 no_more [] h = refl

@@ -1,10 +1,7 @@
 -- Tables that grow.
-use Rattle.std.specs.Prelude.{◌≡◌, ℕ, List, ◌++◌}
+use Rattle.std.specs.Prelude.{◌≡◌, List, ◌++◌}
 use Rattle.std.specs.List.{All}
-use Rattle.stt_core.specs.Lambda.{Lambda}
-use Rattle.stt_tableau.specs.Literals.{Literal}
-use Rattle.stt_tableau.specs.Witnesses.{Row}
-use Rattle.search_run.specs.State.{State, Typed, Sketch}
+use Rattle.search_run.specs.State.{State}
 use Rattle.term_bank.specs.Content.{Grows}
 use Rattle.literal_map.specs.Atoms.{Begins}
 use Rattle.search_tables.specs.declared.tables.Basis.{Basis}

@@ -1,5 +1,5 @@
 -- Heads of holes, and partial terms by what they grew from.
-use Rattle.std.specs.Prelude.{◌≡◌, ◌<◌, ℕ, suc, List, [], ◌∷◌, ◌++◌, map, length}
+use Rattle.std.specs.Prelude.{◌<◌, ℕ, suc, List, [], ◌∷◌, ◌++◌}
 use Rattle.stt_core.specs.SimpleType.{base}
 use Rattle.stt_core.specs.Lambda.{Lambda, bound, constant, name, witness, falsity, negation, implication, all, equality, choice}
 use Rattle.stt_core.specs.Typing.{Scope}

@@ -1,6 +1,5 @@
 -- What the numbers of the search stand for.
-use Rattle.std.specs.Prelude.{ℕ, ◌<◌, List, length, map, get_or}
-use Rattle.stt_core.specs.SimpleType.{SimpleType}
+use Rattle.std.specs.Prelude.{ℕ, ◌<◌, List, length, get_or}
 use Rattle.stt_core.specs.Lambda.{Lambda, bound}
 use Rattle.sat_base.specs.declared.literal.SatLit.{SatLit}
 use Rattle.search_run.specs.Partial.{hole}

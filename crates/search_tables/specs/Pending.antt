@@ -1,17 +1,16 @@
 -- The commands that are left of a loop of pushes.
-use Rattle.std.specs.Prelude.{◌≡◌, Bool, true, not, ℕ, ◌+◌, ◌-◌, ◌≤◌, ◌<◌, ◌⊎◌, List, [], ◌∷◌, ◌++◌, map, filter, take, drop, length, nat_lt, Option, Some, None, if◌then◌else◌}
+use Rattle.std.specs.Prelude.{◌≡◌, Bool, true, not, ℕ, ◌+◌, ◌-◌, ◌≤◌, ◌<◌, ◌⊎◌, List, [], ◌∷◌, map, filter, take, drop, length, nat_lt, Option, Some, None, if◌then◌else◌}
 use Rattle.stt_core.specs.SimpleType.{SimpleType, formula}
-use Rattle.stt_core.specs.Lambda.{Lambda, bound, constant, lam, app, all, equality}
+use Rattle.stt_core.specs.Lambda.{Lambda, constant, app, all, equality}
 use Rattle.stt_core.specs.Typing.{Scope}
-use Rattle.stt_tableau.specs.Literals.{Literal}
-use Rattle.stt_tableau.specs.Witnesses.{Row, with_rows}
+use Rattle.stt_tableau.specs.Witnesses.{with_rows}
 use Rattle.search_run.specs.Partial.{Hole, first_hole}
 use Rattle.search_run.specs.Heads.{heads_for}
 use Rattle.search_run.specs.Terms.{terms_of, universals}
 use Rattle.search_run.specs.Partners.{matings, confrontations}
-use Rattle.search_run.specs.State.{State, Sketch, Command as Meant, process, mate, confront, inst, grow, choose, describe}
+use Rattle.search_run.specs.State.{State, Command as Meant, mate, confront, inst, grow}
 use Rattle.search_run.specs.Witness.{has_hole_of}
-use Rattle.search_run.specs.Means.Loops.{Loop, queue_of}
+use Rattle.search_run.specs.Means.Loops.{Loop}
 use Rattle.search_run.specs.Each.{Each}
 use Rattle.command_queue.specs.declared.entry.Entry.{Entry}
 use Rattle.search_tables.specs.declared.command.Planned.{Planned}

@@ -1,5 +1,5 @@
 -- The state that the tables stand for.
-use Rattle.std.specs.Prelude.{◌≡◌, ◌<◌, ◌≤◌, ◌&&◌, ℕ, suc, Bool, true, nat_eq, List, [], ◌∷◌, ◌++◌, map, filter, length, if◌then◌else◌}
+use Rattle.std.specs.Prelude.{◌≡◌, ◌≤◌, ◌&&◌, ℕ, suc, Bool, true, List, [], ◌∷◌, map, filter, length, if◌then◌else◌}
 use Rattle.std.specs.List.{All}
 use Rattle.stt_core.specs.SimpleType.{SimpleType, base}
 use Rattle.stt_core.specs.Lambda.{Lambda}
@@ -18,7 +18,7 @@ use Rattle.bank_normal.specs.Right.{IsRight as IsRightMemo}
 use Rattle.literal_map.specs.Atoms.{atom_at, literal_at, IsAtom}
 use Rattle.witness_names.specs.Rows.{rows_of, AreRows}
 use Rattle.tableau_clauses.specs.Table.{the_clauses}
-use Rattle.instantiate.specs.Listing.{Listing, ids_of}
+use Rattle.instantiate.specs.Listing.{ids_of}
 use Rattle.sat_core.specs.Solver.{learned}
 use Rattle.command_queue.specs.declared.entry.Entry.{Entry}
 use Rattle.command_queue.specs.Queue.{Queue}

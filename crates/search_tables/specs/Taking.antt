@@ -1,9 +1,7 @@
 -- The next command is taken.
-use Rattle.std.specs.Prelude.{◌≡◌, ℕ, suc, Option, Some}
-use Rattle.command_queue.specs.declared.entry.Entry.{Entry}
+use Rattle.std.specs.Prelude.{◌≡◌, ℕ, suc, Some}
 use Rattle.command_queue.specs.Queue.{Queue}
 use Rattle.search_run.specs.Queue.{next_command, without}
-use Rattle.search_run.specs.State.{State}
 use Rattle.search_tables.specs.declared.command.Command.{Command}
 use Rattle.search_tables.specs.declared.command.Planned.{Planned}
 use Rattle.search_tables.specs.declared.command.Rest.{Rest}

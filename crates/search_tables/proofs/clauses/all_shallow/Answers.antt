@@ -1,4 +1,4 @@
-use Rattle.std.proofs.Common.{◌≡◌, Bool, true, false, List, map, sym, ap, ◌∙◌}
+use Rattle.std.proofs.Common.{◌≡◌, List, map, sym, ap, ◌∙◌}
 use Rattle.std.specs.List.{list_all}
 use Rattle.sat_base.specs.declared.literal.SatLit.{SatLit}
 use Rattle.search_run.specs.Shallow.{is_shallow_literal}

@@ -1,4 +1,4 @@
-use Rattle.std.proofs.Common.{◌≡◌, ◌++◌, List, sym, ap, ◌∙◌}
+use Rattle.std.proofs.Common.{◌++◌, List, sym, ap, ◌∙◌}
 use Rattle.sat_base.specs.declared.literal.SatLit.{SatLit}
 use Rattle.search_tables.proofs.ShallowLaws.{joined_more}
 use Rattle.search_tables.proofs.clauses.joined.Goals as goal

@@ -1,5 +1,4 @@
-use Rattle.std.proofs.Common.{◌≡◌, ℕ, Option, None, sym, ap, subst, ◌∙◌}
-use Rattle.command_queue.specs.declared.entry.Entry.{Entry}
+use Rattle.std.proofs.Common.{Option, sym, subst}
 use Rattle.command_queue.specs.Queue.{Queue, TakesEntry}
 use Rattle.search_tables.specs.declared.command.Planned.{Planned}
 use Rattle.search_tables.specs.declared.command.Rest.{Rest}

@@ -1,5 +1,5 @@
-use Rattle.std.proofs.Common.{◌≡◌, ◌<◌, ℕ, List, map, sym, ap, subst, ◌∙◌}
-use Rattle.std.specs.List.{list_all, flat_map}
+use Rattle.std.proofs.Common.{◌<◌, ℕ, List, map, sym, ap, subst, ◌∙◌}
+use Rattle.std.specs.List.{flat_map}
 use Rattle.sat_base.specs.declared.literal.SatLit.{SatLit}
 use Rattle.stt_tableau.specs.Literals.{Literal}
 use Rattle.literal_map.specs.Atoms.{literal_at}
@@ -8,7 +8,6 @@ use Rattle.search_run.specs.Clauses.{instance_clauses, with_clauses}
 use Rattle.search_run.specs.Numbered.{numbers}
 use Rattle.tableau_clauses.specs.Table.{the_clauses}
 use Rattle.search_run.specs.Instances.{with_literals}
-use Rattle.search_run.specs.State.{State}
 use Rattle.search_tables.specs.declared.command.Delays.{Delays}
 use Rattle.search_tables.specs.Delays.{the_mode}
 use Rattle.search_tables.specs.Names.{IsNumber}

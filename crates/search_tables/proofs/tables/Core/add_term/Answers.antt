@@ -1,16 +1,15 @@
-use Rattle.std.proofs.Common.{◌≡◌, ◌<◌, ◌≤◌, ℕ, Bool, true, false, not, nat_eq, List, [], ◌∷◌, map, length, get_or, drop, refl, sym, ap, subst, ◌∙◌, arith}
+use Rattle.std.proofs.Common.{◌≡◌, ◌<◌, ℕ, Bool, true, false, not, nat_eq, List, [], ◌∷◌, map, length, get_or, drop, refl, sym, ap, subst, ◌∙◌, arith}
 use Rattle.std.specs.List.{list_any}
 use Rattle.stt_core.specs.View.{the_type}
 use Rattle.sat_base.specs.declared.literal.SatLit.{SatLit}
-use Rattle.search_run.specs.State.{State, Command as Meant, inst, pushed}
-use Rattle.search_run.specs.Terms.{universals}
+use Rattle.search_run.specs.State.{Command as Meant, inst, pushed}
 use Rattle.term_bank.specs.Terms.{term_at}
 use Rattle.literal_map.specs.Atoms.{literal_at}
 use Rattle.instantiate.specs.Listing.{ids_of}
 use Rattle.search_tables.specs.declared.command.Command.TheVariants.{Inst}
 use Rattle.search_tables.specs.declared.command.Over.TheVariants.{Universals}
 use Rattle.search_tables.specs.Delays.{the_mode}
-use Rattle.search_tables.specs.Names.{command_at, AreNumbers}
+use Rattle.search_tables.specs.Names.{command_at}
 use Rattle.search_tables.specs.Pending.{loop_over, BeginsWith}
 use Rattle.search_tables.specs.Standing.{declared_scope, names_in, sources, the_state, universal_of}
 use Rattle.search_tables.proofs.TermLaws.{was-there, right-term, is-new, universals-are, universals-loop, universals-begin, universals-length, first-number, pushed-nothing, head-is, no-head}

@@ -1,4 +1,4 @@
-use Rattle.std.proofs.Common.{◌≡◌, ◌+◌, ℕ, suc, subst}
+use Rattle.std.proofs.Common.{◌+◌, ℕ, suc, subst}
 use Rattle.command_queue.specs.Queue.{AddsEntry}
 use Rattle.search_tables.specs.Delays.{delay_by}
 use Rattle.search_tables.specs.Pending.{span}

@@ -1,6 +1,5 @@
-use Rattle.std.proofs.Common.{◌≡◌, ◌∷◌, List, Option, sym, ap, subst, ◌∙◌}
+use Rattle.std.proofs.Common.{◌∷◌, List, Option, sym, ap, subst, ◌∙◌}
 use Rattle.search_run.specs.State.{Command as Meant, pushed}
-use Rattle.search_tables.specs.declared.command.Planned.{Planned}
 use Rattle.search_tables.specs.declared.command.Rest.{Rest}
 use Rattle.search_tables.specs.Delays.{the_mode}
 use Rattle.search_tables.specs.Names.{command_at}

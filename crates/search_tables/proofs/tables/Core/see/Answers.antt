@@ -1,4 +1,4 @@
-use Rattle.std.proofs.Common.{◌≡◌, not, true, false, Bool, refl, sym, ap, ◌∙◌}
+use Rattle.std.proofs.Common.{◌≡◌, not, true, false, Bool, refl, sym, ◌∙◌}
 use Rattle.search_run.specs.Clauses.{has}
 use Rattle.search_run.specs.Numbered.{numbers}
 use Rattle.search_tables.specs.Delays.{the_mode}

@@ -1,4 +1,4 @@
-use Rattle.std.proofs.Common.{◌≡◌, ◌≤◌, map, length, sym, ap, ◌∙◌, arith}
+use Rattle.std.proofs.Common.{map, ap, ◌∙◌, arith}
 use Rattle.search_run.specs.Instances.{with_literals}
 use Rattle.search_tables.specs.declared.command.Delays.{Delays}
 use Rattle.literal_map.specs.Atoms.{literal_at}

@@ -1,4 +1,4 @@
-use Rattle.std.proofs.Common.{◌≡◌, ◌≤◌, ℕ, length, sym, subst}
+use Rattle.std.proofs.Common.{◌≤◌, ℕ, length, sym, subst}
 use Rattle.sat_core.specs.Solver.{learned}
 use Rattle.sat_base.specs.Truth.{assigned}
 use Rattle.search_tables.proofs.SolveLaws.{refuted, satisfied, right-solved}
