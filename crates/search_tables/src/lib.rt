@@ -9,6 +9,7 @@ mod plan;
 mod pushing;
 mod rests;
 mod rule;
+mod selection;
 mod set;
 mod solving;
 mod stem;
