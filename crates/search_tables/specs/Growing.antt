@@ -1,0 +1,33 @@
+-- Tables that grow.
+use Rattle.std.specs.Prelude.{◌≡◌, List, ◌++◌}
+use Rattle.std.specs.List.{All}
+use Rattle.search_run.specs.State.{State}
+use Rattle.term_bank.specs.Content.{Grows}
+use Rattle.literal_map.specs.Atoms.{Begins}
+use Rattle.search_tables.specs.declared.tables.Basis.{Basis}
+use Rattle.search_tables.specs.Names.{Names, IsPlace}
+
+-- the second list is the first one with further elements behind it
+abbrev pub Longer : {X : Type 0} → List X → List X → Type 0
+Longer {X} xs ys = (more : List X) × (ys ≡ xs ++ more)
+
+-- each number of the first names has what it stands for in the second ones
+pub record Continues (old new : Names) : Type 0 where
+  pub within : All (IsPlace old.terms) old.atoms
+  pub terms : Longer old.terms new.terms
+  pub atoms : Longer old.atoms new.atoms
+  pub sketches : Longer old.sketches new.sketches
+  pub heads : Longer old.heads new.heads
+
+-- further terms and atoms stand behind the earlier ones
+pub record BasisGrows (old new : Basis) : Type 0 where
+  pub bank : Grows old.bank new.bank
+  pub lits : Begins old.lits new.lits
+  pub witnesses : new.witnesses ≡ old.witnesses
+
+-- what loops go over has become longer
+pub record Extends (old new : State) : Type 0 where
+  pub noted : Longer old.noted new.noted
+  pub terms : Longer old.terms new.terms
+  pub rows : Longer old.rows new.rows
+  pub parked : Longer old.parked new.parked

@@ -1,0 +1,121 @@
+-- The state that the tables stand for.
+use Rattle.std.specs.Prelude.{◌≡◌, ◌≤◌, ◌&&◌, ℕ, suc, Bool, true, List, [], ◌∷◌, map, filter, length, if◌then◌else◌}
+use Rattle.std.specs.List.{All}
+use Rattle.stt_core.specs.SimpleType.{SimpleType, base}
+use Rattle.stt_core.specs.Lambda.{Lambda}
+use Rattle.stt_core.specs.Typing.{Scope}
+use Rattle.stt_tableau.specs.Witnesses.{Row, with_rows}
+use Rattle.sat_base.specs.declared.literal.SatLit.{SatLit}
+use Rattle.search_run.specs.Each.{Each}
+use Rattle.search_run.specs.Terms.{ranges_over}
+use Rattle.search_run.specs.Witness.{has_hole_of}
+use Rattle.search_run.specs.State.{State, Setting, Sketch, Command}
+use Rattle.search_run.specs.After.{nothing_yet}
+use Rattle.search_run.specs.Means.Loops.{Loop, queue_of}
+use Rattle.term_bank.specs.Content.{Content}
+use Rattle.term_bank.specs.Terms.{term_at}
+use Rattle.bank_normal.specs.Right.{IsRight as IsRightMemo}
+use Rattle.literal_map.specs.Atoms.{atom_at, literal_at, IsAtom}
+use Rattle.witness_names.specs.Rows.{rows_of, AreRows}
+use Rattle.tableau_clauses.specs.Table.{the_clauses}
+use Rattle.instantiate.specs.Listing.{ids_of}
+use Rattle.sat_core.specs.Solver.{learned}
+use Rattle.command_queue.specs.declared.entry.Entry.{Entry}
+use Rattle.command_queue.specs.Queue.{Queue}
+use Rattle.search_tables.specs.declared.command.Planned.{Planned}
+use Rattle.search_tables.specs.declared.command.Delays.{Delays}
+use Rattle.search_tables.specs.declared.tables.Basis.{Basis}
+use Rattle.search_tables.specs.declared.tables.Tables.{Tables}
+use Rattle.search_tables.specs.Delays.{the_mode}
+use Rattle.search_tables.specs.Names.{Names, typed_at, IsNumber, IsPlace}
+use Rattle.search_tables.specs.Heads.{the_hole_head, sketches_of, AreStems}
+use Rattle.search_tables.specs.Pending.{loop_at, IsEntry}
+
+-- what is declared, without witnesses
+abbrev pub declared_scope : Content → Scope
+declared_scope b = record { bases = length b.bases; names = map (λ c. c.type) b.consts; witnesses = [] }
+
+abbrev pub rows_in : Basis → List Row
+rows_in g = rows_of g.bank.terms g.witnesses
+
+-- what is declared, with the witnesses
+abbrev pub scope_by : Basis → Scope
+scope_by g = with_rows (declared_scope g.bank) (rows_in g)
+
+abbrev pub setting_by : Tables → Queue Planned Delays → Setting
+setting_by t q = record { scope = declared_scope t.basis.bank; mode = the_mode q.rule.mode }
+
+abbrev pub sketches_in : Tables → List Sketch
+sketches_in t = sketches_of (scope_by t.basis) (map the_hole_head t.heads) t.stems.items
+
+abbrev pub names_in : Tables → Names
+names_in t = record { terms = t.basis.bank.terms; atoms = t.basis.lits; sketches = sketches_in t; heads = map the_hole_head t.heads }
+
+-- the state without the commands that wait
+abbrev pub parts : Tables → State
+parts t = record {
+  clauses = map (map (literal_at t.basis.bank.terms t.basis.lits)) (the_clauses t.steps);
+  seen = map (literal_at t.basis.bank.terms t.basis.lits) t.seen;
+  noted = map (literal_at t.basis.bank.terms t.basis.lits) t.noted.items;
+  terms = map (typed_at t.basis.bank.terms) t.terms;
+  chosen = map (term_at t.basis.bank.terms) t.chosen;
+  described = map (term_at t.basis.bank.terms) t.described;
+  rows = rows_in t.basis;
+  parked = sketches_in t;
+  queue = [];
+  pushes = 0;
+  done = t.done;
+}
+
+-- of the state, what loops of commands go over
+abbrev pub sources : Tables → State
+sources t = record nothing_yet {
+  noted = map (literal_at t.basis.bank.terms t.basis.lits) t.noted.items;
+  terms = map (typed_at t.basis.bank.terms) t.terms;
+  rows = rows_in t.basis;
+  parked = sketches_in t;
+}
+
+-- the loops of the commands that wait
+abbrev pub loops_in : Tables → List (Entry Planned) → List (Loop Command)
+loops_in t entries = map (loop_at (declared_scope t.basis.bank) (names_in t) (sources t)) entries
+
+-- the state that the tables and the commands that wait stand for
+abbrev pub the_state : Tables → Queue Planned Delays → State
+the_state t q = record (parts t) { queue = queue_of (loops_in t q.entries); pushes = q.pushes }
+
+-- whether a literal says of a predicate on the type that it holds everywhere
+abbrev pub is_universal : List Lambda → List ℕ → SimpleType → SatLit → Bool
+is_universal terms atoms a l = l.positive && ranges_over a (atom_at terms atoms l.var.0)
+
+-- the positive literal of a variable
+abbrev pub universal_of : ℕ → SatLit
+universal_of v = record { var = record { 0 = v }; positive = true }
+
+-- the places of the elements that pass a test, from a number on
+abbrev pub places_where : {X : Type 0} → (X → Bool) → ℕ → List X → List ℕ
+places_where test n [] = []
+places_where test n (x ∷ xs) = if test x then n ∷ places_where test (suc n) xs else places_where test (suc n) xs
+
+-- atoms, rows and what was worked out are right over the bank, and the witnesses with types are those of the rows
+pub record IsBasis (g : Basis) : Type 0 where
+  pub atoms : All (IsAtom g.bank) g.lits
+  pub rows : AreRows g.bank g.witnesses
+  pub typed : map (λ r. r.type) (rows_in g) ≡ g.bank.witnesses
+  pub memo : IsRightMemo g.normal g.bank
+
+-- the numbers in the tables are those of atoms, terms, partial terms and heads, and what is kept twice agrees
+pub record IsRight (t : Tables) (q : Queue Planned Delays) : Type 0 where
+  pub basis : IsBasis t.basis
+  pub clauses : Each (Each (IsNumber t.basis.lits)) (the_clauses t.steps)
+  pub solver : t.solver.clauses ≡ the_clauses t.steps
+  pub seen : Each (IsNumber t.basis.lits) t.seen
+  pub noted : Each (IsNumber t.basis.lits) t.noted.items
+  pub universals : (a : SimpleType) → ids_of a t.universals ≡ map (λ l. l.var.0) (filter (is_universal t.basis.bank.terms t.basis.lits a) t.noted.items)
+  pub terms : Each (λ u. IsPlace t.basis.bank.terms u.1) t.terms
+  pub chosen : Each (IsPlace t.basis.bank.terms) t.chosen
+  pub described : Each (IsPlace t.basis.bank.terms) t.described
+  pub stems : AreStems (length t.heads) 0 t.stems.items
+  pub holes : (n : ℕ) → ids_of (base n) t.holes ≡ places_where (has_hole_of n) 0 (sketches_in t)
+  pub budget : length (learned t.solver) ≤ q.rule.mode.conflicts
+  pub queue : Each (λ e. IsEntry (declared_scope t.basis.bank) (names_in t) (sources t) e.command) q.entries

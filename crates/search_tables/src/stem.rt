@@ -1,0 +1,10 @@
+//! What a partial term grew from.
+
+use stt_core::Ty;
+
+/// A partial term: one hole under the binders of a type, or an earlier partial term with a head in its first hole.
+#[derive(Drop)]
+pub enum Stem {
+    Blank(Ty),
+    Grown { parent: usize, head: usize },
+}

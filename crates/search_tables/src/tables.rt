@@ -1,0 +1,55 @@
+//! The tables of the search.
+
+use crate::command::Command;
+use crate::head::HeadSet;
+use crate::plan::Plan;
+use crate::set::{IdSet, LitSet};
+use crate::stem::Stem;
+use bank_normal::Normaliser;
+use command_queue::Weigher;
+use instantiate::Enumerator;
+use literal_map::LitTable;
+use sat_base::SatLit;
+use sat_core::Solver;
+use std::alloc::Global;
+use tableau_clauses::StepTable;
+use term_bank::Bank;
+use witness_names::Witnesses;
+
+/// Terms, the literals of formulas, and witnesses.
+#[derive(Drop)]
+pub struct Basis {
+    pub bank: Bank,
+    pub normal: Normaliser,
+    pub lits: LitTable,
+    pub witnesses: Witnesses,
+}
+
+/// What the search keeps beside the commands that wait: clauses, which the solver has too; the literals that were seen and those that were
+/// processed, of these the universal ones by the types over which they range; the terms by type; the predicates that were chosen by
+/// and those that were described; the partial terms by what they grew from, and their numbers by the base types of their first
+/// holes; and how many commands were carried out.
+#[derive(Drop)]
+pub struct Tables {
+    pub basis: Basis,
+    pub steps: StepTable,
+    pub solver: Solver,
+    pub seen: LitSet,
+    pub noted: Vec<SatLit>,
+    pub universals: Enumerator,
+    pub terms: Enumerator,
+    pub chosen: IdSet,
+    pub described: IdSet,
+    pub heads: HeadSet,
+    pub stems: Vec<Stem>,
+    pub holes: Enumerator,
+    pub done: u32,
+    pub alloc: Global,
+}
+
+/// The tables with the commands that wait.
+#[derive(Drop)]
+pub struct Core<W: Weigher<Command>> {
+    pub tables: Tables,
+    pub plan: Plan<W>,
+}
