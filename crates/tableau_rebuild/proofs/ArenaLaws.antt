@@ -1,10 +1,10 @@
 -- Lines that are made one after the other, and what stands for clauses with more lines.
-use Rattle.std.proofs.Common.{◌≡◌, ◌<◌, ◌≤◌, ◌+◌, ◌⊎◌, nat_lt, nat_eq, if◌then◌else◌, ℕ, zero, suc, Bool, true, false, List, [], ◌∷◌, ◌++◌, map, length, get_or, set, slice_set, Option, Some, None, option_map, unwrap_or, slice_get, slice_index_or, refl, sym, ap, ap₂, ◌∙◌, subst, append_assoc, append-nil, length-append, inl, inr, arith}
+use Rattle.std.proofs.Common.{◌≡◌, ◌<◌, ◌≤◌, ◌+◌, ◌⊎◌, nat_eq, ℕ, zero, suc, Bool, true, false, List, [], ◌∷◌, ◌++◌, map, length, get_or, set, slice_set, Option, Some, None, option_map, unwrap_or, slice_get, slice_index_or, refl, sym, ap, ap₂, ◌∙◌, subst, append_assoc, append-nil, length-append, inl, inr, arith}
 use Rattle.std.proofs.lemmas.Bool.{eqb-true, eq-eqb, false≢true}
 use Rattle.std.proofs.lemmas.List.{get_or-set_same, get_or-set_other}
 use Rattle.std.proofs.lemmas.Option.{slice_get_within, slice_get-map}
 use Rattle.stt_core.specs.Lambda.{Lambda}
-use Rattle.stt_tableau.specs.declared.refutation.RuleUse.TheVariants.{False, Close as CloseRule}
+use Rattle.stt_tableau.specs.declared.refutation.RuleUse.TheVariants.{False}
 use Rattle.sat_base.specs.declared.literal.Var.{Var}
 use Rattle.sat_base.specs.declared.literal.SatLit.{SatLit}
 use Rattle.sat_log.specs.declared.log.LogEntry.{LogEntry}
@@ -13,8 +13,8 @@ use Rattle.tableau_clauses.specs.declared.origin.Origin.{Origin}
 use Rattle.tableau_clauses.specs.declared.origin.Origin.TheVariants.{Start as FromStart, Instance as From}
 use Rattle.tableau_clauses.specs.Table.{Step, Table, EachComes}
 use Rattle.rebuilt_refutation.specs.Input.{Sourced, start_unit, clause_by}
-use Rattle.rebuilt_refutation.specs.Trees.{Place, at_clause, at_step, at_result, Tree, leaf, cut, made_at, same_line}
-use Rattle.rebuilt_refutation.specs.Stands.{Standing as Stand, start, line, instance_line, in_order, joined, Stands, of_start, of_instance}
+use Rattle.rebuilt_refutation.specs.Trees.{Place, at_clause, at_result, Tree, leaf, made_at, same_line}
+use Rattle.rebuilt_refutation.specs.Stands.{start, line, instance_line, Stands, of_start, of_instance}
 use Rattle.rebuilt_refutation.proofs.WalkLaws.{get-append, get-push, get-middle}
 use Rattle.rebuilt_refutation.proofs.StandsLaws.{same_place-true}
 use Rattle.tableau_rebuild.specs.Tables.{no_instance, the_instance, sourced, the_sources, the_input}
@@ -24,7 +24,7 @@ use Rattle.tableau_rebuild.specs.declared.draft.Draft.TheVariants.{Clause, Close
 use Rattle.tableau_rebuild.specs.declared.arena.Standing.{Standing}
 use Rattle.tableau_rebuild.specs.declared.arena.Standing.TheVariants.{Start, Line}
 use Rattle.tableau_rebuild.specs.Means.Drafts.{after_step, tree_at, tree_of, trees_after, trees, AreDrafts}
-use Rattle.tableau_rebuild.specs.Means.Arenas.{clause_line, fleshed, unit_in, the_standing, IsUnit, IsWithin, place_at, IsDrawn, IsBefore, Extends, StandsFor, AreResults, IsJoined}
+use Rattle.tableau_rebuild.specs.Means.Arenas.{clause_line, fleshed, unit_in, the_standing, IsWithin, place_at, IsDrawn, IsBefore, Extends, StandsFor, AreResults}
 use Rattle.tableau_rebuild.proofs.DraftLaws.{at_front, grown, there, clause_tree, close_tree, cut_tree}
 
 -- MORE LINES

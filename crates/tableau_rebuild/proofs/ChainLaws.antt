@@ -1,6 +1,5 @@
 -- What stands for the parts of a chain.
-use Rattle.std.proofs.Common.{◌≡◌, ◌<◌, ◌≤◌, ◌+◌, ◌&&◌, if◌then◌else◌, ℕ, zero, suc, Bool, true, false, List, [], ◌∷◌, ◌++◌, map, length, take, drop, Option, Some, None, IsSome, option_map, option_and_then, slice_get, slice_index_or, refl, sym, ap, ◌∙◌, subst, arith}
-use Rattle.std.proofs.lemmas.List.{length-map}
+use Rattle.std.proofs.Common.{◌≡◌, ◌<◌, ◌≤◌, ◌&&◌, if◌then◌else◌, ℕ, zero, suc, Bool, true, false, List, [], ◌∷◌, length, take, drop, Some, IsSome, option_map, slice_get, slice_index_or, refl, sym, ap, ◌∙◌, subst, arith}
 use Rattle.std.proofs.lemmas.Option.{slice_get_within, slice_get-map, slice_get-get_or}
 use Rattle.sat_base.specs.declared.literal.Var.{Var}
 use Rattle.sat_base.specs.declared.literal.SatLit.{SatLit}
@@ -16,15 +15,14 @@ use Rattle.sat_log.proofs.ResolutionLaws.{holds-without_repeats, without_repeats
 use Rattle.sat_log.proofs.ChainLaws.{and_then-Some, HasNoRepeats-resolved}
 use Rattle.term_bank.specs.Content.{Content}
 use Rattle.tableau_clauses.specs.Table.{Table, the_clauses}
-use Rattle.rebuilt_refutation.specs.Input.{Sourced}
 use Rattle.rebuilt_refutation.specs.Trees.{at_step, at_result}
-use Rattle.rebuilt_refutation.specs.Stands.{Standing as Stand, joined, stepped, place_of, Stands, of_first, of_next, of_result}
+use Rattle.rebuilt_refutation.specs.Stands.{joined, stepped, place_of, Stands, of_first, of_next, of_result}
 use Rattle.rebuilt_refutation.proofs.ExistsLaws.{map_some, got_of-take}
 use Rattle.tableau_rebuild.specs.Tables.{the_sources, the_input}
 use Rattle.tableau_rebuild.specs.declared.draft.Draft.{Draft}
 use Rattle.tableau_rebuild.specs.declared.arena.Standing.{Standing}
 use Rattle.tableau_rebuild.specs.Means.Arenas.{the_standing, IsWithin, Extends, StandsFor, AreResults, IsJoined, IsThere, IsChained, HasStep}
-use Rattle.tableau_rebuild.proofs.ArenaLaws.{standing_later, stands_later}
+use Rattle.tableau_rebuild.proofs.ArenaLaws.{standing_later}
 
 pub got : {A : Type 0} (xs : List A) (n : ℕ) (x : A) → n < length xs → x ≡ slice_index_or xs n x → slice_get xs n ≡ Some x
 got xs n x l e = slice_get-get_or xs n x l ∙ ap Some (sym e)

@@ -6,17 +6,17 @@ use Rattle.stt_tableau.specs.declared.refutation.RuleUse.TheVariants.{Close as C
 use Rattle.sat_base.specs.declared.literal.Var.{Var}
 use Rattle.sat_base.specs.declared.literal.SatLit.{SatLit}
 use Rattle.tableau_clauses.specs.Table.{Table}
-use Rattle.rebuilt_refutation.specs.Trees.{Tree, leaf, cut}
-use Rattle.rebuilt_refutation.specs.Stands.{start, line, in_order, joined}
+use Rattle.rebuilt_refutation.specs.Trees.{leaf, cut}
+use Rattle.rebuilt_refutation.specs.Stands.{line, joined}
 use Rattle.rebuilt_refutation.proofs.WalkLaws.{get-middle}
 use Rattle.tableau_rebuild.specs.Tables.{the_sources}
 use Rattle.tableau_rebuild.specs.declared.draft.At.{At}
 use Rattle.tableau_rebuild.specs.declared.draft.Draft.{Draft}
-use Rattle.tableau_rebuild.specs.declared.draft.Draft.TheVariants.{Clause, Close, Cut}
+use Rattle.tableau_rebuild.specs.declared.draft.Draft.TheVariants.{Close, Cut}
 use Rattle.tableau_rebuild.specs.declared.arena.Standing.{Standing}
 use Rattle.tableau_rebuild.specs.declared.arena.Standing.TheVariants.{Start, Line}
 use Rattle.tableau_rebuild.specs.Means.Drafts.{after_step, tree_at, trees}
-use Rattle.tableau_rebuild.specs.Means.Arenas.{fleshed, unit_in, the_standing, IsWithin, place_at, IsDrawn, IsBefore, Extends, IsJoined}
+use Rattle.tableau_rebuild.specs.Means.Arenas.{fleshed, unit_in, the_standing, place_at, IsDrawn, IsBefore, Extends, IsJoined}
 use Rattle.tableau_rebuild.proofs.DraftLaws.{close_tree, cut_tree}
 use Rattle.tableau_rebuild.proofs.ArenaLaws.{drawn_step, before_step, tree_later}
 

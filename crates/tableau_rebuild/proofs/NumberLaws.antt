@@ -1,20 +1,18 @@
 -- The lines of a walk have their numbers, and a line's children have lower ones.
-use Rattle.std.proofs.Common.{◌≡◌, ◌≢◌, ◌<◌, ◌+◌, ℕ, zero, suc, nat_eq, Bool, true, false, List, [], ◌∷◌, ◌++◌, map, length, get_or, set, slice_set, Some, option_map, slice_get, slice_index_or, refl, sym, ap, ◌∙◌, subst, arith}
-use Rattle.std.specs.List.{All}
+use Rattle.std.proofs.Common.{◌≡◌, ◌≢◌, ◌<◌, ℕ, suc, nat_eq, Bool, true, false, List, [], map, length, get_or, set, slice_set, Some, option_map, slice_get, slice_index_or, refl, sym, ap, ◌∙◌, subst, arith}
 use Rattle.std.proofs.lemmas.Bool.{eqb-true, eq-eqb, false≢true}
 use Rattle.std.proofs.lemmas.List.{get_or-set_same, get_or-set_other}
 use Rattle.std.proofs.lemmas.Option.{slice_get_within, slice_get-map}
 use Rattle.sat_base.specs.declared.literal.Var.{Var}
-use Rattle.rebuilt_refutation.specs.Trees.{Tree, leaf, cut, made_at, same_line}
+use Rattle.rebuilt_refutation.specs.Trees.{Tree, cut, made_at, same_line}
 use Rattle.rebuilt_refutation.specs.Lines.{walked, number_in}
-use Rattle.rebuilt_refutation.proofs.WalkLaws.{same_place-refl, IsListed, HasEarlierChildren, IsEach, IsOrdered}
+use Rattle.rebuilt_refutation.proofs.WalkLaws.{same_place-refl, IsListed, IsOrdered}
 use Rattle.rebuilt_refutation.proofs.LastLaws.{walk_ordered}
 use Rattle.rebuilt_refutation.proofs.ExistsLaws.{map_some}
 use Rattle.tableau_rebuild.specs.declared.draft.At.{At}
 use Rattle.tableau_rebuild.specs.declared.draft.Draft.{Draft}
-use Rattle.tableau_rebuild.specs.declared.draft.Draft.TheVariants.{Clause, Close, Cut}
+use Rattle.tableau_rebuild.specs.declared.draft.Draft.TheVariants.{Cut}
 use Rattle.tableau_rebuild.specs.Means.Drafts.{after_step, tree_at, trees, AreDrafts}
-use Rattle.tableau_rebuild.specs.Means.Numbers.{AreNumbers}
 use Rattle.tableau_rebuild.proofs.DraftLaws.{cut_tree, IsDrafted, one_drafted, each_drafted}
 
 module _ (drafts : List Draft) (right : AreDrafts drafts) (last : ℕ) (below : last < length drafts) (order : List ℕ) (walks : map (tree_at (trees drafts)) order ≡ walked [] (tree_at (trees drafts) last)) where

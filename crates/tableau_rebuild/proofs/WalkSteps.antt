@@ -1,6 +1,6 @@
 -- The steps of a walk.
-use Rattle.std.proofs.Common.{◌≡◌, ◌<◌, ◌+◌, ◌*◌, ◌||◌, if◌then◌else◌, ℕ, zero, suc, nat_eq, Bool, true, false, List, [], ◌∷◌, ◌++◌, map, length, reverse, get_or, set, Some, slice_get, slice_index_or, slice_set, refl, sym, ap, ap₂, ◌∙◌, subst, arith}
-use Rattle.std.specs.List.{list_any, All}
+use Rattle.std.proofs.Common.{◌≡◌, ◌<◌, ◌+◌, ◌||◌, if◌then◌else◌, ℕ, zero, suc, nat_eq, Bool, true, false, List, [], ◌∷◌, ◌++◌, map, length, reverse, get_or, set, Some, slice_get, slice_index_or, slice_set, refl, sym, ap, ◌∙◌, subst, arith}
+use Rattle.std.specs.List.{list_any}
 use Rattle.std.proofs.lemmas.Bool.{false≢true, or_left, or_right, eqb-true, eq-eqb}
 use Rattle.std.proofs.lemmas.List.{get_or-set_same, get_or-set_other, length-set, length-map, reverse-append}
 use Rattle.std.proofs.lemmas.List.Folds.{list_any-append}
@@ -8,7 +8,7 @@ use Rattle.std.proofs.lemmas.List.Elements.{All-nil, All-cons, All-head, All-tai
 use Rattle.stt_core.proofs.ListLaws.{map-append}
 use Rattle.rebuilt_refutation.specs.Trees.{Place, Tree, leaf, cut, made_at, same_line}
 use Rattle.rebuilt_refutation.specs.Lines.{with_line, walked}
-use Rattle.rebuilt_refutation.proofs.WalkLaws.{same_place-refl, get-push, IsEach, IsOrdered}
+use Rattle.rebuilt_refutation.proofs.WalkLaws.{same_place-refl, get-push}
 use Rattle.rebuilt_refutation.proofs.LastLaws.{walk_ordered}
 use Rattle.rebuilt_refutation.proofs.SkipLaws.{Task as Step, visit, list, run as run_steps, run_passes}
 use Rattle.sat_base.specs.declared.literal.Var.{Var}

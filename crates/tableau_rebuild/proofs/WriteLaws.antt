@@ -1,9 +1,8 @@
 -- Lines as they are written, one after the other.
-use Rattle.std.proofs.Common.{◌≡◌, ◌<◌, ◌+◌, ◌++◌, ℕ, zero, suc, List, [], ◌∷◌, map, length, take, Some, option_map, unwrap_or, slice_get, slice_index_or, refl, sym, ap, ap₂, ◌∙◌, subst, arith}
+use Rattle.std.proofs.Common.{◌≡◌, ◌<◌, ℕ, zero, suc, List, [], ◌∷◌, map, length, take, Some, option_map, unwrap_or, slice_get, slice_index_or, refl, sym, ap, ap₂, ◌∙◌, arith}
 use Rattle.std.proofs.lemmas.List.{length-map}
 use Rattle.std.proofs.lemmas.Option.{slice_get-map, slice_get_within}
-use Rattle.stt_core.specs.Lambda.{Lambda}
-use Rattle.stt_tableau.specs.declared.refutation.RuleUse.TheVariants.{False, Close as CloseRule}
+use Rattle.stt_tableau.specs.declared.refutation.RuleUse.TheVariants.{False}
 use Rattle.stt_tableau.specs.declared.refutation.Line.{Line}
 use Rattle.sat_base.specs.declared.literal.Var.{Var}
 use Rattle.sat_base.specs.declared.literal.SatLit.{SatLit}
@@ -13,8 +12,8 @@ use Rattle.term_bank.specs.Content.{Content}
 use Rattle.literal_map.specs.declared.instance.Instance.{Instance as BankInstance}
 use Rattle.tableau_clauses.specs.declared.origin.Origin.TheVariants.{Instance as From}
 use Rattle.tableau_clauses.specs.Table.{Step, Table, the_clauses}
-use Rattle.rebuilt_refutation.specs.Input.{Sourced, clause_by}
-use Rattle.rebuilt_refutation.specs.Trees.{at_clause, Tree, leaf, cut, branch}
+use Rattle.rebuilt_refutation.specs.Input.{clause_by}
+use Rattle.rebuilt_refutation.specs.Trees.{at_clause, leaf, cut, branch}
 use Rattle.rebuilt_refutation.specs.Stands.{instance_line}
 use Rattle.rebuilt_refutation.specs.Lines.{walked, number_in, line_of}
 use Rattle.tableau_rebuild.specs.Tables.{no_instance, the_atoms, the_instance, sourced, the_sources}

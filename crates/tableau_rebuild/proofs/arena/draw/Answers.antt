@@ -1,4 +1,4 @@
-use Rattle.std.proofs.Common.{◌≡◌, ◌<◌, ◌≤◌, ◌+◌, ◌-◌, ◌++◌, ℕ, zero, List, [], ◌∷◌, suc, length, take, replicate, Option, None, slice_index_or, ap₂, map, option_map, Some, slice_get, refl, sym, ap, subst, ◌∙◌, length-append, arith}
+use Rattle.std.proofs.Common.{◌≡◌, ◌+◌, ◌-◌, ◌++◌, ℕ, zero, List, [], ◌∷◌, suc, length, take, replicate, Option, None, slice_index_or, ap₂, refl, sym, ap, subst, ◌∙◌, length-append, arith}
 use Rattle.tableau_rebuild.specs.Means.Arenas.{IsDrawn, IsBefore, AreResults}
 use Rattle.tableau_rebuild.proofs.ArenaLaws.{none_drawn, none_before, results_more}
 use Rattle.tableau_rebuild.proofs.arena.draw.Goals as goal

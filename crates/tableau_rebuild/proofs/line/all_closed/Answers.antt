@@ -1,4 +1,4 @@
-use Rattle.std.proofs.Common.{◌<◌, [], slice_index_or, refl, arith}
+use Rattle.std.proofs.Common.{[], slice_index_or, refl, arith}
 use Rattle.std.proofs.lemmas.Option.{slice_get-get_or}
 use Rattle.stt_core.proofs.ListLaws.{map_more}
 use Rattle.stt_tableau.specs.declared.refutation.Child.TheVariants.{Closed}

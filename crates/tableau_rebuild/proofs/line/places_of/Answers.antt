@@ -1,4 +1,3 @@
-use Rattle.std.proofs.Common.{ap, ◌∙◌}
 use Rattle.stt_core.proofs.ListLaws.{map_more}
 use Rattle.rebuilt_refutation.specs.Stands.{place_in}
 use Rattle.tableau_rebuild.proofs.line.places_of.Goals as goal

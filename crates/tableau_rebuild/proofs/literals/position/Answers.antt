@@ -1,4 +1,4 @@
-use Rattle.std.proofs.Common.{◌≡◌, ◌<◌, ◌≤◌, true, length, slice_index_or, sym, subst, arith}
+use Rattle.std.proofs.Common.{◌≡◌, true, length, slice_index_or, sym, subst, arith}
 use Rattle.std.proofs.lemmas.List.Sums.{position_or_len_is}
 use Rattle.sat_base.specs.Literal.{same_literal}
 use Rattle.sat_base.proofs.LiteralLaws.{same_literal-refl, same_literal-true}

@@ -1,4 +1,4 @@
-use Rattle.std.proofs.Common.{◌≡◌, ◌∙◌, sym, subst, reverse, length, ◌<◌, arith, false, true, slice_set}
+use Rattle.std.proofs.Common.{◌∙◌, sym, subst, reverse, length, ◌<◌, arith, false, true, slice_set}
 use Rattle.std.proofs.lemmas.List.Elements.{All-head}
 use Rattle.tableau_rebuild.specs.Means.Walks.{number_of, IsUnderWay}
 use Rattle.tableau_rebuild.specs.declared.walk.Task.TheVariants.{Enter}

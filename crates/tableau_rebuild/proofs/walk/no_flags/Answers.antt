@@ -1,4 +1,4 @@
-use Rattle.std.proofs.Common.{◌≡◌, false, refl}
+use Rattle.std.proofs.Common.{false, refl}
 use Rattle.stt_core.proofs.ListLaws.{map_more}
 use Rattle.tableau_rebuild.proofs.DraftLaws.{there}
 use Rattle.tableau_rebuild.proofs.walk.no_flags.Goals as goal

@@ -1,4 +1,4 @@
-use Rattle.std.proofs.Common.{◌≡◌, ◌∙◌, ◌<◌, ◌∷◌, List, Some, slice_get, sym, ap, subst, reverse, length, arith}
+use Rattle.std.proofs.Common.{◌≡◌, ◌∙◌, ◌<◌, ◌∷◌, List, Some, sym, ap, subst, reverse, length}
 use Rattle.std.proofs.lemmas.Option.{slice_get-get_or}
 use Rattle.std.proofs.lemmas.List.Elements.{All-head}
 use Rattle.tableau_rebuild.specs.declared.draft.Draft.TheVariants.{Clause}
@@ -6,7 +6,7 @@ use Rattle.tableau_rebuild.specs.declared.walk.Task.{Task}
 use Rattle.tableau_rebuild.specs.declared.walk.Task.TheVariants.{Visit, Enter}
 use Rattle.tableau_rebuild.specs.Means.Drafts.{trees}
 use Rattle.tableau_rebuild.specs.Means.Walks.{number_of, IsUnderWay, weight}
-use Rattle.tableau_rebuild.proofs.WalkSteps.{Leaves, visit_there, visit_clause, visit_close, visit_cut, reverse_push}
+use Rattle.tableau_rebuild.proofs.WalkSteps.{visit_there, visit_clause, visit_close, visit_cut, reverse_push}
 use Rattle.tableau_rebuild.proofs.walk.visit.Goals as goal
 
 pub returns-else-not-listed-i-clause-way : goal.returns-else-not-listed-i-clause-way

@@ -1,4 +1,4 @@
-use Rattle.std.proofs.Common.{refl, sym, ap, subst}
+use Rattle.std.proofs.Common.{refl, ap, subst}
 use Rattle.tableau_rebuild.specs.declared.draft.Draft.TheVariants.{Close, Cut}
 use Rattle.tableau_rebuild.specs.declared.arena.Standing.TheVariants.{Line}
 use Rattle.tableau_rebuild.specs.Means.Arenas.{IsWithin}

@@ -1,4 +1,4 @@
-use Rattle.std.proofs.Common.{◌≡◌, ◌<◌, ◌++◌, ℕ, [], ◌∷◌, List, length, Option, Some, None, slice_get, slice_index_or, slice_set, refl, sym, ap, subst, ◌∙◌}
+use Rattle.std.proofs.Common.{◌≡◌, ◌++◌, ℕ, [], ◌∷◌, List, Option, Some, None, slice_get, slice_index_or, slice_set, refl, sym, ap, subst, ◌∙◌}
 use Rattle.rebuilt_refutation.proofs.WalkLaws.{get-middle}
 use Rattle.tableau_rebuild.specs.declared.draft.Draft.TheVariants.{Clause as ClauseDraft}
 use Rattle.tableau_rebuild.specs.Means.Arenas.{IsDrawn, IsBefore}

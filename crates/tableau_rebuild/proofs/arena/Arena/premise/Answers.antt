@@ -4,8 +4,7 @@ use Rattle.sat_log.specs.declared.chain.Premise.TheVariants.{Clause}
 use Rattle.sat_log.specs.Chains.{premise_clause, results}
 use Rattle.tableau_clauses.specs.Table.{the_clauses}
 use Rattle.rebuilt_refutation.specs.Stands.{place_of}
-use Rattle.tableau_rebuild.specs.declared.arena.Standing.{Standing}
-use Rattle.tableau_rebuild.specs.declared.arena.Standing.TheVariants.{Start, Line}
+use Rattle.tableau_rebuild.specs.declared.arena.Standing.TheVariants.{Start}
 use Rattle.tableau_rebuild.specs.Means.Arenas.{IsThere, StandsFor}
 use Rattle.tableau_rebuild.proofs.ArenaLaws.{start_premise, instance_premise}
 use Rattle.tableau_rebuild.proofs.ChainLaws.{result_premise}

@@ -1,7 +1,6 @@
-use Rattle.std.proofs.Common.{◌≡◌, ◌≤◌, ◌&&◌, true, false, length, Some, IsSome, sym, ap, subst, ◌∙◌, arith}
+use Rattle.std.proofs.Common.{◌&&◌, true, false, length, IsSome, sym, ap, subst, ◌∙◌, arith}
 use Rattle.std.proofs.lemmas.Option.{slice_get_within}
 use Rattle.sat_base.specs.Literal.{positive, holds}
-use Rattle.sat_log.specs.Chains.{premise_clause, results}
 use Rattle.sat_log.specs.Resolution.{resolved}
 use Rattle.tableau_clauses.specs.Table.{the_clauses}
 use Rattle.tableau_rebuild.specs.Means.Arenas.{IsThere}
