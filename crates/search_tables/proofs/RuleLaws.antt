@@ -1,5 +1,5 @@
 -- Instances of rules where the bank and the table of atoms grow.
-use Rattle.std.specs.Prelude.{◌≡◌, ℕ, List, [], ◌∷◌, ◌++◌, map, length, Option, Some, None, refl}
+use Rattle.std.specs.Prelude.{◌≡◌, ℕ, Bool, true, false, List, [], ◌∷◌, ◌++◌, map, length, Option, Some, None, option_map, option_to_list, if◌then◌else◌, refl}
 use Rattle.std.specs.Option.{ForSome}
 use Rattle.std.proofs.Common.{sym, ap, ◌∙◌, subst, arith, length-append}
 use Rattle.std.proofs.lemmas.Option.{same_Some}
@@ -8,7 +8,6 @@ use Rattle.stt_tableau.specs.Literals.{Literal}
 use Rattle.stt_tableau.specs.Witnesses.{Row}
 use Rattle.stt_tableau.specs.Rules.{IsInstance}
 use Rattle.stt_tableau.specs.declared.refutation.RuleUse.{RuleUse}
-use Rattle.stt_tableau.specs.declared.refutation.RuleUse.TheVariants.{AllPos, Cho, Des, Cut}
 use Rattle.stt_tableau.proofs.InstanceLaws.{one_instance}
 use Rattle.sat_base.specs.declared.literal.SatLit.{SatLit}
 use Rattle.term_bank.specs.Content.{Content, content_scope, Grows}
@@ -18,7 +17,7 @@ use Rattle.literal_map.specs.Atoms.{literal_at}
 use Rattle.literal_map.specs.declared.instance.BankUse.{BankUse}
 use Rattle.literal_map.specs.declared.instance.RuleKind.{RuleKind}
 use Rattle.literal_map.specs.declared.instance.RuleKind.TheVariants as kind
-use Rattle.tableau_rules.specs.Uses.{rule_of, listed, principals_by, principals_of, IsInstanceBy}
+use Rattle.tableau_rules.specs.Uses.{rule_of, use_of, is_cut, principals_of, IsInstanceBy}
 use Rattle.tableau_rules.specs.Changes.{Widens, AreWitnessesAfter}
 use Rattle.search_run.specs.Each.{Each}
 use Rattle.search_tables.specs.declared.tables.Basis.{Basis}
@@ -51,14 +50,21 @@ module _ (old new : Basis) (grows : BasisGrows old new) (good : IsBasis old) whe
   literal_same : (l : SatLit) → IsNumber old.lits l → literal_at new.bank.terms new.lits l ≡ literal_at old.bank.terms old.lits l
   literal_same l h = literal-stays (plain old) (plain new) continues l h
 
-  use_same : (k : RuleKind) (first second : Option SatLit) (term : Option ℕ) → ForSome first (IsNumber old.lits) → ForSome term (IsPlace old.bank.terms) → rule_of new.bank.terms new.lits k first second term ≡ rule_of old.bank.terms old.lits k first second term
-  use_same kind.AllPos (Some l) None (Some u) h i = ap (λ t. Some (AllPos 0 t)) (term_same u (i u refl))
-  use_same kind.Cho None None (Some f) h i = ap (λ t. Some (Cho t)) (term_same f (i f refl))
-  use_same kind.Des None None (Some f) h i = ap (λ t. Some (Des t)) (term_same f (i f refl))
-  use_same kind.Cut (Some l) None None h i = ap (λ (x : Literal). Some (Cut x)) (literal_same l (h l refl))
-  use_same k first second term h i = refl
+  literals_same : (o : Option SatLit) → ForSome o (IsNumber old.lits) → option_map (literal_at new.bank.terms new.lits) o ≡ option_map (literal_at old.bank.terms old.lits) o
+  literals_same (Some l) h = ap Some (literal_same l (h l refl))
+  literals_same None h = refl
 
-  listed_numbers : (o : Option SatLit) → ForSome o (IsNumber old.lits) → Each (IsNumber old.lits) (listed o)
+  terms_same : (o : Option ℕ) → ForSome o (IsPlace old.bank.terms) → option_map (term_at new.bank.terms) o ≡ option_map (term_at old.bank.terms) o
+  terms_same (Some u) h = ap Some (term_same u (h u refl))
+  terms_same None h = refl
+
+  use_same : (by : BankUse) → ForSome by.first (IsNumber old.lits) → ForSome by.second (IsNumber old.lits) → ForSome by.term (IsPlace old.bank.terms) → use_of new.bank.terms new.lits by ≡ use_of old.bank.terms old.lits by
+  use_same by first second term =
+      ap (λ o. rule_of by.kind o (option_map (literal_at new.bank.terms new.lits) by.second) (option_map (term_at new.bank.terms) by.term)) (literals_same by.first first)
+      ∙ ap (λ o. rule_of by.kind (option_map (literal_at old.bank.terms old.lits) by.first) o (option_map (term_at new.bank.terms) by.term)) (literals_same by.second second)
+      ∙ ap (rule_of by.kind (option_map (literal_at old.bank.terms old.lits) by.first) (option_map (literal_at old.bank.terms old.lits) by.second)) (terms_same by.term term)
+
+  listed_numbers : (o : Option SatLit) → ForSome o (IsNumber old.lits) → Each (IsNumber old.lits) (option_to_list o)
   listed_numbers (Some l) h = (h l refl, tt)
   listed_numbers None h = tt
 
@@ -66,13 +72,14 @@ module _ (old new : Basis) (grows : BasisGrows old new) (good : IsBasis old) whe
   both [] ys h k = k
   both (x ∷ xs) ys h k = (h.0, both xs ys h.1 k)
 
-  by_kind : (k : RuleKind) (ls : List SatLit) → Each (IsNumber old.lits) ls → Each (IsNumber old.lits) (principals_by k ls)
-  by_kind kind.Cut ls h = tt
-  by_kind k ls h = h
+  unless : (b : Bool) (ls : List SatLit) → Each (IsNumber old.lits) ls → Each (IsNumber old.lits) (if b then [] else ls)
+  unless true ls h = tt
+  unless false ls h = h
 
   module _ (by : BankUse) (first : ForSome by.first (IsNumber old.lits)) (second : ForSome by.second (IsNumber old.lits)) (term : ForSome by.term (IsPlace old.bank.terms)) where
     pub principal-numbers : Each (IsNumber old.lits) (principals_of by)
-    principal-numbers = by_kind by.kind (listed by.first ++ listed by.second) (both (listed by.first) (listed by.second) (listed_numbers by.first first) (listed_numbers by.second second))
+    principal-numbers =
+        unless (is_cut by.kind) (option_to_list by.first ++ option_to_list by.second) (both (option_to_list by.first) (option_to_list by.second) (listed_numbers by.first first) (listed_numbers by.second second))
 
     pub principals_same : map (literal_at new.bank.terms new.lits) (principals_of by) ≡ map (literal_at old.bank.terms old.lits) (principals_of by)
     principals_same = map-same (literal_at new.bank.terms new.lits) (literal_at old.bank.terms old.lits) (IsNumber old.lits) literal_same (principals_of by) principal-numbers
@@ -83,7 +90,7 @@ module _ (old new : Basis) (grows : BasisGrows old new) (good : IsBasis old) whe
     -- an instance over what has grown has the alternatives that it had
     pub same-alternatives : (as' bs : List (List Literal)) → IsInstanceBy old.bank old.lits (rows_in old) by as' → IsInstanceBy new.bank new.lits (rows_in new) by bs → bs ≡ as'
     same-alternatives as' bs h k =
-        let rule : k.rule ≡ h.rule = same_Some k.rule h.rule (sym k.is_rule ∙ use_same by.kind by.first by.second by.term first term ∙ h.is_rule) in
+        let rule : k.rule ≡ h.rule = same_Some k.rule h.rule (sym k.is_rule ∙ use_same by first second term ∙ h.is_rule) in
         let scope = grown_scope old.bank new.bank grows.bank in
         let S : Scope → Type 0 = λ s. IsInstance s (rows_in new) (map (literal_at new.bank.terms new.lits) (principals_of by)) k.rule bs in
         let R : List Row → Type 0 = λ r. IsInstance (content_scope old.bank) r (map (literal_at new.bank.terms new.lits) (principals_of by)) k.rule bs in
