@@ -1,9 +1,8 @@
 -- Predicates that are chosen by, and those that are described.
-use Rattle.std.specs.Prelude.{◌≡◌, nat_eq, ℕ, Bool, true, false, List, [], ◌∷◌, ◌++◌, map, if◌then◌else◌}
+use Rattle.std.specs.Prelude.{◌≡◌, nat_eq, ℕ, Bool, true, false, List, [], ◌∷◌, ◌++◌, if◌then◌else◌}
 use Rattle.std.specs.List.{list_any}
 use Rattle.std.proofs.Common.{sym, ap, subst, ◌∙◌}
 use Rattle.stt_core.specs.Lambda.{Lambda}
-use Rattle.stt_core.specs.SameTerm.{same_term}
 use Rattle.stt_core.proofs.ListLaws.{map-append}
 use Rattle.command_queue.specs.Queue.{Queue}
 use Rattle.search_run.specs.Each.{Each}
