@@ -42,7 +42,7 @@ result_premise t log ds standings n s c known l e h =
     subst (λ k. StandsFor t log ds (at_result n) k s) found.2 (known n s found.0 (got standings n s l e) found.1)
 
 module _ (t : Table) (log : List LogEntry) where
-  premise_in : (n : ℕ) (p : Premise) (c : List SatLit) → premise_clause (the_clauses t) (results (take n log)) p ≡ Some c → IsThere (length (the_clauses t)) n p × (premise_clause (the_clauses t) (results log) p ≡ Some c)
+  pub premise_in : (n : ℕ) (p : Premise) (c : List SatLit) → premise_clause (the_clauses t) (results (take n log)) p ≡ Some c → IsThere (length (the_clauses t)) n p × (premise_clause (the_clauses t) (results log) p ≡ Some c)
   premise_in n (Clause m) c h = (slice_get_within (the_clauses t) m c h, h)
   premise_in n (Result m) c h =
       let found = result_entry (take n log) m c h in

@@ -6,3 +6,9 @@ pub mod ChainLaws
 pub mod FleshLaws
 pub mod NumberLaws
 pub mod WriteLaws
+pub mod NeededLaws
+pub mod SourceLaws
+pub mod OverLaws
+pub mod GivenLaws
+pub mod LastLaws
+pub mod FlagLaws

@@ -1,5 +1,5 @@
 -- What is right of the tables that a refutation is rebuilt from.
-use Rattle.std.specs.Prelude.{◌≡◌, ◌+◌, ℕ, List, [], map, length, Some, slice_get, All}
+use Rattle.std.specs.Prelude.{◌≡◌, ◌+◌, ◌<◌, ℕ, List, [], map, length, Some, IfSome, slice_get, All}
 use Rattle.stt_tableau.specs.Witnesses.{Row, with_rows}
 use Rattle.stt_tableau.specs.Rules.{Rule}
 use Rattle.stt_tableau.specs.declared.refutation.RuleUse.{RuleUse}
@@ -21,6 +21,8 @@ AreUnitsNumbered atoms t = All (λ s. s.1 ≡ Start → IsOver (length atoms) s.
 pub record IsInstanceOver (b : Content) (atoms : List ℕ) (rows : List Row) (i : Instance) : Type 0 where
   pub rule : RuleUse
   pub is_rule : use_of b.terms atoms i.by ≡ Some rule
+  pub first : IfSome i.by.first (λ l. l.var.0 < length atoms)
+  pub term : IfSome i.by.term (λ u. u < length b.terms)
   pub principals : IsOver (length atoms) i.principals
   pub alternatives : All (IsOver (length atoms)) i.alternatives
   pub fits : Rule (with_rows (content_scope b) rows) rows rule (literals_of (the_atoms b.terms atoms) i.principals) (map (literals_of (the_atoms b.terms atoms)) i.alternatives)

@@ -5,4 +5,6 @@ pub mod Arenas
 pub mod Numbers
 pub mod Branches
 pub mod LineParts
+pub mod Needed
 pub mod Written
+pub mod Flags

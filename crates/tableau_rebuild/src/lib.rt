@@ -7,9 +7,11 @@ mod draft;
 mod line;
 mod lines;
 mod literals;
+mod needed;
 mod numbering;
 mod reached;
 mod refutation;
+mod rows;
 mod walk;
 
 pub use reached::{UsedList, used};

@@ -2,6 +2,8 @@
 ghost use Rattle.std.specs.Prelude.{◌≡◌, ◌<◌, ℕ, [], length, map, Some, slice_get, IfOk, All};
 ghost use Rattle.sat_base.specs.Literal.{IsOver};
 ghost use Rattle.literal_map.specs.Atoms.{IsAtom};
+ghost use Rattle.witness_names.specs.Rows.{rows_of, AreRows};
+ghost use Rattle.rebuilt_refutation.specs.NeededRows.{rows_for_lines};
 ghost use Rattle.rebuilt_refutation.specs.Lines.{walked, line_of as line_in};
 ghost use Rattle.rebuilt_refutation.specs.Trees.{branch};
 ghost use Rattle.tableau_rebuild.specs.declared.draft.Draft.{Draft};
@@ -14,6 +16,7 @@ ghost use Rattle.tableau_rebuild.specs.Means.Written.{the_tree};
 use crate::branch::branch_of;
 use crate::draft::Draft;
 use crate::line::line_of;
+use crate::needed::rows_for_line;
 use literal_map::LitTable;
 use sat_base::Clause;
 use sat_log::Resolver;
@@ -21,6 +24,14 @@ use std::alloc::{AllocError, Global};
 use stt_tableau::Lines;
 use tableau_clauses::StepTable;
 use term_bank::Bank;
+use witness_names::Witnesses;
+
+/// Lines, and how many rows of the witness table they need.
+#[derive(Drop)]
+pub(crate) struct Written {
+    pub(crate) lines: Lines,
+    pub(crate) rows: usize,
+}
 
 /// The lines of the drafts in this order, of which each has its number.
 pub(crate) fn write_lines(
@@ -28,12 +39,14 @@ pub(crate) fn write_lines(
     bank: &Bank,
     atoms: &LitTable,
     steps: &StepTable,
+    witnesses: &Witnesses,
     drafts: &[Draft],
     last: usize,
     order: &[usize],
     numbers: &[usize],
-) -> Result<Lines, AllocError>
+) -> Result<Written, AllocError>
     requires atoms { All (IsAtom bank.now) atoms.now }
+    requires rows { AreRows bank.now witnesses.now }
     requires right { AreDrafts drafts.now }
     requires last { last < length drafts.now }
     requires walked { map (tree_at (trees drafts.now)) order.now ≡ walked [] (tree_at (trees drafts.now) last) }
@@ -41,17 +54,20 @@ pub(crate) fn write_lines(
     requires numbers { AreNumbers order.now numbers.now }
     requires makeable { (k i : ℕ) (d : Draft) → slice_get order.now k ≡ Some i → slice_get drafts.now i ≡ Some d → IsMakeable bank.now atoms.now steps.now numbers.now d }
     requires numbered { (k i : ℕ) → slice_get order.now k ≡ Some i → IsOver (length atoms.now) (branch (the_tree bank.now.terms atoms.now steps.now drafts.now i)) }
-    ensures { IfOk result (λ lines. lines ≡ map (λ i. line_in (the_atoms bank.now.terms atoms.now) (map (the_tree bank.now.terms atoms.now steps.now drafts.now) order.now) (the_tree bank.now.terms atoms.now steps.now drafts.now i)) order.now) }
+    ensures lines { IfOk result (λ written. written.lines ≡ map (λ i. line_in (the_atoms bank.now.terms atoms.now) (map (the_tree bank.now.terms atoms.now steps.now drafts.now) order.now) (the_tree bank.now.terms atoms.now steps.now drafts.now i)) order.now) }
+    ensures rows { IfOk result (λ written. written.rows ≡ rows_for_lines (rows_of bank.now.terms witnesses.now) written.lines) }
 {
     let mut branches: Vec<Clause> = Vec::new(alloc);
     let mut lines = Lines::new(alloc);
+    let mut rows: usize = 0;
     let mut resolver = Resolver::new(alloc);
     for k in 0..order.len() {
         let draft = drafts[order[k]];
         let branch = branch_of(alloc, steps, draft, numbers, &branches, &mut resolver)?;
         let line = line_of(alloc, bank, atoms, steps, draft, branch.as_slice(), numbers)?;
+        rows = rows.max(rows_for_line(bank, atoms, witnesses, steps, draft, branch.as_slice()));
         lines.push(line)?;
         branches.push(branch)?;
     }
-    Ok(lines)
+    Ok(Written { lines, rows })
 }

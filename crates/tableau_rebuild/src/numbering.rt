@@ -18,7 +18,8 @@ pub(crate) fn number_lines(
     requires last { last < length drafts.now }
     requires walked { map (tree_at (trees drafts.now)) order.now ≡ walked [] (tree_at (trees drafts.now) last) }
     requires inside { (k i : ℕ) → slice_get order.now k ≡ Some i → i < length drafts.now }
-    ensures { IfOk result (λ numbers. AreNumbers order.now numbers.items) }
+    ensures numbers { IfOk result (λ numbers. AreNumbers order.now numbers.items) }
+    ensures count { IfOk result (λ numbers. length numbers.items ≡ length drafts.now) }
 {
     let mut numbers = Vec::new(alloc);
     for _draft in drafts {

@@ -1,22 +1,63 @@
 //! The refutation of a log.
-ghost use Rattle.std.specs.Prelude.{IfOk, All};
+ghost use Rattle.std.specs.Prelude.{◌≡◌, ◌<◌, length, take, IfOk, All};
 ghost use Rattle.sat_log.specs.Chains.{IsLogOver};
 ghost use Rattle.stt_tableau.specs.Accepted.{IsAccepted};
 ghost use Rattle.term_bank.specs.Content.{content_scope};
 ghost use Rattle.literal_map.specs.Atoms.{IsAtom};
 ghost use Rattle.witness_names.specs.Rows.{rows_of, AreRows};
 ghost use Rattle.tableau_clauses.specs.Table.{the_clauses, the_instances};
+ghost use Rattle.rebuilt_refutation.specs.Lines.{lines_from};
+ghost use Rattle.rebuilt_refutation.specs.NeededRows.{rows_for_lines};
 ghost use Rattle.rebuilt_refutation.specs.Rebuilt.{IsRebuilt};
 ghost use Rattle.tableau_rebuild.specs.Tables.{the_atoms, the_input, unit_literals};
 ghost use Rattle.tableau_rebuild.specs.Conditions.{AreUnitsNumbered, IsInstanceOver, EndsEmpty};
+ghost use Rattle.tableau_rebuild.specs.Means.Drafts.{AreDrafts};
+ghost use Rattle.tableau_rebuild.specs.Means.Written.{the_tree, IsFounded};
 
+use crate::arena::{Standing, draw};
+use crate::draft::Draft;
+use crate::lines::write_lines;
+use crate::numbering::number_lines;
+use crate::rows::write_rows;
+use crate::walk::walk_from;
 use literal_map::LitTable;
+use rebuilt_refutation::rebuilt_is_accepted;
 use sat_log::Log;
 use std::alloc::{AllocError, Global};
 use stt_tableau::Refutation;
 use tableau_clauses::StepTable;
 use term_bank::Bank;
 use witness_names::Witnesses;
+
+/// The refutation with the lines that this one stands on, itself as the last.
+fn refutation_of(
+    alloc: Global,
+    bank: &Bank,
+    atoms: &LitTable,
+    steps: &StepTable,
+    witnesses: &Witnesses,
+    drafts: &[Draft],
+    last: usize,
+) -> Result<Refutation, AllocError>
+    requires rows { AreRows bank.now witnesses.now }
+    requires atoms { All (IsAtom bank.now) atoms.now }
+    requires right { AreDrafts drafts.now }
+    requires last { last < length drafts.now }
+    requires founded { IsFounded bank.now atoms.now steps.now drafts.now last }
+    ensures lines { IfOk result (λ refutation. refutation.lines ≡ lines_from (the_atoms bank.now.terms atoms.now) (the_tree bank.now.terms atoms.now steps.now drafts.now last)) }
+    ensures rows { IfOk result (λ refutation. refutation.witnesses ≡ take (rows_for_lines (rows_of bank.now.terms witnesses.now) refutation.lines) (rows_of bank.now.terms witnesses.now)) }
+{
+    let order = walk_from(alloc, drafts, last)?;
+    let numbers = number_lines(alloc, drafts, last, &order)?;
+    let written = write_lines(
+        alloc, bank, atoms, steps, witnesses, drafts, last, &order, &numbers,
+    )?;
+    let rows = write_rows(alloc, bank, witnesses, written.rows)?;
+    Ok(Refutation {
+        witnesses: rows,
+        lines: written.lines,
+    })
+}
 
 /// The refutation that a log gives, whose last result is the empty clause.
 pub fn rebuild(
@@ -36,5 +77,19 @@ pub fn rebuild(
     ensures rebuilt { IfOk result (λ refutation. IsRebuilt (the_input bank.now lits.now steps.now log.now witnesses.now) refutation) }
     ensures accepted { IfOk result (λ refutation. IsAccepted (content_scope bank.now) (unit_literals (the_atoms bank.now.terms lits.now) steps.now.0) refutation) }
 {
-    Err(AllocError)
+    rebuilt_is_accepted();
+    steps.clauses_come_from_origins();
+    let arena = draw(alloc, steps, log)?;
+    match arena.of_result[log.len() - 1] {
+        Standing::Start(_) => unreachable!(),
+        Standing::Line(last) => Ok(refutation_of(
+            alloc,
+            bank,
+            lits,
+            steps,
+            witnesses,
+            &arena.drafts,
+            last,
+        )?),
+    }
 }

@@ -9,7 +9,10 @@ use Rattle.tableau_rebuild.specs.declared.draft.Draft.TheVariants.{Clause}
 use Rattle.tableau_rebuild.specs.Tables.{the_atoms}
 use Rattle.tableau_rebuild.specs.Means.LineParts.{IsLineBy}
 use Rattle.tableau_rebuild.specs.Means.Written.{the_tree}
+use Rattle.witness_names.specs.Rows.{rows_of}
 use Rattle.tableau_rebuild.proofs.WriteLaws.{branch_made, line_made, ready}
+use Rattle.tableau_rebuild.proofs.NeededLaws.{lines_more}
+use Rattle.tableau_rebuild.proofs.LastLaws.{has_parts}
 use Rattle.tableau_rebuild.proofs.lines.write_lines.Goals as goal
 
 length_front : {A : Type 0} (k : ℕ) (xs : List A) → k ≤ length xs → length (take k xs) ≡ k
@@ -41,6 +44,18 @@ line_of-requires-clause-makeable c =
     let drafted = slice_get-get_or ds i (Clause 0) (c.requires.inside k i listed) in
     c.requires.makeable k i (slice_index_or ds i (Clause 0)) listed drafted
 
+pub rows_for_line-requires-clause-parts : goal.rows_for_line-requires-clause-parts
+rows_for_line-requires-clause-parts c =
+    let order = c.args.order.now in
+    let ds = c.args.drafts.now in
+    let k = c.loop-k.k in
+    let within = c.loop-k-test.true in
+    let i = slice_index_or order k 0 in
+    let d = slice_index_or ds i (Clause 0) in
+    let listed = slice_get-get_or order k 0 (omega (arith, within)) in
+    let drafted = slice_get-get_or ds i (Clause 0) (c.requires.inside k i listed) in
+    has_parts c.args.bank.now c.args.atoms.now c.args.steps.now c.args.numbers.now d (c.requires.makeable k i d listed drafted)
+
 pub line_of-requires-clause-numbered : goal.line_of-requires-clause-numbered
 line_of-requires-clause-numbered c =
     let order = c.args.order.now in
@@ -53,6 +68,19 @@ line_of-requires-clause-numbered c =
     let drafted = slice_get-get_or ds i (Clause 0) (c.requires.inside k i listed) in
     let made = branch_made c.args.bank.now c.args.atoms.now c.args.steps.now ds c.requires.right c.args.last c.requires.last order c.requires.walked c.requires.inside c.args.numbers.now c.requires.numbers k i d c.deref.result.now listed drafted (c.requires.makeable k i d listed drafted) (c.deref.ensures.value ∙ c.loop-k.invariant.branches) in
     subst (IsOver (length c.args.atoms.now)) (sym (c.as_slice.ensures ∙ c.in_ok-branch.ensures.branch ∙ made)) (c.requires.numbered k i listed)
+
+pub rows_for_line-requires-clause-numbered : goal.rows_for_line-requires-clause-numbered
+rows_for_line-requires-clause-numbered c =
+    let order = c.args.order.now in
+    let ds = c.args.drafts.now in
+    let k = c.loop-k.k in
+    let within = c.loop-k-test.true in
+    let i = slice_index_or order k 0 in
+    let d = slice_index_or ds i (Clause 0) in
+    let listed = slice_get-get_or order k 0 (omega (arith, within)) in
+    let drafted = slice_get-get_or ds i (Clause 0) (c.requires.inside k i listed) in
+    let made = branch_made c.args.bank.now c.args.atoms.now c.args.steps.now ds c.requires.right c.args.last c.requires.last order c.requires.walked c.requires.inside c.args.numbers.now c.requires.numbers k i d c.deref.result.now listed drafted (c.requires.makeable k i d listed drafted) (c.deref.ensures.value ∙ c.loop-k.invariant.branches) in
+    subst (IsOver (length c.args.atoms.now)) (sym (c.as_slice-in-loop-k.ensures ∙ c.in_ok-branch.ensures.branch ∙ made)) (c.requires.numbered k i listed)
 
 pub loop-k-preserved : goal.loop-k-preserved
 loop-k-preserved c =
@@ -76,5 +104,6 @@ loop-k-preserved c =
     record {
       branches = map_more (λ j. branch (the_tree b.terms atoms t ds j)) order k i c.loop-k.branches.items c.push-in-loop-k.new.self.items c.in_ok-branch.branch listed c.loop-k.invariant.branches is c.in_ok-push-2.ensures.items;
       lines = map_more (λ j. line_of (the_atoms b.terms atoms) (map (the_tree b.terms atoms t ds) order) (the_tree b.terms atoms t ds j)) order k i c.loop-k.lines c.push.new.self c.in_ok-line.line listed c.loop-k.invariant.lines right c.in_ok-push.ensures.ok;
+      rows = lines_more (rows_of b.terms c.args.witnesses.now) c.loop-k.lines c.push.new.self c.in_ok-line.line c.loop-k.rows c.rows_for_line.result c.max-rows.result c.in_ok-push.ensures.ok c.loop-k.invariant.rows (c.rows_for_line.ensures numbers c.in_ok-line.line (subst (λ ls. IsLineBy b atoms t numbers ls d c.in_ok-line.line) (c.as_slice.ensures ∙ sym c.as_slice-in-loop-k.ensures) c.in_ok-line.ensures)) c.max-rows.ensures;
       empty = c.in_ok-branch.ensures.empty;
     }

@@ -1,5 +1,7 @@
 use Rattle.std.proofs.Common.{◌≡◌, [], map, take}
+use Rattle.witness_names.specs.Rows.{rows_of}
 use Rattle.rebuilt_refutation.specs.Lines.{line_of}
+use Rattle.rebuilt_refutation.specs.NeededRows.{rows_for_lines}
 use Rattle.rebuilt_refutation.specs.Trees.{branch}
 use Rattle.tableau_rebuild.specs.Tables.{the_atoms}
 use Rattle.tableau_rebuild.specs.Means.Written.{the_tree}
@@ -9,5 +11,6 @@ abbrev pub invariant-loop-k : goal.invariant-loop-k
 invariant-loop-k l = record {
   branches : l.branches.items ≡ map (λ i. branch (the_tree l.bank.terms l.atoms l.steps l.drafts i)) (take l.k l.order);
   lines : l.lines ≡ map (λ i. line_of (the_atoms l.bank.terms l.atoms) (map (the_tree l.bank.terms l.atoms l.steps l.drafts) l.order) (the_tree l.bank.terms l.atoms l.steps l.drafts i)) (take l.k l.order);
+  rows : l.rows ≡ rows_for_lines (rows_of l.bank.terms l.witnesses) l.lines;
   empty : l.resolver ≡ [];
 }

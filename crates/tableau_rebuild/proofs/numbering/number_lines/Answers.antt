@@ -46,8 +46,11 @@ loop-k-preserved c =
           (first_more order numbers k i at (omega (arith, inside, count)) (listed_once c.args.drafts.now c.requires.right c.args.last c.requires.last order c.requires.walked) c.loop-k.invariant.first);
     }
 
-pub returns : goal.returns
-returns c = λ k i h.
+pub returns-clause-count : goal.returns-clause-count
+returns-clause-count c = c.loop-k.invariant.count
+
+pub returns-clause-numbers : goal.returns-clause-numbers
+returns-clause-numbers c = λ k i h.
     let within = slice_get_within c.args.order.now k i h in
     let below = c.loop-k-test.false in
     c.loop-k.invariant.first k i (omega (arith, within, below)) h

@@ -1,0 +1,6 @@
+use Rattle.std.proofs.Common.{ℕ, ◌↔◌, Contains}
+use Rattle.tableau_rebuild.specs.Means.Flags.{HasFlaggedOrigin}
+use Rattle.tableau_rebuild.proofs.reached.instances_of.Given as goal
+
+abbrev pub invariant-loop-n : goal.invariant-loop-n
+invariant-loop-n l = (k : ℕ) → Contains l.numbers.items k ↔ HasFlaggedOrigin l.steps l.clauses l.n k

@@ -1,0 +1,5 @@
+use Rattle.tableau_rebuild.specs.Means.Flags.{AreFlagsOf}
+use Rattle.tableau_rebuild.proofs.reached.reach.Given as goal
+
+abbrev pub invariant-loop-n : goal.invariant-loop-n
+invariant-loop-n l = AreFlagsOf l.steps l.log l.n l.reached

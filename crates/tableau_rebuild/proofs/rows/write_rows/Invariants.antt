@@ -1,0 +1,6 @@
+use Rattle.std.proofs.Common.{◌≡◌, take}
+use Rattle.witness_names.specs.Rows.{rows_of}
+use Rattle.tableau_rebuild.proofs.rows.write_rows.Given as goal
+
+abbrev pub invariant-loop-w : goal.invariant-loop-w
+invariant-loop-w l = l.rows ≡ take l.w (rows_of l.bank.terms l.witnesses)
