@@ -2,7 +2,9 @@
 use Rattle.std.specs.Prelude.{◌≡◌, ◌+◌, ◌++◌, ℕ, List, [], map, length, Some, slice_get, Contains}
 use Rattle.stt_core.specs.Typing.{Scope}
 use Rattle.stt_tableau.specs.Literals.{Literal}
+use Rattle.stt_tableau.specs.Witnesses.{with_rows}
 use Rattle.stt_tableau.specs.Accepted.{IsAccepted}
+use Rattle.stt_tableau.specs.Closed.{Closes, tableau_of}
 use Rattle.stt_tableau.specs.declared.refutation.Line.{Line}
 use Rattle.stt_tableau.specs.declared.refutation.Refutation.{Refutation}
 use Rattle.sat_base.specs.declared.literal.SatLit.{SatLit}
@@ -22,6 +24,11 @@ use Rattle.rebuilt_refutation.specs.Trimmed.{IsEachReached, IsFromSearch}
 -- the refutation is accepted
 abbrev pub RebuiltIsAccepted : Type 0
 RebuiltIsAccepted = (scope : Scope) (start : List Literal) (input : Input) (refutation : Refutation) → IsGiven scope start input → IsRebuilt input refutation → IsAccepted scope start refutation
+
+-- the tableau of the refutation's last line closes the start
+abbrev pub RebuiltIsClosed : Type 0
+RebuiltIsClosed =
+    (scope : Scope) (start : List Literal) (input : Input) (refutation : Refutation) → IsGiven scope start input → IsRebuilt input refutation → Closes (with_rows scope refutation.witnesses) refutation.witnesses (tableau_of refutation) start
 
 -- from a right log whose last result is the empty clause a refutation is rebuilt
 abbrev pub SomeIsRebuilt : Type 0

@@ -1,10 +1,11 @@
 //! Laws of the definitions.
 ghost use Rattle.rebuilt_refutation.specs.Examples.{ExamplesAreRebuilt};
-ghost use Rattle.rebuilt_refutation.specs.Laws.{BranchesArePicked, OneIsRebuilt, RebuiltHasUsed, RebuiltIsAccepted, RebuiltIsFew, RebuiltIsFromSearch, RebuiltIsReached, SomeIsRebuilt};
+ghost use Rattle.rebuilt_refutation.specs.Laws.{BranchesArePicked, OneIsRebuilt, RebuiltHasUsed, RebuiltIsAccepted, RebuiltIsClosed, RebuiltIsFew, RebuiltIsFromSearch, RebuiltIsReached, SomeIsRebuilt};
 
-/// What is rebuilt is accepted.
+/// What is rebuilt is accepted, and the tableau of its last line closes the start.
 pub fn rebuilt_is_accepted()
-    ensures { RebuiltIsAccepted }
+    ensures accepted { RebuiltIsAccepted }
+    ensures closed { RebuiltIsClosed }
 {}
 
 /// From a right log whose last result is the empty clause one refutation is rebuilt.

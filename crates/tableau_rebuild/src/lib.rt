@@ -4,6 +4,7 @@
 mod arena;
 mod branch;
 mod draft;
+mod law;
 mod line;
 mod lines;
 mod literals;
@@ -14,5 +15,6 @@ mod refutation;
 mod rows;
 mod walk;
 
+pub use law::tables_are_given;
 pub use reached::{UsedList, used};
 pub use refutation::rebuild;

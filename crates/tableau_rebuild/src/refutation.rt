@@ -1,7 +1,10 @@
 //! The refutation of a log.
-ghost use Rattle.std.specs.Prelude.{◌≡◌, ◌<◌, length, take, IfOk, All};
+ghost use Rattle.std.specs.Prelude.{◌≡◌, ◌<◌, length, take, Contains, IfOk, All};
 ghost use Rattle.sat_log.specs.Chains.{IsLogOver};
+ghost use Rattle.stt_tableau.specs.Witnesses.{with_rows};
 ghost use Rattle.stt_tableau.specs.Accepted.{IsAccepted};
+ghost use Rattle.stt_tableau.specs.Closed.{Closes, tableau_of};
+ghost use Rattle.stt_tableau.specs.declared.refutation.Line.{Line};
 ghost use Rattle.term_bank.specs.Content.{content_scope};
 ghost use Rattle.literal_map.specs.Atoms.{IsAtom};
 ghost use Rattle.witness_names.specs.Rows.{rows_of, AreRows};
@@ -9,6 +12,8 @@ ghost use Rattle.tableau_clauses.specs.Table.{the_clauses, the_instances};
 ghost use Rattle.rebuilt_refutation.specs.Lines.{lines_from};
 ghost use Rattle.rebuilt_refutation.specs.NeededRows.{rows_for_lines};
 ghost use Rattle.rebuilt_refutation.specs.Rebuilt.{IsRebuilt};
+ghost use Rattle.rebuilt_refutation.specs.Trimmed.{IsEachReached, IsFromSearch};
+ghost use Rattle.rebuilt_refutation.specs.Used.{AreFew};
 ghost use Rattle.tableau_rebuild.specs.Tables.{the_atoms, the_input, unit_literals};
 ghost use Rattle.tableau_rebuild.specs.Conditions.{AreUnitsNumbered, IsInstanceOver, EndsEmpty};
 ghost use Rattle.tableau_rebuild.specs.Means.Drafts.{AreDrafts};
@@ -16,12 +21,13 @@ ghost use Rattle.tableau_rebuild.specs.Means.Written.{the_tree, IsFounded};
 
 use crate::arena::{Standing, draw};
 use crate::draft::Draft;
+use crate::law::tables_are_given;
 use crate::lines::write_lines;
 use crate::numbering::number_lines;
 use crate::rows::write_rows;
 use crate::walk::walk_from;
 use literal_map::LitTable;
-use rebuilt_refutation::rebuilt_is_accepted;
+use rebuilt_refutation::{rebuilt_is_accepted, rebuilt_is_trimmed};
 use sat_log::Log;
 use std::alloc::{AllocError, Global};
 use stt_tableau::Refutation;
@@ -59,6 +65,39 @@ fn refutation_of(
     })
 }
 
+/// The refutation whose last line stands for the last result of a log.
+fn refutation_from(
+    alloc: Global,
+    bank: &Bank,
+    lits: &LitTable,
+    steps: &StepTable,
+    log: &Log,
+    witnesses: &Witnesses,
+) -> Result<Refutation, AllocError>
+    requires rows { AreRows bank.now witnesses.now }
+    requires atoms { All (IsAtom bank.now) lits.now }
+    requires units { AreUnitsNumbered lits.now steps.now }
+    requires instances { All (IsInstanceOver bank.now lits.now (rows_of bank.now.terms witnesses.now)) (the_instances steps.now) }
+    requires log { IsLogOver (the_clauses steps.now) log.now }
+    requires closed { EndsEmpty log.now }
+    ensures { IfOk result (λ refutation. IsRebuilt (the_input bank.now lits.now steps.now log.now witnesses.now) refutation) }
+{
+    steps.clauses_come_from_origins();
+    let arena = draw(alloc, steps, log)?;
+    match arena.of_result[log.len() - 1] {
+        Standing::Start(_) => unreachable!(),
+        Standing::Line(last) => Ok(refutation_of(
+            alloc,
+            bank,
+            lits,
+            steps,
+            witnesses,
+            &arena.drafts,
+            last,
+        )?),
+    }
+}
+
 /// The refutation that a log gives, whose last result is the empty clause.
 pub fn rebuild(
     alloc: Global,
@@ -76,20 +115,13 @@ pub fn rebuild(
     requires closed { EndsEmpty log.now }
     ensures rebuilt { IfOk result (λ refutation. IsRebuilt (the_input bank.now lits.now steps.now log.now witnesses.now) refutation) }
     ensures accepted { IfOk result (λ refutation. IsAccepted (content_scope bank.now) (unit_literals (the_atoms bank.now.terms lits.now) steps.now.0) refutation) }
+    ensures closed { IfOk result (λ refutation. Closes (with_rows (content_scope bank.now) refutation.witnesses) refutation.witnesses (tableau_of refutation) (unit_literals (the_atoms bank.now.terms lits.now) steps.now.0)) }
+    ensures reached { IfOk result (λ refutation. IsEachReached refutation.lines) }
+    ensures from_search { IfOk result (λ refutation. (l : Line) → Contains refutation.lines l → IsFromSearch (unit_literals (the_atoms bank.now.terms lits.now) steps.now.0) (the_input bank.now lits.now steps.now log.now witnesses.now) l) }
+    ensures few { IfOk result (λ refutation. AreFew log.now refutation.lines) }
 {
+    tables_are_given(bank, lits, steps, log, witnesses);
     rebuilt_is_accepted();
-    steps.clauses_come_from_origins();
-    let arena = draw(alloc, steps, log)?;
-    match arena.of_result[log.len() - 1] {
-        Standing::Start(_) => unreachable!(),
-        Standing::Line(last) => Ok(refutation_of(
-            alloc,
-            bank,
-            lits,
-            steps,
-            witnesses,
-            &arena.drafts,
-            last,
-        )?),
-    }
+    rebuilt_is_trimmed();
+    Ok(refutation_from(alloc, bank, lits, steps, log, witnesses)?)
 }

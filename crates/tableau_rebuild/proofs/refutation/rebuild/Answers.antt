@@ -1,104 +1,38 @@
-use Rattle.std.proofs.Common.{◌<◌, [], length, sym, subst}
 use Rattle.term_bank.specs.Content.{content_scope}
-use Rattle.rebuilt_refutation.specs.Trees.{at_result}
-use Rattle.rebuilt_refutation.specs.Stands.{line, Stands}
-use Rattle.rebuilt_refutation.specs.Rebuilt.{IsRebuilt}
-use Rattle.tableau_rebuild.specs.Tables.{the_atoms, the_input, the_sources, unit_literals}
-use Rattle.tableau_rebuild.specs.declared.arena.Standing.TheVariants.{Line}
-use Rattle.tableau_rebuild.specs.Means.Arenas.{the_standing, StandsFor}
-use Rattle.tableau_rebuild.specs.Means.Drafts.{AreDrafts}
-use Rattle.tableau_rebuild.specs.Means.Written.{the_tree, IsFounded}
-use Rattle.tableau_rebuild.proofs.ArenaLaws.{are_drafts}
-use Rattle.tableau_rebuild.proofs.LastLaws.{last_stands, last_start}
-use Rattle.tableau_rebuild.proofs.OverLaws.{stands_founded}
-use Rattle.tableau_rebuild.proofs.GivenLaws.{given}
+use Rattle.tableau_rebuild.specs.Tables.{the_atoms, the_input, unit_literals}
 use Rattle.tableau_rebuild.proofs.refutation.rebuild.Goals as goal
-
-pub unreachable-requires : goal.unreachable-requires
-unreachable-requires c =
-    let t = c.args.steps.now in
-    let log = c.args.log.now in
-    let arena = c.in_ok-arena.arena in
-    let ds = arena.drafts.items in
-    let made = c.in_ok-arena.ensures in
-    let h = last_stands t log ds arena.of_result.items made.results made.all c.requires.closed c.len.result c.len.ensures c.index.result.now c.index.ensures in
-    last_start t log ds c.args.bank.now c.requires.closed.number c.in-Start.field-0 (subst (StandsFor t log ds (at_result c.requires.closed.number) []) c.in-Start.is h)
-
-pub refutation_of-requires-clause-right : goal.refutation_of-requires-clause-right
-refutation_of-requires-clause-right c =
-    let arena = c.in_ok-arena.arena in
-    subst AreDrafts (sym c.deref.ensures.value) (are_drafts arena.drafts.items arena.of_clause.items c.in_ok-arena.ensures.drawn)
-
-pub refutation_of-requires-clause-last : goal.refutation_of-requires-clause-last
-refutation_of-requires-clause-last c =
-    let t = c.args.steps.now in
-    let log = c.args.log.now in
-    let arena = c.in_ok-arena.arena in
-    let ds = arena.drafts.items in
-    let made = c.in_ok-arena.ensures in
-    let h = last_stands t log ds arena.of_result.items made.results made.all c.requires.closed c.len.result c.len.ensures c.index.result.now c.index.ensures in
-    let stands = subst (StandsFor t log ds (at_result c.requires.closed.number) []) c.in-Line.is h in
-    subst (λ xs. c.in-Line.last < length xs) (sym c.deref.ensures.value) stands.within
-
-pub refutation_of-requires-clause-founded : goal.refutation_of-requires-clause-founded
-refutation_of-requires-clause-founded c =
-    let b = c.args.bank.now in
-    let atoms = c.args.lits.now in
-    let witnesses = c.args.witnesses.now in
-    let t = c.args.steps.now in
-    let log = c.args.log.now in
-    let arena = c.in_ok-arena.arena in
-    let ds = arena.drafts.items in
-    let made = c.in_ok-arena.ensures in
-    let h = last_stands t log ds arena.of_result.items made.results made.all c.requires.closed c.len.result c.len.ensures c.index.result.now c.index.ensures in
-    let stands = subst (StandsFor t log ds (at_result c.requires.closed.number) []) c.in-Line.is h in
-    let founded =
-    stands_founded b atoms t log witnesses c.clauses_come_from_origins.ensures c.requires.instances c.requires.units (at_result c.requires.closed.number) [] (the_standing (the_sources b.terms atoms t) ds (Line c.in-Line.last)) (stands.stands b atoms witnesses) in
-    subst (λ xs. IsFounded b atoms t xs c.in-Line.last) (sym c.deref.ensures.value) founded.1
-
-pub returns-clause-rebuilt : goal.returns-clause-rebuilt
-returns-clause-rebuilt c =
-    let b = c.args.bank.now in
-    let atoms = c.args.lits.now in
-    let witnesses = c.args.witnesses.now in
-    let t = c.args.steps.now in
-    let log = c.args.log.now in
-    let arena = c.in_ok-arena.arena in
-    let ds = arena.drafts.items in
-    let made = c.in_ok-arena.ensures in
-    let last = c.in-Line.last in
-    let h = last_stands t log ds arena.of_result.items made.results made.all c.requires.closed c.len.result c.len.ensures c.index.result.now c.index.ensures in
-    let stands = subst (StandsFor t log ds (at_result c.requires.closed.number) []) c.in-Line.is h in
-    record {
-      number = c.requires.closed.number;
-      is_last = c.requires.closed.is_last;
-      last = the_tree b.terms atoms t c.deref.result.now last;
-      stands = subst (λ xs. Stands (the_input b atoms t log witnesses) (at_result c.requires.closed.number) [] (line (the_tree b.terms atoms t xs last))) (sym c.deref.ensures.value) (stands.stands b atoms witnesses);
-      lines = c.in_ok-refutation_of-in-Line.ensures.lines;
-      rows = c.in_ok-refutation_of-in-Line.ensures.rows;
-    }
 
 pub returns-clause-accepted : goal.returns-clause-accepted
 returns-clause-accepted c =
     let b = c.args.bank.now in
     let atoms = c.args.lits.now in
-    let witnesses = c.args.witnesses.now in
     let t = c.args.steps.now in
-    let log = c.args.log.now in
-    let arena = c.in_ok-arena.arena in
-    let ds = arena.drafts.items in
-    let made = c.in_ok-arena.ensures in
-    let last = c.in-Line.last in
-    let input = the_input b atoms t log witnesses in
-    let h = last_stands t log ds arena.of_result.items made.results made.all c.requires.closed c.len.result c.len.ensures c.index.result.now c.index.ensures in
-    let stands = subst (StandsFor t log ds (at_result c.requires.closed.number) []) c.in-Line.is h in
-    let right = given b atoms t log witnesses c.requires.rows c.requires.atoms c.clauses_come_from_origins.ensures c.requires.instances in
-    let rebuilt : IsRebuilt input c.in_ok-refutation_of-in-Line.field-0 = record {
-      number = c.requires.closed.number;
-      is_last = c.requires.closed.is_last;
-      last = the_tree b.terms atoms t c.deref.result.now last;
-      stands = subst (λ xs. Stands input (at_result c.requires.closed.number) [] (line (the_tree b.terms atoms t xs last))) (sym c.deref.ensures.value) (stands.stands b atoms witnesses);
-      lines = c.in_ok-refutation_of-in-Line.ensures.lines;
-      rows = c.in_ok-refutation_of-in-Line.ensures.rows;
-    } in
-    c.rebuilt_is_accepted.ensures (content_scope b) (unit_literals (the_atoms b.terms atoms) t.0) input c.in_ok-refutation_of-in-Line.field-0 right rebuilt
+    c.rebuilt_is_accepted.ensures.accepted (content_scope b) (unit_literals (the_atoms b.terms atoms) t.0) (the_input b atoms t c.args.log.now c.args.witnesses.now) c.in_ok-refutation_from.field-0 c.tables_are_given.ensures c.in_ok-refutation_from.ensures
+
+pub returns-clause-closed : goal.returns-clause-closed
+returns-clause-closed c =
+    let b = c.args.bank.now in
+    let atoms = c.args.lits.now in
+    let t = c.args.steps.now in
+    c.rebuilt_is_accepted.ensures.closed (content_scope b) (unit_literals (the_atoms b.terms atoms) t.0) (the_input b atoms t c.args.log.now c.args.witnesses.now) c.in_ok-refutation_from.field-0 c.tables_are_given.ensures c.in_ok-refutation_from.ensures
+
+pub returns-clause-reached : goal.returns-clause-reached
+returns-clause-reached c =
+    let b = c.args.bank.now in
+    let atoms = c.args.lits.now in
+    let t = c.args.steps.now in
+    c.rebuilt_is_trimmed.ensures.reached (content_scope b) (unit_literals (the_atoms b.terms atoms) t.0) (the_input b atoms t c.args.log.now c.args.witnesses.now) c.in_ok-refutation_from.field-0 c.tables_are_given.ensures c.in_ok-refutation_from.ensures
+
+pub returns-clause-from_search : goal.returns-clause-from_search
+returns-clause-from_search c =
+    let b = c.args.bank.now in
+    let atoms = c.args.lits.now in
+    let t = c.args.steps.now in
+    c.rebuilt_is_trimmed.ensures.from_search (content_scope b) (unit_literals (the_atoms b.terms atoms) t.0) (the_input b atoms t c.args.log.now c.args.witnesses.now) c.in_ok-refutation_from.field-0 c.tables_are_given.ensures c.in_ok-refutation_from.ensures
+
+pub returns-clause-few : goal.returns-clause-few
+returns-clause-few c =
+    let b = c.args.bank.now in
+    let atoms = c.args.lits.now in
+    let t = c.args.steps.now in
+    c.rebuilt_is_trimmed.ensures.few (content_scope b) (unit_literals (the_atoms b.terms atoms) t.0) (the_input b atoms t c.args.log.now c.args.witnesses.now) c.in_ok-refutation_from.field-0 c.tables_are_given.ensures c.in_ok-refutation_from.ensures
