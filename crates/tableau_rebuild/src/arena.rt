@@ -162,12 +162,12 @@ impl Arena {
                     Ok(self.close(steps, at, n, m)?)
                 }
             }
-            (Standing::Start(_), Standing::Line(_)) => Ok(negative),
-            (Standing::Line(_), Standing::Start(_)) => Ok(positive),
             (Standing::Line(off), Standing::Line(on)) => {
                 let number = self.push(Draft::Cut(at, var, on, off))?;
                 Ok(Standing::Line(number))
             }
+            (Standing::Start(_), Standing::Line(_)) => Ok(negative),
+            (Standing::Line(_), Standing::Start(_)) => Ok(positive),
         }
     }
 

@@ -1,9 +1,7 @@
 use Rattle.std.proofs.Common.{◌<◌, [], length, sym, subst}
-use Rattle.term_bank.specs.Content.{content_scope}
 use Rattle.rebuilt_refutation.specs.Trees.{at_result}
 use Rattle.rebuilt_refutation.specs.Stands.{line, Stands}
-use Rattle.rebuilt_refutation.specs.Rebuilt.{IsRebuilt}
-use Rattle.tableau_rebuild.specs.Tables.{the_atoms, the_input, the_sources, unit_literals}
+use Rattle.tableau_rebuild.specs.Tables.{the_input, the_sources}
 use Rattle.tableau_rebuild.specs.declared.arena.Standing.TheVariants.{Line}
 use Rattle.tableau_rebuild.specs.Means.Arenas.{the_standing, StandsFor}
 use Rattle.tableau_rebuild.specs.Means.Drafts.{AreDrafts}
@@ -11,7 +9,6 @@ use Rattle.tableau_rebuild.specs.Means.Written.{the_tree, IsFounded}
 use Rattle.tableau_rebuild.proofs.ArenaLaws.{are_drafts}
 use Rattle.tableau_rebuild.proofs.LastLaws.{last_stands, last_start}
 use Rattle.tableau_rebuild.proofs.OverLaws.{stands_founded}
-use Rattle.tableau_rebuild.proofs.GivenLaws.{given}
 use Rattle.tableau_rebuild.proofs.refutation.refutation_from.Goals as goal
 
 pub unreachable-requires : goal.unreachable-requires
