@@ -1,6 +1,7 @@
 //! What is written for a line.
 ghost use Rattle.table_rows.specs.Sound.{IsSound};
 
+use crate::bulk::{clauses_of, partners_of};
 use crate::refusal::RowRefused;
 use crate::scope::signature;
 use crate::tables::Tables;
@@ -40,9 +41,9 @@ fn write_instances(
         let by = use_of(tables, text.trim_start())?;
         uses.push(by)?;
     }
-    for (i, by) in uses.iter().enumerate() {
+    for i in 0..uses.len() {
         out.push_str(if i == 0 { " = " } else { "; " })?;
-        write_instance(tables, by, out)?;
+        write_instance(tables, &uses[i], out)?;
     }
     tables.write_witnesses(out)?;
     Ok(())
@@ -85,6 +86,34 @@ fn write_partners(
     tables.write_partners(&noted, out)
 }
 
+fn number_of(word: &str) -> Result<usize, RowRefused> {
+    word.parse::<usize>().map_err(|_| RowRefused::Unread)
+}
+
+/// Adds how many clauses so many confrontations give.
+fn write_kept(alloc: Global, words: &str, out: &mut String) -> Result<(), RowRefused> {
+    let count = clauses_of(alloc, number_of(words)?)?;
+    let text = format!(in alloc; " = {count}")?;
+    out.push_str(text.as_str())?;
+    Ok(())
+}
+
+/// Adds how many partners are found among so many other literals, in so many rounds.
+fn write_noted(
+    alloc: Global,
+    tables: &mut Tables,
+    words: &str,
+    out: &mut String,
+) -> Result<(), RowRefused>
+    requires { IsSound tables.old }
+{
+    let (others, rounds) = words.split_once(' ').ok_or(RowRefused::Unread)?;
+    let count = partners_of(alloc, tables, number_of(others)?, number_of(rounds)?)?;
+    let text = format!(in alloc; " = {count}")?;
+    out.push_str(text.as_str())?;
+    Ok(())
+}
+
 /// The line, and behind it what the tables answer.
 pub fn answer(alloc: Global, line: &str) -> Result<String, RowRefused> {
     let mut out = String::from_str(alloc, line)?;
@@ -96,6 +125,8 @@ pub fn answer(alloc: Global, line: &str) -> Result<String, RowRefused> {
     match word {
         "numbers" => write_numbers(alloc, &mut tables, words, &mut out)?,
         "partners" => write_partners(alloc, &mut tables, words, &mut out)?,
+        "kept" => write_kept(alloc, words, &mut out)?,
+        "noted" => write_noted(alloc, &mut tables, words, &mut out)?,
         _ => write_instances(alloc, &mut tables, line, &mut out)?,
     }
     Ok(out)

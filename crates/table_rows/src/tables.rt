@@ -1,7 +1,12 @@
 //! The tables in which instances are made.
-ghost use Rattle.std.specs.Prelude.{◌<◌, length, map, true, ◌≡◌};
+ghost use Rattle.std.specs.Prelude.{◌<◌, [], length, map, IsTrue};
 ghost use Rattle.std.specs.Option.{ForSome};
+ghost use Rattle.stt_core.specs.Canonical.{IsCanonical};
+ghost use Rattle.stt_core.specs.SimpleType.{formula};
 ghost use Rattle.stt_core.specs.Typing.{AreDeclared};
+ghost use Rattle.term_bank.specs.Content.{content_scope};
+ghost use Rattle.term_bank.specs.Terms.{term_at};
+ghost use Rattle.mating_rules.specs.Noted.{IsRight};
 ghost use Rattle.table_rows.specs.Sound.{IsSound};
 
 use crate::notation::{WITNESSES, term_of, write_nf};
@@ -11,7 +16,7 @@ use literal_map::{BankUse, Instance, LitList, LitTable};
 use mating_rules::Index;
 use sat_base::SatLit;
 use std::alloc::{AllocError, Global};
-use stt_core::{Signature, Ty, Types, type_of};
+use stt_core::{Signature, Term, Ty, Types, type_of};
 use tableau_rules::{RuleRefused, make};
 use term_bank::{Bank, Id};
 use witness_names::Witnesses;
@@ -41,24 +46,35 @@ impl Tables {
         }
     }
 
-    /// The normal form of the closed term that a text stands for. It names no witness.
+    /// The normal form of a closed term, where no witness has a type yet.
+    fn normal_form(&mut self, term: &Term) -> Result<Id, RowRefused>
+        requires { IsSound self.old }
+        ensures { IsSound self.new }
+    {
+        if self.bank.witness_types() > 0 {
+            return Err(RowRefused::Unread);
+        }
+        let none = Types::new(self.alloc);
+        match type_of(self.alloc, self.bank.sig(), &none, &none, term)? {
+            Some(_) => Ok(self.normal.normalise(&mut self.bank, term)?),
+            None => Err(RowRefused::Unread),
+        }
+    }
+
+    /// The normal form of the closed term that a text stands for.
     pub fn term(&mut self, text: &str) -> Result<Id, RowRefused>
         requires { IsSound self.old }
         ensures { IsSound self.new }
     {
         let term = term_of(self.alloc, text)?;
-        let none = Types::new(self.alloc);
-        if self.bank.witness_types() > 0 {
-            return Err(RowRefused::Unread);
-        }
-        match type_of(self.alloc, self.bank.sig(), &none, &none, &term)? {
-            Some(_) => Ok(self.normal.normalise(&mut self.bank, &term)?),
-            None => Err(RowRefused::Unread),
-        }
+        self.normal_form(&term)
     }
 
     /// Whether the number is that of a closed formula.
-    fn is_formula(&self, id: Id) -> bool {
+    fn is_formula(&self, id: Id) -> bool
+        ensures within { IsTrue result → id < length self.now.bank.terms }
+        ensures formula { IsTrue result → IsCanonical (content_scope self.now.bank) [] formula (term_at self.now.bank.terms id) }
+    {
         if id >= self.bank.len() {
             return false;
         }
@@ -95,14 +111,18 @@ impl Tables {
         }
     }
 
-    fn is_number(&self, lit: Option<SatLit>) -> bool {
+    fn is_number(&self, lit: Option<SatLit>) -> bool
+        ensures { IsTrue result → ForSome lit (λ l. l.var.0 < length self.now.lits) }
+    {
         match lit {
             Some(lit) => lit.var.0 < self.lits.len(),
             None => true,
         }
     }
 
-    fn is_place(&self, id: Option<Id>) -> bool {
+    fn is_place(&self, id: Option<Id>) -> bool
+        ensures { IsTrue result → ForSome id (λ i. i < length self.now.bank.terms) }
+    {
         match id {
             Some(id) => id < self.bank.len(),
             None => true,
@@ -149,6 +169,41 @@ impl Tables {
             self.write_lits(partners.as_slice(), out)?;
         }
         Ok(())
+    }
+
+    /// How many partners are found for the later literals, which are noted so many times after the earlier ones.
+    pub fn count_partners(
+        &self,
+        earlier: &LitList,
+        later: &LitList,
+        rounds: usize,
+    ) -> Result<usize, RowRefused>
+        requires { IsSound self.now }
+    {
+        let mut index = Index::new(self.alloc);
+        self.note_all(&mut index, earlier)?;
+        let mut count: usize = 0;
+        for _ in 0..rounds {
+            count = count.saturating_add(self.note_all(&mut index, later)?);
+        }
+        Ok(count)
+    }
+
+    /// Notes the literals. The answer is the number of all their partners.
+    fn note_all(&self, index: &mut Index, lits: &LitList) -> Result<usize, RowRefused>
+        requires sound { IsSound self.now }
+        requires right { IsRight self.now.bank.terms self.now.lits index.old }
+        ensures { IsRight self.now.bank.terms self.now.lits index.new }
+    {
+        let mut count: usize = 0;
+        for lit in lits.as_slice() {
+            if !self.is_number(Some(*lit)) {
+                return Err(RowRefused::Unread);
+            }
+            let partners = index.note(&self.bank, &self.lits, *lit)?;
+            count = count.saturating_add(partners.len());
+        }
+        Ok(count)
     }
 
     fn write_term(&self, id: Id, out: &mut String) -> Result<(), AllocError> {
