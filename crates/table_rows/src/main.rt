@@ -1,6 +1,7 @@
 //! Reads lines with uses of rules, with formulas, or with literals, and writes each with what the tables of the search answer: the
-//! instances and the witnesses, the numbers of the formulas' literals, or for each literal its partners among those before it. A line
-//! that begins with `%` is copied. Lines with numbers ask for many instances or many notes. The constants are `c`, `e: i`, `d: i > i`, `g: i > i > i`, `p`, `q: o`, `r: i > o` and `h: i > i > o`.
+//! instances and the witnesses, the numbers of the formulas' literals, or for each literal its partners among those before it. Lines with
+//! numbers ask for many instances or many notes. A line that begins with `%` is copied. The constants are `c`, `e: i`, `d: i > i`,
+//! `g: i > i > i`, `p`, `q: o`, `r: i > o` and `h: i > i > o`.
 #![tactic(auto)]
 
 mod answer;
