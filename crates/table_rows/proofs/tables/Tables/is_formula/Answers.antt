@@ -1,0 +1,13 @@
+use Rattle.std.proofs.Common.{[], sym, subst, ◌∙◌}
+use Rattle.stt_core.specs.Canonical.{IsCanonical}
+use Rattle.stt_core.specs.SimpleType.{formula}
+use Rattle.stt_core.specs.View.{the_type}
+use Rattle.stt_core.proofs.TypeLaws.{same_type-true}
+use Rattle.term_bank.specs.Content.{content_scope}
+use Rattle.term_bank.specs.Terms.{term_at}
+use Rattle.table_rows.proofs.tables.Tables.is_formula.Goals as goal
+
+pub returns-clause-formula : goal.returns-clause-formula
+returns-clause-formula c = λ h.
+    let b = c.args.self.now.bank in
+    subst (λ a. IsCanonical (content_scope b) [] a (term_at b.terms c.args.id)) (same_type-true (the_type c.ty.result.now) formula (sym c.same.ensures ∙ h)) c.ty.ensures
