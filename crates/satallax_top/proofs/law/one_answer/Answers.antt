@@ -1,5 +1,3 @@
-use Rattle.satallax_top.proofs.HeadlineLaws.{written_whole}
-use Rattle.satallax_top.proofs.AnswerLaws.{proving_answer}
 use Rattle.satallax_top.proofs.RunEnds.{solved-same}
 use Rattle.satallax_top.proofs.OneAnswer.{answer-same, outcome-same}
 use Rattle.satallax_top.proofs.law.one_answer.Goals as goal
