@@ -1,6 +1,5 @@
 -- What a call answers and writes has the meaning that it claims.
 use Rattle.std.proofs.Common.{◌≡◌, ℕ, Bool, true, false, IsTrue, ◌||◌, List, [], ◌∷◌, ◌++◌, codes, decimal, Option, Some, None, Ok, refl, sym, ap, ap₂, subst, ◌∙◌, append-nil}
-use Rattle.outside.specs.Prefix.{AppendsProperly}
 use Rattle.stt_core.specs.PlainProblem.{PlainProblem}
 use Rattle.stt_core.specs.TypedProblem.{IsTyped}
 use Rattle.stt_core.specs.Declarations.{scope_of}
@@ -18,14 +17,14 @@ use Rattle.refute_check.specs.Numbered.{numbered_refutation}
 use Rattle.refute_read.specs.Reading.{lines_of, start_mark, end_mark, is_start, is_one_line, read, Reads, TextStands}
 use Rattle.refute_read.proofs.ReadingLaws.{reading-same}
 use Rattle.refute_read.proofs.BackLaws.{reads_back}
-use Rattle.satallax_top.specs.Outcomes.{claim_outcome, outcome_of}
-use Rattle.satallax_top.specs.Report.{proof_report, claim_status, report_of}
+use Rattle.satallax_top.specs.Outcomes.{outcome_of}
+use Rattle.satallax_top.specs.Report.{proof_report, report_of}
 use Rattle.satallax_top.specs.Words.{problem_word, check_word, name_of}
-use Rattle.satallax_top.specs.Files.{OfFiles, Statements, State}
+use Rattle.satallax_top.specs.Files.{Statements, State}
 use Rattle.satallax_top.specs.Runnable.{names_in}
 use Rattle.satallax_top.specs.Answers.{IsProofOf, claim_of, stop_answer, AnswersAsked, AnswersEnding, IsAnswer, IsFaultOf, IsTextFault, IsNoReadFault, HasCause, IsProvedOutcome, IsDefined}
 use Rattle.satallax_top.specs.Checked.{IsAcceptedText}
-use Rattle.satallax_top.specs.Headline.{IsWithoutModel, HasNoModel, HoldsOnly, IsProofReport, Appends, IsReported, IsWritten, IsOutcome}
+use Rattle.satallax_top.specs.Headline.{IsWithoutModel, HasNoModel, HoldsOnly, IsProofReport, Appends, IsWritten, IsOutcome}
 use Rattle.satallax_top.specs.declared.answer.Answer.{Answer}
 use Rattle.satallax_top.specs.declared.answer.Answer.TheVariants.{Proved, Accepted, Words, ReadFault, Memory}
 use Rattle.satallax_top.specs.declared.answer.Claim.{Claim}

@@ -134,9 +134,9 @@ files_same words contents names others a b w v h k =
     let one : h.name ≡ k.name = cc in
     let checked = check_word words in
     let same =
-        one_told contents k.name names h.texts others k.texts h.ending k.ending
-        (h.told_texts refl) (subst (λ n. IsGathering h.texts n names h.ending) one h.gathers) (final_of (AnswersAsked checked true contents names a) names a h.ending w h.holds)
-        (k.told_texts refl) k.gathers (final_of (AnswersAsked checked true contents others b) others b k.ending v k.holds) in
+    one_told contents k.name names h.texts others k.texts h.ending k.ending
+    (h.told_texts refl) (subst (λ n. IsGathering h.texts n names h.ending) one h.gathers) (final_of (AnswersAsked checked true contents names a) names a h.ending w h.holds)
+    (k.told_texts refl) k.gathers (final_of (AnswersAsked checked true contents others b) others b k.ending v k.holds) in
     ending_same checked contents others a b k.ending w v
     (subst (λ ns. AnswersEnding (AnswersAsked checked true contents ns a) ns a k.ending) same.names_same (subst (AnswersEnding (AnswersAsked checked true contents names a) names a) same.endings_same h.holds))
     k.holds

@@ -193,12 +193,7 @@ fn write_place<S: Sink>(
 }
 
 /// Writes the report of a wrong token of a file.
-fn write_syntax<S: Sink>(
-    out: &mut S,
-    name: &[u8],
-    file: &NamedFile,
-    at: u32,
-) -> Result<(), Failed>
+fn write_syntax<S: Sink>(out: &mut S, name: &[u8], file: &NamedFile, at: u32) -> Result<(), Failed>
     ensures appended { OnOk result (IsTrue (S.tells out.old)
         → S.written out.new ≡ S.written out.old ++ headed (codes "% SZS status SyntaxError for ") name.now (codes "% syntax ") (place_in (file_name file.now) at)) }
     ensures failed { OnErr result (IsTrue (S.tells out.old)
@@ -394,11 +389,7 @@ fn write_refusal<S: Sink>(out: &mut S, name: &[u8], line: usize, why: Why) -> Re
 }
 
 /// Writes the report of an answer for a problem of this name.
-pub(crate) fn write_report<S: Sink>(
-    out: &mut S,
-    name: &[u8],
-    answer: &Answer,
-) -> Result<(), Failed>
+pub(crate) fn write_report<S: Sink>(out: &mut S, name: &[u8], answer: &Answer) -> Result<(), Failed>
     ensures appended { OnOk result (IsTrue (S.tells out.old)
         → S.written out.new ≡ S.written out.old ++ report_of name.now answer.now) }
     ensures failed { OnErr result (IsTrue (S.tells out.old)

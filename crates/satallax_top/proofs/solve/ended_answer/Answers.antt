@@ -18,9 +18,8 @@ pub returns-in_ok-text-in-Proved : goal.returns-in_ok-text-in-Proved
 returns-in_ok-text-in-Proved c =
     let p = c.args.problem.now in
     let n = c.in-Proved.commands in
-    let text = c.in_ok-text-in-Proved.text in
-    (
+    let text = c.in_ok-text-in-Proved.text in (
       c.claim_of.ensures,
       proof_of_run p n c.in-Proved.refutation c.requires.runnable (subst (EndsAs (start p) command_limit) c.in-Proved.is c.requires.ended) text
-      (c.in_ok-text-in-Proved.ensures ∙ ap (λ q. as_bytes (text_lines (named_refutation (names_in q) c.in-Proved.refutation))) c.problem.view_is),
+          (c.in_ok-text-in-Proved.ensures ∙ ap (λ q. as_bytes (text_lines (named_refutation (names_in q) c.in-Proved.refutation))) c.problem.view_is),
     )

@@ -1,7 +1,7 @@
 use Rattle.std.proofs.Common.{subst, sym}
 use Rattle.thf_include.specs.View.{the_statements}
 use Rattle.satallax_top.specs.Answers.{IsAnswer}
-use Rattle.satallax_top.proofs.AnswerLaws.{proving_answer, checking_answer, refusal_answer, statements_read}
+use Rattle.satallax_top.proofs.AnswerLaws.{refusal_answer}
 use Rattle.satallax_top.proofs.PrintableLaws.{gathered_printable}
 use Rattle.satallax_top.proofs.top.answer.Goals as goal
 
@@ -16,4 +16,4 @@ returns-clause-answer g c =
     let told = g.F.Files.tells c.args.files.now in
     let contents = g.F.Files.contents c.args.files.now in
     subst (IsAnswer words told contents) (sym c.refused_answer.ensures)
-    (refusal_answer words told contents c.in-Some.name.now c.gather.new.names (sym c.in-Some.ensures) c.in-Err.refused c.in-Err.ensures.gathered)
+    (refusal_answer words told contents c.in-Some.name.now c.gather.new.names c.in-Err.refused (sym c.in-Some.ensures) c.in-Err.ensures.gathered)
