@@ -19,19 +19,19 @@ use Rattle.refute_check.specs.declared.refusal.CheckRefused.{CheckRefused}
 use Rattle.refute_check.specs.declared.refusal.CheckRefused.TheVariants as failed
 use Rattle.refute_check.specs.declared.refusal.CheckRefused.TheVariants.{Line}
 use Rattle.satallax_top.specs.Runnable.{names_in}
-use Rattle.satallax_top.specs.Checked.{IsAcceptedText, FailsFirst, IsRefusedText, unread_outcome, failed_outcome, AnswersBytes}
+use Rattle.satallax_top.specs.Checked.{IsAcceptedText, FailsFirst, IsRefusedText, unread_answer, failed_answer, AnswersBytes}
 
 -- the answer where a text isn't read
-pub unread_answer : (p : PlainProblem) (bytes : List ℕ) (refused : TextRefused) → IfSome (reading_of (Err refused)) (Reads (lines_of bytes)) → AnswersBytes p bytes (unread_outcome refused)
-unread_answer p bytes (BadLine line) h = record { reading = bad_line line; reads = h; fails = (refl, refl) }
-unread_answer p bytes (NoStart line) h = record { reading = no_start line; reads = h; fails = (refl, refl) }
-unread_answer p bytes (NoEnd line) h = record { reading = no_end line; reads = h; fails = (refl, refl) }
-unread_answer p bytes unread.Memory h = tt
+pub unread_answers : (p : PlainProblem) (bytes : List ℕ) (refused : TextRefused) → IfSome (reading_of (Err refused)) (Reads (lines_of bytes)) → AnswersBytes p bytes (unread_answer refused)
+unread_answers p bytes (BadLine line) h = record { reading = bad_line line; reads = h; fails = (refl, refl) }
+unread_answers p bytes (NoStart line) h = record { reading = no_start line; reads = h; fails = (refl, refl) }
+unread_answers p bytes (NoEnd line) h = record { reading = no_end line; reads = h; fails = (refl, refl) }
+unread_answers p bytes unread.Memory h = tt
 
 -- the answer where what is read isn't accepted
-pub failed_answer : (p : PlainProblem) (bytes : List ℕ) (r : RefutationTree) (first : ℕ) (refused : CheckRefused) → Reads (lines_of bytes) (read r first) → IfLine refused (FailsAt (scope_of p.declared) (start p) (numbered_refutation (names_in p) r) first) → AnswersBytes p bytes (failed_outcome refused)
-failed_answer p bytes r first (Line line why) reads h = record { reading = read r first; reads = reads; fails = h }
-failed_answer p bytes r first failed.Memory reads h = tt
+pub failed_answers : (p : PlainProblem) (bytes : List ℕ) (r : RefutationTree) (first : ℕ) (refused : CheckRefused) → Reads (lines_of bytes) (read r first) → IfLine refused (FailsAt (scope_of p.declared) (start p) (numbered_refutation (names_in p) r) first) → AnswersBytes p bytes (failed_answer refused)
+failed_answers p bytes r first (Line line why) reads h = record { reading = read r first; reads = reads; fails = h }
+failed_answers p bytes r first failed.Memory reads h = tt
 
 -- no text is both accepted and refused
 pub accepted_not_refused : (p : PlainProblem) (bytes : List ℕ) (line : ℕ) (why : Why) → IsAcceptedText p bytes → IsRefusedText p bytes line why → ⊥

@@ -1,6 +1,5 @@
 -- What a call answers and writes has the meaning that it claims.
 use Rattle.std.proofs.Common.{◌≡◌, ℕ, Bool, true, false, IsTrue, ◌||◌, List, [], ◌∷◌, ◌++◌, codes, decimal, Option, Some, None, Ok, refl, sym, ap, ap₂, subst, ◌∙◌, append-nil}
-use Rattle.outside.specs.Prefix.{AppendsProperly}
 use Rattle.stt_core.specs.PlainProblem.{PlainProblem}
 use Rattle.stt_core.specs.TypedProblem.{IsTyped}
 use Rattle.stt_core.specs.Declarations.{scope_of}
@@ -18,16 +17,21 @@ use Rattle.refute_check.specs.Numbered.{numbered_refutation}
 use Rattle.refute_read.specs.Reading.{lines_of, start_mark, end_mark, is_start, is_one_line, read, Reads, TextStands}
 use Rattle.refute_read.proofs.ReadingLaws.{reading-same}
 use Rattle.refute_read.proofs.BackLaws.{reads_back}
-use Rattle.satallax_top.specs.Report.{proof_report, report}
-use Rattle.satallax_top.specs.Words.{problem_word, check_word, name_of, text_name_of}
-use Rattle.satallax_top.specs.Files.{OfFiles, Statements, State}
+use Rattle.satallax_top.specs.Outcomes.{outcome_of}
+use Rattle.satallax_top.specs.Report.{proof_report, report_of}
+use Rattle.satallax_top.specs.Words.{problem_word, check_word, name_of}
+use Rattle.satallax_top.specs.Files.{Statements, State}
 use Rattle.satallax_top.specs.Runnable.{names_in}
-use Rattle.satallax_top.specs.Answers.{IsProofOf, stop_outcome, AnswersAsked, AnswersEnding, IsAnswer, IsFaultOf, IsTextFault, IsNoReadFault, HasCause, IsProvedOutcome, IsDefined}
+use Rattle.satallax_top.specs.Answers.{IsProofOf, claim_of, stop_answer, AnswersAsked, AnswersEnding, IsAnswer, IsFaultOf, IsTextFault, IsNoReadFault, HasCause, IsProvedOutcome, IsDefined}
 use Rattle.satallax_top.specs.Checked.{IsAcceptedText}
-use Rattle.satallax_top.specs.Headline.{IsWithoutModel, HasNoModel, HoldsOnly, IsProofReport, Appends, IsWritten}
+use Rattle.satallax_top.specs.Headline.{IsWithoutModel, HasNoModel, HoldsOnly, IsProofReport, Appends, IsWritten, IsOutcome}
+use Rattle.satallax_top.specs.declared.answer.Answer.{Answer}
+use Rattle.satallax_top.specs.declared.answer.Answer.TheVariants.{Proved, Accepted, Words, ReadFault, Memory}
+use Rattle.satallax_top.specs.declared.answer.Claim.{Claim}
+use Rattle.satallax_top.specs.declared.answer.Claim.TheVariants.{Theorem, Unsatisfiable}
+use Rattle.satallax_top.specs.declared.answer.NamedFile.TheVariants.{Part, Check}
 use Rattle.satallax_top.specs.declared.outcome.Outcome.{Outcome}
-use Rattle.satallax_top.specs.declared.outcome.Outcome.TheVariants.{Theorem, Unsatisfiable, Accepted, Words, ReadFault, WriteFault, Memory}
-use Rattle.satallax_top.specs.declared.outcome.FileRef.TheVariants.{Part, Check}
+use Rattle.satallax_top.specs.declared.outcome.Outcome.TheVariants as ended
 use Rattle.satallax_top.proofs.OneLine.{one_line-append, decimal_one_line, name_one_line}
 use Rattle.stt_tableau.proofs.StartMeets.{start_unnamed, start_met}
 
@@ -49,39 +53,33 @@ ends_proved ss p n text stated proof = record {
   proof = proof;
 }
 
-theorem_no_stop : (s : Stop) → Theorem ≡ stop_outcome s → ⊥
-theorem_no_stop (wants file) e = cc
-theorem_no_stop (too_long file) e = cc
-theorem_no_stop (no_tree file at) e = cc
-theorem_no_stop (cycle file at) e = cc
-theorem_no_stop (too_many file at) e = cc
-theorem_no_stop (no_name file at) e = cc
+proved_no_stop : (names : List (List ℕ)) (claim : Claim) (n : ℕ) (text : List ℕ) (s : Stop) → Proved claim n text ≡ stop_answer names s → ⊥
+proved_no_stop names claim n text (wants file) e = cc
+proved_no_stop names claim n text (too_long file) e = cc
+proved_no_stop names claim n text (no_tree file at) e = cc
+proved_no_stop names claim n text (cycle file at) e = cc
+proved_no_stop names claim n text (too_many file at) e = cc
+proved_no_stop names claim n text (no_name file at) e = cc
 
-unsatisfiable_no_stop : (s : Stop) → Unsatisfiable ≡ stop_outcome s → ⊥
-unsatisfiable_no_stop (wants file) e = cc
-unsatisfiable_no_stop (too_long file) e = cc
-unsatisfiable_no_stop (no_tree file at) e = cc
-unsatisfiable_no_stop (cycle file at) e = cc
-unsatisfiable_no_stop (too_many file at) e = cc
-unsatisfiable_no_stop (no_name file at) e = cc
+accepted_no_stop : (names : List (List ℕ)) (s : Stop) → Accepted ≡ stop_answer names s → ⊥
+accepted_no_stop names (wants file) e = cc
+accepted_no_stop names (too_long file) e = cc
+accepted_no_stop names (no_tree file at) e = cc
+accepted_no_stop names (cycle file at) e = cc
+accepted_no_stop names (too_many file at) e = cc
+accepted_no_stop names (no_name file at) e = cc
 
-accepted_no_stop : (s : Stop) → Accepted ≡ stop_outcome s → ⊥
-accepted_no_stop (wants file) e = cc
-accepted_no_stop (too_long file) e = cc
-accepted_no_stop (no_tree file at) e = cc
-accepted_no_stop (cycle file at) e = cc
-accepted_no_stop (too_many file at) e = cc
-accepted_no_stop (no_name file at) e = cc
+-- the ending of which a proof is answered, and what it shows
+record EndsShown (claim : Claim) (n : ℕ) (text : List ℕ) (ending : Ending) : Type 0 where
+  pub problem : PlainProblem
+  pub shown : claim ≡ claim_of problem
+  pub proved : EndsProved n text problem ending
 
--- the ending of which a proof is answered
-proved_ending : (checked : Option (List ℕ)) (told : Bool) (contents : List ℕ → Option (List ℕ)) (o : Outcome) (n : ℕ) (text : List ℕ) (ending : Ending) → IsProvedOutcome o → AnswersEnding (AnswersAsked checked told contents o n text) o ending → (p : PlainProblem) × EndsProved n text p ending
-proved_ending None told contents Theorem n text (done ss) h a = (a.problem, ends_proved ss a.problem n text a.read a.solved.1)
-proved_ending (Some file) told contents Theorem n text (done ss) h a = absurd a.checked.holds
-proved_ending checked told contents Theorem n text (stopped s) h a = absurd (theorem_no_stop s a)
-proved_ending None told contents Unsatisfiable n text (done ss) h a = (a.problem, ends_proved ss a.problem n text a.read a.solved.1)
-proved_ending (Some file) told contents Unsatisfiable n text (done ss) h a = absurd a.checked.holds
-proved_ending checked told contents Unsatisfiable n text (stopped s) h a = absurd (unsatisfiable_no_stop s a)
-proved_ending checked told contents o n text ending h a = absurd h
+proved_ending : (checked : Option (List ℕ)) (told : Bool) (contents : List ℕ → Option (List ℕ)) (names : List (List ℕ)) (claim : Claim) (n : ℕ) (text : List ℕ) (ending : Ending)
+    → AnswersEnding (AnswersAsked checked told contents names (Proved claim n text)) names (Proved claim n text) ending → EndsShown claim n text ending
+proved_ending None told contents names claim n text (done ss) a = record { problem = a.problem; shown = a.answered.1.0; proved = ends_proved ss a.problem n text a.read a.answered.1.1 }
+proved_ending (Some file) told contents names claim n text (done ss) a = absurd a.checked.holds
+proved_ending checked told contents names claim n text (stopped s) a = absurd (proved_no_stop names claim n text s a)
 
 -- a gathering whose statements have an accepted text
 pub record EndsAccepted (p : PlainProblem) (ending : Ending) : Type 0 where
@@ -91,10 +89,10 @@ pub record EndsAccepted (p : PlainProblem) (ending : Ending) : Type 0 where
   pub accepted : IsAccepted (scope_of p.declared) (start p) refutation
 
 -- the ending of which an accepted text is answered
-accepted_ending : (checked : Option (List ℕ)) (told : Bool) (contents : List ℕ → Option (List ℕ)) (n : ℕ) (text : List ℕ) (ending : Ending) → AnswersEnding (AnswersAsked checked told contents Accepted n text) Accepted ending → (p : PlainProblem) × EndsAccepted p ending
-accepted_ending checked told contents n text (stopped s) a = absurd (accepted_no_stop s a)
-accepted_ending None told contents n text (done ss) a = absurd a.solved
-accepted_ending (Some file) told contents n text (done ss) a = (
+accepted_ending : (checked : Option (List ℕ)) (told : Bool) (contents : List ℕ → Option (List ℕ)) (names : List (List ℕ)) (ending : Ending) → AnswersEnding (AnswersAsked checked told contents names Accepted) names Accepted ending → (p : PlainProblem) × EndsAccepted p ending
+accepted_ending checked told contents names (stopped s) a = absurd (accepted_no_stop names s a)
+accepted_ending None told contents names (done ss) a = absurd a.answered.1
+accepted_ending (Some file) told contents names (done ss) a = (
   a.problem,
   record {
     stated = record { statements = ss; gathered = refl; read = a.read };
@@ -104,50 +102,79 @@ accepted_ending (Some file) told contents n text (done ss) a = (
   },
 )
 
+-- an answer whose outcome is that a text is accepted
+accepted_form : (a : Answer) → outcome_of a ≡ ended.Accepted → a ≡ Accepted
+accepted_form Accepted e = refl
+accepted_form (Proved Theorem n text) e = cc
+accepted_form (Proved Unsatisfiable n text) e = cc
+accepted_form a e = cc
+
 -- no model meets a problem against which a text is accepted
-pub no_model_accepted : (words : List (List ℕ)) (told : Bool) (contents : List ℕ → Option (List ℕ)) (o : Outcome) (names : List (List ℕ)) (n : ℕ) (text : List ℕ) → IsAnswer words told contents o names n text → o ≡ Accepted → HasNoModel words told contents
-no_model_accepted words told contents o names n text answer e = go (subst (λ x. IsAnswer words told contents x names n text) e answer)
+pub no_model_accepted : (words : List (List ℕ)) (told : Bool) (contents : List ℕ → Option (List ℕ)) (o : Outcome) (a : Answer) → IsAnswer words told contents a → o ≡ outcome_of a → o ≡ ended.Accepted → HasNoModel words told contents
+no_model_accepted words told contents o a answer is e = go (subst (IsAnswer words told contents) (accepted_form a (sym is ∙ e)) answer)
   where
-    go : IsAnswer words told contents Accepted names n text → HasNoModel words told contents
-    go a =
-        let q = accepted_ending (check_word words) told contents n text a.ending a.holds in
+    go : IsAnswer words told contents Accepted → HasNoModel words told contents
+    go h =
+        let f = h.1 in
+        let q = accepted_ending (check_word words) told contents h.0 f.ending f.holds in
         record {
-          names = names;
+          names = h.0;
           problem = q.0;
-          stated = record { name = a.name; named = a.named; texts = a.texts; told_texts = a.told_texts; ending = a.ending; gathers = a.gathers; holds = q.1.stated };
+          stated = record { name = f.name; named = f.named; texts = f.texts; told_texts = f.told_texts; ending = f.ending; gathers = f.gathers; holds = q.1.stated };
           no_model = no_model_of q.0 q.1.refutation q.1.typed q.1.accepted;
         }
 
--- an answer that is a proof, whichever of the two outcomes it has
-pub record ProvedAnswer (words : List (List ℕ)) (told : Bool) (contents : List ℕ → Option (List ℕ)) (names : List (List ℕ)) (n : ℕ) (text : List ℕ) : Type 0 where
+-- an answer that is a proof
+record IsProofAnswer (a : Answer) : Type 0 where
+  pub claim : Claim
+  pub commands : ℕ
+  pub text : List ℕ
+  pub is : a ≡ Proved claim commands text
+
+proved_form : (a : Answer) → IsProvedOutcome (outcome_of a) → IsProofAnswer a
+proved_form (Proved claim n text) h = record { claim = claim; commands = n; text = text; is = refl }
+proved_form a h = absurd h
+
+-- what such an answer shows
+pub record ProvedAnswer (words : List (List ℕ)) (told : Bool) (contents : List ℕ → Option (List ℕ)) (a : Answer) : Type 0 where
+  pub names : List (List ℕ)
   pub name : List ℕ
   pub named : problem_word words ≡ Some name
   pub problem : PlainProblem
   pub stated : State words told contents names problem
   pub typed : IsTyped problem
-  pub proof : IsProofOf problem n text
+  pub commands : ℕ
+  pub text : List ℕ
+  pub proof : IsProofOf problem commands text
+  pub is : a ≡ Proved (claim_of problem) commands text
 
-proved_files : (words : List (List ℕ)) (told : Bool) (contents : List ℕ → Option (List ℕ)) (o : Outcome) (names : List (List ℕ)) (n : ℕ) (text : List ℕ) → IsProvedOutcome o → OfFiles words told contents names (AnswersEnding (AnswersAsked (check_word words) told contents o n text) o) → ProvedAnswer words told contents names n text
-proved_files words told contents o names n text h a =
-    let e = proved_ending (check_word words) told contents o n text a.ending h a.holds in
-    record {
-      name = a.name;
-      named = a.named;
-      problem = e.0;
-      stated = record { name = a.name; named = a.named; texts = a.texts; told_texts = a.told_texts; ending = a.ending; gathers = a.gathers; holds = e.1.stated };
-      typed = e.1.typed;
-      proof = e.1.proof;
-    }
+proved_answer : (words : List (List ℕ)) (told : Bool) (contents : List ℕ → Option (List ℕ)) (a : Answer) → IsAnswer words told contents a → IsProvedOutcome (outcome_of a) → ProvedAnswer words told contents a
+proved_answer words told contents a answer h = go (proved_form a h)
+  where
+    go : IsProofAnswer a → ProvedAnswer words told contents a
+    go p = shown (subst (IsAnswer words told contents) p.is answer)
+      where
+        shown : IsAnswer words told contents (Proved p.claim p.commands p.text) → ProvedAnswer words told contents a
+        shown k =
+            let f = k.1 in
+            let e = proved_ending (check_word words) told contents k.0 p.claim p.commands p.text f.ending f.holds in
+            record {
+              names = k.0;
+              name = f.name;
+              named = f.named;
+              problem = e.problem;
+              stated = record { name = f.name; named = f.named; texts = f.texts; told_texts = f.told_texts; ending = f.ending; gathers = f.gathers; holds = e.proved.stated };
+              typed = e.proved.typed;
+              commands = p.commands;
+              text = p.text;
+              proof = e.proved.proof;
+              is = p.is ∙ ap (λ c. Proved c p.commands p.text) e.shown;
+            }
 
-pub proved_answer : (words : List (List ℕ)) (told : Bool) (contents : List ℕ → Option (List ℕ)) (o : Outcome) (names : List (List ℕ)) (n : ℕ) (text : List ℕ) → IsProvedOutcome o → IsAnswer words told contents o names n text → ProvedAnswer words told contents names n text
-proved_answer words told contents Theorem names n text h a = proved_files words told contents Theorem names n text h a
-proved_answer words told contents Unsatisfiable names n text h a = proved_files words told contents Unsatisfiable names n text h a
-proved_answer words told contents o names n text h a = absurd h
-
-pub no_model_answer : (words : List (List ℕ)) (told : Bool) (contents : List ℕ → Option (List ℕ)) (o : Outcome) (names : List (List ℕ)) (n : ℕ) (text : List ℕ) → IsAnswer words told contents o names n text → IsProvedOutcome o → HasNoModel words told contents
-no_model_answer words told contents o names n text a h =
-    let q = proved_answer words told contents o names n text h a in
-    record { names = names; problem = q.problem; stated = q.stated; no_model = no_model_of q.problem q.proof.refutation q.typed q.proof.accepted }
+pub no_model_answer : (words : List (List ℕ)) (told : Bool) (contents : List ℕ → Option (List ℕ)) (o : Outcome) (a : Answer) → IsAnswer words told contents a → o ≡ outcome_of a → IsProvedOutcome o → HasNoModel words told contents
+no_model_answer words told contents o a answer is h =
+    let q = proved_answer words told contents a answer (subst IsProvedOutcome is h) in
+    record { names = q.names; problem = q.problem; stated = q.stated; no_model = no_model_of q.problem q.proof.refutation q.typed q.proof.accepted }
 
 or_false : (a b : Bool) → a ≡ false → b ≡ false → a || b ≡ false
 or_false a b h k = ap₂ (λ x y. x || y) h k
@@ -186,10 +213,9 @@ holds_only status name p n text proof clean plain_status other =
     let reads : Reads (lines_of bytes) (read tree 5) = reads_back bytes tree 5 proof.has_text (stands_in_report status name p n text proof clean plain_status other) in
     record { first = 5; reads = reads; only = λ reading h. reading-same (lines_of bytes) reading (read tree 5) h reads; numbered = proof.numbered }
 
-holds_report : (o : Outcome) (name : List ℕ) (names : List (List ℕ)) (checked : List ℕ) (p : PlainProblem) (n : ℕ) (text : List ℕ) (proof : IsProofOf p n text) → IsProvedOutcome o → is_one_line name ≡ true → HoldsOnly (names_in p) (report o name names checked n text) proof.refutation
-holds_report Theorem name names checked p n text proof h clean = holds_only (codes "% SZS status Theorem for ") name p n text proof clean refl refl
-holds_report Unsatisfiable name names checked p n text proof h clean = holds_only (codes "% SZS status Unsatisfiable for ") name p n text proof clean refl refl
-holds_report o name names checked p n text proof h clean = absurd h
+holds_report : (claim : Claim) (name : List ℕ) (p : PlainProblem) (n : ℕ) (text : List ℕ) (proof : IsProofOf p n text) → is_one_line name ≡ true → HoldsOnly (names_in p) (report_of name (Proved claim n text)) proof.refutation
+holds_report Theorem name p n text proof clean = holds_only (codes "% SZS status Theorem for ") name p n text proof clean refl refl
+holds_report Unsatisfiable name p n text proof clean = holds_only (codes "% SZS status Unsatisfiable for ") name p n text proof clean refl refl
 
 -- bytes that hold a refutation that is accepted are an accepted text
 accepted_text : (p : PlainProblem) (bytes : List ℕ) (r : Refutation) → HoldsOnly (names_in p) bytes r → IsAccepted (scope_of p.declared) (start p) r → IsAcceptedText p bytes
@@ -197,19 +223,21 @@ accepted_text p bytes r h a =
     record { refutation = named_refutation (names_in p) r; first = h.first; reads = h.reads; accepted = subst (IsAccepted (scope_of p.declared) (start p)) (sym h.numbered) a }
 
 -- the report of an answer that is a proof
-pub proof_reported : (words : List (List ℕ)) (told : Bool) (contents : List ℕ → Option (List ℕ)) (o : Outcome) (names : List (List ℕ)) (n : ℕ) (text written : List ℕ) → IsAnswer words told contents o names n text → IsProvedOutcome o → written ≡ report o (name_of words) names (text_name_of words) n text → IsProofReport words told contents o written
-proof_reported words told contents o names n text written a h w =
-    let q = proved_answer words told contents o names n text h a in
+proof_reported : (words : List (List ℕ)) (told : Bool) (contents : List ℕ → Option (List ℕ)) (o : Outcome) (a : Answer) (written : List ℕ) → IsAnswer words told contents a → o ≡ outcome_of a → IsProvedOutcome o → written ≡ report_of (name_of words) a → IsProofReport words told contents o written
+proof_reported words told contents o a written answer is h w =
+    let q = proved_answer words told contents a answer (subst IsProvedOutcome is h) in
     let p = q.problem in
-    let holds = subst (λ x. HoldsOnly (names_in p) x q.proof.refutation) (sym w) (holds_report o (name_of words) names (text_name_of words) p n text q.proof h (name_one_line words q.name q.named)) in
+    let reported : written ≡ report_of (name_of words) (Proved (claim_of p) q.commands q.text) = w ∙ ap (report_of (name_of words)) q.is in
+    let holds = subst (λ x. HoldsOnly (names_in p) x q.proof.refutation) (sym reported) (holds_report (claim_of p) (name_of words) p q.commands q.text q.proof (name_one_line words q.name q.named)) in
     record {
-      names = names;
+      names = q.names;
       problem = p;
       stated = q.stated;
-      commands = n;
+      is_outcome = is ∙ ap outcome_of q.is;
+      commands = q.commands;
       proved = q.proof.proved;
       refutation = q.proof.refutation;
-      is_report = w ∙ ap (report o (name_of words) names (text_name_of words) n) q.proof.is_text;
+      is_report = reported ∙ ap (λ t. report_of (name_of words) (Proved (claim_of p) q.commands t)) q.proof.is_text;
       holds = holds;
       accepted = q.proof.accepted;
       accepted_text = accepted_text p written q.proof.refutation holds q.proof.accepted;
@@ -217,40 +245,58 @@ proof_reported words told contents o names n text written a h w =
       no_model = no_model_of p q.proof.refutation q.typed q.proof.accepted;
     }
 
--- what is written for an answer
-pub written_whole : (words : List (List ℕ)) (told : Bool) (contents : List ℕ → Option (List ℕ)) (before now : List ℕ → ℕ) (o : Outcome) (names : List (List ℕ)) (n : ℕ) (text old new : List ℕ) → IsAnswer words told contents o names n text → new ≡ old ++ report o (name_of words) names (text_name_of words) n text → IsWritten words told contents before now old new o
-written_whole words told contents before now o names n text old new a w = go o a w
-  where
-    go : (o : Outcome) → IsAnswer words told contents o names n text → new ≡ old ++ report o (name_of words) names (text_name_of words) n text → IsWritten words told contents before now old new o
-    go WriteFault a w = absurd a
-    go o a w = record { written = report o (name_of words) names (text_name_of words) n text; appended = w; is_report = record { names = names; commands = n; text = text; is_answer = a; is_report = refl } }
-
--- the cause of an outcome, by what is known of each
-pub cause_of : (words : List (List ℕ)) (told : Bool) (contents : List ℕ → Option (List ℕ)) (before now : List ℕ → ℕ) (o : Outcome) → ((k : ℕ) → o ≡ ReadFault (Part k) → IsFaultOf words told contents before now k) → (o ≡ ReadFault Check → IsTextFault words told contents before now) → (IsNoReadFault o → (file : List ℕ) → now file ≡ before file) → HasCause words told contents before now o
-cause_of words told contents before now (ReadFault (Part k)) f g h = f k refl
-cause_of words told contents before now (ReadFault Check) f g h = g refl
-cause_of words told contents before now o f g h = h tt
-
 -- the bytes that are appended for an answer that is a proof
-pub proof_appended : (words : List (List ℕ)) (told : Bool) (contents : List ℕ → Option (List ℕ)) (o : Outcome) (names : List (List ℕ)) (n : ℕ) (text old new : List ℕ) → IsAnswer words told contents o names n text → new ≡ old ++ report o (name_of words) names (text_name_of words) n text → IsProvedOutcome o → Appends old new (IsProofReport words told contents o)
-proof_appended words told contents o names n text old new a w h =
-    record { written = report o (name_of words) names (text_name_of words) n text; appended = w; is_report = proof_reported words told contents o names n text (report o (name_of words) names (text_name_of words) n text) a h refl }
+pub proof_appended : (words : List (List ℕ)) (told : Bool) (contents : List ℕ → Option (List ℕ)) (o : Outcome) (a : Answer) (old new : List ℕ) → IsAnswer words told contents a → o ≡ outcome_of a → new ≡ old ++ report_of (name_of words) a → IsProvedOutcome o → Appends old new (IsProofReport words told contents o)
+proof_appended words told contents o a old new answer is w h =
+    record { written = report_of (name_of words) a; appended = w; is_report = proof_reported words told contents o a (report_of (name_of words) a) answer is h refl }
 
--- a report by the names and the text that were handed on
-pub report_at : (o : Outcome) (names : List (List ℕ)) (n : ℕ) (name other checked own_checked text own old new : List ℕ) → name ≡ other → checked ≡ own_checked → text ≡ own → new ≡ old ++ report o name names checked n text → new ≡ old ++ report o other names own_checked n own
-report_at o names n name other checked own_checked text own old new e d f w =
-    w ∙ ap₂ (λ x y. old ++ report o x names checked n y) e f ∙ ap (λ z. old ++ report o other names z n own) d
+-- no answer's outcome is that a write failed
+pub no_write_fault : (a : Answer) → outcome_of a ≡ ended.WriteFault → ⊥
+no_write_fault (Proved Theorem n text) e = cc
+no_write_fault (Proved Unsatisfiable n text) e = cc
+no_write_fault a e = cc
 
--- the same of a report that was cut short
-pub report_cut : (o : Outcome) (names : List (List ℕ)) (n : ℕ) (name other checked own_checked text own old new : List ℕ) → name ≡ other → checked ≡ own_checked → text ≡ own → AppendsProperly old new (report o name names checked n text) → AppendsProperly old new (report o other names own_checked n own)
-report_cut o names n name other checked own_checked text own old new e d f h =
-    subst (AppendsProperly old new) (ap₂ (λ x y. report o x names checked n y) e f ∙ ap (λ z. report o other names z n own) d) h
+-- what is written for an answer
+pub written_whole : (words : List (List ℕ)) (told : Bool) (contents : List ℕ → Option (List ℕ)) (before now : List ℕ → ℕ) (o : Outcome) (a : Answer) (old new : List ℕ) → IsAnswer words told contents a → o ≡ outcome_of a → new ≡ old ++ report_of (name_of words) a → IsWritten words told contents before now old new o
+written_whole words told contents before now ended.WriteFault a old new answer is w = absurd (no_write_fault a (sym is))
+written_whole words told contents before now o a old new answer is w =
+    record { written = report_of (name_of words) a; appended = w; is_report = record { answer = a; is_answer = answer; is_outcome = is; is_report = refl } }
+
+-- an answer whose outcome is that the words name no problem
+words_form : (a : Answer) → outcome_of a ≡ ended.Words → a ≡ Words
+words_form Words e = refl
+words_form (Proved Theorem n text) e = cc
+words_form (Proved Unsatisfiable n text) e = cc
+words_form a e = cc
+
+pub words_answer : (words : List (List ℕ)) (told : Bool) (contents : List ℕ → Option (List ℕ)) (o : Outcome) (a : Answer) → IsAnswer words told contents a → o ≡ outcome_of a → o ≡ ended.Words → problem_word words ≡ None
+words_answer words told contents o a answer is e = subst (IsAnswer words told contents) (words_form a (sym is ∙ e)) answer
+
+-- the outcome of an answer
+pub outcome_whole : (words : List (List ℕ)) (told : Bool) (contents : List ℕ → Option (List ℕ)) (o : Outcome) (a : Answer) → IsAnswer words told contents a → o ≡ outcome_of a → IsOutcome words told contents o
+outcome_whole words told contents ended.WriteFault a answer is = tt
+outcome_whole words told contents o a answer is = (a, answer, is)
+
+-- the cause of an answer's outcome, by what is known of each
+pub cause_of : (words : List (List ℕ)) (told : Bool) (contents : List ℕ → Option (List ℕ)) (before now : List ℕ → ℕ) (a : Answer)
+    → ((k : ℕ) (names : List (List ℕ)) → a ≡ ReadFault (Part k names) → IsFaultOf words told contents before now k)
+    → ((name : List ℕ) → a ≡ ReadFault (Check name) → IsTextFault words told contents before now)
+    → (IsNoReadFault a → (file : List ℕ) → now file ≡ before file) → HasCause words told contents before now (outcome_of a)
+cause_of words told contents before now (ReadFault (Part k names)) f g h = f k names refl
+cause_of words told contents before now (ReadFault (Check name)) f g h = g name refl
+cause_of words told contents before now (Proved Theorem n text) f g h = h tt
+cause_of words told contents before now (Proved Unsatisfiable n text) f g h = h tt
+cause_of words told contents before now a f g h = h tt
 
 -- where contents are told, an answer that isn't a fault is the defined one
-pub defined_answer : (words : List (List ℕ)) (told : Bool) (contents : List ℕ → Option (List ℕ)) (o : Outcome) (names : List (List ℕ)) (n : ℕ) (text : List ℕ) → IsAnswer words told contents o names n text → IsTrue told → (name : List ℕ) → problem_word words ≡ Some name → ((k : ℕ) → o ≡ ReadFault (Part k) → ⊥) → (o ≡ ReadFault Check → ⊥) → IsDefined words contents o
-defined_answer words told contents Memory names n text a t name named f g = tt
-defined_answer words told contents Words names n text a t name named f g = cc
-defined_answer words told contents (ReadFault (Part k)) names n text a t name named f g = absurd (f k refl)
-defined_answer words told contents (ReadFault Check) names n text a t name named f g = absurd (g refl)
-defined_answer words told contents WriteFault names n text a t name named f g = absurd a
-defined_answer words told contents o names n text a t name named f g = (names, n, text, subst (λ b. IsAnswer words b contents o names n text) t a)
+pub defined_answer : (words : List (List ℕ)) (told : Bool) (contents : List ℕ → Option (List ℕ)) (o : Outcome) (a : Answer) → IsAnswer words told contents a → o ≡ outcome_of a → IsTrue told
+    → ((k : ℕ) (names : List (List ℕ)) → a ≡ ReadFault (Part k names) → ⊥) → ((name : List ℕ) → a ≡ ReadFault (Check name) → ⊥) → IsDefined words contents o
+defined_answer words told contents o a answer is t f g = subst (IsDefined words contents) (sym is) (go a (subst (λ b. IsAnswer words b contents a) t answer) f g)
+  where
+    go : (a : Answer) → IsAnswer words true contents a → ((k : ℕ) (names : List (List ℕ)) → a ≡ ReadFault (Part k names) → ⊥) → ((name : List ℕ) → a ≡ ReadFault (Check name) → ⊥) → IsDefined words contents (outcome_of a)
+    go Memory answer f g = tt
+    go (ReadFault (Part k names)) answer f g = absurd (f k names refl)
+    go (ReadFault (Check name)) answer f g = absurd (g name refl)
+    go (Proved Theorem n text) answer f g = (Proved Theorem n text, (tt, answer), refl)
+    go (Proved Unsatisfiable n text) answer f g = (Proved Unsatisfiable n text, (tt, answer), refl)
+    go a answer f g = (a, (tt, answer), refl)

@@ -11,4 +11,7 @@ pub mod SolvedLaws
 pub mod ReportLaws
 pub mod AnswerLaws
 pub mod CheckedLaws
+pub mod RunEnds
+pub mod ToldFiles
+pub mod OneAnswer
 pub mod HeadlineLaws

@@ -13,9 +13,7 @@ use Rattle.prover_search.specs.Ended.{EndsAs}
 use Rattle.prover_search.specs.Run.{command_limit}
 use Rattle.prover_search.specs.declared.commands.Ended.TheVariants.{Proved}
 use Rattle.satallax_top.specs.Runnable.{ArePrintable, names_in, IsRunnable}
-use Rattle.satallax_top.specs.Answers.{IsProofOf, IsSolvedFor, IsProvedFor}
-use Rattle.satallax_top.specs.declared.outcome.Outcome.{Outcome}
-use Rattle.satallax_top.specs.declared.outcome.Outcome.TheVariants.{Theorem, Unsatisfiable, GaveUp, CommandLimit, Accepted, Refused, SyntaxAt, TypeAt, IncludeAt, Words, TooLong, NotYetAt, ReadFault, WriteFault, Memory}
+use Rattle.satallax_top.specs.Answers.{IsProofOf}
 use Rattle.thf_parse.specs.Printable.{IsPrintable}
 use Rattle.refute_text.specs.Letters.{is_printable, is_name}
 use Rattle.satallax_top.proofs.NameLaws.{NamesAll, accepted_named}
@@ -53,21 +51,3 @@ module _ (p : PlainProblem) (n : ℕ) (refutation : Refutation) (r : IsRunnable 
     has_text = has_text (names_in p) (scope_of p.declared) (named_all p) (are_words p r.printable) (start p) refutation (e.1 (scope_of p.declared) r.typed) e.2;
     numbered = refutation-same (names_in p) (declared_placed p.declared r.apart) (scope_of p.declared) refutation (e.1 (scope_of p.declared) r.typed).table run_named;
   }
-
--- the outcome of a problem that is proved, with the text of its refutation
-pub proved_for : (p : PlainProblem) (o : Outcome) (n : ℕ) (text : List ℕ) → IsProvedFor p o → IsProofOf p n text → IsSolvedFor p o n text
-proved_for p Theorem n text h proof = (h, proof)
-proved_for p Unsatisfiable n text h proof = (h, proof)
-proved_for p GaveUp n text h proof = absurd h
-proved_for p (CommandLimit m) n text h proof = absurd h
-proved_for p Accepted n text h proof = absurd h
-proved_for p (Refused line why) n text h proof = absurd h
-proved_for p (SyntaxAt file at) n text h proof = absurd h
-proved_for p (TypeAt file at why) n text h proof = absurd h
-proved_for p (IncludeAt file at why) n text h proof = absurd h
-proved_for p Words n text h proof = absurd h
-proved_for p (TooLong file) n text h proof = absurd h
-proved_for p (NotYetAt at) n text h proof = absurd h
-proved_for p (ReadFault file) n text h proof = absurd h
-proved_for p WriteFault n text h proof = absurd h
-proved_for p Memory n text h proof = absurd h

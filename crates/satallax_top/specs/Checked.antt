@@ -19,9 +19,9 @@ use Rattle.refute_check.specs.declared.refusal.CheckRefused.{CheckRefused}
 use Rattle.refute_check.specs.declared.refusal.CheckRefused.TheVariants as failed
 use Rattle.refute_check.specs.declared.refusal.CheckRefused.TheVariants.{Line}
 use Rattle.satallax_top.specs.Runnable.{names_in}
-use Rattle.satallax_top.specs.declared.outcome.FileRef.TheVariants.{Part, Check}
-use Rattle.satallax_top.specs.declared.outcome.Outcome.{Outcome}
-use Rattle.satallax_top.specs.declared.outcome.Outcome.TheVariants.{Accepted, Refused, TypeAt, TooLong, ReadFault, Memory}
+use Rattle.satallax_top.specs.declared.answer.NamedFile.TheVariants.{Part, Check}
+use Rattle.satallax_top.specs.declared.answer.Answer.{Answer}
+use Rattle.satallax_top.specs.declared.answer.Answer.TheVariants.{Accepted, Refused, TypeAt, TooLong, ReadFault, Memory}
 
 -- how many bytes the text of a refutation may have
 abbrev pub text_byte_limit : ℕ
@@ -48,23 +48,23 @@ pub record IsRefusedText (p : PlainProblem) (bytes : List ℕ) (line : ℕ) (why
   pub fails : FailsFirst p reading line why
 
 -- what the bytes of a text are answered with; want of memory may come anywhere
-abbrev pub AnswersBytes : PlainProblem → List ℕ → Outcome → Type 0
+abbrev pub AnswersBytes : PlainProblem → List ℕ → Answer → Type 0
 AnswersBytes p bytes Memory = Unit {0}
 AnswersBytes p bytes Accepted = IsAcceptedText p bytes
 AnswersBytes p bytes (Refused line why) = IsRefusedText p bytes line why
-AnswersBytes p bytes outcome = ⊥
+AnswersBytes p bytes answer = ⊥
 
 -- what a text that isn't read is answered with
-abbrev pub unread_outcome : TextRefused → Outcome
-unread_outcome (BadLine line) = Refused line Form
-unread_outcome (NoStart line) = Refused line Start
-unread_outcome (NoEnd line) = Refused line End
-unread_outcome unread.Memory = Memory
+abbrev pub unread_answer : TextRefused → Answer
+unread_answer (BadLine line) = Refused line Form
+unread_answer (NoStart line) = Refused line Start
+unread_answer (NoEnd line) = Refused line End
+unread_answer unread.Memory = Memory
 
 -- what a refutation that isn't accepted is answered with
-abbrev pub failed_outcome : CheckRefused → Outcome
-failed_outcome (Line line why) = Refused line why
-failed_outcome failed.Memory = Memory
+abbrev pub failed_answer : CheckRefused → Answer
+failed_answer (Line line why) = Refused line why
+failed_answer failed.Memory = Memory
 
 -- A file holds bytes with this property, and no more of them than a text may have. They are those that are told, where they are told.
 pub record OfText (told : Bool) (contents : List ℕ → Option (List ℕ)) (file : List ℕ) (P : List ℕ → Type 0) : Type 0 where
@@ -78,20 +78,21 @@ abbrev pub IsLong : Bool → (List ℕ → Option (List ℕ)) → List ℕ → T
 IsLong told contents file = IsTrue told → (bytes : List ℕ) × (contents file ≡ Some bytes) × (text_byte_limit < length bytes)
 
 -- what the text in a file is answered with, where it is checked against this problem; it is a fault's, where the file can't be read
-abbrev pub AnswersText : Bool → (List ℕ → Option (List ℕ)) → List ℕ → PlainProblem → Outcome → Type 0
+abbrev pub AnswersText : Bool → (List ℕ → Option (List ℕ)) → List ℕ → PlainProblem → Answer → Type 0
 AnswersText told contents file p Memory = Unit {0}
-AnswersText told contents file p (ReadFault Check) = Unit {0}
-AnswersText told contents file p (TooLong Check) = IsLong told contents file
-AnswersText told contents file p outcome = OfText told contents file (λ bytes. AnswersBytes p bytes outcome)
+AnswersText told contents file p (ReadFault (Check name)) = name ≡ file
+AnswersText told contents file p (TooLong (Check name)) = (name ≡ file) × IsLong told contents file
+AnswersText told contents file p answer = OfText told contents file (λ bytes. AnswersBytes p bytes answer)
 
 -- the statements state a problem, and the text in the file is answered so
-pub record IsChecked (told : Bool) (contents : List ℕ → Option (List ℕ)) (file : List ℕ) (statements : List PlacedTree) (outcome : Outcome) : Type 0 where
+pub record IsChecked (told : Bool) (contents : List ℕ → Option (List ℕ)) (file : List ℕ) (statements : List PlacedTree) (answer : Answer) : Type 0 where
   pub problem : PlainProblem
   pub read : problem_of statements ≡ Ok problem
-  pub checked : AnswersText told contents file problem outcome
+  pub checked : AnswersText told contents file problem answer
 
--- what the statements of a problem are answered with, where the text in a file is checked against it
-abbrev pub AnswersCheck : Bool → (List ℕ → Option (List ℕ)) → List ℕ → List PlacedTree → Outcome → Type 0
-AnswersCheck told contents file ss Memory = Unit {0}
-AnswersCheck told contents file ss (TypeAt (Part part) at why) = problem_of ss ≡ Err (record { file = part; at = at; why = why })
-AnswersCheck told contents file ss outcome = IsChecked told contents file ss outcome
+-- what the statements of a problem are answered with, where they come from files of these names and the text in a file is checked against
+-- the problem
+abbrev pub AnswersCheck : Bool → (List ℕ → Option (List ℕ)) → List ℕ → List (List ℕ) → List PlacedTree → Answer → Type 0
+AnswersCheck told contents file names ss Memory = Unit {0}
+AnswersCheck told contents file names ss (TypeAt (Part part own) at why) = (own ≡ names) × (problem_of ss ≡ Err (record { file = part; at = at; why = why }))
+AnswersCheck told contents file names ss answer = IsChecked told contents file ss answer

@@ -17,12 +17,15 @@ use Rattle.refute_text.specs.Named.{named_refutation}
 use Rattle.refute_text.specs.Named.{Names}
 use Rattle.refute_read.specs.Reading.{lines_of, Reading, read, Reads}
 use Rattle.refute_check.specs.Numbered.{numbered_refutation}
-use Rattle.satallax_top.specs.Report.{report}
-use Rattle.satallax_top.specs.Words.{name_of, text_name_of}
+use Rattle.satallax_top.specs.Outcomes.{claim_outcome, outcome_of}
+use Rattle.satallax_top.specs.Report.{report_of}
+use Rattle.satallax_top.specs.Words.{name_of}
 use Rattle.satallax_top.specs.Files.{State}
 use Rattle.satallax_top.specs.Runnable.{names_in}
 use Rattle.satallax_top.specs.Checked.{IsAcceptedText}
-use Rattle.satallax_top.specs.Answers.{IsAnswer, HasCause}
+use Rattle.satallax_top.specs.Answers.{claim_of, IsAnswer, HasCause}
+use Rattle.satallax_top.specs.declared.answer.Answer.{Answer}
+use Rattle.satallax_top.specs.declared.answer.Answer.TheVariants.{Proved}
 use Rattle.satallax_top.specs.declared.outcome.Outcome.{Outcome}
 use Rattle.satallax_top.specs.declared.outcome.Outcome.TheVariants.{WriteFault}
 
@@ -44,17 +47,19 @@ pub record HoldsOnly (names : Names) (bytes : List ℕ) (refutation : Refutation
   pub only : (reading : Reading) → Reads (lines_of bytes) reading → reading ≡ read (named_refutation names refutation) first
   pub numbered : numbered_refutation names (named_refutation names refutation) ≡ refutation
 
--- What is written where a proof is reported. The bytes hold one refutation, which is accepted for the start of the problem that the files
--- state, so that they are an accepted text for the problem; the tableau of its last line closes the start; after the number of commands that is reported, and not before, the
--- clauses of the search are unsatisfiable; and no standard model with finite base types meets the problem.
+-- What is written where a proof is reported. The outcome is what the proof shows of the problem that the files state, and the bytes are its
+-- report. They hold one refutation, which is accepted for the problem's start, so that they are an accepted text for the problem; the
+-- tableau of its last line closes the start; after the number of commands that is reported, and not before, the clauses of the search are
+-- unsatisfiable; and no standard model with finite base types meets the problem.
 pub record IsProofReport (words : List (List ℕ)) (told : Bool) (contents : List ℕ → Option (List ℕ)) (outcome : Outcome) (written : List ℕ) : Type 0 where
   pub names : List (List ℕ)
   pub problem : PlainProblem
   pub stated : State words told contents names problem
+  pub is_outcome : outcome ≡ claim_outcome (claim_of problem)
   pub commands : ℕ
   pub proved : IsProved (start problem) command_limit commands
   pub refutation : Refutation
-  pub is_report : written ≡ report outcome (name_of words) names (text_name_of words) commands (as_bytes (text_lines (named_refutation (names_in problem) refutation)))
+  pub is_report : written ≡ report_of (name_of words) (Proved (claim_of problem) commands (as_bytes (text_lines (named_refutation (names_in problem) refutation))))
   pub holds : HoldsOnly (names_in problem) written refutation
   pub accepted : IsAccepted (scope_of problem.declared) (start problem) refutation
   pub accepted_text : IsAcceptedText problem written
@@ -67,28 +72,26 @@ pub record Appends (old new : List ℕ) (R : List ℕ → Type 0) : Type 0 where
   pub appended : new ≡ old ++ written
   pub is_report : R written
 
--- an answer of the call, with its report
+-- an answer of the call with this outcome, and its report
 pub record IsReported (words : List (List ℕ)) (told : Bool) (contents : List ℕ → Option (List ℕ)) (outcome : Outcome) (written : List ℕ) : Type 0 where
-  pub names : List (List ℕ)
-  pub commands : ℕ
-  pub text : List ℕ
-  pub is_answer : IsAnswer words told contents outcome names commands text
-  pub is_report : written ≡ report outcome (name_of words) names (text_name_of words) commands text
+  pub answer : Answer
+  pub is_answer : IsAnswer words told contents answer
+  pub is_outcome : outcome ≡ outcome_of answer
+  pub is_report : written ≡ report_of (name_of words) answer
 
 -- a write failed: a proper front of the report of an answer was written, and the answer's cause is there
 pub record IsCutShort (words : List (List ℕ)) (told : Bool) (contents : List ℕ → Option (List ℕ)) (before now : List ℕ → ℕ) (old new : List ℕ) : Type 0 where
-  pub outcome : Outcome
-  pub cause : HasCause words told contents before now outcome
-  pub whole : List ℕ
-  pub is_reported : IsReported words told contents outcome whole
-  pub appended : AppendsProperly old new whole
+  pub answer : Answer
+  pub is_answer : IsAnswer words told contents answer
+  pub cause : HasCause words told contents before now (outcome_of answer)
+  pub appended : AppendsProperly old new (report_of (name_of words) answer)
 
 -- what the call has written
 abbrev pub IsWritten : List (List ℕ) → Bool → (List ℕ → Option (List ℕ)) → (List ℕ → ℕ) → (List ℕ → ℕ) → List ℕ → List ℕ → Outcome → Type 0
 IsWritten words told contents before now old new WriteFault = IsCutShort words told contents before now old new
 IsWritten words told contents before now old new outcome = Appends old new (IsReported words told contents outcome)
 
--- the outcome is an answer of the call, unless a write failed
+-- the outcome is that of an answer of the call, unless a write failed
 abbrev pub IsOutcome : List (List ℕ) → Bool → (List ℕ → Option (List ℕ)) → Outcome → Type 0
 IsOutcome words told contents WriteFault = Unit {0}
-IsOutcome words told contents outcome = (names : List (List ℕ)) × (n : ℕ) × (text : List ℕ) × IsAnswer words told contents outcome names n text
+IsOutcome words told contents outcome = (answer : Answer) × IsAnswer words told contents answer × (outcome ≡ outcome_of answer)

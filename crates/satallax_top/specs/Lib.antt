@@ -2,6 +2,7 @@ pub mod Words
 pub mod Files
 pub mod Runnable
 pub mod Status
+pub mod Outcomes
 pub mod Report
 pub mod Checked
 pub mod Answers

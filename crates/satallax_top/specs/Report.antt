@@ -6,12 +6,14 @@ use Rattle.refute_text.specs.Text.{as_bytes}
 use Rattle.type_check.specs.declared.refusal.IllWhy.{IllWhy}
 use Rattle.type_check.specs.declared.refusal.IllWhy.TheVariants.{Unknown, Twice, Mismatch, NotFormula, SecondConjecture, RoleUnknown}
 use Rattle.refute_read.specs.Reading.{start_mark, end_mark}
-use Rattle.satallax_top.specs.declared.outcome.FileRef.{FileRef}
-use Rattle.satallax_top.specs.declared.outcome.FileRef.TheVariants.{Part, Check}
+use Rattle.satallax_top.specs.declared.answer.Answer.{Answer}
+use Rattle.satallax_top.specs.declared.answer.Answer.TheVariants.{Proved, GaveUp, CommandLimit, Accepted, Refused, SyntaxAt, TypeAt, IncludeAt, Words, TooLong, NotYetAt, ReadFault, Memory}
+use Rattle.satallax_top.specs.declared.answer.Claim.{Claim}
+use Rattle.satallax_top.specs.declared.answer.Claim.TheVariants.{Theorem, Unsatisfiable}
+use Rattle.satallax_top.specs.declared.answer.NamedFile.{NamedFile}
+use Rattle.satallax_top.specs.declared.answer.NamedFile.TheVariants.{Part, Check}
 use Rattle.satallax_top.specs.declared.outcome.IncludeWhy.{IncludeWhy}
 use Rattle.satallax_top.specs.declared.outcome.IncludeWhy.TheVariants.{Cycle, NoSuchName, TooMany}
-use Rattle.satallax_top.specs.declared.outcome.Outcome.{Outcome}
-use Rattle.satallax_top.specs.declared.outcome.Outcome.TheVariants.{Theorem, Unsatisfiable, GaveUp, CommandLimit, Accepted, Refused, SyntaxAt, TypeAt, IncludeAt, Words, TooLong, NotYetAt, ReadFault, WriteFault, Memory}
 
 -- the two lines at the head of most reports
 abbrev pub headed : List ℕ → List ℕ → List ℕ → List ℕ → List ℕ
@@ -25,10 +27,15 @@ counted_report status name count text =
 abbrev pub proof_report : List ℕ → List ℕ → ℕ → List ℕ → List ℕ
 proof_report status name n text = counted_report status name (decimal n) text
 
--- the name of a file, as it was opened: one of the problem's, or the checked text's
-abbrev pub file_name : List (List ℕ) → List ℕ → FileRef → List ℕ
-file_name names checked (Part k) = unwrap_or (slice_get names k) []
-file_name names checked Check = checked
+-- the head of the report of a proof
+abbrev pub claim_status : Claim → List ℕ
+claim_status Theorem = codes "% SZS status Theorem for "
+claim_status Unsatisfiable = codes "% SZS status Unsatisfiable for "
+
+-- the name of a file, as it was opened
+abbrev pub file_name : NamedFile → List ℕ
+file_name (Part k names) = unwrap_or (slice_get names k) []
+file_name (Check name) = name
 
 -- a place of a file
 abbrev pub place_in : List ℕ → ℕ → List ℕ
@@ -66,21 +73,18 @@ refused_report name line word = as_bytes ((codes "% refutation refused for " ++ 
 abbrev pub refused_in : List ℕ → ℕ → List ℕ → List ℕ
 refused_in file at why = place_in file at ++ (codes " " ++ why)
 
--- The report of an outcome, for the problem's name, the names of its files in the order in which they were opened, the name of the text
--- that is checked, a number of commands, and the text of a refutation.
-abbrev pub report : Outcome → List ℕ → List (List ℕ) → List ℕ → ℕ → List ℕ → List ℕ
-report Theorem name names checked n text = proof_report (codes "% SZS status Theorem for ") name n text
-report Unsatisfiable name names checked n text = proof_report (codes "% SZS status Unsatisfiable for ") name n text
-report GaveUp name names checked n text = headed (codes "% SZS status GaveUp for ") name (codes "% commands ") (decimal n)
-report (CommandLimit m) name names checked n text = headed (codes "% SZS status ResourceOut for ") name (codes "% command limit ") (decimal m)
-report Accepted name names checked n text = as_bytes ((codes "% refutation accepted for " ++ name) ∷ [])
-report (Refused line why) name names checked n text = refused_report name (decimal line) (why_word why)
-report (SyntaxAt file at) name names checked n text = headed (codes "% SZS status SyntaxError for ") name (codes "% syntax ") (place_in (file_name names checked file) at)
-report (TypeAt file at why) name names checked n text = headed (codes "% SZS status InputError for ") name (codes "% type ") (refused_in (file_name names checked file) at (ill_word why))
-report (IncludeAt file at why) name names checked n text = headed (codes "% SZS status InputError for ") name (codes "% include ") (refused_in (file_name names checked file) at (include_word why))
-report Words name names checked n text = codes "% usage: satallax [--mode FILE] [--check FILE] [--demo N] PROBLEM\n"
-report (TooLong file) name names checked n text = headed (codes "% SZS status InputError for ") name (codes "% too long ") (file_name names checked file)
-report (NotYetAt at) name names checked n text = headed (codes "% SZS status GaveUp for ") name (codes "% not yet ") (decimal at)
-report (ReadFault file) name names checked n text = headed (codes "% SZS status InputError for ") name (codes "% read fault ") (file_name names checked file)
-report WriteFault name names checked n text = []
-report Memory name names checked n text = headed (codes "% SZS status ResourceOut for ") name (codes "% memory") []
+-- the report of an answer, for the problem's name
+abbrev pub report_of : List ℕ → Answer → List ℕ
+report_of name (Proved claim n text) = proof_report (claim_status claim) name n text
+report_of name (GaveUp n) = headed (codes "% SZS status GaveUp for ") name (codes "% commands ") (decimal n)
+report_of name (CommandLimit n) = headed (codes "% SZS status ResourceOut for ") name (codes "% command limit ") (decimal n)
+report_of name Accepted = as_bytes ((codes "% refutation accepted for " ++ name) ∷ [])
+report_of name (Refused line why) = refused_report name (decimal line) (why_word why)
+report_of name (SyntaxAt file at) = headed (codes "% SZS status SyntaxError for ") name (codes "% syntax ") (place_in (file_name file) at)
+report_of name (TypeAt file at why) = headed (codes "% SZS status InputError for ") name (codes "% type ") (refused_in (file_name file) at (ill_word why))
+report_of name (IncludeAt file at why) = headed (codes "% SZS status InputError for ") name (codes "% include ") (refused_in (file_name file) at (include_word why))
+report_of name Words = codes "% usage: satallax [--mode FILE] [--check FILE] [--demo N] PROBLEM\n"
+report_of name (TooLong file) = headed (codes "% SZS status InputError for ") name (codes "% too long ") (file_name file)
+report_of name (NotYetAt at) = headed (codes "% SZS status GaveUp for ") name (codes "% not yet ") (decimal at)
+report_of name (ReadFault file) = headed (codes "% SZS status InputError for ") name (codes "% read fault ") (file_name file)
+report_of name Memory = headed (codes "% SZS status ResourceOut for ") name (codes "% memory") []

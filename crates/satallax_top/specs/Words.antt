@@ -43,7 +43,3 @@ check_word (w ∷ v ∷ u ∷ t ∷ words) = None
 -- the problem's name, or nothing where the words name no problem
 abbrev pub name_of : List (List ℕ) → List ℕ
 name_of words = unwrap_or (problem_word words) []
-
--- the name of the text that is checked, or nothing where none is
-abbrev pub text_name_of : List (List ℕ) → List ℕ
-text_name_of words = unwrap_or (check_word words) []

@@ -1,6 +1,7 @@
 //! The whole prover as one call.
 #![tactic(auto)]
 
+mod answer;
 mod check;
 mod law;
 mod outcome;
@@ -10,7 +11,8 @@ mod text;
 mod top;
 mod words;
 
-pub use law::{one_check, propositional_formulas_are_normal};
+pub use answer::{Answer, Claim, NamedFile};
+pub use law::{one_answer, one_check, propositional_formulas_are_normal};
 pub use outcome::{FileRef, IncludeWhy, Outcome};
 pub use top::satallax;
 pub use words::Words;

@@ -1,21 +1,17 @@
 //! Writes the report of a call. It takes no memory.
 
-ghost use Rattle.std.specs.Prelude.{◌≡◌, ◌≤◌, ◌++◌, [], ◌∷◌, List, ℕ, OnOk, OnErr, IsTrue, codes, decimal, slice_get, unwrap_or};
+ghost use Rattle.std.specs.Prelude.{◌≡◌, ◌≤◌, ◌++◌, [], ◌∷◌, OnOk, OnErr, IsTrue, codes, decimal};
 ghost use Rattle.outside.specs.Causes.{Rose};
 ghost use Rattle.outside.specs.Prefix.{AppendsProperly};
 ghost use Rattle.refute_text.specs.Text.{as_bytes};
-ghost use Rattle.satallax_top.specs.Report.{headed, counted_report, proof_report, file_name, place_in, ill_word, include_word, why_word, refused_report, refused_in, report};
+ghost use Rattle.satallax_top.specs.Report.{headed, counted_report, proof_report, claim_status, file_name, place_in, ill_word, include_word, why_word, refused_report, refused_in, report_of};
 
-use crate::outcome::{FileRef, IncludeWhy, Outcome};
+use crate::answer::{Answer, Claim, NamedFile};
+use crate::outcome::IncludeWhy;
 use itoa::Buffer;
-use outside::{Failed, Sink, write_all_counted, write_pieces};
+use outside::{Bytes, Failed, Sink, write_all_counted, write_pieces};
 use stt_tableau::Why;
-use thf_include::FileNames;
 use type_check::IllWhy;
-
-const THEOREM: &[u8] = b"% SZS status Theorem for ";
-
-const UNSATISFIABLE: &[u8] = b"% SZS status Unsatisfiable for ";
 
 const GAVE_UP: &[u8] = b"% SZS status GaveUp for ";
 
@@ -82,18 +78,28 @@ fn write_proof_pieces<S: Sink>(
     )
 }
 
+/// The head of the report of a proof.
+fn claim_status(claim: Claim) -> &'static [u8]
+    ensures { result.now ≡ claim_status claim }
+{
+    match claim {
+        Claim::Theorem => b"% SZS status Theorem for ",
+        Claim::Unsatisfiable => b"% SZS status Unsatisfiable for ",
+    }
+}
+
 /// Writes the report of a proof.
 fn write_proof<S: Sink>(
     out: &mut S,
-    status: &[u8],
     name: &[u8],
+    claim: Claim,
     commands: u32,
-    text: &[u8],
+    text: &Bytes,
 ) -> Result<(), Failed>
     ensures appended { OnOk result (IsTrue (S.tells out.old)
-        → S.written out.new ≡ S.written out.old ++ proof_report status.now name.now commands text.now) }
+        → S.written out.new ≡ S.written out.old ++ proof_report (claim_status claim) name.now commands text.now) }
     ensures failed { OnErr result (IsTrue (S.tells out.old)
-        → AppendsProperly (S.written out.old) (S.written out.new) (proof_report status.now name.now commands text.now)) }
+        → AppendsProperly (S.written out.old) (S.written out.new) (proof_report (claim_status claim) name.now commands text.now)) }
     ensures quiet { OnOk result (S.faults out.new ≡ S.faults out.old) }
     ensures cause { OnErr result (Rose (S.faults out.old) (S.faults out.new)) }
     ensures later { S.faults out.old ≤ S.faults out.new }
@@ -101,7 +107,8 @@ fn write_proof<S: Sink>(
 {
     let mut buffer = Buffer::new();
     let digits = buffer.format(commands).as_bytes();
-    write_proof_pieces(out, status, name, digits, text)
+    let status = claim_status(claim);
+    write_proof_pieces(out, status, name, digits, text.as_slice())
 }
 
 /// Writes a report of two lines, of which the second ends with a number.
@@ -164,27 +171,6 @@ fn why_word(why: Why) -> &'static [u8]
     }
 }
 
-/// The name of a file of the problem, as it was opened.
-fn part_name(names: &FileNames, k: u32) -> &[u8]
-    ensures { result.now ≡ unwrap_or (slice_get names.now k) [] }
-{
-    if (k as usize) < names.len() {
-        names.get(k as usize)
-    } else {
-        b""
-    }
-}
-
-/// The name of a file, as it was opened.
-fn file_name<'a>(names: &'a FileNames, checked: &'a [u8], file: FileRef) -> &'a [u8]
-    ensures { result.now ≡ file_name names.now checked.now file }
-{
-    match file {
-        FileRef::Part(k) => part_name(names, k),
-        FileRef::Check => checked,
-    }
-}
-
 /// Writes the pieces of the report of a place of a file, in digits.
 fn write_place<S: Sink>(
     out: &mut S,
@@ -207,18 +193,11 @@ fn write_place<S: Sink>(
 }
 
 /// Writes the report of a wrong token of a file.
-fn write_syntax<S: Sink>(
-    out: &mut S,
-    name: &[u8],
-    names: &FileNames,
-    checked: &[u8],
-    file: FileRef,
-    at: u32,
-) -> Result<(), Failed>
+fn write_syntax<S: Sink>(out: &mut S, name: &[u8], file: &NamedFile, at: u32) -> Result<(), Failed>
     ensures appended { OnOk result (IsTrue (S.tells out.old)
-        → S.written out.new ≡ S.written out.old ++ headed (codes "% SZS status SyntaxError for ") name.now (codes "% syntax ") (place_in (file_name names.now checked.now file) at)) }
+        → S.written out.new ≡ S.written out.old ++ headed (codes "% SZS status SyntaxError for ") name.now (codes "% syntax ") (place_in (file_name file.now) at)) }
     ensures failed { OnErr result (IsTrue (S.tells out.old)
-        → AppendsProperly (S.written out.old) (S.written out.new) (headed (codes "% SZS status SyntaxError for ") name.now (codes "% syntax ") (place_in (file_name names.now checked.now file) at))) }
+        → AppendsProperly (S.written out.old) (S.written out.new) (headed (codes "% SZS status SyntaxError for ") name.now (codes "% syntax ") (place_in (file_name file.now) at))) }
     ensures quiet { OnOk result (S.faults out.new ≡ S.faults out.old) }
     ensures cause { OnErr result (Rose (S.faults out.old) (S.faults out.new)) }
     ensures later { S.faults out.old ≤ S.faults out.new }
@@ -226,7 +205,7 @@ fn write_syntax<S: Sink>(
 {
     let mut buffer = Buffer::new();
     let digits = buffer.format(at).as_bytes();
-    let file = file_name(names, checked, file);
+    let file = file.name();
     write_place(out, SYNTAX_ERROR, name, b"% syntax ", file, digits)
 }
 
@@ -292,22 +271,20 @@ fn write_refused<S: Sink>(
 fn write_ill<S: Sink>(
     out: &mut S,
     name: &[u8],
-    names: &FileNames,
-    checked: &[u8],
-    file: FileRef,
+    file: &NamedFile,
     at: u32,
     why: IllWhy,
 ) -> Result<(), Failed>
     ensures appended { OnOk result (IsTrue (S.tells out.old)
-        → S.written out.new ≡ S.written out.old ++ headed (codes "% SZS status InputError for ") name.now (codes "% type ") (refused_in (file_name names.now checked.now file) at (ill_word why))) }
+        → S.written out.new ≡ S.written out.old ++ headed (codes "% SZS status InputError for ") name.now (codes "% type ") (refused_in (file_name file.now) at (ill_word why))) }
     ensures failed { OnErr result (IsTrue (S.tells out.old)
-        → AppendsProperly (S.written out.old) (S.written out.new) (headed (codes "% SZS status InputError for ") name.now (codes "% type ") (refused_in (file_name names.now checked.now file) at (ill_word why)))) }
+        → AppendsProperly (S.written out.old) (S.written out.new) (headed (codes "% SZS status InputError for ") name.now (codes "% type ") (refused_in (file_name file.now) at (ill_word why)))) }
     ensures quiet { OnOk result (S.faults out.new ≡ S.faults out.old) }
     ensures cause { OnErr result (Rose (S.faults out.old) (S.faults out.new)) }
     ensures later { S.faults out.old ≤ S.faults out.new }
     ensures telling { IsTrue (S.tells out.old) → IsTrue (S.tells out.new) }
 {
-    let file = file_name(names, checked, file);
+    let file = file.name();
     write_refused(out, name, b"% type ", file, at, ill_word(why))
 }
 
@@ -315,22 +292,20 @@ fn write_ill<S: Sink>(
 fn write_include<S: Sink>(
     out: &mut S,
     name: &[u8],
-    names: &FileNames,
-    checked: &[u8],
-    file: FileRef,
+    file: &NamedFile,
     at: u32,
     why: IncludeWhy,
 ) -> Result<(), Failed>
     ensures appended { OnOk result (IsTrue (S.tells out.old)
-        → S.written out.new ≡ S.written out.old ++ headed (codes "% SZS status InputError for ") name.now (codes "% include ") (refused_in (file_name names.now checked.now file) at (include_word why))) }
+        → S.written out.new ≡ S.written out.old ++ headed (codes "% SZS status InputError for ") name.now (codes "% include ") (refused_in (file_name file.now) at (include_word why))) }
     ensures failed { OnErr result (IsTrue (S.tells out.old)
-        → AppendsProperly (S.written out.old) (S.written out.new) (headed (codes "% SZS status InputError for ") name.now (codes "% include ") (refused_in (file_name names.now checked.now file) at (include_word why)))) }
+        → AppendsProperly (S.written out.old) (S.written out.new) (headed (codes "% SZS status InputError for ") name.now (codes "% include ") (refused_in (file_name file.now) at (include_word why)))) }
     ensures quiet { OnOk result (S.faults out.new ≡ S.faults out.old) }
     ensures cause { OnErr result (Rose (S.faults out.old) (S.faults out.new)) }
     ensures later { S.faults out.old ≤ S.faults out.new }
     ensures telling { IsTrue (S.tells out.old) → IsTrue (S.tells out.new) }
 {
-    let file = file_name(names, checked, file);
+    let file = file.name();
     write_refused(out, name, b"% include ", file, at, include_word(why))
 }
 
@@ -339,26 +314,18 @@ fn write_file<S: Sink>(
     out: &mut S,
     name: &[u8],
     word: &[u8],
-    names: &FileNames,
-    checked: &[u8],
-    file: FileRef,
+    file: &NamedFile,
 ) -> Result<(), Failed>
     ensures appended { OnOk result (IsTrue (S.tells out.old)
-        → S.written out.new ≡ S.written out.old ++ headed (codes "% SZS status InputError for ") name.now word.now (file_name names.now checked.now file)) }
+        → S.written out.new ≡ S.written out.old ++ headed (codes "% SZS status InputError for ") name.now word.now (file_name file.now)) }
     ensures failed { OnErr result (IsTrue (S.tells out.old)
-        → AppendsProperly (S.written out.old) (S.written out.new) (headed (codes "% SZS status InputError for ") name.now word.now (file_name names.now checked.now file))) }
+        → AppendsProperly (S.written out.old) (S.written out.new) (headed (codes "% SZS status InputError for ") name.now word.now (file_name file.now))) }
     ensures quiet { OnOk result (S.faults out.new ≡ S.faults out.old) }
     ensures cause { OnErr result (Rose (S.faults out.old) (S.faults out.new)) }
     ensures later { S.faults out.old ≤ S.faults out.new }
     ensures telling { IsTrue (S.tells out.old) → IsTrue (S.tells out.new) }
 {
-    write_headed(
-        out,
-        INPUT_ERROR,
-        name,
-        word,
-        file_name(names, checked, file),
-    )
+    write_headed(out, INPUT_ERROR, name, word, file.name())
 }
 
 /// Writes the report of a text that is accepted.
@@ -421,52 +388,38 @@ fn write_refusal<S: Sink>(out: &mut S, name: &[u8], line: usize, why: Why) -> Re
     write_refusal_pieces(out, name, digits, why_word(why))
 }
 
-/// Writes the report of an outcome, after so many commands, with the text of a refutation. The names are those of the problem's files
-/// and of the text that is checked.
-pub(crate) fn write_report<S: Sink>(
-    out: &mut S,
-    outcome: Outcome,
-    name: &[u8],
-    names: &FileNames,
-    checked: &[u8],
-    commands: u32,
-    text: &[u8],
-) -> Result<(), Failed>
+/// Writes the report of an answer for a problem of this name.
+pub(crate) fn write_report<S: Sink>(out: &mut S, name: &[u8], answer: &Answer) -> Result<(), Failed>
     ensures appended { OnOk result (IsTrue (S.tells out.old)
-        → S.written out.new ≡ S.written out.old ++ report outcome name.now names.now checked.now commands text.now) }
+        → S.written out.new ≡ S.written out.old ++ report_of name.now answer.now) }
     ensures failed { OnErr result (IsTrue (S.tells out.old)
-        → AppendsProperly (S.written out.old) (S.written out.new) (report outcome name.now names.now checked.now commands text.now)) }
+        → AppendsProperly (S.written out.old) (S.written out.new) (report_of name.now answer.now)) }
     ensures quiet { OnOk result (S.faults out.new ≡ S.faults out.old) }
     ensures cause { OnErr result (Rose (S.faults out.old) (S.faults out.new)) }
     ensures later { S.faults out.old ≤ S.faults out.new }
     ensures telling { IsTrue (S.tells out.old) → IsTrue (S.tells out.new) }
 {
-    match outcome {
-        Outcome::Theorem => write_proof(out, THEOREM, name, commands, text),
-        Outcome::Unsatisfiable => write_proof(out, UNSATISFIABLE, name, commands, text),
-        Outcome::GaveUp => write_numbered(out, GAVE_UP, name, b"% commands ", commands),
-        Outcome::CommandLimit { commands: limit } => {
-            write_numbered(out, RESOURCE_OUT, name, b"% command limit ", limit)
+    match answer {
+        Answer::Proved {
+            claim,
+            commands,
+            text,
+        } => write_proof(out, name, *claim, *commands, text),
+        Answer::GaveUp { commands } => {
+            write_numbered(out, GAVE_UP, name, b"% commands ", *commands)
         }
-        Outcome::Accepted => write_accepted(out, name),
-        Outcome::Refused { line, why } => write_refusal(out, name, line, why),
-        Outcome::SyntaxAt { file, at } => write_syntax(out, name, names, checked, file, at),
-        Outcome::TypeAt { file, at, why } => write_ill(out, name, names, checked, file, at, why),
-        Outcome::IncludeAt { file, at, why } => write_include(
-            out, name, names, checked, file, at, why,
-        ),
-        Outcome::Words => write_all_counted(out, USAGE),
-        Outcome::TooLong { file } => write_file(out, name, b"% too long ", names, checked, file),
-        Outcome::NotYetAt { at } => write_numbered(out, GAVE_UP, name, b"% not yet ", at),
-        Outcome::ReadFault { file } => write_file(
-            out,
-            name,
-            b"% read fault ",
-            names,
-            checked,
-            file,
-        ),
-        Outcome::WriteFault => Ok(()),
-        Outcome::Memory => write_headed(out, RESOURCE_OUT, name, b"% memory", b""),
+        Answer::CommandLimit { commands } => {
+            write_numbered(out, RESOURCE_OUT, name, b"% command limit ", *commands)
+        }
+        Answer::Accepted => write_accepted(out, name),
+        Answer::Refused { line, why } => write_refusal(out, name, *line, *why),
+        Answer::SyntaxAt { file, at } => write_syntax(out, name, file, *at),
+        Answer::TypeAt { file, at, why } => write_ill(out, name, file, *at, *why),
+        Answer::IncludeAt { file, at, why } => write_include(out, name, file, *at, *why),
+        Answer::Words => write_all_counted(out, USAGE),
+        Answer::TooLong { file } => write_file(out, name, b"% too long ", file),
+        Answer::NotYetAt { at } => write_numbered(out, GAVE_UP, name, b"% not yet ", *at),
+        Answer::ReadFault { file } => write_file(out, name, b"% read fault ", file),
+        Answer::Memory => write_headed(out, RESOURCE_OUT, name, b"% memory", b""),
     }
 }

@@ -1,79 +1,79 @@
 //! The call that does all that the program does.
 
-ghost use Rattle.std.specs.Prelude.{◌≡◌, ◌≤◌, ◌++◌, ℕ, List, [], IsTrue, Some, None};
+ghost use Rattle.std.specs.Prelude.{◌≡◌, ◌≤◌, ℕ, List, IsTrue, None};
 ghost use Rattle.outside.specs.Causes.{Rose};
-ghost use Rattle.satallax_top.specs.Answers.{refused_outcome, IsAnswer, IsFaultOf, IsTextFault, IsNoReadFault, IsNoWriteFault, HasCause, IsProvedOutcome, IsDefined};
+ghost use Rattle.satallax_top.specs.Answers.{refused_answer, IsAnswer, IsFaultOf, IsTextFault, IsNoReadFault, IsNoWriteFault, HasCause, IsProvedOutcome, IsDefined};
 ghost use Rattle.satallax_top.specs.Headline.{HasNoModel, IsProofReport, Appends, IsWritten, IsOutcome};
 ghost use Rattle.satallax_top.specs.Words.{problem_word};
-ghost use Rattle.satallax_top.specs.declared.outcome.FileRef.TheVariants.{Part, Check};
+ghost use Rattle.satallax_top.specs.declared.answer.NamedFile.TheVariants.{Part, Check};
 
+use crate::answer::{Answer, NamedFile};
 use crate::check::check_statements;
-use crate::outcome::{FileRef, IncludeWhy, Outcome};
+use crate::outcome::{IncludeWhy, Outcome};
 use crate::report::write_report;
-use crate::solve::{Answer, solve};
+use crate::solve::solve;
 use crate::words::Words;
 use outside::{Failed, Files, Sink};
 use std::alloc::Global;
 use thf_include::{FileNames, GatherRefused, gather};
 
-/// The outcome where the files aren't gathered.
-fn refused_outcome(refused: GatherRefused) -> Outcome
-    ensures { result ≡ refused_outcome refused }
+/// The answer where the files aren't gathered. The names are those of the files that were opened.
+fn refused_answer(names: FileNames, refused: GatherRefused) -> Answer
+    ensures { result ≡ refused_answer names refused }
 {
     match refused {
-        GatherRefused::Fault { file } => Outcome::ReadFault {
-            file: FileRef::Part(file),
+        GatherRefused::Fault { file: number } => Answer::ReadFault {
+            file: NamedFile::Part { number, names },
         },
-        GatherRefused::TooLong { file } => Outcome::TooLong {
-            file: FileRef::Part(file),
+        GatherRefused::TooLong { file: number } => Answer::TooLong {
+            file: NamedFile::Part { number, names },
         },
-        GatherRefused::Syntax { file, at } => Outcome::SyntaxAt {
-            file: FileRef::Part(file),
+        GatherRefused::Syntax { file: number, at } => Answer::SyntaxAt {
+            file: NamedFile::Part { number, names },
             at,
         },
-        GatherRefused::Cycle { file, at } => include_at(file, at, IncludeWhy::Cycle),
-        GatherRefused::NoSuchName { file, at } => include_at(file, at, IncludeWhy::NoSuchName),
-        GatherRefused::TooMany { file, at } => include_at(file, at, IncludeWhy::TooMany),
-        GatherRefused::Memory => Outcome::Memory,
+        GatherRefused::Cycle { file: number, at } => Answer::IncludeAt {
+            file: NamedFile::Part { number, names },
+            at,
+            why: IncludeWhy::Cycle,
+        },
+        GatherRefused::NoSuchName { file: number, at } => Answer::IncludeAt {
+            file: NamedFile::Part { number, names },
+            at,
+            why: IncludeWhy::NoSuchName,
+        },
+        GatherRefused::TooMany { file: number, at } => Answer::IncludeAt {
+            file: NamedFile::Part { number, names },
+            at,
+            why: IncludeWhy::TooMany,
+        },
+        GatherRefused::Memory => Answer::Memory,
     }
 }
 
-fn include_at(file: u32, at: u32, why: IncludeWhy) -> Outcome
-    ensures { result ≡ Outcome.IncludeAt (Part file) at why }
-{
-    Outcome::IncludeAt {
-        file: FileRef::Part(file),
-        at,
-        why,
-    }
-}
-
-/// The answer of a call, before it is reported. The names are those of the problem's files that are opened.
-fn answer<F: Files>(alloc: Global, words: &Words, files: &mut F, names: &mut FileNames) -> Answer
-    requires { names.old ≡ [] }
-    ensures answer { IsAnswer words.now (F.tells files.old) (F.contents files.old) result.outcome names.new result.commands result.text }
-    ensures read { (k : ℕ) → result.outcome ≡ Outcome.ReadFault (Part k)
+/// The answer of a call, before it is reported.
+fn answer<F: Files>(alloc: Global, words: &Words, files: &mut F) -> Answer
+    ensures answer { IsAnswer words.now (F.tells files.old) (F.contents files.old) result }
+    ensures read { (k : ℕ) (names : List (List ℕ)) → result ≡ Answer.ReadFault (Part k names)
         → IsFaultOf words.now (F.tells files.old) (F.contents files.old) (F.faults files.old) (F.faults files.new) k }
-    ensures text_read { result.outcome ≡ Outcome.ReadFault Check
+    ensures text_read { (name : List ℕ) → result ≡ Answer.ReadFault (Check name)
         → IsTextFault words.now (F.tells files.old) (F.contents files.old) (F.faults files.old) (F.faults files.new) }
-    ensures quiet { IsNoReadFault result.outcome → (other : List ℕ) → F.faults files.new other ≡ F.faults files.old other }
+    ensures quiet { IsNoReadFault result → (other : List ℕ) → F.faults files.new other ≡ F.faults files.old other }
 
     ensures later { (other : List ℕ) → F.faults files.old other ≤ F.faults files.new other }
     ensures same { F.contents files.new ≡ F.contents files.old }
     ensures telling { F.tells files.new ≡ F.tells files.old }
 {
     let Some(name) = words.problem() else {
-        return Answer::plain(alloc, Outcome::Words, 0);
+        return Answer::Words;
     };
-    match gather(alloc, files, names, name) {
+    let mut names = FileNames::new(alloc);
+    match gather(alloc, files, &mut names, name) {
         Ok(gathered) => match words.checked() {
-            None => solve(alloc, &gathered),
-            Some(text) => {
-                let outcome = check_statements(alloc, files, &gathered, text);
-                Answer::plain(alloc, outcome, 0)
-            }
+            None => solve(alloc, &gathered, names),
+            Some(text) => check_statements(alloc, files, &gathered, names, text),
         },
-        Err(refused) => Answer::plain(alloc, refused_outcome(refused), 0),
+        Err(refused) => refused_answer(names, refused),
     }
 }
 
@@ -85,7 +85,7 @@ pub fn satallax<F: Files, S: Sink>(
     files: &mut F,
     out: &mut S,
 ) -> Outcome
-    // The outcome is an answer for these words and for the contents of the problem's files, and of the text's where one is checked.
+    // The outcome is that of an answer for these words and for the contents of the problem's files, and of the text's where one is checked.
     ensures outcome { IsOutcome words.now (F.tells files.old) (F.contents files.old) result }
 
     // What is written is the report of the outcome, or where a write failed a proper front of the report of an answer whose cause is there.
@@ -115,27 +115,15 @@ pub fn satallax<F: Files, S: Sink>(
     ensures out_telling { IsTrue (S.tells out.old) → IsTrue (S.tells out.new) }
     ensures out_later { S.faults out.old ≤ S.faults out.new }
 
-    // Where the words name a problem, contents are told and no count of faults rises, the outcome is the defined one, or memory ran out.
-    ensures complete { IsTrue (F.tells files.old) → (name : List ℕ) → problem_word words.now ≡ Some name
+    // Where contents are told and no count of faults rises, the outcome is that of the defined answer, or memory ran out.
+    ensures complete { IsTrue (F.tells files.old)
         → ((file : List ℕ) → Rose (F.faults files.old file) (F.faults files.new file) → ⊥)
         → (Rose (S.faults out.old) (S.faults out.new) → ⊥)
         → IsDefined words.now (F.contents files.old) result }
 {
-    let mut names = FileNames::new(alloc);
-    let answer = answer(alloc, words, files, &mut names);
-    let name = words.name().as_bytes();
-    let checked = words.text_name().as_bytes();
-    let text = answer.text.as_slice();
-    match write_report(
-        out,
-        answer.outcome,
-        name,
-        &names,
-        checked,
-        answer.commands,
-        text,
-    ) {
-        Ok(()) => answer.outcome,
+    let answer = answer(alloc, words, files);
+    match write_report(out, words.name().as_bytes(), &answer) {
+        Ok(()) => answer.outcome(),
         Err(Failed) => Outcome::WriteFault,
     }
 }

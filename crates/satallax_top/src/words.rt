@@ -2,7 +2,7 @@
 
 ghost use Rattle.std.specs.Prelude.{◌≡◌, [], ◌∷◌, ◌++◌, OnOk, OnErr, option_map, Some, None, if◌then◌else◌};
 ghost use Rattle.std.specs.List.{list_any};
-ghost use Rattle.satallax_top.specs.Words.{is_control, is_file_name, is_option, names_file, asks_check, problem_word, check_word, name_of, text_name_of};
+ghost use Rattle.satallax_top.specs.Words.{is_control, is_file_name, is_option, names_file, asks_check, problem_word, check_word, name_of};
 
 use std::alloc::{AllocError, Global};
 use std::marker::Model;
@@ -120,12 +120,5 @@ impl Words {
         ensures { result.now ≡ name_of self.now }
     {
         self.problem().unwrap_or("")
-    }
-
-    /// The name of the text that is checked, or nothing where none is.
-    pub(crate) fn text_name(&self) -> &str
-        ensures { result.now ≡ text_name_of self.now }
-    {
-        self.checked().unwrap_or("")
     }
 }

@@ -1,4 +1,4 @@
 use Rattle.satallax_top.proofs.report.write_file.Goals as goal
 
 pub returns-clause-appended : goal.returns-clause-appended
-returns-clause-appended g c = rw (← c.file_name.ensures) c.write_headed.ensures.appended
+returns-clause-appended g c = rw (← c.name.ensures) c.write_headed.ensures.appended

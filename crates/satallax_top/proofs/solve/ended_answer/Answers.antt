@@ -5,7 +5,7 @@ use Rattle.refute_text.specs.Named.{named_refutation, IsNamed}
 use Rattle.refute_text.specs.Text.{text_lines, as_bytes}
 use Rattle.satallax_top.specs.Runnable.{names_in}
 use Rattle.prover_search.specs.Run.{command_limit}
-use Rattle.satallax_top.proofs.SolvedLaws.{run_named, proof_of_run, proved_for}
+use Rattle.satallax_top.proofs.SolvedLaws.{run_named, proof_of_run}
 use Rattle.satallax_top.proofs.solve.ended_answer.Goals as goal
 
 pub refutation_text-requires : goal.refutation_text-requires
@@ -18,7 +18,8 @@ pub returns-in_ok-text-in-Proved : goal.returns-in_ok-text-in-Proved
 returns-in_ok-text-in-Proved c =
     let p = c.args.problem.now in
     let n = c.in-Proved.commands in
-    let text = c.in_ok-text-in-Proved.text in
-    proved_for p c.proved_outcome.result n text c.proved_outcome.ensures
-    (proof_of_run p n c.in-Proved.refutation c.requires.runnable (subst (EndsAs (start p) command_limit) c.in-Proved.is c.requires.ended) text
-    (c.in_ok-text-in-Proved.ensures ∙ ap (λ q. as_bytes (text_lines (named_refutation (names_in q) c.in-Proved.refutation))) c.problem.view_is))
+    let text = c.in_ok-text-in-Proved.text in (
+      c.claim_of.ensures,
+      proof_of_run p n c.in-Proved.refutation c.requires.runnable (subst (EndsAs (start p) command_limit) c.in-Proved.is c.requires.ended) text
+          (c.in_ok-text-in-Proved.ensures ∙ ap (λ q. as_bytes (text_lines (named_refutation (names_in q) c.in-Proved.refutation))) c.problem.view_is),
+    )

@@ -1,4 +1,4 @@
-use Rattle.std.proofs.Common.{subst, sym, ◌∙◌}
+use Rattle.std.proofs.Common.{subst, sym}
 use Rattle.thf_include.specs.View.{the_statements}
 use Rattle.satallax_top.specs.Answers.{IsAnswer}
 use Rattle.satallax_top.proofs.AnswerLaws.{refusal_answer}
@@ -15,6 +15,5 @@ returns-clause-answer g c =
     let words = c.args.words.now in
     let told = g.F.Files.tells c.args.files.now in
     let contents = g.F.Files.contents c.args.files.now in
-    let a = c.plain-in-Err.result in
-    subst (λ o. IsAnswer words told contents o c.gather.new.names a.commands a.text) (sym (c.plain-in-Err.ensures.outcome ∙ c.refused_outcome.ensures))
-    (refusal_answer words told contents c.in-Some.name.now c.gather.new.names a.commands a.text c.in-Err.refused (sym c.in-Some.ensures) c.in-Err.ensures.gathered)
+    subst (IsAnswer words told contents) (sym c.refused_answer.ensures)
+    (refusal_answer words told contents c.in-Some.name.now c.gather.new.names c.in-Err.refused (sym c.in-Some.ensures) c.in-Err.ensures.gathered)

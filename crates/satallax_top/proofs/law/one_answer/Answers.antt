@@ -1,0 +1,12 @@
+use Rattle.satallax_top.proofs.RunEnds.{solved-same}
+use Rattle.satallax_top.proofs.OneAnswer.{answer-same, outcome-same}
+use Rattle.satallax_top.proofs.law.one_answer.Goals as goal
+
+pub returns-clause-run : goal.returns-clause-run
+returns-clause-run c = solved-same
+
+pub returns-clause-answer : goal.returns-clause-answer
+returns-clause-answer c = answer-same
+
+pub returns-clause-outcome : goal.returns-clause-outcome
+returns-clause-outcome c = outcome-same
