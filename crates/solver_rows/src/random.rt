@@ -15,11 +15,12 @@ impl Random {
         requires { 0 < limit }
         ensures { result < limit }
     {
-        self.state = self
+        let next = self
             .state
             .wrapping_mul(6_364_136_223_846_793_005)
             .wrapping_add(1_442_695_040_888_963_407);
-        (self.state >> 33) % limit
+        self.state = next;
+        (next >> 33) % limit
     }
 }
 

@@ -40,26 +40,36 @@ pub fn random_problems_right(alloc: Global) -> Result<u32, AllocError> {
     Ok(right)
 }
 
+/// All four clauses of two literals over two variables.
+fn four_clauses(alloc: Global) -> Result<Problem, AllocError> {
+    let mut problem = Problem::new(alloc, 2)?;
+    for (first, second) in [(true, true), (true, false), (false, true), (false, false)] {
+        let literals = [literal(0, first), literal(1, second)];
+        let clause = Clause::from_slice(alloc, &literals)?;
+        let _added = problem.add(clause)?;
+    }
+    Ok(problem)
+}
+
 /// The answer to all four clauses of two literals over two variables.
 pub fn four_clauses_within(alloc: Global, budget: u64) -> Result<Answer, AllocError> {
-    let mut problem = Problem::new(alloc, 2)?;
-    for first in [true, false] {
-        for second in [true, false] {
-            let literals = [literal(0, first), literal(1, second)];
-            let _added = problem.add(Clause::from_slice(alloc, &literals)?)?;
-        }
-    }
-    problem.solve(budget)
+    four_clauses(alloc)?.solve(budget)
+}
+
+/// Whether the next thing is a variable, where there are some.
+fn wants_variable(variables: usize, random: &mut Random) -> bool {
+    variables < 9 && random.below(2) == 0
 }
 
 /// One variable or one clause more.
 fn grow(alloc: Global, problem: &mut Problem, random: &mut Random) -> Result<(), AllocError> {
     let variables = problem.solver.variables();
-    if variables == 0 || variables < 9 && random.below(2) == 0 {
+    if variables == 0 || wants_variable(variables, random) {
         let _var = problem.solver.new_var()?;
         return Ok(());
     }
-    let _added = problem.add(random_clause(alloc, random, variables)?)?;
+    let clause = random_clause(alloc, random, variables)?;
+    let _added = problem.add(clause)?;
     Ok(())
 }
 
