@@ -1,5 +1,5 @@
 -- Canonical terms over the constants of the rows.
-use Rattle.std.proofs.Common.{◌≡◌, ℕ, ◌<◌, List, [], ◌∷◌, Some, slice_get, length, map, refl, sym, ap, subst, ◌∙◌, true, arith}
+use Rattle.std.proofs.Common.{◌≡◌, ℕ, List, [], ◌∷◌, Some, slice_get, length, map, refl, sym, ap, subst, ◌∙◌, true, arith}
 use Rattle.stt_core.specs.SimpleType.{SimpleType, base, arrow, is_declared}
 use Rattle.stt_core.specs.Lambda.{Lambda, bound, constant, name, lam, app}
 use Rattle.stt_core.specs.Canonical.{IsCanonical}
@@ -11,7 +11,7 @@ use Rattle.stt_core.proofs.CanonicalTypes.{canonical-is}
 use Rattle.term_bank.specs.Content.{Content, content_scope, HasTerm, Grows}
 use Rattle.term_bank.specs.Terms.{term_at, IsTypedTerm}
 use Rattle.term_bank.proofs.GrowLaws.{grown_scope, grown_at, grown_within, has_within, has_at}
-use Rattle.bank_rows.specs.Individuals.{HasNames, HasNoWitness, IsOf, IsIndividual}
+use Rattle.bank_rows.specs.Individuals.{HasNames, HasNoWitness, IsOf}
 
 -- the term that stands at the place is of its type
 pub is_of : (b : Content) (ctx : List SimpleType) (a : SimpleType) (id : ℕ) (t : Lambda) → IsCanonical (content_scope b) ctx a t → HasTerm b id t → IsOf b ctx a id
@@ -43,9 +43,13 @@ constant-canonical b h = (tt, ap (λ ns. slice_get ns 0) h)
 pub variable-canonical : (b : Content) → IsCanonical (content_scope b) (base 1 ∷ []) (base 1) (bound 0)
 variable-canonical b = (tt, refl)
 
+pub paired-canonical : (b : Content) → HasNames b → (ctx : List SimpleType) (t u : Lambda) → IsCanonical (content_scope b) ctx (base 1) t → IsCanonical (content_scope b) ctx (base 1) u
+    → IsCanonical (content_scope b) ctx (base 1) (app (app (constant (name 2)) t) u)
+paired-canonical b h ctx t u c d = (tt, (base 1, (base 1, ap (λ ns. slice_get ns 2) h, c), d))
+
 pub doubled-canonical : (b : Content) → HasNames b → (ctx : List SimpleType) (t : Lambda) → IsCanonical (content_scope b) ctx (base 1) t
     → IsCanonical (content_scope b) ctx (base 1) (app (app (constant (name 2)) t) t)
-doubled-canonical b h ctx t c = (tt, (base 1, (base 1, ap (λ ns. slice_get ns 2) h, c), c))
+doubled-canonical b h ctx t c = paired-canonical b h ctx t t c c
 
 declared_individual : (n : ℕ) → is_declared n (base 1) ≡ true
 declared_individual n = grind arith

@@ -1,15 +1,18 @@
 //! Closed terms that are checked to have a type before the bank gets them.
 
-ghost use Rattle.std.specs.Prelude.{◌≡◌, ◌<◌, length, IfOk, OnOk, IsTrue};
+ghost use Rattle.std.specs.Prelude.{◌≡◌, ◌<◌, [], length, IfOk, OnOk, IsTrue};
 ghost use Rattle.stt_core.specs.SimpleType.{SimpleType, arrow};
 ghost use Rattle.stt_core.specs.View.{the_type};
+ghost use Rattle.stt_core.specs.ScopeView.{the_scope};
+ghost use Rattle.stt_core.specs.Typing.{IsScope};
 ghost use Rattle.term_bank.specs.Content.{Grows};
 ghost use Rattle.bank_rows.specs.Individuals.{HasNoWitness};
 
 use crate::refused::RowRefused;
 use bank_normal::Normaliser;
 use std::alloc::Global;
-use stt_core::{Head, Nf, Nfs, Term, Ty, Types, type_of, type_of_closed};
+use stt_core::{Head, Nf, Nfs, Signature, Term, Ty, Types, type_of, type_of_closed};
+use stt_normal::normalise;
 use term_bank::{Bank, Id};
 
 /// Functions over a head with arguments.
@@ -50,6 +53,18 @@ pub fn normalised(alloc: Global, bank: &mut Bank, term: &Term) -> Result<Id, Row
     Ok(id)
 }
 
+/// The normal form of a closed term, as a tree.
+pub fn tree_normalised(alloc: Global, sig: &Signature, term: &Term) -> Result<Nf, RowRefused>
+    requires { IsScope (the_scope sig.now []) }
+{
+    let none = Types::new(alloc);
+    let Some(_) = type_of(alloc, sig, &none, &none, term)? else {
+        return Err(RowRefused::Untyped);
+    };
+    let nf = normalise(alloc, sig, &none, &none, term)?;
+    Ok(nf)
+}
+
 /// Whether the type of the one term is that of functions of the other.
 fn takes(function: &Ty, argument: &Ty) -> bool
     ensures { IsTrue result → (b : SimpleType) × (the_type function.now ≡ arrow (the_type argument.now) b) }
@@ -61,12 +76,7 @@ fn takes(function: &Ty, argument: &Ty) -> bool
 }
 
 /// The number of what a closed function gives at a closed argument.
-pub fn applied(
-    alloc: Global,
-    bank: &mut Bank,
-    function: Id,
-    argument: Id,
-) -> Result<Id, RowRefused>
+pub fn applied(alloc: Global, bank: &mut Bank, function: Id, argument: Id) -> Result<Id, RowRefused>
     requires function { function < length bank.old.terms }
     requires argument { argument < length bank.old.terms }
     ensures within { IfOk result (λ id. id < length bank.new.terms) }

@@ -85,6 +85,32 @@ pub fn doubled(alloc: Global) -> Result<usize, AllocError> {
     Ok(bank.len())
 }
 
+/// `(f s t)` for individuals `s` and `t`.
+fn paired(bank: &mut Bank, first: Id, second: Id) -> Result<Id, AllocError>
+    requires names { HasNames bank.old }
+    requires first { IsOf bank.old [] (base 1) first }
+    requires second { IsOf bank.old [] (base 1) second }
+    ensures individual { IfOk result (IsOf bank.new [] (base 1)) }
+    ensures grows { Grows bank.old bank.new }
+{
+    let id = bank.intern_app(&Head::Name(F), &[first, second])?;
+    Ok(id)
+}
+
+/// How many terms a bank has after a constant and so many pairs, each of the two terms before it.
+#[tactic(auto, using(crate::proofs::RowLaws::stays, crate::proofs::RowLaws::names_stay))]
+pub fn interned(alloc: Global, count: u64) -> Result<usize, AllocError> {
+    let mut bank = empty_bank(alloc)?;
+    let mut first = constant(&mut bank)?;
+    let mut second = first;
+    for _ in 0..count {
+        let pair = paired(&mut bank, first, second)?;
+        first = second;
+        second = pair;
+    }
+    Ok(bank.len())
+}
+
 /// What a function of individuals gives at an individual.
 fn instance(alloc: Global, bank: &mut Bank, function: Id, argument: Id) -> Result<Id, AllocError>
     requires function { IsOf bank.old [] (arrow (base 1) (base 1)) function }

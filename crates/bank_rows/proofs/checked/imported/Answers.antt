@@ -1,4 +1,4 @@
-use Rattle.std.proofs.Common.{[], sym, ap, ◌∙◌, option_map}
+use Rattle.std.proofs.Common.{sym, ap, ◌∙◌, option_map}
 use Rattle.stt_core.specs.View.{the_type}
 use Rattle.stt_core.specs.ScopeView.{the_scope}
 use Rattle.bank_rows.proofs.RowLaws.{signature_scope, checked_typed}

@@ -1,4 +1,3 @@
-use Rattle.std.proofs.Common.{◌∷◌, []}
 use Rattle.stt_core.specs.SimpleType.{base}
 use Rattle.term_bank.specs.Terms.{term_at}
 use Rattle.stt_core.specs.Lambda.{app, constant, name}
