@@ -10,8 +10,6 @@ mod law;
 mod line;
 mod names;
 mod options;
-#[cfg(test)]
-mod tests;
 mod words;
 
 pub use law::rows_law;

@@ -13,8 +13,6 @@ mod keys;
 mod law;
 mod line;
 mod refused;
-#[cfg(test)]
-mod tests;
 
 use crate::bytes::next_line;
 use crate::given::Given;

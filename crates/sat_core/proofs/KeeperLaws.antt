@@ -5,16 +5,15 @@ use Rattle.std.specs.List.{Contains, slice_get}
 use Rattle.std.proofs.lemmas.Bool.{false≢true, cases_Bool, cases_order, or_left, or_right, false_from_ne_true}
 use Rattle.std.proofs.lemmas.List.{get_or-set_same, get_or-set_other, set-set, set-get_or, take_more}
 use Rattle.std.proofs.lemmas.List.Elements.{Contains-append_left, Contains-push, Contains-push_cases}
-use Rattle.std.proofs.lemmas.Option.{slice_get-get_or, same_Some}
+use Rattle.std.proofs.lemmas.Option.{slice_get-get_or}
 use Rattle.sat_base.specs.declared.literal.Var.{Var}
 use Rattle.sat_base.specs.declared.literal.SatLit.{SatLit}
-use Rattle.sat_base.specs.Literal.{same_var, holds, mentions, IsOver}
+use Rattle.sat_base.specs.Literal.{same_var, holds, mentions}
 use Rattle.sat_base.specs.Truth.{AllTrue, assigned, literal_value, clause_value}
 use Rattle.sat_base.proofs.LiteralLaws.{same_var-refl}
 use Rattle.sat_base.proofs.TruthLaws.{clause_value-held}
-use Rattle.sat_log.proofs.ChainLaws.{slice_get-before}
 use Rattle.sat_laws.proofs.AnalysisLaws.{mentioned_by}
-use Rattle.sat_core.specs.Keeper.{uses_of, IsUsed, AreUsed, AreTrue, AreTrueBut, IsKeeper}
+use Rattle.sat_core.specs.Keeper.{uses_of, AreUsed, AreTrue, AreTrueBut, IsKeeper}
 
 -- Options.
 
@@ -74,29 +73,6 @@ turned_true values uses clauses l n bound next inside used member but others k c
           | inr absent ↦ unturned values l.var l.positive clause absent ∙ but k clause below apart_n at
         ]
 
--- the one that was left out is true too
-pub true_with : (values : List Bool) (clauses : List (List SatLit)) (n bound : ℕ) (clause : List SatLit) → AreTrueBut values n bound clauses → slice_get clauses n ≡ Some clause → clause_value (assigned values) clause ≡ true
-    → AreTrue values bound clauses
-true_with values clauses n bound clause but there is k other below at =
-    elim (cases_order k n) [
-      | inl same ↦ subst (λ (c : List SatLit). IsTrue (clause_value (assigned values) c)) (same_Some clause other (sym there ∙ ap (slice_get clauses) (sym same) ∙ at)) is
-      | inr order ↦ elim order [
-        | inl less ↦ but k other below (λ e. absurd (omega arith)) at
-        | inr more ↦ but k other below (λ e. absurd (omega arith)) at
-      ]
-    ]
-
--- those before the one that is left out are true
-pub true_before : (values : List Bool) (clauses : List (List SatLit)) (n bound : ℕ) → n < bound → AreTrueBut values n bound clauses → AreTrue values n clauses
-true_before values clauses n bound inside but k clause below at = but k clause (omega arith) (λ e. absurd (omega arith)) at
-
-pub true_but : (values : List Bool) (clauses : List (List SatLit)) (n bound : ℕ) → bound ≡ n + 1 → AreTrue values n clauses → AreTrueBut values n bound clauses
-true_but values clauses n bound next are k clause below apart at =
-    elim (cases_order k n) [
-      | inl same ↦ absurd (apart same)
-      | inr order ↦ elim order [ inl less ↦ are k clause less at | inr more ↦ absurd (omega arith) ]
-    ]
-
 -- The table of uses, with a number more.
 
 pub uses_kept : (uses more : List (List ℕ)) (var : Var) (n : ℕ) → ((w : Var) → uses_of more w ≡ (if same_var var w then uses_of uses w ++ n ∷ [] else uses_of uses w))
@@ -125,59 +101,8 @@ uses_longer uses v k h = subst (λ (some : List ℕ). Contains some k) (sym (go 
 
 -- The keeper.
 
-pub keeper_listed : (values : List Bool) (uses more : List (List ℕ)) (listed kept : ℕ) (clauses : List (List SatLit)) (clause : List SatLit) → IsKeeper values uses listed kept clauses → listed < length clauses
-    → slice_get clauses listed ≡ Some clause → length more ≡ length uses → ((v : Var) (k : ℕ) → Contains (uses_of uses v) k → Contains (uses_of more v) k) → IsUsed more listed clause
-    → IsKeeper values more (listed + 1) kept clauses
-keeper_listed values uses more listed kept clauses clause s inside there made before new = record {
-  listed_within = omega arith;
-  kept_within = let within = s.kept_within in omega arith;
-  used = λ k other below at.
-      elim (cases_order k listed) [
-        | inl same ↦ subst (λ (c : List SatLit). IsUsed more k c) (same_Some clause other (sym there ∙ ap (slice_get clauses) (sym same) ∙ at)) (subst (λ (m : ℕ). IsUsed more m clause) (sym same) new)
-        | inr order ↦ elim order [
-          | inl less ↦ λ l h. before l.var k (s.used k other less at l h)
-          | inr more_than ↦ absurd (omega arith)
-        ]
-      ];
-  kept_true = s.kept_true;
-  uses_made = let enough = s.uses_made in omega arith;
-}
-
-pub keeper_mixed : (values : List Bool) (uses more : List (List ℕ)) (listed kept : ℕ) (clauses : List (List SatLit)) → IsKeeper values uses listed kept clauses
-    → length more ≡ length uses → ((v : Var) (k : ℕ) → Contains (uses_of uses v) k → Contains (uses_of more v) k) → IsKeeper values more listed kept clauses
-keeper_mixed values uses more listed kept clauses s made before = record {
-  listed_within = s.listed_within;
-  kept_within = s.kept_within;
-  used = λ k clause below at l h. before l.var k (s.used k clause below at l h);
-  kept_true = s.kept_true;
-  uses_made = let enough = s.uses_made in omega arith;
-}
-
-pub keeper_valued : (values after : List Bool) (uses : List (List ℕ)) (listed kept kept_after : ℕ) (clauses : List (List SatLit)) → IsKeeper values uses listed kept clauses
-    → length after ≡ length values → kept_after ≤ listed → AreTrue after kept_after clauses → IsKeeper after uses listed kept_after clauses
-keeper_valued values after uses listed kept kept_after clauses s made within are = record {
-  listed_within = s.listed_within;
-  kept_within = within;
-  used = s.used;
-  kept_true = are;
-  uses_made = let enough = s.uses_made in omega arith;
-}
-
 pub all_true : (values : List Bool) (clauses : List (List SatLit)) (kept : ℕ) → length clauses ≤ kept → AreTrue values kept clauses → AllTrue (assigned values) clauses
 all_true values clauses kept whole are = λ k d inside. are k (get_or clauses k d) (omega arith) (slice_get-get_or clauses k d inside)
-
-pub keeper_appended : (values : List Bool) (uses : List (List ℕ)) (listed kept : ℕ) (clauses : List (List SatLit)) (clause : List SatLit) → IsKeeper values uses listed kept clauses
-    → IsKeeper values uses listed kept (clauses ++ clause ∷ [])
-keeper_appended values uses listed kept clauses clause s = record {
-  listed_within = let within = s.listed_within in omega (arith, length-append clauses (clause ∷ []));
-  kept_within = s.kept_within;
-  used = λ k other below at. s.used k other below (earlier k below at);
-  kept_true = λ k other below at. s.kept_true k other below (earlier k (let within = s.kept_within in omega arith) at);
-  uses_made = s.uses_made;
-}
-  where
-    earlier : (k : ℕ) → k < listed → {other : Option (List SatLit)} → slice_get (clauses ++ clause ∷ []) k ≡ other → slice_get clauses k ≡ other
-    earlier k below at = sym (slice_get-before clauses (clause ∷ []) k (let within = s.listed_within in omega arith)) ∙ at
 
 assigned-push : (values : List Bool) (v : Var) → assigned (values ++ false ∷ []) v ≡ assigned values v
 assigned-push values v = go values v.0
@@ -201,14 +126,4 @@ keeper_longer values uses listed kept clauses s = record {
   used = λ k clause below at l h. uses_longer uses l.var k (s.used k clause below at l h);
   kept_true = λ k clause below at. clause_value-same (assigned (values ++ false ∷ [])) (assigned values) clause (assigned-push values) ∙ s.kept_true k clause below at;
   uses_made = let enough = s.uses_made in omega (arith, length-append values (false ∷ []), length-append uses ([] ∷ []));
-}
-
-pub keeper_roomy : (values : List Bool) (uses : List (List ℕ)) (listed kept : ℕ) (clauses : List (List SatLit)) → IsKeeper values uses listed kept clauses
-    → IsKeeper values (uses ++ [] ∷ []) listed kept clauses
-keeper_roomy values uses listed kept clauses s = record {
-  listed_within = s.listed_within;
-  kept_within = s.kept_within;
-  used = λ k clause below at l h. uses_longer uses l.var k (s.used k clause below at l h);
-  kept_true = s.kept_true;
-  uses_made = let enough = s.uses_made in omega (arith, length-append uses ([] ∷ []));
 }

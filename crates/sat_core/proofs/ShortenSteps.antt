@@ -1,5 +1,5 @@
 -- The steps of `shorten`.
-use Rattle.std.proofs.Common.{◌≡◌, ◌≢◌, inl, inr, ◌<◌, ◌≤◌, ◌-◌, ℕ, ◌&&◌, ◌||◌, not, Bool, true, false, List, [], ◌∷◌, ◌++◌, Some, length, take, refl, sym, ap, ◌∙◌, subst, arith}
+use Rattle.std.proofs.Common.{◌≡◌, ◌≢◌, inl, inr, ◌<◌, ℕ, ◌&&◌, ◌||◌, not, Bool, true, false, List, [], ◌∷◌, ◌++◌, Some, length, take, refl, sym, ap, ◌∙◌, arith}
 use Rattle.std.specs.List.{slice_get}
 use Rattle.std.specs.Option.{option_and_then}
 use Rattle.std.proofs.lemmas.Bool.{false≢true, cases_Bool, and_parts, and_from, false_from_ne_true, not-true, not_from_false}
@@ -7,7 +7,7 @@ use Rattle.std.proofs.lemmas.List.{take_all}
 use Rattle.std.proofs.lemmas.Option.{same_Some}
 use Rattle.sat_base.specs.declared.literal.Var.{Var}
 use Rattle.sat_base.specs.declared.literal.SatLit.{SatLit}
-use Rattle.sat_base.specs.Literal.{negated, same_var, same_literal, holds, mentions, HoldsNoVariableTwice}
+use Rattle.sat_base.specs.Literal.{negated, same_var, same_literal, holds, mentions}
 use Rattle.sat_base.proofs.LiteralLaws.{same_literal-refl, same_literal-true, same_var-true, negated-negated, mentions-held}
 use Rattle.sat_log.specs.declared.chain.Premise.{Premise}
 use Rattle.sat_log.specs.declared.chain.Chain.{Chain}
@@ -16,7 +16,6 @@ use Rattle.sat_log.proofs.ResolutionLaws.{holds-without}
 use Rattle.sat_log.proofs.VariableLaws.{mentioned_as}
 use Rattle.sat_log.specs.Chains.{premise_clause}
 use Rattle.sat_log.specs.Propagation.{IsUnit, IsConsistent}
-use Rattle.sat_laws.specs.Analysis.{IsFalseBefore}
 use Rattle.sat_laws.specs.Complete.{IsComplete}
 use Rattle.sat_laws.proofs.CompleteLaws.{consistent_once}
 use Rattle.sat_laws.proofs.TrailLaws.{held_at}
@@ -28,7 +27,7 @@ use Rattle.sat_propagate.specs.declared.trail.Step.{Step}
 use Rattle.sat_propagate.specs.declared.watched.Watched.{Watched}
 use Rattle.sat_propagate.proofs.PlaceLaws.{literal_at, once_place}
 use Rattle.sat_core.specs.Marks.{is_marked}
-use Rattle.sat_core.specs.Learned.{AreNamed, IsLearned, IsShortening, Learns}
+use Rattle.sat_core.specs.Learned.{IsLearned, IsShortening, Learns}
 use Rattle.sat_core.proofs.AnalysisSteps.{chain_result-push, reason_undenied, once_resolved}
 
 -- the literals of what is learned are false

@@ -8,8 +8,6 @@ mod marks;
 mod restarts;
 mod shorten;
 mod solver;
-#[cfg(test)]
-mod tests;
 mod uses;
 
 pub use learner::Answer;

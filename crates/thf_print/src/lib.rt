@@ -7,8 +7,6 @@ mod law;
 mod name;
 mod slot;
 mod statement;
-#[cfg(test)]
-mod tests;
 mod types;
 
 pub use law::{read_trees_are_printable, texts_have_their_trees};

@@ -1,5 +1,4 @@
-use Rattle.std.proofs.Common.{◌≡◌, ◌-◌, ℕ, Some, length, sym, ap, ◌∙◌}
-use Rattle.std.specs.List.{slice_get}
+use Rattle.std.proofs.Common.{◌-◌}
 use Rattle.sat_propagate.proofs.LevelLaws.{complete_at}
 use Rattle.sat_core.proofs.AnalysisSteps.{contains_at}
 use Rattle.sat_core.proofs.ShortenSteps.{shortening_learns}

@@ -1,9 +1,8 @@
-use Rattle.std.proofs.Common.{◌≡◌, ◌≢◌, ◌<◌, ◌∷◌, [], ◌++◌, List, length, sym, ap, subst, ◌∙◌, arith}
+use Rattle.std.proofs.Common.{◌≡◌, List, sym, ap, subst, ◌∙◌, arith}
 use Rattle.std.proofs.lemmas.Option.{slice_get_within}
 use Rattle.sat_base.specs.declared.literal.SatLit.{SatLit}
 use Rattle.sat_base.specs.Literal.{holds}
 use Rattle.sat_log.specs.declared.chain.ChainStep.{ChainStep}
-use Rattle.sat_core.specs.Marks.{is_marked}
 use Rattle.sat_core.specs.Learned.{IsShortening}
 use Rattle.sat_core.proofs.ShortenSteps.{shortening_next}
 use Rattle.sat_core.proofs.shorten.shorten.Goals as goal

@@ -1,4 +1,4 @@
-use Rattle.std.proofs.Common.{◌≡◌, ◌≤◌, length, arith}
+use Rattle.std.proofs.Common.{arith}
 use Rattle.sat_core.proofs.KeeperLaws.{all_true}
 use Rattle.sat_core.proofs.keeper.Keeper.satisfy.Goals as goal
 

@@ -1,5 +1,4 @@
-use Rattle.std.proofs.Common.{◌≡◌, true, ℕ, List, length, sym, subst, ◌∙◌}
-use Rattle.sat_base.specs.declared.literal.SatLit.{SatLit}
+use Rattle.std.proofs.Common.{◌≡◌, true, ℕ, sym, subst, ◌∙◌}
 use Rattle.sat_base.specs.Literal.{IsOver}
 use Rattle.sat_base.specs.Truth.{Unsat}
 use Rattle.sat_log.specs.declared.chain.Premise.TheVariants.{Clause}

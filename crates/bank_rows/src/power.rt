@@ -1,0 +1,58 @@
+//! Powers of Church numerals (Church, The Calculi of Lambda-Conversion, 1941).
+
+use crate::checked::{normalised, tree_normalised};
+use crate::refused::RowRefused;
+use crate::scope::{empty_bank, endo};
+use std::alloc::{AllocError, Global};
+use stt_core::{Term, Ty, size_sat};
+
+fn applied(alloc: Global, function: Term, argument: Term) -> Result<Term, AllocError> {
+    let function = Box::new(alloc, function)?;
+    let argument = Box::new(alloc, argument)?;
+    Ok(Term::App(function, argument))
+}
+
+fn abstracted(alloc: Global, ty: Ty, body: Term) -> Result<Term, AllocError> {
+    Ok(Term::Lam(ty, Box::new(alloc, body)?))
+}
+
+/// A function of these types, so many times over its argument.
+fn numeral(alloc: Global, n: u32, function: Ty, argument: Ty) -> Result<Term, AllocError> {
+    let mut body = Term::Bound(0);
+    for _ in 0..n {
+        body = applied(alloc, Term::Bound(1), body)?;
+    }
+    let inner = abstracted(alloc, argument, body)?;
+    abstracted(alloc, function, inner)
+}
+
+/// `(i > i) > i > i`
+fn iterator(alloc: Global) -> Result<Ty, AllocError> {
+    let argument = Box::new(alloc, endo(alloc)?)?;
+    let outcome = Box::new(alloc, endo(alloc)?)?;
+    Ok(Ty::Arrow(argument, outcome))
+}
+
+/// The exponent's numeral at that of the base.
+fn power(alloc: Global, base: u32, exponent: u32) -> Result<Term, AllocError> {
+    let iterated = numeral(alloc, exponent, iterator(alloc)?, endo(alloc)?)?;
+    let iterating = numeral(alloc, base, endo(alloc)?, Ty::Base(1))?;
+    applied(alloc, iterated, iterating)
+}
+
+/// How many nodes the power's normal form has, worked out over a bank.
+pub fn shared_power(alloc: Global, base: u32, exponent: u32) -> Result<u64, RowRefused> {
+    let mut bank = empty_bank(alloc)?;
+    let term = power(alloc, base, exponent)?;
+    let id = normalised(alloc, &mut bank, &term)?;
+    let nf = bank.export(id)?;
+    Ok(size_sat(&nf))
+}
+
+/// How many nodes the power's normal form has, worked out as a whole tree.
+pub fn plain_power(alloc: Global, base: u32, exponent: u32) -> Result<u64, RowRefused> {
+    let bank = empty_bank(alloc)?;
+    let term = power(alloc, base, exponent)?;
+    let nf = tree_normalised(alloc, bank.sig(), &term)?;
+    Ok(size_sat(&nf))
+}

@@ -1,0 +1,51 @@
+//! Pigeonhole problems: one pigeon more than there are holes, and no two of them in one hole.
+
+use crate::problem::Problem;
+use crate::random::literal;
+use sat_base::{Clause, SatLit};
+use std::alloc::{AllocError, Global};
+
+/// A pigeon is in a hole, or is not.
+fn sits(holes: usize, pigeon: usize, hole: usize, positive: bool) -> SatLit {
+    literal(pigeon.wrapping_mul(holes).wrapping_add(hole), positive)
+}
+
+/// Two pigeons are not in one hole.
+fn keep_apart(
+    alloc: Global,
+    problem: &mut Problem,
+    holes: usize,
+    pigeon: usize,
+    other: usize,
+) -> Result<(), AllocError> {
+    for hole in 0..holes {
+        let literals = [
+            sits(holes, pigeon, hole, false),
+            sits(holes, other, hole, false),
+        ];
+        let _added = problem.add(Clause::from_slice(alloc, &literals)?)?;
+    }
+    Ok(())
+}
+
+/// A pigeon is in some hole.
+fn somewhere(alloc: Global, holes: usize, pigeon: usize) -> Result<Clause, AllocError> {
+    let mut clause = Clause::new(alloc);
+    for hole in 0..holes {
+        clause.push(sits(holes, pigeon, hole, true))?;
+    }
+    Ok(clause)
+}
+
+/// The problem with so many holes.
+pub fn pigeons(alloc: Global, holes: usize) -> Result<Problem, AllocError> {
+    let count = holes.wrapping_add(1);
+    let mut problem = Problem::new(alloc, count.wrapping_mul(holes))?;
+    for pigeon in 0..count {
+        let _added = problem.add(somewhere(alloc, holes, pigeon)?)?;
+        for other in 0..pigeon {
+            keep_apart(alloc, &mut problem, holes, pigeon, other)?;
+        }
+    }
+    Ok(problem)
+}
