@@ -23,4 +23,5 @@ pub mod WholeLaws
 pub mod InstanceLaws
 pub mod PartnerLaws
 pub mod LoopLists
+pub mod NotingLaws
 pub mod StateStays
