@@ -1,5 +1,5 @@
 -- Loops of commands, by numbers.
-use Rattle.std.specs.Prelude.{◌≡◌, ◌<◌, ℕ, List, ◌∷◌, map, length, slice_get, Some}
+use Rattle.std.specs.Prelude.{◌≡◌, ◌<◌, ◌≤◌, ℕ, List, [], ◌∷◌, map, length, slice_get, Some, refl}
 use Rattle.std.proofs.Common.{sym, ap, ◌∙◌, arith}
 use Rattle.std.proofs.lemmas.List.{length-map}
 use Rattle.stt_core.specs.Lambda.{Lambda}
@@ -34,6 +34,10 @@ module _ {X Y : Type 0} (ys : List Y) (f : X → Y) (xs : List X) (are : ys ≡ 
 
   pub begins-mapped : (x : X) (more : List X) → xs ≡ x ∷ more → BeginsWith (f x) ys
   begins-mapped x more is = (map f more, are ∙ ap (map f) is)
+
+pub no-items : {X : Type 0} (xs : List X) → length xs ≤ 0 → xs ≡ []
+no-items [] h = refl
+no-items (x ∷ xs) h = absurd (omega (arith, h))
 
 module _ (t : Tables) (q : Queue Planned Delays) (r : IsRight t q) where
   abbrev d : SatLit → Literal

@@ -1,7 +1,7 @@
 -- A noted literal more.
-use Rattle.std.specs.Prelude.{◌≡◌, ◌<◌, ◌+◌, ◌&&◌, nat_eq, ℕ, suc, Bool, true, false, List, [], ◌∷◌, ◌++◌, map, filter, length, Vec, Option, Some, None, refl, if◌then◌else◌}
+use Rattle.std.specs.Prelude.{◌≡◌, ◌<◌, ◌+◌, ◌&&◌, ◌||◌, nat_eq, ℕ, suc, Bool, true, false, List, [], ◌∷◌, ◌++◌, map, filter, length, Option, Some, None, refl, if◌then◌else◌}
 use Rattle.std.specs.List.{list_any}
-use Rattle.std.proofs.Common.{sym, ap, ap₂, subst, ◌∙◌, append-nil, arith}
+use Rattle.std.proofs.Common.{Vec, Global, sym, ap, ap₂, subst, ◌∙◌, append-nil, arith}
 use Rattle.std.proofs.lemmas.Bool.{ne_eqb}
 use Rattle.std.proofs.lemmas.List.Elements.{filter-append}
 use Rattle.stt_core.specs.SimpleType.{SimpleType, same_type}
@@ -24,7 +24,7 @@ use Rattle.search_tables.specs.Names.{IsNumber}
 use Rattle.search_tables.specs.Shapes.{quantified_type}
 use Rattle.search_tables.specs.Standing.{declared_scope, names_in, sources, parts, loops_in, the_state, can_pair, is_universal, places_where, IsRight}
 use Rattle.search_tables.proofs.EachLaws.{each-last}
-use Rattle.search_tables.proofs.PlaceLaws.{places-within}
+use Rattle.search_tables.proofs.PlaceLaws.{places-below}
 use Rattle.search_tables.proofs.ShapeLaws.{ranges_by, ranges-quantified}
 use Rattle.search_tables.proofs.LoopStays.{loops-stay, entries-stay}
 
@@ -53,11 +53,14 @@ places-last {X} test n (y ∷ xs) x = go (test y) (test x) (places-last test (su
     go false true e = e ∙ ap (λ k. places_where test (suc n) xs ++ k ∷ []) (omega arith)
     go false false e = e
 
+places_end : {X : Type 0} (test : X → Bool) (xs : List X) (x : X) → places_where test 0 (xs ++ x ∷ []) ≡ (if test x then places_where test 0 xs ++ length xs ∷ [] else places_where test 0 xs)
+places_end test xs x = places-last test 0 xs x ∙ ap (λ k. if test x then places_where test 0 xs ++ k ∷ [] else places_where test 0 xs) (omega arith)
+
 -- A PLACE MORE IN A LIST BY TYPES
 
 not_listed : (n : ℕ) (ids : List ℕ) → Each (λ i. i < n) ids → list_any (nat_eq n) ids ≡ false
 not_listed n [] h = refl
-not_listed n (i ∷ ids) h = ap₂ (λ (a b : Bool). if a then true else b) (ne_eqb n i (λ e. omega (arith, e, h.0))) (not_listed n ids h.1)
+not_listed n (i ∷ ids) h = ap₂ (λ (a b : Bool). a || b) (ne_eqb n i (λ e. omega (arith, e, h.0))) (not_listed n ids h.1)
 
 last_of_type : (a b : SimpleType) (id : ℕ) (all : List Listing) → ids_of a (all ++ (b, id) ∷ []) ≡ (if same_type a b then ids_of a all ++ id ∷ [] else ids_of a all)
 last_of_type a b id all = ap (map (λ (l : Listing). l.1)) (filter-last (λ (l : Listing). same_type a l.0) all (b, id)) ∙ go (same_type a b)
@@ -88,11 +91,15 @@ module _ (t : Tables) (q : Queue Planned Delays) (r : IsRight t q) (l : SatLit) 
   d = literal_at t.basis.bank.terms t.basis.lits
 
   pub universal-places : (a : SimpleType) → Each (λ i. i < length t.noted.items) (ids_of a t.universals)
-  universal-places a = subst (Each (λ i. i < length t.noted.items)) (sym (r.universals a)) (places-within (is_universal t.basis.bank.terms t.basis.lits a) 0 t.noted.items)
+  universal-places a = subst (Each (λ i. i < length t.noted.items)) (sym (r.universals a)) (places-below (is_universal t.basis.bank.terms t.basis.lits a) t.noted.items)
 
-  module _ (x : Vec SatLit) (noted : x.items ≡ t.noted.items ++ l ∷ []) (i : Notes) (us : List Listing) where
+  module _ (x : Vec SatLit Global) (noted : x.items ≡ t.noted.items ++ l ∷ []) (i : Notes) (us : List Listing) where
     abbrev t' : Tables
     t' = record t { noted = x; index = i; universals = us }
+
+    -- the three writes one after the other
+    pub noted-chain : (t1 t2 : Tables) → t1 ≡ record t { universals = us } → t2 ≡ record t1 { index = i } → record t2 { noted = x } ≡ t'
+    noted-chain t1 t2 e1 e2 = ap (λ (u : Tables). record u { noted = x }) e2 ∙ ap (λ (u : Tables). record u { noted = x; index = i }) e1
 
     noted_more : map d x.items ≡ map d t.noted.items ++ d l ∷ []
     noted_more = ap (map d) noted ∙ map-append d t.noted.items (l ∷ [])
@@ -133,7 +140,7 @@ module _ (t : Tables) (q : Queue Planned Delays) (r : IsRight t q) (l : SatLit) 
       universals = λ a.
           listed a
           ∙ ap (λ (ks : List ℕ). if is_universal t.basis.bank.terms t.basis.lits a l then ks ++ length t.noted.items ∷ [] else ks) (r.universals a)
-          ∙ sym (places-last (is_universal t.basis.bank.terms t.basis.lits a) 0 t.noted.items l)
+          ∙ sym (places_end (is_universal t.basis.bank.terms t.basis.lits a) t.noted.items l)
           ∙ ap (places_where (is_universal t.basis.bank.terms t.basis.lits a) 0) (sym noted);
       terms = r.terms;
       chosen = r.chosen;

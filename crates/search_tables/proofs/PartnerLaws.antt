@@ -12,7 +12,7 @@ use Rattle.sat_base.specs.declared.literal.SatLit.{SatLit}
 use Rattle.command_queue.specs.Queue.{Queue}
 use Rattle.search_run.specs.Each.{Each}
 use Rattle.search_run.specs.Partners.{partners, equates_on, has_equal_sides, positive_first, matings, confrontations}
-use Rattle.search_run.specs.Spine.{head_of, has_compared_head, is_spine, same_head}
+use Rattle.search_run.specs.Spine.{head_of, has_compared_head, is_application, is_spine, same_head}
 use Rattle.search_run.specs.State.{Command as Meant, mate, confront}
 use Rattle.literal_map.specs.Atoms.{literal_at}
 use Rattle.mating_rules.specs.Noted.{are_partners, equates_alike, partners_of}
@@ -61,7 +61,7 @@ other_head : (s u : Lambda) → is_spine s ≡ true → has_equal_sides u ≡ tr
 other_head s u spine sides = by_test (same_head s u) refl
   where
     compared : has_compared_head (head_of s) ≡ true
-    compared = (and_parts _ _ spine).1
+    compared = (and_parts (is_application s) (has_compared_head (head_of s)) spine).1
 
     by_test : (b : Bool) → same_head s u ≡ b → b ≡ false
     by_test false e = refl
@@ -171,6 +171,12 @@ module _ (t : Tables) (q : Queue Planned Delays) (r : IsRight t q) (l : SatLit) 
   not_positive false e = refl
 
   -- THE LOOPS OVER PARTNERS
+
+  pub none-mated : is_spine (d l).atom ≡ true → found ≡ [] → matings (d l) (map d t.noted.items) ≡ []
+  none-mated e none = ap (map (positive_first mate (d l))) (mates-are e ∙ ap (map d) none)
+
+  pub none-confronted : is_base_equation (d l).atom ≡ true → found ≡ [] → confrontations (equation_type (d l).atom) (d l) (map d t.noted.items) ≡ []
+  none-confronted e none = ap (map (positive_first confront (d l))) (confronted-are e ∙ ap (map d) none)
 
   pub positive-mated : (l.positive && is_spine (d l).atom) ≡ true → matings (d l) (map d t.noted.items) ≡ map (λ m. mate (d l) (d m)) found
   positive-mated e = let p = and_parts _ _ e in first-of-pairs mate _ (mates-are p.1) p.0

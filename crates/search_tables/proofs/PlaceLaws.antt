@@ -80,13 +80,11 @@ at-end (e ∷ es) x xs d = at-end es x xs d
 -- The elements that pass a test are those at its places.
 pub filter-places : {X : Type 0} (test : X → Bool) (d : X) (es xs : List X) → filter test xs ≡ map (λ i. get_or (es ++ xs) i d) (places_where test (length es) xs)
 filter-places test d es [] = refl
-filter-places {X} test d es (x ∷ xs) = go (test x) rest
+filter-places {X} test d es (x ∷ xs) =
+    go (test x)
+    (filter-places test d (es ++ x ∷ []) xs
+    ∙ ap₂ (λ (ys : List X) n. map (λ i. get_or ys i d) (places_where test n xs)) (append_assoc es (x ∷ []) xs) (let n = length-append es (x ∷ []) in omega (arith, n)))
   where
-    rest : filter test xs ≡ map (λ i. get_or (es ++ x ∷ xs) i d) (places_where test (suc (length es)) xs)
-    rest =
-        filter-places test d (es ++ x ∷ []) xs
-        ∙ ap₂ (λ (ys : List X) n. map (λ i. get_or ys i d) (places_where test n xs)) (append_assoc es (x ∷ []) xs) (let n = length-append es (x ∷ []) in omega (arith, n))
-
     go : (b : Bool) → filter test xs ≡ map (λ i. get_or (es ++ x ∷ xs) i d) (places_where test (suc (length es)) xs)
         → (if b then x ∷ filter test xs else filter test xs) ≡ map (λ i. get_or (es ++ x ∷ xs) i d) (if b then length es ∷ places_where test (suc (length es)) xs else places_where test (suc (length es)) xs)
     go true e = ap₂ (λ y ys. y ∷ ys) (sym (at-end es x xs d)) e
@@ -95,11 +93,12 @@ filter-places {X} test d es (x ∷ xs) = go (test x) rest
 -- the places are those of elements
 pub places-within : {X : Type 0} (test : X → Bool) (n : ℕ) (xs : List X) → Each (λ i. i < n + length xs) (places_where test n xs)
 places-within test n [] = tt
-places-within {X} test n (x ∷ xs) = go (test x)
+places-within {X} test n (x ∷ xs) =
+    go (test x) (each-weaker (λ i. i < suc n + length xs) (λ i. i < n + length (x ∷ xs)) (λ i h. omega (arith, h)) (places_where test (suc n) xs) (places-within test (suc n) xs))
   where
-    rest : Each (λ i. i < n + length (x ∷ xs)) (places_where test (suc n) xs)
-    rest = each-weaker (λ i. i < suc n + length xs) (λ i. i < n + length (x ∷ xs)) (λ i h. omega (arith, h)) (places_where test (suc n) xs) (places-within test (suc n) xs)
+    go : (b : Bool) → Each (λ i. i < n + length (x ∷ xs)) (places_where test (suc n) xs) → Each (λ i. i < n + length (x ∷ xs)) (if b then n ∷ places_where test (suc n) xs else places_where test (suc n) xs)
+    go true rest = (omega arith, rest)
+    go false rest = rest
 
-    go : (b : Bool) → Each (λ i. i < n + length (x ∷ xs)) (if b then n ∷ places_where test (suc n) xs else places_where test (suc n) xs)
-    go true = (omega arith, rest)
-    go false = rest
+pub places-below : {X : Type 0} (test : X → Bool) (xs : List X) → Each (λ i. i < length xs) (places_where test 0 xs)
+places-below test xs = each-weaker (λ i. i < 0 + length xs) (λ i. i < length xs) (λ i h. omega (arith, h)) (places_where test 0 xs) (places-within test 0 xs)

@@ -1,6 +1,7 @@
 -- The shapes of formulas.
-use Rattle.std.specs.Prelude.{◌≡◌, ◌&&◌, Bool, true, false, List, [], ◌∷◌, length, is_some, unwrap_or, Option, Some, None, refl, if◌then◌else◌}
-use Rattle.std.proofs.Common.{sym, ap}
+use Rattle.std.specs.Prelude.{◌≡◌, ℕ, Bool, true, false, List, [], ◌∷◌, map, slice_get, length, is_some, unwrap_or, Option, Some, None, refl, if◌then◌else◌}
+use Rattle.std.proofs.Common.{ap, ap₂, ◌∙◌, arith}
+use Rattle.std.proofs.lemmas.Option.{same_Some}
 use Rattle.stt_core.specs.SimpleType.{SimpleType, formula, same_type}
 use Rattle.stt_core.specs.Lambda.{Constant, name, witness, falsity, negation, implication, all, equality, choice, description, Lambda, bound, constant, lam, app, applied}
 use Rattle.stt_core.specs.SameTerm.{same_term}
@@ -41,6 +42,11 @@ pub quantified-others : (h : Lambda) → IsAtom h → (ts : List Lambda) → (le
 quantified-others h a [] n = quantified_leaf h a
 quantified-others h a (t ∷ []) n = absurd (n refl)
 quantified-others h a (t ∷ u ∷ ts) n = quantified_two h t u ts
+
+pub quantified-single : (h : Lambda) (ts : List Lambda) → length ts ≡ 1 → quantified_by h ≡ quantified_type (applied h ts)
+quantified-single h [] n = cc
+quantified-single h (t ∷ []) n = quantified-one h t
+quantified-single h (t ∷ u ∷ ts) n = absurd (omega (arith, n))
 
 -- the type over which a formula ranges, or that of formulas
 pub range-quantified : (t : Lambda) → unwrap_or (quantified_type t) formula ≡ range_of t
@@ -97,6 +103,21 @@ sides-two (constant (choice a)) s t = refl
 sides-two (constant (description a)) s t = refl
 sides-two (lam a u) s t = refl
 sides-two (app u v) s t = refl
+
+pub no-equality : (h : Lambda) (ts : List Lambda) → length ts ≡ 2 → is_some (equality_of h) ≡ false → has_equal_sides (applied h ts) ≡ false
+no-equality h [] n e = cc
+no-equality h (t ∷ []) n e = absurd (omega (arith, n))
+no-equality h (t ∷ u ∷ []) n e = sides-two h t u ∙ ap (λ (b : Bool). if b then same_term t u else false) e
+no-equality h (t ∷ u ∷ v ∷ ts) n e = absurd (omega (arith, n))
+
+pub sides-pair : (h : Lambda) (f : ℕ → Lambda) (is : List ℕ) (i j : ℕ) → length is ≡ 2 → slice_get is 0 ≡ Some i → slice_get is 1 ≡ Some j → is_some (equality_of h) ≡ true → has_equal_sides (applied h (map f is)) ≡ same_term (f i) (f j)
+sides-pair h f [] i j n a b e = cc
+sides-pair h f (k ∷ []) i j n a b e = absurd (omega (arith, n))
+sides-pair h f (k ∷ l ∷ []) i j n a b e =
+    sides-two h (f k) (f l)
+    ∙ ap (λ (x : Bool). if x then same_term (f k) (f l) else false) e
+    ∙ ap₂ (λ x y. same_term (f x) (f y)) (same_Some k i a) (same_Some l j b)
+sides-pair h f (k ∷ l ∷ m ∷ is) i j n a b e = absurd (omega (arith, n))
 
 sides_three : (s t u v : Lambda) (ts : List Lambda) → has_equal_sides (applied (app (app (app s t) u) v) ts) ≡ false
 sides_three s t u v [] = refl

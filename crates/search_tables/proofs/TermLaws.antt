@@ -31,7 +31,7 @@ use Rattle.search_tables.specs.Names.{typed_at, command_at, IsNumber, IsPlace}
 use Rattle.search_tables.specs.Pending.{range_of, loop_over}
 use Rattle.search_tables.specs.Standing.{declared_scope, names_in, sources, parts, loops_in, the_state, is_universal, IsRight}
 use Rattle.search_tables.proofs.EachLaws.{each-last, each-weaker, each-unmapped}
-use Rattle.search_tables.proofs.PlaceLaws.{any-places, filter-mapped, terms-of, each-passes, places-of, filter-places, places-within}
+use Rattle.search_tables.proofs.PlaceLaws.{any-places, filter-mapped, terms-of, each-passes, places-of, filter-places, places-below}
 use Rattle.search_tables.proofs.LoopStays.{loops-stay, entries-stay}
 
 itself : {X : Type 0} (xs : List X) → Longer xs xs
@@ -68,7 +68,7 @@ module _ (t : Tables) (q : Queue Planned Delays) (r : IsRight t q) (a : SimpleTy
       ∙ ap (map noted_at) (sym (r.universals a))
 
   pub universals-within : Each (λ i. i < length t.noted.items) (ids_of a t.universals)
-  universals-within = subst (Each (λ i. i < length t.noted.items)) (sym (r.universals a)) (places-within (is_universal t.basis.bank.terms t.basis.lits a) 0 t.noted.items)
+  universals-within = subst (Each (λ i. i < length t.noted.items)) (sym (r.universals a)) (places-below (is_universal t.basis.bank.terms t.basis.lits a) t.noted.items)
 
   pub universal-numbers : Each (λ i. IsNumber t.basis.lits (noted_at i)) (ids_of a t.universals)
   universal-numbers =
@@ -186,6 +186,10 @@ module _ (t : Tables) (q : Queue Planned Delays) (r : IsRight t q) (a : SimpleTy
         ap (λ xs. pushed mode (map (λ l. inst l u) (universals a (sources t))) (the_state (record t { terms = xs }) q)) (is ∙ ap (λ (b : Bool). if b then t.terms else t.terms ++ (a, id) ∷ []) e)
         ∙ ap (pushed mode (map (λ l. inst l u) (universals a (sources t)))) state_more
         ∙ by_test mode false (there_is ∙ e)
+
+-- the literal at the first of some places
+pub at-first : (ls : List SatLit) (l : SatLit) (vs : List ℕ) (i : ℕ) → slice_get vs 0 ≡ Some i → slice_get ls i ≡ Some l → slice_get ls (get_or vs 0 0) ≡ Some l
+at-first ls l vs i at h = ap (slice_get ls) (get_or_from_slice_get vs 0 i 0 at) ∙ h
 
 pub head-is : (xs : List ℕ) → 0 < length xs → xs ≡ get_or xs 0 0 ∷ drop 1 xs
 head-is [] h = absurd (omega (arith, h))

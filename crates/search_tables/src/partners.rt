@@ -11,7 +11,9 @@ ghost use Rattle.search_tables.specs.Pending.{equation_type, range_of};
 ghost use Rattle.search_tables.specs.Shapes.{IsBaseEquation, IsQuantified};
 ghost use Rattle.search_tables.specs.Standing.{the_state, IsRight};
 
-use crate::command::Command;
+use crate::clauses::literal_of;
+use crate::command::{Command, Over};
+use crate::places::{id_of, listed_under};
 use crate::tables::Core;
 use command_queue::Weigher;
 use sat_base::SatLit;
@@ -29,7 +31,16 @@ impl<W: Weigher<Command>> Core<W> {
         ensures tables { self.new.tables ≡ self.old.tables }
         ensures rule { OnOk result (self.new.plan.rule ≡ self.old.plan.rule) }
     {
-        Err(AllocError)
+        let partners = self.tables.partners(lit)?;
+        let count = partners.len();
+        if count == 0 {
+            return Ok(());
+        }
+        let partner = literal_of(partners, 0);
+        if lit.positive {
+            return self.push_whole(Command::Mate(lit, partner), Over::Negatives, count);
+        }
+        self.push_whole(Command::Mate(partner, lit), Over::Positives, count)
     }
 
     /// An equation, or the negation of one, on a base type other than that of formulas is to be confronted with each noted one of the
@@ -43,7 +54,16 @@ impl<W: Weigher<Command>> Core<W> {
         ensures tables { self.new.tables ≡ self.old.tables }
         ensures rule { OnOk result (self.new.plan.rule ≡ self.old.plan.rule) }
     {
-        Err(AllocError)
+        let partners = self.tables.partners(lit)?;
+        let count = partners.len();
+        if count == 0 {
+            return Ok(());
+        }
+        let partner = literal_of(partners, 0);
+        if lit.positive {
+            return self.push_whole(Command::Confront(lit, partner), Over::Negatives, count);
+        }
+        self.push_whole(Command::Confront(partner, lit), Over::Positives, count)
     }
 
     /// A literal that says of a predicate that it holds everywhere is to be instantiated with each term of the type.
@@ -56,6 +76,12 @@ impl<W: Weigher<Command>> Core<W> {
         ensures tables { self.new.tables ≡ self.old.tables }
         ensures rule { OnOk result (self.new.plan.rule ≡ self.old.plan.rule) }
     {
-        Err(AllocError)
+        let ids = listed_under(&self.tables.basis, &self.tables.terms, lit);
+        let count = ids.len();
+        if count == 0 {
+            return Ok(());
+        }
+        let first = Command::Inst(lit, id_of(ids, 0));
+        self.push_whole(first, Over::Terms, count)
     }
 }

@@ -21,6 +21,14 @@ use std::alloc::AllocError;
 use stt_core::Ty;
 use term_bank::Id;
 
+/// What is at a place of a list.
+pub(crate) fn id_of(ids: &[Id], i: usize) -> Id
+    requires { i < length ids.now }
+    ensures { slice_get ids.now i ≡ Some result }
+{
+    ids[i]
+}
+
 /// What is listed under the type over which the atom of a literal ranges.
 pub(crate) fn listed_under<'a>(basis: &Basis, list: &'a Enumerator, lit: SatLit) -> &'a [Id]
     requires basis { IsBasis basis.now }
@@ -46,7 +54,7 @@ impl Tables {
         match first {
             Command::Inst(lit, _) => {
                 let ids = listed_under(&self.basis, &self.terms, lit);
-                Command::Inst(lit, ids[place])
+                Command::Inst(lit, id_of(ids, place))
             }
             _ => unreachable!(),
         }
@@ -63,11 +71,20 @@ impl Tables {
         match first {
             Command::Inst(lit, id) => {
                 let places = listed_under(&self.basis, &self.universals, lit);
-                let universal = literal_of(self.noted.as_slice(), places[place]);
+                let universal = literal_of(self.noted.as_slice(), id_of(places, place));
                 Command::Inst(universal, id)
             }
             _ => unreachable!(),
         }
+    }
+
+    /// The partners of a literal.
+    pub(crate) fn partners(&self, lit: SatLit) -> Result<&[SatLit], AllocError>
+        requires right { (q : Queue Planned Delays) × IsRight self.now q }
+        requires number { IsNumber self.now.basis.lits lit }
+        ensures { IfOk result (λ found. found.now ≡ partners_of self.now.basis.bank.terms self.now.basis.lits lit self.now.index.noted) }
+    {
+        self.index.partners(&self.basis.bank, &self.basis.lits, lit)
     }
 
     /// The partner of a literal at a place.
@@ -77,9 +94,7 @@ impl Tables {
         requires within { place < length (partners_of self.now.basis.bank.terms self.now.basis.lits lit self.now.index.noted) }
         ensures { IfOk result (λ m. slice_get (partners_of self.now.basis.bank.terms self.now.basis.lits lit self.now.index.noted) place ≡ Some m) }
     {
-        let partners = self
-            .index
-            .partners(&self.basis.bank, &self.basis.lits, lit)?;
+        let partners = self.partners(lit)?;
         Ok(literal_of(partners, place))
     }
 

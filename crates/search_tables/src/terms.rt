@@ -9,6 +9,7 @@ ghost use Rattle.search_tables.specs.Standing.{the_state, IsRight};
 
 use crate::clauses::literal_of;
 use crate::command::{Command, Over};
+use crate::places::id_of;
 use crate::tables::Core;
 use command_queue::Weigher;
 use std::alloc::AllocError;
@@ -34,7 +35,10 @@ impl<W: Weigher<Command>> Core<W> {
         if count == 0 {
             return Ok(());
         }
-        let first = Command::Inst(literal_of(self.tables.noted.as_slice(), universals[0]), id);
+        let first = Command::Inst(
+            literal_of(self.tables.noted.as_slice(), id_of(universals, 0)),
+            id,
+        );
         self.push_whole(first, Over::Universals, count)?;
         Ok(())
     }
