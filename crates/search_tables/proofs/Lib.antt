@@ -23,5 +23,6 @@ pub mod WholeLaws
 pub mod InstanceLaws
 pub mod PartnerLaws
 pub mod LoopLists
+pub mod HoleLaws
 pub mod NotingLaws
 pub mod StateStays

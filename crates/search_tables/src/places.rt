@@ -1,14 +1,16 @@
 //! Commands at places of loops.
-ghost use Rattle.std.specs.Prelude.{◌≡◌, ◌<◌, ◌≤◌, length, Some, slice_get, IfOk};
+ghost use Rattle.std.specs.Prelude.{◌≡◌, ◌<◌, ◌≤◌, [], length, Some, slice_get, IfOk};
+ghost use Rattle.stt_core.specs.SimpleType.{base};
+ghost use Rattle.search_run.specs.Partial.{first_hole};
 ghost use Rattle.command_queue.specs.Queue.{Queue};
 ghost use Rattle.literal_map.specs.Atoms.{literal_at};
 ghost use Rattle.mating_rules.specs.Noted.{partners_of};
 ghost use Rattle.instantiate.specs.Listing.{ids_of};
 ghost use Rattle.search_tables.specs.declared.command.Planned.{Planned};
 ghost use Rattle.search_tables.specs.declared.command.Delays.{Delays};
-ghost use Rattle.search_tables.specs.Names.{command_at, IsNumber, AreNumbers};
-ghost use Rattle.search_tables.specs.Pending.{range_of, over_terms, over_universals, over_negatives, over_positives, over_heads, over_parked, HasWitnesses, IsSigned, loop_over};
-ghost use Rattle.search_tables.specs.Standing.{declared_scope, names_in, sources, IsBasis, IsRight};
+ghost use Rattle.search_tables.specs.Names.{command_at, sketch_at, IsNumber, AreNumbers};
+ghost use Rattle.search_tables.specs.Pending.{base_of, range_of, over_terms, over_universals, over_negatives, over_positives, over_heads, over_parked, HasWitnesses, IsSigned, loop_over};
+ghost use Rattle.search_tables.specs.Standing.{declared_scope, names_in, sketches_in, sources, IsBasis, IsRight};
 ghost use Rattle.search_tables.specs.declared.command.Over.TheVariants.{Negatives, Positives};
 
 use crate::clauses::literal_of;
@@ -147,15 +149,27 @@ impl Tables {
         Err(AllocError)
     }
 
-    /// The command at a place of the loop over the partial terms that take a head. This isn't built yet, and answers want of memory.
-    fn in_parked(&self, first: Command, place: usize) -> Result<Command, AllocError>
+    /// The partial terms whose first hole has the base type of the first one of this partial term.
+    fn parked_like(&self, p: usize) -> &[Id]
+        requires right { (q : Queue Planned Delays) × IsRight self.now q }
+        requires number { p < length (sketches_in self.now) }
+        ensures { result.now ≡ ids_of (base (base_of (first_hole [] (sketch_at (sketches_in self.now) p).partial))) self.now.holes }
+    {
+        self.holes.terms_of(&Ty::Base(self.open_holes.base(p)))
+    }
+
+    /// The command at a place of the loop over the partial terms that take a head.
+    fn in_parked(&self, first: Command, place: usize) -> Command
         requires right { (q : Queue Planned Delays) × IsRight self.now q }
         requires numbers { AreNumbers (names_in self.now) first }
         requires within { place < length (over_parked (sources self.now) (command_at (names_in self.now) first)) }
-        ensures command { IfOk result (λ c. slice_get (over_parked (sources self.now) (command_at (names_in self.now) first)) place ≡ Some (command_at (names_in self.now) c)) }
-        ensures numbers { IfOk result (AreNumbers (names_in self.now)) }
+        ensures command { slice_get (over_parked (sources self.now) (command_at (names_in self.now) first)) place ≡ Some (command_at (names_in self.now) result) }
+        ensures numbers { AreNumbers (names_in self.now) result }
     {
-        Err(AllocError)
+        match first {
+            Command::Grow(p, h) => Command::Grow(id_of(self.parked_like(p), place), h),
+            _ => unreachable!(),
+        }
     }
 
     /// The command at a place of the loop of a command.
@@ -179,7 +193,7 @@ impl Tables {
             Over::Negatives => Ok(self.in_negatives(first, place)?),
             Over::Positives => Ok(self.in_positives(first, place)?),
             Over::Heads { witnesses } => Ok(self.in_heads(first, witnesses, place)?),
-            Over::Parked => Ok(self.in_parked(first, place)?),
+            Over::Parked => Ok(self.in_parked(first, place)),
         }
     }
 }
