@@ -24,5 +24,6 @@ pub mod InstanceLaws
 pub mod PartnerLaws
 pub mod LoopLists
 pub mod HoleLaws
+pub mod FittingLaws
 pub mod NotingLaws
 pub mod StateStays

@@ -2,6 +2,7 @@ pub mod Delays
 pub mod HeadNumbers
 pub mod Names
 pub mod Pending
+pub mod Fitting
 pub mod Heads
 pub mod Holes
 pub mod Rests

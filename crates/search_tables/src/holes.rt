@@ -1,12 +1,15 @@
 //! The holes of partial terms.
-ghost use Rattle.std.specs.Prelude.{◌≡◌, ◌<◌, List, [], length, Some, slice_get};
+ghost use Rattle.std.specs.Prelude.{◌≡◌, ◌<◌, ◌++◌, List, [], ◌∷◌, length, if◌then◌else◌, Some, slice_get, IfOk, OnOk};
+ghost use Rattle.stt_core.specs.View.{the_type};
+ghost use Rattle.search_run.specs.Heads.{target, places_to};
+ghost use Rattle.search_tables.specs.Fitting.{variables_for};
 ghost use Rattle.search_run.specs.Partial.{Hole};
 ghost use Rattle.search_tables.specs.Holes.{leftmost};
 ghost use Rattle.search_tables.specs.Pending.{base_of};
 
-use std::alloc::Global;
+use std::alloc::{AllocError, Global};
 use std::marker::Model;
-use stt_core::Types;
+use stt_core::{Ty, Types};
 
 /// A hole: its base type, and the types of the variables in scope there, outermost first.
 #[derive(Drop)]
@@ -27,11 +30,61 @@ impl Model for OpenHole {
     ghost view = { λ h. record { base = h.base; context = reverse h.context } };
 }
 
+/// The number of the base type that a function of this type gives in the end.
+fn target_of(ty: &Ty) -> u32
+    ensures { result ≡ target (the_type ty.now) }
+{
+    match ty {
+        Ty::Base(n) => *n,
+        Ty::Arrow(_, outcome) => target_of(outcome),
+    }
+}
+
+fn push_where(places: &mut Vec<usize>, fits: bool, place: usize) -> Result<(), AllocError>
+    ensures { OnOk result (places.new.items ≡ (if fits then places.old.items ++ place ∷ [] else places.old.items)) }
+{
+    if fits {
+        places.push(place)?;
+    }
+    Ok(())
+}
+
 impl OpenHole {
     fn base(&self) -> u32
         ensures { result ≡ self.now.base }
     {
         self.base
+    }
+
+    /// How many variables are in scope.
+    fn len(&self) -> usize
+        ensures { result ≡ length self.now.context }
+    {
+        self.context.len()
+    }
+
+    /// The type of a variable.
+    fn type_of(&self, i: usize) -> &Ty
+        requires { i < length self.now.context }
+        ensures { slice_get self.now.context i ≡ Some (the_type result.now) }
+    {
+        match self.context.get_from_end(i) {
+            Some(ty) => ty,
+            None => unreachable!(),
+        }
+    }
+
+    /// The variables whose target type is the hole's.
+    fn variables(&self, alloc: Global) -> Result<Vec<usize>, AllocError>
+        ensures { IfOk result (λ v. v.items ≡ places_to self.now.base 0 self.now.context) }
+    {
+        let base = self.base();
+        let mut places = Vec::new(alloc);
+        for i in 0..self.len() {
+            let fits = target_of(self.type_of(i)) == base;
+            push_where(&mut places, fits, i)?;
+        }
+        Ok(places)
     }
 }
 
@@ -71,6 +124,16 @@ impl HoleList {
             return 0;
         }
         self.at(0).base()
+    }
+
+    /// The variables that fit the first hole.
+    fn variables(&self, alloc: Global) -> Result<Vec<usize>, AllocError>
+        ensures { IfOk result (λ v. v.items ≡ variables_for (leftmost self.now)) }
+    {
+        if self.items.len() == 0 {
+            return Ok(Vec::new(alloc));
+        }
+        Ok(self.at(0).variables(alloc)?)
     }
 }
 
@@ -116,5 +179,13 @@ impl OpenHoles {
         ensures { (holes : List Hole) → slice_get self.now p ≡ Some holes → result ≡ base_of (leftmost holes) }
     {
         self.at(p).base()
+    }
+
+    /// The variables that fit the first hole of a partial term.
+    pub(crate) fn variables(&self, alloc: Global, p: usize) -> Result<Vec<usize>, AllocError>
+        requires { p < length self.now }
+        ensures { IfOk result (λ v. (holes : List Hole) → slice_get self.now p ≡ Some holes → v.items ≡ variables_for (leftmost holes)) }
+    {
+        Ok(self.at(p).variables(alloc)?)
     }
 }

@@ -4,6 +4,7 @@
 mod clauses;
 mod command;
 mod filling;
+mod fitting;
 mod head;
 mod holes;
 mod instance;

@@ -15,6 +15,7 @@ ghost use Rattle.search_tables.specs.declared.command.Over.TheVariants.{Negative
 
 use crate::clauses::literal_of;
 use crate::command::{Command, Over};
+use crate::head::number_of;
 use crate::shape::quantified_type;
 use crate::tables::{Basis, Tables};
 use instantiate::Enumerator;
@@ -132,7 +133,7 @@ impl Tables {
         }
     }
 
-    /// The command at a place of the loop over the heads for a partial term. This isn't built yet, and answers want of memory.
+    /// The command at a place of the loop over the heads for a partial term.
     fn in_heads(
         &self,
         first: Command,
@@ -146,7 +147,13 @@ impl Tables {
         ensures command { IfOk result (λ c. slice_get (over_heads (declared_scope self.now.basis.bank) (sources self.now) witnesses (command_at (names_in self.now) first)) place ≡ Some (command_at (names_in self.now) c)) }
         ensures numbers { IfOk result (AreNumbers (names_in self.now)) }
     {
-        Err(AllocError)
+        match first {
+            Command::Grow(p, _) => {
+                let head = self.fitting_head(p, witnesses, place)?;
+                Ok(Command::Grow(p, number_of(head)))
+            }
+            _ => unreachable!(),
+        }
     }
 
     /// The partial terms whose first hole has the base type of the first one of this partial term.
