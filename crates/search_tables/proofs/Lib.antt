@@ -26,4 +26,5 @@ pub mod LoopLists
 pub mod HoleLaws
 pub mod FittingLaws
 pub mod NotingLaws
+pub mod SelectingLaws
 pub mod StateStays

@@ -9,4 +9,5 @@ pub mod Rests
 pub mod Standing
 pub mod Growing
 pub mod Shapes
+pub mod Selecting
 pub mod Taking

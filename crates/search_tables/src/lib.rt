@@ -16,6 +16,7 @@ mod plan;
 mod pushing;
 mod rests;
 mod rule;
+mod selected;
 mod selecting;
 mod selection;
 mod set;
