@@ -27,4 +27,5 @@ pub mod HoleLaws
 pub mod FittingLaws
 pub mod NotingLaws
 pub mod SelectingLaws
+pub mod EmptyLaws
 pub mod StateStays

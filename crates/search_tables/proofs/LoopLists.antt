@@ -1,8 +1,7 @@
 -- Loops of commands, by numbers.
 use Rattle.std.specs.Prelude.{◌≡◌, ◌<◌, ◌≤◌, ℕ, List, [], ◌∷◌, map, length, slice_get, Some, refl}
-use Rattle.std.proofs.Common.{sym, ap, ◌∙◌, arith}
+use Rattle.std.proofs.Common.{ap, ◌∙◌, arith}
 use Rattle.std.proofs.lemmas.List.{length-map}
-use Rattle.stt_core.specs.Lambda.{Lambda}
 use Rattle.stt_core.proofs.ListLaws.{mapped_get}
 use Rattle.stt_tableau.specs.Literals.{Literal}
 use Rattle.sat_base.specs.declared.literal.SatLit.{SatLit}

@@ -1,14 +1,13 @@
 -- Choices and descriptions in shared terms.
-use Rattle.std.specs.Prelude.{◌≡◌, ◌<◌, ◌≤◌, ◌+◌, ◌||◌, nat_eq, ℕ, zero, suc, Bool, true, false, List, [], ◌∷◌, ◌++◌, map, drop, length, slice_get, Some, Result, Ok, Err, OnOk, refl, if◌then◌else◌}
+use Rattle.std.specs.Prelude.{◌≡◌, ◌||◌, nat_eq, ℕ, Bool, true, false, List, [], ◌∷◌, ◌++◌, map, slice_get, Some, Result, Ok, Err, OnOk, refl, if◌then◌else◌}
 use Rattle.std.specs.List.{list_any, flat_map}
 use Rattle.std.proofs.Common.{sym, ap, subst, ◌∙◌, append_assoc, append-nil}
 use Rattle.std.proofs.lemmas.Bool.{eqb-true}
-use Rattle.std.proofs.Math.ListN.{drop_of_length-le}
-use Rattle.stt_core.specs.SimpleType.{SimpleType, predicate, arrow, formula}
+use Rattle.stt_core.specs.SimpleType.{SimpleType, predicate}
 use Rattle.stt_core.specs.Lambda.{name, witness, falsity, negation, implication, all, equality, choice, description, Lambda, bound, constant, lam, app, applied}
 use Rattle.stt_core.specs.SameTerm.{same_term}
 use Rattle.stt_core.specs.Typing.{Scope}
-use Rattle.stt_core.specs.Canonical.{IsFrom, IsCanonical}
+use Rattle.stt_core.specs.Canonical.{IsCanonical}
 use Rattle.stt_core.proofs.ListLaws.{drop_got}
 use Rattle.stt_core.proofs.SpineLaws.{IsAtom}
 use Rattle.stt_core.proofs.SameTerms.{same_term-of}

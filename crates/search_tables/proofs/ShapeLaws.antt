@@ -3,7 +3,7 @@ use Rattle.std.specs.Prelude.{◌≡◌, ℕ, Bool, true, false, List, [], ◌�
 use Rattle.std.proofs.Common.{ap, ap₂, ◌∙◌, arith}
 use Rattle.std.proofs.lemmas.Option.{same_Some}
 use Rattle.stt_core.specs.SimpleType.{SimpleType, formula, same_type}
-use Rattle.stt_core.specs.Lambda.{Constant, name, witness, falsity, negation, implication, all, equality, choice, description, Lambda, bound, constant, lam, app, applied}
+use Rattle.stt_core.specs.Lambda.{name, witness, falsity, negation, implication, all, equality, choice, description, Lambda, bound, constant, lam, app, applied}
 use Rattle.stt_core.specs.SameTerm.{same_term}
 use Rattle.stt_core.proofs.SpineLaws.{IsAtom}
 use Rattle.stt_tableau.specs.Means.Heads.{equality_of, quantified_by}

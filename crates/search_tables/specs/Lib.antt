@@ -7,6 +7,7 @@ pub mod Heads
 pub mod Holes
 pub mod Rests
 pub mod Standing
+pub mod Empty
 pub mod Growing
 pub mod Shapes
 pub mod Selecting

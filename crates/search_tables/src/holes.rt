@@ -31,7 +31,7 @@ impl Model for OpenHole {
 }
 
 /// The number of the base type that a function of this type gives in the end.
-fn target_of(ty: &Ty) -> u32
+pub(crate) fn target_of(ty: &Ty) -> u32
     ensures { result ≡ target (the_type ty.now) }
 {
     match ty {

@@ -1,4 +1,4 @@
-use Rattle.std.proofs.Common.{◌≡◌, ◌≤◌, ◌-◌, ◌+◌, ℕ, ◌∷◌, drop, length, sym, ap, subst, ◌∙◌, arith}
+use Rattle.std.proofs.Common.{◌≡◌, ◌≤◌, ◌-◌, ◌+◌, drop, length, sym, ap, subst, ◌∙◌, arith}
 use Rattle.stt_core.proofs.ListLaws.{drop_got}
 use Rattle.search_run.specs.Each.{Each}
 use Rattle.search_tables.proofs.fitting.count_below.Goals as goal

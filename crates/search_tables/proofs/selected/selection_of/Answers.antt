@@ -1,4 +1,4 @@
-use Rattle.std.proofs.Common.{◌<◌, List, length, sym, ap, subst, arith, ◌∙◌}
+use Rattle.std.proofs.Common.{◌<◌, List, sym, ap, subst, arith, ◌∙◌}
 use Rattle.stt_core.specs.View.{the_head}
 use Rattle.search_run.proofs.ClosedLaws.{is_closed-of}
 use Rattle.search_run.specs.Selections.{Selection}

@@ -1,8 +1,7 @@
-use Rattle.std.proofs.Common.{◌≡◌, ◌<◌, ℕ, Bool, true, false, not, is_some, nat_eq, List, [], ◌∷◌, length, map, All, slice_get, Some, if◌then◌else◌, sym, ap, subst, ◌∙◌, arith}
+use Rattle.std.proofs.Common.{◌<◌, map, sym, ap, subst, ◌∙◌, arith}
 use Rattle.std.proofs.lemmas.List.{length-map}
 use Rattle.stt_core.specs.View.{the_head}
 use Rattle.stt_core.proofs.HeadLaws.{atom_head}
-use Rattle.stt_tableau.specs.Means.Heads.{equality_of}
 use Rattle.term_bank.specs.Terms.{term_at, shape_term, IsBelow}
 use Rattle.term_bank.specs.declared.node.Node.{Node}
 use Rattle.term_bank.specs.NodeView.{the_shape}

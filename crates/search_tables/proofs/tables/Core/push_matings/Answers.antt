@@ -1,4 +1,4 @@
-use Rattle.std.proofs.Common.{◌≡◌, ◌&&◌, not, Bool, List, [], ◌∷◌, map, length, drop, slice_get, arith, sym, ap, ap₂, subst, ◌∙◌}
+use Rattle.std.proofs.Common.{◌&&◌, not, Bool, List, map, length, drop, slice_get, arith, sym, ap, ap₂, ◌∙◌}
 use Rattle.stt_core.proofs.ListLaws.{drop_got}
 use Rattle.stt_tableau.specs.Literals.{Literal}
 use Rattle.sat_base.specs.declared.literal.SatLit.{SatLit}

@@ -1,4 +1,4 @@
-use Rattle.std.proofs.Common.{◌≡◌, sym, ap, subst, ◌∙◌}
+use Rattle.std.proofs.Common.{sym, ap, subst, ◌∙◌}
 use Rattle.stt_core.specs.SimpleType.{SimpleType}
 use Rattle.term_bank.specs.Content.{content_scope}
 use Rattle.term_bank.specs.Terms.{term_at}

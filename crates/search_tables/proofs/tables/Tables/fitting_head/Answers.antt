@@ -1,4 +1,4 @@
-use Rattle.std.proofs.Common.{◌≡◌, ◌<◌, ◌≤◌, ◌-◌, ℕ, List, [], length, take, slice_get, Some, sym, ap, ap₂, subst, ◌∙◌, arith}
+use Rattle.std.proofs.Common.{◌≡◌, ◌≤◌, ◌-◌, ℕ, List, [], length, take, slice_get, Some, sym, ap, ap₂, ◌∙◌, arith}
 use Rattle.stt_core.specs.Lambda.{bound, constant, name}
 use Rattle.stt_tableau.specs.Witnesses.{with_rows}
 use Rattle.search_run.specs.Heads.{places_to, heads_for}
@@ -9,7 +9,7 @@ use Rattle.search_tables.specs.Holes.{holes_in}
 use Rattle.search_tables.specs.Names.{sketch_at}
 use Rattle.search_tables.specs.Pending.{base_of}
 use Rattle.search_tables.specs.Standing.{declared_scope, rows_in, sketches_in}
-use Rattle.search_tables.proofs.HoleLaws.{leftmost-first, holes-at, base-at, holes-length}
+use Rattle.search_tables.proofs.HoleLaws.{leftmost-first, holes-at, base-at}
 use Rattle.search_tables.proofs.FittingLaws.{heads-list, variable-at, name-at, later-within, later-at}
 use Rattle.search_tables.proofs.tables.Tables.fitting_head.Goals as goal
 

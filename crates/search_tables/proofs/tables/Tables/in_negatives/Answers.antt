@@ -1,4 +1,4 @@
-use Rattle.std.proofs.Common.{◌<◌, List, length, slice_get, Some, sym, ap, subst, ◌∙◌}
+use Rattle.std.proofs.Common.{◌<◌, length, slice_get, ap, subst, ◌∙◌}
 use Rattle.stt_tableau.specs.Literals.{Literal}
 use Rattle.sat_base.specs.declared.literal.SatLit.{SatLit}
 use Rattle.literal_map.specs.Atoms.{literal_at}

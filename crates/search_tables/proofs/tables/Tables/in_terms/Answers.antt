@@ -1,7 +1,5 @@
-use Rattle.std.proofs.Common.{◌<◌, ℕ, List, length, slice_get, Some, sym, ap, subst, ◌∙◌}
-use Rattle.stt_core.specs.SimpleType.{SimpleType}
+use Rattle.std.proofs.Common.{◌<◌, ℕ, List, length, slice_get, sym, ap, subst, ◌∙◌}
 use Rattle.literal_map.specs.Atoms.{literal_at}
-use Rattle.search_run.specs.State.{Command as Meant}
 use Rattle.search_tables.specs.declared.command.Command.{Command}
 use Rattle.search_tables.specs.declared.command.Command.TheVariants.{Inst}
 use Rattle.search_tables.specs.Names.{command_at, IsPlace, AreNumbers}

@@ -1,11 +1,10 @@
-use Rattle.std.proofs.Common.{◌≡◌, Bool, true, false, not, ℕ, List, [], ◌∷◌, ◌++◌, length, vec_len, arith, Option, Some, None, if◌then◌else◌, refl, sym, ap, ◌∙◌}
+use Rattle.std.proofs.Common.{◌≡◌, Bool, true, false, not, [], ◌∷◌, ◌++◌, length, vec_len, arith, Some, None, if◌then◌else◌, refl, sym, ap, ◌∙◌}
 use Rattle.std.proofs.lemmas.Option.{get_or_from_slice_get}
-use Rattle.stt_core.specs.SimpleType.{SimpleType}
 use Rattle.stt_core.specs.View.{the_type}
 use Rattle.term_bank.specs.Terms.{term_at}
 use Rattle.instantiate.specs.Listing.{ids_of, with_listed}
 use Rattle.search_tables.specs.Shapes.{quantified_type}
-use Rattle.search_tables.proofs.NotingLaws.{listed-last, universal-by, universal-not}
+use Rattle.search_tables.proofs.NotingLaws.{listed-last, universal-by}
 use Rattle.search_tables.proofs.tables.Tables.list_universal.Goals as goal
 
 positive : (b : Bool) → not b ≡ false → b ≡ true

@@ -1,4 +1,4 @@
-use Rattle.std.proofs.Common.{◌<◌, ℕ, sym, ap, ◌∙◌, arith}
+use Rattle.std.proofs.Common.{ap, ◌∙◌, arith}
 use Rattle.stt_core.specs.SimpleType.{base}
 use Rattle.instantiate.specs.Listing.{ids_of}
 use Rattle.search_tables.proofs.HoleLaws.{base-at, holes-length}
