@@ -17,7 +17,15 @@ pub mod SolveLaws
 pub mod RowLaws
 pub mod RuleLaws
 pub mod PlaceLaws
+pub mod ShapeLaws
 pub mod TermLaws
 pub mod WholeLaws
 pub mod InstanceLaws
+pub mod PartnerLaws
+pub mod LoopLists
+pub mod HoleLaws
+pub mod FittingLaws
+pub mod NotingLaws
+pub mod SelectingLaws
+pub mod EmptyLaws
 pub mod StateStays

@@ -1,8 +1,14 @@
 pub mod Delays
+pub mod HeadNumbers
 pub mod Names
 pub mod Pending
+pub mod Fitting
 pub mod Heads
+pub mod Holes
 pub mod Rests
 pub mod Standing
+pub mod Empty
 pub mod Growing
+pub mod Shapes
+pub mod Selecting
 pub mod Taking

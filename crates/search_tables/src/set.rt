@@ -66,6 +66,12 @@ impl IdSet {
         }
     }
 
+    pub fn contains(&self, id: Id) -> bool
+        ensures { result ≡ list_any (nat_eq id) self.now }
+    {
+        self.ids.contains(&id)
+    }
+
     /// Adds a term, and tells whether it is new.
     pub fn insert(&mut self, id: Id) -> Result<bool, AllocError>
         ensures new { IfOk result (λ is_new. is_new ≡ not (list_any (nat_eq id) self.old)) }

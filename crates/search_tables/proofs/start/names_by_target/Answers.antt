@@ -1,0 +1,16 @@
+use Rattle.std.proofs.Common.{map, ◌∙◌}
+use Rattle.stt_core.specs.View.{the_type}
+use Rattle.stt_core.specs.TypedName.{TypedName}
+use Rattle.search_tables.proofs.EmptyLaws.{got-typed, below-more, all-more}
+use Rattle.search_tables.proofs.start.names_by_target.Goals as goal
+
+pub loop-i-preserved : goal.loop-i-preserved
+loop-i-preserved c =
+    let types = map (λ (x : TypedName). x.type) c.args.consts.now in
+    let a = the_type c.in-Some.ty.now in
+    let at = got-typed c.args.consts.now c.loop-i.i a c.in-Some.ensures in
+    let inv = c.loop-i.invariant in
+    record {
+      below = below-more types c.loop-i.i a at c.target_of.result c.target_of.ensures c.loop-i.names c.add_term.new.self c.in_ok-add_term-in-Some.ensures.ok inv.below;
+      all = λ n. all-more types c.loop-i.i a at c.target_of.result c.target_of.ensures c.loop-i.names c.add_term.new.self c.in_ok-add_term-in-Some.ensures.ok inv.below n ∙ inv.all n;
+    }
