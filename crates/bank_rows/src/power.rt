@@ -40,13 +40,12 @@ fn power(alloc: Global, base: u32, exponent: u32) -> Result<Term, AllocError> {
     applied(alloc, iterated, iterating)
 }
 
-/// How many nodes the power's normal form has, worked out over a bank.
-pub fn shared_power(alloc: Global, base: u32, exponent: u32) -> Result<u64, RowRefused> {
+/// How deep the power's normal form nests, worked out over a bank.
+pub fn shared_power(alloc: Global, base: u32, exponent: u32) -> Result<usize, RowRefused> {
     let mut bank = empty_bank(alloc)?;
     let term = power(alloc, base, exponent)?;
     let id = normalised(alloc, &mut bank, &term)?;
-    let nf = bank.export(id)?;
-    Ok(size_sat(&nf))
+    Ok(bank.depth(id))
 }
 
 /// How many nodes the power's normal form has, worked out as a whole tree.

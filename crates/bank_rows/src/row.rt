@@ -20,8 +20,8 @@ pub fn answer(alloc: Global, line: &str) -> anyhow::Result<String> {
     let base = base.parse()?;
     let exponent = exponent.parse()?;
     if what == "power" {
-        let count = shared_power(alloc, base, exponent)?;
-        return Ok(format!(in alloc; "{line}: {count} nodes")?);
+        let depth = shared_power(alloc, base, exponent)?;
+        return Ok(format!(in alloc; "{line}: depth {depth}")?);
     }
     let count = plain_power(alloc, base, exponent)?;
     Ok(format!(in alloc; "{line}: {count} nodes")?)
