@@ -1,0 +1,29 @@
+use Rattle.std.proofs.Common.{sym, ap, ◌∙◌}
+use Rattle.std.specs.List.{list_any}
+use Rattle.stt_core.specs.SimpleType.{SimpleType, same_type}
+use Rattle.stt_core.specs.View.{the_type}
+use Rattle.search_run.specs.Partial.{blank}
+use Rattle.search_run.specs.Terms.{opened}
+use Rattle.search_tables.specs.Standing.{setting_by, the_state}
+use Rattle.search_tables.proofs.OpeningLaws.{prepared-before, prepared-now}
+use Rattle.search_tables.proofs.tables.Core.prepare_function.Goals as goal
+
+pub returns-then-has_type-clause-state : goal.returns-then-has_type-clause-state
+returns-then-has_type-clause-state g c =
+    let t = c.args.self.now.tables in
+    let q = c.args.self.now.plan in
+    let a = the_type c.args.ty.now in
+    let s = the_state t q in
+    let roots = list_any (same_type a) t.roots in
+    prepared-before (setting_by t q) s a c.requires.function.0 c.requires.function.1.0 c.requires.function.1.1 roots (c.requires.right.roots a) (sym c.has_type.ensures ∙ c.if-has_type.true)
+
+pub returns-clause-state : goal.returns-clause-state
+returns-clause-state g c =
+    let t = c.args.self.now.tables in
+    let q = c.args.self.now.plan in
+    let a = the_type c.args.ty.now in
+    let s = the_state t q in
+    let roots = list_any (same_type a) t.roots in
+    c.in_ok-open_stem.ensures.state
+    ∙ ap (λ (x : SimpleType). opened (setting_by t q) (record { type = x; partial = blank x }) s) c.in_ok-blank.ensures
+    ∙ prepared-now (setting_by t q) s a c.requires.function.0 c.requires.function.1.0 c.requires.function.1.1 roots (c.requires.right.roots a) (sym c.has_type.ensures ∙ c.if-has_type.false)
