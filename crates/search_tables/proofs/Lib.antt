@@ -16,6 +16,7 @@ pub mod TakeLaws
 pub mod SolveLaws
 pub mod RowLaws
 pub mod RuleLaws
+pub mod StepLaws
 pub mod PlaceLaws
 pub mod ShapeLaws
 pub mod TermLaws

@@ -9,6 +9,7 @@ pub mod Rests
 pub mod Standing
 pub mod Empty
 pub mod Growing
+pub mod Steps
 pub mod Shapes
 pub mod Selecting
 pub mod Taking

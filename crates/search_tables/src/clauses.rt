@@ -11,6 +11,7 @@ ghost use Rattle.literal_map.specs.Atoms.{literal_at, IsAtom};
 ghost use Rattle.sat_core.specs.Solver.{learned};
 ghost use Rattle.tableau_clauses.specs.Table.{the_clauses};
 ghost use Rattle.search_tables.specs.Names.{IsNumber};
+ghost use Rattle.search_tables.specs.Steps.{StepsGrow};
 
 use literal_map::{Instance, LitLists, LitTable};
 use sat_base::SatLit;
@@ -92,6 +93,7 @@ pub(crate) fn add_clauses(
     requires same { solver.old.clauses ≡ the_clauses steps.old }
     ensures clauses { OnOk result (the_clauses steps.new ≡ with_clauses numbers (the_clauses steps.old) (instance_clauses numbers instance.principals instance.alternatives)) }
     ensures same { OnOk result (solver.new.clauses ≡ the_clauses steps.new) }
+    ensures steps { OnOk result (StepsGrow (λ i. i ≡ instance) steps.old steps.new) }
     ensures learned { learned solver.new ≡ learned solver.old }
 {
     make_variables(solver, atoms)?;

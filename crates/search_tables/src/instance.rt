@@ -6,6 +6,7 @@ ghost use Rattle.search_run.specs.Instances.{with_instance};
 ghost use Rattle.search_tables.specs.Delays.{the_mode};
 ghost use Rattle.search_tables.specs.Names.{IsNumber};
 ghost use Rattle.search_tables.specs.Standing.{the_state, IsRight};
+ghost use Rattle.search_tables.specs.Steps.{StepsGrow};
 
 use crate::clauses::{add_clauses, all_shallow, joined};
 use crate::command::Command;
@@ -25,6 +26,7 @@ impl<W: Weigher<Command>> Core<W> {
         ensures state { OnOk result (let d = literal_at self.old.tables.basis.bank.terms self.old.tables.basis.lits in the_state self.new.tables self.new.plan ≡ with_instance (the_mode self.old.plan.rule.mode) (map d instance.principals) (map (map d) instance.alternatives) (the_state self.old.tables self.old.plan)) }
         ensures right { OnOk result (IsRight self.new.tables self.new.plan) }
         ensures tables { OnOk result (self.new.tables ≡ record self.old.tables { seen = self.new.tables.seen; steps = self.new.tables.steps; solver = self.new.tables.solver }) }
+        ensures steps { OnOk result (StepsGrow (λ i. i ≡ instance) self.old.tables.steps self.new.tables.steps) }
         ensures rule { OnOk result (self.new.plan.rule ≡ self.old.plan.rule) }
     {
         let basis = &self.tables.basis;

@@ -11,6 +11,7 @@ ghost use Rattle.search_tables.specs.Delays.{the_mode};
 ghost use Rattle.search_tables.specs.Growing.{BasisGrows};
 ghost use Rattle.search_tables.specs.Names.{IsNumber, IsPlace};
 ghost use Rattle.search_tables.specs.Standing.{rows_in, the_state, IsBasis, IsRight};
+ghost use Rattle.search_tables.specs.Steps.{IsMade, StepsGrow};
 
 use crate::command::Command;
 use crate::tables::{Basis, Core};
@@ -33,6 +34,7 @@ impl Basis {
         requires few { length self.old.witnesses < 2 ^ 32 - 1 }
         requires kind { by.now.kind ≢ MakesWitness }
         requires fits { (alternatives : List (List Literal)) × IsInstanceBy self.old.bank self.old.lits (rows_in self.old) by.now alternatives }
+        ensures by { IfOk result (λ i. i.by ≡ by.now) }
         ensures principals { IfOk result (λ i. i.principals ≡ principals_of by.now) }
         ensures numbers { IfOk result (λ i. Each (Each (IsNumber self.new.lits)) i.alternatives) }
         ensures instance { IfOk result (λ i. IsInstanceBy self.new.bank self.new.lits (rows_in self.new) by.now (map (map (literal_at self.new.bank.terms self.new.lits)) i.alternatives)) }
@@ -71,6 +73,7 @@ impl<W: Weigher<Command>> Core<W> {
             → the_state self.new.tables self.new.plan ≡ with_instance (the_mode self.old.plan.rule.mode) (map (literal_at self.old.tables.basis.bank.terms self.old.tables.basis.lits) (principals_of by)) alternatives (the_state self.old.tables self.old.plan)) }
         ensures right { OnOk result (IsRight self.new.tables self.new.plan) }
         ensures basis { OnOk result (BasisGrows self.old.tables.basis self.new.tables.basis) }
+        ensures steps { OnOk result (StepsGrow (IsMade self.new.tables.basis) self.old.tables.steps self.new.tables.steps) }
         ensures tables { OnOk result (self.new.tables ≡ record self.old.tables { basis = self.new.tables.basis; seen = self.new.tables.seen; steps = self.new.tables.steps; solver = self.new.tables.solver }) }
         ensures rule { OnOk result (self.new.plan.rule ≡ self.old.plan.rule) }
     {

@@ -75,6 +75,7 @@ impl<W: Weigher<Command>> Core<W> {
         ensures right { IfOk result (λ core. IsRight core.tables core.plan) }
         ensures basis { IfOk result (λ core. core.tables.basis ≡ basis) }
         ensures mode { IfOk result (λ core. core.plan.rule.mode ≡ mode) }
+        ensures steps { IfOk result (λ core. core.tables.steps ≡ ([], [])) }
     {
         let names = names_by_target(alloc, &basis.bank.sig().consts)?;
         Ok(Core {

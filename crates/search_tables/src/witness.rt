@@ -8,6 +8,7 @@ ghost use Rattle.search_run.specs.Witness.{witnessed};
 ghost use Rattle.search_tables.specs.Growing.{BasisWidens};
 ghost use Rattle.search_tables.specs.Names.{IsNumber};
 ghost use Rattle.search_tables.specs.Standing.{setting_by, the_state, IsRight};
+ghost use Rattle.search_tables.specs.Steps.{IsMade, StepsGrow};
 
 use crate::command::Command;
 use crate::tables::Core;
@@ -27,6 +28,7 @@ impl<W: Weigher<Command>> Core<W> {
             → the_state self.new.tables self.new.plan ≡ witnessed (setting_by self.old.tables self.old.plan) a f (the_state self.old.tables self.old.plan)) }
         ensures right { OnOk result (IsRight self.new.tables self.new.plan) }
         ensures basis { OnOk result (BasisWidens self.old.tables.basis self.new.tables.basis) }
+        ensures steps { OnOk result (StepsGrow (IsMade self.new.tables.basis) self.old.tables.steps self.new.tables.steps) }
         ensures tables { OnOk result (self.new.tables ≡ record self.old.tables { basis = self.new.tables.basis; seen = self.new.tables.seen; steps = self.new.tables.steps; solver = self.new.tables.solver; takers = self.new.tables.takers }) }
         ensures rule { OnOk result (self.new.plan.rule ≡ self.old.plan.rule) }
     {

@@ -1,13 +1,14 @@
-use Rattle.std.proofs.Common.{◌<◌, ◌++◌, ◌∷◌, [], List, length, sym, ap, subst, ◌∙◌, arith}
+use Rattle.std.proofs.Common.{◌<◌, ◌-◌, ◌++◌, ◌∷◌, [], List, length, sym, ap, subst, ◌∙◌, arith}
 use Rattle.stt_core.proofs.ListLaws.{take_got}
 use Rattle.sat_base.specs.declared.literal.SatLit.{SatLit}
 use Rattle.sat_core.specs.Solver.{SolverState, learned}
 use Rattle.search_run.specs.Each.{Each}
 use Rattle.search_run.specs.Clauses.{instance_clauses}
 use Rattle.search_run.specs.Numbered.{numbers}
-use Rattle.tableau_clauses.specs.Table.{the_clauses}
+use Rattle.tableau_clauses.specs.Table.{the_clauses, the_instances}
 use Rattle.search_tables.proofs.ClauseLaws.{first_clauses, made-all}
 use Rattle.search_tables.proofs.EachLaws.{each-at}
+use Rattle.search_tables.proofs.StepLaws.{steps-grow}
 use Rattle.search_tables.proofs.clauses.add_clauses.Goals as goal
 
 pub loop-n-init : goal.loop-n-init
@@ -35,3 +36,8 @@ loop-n-preserved c = record {
       ∙ sym (take_got (the_clauses c.add.new.self) c.loop-n.n c.clause.result.now c.clause.ensures);
   learned = ap (λ (s : SolverState). learned s) c.in_ok-add.ensures.ok ∙ c.loop-n.invariant.learned;
 }
+
+pub returns-clause-steps : goal.returns-clause-steps
+returns-clause-steps c =
+    steps-grow c.args.steps.now c.add.new.self c.args.instance (instance_clauses numbers c.args.instance.principals c.args.instance.alternatives) (c.in_ok-new.new.end - c.in_ok-new.new.start) (length (the_instances c.args.steps.now))
+    c.in_ok-new.ensures.clauses c.in_ok-new.ensures.origins c.in_ok-new.ensures.instances

@@ -1,4 +1,4 @@
-use Rattle.std.proofs.Common.{◌<◌, ℕ, List, map, sym, ap, subst, ◌∙◌}
+use Rattle.std.proofs.Common.{◌≡◌, ◌<◌, ℕ, List, map, sym, ap, subst, ◌∙◌}
 use Rattle.std.specs.List.{flat_map}
 use Rattle.sat_base.specs.declared.literal.SatLit.{SatLit}
 use Rattle.stt_tableau.specs.Literals.{Literal}
@@ -12,8 +12,11 @@ use Rattle.search_tables.specs.declared.command.Delays.{Delays}
 use Rattle.search_tables.specs.Delays.{the_mode}
 use Rattle.search_tables.specs.Names.{IsNumber}
 use Rattle.search_tables.specs.Standing.{the_state}
+use Rattle.search_tables.specs.Steps.{StepsGrow}
+use Rattle.search_tables.specs.declared.tables.Tables.{Tables}
 use Rattle.search_tables.proofs.InstanceLaws.{each-flat, clauses_are_numbers, too_deep, shallow_added, right-added}
 use Rattle.search_tables.proofs.RoomLaws.{state-room, right-room}
+use Rattle.search_tables.proofs.StepLaws.{steps-same}
 use Rattle.search_tables.proofs.tables.Core.add_instance.Goals as goal
 
 pub returns-then-not-all_shallow-clause-state : goal.returns-then-not-all_shallow-clause-state
@@ -57,3 +60,10 @@ returns-clause-state g c =
     ∙ ap (with_literals (the_mode self.plan.rule.mode) (map d all)) (state-room t self.plan c.reserve.new.self c.reserve.ensures.same)
     ∙ shallow_added self.tables self.plan c.equal_ids_for_equal_terms.ensures c.atoms_differ.ensures c.requires.right (the_mode self.plan.rule.mode) i.principals i.alternatives c.requires.principals c.requires.alternatives
     c.add_clauses.new.steps c.add_clauses.new.solver c.in_ok-add_clauses.ensures.clauses (sym c.all_shallow.ensures ∙ c.if-not-all_shallow.false)
+
+pub returns-then-not-all_shallow-clause-steps : goal.returns-then-not-all_shallow-clause-steps
+returns-then-not-all_shallow-clause-steps g c = steps-same (λ i. i ≡ c.args.instance) c.args.self.now.tables.steps
+
+pub returns-clause-steps : goal.returns-clause-steps
+returns-clause-steps g c =
+    subst (StepsGrow (λ i. i ≡ c.args.instance) c.args.self.now.tables.steps) (sym (ap (λ (t : Tables). t.steps) c.in_ok-see_all.ensures.tables)) c.in_ok-add_clauses.ensures.steps

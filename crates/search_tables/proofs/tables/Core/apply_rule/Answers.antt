@@ -1,4 +1,4 @@
-use Rattle.std.proofs.Common.{List, map, sym, ap, subst, ◌∙◌}
+use Rattle.std.proofs.Common.{◌≡◌, List, map, sym, ap, subst, ◌∙◌}
 use Rattle.stt_tableau.specs.Literals.{Literal}
 use Rattle.sat_base.specs.declared.literal.SatLit.{SatLit}
 use Rattle.literal_map.specs.Atoms.{literal_at}
@@ -9,8 +9,12 @@ use Rattle.search_run.specs.State.{State}
 use Rattle.search_tables.specs.Delays.{the_mode}
 use Rattle.search_tables.specs.Names.{IsNumber}
 use Rattle.search_tables.specs.Standing.{the_state}
+use Rattle.search_tables.specs.Steps.{IsMade, StepsGrow}
+use Rattle.search_tables.specs.declared.tables.Basis.{Basis}
+use Rattle.search_tables.specs.declared.tables.Tables.{Tables}
 use Rattle.search_tables.proofs.RuleLaws.{principal-numbers, principals_same, same-alternatives, more-numbers}
 use Rattle.search_tables.proofs.StateStays.{state-stays, right-stays}
+use Rattle.search_tables.proofs.StepLaws.{is-made, steps-weaker}
 use Rattle.search_tables.proofs.tables.Core.apply_rule.Goals as goal
 
 pub add_instance-requires-clause-right : goal.add_instance-requires-clause-right
@@ -42,3 +46,15 @@ returns-clause-state g c = λ alternatives h.
     ∙ ap (λ (as' : List (List Literal)). with_instance mode (map (literal_at old.bank.terms old.lits) (principals_of c.args.by)) as' (the_state t self.plan))
     (same-alternatives old new grows c.requires.right.basis c.args.by c.requires.first c.requires.second c.requires.term alternatives made h c.in_ok-instance.ensures.instance)
     ∙ ap (λ (s : State). with_instance mode (map (literal_at old.bank.terms old.lits) (principals_of c.args.by)) alternatives s) (state-stays self.tables self.plan new grows c.requires.right)
+
+pub returns-clause-steps : goal.returns-clause-steps
+returns-clause-steps g c =
+    let self = c.args.self.now in
+    let old = self.tables.basis in
+    let new = c.make_instance.new.self in
+    let i = c.in_ok-instance.instance in
+    let made : IsMade new i =
+        is-made old new c.in_ok-instance.ensures.grows c.args.by i c.in_ok-instance.ensures.by c.in_ok-instance.ensures.principals c.requires.first c.requires.second c.requires.term c.in_ok-instance.ensures.numbers
+        c.in_ok-instance.ensures.instance in
+    subst (λ (g : Basis). StepsGrow (IsMade g) self.tables.steps c.add_instance.new.self.tables.steps) (sym (ap (λ (t : Tables). t.basis) c.in_ok-add_instance.ensures.tables))
+    (steps-weaker (λ j. j ≡ i) (IsMade new) (λ j e. subst (IsMade new) (sym e) made) self.tables.steps c.add_instance.new.self.tables.steps c.in_ok-add_instance.ensures.steps)
