@@ -1,0 +1,5 @@
+mod RuleUses
+mod DevelopLaws
+mod MadeStays
+mod UnitLaws
+mod RunLaws

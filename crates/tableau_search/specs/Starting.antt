@@ -1,0 +1,44 @@
+-- Tables before the start, and start units.
+use Rattle.std.specs.Prelude.{◌≡◌, ℕ, [], ◌∷◌, ◌++◌, false, Some, if◌then◌else◌, List, take, slice_get}
+use Rattle.std.specs.List.{list_any}
+use Rattle.stt_core.specs.Typing.{IsScope}
+use Rattle.stt_tableau.specs.Literals.{Literal}
+use Rattle.stt_tableau.specs.Start.{has}
+use Rattle.sat_base.specs.declared.literal.SatLit.{SatLit}
+use Rattle.bank_normal.specs.Right.{IsRight as IsRightMemo}
+use Rattle.search_run.specs.Clauses.{same_clause}
+use Rattle.search_run.specs.Numbered.{numbers}
+use Rattle.tableau_clauses.specs.declared.origin.Origin.TheVariants.{Start}
+use Rattle.tableau_clauses.specs.Table.{Table, the_clauses}
+use Rattle.search_tables.specs.declared.tables.Tables.{Tables}
+use Rattle.search_tables.specs.Standing.{declared_scope}
+
+-- nothing is there beside what is declared
+pub record IsBlank (t : Tables) : Type 0 where
+  pub declared : IsScope (declared_scope t.basis.bank)
+  pub typed : t.basis.bank.witnesses ≡ []
+  pub bank : t.basis.bank.terms ≡ []
+  pub memo : IsRightMemo t.basis.normal t.basis.bank
+  pub lits : t.basis.lits ≡ []
+  pub witnesses : t.basis.witnesses ≡ []
+  pub steps : t.steps ≡ ([], [])
+  pub solver : t.solver ≡ record { values = []; clauses = []; log = []; is_refuted = false }
+  pub seen : t.seen ≡ []
+  pub noted : t.noted.items ≡ []
+  pub universals : t.universals ≡ []
+  pub terms : t.terms ≡ []
+  pub chosen : t.chosen ≡ []
+  pub described : t.described ≡ []
+  pub heads : t.heads ≡ []
+  pub stems : t.stems.items ≡ []
+  pub holes : t.holes ≡ []
+  pub done : t.done ≡ 0
+
+-- the literal's clause stands behind the earlier ones as a start unit, unless it is one of them
+pub record AddsUnit (lit : SatLit) (old new : Table) : Type 0 where
+  pub clauses : new.0 ≡ (if list_any (same_clause numbers (lit ∷ [])) (the_clauses old) then old.0 else old.0 ++ (lit ∷ [], Start) ∷ [])
+  pub instances : new.1 ≡ old.1
+
+-- no literal stands among those before it
+abbrev pub AreApart : List Literal → Type 0
+AreApart ls = (i : ℕ) (l : Literal) → slice_get ls i ≡ Some l → has (take i ls) l ≡ false

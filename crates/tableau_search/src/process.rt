@@ -1,0 +1,29 @@
+//! Literals are processed.
+ghost use Rattle.std.specs.Prelude.{◌≡◌, ◌<◌, ◌≤◌, ◌-◌, ◌^◌, suc, length, OnOk};
+ghost use Rattle.literal_map.specs.Atoms.{literal_at};
+ghost use Rattle.search_run.specs.Processing.{processed};
+ghost use Rattle.search_tables.specs.Names.{IsNumber};
+ghost use Rattle.search_tables.specs.Standing.{setting_by, the_state, IsRight};
+ghost use Rattle.tableau_search.specs.Developing.{Develops};
+
+use command_queue::Weigher;
+use sat_base::SatLit;
+use search_tables::{Command, Core};
+use std::alloc::AllocError;
+
+/// Processes a literal. This isn't built yet, and answers want of memory.
+pub(crate) fn process<W: Weigher<Command>>(
+    core: &mut Core<W>,
+    lit: SatLit,
+) -> Result<(), AllocError>
+    requires right { IsRight core.old.tables core.old.plan }
+    requires number { IsNumber core.old.tables.basis.lits lit }
+    requires few { length core.old.tables.basis.witnesses < 2 ^ 32 - 1 }
+    ensures state { OnOk result (the_state core.new.tables core.new.plan ≡ processed (setting_by core.old.tables core.old.plan) (literal_at core.old.tables.basis.bank.terms core.old.tables.basis.lits lit) (the_state core.old.tables core.old.plan)) }
+    ensures right { OnOk result (IsRight core.new.tables core.new.plan) }
+    ensures develops { OnOk result (Develops core.old.tables core.new.tables) }
+    ensures witnesses { OnOk result (length core.new.tables.basis.witnesses ≤ suc (length core.old.tables.basis.witnesses)) }
+    ensures rule { OnOk result (core.new.plan.rule ≡ core.old.plan.rule) }
+{
+    Err(AllocError)
+}
