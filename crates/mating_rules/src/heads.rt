@@ -108,6 +108,43 @@ impl Heads {
         }
     }
 
+    /// The literals of a sign that are kept under the head at a place.
+    fn kept_at(&self, place: usize, positive: bool) -> &[SatLit]
+        requires { place < length self.now }
+        ensures { (h : Lambda) → place ≡ place_in h self.now → result.now ≡ kept_under h positive self.now }
+    {
+        match self.lits.get_index(place) {
+            Some((_, lits)) => lits.of_sign(positive),
+            None => unreachable!(),
+        }
+    }
+
+    /// The literals of a sign that are kept under a head.
+    fn kept(&self, key: &Key, positive: bool) -> &[SatLit]
+        ensures { result.now ≡ kept_under key.now positive self.now }
+    {
+        match self.place_of(key) {
+            Some(place) => self.kept_at(place, positive),
+            None => &[],
+        }
+    }
+
+    /// The literals of a sign that are kept under the head of an atom, where it can have partners.
+    pub(crate) fn kept_for(&self, atom: &Node, positive: bool) -> Result<&[SatLit], AllocError>
+        ensures { IfOk result (λ found. found.now ≡ kept_where (pairing_head (the_shape atom.now)) positive self.now) }
+    {
+        match atom {
+            Node::App { head, args } => {
+                if pairs(head) && args.len() > 0 {
+                    let key = Key::new(self.alloc, head)?;
+                    return Ok(self.kept(&key, positive));
+                }
+                Ok(&[])
+            }
+            Node::Lam { ty: _, body: _ } => Ok(&[]),
+        }
+    }
+
     /// Keeps a literal under the head of its atom, where it can have partners. The answer are those of the other sign that are there.
     pub(crate) fn keep_under(&mut self, atom: &Node, lit: SatLit) -> Result<Partners, AllocError>
         ensures partners { IfOk result (λ found. found ≡ kept_where (pairing_head (the_shape atom.now)) (not lit.positive) self.old) }

@@ -42,6 +42,22 @@ impl Index {
         }
     }
 
+    /// The partners of a literal among those that were noted.
+    pub fn partners(
+        &self,
+        bank: &Bank,
+        lits: &LitTable,
+        lit: SatLit,
+    ) -> Result<&[SatLit], AllocError>
+        requires number { lit.var.0 < length lits.now }
+        requires atoms { All (IsAtom bank.now) lits.now }
+        requires right { IsRight bank.now.terms lits.now self.now }
+        ensures { IfOk result (λ found. found.now ≡ partners_of bank.now.terms lits.now lit self.now.noted) }
+    {
+        let atom = lits.formula_of(lit);
+        Ok(self.heads.kept_for(bank.node(atom), !lit.positive)?)
+    }
+
     /// Notes a literal. The answer are its partners among those that were noted before.
     pub fn note(
         &mut self,

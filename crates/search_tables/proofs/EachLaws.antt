@@ -53,6 +53,10 @@ module _ {X : Type 0} where
   each-map P f [] h = tt
   each-map P f (x ∷ xs) h = (h.0, each-map P f xs h.1)
 
+  pub each-unmapped : {Y : Type 0} (P : Y → Type 0) (f : X → Y) (xs : List X) → Each P (map f xs) → Each (λ x. P (f x)) xs
+  each-unmapped P f [] h = tt
+  each-unmapped P f (x ∷ xs) h = (h.0, each-unmapped P f xs h.1)
+
   -- functions that agree on each element map to the same
   pub map-same : {Y : Type 0} (f g : X → Y) (P : X → Type 0) → ((x : X) → P x → f x ≡ g x) → (xs : List X) → Each P xs → map f xs ≡ map g xs
   map-same f g P e [] h = refl

@@ -86,7 +86,13 @@ module _ (t : Tables) (q : Queue Planned Delays) (equal : EqualIdsForEqualTerms 
         terms = r.terms;
         chosen = r.chosen;
         described = r.described;
+        index = r.index;
+        paired = r.paired;
+        names = r.names;
+        takers = r.takers;
         stems = r.stems;
+        open_holes = r.open_holes;
+        roots = r.roots;
         holes = r.holes;
         budget = subst B (sym learns) r.budget;
         queue = r.queue;

@@ -17,6 +17,7 @@ pub mod SolveLaws
 pub mod RowLaws
 pub mod RuleLaws
 pub mod PlaceLaws
+pub mod ShapeLaws
 pub mod TermLaws
 pub mod WholeLaws
 pub mod InstanceLaws

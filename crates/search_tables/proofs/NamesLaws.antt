@@ -14,7 +14,8 @@ use Rattle.witness_names.specs.Rows.{binder_of}
 use Rattle.instantiate.specs.Listing.{Listing}
 use Rattle.search_tables.specs.declared.command.Command.{Command}
 use Rattle.search_tables.specs.declared.command.Command.TheVariants.{Process, Mate, Confront, Inst, Grow, Choose, Describe}
-use Rattle.search_tables.specs.Names.{Names, sketch_at, head_at, command_at, typed_at, IsNumber, IsPlace, AreNumbers}
+use Rattle.search_tables.specs.HeadNumbers.{head_at}
+use Rattle.search_tables.specs.Names.{Names, sketch_at, command_at, typed_at, IsNumber, IsPlace, AreNumbers}
 use Rattle.search_tables.specs.Growing.{Longer, Continues}
 
 longer_length : {X : Type 0} (xs ys : List X) → Longer xs ys → (n : ℕ) → n < length xs → n < length ys
@@ -45,15 +46,12 @@ module _ (names names' : Names) (c : Continues names names') where
   sketch_stays : (p : ℕ) → p < length names.sketches → sketch_at names'.sketches p ≡ sketch_at names.sketches p
   sketch_stays p h = front_stays names.sketches names'.sketches c.sketches p (record { type = formula; partial = hole 0 }) h
 
-  head_stays : (h : ℕ) → h < length names.heads → head_at names'.heads h ≡ head_at names.heads h
-  head_stays h k = front_stays names.heads names'.heads c.heads h (bound 0) k
-
   pub command-stays : (d : Command) → AreNumbers names d → command_at names' d ≡ command_at names d
   command-stays (Process l) h = ap process (literal-stays l h)
   command-stays (Mate l m) h = ap₂ mate (literal-stays l h.0) (literal-stays m h.1)
   command-stays (Confront l m) h = ap₂ confront (literal-stays l h.0) (literal-stays m h.1)
   command-stays (Inst l u) h = ap₂ inst (literal-stays l h.0) (term-stays names.terms names'.terms c.terms u h.1)
-  command-stays (Grow p k) h = ap₂ grow (sketch_stays p h.0) (head_stays k h.1)
+  command-stays (Grow p k) h = ap (λ q. grow q (head_at k)) (sketch_stays p h.0)
   command-stays (Choose f) h = ap (λ t. choose (binder_of t) t) (term-stays names.terms names'.terms c.terms f h)
   command-stays (Describe f) h = ap (λ t. describe (binder_of t) t) (term-stays names.terms names'.terms c.terms f h)
 
@@ -62,6 +60,6 @@ module _ (names names' : Names) (c : Continues names names') where
   numbers-stay (Mate l m) h = (number-stays l h.0, number-stays m h.1)
   numbers-stay (Confront l m) h = (number-stays l h.0, number-stays m h.1)
   numbers-stay (Inst l u) h = (number-stays l h.0, place-stays names.terms names'.terms c.terms u h.1)
-  numbers-stay (Grow p k) h = (longer_length names.sketches names'.sketches c.sketches p h.0, longer_length names.heads names'.heads c.heads k h.1)
+  numbers-stay (Grow p k) h = (longer_length names.sketches names'.sketches c.sketches p h.0, h.1)
   numbers-stay (Choose f) h = place-stays names.terms names'.terms c.terms f h
   numbers-stay (Describe f) h = place-stays names.terms names'.terms c.terms f h

@@ -1,7 +1,7 @@
 -- Terms by their places.
-use Rattle.std.specs.Prelude.{◌≡◌, nat_eq, ℕ, Bool, true, false, List, [], ◌∷◌, map, filter, refl, if◌then◌else◌}
+use Rattle.std.specs.Prelude.{◌≡◌, ◌<◌, ◌+◌, nat_eq, ℕ, suc, Bool, true, false, List, [], ◌∷◌, ◌++◌, map, filter, length, get_or, refl, if◌then◌else◌}
 use Rattle.std.specs.List.{list_any}
-use Rattle.std.proofs.Common.{sym, ap, ◌∙◌}
+use Rattle.std.proofs.Common.{sym, ap, ap₂, ◌∙◌, arith, append_assoc, length-append}
 use Rattle.std.proofs.lemmas.Bool.{ne_eqb, eq-eqb}
 use Rattle.stt_core.specs.SimpleType.{SimpleType, same_type}
 use Rattle.stt_core.specs.Lambda.{Lambda}
@@ -15,6 +15,8 @@ use Rattle.term_bank.specs.Laws.{EqualIdsForEqualTerms}
 use Rattle.term_bank.specs.Terms.{term_at}
 use Rattle.instantiate.specs.Listing.{Listing, ids_of}
 use Rattle.search_tables.specs.Names.{typed_at, IsPlace}
+use Rattle.search_tables.specs.Standing.{places_where}
+use Rattle.search_tables.proofs.EachLaws.{each-weaker}
 
 -- whether two places have the same term
 pub same-places : (b : Content) → EqualIdsForEqualTerms b → (i j : ℕ) → IsPlace b.terms i → IsPlace b.terms j → same_term (term_at b.terms i) (term_at b.terms j) ≡ nat_eq i j
@@ -69,3 +71,35 @@ places-of terms a (l ∷ listed) h = go (same_type a l.0) (places-of terms a lis
     go : (b : Bool) → Each (IsPlace terms) (ids_of a listed) → Each (IsPlace terms) (map (λ (x : Listing). x.1) (if b then l ∷ filter (λ x. same_type a x.0) listed else filter (λ x. same_type a x.0) listed))
     go true rest = (h.0, rest)
     go false rest = rest
+
+-- what stands behind other elements
+at-end : {X : Type 0} (es : List X) (x : X) (xs : List X) (d : X) → get_or (es ++ x ∷ xs) (length es) d ≡ x
+at-end [] x xs d = refl
+at-end (e ∷ es) x xs d = at-end es x xs d
+
+-- The elements that pass a test are those at its places.
+pub filter-places : {X : Type 0} (test : X → Bool) (d : X) (es xs : List X) → filter test xs ≡ map (λ i. get_or (es ++ xs) i d) (places_where test (length es) xs)
+filter-places test d es [] = refl
+filter-places {X} test d es (x ∷ xs) = go (test x) rest
+  where
+    rest : filter test xs ≡ map (λ i. get_or (es ++ x ∷ xs) i d) (places_where test (suc (length es)) xs)
+    rest =
+        filter-places test d (es ++ x ∷ []) xs
+        ∙ ap₂ (λ (ys : List X) n. map (λ i. get_or ys i d) (places_where test n xs)) (append_assoc es (x ∷ []) xs) (let n = length-append es (x ∷ []) in omega (arith, n))
+
+    go : (b : Bool) → filter test xs ≡ map (λ i. get_or (es ++ x ∷ xs) i d) (places_where test (suc (length es)) xs)
+        → (if b then x ∷ filter test xs else filter test xs) ≡ map (λ i. get_or (es ++ x ∷ xs) i d) (if b then length es ∷ places_where test (suc (length es)) xs else places_where test (suc (length es)) xs)
+    go true e = ap₂ (λ y ys. y ∷ ys) (sym (at-end es x xs d)) e
+    go false e = e
+
+-- the places are those of elements
+pub places-within : {X : Type 0} (test : X → Bool) (n : ℕ) (xs : List X) → Each (λ i. i < n + length xs) (places_where test n xs)
+places-within test n [] = tt
+places-within {X} test n (x ∷ xs) = go (test x)
+  where
+    rest : Each (λ i. i < n + length (x ∷ xs)) (places_where test (suc n) xs)
+    rest = each-weaker (λ i. i < suc n + length xs) (λ i. i < n + length (x ∷ xs)) (λ i h. omega (arith, h)) (places_where test (suc n) xs) (places-within test (suc n) xs)
+
+    go : (b : Bool) → Each (λ i. i < n + length (x ∷ xs)) (if b then n ∷ places_where test (suc n) xs else places_where test (suc n) xs)
+    go true = (omega arith, rest)
+    go false = rest

@@ -194,7 +194,13 @@ module _ (t : Tables) (old new : Queue Planned Delays) (p : Planned) (entry : Is
         terms = r.terms;
         chosen = r.chosen;
         described = r.described;
+        index = r.index;
+        paired = r.paired;
+        names = r.names;
+        takers = r.takers;
         stems = r.stems;
+        open_holes = r.open_holes;
+        roots = r.roots;
         holes = r.holes;
         budget = subst B (sym adds.rule) r.budget;
         queue = subst Q (sym adds.entries) (each-last (λ e. IsEntry scope (names_in t) (sources t) e.command) old.entries added r.queue entry);

@@ -30,9 +30,9 @@ use Rattle.search_tables.proofs.RowLaws.{table-distinct}
 use Rattle.witness_names.specs.Rows.{row_of, rows_of}
 use Rattle.witness_names.proofs.StayLaws.{rows_same}
 
--- names without partial terms and heads
+-- names without partial terms
 abbrev plain : Basis → Names
-plain g = record { terms = g.bank.terms; atoms = g.lits; sketches = []; heads = [] }
+plain g = record { terms = g.bank.terms; atoms = g.lits; sketches = [] }
 
 module _ (old new : Basis) (grows : BasisGrows old new) (good : IsBasis old) where
   continues : Continues (plain old) (plain new)
@@ -41,7 +41,6 @@ module _ (old new : Basis) (grows : BasisGrows old new) (good : IsBasis old) whe
     terms = (grows.bank.further, grows.bank.terms);
     atoms = (grows.lits.further, grows.lits.is);
     sketches = ([], refl);
-    heads = ([], refl);
   }
 
   term_same : (u : ℕ) → IsPlace old.bank.terms u → term_at new.bank.terms u ≡ term_at old.bank.terms u

@@ -1,6 +1,7 @@
 -- Each command of a loop has the loop.
 use Rattle.std.specs.Prelude.{◌≡◌, ◌&&◌, not, ℕ, zero, suc, Bool, true, false, List, [], ◌∷◌, map, filter, slice_get, Option, Some, None, refl, if◌then◌else◌}
 use Rattle.std.proofs.Common.{sym, ap, subst, ◌∙◌, eqb-true}
+use Rattle.std.proofs.lemmas.Bool.{and_parts}
 use Rattle.std.proofs.lemmas.Option.{same_Some}
 use Rattle.stt_core.specs.Typing.{Scope}
 use Rattle.stt_tableau.specs.Literals.{Literal}
@@ -75,12 +76,12 @@ module _ (scope : Scope) (s : State) where
   in_negatives : (i : ℕ) (c c' : Meant) → IsSigned Negatives c → slice_get (over_negatives s c) i ≡ Some c' → (over_negatives s c' ≡ over_negatives s c) × IsSigned Negatives c'
   in_negatives i (mate l m) c' g h =
       let x = mapped-at (positive_first mate l) _ i c' h in
-      let e : c' ≡ mate l x.0 = x.1.1 ∙ positive_mate l x.0 l.positive g in
+      let e : c' ≡ mate l x.0 = x.1.1 ∙ positive_mate l x.0 l.positive (and_parts _ _ g).0 in
       let S : Meant → Type 0 = λ d. IsSigned Negatives d in
       (ap (over_negatives s) e, subst S (sym e) g)
   in_negatives i (confront l m) c' g h =
       let x = mapped-at (positive_first confront l) _ i c' h in
-      let e : c' ≡ confront l x.0 = x.1.1 ∙ positive_confront l x.0 l.positive g in
+      let e : c' ≡ confront l x.0 = x.1.1 ∙ positive_confront l x.0 l.positive (and_parts _ _ g).0 in
       let S : Meant → Type 0 = λ d. IsSigned Negatives d in
       (ap (over_negatives s) e, subst S (sym e) g)
   in_negatives i (process l) c' g h = cc
@@ -92,12 +93,12 @@ module _ (scope : Scope) (s : State) where
   in_positives : (i : ℕ) (c c' : Meant) → IsSigned Positives c → slice_get (over_positives s c) i ≡ Some c' → (over_positives s c' ≡ over_positives s c) × IsSigned Positives c'
   in_positives i (mate l m) c' g h =
       let x = mapped-at (positive_first mate m) _ i c' h in
-      let e : c' ≡ mate x.0 m = x.1.1 ∙ negative_mate m x.0 m.positive (unsigned m.positive g) in
+      let e : c' ≡ mate x.0 m = x.1.1 ∙ negative_mate m x.0 m.positive (unsigned m.positive (and_parts _ _ g).0) in
       let S : Meant → Type 0 = λ d. IsSigned Positives d in
       (ap (over_positives s) e, subst S (sym e) g)
   in_positives i (confront l m) c' g h =
       let x = mapped-at (positive_first confront m) _ i c' h in
-      let e : c' ≡ confront x.0 m = x.1.1 ∙ negative_confront m x.0 m.positive (unsigned m.positive g) in
+      let e : c' ≡ confront x.0 m = x.1.1 ∙ negative_confront m x.0 m.positive (unsigned m.positive (and_parts _ _ g).0) in
       let S : Meant → Type 0 = λ d. IsSigned Positives d in
       (ap (over_positives s) e, subst S (sym e) g)
   in_positives i (process l) c' g h = cc

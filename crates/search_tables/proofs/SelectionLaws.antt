@@ -67,7 +67,13 @@ module _ (t : Tables) (q : Queue Planned Delays) (equal : EqualIdsForEqualTerms 
       universals = r.universals;
       terms = r.terms;
       described = r.described;
+      index = r.index;
+      paired = r.paired;
+      names = r.names;
+      takers = r.takers;
       stems = r.stems;
+      open_holes = r.open_holes;
+      roots = r.roots;
       holes = r.holes;
       budget = r.budget;
       queue = r.queue;
@@ -94,7 +100,13 @@ module _ (t : Tables) (q : Queue Planned Delays) (equal : EqualIdsForEqualTerms 
       universals = r.universals;
       terms = r.terms;
       chosen = r.chosen;
+      index = r.index;
+      paired = r.paired;
+      names = r.names;
+      takers = r.takers;
       stems = r.stems;
+      open_holes = r.open_holes;
+      roots = r.roots;
       holes = r.holes;
       budget = r.budget;
       queue = r.queue;

@@ -30,7 +30,13 @@ module _ (t : Tables) (q : Queue Planned Delays) (r : IsRight t q) (equal : Equa
     terms = r.terms;
     chosen = r.chosen;
     described = r.described;
+    index = r.index;
+    paired = r.paired;
+    names = r.names;
+    takers = r.takers;
     stems = r.stems;
+    open_holes = r.open_holes;
+    roots = r.roots;
     holes = r.holes;
     queue = r.queue;
     solver = same ∙ r.solver;

@@ -1,13 +1,16 @@
 -- The state stays the same where the bank and the table of atoms grow.
-use Rattle.std.specs.Prelude.{◌≡◌, ◌&&◌, ℕ, Bool, List, [], ◌∷◌, map, filter, length, refl, if◌then◌else◌}
+use Rattle.std.specs.Prelude.{◌≡◌, ◌&&◌, ◌||◌, not, ℕ, suc, Bool, List, [], ◌∷◌, map, filter, length, refl, if◌then◌else◌}
+use Rattle.std.specs.List.{list_any}
 use Rattle.std.proofs.Common.{sym, ap, ap₂, subst, ◌∙◌, append-nil}
-use Rattle.stt_core.specs.SimpleType.{SimpleType}
+use Rattle.stt_core.specs.SimpleType.{SimpleType, same_type}
 use Rattle.stt_core.specs.Typing.{Scope}
 use Rattle.stt_tableau.specs.Literals.{Literal}
 use Rattle.stt_tableau.specs.Witnesses.{Row, with_rows}
 use Rattle.sat_base.specs.declared.literal.SatLit.{SatLit}
 use Rattle.command_queue.specs.Queue.{Queue}
 use Rattle.search_run.specs.Each.{Each}
+use Rattle.search_run.specs.Heads.{places_to}
+use Rattle.search_run.specs.Partners.{has_equal_sides}
 use Rattle.search_run.specs.Terms.{ranges_over}
 use Rattle.search_run.specs.Witness.{has_hole_of}
 use Rattle.search_run.specs.Means.Loops.{queue_of}
@@ -16,15 +19,18 @@ use Rattle.literal_map.specs.Atoms.{literal_at}
 use Rattle.witness_names.specs.Rows.{rows_of}
 use Rattle.witness_names.proofs.StayLaws.{rows_same}
 use Rattle.tableau_clauses.specs.Table.{the_clauses}
+use Rattle.mating_rules.specs.Noted.{IsRight as IsRightIndex}
+use Rattle.mating_rules.proofs.StayLaws.{right_stays}
 use Rattle.search_tables.specs.declared.command.Planned.{Planned}
 use Rattle.search_tables.specs.declared.command.Delays.{Delays}
 use Rattle.search_tables.specs.declared.tables.Basis.{Basis}
 use Rattle.search_tables.specs.declared.tables.Tables.{Tables}
 use Rattle.search_tables.specs.Growing.{Longer, Continues, BasisGrows, Extends}
-use Rattle.search_tables.specs.Heads.{the_hole_head, sketches_of}
+use Rattle.search_tables.specs.Heads.{sketches_of, AreStems}
+use Rattle.search_tables.specs.Holes.{holes_in}
 use Rattle.search_tables.specs.Names.{typed_at, IsNumber, IsPlace}
 use Rattle.search_tables.specs.Pending.{loop_at, IsEntry}
-use Rattle.search_tables.specs.Standing.{declared_scope, rows_in, sketches_in, names_in, sources, loops_in, the_state, is_universal, places_where, IsBasis, IsRight}
+use Rattle.search_tables.specs.Standing.{declared_scope, rows_in, scope_by, sketches_in, names_in, sources, loops_in, the_state, is_universal, can_pair, places_where, IsBasis, IsRight}
 use Rattle.search_tables.proofs.EachLaws.{each-weaker, map-same}
 use Rattle.search_tables.proofs.NamesLaws.{place-stays, term-stays, number-stays, literal-stays, typed-stays, command-stays, numbers-stay}
 use Rattle.search_tables.proofs.LoopStays.{loops-stay, entries-stay}
@@ -34,6 +40,12 @@ filter-same : {X : Type 0} (f g : X → Bool) (P : X → Type 0) → ((x : X) �
 filter-same f g P e [] h = refl
 filter-same {X} f g P e (x ∷ xs) h =
     ap (λ (b : Bool). if b then x ∷ filter f xs else filter f xs) (e x h.0) ∙ ap (λ (ys : List X). if g x then x ∷ ys else ys) (filter-same f g P e xs h.1)
+
+-- .. and at the same places
+places-same : {X : Type 0} (f g : X → Bool) (P : X → Type 0) → ((x : X) → P x → f x ≡ g x) → (n : ℕ) (xs : List X) → Each P xs → places_where f n xs ≡ places_where g n xs
+places-same f g P e n [] h = refl
+places-same {X} f g P e n (x ∷ xs) h =
+    ap (λ (b : Bool). if b then n ∷ places_where f (suc n) xs else places_where f (suc n) xs) (e x h.0) ∙ ap (λ (ys : List ℕ). if g x then n ∷ ys else ys) (places-same f g P e (suc n) xs h.1)
 
 module _ (t : Tables) (q : Queue Planned Delays) (g : Basis) (grows : BasisGrows t.basis g) (r : IsRight t q) where
   abbrev grown : Tables
@@ -45,8 +57,11 @@ module _ (t : Tables) (q : Queue Planned Delays) (g : Basis) (grows : BasisGrows
   scope_stays : declared_scope g.bank ≡ declared_scope t.basis.bank
   scope_stays = λ i. record { bases = length (grows.bank.bases i); names = map (λ c. c.type) (grows.bank.consts i); witnesses = [] }
 
+  scope_by_stays : scope_by g ≡ scope_by t.basis
+  scope_by_stays = ap₂ (λ (scope : Scope) (rows : List Row). with_rows scope rows) scope_stays rows_stay
+
   sketches_stay : sketches_in grown ≡ sketches_in t
-  sketches_stay = ap₂ (λ (scope : Scope) (rows : List Row). sketches_of (with_rows scope rows) (map the_hole_head t.heads) t.stems.items) scope_stays rows_stay
+  sketches_stay = ap (λ (scope : Scope). sketches_of scope t.stems.items) scope_by_stays
 
   itself : {X : Type 0} (xs ys : List X) → ys ≡ xs → Longer xs ys
   itself xs ys e = ([], e ∙ sym (append-nil xs))
@@ -57,7 +72,6 @@ module _ (t : Tables) (q : Queue Planned Delays) (g : Basis) (grows : BasisGrows
     terms = (grows.bank.further, grows.bank.terms);
     atoms = (grows.lits.further, grows.lits.is);
     sketches = itself (sketches_in t) (sketches_in grown) sketches_stay;
-    heads = itself (map the_hole_head t.heads) (map the_hole_head t.heads) refl;
   }
 
   abbrev old_literal : SatLit → Literal
@@ -117,6 +131,12 @@ module _ (t : Tables) (q : Queue Planned Delays) (g : Basis) (grows : BasisGrows
   universal_stays : (a : SimpleType) → (l : SatLit) → IsNumber t.basis.lits l → is_universal t.basis.bank.terms t.basis.lits a l ≡ is_universal g.bank.terms g.lits a l
   universal_stays a l h = ap (λ (m : Literal). l.positive && ranges_over a m.atom) (sym (literal-stays (names_in t) (names_in grown) continues l h))
 
+  pair_stays : (l : SatLit) → IsNumber t.basis.lits l → can_pair t.basis.bank.terms t.basis.lits l ≡ can_pair g.bank.terms g.lits l
+  pair_stays l h = ap (λ (m : Literal). l.positive || not (has_equal_sides m.atom)) (sym (literal-stays (names_in t) (names_in grown) continues l h))
+
+  index_stays : IsRightIndex g.bank.terms g.lits t.index
+  index_stays = right_stays t.basis.bank g.bank grows.bank t.basis.lits g.lits r.basis.atoms grows.lits t.index r.index
+
   -- The tables stay right.
   pub right-stays : IsBasis g → IsRight grown q
   right-stays good =
@@ -127,11 +147,17 @@ module _ (t : Tables) (q : Queue Planned Delays) (g : Basis) (grows : BasisGrows
         solver = r.solver;
         seen = more_numbers t.seen r.seen;
         noted = more_numbers t.noted.items r.noted;
-        universals = λ a. r.universals a ∙ ap (map (λ l. l.var.0)) (filter-same (is_universal t.basis.bank.terms t.basis.lits a) (is_universal g.bank.terms g.lits a) (IsNumber t.basis.lits) (universal_stays a) t.noted.items r.noted);
+        index = index_stays;
+        paired = r.paired ∙ filter-same (can_pair t.basis.bank.terms t.basis.lits) (can_pair g.bank.terms g.lits) (IsNumber t.basis.lits) pair_stays t.noted.items r.noted;
+        universals = λ a. r.universals a ∙ places-same (is_universal t.basis.bank.terms t.basis.lits a) (is_universal g.bank.terms g.lits a) (IsNumber t.basis.lits) (universal_stays a) 0 t.noted.items r.noted;
+        names = λ n. r.names n ∙ ap (λ (scope : Scope). places_to n 0 scope.names) (sym scope_stays);
+        takers = λ n. r.takers n ∙ ap (λ (rows : List Row). places_to n 0 (map (λ r. r.type) rows)) (sym rows_stay);
         terms = each-weaker (λ u. IsPlace t.basis.bank.terms u.1) (λ u. IsPlace g.bank.terms u.1) (λ u h. place-stays t.basis.bank.terms g.bank.terms continues.terms u.1 h) t.terms r.terms;
         chosen = more_places t.chosen r.chosen;
         described = more_places t.described r.described;
-        stems = r.stems;
+        stems = subst (λ scope. AreStems scope [] t.stems.items) (sym scope_by_stays) r.stems;
+        open_holes = r.open_holes ∙ ap (map (λ p. holes_in [] p.partial)) (sym sketches_stay);
+        roots = λ a. ap (list_any (λ p. same_type a p.type)) sketches_stay ∙ r.roots a;
         budget = r.budget;
         holes = λ n. r.holes n ∙ ap (places_where (has_hole_of n) 0) (sym sketches_stay);
         queue = subst Q (sym scope_stays)

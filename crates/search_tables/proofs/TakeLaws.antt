@@ -148,7 +148,13 @@ module _ (t : Tables) (old mid : Queue Planned Delays) (e : Entry Planned) (take
         terms = r.terms;
         chosen = r.chosen;
         described = r.described;
+        index = r.index;
+        paired = r.paired;
+        names = r.names;
+        takers = r.takers;
         stems = r.stems;
+        open_holes = r.open_holes;
+        roots = r.roots;
         holes = r.holes;
         budget = subst B (sym k) r.budget;
         queue = h;

@@ -1,9 +1,9 @@
 -- Terms for instances.
-use Rattle.std.specs.Prelude.{◌≡◌, ◌<◌, ◌≤◌, ◌&&◌, nat_eq, ℕ, Bool, true, false, List, [], ◌∷◌, ◌++◌, map, filter, drop, get_or, length, refl, if◌then◌else◌}
+use Rattle.std.specs.Prelude.{◌≡◌, ◌<◌, ◌≤◌, ◌&&◌, nat_eq, ℕ, Bool, true, false, List, [], ◌∷◌, ◌++◌, map, filter, drop, get_or, slice_get, Some, length, refl, if◌then◌else◌}
 use Rattle.std.specs.List.{list_any}
 use Rattle.std.proofs.Common.{sym, ap, ap₂, subst, ◌∙◌, append-nil, add-zero, arith}
-use Rattle.std.proofs.lemmas.Bool.{and_parts}
 use Rattle.std.proofs.lemmas.List.{length-map}
+use Rattle.std.proofs.lemmas.Option.{get_or_from_slice_get}
 use Rattle.stt_core.specs.SimpleType.{SimpleType}
 use Rattle.stt_core.specs.Lambda.{Lambda}
 use Rattle.stt_core.specs.SameTerm.{same_term}
@@ -19,7 +19,7 @@ use Rattle.search_run.specs.Means.Loops.{queue_of}
 use Rattle.search_run.proofs.TypedPushes.{is_over}
 use Rattle.term_bank.specs.Laws.{EqualIdsForEqualTerms}
 use Rattle.term_bank.specs.Terms.{term_at}
-use Rattle.literal_map.specs.Atoms.{literal_at, atom_at}
+use Rattle.literal_map.specs.Atoms.{literal_at}
 use Rattle.instantiate.specs.Listing.{Listing, ids_of, with_listed}
 use Rattle.search_tables.specs.declared.command.Command.TheVariants.{Inst}
 use Rattle.search_tables.specs.declared.command.Over.TheVariants.{Universals}
@@ -29,9 +29,9 @@ use Rattle.search_tables.specs.declared.tables.Tables.{Tables}
 use Rattle.search_tables.specs.Growing.{Longer, Extends}
 use Rattle.search_tables.specs.Names.{typed_at, command_at, IsNumber, IsPlace}
 use Rattle.search_tables.specs.Pending.{range_of, loop_over}
-use Rattle.search_tables.specs.Standing.{declared_scope, names_in, sources, parts, loops_in, the_state, is_universal, universal_of, IsRight}
-use Rattle.search_tables.proofs.EachLaws.{each-last}
-use Rattle.search_tables.proofs.PlaceLaws.{any-places, filter-mapped, terms-of, each-passes, places-of}
+use Rattle.search_tables.specs.Standing.{declared_scope, names_in, sources, parts, loops_in, the_state, is_universal, IsRight}
+use Rattle.search_tables.proofs.EachLaws.{each-last, each-weaker, each-unmapped}
+use Rattle.search_tables.proofs.PlaceLaws.{any-places, filter-mapped, terms-of, each-passes, places-of, filter-places, places-within}
 use Rattle.search_tables.proofs.LoopStays.{loops-stay, entries-stay}
 
 itself : {X : Type 0} (xs : List X) → Longer xs xs
@@ -49,48 +49,59 @@ module _ (t : Tables) (q : Queue Planned Delays) (r : IsRight t q) (a : SimpleTy
   abbrev d : SatLit → Literal
   d = literal_at t.basis.bank.terms t.basis.lits
 
+  -- the noted literal at a place
+  abbrev pub noted_at : ℕ → SatLit
+  noted_at i = get_or t.noted.items i (record { var = record { 0 = 0 }; positive = true })
+
+  pub noted-is : (i : ℕ) (l : SatLit) → slice_get t.noted.items i ≡ Some l → l ≡ noted_at i
+  noted-is i l h = sym (get_or_from_slice_get t.noted.items i l (record { var = record { 0 = 0 }; positive = true }) h)
+
   abbrev passing : List SatLit
   passing = filter (is_universal t.basis.bank.terms t.basis.lits a) t.noted.items
-
-  positive_ones : (ls : List SatLit) → Each (λ l. IsNumber t.basis.lits l × (is_universal t.basis.bank.terms t.basis.lits a l ≡ true)) ls → ls ≡ map universal_of (map (λ l. l.var.0) ls)
-  positive_ones [] h = refl
-  positive_ones (l ∷ ls) h =
-      let p = and_parts _ _ h.0.1 in
-      ap₂ (λ x xs. x ∷ xs) (ap (λ (b : Bool). record l { positive = b }) p.0) (positive_ones ls h.1)
 
   each_passing : Each (λ l. IsNumber t.basis.lits l × (is_universal t.basis.bank.terms t.basis.lits a l ≡ true)) passing
   each_passing = each-passes (IsNumber t.basis.lits) (is_universal t.basis.bank.terms t.basis.lits a) t.noted.items r.noted
 
-  passing_are : passing ≡ map universal_of (ids_of a t.universals)
-  passing_are = positive_ones passing each_passing ∙ ap (map universal_of) (sym (r.universals a))
+  passing_are : passing ≡ map noted_at (ids_of a t.universals)
+  passing_are =
+      filter-places (is_universal t.basis.bank.terms t.basis.lits a) (record { var = record { 0 = 0 }; positive = true }) [] t.noted.items
+      ∙ ap (map noted_at) (sym (r.universals a))
 
-  -- the universal literals of the type, by their numbers
-  pub universals-are : universals a (sources t) ≡ map d (map universal_of (ids_of a t.universals))
+  pub universals-within : Each (λ i. i < length t.noted.items) (ids_of a t.universals)
+  universals-within = subst (Each (λ i. i < length t.noted.items)) (sym (r.universals a)) (places-within (is_universal t.basis.bank.terms t.basis.lits a) 0 t.noted.items)
+
+  pub universal-numbers : Each (λ i. IsNumber t.basis.lits (noted_at i)) (ids_of a t.universals)
+  universal-numbers =
+      each-unmapped (IsNumber t.basis.lits) noted_at (ids_of a t.universals)
+      (subst (Each (IsNumber t.basis.lits)) passing_are (each-weaker (λ l. IsNumber t.basis.lits l × (is_universal t.basis.bank.terms t.basis.lits a l ≡ true)) (IsNumber t.basis.lits) (λ l h. h.0) passing each_passing))
+
+  -- the universal literals of the type, by their places
+  pub universals-are : universals a (sources t) ≡ map d (map noted_at (ids_of a t.universals))
   universals-are = filter-mapped (λ (l : Literal). l.positive && ranges_over a l.atom) d t.noted.items ∙ ap (map d) passing_are
 
   module _ (v : ℕ) (vs : List ℕ) (ids : ids_of a t.universals ≡ v ∷ vs) where
-    first_passes : IsNumber t.basis.lits (universal_of v) × (is_universal t.basis.bank.terms t.basis.lits a (universal_of v) ≡ true)
+    first_passes : IsNumber t.basis.lits (noted_at v) × (is_universal t.basis.bank.terms t.basis.lits a (noted_at v) ≡ true)
     first_passes =
         let P : List SatLit → Type 0 = λ ls. Each (λ l. IsNumber t.basis.lits l × (is_universal t.basis.bank.terms t.basis.lits a l ≡ true)) ls in
-        (subst P (passing_are ∙ ap (map universal_of) ids) each_passing).0
+        (subst P (passing_are ∙ ap (map noted_at) ids) each_passing).0
 
-    pub first-number : IsNumber t.basis.lits (universal_of v)
+    pub first-number : IsNumber t.basis.lits (noted_at v)
     first-number = first_passes.0
 
-    pub first-range : range_of (atom_at t.basis.bank.terms t.basis.lits v) ≡ a
-    first-range = range-is a (d (universal_of v)) first_passes.1
+    pub first-range : range_of (d (noted_at v)).atom ≡ a
+    first-range = range-is a (d (noted_at v)) first_passes.1
 
     -- the whole loop over the universal literals of the type
-    pub universals-loop : (u : ℕ) → loop_over (declared_scope t.basis.bank) (sources t) Universals (command_at (names_in t) (Inst (universal_of v) u)) ≡ map (λ k. inst k (term_at t.basis.bank.terms u)) (universals a (sources t))
+    pub universals-loop : (u : ℕ) → loop_over (declared_scope t.basis.bank) (sources t) Universals (command_at (names_in t) (Inst (noted_at v) u)) ≡ map (λ k. inst k (term_at t.basis.bank.terms u)) (universals a (sources t))
     universals-loop u = ap (λ b. map (λ k. inst k (term_at t.basis.bank.terms u)) (universals b (sources t))) first-range
 
-    pub universals-begin : (u : ℕ) → map (λ k. inst k (term_at t.basis.bank.terms u)) (universals a (sources t)) ≡ command_at (names_in t) (Inst (universal_of v) u) ∷ map (λ k. inst k (term_at t.basis.bank.terms u)) (map d (map universal_of vs))
-    universals-begin u = ap (map (λ k. inst k (term_at t.basis.bank.terms u))) (universals-are ∙ ap (λ is. map d (map universal_of is)) ids)
+    pub universals-begin : (u : ℕ) → map (λ k. inst k (term_at t.basis.bank.terms u)) (universals a (sources t)) ≡ command_at (names_in t) (Inst (noted_at v) u) ∷ map (λ k. inst k (term_at t.basis.bank.terms u)) (map d (map noted_at vs))
+    universals-begin u = ap (map (λ k. inst k (term_at t.basis.bank.terms u))) (universals-are ∙ ap (λ is. map d (map noted_at is)) ids)
 
   pub universals-length : (u : Lambda) → length (map (λ k. inst k u) (universals a (sources t))) ≡ length (ids_of a t.universals)
   universals-length u =
       length-map (universals a (sources t)) (λ k. inst k u)
-      ∙ ap length universals-are ∙ length-map (map universal_of (ids_of a t.universals)) d ∙ length-map (ids_of a t.universals) universal_of
+      ∙ ap length universals-are ∙ length-map (map noted_at (ids_of a t.universals)) d ∙ length-map (ids_of a t.universals) noted_at
 
   -- A TERM MORE
 
@@ -147,7 +158,13 @@ module _ (t : Tables) (q : Queue Planned Delays) (r : IsRight t q) (a : SimpleTy
       universals = r.universals;
       chosen = r.chosen;
       described = r.described;
+      index = r.index;
+      paired = r.paired;
+      names = r.names;
+      takers = r.takers;
       stems = r.stems;
+      open_holes = r.open_holes;
+      roots = r.roots;
       holes = r.holes;
       budget = r.budget;
       terms = each-last (λ (l : Listing). IsPlace t.basis.bank.terms l.1) t.terms (a, id) r.terms place;

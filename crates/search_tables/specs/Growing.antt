@@ -1,9 +1,10 @@
 -- Tables that grow.
-use Rattle.std.specs.Prelude.{◌≡◌, List, ◌++◌}
+use Rattle.std.specs.Prelude.{◌≡◌, ◌≤◌, suc, List, ◌++◌, length}
 use Rattle.std.specs.List.{All}
 use Rattle.search_run.specs.State.{State}
 use Rattle.term_bank.specs.Content.{Grows}
 use Rattle.literal_map.specs.Atoms.{Begins}
+use Rattle.tableau_rules.specs.Changes.{Widens}
 use Rattle.search_tables.specs.declared.tables.Basis.{Basis}
 use Rattle.search_tables.specs.Names.{Names, IsPlace}
 
@@ -17,13 +18,19 @@ pub record Continues (old new : Names) : Type 0 where
   pub terms : Longer old.terms new.terms
   pub atoms : Longer old.atoms new.atoms
   pub sketches : Longer old.sketches new.sketches
-  pub heads : Longer old.heads new.heads
 
 -- further terms and atoms stand behind the earlier ones
 pub record BasisGrows (old new : Basis) : Type 0 where
   pub bank : Grows old.bank new.bank
   pub lits : Begins old.lits new.lits
   pub witnesses : new.witnesses ≡ old.witnesses
+
+-- further terms, atoms and witnesses stand behind the earlier ones, one witness at most
+pub record BasisWidens (old new : Basis) : Type 0 where
+  pub bank : Widens old.bank new.bank
+  pub lits : Begins old.lits new.lits
+  pub witnesses : Longer old.witnesses new.witnesses
+  pub few : length new.witnesses ≤ suc (length old.witnesses)
 
 -- what loops go over has become longer
 pub record Extends (old new : State) : Type 0 where

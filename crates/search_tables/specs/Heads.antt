@@ -1,5 +1,5 @@
 -- Heads of holes, and partial terms by what they grew from.
-use Rattle.std.specs.Prelude.{◌<◌, ℕ, suc, List, [], ◌∷◌, ◌++◌}
+use Rattle.std.specs.Prelude.{◌<◌, List, [], ◌∷◌, ◌++◌, length}
 use Rattle.stt_core.specs.SimpleType.{base}
 use Rattle.stt_core.specs.Lambda.{Lambda, bound, constant, name, witness, falsity, negation, implication, all, equality, choice}
 use Rattle.stt_core.specs.Typing.{Scope}
@@ -7,7 +7,8 @@ use Rattle.stt_core.specs.View.{the_type}
 use Rattle.search_run.specs.Partial.{blank}
 use Rattle.search_run.specs.State.{Sketch}
 use Rattle.search_run.specs.Commands.{grown_by}
-use Rattle.search_tables.specs.Names.{sketch_at, head_at}
+use Rattle.instantiate.specs.Growing.{TakesHead}
+use Rattle.search_tables.specs.Names.{sketch_at}
 use Rattle.search_tables.specs.declared.head.HoleHead.{HoleHead}
 use Rattle.search_tables.specs.declared.head.HoleHead.TheVariants.{Bound, Name, Wit, False, Not, Imp, All, Eq, Choice}
 use Rattle.search_tables.specs.declared.stem.Stem.{Stem}
@@ -25,25 +26,25 @@ the_hole_head (Eq b) = constant (equality (base b))
 the_hole_head (Choice b) = constant (choice (base b))
 
 -- the partial term of a stem, where the earlier ones are known
-abbrev pub sketch_of : Scope → List Lambda → List Sketch → Stem → Sketch
-sketch_of scope heads earlier (Blank a) = record { type = the_type a; partial = blank (the_type a) }
-sketch_of scope heads earlier (Grown p h) = grown_by scope (head_at heads h) (sketch_at earlier p)
+abbrev pub sketch_of : Scope → List Sketch → Stem → Sketch
+sketch_of scope earlier (Blank a) = record { type = the_type a; partial = blank (the_type a) }
+sketch_of scope earlier (Grown p h) = grown_by scope (the_hole_head h) (sketch_at earlier p)
 
 -- partial terms, with those of further stems
-abbrev pub sketches_after : Scope → List Lambda → List Sketch → List Stem → List Sketch
-sketches_after scope heads earlier [] = earlier
-sketches_after scope heads earlier (s ∷ stems) = sketches_after scope heads (earlier ++ sketch_of scope heads earlier s ∷ []) stems
+abbrev pub sketches_after : Scope → List Sketch → List Stem → List Sketch
+sketches_after scope earlier [] = earlier
+sketches_after scope earlier (s ∷ stems) = sketches_after scope (earlier ++ sketch_of scope earlier s ∷ []) stems
 
 -- the partial terms of stems
-abbrev pub sketches_of : Scope → List Lambda → List Stem → List Sketch
-sketches_of scope heads stems = sketches_after scope heads [] stems
+abbrev pub sketches_of : Scope → List Stem → List Sketch
+sketches_of scope stems = sketches_after scope [] stems
 
--- what the stem stands on has a smaller number
-abbrev pub IsStem : ℕ → ℕ → Stem → Type 0
-IsStem heads n (Blank a) = Unit {0}
-IsStem heads n (Grown p h) = (p < n) × (h < heads)
+-- the stem stands on an earlier partial term, and its head has a type at the first hole there
+abbrev pub IsStem : Scope → List Sketch → Stem → Type 0
+IsStem scope earlier (Blank a) = Unit {0}
+IsStem scope earlier (Grown p h) = (p < length earlier) × TakesHead scope (sketch_at earlier p).partial (the_hole_head h)
 
--- each stem stands on earlier ones, of which the first has this number
-abbrev pub AreStems : ℕ → ℕ → List Stem → Type 0
-AreStems heads n [] = Unit {0}
-AreStems heads n (s ∷ stems) = IsStem heads n s × AreStems heads (suc n) stems
+-- each stem stands on earlier ones
+abbrev pub AreStems : Scope → List Sketch → List Stem → Type 0
+AreStems scope earlier [] = Unit {0}
+AreStems scope earlier (s ∷ stems) = IsStem scope earlier s × AreStems scope (earlier ++ sketch_of scope earlier s ∷ []) stems

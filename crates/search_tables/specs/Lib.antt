@@ -1,8 +1,11 @@
 pub mod Delays
+pub mod HeadNumbers
 pub mod Names
 pub mod Pending
 pub mod Heads
+pub mod Holes
 pub mod Rests
 pub mod Standing
 pub mod Growing
+pub mod Shapes
 pub mod Taking

@@ -1,6 +1,6 @@
 -- The commands that are left of a loop of pushes.
-use Rattle.std.specs.Prelude.{◌≡◌, Bool, true, not, ℕ, ◌+◌, ◌-◌, ◌≤◌, ◌<◌, ◌⊎◌, List, [], ◌∷◌, map, filter, take, drop, length, nat_lt, Option, Some, None, if◌then◌else◌}
-use Rattle.stt_core.specs.SimpleType.{SimpleType, formula}
+use Rattle.std.specs.Prelude.{◌≡◌, ◌&&◌, Bool, true, false, not, ℕ, suc, ◌+◌, ◌-◌, ◌≤◌, ◌<◌, ◌⊎◌, List, [], ◌∷◌, map, filter, take, drop, length, nat_lt, Option, Some, None, if◌then◌else◌}
+use Rattle.stt_core.specs.SimpleType.{SimpleType, base, formula}
 use Rattle.stt_core.specs.Lambda.{Lambda, constant, app, all, equality}
 use Rattle.stt_core.specs.Typing.{Scope}
 use Rattle.stt_tableau.specs.Witnesses.{with_rows}
@@ -8,6 +8,7 @@ use Rattle.search_run.specs.Partial.{Hole, first_hole}
 use Rattle.search_run.specs.Heads.{heads_for}
 use Rattle.search_run.specs.Terms.{terms_of, universals}
 use Rattle.search_run.specs.Partners.{matings, confrontations}
+use Rattle.search_run.specs.Spine.{is_spine}
 use Rattle.search_run.specs.State.{State, Command as Meant, mate, confront, inst, grow}
 use Rattle.search_run.specs.Witness.{has_hole_of}
 use Rattle.search_run.specs.Means.Loops.{Loop}
@@ -92,15 +93,20 @@ HasWitnesses s Positives = Unit {0}
 HasWitnesses s (Heads n) = n ≤ length s.rows
 HasWitnesses s Parked = Unit {0}
 
--- the literal whose partners a loop goes over has the sign that the loop says
+-- whether the formula is an equation on a base type other than that of formulas
+abbrev pub is_base_equation : Lambda → Bool
+is_base_equation (app (app (constant (equality (base (suc n)))) s) t) = true
+is_base_equation t = false
+
+-- the literal whose partners a loop goes over has the sign that the loop says, and can have partners for such commands
 abbrev pub has_positive : Meant → Bool
-has_positive (mate l m) = l.positive
-has_positive (confront l m) = l.positive
+has_positive (mate l m) = l.positive && is_spine l.atom
+has_positive (confront l m) = l.positive && is_base_equation l.atom
 has_positive c = true
 
 abbrev pub has_negative : Meant → Bool
-has_negative (mate l m) = not m.positive
-has_negative (confront l m) = not m.positive
+has_negative (mate l m) = not m.positive && is_spine m.atom
+has_negative (confront l m) = not m.positive && is_base_equation m.atom
 has_negative c = true
 
 abbrev pub IsSigned : Over → Meant → Type 0

@@ -1,12 +1,14 @@
 -- The state that the tables stand for.
-use Rattle.std.specs.Prelude.{◌≡◌, ◌≤◌, ◌&&◌, ℕ, suc, Bool, true, List, [], ◌∷◌, map, filter, length, if◌then◌else◌}
-use Rattle.std.specs.List.{All}
-use Rattle.stt_core.specs.SimpleType.{SimpleType, base}
+use Rattle.std.specs.Prelude.{◌≡◌, ◌≤◌, ◌&&◌, ◌||◌, not, ℕ, suc, Bool, List, [], ◌∷◌, map, filter, length, if◌then◌else◌}
+use Rattle.std.specs.List.{All, list_any}
+use Rattle.stt_core.specs.SimpleType.{SimpleType, base, same_type}
 use Rattle.stt_core.specs.Lambda.{Lambda}
 use Rattle.stt_core.specs.Typing.{Scope}
 use Rattle.stt_tableau.specs.Witnesses.{Row, with_rows}
 use Rattle.sat_base.specs.declared.literal.SatLit.{SatLit}
 use Rattle.search_run.specs.Each.{Each}
+use Rattle.search_run.specs.Heads.{places_to}
+use Rattle.search_run.specs.Partners.{has_equal_sides}
 use Rattle.search_run.specs.Terms.{ranges_over}
 use Rattle.search_run.specs.Witness.{has_hole_of}
 use Rattle.search_run.specs.State.{State, Setting, Sketch, Command}
@@ -18,6 +20,7 @@ use Rattle.bank_normal.specs.Right.{IsRight as IsRightMemo}
 use Rattle.literal_map.specs.Atoms.{atom_at, literal_at, IsAtom}
 use Rattle.witness_names.specs.Rows.{rows_of, AreRows}
 use Rattle.tableau_clauses.specs.Table.{the_clauses}
+use Rattle.mating_rules.specs.Noted.{IsRight as IsRightIndex}
 use Rattle.instantiate.specs.Listing.{ids_of}
 use Rattle.sat_core.specs.Solver.{learned}
 use Rattle.command_queue.specs.declared.entry.Entry.{Entry}
@@ -28,7 +31,8 @@ use Rattle.search_tables.specs.declared.tables.Basis.{Basis}
 use Rattle.search_tables.specs.declared.tables.Tables.{Tables}
 use Rattle.search_tables.specs.Delays.{the_mode}
 use Rattle.search_tables.specs.Names.{Names, typed_at, IsNumber, IsPlace}
-use Rattle.search_tables.specs.Heads.{the_hole_head, sketches_of, AreStems}
+use Rattle.search_tables.specs.Heads.{sketches_of, AreStems}
+use Rattle.search_tables.specs.Holes.{holes_in}
 use Rattle.search_tables.specs.Pending.{loop_at, IsEntry}
 
 -- what is declared, without witnesses
@@ -46,10 +50,10 @@ abbrev pub setting_by : Tables → Queue Planned Delays → Setting
 setting_by t q = record { scope = declared_scope t.basis.bank; mode = the_mode q.rule.mode }
 
 abbrev pub sketches_in : Tables → List Sketch
-sketches_in t = sketches_of (scope_by t.basis) (map the_hole_head t.heads) t.stems.items
+sketches_in t = sketches_of (scope_by t.basis) t.stems.items
 
 abbrev pub names_in : Tables → Names
-names_in t = record { terms = t.basis.bank.terms; atoms = t.basis.lits; sketches = sketches_in t; heads = map the_hole_head t.heads }
+names_in t = record { terms = t.basis.bank.terms; atoms = t.basis.lits; sketches = sketches_in t }
 
 -- the state without the commands that wait
 abbrev pub parts : Tables → State
@@ -88,9 +92,9 @@ the_state t q = record (parts t) { queue = queue_of (loops_in t q.entries); push
 abbrev pub is_universal : List Lambda → List ℕ → SimpleType → SatLit → Bool
 is_universal terms atoms a l = l.positive && ranges_over a (atom_at terms atoms l.var.0)
 
--- the positive literal of a variable
-abbrev pub universal_of : ℕ → SatLit
-universal_of v = record { var = record { 0 = v }; positive = true }
+-- whether a literal can be the partner of another one: a negated equation with equal sides is none
+abbrev pub can_pair : List Lambda → List ℕ → SatLit → Bool
+can_pair terms atoms l = l.positive || not (has_equal_sides (atom_at terms atoms l.var.0))
 
 -- the places of the elements that pass a test, from a number on
 abbrev pub places_where : {X : Type 0} → (X → Bool) → ℕ → List X → List ℕ
@@ -104,18 +108,24 @@ pub record IsBasis (g : Basis) : Type 0 where
   pub typed : map (λ r. r.type) (rows_in g) ≡ g.bank.witnesses
   pub memo : IsRightMemo g.normal g.bank
 
--- the numbers in the tables are those of atoms, terms, partial terms and heads, and what is kept twice agrees
+-- the numbers in the tables are those of atoms, terms and partial terms, and what is kept twice agrees
 pub record IsRight (t : Tables) (q : Queue Planned Delays) : Type 0 where
   pub basis : IsBasis t.basis
   pub clauses : Each (Each (IsNumber t.basis.lits)) (the_clauses t.steps)
   pub solver : t.solver.clauses ≡ the_clauses t.steps
   pub seen : Each (IsNumber t.basis.lits) t.seen
   pub noted : Each (IsNumber t.basis.lits) t.noted.items
-  pub universals : (a : SimpleType) → ids_of a t.universals ≡ map (λ l. l.var.0) (filter (is_universal t.basis.bank.terms t.basis.lits a) t.noted.items)
+  pub index : IsRightIndex t.basis.bank.terms t.basis.lits t.index
+  pub paired : t.index.noted ≡ filter (can_pair t.basis.bank.terms t.basis.lits) t.noted.items
+  pub universals : (a : SimpleType) → ids_of a t.universals ≡ places_where (is_universal t.basis.bank.terms t.basis.lits a) 0 t.noted.items
   pub terms : Each (λ u. IsPlace t.basis.bank.terms u.1) t.terms
   pub chosen : Each (IsPlace t.basis.bank.terms) t.chosen
   pub described : Each (IsPlace t.basis.bank.terms) t.described
-  pub stems : AreStems (length t.heads) 0 t.stems.items
+  pub names : (n : ℕ) → ids_of (base n) t.names ≡ places_to n 0 (declared_scope t.basis.bank).names
+  pub takers : (n : ℕ) → ids_of (base n) t.takers ≡ places_to n 0 (map (λ r. r.type) (rows_in t.basis))
+  pub stems : AreStems (scope_by t.basis) [] t.stems.items
+  pub open_holes : t.open_holes ≡ map (λ p. holes_in [] p.partial) (sketches_in t)
+  pub roots : (a : SimpleType) → list_any (λ p. same_type a p.type) (sketches_in t) ≡ list_any (same_type a) t.roots
   pub holes : (n : ℕ) → ids_of (base n) t.holes ≡ places_where (has_hole_of n) 0 (sketches_in t)
   pub budget : length (learned t.solver) ≤ q.rule.mode.conflicts
   pub queue : Each (λ e. IsEntry (declared_scope t.basis.bank) (names_in t) (sources t) e.command) q.entries

@@ -1,27 +1,28 @@
-//! The heads that fill holes, by numbers.
-ghost use Rattle.std.specs.Prelude.{◌≡◌, ◌<◌, ◌++◌, [], length, slice_get, Some, IfOk};
+//! The heads that fill holes, and their numbers.
+ghost use Rattle.std.specs.Prelude.{◌≡◌};
 ghost use Rattle.stt_core.specs.View.{the_head};
+ghost use Rattle.search_tables.specs.HeadNumbers.{head_at, IsHeadNumber};
 ghost use Rattle.search_tables.specs.Heads.{the_hole_head};
 
-use indexmap::IndexSet;
-use std::alloc::{AllocError, Global};
-use std::marker::Model;
 use stt_core::{Head, Ty};
 
 /// A head that fits a hole of some base type: a variable, a name, a witness, or a constant of the logic, where the quantifiers, the
 /// equalities and the choices are those of base types.
-#[derive(Clone, Copy, Debug, PartialEq, Eq, Hash)]
+#[derive(Clone, Copy, Debug, PartialEq, Eq)]
 pub enum HoleHead {
     Bound(u32),
     Name(u32),
     Wit(u32),
-    False,
-    Not,
-    Imp,
     All(u32),
     Eq(u32),
     Choice(u32),
+    False,
+    Not,
+    Imp,
 }
+
+/// How many kinds of heads there are.
+const KINDS: usize = 9;
 
 /// The head.
 pub fn head_of(head: HoleHead) -> Head
@@ -31,59 +32,57 @@ pub fn head_of(head: HoleHead) -> Head
         HoleHead::Bound(k) => Head::Bound(k),
         HoleHead::Name(k) => Head::Name(k),
         HoleHead::Wit(k) => Head::Wit(k),
-        HoleHead::False => Head::False,
-        HoleHead::Not => Head::Not,
-        HoleHead::Imp => Head::Imp,
         HoleHead::All(b) => Head::All(Ty::Base(b)),
         HoleHead::Eq(b) => Head::Eq(Ty::Base(b)),
         HoleHead::Choice(b) => Head::Choice(Ty::Base(b)),
+        HoleHead::False => Head::False,
+        HoleHead::Not => Head::Not,
+        HoleHead::Imp => Head::Imp,
     }
 }
 
-/// Heads in the order in which they were first used. A head's number is its place.
-#[derive(Drop)]
-pub struct HeadSet {
-    heads: IndexSet<HoleHead>,
+/// The number of the head of a kind.
+fn number_of_kind(kind: usize, k: u32) -> usize
+    requires { kind < 9 }
+    ensures number { result ≡ k * 9 + kind }
+    ensures within { IsHeadNumber result }
+{
+    k as usize * KINDS + kind
 }
 
-impl Model for HeadSet {
-    ghost use Rattle.std.specs.Prelude.{List};
-    ghost use Rattle.search_tables.specs.declared.head.HoleHead.{HoleHead};
-
-    ghost Value = { List HoleHead };
-
-    ghost view = { λ set. set.heads.keys };
+/// The place of a head in the list of all heads, in which the kinds take turns.
+pub fn number_of(head: HoleHead) -> usize
+    ensures head { head_at result ≡ the_hole_head head }
+    ensures number { IsHeadNumber result }
+{
+    match head {
+        HoleHead::Bound(k) => number_of_kind(0, k),
+        HoleHead::Name(k) => number_of_kind(1, k),
+        HoleHead::Wit(k) => number_of_kind(2, k),
+        HoleHead::All(b) => number_of_kind(3, b),
+        HoleHead::Eq(b) => number_of_kind(4, b),
+        HoleHead::Choice(b) => number_of_kind(5, b),
+        HoleHead::False => number_of_kind(6, 0),
+        HoleHead::Not => number_of_kind(7, 0),
+        HoleHead::Imp => number_of_kind(8, 0),
+    }
 }
 
-impl HeadSet {
-    ghost use Rattle.std.specs.Prelude.{List};
-    ghost use Rattle.search_tables.specs.declared.head.HoleHead.{HoleHead};
-
-    pub fn new(alloc: Global) -> HeadSet
-        ensures { result ≡ [] }
-    {
-        HeadSet {
-            heads: IndexSet::new(alloc),
-        }
-    }
-
-    /// The number of a head, which gets the next one where it has none.
-    pub fn number(&mut self, head: HoleHead) -> Result<usize, AllocError>
-        ensures number { IfOk result (λ h. slice_get self.new h ≡ Some head) }
-        ensures begins { (further : List HoleHead) × (self.new ≡ self.old ++ further) }
-    {
-        let (number, _) = self.heads.insert_full(head)?;
-        Ok(number)
-    }
-
-    /// The head of a number.
-    pub fn head(&self, h: usize) -> HoleHead
-        requires { h < length self.now }
-        ensures { slice_get self.now h ≡ Some result }
-    {
-        match self.heads.get_index(h) {
-            Some(head) => *head,
-            None => unreachable!(),
-        }
+/// The head at a place of the list of all heads.
+pub fn numbered_head(h: usize) -> HoleHead
+    requires { IsHeadNumber h }
+    ensures { the_hole_head result ≡ head_at h }
+{
+    let k = (h / KINDS) as u32;
+    match h % KINDS {
+        0 => HoleHead::Bound(k),
+        1 => HoleHead::Name(k),
+        2 => HoleHead::Wit(k),
+        3 => HoleHead::All(k),
+        4 => HoleHead::Eq(k),
+        5 => HoleHead::Choice(k),
+        6 => HoleHead::False,
+        7 => HoleHead::Not,
+        _ => HoleHead::Imp,
     }
 }

@@ -1,10 +1,11 @@
 //! What a partial term grew from.
 
+use crate::head::HoleHead;
 use stt_core::Ty;
 
 /// A partial term: one hole under the binders of a type, or an earlier partial term with a head in its first hole.
 #[derive(Drop)]
 pub enum Stem {
     Blank(Ty),
-    Grown { parent: usize, head: usize },
+    Grown { parent: usize, head: HoleHead },
 }

@@ -1,7 +1,7 @@
 //! The tables of the search.
 
 use crate::command::Command;
-use crate::head::HeadSet;
+use crate::holes::OpenHoles;
 use crate::plan::Plan;
 use crate::set::{IdSet, LitSet};
 use crate::stem::Stem;
@@ -9,9 +9,11 @@ use bank_normal::Normaliser;
 use command_queue::Weigher;
 use instantiate::Enumerator;
 use literal_map::LitTable;
+use mating_rules::Index;
 use sat_base::SatLit;
 use sat_core::Solver;
 use std::alloc::Global;
+use stt_core::Types;
 use tableau_clauses::StepTable;
 use term_bank::Bank;
 use witness_names::Witnesses;
@@ -26,9 +28,10 @@ pub struct Basis {
 }
 
 /// What the search keeps beside the commands that wait: clauses, which the solver has too; the literals that were seen and those that were
-/// processed, of these the universal ones by the types over which they range; the terms by type; the predicates that were chosen by
-/// and those that were described; the partial terms by what they grew from, and their numbers by the base types of their first
-/// holes; and how many commands were carried out.
+/// processed, of these in an index those that can be partners, and the places of the universal ones by the types over which they range;
+/// the terms by type; the predicates that were chosen by and those that were described; the numbers of the names and of the witnesses
+/// by their target types; the partial terms by what they grew from, with their holes, their numbers by the base types of their first
+/// holes, and their types; and how many commands were carried out.
 #[derive(Drop)]
 pub struct Tables {
     pub basis: Basis,
@@ -36,13 +39,17 @@ pub struct Tables {
     pub solver: Solver,
     pub seen: LitSet,
     pub noted: Vec<SatLit>,
+    pub index: Index,
     pub universals: Enumerator,
     pub terms: Enumerator,
     pub chosen: IdSet,
     pub described: IdSet,
-    pub heads: HeadSet,
+    pub names: Enumerator,
+    pub takers: Enumerator,
     pub stems: Vec<Stem>,
+    pub open_holes: OpenHoles,
     pub holes: Enumerator,
+    pub roots: Types,
     pub done: u32,
     pub alloc: Global,
 }

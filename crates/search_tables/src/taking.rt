@@ -1,33 +1,12 @@
 //! The next command.
-ghost use Rattle.std.specs.Prelude.{◌≡◌, ◌≢◌, ◌<◌, [], length, Some, slice_get, IfOk, OnOk};
-ghost use Rattle.search_tables.specs.Names.{command_at, AreNumbers};
-ghost use Rattle.search_tables.specs.Pending.{loop_over, HasWitnesses};
-ghost use Rattle.search_tables.specs.Standing.{declared_scope, names_in, sources, IsRight};
+ghost use Rattle.std.specs.Prelude.{◌≡◌, ◌≢◌, ◌<◌, [], IfOk, OnOk};
+ghost use Rattle.search_tables.specs.Standing.{IsRight};
 ghost use Rattle.search_tables.specs.Taking.{TakesNext, rest_behind};
 
-use crate::command::{Command, Over, Planned, Rest};
-use crate::tables::{Core, Tables};
+use crate::command::{Command, Planned, Rest};
+use crate::tables::Core;
 use command_queue::{Entry, Weigher};
 use std::alloc::AllocError;
-
-impl Tables {
-    /// The command at a place of the loop of a command. This isn't built yet, and answers want of memory. Heads have their numbers before
-    /// commands with them are pushed.
-    pub fn command_of(
-        &self,
-        first: Command,
-        over: Over,
-        place: usize,
-    ) -> Result<Command, AllocError>
-        requires numbers { AreNumbers (names_in self.now) first }
-        requires witnesses { HasWitnesses (sources self.now) over }
-        requires within { place < length (loop_over (declared_scope self.now.basis.bank) (sources self.now) over (command_at (names_in self.now) first)) }
-        ensures command { IfOk result (λ c. slice_get (loop_over (declared_scope self.now.basis.bank) (sources self.now) over (command_at (names_in self.now) first)) place ≡ Some (command_at (names_in self.now) c)) }
-        ensures numbers { IfOk result (AreNumbers (names_in self.now)) }
-    {
-        Err(AllocError)
-    }
-}
 
 /// What is left without the first one.
 fn behind(rest: Rest) -> Rest

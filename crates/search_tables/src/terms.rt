@@ -5,25 +5,15 @@ ghost use Rattle.term_bank.specs.Terms.{term_at};
 ghost use Rattle.search_run.specs.Terms.{with_term};
 ghost use Rattle.search_tables.specs.Delays.{the_mode};
 ghost use Rattle.search_tables.specs.Names.{IsPlace};
-ghost use Rattle.search_tables.specs.Standing.{the_state, universal_of, IsRight};
+ghost use Rattle.search_tables.specs.Standing.{the_state, IsRight};
 
+use crate::clauses::literal_of;
 use crate::command::{Command, Over};
 use crate::tables::Core;
 use command_queue::Weigher;
-use sat_base::{SatLit, Var};
 use std::alloc::AllocError;
 use stt_core::Ty;
 use term_bank::{Id, equal_ids_for_equal_terms};
-
-/// The positive literal of a variable.
-pub(crate) fn universal(number: usize) -> SatLit
-    ensures { result ≡ universal_of number }
-{
-    SatLit {
-        var: Var(number),
-        positive: true,
-    }
-}
 
 impl<W: Weigher<Command>> Core<W> {
     /// A term of a type is for instances: where it is new, each universal literal over the type is to be instantiated with it.
@@ -44,7 +34,7 @@ impl<W: Weigher<Command>> Core<W> {
         if count == 0 {
             return Ok(());
         }
-        let first = Command::Inst(universal(universals[0]), id);
+        let first = Command::Inst(literal_of(self.tables.noted.as_slice(), universals[0]), id);
         self.push_whole(first, Over::Universals, count)?;
         Ok(())
     }

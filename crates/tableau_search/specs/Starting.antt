@@ -1,5 +1,5 @@
 -- Tables before the start, and start units.
-use Rattle.std.specs.Prelude.{◌≡◌, ℕ, [], ◌∷◌, ◌++◌, false, Some, if◌then◌else◌, List, take, slice_get}
+use Rattle.std.specs.Prelude.{◌≡◌, [], ◌∷◌, ◌++◌, false, if◌then◌else◌, List}
 use Rattle.std.specs.List.{list_any}
 use Rattle.stt_core.specs.Typing.{IsScope}
 use Rattle.stt_tableau.specs.Literals.{Literal}
@@ -39,6 +39,10 @@ pub record AddsUnit (lit : SatLit) (old new : Table) : Type 0 where
   pub clauses : new.0 ≡ (if list_any (same_clause numbers (lit ∷ [])) (the_clauses old) then old.0 else old.0 ++ (lit ∷ [], Start) ∷ [])
   pub instances : new.1 ≡ old.1
 
--- no literal stands among those before it
+-- no literal stands among those before it, of which the first ones are given
+abbrev pub AreApartAfter : List Literal → List Literal → Type 0
+AreApartAfter earlier [] = Unit {0}
+AreApartAfter earlier (l ∷ ls) = (has earlier l ≡ false) × AreApartAfter (earlier ++ l ∷ []) ls
+
 abbrev pub AreApart : List Literal → Type 0
-AreApart ls = (i : ℕ) (l : Literal) → slice_get ls i ≡ Some l → has (take i ls) l ≡ false
+AreApart ls = AreApartAfter [] ls

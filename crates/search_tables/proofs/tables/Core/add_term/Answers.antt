@@ -11,8 +11,8 @@ use Rattle.search_tables.specs.declared.command.Over.TheVariants.{Universals}
 use Rattle.search_tables.specs.Delays.{the_mode}
 use Rattle.search_tables.specs.Names.{command_at}
 use Rattle.search_tables.specs.Pending.{loop_over, BeginsWith}
-use Rattle.search_tables.specs.Standing.{declared_scope, names_in, sources, the_state, universal_of}
-use Rattle.search_tables.proofs.TermLaws.{was-there, right-term, is-new, universals-are, universals-loop, universals-begin, universals-length, first-number, pushed-nothing, head-is, no-head}
+use Rattle.search_tables.specs.Standing.{declared_scope, names_in, sources, the_state}
+use Rattle.search_tables.proofs.TermLaws.{was-there, right-term, is-new, noted_at, noted-is, universals-within, universals-are, universals-loop, universals-begin, universals-length, first-number, pushed-nothing, head-is, no-head}
 use Rattle.search_tables.proofs.tables.Core.add_term.Goals as goal
 
 was_there : (b : Bool) → not b ≡ false → b ≡ true
@@ -49,7 +49,7 @@ returns-then-count-eq0-clause-state g c =
     let mode = the_mode self.plan.rule.mode in
     let none : ids_of a self.tables.universals ≡ [] = sym c.terms_of-universals.ensures ∙ no-head c.terms_of-universals.result.now (omega (arith, c.if-count-eq0.true)) in
     sym (pushed-nothing mode after)
-    ∙ ap (λ (vs : List ℕ). pushed mode (map (λ l. inst l u) (map (literal_at self.tables.basis.bank.terms self.tables.basis.lits) (map universal_of vs))) after) (sym none)
+    ∙ ap (λ (vs : List ℕ). pushed mode (map (λ l. inst l u) (map (literal_at self.tables.basis.bank.terms self.tables.basis.lits) (map (noted_at self.tables self.plan c.requires.right a) vs))) after) (sym none)
     ∙ ap (λ ls. pushed mode (map (λ l. inst l u) ls) after) (sym (universals-are self.tables self.plan c.requires.right a))
     ∙ is-new self.tables self.plan c.requires.right a c.args.id c.requires.place c.equal_ids_for_equal_terms.ensures mode c.add_term.new.self c.in_ok-add_term.ensures.ok
     (was_new (list_any (nat_eq c.args.id) (ids_of a self.tables.terms)) (sym c.in_ok-add_term.ensures.fresh ∙ c.if-not-branch.false))
@@ -66,7 +66,7 @@ push_whole-requires-clause-numbers g c =
     let vs = c.terms_of-universals.result.now in
     let ids : ids_of a self.tables.universals ≡ get_or vs 0 0 ∷ drop 1 vs = sym c.terms_of-universals.ensures ∙ head-is vs (omega (arith, c.if-count-eq0.false)) in
     let N : SatLit → Type 0 = λ l. l.var.0 < length self.tables.basis.lits in
-    (subst N (sym c.universal.ensures) (first-number self.tables self.plan c.requires.right a (get_or vs 0 0) (drop 1 vs) ids), c.requires.place)
+    (subst N (sym (noted-is self.tables self.plan c.requires.right a (get_or vs 0 0) c.literal_of.result c.literal_of.ensures)) (first-number self.tables self.plan c.requires.right a (get_or vs 0 0) (drop 1 vs) ids), c.requires.place)
 
 pub push_whole-requires-clause-begins : goal.push_whole-requires-clause-begins
 push_whole-requires-clause-begins g c =
@@ -76,7 +76,7 @@ push_whole-requires-clause-begins g c =
     let vs = c.terms_of-universals.result.now in
     let ids : ids_of a self.tables.universals ≡ get_or vs 0 0 ∷ drop 1 vs = sym c.terms_of-universals.ensures ∙ head-is vs (omega (arith, c.if-count-eq0.false)) in
     let B : SatLit → Type 0 = λ l. let d = command_at (names_in t) (Inst l c.args.id) in BeginsWith d (loop_over (declared_scope t.basis.bank) (sources t) Universals d) in
-    subst B (sym c.universal.ensures)
+    subst B (sym (noted-is self.tables self.plan c.requires.right a (get_or vs 0 0) c.literal_of.result c.literal_of.ensures))
     (_, universals-loop self.tables self.plan c.requires.right a (get_or vs 0 0) (drop 1 vs) ids c.args.id ∙ universals-begin self.tables self.plan c.requires.right a (get_or vs 0 0) (drop 1 vs) ids c.args.id)
 
 pub push_whole-requires-clause-count : goal.push_whole-requires-clause-count
@@ -88,7 +88,7 @@ push_whole-requires-clause-count g c =
     let vs = c.terms_of-universals.result.now in
     let ids : ids_of a self.tables.universals ≡ get_or vs 0 0 ∷ drop 1 vs = sym c.terms_of-universals.ensures ∙ head-is vs (omega (arith, c.if-count-eq0.false)) in
     let C : SatLit → Type 0 = λ l. length vs ≡ length (loop_over (declared_scope t.basis.bank) (sources t) Universals (command_at (names_in t) (Inst l c.args.id))) in
-    subst C (sym c.universal.ensures)
+    subst C (sym (noted-is self.tables self.plan c.requires.right a (get_or vs 0 0) c.literal_of.result c.literal_of.ensures))
     (ap length c.terms_of-universals.ensures ∙ sym (universals-length self.tables self.plan c.requires.right a u)
     ∙ ap length (sym (universals-loop self.tables self.plan c.requires.right a (get_or vs 0 0) (drop 1 vs) ids c.args.id)))
 
@@ -102,7 +102,7 @@ returns-clause-state g c =
     let vs = c.terms_of-universals.result.now in
     let ids : ids_of a self.tables.universals ≡ get_or vs 0 0 ∷ drop 1 vs = sym c.terms_of-universals.ensures ∙ head-is vs (omega (arith, c.if-count-eq0.false)) in
     c.in_ok-push_whole.ensures.state
-    ∙ ap (λ (l : SatLit). pushed mode (loop_over (declared_scope t.basis.bank) (sources t) Universals (command_at (names_in t) (Inst l c.args.id))) after) c.universal.ensures
+    ∙ ap (λ (l : SatLit). pushed mode (loop_over (declared_scope t.basis.bank) (sources t) Universals (command_at (names_in t) (Inst l c.args.id))) after) (noted-is self.tables self.plan c.requires.right a (get_or vs 0 0) c.literal_of.result c.literal_of.ensures)
     ∙ ap (λ (cs : List Meant). pushed mode cs after) (universals-loop self.tables self.plan c.requires.right a (get_or vs 0 0) (drop 1 vs) ids c.args.id)
     ∙ is-new self.tables self.plan c.requires.right a c.args.id c.requires.place c.equal_ids_for_equal_terms.ensures mode c.add_term.new.self c.in_ok-add_term.ensures.ok
     (was_new (list_any (nat_eq c.args.id) (ids_of a self.tables.terms)) (sym c.in_ok-add_term.ensures.fresh ∙ c.if-not-branch.false))

@@ -95,3 +95,14 @@ returns-clause-right g c =
     right-more self.tables self.plan c.pop.new.self c.in-Some.entry c.in-Some.ensures.first c.pop.ensures.spaced c.requires.right
     c.in-Some-rest.rest c.in-Some-rest.is c.if-rest.false c.in_ok-next.next c.in_ok-next.ensures.command c.in_ok-next.ensures.numbers
     c.put_back.new.self (subst P c.behind.ensures c.in_ok-put_back.ensures)
+
+pub command_of-requires-clause-right : goal.command_of-requires-clause-right
+command_of-requires-clause-right g c = (c.args.self.now.plan, c.requires.right)
+
+pub command_of-requires-clause-signed : goal.command_of-requires-clause-signed
+command_of-requires-clause-signed g c =
+    let self = c.args.self.now in
+    let t = self.tables in
+    let T : Option Rest → Type 0 = λ o. AreThere (declared_scope t.basis.bank) (sources t) (command_at (names_in t) c.in-Some.entry.command.first) o in
+    let w = subst T c.in-Some-rest.is (entry-good (declared_scope t.basis.bank) (names_in t) (sources t) self.plan c.pop.new.self c.in-Some.entry c.in-Some.ensures.first c.pop.ensures.spaced c.requires.right.queue).later in
+    w.signed
