@@ -14,7 +14,7 @@ use Rattle.search_run.specs.Queue.{Waiting, is_before, first_of, next_command, w
 use Rattle.search_run.specs.State.{State, Setting, Command as Meant}
 use Rattle.search_run.specs.Commands.{carried_out}
 use Rattle.search_run.specs.After.{after_command, stepped, after}
-use Rattle.search_run.specs.TypedState.{IsTypedCommand}
+use Rattle.search_run.specs.TypedState.{IsTypedSketch, IsTypedCommand}
 use Rattle.search_run.specs.Means.Loops.{queue_of}
 use Rattle.search_run.proofs.NamingLaws.{each-joined, pick_good}
 use Rattle.search_run.proofs.TypedCommands.{after-typed}
@@ -25,7 +25,7 @@ use Rattle.search_tables.specs.declared.tables.Basis.{Basis}
 use Rattle.search_tables.specs.declared.tables.Tables.{Tables}
 use Rattle.search_tables.specs.Delays.{the_mode}
 use Rattle.search_tables.specs.Names.{command_at, IsNumber}
-use Rattle.search_tables.specs.Standing.{declared_scope, scope_by, names_in, setting_by, loops_in, the_state, IsRight}
+use Rattle.search_tables.specs.Standing.{declared_scope, scope_by, sketches_in, names_in, setting_by, loops_in, the_state, IsRight}
 use Rattle.search_tables.specs.Taking.{TakesNext}
 use Rattle.search_tables.proofs.EachLaws.{each-weaker}
 use Rattle.tableau_search.specs.Growth.{IsMade}
@@ -65,11 +65,17 @@ right-done t q n r = record {
   solver = r.solver;
   seen = r.seen;
   noted = r.noted;
+  index = r.index;
+  paired = r.paired;
   universals = r.universals;
   terms = r.terms;
   chosen = r.chosen;
   described = r.described;
+  names = r.names;
+  takers = r.takers;
   stems = r.stems;
+  open_holes = r.open_holes;
+  roots = r.roots;
   holes = r.holes;
   budget = r.budget;
   queue = r.queue;
@@ -92,6 +98,9 @@ module _ (t : Tables) (q q1 : Queue Planned Delays) (r : IsRunning t q) (c : Com
   taken-typed =
       let typed = after-typed setting r.declared (start_in t) r.start t.done s r.comes_to in
       next-good (λ w. IsTypedCommand (scope_by t.basis) w.command) s.queue _ typed.typed.queue takes.is_next
+
+  pub taken-sketches : Each (IsTypedSketch (scope_by t1.basis)) (sketches_in t1)
+  taken-sketches = (after-typed setting r.declared (start_in t) r.start t.done s r.comes_to).typed.parked
 
   pub taken-few : length t1.basis.witnesses < t1.done
   taken-few = omega (arith, r.few)

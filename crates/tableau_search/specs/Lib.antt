@@ -1,4 +1,5 @@
 pub mod Growth
+pub mod Shapes
 pub mod Developing
 pub mod Starting
 pub mod Running

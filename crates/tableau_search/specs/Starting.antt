@@ -1,38 +1,13 @@
--- Tables before the start, and start units.
+-- Start units.
 use Rattle.std.specs.Prelude.{◌≡◌, [], ◌∷◌, ◌++◌, false, if◌then◌else◌, List}
 use Rattle.std.specs.List.{list_any}
-use Rattle.stt_core.specs.Typing.{IsScope}
 use Rattle.stt_tableau.specs.Literals.{Literal}
 use Rattle.stt_tableau.specs.Start.{has}
 use Rattle.sat_base.specs.declared.literal.SatLit.{SatLit}
-use Rattle.bank_normal.specs.Right.{IsRight as IsRightMemo}
 use Rattle.search_run.specs.Clauses.{same_clause}
 use Rattle.search_run.specs.Numbered.{numbers}
 use Rattle.tableau_clauses.specs.declared.origin.Origin.TheVariants.{Start}
 use Rattle.tableau_clauses.specs.Table.{Table, the_clauses}
-use Rattle.search_tables.specs.declared.tables.Tables.{Tables}
-use Rattle.search_tables.specs.Standing.{declared_scope}
-
--- nothing is there beside what is declared
-pub record IsBlank (t : Tables) : Type 0 where
-  pub declared : IsScope (declared_scope t.basis.bank)
-  pub typed : t.basis.bank.witnesses ≡ []
-  pub bank : t.basis.bank.terms ≡ []
-  pub memo : IsRightMemo t.basis.normal t.basis.bank
-  pub lits : t.basis.lits ≡ []
-  pub witnesses : t.basis.witnesses ≡ []
-  pub steps : t.steps ≡ ([], [])
-  pub solver : t.solver ≡ record { values = []; clauses = []; log = []; is_refuted = false }
-  pub seen : t.seen ≡ []
-  pub noted : t.noted.items ≡ []
-  pub universals : t.universals ≡ []
-  pub terms : t.terms ≡ []
-  pub chosen : t.chosen ≡ []
-  pub described : t.described ≡ []
-  pub heads : t.heads ≡ []
-  pub stems : t.stems.items ≡ []
-  pub holes : t.holes ≡ []
-  pub done : t.done ≡ 0
 
 -- the literal's clause stands behind the earlier ones as a start unit, unless it is one of them
 pub record AddsUnit (lit : SatLit) (old new : Table) : Type 0 where

@@ -4,6 +4,7 @@
 
 mod advance;
 mod carry;
+mod equation;
 mod instances;
 mod process;
 mod search;

@@ -65,7 +65,7 @@ impl<W: Weigher<Command>> Search<W> {
         ensures ready { IfOk result (λ s. s.is_refused ≡ false) }
     {
         let literals = start_literals(alloc, problem)?;
-        let mut core = new_core(alloc, &problem.signature, mode, weigher)?;
+        let mut core = new_core(alloc, &problem.signature, *mode, weigher)?;
         start_all(&mut core, &literals)?;
         Ok(Search {
             core,

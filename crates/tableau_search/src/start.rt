@@ -5,6 +5,7 @@ ghost use Rattle.stt_core.specs.Typing.{IsScope};
 ghost use Rattle.stt_tableau.specs.Literals.{IsLiteral, IsBranch};
 ghost use Rattle.sat_base.specs.declared.literal.SatLit.{SatLit};
 ghost use Rattle.sat_core.specs.Solver.{learned};
+ghost use Rattle.search_run.specs.After.{nothing_yet};
 ghost use Rattle.search_run.specs.Instances.{with_instance};
 ghost use Rattle.search_run.specs.Shallow.{is_shallow_literal};
 ghost use Rattle.term_bank.specs.Content.{content_scope};
@@ -15,16 +16,15 @@ ghost use Rattle.tableau_clauses.specs.Table.{the_clauses};
 ghost use Rattle.search_tables.specs.Names.{IsNumber};
 ghost use Rattle.search_tables.specs.Standing.{declared_scope, the_state, IsBasis, IsRight};
 ghost use Rattle.tableau_search.specs.Running.{start_in, IsRunning};
-ghost use Rattle.tableau_search.specs.Starting.{IsBlank, AddsUnit, AreApart};
+ghost use Rattle.tableau_search.specs.Starting.{AddsUnit, AreApart};
 
 use bank_normal::Normaliser;
 use command_queue::Weigher;
-use instantiate::Enumerator;
 use literal_map::LitTable;
 use mode_file::Mode;
 use sat_base::{Clause, SatLit};
 use sat_core::Solver;
-use search_tables::{Basis, Command, Core, DEPTH, HeadSet, IdSet, LitSet, Plan, Tables};
+use search_tables::{Basis, Command, Core, DEPTH};
 use std::alloc::{AllocError, Global};
 use stt_core::Signature;
 use stt_tableau::{Lit, Lits};
@@ -32,59 +32,43 @@ use tableau_clauses::StepTable;
 use term_bank::{Bank, equal_ids_for_equal_terms};
 use witness_names::Witnesses;
 
-/// Tables with nothing in them beside what is declared.
-fn new_tables(alloc: Global, sig: Signature) -> Tables
-    requires declared { IsScope (the_scope sig []) }
-    ensures blank { IsBlank result }
-    ensures bases { result.basis.bank.bases ≡ sig.bases }
-    ensures consts { result.basis.bank.consts ≡ sig.consts }
+/// Terms, numbers and witnesses before there is one.
+fn new_basis(alloc: Global, sig: &Signature) -> Result<Basis, AllocError>
+    requires declared { IsScope (the_scope sig.now []) }
+    ensures good { IfOk result (λ g. IsBasis g) }
+    ensures bases { IfOk result (λ g. g.bank.bases ≡ sig.now.bases) }
+    ensures consts { IfOk result (λ g. g.bank.consts ≡ sig.now.consts) }
+    ensures unwitnessed { IfOk result (λ g. g.witnesses ≡ []) }
 {
-    let basis = Basis {
+    let sig = sig.try_clone(alloc)?;
+    Ok(Basis {
         bank: Bank::new(alloc, sig),
         normal: Normaliser::new(alloc),
         lits: LitTable::new(alloc),
         witnesses: Witnesses::new(alloc),
-    };
-    Tables {
-        basis,
-        steps: StepTable::new(alloc),
-        solver: Solver::new(alloc),
-        seen: LitSet::new(alloc),
-        noted: Vec::new(alloc),
-        universals: Enumerator::new(alloc),
-        terms: Enumerator::new(alloc),
-        chosen: IdSet::new(alloc),
-        described: IdSet::new(alloc),
-        heads: HeadSet::new(alloc),
-        stems: Vec::new(alloc),
-        holes: Enumerator::new(alloc),
-        done: 0,
-        alloc,
-    }
+    })
 }
 
-/// Tables and a plan with nothing in them.
+/// Tables in which nothing was done yet.
 pub(crate) fn new_core<W: Weigher<Command>>(
     alloc: Global,
     sig: &Signature,
-    mode: &Mode,
+    mode: Mode,
     weigher: W,
 ) -> Result<Core<W>, AllocError>
     requires declared { IsScope (the_scope sig.now []) }
     requires callable { W.is_callable weigher }
-    requires answers { W.answers weigher (λ command now. now + delay_by mode.now command) }
-    ensures blank { IfOk result (λ core. IsBlank core.tables) }
+    requires answers { W.answers weigher (λ command now. now + delay_by mode command) }
+    ensures state { IfOk result (λ core. the_state core.tables core.plan ≡ nothing_yet) }
+    ensures right { IfOk result (λ core. IsRight core.tables core.plan) }
     ensures bases { IfOk result (λ core. core.tables.basis.bank.bases ≡ sig.now.bases) }
     ensures consts { IfOk result (λ core. core.tables.basis.bank.consts ≡ sig.now.consts) }
-    ensures entries { IfOk result (λ core. core.plan.entries ≡ []) }
-    ensures pushes { IfOk result (λ core. core.plan.pushes ≡ 0) }
-    ensures mode { IfOk result (λ core. core.plan.rule.mode ≡ mode.now) }
+    ensures unwitnessed { IfOk result (λ core. core.tables.basis.witnesses ≡ []) }
+    ensures steps { IfOk result (λ core. core.tables.steps ≡ ([], [])) }
+    ensures mode { IfOk result (λ core. core.plan.rule.mode ≡ mode) }
 {
-    let sig = sig.try_clone(alloc)?;
-    Ok(Core {
-        tables: new_tables(alloc, sig),
-        plan: Plan::new(alloc, *mode, weigher),
-    })
+    let basis = new_basis(alloc, sig)?;
+    Ok(Core::new(alloc, basis, mode, weigher)?)
 }
 
 /// The number of a literal.
@@ -162,9 +146,11 @@ pub(crate) fn start_all<W: Weigher<Command>>(
     core: &mut Core<W>,
     literals: &Lits,
 ) -> Result<(), AllocError>
-    requires blank { IsBlank core.old.tables }
-    requires entries { core.old.plan.entries ≡ [] }
-    requires pushes { core.old.plan.pushes ≡ 0 }
+    requires state { the_state core.old.tables core.old.plan ≡ nothing_yet }
+    requires right { IsRight core.old.tables core.old.plan }
+    requires unwitnessed { core.old.tables.basis.witnesses ≡ [] }
+    requires steps { core.old.tables.steps ≡ ([], []) }
+    requires declared { IsScope (declared_scope core.old.tables.basis.bank) }
     requires typed { IsBranch (declared_scope core.old.tables.basis.bank) literals.now }
     requires apart { AreApart literals.now }
     ensures running { OnOk result (IsRunning core.new.tables core.new.plan) }
