@@ -145,6 +145,45 @@ impl Heads {
         }
     }
 
+    /// Adds a literal under the head at a place.
+    fn add_at(&mut self, place: usize, lit: SatLit) -> Result<(), AllocError>
+        requires { place < length self.old }
+        ensures keeps { OnOk result ((h : Lambda) → place ≡ place_in h self.old → Keeps h lit self.old self.new) }
+        ensures err { OnErr result (self.new ≡ self.old) }
+    {
+        let (_, lits) = self.lits.pair_mut(place);
+        lits.push(lit)?;
+        Ok(())
+    }
+
+    /// Adds a literal under a head.
+    fn add(&mut self, key: Key, lit: SatLit) -> Result<(), AllocError>
+        ensures keeps { OnOk result (Keeps key lit self.old self.new) }
+        ensures err { OnErr result (self.new ≡ self.old) }
+    {
+        match self.place_of(&key) {
+            Some(place) => self.add_at(place, lit),
+            None => self.keep_first(key, lit),
+        }
+    }
+
+    /// Adds a literal under the head of its atom, where it can have partners.
+    pub(crate) fn add_under(&mut self, atom: &Node, lit: SatLit) -> Result<(), AllocError>
+        ensures keeps { OnOk result (KeepsWhere (pairing_head (the_shape atom.now)) lit self.old self.new) }
+        ensures err { OnErr result (self.new ≡ self.old) }
+    {
+        match atom {
+            Node::App { head, args } => {
+                if pairs(head) && args.len() > 0 {
+                    let key = Key::new(self.alloc, head)?;
+                    return self.add(key, lit);
+                }
+                Ok(())
+            }
+            Node::Lam { ty: _, body: _ } => Ok(()),
+        }
+    }
+
     /// Keeps a literal under the head of its atom, where it can have partners. The answer are those of the other sign that are there.
     pub(crate) fn keep_under(&mut self, atom: &Node, lit: SatLit) -> Result<Partners, AllocError>
         ensures partners { IfOk result (λ found. found ≡ kept_where (pairing_head (the_shape atom.now)) (not lit.positive) self.old) }

@@ -58,6 +58,21 @@ impl Index {
         Ok(self.heads.kept_for(bank.node(atom), !lit.positive)?)
     }
 
+    /// Adds a literal, as the last one that was noted.
+    pub fn add(&mut self, bank: &Bank, lits: &LitTable, lit: SatLit) -> Result<(), AllocError>
+        requires number { lit.var.0 < length lits.now }
+        requires atoms { All (IsAtom bank.now) lits.now }
+        requires right { IsRight bank.now.terms lits.now self.old }
+        ensures noted { OnOk result (self.new.noted ≡ self.old.noted ++ lit ∷ []) }
+        ensures right { IsRight bank.now.terms lits.now self.new }
+        ensures err { OnErr result (self.new ≡ self.old) }
+    {
+        let atom = lits.formula_of(lit);
+        self.noted.reserve(1)?;
+        self.heads.add_under(bank.node(atom), lit)?;
+        Ok(self.noted.push(lit)?)
+    }
+
     /// Notes a literal. The answer are its partners among those that were noted before.
     pub fn note(
         &mut self,

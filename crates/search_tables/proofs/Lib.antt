@@ -21,4 +21,6 @@ pub mod ShapeLaws
 pub mod TermLaws
 pub mod WholeLaws
 pub mod InstanceLaws
+pub mod PartnerLaws
+pub mod LoopLists
 pub mod StateStays
