@@ -14,11 +14,11 @@ apart_last earlier (x ∷ ls) k h e = (h.0, apart_last (earlier ++ x ∷ []) ls 
 
 apart_added : (ls ks : List Literal) → AreApart ls → AreApart (added ls ks)
 apart_added ls [] h = h
-apart_added ls (k ∷ ks) h = by_test (has ls k) refl
+apart_added ls (k ∷ ks) h = by_test (has ls k) refl (λ ms g. apart_added ms ks g)
   where
-    by_test : (b : Bool) → has ls k ≡ b → AreApart (added (if b then ls else ls ++ k ∷ []) ks)
-    by_test true e = apart_added ls ks h
-    by_test false e = apart_added (ls ++ k ∷ []) ks (apart_last [] ls k h e)
+    by_test : (b : Bool) → has ls k ≡ b → ((ms : List Literal) → AreApart ms → AreApart (added ms ks)) → AreApart (added (if b then ls else ls ++ k ∷ []) ks)
+    by_test true e rest = rest ls h
+    by_test false e rest = rest (ls ++ k ∷ []) (apart_last [] ls k h e)
 
 pub start-apart : (p : PlainProblem) → AreApart (start p)
 start-apart p = apart_added [] (map (normal_literal (scope_of p.declared)) p.assumed ++ denied (scope_of p.declared) p.conjecture) tt

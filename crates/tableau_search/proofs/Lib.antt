@@ -1,5 +1,10 @@
 mod RuleUses
-mod DevelopLaws
+mod ShapeUses
+mod ShapeLaws
 mod MadeStays
+mod DevelopLaws
 mod UnitLaws
 mod RunLaws
+mod ApartLaws
+mod StartLaws
+mod StartingLaws

@@ -11,10 +11,9 @@ ghost use Rattle.search_tables.specs.Standing.{setting_by, the_state, IsRight};
 ghost use Rattle.tableau_search.specs.Developing.{Develops};
 ghost use Rattle.tableau_search.specs.Shapes.{IsEquationOf};
 
-use crate::process::use_of;
 use crate::shape::decomposes;
 use command_queue::Weigher;
-use literal_map::RuleKind;
+use literal_map::{BankUse, RuleKind};
 use sat_base::SatLit;
 use search_tables::{Command, Core};
 use std::alloc::AllocError;
@@ -41,10 +40,16 @@ fn decompose<W: Weigher<Command>>(
     ensures witnesses { OnOk result (core.new.tables.basis.witnesses ≡ core.old.tables.basis.witnesses) }
     ensures rule { OnOk result (core.new.plan.rule ≡ core.old.plan.rule) }
 {
+    let _declared = core.tables.basis.bank.sig();
     if !decomposes(&core.tables.basis.bank, left, right) {
         return Ok(());
     }
-    core.apply_rule(use_of(RuleKind::Dec, lit))?;
+    core.apply_rule(BankUse {
+        kind: RuleKind::Dec,
+        first: Some(lit),
+        second: None,
+        term: None,
+    })?;
     Ok(())
 }
 
@@ -104,18 +109,38 @@ fn equate_at<W: Weigher<Command>>(
                 return Ok(());
             }
             if lit.positive {
-                core.apply_rule(use_of(RuleKind::BoolPos, lit))?;
+                core.apply_rule(BankUse {
+                    kind: RuleKind::BoolPos,
+                    first: Some(lit),
+                    second: None,
+                    term: None,
+                })?;
                 return Ok(());
             }
-            core.apply_rule(use_of(RuleKind::BoolNeg, lit))?;
+            core.apply_rule(BankUse {
+                kind: RuleKind::BoolNeg,
+                first: Some(lit),
+                second: None,
+                term: None,
+            })?;
             Ok(())
         }
         Ty::Arrow(_, _) => {
             if lit.positive {
-                core.apply_rule(use_of(RuleKind::FunPos, lit))?;
+                core.apply_rule(BankUse {
+                    kind: RuleKind::FunPos,
+                    first: Some(lit),
+                    second: None,
+                    term: None,
+                })?;
                 return Ok(());
             }
-            core.apply_rule(use_of(RuleKind::FunNeg, lit))?;
+            core.apply_rule(BankUse {
+                kind: RuleKind::FunNeg,
+                first: Some(lit),
+                second: None,
+                term: None,
+            })?;
             Ok(())
         }
     }
@@ -144,7 +169,12 @@ pub(crate) fn equate<W: Weigher<Command>>(
         return Ok(());
     }
     if core.tables.basis.bank.same(left, right) {
-        core.apply_rule(use_of(RuleKind::Refl, lit))?;
+        core.apply_rule(BankUse {
+            kind: RuleKind::Refl,
+            first: Some(lit),
+            second: None,
+            term: None,
+        })?;
         return Ok(());
     }
     equate_at(core, lit, ty, left, right)?;

@@ -38,6 +38,7 @@ pub(crate) fn mate<W: Weigher<Command>>(
     ensures witnesses { OnOk result (core.new.tables.basis.witnesses ≡ core.old.tables.basis.witnesses) }
     ensures rule { OnOk result (core.new.plan.rule ≡ core.old.plan.rule) }
 {
+    let _declared = core.tables.basis.bank.sig();
     core.apply_rule(BankUse {
         kind: RuleKind::Mat,
         first: Some(first),

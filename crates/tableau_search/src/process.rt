@@ -1,5 +1,5 @@
 //! Literals are processed.
-ghost use Rattle.std.specs.Prelude.{◌≡◌, ◌<◌, ◌≤◌, ◌-◌, ◌^◌, true, suc, length, Some, None, OnOk};
+ghost use Rattle.std.specs.Prelude.{◌≡◌, ◌<◌, ◌≤◌, ◌-◌, ◌^◌, true, suc, length, OnOk};
 ghost use Rattle.stt_core.specs.Lambda.{Lambda, falsity, constant, imp, every};
 ghost use Rattle.stt_core.specs.View.{the_type};
 ghost use Rattle.literal_map.specs.Atoms.{atom_at, literal_at};
@@ -18,18 +18,6 @@ use search_tables::{Command, Core};
 use std::alloc::AllocError;
 use stt_core::Ty;
 
-/// A rule with a literal as its only principal.
-pub(crate) fn use_of(kind: RuleKind, lit: SatLit) -> BankUse
-    ensures { result ≡ record { kind = kind; first = Some lit; second = None; term = None } }
-{
-    BankUse {
-        kind,
-        first: Some(lit),
-        second: None,
-        term: None,
-    }
-}
-
 /// Falsity is processed: where it is said to hold, its clause is empty but for it.
 fn refute<W: Weigher<Command>>(core: &mut Core<W>, lit: SatLit) -> Result<(), AllocError>
     requires right { IsRight core.old.tables core.old.plan }
@@ -45,7 +33,12 @@ fn refute<W: Weigher<Command>>(core: &mut Core<W>, lit: SatLit) -> Result<(), Al
     if !lit.positive {
         return Ok(());
     }
-    core.apply_rule(use_of(RuleKind::False, lit))?;
+    core.apply_rule(BankUse {
+        kind: RuleKind::False,
+        first: Some(lit),
+        second: None,
+        term: None,
+    })?;
     Ok(())
 }
 
@@ -62,10 +55,20 @@ fn imply<W: Weigher<Command>>(core: &mut Core<W>, lit: SatLit) -> Result<(), All
     ensures rule { OnOk result (core.new.plan.rule ≡ core.old.plan.rule) }
 {
     if lit.positive {
-        core.apply_rule(use_of(RuleKind::ImpPos, lit))?;
+        core.apply_rule(BankUse {
+            kind: RuleKind::ImpPos,
+            first: Some(lit),
+            second: None,
+            term: None,
+        })?;
         return Ok(());
     }
-    core.apply_rule(use_of(RuleKind::ImpNeg, lit))?;
+    core.apply_rule(BankUse {
+        kind: RuleKind::ImpNeg,
+        first: Some(lit),
+        second: None,
+        term: None,
+    })?;
     Ok(())
 }
 

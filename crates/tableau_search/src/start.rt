@@ -1,5 +1,5 @@
 //! The start of a search.
-ghost use Rattle.std.specs.Prelude.{◌≡◌, ◌+◌, ◌<◌, true, false, [], ◌∷◌, IfOk, OnOk, filter};
+ghost use Rattle.std.specs.Prelude.{◌≡◌, ◌+◌, ◌<◌, [], ◌∷◌, IfOk, OnOk, filter};
 ghost use Rattle.stt_core.specs.ScopeView.{the_scope};
 ghost use Rattle.stt_core.specs.Typing.{IsScope};
 ghost use Rattle.stt_tableau.specs.Literals.{IsLiteral, IsBranch};
@@ -16,7 +16,7 @@ ghost use Rattle.tableau_clauses.specs.Table.{the_clauses};
 ghost use Rattle.search_tables.specs.Names.{IsNumber};
 ghost use Rattle.search_tables.specs.Standing.{declared_scope, the_state, IsBasis, IsRight};
 ghost use Rattle.tableau_search.specs.Running.{start_in, IsRunning};
-ghost use Rattle.tableau_search.specs.Starting.{AddsUnit, AreApart};
+ghost use Rattle.tableau_search.specs.Starting.{AddsUnit, AddsStart, AreApart};
 
 use bank_normal::Normaliser;
 use command_queue::Weigher;
@@ -121,9 +121,7 @@ fn start_with<W: Weigher<Command>>(core: &mut Core<W>, lit: &Lit) -> Result<(), 
     ensures state { OnOk result (the_state core.new.tables core.new.plan ≡ with_instance (the_mode core.old.plan.rule.mode) [] ((lit.now ∷ []) ∷ []) (the_state core.old.tables core.old.plan)) }
     ensures right { OnOk result (IsRight core.new.tables core.new.plan) }
     ensures basis { OnOk result (BasisGrows core.old.tables.basis core.new.tables.basis) }
-    ensures units { OnOk result (is_shallow_literal lit.now ≡ true → (l : SatLit) × (literal_at core.new.tables.basis.bank.terms core.new.tables.basis.lits l ≡ lit.now) × AddsUnit l core.old.tables.steps core.new.tables.steps) }
-    ensures deep { OnOk result (is_shallow_literal lit.now ≡ false → core.new.tables.steps ≡ core.old.tables.steps) }
-    ensures done { OnOk result (core.new.tables.done ≡ core.old.tables.done) }
+    ensures steps { OnOk result (AddsStart lit.now core.old.tables core.new.tables) }
     ensures rule { OnOk result (core.new.plan.rule ≡ core.old.plan.rule) }
 {
     let number = number_of(&mut core.tables.basis, lit)?;
