@@ -8,3 +8,5 @@ mod RunLaws
 mod ApartLaws
 mod StartLaws
 mod StartingLaws
+mod BasisLaws
+mod SearchLaws

@@ -26,7 +26,7 @@ use Rattle.search_tables.specs.Growing.{Continues, Longer}
 use Rattle.search_tables.specs.Standing.{rows_in, IsBasis}
 use Rattle.search_tables.proofs.EachLaws.{each-weaker, map-same, each-from_All}
 use Rattle.search_tables.proofs.NamesLaws.{number-stays, literal-stays, place-stays, term-stays}
-use Rattle.search_tables.specs.Steps.{IsMade}
+use Rattle.tableau_search.specs.Growth.{IsMade}
 use Rattle.tableau_search.specs.Developing.{IsWider}
 
 -- with further rows a rule has the instances that it had
@@ -56,9 +56,9 @@ instance_rows b atoms rows more by as' h = record {
   is_instance = record { principals = h.is_instance.principals; at_places = h.is_instance.at_places; fits = rule_rows _ rows more h.rule h.is_instance.principals as' h.is_instance.fits };
 }
 
--- names without partial terms and heads
+-- names without partial terms
 abbrev plain : Basis → Names
-plain g = record { terms = g.bank.terms; atoms = g.lits; sketches = []; heads = [] }
+plain g = record { terms = g.bank.terms; atoms = g.lits; sketches = [] }
 
 module _ (g h : Basis) (good : IsBasis g) (w : IsWider g h) where
   continues : Continues (plain g) (plain h)
@@ -67,7 +67,6 @@ module _ (g h : Basis) (good : IsBasis g) (w : IsWider g h) where
     terms = (w.bank.further, w.bank.terms);
     atoms = (w.lits.further, w.lits.is);
     sketches = ([], refl);
-    heads = ([], refl);
   }
 
   pub number-wider : (l : SatLit) → IsNumber g.lits l → IsNumber h.lits l

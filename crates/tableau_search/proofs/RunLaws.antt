@@ -28,7 +28,7 @@ use Rattle.search_tables.specs.Names.{command_at, IsNumber}
 use Rattle.search_tables.specs.Standing.{declared_scope, scope_by, sketches_in, names_in, setting_by, loops_in, the_state, IsRight}
 use Rattle.search_tables.specs.Taking.{TakesNext}
 use Rattle.search_tables.proofs.EachLaws.{each-weaker}
-use Rattle.search_tables.specs.Steps.{IsMade}
+use Rattle.tableau_search.specs.Growth.{IsMade}
 use Rattle.tableau_search.specs.Developing.{IsWider, Develops}
 use Rattle.tableau_search.specs.Running.{start_in, IsRunning}
 use Rattle.tableau_search.specs.Progress.{Progress}
@@ -84,6 +84,16 @@ right-done t q n r = record {
 pub scope-wider : (g h : Basis) → IsWider g h → declared_scope h.bank ≡ declared_scope g.bank
 scope-wider g h w = λ i. record { bases = length (w.bank.bases i); names = map (λ c. c.type) (w.bank.consts i); witnesses = [] }
 
+-- the tables with one command more
+abbrev pub counted : Tables → Tables
+counted t = record t { done = t.done + 1 }
+
+-- what the command did to the tables that count it
+pub record Carried (t : Tables) (q1 : Queue Planned Delays) (c : Command) (t2 : Tables) (q2 : Queue Planned Delays) : Type 0 where
+  pub is : the_state t2 q2 ≡ carried_out (setting_by (counted t) q1) (command_at (names_in (counted t)) c) (the_state (counted t) q1)
+  pub develops : Develops (counted t) t2
+  pub few : length t2.basis.witnesses ≤ suc (length t.basis.witnesses)
+
 module _ (t : Tables) (q q1 : Queue Planned Delays) (r : IsRunning t q) (c : Command) (takes : TakesNext t q q1 c) (rule : q1.rule ≡ q.rule) where
   abbrev s : State
   s = the_state t q
@@ -92,7 +102,7 @@ module _ (t : Tables) (q q1 : Queue Planned Delays) (r : IsRunning t q) (c : Com
   setting = setting_by t q
 
   abbrev t1 : Tables
-  t1 = record t { done = t.done + 1 }
+  t1 = counted t
 
   pub taken-typed : IsTypedCommand (scope_by t1.basis) (command_at (names_in t1) c)
   taken-typed =
@@ -111,11 +121,14 @@ module _ (t : Tables) (q q1 : Queue Planned Delays) (r : IsRunning t q) (c : Com
   taken_setting : setting_by t1 q1 ≡ setting
   taken_setting = ap (λ (d : Delays). record { scope = declared_scope t.basis.bank; mode = the_mode d.mode }) rule
 
-  module _ (t2 : Tables) (q2 : Queue Planned Delays) (is : the_state t2 q2 ≡ carried_out (setting_by t1 q1) (command_at (names_in t1) c) (the_state t1 q1)) (right : IsRight t2 q2) (develops : Develops t1 t2) (few : length t2.basis.witnesses ≤ suc (length t1.basis.witnesses)) (rule2 : q2.rule ≡ q1.rule) where
+  module _ (t2 : Tables) (q2 : Queue Planned Delays) (k : Carried t q1 c t2 q2) (right : IsRight t2 q2) (rule2 : q2.rule ≡ q1.rule) where
+    abbrev develops : Develops t1 t2
+    develops = k.develops
+
     next_state : stepped setting (Some s) ≡ Some (the_state t2 q2)
     next_state =
         ap (λ o. after_command setting o s) takes.is_next
-        ∙ ap Some (sym (is ∙ ap₂ (λ (x : Setting) (y : State). carried_out x (command_at (names_in t) c) y) taken_setting taken_state))
+        ∙ ap Some (sym (k.is ∙ ap₂ (λ (x : Setting) (y : State). carried_out x (command_at (names_in t) c) y) taken_setting taken_state))
 
     pub setting-next : setting_by t2 q2 ≡ setting
     setting-next = ap₂ (λ (x : Scope) (d : Delays). record { scope = x; mode = the_mode d.mode }) (scope-wider t.basis t2.basis develops.basis) (rule2 ∙ rule)
@@ -146,7 +159,7 @@ module _ (t : Tables) (q q1 : Queue Planned Delays) (r : IsRunning t q) (c : Com
           right = right;
           comes_to = comes_next;
           within = omega (arith, r.within, below, develops.done, commands_same);
-          few = omega (arith, r.few, few, develops.done);
+          few = omega (arith, r.few, k.few, develops.done);
           declared = subst IsScope (sym (scope-wider old new w)) r.declared;
           start = let B : Scope → Type 0 = λ x. IsBranch (with_rows x []) (start_in t2) in
               let L : List Literal → Type 0 = λ ls. IsBranch (with_rows (declared_scope old.bank) []) ls in
@@ -155,3 +168,40 @@ module _ (t : Tables) (q q1 : Queue Planned Delays) (r : IsRunning t q) (c : Com
               subst (Each (IsMade new)) (sym develops.steps.instances)
               (each-joined (IsMade new) t.steps.1 develops.steps.more (each-weaker (IsMade old) (IsMade new) (made-wider old new r.right.basis w) t.steps.1 r.made) develops.steps.good);
         }
+
+-- THE SOLVER IS ASKED
+
+module _ (t u : Tables) (q p : Queue Planned Delays) (tables : u ≡ record t { solver = u.solver }) (plan : p ≡ q) where
+  pub state-solved : the_state u p ≡ the_state t q
+  state-solved = ap₂ the_state tables plan
+
+  pub setting-solved : setting_by u p ≡ setting_by t q
+  setting-solved = ap₂ setting_by tables plan
+
+  pub start-solved : start_in u ≡ start_in t
+  start-solved = ap start_in tables
+
+  pub done-solved : u.done ≡ t.done
+  done-solved = ap (λ (x : Tables). x.done) tables
+
+  pub running-solved : IsRunning t q → IsRight u p → IsRunning u p
+  running-solved r right =
+      let P : Tables → Queue Planned Delays → Type 0 = λ x y. IsRight x y → IsRunning x y in
+      let Q : Queue Planned Delays → Type 0 = λ y. P u y in
+      let T : Tables → Type 0 = λ x. P x q in
+      subst Q (sym plan)
+      (subst T (sym tables)
+      (λ good. record { right = good; comes_to = r.comes_to; within = r.within; few = r.few; declared = r.declared; start = r.start; made = r.made })) right
+
+  pub goes-on-solved : (t2 : Tables) (q2 : Queue Planned Delays) → GoesOn (record { tables = u; plan = p; is_refused = false }) (record { tables = t2; plan = q2; is_refused = false }) → GoesOn (record { tables = t; plan = q; is_refused = false }) (record { tables = t2; plan = q2; is_refused = false })
+  goes-on-solved t2 q2 g =
+      let U : State → Type 0 = λ s. Unsatisfiable s.clauses → ⊥ in
+      let L : State → Type 0 = λ s. s.queue ≢ [] in
+      let same : p.rule.mode.commands ≡ q.rule.mode.commands = ap (λ (y : Queue Planned Delays). y.rule.mode.commands) plan in
+      record {
+        satisfiable = subst U state-solved g.satisfiable;
+        some_left = subst L state-solved g.some_left;
+        below = λ e. g.below (done-solved ∙ e ∙ sym same);
+        next = sym (ap₂ (λ (x : Setting) (s : State). stepped x (Some s)) setting-solved state-solved) ∙ g.next;
+        done = g.done ∙ ap (λ n. n + 1) done-solved;
+      }

@@ -1,3 +1,4 @@
+pub mod Growth
 pub mod Shapes
 pub mod Developing
 pub mod Running

@@ -4,6 +4,7 @@ use Rattle.stt_core.specs.Typing.{IsScope}
 use Rattle.stt_tableau.specs.Literals.{Literal, IsBranch}
 use Rattle.stt_tableau.specs.Witnesses.{with_rows}
 use Rattle.sat_base.specs.declared.literal.SatLit.{SatLit}
+use Rattle.mode_file.specs.declared.Mode.{Mode}
 use Rattle.command_queue.specs.Queue.{Queue}
 use Rattle.search_run.specs.Each.{Each}
 use Rattle.search_run.specs.After.{after}
@@ -15,7 +16,7 @@ use Rattle.search_tables.specs.declared.command.Planned.{Planned}
 use Rattle.search_tables.specs.declared.command.Delays.{Delays}
 use Rattle.search_tables.specs.declared.tables.Tables.{Tables}
 use Rattle.search_tables.specs.Standing.{declared_scope, setting_by, the_state, IsRight}
-use Rattle.search_tables.specs.Steps.{IsMade}
+use Rattle.tableau_search.specs.Growth.{IsMade}
 
 -- the literals of a clause of the start, and of another one none
 abbrev pub unit_in : List SatLit → Origin → List SatLit
@@ -42,3 +43,8 @@ pub record IsRunning (t : Tables) (q : Queue Planned Delays) : Type 0 where
   pub declared : IsScope (declared_scope t.basis.bank)
   pub start : IsBranch (with_rows (declared_scope t.basis.bank) []) (start_in t)
   pub made : Each (IsMade t.basis) t.steps.1
+
+-- tables of a run by this mode
+pub record IsUnderWay (t : Tables) (q : Queue Planned Delays) (m : Mode) : Type 0 where
+  pub mode : q.rule.mode ≡ m
+  pub running : IsRunning t q

@@ -14,11 +14,12 @@ use search_tables::{Command, Core};
 use std::alloc::AllocError;
 
 /// The next command is carried out.
-fn go<W: Weigher<Command>>(core: &mut Core<W>) -> Result<(), AllocError>
+fn go<W: Weigher<Command>>(core: &mut Core<W>, limit: u32) -> Result<(), AllocError>
     requires running { IsRunning core.old.tables core.old.plan }
     requires satisfiable { Unsatisfiable (the_state core.old.tables core.old.plan).clauses → ⊥ }
     requires some { core.old.plan.entries ≢ [] }
-    requires below { core.old.tables.done ≢ core.old.plan.rule.mode.commands }
+    requires limit { limit ≡ core.old.plan.rule.mode.commands }
+    requires below { core.old.tables.done ≢ limit }
     ensures running { OnOk result (IsRunning core.new.tables core.new.plan) }
     ensures goes_on { OnOk result (GoesOn (record { tables = core.old.tables; plan = core.old.plan; is_refused = false }) (record { tables = core.new.tables; plan = core.new.plan; is_refused = false })) }
     ensures rule { OnOk result (core.new.plan.rule ≡ core.old.plan.rule) }
@@ -45,7 +46,10 @@ pub(crate) fn advance<W: Weigher<Command>>(
     ensures start { OnOk result (start_in core.new.tables ≡ start_in core.old.tables) }
 {
     match core.solve(mode.conflicts)? {
-        Answer::Unsat => return Ok(Stepped::Closed),
+        Answer::Unsat => {
+            let _log = core.tables.solver.log();
+            return Ok(Stepped::Closed);
+        }
         Answer::Spent { conflicts } => return Ok(Stepped::Spent { conflicts }),
         Answer::Sat => {}
     }
@@ -55,6 +59,6 @@ pub(crate) fn advance<W: Weigher<Command>>(
     if core.tables.done == mode.commands {
         return Ok(Stepped::Limit);
     }
-    go(core)?;
+    go(core, mode.commands)?;
     Ok(Stepped::Went)
 }

@@ -104,10 +104,7 @@ pub(crate) fn instantiate<W: Weigher<Command>>(
 }
 
 /// A value is chosen by a predicate.
-pub(crate) fn choose<W: Weigher<Command>>(
-    core: &mut Core<W>,
-    id: Id,
-) -> Result<(), AllocError>
+pub(crate) fn choose<W: Weigher<Command>>(core: &mut Core<W>, id: Id) -> Result<(), AllocError>
     requires right { IsRight core.old.tables core.old.plan }
     requires place { IsPlace core.old.tables.basis.bank.terms id }
     requires few { length core.old.tables.basis.witnesses < 2 ^ 32 - 1 }
@@ -128,10 +125,7 @@ pub(crate) fn choose<W: Weigher<Command>>(
 }
 
 /// A value is described by a predicate.
-pub(crate) fn describe<W: Weigher<Command>>(
-    core: &mut Core<W>,
-    id: Id,
-) -> Result<(), AllocError>
+pub(crate) fn describe<W: Weigher<Command>>(core: &mut Core<W>, id: Id) -> Result<(), AllocError>
     requires right { IsRight core.old.tables core.old.plan }
     requires place { IsPlace core.old.tables.basis.bank.terms id }
     requires few { length core.old.tables.basis.witnesses < 2 ^ 32 - 1 }

@@ -74,11 +74,7 @@ fn imply<W: Weigher<Command>>(core: &mut Core<W>, lit: SatLit) -> Result<(), All
 
 /// A quantified formula is processed. Where it holds, its type is prepared, and it is to be instantiated with each term of the type. Where
 /// it doesn't, its predicate has a witness.
-fn quantify<W: Weigher<Command>>(
-    core: &mut Core<W>,
-    lit: SatLit,
-    ty: &Ty,
-) -> Result<(), AllocError>
+fn quantify<W: Weigher<Command>>(core: &mut Core<W>, lit: SatLit, ty: &Ty) -> Result<(), AllocError>
     requires right { IsRight core.old.tables core.old.plan }
     requires number { IsNumber core.old.tables.basis.lits lit }
     requires few { length core.old.tables.basis.witnesses < 2 ^ 32 - 1 }
@@ -122,7 +118,10 @@ fn work<W: Weigher<Command>>(core: &mut Core<W>, lit: SatLit) -> Result<(), Allo
 }
 
 /// A literal is processed: what its shape asks for is done, it is noted, and the choices and the descriptions in its atom are taken up.
-pub(crate) fn process<W: Weigher<Command>>(core: &mut Core<W>, lit: SatLit) -> Result<(), AllocError>
+pub(crate) fn process<W: Weigher<Command>>(
+    core: &mut Core<W>,
+    lit: SatLit,
+) -> Result<(), AllocError>
     requires right { IsRight core.old.tables core.old.plan }
     requires number { IsNumber core.old.tables.basis.lits lit }
     requires few { length core.old.tables.basis.witnesses < 2 ^ 32 - 1 }

@@ -1,5 +1,5 @@
 //! The start of a search.
-ghost use Rattle.std.specs.Prelude.{◌≡◌, ◌+◌, ◌<◌, [], ◌∷◌, IfOk, OnOk, filter};
+ghost use Rattle.std.specs.Prelude.{◌≡◌, ◌+◌, ◌<◌, ◌≤◌, length, [], ◌∷◌, IfOk, OnOk, filter};
 ghost use Rattle.stt_core.specs.ScopeView.{the_scope};
 ghost use Rattle.stt_core.specs.Typing.{IsScope};
 ghost use Rattle.stt_tableau.specs.Literals.{IsLiteral, IsBranch};
@@ -88,6 +88,18 @@ fn number_of(basis: &mut Basis, lit: &Lit) -> Result<SatLit, AllocError>
     })
 }
 
+/// Makes a variable for each atom.
+fn make_variables(solver: &mut Solver, atoms: usize) -> Result<(), AllocError>
+    ensures clauses { solver.new.clauses ≡ solver.old.clauses }
+    ensures learned { learned solver.new ≡ learned solver.old }
+    ensures made { OnOk result (atoms ≤ length solver.new.values) }
+{
+    while solver.variables() < atoms {
+        solver.new_var()?;
+    }
+    Ok(())
+}
+
 /// Adds a start unit, for the solver too.
 fn add_unit(
     steps: &mut StepTable,
@@ -105,9 +117,7 @@ fn add_unit(
     if !steps.start(lit)? {
         return Ok(());
     }
-    while solver.variables() < atoms {
-        solver.new_var()?;
-    }
+    make_variables(solver, atoms)?;
     let mut clause = Clause::new(alloc);
     clause.push(lit)?;
     solver.add(&clause)?;
