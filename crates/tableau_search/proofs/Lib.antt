@@ -1,0 +1,12 @@
+mod RuleUses
+mod ShapeUses
+mod ShapeLaws
+mod MadeStays
+mod DevelopLaws
+mod UnitLaws
+mod RunLaws
+mod ApartLaws
+mod StartLaws
+mod StartingLaws
+mod BasisLaws
+mod SearchLaws

@@ -1,0 +1,251 @@
+-- A start, as the tables have it.
+use Rattle.std.specs.Prelude.{◌≡◌, ◌≤◌, ◌+◌, ◌&&◌, ℕ, zero, suc, Bool, true, false, not, List, [], ◌∷◌, ◌++◌, map, filter, take, length, slice_get, Some, if◌then◌else◌, refl}
+use Rattle.std.specs.List.{list_any, list_all}
+use Rattle.std.proofs.Common.{sym, ap, ap₂, ◌∙◌, subst, arith, append-nil, append_assoc, length-append}
+use Rattle.std.proofs.lemmas.List.Elements.{filter-append}
+use Rattle.stt_core.specs.Typing.{Scope, IsScope}
+use Rattle.stt_core.proofs.ListLaws.{map-append}
+use Rattle.stt_core.specs.Lambda.{Lambda}
+use Rattle.stt_tableau.specs.Literals.{Literal, plus, literal, is_negated, IsLiteral, IsBranch}
+use Rattle.stt_tableau.proofs.LiteralLaws.{literal_cases}
+use Rattle.stt_tableau.specs.Start.{has}
+use Rattle.stt_tableau.specs.Witnesses.{Row, with_rows}
+use Rattle.sat_base.specs.declared.literal.SatLit.{SatLit}
+use Rattle.command_queue.specs.Queue.{Queue}
+use Rattle.search_run.specs.Each.{Each}
+use Rattle.search_run.specs.Mode.{Mode}
+use Rattle.search_run.specs.Shallow.{is_shallow_literal}
+use Rattle.sat_base.specs.Literal.{same_var}
+use Rattle.std.specs.Bool.{beq}
+use Rattle.search_run.specs.Unsatisfiable.{formulas, Clause}
+use Rattle.search_run.specs.Clauses.{same_clause, with_clauses, instance_clauses}
+use Rattle.search_run.specs.Numbered.{numbers}
+use Rattle.search_run.specs.State.{State, Setting, process, pushed}
+use Rattle.search_run.specs.Instances.{with_literals, with_instance}
+use Rattle.search_run.specs.After.{nothing_yet, started, after}
+use Rattle.term_bank.specs.Content.{content_scope}
+use Rattle.witness_names.specs.Rows.{rows_of}
+use Rattle.literal_map.specs.Atoms.{literal_at}
+use Rattle.literal_map.specs.declared.instance.Instance.{Instance}
+use Rattle.tableau_clauses.specs.declared.origin.Origin.TheVariants.{Start}
+use Rattle.tableau_clauses.specs.Table.{Step, Table, clauses_in, the_clauses}
+use Rattle.search_tables.specs.declared.command.Planned.{Planned}
+use Rattle.search_tables.specs.declared.command.Delays.{Delays}
+use Rattle.search_tables.specs.declared.tables.Basis.{Basis}
+use Rattle.search_tables.specs.declared.tables.Tables.{Tables}
+use Rattle.search_tables.specs.Delays.{the_mode}
+use Rattle.search_tables.specs.Growing.{BasisGrows}
+use Rattle.search_tables.specs.Standing.{declared_scope, setting_by, the_state, IsRight}
+use Rattle.tableau_search.specs.Growth.{IsMade}
+use Rattle.tableau_search.specs.Running.{units, start_in, IsRunning}
+use Rattle.tableau_search.specs.Starting.{AddsUnit, AddsStart, IsStarting}
+use Rattle.tableau_search.proofs.DevelopLaws.{grows-wider, wider-then, wider-itself}
+use Rattle.tableau_search.proofs.UnitLaws.{units-append, start-stays}
+use Rattle.tableau_search.proofs.StartLaws.{unit, started-last, alone-clauses}
+use Rattle.search_tables.proofs.EachLaws.{each-at}
+
+mapped_length : {X Y : Type 0} (f : X → Y) (xs : List X) → length (map f xs) ≡ length xs
+mapped_length f [] = refl
+mapped_length f (x ∷ xs) = ap (λ n. suc n) (mapped_length f xs)
+
+-- where a clause came, the literal is the last start unit
+units_added : (lit : SatLit) (old new : Table) → AddsUnit lit old new → length new.0 ≡ length old.0 + 1 → units new.0 ≡ units old.0 ++ lit ∷ []
+units_added lit old new a longer = by_test (list_any (same_clause numbers (lit ∷ [])) (the_clauses old)) a.clauses
+  where
+    by_test : (b : Bool) → new.0 ≡ (if b then old.0 else old.0 ++ (lit ∷ [], Start) ∷ []) → units new.0 ≡ units old.0 ++ lit ∷ []
+    by_test true e = absurd (omega (arith, longer, ap length e))
+    by_test false e = ap units e ∙ units-append old.0 ((lit ∷ [], Start) ∷ [])
+
+shallow_twice : (ls : List Literal) → filter is_shallow_literal (filter is_shallow_literal ls) ≡ filter is_shallow_literal ls
+shallow_twice [] = refl
+shallow_twice (l ∷ ls) = by_test (is_shallow_literal l) refl (shallow_twice ls)
+  where
+    by_test : (b : Bool) → is_shallow_literal l ≡ b → filter is_shallow_literal (filter is_shallow_literal ls) ≡ filter is_shallow_literal ls → filter is_shallow_literal (if b then l ∷ filter is_shallow_literal ls else filter is_shallow_literal ls) ≡ (if b then l ∷ filter is_shallow_literal ls else filter is_shallow_literal ls)
+    by_test true e rest = ap (λ (b : Bool). if b then l ∷ filter is_shallow_literal (filter is_shallow_literal ls) else filter is_shallow_literal (filter is_shallow_literal ls)) e ∙ ap (λ ks. l ∷ ks) rest
+    by_test false e rest = rest
+
+branch_filtered : (scope : Scope) (ls : List Literal) → IsBranch scope ls → IsBranch scope (filter is_shallow_literal ls)
+branch_filtered scope [] h = tt
+branch_filtered scope (l ∷ ls) h = by_test (is_shallow_literal l) (branch_filtered scope ls h.1)
+  where
+    by_test : (b : Bool) → IsBranch scope (filter is_shallow_literal ls) → IsBranch scope (if b then l ∷ filter is_shallow_literal ls else filter is_shallow_literal ls)
+    by_test true rest = (h.0, rest)
+    by_test false rest = rest
+
+pub branch-get : (scope : Scope) (ls : List Literal) → IsBranch scope ls → Each (IsLiteral scope) ls
+branch-get scope [] h = tt
+branch-get scope (l ∷ ls) h = (h.0, branch-get scope ls h.1)
+
+clauses_length : (t : Tables) (q : Queue Planned Delays) → length (the_state t q).clauses ≡ length t.steps.0
+clauses_length t q = mapped_length (map (literal_at t.basis.bank.terms t.basis.lits)) (the_clauses t.steps) ∙ mapped_length (λ s. s.0) t.steps.0
+
+pub scope-grows : (g h : Basis) → BasisGrows g h → declared_scope h.bank ≡ declared_scope g.bank
+scope-grows g h w = λ i. record { bases = length (w.bank.bases i); names = map (λ c. c.type) (w.bank.consts i); witnesses = [] }
+
+pub grows-then : (a b c : Basis) → BasisGrows a b → BasisGrows b c → BasisGrows a c
+grows-then a b c h k = record {
+  bank = record {
+    bases = k.bank.bases ∙ h.bank.bases;
+    consts = k.bank.consts ∙ h.bank.consts;
+    witnesses = k.bank.witnesses ∙ h.bank.witnesses;
+    further = h.bank.further ++ k.bank.further;
+    terms = k.bank.terms ∙ ap (λ l. l ++ k.bank.further) h.bank.terms ∙ append_assoc a.bank.terms h.bank.further k.bank.further;
+  };
+  lits = (wider-then a b c (grows-wider a b h) (grows-wider b c k)).lits;
+  witnesses = k.witnesses ∙ h.witnesses;
+}
+
+pub grows-itself : (g : Basis) → BasisGrows g g
+grows-itself g = record { bank = record { bases = refl; consts = refl; witnesses = refl; further = []; terms = sym (append-nil g.bank.terms) }; lits = (wider-itself g).lits; witnesses = refl }
+
+-- WHERE ONE LITERAL COMES
+
+pub alone-deep : (mode : Mode) (l : Literal) (s : State) → is_shallow_literal l ≡ false → s ≡ with_instance mode [] ((l ∷ []) ∷ []) s
+alone-deep mode l s e =
+    let more = with_literals mode (l ∷ []) (record s { clauses = with_clauses formulas s.clauses (instance_clauses formulas [] ((l ∷ []) ∷ [])) }) in
+    sym (ap (λ (b : Bool). if (b && true) && true then more else s) e)
+
+pub all-shallow : (l : Literal) → is_shallow_literal l ≡ true → list_all (list_all is_shallow_literal) ((l ∷ []) ∷ []) ≡ true
+all-shallow l e = ap (λ (b : Bool). (b && true) && true) e
+
+pub both-true : (b : Bool) → b ≡ true → b ≡ false → ⊥
+both-true true e f = cc
+both-true false e f = cc
+
+-- what a literal adds that isn't too deep
+pub adds-start : (l : Literal) (t u v : Tables) (seen : List SatLit) → v ≡ record u { seen = seen } → is_shallow_literal l ≡ true → (lit : SatLit) → literal_at u.basis.bank.terms u.basis.lits lit ≡ l → AddsUnit lit t.steps u.steps → AddsStart l t v
+adds-start l t u v seen e shallow lit is unit =
+    let A : Tables → Type 0 = λ x. AddsStart l t x in
+    subst A (sym e) (record { deep = λ f. absurd (both-true (is_shallow_literal l) shallow f); unit = λ f. (lit, (is, unit)) })
+
+sign_differs : (b : Bool) → beq (not b) b ≡ false
+sign_differs true = refl
+sign_differs false = refl
+
+negated_differs : (l : SatLit) → numbers.same (numbers.opposite l) l ≡ false
+negated_differs l = ap (λ (b : Bool). same_var l.var l.var && b) (sign_differs l.positive) ∙ and_false (same_var l.var l.var)
+  where
+    and_false : (b : Bool) → (b && false) ≡ false
+    and_false true = refl
+    and_false false = refl
+
+pick_mapped : {X Y : Type 0} (f : X → Y) (b : Bool) (x y : X) → f (if b then x else y) ≡ (if b then f x else f y)
+pick_mapped f true x y = refl
+pick_mapped f false x y = refl
+
+-- the clauses with a unit more
+pub unit-clauses : (lit : SatLit) (old new : Table) → AddsUnit lit old new → the_clauses new ≡ with_clauses numbers (the_clauses old) (instance_clauses numbers [] ((lit ∷ []) ∷ []))
+unit-clauses lit old new a =
+    ap clauses_in a.clauses
+    ∙ pick_mapped clauses_in (list_any (same_clause numbers (lit ∷ [])) (the_clauses old)) old.0 (old.0 ++ (lit ∷ [], Start) ∷ [])
+    ∙ ap (λ (cs : List (List SatLit)). if list_any (same_clause numbers (lit ∷ [])) (the_clauses old) then the_clauses old else cs) (map-append (λ (s : Step). s.0) old.0 ((lit ∷ [], Start) ∷ []))
+    ∙ sym (ap (with_clauses numbers (the_clauses old)) (alone-clauses numbers lit (negated_differs lit)))
+
+-- the literal of an unsigned formula
+pub literal-unsigned : (t : Lambda) → is_negated t ≡ false → literal t ≡ plus t
+literal-unsigned t e = literal_cases (λ u l. is_negated u ≡ false → l ≡ plus u) (λ s go k. cc) (λ u n k. refl) t e
+
+module _ (t0 : Tables) (q0 : Queue Planned Delays) where
+  abbrev setting : Setting
+  setting = setting_by t0 q0
+
+  take-all : (ls : List Literal) (i : ℕ) → length ls ≤ i → take i ls ≡ ls
+  take-all [] zero h = refl
+  take-all [] (suc i) h = refl
+  take-all (l ∷ ls) zero h = absurd (omega (arith, h))
+  take-all (l ∷ ls) (suc i) h = ap (λ ks. l ∷ ks) (take-all ls i (omega (arith, h)))
+
+  pub starting-none : the_state t0 q0 ≡ nothing_yet → IsRight t0 q0 → t0.steps ≡ ([], []) → IsStarting t0 q0 t0 q0 []
+  starting-none empty right none = record {
+    state = empty;
+    right = right;
+    basis = grows-itself t0.basis;
+    units = ap (λ (x : Table). map (literal_at t0.basis.bank.terms t0.basis.lits) (units x.0)) none;
+    instances = ap (λ (x : Table). x.1) none;
+    rule = refl;
+  }
+
+  module _ (t u : Tables) (q p : Queue Planned Delays) (ls : List Literal) (l : Literal) (s : IsStarting t0 q0 t q ls) (fresh : has ls l ≡ false) (is : the_state u p ≡ with_instance (the_mode q.rule.mode) [] ((l ∷ []) ∷ []) (the_state t q)) (right : IsRight u p) (grows : BasisGrows t.basis u.basis) (adds : AddsStart l t u) (rule : p.rule ≡ q.rule) where
+    state_more : the_state u p ≡ started setting (ls ++ l ∷ [])
+    state_more =
+        is
+        ∙ ap₂ (λ (d : Delays) (x : State). with_instance (the_mode d.mode) [] ((l ∷ []) ∷ []) x) s.rule s.state
+        ∙ sym (started-last setting ls l fresh)
+
+    abbrev shallow : List Literal → List Literal
+    shallow xs = filter is_shallow_literal xs
+
+    longer : (b : Bool) → is_shallow_literal l ≡ b → shallow (ls ++ l ∷ []) ≡ shallow ls ++ (if b then l ∷ [] else [])
+    longer b e = filter-append is_shallow_literal ls (l ∷ []) ∙ ap (λ (c : Bool). shallow ls ++ (if c then l ∷ [] else [])) e
+
+    stays : units u.steps.0 ≡ units t.steps.0 → start_in u ≡ start_in t
+    stays same = start-stays t u s.right.basis (grows-wider t.basis u.basis grows) s.right.clauses same
+
+    units_more : (b : Bool) → is_shallow_literal l ≡ b → (start_in u ≡ shallow (ls ++ l ∷ [])) × (u.steps.1 ≡ [])
+    units_more false e =
+        let same = adds.deep e in
+        (stays (ap (λ (x : Table). units x.0) same) ∙ s.units ∙ sym (longer false e ∙ append-nil (shallow ls)), ap (λ (x : Table). x.1) same ∙ s.instances)
+    units_more true e =
+        let a = adds.unit e in
+        let d : SatLit → Literal = literal_at u.basis.bank.terms u.basis.lits in
+        let of_new : length u.steps.0 ≡ length (shallow (ls ++ l ∷ [])) = sym (clauses_length u p) ∙ ap (λ (x : State). length x.clauses) state_more ∙ mapped_length unit (shallow (ls ++ l ∷ [])) in
+        let of_old : length t.steps.0 ≡ length (shallow ls) = sym (clauses_length t q) ∙ ap (λ (x : State). length x.clauses) s.state ∙ mapped_length unit (shallow ls) in
+        let one_more : length u.steps.0 ≡ length t.steps.0 + 1 = omega (arith, of_new, of_old, ap length (longer true e), length-append (shallow ls) (l ∷ [])) in
+        let kept : map d (units t.steps.0) ≡ start_in t = stays-old in (
+          ap (map d) (units_added a.0 t.steps u.steps a.1.1 one_more)
+              ∙ map-append d (units t.steps.0) (a.0 ∷ [])
+              ∙ ap₂ (λ (xs : List Literal) (x : Literal). xs ++ x ∷ []) (kept ∙ s.units) a.1.0
+              ∙ sym (longer true e),
+          a.1.1.instances ∙ s.instances,
+        )
+      where
+        stays-old : map (literal_at u.basis.bank.terms u.basis.lits) (units t.steps.0) ≡ start_in t
+        stays-old = start-stays t (record u { steps = t.steps }) s.right.basis (grows-wider t.basis u.basis grows) s.right.clauses refl
+
+    pub starting-more : IsStarting t0 q0 u p (ls ++ l ∷ [])
+    starting-more =
+        let m = units_more (is_shallow_literal l) refl in
+        record { state = state_more; right = right; basis = grows-then t0.basis t.basis u.basis s.basis grows; units = m.0; instances = m.1; rule = rule ∙ s.rule }
+
+  -- all literals were added
+  pub whole : (t : Tables) (q : Queue Planned Delays) (ls : List Literal) (i : ℕ) → length ls ≤ i → IsStarting t0 q0 t q (take i ls) → IsStarting t0 q0 t q ls
+  whole t q ls i h s = let S : List Literal → Type 0 = λ ks. IsStarting t0 q0 t q ks in subst S (take-all ls i h) s
+
+  -- a literal of the start is one over what is declared now
+  pub start-literal : (t : Tables) (q : Queue Planned Delays) (ls : List Literal) → IsStarting t0 q0 t q ls → t0.basis.witnesses ≡ [] → (all : List Literal) → IsBranch (declared_scope t0.basis.bank) all → (i : ℕ) (l : Literal) → slice_get all i ≡ Some l → IsLiteral (content_scope t.basis.bank) l
+  start-literal t q ls s unwitnessed all typed i l at =
+      let none : t.basis.bank.witnesses ≡ [] = sym s.right.basis.typed ∙ ap (λ ws. map (λ (r : Row). r.type) (rows_of t.basis.bank.terms ws)) (s.basis.witnesses ∙ unwitnessed) in
+      let same : declared_scope t0.basis.bank ≡ content_scope t.basis.bank =
+      sym (scope-grows t0.basis t.basis s.basis) ∙ ap (λ ws. record { bases = length t.basis.bank.bases; names = map (λ c. c.type) t.basis.bank.consts; witnesses = ws }) (sym none) in
+      let L : Scope → Type 0 = λ x. IsLiteral x l in
+      subst L same (each-at (IsLiteral (declared_scope t0.basis.bank)) all i l (branch-get (declared_scope t0.basis.bank) all typed) at)
+
+  -- a start is the start of a run
+  module _ (t : Tables) (q : Queue Planned Delays) (ls : List Literal) (s : IsStarting t0 q0 t q ls) (declared : IsScope (declared_scope t0.basis.bank)) (typed : IsBranch (declared_scope t0.basis.bank) ls) (unwitnessed : t0.basis.witnesses ≡ []) where
+    pub done-none : t.done ≡ 0
+    done-none = ap (λ (x : State). x.done) s.state
+
+    setting_same : setting_by t q ≡ setting
+    setting_same = ap₂ (λ (x : Scope) (d : Delays). record { scope = x; mode = the_mode d.mode }) (scope-grows t0.basis t.basis s.basis) s.rule
+
+    state_is : started (setting_by t q) (start_in t) ≡ the_state t q
+    state_is =
+        ap₂ (λ (x : Setting) (ks : List Literal). started x ks) setting_same s.units
+        ∙ ap (λ ks. pushed setting.mode (map process ks) (record nothing_yet { clauses = map unit ks; seen = ks })) (shallow_twice ls)
+        ∙ sym s.state
+
+    pub running-start : IsRunning t q
+    running-start =
+        let C : ℕ → Type 0 = λ n. after (setting_by t q) (start_in t) n ≡ Some (the_state t q) in
+        let B : Scope → Type 0 = λ x. IsBranch (with_rows x []) (start_in t) in
+        let L : List Literal → Type 0 = λ ks. IsBranch (with_rows (declared_scope t0.basis.bank) []) ks in
+        let same = scope-grows t0.basis t.basis s.basis in
+        record {
+          right = s.right;
+          comes_to = subst C (sym done-none) (ap Some state_is);
+          within = omega (arith, done-none);
+          few = omega (arith, ap length s.basis.witnesses, ap length unwitnessed);
+          declared = subst IsScope (sym same) declared;
+          start = subst B (sym same) (subst L (sym s.units) (branch_filtered (declared_scope t0.basis.bank) ls typed));
+          made = subst (Each (IsMade t.basis)) (sym s.instances) tt;
+        }

@@ -1,0 +1,7 @@
+pub mod Growth
+pub mod Shapes
+pub mod Developing
+pub mod Running
+pub mod Starting
+pub mod Progress
+pub mod Answers
