@@ -12,7 +12,7 @@ use Rattle.search_tables.specs.declared.tables.Tables.{Tables}
 use Rattle.search_tables.specs.Growing.{BasisGrows}
 use Rattle.search_tables.specs.Standing.{IsBasis}
 use Rattle.search_tables.proofs.EachLaws.{each-weaker}
-use Rattle.tableau_search.specs.Growth.{IsMade, StepsGrow}
+use Rattle.search_tables.specs.Steps.{IsMade, StepsGrow}
 use Rattle.tableau_search.specs.Developing.{IsWider, Develops}
 use Rattle.tableau_search.proofs.MadeStays.{made-wider}
 

@@ -1,6 +1,4 @@
 mod RuleUses
-mod ShapeUses
-mod ShapeLaws
 mod MadeStays
 mod DevelopLaws
 mod UnitLaws

@@ -26,7 +26,7 @@ use Rattle.search_tables.specs.Growing.{Continues, Longer}
 use Rattle.search_tables.specs.Standing.{rows_in, IsBasis}
 use Rattle.search_tables.proofs.EachLaws.{each-weaker, map-same, each-from_All}
 use Rattle.search_tables.proofs.NamesLaws.{number-stays, literal-stays, place-stays, term-stays}
-use Rattle.tableau_search.specs.Growth.{IsMade}
+use Rattle.search_tables.specs.Steps.{IsMade}
 use Rattle.tableau_search.specs.Developing.{IsWider}
 
 -- with further rows a rule has the instances that it had

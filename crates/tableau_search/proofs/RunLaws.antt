@@ -28,7 +28,7 @@ use Rattle.search_tables.specs.Names.{command_at, IsNumber}
 use Rattle.search_tables.specs.Standing.{declared_scope, scope_by, sketches_in, names_in, setting_by, loops_in, the_state, IsRight}
 use Rattle.search_tables.specs.Taking.{TakesNext}
 use Rattle.search_tables.proofs.EachLaws.{each-weaker}
-use Rattle.tableau_search.specs.Growth.{IsMade}
+use Rattle.search_tables.specs.Steps.{IsMade}
 use Rattle.tableau_search.specs.Developing.{IsWider, Develops}
 use Rattle.tableau_search.specs.Running.{start_in, IsRunning}
 use Rattle.tableau_search.specs.Progress.{Progress}

@@ -36,7 +36,7 @@ use Rattle.search_tables.specs.declared.tables.Tables.{Tables}
 use Rattle.search_tables.specs.Delays.{the_mode}
 use Rattle.search_tables.specs.Growing.{BasisGrows}
 use Rattle.search_tables.specs.Standing.{declared_scope, setting_by, the_state, IsRight}
-use Rattle.tableau_search.specs.Growth.{IsMade}
+use Rattle.search_tables.specs.Steps.{IsMade}
 use Rattle.tableau_search.specs.Running.{units, start_in, IsRunning}
 use Rattle.tableau_search.specs.Starting.{AddsUnit, AddsStart, IsStarting}
 use Rattle.tableau_search.proofs.DevelopLaws.{grows-wider, wider-then, wider-itself}

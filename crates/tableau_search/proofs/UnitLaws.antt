@@ -14,7 +14,7 @@ use Rattle.search_tables.specs.declared.tables.Basis.{Basis}
 use Rattle.search_tables.specs.declared.tables.Tables.{Tables}
 use Rattle.search_tables.specs.Names.{IsNumber}
 use Rattle.search_tables.specs.Standing.{IsBasis}
-use Rattle.tableau_search.specs.Growth.{StepsGrow}
+use Rattle.search_tables.specs.Steps.{StepsGrow}
 use Rattle.tableau_search.specs.Developing.{IsWider}
 use Rattle.tableau_search.specs.Running.{unit_in, units, start_in}
 use Rattle.tableau_search.proofs.MadeStays.{literals-wider}

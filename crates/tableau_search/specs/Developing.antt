@@ -5,7 +5,7 @@ use Rattle.tableau_rules.specs.Changes.{Widens}
 use Rattle.search_tables.specs.declared.tables.Basis.{Basis}
 use Rattle.search_tables.specs.declared.tables.Tables.{Tables}
 use Rattle.search_tables.specs.Growing.{Longer}
-use Rattle.tableau_search.specs.Growth.{IsMade, StepsGrow}
+use Rattle.search_tables.specs.Steps.{IsMade, StepsGrow}
 
 -- further terms, atoms and witnesses stand behind the earlier ones
 pub record IsWider (old new : Basis) : Type 0 where

@@ -1,5 +1,3 @@
-pub mod Growth
-pub mod Shapes
 pub mod Developing
 pub mod Running
 pub mod Starting

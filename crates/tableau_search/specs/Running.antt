@@ -16,7 +16,7 @@ use Rattle.search_tables.specs.declared.command.Planned.{Planned}
 use Rattle.search_tables.specs.declared.command.Delays.{Delays}
 use Rattle.search_tables.specs.declared.tables.Tables.{Tables}
 use Rattle.search_tables.specs.Standing.{declared_scope, setting_by, the_state, IsRight}
-use Rattle.tableau_search.specs.Growth.{IsMade}
+use Rattle.search_tables.specs.Steps.{IsMade}
 
 -- the literals of a clause of the start, and of another one none
 abbrev pub unit_in : List SatLit → Origin → List SatLit

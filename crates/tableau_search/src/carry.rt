@@ -35,7 +35,10 @@ pub(crate) fn carry_out<W: Weigher<Command>>(
         Command::Mate(first, second) => mate(core, first, second),
         Command::Confront(first, second) => confront(core, first, second),
         Command::Inst(lit, id) => instantiate(core, lit, id),
-        Command::Grow(parent, head) => core.fill(parent, head),
+        Command::Grow(parent, head) => {
+            core.fill(parent, head)?;
+            Ok(())
+        }
         Command::Choose(id) => choose(core, id),
         Command::Describe(id) => describe(core, id),
     }

@@ -4,11 +4,9 @@
 
 mod advance;
 mod carry;
-mod equation;
 mod instances;
 mod process;
 mod search;
-mod shape;
 mod start;
 mod stepped;
 

@@ -53,12 +53,14 @@ impl<W: Weigher<Command>> Search<W> {
     {
         let literals = start_literals(alloc, problem)?;
         let mut core = new_core(alloc, &problem.signature, *mode, weigher)?;
-        start_all(&mut core, &literals)?;
-        Ok(Search {
-            core,
-            mode: *mode,
-            is_refused: false,
-        })
+        match start_all(&mut core, &literals) {
+            Ok(()) => Ok(Search {
+                core,
+                mode: *mode,
+                is_refused: false,
+            }),
+            Err(AllocError) => Err(AllocError),
+        }
     }
 
     /// Asks the solver, and then carries out the next command, where one is left and the limit isn't reached.

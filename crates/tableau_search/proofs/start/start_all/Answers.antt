@@ -1,5 +1,4 @@
-use Rattle.std.proofs.Common.{List, subst, sym, ap, take, ◌∙◌, arith}
-use Rattle.std.proofs.Math.Seq.{take-length}
+use Rattle.std.proofs.Common.{List, subst, sym, take, arith}
 use Rattle.stt_core.proofs.ListLaws.{take_got}
 use Rattle.stt_tableau.specs.Literals.{Literal}
 use Rattle.tableau_search.specs.Starting.{IsStarting}

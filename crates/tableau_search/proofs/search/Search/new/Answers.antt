@@ -26,17 +26,17 @@ start_all-requires-clause-typed g c =
 pub start_all-requires-clause-apart : goal.start_all-requires-clause-apart
 start_all-requires-clause-apart g c = literals-apart c.args.problem.now c.in_ok-literals.literals c.in_ok-literals.ensures
 
-pub returns-clause-under_way : goal.returns-clause-under_way
-returns-clause-under_way g c = record {
-  mode = ap (λ (d : Delays). d.mode) c.in_ok-start_all.ensures.rule ∙ c.in_ok-core.ensures.mode;
-  running = c.in_ok-start_all.ensures.running;
+pub returns-in-Ok-clause-under_way : goal.returns-in-Ok-clause-under_way
+returns-in-Ok-clause-under_way g c = record {
+  mode = ap (λ (d : Delays). d.mode) c.in-Ok.ensures.rule ∙ c.in_ok-core.ensures.mode;
+  running = c.in-Ok.ensures.running;
 }
 
-pub returns-clause-bases : goal.returns-clause-bases
-returns-clause-bases g c = c.in_ok-start_all.ensures.bases ∙ c.in_ok-core.ensures.bases ∙ ap (λ (p : PlainProblem). p.declared.bases) c.problem.view_is
+pub returns-in-Ok-clause-bases : goal.returns-in-Ok-clause-bases
+returns-in-Ok-clause-bases g c = c.in-Ok.ensures.bases ∙ c.in_ok-core.ensures.bases ∙ ap (λ (p : PlainProblem). p.declared.bases) c.problem.view_is
 
-pub returns-clause-consts : goal.returns-clause-consts
-returns-clause-consts g c = c.in_ok-start_all.ensures.consts ∙ c.in_ok-core.ensures.consts ∙ ap (λ (p : PlainProblem). p.declared.consts) c.problem.view_is
+pub returns-in-Ok-clause-consts : goal.returns-in-Ok-clause-consts
+returns-in-Ok-clause-consts g c = c.in-Ok.ensures.consts ∙ c.in_ok-core.ensures.consts ∙ ap (λ (p : PlainProblem). p.declared.consts) c.problem.view_is
 
-pub returns-clause-start : goal.returns-clause-start
-returns-clause-start g c = c.in_ok-start_all.ensures.start ∙ ap (filter is_shallow_literal) c.in_ok-literals.ensures
+pub returns-in-Ok-clause-start : goal.returns-in-Ok-clause-start
+returns-in-Ok-clause-start g c = c.in-Ok.ensures.start ∙ ap (filter is_shallow_literal) c.in_ok-literals.ensures
