@@ -23,7 +23,7 @@ pub enum Grown {
 }
 
 /// The number of the base type that a function of this type gives in the end.
-fn target_of(ty: &Ty) -> u32
+pub fn target_of(ty: &Ty) -> u32
     ensures { result ≡ target (the_type ty.now) }
 {
     match ty {

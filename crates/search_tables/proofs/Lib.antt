@@ -29,5 +29,4 @@ pub mod FittingLaws
 pub mod NotingLaws
 pub mod SelectingLaws
 pub mod EmptyLaws
-pub mod OpeningLaws
 pub mod StateStays

@@ -71,7 +71,7 @@ pub(crate) fn joined(alloc: Global, lists: &LitLists) -> Result<Vec<SatLit>, All
 }
 
 /// Makes a variable for each atom.
-pub(crate) fn make_variables(solver: &mut Solver, atoms: usize) -> Result<(), AllocError>
+pub fn make_variables(solver: &mut Solver, atoms: usize) -> Result<(), AllocError>
     ensures clauses { solver.new.clauses ≡ solver.old.clauses }
     ensures learned { learned solver.new ≡ learned solver.old }
     ensures made { OnOk result (atoms ≤ length solver.new.values) }

@@ -1,12 +1,13 @@
 //! The holes of partial terms.
 ghost use Rattle.std.specs.Prelude.{◌≡◌, ◌<◌, ◌++◌, List, [], ◌∷◌, length, if◌then◌else◌, Some, slice_get, IfOk, OnOk};
 ghost use Rattle.stt_core.specs.View.{the_type};
-ghost use Rattle.search_run.specs.Heads.{target, places_to};
+ghost use Rattle.search_run.specs.Heads.{places_to};
 ghost use Rattle.search_tables.specs.Fitting.{variables_for};
 ghost use Rattle.search_run.specs.Partial.{Hole};
 ghost use Rattle.search_tables.specs.Holes.{leftmost};
 ghost use Rattle.search_tables.specs.Pending.{base_of};
 
+use instantiate::target_of;
 use std::alloc::{AllocError, Global};
 use std::marker::Model;
 use stt_core::{Ty, Types};
@@ -28,16 +29,6 @@ impl Model for OpenHole {
     ghost coded = { hole_code };
 
     ghost view = { λ h. record { base = h.base; context = reverse h.context } };
-}
-
-/// The number of the base type that a function of this type gives in the end.
-pub(crate) fn target_of(ty: &Ty) -> u32
-    ensures { result ≡ target (the_type ty.now) }
-{
-    match ty {
-        Ty::Base(n) => *n,
-        Ty::Arrow(_, outcome) => target_of(outcome),
-    }
 }
 
 fn push_where(places: &mut Vec<usize>, fits: bool, place: usize) -> Result<(), AllocError>

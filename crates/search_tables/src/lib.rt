@@ -3,13 +3,11 @@
 
 mod clauses;
 mod command;
-mod filling;
 mod fitting;
 mod head;
 mod holes;
 mod instance;
 mod noting;
-mod opening;
 mod partners;
 mod places;
 mod plan;
@@ -27,9 +25,8 @@ mod stem;
 mod tables;
 mod taking;
 mod terms;
-mod witness;
 
-pub use clauses::DEPTH;
+pub use clauses::{DEPTH, make_variables};
 pub use command::{Command, Delays, Over, Planned, Rest};
 pub use head::{HoleHead, head_of, number_of, numbered_head};
 pub use holes::OpenHoles;

@@ -9,12 +9,12 @@ ghost use Rattle.search_tables.specs.Empty.{AreEmpty};
 ghost use Rattle.search_tables.specs.Standing.{the_state, IsBasis, IsRight};
 
 use crate::command::Command;
-use crate::holes::{OpenHoles, target_of};
+use crate::holes::OpenHoles;
 use crate::plan::Plan;
 use crate::set::{IdSet, LitSet};
 use crate::tables::{Basis, Core, Tables};
 use command_queue::Weigher;
-use instantiate::Enumerator;
+use instantiate::{Enumerator, target_of};
 use mating_rules::Index;
 use mode_file::Mode;
 use sat_core::Solver;

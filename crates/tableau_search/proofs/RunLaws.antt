@@ -146,7 +146,7 @@ module _ (t : Tables) (q q1 : Queue Planned Delays) (r : IsRunning t q) (c : Com
         (subst (λ n. Comes setting (start_in t) n) (sym (develops.done ∙ add-one t.done))
         (ap (stepped setting) r.comes_to ∙ next_state)))
 
-    pub goes-on : (Unsatisfiable s.clauses → ⊥) → t.done ≢ q.rule.mode.commands → GoesOn (record { tables = t; plan = q; is_refused = false }) (record { tables = t2; plan = q2; is_refused = false })
+    pub goes-on : (Unsatisfiable s.clauses → ⊥) → t.done ≢ q.rule.mode.commands → GoesOn (record { tables = t; plan = q }) (record { tables = t2; plan = q2 })
     goes-on satisfiable below = record { satisfiable = satisfiable; some_left = some_next s.queue _ takes.is_next; below = below; next = next_state; done = develops.done }
 
     pub running-next : t.done ≢ q.rule.mode.commands → IsRunning t2 q2
@@ -193,7 +193,7 @@ module _ (t u : Tables) (q p : Queue Planned Delays) (tables : u ≡ record t { 
       (subst T (sym tables)
       (λ good. record { right = good; comes_to = r.comes_to; within = r.within; few = r.few; declared = r.declared; start = r.start; made = r.made })) right
 
-  pub goes-on-solved : (t2 : Tables) (q2 : Queue Planned Delays) → GoesOn (record { tables = u; plan = p; is_refused = false }) (record { tables = t2; plan = q2; is_refused = false }) → GoesOn (record { tables = t; plan = q; is_refused = false }) (record { tables = t2; plan = q2; is_refused = false })
+  pub goes-on-solved : (t2 : Tables) (q2 : Queue Planned Delays) → GoesOn (record { tables = u; plan = p }) (record { tables = t2; plan = q2 }) → GoesOn (record { tables = t; plan = q }) (record { tables = t2; plan = q2 })
   goes-on-solved t2 q2 g =
       let U : State → Type 0 = λ s. Unsatisfiable s.clauses → ⊥ in
       let L : State → Type 0 = λ s. s.queue ≢ [] in

@@ -21,7 +21,7 @@ fn go<W: Weigher<Command>>(core: &mut Core<W>, limit: u32) -> Result<(), AllocEr
     requires limit { limit ≡ core.old.plan.rule.mode.commands }
     requires below { core.old.tables.done ≢ limit }
     ensures running { OnOk result (IsRunning core.new.tables core.new.plan) }
-    ensures goes_on { OnOk result (GoesOn (record { tables = core.old.tables; plan = core.old.plan; is_refused = false }) (record { tables = core.new.tables; plan = core.new.plan; is_refused = false })) }
+    ensures goes_on { OnOk result (GoesOn (record { tables = core.old.tables; plan = core.old.plan }) (record { tables = core.new.tables; plan = core.new.plan })) }
     ensures rule { OnOk result (core.new.plan.rule ≡ core.old.plan.rule) }
     ensures setting { OnOk result (setting_by core.new.tables core.new.plan ≡ setting_by core.old.tables core.old.plan) }
     ensures start { OnOk result (start_in core.new.tables ≡ start_in core.old.tables) }
@@ -40,7 +40,7 @@ pub(crate) fn advance<W: Weigher<Command>>(
     requires running { IsRunning core.old.tables core.old.plan }
     requires mode { core.old.plan.rule.mode ≡ mode.now }
     ensures running { OnOk result (IsRunning core.new.tables core.new.plan) }
-    ensures answers { IfOk result (Answers (record { tables = core.old.tables; plan = core.old.plan; is_refused = false }) (record { tables = core.new.tables; plan = core.new.plan; is_refused = false })) }
+    ensures answers { IfOk result (Answers (record { tables = core.old.tables; plan = core.old.plan }) (record { tables = core.new.tables; plan = core.new.plan })) }
     ensures rule { OnOk result (core.new.plan.rule ≡ core.old.plan.rule) }
     ensures setting { OnOk result (setting_by core.new.tables core.new.plan ≡ setting_by core.old.tables core.old.plan) }
     ensures start { OnOk result (start_in core.new.tables ≡ start_in core.old.tables) }

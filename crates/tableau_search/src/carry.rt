@@ -10,6 +10,7 @@ ghost use Rattle.tableau_search.specs.Developing.{Develops};
 use crate::instances::{choose, confront, describe, instantiate, mate};
 use crate::process::process;
 use command_queue::Weigher;
+use search_growth::fill;
 use search_tables::{Command, Core};
 use std::alloc::AllocError;
 
@@ -36,7 +37,7 @@ pub(crate) fn carry_out<W: Weigher<Command>>(
         Command::Confront(first, second) => confront(core, first, second),
         Command::Inst(lit, id) => instantiate(core, lit, id),
         Command::Grow(parent, head) => {
-            core.fill(parent, head)?;
+            fill(core, parent, head)?;
             Ok(())
         }
         Command::Choose(id) => choose(core, id),

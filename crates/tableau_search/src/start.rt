@@ -24,7 +24,7 @@ use literal_map::LitTable;
 use mode_file::Mode;
 use sat_base::{Clause, SatLit};
 use sat_core::Solver;
-use search_tables::{Basis, Command, Core, DEPTH};
+use search_tables::{Basis, Command, Core, DEPTH, make_variables};
 use std::alloc::{AllocError, Global};
 use stt_core::Signature;
 use stt_tableau::{Lit, Lits};
@@ -86,18 +86,6 @@ fn number_of(basis: &mut Basis, lit: &Lit) -> Result<SatLit, AllocError>
         var: atom.var,
         positive: lit.positive,
     })
-}
-
-/// Makes a variable for each atom.
-fn make_variables(solver: &mut Solver, atoms: usize) -> Result<(), AllocError>
-    ensures clauses { solver.new.clauses ≡ solver.old.clauses }
-    ensures learned { learned solver.new ≡ learned solver.old }
-    ensures made { OnOk result (atoms ≤ length solver.new.values) }
-{
-    while solver.variables() < atoms {
-        solver.new_var()?;
-    }
-    Ok(())
 }
 
 /// Adds a start unit, for the solver too.

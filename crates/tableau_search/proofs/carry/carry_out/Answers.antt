@@ -7,7 +7,7 @@ use Rattle.tableau_search.proofs.carry.carry_out.Goals as goal
 pub returns-in_ok-fill-in-Grow-clause-develops : goal.returns-in_ok-fill-in-Grow-clause-develops
 returns-in_ok-fill-in-Grow-clause-develops g c =
     let t = c.args.core.now.tables in
-    let u = c.fill.new.self.tables in
+    let u = c.fill.new.core.tables in
     let e = c.in_ok-fill-in-Grow.ensures.tables in
     record {
       basis = grows-wider t.basis u.basis (c.in_ok-fill-in-Grow.ensures.basis);

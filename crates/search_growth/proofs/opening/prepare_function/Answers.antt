@@ -5,13 +5,13 @@ use Rattle.stt_core.specs.View.{the_type}
 use Rattle.search_run.specs.Partial.{blank}
 use Rattle.search_run.specs.Terms.{opened}
 use Rattle.search_tables.specs.Standing.{setting_by, the_state}
-use Rattle.search_tables.proofs.OpeningLaws.{prepared-before, prepared-now}
-use Rattle.search_tables.proofs.tables.Core.prepare_function.Goals as goal
+use Rattle.search_growth.proofs.OpeningLaws.{prepared-before, prepared-now}
+use Rattle.search_growth.proofs.opening.prepare_function.Goals as goal
 
 pub returns-then-has_type-clause-state : goal.returns-then-has_type-clause-state
 returns-then-has_type-clause-state g c =
-    let t = c.args.self.now.tables in
-    let q = c.args.self.now.plan in
+    let t = c.args.core.now.tables in
+    let q = c.args.core.now.plan in
     let a = the_type c.args.ty.now in
     let s = the_state t q in
     let roots = list_any (same_type a) t.roots in
@@ -19,8 +19,8 @@ returns-then-has_type-clause-state g c =
 
 pub returns-clause-state : goal.returns-clause-state
 returns-clause-state g c =
-    let t = c.args.self.now.tables in
-    let q = c.args.self.now.plan in
+    let t = c.args.core.now.tables in
+    let q = c.args.core.now.plan in
     let a = the_type c.args.ty.now in
     let s = the_state t q in
     let roots = list_any (same_type a) t.roots in

@@ -1,8 +1,8 @@
 use Rattle.std.proofs.Common.{sym, ◌∙◌}
 use Rattle.stt_core.specs.SimpleType.{same_type}
 use Rattle.stt_core.specs.View.{the_type}
-use Rattle.search_tables.proofs.OpeningLaws.{any-passed, any-found}
-use Rattle.search_tables.proofs.opening.has_type.Goals as goal
+use Rattle.search_growth.proofs.OpeningLaws.{any-passed, any-found}
+use Rattle.search_growth.proofs.opening.has_type.Goals as goal
 
 pub loop-i-preserved : goal.loop-i-preserved
 loop-i-preserved c =

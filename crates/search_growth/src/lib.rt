@@ -1,0 +1,10 @@
+//! What the search grows: partial terms, the terms of types, and witnesses.
+#![tactic(auto)]
+
+mod filling;
+mod opening;
+mod witness;
+
+pub use filling::fill;
+pub use opening::{open_stem, prepare};
+pub use witness::add_witness;

@@ -1,0 +1,92 @@
+//! Partial terms that are opened.
+ghost use Rattle.std.specs.Prelude.{◌≡◌, true, length, OnOk};
+ghost use Rattle.std.specs.List.{list_any};
+ghost use Rattle.stt_core.specs.SimpleType.{SimpleType, base, arrow, is_declared, same_type};
+ghost use Rattle.stt_core.specs.View.{the_type};
+ghost use Rattle.search_run.specs.Terms.{opened, prepared};
+ghost use Rattle.search_tables.specs.Growing.{BasisGrows};
+ghost use Rattle.search_tables.specs.Heads.{sketch_of, IsStem};
+ghost use Rattle.search_tables.specs.Standing.{scope_by, setting_by, sketches_in, the_state, IsRight};
+
+use command_queue::Weigher;
+use search_tables::{Command, Core, Stem};
+use std::alloc::AllocError;
+use stt_core::{Ty, Types};
+
+/// Whether a type is one of a list.
+fn has_type(types: &Types, ty: &Ty) -> bool
+    ensures { result ≡ list_any (same_type (the_type ty.now)) types.now }
+{
+    for i in 0..types.len() {
+        if ty.same(types.at(i)) {
+            return true;
+        }
+    }
+    false
+}
+
+/// A partial term is opened: it is parked, and its first hole is to be filled with each head that fits. This isn't built yet, and
+/// answers want of memory.
+pub fn open_stem<W: Weigher<Command>>(core: &mut Core<W>, stem: Stem) -> Result<(), AllocError>
+    requires right { IsRight core.old.tables core.old.plan }
+    requires stem { IsStem (scope_by core.old.tables.basis) (sketches_in core.old.tables) stem }
+    ensures state { OnOk result (the_state core.new.tables core.new.plan ≡ opened (setting_by core.old.tables core.old.plan) (sketch_of (scope_by core.old.tables.basis) (sketches_in core.old.tables) stem) (the_state core.old.tables core.old.plan)) }
+    ensures right { OnOk result (IsRight core.new.tables core.new.plan) }
+    ensures tables { OnOk result (core.new.tables ≡ record core.old.tables { stems = core.new.tables.stems; open_holes = core.new.tables.open_holes; holes = core.new.tables.holes; roots = core.new.tables.roots }) }
+    ensures rule { OnOk result (core.new.plan.rule ≡ core.old.plan.rule) }
+{
+    Err(AllocError)
+}
+
+/// A base type gets its first terms, where it has none. This isn't built yet, and answers want of memory.
+fn prepare_base<W: Weigher<Command>>(core: &mut Core<W>, n: u32) -> Result<(), AllocError>
+    requires right { IsRight core.old.tables core.old.plan }
+    requires declared { is_declared (length core.old.tables.basis.bank.bases) (base n) ≡ true }
+    ensures state { OnOk result (the_state core.new.tables core.new.plan ≡ prepared (setting_by core.old.tables core.old.plan) (base n) (the_state core.old.tables core.old.plan)) }
+    ensures right { OnOk result (IsRight core.new.tables core.new.plan) }
+    ensures basis { OnOk result (BasisGrows core.old.tables.basis core.new.tables.basis) }
+    ensures tables { OnOk result (core.new.tables ≡ record core.old.tables { basis = core.new.tables.basis; terms = core.new.tables.terms }) }
+    ensures rule { OnOk result (core.new.plan.rule ≡ core.old.plan.rule) }
+{
+    Err(AllocError)
+}
+
+/// For a function type one hole under its binders is opened, where none of its partial terms is parked.
+fn prepare_function<W: Weigher<Command>>(core: &mut Core<W>, ty: &Ty) -> Result<(), AllocError>
+    requires right { IsRight core.old.tables core.old.plan }
+    requires function { (a : SimpleType) × ((b : SimpleType) × (the_type ty.now ≡ arrow a b)) }
+    ensures state { OnOk result (the_state core.new.tables core.new.plan ≡ prepared (setting_by core.old.tables core.old.plan) (the_type ty.now) (the_state core.old.tables core.old.plan)) }
+    ensures right { OnOk result (IsRight core.new.tables core.new.plan) }
+    ensures tables { OnOk result (core.new.tables ≡ record core.old.tables { stems = core.new.tables.stems; open_holes = core.new.tables.open_holes; holes = core.new.tables.holes; roots = core.new.tables.roots }) }
+    ensures rule { OnOk result (core.new.plan.rule ≡ core.old.plan.rule) }
+{
+    if has_type(&core.tables.roots, ty) {
+        return Ok(());
+    }
+    let blank = ty.try_clone(core.tables.alloc)?;
+    open_stem(core, Stem::Blank(blank))?;
+    Ok(())
+}
+
+/// A type is prepared: a base type gets its first terms, where it has none, and for a function type one hole under its binders is
+/// opened, where none of its partial terms is parked.
+pub fn prepare<W: Weigher<Command>>(core: &mut Core<W>, ty: &Ty) -> Result<(), AllocError>
+    requires right { IsRight core.old.tables core.old.plan }
+    requires declared { is_declared (length core.old.tables.basis.bank.bases) (the_type ty.now) ≡ true }
+    ensures state { OnOk result (the_state core.new.tables core.new.plan ≡ prepared (setting_by core.old.tables core.old.plan) (the_type ty.now) (the_state core.old.tables core.old.plan)) }
+    ensures right { OnOk result (IsRight core.new.tables core.new.plan) }
+    ensures basis { OnOk result (BasisGrows core.old.tables.basis core.new.tables.basis) }
+    ensures tables { OnOk result (core.new.tables ≡ record core.old.tables { basis = core.new.tables.basis; terms = core.new.tables.terms; stems = core.new.tables.stems; open_holes = core.new.tables.open_holes; holes = core.new.tables.holes; roots = core.new.tables.roots }) }
+    ensures rule { OnOk result (core.new.plan.rule ≡ core.old.plan.rule) }
+{
+    match ty {
+        Ty::Base(n) => {
+            prepare_base(core, *n)?;
+            Ok(())
+        }
+        Ty::Arrow(_, _) => {
+            prepare_function(core, ty)?;
+            Ok(())
+        }
+    }
+}

@@ -1,0 +1,34 @@
+//! Witnesses of predicates that don't hold everywhere.
+ghost use Rattle.std.specs.Prelude.{◌≡◌, ◌<◌, ◌-◌, ◌^◌, length, OnOk};
+ghost use Rattle.stt_core.specs.SimpleType.{SimpleType};
+ghost use Rattle.stt_core.specs.Lambda.{Lambda, every};
+ghost use Rattle.stt_tableau.specs.Literals.{minus};
+ghost use Rattle.literal_map.specs.Atoms.{literal_at};
+ghost use Rattle.search_run.specs.Witness.{witnessed};
+ghost use Rattle.search_tables.specs.Growing.{BasisWidens};
+ghost use Rattle.search_tables.specs.Names.{IsNumber};
+ghost use Rattle.search_tables.specs.Standing.{setting_by, the_state, IsRight};
+ghost use Rattle.search_tables.specs.Steps.{IsMade, StepsGrow};
+
+use command_queue::Weigher;
+use sat_base::SatLit;
+use search_tables::{Command, Core};
+use std::alloc::AllocError;
+
+/// The rule for a literal that says of a predicate that it doesn't hold everywhere. The predicate gets a witness, where it has none,
+/// and with this one the partial terms are to grow.
+pub fn add_witness<W: Weigher<Command>>(core: &mut Core<W>, lit: SatLit) -> Result<(), AllocError>
+    requires right { IsRight core.old.tables core.old.plan }
+    requires number { IsNumber core.old.tables.basis.lits lit }
+    requires few { length core.old.tables.basis.witnesses < 2 ^ 32 - 1 }
+    requires denies { (a : SimpleType) × ((f : Lambda) × (literal_at core.old.tables.basis.bank.terms core.old.tables.basis.lits lit ≡ minus (every a f))) }
+    ensures state { OnOk result ((a : SimpleType) (f : Lambda) → literal_at core.old.tables.basis.bank.terms core.old.tables.basis.lits lit ≡ minus (every a f)
+        → the_state core.new.tables core.new.plan ≡ witnessed (setting_by core.old.tables core.old.plan) a f (the_state core.old.tables core.old.plan)) }
+    ensures right { OnOk result (IsRight core.new.tables core.new.plan) }
+    ensures basis { OnOk result (BasisWidens core.old.tables.basis core.new.tables.basis) }
+    ensures steps { OnOk result (StepsGrow (IsMade core.new.tables.basis) core.old.tables.steps core.new.tables.steps) }
+    ensures tables { OnOk result (core.new.tables ≡ record core.old.tables { basis = core.new.tables.basis; seen = core.new.tables.seen; steps = core.new.tables.steps; solver = core.new.tables.solver; takers = core.new.tables.takers }) }
+    ensures rule { OnOk result (core.new.plan.rule ≡ core.old.plan.rule) }
+{
+    Err(AllocError)
+}
