@@ -1,10 +1,15 @@
 //! Canonical forms.
 
+ghost use Rattle.std.specs.Prelude.{◌<◌, length, IfOk, OnOk};
+ghost use Rattle.term_bank.specs.Content.{Grows};
+ghost use Rattle.bank_rows.specs.Individuals.{HasNoWitness};
+
 use crate::checked::{applied, imported, normalised, tree};
 use crate::refused::RowRefused;
 use crate::scope::{C, K, empty_bank, endo};
 use std::alloc::{AllocError, Global};
 use stt_core::{Head, Nf, Nfs, Term, Ty, Types};
+use term_bank::{Bank, Id};
 
 /// Functions of individuals, over a head without arguments.
 fn constantly(alloc: Global, binders: usize, head: Head) -> Result<Nf, AllocError> {
@@ -15,16 +20,36 @@ fn constantly(alloc: Global, binders: usize, head: Head) -> Result<Nf, AllocErro
     Ok(tree(types, head, Nfs::new(alloc)))
 }
 
+/// The number of functions of individuals, over a head without arguments.
+fn imported_constantly(
+    alloc: Global,
+    bank: &mut Bank,
+    binders: usize,
+    head: Head,
+) -> Result<Id, RowRefused>
+    requires { HasNoWitness bank.old }
+    ensures within { IfOk result (λ id. id < length bank.new.terms) }
+    ensures grows { OnOk result (Grows bank.old bank.new) }
+{
+    let nf = constantly(alloc, binders, head)?;
+    imported(alloc, bank, &nf)
+}
+
+/// Whether `^i.^i.#1` gives `^i.c` at `c`, over a bank.
+fn is_constant_over(alloc: Global, bank: &mut Bank) -> Result<bool, RowRefused>
+    requires { HasNoWitness bank.old }
+{
+    let function = imported_constantly(alloc, bank, 2, Head::Bound(1))?;
+    let argument = imported_constantly(alloc, bank, 0, Head::Name(C))?;
+    let made = applied(alloc, bank, function, argument)?;
+    let wanted = imported_constantly(alloc, bank, 1, Head::Name(C))?;
+    Ok(bank.same(made, wanted))
+}
+
 /// Whether `^i.^i.#1` gives `^i.c` at `c`.
 pub fn outcome_is_constant(alloc: Global) -> Result<bool, RowRefused> {
     let mut bank = empty_bank(alloc)?;
-    let function = constantly(alloc, 2, Head::Bound(1))?;
-    let argument = constantly(alloc, 0, Head::Name(C))?;
-    let function = imported(alloc, &mut bank, &function)?;
-    let argument = imported(alloc, &mut bank, &argument)?;
-    let made = applied(alloc, &mut bank, function, argument)?;
-    let wanted = imported(alloc, &mut bank, &constantly(alloc, 1, Head::Name(C))?)?;
-    Ok(bank.same(made, wanted))
+    is_constant_over(alloc, &mut bank)
 }
 
 /// `^(i > i).(k ^i.(#1 #0))`
@@ -40,10 +65,18 @@ fn long_function(alloc: Global) -> Result<Nf, AllocError> {
     Ok(tree(functions, Head::Name(K), outer))
 }
 
+/// Whether the normal form of `k` is `^(i > i).(k ^i.(#1 #0))`, over a bank.
+fn is_long_over(alloc: Global, bank: &mut Bank) -> Result<bool, RowRefused>
+    requires { HasNoWitness bank.old }
+{
+    let made = normalised(alloc, bank, &Term::Name(K))?;
+    let tree = long_function(alloc)?;
+    let wanted = imported(alloc, bank, &tree)?;
+    Ok(bank.same(made, wanted))
+}
+
 /// Whether the normal form of `k` is `^(i > i).(k ^i.(#1 #0))`.
 pub fn function_is_long(alloc: Global) -> Result<bool, RowRefused> {
     let mut bank = empty_bank(alloc)?;
-    let made = normalised(alloc, &mut bank, &Term::Name(K))?;
-    let wanted = imported(alloc, &mut bank, &long_function(alloc)?)?;
-    Ok(bank.same(made, wanted))
+    is_long_over(alloc, &mut bank)
 }

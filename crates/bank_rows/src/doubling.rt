@@ -121,11 +121,19 @@ fn instance(alloc: Global, bank: &mut Bank, function: Id, argument: Id) -> Resul
     Ok(id)
 }
 
+/// The function that doubles its argument forty times is applied to a constant.
+fn double_at_constant(alloc: Global, bank: &mut Bank) -> Result<(), AllocError>
+    requires names { HasNames bank.old }
+{
+    let function = doubling(bank)?;
+    let c = constant(bank)?;
+    instance(alloc, bank, function, c)?;
+    Ok(())
+}
+
 /// How many terms a bank has after the function that doubles its argument forty times was applied to a constant.
 pub fn doubled_at_constant(alloc: Global) -> Result<usize, AllocError> {
     let mut bank = empty_bank(alloc)?;
-    let function = doubling(&mut bank)?;
-    let c = constant(&mut bank)?;
-    let _made = instance(alloc, &mut bank, function, c)?;
+    double_at_constant(alloc, &mut bank)?;
     Ok(bank.len())
 }

@@ -1,10 +1,13 @@
 //! A tree with equal parts.
 
+ghost use Rattle.bank_rows.specs.Individuals.{HasNoWitness};
+
 use crate::checked::{imported, tree};
 use crate::refused::RowRefused;
 use crate::scope::{C, F, G, empty_bank};
 use std::alloc::{AllocError, Global};
 use stt_core::{Head, Nf, Nfs, Types};
+use term_bank::Bank;
 
 /// `(g c)`
 fn applied(alloc: Global) -> Result<Nf, AllocError> {
@@ -14,18 +17,30 @@ fn applied(alloc: Global) -> Result<Nf, AllocError> {
     Ok(tree(Types::new(alloc), Head::Name(G), args))
 }
 
-/// How many terms a bank has after `(f (g c) (g c))` has come in once, and twice.
-pub fn twice_imported(alloc: Global) -> Result<(usize, usize), RowRefused> {
+/// `(f (g c) (g c))`
+fn with_equal_parts(alloc: Global) -> Result<Nf, AllocError> {
     let mut args = Nfs::new(alloc);
     args.push(applied(alloc)?)?;
     args.push(applied(alloc)?)?;
-    let whole = tree(Types::new(alloc), Head::Name(F), args);
-    let mut bank = empty_bank(alloc)?;
-    let first = imported(alloc, &mut bank, &whole)?;
+    Ok(tree(Types::new(alloc), Head::Name(F), args))
+}
+
+/// How many terms a bank has after a tree has come in once, and twice.
+fn counted(alloc: Global, bank: &mut Bank, whole: &Nf) -> Result<(usize, usize), RowRefused>
+    requires { HasNoWitness bank.old }
+{
+    let first = imported(alloc, bank, whole)?;
     let count = bank.len();
-    let again = imported(alloc, &mut bank, &whole)?;
+    let again = imported(alloc, bank, whole)?;
     if first != again {
         return Ok((count, 0));
     }
     Ok((count, bank.len()))
+}
+
+/// How many terms a bank has after `(f (g c) (g c))` has come in once, and twice.
+pub fn twice_imported(alloc: Global) -> Result<(usize, usize), RowRefused> {
+    let whole = with_equal_parts(alloc)?;
+    let mut bank = empty_bank(alloc)?;
+    counted(alloc, &mut bank, &whole)
 }

@@ -1,11 +1,12 @@
 //! Literals and branches.
 
-ghost use Rattle.std.specs.Prelude.{◌≡◌, ◌<◌, ◌++◌, [], ◌∷◌, length, OnOk, OnErr, slice_get, option_copied, false, IfOk, IsTrue, ◌↔◌, Contains};
-ghost use Rattle.stt_tableau.specs.Literals.{is_negated, opposite};
+ghost use Rattle.std.specs.Prelude.{◌≡◌, ◌<◌, ◌++◌, [], ◌∷◌, length, OnOk, OnErr, slice_get, option_copied, Some, false, IfOk, IsTrue, ◌↔◌, Contains};
+ghost use Rattle.stt_tableau.specs.Literals.{Literal, is_negated, opposite};
 ghost use Rattle.stt_tableau.specs.Accepted.{Within, IsClosed};
 
 use std::alloc::{AllocError, Global};
 use std::marker::Model;
+use std::rc::Rc;
 use stt_core::{Nf, same_nf};
 
 /// A formula with a sign. Its head isn't negation, which the sign stands for.
@@ -66,14 +67,15 @@ impl Lit {
     }
 }
 
-/// A list of literals, as a branch of a tableau, which is read as a set.
+/// A list of literals, as a branch of a tableau, which is read as a set. Lists share their literals.
 #[derive(Drop)]
 pub struct Lits {
-    items: Vec<Lit>,
+    items: Vec<Rc<Lit>>,
+    alloc: Global,
 }
 
 impl Model for Lits {
-    ghost use Rattle.std.specs.Prelude.{List};
+    ghost use Rattle.std.specs.Prelude.{List, map};
     ghost use Rattle.std.specs.Coded.{coded_list};
     ghost use Rattle.stt_tableau.specs.Literals.{Literal, literal_code};
 
@@ -81,7 +83,7 @@ impl Model for Lits {
 
     ghost coded = { coded_list literal_code };
 
-    ghost view = { λ a. a.items.items };
+    ghost view = { λ a. map (λ l. l.value) a.items.items };
 }
 
 impl Lits {
@@ -90,6 +92,7 @@ impl Lits {
     {
         Lits {
             items: Vec::new(alloc),
+            alloc,
         }
     }
 
@@ -97,7 +100,19 @@ impl Lits {
         ensures ok { OnOk result (self.new ≡ self.old ++ lit ∷ []) }
         ensures err { OnErr result (self.new ≡ self.old) }
     {
-        self.items.push(lit)?;
+        let shared = Rc::new(self.alloc, lit)?;
+        self.items.push(shared)?;
+        Ok(())
+    }
+
+    /// Appends the literal at a place of another list, which shares it from then on.
+    pub fn share(&mut self, other: &Lits, i: usize) -> Result<(), AllocError>
+        requires { i < length other.now }
+        ensures ok { OnOk result ((lit : Literal) → slice_get other.now i ≡ Some lit → self.new ≡ self.old ++ lit ∷ []) }
+        ensures err { OnErr result (self.new ≡ self.old) }
+    {
+        let shared = Rc::clone(&other.items[i])?;
+        self.items.push(shared)?;
         Ok(())
     }
 
@@ -111,17 +126,20 @@ impl Lits {
     pub fn get(&self, i: usize) -> Option<&Lit>
         ensures { option_copied result ≡ slice_get self.now i }
     {
-        self.items.get(i)
+        match self.items.get(i) {
+            Some(lit) => Some(&**lit),
+            None => None,
+        }
     }
 
-    /// A copy of the list.
+    /// A list of the same literals, which both lists share.
     pub fn try_clone(&self, alloc: Global) -> Result<Lits, AllocError>
         ensures { IfOk result (λ ls. ls ≡ self.now) }
     {
         let mut lits = Lits::new(alloc);
         for i in 0..self.len() {
-            let lit = self.at(i).try_clone(alloc)?;
-            lits.push(lit)?;
+            let _lit = self.at(i);
+            lits.share(self, i)?;
         }
         Ok(lits)
     }

@@ -4,6 +4,7 @@ pub mod Walks
 pub mod Arenas
 pub mod Numbers
 pub mod Branches
+pub mod Pools
 pub mod LineParts
 pub mod Needed
 pub mod Written

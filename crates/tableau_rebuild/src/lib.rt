@@ -10,6 +10,7 @@ mod lines;
 mod literals;
 mod needed;
 mod numbering;
+mod pool;
 mod reached;
 mod refutation;
 mod rows;

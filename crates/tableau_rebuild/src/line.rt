@@ -1,5 +1,5 @@
 //! Lines.
-ghost use Rattle.std.specs.Prelude.{◌≡◌, ◌<◌, [], ◌∷◌, length, map, Some, IsSome, IfSome, IfOk, All, unwrap_or};
+ghost use Rattle.std.specs.Prelude.{◌≡◌, ◌<◌, [], ◌∷◌, length, map, Some, IsSome, IfSome, IfOk, OnOk, All, unwrap_or};
 ghost use Rattle.sat_base.specs.Literal.{IsOver};
 ghost use Rattle.stt_tableau.specs.declared.refutation.RuleUse.{RuleUse};
 ghost use Rattle.stt_tableau.specs.declared.refutation.Child.TheVariants.{Closed, Line as Numbered};
@@ -11,9 +11,11 @@ ghost use Rattle.rebuilt_refutation.specs.Stands.{placed, place_in};
 ghost use Rattle.tableau_rules.specs.Uses.{use_of};
 ghost use Rattle.tableau_rebuild.specs.Tables.{no_literal, the_atoms, the_instance};
 ghost use Rattle.tableau_rebuild.specs.Means.LineParts.{first_in, left_in, right_in, instance_by, IsGoodUse, IsMakeable, IsLineBy};
+ghost use Rattle.tableau_rebuild.specs.Means.Pools.{IsMade};
 
 use crate::draft::Draft;
 use crate::literals::{lit_of, lits_of, position};
+use crate::pool::Pool;
 use literal_map::{BankUse, Instance, LitList, LitLists, LitTable, RuleKind};
 use sat_base::SatLit;
 use std::alloc::{AllocError, Global};
@@ -180,13 +182,16 @@ pub(crate) fn line_of(
     draft: Draft,
     branch: &[SatLit],
     numbers: &[usize],
+    pool: &mut Pool,
 ) -> Result<Line, AllocError>
     requires atoms { All (IsAtom bank.now) atoms.now }
     requires numbered { IsOver (length atoms.now) branch.now }
     requires makeable { IsMakeable bank.now atoms.now steps.now numbers.now draft }
-    ensures { IfOk result (λ line. IsLineBy bank.now atoms.now steps.now numbers.now branch.now draft line) }
+    requires made { IsMade (the_atoms bank.now.terms atoms.now) pool.old }
+    ensures made { OnOk result (IsMade (the_atoms bank.now.terms atoms.now) pool.new) }
+    ensures line { IfOk result (λ line. IsLineBy bank.now atoms.now steps.now numbers.now branch.now draft line) }
 {
-    let literals = lits_of(alloc, bank, atoms, branch)?;
+    let literals = lits_of(alloc, bank, atoms, branch, pool)?;
     match draft {
         Draft::Clause(n) => match steps.origin(n) {
             Origin::Instance(k) => Ok(instance_line(

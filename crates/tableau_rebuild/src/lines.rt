@@ -17,6 +17,7 @@ use crate::branch::branch_of;
 use crate::draft::Draft;
 use crate::line::line_of;
 use crate::needed::rows_for_line;
+use crate::pool::Pool;
 use literal_map::LitTable;
 use sat_base::Clause;
 use sat_log::Resolver;
@@ -61,10 +62,11 @@ pub(crate) fn write_lines(
     let mut lines = Lines::new(alloc);
     let mut rows: usize = 0;
     let mut resolver = Resolver::new(alloc);
+    let mut pool = Pool::new(alloc);
     for k in 0..order.len() {
         let draft = drafts[order[k]];
         let branch = branch_of(alloc, steps, draft, numbers, &branches, &mut resolver)?;
-        let line = line_of(alloc, bank, atoms, steps, draft, branch.as_slice(), numbers)?;
+        let line = line_of(alloc, bank, atoms, steps, draft, branch.as_slice(), numbers, &mut pool)?;
         rows = rows.max(rows_for_line(bank, atoms, witnesses, steps, draft, branch.as_slice()));
         lines.push(line)?;
         branches.push(branch)?;

@@ -6,7 +6,9 @@ ghost use Rattle.literal_map.specs.Atoms.{IsAtom};
 ghost use Rattle.rebuilt_refutation.specs.Input.{literals_of};
 ghost use Rattle.rebuilt_refutation.specs.Stands.{place_in};
 ghost use Rattle.tableau_rebuild.specs.Tables.{the_atoms};
+ghost use Rattle.tableau_rebuild.specs.Means.Pools.{IsMade};
 
+use crate::pool::Pool;
 use literal_map::LitTable;
 use sat_base::{Clause, SatLit};
 use std::alloc::{AllocError, Global};
@@ -49,21 +51,23 @@ pub(crate) fn lit_of(bank: &Bank, atoms: &LitTable, literal: SatLit) -> Result<L
     })
 }
 
-/// The literals of a branch.
+/// The literals of a branch, each made once for all branches.
 pub(crate) fn lits_of(
     alloc: Global,
     bank: &Bank,
     atoms: &LitTable,
     branch: &[SatLit],
+    pool: &mut Pool,
 ) -> Result<Lits, AllocError>
     requires atoms { All (IsAtom bank.now) atoms.now }
     requires within { IsOver (length atoms.now) branch.now }
-    ensures { IfOk result (λ ls. ls ≡ literals_of (the_atoms bank.now.terms atoms.now) branch.now) }
+    requires made { IsMade (the_atoms bank.now.terms atoms.now) pool.old }
+    ensures made { OnOk result (IsMade (the_atoms bank.now.terms atoms.now) pool.new) }
+    ensures literals { IfOk result (λ ls. ls ≡ literals_of (the_atoms bank.now.terms atoms.now) branch.now) }
 {
     let mut lits = Lits::new(alloc);
     for i in 0..branch.len() {
-        let lit = lit_of(bank, atoms, branch[i])?;
-        lits.push(lit)?;
+        pool.push_to(bank, atoms, branch[i], &mut lits)?;
     }
     Ok(lits)
 }

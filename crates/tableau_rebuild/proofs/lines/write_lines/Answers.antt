@@ -99,11 +99,12 @@ loop-k-preserved c =
     let can = c.requires.makeable k i d listed drafted in
     let made = branch_made b atoms t ds c.requires.right c.args.last c.requires.last order c.requires.walked c.requires.inside numbers c.requires.numbers k i d c.deref.result.now listed drafted can (c.deref.ensures.value ∙ c.loop-k.invariant.branches) in
     let is = c.in_ok-branch.ensures.branch ∙ made in
-    let line = subst (λ ls. IsLineBy b atoms t numbers ls d c.in_ok-line.line) (c.as_slice.ensures ∙ is) c.in_ok-line.ensures in
+    let line = subst (λ ls. IsLineBy b atoms t numbers ls d c.in_ok-line.line) (c.as_slice.ensures ∙ is) c.in_ok-line.ensures.line in
     let right = line_made b atoms t ds c.requires.right c.args.last c.requires.last order c.requires.walked c.requires.inside numbers c.requires.numbers k i d c.in_ok-line.line listed drafted can line in
     record {
       branches = map_more (λ j. branch (the_tree b.terms atoms t ds j)) order k i c.loop-k.branches.items c.push-in-loop-k.new.self.items c.in_ok-branch.branch listed c.loop-k.invariant.branches is c.in_ok-push-2.ensures.items;
       lines = map_more (λ j. line_of (the_atoms b.terms atoms) (map (the_tree b.terms atoms t ds) order) (the_tree b.terms atoms t ds j)) order k i c.loop-k.lines c.push.new.self c.in_ok-line.line listed c.loop-k.invariant.lines right c.in_ok-push.ensures.ok;
-      rows = lines_more (rows_of b.terms c.args.witnesses.now) c.loop-k.lines c.push.new.self c.in_ok-line.line c.loop-k.rows c.rows_for_line.result c.max-rows.result c.in_ok-push.ensures.ok c.loop-k.invariant.rows (c.rows_for_line.ensures numbers c.in_ok-line.line (subst (λ ls. IsLineBy b atoms t numbers ls d c.in_ok-line.line) (c.as_slice.ensures ∙ sym c.as_slice-in-loop-k.ensures) c.in_ok-line.ensures)) c.max-rows.ensures;
+      rows = lines_more (rows_of b.terms c.args.witnesses.now) c.loop-k.lines c.push.new.self c.in_ok-line.line c.loop-k.rows c.rows_for_line.result c.max-rows.result c.in_ok-push.ensures.ok c.loop-k.invariant.rows (c.rows_for_line.ensures numbers c.in_ok-line.line (subst (λ ls. IsLineBy b atoms t numbers ls d c.in_ok-line.line) (c.as_slice.ensures ∙ sym c.as_slice-in-loop-k.ensures) c.in_ok-line.ensures.line)) c.max-rows.ensures;
       empty = c.in_ok-branch.ensures.empty;
+      made = c.in_ok-line.ensures.made;
     }

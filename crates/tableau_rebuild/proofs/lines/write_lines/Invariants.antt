@@ -5,6 +5,7 @@ use Rattle.rebuilt_refutation.specs.NeededRows.{rows_for_lines}
 use Rattle.rebuilt_refutation.specs.Trees.{branch}
 use Rattle.tableau_rebuild.specs.Tables.{the_atoms}
 use Rattle.tableau_rebuild.specs.Means.Written.{the_tree}
+use Rattle.tableau_rebuild.specs.Means.Pools.{IsMade}
 use Rattle.tableau_rebuild.proofs.lines.write_lines.Given as goal
 
 abbrev pub invariant-loop-k : goal.invariant-loop-k
@@ -13,4 +14,5 @@ invariant-loop-k l = record {
   lines : l.lines ≡ map (λ i. line_of (the_atoms l.bank.terms l.atoms) (map (the_tree l.bank.terms l.atoms l.steps l.drafts) l.order) (the_tree l.bank.terms l.atoms l.steps l.drafts i)) (take l.k l.order);
   rows : l.rows ≡ rows_for_lines (rows_of l.bank.terms l.witnesses) l.lines;
   empty : l.resolver ≡ [];
+  made : IsMade (the_atoms l.bank.terms l.atoms) l.pool;
 }

@@ -1,7 +1,11 @@
 use Rattle.std.proofs.Common.{◌≡◌, take}
 use Rattle.rebuilt_refutation.specs.Input.{literals_of}
 use Rattle.tableau_rebuild.specs.Tables.{the_atoms}
+use Rattle.tableau_rebuild.specs.Means.Pools.{IsMade}
 use Rattle.tableau_rebuild.proofs.literals.lits_of.Given as goal
 
 abbrev pub invariant-loop-i : goal.invariant-loop-i
-invariant-loop-i l = l.lits ≡ literals_of (the_atoms l.bank.terms l.atoms) (take l.i l.branch)
+invariant-loop-i l = record {
+  lits : l.lits ≡ literals_of (the_atoms l.bank.terms l.atoms) (take l.i l.branch);
+  made : IsMade (the_atoms l.bank.terms l.atoms) l.pool;
+}

@@ -1,10 +1,10 @@
-use Rattle.std.proofs.Common.{◌∙◌, take_all, arith}
+use Rattle.std.proofs.Common.{◌∙◌, take_all, arith, refl}
 use Rattle.stt_core.proofs.ListLaws.{copy_more}
 use Rattle.stt_tableau.proofs.lit.Lits.try_clone.Goals as goal
 
 pub loop-i-preserved : goal.loop-i-preserved
 loop-i-preserved c =
-    copy_more c.args.self.now c.loop-i.i c.at.result.now c.loop-i.lits c.push.new.self c.in_ok-lit.lit c.at.ensures c.loop-i.invariant c.in_ok-lit.ensures c.in_ok-push.ensures.ok
+    copy_more c.args.self.now c.loop-i.i c._lit.now c.loop-i.lits c.share.new.self c._lit.now c.at.ensures c.loop-i.invariant refl (c.in_ok-share.ensures.ok _ c.at.ensures)
 
 pub returns : goal.returns
 returns c = c.loop-i.invariant ∙ take_all c.loop-i.i c.args.self.now (omega (arith, c.len-i-end.ensures))

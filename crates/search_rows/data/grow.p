@@ -1,0 +1,2 @@
+thf(c,type,c: $i).
+thf(g,conjecture,( ? [P: $i > $o] : ( P @ c ) )).

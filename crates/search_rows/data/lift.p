@@ -1,0 +1,1 @@
+thf(c,conjecture,( ! [Z:$i] : ( ( ( ^ [X:$i] : ^ [Y:$i] : X ) @ Z ) = ( ^ [W:$i] : Z ) ) )).

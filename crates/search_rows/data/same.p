@@ -1,0 +1,1 @@
+thf(c,conjecture,( ( @- [X:$i] : ( X = X ) ) = ( @- [X:$i] : ( X = X ) ) )).

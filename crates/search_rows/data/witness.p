@@ -1,0 +1,1 @@
+thf(c,conjecture,( ! [X:$i] : $true )).

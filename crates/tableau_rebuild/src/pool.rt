@@ -1,0 +1,75 @@
+//! Literals of which each is made once.
+ghost use Rattle.std.specs.Prelude.{◌≡◌, ◌<◌, [], ◌∷◌, ◌++◌, List, length, Some, slice_get, IfOk, OnOk, All};
+ghost use Rattle.stt_core.specs.Lambda.{Lambda};
+ghost use Rattle.search_run.specs.Numbered.{literal_at};
+ghost use Rattle.literal_map.specs.Atoms.{IsAtom};
+ghost use Rattle.tableau_rebuild.specs.Tables.{the_atoms};
+ghost use Rattle.tableau_rebuild.specs.Means.Pools.{IsMade};
+
+use crate::literals::lit_of;
+use indexmap::IndexSet;
+use literal_map::LitTable;
+use sat_base::SatLit;
+use std::alloc::{AllocError, Global};
+use stt_tableau::Lits;
+use term_bank::Bank;
+
+/// The literals that were made of their numbers so far. Lines share them.
+#[derive(Drop)]
+pub(crate) struct Pool {
+    numbers: IndexSet<SatLit>,
+    lits: Lits,
+}
+
+impl Pool {
+    /// A pool without literals.
+    pub(crate) fn new(alloc: Global) -> Pool
+        ensures { (atoms : List Lambda) → IsMade atoms result }
+    {
+        Pool {
+            numbers: IndexSet::new(alloc),
+            lits: Lits::new(alloc),
+        }
+    }
+
+    /// The place of a literal in the pool, which gets it where it isn't there yet.
+    fn place_of(
+        &mut self,
+        bank: &Bank,
+        atoms: &LitTable,
+        literal: SatLit,
+    ) -> Result<usize, AllocError>
+        requires atoms { All (IsAtom bank.now) atoms.now }
+        requires within { literal.var.0 < length atoms.now }
+        requires made { IsMade (the_atoms bank.now.terms atoms.now) self.old }
+        ensures made { OnOk result (IsMade (the_atoms bank.now.terms atoms.now) self.new) }
+        ensures place { IfOk result (λ place. slice_get self.new.lits place ≡ Some (literal_at (the_atoms bank.now.terms atoms.now) literal)) }
+    {
+        let (place, is_new) = self.numbers.insert_full(literal)?;
+        if is_new {
+            let lit = lit_of(bank, atoms, literal)?;
+            self.lits.push(lit)?;
+            return Ok(place);
+        }
+        Ok(place)
+    }
+
+    /// Appends the literal of a number to a list, which shares it.
+    pub(crate) fn push_to(
+        &mut self,
+        bank: &Bank,
+        atoms: &LitTable,
+        literal: SatLit,
+        lits: &mut Lits,
+    ) -> Result<(), AllocError>
+        requires atoms { All (IsAtom bank.now) atoms.now }
+        requires within { literal.var.0 < length atoms.now }
+        requires made { IsMade (the_atoms bank.now.terms atoms.now) self.old }
+        ensures made { OnOk result (IsMade (the_atoms bank.now.terms atoms.now) self.new) }
+        ensures pushed { OnOk result (lits.new ≡ lits.old ++ literal_at (the_atoms bank.now.terms atoms.now) literal ∷ []) }
+    {
+        let place = self.place_of(bank, atoms, literal)?;
+        lits.share(&self.lits, place)?;
+        Ok(())
+    }
+}
