@@ -26,10 +26,10 @@ module _ (b : Content) (atoms : List ℕ) (good : All (IsAtom b) atoms) where
   abbrev named : List Lambda
   named = map (term_at b.terms) atoms
 
-  atom_named : (n : ℕ) → n < length atoms → by_atoms.atom_at named n ≡ atom_at b.terms atoms n
+  pub atom_named : (n : ℕ) → n < length atoms → by_atoms.atom_at named n ≡ atom_at b.terms atoms n
   atom_named n h = get_or-map (term_at b.terms) atoms n 0 (constant falsity) h
 
-  literal_named : (l : SatLit) → IsNumber atoms l → by_atoms.literal_at named l ≡ literal_at b.terms atoms l
+  pub literal_named : (l : SatLit) → IsNumber atoms l → by_atoms.literal_at named l ≡ literal_at b.terms atoms l
   literal_named l h = let L : Lambda → Literal = λ t. record { positive = l.positive; atom = t } in ap L (atom_named l.var.0 h)
 
   named_number : (l : SatLit) → IsNumber atoms l → by_atoms.IsNumber named l

@@ -67,7 +67,7 @@ each_append : {X : Type 0} (P : X → Type 0) (xs ys : List X) → Each P xs →
 each_append P [] ys h k = k
 each_append P (x ∷ xs) ys h k = (h.0, each_append P xs ys h.1 k)
 
-principals_within : (n : ℕ) (by : BankUse) → ForSome by.first (λ l. l.var.0 < n) → ForSome by.second (λ l. l.var.0 < n) → Each (λ (l : SatLit). l.var.0 < n) (principals_of by)
+pub principals_within : (n : ℕ) (by : BankUse) → ForSome by.first (λ l. l.var.0 < n) → ForSome by.second (λ l. l.var.0 < n) → Each (λ (l : SatLit). l.var.0 < n) (principals_of by)
 principals_within n by f g = go (is_cut by.kind)
   where
     go : (cut : Bool) → Each (λ (l : SatLit). l.var.0 < n) (if cut then [] else option_to_list by.first ++ option_to_list by.second)
