@@ -1,4 +1,5 @@
 pub mod ListLaws
+mod ShareLaws
 pub mod LiteralLaws
 pub mod EquationLaws
 pub mod FunctionLaws

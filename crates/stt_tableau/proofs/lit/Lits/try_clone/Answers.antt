@@ -4,7 +4,8 @@ use Rattle.stt_tableau.proofs.lit.Lits.try_clone.Goals as goal
 
 pub loop-i-preserved : goal.loop-i-preserved
 loop-i-preserved c =
-    copy_more c.args.self.now c.loop-i.i c._lit.now c.loop-i.lits c.share.new.self c._lit.now c.at.ensures c.loop-i.invariant refl (c.in_ok-share.ensures.ok _ c.at.ensures)
+    let lit = c.at-lit.result.now in
+    copy_more c.args.self.now c.loop-i.i lit c.loop-i.lits c.share.new.self lit c.at-lit.ensures c.loop-i.invariant refl (c.in_ok-share.ensures.ok lit c.at-lit.ensures)
 
 pub returns : goal.returns
 returns c = c.loop-i.invariant ∙ take_all c.loop-i.i c.args.self.now (omega (arith, c.len-i-end.ensures))
