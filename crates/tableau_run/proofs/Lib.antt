@@ -1,0 +1,3 @@
+pub mod PrincipalLaws
+pub mod RebuildUses
+pub mod RunLaws

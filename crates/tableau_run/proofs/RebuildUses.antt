@@ -1,0 +1,139 @@
+-- The tables of a run are what a refutation is rebuilt from.
+use Rattle.std.specs.Prelude.{◌≡◌, ◌<◌, ◌+◌, ◌-◌, ◌++◌, ℕ, zero, suc, List, [], ◌∷◌, map, length, Option, Some, None, option_map, IfSome, slice_get, refl}
+use Rattle.std.specs.List.{All}
+use Rattle.std.specs.Option.{ForSome}
+use Rattle.std.proofs.Common.{sym, ap, subst, ◌∙◌, length-append}
+use Rattle.std.proofs.lemmas.List.{map-append, length-map}
+use Rattle.std.proofs.lemmas.Option.{same_Some, slice_get-map}
+use Rattle.stt_core.specs.Typing.{Scope}
+use Rattle.stt_core.specs.Lambda.{Lambda}
+use Rattle.stt_tableau.specs.Literals.{Literal}
+use Rattle.stt_tableau.specs.Witnesses.{with_rows}
+use Rattle.stt_tableau.specs.Rules.{Rule, places}
+use Rattle.stt_tableau.proofs.AcceptedLaws.{literals_at-are}
+use Rattle.sat_base.specs.declared.literal.SatLit.{SatLit}
+use Rattle.sat_base.specs.Literal.{IsOver}
+use Rattle.sat_log.specs.declared.log.LogEntry.{LogEntry}
+use Rattle.sat_log.specs.Chains.{results, IsLogOver}
+use Rattle.sat_core.specs.Solver.{learned, IsSound}
+use Rattle.term_bank.specs.Content.{content_scope}
+use Rattle.term_bank.specs.Terms.{term_at}
+use Rattle.command_queue.specs.Queue.{Queue}
+use Rattle.search_run.specs.Each.{Each}
+use Rattle.literal_map.specs.Atoms.{literal_at, IsAtom}
+use Rattle.literal_map.specs.declared.instance.Instance.{Instance}
+use Rattle.rebuilt_refutation.specs.Input.{literals_of}
+use Rattle.search_run.specs.Numbered as by_atoms
+use Rattle.tableau_clauses.specs.Table.{Step, the_clauses}
+use Rattle.tableau_clauses.specs.declared.origin.Origin.{Origin}
+use Rattle.tableau_clauses.specs.declared.origin.Origin.TheVariants.{Start, Instance as From}
+use Rattle.tableau_rules.specs.Uses.{use_of, principals_of}
+use Rattle.tableau_rules.proofs.MadeLaws.{principals_within}
+use Rattle.tableau_rebuild.specs.Tables.{the_atoms, start_literals_in, unit_literals}
+use Rattle.tableau_rebuild.specs.Conditions.{AreUnitsNumbered, IsInstanceOver, EndsEmpty}
+use Rattle.search_tables.specs.declared.command.Planned.{Planned}
+use Rattle.search_tables.specs.declared.command.Delays.{Delays}
+use Rattle.search_tables.specs.declared.tables.Basis.{Basis}
+use Rattle.search_tables.specs.declared.tables.Tables.{Tables}
+use Rattle.search_tables.specs.Names.{IsNumber}
+use Rattle.search_tables.specs.Standing.{rows_in, IsBasis, IsRight}
+use Rattle.search_tables.specs.Steps.{IsMade}
+use Rattle.search_tables.proofs.EachLaws.{each-at, each-weaker, each-map, each-unmapped, map-same, All-from_each}
+use Rattle.search_tables.proofs.NumberLaws.{literal_named}
+use Rattle.tableau_search.specs.Running.{unit_in, units, start_in}
+use Rattle.tableau_run.proofs.PrincipalLaws.{principals-at}
+
+some_for : {X : Type 0} (P : X → Type 0) (o : Option X) → ForSome o P → IfSome o P
+some_for P None h = tt
+some_for P (Some x) h = h x refl
+
+module _ (g : Basis) (good : IsBasis g) where
+  abbrev named : List Lambda
+  named = the_atoms g.bank.terms g.lits
+
+  abbrev by_number : SatLit → Literal
+  by_number = literal_at g.bank.terms g.lits
+
+  -- numbered literals are those of the list of atoms
+  pub literals-named : (ls : List SatLit) → Each (IsNumber g.lits) ls → map by_number ls ≡ literals_of named ls
+  literals-named ls h = sym (map-same (by_atoms.literal_at named) by_number (IsNumber g.lits) (literal_named g.bank g.lits good.atoms) ls h)
+
+  pub lists-named : (lists : List (List SatLit)) → Each (Each (IsNumber g.lits)) lists → map (map by_number) lists ≡ map (literals_of named) lists
+  lists-named lists h = map-same (map by_number) (literals_of named) (Each (IsNumber g.lits)) literals-named lists h
+
+  over : (ls : List SatLit) → Each (IsNumber g.lits) ls → IsOver (length g.lits) ls
+  over ls h = All-from_each (IsNumber g.lits) ls h
+
+  -- the witnesses of the bank are those of the rows
+  scope_rows : with_rows (content_scope g.bank) (rows_in g) ≡ content_scope g.bank
+  scope_rows = λ i. record { bases = length g.bank.bases; names = map (λ c. c.type) g.bank.consts; witnesses = good.typed i }
+
+  module _ (i : Instance) (m : IsMade g i) where
+    abbrev principals_number : Each (IsNumber g.lits) i.principals
+    principals_number = subst (Each (IsNumber g.lits)) (sym m.principals) (principals_within (length g.lits) i.by m.first m.second)
+
+    principals_are : m.fits.is_instance.principals ≡ literals_of named i.principals
+    principals_are =
+        sym (literals_at-are (map by_number (principals_of i.by)) (places m.fits.rule) m.fits.is_instance.principals m.fits.is_instance.at_places)
+        ∙ principals-at by_number i.by _ m.fits.rule m.fits.is_rule
+        ∙ ap (map by_number) (sym m.principals)
+        ∙ literals-named i.principals principals_number
+
+    rule_fits : Rule (with_rows (content_scope g.bank) (rows_in g)) (rows_in g) m.fits.rule (literals_of named i.principals) (map (literals_of named) i.alternatives)
+    rule_fits =
+        let S : Scope → Type 0 = λ s. Rule s (rows_in g) m.fits.rule (literals_of named i.principals) (map (literals_of named) i.alternatives) in
+        let P : List Literal → Type 0 = λ ls. Rule (content_scope g.bank) (rows_in g) m.fits.rule ls (map (literals_of named) i.alternatives) in
+        let A : List (List Literal) → Type 0 = λ as'. Rule (content_scope g.bank) (rows_in g) m.fits.rule m.fits.is_instance.principals as' in
+        subst S (sym scope_rows) (subst P principals_are (subst A (lists-named i.alternatives m.numbers) m.fits.is_instance.fits))
+
+    pub made-over : IsInstanceOver g.bank g.lits (rows_in g) i
+    made-over = record {
+      rule = m.fits.rule;
+      is_rule = m.fits.is_rule;
+      first = some_for (IsNumber g.lits) i.by.first m.first;
+      term = some_for (λ u. u < length g.bank.terms) i.by.term m.term;
+      principals = over i.principals principals_number;
+      alternatives = All-from_each (IsOver (length g.lits)) i.alternatives (each-weaker (Each (IsNumber g.lits)) (IsOver (length g.lits)) over i.alternatives m.numbers);
+      fits = rule_fits;
+    }
+
+  pub instances-over : (is : List Instance) → Each (IsMade g) is → All (IsInstanceOver g.bank g.lits (rows_in g)) is
+  instances-over is h = All-from_each (IsInstanceOver g.bank g.lits (rows_in g)) is (each-weaker (IsMade g) (IsInstanceOver g.bank g.lits (rows_in g)) made-over is h)
+
+  units_each : (steps : List Step) → Each (λ (s : Step). Each (IsNumber g.lits) s.0) steps → Each (λ (s : Step). s.1 ≡ Start → IsOver (length g.lits) s.0) steps
+  units_each steps h = each-weaker (λ (s : Step). Each (IsNumber g.lits) s.0) (λ (s : Step). s.1 ≡ Start → IsOver (length g.lits) s.0) (λ s k _. over s.0 k) steps h
+
+  pub units-numbered : (steps : List Step) → Each (Each (IsNumber g.lits)) (map (λ (s : Step). s.0) steps) → All (λ (s : Step). s.1 ≡ Start → IsOver (length g.lits) s.0) steps
+  units-numbered steps h = All-from_each (λ (s : Step). s.1 ≡ Start → IsOver (length g.lits) s.0) steps (units_each steps (each-unmapped (Each (IsNumber g.lits)) (λ (s : Step). s.0) steps h))
+
+  unit_named : (clause : List SatLit) (o : Origin) → Each (IsNumber g.lits) clause → map by_number (unit_in clause o) ≡ start_literals_in named clause o
+  unit_named clause Start h = literals-named clause h
+  unit_named clause (From k) h = refl
+
+  -- the start units are the same literals
+  pub units-named : (steps : List Step) → Each (Each (IsNumber g.lits)) (map (λ (s : Step). s.0) steps) → map by_number (units steps) ≡ unit_literals named steps
+  units-named [] h = refl
+  units-named (s ∷ steps) h =
+      map-append by_number (unit_in s.0 s.1) (units steps)
+      ∙ ap (λ ls. ls ++ map by_number (units steps)) (unit_named s.0 s.1 h.0)
+      ∙ ap (λ ls. start_literals_in named s.0 s.1 ++ ls) (units-named steps h.1)
+
+last_at : {X : Type 0} (xs : List X) (x : X) → slice_get (xs ++ x ∷ []) (length xs) ≡ Some x
+last_at [] x = refl
+last_at (y ∷ xs) x = last_at xs x
+
+entry_with : (clause : List SatLit) (o : Option LogEntry) → option_map (λ (e : LogEntry). e.result) o ≡ Some clause → (entry : LogEntry) × ((o ≡ Some entry) × (entry.result ≡ clause))
+entry_with clause None h = cc
+entry_with clause (Some e) h = (e, (refl, same_Some e.result clause h))
+
+-- a log whose results end with the empty clause
+pub ends-empty : (log : List LogEntry) (front : List (List SatLit)) → results log ≡ front ++ [] ∷ [] → EndsEmpty log
+ends-empty log front ends =
+    let found = entry_with [] (slice_get log (length front)) (sym (slice_get-map (λ (e : LogEntry). e.result) log (length front)) ∙ ap (λ rs. slice_get rs (length front)) ends ∙ last_at front []) in
+    record {
+      number = length front;
+      is_last = sym (length-map log (λ (e : LogEntry). e.result)) ∙ ap length ends ∙ length-append front ([] ∷ []);
+      entry = found.0;
+      at = found.1.0;
+      empty = found.1.1;
+    }

@@ -1,0 +1,173 @@
+-- Runs from their start to their end.
+use Rattle.std.specs.Prelude.{◌≡◌, ◌<◌, ◌+◌, ◌≤◌, ◌∷◌, ◌++◌, ℕ, zero, suc, Bool, true, false, List, [], map, filter, length, Option, Some, Contains, refl, if◌then◌else◌}
+use Rattle.std.proofs.Common.{sym, ap, subst, ◌∙◌, arith, inl, inr}
+use Rattle.std.proofs.lemmas.Bool.{cases_lt}
+use Rattle.std.proofs.lemmas.Grind.{common_steps}
+use Rattle.stt_core.specs.Typing.{Scope}
+use Rattle.stt_core.specs.PlainProblem.{PlainProblem}
+use Rattle.stt_core.specs.Declarations.{scope_of}
+use Rattle.stt_tableau.specs.Literals.{Literal}
+use Rattle.stt_tableau.specs.Start.{start}
+use Rattle.stt_tableau.specs.Witnesses.{Row, IsTableAfter}
+use Rattle.stt_tableau.specs.Accepted.{Within, EndsWithin, IsAccepted}
+use Rattle.stt_tableau.specs.declared.refutation.Refutation.{Refutation}
+use Rattle.search_run.specs.Shallow.{is_shallow_literal}
+use Rattle.search_run.specs.State.{Setting, process, pushed}
+use Rattle.search_run.specs.After.{nothing_yet, started, stepped, after}
+use Rattle.search_run.specs.Result.{IsOpen, GoesOn, GoesOnUntil, IsProved, IsExhausted, IsStopped}
+use Rattle.command_queue.specs.Queue.{Queue}
+use Rattle.mode_file.specs.declared.Mode.{Mode}
+use Rattle.term_bank.specs.Content.{Content, content_scope}
+use Rattle.search_tables.specs.declared.command.Planned.{Planned}
+use Rattle.search_tables.specs.declared.command.Delays.{Delays}
+use Rattle.search_tables.specs.declared.tables.Tables.{Tables}
+use Rattle.search_tables.specs.Standing.{declared_scope, setting_by, the_state}
+use Rattle.tableau_search.specs.Running.{start_in, IsRunning}
+use Rattle.tableau_search.specs.Progress.{Progress}
+use Rattle.tableau_search.specs.Answers.{IsClosed, IsEmpty, IsAtLimit, IsSpent as IsSpentAt, GoesOn as GoesOnBy}
+use Rattle.tableau_run.specs.declared.ended.Ended.{Ended}
+use Rattle.tableau_run.specs.declared.ended.Ended.TheVariants.{Proved, GaveUp, CommandLimit, ConflictLimit}
+use Rattle.tableau_run.specs.Ended.{setting_for, IsRefuted, IsSpent, EndsAs}
+use Rattle.tableau_run.specs.Means.Ends.{Refutes, IsSpentAfter, EndsFrom, GoesOnTo}
+
+-- A STEP
+
+module _ (t : Tables) (q : Queue Planned Delays) (r : IsRunning t q) (t2 : Tables) (q2 : Queue Planned Delays) where
+  abbrev old : Progress
+  old = record { tables = t; plan = q }
+
+  abbrev new : Progress
+  new = record { tables = t2; plan = q2 }
+
+  pub goes-on : GoesOnBy old new → GoesOn (setting_by t q) (start_in t) t.done
+  goes-on g = record { state = the_state t q; open_state = record { comes_to = r.comes_to; satisfiable = g.satisfiable }; some_left = g.some_left; below = g.below }
+
+  pub is-proved : IsClosed old new → GoesOnUntil (setting_by t q) (start_in t) t.done → IsProved (setting_by t q) (start_in t) t2.done
+  is-proved k until =
+      let P : ℕ → Type 0 = λ n. IsProved (setting_by t q) (start_in t) n in
+      subst P (sym k.stays.done) (record { until = until; state = the_state t q; comes_to = r.comes_to; unsatisfiable = k.unsatisfiable })
+
+  pub is-exhausted : IsEmpty old new → GoesOnUntil (setting_by t q) (start_in t) t.done → IsExhausted (setting_by t q) (start_in t) t2.done
+  is-exhausted k until =
+      let P : ℕ → Type 0 = λ n. IsExhausted (setting_by t q) (start_in t) n in
+      subst P (sym k.stays.done) (record { until = until; state = the_state t q; open_state = record { comes_to = r.comes_to; satisfiable = k.satisfiable }; none_left = k.none_left })
+
+  pub is-stopped : IsAtLimit old new → GoesOnUntil (setting_by t q) (start_in t) t.done → IsStopped (setting_by t q) (start_in t) t2.done
+  is-stopped k until =
+      let P : ℕ → Type 0 = λ n. IsStopped (setting_by t q) (start_in t) n in
+      subst P (sym k.stays.done) (record { until = until; state = the_state t q; open_state = record { comes_to = r.comes_to; satisfiable = k.satisfiable }; some_left = k.some_left; at_limit = k.at_limit })
+
+  pub is-spent : (conflicts : ℕ) → IsSpentAt old new conflicts → GoesOnUntil (setting_by t q) (start_in t) t.done → IsSpentAfter (setting_by t q) (start_in t) conflicts
+  is-spent conflicts k until = record { is_budget = k.reported; commands = t.done; until = until; state = the_state t q; comes_to = r.comes_to }
+
+-- MANY STEPS
+
+pub until-nothing : (setting : Setting) (ls : List Literal) → GoesOnUntil setting ls 0
+until-nothing setting ls m h = absurd (omega (arith, h))
+
+pub until-next : (setting : Setting) (ls : List Literal) (n : ℕ) → GoesOnUntil setting ls n → GoesOn setting ls n → GoesOnUntil setting ls (n + 1)
+until-next setting ls n until g m h =
+    elim (cases_lt m n) [
+      | inl less ↦ until m less
+      | inr least ↦ subst (GoesOn setting ls) (omega (arith, h, least)) g
+    ]
+
+-- THE START OF A PROBLEM
+
+filter_again : {X : Type 0} (test : X → Bool) (xs : List X) → filter test (filter test xs) ≡ filter test xs
+filter_again test [] = refl
+filter_again test (x ∷ xs) = again (test x) refl
+  where
+    again : (b : Bool) → test x ≡ b → filter test (if b then x ∷ filter test xs else filter test xs) ≡ (if b then x ∷ filter test xs else filter test xs)
+    again true e = ap (λ (c : Bool). if c then x ∷ filter test (filter test xs) else filter test (filter test xs)) e ∙ ap (λ ys. x ∷ ys) (filter_again test xs)
+    again false e = filter_again test xs
+
+-- literals that are too deep don't count
+after_shallow : (setting : Setting) (ls : List Literal) (n : ℕ) → after setting (filter is_shallow_literal ls) n ≡ after setting ls n
+after_shallow setting ls zero = ap (λ ks. Some (pushed setting.mode (map process ks) (record nothing_yet { clauses = map (λ l. l ∷ []) ks; seen = ks }))) (filter_again is_shallow_literal ls)
+after_shallow setting ls (suc n) = ap (stepped setting) (after_shallow setting ls n)
+
+module _ (setting : Setting) (ls : List Literal) where
+  abbrev few : List Literal
+  few = filter is_shallow_literal ls
+
+  goes_on_whole : (n : ℕ) → GoesOn setting few n → GoesOn setting ls n
+  goes_on_whole n g = record {
+    state = g.state;
+    open_state = record { comes_to = sym (after_shallow setting ls n) ∙ g.open_state.comes_to; satisfiable = g.open_state.satisfiable };
+    some_left = g.some_left;
+    below = g.below;
+  }
+
+  until_whole : (n : ℕ) → GoesOnUntil setting few n → GoesOnUntil setting ls n
+  until_whole n until m h = goes_on_whole m (until m h)
+
+  pub proved-whole : (n : ℕ) → IsProved setting few n → IsProved setting ls n
+  proved-whole n p = record { until = until_whole n p.until; state = p.state; comes_to = sym (after_shallow setting ls n) ∙ p.comes_to; unsatisfiable = p.unsatisfiable }
+
+  pub exhausted-whole : (n : ℕ) → IsExhausted setting few n → IsExhausted setting ls n
+  exhausted-whole n p = record {
+    until = until_whole n p.until;
+    state = p.state;
+    open_state = record { comes_to = sym (after_shallow setting ls n) ∙ p.open_state.comes_to; satisfiable = p.open_state.satisfiable };
+    none_left = p.none_left;
+  }
+
+  pub stopped-whole : (n : ℕ) → IsStopped setting few n → IsStopped setting ls n
+  stopped-whole n p = record {
+    until = until_whole n p.until;
+    state = p.state;
+    open_state = record { comes_to = sym (after_shallow setting ls n) ∙ p.open_state.comes_to; satisfiable = p.open_state.satisfiable };
+    some_left = p.some_left;
+    at_limit = p.at_limit;
+  }
+
+held_whole : {X : Type 0} (test : X → Bool) (xs : List X) (y : X) → Contains (filter test xs) y → Contains xs y
+held_whole test xs y h = grind (arith, common_steps, h)
+
+within_whole : (branch ls : List Literal) → Within branch (filter is_shallow_literal ls) → Within branch ls
+within_whole [] ls h = tt
+within_whole (l ∷ branch) ls h = (held_whole is_shallow_literal ls l h.0, within_whole branch ls h.1)
+
+accepted_whole : (scope : Scope) (ls : List Literal) (refutation : Refutation) → IsAccepted scope (filter is_shallow_literal ls) refutation → IsAccepted scope ls refutation
+accepted_whole scope ls refutation a = record {
+  table = a.table;
+  lines = a.lines;
+  last = record { front = a.last.front; last = a.last.last; are = a.last.are; within = within_whole a.last.last.branch ls a.last.within };
+}
+
+-- what ends from the literals of a problem that aren't too deep, ends from the problem's start
+module _ (p : PlainProblem) (m : Mode) (setting : Setting) (ls : List Literal) (is_setting : setting ≡ setting_for p m) (is_start : ls ≡ filter is_shallow_literal (start p)) where
+  ends_here : (e : Ended) → EndsFrom (setting_for p m) (filter is_shallow_literal (start p)) e → EndsAs p m e
+  ends_here (Proved n refutation) k = record {
+    proved = proved-whole (setting_for p m) (start p) n k.0;
+    accepted = accepted_whole (scope_of p.declared) (start p) refutation k.1.accepted;
+    reached = k.1.reached;
+  }
+  ends_here (GaveUp n) k = exhausted-whole (setting_for p m) (start p) n k
+  ends_here (CommandLimit n) k = stopped-whole (setting_for p m) (start p) n k
+  ends_here (ConflictLimit c) k = record {
+    is_budget = k.is_budget;
+    commands = k.commands;
+    until = until_whole (setting_for p m) (start p) k.commands k.until;
+    state = k.state;
+    comes_to = sym (after_shallow (setting_for p m) (start p) k.commands) ∙ k.comes_to;
+  }
+
+  pub ends-as : (e : Ended) → EndsFrom setting ls e → EndsAs p m e
+  ends-as e k =
+      let S : Setting → Type 0 = λ s. EndsFrom s (filter is_shallow_literal (start p)) e in
+      let L : List Literal → Type 0 = λ ks. EndsFrom setting ks e in
+      ends_here e (subst S is_setting (subst L is_start k))
+
+-- A REFUTATION OVER THE BANK
+
+table_declared : (b : Content) (earlier rows : List Row) → IsTableAfter (content_scope b) earlier rows → IsTableAfter (declared_scope b) earlier rows
+table_declared b earlier [] h = tt
+table_declared b earlier (r ∷ rows) h = (h.0, (h.1.0, table_declared b (earlier ++ r ∷ []) rows h.1.1))
+
+-- what is accepted over a bank is accepted over what it declares, its witnesses apart
+pub accepted-declared : (b : Content) (ls ks : List Literal) (refutation : Refutation) → ks ≡ ls → IsAccepted (content_scope b) ks refutation → IsAccepted (declared_scope b) ls refutation
+accepted-declared b ls ks refutation same a =
+    let L : List Literal → Type 0 = λ xs. EndsWithin xs refutation.lines in
+    record { table = table_declared b [] refutation.witnesses a.table; lines = a.lines; last = subst L same a.last }

@@ -1,0 +1,42 @@
+-- How a run from literals ends.
+use Rattle.std.specs.Prelude.{◌≡◌, ◌+◌, ℕ, List, Some}
+use Rattle.stt_tableau.specs.Literals.{Literal}
+use Rattle.stt_tableau.specs.Accepted.{IsAccepted}
+use Rattle.stt_tableau.specs.declared.refutation.Refutation.{Refutation}
+use Rattle.search_run.specs.State.{State, Setting}
+use Rattle.search_run.specs.After.{after}
+use Rattle.search_run.specs.Result.{GoesOn, GoesOnUntil, IsProved, IsExhausted, IsStopped}
+use Rattle.rebuilt_refutation.specs.Trimmed.{IsEachReached}
+use Rattle.command_queue.specs.Queue.{Queue}
+use Rattle.search_tables.specs.declared.command.Planned.{Planned}
+use Rattle.search_tables.specs.declared.command.Delays.{Delays}
+use Rattle.search_tables.specs.declared.tables.Tables.{Tables}
+use Rattle.search_tables.specs.Standing.{setting_by}
+use Rattle.tableau_search.specs.Running.{start_in, IsRunning}
+use Rattle.tableau_run.specs.declared.ended.Ended.{Ended}
+use Rattle.tableau_run.specs.declared.ended.Ended.TheVariants.{Proved, GaveUp, CommandLimit, ConflictLimit}
+
+-- the refutation is accepted for the start, and each of its lines is reached
+pub record Refutes (setting : Setting) (start : List Literal) (refutation : Refutation) : Type 0 where
+  pub accepted : IsAccepted setting.scope start refutation
+  pub reached : IsEachReached refutation.lines
+
+pub record IsSpentAfter (setting : Setting) (start : List Literal) (conflicts : ℕ) : Type 0 where
+  pub is_budget : conflicts ≡ setting.mode.conflicts
+  pub commands : ℕ
+  pub until : GoesOnUntil setting start commands
+  pub state : State
+  pub comes_to : after setting start commands ≡ Some state
+
+abbrev pub EndsFrom : Setting → List Literal → Ended → Type 0
+EndsFrom setting start (Proved n refutation) = IsProved setting start n × Refutes setting start refutation
+EndsFrom setting start (GaveUp n) = IsExhausted setting start n
+EndsFrom setting start (CommandLimit n) = IsStopped setting start n
+EndsFrom setting start (ConflictLimit conflicts) = IsSpentAfter setting start conflicts
+
+-- The run goes on by one command, in the same setting and from the same start.
+pub record GoesOnTo (t : Tables) (q : Queue Planned Delays) (t2 : Tables) (q2 : Queue Planned Delays) : Type 0 where
+  pub goes_on : GoesOn (setting_by t q) (start_in t) t.done
+  pub done : t2.done ≡ t.done + 1
+  pub setting : setting_by t2 q2 ≡ setting_by t q
+  pub start : start_in t2 ≡ start_in t

@@ -1,0 +1,105 @@
+//! Runs to their end.
+ghost use Rattle.std.specs.Prelude.{◌≡◌, ◌++◌, [], ◌∷◌, false, IfOk, IfSome, IfNone, OnOk};
+ghost use Rattle.stt_core.specs.TypedProblem.{IsTyped};
+ghost use Rattle.sat_log.specs.Chains.{results};
+ghost use Rattle.sat_core.specs.Solver.{learned};
+ghost use Rattle.search_run.specs.Result.{GoesOnUntil};
+ghost use Rattle.search_tables.specs.Standing.{setting_by};
+ghost use Rattle.tableau_search.specs.Running.{start_in, IsUnderWay};
+ghost use Rattle.tableau_run.specs.Ended.{EndsAs};
+ghost use Rattle.tableau_run.specs.Means.Ends.{Refutes, EndsFrom, GoesOnTo};
+
+use crate::delay::delay;
+use crate::ended::Ended;
+use command_queue::Weigher;
+use mode_file::Mode;
+use std::alloc::{AllocError, Global};
+use stt_core::Problem;
+use stt_tableau::Refutation;
+use tableau_rebuild::rebuild;
+use tableau_search::{Command, Search, Stepped};
+
+/// The refutation from the log of a search whose clauses are unsatisfiable.
+fn refutation_of<W: Weigher<Command>>(
+    alloc: Global,
+    search: &Search<W>,
+) -> Result<Refutation, AllocError>
+    requires under_way { IsUnderWay search.now.core.tables search.now.core.plan search.now.mode }
+    requires ends { results search.now.core.tables.solver.log ≡ learned search.now.core.tables.solver ++ [] ∷ [] }
+    ensures { IfOk result (Refutes (setting_by search.now.core.tables search.now.core.plan) (start_in search.now.core.tables)) }
+{
+    let log = search.log();
+    Ok(rebuild(
+        alloc,
+        search.bank(),
+        search.lits(),
+        search.steps(),
+        log,
+        search.witnesses(),
+    )?)
+}
+
+/// Takes a step. The answer is how the run ends, where it ends there.
+fn next<W: Weigher<Command>>(
+    alloc: Global,
+    search: &mut Search<W>,
+) -> Result<Option<Ended>, AllocError>
+    requires under_way { IsUnderWay search.old.core.tables search.old.core.plan search.old.mode }
+    requires ready { search.old.is_refused ≡ false }
+    ensures ended { IfOk result (λ o. IfSome o (λ e. GoesOnUntil (setting_by search.old.core.tables search.old.core.plan) (start_in search.old.core.tables) search.old.core.tables.done
+        → EndsFrom (setting_by search.old.core.tables search.old.core.plan) (start_in search.old.core.tables) e)) }
+    ensures goes_on { IfOk result (λ o. IfNone o (GoesOnTo search.old.core.tables search.old.core.plan search.new.core.tables search.new.core.plan)) }
+    ensures under_way { OnOk result (IsUnderWay search.new.core.tables search.new.core.plan search.new.mode) }
+    ensures mode { search.new.mode ≡ search.old.mode }
+    ensures ready { OnOk result (search.new.is_refused ≡ false) }
+{
+    match search.step()? {
+        Stepped::Closed => {
+            let refutation = refutation_of(alloc, &*search)?;
+            Ok(Some(Ended::Proved {
+                commands: search.commands(),
+                refutation,
+            }))
+        }
+        Stepped::Empty => Ok(Some(Ended::GaveUp {
+            commands: search.commands(),
+        })),
+        Stepped::Limit => Ok(Some(Ended::CommandLimit {
+            commands: search.commands(),
+        })),
+        Stepped::Spent { conflicts } => Ok(Some(Ended::ConflictLimit { conflicts })),
+        Stepped::Went => Ok(None),
+    }
+}
+
+/// Runs a search from its start to its end.
+fn run_on<W: Weigher<Command>>(
+    alloc: Global,
+    search: &mut Search<W>,
+    limit: u32,
+) -> Result<Ended, AllocError>
+    requires under_way { IsUnderWay search.old.core.tables search.old.core.plan search.old.mode }
+    requires ready { search.old.is_refused ≡ false }
+    requires done { search.old.core.tables.done ≡ 0 }
+    requires limit { limit ≡ search.old.mode.commands }
+    ensures { IfOk result (EndsFrom (setting_by search.old.core.tables search.old.core.plan) (start_in search.old.core.tables)) }
+{
+    for _commands in 0..limit as u64 + 1 {
+        if let Some(ended) = next(alloc, search)? {
+            return Ok(ended);
+        }
+    }
+    unreachable!()
+}
+
+/// Runs the search over a problem by a mode.
+pub fn run(alloc: Global, problem: &Problem, mode: &Mode) -> Result<Ended, AllocError>
+    requires { IsTyped problem.now }
+    ensures { IfOk result (EndsAs problem.now mode.now) }
+{
+    let by = *mode;
+    let mut search = Search::new(alloc, problem, mode, |command: &Command, now: u64| {
+        now + delay(&by, command)
+    })?;
+    Ok(run_on(alloc, &mut search, mode.commands)?)
+}
