@@ -1,14 +1,27 @@
 //! Runs the search over the problems in files. Each line that is read names a file, and behind it settings of a mode with commas between
-//! them; behind the word `trace` what there is after each command is written too.
+//! them; behind the word `trace` what there is after each command is written too, and behind the word `text` the refutation.
 #![tactic(auto)]
 
 mod problem;
-mod run;
 mod row;
+mod run;
+mod trace;
 
-use outside::StdFiles;
-use row::row_of;
-use run::write_run;
+use anyhow::Error;
+use outside::{Files, StdFiles};
+use problem::problem_in;
+use row::{Row, Told, row_of};
+use std::alloc::Global;
+
+/// What is written for a row.
+fn answer<F: Files>(alloc: Global, files: &mut F, row: &Row) -> Result<String, Error> {
+    let problem = problem_in(alloc, files, row.file.as_str())?;
+    match row.told {
+        Told::Commands => trace::trace(alloc, &problem, &row.mode),
+        Told::Text => run::end(alloc, &problem, &row.mode, true),
+        Told::End => run::end(alloc, &problem, &row.mode, false),
+    }
+}
 
 fn main(rt: HostRuntime) -> anyhow::Result<()> {
     let alloc = rt.alloc();
@@ -16,7 +29,7 @@ fn main(rt: HostRuntime) -> anyhow::Result<()> {
         let line = line?;
         let row = row_of(alloc, line.as_str())?;
         let mut files = StdFiles::new(&rt);
-        let text = write_run(alloc, &mut files, &row)?;
+        let text = answer(alloc, &mut files, &row)?;
         println!(rt; "{line}: {text}")?;
     }
     Ok(())

@@ -7,21 +7,33 @@ use std::alloc::Global;
 /// How many bytes a mode has at most.
 const MAX_BYTES: usize = 16_777_216;
 
-/// A run: the name of the problem's file, the mode, and whether each command is to be told.
+/// What is told of a run: its end, each of its commands too, or its refutation too.
+#[derive(Clone, Copy, Debug, PartialEq, Eq)]
+pub enum Told {
+    End,
+    Commands,
+    Text,
+}
+
+/// A run: the name of the problem's file, the mode, and what is told.
 #[derive(Drop)]
 pub struct Row {
     pub file: String,
     pub mode: Mode,
-    pub is_traced: bool,
+    pub told: Told,
 }
 
-/// The mode with settings between which commas stand.
-fn mode_of(alloc: Global, settings: &str) -> anyhow::Result<Mode> {
+/// A mode file with settings between which commas stand.
+fn mode_text(alloc: Global, settings: &str) -> anyhow::Result<String> {
     let mut text = String::new(alloc);
     for setting in settings.split(',') {
         text.push_str(setting.trim())?;
         text.push('\n')?;
     }
+    Ok(text)
+}
+
+fn mode_of(text: &str) -> anyhow::Result<Mode> {
     if text.len() > MAX_BYTES {
         bail!("too many settings");
     }
@@ -31,16 +43,24 @@ fn mode_of(alloc: Global, settings: &str) -> anyhow::Result<Mode> {
     }
 }
 
+/// The words behind the first one, where that asks for more than a run's end.
+fn told_of(line: &str) -> (Told, &str) {
+    match line.split_once(' ') {
+        Some(("trace", rest)) => (Told::Commands, rest),
+        Some(("text", rest)) => (Told::Text, rest),
+        _ => (Told::End, line),
+    }
+}
+
 /// The run that a line asks for.
 pub fn row_of(alloc: Global, line: &str) -> anyhow::Result<Row> {
-    let (is_traced, rest) = match line.strip_prefix("trace ") {
-        Some(rest) => (true, rest),
-        None => (false, line),
-    };
+    let (told, rest) = told_of(line);
     let (file, settings) = rest.split_once(' ').unwrap_or((rest, ""));
+    let text = mode_text(alloc, settings)?;
+    let mode = mode_of(text.as_str())?;
     Ok(Row {
         file: String::from_str(alloc, file)?,
-        mode: mode_of(alloc, settings)?,
-        is_traced,
+        mode,
+        told,
     })
 }

@@ -4,38 +4,37 @@ ghost use Rattle.stt_core.specs.TypedProblem.{IsTyped};
 ghost use Rattle.sat_log.specs.Chains.{results};
 ghost use Rattle.sat_core.specs.Solver.{learned};
 ghost use Rattle.search_run.specs.Result.{GoesOnUntil};
-ghost use Rattle.search_tables.specs.Standing.{setting_by};
+ghost use Rattle.search_tables.specs.Standing.{declared_scope, setting_by};
 ghost use Rattle.tableau_search.specs.Running.{start_in, IsUnderWay};
 ghost use Rattle.tableau_run.specs.Ended.{EndsAs};
-ghost use Rattle.tableau_run.specs.Means.Ends.{Refutes, EndsFrom, GoesOnTo};
+ghost use Rattle.tableau_run.specs.Means.Ends.{AreRight, Refutes, EndsFrom, GoesOnTo};
 
 use crate::delay::delay;
 use crate::ended::Ended;
 use command_queue::Weigher;
 use mode_file::Mode;
+use search_tables::Tables;
 use std::alloc::{AllocError, Global};
 use stt_core::Problem;
 use stt_tableau::Refutation;
 use tableau_rebuild::rebuild;
 use tableau_search::{Command, Search, Stepped};
 
-/// The refutation from the log of a search whose clauses are unsatisfiable.
-fn refutation_of<W: Weigher<Command>>(
-    alloc: Global,
-    search: &Search<W>,
-) -> Result<Refutation, AllocError>
-    requires under_way { IsUnderWay search.now.core.tables search.now.core.plan search.now.mode }
-    requires ends { results search.now.core.tables.solver.log ≡ learned search.now.core.tables.solver ++ [] ∷ [] }
-    ensures { IfOk result (Refutes (setting_by search.now.core.tables search.now.core.plan) (start_in search.now.core.tables)) }
+/// The refutation from the log of a run whose clauses are unsatisfiable.
+fn refutation_of(alloc: Global, tables: &Tables) -> Result<Refutation, AllocError>
+    requires right { AreRight tables.now }
+    requires ends { results tables.now.solver.log ≡ learned tables.now.solver ++ [] ∷ [] }
+    ensures { IfOk result (Refutes (declared_scope tables.now.basis.bank) (start_in tables.now)) }
 {
-    let log = search.log();
+    let log = tables.solver.log();
+    let basis = &tables.basis;
     Ok(rebuild(
         alloc,
-        search.bank(),
-        search.lits(),
-        search.steps(),
+        &basis.bank,
+        &basis.lits,
+        &tables.steps,
         log,
-        search.witnesses(),
+        &basis.witnesses,
     )?)
 }
 
@@ -55,7 +54,7 @@ fn next<W: Weigher<Command>>(
 {
     match search.step()? {
         Stepped::Closed => {
-            let refutation = refutation_of(alloc, &*search)?;
+            let refutation = refutation_of(alloc, &search.core.tables)?;
             Ok(Some(Ended::Proved {
                 commands: search.commands(),
                 refutation,

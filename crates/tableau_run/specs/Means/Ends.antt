@@ -1,8 +1,10 @@
 -- How a run from literals ends.
 use Rattle.std.specs.Prelude.{◌≡◌, ◌+◌, ℕ, List, Some}
+use Rattle.stt_core.specs.Typing.{Scope}
 use Rattle.stt_tableau.specs.Literals.{Literal}
 use Rattle.stt_tableau.specs.Accepted.{IsAccepted}
 use Rattle.stt_tableau.specs.declared.refutation.Refutation.{Refutation}
+use Rattle.search_run.specs.Each.{Each}
 use Rattle.search_run.specs.State.{State, Setting}
 use Rattle.search_run.specs.After.{after}
 use Rattle.search_run.specs.Result.{GoesOn, GoesOnUntil, IsProved, IsExhausted, IsStopped}
@@ -11,14 +13,21 @@ use Rattle.command_queue.specs.Queue.{Queue}
 use Rattle.search_tables.specs.declared.command.Planned.{Planned}
 use Rattle.search_tables.specs.declared.command.Delays.{Delays}
 use Rattle.search_tables.specs.declared.tables.Tables.{Tables}
-use Rattle.search_tables.specs.Standing.{setting_by}
-use Rattle.tableau_search.specs.Running.{start_in, IsRunning}
+use Rattle.search_tables.specs.Standing.{setting_by, IsRight}
+use Rattle.search_tables.specs.Steps.{IsMade}
+use Rattle.tableau_search.specs.Running.{start_in}
 use Rattle.tableau_run.specs.declared.ended.Ended.{Ended}
 use Rattle.tableau_run.specs.declared.ended.Ended.TheVariants.{Proved, GaveUp, CommandLimit, ConflictLimit}
 
+-- the tables are right, whatever waits, and each instance is one of its rule
+pub record AreRight (t : Tables) : Type 0 where
+  pub plan : Queue Planned Delays
+  pub right : IsRight t plan
+  pub made : Each (IsMade t.basis) t.steps.1
+
 -- the refutation is accepted for the start, and each of its lines is reached
-pub record Refutes (setting : Setting) (start : List Literal) (refutation : Refutation) : Type 0 where
-  pub accepted : IsAccepted setting.scope start refutation
+pub record Refutes (scope : Scope) (start : List Literal) (refutation : Refutation) : Type 0 where
+  pub accepted : IsAccepted scope start refutation
   pub reached : IsEachReached refutation.lines
 
 pub record IsSpentAfter (setting : Setting) (start : List Literal) (conflicts : ℕ) : Type 0 where
@@ -29,7 +38,7 @@ pub record IsSpentAfter (setting : Setting) (start : List Literal) (conflicts : 
   pub comes_to : after setting start commands ≡ Some state
 
 abbrev pub EndsFrom : Setting → List Literal → Ended → Type 0
-EndsFrom setting start (Proved n refutation) = IsProved setting start n × Refutes setting start refutation
+EndsFrom setting start (Proved n refutation) = IsProved setting start n × Refutes setting.scope start refutation
 EndsFrom setting start (GaveUp n) = IsExhausted setting start n
 EndsFrom setting start (CommandLimit n) = IsStopped setting start n
 EndsFrom setting start (ConflictLimit conflicts) = IsSpentAfter setting start conflicts
