@@ -1,3 +1,4 @@
+pub mod PoolLaws
 pub mod DraftLaws
 pub mod WalkSteps
 pub mod ArenaLaws
