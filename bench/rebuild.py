@@ -15,12 +15,12 @@ SOURCES = {
     "literal_map": ["instance"],
     "tableau_clauses": ["origin"],
     "tableau_rebuild": [
-        "draft", "arena", "branch", "literals", "line", "needed", "lines", "numbering", "reached", "rows", "walk", "refutation",
+        "draft", "arena", "branch", "literals", "line", "needed", "lines", "numbering", "pool", "reached", "rows", "walk", "refutation",
     ],
 }
 
 # What is left out of a file, from this text on.
-ENDS = {"stt_core/ty": "    /// Adds copies of the other list's types", "stt_tableau/lit": "    /// A copy of the list."}
+ENDS = {"stt_core/ty": "    /// Adds copies of the other list's types", "stt_tableau/lit": "    /// A list of the same literals"}
 
 STANDS_IN = """
 pub mod rt {
@@ -56,6 +56,29 @@ pub mod rt {
     pub struct Box<T>(std::boxed::Box<T>);
     impl<T> Box<T> { pub fn new(_: Global, x: T) -> Result<Self, AllocError> { Ok(Box(std::boxed::Box::new(x))) } }
     impl<T> Deref for Box<T> { type Target = T; fn deref(&self) -> &T { &self.0 } }
+    #[derive(Debug)]
+    pub struct Rc<T>(std::rc::Rc<T>);
+    impl<T> Rc<T> {
+        pub fn new(_: Global, x: T) -> Result<Self, AllocError> { Ok(Rc(std::rc::Rc::new(x))) }
+        pub fn clone(shared: &Self) -> Result<Self, AllocError> { Ok(Rc(std::rc::Rc::clone(&shared.0))) }
+    }
+    impl<T> Deref for Rc<T> { type Target = T; fn deref(&self) -> &T { &self.0 } }
+}
+
+pub mod indexmap {
+    use crate::rt::{AllocError, Global};
+    /// Places of keys, in the order in which they came.
+    pub struct IndexSet<T>(std::collections::HashMap<T, usize>);
+    impl<T: Eq + std::hash::Hash> IndexSet<T> {
+        pub fn new(_: Global) -> Self { IndexSet(std::collections::HashMap::new()) }
+        pub fn insert_full(&mut self, key: T) -> Result<(usize, bool), AllocError> {
+            let next = self.0.len();
+            match self.0.entry(key) {
+                std::collections::hash_map::Entry::Occupied(entry) => Ok((*entry.get(), false)),
+                std::collections::hash_map::Entry::Vacant(entry) => { entry.insert(next); Ok((next, true)) }
+            }
+        }
+    }
 }
 
 pub mod term_bank {
