@@ -1,7 +1,8 @@
 //! Runs, command by command.
 
-ghost use Rattle.std.specs.Prelude.{◌≡◌, false};
+ghost use Rattle.std.specs.Prelude.{◌≡◌, ◌+◌, false};
 ghost use Rattle.stt_core.specs.TypedProblem.{IsTyped};
+ghost use Rattle.search_tables.specs.Delays.{delay_by};
 ghost use Rattle.tableau_search.specs.Running.{IsUnderWay};
 
 use command_queue::Weigher;
@@ -49,13 +50,26 @@ fn trace_from<W: Weigher<Command>>(
     Ok(text)
 }
 
+fn trace_by<W: Weigher<Command>>(
+    alloc: Global,
+    problem: &Problem,
+    mode: &Mode,
+    weigher: W,
+) -> anyhow::Result<String>
+    requires typed { IsTyped problem.now }
+    requires callable { W.is_callable weigher }
+    requires answers { W.answers weigher (λ command now. now + delay_by mode.now command) }
+{
+    let mut search = Search::new(alloc, problem, mode, weigher)?;
+    trace_from(alloc, &mut search)
+}
+
 /// What there is after each command of the run over a problem, and how the run ends.
 pub fn trace(alloc: Global, problem: &Problem, mode: &Mode) -> anyhow::Result<String>
     requires { IsTyped problem.now }
 {
     let by = *mode;
-    let mut search = Search::new(alloc, problem, mode, |command: &Command, now: u64| {
-        now + delay(&by, command)
-    })?;
-    trace_from(alloc, &mut search)
+    trace_by(alloc, problem, mode, |command: &Command, now: u64| {
+        now + delay(&by, command) as u64
+    })
 }

@@ -1,8 +1,7 @@
 -- Runs from their start to their end.
 use Rattle.std.specs.Prelude.{◌≡◌, ◌<◌, ◌+◌, ◌≤◌, ◌∷◌, ◌++◌, ℕ, zero, suc, Bool, true, false, List, [], map, filter, length, Option, Some, Contains, refl, if◌then◌else◌}
-use Rattle.std.proofs.Common.{sym, ap, subst, ◌∙◌, arith, inl, inr}
+use Rattle.std.proofs.Common.{sym, ap, ap₂, subst, ◌∙◌, arith, inl, inr, cond}
 use Rattle.std.proofs.lemmas.Bool.{cases_lt}
-use Rattle.std.proofs.lemmas.Grind.{common_steps}
 use Rattle.stt_core.specs.Typing.{Scope}
 use Rattle.stt_core.specs.PlainProblem.{PlainProblem}
 use Rattle.stt_core.specs.Declarations.{scope_of}
@@ -11,6 +10,7 @@ use Rattle.stt_tableau.specs.Start.{start}
 use Rattle.stt_tableau.specs.Witnesses.{Row, IsTableAfter}
 use Rattle.stt_tableau.specs.Accepted.{Within, EndsWithin, IsAccepted}
 use Rattle.stt_tableau.specs.declared.refutation.Refutation.{Refutation}
+use Rattle.stt_tableau.proofs.ListLaws.{contains-first, contains-later, contains_cases}
 use Rattle.search_run.specs.Shallow.{is_shallow_literal}
 use Rattle.search_run.specs.State.{Setting, process, pushed}
 use Rattle.search_run.specs.After.{nothing_yet, started, stepped, after}
@@ -76,11 +76,11 @@ until-next setting ls n until g m h =
 
 filter_again : {X : Type 0} (test : X → Bool) (xs : List X) → filter test (filter test xs) ≡ filter test xs
 filter_again test [] = refl
-filter_again test (x ∷ xs) = again (test x) refl
+filter_again test (x ∷ xs) = go (test x) refl (filter_again test xs)
   where
-    again : (b : Bool) → test x ≡ b → filter test (if b then x ∷ filter test xs else filter test xs) ≡ (if b then x ∷ filter test xs else filter test xs)
-    again true e = ap (λ (c : Bool). if c then x ∷ filter test (filter test xs) else filter test (filter test xs)) e ∙ ap (λ ys. x ∷ ys) (filter_again test xs)
-    again false e = filter_again test xs
+    go : (b : Bool) → test x ≡ b → filter test (filter test xs) ≡ filter test xs → filter test (cond b (x ∷ filter test xs) (filter test xs)) ≡ cond b (x ∷ filter test xs) (filter test xs)
+    go true e rest = ap₂ (λ c ys. cond c (x ∷ ys) ys) e rest
+    go false e rest = rest
 
 -- literals that are too deep don't count
 after_shallow : (setting : Setting) (ls : List Literal) (n : ℕ) → after setting (filter is_shallow_literal ls) n ≡ after setting ls n
@@ -122,8 +122,16 @@ module _ (setting : Setting) (ls : List Literal) where
     at_limit = p.at_limit;
   }
 
-held_whole : {X : Type 0} (test : X → Bool) (xs : List X) (y : X) → Contains (filter test xs) y → Contains xs y
-held_whole test xs y h = grind (arith, common_steps, h)
+none_held : {X : Type 0} (x : X) → Contains [] x → ⊥
+none_held x h = omega (arith, h.1)
+
+held_whole : (test : Literal → Bool) (ls : List Literal) (l : Literal) → Contains (filter test ls) l → Contains ls l
+held_whole test [] l h = absurd (none_held l h)
+held_whole test (k ∷ ls) l h = go (test k) (λ c. contains-later l k ls (held_whole test ls l c)) h
+  where
+    go : (b : Bool) → (Contains (filter test ls) l → Contains (k ∷ ls) l) → Contains (cond b (k ∷ filter test ls) (filter test ls)) l → Contains (k ∷ ls) l
+    go true later c = contains_cases (Contains (k ∷ ls) l) l k (filter test ls) c (λ e. subst (Contains (k ∷ ls)) e (contains-first k ls)) later
+    go false later c = later c
 
 within_whole : (branch ls : List Literal) → Within branch (filter is_shallow_literal ls) → Within branch ls
 within_whole [] ls h = tt
@@ -164,7 +172,7 @@ module _ (p : PlainProblem) (m : Mode) (setting : Setting) (ls : List Literal) (
 
 table_declared : (b : Content) (earlier rows : List Row) → IsTableAfter (content_scope b) earlier rows → IsTableAfter (declared_scope b) earlier rows
 table_declared b earlier [] h = tt
-table_declared b earlier (r ∷ rows) h = (h.0, (h.1.0, table_declared b (earlier ++ r ∷ []) rows h.1.1))
+table_declared b earlier (r ∷ rows) h = (h.0, h.1, table_declared b (earlier ++ r ∷ []) rows h.2)
 
 -- what is accepted over a bank is accepted over what it declares, its witnesses apart
 pub accepted-declared : (b : Content) (ls ks : List Literal) (refutation : Refutation) → ks ≡ ls → IsAccepted (content_scope b) ks refutation → IsAccepted (declared_scope b) ls refutation

@@ -1,10 +1,10 @@
 //! The run of the search over a problem, to its end, with the refutation where it is proved.
 #![tactic(auto)]
 
-mod delay;
+mod delays;
 mod ended;
-mod run;
+mod running;
 
-pub use delay::delay;
+pub use delays::delay;
 pub use ended::Ended;
-pub use run::run;
+pub use running::run;

@@ -1,15 +1,16 @@
 //! Runs to their end.
-ghost use Rattle.std.specs.Prelude.{◌≡◌, ◌++◌, [], ◌∷◌, false, IfOk, IfSome, IfNone, OnOk};
+ghost use Rattle.std.specs.Prelude.{◌≡◌, ◌+◌, ◌++◌, [], ◌∷◌, false, IfOk, IfSome, IfNone, OnOk};
 ghost use Rattle.stt_core.specs.TypedProblem.{IsTyped};
 ghost use Rattle.sat_log.specs.Chains.{results};
 ghost use Rattle.sat_core.specs.Solver.{learned};
 ghost use Rattle.search_run.specs.Result.{GoesOnUntil};
+ghost use Rattle.search_tables.specs.Delays.{delay_by};
 ghost use Rattle.search_tables.specs.Standing.{declared_scope, setting_by};
 ghost use Rattle.tableau_search.specs.Running.{start_in, IsUnderWay};
 ghost use Rattle.tableau_run.specs.Ended.{EndsAs};
 ghost use Rattle.tableau_run.specs.Means.Ends.{AreRight, Refutes, EndsFrom, GoesOnTo};
 
-use crate::delay::delay;
+use crate::delays::delay;
 use crate::ended::Ended;
 use command_queue::Weigher;
 use mode_file::Mode;
@@ -91,14 +92,29 @@ fn run_on<W: Weigher<Command>>(
     unreachable!()
 }
 
+/// Runs the search over a problem by a mode, with what computes when commands are due.
+fn run_by<W: Weigher<Command>>(
+    alloc: Global,
+    problem: &Problem,
+    mode: &Mode,
+    weigher: W,
+) -> Result<Ended, AllocError>
+    requires typed { IsTyped problem.now }
+    requires callable { W.is_callable weigher }
+    requires answers { W.answers weigher (λ command now. now + delay_by mode.now command) }
+    ensures { IfOk result (EndsAs problem.now mode.now) }
+{
+    let mut search = Search::new(alloc, problem, mode, weigher)?;
+    Ok(run_on(alloc, &mut search, mode.commands)?)
+}
+
 /// Runs the search over a problem by a mode.
 pub fn run(alloc: Global, problem: &Problem, mode: &Mode) -> Result<Ended, AllocError>
     requires { IsTyped problem.now }
     ensures { IfOk result (EndsAs problem.now mode.now) }
 {
     let by = *mode;
-    let mut search = Search::new(alloc, problem, mode, |command: &Command, now: u64| {
-        now + delay(&by, command)
-    })?;
-    Ok(run_on(alloc, &mut search, mode.commands)?)
+    run_by(alloc, problem, mode, |command: &Command, now: u64| {
+        now + delay(&by, command) as u64
+    })
 }

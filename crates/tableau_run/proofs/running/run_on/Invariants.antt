@@ -2,10 +2,10 @@ use Rattle.std.proofs.Common.{◌≡◌, false}
 use Rattle.search_run.specs.Result.{GoesOnUntil}
 use Rattle.search_tables.specs.Standing.{setting_by}
 use Rattle.tableau_search.specs.Running.{start_in, IsUnderWay}
-use Rattle.tableau_run.proofs.run.run_on.Given as goal
+use Rattle.tableau_run.proofs.running.run_on.Given as goal
 
-abbrev pub invariant-loop-_commands : goal.invariant-loop-_commands
-invariant-loop-_commands l =
+abbrev pub invariant-loop-commands : goal.invariant-loop-commands
+invariant-loop-commands l =
     let t0 = l.fn.search.core.tables in
     let q0 = l.fn.search.core.plan in
     let t = l.search.core.tables in
@@ -14,8 +14,8 @@ invariant-loop-_commands l =
       under_way : IsUnderWay t q l.search.mode;
       mode : l.search.mode ≡ l.fn.search.mode;
       ready : l.search.is_refused ≡ false;
-      done : t.done ≡ l._commands;
+      done : t.done ≡ l.commands;
       setting : setting_by t q ≡ setting_by t0 q0;
       start : start_in t ≡ start_in t0;
-      until : GoesOnUntil (setting_by t0 q0) (start_in t0) l._commands;
+      until : GoesOnUntil (setting_by t0 q0) (start_in t0) l.commands;
     }

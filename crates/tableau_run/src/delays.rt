@@ -6,10 +6,10 @@ use mode_file::Mode;
 use tableau_search::Command;
 
 /// By how many commands a command is put off, counted from its push.
-pub fn delay(mode: &Mode, command: &Command) -> u64
+pub fn delay(mode: &Mode, command: &Command) -> u32
     ensures { result ≡ delay_by mode.now command.now }
 {
-    let commands = match command {
+    match command {
         Command::Process(_) => mode.process,
         Command::Mate(_, _) => mode.mate,
         Command::Confront(_, _) => mode.confront,
@@ -17,6 +17,5 @@ pub fn delay(mode: &Mode, command: &Command) -> u64
         Command::Grow(_, _) => mode.grow,
         Command::Choose(_) => mode.choose,
         Command::Describe(_) => mode.choose,
-    };
-    commands as u64
+    }
 }

@@ -1,0 +1,49 @@
+use Rattle.std.proofs.Common.{◌≡◌, sym, ap, subst, subst₂}
+use Rattle.std.specs.Prelude.{ℕ, List}
+use Rattle.stt_core.specs.Typing.{Scope}
+use Rattle.stt_tableau.specs.Literals.{Literal}
+use Rattle.search_run.specs.State.{Setting}
+use Rattle.search_run.specs.Result.{IsProved, IsExhausted, IsStopped}
+use Rattle.search_tables.specs.Standing.{setting_by}
+use Rattle.tableau_search.specs.Running.{start_in}
+use Rattle.tableau_search.specs.Progress.{Progress}
+use Rattle.tableau_search.specs.Answers.{Answers}
+use Rattle.tableau_search.specs.declared.stepped.Stepped.{Stepped}
+use Rattle.tableau_run.specs.Means.Ends.{Refutes}
+use Rattle.tableau_run.proofs.RunLaws.{is-proved, is-exhausted, is-stopped}
+use Rattle.tableau_run.proofs.running.next.Goals as goal
+
+pub returns-in_ok-refutation-in-Closed-clause-ended : goal.returns-in_ok-refutation-in-Closed-clause-ended
+returns-in_ok-refutation-in-Closed-clause-ended g c = λ until.
+    let t = c.args.search.now.core.tables in
+    let q = c.args.search.now.core.plan in
+    let u = c.step.new.self.core.tables in
+    let p = c.step.new.self.core.plan in
+    let A : Stepped → Type 0 = λ s. Answers (record { tables = t; plan = q }) (record { tables = u; plan = p }) s in
+    let P : ℕ → Type 0 = λ n. IsProved (setting_by t q) (start_in t) n in
+    let R : Scope → List Literal → Type 0 = λ scope ls. Refutes scope ls c.in_ok-refutation-in-Closed.refutation in
+    let closed = subst A c.in-Closed.is c.in_ok-step.ensures.answers in
+    (
+      subst P (sym c.commands.ensures) (is-proved t q c.requires.under_way.running u p closed until),
+      subst₂ R (ap (λ (s : Setting). s.scope) c.in_ok-step.ensures.setting) c.in_ok-step.ensures.start c.in_ok-refutation-in-Closed.ensures,
+    )
+
+pub returns-in-Empty-clause-ended : goal.returns-in-Empty-clause-ended
+returns-in-Empty-clause-ended g c = λ until.
+    let t = c.args.search.now.core.tables in
+    let q = c.args.search.now.core.plan in
+    let u = c.step.new.self.core.tables in
+    let p = c.step.new.self.core.plan in
+    let A : Stepped → Type 0 = λ s. Answers (record { tables = t; plan = q }) (record { tables = u; plan = p }) s in
+    let P : ℕ → Type 0 = λ n. IsExhausted (setting_by t q) (start_in t) n in
+    subst P (sym c.commands-in-Empty.ensures) (is-exhausted t q c.requires.under_way.running u p (subst A c.in-Empty.is c.in_ok-step.ensures.answers) until)
+
+pub returns-in-Limit-clause-ended : goal.returns-in-Limit-clause-ended
+returns-in-Limit-clause-ended g c = λ until.
+    let t = c.args.search.now.core.tables in
+    let q = c.args.search.now.core.plan in
+    let u = c.step.new.self.core.tables in
+    let p = c.step.new.self.core.plan in
+    let A : Stepped → Type 0 = λ s. Answers (record { tables = t; plan = q }) (record { tables = u; plan = p }) s in
+    let P : ℕ → Type 0 = λ n. IsStopped (setting_by t q) (start_in t) n in
+    subst P (sym c.commands-in-Limit.ensures) (is-stopped t q c.requires.under_way.running u p (subst A c.in-Limit.is c.in_ok-step.ensures.answers) until)

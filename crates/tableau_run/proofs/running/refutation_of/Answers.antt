@@ -1,0 +1,34 @@
+use Rattle.std.proofs.Common.{List, sym, subst}
+use Rattle.sat_log.specs.declared.log.LogEntry.{LogEntry}
+use Rattle.sat_core.specs.Solver.{learned}
+use Rattle.tableau_rebuild.specs.Conditions.{EndsEmpty}
+use Rattle.tableau_rebuild.specs.Tables.{the_atoms, unit_literals}
+use Rattle.tableau_search.specs.Running.{start_in}
+use Rattle.tableau_run.proofs.RebuildUses.{instances-over, units-numbered, units-named, ends-empty}
+use Rattle.tableau_run.proofs.RunLaws.{accepted-declared}
+use Rattle.tableau_run.proofs.running.refutation_of.Goals as goal
+
+pub rebuild-requires-clause-units : goal.rebuild-requires-clause-units
+rebuild-requires-clause-units c =
+    let t = c.args.tables.now in
+    units-numbered t.basis c.requires.right.right.basis t.steps.0 c.requires.right.right.clauses
+
+pub rebuild-requires-clause-instances : goal.rebuild-requires-clause-instances
+rebuild-requires-clause-instances c =
+    let t = c.args.tables.now in
+    instances-over t.basis c.requires.right.right.basis t.steps.1 c.requires.right.made
+
+pub rebuild-requires-clause-closed : goal.rebuild-requires-clause-closed
+rebuild-requires-clause-closed c =
+    let t = c.args.tables.now in
+    let E : List LogEntry → Type 0 = λ log. EndsEmpty log in
+    subst E (sym c.log-log.ensures.log) (ends-empty t.solver.log (learned t.solver) c.requires.ends)
+
+pub returns : goal.returns
+returns c =
+    let t = c.args.tables.now in
+    let r = c.requires.right.right in
+    record {
+      accepted = accepted-declared t.basis.bank (start_in t) (unit_literals (the_atoms t.basis.bank.terms t.basis.lits) t.steps.0) c.in_ok-rebuild.field-0 (sym (units-named t.basis r.basis t.steps.0 r.clauses)) c.in_ok-rebuild.ensures.accepted;
+      reached = c.in_ok-rebuild.ensures.reached;
+    }
