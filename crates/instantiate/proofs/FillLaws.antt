@@ -1,5 +1,5 @@
 -- Partial terms whose first hole is filled.
-use Rattle.std.specs.Prelude.{◌≡◌, ◌+◌, ◌++◌, ℕ, List, [], ◌∷◌, Option, Some, None, slice_get, drop, refl}
+use Rattle.std.specs.Prelude.{◌≡◌, ◌+◌, ◌++◌, ℕ, List, [], ◌∷◌, Option, Some, None, slice_get, drop, unwrap_or, refl}
 use Rattle.std.proofs.Common.{ap, ap₂, sym, ◌∙◌, append_assoc}
 use Rattle.stt_core.specs.SimpleType.{SimpleType, base, arrow}
 use Rattle.stt_core.specs.Lambda.{Lambda}
@@ -12,6 +12,10 @@ use Rattle.instantiate.proofs.HoleLaws.{drop-at}
 pub with_holes-blanks : (a : SimpleType) (p : Partial) → with_holes a p ≡ applications p (blanks a)
 with_holes-blanks (base n) p = refl
 with_holes-blanks (arrow a b) p = with_holes-blanks b (application p (blank a))
+
+pub placed-first : (r p : Partial) (o : Option Partial) → (placed r p o).0 ≡ unwrap_or o p
+placed-first r p (Some q) = refl
+placed-first r p None = refl
 
 filling-application : (o : Option Partial) (p q : Partial) → filling o (application p q) ≡ (application (filling o p).0 (filling (filling o p).1 q).0, (filling (filling o p).1 q).1)
 filling-application None p q = refl

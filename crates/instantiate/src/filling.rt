@@ -1,7 +1,7 @@
 //! Partial terms with something in their first hole.
-ghost use Rattle.std.specs.Prelude.{◌≡◌, ◌++◌, [], IfOk, OnOk};
+ghost use Rattle.std.specs.Prelude.{◌≡◌, ◌++◌, [], IfOk, OnOk, unwrap_or};
 ghost use Rattle.stt_core.specs.View.{the_type, the_head};
-ghost use Rattle.search_run.specs.Partial.{head as the_leaf, with_holes};
+ghost use Rattle.search_run.specs.Partial.{head as the_leaf, filled, with_holes};
 ghost use Rattle.instantiate.specs.Means.Blanks.{blanks};
 ghost use Rattle.instantiate.specs.Means.Holes.{filling, filling_all};
 
@@ -49,6 +49,15 @@ impl Partial {
         Ok(Partial {
             node: PartialNode::App(head.try_clone(alloc)?, args),
         })
+    }
+
+    /// A copy with a head of this type, and with holes for its arguments, in the first hole, where there is one.
+    pub fn with_head(&self, alloc: Global, head: &Head, ty: &Ty) -> Result<Partial, AllocError>
+        ensures { IfOk result (λ p. p ≡ unwrap_or (filled (with_holes (the_type ty.now) (the_leaf (the_head head.now))) self.now) self.now) }
+    {
+        let mut filler = Some(Partial::with_holes(alloc, head, ty)?);
+        let copy = self.filled(alloc, &mut filler)?;
+        Ok(copy)
     }
 
     /// A copy with the filler in the first hole, where there is one. Then nothing is left of the filler.

@@ -1,1 +1,5 @@
+pub mod BasisLaws
 pub mod OpeningLaws
+pub mod HeadCounts
+pub mod ParkingLaws
+pub mod TakingLaws

@@ -2,7 +2,11 @@
 #![tactic(auto)]
 
 mod filling;
+mod heads;
 mod opening;
+mod parking;
+mod stems;
+mod taking;
 mod witness;
 
 pub use filling::fill;

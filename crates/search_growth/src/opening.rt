@@ -8,6 +8,8 @@ ghost use Rattle.search_tables.specs.Growing.{BasisGrows};
 ghost use Rattle.search_tables.specs.Heads.{sketch_of, IsStem};
 ghost use Rattle.search_tables.specs.Standing.{scope_by, setting_by, sketches_in, the_state, IsRight};
 
+use crate::heads::push_heads;
+use crate::parking::park;
 use command_queue::Weigher;
 use search_tables::{Command, Core, Stem};
 use std::alloc::AllocError;
@@ -25,8 +27,7 @@ fn has_type(types: &Types, ty: &Ty) -> bool
     false
 }
 
-/// A partial term is opened: it is parked, and its first hole is to be filled with each head that fits. This isn't built yet, and
-/// answers want of memory.
+/// A partial term is opened: it is parked, and its first hole is to be filled with each head that fits.
 pub fn open_stem<W: Weigher<Command>>(core: &mut Core<W>, stem: Stem) -> Result<(), AllocError>
     requires right { IsRight core.old.tables core.old.plan }
     requires stem { IsStem (scope_by core.old.tables.basis) (sketches_in core.old.tables) stem }
@@ -35,7 +36,10 @@ pub fn open_stem<W: Weigher<Command>>(core: &mut Core<W>, stem: Stem) -> Result<
     ensures tables { OnOk result (core.new.tables ≡ record core.old.tables { stems = core.new.tables.stems; open_holes = core.new.tables.open_holes; holes = core.new.tables.holes; roots = core.new.tables.roots }) }
     ensures rule { OnOk result (core.new.plan.rule ≡ core.old.plan.rule) }
 {
-    Err(AllocError)
+    let p = core.tables.stems.len();
+    park(core, stem)?;
+    push_heads(core, p)?;
+    Ok(())
 }
 
 /// A base type gets its first terms, where it has none. This isn't built yet, and answers want of memory.

@@ -7,7 +7,7 @@ use Rattle.stt_core.specs.Lambda.{Lambda, bound, constant, name, witness, all, e
 use Rattle.stt_core.specs.Typing.{Scope}
 use Rattle.stt_core.proofs.ListLaws.{mapped_get, drop_got, slice_get-append}
 use Rattle.search_run.specs.Each.{Each}
-use Rattle.search_run.specs.Heads.{target, places_to, bases_from, logical_heads, heads_for}
+use Rattle.search_run.specs.Heads.{target, places_to, bases_from, logical_heads, fitting_heads, heads_for}
 use Rattle.search_run.specs.Partial.{Hole}
 use Rattle.search_tables.specs.Fitting.{variables_for, logical_for, later_heads, SplitsAt}
 use Rattle.search_tables.specs.Pending.{base_of}
@@ -53,7 +53,7 @@ base-from k zero j h = absurd (omega (arith, h))
 base-from k (suc n) zero h = ap (λ m. Some (base m)) (let e : k ≡ k + 0 = omega arith in e)
 base-from k (suc n) (suc j) h = base-from (suc k) n j (omega (arith, h)) ∙ ap (λ m. Some (base m)) (let e : suc k + j ≡ k + suc j = omega arith in e)
 
-length-bases : (k n : ℕ) → length (bases_from k n) ≡ n
+pub length-bases : (k n : ℕ) → length (bases_from k n) ≡ n
 length-bases k zero = refl
 length-bases k (suc n) = let e = length-bases (suc k) n in omega (arith, e)
 
@@ -176,15 +176,18 @@ logical_is scope zero = refl
 logical_is scope (suc n) = refl
 
 -- the heads for a hole, one kind after the other
-pub heads-list : (scope : Scope) (o : Option Hole) (i : ℕ) → i < length (heads_for scope o) → heads_for scope o ≡ map bound (variables_for o) ++ (map (λ k. constant (name k)) (places_to (base_of o) 0 scope.names) ++ later_heads scope (base_of o))
-heads-list scope None i h = absurd (omega (arith, h))
-heads-list scope (Some h) i l =
+pub heads-some : (scope : Scope) (h : Hole) → fitting_heads scope h ≡ map bound (places_to h.base 0 h.context) ++ (map (λ k. constant (name k)) (places_to h.base 0 scope.names) ++ later_heads scope h.base)
+heads-some scope h =
     let vs = map bound (places_to h.base 0 h.context) in
     let ns : List Lambda = map (λ k. constant (name k)) (places_to h.base 0 scope.names) in
     let ws : List Lambda = map (λ k. constant (witness k)) (places_to h.base 0 scope.witnesses) in
     append_assoc (vs ++ ns) ws (logical_heads scope h.base)
     ∙ append_assoc vs ns (ws ++ logical_heads scope h.base)
     ∙ ap (λ (ls : List Lambda). vs ++ (ns ++ (ws ++ ls))) (logical_is scope h.base)
+
+pub heads-list : (scope : Scope) (o : Option Hole) (i : ℕ) → i < length (heads_for scope o) → heads_for scope o ≡ map bound (variables_for o) ++ (map (λ k. constant (name k)) (places_to (base_of o) 0 scope.names) ++ later_heads scope (base_of o))
+heads-list scope None i h = absurd (omega (arith, h))
+heads-list scope (Some h) i l = heads-some scope h
 
 module _ (vs ns : List ℕ) (later all : List Lambda) (are : all ≡ map bound vs ++ (map (λ k. constant (name k)) ns ++ later)) where
   abbrev as_name : ℕ → Lambda

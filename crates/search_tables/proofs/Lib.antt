@@ -30,3 +30,5 @@ pub mod NotingLaws
 pub mod SelectingLaws
 pub mod EmptyLaws
 pub mod StateStays
+pub mod FilledHoles
+pub mod SketchLaws

@@ -73,7 +73,7 @@ places-of terms a (l ∷ listed) h = go (same_type a l.0) (places-of terms a lis
     go false rest = rest
 
 -- what stands behind other elements
-at-end : {X : Type 0} (es : List X) (x : X) (xs : List X) (d : X) → get_or (es ++ x ∷ xs) (length es) d ≡ x
+pub at-end : {X : Type 0} (es : List X) (x : X) (xs : List X) (d : X) → get_or (es ++ x ∷ xs) (length es) d ≡ x
 at-end [] x xs d = refl
 at-end (e ∷ es) x xs d = at-end es x xs d
 

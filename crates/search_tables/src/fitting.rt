@@ -83,7 +83,7 @@ impl Tables {
     }
 
     /// The head at a place among those that fit the first hole of a partial term, with the first witnesses.
-    pub(crate) fn fitting_head(
+    pub fn fitting_head(
         &self,
         p: usize,
         witnesses: usize,

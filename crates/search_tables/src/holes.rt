@@ -1,16 +1,21 @@
 //! The holes of partial terms.
-ghost use Rattle.std.specs.Prelude.{◌≡◌, ◌<◌, ◌++◌, List, [], ◌∷◌, length, if◌then◌else◌, Some, slice_get, IfOk, OnOk};
-ghost use Rattle.stt_core.specs.View.{the_type};
+ghost use Rattle.std.specs.Prelude.{◌≡◌, ◌<◌, ◌++◌, List, [], ◌∷◌, drop, length, reverse, if◌then◌else◌, Some, slice_get, option_map, option_and_then, IfOk, OnOk};
+ghost use Rattle.stt_core.specs.Typing.{type_of};
+ghost use Rattle.stt_core.specs.View.{the_type, the_head};
+ghost use Rattle.term_bank.specs.Content.{content_scope};
 ghost use Rattle.search_run.specs.Heads.{places_to};
 ghost use Rattle.search_tables.specs.Fitting.{variables_for};
 ghost use Rattle.search_run.specs.Partial.{Hole};
-ghost use Rattle.search_tables.specs.Holes.{leftmost};
+ghost use Rattle.search_tables.specs.Heads.{the_hole_head};
+ghost use Rattle.search_tables.specs.Holes.{leftmost, binders_onto, blank_hole, argument_holes, after_head};
 ghost use Rattle.search_tables.specs.Pending.{base_of};
 
+use crate::head::{HoleHead, head_of};
 use instantiate::target_of;
 use std::alloc::{AllocError, Global};
 use std::marker::Model;
-use stt_core::{Ty, Types};
+use stt_core::{Context, Head, Ty, Types};
+use term_bank::Bank;
 
 /// A hole: its base type, and the types of the variables in scope there, outermost first.
 #[derive(Drop)]
@@ -40,7 +45,56 @@ fn push_where(places: &mut Vec<usize>, fits: bool, place: usize) -> Result<(), A
     Ok(())
 }
 
+/// Appends the types of a type's binders.
+fn push_binders(alloc: Global, types: &mut Types, ty: &Ty) -> Result<(), AllocError>
+    ensures { OnOk result (reverse types.new ≡ binders_onto (reverse types.old) (the_type ty.now)) }
+{
+    match ty {
+        Ty::Base(_) => Ok(()),
+        Ty::Arrow(argument, outcome) => {
+            types.push(argument.try_clone(alloc)?)?;
+            push_binders(alloc, types, outcome)?;
+            Ok(())
+        }
+    }
+}
+
 impl OpenHole {
+    /// One hole under the binders of a type.
+    fn under(alloc: Global, context: &Types, ty: &Ty) -> Result<OpenHole, AllocError>
+        ensures { IfOk result (λ h. h ≡ blank_hole (reverse context.now) (the_type ty.now)) }
+    {
+        let mut inner = context.try_clone(alloc)?;
+        push_binders(alloc, &mut inner, ty)?;
+        Ok(OpenHole {
+            base: target_of(ty),
+            context: inner,
+        })
+    }
+
+    /// One hole under the binders of a type, where this hole is.
+    fn inner(&self, alloc: Global, ty: &Ty) -> Result<OpenHole, AllocError>
+        ensures { IfOk result (λ h. h ≡ blank_hole self.now.context (the_type ty.now)) }
+    {
+        Ok(OpenHole::under(alloc, &self.context, ty)?)
+    }
+
+    fn try_clone(&self, alloc: Global) -> Result<OpenHole, AllocError>
+        ensures { IfOk result (λ h. h ≡ self.now) }
+    {
+        Ok(OpenHole {
+            base: self.base,
+            context: self.context.try_clone(alloc)?,
+        })
+    }
+
+    /// The type of a head there, where it has one.
+    fn head_type(&self, bank: &Bank, head: &Head) -> Result<Option<Ty>, AllocError>
+        ensures { IfOk result (λ o. option_map the_type o ≡ type_of (content_scope bank.now) self.now.context (the_head head.now)) }
+    {
+        Ok(bank.head_type(&Context::Outer(&self.context), head)?)
+    }
+
     fn base(&self) -> u32
         ensures { result ≡ self.now.base }
     {
@@ -99,6 +153,27 @@ impl Model for HoleList {
 }
 
 impl HoleList {
+    fn new(alloc: Global) -> HoleList
+        ensures { result ≡ [] }
+    {
+        HoleList {
+            items: Vec::new(alloc),
+        }
+    }
+
+    fn push(&mut self, hole: OpenHole) -> Result<(), AllocError>
+        ensures { OnOk result (self.new ≡ self.old ++ hole ∷ []) }
+    {
+        self.items.push(hole)?;
+        Ok(())
+    }
+
+    fn len(&self) -> usize
+        ensures { result ≡ length self.now }
+    {
+        self.items.len()
+    }
+
     /// The hole at a place.
     fn at(&self, i: usize) -> &OpenHole
         requires { i < length self.now }
@@ -111,17 +186,75 @@ impl HoleList {
     fn base(&self) -> u32
         ensures { result ≡ base_of (leftmost self.now) }
     {
-        if self.items.len() == 0 {
+        if self.len() == 0 {
             return 0;
         }
         self.at(0).base()
+    }
+
+    /// The base type of the first hole, where there is one.
+    fn first_base(&self) -> Option<u32>
+        ensures { result ≡ option_map (λ h. h.base) (leftmost self.now) }
+    {
+        if self.len() == 0 {
+            return None;
+        }
+        Some(self.at(0).base())
+    }
+
+    /// The type of a head at the first hole, where there is a hole and the head has a type there.
+    fn head_type(&self, bank: &Bank, head: &Head) -> Result<Option<Ty>, AllocError>
+        ensures { IfOk result (λ o. option_map the_type o ≡ option_and_then (λ h. type_of (content_scope bank.now) h.context (the_head head.now)) (leftmost self.now)) }
+    {
+        if self.len() == 0 {
+            return Ok(None);
+        }
+        Ok(self.at(0).head_type(bank, head)?)
+    }
+
+    /// Appends one hole, under its binders, for each argument of a function of the type, in place of a hole.
+    fn push_arguments(&mut self, alloc: Global, at: &OpenHole, ty: &Ty) -> Result<(), AllocError>
+        ensures { OnOk result (self.new ≡ self.old ++ argument_holes at.now.context (the_type ty.now)) }
+    {
+        match ty {
+            Ty::Base(_) => Ok(()),
+            Ty::Arrow(argument, outcome) => {
+                self.push(at.inner(alloc, argument)?)?;
+                self.push_arguments(alloc, at, outcome)?;
+                Ok(())
+            }
+        }
+    }
+
+    /// Appends copies of another list's holes, but for its first one.
+    fn push_later(&mut self, alloc: Global, other: &HoleList) -> Result<(), AllocError>
+        ensures { OnOk result (self.new ≡ self.old ++ drop 1 other.now) }
+    {
+        for i in 1..other.len() {
+            let hole = other.at(i).try_clone(alloc)?;
+            self.push(hole)?;
+        }
+        Ok(())
+    }
+
+    /// What the holes become where the first one is filled with a head of the type.
+    fn with_head(&self, alloc: Global, ty: &Ty) -> Result<HoleList, AllocError>
+        ensures { IfOk result (λ holes. holes ≡ after_head (the_type ty.now) self.now) }
+    {
+        let mut holes = HoleList::new(alloc);
+        if self.len() == 0 {
+            return Ok(holes);
+        }
+        holes.push_arguments(alloc, self.at(0), ty)?;
+        holes.push_later(alloc, self)?;
+        Ok(holes)
     }
 
     /// The variables that fit the first hole.
     fn variables(&self, alloc: Global) -> Result<Vec<usize>, AllocError>
         ensures { IfOk result (λ v. v.items ≡ variables_for (leftmost self.now)) }
     {
-        if self.items.len() == 0 {
+        if self.len() == 0 {
             return Ok(Vec::new(alloc));
         }
         Ok(self.at(0).variables(alloc)?)
@@ -173,10 +306,54 @@ impl OpenHoles {
     }
 
     /// The variables that fit the first hole of a partial term.
-    pub(crate) fn variables(&self, alloc: Global, p: usize) -> Result<Vec<usize>, AllocError>
+    pub fn variables(&self, alloc: Global, p: usize) -> Result<Vec<usize>, AllocError>
         requires { p < length self.now }
         ensures { IfOk result (λ v. (holes : List Hole) → slice_get self.now p ≡ Some holes → v.items ≡ variables_for (leftmost holes)) }
     {
         Ok(self.at(p).variables(alloc)?)
+    }
+
+    /// How many holes a partial term has.
+    pub fn count(&self, p: usize) -> usize
+        requires { p < length self.now }
+        ensures { (holes : List Hole) → slice_get self.now p ≡ Some holes → result ≡ length holes }
+    {
+        self.at(p).len()
+    }
+
+    /// The base type of the first hole of a partial term, where it has one.
+    pub fn first_base(&self, p: usize) -> Option<u32>
+        requires { p < length self.now }
+        ensures { (holes : List Hole) → slice_get self.now p ≡ Some holes → result ≡ option_map (λ h. h.base) (leftmost holes) }
+    {
+        self.at(p).first_base()
+    }
+
+    /// The type of a head at the first hole of a partial term, where there is a hole and the head has a type there.
+    pub fn head_type(&self, bank: &Bank, p: usize, head: HoleHead) -> Result<Option<Ty>, AllocError>
+        requires { p < length self.now }
+        ensures { IfOk result (λ o. (holes : List Hole) → slice_get self.now p ≡ Some holes → option_map the_type o ≡ option_and_then (λ h. type_of (content_scope bank.now) h.context (the_hole_head head)) (leftmost holes)) }
+    {
+        Ok(self.at(p).head_type(bank, &head_of(head))?)
+    }
+
+    /// Appends the holes of one hole under the binders of a type.
+    pub fn push_blank(&mut self, alloc: Global, ty: &Ty) -> Result<(), AllocError>
+        ensures { OnOk result (self.new ≡ self.old ++ (blank_hole [] (the_type ty.now) ∷ []) ∷ []) }
+    {
+        let mut holes = HoleList::new(alloc);
+        holes.push(OpenHole::under(alloc, &Types::new(alloc), ty)?)?;
+        self.lists.push(holes)?;
+        Ok(())
+    }
+
+    /// Appends what the holes of a partial term become where the first one is filled with a head of the type.
+    pub fn push_grown(&mut self, alloc: Global, p: usize, ty: &Ty) -> Result<(), AllocError>
+        requires { p < length self.old }
+        ensures { OnOk result ((holes : List Hole) → slice_get self.old p ≡ Some holes → self.new ≡ self.old ++ after_head (the_type ty.now) holes ∷ []) }
+    {
+        let holes = self.at(p).with_head(alloc, ty)?;
+        self.lists.push(holes)?;
+        Ok(())
     }
 }

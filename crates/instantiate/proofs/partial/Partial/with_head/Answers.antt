@@ -1,0 +1,13 @@
+use Rattle.std.proofs.Common.{ap, ◌∙◌}
+use Rattle.std.specs.Prelude.{unwrap_or}
+use Rattle.search_run.specs.Partial.{Partial, filled}
+use Rattle.instantiate.proofs.FillLaws.{placed-first}
+use Rattle.instantiate.proofs.partial.Partial.with_head.Goals as goal
+
+pub returns : goal.returns
+returns c =
+    let p = c.args.self.now in
+    let r = c.in_ok-with_holes.field-0 in
+    c.in_ok-copy.ensures.copy
+    ∙ placed-first r p (filled r p)
+    ∙ ap (λ (x : Partial). unwrap_or (filled x p) p) c.in_ok-with_holes.ensures
