@@ -31,6 +31,8 @@ pub use command::{Command, Delays, Over, Planned, Rest};
 pub use head::{HoleHead, head_of, number_of, numbered_head};
 pub use holes::OpenHoles;
 pub use plan::Plan;
+pub use selected::part_of;
 pub use set::{IdSet, LitSet};
+pub use shape::{has_equal_sides, quantified_type};
 pub use stem::Stem;
 pub use tables::{Basis, Core, Tables};

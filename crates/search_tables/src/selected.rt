@@ -68,7 +68,7 @@ pub(crate) fn count_parts(bank: &Bank, id: Id) -> usize
 }
 
 /// A part of a term. It has a smaller number.
-pub(crate) fn part_of(bank: &Bank, id: Id, i: usize) -> Id
+pub fn part_of(bank: &Bank, id: Id, i: usize) -> Id
     requires number { id < length bank.now.terms }
     requires within { i < length (parts (term_at bank.now.terms id)) }
     ensures smaller { result < id }

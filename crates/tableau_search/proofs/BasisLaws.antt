@@ -1,5 +1,5 @@
 -- Terms, numbers and witnesses at the start.
-use Rattle.std.specs.Prelude.{◌≡◌, ◌+◌, ◌-◌, ℕ, suc, Bool, true, false, List, [], ◌∷◌, ◌++◌, map, drop, get_or, length, replicate, if◌then◌else◌, refl}
+use Rattle.std.specs.Prelude.{◌≡◌, ◌-◌, ℕ, Bool, true, false, List, [], ◌∷◌, ◌++◌, map, drop, get_or, length, replicate, if◌then◌else◌, refl}
 use Rattle.std.specs.List.{All, list_any}
 use Rattle.std.proofs.Common.{sym, ap, ap₂, ◌∙◌, subst, arith, append-nil, length-append}
 use Rattle.stt_core.proofs.ListLaws.{map-append}
@@ -12,12 +12,11 @@ use Rattle.bank_normal.proofs.RightLaws.{right_grown}
 use Rattle.literal_map.specs.Atoms.{IsAtom}
 use Rattle.witness_names.specs.Rows.{rows_of, AreRows}
 use Rattle.witness_names.proofs.StayLaws.{rows_same, rows_grown}
-use Rattle.tableau_clauses.specs.declared.origin.Origin.{Origin}
 use Rattle.tableau_clauses.specs.declared.origin.Origin.TheVariants.{Start}
 use Rattle.tableau_clauses.specs.Table.{Step, Table, clauses_in, origins_in, the_clauses, the_origins, the_instances}
 use Rattle.search_tables.specs.declared.tables.Basis.{Basis}
 use Rattle.search_tables.specs.Growing.{BasisGrows}
-use Rattle.search_tables.specs.Standing.{rows_in, IsBasis}
+use Rattle.search_tables.specs.Standing.{IsBasis}
 use Rattle.search_tables.proofs.EachLaws.{All-from_each}
 use Rattle.tableau_search.specs.Starting.{AddsUnit}
 

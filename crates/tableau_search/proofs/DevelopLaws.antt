@@ -1,7 +1,6 @@
 -- Tables that develop.
-use Rattle.std.specs.Prelude.{◌≡◌, ◌≢◌, List, [], ◌∷◌, ◌++◌, refl}
+use Rattle.std.specs.Prelude.{◌≡◌, ◌≢◌, [], ◌++◌}
 use Rattle.std.proofs.Common.{sym, ap, ◌∙◌, subst, append_assoc, append-nil}
-use Rattle.search_run.specs.Each.{Each}
 use Rattle.search_run.proofs.NamingLaws.{each-joined}
 use Rattle.literal_map.specs.declared.instance.Instance.{Instance}
 use Rattle.tableau_rules.proofs.WideLaws.{widens_itself, widens_on, grown_wide}

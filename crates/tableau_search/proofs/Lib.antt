@@ -8,3 +8,6 @@ mod StartLaws
 mod StartingLaws
 mod BasisLaws
 mod SearchLaws
+mod ShapedLaws
+mod AloneUses
+mod WorkLaws

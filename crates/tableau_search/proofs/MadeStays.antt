@@ -1,8 +1,6 @@
 -- What is made stays so where the tables become wider.
-use Rattle.std.specs.Prelude.{◌≡◌, ℕ, List, [], ◌∷◌, ◌++◌, map, slice_get, Some, length, refl}
-use Rattle.std.specs.Option.{ForSome}
-use Rattle.std.proofs.Common.{sym, ap, ap₂, ◌∙◌, subst}
-use Rattle.stt_core.specs.Lambda.{Lambda}
+use Rattle.std.specs.Prelude.{◌≡◌, ℕ, List, [], ◌++◌, map, refl}
+use Rattle.std.proofs.Common.{sym, ap, ◌∙◌, subst}
 use Rattle.stt_core.specs.Typing.{Scope}
 use Rattle.stt_core.proofs.ListLaws.{map-append, slice_get-append}
 use Rattle.stt_tableau.specs.Literals.{Literal}
@@ -19,13 +17,13 @@ use Rattle.literal_map.specs.declared.instance.Instance.{Instance}
 use Rattle.witness_names.specs.Rows.{row_of, rows_of}
 use Rattle.tableau_rules.specs.Uses.{IsInstanceBy}
 use Rattle.tableau_rules.proofs.MadeLaws.{instance_on, instance_wider}
-use Rattle.tableau_rules.proofs.WideLaws.{wide_at, wide_within}
+use Rattle.tableau_rules.proofs.WideLaws.{wide_within}
 use Rattle.search_tables.specs.declared.tables.Basis.{Basis}
 use Rattle.search_tables.specs.Names.{Names, IsNumber, IsPlace}
-use Rattle.search_tables.specs.Growing.{Continues, Longer}
+use Rattle.search_tables.specs.Growing.{Continues}
 use Rattle.search_tables.specs.Standing.{rows_in, IsBasis}
 use Rattle.search_tables.proofs.EachLaws.{each-weaker, map-same, each-from_All}
-use Rattle.search_tables.proofs.NamesLaws.{number-stays, literal-stays, place-stays, term-stays}
+use Rattle.search_tables.proofs.NamesLaws.{number-stays, literal-stays, term-stays}
 use Rattle.search_tables.specs.Steps.{IsMade}
 use Rattle.tableau_search.specs.Developing.{IsWider}
 

@@ -6,7 +6,7 @@ use Rattle.stt_core.specs.Lambda.{Constant, Lambda, constant, app, applied, ever
 use Rattle.stt_core.specs.Typing.{Scope, IsScope, constant_type, type_of}
 use Rattle.stt_core.specs.Canonical.{IsCanonical}
 use Rattle.stt_tableau.specs.Literals.{Literal, plus, minus}
-use Rattle.stt_tableau.specs.Rules.{all_pos_rule, mat_rule, con_rule, cho_rule, des_rule, differ_each}
+use Rattle.stt_tableau.specs.Rules.{all_pos_rule, mat_rule, con_rule, cho_rule, des_rule}
 use Rattle.stt_tableau.specs.declared.refutation.RuleUse.TheVariants.{AllPos, Mat, Con, Cho, Des}
 use Rattle.sat_base.specs.declared.literal.SatLit.{SatLit}
 use Rattle.search_run.specs.Spine.{head_of, arguments}
@@ -15,7 +15,7 @@ use Rattle.search_run.specs.Shallow.{is_shallow}
 use Rattle.search_run.specs.State.{State, Setting}
 use Rattle.search_run.specs.Alternatives.{Alternatives, all_pos, con, cho, des, differ}
 use Rattle.search_run.specs.Instances.{with_instance}
-use Rattle.search_run.specs.Commands.{mated_pair, confronted_pair, instantiated}
+use Rattle.search_run.specs.Commands.{confronted_pair, instantiated}
 use Rattle.search_run.specs.TypedState.{Mates, Confronts, Instantiates}
 use Rattle.search_run.proofs.TypedPartners.{head_function}
 use Rattle.search_run.proofs.TypedProcessing.{spines_differ}
@@ -57,7 +57,7 @@ module _ (g : Basis) (good : IsBasis g) where
   canonical_here : (a : SimpleType) (t : Lambda) → IsCanonical (scope_by g) [] a t → IsCanonical (content_scope g.bank) [] a t
   canonical_here a t h = let P : Scope → Type 0 = λ s. IsCanonical s [] a t in subst P (scope-is g good) h
 
-  typed_here : (c : Constant) (a : SimpleType) → constant_type (scope_by g) c ≡ Some a → constant_type (content_scope g.bank) c ≡ Some a
+  pub typed_here : (c : Constant) (a : SimpleType) → constant_type (scope_by g) c ≡ Some a → constant_type (content_scope g.bank) c ≡ Some a
   typed_here c a h = let P : Scope → Type 0 = λ s. constant_type s c ≡ Some a in subst P (scope-is g good) h
 
   abbrev pub inst_use : SatLit → ℕ → BankUse

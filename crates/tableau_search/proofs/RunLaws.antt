@@ -1,11 +1,10 @@
 -- A run goes on by a command.
-use Rattle.std.specs.Prelude.{◌≡◌, ◌≢◌, ◌≤◌, ◌<◌, ◌+◌, ℕ, suc, false, List, [], ◌∷◌, ◌++◌, map, length, Option, Some, None, refl, if◌then◌else◌}
+use Rattle.std.specs.Prelude.{◌≡◌, ◌≢◌, ◌≤◌, ◌<◌, ◌+◌, ℕ, suc, List, [], ◌∷◌, map, length, Some, refl, if◌then◌else◌}
 use Rattle.std.proofs.Common.{sym, ap, ap₂, ◌∙◌, subst, arith, add-one}
 use Rattle.std.proofs.lemmas.Option.{same_Some}
 use Rattle.stt_core.specs.Typing.{Scope, IsScope}
 use Rattle.stt_tableau.specs.Literals.{Literal, IsBranch}
 use Rattle.stt_tableau.specs.Witnesses.{with_rows}
-use Rattle.mode_file.specs.declared.Mode.{Mode}
 use Rattle.command_queue.specs.declared.entry.Entry.{Entry}
 use Rattle.command_queue.specs.Queue.{Queue}
 use Rattle.search_run.specs.Each.{Each}
@@ -24,14 +23,13 @@ use Rattle.search_tables.specs.declared.command.Delays.{Delays}
 use Rattle.search_tables.specs.declared.tables.Basis.{Basis}
 use Rattle.search_tables.specs.declared.tables.Tables.{Tables}
 use Rattle.search_tables.specs.Delays.{the_mode}
-use Rattle.search_tables.specs.Names.{command_at, IsNumber}
+use Rattle.search_tables.specs.Names.{command_at}
 use Rattle.search_tables.specs.Standing.{declared_scope, scope_by, sketches_in, names_in, setting_by, loops_in, the_state, IsRight}
 use Rattle.search_tables.specs.Taking.{TakesNext}
 use Rattle.search_tables.proofs.EachLaws.{each-weaker}
 use Rattle.search_tables.specs.Steps.{IsMade}
 use Rattle.tableau_search.specs.Developing.{IsWider, Develops}
 use Rattle.tableau_search.specs.Running.{start_in, IsRunning}
-use Rattle.tableau_search.specs.Progress.{Progress}
 use Rattle.tableau_search.specs.Answers.{GoesOn}
 use Rattle.tableau_search.proofs.MadeStays.{made-wider}
 use Rattle.tableau_search.proofs.UnitLaws.{units-grow, start-stays}

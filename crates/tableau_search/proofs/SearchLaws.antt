@@ -1,8 +1,7 @@
 -- A search at its start.
-use Rattle.std.specs.Prelude.{◌≡◌, List, [], map, length, filter}
-use Rattle.std.proofs.Common.{sym, ap, ap₂, subst, ◌∙◌}
+use Rattle.std.specs.Prelude.{◌≡◌, List, [], map, length}
+use Rattle.std.proofs.Common.{sym, subst}
 use Rattle.stt_core.specs.Typing.{Scope, IsScope}
-use Rattle.stt_core.specs.TypedName.{TypedName}
 use Rattle.stt_core.specs.Declarations.{scope_of}
 use Rattle.stt_core.specs.PlainProblem.{PlainProblem}
 use Rattle.stt_core.specs.TypedProblem.{IsTyped}

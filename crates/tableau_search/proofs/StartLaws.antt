@@ -1,7 +1,7 @@
 -- A start, literal by literal.
 use Rattle.std.specs.Prelude.{◌≡◌, ◌&&◌, ◌||◌, ◌+◌, ℕ, suc, Bool, true, false, not, List, [], ◌∷◌, ◌++◌, map, filter, length, if◌then◌else◌, refl}
-use Rattle.std.specs.List.{list_any, list_all}
-use Rattle.std.proofs.Common.{sym, ap, ap₂, ◌∙◌, subst, append_assoc, append-nil, length-append, arith}
+use Rattle.std.specs.List.{list_any}
+use Rattle.std.proofs.Common.{sym, ap, ap₂, ◌∙◌, append_assoc, append-nil, length-append, arith}
 use Rattle.std.proofs.lemmas.List.Elements.{filter-append}
 use Rattle.stt_core.proofs.ListLaws.{map-append}
 use Rattle.stt_core.specs.SameTerm.{same_term}
@@ -9,7 +9,7 @@ use Rattle.stt_tableau.specs.Literals.{Literal, opposite}
 use Rattle.stt_tableau.specs.Start.{has, same_sign, same_literal}
 use Rattle.search_run.specs.Mode.{Mode}
 use Rattle.search_run.specs.Shallow.{is_shallow_literal}
-use Rattle.search_run.specs.Clauses.{Kind, same_clause, with_clauses, is_tautology, instance_clauses}
+use Rattle.search_run.specs.Clauses.{Kind, same_clause, with_clauses, instance_clauses}
 use Rattle.search_run.specs.Unsatisfiable.{formulas, Clause}
 use Rattle.search_run.specs.Queue.{Waiting, waiting}
 use Rattle.search_run.specs.State.{State, Setting, Command, process, due, pushed}

@@ -17,7 +17,7 @@ use Rattle.search_run.specs.Mode.{Mode}
 use Rattle.search_run.specs.Shallow.{is_shallow_literal}
 use Rattle.sat_base.specs.Literal.{same_var}
 use Rattle.std.specs.Bool.{beq}
-use Rattle.search_run.specs.Unsatisfiable.{formulas, Clause}
+use Rattle.search_run.specs.Unsatisfiable.{formulas}
 use Rattle.search_run.specs.Clauses.{same_clause, with_clauses, instance_clauses}
 use Rattle.search_run.specs.Numbered.{numbers}
 use Rattle.search_run.specs.State.{State, Setting, process, pushed}
@@ -26,7 +26,6 @@ use Rattle.search_run.specs.After.{nothing_yet, started, after}
 use Rattle.term_bank.specs.Content.{content_scope}
 use Rattle.witness_names.specs.Rows.{rows_of}
 use Rattle.literal_map.specs.Atoms.{literal_at}
-use Rattle.literal_map.specs.declared.instance.Instance.{Instance}
 use Rattle.tableau_clauses.specs.declared.origin.Origin.TheVariants.{Start}
 use Rattle.tableau_clauses.specs.Table.{Step, Table, clauses_in, the_clauses}
 use Rattle.search_tables.specs.declared.command.Planned.{Planned}

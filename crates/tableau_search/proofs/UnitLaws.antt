@@ -1,7 +1,6 @@
 -- The start units where further steps come.
 use Rattle.std.specs.Prelude.{◌≡◌, ◌≢◌, List, [], ◌∷◌, ◌++◌, map, refl}
-use Rattle.std.proofs.Common.{sym, ap, ap₂, ◌∙◌, subst, append_assoc, append-nil}
-use Rattle.stt_core.proofs.ListLaws.{map-append}
+use Rattle.std.proofs.Common.{sym, ap, ap₂, ◌∙◌, append_assoc, append-nil}
 use Rattle.sat_base.specs.declared.literal.SatLit.{SatLit}
 use Rattle.search_run.specs.Each.{Each}
 use Rattle.search_run.proofs.NamingLaws.{each-joined}
@@ -10,7 +9,6 @@ use Rattle.literal_map.specs.declared.instance.Instance.{Instance}
 use Rattle.tableau_clauses.specs.declared.origin.Origin.{Origin}
 use Rattle.tableau_clauses.specs.declared.origin.Origin.TheVariants.{Start, Instance as From}
 use Rattle.tableau_clauses.specs.Table.{Step, Table, clauses_in}
-use Rattle.search_tables.specs.declared.tables.Basis.{Basis}
 use Rattle.search_tables.specs.declared.tables.Tables.{Tables}
 use Rattle.search_tables.specs.Names.{IsNumber}
 use Rattle.search_tables.specs.Standing.{IsBasis}

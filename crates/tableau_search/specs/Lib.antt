@@ -1,4 +1,5 @@
 pub mod Developing
+pub mod Working
 pub mod Running
 pub mod Starting
 pub mod Progress

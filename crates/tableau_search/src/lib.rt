@@ -3,12 +3,19 @@
 #![tactic(auto)]
 
 mod advance;
+mod alone;
 mod carry;
+mod equation;
 mod instances;
 mod process;
+mod propositional;
+mod quantifier;
 mod search;
+mod shape;
+mod spine;
 mod start;
 mod stepped;
+mod work;
 
 pub use search::Search;
 pub use search_tables::Command;

@@ -6,13 +6,13 @@ ghost use Rattle.search_tables.specs.Names.{IsNumber};
 ghost use Rattle.search_tables.specs.Standing.{setting_by, the_state, IsRight};
 ghost use Rattle.tableau_search.specs.Developing.{Develops};
 
+use crate::work::work;
 use command_queue::Weigher;
 use sat_base::SatLit;
 use search_tables::{Command, Core};
 use std::alloc::AllocError;
 
-/// A literal is processed: what its shape asks for is done, it is noted, and the choices and the descriptions in its atom are taken up. This
-/// isn't built yet, and answers want of memory.
+/// A literal is processed: what its shape asks for is done, it is noted, and the choices and the descriptions in its atom are taken up.
 pub(crate) fn process<W: Weigher<Command>>(
     core: &mut Core<W>,
     lit: SatLit,
@@ -26,5 +26,8 @@ pub(crate) fn process<W: Weigher<Command>>(
     ensures witnesses { OnOk result (length core.new.tables.basis.witnesses ≤ suc (length core.old.tables.basis.witnesses)) }
     ensures rule { OnOk result (core.new.plan.rule ≡ core.old.plan.rule) }
 {
-    Err(AllocError)
+    work(core, lit)?;
+    core.note_literal(lit)?;
+    core.select(lit)?;
+    Ok(())
 }

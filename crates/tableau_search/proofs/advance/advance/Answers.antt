@@ -1,8 +1,8 @@
-use Rattle.std.proofs.Common.{◌≢◌, refl, sym, ap, subst, ◌∙◌, arith}
+use Rattle.std.proofs.Common.{refl, sym, ap, subst, ◌∙◌, arith}
 use Rattle.mode_file.specs.declared.Mode.{Mode}
 use Rattle.search_run.specs.Unsatisfiable.{Unsatisfiable}
 use Rattle.search_run.specs.State.{State}
-use Rattle.tableau_search.proofs.RunLaws.{some-wait, none-waits, state-solved, setting-solved, start-solved, done-solved, running-solved, goes-on-solved}
+use Rattle.tableau_search.proofs.RunLaws.{some-wait, none-waits, state-solved, done-solved, running-solved, goes-on-solved}
 use Rattle.tableau_search.proofs.advance.advance.Goals as goal
 
 pub returns-in-Unsat-clause-running : goal.returns-in-Unsat-clause-running

@@ -1,4 +1,4 @@
-use Rattle.std.proofs.Common.{refl, ap}
+use Rattle.std.proofs.Common.{ap}
 use Rattle.search_tables.specs.declared.tables.Tables.{Tables}
 use Rattle.tableau_search.proofs.DevelopLaws.{grows-wider, steps-same}
 use Rattle.search_tables.specs.Steps.{IsMade}

@@ -1,4 +1,4 @@
-use Rattle.std.proofs.Common.{sym, ap, ◌∙◌}
+use Rattle.std.proofs.Common.{ap, ◌∙◌}
 use Rattle.search_tables.specs.declared.command.Delays.{Delays}
 use Rattle.tableau_search.proofs.search.Search.step.Goals as goal
 
