@@ -3,3 +3,10 @@ pub mod OpeningLaws
 pub mod HeadCounts
 pub mod ParkingLaws
 pub mod TakingLaws
+pub mod BaseTermLaws
+pub mod WiderStems
+pub mod WidenLaws
+pub mod DenialLaws
+pub mod TakerLaws
+pub mod ParkedLaws
+pub mod WitnessedLaws
