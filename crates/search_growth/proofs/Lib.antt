@@ -1,1 +1,9 @@
+pub mod BasisLaws
+pub mod BaseTermLaws
 pub mod OpeningLaws
+pub mod WiderStems
+pub mod WidenLaws
+pub mod DenialLaws
+pub mod TakerLaws
+pub mod ParkedLaws
+pub mod WitnessedLaws

@@ -1,6 +1,8 @@
 //! What the search grows: partial terms, the terms of types, and witnesses.
 #![tactic(auto)]
 
+mod base_terms;
+mod denial;
 mod filling;
 mod opening;
 mod witness;

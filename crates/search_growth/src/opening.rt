@@ -1,13 +1,14 @@
 //! Partial terms that are opened.
 ghost use Rattle.std.specs.Prelude.{◌≡◌, true, length, OnOk};
 ghost use Rattle.std.specs.List.{list_any};
-ghost use Rattle.stt_core.specs.SimpleType.{SimpleType, base, arrow, is_declared, same_type};
+ghost use Rattle.stt_core.specs.SimpleType.{SimpleType, arrow, is_declared, same_type};
 ghost use Rattle.stt_core.specs.View.{the_type};
 ghost use Rattle.search_run.specs.Terms.{opened, prepared};
 ghost use Rattle.search_tables.specs.Growing.{BasisGrows};
 ghost use Rattle.search_tables.specs.Heads.{sketch_of, IsStem};
 ghost use Rattle.search_tables.specs.Standing.{scope_by, setting_by, sketches_in, the_state, IsRight};
 
+use crate::base_terms::prepare_base;
 use command_queue::Weigher;
 use search_tables::{Command, Core, Stem};
 use std::alloc::AllocError;
@@ -33,19 +34,6 @@ pub fn open_stem<W: Weigher<Command>>(core: &mut Core<W>, stem: Stem) -> Result<
     ensures state { OnOk result (the_state core.new.tables core.new.plan ≡ opened (setting_by core.old.tables core.old.plan) (sketch_of (scope_by core.old.tables.basis) (sketches_in core.old.tables) stem) (the_state core.old.tables core.old.plan)) }
     ensures right { OnOk result (IsRight core.new.tables core.new.plan) }
     ensures tables { OnOk result (core.new.tables ≡ record core.old.tables { stems = core.new.tables.stems; open_holes = core.new.tables.open_holes; holes = core.new.tables.holes; roots = core.new.tables.roots }) }
-    ensures rule { OnOk result (core.new.plan.rule ≡ core.old.plan.rule) }
-{
-    Err(AllocError)
-}
-
-/// A base type gets its first terms, where it has none. This isn't built yet, and answers want of memory.
-fn prepare_base<W: Weigher<Command>>(core: &mut Core<W>, n: u32) -> Result<(), AllocError>
-    requires right { IsRight core.old.tables core.old.plan }
-    requires declared { is_declared (length core.old.tables.basis.bank.bases) (base n) ≡ true }
-    ensures state { OnOk result (the_state core.new.tables core.new.plan ≡ prepared (setting_by core.old.tables core.old.plan) (base n) (the_state core.old.tables core.old.plan)) }
-    ensures right { OnOk result (IsRight core.new.tables core.new.plan) }
-    ensures basis { OnOk result (BasisGrows core.old.tables.basis core.new.tables.basis) }
-    ensures tables { OnOk result (core.new.tables ≡ record core.old.tables { basis = core.new.tables.basis; terms = core.new.tables.terms }) }
     ensures rule { OnOk result (core.new.plan.rule ≡ core.old.plan.rule) }
 {
     Err(AllocError)

@@ -1,19 +1,41 @@
 //! Witnesses of predicates that don't hold everywhere.
-ghost use Rattle.std.specs.Prelude.{◌≡◌, ◌<◌, ◌-◌, ◌^◌, length, OnOk};
+ghost use Rattle.std.specs.Prelude.{◌≡◌, ◌<◌, ◌-◌, ◌^◌, length, map, filter, OnOk};
 ghost use Rattle.stt_core.specs.SimpleType.{SimpleType};
-ghost use Rattle.stt_core.specs.Lambda.{Lambda, every};
+ghost use Rattle.stt_core.specs.Lambda.{witness, Lambda, constant, every};
 ghost use Rattle.stt_tableau.specs.Literals.{minus};
 ghost use Rattle.literal_map.specs.Atoms.{literal_at};
-ghost use Rattle.search_run.specs.Witness.{witnessed};
+ghost use Rattle.search_run.specs.State.{grow, pushed};
+ghost use Rattle.search_run.specs.Witness.{has_hole_of, witnessed};
+ghost use Rattle.search_tables.specs.Delays.{the_mode};
 ghost use Rattle.search_tables.specs.Growing.{BasisWidens};
 ghost use Rattle.search_tables.specs.Names.{IsNumber};
-ghost use Rattle.search_tables.specs.Standing.{setting_by, the_state, IsRight};
+ghost use Rattle.search_tables.specs.Standing.{setting_by, sketches_in, the_state, IsRight};
 ghost use Rattle.search_tables.specs.Steps.{IsMade, StepsGrow};
 
+use crate::denial::{denied_target, deny};
 use command_queue::Weigher;
 use sat_base::SatLit;
-use search_tables::{Command, Core};
+use search_tables::{Command, Core, HoleHead, Over, number_of};
 use std::alloc::AllocError;
+use stt_core::Ty;
+
+/// Each parked partial term whose first hole has a base type is to be filled with a witness.
+fn grow_with<W: Weigher<Command>>(core: &mut Core<W>, output: u32, w: u32) -> Result<(), AllocError>
+    requires right { IsRight core.old.tables core.old.plan }
+    ensures state { OnOk result (the_state core.new.tables core.new.plan ≡ pushed (the_mode core.old.plan.rule.mode) (map (λ p. grow p (constant (witness w))) (filter (has_hole_of output) (sketches_in core.old.tables))) (the_state core.old.tables core.old.plan)) }
+    ensures right { OnOk result (IsRight core.new.tables core.new.plan) }
+    ensures tables { core.new.tables ≡ core.old.tables }
+    ensures rule { OnOk result (core.new.plan.rule ≡ core.old.plan.rule) }
+{
+    let parked = core.tables.holes.terms_of(&Ty::Base(output));
+    let count = parked.len();
+    if count == 0 {
+        return Ok(());
+    }
+    let first = Command::Grow(parked[0], number_of(HoleHead::Wit(w)));
+    core.push_whole(first, Over::Parked, count)?;
+    Ok(())
+}
 
 /// The rule for a literal that says of a predicate that it doesn't hold everywhere. The predicate gets a witness, where it has none,
 /// and with this one the partial terms are to grow.
@@ -30,5 +52,13 @@ pub fn add_witness<W: Weigher<Command>>(core: &mut Core<W>, lit: SatLit) -> Resu
     ensures tables { OnOk result (core.new.tables ≡ record core.old.tables { basis = core.new.tables.basis; seen = core.new.tables.seen; steps = core.new.tables.steps; solver = core.new.tables.solver; takers = core.new.tables.takers }) }
     ensures rule { OnOk result (core.new.plan.rule ≡ core.old.plan.rule) }
 {
-    Err(AllocError)
+    let output = denied_target(&core.tables.basis, lit);
+    let before = core.tables.basis.witnesses.len();
+    let instance = deny(core, output, lit)?;
+    core.add_instance(instance)?;
+    if core.tables.basis.witnesses.len() == before {
+        return Ok(());
+    }
+    grow_with(core, output, before)?;
+    Ok(())
 }

@@ -36,13 +36,13 @@ use Rattle.search_tables.proofs.NamesLaws.{place-stays, term-stays, number-stays
 use Rattle.search_tables.proofs.LoopStays.{loops-stay, entries-stay}
 
 -- tests that agree on each element pass the same ones
-filter-same : {X : Type 0} (f g : X → Bool) (P : X → Type 0) → ((x : X) → P x → f x ≡ g x) → (xs : List X) → Each P xs → filter f xs ≡ filter g xs
+pub filter-same : {X : Type 0} (f g : X → Bool) (P : X → Type 0) → ((x : X) → P x → f x ≡ g x) → (xs : List X) → Each P xs → filter f xs ≡ filter g xs
 filter-same f g P e [] h = refl
 filter-same {X} f g P e (x ∷ xs) h =
     ap (λ (b : Bool). if b then x ∷ filter f xs else filter f xs) (e x h.0) ∙ ap (λ (ys : List X). if g x then x ∷ ys else ys) (filter-same f g P e xs h.1)
 
 -- .. and at the same places
-places-same : {X : Type 0} (f g : X → Bool) (P : X → Type 0) → ((x : X) → P x → f x ≡ g x) → (n : ℕ) (xs : List X) → Each P xs → places_where f n xs ≡ places_where g n xs
+pub places-same : {X : Type 0} (f g : X → Bool) (P : X → Type 0) → ((x : X) → P x → f x ≡ g x) → (n : ℕ) (xs : List X) → Each P xs → places_where f n xs ≡ places_where g n xs
 places-same f g P e n [] h = refl
 places-same {X} f g P e n (x ∷ xs) h =
     ap (λ (b : Bool). if b then n ∷ places_where f (suc n) xs else places_where f (suc n) xs) (e x h.0) ∙ ap (λ (ys : List ℕ). if g x then n ∷ ys else ys) (places-same f g P e (suc n) xs h.1)

@@ -32,5 +32,6 @@ pub use head::{HoleHead, head_of, number_of, numbered_head};
 pub use holes::OpenHoles;
 pub use plan::Plan;
 pub use set::{IdSet, LitSet};
+pub use shape::quantified_type;
 pub use stem::Stem;
 pub use tables::{Basis, Core, Tables};

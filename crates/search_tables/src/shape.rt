@@ -44,7 +44,7 @@ fn is_equality(head: &Head) -> bool
 }
 
 /// The type over which a formula ranges, where it is quantified.
-pub(crate) fn quantified_type(bank: &Bank, id: Id) -> Option<&Ty>
+pub fn quantified_type(bank: &Bank, id: Id) -> Option<&Ty>
     requires { id < length bank.now.terms }
     ensures { option_map (λ ty. the_type ty.now) result ≡ quantified_type (term_at bank.now.terms id) }
 {
