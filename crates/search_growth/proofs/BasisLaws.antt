@@ -1,5 +1,5 @@
 -- Terms that come into the bank of a basis.
-use Rattle.std.specs.Prelude.{◌≡◌, List, [], ◌++◌, map, refl}
+use Rattle.std.specs.Prelude.{[], ◌++◌, map, refl}
 use Rattle.std.proofs.Common.{sym, ap, ◌∙◌, append_assoc, append-nil}
 use Rattle.stt_tableau.specs.Witnesses.{Row}
 use Rattle.term_bank.specs.Content.{Content, Grows}
