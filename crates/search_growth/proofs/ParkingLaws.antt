@@ -6,13 +6,12 @@ use Rattle.std.proofs.Math.Bool.{or-false}
 use Rattle.std.proofs.lemmas.Bool.{eq-eqb, ne_eqb, eqb-true}
 use Rattle.std.proofs.lemmas.Option.{same_Some}
 use Rattle.stt_core.specs.SimpleType.{SimpleType, base, formula, same_type}
-use Rattle.stt_core.specs.Typing.{Scope}
 use Rattle.stt_core.proofs.ListLaws.{map-append, slice_get-end}
 use Rattle.command_queue.specs.Queue.{Queue}
 use Rattle.search_run.specs.Each.{Each}
 use Rattle.search_run.specs.Partial.{Hole, hole, first_hole}
 use Rattle.search_run.specs.Heads.{heads_for}
-use Rattle.search_run.specs.State.{State, Sketch, grow, pushed}
+use Rattle.search_run.specs.State.{Sketch, grow, pushed}
 use Rattle.search_run.specs.Terms.{opened}
 use Rattle.search_run.specs.Witness.{is_hole_of, has_hole_of}
 use Rattle.search_run.specs.Means.Loops.{queue_of}

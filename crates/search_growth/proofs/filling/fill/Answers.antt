@@ -1,7 +1,6 @@
-use Rattle.std.proofs.Common.{◌≡◌, [], length, nat_eq, true, ap, subst, sym, ◌∙◌, arith}
+use Rattle.std.proofs.Common.{ap, subst, sym, ◌∙◌, arith}
 use Rattle.stt_core.specs.Lambda.{Lambda}
 use Rattle.stt_core.specs.View.{the_type}
-use Rattle.instantiate.specs.Growing.{TakesHead}
 use Rattle.instantiate.specs.Means.Blanks.{term_of}
 use Rattle.instantiate.proofs.SearchLaws.{sketch_takes}
 use Rattle.search_run.specs.Commands.{carried_out}

@@ -1,8 +1,7 @@
-use Rattle.std.proofs.Common.{◌≡◌, ap, ap₂, subst, sym, ◌∙◌}
+use Rattle.std.proofs.Common.{ap, ap₂, subst, sym, ◌∙◌}
 use Rattle.std.proofs.lemmas.Option.{get_or_from_slice_get, slice_get_within}
 use Rattle.stt_core.specs.SimpleType.{SimpleType}
 use Rattle.stt_core.specs.Lambda.{Lambda, bound}
-use Rattle.search_run.specs.State.{State}
 use Rattle.search_run.specs.Terms.{with_term}
 use Rattle.instantiate.specs.Means.Blanks.{term_of}
 use Rattle.search_run.specs.Commands.{grown_by}

@@ -1,4 +1,3 @@
-use Rattle.std.proofs.Common.{Some, None}
 use Rattle.search_tables.specs.Holes.{leftmost}
 use Rattle.search_growth.proofs.ParkingLaws.{listed-hole, listed-none}
 use Rattle.search_growth.proofs.parking.list_hole.Goals as goal

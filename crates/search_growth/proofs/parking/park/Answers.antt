@@ -1,4 +1,4 @@
-use Rattle.std.proofs.Common.{◌≡◌, [], ◌∷◌, ◌++◌, length, refl, sym, subst, arith}
+use Rattle.std.proofs.Common.{◌≡◌, length, refl, sym, subst, arith}
 use Rattle.std.specs.List.{list_any}
 use Rattle.stt_core.specs.SimpleType.{SimpleType, same_type}
 use Rattle.search_tables.specs.declared.tables.Tables.{Tables}

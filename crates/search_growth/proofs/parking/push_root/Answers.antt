@@ -1,6 +1,4 @@
-use Rattle.std.proofs.Common.{◌≡◌, [], ◌∷◌, ◌++◌, List, refl, sym, ap, subst, ◌∙◌}
-use Rattle.std.specs.List.{list_any}
-use Rattle.stt_core.specs.SimpleType.{same_type}
+use Rattle.std.proofs.Common.{sym, ap, subst, ◌∙◌}
 use Rattle.stt_core.specs.View.{the_type}
 use Rattle.search_run.specs.State.{Sketch}
 use Rattle.search_tables.specs.declared.stem.Stem.{Stem}

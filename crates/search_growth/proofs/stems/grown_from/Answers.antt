@@ -1,7 +1,6 @@
-use Rattle.std.proofs.Common.{[], unwrap_or, ap, ap₂, sym, ◌∙◌}
+use Rattle.std.proofs.Common.{unwrap_or, ap, ap₂, sym, ◌∙◌}
 use Rattle.stt_core.specs.SimpleType.{SimpleType}
 use Rattle.stt_core.specs.Lambda.{Lambda}
-use Rattle.stt_core.specs.View.{the_type, the_head}
 use Rattle.search_run.specs.Partial.{Partial, head, filled, with_holes}
 use Rattle.search_tables.specs.Heads.{the_hole_head}
 use Rattle.search_tables.specs.Names.{sketch_at}
