@@ -7,7 +7,7 @@ mod ApartLaws
 mod StartLaws
 mod StartingLaws
 mod BasisLaws
-mod SearchLaws
+pub mod SearchLaws
 mod ShapedLaws
 mod AloneUses
 mod WorkLaws

@@ -5,7 +5,7 @@ use Rattle.tableau_search.specs.Running.{start_in, IsUnderWay}
 use Rattle.tableau_run.proofs.running.run_on.Given as goal
 
 abbrev pub invariant-loop-commands : goal.invariant-loop-commands
-invariant-loop-commands l =
+invariant-loop-commands g l =
     let t0 = l.fn.search.core.tables in
     let q0 = l.fn.search.core.plan in
     let t = l.search.core.tables in
