@@ -32,12 +32,7 @@ fn written(alloc: Global, sig: &Signature, refutation: &Refutation) -> anyhow::R
 }
 
 /// How the run over a problem ends, with the text of the refutation where that is asked for.
-pub fn end(
-    alloc: Global,
-    problem: &Problem,
-    mode: &Mode,
-    with_text: bool,
-) -> anyhow::Result<String>
+pub fn end(alloc: Global, problem: &Problem, mode: &Mode, with_text: bool) -> anyhow::Result<String>
     requires { IsTyped problem.now }
 {
     match run(alloc, problem, mode)? {

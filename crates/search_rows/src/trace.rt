@@ -27,10 +27,7 @@ fn state_line<W: Weigher<Command>>(alloc: Global, search: &Search<W>) -> anyhow:
     )?)
 }
 
-fn trace_from<W: Weigher<Command>>(
-    alloc: Global,
-    search: &mut Search<W>,
-) -> anyhow::Result<String>
+fn trace_from<W: Weigher<Command>>(alloc: Global, search: &mut Search<W>) -> anyhow::Result<String>
     requires { search.old.is_refused ≡ false → IsUnderWay search.old.core.tables search.old.core.plan search.old.mode }
 {
     let mut text = String::new(alloc);

@@ -66,7 +66,16 @@ pub(crate) fn write_lines(
     for k in 0..order.len() {
         let draft = drafts[order[k]];
         let branch = branch_of(alloc, steps, draft, numbers, &branches, &mut resolver)?;
-        let line = line_of(alloc, bank, atoms, steps, draft, branch.as_slice(), numbers, &mut pool)?;
+        let line = line_of(
+            alloc,
+            bank,
+            atoms,
+            steps,
+            draft,
+            branch.as_slice(),
+            numbers,
+            &mut pool,
+        )?;
         rows = rows.max(rows_for_line(bank, atoms, witnesses, steps, draft, branch.as_slice()));
         lines.push(line)?;
         branches.push(branch)?;

@@ -22,8 +22,7 @@ returns-in_ok-refutation-in-Closed-clause-ended g c = λ until.
     let A : Stepped → Type 0 = λ s. Answers (record { tables = t; plan = q }) (record { tables = u; plan = p }) s in
     let P : ℕ → Type 0 = λ n. IsProved (setting_by t q) (start_in t) n in
     let R : Scope → List Literal → Type 0 = λ scope ls. Refutes scope ls c.in_ok-refutation-in-Closed.refutation in
-    let closed = subst A c.in-Closed.is c.in_ok-step.ensures.answers in
-    (
+    let closed = subst A c.in-Closed.is c.in_ok-step.ensures.answers in (
       subst P (sym c.commands.ensures) (is-proved t q c.requires.under_way.running u p closed until),
       subst₂ R (ap (λ (s : Setting). s.scope) c.in_ok-step.ensures.setting) c.in_ok-step.ensures.start c.in_ok-refutation-in-Closed.ensures,
     )
