@@ -105,7 +105,10 @@ fn run_by<W: Weigher<Command>>(
     ensures { IfOk result (EndsAs problem.now mode.now) }
 {
     let mut search = Search::new(alloc, problem, mode, weigher)?;
-    Ok(run_on(alloc, &mut search, mode.commands)?)
+    match run_on(alloc, &mut search, mode.commands) {
+        Ok(ended) => Ok(ended),
+        Err(AllocError) => Err(AllocError),
+    }
 }
 
 /// Runs the search over a problem by a mode.

@@ -8,8 +8,8 @@ use Rattle.tableau_run.specs.Ended.{setting_for}
 use Rattle.tableau_run.proofs.RunLaws.{ends-as}
 use Rattle.tableau_run.proofs.running.run_by.Goals as goal
 
-pub returns : goal.returns
-returns g c =
+pub returns-in-Ok : goal.returns-in-Ok
+returns-in-Ok g c =
     let p = c.args.problem.now in
     let m = c.args.mode.now in
     let made = c.in_ok-search.ensures in
@@ -18,4 +18,4 @@ returns g c =
     let scope = scope-same p c.requires.typed t.basis.bank made.bases made.consts in
     let mode = made.under_way.mode ∙ made.mode in
     let setting : setting_by t q ≡ setting_for p m = λ i. record { scope = scope i; mode = the_mode (mode i) } in
-    ends-as p m (setting_by t q) (start_in t) setting made.start _ c.in_ok-run_on.ensures
+    ends-as p m (setting_by t q) (start_in t) setting made.start _ (c.in-Ok.ensures)

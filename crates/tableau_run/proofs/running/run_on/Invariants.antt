@@ -14,8 +14,8 @@ invariant-loop-commands g l =
       under_way : IsUnderWay t q l.search.mode;
       mode : l.search.mode ≡ l.fn.search.mode;
       ready : l.search.is_refused ≡ false;
-      done : t.done ≡ l.commands;
+      done : t.done ≡ l._commands;
       setting : setting_by t q ≡ setting_by t0 q0;
       start : start_in t ≡ start_in t0;
-      until : GoesOnUntil (setting_by t0 q0) (start_in t0) l.commands;
+      until : GoesOnUntil (setting_by t0 q0) (start_in t0) l._commands;
     }
