@@ -1,5 +1,5 @@
 -- The tables of a run are what a refutation is rebuilt from.
-use Rattle.std.specs.Prelude.{◌≡◌, ◌<◌, ◌+◌, ◌-◌, ◌++◌, ℕ, zero, suc, List, [], ◌∷◌, map, length, Option, Some, None, option_map, IfSome, slice_get, refl}
+use Rattle.std.specs.Prelude.{◌≡◌, ◌<◌, ◌++◌, List, [], ◌∷◌, map, length, Option, Some, None, option_map, IfSome, slice_get, refl}
 use Rattle.std.specs.List.{All}
 use Rattle.std.specs.Option.{ForSome}
 use Rattle.std.proofs.Common.{sym, ap, subst, ◌∙◌, length-append}
@@ -14,33 +14,27 @@ use Rattle.stt_tableau.proofs.AcceptedLaws.{literals_at-are}
 use Rattle.sat_base.specs.declared.literal.SatLit.{SatLit}
 use Rattle.sat_base.specs.Literal.{IsOver}
 use Rattle.sat_log.specs.declared.log.LogEntry.{LogEntry}
-use Rattle.sat_log.specs.Chains.{results, IsLogOver}
-use Rattle.sat_core.specs.Solver.{learned, IsSound}
+use Rattle.sat_log.specs.Chains.{results}
 use Rattle.term_bank.specs.Content.{content_scope}
-use Rattle.term_bank.specs.Terms.{term_at}
-use Rattle.command_queue.specs.Queue.{Queue}
 use Rattle.search_run.specs.Each.{Each}
-use Rattle.literal_map.specs.Atoms.{literal_at, IsAtom}
+use Rattle.literal_map.specs.Atoms.{literal_at}
 use Rattle.literal_map.specs.declared.instance.Instance.{Instance}
 use Rattle.rebuilt_refutation.specs.Input.{literals_of}
 use Rattle.search_run.specs.Numbered as by_atoms
-use Rattle.tableau_clauses.specs.Table.{Step, the_clauses}
+use Rattle.tableau_clauses.specs.Table.{Step}
 use Rattle.tableau_clauses.specs.declared.origin.Origin.{Origin}
 use Rattle.tableau_clauses.specs.declared.origin.Origin.TheVariants.{Start, Instance as From}
-use Rattle.tableau_rules.specs.Uses.{use_of, principals_of}
+use Rattle.tableau_rules.specs.Uses.{principals_of}
 use Rattle.tableau_rules.proofs.MadeLaws.{principals_within}
 use Rattle.tableau_rebuild.specs.Tables.{the_atoms, start_literals_in, unit_literals}
-use Rattle.tableau_rebuild.specs.Conditions.{AreUnitsNumbered, IsInstanceOver, EndsEmpty}
-use Rattle.search_tables.specs.declared.command.Planned.{Planned}
-use Rattle.search_tables.specs.declared.command.Delays.{Delays}
+use Rattle.tableau_rebuild.specs.Conditions.{IsInstanceOver, EndsEmpty}
 use Rattle.search_tables.specs.declared.tables.Basis.{Basis}
-use Rattle.search_tables.specs.declared.tables.Tables.{Tables}
 use Rattle.search_tables.specs.Names.{IsNumber}
-use Rattle.search_tables.specs.Standing.{rows_in, IsBasis, IsRight}
+use Rattle.search_tables.specs.Standing.{rows_in, IsBasis}
 use Rattle.search_tables.specs.Steps.{IsMade}
-use Rattle.search_tables.proofs.EachLaws.{each-at, each-weaker, each-map, each-unmapped, map-same, All-from_each}
+use Rattle.search_tables.proofs.EachLaws.{each-weaker, each-unmapped, map-same, All-from_each}
 use Rattle.search_tables.proofs.NumberLaws.{literal_named}
-use Rattle.tableau_search.specs.Running.{unit_in, units, start_in}
+use Rattle.tableau_search.specs.Running.{unit_in, units}
 use Rattle.tableau_run.proofs.PrincipalLaws.{principals-at}
 
 some_for : {X : Type 0} (P : X → Type 0) (o : Option X) → ForSome o P → IfSome o P

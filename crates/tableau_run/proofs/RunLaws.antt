@@ -1,5 +1,5 @@
 -- Runs from their start to their end.
-use Rattle.std.specs.Prelude.{◌≡◌, ◌<◌, ◌+◌, ◌≤◌, ◌∷◌, ◌++◌, ℕ, zero, suc, Bool, true, false, List, [], map, filter, length, Option, Some, Contains, refl, if◌then◌else◌}
+use Rattle.std.specs.Prelude.{◌≡◌, ◌+◌, ◌∷◌, ◌++◌, ℕ, zero, suc, Bool, true, false, List, [], map, filter, Some, Contains, refl}
 use Rattle.std.proofs.Common.{sym, ap, ap₂, subst, ◌∙◌, arith, inl, inr, cond}
 use Rattle.std.proofs.lemmas.Bool.{cases_lt}
 use Rattle.stt_core.specs.Typing.{Scope}
@@ -13,8 +13,8 @@ use Rattle.stt_tableau.specs.declared.refutation.Refutation.{Refutation}
 use Rattle.stt_tableau.proofs.ListLaws.{contains-first, contains-later, contains_cases}
 use Rattle.search_run.specs.Shallow.{is_shallow_literal}
 use Rattle.search_run.specs.State.{Setting, process, pushed}
-use Rattle.search_run.specs.After.{nothing_yet, started, stepped, after}
-use Rattle.search_run.specs.Result.{IsOpen, GoesOn, GoesOnUntil, IsProved, IsExhausted, IsStopped}
+use Rattle.search_run.specs.After.{nothing_yet, stepped, after}
+use Rattle.search_run.specs.Result.{GoesOn, GoesOnUntil, IsProved, IsExhausted, IsStopped}
 use Rattle.command_queue.specs.Queue.{Queue}
 use Rattle.mode_file.specs.declared.Mode.{Mode}
 use Rattle.term_bank.specs.Content.{Content, content_scope}
@@ -27,8 +27,8 @@ use Rattle.tableau_search.specs.Progress.{Progress}
 use Rattle.tableau_search.specs.Answers.{IsClosed, IsEmpty, IsAtLimit, IsSpent as IsSpentAt, GoesOn as GoesOnBy}
 use Rattle.tableau_run.specs.declared.ended.Ended.{Ended}
 use Rattle.tableau_run.specs.declared.ended.Ended.TheVariants.{Proved, GaveUp, CommandLimit, ConflictLimit}
-use Rattle.tableau_run.specs.Ended.{setting_for, IsRefuted, IsSpent, EndsAs}
-use Rattle.tableau_run.specs.Means.Ends.{Refutes, IsSpentAfter, EndsFrom, GoesOnTo}
+use Rattle.tableau_run.specs.Ended.{setting_for, EndsAs}
+use Rattle.tableau_run.specs.Means.Ends.{IsSpentAfter, EndsFrom}
 
 -- A STEP
 

@@ -105,10 +105,7 @@ fn run_by<W: Weigher<Command>>(
     ensures { IfOk result (EndsAs problem.now mode.now) }
 {
     let mut search = Search::new(alloc, problem, mode, weigher)?;
-    match run_on(alloc, &mut search, mode.commands) {
-        Ok(ended) => Ok(ended),
-        Err(AllocError) => Err(AllocError),
-    }
+    run_on(alloc, &mut search, mode.commands)
 }
 
 /// Runs the search over a problem by a mode.

@@ -1,4 +1,4 @@
-use Rattle.std.proofs.Common.{◌≡◌, sym, ap, subst, subst₂}
+use Rattle.std.proofs.Common.{sym, ap, subst, subst₂}
 use Rattle.std.specs.Prelude.{ℕ, List}
 use Rattle.stt_core.specs.Typing.{Scope}
 use Rattle.stt_tableau.specs.Literals.{Literal}
@@ -6,7 +6,6 @@ use Rattle.search_run.specs.State.{Setting}
 use Rattle.search_run.specs.Result.{IsProved, IsExhausted, IsStopped}
 use Rattle.search_tables.specs.Standing.{setting_by}
 use Rattle.tableau_search.specs.Running.{start_in}
-use Rattle.tableau_search.specs.Progress.{Progress}
 use Rattle.tableau_search.specs.Answers.{Answers}
 use Rattle.tableau_search.specs.declared.stepped.Stepped.{Stepped}
 use Rattle.tableau_run.specs.Means.Ends.{Refutes}

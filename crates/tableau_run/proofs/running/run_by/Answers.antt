@@ -1,15 +1,16 @@
 use Rattle.std.proofs.Common.{◌≡◌, ◌∙◌}
-use Rattle.search_run.specs.State.{Setting}
+use Rattle.std.proofs.lemmas.Result.{IfOk-weaker}
 use Rattle.search_tables.specs.Delays.{the_mode}
 use Rattle.search_tables.specs.Standing.{setting_by}
 use Rattle.tableau_search.specs.Running.{start_in}
 use Rattle.tableau_search.proofs.SearchLaws.{scope-same}
-use Rattle.tableau_run.specs.Ended.{setting_for}
+use Rattle.tableau_run.specs.Ended.{setting_for, EndsAs}
+use Rattle.tableau_run.specs.Means.Ends.{EndsFrom}
 use Rattle.tableau_run.proofs.RunLaws.{ends-as}
 use Rattle.tableau_run.proofs.running.run_by.Goals as goal
 
-pub returns-in-Ok : goal.returns-in-Ok
-returns-in-Ok g c =
+pub returns : goal.returns
+returns g c =
     let p = c.args.problem.now in
     let m = c.args.mode.now in
     let made = c.in_ok-search.ensures in
@@ -18,4 +19,4 @@ returns-in-Ok g c =
     let scope = scope-same p c.requires.typed t.basis.bank made.bases made.consts in
     let mode = made.under_way.mode ∙ made.mode in
     let setting : setting_by t q ≡ setting_for p m = λ i. record { scope = scope i; mode = the_mode (mode i) } in
-    ends-as p m (setting_by t q) (start_in t) setting made.start _ (c.in-Ok.ensures)
+    IfOk-weaker c.run_on.result (EndsFrom (setting_by t q) (start_in t)) (EndsAs p m) (ends-as p m (setting_by t q) (start_in t) setting made.start) c.run_on.ensures

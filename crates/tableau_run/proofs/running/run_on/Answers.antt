@@ -1,12 +1,7 @@
-use Rattle.std.proofs.Common.{◌≡◌, ◌∙◌, sym, ap, subst, subst₂, arith, refl}
-use Rattle.std.specs.Prelude.{ℕ, List, ◌+◌}
-use Rattle.stt_tableau.specs.Literals.{Literal}
-use Rattle.search_run.specs.State.{Setting}
-use Rattle.search_run.specs.Result.{GoesOn, GoesOnUntil}
+use Rattle.std.proofs.Common.{refl}
 use Rattle.search_tables.specs.Standing.{setting_by}
 use Rattle.tableau_search.specs.Running.{start_in}
-use Rattle.tableau_run.specs.Means.Ends.{EndsFrom}
-use Rattle.tableau_run.proofs.RunLaws.{until-nothing, until-next}
+use Rattle.tableau_run.proofs.RunLaws.{until-nothing}
 use Rattle.tableau_run.proofs.running.run_on.Goals as goal
 
 pub loop-commands-init : goal.loop-commands-init
