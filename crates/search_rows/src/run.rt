@@ -9,26 +9,34 @@ use refute_text::write_text;
 use std::alloc::{AllocError, Global};
 use std::str;
 use stt_core::{Problem, Signature};
-use stt_tableau::{Refutation, accepts_plain, start_literals};
+use stt_tableau::{Lits, Refutation, accepts_plain, start_literals};
 use tableau_run::{Ended, run};
 
-/// The text of a refutation that the plain checker accepts for the problem.
-fn text_of(alloc: Global, problem: &Problem, refutation: &Refutation) -> anyhow::Result<String>
-    requires { IsTyped problem.now }
-{
-    let start = start_literals(alloc, problem)?;
-    match accepts_plain(alloc, &problem.signature, &start, refutation) {
-        Ok(()) => written(alloc, &problem.signature, refutation),
+/// Writes a refutation that the plain checker accepts for the start.
+fn write(
+    alloc: Global,
+    sig: &Signature,
+    start: &Lits,
+    refutation: &Refutation,
+    sink: &mut GrowSink,
+) -> anyhow::Result<()> {
+    match accepts_plain(alloc, sig, start, refutation) {
+        Ok(()) => match write_text(sig, refutation, sink) {
+            Ok(()) => Ok(()),
+            Err(Failed) => Err(AllocError)?,
+        },
         Err(refused) => bail!("{refused:?}"),
     }
 }
 
-fn written(alloc: Global, sig: &Signature, refutation: &Refutation) -> anyhow::Result<String> {
+/// The text of a refutation of a problem.
+fn text_of(alloc: Global, problem: &Problem, refutation: &Refutation) -> anyhow::Result<String>
+    requires { IsTyped problem.now }
+{
+    let start = start_literals(alloc, problem)?;
     let mut sink = GrowSink::new(alloc);
-    match write_text(sig, refutation, &mut sink) {
-        Ok(()) => Ok(String::from_str(alloc, str::from_utf8(sink.bytes())?)?),
-        Err(Failed) => Err(AllocError)?,
-    }
+    write(alloc, &problem.signature, &start, refutation, &mut sink)?;
+    Ok(String::from_str(alloc, str::from_utf8(sink.bytes())?)?)
 }
 
 /// How the run over a problem ends, with the text of the refutation where that is asked for.

@@ -31,7 +31,7 @@ fn trace_from<W: Weigher<Command>>(alloc: Global, search: &mut Search<W>) -> any
     requires { search.old.is_refused ≡ false → IsUnderWay search.old.core.tables search.old.core.plan search.old.mode }
 {
     let mut text = String::new(alloc);
-    for _ in 0..MAX_COMMANDS {
+    for _i in 0..MAX_COMMANDS {
         match search.step()? {
             Stepped::Went => {
                 let line = state_line(alloc, &*search)?;
