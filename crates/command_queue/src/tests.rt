@@ -58,6 +58,11 @@ fn order_of<W: Weigher<Job>>(
     Ok(names)
 }
 
+// A job that is due one command later.
+fn soon(name: char) -> Job {
+    Job { name, delay: 1 }
+}
+
 // A loop of the jobs a, b and c, of which one waits at a time, beside a job d that was pushed after it: the names in the
 // order in which they leave.
 fn order_of_loop<W: Weigher<Job>>(alloc: Global, weigher: W) -> Result<String, AllocError>
@@ -66,21 +71,8 @@ fn order_of_loop<W: Weigher<Job>>(alloc: Global, weigher: W) -> Result<String, A
 {
     let mut names = String::new(alloc);
     let mut agenda = Agenda::new(alloc, OwnDelay, weigher);
-    agenda.push_first(
-        Job {
-            name: 'a',
-            delay: 1,
-        },
-        7,
-        3,
-    )?;
-    agenda.push(
-        Job {
-            name: 'd',
-            delay: 1,
-        },
-        7,
-    )?;
+    agenda.push_first(soon('a'), 7, 3)?;
+    agenda.push(soon('d'), 7)?;
     let Some(first) = agenda.pop_entry() else {
         return Ok(names);
     };
@@ -88,10 +80,7 @@ fn order_of_loop<W: Weigher<Job>>(alloc: Global, weigher: W) -> Result<String, A
     agenda.push_at(Entry {
         due: first.due,
         number: 1,
-        command: Job {
-            name: 'b',
-            delay: 1,
-        },
+        command: soon('b'),
     })?;
     let Some(second) = agenda.pop_entry() else {
         return Ok(names);
@@ -100,10 +89,7 @@ fn order_of_loop<W: Weigher<Job>>(alloc: Global, weigher: W) -> Result<String, A
     agenda.push_at(Entry {
         due: second.due,
         number: 2,
-        command: Job {
-            name: 'c',
-            delay: 1,
-        },
+        command: soon('c'),
     })?;
     for _ in 0..2 {
         if let Some(last) = agenda.pop() {
