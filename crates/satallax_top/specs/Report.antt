@@ -64,6 +64,7 @@ why_word cause.Twice = codes "twice"
 why_word cause.Principal = codes "principal"
 why_word cause.Child = codes "child"
 why_word cause.Last = codes "last"
+why_word cause.Defs = codes "defs"
 
 -- the report of a refutation's text that is refused at a line
 abbrev pub refused_report : List ℕ → List ℕ → List ℕ → List ℕ

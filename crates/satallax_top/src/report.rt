@@ -168,6 +168,7 @@ fn why_word(why: Why) -> &'static [u8]
         Why::Principal => b"principal",
         Why::Child => b"child",
         Why::Last => b"last",
+        Why::Defs => b"defs",
     }
 }
 

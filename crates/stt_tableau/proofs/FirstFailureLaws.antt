@@ -7,7 +7,7 @@ use Rattle.stt_tableau.specs.Accepted.{Within, AreChildren, IsRightLine, AreRigh
 use Rattle.stt_tableau.specs.declared.refutation.Line.{Line}
 use Rattle.stt_tableau.specs.declared.refutation.Refutation.{Refutation}
 use Rattle.stt_tableau.specs.declared.refutation.Why.{Why}
-use Rattle.stt_tableau.specs.declared.refutation.Why.TheVariants.{Form, Start, End, Typing, Twice, Principal, Child as ChildWrong, Last}
+use Rattle.stt_tableau.specs.declared.refutation.Why.TheVariants.{Form, Start, End, Typing, Twice, Principal, Child as ChildWrong, Last, Defs}
 use Rattle.stt_tableau.specs.Refused.{IfRefused}
 use Rattle.stt_tableau.specs.declared.accepts.PlainRefused.{PlainRefused}
 use Rattle.stt_tableau.specs.declared.accepts.PlainRefused.TheVariants.{Refused, Memory}
@@ -48,6 +48,7 @@ module _ (scope : Scope) (earlier : List Row) (r : Row) where
   row_fails_not Principal h right = h
   row_fails_not ChildWrong h right = h
   row_fails_not Last h right = h
+  row_fails_not Defs h right = h
 
   -- a row fails for one cause
   one_row_why : (why other : Why) → RowFails scope earlier r why → RowFails scope earlier r other → why ≡ other
@@ -61,18 +62,21 @@ module _ (scope : Scope) (earlier : List Row) (r : Row) where
   one_row_why Typing Principal h k = absurd k
   one_row_why Typing ChildWrong h k = absurd k
   one_row_why Typing Last h k = absurd k
+  one_row_why Typing Defs h k = absurd k
   one_row_why Twice Form h k = absurd k
   one_row_why Twice Start h k = absurd k
   one_row_why Twice End h k = absurd k
   one_row_why Twice Principal h k = absurd k
   one_row_why Twice ChildWrong h k = absurd k
   one_row_why Twice Last h k = absurd k
+  one_row_why Twice Defs h k = absurd k
   one_row_why Form other h k = absurd h
   one_row_why Start other h k = absurd h
   one_row_why End other h k = absurd h
   one_row_why Principal other h k = absurd h
   one_row_why ChildWrong other h k = absurd h
   one_row_why Last other h k = absurd h
+  one_row_why Defs other h k = absurd h
 
 module _ (scope : Scope) (rows : List Row) (distinct : AreDistinct rows) (earlier : List Line) (line : Line) where
   line_fails_not : (why : Why) → LineFails scope rows earlier line why → IsRightLine scope rows earlier line → ⊥
@@ -86,6 +90,7 @@ module _ (scope : Scope) (rows : List Row) (distinct : AreDistinct rows) (earlie
   line_fails_not End h right = h
   line_fails_not Twice h right = h
   line_fails_not Last h right = h
+  line_fails_not Defs h right = h
 
   -- a line fails for one cause
   one_line_why : (why other : Why) → LineFails scope rows earlier line why → LineFails scope rows earlier line other → why ≡ other
@@ -103,21 +108,25 @@ module _ (scope : Scope) (rows : List Row) (distinct : AreDistinct rows) (earlie
   one_line_why Typing End h k = absurd k
   one_line_why Typing Twice h k = absurd k
   one_line_why Typing Last h k = absurd k
+  one_line_why Typing Defs h k = absurd k
   one_line_why Principal Form h k = absurd k
   one_line_why Principal Start h k = absurd k
   one_line_why Principal End h k = absurd k
   one_line_why Principal Twice h k = absurd k
   one_line_why Principal Last h k = absurd k
+  one_line_why Principal Defs h k = absurd k
   one_line_why ChildWrong Form h k = absurd k
   one_line_why ChildWrong Start h k = absurd k
   one_line_why ChildWrong End h k = absurd k
   one_line_why ChildWrong Twice h k = absurd k
   one_line_why ChildWrong Last h k = absurd k
+  one_line_why ChildWrong Defs h k = absurd k
   one_line_why Form other h k = absurd h
   one_line_why Start other h k = absurd h
   one_line_why End other h k = absurd h
   one_line_why Twice other h k = absurd h
   one_line_why Last other h k = absurd h
+  one_line_why Defs other h k = absurd h
 
 not_empty : {A : Type 0} (front back : List A) (x : A) → front ++ x ∷ back ≡ [] → ⊥
 not_empty [] back x e = cc

@@ -228,9 +228,10 @@ pub struct Refutation {
     pub lines: Lines,
 }
 
-/// Why a refutation is refused. A text may fail in its form or lack its start or its end; `Typing` is a term that isn't closed,
-/// canonical and of the wanted type, `Twice` a second row with a predicate, `Principal` a rule that doesn't fit its branch, `Child` a
-/// child that doesn't close its alternative, and `Last` a last line that isn't about the start, or no line.
+/// Why a refutation is refused. A text may fail in its form, lack its start or its end, or name other definitions than those that are
+/// taken; `Typing` is a term that isn't closed, canonical and of the wanted type, `Twice` a second row with a predicate, `Principal` a
+/// rule that doesn't fit its branch, `Child` a child that doesn't close its alternative, and `Last` a last line that isn't about the
+/// start, or no line.
 #[derive(Clone, Copy, Debug, PartialEq, Eq, Error)]
 pub enum Why {
     #[error("a wrong form")]
@@ -249,4 +250,6 @@ pub enum Why {
     Child,
     #[error("a last line that isn't about the start")]
     Last,
+    #[error("a definition that isn't the one taken there")]
+    Defs,
 }
