@@ -1,17 +1,3 @@
-pub mod WordLaws
-pub mod PropositionalLaws
-pub mod RunnableLaws
-pub mod PrintableLaws
-pub mod StatedLaws
-pub mod OneLine
-pub mod NameLaws
-pub mod Numbering
-pub mod Written
-pub mod SolvedLaws
-pub mod ReportLaws
-pub mod AnswerLaws
-pub mod CheckedLaws
-pub mod RunEnds
 pub mod ToldFiles
 pub mod OneAnswer
 pub mod HeadlineLaws

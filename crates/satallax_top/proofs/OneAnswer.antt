@@ -2,47 +2,29 @@
 use Rattle.std.proofs.Common.{◌≡◌, ℕ, ◌<◌, ◌≤◌, ◌⊎◌, inl, inr, true, List, length, Option, Some, None, Result, Ok, Err, refl, sym, ap, ap₂, subst, ◌∙◌, arith}
 use Rattle.stt_core.specs.PlainProblem.{PlainProblem}
 use Rattle.stt_tableau.specs.declared.refutation.Why.{Why}
-use Rattle.thf_include.specs.View.{PlacedTree}
 use Rattle.thf_include.specs.Gathering.{Ending, done, stopped, wants, too_long, no_tree, cycle, too_many, no_name, IsGathering}
 use Rattle.type_check.specs.Statements.{IllInFile, problem_of}
-use Rattle.run_forms.specs.Forms.{first_unbuilt}
-use Rattle.satallax_top.specs.Words.{problem_word, check_word}
-use Rattle.satallax_top.specs.Outcomes.{outcome_of, without_refutation}
-use Rattle.satallax_top.specs.Checked.{text_byte_limit, IsAcceptedText, IsRefusedText, AnswersBytes, AnswersText, AnswersCheck}
-use Rattle.satallax_top.specs.Answers.{IsSolved, AnswersProblem, AnswersStatements, AnswersAsked, AnswersEnding, AnswersFiles, IsSettled, Defined}
-use Rattle.satallax_top.specs.declared.answer.Answer.{Answer}
-use Rattle.satallax_top.specs.declared.answer.Answer.TheVariants.{Proved, Accepted, Refused, TypeAt, Words, TooLong, NotYetAt, ReadFault, Memory}
-use Rattle.satallax_top.specs.declared.answer.NamedFile.TheVariants.{Part, Check}
-use Rattle.satallax_top.proofs.CheckedLaws.{accepted_not_refused, one_refusal}
-use Rattle.satallax_top.proofs.RunEnds.{solved-same}
+use Rattle.mode_file.specs.declared.Mode.{Mode as SearchMode}
+use Rattle.mode_file.specs.declared.refused.ModeRefused.{ModeRefused}
+use Rattle.mode_file.specs.Lines.{lines_of}
+use Rattle.mode_file.specs.Grammar.{States}
+use Rattle.mode_file.specs.Refusals.{Refuses}
+use Rattle.mode_file.proofs.AnswerLaws.{one_mode, one_refusal as one_bad_line, not_both_answers}
+use Rattle.cli_words.specs.Requests.{Request, prove, refutation, generated, asked_by}
+use Rattle.szs_report.specs.Outcomes.{outcome_of, without_refutation}
+use Rattle.szs_report.specs.declared.answer.Answer.{Answer}
+use Rattle.szs_report.specs.declared.answer.Answer.TheVariants.{Proved, ConflictLimit, Accepted, Refused, TypeAt, ModeAt, Words, TooLong, ReadFault, Memory, UnreadWords}
+use Rattle.szs_report.specs.declared.answer.NamedFile.TheVariants.{Part, Mode, Check}
+use Rattle.szs_report.specs.declared.outcome.ModeWhy.{ModeWhy}
+use Rattle.szs_report.specs.declared.outcome.ModeWhy.TheVariants.{UnknownKey, Twice, BadNumber, OutOfRange}
+use Rattle.request_answers.specs.Requested.{problem_name, mode_file, told_of, contents_of}
+use Rattle.request_answers.specs.Files.{OfFiles}
+use Rattle.request_answers.specs.Modes.{byte_limit, OfFile, IsLong, IsModeBy, refused_at, IsBadMode, mode_answer}
+use Rattle.request_answers.specs.Checked.{IsAcceptedText, IsRefusedText, AnswersBytes, AnswersText}
+use Rattle.request_answers.specs.Answers.{AnswersProblem, AnswersStated, AnswersEnding, AnswersFiles, AnswersAsked, IsSettled, Defined}
+use Rattle.request_answers.proofs.CheckedLaws.{accepted_not_refused, one_refusal}
+use Rattle.request_answers.proofs.RunEnds.{solved-same, demoed-same}
 use Rattle.satallax_top.proofs.ToldFiles.{IsFinal, one_told}
-
--- what a problem is answered with, by the first place of a form that isn't run
-abbrev ByForm : PlainProblem → Option ℕ → Answer → Type 0
-ByForm p (Some at) a = a ≡ NotYetAt at
-ByForm p None a = IsSolved p a
-
-by_form : (p : PlainProblem) (ss : List PlacedTree) (a : Answer) → AnswersProblem p ss a → ByForm p (first_unbuilt p.declared.consts ss) a
-by_form p ss (NotYetAt at) h = subst (λ o. ByForm p o (NotYetAt at)) (sym h) refl
-by_form p ss a h = subst (λ o. ByForm p o a) (sym h.0) h.1
-
-same_form : (p : PlainProblem) (o : Option ℕ) (a b : Answer) → ByForm p o a → ByForm p o b → without_refutation a ≡ without_refutation b
-same_form p (Some at) a b h k = ap without_refutation (h ∙ sym k)
-same_form p None a b h k = solved-same p a b h k
-
--- what statements are answered with, by what they state
-abbrev ByProblem : List (List ℕ) → List PlacedTree → Result PlainProblem IllInFile → Answer → Type 0
-ByProblem names ss (Err ill) a = a ≡ TypeAt (Part ill.file names) ill.at ill.why
-ByProblem names ss (Ok p) a = ByForm p (first_unbuilt p.declared.consts ss) a
-
-by_problem : (names : List (List ℕ)) (ss : List PlacedTree) (a : Answer) → IsSettled a → AnswersStatements names ss a → ByProblem names ss (problem_of ss) a
-by_problem names ss Memory w h = absurd w
-by_problem names ss (TypeAt (Part file own) at why) w h = subst (λ r. ByProblem names ss r (TypeAt (Part file own) at why)) (sym h.1) (ap (λ ns. TypeAt (Part file ns) at why) h.0)
-by_problem names ss a w h = subst (λ r. ByProblem names ss r a) (sym h.read) (by_form h.problem ss a h.answered)
-
-same_problem : (names : List (List ℕ)) (ss : List PlacedTree) (r : Result PlainProblem IllInFile) (a b : Answer) → ByProblem names ss r a → ByProblem names ss r b → without_refutation a ≡ without_refutation b
-same_problem names ss (Err ill) a b h k = ap without_refutation (h ∙ sym k)
-same_problem names ss (Ok p) a b h k = same_form p (first_unbuilt p.declared.consts ss) a b h k
 
 -- what the bytes of a text are answered with
 data BytesAnswer (p : PlainProblem) (bytes : List ℕ) (a : Answer) : Type 0 where
@@ -67,7 +49,7 @@ bytes_same p bytes a b (refuses line why e h) (refuses other cause f k) =
 record IsTextRead (contents : List ℕ → Option (List ℕ)) (file : List ℕ) (p : PlainProblem) (a : Answer) : Type 0 where
   pub bytes : List ℕ
   pub told : contents file ≡ Some bytes
-  pub answer : ((a ≡ TooLong (Check file)) × (text_byte_limit < length bytes)) ⊎ ((length bytes ≤ text_byte_limit) × BytesAnswer p bytes a)
+  pub answer : ((a ≡ TooLong (Check file)) × (byte_limit < length bytes)) ⊎ ((length bytes ≤ byte_limit) × BytesAnswer p bytes a)
 
 text_read : (contents : List ℕ → Option (List ℕ)) (file : List ℕ) (p : PlainProblem) (a : Answer) → IsSettled a → AnswersText true contents file p a → IsTextRead contents file p a
 text_read contents file p Memory w h = absurd w
@@ -83,82 +65,157 @@ text_same contents file p a b h k =
     let one : h.bytes ≡ k.bytes = cc in
     go one h.answer k.answer
   where
-    go : h.bytes ≡ k.bytes → ((a ≡ TooLong (Check file)) × (text_byte_limit < length h.bytes)) ⊎ ((length h.bytes ≤ text_byte_limit) × BytesAnswer p h.bytes a)
-        → ((b ≡ TooLong (Check file)) × (text_byte_limit < length k.bytes)) ⊎ ((length k.bytes ≤ text_byte_limit) × BytesAnswer p k.bytes b) → a ≡ b
+    go : h.bytes ≡ k.bytes → ((a ≡ TooLong (Check file)) × (byte_limit < length h.bytes)) ⊎ ((length h.bytes ≤ byte_limit) × BytesAnswer p h.bytes a)
+        → ((b ≡ TooLong (Check file)) × (byte_limit < length k.bytes)) ⊎ ((length k.bytes ≤ byte_limit) × BytesAnswer p k.bytes b) → a ≡ b
     go one (inl x) (inl y) = x.0 ∙ sym y.0
     go one (inl x) (inr y) = absurd (omega (arith, x.1, y.0, ap length one))
     go one (inr x) (inl y) = absurd (omega (arith, x.0, y.1, ap length one))
     go one (inr x) (inr y) = bytes_same p k.bytes a b (subst (λ bs. BytesAnswer p bs a) one x.1) y.1
 
--- what statements are answered with where a told text is checked, by what they state
-abbrev ByChecked : List (List ℕ) → (List ℕ → Option (List ℕ)) → List ℕ → Result PlainProblem IllInFile → Answer → Type 0
-ByChecked names contents file (Err ill) a = a ≡ TypeAt (Part ill.file names) ill.at ill.why
-ByChecked names contents file (Ok p) a = IsTextRead contents file p a
+-- a problem that is read is answered in one way
+problem_same : (r : Request) (m : SearchMode) (contents : List ℕ → Option (List ℕ)) (p : PlainProblem) (a b : Answer) → IsSettled a → IsSettled b
+    → AnswersProblem true contents r m p a → AnswersProblem true contents r m p b → without_refutation a ≡ without_refutation b
+problem_same (prove p file) m contents q a b w v h k = solved-same m q a b w v h k
+problem_same (refutation file p) m contents q a b w v h k = ap without_refutation (text_same contents file q a b (text_read contents file q a w h) (text_read contents file q b v k))
+problem_same (generated n) m contents q a b w v h k = demoed-same m q a b w v h k
 
-by_checked : (contents : List ℕ → Option (List ℕ)) (file : List ℕ) (names : List (List ℕ)) (ss : List PlacedTree) (a : Answer) → IsSettled a → AnswersCheck true contents file names ss a → ByChecked names contents file (problem_of ss) a
-by_checked contents file names ss Memory w h = absurd w
-by_checked contents file names ss (TypeAt (Part part own) at why) w h = subst (λ r. ByChecked names contents file r (TypeAt (Part part own) at why)) (sym h.1) (ap (λ ns. TypeAt (Part part ns) at why) h.0)
-by_checked contents file names ss a w h = subst (λ r. ByChecked names contents file r a) (sym h.read) (text_read contents file h.problem a w h.checked)
-
-same_checked : (names : List (List ℕ)) (contents : List ℕ → Option (List ℕ)) (file : List ℕ) (r : Result PlainProblem IllInFile) (a b : Answer) → ByChecked names contents file r a → ByChecked names contents file r b → a ≡ b
-same_checked names contents file (Err ill) a b h k = h ∙ sym k
-same_checked names contents file (Ok p) a b h k = text_same contents file p a b h k
-
--- by what is asked for
-asked_same : (checked : Option (List ℕ)) (contents : List ℕ → Option (List ℕ)) (names : List (List ℕ)) (ss : List PlacedTree) (a b : Answer) → IsSettled a → IsSettled b
-    → AnswersAsked checked true contents names a ss → AnswersAsked checked true contents names b ss → without_refutation a ≡ without_refutation b
-asked_same None contents names ss a b w v h k = same_problem names ss (problem_of ss) a b (by_problem names ss a w h) (by_problem names ss b v k)
-asked_same (Some file) contents names ss a b w v h k =
-    ap without_refutation (same_checked names contents file (problem_of ss) a b (by_checked contents file names ss a w h) (by_checked contents file names ss b v k))
+stated_same : (r : Request) (m : SearchMode) (contents : List ℕ → Option (List ℕ)) (names : List (List ℕ)) (a b : Answer) (o : Result PlainProblem IllInFile) → IsSettled a → IsSettled b
+    → AnswersStated (AnswersProblem true contents r m) names a o → AnswersStated (AnswersProblem true contents r m) names b o → without_refutation a ≡ without_refutation b
+stated_same r m contents names a b (Ok p) w v h k = problem_same r m contents p a b w v h k
+stated_same r m contents names a b (Err ill) w v h k = ap without_refutation (h ∙ sym k)
 
 -- by how the gathering ends
-ending_same : (checked : Option (List ℕ)) (contents : List ℕ → Option (List ℕ)) (names : List (List ℕ)) (a b : Answer) (e : Ending) → IsSettled a → IsSettled b
-    → AnswersEnding (AnswersAsked checked true contents names a) names a e → AnswersEnding (AnswersAsked checked true contents names b) names b e → without_refutation a ≡ without_refutation b
-ending_same checked contents names a b (done ss) w v h k = asked_same checked contents names ss a b w v h k
-ending_same checked contents names a b (stopped s) w v h k = ap without_refutation (h ∙ sym k)
+ending_same : (r : Request) (m : SearchMode) (contents : List ℕ → Option (List ℕ)) (names : List (List ℕ)) (a b : Answer) (e : Ending) → IsSettled a → IsSettled b
+    → AnswersEnding (AnswersProblem true contents r m) names a e → AnswersEnding (AnswersProblem true contents r m) names b e → without_refutation a ≡ without_refutation b
+ending_same r m contents names a b (done ss) w v h k = stated_same r m contents names a b (problem_of ss) w v h k
+ending_same r m contents names a b (stopped s) w v h k = ap without_refutation (h ∙ sym k)
 
 -- no file is wanted where the answer is settled
-final_of : (Asked : List PlacedTree → Type 0) (names : List (List ℕ)) (a : Answer) (e : Ending) → IsSettled a → AnswersEnding Asked names a e → IsFinal e
-final_of Asked names a (done ss) w h = tt
-final_of Asked names a (stopped (wants file)) w h = absurd (subst IsSettled h w)
-final_of Asked names a (stopped (too_long file)) w h = tt
-final_of Asked names a (stopped (no_tree file at)) w h = tt
-final_of Asked names a (stopped (cycle file at)) w h = tt
-final_of Asked names a (stopped (too_many file at)) w h = tt
-final_of Asked names a (stopped (no_name file at)) w h = tt
+final_of : (Answers : PlainProblem → Answer → Type 0) (names : List (List ℕ)) (a : Answer) (e : Ending) → IsSettled a → AnswersEnding Answers names a e → IsFinal e
+final_of Answers names a (done ss) w h = tt
+final_of Answers names a (stopped (wants file)) w h = absurd (subst IsSettled h w)
+final_of Answers names a (stopped (too_long file)) w h = tt
+final_of Answers names a (stopped (no_tree file at)) w h = tt
+final_of Answers names a (stopped (cycle file at)) w h = tt
+final_of Answers names a (stopped (too_many file at)) w h = tt
+final_of Answers names a (stopped (no_name file at)) w h = tt
 
-files_same : (words : List (List ℕ)) (contents : List ℕ → Option (List ℕ)) (names others : List (List ℕ)) (a b : Answer) → IsSettled a → IsSettled b
-    → AnswersFiles words true contents names a → AnswersFiles words true contents others b → without_refutation a ≡ without_refutation b
-files_same words contents names others a b w v h k =
-    let some : Some h.name ≡ Some k.name = sym h.named ∙ k.named in
-    let one : h.name ≡ k.name = cc in
-    let checked = check_word words in
+-- one file's bytes
+bytes_of : (contents : List ℕ → Option (List ℕ)) (file : List ℕ) (P Q : List ℕ → Type 0) (h : OfFile true contents file P) (k : OfFile true contents file Q) → h.bytes ≡ k.bytes
+bytes_of contents file P Q h k = let both : Some h.bytes ≡ Some k.bytes = sym (h.told_bytes refl) ∙ k.told_bytes refl in cc
+
+-- no file is both read whole and too long
+not_long : (contents : List ℕ → Option (List ℕ)) (file : List ℕ) (P : List ℕ → Type 0) → OfFile true contents file P → IsLong true contents file → ⊥
+not_long contents file P h l =
+    let q = l refl in
+    let both : Some h.bytes ≡ Some q.0 = sym (h.told_bytes refl) ∙ q.1 in
+    let one : h.bytes ≡ q.0 = cc in
+    omega (arith, h.short, q.2, ap length one)
+
+-- the mode is one
+mode_same : (contents : List ℕ → Option (List ℕ)) (file : Option (List ℕ)) (m n : SearchMode) → IsModeBy true contents file m → IsModeBy true contents file n → m ≡ n
+mode_same contents None m n h k = h ∙ sym k
+mode_same contents (Some file) m n h k =
+    one_mode (lines_of k.bytes) m n (subst (λ bs. States (lines_of bs) m) (bytes_of contents file _ _ h k) h.holds) k.holds
+
+-- a mode's file is read, or has one bad line
+no_bad_mode : (contents : List ℕ → Option (List ℕ)) (file : Option (List ℕ)) (m : SearchMode) (line : ℕ) (why : ModeWhy) → IsModeBy true contents file m → IsBadMode true contents file line why → ⊥
+no_bad_mode contents None m line why h k = k
+no_bad_mode contents (Some file) m line why h k =
+    not_both_answers (lines_of k.bytes) m (refused_at why line) (subst (λ bs. States (lines_of bs) m) (bytes_of contents file _ _ h k) h.holds) k.holds
+
+mode_answered : (why : ModeWhy) (line : ℕ) → mode_answer (refused_at why line) ≡ ModeAt line why
+mode_answered UnknownKey line = refl
+mode_answered Twice line = refl
+mode_answered BadNumber line = refl
+mode_answered OutOfRange line = refl
+
+one_bad_mode : (contents : List ℕ → Option (List ℕ)) (file : Option (List ℕ)) (line other : ℕ) (why cause : ModeWhy) → IsBadMode true contents file line why → IsBadMode true contents file other cause → ModeAt line why ≡ ModeAt other cause
+one_bad_mode contents None line other why cause h k = absurd h
+one_bad_mode contents (Some file) line other why cause h k =
+    let same = one_bad_line (lines_of k.bytes) (refused_at why line) (refused_at cause other) (subst (λ bs. Refuses (lines_of bs) (refused_at why line)) (bytes_of contents file _ _ h k) h.holds) k.holds in
+    sym (mode_answered why line) ∙ ap mode_answer same ∙ mode_answered cause other
+
+-- a mode's file that is read isn't too long
+no_long_mode : (contents : List ℕ → Option (List ℕ)) (o : Option (List ℕ)) (file : List ℕ) (m : SearchMode) → o ≡ Some file → IsModeBy true contents o m → IsLong true contents file → ⊥
+no_long_mode contents o file m e h l = not_long contents file _ (subst (λ f. IsModeBy true contents f m) e h) l
+
+no_long_bad : (contents : List ℕ → Option (List ℕ)) (o : Option (List ℕ)) (file : List ℕ) (line : ℕ) (why : ModeWhy) → o ≡ Some file → IsBadMode true contents o line why → IsLong true contents file → ⊥
+no_long_bad contents o file line why e h l = not_long contents file _ (subst (λ f. IsBadMode true contents f line why) e h) l
+
+-- what is told of a request is told
+told_true : (r : Request) → told_of true r ≡ true
+told_true (prove p file) = refl
+told_true (refutation file p) = refl
+told_true (generated n) = refl
+
+files_same : (r : Request) (contents : List ℕ → Option (List ℕ)) (a b : Answer) → IsSettled a → IsSettled b
+    → AnswersFiles r true contents a → AnswersFiles r true contents b → without_refutation a ≡ without_refutation b
+files_same r contents a b w v h k =
+    let m = mode_same contents (mode_file r) h.mode k.mode h.is_mode k.is_mode in
+    let f = h.files in
+    let g = k.files in
     let same =
-    one_told contents k.name names h.texts others k.texts h.ending k.ending
-    (h.told_texts refl) (subst (λ n. IsGathering h.texts n names h.ending) one h.gathers) (final_of (AnswersAsked checked true contents names a) names a h.ending w h.holds)
-    (k.told_texts refl) k.gathers (final_of (AnswersAsked checked true contents others b) others b k.ending v k.holds) in
-    ending_same checked contents others a b k.ending w v
-    (subst (λ ns. AnswersEnding (AnswersAsked checked true contents ns a) ns a k.ending) same.names_same (subst (AnswersEnding (AnswersAsked checked true contents names a) names a) same.endings_same h.holds))
-    k.holds
+    one_told (contents_of contents r) (problem_name r) h.names f.texts k.names g.texts f.ending g.ending
+    (f.told_texts (told_true r)) f.gathers (final_of (AnswersProblem true contents r h.mode) h.names a f.ending w f.holds)
+    (g.told_texts (told_true r)) g.gathers (final_of (AnswersProblem true contents r k.mode) k.names b g.ending v g.holds) in
+    let Here : List (List ℕ) → Ending → Type 0 = λ ns e. AnswersEnding (AnswersProblem true contents r k.mode) ns a e in
+    let moved : Here h.names f.ending = subst (λ n. AnswersEnding (AnswersProblem true contents r n) h.names a f.ending) m f.holds in
+    ending_same r k.mode contents k.names a b g.ending w v (subst (λ ns. Here ns g.ending) same.names_same (subst (Here h.names) same.endings_same moved)) g.holds
 
 -- by the words
-data DefinedBy (words : List (List ℕ)) (contents : List ℕ → Option (List ℕ)) (a : Answer) : Type 0 where
-  by_words : a ≡ Words → problem_word words ≡ None → DefinedBy words contents a
-  by_files : (names : List (List ℕ)) → AnswersFiles words true contents names a → DefinedBy words contents a
+data DefinedBy (o : Option Request) (contents : List ℕ → Option (List ℕ)) (a : Answer) : Type 0 where
+  no_request : o ≡ None → a ≡ Words → DefinedBy o contents a
+  bad_mode : (r : Request) (line : ℕ) (why : ModeWhy) → o ≡ Some r → a ≡ ModeAt line why → IsBadMode true contents (mode_file r) line why → DefinedBy o contents a
+  long_mode : (r : Request) (file : List ℕ) → o ≡ Some r → a ≡ TooLong (Mode file) → mode_file r ≡ Some file → IsLong true contents file → DefinedBy o contents a
+  by_files : (r : Request) → o ≡ Some r → AnswersFiles r true contents a → DefinedBy o contents a
 
-defined_by : (words : List (List ℕ)) (contents : List ℕ → Option (List ℕ)) (a : Answer) → Defined words contents a → DefinedBy words contents a
-defined_by words contents Words h = by_words refl h.1
-defined_by words contents Memory h = absurd h.0
-defined_by words contents a h = by_files h.1.0 h.1.1
+defined_by : (o : Option Request) (contents : List ℕ → Option (List ℕ)) (a : Answer) → IsSettled a → AnswersAsked o true contents a → DefinedBy o contents a
+defined_by o contents UnreadWords w h = absurd w
+defined_by o contents Memory w h = absurd w
+defined_by o contents (ConflictLimit c) w h = absurd w
+defined_by o contents (ReadFault file) w h = absurd w
+defined_by None contents a w h = no_request refl h
+defined_by (Some r) contents (ModeAt line why) w h = bad_mode r line why refl refl h
+defined_by (Some r) contents (TooLong (Mode file)) w h = long_mode r file refl refl h.0 h.1
+defined_by (Some r) contents a w h = by_files r refl h
+
+asked_same : (r s : Request) (o : Option Request) → o ≡ Some r → o ≡ Some s → r ≡ s
+asked_same r s o e f = cc
+
+by_same : (o : Option Request) (contents : List ℕ → Option (List ℕ)) (a b : Answer) → IsSettled a → IsSettled b → DefinedBy o contents a → DefinedBy o contents b → without_refutation a ≡ without_refutation b
+by_same o contents a b w v (no_request e x) (no_request f y) = ap without_refutation (x ∙ sym y)
+by_same o contents a b w v (no_request e x) (bad_mode s line why f y l) = cc
+by_same o contents a b w v (no_request e x) (long_mode s file f y g l) = cc
+by_same o contents a b w v (no_request e x) (by_files s f y) = cc
+by_same o contents a b w v (bad_mode r line why e x h) (no_request f y) = cc
+by_same o contents a b w v (long_mode r file e x g h) (no_request f y) = cc
+by_same o contents a b w v (by_files r e x) (no_request f y) = cc
+by_same o contents a b w v (bad_mode r line why e x h) (bad_mode s other cause f y k) =
+    let one = asked_same s r o f e in
+    ap without_refutation (x ∙ one_bad_mode contents (mode_file r) line other why cause h (subst (λ t. IsBadMode true contents (mode_file t) other cause) one k) ∙ sym y)
+by_same o contents a b w v (bad_mode r line why e x h) (long_mode s file f y g l) =
+    let one = asked_same r s o e f in absurd (no_long_bad contents (mode_file s) file line why g (subst (λ t. IsBadMode true contents (mode_file t) line why) one h) l)
+by_same o contents a b w v (bad_mode r line why e x h) (by_files s f k) =
+    let one = asked_same r s o e f in absurd (no_bad_mode contents (mode_file s) k.mode line why k.is_mode (subst (λ t. IsBadMode true contents (mode_file t) line why) one h))
+by_same o contents a b w v (long_mode r file e x g l) (bad_mode s line why f y h) =
+    let one = asked_same s r o f e in absurd (no_long_bad contents (mode_file r) file line why g (subst (λ t. IsBadMode true contents (mode_file t) line why) one h) l)
+by_same o contents a b w v (long_mode r file e x g l) (long_mode s other f y k m) =
+    let one = asked_same r s o e f in
+    let both : Some file ≡ Some other = sym g ∙ ap mode_file one ∙ k in
+    let name : file ≡ other = cc in
+    ap without_refutation (x ∙ ap (λ n. TooLong (Mode n)) name ∙ sym y)
+by_same o contents a b w v (long_mode r file e x g l) (by_files s f k) =
+    let one = asked_same r s o e f in absurd (no_long_mode contents (mode_file s) file k.mode (subst (λ t. mode_file t ≡ Some file) one g) k.is_mode l)
+by_same o contents a b w v (by_files r e h) (bad_mode s line why f y k) =
+    let one = asked_same s r o f e in absurd (no_bad_mode contents (mode_file r) h.mode line why h.is_mode (subst (λ t. IsBadMode true contents (mode_file t) line why) one k))
+by_same o contents a b w v (by_files r e h) (long_mode s file f y g l) =
+    let one = asked_same s r o f e in absurd (no_long_mode contents (mode_file r) file h.mode (subst (λ t. mode_file t ≡ Some file) one g) h.is_mode l)
+by_same o contents a b w v (by_files r e h) (by_files s f k) =
+    let one = asked_same r s o e f in files_same s contents a b w v (subst (λ t. AnswersFiles t true contents a) one h) k
 
 pub answer-same : (words : List (List ℕ)) (contents : List ℕ → Option (List ℕ)) (a b : Answer) → Defined words contents a → Defined words contents b → without_refutation a ≡ without_refutation b
-answer-same words contents a b h k = go (defined_by words contents a h) (defined_by words contents b k)
-  where
-    go : DefinedBy words contents a → DefinedBy words contents b → without_refutation a ≡ without_refutation b
-    go (by_words e x) (by_words f y) = ap without_refutation (e ∙ sym f)
-    go (by_words e x) (by_files names y) = let named : problem_word words ≡ Some y.name = y.named in cc
-    go (by_files names x) (by_words f y) = let named : problem_word words ≡ Some x.name = x.named in cc
-    go (by_files names x) (by_files others y) = files_same words contents names others a b h.0 k.0 x y
+answer-same words contents a b h k = by_same (asked_by words) contents a b h.0 k.0 (defined_by (asked_by words) contents a h.0 h.1) (defined_by (asked_by words) contents b k.0 k.1)
 
 outcome-without : (a : Answer) → outcome_of (without_refutation a) ≡ outcome_of a
 outcome-without (Proved claim n text) = refl

@@ -1,33 +1,47 @@
 -- What a reported proof means.
-use Rattle.std.specs.Prelude.{◌≡◌, ℕ, Bool, List, ◌++◌, Option}
+use Rattle.std.specs.Prelude.{◌≡◌, ℕ, Bool, List, ◌++◌, Option, Some}
 use Rattle.outside.specs.Prefix.{AppendsProperly}
 use Rattle.stt_core.specs.Meaning.{Model, IsModel}
 use Rattle.stt_core.specs.Meets.{MeetsProblem}
 use Rattle.stt_core.specs.PlainProblem.{PlainProblem}
 use Rattle.stt_core.specs.Declarations.{scope_of}
 use Rattle.stt_tableau.specs.Witnesses.{with_rows}
-use Rattle.stt_tableau.specs.Accepted.{IsAccepted}
 use Rattle.stt_tableau.specs.Closed.{Closes, tableau_of}
 use Rattle.stt_tableau.specs.Start.{start}
 use Rattle.stt_tableau.specs.declared.refutation.Refutation.{Refutation}
-use Rattle.prover_search.specs.Run.{command_limit}
-use Rattle.prover_search.specs.Run.{IsProved}
+use Rattle.mode_file.specs.declared.Mode.{Mode}
+use Rattle.cli_words.specs.Requests.{prove, asked_by}
+use Rattle.tableau_run.specs.Ended.{IsRefuted}
 use Rattle.refute_text.specs.Text.{text_lines, as_bytes}
 use Rattle.refute_text.specs.Named.{named_refutation}
-use Rattle.refute_text.specs.Named.{Names}
-use Rattle.refute_read.specs.Reading.{lines_of, Reading, read, Reads}
-use Rattle.refute_check.specs.Numbered.{numbered_refutation}
-use Rattle.satallax_top.specs.Outcomes.{claim_outcome, outcome_of}
-use Rattle.satallax_top.specs.Report.{report_of}
-use Rattle.satallax_top.specs.Words.{name_of}
-use Rattle.satallax_top.specs.Files.{State}
-use Rattle.satallax_top.specs.Runnable.{names_in}
-use Rattle.satallax_top.specs.Checked.{IsAcceptedText}
-use Rattle.satallax_top.specs.Answers.{claim_of, IsAnswer, HasCause}
-use Rattle.satallax_top.specs.declared.answer.Answer.{Answer}
-use Rattle.satallax_top.specs.declared.answer.Answer.TheVariants.{Proved}
-use Rattle.satallax_top.specs.declared.outcome.Outcome.{Outcome}
-use Rattle.satallax_top.specs.declared.outcome.Outcome.TheVariants.{WriteFault}
+use Rattle.szs_report.specs.Outcomes.{claim_outcome, outcome_of}
+use Rattle.szs_report.specs.Report.{report_of}
+use Rattle.szs_report.specs.declared.answer.Answer.{Answer}
+use Rattle.szs_report.specs.declared.answer.Answer.TheVariants.{Proved}
+use Rattle.szs_report.specs.declared.outcome.Outcome.{Outcome}
+use Rattle.szs_report.specs.declared.outcome.Outcome.TheVariants.{Theorem, Unsatisfiable, DemoDone, Accepted, WriteFault}
+use Rattle.request_answers.specs.Requested.{name_of}
+use Rattle.request_answers.specs.Files.{State}
+use Rattle.request_answers.specs.Modes.{IsModeBy}
+use Rattle.request_answers.specs.Names.{names_in}
+use Rattle.request_answers.specs.Checked.{IsAcceptedText, HoldsOnly}
+use Rattle.request_answers.specs.Solved.{claim_of}
+use Rattle.request_answers.specs.Answers.{IsAnswer}
+use Rattle.request_answers.specs.Causes.{HasCause}
+
+-- a proof of the problem in a file is reported
+abbrev pub IsProvedOutcome : Outcome → Type 0
+IsProvedOutcome Theorem = Unit {0}
+IsProvedOutcome Unsatisfiable = Unit {0}
+IsProvedOutcome outcome = ⊥
+
+-- a proof is reported, of the problem in a file or of a generated one, or the text of one is accepted
+abbrev pub ShowsNoModel : Outcome → Type 0
+ShowsNoModel Theorem = Unit {0}
+ShowsNoModel Unsatisfiable = Unit {0}
+ShowsNoModel DemoDone = Unit {0}
+ShowsNoModel Accepted = Unit {0}
+ShowsNoModel outcome = ⊥
 
 -- no standard model whose base types are finite meets the problem's assumed formulas without meeting its conjecture
 abbrev pub IsWithoutModel : PlainProblem → Type 0
@@ -40,28 +54,29 @@ pub record HasNoModel (words : List (List ℕ)) (told : Bool) (contents : List �
   pub stated : State words told contents names problem
   pub no_model : IsWithoutModel problem
 
--- The bytes hold one refutation, which is this one: so they are read, and in no other way.
-pub record HoldsOnly (names : Names) (bytes : List ℕ) (refutation : Refutation) : Type 0 where
-  pub first : ℕ
-  pub reads : Reads (lines_of bytes) (read (named_refutation names refutation) first)
-  pub only : (reading : Reading) → Reads (lines_of bytes) reading → reading ≡ read (named_refutation names refutation) first
-  pub numbered : numbered_refutation names (named_refutation names refutation) ≡ refutation
+-- the words ask for the proof of a problem, by this mode
+pub record IsAskedBy (words : List (List ℕ)) (told : Bool) (contents : List ℕ → Option (List ℕ)) (mode : Mode) : Type 0 where
+  pub problem : List ℕ
+  pub file : Option (List ℕ)
+  pub asked : asked_by words ≡ Some (prove problem file)
+  pub is_mode : IsModeBy told contents file mode
 
 -- What is written where a proof is reported. The outcome is what the proof shows of the problem that the files state, and the bytes are its
 -- report. They hold one refutation, which is accepted for the problem's start, so that they are an accepted text for the problem; the
 -- tableau of its last line closes the start; after the number of commands that is reported, and not before, the clauses of the search are
--- unsatisfiable; and no standard model with finite base types meets the problem.
+-- unsatisfiable, and from these clauses the refutation comes; and no standard model with finite base types meets the problem.
 pub record IsProofReport (words : List (List ℕ)) (told : Bool) (contents : List ℕ → Option (List ℕ)) (outcome : Outcome) (written : List ℕ) : Type 0 where
+  pub mode : Mode
+  pub asked : IsAskedBy words told contents mode
   pub names : List (List ℕ)
   pub problem : PlainProblem
   pub stated : State words told contents names problem
   pub is_outcome : outcome ≡ claim_outcome (claim_of problem)
   pub commands : ℕ
-  pub proved : IsProved (start problem) command_limit commands
   pub refutation : Refutation
+  pub refuted : IsRefuted problem mode commands refutation
   pub is_report : written ≡ report_of (name_of words) (Proved (claim_of problem) commands (as_bytes (text_lines (named_refutation (names_in problem) refutation))))
   pub holds : HoldsOnly (names_in problem) written refutation
-  pub accepted : IsAccepted (scope_of problem.declared) (start problem) refutation
   pub accepted_text : IsAcceptedText problem written
   pub closed : Closes (with_rows (scope_of problem.declared) refutation.witnesses) refutation.witnesses (tableau_of refutation) (start problem)
   pub no_model : IsWithoutModel problem

@@ -1,9 +1,1 @@
-pub mod Words
-pub mod Files
-pub mod Runnable
-pub mod Status
-pub mod Outcomes
-pub mod Report
-pub mod Checked
-pub mod Answers
 pub mod Headline

@@ -1,18 +1,10 @@
 //! The whole prover as one call.
 #![tactic(auto)]
 
-mod answer;
-mod check;
 mod law;
-mod outcome;
-mod report;
-mod solve;
-mod text;
 mod top;
-mod words;
 
-pub use answer::{Answer, Claim, NamedFile};
-pub use law::{one_answer, one_check, propositional_formulas_are_normal};
-pub use outcome::{FileRef, IncludeWhy, Outcome};
+pub use cli_words::Words;
+pub use law::one_answer;
+pub use szs_report::{Answer, Claim, FileRef, IncludeWhy, ModeWhy, NamedFile, Outcome};
 pub use top::satallax;
-pub use words::Words;

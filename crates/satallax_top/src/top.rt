@@ -1,91 +1,70 @@
 //! The call that does all that the program does.
 
-ghost use Rattle.std.specs.Prelude.{◌≡◌, ◌≤◌, ℕ, List, IsTrue, None};
+ghost use Rattle.std.specs.Prelude.{◌≡◌, ◌≤◌, ℕ, List, IsTrue, None, string_bytes};
 ghost use Rattle.outside.specs.Causes.{Rose};
-ghost use Rattle.satallax_top.specs.Answers.{refused_answer, IsAnswer, IsFaultOf, IsTextFault, IsNoReadFault, IsNoWriteFault, HasCause, IsProvedOutcome, IsDefined};
-ghost use Rattle.satallax_top.specs.Headline.{HasNoModel, IsProofReport, Appends, IsWritten, IsOutcome};
-ghost use Rattle.satallax_top.specs.Words.{problem_word};
-ghost use Rattle.satallax_top.specs.declared.answer.NamedFile.TheVariants.{Part, Check};
+ghost use Rattle.cli_words.specs.Requests.{asked_by};
+ghost use Rattle.request_answers.specs.Requested.{name_of};
+ghost use Rattle.request_answers.specs.Answers.{IsAnswer, IsDefined};
+ghost use Rattle.request_answers.specs.Causes.{IsNoWriteFault, HasCause};
+ghost use Rattle.satallax_top.specs.Headline.{IsProvedOutcome, ShowsNoModel, HasNoModel, IsProofReport, Appends, IsWritten, IsOutcome};
+ghost use Rattle.szs_report.specs.Outcomes.{outcome_of};
+ghost use Rattle.szs_report.specs.Report.{report_of};
 
-use crate::answer::{Answer, NamedFile};
-use crate::check::check_statements;
-use crate::outcome::{IncludeWhy, Outcome};
-use crate::report::write_report;
-use crate::solve::solve;
-use crate::words::Words;
+use cli_words::{Words, WordsRefused, read_words};
 use outside::{Failed, Files, Sink};
-use std::alloc::Global;
-use thf_include::{FileNames, GatherRefused, gather};
+use request_answers::{answer, name_of};
+use std::alloc::{AllocError, Global};
+use szs_report::{Answer, Outcome, write_report};
 
-/// The answer where the files aren't gathered. The names are those of the files that were opened.
-fn refused_answer(names: FileNames, refused: GatherRefused) -> Answer
-    ensures { result ≡ refused_answer names refused }
-{
-    match refused {
-        GatherRefused::Fault { file: number } => Answer::ReadFault {
-            file: NamedFile::Part { number, names },
-        },
-        GatherRefused::TooLong { file: number } => Answer::TooLong {
-            file: NamedFile::Part { number, names },
-        },
-        GatherRefused::Syntax { file: number, at } => Answer::SyntaxAt {
-            file: NamedFile::Part { number, names },
-            at,
-        },
-        GatherRefused::Cycle { file: number, at } => Answer::IncludeAt {
-            file: NamedFile::Part { number, names },
-            at,
-            why: IncludeWhy::Cycle,
-        },
-        GatherRefused::NoSuchName { file: number, at } => Answer::IncludeAt {
-            file: NamedFile::Part { number, names },
-            at,
-            why: IncludeWhy::NoSuchName,
-        },
-        GatherRefused::TooMany { file: number, at } => Answer::IncludeAt {
-            file: NamedFile::Part { number, names },
-            at,
-            why: IncludeWhy::TooMany,
-        },
-        GatherRefused::Memory => Answer::Memory,
-    }
+/// What a call answers, and the name by which its report calls the problem.
+#[derive(Drop)]
+struct Called {
+    name: String,
+    answer: Answer,
 }
 
-/// The answer of a call, before it is reported.
-fn answer<F: Files>(alloc: Global, words: &Words, files: &mut F) -> Answer
-    ensures answer { IsAnswer words.now (F.tells files.old) (F.contents files.old) result }
-    ensures read { (k : ℕ) (names : List (List ℕ)) → result ≡ Answer.ReadFault (Part k names)
-        → IsFaultOf words.now (F.tells files.old) (F.contents files.old) (F.faults files.old) (F.faults files.new) k }
-    ensures text_read { (name : List ℕ) → result ≡ Answer.ReadFault (Check name)
-        → IsTextFault words.now (F.tells files.old) (F.contents files.old) (F.faults files.old) (F.faults files.new) }
-    ensures quiet { IsNoReadFault result → (other : List ℕ) → F.faults files.new other ≡ F.faults files.old other }
+/// The answer to the words.
+fn call<F: Files>(alloc: Global, words: &Words, files: &mut F) -> Called
+    ensures answers { IsAnswer words.now (F.tells files.old) (F.contents files.old) result.answer }
+    ensures reported { report_of (string_bytes result.name) result.answer ≡ report_of (name_of words.now) result.answer }
+    ensures cause { HasCause words.now (F.tells files.old) (F.contents files.old) (F.faults files.old) (F.faults files.new) (outcome_of result.answer) }
 
     ensures later { (other : List ℕ) → F.faults files.old other ≤ F.faults files.new other }
     ensures same { F.contents files.new ≡ F.contents files.old }
     ensures telling { F.tells files.new ≡ F.tells files.old }
 {
-    let Some(name) = words.problem() else {
-        return Answer::Words;
-    };
-    let mut names = FileNames::new(alloc);
-    match gather(alloc, files, &mut names, name) {
-        Ok(gathered) => match words.checked() {
-            None => solve(alloc, &gathered, names),
-            Some(text) => check_statements(alloc, files, &gathered, names, text),
+    let unnamed = String::new(alloc);
+    match read_words(alloc, words) {
+        Ok(asked) => match name_of(alloc, &asked) {
+            Ok(name) => {
+                let answer = answer(alloc, files, &asked, name.as_str());
+                Called { name, answer }
+            }
+            Err(AllocError) => Called {
+                name: unnamed,
+                answer: Answer::UnreadWords,
+            },
         },
-        Err(refused) => refused_answer(names, refused),
+        Err(WordsRefused::Words) => Called {
+            name: unnamed,
+            answer: Answer::Words,
+        },
+        Err(WordsRefused::Memory) => Called {
+            name: unnamed,
+            answer: Answer::UnreadWords,
+        },
     }
 }
 
-/// Proves the problem that the words name, or checks the text of a refutation against it, and writes the report. The words are those
-/// behind the program's name. All is built before the first byte is written, and from then on no memory is taken.
+/// Proves the problem that the words name, or checks the text of a refutation against it, or makes and proves one, and writes the report. The
+/// words are those behind the program's name. All is built before the first byte is written, and from then on no memory is taken.
 pub fn satallax<F: Files, S: Sink>(
     alloc: Global,
     words: &Words,
     files: &mut F,
     out: &mut S,
 ) -> Outcome
-    // The outcome is that of an answer for these words and for the contents of the problem's files, and of the text's where one is checked.
+    // The outcome is that of an answer for these words and for the contents of the files that they name.
     ensures outcome { IsOutcome words.now (F.tells files.old) (F.contents files.old) result }
 
     // What is written is the report of the outcome, or where a write failed a proper front of the report of an answer whose cause is there.
@@ -93,16 +72,16 @@ pub fn satallax<F: Files, S: Sink>(
         → IsWritten words.now (F.tells files.old) (F.contents files.old) (F.faults files.old) (F.faults files.new) (S.written out.old) (S.written out.new) result }
 
     // Where a proof is reported, what is written holds one refutation, the one that was found. It is accepted: so the check of these bytes
-    // accepts them, its tableau is closed, and no model meets the problem.
+    // accepts them, its tableau is closed, and no model meets the problem. After the reported number of commands, and not before, the clauses
+    // of the search are unsatisfiable.
     ensures proof { IsTrue (S.tells out.old) → IsProvedOutcome result
         → Appends (S.written out.old) (S.written out.new) (IsProofReport words.now (F.tells files.old) (F.contents files.old) result) }
-    ensures no_model { IsProvedOutcome result → HasNoModel words.now (F.tells files.old) (F.contents files.old) }
 
-    // Where a text is accepted, no model meets the problem.
-    ensures accepted_no_model { result ≡ Outcome.Accepted → HasNoModel words.now (F.tells files.old) (F.contents files.old) }
+    // Where a proof is reported, of the problem in a file or of a generated one, or a text is accepted, no model meets the problem.
+    ensures no_model { ShowsNoModel result → HasNoModel words.now (F.tells files.old) (F.contents files.old) }
 
     // The causes of what doesn't hang on contents. A fault is answered exactly where a call of the files or of the sink counted one.
-    ensures words { result ≡ Outcome.Words → problem_word words.now ≡ None }
+    ensures words { result ≡ Outcome.Words → asked_by words.now ≡ None }
     ensures read { IsNoWriteFault result
         → HasCause words.now (F.tells files.old) (F.contents files.old) (F.faults files.old) (F.faults files.new) result }
     ensures write { result ≡ Outcome.WriteFault → Rose (S.faults out.old) (S.faults out.new) }
@@ -115,15 +94,16 @@ pub fn satallax<F: Files, S: Sink>(
     ensures out_telling { IsTrue (S.tells out.old) → IsTrue (S.tells out.new) }
     ensures out_later { S.faults out.old ≤ S.faults out.new }
 
-    // Where contents are told and no count of faults rises, the outcome is that of the defined answer, or memory ran out.
+    // Where contents are told and no count of faults rises, the outcome is that of the defined answer, or memory ran out, or the conflicts
+    // were spent.
     ensures complete { IsTrue (F.tells files.old)
         → ((file : List ℕ) → Rose (F.faults files.old file) (F.faults files.new file) → ⊥)
         → (Rose (S.faults out.old) (S.faults out.new) → ⊥)
         → IsDefined words.now (F.contents files.old) result }
 {
-    let answer = answer(alloc, words, files);
-    match write_report(out, words.name().as_bytes(), &answer) {
-        Ok(()) => answer.outcome(),
+    let called = call(alloc, words, files);
+    match write_report(out, called.name.as_bytes(), &called.answer) {
+        Ok(()) => called.answer.outcome(),
         Err(Failed) => Outcome::WriteFault,
     }
 }

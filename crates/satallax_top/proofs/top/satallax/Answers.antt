@@ -1,7 +1,7 @@
 use Rattle.std.proofs.Common.{subst, sym, ap, ◌++◌, ◌∙◌}
 use Rattle.outside.specs.Prefix.{AppendsProperly}
-use Rattle.satallax_top.specs.Report.{report_of}
-use Rattle.satallax_top.specs.Answers.{HasCause}
+use Rattle.szs_report.specs.Report.{report_of}
+use Rattle.request_answers.specs.Answers.{HasCause}
 use Rattle.satallax_top.proofs.HeadlineLaws.{outcome_whole, written_whole, proof_appended, no_model_answer, no_model_accepted, defined_answer, cause_of, words_answer, no_write_fault}
 use Rattle.satallax_top.proofs.top.satallax.Goals as goal
 

@@ -1,0 +1,60 @@
+-- What the check of a text is answered with.
+use Rattle.std.proofs.Common.{◌≡◌, ℕ, ◌+◌, List, IfSome, Err, refl, sym, ap, subst, ◌∙◌}
+use Rattle.stt_core.specs.PlainProblem.{PlainProblem}
+use Rattle.stt_core.specs.Declarations.{scope_of}
+use Rattle.stt_tableau.specs.Accepted.{IsAccepted}
+use Rattle.stt_tableau.specs.Start.{start}
+use Rattle.stt_tableau.specs.declared.refutation.Why.{Why}
+use Rattle.stt_tableau.proofs.FirstFailureLaws.{accepted_no_failure, one_first_failure}
+use Rattle.refute_text.specs.Trees.{RefutationTree}
+use Rattle.refute_read.specs.Answered.{reading_of}
+use Rattle.refute_read.specs.Reading.{lines_of, Reading, read, bad_line, no_start, no_end, Reads}
+use Rattle.refute_read.proofs.ReadingLaws.{reading-same}
+use Rattle.refute_read.specs.declared.refusal.TextRefused.{TextRefused}
+use Rattle.refute_read.specs.declared.refusal.TextRefused.TheVariants as unread
+use Rattle.refute_read.specs.declared.refusal.TextRefused.TheVariants.{BadLine, NoStart, NoEnd}
+use Rattle.refute_check.specs.Numbered.{numbered_refutation}
+use Rattle.refute_check.specs.Refusal.{IfLine, FailsAt}
+use Rattle.refute_check.specs.declared.refusal.CheckRefused.{CheckRefused}
+use Rattle.refute_check.specs.declared.refusal.CheckRefused.TheVariants as failed
+use Rattle.refute_check.specs.declared.refusal.CheckRefused.TheVariants.{Line}
+use Rattle.request_answers.specs.Names.{names_in}
+use Rattle.request_answers.specs.Checked.{IsAcceptedText, FailsFirst, IsRefusedText, unread_answer, failed_answer, AnswersBytes}
+
+-- the answer where a text isn't read
+pub unread_answers : (p : PlainProblem) (bytes : List ℕ) (refused : TextRefused) → IfSome (reading_of (Err refused)) (Reads (lines_of bytes)) → AnswersBytes p bytes (unread_answer refused)
+unread_answers p bytes (BadLine line) h = record { reading = bad_line line; reads = h; fails = (refl, refl) }
+unread_answers p bytes (NoStart line) h = record { reading = no_start line; reads = h; fails = (refl, refl) }
+unread_answers p bytes (NoEnd line) h = record { reading = no_end line; reads = h; fails = (refl, refl) }
+unread_answers p bytes unread.Memory h = tt
+
+-- the answer where what is read isn't accepted
+pub failed_answers : (p : PlainProblem) (bytes : List ℕ) (r : RefutationTree) (first : ℕ) (refused : CheckRefused) → Reads (lines_of bytes) (read r first) → IfLine refused (FailsAt (scope_of p.declared) (start p) (numbered_refutation (names_in p) r) first) → AnswersBytes p bytes (failed_answer refused)
+failed_answers p bytes r first (Line line why) reads h = record { reading = read r first; reads = reads; fails = h }
+failed_answers p bytes r first failed.Memory reads h = tt
+
+-- no text is both accepted and refused
+pub accepted_not_refused : (p : PlainProblem) (bytes : List ℕ) (line : ℕ) (why : Why) → IsAcceptedText p bytes → IsRefusedText p bytes line why → ⊥
+accepted_not_refused p bytes line why a r = go r.reading (reading-same (lines_of bytes) (read a.refutation a.first) r.reading a.reads r.reads) r.fails
+  where
+    go : (o : Reading) → read a.refutation a.first ≡ o → FailsFirst p o line why → ⊥
+    go (read s k) e f =
+        let same : a.refutation ≡ s = cc in
+        accepted_no_failure (scope_of p.declared) (start p) (numbered_refutation (names_in p) s) f.place why f.is_first
+        (subst (λ x. IsAccepted (scope_of p.declared) (start p) (numbered_refutation (names_in p) x)) same a.accepted)
+    go (bad_line at) e f = cc
+    go (no_start at) e f = cc
+    go (no_end at) e f = cc
+
+-- a text is refused at one line, for one cause
+pub one_refusal : (p : PlainProblem) (bytes : List ℕ) (line other : ℕ) (why cause : Why) → IsRefusedText p bytes line why → IsRefusedText p bytes other cause → (line ≡ other) × (why ≡ cause)
+one_refusal p bytes line other why cause a b =
+    go a.reading a.fails (subst (λ o. FailsFirst p o other cause) (reading-same (lines_of bytes) b.reading a.reading b.reads a.reads) b.fails)
+  where
+    go : (o : Reading) → FailsFirst p o line why → FailsFirst p o other cause → (line ≡ other) × (why ≡ cause)
+    go (read s k) f g =
+        let h = one_first_failure (scope_of p.declared) (start p) (numbered_refutation (names_in p) s) f.place g.place why cause f.is_first g.is_first in
+        (f.line_is ∙ ap (λ n. k + n) h.0 ∙ sym g.line_is, h.1)
+    go (bad_line at) f g = (f.0 ∙ sym g.0, f.1 ∙ sym g.1)
+    go (no_start at) f g = (f.0 ∙ sym g.0, f.1 ∙ sym g.1)
+    go (no_end at) f g = (f.0 ∙ sym g.0, f.1 ∙ sym g.1)

@@ -1,0 +1,11 @@
+pub mod PrintableLaws
+pub mod StatedLaws
+pub mod OneLine
+pub mod NameLaws
+pub mod Numbering
+pub mod Written
+pub mod SolvedLaws
+pub mod AnswerLaws
+pub mod CheckedLaws
+pub mod ReportHolds
+pub mod RunEnds

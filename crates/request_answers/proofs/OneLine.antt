@@ -1,0 +1,125 @@
+-- Bytes without a line feed.
+use Rattle.std.proofs.Common.{◌≡◌, ℕ, zero, suc, ◌+◌, ◌/◌, ◌%◌, ◌||◌, ◌&&◌, ◌==◌, nat_lt, not, Bool, true, false, List, [], ◌∷◌, ◌++◌, codes, decimal, Option, Some, None, option_map, refl, ap, ap₂, subst, if◌then◌else◌, sym, arith}
+use Rattle.std.specs.List.{list_any, list_all}
+use Rattle.std.specs.Option.{option_map_or}
+use Rattle.std.specs.Fmt.{digits, digits_onto, digit_glyph}
+use Rattle.std.proofs.lemmas.Bool.{and_parts, eqb-true}
+use Rattle.std.proofs.lemmas.Bool.Decides.{nat_tests}
+use Rattle.refute_read.specs.Reading.{is_one_line}
+use Rattle.cli_words.specs.Names.{is_control, is_file_name, number_to}
+use Rattle.cli_words.specs.declared.options.OptionName.TheVariants.{Mode, Check, Demo}
+use Rattle.cli_words.specs.Line.{is_taken}
+use Rattle.cli_words.specs.Requests.{Entry, value, problem, Request, prove, refutation, generated, naming, asked, entries_in, asked_by}
+use Rattle.request_answers.specs.Requested.{problem_name, name_of}
+
+pub one_line-append : (xs ys : List ℕ) → is_one_line xs ≡ true → is_one_line ys ≡ true → is_one_line (xs ++ ys) ≡ true
+one_line-append [] ys h k = k
+one_line-append (x ∷ xs) ys h k = let q = and_parts (not (x == 10)) (is_one_line xs) h in ap₂ (λ a b. a && b) q.0 (one_line-append xs ys q.1 k)
+
+one_line-cons : (x : ℕ) (xs : List ℕ) → (x == 10) ≡ false → is_one_line xs ≡ true → is_one_line (x ∷ xs) ≡ true
+one_line-cons x xs h k = ap₂ (λ a b. not a && b) h k
+
+-- numbers
+glyph_no_feed : (d : ℕ) → (digit_glyph false d == 10) ≡ false
+glyph_no_feed d = go (nat_lt d 10)
+  where
+    go : (b : Bool) → ((if b then 48 + d else 87 + d) == 10) ≡ false
+    go true = grind (arith, nat_tests)
+    go false = grind (arith, nat_tests)
+
+digits_onto_one_line : (k n : ℕ) (acc : List ℕ) → is_one_line acc ≡ true → is_one_line (digits_onto k 10 false n acc) ≡ true
+digits_onto_one_line zero n acc h = h
+digits_onto_one_line (suc k) n acc h =
+    let more = one_line-cons (digit_glyph false (n % 10)) acc (glyph_no_feed (n % 10)) h in
+    go (n / 10 == 0) more (digits_onto_one_line k (n / 10) (digit_glyph false (n % 10) ∷ acc) more)
+  where
+    go : (b : Bool) → is_one_line (digit_glyph false (n % 10) ∷ acc) ≡ true → is_one_line (digits_onto k 10 false (n / 10) (digit_glyph false (n % 10) ∷ acc)) ≡ true → is_one_line (if b then digit_glyph false (n % 10) ∷ acc else digits_onto k 10 false (n / 10) (digit_glyph false (n % 10) ∷ acc)) ≡ true
+    go true e f = e
+    go false e f = f
+
+pub decimal_one_line : (n : ℕ) → is_one_line (decimal n) ≡ true
+unfolding digits
+decimal_one_line n = digits_onto_one_line 64 n [] refl
+
+-- the names of files
+false_from_not : (b : Bool) → not b ≡ true → b ≡ false
+false_from_not true h = cc
+false_from_not false h = refl
+
+line_feed_control : (c : ℕ) → (c == 10) ≡ true → is_control c ≡ true
+line_feed_control c h = ap (λ x. nat_lt x 32 || (x == 127)) (eqb-true c 10 h)
+
+-- bytes of which none is a control character
+no_control-one_line : (xs : List ℕ) → list_any is_control xs ≡ false → is_one_line xs ≡ true
+no_control-one_line [] h = refl
+no_control-one_line (x ∷ xs) h = go (x == 10) refl (is_control x) refl (no_control-one_line xs) h
+  where
+    go : (b : Bool) → (x == 10) ≡ b → (d : Bool) → is_control x ≡ d → (list_any is_control xs ≡ false → is_one_line xs ≡ true) → d || list_any is_control xs ≡ false → not b && is_one_line xs ≡ true
+    go true e true f rest k = cc
+    go true e false f rest k = let q : is_control x ≡ true = line_feed_control x e in cc
+    go false e true f rest k = cc
+    go false e false f rest k = rest k
+
+named_one_line : (names : List (List ℕ)) (name : List ℕ) (r s : Request) → naming (name ∷ names) r ≡ Some s → is_one_line name ≡ true
+named_one_line names name r s h = go (list_all is_file_name (name ∷ names)) refl h
+  where
+    go : (b : Bool) → list_all is_file_name (name ∷ names) ≡ b → (if b then Some r else None) ≡ Some s → is_one_line name ≡ true
+    go false e k = cc
+    go true e k =
+        let file = (and_parts (is_file_name name) (list_all is_file_name names) e).0 in
+        no_control-one_line name (false_from_not (list_any is_control name) (and_parts _ (not (list_any is_control name)) file).1)
+
+-- a request is that of its names
+same_request : (names : List (List ℕ)) (r s : Request) → naming names r ≡ Some s → r ≡ s
+same_request names r s h = go (list_all is_file_name names) h
+  where
+    go : (b : Bool) → (if b then Some r else None) ≡ Some s → r ≡ s
+    go false k = cc
+    go true k = cc
+
+second_one_line : (first name : List ℕ) (r s : Request) → naming (first ∷ name ∷ []) r ≡ Some s → is_one_line name ≡ true
+second_one_line first name r s h = go (list_all is_file_name (first ∷ name ∷ [])) refl h
+  where
+    go : (b : Bool) → list_all is_file_name (first ∷ name ∷ []) ≡ b → (if b then Some r else None) ≡ Some s → is_one_line name ≡ true
+    go false e k = cc
+    go true e k =
+        let rest = (and_parts (is_file_name first) (list_all is_file_name (name ∷ [])) e).1 in
+        let file = (and_parts (is_file_name name) true rest).0 in
+        no_control-one_line name (false_from_not (list_any is_control name) (and_parts _ (not (list_any is_control name)) file).1)
+
+-- the name of a generated problem
+pub demo_one_line : (n : ℕ) → is_one_line (codes "demo " ++ decimal n) ≡ true
+demo_one_line n = one_line-append (codes "demo ") (decimal n) refl (decimal_one_line n)
+
+generated_one_line : (o : Option ℕ) (r : Request) → option_map generated o ≡ Some r → is_one_line (problem_name r) ≡ true
+generated_one_line None r h = cc
+generated_one_line (Some n) r h = let same : generated n ≡ r = cc in subst (λ s. is_one_line (problem_name s) ≡ true) same (demo_one_line n)
+
+asked_one_line : (es : List Entry) (r : Request) → asked es ≡ Some r → is_one_line (problem_name r) ≡ true
+asked_one_line [] r h = cc
+asked_one_line (problem p ∷ []) r h =
+    subst (λ s. is_one_line (problem_name s) ≡ true) (same_request (p ∷ []) (prove p None) r h) (named_one_line [] p (prove p None) r h)
+asked_one_line (problem p ∷ e ∷ es) r h = cc
+asked_one_line (value Mode m ∷ []) r h = cc
+asked_one_line (value Mode m ∷ problem p ∷ []) r h =
+    subst (λ s. is_one_line (problem_name s) ≡ true) (same_request (m ∷ p ∷ []) (prove p (Some m)) r h) (second_one_line m p (prove p (Some m)) r h)
+asked_one_line (value Mode m ∷ problem p ∷ e ∷ es) r h = cc
+asked_one_line (value Mode m ∷ value o v ∷ es) r h = cc
+asked_one_line (value Check t ∷ []) r h = cc
+asked_one_line (value Check t ∷ problem p ∷ []) r h =
+    subst (λ s. is_one_line (problem_name s) ≡ true) (same_request (t ∷ p ∷ []) (refutation t p) r h) (second_one_line t p (refutation t p) r h)
+asked_one_line (value Check t ∷ problem p ∷ e ∷ es) r h = cc
+asked_one_line (value Check t ∷ value o v ∷ es) r h = cc
+asked_one_line (value Demo n ∷ []) r h = generated_one_line (number_to 1000 n) r h
+asked_one_line (value Demo n ∷ e ∷ es) r h = cc
+
+words_one_line : (words : List (List ℕ)) (r : Request) → asked_by words ≡ Some r → is_one_line (problem_name r) ≡ true
+words_one_line words r h = go (is_taken words) h
+  where
+    go : (b : Bool) → (if b then asked (entries_in words) else None) ≡ Some r → is_one_line (problem_name r) ≡ true
+    go false k = cc
+    go true k = asked_one_line (entries_in words) r k
+
+-- the name by which a report calls the problem is one line
+pub name_one_line : (words : List (List ℕ)) (r : Request) → asked_by words ≡ Some r → is_one_line (name_of words) ≡ true
+name_one_line words r h = subst (λ o. is_one_line (option_map_or problem_name o []) ≡ true) (sym h) (words_one_line words r h)

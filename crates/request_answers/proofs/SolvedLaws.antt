@@ -1,0 +1,51 @@
+-- A run that ended with a proof has its text.
+use Rattle.std.proofs.Common.{◌≡◌, ℕ, suc, true, List, [], ◌∷◌, map, length, refl, ap, arith}
+use Rattle.std.specs.List.{AllByRecursion}
+use Rattle.std.proofs.lemmas.List.Sums.{list_all-from_AllPass}
+use Rattle.stt_core.specs.TypedName.{TypedName}
+use Rattle.stt_core.specs.PlainProblem.{PlainProblem}
+use Rattle.stt_core.specs.Declarations.{scope_of}
+use Rattle.stt_tableau.specs.Start.{start}
+use Rattle.stt_tableau.specs.declared.refutation.Refutation.{Refutation}
+use Rattle.refute_text.specs.Text.{text_lines, as_bytes}
+use Rattle.refute_text.specs.Named.{named_refutation, IsNamed}
+use Rattle.mode_file.specs.declared.Mode.{Mode}
+use Rattle.tableau_run.specs.Ended.{IsRefuted}
+use Rattle.request_answers.specs.Names.{ArePrintable, names_in, HasTexts}
+use Rattle.request_answers.specs.Solved.{IsProofOf}
+use Rattle.thf_parse.specs.Printable.{IsPrintable}
+use Rattle.refute_text.specs.Letters.{is_printable, is_name}
+use Rattle.request_answers.proofs.NameLaws.{NamesAll, accepted_named}
+use Rattle.request_answers.proofs.Numbering.{declared_placed, refutation-same}
+use Rattle.request_answers.proofs.Written.{AreWords, has_text}
+
+same_length : (cs : List TypedName) → length (map (λ c. c.type) cs) ≡ length (map (λ c. c.name) cs)
+same_length [] = refl
+same_length (c ∷ cs) = ap suc (same_length cs)
+
+word : (w : List ℕ) → IsPrintable w → is_name w ≡ true
+word [] h = absurd (omega (arith, h.0))
+word (c ∷ cs) h = list_all-from_AllPass is_printable (c ∷ cs) h.1
+
+words : (ws : List (List ℕ)) → AllByRecursion IsPrintable ws → AllByRecursion (λ w. is_name w ≡ true) ws
+words [] h = tt
+words (w ∷ ws) h = (word w h.0, words ws h.1)
+
+are_words : (p : PlainProblem) → ArePrintable (names_in p) → AreWords (names_in p)
+are_words p h = record { bases = words (names_in p).bases h.bases; constants = words (names_in p).constants h.constants }
+
+named_all : (p : PlainProblem) → NamesAll (names_in p) (scope_of p.declared)
+named_all p = record { bases = refl; constants = same_length p.declared.consts }
+
+module _ (m : Mode) (p : PlainProblem) (n : ℕ) (refutation : Refutation) (texts : HasTexts p) (r : IsRefuted p m n refutation) where
+  pub run_named : IsNamed (names_in p) refutation
+  run_named = accepted_named (names_in p) (scope_of p.declared) (named_all p) (start p) refutation r.accepted
+
+  pub proof_of_run : (text : List ℕ) → text ≡ as_bytes (text_lines (named_refutation (names_in p) refutation)) → IsProofOf m p n text
+  proof_of_run text t = record {
+    refutation = refutation;
+    refuted = r;
+    is_text = t;
+    has_text = has_text (names_in p) (scope_of p.declared) (named_all p) (are_words p texts.printable) (start p) refutation r.accepted r.small;
+    numbered = refutation-same (names_in p) (declared_placed p.declared texts.apart) (scope_of p.declared) refutation r.accepted.table run_named;
+  }

@@ -1,0 +1,102 @@
+-- What a call answers.
+use Rattle.std.specs.Prelude.{◌≡◌, ℕ, Bool, true, List, Option, Some, None, Result, Ok, Err}
+use Rattle.stt_core.specs.PlainProblem.{PlainProblem}
+use Rattle.thf_include.specs.Gathering.{Ending, done, stopped, Stop, wants, too_long, no_tree, cycle, too_many, no_name}
+use Rattle.thf_include.specs.declared.refused.GatherRefused.{GatherRefused}
+use Rattle.thf_include.specs.declared.refused.GatherRefused.TheVariants as refusal
+use Rattle.thf_include.specs.declared.refused.GatherRefused.TheVariants.{Fault, Syntax}
+use Rattle.type_check.specs.Statements.{IllInFile, problem_of}
+use Rattle.mode_file.specs.declared.Mode.{Mode}
+use Rattle.cli_words.specs.Requests.{Request, prove, refutation, generated, asked_by}
+use Rattle.szs_report.specs.Outcomes.{outcome_of}
+use Rattle.szs_report.specs.declared.answer.Answer.{Answer}
+use Rattle.szs_report.specs.declared.answer.Answer.TheVariants.{ConflictLimit, SyntaxAt, TypeAt, IncludeAt, ModeAt, Words, TooLong, ReadFault, Memory, UnreadWords}
+use Rattle.szs_report.specs.declared.answer.NamedFile.TheVariants.{Part}
+use Rattle.szs_report.specs.declared.answer.NamedFile.TheVariants as named
+use Rattle.szs_report.specs.declared.outcome.IncludeWhy.TheVariants.{Cycle, NoSuchName, TooMany}
+use Rattle.szs_report.specs.declared.outcome.Outcome.{Outcome}
+use Rattle.szs_report.specs.declared.outcome.Outcome.TheVariants as ended
+use Rattle.request_answers.specs.Requested.{problem_name, mode_file, told_of, contents_of}
+use Rattle.request_answers.specs.Files.{OfFiles}
+use Rattle.request_answers.specs.Modes.{IsLong, IsModeBy, IsBadMode}
+use Rattle.request_answers.specs.Checked.{AnswersText}
+use Rattle.request_answers.specs.Solved.{IsSolved, IsDemoed}
+
+-- what the stop of a gathering is answered with, where files of these names were opened
+abbrev pub stop_answer : List (List ℕ) → Stop → Answer
+stop_answer names (wants file) = ReadFault (Part file names)
+stop_answer names (too_long file) = TooLong (Part file names)
+stop_answer names (no_tree file at) = SyntaxAt (Part file names) at
+stop_answer names (cycle file at) = IncludeAt (Part file names) at Cycle
+stop_answer names (too_many file at) = IncludeAt (Part file names) at TooMany
+stop_answer names (no_name file at) = IncludeAt (Part file names) at NoSuchName
+
+-- what a refusal to gather is answered with
+abbrev pub refused_answer : List (List ℕ) → GatherRefused → Answer
+refused_answer names (Fault file) = ReadFault (Part file names)
+refused_answer names (refusal.TooLong file) = TooLong (Part file names)
+refused_answer names (Syntax file at) = SyntaxAt (Part file names) at
+refused_answer names (refusal.Cycle file at) = IncludeAt (Part file names) at Cycle
+refused_answer names (refusal.NoSuchName file at) = IncludeAt (Part file names) at NoSuchName
+refused_answer names (refusal.TooMany file at) = IncludeAt (Part file names) at TooMany
+refused_answer names refusal.Memory = Memory
+
+-- what the problem that is asked for is answered with, once it is read and where this is the mode
+abbrev pub AnswersProblem : Bool → (List ℕ → Option (List ℕ)) → Request → Mode → PlainProblem → Answer → Type 0
+AnswersProblem told contents (prove p mode) m = IsSolved m
+AnswersProblem told contents (refutation text p) m = AnswersText told contents text
+AnswersProblem told contents (generated n) m = IsDemoed m
+
+-- what statements are answered with that state a problem, or have no meaning; problems are answered as Answers says
+abbrev pub AnswersStated : (PlainProblem → Answer → Type 0) → List (List ℕ) → Answer → Result PlainProblem IllInFile → Type 0
+AnswersStated Answers names answer (Ok p) = Answers p answer
+AnswersStated Answers names answer (Err ill) = answer ≡ TypeAt (Part ill.file names) ill.at ill.why
+
+-- what the ending of a gathering is answered with, where files of these names were opened
+abbrev pub AnswersEnding : (PlainProblem → Answer → Type 0) → List (List ℕ) → Answer → Ending → Type 0
+AnswersEnding Answers names answer (done ss) = AnswersStated Answers names answer (problem_of ss)
+AnswersEnding Answers names answer (stopped s) = answer ≡ stop_answer names s
+
+-- what is answered where the mode is this one, or none that is read
+pub record AnswersFiles (r : Request) (told : Bool) (contents : List ℕ → Option (List ℕ)) (answer : Answer) : Type 0 where
+  pub mode : Mode
+  pub is_mode : IsModeBy told contents (mode_file r) mode
+  pub names : List (List ℕ)
+  pub files : OfFiles (problem_name r) (told_of told r) (contents_of contents r) names (AnswersEnding (AnswersProblem told contents r mode) names answer)
+
+-- What a request is answered with: the mode's file comes first, then the problem's files, then what they state. Want of memory may come
+-- anywhere.
+abbrev pub AnswersRequest : Request → Bool → (List ℕ → Option (List ℕ)) → Answer → Type 0
+AnswersRequest r told contents Memory = Unit {0}
+AnswersRequest r told contents (ReadFault (named.Mode file)) = mode_file r ≡ Some file
+AnswersRequest r told contents (TooLong (named.Mode file)) = (mode_file r ≡ Some file) × IsLong told contents file
+AnswersRequest r told contents (ModeAt line why) = IsBadMode told contents (mode_file r) line why
+AnswersRequest r told contents answer = AnswersFiles r told contents answer
+
+-- what is answered to a request, or where the words are none
+abbrev pub AnswersAsked : Option Request → Bool → (List ℕ → Option (List ℕ)) → Answer → Type 0
+AnswersAsked o told contents UnreadWords = Unit {0}
+AnswersAsked None told contents answer = answer ≡ Words
+AnswersAsked (Some r) told contents answer = AnswersRequest r told contents answer
+
+-- What a call answers with these words and contents.
+abbrev pub IsAnswer : List (List ℕ) → Bool → (List ℕ → Option (List ℕ)) → Answer → Type 0
+IsAnswer words told contents answer = AnswersAsked (asked_by words) told contents answer
+
+-- it is answered neither that a file can't be read, nor that memory ran out, nor that the conflicts are spent
+abbrev pub IsSettled : Answer → Type 0
+IsSettled (ReadFault file) = ⊥
+IsSettled Memory = ⊥
+IsSettled UnreadWords = ⊥
+IsSettled (ConflictLimit conflicts) = ⊥
+IsSettled answer = Unit {0}
+
+-- the defined answer to these words over these contents
+abbrev pub Defined : List (List ℕ) → (List ℕ → Option (List ℕ)) → Answer → Type 0
+Defined words contents answer = IsSettled answer × IsAnswer words true contents answer
+
+-- The outcome is that of the defined answer to these words over these contents, or memory ran out, or the conflicts were spent.
+abbrev pub IsDefined : List (List ℕ) → (List ℕ → Option (List ℕ)) → Outcome → Type 0
+IsDefined words contents ended.Memory = Unit {0}
+IsDefined words contents (ended.ConflictLimit conflicts) = Unit {0}
+IsDefined words contents outcome = (answer : Answer) × Defined words contents answer × (outcome ≡ outcome_of answer)

@@ -1,0 +1,9 @@
+pub mod Requested
+pub mod Names
+pub mod Files
+pub mod Modes
+pub mod Checked
+pub mod Solved
+pub mod Answers
+pub mod Causes
+pub mod Means

@@ -1,0 +1,51 @@
+-- What is answered in place of a problem or a mode that isn't read, and what is answered by files.
+use Rattle.std.specs.Prelude.{◌≡◌, ℕ, Bool, List, Option, Some, None, Err}
+use Rattle.stt_core.specs.PlainProblem.{PlainProblem}
+use Rattle.thf_include.specs.View.{PlacedTree}
+use Rattle.thf_include.specs.Gathering.{Ending, done, stopped}
+use Rattle.type_check.specs.Statements.{IllInFile, problem_of}
+use Rattle.mode_file.specs.Lines.{lines_of}
+use Rattle.mode_file.specs.Refusals.{Refuses}
+use Rattle.szs_report.specs.declared.answer.Answer.{Answer}
+use Rattle.szs_report.specs.declared.answer.Answer.TheVariants.{TypeAt, ModeAt, TooLong, ReadFault, Memory}
+use Rattle.szs_report.specs.declared.answer.NamedFile.TheVariants.{Part, Mode}
+use Rattle.request_answers.specs.Files.{OfFiles}
+use Rattle.request_answers.specs.Modes.{OfFile, IsLong, refused_at}
+use Rattle.request_answers.specs.Answers.{stop_answer, AnswersEnding}
+
+-- the statements have no meaning, and are answered so
+pub record IsIllAt (names : List (List ℕ)) (ss : List PlacedTree) (answer : Answer) : Type 0 where
+  pub ill : IllInFile
+  pub is : problem_of ss ≡ Err ill
+  pub answered : answer ≡ TypeAt (Part ill.file names) ill.at ill.why
+
+abbrev pub IsIll : List (List ℕ) → List PlacedTree → Answer → Type 0
+IsIll names ss Memory = Unit {0}
+IsIll names ss answer = IsIllAt names ss answer
+
+-- the ending of a gathering states no problem, and is answered so
+abbrev pub IsUnstated : List (List ℕ) → Answer → Ending → Type 0
+IsUnstated names answer (done ss) = IsIllAt names ss answer
+IsUnstated names answer (stopped s) = answer ≡ stop_answer names s
+
+-- the files of a problem state none, and are answered so, or memory ran out
+abbrev pub IsUnread : List ℕ → Bool → (List ℕ → Option (List ℕ)) → Answer → Type 0
+IsUnread name told contents Memory = Unit {0}
+IsUnread name told contents answer = (names : List (List ℕ)) × OfFiles name told contents names (IsUnstated names answer)
+
+-- a mode's file states none, and is answered so, or memory ran out
+abbrev pub IsUnreadMode : Bool → (List ℕ → Option (List ℕ)) → List ℕ → Answer → Type 0
+IsUnreadMode told contents file Memory = Unit {0}
+IsUnreadMode told contents file (ReadFault (Mode own)) = own ≡ file
+IsUnreadMode told contents file (TooLong (Mode own)) = (own ≡ file) × IsLong told contents file
+IsUnreadMode told contents file (ModeAt line why) = OfFile told contents file (λ bytes. Refuses (lines_of bytes) (refused_at why line))
+IsUnreadMode told contents file answer = ⊥
+
+abbrev pub IsUnaskedMode : Bool → (List ℕ → Option (List ℕ)) → Option (List ℕ) → Answer → Type 0
+IsUnaskedMode told contents None answer = ⊥
+IsUnaskedMode told contents (Some file) answer = IsUnreadMode told contents file answer
+
+-- the files of a problem are answered so, where the problem is answered as Answers says
+abbrev pub IsFilesAnswer : (PlainProblem → Answer → Type 0) → List ℕ → Bool → (List ℕ → Option (List ℕ)) → Answer → Type 0
+IsFilesAnswer Answers name told contents Memory = Unit {0}
+IsFilesAnswer Answers name told contents answer = (names : List (List ℕ)) × OfFiles name told contents names (AnswersEnding Answers names answer)

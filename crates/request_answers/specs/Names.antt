@@ -1,0 +1,20 @@
+-- The names that a problem declares.
+use Rattle.std.specs.List.{AllByRecursion}
+use Rattle.stt_core.specs.PlainProblem.{PlainProblem}
+use Rattle.stt_core.specs.TypedProblem.{IsTyped, NamesDiffer}
+use Rattle.thf_parse.specs.Printable.{IsPrintable}
+use Rattle.refute_text.specs.Named.{Names, names_of}
+
+-- the names that a problem declares, as the texts of refutations have them
+abbrev pub names_in : PlainProblem → Names
+names_in p = names_of p.declared.bases p.declared.consts
+
+pub record ArePrintable (names : Names) : Type 0 where
+  pub bases : AllByRecursion IsPrintable names.bases
+  pub constants : AllByRecursion IsPrintable names.constants
+
+-- The problem is typed, and its names are printable and differ from one another: so its refutations have texts.
+pub record HasTexts (p : PlainProblem) : Type 0 where
+  pub typed : IsTyped p
+  pub printable : ArePrintable (names_in p)
+  pub apart : NamesDiffer p.declared

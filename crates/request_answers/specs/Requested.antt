@@ -1,0 +1,33 @@
+-- What the words ask for, and the files that it is read from.
+use Rattle.std.specs.Prelude.{ℕ, Bool, true, List, [], ◌++◌, codes, decimal, Option, Some, None}
+use Rattle.std.specs.Option.{option_map_or}
+use Rattle.cli_words.specs.Requests.{Request, prove, refutation, generated, asked_by}
+use Rattle.problem_gen.specs.Chain.{text}
+
+-- the name by which a report calls the problem
+abbrev pub problem_name : Request → List ℕ
+problem_name (prove p mode) = p
+problem_name (refutation text p) = p
+problem_name (generated n) = codes "demo " ++ decimal n
+
+-- the file of the mode, where one is named
+abbrev pub mode_file : Request → Option (List ℕ)
+mode_file (prove p mode) = mode
+mode_file (refutation text p) = None
+mode_file (generated n) = None
+
+-- whether the contents of the problem's files are told: those of a generated problem always are
+abbrev pub told_of : Bool → Request → Bool
+told_of told (prove p mode) = told
+told_of told (refutation text p) = told
+told_of told (generated n) = true
+
+-- the contents of the problem's files: a generated problem is its text, under each name
+abbrev pub contents_of : (List ℕ → Option (List ℕ)) → Request → List ℕ → Option (List ℕ)
+contents_of contents (prove p mode) = contents
+contents_of contents (refutation text p) = contents
+contents_of contents (generated n) = λ file. Some (text n)
+
+-- the name by which a report calls the problem, or none where the words ask for nothing
+abbrev pub name_of : List (List ℕ) → List ℕ
+name_of words = option_map_or problem_name (asked_by words) []

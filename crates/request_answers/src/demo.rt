@@ -1,0 +1,130 @@
+//! Generated problems: each is made, proved, and its report read back and checked, all in memory.
+
+ghost use Rattle.std.specs.Prelude.{◌≡◌, ◌≤◌, ◌<◌, ◌++◌, ℕ, Bool, true, false, List, Option, codes, decimal, string_bytes, IfOk};
+ghost use Rattle.refute_read.specs.Reading.{is_one_line};
+ghost use Rattle.problem_gen.specs.Chain.{text};
+ghost use Rattle.cli_words.specs.Requests.{generated};
+ghost use Rattle.mode_file.specs.Given.{nothing, mode_of};
+ghost use Rattle.request_answers.specs.Names.{HasTexts};
+ghost use Rattle.request_answers.specs.Checked.{IsAcceptedText};
+ghost use Rattle.request_answers.specs.Solved.{IsSolved, IsDemoed};
+ghost use Rattle.request_answers.specs.Answers.{AnswersRequest};
+ghost use Rattle.request_answers.specs.Causes.{IsNoReadFault};
+ghost use Rattle.szs_report.specs.Report.{report_of};
+
+use crate::check::check_bytes;
+use crate::solve::solve;
+use crate::stated::read_problem;
+use itoa::Buffer;
+use mode_file::Mode;
+use outside::{Bytes, Failed, GrowSink, OneFile};
+use problem_gen::make;
+use std::alloc::{AllocError, Global};
+use stt_core::Problem;
+use szs_report::{Answer, write_report};
+
+/// The name by which a report calls a generated problem.
+pub(crate) fn demo_name(alloc: Global, n: u32) -> Result<String, AllocError>
+    ensures { IfOk result (λ name. string_bytes name ≡ codes "demo " ++ decimal n) }
+{
+    let mut name = String::from_str(alloc, "demo ")?;
+    let mut buffer = Buffer::new();
+    name.push_str(buffer.format(n))?;
+    Ok(name)
+}
+
+/// The text of a generated problem.
+fn demo_text(alloc: Global, n: u32) -> Result<Bytes, AllocError>
+    requires some { 0 < n }
+    requires limit { n ≤ 1000 }
+    ensures { IfOk result (λ bytes. bytes ≡ text n) }
+{
+    let mut sink = GrowSink::new(alloc);
+    match make(n, &mut sink) {
+        Ok(()) => Ok(Bytes::from_slice(alloc, sink.bytes())?),
+        Err(Failed) => Err(AllocError),
+    }
+}
+
+/// The report of an answer.
+fn report(alloc: Global, name: &str, answer: &Answer) -> Result<Bytes, AllocError>
+    ensures { IfOk result (λ bytes. bytes ≡ report_of name.now answer.now) }
+{
+    let mut sink = GrowSink::new(alloc);
+    match write_report(&mut sink, name.as_bytes(), answer) {
+        Ok(()) => Ok(Bytes::from_slice(alloc, sink.bytes())?),
+        Err(Failed) => Err(AllocError),
+    }
+}
+
+/// Whether the bytes hold the text of a refutation that is accepted for the problem.
+fn is_accepted(alloc: Global, problem: &Problem, bytes: &[u8]) -> Result<bool, AllocError>
+    requires { HasTexts problem.now }
+    ensures accepted { IfOk result (λ is. is ≡ true → IsAcceptedText problem.now bytes.now) }
+    ensures refused { IfOk result (λ is. is ≡ false → IsAcceptedText problem.now bytes.now → ⊥) }
+{
+    match check_bytes(alloc, problem, bytes) {
+        Answer::Accepted => Ok(true),
+        Answer::Memory => Err(AllocError),
+        _ => Ok(false),
+    }
+}
+
+/// The answer for a generated problem whose run is answered so.
+fn checked(
+    alloc: Global,
+    problem: &Problem,
+    name: &str,
+    answer: Answer,
+) -> Result<Answer, AllocError>
+    requires texts { HasTexts problem.now }
+    requires named { is_one_line name.now ≡ true }
+    requires solved { IsSolved (mode_of nothing) problem.now answer }
+    ensures { IfOk result (IsDemoed (mode_of nothing) problem.now) }
+{
+    let Answer::Proved {
+        claim,
+        commands,
+        ..
+    } = &answer
+    else {
+        return Ok(answer);
+    };
+    let bytes = report(alloc, name, &answer)?;
+    if is_accepted(alloc, problem, bytes.as_slice())? {
+        Ok(Answer::DemoDone {
+            claim: *claim,
+            commands: *commands,
+        })
+    } else {
+        unreachable!()
+    }
+}
+
+/// The answer for a generated problem, once it is read.
+fn demo_answer(alloc: Global, problem: &Problem, name: &str) -> Answer
+    requires texts { HasTexts problem.now }
+    requires named { is_one_line name.now ≡ true }
+    ensures { IsDemoed (mode_of nothing) problem.now result }
+{
+    let answer = solve(alloc, problem, &Mode::standard());
+    checked(alloc, problem, name, answer).unwrap_or(Answer::Memory)
+}
+
+/// The answer for the generated problem of a number, which reports call by its name.
+pub(crate) fn demo(alloc: Global, n: u32, name: &str) -> Answer
+    requires some { 0 < n }
+    requires limit { n ≤ 1000 }
+    requires named { name.now ≡ codes "demo " ++ decimal n }
+    ensures answers { (told : Bool) (contents : List ℕ → Option (List ℕ)) → AnswersRequest (generated n) told contents result }
+    ensures quiet { IsNoReadFault result }
+{
+    let Ok(bytes) = demo_text(alloc, n) else {
+        return Answer::Memory;
+    };
+    let mut files = OneFile::new(bytes);
+    match read_problem(alloc, &mut files, name) {
+        Ok(problem) => demo_answer(alloc, &problem, name),
+        Err(answer) => answer,
+    }
+}

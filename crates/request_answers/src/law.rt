@@ -1,0 +1,13 @@
+//! Laws of the definitions, each as the contract of a function that does nothing.
+
+ghost use Rattle.std.specs.Prelude.{◌≡◌, ℕ, List};
+ghost use Rattle.stt_core.specs.PlainProblem.{PlainProblem};
+ghost use Rattle.stt_tableau.specs.declared.refutation.Why.{Why};
+ghost use Rattle.request_answers.specs.Checked.{IsAcceptedText, IsRefusedText};
+
+/// No text is both accepted and refused, and none is refused at two lines or for two causes.
+pub fn one_check()
+    ensures accepted { (p : PlainProblem) (bytes : List ℕ) (line : ℕ) (why : Why) → IsAcceptedText p bytes → IsRefusedText p bytes line why → ⊥ }
+    ensures refused { (p : PlainProblem) (bytes : List ℕ) (line other : ℕ) (why cause : Why) → IsRefusedText p bytes line why → IsRefusedText p bytes other cause
+        → (line ≡ other) × (why ≡ cause) }
+{}

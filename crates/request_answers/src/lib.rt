@@ -1,0 +1,14 @@
+//! What the program's requests are answered with, before a report is written.
+#![tactic(auto)]
+
+mod check;
+mod demo;
+mod law;
+mod mode;
+mod request;
+mod solve;
+mod stated;
+mod text;
+
+pub use law::one_check;
+pub use request::{answer, name_of};

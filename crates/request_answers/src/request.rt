@@ -1,0 +1,109 @@
+//! What each request is answered with.
+
+ghost use Rattle.std.specs.Prelude.{◌≡◌, ◌≤◌, ℕ, List, option_map, string_bytes, IfOk};
+ghost use Rattle.outside.specs.Causes.{Rose};
+ghost use Rattle.cli_words.specs.Requests.{prove, refutation};
+ghost use Rattle.cli_words.specs.View.{the_request};
+ghost use Rattle.request_answers.specs.Requested.{problem_name};
+ghost use Rattle.request_answers.specs.Checked.{AnswersText};
+ghost use Rattle.request_answers.specs.Solved.{IsSolved};
+ghost use Rattle.request_answers.specs.Answers.{AnswersRequest};
+ghost use Rattle.request_answers.specs.Causes.{IsFaultIn, IsTextFault, IsNoReadFault, HasCauseOf};
+ghost use Rattle.request_answers.specs.Means.Unread.{IsFilesAnswer};
+ghost use Rattle.szs_report.specs.Outcomes.{outcome_of};
+ghost use Rattle.szs_report.specs.declared.answer.NamedFile.TheVariants.{Part, Check};
+ghost use Rattle.szs_report.specs.declared.answer.NamedFile.TheVariants as named;
+
+use crate::check::check_file;
+use crate::demo::{demo, demo_name};
+use crate::mode::mode_by;
+use crate::solve::solve;
+use crate::stated::read_problem;
+use cli_words::Asked;
+use mode_file::Mode;
+use outside::Files;
+use std::alloc::{AllocError, Global};
+use szs_report::Answer;
+
+/// The answer where the problem of a name is to be proved by a mode.
+fn prove_by<F: Files>(alloc: Global, files: &mut F, problem: &str, mode: &Mode) -> Answer
+    ensures answers { IsFilesAnswer (IsSolved mode.now) problem.now (F.tells files.old) (F.contents files.old) result }
+    ensures fault { (k : ℕ) (names : List (List ℕ)) → result ≡ Answer.ReadFault (Part k names)
+        → IsFaultIn problem.now (F.tells files.old) (F.contents files.old) (F.faults files.old) (F.faults files.new) k }
+    ensures quiet { IsNoReadFault result → (other : List ℕ) → F.faults files.new other ≡ F.faults files.old other }
+
+    ensures later { (other : List ℕ) → F.faults files.old other ≤ F.faults files.new other }
+    ensures same { F.contents files.new ≡ F.contents files.old }
+    ensures telling { F.tells files.new ≡ F.tells files.old }
+{
+    match read_problem(alloc, files, problem) {
+        Ok(stated) => solve(alloc, &stated, mode),
+        Err(answer) => answer,
+    }
+}
+
+/// The answer where the problem of a name is to be proved, by the mode of a file or by the standard one.
+fn prove<F: Files>(alloc: Global, files: &mut F, problem: &str, mode: Option<&str>) -> Answer
+    ensures answers { AnswersRequest (prove problem.now (option_map (λ f. f.now) mode)) (F.tells files.old) (F.contents files.old) result }
+    ensures fault { (k : ℕ) (names : List (List ℕ)) → result ≡ Answer.ReadFault (Part k names)
+        → IsFaultIn problem.now (F.tells files.old) (F.contents files.old) (F.faults files.old) (F.faults files.new) k }
+    ensures mode_fault { (own : List ℕ) → result ≡ Answer.ReadFault (named.Mode own) → Rose (F.faults files.old own) (F.faults files.new own) }
+    ensures quiet { IsNoReadFault result → (other : List ℕ) → F.faults files.new other ≡ F.faults files.old other }
+
+    ensures later { (other : List ℕ) → F.faults files.old other ≤ F.faults files.new other }
+    ensures same { F.contents files.new ≡ F.contents files.old }
+    ensures telling { F.tells files.new ≡ F.tells files.old }
+{
+    match mode_by(alloc, files, mode) {
+        Ok(mode) => prove_by(alloc, files, problem, &mode),
+        Err(answer) => answer,
+    }
+}
+
+/// The answer where the text in a file is to be checked against the problem of a name.
+fn check<F: Files>(alloc: Global, files: &mut F, text: &str, problem: &str) -> Answer
+    ensures answers { IsFilesAnswer (AnswersText (F.tells files.old) (F.contents files.old) text.now) problem.now (F.tells files.old) (F.contents files.old) result }
+    ensures fault { (k : ℕ) (names : List (List ℕ)) → result ≡ Answer.ReadFault (Part k names)
+        → IsFaultIn problem.now (F.tells files.old) (F.contents files.old) (F.faults files.old) (F.faults files.new) k }
+    ensures text_fault { (own : List ℕ) → result ≡ Answer.ReadFault (Check own)
+        → IsTextFault (refutation text.now problem.now) (F.tells files.old) (F.contents files.old) (F.faults files.old) (F.faults files.new) }
+    ensures quiet { IsNoReadFault result → (other : List ℕ) → F.faults files.new other ≡ F.faults files.old other }
+
+    ensures later { (other : List ℕ) → F.faults files.old other ≤ F.faults files.new other }
+    ensures same { F.contents files.new ≡ F.contents files.old }
+    ensures telling { F.tells files.new ≡ F.tells files.old }
+{
+    match read_problem(alloc, files, problem) {
+        Ok(stated) => check_file(alloc, files, &stated, text),
+        Err(answer) => answer,
+    }
+}
+
+/// The name by which a report calls the problem that is asked for.
+pub fn name_of(alloc: Global, asked: &Asked) -> Result<String, AllocError>
+    ensures { IfOk result (λ name. string_bytes name ≡ problem_name (the_request asked.now)) }
+{
+    match asked {
+        Asked::Prove { problem, .. } | Asked::Check { problem, .. } => {
+            String::from_str(alloc, problem)
+        }
+        Asked::Demo { n } => demo_name(alloc, *n),
+    }
+}
+
+/// The answer to a request, which reports call by its name.
+pub fn answer<F: Files>(alloc: Global, files: &mut F, asked: &Asked, name: &str) -> Answer
+    requires { name.now ≡ problem_name (the_request asked.now) }
+    ensures answers { AnswersRequest (the_request asked.now) (F.tells files.old) (F.contents files.old) result }
+    ensures cause { HasCauseOf (the_request asked.now) (F.tells files.old) (F.contents files.old) (F.faults files.old) (F.faults files.new) (outcome_of result) }
+
+    ensures later { (other : List ℕ) → F.faults files.old other ≤ F.faults files.new other }
+    ensures same { F.contents files.new ≡ F.contents files.old }
+    ensures telling { F.tells files.new ≡ F.tells files.old }
+{
+    match asked {
+        Asked::Prove { problem, mode } => prove(alloc, files, problem, *mode),
+        Asked::Check { text, problem } => check(alloc, files, text, problem),
+        Asked::Demo { n } => demo(alloc, *n, name),
+    }
+}

@@ -1,4 +1,0 @@
-pub mod Least
-pub mod Forms
-pub mod Names
-pub mod Propositional

@@ -1,0 +1,43 @@
+-- The pieces in which a report is written.
+use Rattle.std.proofs.Common.{◌≡◌, ℕ, List, [], ◌∷◌, ◌++◌, codes, refl, ap, ◌∙◌, append_assoc}
+use Rattle.refute_text.specs.Text.{as_bytes}
+use Rattle.refute_read.specs.Reading.{start_mark, end_mark}
+use Rattle.szs_report.specs.Report.{headed, counted_report, demo_report, refused_report}
+
+-- lines, and what follows them
+abbrev lines_then : List (List ℕ) → List ℕ → List ℕ
+lines_then [] rest = rest
+lines_then (l ∷ lines) rest = l ++ (10 ∷ lines_then lines rest)
+
+pub as_bytes-append : (lines : List (List ℕ)) (rest : List ℕ) → as_bytes lines ++ rest ≡ lines_then lines rest
+as_bytes-append [] rest = refl
+as_bytes-append (l ∷ lines) rest = append_assoc l (10 ∷ as_bytes lines) rest ∙ ap (λ x. l ++ (10 ∷ x)) (as_bytes-append lines rest)
+
+pub counted_report-pieces : (status name count text : List ℕ) → counted_report status name count text ≡ status ++ (name ++ (codes "\n% commands " ++ (count ++ (codes "\n% SZS output start Refutation for " ++ (name ++ (codes "\n" ++ (text ++ (codes "% SZS output end Refutation for " ++ (name ++ (codes "\n" ++ []))))))))))
+counted_report-pieces status name count text =
+    as_bytes-append ((status ++ name) ∷ (codes "% commands " ++ count) ∷ (start_mark ++ name) ∷ []) (text ++ as_bytes ((end_mark ++ name) ∷ []))
+    ∙ append_assoc status name _
+
+headed-pieces : (status name word what : List ℕ) → headed status name word what ≡ status ++ (name ++ (codes "\n" ++ (word ++ (what ++ codes "\n"))))
+headed-pieces status name word what =
+    append_assoc status name (10 ∷ ((word ++ what) ++ codes "\n")) ∙ ap (λ x. status ++ (name ++ (10 ∷ x))) (append_assoc word what (codes "\n"))
+
+pub place-pieces : (status name word file count : List ℕ) → headed status name word (file ++ (codes " " ++ count)) ≡ status ++ (name ++ (codes "\n" ++ (word ++ (file ++ (codes " " ++ (count ++ (codes "\n" ++ [])))))))
+place-pieces status name word file count =
+    headed-pieces status name word (file ++ (codes " " ++ count))
+    ∙ ap (λ x. status ++ (name ++ (codes "\n" ++ (word ++ x)))) (append_assoc file (codes " " ++ count) (codes "\n"))
+
+pub place_why-pieces : (status name word file count why : List ℕ) → headed status name word ((file ++ (codes " " ++ count)) ++ (codes " " ++ why)) ≡ status ++ (name ++ (codes "\n" ++ (word ++ (file ++ (codes " " ++ (count ++ (codes " " ++ (why ++ (codes "\n" ++ [])))))))))
+place_why-pieces status name word file count why =
+    headed-pieces status name word ((file ++ (codes " " ++ count)) ++ (codes " " ++ why))
+    ∙ ap (λ x. status ++ (name ++ (codes "\n" ++ (word ++ x))))
+    (append_assoc (file ++ (codes " " ++ count)) (codes " " ++ why) (codes "\n") ∙ append_assoc file (codes " " ++ count) (codes " " ++ (why ++ codes "\n")))
+
+pub refused-pieces : (name line word : List ℕ) → refused_report name line word ≡ codes "% refutation refused for " ++ (name ++ (codes " line " ++ (line ++ (codes " " ++ (word ++ (codes "\n" ++ []))))))
+refused-pieces name line word =
+    ap (λ x. codes "% refutation refused for " ++ x)
+    (append_assoc name (codes " line " ++ (line ++ (codes " " ++ word))) (codes "\n")
+    ∙ ap (λ x. name ++ (codes " line " ++ x)) (append_assoc line (codes " " ++ word) (codes "\n")))
+
+pub demo-pieces : (status name count : List ℕ) → demo_report status name count ≡ status ++ (name ++ (codes "\n% commands " ++ (count ++ (codes "\n% refutation accepted for " ++ (name ++ (codes "\n" ++ []))))))
+demo-pieces status name count = append_assoc status name _

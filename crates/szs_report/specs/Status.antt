@@ -1,0 +1,23 @@
+-- The exit status of an outcome.
+use Rattle.std.specs.Prelude.{ℕ}
+use Rattle.szs_report.specs.declared.outcome.Outcome.{Outcome}
+use Rattle.szs_report.specs.declared.outcome.Outcome.TheVariants.{Theorem, Unsatisfiable, GaveUp, CommandLimit, ConflictLimit, DemoDone, Accepted, Refused, SyntaxAt, TypeAt, IncludeAt, ModeAt, Words, TooLong, ReadFault, WriteFault, Memory}
+
+abbrev pub status_of : Outcome → ℕ
+status_of Theorem = 0
+status_of Unsatisfiable = 0
+status_of GaveUp = 1
+status_of (CommandLimit n) = 2
+status_of (ConflictLimit c) = 3
+status_of DemoDone = 0
+status_of Accepted = 0
+status_of (Refused line why) = 4
+status_of (SyntaxAt file at) = 10
+status_of (TypeAt file at why) = 11
+status_of (IncludeAt file at why) = 12
+status_of (ModeAt line why) = 13
+status_of Words = 14
+status_of (TooLong file) = 15
+status_of (ReadFault file) = 20
+status_of WriteFault = 21
+status_of Memory = 30

@@ -1,0 +1,11 @@
+//! What a call of the prover answers, and its report in SZS words.
+#![tactic(auto)]
+
+mod answer;
+mod causes;
+mod outcome;
+mod report;
+
+pub use answer::{Answer, Claim, NamedFile};
+pub use outcome::{FileRef, IncludeWhy, ModeWhy, Outcome};
+pub use report::write_report;
