@@ -1,5 +1,5 @@
 -- What the check of a text is answered with.
-use Rattle.std.proofs.Common.{◌≡◌, ℕ, ◌+◌, List, IfSome, Err, refl, sym, ap, subst, ◌∙◌}
+use Rattle.std.proofs.Common.{◌≡◌, ℕ, ◌+◌, true, false, List, IfSome, Some, Err, refl, sym, ap, subst, ◌∙◌}
 use Rattle.stt_core.specs.PlainProblem.{PlainProblem}
 use Rattle.stt_core.specs.Declarations.{scope_of}
 use Rattle.stt_tableau.specs.Accepted.{IsAccepted}
@@ -18,7 +18,10 @@ use Rattle.refute_check.specs.Refusal.{IfLine, FailsAt}
 use Rattle.refute_check.specs.declared.refusal.CheckRefused.{CheckRefused}
 use Rattle.refute_check.specs.declared.refusal.CheckRefused.TheVariants as failed
 use Rattle.refute_check.specs.declared.refusal.CheckRefused.TheVariants.{Line}
+use Rattle.szs_report.specs.declared.answer.Answer.{Answer}
+use Rattle.szs_report.specs.declared.answer.Answer.TheVariants.{Accepted, Refused, Memory}
 use Rattle.request_answers.specs.Names.{names_in}
+use Rattle.request_answers.specs.Means.Unread.{verdict_of}
 use Rattle.request_answers.specs.Checked.{IsAcceptedText, FailsFirst, IsRefusedText, unread_answer, failed_answer, AnswersBytes}
 
 -- the answer where a text isn't read
@@ -58,3 +61,15 @@ one_refusal p bytes line other why cause a b =
     go (bad_line at) f g = (f.0 ∙ sym g.0, f.1 ∙ sym g.1)
     go (no_start at) f g = (f.0 ∙ sym g.0, f.1 ∙ sym g.1)
     go (no_end at) f g = (f.0 ∙ sym g.0, f.1 ∙ sym g.1)
+
+-- what a verdict says of the text
+pub verdict_accepts : (p : PlainProblem) (bytes : List ℕ) (a : Answer) → verdict_of a ≡ Some true → AnswersBytes p bytes a → IsAcceptedText p bytes
+verdict_accepts p bytes Memory e h = cc
+verdict_accepts p bytes Accepted e h = h
+verdict_accepts p bytes a e h = cc
+
+pub verdict_refuses : (p : PlainProblem) (bytes : List ℕ) (a : Answer) → verdict_of a ≡ Some false → AnswersBytes p bytes a → IsAcceptedText p bytes → ⊥
+verdict_refuses p bytes Memory e h k = cc
+verdict_refuses p bytes Accepted e h k = cc
+verdict_refuses p bytes (Refused line why) e h k = accepted_not_refused p bytes line why k h
+verdict_refuses p bytes a e h k = absurd h

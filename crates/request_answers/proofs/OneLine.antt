@@ -1,15 +1,14 @@
 -- Bytes without a line feed.
 use Rattle.std.proofs.Common.{◌≡◌, ℕ, zero, suc, ◌+◌, ◌/◌, ◌%◌, ◌||◌, ◌&&◌, ◌==◌, nat_lt, not, Bool, true, false, List, [], ◌∷◌, ◌++◌, codes, decimal, Option, Some, None, option_map, refl, ap, ap₂, subst, if◌then◌else◌, sym, arith}
-use Rattle.std.specs.List.{list_any, list_all}
+use Rattle.std.specs.List.{list_any}
 use Rattle.std.specs.Option.{option_map_or}
 use Rattle.std.specs.Fmt.{digits, digits_onto, digit_glyph}
 use Rattle.std.proofs.lemmas.Bool.{and_parts, eqb-true}
 use Rattle.std.proofs.lemmas.Bool.Decides.{nat_tests}
 use Rattle.refute_read.specs.Reading.{is_one_line}
-use Rattle.cli_words.specs.Names.{is_control, is_file_name, number_to}
-use Rattle.cli_words.specs.declared.options.OptionName.TheVariants.{Mode, Check, Demo}
-use Rattle.cli_words.specs.Line.{is_taken}
-use Rattle.cli_words.specs.Requests.{Entry, value, problem, Request, prove, refutation, generated, naming, asked, entries_in, asked_by}
+use Rattle.cli_words.specs.Names.{is_control, is_file_name}
+use Rattle.cli_words.specs.Requests.{Request, prove, refutation, generated, asked_by}
+use Rattle.cli_words.proofs.RequestLaws.{IsNamed, asked_by-named}
 use Rattle.request_answers.specs.Requested.{problem_name, name_of}
 
 pub one_line-append : (xs ys : List ℕ) → is_one_line xs ≡ true → is_one_line ys ≡ true → is_one_line (xs ++ ys) ≡ true
@@ -60,66 +59,18 @@ no_control-one_line (x ∷ xs) h = go (x == 10) refl (is_control x) refl (no_con
     go false e true f rest k = cc
     go false e false f rest k = rest k
 
-named_one_line : (names : List (List ℕ)) (name : List ℕ) (r s : Request) → naming (name ∷ names) r ≡ Some s → is_one_line name ≡ true
-named_one_line names name r s h = go (list_all is_file_name (name ∷ names)) refl h
-  where
-    go : (b : Bool) → list_all is_file_name (name ∷ names) ≡ b → (if b then Some r else None) ≡ Some s → is_one_line name ≡ true
-    go false e k = cc
-    go true e k =
-        let file = (and_parts (is_file_name name) (list_all is_file_name names) e).0 in
-        no_control-one_line name (false_from_not (list_any is_control name) (and_parts _ (not (list_any is_control name)) file).1)
-
--- a request is that of its names
-same_request : (names : List (List ℕ)) (r s : Request) → naming names r ≡ Some s → r ≡ s
-same_request names r s h = go (list_all is_file_name names) h
-  where
-    go : (b : Bool) → (if b then Some r else None) ≡ Some s → r ≡ s
-    go false k = cc
-    go true k = cc
-
-second_one_line : (first name : List ℕ) (r s : Request) → naming (first ∷ name ∷ []) r ≡ Some s → is_one_line name ≡ true
-second_one_line first name r s h = go (list_all is_file_name (first ∷ name ∷ [])) refl h
-  where
-    go : (b : Bool) → list_all is_file_name (first ∷ name ∷ []) ≡ b → (if b then Some r else None) ≡ Some s → is_one_line name ≡ true
-    go false e k = cc
-    go true e k =
-        let rest = (and_parts (is_file_name first) (list_all is_file_name (name ∷ [])) e).1 in
-        let file = (and_parts (is_file_name name) true rest).0 in
-        no_control-one_line name (false_from_not (list_any is_control name) (and_parts _ (not (list_any is_control name)) file).1)
+file_name-one_line : (name : List ℕ) → is_file_name name ≡ true → is_one_line name ≡ true
+file_name-one_line name h = no_control-one_line name (false_from_not (list_any is_control name) (and_parts _ (not (list_any is_control name)) h).1)
 
 -- the name of a generated problem
 pub demo_one_line : (n : ℕ) → is_one_line (codes "demo " ++ decimal n) ≡ true
 demo_one_line n = one_line-append (codes "demo ") (decimal n) refl (decimal_one_line n)
 
-generated_one_line : (o : Option ℕ) (r : Request) → option_map generated o ≡ Some r → is_one_line (problem_name r) ≡ true
-generated_one_line None r h = cc
-generated_one_line (Some n) r h = let same : generated n ≡ r = cc in subst (λ s. is_one_line (problem_name s) ≡ true) same (demo_one_line n)
-
-asked_one_line : (es : List Entry) (r : Request) → asked es ≡ Some r → is_one_line (problem_name r) ≡ true
-asked_one_line [] r h = cc
-asked_one_line (problem p ∷ []) r h =
-    subst (λ s. is_one_line (problem_name s) ≡ true) (same_request (p ∷ []) (prove p None) r h) (named_one_line [] p (prove p None) r h)
-asked_one_line (problem p ∷ e ∷ es) r h = cc
-asked_one_line (value Mode m ∷ []) r h = cc
-asked_one_line (value Mode m ∷ problem p ∷ []) r h =
-    subst (λ s. is_one_line (problem_name s) ≡ true) (same_request (m ∷ p ∷ []) (prove p (Some m)) r h) (second_one_line m p (prove p (Some m)) r h)
-asked_one_line (value Mode m ∷ problem p ∷ e ∷ es) r h = cc
-asked_one_line (value Mode m ∷ value o v ∷ es) r h = cc
-asked_one_line (value Check t ∷ []) r h = cc
-asked_one_line (value Check t ∷ problem p ∷ []) r h =
-    subst (λ s. is_one_line (problem_name s) ≡ true) (same_request (t ∷ p ∷ []) (refutation t p) r h) (second_one_line t p (refutation t p) r h)
-asked_one_line (value Check t ∷ problem p ∷ e ∷ es) r h = cc
-asked_one_line (value Check t ∷ value o v ∷ es) r h = cc
-asked_one_line (value Demo n ∷ []) r h = generated_one_line (number_to 1000 n) r h
-asked_one_line (value Demo n ∷ e ∷ es) r h = cc
-
-words_one_line : (words : List (List ℕ)) (r : Request) → asked_by words ≡ Some r → is_one_line (problem_name r) ≡ true
-words_one_line words r h = go (is_taken words) h
-  where
-    go : (b : Bool) → (if b then asked (entries_in words) else None) ≡ Some r → is_one_line (problem_name r) ≡ true
-    go false k = cc
-    go true k = asked_one_line (entries_in words) r k
+request_one_line : (r : Request) → IsNamed r → is_one_line (problem_name r) ≡ true
+request_one_line (prove p mode) h = file_name-one_line p h
+request_one_line (refutation text p) h = file_name-one_line p h
+request_one_line (generated n) h = demo_one_line n
 
 -- the name by which a report calls the problem is one line
 pub name_one_line : (words : List (List ℕ)) (r : Request) → asked_by words ≡ Some r → is_one_line (name_of words) ≡ true
-name_one_line words r h = subst (λ o. is_one_line (option_map_or problem_name o []) ≡ true) (sym h) (words_one_line words r h)
+name_one_line words r h = subst (λ o. is_one_line (option_map_or problem_name o []) ≡ true) (sym h) (request_one_line r (asked_by-named words r h))

@@ -7,6 +7,7 @@ ghost use Rattle.cli_words.specs.Requests.{generated};
 ghost use Rattle.mode_file.specs.Given.{nothing, mode_of};
 ghost use Rattle.request_answers.specs.Names.{HasTexts};
 ghost use Rattle.request_answers.specs.Checked.{IsAcceptedText};
+ghost use Rattle.request_answers.specs.Means.Unread.{verdict_of};
 ghost use Rattle.request_answers.specs.Solved.{IsSolved, IsDemoed};
 ghost use Rattle.request_answers.specs.Answers.{AnswersRequest};
 ghost use Rattle.request_answers.specs.Causes.{IsNoReadFault};
@@ -57,16 +58,28 @@ fn report(alloc: Global, name: &str, answer: &Answer) -> Result<Bytes, AllocErro
     }
 }
 
+/// Whether an answer is that a text is accepted; none where it is want of memory.
+fn verdict(answer: &Answer) -> Option<bool>
+    ensures { result ≡ verdict_of answer.now }
+{
+    match answer {
+        Answer::Memory => None,
+        Answer::Accepted => Some(true),
+        _ => Some(false),
+    }
+}
+
 /// Whether the bytes hold the text of a refutation that is accepted for the problem.
+#[tactic(auto, using(crate::proofs::CheckedLaws::verdict_accepts, crate::proofs::CheckedLaws::verdict_refuses))]
 fn is_accepted(alloc: Global, problem: &Problem, bytes: &[u8]) -> Result<bool, AllocError>
     requires { HasTexts problem.now }
     ensures accepted { IfOk result (λ is. is ≡ true → IsAcceptedText problem.now bytes.now) }
     ensures refused { IfOk result (λ is. is ≡ false → IsAcceptedText problem.now bytes.now → ⊥) }
 {
-    match check_bytes(alloc, problem, bytes) {
-        Answer::Accepted => Ok(true),
-        Answer::Memory => Err(AllocError),
-        _ => Ok(false),
+    let answer = check_bytes(alloc, problem, bytes);
+    match verdict(&answer) {
+        Some(is) => Ok(is),
+        None => Err(AllocError),
     }
 }
 

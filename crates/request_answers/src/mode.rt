@@ -74,8 +74,8 @@ pub(crate) fn mode_by<F: Files>(
     files: &mut F,
     file: Option<&str>,
 ) -> Result<Mode, Answer>
-    ensures stated { IfOk result (IsModeBy (F.tells files.old) (F.contents files.old) (option_map (λ f. f.now) file)) }
-    ensures unread { IfErr result (IsUnaskedMode (F.tells files.old) (F.contents files.old) (option_map (λ f. f.now) file)) }
+    ensures stated { IfOk result (IsModeBy (F.tells files.old) (F.contents files.old) (option_map (λ f. f.now) file.entry)) }
+    ensures unread { IfErr result (IsUnaskedMode (F.tells files.old) (F.contents files.old) (option_map (λ f. f.now) file.entry)) }
     ensures fault { (own : List ℕ) → IsErrOf result (answer.ReadFault (named.Mode own)) → Rose (F.faults files.old own) (F.faults files.new own) }
     ensures quiet { OnOk result ((other : List ℕ) → F.faults files.new other ≡ F.faults files.old other) }
     ensures quiet_unread { IfErr result (λ a. IsNoReadFault a → (other : List ℕ) → F.faults files.new other ≡ F.faults files.old other) }

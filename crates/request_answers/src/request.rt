@@ -44,7 +44,7 @@ fn prove_by<F: Files>(alloc: Global, files: &mut F, problem: &str, mode: &Mode) 
 
 /// The answer where the problem of a name is to be proved, by the mode of a file or by the standard one.
 fn prove<F: Files>(alloc: Global, files: &mut F, problem: &str, mode: Option<&str>) -> Answer
-    ensures answers { AnswersRequest (prove problem.now (option_map (λ f. f.now) mode)) (F.tells files.old) (F.contents files.old) result }
+    ensures answers { AnswersRequest (prove problem.now (option_map (λ f. f.now) mode.entry)) (F.tells files.old) (F.contents files.old) result }
     ensures fault { (k : ℕ) (names : List (List ℕ)) → result ≡ Answer.ReadFault (Part k names)
         → IsFaultIn problem.now (F.tells files.old) (F.contents files.old) (F.faults files.old) (F.faults files.new) k }
     ensures mode_fault { (own : List ℕ) → result ≡ Answer.ReadFault (named.Mode own) → Rose (F.faults files.old own) (F.faults files.new own) }

@@ -1,5 +1,5 @@
 -- What is answered in place of a problem or a mode that isn't read, and what is answered by files.
-use Rattle.std.specs.Prelude.{◌≡◌, ℕ, Bool, List, Option, Some, None, Err}
+use Rattle.std.specs.Prelude.{◌≡◌, ℕ, Bool, true, false, List, Option, Some, None, Err}
 use Rattle.stt_core.specs.PlainProblem.{PlainProblem}
 use Rattle.thf_include.specs.View.{PlacedTree}
 use Rattle.thf_include.specs.Gathering.{Ending, done, stopped}
@@ -7,7 +7,7 @@ use Rattle.type_check.specs.Statements.{IllInFile, problem_of}
 use Rattle.mode_file.specs.Lines.{lines_of}
 use Rattle.mode_file.specs.Refusals.{Refuses}
 use Rattle.szs_report.specs.declared.answer.Answer.{Answer}
-use Rattle.szs_report.specs.declared.answer.Answer.TheVariants.{TypeAt, ModeAt, TooLong, ReadFault, Memory}
+use Rattle.szs_report.specs.declared.answer.Answer.TheVariants.{Accepted, TypeAt, ModeAt, TooLong, ReadFault, Memory}
 use Rattle.szs_report.specs.declared.answer.NamedFile.TheVariants.{Part, Mode}
 use Rattle.request_answers.specs.Files.{OfFiles}
 use Rattle.request_answers.specs.Modes.{OfFile, IsLong, refused_at}
@@ -49,3 +49,9 @@ IsUnaskedMode told contents (Some file) answer = IsUnreadMode told contents file
 abbrev pub IsFilesAnswer : (PlainProblem → Answer → Type 0) → List ℕ → Bool → (List ℕ → Option (List ℕ)) → Answer → Type 0
 IsFilesAnswer Answers name told contents Memory = Unit {0}
 IsFilesAnswer Answers name told contents answer = (names : List (List ℕ)) × OfFiles name told contents names (AnswersEnding Answers names answer)
+
+-- whether an answer is that a text is accepted; none where it is want of memory
+abbrev pub verdict_of : Answer → Option Bool
+verdict_of Memory = None
+verdict_of Accepted = Some true
+verdict_of answer = Some false

@@ -1,0 +1,57 @@
+-- What is asked for has names of files.
+use Rattle.std.proofs.Common.{◌≡◌, ℕ, ◌&&◌, Bool, true, false, List, [], ◌∷◌, Option, Some, None, option_map, refl, subst, if◌then◌else◌}
+use Rattle.std.specs.List.{list_all}
+use Rattle.std.proofs.lemmas.Bool.{and_parts}
+use Rattle.cli_words.specs.Names.{is_file_name, number_to}
+use Rattle.cli_words.specs.declared.options.OptionName.TheVariants.{Mode, Check, Demo}
+use Rattle.cli_words.specs.Line.{is_taken}
+use Rattle.cli_words.specs.Requests.{Entry, value, problem, Request, prove, refutation, generated, naming, asked, entries_in, asked_by}
+
+-- the problem's name, where there is one, is the name of a file
+abbrev pub IsNamed : Request → Type 0
+IsNamed (prove p mode) = is_file_name p ≡ true
+IsNamed (refutation text p) = is_file_name p ≡ true
+IsNamed (generated n) = Unit {0}
+
+-- a request is that of its names, each of which is the name of a file
+naming-parts : (names : List (List ℕ)) (r s : Request) → naming names r ≡ Some s → (list_all is_file_name names ≡ true) × (r ≡ s)
+naming-parts names r s h = go (list_all is_file_name names) refl h
+  where
+    go : (b : Bool) → list_all is_file_name names ≡ b → (if b then Some r else None) ≡ Some s → (list_all is_file_name names ≡ true) × (r ≡ s)
+    go false e k = cc
+    go true e k = (e, cc)
+
+first_named : (p : List ℕ) (mode : Option (List ℕ)) (r : Request) → naming (p ∷ []) (prove p mode) ≡ Some r → IsNamed r
+first_named p mode r h = let q = naming-parts (p ∷ []) (prove p mode) r h in subst IsNamed q.1 (and_parts (is_file_name p) true q.0).0
+
+second_named : (first p : List ℕ) (s r : Request) → (is_file_name p ≡ true → IsNamed s) → naming (first ∷ p ∷ []) s ≡ Some r → IsNamed r
+second_named first p s r named h =
+    let q = naming-parts (first ∷ p ∷ []) s r h in
+    subst IsNamed q.1 (named (and_parts (is_file_name p) true (and_parts (is_file_name first) (list_all is_file_name (p ∷ [])) q.0).1).0)
+
+generated_named : (o : Option ℕ) (r : Request) → option_map generated o ≡ Some r → IsNamed r
+generated_named None r h = cc
+generated_named (Some n) r h = let same : generated n ≡ r = cc in subst IsNamed same tt
+
+asked_named : (es : List Entry) (r : Request) → asked es ≡ Some r → IsNamed r
+asked_named [] r h = cc
+asked_named (problem p ∷ []) r h = first_named p None r h
+asked_named (problem p ∷ e ∷ es) r h = cc
+asked_named (value Mode m ∷ []) r h = cc
+asked_named (value Mode m ∷ problem p ∷ []) r h = second_named m p (prove p (Some m)) r (λ x. x) h
+asked_named (value Mode m ∷ problem p ∷ e ∷ es) r h = cc
+asked_named (value Mode m ∷ value o v ∷ es) r h = cc
+asked_named (value Check t ∷ []) r h = cc
+asked_named (value Check t ∷ problem p ∷ []) r h = second_named t p (refutation t p) r (λ x. x) h
+asked_named (value Check t ∷ problem p ∷ e ∷ es) r h = cc
+asked_named (value Check t ∷ value o v ∷ es) r h = cc
+asked_named (value Demo n ∷ []) r h = generated_named (number_to 1000 n) r h
+asked_named (value Demo n ∷ e ∷ es) r h = cc
+
+-- what words ask for has names of files
+pub asked_by-named : (words : List (List ℕ)) (r : Request) → asked_by words ≡ Some r → IsNamed r
+asked_by-named words r h = go (is_taken words) h
+  where
+    go : (b : Bool) → (if b then asked (entries_in words) else None) ≡ Some r → IsNamed r
+    go false k = cc
+    go true k = asked_named (entries_in words) r k
