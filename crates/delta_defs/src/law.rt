@@ -1,6 +1,7 @@
 //! Laws of unfolding, each as the contract of a function that does nothing.
 
-ghost use Rattle.std.specs.Prelude.{◌≡◌, []};
+ghost use Rattle.std.specs.Prelude.{◌≡◌, [], false};
+ghost use Rattle.std.specs.List.{list_any};
 ghost use Rattle.stt_core.specs.TypedProblem.{IsTyped};
 ghost use Rattle.delta_defs.specs.Unfolding.{definitions_of, unfolded_problem};
 ghost use Rattle.delta_defs.specs.Laws.{KeepsModels, TakenNamesAreGone};
@@ -19,8 +20,10 @@ pub fn unfolding_keeps_types(problem: &Problem)
     ensures { IsTyped (unfolded_problem problem.now) }
 {}
 
-/// Nothing is left to be unfolded: no definition is taken from an unfolded problem, and it is its own unfolded problem.
+/// Nothing is left to be unfolded: no formula of an unfolded problem is marked, no definition is taken from it, and it is its own unfolded
+/// problem.
 pub fn unfolded_once(problem: &Problem)
+    ensures unmarked { list_any (λ mark. mark) (unfolded_problem problem.now).marked ≡ false }
     ensures none { definitions_of (unfolded_problem problem.now) ≡ [] }
     ensures same { unfolded_problem (unfolded_problem problem.now) ≡ unfolded_problem problem.now }
 {}
