@@ -75,8 +75,10 @@ named_line names line = record {
   children = line.children;
 }
 
-abbrev pub named_refutation : Names → Refutation → RefutationTree
-named_refutation names r = record {
+-- with the constants whose definitions are unfolded, by their places
+abbrev pub named_refutation : Names → List ℕ → Refutation → RefutationTree
+named_refutation names taken r = record {
+  names = map (name_at names.constants) taken;
   rows = map (λ row. named_term names row.predicate) r.witnesses;
   lines = map (named_line names) r.lines;
 }
@@ -137,6 +139,11 @@ RowsHaveNames names (row ∷ rows) = HasNames names row.predicate × RowsHaveNam
 abbrev pub LinesHaveNames : Names → List Line → Type 0
 LinesHaveNames names [] = Unit {0}
 LinesHaveNames names (line ∷ lines) = HasLineNames names line × LinesHaveNames names lines
+
+-- the places are those of constants
+abbrev pub ArePlaces : Names → List ℕ → Type 0
+ArePlaces names [] = Unit {0}
+ArePlaces names (k ∷ taken) = (k < length names.constants) × ArePlaces names taken
 
 -- Every name and base type of the refutation is declared.
 pub record IsNamed (names : Names) (r : Refutation) : Type 0 where

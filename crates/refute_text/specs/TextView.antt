@@ -9,4 +9,4 @@ abbrev pub the_line : TextLine → LineTree
 the_line l = record { branch = l.branch; rule = the_rule l.rule; children = l.children }
 
 abbrev pub the_text : RefutationText → RefutationTree
-the_text t = record { rows = t.witnesses; lines = map the_line t.lines }
+the_text t = record { names = t.names; rows = t.witnesses; lines = map the_line t.lines }
