@@ -5,7 +5,7 @@ ghost use Rattle.stt_core.specs.View.{the_term};
 ghost use Rattle.stt_core.specs.TypedProblem.{IsTyped};
 ghost use Rattle.delta_defs.specs.Definitions.{unfolded};
 ghost use Rattle.delta_defs.specs.Unfolding.{taken_from as is_taken_from, with_next, unless_taken, definitions_of, left_formulas, taken_names, unfolded_problem};
-ghost use Rattle.delta_defs.specs.Laws.{KeepsModels};
+ghost use Rattle.delta_defs.specs.Laws.{KeepsModels, AreDeclared};
 
 use crate::definition::Definitions;
 use crate::names::NameIds;
@@ -134,14 +134,23 @@ pub fn unfold_problem(alloc: Global, problem: &Problem) -> Result<Problem, Alloc
     Ok(unfolded)
 }
 
+/// The places of the names that are defined, in order.
+fn names_of(alloc: Global, definitions: &Definitions) -> Result<NameIds, AllocError>
+    ensures { IfOk result (λ names. names ≡ map (λ d. d.place) definitions.now) }
+{
+    let mut names = NameIds::new(alloc);
+    for i in 0..definitions.len() {
+        names.push(definitions.at(i).place)?;
+    }
+    Ok(names)
+}
+
 /// The places of the taken names, in order.
 pub fn taken(alloc: Global, problem: &Problem) -> Result<NameIds, AllocError>
-    ensures { IfOk result (λ names. names ≡ taken_names problem.now) }
+    ensures names { IfOk result (λ names. names ≡ taken_names problem.now) }
+    ensures declared { IfOk result (λ names. IsTyped problem.now → AreDeclared problem.now names) }
 {
     let sorted = sort(alloc, problem)?;
-    let mut names = NameIds::new(alloc);
-    for i in 0..sorted.definitions.len() {
-        names.push(sorted.definitions.at(i).place)?;
-    }
+    let names = names_of(alloc, &sorted.definitions)?;
     Ok(names)
 }
