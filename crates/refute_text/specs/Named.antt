@@ -1,5 +1,6 @@
 -- A refutation with the names of a signature in place of their numbers.
 use Rattle.std.specs.Prelude.{ℕ, zero, suc, ◌<◌, List, [], ◌∷◌, map, length, slice_get, unwrap_or, IsTrue}
+use Rattle.std.specs.List.{AllByRecursion}
 use Rattle.stt_core.specs.SimpleType.{SimpleType, base, arrow, is_declared}
 use Rattle.stt_core.specs.Lambda.{Constant, name, witness, falsity, negation, implication, all, equality, choice, description, Lambda, bound, constant, lam, app}
 use Rattle.stt_core.specs.TypedName.{TypedName}
@@ -142,8 +143,7 @@ LinesHaveNames names (line ∷ lines) = HasLineNames names line × LinesHaveName
 
 -- the places are those of constants
 abbrev pub ArePlaces : Names → List ℕ → Type 0
-ArePlaces names [] = Unit {0}
-ArePlaces names (k ∷ taken) = (k < length names.constants) × ArePlaces names taken
+ArePlaces names taken = AllByRecursion (λ k. k < length names.constants) taken
 
 -- Every name and base type of the refutation is declared.
 pub record IsNamed (names : Names) (r : Refutation) : Type 0 where
