@@ -1,2 +1,2 @@
+pub mod Delays
 pub mod Ended
-pub mod Means

@@ -1,10 +1,20 @@
-//! The run of the search over a problem, to its end, with the refutation where it is proved.
+//! Stub.
 #![tactic(auto)]
 
-mod delays;
-mod ended;
-mod running;
+ghost use Rattle.std.specs.Prelude.{IfOk};
+ghost use Rattle.stt_core.specs.TypedProblem.{IsTyped};
+ghost use Rattle.tableau_run.specs.Ended.{EndsAs};
 
-pub use delays::delay;
+mod ended;
 pub use ended::Ended;
-pub use running::run;
+use std::alloc::{AllocError, Global};
+use mode_file::Mode;
+use stt_core::Problem;
+
+/// Runs the search over a problem by a mode.
+pub fn run(_alloc: Global, _problem: &Problem, _mode: &Mode) -> Result<Ended, AllocError>
+    requires { IsTyped _problem.now }
+    ensures { IfOk result (EndsAs _problem.now _mode.now) }
+{
+    Err(AllocError)
+}
