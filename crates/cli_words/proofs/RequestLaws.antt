@@ -1,17 +1,18 @@
--- What is asked for has names of files.
-use Rattle.std.proofs.Common.{◌≡◌, ℕ, ◌&&◌, Bool, true, false, List, [], ◌∷◌, Option, Some, None, option_map, refl, subst, if◌then◌else◌}
+-- What is asked for has names of files, and numbers of generated problems.
+use Rattle.std.proofs.Common.{◌≡◌, ◌<◌, ◌≤◌, ◌+◌, ◌-◌, ◌*◌, ◌==◌, ℕ, nat_le, not, ◌&&◌, Bool, true, false, List, [], ◌∷◌, Option, Some, None, option_map, refl, subst, if◌then◌else◌, arith}
 use Rattle.std.specs.List.{list_all}
 use Rattle.std.proofs.lemmas.Bool.{and_parts}
-use Rattle.cli_words.specs.Names.{is_file_name, number_to}
+use Rattle.std.proofs.lemmas.Bool.Decides.{nat_tests}
+use Rattle.cli_words.specs.Names.{is_file_name, is_digit, is_decimal, number_from, number_to}
 use Rattle.cli_words.specs.declared.options.OptionName.TheVariants.{Mode, Check, Demo}
 use Rattle.cli_words.specs.Line.{is_taken}
 use Rattle.cli_words.specs.Requests.{Entry, value, problem, Request, prove, refutation, generated, naming, asked, entries_in, asked_by}
 
--- the problem's name, where there is one, is the name of a file
+-- the problem's name is the name of a file, or its number is from 1 to 1000
 abbrev pub IsNamed : Request → Type 0
 IsNamed (prove p mode) = is_file_name p ≡ true
 IsNamed (refutation text p) = is_file_name p ≡ true
-IsNamed (generated n) = Unit {0}
+IsNamed (generated n) = (0 < n) × (n ≤ 1000)
 
 -- a request is that of its names, each of which is the name of a file
 naming-parts : (names : List (List ℕ)) (r s : Request) → naming names r ≡ Some s → (list_all is_file_name names ≡ true) × (r ≡ s)
@@ -29,9 +30,32 @@ second_named first p s r named h =
     let q = naming-parts (first ∷ p ∷ []) s r h in
     subst IsNamed q.1 (named (and_parts (is_file_name p) true (and_parts (is_file_name first) (list_all is_file_name (p ∷ [])) q.0).1).0)
 
-generated_named : (o : Option ℕ) (r : Request) → option_map generated o ≡ Some r → IsNamed r
-generated_named None r h = cc
-generated_named (Some n) r h = let same : generated n ≡ r = cc in subst IsNamed same tt
+number_from-least : (n : ℕ) (cs : List ℕ) → n ≤ number_from n cs
+number_from-least n [] = omega arith
+number_from-least n (c ∷ cs) = let more = number_from-least (10 * n + (c - 48)) cs in omega (arith, more)
+
+-- a decimal number without a leading 0 is above 0
+decimal_above : (text : List ℕ) → is_decimal text ≡ true → 0 < number_from 0 text
+decimal_above [] h = cc
+decimal_above (c ∷ cs) h =
+    let parts = and_parts (not (c == 48)) (list_all is_digit (c ∷ cs)) h in
+    let digit = (and_parts (nat_le 48 c) (nat_le c 57) (and_parts (is_digit c) (list_all is_digit cs) parts.1).0).0 in
+    let first = not_zero c parts.0 digit in
+    let more = number_from-least (10 * 0 + (c - 48)) cs in
+    omega (arith, first, more)
+  where
+    not_zero : (c : ℕ) → not (c == 48) ≡ true → nat_le 48 c ≡ true → 48 < c
+    not_zero c h k = grind (arith, nat_tests, h, k)
+
+generated_named : (text : List ℕ) (r : Request) → option_map generated (number_to 1000 text) ≡ Some r → IsNamed r
+generated_named text r h = go (is_decimal text && nat_le (number_from 0 text) 1000) refl h
+  where
+    go : (b : Bool) → is_decimal text && nat_le (number_from 0 text) 1000 ≡ b → option_map generated (if b then Some (number_from 0 text) else None) ≡ Some r → IsNamed r
+    go false e k = cc
+    go true e k =
+        let parts = and_parts (is_decimal text) (nat_le (number_from 0 text) 1000) e in
+        let same : generated (number_from 0 text) ≡ r = cc in
+        subst IsNamed same (decimal_above text parts.0, grind (arith, nat_tests, parts.1))
 
 asked_named : (es : List Entry) (r : Request) → asked es ≡ Some r → IsNamed r
 asked_named [] r h = cc
@@ -45,7 +69,7 @@ asked_named (value Check t ∷ []) r h = cc
 asked_named (value Check t ∷ problem p ∷ []) r h = second_named t p (refutation t p) r (λ x. x) h
 asked_named (value Check t ∷ problem p ∷ e ∷ es) r h = cc
 asked_named (value Check t ∷ value o v ∷ es) r h = cc
-asked_named (value Demo n ∷ []) r h = generated_named (number_to 1000 n) r h
+asked_named (value Demo n ∷ []) r h = generated_named n r h
 asked_named (value Demo n ∷ e ∷ es) r h = cc
 
 -- what words ask for has names of files

@@ -7,5 +7,6 @@ pub mod Written
 pub mod SolvedLaws
 pub mod AnswerLaws
 pub mod CheckedLaws
+pub mod FileLaws
 pub mod ReportHolds
 pub mod RunEnds

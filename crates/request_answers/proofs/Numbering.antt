@@ -140,6 +140,6 @@ module _ (names : Names) (p : AllPlaced names) where
       (ap₂ (λ (a : SimpleType) (f : Lambda). record { type = a; predicate = f }) (ap argument_type same ∙ row_type (with_rows scope earlier) r.type r.predicate t.0) same)
       (rows-same scope (earlier ++ r ∷ []) rows t.2 h.1)
 
-  pub refutation-same : (scope : Scope) (r : Refutation) → IsTableAfter scope [] r.witnesses → IsNamed names r → numbered_refutation names (named_refutation names r) ≡ r
-  refutation-same scope r t h =
+  pub refutation-same : (scope : Scope) (taken : List ℕ) (r : Refutation) → IsTableAfter scope [] r.witnesses → IsNamed names r → numbered_refutation names (named_refutation names taken r) ≡ r
+  refutation-same scope taken r t h =
       ap₂ (λ (rows : List Row) (lines : List Line). record { witnesses = rows; lines = lines }) (rows-same scope [] r.witnesses t h.rows_named) (lines-same r.lines h.lines_named)

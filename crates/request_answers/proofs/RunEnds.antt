@@ -5,6 +5,7 @@ use Rattle.stt_tableau.specs.Start.{start}
 use Rattle.search_run.specs.Result.{Result, proved, gave_up, stopped, IsResult}
 use Rattle.search_run.proofs.ResultLaws.{one_result}
 use Rattle.mode_file.specs.declared.Mode.{Mode}
+use Rattle.delta_defs.specs.Unfolding.{unfolded_problem}
 use Rattle.tableau_run.specs.Ended.{setting_for}
 use Rattle.szs_report.specs.Outcomes.{without_refutation}
 use Rattle.szs_report.specs.declared.answer.Answer.{Answer}
@@ -20,7 +21,7 @@ told p (stopped n) = CommandLimit n
 
 record IsEnd (m : Mode) (p : PlainProblem) (a : Answer) : Type 0 where
   pub result : Result
-  pub is_result : IsResult (setting_for p m) (start p) result
+  pub is_result : IsResult (setting_for p m) (start (unfolded_problem p)) result
   pub is : without_refutation a ≡ told p result
 
 end_of : (m : Mode) (p : PlainProblem) (a : Answer) → IsSettled a → IsSolved m p a → IsEnd m p a
@@ -32,7 +33,7 @@ end_of m p (CommandLimit n) w h = record { result = stopped n; is_result = h; is
 end_of m p a w h = absurd h
 
 same_ends : (m : Mode) (p : PlainProblem) (a b : Answer) → IsEnd m p a → IsEnd m p b → without_refutation a ≡ without_refutation b
-same_ends m p a b e f = e.is ∙ ap (told p) (one_result (setting_for p m) (start p) e.result f.result e.is_result f.is_result) ∙ sym f.is
+same_ends m p a b e f = e.is ∙ ap (told p) (one_result (setting_for p m) (start (unfolded_problem p)) e.result f.result e.is_result f.is_result) ∙ sym f.is
 
 pub solved-same : (m : Mode) (p : PlainProblem) (a b : Answer) → IsSettled a → IsSettled b → IsSolved m p a → IsSolved m p b → without_refutation a ≡ without_refutation b
 solved-same m p a b w v h k = same_ends m p a b (end_of m p a w h) (end_of m p b v k)

@@ -22,8 +22,8 @@ use Rattle.refute_text.specs.Letters.{is_name}
 use Rattle.refute_text.specs.Limits as text
 use Rattle.refute_text.specs.Limits.{constant_depth, term_depth, spine_depth, IsType, IsConstant, IsTerm, IsSpine, greatest_depth, IsWithin, IsLiteral, IsRule, IsLine}
 use Rattle.refute_text.specs.Sizes.{term_limit, nesting, nesting_in, type_depth, IsSmallTerm, AreSmallLiterals, IsSmallRule, IsSmallLine, IsSmall}
-use Rattle.refute_text.specs.Named.{Names, name_at, named_type, named_constant, named_term, named_literal, named_rule, named_line, named_refutation, HasTypeNames, HasConstantNames}
-use Rattle.refute_read.specs.Reading.{HasText}
+use Rattle.refute_text.specs.Named.{Names, name_at, named_type, named_constant, named_term, named_literal, named_rule, named_line, named_refutation, HasTypeNames, HasConstantNames, ArePlaces}
+use Rattle.refute_read.specs.Reading.{IsName, HasText}
 use Rattle.request_answers.proofs.NameLaws.{NamesAll, type_named, constant_named}
 
 -- the names are THF's
@@ -252,14 +252,20 @@ rows_written names words scope n earlier (r ∷ rows) few h small =
       rows_written names words scope n (earlier ++ r ∷ []) rows (omega (arith, few, more)) h.2 small.1,
     )
 
-pub has_text : (names : Names) (scope : Scope) → NamesAll names scope → AreWords names → (start : List Literal) (r : Refutation) → IsAccepted scope start r → IsSmall r → HasText (named_refutation names r)
-has_text names scope n words start r h small =
+-- the names at places of the list
+taken_words : (names : Names) → AreWords names → (taken : List ℕ) → ArePlaces names taken → AllByRecursion IsName (map (name_at names.constants) taken)
+taken_words names words [] h = tt
+taken_words names words (k ∷ taken) h = (word_at names.constants k words.constants h.0, taken_words names words taken h.1)
+
+pub has_text : (names : Names) (scope : Scope) → NamesAll names scope → AreWords names → (taken : List ℕ) → ArePlaces names taken → (start : List Literal) (r : Refutation) → IsAccepted scope start r → IsSmall r → HasText (named_refutation names taken r)
+has_text names scope n words taken places start r h small =
     let few = small.row_numbers in
     let witnesses = length-map r.witnesses (λ (q : Row). q.type) in
     let rows = length-map r.witnesses (λ (row : Row). named_term names row.predicate) in
     let lines = length-map r.lines (named_line names) in
     let numbers = small.lines.numbers in
     record {
+      names = taken_words names words taken places;
       rows = rows_written names words scope n [] r.witnesses (omega (arith, few)) h.table small.rows;
       row_numbers = omega (arith, few, rows);
       lines = lines_written names words (with_rows scope r.witnesses) (record { bases = n.bases; constants = n.constants }) (omega (arith, few, witnesses)) r.witnesses [] r.lines h.lines small.lines.each;

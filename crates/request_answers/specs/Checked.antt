@@ -1,20 +1,18 @@
 -- What the check of a refutation's text is answered with.
 use Rattle.std.specs.Prelude.{◌≡◌, ℕ, Bool, List, Option}
 use Rattle.stt_core.specs.PlainProblem.{PlainProblem}
-use Rattle.stt_core.specs.Declarations.{scope_of}
-use Rattle.stt_tableau.specs.Accepted.{IsAccepted}
-use Rattle.stt_tableau.specs.Start.{start}
+use Rattle.delta_defs.specs.Unfolding.{taken_names}
 use Rattle.stt_tableau.specs.declared.refutation.Why.{Why}
 use Rattle.stt_tableau.specs.declared.refutation.Why.TheVariants.{Form, Start, End}
 use Rattle.stt_tableau.specs.declared.refutation.Refutation.{Refutation}
 use Rattle.refute_text.specs.Trees.{RefutationTree}
-use Rattle.refute_text.specs.Named.{Names, named_refutation}
+use Rattle.refute_text.specs.Named.{named_refutation}
 use Rattle.refute_read.specs.Reading.{lines_of, Reading, read, bad_line, no_start, no_end, Reads}
 use Rattle.refute_read.specs.declared.refusal.TextRefused.{TextRefused}
 use Rattle.refute_read.specs.declared.refusal.TextRefused.TheVariants as unread
 use Rattle.refute_read.specs.declared.refusal.TextRefused.TheVariants.{BadLine, NoStart, NoEnd}
 use Rattle.refute_check.specs.Numbered.{numbered_refutation}
-use Rattle.refute_check.specs.Refusal.{FailsAt}
+use Rattle.refute_check.specs.Acceptance.{IsAcceptedFor, TextFailsAt}
 use Rattle.refute_check.specs.declared.refusal.CheckRefused.{CheckRefused}
 use Rattle.refute_check.specs.declared.refusal.CheckRefused.TheVariants as failed
 use Rattle.refute_check.specs.declared.refusal.CheckRefused.TheVariants.{Line}
@@ -24,16 +22,16 @@ use Rattle.szs_report.specs.declared.answer.NamedFile.TheVariants.{Check}
 use Rattle.szs_report.specs.declared.answer.Answer.{Answer}
 use Rattle.szs_report.specs.declared.answer.Answer.TheVariants.{Accepted, Refused, TooLong, ReadFault, Memory}
 
--- The bytes hold the text of a refutation that is accepted for the problem's start.
+-- The bytes hold the text of a refutation that is accepted for the problem.
 pub record IsAcceptedText (p : PlainProblem) (bytes : List ℕ) : Type 0 where
   pub refutation : RefutationTree
   pub first : ℕ
   pub reads : Reads (lines_of bytes) (read refutation first)
-  pub accepted : IsAccepted (scope_of p.declared) (start p) (numbered_refutation (names_in p) refutation)
+  pub accepted : IsAcceptedFor p refutation
 
--- what is read fails first at this line, and why: its form is wrong there, or the refutation isn't right there
+-- what is read fails first at this line, and why: its form is wrong there, or the text isn't right there
 abbrev pub FailsFirst : PlainProblem → Reading → ℕ → Why → Type 0
-FailsFirst p (read r first) line why = FailsAt (scope_of p.declared) (start p) (numbered_refutation (names_in p) r) first line why
+FailsFirst p (read r first) line why = TextFailsAt p r first line why
 FailsFirst p (bad_line at) line why = (line ≡ at) × (why ≡ Form)
 FailsFirst p (no_start at) line why = (line ≡ at) × (why ≡ Start)
 FailsFirst p (no_end at) line why = (line ≡ at) × (why ≡ End)
@@ -70,9 +68,9 @@ AnswersText told contents file p (ReadFault (Check name)) = name ≡ file
 AnswersText told contents file p (TooLong (Check name)) = (name ≡ file) × IsLong told contents file
 AnswersText told contents file p answer = OfFile told contents file (λ bytes. AnswersBytes p bytes answer)
 
--- The bytes hold one refutation, which is this one: so they are read, and in no other way.
-pub record HoldsOnly (names : Names) (bytes : List ℕ) (refutation : Refutation) : Type 0 where
+-- The bytes hold one refutation, which is this one, with the names of the definitions that are taken: so they are read, and in no other way.
+pub record HoldsOnly (p : PlainProblem) (bytes : List ℕ) (refutation : Refutation) : Type 0 where
   pub first : ℕ
-  pub reads : Reads (lines_of bytes) (read (named_refutation names refutation) first)
-  pub only : (reading : Reading) → Reads (lines_of bytes) reading → reading ≡ read (named_refutation names refutation) first
-  pub numbered : numbered_refutation names (named_refutation names refutation) ≡ refutation
+  pub reads : Reads (lines_of bytes) (read (named_refutation (names_in p) (taken_names p) refutation) first)
+  pub only : (reading : Reading) → Reads (lines_of bytes) reading → reading ≡ read (named_refutation (names_in p) (taken_names p) refutation) first
+  pub numbered : numbered_refutation (names_in p) (named_refutation (names_in p) (taken_names p) refutation) ≡ refutation

@@ -1,5 +1,5 @@
 -- What the words ask for, and the files that it is read from.
-use Rattle.std.specs.Prelude.{ℕ, Bool, true, List, [], ◌++◌, codes, decimal, Option, Some, None}
+use Rattle.std.specs.Prelude.{◌<◌, ◌≤◌, ℕ, Bool, true, List, [], ◌++◌, codes, decimal, Option, Some, None}
 use Rattle.std.specs.Option.{option_map_or}
 use Rattle.cli_words.specs.Requests.{Request, prove, refutation, generated, asked_by}
 use Rattle.problem_gen.specs.Chain.{text}
@@ -31,3 +31,9 @@ contents_of contents (generated n) = λ file. Some (text n)
 -- the name by which a report calls the problem, or none where the words ask for nothing
 abbrev pub name_of : List (List ℕ) → List ℕ
 name_of words = option_map_or problem_name (asked_by words) []
+
+-- where a problem is to be generated, its number is one of the generator's
+abbrev pub IsGenerable : Request → Type 0
+IsGenerable (prove p mode) = Unit {0}
+IsGenerable (refutation text p) = Unit {0}
+IsGenerable (generated n) = (0 < n) × (n ≤ 1000)

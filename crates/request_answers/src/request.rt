@@ -4,7 +4,7 @@ ghost use Rattle.std.specs.Prelude.{◌≡◌, ◌≤◌, ℕ, List, option_map,
 ghost use Rattle.outside.specs.Causes.{Rose};
 ghost use Rattle.cli_words.specs.Requests.{prove, refutation};
 ghost use Rattle.cli_words.specs.View.{the_request};
-ghost use Rattle.request_answers.specs.Requested.{problem_name};
+ghost use Rattle.request_answers.specs.Requested.{problem_name, IsGenerable};
 ghost use Rattle.request_answers.specs.Checked.{AnswersText};
 ghost use Rattle.request_answers.specs.Solved.{IsSolved};
 ghost use Rattle.request_answers.specs.Answers.{AnswersRequest};
@@ -93,7 +93,8 @@ pub fn name_of(alloc: Global, asked: &Asked) -> Result<String, AllocError>
 
 /// The answer to a request, which reports call by its name.
 pub fn answer<F: Files>(alloc: Global, files: &mut F, asked: &Asked, name: &str) -> Answer
-    requires { name.now ≡ problem_name (the_request asked.now) }
+    requires named { name.now ≡ problem_name (the_request asked.now) }
+    requires generable { IsGenerable (the_request asked.now) }
     ensures answers { AnswersRequest (the_request asked.now) (F.tells files.old) (F.contents files.old) result }
     ensures cause { HasCauseOf (the_request asked.now) (F.tells files.old) (F.contents files.old) (F.faults files.old) (F.faults files.new) (outcome_of result) }
 

@@ -1,11 +1,13 @@
 //! From a problem to the answer.
 
-ghost use Rattle.std.specs.Prelude.{◌≡◌};
+ghost use Rattle.std.specs.Prelude.{◌≡◌, IfOk};
+ghost use Rattle.delta_defs.specs.Unfolding.{unfolded_problem};
 ghost use Rattle.tableau_run.specs.Ended.{EndsAs};
 ghost use Rattle.request_answers.specs.Names.{HasTexts};
 ghost use Rattle.request_answers.specs.Solved.{claim_of, IsSolved};
 
 use crate::text::refutation_text;
+use delta_defs::{taken, unfold_problem};
 use mode_file::Mode;
 use std::alloc::{AllocError, Global};
 use stt_core::Problem;
@@ -22,28 +24,44 @@ fn claim_of(problem: &Problem) -> Claim
     }
 }
 
-/// The answer for a run over a problem that has ended.
-fn ended_answer(alloc: Global, problem: &Problem, mode: &Mode, ended: Ended) -> Answer
+/// The answer for a run over the unfolded problem that has ended.
+fn ended_answer(
+    alloc: Global,
+    problem: &Problem,
+    mode: &Mode,
+    ended: Ended,
+) -> Result<Answer, AllocError>
     requires texts { HasTexts problem.now }
-    requires ended { EndsAs problem.now mode.now ended }
-    ensures { IsSolved mode.now problem.now result }
+    requires ended { EndsAs (unfolded_problem problem.now) mode.now ended }
+    ensures { IfOk result (IsSolved mode.now problem.now) }
 {
     match ended {
         Ended::Proved {
             commands,
             refutation,
-        } => match refutation_text(alloc, &problem.signature, &refutation) {
-            Ok(text) => Answer::Proved {
+        } => {
+            let names = taken(alloc, problem)?;
+            let text = refutation_text(alloc, &problem.signature, names.as_slice(), &refutation)?;
+            Ok(Answer::Proved {
                 claim: claim_of(problem),
                 commands,
                 text,
-            },
-            Err(AllocError) => Answer::Memory,
-        },
-        Ended::GaveUp { commands } => Answer::GaveUp { commands },
-        Ended::CommandLimit { commands } => Answer::CommandLimit { commands },
-        Ended::ConflictLimit { conflicts } => Answer::ConflictLimit { conflicts },
+            })
+        }
+        Ended::GaveUp { commands } => Ok(Answer::GaveUp { commands }),
+        Ended::CommandLimit { commands } => Ok(Answer::CommandLimit { commands }),
+        Ended::ConflictLimit { conflicts } => Ok(Answer::ConflictLimit { conflicts }),
     }
+}
+
+/// The answer for a problem, whose definitions are unfolded before the run.
+fn solve_unfolded(alloc: Global, problem: &Problem, mode: &Mode) -> Result<Answer, AllocError>
+    requires { HasTexts problem.now }
+    ensures { IfOk result (IsSolved mode.now problem.now) }
+{
+    let unfolded = unfold_problem(alloc, problem)?;
+    let ended = run(alloc, &unfolded, mode)?;
+    ended_answer(alloc, problem, mode, ended)
 }
 
 /// The answer for a problem that is to be proved.
@@ -51,8 +69,8 @@ pub(crate) fn solve(alloc: Global, problem: &Problem, mode: &Mode) -> Answer
     requires { HasTexts problem.now }
     ensures { IsSolved mode.now problem.now result }
 {
-    match run(alloc, problem, mode) {
-        Ok(ended) => ended_answer(alloc, problem, mode, ended),
+    match solve_unfolded(alloc, problem, mode) {
+        Ok(answer) => answer,
         Err(AllocError) => Answer::Memory,
     }
 }

@@ -4,17 +4,18 @@ use Rattle.outside.specs.Causes.{Rose}
 use Rattle.stt_core.specs.PlainProblem.{PlainProblem}
 use Rattle.stt_core.specs.TypedProblem.{IsTyped}
 use Rattle.stt_core.specs.Declarations.{scope_of}
-use Rattle.stt_tableau.specs.Accepted.{IsAccepted}
 use Rattle.stt_tableau.specs.Start.{start}
-use Rattle.stt_tableau.specs.declared.refutation.Refutation.{Refutation}
-use Rattle.stt_tableau.proofs.Soundness.{accepted_closes_start, accepted_refutes}
-use Rattle.stt_tableau.proofs.StartMeets.{start_unnamed, start_met}
+use Rattle.stt_tableau.proofs.Soundness.{accepted_closes_start}
+use Rattle.delta_defs.specs.Unfolding.{taken_names, unfolded_problem}
 use Rattle.thf_include.specs.Gathering.{Ending, done, stopped, Stop, wants, too_long, no_tree, cycle, too_many, no_name}
 use Rattle.type_check.specs.Statements.{IllInFile, problem_of}
 use Rattle.type_check.proofs.TypedProblems.{problem_of-typed}
 use Rattle.mode_file.specs.declared.Mode.{Mode}
 use Rattle.cli_words.specs.Requests.{Request, prove, refutation, generated, asked_by}
-use Rattle.refute_check.specs.Numbered.{numbered_refutation}
+use Rattle.refute_text.specs.Trees.{RefutationTree}
+use Rattle.refute_text.specs.Named.{named_refutation}
+use Rattle.refute_check.specs.Acceptance.{IsAcceptedFor}
+use Rattle.refute_check.proofs.AcceptanceLaws.{accepted_refuted}
 use Rattle.szs_report.specs.Outcomes.{claim_outcome, outcome_of}
 use Rattle.szs_report.specs.Report.{proof_report, report_of}
 use Rattle.szs_report.specs.declared.answer.Answer.{Answer}
@@ -33,15 +34,15 @@ use Rattle.request_answers.specs.Names.{names_in}
 use Rattle.request_answers.specs.Checked.{HoldsOnly}
 use Rattle.request_answers.specs.Solved.{IsProofOf, claim_of, IsSolved, IsDemoed}
 use Rattle.request_answers.specs.Answers.{stop_answer, AnswersProblem, AnswersStated, AnswersEnding, AnswersFiles, AnswersRequest, AnswersAsked, IsAnswer, IsDefined}
-use Rattle.request_answers.specs.Causes.{IsFaultIn, IsFaultOf, IsModeFault, IsTextFault, IsNoReadFault, HasCauseOf, HasCauseAsked, HasCause}
+use Rattle.request_answers.specs.Causes.{HasCauseOf, HasCauseAsked, HasCause}
 use Rattle.satallax_top.specs.Headline.{IsProvedOutcome, ShowsNoModel, IsWithoutModel, HasNoModel, IsAskedBy, IsProofReport, Appends, IsWritten, IsOutcome}
 use Rattle.request_answers.proofs.OneLine.{name_one_line}
-use Rattle.request_answers.proofs.ReportHolds.{holds_report, accepted_text}
+use Rattle.request_answers.proofs.ReportHolds.{holds_report, accepted_report}
+use Rattle.request_answers.proofs.SolvedLaws.{proof_accepted}
 
--- no model meets a problem for whose start a refutation is accepted
-no_model_of : (p : PlainProblem) (refutation : Refutation) → IsTyped p → IsAccepted (scope_of p.declared) (start p) refutation → IsWithoutModel p
-no_model_of p refutation typed accepted m good met =
-    accepted_refutes (scope_of p.declared) (start p) refutation accepted (start_unnamed p typed) m good (start_met p typed m good met)
+-- no model meets a problem for which a text is accepted
+no_model_of : (p : PlainProblem) (t : RefutationTree) → IsTyped p → IsAcceptedFor p t → IsWithoutModel p
+no_model_of p t typed accepted m good met = accepted_refuted p typed m good met t accepted
 
 -- an answer that files give in place of a problem
 abbrev pub IsRefusal : Answer → Type 0
@@ -167,7 +168,7 @@ no_model_asked None told contents (DemoDone claim n) h s = cc
 no_model_asked None told contents Accepted h s = cc
 no_model_asked (Some (prove p file)) told contents (Proved claim n text) h s =
     let f = files_answered (prove p file) told contents (Proved claim n text) (λ x. x) h in
-    record { names = f.names; problem = f.problem; stated = f.stated; no_model = no_model_of f.problem f.answered.1.refutation f.typed f.answered.1.refuted.accepted }
+    record { names = f.names; problem = f.problem; stated = f.stated; no_model = no_model_of f.problem (named_refutation (names_in f.problem) (taken_names f.problem) f.answered.1.refutation) f.typed (proof_accepted f.mode f.problem n text f.answered.1) }
 no_model_asked (Some (prove p file)) told contents (DemoDone claim n) h s =
     let f = files_answered (prove p file) told contents (DemoDone claim n) (λ x. x) h in absurd f.answered
 no_model_asked (Some (prove p file)) told contents Accepted h s =
@@ -178,13 +179,13 @@ no_model_asked (Some (refutation file p)) told contents (DemoDone claim n) h s =
     let f = files_answered (refutation file p) told contents (DemoDone claim n) (λ x. x) h in absurd f.answered.holds
 no_model_asked (Some (refutation file p)) told contents Accepted h s =
     let f = files_answered (refutation file p) told contents Accepted (λ x. x) h in
-    record { names = f.names; problem = f.problem; stated = f.stated; no_model = no_model_of f.problem (numbered_refutation (names_in f.problem) f.answered.holds.refutation) f.typed f.answered.holds.accepted }
+    record { names = f.names; problem = f.problem; stated = f.stated; no_model = no_model_of f.problem f.answered.holds.refutation f.typed f.answered.holds.accepted }
 no_model_asked (Some (generated k)) told contents (Proved claim n text) h s =
     let f = files_answered (generated k) told contents (Proved claim n text) (λ x. x) h in absurd f.answered
 no_model_asked (Some (generated k)) told contents (DemoDone claim n) h s =
     let f = files_answered (generated k) told contents (DemoDone claim n) (λ x. x) h in
     let proof = f.answered.1.1 in
-    record { names = f.names; problem = f.problem; stated = f.stated; no_model = no_model_of f.problem proof.refutation f.typed proof.refuted.accepted }
+    record { names = f.names; problem = f.problem; stated = f.stated; no_model = no_model_of f.problem (named_refutation (names_in f.problem) (taken_names f.problem) proof.refutation) f.typed (proof_accepted f.mode f.problem n f.answered.0 proof) }
 no_model_asked (Some (generated k)) told contents Accepted h s =
     let f = files_answered (generated k) told contents Accepted (λ x. x) h in absurd f.answered
 no_model_asked o told contents a h s = absurd s
@@ -200,7 +201,7 @@ proof_reported words told contents o a written answer is h w =
     let q = proved_answer (asked_by words) told contents a answer (subst IsProvedOutcome is h) in
     let p = q.problem in
     let reported : written ≡ report_of (name_of words) (Proved (claim_of p) q.commands q.text) = w ∙ ap (report_of (name_of words)) q.is in
-    let holds = subst (λ x. HoldsOnly (names_in p) x q.proof.refutation) (sym reported) (holds_report (claim_of p) (name_of words) q.mode p q.commands q.text q.proof (name_one_line words (prove q.name q.file) q.asked)) in
+    let holds = subst (λ x. HoldsOnly p x q.proof.refutation) (sym reported) (holds_report (claim_of p) (name_of words) q.mode p q.commands q.text q.proof (name_one_line words (prove q.name q.file) q.asked)) in
     record {
       mode = q.mode;
       asked = record { problem = q.name; file = q.file; asked = q.asked; is_mode = q.is_mode };
@@ -213,9 +214,9 @@ proof_reported words told contents o a written answer is h w =
       refuted = q.proof.refuted;
       is_report = reported ∙ ap (λ t. report_of (name_of words) (Proved (claim_of p) q.commands t)) q.proof.is_text;
       holds = holds;
-      accepted_text = accepted_text p written q.proof.refutation holds q.proof.refuted.accepted;
-      closed = accepted_closes_start (scope_of p.declared) (start p) q.proof.refutation q.proof.refuted.accepted;
-      no_model = no_model_of p q.proof.refutation q.typed q.proof.refuted.accepted;
+      accepted_text = accepted_report q.mode p q.commands q.text written q.proof holds;
+      closed = accepted_closes_start (scope_of p.declared) (start (unfolded_problem p)) q.proof.refutation q.proof.refuted.accepted;
+      no_model = no_model_of p (named_refutation (names_in p) (taken_names p) q.proof.refutation) q.typed (proof_accepted q.mode p q.commands q.text q.proof);
     }
 
 -- the bytes that are appended for an answer that is a proof
@@ -255,39 +256,6 @@ words_answer words told contents o a answer is e = words_asked (asked_by words) 
 pub outcome_whole : (words : List (List ℕ)) (told : Bool) (contents : List ℕ → Option (List ℕ)) (o : Outcome) (a : Answer) → IsAnswer words told contents a → o ≡ outcome_of a → IsOutcome words told contents o
 outcome_whole words told contents ended.WriteFault a answer is = tt
 outcome_whole words told contents o a answer is = (a, answer, is)
-
--- the cause of an answer's outcome, by what is known of each
-pub cause_of : (r : Request) (told : Bool) (contents : List ℕ → Option (List ℕ)) (before now : List ℕ → ℕ) (a : Answer)
-    → ((k : ℕ) (names : List (List ℕ)) → a ≡ ReadFault (Part k names) → IsFaultOf r told contents before now k)
-    → ((name : List ℕ) → a ≡ ReadFault (named.Mode name) → IsModeFault r before now)
-    → ((name : List ℕ) → a ≡ ReadFault (Check name) → IsTextFault r told contents before now)
-    → (IsNoReadFault a → (file : List ℕ) → now file ≡ before file) → HasCauseOf r told contents before now (outcome_of a)
-cause_of r told contents before now (ReadFault (Part k names)) f g h q = f k names refl
-cause_of r told contents before now (ReadFault (named.Mode name)) f g h q = g name refl
-cause_of r told contents before now (ReadFault (Check name)) f g h q = h name refl
-cause_of r told contents before now (Proved Theorem n text) f g h q = q tt
-cause_of r told contents before now (Proved Unsatisfiable n text) f g h q = q tt
-cause_of r told contents before now a f g h q = q tt
-
--- the text of a refutation is read only where one is to be checked
-part_stop : (names : List (List ℕ)) (name : List ℕ) (s : Stop) → ReadFault (Check name) ≡ stop_answer names s → ⊥
-part_stop names name (wants file) e = cc
-part_stop names name (too_long file) e = cc
-part_stop names name (no_tree file at) e = cc
-part_stop names name (cycle file at) e = cc
-part_stop names name (too_many file at) e = cc
-part_stop names name (no_name file at) e = cc
-
-pub no_text_asked : (p : List ℕ) (file : Option (List ℕ)) (told : Bool) (contents : List ℕ → Option (List ℕ)) (name : List ℕ) → AnswersRequest (prove p file) told contents (ReadFault (Check name)) → ⊥
-no_text_asked p file told contents name h = go h.files.ending h.files.holds
-  where
-    go : (e : Ending) → AnswersEnding (AnswersProblem told contents (prove p file) h.mode) h.names (ReadFault (Check name)) e → ⊥
-    go (stopped s) k = part_stop h.names name s k
-    go (done ss) k = stated (problem_of ss) k
-      where
-        stated : (r : Result PlainProblem IllInFile) → AnswersStated (AnswersProblem told contents (prove p file) h.mode) h.names (ReadFault (Check name)) r → ⊥
-        stated (Ok q) k = k
-        stated (Err ill) k = cc
 
 -- a fault has its count
 rose_of : (r : Request) (told : Bool) (contents : List ℕ → Option (List ℕ)) (before now : List ℕ → ℕ) (f : NamedFile) → HasCauseOf r told contents before now (outcome_of (ReadFault f)) → (file : List ℕ) × Rose (before file) (now file)

@@ -10,6 +10,7 @@ use Rattle.stt_tableau.specs.Closed.{Closes, tableau_of}
 use Rattle.stt_tableau.specs.Start.{start}
 use Rattle.stt_tableau.specs.declared.refutation.Refutation.{Refutation}
 use Rattle.mode_file.specs.declared.Mode.{Mode}
+use Rattle.delta_defs.specs.Unfolding.{taken_names, unfolded_problem}
 use Rattle.cli_words.specs.Requests.{prove, asked_by}
 use Rattle.tableau_run.specs.Ended.{IsRefuted}
 use Rattle.refute_text.specs.Text.{text_lines, as_bytes}
@@ -62,9 +63,10 @@ pub record IsAskedBy (words : List (List ℕ)) (told : Bool) (contents : List �
   pub is_mode : IsModeBy told contents file mode
 
 -- What is written where a proof is reported. The outcome is what the proof shows of the problem that the files state, and the bytes are its
--- report. They hold one refutation, which is accepted for the problem's start, so that they are an accepted text for the problem; the
--- tableau of its last line closes the start; after the number of commands that is reported, and not before, the clauses of the search are
--- unsatisfiable, and from these clauses the refutation comes; and no standard model with finite base types meets the problem.
+-- report. They hold one refutation, with the names of the definitions that are taken, so that they are an accepted text for the problem. It
+-- is accepted for the start of the unfolded problem, and the tableau of its last line closes that start. After the number of commands that is
+-- reported, and not before, the clauses of the search are unsatisfiable, and from these clauses the refutation comes. No standard model with
+-- finite base types meets the problem.
 pub record IsProofReport (words : List (List ℕ)) (told : Bool) (contents : List ℕ → Option (List ℕ)) (outcome : Outcome) (written : List ℕ) : Type 0 where
   pub mode : Mode
   pub asked : IsAskedBy words told contents mode
@@ -74,11 +76,11 @@ pub record IsProofReport (words : List (List ℕ)) (told : Bool) (contents : Lis
   pub is_outcome : outcome ≡ claim_outcome (claim_of problem)
   pub commands : ℕ
   pub refutation : Refutation
-  pub refuted : IsRefuted problem mode commands refutation
-  pub is_report : written ≡ report_of (name_of words) (Proved (claim_of problem) commands (as_bytes (text_lines (named_refutation (names_in problem) refutation))))
-  pub holds : HoldsOnly (names_in problem) written refutation
+  pub refuted : IsRefuted (unfolded_problem problem) mode commands refutation
+  pub is_report : written ≡ report_of (name_of words) (Proved (claim_of problem) commands (as_bytes (text_lines (named_refutation (names_in problem) (taken_names problem) refutation))))
+  pub holds : HoldsOnly problem written refutation
   pub accepted_text : IsAcceptedText problem written
-  pub closed : Closes (with_rows (scope_of problem.declared) refutation.witnesses) refutation.witnesses (tableau_of refutation) (start problem)
+  pub closed : Closes (with_rows (scope_of problem.declared) refutation.witnesses) refutation.witnesses (tableau_of refutation) (start (unfolded_problem problem))
   pub no_model : IsWithoutModel problem
 
 -- the bytes appended to old are written as one of the reports for which R holds

@@ -1,0 +1,171 @@
+-- What files are answered with is what a request is.
+use Rattle.std.proofs.Common.{◌≡◌, ◌<◌, ◌⊎◌, inl, inr, ℕ, Bool, true, IsTrue, List, [], ◌∷◌, length, Option, Some, None, Result, Ok, Err, refl, sym, ap, subst, ◌∙◌}
+use Rattle.outside.specs.Causes.{Rose}
+use Rattle.stt_core.specs.PlainProblem.{PlainProblem}
+use Rattle.thf_include.specs.Answer.{AreContents}
+use Rattle.thf_include.specs.Gathering.{Ending, done, stopped, Stop, wants, too_long, no_tree, cycle, too_many, no_name}
+use Rattle.type_check.specs.Statements.{IllInFile, problem_of}
+use Rattle.mode_file.specs.declared.Mode.{Mode}
+use Rattle.mode_file.specs.Given.{nothing, mode_of}
+use Rattle.cli_words.specs.Requests.{Request, prove, refutation, generated}
+use Rattle.problem_gen.specs.Chain.{text}
+use Rattle.szs_report.specs.Outcomes.{outcome_of}
+use Rattle.szs_report.specs.declared.answer.Answer.{Answer}
+use Rattle.szs_report.specs.declared.answer.Answer.TheVariants.{Proved, SyntaxAt, TypeAt, IncludeAt, ModeAt, TooLong, ReadFault, Memory}
+use Rattle.szs_report.specs.declared.answer.Claim.TheVariants.{Theorem, Unsatisfiable}
+use Rattle.szs_report.specs.declared.answer.NamedFile.TheVariants.{Part, Check}
+use Rattle.szs_report.specs.declared.answer.NamedFile.TheVariants as named
+use Rattle.request_answers.specs.Requested.{problem_name, told_of, contents_of, mode_file}
+use Rattle.request_answers.specs.Files.{OfFiles, Statements}
+use Rattle.request_answers.specs.Modes.{byte_limit, IsModeBy}
+use Rattle.request_answers.specs.Solved.{IsDemoed}
+use Rattle.request_answers.specs.Answers.{stop_answer, AnswersProblem, AnswersStated, AnswersEnding, AnswersFiles, AnswersRequest}
+use Rattle.request_answers.specs.Causes.{IsFaultIn, IsFaultOf, IsModeFault, IsTextFault, IsNoReadFault, HasCauseOf}
+use Rattle.request_answers.specs.Means.Unread.{IsUnaskedMode, IsUnstated, IsUnread, IsFilesAnswer}
+
+-- an answer of a mode's file
+abbrev IsOfMode : Answer → Type 0
+IsOfMode (ReadFault (named.Mode file)) = Unit {0}
+IsOfMode (TooLong (named.Mode file)) = Unit {0}
+IsOfMode (ModeAt line why) = Unit {0}
+IsOfMode a = ⊥
+
+stop_not_mode : (names : List (List ℕ)) (s : Stop) → IsOfMode (stop_answer names s) → ⊥
+stop_not_mode names (wants file) h = h
+stop_not_mode names (too_long file) h = h
+stop_not_mode names (no_tree file at) h = h
+stop_not_mode names (cycle file at) h = h
+stop_not_mode names (too_many file at) h = h
+stop_not_mode names (no_name file at) h = h
+
+problem_not_mode : (told : Bool) (contents : List ℕ → Option (List ℕ)) (r : Request) (m : Mode) (p : PlainProblem) (a : Answer) → IsOfMode a → AnswersProblem told contents r m p a → ⊥
+problem_not_mode told contents (prove q file) m p (ReadFault (named.Mode f)) o h = h
+problem_not_mode told contents (prove q file) m p (TooLong (named.Mode f)) o h = h
+problem_not_mode told contents (prove q file) m p (ModeAt line why) o h = h
+problem_not_mode told contents (refutation t q) m p (ReadFault (named.Mode f)) o h = h.holds
+problem_not_mode told contents (refutation t q) m p (TooLong (named.Mode f)) o h = h.holds
+problem_not_mode told contents (refutation t q) m p (ModeAt line why) o h = h.holds
+problem_not_mode told contents (generated n) m p (ReadFault (named.Mode f)) o h = h
+problem_not_mode told contents (generated n) m p (TooLong (named.Mode f)) o h = h
+problem_not_mode told contents (generated n) m p (ModeAt line why) o h = h
+problem_not_mode told contents r m p a o h = absurd o
+
+ending_not_mode : (told : Bool) (contents : List ℕ → Option (List ℕ)) (r : Request) (m : Mode) (names : List (List ℕ)) (a : Answer) (e : Ending) → IsOfMode a → AnswersEnding (AnswersProblem told contents r m) names a e → ⊥
+ending_not_mode told contents r m names a (stopped s) o h = stop_not_mode names s (subst IsOfMode h o)
+ending_not_mode told contents r m names a (done ss) o h = go (problem_of ss) h
+  where
+    go : (q : Result PlainProblem IllInFile) → AnswersStated (AnswersProblem told contents r m) names a q → ⊥
+    go (Ok p) k = problem_not_mode told contents r m p a o k
+    go (Err ill) k = subst IsOfMode k o
+
+-- files are answered as their request is, by its mode
+pub files_request : (r : Request) (told : Bool) (contents : List ℕ → Option (List ℕ)) (m : Mode) → IsModeBy told contents (mode_file r) m → (a : Answer) → IsFilesAnswer (AnswersProblem told contents r m) (problem_name r) (told_of told r) (contents_of contents r) a → AnswersRequest r told contents a
+files_request r told contents m mode Memory h = tt
+files_request r told contents m mode (ReadFault (named.Mode f)) h = absurd (ending_not_mode told contents r m h.0 (ReadFault (named.Mode f)) h.1.ending tt h.1.holds)
+files_request r told contents m mode (TooLong (named.Mode f)) h = absurd (ending_not_mode told contents r m h.0 (TooLong (named.Mode f)) h.1.ending tt h.1.holds)
+files_request r told contents m mode (ModeAt line why) h = absurd (ending_not_mode told contents r m h.0 (ModeAt line why) h.1.ending tt h.1.holds)
+files_request r told contents m mode a h = record { mode = m; is_mode = mode; names = h.0; files = h.1 }
+
+-- a mode's file that isn't read
+pub mode_request : (p : List ℕ) (file : Option (List ℕ)) (told : Bool) (contents : List ℕ → Option (List ℕ)) (a : Answer) → IsUnaskedMode told contents file a → AnswersRequest (prove p file) told contents a
+mode_request p None told contents a h = absurd h
+mode_request p (Some file) told contents Memory h = tt
+mode_request p (Some file) told contents (ReadFault (named.Mode own)) h = ap Some (sym h)
+mode_request p (Some file) told contents (TooLong (named.Mode own)) h = (ap Some (sym h.0), subst (λ f. IsTrue told → (bytes : List ℕ) × (contents f ≡ Some bytes) × (byte_limit < length bytes)) (sym h.0) h.1)
+mode_request p (Some file) told contents (ModeAt line why) h = h
+mode_request p (Some file) told contents a h = absurd h
+
+-- contents that are the same under each name
+same_contents : (one other : List ℕ → Option (List ℕ)) → ((f : List ℕ) → one f ≡ other f) → (names texts : List (List ℕ)) → AreContents one names texts → AreContents other names texts
+same_contents one other same names [] h = tt
+same_contents one other same [] (t ∷ ts) h = h
+same_contents one other same (n ∷ names) (t ∷ ts) h = (sym (same n) ∙ h.0, same_contents one other same names ts h.1)
+
+-- a generated problem is answered as its request is
+pub demo_request : (n : ℕ) (held : Bool) (one : List ℕ → Option (List ℕ)) → IsTrue held → ((f : List ℕ) → one f ≡ Some (text n)) → (a : Answer) → IsFilesAnswer (IsDemoed (mode_of nothing)) (problem_name (generated n)) held one a → (told : Bool) (contents : List ℕ → Option (List ℕ)) → AnswersRequest (generated n) told contents a
+demo_request n held one is same a h told contents = files_request (generated n) told contents (mode_of nothing) refl a (moved a h)
+  where
+    moved : (a : Answer) → IsFilesAnswer (IsDemoed (mode_of nothing)) (problem_name (generated n)) held one a → IsFilesAnswer (AnswersProblem told contents (generated n) (mode_of nothing)) (problem_name (generated n)) true (λ f. Some (text n)) a
+    moved Memory h = tt
+    moved a h = (
+      h.0,
+      record {
+        texts = h.1.texts;
+        told_texts = λ _. same_contents one (λ f. Some (text n)) same h.0 h.1.texts (h.1.told_texts is);
+        ending = h.1.ending;
+        gathers = h.1.gathers;
+        holds = h.1.holds;
+      },
+    )
+
+-- a fault is one from the beginning on, where nothing has changed before
+pub fault_before : (name : List ℕ) (told : Bool) (contents : List ℕ → Option (List ℕ)) (t : Bool) (c : List ℕ → Option (List ℕ)) (before old now : List ℕ → ℕ) (k : ℕ) → t ≡ told → c ≡ contents → ((f : List ℕ) → old f ≡ before f) → IsFaultIn name t c old now k → IsFaultIn name told contents before now k
+fault_before name told contents t c before old now k e f same h = record {
+  names = h.names;
+  file = h.file;
+  named = h.named;
+  wanted = subst (λ x. OfFiles name told x h.names (λ ending. ending ≡ stopped (wants k))) f (subst (λ b. OfFiles name b c h.names (λ ending. ending ≡ stopped (wants k))) e h.wanted);
+  rose = subst (λ n. Rose n (now h.file)) (same h.file) h.rose;
+}
+
+-- the cause of an answer's outcome, by what is known of each
+pub cause_of : (r : Request) (told : Bool) (contents : List ℕ → Option (List ℕ)) (before now : List ℕ → ℕ) (a : Answer)
+    → ((k : ℕ) (names : List (List ℕ)) → a ≡ ReadFault (Part k names) → IsFaultOf r told contents before now k)
+    → ((name : List ℕ) → a ≡ ReadFault (named.Mode name) → IsModeFault r before now)
+    → ((name : List ℕ) → a ≡ ReadFault (Check name) → IsTextFault r told contents before now)
+    → (IsNoReadFault a → (file : List ℕ) → now file ≡ before file) → HasCauseOf r told contents before now (outcome_of a)
+cause_of r told contents before now (ReadFault (Part k names)) f g h q = f k names refl
+cause_of r told contents before now (ReadFault (named.Mode name)) f g h q = g name refl
+cause_of r told contents before now (ReadFault (Check name)) f g h q = h name refl
+cause_of r told contents before now (Proved Theorem n text) f g h q = q tt
+cause_of r told contents before now (Proved Unsatisfiable n text) f g h q = q tt
+cause_of r told contents before now a f g h q = q tt
+
+-- the text of a refutation is read only where one is to be checked
+part_stop : (names : List (List ℕ)) (name : List ℕ) (s : Stop) → ReadFault (Check name) ≡ stop_answer names s → ⊥
+part_stop names name (wants file) e = cc
+part_stop names name (too_long file) e = cc
+part_stop names name (no_tree file at) e = cc
+part_stop names name (cycle file at) e = cc
+part_stop names name (too_many file at) e = cc
+part_stop names name (no_name file at) e = cc
+
+pub no_text_asked : (p : List ℕ) (file : Option (List ℕ)) (told : Bool) (contents : List ℕ → Option (List ℕ)) (name : List ℕ) → AnswersRequest (prove p file) told contents (ReadFault (Check name)) → ⊥
+no_text_asked p file told contents name h = go h.files.ending h.files.holds
+  where
+    stated : (r : Result PlainProblem IllInFile) → AnswersStated (AnswersProblem told contents (prove p file) h.mode) h.names (ReadFault (Check name)) r → ⊥
+    stated (Ok q) k = k
+    stated (Err ill) k = cc
+
+    go : (e : Ending) → AnswersEnding (AnswersProblem told contents (prove p file) h.mode) h.names (ReadFault (Check name)) e → ⊥
+    go (stopped s) k = part_stop h.names name s k
+    go (done ss) k = stated (problem_of ss) k
+
+-- the mode's file is the one that is asked for
+pub mode_fault : (r : Request) (told : Bool) (contents : List ℕ → Option (List ℕ)) (before now : List ℕ → ℕ) (name : List ℕ) → AnswersRequest r told contents (ReadFault (named.Mode name)) → Rose (before name) (now name) → IsModeFault r before now
+mode_fault r told contents before now name h rose = record { file = name; named = h; rose = rose }
+
+-- what isn't read without a fault is answered without one
+unread_ending : (names : List (List ℕ)) (a : Answer) (e : Ending) → (IsOfMode a → ⊥) → IsUnstated names a e → IsNoReadFault a ⊎ ((k : ℕ) × (a ≡ ReadFault (Part k names)))
+unread_ending names a (done ss) apart h = inl (subst IsNoReadFault (sym h.answered) tt)
+unread_ending names a (stopped (wants file)) apart h = inr (file, h)
+unread_ending names a (stopped (too_long file)) apart h = inl (subst IsNoReadFault (sym h) tt)
+unread_ending names a (stopped (no_tree file at)) apart h = inl (subst IsNoReadFault (sym h) tt)
+unread_ending names a (stopped (cycle file at)) apart h = inl (subst IsNoReadFault (sym h) tt)
+unread_ending names a (stopped (too_many file at)) apart h = inl (subst IsNoReadFault (sym h) tt)
+unread_ending names a (stopped (no_name file at)) apart h = inl (subst IsNoReadFault (sym h) tt)
+
+no_fault_there : (name : List ℕ) (told : Bool) (contents : List ℕ → Option (List ℕ)) (names : List (List ℕ)) (a : Answer) → ((k : ℕ) (ns : List (List ℕ)) → a ≡ ReadFault (Part k ns) → ⊥) → OfFiles name told contents names (IsUnstated names a) → (IsOfMode a → ⊥) → IsNoReadFault a
+no_fault_there name told contents names a f h apart = go (unread_ending names a h.ending apart h.holds)
+  where
+    go : IsNoReadFault a ⊎ ((k : ℕ) × (a ≡ ReadFault (Part k names))) → IsNoReadFault a
+    go (inl q) = q
+    go (inr q) = absurd (f q.0 names q.1)
+
+unstated_not_mode : (names : List (List ℕ)) (a : Answer) (e : Ending) → IsUnstated names a e → IsOfMode a → ⊥
+unstated_not_mode names a (done ss) h o = subst IsOfMode h.answered o
+unstated_not_mode names a (stopped s) h o = stop_not_mode names s (subst IsOfMode h o)
+
+pub unread_no_fault : (name : List ℕ) (told : Bool) (contents : List ℕ → Option (List ℕ)) (a : Answer) → ((k : ℕ) (ns : List (List ℕ)) → a ≡ ReadFault (Part k ns) → ⊥) → IsUnread name told contents a → IsNoReadFault a
+unread_no_fault name told contents Memory f h = tt
+unread_no_fault name told contents a f h = no_fault_there name told contents h.0 a f h.1 (unstated_not_mode h.0 a h.1.ending h.1.holds)

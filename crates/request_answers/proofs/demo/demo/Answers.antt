@@ -1,0 +1,35 @@
+use Rattle.std.proofs.Common.{ℕ, List, Option, Some, Err, true, ◌≡◌, refl, sym, ap, subst, ◌∙◌, arith}
+use Rattle.mode_file.specs.Given.{nothing, mode_of}
+use Rattle.cli_words.specs.Requests.{generated}
+use Rattle.refute_read.specs.Reading.{is_one_line}
+use Rattle.request_answers.specs.Requested.{problem_name}
+use Rattle.request_answers.specs.Files.{OfFiles, Statements}
+use Rattle.request_answers.specs.Solved.{IsDemoed}
+use Rattle.request_answers.specs.Means.Unread.{IsUnread}
+use Rattle.request_answers.proofs.AnswerLaws.{unread_answers, stated_answers}
+use Rattle.request_answers.proofs.FileLaws.{demo_request, unread_no_fault}
+use Rattle.request_answers.proofs.OneLine.{demo_one_line}
+use Rattle.request_answers.proofs.demo.demo.Goals as goal
+
+pub demo_answer-requires-clause-named : goal.demo_answer-requires-clause-named
+demo_answer-requires-clause-named c = subst (λ x. is_one_line x ≡ true) (sym c.requires.named) (demo_one_line c.args.n)
+
+pub returns-in-Ok-read_problem-clause-answers : goal.returns-in-Ok-read_problem-clause-answers
+returns-in-Ok-read_problem-clause-answers c =
+    let one : List ℕ → Option (List ℕ) = λ f. Some c.new-files.result.bytes in
+    let p = c.in-Ok-read_problem.problem in
+    let stated = subst (λ x. (names : List (List ℕ)) × OfFiles x true one names (Statements p)) c.requires.named c.in-Ok-read_problem.ensures.stated in
+    demo_request c.args.n true one refl (λ f. c.new-files.ensures.contents f ∙ ap Some c.in-Ok.ensures) c.demo_answer.result
+    (stated_answers (IsDemoed (mode_of nothing)) (problem_name (generated c.args.n)) true one p c.demo_answer.result stated.0 stated.1 c.demo_answer.ensures)
+
+pub returns-clause-answers : goal.returns-clause-answers
+returns-clause-answers c =
+    let one : List ℕ → Option (List ℕ) = λ f. Some c.new-files.result.bytes in
+    let unread = subst (λ x. IsUnread x true one c.in-Err.answer) c.requires.named c.in-Err.ensures.unread in
+    demo_request c.args.n true one refl (λ f. c.new-files.ensures.contents f ∙ ap Some c.in-Ok.ensures) c.in-Err.answer
+    (unread_answers (IsDemoed (mode_of nothing)) (problem_name (generated c.args.n)) true one c.in-Err.answer unread)
+
+pub returns-clause-quiet : goal.returns-clause-quiet
+returns-clause-quiet c =
+    let one : List ℕ → Option (List ℕ) = λ f. Some c.new-files.result.bytes in
+    unread_no_fault c.args.name.now true one c.in-Err.answer (λ k names e. let h = c.read_problem.ensures.fault k names (c.in-Err.is ∙ ap Err e) in let rose = h.rose in omega (arith, rose)) c.in-Err.ensures.unread
