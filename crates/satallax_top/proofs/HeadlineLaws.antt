@@ -69,12 +69,12 @@ pub record EndsAnswered (Answers : PlainProblem → Answer → Type 0) (a : Answ
   pub answered : Answers problem a
 
 pub ending_answered : (Answers : PlainProblem → Answer → Type 0) (names : List (List ℕ)) (a : Answer) (e : Ending) → (IsRefusal a → ⊥) → AnswersEnding Answers names a e → EndsAnswered Answers a e
-ending_answered Answers names a (stopped s) no h = absurd (no (subst IsRefusal (sym h) (stop_refusal names s)))
-ending_answered Answers names a (done ss) no h = go (problem_of ss) refl h
+ending_answered Answers names a (stopped s) other h = absurd (other (subst IsRefusal (sym h) (stop_refusal names s)))
+ending_answered Answers names a (done ss) other h = go (problem_of ss) refl h
   where
     go : (r : Result PlainProblem IllInFile) → problem_of ss ≡ r → AnswersStated Answers names a r → EndsAnswered Answers a (done ss)
     go (Ok p) e k = record { problem = p; stated = record { statements = ss; gathered = refl; read = e }; typed = problem_of-typed ss p e; answered = k }
-    go (Err ill) e k = absurd (no (subst IsRefusal (sym k) tt))
+    go (Err ill) e k = absurd (other (subst IsRefusal (sym k) tt))
 
 -- so are files
 pub record FilesAnswered (r : Request) (told : Bool) (contents : List ℕ → Option (List ℕ)) (a : Answer) : Type 0 where
@@ -87,8 +87,8 @@ pub record FilesAnswered (r : Request) (told : Bool) (contents : List ℕ → Op
   pub answered : AnswersProblem told contents r mode problem a
 
 pub files_answered : (r : Request) (told : Bool) (contents : List ℕ → Option (List ℕ)) (a : Answer) → (IsRefusal a → ⊥) → AnswersFiles r told contents a → FilesAnswered r told contents a
-files_answered r told contents a no h =
-    let e = ending_answered (AnswersProblem told contents r h.mode) h.names a h.files.ending no h.files.holds in
+files_answered r told contents a other h =
+    let e = ending_answered (AnswersProblem told contents r h.mode) h.names a h.files.ending other h.files.holds in
     record {
       mode = h.mode;
       is_mode = h.is_mode;

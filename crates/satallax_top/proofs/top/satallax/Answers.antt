@@ -1,6 +1,19 @@
-use Rattle.std.proofs.Common.{sym, ap, subst, ◌++◌, ◌∙◌}
-use Rattle.outside.specs.Prefix.{AppendsProperly}
+use Rattle.std.proofs.Common.{ap, ◌++◌, ◌∙◌}
 use Rattle.szs_report.specs.Report.{report_of}
-use Rattle.request_answers.specs.Causes.{HasCause}
-use Rattle.satallax_top.proofs.HeadlineLaws.{outcome_whole, written_whole, proof_appended, no_model_answer, defined_answer, words_answer, no_write_fault}
+use Rattle.satallax_top.proofs.HeadlineLaws.{proof_appended, no_model_answer, defined_answer}
 use Rattle.satallax_top.proofs.top.satallax.Goals as goal
+
+pub returns-in-Ok-clause-proof : goal.returns-in-Ok-clause-proof
+returns-in-Ok-clause-proof g c = λ told proved.
+    let a = c.call-called.result.answer in
+    let old = g.S.Sink.written c.args.out.now in
+    proof_appended c.args.words.now (g.F.Files.tells c.args.files.now) (g.F.Files.contents c.args.files.now) c.outcome.result a old (g.S.Sink.written c.write_report.new.out) c.call-called.ensures.answers c.outcome.ensures
+    (c.in-Ok.ensures.appended told ∙ ap (λ name. old ++ report_of name a) c.as_bytes.ensures.value ∙ ap (λ r. old ++ r) c.call-called.ensures.reported) proved
+
+pub returns-in-Ok-clause-no_model : goal.returns-in-Ok-clause-no_model
+returns-in-Ok-clause-no_model g c = λ shows.
+    no_model_answer c.args.words.now (g.F.Files.tells c.args.files.now) (g.F.Files.contents c.args.files.now) c.outcome.result c.call-called.result.answer c.call-called.ensures.answers c.outcome.ensures shows
+
+pub returns-in-Ok-clause-complete : goal.returns-in-Ok-clause-complete
+returns-in-Ok-clause-complete g c = λ told quiet still.
+    defined_answer c.args.words.now (g.F.Files.tells c.args.files.now) (g.F.Files.contents c.args.files.now) (g.F.Files.faults c.args.files.now) (g.F.Files.faults c.call-called.new.files) c.outcome.result c.call-called.result.answer c.call-called.ensures.answers c.outcome.ensures told c.call-called.ensures.cause quiet
