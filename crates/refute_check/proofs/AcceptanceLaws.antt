@@ -1,5 +1,7 @@
 -- Accepted texts.
 use Rattle.std.proofs.Common.{◌≡◌, ◌<◌, ℕ, ◌+◌, List, [], ◌∷◌, Result, Ok, Err, OnOk, IfErr, map, length, slice_get, refl, sym, ap, subst, ◌∙◌, arith}
+use Rattle.std.specs.List.{AllByRecursion}
+use Rattle.std.proofs.lemmas.List.{length-map}
 use Rattle.stt_core.specs.Meaning.{Model, IsModel}
 use Rattle.stt_core.specs.Declarations.{scope_of}
 use Rattle.stt_core.specs.TypedProblem.{IsTyped}
@@ -12,16 +14,18 @@ use Rattle.stt_tableau.specs.declared.refutation.Why.{Why}
 use Rattle.stt_tableau.specs.declared.refutation.Why.TheVariants.{Defs}
 use Rattle.stt_tableau.proofs.Soundness.{accepted_refutes}
 use Rattle.stt_tableau.proofs.StartMeets.{start_unnamed, start_met}
-use Rattle.stt_tableau.proofs.FirstFailureLaws.{accepted_no_failure}
+use Rattle.stt_tableau.proofs.FirstFailureLaws.{accepted_no_failure, one_first_failure}
 use Rattle.delta_defs.specs.Definitions.{Definition}
-use Rattle.delta_defs.specs.Unfolding.{definitions_of, unfolded_problem}
+use Rattle.delta_defs.specs.Unfolding.{definitions_of, taken_names, unfolded_problem}
+use Rattle.delta_defs.specs.Laws.{AreDeclared}
 use Rattle.delta_defs.proofs.KeptModels.{keeps_models, keeps_types}
 use Rattle.delta_defs.proofs.UnfoldedOnce.{nothing_unfolded, unfold_twice}
 use Rattle.refute_text.specs.Trees.{RefutationTree}
-use Rattle.refute_text.specs.Named.{names_of, name_at}
+use Rattle.refute_text.specs.Named.{names_of, name_at, named_refutation, ArePlaces}
 use Rattle.refute_check.specs.Numbered.{numbered_refutation}
 use Rattle.refute_check.specs.Refusal.{IfLine, FailsAt}
 use Rattle.refute_check.specs.Acceptance.{taken_texts, NamesDefinitions, refuted_problem, IsAcceptedFor, DifferFirst, TextFailsAt, at_definition, behind_definitions}
+use Rattle.refute_check.proofs.DefinitionLaws.{differ_once}
 use Rattle.refute_check.specs.declared.refusal.CheckRefused.{CheckRefused}
 use Rattle.refute_check.specs.declared.refusal.CheckRefused.TheVariants.{Line, Memory}
 
@@ -85,6 +89,19 @@ module _ (p : PlainProblem) where
     fails_not_accepted first line why (behind_definitions _ _ names fails) h =
         accepted_no_failure (scope_of p.declared) (start (refuted_problem p t.names)) the_refutation fails.place why fails.is_first h.refutation
 
+    -- a text fails first at one line, for one cause
+    pub one_text_failure : (first line other : ℕ) (why cause : Why) → TextFailsAt p t first line why → TextFailsAt p t first other cause → (line ≡ other) × (why ≡ cause)
+    one_text_failure first _ _ _ _ (at_definition i line some d is) (at_definition k other _ e are) =
+        let same = differ_once t.names (taken_texts p) i k d e in
+        (omega (arith, is, are, same), refl)
+    one_text_failure first _ _ _ _ (at_definition i line some d is) (behind_definitions other cause names g) =
+        absurd (d.other (ap (λ l. slice_get l i) (named t.names some names)))
+    one_text_failure first _ _ _ _ (behind_definitions line why names f) (at_definition k other some e are) =
+        absurd (e.other (ap (λ l. slice_get l k) (named t.names some names)))
+    one_text_failure first _ _ _ _ (behind_definitions line why names f) (behind_definitions other cause _ g) =
+        let h = one_first_failure (scope_of p.declared) (start (refuted_problem p t.names)) the_refutation f.place g.place why cause f.is_first g.is_first in
+        (f.line_is ∙ ap (λ n. first + n) h.0 ∙ sym g.line_is, h.1)
+
   -- a model of the problem meets what a text refutes, which is typed
   module _ (typed : IsTyped p) (m : Model) (good : IsModel (scope_of p.declared) m) (met : MeetsProblem p m) where
     refuted_meets : (names : List (List ℕ)) → IsTyped (refuted_problem p names) × MeetsProblem (refuted_problem p names) m
@@ -121,6 +138,17 @@ module _ (p : PlainProblem) where
       go : (names : List (List ℕ)) → taken_texts p ≡ names → start (refuted_problem p names) ≡ start (unfolded_problem p)
       go [] e = sym (ap start (nothing_unfolded p (none_taken (definitions_of p) refl e)))
       go (w ∷ names) e = refl
+
+  -- a refutation of the unfolded problem, with the names that are taken
+  pub named_accepted : (r : Refutation) → numbered_refutation (names_of p.declared.bases p.declared.consts) (named_refutation (names_of p.declared.bases p.declared.consts) (taken_names p) r) ≡ r → IsAccepted (scope_of p.declared) (start (unfolded_problem p)) r → IsAcceptedFor p (named_refutation (names_of p.declared.bases p.declared.consts) (taken_names p) r)
+  named_accepted r numbered h = record {
+    definitions = taken_named;
+    refutation = subst (λ ls. IsAccepted (scope_of p.declared) ls (numbered_refutation (names_of p.declared.bases p.declared.consts) (named_refutation (names_of p.declared.bases p.declared.consts) (taken_names p) r))) (sym taken_start) (subst (IsAccepted (scope_of p.declared) (start (unfolded_problem p))) (sym numbered) h);
+  }
+
+  -- declared places are those of names
+  pub places_named : (ks : List ℕ) → AreDeclared p ks → ArePlaces (names_of p.declared.bases p.declared.consts) ks
+  places_named ks h = subst (λ n. AllByRecursion (λ k. k < n) ks) (sym (length-map p.declared.consts (λ c. c.name))) h
 
   pub start_once : start (unfolded_problem (unfolded_problem p)) ≡ start (unfolded_problem p)
   start_once = ap start (unfold_twice p)

@@ -1,6 +1,7 @@
 -- The names of definitions, compared place by place.
-use Rattle.std.proofs.Common.{◌≡◌, ◌<◌, ◌≤◌, ℕ, ◌+◌, zero, suc, List, [], ◌∷◌, ◌++◌, Option, Some, None, map, length, take, slice_get, unwrap_or, option_map, refl, sym, ap, ap₂, subst, ◌∙◌, arith, take_all}
+use Rattle.std.proofs.Common.{◌≡◌, ◌<◌, ◌≤◌, ◌⊎◌, inl, inr, ℕ, ◌+◌, zero, suc, List, [], ◌∷◌, ◌++◌, Some, map, length, take, slice_get, unwrap_or, option_map, refl, sym, ap, ap₂, subst, ◌∙◌, arith, take_all}
 use Rattle.std.specs.List.{AllByRecursion}
+use Rattle.std.proofs.lemmas.Bool.{cases_lt}
 use Rattle.stt_core.specs.TypedName.{TypedName}
 use Rattle.stt_core.proofs.ListLaws.{take_got, mapped_get}
 use Rattle.refute_text.specs.Named.{name_at}
@@ -32,6 +33,26 @@ module _ (names taken : List (List ℕ)) where
 
   pub same_further : (i : ℕ) (name : List ℕ) → take i names ≡ take i taken → slice_get names i ≡ Some name → slice_get taken i ≡ Some name → take (i + 1) names ≡ take (i + 1) taken
   same_further i name same at there = take_got names i name at ∙ ap (λ l. l ++ name ∷ []) same ∙ sym (take_got taken i name there)
+
+took_there : (xs : List (List ℕ)) (m n : ℕ) → m < n → slice_get (take n xs) m ≡ slice_get xs m
+took_there [] m zero h = refl
+took_there [] m (suc n) h = refl
+took_there (x ∷ xs) zero zero h = absurd (omega (arith, h))
+took_there (x ∷ xs) zero (suc n) h = refl
+took_there (x ∷ xs) (suc m) zero h = absurd (omega (arith, h))
+took_there (x ∷ xs) (suc m) (suc n) h = took_there xs m n (omega (arith, h))
+
+-- two lists differ first at one place
+not_before : (names taken : List (List ℕ)) (i k : ℕ) → DifferFirst names taken i → DifferFirst names taken k → i < k → ⊥
+not_before names taken i k d e h = d.other (sym (took_there names i k h) ∙ ap (λ l. slice_get l i) e.same ∙ took_there taken i k h)
+
+pub differ_once : (names taken : List (List ℕ)) (i k : ℕ) → DifferFirst names taken i → DifferFirst names taken k → i ≡ k
+differ_once names taken i k d e = go (cases_lt i k) (cases_lt k i)
+  where
+    go : (i < k) ⊎ (k ≤ i) → (k < i) ⊎ (i ≤ k) → i ≡ k
+    go (inl a) b = absurd (not_before names taken i k d e a)
+    go (inr a) (inl b) = absurd (not_before names taken k i e d b)
+    go (inr a) (inr b) = omega (arith, a, b)
 
 differ_behind : (names taken : List (List ℕ)) → names ≡ take (length names) taken → (length names ≡ length taken → ⊥) → DifferFirst names taken (length names)
 differ_behind [] [] e h = absurd (h refl)

@@ -18,5 +18,5 @@ mod term_numbers;
 mod witnesses;
 
 pub use check::check_refutation;
-pub use law::{accepted_texts_refute, unfolded_start};
+pub use law::{accepted_texts_refute, one_refusal, unfolded_start};
 pub use refusal::CheckRefused;

@@ -1,5 +1,5 @@
 -- The lines of definitions.
-use Rattle.std.proofs.Common.{◌≡◌, ℕ, true, List, [], ◌∷◌, ◌++◌, Some, codes, refl, sym, ap, ◌∙◌, append-nil}
+use Rattle.std.proofs.Common.{◌≡◌, ℕ, true, List, [], ◌++◌, Some, codes, refl, sym, ap, ◌∙◌, append-nil}
 use Rattle.refute_text.specs.Letters.{name_text, is_name}
 use Rattle.refute_text.specs.Text.{definition_text}
 use Rattle.refute_read.specs.Means.Reader.{behind, name_at}

@@ -1,5 +1,5 @@
 -- Refutations that are small enough for a text, whatever names it has: terms aren't too deep, and numbers are in range.
-use Rattle.std.specs.Prelude.{ℕ, zero, suc, ◌^◌, ◌<◌, ◌≤◌, max, List, length}
+use Rattle.std.specs.Prelude.{ℕ, suc, ◌^◌, ◌<◌, ◌≤◌, max, List, length}
 use Rattle.std.specs.List.{AllByRecursion}
 use Rattle.stt_core.specs.SimpleType.{SimpleType, base, arrow}
 use Rattle.stt_core.specs.Lambda.{Constant, name, witness, falsity, negation, implication, all, equality, choice, description, Lambda, bound, constant, lam, app}

@@ -1,4 +1,4 @@
-use Rattle.std.proofs.Common.{map, length, sym, ◌∙◌, arith}
+use Rattle.std.proofs.Common.{map, sym, ◌∙◌, arith}
 use Rattle.std.proofs.lemmas.List.{length-map}
 use Rattle.refute_text.specs.Named.{names_of, name_at}
 use Rattle.refute_check.proofs.DefinitionLaws.{same_further, differ_in_length}

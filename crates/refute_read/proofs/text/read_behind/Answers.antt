@@ -1,6 +1,5 @@
-use Rattle.std.proofs.Common.{◌≡◌, ◌+◌, ◌-◌, ◌∷◌, ◌++◌, IfOk, IfErr, codes, sym, ap, subst, ◌∙◌, arith}
+use Rattle.std.proofs.Common.{◌≡◌, ◌+◌, ◌-◌, ◌∷◌, ◌++◌, IfErr, sym, ap, subst, ◌∙◌, arith}
 use Rattle.refute_text.specs.Text.{text_lines}
-use Rattle.refute_text.specs.TextView.{the_text}
 use Rattle.refute_read.specs.Reading.{lines_of}
 use Rattle.refute_read.specs.Means.Places.{RefusesBehind}
 use Rattle.refute_read.specs.declared.refusal.TextRefused.TheVariants.{NoEnd}

@@ -1,4 +1,4 @@
-use Rattle.std.proofs.Common.{◌≡◌, ◌<◌, ◌^◌, ◌++◌, sym, subst, ◌∙◌, arith}
+use Rattle.std.proofs.Common.{◌<◌, ◌^◌, ◌++◌, sym, ◌∙◌, arith}
 use Rattle.refute_text.specs.Text.{text_lines}
 use Rattle.refute_text.specs.TextView.{the_text}
 use Rattle.refute_read.specs.Reading.{lines_of}

@@ -1,4 +1,4 @@
-use Rattle.std.proofs.Common.{◌≡◌, ◌-◌, ◌∷◌, ◌++◌, IfOk, IfErr, codes, sym, ap, ap₂, subst, ◌∙◌}
+use Rattle.std.proofs.Common.{◌-◌, ◌∷◌, ◌++◌, IfOk, IfErr, codes, sym, ap, subst, ◌∙◌}
 use Rattle.refute_text.specs.TextView.{the_text}
 use Rattle.refute_read.specs.Reading.{lines_of, HoldsText}
 use Rattle.refute_read.specs.Means.Places.{RefusesBehind}

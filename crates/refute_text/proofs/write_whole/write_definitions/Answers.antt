@@ -1,4 +1,4 @@
-use Rattle.std.proofs.Common.{subst, ◌∙◌, map, length, arith}
+use Rattle.std.proofs.Common.{subst, ◌∙◌, arith}
 use Rattle.std.proofs.lemmas.List.{length-map}
 use Rattle.refute_text.specs.Named.{names_of}
 use Rattle.refute_text.specs.Means.Pieces.{definition_line}
