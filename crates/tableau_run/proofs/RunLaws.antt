@@ -1,7 +1,9 @@
 -- Runs from their start to their end.
-use Rattle.std.specs.Prelude.{◌≡◌, ◌+◌, ◌∷◌, ◌++◌, ℕ, zero, suc, Bool, true, false, List, [], map, filter, Some, Contains, refl}
+use Rattle.std.specs.Prelude.{◌≡◌, ◌≤◌, ◌+◌, ◌-◌, ◌^◌, ◌∷◌, ◌++◌, ℕ, zero, suc, Bool, true, false, List, [], map, filter, length, Some, Contains, refl}
+use Rattle.std.specs.List.{All}
 use Rattle.std.proofs.Common.{sym, ap, ap₂, subst, ◌∙◌, arith, inl, inr, cond}
 use Rattle.std.proofs.lemmas.Bool.{cases_lt}
+use Rattle.std.proofs.lemmas.List.Elements.{All-take}
 use Rattle.stt_core.specs.Typing.{Scope}
 use Rattle.stt_core.specs.PlainProblem.{PlainProblem}
 use Rattle.stt_core.specs.Declarations.{scope_of}
@@ -11,8 +13,16 @@ use Rattle.stt_tableau.specs.Witnesses.{Row, IsTableAfter}
 use Rattle.stt_tableau.specs.Accepted.{Within, EndsWithin, IsAccepted}
 use Rattle.stt_tableau.specs.declared.refutation.Refutation.{Refutation}
 use Rattle.stt_tableau.proofs.ListLaws.{contains-first, contains-later, contains_cases}
+use Rattle.sat_base.specs.declared.literal.Var.{Var}
+use Rattle.sat_base.specs.declared.literal.SatLit.{SatLit}
+use Rattle.sat_base.specs.Truth.{Implies}
+use Rattle.sat_log.specs.Chains.{results}
+use Rattle.sat_log.specs.Propagation.{AreFailingDecisions}
+use Rattle.sat_core.specs.Solver.{learned_from, learned, AreAmong}
+use Rattle.tableau_clauses.specs.Table.{the_clauses}
+use Rattle.tableau_rebuild.specs.Tables.{the_atoms}
 use Rattle.search_run.specs.Shallow.{is_shallow_literal}
-use Rattle.search_run.specs.State.{Setting, process, pushed}
+use Rattle.search_run.specs.State.{State, Setting, process, pushed}
 use Rattle.search_run.specs.After.{nothing_yet, stepped, after}
 use Rattle.search_run.specs.Result.{GoesOn, GoesOnUntil, IsProved, IsExhausted, IsStopped}
 use Rattle.command_queue.specs.Queue.{Queue}
@@ -21,14 +31,20 @@ use Rattle.term_bank.specs.Content.{Content, content_scope}
 use Rattle.search_tables.specs.declared.command.Planned.{Planned}
 use Rattle.search_tables.specs.declared.command.Delays.{Delays}
 use Rattle.search_tables.specs.declared.tables.Tables.{Tables}
-use Rattle.search_tables.specs.Standing.{declared_scope, setting_by, the_state}
+use Rattle.search_tables.specs.Standing.{declared_scope, setting_by, the_state, IsRight}
 use Rattle.tableau_search.specs.Running.{start_in, IsRunning}
 use Rattle.tableau_search.specs.Progress.{Progress}
 use Rattle.tableau_search.specs.Answers.{IsClosed, IsEmpty, IsAtLimit, IsSpent as IsSpentAt, GoesOn as GoesOnBy}
 use Rattle.tableau_run.specs.declared.ended.Ended.{Ended}
 use Rattle.tableau_run.specs.declared.ended.Ended.TheVariants.{Proved, GaveUp, CommandLimit, ConflictLimit}
-use Rattle.tableau_run.specs.Ended.{setting_for, EndsAs}
-use Rattle.tableau_run.specs.Means.Ends.{IsSpentAfter, EndsFrom}
+use Rattle.tableau_run.specs.Ended.{setting_for, IsSpent, EndsAs}
+use Rattle.tableau_run.specs.Means.Ends.{EndsFrom}
+use Rattle.tableau_run.proofs.RebuildUses.{lists-named}
+
+-- what holds of all results holds of the learned ones
+learned-among : (P : List SatLit → Type 0) (refuted : Bool) (rs : List (List SatLit)) → All P rs → All P (learned_from refuted rs)
+learned-among P true rs h = All-take P (length rs - 1) rs h
+learned-among P false rs h = h
 
 -- A STEP
 
@@ -57,8 +73,30 @@ module _ (t : Tables) (q : Queue Planned Delays) (r : IsRunning t q) (t2 : Table
       let P : ℕ → Type 0 = λ n. IsStopped (setting_by t q) (start_in t) n in
       subst P (sym k.stays.done) (record { until = until; state = the_state t q; open_state = record { comes_to = r.comes_to; satisfiable = k.satisfiable }; some_left = k.some_left; at_limit = k.at_limit })
 
-  pub is-spent : (conflicts : ℕ) → IsSpentAt old new conflicts → GoesOnUntil (setting_by t q) (start_in t) t.done → IsSpentAfter (setting_by t q) (start_in t) conflicts
-  is-spent conflicts k until = record { is_budget = k.reported; commands = t.done; until = until; state = the_state t q; comes_to = r.comes_to }
+  -- the conflicts are spent over the clauses that the new tables have
+  pub is-spent : (conflicts : ℕ) → IsSpentAt old new conflicts → IsRight t2 q2 → All (Implies t2.solver.clauses) (results t2.solver.log) → GoesOnUntil (setting_by t q) (start_in t) t.done → IsSpent (setting_by t q) (start_in t) conflicts
+  is-spent conflicts k right implied until =
+      let C : List (List SatLit) → Type 0 = λ cs. All (Implies cs) (learned t2.solver) in
+      let F : List (List SatLit) → Type 0 = λ cs. AreFailingDecisions (cs ++ learned t2.solver) k.decisions in
+      let A : List (List SatLit) → Type 0 = λ cs. (variables : List Var) → AreAmong variables cs → 3 ^ length variables ≤ conflicts → ⊥ in
+      record {
+        is_budget = k.reported;
+        commands = t.done;
+        until = until;
+        state = the_state t q;
+        comes_to = r.comes_to;
+        spent = record {
+          atoms = the_atoms t2.basis.bank.terms t2.basis.lits;
+          numbered = the_clauses t2.steps;
+          stand = sym (lists-named t2.basis right.basis (the_clauses t2.steps) right.clauses) ∙ ap (λ (s : State). s.clauses) k.stays.state;
+          learned = learned t2.solver;
+          counted = k.counted;
+          implied = subst C right.solver (learned-among (Implies t2.solver.clauses) t2.solver.is_refuted (results t2.solver.log) implied);
+          decisions = k.decisions;
+          failing = subst F right.solver k.failing;
+          few = subst A right.solver k.few;
+        };
+      }
 
 -- MANY STEPS
 
@@ -160,6 +198,7 @@ module _ (p : PlainProblem) (m : Mode) (setting : Setting) (ls : List Literal) (
     until = until_whole (setting_for p m) (start p) k.commands k.until;
     state = k.state;
     comes_to = sym (after_shallow (setting_for p m) (start p) k.commands) ∙ k.comes_to;
+    spent = k.spent;
   }
 
   pub ends-as : (e : Ended) → EndsFrom setting ls e → EndsAs p m e

@@ -1,10 +1,19 @@
 -- How a run over a problem ends.
-use Rattle.std.specs.Prelude.{◌≡◌, ℕ, Some}
+use Rattle.std.specs.Prelude.{◌≡◌, ◌≤◌, ◌^◌, ◌++◌, ℕ, List, map, length, Some}
+use Rattle.std.specs.List.{All}
+use Rattle.stt_core.specs.Lambda.{Lambda}
 use Rattle.stt_core.specs.PlainProblem.{PlainProblem}
 use Rattle.stt_core.specs.Declarations.{scope_of}
+use Rattle.stt_tableau.specs.Literals.{Literal}
 use Rattle.stt_tableau.specs.Start.{start}
 use Rattle.stt_tableau.specs.Accepted.{IsAccepted}
 use Rattle.stt_tableau.specs.declared.refutation.Refutation.{Refutation}
+use Rattle.sat_base.specs.declared.literal.Var.{Var}
+use Rattle.sat_base.specs.declared.literal.SatLit.{SatLit}
+use Rattle.sat_base.specs.Truth.{Implies}
+use Rattle.sat_log.specs.Propagation.{AreFailingDecisions}
+use Rattle.sat_core.specs.Solver.{AreAmong}
+use Rattle.search_run.specs.Numbered.{literal_at}
 use Rattle.search_run.specs.State.{State, Setting}
 use Rattle.search_run.specs.After.{after}
 use Rattle.search_run.specs.Result.{GoesOnUntil, IsProved, IsExhausted, IsStopped}
@@ -24,17 +33,32 @@ pub record IsRefuted (p : PlainProblem) (m : Mode) (n : ℕ) (refutation : Refut
   pub accepted : IsAccepted (scope_of p.declared) (start p) refutation
   pub reached : IsEachReached refutation.lines
 
--- The conflicts of the mode are spent while the run is after some number of commands.
-pub record IsSpent (p : PlainProblem) (m : Mode) (conflicts : ℕ) : Type 0 where
-  pub is_budget : conflicts ≡ m.conflicts
+-- So many conflicts are spent over clauses of formulas (Marques-Silva and Sakallah 1999): clauses of numbered literals stand for them, as
+-- many clauses were learned as there are conflicts, each implied by the others, and some decisions lead to one conflict more. That isn't so
+-- where there are conflicts for all clauses over the variables.
+pub record AreSpent (clauses : List (List Literal)) (conflicts : ℕ) : Type 0 where
+  pub atoms : List Lambda
+  pub numbered : List (List SatLit)
+  pub stand : map (map (literal_at atoms)) numbered ≡ clauses
+  pub learned : List (List SatLit)
+  pub counted : length learned ≡ conflicts
+  pub implied : All (Implies numbered) learned
+  pub decisions : List SatLit
+  pub failing : AreFailingDecisions (numbered ++ learned) decisions
+  pub few : (variables : List Var) → AreAmong variables numbered → 3 ^ length variables ≤ conflicts → ⊥
+
+-- The run from literals goes on until some number of commands, and there the conflicts of the mode are spent.
+pub record IsSpent (setting : Setting) (literals : List Literal) (conflicts : ℕ) : Type 0 where
+  pub is_budget : conflicts ≡ setting.mode.conflicts
   pub commands : ℕ
-  pub until : GoesOnUntil (setting_for p m) (start p) commands
+  pub until : GoesOnUntil setting literals commands
   pub state : State
-  pub comes_to : after (setting_for p m) (start p) commands ≡ Some state
+  pub comes_to : after setting literals commands ≡ Some state
+  pub spent : AreSpent state.clauses conflicts
 
 -- how the run over the problem by the mode ends
 abbrev pub EndsAs : PlainProblem → Mode → Ended → Type 0
 EndsAs p m (Proved n refutation) = IsRefuted p m n refutation
 EndsAs p m (GaveUp n) = IsExhausted (setting_for p m) (start p) n
 EndsAs p m (CommandLimit n) = IsStopped (setting_for p m) (start p) n
-EndsAs p m (ConflictLimit conflicts) = IsSpent p m conflicts
+EndsAs p m (ConflictLimit conflicts) = IsSpent (setting_for p m) (start p) conflicts

@@ -67,7 +67,10 @@ fn next<W: Weigher<Command>>(
         Stepped::Limit => Ok(Some(Ended::CommandLimit {
             commands: search.commands(),
         })),
-        Stepped::Spent { conflicts } => Ok(Some(Ended::ConflictLimit { conflicts })),
+        Stepped::Spent { conflicts } => {
+            let _log = search.core.tables.solver.log();
+            Ok(Some(Ended::ConflictLimit { conflicts }))
+        }
         Stepped::Went => Ok(None),
     }
 }

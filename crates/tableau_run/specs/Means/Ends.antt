@@ -1,12 +1,11 @@
 -- How a run from literals ends.
-use Rattle.std.specs.Prelude.{◌≡◌, ◌+◌, ℕ, List, Some}
+use Rattle.std.specs.Prelude.{◌≡◌, ◌+◌, ℕ, List}
 use Rattle.stt_core.specs.Typing.{Scope}
 use Rattle.stt_tableau.specs.Literals.{Literal}
 use Rattle.stt_tableau.specs.Accepted.{IsAccepted}
 use Rattle.stt_tableau.specs.declared.refutation.Refutation.{Refutation}
 use Rattle.search_run.specs.Each.{Each}
-use Rattle.search_run.specs.State.{State, Setting}
-use Rattle.search_run.specs.After.{after}
+use Rattle.search_run.specs.State.{Setting}
 use Rattle.search_run.specs.Result.{GoesOn, GoesOnUntil, IsProved, IsExhausted, IsStopped}
 use Rattle.rebuilt_refutation.specs.Trimmed.{IsEachReached}
 use Rattle.command_queue.specs.Queue.{Queue}
@@ -16,6 +15,7 @@ use Rattle.search_tables.specs.declared.tables.Tables.{Tables}
 use Rattle.search_tables.specs.Standing.{setting_by, IsRight}
 use Rattle.search_tables.specs.Steps.{IsMade}
 use Rattle.tableau_search.specs.Running.{start_in}
+use Rattle.tableau_run.specs.Ended.{IsSpent}
 use Rattle.tableau_run.specs.declared.ended.Ended.{Ended}
 use Rattle.tableau_run.specs.declared.ended.Ended.TheVariants.{Proved, GaveUp, CommandLimit, ConflictLimit}
 
@@ -30,18 +30,11 @@ pub record Refutes (scope : Scope) (start : List Literal) (refutation : Refutati
   pub accepted : IsAccepted scope start refutation
   pub reached : IsEachReached refutation.lines
 
-pub record IsSpentAfter (setting : Setting) (start : List Literal) (conflicts : ℕ) : Type 0 where
-  pub is_budget : conflicts ≡ setting.mode.conflicts
-  pub commands : ℕ
-  pub until : GoesOnUntil setting start commands
-  pub state : State
-  pub comes_to : after setting start commands ≡ Some state
-
 abbrev pub EndsFrom : Setting → List Literal → Ended → Type 0
 EndsFrom setting start (Proved n refutation) = IsProved setting start n × Refutes setting.scope start refutation
 EndsFrom setting start (GaveUp n) = IsExhausted setting start n
 EndsFrom setting start (CommandLimit n) = IsStopped setting start n
-EndsFrom setting start (ConflictLimit conflicts) = IsSpentAfter setting start conflicts
+EndsFrom setting start (ConflictLimit conflicts) = IsSpent setting start conflicts
 
 -- The run goes on by one command, in the same setting and from the same start.
 pub record GoesOnTo (t : Tables) (q : Queue Planned Delays) (t2 : Tables) (q2 : Queue Planned Delays) : Type 0 where

@@ -9,7 +9,7 @@ use Rattle.tableau_search.specs.Running.{start_in}
 use Rattle.tableau_search.specs.Answers.{Answers}
 use Rattle.tableau_search.specs.declared.stepped.Stepped.{Stepped}
 use Rattle.tableau_run.specs.Means.Ends.{Refutes}
-use Rattle.tableau_run.proofs.RunLaws.{is-proved, is-exhausted, is-stopped}
+use Rattle.tableau_run.proofs.RunLaws.{is-proved, is-exhausted, is-stopped, is-spent}
 use Rattle.tableau_run.proofs.running.next.Goals as goal
 
 pub returns-in_ok-refutation-in-Closed-clause-ended : goal.returns-in_ok-refutation-in-Closed-clause-ended
@@ -45,3 +45,13 @@ returns-in-Limit-clause-ended g c = λ until.
     let A : Stepped → Type 0 = λ s. Answers (record { tables = t; plan = q }) (record { tables = u; plan = p }) s in
     let P : ℕ → Type 0 = λ n. IsStopped (setting_by t q) (start_in t) n in
     subst P (sym c.commands-in-Limit.ensures) (is-stopped t q c.requires.under_way.running u p (subst A c.in-Limit.is c.in_ok-step.ensures.answers) until)
+
+pub returns-in-Spent-clause-ended : goal.returns-in-Spent-clause-ended
+returns-in-Spent-clause-ended g c = λ until.
+    let t = c.args.search.now.core.tables in
+    let q = c.args.search.now.core.plan in
+    let u = c.step.new.self.core.tables in
+    let p = c.step.new.self.core.plan in
+    let A : Stepped → Type 0 = λ s. Answers (record { tables = t; plan = q }) (record { tables = u; plan = p }) s in
+    let under_way = c.in_ok-step.ensures.under_way c.in_ok-step.ensures.ready in
+    is-spent t q c.requires.under_way.running u p c.in-Spent.conflicts (subst A c.in-Spent.is c.in_ok-step.ensures.answers) under_way.running.right c.log-_log.ensures.implied until
