@@ -11,17 +11,19 @@ use Rattle.stt_tableau.specs.Literals.{Literal}
 use Rattle.stt_tableau.specs.Start.{start}
 use Rattle.stt_tableau.specs.Witnesses.{Row, IsTableAfter}
 use Rattle.stt_tableau.specs.Accepted.{Within, EndsWithin, IsAccepted}
+use Rattle.stt_tableau.specs.declared.refutation.Line.{Line}
 use Rattle.stt_tableau.specs.declared.refutation.Refutation.{Refutation}
 use Rattle.stt_tableau.proofs.ListLaws.{contains-first, contains-later, contains_cases}
 use Rattle.sat_base.specs.declared.literal.Var.{Var}
 use Rattle.sat_base.specs.declared.literal.SatLit.{SatLit}
 use Rattle.sat_base.specs.Truth.{Implies}
 use Rattle.sat_log.specs.Chains.{results}
-use Rattle.sat_log.specs.Propagation.{AreFailingDecisions}
+use Rattle.sat_log.specs.Propagation.{AreFailingDecisions, ReachesFalse as NumbersReachFalse}
 use Rattle.sat_core.specs.Solver.{learned_from, learned, AreAmong}
 use Rattle.tableau_clauses.specs.Table.{the_clauses}
 use Rattle.tableau_rebuild.specs.Tables.{the_atoms}
 use Rattle.search_run.specs.Shallow.{is_shallow_literal}
+use Rattle.search_run.specs.Unsatisfiable.{Clause}
 use Rattle.search_run.specs.State.{State, Setting, process, pushed}
 use Rattle.search_run.specs.After.{nothing_yet, stepped, after}
 use Rattle.search_run.specs.Result.{GoesOn, GoesOnUntil, IsProved, IsExhausted, IsStopped}
@@ -38,7 +40,9 @@ use Rattle.tableau_search.specs.Answers.{IsClosed, IsEmpty, IsAtLimit, IsSpent a
 use Rattle.tableau_run.specs.declared.ended.Ended.{Ended}
 use Rattle.tableau_run.specs.declared.ended.Ended.TheVariants.{Proved, GaveUp, CommandLimit, ConflictLimit}
 use Rattle.tableau_run.specs.Ended.{setting_for, IsSpent, EndsAs}
-use Rattle.tableau_run.specs.Means.Ends.{EndsFrom}
+use Rattle.tableau_run.specs.Origin.{ComesFrom, EachComesFrom, AreRefutedWithin}
+use Rattle.tableau_run.specs.Means.Ends.{Refutes, IsProvedBy, EndsFrom}
+use Rattle.tableau_run.proofs.OriginLaws.{refuted-within}
 use Rattle.tableau_run.proofs.RebuildUses.{lists-named}
 
 -- what holds of all results holds of the learned ones
@@ -58,10 +62,32 @@ module _ (t : Tables) (q : Queue Planned Delays) (r : IsRunning t q) (t2 : Table
   pub goes-on : GoesOnBy old new → GoesOn (setting_by t q) (start_in t) t.done
   goes-on g = record { state = the_state t q; open_state = record { comes_to = r.comes_to; satisfiable = g.satisfiable }; some_left = g.some_left; below = g.below }
 
-  pub is-proved : IsClosed old new → GoesOnUntil (setting_by t q) (start_in t) t.done → IsProved (setting_by t q) (start_in t) t2.done
-  is-proved k until =
-      let P : ℕ → Type 0 = λ n. IsProved (setting_by t q) (start_in t) n in
-      subst P (sym k.stays.done) (record { until = until; state = the_state t q; comes_to = r.comes_to; unsatisfiable = k.unsatisfiable })
+  -- the clauses are refuted within the conflicts of the mode
+  within_budget : IsClosed old new → IsRight t2 q2 → setting_by t2 q2 ≡ setting_by t q → All (Implies t2.solver.clauses) (results t2.solver.log) → AreRefutedWithin q.rule.mode.conflicts (the_state t q).clauses
+  within_budget k right same implied =
+      let C : List (List SatLit) → Type 0 = λ cs. All (Implies cs) (learned t2.solver) in
+      let R : List (List SatLit) → Type 0 = λ cs. NumbersReachFalse (cs ++ learned t2.solver) [] in
+      let A : List Clause → Type 0 = λ cs. AreRefutedWithin q.rule.mode.conflicts cs in
+      let budget : length (learned t2.solver) ≤ q.rule.mode.conflicts = subst (λ n. length (learned t2.solver) ≤ n) (ap (λ (s : Setting). s.mode.conflicts) same) right.budget in
+      subst A (sym (lists-named t2.basis right.basis (the_clauses t2.steps) right.clauses) ∙ ap (λ (s : State). s.clauses) k.stays.state)
+      (
+      refuted-within (the_atoms t2.basis.bank.terms t2.basis.lits) q.rule.mode.conflicts (the_clauses t2.steps) (learned t2.solver) budget
+      (subst C right.solver (learned-among (Implies t2.solver.clauses) t2.solver.is_refuted (results t2.solver.log) implied))
+      (subst R right.solver k.propagated)
+      )
+
+  pub is-proved : (refutation : Refutation) → IsClosed old new → IsRight t2 q2 → setting_by t2 q2 ≡ setting_by t q → All (Implies t2.solver.clauses) (results t2.solver.log)
+      → Refutes (setting_by t q).scope (start_in t) (the_state t q).clauses refutation → GoesOnUntil (setting_by t q) (start_in t) t.done → IsProvedBy (setting_by t q) (start_in t) t2.done refutation
+  is-proved refutation k right same implied refutes until =
+      let P : ℕ → Type 0 = λ n. IsProvedBy (setting_by t q) (start_in t) n refutation in
+      subst P (sym k.stays.done)
+      (
+      record {
+        proved = record { until = until; state = the_state t q; comes_to = r.comes_to; unsatisfiable = k.unsatisfiable };
+        refutes = refutes;
+        within = within_budget k right same implied;
+      }
+      )
 
   pub is-exhausted : IsEmpty old new → GoesOnUntil (setting_by t q) (start_in t) t.done → IsExhausted (setting_by t q) (start_in t) t2.done
   is-exhausted k until =
@@ -140,9 +166,6 @@ module _ (setting : Setting) (ls : List Literal) where
   until_whole : (n : ℕ) → GoesOnUntil setting few n → GoesOnUntil setting ls n
   until_whole n until m h = goes_on_whole m (until m h)
 
-  pub proved-whole : (n : ℕ) → IsProved setting few n → IsProved setting ls n
-  proved-whole n p = record { until = until_whole n p.until; state = p.state; comes_to = sym (after_shallow setting ls n) ∙ p.comes_to; unsatisfiable = p.unsatisfiable }
-
   pub exhausted-whole : (n : ℕ) → IsExhausted setting few n → IsExhausted setting ls n
   exhausted-whole n p = record {
     until = until_whole n p.until;
@@ -182,13 +205,29 @@ accepted_whole scope ls refutation a = record {
   last = record { front = a.last.front; last = a.last.last; are = a.last.are; within = within_whole a.last.last.branch ls a.last.within };
 }
 
+comes_whole : (ls : List Literal) (clauses : List Clause) (l : Line) → ComesFrom (filter is_shallow_literal ls) clauses l → ComesFrom ls clauses l
+comes_whole ls clauses l (inl cut) = inl cut
+comes_whole ls clauses l (inr (inr from)) = inr (inr from)
+comes_whole ls clauses l (inr (inl h)) =
+    inr (inl (record {
+      first = h.first;
+      second = h.second;
+      rule = h.rule;
+      branch = h.branch;
+      first_in = held_whole is_shallow_literal ls h.first h.first_in;
+      second_in = held_whole is_shallow_literal ls h.second h.second_in;
+    }))
+
 -- what ends from the literals of a problem that aren't too deep, ends from the problem's start
 module _ (p : PlainProblem) (m : Mode) (setting : Setting) (ls : List Literal) (is_setting : setting ≡ setting_for p m) (is_start : ls ≡ filter is_shallow_literal (start p)) where
   ends_here : (e : Ended) → EndsFrom (setting_for p m) (filter is_shallow_literal (start p)) e → EndsAs p m e
   ends_here (Proved n refutation) k = record {
-    proved = proved-whole (setting_for p m) (start p) n k.0;
-    accepted = accepted_whole (scope_of p.declared) (start p) refutation k.1.accepted;
-    reached = k.1.reached;
+    proved = record { until = until_whole (setting_for p m) (start p) n k.proved.until; state = k.proved.state; comes_to = sym (after_shallow (setting_for p m) (start p) n) ∙ k.proved.comes_to; unsatisfiable = k.proved.unsatisfiable };
+    accepted = accepted_whole (scope_of p.declared) (start p) refutation k.refutes.accepted;
+    reached = k.refutes.reached;
+    origin = λ l there. comes_whole (start p) k.proved.state.clauses l (k.refutes.origin l there);
+    shortly = k.refutes.shortly;
+    within = k.within;
   }
   ends_here (GaveUp n) k = exhausted-whole (setting_for p m) (start p) n k
   ends_here (CommandLimit n) k = stopped-whole (setting_for p m) (start p) n k

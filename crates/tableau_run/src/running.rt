@@ -8,7 +8,7 @@ ghost use Rattle.search_tables.specs.Delays.{delay_by};
 ghost use Rattle.search_tables.specs.Standing.{declared_scope, setting_by};
 ghost use Rattle.tableau_search.specs.Running.{start_in, IsUnderWay};
 ghost use Rattle.tableau_run.specs.Ended.{EndsAs};
-ghost use Rattle.tableau_run.specs.Means.Ends.{AreRight, Refutes, EndsFrom, GoesOnTo};
+ghost use Rattle.tableau_run.specs.Means.Ends.{AreRight, clauses_of, Refutes, EndsFrom, GoesOnTo};
 
 use crate::delays::delay;
 use crate::ended::Ended;
@@ -25,8 +25,9 @@ use tableau_search::{Command, Search, Stepped};
 fn refutation_of(alloc: Global, tables: &Tables) -> Result<Refutation, AllocError>
     requires right { AreRight tables.now }
     requires ends { results tables.now.solver.log ≡ learned tables.now.solver ++ [] ∷ [] }
-    ensures { IfOk result (Refutes (declared_scope tables.now.basis.bank) (start_in tables.now)) }
+    ensures { IfOk result (Refutes (declared_scope tables.now.basis.bank) (start_in tables.now) (clauses_of tables.now)) }
 {
+    tables.steps.clauses_come_from_origins();
     let log = tables.solver.log();
     let basis = &tables.basis;
     Ok(rebuild(
@@ -55,6 +56,7 @@ fn next<W: Weigher<Command>>(
 {
     match search.step()? {
         Stepped::Closed => {
+            let _log = search.core.tables.solver.log();
             let refutation = refutation_of(alloc, &search.core.tables)?;
             Ok(Some(Ended::Proved {
                 commands: search.commands(),
