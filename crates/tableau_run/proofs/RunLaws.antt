@@ -26,7 +26,7 @@ use Rattle.search_run.specs.Shallow.{is_shallow_literal}
 use Rattle.search_run.specs.Unsatisfiable.{Clause}
 use Rattle.search_run.specs.State.{State, Setting, process, pushed}
 use Rattle.search_run.specs.After.{nothing_yet, stepped, after}
-use Rattle.search_run.specs.Result.{GoesOn, GoesOnUntil, IsProved, IsExhausted, IsStopped}
+use Rattle.search_run.specs.Result.{GoesOn, GoesOnUntil, IsExhausted, IsStopped}
 use Rattle.command_queue.specs.Queue.{Queue}
 use Rattle.mode_file.specs.declared.Mode.{Mode}
 use Rattle.term_bank.specs.Content.{Content, content_scope}
@@ -40,7 +40,7 @@ use Rattle.tableau_search.specs.Answers.{IsClosed, IsEmpty, IsAtLimit, IsSpent a
 use Rattle.tableau_run.specs.declared.ended.Ended.{Ended}
 use Rattle.tableau_run.specs.declared.ended.Ended.TheVariants.{Proved, GaveUp, CommandLimit, ConflictLimit}
 use Rattle.tableau_run.specs.Ended.{setting_for, IsSpent, EndsAs}
-use Rattle.tableau_run.specs.Origin.{ComesFrom, EachComesFrom, AreRefutedWithin}
+use Rattle.tableau_run.specs.Origin.{ComesFrom, AreRefutedWithin}
 use Rattle.tableau_run.specs.Means.Ends.{Refutes, IsProvedBy, EndsFrom}
 use Rattle.tableau_run.proofs.OriginLaws.{refuted-within}
 use Rattle.tableau_run.proofs.RebuildUses.{lists-named}

@@ -7,7 +7,7 @@ use Rattle.stt_tableau.specs.declared.refutation.Refutation.{Refutation}
 use Rattle.search_run.specs.Each.{Each}
 use Rattle.search_run.specs.State.{Setting}
 use Rattle.search_run.specs.Unsatisfiable.{Clause}
-use Rattle.search_run.specs.Result.{GoesOn, GoesOnUntil, IsProved, IsExhausted, IsStopped}
+use Rattle.search_run.specs.Result.{GoesOn, IsProved, IsExhausted, IsStopped}
 use Rattle.rebuilt_refutation.specs.Trimmed.{IsEachReached}
 use Rattle.command_queue.specs.Queue.{Queue}
 use Rattle.search_tables.specs.declared.command.Planned.{Planned}

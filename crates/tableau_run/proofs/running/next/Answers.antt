@@ -28,7 +28,7 @@ returns-in_ok-refutation-in-Closed-clause-ended g c = λ until.
     let under_way = c.in_ok-step.ensures.under_way c.in_ok-step.ensures.ready in
     let over = subst F (ap (λ (s : State). s.clauses) closed.stays.state) c.in_ok-refutation-in-Closed.ensures in
     let refutes = subst₂ R (ap (λ (s : Setting). s.scope) c.in_ok-step.ensures.setting) c.in_ok-step.ensures.start over in
-    subst P (sym c.commands.ensures) (is-proved t q c.requires.under_way.running u p refutation closed under_way.running.right c.in_ok-step.ensures.setting c.log-_log-in-Closed.ensures.implied refutes until)
+    subst P (sym c.commands.ensures) (is-proved t q c.requires.under_way.running u p refutation closed under_way.running.right c.in_ok-step.ensures.setting c.log-log.ensures.implied refutes until)
 
 pub returns-in-Empty-clause-ended : goal.returns-in-Empty-clause-ended
 returns-in-Empty-clause-ended g c = λ until.
@@ -58,4 +58,4 @@ returns-in-Spent-clause-ended g c = λ until.
     let p = c.step.new.self.core.plan in
     let A : Stepped → Type 0 = λ s. Answers (record { tables = t; plan = q }) (record { tables = u; plan = p }) s in
     let under_way = c.in_ok-step.ensures.under_way c.in_ok-step.ensures.ready in
-    is-spent t q c.requires.under_way.running u p c.in-Spent.conflicts (subst A c.in-Spent.is c.in_ok-step.ensures.answers) under_way.running.right c.log-_log.ensures.implied until
+    is-spent t q c.requires.under_way.running u p c.in-Spent.conflicts (subst A c.in-Spent.is c.in_ok-step.ensures.answers) under_way.running.right c.log-log-in-Spent.ensures.implied until

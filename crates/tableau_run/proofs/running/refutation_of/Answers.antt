@@ -8,7 +8,7 @@ use Rattle.tableau_rebuild.specs.Conditions.{EndsEmpty}
 use Rattle.tableau_rebuild.specs.Tables.{the_atoms, unit_literals}
 use Rattle.tableau_search.specs.Running.{start_in}
 use Rattle.rebuilt_refutation.specs.Used.{AreFew}
-use Rattle.tableau_run.specs.Origin.{EachComesFrom, AreRefutedShortly}
+use Rattle.tableau_run.specs.Origin.{EachComesFrom}
 use Rattle.tableau_run.specs.Means.Ends.{clauses_of}
 use Rattle.tableau_run.proofs.RebuildUses.{instances-over, units-numbered, units-named, origin-named, shortly-named, ends-empty}
 use Rattle.tableau_run.proofs.RunLaws.{accepted-declared}
@@ -30,30 +30,18 @@ rebuild-requires-clause-closed c =
     let E : List LogEntry → Type 0 = λ log. EndsEmpty log in
     subst E (sym c.log-log.ensures.log) (ends-empty t.solver.log (learned t.solver) c.requires.ends)
 
--- where the lines come from
-origin : (c : goal.Context) → EachComesFrom (start_in c.args.tables.now) (clauses_of c.args.tables.now) c.in_ok-rebuild.field-0.lines
-origin c =
-    let t = c.args.tables.now in
-    let r = c.requires.right.right in
-    let S : List Literal → Type 0 = λ ls. EachComesFrom ls (clauses_of t) c.in_ok-rebuild.field-0.lines in
-    subst S (sym (units-named t.basis r.basis t.steps.0 r.clauses))
-    (origin-named t.basis r.basis t.steps r.clauses c.log-log.result.now (unit_literals (the_atoms t.basis.bank.terms t.basis.lits) t.steps.0) c.in_ok-rebuild.field-0.lines c.clauses_come_from_origins.ensures c.in_ok-rebuild.ensures.from_search)
-
-shortly : (c : goal.Context) → AreRefutedShortly (clauses_of c.args.tables.now) c.in_ok-rebuild.field-0.lines
-shortly c =
-    let t = c.args.tables.now in
-    let r = c.requires.right.right in
-    let C : List (List SatLit) → Type 0 = λ cs. IsLogOver cs t.solver.log in
-    let F : List LogEntry → Type 0 = λ log. AreFew log c.in_ok-rebuild.field-0.lines in
-    shortly-named t.basis r.basis t.steps r.clauses t.solver.log (learned t.solver) c.in_ok-rebuild.field-0.lines (subst C r.solver c.log-log.ensures.sound.logged) c.requires.ends (subst F c.log-log.ensures.log c.in_ok-rebuild.ensures.few)
-
 pub returns : goal.returns
 returns c =
     let t = c.args.tables.now in
     let r = c.requires.right.right in
+    let lines = c.in_ok-rebuild.field-0.lines in
+    let units = unit_literals (the_atoms t.basis.bank.terms t.basis.lits) t.steps.0 in
+    let S : List Literal → Type 0 = λ ls. EachComesFrom ls (clauses_of t) lines in
+    let C : List (List SatLit) → Type 0 = λ cs. IsLogOver cs t.solver.log in
+    let F : List LogEntry → Type 0 = λ log. AreFew log lines in
     record {
-      accepted = accepted-declared t.basis.bank (start_in t) (unit_literals (the_atoms t.basis.bank.terms t.basis.lits) t.steps.0) c.in_ok-rebuild.field-0 (sym (units-named t.basis r.basis t.steps.0 r.clauses)) c.in_ok-rebuild.ensures.accepted;
+      accepted = accepted-declared t.basis.bank (start_in t) units c.in_ok-rebuild.field-0 (sym (units-named t.basis r.basis t.steps.0 r.clauses)) c.in_ok-rebuild.ensures.accepted;
       reached = c.in_ok-rebuild.ensures.reached;
-      origin = origin c;
-      shortly = shortly c;
+      origin = subst S (sym (units-named t.basis r.basis t.steps.0 r.clauses)) (origin-named t.basis r.basis t.steps r.clauses c.log-log.result.now units lines c.clauses_come_from_origins.ensures c.in_ok-rebuild.ensures.from_search);
+      shortly = shortly-named t.basis r.basis t.steps r.clauses t.solver.log (learned t.solver) lines (subst C r.solver c.log-log.ensures.sound.logged) c.requires.ends (subst F c.log-log.ensures.log c.in_ok-rebuild.ensures.few);
     }
