@@ -189,6 +189,7 @@ module _ (p : PlainProblem) (m : Mode) (setting : Setting) (ls : List Literal) (
     proved = proved-whole (setting_for p m) (start p) n k.0;
     accepted = accepted_whole (scope_of p.declared) (start p) refutation k.1.accepted;
     reached = k.1.reached;
+    small = k.1.small;
   }
   ends_here (GaveUp n) k = exhausted-whole (setting_for p m) (start p) n k
   ends_here (CommandLimit n) k = stopped-whole (setting_for p m) (start p) n k

@@ -18,6 +18,7 @@ use Rattle.search_run.specs.State.{State, Setting}
 use Rattle.search_run.specs.After.{after}
 use Rattle.search_run.specs.Result.{GoesOnUntil, IsProved, IsExhausted, IsStopped}
 use Rattle.rebuilt_refutation.specs.Trimmed.{IsEachReached}
+use Rattle.refute_text.specs.Sizes.{IsSmall}
 use Rattle.mode_file.specs.declared.Mode.{Mode}
 use Rattle.search_tables.specs.Delays.{the_mode}
 use Rattle.tableau_run.specs.declared.ended.Ended.{Ended}
@@ -27,11 +28,13 @@ use Rattle.tableau_run.specs.declared.ended.Ended.TheVariants.{Proved, GaveUp, C
 abbrev pub setting_for : PlainProblem → Mode → Setting
 setting_for p m = record { scope = scope_of p.declared; mode = the_mode m }
 
--- The run is proved after n commands, and the refutation is accepted for the start; each of its lines is reached from the last one.
+-- The run is proved after n commands, and the refutation is accepted for the start; each of its lines is reached from the last one, and it
+-- is small enough for a text.
 pub record IsRefuted (p : PlainProblem) (m : Mode) (n : ℕ) (refutation : Refutation) : Type 0 where
   pub proved : IsProved (setting_for p m) (start p) n
   pub accepted : IsAccepted (scope_of p.declared) (start p) refutation
   pub reached : IsEachReached refutation.lines
+  pub small : IsSmall refutation
 
 -- So many conflicts are spent over clauses of formulas (Marques-Silva and Sakallah 1999): clauses of numbered literals stand for them, as
 -- many clauses were learned as there are conflicts, each implied by the others, and some decisions lead to one conflict more. That isn't so

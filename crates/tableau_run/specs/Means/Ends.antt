@@ -8,6 +8,7 @@ use Rattle.search_run.specs.Each.{Each}
 use Rattle.search_run.specs.State.{Setting}
 use Rattle.search_run.specs.Result.{GoesOn, GoesOnUntil, IsProved, IsExhausted, IsStopped}
 use Rattle.rebuilt_refutation.specs.Trimmed.{IsEachReached}
+use Rattle.refute_text.specs.Sizes.{IsSmall}
 use Rattle.command_queue.specs.Queue.{Queue}
 use Rattle.search_tables.specs.declared.command.Planned.{Planned}
 use Rattle.search_tables.specs.declared.command.Delays.{Delays}
@@ -25,10 +26,11 @@ pub record AreRight (t : Tables) : Type 0 where
   pub right : IsRight t plan
   pub made : Each (IsMade t.basis) t.steps.1
 
--- the refutation is accepted for the start, and each of its lines is reached
+-- the refutation is accepted for the start, each of its lines is reached, and it is small enough for a text
 pub record Refutes (scope : Scope) (start : List Literal) (refutation : Refutation) : Type 0 where
   pub accepted : IsAccepted scope start refutation
   pub reached : IsEachReached refutation.lines
+  pub small : IsSmall refutation
 
 abbrev pub EndsFrom : Setting → List Literal → Ended → Type 0
 EndsFrom setting start (Proved n refutation) = IsProved setting start n × Refutes setting.scope start refutation

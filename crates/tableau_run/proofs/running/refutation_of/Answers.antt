@@ -29,6 +29,7 @@ returns c =
     let t = c.args.tables.now in
     let r = c.requires.right.right in
     record {
-      accepted = accepted-declared t.basis.bank (start_in t) (unit_literals (the_atoms t.basis.bank.terms t.basis.lits) t.steps.0) c.in_ok-rebuild.field-0 (sym (units-named t.basis r.basis t.steps.0 r.clauses)) c.in_ok-rebuild.ensures.accepted;
-      reached = c.in_ok-rebuild.ensures.reached;
+      accepted = accepted-declared t.basis.bank (start_in t) (unit_literals (the_atoms t.basis.bank.terms t.basis.lits) t.steps.0) c.in_ok-refutation.refutation (sym (units-named t.basis r.basis t.steps.0 r.clauses)) c.in_ok-refutation.ensures.accepted;
+      reached = c.in_ok-refutation.ensures.reached;
+      small = c.is_small.ensures.0 c.if-not-is_small.false;
     }
