@@ -1,6 +1,5 @@
-use Rattle.std.proofs.Common.{◌≡◌, ◌<◌, ◌≤◌, ◌-◌, ◌∷◌, suc, List, length, ap, subst, ◌∙◌, arith}
+use Rattle.std.proofs.Common.{◌≡◌, ◌<◌, ◌-◌, ◌∷◌, suc, List, length, ap, subst, ◌∙◌, arith}
 use Rattle.std.proofs.lemmas.List.{length-reverse}
-use Rattle.search_run.specs.Partial.{Hole}
 use Rattle.search_tables.specs.Means.Chains.{Cell, chain}
 use Rattle.search_tables.proofs.ChainLaws.{chain-placed}
 use Rattle.search_tables.proofs.cells.Cells.first.Goals as goal
