@@ -1,5 +1,4 @@
-use Rattle.std.proofs.Common.{ap, sym, subst}
-use Rattle.stt_core.specs.Lambda.{Lambda}
+use Rattle.std.proofs.Common.{subst}
 use Rattle.stt_tableau.specs.Literals.{Literal}
 use Rattle.refute_text.specs.Sizes.{IsSmallTerm}
 use Rattle.small_refutation.proofs.AllLaws.{all-more}
