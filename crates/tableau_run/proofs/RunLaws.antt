@@ -225,6 +225,7 @@ module _ (p : PlainProblem) (m : Mode) (setting : Setting) (ls : List Literal) (
     proved = record { until = until_whole (setting_for p m) (start p) n k.proved.until; state = k.proved.state; comes_to = sym (after_shallow (setting_for p m) (start p) n) ∙ k.proved.comes_to; unsatisfiable = k.proved.unsatisfiable };
     accepted = accepted_whole (scope_of p.declared) (start p) refutation k.refutes.accepted;
     reached = k.refutes.reached;
+    small = k.refutes.small;
     origin = λ l there. comes_whole (start p) k.proved.state.clauses l (k.refutes.origin l there);
     shortly = k.refutes.shortly;
     within = k.within;

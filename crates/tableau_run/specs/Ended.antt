@@ -18,6 +18,7 @@ use Rattle.search_run.specs.State.{State, Setting}
 use Rattle.search_run.specs.After.{after}
 use Rattle.search_run.specs.Result.{GoesOnUntil, IsProved, IsExhausted, IsStopped}
 use Rattle.rebuilt_refutation.specs.Trimmed.{IsEachReached}
+use Rattle.refute_text.specs.Sizes.{IsSmall}
 use Rattle.mode_file.specs.declared.Mode.{Mode}
 use Rattle.search_tables.specs.Delays.{the_mode}
 use Rattle.tableau_run.specs.Origin.{EachComesFrom, AreRefutedShortly, AreRefutedWithin}
@@ -28,13 +29,14 @@ use Rattle.tableau_run.specs.declared.ended.Ended.TheVariants.{Proved, GaveUp, C
 abbrev pub setting_for : PlainProblem → Mode → Setting
 setting_for p m = record { scope = scope_of p.declared; mode = the_mode m }
 
--- The run is proved after n commands, and the refutation is accepted for the start. Each of its lines is reached from the last one and
--- comes from the clauses of the state after these commands. They are refuted by a log that has enough steps for the lines, and within the
--- conflicts of the mode.
+-- The run is proved after n commands, and the refutation is accepted for the start and small enough for a text. Each of its lines is reached
+-- from the last one and comes from the clauses of the state after these commands. They are refuted by a log that has enough steps for the
+-- lines, and within the conflicts of the mode.
 pub record IsRefuted (p : PlainProblem) (m : Mode) (n : ℕ) (refutation : Refutation) : Type 0 where
   pub proved : IsProved (setting_for p m) (start p) n
   pub accepted : IsAccepted (scope_of p.declared) (start p) refutation
   pub reached : IsEachReached refutation.lines
+  pub small : IsSmall refutation
   pub origin : EachComesFrom (start p) proved.state.clauses refutation.lines
   pub shortly : AreRefutedShortly proved.state.clauses refutation.lines
   pub within : AreRefutedWithin m.conflicts proved.state.clauses

@@ -15,13 +15,14 @@ use crate::ended::Ended;
 use command_queue::Weigher;
 use mode_file::Mode;
 use search_tables::Tables;
+use small_refutation::is_small;
 use std::alloc::{AllocError, Global};
 use stt_core::Problem;
 use stt_tableau::Refutation;
 use tableau_rebuild::rebuild;
 use tableau_search::{Command, Search, Stepped};
 
-/// The refutation from the log of a run whose clauses are unsatisfiable.
+/// The refutation from the log of a run whose clauses are unsatisfiable. There is no memory for one that is too large for a text.
 fn refutation_of(alloc: Global, tables: &Tables) -> Result<Refutation, AllocError>
     requires right { AreRight tables.now }
     requires ends { results tables.now.solver.log ≡ learned tables.now.solver ++ [] ∷ [] }
@@ -30,14 +31,18 @@ fn refutation_of(alloc: Global, tables: &Tables) -> Result<Refutation, AllocErro
     tables.steps.clauses_come_from_origins();
     let log = tables.solver.log();
     let basis = &tables.basis;
-    Ok(rebuild(
+    let refutation = rebuild(
         alloc,
         &basis.bank,
         &basis.lits,
         &tables.steps,
         log,
         &basis.witnesses,
-    )?)
+    )?;
+    if !is_small(&refutation) {
+        return Err(AllocError);
+    }
+    Ok(refutation)
 }
 
 /// Takes a step. The answer is how the run ends, where it ends there.
@@ -70,7 +75,8 @@ fn next<W: Weigher<Command>>(
             commands: search.commands(),
         })),
         Stepped::Spent { conflicts } => {
-            let _log = search.core.tables.solver.log();
+            // The log is asked for its clause that what was learned follows.
+            let _log = search.log();
             Ok(Some(Ended::ConflictLimit { conflicts }))
         }
         Stepped::Went => Ok(None),

@@ -9,6 +9,7 @@ use Rattle.search_run.specs.State.{Setting}
 use Rattle.search_run.specs.Unsatisfiable.{Clause}
 use Rattle.search_run.specs.Result.{GoesOn, IsProved, IsExhausted, IsStopped}
 use Rattle.rebuilt_refutation.specs.Trimmed.{IsEachReached}
+use Rattle.refute_text.specs.Sizes.{IsSmall}
 use Rattle.command_queue.specs.Queue.{Queue}
 use Rattle.search_tables.specs.declared.command.Planned.{Planned}
 use Rattle.search_tables.specs.declared.command.Delays.{Delays}
@@ -33,10 +34,12 @@ pub record AreRight (t : Tables) : Type 0 where
 abbrev pub clauses_of : Tables → List Clause
 clauses_of t = map (map (literal_at t.basis.bank.terms t.basis.lits)) (the_clauses t.steps)
 
--- the refutation is accepted for the start, and each of its lines is reached and comes from the clauses, which a log refutes as shortly
+-- The refutation is accepted for the start and small enough for a text. Each of its lines is reached and comes from the clauses, which a log
+-- refutes as shortly.
 pub record Refutes (scope : Scope) (start : List Literal) (clauses : List Clause) (refutation : Refutation) : Type 0 where
   pub accepted : IsAccepted scope start refutation
   pub reached : IsEachReached refutation.lines
+  pub small : IsSmall refutation
   pub origin : EachComesFrom start clauses refutation.lines
   pub shortly : AreRefutedShortly clauses refutation.lines
 
