@@ -61,7 +61,8 @@ fn next<W: Weigher<Command>>(
 {
     match search.step()? {
         Stepped::Closed => {
-            let _log = search.core.tables.solver.log();
+            // The log is asked for its clause that what was learned follows.
+            let _log = search.log();
             let refutation = refutation_of(alloc, &search.core.tables)?;
             Ok(Some(Ended::Proved {
                 commands: search.commands(),
@@ -75,7 +76,6 @@ fn next<W: Weigher<Command>>(
             commands: search.commands(),
         })),
         Stepped::Spent { conflicts } => {
-            // The log is asked for its clause that what was learned follows.
             let _log = search.log();
             Ok(Some(Ended::ConflictLimit { conflicts }))
         }
