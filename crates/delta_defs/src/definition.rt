@@ -1,14 +1,19 @@
 //! Definitions that are taken.
 
-ghost use Rattle.std.specs.Prelude.{◌≡◌, ◌<◌, ◌++◌, [], ◌∷◌, length, OnOk, OnErr, Some, slice_get, option_map, unwrap_or};
+ghost use Rattle.std.specs.Prelude.{◌≡◌, ℕ, nat_eq, ◌<◌, ◌||◌, ◌++◌, [], ◌∷◌, length, OnOk, IfOk, Some, slice_get, option_map, unwrap_or};
 ghost use Rattle.std.specs.List.{list_any};
+ghost use Rattle.std.specs.Ordering.{nat_cmp};
+ghost use Rattle.std.specs.BTreeMap.{get};
+ghost use Rattle.std.specs.BTreeSet.{contains};
 ghost use Rattle.stt_core.specs.Lambda.{name, constant};
 ghost use Rattle.stt_core.specs.View.{the_term};
 ghost use Rattle.delta_defs.specs.Definitions.{meant, mentions as occurs_in};
 ghost use Rattle.delta_defs.specs.Unfolding.{involves};
 ghost use Rattle.delta_defs.specs.Means.DefinitionView.{the_definition};
+ghost use Rattle.delta_defs.specs.Means.Finding.{first_or};
 
 use std::alloc::{AllocError, Global};
+use std::collections::{BTreeMap, BTreeSet};
 use std::marker::Model;
 use stt_core::Term;
 
@@ -19,10 +24,13 @@ pub(crate) struct Taken {
     pub(crate) term: Term,
 }
 
-/// A list of definitions.
+/// A list of definitions, with what finds a name in it: for each defined name the index of its first definition, and the names that are
+/// defined or occur in a term of the list.
 #[derive(Drop)]
 pub(crate) struct Definitions {
     items: Vec<Taken>,
+    firsts: BTreeMap<u32, usize>,
+    involved: BTreeSet<u32>,
 }
 
 impl Model for Definitions {
@@ -31,12 +39,15 @@ impl Model for Definitions {
     ghost use Rattle.delta_defs.specs.Definitions.{Definition};
     ghost use Rattle.delta_defs.specs.Means.DefinitionCode.{definition_code};
     ghost use Rattle.delta_defs.specs.Means.DefinitionView.{the_definition};
+    ghost use Rattle.delta_defs.specs.Means.Finding.{HasFirsts, HasInvolved};
 
     ghost Value = { List Definition };
 
     ghost coded = { coded_list definition_code };
 
     ghost view = { λ a. map the_definition a.items.items };
+
+    ghost invariant = { λ a. HasFirsts a.firsts (map the_definition a.items.items) × HasInvolved a.involved (map the_definition a.items.items) };
 }
 
 /// Whether a name occurs in a term.
@@ -51,13 +62,37 @@ pub(crate) fn mentions(term: &Term, place: u32) -> bool
     }
 }
 
-impl Taken {
-    /// Whether a name is the definition's or occurs in its term.
-    fn has(&self, place: u32) -> bool
-        ensures { result ≡ involves place (the_definition self.now) }
-    {
-        self.place == place || mentions(&self.term, place)
+/// Adds a name to a set.
+fn add_name(names: &mut BTreeSet<u32>, place: u32) -> Result<(), AllocError>
+    ensures { OnOk result ((k : ℕ) → contains nat_cmp names.new k ≡ (nat_eq place k || contains nat_cmp names.old k)) }
+{
+    names.insert(place)?;
+    Ok(())
+}
+
+/// Adds the names that occur in a term to a set.
+fn add_names(names: &mut BTreeSet<u32>, term: &Term) -> Result<(), AllocError>
+    ensures { OnOk result ((k : ℕ) → contains nat_cmp names.new k ≡ (occurs_in (name k) (the_term term.now) || contains nat_cmp names.old k)) }
+{
+    match term {
+        Term::Name(place) => add_name(names, *place),
+        Term::Lam(_, body) => add_names(names, body),
+        Term::App(function, argument) => {
+            add_names(names, function)?;
+            add_names(names, argument)
+        }
+        _ => Ok(()),
     }
+}
+
+/// Notes the index of a name's definition, unless it has an earlier one.
+fn note(firsts: &mut BTreeMap<u32, usize>, place: u32, index: usize) -> Result<(), AllocError>
+    ensures { OnOk result ((k : ℕ) → get nat_cmp firsts.new k ≡ first_or (get nat_cmp firsts.old k) place index k) }
+{
+    if !firsts.contains_key(&place) {
+        firsts.insert(place, index)?;
+    }
+    Ok(())
 }
 
 impl Definitions {
@@ -66,15 +101,30 @@ impl Definitions {
     {
         Definitions {
             items: Vec::new(alloc),
+            firsts: BTreeMap::new(alloc),
+            involved: BTreeSet::new(alloc),
         }
     }
 
-    pub(crate) fn push(&mut self, definition: Taken) -> Result<(), AllocError>
-        ensures ok { OnOk result (self.new ≡ self.old ++ the_definition definition ∷ []) }
-        ensures err { OnErr result (self.new ≡ self.old) }
+    /// The list with a further definition. It takes the time of the definition's term.
+    pub(crate) fn with(self, definition: Taken) -> Result<Definitions, AllocError>
+        ensures { IfOk result (λ ds. ds ≡ self ++ the_definition definition ∷ []) }
     {
-        self.items.push(definition)?;
-        Ok(())
+        let index = self.len();
+        let Definitions {
+            mut items,
+            mut firsts,
+            mut involved,
+        } = self;
+        note(&mut firsts, definition.place, index)?;
+        add_name(&mut involved, definition.place)?;
+        add_names(&mut involved, &definition.term)?;
+        items.push(definition)?;
+        Ok(Definitions {
+            items,
+            firsts,
+            involved,
+        })
     }
 
     pub(crate) fn len(&self) -> usize
@@ -95,24 +145,16 @@ impl Definitions {
     pub(crate) fn have(&self, place: u32) -> bool
         ensures { result ≡ list_any (involves place) self.now }
     {
-        for i in 0..self.len() {
-            if self.at(i).has(place) {
-                return true;
-            }
-        }
-        false
+        self.involved.contains(&place)
     }
 
     /// The term that a name stands for, where it isn't left as it is.
     pub(crate) fn term_of(&self, place: u32) -> Option<&Term>
         ensures { unwrap_or (option_map (λ term. the_term term.now) result) (constant (name place)) ≡ meant self.now (name place) }
     {
-        for i in 0..self.len() {
-            let definition = self.at(i);
-            if definition.place == place {
-                return Some(&definition.term);
-            }
+        match self.firsts.get(&place) {
+            Some(i) => Some(&self.at(*i).term),
+            None => None,
         }
-        None
     }
 }

@@ -8,6 +8,9 @@ mod problem;
 mod replace;
 mod stated;
 
-pub use law::{taken_names_are_gone, unfolded_once, unfolding_keeps_models, unfolding_keeps_types};
+pub use law::{
+    taken_names_are_gone, unfolded_once, unfolding_keeps_models, unfolding_keeps_types,
+    unfolding_without_definitions,
+};
 pub use names::NameIds;
 pub use problem::{taken, unfold_problem};

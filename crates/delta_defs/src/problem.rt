@@ -1,11 +1,11 @@
 //! Problems with their definitions unfolded.
 
-ghost use Rattle.std.specs.Prelude.{◌≡◌, ◌++◌, [], map, false, IfOk, OnOk, option_map, unwrap_or, slice_get};
+ghost use Rattle.std.specs.Prelude.{◌≡◌, ◌++◌, [], map, false, IfOk, option_map, unwrap_or, slice_get};
 ghost use Rattle.stt_core.specs.View.{the_term};
 ghost use Rattle.stt_core.specs.TypedProblem.{IsTyped};
 ghost use Rattle.delta_defs.specs.Definitions.{unfolded};
 ghost use Rattle.delta_defs.specs.Unfolding.{taken_from as is_taken_from, with_next, unless_taken, definitions_of, left_formulas, taken_names, unfolded_problem};
-ghost use Rattle.delta_defs.specs.Laws.{KeepsModels};
+ghost use Rattle.delta_defs.specs.Laws.{KeepsModels, AreDeclared};
 
 use crate::definition::Definitions;
 use crate::names::NameIds;
@@ -30,15 +30,24 @@ fn mark_at(marks: &Flags, i: usize) -> bool
 
 impl Sorted {
     /// Takes the next formula's definition, or leaves the formula.
-    fn add(&mut self, alloc: Global, mark: bool, formula: &Term) -> Result<(), AllocError>
-        ensures definitions { OnOk result (self.new.definitions ≡ with_next self.old.definitions mark (the_term formula.now)) }
-        ensures left { OnOk result (self.new.left ≡ self.old.left ++ unless_taken (is_taken_from self.old.definitions mark (the_term formula.now)) (the_term formula.now) []) }
+    fn with(self, alloc: Global, mark: bool, formula: &Term) -> Result<Sorted, AllocError>
+        ensures definitions { IfOk result (λ s. s.definitions ≡ with_next self.definitions mark (the_term formula.now)) }
+        ensures left { IfOk result (λ s. s.left ≡ self.left ++ unless_taken (is_taken_from self.definitions mark (the_term formula.now)) (the_term formula.now) []) }
     {
-        match taken_from(alloc, &self.definitions, mark, formula)? {
-            Some(definition) => self.definitions.push(definition)?,
-            None => self.left.push(formula.try_clone(alloc)?)?,
+        let Sorted {
+            definitions,
+            mut left,
+        } = self;
+        match taken_from(alloc, &definitions, mark, formula)? {
+            Some(definition) => Ok(Sorted {
+                definitions: definitions.with(definition)?,
+                left,
+            }),
+            None => {
+                left.push(formula.try_clone(alloc)?)?;
+                Ok(Sorted { definitions, left })
+            }
         }
-        Ok(())
     }
 }
 
@@ -53,7 +62,7 @@ fn sort(alloc: Global, problem: &Problem) -> Result<Sorted, AllocError>
     };
     for i in 0..problem.assumed.len() {
         let mark = mark_at(&problem.marked, i);
-        sorted.add(alloc, mark, problem.assumed.at(i))?;
+        sorted = sorted.with(alloc, mark, problem.assumed.at(i))?;
     }
     Ok(sorted)
 }
@@ -125,14 +134,23 @@ pub fn unfold_problem(alloc: Global, problem: &Problem) -> Result<Problem, Alloc
     Ok(unfolded)
 }
 
+/// The places of the names that are defined, in order.
+fn names_of(alloc: Global, definitions: &Definitions) -> Result<NameIds, AllocError>
+    ensures { IfOk result (λ names. names ≡ map (λ d. d.place) definitions.now) }
+{
+    let mut names = NameIds::new(alloc);
+    for i in 0..definitions.len() {
+        names.push(definitions.at(i).place)?;
+    }
+    Ok(names)
+}
+
 /// The places of the taken names, in order.
 pub fn taken(alloc: Global, problem: &Problem) -> Result<NameIds, AllocError>
-    ensures { IfOk result (λ names. names ≡ taken_names problem.now) }
+    ensures names { IfOk result (λ names. names ≡ taken_names problem.now) }
+    ensures declared { IfOk result (λ names. IsTyped problem.now → AreDeclared problem.now names) }
 {
     let sorted = sort(alloc, problem)?;
-    let mut names = NameIds::new(alloc);
-    for i in 0..sorted.definitions.len() {
-        names.push(sorted.definitions.at(i).place)?;
-    }
+    let names = names_of(alloc, &sorted.definitions)?;
     Ok(names)
 }

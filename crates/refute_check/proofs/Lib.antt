@@ -9,3 +9,5 @@ mod CheckLaws
 pub mod LineLaws
 pub mod PlaceLaws
 pub mod TermLaws
+mod DefinitionLaws
+pub mod AcceptanceLaws

@@ -12,21 +12,24 @@ ghost use Rattle.stt_tableau.specs.Accepted.{EndsWithin, IsAccepted, FirstFailur
 ghost use Rattle.stt_tableau.specs.Refused.{IfRefused};
 ghost use Rattle.stt_tableau.specs.Means.Answers.{LineAnswer};
 ghost use Rattle.stt_tableau.specs.declared.refutation.Line.{Line};
-ghost use Rattle.refute_text.specs.TextView.{the_line, the_text};
+ghost use Rattle.refute_text.specs.TextView.{the_line, the_text, IsNumbered};
 ghost use Rattle.refute_text.specs.Named.{names_of};
 ghost use Rattle.refute_check.specs.Numbered.{numbered_line, numbered_refutation};
 ghost use Rattle.refute_check.specs.Refusal.{IfLine, FailsAt};
+ghost use Rattle.refute_check.specs.Acceptance.{IsAcceptedFor, TextFailsAt};
 ghost use Rattle.refute_check.specs.Means.TermNumbers.{KeepsNumbers};
 ghost use Rattle.refute_check.specs.Means.Branches.{AreBranches};
 ghost use Rattle.refute_check.specs.Means.Witnesses.{KeepsRows};
 ghost use Rattle.refute_check.specs.Means.Lines.{KeepsLines, AreRightIn};
 
+use crate::definitions::check_definitions;
 use crate::lines::RightLines;
 use crate::number_line::{number_line, number_row};
 use crate::numbering::Numbering;
 use crate::refusal::CheckRefused;
 use crate::start::start_branch;
 use crate::witnesses::Witnesses;
+use delta_defs::unfold_problem;
 use refute_text::{RefutationText, TextLine};
 use std::alloc::{AllocError, Global};
 use stt_core::{Problem, Signature};
@@ -179,21 +182,15 @@ fn check_text(alloc: Global, problem: &Problem, text: &RefutationText) -> Result
     check_over(alloc, &problem.signature, problem, text)
 }
 
-/// Whether the text is an accepted refutation of the problem, over the names that it declares. Answers the first line that fails
-/// otherwise, by its number in the file of the text.
-pub fn check_refutation(
-    alloc: Global,
-    problem: &Problem,
-    text: &RefutationText,
-) -> Result<(), CheckRefused>
+/// Whether the text's refutation is accepted for the start of the problem as it stands, whatever definitions the text names. Answers the
+/// first line that fails otherwise, by its number in the file of the text.
+fn check_plain(alloc: Global, problem: &Problem, text: &RefutationText) -> Result<(), CheckRefused>
     requires problem { IsTyped problem.now }
     requires lines { text.now.first + length text.now.witnesses + length text.now.lines < 2 ^ 64 }
     ensures accepted { OnOk result (IsAccepted (scope_of problem.now.declared) (start problem.now)
         (numbered_refutation (names_of problem.now.declared.bases problem.now.declared.consts) (the_text text.now))) }
     ensures refused { IfErr result (λ e. IfLine e (FailsAt (scope_of problem.now.declared) (start problem.now)
         (numbered_refutation (names_of problem.now.declared.bases problem.now.declared.consts) (the_text text.now)) text.now.first)) }
-    ensures refused_only { IfErr result (λ e. IfLine e (λ _ _. IsAccepted (scope_of problem.now.declared) (start problem.now)
-        (numbered_refutation (names_of problem.now.declared.bases problem.now.declared.consts) (the_text text.now)) → ⊥)) }
 {
     match check_text(alloc, problem, text) {
         Ok(()) => Ok(()),
@@ -202,5 +199,44 @@ pub fn check_refutation(
             why,
         }),
         Err(PlainRefused::Memory) => Err(CheckRefused::Memory),
+    }
+}
+
+/// The same for a text that names definitions, which are to be those that are taken from the problem.
+fn check_unfolded(
+    alloc: Global,
+    problem: &Problem,
+    text: &RefutationText,
+) -> Result<(), CheckRefused>
+    requires problem { IsTyped problem.now }
+    requires numbered { IsNumbered text.now }
+    requires named { 0 < length text.now.names }
+    requires lines { text.now.first + length text.now.witnesses + length text.now.lines < 2 ^ 64 }
+    ensures accepted { OnOk result (IsAcceptedFor problem.now (the_text text.now)) }
+    ensures refused { IfErr result (λ e. IfLine e (TextFailsAt problem.now (the_text text.now) text.now.first)) }
+{
+    check_definitions(alloc, problem, text)?;
+    let unfolded = unfold_problem(alloc, problem)?;
+    check_plain(alloc, &unfolded, text)
+}
+
+/// Whether the text is an accepted refutation of the problem, over the names that it declares. Answers the first line that fails
+/// otherwise, by its number in the file of the text.
+pub fn check_refutation(
+    alloc: Global,
+    problem: &Problem,
+    text: &RefutationText,
+) -> Result<(), CheckRefused>
+    requires problem { IsTyped problem.now }
+    requires numbered { IsNumbered text.now }
+    requires lines { text.now.first + length text.now.witnesses + length text.now.lines < 2 ^ 64 }
+    ensures accepted { OnOk result (IsAcceptedFor problem.now (the_text text.now)) }
+    ensures refused { IfErr result (λ e. IfLine e (TextFailsAt problem.now (the_text text.now) text.now.first)) }
+    ensures refused_only { IfErr result (λ e. IfLine e (λ _ _. IsAcceptedFor problem.now (the_text text.now) → ⊥)) }
+{
+    if text.names.len() == 0 {
+        check_plain(alloc, problem, text)
+    } else {
+        check_unfolded(alloc, problem, text)
     }
 }

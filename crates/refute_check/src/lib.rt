@@ -4,7 +4,9 @@
 mod branch;
 mod check;
 mod children;
+mod definitions;
 mod key;
+mod law;
 mod lines;
 mod number_branch;
 mod number_line;
@@ -16,4 +18,5 @@ mod term_numbers;
 mod witnesses;
 
 pub use check::check_refutation;
+pub use law::{accepted_texts_refute, unfolded_start};
 pub use refusal::CheckRefused;

@@ -17,6 +17,7 @@ pub mod RepeatsBack
 pub mod TermBack
 pub mod LiteralBack
 pub mod LineBack
+pub mod DefinitionLines
 pub mod LineFeeds
 pub mod Fronts
 pub mod TextLaws

@@ -101,7 +101,7 @@ number_is k limit bs rest small h = go (number_at limit bs) refl h
     go None e j = cc
     go (Some (n, r)) e j = at_number n r (n == k) refl e j
 
-ended : {P : Type 0} (bs : List ℕ) (end : List ℕ) → end_at bs ≡ Some end → (bs ≡ [] → P) → P
+pub ended : {P : Type 0} (bs : List ℕ) (end : List ℕ) → end_at bs ≡ Some end → (bs ≡ [] → P) → P
 ended [] end h k = k refl
 ended (c ∷ cs) end h k = cc
 

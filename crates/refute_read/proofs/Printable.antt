@@ -8,10 +8,10 @@ use Rattle.stt_tableau.specs.declared.refutation.Child.{Child}
 use Rattle.stt_tableau.specs.declared.refutation.Child.TheVariants.{Closed, Line as Numbered}
 use Rattle.refute_text.specs.Letters.{is_printable, is_plain, escaped, quoted, name_text, is_name}
 use Rattle.refute_text.specs.Trees.{TypeTree, formula, individual, named, arrow, ConstantTree, name, witness, falsity, negation, implication, all, equality, choice, description, TermTree, bound, constant, lam, app, LiteralTree, OnePlace, False, Refl, ImpPos, ImpNeg, BoolPos, BoolNeg, FunPos, FunNeg, AllNeg, Dec, TwoPlaces, Close, Mat, Con, OfPredicate, Cho, Des, RuleTree, at_one, at_two, with_instance, with_predicate, with_cut, LineTree, RefutationTree}
-use Rattle.refute_text.specs.Text.{type_text, constant_text, term_text, spine_text, sign_text, literal_text, after_commas, separated, branch_text, child_text, children_text, one_place_name, two_places_name, predicate_name, rule_text, row_text, line_text, row_texts, line_texts, text_lines}
+use Rattle.refute_text.specs.Text.{version_text, definition_text, type_text, constant_text, term_text, spine_text, sign_text, literal_text, after_commas, separated, branch_text, child_text, children_text, one_place_name, two_places_name, predicate_name, rule_text, row_text, line_text, row_texts, line_texts, text_lines}
 use Rattle.refute_text.specs.Limits.{IsType, IsConstant, IsTerm, IsSpine, IsWithin, IsLiteral, IsRule, IsChild, IsLine}
 use Rattle.refute_read.specs.Means.Reader.{is_digit}
-use Rattle.refute_read.specs.Reading.{HasText, is_one_line, AreLines}
+use Rattle.refute_read.specs.Reading.{IsName, HasText, is_one_line, AreLines}
 use Rattle.refute_read.proofs.Numbers.{own}
 
 abbrev IsPrintable : List ℕ → Type 0
@@ -179,6 +179,18 @@ pub AreLines-append : (ls ms : List (List ℕ)) → AreLines ls → AreLines ms 
 AreLines-append [] ms h k = k
 AreLines-append (l ∷ ls) ms h k = (h.0, AreLines-append ls ms h.1 k)
 
+version_is_line : (names : List (List ℕ)) → is_one_line (version_text names) ≡ true
+version_is_line [] = refl
+version_is_line (w ∷ names) = refl
+
+definitions_are_lines : (names : List (List ℕ)) → AllByRecursion IsName names → AreLines (map definition_text names)
+definitions_are_lines [] h = tt
+definitions_are_lines (w ∷ names) h = (printable_one_line (definition_text w) (name_printable w h.0), definitions_are_lines names h.1)
+
 pub text_lines-are_lines : (r : RefutationTree) → HasText r → AreLines (text_lines r)
 text_lines-are_lines r h =
-    (refl, AreLines-append (row_texts 0 r.rows) (line_texts 0 r.lines) (rows_are_lines 0 r.rows (let n = h.row_numbers in omega (arith, n)) h.rows) (lines_are_lines 0 r.lines (let n = h.line_numbers in omega (arith, n)) h.lines))
+    let rows = rows_are_lines 0 r.rows (let n = h.row_numbers in omega (arith, n)) h.rows in
+    let lines = lines_are_lines 0 r.lines (let n = h.line_numbers in omega (arith, n)) h.lines in (
+      version_is_line r.names,
+      AreLines-append (map definition_text r.names) (row_texts 0 r.rows ++ line_texts 0 r.lines) (definitions_are_lines r.names h.names) (AreLines-append (row_texts 0 r.rows) (line_texts 0 r.lines) rows lines),
+    )

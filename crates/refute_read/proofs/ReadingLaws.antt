@@ -61,7 +61,7 @@ bad-held : (behind : List (List ℕ)) (place : ℕ) (r : RefutationTree) → IsB
 bad-held behind place r b h = go (cut b.before b.bad b.after (text_lines r) h.last h.after (sym b.are_lines ∙ h.are_lines))
   where
     go : Cut b.before b.bad b.after (text_lines r) h.last h.after → ⊥
-    go (equal e q t) = let none : b.before ≡ [] = b.no_end (ap is_end q ∙ h.ends) in cc
+    go (equal e q t) = b.no_end (ap is_end q ∙ h.ends) (record { refutation = r; has_text = h.has_text; whole = e })
     go (shorter c e) = bad-outside behind place b c (subst IsFront e (front-text r h.has_text))
     go (longer c e) = front-without_end (text_lines r) h.last c h.ends (subst IsFront e b.is_front)
 
@@ -83,8 +83,8 @@ held-front behind r h f = front-without_end (text_lines r) h.last h.after h.ends
 read-read : (lines : List (List ℕ)) (r s : RefutationTree) (m n : ℕ) → ReadsAs lines r m → ReadsAs lines s n → read r m ≡ read s n
 read-read lines r s m n h g =
     let p = starts-same lines h.before h.behind g.before g.behind h.starts g.starts in
-    ap₂ read (held-same h.behind r s h.holds (subst (λ x. HoldsText x s) (sym p.1) g.holds))
-    (h.first_is ∙ ap (λ x. length x + 3) p.0 ∙ sym g.first_is)
+    let same = held-same h.behind r s h.holds (subst (λ x. HoldsText x s) (sym p.1) g.holds) in
+    ap₂ read same (h.first_is ∙ ap₂ (λ x y. length x + 3 + length y.names) p.0 same ∙ sym g.first_is)
 
 read-bad : (lines : List (List ℕ)) (r : RefutationTree) (m n : ℕ) → ReadsAs lines r m → HasBadLine lines n → ⊥
 read-bad lines r m n h g =

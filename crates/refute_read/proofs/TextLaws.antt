@@ -1,13 +1,14 @@
 -- Refutations with the same text are the same.
-use Rattle.std.proofs.Common.{◌≡◌, ℕ, suc, ◌+◌, ◌^◌, ◌<◌, ◌≤◌, List, [], ◌∷◌, ◌++◌, Some, length, codes, refl, sym, ap, ap₂, ◌∙◌, arith}
+use Rattle.std.proofs.Common.{◌≡◌, ℕ, suc, ◌+◌, ◌^◌, ◌<◌, ◌≤◌, List, [], ◌∷◌, ◌++◌, Some, length, map, refl, sym, ap, ap₂, ◌∙◌, arith}
 use Rattle.std.specs.List.{AllByRecursion}
 use Rattle.refute_text.specs.Trees.{TermTree, LineTree, RefutationTree}
-use Rattle.refute_text.specs.Text.{row_text, line_text, row_texts, line_texts, text_lines}
+use Rattle.refute_text.specs.Text.{version_text, definition_text, row_text, line_text, row_texts, line_texts, text_lines}
 use Rattle.refute_text.specs.Limits.{IsWithin, IsLine}
 use Rattle.refute_read.specs.Means.LineReader.{row_at, line_at}
-use Rattle.refute_read.specs.Reading.{HasText}
+use Rattle.refute_read.specs.Reading.{IsName, HasText}
 use Rattle.refute_read.proofs.LineBack.{row_at-text, line_at-text}
-use Rattle.refute_read.proofs.Fronts.{first-same, rest-same, row-then_line}
+use Rattle.refute_read.proofs.DefinitionLines.{definition_text-same}
+use Rattle.refute_read.proofs.Fronts.{first-same, rest-same, row-then_line, definition-then_below}
 
 some-same : {A : Type 0} (a b : A) → Some a ≡ Some b → a ≡ b
 some-same a b e = cc
@@ -36,10 +37,26 @@ texts-same k (t ∷ rows) (u ∷ others) ls ms h g small are others_are lines_sm
     let more = texts-same (suc k) rows others ls ms h.1 g.1 (omega (arith, small)) are others_are lines_small rest in
     (ap₂ (λ x y. x ∷ y) (row_text-same k t u (omega (arith, small)) h.0 g.0 first) more.0, more.1)
 
-abbrev refutation : List TermTree → List LineTree → RefutationTree
-refutation rows lines = record { rows = rows; lines = lines }
+definitions-same : (ns ms : List (List ℕ)) (rows others : List TermTree) (ls os : List LineTree) → AllByRecursion IsName ns → AllByRecursion IsName ms → map definition_text ns ++ (row_texts 0 rows ++ line_texts 0 ls) ≡ map definition_text ms ++ (row_texts 0 others ++ line_texts 0 os) → (ns ≡ ms) × (row_texts 0 rows ++ line_texts 0 ls ≡ row_texts 0 others ++ line_texts 0 os)
+definitions-same [] [] rows others ls os h g e = (refl, e)
+definitions-same [] (m ∷ ms) rows others ls os h g e =
+    absurd (definition-then_below m (map definition_text ms ++ (row_texts 0 others ++ line_texts 0 os)) rows ls (sym e))
+definitions-same (n ∷ ns) [] rows others ls os h g e =
+    absurd (definition-then_below n (map definition_text ns ++ (row_texts 0 rows ++ line_texts 0 ls)) others os e)
+definitions-same (n ∷ ns) (m ∷ ms) rows others ls os h g e =
+    let behind = map definition_text ns ++ (row_texts 0 rows ++ line_texts 0 ls) in
+    let other = map definition_text ms ++ (row_texts 0 others ++ line_texts 0 os) in
+    let first = definition_text-same n m h.0 g.0 (first-same (definition_text n) (definition_text m) behind other e) in
+    let rest = definitions-same ns ms rows others ls os h.1 g.1 (rest-same (definition_text n) (definition_text m) behind other e) in
+    (ap₂ (λ x y. x ∷ y) first rest.0, rest.1)
+
+abbrev refutation : List (List ℕ) → List TermTree → List LineTree → RefutationTree
+refutation names rows lines = record { names = names; rows = rows; lines = lines }
 
 pub text_lines-same : (r s : RefutationTree) → HasText r → HasText s → text_lines r ≡ text_lines s → r ≡ s
 text_lines-same r s h g e =
-    let p = texts-same 0 r.rows s.rows r.lines s.lines h.rows g.rows (let n = h.row_numbers in omega (arith, n)) h.lines g.lines h.line_numbers (rest-same (codes "version 1") (codes "version 1") (row_texts 0 r.rows ++ line_texts 0 r.lines) (row_texts 0 s.rows ++ line_texts 0 s.lines) e) in
-    ap₂ refutation p.0 p.1
+    let behind = map definition_text r.names ++ (row_texts 0 r.rows ++ line_texts 0 r.lines) in
+    let other = map definition_text s.names ++ (row_texts 0 s.rows ++ line_texts 0 s.lines) in
+    let d = definitions-same r.names s.names r.rows s.rows r.lines s.lines h.names g.names (rest-same (version_text r.names) (version_text s.names) behind other e) in
+    let p = texts-same 0 r.rows s.rows r.lines s.lines h.rows g.rows (let n = h.row_numbers in omega (arith, n)) h.lines g.lines h.line_numbers d.1 in
+    ap (λ names. refutation names r.rows r.lines) d.0 ∙ ap₂ (refutation s.names) p.0 p.1

@@ -3,6 +3,7 @@ use Rattle.std.specs.Prelude.{◌≡◌, ℕ, ◌+◌, ◌^◌, ◌≤◌, ◌==
 use Rattle.std.specs.List.{AllByRecursion, list_all, list_any, onto_first, starts_with}
 use Rattle.refute_text.specs.Trees.{RefutationTree}
 use Rattle.refute_text.specs.Text.{text_lines, as_bytes}
+use Rattle.refute_text.specs.Letters.{is_name}
 use Rattle.refute_text.specs.Limits.{IsWithin, IsLine}
 
 -- the lines of bytes: a line feed ends each, and the bytes behind the last line feed are one more line, where there are any
@@ -23,8 +24,12 @@ is_start line = starts_with nat_eq line start_mark
 abbrev pub is_end : List ℕ → Bool
 is_end line = starts_with nat_eq line end_mark
 
+abbrev pub IsName : List ℕ → Type 0
+IsName w = is_name w ≡ true
+
 -- a refutation that has a text
 pub record HasText (r : RefutationTree) : Type 0 where
+  pub names : AllByRecursion IsName r.names
   pub rows : AllByRecursion IsWithin r.rows
   pub row_numbers : length r.rows ≤ 2 ^ 32
   pub lines : AllByRecursion IsLine r.lines
@@ -52,7 +57,14 @@ pub record HoldsText (behind : List (List ℕ)) (r : RefutationTree) : Type 0 wh
   pub has_text : HasText r
   pub ends : is_end last ≡ true
 
--- the line at this place behind the start line is the first with which no text begins; an end line is bad in the place of the version
+-- lines that are the whole text of some refutation
+pub record IsText (lines : List (List ℕ)) : Type 0 where
+  pub refutation : RefutationTree
+  pub has_text : HasText refutation
+  pub whole : lines ≡ text_lines refutation
+
+-- the line at this place behind the start line is the first with which no text begins; an end line is bad where no whole text stands
+-- before it
 pub record IsBadAt (behind : List (List ℕ)) (place : ℕ) : Type 0 where
   pub before : List (List ℕ)
   pub bad : List ℕ
@@ -61,7 +73,7 @@ pub record IsBadAt (behind : List (List ℕ)) (place : ℕ) : Type 0 where
   pub place_is : place ≡ length before
   pub is_front : IsFront before
   pub no_front : ¬ IsFront (before ++ (bad ∷ []))
-  pub no_end : is_end bad ≡ true → before ≡ []
+  pub no_end : is_end bad ≡ true → ¬ IsText before
 
 -- a refutation, with the line of its first row, or else of its first line, or else the end line; or the line at which none is read
 pub data Reading : Type 0 where
@@ -75,7 +87,7 @@ pub record ReadsAs (lines : List (List ℕ)) (r : RefutationTree) (first : ℕ) 
   pub behind : List (List ℕ)
   pub starts : Starts lines before behind
   pub holds : HoldsText behind r
-  pub first_is : first ≡ length before + 3
+  pub first_is : first ≡ length before + 3 + length r.names
 
 pub record HasBadLine (lines : List (List ℕ)) (line : ℕ) : Type 0 where
   pub before : List (List ℕ)
@@ -124,4 +136,4 @@ pub record TextStands (bytes : List ℕ) (r : RefutationTree) (first : ℕ) : Ty
   pub none_before : list_any is_start before ≡ false
   pub starts : is_start start ≡ true
   pub ends : is_end last ≡ true
-  pub first_is : first ≡ length before + 3
+  pub first_is : first ≡ length before + 3 + length r.names

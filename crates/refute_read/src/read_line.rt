@@ -2,16 +2,17 @@
 
 ghost use Rattle.std.specs.Prelude.{◌≡◌, ◌^◌, length, codes};
 ghost use Rattle.refute_read.specs.Means.Reader.{number_at, repeated_at, with_items};
-ghost use Rattle.refute_read.specs.Means.LineReader.{literal_at, child_at, items_at, where_number, end_at, row_at, branch_at, children_at, lists_at, line_at};
+ghost use Rattle.refute_read.specs.Means.LineReader.{literal_at, child_at, items_at, where_number, end_at, definition_at, row_at, branch_at, children_at, lists_at, line_at};
 ghost use Rattle.refute_read.specs.Means.Refusals.{Answers};
 ghost use Rattle.refute_text.specs.LineView.{the_rule};
 ghost use Rattle.refute_text.specs.TextView.{the_line};
 
-use crate::read_name::behind;
+use crate::read_name::{behind, name};
 use crate::read_rule::{DEPTH, read_literal, read_number, read_rule};
 use crate::read_term::{index, read_term};
 use crate::read_type::expect;
 use crate::refusal::Refusal;
+use outside::Bytes;
 use refute_text::{TextLine, TextLits, TextRule, TextTerm};
 use std::alloc::Global;
 use stt_tableau::{Child, Children};
@@ -162,6 +163,17 @@ fn line_number(number: usize, bytes: &[u8]) -> Result<&[u8], Refusal>
     } else {
         Err(Refusal::Form)
     }
+}
+
+/// The name on the line of a definition.
+#[tactic(auto, unfolding(crate::specs::Means::LineReader::definition_at))]
+pub(crate) fn read_definition(alloc: Global, line: &[u8]) -> Result<Bytes, Refusal>
+    ensures { Answers (λ w. w) result (definition_at line.now) }
+{
+    let rest = expect(b"d ", line)?;
+    let read = name(alloc, rest)?;
+    ended(read.rest)?;
+    Ok(read.name)
 }
 
 /// The predicate of the witness row of this number.

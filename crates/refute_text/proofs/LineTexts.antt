@@ -1,12 +1,14 @@
 -- The text of lines is that of their pieces.
-use Rattle.std.proofs.Common.{◌≡◌, ℕ, zero, suc, List, [], ◌∷◌, ◌++◌, map, slice_get, Some, codes, decimal, refl, sym, ap, subst, ◌∙◌, append_assoc}
+use Rattle.std.proofs.Common.{◌≡◌, ◌<◌, ℕ, zero, suc, length, List, [], ◌∷◌, ◌++◌, map, slice_get, Some, codes, decimal, refl, sym, ap, subst, ◌∙◌, append_assoc}
 use Rattle.stt_tableau.specs.Literals.{Literal}
 use Rattle.stt_tableau.specs.Witnesses.{Row}
 use Rattle.stt_tableau.specs.declared.refutation.Child.{Child}
 use Rattle.stt_tableau.specs.declared.refutation.Line.{Line}
-use Rattle.refute_text.specs.Text.{term_text, literal_text, child_text, rule_text, after_commas, separated, branch_text, children_text, row_texts, line_texts, as_bytes}
-use Rattle.refute_text.specs.Named.{Names, named_term, named_literal, named_rule, named_line, HasNames, HaveNames, HasLineNames, RowsHaveNames, LinesHaveNames}
-use Rattle.refute_text.specs.Means.Pieces.{comma_before, literal_at, child_at, row_line, line_line}
+use Rattle.refute_text.specs.Letters.{name_text}
+use Rattle.refute_text.specs.Trees.{RefutationTree}
+use Rattle.refute_text.specs.Text.{version_text, definition_text, text_lines, term_text, literal_text, child_text, rule_text, after_commas, separated, branch_text, children_text, row_texts, line_texts, as_bytes}
+use Rattle.refute_text.specs.Named.{Names, name_at, ArePlaces, named_term, named_literal, named_rule, named_line, HasNames, HaveNames, HasLineNames, RowsHaveNames, LinesHaveNames}
+use Rattle.refute_text.specs.Means.Pieces.{version_line, definition_line, comma_before, literal_at, child_at, row_line, line_line}
 use Rattle.refute_text.proofs.Lists.{all_texts}
 
 -- a text that ends with a number, and what follows it
@@ -57,6 +59,27 @@ line_members names k (line ∷ lines) =
 pub as_bytes-append : (xs ys : List (List ℕ)) → as_bytes (xs ++ ys) ≡ as_bytes xs ++ as_bytes ys
 as_bytes-append [] ys = refl
 as_bytes-append (x ∷ xs) ys = ap (λ t. x ++ (10 ∷ t)) (as_bytes-append xs ys) ∙ sym (append_assoc x (10 ∷ as_bytes xs) (as_bytes ys))
+
+pub definition_members : (names : Names) (n : ℕ) (taken : List ℕ) → all_texts (λ i k. definition_line names k) n taken ≡ as_bytes (map definition_text (map (name_at names.constants) taken))
+definition_members names n [] = refl
+definition_members names n (k ∷ taken) =
+    let w = name_text (name_at names.constants k) in
+    let more = as_bytes (map definition_text (map (name_at names.constants) taken)) in
+    ap (λ t. definition_line names k ++ t) (definition_members names (suc n) taken) ∙ regroup w more
+  where
+    regroup : (w more : List ℕ) → (codes "d " ++ (w ++ codes "\n")) ++ more ≡ (codes "d " ++ w) ++ (10 ∷ more)
+    regroup w more = simp append_assoc
+
+-- the lines of a text are its four parts
+pub text_parts : (r : RefutationTree) → version_line r.names ++ (as_bytes (map definition_text r.names) ++ (as_bytes (row_texts 0 r.rows) ++ as_bytes (line_texts 0 r.lines))) ≡ as_bytes (text_lines r)
+text_parts r =
+    append_assoc (version_text r.names) (codes "\n") (as_bytes (map definition_text r.names) ++ (as_bytes (row_texts 0 r.rows) ++ as_bytes (line_texts 0 r.lines)))
+    ∙ ap (λ t. version_text r.names ++ (10 ∷ t)) (ap (λ t. as_bytes (map definition_text r.names) ++ t) (sym (as_bytes-append (row_texts 0 r.rows) (line_texts 0 r.lines))) ∙ sym (as_bytes-append (map definition_text r.names) (row_texts 0 r.rows ++ line_texts 0 r.lines)))
+
+pub place_there : (names : Names) (taken : List ℕ) (i k : ℕ) → slice_get taken i ≡ Some k → ArePlaces names taken → k < length names.constants
+place_there names [] i k e h = cc
+place_there names (j ∷ taken) zero k e h = let q : j ≡ k = cc in subst (λ x. x < length names.constants) q h.0
+place_there names (j ∷ taken) (suc i) k e h = place_there names taken i k e h.1
 
 pub literal_named : (names : Names) (ls : List Literal) (i : ℕ) (l : Literal) → slice_get ls i ≡ Some l → HaveNames names ls → HasNames names l.atom
 literal_named names [] i l e h = cc

@@ -1,5 +1,6 @@
 -- A refutation with the names of a signature in place of their numbers.
 use Rattle.std.specs.Prelude.{ℕ, zero, suc, ◌<◌, List, [], ◌∷◌, map, length, slice_get, unwrap_or, IsTrue}
+use Rattle.std.specs.List.{AllByRecursion}
 use Rattle.stt_core.specs.SimpleType.{SimpleType, base, arrow, is_declared}
 use Rattle.stt_core.specs.Lambda.{Constant, name, witness, falsity, negation, implication, all, equality, choice, description, Lambda, bound, constant, lam, app}
 use Rattle.stt_core.specs.TypedName.{TypedName}
@@ -75,8 +76,10 @@ named_line names line = record {
   children = line.children;
 }
 
-abbrev pub named_refutation : Names → Refutation → RefutationTree
-named_refutation names r = record {
+-- with the constants whose definitions are unfolded, by their places
+abbrev pub named_refutation : Names → List ℕ → Refutation → RefutationTree
+named_refutation names taken r = record {
+  names = map (name_at names.constants) taken;
   rows = map (λ row. named_term names row.predicate) r.witnesses;
   lines = map (named_line names) r.lines;
 }
@@ -137,6 +140,10 @@ RowsHaveNames names (row ∷ rows) = HasNames names row.predicate × RowsHaveNam
 abbrev pub LinesHaveNames : Names → List Line → Type 0
 LinesHaveNames names [] = Unit {0}
 LinesHaveNames names (line ∷ lines) = HasLineNames names line × LinesHaveNames names lines
+
+-- the places are those of constants
+abbrev pub ArePlaces : Names → List ℕ → Type 0
+ArePlaces names taken = AllByRecursion (λ k. k < length names.constants) taken
 
 -- Every name and base type of the refutation is declared.
 pub record IsNamed (names : Names) (r : Refutation) : Type 0 where

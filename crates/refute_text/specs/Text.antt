@@ -108,9 +108,18 @@ abbrev pub line_texts : ℕ → List LineTree → List (List ℕ)
 line_texts k [] = []
 line_texts k (l ∷ lines) = line_text k l ∷ line_texts (suc k) lines
 
+-- A text has version 2 exactly where definitions are unfolded.
+abbrev pub version_text : List (List ℕ) → List ℕ
+version_text [] = codes "version 1"
+version_text (w ∷ names) = codes "version 2"
+
+-- the line of a name whose definition is unfolded
+abbrev pub definition_text : List ℕ → List ℕ
+definition_text w = codes "d " ++ name_text w
+
 -- The lines between the start line and the end line.
 abbrev pub text_lines : RefutationTree → List (List ℕ)
-text_lines r = codes "version 1" ∷ (row_texts 0 r.rows ++ line_texts 0 r.lines)
+text_lines r = version_text r.names ∷ (map definition_text r.names ++ (row_texts 0 r.rows ++ line_texts 0 r.lines))
 
 -- lines as bytes: a line feed ends each
 abbrev pub as_bytes : List (List ℕ) → List ℕ

@@ -70,7 +70,8 @@ pub record LineTree : Type 0 where
   pub rule : RuleTree
   pub children : List Child
 
--- the predicates of the witness rows, and the lines
+-- the names whose definitions are unfolded, the predicates of the witness rows, and the lines
 pub record RefutationTree : Type 0 where
+  pub names : List (List ℕ)
   pub rows : List TermTree
   pub lines : List LineTree

@@ -8,8 +8,9 @@ mod write_line;
 mod write_name;
 mod write_rule;
 mod write_term;
+mod write_whole;
 
 pub use letters::{is_plain, is_word_byte};
-pub use line::{RefutationText, TextLine, TextLines, TextLit, TextLits, TextRule};
+pub use line::{RefutationText, TextLine, TextLines, TextLit, TextLits, TextNames, TextRule};
 pub use tree::{TextHead, TextNode, TextTerm, TextTerms, TextTy};
-pub use write_line::write_text;
+pub use write_whole::write_text;

@@ -3,6 +3,7 @@
 ghost use Rattle.std.specs.Prelude.{◌≡◌, ◌++◌, [], ◌∷◌, OnOk, OnErr, ◌<◌, Some, length, slice_get};
 
 use crate::tree::{TextTerm, TextTerms};
+use outside::Bytes;
 use std::alloc::{AllocError, Global};
 use std::marker::Model;
 use stt_tableau::Children;
@@ -158,10 +159,63 @@ impl TextLines {
     }
 }
 
-/// A refutation as it is written: the predicates of the witness rows, the lines, and the number of the file line at which the first
-/// row stands, or else the first line, or else the end line.
+/// Names, as bytes.
+#[derive(Drop)]
+pub struct TextNames {
+    items: Vec<Bytes>,
+}
+
+impl Model for TextNames {
+    ghost use Rattle.std.specs.Prelude.{List, ℕ};
+    ghost use Rattle.std.specs.Coded.{coded_list, coded_ℕ};
+
+    ghost Value = { List (List ℕ) };
+
+    ghost coded = { coded_list (coded_list coded_ℕ) };
+
+    ghost view = { λ a. a.items.items };
+}
+
+impl TextNames {
+    pub fn new(alloc: Global) -> TextNames
+        ensures { result ≡ [] }
+    {
+        TextNames {
+            items: Vec::new(alloc),
+        }
+    }
+
+    pub fn push(&mut self, name: Bytes) -> Result<(), AllocError>
+        ensures ok { OnOk result (self.new ≡ self.old ++ name ∷ []) }
+        ensures err { OnErr result (self.new ≡ self.old) }
+    {
+        self.items.push(name)?;
+        Ok(())
+    }
+
+    pub fn len(&self) -> usize
+        ensures { result ≡ length self.now }
+    {
+        self.items.len()
+    }
+
+    /// The name at a place of the list.
+    pub fn at(&self, i: usize) -> &[u8]
+        requires { i < length self.now }
+        ensures { slice_get self.now i ≡ Some result.now }
+    {
+        self.items[i].as_slice()
+    }
+}
+
+/// A refutation as it is written: its version, which is 2 where definitions are unfolded and else 1, the names of these definitions, the
+/// predicates of the witness rows, and the lines. `names_at` is the number of the file line behind the version, and `first` that at
+/// which the first row stands, or else the first line, or else the end line.
 #[derive(Drop)]
 pub struct RefutationText {
+    pub version: u32,
+    pub names: TextNames,
+    pub names_at: usize,
     pub witnesses: TextTerms,
     pub lines: TextLines,
     pub first: usize,

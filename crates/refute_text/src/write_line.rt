@@ -1,10 +1,8 @@
 //! Writes rows and lines.
 
-ghost use Rattle.std.specs.Prelude.{◌≡◌, ◌≤◌, ◌++◌, map, IsTrue, OnOk, OnErr};
-ghost use Rattle.outside.specs.Causes.{Rose};
-ghost use Rattle.outside.specs.Prefix.{AppendsProperly};
-ghost use Rattle.refute_text.specs.Text.{child_text, branch_text, children_text, row_texts, line_texts, text_lines, as_bytes};
-ghost use Rattle.refute_text.specs.Named.{names_of, named_term, named_literal, named_line, named_refutation, HasNames, HaveNames, HasLineNames, RowsHaveNames, LinesHaveNames, IsNamed};
+ghost use Rattle.std.specs.Prelude.{map, OnOk, OnErr};
+ghost use Rattle.refute_text.specs.Text.{child_text, branch_text, children_text, row_texts, line_texts, as_bytes};
+ghost use Rattle.refute_text.specs.Named.{names_of, named_term, named_literal, named_line, HasNames, HaveNames, HasLineNames, RowsHaveNames, LinesHaveNames};
 ghost use Rattle.refute_text.specs.Means.Pieces.{comma_before, literal_at, child_at, row_line, line_end, line_line};
 ghost use Rattle.outside.specs.Writing.{Took, Stopped};
 
@@ -13,7 +11,7 @@ use crate::write_rule::{write_literal, write_rule};
 use crate::write_term::write_term;
 use outside::{Failed, Sink};
 use stt_core::Signature;
-use stt_tableau::{Child, Children, Line, Lines, Lit, Lits, Refutation, Rows, WitnessRow};
+use stt_tableau::{Child, Children, Line, Lines, Lit, Lits, Rows, WitnessRow};
 
 /// Writes the comma before the member of a list at this place, which the first one has not.
 fn write_comma<S: Sink>(sink: &mut S, place: usize) -> Result<(), Failed>
@@ -140,7 +138,7 @@ fn write_line<S: Sink>(
     Ok(())
 }
 
-fn write_rows<S: Sink>(sink: &mut S, sig: &Signature, rows: &Rows) -> Result<(), Failed>
+pub(crate) fn write_rows<S: Sink>(sink: &mut S, sig: &Signature, rows: &Rows) -> Result<(), Failed>
     requires { RowsHaveNames (names_of sig.now.bases sig.now.consts) rows.now }
     ensures took { OnOk result (Took S.tells S.written S.faults sink.old sink.new
         (as_bytes (row_texts 0 (map (λ row. named_term (names_of sig.now.bases sig.now.consts) row.predicate) rows.now)))) }
@@ -153,7 +151,11 @@ fn write_rows<S: Sink>(sink: &mut S, sig: &Signature, rows: &Rows) -> Result<(),
     Ok(())
 }
 
-fn write_lines<S: Sink>(sink: &mut S, sig: &Signature, lines: &Lines) -> Result<(), Failed>
+pub(crate) fn write_lines<S: Sink>(
+    sink: &mut S,
+    sig: &Signature,
+    lines: &Lines,
+) -> Result<(), Failed>
     requires { LinesHaveNames (names_of sig.now.bases sig.now.consts) lines.now }
     ensures took { OnOk result (Took S.tells S.written S.faults sink.old sink.new
         (as_bytes (line_texts 0 (map (named_line (names_of sig.now.bases sig.now.consts)) lines.now)))) }
@@ -163,45 +165,5 @@ fn write_lines<S: Sink>(sink: &mut S, sig: &Signature, lines: &Lines) -> Result<
     for i in 0..lines.len() {
         write_line(sink, sig, i, lines.at(i))?;
     }
-    Ok(())
-}
-
-fn write_version_on<S: Sink>(
-    sink: &mut S,
-    sig: &Signature,
-    refutation: &Refutation,
-) -> Result<(), Failed>
-    requires { IsNamed (names_of sig.now.bases sig.now.consts) refutation.now }
-    ensures took { OnOk result (Took S.tells S.written S.faults sink.old sink.new
-        (as_bytes (text_lines (named_refutation (names_of sig.now.bases sig.now.consts) refutation.now)))) }
-    ensures stopped { OnErr result (Stopped S.tells S.written S.faults sink.old sink.new
-        (as_bytes (text_lines (named_refutation (names_of sig.now.bases sig.now.consts) refutation.now)))) }
-{
-    write(sink, b"version 1\n")?;
-    write_rows(sink, sig, &refutation.witnesses)?;
-    write_lines(sink, sig, &refutation.lines)?;
-    Ok(())
-}
-
-/// Writes the lines between the start line and the end line, each with its line feed. It takes no
-/// memory.
-pub fn write_text<S: Sink>(
-    sig: &Signature,
-    refutation: &Refutation,
-    sink: &mut S,
-) -> Result<(), Failed>
-    requires { IsNamed (names_of sig.now.bases sig.now.consts) refutation.now }
-    ensures appended { OnOk result (IsTrue (S.tells sink.old)
-        → S.written sink.new ≡ S.written sink.old
-        ++ as_bytes (text_lines (named_refutation (names_of sig.now.bases sig.now.consts) refutation.now))) }
-    ensures failed { OnErr result (IsTrue (S.tells sink.old)
-        → AppendsProperly (S.written sink.old) (S.written sink.new)
-        (as_bytes (text_lines (named_refutation (names_of sig.now.bases sig.now.consts) refutation.now)))) }
-    ensures quiet { OnOk result (S.faults sink.new ≡ S.faults sink.old) }
-    ensures cause { OnErr result (Rose (S.faults sink.old) (S.faults sink.new)) }
-    ensures later { S.faults sink.old ≤ S.faults sink.new }
-    ensures telling { IsTrue (S.tells sink.old) → IsTrue (S.tells sink.new) }
-{
-    write_version_on(sink, sig, refutation)?;
     Ok(())
 }

@@ -4,7 +4,7 @@ use Rattle.stt_tableau.specs.declared.refutation.Child.{Child}
 use Rattle.stt_tableau.specs.declared.refutation.Child.TheVariants.{Closed, Line as Numbered}
 use Rattle.refute_text.specs.Trees.{TermTree, LiteralTree, OnePlace, False, Refl, ImpPos, ImpNeg, BoolPos, BoolNeg, FunPos, FunNeg, AllNeg, Dec, TwoPlaces, Close, Mat, Con, OfPredicate, Cho, Des, RuleTree, at_one, at_two, with_instance, with_predicate, with_cut, LineTree}
 use Rattle.refute_text.specs.Limits.{is_negated, greatest_depth}
-use Rattle.refute_read.specs.Means.Reader.{◌>>=◌, behind, by_front, number_at, repeated_at, with_items}
+use Rattle.refute_read.specs.Means.Reader.{◌>>=◌, behind, by_front, number_at, name_at, repeated_at, with_items}
 use Rattle.refute_read.specs.Means.TermReader.{term_at}
 
 abbrev pub read_literal : Bool → TermTree → LiteralTree
@@ -116,6 +116,14 @@ where_number k (Some n) = if n.0 == k then Some n.1 else None
 abbrev pub end_at : List ℕ → Option (List ℕ)
 end_at [] = Some []
 end_at (c ∷ cs) = None
+
+-- the name on the line of a definition
+unfoldable pub definition_at : List ℕ → Option (List ℕ)
+definition_at line = do
+  rest ← behind (codes "d ") line
+  w ← name_at rest
+  end ← end_at w.1
+  Some w.0
 
 unfoldable pub row_at : ℕ → List ℕ → Option TermTree
 row_at k line = do

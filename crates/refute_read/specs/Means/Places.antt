@@ -1,5 +1,7 @@
 -- What the parts of the reader of texts answer.
-use Rattle.std.specs.Prelude.{◌≡◌, ℕ, ◌+◌, List, length}
+use Rattle.std.specs.Prelude.{◌≡◌, ◌<◌, ℕ, ◌+◌, List, [], length}
+use Rattle.refute_text.specs.Trees.{RefutationTree}
+use Rattle.refute_text.specs.declared.line.RefutationText.{RefutationText}
 use Rattle.refute_read.specs.Reading.{IsFront, Starts, IsBadAt}
 use Rattle.refute_read.specs.declared.refusal.Refusal.{Refusal}
 use Rattle.refute_read.specs.declared.refusal.Refusal.TheVariants.{Form, Memory}
@@ -18,6 +20,14 @@ RefusesBehind behind first (refused.BadLine line) = (place : ℕ) × (IsBadAt be
 RefusesBehind behind first (refused.NoStart line) = ⊥
 RefusesBehind behind first (refused.NoEnd line) = IsFront behind × (line ≡ first + length behind)
 RefusesBehind behind first refused.Memory = Unit {0}
+
+-- a refutation of which nothing stands yet but the names
+abbrev pub nothing : List (List ℕ) → RefutationTree
+nothing names = record { names = names; rows = []; lines = [] }
+
+-- the line of a definition may come next
+abbrev pub MayDefine : RefutationText → Type 0
+MayDefine t = (0 < length t.names) × (length t.witnesses ≡ 0) × (length t.lines ≡ 0)
 
 -- what holds where the form is wrong
 abbrev pub IfForm : Refusal → Type 0 → Type 0

@@ -7,8 +7,9 @@ use Rattle.stt_tableau.specs.Literals.{Literal}
 use Rattle.stt_tableau.specs.Witnesses.{Row}
 use Rattle.stt_tableau.specs.declared.refutation.Child.{Child}
 use Rattle.stt_tableau.specs.declared.refutation.Line.{Line}
-use Rattle.refute_text.specs.Text.{type_text, term_text, literal_text, branch_text, children_text, child_text, rule_text}
-use Rattle.refute_text.specs.Named.{Names, named_type, named_term, named_literal, named_rule, HasTypeNames, HasNames}
+use Rattle.refute_text.specs.Letters.{name_text}
+use Rattle.refute_text.specs.Text.{version_text, type_text, term_text, literal_text, branch_text, children_text, child_text, rule_text}
+use Rattle.refute_text.specs.Named.{Names, name_at, named_type, named_term, named_literal, named_rule, HasTypeNames, HasNames}
 
 abbrev pub binder_text : Names → SimpleType → List ℕ
 binder_text names a = codes "^" ++ (type_text (named_type names a) ++ codes ".")
@@ -46,6 +47,13 @@ literal_at names i l = comma_before i ++ literal_text (named_literal names l)
 
 abbrev pub child_at : ℕ → Child → List ℕ
 child_at i c = comma_before i ++ child_text c
+
+-- the lines of the version and of a definition, with their line feeds
+abbrev pub version_line : List (List ℕ) → List ℕ
+version_line names = version_text names ++ codes "\n"
+
+abbrev pub definition_line : Names → ℕ → List ℕ
+definition_line names k = codes "d " ++ (name_text (name_at names.constants k) ++ codes "\n")
 
 -- the lines of a row and of a line, with their line feeds
 abbrev pub row_line : Names → ℕ → Row → List ℕ

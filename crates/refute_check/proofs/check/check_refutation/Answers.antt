@@ -1,18 +1,26 @@
-use Rattle.std.proofs.Common.{subst}
-use Rattle.stt_tableau.specs.Start.{start}
-use Rattle.stt_tableau.specs.Accepted.{FirstFailure}
-use Rattle.stt_tableau.specs.Refused.{IfRefused}
-use Rattle.stt_tableau.proofs.FirstFailureLaws.{accepted_no_failure}
+use Rattle.std.proofs.Common.{sym, ◌∙◌}
 use Rattle.refute_text.specs.TextView.{the_text}
-use Rattle.refute_text.specs.Named.{names_of}
-use Rattle.refute_check.specs.Numbered.{numbered_refutation}
+use Rattle.refute_check.specs.Acceptance.{TextFailsAt}
+use Rattle.refute_check.proofs.AcceptanceLaws.{if_line, plain_fails, fails_not_accepted}
 use Rattle.refute_check.proofs.check.check_refutation.Goals as goal
-use Rattle.stt_core.specs.Declarations.{scope_of}
 
-pub returns-in-Err-Refused-clause-refused_only : goal.returns-in-Err-Refused-clause-refused_only
-returns-in-Err-Refused-clause-refused_only c = λ accepted.
+pub returns-then-len-eq0-clause-refused : goal.returns-then-len-eq0-clause-refused
+returns-then-len-eq0-clause-refused c =
     let p = c.args.problem.now in
-    let scope = (scope_of p.declared) in
-    let begin = start p in
-    let r = numbered_refutation (names_of c.args.problem.now.declared.bases c.args.problem.now.declared.consts) (the_text c.args.text.now) in
-    accepted_no_failure scope begin r c.in-Err-Refused.line c.in-Err-Refused.why (subst (λ e. IfRefused e (FirstFailure scope begin r)) c.in-Err-Refused.field-0-is c.in-Err-Refused.ensures.refused) accepted
+    let t = the_text c.args.text.now in
+    let first = c.args.text.now.first in
+    if_line c.check_plain.result _ (TextFailsAt p t first) (λ line why. plain_fails p t first line why (sym c.len.ensures ∙ c.if-len-eq0.true)) c.check_plain.ensures.refused
+
+pub returns-then-len-eq0-clause-refused_only : goal.returns-then-len-eq0-clause-refused_only
+returns-then-len-eq0-clause-refused_only c =
+    let p = c.args.problem.now in
+    let t = the_text c.args.text.now in
+    let first = c.args.text.now.first in
+    if_line c.check_plain.result (TextFailsAt p t first) _ (λ line why. fails_not_accepted p t first line why) (returns-then-len-eq0-clause-refused c)
+
+pub returns-else-len-eq0-clause-refused_only : goal.returns-else-len-eq0-clause-refused_only
+returns-else-len-eq0-clause-refused_only c =
+    let p = c.args.problem.now in
+    let t = the_text c.args.text.now in
+    let first = c.args.text.now.first in
+    if_line c.check_unfolded.result (TextFailsAt p t first) _ (λ line why. fails_not_accepted p t first line why) c.check_unfolded.ensures.refused

@@ -9,7 +9,7 @@ use Rattle.refute_read.proofs.text.add_numbered.Goals as goal
 
 pub returns-in_err-numbered-clause-refused : goal.returns-in_err-numbered-clause-refused
 returns-in_err-numbered-clause-refused c =
-    let refused = line_refused c.args.text.now c.args.line.now c.in_err-numbered.field-0.0 c.requires.has_text c.requires.no_row (subst (λ n. IsRefusal c.in_err-numbered.field-0.0 (line_at n c.args.line.now)) c.len.ensures c.in_err-numbered.ensures) in
+    let refused = line_refused c.args.text.now c.args.line.now c.in_err-numbered.field-0.0 c.requires.has_text c.requires.no_definition c.requires.no_row (subst (λ n. IsRefusal c.in_err-numbered.field-0.0 (line_at n c.args.line.now)) c.len.ensures c.in_err-numbered.ensures) in
     search (rules, refused)
 
 pub returns-clause-has_text : goal.returns-clause-has_text

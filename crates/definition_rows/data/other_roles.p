@@ -1,0 +1,3 @@
+thf(c,type,c: $o).
+thf(x,axiom,( c = $true )).
+thf(y,hypothesis,( c = $true )).

@@ -1,0 +1,2 @@
+thf(f,type,f: $o).
+thf(d,definition,( f = ( ~ f ) )).

@@ -1,0 +1,41 @@
+//! Tells which definitions are taken from problems, and checks refutations' texts against problems. Each line that is read is `taken` and
+//! the name of a problem's file, or `check` and the names of a text's file and of a problem's.
+#![tactic(auto)]
+
+mod definitions;
+mod problem;
+mod texts;
+
+use anyhow::{Error, bail};
+use outside::{Files, StdFiles};
+use problem::problem_in;
+use std::alloc::Global;
+
+/// What is written for a line.
+fn answer<F: Files>(alloc: Global, files: &mut F, line: &str) -> Result<String, Error> {
+    match line.split_once(' ') {
+        Some(("taken", name)) => {
+            let problem = problem_in(alloc, files, name)?;
+            definitions::taken_from(alloc, &problem)
+        }
+        Some(("check", names)) => match names.split_once(' ') {
+            Some((text, name)) => {
+                let problem = problem_in(alloc, files, name)?;
+                texts::check(alloc, files, text, &problem)
+            }
+            None => bail!("two files are wanted: {line}"),
+        },
+        _ => bail!("unknown: {line}"),
+    }
+}
+
+fn main(rt: HostRuntime) -> anyhow::Result<()> {
+    let alloc = rt.alloc();
+    for line in rt.lines(alloc) {
+        let line = line?;
+        let mut files = StdFiles::new(&rt);
+        let text = answer(alloc, &mut files, line.as_str())?;
+        println!(rt; "{line}: {text}")?;
+    }
+    Ok(())
+}

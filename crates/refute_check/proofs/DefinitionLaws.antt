@@ -1,0 +1,52 @@
+-- The names of definitions, compared place by place.
+use Rattle.std.proofs.Common.{◌≡◌, ◌<◌, ◌≤◌, ℕ, ◌+◌, zero, suc, List, [], ◌∷◌, ◌++◌, Option, Some, None, map, length, take, slice_get, unwrap_or, option_map, refl, sym, ap, ap₂, subst, ◌∙◌, arith, take_all}
+use Rattle.std.specs.List.{AllByRecursion}
+use Rattle.stt_core.specs.TypedName.{TypedName}
+use Rattle.stt_core.proofs.ListLaws.{take_got, mapped_get}
+use Rattle.refute_text.specs.Named.{name_at}
+use Rattle.refute_check.specs.Acceptance.{DifferFirst}
+
+pub declared_at : (limit : ℕ) (ks : List ℕ) (i k : ℕ) → AllByRecursion (λ j. j < limit) ks → slice_get ks i ≡ Some k → k < limit
+declared_at limit [] i k h e = cc
+declared_at limit (j ∷ ks) zero k h e = let same : j ≡ k = cc in subst (λ x. x < limit) same h.0
+declared_at limit (j ∷ ks) (suc i) k h e = declared_at limit ks i k h.1 e
+
+mapped_name : (consts : List TypedName) (k : ℕ) → slice_get (map (λ c. c.name) consts) k ≡ option_map (λ c. c.name) (slice_get consts k)
+mapped_name [] k = refl
+mapped_name (c ∷ consts) zero = refl
+mapped_name (c ∷ consts) (suc k) = mapped_name consts k
+
+-- the name of the constant at a place of a list
+pub name_there : (consts : List TypedName) (ks : List ℕ) (i k : ℕ) (name : List ℕ) → slice_get ks i ≡ Some k → option_map (λ c. c.name) (slice_get consts k) ≡ Some name → slice_get (map (name_at (map (λ c. c.name) consts)) ks) i ≡ Some name
+name_there consts ks i k name at e =
+    mapped_get (name_at (map (λ c. c.name) consts)) ks i k at ∙ ap (λ o. Some (unwrap_or o [])) (mapped_name consts k ∙ e)
+
+pub nothing_there : {A : Type 0} (xs : List A) (i : ℕ) (x : A) → length xs ≤ i → slice_get xs i ≡ Some x → ⊥
+nothing_there [] i x h e = cc
+nothing_there (y ∷ xs) zero x h e = absurd (omega (arith, h))
+nothing_there (y ∷ xs) (suc i) x h e = nothing_there xs i x (omega (arith, h)) e
+
+module _ (names taken : List (List ℕ)) where
+  pub differ_here : (i : ℕ) (name : List ℕ) → take i names ≡ take i taken → slice_get names i ≡ Some name → (slice_get taken i ≡ Some name → ⊥) → DifferFirst names taken i
+  differ_here i name same at apart = record { same = same; other = λ e. apart (sym e ∙ at) }
+
+  pub same_further : (i : ℕ) (name : List ℕ) → take i names ≡ take i taken → slice_get names i ≡ Some name → slice_get taken i ≡ Some name → take (i + 1) names ≡ take (i + 1) taken
+  same_further i name same at there = take_got names i name at ∙ ap (λ l. l ++ name ∷ []) same ∙ sym (take_got taken i name there)
+
+differ_behind : (names taken : List (List ℕ)) → names ≡ take (length names) taken → (length names ≡ length taken → ⊥) → DifferFirst names taken (length names)
+differ_behind [] [] e h = absurd (h refl)
+differ_behind [] (v ∷ taken) e h = record { same = refl; other = λ k. cc }
+differ_behind (w ∷ names) [] e h = cc
+differ_behind (w ∷ names) (v ∷ taken) e h =
+    let first : w ≡ v = cc in
+    let tail : names ≡ take (length names) taken = cc in
+    let rest = differ_behind names taken tail (λ k. h (ap suc k)) in
+    record { same = ap₂ (λ x y. x ∷ y) first rest.same; other = rest.other }
+
+-- where all names are the same, and there are as many
+pub same_whole : (names taken : List (List ℕ)) (i : ℕ) → take i names ≡ take i taken → length names ≤ i → length names ≡ length taken → names ≡ taken
+same_whole names taken i same h e = sym (take_all i names h) ∙ same ∙ take_all i taken (omega (arith, h, e))
+
+pub differ_in_length : (names taken : List (List ℕ)) (i : ℕ) → take i names ≡ take i taken → i ≡ length names → (length names ≡ length taken → ⊥) → DifferFirst names taken (length names)
+differ_in_length names taken i same e h =
+    differ_behind names taken (sym (take_all i names (omega (arith, e))) ∙ same ∙ ap (λ n. take n taken) e) h

@@ -1,0 +1,27 @@
+//! Laws of accepted texts. Each function does nothing: what it says stands in its contract.
+
+ghost use Rattle.std.specs.Prelude.{◌≡◌};
+ghost use Rattle.stt_core.specs.Meaning.{Model, IsModel};
+ghost use Rattle.stt_core.specs.Declarations.{scope_of};
+ghost use Rattle.stt_core.specs.TypedProblem.{IsTyped};
+ghost use Rattle.stt_core.specs.Meets.{MeetsProblem};
+ghost use Rattle.stt_tableau.specs.Start.{start};
+ghost use Rattle.delta_defs.specs.Unfolding.{unfolded_problem};
+ghost use Rattle.refute_text.specs.Trees.{RefutationTree};
+ghost use Rattle.refute_check.specs.Acceptance.{taken_texts, NamesDefinitions, refuted_problem, IsAcceptedFor};
+
+use stt_core::Problem;
+
+/// Where a text of either version is accepted for a typed problem, no model meets the problem.
+pub fn accepted_texts_refute(problem: &Problem)
+    requires { IsTyped problem.now }
+    ensures { (t : RefutationTree) → IsAcceptedFor problem.now t → (m : Model) → IsModel (scope_of problem.now.declared) m → MeetsProblem problem.now m → ⊥ }
+{}
+
+/// The start of the unfolded problem is its own. A text with the names of the definitions that are taken, of whichever version it is, is
+/// one for that start.
+pub fn unfolded_start(problem: &Problem)
+    ensures once { start (unfolded_problem (unfolded_problem problem.now)) ≡ start (unfolded_problem problem.now) }
+    ensures named { NamesDefinitions problem.now (taken_texts problem.now) }
+    ensures taken { start (refuted_problem problem.now (taken_texts problem.now)) ≡ start (unfolded_problem problem.now) }
+{}
