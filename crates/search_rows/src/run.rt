@@ -21,7 +21,7 @@ fn write(
     sink: &mut GrowSink,
 ) -> anyhow::Result<()> {
     match accepts_plain(alloc, sig, start, refutation) {
-        Ok(()) => match write_text(sig, refutation, sink) {
+        Ok(()) => match write_text(sig, &[], refutation, sink) {
             Ok(()) => Ok(()),
             Err(Failed) => Err(AllocError)?,
         },
