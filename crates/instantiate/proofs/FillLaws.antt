@@ -1,6 +1,8 @@
 -- Partial terms whose first hole is filled.
-use Rattle.std.specs.Prelude.{◌≡◌, ◌+◌, ◌++◌, ℕ, List, [], ◌∷◌, Option, Some, None, slice_get, drop, unwrap_or, refl}
-use Rattle.std.proofs.Common.{ap, ap₂, sym, ◌∙◌, append_assoc}
+use Rattle.std.specs.Prelude.{◌≡◌, ◌+◌, ◌<◌, ◌≤◌, ◌++◌, ℕ, zero, suc, List, [], ◌∷◌, Option, Some, None, length, set, slice_get, take, drop, unwrap_or, refl}
+use Rattle.std.proofs.Common.{ap, ap₂, sym, ◌∙◌, append_assoc, append-nil, take_all, arith}
+use Rattle.std.proofs.lemmas.List.{drop-set-lt, take_more_set}
+use Rattle.std.proofs.lemmas.Option.{slice_get_within}
 use Rattle.stt_core.specs.SimpleType.{SimpleType, base, arrow}
 use Rattle.stt_core.specs.Lambda.{Lambda}
 use Rattle.search_run.specs.Partial.{Partial, head, application, in_first, filled, blank, with_holes}
@@ -54,3 +56,43 @@ module _ (f f' : Option Partial) (ps : List Partial) (i : ℕ) (p x : Partial) (
 
   pub left-later : (filling_all f' (drop (i + 1) ps)).1 ≡ (filling_all f (drop i ps)).1
   left-later = ap (λ g. (filling_all g (drop (i + 1) ps)).1) left ∙ ap (λ qs. (filling_all f qs).1) (sym (drop-at ps i p at))
+
+first_after : {X : Type 0} (xs : List X) (i : ℕ) → slice_get (drop i xs) 0 ≡ slice_get xs i
+first_after [] zero = refl
+first_after [] (suc i) = refl
+first_after (x ∷ xs) zero = refl
+first_after (x ∷ xs) (suc i) = first_after xs i
+
+none_after : {X : Type 0} (xs : List X) (i : ℕ) → length xs ≤ i → drop i xs ≡ []
+none_after [] zero h = refl
+none_after [] (suc i) h = refl
+none_after (x ∷ xs) zero h = absurd (omega (arith, h))
+none_after (x ∷ xs) (suc i) h = none_after xs i (omega (arith, h))
+
+-- of a list that is filled from the left what stands at a place, where the rest is as it was
+module _ (f f' : Option Partial) (xs ys : List Partial) (i : ℕ) (p x : Partial) (later : drop i xs ≡ drop i ys) (at : slice_get xs i ≡ Some p) (filled : x ≡ (filling f p).0) (left : f' ≡ (filling f p).1) where
+  pub at-later : slice_get ys i ≡ Some p
+  at-later = sym (first_after ys i) ∙ ap (λ zs. slice_get zs 0) (sym later) ∙ first_after xs i ∙ at
+
+  pub drop-later : drop (i + 1) (set xs i x) ≡ drop (i + 1) ys
+  drop-later =
+      let next : i < i + 1 = omega arith in
+      drop-set-lt (i + 1) xs i x next ∙ ap (drop 1) (sym (drop-at xs i p at) ∙ later ∙ drop-at ys i p at-later)
+
+  pub filled-later : take (i + 1) (set xs i x) ++ (filling_all f' (drop (i + 1) ys)).0 ≡ take i xs ++ (filling_all f (drop i ys)).0
+  filled-later = copies-later f f' ys i p x at-later filled left (take i xs) (take (i + 1) (set xs i x)) (take_more_set xs i x (slice_get_within xs i p at))
+
+  pub filler-later : (filling_all f' (drop (i + 1) ys)).1 ≡ (filling_all f (drop i ys)).1
+  filler-later = left-later f f' ys i p x at-later filled left
+
+-- all of a list is filled
+module _ (f g : Option Partial) (xs ys : List Partial) (i : ℕ) (passed : length ys ≤ i) (count : length xs ≡ length ys) where
+  pub filled-whole : take i xs ++ (filling_all f (drop i ys)).0 ≡ (filling_all g ys).0 → xs ≡ (filling_all g ys).0
+  filled-whole e =
+      sym (append-nil xs)
+      ∙ ap (λ zs. zs ++ []) (sym (take_all i xs (omega (arith, passed, count))))
+      ∙ ap (λ (zs : List Partial). take i xs ++ (filling_all f zs).0) (sym (none_after ys i passed))
+      ∙ e
+
+  pub filler-whole : (filling_all f (drop i ys)).1 ≡ (filling_all g ys).1 → f ≡ (filling_all g ys).1
+  filler-whole e = ap (λ (zs : List Partial). (filling_all f zs).1) (sym (none_after ys i passed)) ∙ e

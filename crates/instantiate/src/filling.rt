@@ -24,18 +24,16 @@ impl Partials {
         }
     }
 
-    /// Copies, of which one has the filler in its first hole, where one has a hole. Then nothing is left of the filler.
-    #[cycle(filled)]
-    fn filled(&self, alloc: Global, filler: &mut Option<Partial>) -> Result<Partials, AllocError>
-        ensures copies { IfOk result (λ ps. ps ≡ (filling_all filler.old self.now).0) }
-        ensures left { OnOk result (filler.new ≡ (filling_all filler.old self.now).1) }
+    /// Puts the filler in the first hole of them, where there is one. Then nothing is left of the filler.
+    #[cycle(fill)]
+    fn fill(&mut self, filler: &mut Option<Partial>)
+        ensures filled { self.new ≡ (filling_all filler.old self.old).0 }
+        ensures left { filler.new ≡ (filling_all filler.old self.old).1 }
     {
-        let mut copies = Partials::new(alloc);
-        for i in 0..self.len() {
-            let copy = self.at(i).filled(alloc, filler)?;
-            copies.push(copy)?;
+        for i in 0..self.items.len() {
+            let partial = &mut self.items[i];
+            partial.fill(filler);
         }
-        Ok(copies)
     }
 }
 
@@ -51,44 +49,30 @@ impl Partial {
         })
     }
 
-    /// A copy with a head of this type, and with holes for its arguments, in the first hole, where there is one.
-    pub fn with_head(&self, alloc: Global, head: &Head, ty: &Ty) -> Result<Partial, AllocError>
-        ensures { IfOk result (λ p. p ≡ unwrap_or (filled (with_holes (the_type ty.now) (the_leaf (the_head head.now))) self.now) self.now) }
+    /// The partial term with a head of this type, and with holes for its arguments, in the first hole, where there is one.
+    pub fn with_head(self, alloc: Global, head: &Head, ty: &Ty) -> Result<Partial, AllocError>
+        ensures { IfOk result (λ p. p ≡ unwrap_or (filled (with_holes (the_type ty.now) (the_leaf (the_head head.now))) self) self) }
     {
         let mut filler = Some(Partial::with_holes(alloc, head, ty)?);
-        let copy = self.filled(alloc, &mut filler)?;
-        Ok(copy)
+        let mut partial = self;
+        partial.fill(&mut filler);
+        Ok(partial)
     }
 
-    /// A copy with the filler in the first hole, where there is one. Then nothing is left of the filler.
-    #[cycle(filled)]
-    pub(crate) fn filled(
-        &self,
-        alloc: Global,
-        filler: &mut Option<Partial>,
-    ) -> Result<Partial, AllocError>
-        ensures copy { IfOk result (λ p. p ≡ (filling filler.old self.now).0) }
-        ensures left { OnOk result (filler.new ≡ (filling filler.old self.now).1) }
+    /// Puts the filler in the first hole, where there is one. Then nothing is left of the filler.
+    #[cycle(fill)]
+    pub(crate) fn fill(&mut self, filler: &mut Option<Partial>)
+        ensures filled { self.new ≡ (filling filler.old self.old).0 }
+        ensures left { filler.new ≡ (filling filler.old self.old).1 }
     {
-        match &self.node {
-            PartialNode::Hole(base) => match filler.take() {
-                Some(partial) => Ok(partial),
-                None => Ok(Partial {
-                    node: PartialNode::Hole(*base),
-                }),
-            },
-            PartialNode::Lam(ty, body) => {
-                let body = Box::new(alloc, body.filled(alloc, filler)?)?;
-                Ok(Partial {
-                    node: PartialNode::Lam(ty.try_clone(alloc)?, body),
-                })
+        match &mut self.node {
+            PartialNode::Hole(_) => {
+                if let Some(Partial { node }) = filler.take() {
+                    self.node = node;
+                }
             }
-            PartialNode::App(head, args) => {
-                let args = args.filled(alloc, filler)?;
-                Ok(Partial {
-                    node: PartialNode::App(head.try_clone(alloc)?, args),
-                })
-            }
+            PartialNode::Lam(_, body) => body.fill(filler),
+            PartialNode::App(_, args) => args.fill(filler),
         }
     }
 }

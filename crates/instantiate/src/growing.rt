@@ -55,22 +55,23 @@ impl Enumerator {
     pub fn grow(
         &self,
         bank: &mut Bank,
-        partial: &Partial,
+        partial: Partial,
         head: &Head,
     ) -> Result<Option<Grown>, AllocError>
-        requires typed { IsTyped (content_scope bank.old) partial.now }
-        requires takes { TakesHead (content_scope bank.old) partial.now (the_head head.now) }
-        ensures fits { IfOk result (λ o. is_some o ≡ fits (content_scope bank.old) (the_head head.now) (first_hole [] partial.now)) }
-        ensures grown { IfOk result (λ o. IfSome o (λ g. IsGrown (content_scope bank.old) (the_head head.now) partial.now bank.new g)) }
+        requires typed { IsTyped (content_scope bank.old) partial }
+        requires takes { TakesHead (content_scope bank.old) partial (the_head head.now) }
+        ensures fits { IfOk result (λ o. is_some o ≡ fits (content_scope bank.old) (the_head head.now) (first_hole [] partial)) }
+        ensures grown { IfOk result (λ o. IfSome o (λ g. IsGrown (content_scope bank.old) (the_head head.now) partial bank.new g)) }
         ensures grows { Grows bank.old bank.new }
     {
-        let Some(ty) = fitting_type(bank, partial, head)? else {
+        let Some(ty) = fitting_type(bank, &partial, head)? else {
             return Ok(None);
         };
         // The signature is asked for its clause that what is declared is over it.
         let _declared = bank.sig();
         let mut filler = Some(Partial::with_holes(self.alloc, head, &ty)?);
-        let grown = partial.filled(self.alloc, &mut filler)?;
+        let mut grown = partial;
+        grown.fill(&mut filler);
         match grown.hole_base() {
             Some(_) => Ok(Some(Grown::More(grown))),
             None => Ok(Some(Grown::Term(intern(self.alloc, bank, &grown)?))),

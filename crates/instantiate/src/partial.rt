@@ -28,7 +28,7 @@ pub enum PartialNode {
 #[derive(Drop)]
 #[cycle(partial)]
 pub struct Partials {
-    items: Vec<Partial>,
+    pub(crate) items: Vec<Partial>,
 }
 
 impl Model for Partial {

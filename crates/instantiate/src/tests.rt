@@ -36,7 +36,7 @@ fn grown_with(alloc: Global, head: &Head) -> Result<Option<Grown>, AllocError>
 {
     let mut bank = bank_of_one_constant(alloc)?;
     let partial = Partial::of_type(alloc, &predicate_type(alloc)?)?;
-    Ok(Enumerator::new(alloc).grow(&mut bank, &partial, head)?)
+    Ok(Enumerator::new(alloc).grow(&mut bank, partial, head)?)
 }
 
 fn check_heads(rt: &impl Abort, alloc: Global) -> Result<(), AllocError> {

@@ -5,7 +5,7 @@ use Rattle.stt_tableau.specs.Literals.{Literal}
 use Rattle.stt_tableau.specs.Accepted.{IsAccepted}
 use Rattle.stt_tableau.specs.declared.refutation.Refutation.{Refutation}
 use Rattle.refute_text.specs.Named.{names_of, IsNamed}
-use Rattle.satallax_top.proofs.NameLaws.{accepted_named}
+use Rattle.request_answers.proofs.NameLaws.{accepted_named}
 
 same_length : (cs : List TypedName) → length (map (λ c. c.type) cs) ≡ length (map (λ c. c.name) cs)
 same_length [] = refl

@@ -19,6 +19,8 @@ pub enum Wanted {
     Report { status: u64 },
     /// A call ends with this status, and writes the text and perhaps more.
     Front { status: u64 },
+    /// A call ends with the status 0, and writes the text and more; all that it writes is accepted for the problem in this file.
+    Proof { problem: String },
     /// The start of the problem in this file has the literals of the text.
     Start { problem: String },
 }
@@ -170,6 +172,10 @@ impl Case {
             "front" => self.expect(Wanted::Front {
                 status: rest.parse()?,
             }),
+            "proof" => {
+                let problem = String::from_str(self.alloc, rest)?;
+                self.expect(Wanted::Proof { problem });
+            }
             "start" => {
                 let problem = String::from_str(self.alloc, rest)?;
                 self.expect(Wanted::Start { problem });

@@ -4,7 +4,7 @@ use crate::case::{Case, Wanted, call_list};
 use crate::start::start_text;
 use anyhow::bail;
 use outside::{CallList, FileList, MemFiles, MemSink};
-use satallax_top::{Words, satallax};
+use satallax_top::{Outcome, Words, satallax};
 use std::alloc::Global;
 use std::str;
 
@@ -24,6 +24,31 @@ fn words(alloc: Global, case: &Case) -> anyhow::Result<Words> {
     Ok(words)
 }
 
+/// How a call ended, and what it wrote.
+#[derive(Drop)]
+struct Ended {
+    status: u64,
+    out: MemSink,
+}
+
+impl Ended {
+    fn told(&self, alloc: Global) -> anyhow::Result<Option<String>> {
+        let status = self.status;
+        let shown = String::from_utf8_lossy(alloc, self.out.bytes())?;
+        Ok(Some(format!(in alloc; "status {status}\n{shown}")?))
+    }
+}
+
+fn call(alloc: Global, common: &Case, case: &Case) -> anyhow::Result<Ended> {
+    let mut files = files(alloc, common, case, call_list(alloc, &case.reads)?)?;
+    let mut out = MemSink::new(alloc, case.room, call_list(alloc, &case.writes)?)?;
+    let ended = satallax(alloc, &words(alloc, case)?, &mut files, &mut out);
+    Ok(Ended {
+        status: u64::from(ended.status()),
+        out,
+    })
+}
+
 /// The status and the report, where a call ends otherwise than it is to.
 fn call_difference(
     alloc: Global,
@@ -32,21 +57,59 @@ fn call_difference(
     status: u64,
     is_front: bool,
 ) -> anyhow::Result<Option<String>> {
-    let mut files = files(alloc, common, case, call_list(alloc, &case.reads)?)?;
-    let mut out = MemSink::new(alloc, case.room, call_list(alloc, &case.writes)?)?;
-    let ended = satallax(alloc, &words(alloc, case)?, &mut files, &mut out).status();
-    let wrote = out.bytes();
+    let ended = call(alloc, common, case)?;
+    let wrote = ended.out.bytes();
     let text = case.text.as_slice();
     let is_wanted = if is_front {
         wrote.starts_with(text)
     } else {
         wrote == text
     };
-    if is_wanted && u64::from(ended) == status {
+    if is_wanted && ended.status == status {
         return Ok(None);
     }
-    let shown = String::from_utf8_lossy(alloc, wrote)?;
-    Ok(Some(format!(in alloc; "status {ended}\n{shown}")?))
+    ended.told(alloc)
+}
+
+/// The name under which a report is read again.
+const REPORT: &str = "the report";
+
+/// Whether a report holds a refutation that the program accepts for the problem in a file of the case.
+fn is_accepted(
+    alloc: Global,
+    common: &Case,
+    case: &Case,
+    report: &[u8],
+    problem: &str,
+) -> anyhow::Result<bool> {
+    let mut list = FileList::new(alloc);
+    list.push(REPORT, report)?;
+    case.list_files(&mut list)?;
+    common.list_files(&mut list)?;
+    let mut files = MemFiles::new(list, CallList::new(alloc));
+    let mut words = Words::new(alloc);
+    words.push("--check")?;
+    words.push(REPORT)?;
+    words.push(problem)?;
+    let mut out = MemSink::new(alloc, case.room, CallList::new(alloc))?;
+    let ended = satallax(alloc, &words, &mut files, &mut out);
+    Ok(matches!(ended, Outcome::Accepted))
+}
+
+/// The status and the report, where a call doesn't end with a right refutation behind the text.
+fn proof_difference(
+    alloc: Global,
+    common: &Case,
+    case: &Case,
+    problem: &str,
+) -> anyhow::Result<Option<String>> {
+    let ended = call(alloc, common, case)?;
+    let wrote = ended.out.bytes();
+    let is_front = ended.status == 0 && wrote.starts_with(case.text.as_slice());
+    if is_front && is_accepted(alloc, common, case, wrote, problem)? {
+        return Ok(None);
+    }
+    ended.told(alloc)
 }
 
 /// The literals of a problem's start, where they are others than they are to be.
@@ -72,6 +135,7 @@ pub fn difference(alloc: Global, common: &Case, case: &Case) -> anyhow::Result<O
     let told = match &case.wanted {
         Wanted::Report { status } => call_difference(alloc, common, case, *status, false)?,
         Wanted::Front { status } => call_difference(alloc, common, case, *status, true)?,
+        Wanted::Proof { problem } => proof_difference(alloc, common, case, problem.as_str())?,
         Wanted::Start { problem } => start_difference(alloc, common, case, problem.as_str())?,
         Wanted::Nothing => bail!("a case says nothing of its end: {}", case.name),
     };

@@ -57,7 +57,7 @@ fn write(
     sink: &mut GrowSink,
 ) -> anyhow::Result<()> {
     match accepts_plain(alloc, sig, branch, refutation) {
-        Ok(()) => match write_text(sig, refutation, sink) {
+        Ok(()) => match write_text(sig, &[], refutation, sink) {
             Ok(()) => Ok(()),
             Err(Failed) => Err(AllocError)?,
         },

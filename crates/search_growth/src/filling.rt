@@ -53,7 +53,7 @@ fn make_term(tables: &mut Tables, parent: usize, head: HoleHead) -> Result<Id, A
 {
     let partial = partial_of(tables, parent)?;
     let bank = &mut tables.basis.bank;
-    let answer = tables.terms.grow(bank, &partial, &head_of(head))?;
+    let answer = tables.terms.grow(bank, partial, &head_of(head))?;
     match answer {
         Some(grown) => Ok(term_in(grown)),
         None => unreachable!(),

@@ -39,14 +39,14 @@ pub(crate) fn root_of(tables: &Tables, p: usize) -> &Ty
 /// The partial term with a head in the first hole of an earlier one, which is given.
 fn grown_from(
     tables: &Tables,
-    before: &Partial,
+    before: Partial,
     parent: usize,
     head: HoleHead,
 ) -> Result<Partial, AllocError>
     requires right { (q : Queue Planned Delays) × IsRight tables.now q }
     requires number { parent < length (sketches_in tables.now) }
     requires takes { TakesHead (scope_by tables.now.basis) (sketch_at (sketches_in tables.now) parent).partial (the_hole_head head) }
-    requires before { before.now ≡ (sketch_at (sketches_in tables.now) parent).partial }
+    requires before { before ≡ (sketch_at (sketches_in tables.now) parent).partial }
     ensures { IfOk result (λ partial. partial ≡ (grown_by (scope_by tables.now.basis) (the_hole_head head) (sketch_at (sketches_in tables.now) parent)).partial) }
 {
     let ty = taken_type(tables, parent, head)?;
@@ -63,7 +63,7 @@ pub(crate) fn partial_of(tables: &Tables, p: usize) -> Result<Partial, AllocErro
         Stem::Blank(ty) => Ok(Partial::of_type(tables.alloc, ty)?),
         Stem::Grown { parent, head } => {
             let before = partial_of(tables, *parent)?;
-            Ok(grown_from(tables, &before, *parent, *head)?)
+            Ok(grown_from(tables, before, *parent, *head)?)
         }
     }
 }

@@ -35,7 +35,7 @@ pub(crate) fn is_last(tables: &Tables, p: usize, ty: &Ty) -> bool
     ensures { (holes : List Hole) → slice_get tables.now.open_holes p ≡ Some holes → 0 < length holes → result ≡ nat_eq (length (after_head (the_type ty.now) holes)) 0 }
 {
     match ty {
-        Ty::Base(_) => tables.open_holes.count(p) == 1,
+        Ty::Base(_) => tables.open_holes.is_single(p),
         Ty::Arrow(_, _) => false,
     }
 }

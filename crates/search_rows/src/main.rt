@@ -1,5 +1,6 @@
 //! Runs the search over the problems in files. Each line that is read names a file, and behind it settings of a mode with commas between
-//! them; behind the word `trace` what there is after each command is written too, and behind the word `text` the refutation.
+//! them; behind the word `trace` what there is after each command is written too, and behind the word `text` the refutation. Each refutation
+//! is checked, but behind the word `alone`.
 #![tactic(auto)]
 
 mod problem;
@@ -18,8 +19,9 @@ fn answer<F: Files>(alloc: Global, files: &mut F, row: &Row) -> Result<String, E
     let problem = problem_in(alloc, files, row.file.as_str())?;
     match row.told {
         Told::Commands => trace::trace(alloc, &problem, &row.mode),
-        Told::Text => run::end(alloc, &problem, &row.mode, true),
-        Told::End => run::end(alloc, &problem, &row.mode, false),
+        Told::Text => run::text(alloc, &problem, &row.mode),
+        Told::End => run::end(alloc, &problem, &row.mode),
+        Told::Alone => run::alone(alloc, &problem, &row.mode),
     }
 }
 

@@ -7,10 +7,11 @@ use std::alloc::Global;
 /// How many bytes a mode has at most.
 const MAX_BYTES: usize = 16_777_216;
 
-/// What is told of a run: its end, each of its commands too, or its refutation too.
+/// What is told of a run: its end, the same without a check of the refutation, each of its commands too, or its refutation too.
 #[derive(Clone, Copy, Debug, PartialEq, Eq)]
 pub enum Told {
     End,
+    Alone,
     Commands,
     Text,
 }
@@ -48,6 +49,7 @@ fn told_of(line: &str) -> (Told, &str) {
     match line.split_once(' ') {
         Some(("trace", rest)) => (Told::Commands, rest),
         Some(("text", rest)) => (Told::Text, rest),
+        Some(("alone", rest)) => (Told::Alone, rest),
         _ => (Told::End, line),
     }
 }

@@ -21,7 +21,7 @@ fn write(
     sink: &mut GrowSink,
 ) -> anyhow::Result<()> {
     match accepts_plain(alloc, sig, start, refutation) {
-        Ok(()) => match write_text(sig, refutation, sink) {
+        Ok(()) => match write_text(sig, &[], refutation, sink) {
             Ok(()) => Ok(()),
             Err(Failed) => Err(AllocError)?,
         },
@@ -39,25 +39,44 @@ fn text_of(alloc: Global, problem: &Problem, refutation: &Refutation) -> anyhow:
     Ok(String::from_str(alloc, str::from_utf8(sink.bytes())?)?)
 }
 
-/// How the run over a problem ends, with the text of the refutation where that is asked for.
-pub fn end(alloc: Global, problem: &Problem, mode: &Mode, with_text: bool) -> anyhow::Result<String>
-    requires { IsTyped problem.now }
-{
-    match run(alloc, problem, mode)? {
-        Ended::Proved {
-            commands,
-            refutation,
-        } => {
-            let text = text_of(alloc, problem, &refutation)?;
-            if with_text {
-                return Ok(format!(in alloc; "proved, {commands} commands\n{text}")?);
-            }
-            Ok(format!(in alloc; "proved, {commands} commands")?)
-        }
+fn line_of(alloc: Global, ended: &Ended) -> anyhow::Result<String> {
+    match ended {
+        Ended::Proved { commands, .. } => Ok(format!(in alloc; "proved, {commands} commands")?),
         Ended::GaveUp { commands } => Ok(format!(in alloc; "given up, {commands} commands")?),
         Ended::CommandLimit { commands } => Ok(format!(in alloc; "limit of {commands} commands")?),
         Ended::ConflictLimit { conflicts } => {
             Ok(format!(in alloc; "limit of {conflicts} conflicts")?)
         }
     }
+}
+
+/// How the run over a problem ends, without a check of the refutation.
+pub fn alone(alloc: Global, problem: &Problem, mode: &Mode) -> anyhow::Result<String>
+    requires { IsTyped problem.now }
+{
+    line_of(alloc, &run(alloc, problem, mode)?)
+}
+
+/// How the run over a problem ends.
+pub fn end(alloc: Global, problem: &Problem, mode: &Mode) -> anyhow::Result<String>
+    requires { IsTyped problem.now }
+{
+    let ended = run(alloc, problem, mode)?;
+    if let Ended::Proved { refutation, .. } = &ended {
+        text_of(alloc, problem, refutation)?;
+    }
+    line_of(alloc, &ended)
+}
+
+/// How the run over a problem ends, with the text of the refutation.
+pub fn text(alloc: Global, problem: &Problem, mode: &Mode) -> anyhow::Result<String>
+    requires { IsTyped problem.now }
+{
+    let ended = run(alloc, problem, mode)?;
+    let line = line_of(alloc, &ended)?;
+    if let Ended::Proved { refutation, .. } = &ended {
+        let text = text_of(alloc, problem, refutation)?;
+        return Ok(format!(in alloc; "{line}\n{text}")?);
+    }
+    Ok(line)
 }

@@ -5,6 +5,7 @@ pub mod Pending
 pub mod Fitting
 pub mod Heads
 pub mod Holes
+pub mod Means
 pub mod Rests
 pub mod Standing
 pub mod Empty

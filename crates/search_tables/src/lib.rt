@@ -1,6 +1,7 @@
 //! The tables of the search, by numbers.
 #![tactic(auto)]
 
+mod cells;
 mod clauses;
 mod command;
 mod fitting;

@@ -1,3 +1,4 @@
+pub mod OriginLaws
 pub mod PrincipalLaws
 pub mod RebuildUses
 pub mod RunLaws

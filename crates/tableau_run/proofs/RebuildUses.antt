@@ -1,5 +1,5 @@
 -- The tables of a run are what a refutation is rebuilt from.
-use Rattle.std.specs.Prelude.{◌≡◌, ◌<◌, ◌++◌, List, [], ◌∷◌, map, length, Option, Some, None, option_map, IfSome, slice_get, refl}
+use Rattle.std.specs.Prelude.{◌≡◌, ◌<◌, ◌++◌, ℕ, suc, get_or, List, [], ◌∷◌, map, length, Option, Some, None, option_map, IfSome, slice_get, Contains, refl}
 use Rattle.std.specs.List.{All}
 use Rattle.std.specs.Option.{ForSome}
 use Rattle.std.proofs.Common.{sym, ap, subst, ◌∙◌, length-append}
@@ -10,23 +10,27 @@ use Rattle.stt_core.specs.Lambda.{Lambda}
 use Rattle.stt_tableau.specs.Literals.{Literal}
 use Rattle.stt_tableau.specs.Witnesses.{with_rows}
 use Rattle.stt_tableau.specs.Rules.{Rule, places}
+use Rattle.stt_tableau.specs.declared.refutation.Line.{Line}
 use Rattle.stt_tableau.proofs.AcceptedLaws.{literals_at-are}
 use Rattle.sat_base.specs.declared.literal.SatLit.{SatLit}
 use Rattle.sat_base.specs.Literal.{IsOver}
 use Rattle.sat_log.specs.declared.log.LogEntry.{LogEntry}
-use Rattle.sat_log.specs.Chains.{results}
+use Rattle.sat_log.specs.Chains.{results, IsLogOver}
 use Rattle.term_bank.specs.Content.{content_scope}
 use Rattle.search_run.specs.Each.{Each}
 use Rattle.literal_map.specs.Atoms.{literal_at}
 use Rattle.literal_map.specs.declared.instance.Instance.{Instance}
-use Rattle.rebuilt_refutation.specs.Input.{literals_of}
+use Rattle.rebuilt_refutation.specs.Input.{literals_of, clause_in}
+use Rattle.rebuilt_refutation.specs.Trimmed.{IsFromSearch}
+use Rattle.rebuilt_refutation.specs.Used.{AreFew}
 use Rattle.search_run.specs.Numbered as by_atoms
-use Rattle.tableau_clauses.specs.Table.{Step}
+use Rattle.search_run.specs.Unsatisfiable.{Clause}
+use Rattle.tableau_clauses.specs.Table.{Step, Table, the_clauses, ComesFrom, EachComes}
 use Rattle.tableau_clauses.specs.declared.origin.Origin.{Origin}
 use Rattle.tableau_clauses.specs.declared.origin.Origin.TheVariants.{Start, Instance as From}
 use Rattle.tableau_rules.specs.Uses.{principals_of}
 use Rattle.tableau_rules.proofs.MadeLaws.{principals_within}
-use Rattle.tableau_rebuild.specs.Tables.{the_atoms, start_literals_in, unit_literals}
+use Rattle.tableau_rebuild.specs.Tables.{no_literal, the_atoms, sourced, the_sources, the_input, start_literals_in, unit_literals}
 use Rattle.tableau_rebuild.specs.Conditions.{IsInstanceOver, EndsEmpty}
 use Rattle.search_tables.specs.declared.tables.Basis.{Basis}
 use Rattle.search_tables.specs.Names.{IsNumber}
@@ -35,11 +39,30 @@ use Rattle.search_tables.specs.Steps.{IsMade}
 use Rattle.search_tables.proofs.EachLaws.{each-weaker, each-unmapped, map-same, All-from_each}
 use Rattle.search_tables.proofs.NumberLaws.{literal_named}
 use Rattle.tableau_search.specs.Running.{unit_in, units}
+use Rattle.tableau_run.specs.Origin.{ComesFrom as ComesFromClauses, EachComesFrom, AreRefutedShortly}
+use Rattle.tableau_run.proofs.OriginLaws.{comes-from}
 use Rattle.tableau_run.proofs.PrincipalLaws.{principals-at}
 
 some_for : {X : Type 0} (P : X → Type 0) (o : Option X) → ForSome o P → IfSome o P
 some_for P None h = tt
 some_for P (Some x) h = h x refl
+
+-- the clause of a source is the clause that comes from there
+clause_sourced : (terms : List Lambda) (atoms : List ℕ) (t : Table) (clause : List SatLit) (o : Origin) → ComesFrom t.1 clause o → clause_in (sourced terms atoms t.1 clause o) ≡ clause
+clause_sourced terms atoms t clause Start h = ap (λ c. get_or c 0 no_literal ∷ []) h.1 ∙ sym h.1
+clause_sourced terms atoms t clause (From k) h = refl
+
+sourced-each : (terms : List Lambda) (atoms : List ℕ) (t : Table) (steps : List Step) → ((n : ℕ) (s : Step) → slice_get steps n ≡ Some s → ComesFrom t.1 s.0 s.1)
+    → map clause_in (map (λ (s : Step). sourced terms atoms t.1 s.0 s.1) steps) ≡ map (λ (s : Step). s.0) steps
+sourced-each terms atoms t [] h = refl
+sourced-each terms atoms t (s ∷ steps) h =
+    let here = clause_sourced terms atoms t s.0 s.1 (h 0 s refl) in
+    let later = sourced-each terms atoms t steps (λ n r at. h (suc n) r at) in
+    λ i. here i ∷ later i
+
+-- the clauses of the sources are those of the table
+pub sources-clauses : (terms : List Lambda) (atoms : List ℕ) (t : Table) → EachComes t → map clause_in (the_sources terms atoms t) ≡ the_clauses t
+sources-clauses terms atoms t comes = sourced-each terms atoms t t.0 comes
 
 module _ (g : Basis) (good : IsBasis g) where
   abbrev named : List Lambda
@@ -111,6 +134,30 @@ module _ (g : Basis) (good : IsBasis g) where
       map-append by_number (unit_in s.0 s.1) (units steps)
       ∙ ap (λ ls. ls ++ map by_number (units steps)) (unit_named s.0 s.1 h.0)
       ∙ ap (λ ls. start_literals_in named s.0 s.1 ++ ls) (units-named steps h.1)
+
+  module _ (t : Table) (numbers : Each (Each (IsNumber g.lits)) (the_clauses t)) where
+    -- lines of what the tables give come from the clauses of formulas
+    pub origin-named : (log : List LogEntry) (ls : List Literal) (lines : List Line) → EachComes t → ((l : Line) → Contains lines l → IsFromSearch ls (the_input g.bank g.lits t log g.witnesses) l)
+        → EachComesFrom ls (map (map by_number) (the_clauses t)) lines
+    origin-named log ls lines comes from l there =
+        let C : List Clause → Type 0 = λ cs. ComesFromClauses ls cs l in
+        let same : map (literals_of named) (map clause_in (the_sources g.bank.terms g.lits t)) ≡ map (map by_number) (the_clauses t) =
+        ap (map (literals_of named)) (sources-clauses g.bank.terms g.lits t comes) ∙ sym (lists-named (the_clauses t) numbers)
+        in
+        subst C same (comes-from (the_input g.bank g.lits t log g.witnesses) ls l (from l there))
+
+    pub shortly-named : (log : List LogEntry) (front : List (List SatLit)) (lines : List Line) → IsLogOver (the_clauses t) log → results log ≡ front ++ [] ∷ [] → AreFew log lines
+        → AreRefutedShortly (map (map by_number) (the_clauses t)) lines
+    shortly-named log front lines logged ends few = record {
+      atoms = named;
+      numbered = the_clauses t;
+      stand = sym (lists-named (the_clauses t) numbers);
+      log = log;
+      logged = logged;
+      front = front;
+      ends = ends;
+      few = few;
+    }
 
 last_at : {X : Type 0} (xs : List X) (x : X) → slice_get (xs ++ x ∷ []) (length xs) ≡ Some x
 last_at [] x = refl

@@ -1,7 +1,9 @@
 -- Runs from their start to their end.
-use Rattle.std.specs.Prelude.{◌≡◌, ◌+◌, ◌∷◌, ◌++◌, ℕ, zero, suc, Bool, true, false, List, [], map, filter, Some, Contains, refl}
+use Rattle.std.specs.Prelude.{◌≡◌, ◌≤◌, ◌+◌, ◌-◌, ◌^◌, ◌∷◌, ◌++◌, ℕ, zero, suc, Bool, true, false, List, [], map, filter, length, Some, Contains, refl}
+use Rattle.std.specs.List.{All}
 use Rattle.std.proofs.Common.{sym, ap, ap₂, subst, ◌∙◌, arith, inl, inr, cond}
 use Rattle.std.proofs.lemmas.Bool.{cases_lt}
+use Rattle.std.proofs.lemmas.List.Elements.{All-take}
 use Rattle.stt_core.specs.Typing.{Scope}
 use Rattle.stt_core.specs.PlainProblem.{PlainProblem}
 use Rattle.stt_core.specs.Declarations.{scope_of}
@@ -9,26 +11,44 @@ use Rattle.stt_tableau.specs.Literals.{Literal}
 use Rattle.stt_tableau.specs.Start.{start}
 use Rattle.stt_tableau.specs.Witnesses.{Row, IsTableAfter}
 use Rattle.stt_tableau.specs.Accepted.{Within, EndsWithin, IsAccepted}
+use Rattle.stt_tableau.specs.declared.refutation.Line.{Line}
 use Rattle.stt_tableau.specs.declared.refutation.Refutation.{Refutation}
 use Rattle.stt_tableau.proofs.ListLaws.{contains-first, contains-later, contains_cases}
+use Rattle.sat_base.specs.declared.literal.Var.{Var}
+use Rattle.sat_base.specs.declared.literal.SatLit.{SatLit}
+use Rattle.sat_base.specs.Truth.{Implies}
+use Rattle.sat_log.specs.Chains.{results}
+use Rattle.sat_log.specs.Propagation.{AreFailingDecisions, ReachesFalse as NumbersReachFalse}
+use Rattle.sat_core.specs.Solver.{learned_from, learned, AreAmong}
+use Rattle.tableau_clauses.specs.Table.{the_clauses}
+use Rattle.tableau_rebuild.specs.Tables.{the_atoms}
 use Rattle.search_run.specs.Shallow.{is_shallow_literal}
-use Rattle.search_run.specs.State.{Setting, process, pushed}
+use Rattle.search_run.specs.Unsatisfiable.{Clause}
+use Rattle.search_run.specs.State.{State, Setting, process, pushed}
 use Rattle.search_run.specs.After.{nothing_yet, stepped, after}
-use Rattle.search_run.specs.Result.{GoesOn, GoesOnUntil, IsProved, IsExhausted, IsStopped}
+use Rattle.search_run.specs.Result.{GoesOn, GoesOnUntil, IsExhausted, IsStopped}
 use Rattle.command_queue.specs.Queue.{Queue}
 use Rattle.mode_file.specs.declared.Mode.{Mode}
 use Rattle.term_bank.specs.Content.{Content, content_scope}
 use Rattle.search_tables.specs.declared.command.Planned.{Planned}
 use Rattle.search_tables.specs.declared.command.Delays.{Delays}
 use Rattle.search_tables.specs.declared.tables.Tables.{Tables}
-use Rattle.search_tables.specs.Standing.{declared_scope, setting_by, the_state}
+use Rattle.search_tables.specs.Standing.{declared_scope, setting_by, the_state, IsRight}
 use Rattle.tableau_search.specs.Running.{start_in, IsRunning}
 use Rattle.tableau_search.specs.Progress.{Progress}
 use Rattle.tableau_search.specs.Answers.{IsClosed, IsEmpty, IsAtLimit, IsSpent as IsSpentAt, GoesOn as GoesOnBy}
 use Rattle.tableau_run.specs.declared.ended.Ended.{Ended}
 use Rattle.tableau_run.specs.declared.ended.Ended.TheVariants.{Proved, GaveUp, CommandLimit, ConflictLimit}
-use Rattle.tableau_run.specs.Ended.{setting_for, EndsAs}
-use Rattle.tableau_run.specs.Means.Ends.{IsSpentAfter, EndsFrom}
+use Rattle.tableau_run.specs.Ended.{setting_for, IsSpent, EndsAs}
+use Rattle.tableau_run.specs.Origin.{ComesFrom, AreRefutedWithin}
+use Rattle.tableau_run.specs.Means.Ends.{Refutes, IsProvedBy, EndsFrom}
+use Rattle.tableau_run.proofs.OriginLaws.{refuted-within}
+use Rattle.tableau_run.proofs.RebuildUses.{lists-named}
+
+-- what holds of all results holds of the learned ones
+learned-among : (P : List SatLit → Type 0) (refuted : Bool) (rs : List (List SatLit)) → All P rs → All P (learned_from refuted rs)
+learned-among P true rs h = All-take P (length rs - 1) rs h
+learned-among P false rs h = h
 
 -- A STEP
 
@@ -42,10 +62,32 @@ module _ (t : Tables) (q : Queue Planned Delays) (r : IsRunning t q) (t2 : Table
   pub goes-on : GoesOnBy old new → GoesOn (setting_by t q) (start_in t) t.done
   goes-on g = record { state = the_state t q; open_state = record { comes_to = r.comes_to; satisfiable = g.satisfiable }; some_left = g.some_left; below = g.below }
 
-  pub is-proved : IsClosed old new → GoesOnUntil (setting_by t q) (start_in t) t.done → IsProved (setting_by t q) (start_in t) t2.done
-  is-proved k until =
-      let P : ℕ → Type 0 = λ n. IsProved (setting_by t q) (start_in t) n in
-      subst P (sym k.stays.done) (record { until = until; state = the_state t q; comes_to = r.comes_to; unsatisfiable = k.unsatisfiable })
+  -- the clauses are refuted within the conflicts of the mode
+  within_budget : IsClosed old new → IsRight t2 q2 → setting_by t2 q2 ≡ setting_by t q → All (Implies t2.solver.clauses) (results t2.solver.log) → AreRefutedWithin q.rule.mode.conflicts (the_state t q).clauses
+  within_budget k right same implied =
+      let C : List (List SatLit) → Type 0 = λ cs. All (Implies cs) (learned t2.solver) in
+      let R : List (List SatLit) → Type 0 = λ cs. NumbersReachFalse (cs ++ learned t2.solver) [] in
+      let A : List Clause → Type 0 = λ cs. AreRefutedWithin q.rule.mode.conflicts cs in
+      let budget : length (learned t2.solver) ≤ q.rule.mode.conflicts = subst (λ n. length (learned t2.solver) ≤ n) (ap (λ (s : Setting). s.mode.conflicts) same) right.budget in
+      subst A (sym (lists-named t2.basis right.basis (the_clauses t2.steps) right.clauses) ∙ ap (λ (s : State). s.clauses) k.stays.state)
+      (
+      refuted-within (the_atoms t2.basis.bank.terms t2.basis.lits) q.rule.mode.conflicts (the_clauses t2.steps) (learned t2.solver) budget
+      (subst C right.solver (learned-among (Implies t2.solver.clauses) t2.solver.is_refuted (results t2.solver.log) implied))
+      (subst R right.solver k.propagated)
+      )
+
+  pub is-proved : (refutation : Refutation) → IsClosed old new → IsRight t2 q2 → setting_by t2 q2 ≡ setting_by t q → All (Implies t2.solver.clauses) (results t2.solver.log)
+      → Refutes (setting_by t q).scope (start_in t) (the_state t q).clauses refutation → GoesOnUntil (setting_by t q) (start_in t) t.done → IsProvedBy (setting_by t q) (start_in t) t2.done refutation
+  is-proved refutation k right same implied refutes until =
+      let P : ℕ → Type 0 = λ n. IsProvedBy (setting_by t q) (start_in t) n refutation in
+      subst P (sym k.stays.done)
+      (
+      record {
+        proved = record { until = until; state = the_state t q; comes_to = r.comes_to; unsatisfiable = k.unsatisfiable };
+        refutes = refutes;
+        within = within_budget k right same implied;
+      }
+      )
 
   pub is-exhausted : IsEmpty old new → GoesOnUntil (setting_by t q) (start_in t) t.done → IsExhausted (setting_by t q) (start_in t) t2.done
   is-exhausted k until =
@@ -57,8 +99,30 @@ module _ (t : Tables) (q : Queue Planned Delays) (r : IsRunning t q) (t2 : Table
       let P : ℕ → Type 0 = λ n. IsStopped (setting_by t q) (start_in t) n in
       subst P (sym k.stays.done) (record { until = until; state = the_state t q; open_state = record { comes_to = r.comes_to; satisfiable = k.satisfiable }; some_left = k.some_left; at_limit = k.at_limit })
 
-  pub is-spent : (conflicts : ℕ) → IsSpentAt old new conflicts → GoesOnUntil (setting_by t q) (start_in t) t.done → IsSpentAfter (setting_by t q) (start_in t) conflicts
-  is-spent conflicts k until = record { is_budget = k.reported; commands = t.done; until = until; state = the_state t q; comes_to = r.comes_to }
+  -- the conflicts are spent over the clauses that the new tables have
+  pub is-spent : (conflicts : ℕ) → IsSpentAt old new conflicts → IsRight t2 q2 → All (Implies t2.solver.clauses) (results t2.solver.log) → GoesOnUntil (setting_by t q) (start_in t) t.done → IsSpent (setting_by t q) (start_in t) conflicts
+  is-spent conflicts k right implied until =
+      let C : List (List SatLit) → Type 0 = λ cs. All (Implies cs) (learned t2.solver) in
+      let F : List (List SatLit) → Type 0 = λ cs. AreFailingDecisions (cs ++ learned t2.solver) k.decisions in
+      let A : List (List SatLit) → Type 0 = λ cs. (variables : List Var) → AreAmong variables cs → 3 ^ length variables ≤ conflicts → ⊥ in
+      record {
+        is_budget = k.reported;
+        commands = t.done;
+        until = until;
+        state = the_state t q;
+        comes_to = r.comes_to;
+        spent = record {
+          atoms = the_atoms t2.basis.bank.terms t2.basis.lits;
+          numbered = the_clauses t2.steps;
+          stand = sym (lists-named t2.basis right.basis (the_clauses t2.steps) right.clauses) ∙ ap (λ (s : State). s.clauses) k.stays.state;
+          learned = learned t2.solver;
+          counted = k.counted;
+          implied = subst C right.solver (learned-among (Implies t2.solver.clauses) t2.solver.is_refuted (results t2.solver.log) implied);
+          decisions = k.decisions;
+          failing = subst F right.solver k.failing;
+          few = subst A right.solver k.few;
+        };
+      }
 
 -- MANY STEPS
 
@@ -102,9 +166,6 @@ module _ (setting : Setting) (ls : List Literal) where
   until_whole : (n : ℕ) → GoesOnUntil setting few n → GoesOnUntil setting ls n
   until_whole n until m h = goes_on_whole m (until m h)
 
-  pub proved-whole : (n : ℕ) → IsProved setting few n → IsProved setting ls n
-  proved-whole n p = record { until = until_whole n p.until; state = p.state; comes_to = sym (after_shallow setting ls n) ∙ p.comes_to; unsatisfiable = p.unsatisfiable }
-
   pub exhausted-whole : (n : ℕ) → IsExhausted setting few n → IsExhausted setting ls n
   exhausted-whole n p = record {
     until = until_whole n p.until;
@@ -144,13 +205,30 @@ accepted_whole scope ls refutation a = record {
   last = record { front = a.last.front; last = a.last.last; are = a.last.are; within = within_whole a.last.last.branch ls a.last.within };
 }
 
+comes_whole : (ls : List Literal) (clauses : List Clause) (l : Line) → ComesFrom (filter is_shallow_literal ls) clauses l → ComesFrom ls clauses l
+comes_whole ls clauses l (inl cut) = inl cut
+comes_whole ls clauses l (inr (inr from)) = inr (inr from)
+comes_whole ls clauses l (inr (inl h)) =
+    inr (inl (record {
+      first = h.first;
+      second = h.second;
+      rule = h.rule;
+      branch = h.branch;
+      first_in = held_whole is_shallow_literal ls h.first h.first_in;
+      second_in = held_whole is_shallow_literal ls h.second h.second_in;
+    }))
+
 -- what ends from the literals of a problem that aren't too deep, ends from the problem's start
 module _ (p : PlainProblem) (m : Mode) (setting : Setting) (ls : List Literal) (is_setting : setting ≡ setting_for p m) (is_start : ls ≡ filter is_shallow_literal (start p)) where
   ends_here : (e : Ended) → EndsFrom (setting_for p m) (filter is_shallow_literal (start p)) e → EndsAs p m e
   ends_here (Proved n refutation) k = record {
-    proved = proved-whole (setting_for p m) (start p) n k.0;
-    accepted = accepted_whole (scope_of p.declared) (start p) refutation k.1.accepted;
-    reached = k.1.reached;
+    proved = record { until = until_whole (setting_for p m) (start p) n k.proved.until; state = k.proved.state; comes_to = sym (after_shallow (setting_for p m) (start p) n) ∙ k.proved.comes_to; unsatisfiable = k.proved.unsatisfiable };
+    accepted = accepted_whole (scope_of p.declared) (start p) refutation k.refutes.accepted;
+    reached = k.refutes.reached;
+    small = k.refutes.small;
+    origin = λ l there. comes_whole (start p) k.proved.state.clauses l (k.refutes.origin l there);
+    shortly = k.refutes.shortly;
+    within = k.within;
   }
   ends_here (GaveUp n) k = exhausted-whole (setting_for p m) (start p) n k
   ends_here (CommandLimit n) k = stopped-whole (setting_for p m) (start p) n k
@@ -160,6 +238,7 @@ module _ (p : PlainProblem) (m : Mode) (setting : Setting) (ls : List Literal) (
     until = until_whole (setting_for p m) (start p) k.commands k.until;
     state = k.state;
     comes_to = sym (after_shallow (setting_for p m) (start p) k.commands) ∙ k.comes_to;
+    spent = k.spent;
   }
 
   pub ends-as : (e : Ended) → EndsFrom setting ls e → EndsAs p m e

@@ -1,2 +1,3 @@
-pub mod Delays
+pub mod Origin
 pub mod Ended
+pub mod Means

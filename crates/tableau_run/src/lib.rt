@@ -1,20 +1,10 @@
-//! Stub.
+//! The run of the search over a problem, to its end, with the refutation where it is proved.
 #![tactic(auto)]
 
-ghost use Rattle.std.specs.Prelude.{IfOk};
-ghost use Rattle.stt_core.specs.TypedProblem.{IsTyped};
-ghost use Rattle.tableau_run.specs.Ended.{EndsAs};
-
+mod delays;
 mod ended;
-pub use ended::Ended;
-use std::alloc::{AllocError, Global};
-use mode_file::Mode;
-use stt_core::Problem;
+mod running;
 
-/// Runs the search over a problem by a mode.
-pub fn run(_alloc: Global, _problem: &Problem, _mode: &Mode) -> Result<Ended, AllocError>
-    requires { IsTyped _problem.now }
-    ensures { IfOk result (EndsAs _problem.now _mode.now) }
-{
-    Err(AllocError)
-}
+pub use delays::delay;
+pub use ended::Ended;
+pub use running::run;

@@ -8,35 +8,41 @@ ghost use Rattle.search_tables.specs.Delays.{delay_by};
 ghost use Rattle.search_tables.specs.Standing.{declared_scope, setting_by};
 ghost use Rattle.tableau_search.specs.Running.{start_in, IsUnderWay};
 ghost use Rattle.tableau_run.specs.Ended.{EndsAs};
-ghost use Rattle.tableau_run.specs.Means.Ends.{AreRight, Refutes, EndsFrom, GoesOnTo};
+ghost use Rattle.tableau_run.specs.Means.Ends.{AreRight, clauses_of, Refutes, EndsFrom, GoesOnTo};
 
 use crate::delays::delay;
 use crate::ended::Ended;
 use command_queue::Weigher;
 use mode_file::Mode;
 use search_tables::Tables;
+use small_refutation::is_small;
 use std::alloc::{AllocError, Global};
 use stt_core::Problem;
 use stt_tableau::Refutation;
 use tableau_rebuild::rebuild;
 use tableau_search::{Command, Search, Stepped};
 
-/// The refutation from the log of a run whose clauses are unsatisfiable.
+/// The refutation from the log of a run whose clauses are unsatisfiable. There is no memory for one that is too large for a text.
 fn refutation_of(alloc: Global, tables: &Tables) -> Result<Refutation, AllocError>
     requires right { AreRight tables.now }
     requires ends { results tables.now.solver.log ≡ learned tables.now.solver ++ [] ∷ [] }
-    ensures { IfOk result (Refutes (declared_scope tables.now.basis.bank) (start_in tables.now)) }
+    ensures { IfOk result (Refutes (declared_scope tables.now.basis.bank) (start_in tables.now) (clauses_of tables.now)) }
 {
+    tables.steps.clauses_come_from_origins();
     let log = tables.solver.log();
     let basis = &tables.basis;
-    Ok(rebuild(
+    let refutation = rebuild(
         alloc,
         &basis.bank,
         &basis.lits,
         &tables.steps,
         log,
         &basis.witnesses,
-    )?)
+    )?;
+    if !is_small(&refutation) {
+        return Err(AllocError);
+    }
+    Ok(refutation)
 }
 
 /// Takes a step. The answer is how the run ends, where it ends there.
@@ -55,6 +61,8 @@ fn next<W: Weigher<Command>>(
 {
     match search.step()? {
         Stepped::Closed => {
+            // The log is asked for its clause that what was learned follows.
+            let _log = search.log();
             let refutation = refutation_of(alloc, &search.core.tables)?;
             Ok(Some(Ended::Proved {
                 commands: search.commands(),
@@ -67,7 +75,10 @@ fn next<W: Weigher<Command>>(
         Stepped::Limit => Ok(Some(Ended::CommandLimit {
             commands: search.commands(),
         })),
-        Stepped::Spent { conflicts } => Ok(Some(Ended::ConflictLimit { conflicts })),
+        Stepped::Spent { conflicts } => {
+            let _log = search.log();
+            Ok(Some(Ended::ConflictLimit { conflicts }))
+        }
         Stepped::Went => Ok(None),
     }
 }

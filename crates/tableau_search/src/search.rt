@@ -1,7 +1,10 @@
 //! The search as callers see it.
 ghost use Rattle.std.specs.Prelude.{◌≡◌, ◌+◌, true, false, filter, IsErr, IfOk, OnOk, OnErr};
+ghost use Rattle.std.specs.List.{All};
 ghost use Rattle.stt_core.specs.TypedProblem.{IsTyped};
 ghost use Rattle.stt_tableau.specs.Start.{start};
+ghost use Rattle.sat_base.specs.Truth.{Implies};
+ghost use Rattle.sat_log.specs.Chains.{results};
 ghost use Rattle.sat_core.specs.Solver.{IsSound};
 ghost use Rattle.search_run.specs.Shallow.{is_shallow_literal};
 ghost use Rattle.search_tables.specs.Delays.{delay_by};
@@ -102,6 +105,7 @@ impl<W: Weigher<Command>> Search<W> {
     pub fn log(&self) -> &Log
         ensures log { result.now ≡ self.now.core.tables.solver.log }
         ensures sound { IsSound self.now.core.tables.solver }
+        ensures implied { All (Implies self.now.core.tables.solver.clauses) (results self.now.core.tables.solver.log) }
     {
         self.core.tables.solver.log()
     }

@@ -1,21 +1,26 @@
 -- How a run from literals ends.
-use Rattle.std.specs.Prelude.{◌≡◌, ◌+◌, ℕ, List, Some}
+use Rattle.std.specs.Prelude.{◌≡◌, ◌+◌, ℕ, List, map}
 use Rattle.stt_core.specs.Typing.{Scope}
 use Rattle.stt_tableau.specs.Literals.{Literal}
 use Rattle.stt_tableau.specs.Accepted.{IsAccepted}
 use Rattle.stt_tableau.specs.declared.refutation.Refutation.{Refutation}
 use Rattle.search_run.specs.Each.{Each}
-use Rattle.search_run.specs.State.{State, Setting}
-use Rattle.search_run.specs.After.{after}
-use Rattle.search_run.specs.Result.{GoesOn, GoesOnUntil, IsProved, IsExhausted, IsStopped}
+use Rattle.search_run.specs.State.{Setting}
+use Rattle.search_run.specs.Unsatisfiable.{Clause}
+use Rattle.search_run.specs.Result.{GoesOn, IsProved, IsExhausted, IsStopped}
 use Rattle.rebuilt_refutation.specs.Trimmed.{IsEachReached}
+use Rattle.refute_text.specs.Sizes.{IsSmall}
 use Rattle.command_queue.specs.Queue.{Queue}
 use Rattle.search_tables.specs.declared.command.Planned.{Planned}
 use Rattle.search_tables.specs.declared.command.Delays.{Delays}
 use Rattle.search_tables.specs.declared.tables.Tables.{Tables}
+use Rattle.literal_map.specs.Atoms.{literal_at}
+use Rattle.tableau_clauses.specs.Table.{the_clauses}
 use Rattle.search_tables.specs.Standing.{setting_by, IsRight}
 use Rattle.search_tables.specs.Steps.{IsMade}
 use Rattle.tableau_search.specs.Running.{start_in}
+use Rattle.tableau_run.specs.Origin.{EachComesFrom, AreRefutedShortly, AreRefutedWithin}
+use Rattle.tableau_run.specs.Ended.{IsSpent}
 use Rattle.tableau_run.specs.declared.ended.Ended.{Ended}
 use Rattle.tableau_run.specs.declared.ended.Ended.TheVariants.{Proved, GaveUp, CommandLimit, ConflictLimit}
 
@@ -25,23 +30,30 @@ pub record AreRight (t : Tables) : Type 0 where
   pub right : IsRight t plan
   pub made : Each (IsMade t.basis) t.steps.1
 
--- the refutation is accepted for the start, and each of its lines is reached
-pub record Refutes (scope : Scope) (start : List Literal) (refutation : Refutation) : Type 0 where
+-- the clauses of formulas that the tables stand for
+abbrev pub clauses_of : Tables → List Clause
+clauses_of t = map (map (literal_at t.basis.bank.terms t.basis.lits)) (the_clauses t.steps)
+
+-- The refutation is accepted for the start and small enough for a text. Each of its lines is reached and comes from the clauses, which a log
+-- refutes as shortly.
+pub record Refutes (scope : Scope) (start : List Literal) (clauses : List Clause) (refutation : Refutation) : Type 0 where
   pub accepted : IsAccepted scope start refutation
   pub reached : IsEachReached refutation.lines
+  pub small : IsSmall refutation
+  pub origin : EachComesFrom start clauses refutation.lines
+  pub shortly : AreRefutedShortly clauses refutation.lines
 
-pub record IsSpentAfter (setting : Setting) (start : List Literal) (conflicts : ℕ) : Type 0 where
-  pub is_budget : conflicts ≡ setting.mode.conflicts
-  pub commands : ℕ
-  pub until : GoesOnUntil setting start commands
-  pub state : State
-  pub comes_to : after setting start commands ≡ Some state
+-- the run from literals is proved after so many commands, with a refutation
+pub record IsProvedBy (setting : Setting) (start : List Literal) (n : ℕ) (refutation : Refutation) : Type 0 where
+  pub proved : IsProved setting start n
+  pub refutes : Refutes setting.scope start proved.state.clauses refutation
+  pub within : AreRefutedWithin setting.mode.conflicts proved.state.clauses
 
 abbrev pub EndsFrom : Setting → List Literal → Ended → Type 0
-EndsFrom setting start (Proved n refutation) = IsProved setting start n × Refutes setting.scope start refutation
+EndsFrom setting start (Proved n refutation) = IsProvedBy setting start n refutation
 EndsFrom setting start (GaveUp n) = IsExhausted setting start n
 EndsFrom setting start (CommandLimit n) = IsStopped setting start n
-EndsFrom setting start (ConflictLimit conflicts) = IsSpentAfter setting start conflicts
+EndsFrom setting start (ConflictLimit conflicts) = IsSpent setting start conflicts
 
 -- The run goes on by one command, in the same setting and from the same start.
 pub record GoesOnTo (t : Tables) (q : Queue Planned Delays) (t2 : Tables) (q2 : Queue Planned Delays) : Type 0 where

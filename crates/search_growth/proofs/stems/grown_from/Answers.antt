@@ -14,6 +14,6 @@ returns c =
     let x = sketch_at (sketches_in t) c.args.parent in
     let u = the_hole_head c.args.head in
     c.in_ok-with_head.ensures
-    ∙ ap₂ (λ (a : SimpleType) (h : Lambda). unwrap_or (filled (with_holes a (head h)) c.args.before.now) c.args.before.now) (c.in_ok-ty.ensures c.requires.takes) c.head_of.ensures
+    ∙ ap₂ (λ (a : SimpleType) (h : Lambda). unwrap_or (filled (with_holes a (head h)) c.args.before) c.args.before) (c.in_ok-ty.ensures c.requires.takes) c.head_of.ensures
     ∙ ap (λ (p : Partial). unwrap_or (filled (with_holes c.requires.takes.type (head u)) p) p) c.requires.before
     ∙ ap (λ o. unwrap_or o x.partial) (sym (filled-taken (scope_by t.basis) u x c.requires.takes))

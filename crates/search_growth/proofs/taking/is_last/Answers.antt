@@ -7,7 +7,7 @@ use Rattle.search_growth.proofs.taking.is_last.Goals as goal
 
 pub returns-in-Base : goal.returns-in-Base
 returns-in-Base c = λ holes at there.
-    ap (λ n. nat_eq n 1) (c.count.ensures holes at) ∙ last-base c.in-Base.field-0 holes there
+    c.is_single.ensures holes at ∙ last-base c.in-Base.field-0 holes there
     ∙ ap (λ (a : SimpleType). nat_eq (length (after_head a holes)) 0) (sym (ap the_type c.in-Base.is))
 
 pub returns-in-Arrow : goal.returns-in-Arrow

@@ -1,11 +1,11 @@
 use Rattle.std.proofs.Common.{[], length, map, refl, sym, ◌∙◌}
 use Rattle.std.proofs.lemmas.List.{length-map}
 use Rattle.refute_text.specs.Named.{names_of}
-use Rattle.satallax_top.proofs.NameLaws.{accepted_named}
+use Rattle.request_answers.proofs.NameLaws.{accepted_named}
 use Rattle.search_rows.proofs.run.write.Goals as goal
 
-pub write_text-requires : goal.write_text-requires
-write_text-requires c =
+pub write_text-requires-clause-named : goal.write_text-requires-clause-named
+write_text-requires-clause-named c =
     let bases = c.args.sig.now.bases in
     let consts = c.args.sig.now.consts in
     accepted_named (names_of bases consts)

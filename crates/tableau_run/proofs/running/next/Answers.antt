@@ -2,14 +2,15 @@ use Rattle.std.proofs.Common.{sym, ap, subst, subst₂}
 use Rattle.std.specs.Prelude.{ℕ, List}
 use Rattle.stt_core.specs.Typing.{Scope}
 use Rattle.stt_tableau.specs.Literals.{Literal}
-use Rattle.search_run.specs.State.{Setting}
-use Rattle.search_run.specs.Result.{IsProved, IsExhausted, IsStopped}
-use Rattle.search_tables.specs.Standing.{setting_by}
+use Rattle.search_run.specs.State.{State, Setting}
+use Rattle.search_run.specs.Unsatisfiable.{Clause}
+use Rattle.search_run.specs.Result.{IsExhausted, IsStopped}
+use Rattle.search_tables.specs.Standing.{setting_by, the_state}
 use Rattle.tableau_search.specs.Running.{start_in}
 use Rattle.tableau_search.specs.Answers.{Answers}
 use Rattle.tableau_search.specs.declared.stepped.Stepped.{Stepped}
-use Rattle.tableau_run.specs.Means.Ends.{Refutes}
-use Rattle.tableau_run.proofs.RunLaws.{is-proved, is-exhausted, is-stopped}
+use Rattle.tableau_run.specs.Means.Ends.{Refutes, IsProvedBy}
+use Rattle.tableau_run.proofs.RunLaws.{is-proved, is-exhausted, is-stopped, is-spent}
 use Rattle.tableau_run.proofs.running.next.Goals as goal
 
 pub returns-in_ok-refutation-in-Closed-clause-ended : goal.returns-in_ok-refutation-in-Closed-clause-ended
@@ -18,13 +19,16 @@ returns-in_ok-refutation-in-Closed-clause-ended g c = λ until.
     let q = c.args.search.now.core.plan in
     let u = c.step.new.self.core.tables in
     let p = c.step.new.self.core.plan in
+    let refutation = c.in_ok-refutation-in-Closed.refutation in
     let A : Stepped → Type 0 = λ s. Answers (record { tables = t; plan = q }) (record { tables = u; plan = p }) s in
-    let P : ℕ → Type 0 = λ n. IsProved (setting_by t q) (start_in t) n in
-    let R : Scope → List Literal → Type 0 = λ scope ls. Refutes scope ls c.in_ok-refutation-in-Closed.refutation in
-    let closed = subst A c.in-Closed.is c.in_ok-step.ensures.answers in (
-      subst P (sym c.commands.ensures) (is-proved t q c.requires.under_way.running u p closed until),
-      subst₂ R (ap (λ (s : Setting). s.scope) c.in_ok-step.ensures.setting) c.in_ok-step.ensures.start c.in_ok-refutation-in-Closed.ensures,
-    )
+    let P : ℕ → Type 0 = λ n. IsProvedBy (setting_by t q) (start_in t) n refutation in
+    let R : Scope → List Literal → Type 0 = λ scope ls. Refutes scope ls (the_state t q).clauses refutation in
+    let F : List Clause → Type 0 = λ cs. Refutes (setting_by u p).scope (start_in u) cs refutation in
+    let closed = subst A c.in-Closed.is c.in_ok-step.ensures.answers in
+    let under_way = c.in_ok-step.ensures.under_way c.in_ok-step.ensures.ready in
+    let over = subst F (ap (λ (s : State). s.clauses) closed.stays.state) c.in_ok-refutation-in-Closed.ensures in
+    let refutes = subst₂ R (ap (λ (s : Setting). s.scope) c.in_ok-step.ensures.setting) c.in_ok-step.ensures.start over in
+    subst P (sym c.commands.ensures) (is-proved t q c.requires.under_way.running u p refutation closed under_way.running.right c.in_ok-step.ensures.setting c.log-log.ensures.implied refutes until)
 
 pub returns-in-Empty-clause-ended : goal.returns-in-Empty-clause-ended
 returns-in-Empty-clause-ended g c = λ until.
@@ -45,3 +49,13 @@ returns-in-Limit-clause-ended g c = λ until.
     let A : Stepped → Type 0 = λ s. Answers (record { tables = t; plan = q }) (record { tables = u; plan = p }) s in
     let P : ℕ → Type 0 = λ n. IsStopped (setting_by t q) (start_in t) n in
     subst P (sym c.commands-in-Limit.ensures) (is-stopped t q c.requires.under_way.running u p (subst A c.in-Limit.is c.in_ok-step.ensures.answers) until)
+
+pub returns-in-Spent-clause-ended : goal.returns-in-Spent-clause-ended
+returns-in-Spent-clause-ended g c = λ until.
+    let t = c.args.search.now.core.tables in
+    let q = c.args.search.now.core.plan in
+    let u = c.step.new.self.core.tables in
+    let p = c.step.new.self.core.plan in
+    let A : Stepped → Type 0 = λ s. Answers (record { tables = t; plan = q }) (record { tables = u; plan = p }) s in
+    let under_way = c.in_ok-step.ensures.under_way c.in_ok-step.ensures.ready in
+    is-spent t q c.requires.under_way.running u p c.in-Spent.conflicts (subst A c.in-Spent.is c.in_ok-step.ensures.answers) under_way.running.right c.log-log-in-Spent.ensures.implied until

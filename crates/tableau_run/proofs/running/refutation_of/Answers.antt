@@ -1,10 +1,16 @@
 use Rattle.std.proofs.Common.{List, sym, subst}
+use Rattle.stt_tableau.specs.Literals.{Literal}
+use Rattle.sat_base.specs.declared.literal.SatLit.{SatLit}
 use Rattle.sat_log.specs.declared.log.LogEntry.{LogEntry}
+use Rattle.sat_log.specs.Chains.{IsLogOver}
 use Rattle.sat_core.specs.Solver.{learned}
 use Rattle.tableau_rebuild.specs.Conditions.{EndsEmpty}
 use Rattle.tableau_rebuild.specs.Tables.{the_atoms, unit_literals}
 use Rattle.tableau_search.specs.Running.{start_in}
-use Rattle.tableau_run.proofs.RebuildUses.{instances-over, units-numbered, units-named, ends-empty}
+use Rattle.rebuilt_refutation.specs.Used.{AreFew}
+use Rattle.tableau_run.specs.Origin.{EachComesFrom}
+use Rattle.tableau_run.specs.Means.Ends.{clauses_of}
+use Rattle.tableau_run.proofs.RebuildUses.{instances-over, units-numbered, units-named, origin-named, shortly-named, ends-empty}
 use Rattle.tableau_run.proofs.RunLaws.{accepted-declared}
 use Rattle.tableau_run.proofs.running.refutation_of.Goals as goal
 
@@ -28,7 +34,15 @@ pub returns : goal.returns
 returns c =
     let t = c.args.tables.now in
     let r = c.requires.right.right in
+    let lines = c.in_ok-refutation.refutation.lines in
+    let units = unit_literals (the_atoms t.basis.bank.terms t.basis.lits) t.steps.0 in
+    let S : List Literal → Type 0 = λ ls. EachComesFrom ls (clauses_of t) lines in
+    let C : List (List SatLit) → Type 0 = λ cs. IsLogOver cs t.solver.log in
+    let F : List LogEntry → Type 0 = λ log. AreFew log lines in
     record {
-      accepted = accepted-declared t.basis.bank (start_in t) (unit_literals (the_atoms t.basis.bank.terms t.basis.lits) t.steps.0) c.in_ok-rebuild.field-0 (sym (units-named t.basis r.basis t.steps.0 r.clauses)) c.in_ok-rebuild.ensures.accepted;
-      reached = c.in_ok-rebuild.ensures.reached;
+      accepted = accepted-declared t.basis.bank (start_in t) units c.in_ok-refutation.refutation (sym (units-named t.basis r.basis t.steps.0 r.clauses)) c.in_ok-refutation.ensures.accepted;
+      reached = c.in_ok-refutation.ensures.reached;
+      small = c.is_small.ensures.0 c.if-not-is_small.false;
+      origin = subst S (sym (units-named t.basis r.basis t.steps.0 r.clauses)) (origin-named t.basis r.basis t.steps r.clauses c.log-log.result.now units lines c.clauses_come_from_origins.ensures c.in_ok-refutation.ensures.from_search);
+      shortly = shortly-named t.basis r.basis t.steps r.clauses t.solver.log (learned t.solver) lines (subst C r.solver c.log-log.ensures.sound.logged) c.requires.ends (subst F c.log-log.ensures.log c.in_ok-refutation.ensures.few);
     }

@@ -6,8 +6,8 @@ use Rattle.instantiate.proofs.partial.Partial.with_head.Goals as goal
 
 pub returns : goal.returns
 returns c =
-    let p = c.args.self.now in
+    let p = c.args.self in
     let r = c.in_ok-with_holes.field-0 in
-    c.in_ok-copy.ensures.copy
+    c.fill.ensures.filled
     ∙ placed-first r p (filled r p)
     ∙ ap (λ (x : Partial). unwrap_or (filled x p) p) c.in_ok-with_holes.ensures

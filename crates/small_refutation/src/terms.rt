@@ -1,0 +1,53 @@
+//! Terms that nest no deeper than they may.
+ghost use Rattle.std.specs.Prelude.{IsTrue, ◌↔◌};
+ghost use Rattle.refute_text.specs.Sizes.{IsSmallTerm, AreSmallLiterals};
+ghost use Rattle.small_refutation.specs.Means.Within.{IsWithin};
+
+use crate::types::{are_small_types, is_small_head};
+use stt_core::Nf;
+use stt_tableau::Lits;
+
+/// How deep a term may nest.
+const TERM_LIMIT: usize = 4_096;
+
+/// Whether a term nests no deeper than so much, and its types no deeper than they may.
+fn is_within(nf: &Nf, limit: usize) -> bool
+    ensures { IsTrue result ↔ IsWithin limit nf.now }
+{
+    let binders = nf.binders.len();
+    if binders > limit {
+        return false;
+    }
+    if !are_small_types(&nf.binders) {
+        return false;
+    }
+    if !is_small_head(&nf.head) {
+        return false;
+    }
+    for i in 0..nf.args.len() {
+        if binders == limit {
+            return false;
+        }
+        if !is_within(nf.args.at(i), limit - binders - 1) {
+            return false;
+        }
+    }
+    true
+}
+
+pub(crate) fn is_small_term(nf: &Nf) -> bool
+    ensures { IsTrue result ↔ IsSmallTerm nf.now }
+{
+    is_within(nf, TERM_LIMIT)
+}
+
+pub(crate) fn are_small_literals(lits: &Lits) -> bool
+    ensures { IsTrue result ↔ AreSmallLiterals lits.now }
+{
+    for i in 0..lits.len() {
+        if !is_small_term(&lits.at(i).atom) {
+            return false;
+        }
+    }
+    true
+}

@@ -1,0 +1,71 @@
+-- Where the lines of a run's refutation come from, and what the propositional search found.
+use Rattle.std.specs.Prelude.{◌≡◌, ◌≢◌, ◌≤◌, ◌⊎◌, false, ℕ, List, [], ◌∷◌, ◌++◌, map, length, Contains}
+use Rattle.std.specs.List.{All}
+use Rattle.stt_core.specs.Lambda.{Lambda}
+use Rattle.stt_tableau.specs.Literals.{Literal, opposite}
+use Rattle.stt_tableau.specs.declared.refutation.RuleUse.TheVariants.{Cut}
+use Rattle.stt_tableau.specs.declared.refutation.Line.{Line}
+use Rattle.sat_base.specs.declared.literal.SatLit.{SatLit}
+use Rattle.sat_log.specs.declared.log.LogEntry.{LogEntry}
+use Rattle.sat_log.specs.Chains.{results, IsLogOver}
+use Rattle.search_run.specs.Numbered.{literal_at}
+use Rattle.search_run.specs.Unsatisfiable.{Clause, is_false}
+use Rattle.rebuilt_refutation.specs.Trimmed.{IsClosedByStart}
+use Rattle.rebuilt_refutation.specs.Used.{AreFew}
+
+-- the atom is that of a literal of one of the clauses
+pub record Occurs (clauses : List Clause) (atom : Lambda) : Type 0 where
+  pub clause : Clause
+  pub there : Contains clauses clause
+  pub literal : Literal
+  pub held : Contains clause literal
+  pub same : literal.atom ≡ atom
+
+-- a cut on an atom of the clauses
+pub record IsCutOnAtom (clauses : List Clause) (l : Line) : Type 0 where
+  pub literal : Literal
+  pub rule : l.rule ≡ Cut literal
+  pub occurs : Occurs clauses literal.atom
+
+-- A line comes from clauses: it cuts on one of their atoms, or two literals of the start close each other there, or the negations of its
+-- branch's literals are one of the clauses.
+abbrev pub ComesFrom : List Literal → List Clause → Line → Type 0
+ComesFrom start clauses l = IsCutOnAtom clauses l ⊎ (IsClosedByStart start l ⊎ Contains clauses (map opposite l.branch))
+
+abbrev pub EachComesFrom : List Literal → List Clause → List Line → Type 0
+EachComesFrom start clauses lines = (l : Line) → Contains lines l → ComesFrom start clauses l
+
+-- The clauses are refuted by a log of resolution chains (Robinson 1965): clauses of numbered literals stand for them, each result of the log
+-- is its chain's, and the last one is the empty clause. There is at most one line for each step of the log and one for each clause that is used.
+pub record AreRefutedShortly (clauses : List Clause) (lines : List Line) : Type 0 where
+  pub atoms : List Lambda
+  pub numbered : List (List SatLit)
+  pub stand : map (map (literal_at atoms)) numbered ≡ clauses
+  pub log : List LogEntry
+  pub logged : IsLogOver numbered log
+  pub front : List (List SatLit)
+  pub ends : results log ≡ front ++ [] ∷ []
+  pub few : AreFew log lines
+
+-- Unit propagation over the clauses, from no literals, reaches a literal (Davis and Putnam 1960): some clause has it, and the negations of
+-- the clause's other literals are reached.
+pub data IsReached (clauses : List Clause) : Literal → Type 0 where
+  by_unit : (clause : Clause) (l : Literal) → Contains clauses clause → Contains clause l → ((m : Literal) → Contains clause m → m ≢ l → IsReached clauses (opposite m)) → IsReached clauses l
+
+-- unit propagation over the clauses reaches a false clause: the negations of all its literals
+pub record ReachesFalse (clauses : List Clause) : Type 0 where
+  pub clause : Clause
+  pub there : Contains clauses clause
+  pub denied : (l : Literal) → Contains clause l → IsReached clauses (opposite l)
+
+-- the clause is true wherever all the others are
+abbrev pub Follows : List Clause → Clause → Type 0
+Follows clauses clause = (atoms : List Lambda) → All (λ c. is_false atoms c ≡ false) clauses → is_false atoms clause ≡ false
+
+-- The clauses are refuted within so many conflicts (Marques-Silva and Sakallah 1999): at most that many clauses were learned, each follows
+-- from the clauses, and unit propagation over all of them reaches a false clause.
+pub record AreRefutedWithin (conflicts : ℕ) (clauses : List Clause) : Type 0 where
+  pub learned : List Clause
+  pub counted : length learned ≤ conflicts
+  pub follow : All (Follows clauses) learned
+  pub reaches : ReachesFalse (clauses ++ learned)
