@@ -42,7 +42,7 @@ use Rattle.tableau_run.specs.declared.ended.Ended.TheVariants.{Proved, GaveUp, C
 use Rattle.tableau_run.specs.Ended.{setting_for, IsSpent, EndsAs}
 use Rattle.tableau_run.specs.Origin.{ComesFrom, AreRefutedWithin}
 use Rattle.tableau_run.specs.Means.Ends.{Refutes, IsProvedBy, EndsFrom}
-use Rattle.tableau_run.proofs.OriginLaws.{refuted-within}
+use Rattle.tableau_run.proofs.OriginLaws.{refuted-within, refuted-at_once}
 use Rattle.tableau_run.proofs.RebuildUses.{lists-named}
 
 -- what holds of all results holds of the learned ones
@@ -229,6 +229,7 @@ module _ (p : PlainProblem) (m : Mode) (setting : Setting) (ls : List Literal) (
     origin = λ l there. comes_whole (start p) k.proved.state.clauses l (k.refutes.origin l there);
     shortly = k.refutes.shortly;
     within = k.within;
+    at_once = λ e. refuted-at_once k.proved.state.clauses (subst (λ n. AreRefutedWithin n k.proved.state.clauses) e k.within);
   }
   ends_here (GaveUp n) k = exhausted-whole (setting_for p m) (start p) n k
   ends_here (CommandLimit n) k = stopped-whole (setting_for p m) (start p) n k

@@ -21,7 +21,7 @@ use Rattle.rebuilt_refutation.specs.Trimmed.{IsEachReached}
 use Rattle.refute_text.specs.Sizes.{IsSmall}
 use Rattle.mode_file.specs.declared.Mode.{Mode}
 use Rattle.search_tables.specs.Delays.{the_mode}
-use Rattle.tableau_run.specs.Origin.{EachComesFrom, AreRefutedShortly, AreRefutedWithin}
+use Rattle.tableau_run.specs.Origin.{EachComesFrom, AreRefutedShortly, AreRefutedWithin, ReachesFalse}
 use Rattle.tableau_run.specs.declared.ended.Ended.{Ended}
 use Rattle.tableau_run.specs.declared.ended.Ended.TheVariants.{Proved, GaveUp, CommandLimit, ConflictLimit}
 
@@ -31,7 +31,7 @@ setting_for p m = record { scope = scope_of p.declared; mode = the_mode m }
 
 -- The run is proved after n commands, and the refutation is accepted for the start and small enough for a text. Each of its lines is reached
 -- from the last one and comes from the clauses of the state after these commands. They are refuted by a log that has enough steps for the
--- lines, and within the conflicts of the mode.
+-- lines, and within the conflicts of the mode. Where that has none, unit propagation over them reaches a false clause.
 pub record IsRefuted (p : PlainProblem) (m : Mode) (n : ℕ) (refutation : Refutation) : Type 0 where
   pub proved : IsProved (setting_for p m) (start p) n
   pub accepted : IsAccepted (scope_of p.declared) (start p) refutation
@@ -40,6 +40,7 @@ pub record IsRefuted (p : PlainProblem) (m : Mode) (n : ℕ) (refutation : Refut
   pub origin : EachComesFrom (start p) proved.state.clauses refutation.lines
   pub shortly : AreRefutedShortly proved.state.clauses refutation.lines
   pub within : AreRefutedWithin m.conflicts proved.state.clauses
+  pub at_once : m.conflicts ≡ 0 → ReachesFalse proved.state.clauses
 
 -- So many conflicts are spent over clauses of formulas (Marques-Silva and Sakallah 1999): clauses of numbered literals stand for them, as
 -- many clauses were learned as there are conflicts, each implied by the others, and some decisions lead to one conflict more. That isn't so
