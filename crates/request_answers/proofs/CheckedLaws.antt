@@ -1,12 +1,7 @@
 -- What the check of a text is answered with.
-use Rattle.std.proofs.Common.{◌≡◌, ◌<◌, ◌⊎◌, inl, inr, ℕ, ◌+◌, true, false, List, [], ◌∷◌, length, slice_get, IfSome, Some, Err, refl, sym, ap, subst, ◌∙◌, arith}
-use Rattle.std.proofs.lemmas.Bool.{cases_order}
+use Rattle.std.proofs.Common.{◌≡◌, ℕ, true, false, List, IfSome, Some, Err, refl, sym, subst, ◌∙◌}
 use Rattle.stt_core.specs.PlainProblem.{PlainProblem}
-use Rattle.stt_core.specs.Declarations.{scope_of}
-use Rattle.stt_tableau.specs.Start.{start}
 use Rattle.stt_tableau.specs.declared.refutation.Why.{Why}
-use Rattle.stt_tableau.proofs.FirstFailureLaws.{one_first_failure}
-use Rattle.thf_include.proofs.Texts.{same-get}
 use Rattle.refute_text.specs.Trees.{RefutationTree}
 use Rattle.refute_read.specs.Answered.{reading_of}
 use Rattle.refute_read.specs.Reading.{lines_of, Reading, read, bad_line, no_start, no_end, Reads}
@@ -14,16 +9,14 @@ use Rattle.refute_read.proofs.ReadingLaws.{reading-same}
 use Rattle.refute_read.specs.declared.refusal.TextRefused.{TextRefused}
 use Rattle.refute_read.specs.declared.refusal.TextRefused.TheVariants as unread
 use Rattle.refute_read.specs.declared.refusal.TextRefused.TheVariants.{BadLine, NoStart, NoEnd}
-use Rattle.refute_check.specs.Numbered.{numbered_refutation}
 use Rattle.refute_check.specs.Refusal.{IfLine}
-use Rattle.refute_check.specs.Acceptance.{taken_texts, NamesDefinitions, refuted_problem, IsAcceptedFor, DifferFirst, TextFailsAt, at_definition, behind_definitions}
-use Rattle.refute_check.proofs.AcceptanceLaws.{fails_not_accepted}
+use Rattle.refute_check.specs.Acceptance.{IsAcceptedFor, TextFailsAt}
+use Rattle.refute_check.proofs.AcceptanceLaws.{one_text_failure, fails_not_accepted}
 use Rattle.refute_check.specs.declared.refusal.CheckRefused.{CheckRefused}
 use Rattle.refute_check.specs.declared.refusal.CheckRefused.TheVariants as failed
 use Rattle.refute_check.specs.declared.refusal.CheckRefused.TheVariants.{Line}
 use Rattle.szs_report.specs.declared.answer.Answer.{Answer}
 use Rattle.szs_report.specs.declared.answer.Answer.TheVariants.{Accepted, Refused, Memory}
-use Rattle.request_answers.specs.Names.{names_in}
 use Rattle.request_answers.specs.Means.Unread.{verdict_of}
 use Rattle.request_answers.specs.Checked.{IsAcceptedText, FailsFirst, IsRefusedText, unread_answer, failed_answer, AnswersBytes}
 
@@ -49,41 +42,13 @@ accepted_not_refused p bytes line why a r = go r.reading (reading-same (lines_of
     go (no_start at) e f = cc
     go (no_end at) e f = cc
 
--- lists differ first at one place
-differ_before : (names taken : List (List ℕ)) (i j : ℕ) → i < j → DifferFirst names taken i → DifferFirst names taken j → ⊥
-differ_before names taken i j l h k = h.other (sym (same-get j names taken k.same i l))
-
-one_difference : (names taken : List (List ℕ)) (i j : ℕ) → DifferFirst names taken i → DifferFirst names taken j → i ≡ j
-one_difference names taken i j h k = go (cases_order i j)
-  where
-    go : (i ≡ j) ⊎ ((i < j) ⊎ (j < i)) → i ≡ j
-    go (inl e) = e
-    go (inr (inl l)) = absurd (differ_before names taken i j l h k)
-    go (inr (inr l)) = absurd (differ_before names taken j i l k h)
-
-names_taken : (p : PlainProblem) (names : List (List ℕ)) → 0 < length names → NamesDefinitions p names → names ≡ taken_texts p
-names_taken p [] some h = absurd (omega (arith, some))
-names_taken p (w ∷ names) some h = h
-
--- so a text fails first at one line, for one cause
-one_failure : (p : PlainProblem) (t : RefutationTree) (first line other : ℕ) (why cause : Why) → TextFailsAt p t first line why → TextFailsAt p t first other cause → (line ≡ other) × (why ≡ cause)
-one_failure p t first line other _ _ (at_definition place _ some differ is) (at_definition place' _ some' differ' is') =
-    let same = one_difference t.names (taken_texts p) place place' differ differ' in (omega (arith, is, is', same), refl)
-one_failure p t first line other _ cause (at_definition place _ some differ is) (behind_definitions _ _ names fails) =
-    absurd (differ.other (ap (λ l. slice_get l place) (names_taken p t.names some names)))
-one_failure p t first line other why _ (behind_definitions _ _ names fails) (at_definition place _ some differ is) =
-    absurd (differ.other (ap (λ l. slice_get l place) (names_taken p t.names some names)))
-one_failure p t first line other why cause (behind_definitions _ _ names f) (behind_definitions _ _ names' g) =
-    let h = one_first_failure (scope_of p.declared) (start (refuted_problem p t.names)) (numbered_refutation (names_in p) t) f.place g.place why cause f.is_first g.is_first in
-    (f.line_is ∙ ap (λ n. first + n) h.0 ∙ sym g.line_is, h.1)
-
 -- a text is refused at one line, for one cause
 pub one_refusal : (p : PlainProblem) (bytes : List ℕ) (line other : ℕ) (why cause : Why) → IsRefusedText p bytes line why → IsRefusedText p bytes other cause → (line ≡ other) × (why ≡ cause)
 one_refusal p bytes line other why cause a b =
     go a.reading a.fails (subst (λ o. FailsFirst p o other cause) (reading-same (lines_of bytes) b.reading a.reading b.reads a.reads) b.fails)
   where
     go : (o : Reading) → FailsFirst p o line why → FailsFirst p o other cause → (line ≡ other) × (why ≡ cause)
-    go (read s k) f g = one_failure p s k line other why cause f g
+    go (read s k) f g = one_text_failure p s k line other why cause f g
     go (bad_line at) f g = (f.0 ∙ sym g.0, f.1 ∙ sym g.1)
     go (no_start at) f g = (f.0 ∙ sym g.0, f.1 ∙ sym g.1)
     go (no_end at) f g = (f.0 ∙ sym g.0, f.1 ∙ sym g.1)

@@ -1,21 +1,19 @@
 -- A run that ended with a proof has its text.
-use Rattle.std.proofs.Common.{◌≡◌, ◌<◌, ℕ, suc, true, List, [], ◌∷◌, map, length, refl, sym, ap, subst, arith}
+use Rattle.std.proofs.Common.{◌≡◌, ℕ, suc, true, List, [], ◌∷◌, map, length, refl, ap, arith}
 use Rattle.std.specs.List.{AllByRecursion}
-use Rattle.std.proofs.lemmas.List.{length-map}
 use Rattle.std.proofs.lemmas.List.Sums.{list_all-from_AllPass}
 use Rattle.stt_core.specs.TypedName.{TypedName}
 use Rattle.stt_core.specs.PlainProblem.{PlainProblem}
 use Rattle.stt_core.specs.Declarations.{scope_of}
-use Rattle.stt_tableau.specs.Accepted.{IsAccepted}
 use Rattle.stt_tableau.specs.Start.{start}
 use Rattle.stt_tableau.specs.declared.refutation.Refutation.{Refutation}
 use Rattle.refute_text.specs.Text.{text_lines, as_bytes}
-use Rattle.refute_text.specs.Named.{named_refutation, IsNamed, ArePlaces}
+use Rattle.refute_text.specs.Named.{named_refutation, IsNamed}
 use Rattle.mode_file.specs.declared.Mode.{Mode}
 use Rattle.delta_defs.specs.Unfolding.{taken_names, unfolded_problem}
 use Rattle.delta_defs.specs.Laws.{AreDeclared}
-use Rattle.refute_check.specs.Acceptance.{taken_texts, refuted_problem, IsAcceptedFor}
-use Rattle.refute_check.proofs.AcceptanceLaws.{taken_named, taken_start}
+use Rattle.refute_check.specs.Acceptance.{IsAcceptedFor}
+use Rattle.refute_check.proofs.AcceptanceLaws.{named_accepted, places_named}
 use Rattle.tableau_run.specs.Ended.{IsRefuted}
 use Rattle.request_answers.specs.Names.{ArePrintable, names_in, HasTexts}
 use Rattle.request_answers.specs.Solved.{IsProofOf}
@@ -43,10 +41,6 @@ are_words p h = record { bases = words (names_in p).bases h.bases; constants = w
 named_all : (p : PlainProblem) → NamesAll (names_in p) (scope_of p.declared)
 named_all p = record { bases = refl; constants = same_length p.declared.consts }
 
--- the places of declared names
-pub are_places : (p : PlainProblem) (taken : List ℕ) → AreDeclared p taken → ArePlaces (names_in p) taken
-are_places p taken h = subst (λ n. AllByRecursion (λ k. k < n) taken) (sym (length-map p.declared.consts (λ (c : TypedName). c.name))) h
-
 module _ (m : Mode) (p : PlainProblem) (n : ℕ) (refutation : Refutation) (texts : HasTexts p) (r : IsRefuted (unfolded_problem p) m n refutation) where
   pub run_named : IsNamed (names_in p) refutation
   run_named = accepted_named (names_in p) (scope_of p.declared) (named_all p) (start (unfolded_problem p)) refutation r.accepted
@@ -56,15 +50,10 @@ module _ (m : Mode) (p : PlainProblem) (n : ℕ) (refutation : Refutation) (text
     refutation = refutation;
     refuted = r;
     is_text = t;
-    has_text = has_text (names_in p) (scope_of p.declared) (named_all p) (are_words p texts.printable) (taken_names p) (are_places p (taken_names p) declared) (start (unfolded_problem p)) refutation r.accepted r.small;
+    has_text = has_text (names_in p) (scope_of p.declared) (named_all p) (are_words p texts.printable) (taken_names p) (places_named p (taken_names p) declared) (start (unfolded_problem p)) refutation r.accepted r.small;
     numbered = refutation-same (names_in p) (declared_placed p.declared texts.apart) (scope_of p.declared) (taken_names p) refutation r.accepted.table run_named;
   }
 
 -- the text of a run's proof is accepted for the problem
 pub proof_accepted : (m : Mode) (p : PlainProblem) (n : ℕ) (text : List ℕ) (proof : IsProofOf m p n text) → IsAcceptedFor p (named_refutation (names_in p) (taken_names p) proof.refutation)
-proof_accepted m p n text proof = record {
-  definitions = taken_named p;
-  refutation =
-      subst (λ r. IsAccepted (scope_of p.declared) (start (refuted_problem p (taken_texts p))) r) (sym proof.numbered)
-      (subst (λ s. IsAccepted (scope_of p.declared) s proof.refutation) (sym (taken_start p)) proof.refuted.accepted);
-}
+proof_accepted m p n text proof = named_accepted p proof.refutation proof.numbered proof.refuted.accepted

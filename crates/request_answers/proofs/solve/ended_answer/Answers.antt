@@ -3,10 +3,11 @@ use Rattle.delta_defs.specs.Unfolding.{taken_names, unfolded_problem}
 use Rattle.delta_defs.specs.Laws.{AreDeclared}
 use Rattle.delta_defs.proofs.KeptModels.{taken_declared}
 use Rattle.tableau_run.specs.Ended.{EndsAs}
+use Rattle.refute_check.proofs.AcceptanceLaws.{places_named}
 use Rattle.refute_text.specs.Named.{named_refutation, IsNamed, ArePlaces}
 use Rattle.refute_text.specs.Text.{text_lines, as_bytes}
 use Rattle.request_answers.specs.Names.{names_in}
-use Rattle.request_answers.proofs.SolvedLaws.{are_places, run_named, proof_of_run}
+use Rattle.request_answers.proofs.SolvedLaws.{run_named, proof_of_run}
 use Rattle.request_answers.proofs.solve.ended_answer.Goals as goal
 
 pub refutation_text-requires-clause-places : goal.refutation_text-requires-clause-places
@@ -14,7 +15,7 @@ refutation_text-requires-clause-places c =
     let p = c.args.problem.now in
     let names = c.as_slice.ensures ∙ c.in_ok-names-in-Proved.ensures.names in
     subst (λ q. ArePlaces (names_in q) c.as_slice.result.now) (sym c.problem.view_is)
-    (subst (ArePlaces (names_in p)) (sym names) (are_places p (taken_names p) (taken_declared p c.requires.texts.typed)))
+    (subst (ArePlaces (names_in p)) (sym names) (places_named p (taken_names p) (taken_declared p c.requires.texts.typed)))
 
 pub refutation_text-requires-clause-named : goal.refutation_text-requires-clause-named
 refutation_text-requires-clause-named c =
