@@ -1,0 +1,30 @@
+#!/usr/bin/env bash
+# Runs the built program over problems with a stack of 8 MB and address spaces of 1, 2 and 4 GB, and tells each exit status that isn't one
+# of README's: bench/limits.sh FOLDER, where FOLDER has further problems and mode files. Its last line counts the runs.
+set -eu
+here=$(dirname -- "$(readlink -f -- "$0")")
+top=$here/..
+program=$top/crates/satallax_cli/out/satallax_cli
+folder=${1:?a folder with problems and mode files}
+runs=0
+wrong=0
+run() { # the words
+  for space in 1000000 2000000 4000000; do
+    status=0
+    (ulimit -s 8192; ulimit -v "$space"; timeout 100 "$program" "$@") >/dev/null 2>&1 || status=$?
+    runs=$((runs + 1))
+    case $status in
+      0 | 1 | 2 | 3 | 4 | 1[0-5] | 18 | 20 | 21 | 30) ;;
+      *) wrong=$((wrong + 1)); echo "status $status with $space KB: $*" ;;
+    esac
+  done
+}
+for problem in "$top"/examples/*.p "$folder"/*.p; do
+  run "$problem"
+  for mode in "$folder"/*.mode; do
+    run --mode "$mode" "$problem"
+  done
+done
+run --demo 200
+run --demo 1000
+echo "$runs runs, $wrong with a status that isn't documented"
