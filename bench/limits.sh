@@ -1,11 +1,11 @@
 #!/usr/bin/env bash
 # Runs the built program over problems with a stack of 8 MB and address spaces of 1, 2 and 4 GB, and tells each exit status that isn't one
-# of README's: bench/limits.sh FOLDER, where FOLDER has further problems and mode files. Its last line counts the runs.
+# of README's: bench/limits.sh FOLDER, where FOLDER has further problems. Its last line counts the runs.
 set -eu
 here=$(dirname -- "$(readlink -f -- "$0")")
 top=$here/..
 program=$top/crates/satallax_cli/out/satallax_cli
-folder=${1:?a folder with problems and mode files}
+folder=${1:?a folder with problems}
 runs=0
 wrong=0
 run() { # the words
@@ -21,10 +21,9 @@ run() { # the words
 }
 for problem in "$top"/examples/*.p "$folder"/*.p; do
   run "$problem"
-  for mode in "$folder"/*.mode; do
-    run --mode "$mode" "$problem"
-  done
+  run --mode "$top/modes/late_terms.mode" "$problem"
 done
+run --mode "$top/modes/long.mode" "$top/examples/complement.p"
 run --demo 200
 run --demo 1000
 echo "$runs runs, $wrong with a status that isn't documented"
