@@ -28,9 +28,7 @@ fn numeral(alloc: Global, n: u32, function: Ty, argument: Ty) -> Result<Term, Al
 
 /// `(i > i) > i > i`
 fn iterator(alloc: Global) -> Result<Ty, AllocError> {
-    let argument = Box::new(alloc, endo(alloc)?)?;
-    let outcome = Box::new(alloc, endo(alloc)?)?;
-    Ok(Ty::Arrow(argument, outcome))
+    Ty::function(alloc, endo(alloc)?, endo(alloc)?)
 }
 
 /// The exponent's numeral at that of the base.

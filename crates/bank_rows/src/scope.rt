@@ -18,17 +18,11 @@ pub const F: u32 = 2;
 
 pub const K: u32 = 3;
 
-fn function(alloc: Global, argument: Ty, outcome: Ty) -> Result<Ty, AllocError>
-    ensures { IfOk result (λ ty. the_type ty ≡ arrow (the_type argument) (the_type outcome)) }
-{
-    Ok(Ty::Arrow(Box::new(alloc, argument)?, Box::new(alloc, outcome)?))
-}
-
 /// `i > i`
 pub fn endo(alloc: Global) -> Result<Ty, AllocError>
     ensures { IfOk result (λ ty. the_type ty ≡ arrow (base 1) (base 1)) }
 {
-    function(alloc, Ty::Base(1), Ty::Base(1))
+    Ty::function(alloc, Ty::Base(1), Ty::Base(1))
 }
 
 /// A bank without terms over the constants.
@@ -40,8 +34,8 @@ pub fn empty_bank(alloc: Global) -> Result<Bank, AllocError>
     sig.consts.push(b"c", Ty::Base(1))?;
     sig.consts.push(b"g", endo(alloc)?)?;
     sig.consts
-        .push(b"f", function(alloc, Ty::Base(1), endo(alloc)?)?)?;
+        .push(b"f", Ty::function(alloc, Ty::Base(1), endo(alloc)?)?)?;
     sig.consts
-        .push(b"k", function(alloc, endo(alloc)?, Ty::Base(1))?)?;
+        .push(b"k", Ty::function(alloc, endo(alloc)?, Ty::Base(1))?)?;
     Ok(Bank::new(alloc, sig))
 }

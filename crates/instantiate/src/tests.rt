@@ -26,8 +26,7 @@ fn bank_of_one_constant(alloc: Global) -> Result<Bank, AllocError>
 fn predicate_type(alloc: Global) -> Result<Ty, AllocError>
     ensures { IfOk result (λ ty. the_type ty ≡ arrow individual formula) }
 {
-    let argument = Box::new(alloc, Ty::Base(1))?;
-    Ok(Ty::Arrow(argument, Box::new(alloc, Ty::Base(0))?))
+    Ty::function(alloc, Ty::Base(1), Ty::Base(0))
 }
 
 /// What the head gives in the hole of a predicate on individuals.

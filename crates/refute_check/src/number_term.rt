@@ -45,9 +45,9 @@ pub(crate) fn number_type(
         TextTy::Indiv => Ok(Ty::Base(1)),
         TextTy::Named(name) => Ok(Ty::Base(base_number(numbering.base(name.as_slice()))?)),
         TextTy::Arrow(argument, outcome) => {
-            let argument = Box::new(alloc, number_type(alloc, numbering, argument)?)?;
-            let outcome = Box::new(alloc, number_type(alloc, numbering, outcome)?)?;
-            Ok(Ty::Arrow(argument, outcome))
+            let argument = number_type(alloc, numbering, argument)?;
+            let outcome = number_type(alloc, numbering, outcome)?;
+            Ok(Ty::function(alloc, argument, outcome)?)
         }
     }
 }

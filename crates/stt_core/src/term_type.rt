@@ -55,7 +55,7 @@ fn term_type(
         Term::App(function, argument) => {
             let function = term_type(alloc, declared, ctx, function)?;
             let argument = term_type(alloc, declared, ctx, argument)?;
-            Ok(applied_to(function, argument))
+            Ok(applied_to(alloc, function, argument)?)
         }
         _ => {
             let head = term.to_head(alloc)?;

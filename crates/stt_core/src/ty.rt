@@ -1,30 +1,37 @@
 //! Types.
 
 ghost use Rattle.std.specs.Prelude.{◌≡◌, ◌<◌, ◌++◌, [], ◌∷◌, length, OnOk, OnErr, IfOk, slice_get, drop, reverse, option_map};
-ghost use Rattle.stt_core.specs.SimpleType.{same_type};
+ghost use Rattle.stt_core.specs.SimpleType.{arrow, same_type};
 ghost use Rattle.stt_core.specs.View.{the_type};
 
 use std::alloc::{AllocError, Global};
 use std::marker::Model;
+use std::rc::Rc;
 
-/// A simple type. Base number 0 is `$o`, number 1 is `$i`, and the base types of a signature follow from number 2 on.
+/// A simple type, which shares its parts with its copies. Base number 0 is `$o`, number 1 is `$i`, and the base types of a signature
+/// follow from number 2 on.
 #[derive(Drop)]
 pub enum Ty {
     Base(u32),
-    Arrow(Box<Ty>, Box<Ty>),
+    Arrow(Rc<Ty>, Rc<Ty>),
 }
 
 impl Ty {
-    /// A copy of the type.
-    pub fn try_clone(&self, alloc: Global) -> Result<Ty, AllocError>
+    /// The type of functions from the one type to the other.
+    pub fn function(alloc: Global, argument: Ty, outcome: Ty) -> Result<Ty, AllocError>
+        ensures { IfOk result (λ ty. the_type ty ≡ arrow (the_type argument) (the_type outcome)) }
+    {
+        Ok(Ty::Arrow(Rc::new(alloc, argument)?, Rc::new(alloc, outcome)?))
+    }
+
+    /// A copy of the type, which shares its parts, so that it takes no memory of its own.
+    pub fn try_clone(&self, _alloc: Global) -> Result<Ty, AllocError>
         ensures { IfOk result (λ ty. the_type ty ≡ the_type self.now) }
     {
         match self {
             Ty::Base(n) => Ok(Ty::Base(*n)),
             Ty::Arrow(argument, outcome) => {
-                let argument = Box::new(alloc, argument.try_clone(alloc)?)?;
-                let outcome = Box::new(alloc, outcome.try_clone(alloc)?)?;
-                Ok(Ty::Arrow(argument, outcome))
+                Ok(Ty::Arrow(Rc::clone(argument)?, Rc::clone(outcome)?))
             }
         }
     }

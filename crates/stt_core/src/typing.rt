@@ -64,35 +64,37 @@ fn try_clone_some(alloc: Global, ty: Option<&Ty>) -> Result<Option<Ty>, AllocErr
     }
 }
 
-fn function_type(alloc: Global, argument: Ty, outcome: Ty) -> Result<Ty, AllocError>
-    ensures { IfOk result (λ ty. the_type ty ≡ arrow (the_type argument) (the_type outcome)) }
-{
-    Ok(Ty::Arrow(Box::new(alloc, argument)?, Box::new(alloc, outcome)?))
-}
-
 fn predicate_type(alloc: Global, a: &Ty) -> Result<Ty, AllocError>
     ensures { IfOk result (λ ty. the_type ty ≡ predicate (the_type a.now)) }
 {
-    function_type(alloc, a.try_clone(alloc)?, Ty::Base(0))
+    Ty::function(alloc, a.try_clone(alloc)?, Ty::Base(0))
 }
 
-fn where_same(a: &Ty, b: Ty, c: &Ty) -> Option<Ty>
-    ensures { option_map the_type result ≡ applied_type (Some (arrow (the_type a.now) (the_type b))) (Some (the_type c.now)) }
+fn where_same(alloc: Global, a: &Ty, b: &Ty, c: &Ty) -> Result<Option<Ty>, AllocError>
+    ensures { IfOk result (λ o. option_map the_type o ≡ applied_type (Some (arrow (the_type a.now) (the_type b.now))) (Some (the_type c.now))) }
 {
-    if a.same(c) { Some(b) } else { None }
+    if a.same(c) {
+        Ok(Some(b.try_clone(alloc)?))
+    } else {
+        Ok(None)
+    }
 }
 
 /// The type of what a function gives at an argument.
-pub fn applied_to(function: Option<Ty>, argument: Option<Ty>) -> Option<Ty>
-    ensures { option_map the_type result ≡ applied_type (option_map the_type function) (option_map the_type argument) }
+pub fn applied_to(
+    alloc: Global,
+    function: Option<Ty>,
+    argument: Option<Ty>,
+) -> Result<Option<Ty>, AllocError>
+    ensures { IfOk result (λ o. option_map the_type o ≡ applied_type (option_map the_type function) (option_map the_type argument)) }
 {
     match function {
         Some(Ty::Arrow(a, b)) => match argument {
-            Some(c) => where_same(&a, Box::into_inner(b), &c),
-            None => None,
+            Some(c) => where_same(alloc, &a, &b, &c),
+            None => Ok(None),
         },
-        Some(Ty::Base(_)) => None,
-        None => None,
+        Some(Ty::Base(_)) => Ok(None),
+        None => Ok(None),
     }
 }
 
@@ -127,7 +129,7 @@ pub fn abstracted(
 {
     match outcome {
         Some(outcome) => {
-            let ty = function_type(alloc, a.try_clone(alloc)?, outcome)?;
+            let ty = Ty::function(alloc, a.try_clone(alloc)?, outcome)?;
             Ok(where_over(declared, a, ty))
         }
         None => Ok(None),
@@ -149,25 +151,25 @@ pub fn head_type(
         Head::Wit(k) => try_clone_some(alloc, declared.wits.get(*k as usize)),
         Head::False => Ok(Some(Ty::Base(0))),
         Head::Not => Ok(Some(predicate_type(alloc, &Ty::Base(0))?)),
-        Head::Imp => Ok(Some(function_type(
+        Head::Imp => Ok(Some(Ty::function(
             alloc,
             Ty::Base(0),
             predicate_type(alloc, &Ty::Base(0))?,
         )?)),
         Head::All(a) => {
-            let ty = function_type(alloc, predicate_type(alloc, a)?, Ty::Base(0))?;
+            let ty = Ty::function(alloc, predicate_type(alloc, a)?, Ty::Base(0))?;
             Ok(where_over(declared, a, ty))
         }
         Head::Eq(a) => {
-            let ty = function_type(alloc, a.try_clone(alloc)?, predicate_type(alloc, a)?)?;
+            let ty = Ty::function(alloc, a.try_clone(alloc)?, predicate_type(alloc, a)?)?;
             Ok(where_over(declared, a, ty))
         }
         Head::Choice(a) => {
-            let ty = function_type(alloc, predicate_type(alloc, a)?, a.try_clone(alloc)?)?;
+            let ty = Ty::function(alloc, predicate_type(alloc, a)?, a.try_clone(alloc)?)?;
             Ok(where_over(declared, a, ty))
         }
         Head::Desc(a) => {
-            let ty = function_type(alloc, predicate_type(alloc, a)?, a.try_clone(alloc)?)?;
+            let ty = Ty::function(alloc, predicate_type(alloc, a)?, a.try_clone(alloc)?)?;
             Ok(where_over(declared, a, ty))
         }
     }
@@ -187,7 +189,7 @@ fn spine_type(
     let mut ty = head_type(alloc, declared, ctx, head)?;
     for i in 0..args.len() {
         let argument = type_in(alloc, declared, ctx, args.at(i))?;
-        ty = applied_to(ty, argument);
+        ty = applied_to(alloc, ty, argument)?;
     }
     Ok(ty)
 }

@@ -28,9 +28,9 @@ impl Reader {
     }
 
     fn arrow(&mut self) -> anyhow::Result<Ty> {
-        let argument = Box::new(self.alloc, self.pop_type()?)?;
-        let outcome = Box::new(self.alloc, self.pop_type()?)?;
-        Ok(Ty::Arrow(argument, outcome))
+        let argument = self.pop_type()?;
+        let outcome = self.pop_type()?;
+        Ok(Ty::function(self.alloc, argument, outcome)?)
     }
 
     fn abstraction(&mut self) -> anyhow::Result<Term> {

@@ -9,17 +9,11 @@ ghost use Rattle.stt_core.specs.ScopeView.{the_scope};
 use std::alloc::{AllocError, Global};
 use stt_core::{Signature, Ty, Types};
 
-fn function(alloc: Global, argument: Ty, outcome: Ty) -> Result<Ty, AllocError>
-    ensures { IfOk result (λ ty. the_type ty ≡ arrow (the_type argument) (the_type outcome)) }
-{
-    Ok(Ty::Arrow(Box::new(alloc, argument)?, Box::new(alloc, outcome)?))
-}
-
 /// `i > i`
 fn endo(alloc: Global) -> Result<Ty, AllocError>
     ensures { IfOk result (λ ty. the_type ty ≡ arrow (base 1) (base 1)) }
 {
-    function(alloc, Ty::Base(1), Ty::Base(1))
+    Ty::function(alloc, Ty::Base(1), Ty::Base(1))
 }
 
 /// The type of the witness.
@@ -49,8 +43,8 @@ pub fn signature(alloc: Global) -> Result<Signature, AllocError>
     sig.consts.push(b"c", Ty::Base(1))?;
     sig.consts.push(b"d", endo(alloc)?)?;
     sig.consts
-        .push(b"f", function(alloc, endo(alloc)?, Ty::Base(1))?)?;
+        .push(b"f", Ty::function(alloc, endo(alloc)?, Ty::Base(1))?)?;
     sig.consts
-        .push(b"g", function(alloc, Ty::Base(1), endo(alloc)?)?)?;
+        .push(b"g", Ty::function(alloc, Ty::Base(1), endo(alloc)?)?)?;
     Ok(sig)
 }

@@ -30,9 +30,9 @@ impl Reader {
     }
 
     fn arrow(&mut self) -> Result<Ty, RowRefused> {
-        let argument = Box::new(self.alloc, self.pop_type()?)?;
-        let outcome = Box::new(self.alloc, self.pop_type()?)?;
-        Ok(Ty::Arrow(argument, outcome))
+        let argument = self.pop_type()?;
+        let outcome = self.pop_type()?;
+        Ok(Ty::function(self.alloc, argument, outcome)?)
     }
 
     fn abstraction(&mut self) -> Result<Term, RowRefused> {

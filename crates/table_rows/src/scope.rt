@@ -11,17 +11,11 @@ use stt_core::{Signature, Ty};
 /// The letters of the constants, in the order of the signature.
 pub const CONSTANTS: &[u8] = b"cedgpqrh";
 
-fn function(alloc: Global, argument: Ty, outcome: Ty) -> Result<Ty, AllocError>
-    ensures { IfOk result (λ ty. the_type ty ≡ arrow (the_type argument) (the_type outcome)) }
-{
-    Ok(Ty::Arrow(Box::new(alloc, argument)?, Box::new(alloc, outcome)?))
-}
-
 /// `i > a`
 fn from_individual(alloc: Global, outcome: Ty) -> Result<Ty, AllocError>
     ensures { IfOk result (λ ty. the_type ty ≡ arrow (base 1) (the_type outcome)) }
 {
-    function(alloc, Ty::Base(1), outcome)
+    Ty::function(alloc, Ty::Base(1), outcome)
 }
 
 /// `i > i > a`

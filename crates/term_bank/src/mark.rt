@@ -8,7 +8,7 @@ ghost use Rattle.stt_core.specs.Means.Missing.{missing_binders};
 ghost use Rattle.stt_core.specs.Depth.{depth};
 ghost use Rattle.term_bank.specs.Means.Marks.{greatest_witness};
 ghost use Rattle.term_bank.specs.Means.Target.{target};
-ghost use Rattle.stt_core.specs.SimpleType.{SimpleType, base, arrow};
+ghost use Rattle.stt_core.specs.SimpleType.{SimpleType, base};
 ghost use Rattle.stt_core.specs.Typing.{type_of};
 ghost use Rattle.stt_core.specs.View.{the_head, the_type};
 ghost use Rattle.term_bank.specs.Content.{content_scope};
@@ -30,13 +30,6 @@ fn target_of(ty: &Ty) -> u32
         Ty::Base(n) => *n,
         Ty::Arrow(_, rest) => target_of(rest),
     }
-}
-
-fn function_type(alloc: Global, argument: &Ty, outcome: Ty) -> Result<Ty, AllocError>
-    ensures { IfOk result (λ ty. the_type ty ≡ arrow (the_type argument.now) (the_type outcome)) }
-{
-    let argument = Box::new(alloc, argument.try_clone(alloc)?)?;
-    Ok(Ty::Arrow(argument, Box::new(alloc, outcome)?))
 }
 
 impl Bank {
@@ -61,7 +54,7 @@ impl Bank {
             Node::Lam { ty, body } => {
                 let inner = Context::Inner(ty, ctx);
                 let outcome = self.type_under(&inner, *body)?;
-                Ok(function_type(self.alloc, ty, outcome)?)
+                Ok(Ty::function(self.alloc, ty.try_clone(self.alloc)?, outcome)?)
             }
             Node::App { head, args: _ } => Ok(self.spine_type(ctx, head)?),
         }
@@ -91,7 +84,7 @@ impl Bank {
         if marks.missing == 0 {
             let inner = Context::Inner(ty, &Context::Empty);
             let outcome = self.type_under(&inner, body)?;
-            let ty = function_type(self.alloc, ty, outcome)?;
+            let ty = Ty::function(self.alloc, ty.try_clone(self.alloc)?, outcome)?;
             return Ok(Facts {
                 marks,
                 ty: Some(ty),

@@ -71,7 +71,7 @@ pub(crate) fn applied<'a>(
 ) -> Result<Typed<'a>, Refusal>
     ensures { Answers the_typed result (defined.applied at (the_typed x.entry) (the_typed y.entry)) }
 {
-    match x.ty.applied_to(y.ty.get()) {
+    match x.ty.applied_to(alloc, y.ty.get())? {
         Some(ty) => Ok(Typed {
             term: app(alloc, x.term, y.term)?,
             ty,
@@ -162,7 +162,7 @@ fn abstracted(alloc: Global, a: Ty, x: Typed) -> Result<Typed<'static>, Refusal>
 {
     let outcome = x.ty.into_made(alloc)?;
     let term = lam(alloc, a.try_clone(alloc)?, x.term)?;
-    let ty = Ty::Arrow(Box::new(alloc, a)?, Box::new(alloc, outcome)?);
+    let ty = Ty::function(alloc, a, outcome)?;
     Ok(Typed {
         term,
         ty: TypeOf::Made(ty),

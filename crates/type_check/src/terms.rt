@@ -52,7 +52,7 @@ fn truth(alloc: Global, value: bool) -> Result<Typed<'static>, AllocError>
 fn from_formulas(alloc: Global, to: Ty) -> Result<Ty, AllocError>
     ensures { IfOk result (λ ty. the_type ty ≡ arrow formula (the_type to)) }
 {
-    Ok(Ty::Arrow(Box::new(alloc, Ty::Base(0))?, Box::new(alloc, to)?))
+    Ty::function(alloc, Ty::Base(0), to)
 }
 
 /// `~` as a function.

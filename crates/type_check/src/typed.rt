@@ -46,26 +46,30 @@ impl<'a> TypeOf<'a> {
     }
 
     /// The type of what a function of this type gives at an argument.
-    pub(crate) fn applied_to(self, argument: &Ty) -> Option<TypeOf<'a>>
-        ensures { option_map the_type_of result ≡ applied_type (Some (the_type_of self.entry)) (Some (the_type argument.now)) }
+    pub(crate) fn applied_to(
+        self,
+        alloc: Global,
+        argument: &Ty,
+    ) -> Result<Option<TypeOf<'a>>, AllocError>
+        ensures { IfOk result (λ o. option_map the_type_of o ≡ applied_type (Some (the_type_of self.entry)) (Some (the_type argument.now))) }
     {
         match self {
             TypeOf::Kept(Ty::Arrow(a, b)) => {
                 if a.same(argument) {
-                    Some(TypeOf::Kept(b))
+                    Ok(Some(TypeOf::Kept(b)))
                 } else {
-                    None
+                    Ok(None)
                 }
             }
             TypeOf::Made(Ty::Arrow(a, b)) => {
                 if a.same(argument) {
-                    Some(TypeOf::Made(Box::into_inner(b)))
+                    Ok(Some(TypeOf::Made(b.try_clone(alloc)?)))
                 } else {
-                    None
+                    Ok(None)
                 }
             }
-            TypeOf::Kept(Ty::Base(_)) => None,
-            TypeOf::Made(Ty::Base(_)) => None,
+            TypeOf::Kept(Ty::Base(_)) => Ok(None),
+            TypeOf::Made(Ty::Base(_)) => Ok(None),
         }
     }
 
@@ -83,7 +87,7 @@ impl<'a> TypeOf<'a> {
             }
             TypeOf::Made(Ty::Arrow(a, b)) => {
                 if b.same(&Ty::Base(0)) {
-                    Ok(Some(Box::into_inner(a)))
+                    Ok(Some(a.try_clone(alloc)?))
                 } else {
                     Ok(None)
                 }

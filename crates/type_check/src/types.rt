@@ -35,7 +35,7 @@ pub(crate) fn read_type(alloc: Global, declared: &Declared, ty: &SurfaceTy) -> R
         SurfaceTy::Arrow { from, to, .. } => {
             let from = read_type(alloc, declared, from)?;
             let to = read_type(alloc, declared, to)?;
-            Ok(Ty::Arrow(Box::new(alloc, from)?, Box::new(alloc, to)?))
+            Ok(Ty::function(alloc, from, to)?)
         }
     }
 }

@@ -16,7 +16,7 @@ spine_type-type_in-requires t c = (omega (arith, c.decreases, node_count-at c.ar
 
 pub spine_type-loop-i-preserved : goal.spine_type-loop-i-preserved
 spine_type-loop-i-preserved t c =
-    c.applied_to-ty.ensures
+    c.in_ok-ty-2.ensures
     ∙ ap₂ applied_type c.loop-i.invariant c.in_ok-argument.ensures
     ∙ sym (neutral_type-more (declared_scope c.args.declared.now) (the_context c.args.ctx.now) (the_head c.args.head.now) c.args.args.now c.loop-i.i c.at.result.now c.at.ensures)
 
