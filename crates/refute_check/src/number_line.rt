@@ -6,14 +6,14 @@ ghost use Rattle.stt_core.specs.View.{the_type};
 ghost use Rattle.stt_tableau.specs.Literals.{is_negated, IsLiteral, IsBranch};
 ghost use Rattle.stt_tableau.specs.Accepted.{IsTypedUse, IsTypedLine};
 ghost use Rattle.stt_tableau.specs.declared.refutation.RuleUse.TheVariants as variant;
-ghost use Rattle.refute_text.specs.LineView.{the_rule};
-ghost use Rattle.refute_text.specs.TextView.{the_line};
+ghost use Rattle.written_refutation.specs.LineView.{the_rule};
+ghost use Rattle.written_refutation.specs.TextView.{the_line};
 ghost use Rattle.refute_check.specs.Numbered.{numbered_term, numbered_row, numbered_literal, numbered_rule, numbered_line};
 ghost use Rattle.refute_check.specs.Numbered.{argument_type as type_of_argument};
 
 use crate::number_term::number_term;
 use crate::numbering::Numbering;
-use refute_text::{TextLine, TextLit, TextLits, TextRule, TextTerm};
+use written_refutation::{TextLine, TextLit, TextLits, TextRule, TextTerm};
 use std::alloc::{AllocError, Global};
 use stt_core::{Nf, Ty};
 use stt_tableau::{Children, Line, Lit, Lits, RuleUse, Shape, WitnessRow, shape_of};

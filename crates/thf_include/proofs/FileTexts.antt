@@ -1,10 +1,10 @@
 -- A text has one tree, or is refused at one place.
 use Rattle.std.proofs.Common.{◌≡◌, ℕ, ◌⊎◌, List, inl, inr, sym, ap, subst, ◌∙◌}
-use Rattle.thf_lex.specs.declared.token.Token.{Token}
-use Rattle.thf_lex.specs.Reading.{AreTokens}
-use Rattle.thf_lex.proofs.Readings.{reads_same}
-use Rattle.thf_syntax.specs.Trees.{StatementTree}
-use Rattle.thf_parse.specs.Words.{Lexeme, lexemes}
+use Rattle.thf_grammar.specs.declared.token.Token.{Token}
+use Rattle.thf_grammar.specs.Reading.{AreTokens}
+use Rattle.thf_grammar.proofs.Readings.{reads_same}
+use Rattle.thf_grammar.specs.Trees.{StatementTree}
+use Rattle.thf_grammar.specs.Words.{Lexeme, lexemes}
 use Rattle.thf_parse.specs.Parsing.{depth_limit, HasTree, IsWrongAt, IsTooDeepAt}
 use Rattle.thf_parse.proofs.ParseLaws.{one-tree}
 use Rattle.thf_parse.proofs.RefusalLaws.{not-wrong, not-deep, one-wrong, one-deep, wrong-or-deep}

@@ -3,8 +3,8 @@ use Rattle.std.proofs.Common.{◌≡◌, ℕ, List, ◌∷◌, Result, Ok, ap, s
 use Rattle.stt_core.specs.SimpleType.{SimpleType}
 use Rattle.stt_core.specs.TypedName.{TypedName}
 use Rattle.stt_core.specs.Declarations.{Declarations}
-use Rattle.thf_syntax.specs.Trees.{VarTree}
-use Rattle.thf_syntax.specs.declared.formula.Binder.{Binder}
+use Rattle.thf_grammar.specs.Trees.{VarTree}
+use Rattle.thf_grammar.specs.declared.connective.Binder.{Binder}
 use Rattle.type_check.specs.Outcome.{IllPlace, ◌>>=◌}
 use Rattle.type_check.specs.Means.Answers.{Refuses}
 use Rattle.type_check.specs.Types.{read_type}

@@ -12,10 +12,10 @@ use Rattle.stt_core.specs.declared.signature.Symbol.{Symbol}
 use Rattle.stt_core.specs.declared.signature.Symbol.TheVariants.{Base, Const}
 use Rattle.stt_core.proofs.TypeLaws.{same_type-true}
 use Rattle.stt_core.specs.Declarations.{Declarations, scope_of}
-use Rattle.thf_syntax.specs.Trees.{VarTree, FormulaTree, constant as name_tree, variable, truth, operator, negation, binary, equation, application, quantified, binding}
-use Rattle.thf_syntax.specs.declared.formula.Conn.{Conn}
-use Rattle.thf_syntax.specs.declared.formula.Binder.{Binder}
-use Rattle.thf_syntax.specs.declared.formula.Binder.TheVariants as binder
+use Rattle.thf_grammar.specs.Trees.{VarTree, FormulaTree, constant as name_tree, variable, truth, operator, negation, binary, equation, application, quantified, binding}
+use Rattle.thf_grammar.specs.declared.connective.Conn.{Conn}
+use Rattle.thf_grammar.specs.declared.connective.Binder.{Binder}
+use Rattle.thf_grammar.specs.declared.connective.Binder.TheVariants as binder
 use Rattle.type_check.specs.Outcome.{◌>>=◌}
 use Rattle.type_check.specs.Types.{read_type}
 use Rattle.type_check.specs.Typed.{TypedTerm, typed, of_type, where_typed, domain}

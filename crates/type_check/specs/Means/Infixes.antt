@@ -2,7 +2,7 @@
 use Rattle.std.specs.Prelude.{ℕ, List}
 use Rattle.stt_core.specs.TypedName.{TypedName}
 use Rattle.stt_core.specs.Declarations.{Declarations}
-use Rattle.thf_syntax.specs.Trees.{FormulaTree}
+use Rattle.thf_grammar.specs.Trees.{FormulaTree}
 use Rattle.type_check.specs.Outcome.{◌>>=◌}
 use Rattle.type_check.specs.Typed.{TypedTerm}
 use Rattle.type_check.specs.Terms.{Reading, joined, equated, applied, read_term}

@@ -2,7 +2,7 @@ use Rattle.std.proofs.Common.{map}
 use Rattle.stt_core.specs.Typing.{Scope}
 use Rattle.stt_tableau.specs.Literals.{IsBranch}
 use Rattle.stt_tableau.specs.Accepted.{IsTypedUse}
-use Rattle.refute_text.specs.LineView.{the_rule}
+use Rattle.written_refutation.specs.LineView.{the_rule}
 use Rattle.refute_check.specs.Numbered.{numbered_literal, numbered_rule}
 use Rattle.refute_check.proofs.LineLaws.{at_none}
 use Rattle.refute_check.proofs.number_line.number_line.Goals as goal

@@ -2,7 +2,7 @@ use Rattle.std.proofs.Common.{List, ◌∷◌, ap, sym, subst, ◌∙◌}
 use Rattle.std.proofs.lemmas.Result.{err_from_is_err_and}
 use Rattle.stt_core.specs.TypedName.{TypedName}
 use Rattle.stt_core.specs.View.{the_type}
-use Rattle.thf_syntax.specs.View.{the_formula, the_vars, the_var}
+use Rattle.thf_grammar.specs.View.{the_formula, the_vars, the_var}
 use Rattle.type_check.specs.Means.Answers.{Answers, Refuses}
 use Rattle.type_check.specs.Outcome.{◌>>=◌}
 use Rattle.type_check.specs.Terms.{Reading, read_term, read_binder, bind}
