@@ -58,12 +58,12 @@ pub data AreVars (b : Binder) : ℕ → List Word → List VarTree → ℕ → L
   more_vars : (d e : ℕ) (ws behind rest : List Word) (w : Word) (v : VarTree) (vs : List VarTree) → IsVar (suc (suc d)) ws v (w ∷ behind) → binds_many b ≡ true → Is (terminal.Mark Comma) (suc (suc d)) w → AreVars b (suc d) behind vs e rest → AreVars b d ws (v ∷ vs) e rest
 
 mutual
-  pub data IsFormula : ℕ → List Word → FormulaTree → List Word → Type 0 where
-    unit_formula : (d : ℕ) (ws rest : List Word) (t : FormulaTree) → IsUnit d ws t rest → IsFormula d ws t rest
-    pair_formula : (d : ℕ) (ws right rest : List Word) (w : Word) (c : Conn) (t u : FormulaTree) → IsUnit d ws t (w ∷ right) → Is (terminal.Conn c) d w → is_nonassoc c ≡ true → IsUnit d right u rest → IsFormula d ws (binary (place w) c t u) rest
-    chain_formula : (d : ℕ) (ws right behind rest : List Word) (w : Word) (c : Conn) (t u v : FormulaTree) → IsUnit d ws t (w ∷ right) → Is (terminal.Conn c) (suc d) w → is_chained c ≡ true → IsUnit (suc d) right u behind → AreLinks c (suc d) (binary (place w) c t u) behind v rest → IsFormula d ws v rest
-    apply_formula : (d : ℕ) (ws right behind rest : List Word) (w : Word) (t u v : FormulaTree) → IsUnitary d ws t (w ∷ right) → Is (terminal.Mark At) (suc d) w → IsOperand (suc d) right u behind → AreArguments (suc d) (application (place w) t u) behind v rest → IsFormula d ws v rest
-    quantified_formula : (d : ℕ) (q w : Word) (right behind rest : List Word) (all : Bool) (u v : FormulaTree) → Is (terminal.Quant all) d q → Is (terminal.Mark At) (suc d) w → IsOperand (suc d) right u behind → AreArguments (suc d) (quantified (place w) all u) behind v rest → IsFormula d (q ∷ w ∷ right) v rest
+  pub data IsFormulaText : ℕ → List Word → FormulaTree → List Word → Type 0 where
+    unit_formula : (d : ℕ) (ws rest : List Word) (t : FormulaTree) → IsUnit d ws t rest → IsFormulaText d ws t rest
+    pair_formula : (d : ℕ) (ws right rest : List Word) (w : Word) (c : Conn) (t u : FormulaTree) → IsUnit d ws t (w ∷ right) → Is (terminal.Conn c) d w → is_nonassoc c ≡ true → IsUnit d right u rest → IsFormulaText d ws (binary (place w) c t u) rest
+    chain_formula : (d : ℕ) (ws right behind rest : List Word) (w : Word) (c : Conn) (t u v : FormulaTree) → IsUnit d ws t (w ∷ right) → Is (terminal.Conn c) (suc d) w → is_chained c ≡ true → IsUnit (suc d) right u behind → AreLinks c (suc d) (binary (place w) c t u) behind v rest → IsFormulaText d ws v rest
+    apply_formula : (d : ℕ) (ws right behind rest : List Word) (w : Word) (t u v : FormulaTree) → IsUnitary d ws t (w ∷ right) → Is (terminal.Mark At) (suc d) w → IsOperand (suc d) right u behind → AreArguments (suc d) (application (place w) t u) behind v rest → IsFormulaText d ws v rest
+    quantified_formula : (d : ℕ) (q w : Word) (right behind rest : List Word) (all : Bool) (u v : FormulaTree) → Is (terminal.Quant all) d q → Is (terminal.Mark At) (suc d) w → IsOperand (suc d) right u behind → AreArguments (suc d) (quantified (place w) all u) behind v rest → IsFormulaText d (q ∷ w ∷ right) v rest
 
   -- any number of further operands of a chain, behind the tree of those before
   pub data AreLinks : Conn → ℕ → FormulaTree → List Word → FormulaTree → List Word → Type 0 where
@@ -95,7 +95,7 @@ mutual
     constant_primary : (d : ℕ) (w : Word) (rest : List Word) → IsName d w → IsPrimary d (w ∷ rest) (constant (place w) (name w)) rest
     variable_primary : (d : ℕ) (w : Word) (rest : List Word) → Is terminal.Upper d w → IsPrimary d (w ∷ rest) (variable (place w) (name w)) rest
     truth_primary : (d : ℕ) (w : Word) (rest : List Word) (value : Bool) → Is (terminal.Truth value) d w → IsPrimary d (w ∷ rest) (truth (place w) value) rest
-    group_primary : (d : ℕ) (w v : Word) (inside rest : List Word) (t : FormulaTree) → Is (terminal.Mark Open) (suc d) w → IsFormula (suc d) inside t (v ∷ rest) → Is (terminal.Mark Close) (suc d) v → IsPrimary d (w ∷ inside) t rest
+    group_primary : (d : ℕ) (w v : Word) (inside rest : List Word) (t : FormulaTree) → Is (terminal.Mark Open) (suc d) w → IsFormulaText (suc d) inside t (v ∷ rest) → Is (terminal.Mark Close) (suc d) v → IsPrimary d (w ∷ inside) t rest
     operator_primary : (d : ℕ) (w o v : Word) (rest : List Word) (c : Conn) → Is (terminal.Mark Open) (suc d) w → Is (terminal.Conn c) (lone_depth c (suc d)) o → Is (terminal.Mark Close) (suc d) v → IsPrimary d (w ∷ o ∷ v ∷ rest) (operator (place o) c) rest
 
   pub data IsBinder : ℕ → List Word → FormulaTree → List Word → Type 0 where

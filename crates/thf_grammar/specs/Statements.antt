@@ -16,7 +16,7 @@ use Rattle.thf_grammar.specs.declared.terminal.Mark.TheVariants.{Open, Close, Op
 use Rattle.thf_grammar.specs.declared.terminal.Terminal.TheVariants as terminal
 use Rattle.thf_grammar.specs.Words.{Word, place, name, Is, IsName}
 use Rattle.thf_grammar.specs.Types.{IsType}
-use Rattle.thf_grammar.specs.Formulas.{IsFormula}
+use Rattle.thf_grammar.specs.Formulas.{IsFormulaText}
 use Rattle.thf_grammar.specs.Notes.{AreNotes}
 
 pub data IsLabel (w : Word) : Type 0 where
@@ -41,7 +41,7 @@ pub data IsTyping : ℕ → List Word → BodyTree → List Word → Type 0 wher
 -- what stands behind a role
 pub data IsBody (role : List ℕ) : List Word → BodyTree → List Word → Type 0 where
   typing_body : (ws rest : List Word) (b : BodyTree) → role ≡ codes "type" → IsTyping 0 ws b rest → IsBody role ws b rest
-  formula_body : (ws rest : List Word) (t : FormulaTree) → role ≢ codes "type" → IsFormula 0 ws t rest → IsBody role ws (formula t) rest
+  formula_body : (ws rest : List Word) (t : FormulaTree) → role ≢ codes "type" → IsFormulaText 0 ws t rest → IsBody role ws (formula t) rest
 
 pub data AreLabels : List Word → List SelectedTree → List Word → Type 0 where
   last_label : (w : Word) (rest : List Word) → IsLabel w → AreLabels (w ∷ rest) (selected w ∷ []) rest

@@ -9,7 +9,7 @@ use Rattle.thf_grammar.specs.declared.terminal.Mark.TheVariants as mark
 use Rattle.thf_grammar.specs.declared.terminal.Terminal.TheVariants as terminal
 use Rattle.thf_grammar.specs.Words.{Word, place, Is}
 use Rattle.thf_grammar.specs.Formulas as grammar
-use Rattle.thf_grammar.specs.Formulas.{IsFormula, AreLinks, AreArguments, IsUnit, IsOperand, IsNegation, IsUnitary, IsPrimary, IsBinder, is_chained, is_nonassoc, lone_depth}
+use Rattle.thf_grammar.specs.Formulas.{IsFormulaText, AreLinks, AreArguments, IsUnit, IsOperand, IsNegation, IsUnitary, IsPrimary, IsBinder, is_chained, is_nonassoc, lone_depth}
 use Rattle.thf_syntax.specs.declared.slot.Slot.{Slot}
 use Rattle.thf_syntax.specs.declared.slot.Slot.TheVariants.{Primary, Unitary, Head, Operand, Member, Conjunction, Disjunction}
 use Rattle.thf_syntax.specs.Slots.{takes}
@@ -27,11 +27,11 @@ Reads R pieces t = found.Reads bare_formula R pieces t
 
 -- A formula that goes on with a link of a chain: with the link and those behind it, it is one formula.
 record Starts (c : Conn) (d e : ℕ) (ws : List Word) (t : FormulaTree) (rest : List Word) : Type 0 where
-  step : (w : Word) (right behind last : List Word) (u v : FormulaTree) → rest ≡ w ∷ right → Is (terminal.Conn c) (suc e) w → IsUnit (suc e) right u behind → AreLinks c (suc e) (binary (place w) c t u) behind v last → IsFormula d ws v last
+  step : (w : Word) (right behind last : List Word) (u v : FormulaTree) → rest ≡ w ∷ right → Is (terminal.Conn c) (suc e) w → IsUnit (suc e) right u behind → AreLinks c (suc e) (binary (place w) c t u) behind v last → IsFormulaText d ws v last
 
 -- the same for any number of further links
 record GoesOn (c : Conn) (d e : ℕ) (ws : List Word) (t : FormulaTree) (rest : List Word) : Type 0 where
-  links : (v : FormulaTree) (last : List Word) → AreLinks c e t rest v last → IsFormula d ws v last
+  links : (v : FormulaTree) (last : List Word) → AreLinks c e t rest v last → IsFormulaText d ws v last
 
 starts-unit : (c : Conn) → is_chained c ≡ true → (d : ℕ) (ws : List Word) (t : FormulaTree) (rest : List Word) → IsUnit d ws t rest → Starts c d d ws t rest
 starts-unit c chained d ws t rest h = record {
@@ -44,15 +44,15 @@ starts-goes_on c d e ws t rest h = record {
       h.links v last (subst (λ r. AreLinks c e t r v last) (sym same) (grammar.more_links c e t u v w right behind last is unit links));
 }
 
-formula-goes_on : (c : Conn) (d e : ℕ) (ws : List Word) (t : FormulaTree) (rest : List Word) → GoesOn c d e ws t rest → IsFormula d ws t rest
+formula-goes_on : (c : Conn) (d e : ℕ) (ws : List Word) (t : FormulaTree) (rest : List Word) → GoesOn c d e ws t rest → IsFormulaText d ws t rest
 formula-goes_on c d e ws t rest h = h.links t rest (grammar.no_links c e t rest)
 
 -- A formula that goes on with an argument: with it and those behind it, it is one formula.
 record StartsApplied (d e : ℕ) (ws : List Word) (t : FormulaTree) (rest : List Word) : Type 0 where
-  step : (w : Word) (right behind last : List Word) (u v : FormulaTree) → rest ≡ w ∷ right → Is (terminal.Mark mark.At) (suc e) w → IsOperand (suc e) right u behind → AreArguments (suc e) (application (place w) t u) behind v last → IsFormula d ws v last
+  step : (w : Word) (right behind last : List Word) (u v : FormulaTree) → rest ≡ w ∷ right → Is (terminal.Mark mark.At) (suc e) w → IsOperand (suc e) right u behind → AreArguments (suc e) (application (place w) t u) behind v last → IsFormulaText d ws v last
 
 record GoesOnApplied (d e : ℕ) (ws : List Word) (t : FormulaTree) (rest : List Word) : Type 0 where
-  arguments : (v : FormulaTree) (last : List Word) → AreArguments e t rest v last → IsFormula d ws v last
+  arguments : (v : FormulaTree) (last : List Word) → AreArguments e t rest v last → IsFormulaText d ws v last
 
 starts-unitary : (d : ℕ) (ws : List Word) (t : FormulaTree) (rest : List Word) → IsUnitary d ws t rest → StartsApplied d d ws t rest
 starts-unitary d ws t rest h = record {
@@ -65,13 +65,13 @@ starts-goes_on_applied d e ws t rest h = record {
       h.arguments v last (subst (λ r. AreArguments e t r v last) (sym same) (grammar.more_arguments e t u v w right behind last is operand arguments));
 }
 
-formula-goes_on_applied : (d e : ℕ) (ws : List Word) (t : FormulaTree) (rest : List Word) → GoesOnApplied d e ws t rest → IsFormula d ws t rest
+formula-goes_on_applied : (d e : ℕ) (ws : List Word) (t : FormulaTree) (rest : List Word) → GoesOnApplied d e ws t rest → IsFormulaText d ws t rest
 formula-goes_on_applied d e ws t rest h = h.arguments t rest (grammar.no_arguments e t rest)
 
 -- The pieces of a formula are read at each place of the grammar, in parentheses where it needs them. `links` and `args` say how many
 -- things are open behind it, before the next link of a chain and before the next argument.
 record Laws (fits : Slot → Bool) (links : Slot → ℕ → ℕ) (args : ℕ → ℕ) (pieces : ℕ → List Piece → List Piece) (t : FormulaTree) : Type 0 where
-  formula : Reads IsFormula pieces t
+  formula : Reads IsFormulaText pieces t
   member : Reads IsUnit (grouped (fits Member) pieces) t
   operand : Reads IsOperand (grouped (fits Operand) pieces) t
   unitary : Reads IsUnitary (grouped (fits Unitary) pieces) t
@@ -102,7 +102,7 @@ module _ (pieces : ℕ → List Piece → List Piece) (t : FormulaTree) where
   unit-negation : Reads IsNegation pieces t → Reads IsUnit pieces t
   unit-negation h d at rest = found-as (λ ws u vs r. grammar.negation_unit d ws vs u r) (h d at rest)
 
-  formula-unit : Reads IsUnit pieces t → Reads IsFormula pieces t
+  formula-unit : Reads IsUnit pieces t → Reads IsFormulaText pieces t
   formula-unit h d at rest = found-as (λ ws u vs r. grammar.unit_formula d ws vs u r) (h d at rest)
 
   chain-unit : (c : Conn) → is_chained c ≡ true → Reads IsUnit pieces t → Reads (λ d. Starts c d d) pieces t
@@ -111,7 +111,7 @@ module _ (pieces : ℕ → List Piece → List Piece) (t : FormulaTree) where
   head-unitary : Reads IsUnitary pieces t → Reads (λ d. StartsApplied d d) pieces t
   head-unitary h d at rest = found-as (λ ws u vs r. starts-unitary d ws u vs r) (h d at rest)
 
-  primary-grouped : Reads IsFormula pieces t → Reads IsPrimary (grouped false pieces) t
+  primary-grouped : Reads IsFormulaText pieces t → Reads IsPrimary (grouped false pieces) t
   primary-grouped h d at rest =
       let f = h (suc d) (at + 1 + 1) (space ∷ token kind.Symbol (codes ")") (suc d) ∷ rest) in
       record {
@@ -122,7 +122,7 @@ module _ (pieces : ℕ → List Piece → List Piece) (t : FormulaTree) where
         same = f.same;
       }
 
-module _ (pieces : ℕ → List Piece → List Piece) (t : FormulaTree) (h : Reads IsFormula pieces t) where
+module _ (pieces : ℕ → List Piece → List Piece) (t : FormulaTree) (h : Reads IsFormulaText pieces t) where
   -- a formula in parentheses
   in_parentheses : Reads IsPrimary (grouped false pieces) t
   in_parentheses = primary-grouped pieces t h
@@ -159,7 +159,7 @@ laws-primary pieces t h =
     }
 
 -- a formula that stands nowhere without parentheses
-laws-formula : (pieces : ℕ → List Piece → List Piece) (t : FormulaTree) → Reads IsFormula pieces t → Laws (λ s. false) (λ s d. d) (λ d. d) pieces t
+laws-formula : (pieces : ℕ → List Piece → List Piece) (t : FormulaTree) → Reads IsFormulaText pieces t → Laws (λ s. false) (λ s d. d) (λ d. d) pieces t
 laws-formula pieces t h = record {
   formula = h;
   member = unit-grouped pieces t h;
@@ -230,7 +230,7 @@ negation-laws p t l = record {
           same = ap (negation 0) f.same;
         }
 
-    whole : Reads IsFormula pieces (negation p t)
+    whole : Reads IsFormulaText pieces (negation p t)
     whole = formula-unit pieces (negation p t) (unit-negation pieces (negation p t) negated)
 
 equation-laws : (p : ℕ) (b : Bool) (t u : FormulaTree) → LawsOf t → LawsOf u → LawsOf (equation p b t u)
@@ -259,11 +259,11 @@ equation-laws p b t u l m = record {
           same = ap₂ (equation 0 b) f.same g.same;
         }
 
-    whole : Reads IsFormula pieces (equation p b t u)
+    whole : Reads IsFormulaText pieces (equation p b t u)
     whole = formula-unit pieces (equation p b t u) equated
 
 -- an operand, a connective that isn't chained, and an operand
-paired : (p : ℕ) (c : Conn) (t u : FormulaTree) (left right : ℕ → List Piece → List Piece) → is_nonassoc c ≡ true → Reads IsUnit left t → Reads IsUnit right u → Reads IsFormula (λ d. infixed_pieces left d (conn_text c) right d) (binary p c t u)
+paired : (p : ℕ) (c : Conn) (t u : FormulaTree) (left right : ℕ → List Piece → List Piece) → is_nonassoc c ≡ true → Reads IsUnit left t → Reads IsUnit right u → Reads IsFormulaText (λ d. infixed_pieces left d (conn_text c) right d) (binary p c t u)
 paired p c t u left right nonassoc h k d at rest =
     let f = h d at (space ∷ token kind.Symbol (conn_text c) d ∷ space ∷ right d rest) in
     let g = k d (f.end + 1 + length (conn_text c) + 1) rest in
@@ -327,7 +327,7 @@ quantifies p b u m d at rest =
 
 -- a formula that is applied further without parentheses
 laws-applied : (pieces : ℕ → List Piece → List Piece) (t : FormulaTree) (args : ℕ → ℕ) → Reads (λ d. GoesOnApplied d (args d)) pieces t
-    → Reads IsFormula pieces t × Reads (λ d. StartsApplied d (args d)) pieces t
+    → Reads IsFormulaText pieces t × Reads (λ d. StartsApplied d (args d)) pieces t
 laws-applied pieces t args h = (
   λ d at rest. found-as (λ ws u vs r. formula-goes_on_applied d (args d) ws u vs r) (h d at rest),
   λ d at rest. found-as (λ ws u vs r. starts-goes_on_applied d (args d) ws u vs r) (h d at rest),
@@ -366,7 +366,7 @@ quantified-laws p b u m =
 
 -- a formula that goes on with further links of its chain without parentheses
 laws-linked : (pieces : ℕ → List Piece → List Piece) (t : FormulaTree) (c : Conn) (links : ℕ → ℕ) → Reads (λ d. GoesOn c d (links d)) pieces t
-    → Reads IsFormula pieces t × Reads (λ d. Starts c d (links d)) pieces t
+    → Reads IsFormulaText pieces t × Reads (λ d. Starts c d (links d)) pieces t
 laws-linked pieces t c links h = (
   λ d at rest. found-as (λ ws u vs r. formula-goes_on c d (links d) ws u vs r) (h d at rest),
   λ d at rest. found-as (λ ws u vs r. starts-goes_on c d (links d) ws u vs r) (h d at rest),
@@ -456,7 +456,7 @@ binding-laws p b vs t proper l = record {
     unitary : Reads IsUnitary pieces (binding p b vs t)
     unitary = unitary-binder pieces (binding p b vs t) bound
 
-    whole : Reads IsFormula pieces (binding p b vs t)
+    whole : Reads IsFormulaText pieces (binding p b vs t)
     whole = formula-unit pieces (binding p b vs t) (unit-unitary pieces (binding p b vs t) unitary)
 
 formula-laws : (t : FormulaTree) → IsProper t → LawsOf t
@@ -471,5 +471,5 @@ formula-laws (application p t u) h = application-laws p t u (formula-laws t h.0)
 formula-laws (quantified p b u) h = quantified-laws p b u (formula-laws u h)
 formula-laws (binding p b vs t) h = binding-laws p b vs t h.0 (formula-laws t h.1)
 
-pub reads-formula : (t : FormulaTree) → IsProper t → Reads IsFormula (formula_pieces t) t
+pub reads-formula : (t : FormulaTree) → IsProper t → Reads IsFormulaText (formula_pieces t) t
 reads-formula t h = (formula-laws t h).formula

@@ -6,7 +6,7 @@ use Rattle.thf_grammar.specs.declared.connective.Conn.{Conn}
 use Rattle.thf_grammar.specs.declared.connective.Binder.{Binder}
 use Rattle.thf_grammar.specs.Words.{Word}
 use Rattle.thf_grammar.specs.Types.{IsType, simple_type, arrow_type, IsSimpleType, indiv_type, form_type, named_type, group_type, IsVar, plain_var, typed_var}
-use Rattle.thf_grammar.specs.Formulas.{IsFormula, unit_formula, pair_formula, chain_formula, apply_formula, quantified_formula, AreLinks, no_links, more_links, AreArguments, no_arguments, more_arguments, IsUnit, unitary_unit, negation_unit, equation_unit, IsOperand, unitary_operand, negation_operand, IsNegation, negated, IsUnitary, primary_unitary, binder_unitary, IsPrimary, constant_primary, variable_primary, truth_primary, group_primary, operator_primary, IsBinder, bound, AreVars, last_var, more_vars, is_chained, binds_many}
+use Rattle.thf_grammar.specs.Formulas.{IsFormulaText, unit_formula, pair_formula, chain_formula, apply_formula, quantified_formula, AreLinks, no_links, more_links, AreArguments, no_arguments, more_arguments, IsUnit, unitary_unit, negation_unit, equation_unit, IsOperand, unitary_operand, negation_operand, IsNegation, negated, IsUnitary, primary_unitary, binder_unitary, IsPrimary, constant_primary, variable_primary, truth_primary, group_primary, operator_primary, IsBinder, bound, AreVars, last_var, more_vars, is_chained, binds_many}
 use Rattle.thf_grammar.specs.Notes.{AreNotes, no_notes, one_note, two_notes, IsGeneral, data_general, pair_general, empty_general, list_general, AreGenerals, last_general, more_generals, IsData, name_data, call_data, upper_data, integer_data, distinct_data}
 use Rattle.thf_grammar.specs.Statements.{selected, IsTyping, base_typing, constant_typing, group_typing, IsBody, typing_body, formula_body, AreLabels, last_label, more_labels, IsSelection, everything, only, IsEnd, ends, IsStatement, annotated_statement, include_statement, IsFile, no_statement, more_statements}
 use Rattle.thf_syntax.specs.Law.{IsSpelled}
@@ -57,7 +57,7 @@ proper-vars {b = b} (more_vars d e ws behind rest w v vs h many is k) s =
     record { tree = proper-more_vars b v vs first.tree many others.tree; later = others.later }
 
 mutual
-  proper-formula : {d : ℕ} {ws : List Word} {t : FormulaTree} {rest : List Word} → IsFormula d ws t rest → AreSpelled ws → Proper (IsProper t) rest
+  proper-formula : {d : ℕ} {ws : List Word} {t : FormulaTree} {rest : List Word} → IsFormulaText d ws t rest → AreSpelled ws → Proper (IsProper t) rest
   proper-formula (unit_formula d ws rest t h) s = proper-unit h s
   proper-formula (pair_formula d ws right rest w c t u h is nonassoc k) s =
       let left = proper-unit h s in

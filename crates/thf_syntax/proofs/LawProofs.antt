@@ -5,7 +5,7 @@ use Rattle.thf_grammar.specs.Trees.{StatementTree}
 use Rattle.thf_grammar.specs.Words.{Word, plain}
 use Rattle.std.specs.List.{AllByRecursion}
 use Rattle.thf_syntax.specs.Texts.{surface_text}
-use Rattle.thf_syntax.specs.Law.{IsSpelled, IsPrintable, IsTextOf, AppendsTextOf}
+use Rattle.thf_syntax.specs.Law.{IsSpelled, HasTokens, IsTextOf, AppendsTextOf}
 use Rattle.outside.specs.Writing.{Took}
 use Rattle.std.specs.Prelude.{IsTrue}
 use Rattle.thf_syntax.proofs.Pieces.{words_at, tokens_at}
@@ -39,12 +39,12 @@ proper-is_text ss proper =
       same = sym f.same;
     }
 
-pub printable-is_text : (tree : List StatementTree) → IsPrintable tree → IsTextOf tree (surface_text tree)
+pub printable-is_text : (tree : List StatementTree) → HasTokens tree → IsTextOf tree (surface_text tree)
 printable-is_text tree h =
     let text = proper-is_text h.other (proper-file h.file (words-spelled h.words h.spelled)) in
     subst (IsTextOf tree) (sym (surface_text-same tree h.other h.same))
     (record { tokens = text.tokens; words = text.words; other = text.other; read = text.read; placed = text.placed; file = text.file; same = h.same ∙ text.same })
 
 -- what is appended where a tree is written
-pub took-appends : {S : Type 0} {tells : S → Bool} {written : S → List ℕ} {faults : S → ℕ} {s t : S} (tree : List StatementTree) → Took tells written faults s t (surface_text tree) → IsTrue (tells s) → IsPrintable tree → AppendsTextOf tree (written s) (written t)
+pub took-appends : {S : Type 0} {tells : S → Bool} {written : S → List ℕ} {faults : S → ℕ} {s t : S} (tree : List StatementTree) → Took tells written faults s t (surface_text tree) → IsTrue (tells s) → HasTokens tree → AppendsTextOf tree (written s) (written t)
 took-appends tree h told printable = record { text = surface_text tree; appended = h.appended told; is_text = printable-is_text tree printable }

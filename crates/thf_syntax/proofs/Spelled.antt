@@ -10,7 +10,7 @@ use Rattle.thf_grammar.specs.Texts.{IsToken}
 use Rattle.thf_grammar.specs.Reading.{Reads, gap, token, bad, end}
 use Rattle.thf_grammar.specs.Trees.{StatementTree}
 use Rattle.thf_grammar.specs.Words.{lexemes}
-use Rattle.thf_syntax.specs.Law.{IsTextOfKind, IsSpelled, IsPrintable, IsTextOf}
+use Rattle.thf_syntax.specs.Law.{IsTextOfKind, IsSpelled, HasTokens, IsTextOf}
 
 of-kind : (k : TokenKind) (text : List ℕ) → IsToken k text → IsTextOfKind k text
 of-kind kind.Lower text h = h
@@ -36,7 +36,7 @@ reads-spelled bytes at _ _ here (bad _ byte rest nothing) = (tt, tt)
 reads-spelled bytes at _ _ here (end _) = (tt, tt)
 
 -- a tree that has a text is one that some tokens have
-pub is_text-printable : (tree : List StatementTree) (bytes : List ℕ) → IsTextOf tree bytes → IsPrintable tree
+pub is_text-printable : (tree : List StatementTree) (bytes : List ℕ) → IsTextOf tree bytes → HasTokens tree
 is_text-printable tree bytes h = record {
   words = h.words;
   other = h.other;

@@ -21,7 +21,7 @@ abbrev pub IsSpelled : Lexeme → Type 0
 IsSpelled t = IsTextOfKind t.kind t.text
 
 -- some list of tokens has the tree, places aside
-pub record IsPrintable (tree : List StatementTree) : Type 0 where
+pub record HasTokens (tree : List StatementTree) : Type 0 where
   pub words : List Word
   pub other : List StatementTree
   pub spelled : AllByRecursion IsSpelled (plain words)

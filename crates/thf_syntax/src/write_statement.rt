@@ -4,7 +4,7 @@ ghost use Rattle.std.specs.List.{flat_map};
 ghost use Rattle.outside.specs.Causes.{Rose};
 ghost use Rattle.outside.specs.Prefix.{AppendsProperly};
 ghost use Rattle.thf_grammar.specs.View.{the_type, the_body, the_annotated, the_selected, the_selection, the_statement, the_file};
-ghost use Rattle.thf_syntax.specs.Law.{IsPrintable, AppendsTextOf};
+ghost use Rattle.thf_syntax.specs.Law.{HasTokens, AppendsTextOf};
 ghost use Rattle.thf_syntax.specs.Names.{name_text};
 ghost use Rattle.thf_syntax.specs.Texts as spec;
 ghost use Rattle.outside.specs.Writing.{Took, Stopped};
@@ -150,7 +150,7 @@ pub fn write_surface<S: Sink>(tree: &FileTree, sink: &mut S) -> Result<(), Faile
     ensures later { S.faults sink.old ≤ S.faults sink.new }
     ensures telling { IsTrue (S.tells sink.old) → IsTrue (S.tells sink.new) }
     // the tokens of what is written have the tree, places aside
-    ensures law { OnOk result (IsTrue (S.tells sink.old) → IsPrintable (the_file tree.now)
+    ensures law { OnOk result (IsTrue (S.tells sink.old) → HasTokens (the_file tree.now)
         → AppendsTextOf (the_file tree.now) (S.written sink.old) (S.written sink.new)) }
 {
     write_statements(sink, tree.as_slice())?;
