@@ -3,8 +3,9 @@
 ghost use Rattle.std.specs.Prelude.{◌≡◌, ◌≤◌, List, ℕ};
 ghost use Rattle.stt_core.specs.TypedProblem.{IsTyped};
 ghost use Rattle.outside.specs.Causes.{Rose};
-ghost use Rattle.request_answers.specs.Checked.{unread_answer, failed_answer, AnswersBytes, AnswersText};
-ghost use Rattle.request_answers.specs.Causes.{IsNoReadFault};
+ghost use Rattle.request_answers.specs.Checked.{AnswersBytes, AnswersText};
+ghost use Rattle.request_answers.specs.Means.RefusedTexts.{unread_answer, failed_answer};
+ghost use Rattle.request_answers.specs.Means.ReadFaults.{IsNoReadFault};
 ghost use Rattle.szs_report.specs.declared.answer.NamedFile.TheVariants.{Check};
 
 use outside::{Bytes, Files, ReadRefused, read_whole};

@@ -3,8 +3,9 @@
 ghost use Rattle.std.specs.Prelude.{◌≡◌, ◌≤◌, ℕ, List, option_map, IfOk, IfErr, IsErrOf, OnOk};
 ghost use Rattle.outside.specs.Causes.{Rose};
 ghost use Rattle.mode_file.specs.Given.{IsInRange};
-ghost use Rattle.request_answers.specs.Modes.{IsModeBy, mode_answer};
-ghost use Rattle.request_answers.specs.Causes.{IsNoReadFault};
+ghost use Rattle.request_answers.specs.Modes.{IsModeBy};
+ghost use Rattle.request_answers.specs.Means.RefusedModes.{mode_answer};
+ghost use Rattle.request_answers.specs.Means.ReadFaults.{IsNoReadFault};
 ghost use Rattle.request_answers.specs.Means.Unread.{IsUnreadMode, IsUnaskedMode};
 ghost use Rattle.std.specs.Prelude.{Some};
 ghost use Rattle.szs_report.specs.declared.answer.Answer.TheVariants as answer;
