@@ -8,6 +8,7 @@ ghost use Rattle.request_answers.specs.Means.RefusedTexts.{unread_answer, failed
 ghost use Rattle.request_answers.specs.Means.ReadFaults.{IsNoReadFault};
 ghost use Rattle.szs_report.specs.declared.answer.NamedFile.TheVariants.{Check};
 
+use crate::limits::MAX_BYTES;
 use outside::{Bytes, Files, ReadRefused, read_whole};
 use refute_check::{CheckRefused, check_refutation};
 use refute_text::{TextRefused, read_text};
@@ -15,9 +16,6 @@ use std::alloc::Global;
 use stt_core::Problem;
 use stt_tableau::Why;
 use szs_report::{Answer, NamedFile};
-
-/// How many bytes the text of a refutation, and the file of a mode, have at most.
-pub(crate) const MAX_BYTES: usize = 16_777_216;
 
 /// The answer where a text isn't read.
 fn unread_answer(refused: TextRefused) -> Answer

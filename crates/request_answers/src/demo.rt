@@ -42,7 +42,7 @@ fn demo_text(alloc: Global, n: u32) -> Result<Bytes, AllocError>
 {
     let mut sink = GrowSink::new(alloc);
     match make(n, &mut sink) {
-        Ok(()) => Ok(Bytes::from_slice(alloc, sink.bytes())?),
+        Ok(()) => Ok(sink.into_bytes()),
         Err(Failed) => Err(AllocError),
     }
 }
@@ -53,7 +53,7 @@ fn report(alloc: Global, name: &str, answer: &Answer) -> Result<Bytes, AllocErro
 {
     let mut sink = GrowSink::new(alloc);
     match write_report(&mut sink, name.as_bytes(), answer) {
-        Ok(()) => Ok(Bytes::from_slice(alloc, sink.bytes())?),
+        Ok(()) => Ok(sink.into_bytes()),
         Err(Failed) => Err(AllocError),
     }
 }
