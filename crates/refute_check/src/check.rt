@@ -30,10 +30,10 @@ use crate::refusal::CheckRefused;
 use crate::start::start_branch;
 use crate::witnesses::Witnesses;
 use delta_defs::unfold_problem;
-use written_refutation::{RefutationText, TextLine};
 use std::alloc::{AllocError, Global};
 use stt_core::{Problem, Signature};
 use stt_tableau::{PlainRefused, Why};
+use written_refutation::{RefutationText, TextLine};
 
 /// The rows of the text, where they are a witness table.
 fn check_rows(

@@ -15,6 +15,6 @@ pub use law::{one_reading, one_refutation, texts_read_back};
 pub use refusal::TextRefused;
 pub use text::read_text;
 pub use written_refutation::{
-    RefutationText, TextHead, TextLine, TextLines, TextLit, TextLits, TextNames, TextNode, TextRule,
-    TextTerm, TextTerms, TextTy, write_text,
+    RefutationText, TextHead, TextLine, TextLines, TextLit, TextLits, TextNames, TextNode,
+    TextRule, TextTerm, TextTerms, TextTy, write_text,
 };

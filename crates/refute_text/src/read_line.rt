@@ -13,9 +13,9 @@ use crate::read_term::{index, read_term};
 use crate::read_type::expect;
 use crate::refusal::Refusal;
 use outside::Bytes;
-use written_refutation::{TextLine, TextLits, TextRule, TextTerm};
 use std::alloc::Global;
 use stt_tableau::{Child, Children};
+use written_refutation::{TextLine, TextLits, TextRule, TextTerm};
 
 /// Literals, and what follows them.
 #[derive(Drop)]

@@ -8,9 +8,9 @@ ghost use Rattle.refute_text.specs.Means.Refusals.{Answers};
 
 use crate::refusal::Refusal;
 use outside::Bytes;
-use written_refutation::{is_plain, is_word_byte};
 use std::alloc::Global;
 use std::str;
+use written_refutation::{is_plain, is_word_byte};
 
 /// What follows the text, where the bytes begin with it.
 pub(crate) fn behind<'a>(text: &[u8], bytes: &'a [u8]) -> Option<&'a [u8]>

@@ -11,8 +11,8 @@ ghost use Rattle.written_refutation.specs.TreeView.{the_head};
 use crate::read_name::{behind, name, number};
 use crate::read_type::{TypeRead, expect, read_type};
 use crate::refusal::Refusal;
-use written_refutation::{TextHead, TextNode, TextTerm, TextTerms};
 use std::alloc::Global;
+use written_refutation::{TextHead, TextNode, TextTerm, TextTerms};
 
 /// A number below 2^32, and what follows it.
 #[derive(Drop)]

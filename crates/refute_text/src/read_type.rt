@@ -7,8 +7,8 @@ ghost use Rattle.written_refutation.specs.View.{the_type};
 
 use crate::read_name::{behind, name};
 use crate::refusal::Refusal;
-use written_refutation::TextTy;
 use std::alloc::Global;
+use written_refutation::TextTy;
 
 /// A type, and what follows it.
 #[derive(Drop)]

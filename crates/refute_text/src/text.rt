@@ -14,8 +14,8 @@ ghost use Rattle.refute_text.specs.Answered.{reading_of};
 use crate::lines::{behind_start, is_end, next_line};
 use crate::read_line::{read_definition, read_line, read_row};
 use crate::refusal::{Refusal, TextRefused};
-use written_refutation::{RefutationText, TextLines, TextNames, TextTerms};
 use std::alloc::Global;
+use written_refutation::{RefutationText, TextLines, TextNames, TextTerms};
 
 /// Adds the name whose definition the line is.
 fn add_definition(alloc: Global, text: &mut RefutationText, line: &[u8]) -> Result<(), Refusal>

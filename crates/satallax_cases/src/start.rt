@@ -2,7 +2,6 @@
 
 use anyhow::{Context, bail};
 use outside::{Failed, Files, GrowSink};
-use written_refutation::write_text;
 use std::alloc::{AllocError, Global};
 use std::str;
 use stt_core::{Head, Nf, Nfs, Signature, Types};
@@ -11,6 +10,7 @@ use stt_tableau::{
 };
 use thf_include::{FileNames, gather};
 use type_check::check;
+use written_refutation::write_text;
 
 /// What stands before the literals of a branch that begins with falsity, where that closes it.
 const BEFORE: &str = "version 1\n0: False(0) [+$f";

@@ -5,12 +5,12 @@ ghost use Rattle.stt_core.specs.TypedProblem.{IsTyped};
 use anyhow::bail;
 use mode_file::Mode;
 use outside::{Failed, GrowSink};
-use written_refutation::write_text;
 use std::alloc::{AllocError, Global};
 use std::str;
 use stt_core::{Problem, Signature};
 use stt_tableau::{Lits, Refutation, accepts_plain, start_literals};
 use tableau_run::{Ended, run};
+use written_refutation::write_text;
 
 /// Writes a refutation that the plain checker accepts for the start.
 fn write(

@@ -9,9 +9,9 @@ use crate::GatherRefused;
 use outside::Bytes;
 use std::alloc::Global;
 use std::str;
+use thf_grammar::Statement;
 use thf_lex::lex;
 use thf_parse::{ParseRefused, parse};
-use thf_grammar::Statement;
 
 /// The statements in the text of the file with this number.
 pub fn statements_in(

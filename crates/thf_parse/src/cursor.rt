@@ -5,11 +5,11 @@ ghost use Rattle.thf_parse.specs.Means.Outcome as spec;
 ghost use Rattle.thf_parse.specs.Means.Passes.{Passes};
 
 use crate::refusal::Refusal;
-use thf_grammar::{Mark, Terminal};
 use crate::words::{first_name, first_place, first_terminal, first_text};
 use outside::Bytes;
 use std::alloc::{AllocError, Global};
 use std::marker::Model;
+use thf_grammar::{Mark, Terminal};
 use thf_lex::Token;
 
 /// The tokens that are left to read, with the terminal of the first.

@@ -11,8 +11,8 @@ use crate::cursor::Cursor;
 use crate::refusal::Refusal;
 use crate::statement::statement;
 use std::alloc::{AllocError, Global};
-use thf_lex::Tokens;
 use thf_grammar::{FileTree, Statement, Terminal};
+use thf_lex::Tokens;
 use thiserror::Error;
 
 /// How many things may be open at once in a body or in notes.

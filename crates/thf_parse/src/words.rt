@@ -5,9 +5,9 @@ ghost use Rattle.thf_parse.specs.Means.Outcome as spec;
 ghost use Rattle.thf_grammar.specs.Terminals.{of_kind};
 
 use crate::terminal::terminal_of;
-use thf_grammar::Terminal;
 use outside::Bytes;
 use std::alloc::{AllocError, Global};
+use thf_grammar::Terminal;
 use thf_lex::{Token, TokenKind};
 
 /// The bytes of a token.
