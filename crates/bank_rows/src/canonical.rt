@@ -5,8 +5,9 @@ ghost use Rattle.term_bank.specs.Content.{Grows};
 ghost use Rattle.bank_rows.specs.Individuals.{HasNoWitness};
 
 use crate::checked::{applied, imported, normalised, tree};
+use crate::found::Found;
 use crate::refused::RowRefused;
-use crate::scope::{C, K, empty_bank, endo};
+use crate::scope::{C, K, endo};
 use std::alloc::{AllocError, Global};
 use stt_core::{Head, Nf, Nfs, Term, Ty, Types};
 use term_bank::{Bank, Id};
@@ -35,21 +36,15 @@ fn imported_constantly(
     imported(alloc, bank, &nf)
 }
 
-/// Whether `^i.^i.#1` gives `^i.c` at `c`, over a bank.
-fn is_constant_over(alloc: Global, bank: &mut Bank) -> Result<bool, RowRefused>
+/// Whether `^i.^i.#1` gives `^i.c` at `c`.
+pub fn outcome_is_constant(alloc: Global, bank: &mut Bank) -> Result<Found, RowRefused>
     requires { HasNoWitness bank.old }
 {
     let function = imported_constantly(alloc, bank, 2, Head::Bound(1))?;
     let argument = imported_constantly(alloc, bank, 0, Head::Name(C))?;
     let made = applied(alloc, bank, function, argument)?;
     let wanted = imported_constantly(alloc, bank, 1, Head::Name(C))?;
-    Ok(bank.same(made, wanted))
-}
-
-/// Whether `^i.^i.#1` gives `^i.c` at `c`.
-pub fn outcome_is_constant(alloc: Global) -> Result<bool, RowRefused> {
-    let mut bank = empty_bank(alloc)?;
-    is_constant_over(alloc, &mut bank)
+    Ok(Found::Same(bank.same(made, wanted)))
 }
 
 /// `^(i > i).(k ^i.(#1 #0))`
@@ -65,18 +60,12 @@ fn long_function(alloc: Global) -> Result<Nf, AllocError> {
     Ok(tree(functions, Head::Name(K), outer))
 }
 
-/// Whether the normal form of `k` is `^(i > i).(k ^i.(#1 #0))`, over a bank.
-fn is_long_over(alloc: Global, bank: &mut Bank) -> Result<bool, RowRefused>
+/// Whether the normal form of `k` is `^(i > i).(k ^i.(#1 #0))`.
+pub fn function_is_long(alloc: Global, bank: &mut Bank) -> Result<Found, RowRefused>
     requires { HasNoWitness bank.old }
 {
     let made = normalised(alloc, bank, &Term::Name(K))?;
     let tree = long_function(alloc)?;
     let wanted = imported(alloc, bank, &tree)?;
-    Ok(bank.same(made, wanted))
-}
-
-/// Whether the normal form of `k` is `^(i > i).(k ^i.(#1 #0))`.
-pub fn function_is_long(alloc: Global) -> Result<bool, RowRefused> {
-    let mut bank = empty_bank(alloc)?;
-    is_long_over(alloc, &mut bank)
+    Ok(Found::Same(bank.same(made, wanted)))
 }

@@ -5,7 +5,9 @@ ghost use Rattle.stt_core.specs.SimpleType.{SimpleType, base, arrow};
 ghost use Rattle.term_bank.specs.Content.{Grows};
 ghost use Rattle.bank_rows.specs.Individuals.{HasNames, IsOf, IsIndividual};
 
-use crate::scope::{C, F, empty_bank};
+use crate::found::Found;
+use crate::refused::RowRefused;
+use crate::scope::{C, F};
 use bank_normal::Normaliser;
 use std::alloc::{AllocError, Global};
 use stt_core::{Head, Ty};
@@ -78,11 +80,12 @@ fn doubling(bank: &mut Bank) -> Result<Id, AllocError>
 }
 
 /// How many terms a bank has after a constant was doubled forty times.
-pub fn doubled(alloc: Global) -> Result<usize, AllocError> {
-    let mut bank = empty_bank(alloc)?;
-    let c = constant(&mut bank)?;
-    let _last = double_often(&mut bank, c)?;
-    Ok(bank.len())
+pub fn doubled(bank: &mut Bank) -> Result<Found, RowRefused>
+    requires { HasNames bank.old }
+{
+    let c = constant(bank)?;
+    let _last = double_often(bank, c)?;
+    Ok(Found::Terms(bank.len()))
 }
 
 /// `(f s t)` for individuals `s` and `t`.
@@ -99,16 +102,17 @@ fn paired(bank: &mut Bank, first: Id, second: Id) -> Result<Id, AllocError>
 
 /// How many terms a bank has after a constant and so many pairs, each of the two terms before it.
 #[tactic(auto, using(crate::proofs::RowLaws::stays, crate::proofs::RowLaws::names_stay))]
-pub fn interned(alloc: Global, count: u64) -> Result<usize, AllocError> {
-    let mut bank = empty_bank(alloc)?;
-    let mut first = constant(&mut bank)?;
+pub fn interned(bank: &mut Bank, count: u64) -> Result<Found, RowRefused>
+    requires { HasNames bank.old }
+{
+    let mut first = constant(bank)?;
     let mut second = first;
     for _ in 0..count {
-        let pair = paired(&mut bank, first, second)?;
+        let pair = paired(bank, first, second)?;
         first = second;
         second = pair;
     }
-    Ok(bank.len())
+    Ok(Found::Terms(bank.len()))
 }
 
 /// What a function of individuals gives at an individual.
@@ -121,19 +125,12 @@ fn instance(alloc: Global, bank: &mut Bank, function: Id, argument: Id) -> Resul
     Ok(id)
 }
 
-/// The function that doubles its argument forty times is applied to a constant.
-fn double_at_constant(alloc: Global, bank: &mut Bank) -> Result<(), AllocError>
-    requires names { HasNames bank.old }
+/// How many terms a bank has after the function that doubles its argument forty times was applied to a constant.
+pub fn doubled_at_constant(alloc: Global, bank: &mut Bank) -> Result<Found, RowRefused>
+    requires { HasNames bank.old }
 {
     let function = doubling(bank)?;
     let c = constant(bank)?;
     instance(alloc, bank, function, c)?;
-    Ok(())
-}
-
-/// How many terms a bank has after the function that doubles its argument forty times was applied to a constant.
-pub fn doubled_at_constant(alloc: Global) -> Result<usize, AllocError> {
-    let mut bank = empty_bank(alloc)?;
-    double_at_constant(alloc, &mut bank)?;
-    Ok(bank.len())
+    Ok(Found::Terms(bank.len()))
 }

@@ -1,10 +1,17 @@
 //! Powers of Church numerals (Church, The Calculi of Lambda-Conversion, 1941).
 
+ghost use Rattle.std.specs.Prelude.{[]};
+ghost use Rattle.stt_core.specs.ScopeView.{the_scope};
+ghost use Rattle.stt_core.specs.Typing.{IsScope};
+ghost use Rattle.bank_rows.specs.Individuals.{HasNoWitness};
+
 use crate::checked::{normalised, tree_normalised};
+use crate::found::Found;
 use crate::refused::RowRefused;
-use crate::scope::{empty_bank, endo};
+use crate::scope::endo;
 use std::alloc::{AllocError, Global};
-use stt_core::{Term, Ty, size_sat};
+use stt_core::{Signature, Term, Ty, size_sat};
+use term_bank::Bank;
 
 fn applied(alloc: Global, function: Term, argument: Term) -> Result<Term, AllocError> {
     let function = Box::new(alloc, function)?;
@@ -39,17 +46,29 @@ fn power(alloc: Global, base: u32, exponent: u32) -> Result<Term, AllocError> {
 }
 
 /// How deep the power's normal form nests, worked out over a bank.
-pub fn shared_power(alloc: Global, base: u32, exponent: u32) -> Result<usize, RowRefused> {
-    let mut bank = empty_bank(alloc)?;
+pub fn shared_power(
+    alloc: Global,
+    bank: &mut Bank,
+    base: u32,
+    exponent: u32,
+) -> Result<Found, RowRefused>
+    requires { HasNoWitness bank.old }
+{
     let term = power(alloc, base, exponent)?;
-    let id = normalised(alloc, &mut bank, &term)?;
-    Ok(bank.depth(id))
+    let id = normalised(alloc, bank, &term)?;
+    Ok(Found::Depth(bank.depth(id)))
 }
 
 /// How many nodes the power's normal form has, worked out as a whole tree.
-pub fn plain_power(alloc: Global, base: u32, exponent: u32) -> Result<u64, RowRefused> {
-    let bank = empty_bank(alloc)?;
+pub fn plain_power(
+    alloc: Global,
+    sig: &Signature,
+    base: u32,
+    exponent: u32,
+) -> Result<Found, RowRefused>
+    requires { IsScope (the_scope sig.now []) }
+{
     let term = power(alloc, base, exponent)?;
-    let nf = tree_normalised(alloc, bank.sig(), &term)?;
-    Ok(size_sat(&nf))
+    let nf = tree_normalised(alloc, sig, &term)?;
+    Ok(Found::Nodes(size_sat(&nf)))
 }

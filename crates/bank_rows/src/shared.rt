@@ -3,8 +3,9 @@
 ghost use Rattle.bank_rows.specs.Individuals.{HasNoWitness};
 
 use crate::checked::{imported, tree};
+use crate::found::Found;
 use crate::refused::RowRefused;
-use crate::scope::{C, F, G, empty_bank};
+use crate::scope::{C, F, G};
 use std::alloc::{AllocError, Global};
 use stt_core::{Head, Nf, Nfs, Types};
 use term_bank::Bank;
@@ -25,22 +26,23 @@ fn with_equal_parts(alloc: Global) -> Result<Nf, AllocError> {
     Ok(tree(Types::new(alloc), Head::Name(F), args))
 }
 
-/// How many terms a bank has after a tree has come in once, and twice.
-fn counted(alloc: Global, bank: &mut Bank, whole: &Nf) -> Result<(usize, usize), RowRefused>
+/// How many terms a bank has after a tree has come in once, and twice; 0 where it got another number.
+fn counted(alloc: Global, bank: &mut Bank, whole: &Nf) -> Result<Found, RowRefused>
     requires { HasNoWitness bank.old }
 {
     let first = imported(alloc, bank, whole)?;
     let count = bank.len();
     let again = imported(alloc, bank, whole)?;
     if first != again {
-        return Ok((count, 0));
+        return Ok(Found::TermsTwice(count, 0));
     }
-    Ok((count, bank.len()))
+    Ok(Found::TermsTwice(count, bank.len()))
 }
 
 /// How many terms a bank has after `(f (g c) (g c))` has come in once, and twice.
-pub fn twice_imported(alloc: Global) -> Result<(usize, usize), RowRefused> {
+pub fn twice_imported(alloc: Global, bank: &mut Bank) -> Result<Found, RowRefused>
+    requires { HasNoWitness bank.old }
+{
     let whole = with_equal_parts(alloc)?;
-    let mut bank = empty_bank(alloc)?;
-    counted(alloc, &mut bank, &whole)
+    counted(alloc, bank, &whole)
 }

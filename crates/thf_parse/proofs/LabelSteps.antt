@@ -5,7 +5,8 @@ use Rattle.thf_parse.specs.declared.refusal.Refusal.{Refusal}
 use Rattle.thf_parse.specs.declared.refusal.Refusal.TheVariants.{Wrong, TooDeep, Memory}
 use Rattle.thf_grammar.specs.declared.terminal.Mark.TheVariants.{Comma}
 use Rattle.thf_grammar.specs.Words.{Lexeme}
-use Rattle.thf_parse.specs.Means.Outcome.{found, ◌>>=◌, first_terminal, behind, is_mark}
+use Rattle.thf_parse.specs.Means.Outcome.{found, ◌>>=◌, first_terminal, behind}
+use Rattle.thf_grammar.specs.Means.Marks.{is_mark}
 use Rattle.thf_parse.specs.Means.Passes.{IsRefusal}
 use Rattle.thf_parse.specs.Means.NoteReader.{all_commas}
 use Rattle.thf_parse.specs.Means.StatementReader.{label, more_label, labels}

@@ -4,7 +4,8 @@ use Rattle.thf_parse.specs.declared.refusal.Refusal.{Refusal}
 use Rattle.thf_parse.specs.declared.refusal.Refusal.TheVariants.{Wrong, TooDeep, Memory}
 use Rattle.thf_grammar.specs.declared.terminal.Mark.TheVariants.{Comma}
 use Rattle.thf_grammar.specs.Words.{Lexeme}
-use Rattle.thf_parse.specs.Means.Outcome.{found, Reader, first_terminal, behind, is_mark}
+use Rattle.thf_parse.specs.Means.Outcome.{found, Reader, first_terminal, behind}
+use Rattle.thf_grammar.specs.Means.Marks.{is_mark}
 use Rattle.thf_parse.specs.Means.Passes.{IsRefusal, Passes}
 use Rattle.thf_parse.specs.Means.NoteReader.{passed, all_commas, general, generals, listed, list_at, inner_notes}
 use Rattle.thf_parse.proofs.Locals.{IsLocal, rest_of, rest-length}

@@ -13,7 +13,8 @@ use Rattle.thf_grammar.specs.Statements as is
 use Rattle.thf_grammar.specs.Statements.{selected as labelled, IsLabel, IsKeyword, IsTyping, IsBody, AreLabels, IsSelection, IsEnd, IsStatement, IsFile}
 use Rattle.thf_grammar.specs.Notes as notes_are
 use Rattle.thf_grammar.specs.Notes.{AreNotes}
-use Rattle.thf_parse.specs.Means.Outcome.{found, Reader, ◌>>=◌, first_terminal, first_place, first_name, first_text, behind, is_mark, expect}
+use Rattle.thf_parse.specs.Means.Outcome.{found, Reader, ◌>>=◌, first_terminal, first_place, first_name, first_text, behind, expect}
+use Rattle.thf_grammar.specs.Means.Marks.{is_mark}
 use Rattle.thf_parse.specs.Means.Reader.{type_with, inner_type}
 use Rattle.thf_parse.specs.Means.FormulaReader.{formula, inner}
 use Rattle.thf_parse.specs.Means.NoteReader.{passed, general, second_note, notes_by, notes, inner_notes}
