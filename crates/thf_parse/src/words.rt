@@ -38,7 +38,7 @@ fn terminal(bytes: &[u8], token: &Token) -> Terminal
 }
 
 /// The terminal of the first token.
-#[tactic(auto, unfolding(crate::specs::Means::Outcome::first_terminal, crate::specs::Words::terminal_of))]
+#[tactic(auto, unfolding(crate::specs::Means::Outcome::first_terminal, thf_grammar::specs::Words::terminal_of))]
 pub fn first_terminal(bytes: &[u8], tokens: &[Token]) -> Terminal
     ensures { result ≡ spec.first_terminal (lexemes bytes.now tokens.now) }
 {
@@ -109,7 +109,7 @@ fn name_in(alloc: Global, kind: TokenKind, text: &[u8]) -> Result<Bytes, AllocEr
 }
 
 /// The name that the first token is.
-#[tactic(auto, unfolding(crate::specs::Means::Outcome::first_name, crate::specs::Words::name_of))]
+#[tactic(auto, unfolding(crate::specs::Means::Outcome::first_name, thf_grammar::specs::Words::name_of))]
 pub fn first_name(alloc: Global, bytes: &[u8], tokens: &[Token]) -> Result<Bytes, AllocError>
     ensures { IfOk result (λ name. name ≡ spec.first_name (lexemes bytes.now tokens.now)) }
 {
