@@ -24,7 +24,7 @@ use Rattle.sat_laws.proofs.AnalysisLaws.{IsOutcome, step_resolves, outcome_menti
 use Rattle.sat_propagate.specs.Trail.{TrailState, literals, IsTrail}
 use Rattle.sat_propagate.specs.Propagator.{texts}
 use Rattle.sat_propagate.specs.declared.trail.Step.{Step}
-use Rattle.sat_propagate.specs.declared.watched.Watched.{Watched}
+use Rattle.sat_propagate.specs.ClauseTable.{Watched}
 use Rattle.sat_propagate.proofs.PlaceLaws.{literal_at, once_place}
 use Rattle.sat_core.specs.Marks.{is_marked}
 use Rattle.sat_core.specs.Learned.{IsLearned, IsShortening, Learns}

@@ -10,7 +10,7 @@ use crate::analysis::{name_of, point_chain};
 use crate::marks::Marks;
 use sat_base::SatLit;
 use sat_log::{Chain, ChainStep, Premise};
-use sat_propagate::{Propagator, Trail};
+use sat_propagate::{Packed, Propagator, Trail};
 use std::alloc::{AllocError, Global};
 
 /// The chain of what is learned where a clause is false and there is a decision: the clause of the first unique
@@ -90,11 +90,12 @@ fn shorten(
 }
 
 /// Whether the variables of the literals other than one are marked.
-fn are_marked(marks: &Marks, among: &[SatLit], own: SatLit) -> bool
+fn are_marked(marks: &Marks, among: &[Packed], own: SatLit) -> bool
     ensures { IsTrue result → (l : SatLit) → IsTrue (holds among.now l) → l ≢ own → IsTrue (is_marked marks.now l.var) }
 {
-    for literal in among {
-        if *literal != own && !marks.contains(literal.var) {
+    for packed in among {
+        let literal = packed.literal();
+        if literal != own && !marks.contains(literal.var) {
             return false;
         }
     }
