@@ -209,7 +209,7 @@ impl Propagator {
         ensures yes { IsTrue result → (literal ≢ a) × (literal ≢ b) × (holds (literals self.now.trail.steps) (negated literal) ≡ false) }
         ensures no { result ≡ false → literal ≢ a → literal ≢ b → IsTrue (holds (literals self.now.trail.steps) (negated literal)) }
     {
-        literal != a && literal != b && !self.trail.is_false(literal)
+        !self.trail.is_false(literal) && literal != a && literal != b
     }
 
     /// Watches a literal in place of another one.
