@@ -1,5 +1,5 @@
 -- What contracts see of a table of clauses, and how it stands in memory.
-use Rattle.std.specs.Prelude.{◌≡◌, ◌+◌, ◌≤◌, ℕ, List, Some, map, length, take, drop, slice_get}
+use Rattle.std.specs.Prelude.{◌+◌, ◌≤◌, List, map, length, take, drop}
 use Rattle.std.specs.List.{All}
 use Rattle.sat_base.specs.declared.literal.SatLit.{SatLit}
 use Rattle.sat_propagate.specs.declared.clause_table.Head.{Head}

@@ -1,4 +1,4 @@
-use Rattle.std.proofs.Common.{◌≡◌, ◌++◌, [], take}
+use Rattle.std.proofs.Common.{take}
 use Rattle.sat_propagate.proofs.clause_table.append.Goals as goal
 
 pub returns-in_err-of-clause-longer : goal.returns-in_err-of-clause-longer

@@ -1,6 +1,5 @@
-use Rattle.std.proofs.Common.{◌≡◌, ℕ, List, set, take, drop, sym, ap, ap₂, subst, ◌∙◌}
+use Rattle.std.proofs.Common.{◌≡◌, ℕ, set, take, drop, sym, ap, ap₂, subst, ◌∙◌}
 use Rattle.std.proofs.lemmas.List.{map-set}
-use Rattle.sat_base.specs.declared.literal.SatLit.{SatLit}
 use Rattle.sat_propagate.specs.ClauseTable.{Watched, Clauses, headed}
 use Rattle.sat_propagate.specs.Propagator.{IsPair}
 use Rattle.sat_propagate.proofs.ClauseTableLaws.{headed-there}

@@ -1,5 +1,4 @@
-use Rattle.std.proofs.Common.{◌≡◌, Bool, List, length, subst, sym, ◌∙◌}
-use Rattle.sat_base.specs.Literal.{IsOver}
+use Rattle.std.proofs.Common.{sym, ◌∙◌}
 use Rattle.sat_propagate.specs.Trail.{literals}
 use Rattle.sat_propagate.proofs.InsertLaws.{alone_false}
 use Rattle.sat_propagate.proofs.propagator.Propagator.insert_unit.Goals as goal

@@ -1,4 +1,4 @@
-use Rattle.std.proofs.Common.{◌≡◌, inl, inr, subst}
+use Rattle.std.proofs.Common.{inl, inr, subst}
 use Rattle.sat_base.specs.declared.literal.SatLit.{SatLit}
 use Rattle.sat_propagate.specs.Propagator.{IsPair, Watches, Enlists}
 use Rattle.sat_propagate.proofs.propagator.Propagator.watch_other.Goals as goal
