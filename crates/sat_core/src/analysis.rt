@@ -38,7 +38,7 @@ fn mark_one(trail: &Trail, marks: &mut Marks, var: Var, start: usize) -> Result<
 
 /// Marks the variables of a clause's literals other than one, if there is one. How many more marked ones have a place
 /// from `start` on.
-fn mark_others(
+pub fn mark_others(
     trail: &Trail,
     marks: &mut Marks,
     among: &[Packed],
