@@ -29,7 +29,7 @@ use Rattle.sat_propagate.specs.Propagator.{texts}
 use Rattle.sat_core.specs.Marks.{is_marked, marks_literal, others}
 use Rattle.sat_core.specs.Learned.{AreNamed, IsLearned, IsAnalysed, IsRefuting}
 use Rattle.sat_propagate.specs.declared.trail.Step.{Step}
-use Rattle.sat_propagate.specs.declared.watched.Watched.{Watched}
+use Rattle.sat_propagate.specs.ClauseTable.{Watched}
 use Rattle.sat_propagate.proofs.PlaceLaws.{literal_at, once_place}
 use Rattle.sat_propagate.proofs.TableLaws.{get_or-any}
 

@@ -21,7 +21,7 @@ use Rattle.sat_propagate.specs.WatchLists.{WatchPair}
 use Rattle.sat_propagate.specs.Propagator.{IsPropagator, texts}
 use Rattle.sat_core.specs.Learner.{IsNamedPropagator}
 use Rattle.sat_propagate.specs.declared.propagator.Propagator.{Propagator}
-use Rattle.sat_propagate.specs.declared.watched.Watched.{Watched}
+use Rattle.sat_propagate.specs.ClauseTable.{Watched}
 use Rattle.sat_core.proofs.AnalysisSteps.{over_more}
 use Rattle.sat_propagate.proofs.ListLaws.{get-past_seam}
 

@@ -24,9 +24,9 @@ use Rattle.sat_laws.proofs.AnalysisLaws.{IsOutcome, step_resolves, outcome_menti
 use Rattle.sat_propagate.specs.Trail.{TrailState, literals, IsTrail}
 use Rattle.sat_propagate.specs.Propagator.{texts}
 use Rattle.sat_propagate.specs.declared.trail.Step.{Step}
-use Rattle.sat_propagate.specs.declared.watched.Watched.{Watched}
+use Rattle.sat_propagate.specs.ClauseTable.{Watched}
 use Rattle.sat_propagate.proofs.PlaceLaws.{literal_at, once_place}
-use Rattle.sat_core.specs.Marks.{is_marked}
+use Rattle.sat_core.specs.Marks.{is_marked, others}
 use Rattle.sat_core.specs.Learned.{IsLearned, IsShortening, Learns}
 use Rattle.sat_core.proofs.AnalysisSteps.{chain_result-push, reason_undenied, once_resolved}
 
@@ -39,19 +39,13 @@ learned_false trail start clause learned l h =
       | inr apart ↦ held-take start (literals trail.steps) (negated l) (learned.others l h apart)
     ]
 
-or_absorbs : (x y : Bool) → (y ≡ true → x ≡ true) → (x || y) ≡ x
-or_absorbs true y f = refl
-or_absorbs false true f = sym (f refl)
-or_absorbs false false f = refl
-
--- a literal is resolved away with a reason whose other variables are marked
+-- a literal is resolved away with its reason
 pub shortening_next : (clauses : List Watched) (trail : TrailState) (names : List Premise) (marks after : List Bool) (start place n : ℕ) (chain : Chain) (step : Step) (watched : Watched) (name : Premise)
     → IsShortening clauses trail names marks start chain → IsTrail trail → place < start → slice_get trail.steps place ≡ Some step → is_marked marks step.literal.var ≡ true
     → slice_get clauses n ≡ Some watched → IsUnit (take place (literals trail.steps)) watched.clause step.literal → slice_get names n ≡ Some name
-    → ((l : SatLit) → holds watched.clause l ≡ true → l ≢ step.literal → is_marked marks l.var ≡ true)
-    → ((v : Var) → is_marked after v ≡ (is_marked marks v && not (same_var v step.literal.var)))
+    → ((v : Var) → is_marked after v ≡ ((is_marked marks v && not (same_var v step.literal.var)) || mentions (others (Some step.literal) watched.clause) v))
     → IsShortening clauses trail names after start (record { first = chain.first; steps = chain.steps ++ record { var = step.literal.var; premise = name } ∷ [] })
-shortening_next clauses trail names marks after start place n chain step watched name a right early at marked there unit named spare marks_after = record {
+shortening_next clauses trail names marks after start place n chain step watched name a right early at marked there unit named marks_after = record {
   so_far = made.0;
   learned = record {
     last = a.learned.last;
@@ -59,15 +53,20 @@ shortening_next clauses trail names marks after start place n chain step watched
     on_trail = a.learned.on_trail;
     late = a.learned.late;
     member = made.2.from_first (negated a.learned.point) a.learned.member point_stays;
-    others = λ l h apart. a.learned.others l (within l h).0 apart;
+    others = λ l h apart. elim (made.2.from_either l h) [
+      | inl first ↦ a.learned.others l first.0 apart
+      | inr second ↦ early_false l second.0 second.1
+    ];
   };
   marked = λ v. marks_after v
-      ∙ ap (λ (b : Bool). b && not (same_var v t.var)) (a.marked v)
-      ∙ sym (outcome_mentions t a.so_far watched.clause made.0 made.2 untrue (reason_undenied trail place step watched.clause right at unit) v
-      ∙ or_absorbs (mentions a.so_far v && not (same_var v t.var)) (mentions (without t watched.clause) v) (there_already v));
-  occurring = λ l h. a.occurring l (within l h).0;
+      ∙ ap (λ (b : Bool). (b && not (same_var v t.var)) || mentions (without t watched.clause) v) (a.marked v)
+      ∙ sym (outcome_mentions t a.so_far watched.clause made.0 made.2 untrue (reason_undenied trail place step watched.clause right at unit) v);
+  occurring = λ l h. elim (made.2.from_either l h) [
+    | inl first ↦ a.occurring l first.0
+    | inr second ↦ record { at = n; watched = watched; there = there; member = second.0 }
+  ];
   once = once_resolved (literals trail.steps) t.var a.so_far watched.clause made.0 (length (literals trail.steps)) consistent made.1
-      (λ l h. ap (λ (some : List SatLit). holds some (negated l)) (take_all (length (literals trail.steps)) (literals trail.steps) (omega arith)) ∙ learned_false trail start a.so_far a.learned l (within l h).0);
+      (λ l h. ap (λ (some : List SatLit). holds some (negated l)) (take_all (length (literals trail.steps)) (literals trail.steps) (omega arith)) ∙ made_false l h);
   derived = λ store results are_named.
       chain_result-push store results chain.first chain.steps (record { var = t.var; premise = name }) a.so_far made.0 (a.derived store results are_named)
       (let known = are_named n watched there in
@@ -98,40 +97,23 @@ shortening_next clauses trail names marks after start place n chain step watched
     apart_from : (l : SatLit) → same_literal t l ≡ false → l ≢ t
     apart_from l apart e = false≢true (sym apart ∙ ap (same_literal t) e ∙ same_literal-refl t)
 
-    of_reason : (l : SatLit) → holds watched.clause l ≡ true → same_literal t l ≡ false → (holds a.so_far l ≡ true) × (same_literal (negated t) l ≡ false)
-    of_reason l h apart = (
-      elim (mentioned_as a.so_far l (sym (a.marked l.var) ∙ spare l h (apart_from l apart))) [
-        | inl held ↦ held
-        | inr denial ↦ absurd (consistent (negated l) (held-take place (literals trail.steps) (negated l) (unit.others l h (apart_from l apart))) (learned_false trail start a.so_far a.learned (negated l) denial))
-      ],
-      false_from_ne_true (same_literal (negated t) l) (λ same.
-          false≢true (sym (reason_undenied trail place step watched.clause right at unit) ∙ ap (holds watched.clause) (same_literal-true (negated t) l same) ∙ h)),
-    )
+    -- the other literals of the reason were false before t was true
+    early_false : (l : SatLit) → holds watched.clause l ≡ true → same_literal t l ≡ false → holds (take start (literals trail.steps)) (negated l) ≡ true
+    early_false l h apart =
+        let found = place_below (literals trail.steps) place (negated l) (unit.others l h (apart_from l apart)) in
+        let before = found.1 in
+        held_below (literals trail.steps) start found.0 (negated l) (omega (arith, before, early)) found.2
 
-    within : (l : SatLit) → holds made.0 l ≡ true → (holds a.so_far l ≡ true) × (same_literal (negated t) l ≡ false)
-    within l h = elim (made.2.from_either l h) [
-      | inl first ↦ first
-      | inr second ↦ of_reason l second.0 second.1
+    made_false : (l : SatLit) → holds made.0 l ≡ true → holds (literals trail.steps) (negated l) ≡ true
+    made_false l h = elim (made.2.from_either l h) [
+      | inl first ↦ learned_false trail start a.so_far a.learned l first.0
+      | inr second ↦ held-take start (literals trail.steps) (negated l) (early_false l second.0 second.1)
     ]
 
     point_stays : same_literal (negated t) (negated a.learned.point) ≡ false
     point_stays = false_from_ne_true (same_literal (negated t) (negated a.learned.point)) (λ same.
         let is : t ≡ a.learned.point = sym (negated-negated t) ∙ ap negated (same_literal-true (negated t) (negated a.learned.point) same) ∙ negated-negated a.learned.point in
         false≢true (sym a.learned.late ∙ ap (holds (take start (literals trail.steps))) (sym is) ∙ held_below (literals trail.steps) start place t early t_at))
-
-    -- the variables of the reason other than that of t are those of other literals of the clause
-    there_already : (v : Var) → mentions (without t watched.clause) v ≡ true → (mentions a.so_far v && not (same_var v t.var)) ≡ true
-    there_already v h =
-        let l = mentioned_by (without t watched.clause) v h in
-        let parts = and_parts (holds watched.clause l.0) (not (same_literal t l.0)) (sym (holds-without t watched.clause l.0) ∙ l.1) in
-        let apart : same_literal t l.0 ≡ false = not-true _ parts.1 in
-        let known = of_reason l.0 parts.0 apart in
-        let found = place_below (literals trail.steps) place (negated l.0) (unit.others l.0 parts.0 (apart_from l.0 apart)) in
-        let earlier = found.1 in
-        and_from _ _ (ap (mentions a.so_far) (sym l.2) ∙ mentions-held a.so_far l.0 known.0)
-        (not_from_false _ (false_from_ne_true (same_var v t.var) (λ same.
-        let places : found.0 ≡ place = once_place (literals trail.steps) found.0 place (negated l.0) t right.once found.2 t_at (l.2 ∙ same_var-true v t.var same) in
-        absurd (omega arith))))
 
 -- what is learned is new
 pub shortening_learns : (clauses : List Watched) (trail : TrailState) (names : List Premise) (marks : List Bool) (start : ℕ) (chain : Chain)

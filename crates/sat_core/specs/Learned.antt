@@ -13,7 +13,7 @@ use Rattle.sat_laws.specs.Analysis.{IsFalseBefore, how_many}
 use Rattle.sat_propagate.specs.Trail.{TrailState, literals}
 use Rattle.sat_propagate.specs.Propagator.{texts}
 use Rattle.sat_core.specs.Marks.{is_marked, marks_literal}
-use Rattle.sat_propagate.specs.declared.watched.Watched.{Watched}
+use Rattle.sat_propagate.specs.ClauseTable.{Watched}
 
 -- each of some clauses has the name of a premise that is it
 abbrev pub AreNamed : List (List SatLit) → List (List SatLit) → List Premise → List Watched → Type 0

@@ -14,7 +14,7 @@ ghost use Rattle.sat_core.specs.Marks.{is_marked, marks_literal, others};
 use crate::marks::Marks;
 use sat_base::{SatLit, Var};
 use sat_log::{Chain, ChainStep, ChainSteps, Premise};
-use sat_propagate::{Propagator, Step, Trail};
+use sat_propagate::{Packed, Propagator, Step, Trail};
 use std::alloc::{AllocError, Global};
 
 /// Marks a variable that has a value. How many more marked ones have a place from `start` on: one or none.
@@ -38,10 +38,10 @@ fn mark_one(trail: &Trail, marks: &mut Marks, var: Var, start: usize) -> Result<
 
 /// Marks the variables of a clause's literals other than one, if there is one. How many more marked ones have a place
 /// from `start` on.
-fn mark_others(
+pub fn mark_others(
     trail: &Trail,
     marks: &mut Marks,
-    among: &[SatLit],
+    among: &[Packed],
     own: Option<SatLit>,
     start: usize,
 ) -> Result<usize, AllocError>
@@ -52,12 +52,26 @@ fn mark_others(
     ensures counted { IfOk result (λ late. late + how_many (marks_literal marks.old) (drop start (literals trail.now.steps)) ≡ how_many (marks_literal marks.new) (drop start (literals trail.now.steps))) }
 {
     let mut late = 0;
-    for literal in among {
-        if own != Some(*literal) {
+    for packed in among {
+        let literal = packed.literal();
+        if own != Some(literal) {
             late += mark_one(trail, marks, literal.var, start)?;
         }
     }
     Ok(late)
+}
+
+/// Marks the variables of some literals, each of which has a value.
+fn mark_all(trail: &Trail, marks: &mut Marks, among: &[SatLit]) -> Result<(), AllocError>
+    requires valued { (l : SatLit) → IsTrue (holds among.now l) → IsTrue (mentions (literals trail.now.steps) l.var) }
+    requires made { IsOver (length marks.old) among.now }
+    ensures marks { OnOk result ((v : Var) → is_marked marks.new v ≡ (is_marked marks.old v || mentions (others None among.now) v)) }
+    ensures made { length marks.new ≡ length marks.old }
+{
+    for literal in among {
+        let _late = mark_one(trail, marks, literal.var, 0)?;
+    }
+    Ok(())
 }
 
 /// Takes the mark of a literal's variable away and marks those of the others of the clause that made it true. How many
@@ -65,7 +79,7 @@ fn mark_others(
 fn resolve_marks(
     trail: &Trail,
     marks: &mut Marks,
-    reason: &[SatLit],
+    reason: &[Packed],
     own: SatLit,
     start: usize,
     late: usize,
@@ -164,7 +178,7 @@ pub fn refuted_chain(
 {
     let trail = &propagator.trail;
     marks.clear()?;
-    let _late = mark_others(trail, marks, among, None, 0)?;
+    mark_all(trail, marks, among)?;
     let mut steps = ChainSteps::new(alloc);
     for place in (0..trail.len()).rev() {
         let step = trail.step(place);

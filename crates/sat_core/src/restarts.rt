@@ -8,7 +8,7 @@ pub struct Restarts {
     met: u64,
 }
 
-const UNIT: u64 = 512;
+const UNIT: u64 = 2048;
 
 impl Restarts {
     pub fn new() -> Self {

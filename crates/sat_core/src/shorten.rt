@@ -1,20 +1,16 @@
 //! What is learned from a conflict, without the literals that its others make false.
-ghost use Rattle.std.specs.Prelude.{◌≡◌, ◌≢◌, ◌<◌, ◌≤◌, IsTrue, length, IfOk, OnOk};
-ghost use Rattle.sat_base.specs.declared.literal.SatLit.{SatLit};
-ghost use Rattle.sat_base.specs.Literal.{holds};
+ghost use Rattle.std.specs.Prelude.{◌≡◌, ◌<◌, ◌≤◌, length, IfOk, OnOk};
 ghost use Rattle.sat_propagate.specs.Propagator.{IsPropagator, IsConflict};
-ghost use Rattle.sat_core.specs.Marks.{is_marked};
 ghost use Rattle.sat_core.specs.Learned.{Learns, IsShortening};
 
-use crate::analysis::{name_of, point_chain};
+use crate::analysis::{mark_others, name_of, point_chain};
 use crate::marks::Marks;
-use sat_base::SatLit;
 use sat_log::{Chain, ChainStep, Premise};
-use sat_propagate::{Propagator, Trail};
+use sat_propagate::{Propagator, Step};
 use std::alloc::{AllocError, Global};
 
 /// The chain of what is learned where a clause is false and there is a decision: the clause of the first unique
-/// implication point, without the literals whose reasons hold no others than it.
+/// implication point, without the literals that follow from its others.
 pub fn learned_chain(
     alloc: Global,
     propagator: &Propagator,
@@ -33,27 +29,55 @@ pub fn learned_chain(
     let trail = &propagator.trail;
     let start = trail.start(trail.levels() - 1);
     let mut chain = point_chain(alloc, propagator, names, marks, conflict, start)?;
-    let places = marked_places(alloc, trail, marks)?;
+    let places = spare_places(alloc, propagator, marks, start)?;
     for i in (0..places.len()).rev() {
         shorten(propagator, names, marks, &mut chain, places[i], start)?;
     }
     Ok(chain)
 }
 
-/// The places of the marked variables, in order.
-fn marked_places(alloc: Global, trail: &Trail, marks: &Marks) -> Result<Vec<usize>, AllocError> {
+/// The places before `start` whose literals follow, step by step, from marked ones before them, in order.
+fn spare_places(
+    alloc: Global,
+    propagator: &Propagator,
+    marks: &Marks,
+    start: usize,
+) -> Result<Vec<usize>, AllocError> {
+    let trail = &propagator.trail;
+    let mut implied = Vec::new(alloc);
+    implied.resize(trail.variables(), false)?;
     let mut places = Vec::new(alloc);
-    for var in marks.touched() {
-        if marks.contains(*var) && !trail.is_open(*var) {
-            places.push(trail.place(*var))?;
+    for place in 0..start.min(trail.len()) {
+        let step = trail.step(place);
+        let spare = follows(propagator, &implied, step);
+        if spare {
+            places.push(place)?;
+        }
+        if let Some(slot) = implied.get_mut(step.literal.var.0) {
+            *slot = spare || marks.contains(step.literal.var);
         }
     }
-    places.sort_unstable();
     Ok(places)
 }
 
-/// Resolves the literal at a place away, where it is before the last decision and its reason holds no others than the
-/// clause.
+/// Whether a step has a reason, and the variables of its other literals are in a table.
+fn follows(propagator: &Propagator, implied: &[bool], step: Step) -> bool {
+    let Some(reason) = step.reason else {
+        return false;
+    };
+    if reason >= propagator.clauses.len() {
+        return false;
+    }
+    for packed in propagator.literals(reason) {
+        let literal = packed.literal();
+        if literal != step.literal && implied.get(literal.var.0) != Some(&true) {
+            return false;
+        }
+    }
+    true
+}
+
+/// Resolves the literal at a place away, where it is before the last decision and has a reason.
 fn shorten(
     propagator: &Propagator,
     names: &[Premise],
@@ -77,26 +101,14 @@ fn shorten(
     let Some(reason) = step.reason else {
         return Ok(());
     };
-    if marks.contains(step.literal.var)
-        && are_marked(marks, propagator.literals(reason), step.literal)
-    {
+    if marks.contains(step.literal.var) {
+        let literals = propagator.literals(reason);
         marks.unmark(step.literal.var);
+        let _late = mark_others(trail, marks, literals, Some(step.literal), 0)?;
         chain.steps.push(ChainStep {
             var: step.literal.var,
             premise: name_of(names, reason),
         })?;
     }
     Ok(())
-}
-
-/// Whether the variables of the literals other than one are marked.
-fn are_marked(marks: &Marks, among: &[SatLit], own: SatLit) -> bool
-    ensures { IsTrue result → (l : SatLit) → IsTrue (holds among.now l) → l ≢ own → IsTrue (is_marked marks.now l.var) }
-{
-    for literal in among {
-        if *literal != own && !marks.contains(literal.var) {
-            return false;
-        }
-    }
-    true
 }

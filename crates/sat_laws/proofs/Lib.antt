@@ -3,3 +3,4 @@ pub mod CountLaws
 pub mod TrailLaws
 pub mod WatchLaws
 pub mod AnalysisLaws
+pub mod PackingLaws

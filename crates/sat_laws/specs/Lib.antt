@@ -3,3 +3,4 @@ pub mod Counting
 pub mod Watching
 pub mod Trail
 pub mod Analysis
+pub mod Packing

@@ -12,7 +12,7 @@ use Rattle.sat_propagate.specs.Trail.{TrailState, literals, IsTrail}
 use Rattle.sat_propagate.specs.WatchLists.{WatchPair}
 use Rattle.sat_propagate.specs.Propagator.{IsPropagator}
 use Rattle.sat_propagate.specs.declared.trail.Step.{Step}
-use Rattle.sat_propagate.specs.declared.watched.Watched.{Watched}
+use Rattle.sat_propagate.specs.ClauseTable.{Watched}
 use Rattle.sat_propagate.proofs.ListLaws.{get-take}
 use Rattle.sat_propagate.proofs.TableLaws.{take_literals_is, get_or-any}
 

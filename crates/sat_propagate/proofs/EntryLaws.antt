@@ -16,7 +16,7 @@ use Rattle.sat_propagate.specs.Propagator.{IsPair, Watches, IsPropagator, AreDon
 use Rattle.sat_propagate.specs.Finding.{FindsOther, FindsUnit}
 use Rattle.sat_propagate.specs.declared.trail.Step.{Step}
 use Rattle.sat_propagate.specs.declared.watch_lists.Watch.{Watch}
-use Rattle.sat_propagate.specs.declared.watched.Watched.{Watched}
+use Rattle.sat_propagate.specs.ClauseTable.{Watched}
 use Rattle.sat_propagate.proofs.ListLaws.{get-set_same, length-swap_remove}
 use Rattle.sat_propagate.proofs.PropagatorLaws.{Removes, Replaces, removed_here, if_true, if_false, right_removed, done_removed, done_written, done_more, done_by_blocker, done_longer, right_rewatched, done_rewatched, distinct_from, pair_members, watches_pair, IsFresh, distinct_pair}
 

@@ -22,7 +22,7 @@ use Rattle.sat_propagate.specs.Propagator.{IsPropagator, Watches, Enlists, texts
 use Rattle.sat_propagate.specs.Insertion.{IsSooner, IsRank, IsBest, IsUnseen}
 use Rattle.sat_propagate.specs.declared.trail.Step.{Step}
 use Rattle.sat_propagate.specs.declared.watch_lists.Watch.{Watch}
-use Rattle.sat_propagate.specs.declared.watched.Watched.{Watched}
+use Rattle.sat_propagate.specs.ClauseTable.{Watched}
 use Rattle.sat_propagate.proofs.ListLaws.{held_more, unmentioned, no_literal, get-past_seam}
 use Rattle.sat_propagate.proofs.TableLaws.{take_literals_is, get_or-any, get_or-default}
 use Rattle.sat_propagate.proofs.PropagatorLaws.{names_longer, names_new, reasoned_longer, starts_within, literals-push}

@@ -23,7 +23,7 @@ use Rattle.sat_propagate.specs.Trail.{TrailState, literals, IsTrail, IsPhased}
 use Rattle.sat_propagate.specs.WatchLists.{WatchPair}
 use Rattle.sat_propagate.specs.Propagator.{IsPropagator, texts}
 use Rattle.sat_propagate.specs.declared.trail.Step.{Step}
-use Rattle.sat_propagate.specs.declared.watched.Watched.{Watched}
+use Rattle.sat_propagate.specs.ClauseTable.{Watched}
 
 -- a text is that of some clause
 pub text_at : (clauses : List Watched) (clause : List SatLit) → Contains (texts clauses) clause → (n : ℕ) × (watched : Watched) × (slice_get clauses n ≡ Some watched) × (watched.clause ≡ clause)

@@ -1,3 +1,4 @@
+pub mod ClauseTableLaws
 pub mod ListLaws
 pub mod PlaceLaws
 pub mod PropagatorLaws

@@ -25,7 +25,7 @@ use Rattle.sat_propagate.specs.WatchLists.{WatchPair, Names, watchers}
 use Rattle.sat_propagate.specs.Propagator.{IsReasoned, IsPair, Watches, IsPropagator, IsDone, AreDone, Rewatched, Enlists, Grew, texts}
 use Rattle.sat_propagate.specs.declared.trail.Step.{Step}
 use Rattle.sat_propagate.specs.declared.watch_lists.Watch.{Watch}
-use Rattle.sat_propagate.specs.declared.watched.Watched.{Watched}
+use Rattle.sat_propagate.specs.ClauseTable.{Watched}
 use Rattle.sat_propagate.proofs.ListLaws.{map-set_same, get-past_seam, get-set_same, get-set_other, get-swap_remove_before, kept-swap_remove}
 
 pub if_true : {X : Type 0} (b : Bool) (x y : X) → b ≡ true → (if b then x else y) ≡ x

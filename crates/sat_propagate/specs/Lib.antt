@@ -1,3 +1,4 @@
+pub mod ClauseTable
 pub mod Trail
 pub mod WatchLists
 pub mod Propagator

@@ -10,7 +10,7 @@ use Rattle.sat_propagate.specs.Trail.{TrailState, literals}
 use Rattle.sat_propagate.specs.WatchLists.{WatchPair, Names, watchers}
 use Rattle.sat_propagate.specs.declared.trail.Step.{Step}
 use Rattle.sat_propagate.specs.declared.watch_lists.Watch.{Watch}
-use Rattle.sat_propagate.specs.declared.watched.Watched.{Watched}
+use Rattle.sat_propagate.specs.ClauseTable.{Watched}
 
 -- a step without a reason is a decision's; a reason is a clause whose only open literal was the step's
 pub record IsReasoned (clauses : List Watched) (trail : TrailState) (i : ℕ) (step : Step) : Type 0 where

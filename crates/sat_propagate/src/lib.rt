@@ -1,14 +1,16 @@
 //! Unit propagation over clauses with two watched literals each, decisions, and the insertion of clauses.
 #![tactic(auto)]
 
+mod clause_table;
 mod decider;
+mod packed;
 mod propagator;
 mod trail;
 mod watch_lists;
-mod watched;
 
+pub use clause_table::ClauseTable;
 pub use decider::Decider;
+pub use packed::Packed;
 pub use propagator::{Ended, Propagator};
 pub use trail::{Step, Trail};
 pub use watch_lists::WatchLists;
-pub use watched::Watched;

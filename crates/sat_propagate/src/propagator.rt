@@ -12,20 +12,21 @@ ghost use Rattle.sat_propagate.specs.WatchLists.{watchers};
 ghost use Rattle.sat_propagate.specs.Propagator.{IsPropagator, AreDone, IsDone, Grew, IsConflict, Watches, Moves, texts};
 ghost use Rattle.sat_base.specs.declared.literal.Var.{Var};
 ghost use Rattle.sat_propagate.specs.Finding.{Finds, FindsOther};
-ghost use Rattle.sat_propagate.specs.declared.watched.Watched.{Watched};
+ghost use Rattle.sat_propagate.specs.ClauseTable.{Watched};
 
+use crate::clause_table::ClauseTable;
 use crate::decider::Decider;
+use crate::packed::{Packed, narrow};
 use crate::trail::Trail;
 use crate::watch_lists::{Watch, WatchLists};
-use crate::watched::Watched;
 use sat_base::{Clause, SatLit, Var};
 use std::alloc::{AllocError, Global};
 
 /// What a visit of a clause found, one of whose watched literals became false.
 pub enum Finding {
     Stale,
-    Satisfied(SatLit),
-    Other(SatLit),
+    Satisfied(Packed),
+    Other(Packed),
     Unit(SatLit),
     False,
 }
@@ -49,7 +50,7 @@ pub enum Visited {
 pub struct Propagator {
     pub trail: Trail,
     pub processed: usize,
-    pub clauses: Vec<Watched>,
+    pub clauses: ClauseTable,
     pub lists: WatchLists,
     pub decider: Decider,
 }
@@ -63,7 +64,7 @@ impl Propagator {
         Propagator {
             trail: Trail::new(alloc),
             processed: 0,
-            clauses: Vec::new(alloc),
+            clauses: ClauseTable::new(alloc),
             lists: WatchLists::new(alloc),
             decider: Decider::new(alloc),
         }
@@ -84,11 +85,11 @@ impl Propagator {
     }
 
     /// The literals of a clause.
-    pub fn literals(&self, n: usize) -> &[SatLit]
+    pub fn literals(&self, n: usize) -> &[Packed]
         requires { n < length self.now.clauses.items }
         ensures { (watched : Watched) → slice_get self.now.clauses.items n ≡ Some watched → result.now ≡ watched.clause }
     {
-        self.clauses[n].clause.as_slice()
+        self.clauses.literals(n)
     }
 
     /// Makes true what follows by unit propagation. The number of a clause that is false then, if there is one.
@@ -145,21 +146,22 @@ impl Propagator {
         ensures conflict { IfOk result (λ r. (n : ℕ) → r ≡ Visited.False n → IsConflict self.new.trail self.new.clauses.items n) }
     {
         let watch = self.lists.entry(falsified, i);
-        if self.trail.is_true(watch.blocker) {
+        if self.trail.is_true(watch.blocker.literal()) {
             return Ok(Visited::Next);
         }
-        let n = watch.clause;
+        let n = watch.clause as usize;
         match self.look_at(n, falsified) {
             Finding::Stale => {
                 let _ = self.lists.remove(falsified, i);
                 Ok(Visited::Again)
             }
             Finding::Satisfied(blocker) => {
-                self.lists.set(falsified, i, Watch { clause: n, blocker });
+                let clause = watch.clause;
+                self.lists.set(falsified, i, Watch { clause, blocker });
                 Ok(Visited::Next)
             }
             Finding::Other(literal) => {
-                self.watch_other(n, falsified, literal)?;
+                self.watch_other(watch.clause, falsified, literal)?;
                 let _ = self.lists.remove(falsified, i);
                 Ok(Visited::Again)
             }
@@ -176,20 +178,14 @@ impl Propagator {
         requires { IsTrue (holds (literals self.now.trail.steps) (negated falsified)) }
         ensures { Finds (literals self.now.trail.steps) (slice_get self.now.clauses.items n) falsified result }
     {
-        let Some(watched) = self.clauses.get(n) else {
+        let Some(packed) = self.clauses.other(n, falsified) else {
             return Finding::Stale;
         };
-        let other = if watched.first == falsified {
-            watched.second
-        } else if watched.second == falsified {
-            watched.first
-        } else {
-            return Finding::Stale;
-        };
+        let other = packed.literal();
         if self.trail.is_true(other) {
-            return Finding::Satisfied(other);
+            return Finding::Satisfied(packed);
         }
-        match self.replacement(watched.clause.as_slice(), falsified, other) {
+        match self.replacement(self.clauses.literals(n), falsified, other) {
             Some(literal) => Finding::Other(literal),
             None if self.trail.is_false(other) => Finding::False,
             None => Finding::Unit(other),
@@ -197,13 +193,13 @@ impl Propagator {
     }
 
     /// A literal that is not false, other than these two.
-    fn replacement(&self, among: &[SatLit], a: SatLit, b: SatLit) -> Option<SatLit>
+    fn replacement(&self, among: &[Packed], a: SatLit, b: SatLit) -> Option<Packed>
         ensures some { IfSome result (λ l. IsTrue (holds among.now l) × (l ≢ a) × (l ≢ b) × (holds (literals self.now.trail.steps) (negated l) ≡ false)) }
         ensures none { IfNone result ((l : SatLit) → IsTrue (holds among.now l) → l ≢ a → l ≢ b → IsTrue (holds (literals self.now.trail.steps) (negated l))) }
     {
-        for literal in among {
-            if self.is_free(*literal, a, b) {
-                return Some(*literal);
+        for packed in among {
+            if self.is_free(packed.literal(), a, b) {
+                return Some(*packed);
             }
         }
         None
@@ -213,11 +209,11 @@ impl Propagator {
         ensures yes { IsTrue result → (literal ≢ a) × (literal ≢ b) × (holds (literals self.now.trail.steps) (negated literal) ≡ false) }
         ensures no { result ≡ false → literal ≢ a → literal ≢ b → IsTrue (holds (literals self.now.trail.steps) (negated literal)) }
     {
-        literal != a && literal != b && !self.trail.is_false(literal)
+        !self.trail.is_false(literal) && literal != a && literal != b
     }
 
     /// Watches a literal in place of another one.
-    fn watch_other(&mut self, n: usize, from: SatLit, to: SatLit) -> Result<(), AllocError>
+    fn watch_other(&mut self, n: u32, from: SatLit, to: Packed) -> Result<(), AllocError>
         requires found { FindsOther (literals self.old.trail.steps) (slice_get self.old.clauses.items n) from to }
         requires made { to.var.0 < length self.old.lists }
         ensures moved { OnOk result (Moves self.old.clauses.items self.new.clauses.items self.old.lists self.new.lists n from to) }
@@ -226,9 +222,9 @@ impl Propagator {
         ensures trail { self.new.trail ≡ self.old.trail }
         ensures processed { self.new.processed ≡ self.old.processed }
     {
-        let blocker = self.clauses[n].other_than(from);
-        self.lists.push(to, Watch { clause: n, blocker })?;
-        self.clauses[n].replace(from, to);
+        let blocker = self.clauses.other_than(n as usize, from);
+        self.lists.push(to.literal(), Watch { clause: n, blocker })?;
+        self.clauses.replace(n as usize, from, to);
         Ok(())
     }
 
@@ -334,10 +330,10 @@ impl Propagator {
         };
         match self.best(clause.as_slice(), Some(first)) {
             Some(second) => {
-                self.insert_watched(clause, first, second)?;
+                self.insert_watched(clause.as_slice(), first, second)?;
                 Ok(true)
             }
-            None => self.insert_unit(clause, first),
+            None => self.insert_unit(clause.as_slice(), first),
         }
     }
 
@@ -380,16 +376,16 @@ impl Propagator {
         }
     }
 
-    fn insert_unit(&mut self, clause: Clause, literal: SatLit) -> Result<bool, AllocError>
+    fn insert_unit(&mut self, clause: &[SatLit], literal: SatLit) -> Result<bool, AllocError>
         requires right { IsPropagator self.old.trail self.old.processed self.old.clauses.items self.old.lists }
-        requires over { IsOver (length self.old.trail.phases) clause }
-        requires member { IsTrue (holds clause literal) }
-        requires alone { (l : SatLit) → IsTrue (holds clause l) → l ≡ literal }
+        requires over { IsOver (length self.old.trail.phases) clause.now }
+        requires member { IsTrue (holds clause.now literal) }
+        requires alone { (l : SatLit) → IsTrue (holds clause.now l) → l ≡ literal }
         ensures right { IsPropagator self.new.trail self.new.processed self.new.clauses.items self.new.lists }
         ensures made { length self.new.trail.phases ≡ length self.old.trail.phases }
-        ensures inserted { IfOk result (λ r. r ≡ true → texts self.new.clauses.items ≡ texts self.old.clauses.items ++ clause ∷ []) }
+        ensures inserted { IfOk result (λ r. r ≡ true → texts self.new.clauses.items ≡ texts self.old.clauses.items ++ clause.now ∷ []) }
         ensures refused { IfOk result (λ r. r ≡ false → self.new.clauses.items ≡ self.old.clauses.items) }
-        ensures falsified { IfOk result (λ r. r ≡ false → IsFalseIn (literals self.new.trail.steps) clause) }
+        ensures falsified { IfOk result (λ r. r ≡ false → IsFalseIn (literals self.new.trail.steps) clause.now) }
         ensures root { IfOk result (λ r. r ≡ false → self.new.trail.starts ≡ []) }
         ensures err { OnErr result (self.new.clauses.items ≡ self.old.clauses.items) }
     {
@@ -397,57 +393,72 @@ impl Propagator {
         if self.trail.is_false(literal) {
             return Ok(false);
         }
-        self.clauses.reserve(1)?;
-        if !self.trail.is_true(literal) {
-            self.trail.assign(literal, Some(self.clauses.len()))?;
-        }
-        self.clauses.push_reserved(Watched {
-            clause,
-            first: literal,
-            second: literal,
-        });
+        self.push_unit(clause, literal)?;
         Ok(true)
+    }
+
+    /// Appends a clause of one literal that is not false, and makes it true, where there is no decision.
+    fn push_unit(&mut self, clause: &[SatLit], literal: SatLit) -> Result<(), AllocError>
+        requires right { IsPropagator self.old.trail self.old.processed self.old.clauses.items self.old.lists }
+        requires root { self.old.trail.starts ≡ [] }
+        requires undenied { holds (literals self.old.trail.steps) (negated literal) ≡ false }
+        requires over { IsOver (length self.old.trail.phases) clause.now }
+        requires member { IsTrue (holds clause.now literal) }
+        requires alone { (l : SatLit) → IsTrue (holds clause.now l) → l ≡ literal }
+        ensures right { IsPropagator self.new.trail self.new.processed self.new.clauses.items self.new.lists }
+        ensures made { length self.new.trail.phases ≡ length self.old.trail.phases }
+        ensures inserted { OnOk result (texts self.new.clauses.items ≡ texts self.old.clauses.items ++ clause.now ∷ []) }
+        ensures err { OnErr result (self.new.clauses.items ≡ self.old.clauses.items) }
+    {
+        let packed = Packed::of(literal)?;
+        let n = self.clauses.len();
+        self.clauses.push(clause, packed, packed)?;
+        if self.trail.is_true(literal) {
+            return Ok(());
+        }
+        if let Err(refused) = self.trail.assign(literal, Some(n)) {
+            self.clauses.pop();
+            return Err(refused);
+        }
+        Ok(())
     }
 
     fn insert_watched(
         &mut self,
-        clause: Clause,
+        clause: &[SatLit],
         first: SatLit,
         second: SatLit,
     ) -> Result<(), AllocError>
         requires right { IsPropagator self.old.trail self.old.processed self.old.clauses.items self.old.lists }
-        requires over { IsOver (length self.old.trail.phases) clause }
-        requires first { IsTrue (holds clause first) }
-        requires second { IsTrue (holds clause second) }
+        requires over { IsOver (length self.old.trail.phases) clause.now }
+        requires first { IsTrue (holds clause.now first) }
+        requires second { IsTrue (holds clause.now second) }
         requires apart { first ≢ second }
         requires sooner { IsSooner (literals self.old.trail.steps) second first }
         ensures right { IsPropagator self.new.trail self.new.processed self.new.clauses.items self.new.lists }
         ensures made { length self.new.trail.phases ≡ length self.old.trail.phases }
-        ensures inserted { OnOk result (texts self.new.clauses.items ≡ texts self.old.clauses.items ++ clause ∷ []) }
+        ensures inserted { OnOk result (texts self.new.clauses.items ≡ texts self.old.clauses.items ++ clause.now ∷ []) }
         ensures err { OnErr result (self.new.clauses.items ≡ self.old.clauses.items) }
     {
+        let watched = Packed::of(first)?;
+        let other = Packed::of(second)?;
+        let n = narrow(self.clauses.len())?;
         self.make_room(second);
-        self.clauses.reserve(1)?;
-        let n = self.clauses.len();
         self.lists.push(
             first,
             Watch {
                 clause: n,
-                blocker: second,
+                blocker: other,
             },
         )?;
         self.lists.push(
             second,
             Watch {
                 clause: n,
-                blocker: first,
+                blocker: watched,
             },
         )?;
-        self.clauses.push_reserved(Watched {
-            clause,
-            first,
-            second,
-        });
+        self.clauses.push(clause, watched, other)?;
         Ok(())
     }
 

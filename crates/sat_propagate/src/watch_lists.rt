@@ -4,6 +4,7 @@ ghost use Rattle.std.specs.List.{swap_remove};
 ghost use Rattle.sat_base.specs.declared.literal.SatLit.{SatLit};
 ghost use Rattle.sat_base.specs.Literal.{same_literal};
 
+use crate::packed::Packed;
 use sat_base::SatLit;
 use std::alloc::{AllocError, Global};
 use std::marker::Model;
@@ -11,8 +12,8 @@ use std::marker::Model;
 /// A clause that watches a literal, and some literal of it: where that one is true, the clause is.
 #[derive(Clone, Copy, Debug)]
 pub struct Watch {
-    pub clause: usize,
-    pub blocker: SatLit,
+    pub clause: u32,
+    pub blocker: Packed,
 }
 
 /// The clauses that watch the two literals on a variable.

@@ -6,10 +6,10 @@ use Rattle.sat_propagate.specs.Trail.{literals}
 use Rattle.sat_core.specs.Marks.{is_marked, marks_literal, others}
 use Rattle.sat_core.proofs.analysis.mark_others.Given as goal
 
-abbrev pub invariant-loop-literal : goal.invariant-loop-literal
-invariant-loop-literal l = record {
-  marks : (v : Var) → is_marked l.marks v ≡ (is_marked l.fn.marks v || mentions (others l.own (take l.literal-index l.among)) v);
+abbrev pub invariant-loop-packed : goal.invariant-loop-packed
+invariant-loop-packed l = record {
+  marks : (v : Var) → is_marked l.marks v ≡ (is_marked l.fn.marks v || mentions (others l.own (take l.packed-index l.among)) v);
   made : length l.marks ≡ length l.fn.marks;
   counted : l.late + how_many (marks_literal l.fn.marks) (drop l.start (literals l.trail.steps)) ≡ how_many (marks_literal l.marks) (drop l.start (literals l.trail.steps));
-  few : l.late ≤ l.literal-index;
+  few : l.late ≤ l.packed-index;
 }

@@ -1,15 +1,16 @@
-use Rattle.std.proofs.Common.{◌≢◌, inl, inr, get_or, IsTrue, subst, sym}
+use Rattle.std.proofs.Common.{◌≢◌, inl, inr, get_or, IsTrue, subst, sym, ◌∙◌}
 use Rattle.sat_base.specs.declared.literal.SatLit.{SatLit}
 use Rattle.sat_base.specs.Literal.{holds, negated}
 use Rattle.sat_propagate.specs.Trail.{literals}
-use Rattle.sat_propagate.proofs.ListLaws.{held_more, no_literal}
+use Rattle.sat_propagate.proofs.ListLaws.{held_more}
 use Rattle.sat_propagate.proofs.propagator.Propagator.replacement.Goals as goal
 
-pub loop-literal-preserved : goal.loop-literal-preserved
-loop-literal-preserved c =
-    let here : SatLit = get_or c.args.among.now c.loop-literal.literal-index no_literal in
-    let last : here ≢ c.args.a → here ≢ c.args.b → IsTrue (holds (literals c.args.self.now.trail.steps) (negated here)) = c.is_free.ensures.no c.if-is_free.false in
-    λ m h apart_a apart_b. elim (held_more c.args.among.now c.loop-literal.literal-index no_literal m c.loop-literal-test.true h) [
-      | inl before ↦ c.loop-literal.invariant m before apart_a apart_b
+pub loop-packed-preserved : goal.loop-packed-preserved
+loop-packed-preserved c =
+    let here : SatLit = get_or c.args.among.now c.loop-packed.packed-index c.packed-item.result in
+    let last : here ≢ c.args.a → here ≢ c.args.b → IsTrue (holds (literals c.args.self.now.trail.steps) (negated here)) =
+    subst (λ (k : SatLit). k ≢ c.args.a → k ≢ c.args.b → IsTrue (holds (literals c.args.self.now.trail.steps) (negated k))) (c.literal.ensures ∙ c.packed-item.is) (c.is_free.ensures.no c.if-is_free.false) in
+    λ m h apart_a apart_b. elim (held_more c.args.among.now c.loop-packed.packed-index c.packed-item.result m c.loop-packed-test.true h) [
+      | inl before ↦ c.loop-packed.invariant m before apart_a apart_b
       | inr same ↦ subst (λ (k : SatLit). k ≢ c.args.a → k ≢ c.args.b → IsTrue (holds (literals c.args.self.now.trail.steps) (negated k))) (sym same) last apart_a apart_b
     ]

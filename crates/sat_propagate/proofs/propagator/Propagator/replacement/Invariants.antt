@@ -4,6 +4,6 @@ use Rattle.sat_base.specs.Literal.{holds, negated}
 use Rattle.sat_propagate.specs.Trail.{literals}
 use Rattle.sat_propagate.proofs.propagator.Propagator.replacement.Given as goal
 
-abbrev pub invariant-loop-literal : goal.invariant-loop-literal
-invariant-loop-literal l =
-    (m : SatLit) → IsTrue (holds (take l.literal-index l.among) m) → m ≢ l.a → m ≢ l.b → IsTrue (holds (literals l.self.trail.steps) (negated m))
+abbrev pub invariant-loop-packed : goal.invariant-loop-packed
+invariant-loop-packed l =
+    (m : SatLit) → IsTrue (holds (take l.packed-index l.among) m) → m ≢ l.a → m ≢ l.b → IsTrue (holds (literals l.self.trail.steps) (negated m))

@@ -1,7 +1,7 @@
 use Rattle.std.proofs.Common.{◌≡◌, ◌<◌, ◌+◌, List, length, sym, ap, ◌∙◌, subst, arith, length-append}
 use Rattle.sat_base.specs.Truth.{AllTrue, assigned}
 use Rattle.sat_propagate.specs.Propagator.{texts}
-use Rattle.sat_propagate.specs.declared.watched.Watched.{Watched}
+use Rattle.sat_propagate.specs.ClauseTable.{Watched}
 use Rattle.sat_propagate.proofs.LevelLaws.{values_true}
 use Rattle.sat_propagate.specs.Trail.{TrailState}
 use Rattle.sat_propagate.specs.declared.trail.Step.{Step}

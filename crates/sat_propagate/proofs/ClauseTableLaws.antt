@@ -1,0 +1,77 @@
+-- The clauses of a table.
+use Rattle.std.proofs.Common.{◌≡◌, ◌<◌, true, ltb, get_or, ◌≤◌, ◌+◌, ℕ, List, [], ◌∷◌, ◌++◌, Some, length, take, drop, refl, sym, ap, ap₂, ◌∙◌, arith, length-append, length-drop}
+use Rattle.std.specs.List.{slice_get}
+use Rattle.std.specs.Option.{option_map}
+use Rattle.std.proofs.lemmas.List.{take-append-le, drop-append-le, take_all, map-append, length-map}
+use Rattle.std.proofs.Math.Seq.{drop-append_seam}
+use Rattle.std.proofs.lemmas.List.Elements.{All-weaker, All-head, All-tail, All-push}
+use Rattle.std.proofs.lemmas.Option.{slice_get-map, slice_get-get_or, slice_get_within, same_Some}
+use Rattle.std.proofs.lemmas.Bool.{ltb-true}
+use Rattle.sat_base.specs.declared.literal.SatLit.{SatLit}
+use Rattle.sat_propagate.specs.ClauseTable.{Watched, Clauses, headed, all_headed, AreHeads}
+use Rattle.sat_propagate.specs.declared.clause_table.Head.{Head}
+
+pub all_headed-get : (literals : List SatLit) (heads : List Head) (n : ℕ) (head : Head) → slice_get heads n ≡ Some head → slice_get (all_headed literals heads) n ≡ Some (headed literals head)
+all_headed-get literals heads n head at = slice_get-map (headed literals) heads n ∙ ap (option_map (headed literals)) at
+
+-- a head's literals are within a list
+abbrev IsInside : List SatLit → Head → Type 0
+IsInside literals head = head.start + head.len ≤ length literals
+
+-- a clause is as it was where literals are appended
+headed-append : (literals more : List SatLit) (head : Head) → head.start + head.len ≤ length literals → headed (literals ++ more) head ≡ headed literals head
+headed-append literals more head within =
+    ap (λ (clause : List SatLit). let w : Watched = record { clause = clause; first = head.first; second = head.second } in w)
+    (ap (take head.len) (drop-append-le head.start literals more (omega (arith, within)))
+    ∙ take-append-le head.len (drop head.start literals) more (omega (arith, within, length-drop head.start literals)))
+
+pub all_headed-append : (literals more : List SatLit) (heads : List Head) → AreHeads literals heads → all_headed (literals ++ more) heads ≡ all_headed literals heads
+all_headed-append literals more [] within = refl
+all_headed-append literals more (head ∷ heads) within =
+    ap₂ (λ (w : Watched) (all : List Watched). w ∷ all) (headed-append literals more head (All-head (IsInside literals) head heads within))
+    (all_headed-append literals more heads (All-tail (IsInside literals) head heads within))
+
+-- a table where one more clause's literals are appended, and its head
+pub all_headed-push : (literals clause : List SatLit) (heads : List Head) (head : Head) → AreHeads literals heads → head.start ≡ length literals → head.len ≡ length clause
+    → all_headed (literals ++ clause) (heads ++ head ∷ []) ≡ all_headed literals heads ++ record { clause = clause; first = head.first; second = head.second } ∷ []
+all_headed-push literals clause heads head within start len =
+    map-append (headed (literals ++ clause)) heads (head ∷ [])
+    ∙ ap₂ (λ (all : List Watched) (w : Watched). all ++ w ∷ []) (all_headed-append literals clause heads within) last
+  where
+    last : headed (literals ++ clause) head ≡ record { clause = clause; first = head.first; second = head.second }
+    last =
+        ap (λ (some : List SatLit). let w : Watched = record { clause = some; first = head.first; second = head.second } in w)
+        (ap₂ (λ (n s : ℕ). take n (drop s (literals ++ clause))) len start
+        ∙ ap (take (length clause)) (drop-append_seam literals clause)
+        ∙ take_all (length clause) clause (omega arith))
+
+pub heads-append : (literals more : List SatLit) (heads : List Head) → AreHeads literals heads → AreHeads (literals ++ more) heads
+heads-append literals more heads within =
+    All-weaker (IsInside literals) (IsInside (literals ++ more)) (λ head h. omega (arith, h, length-append literals more)) heads within
+
+pub heads-push : (literals : List SatLit) (heads : List Head) (head : Head) → AreHeads literals heads → head.start + head.len ≤ length literals → AreHeads literals (heads ++ head ∷ [])
+heads-push literals heads head within inside = All-push (IsInside literals) heads head within inside
+
+-- a head that was found gives the clause
+pub headed-found : (now : Clauses) (literals : List SatLit) (heads some : List Head) (n : ℕ) (head : Head) → record { items = all_headed literals heads } ≡ now → some ≡ heads
+    → true ≡ ltb n (length some) → head ≡ get_or some n head → slice_get now.items n ≡ Some (headed literals head)
+headed-found now literals heads some n head viewed same inside is =
+    ap (λ (t : Clauses). slice_get t.items n) (sym viewed)
+    ∙ all_headed-get literals heads n head
+    (ap (λ (list : List Head). slice_get list n) (sym same) ∙ slice_get-get_or some n head (ltb-true n (length some) (sym inside)) ∙ ap (λ (h : Head). Some h) (sym is))
+
+-- the clause of a head that stands in the table
+pub headed-there : (now : Clauses) (literals : List SatLit) (heads : List Head) (n : ℕ) (head : Head) (old : Watched) → record { items = all_headed literals heads } ≡ now
+    → head ≡ get_or heads n head → slice_get now.items n ≡ Some old → headed literals head ≡ old
+headed-there now literals heads n head old viewed is at =
+    same_Some _ _ (sym (all_headed-get literals heads n head (slice_get-get_or heads n head within ∙ ap (λ (h : Head). Some h) (sym is))) ∙ viewed_at)
+  where
+    viewed_at : slice_get (all_headed literals heads) n ≡ Some old
+    viewed_at = ap (λ (t : Clauses). slice_get t.items n) viewed ∙ at
+
+    within : n < length heads
+    within = omega (arith, slice_get_within (all_headed literals heads) n old viewed_at, length-map heads (headed literals))
+
+pub same_watched : (clause : List SatLit) (a b first second : SatLit) → a ≡ first → b ≡ second
+    → record { clause = clause; first = a; second = b } ≡ (let w : Watched = record { clause = clause; first = first; second = second } in w)
+same_watched clause a b first second is_first is_second = ap₂ (λ (l m : SatLit). let w : Watched = record { clause = clause; first = l; second = m } in w) is_first is_second

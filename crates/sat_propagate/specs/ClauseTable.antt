@@ -1,0 +1,27 @@
+-- What contracts see of a table of clauses, and how it stands in memory.
+use Rattle.std.specs.Prelude.{◌+◌, ◌≤◌, List, map, length, take, drop}
+use Rattle.std.specs.List.{All}
+use Rattle.sat_base.specs.declared.literal.SatLit.{SatLit}
+use Rattle.sat_propagate.specs.declared.clause_table.Head.{Head}
+
+-- a clause, with its two watched literals, or twice its only one
+pub record Watched : Type 0 where
+  pub clause : List SatLit
+  pub first : SatLit
+  pub second : SatLit
+
+-- clauses by their numbers
+pub record Clauses : Type 0 where
+  pub items : List Watched
+
+-- the clause with this head
+abbrev pub headed : List SatLit → Head → Watched
+headed literals head = record { clause = take head.len (drop head.start literals); first = head.first; second = head.second }
+
+-- the clauses with these heads
+abbrev pub all_headed : List SatLit → List Head → List Watched
+all_headed literals heads = map (headed literals) heads
+
+-- each head's literals are within the list
+abbrev pub AreHeads : List SatLit → List Head → Type 0
+AreHeads literals heads = All (λ head. head.start + head.len ≤ length literals) heads

@@ -1,0 +1,158 @@
+//! Clauses with their watched literals.
+ghost use Rattle.std.specs.Prelude.{◌≡◌, ◌≢◌, ◌<◌, ◌++◌, [], ◌∷◌, List, length, Some, slice_get, OnOk, OnErr, IfSome, IfNone};
+ghost use Rattle.sat_base.specs.declared.literal.SatLit.{SatLit};
+ghost use Rattle.sat_propagate.specs.ClauseTable.{Watched};
+
+use crate::packed::{Packed, narrow};
+use sat_base::SatLit;
+use std::alloc::{AllocError, Global};
+use std::marker::Model;
+
+/// A clause's watched literals, or twice its only one, and where its literals stand.
+#[derive(Clone, Copy, Debug)]
+pub struct Head {
+    pub first: Packed,
+    pub second: Packed,
+    pub start: u32,
+    pub len: u32,
+}
+
+impl Head {
+    ghost use Rattle.sat_propagate.specs.ClauseTable.{headed};
+    ghost use Rattle.sat_propagate.specs.Propagator.{IsPair};
+
+    /// Watches a literal in place of another one.
+    fn replace(&mut self, from: SatLit, to: Packed)
+        ensures place { (self.new.start ≡ self.old.start) × (self.new.len ≡ self.old.len) }
+        ensures pair { (literals : List SatLit) (other : SatLit) → IsPair (headed literals self.old) from other → IsPair (headed literals self.new) to other }
+    {
+        if self.first.literal() == from {
+            self.first = to;
+        } else {
+            self.second = to;
+        }
+    }
+}
+
+/// Clauses by their numbers, with their literals one after the other.
+#[derive(Debug, Drop)]
+pub struct ClauseTable {
+    heads: Vec<Head>,
+    literals: Vec<Packed>,
+}
+
+impl Model for ClauseTable {
+    ghost use Rattle.sat_propagate.specs.ClauseTable.{Clauses, all_headed, AreHeads};
+
+    ghost Value = { Clauses };
+
+    ghost view = { λ t. record { items = all_headed t.literals.items t.heads.items } };
+
+    ghost invariant = { λ t. AreHeads t.literals.items t.heads.items };
+}
+
+impl ClauseTable {
+    ghost use Rattle.sat_propagate.specs.Propagator.{IsPair, Watches, Rewatched};
+
+    pub fn new(alloc: Global) -> Self
+        ensures { result.items ≡ [] }
+    {
+        ClauseTable {
+            heads: Vec::new(alloc),
+            literals: Vec::new(alloc),
+        }
+    }
+
+    pub fn len(&self) -> usize
+        ensures { result ≡ length self.now.items }
+    {
+        self.heads.len()
+    }
+
+    /// The literals of a clause.
+    pub fn literals(&self, n: usize) -> &[Packed]
+        requires { n < length self.now.items }
+        ensures { (watched : Watched) → slice_get self.now.items n ≡ Some watched → result.now ≡ watched.clause }
+    {
+        let head = &self.heads[n];
+        let start = head.start as usize;
+        &self.literals[start..start + head.len as usize]
+    }
+
+    /// The other watched literal of a clause that watches this one. None where it doesn't, or there is no such clause.
+    pub fn other(&self, n: usize, literal: SatLit) -> Option<Packed>
+        ensures some { IfSome result (λ l. (watched : Watched) × (slice_get self.now.items n ≡ Some watched) × IsPair watched literal l) }
+        ensures none { IfNone result ((watched : Watched) → slice_get self.now.items n ≡ Some watched → (watched.first ≢ literal) × (watched.second ≢ literal)) }
+    {
+        let head = self.heads.get(n)?;
+        if head.first.literal() == literal {
+            Some(head.second)
+        } else if head.second.literal() == literal {
+            Some(head.first)
+        } else {
+            None
+        }
+    }
+
+    /// The other watched literal of a clause that watches this one.
+    pub fn other_than(&self, n: usize, literal: SatLit) -> Packed
+        requires { n < length self.now.items }
+        ensures { (watched : Watched) → slice_get self.now.items n ≡ Some watched → Watches watched literal → IsPair watched literal result }
+    {
+        let head = &self.heads[n];
+        if head.first.literal() == literal {
+            head.second
+        } else {
+            head.first
+        }
+    }
+
+    /// Appends a clause with its watched literals.
+    pub fn push(
+        &mut self,
+        clause: &[SatLit],
+        first: Packed,
+        second: Packed,
+    ) -> Result<(), AllocError>
+        ensures ok { OnOk result (self.new.items ≡ self.old.items ++ record { clause = clause.now; first = first; second = second } ∷ []) }
+        ensures err { OnErr result (self.new ≡ self.old) }
+    {
+        let start = narrow(self.literals.len())?;
+        let len = narrow(clause.len())?;
+        append(&mut self.literals, clause)?;
+        self.heads.push(Head {
+            first,
+            second,
+            start,
+            len,
+        })?;
+        Ok(())
+    }
+
+    /// Takes the last clause away.
+    pub fn pop(&mut self)
+        ensures { (rest : List Watched) (last : Watched) → self.old.items ≡ rest ++ last ∷ [] → self.new.items ≡ rest }
+    {
+        let _ = self.heads.pop();
+    }
+
+    /// A clause watches a literal in place of another one.
+    pub fn replace(&mut self, n: usize, from: SatLit, to: Packed)
+        requires { n < length self.old.items }
+        ensures { (old : Watched) (other : SatLit) → slice_get self.old.items n ≡ Some old → IsPair old from other → Rewatched self.old.items self.new.items n from to other }
+    {
+        let head = &mut self.heads[n];
+        head.replace(from, to);
+    }
+}
+
+/// Appends a clause's literals to a list.
+fn append(literals: &mut Vec<Packed>, clause: &[SatLit]) -> Result<(), AllocError>
+    ensures ok { OnOk result (literals.new.items ≡ literals.old.items ++ clause.now) }
+    ensures longer { (rest : List SatLit) × (literals.new.items ≡ literals.old.items ++ rest) }
+{
+    for literal in clause {
+        literals.push(Packed::of(*literal)?)?;
+    }
+    Ok(())
+}
