@@ -17,7 +17,6 @@ use crate::taking::taken_type;
 use command_queue::Weigher;
 use search_tables::{Command, Core, Stem, Tables};
 use std::alloc::AllocError;
-use stt_core::Ty;
 
 /// Appends the holes of a partial term.
 fn push_holes(tables: &mut Tables, stem: &Stem) -> Result<(), AllocError>
@@ -66,7 +65,7 @@ fn list_hole(tables: &mut Tables, p: usize) -> Result<(), AllocError>
 {
     match tables.open_holes.first_base(p) {
         Some(n) => {
-            tables.holes.add_term(&Ty::Base(n), p)?;
+            tables.holes.push(n, p)?;
             Ok(())
         }
         None => Ok(()),

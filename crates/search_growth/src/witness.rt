@@ -17,7 +17,6 @@ use command_queue::Weigher;
 use sat_base::SatLit;
 use search_tables::{Command, Core, HoleHead, Over, number_of};
 use std::alloc::AllocError;
-use stt_core::Ty;
 
 /// Each parked partial term whose first hole has a base type is to be filled with a witness.
 fn grow_with<W: Weigher<Command>>(core: &mut Core<W>, output: u32, w: u32) -> Result<(), AllocError>
@@ -27,7 +26,7 @@ fn grow_with<W: Weigher<Command>>(core: &mut Core<W>, output: u32, w: u32) -> Re
     ensures tables { core.new.tables ≡ core.old.tables }
     ensures rule { OnOk result (core.new.plan.rule ≡ core.old.plan.rule) }
 {
-    let parked = core.tables.holes.terms_of(&Ty::Base(output));
+    let parked = core.tables.holes.under(output);
     let count = parked.len();
     if count == 0 {
         return Ok(());

@@ -7,6 +7,7 @@ pub mod Heads
 pub mod Holes
 pub mod Means
 pub mod Waiting
+pub mod ByBase
 pub mod Standing
 pub mod Empty
 pub mod Growing

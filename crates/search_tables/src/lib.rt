@@ -1,6 +1,7 @@
 //! The tables of the search, by numbers.
 #![tactic(auto)]
 
+mod by_base;
 mod cells;
 mod clauses;
 mod command;
@@ -27,6 +28,7 @@ mod taking;
 mod terms;
 mod waiting;
 
+pub use by_base::ByBase;
 pub use clauses::{DEPTH, make_variables};
 pub use command::{Command, Delays, Over, Planned, Rest};
 pub use head::{HoleHead, head_of, number_of, numbered_head};

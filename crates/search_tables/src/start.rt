@@ -8,6 +8,7 @@ ghost use Rattle.search_tables.specs.Delays.{delay_by};
 ghost use Rattle.search_tables.specs.Empty.{AreEmpty};
 ghost use Rattle.search_tables.specs.Standing.{the_state, IsBasis, IsRight};
 
+use crate::by_base::ByBase;
 use crate::command::Command;
 use crate::holes::OpenHoles;
 use crate::plan::Plan;
@@ -57,7 +58,7 @@ fn empty_tables(alloc: Global, basis: Basis, names: Enumerator) -> Tables
         takers: Enumerator::new(alloc),
         stems: Vec::new(alloc),
         open_holes: OpenHoles::new(alloc),
-        holes: Enumerator::new(alloc),
+        holes: ByBase::new(alloc),
         roots: Types::new(alloc),
         done: 0,
         alloc,

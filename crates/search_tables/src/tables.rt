@@ -1,5 +1,6 @@
 //! The tables of the search.
 
+use crate::by_base::ByBase;
 use crate::command::Command;
 use crate::holes::OpenHoles;
 use crate::plan::Plan;
@@ -48,7 +49,7 @@ pub struct Tables {
     pub takers: Enumerator,
     pub stems: Vec<Stem>,
     pub open_holes: OpenHoles,
-    pub holes: Enumerator,
+    pub holes: ByBase,
     pub roots: Types,
     pub done: u32,
     pub alloc: Global,
