@@ -80,21 +80,9 @@ module _ (xs : List Sketch) (x : Sketch) (rs : List SimpleType) (roots : (a : Si
 
 -- THEIR FIRST HOLES
 
-same_either : (m n : ℕ) → nat_eq m n ≡ nat_eq n m
-same_either m n = go (nat_eq m n) refl
-  where
-    go : (b : Bool) → nat_eq m n ≡ b → b ≡ nat_eq n m
-    go true e = sym (eq-eqb n m (sym (eqb-true m n e)))
-    go false e = sym (ne_eqb n m (λ k. clash (eq-eqb m n (sym k)) e))
-      where
-        clash : nat_eq m n ≡ true → nat_eq m n ≡ false → ⊥
-        clash f g = cc
-
-pub listed-hole : (n m p : ℕ) (all new : List Listing) (o : Option Hole) → Some m ≡ option_map (λ (h : Hole). h.base) o → new ≡ with_listed (base m) p all → Each (λ i. i < p) (ids_of (base m) all) → ids_of (base n) new ≡ (if is_hole_of n o then ids_of (base n) all ++ p ∷ [] else ids_of (base n) all)
-listed-hole n m p all new None e is b = cc
-listed-hole n m p all new (Some h) e is b =
-    listed-last (base n) (base m) p all new is b
-    ∙ ap (λ (x : Bool). if x then ids_of (base n) all ++ p ∷ [] else ids_of (base n) all) (same_either n m ∙ ap (λ k. nat_eq k n) (same_Some m h.base e))
+pub listed-hole : (n m p : ℕ) (all new : List Listing) (o : Option Hole) → Some m ≡ option_map (λ (h : Hole). h.base) o → ((k : ℕ) → ids_of (base k) new ≡ (if nat_eq m k then ids_of (base k) all ++ p ∷ [] else ids_of (base k) all)) → ids_of (base n) new ≡ (if is_hole_of n o then ids_of (base n) all ++ p ∷ [] else ids_of (base n) all)
+listed-hole n m p all new None e is = cc
+listed-hole n m p all new (Some h) e is = is n ∙ ap (λ k. if nat_eq k n then ids_of (base n) all ++ p ∷ [] else ids_of (base n) all) (same_Some m h.base e)
 
 pub listed-none : (n p : ℕ) (all : List Listing) (o : Option Hole) → None ≡ option_map (λ (h : Hole). h.base) o → ids_of (base n) all ≡ (if is_hole_of n o then ids_of (base n) all ++ p ∷ [] else ids_of (base n) all)
 listed-none n p all None e = refl
@@ -126,9 +114,6 @@ module _ (t : Tables) (q : Queue Planned Delays) (r : IsRight t q) (stem : Stem)
         ap (λ ks. slice_get ks (length t.stems.items)) holes
         ∙ ap (slice_get (t.open_holes ++ holes_in [] newest.partial ∷ [])) (sym (holes-length t q r ∙ stems_length))
         ∙ slice_get-end t.open_holes (holes_in [] newest.partial)
-
-    pub places-before : (n : ℕ) → Each (λ i. i < length t.stems.items) (ids_of (base n) t.holes)
-    places-before n = subst (λ k. Each (λ i. i < k) (ids_of (base n) t.holes)) stems_length (parked-below t q r n)
 
     module _ (ss : Vec Stem Global) (stems : ss.items ≡ t.stems.items ++ stem ∷ []) (ls : List Listing) (rs : List SimpleType) where
       abbrev t' : Tables
@@ -225,11 +210,6 @@ module _ (t : Tables) (q : Queue Planned Delays) (r : IsRight t q) (stem : Stem)
         let n = place-within t1.open_holes holes in
         let e = ap (λ (u : Tables). length u.open_holes) two in
         omega (arith, n, e, place)
-
-    pub below-later : (n : ℕ) → Each (λ i. i < p) (ids_of (base n) t2.holes)
-    below-later n =
-        let B : Tables → Type 0 = λ u. Each (λ i. i < p) (ids_of (base n) u.holes) in
-        subst B (sym two) (subst (λ k. Each (λ i. i < k) (ids_of (base n) t.holes)) (sym place) (places-before t1.open_holes holes n))
 
     module _ (ss : Vec Stem Global) (stems : ss.items ≡ t3.stems.items ++ stem ∷ []) where
       stems_here : ss.items ≡ t.stems.items ++ stem ∷ []

@@ -16,10 +16,14 @@ pub struct ByBase {
 
 impl Model for ByBase {
     ghost use Rattle.std.specs.Prelude.{List, map};
+    ghost use Rattle.std.specs.Coded.{coded_list, coded×, coded_ℕ};
+    ghost use Rattle.stt_core.specs.Means.TypeCode.{type_code};
     ghost use Rattle.instantiate.specs.Listing.{Listing};
     ghost use Rattle.search_tables.specs.ByBase.{listings};
 
     ghost Value = { List Listing };
+
+    ghost coded = { coded_list (coded× type_code coded_ℕ) };
 
     ghost view = { λ b. listings 0 (map (λ v. v.items) b.lists.items) };
 }

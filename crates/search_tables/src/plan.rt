@@ -5,8 +5,8 @@ ghost use Rattle.search_run.specs.Each.{Each};
 ghost use Rattle.search_tables.specs.Delays.{delay_by};
 ghost use Rattle.search_tables.specs.Pending.{span, AreSpaced, EndsBelow, IsApart};
 
-use crate::command::{Command, Delays, Planned};
-use crate::waiting::{ByFirst, Waiting};
+use crate::command::{Delays, Planned};
+use crate::waiting::Waiting;
 use command_queue::{Agenda, Entry, Weigher};
 use mode_file::Mode;
 use std::alloc::{AllocError, Global};
@@ -14,11 +14,11 @@ use std::marker::Model;
 
 /// The commands that wait. Of a loop the first one waits in the agenda with what is left of the loop.
 #[derive(Drop)]
-pub struct Plan<W: Weigher<Command>> {
-    agenda: Agenda<Waiting, Delays, ByFirst<W>>,
+pub struct Plan<W: Weigher<Waiting>> {
+    agenda: Agenda<Waiting, Delays, W>,
 }
 
-impl<W: Weigher<Command>> Model for Plan<W> {
+impl<W: Weigher<Waiting>> Model for Plan<W> {
     ghost use Rattle.command_queue.specs.Queue.{Queue};
     ghost use Rattle.search_tables.specs.Pending.{AreSpaced};
     ghost use Rattle.search_tables.specs.declared.command.Planned.{Planned};
@@ -31,17 +31,17 @@ impl<W: Weigher<Command>> Model for Plan<W> {
     ghost invariant = { λ p. AreSpaced p.agenda.entries p.agenda.pushes };
 }
 
-impl<W: Weigher<Command>> Plan<W> {
+impl<W: Weigher<Waiting>> Plan<W> {
     /// A plan without commands, by a mode.
     pub fn new(alloc: Global, mode: Mode, weigher: W) -> Self
         requires callable { W.is_callable weigher }
-        requires answers { W.answers weigher (λ command now. now + delay_by mode command) }
+        requires answers { W.answers weigher (λ waiting now. now + delay_by mode waiting.first) }
         ensures empty { result.entries ≡ [] }
         ensures pushes { result.pushes ≡ 0 }
         ensures mode { result.rule.mode ≡ mode }
     {
         Plan {
-            agenda: Agenda::new(alloc, Delays { mode }, ByFirst { weigher }),
+            agenda: Agenda::new(alloc, Delays { mode }, weigher),
         }
     }
 

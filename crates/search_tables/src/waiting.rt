@@ -4,7 +4,6 @@ ghost use Rattle.search_tables.specs.Waiting.{literal_by, command_by, over_by, r
 
 use crate::command::{Command, Over, Planned, Rest};
 use crate::fitting::small;
-use command_queue::Weigher;
 use sat_base::{SatLit, Var};
 use std::alloc::AllocError;
 use std::marker::Model;
@@ -179,7 +178,7 @@ impl Waiting {
     }
 
     /// The command.
-    pub(crate) fn command(&self) -> Command
+    pub fn command(&self) -> Command
         ensures { result ≡ self.now.first }
     {
         let first = literal(self.first, self.first_positive);
@@ -217,25 +216,5 @@ impl Waiting {
             first: self.command(),
             rest: self.rest(),
         }
-    }
-}
-
-/// Weighs a command with the later ones of its loop by the command alone.
-#[derive(Drop)]
-pub(crate) struct ByFirst<W: Weigher<Command>> {
-    pub(crate) weigher: W,
-}
-
-impl<W: Weigher<Command>> Weigher<Waiting> for ByFirst<W> {
-    ghost use Rattle.std.specs.Prelude.{◌≡◌, ℕ};
-    ghost use Rattle.search_tables.specs.declared.command.Command.{Command};
-    ghost use Rattle.search_tables.specs.declared.command.Planned.{Planned};
-
-    ghost is_callable = { λ a. W.is_callable a.weigher };
-
-    ghost answers = { λ a due. (by : Command → ℕ → ℕ) × W.answers a.weigher by × ((p : Planned) (now : ℕ) → due p now ≡ by p.first now) };
-
-    fn weigh(&self, command: &Waiting, now: u64) -> u64 {
-        self.weigher.weigh(&command.command(), now)
     }
 }
