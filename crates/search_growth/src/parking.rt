@@ -57,7 +57,7 @@ fn push_root(tables: &mut Tables, stem: &Stem) -> Result<(), AllocError>
 
 /// Lists a partial term under the base type of its first hole, where it has one.
 fn list_hole(tables: &mut Tables, p: usize) -> Result<(), AllocError>
-    requires number { p < length tables.old.open_holes }
+    requires { p < length tables.old.open_holes }
     ensures listed { OnOk result ((n : ℕ) (holes : List Hole) → slice_get tables.old.open_holes p ≡ Some holes
         → ids_of (base n) tables.new.holes ≡ (if is_hole_of n (leftmost holes) then ids_of (base n) tables.old.holes ++ p ∷ [] else ids_of (base n) tables.old.holes)) }
     ensures tables { tables.new ≡ record tables.old { holes = tables.new.holes } }

@@ -17,8 +17,8 @@ push_root-requires-clause-roots g c =
     let R : Tables → Type 0 = λ u. (a : SimpleType) → list_any (λ p. same_type a p.type) (sketches_in u) ≡ list_any (same_type a) u.roots in
     subst R (sym c.push_holes.ensures.tables) c.requires.right.roots
 
-pub list_hole-requires-clause-number : goal.list_hole-requires-clause-number
-list_hole-requires-clause-number g c =
+pub list_hole-requires : goal.list_hole-requires
+list_hole-requires g c =
     let t = c.args.core.now.tables in
     let q = c.args.core.now.plan in
     let t1 = c.push_holes.new.tables in
