@@ -3,12 +3,10 @@ use Rattle.std.specs.Prelude.{◌≡◌, ◌<◌, ◌+◌, ◌||◌, nat_eq, ℕ
 use Rattle.std.specs.List.{list_any}
 use Rattle.std.proofs.Common.{Vec, Global, sym, ap, ap₂, subst, ◌∙◌, append-nil, arith, length-append}
 use Rattle.std.proofs.Math.Bool.{or-false}
-use Rattle.std.proofs.lemmas.Bool.{eq-eqb, ne_eqb, eqb-true}
 use Rattle.std.proofs.lemmas.Option.{same_Some}
 use Rattle.stt_core.specs.SimpleType.{SimpleType, base, formula, same_type}
 use Rattle.stt_core.proofs.ListLaws.{map-append, slice_get-end}
 use Rattle.command_queue.specs.Queue.{Queue}
-use Rattle.search_run.specs.Each.{Each}
 use Rattle.search_run.specs.Partial.{Hole, hole, first_hole}
 use Rattle.search_run.specs.Heads.{heads_for}
 use Rattle.search_run.specs.State.{Sketch, grow, pushed}
@@ -16,7 +14,7 @@ use Rattle.search_run.specs.Terms.{opened}
 use Rattle.search_run.specs.Witness.{is_hole_of, has_hole_of}
 use Rattle.search_run.specs.Means.Loops.{queue_of}
 use Rattle.term_bank.specs.Content.{content_scope}
-use Rattle.instantiate.specs.Listing.{Listing, ids_of, with_listed}
+use Rattle.instantiate.specs.Listing.{Listing, ids_of}
 use Rattle.search_tables.specs.declared.command.Planned.{Planned}
 use Rattle.search_tables.specs.declared.command.Delays.{Delays}
 use Rattle.search_tables.specs.declared.stem.Stem.{Stem}
@@ -28,10 +26,10 @@ use Rattle.search_tables.specs.Heads.{sketch_of, sketches_of, IsStem, AreStems}
 use Rattle.search_tables.specs.Holes.{holes_in, leftmost}
 use Rattle.search_tables.specs.Names.{sketch_at}
 use Rattle.search_tables.specs.Standing.{declared_scope, scope_by, setting_by, sketches_in, names_in, sources, parts, loops_in, the_state, places_where, IsBasis, IsRight}
-use Rattle.search_tables.proofs.HoleLaws.{leftmost-first, holes-length, parked-below}
+use Rattle.search_tables.proofs.HoleLaws.{leftmost-first, holes-length}
 use Rattle.search_tables.proofs.LoopStays.{loops-stay, entries-stay}
 use Rattle.search_tables.proofs.NamesLaws.{command-stays, numbers-stay}
-use Rattle.search_tables.proofs.NotingLaws.{places-last, listed-last}
+use Rattle.search_tables.proofs.NotingLaws.{places-last}
 use Rattle.search_tables.proofs.PlaceLaws.{at-end}
 use Rattle.search_tables.proofs.SketchLaws.{sketches-last, stems-last, stems-length}
 

@@ -1,6 +1,6 @@
 -- Numbers by base types.
 use Rattle.std.specs.Prelude.{◌≡◌, ◌<◌, ◌+◌, ℕ, zero, suc, Bool, true, false, nat_eq, List, [], ◌∷◌, ◌++◌, map, filter, length, get_or, set, refl, if◌then◌else◌}
-use Rattle.std.proofs.Common.{◌≤◌, sym, ap, ap₂, subst, ◌∙◌, eqb-true, arith}
+use Rattle.std.proofs.Common.{◌≤◌, sym, ap, ap₂, ◌∙◌, eqb-true, arith}
 use Rattle.std.proofs.lemmas.Bool.Decides.{nat_tests}
 use Rattle.std.proofs.lemmas.List.Elements.{filter-append}
 use Rattle.std.proofs.lemmas.List.{append-nil, length-map, get_or-map, map-set, get_or-set_other}

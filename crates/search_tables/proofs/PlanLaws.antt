@@ -1,5 +1,5 @@
 -- The commands that wait have their numbers one after the other, as they come and go.
-use Rattle.std.specs.Prelude.{◌≡◌, ◌≢◌, ◌<◌, ◌+◌, ℕ, suc, List, [], ◌∷◌, ◌++◌, refl}
+use Rattle.std.specs.Prelude.{◌≡◌, ◌≢◌, ◌<◌, ℕ, suc, List, refl}
 use Rattle.std.specs.List.{All}
 use Rattle.std.proofs.Common.{sym, subst, arith, inl, inr}
 use Rattle.command_queue.specs.declared.entry.Entry.{Entry}
