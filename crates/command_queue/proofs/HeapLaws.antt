@@ -1,8 +1,8 @@
--- What an agenda's heap keeps, as entries join and leave.
+-- What an agenda's entries keep, as entries join and leave.
 use Rattle.std.proofs.Common.{◌≡◌, ◌≢◌, ℕ, suc, ◌<◌, ◌≤◌, ◌+◌, ◌==◌, false, List, [], ◌∷◌, ◌++◌, length, sym, ap, subst, arith}
 use Rattle.std.specs.List.{All, AllByRecursion, IsDistinct}
 use Rattle.std.specs.List.Sorted.{IsPermutation}
-use Rattle.std.specs.BinaryHeap.{IsHeap, IsUpperBound, PopsGreatest, KeepsHeap, lt_by_cmp}
+use Rattle.std.specs.BinaryHeap.{IsUpperBound, lt_by_cmp}
 use Rattle.std.proofs.lemmas.Bool.Decides.{nat_tests}
 use Rattle.std.proofs.lemmas.List.Elements.{All-nil, All-cons, All-tail, All-weaker, All-from_recursion, recursion_from_All}
 use Rattle.std.proofs.lemmas.List.Sorted.{All-permutation, length_permutation}
@@ -23,28 +23,26 @@ unfolding IsDistinct
 none_own C = tt
 
 module _ {C : Type 0} where
-  pub HoldsPushed-none : (xs : List (Entry C)) → IsHeap heap_order xs → xs ≡ [] → HoldsPushed xs 0
-  HoldsPushed-none xs heap e = record {
-    ordered = heap;
+  pub HoldsPushed-none : (xs : List (Entry C)) → xs ≡ [] → HoldsPushed xs 0
+  HoldsPushed-none xs e = record {
     numbered = subst (All (λ (x : Entry C). x.number < 0)) (sym e) (All-nil _);
     distinct = subst HasOwnNumbers (sym e) (none_own C);
   }
 
   -- an entry with a number of its own joins, and numbers below an end are taken
-  HoldsPushed-join : (e : Entry C) (xs ys : List (Entry C)) (pushes end : ℕ) → HoldsPushed xs pushes → pushes ≤ end → e.number < end → HasOwnNumbers (e ∷ xs) → IsPermutation (e ∷ xs) ys → KeepsHeap heap_order xs ys → HoldsPushed ys end
-  HoldsPushed-join e xs ys pushes end held more taken own moved keeps =
+  HoldsPushed-join : (e : Entry C) (xs ys : List (Entry C)) (pushes end : ℕ) → HoldsPushed xs pushes → pushes ≤ end → e.number < end → HasOwnNumbers (e ∷ xs) → IsPermutation (e ∷ xs) ys → HoldsPushed ys end
+  HoldsPushed-join e xs ys pushes end held more taken own moved =
       let wider : All (λ (x : Entry C). x.number < end) xs = All-weaker (λ (x : Entry C). x.number < pushes) (λ (x : Entry C). x.number < end) (λ x h. omega (arith, h, more)) xs held.numbered in
       record {
-        ordered = keeps held.ordered;
         numbered = All-permutation (λ (x : Entry C). x.number < end) (e ∷ xs) ys moved (All-cons (λ (x : Entry C). x.number < end) e xs taken wider);
         distinct = HasOwnNumbers-IsPermutation (e ∷ xs) ys moved own;
       }
 
-  pub HoldsPushed-push : (e : Entry C) (xs ys : List (Entry C)) (pushes numbers : ℕ) → HoldsPushed xs pushes → e.number ≡ pushes → 0 < numbers → IsPermutation (e ∷ xs) ys → KeepsHeap heap_order xs ys → HoldsPushed ys (pushes + numbers)
-  HoldsPushed-push e xs ys pushes numbers held is some moved keeps =
+  pub HoldsPushed-push : (e : Entry C) (xs ys : List (Entry C)) (pushes numbers : ℕ) → HoldsPushed xs pushes → e.number ≡ pushes → 0 < numbers → IsPermutation (e ∷ xs) ys → HoldsPushed ys (pushes + numbers)
+  HoldsPushed-push e xs ys pushes numbers held is some moved =
       let below : All (λ (x : Entry C). x.number < e.number) xs = subst (λ (n : ℕ). All (λ (x : Entry C). x.number < n) xs) (sym is) held.numbered in
       let own : HasOwnNumbers (e ∷ xs) = HasOwnNumbers-push e xs (recursion_from_All (λ (x : Entry C). x.number < e.number) xs below) held.distinct in
-      HoldsPushed-join e xs ys pushes (pushes + numbers) held (omega arith) (omega (arith, is, some)) own moved keeps
+      HoldsPushed-join e xs ys pushes (pushes + numbers) held (omega arith) (omega (arith, is, some)) own moved
 
   -- no entry of a heap has this number, where none of the entries by their numbers has it
   own_number : (e : Entry C) (xs : List (Entry C)) → All (λ x. x.number ≢ e.number) (in_order xs) → AllByRecursion (λ (x : Entry C). (e.number == x.number) ≡ false) xs
@@ -52,9 +50,9 @@ module _ {C : Type 0} where
       all_weaker (λ x. x.number ≢ e.number) (λ (x : Entry C). (e.number == x.number) ≡ false) (λ x h. is_other e.number x.number h) xs
       (all-from_in_order (λ x. x.number ≢ e.number) xs (recursion_from_All (λ x. x.number ≢ e.number) (in_order xs) free))
 
-  pub HoldsPushed-push_at : (e : Entry C) (xs ys : List (Entry C)) (pushes : ℕ) → HoldsPushed xs pushes → e.number < pushes → All (λ x. x.number ≢ e.number) (in_order xs) → IsPermutation (e ∷ xs) ys → KeepsHeap heap_order xs ys → HoldsPushed ys pushes
-  HoldsPushed-push_at e xs ys pushes held taken free moved keeps =
-      HoldsPushed-join e xs ys pushes pushes held (omega arith) taken (IsDistinct-cons (λ a b. a.number == b.number) e xs (own_number e xs free) held.distinct) moved keeps
+  pub HoldsPushed-push_at : (e : Entry C) (xs ys : List (Entry C)) (pushes : ℕ) → HoldsPushed xs pushes → e.number < pushes → All (λ x. x.number ≢ e.number) (in_order xs) → IsPermutation (e ∷ xs) ys → HoldsPushed ys pushes
+  HoldsPushed-push_at e xs ys pushes held taken free moved =
+      HoldsPushed-join e xs ys pushes pushes held (omega arith) taken (IsDistinct-cons (λ a b. a.number == b.number) e xs (own_number e xs free) held.distinct) moved
 
   pub joins_at : (e : Entry C) (xs ys : List (Entry C)) (pushes : ℕ) → HoldsPushed xs pushes → All (λ x. x.number ≢ e.number) (in_order xs) → IsPermutation (e ∷ xs) ys → StandsByNumber e (in_order xs) (in_order ys)
   joins_at e xs ys pushes held free moved = in_order-push_at e xs ys moved held.distinct (own_number e xs free)
@@ -70,9 +68,8 @@ module _ {C : Type 0} where
   top_was_taken e xs ys pushes held moved =
       (recursion_from_All (λ (x : Entry C). x.number < pushes) (e ∷ ys) (All-permutation (λ (x : Entry C). x.number < pushes) xs (e ∷ ys) moved held.numbered)).0
 
-  pub HoldsPushed-pop : (e : Entry C) (xs ys : List (Entry C)) (pushes : ℕ) → HoldsPushed xs pushes → IsPermutation xs (e ∷ ys) → PopsGreatest heap_order xs e ys → HoldsPushed ys pushes
-  HoldsPushed-pop e xs ys pushes held moved pops = record {
-    ordered = (pops held.ordered).0;
+  pub HoldsPushed-pop : (e : Entry C) (xs ys : List (Entry C)) (pushes : ℕ) → HoldsPushed xs pushes → IsPermutation xs (e ∷ ys) → HoldsPushed ys pushes
+  HoldsPushed-pop e xs ys pushes held moved = record {
     numbered = All-tail (λ (x : Entry C). x.number < pushes) e ys (All-permutation (λ (x : Entry C). x.number < pushes) xs (e ∷ ys) moved held.numbered);
     distinct = IsDistinct-tail _ e ys (HasOwnNumbers-IsPermutation xs (e ∷ ys) moved held.distinct);
   }

@@ -1,3 +1,4 @@
+pub mod BagLaws
 pub mod OrderLaws
 pub mod HeapLaws
 pub mod AgendaLaws

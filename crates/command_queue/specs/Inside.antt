@@ -1,7 +1,7 @@
 -- The inside of an agenda, of which no contract of a public call speaks: what its fields keep, and the list that they stand for.
-use Rattle.std.specs.Prelude.{ℕ, ◌<◌, ◌==◌, List, [], ◌∷◌, nat_lt, if◌then◌else◌}
+use Rattle.std.specs.Prelude.{◌≡◌, ℕ, ◌<◌, ◌==◌, false, List, [], ◌∷◌, nat_lt, Option, Some, None, if◌then◌else◌}
 use Rattle.std.specs.List.{All, IsDistinct}
-use Rattle.std.specs.BinaryHeap.{IsHeap}
+use Rattle.std.specs.BinaryHeap.{IsUpperBound, lt_by_cmp}
 use Rattle.std.specs.Ordering.{on, flip_args, then_cmp, nat_cmp}
 use Rattle.std.specs.declared.cmp.Ordering.{Ordering}
 use Rattle.command_queue.specs.declared.entry.Entry.{Entry}
@@ -20,12 +20,32 @@ in_order (x ∷ xs) = placed x (in_order xs)
 abbrev pub heap_order : {C : Type 0} → Entry C → Entry C → Ordering
 heap_order = then_cmp (flip_args (on (λ e. e.due) nat_cmp)) (flip_args (on (λ e. e.number) nat_cmp))
 
+-- entries in no order, and for how many more there is room
+pub record Held (C : Type 0) : Type 0 where
+  pub items : List (Entry C)
+  pub spare : ℕ
+
+-- the entry in front, where there is one
+abbrev pub in_front : {C : Type 0} → Option (Entry C) → List (Entry C)
+in_front None = []
+in_front (Some e) = e ∷ []
+
+-- there is an entry in front, and it leaves before those of a heap
+abbrev pub LeavesFirst : {C : Type 0} → Option (Entry C) → List (Entry C) → Type 0
+LeavesFirst None xs = ⊥
+LeavesFirst (Some e) xs = IsUpperBound heap_order e xs
+
+-- where there is an entry in front, the top of a heap leaves before it
+abbrev pub LeavesLater : {C : Type 0} → Option (Entry C) → List (Entry C) → Type 0
+LeavesLater None xs = Unit {0}
+LeavesLater (Some e) [] = ⊥
+LeavesLater (Some e) (x ∷ xs) = lt_by_cmp heap_order x e ≡ false
+
 -- no two entries have one number
 abbrev pub HasOwnNumbers : {C : Type 0} → List (Entry C) → Type 0
 HasOwnNumbers entries = IsDistinct (λ a b. a.number == b.number) entries
 
--- the entries of a heap, of which each has a number of its own below the number of pushes
+-- of the entries each has a number of its own below the number of pushes
 pub record HoldsPushed {C : Type 0} (entries : List (Entry C)) (pushes : ℕ) : Type 0 where
-  pub ordered : IsHeap heap_order entries
   pub numbered : All (λ e. e.number < pushes) entries
   pub distinct : HasOwnNumbers entries

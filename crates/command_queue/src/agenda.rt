@@ -1,30 +1,25 @@
 //! The agenda.
-ghost use Rattle.std.specs.Prelude.{◌≡◌, ◌≢◌, ◌<◌, ◌≤◌, ◌+◌, ◌-◌, ◌^◌, [], ◌∷◌, length, IsTrue, ◌↔◌, IsOk, OnOk, OnErr, IsNone, IfNone, IfSome};
+ghost use Rattle.std.specs.Prelude.{◌≡◌, ◌≢◌, ◌<◌, ◌≤◌, ◌+◌, ◌^◌, [], length, IsTrue, ◌↔◌, IsOk, OnOk, OnErr, IsNone, IfNone, IfSome};
 ghost use Rattle.std.specs.List.{All};
-ghost use Rattle.std.specs.List.Sorted.{IsPermutation};
-ghost use Rattle.std.specs.BinaryHeap.{KeepsHeap, heap_items, heap_len, heap_capacity};
 ghost use Rattle.command_queue.specs.Queue.{AddsEntry, AddsEntryAt, TakesEntry, TakesFirst, GainsRoom, AreNumbered};
-ghost use Rattle.command_queue.specs.Inside.{heap_order};
 
+use crate::bag::Bag;
 use crate::entry::Entry;
 use crate::rule::{DueRule, Weigher};
 use std::alloc::{AllocError, Global};
-use std::collections::BinaryHeap;
 use std::marker::Model;
 
 /// Commands with their due numbers, in the order in which they leave. The weigher is kept beside the fact that it
 /// answers the rule's due number, for every command and every moment below 2^32.
 #[derive(Drop)]
 pub struct Agenda<C, R: DueRule<C>, W: Weigher<C>> {
-    heap: BinaryHeap<Entry<C>>,
+    bag: Bag<C>,
     pushes: u64,
     rule: R,
     weigher: W,
 }
 
 impl<C, R: DueRule<C>, W: Weigher<C>> Model for Agenda<C, R, W> {
-    ghost use Rattle.std.specs.Prelude.{◌-◌};
-    ghost use Rattle.std.specs.BinaryHeap.{heap_items, heap_len, heap_capacity};
     ghost use Rattle.command_queue.specs.Queue.{Queue};
     ghost use Rattle.command_queue.specs.Inside.{in_order, HoldsPushed};
 
@@ -32,12 +27,12 @@ impl<C, R: DueRule<C>, W: Weigher<C>> Model for Agenda<C, R, W> {
 
     ghost view = { λ a. record {
       rule = a.rule;
-      entries = in_order (heap_items a.heap);
+      entries = in_order a.bag.items;
       pushes = a.pushes;
-      spare = heap_capacity a.heap - heap_len a.heap;
+      spare = a.bag.spare;
     } };
 
-    ghost invariant = { λ a. HoldsPushed (heap_items a.heap) a.pushes
+    ghost invariant = { λ a. HoldsPushed a.bag.items a.pushes
         × W.is_callable a.weigher × W.answers a.weigher (R.due a.rule) };
 }
 
@@ -51,7 +46,7 @@ impl<C: Drop, R: DueRule<C>, W: Weigher<C>> Agenda<C, R, W> {
         ensures rule { result.rule ≡ rule }
     {
         Agenda {
-            heap: BinaryHeap::new(alloc),
+            bag: Bag::new(alloc),
             pushes: 0,
             rule,
             weigher,
@@ -81,14 +76,11 @@ impl<C: Drop, R: DueRule<C>, W: Weigher<C>> Agenda<C, R, W> {
     {
         let due = self.weigher.weigh(&command, now);
         let number = self.pushes;
-        add_entry(
-            &mut self.heap,
-            Entry {
-                due,
-                number,
-                command,
-            },
-        )?;
+        self.bag.add(Entry {
+            due,
+            number,
+            command,
+        })?;
         self.pushes += numbers;
         Ok(())
     }
@@ -102,7 +94,7 @@ impl<C: Drop, R: DueRule<C>, W: Weigher<C>> Agenda<C, R, W> {
         ensures err { OnErr result (self.new ≡ self.old) }
         ensures succeeds { 0 < self.old.spare → IsOk result }
     {
-        add_entry(&mut self.heap, entry)?;
+        self.bag.add_likely(entry)?;
         Ok(())
     }
 
@@ -122,7 +114,7 @@ impl<C: Drop, R: DueRule<C>, W: Weigher<C>> Agenda<C, R, W> {
         ensures none { IfNone result (self.new ≡ self.old) }
         ensures first { IfSome result (TakesEntry self.old self.new) }
     {
-        let entry = self.heap.pop()?;
+        let entry = self.bag.take_first()?;
         Some(entry)
     }
 
@@ -130,7 +122,7 @@ impl<C: Drop, R: DueRule<C>, W: Weigher<C>> Agenda<C, R, W> {
         ensures len { result ≡ length self.now.entries }
         ensures numbered { AreNumbered self.now.entries self.now.pushes }
     {
-        self.heap.as_slice().len()
+        self.bag.len()
     }
 
     pub fn is_empty(&self) -> bool
@@ -150,7 +142,7 @@ impl<C: Drop, R: DueRule<C>, W: Weigher<C>> Agenda<C, R, W> {
     pub fn spare(&self) -> usize
         ensures { result ≡ self.now.spare }
     {
-        spare_of(&self.heap)
+        self.bag.spare()
     }
 
     /// Makes room for so many entries, beside those that are there.
@@ -160,42 +152,6 @@ impl<C: Drop, R: DueRule<C>, W: Weigher<C>> Agenda<C, R, W> {
         ensures same { GainsRoom self.old self.new }
         ensures succeeds { n ≤ self.old.spare → IsOk result }
     {
-        make_room(&mut self.heap, n)
+        self.bag.make_room(n)
     }
-}
-
-fn spare_of<C>(heap: &BinaryHeap<Entry<C>>) -> usize
-    ensures { result ≡ heap_capacity heap.now - heap_len heap.now }
-{
-    heap.capacity().saturating_sub(heap.len())
-}
-
-// The room at least doubles where it grows, so that many pushes take few steps each.
-fn make_room<C>(heap: &mut BinaryHeap<Entry<C>>, n: usize) -> Result<(), AllocError>
-    ensures items { heap_items heap.new ≡ heap_items heap.old }
-    ensures len { heap_len heap.new ≡ heap_len heap.old }
-    ensures capacity { heap_capacity heap.old ≤ heap_capacity heap.new }
-    ensures ok { OnOk result (n ≤ heap_capacity heap.new - heap_len heap.new) }
-    ensures err { OnErr result (heap_capacity heap.new ≡ heap_capacity heap.old) }
-    ensures succeeds { n ≤ heap_capacity heap.old - heap_len heap.old → IsOk result }
-{
-    if n <= spare_of(heap) {
-        return Ok(());
-    }
-    heap.reserve_exact(n.max(heap.len()))
-}
-
-fn add_entry<C: Drop>(heap: &mut BinaryHeap<Entry<C>>, entry: Entry<C>) -> Result<(), AllocError>
-    ensures permutation { OnOk result (IsPermutation (entry ∷ heap_items heap.old) (heap_items heap.new)) }
-    ensures heap_order { OnOk result (KeepsHeap heap_order (heap_items heap.old) (heap_items heap.new)) }
-    ensures len { OnOk result (heap_len heap.new ≡ heap_len heap.old + 1) }
-    ensures capacity { heap_capacity heap.old ≤ heap_capacity heap.new }
-    ensures items { OnErr result (heap_items heap.new ≡ heap_items heap.old) }
-    ensures same_len { OnErr result (heap_len heap.new ≡ heap_len heap.old) }
-    ensures same_capacity { OnErr result (heap_capacity heap.new ≡ heap_capacity heap.old) }
-    ensures succeeds { 0 < heap_capacity heap.old - heap_len heap.old → IsOk result }
-{
-    make_room(heap, 1)?;
-    heap.push(entry).unwrap();
-    Ok(())
 }

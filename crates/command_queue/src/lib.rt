@@ -3,6 +3,7 @@
 #![tactic(auto)]
 
 mod agenda;
+mod bag;
 mod entry;
 mod rule;
 #[cfg(test)]

@@ -121,9 +121,11 @@ fn is_counted<W: Weigher<Job>>(alloc: Global, weigher: W) -> Result<bool, AllocE
         },
         0,
     )?;
-    let both = agenda.len() == 2 && agenda.pushes() == 2 && agenda.spare() + 2 == room;
+    let both = agenda.len() == 2
+        && agenda.pushes() == 2
+        && room.saturating_sub(agenda.spare()) == 2;
     let left = agenda.pop().is_some() && agenda.len() == 1 && agenda.pushes() == 2;
-    Ok(room >= 3 && both && left && agenda.spare() + 1 == room)
+    Ok(room >= 3 && both && left && room.saturating_sub(agenda.spare()) == 1)
 }
 
 // Whether a million commands leave by their delays and then by their numbers.

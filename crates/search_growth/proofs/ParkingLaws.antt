@@ -3,12 +3,10 @@ use Rattle.std.specs.Prelude.{◌≡◌, ◌<◌, ◌+◌, ◌||◌, nat_eq, ℕ
 use Rattle.std.specs.List.{list_any}
 use Rattle.std.proofs.Common.{Vec, Global, sym, ap, ap₂, subst, ◌∙◌, append-nil, arith, length-append}
 use Rattle.std.proofs.Math.Bool.{or-false}
-use Rattle.std.proofs.lemmas.Bool.{eq-eqb, ne_eqb, eqb-true}
 use Rattle.std.proofs.lemmas.Option.{same_Some}
 use Rattle.stt_core.specs.SimpleType.{SimpleType, base, formula, same_type}
 use Rattle.stt_core.proofs.ListLaws.{map-append, slice_get-end}
 use Rattle.command_queue.specs.Queue.{Queue}
-use Rattle.search_run.specs.Each.{Each}
 use Rattle.search_run.specs.Partial.{Hole, hole, first_hole}
 use Rattle.search_run.specs.Heads.{heads_for}
 use Rattle.search_run.specs.State.{Sketch, grow, pushed}
@@ -16,7 +14,7 @@ use Rattle.search_run.specs.Terms.{opened}
 use Rattle.search_run.specs.Witness.{is_hole_of, has_hole_of}
 use Rattle.search_run.specs.Means.Loops.{queue_of}
 use Rattle.term_bank.specs.Content.{content_scope}
-use Rattle.instantiate.specs.Listing.{Listing, ids_of, with_listed}
+use Rattle.instantiate.specs.Listing.{Listing, ids_of}
 use Rattle.search_tables.specs.declared.command.Planned.{Planned}
 use Rattle.search_tables.specs.declared.command.Delays.{Delays}
 use Rattle.search_tables.specs.declared.stem.Stem.{Stem}
@@ -28,10 +26,10 @@ use Rattle.search_tables.specs.Heads.{sketch_of, sketches_of, IsStem, AreStems}
 use Rattle.search_tables.specs.Holes.{holes_in, leftmost}
 use Rattle.search_tables.specs.Names.{sketch_at}
 use Rattle.search_tables.specs.Standing.{declared_scope, scope_by, setting_by, sketches_in, names_in, sources, parts, loops_in, the_state, places_where, IsBasis, IsRight}
-use Rattle.search_tables.proofs.HoleLaws.{leftmost-first, holes-length, parked-below}
+use Rattle.search_tables.proofs.HoleLaws.{leftmost-first, holes-length}
 use Rattle.search_tables.proofs.LoopStays.{loops-stay, entries-stay}
 use Rattle.search_tables.proofs.NamesLaws.{command-stays, numbers-stay}
-use Rattle.search_tables.proofs.NotingLaws.{places-last, listed-last}
+use Rattle.search_tables.proofs.NotingLaws.{places-last}
 use Rattle.search_tables.proofs.PlaceLaws.{at-end}
 use Rattle.search_tables.proofs.SketchLaws.{sketches-last, stems-last, stems-length}
 
@@ -80,21 +78,9 @@ module _ (xs : List Sketch) (x : Sketch) (rs : List SimpleType) (roots : (a : Si
 
 -- THEIR FIRST HOLES
 
-same_either : (m n : ℕ) → nat_eq m n ≡ nat_eq n m
-same_either m n = go (nat_eq m n) refl
-  where
-    go : (b : Bool) → nat_eq m n ≡ b → b ≡ nat_eq n m
-    go true e = sym (eq-eqb n m (sym (eqb-true m n e)))
-    go false e = sym (ne_eqb n m (λ k. clash (eq-eqb m n (sym k)) e))
-      where
-        clash : nat_eq m n ≡ true → nat_eq m n ≡ false → ⊥
-        clash f g = cc
-
-pub listed-hole : (n m p : ℕ) (all new : List Listing) (o : Option Hole) → Some m ≡ option_map (λ (h : Hole). h.base) o → new ≡ with_listed (base m) p all → Each (λ i. i < p) (ids_of (base m) all) → ids_of (base n) new ≡ (if is_hole_of n o then ids_of (base n) all ++ p ∷ [] else ids_of (base n) all)
-listed-hole n m p all new None e is b = cc
-listed-hole n m p all new (Some h) e is b =
-    listed-last (base n) (base m) p all new is b
-    ∙ ap (λ (x : Bool). if x then ids_of (base n) all ++ p ∷ [] else ids_of (base n) all) (same_either n m ∙ ap (λ k. nat_eq k n) (same_Some m h.base e))
+pub listed-hole : (n m p : ℕ) (all new : List Listing) (o : Option Hole) → Some m ≡ option_map (λ (h : Hole). h.base) o → ((k : ℕ) → ids_of (base k) new ≡ (if nat_eq m k then ids_of (base k) all ++ p ∷ [] else ids_of (base k) all)) → ids_of (base n) new ≡ (if is_hole_of n o then ids_of (base n) all ++ p ∷ [] else ids_of (base n) all)
+listed-hole n m p all new None e is = cc
+listed-hole n m p all new (Some h) e is = is n ∙ ap (λ k. if nat_eq k n then ids_of (base n) all ++ p ∷ [] else ids_of (base n) all) (same_Some m h.base e)
 
 pub listed-none : (n p : ℕ) (all : List Listing) (o : Option Hole) → None ≡ option_map (λ (h : Hole). h.base) o → ids_of (base n) all ≡ (if is_hole_of n o then ids_of (base n) all ++ p ∷ [] else ids_of (base n) all)
 listed-none n p all None e = refl
@@ -126,9 +112,6 @@ module _ (t : Tables) (q : Queue Planned Delays) (r : IsRight t q) (stem : Stem)
         ap (λ ks. slice_get ks (length t.stems.items)) holes
         ∙ ap (slice_get (t.open_holes ++ holes_in [] newest.partial ∷ [])) (sym (holes-length t q r ∙ stems_length))
         ∙ slice_get-end t.open_holes (holes_in [] newest.partial)
-
-    pub places-before : (n : ℕ) → Each (λ i. i < length t.stems.items) (ids_of (base n) t.holes)
-    places-before n = subst (λ k. Each (λ i. i < k) (ids_of (base n) t.holes)) stems_length (parked-below t q r n)
 
     module _ (ss : Vec Stem Global) (stems : ss.items ≡ t.stems.items ++ stem ∷ []) (ls : List Listing) (rs : List SimpleType) where
       abbrev t' : Tables
@@ -225,11 +208,6 @@ module _ (t : Tables) (q : Queue Planned Delays) (r : IsRight t q) (stem : Stem)
         let n = place-within t1.open_holes holes in
         let e = ap (λ (u : Tables). length u.open_holes) two in
         omega (arith, n, e, place)
-
-    pub below-later : (n : ℕ) → Each (λ i. i < p) (ids_of (base n) t2.holes)
-    below-later n =
-        let B : Tables → Type 0 = λ u. Each (λ i. i < p) (ids_of (base n) u.holes) in
-        subst B (sym two) (subst (λ k. Each (λ i. i < k) (ids_of (base n) t.holes)) (sym place) (places-before t1.open_holes holes n))
 
     module _ (ss : Vec Stem Global) (stems : ss.items ≡ t3.stems.items ++ stem ∷ []) where
       stems_here : ss.items ≡ t.stems.items ++ stem ∷ []

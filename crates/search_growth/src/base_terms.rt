@@ -13,7 +13,7 @@ ghost use Rattle.search_tables.specs.Names.{IsPlace};
 ghost use Rattle.search_tables.specs.Standing.{setting_by, the_state, IsBasis, IsRight};
 
 use command_queue::Weigher;
-use search_tables::{Basis, Command, Core};
+use search_tables::{Basis, Core, Waiting};
 use std::alloc::{AllocError, Global};
 use stt_core::{Head, Ty};
 use term_bank::{Id, Ids};
@@ -111,7 +111,7 @@ fn first_terms_of(alloc: Global, basis: &mut Basis, n: u32) -> Result<Ids, Alloc
 }
 
 /// Terms of a type are for instances, one after the other.
-fn add_terms<W: Weigher<Command>>(core: &mut Core<W>, ty: &Ty, ids: &Ids) -> Result<(), AllocError>
+fn add_terms<W: Weigher<Waiting>>(core: &mut Core<W>, ty: &Ty, ids: &Ids) -> Result<(), AllocError>
     requires right { IsRight core.old.tables core.old.plan }
     requires places { Each (IsPlace core.old.tables.basis.bank.terms) ids.now }
     ensures state { OnOk result (the_state core.new.tables core.new.plan ≡ with_terms (the_mode core.old.plan.rule.mode) (the_type ty.now) (map (term_at core.old.tables.basis.bank.terms) ids.now) (the_state core.old.tables core.old.plan)) }
@@ -126,7 +126,7 @@ fn add_terms<W: Weigher<Command>>(core: &mut Core<W>, ty: &Ty, ids: &Ids) -> Res
 }
 
 /// A base type gets its first terms, where it has none.
-pub(crate) fn prepare_base<W: Weigher<Command>>(
+pub(crate) fn prepare_base<W: Weigher<Waiting>>(
     core: &mut Core<W>,
     n: u32,
 ) -> Result<(), AllocError>

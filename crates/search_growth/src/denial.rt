@@ -17,7 +17,7 @@ use command_queue::Weigher;
 use instantiate::{Enumerator, target_of};
 use literal_map::{BankUse, Instance, RuleKind};
 use sat_base::SatLit;
-use search_tables::{Basis, Command, Core, quantified_type};
+use search_tables::{Basis, Core, Waiting, quantified_type};
 use std::alloc::{AllocError, Global};
 use stt_core::Ty;
 use tableau_rules::{RuleRefused, make};
@@ -85,7 +85,7 @@ fn list_taker(takers: &mut Enumerator, output: u32, before: u32, now: u32) -> Re
 }
 
 /// The instance of the rule for the literal. The predicate gets a witness, where it has none, and this one is listed.
-pub(crate) fn deny<W: Weigher<Command>>(
+pub(crate) fn deny<W: Weigher<Waiting>>(
     core: &mut Core<W>,
     output: u32,
     lit: SatLit,

@@ -25,7 +25,7 @@ use crate::stems::{partial_of, root_of};
 use crate::taking::{is_last, taken_type};
 use command_queue::Weigher;
 use instantiate::Grown;
-use search_tables::{Command, Core, HoleHead, Stem, Tables, head_of, numbered_head};
+use search_tables::{Core, HoleHead, Stem, Tables, Waiting, head_of, numbered_head};
 use std::alloc::AllocError;
 use term_bank::Id;
 
@@ -61,7 +61,7 @@ fn make_term(tables: &mut Tables, parent: usize, head: HoleHead) -> Result<Id, A
 }
 
 /// Fills the last hole of a parked partial term with a head: the term is for instances.
-fn fill_last<W: Weigher<Command>>(
+fn fill_last<W: Weigher<Waiting>>(
     core: &mut Core<W>,
     parent: usize,
     head: HoleHead,
@@ -84,7 +84,7 @@ fn fill_last<W: Weigher<Command>>(
 
 /// Fills the first hole of a parked partial term with a head, with holes for the head's arguments. Where no hole is left, the term is
 /// for instances, and else the partial term is opened.
-pub fn fill<W: Weigher<Command>>(
+pub fn fill<W: Weigher<Waiting>>(
     core: &mut Core<W>,
     parent: usize,
     head: usize,

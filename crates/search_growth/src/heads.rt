@@ -12,7 +12,7 @@ ghost use Rattle.search_tables.specs.Names.{sketch_at};
 ghost use Rattle.search_tables.specs.Standing.{scope_by, sketches_in, the_state, IsRight};
 
 use command_queue::Weigher;
-use search_tables::{Command, Core, Over, Tables, number_of};
+use search_tables::{Command, Core, Over, Tables, Waiting, number_of};
 use std::alloc::AllocError;
 use stt_core::Ty;
 
@@ -75,7 +75,7 @@ fn count_heads(tables: &Tables, p: usize) -> Result<usize, AllocError>
 }
 
 /// Pushes the commands that fill the first hole of a partial term with each head that fits.
-pub(crate) fn push_heads<W: Weigher<Command>>(
+pub(crate) fn push_heads<W: Weigher<Waiting>>(
     core: &mut Core<W>,
     p: usize,
 ) -> Result<(), AllocError>

@@ -12,7 +12,7 @@ use crate::base_terms::prepare_base;
 use crate::heads::push_heads;
 use crate::parking::park;
 use command_queue::Weigher;
-use search_tables::{Command, Core, Stem};
+use search_tables::{Core, Stem, Waiting};
 use std::alloc::AllocError;
 use stt_core::{Ty, Types};
 
@@ -29,7 +29,7 @@ fn has_type(types: &Types, ty: &Ty) -> bool
 }
 
 /// A partial term is opened: it is parked, and its first hole is to be filled with each head that fits.
-pub fn open_stem<W: Weigher<Command>>(core: &mut Core<W>, stem: Stem) -> Result<(), AllocError>
+pub fn open_stem<W: Weigher<Waiting>>(core: &mut Core<W>, stem: Stem) -> Result<(), AllocError>
     requires right { IsRight core.old.tables core.old.plan }
     requires stem { IsStem (scope_by core.old.tables.basis) (sketches_in core.old.tables) stem }
     ensures state { OnOk result (the_state core.new.tables core.new.plan ≡ opened (setting_by core.old.tables core.old.plan) (sketch_of (scope_by core.old.tables.basis) (sketches_in core.old.tables) stem) (the_state core.old.tables core.old.plan)) }
@@ -44,7 +44,7 @@ pub fn open_stem<W: Weigher<Command>>(core: &mut Core<W>, stem: Stem) -> Result<
 }
 
 /// For a function type one hole under its binders is opened, where none of its partial terms is parked.
-fn prepare_function<W: Weigher<Command>>(core: &mut Core<W>, ty: &Ty) -> Result<(), AllocError>
+fn prepare_function<W: Weigher<Waiting>>(core: &mut Core<W>, ty: &Ty) -> Result<(), AllocError>
     requires right { IsRight core.old.tables core.old.plan }
     requires function { (a : SimpleType) × ((b : SimpleType) × (the_type ty.now ≡ arrow a b)) }
     ensures state { OnOk result (the_state core.new.tables core.new.plan ≡ prepared (setting_by core.old.tables core.old.plan) (the_type ty.now) (the_state core.old.tables core.old.plan)) }
@@ -62,7 +62,7 @@ fn prepare_function<W: Weigher<Command>>(core: &mut Core<W>, ty: &Ty) -> Result<
 
 /// A type is prepared: a base type gets its first terms, where it has none, and for a function type one hole under its binders is
 /// opened, where none of its partial terms is parked.
-pub fn prepare<W: Weigher<Command>>(core: &mut Core<W>, ty: &Ty) -> Result<(), AllocError>
+pub fn prepare<W: Weigher<Waiting>>(core: &mut Core<W>, ty: &Ty) -> Result<(), AllocError>
     requires right { IsRight core.old.tables core.old.plan }
     requires declared { is_declared (length core.old.tables.basis.bank.bases) (the_type ty.now) ≡ true }
     ensures state { OnOk result (the_state core.new.tables core.new.plan ≡ prepared (setting_by core.old.tables core.old.plan) (the_type ty.now) (the_state core.old.tables core.old.plan)) }

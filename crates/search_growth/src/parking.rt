@@ -15,9 +15,8 @@ ghost use Rattle.search_tables.specs.Standing.{scope_by, sketches_in, the_state,
 
 use crate::taking::taken_type;
 use command_queue::Weigher;
-use search_tables::{Command, Core, Stem, Tables};
+use search_tables::{Core, Stem, Tables, Waiting};
 use std::alloc::AllocError;
-use stt_core::Ty;
 
 /// Appends the holes of a partial term.
 fn push_holes(tables: &mut Tables, stem: &Stem) -> Result<(), AllocError>
@@ -58,15 +57,14 @@ fn push_root(tables: &mut Tables, stem: &Stem) -> Result<(), AllocError>
 
 /// Lists a partial term under the base type of its first hole, where it has one.
 fn list_hole(tables: &mut Tables, p: usize) -> Result<(), AllocError>
-    requires number { p < length tables.old.open_holes }
-    requires below { (n : ℕ) → Each (λ i. i < p) (ids_of (base n) tables.old.holes) }
+    requires { p < length tables.old.open_holes }
     ensures listed { OnOk result ((n : ℕ) (holes : List Hole) → slice_get tables.old.open_holes p ≡ Some holes
         → ids_of (base n) tables.new.holes ≡ (if is_hole_of n (leftmost holes) then ids_of (base n) tables.old.holes ++ p ∷ [] else ids_of (base n) tables.old.holes)) }
     ensures tables { tables.new ≡ record tables.old { holes = tables.new.holes } }
 {
     match tables.open_holes.first_base(p) {
         Some(n) => {
-            tables.holes.add_term(&Ty::Base(n), p)?;
+            tables.holes.push(n, p)?;
             Ok(())
         }
         None => Ok(()),
@@ -74,7 +72,7 @@ fn list_hole(tables: &mut Tables, p: usize) -> Result<(), AllocError>
 }
 
 /// Parks a partial term: it is the last one.
-pub(crate) fn park<W: Weigher<Command>>(core: &mut Core<W>, stem: Stem) -> Result<(), AllocError>
+pub(crate) fn park<W: Weigher<Waiting>>(core: &mut Core<W>, stem: Stem) -> Result<(), AllocError>
     requires right { IsRight core.old.tables core.old.plan }
     requires stem { IsStem (scope_by core.old.tables.basis) (sketches_in core.old.tables) stem }
     ensures state { OnOk result (let s = the_state core.old.tables core.old.plan in the_state core.new.tables core.new.plan ≡ record s { parked = s.parked ++ sketch_of (scope_by core.old.tables.basis) (sketches_in core.old.tables) stem ∷ [] }) }

@@ -15,19 +15,18 @@ ghost use Rattle.search_tables.specs.Steps.{IsMade, StepsGrow};
 use crate::denial::{denied_target, deny};
 use command_queue::Weigher;
 use sat_base::SatLit;
-use search_tables::{Command, Core, HoleHead, Over, number_of};
+use search_tables::{Command, Core, HoleHead, Over, Waiting, number_of};
 use std::alloc::AllocError;
-use stt_core::Ty;
 
 /// Each parked partial term whose first hole has a base type is to be filled with a witness.
-fn grow_with<W: Weigher<Command>>(core: &mut Core<W>, output: u32, w: u32) -> Result<(), AllocError>
+fn grow_with<W: Weigher<Waiting>>(core: &mut Core<W>, output: u32, w: u32) -> Result<(), AllocError>
     requires right { IsRight core.old.tables core.old.plan }
     ensures state { OnOk result (the_state core.new.tables core.new.plan ≡ pushed (the_mode core.old.plan.rule.mode) (map (λ p. grow p (constant (witness w))) (filter (has_hole_of output) (sketches_in core.old.tables))) (the_state core.old.tables core.old.plan)) }
     ensures right { OnOk result (IsRight core.new.tables core.new.plan) }
     ensures tables { core.new.tables ≡ core.old.tables }
     ensures rule { OnOk result (core.new.plan.rule ≡ core.old.plan.rule) }
 {
-    let parked = core.tables.holes.terms_of(&Ty::Base(output));
+    let parked = core.tables.holes.under(output);
     let count = parked.len();
     if count == 0 {
         return Ok(());
@@ -39,7 +38,7 @@ fn grow_with<W: Weigher<Command>>(core: &mut Core<W>, output: u32, w: u32) -> Re
 
 /// The rule for a literal that says of a predicate that it doesn't hold everywhere. The predicate gets a witness, where it has none,
 /// and with this one the partial terms are to grow.
-pub fn add_witness<W: Weigher<Command>>(core: &mut Core<W>, lit: SatLit) -> Result<(), AllocError>
+pub fn add_witness<W: Weigher<Waiting>>(core: &mut Core<W>, lit: SatLit) -> Result<(), AllocError>
     requires right { IsRight core.old.tables core.old.plan }
     requires number { IsNumber core.old.tables.basis.lits lit }
     requires few { length core.old.tables.basis.witnesses < 2 ^ 32 - 1 }

@@ -10,13 +10,13 @@ use mode_file::Mode;
 use std::alloc::Global;
 use stt_core::Problem;
 use tableau_run::delay;
-use tableau_search::{Command, Search, Stepped};
+use tableau_search::{Command, Search, Stepped, Waiting};
 
 /// How many commands are told at most.
 const MAX_COMMANDS: u32 = 1_000;
 
 /// What there is after a command.
-fn state_line<W: Weigher<Command>>(alloc: Global, search: &Search<W>) -> anyhow::Result<String> {
+fn state_line<W: Weigher<Waiting>>(alloc: Global, search: &Search<W>) -> anyhow::Result<String> {
     let tables = &search.core.tables;
     Ok(format!(in alloc;
         "\n  {}: {} clauses, {} processed, {} pushed",
@@ -27,7 +27,7 @@ fn state_line<W: Weigher<Command>>(alloc: Global, search: &Search<W>) -> anyhow:
     )?)
 }
 
-fn trace_from<W: Weigher<Command>>(alloc: Global, search: &mut Search<W>) -> anyhow::Result<String>
+fn trace_from<W: Weigher<Waiting>>(alloc: Global, search: &mut Search<W>) -> anyhow::Result<String>
     requires { search.old.is_refused ≡ false → IsUnderWay search.old.core.tables search.old.core.plan search.old.mode }
 {
     let mut text = String::new(alloc);
@@ -47,7 +47,7 @@ fn trace_from<W: Weigher<Command>>(alloc: Global, search: &mut Search<W>) -> any
     Ok(text)
 }
 
-fn trace_by<W: Weigher<Command>>(
+fn trace_by<W: Weigher<Waiting>>(
     alloc: Global,
     problem: &Problem,
     mode: &Mode,
@@ -55,7 +55,7 @@ fn trace_by<W: Weigher<Command>>(
 ) -> anyhow::Result<String>
     requires typed { IsTyped problem.now }
     requires callable { W.is_callable weigher }
-    requires answers { W.answers weigher (λ command now. now + delay_by mode.now command) }
+    requires answers { W.answers weigher (λ waiting now. now + delay_by mode.now waiting.first) }
 {
     let mut search = Search::new(alloc, problem, mode, weigher)?;
     trace_from(alloc, &mut search)
@@ -66,7 +66,7 @@ pub fn trace(alloc: Global, problem: &Problem, mode: &Mode) -> anyhow::Result<St
     requires { IsTyped problem.now }
 {
     let by = *mode;
-    trace_by(alloc, problem, mode, |command: &Command, now: u64| {
-        now + delay(&by, command) as u64
+    trace_by(alloc, problem, mode, |waiting: &Waiting, now: u64| {
+        now + delay(&by, &waiting.command()) as u64
     })
 }

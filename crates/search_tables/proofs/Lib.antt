@@ -24,6 +24,7 @@ pub mod WholeLaws
 pub mod InstanceLaws
 pub mod PartnerLaws
 pub mod LoopLists
+pub mod ByBaseLaws
 pub mod ChainLaws
 pub mod HoleLaws
 pub mod FittingLaws

@@ -6,7 +6,8 @@ pub mod Fitting
 pub mod Heads
 pub mod Holes
 pub mod Means
-pub mod Rests
+pub mod Waiting
+pub mod ByBase
 pub mod Standing
 pub mod Empty
 pub mod Growing

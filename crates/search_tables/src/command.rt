@@ -1,6 +1,7 @@
 //! Commands by numbers, and when they are due.
 ghost use Rattle.std.specs.Prelude.{◌+◌};
 
+use crate::waiting::Waiting;
 use command_queue::DueRule;
 use mode_file::Mode;
 use sat_base::SatLit;
@@ -88,8 +89,8 @@ pub struct Delays {
     pub mode: Mode,
 }
 
-impl DueRule<Command> for Delays {
+impl DueRule<Waiting> for Delays {
     ghost use Rattle.search_tables.specs.Delays.{delay_by};
 
-    ghost due = { λ delays command now. now + delay_by delays.mode command };
+    ghost due = { λ delays planned now. now + delay_by delays.mode planned.first };
 }

@@ -19,7 +19,7 @@ use stt_core::Ty;
 use term_bank::Id;
 
 /// A number with 32 bits.
-fn small(n: usize) -> Result<u32, AllocError>
+pub(crate) fn small(n: usize) -> Result<u32, AllocError>
     ensures { IfOk result (λ k. k ≡ n) }
 {
     if n > u32::MAX as usize {

@@ -9,14 +9,14 @@ ghost use Rattle.search_tables.specs.Standing.{the_state, IsRight};
 ghost use Rattle.search_tables.specs.Steps.{StepsGrow};
 
 use crate::clauses::{add_clauses, all_shallow, joined};
-use crate::command::Command;
 use crate::tables::Core;
+use crate::waiting::Waiting;
 use command_queue::Weigher;
 use literal_map::Instance;
 use std::alloc::AllocError;
 use term_bank::equal_ids_for_equal_terms;
 
-impl<W: Weigher<Command>> Core<W> {
+impl<W: Weigher<Waiting>> Core<W> {
     /// Adds the clauses of an instance, and the literals of its alternatives are to be processed, unless one of them is too deep. Room
     /// for their entries is made before the clauses are added.
     pub fn add_instance(&mut self, instance: Instance) -> Result<(), AllocError>

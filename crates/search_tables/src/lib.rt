@@ -1,6 +1,7 @@
 //! The tables of the search, by numbers.
 #![tactic(auto)]
 
+mod by_base;
 mod cells;
 mod clauses;
 mod command;
@@ -13,7 +14,6 @@ mod partners;
 mod places;
 mod plan;
 mod pushing;
-mod rests;
 mod rule;
 mod selected;
 mod selecting;
@@ -26,7 +26,9 @@ mod stem;
 mod tables;
 mod taking;
 mod terms;
+mod waiting;
 
+pub use by_base::ByBase;
 pub use clauses::{DEPTH, make_variables};
 pub use command::{Command, Delays, Over, Planned, Rest};
 pub use head::{HoleHead, head_of, number_of, numbered_head};
@@ -37,3 +39,4 @@ pub use set::{IdSet, LitSet};
 pub use shape::{has_equal_sides, quantified_type};
 pub use stem::Stem;
 pub use tables::{Basis, Core, Tables};
+pub use waiting::Waiting;

@@ -8,9 +8,9 @@ ghost use Rattle.search_run.specs.Each.{Each};
 ghost use Rattle.search_tables.specs.Names.{IsNumber};
 ghost use Rattle.search_tables.specs.Standing.{can_pair, is_universal, the_state, IsBasis, IsRight};
 
-use crate::command::Command;
 use crate::shape::{has_equal_sides, quantified_type};
 use crate::tables::{Core, Tables};
+use crate::waiting::Waiting;
 use command_queue::Weigher;
 use sat_base::SatLit;
 use std::alloc::AllocError;
@@ -55,7 +55,7 @@ impl Tables {
     }
 }
 
-impl<W: Weigher<Command>> Core<W> {
+impl<W: Weigher<Waiting>> Core<W> {
     /// A literal is noted, as the last one.
     pub fn note_literal(&mut self, lit: SatLit) -> Result<(), AllocError>
         requires right { IsRight self.old.tables self.old.plan }

@@ -15,11 +15,12 @@ use crate::clauses::literal_of;
 use crate::command::{Command, Over};
 use crate::places::{id_of, listed_under};
 use crate::tables::Core;
+use crate::waiting::Waiting;
 use command_queue::Weigher;
 use sat_base::SatLit;
 use std::alloc::AllocError;
 
-impl<W: Weigher<Command>> Core<W> {
+impl<W: Weigher<Waiting>> Core<W> {
     /// A literal, whose atom is a compared constant with arguments, is to be mated with each noted one of the other sign that has this
     /// head.
     pub fn push_matings(&mut self, lit: SatLit) -> Result<(), AllocError>

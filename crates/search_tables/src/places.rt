@@ -162,7 +162,7 @@ impl Tables {
         requires number { p < length (sketches_in self.now) }
         ensures { result.now ≡ ids_of (base (base_of (first_hole [] (sketch_at (sketches_in self.now) p).partial))) self.now.holes }
     {
-        self.holes.terms_of(&Ty::Base(self.open_holes.base(p)))
+        self.holes.under(self.open_holes.base(p))
     }
 
     /// The command at a place of the loop over the partial terms that take a head.

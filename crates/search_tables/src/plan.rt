@@ -5,47 +5,43 @@ ghost use Rattle.search_run.specs.Each.{Each};
 ghost use Rattle.search_tables.specs.Delays.{delay_by};
 ghost use Rattle.search_tables.specs.Pending.{span, AreSpaced, EndsBelow, IsApart};
 
-use crate::command::{Command, Delays, Planned};
-use crate::rests::Rests;
+use crate::command::{Delays, Planned};
+use crate::waiting::Waiting;
 use command_queue::{Agenda, Entry, Weigher};
 use mode_file::Mode;
 use std::alloc::{AllocError, Global};
 use std::marker::Model;
 
-/// The commands that wait. Of a loop the first one waits in the agenda, and the later ones stand for themselves beside it. Contracts
-/// see a queue of first commands with the later ones.
+/// The commands that wait. Of a loop the first one waits in the agenda with what is left of the loop.
 #[derive(Drop)]
-pub struct Plan<W: Weigher<Command>> {
-    agenda: Agenda<Command, Delays, W>,
-    rests: Rests,
+pub struct Plan<W: Weigher<Waiting>> {
+    agenda: Agenda<Waiting, Delays, W>,
 }
 
-impl<W: Weigher<Command>> Model for Plan<W> {
+impl<W: Weigher<Waiting>> Model for Plan<W> {
     ghost use Rattle.command_queue.specs.Queue.{Queue};
-    ghost use Rattle.search_tables.specs.Rests.{planned, with_rests};
     ghost use Rattle.search_tables.specs.Pending.{AreSpaced};
     ghost use Rattle.search_tables.specs.declared.command.Planned.{Planned};
     ghost use Rattle.search_tables.specs.declared.command.Delays.{Delays};
 
     ghost Value = { Queue Planned Delays };
 
-    ghost view = { λ p. with_rests p.rests p.agenda };
+    ghost view = { λ p. p.agenda };
 
-    ghost invariant = { λ p. AreSpaced (planned p.rests p.agenda.entries) p.agenda.pushes };
+    ghost invariant = { λ p. AreSpaced p.agenda.entries p.agenda.pushes };
 }
 
-impl<W: Weigher<Command>> Plan<W> {
+impl<W: Weigher<Waiting>> Plan<W> {
     /// A plan without commands, by a mode.
     pub fn new(alloc: Global, mode: Mode, weigher: W) -> Self
         requires callable { W.is_callable weigher }
-        requires answers { W.answers weigher (λ command now. now + delay_by mode command) }
+        requires answers { W.answers weigher (λ waiting now. now + delay_by mode waiting.first) }
         ensures empty { result.entries ≡ [] }
         ensures pushes { result.pushes ≡ 0 }
         ensures mode { result.rule.mode ≡ mode }
     {
         Plan {
             agenda: Agenda::new(alloc, Delays { mode }, weigher),
-            rests: Rests::new(alloc),
         }
     }
 
@@ -54,10 +50,9 @@ impl<W: Weigher<Command>> Plan<W> {
         requires moment { now < 2 ^ 32 }
         ensures ok { OnOk result (AddsEntry self.old self.new (suc (span planned)) (now + delay_by self.old.rule.mode planned.first) planned) }
     {
-        let number = self.agenda.pushes();
-        let numbers = one_more(planned.len(), number)?;
-        self.rests.set(number, planned.rest)?;
-        self.agenda.push_first(planned.first, now, numbers)?;
+        let numbers = one_more(planned.len(), self.agenda.pushes())?;
+        let waiting = Waiting::of(planned)?;
+        self.agenda.push_first(waiting, now, numbers)?;
         Ok(())
     }
 
@@ -72,10 +67,7 @@ impl<W: Weigher<Command>> Plan<W> {
         Some(Entry {
             due: entry.due,
             number: entry.number,
-            command: Planned {
-                first: entry.command,
-                rest: self.rests.take(entry.number),
-            },
+            command: entry.command.planned(),
         })
     }
 
@@ -85,11 +77,11 @@ impl<W: Weigher<Command>> Plan<W> {
         requires apart { Each (IsApart entry) self.old.entries }
         ensures { OnOk result (AddsEntryAt self.old self.new entry) }
     {
-        self.rests.set(entry.number, entry.command.rest)?;
+        let waiting = Waiting::of(entry.command)?;
         self.agenda.push_at(Entry {
             due: entry.due,
             number: entry.number,
-            command: entry.command.first,
+            command: waiting,
         })?;
         Ok(())
     }

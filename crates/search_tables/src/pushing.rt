@@ -12,12 +12,13 @@ ghost use Rattle.search_tables.specs.Standing.{declared_scope, names_in, sources
 use crate::clauses::literal_of;
 use crate::command::{Command, Over, Planned, Rest};
 use crate::tables::Core;
+use crate::waiting::Waiting;
 use command_queue::Weigher;
 use sat_base::SatLit;
 use std::alloc::AllocError;
 use term_bank::equal_ids_for_equal_terms;
 
-impl<W: Weigher<Command>> Core<W> {
+impl<W: Weigher<Waiting>> Core<W> {
     /// Pushes the commands of a loop.
     pub fn push_loop(&mut self, planned: Planned) -> Result<(), AllocError>
         requires right { IsRight self.old.tables self.old.plan }

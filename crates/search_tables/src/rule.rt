@@ -13,8 +13,8 @@ ghost use Rattle.search_tables.specs.Names.{IsNumber, IsPlace};
 ghost use Rattle.search_tables.specs.Standing.{rows_in, the_state, IsBasis, IsRight};
 ghost use Rattle.search_tables.specs.Steps.{IsMade, StepsGrow};
 
-use crate::command::Command;
 use crate::tables::{Basis, Core};
+use crate::waiting::Waiting;
 use command_queue::Weigher;
 use literal_map::{BankUse, Instance};
 use std::alloc::{AllocError, Global};
@@ -59,7 +59,7 @@ impl Basis {
     }
 }
 
-impl<W: Weigher<Command>> Core<W> {
+impl<W: Weigher<Waiting>> Core<W> {
     /// Adds the instance of a rule that makes no witness.
     pub fn apply_rule(&mut self, by: BankUse) -> Result<(), AllocError>
         requires right { IsRight self.old.tables self.old.plan }

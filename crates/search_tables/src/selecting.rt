@@ -9,16 +9,16 @@ ghost use Rattle.search_tables.specs.Selecting.{head_selection, AreTaken};
 ghost use Rattle.search_tables.specs.Standing.{the_state, IsRight};
 
 use crate::clauses::DEPTH;
-use crate::command::Command;
 use crate::selected::{Selected, count_parts, part_of, selection_of};
 use crate::set::IdSet;
 use crate::tables::Core;
+use crate::waiting::Waiting;
 use command_queue::Weigher;
 use sat_base::SatLit;
 use std::alloc::AllocError;
 use term_bank::Id;
 
-impl<W: Weigher<Command>> Core<W> {
+impl<W: Weigher<Waiting>> Core<W> {
     /// The predicate by which a term chooses or describes at its head is chosen by or described, unless it was before.
     fn select_head(&mut self, id: Id) -> Result<(), AllocError>
         requires right { IsRight self.old.tables self.old.plan }

@@ -9,11 +9,12 @@ ghost use Rattle.search_tables.specs.Standing.{the_state, IsRight};
 
 use crate::command::Command;
 use crate::tables::Core;
+use crate::waiting::Waiting;
 use command_queue::Weigher;
 use std::alloc::AllocError;
 use term_bank::{Id, equal_ids_for_equal_terms};
 
-impl<W: Weigher<Command>> Core<W> {
+impl<W: Weigher<Waiting>> Core<W> {
     /// A closed predicate is chosen by, unless it was before.
     pub fn choose(&mut self, predicate: Id) -> Result<(), AllocError>
         requires right { IsRight self.old.tables self.old.plan }

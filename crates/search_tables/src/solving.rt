@@ -7,15 +7,15 @@ ghost use Rattle.sat_core.specs.Solver.{learned, AreAmong, Grows};
 ghost use Rattle.search_run.specs.Unsatisfiable.{Unsatisfiable};
 ghost use Rattle.search_tables.specs.Standing.{the_state, IsRight};
 
-use crate::command::Command;
 use crate::tables::Core;
+use crate::waiting::Waiting;
 use command_queue::Weigher;
 use sat_base::valuation_law;
 use sat_core::Answer;
 use std::alloc::AllocError;
 use term_bank::equal_ids_for_equal_terms;
 
-impl<W: Weigher<Command>> Core<W> {
+impl<W: Weigher<Waiting>> Core<W> {
     /// Whether the clauses are satisfiable, unless the conflicts of the mode, which are given, are spent first.
     pub fn solve(&mut self, conflicts: u64) -> Result<Answer, AllocError>
         requires right { IsRight self.old.tables self.old.plan }

@@ -8,11 +8,12 @@ ghost use Rattle.search_tables.specs.Delays.{delay_by};
 ghost use Rattle.search_tables.specs.Empty.{AreEmpty};
 ghost use Rattle.search_tables.specs.Standing.{the_state, IsBasis, IsRight};
 
-use crate::command::Command;
+use crate::by_base::ByBase;
 use crate::holes::OpenHoles;
 use crate::plan::Plan;
 use crate::set::{IdSet, LitSet};
 use crate::tables::{Basis, Core, Tables};
+use crate::waiting::Waiting;
 use command_queue::Weigher;
 use instantiate::{Enumerator, target_of};
 use mating_rules::Index;
@@ -57,20 +58,20 @@ fn empty_tables(alloc: Global, basis: Basis, names: Enumerator) -> Tables
         takers: Enumerator::new(alloc),
         stems: Vec::new(alloc),
         open_holes: OpenHoles::new(alloc),
-        holes: Enumerator::new(alloc),
+        holes: ByBase::new(alloc),
         roots: Types::new(alloc),
         done: 0,
         alloc,
     }
 }
 
-impl<W: Weigher<Command>> Core<W> {
+impl<W: Weigher<Waiting>> Core<W> {
     /// Tables and a plan, in which nothing was done yet.
     pub fn new(alloc: Global, basis: Basis, mode: Mode, weigher: W) -> Result<Self, AllocError>
         requires basis { IsBasis basis }
         requires unwitnessed { basis.witnesses ≡ [] }
         requires callable { W.is_callable weigher }
-        requires answers { W.answers weigher (λ command now. now + delay_by mode command) }
+        requires answers { W.answers weigher (λ waiting now. now + delay_by mode waiting.first) }
         ensures state { IfOk result (λ core. the_state core.tables core.plan ≡ nothing_yet) }
         ensures right { IfOk result (λ core. IsRight core.tables core.plan) }
         ensures basis { IfOk result (λ core. core.tables.basis ≡ basis) }

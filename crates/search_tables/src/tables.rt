@@ -1,10 +1,11 @@
 //! The tables of the search.
 
-use crate::command::Command;
+use crate::by_base::ByBase;
 use crate::holes::OpenHoles;
 use crate::plan::Plan;
 use crate::set::{IdSet, LitSet};
 use crate::stem::Stem;
+use crate::waiting::Waiting;
 use bank_normal::Normaliser;
 use command_queue::Weigher;
 use instantiate::Enumerator;
@@ -48,7 +49,7 @@ pub struct Tables {
     pub takers: Enumerator,
     pub stems: Vec<Stem>,
     pub open_holes: OpenHoles,
-    pub holes: Enumerator,
+    pub holes: ByBase,
     pub roots: Types,
     pub done: u32,
     pub alloc: Global,
@@ -56,7 +57,7 @@ pub struct Tables {
 
 /// The tables with the commands that wait.
 #[derive(Drop)]
-pub struct Core<W: Weigher<Command>> {
+pub struct Core<W: Weigher<Waiting>> {
     pub tables: Tables,
     pub plan: Plan<W>,
 }

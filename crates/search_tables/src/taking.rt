@@ -5,6 +5,7 @@ ghost use Rattle.search_tables.specs.Taking.{TakesNext, rest_behind};
 
 use crate::command::{Command, Planned, Rest};
 use crate::tables::Core;
+use crate::waiting::Waiting;
 use command_queue::{Entry, Weigher};
 use std::alloc::AllocError;
 
@@ -20,7 +21,7 @@ fn behind(rest: Rest) -> Rest
     }
 }
 
-impl<W: Weigher<Command>> Core<W> {
+impl<W: Weigher<Waiting>> Core<W> {
     /// Takes the next command, where one waits. The next one of its loop waits in its place.
     pub fn take_next(&mut self) -> Result<Command, AllocError>
         requires right { IsRight self.old.tables self.old.plan }

@@ -11,12 +11,13 @@ use crate::clauses::literal_of;
 use crate::command::{Command, Over};
 use crate::places::id_of;
 use crate::tables::Core;
+use crate::waiting::Waiting;
 use command_queue::Weigher;
 use std::alloc::AllocError;
 use stt_core::Ty;
 use term_bank::{Id, equal_ids_for_equal_terms};
 
-impl<W: Weigher<Command>> Core<W> {
+impl<W: Weigher<Waiting>> Core<W> {
     /// A term of a type is for instances: where it is new, each universal literal over the type is to be instantiated with it.
     pub fn add_term(&mut self, ty: &Ty, id: Id) -> Result<(), AllocError>
         requires right { IsRight self.old.tables self.old.plan }

@@ -20,7 +20,7 @@ use std::alloc::{AllocError, Global};
 use stt_core::Problem;
 use stt_tableau::Refutation;
 use tableau_rebuild::rebuild;
-use tableau_search::{Command, Search, Stepped};
+use tableau_search::{Command, Search, Stepped, Waiting};
 
 /// The refutation from the log of a run whose clauses are unsatisfiable. There is no memory for one that is too large for a text.
 fn refutation_of(alloc: Global, tables: &Tables) -> Result<Refutation, AllocError>
@@ -46,7 +46,7 @@ fn refutation_of(alloc: Global, tables: &Tables) -> Result<Refutation, AllocErro
 }
 
 /// Takes a step. The answer is how the run ends, where it ends there.
-fn next<W: Weigher<Command>>(
+fn next<W: Weigher<Waiting>>(
     alloc: Global,
     search: &mut Search<W>,
 ) -> Result<Option<Ended>, AllocError>
@@ -84,7 +84,7 @@ fn next<W: Weigher<Command>>(
 }
 
 /// Runs a search from its start to its end.
-fn run_on<W: Weigher<Command>>(
+fn run_on<W: Weigher<Waiting>>(
     alloc: Global,
     search: &mut Search<W>,
     limit: u32,
@@ -104,7 +104,7 @@ fn run_on<W: Weigher<Command>>(
 }
 
 /// Runs the search over a problem by a mode, with what computes when commands are due.
-fn run_by<W: Weigher<Command>>(
+fn run_by<W: Weigher<Waiting>>(
     alloc: Global,
     problem: &Problem,
     mode: &Mode,
@@ -112,7 +112,7 @@ fn run_by<W: Weigher<Command>>(
 ) -> Result<Ended, AllocError>
     requires typed { IsTyped problem.now }
     requires callable { W.is_callable weigher }
-    requires answers { W.answers weigher (λ command now. now + delay_by mode.now command) }
+    requires answers { W.answers weigher (λ waiting now. now + delay_by mode.now waiting.first) }
     ensures { IfOk result (EndsAs problem.now mode.now) }
 {
     let mut search = Search::new(alloc, problem, mode, weigher)?;
@@ -125,7 +125,7 @@ pub fn run(alloc: Global, problem: &Problem, mode: &Mode) -> Result<Ended, Alloc
     ensures { IfOk result (EndsAs problem.now mode.now) }
 {
     let by = *mode;
-    run_by(alloc, problem, mode, |command: &Command, now: u64| {
-        now + delay(&by, command) as u64
+    run_by(alloc, problem, mode, |waiting: &Waiting, now: u64| {
+        now + delay(&by, &waiting.command()) as u64
     })
 }

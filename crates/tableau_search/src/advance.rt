@@ -10,11 +10,11 @@ use crate::stepped::Stepped;
 use command_queue::Weigher;
 use mode_file::Mode;
 use sat_core::Answer;
-use search_tables::{Command, Core};
+use search_tables::{Core, Waiting};
 use std::alloc::AllocError;
 
 /// The next command is carried out.
-fn go<W: Weigher<Command>>(core: &mut Core<W>, limit: u32) -> Result<(), AllocError>
+fn go<W: Weigher<Waiting>>(core: &mut Core<W>, limit: u32) -> Result<(), AllocError>
     requires running { IsRunning core.old.tables core.old.plan }
     requires satisfiable { Unsatisfiable (the_state core.old.tables core.old.plan).clauses → ⊥ }
     requires some { core.old.plan.entries ≢ [] }
@@ -33,7 +33,7 @@ fn go<W: Weigher<Command>>(core: &mut Core<W>, limit: u32) -> Result<(), AllocEr
 }
 
 /// Asks the solver, and then carries out the next command, where one is left and the limit isn't reached.
-pub(crate) fn advance<W: Weigher<Command>>(
+pub(crate) fn advance<W: Weigher<Waiting>>(
     core: &mut Core<W>,
     mode: &Mode,
 ) -> Result<Stepped, AllocError>

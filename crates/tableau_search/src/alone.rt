@@ -14,11 +14,11 @@ ghost use Rattle.tableau_search.specs.Working.{alone};
 use command_queue::Weigher;
 use literal_map::{BankUse, RuleKind};
 use sat_base::SatLit;
-use search_tables::{Command, Core};
+use search_tables::{Core, Waiting};
 use std::alloc::AllocError;
 
 /// Adds the instance of a rule that takes one literal and makes no witness.
-pub(crate) fn apply_alone<W: Weigher<Command>>(
+pub(crate) fn apply_alone<W: Weigher<Waiting>>(
     core: &mut Core<W>,
     rule: RuleKind,
     lit: SatLit,

@@ -11,11 +11,11 @@ use crate::instances::{choose, confront, describe, instantiate, mate};
 use crate::process::process;
 use command_queue::Weigher;
 use search_growth::fill;
-use search_tables::{Command, Core};
+use search_tables::{Command, Core, Waiting};
 use std::alloc::AllocError;
 
 /// Carries out a command. Fewer witnesses were made than commands were taken, of which this one is the last.
-pub(crate) fn carry_out<W: Weigher<Command>>(
+pub(crate) fn carry_out<W: Weigher<Waiting>>(
     core: &mut Core<W>,
     command: Command,
 ) -> Result<(), AllocError>

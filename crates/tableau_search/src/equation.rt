@@ -22,13 +22,13 @@ use crate::spine::share_spine;
 use command_queue::Weigher;
 use literal_map::RuleKind;
 use sat_base::SatLit;
-use search_tables::{Basis, Command, Core, part_of};
+use search_tables::{Basis, Core, Waiting, part_of};
 use std::alloc::AllocError;
 use stt_core::Ty;
 use term_bank::Id;
 
 /// An equation between formulas, or the negation of one, is split by the truth of its sides.
-pub(crate) fn work_on_formulas<W: Weigher<Command>>(
+pub(crate) fn work_on_formulas<W: Weigher<Waiting>>(
     core: &mut Core<W>,
     lit: SatLit,
 ) -> Result<(), AllocError>
@@ -52,7 +52,7 @@ pub(crate) fn work_on_formulas<W: Weigher<Command>>(
 }
 
 /// An equation between functions, or the negation of one, says of these that they agree everywhere, or not.
-pub(crate) fn work_on_functions<W: Weigher<Command>>(
+pub(crate) fn work_on_functions<W: Weigher<Waiting>>(
     core: &mut Core<W>,
     lit: SatLit,
 ) -> Result<(), AllocError>
@@ -99,7 +99,7 @@ fn sides_of(basis: &Basis, lit: SatLit) -> Sides
 }
 
 /// Two terms of a base type are for instances.
-fn add_terms<W: Weigher<Command>>(
+fn add_terms<W: Weigher<Waiting>>(
     core: &mut Core<W>,
     n: u32,
     sides: Sides,
@@ -119,7 +119,7 @@ fn add_terms<W: Weigher<Command>>(
 }
 
 /// The negated equation between two terms with the same compared head is decomposed.
-fn decompose<W: Weigher<Command>>(
+fn decompose<W: Weigher<Waiting>>(
     core: &mut Core<W>,
     lit: SatLit,
     sides: Sides,
@@ -147,7 +147,7 @@ fn decompose<W: Weigher<Command>>(
 
 /// The negation of an equation on a base type: its sides are terms for instances, it is decomposed, and it is to be confronted with
 /// equations.
-fn work_on_difference<W: Weigher<Command>>(
+fn work_on_difference<W: Weigher<Waiting>>(
     core: &mut Core<W>,
     lit: SatLit,
     n: u32,
@@ -172,7 +172,7 @@ fn work_on_difference<W: Weigher<Command>>(
 }
 
 /// An equation on a base type other than that of formulas is to be confronted with negations of such, and the other way round.
-pub(crate) fn work_on_terms<W: Weigher<Command>>(
+pub(crate) fn work_on_terms<W: Weigher<Waiting>>(
     core: &mut Core<W>,
     lit: SatLit,
     n: u32,

@@ -17,12 +17,12 @@ ghost use Rattle.tableau_search.specs.Developing.{Develops};
 use command_queue::Weigher;
 use literal_map::{BankUse, RuleKind};
 use sat_base::SatLit;
-use search_tables::{Command, Core, DEPTH};
+use search_tables::{Core, DEPTH, Waiting};
 use std::alloc::AllocError;
 use term_bank::Id;
 
 /// Two literals with the same head are mated: their arguments differ somewhere.
-pub(crate) fn mate<W: Weigher<Command>>(
+pub(crate) fn mate<W: Weigher<Waiting>>(
     core: &mut Core<W>,
     first: SatLit,
     second: SatLit,
@@ -49,7 +49,7 @@ pub(crate) fn mate<W: Weigher<Command>>(
 }
 
 /// An equation is confronted with the negation of one.
-pub(crate) fn confront<W: Weigher<Command>>(
+pub(crate) fn confront<W: Weigher<Waiting>>(
     core: &mut Core<W>,
     first: SatLit,
     second: SatLit,
@@ -75,7 +75,7 @@ pub(crate) fn confront<W: Weigher<Command>>(
 }
 
 /// A universal literal is instantiated with a term, unless the term is too deep.
-pub(crate) fn instantiate<W: Weigher<Command>>(
+pub(crate) fn instantiate<W: Weigher<Waiting>>(
     core: &mut Core<W>,
     lit: SatLit,
     id: Id,
@@ -104,7 +104,7 @@ pub(crate) fn instantiate<W: Weigher<Command>>(
 }
 
 /// A value is chosen by a predicate.
-pub(crate) fn choose<W: Weigher<Command>>(core: &mut Core<W>, id: Id) -> Result<(), AllocError>
+pub(crate) fn choose<W: Weigher<Waiting>>(core: &mut Core<W>, id: Id) -> Result<(), AllocError>
     requires right { IsRight core.old.tables core.old.plan }
     requires place { IsPlace core.old.tables.basis.bank.terms id }
     requires few { length core.old.tables.basis.witnesses < 2 ^ 32 - 1 }
@@ -125,7 +125,7 @@ pub(crate) fn choose<W: Weigher<Command>>(core: &mut Core<W>, id: Id) -> Result<
 }
 
 /// A value is described by a predicate.
-pub(crate) fn describe<W: Weigher<Command>>(core: &mut Core<W>, id: Id) -> Result<(), AllocError>
+pub(crate) fn describe<W: Weigher<Waiting>>(core: &mut Core<W>, id: Id) -> Result<(), AllocError>
     requires right { IsRight core.old.tables core.old.plan }
     requires place { IsPlace core.old.tables.basis.bank.terms id }
     requires few { length core.old.tables.basis.witnesses < 2 ^ 32 - 1 }

@@ -18,5 +18,5 @@ mod stepped;
 mod work;
 
 pub use search::Search;
-pub use search_tables::Command;
+pub use search_tables::{Command, Waiting};
 pub use stepped::Stepped;

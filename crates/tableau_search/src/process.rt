@@ -9,11 +9,11 @@ ghost use Rattle.tableau_search.specs.Developing.{Develops};
 use crate::work::work;
 use command_queue::Weigher;
 use sat_base::SatLit;
-use search_tables::{Command, Core};
+use search_tables::{Core, Waiting};
 use std::alloc::AllocError;
 
 /// A literal is processed: what its shape asks for is done, it is noted, and the choices and the descriptions in its atom are taken up.
-pub(crate) fn process<W: Weigher<Command>>(
+pub(crate) fn process<W: Weigher<Waiting>>(
     core: &mut Core<W>,
     lit: SatLit,
 ) -> Result<(), AllocError>

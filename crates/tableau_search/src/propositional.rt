@@ -12,11 +12,11 @@ use crate::alone::apply_alone;
 use command_queue::Weigher;
 use literal_map::RuleKind;
 use sat_base::SatLit;
-use search_tables::{Command, Core};
+use search_tables::{Core, Waiting};
 use std::alloc::AllocError;
 
 /// Falsity is refuted, and for its negation there is nothing to do.
-pub(crate) fn work_on_falsity<W: Weigher<Command>>(
+pub(crate) fn work_on_falsity<W: Weigher<Waiting>>(
     core: &mut Core<W>,
     lit: SatLit,
 ) -> Result<(), AllocError>
@@ -38,7 +38,7 @@ pub(crate) fn work_on_falsity<W: Weigher<Command>>(
 }
 
 /// An implication is split into its sides.
-pub(crate) fn work_on_implication<W: Weigher<Command>>(
+pub(crate) fn work_on_implication<W: Weigher<Waiting>>(
     core: &mut Core<W>,
     lit: SatLit,
 ) -> Result<(), AllocError>

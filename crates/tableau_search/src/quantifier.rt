@@ -14,7 +14,7 @@ use crate::shape::atom_of;
 use command_queue::Weigher;
 use sat_base::SatLit;
 use search_growth::{add_witness, prepare};
-use search_tables::{Basis, Command, Core, quantified_type};
+use search_tables::{Basis, Core, Waiting, quantified_type};
 use std::alloc::{AllocError, Global};
 use stt_core::Ty;
 
@@ -32,7 +32,7 @@ fn range_of(alloc: Global, basis: &Basis, lit: SatLit) -> Result<Ty, AllocError>
 }
 
 /// A predicate holds everywhere: the type is prepared, and there is to be an instance with each term of the type.
-fn work_on_universal<W: Weigher<Command>>(core: &mut Core<W>, lit: SatLit) -> Result<(), AllocError>
+fn work_on_universal<W: Weigher<Waiting>>(core: &mut Core<W>, lit: SatLit) -> Result<(), AllocError>
     requires right { IsRight core.old.tables core.old.plan }
     requires number { IsNumber core.old.tables.basis.lits lit }
     requires shape { shape_of (atom_at core.old.tables.basis.bank.terms core.old.tables.basis.lits lit.var.0) ≡ Quantified }
@@ -50,7 +50,7 @@ fn work_on_universal<W: Weigher<Command>>(core: &mut Core<W>, lit: SatLit) -> Re
 }
 
 /// A predicate holds everywhere, or it doesn't, and then there is a witness.
-pub(crate) fn work_on_quantified<W: Weigher<Command>>(
+pub(crate) fn work_on_quantified<W: Weigher<Waiting>>(
     core: &mut Core<W>,
     lit: SatLit,
 ) -> Result<(), AllocError>

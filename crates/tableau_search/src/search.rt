@@ -19,7 +19,7 @@ use command_queue::Weigher;
 use literal_map::LitTable;
 use mode_file::Mode;
 use sat_log::Log;
-use search_tables::{Command, Core};
+use search_tables::{Core, Waiting};
 use std::alloc::{AllocError, Global};
 use stt_core::Problem;
 use stt_tableau::start_literals;
@@ -29,13 +29,13 @@ use witness_names::Witnesses;
 
 /// A search over a problem. Where a step was refused memory, each later one is too.
 #[derive(Drop)]
-pub struct Search<W: Weigher<Command>> {
+pub struct Search<W: Weigher<Waiting>> {
     pub core: Core<W>,
     pub mode: Mode,
     pub is_refused: bool,
 }
 
-impl<W: Weigher<Command>> Search<W> {
+impl<W: Weigher<Waiting>> Search<W> {
     /// A search by a mode. The start literals that are too deep are left out.
     pub fn new(
         alloc: Global,
@@ -45,7 +45,7 @@ impl<W: Weigher<Command>> Search<W> {
     ) -> Result<Self, AllocError>
         requires typed { IsTyped problem.now }
         requires callable { W.is_callable weigher }
-        requires answers { W.answers weigher (λ command now. now + delay_by mode.now command) }
+        requires answers { W.answers weigher (λ waiting now. now + delay_by mode.now waiting.first) }
         ensures under_way { IfOk result (λ s. IsUnderWay s.core.tables s.core.plan s.mode) }
         ensures mode { IfOk result (λ s. s.mode ≡ mode.now) }
         ensures bases { IfOk result (λ s. s.core.tables.basis.bank.bases ≡ problem.now.declared.bases) }

@@ -24,7 +24,7 @@ use literal_map::LitTable;
 use mode_file::Mode;
 use sat_base::{Clause, SatLit};
 use sat_core::Solver;
-use search_tables::{Basis, Command, Core, DEPTH, make_variables};
+use search_tables::{Basis, Core, DEPTH, Waiting, make_variables};
 use std::alloc::{AllocError, Global};
 use stt_core::Signature;
 use stt_tableau::{Lit, Lits};
@@ -50,7 +50,7 @@ fn new_basis(alloc: Global, sig: &Signature) -> Result<Basis, AllocError>
 }
 
 /// Tables in which nothing was done yet.
-pub(crate) fn new_core<W: Weigher<Command>>(
+pub(crate) fn new_core<W: Weigher<Waiting>>(
     alloc: Global,
     sig: &Signature,
     mode: Mode,
@@ -58,7 +58,7 @@ pub(crate) fn new_core<W: Weigher<Command>>(
 ) -> Result<Core<W>, AllocError>
     requires declared { IsScope (the_scope sig.now []) }
     requires callable { W.is_callable weigher }
-    requires answers { W.answers weigher (λ command now. now + delay_by mode command) }
+    requires answers { W.answers weigher (λ waiting now. now + delay_by mode waiting.first) }
     ensures state { IfOk result (λ core. the_state core.tables core.plan ≡ nothing_yet) }
     ensures right { IfOk result (λ core. IsRight core.tables core.plan) }
     ensures bases { IfOk result (λ core. core.tables.basis.bank.bases ≡ sig.now.bases) }
@@ -113,7 +113,7 @@ fn add_unit(
 }
 
 /// A literal is a start unit, is seen, and is to be processed, unless it is too deep.
-fn start_with<W: Weigher<Command>>(core: &mut Core<W>, lit: &Lit) -> Result<(), AllocError>
+fn start_with<W: Weigher<Waiting>>(core: &mut Core<W>, lit: &Lit) -> Result<(), AllocError>
     requires right { IsRight core.old.tables core.old.plan }
     requires typed { IsLiteral (content_scope core.old.tables.basis.bank) lit.now }
     ensures state { OnOk result (the_state core.new.tables core.new.plan ≡ with_instance (the_mode core.old.plan.rule.mode) [] ((lit.now ∷ []) ∷ []) (the_state core.old.tables core.old.plan)) }
@@ -138,7 +138,7 @@ fn start_with<W: Weigher<Command>>(core: &mut Core<W>, lit: &Lit) -> Result<(), 
 }
 
 /// Starts a run from literals.
-pub(crate) fn start_all<W: Weigher<Command>>(
+pub(crate) fn start_all<W: Weigher<Waiting>>(
     core: &mut Core<W>,
     literals: &Lits,
 ) -> Result<(), AllocError>

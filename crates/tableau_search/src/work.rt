@@ -17,11 +17,11 @@ use crate::spine::is_spine;
 use command_queue::Weigher;
 use literal_map::RuleKind;
 use sat_base::SatLit;
-use search_tables::{Command, Core};
+use search_tables::{Core, Waiting};
 use std::alloc::AllocError;
 
 /// A literal of another shape is to be mated, where its atom is a compared head with arguments.
-fn work_on_other<W: Weigher<Command>>(core: &mut Core<W>, lit: SatLit) -> Result<(), AllocError>
+fn work_on_other<W: Weigher<Waiting>>(core: &mut Core<W>, lit: SatLit) -> Result<(), AllocError>
     requires right { IsRight core.old.tables core.old.plan }
     requires number { IsNumber core.old.tables.basis.lits lit }
     requires shape { shape_of (atom_at core.old.tables.basis.bank.terms core.old.tables.basis.lits lit.var.0) ≡ OtherShape }
@@ -40,7 +40,7 @@ fn work_on_other<W: Weigher<Command>>(core: &mut Core<W>, lit: SatLit) -> Result
 }
 
 /// What the shape of a literal asks for, unless it denies that a term equals itself.
-fn work_by_shape<W: Weigher<Command>>(core: &mut Core<W>, lit: SatLit) -> Result<(), AllocError>
+fn work_by_shape<W: Weigher<Waiting>>(core: &mut Core<W>, lit: SatLit) -> Result<(), AllocError>
     requires right { IsRight core.old.tables core.old.plan }
     requires number { IsNumber core.old.tables.basis.lits lit }
     requires few { length core.old.tables.basis.witnesses < 2 ^ 32 - 1 }
@@ -64,7 +64,7 @@ fn work_by_shape<W: Weigher<Command>>(core: &mut Core<W>, lit: SatLit) -> Result
 }
 
 /// What the shape of a literal asks for. That a term differs from itself is refuted.
-pub(crate) fn work<W: Weigher<Command>>(core: &mut Core<W>, lit: SatLit) -> Result<(), AllocError>
+pub(crate) fn work<W: Weigher<Waiting>>(core: &mut Core<W>, lit: SatLit) -> Result<(), AllocError>
     requires right { IsRight core.old.tables core.old.plan }
     requires number { IsNumber core.old.tables.basis.lits lit }
     requires few { length core.old.tables.basis.witnesses < 2 ^ 32 - 1 }

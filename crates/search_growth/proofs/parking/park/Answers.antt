@@ -4,7 +4,7 @@ use Rattle.stt_core.specs.SimpleType.{SimpleType, same_type}
 use Rattle.search_tables.specs.declared.tables.Tables.{Tables}
 use Rattle.search_tables.specs.Heads.{IsStem}
 use Rattle.search_tables.specs.Standing.{scope_by, sketches_in}
-use Rattle.search_growth.proofs.ParkingLaws.{within-later, below-later, sketches-written, state-written, right-written}
+use Rattle.search_growth.proofs.ParkingLaws.{within-later, sketches-written, state-written, right-written}
 use Rattle.search_growth.proofs.parking.park.Goals as goal
 
 pub push_root-requires-clause-stem : goal.push_root-requires-clause-stem
@@ -17,8 +17,8 @@ push_root-requires-clause-roots g c =
     let R : Tables → Type 0 = λ u. (a : SimpleType) → list_any (λ p. same_type a p.type) (sketches_in u) ≡ list_any (same_type a) u.roots in
     subst R (sym c.push_holes.ensures.tables) c.requires.right.roots
 
-pub list_hole-requires-clause-number : goal.list_hole-requires-clause-number
-list_hole-requires-clause-number g c =
+pub list_hole-requires : goal.list_hole-requires
+list_hole-requires g c =
     let t = c.args.core.now.tables in
     let q = c.args.core.now.plan in
     let t1 = c.push_holes.new.tables in
@@ -26,16 +26,6 @@ list_hole-requires-clause-number g c =
     let place : c.len-p.result ≡ length t.stems.items = omega (arith, c.len-p.ensures) in
     let three : Tables = record t2 { holes = t.holes } in
     within-later t q c.requires.right c.args.stem c.requires.stem t1 t2 three c.push_holes.ensures.tables c.push_root.ensures.tables refl c.len-p.result place c.in_ok-push_holes.ensures.holes
-
-pub list_hole-requires-clause-below : goal.list_hole-requires-clause-below
-list_hole-requires-clause-below g c =
-    let t = c.args.core.now.tables in
-    let q = c.args.core.now.plan in
-    let t1 = c.push_holes.new.tables in
-    let t2 = c.push_root.new.tables in
-    let place : c.len-p.result ≡ length t.stems.items = omega (arith, c.len-p.ensures) in
-    let three : Tables = record t2 { holes = t.holes } in
-    below-later t q c.requires.right c.args.stem c.requires.stem t1 t2 three c.push_holes.ensures.tables c.push_root.ensures.tables refl c.len-p.result place c.in_ok-push_holes.ensures.holes
 
 pub returns-clause-state : goal.returns-clause-state
 returns-clause-state g c =

@@ -6,7 +6,7 @@ use Rattle.command_queue.proofs.agenda.Agenda.len.Goals as goal
 
 pub returns-clause-len : goal.returns-clause-len
 returns-clause-len g c =
-    ap length c.as_slice.ensures.value ∙ sym (length-in_order _) ∙ ap (λ (q : Queue g.row.C.Denot g.row.R.Denot). length q.entries) c.self.view_is
+    c.len.ensures ∙ sym (length-in_order _) ∙ ap (λ (q : Queue g.row.C.Denot g.row.R.Denot). length q.entries) c.self.view_is
 
 pub returns-clause-numbered : goal.returns-clause-numbered
 returns-clause-numbered g c =

@@ -1,5 +1,4 @@
-use Rattle.std.proofs.Common.{◌∙◌, ◌≤◌, sym, ap, arith, heap_len}
-use Rattle.std.specs.BinaryHeap.{heap_capacity}
+use Rattle.std.proofs.Common.{◌∙◌, sym, ap, arith}
 use Rattle.command_queue.specs.Queue.{Queue}
 use Rattle.command_queue.proofs.OrderLaws.{in_order-pop}
 use Rattle.command_queue.proofs.HeapLaws.{not_empty, HoldsPushed-pop, top_is_first, top_has_own_number, top_was_taken}
@@ -7,7 +6,7 @@ use Rattle.command_queue.proofs.agenda.Agenda.pop_entry.Goals as goal
 
 pub invariant_of-self-2 : goal.invariant_of-self-2
 invariant_of-self-2 g c =
-    (HoldsPushed-pop _ _ _ _ c.self.invariant.0 c.in_ok-entry.ensures.permutation c.in_ok-entry.ensures.heap_order, c.self.invariant.1, c.self.invariant.2)
+    (HoldsPushed-pop _ _ _ _ c.self.invariant.0 c.in_ok-entry.ensures.permutation, c.self.invariant.1, c.self.invariant.2)
 
 pub returns-clause-empty : goal.returns-clause-empty
 returns-clause-empty g c =
@@ -25,13 +24,12 @@ returns-clause-first g c =
       behind = stands.behind;
       stands = sym (ap (λ (q : Queue g.row.C.Denot g.row.R.Denot). q.entries) c.self.view_is) ∙ stands.all_are;
       leaves = stands.others_are;
-      least = top_is_first _ _ _ held.distinct moved (c.in_ok-entry.ensures.below_top held.ordered);
+      least = top_is_first _ _ _ held.distinct moved c.in_ok-entry.ensures.first;
       others = top_has_own_number _ _ _ held.distinct moved;
       taken = let was = top_was_taken _ _ _ _ held moved in omega (arith, was, pushes_are);
       pushes = pushes_are;
       spare =
           let was = ap (λ (q : Queue g.row.C.Denot g.row.R.Denot). q.spare) c.self.view_is in
-          let within : heap_len c.self.inside.heap ≤ heap_capacity c.self.inside.heap = c.self.inside.heap.data.ok.1 in
-          omega (arith, was, within, c.in_ok-entry.ensures.capacity, c.in_ok-entry.ensures.len);
+          omega (arith, was, c.in_ok-entry.ensures.spare);
       rule = ap (λ (q : Queue g.row.C.Denot g.row.R.Denot). q.rule) c.self.view_is;
     }

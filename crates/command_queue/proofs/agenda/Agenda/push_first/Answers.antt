@@ -6,7 +6,7 @@ use Rattle.command_queue.proofs.agenda.Agenda.push_first.Goals as goal
 
 pub invariant_of-self-2 : goal.invariant_of-self-2
 invariant_of-self-2 g c =
-    (HoldsPushed-push _ _ _ _ _ c.self.invariant.0 refl c.requires.some c.in_ok-add_entry.ensures.permutation c.in_ok-add_entry.ensures.heap_order, c.self.invariant.1, c.self.invariant.2)
+    (HoldsPushed-push _ _ _ _ _ c.self.invariant.0 refl c.requires.some c.in_ok-add.ensures.permutation, c.self.invariant.1, c.self.invariant.2)
 
 pub returns-clause-ok : goal.returns-clause-ok
 returns-clause-ok g c =
@@ -17,9 +17,9 @@ returns-clause-ok g c =
     let entries_are = ap (λ (q : Queue g.row.C.Denot g.row.R.Denot). q.entries) c.self.view_is in
     record {
       entries =
-          joins_last _ _ _ c.self.invariant.0 c.in_ok-add_entry.ensures.permutation
+          joins_last _ _ _ c.self.invariant.0 c.in_ok-add.ensures.permutation
           ∙ ap₂ (λ (es : List (Entry g.row.C.Denot)) (e : Entry g.row.C.Denot). es ++ e ∷ []) entries_are (same_entry _ _ _ _ c.args.command due_is pushes_are);
       pushes = ap (λ n. n + c.args.numbers) pushes_are;
-      spare = omega (arith, spare_is, c.in_ok-add_entry.ensures.capacity, c.in_ok-add_entry.ensures.len);
+      spare = omega (arith, spare_is, c.in_ok-add.ensures.spare);
       rule = rule_is;
     }

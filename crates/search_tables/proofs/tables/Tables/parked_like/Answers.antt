@@ -10,4 +10,4 @@ base-requires c = let n = holes-length c.args.self.now c.requires.right.0 c.requ
 pub returns : goal.returns
 returns c =
     let t = c.args.self.now in
-    c.terms_of.ensures ∙ ap (λ n. ids_of (base n) t.holes) (base-at t c.requires.right.0 c.requires.right.1 c.args.p c.requires.number c.base.result c.base.ensures)
+    c.under.ensures ∙ ap (λ n. ids_of (base n) t.holes) (base-at t c.requires.right.0 c.requires.right.1 c.args.p c.requires.number c.base.result c.base.ensures)
