@@ -1,0 +1,39 @@
+-- Negations that are taken off one after the other.
+use Rattle.std.specs.Prelude.{◌≡◌, ◌<◌, ℕ, Bool, true, false, not, List, [], ◌∷◌, Some, refl}
+use Rattle.std.proofs.Common.{sym, ap, ap₂, ◌∙◌, subst, arith}
+use Rattle.stt_core.specs.Lambda.{Lambda, constant, negation, neg}
+use Rattle.stt_core.specs.Typing.{IsScope}
+use Rattle.stt_core.specs.SimpleType.{formula}
+use Rattle.stt_core.specs.TypedProblem.{IsFormula}
+use Rattle.stt_normal.specs.Normal.{normal_form}
+use Rattle.stt_normal.proofs.NormalValues.{canonical-normal_form}
+use Rattle.stt_tableau.specs.Literals.{Literal, opposite, literal, is_negated, IsLiteral}
+use Rattle.stt_tableau.specs.Start.{same_sign}
+use Rattle.stt_tableau.proofs.LiteralLaws.{opposite_twice, literal-is_literal}
+use Rattle.term_bank.specs.Content.{Content, HasTerm, content_scope}
+use Rattle.term_bank.specs.Shape.{Shape, spine}
+use Rattle.term_bank.specs.Terms.{term_at, shape_term, IsBelow}
+use Rattle.literal_map.specs.Atoms.{IsAtom}
+use Rattle.literal_map.specs.Means.Denied.{IsDenied}
+
+-- the literal with this sign in place of a positive one
+abbrev pub with_sign : Bool → Literal → Literal
+with_sign b l = record { positive = same_sign b l.positive; atom = l.atom }
+
+peel : (b : Bool) (s : Lambda) → with_sign (not b) (literal s) ≡ with_sign b (literal (neg s))
+peel true s = refl
+peel false s = sym (opposite_twice (literal s))
+
+-- a negation is taken off
+pub sign-peeled : (ts : List Lambda) (b : Bool) (t : Lambda) (s : Shape) (i : ℕ) → t ≡ shape_term ts s → IsDenied s (Some i) → with_sign (not b) (literal (term_at ts i)) ≡ with_sign b (literal t)
+sign-peeled ts b t s i e d = peel b (term_at ts i) ∙ sym (ap (λ x. with_sign b (literal x)) (e ∙ ap (shape_term ts) d))
+
+-- what is negated stands below
+pub below-peeled : (n i : ℕ) (s : Shape) → IsBelow n s → IsDenied s (Some i) → i < n
+below-peeled n i s h d = (subst (IsBelow n) d h) 0 (omega arith)
+
+-- the atom of a formula of the bank is one
+pub atom-formula : (b : Content) (id : ℕ) (p : Bool) (t : Lambda) → IsScope (content_scope b) → IsFormula (content_scope b) t → id < length b.terms → is_negated (term_at b.terms id) ≡ false → record { positive = p; atom = term_at b.terms id } ≡ literal (normal_form (content_scope b) [] t) → IsAtom b id
+atom-formula b id p t scope typed within unsigned is =
+    let l = subst (IsLiteral (content_scope b)) (sym is) (literal-is_literal (content_scope b) (normal_form (content_scope b) [] t) (canonical-normal_form (content_scope b) scope [] formula t tt typed)) in
+    record { within = within; is_formula = l.formula; unsigned = unsigned }
