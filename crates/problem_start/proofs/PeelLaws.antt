@@ -1,7 +1,8 @@
 -- Negations that are taken off one after the other.
-use Rattle.std.specs.Prelude.{◌≡◌, ◌<◌, ℕ, Bool, true, false, not, List, [], ◌∷◌, length, Some, refl}
-use Rattle.std.proofs.Common.{sym, ap, ap₂, ◌∙◌, subst, arith}
-use Rattle.stt_core.specs.Lambda.{Lambda, constant, negation, neg}
+use Rattle.std.specs.Prelude.{◌≡◌, ◌<◌, ℕ, Bool, true, false, not, List, [], length, Some, refl}
+use Rattle.std.proofs.Common.{sym, ap, ◌∙◌, subst}
+use Rattle.std.proofs.lemmas.List.Elements.{All-head}
+use Rattle.stt_core.specs.Lambda.{Lambda, neg}
 use Rattle.stt_core.specs.Typing.{Scope, IsScope}
 use Rattle.stt_core.specs.Canonical.{IsCanonical}
 use Rattle.stt_core.specs.SimpleType.{formula}
@@ -12,7 +13,7 @@ use Rattle.stt_tableau.specs.Literals.{Literal, opposite, literal, is_negated, I
 use Rattle.stt_tableau.specs.Start.{same_sign}
 use Rattle.stt_tableau.proofs.LiteralLaws.{opposite_twice, literal-is_literal}
 use Rattle.term_bank.specs.Content.{Content, HasTerm, Grows, content_scope}
-use Rattle.term_bank.specs.Shape.{Shape, spine}
+use Rattle.term_bank.specs.Shape.{Shape}
 use Rattle.term_bank.specs.Terms.{term_at, shape_term, IsBelow}
 use Rattle.term_bank.proofs.GrowLaws.{grown_scope, has_at}
 use Rattle.literal_map.specs.Atoms.{IsAtom}
@@ -33,7 +34,7 @@ sign-peeled ts b t s i e d = peel b (term_at ts i) ∙ sym (ap (λ x. with_sign 
 
 -- what is negated stands below
 pub below-peeled : (n i : ℕ) (s : Shape) → IsBelow n s → IsDenied s (Some i) → i < n
-below-peeled n i s h d = (subst (IsBelow n) d h) 0 (omega arith)
+below-peeled n i s h d = All-head (λ j. j < n) i [] (subst (IsBelow n) d h)
 
 -- where no negation is left the sign is that of the formula's literal
 pub sign-plain : (b : Bool) (t : Lambda) → is_negated t ≡ false → record { positive = b; atom = t } ≡ with_sign b (literal t)

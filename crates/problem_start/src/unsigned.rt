@@ -5,10 +5,10 @@ ghost use Rattle.stt_core.specs.View.{the_head};
 ghost use Rattle.stt_tableau.specs.Literals.{literal, is_negated};
 ghost use Rattle.term_bank.specs.NodeView.{the_shape};
 ghost use Rattle.term_bank.specs.Terms.{term_at};
-ghost use Rattle.literal_map.specs.Means.Denied.{IsDenied};
+ghost use Rattle.literal_map.specs.Means.Denied.{IsDenied, IsOnly};
 
 use stt_core::Head;
-use term_bank::{Bank, Id, Node};
+use term_bank::{Bank, Id, Ids, Node};
 
 /// A formula that isn't a negation, by its number, with a sign.
 #[derive(Clone, Copy, Debug, PartialEq, Eq)]
@@ -34,14 +34,25 @@ fn is_negation(head: &Head) -> bool
     }
 }
 
+/// The number of a list that has no other one.
+fn only_one(ids: &Ids) -> Option<Id>
+    ensures { IsOnly ids.now result }
+{
+    if ids.len() == 1 {
+        Some(ids.at(0))
+    } else {
+        None
+    }
+}
+
 /// The formula that the node negates, where it is a negation.
 fn negated(node: &Node) -> Option<Id>
     ensures { IsDenied (the_shape node.now) result }
 {
     match node {
         Node::App { head, args } => {
-            if is_negation(head) && args.len() == 1 {
-                Some(args.at(0))
+            if is_negation(head) {
+                only_one(args)
             } else {
                 None
             }

@@ -21,4 +21,4 @@ pub returns-clause-atom : goal.returns-clause-atom
 returns-clause-atom c =
     let a = c.atom_of in
     normal-atom c.args.bank.now c.normalise.new.bank c.in_ok-id.id a.result.atom a.result.positive (the_term c.args.formula.now)
-    c.normalise.ensures.grows c.sig-_declared.ensures.declared c.requires.formula c.in_ok-id.ensures.term a.ensures.within a.ensures.unsigned a.ensures.literal
+    c.normalise.ensures.grows c.sig-declared.ensures.declared c.requires.formula c.in_ok-id.ensures.term a.ensures.within a.ensures.unsigned a.ensures.literal
