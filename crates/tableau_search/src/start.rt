@@ -139,10 +139,7 @@ fn start_with<W: Weigher<Command>>(core: &mut Core<W>, lit: SatLit) -> Result<()
 }
 
 /// Starts from the literals of the assumed formulas.
-fn start_assumed<W: Weigher<Command>>(
-    core: &mut Core<W>,
-    assumed: &Terms,
-) -> Result<(), AllocError>
+fn start_assumed<W: Weigher<Command>>(core: &mut Core<W>, assumed: &Terms) -> Result<(), AllocError>
     requires state { the_state core.old.tables core.old.plan ≡ nothing_yet }
     requires right { IsRight core.old.tables core.old.plan }
     requires unwitnessed { core.old.tables.basis.witnesses ≡ [] }

@@ -33,11 +33,11 @@ returns-in-None g c =
     (start-assumed p _ (ap (option_map the_term) c.in-None.is) (ap (λ x. without_repeats (map (normal_literal x) i.assumed)) same) ∙ ap start c.problem.view_is)
     c.in_ok-start_assumed.ensures
 
-pub number_of-requires-in-Some-clause-good : goal.number_of-requires-in-Some-clause-good
-number_of-requires-in-Some-clause-good g c = c.in_ok-start_assumed.ensures.right.basis
+pub number_of-requires-clause-good : goal.number_of-requires-clause-good
+number_of-requires-clause-good g c = c.in_ok-start_assumed.ensures.right.basis
 
-pub number_of-requires-in-Some-clause-formula : goal.number_of-requires-in-Some-clause-formula
-number_of-requires-in-Some-clause-formula g c =
+pub number_of-requires-clause-formula : goal.number_of-requires-clause-formula
+number_of-requires-clause-formula g c =
     let core = c.args.core.now in
     let new = c.start_assumed.new.core in
     let scope = declared_scope core.tables.basis.bank in
@@ -49,11 +49,11 @@ number_of-requires-in-Some-clause-formula g c =
     subst F (sym (scope-now core.tables core.plan new.tables new.plan _ c.in_ok-start_assumed.ensures c.requires.unwitnessed))
     (subst O c.in-Some.is (subst P (sym c.problem.view_is) (subst D (sym c.requires.declared) c.requires.typed.conjecture)))
 
-pub start_with-requires-in-Some-clause-right : goal.start_with-requires-in-Some-clause-right
-start_with-requires-in-Some-clause-right g c =
+pub start_with-requires-clause-right : goal.start_with-requires-clause-right
+start_with-requires-clause-right g c =
     let core = c.args.core.now in
     let new = c.start_assumed.new.core in
-    (starting-grown core.tables core.plan new.tables new.plan _ c.in_ok-start_assumed.ensures c.number_of.new.basis c.in_ok-lit.ensures.grows c.in_ok-lit.ensures.good).right
+    (starting-grown core.tables core.plan new.tables new.plan _ c.in_ok-start_assumed.ensures c.number_of.new.basis c.in_ok-lit-in-Some.ensures.grows c.in_ok-lit-in-Some.ensures.good).right
 
 pub returns-in_ok-start_with-in-Some : goal.returns-in_ok-start_with-in-Some
 returns-in_ok-start_with-in-Some g c =
@@ -70,10 +70,10 @@ returns-in_ok-start_with-in-Some g c =
     let S : List Literal → Type 0 = λ ls. IsStarting core.tables core.plan new.tables new.plan ls in
     let same = c.requires.declared ∙ sym (ap (λ (x : PlainProblem). scope_of x.declared) c.problem.view_is) in
     let now = ap (λ x. normal_literal x t) (scope-now core.tables core.plan mid.tables mid.plan before c.in_ok-start_assumed.ensures c.requires.unwitnessed) in
-    let named = ap (literal_at basis.bank.terms basis.lits) c.negated.ensures ∙ ap opposite (c.in_ok-lit.ensures.literal ∙ now) in
+    let named = ap (literal_at basis.bank.terms basis.lits) c.negated.ensures ∙ ap opposite (c.in_ok-lit-in-Some.ensures.literal ∙ now) in
     subst S
     (start-denied p t denied before (added before (denied ∷ [])) (ap (option_map the_term) c.in-Some.is) (ap (λ x. opposite (normal_literal x t)) same) (ap (λ x. without_repeats (map (normal_literal x) i.assumed)) same) refl
     ∙ ap start c.problem.view_is)
-    (starting-literal core.tables core.plan mid.tables mid.plan before c.in_ok-start_assumed.ensures basis c.in_ok-lit.ensures.grows c.in_ok-lit.ensures.good
+    (starting-literal core.tables core.plan mid.tables mid.plan before c.in_ok-start_assumed.ensures basis c.in_ok-lit-in-Some.ensures.grows c.in_ok-lit-in-Some.ensures.good
     new.tables new.plan c.negated.result denied named
     c.in_ok-start_with-in-Some.ensures.state c.in_ok-start_with-in-Some.ensures.right c.in_ok-start_with-in-Some.ensures.basis c.in_ok-start_with-in-Some.ensures.steps c.in_ok-start_with-in-Some.ensures.rule)
