@@ -1,4 +1,4 @@
-use Rattle.std.proofs.Common.{◌≡◌, [], ◌∷◌, List, Option, map, option_map, ap, sym, subst, refl, ◌∙◌}
+use Rattle.std.proofs.Common.{[], ◌∷◌, List, Option, map, option_map, ap, sym, subst, refl, ◌∙◌}
 use Rattle.stt_core.specs.declared.term.Term.{Term}
 use Rattle.stt_core.specs.View.{the_term}
 use Rattle.stt_core.specs.Typing.{Scope}

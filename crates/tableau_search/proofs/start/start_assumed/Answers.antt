@@ -1,4 +1,4 @@
-use Rattle.std.proofs.Common.{◌≡◌, List, [], ◌∷◌, map, take, take_all, ap, sym, subst, refl, ◌∙◌, arith}
+use Rattle.std.proofs.Common.{List, [], ◌∷◌, map, take, take_all, ap, sym, subst, refl, ◌∙◌, arith}
 use Rattle.stt_core.specs.Lambda.{Lambda}
 use Rattle.stt_core.specs.View.{the_term}
 use Rattle.stt_core.specs.Typing.{Scope}
@@ -6,8 +6,6 @@ use Rattle.stt_core.specs.TypedProblem.{IsFormula}
 use Rattle.stt_tableau.specs.Literals.{Literal}
 use Rattle.stt_tableau.specs.Start.{added, without_repeats, normal_literal}
 use Rattle.stt_tableau.proofs.StartLaws.{formula_at, added-more}
-use Rattle.search_tables.specs.declared.tables.Basis.{Basis}
-use Rattle.search_tables.specs.declared.tables.Tables.{Tables}
 use Rattle.search_tables.specs.Standing.{declared_scope}
 use Rattle.tableau_search.specs.Starting.{IsStarting}
 use Rattle.tableau_search.proofs.StartingLaws.{starting-none, starting-grown, starting-literal, scope-now}
