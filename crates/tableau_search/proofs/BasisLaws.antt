@@ -8,7 +8,6 @@ use Rattle.sat_base.specs.declared.literal.SatLit.{SatLit}
 use Rattle.search_run.specs.Clauses.{same_clause, with_clauses}
 use Rattle.search_run.specs.Numbered.{numbers}
 use Rattle.bank_normal.specs.Right.{IsRight}
-use Rattle.bank_normal.proofs.RightLaws.{right_grown}
 use Rattle.literal_map.specs.Atoms.{IsAtom}
 use Rattle.witness_names.specs.Rows.{rows_of, AreRows}
 use Rattle.witness_names.proofs.StayLaws.{rows_same, rows_grown}
@@ -21,8 +20,8 @@ use Rattle.search_tables.proofs.EachLaws.{All-from_each}
 use Rattle.tableau_search.specs.Starting.{AddsUnit}
 
 -- what is right stays so where terms and atoms come
-pub basis-grown : (g h : Basis) → BasisGrows g h → h.normal ≡ g.normal → IsBasis g → All (IsAtom h.bank) h.lits → IsBasis h
-basis-grown g h w normal good atoms =
+pub basis-grown : (g h : Basis) → BasisGrows g h → IsBasis g → All (IsAtom h.bank) h.lits → IsRight h.normal h.bank → IsBasis h
+basis-grown g h w good atoms memo =
     let R : List ℕ → Type 0 = λ ids. AreRows h.bank ids in
     record {
       atoms = atoms;
@@ -31,7 +30,7 @@ basis-grown g h w normal good atoms =
           ap (λ ids. map (λ (r : Row). r.type) (rows_of h.bank.terms ids)) w.witnesses
           ∙ ap (map (λ (r : Row). r.type)) (rows_same g.bank h.bank w.bank g.witnesses good.rows)
           ∙ good.typed ∙ sym w.bank.witnesses;
-      memo = subst (λ n. IsRight n h.bank) (sym normal) (right_grown g.normal g.bank h.bank w.bank good.memo);
+      memo = memo;
     }
 
 -- nothing is there

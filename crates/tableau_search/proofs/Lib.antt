@@ -3,7 +3,6 @@ mod MadeStays
 mod DevelopLaws
 mod UnitLaws
 mod RunLaws
-mod ApartLaws
 mod StartLaws
 mod StartingLaws
 mod BasisLaws

@@ -7,6 +7,7 @@ use Rattle.stt_core.proofs.ListLaws.{map-append}
 use Rattle.stt_core.specs.SameTerm.{same_term}
 use Rattle.stt_tableau.specs.Literals.{Literal, opposite}
 use Rattle.stt_tableau.specs.Start.{has, same_sign, same_literal}
+use Rattle.stt_tableau.proofs.AddedLaws.{same_literal-true}
 use Rattle.search_run.specs.Mode.{Mode}
 use Rattle.search_run.specs.Shallow.{is_shallow_literal}
 use Rattle.search_run.specs.Clauses.{Kind, same_clause, with_clauses, instance_clauses}
@@ -50,6 +51,12 @@ with_unit ls l e =
     ∙ ap (λ (b : Bool). if b then map unit ls else map unit ls ++ unit l ∷ []) (units_have l ls ∙ e)
     ∙ sym (map-append unit ls (l ∷ []))
 
+-- a unit clause that is there already
+with_unit_again : (ls : List Literal) (l : Literal) → has ls l ≡ true → with_clauses formulas (map unit ls) (instance_clauses formulas [] ((l ∷ []) ∷ [])) ≡ map unit ls
+with_unit_again ls l e =
+    ap (with_clauses formulas (map unit ls)) (alone-clauses formulas l (opposite_differs l))
+    ∙ ap (λ (b : Bool). if b then map unit ls else map unit ls ++ unit l ∷ []) (units_have l ls ∙ e)
+
 -- PUSHES
 
 waiting_last : (d : Command → ℕ) (n : ℕ) (cs : List Command) (c : Command) → waiting d n (cs ++ c ∷ []) ≡ waiting d n cs ++ waiting d (n + length cs) (c ∷ [])
@@ -74,6 +81,25 @@ none_filtered l (k ∷ ks) e = by_test (is_shallow_literal k) (none_filtered l k
     by_test true rest = ap₂ (λ x y. x || y) (none_of (same_literal l k) (has ks l) e).0 rest
     by_test false rest = rest
 
+later : (b c : Bool) → c ≡ true → b || c ≡ true
+later true c e = refl
+later false c e = e
+
+has-filter : (l : Literal) (ls : List Literal) → is_shallow_literal l ≡ true → has ls l ≡ true → has (filter is_shallow_literal ls) l ≡ true
+has-filter l [] shallow e = cc
+has-filter l (k ∷ ks) shallow e = by_test (same_literal l k) refl e (λ h. has-filter l ks shallow h)
+  where
+    with_depth : (b : Bool) → has (filter is_shallow_literal ks) l ≡ true → has (if b then k ∷ filter is_shallow_literal ks else filter is_shallow_literal ks) l ≡ true
+    with_depth true h = later (same_literal l k) (has (filter is_shallow_literal ks) l) h
+    with_depth false h = h
+
+    by_test : (b : Bool) → same_literal l k ≡ b → b || has ks l ≡ true → (has ks l ≡ true → has (filter is_shallow_literal ks) l ≡ true) → has (filter is_shallow_literal (k ∷ ks)) l ≡ true
+    by_test true same h rest =
+        let first : is_shallow_literal k ≡ true = ap is_shallow_literal (sym (same_literal-true l k same)) ∙ shallow in
+        ap (λ (b : Bool). has (if b then k ∷ filter is_shallow_literal ks else filter is_shallow_literal ks) l) first
+        ∙ ap (λ (b : Bool). b || has (filter is_shallow_literal ks) l) same
+    by_test false same h rest = with_depth (is_shallow_literal k) (rest h)
+
 module _ (setting : Setting) where
   abbrev blank : List Literal → State
   blank ls = record nothing_yet { clauses = map unit ls; seen = ls }
@@ -93,25 +119,38 @@ module _ (setting : Setting) where
       ∙ ap (λ (cs : List Clause). pushed setting.mode (process l ∷ []) (record (begun ls) { clauses = cs; seen = ls ++ l ∷ [] })) (sym (with_unit ls l e))
       ∙ sym (ap (λ (b : Bool). if b then with_clause ls l else after) e)
 
+  begun_again : (ls : List Literal) (l : Literal) → has ls l ≡ true → with_literals setting.mode (l ∷ []) (with_clause ls l) ≡ begun ls
+  begun_again ls l e =
+      ap (λ (b : Bool). if b then with_clause ls l else pushed setting.mode (process l ∷ []) (record (with_clause ls l) { seen = ls ++ l ∷ [] })) e
+      ∙ ap (λ (cs : List Clause). record (begun ls) { clauses = cs }) (with_unit_again ls l e)
+
   abbrev shallow : List Literal → List Literal
   shallow ls = filter is_shallow_literal ls
 
   abbrev with_all : List Literal → Literal → State
   with_all xs l = with_literals setting.mode (l ∷ []) (with_clause (shallow xs) l)
 
+  with_test : (xs : List Literal) (l : Literal) (b : Bool) → is_shallow_literal l ≡ b → (if (b && true) && true then with_all xs l else begun (shallow xs)) ≡ with_instance setting.mode [] ((l ∷ []) ∷ []) (started setting xs)
+  with_test xs l b e = sym (ap (λ (c : Bool). if (c && true) && true then with_all xs l else begun (shallow xs)) e)
+
   -- a start with one literal more
   pub started-last : (xs : List Literal) (l : Literal) → has xs l ≡ false → started setting (xs ++ l ∷ []) ≡ with_instance setting.mode [] ((l ∷ []) ∷ []) (started setting xs)
   started-last xs l fresh = by_depth (is_shallow_literal l) refl
     where
-      with_test : (b : Bool) → is_shallow_literal l ≡ b → (if (b && true) && true then with_all xs l else begun (shallow xs)) ≡ with_instance setting.mode [] ((l ∷ []) ∷ []) (started setting xs)
-      with_test b e = sym (ap (λ (c : Bool). if (c && true) && true then with_all xs l else begun (shallow xs)) e)
-
       filtered : (b : Bool) → is_shallow_literal l ≡ b → shallow (xs ++ l ∷ []) ≡ shallow xs ++ (if b then l ∷ [] else [])
       filtered b e = filter-append is_shallow_literal xs (l ∷ []) ∙ ap (λ (c : Bool). shallow xs ++ (if c then l ∷ [] else [])) e
 
       by_depth : (b : Bool) → is_shallow_literal l ≡ b → started setting (xs ++ l ∷ []) ≡ with_instance setting.mode [] ((l ∷ []) ∷ []) (started setting xs)
-      by_depth true e = ap begun (filtered true e) ∙ begun_last (shallow xs) l (none_filtered l xs fresh) ∙ with_test true e
-      by_depth false e = ap begun (filtered false e ∙ append-nil (shallow xs)) ∙ with_test false e
+      by_depth true e = ap begun (filtered true e) ∙ begun_last (shallow xs) l (none_filtered l xs fresh) ∙ with_test xs l true e
+      by_depth false e = ap begun (filtered false e ∙ append-nil (shallow xs)) ∙ with_test xs l false e
+
+  -- a literal that is there already changes nothing
+  pub started-again : (xs : List Literal) (l : Literal) → has xs l ≡ true → with_instance setting.mode [] ((l ∷ []) ∷ []) (started setting xs) ≡ started setting xs
+  started-again xs l there = by_depth (is_shallow_literal l) refl
+    where
+      by_depth : (b : Bool) → is_shallow_literal l ≡ b → with_instance setting.mode [] ((l ∷ []) ∷ []) (started setting xs) ≡ started setting xs
+      by_depth true e = sym (with_test xs l true e) ∙ begun_again (shallow xs) l (has-filter l xs e there)
+      by_depth false e = sym (with_test xs l false e)
 
   pub started-none : started setting [] ≡ nothing_yet
   started-none = refl

@@ -1,14 +1,12 @@
 -- A start, as the tables have it.
-use Rattle.std.specs.Prelude.{◌≡◌, ◌≤◌, ◌+◌, ◌&&◌, ℕ, zero, suc, Bool, true, false, not, List, [], ◌∷◌, ◌++◌, map, filter, take, length, slice_get, Some, if◌then◌else◌, refl}
+use Rattle.std.specs.Prelude.{◌≡◌, ◌+◌, ◌&&◌, ℕ, suc, Bool, true, false, not, List, [], ◌∷◌, ◌++◌, map, filter, length, Some, if◌then◌else◌, refl}
 use Rattle.std.specs.List.{list_any, list_all}
 use Rattle.std.proofs.Common.{sym, ap, ap₂, ◌∙◌, subst, arith, append-nil, append_assoc, length-append}
 use Rattle.std.proofs.lemmas.List.Elements.{filter-append}
 use Rattle.stt_core.specs.Typing.{Scope, IsScope}
 use Rattle.stt_core.proofs.ListLaws.{map-append}
-use Rattle.stt_core.specs.Lambda.{Lambda}
-use Rattle.stt_tableau.specs.Literals.{Literal, plus, literal, is_negated, IsLiteral, IsBranch}
-use Rattle.stt_tableau.proofs.LiteralLaws.{literal_cases}
-use Rattle.stt_tableau.specs.Start.{has}
+use Rattle.stt_tableau.specs.Literals.{Literal, IsBranch}
+use Rattle.stt_tableau.specs.Start.{has, added}
 use Rattle.stt_tableau.specs.Witnesses.{Row, with_rows}
 use Rattle.sat_base.specs.declared.literal.SatLit.{SatLit}
 use Rattle.command_queue.specs.Queue.{Queue}
@@ -34,14 +32,14 @@ use Rattle.search_tables.specs.declared.tables.Basis.{Basis}
 use Rattle.search_tables.specs.declared.tables.Tables.{Tables}
 use Rattle.search_tables.specs.Delays.{the_mode}
 use Rattle.search_tables.specs.Growing.{BasisGrows}
-use Rattle.search_tables.specs.Standing.{declared_scope, setting_by, the_state, IsRight}
+use Rattle.search_tables.specs.Standing.{declared_scope, setting_by, the_state, IsBasis, IsRight}
 use Rattle.search_tables.specs.Steps.{IsMade}
 use Rattle.tableau_search.specs.Running.{units, start_in, IsRunning}
 use Rattle.tableau_search.specs.Starting.{AddsUnit, AddsStart, IsStarting}
 use Rattle.tableau_search.proofs.DevelopLaws.{grows-wider, wider-then, wider-itself}
 use Rattle.tableau_search.proofs.UnitLaws.{units-append, start-stays}
-use Rattle.tableau_search.proofs.StartLaws.{unit, started-last, alone-clauses}
-use Rattle.search_tables.proofs.EachLaws.{each-at}
+use Rattle.search_tables.proofs.StateStays.{state-stays, right-stays}
+use Rattle.tableau_search.proofs.StartLaws.{unit, started-last, started-again, alone-clauses}
 
 mapped_length : {X Y : Type 0} (f : X → Y) (xs : List X) → length (map f xs) ≡ length xs
 mapped_length f [] = refl
@@ -54,6 +52,14 @@ units_added lit old new a longer = by_test (list_any (same_clause numbers (lit �
     by_test : (b : Bool) → new.0 ≡ (if b then old.0 else old.0 ++ (lit ∷ [], Start) ∷ []) → units new.0 ≡ units old.0 ++ lit ∷ []
     by_test true e = absurd (omega (arith, longer, ap length e))
     by_test false e = ap units e ∙ units-append old.0 ((lit ∷ [], Start) ∷ [])
+
+-- where none came, the literal's clause was there
+unit_there : (lit : SatLit) (old new : Table) → AddsUnit lit old new → length new.0 ≡ length old.0 → new ≡ old
+unit_there lit old new a same = by_test (list_any (same_clause numbers (lit ∷ [])) (the_clauses old)) a.clauses
+  where
+    by_test : (b : Bool) → new.0 ≡ (if b then old.0 else old.0 ++ (lit ∷ [], Start) ∷ []) → new ≡ old
+    by_test true e = λ i. (e i, a.instances i)
+    by_test false e = absurd (omega (arith, same, ap length e, length-append old.0 ((lit ∷ [], Start) ∷ [])))
 
 shallow_twice : (ls : List Literal) → filter is_shallow_literal (filter is_shallow_literal ls) ≡ filter is_shallow_literal ls
 shallow_twice [] = refl
@@ -70,10 +76,6 @@ branch_filtered scope (l ∷ ls) h = by_test (is_shallow_literal l) (branch_filt
     by_test : (b : Bool) → IsBranch scope (filter is_shallow_literal ls) → IsBranch scope (if b then l ∷ filter is_shallow_literal ls else filter is_shallow_literal ls)
     by_test true rest = (h.0, rest)
     by_test false rest = rest
-
-pub branch-get : (scope : Scope) (ls : List Literal) → IsBranch scope ls → Each (IsLiteral scope) ls
-branch-get scope [] h = tt
-branch-get scope (l ∷ ls) h = (h.0, branch-get scope ls h.1)
 
 clauses_length : (t : Tables) (q : Queue Planned Delays) → length (the_state t q).clauses ≡ length t.steps.0
 clauses_length t q = mapped_length (map (literal_at t.basis.bank.terms t.basis.lits)) (the_clauses t.steps) ∙ mapped_length (λ s. s.0) t.steps.0
@@ -107,15 +109,18 @@ alone-deep mode l s e =
 pub all-shallow : (l : Literal) → is_shallow_literal l ≡ true → list_all (list_all is_shallow_literal) ((l ∷ []) ∷ []) ≡ true
 all-shallow l e = ap (λ (b : Bool). (b && true) && true) e
 
-pub both-true : (b : Bool) → b ≡ true → b ≡ false → ⊥
+both-true : (b : Bool) → b ≡ true → b ≡ false → ⊥
 both-true true e f = cc
 both-true false e f = cc
 
--- what a literal adds that isn't too deep
-pub adds-start : (l : Literal) (t u v : Tables) (seen : List SatLit) → v ≡ record u { seen = seen } → is_shallow_literal l ≡ true → (lit : SatLit) → literal_at u.basis.bank.terms u.basis.lits lit ≡ l → AddsUnit lit t.steps u.steps → AddsStart l t v
-adds-start l t u v seen e shallow lit is unit =
-    let A : Tables → Type 0 = λ x. AddsStart l t x in
-    subst A (sym e) (record { deep = λ f. absurd (both-true (is_shallow_literal l) shallow f); unit = λ f. (lit, (is, unit)) })
+-- what a literal adds that is too deep, and one that isn't
+pub adds-deep : (lit : SatLit) (t : Tables) → is_shallow_literal (literal_at t.basis.bank.terms t.basis.lits lit) ≡ false → AddsStart lit t t
+adds-deep lit t deep = record { deep = λ e. refl; unit = λ e. absurd (both-true (is_shallow_literal (literal_at t.basis.bank.terms t.basis.lits lit)) e deep) }
+
+pub adds-shallow : (lit : SatLit) (t u v : Tables) (seen : List SatLit) → v ≡ record u { seen = seen } → is_shallow_literal (literal_at t.basis.bank.terms t.basis.lits lit) ≡ true → AddsUnit lit t.steps u.steps → AddsStart lit t v
+adds-shallow lit t u v seen e shallow unit =
+    let A : Tables → Type 0 = λ x. AddsStart lit t x in
+    subst A (sym e) (record { deep = λ f. absurd (both-true (is_shallow_literal (literal_at t.basis.bank.terms t.basis.lits lit)) shallow f); unit = λ f. unit })
 
 sign_differs : (b : Bool) → beq (not b) b ≡ false
 sign_differs true = refl
@@ -140,19 +145,9 @@ unit-clauses lit old new a =
     ∙ ap (λ (cs : List (List SatLit)). if list_any (same_clause numbers (lit ∷ [])) (the_clauses old) then the_clauses old else cs) (map-append (λ (s : Step). s.0) old.0 ((lit ∷ [], Start) ∷ []))
     ∙ sym (ap (with_clauses numbers (the_clauses old)) (alone-clauses numbers lit (negated_differs lit)))
 
--- the literal of an unsigned formula
-pub literal-unsigned : (t : Lambda) → is_negated t ≡ false → literal t ≡ plus t
-literal-unsigned t e = literal_cases (λ u l. is_negated u ≡ false → l ≡ plus u) (λ s go k. cc) (λ u n k. refl) t e
-
 module _ (t0 : Tables) (q0 : Queue Planned Delays) where
   abbrev setting : Setting
   setting = setting_by t0 q0
-
-  take-all : (ls : List Literal) (i : ℕ) → length ls ≤ i → take i ls ≡ ls
-  take-all [] zero h = refl
-  take-all [] (suc i) h = refl
-  take-all (l ∷ ls) zero h = absurd (omega (arith, h))
-  take-all (l ∷ ls) (suc i) h = ap (λ ks. l ∷ ks) (take-all ls i (omega (arith, h)))
 
   pub starting-none : the_state t0 q0 ≡ nothing_yet → IsRight t0 q0 → t0.steps ≡ ([], []) → IsStarting t0 q0 t0 q0 []
   starting-none empty right none = record {
@@ -164,66 +159,116 @@ module _ (t0 : Tables) (q0 : Queue Planned Delays) where
     rule = refl;
   }
 
-  module _ (t u : Tables) (q p : Queue Planned Delays) (ls : List Literal) (l : Literal) (s : IsStarting t0 q0 t q ls) (fresh : has ls l ≡ false) (is : the_state u p ≡ with_instance (the_mode q.rule.mode) [] ((l ∷ []) ∷ []) (the_state t q)) (right : IsRight u p) (grows : BasisGrows t.basis u.basis) (adds : AddsStart l t u) (rule : p.rule ≡ q.rule) where
-    state_more : the_state u p ≡ started setting (ls ++ l ∷ [])
-    state_more =
-        is
-        ∙ ap₂ (λ (d : Delays) (x : State). with_instance (the_mode d.mode) [] ((l ∷ []) ∷ []) x) s.rule s.state
-        ∙ sym (started-last setting ls l fresh)
+  -- where terms and atoms come
+  pub starting-grown : (t : Tables) (q : Queue Planned Delays) (ls : List Literal) → IsStarting t0 q0 t q ls → (g : Basis) → BasisGrows t.basis g → IsBasis g → IsStarting t0 q0 (record t { basis = g }) q ls
+  starting-grown t q ls s g grows good = record {
+    state = state-stays t q g grows s.right ∙ s.state;
+    right = right-stays t q g grows s.right good;
+    basis = grows-then t0.basis t.basis g s.basis grows;
+    units = start-stays t (record t { basis = g }) s.right.basis (grows-wider t.basis g grows) s.right.clauses refl ∙ s.units;
+    instances = s.instances;
+    rule = s.rule;
+  }
+
+  module _ (t u : Tables) (q p : Queue Planned Delays) (ls : List Literal) (lit : SatLit) (s : IsStarting t0 q0 t q ls) (is : the_state u p ≡ with_instance (the_mode q.rule.mode) [] ((literal_at t.basis.bank.terms t.basis.lits lit ∷ []) ∷ []) (the_state t q)) (right : IsRight u p) (same : u.basis ≡ t.basis) (adds : AddsStart lit t u) (rule : p.rule ≡ q.rule) where
+    abbrev l : Literal
+    l = literal_at t.basis.bank.terms t.basis.lits lit
 
     abbrev shallow : List Literal → List Literal
     shallow xs = filter is_shallow_literal xs
 
-    longer : (b : Bool) → is_shallow_literal l ≡ b → shallow (ls ++ l ∷ []) ≡ shallow ls ++ (if b then l ∷ [] else [])
-    longer b e = filter-append is_shallow_literal ls (l ∷ []) ∙ ap (λ (c : Bool). shallow ls ++ (if c then l ∷ [] else [])) e
+    from_start : the_state u p ≡ with_instance setting.mode [] ((l ∷ []) ∷ []) (started setting ls)
+    from_start = is ∙ ap₂ (λ (d : Delays) (x : State). with_instance (the_mode d.mode) [] ((l ∷ []) ∷ []) x) s.rule s.state
 
-    stays : units u.steps.0 ≡ units t.steps.0 → start_in u ≡ start_in t
-    stays same = start-stays t u s.right.basis (grows-wider t.basis u.basis grows) s.right.clauses same
+    basis_grows : BasisGrows t0.basis u.basis
+    basis_grows = subst (BasisGrows t0.basis) (sym same) s.basis
 
-    units_more : (b : Bool) → is_shallow_literal l ≡ b → (start_in u ≡ shallow (ls ++ l ∷ [])) × (u.steps.1 ≡ [])
-    units_more false e =
-        let same = adds.deep e in
-        (stays (ap (λ (x : Table). units x.0) same) ∙ s.units ∙ sym (longer false e ∙ append-nil (shallow ls)), ap (λ (x : Table). x.1) same ∙ s.instances)
-    units_more true e =
-        let a = adds.unit e in
-        let d : SatLit → Literal = literal_at u.basis.bank.terms u.basis.lits in
-        let of_new : length u.steps.0 ≡ length (shallow (ls ++ l ∷ [])) = sym (clauses_length u p) ∙ ap (λ (x : State). length x.clauses) state_more ∙ mapped_length unit (shallow (ls ++ l ∷ [])) in
-        let of_old : length t.steps.0 ≡ length (shallow ls) = sym (clauses_length t q) ∙ ap (λ (x : State). length x.clauses) s.state ∙ mapped_length unit (shallow ls) in
-        let one_more : length u.steps.0 ≡ length t.steps.0 + 1 = omega (arith, of_new, of_old, ap length (longer true e), length-append (shallow ls) (l ∷ [])) in
-        let kept : map d (units t.steps.0) ≡ start_in t = stays-old in (
-          ap (map d) (units_added a.0 t.steps u.steps a.1.1 one_more)
-              ∙ map-append d (units t.steps.0) (a.0 ∷ [])
-              ∙ ap₂ (λ (xs : List Literal) (x : Literal). xs ++ x ∷ []) (kept ∙ s.units) a.1.0
-              ∙ sym (longer true e),
-          a.1.1.instances ∙ s.instances,
-        )
+    -- the start units by what the numbers stood for
+    in_place : start_in u ≡ map (literal_at t.basis.bank.terms t.basis.lits) (units u.steps.0)
+    in_place = ap (λ (g : Basis). map (literal_at g.bank.terms g.lits) (units u.steps.0)) same
+
+    steps_before : length t.steps.0 ≡ length (shallow ls)
+    steps_before = sym (clauses_length t q) ∙ ap (λ (x : State). length x.clauses) s.state ∙ mapped_length unit (shallow ls)
+
+    module _ (there : has ls l ≡ true) where
+      state_again : the_state u p ≡ started setting ls
+      state_again = from_start ∙ started-again setting ls l there
+
+      steps_again : length u.steps.0 ≡ length t.steps.0
+      steps_again = sym (clauses_length u p) ∙ ap (λ (x : State). length x.clauses) state_again ∙ mapped_length unit (shallow ls) ∙ sym steps_before
+
+      same_steps : (b : Bool) → is_shallow_literal l ≡ b → u.steps ≡ t.steps
+      same_steps true e = unit_there lit t.steps u.steps (adds.unit e) steps_again
+      same_steps false e = adds.deep e
+
+      starting_again : IsStarting t0 q0 u p ls
+      starting_again =
+          let kept = same_steps (is_shallow_literal l) refl in
+          record {
+            state = state_again;
+            right = right;
+            basis = basis_grows;
+            units = in_place ∙ ap (λ (x : Table). map (literal_at t.basis.bank.terms t.basis.lits) (units x.0)) kept ∙ s.units;
+            instances = ap (λ (x : Table). x.1) kept ∙ s.instances;
+            rule = rule ∙ s.rule;
+          }
+
+    module _ (fresh : has ls l ≡ false) where
+      state_more : the_state u p ≡ started setting (ls ++ l ∷ [])
+      state_more = from_start ∙ sym (started-last setting ls l fresh)
+
+      longer : (b : Bool) → is_shallow_literal l ≡ b → shallow (ls ++ l ∷ []) ≡ shallow ls ++ (if b then l ∷ [] else [])
+      longer b e = filter-append is_shallow_literal ls (l ∷ []) ∙ ap (λ (c : Bool). shallow ls ++ (if c then l ∷ [] else [])) e
+
+      units_more : (b : Bool) → is_shallow_literal l ≡ b → (start_in u ≡ shallow (ls ++ l ∷ [])) × (u.steps.1 ≡ [])
+      units_more false e =
+          let kept = adds.deep e in (
+            in_place ∙ ap (λ (x : Table). map (literal_at t.basis.bank.terms t.basis.lits) (units x.0)) kept ∙ s.units ∙ sym (longer false e ∙ append-nil (shallow ls)),
+            ap (λ (x : Table). x.1) kept ∙ s.instances,
+          )
+      units_more true e =
+          let d : SatLit → Literal = literal_at t.basis.bank.terms t.basis.lits in
+          let after : length u.steps.0 ≡ length (shallow (ls ++ l ∷ [])) = sym (clauses_length u p) ∙ ap (λ (x : State). length x.clauses) state_more ∙ mapped_length unit (shallow (ls ++ l ∷ [])) in
+          let one_more : length u.steps.0 ≡ length t.steps.0 + 1 = omega (arith, after, steps_before, ap length (longer true e), length-append (shallow ls) (l ∷ [])) in (
+            in_place
+                ∙ ap (map d) (units_added lit t.steps u.steps (adds.unit e) one_more)
+                ∙ map-append d (units t.steps.0) (lit ∷ [])
+                ∙ ap (λ (xs : List Literal). xs ++ l ∷ []) s.units
+                ∙ sym (longer true e),
+            (adds.unit e).instances ∙ s.instances,
+          )
+
+      starting_more : IsStarting t0 q0 u p (ls ++ l ∷ [])
+      starting_more =
+          let m = units_more (is_shallow_literal l) refl in
+          record { state = state_more; right = right; basis = basis_grows; units = m.0; instances = m.1; rule = rule ∙ s.rule }
+
+    -- one literal more was added, unless it is there already
+    pub starting-added : IsStarting t0 q0 u p (added ls (l ∷ []))
+    starting-added = by_test (has ls l) refl
       where
-        stays-old : map (literal_at u.basis.bank.terms u.basis.lits) (units t.steps.0) ≡ start_in t
-        stays-old = start-stays t (record u { steps = t.steps }) s.right.basis (grows-wider t.basis u.basis grows) s.right.clauses refl
+        by_test : (b : Bool) → has ls l ≡ b → IsStarting t0 q0 u p (if b then ls else ls ++ l ∷ [])
+        by_test true e = starting_again e
+        by_test false e = starting_more e
 
-    pub starting-more : IsStarting t0 q0 u p (ls ++ l ∷ [])
-    starting-more =
-        let m = units_more (is_shallow_literal l) refl in
-        record { state = state_more; right = right; basis = grows-then t0.basis t.basis u.basis s.basis grows; units = m.0; instances = m.1; rule = rule ∙ s.rule }
+  -- the literal of a formula was added
+  pub starting-literal : (t : Tables) (q : Queue Planned Delays) (ls : List Literal) → IsStarting t0 q0 t q ls → (g : Basis) → BasisGrows t.basis g → IsBasis g → (u : Tables) (p : Queue Planned Delays) (lit : SatLit) (l : Literal) → literal_at g.bank.terms g.lits lit ≡ l → the_state u p ≡ with_instance (the_mode q.rule.mode) [] ((literal_at g.bank.terms g.lits lit ∷ []) ∷ []) (the_state (record t { basis = g }) q) → IsRight u p → u.basis ≡ g → AddsStart lit (record t { basis = g }) u → p.rule ≡ q.rule → IsStarting t0 q0 u p (added ls (l ∷ []))
+  starting-literal t q ls s g grows good u p lit l named is right same adds rule =
+      let S : Literal → Type 0 = λ k. IsStarting t0 q0 u p (added ls (k ∷ [])) in
+      subst S named (starting-added (record t { basis = g }) u q p ls lit (starting-grown t q ls s g grows good) is right same adds rule)
 
-  -- all literals were added
-  pub whole : (t : Tables) (q : Queue Planned Delays) (ls : List Literal) (i : ℕ) → length ls ≤ i → IsStarting t0 q0 t q (take i ls) → IsStarting t0 q0 t q ls
-  whole t q ls i h s = let S : List Literal → Type 0 = λ ks. IsStarting t0 q0 t q ks in subst S (take-all ls i h) s
-
-  -- a literal of the start is one over what is declared now
-  pub start-literal : (t : Tables) (q : Queue Planned Delays) (ls : List Literal) → IsStarting t0 q0 t q ls → t0.basis.witnesses ≡ [] → (all : List Literal) → IsBranch (declared_scope t0.basis.bank) all → (i : ℕ) (l : Literal) → slice_get all i ≡ Some l → IsLiteral (content_scope t.basis.bank) l
-  start-literal t q ls s unwitnessed all typed i l at =
+  -- what is declared now is what was declared
+  pub scope-now : (t : Tables) (q : Queue Planned Delays) (ls : List Literal) → IsStarting t0 q0 t q ls → t0.basis.witnesses ≡ [] → content_scope t.basis.bank ≡ declared_scope t0.basis.bank
+  scope-now t q ls s unwitnessed =
       let none : t.basis.bank.witnesses ≡ [] = sym s.right.basis.typed ∙ ap (λ ws. map (λ (r : Row). r.type) (rows_of t.basis.bank.terms ws)) (s.basis.witnesses ∙ unwitnessed) in
-      let same : declared_scope t0.basis.bank ≡ content_scope t.basis.bank =
-      sym (scope-grows t0.basis t.basis s.basis) ∙ ap (λ ws. record { bases = length t.basis.bank.bases; names = map (λ c. c.type) t.basis.bank.consts; witnesses = ws }) (sym none) in
-      let L : Scope → Type 0 = λ x. IsLiteral x l in
-      subst L same (each-at (IsLiteral (declared_scope t0.basis.bank)) all i l (branch-get (declared_scope t0.basis.bank) all typed) at)
+      ap (λ ws. record { bases = length t.basis.bank.bases; names = map (λ c. c.type) t.basis.bank.consts; witnesses = ws }) none
+      ∙ scope-grows t0.basis t.basis s.basis
+
+  pub done-none : (t : Tables) (q : Queue Planned Delays) (ls : List Literal) → IsStarting t0 q0 t q ls → t.done ≡ 0
+  done-none t q ls s = ap (λ (x : State). x.done) s.state
 
   -- a start is the start of a run
   module _ (t : Tables) (q : Queue Planned Delays) (ls : List Literal) (s : IsStarting t0 q0 t q ls) (declared : IsScope (declared_scope t0.basis.bank)) (typed : IsBranch (declared_scope t0.basis.bank) ls) (unwitnessed : t0.basis.witnesses ≡ []) where
-    pub done-none : t.done ≡ 0
-    done-none = ap (λ (x : State). x.done) s.state
-
     setting_same : setting_by t q ≡ setting
     setting_same = ap₂ (λ (x : Scope) (d : Delays). record { scope = x; mode = the_mode d.mode }) (scope-grows t0.basis t.basis s.basis) s.rule
 
@@ -241,8 +286,8 @@ module _ (t0 : Tables) (q0 : Queue Planned Delays) where
         let same = scope-grows t0.basis t.basis s.basis in
         record {
           right = s.right;
-          comes_to = subst C (sym done-none) (ap Some state_is);
-          within = omega (arith, done-none);
+          comes_to = subst C (sym (done-none t q ls s)) (ap Some state_is);
+          within = omega (arith, done-none t q ls s);
           few = omega (arith, ap length s.basis.witnesses, ap length unwitnessed);
           declared = subst IsScope (sym same) declared;
           start = subst B (sym same) (subst L (sym s.units) (branch_filtered (declared_scope t0.basis.bank) ls typed));

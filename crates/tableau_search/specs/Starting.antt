@@ -2,7 +2,6 @@
 use Rattle.std.specs.Prelude.{◌≡◌, [], ◌∷◌, ◌++◌, true, false, if◌then◌else◌, List, filter}
 use Rattle.std.specs.List.{list_any}
 use Rattle.stt_tableau.specs.Literals.{Literal}
-use Rattle.stt_tableau.specs.Start.{has}
 use Rattle.sat_base.specs.declared.literal.SatLit.{SatLit}
 use Rattle.command_queue.specs.Queue.{Queue}
 use Rattle.search_run.specs.After.{started}
@@ -24,14 +23,6 @@ pub record AddsUnit (lit : SatLit) (old new : Table) : Type 0 where
   pub clauses : new.0 ≡ (if list_any (same_clause numbers (lit ∷ [])) (the_clauses old) then old.0 else old.0 ++ (lit ∷ [], Start) ∷ [])
   pub instances : new.1 ≡ old.1
 
--- no literal stands among those before it, of which the first ones are given
-abbrev pub AreApartAfter : List Literal → List Literal → Type 0
-AreApartAfter earlier [] = Unit {0}
-AreApartAfter earlier (l ∷ ls) = (has earlier l ≡ false) × AreApartAfter (earlier ++ l ∷ []) ls
-
-abbrev pub AreApart : List Literal → Type 0
-AreApart ls = AreApartAfter [] ls
-
 -- tables that began as the first ones, to which these literals of the start were added
 pub record IsStarting (t0 : Tables) (q0 : Queue Planned Delays) (t : Tables) (q : Queue Planned Delays) (ls : List Literal) : Type 0 where
   pub state : the_state t q ≡ started (setting_by t0 q0) ls
@@ -42,6 +33,6 @@ pub record IsStarting (t0 : Tables) (q0 : Queue Planned Delays) (t : Tables) (q 
   pub rule : q.rule ≡ q0.rule
 
 -- what a literal of the start adds to the steps, unless it is too deep
-pub record AddsStart (l : Literal) (t u : Tables) : Type 0 where
-  pub deep : is_shallow_literal l ≡ false → u.steps ≡ t.steps
-  pub unit : is_shallow_literal l ≡ true → (lit : SatLit) × ((literal_at u.basis.bank.terms u.basis.lits lit ≡ l) × AddsUnit lit t.steps u.steps)
+pub record AddsStart (lit : SatLit) (t u : Tables) : Type 0 where
+  pub deep : is_shallow_literal (literal_at t.basis.bank.terms t.basis.lits lit) ≡ false → u.steps ≡ t.steps
+  pub unit : is_shallow_literal (literal_at t.basis.bank.terms t.basis.lits lit) ≡ true → AddsUnit lit t.steps u.steps

@@ -22,7 +22,6 @@ use sat_log::Log;
 use search_tables::{Core, Waiting};
 use std::alloc::{AllocError, Global};
 use stt_core::Problem;
-use stt_tableau::start_literals;
 use tableau_clauses::StepTable;
 use term_bank::Bank;
 use witness_names::Witnesses;
@@ -54,9 +53,8 @@ impl<W: Weigher<Waiting>> Search<W> {
         ensures done { IfOk result (λ s. s.core.tables.done ≡ 0) }
         ensures ready { IfOk result (λ s. s.is_refused ≡ false) }
     {
-        let literals = start_literals(alloc, problem)?;
         let mut core = new_core(alloc, &problem.signature, *mode, weigher)?;
-        match start_all(&mut core, &literals) {
+        match start_all(&mut core, problem) {
             Ok(()) => Ok(Search {
                 core,
                 mode: *mode,

@@ -1,13 +1,15 @@
 //! The start of a search.
-ghost use Rattle.std.specs.Prelude.{◌≡◌, ◌+◌, ◌<◌, ◌≤◌, length, [], ◌∷◌, IfOk, OnOk, filter};
+ghost use Rattle.std.specs.Prelude.{◌≡◌, ◌+◌, ◌<◌, [], ◌∷◌, map, IfOk, OnOk};
+ghost use Rattle.stt_core.specs.Declarations.{scope_of};
 ghost use Rattle.stt_core.specs.ScopeView.{the_scope};
+ghost use Rattle.stt_core.specs.TypedProblem.{IsFormula, AreFormulas, IsTyped};
 ghost use Rattle.stt_core.specs.Typing.{IsScope};
-ghost use Rattle.stt_tableau.specs.Literals.{IsLiteral, IsBranch};
+ghost use Rattle.stt_core.specs.View.{the_term};
+ghost use Rattle.stt_tableau.specs.Start.{without_repeats, normal_literal, start};
 ghost use Rattle.sat_base.specs.declared.literal.SatLit.{SatLit};
 ghost use Rattle.sat_core.specs.Solver.{learned};
 ghost use Rattle.search_run.specs.After.{nothing_yet};
 ghost use Rattle.search_run.specs.Instances.{with_instance};
-ghost use Rattle.search_run.specs.Shallow.{is_shallow_literal};
 ghost use Rattle.term_bank.specs.Content.{content_scope};
 ghost use Rattle.search_tables.specs.Delays.{the_mode, delay_by};
 ghost use Rattle.search_tables.specs.Growing.{BasisGrows};
@@ -15,19 +17,18 @@ ghost use Rattle.literal_map.specs.Atoms.{literal_at};
 ghost use Rattle.tableau_clauses.specs.Table.{the_clauses};
 ghost use Rattle.search_tables.specs.Names.{IsNumber};
 ghost use Rattle.search_tables.specs.Standing.{declared_scope, the_state, IsBasis, IsRight};
-ghost use Rattle.tableau_search.specs.Running.{start_in, IsRunning};
-ghost use Rattle.tableau_search.specs.Starting.{AddsUnit, AddsStart, AreApart};
+ghost use Rattle.tableau_search.specs.Starting.{AddsUnit, AddsStart, IsStarting};
 
 use bank_normal::Normaliser;
 use command_queue::Weigher;
 use literal_map::LitTable;
 use mode_file::Mode;
+use problem_start::formula_literal;
 use sat_base::{Clause, SatLit};
 use sat_core::Solver;
 use search_tables::{Basis, Core, DEPTH, Waiting, make_variables};
 use std::alloc::{AllocError, Global};
-use stt_core::Signature;
-use stt_tableau::{Lit, Lits};
+use stt_core::{Problem, Signature, Term, Terms};
 use tableau_clauses::StepTable;
 use term_bank::{Bank, equal_ids_for_equal_terms};
 use witness_names::Witnesses;
@@ -71,21 +72,22 @@ pub(crate) fn new_core<W: Weigher<Waiting>>(
     Ok(Core::new(alloc, basis, mode, weigher)?)
 }
 
-/// The number of a literal.
-fn number_of(basis: &mut Basis, lit: &Lit) -> Result<SatLit, AllocError>
+/// The literal of a formula, by its number.
+fn number_of(basis: &mut Basis, formula: &Term) -> Result<SatLit, AllocError>
     requires good { IsBasis basis.old }
-    requires typed { IsLiteral (content_scope basis.old.bank) lit.now }
+    requires formula { IsFormula (content_scope basis.old.bank) (the_term formula.now) }
     ensures number { IfOk result (λ l. IsNumber basis.new.lits l) }
-    ensures literal { IfOk result (λ l. literal_at basis.new.bank.terms basis.new.lits l ≡ lit.now) }
+    ensures literal { IfOk result (λ l. literal_at basis.new.bank.terms basis.new.lits l ≡ normal_literal (content_scope basis.old.bank) (the_term formula.now)) }
     ensures good { OnOk result (IsBasis basis.new) }
     ensures grows { OnOk result (BasisGrows basis.old basis.new) }
 {
-    let id = basis.bank.import(&lit.atom)?;
-    let atom = basis.lits.lit_of(&basis.bank, id)?;
-    Ok(SatLit {
-        var: atom.var,
-        positive: lit.positive,
-    })
+    let Basis {
+        bank,
+        normal,
+        lits,
+        witnesses: _,
+    } = basis;
+    Ok(formula_literal(bank, normal, lits, formula)?)
 }
 
 /// Adds a start unit, for the solver too.
@@ -112,19 +114,18 @@ fn add_unit(
     Ok(())
 }
 
-/// A literal is a start unit, is seen, and is to be processed, unless it is too deep.
-fn start_with<W: Weigher<Waiting>>(core: &mut Core<W>, lit: &Lit) -> Result<(), AllocError>
+/// A literal is a start unit, is seen, and is to be processed, unless it is too deep or was one before.
+fn start_with<W: Weigher<Waiting>>(core: &mut Core<W>, lit: SatLit) -> Result<(), AllocError>
     requires right { IsRight core.old.tables core.old.plan }
-    requires typed { IsLiteral (content_scope core.old.tables.basis.bank) lit.now }
-    ensures state { OnOk result (the_state core.new.tables core.new.plan ≡ with_instance (the_mode core.old.plan.rule.mode) [] ((lit.now ∷ []) ∷ []) (the_state core.old.tables core.old.plan)) }
+    requires number { IsNumber core.old.tables.basis.lits lit }
+    ensures state { OnOk result (the_state core.new.tables core.new.plan ≡ with_instance (the_mode core.old.plan.rule.mode) [] ((literal_at core.old.tables.basis.bank.terms core.old.tables.basis.lits lit ∷ []) ∷ []) (the_state core.old.tables core.old.plan)) }
     ensures right { OnOk result (IsRight core.new.tables core.new.plan) }
-    ensures basis { OnOk result (BasisGrows core.old.tables.basis core.new.tables.basis) }
-    ensures steps { OnOk result (AddsStart lit.now core.old.tables core.new.tables) }
+    ensures basis { OnOk result (core.new.tables.basis ≡ core.old.tables.basis) }
+    ensures steps { OnOk result (AddsStart lit core.old.tables core.new.tables) }
     ensures rule { OnOk result (core.new.plan.rule ≡ core.old.plan.rule) }
 {
-    let number = number_of(&mut core.tables.basis, lit)?;
     let basis = &core.tables.basis;
-    if basis.bank.depth(basis.lits.formula_of(number)) > DEPTH {
+    if basis.bank.depth(basis.lits.formula_of(lit)) > DEPTH {
         return Ok(());
     }
     equal_ids_for_equal_terms(&basis.bank);
@@ -132,32 +133,47 @@ fn start_with<W: Weigher<Waiting>>(core: &mut Core<W>, lit: &Lit) -> Result<(), 
     let atoms = basis.lits.len();
     let alloc = core.tables.alloc;
     let tables = &mut core.tables;
-    add_unit(&mut tables.steps, &mut tables.solver, alloc, atoms, number)?;
-    core.see(number)?;
+    add_unit(&mut tables.steps, &mut tables.solver, alloc, atoms, lit)?;
+    core.see(lit)?;
     Ok(())
 }
 
-/// Starts a run from literals.
+/// Starts from the literals of the assumed formulas.
+fn start_assumed<W: Weigher<Waiting>>(core: &mut Core<W>, assumed: &Terms) -> Result<(), AllocError>
+    requires state { the_state core.old.tables core.old.plan ≡ nothing_yet }
+    requires right { IsRight core.old.tables core.old.plan }
+    requires unwitnessed { core.old.tables.basis.witnesses ≡ [] }
+    requires steps { core.old.tables.steps ≡ ([], []) }
+    requires typed { AreFormulas (declared_scope core.old.tables.basis.bank) assumed.now }
+    ensures { OnOk result (IsStarting core.old.tables core.old.plan core.new.tables core.new.plan (without_repeats (map (normal_literal (declared_scope core.old.tables.basis.bank)) assumed.now))) }
+{
+    for i in 0..assumed.len() {
+        let lit = number_of(&mut core.tables.basis, assumed.at(i))?;
+        start_with(core, lit)?;
+    }
+    Ok(())
+}
+
+/// Starts a problem's run: from the literals of the assumed formulas, in order, and then the negation of the conjecture's.
 pub(crate) fn start_all<W: Weigher<Waiting>>(
     core: &mut Core<W>,
-    literals: &Lits,
+    problem: &Problem,
 ) -> Result<(), AllocError>
     requires state { the_state core.old.tables core.old.plan ≡ nothing_yet }
     requires right { IsRight core.old.tables core.old.plan }
     requires unwitnessed { core.old.tables.basis.witnesses ≡ [] }
     requires steps { core.old.tables.steps ≡ ([], []) }
-    requires declared { IsScope (declared_scope core.old.tables.basis.bank) }
-    requires typed { IsBranch (declared_scope core.old.tables.basis.bank) literals.now }
-    requires apart { AreApart literals.now }
-    ensures running { OnOk result (IsRunning core.new.tables core.new.plan) }
-    ensures start { OnOk result (start_in core.new.tables ≡ filter is_shallow_literal literals.now) }
-    ensures bases { OnOk result (core.new.tables.basis.bank.bases ≡ core.old.tables.basis.bank.bases) }
-    ensures consts { OnOk result (core.new.tables.basis.bank.consts ≡ core.old.tables.basis.bank.consts) }
-    ensures done { OnOk result (core.new.tables.done ≡ 0) }
-    ensures rule { OnOk result (core.new.plan.rule ≡ core.old.plan.rule) }
+    requires declared { declared_scope core.old.tables.basis.bank ≡ scope_of problem.now.declared }
+    requires typed { IsTyped problem.now }
+    ensures { OnOk result (IsStarting core.old.tables core.old.plan core.new.tables core.new.plan (start problem.now)) }
 {
-    for i in 0..literals.len() {
-        start_with(core, literals.at(i))?;
+    start_assumed(core, &problem.assumed)?;
+    match &problem.conjecture {
+        None => Ok(()),
+        Some(conjecture) => {
+            let lit = number_of(&mut core.tables.basis, conjecture)?;
+            start_with(core, lit.negated())?;
+            Ok(())
+        }
     }
-    Ok(())
 }

@@ -6,5 +6,6 @@ use Rattle.tableau_search.proofs.start.number_of.Goals as goal
 pub returns-clause-good : goal.returns-clause-good
 returns-clause-good c =
     let old = c.args.basis.now in
-    let new : Basis = record { bank = c.import.new.self; normal = old.normal; lits = c.lit_of.new.self; witnesses = old.witnesses } in
-    basis-grown old new (record { bank = c.import.ensures.grows; lits = c.lit_of.ensures.begins; witnesses = refl }) refl c.requires.good c.lit_of.ensures.atoms
+    let new : Basis = record { bank = c.formula_literal.new.bank; normal = c.formula_literal.new.normal; lits = c.formula_literal.new.lits; witnesses = old.witnesses } in
+    let e = c.formula_literal.ensures in
+    basis-grown old new (record { bank = e.grows; lits = e.begins; witnesses = refl }) c.requires.good e.atoms e.right

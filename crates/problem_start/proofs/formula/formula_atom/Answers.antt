@@ -1,0 +1,24 @@
+use Rattle.std.proofs.Common.{ap, ◌∙◌, []}
+use Rattle.stt_core.specs.View.{the_term}
+use Rattle.stt_normal.specs.Normal.{normal_form}
+use Rattle.stt_tableau.specs.Literals.{literal}
+use Rattle.term_bank.specs.Content.{content_scope}
+use Rattle.term_bank.proofs.GrowLaws.{has_at, has_within}
+use Rattle.problem_start.proofs.PeelLaws.{normal-atom}
+use Rattle.problem_start.proofs.formula.formula_atom.Goals as goal
+
+pub atom_of-requires : goal.atom_of-requires
+atom_of-requires c =
+    let b = c.args.bank.now in
+    has_within c.normalise.new.bank c.in_ok-id.id (normal_form (content_scope b) [] (the_term c.args.formula.now)) c.in_ok-id.ensures.term
+
+pub returns-clause-literal : goal.returns-clause-literal
+returns-clause-literal c =
+    let b = c.args.bank.now in
+    c.atom_of.ensures.literal ∙ ap literal (has_at c.normalise.new.bank c.in_ok-id.id (normal_form (content_scope b) [] (the_term c.args.formula.now)) c.in_ok-id.ensures.term)
+
+pub returns-clause-atom : goal.returns-clause-atom
+returns-clause-atom c =
+    let a = c.atom_of in
+    normal-atom c.args.bank.now c.normalise.new.bank c.in_ok-id.id a.result.atom a.result.positive (the_term c.args.formula.now)
+    c.normalise.ensures.grows c.sig-declared.ensures.declared c.requires.formula c.in_ok-id.ensures.term a.ensures.within a.ensures.unsigned a.ensures.literal

@@ -1,0 +1,15 @@
+use Rattle.std.proofs.Common.{◌≡◌, ◌<◌, length}
+use Rattle.stt_tableau.specs.Literals.{literal}
+use Rattle.term_bank.specs.Terms.{term_at}
+use Rattle.problem_start.proofs.PeelLaws.{with_sign}
+use Rattle.problem_start.proofs.unsigned.atom_of.Given as goal
+
+-- the literal of what is left, with the sign so far, is that of the formula
+abbrev pub invariant-loop-inner : goal.invariant-loop-inner
+invariant-loop-inner l = record {
+  within : l.atom < length l.bank.terms;
+  literal : with_sign l.positive (literal (term_at l.bank.terms l.atom)) ≡ literal (term_at l.bank.terms l.formula);
+}
+
+abbrev pub decreases-loop-inner : goal.decreases-loop-inner
+decreases-loop-inner l = l.atom

@@ -1,0 +1,62 @@
+//! The literals of formulas.
+ghost use Rattle.std.specs.Prelude.{◌≡◌, ◌<◌, length, All, IfOk};
+ghost use Rattle.stt_core.specs.TypedProblem.{IsFormula};
+ghost use Rattle.stt_core.specs.View.{the_term};
+ghost use Rattle.stt_tableau.specs.Start.{normal_literal};
+ghost use Rattle.term_bank.specs.Content.{Grows, content_scope};
+ghost use Rattle.term_bank.specs.Terms.{term_at};
+ghost use Rattle.bank_normal.specs.Right.{IsRight};
+ghost use Rattle.literal_map.specs.Atoms.{literal_at, IsAtom, Begins};
+
+use crate::unsigned::{SignedAtom, atom_of};
+use bank_normal::Normaliser;
+use literal_map::{LitTable, literals_stay};
+use sat_base::SatLit;
+use std::alloc::AllocError;
+use stt_core::Term;
+use term_bank::Bank;
+
+/// The literal of the formula's normal form, without a number for its atom.
+pub fn formula_atom(
+    bank: &mut Bank,
+    normal: &mut Normaliser,
+    formula: &Term,
+) -> Result<SignedAtom, AllocError>
+    requires formula { IsFormula (content_scope bank.old) (the_term formula.now) }
+    requires right { IsRight normal.old bank.old }
+    ensures literal { IfOk result (λ a. record { positive = a.positive; atom = term_at bank.new.terms a.atom } ≡ normal_literal (content_scope bank.old) (the_term formula.now)) }
+    ensures atom { IfOk result (λ a. IsAtom bank.new a.atom) }
+    ensures grows { Grows bank.old bank.new }
+    ensures right { IsRight normal.new bank.new }
+{
+    let _declared = bank.sig();
+    let id = normal.normalise(bank, formula)?;
+    Ok(atom_of(bank, id))
+}
+
+/// The literal of the formula's normal form. Where its atom has no number it gets the next one. A formula that is denied is the literal
+/// with the other sign.
+pub fn formula_literal(
+    bank: &mut Bank,
+    normal: &mut Normaliser,
+    lits: &mut LitTable,
+    formula: &Term,
+) -> Result<SatLit, AllocError>
+    requires formula { IsFormula (content_scope bank.old) (the_term formula.now) }
+    requires right { IsRight normal.old bank.old }
+    requires atoms { All (IsAtom bank.old) lits.old }
+    ensures number { IfOk result (λ l. l.var.0 < length lits.new) }
+    ensures literal { IfOk result (λ l. literal_at bank.new.terms lits.new l ≡ normal_literal (content_scope bank.old) (the_term formula.now)) }
+    ensures grows { Grows bank.old bank.new }
+    ensures right { IsRight normal.new bank.new }
+    ensures begins { Begins lits.old lits.new }
+    ensures atoms { All (IsAtom bank.new) lits.new }
+{
+    literals_stay();
+    let signed = formula_atom(bank, normal, formula)?;
+    let lit = lits.lit_of(bank, signed.atom)?;
+    Ok(SatLit {
+        var: lit.var,
+        positive: signed.positive,
+    })
+}
