@@ -1,5 +1,2 @@
 pub mod Solver
-pub mod Marks
-pub mod Learned
-pub mod Learner
-pub mod Keeper
+pub mod Means

@@ -1,6 +1,1 @@
-pub mod Complete
-pub mod Counting
-pub mod Watching
-pub mod Trail
-pub mod Analysis
-pub mod Packing
+pub mod Means

@@ -15,7 +15,7 @@ use Rattle.search_run.specs.Each.{Each}
 use Rattle.search_run.specs.Mode.{Mode}
 use Rattle.search_run.specs.State.{State, Setting, Typed}
 use Rattle.search_run.specs.Terms.{first_terms, prepared, with_term, with_terms}
-use Rattle.search_tables.specs.Names.{typed_at, IsPlace}
+use Rattle.search_tables.specs.Means.Names.{typed_at, IsPlace}
 use Rattle.search_tables.proofs.EachLaws.{All-from_each}
 
 -- TYPES

@@ -8,8 +8,8 @@ use Rattle.bank_normal.proofs.RightLaws.{right_grown}
 use Rattle.literal_map.proofs.StayLaws.{atoms_stay}
 use Rattle.witness_names.proofs.StayLaws.{rows_same, rows_grown}
 use Rattle.search_tables.specs.declared.tables.Basis.{Basis}
-use Rattle.search_tables.specs.Growing.{BasisGrows}
-use Rattle.search_tables.specs.Standing.{IsBasis}
+use Rattle.search_tables.specs.Means.Growing.{BasisGrows}
+use Rattle.search_tables.specs.Means.Standing.{IsBasis}
 
 module _ (old : Basis) (b : Content) (grows : Grows old.bank b) where
   abbrev grown : Basis

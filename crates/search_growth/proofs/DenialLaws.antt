@@ -37,10 +37,10 @@ use Rattle.search_run.proofs.NamingLaws.{either}
 use Rattle.search_run.proofs.RowLaws.{row_at, no_row}
 use Rattle.search_growth.specs.Means.Denials.{Denies, with_row}
 use Rattle.search_tables.specs.declared.tables.Basis.{Basis}
-use Rattle.search_tables.specs.Growing.{Longer, Continues, BasisWidens}
-use Rattle.search_tables.specs.Names.{Names, IsNumber, IsPlace}
-use Rattle.search_tables.specs.Standing.{rows_in, IsBasis}
-use Rattle.search_tables.specs.Steps.{IsMade}
+use Rattle.search_tables.specs.Means.Growing.{Longer, Continues, BasisWidens}
+use Rattle.search_tables.specs.Means.Names.{Names, IsNumber, IsPlace}
+use Rattle.search_tables.specs.Means.Standing.{rows_in, IsBasis}
+use Rattle.search_tables.specs.Means.Steps.{IsMade}
 use Rattle.search_tables.proofs.EachLaws.{each-weaker, each-from_All}
 use Rattle.search_tables.proofs.NamesLaws.{place-stays, literal-stays}
 use Rattle.search_tables.proofs.PlaceLaws.{same-places}

@@ -18,12 +18,12 @@ use Rattle.search_tables.specs.declared.command.Command.TheVariants.{Grow}
 use Rattle.search_tables.specs.declared.command.Planned.{Planned}
 use Rattle.search_tables.specs.declared.command.Delays.{Delays}
 use Rattle.search_tables.specs.declared.tables.Tables.{Tables}
-use Rattle.search_tables.specs.Fitting.{variables_for, logical_for, later_heads}
-use Rattle.search_tables.specs.HeadNumbers.{head_at}
-use Rattle.search_tables.specs.Holes.{holes_in, leftmost}
-use Rattle.search_tables.specs.Names.{sketch_at, command_at}
-use Rattle.search_tables.specs.Pending.{over_heads, BeginsWith}
-use Rattle.search_tables.specs.Standing.{declared_scope, rows_in, scope_by, sketches_in, names_in, sources, IsRight}
+use Rattle.search_tables.specs.Means.Fitting.{variables_for, logical_for, later_heads}
+use Rattle.search_tables.specs.Means.HeadNumbers.{head_at}
+use Rattle.search_tables.specs.Means.Holes.{holes_in, leftmost}
+use Rattle.search_tables.specs.Means.Names.{sketch_at, command_at}
+use Rattle.search_tables.specs.Means.Pending.{over_heads, BeginsWith}
+use Rattle.search_tables.specs.Means.Standing.{declared_scope, rows_in, scope_by, sketches_in, names_in, sources, IsRight}
 use Rattle.search_tables.proofs.FittingLaws.{length-bases, heads-some}
 use Rattle.search_tables.proofs.HoleLaws.{leftmost-first, holes-at}
 use Rattle.search_tables.proofs.LoopLists.{begins-mapped}

@@ -8,7 +8,7 @@ use Rattle.search_run.specs.Partial.{blank}
 use Rattle.search_run.specs.State.{State, Setting, Sketch}
 use Rattle.search_run.specs.Terms.{opened, prepared}
 use Rattle.search_tables.specs.declared.tables.Basis.{Basis}
-use Rattle.search_tables.specs.Growing.{BasisGrows}
+use Rattle.search_tables.specs.Means.Growing.{BasisGrows}
 
 -- a test of the elements from a place on
 module _ {X : Type 0} (test : X → Bool) (xs : List X) (i : ℕ) (x : X) (at : slice_get xs i ≡ Some x) (all : Bool) (inv : list_any test (drop i xs) ≡ all) where

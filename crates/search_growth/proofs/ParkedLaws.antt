@@ -13,10 +13,10 @@ use Rattle.search_tables.specs.declared.command.Command.TheVariants.{Grow}
 use Rattle.search_tables.specs.declared.command.Planned.{Planned}
 use Rattle.search_tables.specs.declared.command.Delays.{Delays}
 use Rattle.search_tables.specs.declared.tables.Tables.{Tables}
-use Rattle.search_tables.specs.HeadNumbers.{head_at}
-use Rattle.search_tables.specs.Names.{sketch_at, command_at}
-use Rattle.search_tables.specs.Pending.{base_of, over_parked}
-use Rattle.search_tables.specs.Standing.{names_in, sketches_in, sources, IsRight}
+use Rattle.search_tables.specs.Means.HeadNumbers.{head_at}
+use Rattle.search_tables.specs.Means.Names.{sketch_at, command_at}
+use Rattle.search_tables.specs.Means.Pending.{base_of, over_parked}
+use Rattle.search_tables.specs.Means.Standing.{names_in, sketches_in, sources, IsRight}
 use Rattle.search_tables.proofs.EachLaws.{each-at, each-unmapped}
 use Rattle.search_tables.proofs.PlaceLaws.{each-passes, filter-places, map-mapped}
 

@@ -21,11 +21,11 @@ use Rattle.search_tables.specs.declared.stem.Stem.{Stem}
 use Rattle.search_tables.specs.declared.tables.Basis.{Basis}
 use Rattle.search_tables.specs.declared.tables.Tables.{Tables}
 use Rattle.search_tables.specs.Delays.{the_mode}
-use Rattle.search_tables.specs.Growing.{Longer, Continues, Extends}
-use Rattle.search_tables.specs.Heads.{sketch_of, sketches_of, IsStem, AreStems}
-use Rattle.search_tables.specs.Holes.{holes_in, leftmost}
-use Rattle.search_tables.specs.Names.{sketch_at}
-use Rattle.search_tables.specs.Standing.{declared_scope, scope_by, setting_by, sketches_in, names_in, sources, parts, loops_in, the_state, places_where, IsBasis, IsRight}
+use Rattle.search_tables.specs.Means.Growing.{Longer, Continues, Extends}
+use Rattle.search_tables.specs.Means.Heads.{sketch_of, sketches_of, IsStem, AreStems}
+use Rattle.search_tables.specs.Means.Holes.{holes_in, leftmost}
+use Rattle.search_tables.specs.Means.Names.{sketch_at}
+use Rattle.search_tables.specs.Means.Standing.{declared_scope, scope_by, setting_by, sketches_in, names_in, sources, parts, loops_in, the_state, places_where, IsBasis, IsRight}
 use Rattle.search_tables.proofs.HoleLaws.{leftmost-first, holes-length}
 use Rattle.search_tables.proofs.LoopStays.{loops-stay, entries-stay}
 use Rattle.search_tables.proofs.NamesLaws.{command-stays, numbers-stay}

@@ -22,9 +22,9 @@ use Rattle.instantiate.proofs.WholeLaws.{whole-none, whole-hole}
 use Rattle.search_tables.specs.declared.command.Planned.{Planned}
 use Rattle.search_tables.specs.declared.command.Delays.{Delays}
 use Rattle.search_tables.specs.declared.tables.Tables.{Tables}
-use Rattle.search_tables.specs.Holes.{holes_in, leftmost, argument_holes, after_head}
-use Rattle.search_tables.specs.Names.{sketch_at}
-use Rattle.search_tables.specs.Standing.{scope_by, sketches_in, IsRight}
+use Rattle.search_tables.specs.Means.Holes.{holes_in, leftmost, argument_holes, after_head}
+use Rattle.search_tables.specs.Means.Names.{sketch_at}
+use Rattle.search_tables.specs.Means.Standing.{scope_by, sketches_in, IsRight}
 use Rattle.search_tables.proofs.HoleLaws.{leftmost-first, holes-at}
 use Rattle.search_tables.proofs.FilledHoles.{leftmost-taken, type-taken, grown-holes}
 use Rattle.search_growth.proofs.ParkingLaws.{scope-is}

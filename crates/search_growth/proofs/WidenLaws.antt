@@ -28,12 +28,12 @@ use Rattle.search_tables.specs.declared.command.Planned.{Planned}
 use Rattle.search_tables.specs.declared.command.Delays.{Delays}
 use Rattle.search_tables.specs.declared.tables.Basis.{Basis}
 use Rattle.search_tables.specs.declared.tables.Tables.{Tables}
-use Rattle.search_tables.specs.Growing.{Longer, Continues, BasisGrows, BasisWidens, Extends}
-use Rattle.search_tables.specs.Heads.{sketches_of, AreStems}
-use Rattle.search_tables.specs.Holes.{holes_in}
-use Rattle.search_tables.specs.Names.{IsNumber, IsPlace}
-use Rattle.search_tables.specs.Pending.{loop_at, IsEntry}
-use Rattle.search_tables.specs.Standing.{declared_scope, rows_in, scope_by, sketches_in, names_in, sources, loops_in, the_state, is_universal, can_pair, places_where, IsBasis, IsRight}
+use Rattle.search_tables.specs.Means.Growing.{Longer, Continues, BasisGrows, BasisWidens, Extends}
+use Rattle.search_tables.specs.Means.Heads.{sketches_of, AreStems}
+use Rattle.search_tables.specs.Means.Holes.{holes_in}
+use Rattle.search_tables.specs.Means.Names.{IsNumber, IsPlace}
+use Rattle.search_tables.specs.Means.Pending.{loop_at, IsEntry}
+use Rattle.search_tables.specs.Means.Standing.{declared_scope, rows_in, scope_by, sketches_in, names_in, sources, loops_in, the_state, is_universal, can_pair, places_where, IsBasis, IsRight}
 use Rattle.search_tables.proofs.EachLaws.{each-weaker, each-from_All, map-same}
 use Rattle.search_tables.proofs.LoopStays.{loops-stay, entries-stay}
 use Rattle.search_tables.proofs.NamesLaws.{place-stays, term-stays, literal-stays, command-stays, numbers-stay}

@@ -14,8 +14,8 @@ use Rattle.search_tables.specs.declared.head.HoleHead.{HoleHead}
 use Rattle.search_tables.specs.declared.head.HoleHead.TheVariants.{Bound, Name, Wit, False, Not, Imp, All, Eq, Choice}
 use Rattle.search_tables.specs.declared.stem.Stem.{Stem}
 use Rattle.search_tables.specs.declared.stem.Stem.TheVariants.{Blank, Grown}
-use Rattle.search_tables.specs.Heads.{the_hole_head, sketch_of, sketches_after, IsStem, AreStems}
-use Rattle.search_tables.specs.Names.{sketch_at}
+use Rattle.search_tables.specs.Means.Heads.{the_hole_head, sketch_of, sketches_after, IsStem, AreStems}
+use Rattle.search_tables.specs.Means.Names.{sketch_at}
 
 module _ (scope : Scope) (more rows : List Row) where
   abbrev old : Scope

@@ -8,9 +8,9 @@ ghost use Rattle.term_bank.specs.Terms.{term_at};
 ghost use Rattle.search_run.specs.Each.{Each};
 ghost use Rattle.search_run.specs.Terms.{first_terms, prepared, with_terms};
 ghost use Rattle.search_tables.specs.Delays.{the_mode};
-ghost use Rattle.search_tables.specs.Growing.{BasisGrows};
-ghost use Rattle.search_tables.specs.Names.{IsPlace};
-ghost use Rattle.search_tables.specs.Standing.{setting_by, the_state, IsBasis, IsRight};
+ghost use Rattle.search_tables.specs.Means.Growing.{BasisGrows};
+ghost use Rattle.search_tables.specs.Means.Names.{IsPlace};
+ghost use Rattle.search_tables.specs.Means.Standing.{setting_by, the_state, IsBasis, IsRight};
 
 use command_queue::Weigher;
 use search_tables::{Basis, Core, Waiting};

@@ -8,10 +8,10 @@ ghost use Rattle.search_run.specs.Alternatives.{all_neg};
 ghost use Rattle.search_run.specs.Heads.{target};
 ghost use Rattle.search_run.specs.Witness.{witness_of};
 ghost use Rattle.search_growth.specs.Means.Denials.{Denies, with_row};
-ghost use Rattle.search_tables.specs.Growing.{BasisWidens};
-ghost use Rattle.search_tables.specs.Names.{IsNumber};
-ghost use Rattle.search_tables.specs.Standing.{rows_in, the_state, IsBasis, IsRight};
-ghost use Rattle.search_tables.specs.Steps.{IsMade};
+ghost use Rattle.search_tables.specs.Means.Growing.{BasisWidens};
+ghost use Rattle.search_tables.specs.Means.Names.{IsNumber};
+ghost use Rattle.search_tables.specs.Means.Standing.{rows_in, the_state, IsBasis, IsRight};
+ghost use Rattle.search_tables.specs.Means.Steps.{IsMade};
 
 use command_queue::Weigher;
 use instantiate::{Enumerator, target_of};

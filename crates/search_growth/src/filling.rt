@@ -13,11 +13,11 @@ ghost use Rattle.term_bank.specs.Content.{HasTerm};
 ghost use Rattle.search_tables.specs.declared.command.Planned.{Planned};
 ghost use Rattle.search_tables.specs.declared.command.Delays.{Delays};
 ghost use Rattle.search_tables.specs.Delays.{the_mode};
-ghost use Rattle.search_tables.specs.Growing.{BasisGrows};
-ghost use Rattle.search_tables.specs.HeadNumbers.{head_at};
-ghost use Rattle.search_tables.specs.Heads.{the_hole_head};
-ghost use Rattle.search_tables.specs.Names.{sketch_at, AreNumbers};
-ghost use Rattle.search_tables.specs.Standing.{names_in, scope_by, setting_by, sketches_in, the_state, IsBasis, IsRight};
+ghost use Rattle.search_tables.specs.Means.Growing.{BasisGrows};
+ghost use Rattle.search_tables.specs.Means.HeadNumbers.{head_at};
+ghost use Rattle.search_tables.specs.Means.Heads.{the_hole_head};
+ghost use Rattle.search_tables.specs.Means.Names.{sketch_at, AreNumbers};
+ghost use Rattle.search_tables.specs.Means.Standing.{names_in, scope_by, setting_by, sketches_in, the_state, IsBasis, IsRight};
 ghost use Rattle.search_tables.specs.declared.command.Command.TheVariants.{Grow};
 
 use crate::opening::open_stem;

@@ -7,9 +7,9 @@ ghost use Rattle.search_run.specs.State.{grow, pushed};
 ghost use Rattle.search_tables.specs.declared.command.Planned.{Planned};
 ghost use Rattle.search_tables.specs.declared.command.Delays.{Delays};
 ghost use Rattle.search_tables.specs.Delays.{the_mode};
-ghost use Rattle.search_tables.specs.Fitting.{logical_for, later_heads};
-ghost use Rattle.search_tables.specs.Names.{sketch_at};
-ghost use Rattle.search_tables.specs.Standing.{scope_by, sketches_in, the_state, IsRight};
+ghost use Rattle.search_tables.specs.Means.Fitting.{logical_for, later_heads};
+ghost use Rattle.search_tables.specs.Means.Names.{sketch_at};
+ghost use Rattle.search_tables.specs.Means.Standing.{scope_by, sketches_in, the_state, IsRight};
 
 use command_queue::Weigher;
 use search_tables::{Command, Core, Over, Tables, Waiting, number_of};

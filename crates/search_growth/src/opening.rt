@@ -4,9 +4,9 @@ ghost use Rattle.std.specs.List.{list_any};
 ghost use Rattle.stt_core.specs.SimpleType.{SimpleType, arrow, is_declared, same_type};
 ghost use Rattle.stt_core.specs.View.{the_type};
 ghost use Rattle.search_run.specs.Terms.{opened, prepared};
-ghost use Rattle.search_tables.specs.Growing.{BasisGrows};
-ghost use Rattle.search_tables.specs.Heads.{sketch_of, IsStem};
-ghost use Rattle.search_tables.specs.Standing.{scope_by, setting_by, sketches_in, the_state, IsRight};
+ghost use Rattle.search_tables.specs.Means.Growing.{BasisGrows};
+ghost use Rattle.search_tables.specs.Means.Heads.{sketch_of, IsStem};
+ghost use Rattle.search_tables.specs.Means.Standing.{scope_by, setting_by, sketches_in, the_state, IsRight};
 
 use crate::base_terms::prepare_base;
 use crate::heads::push_heads;

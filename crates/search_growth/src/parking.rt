@@ -9,9 +9,9 @@ ghost use Rattle.search_run.specs.Partial.{Hole};
 ghost use Rattle.search_run.specs.Witness.{is_hole_of};
 ghost use Rattle.search_tables.specs.declared.command.Planned.{Planned};
 ghost use Rattle.search_tables.specs.declared.command.Delays.{Delays};
-ghost use Rattle.search_tables.specs.Heads.{sketch_of, IsStem};
-ghost use Rattle.search_tables.specs.Holes.{holes_in, leftmost};
-ghost use Rattle.search_tables.specs.Standing.{scope_by, sketches_in, the_state, IsRight};
+ghost use Rattle.search_tables.specs.Means.Heads.{sketch_of, IsStem};
+ghost use Rattle.search_tables.specs.Means.Holes.{holes_in, leftmost};
+ghost use Rattle.search_tables.specs.Means.Standing.{scope_by, sketches_in, the_state, IsRight};
 
 use crate::taking::taken_type;
 use command_queue::Weigher;

@@ -6,10 +6,10 @@ ghost use Rattle.instantiate.specs.Growing.{TakesHead};
 ghost use Rattle.search_run.specs.Partial.{Hole};
 ghost use Rattle.search_tables.specs.declared.command.Planned.{Planned};
 ghost use Rattle.search_tables.specs.declared.command.Delays.{Delays};
-ghost use Rattle.search_tables.specs.Heads.{the_hole_head};
-ghost use Rattle.search_tables.specs.Holes.{after_head};
-ghost use Rattle.search_tables.specs.Names.{sketch_at};
-ghost use Rattle.search_tables.specs.Standing.{scope_by, sketches_in, IsRight};
+ghost use Rattle.search_tables.specs.Means.Heads.{the_hole_head};
+ghost use Rattle.search_tables.specs.Means.Holes.{after_head};
+ghost use Rattle.search_tables.specs.Means.Names.{sketch_at};
+ghost use Rattle.search_tables.specs.Means.Standing.{scope_by, sketches_in, IsRight};
 
 use search_tables::{HoleHead, Tables};
 use std::alloc::AllocError;

@@ -7,10 +7,10 @@ ghost use Rattle.literal_map.specs.Atoms.{literal_at};
 ghost use Rattle.search_run.specs.State.{grow, pushed};
 ghost use Rattle.search_run.specs.Witness.{has_hole_of, witnessed};
 ghost use Rattle.search_tables.specs.Delays.{the_mode};
-ghost use Rattle.search_tables.specs.Growing.{BasisWidens};
-ghost use Rattle.search_tables.specs.Names.{IsNumber};
-ghost use Rattle.search_tables.specs.Standing.{setting_by, sketches_in, the_state, IsRight};
-ghost use Rattle.search_tables.specs.Steps.{IsMade, StepsGrow};
+ghost use Rattle.search_tables.specs.Means.Growing.{BasisWidens};
+ghost use Rattle.search_tables.specs.Means.Names.{IsNumber};
+ghost use Rattle.search_tables.specs.Means.Standing.{setting_by, sketches_in, the_state, IsRight};
+ghost use Rattle.search_tables.specs.Means.Steps.{IsMade, StepsGrow};
 
 use crate::denial::{denied_target, deny};
 use command_queue::Weigher;

@@ -3,7 +3,7 @@
 ghost use Rattle.std.specs.Prelude.{◌≡◌, ◌+◌, false};
 ghost use Rattle.stt_core.specs.TypedProblem.{IsTyped};
 ghost use Rattle.search_tables.specs.Delays.{delay_by};
-ghost use Rattle.tableau_search.specs.Running.{IsUnderWay};
+ghost use Rattle.tableau_search.specs.Means.Running.{IsUnderWay};
 
 use command_queue::Weigher;
 use mode_file::Mode;

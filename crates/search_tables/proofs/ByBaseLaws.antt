@@ -9,7 +9,7 @@ use Rattle.std.proofs.lemmas.Grind.{get_or-set_at}
 use Rattle.stt_core.proofs.ListLaws.{map-append}
 use Rattle.stt_core.specs.SimpleType.{base, same_type}
 use Rattle.instantiate.specs.Listing.{Listing, ids_of}
-use Rattle.search_tables.specs.ByBase.{listings}
+use Rattle.search_tables.specs.Means.ByBase.{listings}
 
 same_number : (m n : ℕ) → m ≡ n → nat_eq m n ≡ true
 same_number m n e = grind (arith, nat_tests, e)

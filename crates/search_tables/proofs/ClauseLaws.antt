@@ -6,7 +6,7 @@ use Rattle.std.proofs.Math.Seq.{take-append_seam}
 use Rattle.sat_base.specs.declared.literal.SatLit.{SatLit}
 use Rattle.search_run.specs.Each.{Each}
 use Rattle.search_run.specs.Clauses.{Kind, same_clause, with_clauses}
-use Rattle.search_tables.specs.Growing.{Longer}
+use Rattle.search_tables.specs.Means.Growing.{Longer}
 use Rattle.search_tables.proofs.EachLaws.{each-weaker, All-from_each}
 
 pub with_clauses-longer : {L : Type 0} (kind : Kind L) (cs es : List (List L)) → Longer cs (with_clauses kind cs es)

@@ -25,12 +25,12 @@ use Rattle.search_tables.specs.declared.command.Delays.{Delays}
 use Rattle.search_tables.specs.declared.stem.Stem.{Stem}
 use Rattle.search_tables.specs.declared.tables.Basis.{Basis}
 use Rattle.search_tables.specs.declared.tables.Tables.{Tables}
-use Rattle.search_tables.specs.Empty.{AreEmpty}
-use Rattle.search_tables.specs.Heads.{sketches_of, AreStems}
-use Rattle.search_tables.specs.Holes.{holes_in}
-use Rattle.search_tables.specs.Names.{typed_at, IsNumber, IsPlace}
-use Rattle.search_tables.specs.Pending.{loop_at, IsEntry}
-use Rattle.search_tables.specs.Standing.{declared_scope, rows_in, scope_by, sketches_in, names_in, sources, the_state, is_universal, can_pair, places_where, IsBasis, IsRight}
+use Rattle.search_tables.specs.Means.Empty.{AreEmpty}
+use Rattle.search_tables.specs.Means.Heads.{sketches_of, AreStems}
+use Rattle.search_tables.specs.Means.Holes.{holes_in}
+use Rattle.search_tables.specs.Means.Names.{typed_at, IsNumber, IsPlace}
+use Rattle.search_tables.specs.Means.Pending.{loop_at, IsEntry}
+use Rattle.search_tables.specs.Means.Standing.{declared_scope, rows_in, scope_by, sketches_in, names_in, sources, the_state, is_universal, can_pair, places_where, IsBasis, IsRight}
 use Rattle.search_tables.proofs.EachLaws.{each-weaker, each-last}
 use Rattle.search_tables.proofs.NotingLaws.{listed-last}
 use Rattle.search_tables.proofs.FittingLaws.{places-step}

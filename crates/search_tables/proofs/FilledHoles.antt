@@ -9,7 +9,7 @@ use Rattle.search_run.specs.Partial.{Hole, Partial, hole, head, function, applic
 use Rattle.search_run.specs.State.{Sketch}
 use Rattle.search_run.specs.Commands.{filled_at, grown_by}
 use Rattle.instantiate.specs.Growing.{TakesHead}
-use Rattle.search_tables.specs.Holes.{holes_in, leftmost, blank_hole, argument_holes, after_head}
+use Rattle.search_tables.specs.Means.Holes.{holes_in, leftmost, blank_hole, argument_holes, after_head}
 use Rattle.search_tables.proofs.HoleLaws.{leftmost-first}
 
 -- one hole under the binders of a type

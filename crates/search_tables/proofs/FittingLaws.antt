@@ -9,12 +9,12 @@ use Rattle.stt_core.proofs.ListLaws.{mapped_get, drop_got, slice_get-append}
 use Rattle.search_run.specs.Each.{Each}
 use Rattle.search_run.specs.Heads.{target, places_to, bases_from, logical_heads, fitting_heads, heads_for}
 use Rattle.search_run.specs.Partial.{Hole}
-use Rattle.search_tables.specs.Fitting.{variables_for, logical_for, later_heads, SplitsAt}
-use Rattle.search_tables.specs.Pending.{base_of}
+use Rattle.search_tables.specs.Means.Fitting.{variables_for, logical_for, later_heads, SplitsAt}
+use Rattle.search_tables.specs.Means.Pending.{base_of}
 use Rattle.search_tables.specs.declared.command.Planned.{Planned}
 use Rattle.search_tables.specs.declared.command.Delays.{Delays}
 use Rattle.search_tables.specs.declared.tables.Tables.{Tables}
-use Rattle.search_tables.specs.Standing.{declared_scope, rows_in, IsRight}
+use Rattle.search_tables.specs.Means.Standing.{declared_scope, rows_in, IsRight}
 use Rattle.command_queue.specs.Queue.{Queue}
 use Rattle.instantiate.specs.Listing.{ids_of}
 use Rattle.stt_tableau.specs.Witnesses.{Row, with_rows}

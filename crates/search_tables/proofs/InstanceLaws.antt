@@ -22,8 +22,8 @@ use Rattle.sat_core.specs.Solver.{SolverState, learned}
 use Rattle.search_tables.specs.declared.command.Planned.{Planned}
 use Rattle.search_tables.specs.declared.command.Delays.{Delays}
 use Rattle.search_tables.specs.declared.tables.Tables.{Tables}
-use Rattle.search_tables.specs.Names.{IsNumber}
-use Rattle.search_tables.specs.Standing.{the_state, IsRight}
+use Rattle.search_tables.specs.Means.Names.{IsNumber}
+use Rattle.search_tables.specs.Means.Standing.{the_state, IsRight}
 use Rattle.search_tables.proofs.NumberLaws.{stand}
 
 pub joined-mapped : {K L : Type 0} (d : K → L) (as' : List (List K)) → flat_map (λ (a : List L). a) (map (map d) as') ≡ map d (flat_map (λ (a : List K). a) as')

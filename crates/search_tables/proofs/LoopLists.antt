@@ -14,9 +14,9 @@ use Rattle.search_tables.specs.declared.command.Command.TheVariants.{Inst}
 use Rattle.search_tables.specs.declared.command.Planned.{Planned}
 use Rattle.search_tables.specs.declared.command.Delays.{Delays}
 use Rattle.search_tables.specs.declared.tables.Tables.{Tables}
-use Rattle.search_tables.specs.Names.{command_at}
-use Rattle.search_tables.specs.Pending.{range_of, over_terms, over_universals, BeginsWith}
-use Rattle.search_tables.specs.Standing.{names_in, sources, IsRight}
+use Rattle.search_tables.specs.Means.Names.{command_at}
+use Rattle.search_tables.specs.Means.Pending.{range_of, over_terms, over_universals, BeginsWith}
+use Rattle.search_tables.specs.Means.Standing.{names_in, sources, IsRight}
 use Rattle.search_tables.proofs.PlaceLaws.{terms-of, map-mapped}
 use Rattle.search_tables.proofs.TermLaws.{noted_at, universals-are}
 

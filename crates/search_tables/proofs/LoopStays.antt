@@ -23,9 +23,9 @@ use Rattle.search_tables.specs.declared.command.Over.{Over}
 use Rattle.search_tables.specs.declared.command.Over.TheVariants.{Terms, Universals, Negatives, Positives, Heads, Parked}
 use Rattle.search_tables.specs.declared.command.Planned.{Planned}
 use Rattle.search_tables.specs.declared.command.Rest.{Rest}
-use Rattle.search_tables.specs.Growing.{Longer, Extends}
-use Rattle.search_tables.specs.Names.{Names, command_at, AreNumbers}
-use Rattle.search_tables.specs.Pending.{range_of, equation_type, base_of, over_terms, over_universals, over_negatives, over_positives, over_heads, over_parked, loop_over, between, later_of, HasWitnesses, AreThere, IsEntry, loop_at}
+use Rattle.search_tables.specs.Means.Growing.{Longer, Extends}
+use Rattle.search_tables.specs.Means.Names.{Names, command_at, AreNumbers}
+use Rattle.search_tables.specs.Means.Pending.{range_of, equation_type, base_of, over_terms, over_universals, over_negatives, over_positives, over_heads, over_parked, loop_over, between, later_of, HasWitnesses, AreThere, IsEntry, loop_at}
 use Rattle.search_tables.proofs.EachLaws.{each-weaker, map-same}
 
 -- what is made of a longer list is longer

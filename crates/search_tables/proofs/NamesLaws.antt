@@ -14,9 +14,9 @@ use Rattle.witness_names.specs.Rows.{binder_of}
 use Rattle.instantiate.specs.Listing.{Listing}
 use Rattle.search_tables.specs.declared.command.Command.{Command}
 use Rattle.search_tables.specs.declared.command.Command.TheVariants.{Process, Mate, Confront, Inst, Grow, Choose, Describe}
-use Rattle.search_tables.specs.HeadNumbers.{head_at}
-use Rattle.search_tables.specs.Names.{Names, sketch_at, command_at, typed_at, IsNumber, IsPlace, AreNumbers}
-use Rattle.search_tables.specs.Growing.{Longer, Continues}
+use Rattle.search_tables.specs.Means.HeadNumbers.{head_at}
+use Rattle.search_tables.specs.Means.Names.{Names, sketch_at, command_at, typed_at, IsNumber, IsPlace, AreNumbers}
+use Rattle.search_tables.specs.Means.Growing.{Longer, Continues}
 
 longer_length : {X : Type 0} (xs ys : List X) → Longer xs ys → (n : ℕ) → n < length xs → n < length ys
 longer_length xs ys l n h = omega (arith, h, ap length l.1, length-append xs l.0)

@@ -18,10 +18,10 @@ use Rattle.instantiate.specs.Listing.{Listing, ids_of, with_listed}
 use Rattle.search_tables.specs.declared.command.Planned.{Planned}
 use Rattle.search_tables.specs.declared.command.Delays.{Delays}
 use Rattle.search_tables.specs.declared.tables.Tables.{Tables}
-use Rattle.search_tables.specs.Growing.{Longer, Extends}
-use Rattle.search_tables.specs.Names.{IsNumber}
-use Rattle.search_tables.specs.Shapes.{quantified_type}
-use Rattle.search_tables.specs.Standing.{declared_scope, names_in, sources, parts, loops_in, the_state, can_pair, is_universal, places_where, IsRight}
+use Rattle.search_tables.specs.Means.Growing.{Longer, Extends}
+use Rattle.search_tables.specs.Means.Names.{IsNumber}
+use Rattle.search_tables.specs.Means.Shapes.{quantified_type}
+use Rattle.search_tables.specs.Means.Standing.{declared_scope, names_in, sources, parts, loops_in, the_state, can_pair, is_universal, places_where, IsRight}
 use Rattle.search_tables.proofs.EachLaws.{each-last}
 use Rattle.search_tables.proofs.PlaceLaws.{places-below}
 use Rattle.search_tables.proofs.ShapeLaws.{ranges_by, ranges-quantified}

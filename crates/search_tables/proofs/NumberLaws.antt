@@ -19,7 +19,7 @@ use Rattle.term_bank.specs.Content.{Content}
 use Rattle.term_bank.specs.Laws.{EqualIdsForEqualTerms}
 use Rattle.term_bank.specs.Terms.{term_at}
 use Rattle.literal_map.specs.Atoms.{atom_at, literal_at, IsAtom}
-use Rattle.search_tables.specs.Names.{IsNumber}
+use Rattle.search_tables.specs.Means.Names.{IsNumber}
 use Rattle.search_tables.proofs.EachLaws.{each-weaker, map-same}
 
 module _ (b : Content) (atoms : List ℕ) (good : All (IsAtom b) atoms) where

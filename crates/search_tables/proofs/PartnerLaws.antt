@@ -19,9 +19,9 @@ use Rattle.mating_rules.proofs.StayLaws.{literals-partners}
 use Rattle.search_tables.specs.declared.command.Planned.{Planned}
 use Rattle.search_tables.specs.declared.command.Delays.{Delays}
 use Rattle.search_tables.specs.declared.tables.Tables.{Tables}
-use Rattle.search_tables.specs.Names.{IsNumber}
-use Rattle.search_tables.specs.Pending.{equation_type, is_base_equation}
-use Rattle.search_tables.specs.Standing.{can_pair, IsRight}
+use Rattle.search_tables.specs.Means.Names.{IsNumber}
+use Rattle.search_tables.specs.Means.Pending.{equation_type, is_base_equation}
+use Rattle.search_tables.specs.Means.Standing.{can_pair, IsRight}
 use Rattle.search_tables.proofs.EachLaws.{each-from_All, each-weaker}
 use Rattle.search_tables.proofs.PlaceLaws.{map-mapped, each-passes}
 

@@ -14,8 +14,8 @@ use Rattle.term_bank.specs.Content.{Content}
 use Rattle.term_bank.specs.Laws.{EqualIdsForEqualTerms}
 use Rattle.term_bank.specs.Terms.{term_at}
 use Rattle.instantiate.specs.Listing.{Listing, ids_of}
-use Rattle.search_tables.specs.Names.{typed_at, IsPlace}
-use Rattle.search_tables.specs.Standing.{places_where}
+use Rattle.search_tables.specs.Means.Names.{typed_at, IsPlace}
+use Rattle.search_tables.specs.Means.Standing.{places_where}
 use Rattle.search_tables.proofs.EachLaws.{each-weaker}
 
 -- whether two places have the same term

@@ -6,7 +6,7 @@ use Rattle.command_queue.specs.declared.entry.Entry.{Entry}
 use Rattle.command_queue.specs.Queue.{Queue, AddsEntry, AddsEntryAt, TakesEntry}
 use Rattle.search_run.specs.Each.{Each}
 use Rattle.search_tables.specs.declared.command.Planned.{Planned}
-use Rattle.search_tables.specs.Pending.{span, EndsBelow, IsApart, AreSpaced}
+use Rattle.search_tables.specs.Means.Pending.{span, EndsBelow, IsApart, AreSpaced}
 use Rattle.search_tables.proofs.EachLaws.{each-from_All, All-from_each, each-weaker, each-left, each-right}
 use Rattle.search_tables.proofs.SpacedLaws.{spaced-last, spaced-without, spaced-between, all_before, all_behind}
 

@@ -23,9 +23,9 @@ use Rattle.search_tables.specs.declared.command.Rest.{Rest}
 use Rattle.search_tables.specs.declared.command.Delays.{Delays}
 use Rattle.search_tables.specs.declared.tables.Tables.{Tables}
 use Rattle.search_tables.specs.Delays.{the_mode, delay_by}
-use Rattle.search_tables.specs.Names.{Names, command_at}
-use Rattle.search_tables.specs.Pending.{over_terms, over_universals, over_negatives, over_positives, over_heads, over_parked, loop_over, between, later_of, AreThere, IsEntry, span, span_of, loop_at}
-use Rattle.search_tables.specs.Standing.{declared_scope, names_in, sources, parts, loops_in, the_state, IsRight}
+use Rattle.search_tables.specs.Means.Names.{Names, command_at}
+use Rattle.search_tables.specs.Means.Pending.{over_terms, over_universals, over_negatives, over_positives, over_heads, over_parked, loop_over, between, later_of, AreThere, IsEntry, span, span_of, loop_at}
+use Rattle.search_tables.specs.Means.Standing.{declared_scope, names_in, sources, parts, loops_in, the_state, IsRight}
 use Rattle.search_tables.proofs.EachLaws.{each-last}
 use Rattle.search_tables.proofs.QueueLaws.{queue-last}
 

@@ -11,7 +11,7 @@ use Rattle.search_run.specs.Queue.{Waiting, is_before, first_of, next_command, w
 use Rattle.search_run.specs.Means.Loops.{Loop, entries, first_entry, queue_of, loop_left, advanced, IsFirstOrNone}
 use Rattle.search_run.proofs.LoopLaws.{next_of_loops, without_from_loops}
 use Rattle.search_tables.specs.declared.command.Planned.{Planned}
-use Rattle.search_tables.specs.Pending.{span, EndsBelow, AreSpaced}
+use Rattle.search_tables.specs.Means.Pending.{span, EndsBelow, AreSpaced}
 use Rattle.search_tables.proofs.EachLaws.{each-from_All, each-weaker, each-left, each-right}
 use Rattle.search_tables.proofs.SpacedLaws.{before_ends, behind_begins}
 

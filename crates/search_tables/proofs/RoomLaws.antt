@@ -9,8 +9,8 @@ use Rattle.search_run.specs.Means.Loops.{queue_of}
 use Rattle.search_tables.specs.declared.command.Planned.{Planned}
 use Rattle.search_tables.specs.declared.command.Delays.{Delays}
 use Rattle.search_tables.specs.declared.tables.Tables.{Tables}
-use Rattle.search_tables.specs.Pending.{IsEntry}
-use Rattle.search_tables.specs.Standing.{declared_scope, names_in, sources, parts, loops_in, the_state, IsRight}
+use Rattle.search_tables.specs.Means.Pending.{IsEntry}
+use Rattle.search_tables.specs.Means.Standing.{declared_scope, names_in, sources, parts, loops_in, the_state, IsRight}
 
 pub state-room : (t : Tables) (q q' : Queue Planned Delays) → GainsRoom q q' → the_state t q' ≡ the_state t q
 state-room t q q' room = ap₂ (λ es n. record (parts t) { queue = queue_of (loops_in t es); pushes = n }) room.entries room.pushes

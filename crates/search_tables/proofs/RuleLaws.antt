@@ -21,9 +21,9 @@ use Rattle.tableau_rules.specs.Uses.{rule_of, use_of, is_cut, principals_of, IsI
 use Rattle.tableau_rules.specs.Changes.{Widens, AreWitnessesAfter}
 use Rattle.search_run.specs.Each.{Each}
 use Rattle.search_tables.specs.declared.tables.Basis.{Basis}
-use Rattle.search_tables.specs.Growing.{Continues, BasisGrows}
-use Rattle.search_tables.specs.Names.{Names, IsNumber, IsPlace}
-use Rattle.search_tables.specs.Standing.{rows_in, IsBasis}
+use Rattle.search_tables.specs.Means.Growing.{Continues, BasisGrows}
+use Rattle.search_tables.specs.Means.Names.{Names, IsNumber, IsPlace}
+use Rattle.search_tables.specs.Means.Standing.{rows_in, IsBasis}
 use Rattle.search_tables.proofs.EachLaws.{map-same, each-from_All, each-weaker}
 use Rattle.search_tables.proofs.NamesLaws.{term-stays, literal-stays}
 use Rattle.search_tables.proofs.RowLaws.{table-distinct}

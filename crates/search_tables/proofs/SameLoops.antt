@@ -12,7 +12,7 @@ use Rattle.search_run.specs.Witness.{is_hole_of, has_hole_of}
 use Rattle.search_run.specs.State.{State, Sketch, Command as Meant, process, mate, confront, inst, grow, choose, describe}
 use Rattle.search_tables.specs.declared.command.Over.{Over}
 use Rattle.search_tables.specs.declared.command.Over.TheVariants.{Terms, Universals, Negatives, Positives, Heads, Parked}
-use Rattle.search_tables.specs.Pending.{range_of, base_of, over_terms, over_universals, over_negatives, over_positives, over_heads, over_parked, loop_over, IsSigned}
+use Rattle.search_tables.specs.Means.Pending.{range_of, base_of, over_terms, over_universals, over_negatives, over_positives, over_heads, over_parked, loop_over, IsSigned}
 use Rattle.search_tables.proofs.TermLaws.{range-is}
 
 -- what stands in a mapped list comes from an element

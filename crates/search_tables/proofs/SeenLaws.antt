@@ -20,8 +20,8 @@ use Rattle.literal_map.specs.Atoms.{literal_at}
 use Rattle.search_tables.specs.declared.command.Planned.{Planned}
 use Rattle.search_tables.specs.declared.command.Delays.{Delays}
 use Rattle.search_tables.specs.declared.tables.Tables.{Tables}
-use Rattle.search_tables.specs.Names.{IsNumber}
-use Rattle.search_tables.specs.Standing.{the_state, IsRight}
+use Rattle.search_tables.specs.Means.Names.{IsNumber}
+use Rattle.search_tables.specs.Means.Standing.{the_state, IsRight}
 use Rattle.search_tables.proofs.EachLaws.{each-last}
 use Rattle.search_tables.proofs.NumberLaws.{stand}
 

@@ -28,7 +28,7 @@ use Rattle.term_bank.specs.Terms.{term_at, shape_term, IsTypedTerm}
 use Rattle.term_bank.specs.declared.node.Node.{Node}
 use Rattle.term_bank.specs.declared.node.Node.TheVariants.{Lam, App}
 use Rattle.witness_names.specs.Rows.{binder_of}
-use Rattle.search_tables.specs.Selecting.{parts, selection_at, head_selection, IsTaken, AreTaken}
+use Rattle.search_tables.specs.Means.Selecting.{parts, selection_at, head_selection, IsTaken, AreTaken}
 use Rattle.search_tables.proofs.EachLaws.{each-weaker, each-left, each-last}
 
 -- THE PARTS OF A TERM

@@ -9,8 +9,8 @@ use Rattle.stt_core.proofs.SpineLaws.{IsAtom}
 use Rattle.stt_tableau.specs.Means.Heads.{equality_of, quantified_by}
 use Rattle.search_run.specs.Partners.{has_equal_sides}
 use Rattle.search_run.specs.Terms.{ranges_over}
-use Rattle.search_tables.specs.Pending.{range_of}
-use Rattle.search_tables.specs.Shapes.{quantified_type}
+use Rattle.search_tables.specs.Means.Pending.{range_of}
+use Rattle.search_tables.specs.Means.Shapes.{quantified_type}
 
 -- QUANTIFIED FORMULAS
 

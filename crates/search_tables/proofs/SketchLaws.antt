@@ -18,9 +18,9 @@ use Rattle.search_tables.specs.declared.head.HoleHead.{HoleHead}
 use Rattle.search_tables.specs.declared.stem.Stem.{Stem}
 use Rattle.search_tables.specs.declared.stem.Stem.TheVariants.{Blank, Grown}
 use Rattle.search_tables.specs.declared.tables.Tables.{Tables}
-use Rattle.search_tables.specs.Heads.{the_hole_head, sketch_of, sketches_after, IsStem, AreStems}
-use Rattle.search_tables.specs.Names.{sketch_at}
-use Rattle.search_tables.specs.Standing.{scope_by, sketches_in, IsRight}
+use Rattle.search_tables.specs.Means.Heads.{the_hole_head, sketch_of, sketches_after, IsStem, AreStems}
+use Rattle.search_tables.specs.Means.Names.{sketch_at}
+use Rattle.search_tables.specs.Means.Standing.{scope_by, sketches_in, IsRight}
 use Rattle.search_tables.proofs.PlaceLaws.{at-end}
 
 module _ (scope : Scope) where

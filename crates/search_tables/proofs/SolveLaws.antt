@@ -10,7 +10,7 @@ use Rattle.tableau_clauses.specs.Table.{the_clauses}
 use Rattle.search_tables.specs.declared.command.Planned.{Planned}
 use Rattle.search_tables.specs.declared.command.Delays.{Delays}
 use Rattle.search_tables.specs.declared.tables.Tables.{Tables}
-use Rattle.search_tables.specs.Standing.{the_state, IsRight}
+use Rattle.search_tables.specs.Means.Standing.{the_state, IsRight}
 use Rattle.search_tables.proofs.NumberLaws.{unsatisfiable-numbers}
 
 module _ (t : Tables) (q : Queue Planned Delays) (r : IsRight t q) (equal : EqualIdsForEqualTerms t.basis.bank) (differ : (v w id : ℕ) → slice_get t.basis.lits v ≡ Some id → slice_get t.basis.lits w ≡ Some id → v ≡ w) (y : SolverState) (same : y.clauses ≡ t.solver.clauses) where

@@ -4,7 +4,7 @@ use Rattle.std.proofs.Common.{inl, inr, arith}
 use Rattle.command_queue.specs.declared.entry.Entry.{Entry}
 use Rattle.search_run.specs.Each.{Each}
 use Rattle.search_tables.specs.declared.command.Planned.{Planned}
-use Rattle.search_tables.specs.Pending.{EndsBelow, AreSpaced, IsApart}
+use Rattle.search_tables.specs.Means.Pending.{EndsBelow, AreSpaced, IsApart}
 use Rattle.search_tables.proofs.EachLaws.{each-last, each-between, each-without}
 
 abbrev Entries : Type 0

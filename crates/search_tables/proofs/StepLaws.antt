@@ -15,10 +15,10 @@ use Rattle.tableau_clauses.specs.declared.origin.Origin.{Origin}
 use Rattle.tableau_clauses.specs.declared.origin.Origin.TheVariants.{Start, Instance as From}
 use Rattle.tableau_clauses.specs.Table.{Step, Table, clauses_in, origins_in, the_clauses, the_origins, the_instances}
 use Rattle.search_tables.specs.declared.tables.Basis.{Basis}
-use Rattle.search_tables.specs.Growing.{BasisGrows}
-use Rattle.search_tables.specs.Names.{IsNumber, IsPlace}
-use Rattle.search_tables.specs.Standing.{rows_in}
-use Rattle.search_tables.specs.Steps.{IsMade, StepsGrow}
+use Rattle.search_tables.specs.Means.Growing.{BasisGrows}
+use Rattle.search_tables.specs.Means.Names.{IsNumber, IsPlace}
+use Rattle.search_tables.specs.Means.Standing.{rows_in}
+use Rattle.search_tables.specs.Means.Steps.{IsMade, StepsGrow}
 use Rattle.search_tables.proofs.ClauseLaws.{with_clauses-longer}
 use Rattle.search_tables.proofs.EachLaws.{each-weaker}
 

@@ -14,11 +14,11 @@ use Rattle.search_tables.specs.declared.command.Planned.{Planned}
 use Rattle.search_tables.specs.declared.command.Rest.{Rest}
 use Rattle.search_tables.specs.declared.command.Delays.{Delays}
 use Rattle.search_tables.specs.declared.tables.Tables.{Tables}
-use Rattle.search_tables.specs.Names.{Names, command_at, AreNumbers}
-use Rattle.search_tables.specs.Pending.{loop_over, later_of, between, AreThere, IsSigned, IsWithin, IsEntry, span, span_of, loop_at, EndsBelow, IsApart, AreSpaced}
+use Rattle.search_tables.specs.Means.Names.{Names, command_at, AreNumbers}
+use Rattle.search_tables.specs.Means.Pending.{loop_over, later_of, between, AreThere, IsSigned, IsWithin, IsEntry, span, span_of, loop_at, EndsBelow, IsApart, AreSpaced}
 use Rattle.sat_core.specs.Solver.{learned}
-use Rattle.search_tables.specs.Standing.{declared_scope, names_in, sources, parts, loops_in, the_state, IsRight}
-use Rattle.search_tables.specs.Taking.{TakesNext, rest_behind}
+use Rattle.search_tables.specs.Means.Standing.{declared_scope, names_in, sources, parts, loops_in, the_state, IsRight}
+use Rattle.search_tables.specs.Means.Taking.{TakesNext, rest_behind}
 use Rattle.search_tables.proofs.EachLaws.{each-weaker, each-between, each-without, each-at}
 use Rattle.search_tables.proofs.SpacedLaws.{each_ends, before_ends, behind_begins}
 use Rattle.search_tables.proofs.PushLaws.{length-later}

@@ -26,10 +26,10 @@ use Rattle.search_tables.specs.declared.command.Over.TheVariants.{Universals}
 use Rattle.search_tables.specs.declared.command.Planned.{Planned}
 use Rattle.search_tables.specs.declared.command.Delays.{Delays}
 use Rattle.search_tables.specs.declared.tables.Tables.{Tables}
-use Rattle.search_tables.specs.Growing.{Longer, Extends}
-use Rattle.search_tables.specs.Names.{typed_at, command_at, IsNumber, IsPlace}
-use Rattle.search_tables.specs.Pending.{range_of, loop_over}
-use Rattle.search_tables.specs.Standing.{declared_scope, names_in, sources, parts, loops_in, the_state, is_universal, IsRight}
+use Rattle.search_tables.specs.Means.Growing.{Longer, Extends}
+use Rattle.search_tables.specs.Means.Names.{typed_at, command_at, IsNumber, IsPlace}
+use Rattle.search_tables.specs.Means.Pending.{range_of, loop_over}
+use Rattle.search_tables.specs.Means.Standing.{declared_scope, names_in, sources, parts, loops_in, the_state, is_universal, IsRight}
 use Rattle.search_tables.proofs.EachLaws.{each-last, each-weaker, each-unmapped}
 use Rattle.search_tables.proofs.PlaceLaws.{any-places, filter-mapped, terms-of, each-passes, places-of, filter-places, places-below}
 use Rattle.search_tables.proofs.LoopStays.{loops-stay, entries-stay}

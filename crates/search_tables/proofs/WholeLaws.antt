@@ -5,7 +5,7 @@ use Rattle.std.proofs.Math.Seq.{take-length}
 use Rattle.stt_core.specs.Typing.{Scope}
 use Rattle.search_run.specs.State.{State, Command as Meant}
 use Rattle.search_tables.specs.declared.command.Over.{Over}
-use Rattle.search_tables.specs.Pending.{loop_over, later_of, rest_after, HasWitnesses, IsSigned, AreThere}
+use Rattle.search_tables.specs.Means.Pending.{loop_over, later_of, rest_after, HasWitnesses, IsSigned, AreThere}
 
 no_more : {X : Type 0} (xs : List X) → length xs ≤ 0 → xs ≡ []
 no_more [] h = refl

@@ -1,17 +1,2 @@
 pub mod Delays
-pub mod HeadNumbers
-pub mod Names
-pub mod Pending
-pub mod Fitting
-pub mod Heads
-pub mod Holes
 pub mod Means
-pub mod Waiting
-pub mod ByBase
-pub mod Standing
-pub mod Empty
-pub mod Growing
-pub mod Steps
-pub mod Shapes
-pub mod Selecting
-pub mod Taking

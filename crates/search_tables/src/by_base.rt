@@ -2,7 +2,7 @@
 ghost use Rattle.std.specs.Prelude.{◌≡◌, ◌<◌, ◌++◌, [], ◌∷◌, length, map, nat_eq, if◌then◌else◌, OnOk};
 ghost use Rattle.stt_core.specs.SimpleType.{base};
 ghost use Rattle.instantiate.specs.Listing.{ids_of};
-ghost use Rattle.search_tables.specs.ByBase.{listings};
+ghost use Rattle.search_tables.specs.Means.ByBase.{listings};
 
 use std::alloc::{AllocError, Global};
 use std::marker::Model;
@@ -19,7 +19,7 @@ impl Model for ByBase {
     ghost use Rattle.std.specs.Coded.{coded_list, coded×, coded_ℕ};
     ghost use Rattle.stt_core.specs.Means.TypeCode.{type_code};
     ghost use Rattle.instantiate.specs.Listing.{Listing};
-    ghost use Rattle.search_tables.specs.ByBase.{listings};
+    ghost use Rattle.search_tables.specs.Means.ByBase.{listings};
 
     ghost Value = { List Listing };
 

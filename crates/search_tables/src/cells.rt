@@ -4,7 +4,7 @@ ghost use Rattle.stt_core.specs.Typing.{type_of};
 ghost use Rattle.stt_core.specs.View.{the_type, the_head};
 ghost use Rattle.term_bank.specs.Content.{content_scope};
 ghost use Rattle.search_run.specs.Heads.{places_to};
-ghost use Rattle.search_tables.specs.Holes.{binders_onto, blank_hole, argument_holes, after_head};
+ghost use Rattle.search_tables.specs.Means.Holes.{binders_onto, blank_hole, argument_holes, after_head};
 ghost use Rattle.search_tables.specs.Means.Chains.{chain, Extends};
 
 use instantiate::target_of;
@@ -26,7 +26,7 @@ pub(crate) struct Cell {
 impl Model for Cell {
     ghost use Rattle.std.specs.Prelude.{reverse};
     ghost use Rattle.std.specs.Coded.{coded×, coded_ℕ};
-    ghost use Rattle.search_tables.specs.Holes.{hole_code};
+    ghost use Rattle.search_tables.specs.Means.Holes.{hole_code};
     ghost use Rattle.search_tables.specs.Means.Chains.{Cell as Linked};
 
     ghost Value = { Linked };
@@ -142,7 +142,7 @@ pub(crate) struct Cells {
 impl Model for Cells {
     ghost use Rattle.std.specs.Prelude.{List, reverse};
     ghost use Rattle.std.specs.Coded.{coded_list, coded×, coded_ℕ};
-    ghost use Rattle.search_tables.specs.Holes.{hole_code};
+    ghost use Rattle.search_tables.specs.Means.Holes.{hole_code};
     ghost use Rattle.search_tables.specs.Means.Chains.{Cell as Linked, AreLinked};
 
     ghost Value = { List Linked };

@@ -10,8 +10,8 @@ ghost use Rattle.search_run.specs.Shallow.{is_shallow_literal};
 ghost use Rattle.literal_map.specs.Atoms.{literal_at, IsAtom};
 ghost use Rattle.sat_core.specs.Solver.{learned};
 ghost use Rattle.tableau_clauses.specs.Table.{the_clauses};
-ghost use Rattle.search_tables.specs.Names.{IsNumber};
-ghost use Rattle.search_tables.specs.Steps.{StepsGrow};
+ghost use Rattle.search_tables.specs.Means.Names.{IsNumber};
+ghost use Rattle.search_tables.specs.Means.Steps.{StepsGrow};
 
 use literal_map::{Instance, LitLists, LitTable};
 use sat_base::SatLit;

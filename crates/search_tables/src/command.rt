@@ -43,7 +43,7 @@ pub struct Rest {
 
 impl Rest {
     ghost use Rattle.std.specs.Prelude.{◌≡◌};
-    ghost use Rattle.search_tables.specs.Pending.{rest_after};
+    ghost use Rattle.search_tables.specs.Means.Pending.{rest_after};
 
     /// What comes after the first one of so many commands.
     pub fn after_first(over: Over, count: usize) -> Option<Rest>
@@ -70,7 +70,7 @@ pub struct Planned {
 
 impl Planned {
     ghost use Rattle.std.specs.Prelude.{◌≡◌};
-    ghost use Rattle.search_tables.specs.Pending.{span};
+    ghost use Rattle.search_tables.specs.Means.Pending.{span};
 
     /// How many commands come after the first one.
     pub fn len(&self) -> u64

@@ -6,10 +6,10 @@ ghost use Rattle.search_run.specs.Heads.{heads_for};
 ghost use Rattle.search_run.specs.Partial.{first_hole};
 ghost use Rattle.search_tables.specs.declared.command.Planned.{Planned};
 ghost use Rattle.search_tables.specs.declared.command.Delays.{Delays};
-ghost use Rattle.search_tables.specs.Fitting.{logical_for, later_heads, SplitsAt};
-ghost use Rattle.search_tables.specs.Heads.{the_hole_head};
-ghost use Rattle.search_tables.specs.Names.{sketch_at};
-ghost use Rattle.search_tables.specs.Standing.{declared_scope, rows_in, sketches_in, IsRight};
+ghost use Rattle.search_tables.specs.Means.Fitting.{logical_for, later_heads, SplitsAt};
+ghost use Rattle.search_tables.specs.Means.Heads.{the_hole_head};
+ghost use Rattle.search_tables.specs.Means.Names.{sketch_at};
+ghost use Rattle.search_tables.specs.Means.Standing.{declared_scope, rows_in, sketches_in, IsRight};
 
 use crate::head::HoleHead;
 use crate::places::id_of;

@@ -1,8 +1,8 @@
 //! The heads that fill holes, and their numbers.
 ghost use Rattle.std.specs.Prelude.{◌≡◌, ◌<◌, ◌+◌, ◌*◌};
 ghost use Rattle.stt_core.specs.View.{the_head};
-ghost use Rattle.search_tables.specs.HeadNumbers.{head_at, IsHeadNumber};
-ghost use Rattle.search_tables.specs.Heads.{the_hole_head};
+ghost use Rattle.search_tables.specs.Means.HeadNumbers.{head_at, IsHeadNumber};
+ghost use Rattle.search_tables.specs.Means.Heads.{the_hole_head};
 
 use stt_core::{Head, Ty};
 

@@ -3,11 +3,11 @@ ghost use Rattle.std.specs.Prelude.{◌≡◌, ◌<◌, ◌++◌, List, [], ◌�
 ghost use Rattle.stt_core.specs.Typing.{type_of};
 ghost use Rattle.stt_core.specs.View.{the_type};
 ghost use Rattle.term_bank.specs.Content.{content_scope};
-ghost use Rattle.search_tables.specs.Fitting.{variables_for};
+ghost use Rattle.search_tables.specs.Means.Fitting.{variables_for};
 ghost use Rattle.search_run.specs.Partial.{Hole};
-ghost use Rattle.search_tables.specs.Heads.{the_hole_head};
-ghost use Rattle.search_tables.specs.Holes.{leftmost, blank_hole, after_head};
-ghost use Rattle.search_tables.specs.Pending.{base_of};
+ghost use Rattle.search_tables.specs.Means.Heads.{the_hole_head};
+ghost use Rattle.search_tables.specs.Means.Holes.{leftmost, blank_hole, after_head};
+ghost use Rattle.search_tables.specs.Means.Pending.{base_of};
 
 use crate::cells::{Cell, Cells};
 use crate::head::{HoleHead, head_of};
@@ -29,7 +29,7 @@ impl Model for OpenHoles {
     ghost use Rattle.std.specs.Coded.{coded_list};
     ghost use Rattle.search_run.specs.Each.{Each};
     ghost use Rattle.search_run.specs.Partial.{Hole};
-    ghost use Rattle.search_tables.specs.Holes.{hole_code};
+    ghost use Rattle.search_tables.specs.Means.Holes.{hole_code};
     ghost use Rattle.search_tables.specs.Means.Chains.{chain};
 
     ghost Value = { List (List Hole) };

@@ -4,9 +4,9 @@ ghost use Rattle.literal_map.specs.Atoms.{literal_at};
 ghost use Rattle.search_run.specs.Each.{Each};
 ghost use Rattle.search_run.specs.Instances.{with_instance};
 ghost use Rattle.search_tables.specs.Delays.{the_mode};
-ghost use Rattle.search_tables.specs.Names.{IsNumber};
-ghost use Rattle.search_tables.specs.Standing.{the_state, IsRight};
-ghost use Rattle.search_tables.specs.Steps.{StepsGrow};
+ghost use Rattle.search_tables.specs.Means.Names.{IsNumber};
+ghost use Rattle.search_tables.specs.Means.Standing.{the_state, IsRight};
+ghost use Rattle.search_tables.specs.Means.Steps.{StepsGrow};
 
 use crate::clauses::{add_clauses, all_shallow, joined};
 use crate::tables::Core;

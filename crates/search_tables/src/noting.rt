@@ -5,8 +5,8 @@ ghost use Rattle.literal_map.specs.Atoms.{literal_at};
 ghost use Rattle.mating_rules.specs.Noted.{IsRight as IsRightIndex};
 ghost use Rattle.instantiate.specs.Listing.{ids_of};
 ghost use Rattle.search_run.specs.Each.{Each};
-ghost use Rattle.search_tables.specs.Names.{IsNumber};
-ghost use Rattle.search_tables.specs.Standing.{can_pair, is_universal, the_state, IsBasis, IsRight};
+ghost use Rattle.search_tables.specs.Means.Names.{IsNumber};
+ghost use Rattle.search_tables.specs.Means.Standing.{can_pair, is_universal, the_state, IsBasis, IsRight};
 
 use crate::shape::{has_equal_sides, quantified_type};
 use crate::tables::{Core, Tables};

@@ -6,10 +6,10 @@ ghost use Rattle.search_run.specs.Spine.{is_spine};
 ghost use Rattle.search_run.specs.State.{inst, pushed};
 ghost use Rattle.search_run.specs.Terms.{terms_of};
 ghost use Rattle.search_tables.specs.Delays.{the_mode};
-ghost use Rattle.search_tables.specs.Names.{IsNumber};
-ghost use Rattle.search_tables.specs.Pending.{equation_type, range_of};
-ghost use Rattle.search_tables.specs.Shapes.{IsBaseEquation, IsQuantified};
-ghost use Rattle.search_tables.specs.Standing.{the_state, IsRight};
+ghost use Rattle.search_tables.specs.Means.Names.{IsNumber};
+ghost use Rattle.search_tables.specs.Means.Pending.{equation_type, range_of};
+ghost use Rattle.search_tables.specs.Means.Shapes.{IsBaseEquation, IsQuantified};
+ghost use Rattle.search_tables.specs.Means.Standing.{the_state, IsRight};
 
 use crate::clauses::literal_of;
 use crate::command::{Command, Over};

@@ -8,9 +8,9 @@ ghost use Rattle.mating_rules.specs.Noted.{partners_of};
 ghost use Rattle.instantiate.specs.Listing.{ids_of};
 ghost use Rattle.search_tables.specs.declared.command.Planned.{Planned};
 ghost use Rattle.search_tables.specs.declared.command.Delays.{Delays};
-ghost use Rattle.search_tables.specs.Names.{command_at, sketch_at, IsNumber, AreNumbers};
-ghost use Rattle.search_tables.specs.Pending.{base_of, range_of, over_terms, over_universals, over_negatives, over_positives, over_heads, over_parked, HasWitnesses, IsSigned, loop_over};
-ghost use Rattle.search_tables.specs.Standing.{declared_scope, names_in, sketches_in, sources, IsBasis, IsRight};
+ghost use Rattle.search_tables.specs.Means.Names.{command_at, sketch_at, IsNumber, AreNumbers};
+ghost use Rattle.search_tables.specs.Means.Pending.{base_of, range_of, over_terms, over_universals, over_negatives, over_positives, over_heads, over_parked, HasWitnesses, IsSigned, loop_over};
+ghost use Rattle.search_tables.specs.Means.Standing.{declared_scope, names_in, sketches_in, sources, IsBasis, IsRight};
 ghost use Rattle.search_tables.specs.declared.command.Over.TheVariants.{Negatives, Positives};
 
 use crate::clauses::literal_of;

@@ -3,7 +3,7 @@ ghost use Rattle.std.specs.Prelude.{◌≡◌, ◌<◌, ◌≤◌, ◌+◌, ◌^
 ghost use Rattle.command_queue.specs.Queue.{AddsEntry, AddsEntryAt, TakesEntry, GainsRoom};
 ghost use Rattle.search_run.specs.Each.{Each};
 ghost use Rattle.search_tables.specs.Delays.{delay_by};
-ghost use Rattle.search_tables.specs.Pending.{span, AreSpaced, EndsBelow, IsApart};
+ghost use Rattle.search_tables.specs.Means.Pending.{span, AreSpaced, EndsBelow, IsApart};
 
 use crate::command::{Delays, Planned};
 use crate::waiting::Waiting;
@@ -20,7 +20,7 @@ pub struct Plan<W: Weigher<Waiting>> {
 
 impl<W: Weigher<Waiting>> Model for Plan<W> {
     ghost use Rattle.command_queue.specs.Queue.{Queue};
-    ghost use Rattle.search_tables.specs.Pending.{AreSpaced};
+    ghost use Rattle.search_tables.specs.Means.Pending.{AreSpaced};
     ghost use Rattle.search_tables.specs.declared.command.Planned.{Planned};
     ghost use Rattle.search_tables.specs.declared.command.Delays.{Delays};
 

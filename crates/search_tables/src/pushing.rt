@@ -5,9 +5,9 @@ ghost use Rattle.search_run.specs.Each.{Each};
 ghost use Rattle.search_run.specs.Instances.{with_literal, with_literals};
 ghost use Rattle.search_run.specs.State.{pushed};
 ghost use Rattle.search_tables.specs.Delays.{the_mode};
-ghost use Rattle.search_tables.specs.Names.{command_at, AreNumbers, IsNumber};
-ghost use Rattle.search_tables.specs.Pending.{loop_over, later_of, BeginsWith, HasWitnesses, IsSigned, IsEntry};
-ghost use Rattle.search_tables.specs.Standing.{declared_scope, names_in, sources, the_state, IsRight};
+ghost use Rattle.search_tables.specs.Means.Names.{command_at, AreNumbers, IsNumber};
+ghost use Rattle.search_tables.specs.Means.Pending.{loop_over, later_of, BeginsWith, HasWitnesses, IsSigned, IsEntry};
+ghost use Rattle.search_tables.specs.Means.Standing.{declared_scope, names_in, sources, the_state, IsRight};
 
 use crate::clauses::literal_of;
 use crate::command::{Command, Over, Planned, Rest};

@@ -8,10 +8,10 @@ ghost use Rattle.literal_map.specs.declared.instance.RuleKind.TheVariants.{AllNe
 ghost use Rattle.tableau_rules.specs.Uses.{principals_of, IsInstanceBy};
 ghost use Rattle.search_run.specs.Instances.{with_instance};
 ghost use Rattle.search_tables.specs.Delays.{the_mode};
-ghost use Rattle.search_tables.specs.Growing.{BasisGrows};
-ghost use Rattle.search_tables.specs.Names.{IsNumber, IsPlace};
-ghost use Rattle.search_tables.specs.Standing.{rows_in, the_state, IsBasis, IsRight};
-ghost use Rattle.search_tables.specs.Steps.{IsMade, StepsGrow};
+ghost use Rattle.search_tables.specs.Means.Growing.{BasisGrows};
+ghost use Rattle.search_tables.specs.Means.Names.{IsNumber, IsPlace};
+ghost use Rattle.search_tables.specs.Means.Standing.{rows_in, the_state, IsBasis, IsRight};
+ghost use Rattle.search_tables.specs.Means.Steps.{IsMade, StepsGrow};
 
 use crate::tables::{Basis, Core};
 use crate::waiting::Waiting;

@@ -5,7 +5,7 @@ ghost use Rattle.stt_core.specs.View.{the_head};
 ghost use Rattle.term_bank.specs.Terms.{term_at};
 ghost use Rattle.search_run.specs.Closed.{is_closed};
 ghost use Rattle.search_run.specs.Selections.{selection_by};
-ghost use Rattle.search_tables.specs.Selecting.{parts, head_selection, IsSelected};
+ghost use Rattle.search_tables.specs.Means.Selecting.{parts, head_selection, IsSelected};
 
 use stt_core::Head;
 use term_bank::{Bank, Id, Node};

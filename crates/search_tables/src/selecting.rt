@@ -4,9 +4,9 @@ ghost use Rattle.term_bank.specs.Terms.{term_at};
 ghost use Rattle.literal_map.specs.Atoms.{atom_at};
 ghost use Rattle.search_run.specs.Selections.{selections_in, with_selections};
 ghost use Rattle.search_tables.specs.Delays.{the_mode};
-ghost use Rattle.search_tables.specs.Names.{IsNumber, IsPlace};
-ghost use Rattle.search_tables.specs.Selecting.{head_selection, AreTaken};
-ghost use Rattle.search_tables.specs.Standing.{the_state, IsRight};
+ghost use Rattle.search_tables.specs.Means.Names.{IsNumber, IsPlace};
+ghost use Rattle.search_tables.specs.Means.Selecting.{head_selection, AreTaken};
+ghost use Rattle.search_tables.specs.Means.Standing.{the_state, IsRight};
 
 use crate::clauses::DEPTH;
 use crate::selected::{Selected, count_parts, part_of, selection_of};

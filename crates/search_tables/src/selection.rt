@@ -4,8 +4,8 @@ ghost use Rattle.term_bank.specs.Terms.{term_at};
 ghost use Rattle.witness_names.specs.Rows.{binder_of};
 ghost use Rattle.search_run.specs.Selections.{with_selection, by_choice, by_description};
 ghost use Rattle.search_tables.specs.Delays.{the_mode};
-ghost use Rattle.search_tables.specs.Names.{IsPlace};
-ghost use Rattle.search_tables.specs.Standing.{the_state, IsRight};
+ghost use Rattle.search_tables.specs.Means.Names.{IsPlace};
+ghost use Rattle.search_tables.specs.Means.Standing.{the_state, IsRight};
 
 use crate::command::Command;
 use crate::tables::Core;

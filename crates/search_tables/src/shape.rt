@@ -4,7 +4,7 @@ ghost use Rattle.stt_core.specs.View.{the_head, the_type};
 ghost use Rattle.stt_tableau.specs.Means.Heads.{equality_of, quantified_by};
 ghost use Rattle.term_bank.specs.Terms.{term_at};
 ghost use Rattle.search_run.specs.Partners.{has_equal_sides};
-ghost use Rattle.search_tables.specs.Shapes.{quantified_type};
+ghost use Rattle.search_tables.specs.Means.Shapes.{quantified_type};
 
 use stt_core::{Head, Ty};
 use term_bank::{Bank, Id, Node, equal_ids_for_equal_terms};

@@ -5,7 +5,7 @@ ghost use Rattle.sat_base.specs.declared.literal.SatLit.{SatLit};
 ghost use Rattle.sat_log.specs.Propagation.{AreFailingDecisions, ReachesFalse};
 ghost use Rattle.sat_core.specs.Solver.{learned, AreAmong, Grows};
 ghost use Rattle.search_run.specs.Unsatisfiable.{Unsatisfiable};
-ghost use Rattle.search_tables.specs.Standing.{the_state, IsRight};
+ghost use Rattle.search_tables.specs.Means.Standing.{the_state, IsRight};
 
 use crate::tables::Core;
 use crate::waiting::Waiting;

@@ -5,8 +5,8 @@ ghost use Rattle.instantiate.specs.Listing.{ids_of};
 ghost use Rattle.search_run.specs.After.{nothing_yet};
 ghost use Rattle.search_run.specs.Heads.{places_to};
 ghost use Rattle.search_tables.specs.Delays.{delay_by};
-ghost use Rattle.search_tables.specs.Empty.{AreEmpty};
-ghost use Rattle.search_tables.specs.Standing.{the_state, IsBasis, IsRight};
+ghost use Rattle.search_tables.specs.Means.Empty.{AreEmpty};
+ghost use Rattle.search_tables.specs.Means.Standing.{the_state, IsBasis, IsRight};
 
 use crate::by_base::ByBase;
 use crate::holes::OpenHoles;

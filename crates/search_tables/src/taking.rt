@@ -1,7 +1,7 @@
 //! The next command.
 ghost use Rattle.std.specs.Prelude.{◌≡◌, ◌≢◌, ◌<◌, [], IfOk, OnOk};
-ghost use Rattle.search_tables.specs.Standing.{IsRight};
-ghost use Rattle.search_tables.specs.Taking.{TakesNext, rest_behind};
+ghost use Rattle.search_tables.specs.Means.Standing.{IsRight};
+ghost use Rattle.search_tables.specs.Means.Taking.{TakesNext, rest_behind};
 
 use crate::command::{Command, Planned, Rest};
 use crate::tables::Core;

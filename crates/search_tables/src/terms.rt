@@ -4,8 +4,8 @@ ghost use Rattle.stt_core.specs.View.{the_type};
 ghost use Rattle.term_bank.specs.Terms.{term_at};
 ghost use Rattle.search_run.specs.Terms.{with_term};
 ghost use Rattle.search_tables.specs.Delays.{the_mode};
-ghost use Rattle.search_tables.specs.Names.{IsPlace};
-ghost use Rattle.search_tables.specs.Standing.{the_state, IsRight};
+ghost use Rattle.search_tables.specs.Means.Names.{IsPlace};
+ghost use Rattle.search_tables.specs.Means.Standing.{the_state, IsRight};
 
 use crate::clauses::literal_of;
 use crate::command::{Command, Over};

@@ -1,6 +1,6 @@
 //! Commands that wait, in little room.
 ghost use Rattle.std.specs.Prelude.{◌≡◌, true, None, Some, IfOk};
-ghost use Rattle.search_tables.specs.Waiting.{literal_by, command_by, over_by, rest_by};
+ghost use Rattle.search_tables.specs.Means.Waiting.{literal_by, command_by, over_by, rest_by};
 
 use crate::command::{Command, Over, Planned, Rest};
 use crate::fitting::small;
@@ -48,7 +48,7 @@ pub struct Waiting {
 }
 
 impl Model for Waiting {
-    ghost use Rattle.search_tables.specs.Waiting.{literal_by, command_by, over_by, rest_by};
+    ghost use Rattle.search_tables.specs.Means.Waiting.{literal_by, command_by, over_by, rest_by};
     ghost use Rattle.search_tables.specs.declared.command.Planned.{Planned};
 
     ghost Value = { Planned };

@@ -20,9 +20,9 @@ use Rattle.sat_log.specs.Propagation.{IsUnit, IsFalseIn, Propagates, ReachesFals
 use Rattle.search_run.specs.Numbered.{atom_at, literal_at}
 use Rattle.search_run.specs.Unsatisfiable.{Clause, holds as holds_among, is_false}
 use Rattle.rebuilt_refutation.specs.Input.{clause_by, clause_in, Sourced, Input, literals_of}
-use Rattle.rebuilt_refutation.specs.Trimmed.{IsFromClause, IsFromSearch, IsCutOnAtom as IsCutOnVariable}
+use Rattle.rebuilt_refutation.specs.Trimmed.{IsFromClause, IsFromSearch, CutsOnAtom as IsCutOnVariable}
 use Rattle.rebuilt_refutation.proofs.LiteralLaws.{contains_literal, each_literal, contains_held}
-use Rattle.tableau_run.specs.Origin.{IsCutOnAtom, ComesFrom, IsReached, by_unit, ReachesFalse, Follows, AreRefutedWithin}
+use Rattle.tableau_run.specs.Origin.{CutsOnAtom, ComesFrom, IsPropagated, by_unit, PropagatesToFalse, Follows, AreRefutedWithin}
 
 -- LISTS
 
@@ -64,7 +64,7 @@ module _ (input : Input) where
   named_there : (n : ℕ) (x : Sourced) → slice_get input.clauses n ≡ Some x → Contains named (literals_of input.atoms (clause_in x))
   named_there n x h = contains-mapped (literals_of input.atoms) numbered (clause_in x) (clause_there n x h)
 
-  cut_on : (l : Line) → IsCutOnVariable input l → IsCutOnAtom named l
+  cut_on : (l : Line) → IsCutOnVariable input l → CutsOnAtom named l
   cut_on l h =
       let m = mentioned-in (clause_in h.occurs.clause) h.variable h.occurs.mentioned in
       record {
@@ -95,23 +95,23 @@ module _ (atoms : List Lambda) (clauses : List (List SatLit)) where
   cs = map (literals_of atoms) clauses
 
   abbrev AllReached : List SatLit → Type 0
-  AllReached ls = (m : SatLit) → Contains ls m → IsReached cs (literal_at atoms m)
+  AllReached ls = (m : SatLit) → Contains ls m → IsPropagated cs (literal_at atoms m)
 
-  unit_reached : (earlier : List SatLit) (l : SatLit) → AllReached earlier → Any (λ clause. IsUnit earlier clause l) clauses → IsReached cs (literal_at atoms l)
+  unit_reached : (earlier : List SatLit) (l : SatLit) → AllReached earlier → Any (λ clause. IsUnit earlier clause l) clauses → IsPropagated cs (literal_at atoms l)
   unit_reached earlier l all h =
       let u = some-in (λ clause. IsUnit earlier clause l) clauses h in
       by_unit (literals_of atoms u.0) (literal_at atoms l) (contains-mapped (literals_of atoms) clauses u.0 u.1) (contains_literal atoms u.0 l u.2.member) (others u.0 u.2)
     where
-      others : (clause : List SatLit) → IsUnit earlier clause l → (m : Literal) → Contains (literals_of atoms clause) m → m ≢ literal_at atoms l → IsReached cs (opposite m)
+      others : (clause : List SatLit) → IsUnit earlier clause l → (m : Literal) → Contains (literals_of atoms clause) m → m ≢ literal_at atoms l → IsPropagated cs (opposite m)
       others clause u =
-          each_literal atoms (λ m. m ≢ literal_at atoms l → IsReached cs (opposite m)) clause
+          each_literal atoms (λ m. m ≢ literal_at atoms l → IsPropagated cs (opposite m)) clause
           (λ m held differs. all (negated m) (contains_held earlier (negated m) (u.others m held (λ e. differs (ap (literal_at atoms) e)))))
 
-  reached_more : (earlier : List SatLit) (l : SatLit) → AllReached earlier → IsReached cs (literal_at atoms l) → AllReached (earlier ++ l ∷ [])
+  reached_more : (earlier : List SatLit) (l : SatLit) → AllReached earlier → IsPropagated cs (literal_at atoms l) → AllReached (earlier ++ l ∷ [])
   reached_more earlier l all r m h =
       elim (Contains-append_cases earlier (l ∷ []) m h) [
         | inl before ↦ all m before
-        | inr last ↦ contains_cases (IsReached cs (literal_at atoms m)) m l [] last (λ same. subst (λ k. IsReached cs (literal_at atoms k)) same r) (λ none. absurd (omega (arith, none.1)))
+        | inr last ↦ contains_cases (IsPropagated cs (literal_at atoms m)) m l [] last (λ same. subst (λ k. IsPropagated cs (literal_at atoms k)) same r) (λ none. absurd (omega (arith, none.1)))
       ]
 
   propagated : (earlier later : List SatLit) → AllReached earlier → Propagates clauses earlier later → AllReached (earlier ++ later)
@@ -119,14 +119,14 @@ module _ (atoms : List Lambda) (clauses : List (List SatLit)) where
   propagated earlier (l ∷ later) all h = subst AllReached (append_assoc earlier (l ∷ []) later) (propagated (earlier ++ l ∷ []) later (reached_more earlier l all (unit_reached earlier l all h.0)) h.1)
 
   -- where propagation over numbered clauses reaches a false clause, so does propagation over those that they stand for
-  pub reaches-false : NumbersReachFalse clauses [] → ReachesFalse cs
+  pub reaches-false : NumbersReachFalse clauses [] → PropagatesToFalse cs
   reaches-false h =
       let all : AllReached h.literals = subst AllReached (sym h.propagation.begins) (propagated [] h.propagation.later (λ m none. absurd (omega (arith, none.1))) h.propagation.propagated) in
       let f = some-in (IsFalseIn h.literals) clauses h.falsified in
       record {
         clause = literals_of atoms f.0;
         there = contains-mapped (literals_of atoms) clauses f.0 f.1;
-        denied = each_literal atoms (λ m. IsReached cs (opposite m)) f.0 (λ m held. all (negated m) (contains_held h.literals (negated m) (All-contains (λ l. IsTrue (holds h.literals (negated l))) f.0 m f.2 (contains_held f.0 m held))));
+        denied = each_literal atoms (λ m. IsPropagated cs (opposite m)) f.0 (λ m held. all (negated m) (contains_held h.literals (negated m) (All-contains (λ l. IsTrue (holds h.literals (negated l))) f.0 m f.2 (contains_held f.0 m held))));
       }
 
 -- WHAT FOLLOWS
@@ -173,7 +173,7 @@ refuted-within atoms conflicts clauses learned few implied reaches = record {
   learned = map (literals_of atoms) learned;
   counted = subst (λ n. n ≤ conflicts) (sym (length-map learned (literals_of atoms))) few;
   follow = all_follow atoms clauses learned implied;
-  reaches = subst ReachesFalse (map-append (literals_of atoms) clauses learned) (reaches-false atoms (clauses ++ learned) reaches);
+  reaches = subst PropagatesToFalse (map-append (literals_of atoms) clauses learned) (reaches-false atoms (clauses ++ learned) reaches);
 }
 
 none_learned : (learned : List Clause) → length learned ≤ 0 → learned ≡ []
@@ -181,5 +181,5 @@ none_learned [] h = refl
 none_learned (c ∷ learned) h = absurd (omega (arith, h))
 
 -- without a conflict unit propagation over the clauses alone reaches a false clause
-pub refuted-at_once : (clauses : List Clause) → AreRefutedWithin 0 clauses → ReachesFalse clauses
-refuted-at_once clauses h = subst ReachesFalse (ap (λ cs. clauses ++ cs) (none_learned h.learned h.counted) ∙ append-nil clauses) h.reaches
+pub refuted-at_once : (clauses : List Clause) → AreRefutedWithin 0 clauses → PropagatesToFalse clauses
+refuted-at_once clauses h = subst PropagatesToFalse (ap (λ cs. clauses ++ cs) (none_learned h.learned h.counted) ∙ append-nil clauses) h.reaches

@@ -33,12 +33,12 @@ use Rattle.tableau_rules.proofs.MadeLaws.{principals_within}
 use Rattle.tableau_rebuild.specs.Tables.{no_literal, the_atoms, sourced, the_sources, the_input, start_literals_in, unit_literals}
 use Rattle.tableau_rebuild.specs.Conditions.{IsInstanceOver, EndsEmpty}
 use Rattle.search_tables.specs.declared.tables.Basis.{Basis}
-use Rattle.search_tables.specs.Names.{IsNumber}
-use Rattle.search_tables.specs.Standing.{rows_in, IsBasis}
-use Rattle.search_tables.specs.Steps.{IsMade}
+use Rattle.search_tables.specs.Means.Names.{IsNumber}
+use Rattle.search_tables.specs.Means.Standing.{rows_in, IsBasis}
+use Rattle.search_tables.specs.Means.Steps.{IsMade}
 use Rattle.search_tables.proofs.EachLaws.{each-weaker, each-unmapped, map-same, All-from_each}
 use Rattle.search_tables.proofs.NumberLaws.{literal_named}
-use Rattle.tableau_search.specs.Running.{unit_in, units}
+use Rattle.tableau_search.specs.Means.Running.{unit_in, units}
 use Rattle.tableau_run.specs.Origin.{ComesFrom as ComesFromClauses, EachComesFrom, AreRefutedShortly}
 use Rattle.tableau_run.proofs.OriginLaws.{comes-from}
 use Rattle.tableau_run.proofs.PrincipalLaws.{principals-at}

@@ -33,15 +33,15 @@ use Rattle.term_bank.specs.Content.{Content, content_scope}
 use Rattle.search_tables.specs.declared.command.Planned.{Planned}
 use Rattle.search_tables.specs.declared.command.Delays.{Delays}
 use Rattle.search_tables.specs.declared.tables.Tables.{Tables}
-use Rattle.search_tables.specs.Standing.{declared_scope, setting_by, the_state, IsRight}
-use Rattle.tableau_search.specs.Running.{start_in, IsRunning}
-use Rattle.tableau_search.specs.Progress.{Progress}
-use Rattle.tableau_search.specs.Answers.{IsClosed, IsEmpty, IsAtLimit, IsSpent as IsSpentAt, GoesOn as GoesOnBy}
+use Rattle.search_tables.specs.Means.Standing.{declared_scope, setting_by, the_state, IsRight}
+use Rattle.tableau_search.specs.Means.Running.{start_in, IsRunning}
+use Rattle.tableau_search.specs.Means.Progress.{Progress}
+use Rattle.tableau_search.specs.Means.Answers.{StepCloses, IsEmpty, IsAtLimit, StepSpends as IsSpentAt, GoesOn as GoesOnBy}
 use Rattle.tableau_run.specs.declared.ended.Ended.{Ended}
 use Rattle.tableau_run.specs.declared.ended.Ended.TheVariants.{Proved, GaveUp, CommandLimit, ConflictLimit}
 use Rattle.tableau_run.specs.Ended.{setting_for, IsSpent, EndsAs}
 use Rattle.tableau_run.specs.Origin.{ComesFrom, AreRefutedWithin}
-use Rattle.tableau_run.specs.Means.Ends.{Refutes, IsProvedBy, EndsFrom}
+use Rattle.tableau_run.specs.Means.Ends.{RefutesFrom, IsProvedBy, EndsFrom}
 use Rattle.tableau_run.proofs.OriginLaws.{refuted-within, refuted-at_once}
 use Rattle.tableau_run.proofs.RebuildUses.{lists-named}
 
@@ -63,7 +63,7 @@ module _ (t : Tables) (q : Queue Planned Delays) (r : IsRunning t q) (t2 : Table
   goes-on g = record { state = the_state t q; open_state = record { comes_to = r.comes_to; satisfiable = g.satisfiable }; some_left = g.some_left; below = g.below }
 
   -- the clauses are refuted within the conflicts of the mode
-  within_budget : IsClosed old new → IsRight t2 q2 → setting_by t2 q2 ≡ setting_by t q → All (Implies t2.solver.clauses) (results t2.solver.log) → AreRefutedWithin q.rule.mode.conflicts (the_state t q).clauses
+  within_budget : StepCloses old new → IsRight t2 q2 → setting_by t2 q2 ≡ setting_by t q → All (Implies t2.solver.clauses) (results t2.solver.log) → AreRefutedWithin q.rule.mode.conflicts (the_state t q).clauses
   within_budget k right same implied =
       let C : List (List SatLit) → Type 0 = λ cs. All (Implies cs) (learned t2.solver) in
       let R : List (List SatLit) → Type 0 = λ cs. NumbersReachFalse (cs ++ learned t2.solver) [] in
@@ -76,8 +76,8 @@ module _ (t : Tables) (q : Queue Planned Delays) (r : IsRunning t q) (t2 : Table
       (subst R right.solver k.propagated)
       )
 
-  pub is-proved : (refutation : Refutation) → IsClosed old new → IsRight t2 q2 → setting_by t2 q2 ≡ setting_by t q → All (Implies t2.solver.clauses) (results t2.solver.log)
-      → Refutes (setting_by t q).scope (start_in t) (the_state t q).clauses refutation → GoesOnUntil (setting_by t q) (start_in t) t.done → IsProvedBy (setting_by t q) (start_in t) t2.done refutation
+  pub is-proved : (refutation : Refutation) → StepCloses old new → IsRight t2 q2 → setting_by t2 q2 ≡ setting_by t q → All (Implies t2.solver.clauses) (results t2.solver.log)
+      → RefutesFrom (setting_by t q).scope (start_in t) (the_state t q).clauses refutation → GoesOnUntil (setting_by t q) (start_in t) t.done → IsProvedBy (setting_by t q) (start_in t) t2.done refutation
   is-proved refutation k right same implied refutes until =
       let P : ℕ → Type 0 = λ n. IsProvedBy (setting_by t q) (start_in t) n refutation in
       subst P (sym k.stays.done)

@@ -21,7 +21,7 @@ use Rattle.rebuilt_refutation.specs.Trimmed.{IsEachReached}
 use Rattle.written_refutation.specs.Sizes.{IsSmall}
 use Rattle.mode_file.specs.declared.Mode.{Mode}
 use Rattle.search_tables.specs.Delays.{the_mode}
-use Rattle.tableau_run.specs.Origin.{EachComesFrom, AreRefutedShortly, AreRefutedWithin, ReachesFalse}
+use Rattle.tableau_run.specs.Origin.{EachComesFrom, AreRefutedShortly, AreRefutedWithin, PropagatesToFalse}
 use Rattle.tableau_run.specs.declared.ended.Ended.{Ended}
 use Rattle.tableau_run.specs.declared.ended.Ended.TheVariants.{Proved, GaveUp, CommandLimit, ConflictLimit}
 
@@ -40,7 +40,7 @@ pub record IsRefuted (p : PlainProblem) (m : Mode) (n : ℕ) (refutation : Refut
   pub origin : EachComesFrom (start p) proved.state.clauses refutation.lines
   pub shortly : AreRefutedShortly proved.state.clauses refutation.lines
   pub within : AreRefutedWithin m.conflicts proved.state.clauses
-  pub at_once : m.conflicts ≡ 0 → ReachesFalse proved.state.clauses
+  pub at_once : m.conflicts ≡ 0 → PropagatesToFalse proved.state.clauses
 
 -- So many conflicts are spent over clauses of formulas (Marques-Silva and Sakallah 1999): clauses of numbered literals stand for them, as
 -- many clauses were learned as there are conflicts, each implied by the others, and some decisions lead to one conflict more. That isn't so

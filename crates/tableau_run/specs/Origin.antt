@@ -14,7 +14,7 @@ use Rattle.rebuilt_refutation.specs.Trimmed.{IsClosedByStart}
 use Rattle.rebuilt_refutation.specs.Used.{AreFew}
 
 -- the atom is that of a literal of one of the clauses
-pub record Occurs (clauses : List Clause) (atom : Lambda) : Type 0 where
+pub record HasAtom (clauses : List Clause) (atom : Lambda) : Type 0 where
   pub clause : Clause
   pub there : Contains clauses clause
   pub literal : Literal
@@ -22,15 +22,15 @@ pub record Occurs (clauses : List Clause) (atom : Lambda) : Type 0 where
   pub same : literal.atom ≡ atom
 
 -- a cut on an atom of the clauses
-pub record IsCutOnAtom (clauses : List Clause) (l : Line) : Type 0 where
+pub record CutsOnAtom (clauses : List Clause) (l : Line) : Type 0 where
   pub literal : Literal
   pub rule : l.rule ≡ Cut literal
-  pub occurs : Occurs clauses literal.atom
+  pub occurs : HasAtom clauses literal.atom
 
 -- A line comes from clauses: it cuts on one of their atoms, or two literals of the start close each other there, or the negations of its
 -- branch's literals are one of the clauses.
 abbrev pub ComesFrom : List Literal → List Clause → Line → Type 0
-ComesFrom start clauses l = IsCutOnAtom clauses l ⊎ (IsClosedByStart start l ⊎ Contains clauses (map opposite l.branch))
+ComesFrom start clauses l = CutsOnAtom clauses l ⊎ (IsClosedByStart start l ⊎ Contains clauses (map opposite l.branch))
 
 abbrev pub EachComesFrom : List Literal → List Clause → List Line → Type 0
 EachComesFrom start clauses lines = (l : Line) → Contains lines l → ComesFrom start clauses l
@@ -49,14 +49,14 @@ pub record AreRefutedShortly (clauses : List Clause) (lines : List Line) : Type 
 
 -- Unit propagation over the clauses, from no literals, reaches a literal (Davis and Putnam 1960): some clause has it, and the negations of
 -- the clause's other literals are reached.
-pub data IsReached (clauses : List Clause) : Literal → Type 0 where
-  by_unit : (clause : Clause) (l : Literal) → Contains clauses clause → Contains clause l → ((m : Literal) → Contains clause m → m ≢ l → IsReached clauses (opposite m)) → IsReached clauses l
+pub data IsPropagated (clauses : List Clause) : Literal → Type 0 where
+  by_unit : (clause : Clause) (l : Literal) → Contains clauses clause → Contains clause l → ((m : Literal) → Contains clause m → m ≢ l → IsPropagated clauses (opposite m)) → IsPropagated clauses l
 
 -- unit propagation over the clauses reaches a false clause: the negations of all its literals
-pub record ReachesFalse (clauses : List Clause) : Type 0 where
+pub record PropagatesToFalse (clauses : List Clause) : Type 0 where
   pub clause : Clause
   pub there : Contains clauses clause
-  pub denied : (l : Literal) → Contains clause l → IsReached clauses (opposite l)
+  pub denied : (l : Literal) → Contains clause l → IsPropagated clauses (opposite l)
 
 -- the clause is true wherever all the others are
 abbrev pub Follows : List Clause → Clause → Type 0
@@ -68,4 +68,4 @@ pub record AreRefutedWithin (conflicts : ℕ) (clauses : List Clause) : Type 0 w
   pub learned : List Clause
   pub counted : length learned ≤ conflicts
   pub follow : All (Follows clauses) learned
-  pub reaches : ReachesFalse (clauses ++ learned)
+  pub reaches : PropagatesToFalse (clauses ++ learned)

@@ -5,10 +5,10 @@ ghost use Rattle.sat_log.specs.Chains.{results};
 ghost use Rattle.sat_core.specs.Solver.{learned};
 ghost use Rattle.search_run.specs.Result.{GoesOnUntil};
 ghost use Rattle.search_tables.specs.Delays.{delay_by};
-ghost use Rattle.search_tables.specs.Standing.{declared_scope, setting_by};
-ghost use Rattle.tableau_search.specs.Running.{start_in, IsUnderWay};
+ghost use Rattle.search_tables.specs.Means.Standing.{declared_scope, setting_by};
+ghost use Rattle.tableau_search.specs.Means.Running.{start_in, IsUnderWay};
 ghost use Rattle.tableau_run.specs.Ended.{EndsAs};
-ghost use Rattle.tableau_run.specs.Means.Ends.{AreRight, clauses_of, Refutes, EndsFrom, GoesOnTo};
+ghost use Rattle.tableau_run.specs.Means.Ends.{AreRight, clauses_of, RefutesFrom, EndsFrom, GoesOnTo};
 
 use crate::delays::delay;
 use crate::ended::Ended;
@@ -26,7 +26,7 @@ use tableau_search::{Command, Search, Stepped, Waiting};
 fn refutation_of(alloc: Global, tables: &Tables) -> Result<Refutation, AllocError>
     requires right { AreRight tables.now }
     requires ends { results tables.now.solver.log ≡ learned tables.now.solver ++ [] ∷ [] }
-    ensures { IfOk result (Refutes (declared_scope tables.now.basis.bank) (start_in tables.now) (clauses_of tables.now)) }
+    ensures { IfOk result (RefutesFrom (declared_scope tables.now.basis.bank) (start_in tables.now) (clauses_of tables.now)) }
 {
     tables.steps.clauses_come_from_origins();
     let log = tables.solver.log();

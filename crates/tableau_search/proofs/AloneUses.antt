@@ -23,9 +23,9 @@ use Rattle.literal_map.specs.declared.instance.RuleKind.{RuleKind}
 use Rattle.literal_map.specs.declared.instance.RuleKind.TheVariants as kind
 use Rattle.tableau_rules.specs.Uses.{IsInstanceBy}
 use Rattle.search_tables.specs.declared.tables.Basis.{Basis}
-use Rattle.search_tables.specs.Names.{IsNumber}
-use Rattle.search_tables.specs.Standing.{declared_scope, rows_in, scope_by, IsBasis}
-use Rattle.tableau_search.specs.Working.{alone}
+use Rattle.search_tables.specs.Means.Names.{IsNumber}
+use Rattle.search_tables.specs.Means.Standing.{declared_scope, rows_in, scope_by, IsBasis}
+use Rattle.tableau_search.specs.Means.Working.{alone}
 use Rattle.tableau_search.proofs.RuleUses.{scope-is, typed_here}
 
 -- the atom of a number is a closed formula

@@ -14,10 +14,10 @@ use Rattle.witness_names.proofs.StayLaws.{rows_same, rows_grown}
 use Rattle.tableau_clauses.specs.declared.origin.Origin.TheVariants.{Start}
 use Rattle.tableau_clauses.specs.Table.{Step, Table, clauses_in, origins_in, the_clauses, the_origins, the_instances}
 use Rattle.search_tables.specs.declared.tables.Basis.{Basis}
-use Rattle.search_tables.specs.Growing.{BasisGrows}
-use Rattle.search_tables.specs.Standing.{IsBasis}
+use Rattle.search_tables.specs.Means.Growing.{BasisGrows}
+use Rattle.search_tables.specs.Means.Standing.{IsBasis}
 use Rattle.search_tables.proofs.EachLaws.{All-from_each}
-use Rattle.tableau_search.specs.Starting.{AddsUnit}
+use Rattle.tableau_search.specs.Means.Starting.{AddsUnit}
 
 -- what is right stays so where terms and atoms come
 pub basis-grown : (g h : Basis) → BasisGrows g h → IsBasis g → All (IsAtom h.bank) h.lits → IsRight h.normal h.bank → IsBasis h

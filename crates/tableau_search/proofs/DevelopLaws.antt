@@ -8,11 +8,11 @@ use Rattle.tableau_clauses.specs.declared.origin.Origin.TheVariants.{Start}
 use Rattle.tableau_clauses.specs.Table.{Table}
 use Rattle.search_tables.specs.declared.tables.Basis.{Basis}
 use Rattle.search_tables.specs.declared.tables.Tables.{Tables}
-use Rattle.search_tables.specs.Growing.{BasisGrows}
-use Rattle.search_tables.specs.Standing.{IsBasis}
+use Rattle.search_tables.specs.Means.Growing.{BasisGrows}
+use Rattle.search_tables.specs.Means.Standing.{IsBasis}
 use Rattle.search_tables.proofs.EachLaws.{each-weaker}
-use Rattle.search_tables.specs.Steps.{IsMade, StepsGrow}
-use Rattle.tableau_search.specs.Developing.{IsWider, Develops}
+use Rattle.search_tables.specs.Means.Steps.{IsMade, StepsGrow}
+use Rattle.tableau_search.specs.Means.Developing.{IsWider, Develops}
 use Rattle.tableau_search.proofs.MadeStays.{made-wider}
 
 pub wider-itself : (g : Basis) → IsWider g g

@@ -19,13 +19,13 @@ use Rattle.tableau_rules.specs.Uses.{IsInstanceBy}
 use Rattle.tableau_rules.proofs.MadeLaws.{instance_on, instance_wider}
 use Rattle.tableau_rules.proofs.WideLaws.{wide_within}
 use Rattle.search_tables.specs.declared.tables.Basis.{Basis}
-use Rattle.search_tables.specs.Names.{Names, IsNumber, IsPlace}
-use Rattle.search_tables.specs.Growing.{Continues}
-use Rattle.search_tables.specs.Standing.{rows_in, IsBasis}
+use Rattle.search_tables.specs.Means.Names.{Names, IsNumber, IsPlace}
+use Rattle.search_tables.specs.Means.Growing.{Continues}
+use Rattle.search_tables.specs.Means.Standing.{rows_in, IsBasis}
 use Rattle.search_tables.proofs.EachLaws.{each-weaker, map-same, each-from_All}
 use Rattle.search_tables.proofs.NamesLaws.{number-stays, literal-stays, term-stays}
-use Rattle.search_tables.specs.Steps.{IsMade}
-use Rattle.tableau_search.specs.Developing.{IsWider}
+use Rattle.search_tables.specs.Means.Steps.{IsMade}
+use Rattle.tableau_search.specs.Means.Developing.{IsWider}
 
 -- with further rows a rule has the instances that it had
 rule_rows : (scope : Scope) (rows more : List Row) (rule : RuleUse) (ps : List Literal) (as' : List (List Literal)) → Rule scope rows rule ps as' → Rule scope (rows ++ more) rule ps as'

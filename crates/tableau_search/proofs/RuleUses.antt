@@ -26,7 +26,7 @@ use Rattle.literal_map.specs.declared.instance.BankUse.{BankUse}
 use Rattle.literal_map.specs.declared.instance.RuleKind.TheVariants as kind
 use Rattle.tableau_rules.specs.Uses.{IsInstanceBy}
 use Rattle.search_tables.specs.declared.tables.Basis.{Basis}
-use Rattle.search_tables.specs.Standing.{declared_scope, rows_in, scope_by, IsBasis}
+use Rattle.search_tables.specs.Means.Standing.{declared_scope, rows_in, scope_by, IsBasis}
 
 pub head_of-applied : (t : Lambda) (us : List Lambda) → head_of (applied t us) ≡ head_of t
 head_of-applied t [] = refl

@@ -23,14 +23,14 @@ use Rattle.search_tables.specs.declared.command.Delays.{Delays}
 use Rattle.search_tables.specs.declared.tables.Basis.{Basis}
 use Rattle.search_tables.specs.declared.tables.Tables.{Tables}
 use Rattle.search_tables.specs.Delays.{the_mode}
-use Rattle.search_tables.specs.Names.{command_at}
-use Rattle.search_tables.specs.Standing.{declared_scope, scope_by, sketches_in, names_in, setting_by, loops_in, the_state, IsRight}
-use Rattle.search_tables.specs.Taking.{TakesNext}
+use Rattle.search_tables.specs.Means.Names.{command_at}
+use Rattle.search_tables.specs.Means.Standing.{declared_scope, scope_by, sketches_in, names_in, setting_by, loops_in, the_state, IsRight}
+use Rattle.search_tables.specs.Means.Taking.{TakesNext}
 use Rattle.search_tables.proofs.EachLaws.{each-weaker}
-use Rattle.search_tables.specs.Steps.{IsMade}
-use Rattle.tableau_search.specs.Developing.{IsWider, Develops}
-use Rattle.tableau_search.specs.Running.{start_in, IsRunning}
-use Rattle.tableau_search.specs.Answers.{GoesOn}
+use Rattle.search_tables.specs.Means.Steps.{IsMade}
+use Rattle.tableau_search.specs.Means.Developing.{IsWider, Develops}
+use Rattle.tableau_search.specs.Means.Running.{start_in, IsRunning}
+use Rattle.tableau_search.specs.Means.Answers.{GoesOn}
 use Rattle.tableau_search.proofs.MadeStays.{made-wider}
 use Rattle.tableau_search.proofs.UnitLaws.{units-grow, start-stays}
 

@@ -9,7 +9,7 @@ use Rattle.stt_tableau.specs.Literals.{IsBranch}
 use Rattle.stt_tableau.specs.Start.{start}
 use Rattle.stt_tableau.proofs.StartMeets.{start_typed}
 use Rattle.term_bank.specs.Content.{Content}
-use Rattle.search_tables.specs.Standing.{declared_scope}
+use Rattle.search_tables.specs.Means.Standing.{declared_scope}
 
 module _ (p : PlainProblem) (typed : IsTyped p) (b : Content) (bases : b.bases ≡ p.declared.bases) (consts : b.consts ≡ p.declared.consts) where
   pub scope-same : declared_scope b ≡ scope_of p.declared

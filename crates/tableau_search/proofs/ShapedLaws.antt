@@ -13,10 +13,10 @@ use Rattle.search_run.specs.Partners.{has_equal_sides}
 use Rattle.search_run.specs.Spine.{head_of, has_compared_head, is_application, is_spine, same_head}
 use Rattle.search_run.specs.State.{State, Setting}
 use Rattle.search_run.specs.Processing.{worked, mated}
-use Rattle.search_tables.specs.Pending.{equation_type}
-use Rattle.search_tables.specs.Selecting.{parts}
-use Rattle.search_tables.specs.Shapes.{IsBaseEquation}
-use Rattle.tableau_search.specs.Working.{equation_shape, shape_of}
+use Rattle.search_tables.specs.Means.Pending.{equation_type}
+use Rattle.search_tables.specs.Means.Selecting.{parts}
+use Rattle.search_tables.specs.Means.Shapes.{IsBaseEquation}
+use Rattle.tableau_search.specs.Means.Working.{equation_shape, shape_of}
 use Rattle.tableau_search.specs.declared.shape.Shape.{Shape}
 use Rattle.tableau_search.specs.declared.shape.Shape.TheVariants.{Falsity, Implication, FormulaEquation, FunctionEquation, BaseEquation, Quantified, Other}
 use Rattle.tableau_search.proofs.RuleUses.{head_of-applied}

@@ -31,11 +31,11 @@ use Rattle.search_tables.specs.declared.command.Delays.{Delays}
 use Rattle.search_tables.specs.declared.tables.Basis.{Basis}
 use Rattle.search_tables.specs.declared.tables.Tables.{Tables}
 use Rattle.search_tables.specs.Delays.{the_mode}
-use Rattle.search_tables.specs.Growing.{BasisGrows}
-use Rattle.search_tables.specs.Standing.{declared_scope, setting_by, the_state, IsBasis, IsRight}
-use Rattle.search_tables.specs.Steps.{IsMade}
-use Rattle.tableau_search.specs.Running.{units, start_in, IsRunning}
-use Rattle.tableau_search.specs.Starting.{AddsUnit, AddsStart, IsStarting}
+use Rattle.search_tables.specs.Means.Growing.{BasisGrows}
+use Rattle.search_tables.specs.Means.Standing.{declared_scope, setting_by, the_state, IsBasis, IsRight}
+use Rattle.search_tables.specs.Means.Steps.{IsMade}
+use Rattle.tableau_search.specs.Means.Running.{units, start_in, IsRunning}
+use Rattle.tableau_search.specs.Means.Starting.{AddsUnit, AddsStart, IsStarting}
 use Rattle.tableau_search.proofs.DevelopLaws.{grows-wider, wider-then, wider-itself}
 use Rattle.tableau_search.proofs.UnitLaws.{units-append, start-stays}
 use Rattle.search_tables.proofs.StateStays.{state-stays, right-stays}

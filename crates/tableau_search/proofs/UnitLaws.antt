@@ -10,11 +10,11 @@ use Rattle.tableau_clauses.specs.declared.origin.Origin.{Origin}
 use Rattle.tableau_clauses.specs.declared.origin.Origin.TheVariants.{Start, Instance as From}
 use Rattle.tableau_clauses.specs.Table.{Step, Table, clauses_in}
 use Rattle.search_tables.specs.declared.tables.Tables.{Tables}
-use Rattle.search_tables.specs.Names.{IsNumber}
-use Rattle.search_tables.specs.Standing.{IsBasis}
-use Rattle.search_tables.specs.Steps.{StepsGrow}
-use Rattle.tableau_search.specs.Developing.{IsWider}
-use Rattle.tableau_search.specs.Running.{unit_in, units, start_in}
+use Rattle.search_tables.specs.Means.Names.{IsNumber}
+use Rattle.search_tables.specs.Means.Standing.{IsBasis}
+use Rattle.search_tables.specs.Means.Steps.{StepsGrow}
+use Rattle.tableau_search.specs.Means.Developing.{IsWider}
+use Rattle.tableau_search.specs.Means.Running.{unit_in, units, start_in}
 use Rattle.tableau_search.proofs.MadeStays.{literals-wider}
 
 pub units-append : (xs ys : List Step) → units (xs ++ ys) ≡ units xs ++ units ys

@@ -24,14 +24,14 @@ use Rattle.search_tables.specs.declared.command.Delays.{Delays}
 use Rattle.search_tables.specs.declared.tables.Basis.{Basis}
 use Rattle.search_tables.specs.declared.tables.Tables.{Tables}
 use Rattle.search_tables.specs.Delays.{the_mode}
-use Rattle.search_tables.specs.Growing.{BasisGrows, BasisWidens}
-use Rattle.search_tables.specs.Names.{IsNumber}
-use Rattle.search_tables.specs.Pending.{equation_type, range_of}
-use Rattle.search_tables.specs.Shapes.{IsBaseEquation}
-use Rattle.search_tables.specs.Standing.{setting_by, the_state, IsBasis}
-use Rattle.search_tables.specs.Steps.{IsMade, StepsGrow}
-use Rattle.tableau_search.specs.Developing.{IsWider, Develops}
-use Rattle.tableau_search.specs.Working.{denies_itself}
+use Rattle.search_tables.specs.Means.Growing.{BasisGrows, BasisWidens}
+use Rattle.search_tables.specs.Means.Names.{IsNumber}
+use Rattle.search_tables.specs.Means.Pending.{equation_type, range_of}
+use Rattle.search_tables.specs.Means.Shapes.{IsBaseEquation}
+use Rattle.search_tables.specs.Means.Standing.{setting_by, the_state, IsBasis}
+use Rattle.search_tables.specs.Means.Steps.{IsMade, StepsGrow}
+use Rattle.tableau_search.specs.Means.Developing.{IsWider, Develops}
+use Rattle.tableau_search.specs.Means.Working.{denies_itself}
 use Rattle.tableau_search.proofs.MadeStays.{literal-wider}
 use Rattle.tableau_search.proofs.DevelopLaws.{grows-wider, steps-same}
 use Rattle.tableau_search.proofs.RunLaws.{scope-wider}

@@ -1,6 +1,1 @@
-pub mod Developing
-pub mod Working
-pub mod Running
-pub mod Starting
-pub mod Progress
-pub mod Answers
+pub mod Means

@@ -1,9 +1,9 @@
 //! A step over right tables.
 ghost use Rattle.std.specs.Prelude.{◌≡◌, ◌≢◌, [], OnOk, IfOk, false};
 ghost use Rattle.search_run.specs.Unsatisfiable.{Unsatisfiable};
-ghost use Rattle.search_tables.specs.Standing.{setting_by, the_state};
-ghost use Rattle.tableau_search.specs.Running.{start_in, IsRunning};
-ghost use Rattle.tableau_search.specs.Answers.{GoesOn, Answers};
+ghost use Rattle.search_tables.specs.Means.Standing.{setting_by, the_state};
+ghost use Rattle.tableau_search.specs.Means.Running.{start_in, IsRunning};
+ghost use Rattle.tableau_search.specs.Means.Answers.{GoesOn, Answers};
 
 use crate::carry::carry_out;
 use crate::stepped::Stepped;

@@ -6,10 +6,10 @@ ghost use Rattle.literal_map.specs.declared.instance.RuleKind.TheVariants.{AllNe
 ghost use Rattle.tableau_rules.specs.Uses.{principals_of, IsInstanceBy};
 ghost use Rattle.search_run.specs.Instances.{with_instance};
 ghost use Rattle.search_tables.specs.Delays.{the_mode};
-ghost use Rattle.search_tables.specs.Names.{IsNumber};
-ghost use Rattle.search_tables.specs.Standing.{rows_in, the_state, IsRight};
-ghost use Rattle.tableau_search.specs.Developing.{Develops};
-ghost use Rattle.tableau_search.specs.Working.{alone};
+ghost use Rattle.search_tables.specs.Means.Names.{IsNumber};
+ghost use Rattle.search_tables.specs.Means.Standing.{rows_in, the_state, IsRight};
+ghost use Rattle.tableau_search.specs.Means.Developing.{Develops};
+ghost use Rattle.tableau_search.specs.Means.Working.{alone};
 
 use command_queue::Weigher;
 use literal_map::{BankUse, RuleKind};

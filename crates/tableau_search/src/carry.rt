@@ -3,9 +3,9 @@ ghost use Rattle.std.specs.Prelude.{◌≡◌, ◌<◌, ◌≤◌, suc, length, 
 ghost use Rattle.search_run.specs.Commands.{carried_out};
 ghost use Rattle.search_run.specs.Each.{Each};
 ghost use Rattle.search_run.specs.TypedState.{IsTypedSketch, IsTypedCommand};
-ghost use Rattle.search_tables.specs.Names.{command_at, AreNumbers};
-ghost use Rattle.search_tables.specs.Standing.{scope_by, sketches_in, names_in, setting_by, the_state, IsRight};
-ghost use Rattle.tableau_search.specs.Developing.{Develops};
+ghost use Rattle.search_tables.specs.Means.Names.{command_at, AreNumbers};
+ghost use Rattle.search_tables.specs.Means.Standing.{scope_by, sketches_in, names_in, setting_by, the_state, IsRight};
+ghost use Rattle.tableau_search.specs.Means.Developing.{Develops};
 
 use crate::instances::{choose, confront, describe, instantiate, mate};
 use crate::process::process;

@@ -8,12 +8,12 @@ ghost use Rattle.literal_map.specs.Atoms.{atom_at, literal_at};
 ghost use Rattle.search_run.specs.Processing.{decomposed, worked};
 ghost use Rattle.search_run.specs.Terms.{with_term};
 ghost use Rattle.search_tables.specs.Delays.{the_mode};
-ghost use Rattle.search_tables.specs.Names.{IsNumber, IsPlace};
-ghost use Rattle.search_tables.specs.Pending.{equation_type};
-ghost use Rattle.search_tables.specs.Shapes.{IsBaseEquation};
-ghost use Rattle.search_tables.specs.Standing.{setting_by, the_state, IsBasis, IsRight};
-ghost use Rattle.tableau_search.specs.Developing.{Develops};
-ghost use Rattle.tableau_search.specs.Working.{denies_itself, shape_of};
+ghost use Rattle.search_tables.specs.Means.Names.{IsNumber, IsPlace};
+ghost use Rattle.search_tables.specs.Means.Pending.{equation_type};
+ghost use Rattle.search_tables.specs.Means.Shapes.{IsBaseEquation};
+ghost use Rattle.search_tables.specs.Means.Standing.{setting_by, the_state, IsBasis, IsRight};
+ghost use Rattle.tableau_search.specs.Means.Developing.{Develops};
+ghost use Rattle.tableau_search.specs.Means.Working.{denies_itself, shape_of};
 ghost use Rattle.tableau_search.specs.declared.shape.Shape.TheVariants.{FormulaEquation, FunctionEquation, BaseEquation};
 
 use crate::alone::apply_alone;

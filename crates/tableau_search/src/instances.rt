@@ -10,9 +10,9 @@ ghost use Rattle.search_run.specs.Commands.{mated_pair, confronted_pair, instant
 ghost use Rattle.search_run.specs.Instances.{with_instance};
 ghost use Rattle.search_run.specs.TypedState.{Mates, Confronts, Instantiates};
 ghost use Rattle.search_tables.specs.Delays.{the_mode};
-ghost use Rattle.search_tables.specs.Names.{IsNumber, IsPlace};
-ghost use Rattle.search_tables.specs.Standing.{scope_by, setting_by, the_state, IsRight};
-ghost use Rattle.tableau_search.specs.Developing.{Develops};
+ghost use Rattle.search_tables.specs.Means.Names.{IsNumber, IsPlace};
+ghost use Rattle.search_tables.specs.Means.Standing.{scope_by, setting_by, the_state, IsRight};
+ghost use Rattle.tableau_search.specs.Means.Developing.{Develops};
 
 use command_queue::Weigher;
 use literal_map::{BankUse, RuleKind};

@@ -2,9 +2,9 @@
 ghost use Rattle.std.specs.Prelude.{◌≡◌, ◌<◌, ◌≤◌, ◌-◌, ◌^◌, suc, length, OnOk};
 ghost use Rattle.literal_map.specs.Atoms.{literal_at};
 ghost use Rattle.search_run.specs.Processing.{processed};
-ghost use Rattle.search_tables.specs.Names.{IsNumber};
-ghost use Rattle.search_tables.specs.Standing.{setting_by, the_state, IsRight};
-ghost use Rattle.tableau_search.specs.Developing.{Develops};
+ghost use Rattle.search_tables.specs.Means.Names.{IsNumber};
+ghost use Rattle.search_tables.specs.Means.Standing.{setting_by, the_state, IsRight};
+ghost use Rattle.tableau_search.specs.Means.Developing.{Develops};
 
 use crate::work::work;
 use command_queue::Weigher;

@@ -2,10 +2,10 @@
 ghost use Rattle.std.specs.Prelude.{◌≡◌, ◌<◌, ◌-◌, ◌^◌, length, OnOk};
 ghost use Rattle.literal_map.specs.Atoms.{atom_at, literal_at};
 ghost use Rattle.search_run.specs.Processing.{worked};
-ghost use Rattle.search_tables.specs.Names.{IsNumber};
-ghost use Rattle.search_tables.specs.Standing.{setting_by, the_state, IsRight};
-ghost use Rattle.tableau_search.specs.Developing.{Develops};
-ghost use Rattle.tableau_search.specs.Working.{shape_of};
+ghost use Rattle.search_tables.specs.Means.Names.{IsNumber};
+ghost use Rattle.search_tables.specs.Means.Standing.{setting_by, the_state, IsRight};
+ghost use Rattle.tableau_search.specs.Means.Developing.{Develops};
+ghost use Rattle.tableau_search.specs.Means.Working.{shape_of};
 ghost use Rattle.tableau_search.specs.declared.shape.Shape.TheVariants.{Falsity, Implication};
 
 use crate::alone::apply_alone;

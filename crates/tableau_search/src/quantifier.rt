@@ -3,11 +3,11 @@ ghost use Rattle.std.specs.Prelude.{◌≡◌, ◌<◌, ◌≤◌, ◌-◌, ◌^
 ghost use Rattle.stt_core.specs.View.{the_type};
 ghost use Rattle.literal_map.specs.Atoms.{atom_at, literal_at};
 ghost use Rattle.search_run.specs.Processing.{worked};
-ghost use Rattle.search_tables.specs.Names.{IsNumber};
-ghost use Rattle.search_tables.specs.Pending.{range_of};
-ghost use Rattle.search_tables.specs.Standing.{setting_by, the_state, IsBasis, IsRight};
-ghost use Rattle.tableau_search.specs.Developing.{Develops};
-ghost use Rattle.tableau_search.specs.Working.{shape_of};
+ghost use Rattle.search_tables.specs.Means.Names.{IsNumber};
+ghost use Rattle.search_tables.specs.Means.Pending.{range_of};
+ghost use Rattle.search_tables.specs.Means.Standing.{setting_by, the_state, IsBasis, IsRight};
+ghost use Rattle.tableau_search.specs.Means.Developing.{Develops};
+ghost use Rattle.tableau_search.specs.Means.Working.{shape_of};
 ghost use Rattle.tableau_search.specs.declared.shape.Shape.TheVariants.{Quantified};
 
 use crate::shape::atom_of;

@@ -8,9 +8,9 @@ ghost use Rattle.sat_log.specs.Chains.{results};
 ghost use Rattle.sat_core.specs.Solver.{IsSound};
 ghost use Rattle.search_run.specs.Shallow.{is_shallow_literal};
 ghost use Rattle.search_tables.specs.Delays.{delay_by};
-ghost use Rattle.search_tables.specs.Standing.{setting_by};
-ghost use Rattle.tableau_search.specs.Running.{start_in, IsUnderWay};
-ghost use Rattle.tableau_search.specs.Answers.{Answers};
+ghost use Rattle.search_tables.specs.Means.Standing.{setting_by};
+ghost use Rattle.tableau_search.specs.Means.Running.{start_in, IsUnderWay};
+ghost use Rattle.tableau_search.specs.Means.Answers.{Answers};
 
 use crate::advance::advance;
 use crate::start::{new_core, start_all};

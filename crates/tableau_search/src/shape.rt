@@ -4,9 +4,9 @@ ghost use Rattle.stt_core.specs.Lambda.{Lambda, applied};
 ghost use Rattle.stt_core.specs.View.{the_head, the_type};
 ghost use Rattle.term_bank.specs.Terms.{term_at};
 ghost use Rattle.literal_map.specs.Atoms.{atom_at, literal_at};
-ghost use Rattle.search_tables.specs.Names.{IsNumber, IsPlace};
-ghost use Rattle.search_tables.specs.Standing.{IsBasis};
-ghost use Rattle.tableau_search.specs.Working.{denies_itself, equation_shape, shape_of};
+ghost use Rattle.search_tables.specs.Means.Names.{IsNumber, IsPlace};
+ghost use Rattle.search_tables.specs.Means.Standing.{IsBasis};
+ghost use Rattle.tableau_search.specs.Means.Working.{denies_itself, equation_shape, shape_of};
 
 use sat_base::SatLit;
 use search_tables::{Basis, has_equal_sides};

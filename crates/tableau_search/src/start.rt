@@ -12,12 +12,12 @@ ghost use Rattle.search_run.specs.After.{nothing_yet};
 ghost use Rattle.search_run.specs.Instances.{with_instance};
 ghost use Rattle.term_bank.specs.Content.{content_scope};
 ghost use Rattle.search_tables.specs.Delays.{the_mode, delay_by};
-ghost use Rattle.search_tables.specs.Growing.{BasisGrows};
+ghost use Rattle.search_tables.specs.Means.Growing.{BasisGrows};
 ghost use Rattle.literal_map.specs.Atoms.{literal_at};
 ghost use Rattle.tableau_clauses.specs.Table.{the_clauses};
-ghost use Rattle.search_tables.specs.Names.{IsNumber};
-ghost use Rattle.search_tables.specs.Standing.{declared_scope, the_state, IsBasis, IsRight};
-ghost use Rattle.tableau_search.specs.Starting.{AddsUnit, AddsStart, IsStarting};
+ghost use Rattle.search_tables.specs.Means.Names.{IsNumber};
+ghost use Rattle.search_tables.specs.Means.Standing.{declared_scope, the_state, IsBasis, IsRight};
+ghost use Rattle.tableau_search.specs.Means.Starting.{AddsUnit, AddsStart, IsStarting};
 
 use bank_normal::Normaliser;
 use command_queue::Weigher;

@@ -16,9 +16,9 @@ use Rattle.search_tables.specs.declared.command.Delays.{Delays}
 use Rattle.search_tables.specs.declared.tables.Tables.{Tables}
 use Rattle.literal_map.specs.Atoms.{literal_at}
 use Rattle.tableau_clauses.specs.Table.{the_clauses}
-use Rattle.search_tables.specs.Standing.{setting_by, IsRight}
-use Rattle.search_tables.specs.Steps.{IsMade}
-use Rattle.tableau_search.specs.Running.{start_in}
+use Rattle.search_tables.specs.Means.Standing.{setting_by, IsRight}
+use Rattle.search_tables.specs.Means.Steps.{IsMade}
+use Rattle.tableau_search.specs.Means.Running.{start_in}
 use Rattle.tableau_run.specs.Origin.{EachComesFrom, AreRefutedShortly, AreRefutedWithin}
 use Rattle.tableau_run.specs.Ended.{IsSpent}
 use Rattle.tableau_run.specs.declared.ended.Ended.{Ended}
@@ -36,7 +36,7 @@ clauses_of t = map (map (literal_at t.basis.bank.terms t.basis.lits)) (the_claus
 
 -- The refutation is accepted for the start and small enough for a text. Each of its lines is reached and comes from the clauses, which a log
 -- refutes as shortly.
-pub record Refutes (scope : Scope) (start : List Literal) (clauses : List Clause) (refutation : Refutation) : Type 0 where
+pub record RefutesFrom (scope : Scope) (start : List Literal) (clauses : List Clause) (refutation : Refutation) : Type 0 where
   pub accepted : IsAccepted scope start refutation
   pub reached : IsEachReached refutation.lines
   pub small : IsSmall refutation
@@ -46,7 +46,7 @@ pub record Refutes (scope : Scope) (start : List Literal) (clauses : List Clause
 -- the run from literals is proved after so many commands, with a refutation
 pub record IsProvedBy (setting : Setting) (start : List Literal) (n : ℕ) (refutation : Refutation) : Type 0 where
   pub proved : IsProved setting start n
-  pub refutes : Refutes setting.scope start proved.state.clauses refutation
+  pub refutes : RefutesFrom setting.scope start proved.state.clauses refutation
   pub within : AreRefutedWithin setting.mode.conflicts proved.state.clauses
 
 abbrev pub EndsFrom : Setting → List Literal → Ended → Type 0

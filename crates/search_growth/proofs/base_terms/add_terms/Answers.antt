@@ -6,8 +6,8 @@ use Rattle.search_tables.specs.declared.command.Delays.{Delays}
 use Rattle.search_tables.specs.declared.tables.Basis.{Basis}
 use Rattle.search_tables.specs.declared.tables.Tables.{Tables}
 use Rattle.search_tables.specs.Delays.{the_mode}
-use Rattle.search_tables.specs.Names.{IsPlace}
-use Rattle.search_tables.specs.Standing.{the_state}
+use Rattle.search_tables.specs.Means.Names.{IsPlace}
+use Rattle.search_tables.specs.Means.Standing.{the_state}
 use Rattle.search_tables.proofs.EachLaws.{each-at}
 use Rattle.search_growth.proofs.BaseTermLaws.{terms-more, terms-all}
 use Rattle.search_growth.proofs.base_terms.add_terms.Goals as goal

@@ -3,7 +3,7 @@ use Rattle.stt_core.specs.View.{the_type}
 use Rattle.term_bank.specs.Terms.{term_at}
 use Rattle.search_run.specs.Terms.{with_terms}
 use Rattle.search_tables.specs.Delays.{the_mode}
-use Rattle.search_tables.specs.Standing.{the_state, IsRight}
+use Rattle.search_tables.specs.Means.Standing.{the_state, IsRight}
 use Rattle.search_growth.proofs.base_terms.add_terms.Given as goal
 
 -- what is left to add brings the state to where it is to come

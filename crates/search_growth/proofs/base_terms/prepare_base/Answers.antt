@@ -4,8 +4,8 @@ use Rattle.stt_core.specs.Lambda.{Lambda}
 use Rattle.search_run.specs.Terms.{first_terms, with_terms}
 use Rattle.search_tables.specs.declared.tables.Tables.{Tables}
 use Rattle.search_tables.specs.Delays.{the_mode}
-use Rattle.search_tables.specs.Growing.{BasisGrows}
-use Rattle.search_tables.specs.Standing.{setting_by, the_state}
+use Rattle.search_tables.specs.Means.Growing.{BasisGrows}
+use Rattle.search_tables.specs.Means.Standing.{setting_by, the_state}
 use Rattle.search_tables.proofs.StateStays.{state-stays, right-stays}
 use Rattle.search_growth.proofs.BaseTermLaws.{base-before, base-now}
 use Rattle.search_growth.proofs.OpeningLaws.{same-grows}

@@ -5,7 +5,7 @@ use Rattle.stt_core.specs.View.{the_type}
 use Rattle.stt_tableau.specs.Literals.{Literal}
 use Rattle.term_bank.specs.Terms.{term_at}
 use Rattle.search_run.specs.Heads.{target}
-use Rattle.search_tables.specs.Shapes.{quantified_type}
+use Rattle.search_tables.specs.Means.Shapes.{quantified_type}
 use Rattle.search_growth.proofs.denial.denied_target.Goals as goal
 
 same_type_of : (a b : SimpleType) → Some a ≡ Some b → a ≡ b

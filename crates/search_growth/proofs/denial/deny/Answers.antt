@@ -1,7 +1,7 @@
 use Rattle.std.proofs.Common.{List, map, length, sym, ap, ◌∙◌}
 use Rattle.stt_tableau.specs.Witnesses.{Row}
 use Rattle.search_run.specs.Heads.{places_to}
-use Rattle.search_tables.specs.Standing.{rows_in, the_state}
+use Rattle.search_tables.specs.Means.Standing.{rows_in, the_state}
 use Rattle.search_growth.proofs.DenialLaws.{denied_row, rows-length}
 use Rattle.search_growth.proofs.TakerLaws.{takers-listed}
 use Rattle.search_growth.proofs.WidenLaws.{state-widens, right-widens}

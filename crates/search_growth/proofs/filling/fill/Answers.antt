@@ -7,9 +7,9 @@ use Rattle.search_run.specs.Commands.{carried_out}
 use Rattle.search_run.specs.State.{grow}
 use Rattle.search_run.specs.TypedState.{Grows}
 use Rattle.search_tables.specs.declared.tables.Tables.{Tables}
-use Rattle.search_tables.specs.Heads.{the_hole_head}
-use Rattle.search_tables.specs.Names.{sketch_at}
-use Rattle.search_tables.specs.Standing.{scope_by, setting_by, sketches_in, the_state}
+use Rattle.search_tables.specs.Means.Heads.{the_hole_head}
+use Rattle.search_tables.specs.Means.Names.{sketch_at}
+use Rattle.search_tables.specs.Means.Standing.{scope_by, setting_by, sketches_in, the_state}
 use Rattle.search_tables.proofs.HoleLaws.{holes-length}
 use Rattle.search_growth.proofs.OpeningLaws.{same-grows}
 use Rattle.search_growth.proofs.TakingLaws.{further, last-is, no-hole-left, hole-left, whole-term, carried-last, carried-open}

@@ -8,10 +8,10 @@ use Rattle.search_run.specs.Commands.{grown_by}
 use Rattle.search_tables.specs.declared.tables.Basis.{Basis}
 use Rattle.search_tables.specs.declared.tables.Tables.{Tables}
 use Rattle.search_tables.specs.Delays.{the_mode}
-use Rattle.search_tables.specs.Growing.{BasisGrows}
-use Rattle.search_tables.specs.Heads.{the_hole_head}
-use Rattle.search_tables.specs.Names.{sketch_at}
-use Rattle.search_tables.specs.Standing.{scope_by, sketches_in, the_state, IsRight}
+use Rattle.search_tables.specs.Means.Growing.{BasisGrows}
+use Rattle.search_tables.specs.Means.Heads.{the_hole_head}
+use Rattle.search_tables.specs.Means.Names.{sketch_at}
+use Rattle.search_tables.specs.Means.Standing.{scope_by, sketches_in, the_state, IsRight}
 use Rattle.search_tables.proofs.StateStays.{state-stays, right-stays}
 use Rattle.search_growth.proofs.filling.fill_last.Goals as goal
 

@@ -6,9 +6,9 @@ use Rattle.term_bank.specs.Content.{content_scope}
 use Rattle.instantiate.specs.Growing.{TakesHead, IsGrown, fits}
 use Rattle.instantiate.specs.declared.growing.Grown.{Grown}
 use Rattle.search_run.specs.Partial.{first_hole}
-use Rattle.search_tables.specs.Heads.{the_hole_head}
-use Rattle.search_tables.specs.Names.{sketch_at}
-use Rattle.search_tables.specs.Standing.{sketches_in}
+use Rattle.search_tables.specs.Means.Heads.{the_hole_head}
+use Rattle.search_tables.specs.Means.Names.{sketch_at}
+use Rattle.search_tables.specs.Means.Standing.{sketches_in}
 use Rattle.search_growth.proofs.BasisLaws.{grows-by-terms, basis-by-terms}
 use Rattle.search_growth.proofs.TakingLaws.{typed-here, takes-here, answer-there, is-term, term-here}
 use Rattle.search_growth.proofs.filling.make_term.Goals as goal

@@ -1,8 +1,8 @@
 use Rattle.std.proofs.Common.{◌≡◌, [], length, Some, None, ap, ◌∙◌, arith}
 use Rattle.search_run.specs.Partial.{first_hole}
-use Rattle.search_tables.specs.Fitting.{variables_for}
-use Rattle.search_tables.specs.Names.{sketch_at}
-use Rattle.search_tables.specs.Standing.{scope_by, sketches_in}
+use Rattle.search_tables.specs.Means.Fitting.{variables_for}
+use Rattle.search_tables.specs.Means.Names.{sketch_at}
+use Rattle.search_tables.specs.Means.Standing.{scope_by, sketches_in}
 use Rattle.search_tables.proofs.HoleLaws.{holes-length}
 use Rattle.search_growth.proofs.HeadCounts.{count-heads, count-none, first-base-at, variables-at}
 use Rattle.search_growth.proofs.heads.count_heads.Goals as goal

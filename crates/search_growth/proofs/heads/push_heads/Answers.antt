@@ -7,9 +7,9 @@ use Rattle.search_run.specs.Heads.{heads_for}
 use Rattle.search_run.specs.Partial.{first_hole}
 use Rattle.search_run.specs.State.{Command as Meant, grow, pushed}
 use Rattle.search_tables.specs.Delays.{the_mode}
-use Rattle.search_tables.specs.Heads.{the_hole_head}
-use Rattle.search_tables.specs.Names.{sketch_at}
-use Rattle.search_tables.specs.Standing.{rows_in, scope_by, sketches_in, the_state}
+use Rattle.search_tables.specs.Means.Heads.{the_hole_head}
+use Rattle.search_tables.specs.Means.Names.{sketch_at}
+use Rattle.search_tables.specs.Means.Standing.{rows_in, scope_by, sketches_in, the_state}
 use Rattle.search_tables.proofs.TermLaws.{pushed-nothing}
 use Rattle.search_growth.proofs.HeadCounts.{heads-all, heads-loop, heads-begin, heads-count, no-heads}
 use Rattle.search_growth.proofs.heads.push_heads.Goals as goal

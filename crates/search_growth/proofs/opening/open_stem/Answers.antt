@@ -1,7 +1,7 @@
 use Rattle.std.proofs.Common.{◌≡◌, [], ◌∷◌, length, ap, ◌∙◌, arith, length-append}
 use Rattle.search_tables.specs.declared.tables.Tables.{Tables}
-use Rattle.search_tables.specs.Heads.{sketch_of}
-use Rattle.search_tables.specs.Standing.{scope_by, sketches_in}
+use Rattle.search_tables.specs.Means.Heads.{sketch_of}
+use Rattle.search_tables.specs.Means.Standing.{scope_by, sketches_in}
 use Rattle.search_tables.proofs.SketchLaws.{stems-length}
 use Rattle.search_growth.proofs.ParkingLaws.{opened-newest}
 use Rattle.search_growth.proofs.opening.open_stem.Goals as goal

@@ -4,7 +4,7 @@ use Rattle.stt_core.specs.SimpleType.{SimpleType, same_type}
 use Rattle.stt_core.specs.View.{the_type}
 use Rattle.search_run.specs.Partial.{blank}
 use Rattle.search_run.specs.Terms.{opened}
-use Rattle.search_tables.specs.Standing.{setting_by, the_state}
+use Rattle.search_tables.specs.Means.Standing.{setting_by, the_state}
 use Rattle.search_growth.proofs.OpeningLaws.{prepared-before, prepared-now}
 use Rattle.search_growth.proofs.opening.prepare_function.Goals as goal
 

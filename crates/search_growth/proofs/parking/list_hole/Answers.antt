@@ -1,4 +1,4 @@
-use Rattle.search_tables.specs.Holes.{leftmost}
+use Rattle.search_tables.specs.Means.Holes.{leftmost}
 use Rattle.search_growth.proofs.ParkingLaws.{listed-hole, listed-none}
 use Rattle.search_growth.proofs.parking.list_hole.Goals as goal
 

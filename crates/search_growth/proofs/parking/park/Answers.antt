@@ -2,8 +2,8 @@ use Rattle.std.proofs.Common.{◌≡◌, length, refl, sym, subst, arith}
 use Rattle.std.specs.List.{list_any}
 use Rattle.stt_core.specs.SimpleType.{SimpleType, same_type}
 use Rattle.search_tables.specs.declared.tables.Tables.{Tables}
-use Rattle.search_tables.specs.Heads.{IsStem}
-use Rattle.search_tables.specs.Standing.{scope_by, sketches_in}
+use Rattle.search_tables.specs.Means.Heads.{IsStem}
+use Rattle.search_tables.specs.Means.Standing.{scope_by, sketches_in}
 use Rattle.search_growth.proofs.ParkingLaws.{within-later, sketches-written, state-written, right-written}
 use Rattle.search_growth.proofs.parking.park.Goals as goal
 

@@ -2,10 +2,10 @@ use Rattle.std.proofs.Common.{[], ◌∷◌, ◌++◌, List, sym, ap, subst, ◌
 use Rattle.stt_core.specs.View.{the_type}
 use Rattle.search_run.specs.Partial.{Hole}
 use Rattle.search_tables.specs.declared.stem.Stem.{Stem}
-use Rattle.search_tables.specs.Heads.{the_hole_head, sketch_of, IsStem}
-use Rattle.search_tables.specs.Holes.{holes_in}
-use Rattle.search_tables.specs.Names.{sketch_at}
-use Rattle.search_tables.specs.Standing.{scope_by, sketches_in}
+use Rattle.search_tables.specs.Means.Heads.{the_hole_head, sketch_of, IsStem}
+use Rattle.search_tables.specs.Means.Holes.{holes_in}
+use Rattle.search_tables.specs.Means.Names.{sketch_at}
+use Rattle.search_tables.specs.Means.Standing.{scope_by, sketches_in}
 use Rattle.search_tables.proofs.FilledHoles.{holes-blank}
 use Rattle.search_tables.proofs.HoleLaws.{holes-at, holes-length}
 use Rattle.search_growth.proofs.TakingLaws.{holes-after}

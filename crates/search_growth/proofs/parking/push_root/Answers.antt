@@ -2,8 +2,8 @@ use Rattle.std.proofs.Common.{sym, ap, subst, ◌∙◌}
 use Rattle.stt_core.specs.View.{the_type}
 use Rattle.search_run.specs.State.{Sketch}
 use Rattle.search_tables.specs.declared.stem.Stem.{Stem}
-use Rattle.search_tables.specs.Heads.{sketch_of, IsStem}
-use Rattle.search_tables.specs.Standing.{scope_by, sketches_in}
+use Rattle.search_tables.specs.Means.Heads.{sketch_of, IsStem}
+use Rattle.search_tables.specs.Means.Standing.{scope_by, sketches_in}
 use Rattle.search_growth.proofs.ParkingLaws.{roots-blank, roots-grown}
 use Rattle.search_growth.proofs.parking.push_root.Goals as goal
 

@@ -2,9 +2,9 @@ use Rattle.std.proofs.Common.{unwrap_or, ap, ap₂, sym, ◌∙◌}
 use Rattle.stt_core.specs.SimpleType.{SimpleType}
 use Rattle.stt_core.specs.Lambda.{Lambda}
 use Rattle.search_run.specs.Partial.{Partial, head, filled, with_holes}
-use Rattle.search_tables.specs.Heads.{the_hole_head}
-use Rattle.search_tables.specs.Names.{sketch_at}
-use Rattle.search_tables.specs.Standing.{scope_by, sketches_in}
+use Rattle.search_tables.specs.Means.Heads.{the_hole_head}
+use Rattle.search_tables.specs.Means.Names.{sketch_at}
+use Rattle.search_tables.specs.Means.Standing.{scope_by, sketches_in}
 use Rattle.search_tables.proofs.FilledHoles.{filled-taken}
 use Rattle.search_growth.proofs.stems.grown_from.Goals as goal
 

@@ -1,7 +1,7 @@
 use Rattle.std.proofs.Common.{length, nat_eq, ap, sym, ◌∙◌}
 use Rattle.stt_core.specs.SimpleType.{SimpleType}
 use Rattle.stt_core.specs.View.{the_type}
-use Rattle.search_tables.specs.Holes.{after_head}
+use Rattle.search_tables.specs.Means.Holes.{after_head}
 use Rattle.search_growth.proofs.TakingLaws.{last-base, last-arrow}
 use Rattle.search_growth.proofs.taking.is_last.Goals as goal
 

@@ -1,7 +1,7 @@
 use Rattle.std.proofs.Common.{Some, None, option_map, ap, sym, ◌∙◌, arith}
 use Rattle.std.proofs.lemmas.Option.{same_Some}
 use Rattle.stt_core.specs.View.{the_type}
-use Rattle.search_tables.specs.Heads.{the_hole_head}
+use Rattle.search_tables.specs.Means.Heads.{the_hole_head}
 use Rattle.search_tables.proofs.HoleLaws.{holes-length}
 use Rattle.search_growth.proofs.TakingLaws.{taken-type}
 use Rattle.search_growth.proofs.taking.taken_type.Goals as goal

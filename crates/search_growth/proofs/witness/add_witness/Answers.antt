@@ -13,10 +13,10 @@ use Rattle.search_tables.specs.declared.command.Delays.{Delays}
 use Rattle.search_tables.specs.declared.tables.Basis.{Basis}
 use Rattle.search_tables.specs.declared.tables.Tables.{Tables}
 use Rattle.search_tables.specs.Delays.{the_mode}
-use Rattle.search_tables.specs.Growing.{BasisWidens}
-use Rattle.search_tables.specs.Names.{IsNumber}
-use Rattle.search_tables.specs.Standing.{rows_in, setting_by, sketches_in, the_state}
-use Rattle.search_tables.specs.Steps.{IsMade, StepsGrow}
+use Rattle.search_tables.specs.Means.Growing.{BasisWidens}
+use Rattle.search_tables.specs.Means.Names.{IsNumber}
+use Rattle.search_tables.specs.Means.Standing.{rows_in, setting_by, sketches_in, the_state}
+use Rattle.search_tables.specs.Means.Steps.{IsMade, StepsGrow}
 use Rattle.search_tables.proofs.StepLaws.{steps-weaker}
 use Rattle.search_growth.specs.Means.Denials.{with_row}
 use Rattle.search_growth.proofs.DenialLaws.{denied_row, denies-on, rows-length}

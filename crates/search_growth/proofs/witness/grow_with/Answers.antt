@@ -6,9 +6,9 @@ use Rattle.instantiate.specs.Listing.{ids_of}
 use Rattle.search_run.specs.State.{Sketch, Command as Meant, grow, pushed}
 use Rattle.search_tables.specs.declared.command.Command.TheVariants.{Grow}
 use Rattle.search_tables.specs.Delays.{the_mode}
-use Rattle.search_tables.specs.Names.{sketch_at, command_at}
-use Rattle.search_tables.specs.Pending.{over_parked}
-use Rattle.search_tables.specs.Standing.{names_in, sketches_in, sources, the_state}
+use Rattle.search_tables.specs.Means.Names.{sketch_at, command_at}
+use Rattle.search_tables.specs.Means.Pending.{over_parked}
+use Rattle.search_tables.specs.Means.Standing.{names_in, sketches_in, sources, the_state}
 use Rattle.search_tables.proofs.EachLaws.{each-at}
 use Rattle.search_tables.proofs.HoleLaws.{parked-below, there-is}
 use Rattle.search_tables.proofs.LoopLists.{no-items, begins-mapped, length-mapped}

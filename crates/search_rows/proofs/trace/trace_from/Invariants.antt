@@ -1,5 +1,5 @@
 use Rattle.std.proofs.Common.{◌≡◌, false}
-use Rattle.tableau_search.specs.Running.{IsUnderWay}
+use Rattle.tableau_search.specs.Means.Running.{IsUnderWay}
 use Rattle.search_rows.proofs.trace.trace_from.Given as goal
 
 abbrev pub invariant-loop-i : goal.invariant-loop-i

@@ -1,5 +1,5 @@
 use Rattle.std.proofs.Common.{Vec, Global, ℕ, List, map, length, ap, ◌∙◌, arith}
-use Rattle.search_tables.specs.ByBase.{listings}
+use Rattle.search_tables.specs.Means.ByBase.{listings}
 use Rattle.search_tables.proofs.ByBaseLaws.{listings-more}
 use Rattle.search_tables.proofs.by_base.reach.Goals as goal
 

@@ -1,5 +1,5 @@
 use Rattle.std.proofs.Common.{◌≡◌, ◌+◌, map, length}
-use Rattle.search_tables.specs.ByBase.{listings}
+use Rattle.search_tables.specs.Means.ByBase.{listings}
 use Rattle.search_tables.proofs.by_base.reach.Given as goal
 
 -- the lists that were appended are empty

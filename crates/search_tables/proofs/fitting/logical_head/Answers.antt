@@ -1,7 +1,7 @@
 use Rattle.std.proofs.Common.{◌≡◌, ◌<◌, ◌+◌, ◌-◌, length, subst, slice_get, Some, sym, ap, ◌∙◌, arith}
 use Rattle.stt_core.specs.SimpleType.{base}
 use Rattle.stt_core.specs.Lambda.{constant, equality, all}
-use Rattle.search_tables.specs.Fitting.{logical_for}
+use Rattle.search_tables.specs.Means.Fitting.{logical_for}
 use Rattle.search_tables.proofs.FittingLaws.{equality-at, quantifier-at}
 use Rattle.search_tables.proofs.fitting.logical_head.Goals as goal
 

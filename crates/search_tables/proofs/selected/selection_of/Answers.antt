@@ -5,7 +5,7 @@ use Rattle.search_run.specs.Selections.{Selection}
 use Rattle.term_bank.specs.Terms.{term_at, shape_term, IsBelow}
 use Rattle.term_bank.specs.NodeView.{the_shape}
 use Rattle.term_bank.specs.declared.node.Node.{Node}
-use Rattle.search_tables.specs.Selecting.{IsSelected}
+use Rattle.search_tables.specs.Means.Selecting.{IsSelected}
 use Rattle.search_tables.proofs.EachLaws.{each-at, each-from_All}
 use Rattle.search_tables.proofs.SelectingLaws.{head-app, open-none}
 use Rattle.search_tables.proofs.selected.selection_of.Goals as goal

@@ -6,7 +6,7 @@ use Rattle.term_bank.specs.Terms.{term_at, shape_term, IsBelow}
 use Rattle.term_bank.specs.declared.node.Node.{Node}
 use Rattle.term_bank.specs.NodeView.{the_shape}
 use Rattle.search_run.specs.Partners.{has_equal_sides}
-use Rattle.search_tables.specs.Names.{IsPlace}
+use Rattle.search_tables.specs.Means.Names.{IsPlace}
 use Rattle.search_tables.proofs.EachLaws.{each-at, each-weaker, each-from_All}
 use Rattle.search_tables.proofs.PlaceLaws.{same-places}
 use Rattle.search_tables.proofs.ShapeLaws.{sides-others, sides-pair, no-equality}

@@ -4,7 +4,7 @@ use Rattle.stt_core.specs.View.{the_head}
 use Rattle.stt_core.proofs.HeadLaws.{atom_head}
 use Rattle.term_bank.specs.Terms.{term_at, shape_term}
 use Rattle.term_bank.specs.NodeView.{the_shape}
-use Rattle.search_tables.specs.Shapes.{quantified_type}
+use Rattle.search_tables.specs.Means.Shapes.{quantified_type}
 use Rattle.search_tables.proofs.ShapeLaws.{quantified-others, quantified-single}
 use Rattle.search_tables.proofs.shape.quantified_type.Goals as goal
 

@@ -5,11 +5,11 @@ use Rattle.stt_tableau.specs.Literals.{Literal}
 use Rattle.search_run.specs.State.{State, Setting}
 use Rattle.search_run.specs.Unsatisfiable.{Clause}
 use Rattle.search_run.specs.Result.{IsExhausted, IsStopped}
-use Rattle.search_tables.specs.Standing.{setting_by, the_state}
-use Rattle.tableau_search.specs.Running.{start_in}
-use Rattle.tableau_search.specs.Answers.{Answers}
+use Rattle.search_tables.specs.Means.Standing.{setting_by, the_state}
+use Rattle.tableau_search.specs.Means.Running.{start_in}
+use Rattle.tableau_search.specs.Means.Answers.{Answers}
 use Rattle.tableau_search.specs.declared.stepped.Stepped.{Stepped}
-use Rattle.tableau_run.specs.Means.Ends.{Refutes, IsProvedBy}
+use Rattle.tableau_run.specs.Means.Ends.{RefutesFrom, IsProvedBy}
 use Rattle.tableau_run.proofs.RunLaws.{is-proved, is-exhausted, is-stopped, is-spent}
 use Rattle.tableau_run.proofs.running.next.Goals as goal
 
@@ -22,8 +22,8 @@ returns-in_ok-refutation-in-Closed-clause-ended g c = λ until.
     let refutation = c.in_ok-refutation-in-Closed.refutation in
     let A : Stepped → Type 0 = λ s. Answers (record { tables = t; plan = q }) (record { tables = u; plan = p }) s in
     let P : ℕ → Type 0 = λ n. IsProvedBy (setting_by t q) (start_in t) n refutation in
-    let R : Scope → List Literal → Type 0 = λ scope ls. Refutes scope ls (the_state t q).clauses refutation in
-    let F : List Clause → Type 0 = λ cs. Refutes (setting_by u p).scope (start_in u) cs refutation in
+    let R : Scope → List Literal → Type 0 = λ scope ls. RefutesFrom scope ls (the_state t q).clauses refutation in
+    let F : List Clause → Type 0 = λ cs. RefutesFrom (setting_by u p).scope (start_in u) cs refutation in
     let closed = subst A c.in-Closed.is c.in_ok-step.ensures.answers in
     let under_way = c.in_ok-step.ensures.under_way c.in_ok-step.ensures.ready in
     let over = subst F (ap (λ (s : State). s.clauses) closed.stays.state) c.in_ok-refutation-in-Closed.ensures in

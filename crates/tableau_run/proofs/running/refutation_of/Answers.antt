@@ -6,7 +6,7 @@ use Rattle.sat_log.specs.Chains.{IsLogOver}
 use Rattle.sat_core.specs.Solver.{learned}
 use Rattle.tableau_rebuild.specs.Conditions.{EndsEmpty}
 use Rattle.tableau_rebuild.specs.Tables.{the_atoms, unit_literals}
-use Rattle.tableau_search.specs.Running.{start_in}
+use Rattle.tableau_search.specs.Means.Running.{start_in}
 use Rattle.rebuilt_refutation.specs.Used.{AreFew}
 use Rattle.tableau_run.specs.Origin.{EachComesFrom}
 use Rattle.tableau_run.specs.Means.Ends.{clauses_of}

@@ -1,8 +1,8 @@
 use Rattle.std.proofs.Common.{◌≡◌, ◌∙◌}
 use Rattle.std.proofs.lemmas.Result.{IfOk-weaker}
 use Rattle.search_tables.specs.Delays.{the_mode}
-use Rattle.search_tables.specs.Standing.{setting_by}
-use Rattle.tableau_search.specs.Running.{start_in}
+use Rattle.search_tables.specs.Means.Standing.{setting_by}
+use Rattle.tableau_search.specs.Means.Running.{start_in}
 use Rattle.tableau_search.proofs.SearchLaws.{scope-same}
 use Rattle.tableau_run.specs.Ended.{setting_for, EndsAs}
 use Rattle.tableau_run.specs.Means.Ends.{EndsFrom}

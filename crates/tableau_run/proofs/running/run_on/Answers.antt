@@ -1,6 +1,6 @@
 use Rattle.std.proofs.Common.{refl}
-use Rattle.search_tables.specs.Standing.{setting_by}
-use Rattle.tableau_search.specs.Running.{start_in}
+use Rattle.search_tables.specs.Means.Standing.{setting_by}
+use Rattle.tableau_search.specs.Means.Running.{start_in}
 use Rattle.tableau_run.proofs.RunLaws.{until-nothing}
 use Rattle.tableau_run.proofs.running.run_on.Goals as goal
 

@@ -1,7 +1,7 @@
 use Rattle.std.proofs.Common.{◌≡◌, false}
 use Rattle.search_run.specs.Result.{GoesOnUntil}
-use Rattle.search_tables.specs.Standing.{setting_by}
-use Rattle.tableau_search.specs.Running.{start_in, IsUnderWay}
+use Rattle.search_tables.specs.Means.Standing.{setting_by}
+use Rattle.tableau_search.specs.Means.Running.{start_in, IsUnderWay}
 use Rattle.tableau_run.proofs.running.run_on.Given as goal
 
 abbrev pub invariant-loop-commands : goal.invariant-loop-commands

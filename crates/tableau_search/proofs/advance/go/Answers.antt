@@ -2,8 +2,8 @@ use Rattle.std.proofs.Common.{◌+◌, subst, sym, ◌∙◌}
 use Rattle.search_run.specs.Each.{Each}
 use Rattle.search_run.specs.TypedState.{IsTypedSketch, IsTypedCommand}
 use Rattle.search_tables.specs.declared.tables.Tables.{Tables}
-use Rattle.search_tables.specs.Names.{command_at}
-use Rattle.search_tables.specs.Standing.{scope_by, sketches_in, names_in}
+use Rattle.search_tables.specs.Means.Names.{command_at}
+use Rattle.search_tables.specs.Means.Standing.{scope_by, sketches_in, names_in}
 use Rattle.tableau_search.proofs.RunLaws.{counted, Carried, right-done, taken-typed, taken-sketches, setting-next, start-next, goes-on, running-next}
 use Rattle.tableau_search.proofs.advance.go.Goals as goal
 

@@ -1,7 +1,7 @@
 use Rattle.std.proofs.Common.{ap}
 use Rattle.search_tables.specs.declared.tables.Tables.{Tables}
 use Rattle.tableau_search.proofs.DevelopLaws.{grows-wider, steps-same}
-use Rattle.search_tables.specs.Steps.{IsMade}
+use Rattle.search_tables.specs.Means.Steps.{IsMade}
 use Rattle.tableau_search.proofs.carry.carry_out.Goals as goal
 
 pub returns-in_ok-fill-in-Grow-clause-develops : goal.returns-in_ok-fill-in-Grow-clause-develops

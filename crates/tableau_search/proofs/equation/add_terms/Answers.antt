@@ -6,8 +6,8 @@ use Rattle.search_run.specs.Mode.{Mode}
 use Rattle.search_run.specs.Terms.{with_term}
 use Rattle.search_tables.specs.declared.tables.Tables.{Tables}
 use Rattle.search_tables.specs.Delays.{the_mode}
-use Rattle.search_tables.specs.Names.{IsPlace}
-use Rattle.search_tables.specs.Standing.{the_state}
+use Rattle.search_tables.specs.Means.Names.{IsPlace}
+use Rattle.search_tables.specs.Means.Standing.{the_state}
 use Rattle.tableau_search.proofs.WorkLaws.{mode-same}
 use Rattle.tableau_search.proofs.equation.add_terms.Goals as goal
 

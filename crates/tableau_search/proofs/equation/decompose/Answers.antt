@@ -7,7 +7,7 @@ use Rattle.search_run.specs.Instances.{with_instance}
 use Rattle.search_run.specs.Spine.{head_of, arguments}
 use Rattle.term_bank.specs.Terms.{term_at}
 use Rattle.search_tables.specs.Delays.{the_mode}
-use Rattle.search_tables.specs.Standing.{scope_by, setting_by, the_state}
+use Rattle.search_tables.specs.Means.Standing.{scope_by, setting_by, the_state}
 use Rattle.tableau_search.proofs.DevelopLaws.{develops-same}
 use Rattle.tableau_search.proofs.RuleUses.{scope-is}
 use Rattle.tableau_search.proofs.AloneUses.{dec-takes}

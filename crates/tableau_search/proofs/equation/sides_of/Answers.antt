@@ -1,6 +1,6 @@
 use Rattle.std.proofs.Common.{sym, ap, ◌∙◌, length, slice_get, arith}
 use Rattle.literal_map.specs.Atoms.{atom_at}
-use Rattle.search_tables.specs.Selecting.{parts}
+use Rattle.search_tables.specs.Means.Selecting.{parts}
 use Rattle.tableau_search.proofs.ShapedLaws.{sides-are, two-parts}
 use Rattle.tableau_search.proofs.equation.sides_of.Goals as goal
 

@@ -6,7 +6,7 @@ use Rattle.term_bank.specs.Terms.{term_at}
 use Rattle.literal_map.specs.Atoms.{literal_at}
 use Rattle.search_tables.specs.declared.tables.Basis.{Basis}
 use Rattle.search_tables.specs.declared.tables.Tables.{Tables}
-use Rattle.search_tables.specs.Names.{IsNumber, IsPlace}
+use Rattle.search_tables.specs.Means.Names.{IsNumber, IsPlace}
 use Rattle.tableau_search.proofs.DevelopLaws.{develops-same, develops-then}
 use Rattle.tableau_search.proofs.MadeStays.{number-wider}
 use Rattle.tableau_search.proofs.ShapedLaws.{base-equation, base-sides}

@@ -3,7 +3,7 @@ use Rattle.stt_core.specs.SimpleType.{formula}
 use Rattle.stt_core.specs.Lambda.{eq}
 use Rattle.stt_tableau.specs.Literals.{Literal, plus, minus}
 use Rattle.literal_map.specs.Atoms.{literal_at}
-use Rattle.search_tables.specs.Standing.{setting_by, the_state}
+use Rattle.search_tables.specs.Means.Standing.{setting_by, the_state}
 use Rattle.search_run.specs.Alternatives.{bool_pos, bool_neg}
 use Rattle.tableau_search.specs.declared.shape.Shape.TheVariants.{FormulaEquation}
 use Rattle.tableau_search.proofs.ShapedLaws.{shaped-as}

@@ -3,7 +3,7 @@ use Rattle.stt_core.specs.SimpleType.{arrow}
 use Rattle.stt_core.specs.Lambda.{eq}
 use Rattle.stt_tableau.specs.Literals.{Literal, plus, minus}
 use Rattle.literal_map.specs.Atoms.{literal_at}
-use Rattle.search_tables.specs.Standing.{setting_by, the_state}
+use Rattle.search_tables.specs.Means.Standing.{setting_by, the_state}
 use Rattle.search_run.specs.Alternatives.{fun_pos, fun_neg}
 use Rattle.tableau_search.specs.declared.shape.Shape.TheVariants.{FunctionEquation}
 use Rattle.tableau_search.proofs.ShapedLaws.{shaped-as}

@@ -8,8 +8,8 @@ use Rattle.search_run.specs.Partners.{confrontations}
 use Rattle.search_run.specs.State.{pushed}
 use Rattle.search_tables.specs.declared.tables.Tables.{Tables}
 use Rattle.search_tables.specs.Delays.{the_mode}
-use Rattle.search_tables.specs.Pending.{equation_type}
-use Rattle.search_tables.specs.Standing.{setting_by, the_state}
+use Rattle.search_tables.specs.Means.Pending.{equation_type}
+use Rattle.search_tables.specs.Means.Standing.{setting_by, the_state}
 use Rattle.tableau_search.specs.declared.shape.Shape.TheVariants.{BaseEquation}
 use Rattle.tableau_search.proofs.DevelopLaws.{develops-same}
 use Rattle.tableau_search.proofs.ShapedLaws.{shaped-as, base-equation}

@@ -1,5 +1,5 @@
 use Rattle.std.proofs.Common.{◌∙◌}
-use Rattle.search_tables.specs.Standing.{scope_by, setting_by, the_state}
+use Rattle.search_tables.specs.Means.Standing.{scope_by, setting_by, the_state}
 use Rattle.tableau_search.proofs.RuleUses.{confront-fits, confronted-is}
 use Rattle.tableau_search.proofs.instances.confront.Goals as goal
 

@@ -2,7 +2,7 @@ use Rattle.std.proofs.Common.{refl, ◌∙◌, arith}
 use Rattle.std.proofs.lemmas.Bool.{le-leb, lt-leb}
 use Rattle.stt_core.specs.Depth.{depth}
 use Rattle.term_bank.specs.Terms.{term_at}
-use Rattle.search_tables.specs.Standing.{scope_by, setting_by, the_state}
+use Rattle.search_tables.specs.Means.Standing.{scope_by, setting_by, the_state}
 use Rattle.tableau_search.proofs.DevelopLaws.{develops-same}
 use Rattle.tableau_search.proofs.RuleUses.{inst-fits, instantiated-is, instantiated-deep}
 use Rattle.tableau_search.proofs.instances.instantiate.Goals as goal

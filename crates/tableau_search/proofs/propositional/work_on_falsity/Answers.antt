@@ -3,7 +3,7 @@ use Rattle.std.proofs.lemmas.Bool.{not-true, not-false}
 use Rattle.stt_core.specs.Lambda.{falsity, constant}
 use Rattle.stt_tableau.specs.Literals.{Literal, plus, minus}
 use Rattle.literal_map.specs.Atoms.{literal_at}
-use Rattle.search_tables.specs.Standing.{setting_by, the_state}
+use Rattle.search_tables.specs.Means.Standing.{setting_by, the_state}
 use Rattle.tableau_search.specs.declared.shape.Shape.TheVariants.{Falsity}
 use Rattle.tableau_search.proofs.DevelopLaws.{develops-same}
 use Rattle.tableau_search.proofs.ShapedLaws.{shaped-as}

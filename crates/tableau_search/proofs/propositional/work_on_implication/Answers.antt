@@ -2,7 +2,7 @@ use Rattle.std.proofs.Common.{true, false, refl, ◌∙◌}
 use Rattle.stt_core.specs.Lambda.{imp}
 use Rattle.stt_tableau.specs.Literals.{Literal, plus, minus}
 use Rattle.literal_map.specs.Atoms.{literal_at}
-use Rattle.search_tables.specs.Standing.{setting_by, the_state}
+use Rattle.search_tables.specs.Means.Standing.{setting_by, the_state}
 use Rattle.search_run.specs.Alternatives.{imp_pos, imp_neg}
 use Rattle.tableau_search.specs.declared.shape.Shape.TheVariants.{Implication}
 use Rattle.tableau_search.proofs.ShapedLaws.{shaped-as}

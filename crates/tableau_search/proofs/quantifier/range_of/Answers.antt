@@ -2,8 +2,8 @@ use Rattle.std.proofs.Common.{◌≡◌, Some, None, sym, ap, ◌∙◌}
 use Rattle.std.proofs.lemmas.Option.{same_Some}
 use Rattle.stt_core.specs.View.{the_type}
 use Rattle.literal_map.specs.Atoms.{atom_at}
-use Rattle.search_tables.specs.Pending.{range_of}
-use Rattle.search_tables.specs.Shapes.{quantified_type}
+use Rattle.search_tables.specs.Means.Pending.{range_of}
+use Rattle.search_tables.specs.Means.Shapes.{quantified_type}
 use Rattle.tableau_search.specs.declared.shape.Shape.TheVariants.{Quantified}
 use Rattle.tableau_search.proofs.ShapedLaws.{shaped-as}
 use Rattle.tableau_search.proofs.quantifier.range_of.Goals as goal

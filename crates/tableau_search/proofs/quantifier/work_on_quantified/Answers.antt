@@ -4,7 +4,7 @@ use Rattle.stt_core.specs.Lambda.{every}
 use Rattle.stt_tableau.specs.Literals.{Literal, minus}
 use Rattle.literal_map.specs.Atoms.{literal_at}
 use Rattle.search_tables.specs.declared.tables.Tables.{Tables}
-use Rattle.search_tables.specs.Standing.{setting_by, the_state}
+use Rattle.search_tables.specs.Means.Standing.{setting_by, the_state}
 use Rattle.tableau_search.specs.declared.shape.Shape.TheVariants.{Quantified}
 use Rattle.tableau_search.proofs.ShapedLaws.{shaped-as}
 use Rattle.tableau_search.proofs.WorkLaws.{literal-is, worked-as, develops-widened}

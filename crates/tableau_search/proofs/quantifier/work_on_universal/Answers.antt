@@ -8,8 +8,8 @@ use Rattle.stt_tableau.proofs.FunctionLaws.{every_canonical}
 use Rattle.literal_map.specs.Atoms.{literal_at}
 use Rattle.search_run.specs.Terms.{prepared}
 use Rattle.search_tables.specs.declared.tables.Tables.{Tables}
-use Rattle.search_tables.specs.Pending.{range_of}
-use Rattle.search_tables.specs.Standing.{scope_by, setting_by, the_state}
+use Rattle.search_tables.specs.Means.Pending.{range_of}
+use Rattle.search_tables.specs.Means.Standing.{scope_by, setting_by, the_state}
 use Rattle.tableau_search.specs.declared.shape.Shape.TheVariants.{Quantified}
 use Rattle.tableau_search.proofs.AloneUses.{atom-canonical}
 use Rattle.tableau_search.proofs.DevelopLaws.{grows-wider, develops-same, develops-then}

@@ -1,7 +1,7 @@
 use Rattle.std.proofs.Common.{sym, ap, subst}
 use Rattle.std.proofs.lemmas.Option.{get_or_from_slice_get}
 use Rattle.term_bank.specs.Terms.{term_at}
-use Rattle.search_tables.specs.Names.{IsPlace}
+use Rattle.search_tables.specs.Means.Names.{IsPlace}
 use Rattle.tableau_search.proofs.shape.atom_of.Goals as goal
 
 pub returns-clause-place : goal.returns-clause-place

@@ -1,6 +1,6 @@
 use Rattle.std.proofs.Common.{sym, ap, ◌∙◌}
 use Rattle.stt_core.specs.View.{the_type}
-use Rattle.tableau_search.specs.Working.{equation_shape}
+use Rattle.tableau_search.specs.Means.Working.{equation_shape}
 use Rattle.tableau_search.proofs.ShapedLaws.{base-shape}
 use Rattle.tableau_search.proofs.shape.equation_shape.Goals as goal
 

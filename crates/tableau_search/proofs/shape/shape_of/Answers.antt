@@ -2,7 +2,7 @@ use Rattle.std.proofs.Common.{map, sym, ap, ◌∙◌}
 use Rattle.std.proofs.lemmas.List.{length-map}
 use Rattle.term_bank.specs.Terms.{term_at, shape_term}
 use Rattle.term_bank.specs.NodeView.{the_shape}
-use Rattle.tableau_search.specs.Working.{shape_of}
+use Rattle.tableau_search.specs.Means.Working.{shape_of}
 use Rattle.tableau_search.proofs.shape.shape_of.Goals as goal
 
 pub returns-in-App : goal.returns-in-App

@@ -1,7 +1,7 @@
 use Rattle.std.proofs.Common.{refl, sym, ap, ◌∙◌, arith}
 use Rattle.stt_core.specs.Lambda.{name, witness, negation, choice, description, bound, constant, applied}
 use Rattle.stt_core.specs.View.{the_head, the_type}
-use Rattle.tableau_search.specs.Working.{shape_of}
+use Rattle.tableau_search.specs.Means.Working.{shape_of}
 use Rattle.tableau_search.proofs.ShapedLaws.{other-head, falsity-alone, falsity-others, implication-pair, implication-others, equation-pair, equation-others, quantified-single, quantified-others}
 use Rattle.tableau_search.proofs.shape.shape_with.Goals as goal
 

@@ -9,8 +9,8 @@ use Rattle.stt_tableau.specs.Literals.{Literal, opposite}
 use Rattle.stt_tableau.specs.Start.{added, without_repeats, normal_literal, start}
 use Rattle.stt_tableau.proofs.StartLaws.{start-assumed, start-denied}
 use Rattle.literal_map.specs.Atoms.{literal_at}
-use Rattle.search_tables.specs.Standing.{declared_scope}
-use Rattle.tableau_search.specs.Starting.{IsStarting}
+use Rattle.search_tables.specs.Means.Standing.{declared_scope}
+use Rattle.tableau_search.specs.Means.Starting.{IsStarting}
 use Rattle.tableau_search.proofs.StartingLaws.{starting-grown, starting-literal, scope-now}
 use Rattle.tableau_search.proofs.start.start_all.Goals as goal
 

@@ -6,8 +6,8 @@ use Rattle.stt_core.specs.TypedProblem.{IsFormula}
 use Rattle.stt_tableau.specs.Literals.{Literal}
 use Rattle.stt_tableau.specs.Start.{added, without_repeats, normal_literal}
 use Rattle.stt_tableau.proofs.StartLaws.{formula_at, added-more}
-use Rattle.search_tables.specs.Standing.{declared_scope}
-use Rattle.tableau_search.specs.Starting.{IsStarting}
+use Rattle.search_tables.specs.Means.Standing.{declared_scope}
+use Rattle.tableau_search.specs.Means.Starting.{IsStarting}
 use Rattle.tableau_search.proofs.StartingLaws.{starting-none, starting-grown, starting-literal, scope-now}
 use Rattle.tableau_search.proofs.start.start_assumed.Goals as goal
 

@@ -1,7 +1,7 @@
 use Rattle.std.proofs.Common.{map, take}
 use Rattle.stt_tableau.specs.Start.{without_repeats, normal_literal}
-use Rattle.search_tables.specs.Standing.{declared_scope}
-use Rattle.tableau_search.specs.Starting.{IsStarting}
+use Rattle.search_tables.specs.Means.Standing.{declared_scope}
+use Rattle.tableau_search.specs.Means.Starting.{IsStarting}
 use Rattle.tableau_search.proofs.start.start_assumed.Given as goal
 
 -- the literals of the first formulas are there

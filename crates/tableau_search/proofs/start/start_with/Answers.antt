@@ -6,7 +6,7 @@ use Rattle.search_run.specs.Shallow.{is_shallow_literal}
 use Rattle.term_bank.specs.Terms.{term_at}
 use Rattle.literal_map.specs.Atoms.{atom_at, literal_at}
 use Rattle.search_tables.specs.Delays.{the_mode}
-use Rattle.search_tables.specs.Standing.{the_state}
+use Rattle.search_tables.specs.Means.Standing.{the_state}
 use Rattle.search_tables.proofs.InstanceLaws.{shallow_added, right-added}
 use Rattle.tableau_search.proofs.StartingLaws.{alone-deep, all-shallow, unit-clauses, adds-deep, adds-shallow}
 use Rattle.tableau_search.proofs.start.start_with.Goals as goal

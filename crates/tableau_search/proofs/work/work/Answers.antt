@@ -4,7 +4,7 @@ use Rattle.stt_core.specs.Lambda.{eq}
 use Rattle.stt_core.proofs.SameTerms.{same_term-refl}
 use Rattle.stt_tableau.specs.Literals.{Literal, minus}
 use Rattle.literal_map.specs.Atoms.{literal_at}
-use Rattle.search_tables.specs.Standing.{setting_by, the_state}
+use Rattle.search_tables.specs.Means.Standing.{setting_by, the_state}
 use Rattle.tableau_search.proofs.ShapedLaws.{equal-sides}
 use Rattle.tableau_search.proofs.AloneUses.{refl-takes}
 use Rattle.tableau_search.proofs.WorkLaws.{literal-is, worked-alone, worked-itself}

@@ -1,5 +1,5 @@
 use Rattle.std.proofs.Common.{sym, ap, ◌∙◌}
-use Rattle.tableau_search.specs.Working.{shape_of}
+use Rattle.tableau_search.specs.Means.Working.{shape_of}
 use Rattle.tableau_search.proofs.work.work_by_shape.Goals as goal
 
 pub work_on_falsity-requires-clause-shape : goal.work_on_falsity-requires-clause-shape

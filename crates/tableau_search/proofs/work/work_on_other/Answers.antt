@@ -1,7 +1,7 @@
 use Rattle.std.proofs.Common.{refl, sym, ap, ◌∙◌}
 use Rattle.stt_tableau.specs.Literals.{Literal}
 use Rattle.literal_map.specs.Atoms.{literal_at}
-use Rattle.search_tables.specs.Standing.{setting_by, the_state}
+use Rattle.search_tables.specs.Means.Standing.{setting_by, the_state}
 use Rattle.search_run.specs.Spine.{is_spine}
 use Rattle.search_tables.specs.declared.tables.Tables.{Tables}
 use Rattle.tableau_search.specs.declared.shape.Shape.TheVariants.{Other}

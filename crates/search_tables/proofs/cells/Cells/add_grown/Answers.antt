@@ -1,6 +1,6 @@
 use Rattle.std.proofs.Common.{◌≡◌, sym, ap, ◌∙◌, arith}
 use Rattle.stt_core.specs.View.{the_type}
-use Rattle.search_tables.specs.Holes.{after_head}
+use Rattle.search_tables.specs.Means.Holes.{after_head}
 use Rattle.search_tables.specs.Means.Chains.{chain}
 use Rattle.search_tables.proofs.ChainLaws.{chain-none}
 use Rattle.search_tables.proofs.cells.Cells.add_grown.Goals as goal

@@ -1,5 +1,5 @@
 use Rattle.std.proofs.Common.{sym, ap, ◌∙◌}
-use Rattle.search_tables.specs.Holes.{leftmost}
+use Rattle.search_tables.specs.Means.Holes.{leftmost}
 use Rattle.search_tables.specs.Means.Chains.{chain}
 use Rattle.search_tables.proofs.ChainLaws.{chain-none, list-placed}
 use Rattle.search_tables.proofs.holes.OpenHoles.first.Goals as goal

@@ -2,7 +2,7 @@ use Rattle.std.proofs.Common.{[], ◌∷◌, List, reverse, ap₂, ◌∙◌}
 use Rattle.stt_core.specs.SimpleType.{SimpleType}
 use Rattle.stt_core.specs.View.{the_type}
 use Rattle.search_run.specs.Partial.{Hole}
-use Rattle.search_tables.specs.Holes.{blank_hole}
+use Rattle.search_tables.specs.Means.Holes.{blank_hole}
 use Rattle.search_tables.proofs.ChainLaws.{chain-none, lists-last}
 use Rattle.search_tables.proofs.holes.OpenHoles.push_blank.Goals as goal
 

@@ -1,6 +1,6 @@
 use Rattle.std.proofs.Common.{ap, ◌∙◌}
 use Rattle.stt_core.specs.View.{the_type}
-use Rattle.search_tables.specs.Holes.{after_head}
+use Rattle.search_tables.specs.Means.Holes.{after_head}
 use Rattle.search_tables.proofs.ChainLaws.{list-placed, lists-last}
 use Rattle.search_tables.proofs.holes.OpenHoles.push_grown.Goals as goal
 

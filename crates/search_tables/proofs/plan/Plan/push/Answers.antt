@@ -1,5 +1,5 @@
 use Rattle.std.proofs.Common.{suc, sym, ap, ◌∙◌}
-use Rattle.search_tables.specs.Pending.{span}
+use Rattle.search_tables.specs.Means.Pending.{span}
 use Rattle.search_tables.proofs.PlanLaws.{spaced-pushed}
 use Rattle.search_tables.proofs.plan.Plan.push.Goals as goal
 

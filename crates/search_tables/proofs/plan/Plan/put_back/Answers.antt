@@ -4,7 +4,7 @@ use Rattle.command_queue.specs.Queue.{Queue}
 use Rattle.search_run.specs.Each.{Each}
 use Rattle.search_tables.specs.declared.command.Planned.{Planned}
 use Rattle.search_tables.specs.declared.command.Delays.{Delays}
-use Rattle.search_tables.specs.Pending.{EndsBelow, IsApart}
+use Rattle.search_tables.specs.Means.Pending.{EndsBelow, IsApart}
 use Rattle.search_tables.proofs.PlanLaws.{spaced-put_back}
 use Rattle.search_tables.proofs.plan.Plan.put_back.Goals as goal
 

@@ -9,8 +9,8 @@ use Rattle.search_run.specs.Selections.{selections_in, with_selections}
 use Rattle.search_run.specs.State.{State}
 use Rattle.search_tables.specs.declared.tables.Tables.{Tables}
 use Rattle.search_tables.specs.Delays.{the_mode}
-use Rattle.search_tables.specs.Selecting.{parts, head_selection, IsTaken, AreTaken}
-use Rattle.search_tables.specs.Standing.{the_state}
+use Rattle.search_tables.specs.Means.Selecting.{parts, head_selection, IsTaken, AreTaken}
+use Rattle.search_tables.specs.Means.Standing.{the_state}
 use Rattle.search_tables.proofs.SelectingLaws.{all_in, selections-split, are-kept, all-taken, taken-leaves, selections-append, any-member, one-more}
 use Rattle.search_tables.proofs.tables.Core.+walk.Goals as goal
 

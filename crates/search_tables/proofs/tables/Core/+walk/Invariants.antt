@@ -2,8 +2,8 @@ use Rattle.std.proofs.Common.{◌≡◌, drop}
 use Rattle.search_run.specs.Selections.{selections_in, with_selections}
 use Rattle.term_bank.specs.Terms.{term_at}
 use Rattle.search_tables.specs.Delays.{the_mode}
-use Rattle.search_tables.specs.Selecting.{parts, AreTaken}
-use Rattle.search_tables.specs.Standing.{the_state, IsRight}
+use Rattle.search_tables.specs.Means.Selecting.{parts, AreTaken}
+use Rattle.search_tables.specs.Means.Standing.{the_state, IsRight}
 use Rattle.search_tables.proofs.SelectingLaws.{all_in}
 use Rattle.search_tables.proofs.tables.Core.+walk.Given as goal
 

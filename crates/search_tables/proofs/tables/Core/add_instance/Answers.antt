@@ -10,9 +10,9 @@ use Rattle.tableau_clauses.specs.Table.{the_clauses}
 use Rattle.search_run.specs.Instances.{with_literals}
 use Rattle.search_tables.specs.declared.command.Delays.{Delays}
 use Rattle.search_tables.specs.Delays.{the_mode}
-use Rattle.search_tables.specs.Names.{IsNumber}
-use Rattle.search_tables.specs.Standing.{the_state}
-use Rattle.search_tables.specs.Steps.{StepsGrow}
+use Rattle.search_tables.specs.Means.Names.{IsNumber}
+use Rattle.search_tables.specs.Means.Standing.{the_state}
+use Rattle.search_tables.specs.Means.Steps.{StepsGrow}
 use Rattle.search_tables.specs.declared.tables.Tables.{Tables}
 use Rattle.search_tables.proofs.InstanceLaws.{each-flat, clauses_are_numbers, too_deep, shallow_added, right-added}
 use Rattle.search_tables.proofs.RoomLaws.{state-room, right-room}

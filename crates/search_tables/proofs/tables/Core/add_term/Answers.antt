@@ -9,9 +9,9 @@ use Rattle.instantiate.specs.Listing.{ids_of}
 use Rattle.search_tables.specs.declared.command.Command.TheVariants.{Inst}
 use Rattle.search_tables.specs.declared.command.Over.TheVariants.{Universals}
 use Rattle.search_tables.specs.Delays.{the_mode}
-use Rattle.search_tables.specs.Names.{command_at}
-use Rattle.search_tables.specs.Pending.{loop_over, BeginsWith}
-use Rattle.search_tables.specs.Standing.{declared_scope, names_in, sources, the_state}
+use Rattle.search_tables.specs.Means.Names.{command_at}
+use Rattle.search_tables.specs.Means.Pending.{loop_over, BeginsWith}
+use Rattle.search_tables.specs.Means.Standing.{declared_scope, names_in, sources, the_state}
 use Rattle.search_tables.proofs.EachLaws.{each-at}
 use Rattle.search_tables.proofs.TermLaws.{was-there, right-term, is-new, noted_at, noted-is, at-first, universals-within, universals-are, universals-loop, universals-begin, universals-length, first-number, pushed-nothing, head-is, no-head}
 use Rattle.search_tables.proofs.tables.Core.add_term.Goals as goal

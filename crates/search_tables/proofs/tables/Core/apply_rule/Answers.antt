@@ -7,9 +7,9 @@ use Rattle.search_run.specs.Each.{Each}
 use Rattle.search_run.specs.Instances.{with_instance}
 use Rattle.search_run.specs.State.{State}
 use Rattle.search_tables.specs.Delays.{the_mode}
-use Rattle.search_tables.specs.Names.{IsNumber}
-use Rattle.search_tables.specs.Standing.{the_state}
-use Rattle.search_tables.specs.Steps.{IsMade, StepsGrow}
+use Rattle.search_tables.specs.Means.Names.{IsNumber}
+use Rattle.search_tables.specs.Means.Standing.{the_state}
+use Rattle.search_tables.specs.Means.Steps.{IsMade, StepsGrow}
 use Rattle.search_tables.specs.declared.tables.Basis.{Basis}
 use Rattle.search_tables.specs.declared.tables.Tables.{Tables}
 use Rattle.search_tables.proofs.RuleLaws.{principal-numbers, principals_same, same-alternatives, more-numbers}

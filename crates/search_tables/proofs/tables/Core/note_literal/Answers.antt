@@ -1,7 +1,7 @@
 use Rattle.std.proofs.Common.{◌≡◌, [], ◌∷◌, ◌++◌, if◌then◌else◌, sym, ap, subst, ◌∙◌}
 use Rattle.mating_rules.specs.Noted.{IsRight as IsRightIndex}
 use Rattle.search_tables.specs.declared.tables.Tables.{Tables}
-use Rattle.search_tables.specs.Standing.{can_pair, the_state, IsRight}
+use Rattle.search_tables.specs.Means.Standing.{can_pair, the_state, IsRight}
 use Rattle.search_tables.proofs.NotingLaws.{universal-places, noted-chain, state-noted, right-noted}
 use Rattle.search_tables.proofs.tables.Core.note_literal.Goals as goal
 

@@ -7,9 +7,9 @@ use Rattle.mating_rules.specs.Noted.{partners_of}
 use Rattle.search_run.specs.Partners.{confrontations}
 use Rattle.search_run.specs.State.{Command as Meant, confront, pushed}
 use Rattle.search_tables.specs.Delays.{the_mode}
-use Rattle.search_tables.specs.Names.{IsNumber}
-use Rattle.search_tables.specs.Pending.{equation_type, is_base_equation}
-use Rattle.search_tables.specs.Standing.{the_state}
+use Rattle.search_tables.specs.Means.Names.{IsNumber}
+use Rattle.search_tables.specs.Means.Pending.{equation_type, is_base_equation}
+use Rattle.search_tables.specs.Means.Standing.{the_state}
 use Rattle.search_tables.proofs.EachLaws.{each-at}
 use Rattle.search_tables.proofs.TermLaws.{pushed-nothing}
 use Rattle.search_tables.proofs.PartnerLaws.{partner-numbers, none-confronted, positive-confronted, negative-confronted}

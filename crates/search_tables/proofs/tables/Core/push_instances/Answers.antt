@@ -7,9 +7,9 @@ use Rattle.instantiate.specs.Listing.{ids_of}
 use Rattle.search_run.specs.State.{Command as Meant, pushed}
 use Rattle.search_tables.specs.declared.command.Command.TheVariants.{Inst}
 use Rattle.search_tables.specs.Delays.{the_mode}
-use Rattle.search_tables.specs.Names.{command_at, IsPlace}
-use Rattle.search_tables.specs.Pending.{range_of, over_terms}
-use Rattle.search_tables.specs.Standing.{names_in, sources, the_state}
+use Rattle.search_tables.specs.Means.Names.{command_at, IsPlace}
+use Rattle.search_tables.specs.Means.Pending.{range_of, over_terms}
+use Rattle.search_tables.specs.Means.Standing.{names_in, sources, the_state}
 use Rattle.search_tables.proofs.EachLaws.{each-at}
 use Rattle.search_tables.proofs.PlaceLaws.{places-of}
 use Rattle.search_tables.proofs.TermLaws.{pushed-nothing}

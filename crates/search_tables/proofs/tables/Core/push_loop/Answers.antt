@@ -1,7 +1,7 @@
 use Rattle.std.proofs.Common.{◌+◌, ℕ, suc, subst}
 use Rattle.command_queue.specs.Queue.{AddsEntry}
 use Rattle.search_tables.specs.Delays.{delay_by}
-use Rattle.search_tables.specs.Pending.{span}
+use Rattle.search_tables.specs.Means.Pending.{span}
 use Rattle.search_tables.proofs.PushLaws.{pushed-loop, right-pushed}
 use Rattle.search_tables.proofs.tables.Core.push_loop.Goals as goal
 

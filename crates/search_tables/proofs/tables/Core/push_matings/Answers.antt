@@ -7,8 +7,8 @@ use Rattle.mating_rules.specs.Noted.{partners_of}
 use Rattle.search_run.specs.Partners.{matings}
 use Rattle.search_run.specs.State.{Command as Meant, mate, pushed}
 use Rattle.search_tables.specs.Delays.{the_mode}
-use Rattle.search_tables.specs.Names.{IsNumber}
-use Rattle.search_tables.specs.Standing.{the_state}
+use Rattle.search_tables.specs.Means.Names.{IsNumber}
+use Rattle.search_tables.specs.Means.Standing.{the_state}
 use Rattle.search_tables.proofs.EachLaws.{each-at}
 use Rattle.search_tables.proofs.TermLaws.{pushed-nothing}
 use Rattle.search_tables.proofs.PartnerLaws.{partner-numbers, none-mated, positive-mated, negative-mated}

@@ -2,9 +2,9 @@ use Rattle.std.proofs.Common.{◌∷◌, List, Option, sym, ap, subst, ◌∙◌
 use Rattle.search_run.specs.State.{Command as Meant, pushed}
 use Rattle.search_tables.specs.declared.command.Rest.{Rest}
 use Rattle.search_tables.specs.Delays.{the_mode}
-use Rattle.search_tables.specs.Names.{command_at}
-use Rattle.search_tables.specs.Pending.{later_of, IsEntry}
-use Rattle.search_tables.specs.Standing.{declared_scope, names_in, sources, the_state}
+use Rattle.search_tables.specs.Means.Names.{command_at}
+use Rattle.search_tables.specs.Means.Pending.{later_of, IsEntry}
+use Rattle.search_tables.specs.Means.Standing.{declared_scope, names_in, sources, the_state}
 use Rattle.search_tables.proofs.WholeLaws.{there-whole, whole-is}
 use Rattle.search_tables.proofs.tables.Core.push_whole.Goals as goal
 

@@ -5,7 +5,7 @@ use Rattle.literal_map.specs.Atoms.{literal_at}
 use Rattle.search_tables.specs.declared.tables.Basis.{Basis}
 use Rattle.search_tables.specs.declared.tables.Tables.{Tables}
 use Rattle.search_tables.specs.Delays.{the_mode}
-use Rattle.search_tables.specs.Standing.{the_state}
+use Rattle.search_tables.specs.Means.Standing.{the_state}
 use Rattle.search_tables.proofs.SeenLaws.{seen-more, seen-all}
 use Rattle.search_tables.proofs.tables.Core.see_all.Goals as goal
 

@@ -2,7 +2,7 @@ use Rattle.std.proofs.Common.{◌≡◌, map, drop}
 use Rattle.literal_map.specs.Atoms.{literal_at}
 use Rattle.search_run.specs.Instances.{with_literals}
 use Rattle.search_tables.specs.Delays.{the_mode}
-use Rattle.search_tables.specs.Standing.{the_state, IsRight}
+use Rattle.search_tables.specs.Means.Standing.{the_state, IsRight}
 use Rattle.search_tables.proofs.tables.Core.see_all.Given as goal
 
 -- what is left to see brings the state to where it is to come

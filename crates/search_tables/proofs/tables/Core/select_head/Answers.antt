@@ -6,7 +6,7 @@ use Rattle.search_run.specs.Each.{Each}
 use Rattle.search_run.specs.Selections.{by_choice, by_description, with_selection, with_selections}
 use Rattle.search_run.proofs.TypedSelections.{IsPredicate}
 use Rattle.search_tables.specs.Delays.{the_mode}
-use Rattle.search_tables.specs.Standing.{the_state}
+use Rattle.search_tables.specs.Means.Standing.{the_state}
 use Rattle.search_tables.proofs.SelectingLaws.{head-typed, binder-is, on-ok}
 use Rattle.search_tables.proofs.tables.Core.select_head.Goals as goal
 

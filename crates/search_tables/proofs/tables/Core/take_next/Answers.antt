@@ -2,9 +2,9 @@ use Rattle.std.proofs.Common.{◌+◌, Option, Some, refl, sym, ap, subst, arith
 use Rattle.command_queue.specs.Queue.{AddsEntryAt}
 use Rattle.search_run.specs.Each.{Each}
 use Rattle.search_tables.specs.declared.command.Rest.{Rest}
-use Rattle.search_tables.specs.Names.{command_at}
-use Rattle.search_tables.specs.Pending.{later_of, AreThere, EndsBelow, IsApart}
-use Rattle.search_tables.specs.Standing.{declared_scope, names_in, sources}
+use Rattle.search_tables.specs.Means.Names.{command_at}
+use Rattle.search_tables.specs.Means.Pending.{later_of, AreThere, EndsBelow, IsApart}
+use Rattle.search_tables.specs.Means.Standing.{declared_scope, names_in, sources}
 use Rattle.search_tables.proofs.TakeLaws.{entry-good, ends-below, is-apart, takes-alone, right-alone, none-left, takes-more, right-more}
 use Rattle.search_tables.proofs.tables.Core.take_next.Goals as goal
 

@@ -3,12 +3,12 @@ use Rattle.stt_core.specs.Lambda.{bound, constant, name}
 use Rattle.stt_tableau.specs.Witnesses.{with_rows}
 use Rattle.search_run.specs.Heads.{places_to, heads_for}
 use Rattle.search_run.specs.Partial.{first_hole}
-use Rattle.search_tables.specs.Fitting.{variables_for, later_heads}
-use Rattle.search_tables.specs.Heads.{the_hole_head}
-use Rattle.search_tables.specs.Holes.{holes_in}
-use Rattle.search_tables.specs.Names.{sketch_at}
-use Rattle.search_tables.specs.Pending.{base_of}
-use Rattle.search_tables.specs.Standing.{declared_scope, rows_in, sketches_in}
+use Rattle.search_tables.specs.Means.Fitting.{variables_for, later_heads}
+use Rattle.search_tables.specs.Means.Heads.{the_hole_head}
+use Rattle.search_tables.specs.Means.Holes.{holes_in}
+use Rattle.search_tables.specs.Means.Names.{sketch_at}
+use Rattle.search_tables.specs.Means.Pending.{base_of}
+use Rattle.search_tables.specs.Means.Standing.{declared_scope, rows_in, sketches_in}
 use Rattle.search_tables.proofs.HoleLaws.{leftmost-first, holes-at, base-at}
 use Rattle.search_tables.proofs.FittingLaws.{heads-list, variable-at, name-at, later-within, later-at}
 use Rattle.search_tables.proofs.tables.Tables.fitting_head.Goals as goal

@@ -7,9 +7,9 @@ use Rattle.search_run.specs.State.{mate, confront}
 use Rattle.search_tables.specs.declared.command.Command.{Command}
 use Rattle.search_tables.specs.declared.command.Command.TheVariants.{Mate, Confront}
 use Rattle.search_tables.specs.declared.command.Over.TheVariants.{Negatives}
-use Rattle.search_tables.specs.Names.{command_at, IsNumber, AreNumbers}
-use Rattle.search_tables.specs.Pending.{over_negatives, IsSigned}
-use Rattle.search_tables.specs.Standing.{names_in, sources}
+use Rattle.search_tables.specs.Means.Names.{command_at, IsNumber, AreNumbers}
+use Rattle.search_tables.specs.Means.Pending.{over_negatives, IsSigned}
+use Rattle.search_tables.specs.Means.Standing.{names_in, sources}
 use Rattle.search_tables.proofs.EachLaws.{each-at}
 use Rattle.search_tables.proofs.PartnerLaws.{partner-numbers, positive-mated, positive-confronted}
 use Rattle.search_tables.proofs.LoopLists.{got-mapped, within-mapped}

@@ -4,9 +4,9 @@ use Rattle.instantiate.specs.Listing.{ids_of}
 use Rattle.search_run.specs.Partial.{first_hole}
 use Rattle.search_tables.specs.declared.command.Command.{Command}
 use Rattle.search_tables.specs.declared.command.Command.TheVariants.{Grow}
-use Rattle.search_tables.specs.Names.{sketch_at, command_at, AreNumbers}
-use Rattle.search_tables.specs.Pending.{base_of, over_parked}
-use Rattle.search_tables.specs.Standing.{names_in, sketches_in, sources}
+use Rattle.search_tables.specs.Means.Names.{sketch_at, command_at, AreNumbers}
+use Rattle.search_tables.specs.Means.Pending.{base_of, over_parked}
+use Rattle.search_tables.specs.Means.Standing.{names_in, sketches_in, sources}
 use Rattle.search_tables.proofs.EachLaws.{each-at}
 use Rattle.search_tables.proofs.LoopLists.{got-mapped, within-mapped}
 use Rattle.search_tables.proofs.HoleLaws.{parked-loop, parked-below}

@@ -2,9 +2,9 @@ use Rattle.std.proofs.Common.{◌<◌, ℕ, List, length, slice_get, sym, ap, su
 use Rattle.literal_map.specs.Atoms.{literal_at}
 use Rattle.search_tables.specs.declared.command.Command.{Command}
 use Rattle.search_tables.specs.declared.command.Command.TheVariants.{Inst}
-use Rattle.search_tables.specs.Names.{command_at, IsPlace, AreNumbers}
-use Rattle.search_tables.specs.Pending.{range_of, over_terms}
-use Rattle.search_tables.specs.Standing.{names_in, sources}
+use Rattle.search_tables.specs.Means.Names.{command_at, IsPlace, AreNumbers}
+use Rattle.search_tables.specs.Means.Pending.{range_of, over_terms}
+use Rattle.search_tables.specs.Means.Standing.{names_in, sources}
 use Rattle.instantiate.specs.Listing.{ids_of}
 use Rattle.search_tables.proofs.EachLaws.{each-at}
 use Rattle.search_tables.proofs.PlaceLaws.{places-of}

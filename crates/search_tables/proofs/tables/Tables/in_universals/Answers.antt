@@ -5,9 +5,9 @@ use Rattle.term_bank.specs.Terms.{term_at}
 use Rattle.search_run.specs.State.{inst}
 use Rattle.search_tables.specs.declared.command.Command.{Command}
 use Rattle.search_tables.specs.declared.command.Command.TheVariants.{Inst}
-use Rattle.search_tables.specs.Names.{command_at, IsNumber, AreNumbers}
-use Rattle.search_tables.specs.Pending.{range_of, over_universals}
-use Rattle.search_tables.specs.Standing.{names_in, sources}
+use Rattle.search_tables.specs.Means.Names.{command_at, IsNumber, AreNumbers}
+use Rattle.search_tables.specs.Means.Pending.{range_of, over_universals}
+use Rattle.search_tables.specs.Means.Standing.{names_in, sources}
 use Rattle.instantiate.specs.Listing.{ids_of}
 use Rattle.search_tables.proofs.EachLaws.{each-at}
 use Rattle.search_tables.proofs.TermLaws.{noted_at, noted-is, universals-within, universal-numbers}

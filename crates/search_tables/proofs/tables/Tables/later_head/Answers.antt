@@ -1,7 +1,7 @@
 use Rattle.std.proofs.Common.{◌≡◌, ◌<◌, ◌-◌, ℕ, List, length, slice_get, Some, sym, ap, subst, ◌∙◌, arith}
 use Rattle.stt_core.specs.Lambda.{constant, witness}
-use Rattle.search_tables.specs.Fitting.{logical_for, SplitsAt}
-use Rattle.search_tables.specs.Heads.{the_hole_head}
+use Rattle.search_tables.specs.Means.Fitting.{logical_for, SplitsAt}
+use Rattle.search_tables.specs.Means.Heads.{the_hole_head}
 use Rattle.search_tables.proofs.FittingLaws.{witness-there, logical-below, logical-there}
 use Rattle.search_tables.proofs.tables.Tables.later_head.Goals as goal
 

@@ -3,7 +3,7 @@ use Rattle.std.proofs.lemmas.Option.{get_or_from_slice_get}
 use Rattle.stt_core.specs.View.{the_type}
 use Rattle.term_bank.specs.Terms.{term_at}
 use Rattle.instantiate.specs.Listing.{ids_of, with_listed}
-use Rattle.search_tables.specs.Shapes.{quantified_type}
+use Rattle.search_tables.specs.Means.Shapes.{quantified_type}
 use Rattle.search_tables.proofs.NotingLaws.{listed-last, universal-by}
 use Rattle.search_tables.proofs.tables.Tables.list_universal.Goals as goal
 

@@ -7,7 +7,7 @@ use Rattle.sat_log.specs.Propagation.{ReachesFalse, AreFailingDecisions}
 use Rattle.sat_core.specs.Solver.{learned, AreAmong}
 use Rattle.search_run.specs.Unsatisfiable.{Unsatisfiable}
 use Rattle.search_run.specs.After.{stepped}
-use Rattle.tableau_search.specs.Progress.{Progress, setting_of, state_of}
+use Rattle.tableau_search.specs.Means.Progress.{Progress, setting_of, state_of}
 use Rattle.tableau_search.specs.declared.stepped.Stepped.{Stepped}
 use Rattle.tableau_search.specs.declared.stepped.Stepped.TheVariants.{Closed, Empty, Limit, Spent, Went}
 
@@ -17,7 +17,7 @@ pub record Stays (old new : Progress) : Type 0 where
   pub done : new.tables.done ≡ old.tables.done
 
 -- the clauses are unsatisfiable; the last result of the log is the empty clause, and unit propagation finds a false clause
-pub record IsClosed (old new : Progress) : Type 0 where
+pub record StepCloses (old new : Progress) : Type 0 where
   pub unsatisfiable : Unsatisfiable (state_of old).clauses
   pub stays : Stays old new
   pub ends : results new.tables.solver.log ≡ learned new.tables.solver ++ [] ∷ []
@@ -38,7 +38,7 @@ pub record IsAtLimit (old new : Progress) : Type 0 where
 
 -- the conflicts of the mode are spent: that many clauses were learned, and some decisions lead to one conflict more; with conflicts for
 -- all clauses over the variables they are never spent
-pub record IsSpent (old new : Progress) (conflicts : ℕ) : Type 0 where
+pub record StepSpends (old new : Progress) (conflicts : ℕ) : Type 0 where
   pub reported : conflicts ≡ old.plan.rule.mode.conflicts
   pub counted : length (learned new.tables.solver) ≡ conflicts
   pub decisions : List SatLit
@@ -55,8 +55,8 @@ pub record GoesOn (old new : Progress) : Type 0 where
   pub done : new.tables.done ≡ old.tables.done + 1
 
 abbrev pub Answers : Progress → Progress → Stepped → Type 0
-Answers old new Closed = IsClosed old new
+Answers old new Closed = StepCloses old new
 Answers old new Empty = IsEmpty old new
 Answers old new Limit = IsAtLimit old new
-Answers old new (Spent conflicts) = IsSpent old new conflicts
+Answers old new (Spent conflicts) = StepSpends old new conflicts
 Answers old new Went = GoesOn old new

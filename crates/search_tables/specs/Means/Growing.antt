@@ -6,7 +6,7 @@ use Rattle.term_bank.specs.Content.{Grows}
 use Rattle.literal_map.specs.Atoms.{Begins}
 use Rattle.tableau_rules.specs.Changes.{Widens}
 use Rattle.search_tables.specs.declared.tables.Basis.{Basis}
-use Rattle.search_tables.specs.Names.{Names, IsPlace}
+use Rattle.search_tables.specs.Means.Names.{Names, IsPlace}
 
 -- the second list is the first one with further elements behind it
 abbrev pub Longer : {X : Type 0} → List X → List X → Type 0

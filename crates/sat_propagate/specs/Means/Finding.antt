@@ -2,8 +2,8 @@
 use Rattle.std.specs.Prelude.{◌≡◌, ◌≢◌, IsTrue, false, List, Option, Some}
 use Rattle.sat_base.specs.declared.literal.SatLit.{SatLit}
 use Rattle.sat_base.specs.Literal.{negated, holds}
-use Rattle.sat_propagate.specs.Propagator.{IsPair}
-use Rattle.sat_propagate.specs.ClauseTable.{Watched}
+use Rattle.sat_propagate.specs.Means.Propagator.{IsPair}
+use Rattle.sat_propagate.specs.Means.ClauseTable.{Watched}
 use Rattle.sat_propagate.specs.declared.propagator.Finding.{Finding}
 use Rattle.sat_propagate.specs.declared.propagator.Finding.TheVariants.{Stale, Satisfied, Other, Unit as OnlyOpen, False as AllFalse}
 

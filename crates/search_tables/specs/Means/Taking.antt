@@ -7,8 +7,8 @@ use Rattle.search_tables.specs.declared.command.Planned.{Planned}
 use Rattle.search_tables.specs.declared.command.Rest.{Rest}
 use Rattle.search_tables.specs.declared.command.Delays.{Delays}
 use Rattle.search_tables.specs.declared.tables.Tables.{Tables}
-use Rattle.search_tables.specs.Names.{command_at, AreNumbers}
-use Rattle.search_tables.specs.Standing.{names_in, the_state}
+use Rattle.search_tables.specs.Means.Names.{command_at, AreNumbers}
+use Rattle.search_tables.specs.Means.Standing.{names_in, the_state}
 
 -- this command is next, and is taken from the queue
 pub record TakesNext (t : Tables) (before after : Queue Planned Delays) (c : Command) : Type 0 where

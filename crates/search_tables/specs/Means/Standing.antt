@@ -30,10 +30,10 @@ use Rattle.search_tables.specs.declared.command.Delays.{Delays}
 use Rattle.search_tables.specs.declared.tables.Basis.{Basis}
 use Rattle.search_tables.specs.declared.tables.Tables.{Tables}
 use Rattle.search_tables.specs.Delays.{the_mode}
-use Rattle.search_tables.specs.Names.{Names, typed_at, IsNumber, IsPlace}
-use Rattle.search_tables.specs.Heads.{sketches_of, AreStems}
-use Rattle.search_tables.specs.Holes.{holes_in}
-use Rattle.search_tables.specs.Pending.{loop_at, IsEntry}
+use Rattle.search_tables.specs.Means.Names.{Names, typed_at, IsNumber, IsPlace}
+use Rattle.search_tables.specs.Means.Heads.{sketches_of, AreStems}
+use Rattle.search_tables.specs.Means.Holes.{holes_in}
+use Rattle.search_tables.specs.Means.Pending.{loop_at, IsEntry}
 
 -- what is declared, without witnesses
 abbrev pub declared_scope : Content → Scope

@@ -9,11 +9,11 @@ use Rattle.sat_log.specs.declared.chain.ChainStep.{ChainStep}
 use Rattle.sat_log.specs.declared.chain.Chain.{Chain}
 use Rattle.sat_log.specs.Chains.{premise_clause, chain_result}
 use Rattle.sat_log.specs.Propagation.{IsNew}
-use Rattle.sat_laws.specs.Analysis.{IsFalseBefore, how_many}
-use Rattle.sat_propagate.specs.Trail.{TrailState, literals}
-use Rattle.sat_propagate.specs.Propagator.{texts}
-use Rattle.sat_core.specs.Marks.{is_marked, marks_literal}
-use Rattle.sat_propagate.specs.ClauseTable.{Watched}
+use Rattle.sat_laws.specs.Means.Analysis.{IsFalseBefore, how_many}
+use Rattle.sat_propagate.specs.Means.Trail.{TrailState, literals}
+use Rattle.sat_propagate.specs.Means.Propagator.{texts}
+use Rattle.sat_core.specs.Means.Marks.{is_marked, marks_literal}
+use Rattle.sat_propagate.specs.Means.ClauseTable.{Watched}
 
 -- each of some clauses has the name of a premise that is it
 abbrev pub AreNamed : List (List SatLit) → List (List SatLit) → List Premise → List Watched → Type 0

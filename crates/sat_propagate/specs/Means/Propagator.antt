@@ -4,13 +4,13 @@ use Rattle.std.specs.List.{All, Contains}
 use Rattle.sat_base.specs.declared.literal.SatLit.{SatLit}
 use Rattle.sat_base.specs.Literal.{same_literal, holds, IsOver}
 use Rattle.sat_log.specs.Propagation.{IsUnit, IsFalseIn}
-use Rattle.sat_laws.specs.Complete.{satisfies}
-use Rattle.sat_laws.specs.Watching.{IsKept}
-use Rattle.sat_propagate.specs.Trail.{TrailState, literals}
-use Rattle.sat_propagate.specs.WatchLists.{WatchPair, Names, watchers}
+use Rattle.sat_laws.specs.Means.Complete.{satisfies}
+use Rattle.sat_laws.specs.Means.Watching.{IsKept}
+use Rattle.sat_propagate.specs.Means.Trail.{TrailState, literals}
+use Rattle.sat_propagate.specs.Means.WatchLists.{WatchPair, Names, watchers}
 use Rattle.sat_propagate.specs.declared.trail.Step.{Step}
 use Rattle.sat_propagate.specs.declared.watch_lists.Watch.{Watch}
-use Rattle.sat_propagate.specs.ClauseTable.{Watched}
+use Rattle.sat_propagate.specs.Means.ClauseTable.{Watched}
 
 -- a step without a reason is a decision's; a reason is a clause whose only open literal was the step's
 pub record IsReasoned (clauses : List Watched) (trail : TrailState) (i : ℕ) (step : Step) : Type 0 where

@@ -5,7 +5,7 @@ use Rattle.sat_base.specs.declared.literal.Var.{Var}
 use Rattle.sat_base.specs.declared.literal.SatLit.{SatLit}
 use Rattle.sat_base.specs.Literal.{holds, IsOver}
 use Rattle.sat_base.specs.Truth.{clause_value, assigned}
-use Rattle.sat_core.specs.Learner.{IsLearner}
+use Rattle.sat_core.specs.Means.Learner.{IsLearner}
 use Rattle.sat_core.specs.declared.keeper.Keeper.{Keeper}
 use Rattle.sat_core.specs.declared.learner.Learner.{Learner}
 

@@ -8,7 +8,7 @@ use Rattle.search_run.specs.Partial.{blank}
 use Rattle.search_run.specs.State.{Sketch}
 use Rattle.search_run.specs.Commands.{grown_by}
 use Rattle.instantiate.specs.Growing.{TakesHead}
-use Rattle.search_tables.specs.Names.{sketch_at}
+use Rattle.search_tables.specs.Means.Names.{sketch_at}
 use Rattle.search_tables.specs.declared.head.HoleHead.{HoleHead}
 use Rattle.search_tables.specs.declared.head.HoleHead.TheVariants.{Bound, Name, Wit, False, Not, Imp, All, Eq, Choice}
 use Rattle.search_tables.specs.declared.stem.Stem.{Stem}

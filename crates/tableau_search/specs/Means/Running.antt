@@ -15,8 +15,8 @@ use Rattle.tableau_clauses.specs.Table.{Step}
 use Rattle.search_tables.specs.declared.command.Planned.{Planned}
 use Rattle.search_tables.specs.declared.command.Delays.{Delays}
 use Rattle.search_tables.specs.declared.tables.Tables.{Tables}
-use Rattle.search_tables.specs.Standing.{declared_scope, setting_by, the_state, IsRight}
-use Rattle.search_tables.specs.Steps.{IsMade}
+use Rattle.search_tables.specs.Means.Standing.{declared_scope, setting_by, the_state, IsRight}
+use Rattle.search_tables.specs.Means.Steps.{IsMade}
 
 -- the literals of a clause of the start, and of another one none
 abbrev pub unit_in : List SatLit → Origin → List SatLit

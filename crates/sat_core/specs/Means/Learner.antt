@@ -9,12 +9,12 @@ use Rattle.sat_log.specs.declared.chain.Premise.{Premise}
 use Rattle.sat_log.specs.declared.log.LogEntry.{LogEntry}
 use Rattle.sat_log.specs.Chains.{premise_clause, results, IsLogOver}
 use Rattle.sat_log.specs.Propagation.{IsNew, ReachesFalse, AreFailingDecisions}
-use Rattle.sat_core.specs.Learned.{AreNamed}
+use Rattle.sat_core.specs.Means.Learned.{AreNamed}
 use Rattle.sat_core.specs.Solver.{SolverState, learned_from, AreAmong}
 use Rattle.sat_core.specs.declared.learner.Learner.{Learner}
 use Rattle.sat_core.specs.declared.learner.Answer.{Answer}
 use Rattle.sat_core.specs.declared.learner.Answer.TheVariants.{Sat, Unsat, Spent}
-use Rattle.sat_propagate.specs.Propagator.{IsPropagator, texts}
+use Rattle.sat_propagate.specs.Means.Propagator.{IsPropagator, texts}
 use Rattle.sat_propagate.specs.declared.propagator.Propagator.{Propagator}
 
 -- each clause of the propagator has the name of a clause or result that it is; the variables of clauses and results are made, and have marks

@@ -18,7 +18,7 @@ use Rattle.search_tables.specs.declared.command.Planned.{Planned}
 use Rattle.search_tables.specs.declared.command.Rest.{Rest}
 use Rattle.search_tables.specs.declared.command.Over.{Over}
 use Rattle.search_tables.specs.declared.command.Over.TheVariants.{Terms, Universals, Negatives, Positives, Heads, Parked}
-use Rattle.search_tables.specs.Names.{Names, command_at, AreNumbers}
+use Rattle.search_tables.specs.Means.Names.{Names, command_at, AreNumbers}
 
 -- the type over which a quantified formula ranges
 abbrev pub range_of : Lambda → SimpleType

@@ -4,7 +4,7 @@ use Rattle.std.specs.Prelude.{◌≢◌, ◌⊎◌, ℕ, IsTrue, List, take}
 use Rattle.std.specs.List.{Contains}
 use Rattle.sat_base.specs.declared.literal.SatLit.{SatLit}
 use Rattle.sat_base.specs.Literal.{negated, holds}
-use Rattle.sat_laws.specs.Complete.{satisfies}
+use Rattle.sat_laws.specs.Means.Complete.{satisfies}
 
 -- where the literal was false at a decision, the clause was true there; where it is among the processed ones, the clause is true
 pub record IsGuarded (starts : List ℕ) (trail : List SatLit) (processed : ℕ) (clause : List SatLit) (l : SatLit) : Type 0 where

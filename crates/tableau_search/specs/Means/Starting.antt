@@ -14,9 +14,9 @@ use Rattle.tableau_clauses.specs.Table.{Table, the_clauses}
 use Rattle.search_tables.specs.declared.command.Planned.{Planned}
 use Rattle.search_tables.specs.declared.command.Delays.{Delays}
 use Rattle.search_tables.specs.declared.tables.Tables.{Tables}
-use Rattle.search_tables.specs.Growing.{BasisGrows}
-use Rattle.search_tables.specs.Standing.{setting_by, the_state, IsRight}
-use Rattle.tableau_search.specs.Running.{start_in}
+use Rattle.search_tables.specs.Means.Growing.{BasisGrows}
+use Rattle.search_tables.specs.Means.Standing.{setting_by, the_state, IsRight}
+use Rattle.tableau_search.specs.Means.Running.{start_in}
 
 -- the literal's clause stands behind the earlier ones as a start unit, unless it is one of them
 pub record AddsUnit (lit : SatLit) (old new : Table) : Type 0 where

@@ -8,8 +8,8 @@ use Rattle.tableau_rules.specs.Uses.{principals_of, IsInstanceBy}
 use Rattle.tableau_clauses.specs.declared.origin.Origin.TheVariants.{Start}
 use Rattle.tableau_clauses.specs.Table.{Step, Table}
 use Rattle.search_tables.specs.declared.tables.Basis.{Basis}
-use Rattle.search_tables.specs.Names.{IsNumber, IsPlace}
-use Rattle.search_tables.specs.Standing.{rows_in}
+use Rattle.search_tables.specs.Means.Names.{IsNumber, IsPlace}
+use Rattle.search_tables.specs.Means.Standing.{rows_in}
 
 -- an instance of its rule with what that takes, over what has a number
 pub record IsMade (g : Basis) (i : Instance) : Type 0 where

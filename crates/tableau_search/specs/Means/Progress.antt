@@ -4,7 +4,7 @@ use Rattle.search_run.specs.State.{State, Setting}
 use Rattle.search_tables.specs.declared.command.Planned.{Planned}
 use Rattle.search_tables.specs.declared.command.Delays.{Delays}
 use Rattle.search_tables.specs.declared.tables.Tables.{Tables}
-use Rattle.search_tables.specs.Standing.{setting_by, the_state}
+use Rattle.search_tables.specs.Means.Standing.{setting_by, the_state}
 
 -- the tables, and the commands that wait
 pub record Progress : Type 0 where

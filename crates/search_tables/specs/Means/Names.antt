@@ -8,7 +8,7 @@ use Rattle.term_bank.specs.Terms.{term_at}
 use Rattle.literal_map.specs.Atoms.{literal_at}
 use Rattle.witness_names.specs.Rows.{binder_of}
 use Rattle.instantiate.specs.Listing.{Listing}
-use Rattle.search_tables.specs.HeadNumbers.{head_at, IsHeadNumber}
+use Rattle.search_tables.specs.Means.HeadNumbers.{head_at, IsHeadNumber}
 use Rattle.search_tables.specs.declared.command.Command.{Command}
 use Rattle.search_tables.specs.declared.command.Command.TheVariants.{Process, Mate, Confront, Inst, Grow, Choose, Describe}
 use Rattle.stt_core.specs.SimpleType.{formula}

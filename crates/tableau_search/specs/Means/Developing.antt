@@ -4,8 +4,8 @@ use Rattle.literal_map.specs.Atoms.{Begins}
 use Rattle.tableau_rules.specs.Changes.{Widens}
 use Rattle.search_tables.specs.declared.tables.Basis.{Basis}
 use Rattle.search_tables.specs.declared.tables.Tables.{Tables}
-use Rattle.search_tables.specs.Growing.{Longer}
-use Rattle.search_tables.specs.Steps.{IsMade, StepsGrow}
+use Rattle.search_tables.specs.Means.Growing.{Longer}
+use Rattle.search_tables.specs.Means.Steps.{IsMade, StepsGrow}
 
 -- further terms, atoms and witnesses stand behind the earlier ones
 pub record IsWider (old new : Basis) : Type 0 where

@@ -1,0 +1,5 @@
+-- Means of proof: what private contracts and proofs speak of.
+pub mod Learner
+pub mod Learned
+pub mod Marks
+pub mod Keeper
