@@ -5,7 +5,7 @@ ghost use Rattle.stt_core.specs.TypedProblem.{IsTyped};
 use anyhow::bail;
 use outside::{Bytes, Files, read_whole};
 use refute_check::{CheckRefused, check_refutation};
-use refute_read::{TextRefused, read_text};
+use refute_text::{TextRefused, read_text};
 use std::alloc::Global;
 use stt_core::Problem;
 

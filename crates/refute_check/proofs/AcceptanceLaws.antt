@@ -20,8 +20,8 @@ use Rattle.delta_defs.specs.Unfolding.{definitions_of, taken_names, unfolded_pro
 use Rattle.delta_defs.specs.Laws.{AreDeclared}
 use Rattle.delta_defs.proofs.KeptModels.{keeps_models, keeps_types}
 use Rattle.delta_defs.proofs.UnfoldedOnce.{nothing_unfolded, unfold_twice}
-use Rattle.refute_text.specs.Trees.{RefutationTree}
-use Rattle.refute_text.specs.Named.{names_of, name_at, named_refutation, ArePlaces}
+use Rattle.written_refutation.specs.Trees.{RefutationTree}
+use Rattle.written_refutation.specs.Named.{names_of, name_at, named_refutation, ArePlaces}
 use Rattle.refute_check.specs.Numbered.{numbered_refutation}
 use Rattle.refute_check.specs.Refusal.{IfLine, FailsAt}
 use Rattle.refute_check.specs.Acceptance.{taken_texts, NamesDefinitions, refuted_problem, IsAcceptedFor, DifferFirst, TextFailsAt, at_definition, behind_definitions}

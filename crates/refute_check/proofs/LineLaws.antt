@@ -5,8 +5,8 @@ use Rattle.stt_core.specs.Typing.{Scope}
 use Rattle.stt_tableau.specs.Literals.{is_negated, IsBranch}
 use Rattle.stt_tableau.proofs.ListLaws.{contains-get, untrue}
 use Rattle.stt_tableau.proofs.ClosedLaws.{literal_in}
-use Rattle.refute_text.specs.Trees.{LiteralTree}
-use Rattle.refute_text.specs.Named.{Names}
+use Rattle.written_refutation.specs.Trees.{LiteralTree}
+use Rattle.written_refutation.specs.Named.{Names}
 use Rattle.refute_check.specs.Numbered.{numbered_term, numbered_literal}
 
 -- what is so where there is nothing is so

@@ -7,8 +7,8 @@ use Rattle.stt_tableau.specs.Accepted.{IsAccepted}
 use Rattle.stt_tableau.specs.declared.refutation.Why.{Why}
 use Rattle.stt_tableau.specs.declared.refutation.Why.TheVariants.{Defs}
 use Rattle.delta_defs.specs.Unfolding.{taken_names, unfolded_problem}
-use Rattle.refute_text.specs.Trees.{RefutationTree}
-use Rattle.refute_text.specs.Named.{names_of, name_at}
+use Rattle.written_refutation.specs.Trees.{RefutationTree}
+use Rattle.written_refutation.specs.Named.{names_of, name_at}
 use Rattle.refute_check.specs.Numbered.{numbered_refutation}
 use Rattle.refute_check.specs.Refusal.{FailsAt}
 

@@ -10,9 +10,9 @@ use Rattle.stt_tableau.specs.declared.refutation.RuleUse.{RuleUse}
 use Rattle.stt_tableau.specs.declared.refutation.RuleUse.TheVariants as rule
 use Rattle.stt_tableau.specs.declared.refutation.Line.{Line}
 use Rattle.stt_tableau.specs.declared.refutation.Refutation.{Refutation}
-use Rattle.refute_text.specs.Trees.{TypeTree, ConstantTree, TermTree, LiteralTree, OnePlace, False, Refl, ImpPos, ImpNeg, BoolPos, BoolNeg, FunPos, FunNeg, AllNeg, Dec, TwoPlaces, Close, Mat, Con, OfPredicate, Cho, Des, RuleTree, at_one, at_two, with_instance, with_predicate, with_cut, LineTree, RefutationTree}
-use Rattle.refute_text.specs.Trees as tree
-use Rattle.refute_text.specs.Named.{Names}
+use Rattle.written_refutation.specs.Trees.{TypeTree, ConstantTree, TermTree, LiteralTree, OnePlace, False, Refl, ImpPos, ImpNeg, BoolPos, BoolNeg, FunPos, FunNeg, AllNeg, Dec, TwoPlaces, Close, Mat, Con, OfPredicate, Cho, Des, RuleTree, at_one, at_two, with_instance, with_predicate, with_cut, LineTree, RefutationTree}
+use Rattle.written_refutation.specs.Trees as tree
+use Rattle.written_refutation.specs.Named.{Names}
 
 -- The first place of the name in the list. A name that isn't there gets the length of the list, a place at which nothing stands.
 abbrev pub place_of : List (List ℕ) → List ℕ → ℕ

@@ -4,14 +4,14 @@ ghost use Rattle.std.specs.Prelude.{◌≡◌, ℕ, ◌+◌, ◌^◌, ◌<◌, �
 ghost use Rattle.std.specs.List.{AllByRecursion};
 ghost use Rattle.stt_core.specs.TypedProblem.{IsTyped};
 ghost use Rattle.stt_tableau.specs.declared.refutation.Why.TheVariants.{Defs};
-ghost use Rattle.refute_text.specs.Named.{names_of, name_at};
-ghost use Rattle.refute_text.specs.TextView.{IsNumbered};
+ghost use Rattle.written_refutation.specs.Named.{names_of, name_at};
+ghost use Rattle.written_refutation.specs.TextView.{IsNumbered};
 ghost use Rattle.refute_check.specs.Acceptance.{taken_texts, DifferFirst};
 ghost use Rattle.refute_check.specs.Refusal.{IfLine};
 
 use crate::refusal::CheckRefused;
 use delta_defs::{NameIds, taken};
-use refute_text::{RefutationText, TextNames};
+use written_refutation::{RefutationText, TextNames};
 use std::alloc::Global;
 use stt_core::{Problem, Signature};
 use stt_tableau::Why;

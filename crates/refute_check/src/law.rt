@@ -8,7 +8,7 @@ ghost use Rattle.stt_core.specs.Meets.{MeetsProblem};
 ghost use Rattle.stt_tableau.specs.Start.{start};
 ghost use Rattle.stt_tableau.specs.declared.refutation.Why.{Why};
 ghost use Rattle.delta_defs.specs.Unfolding.{unfolded_problem};
-ghost use Rattle.refute_text.specs.Trees.{RefutationTree};
+ghost use Rattle.written_refutation.specs.Trees.{RefutationTree};
 ghost use Rattle.refute_check.specs.Acceptance.{taken_texts, NamesDefinitions, refuted_problem, IsAcceptedFor, TextFailsAt};
 
 use stt_core::Problem;

@@ -3,12 +3,12 @@
 ghost use Rattle.std.specs.Prelude.{◌≡◌, ◌+◌, IfOk, map};
 ghost use Rattle.stt_core.specs.Lambda.{lambdas};
 ghost use Rattle.stt_core.specs.View.{the_type as plain_type, the_head as plain_head};
-ghost use Rattle.refute_text.specs.View.{the_type};
-ghost use Rattle.refute_text.specs.TreeView.{the_head};
+ghost use Rattle.written_refutation.specs.View.{the_type};
+ghost use Rattle.written_refutation.specs.TreeView.{the_head};
 ghost use Rattle.refute_check.specs.Numbered.{numbered_type, numbered_term};
 
 use crate::numbering::Numbering;
-use refute_text::{TextHead, TextNode, TextTerm, TextTerms, TextTy};
+use written_refutation::{TextHead, TextNode, TextTerm, TextTerms, TextTy};
 use std::alloc::{AllocError, Global};
 use stt_core::{Head, Nf, Nfs, Ty, Types};
 

@@ -1,7 +1,7 @@
 //! The numbers of the names that a signature declares.
 
 ghost use Rattle.std.specs.Prelude.{◌≡◌, List, ℕ, IfOk, OnOk, unwrap_or, map};
-ghost use Rattle.refute_text.specs.Named.{names_of};
+ghost use Rattle.written_refutation.specs.Named.{names_of};
 ghost use Rattle.refute_check.specs.Numbered.{place_of};
 ghost use Rattle.refute_check.specs.Means.Places.{noted, noted_next, HasPlaces};
 
@@ -63,7 +63,7 @@ pub(crate) struct Numbering<'a> {
 
 impl<'a> Model for Numbering<'a> {
     ghost use Rattle.std.specs.Prelude.{map};
-    ghost use Rattle.refute_text.specs.Named.{Names, names_of};
+    ghost use Rattle.written_refutation.specs.Named.{Names, names_of};
     ghost use Rattle.refute_check.specs.Means.Places.{HasPlaces};
 
     ghost Value = { Names };

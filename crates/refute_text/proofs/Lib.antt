@@ -1,4 +1,29 @@
-mod Lists
-mod Writes
-mod TermTexts
-mod LineTexts
+pub mod Numbers
+pub mod Readers
+pub mod Inversions
+pub mod NameReads
+pub mod TypeReads
+pub mod TreeTexts
+pub mod TermReads
+pub mod LiteralReads
+pub mod RuleReads
+pub mod LineReads
+pub mod Repeats
+pub mod Negations
+pub mod Answers
+pub mod NameBack
+pub mod TypeBack
+pub mod RepeatsBack
+pub mod TermBack
+pub mod LiteralBack
+pub mod LineBack
+pub mod DefinitionLines
+pub mod LineFeeds
+pub mod Fronts
+pub mod TextLaws
+pub mod ReadingLaws
+pub mod Passes
+pub mod Grows
+pub mod Bodies
+pub mod Printable
+pub mod BackLaws

@@ -1,11 +1,3 @@
-pub mod Letters
-pub mod Trees
-pub mod Text
-pub mod Named
-pub mod Limits
-pub mod Sizes
-pub mod View
-pub mod TreeView
-pub mod LineView
-pub mod TextView
+pub mod Reading
+pub mod Answered
 pub mod Means

@@ -1,16 +1,16 @@
-//! Refutations as they are written: their trees, and the text of one, written.
+//! The reading of refutations' texts.
 #![tactic(auto)]
 
-mod letters;
-mod line;
-mod tree;
-mod write_line;
-mod write_name;
-mod write_rule;
-mod write_term;
-mod write_whole;
+mod law;
+mod lines;
+mod read_line;
+mod read_name;
+mod read_rule;
+mod read_term;
+mod read_type;
+mod refusal;
+mod text;
 
-pub use letters::{is_plain, is_word_byte};
-pub use line::{RefutationText, TextLine, TextLines, TextLit, TextLits, TextNames, TextRule};
-pub use tree::{TextHead, TextNode, TextTerm, TextTerms, TextTy};
-pub use write_whole::write_text;
+pub use law::{one_reading, one_refutation, texts_read_back};
+pub use refusal::TextRefused;
+pub use text::read_text;

@@ -2,13 +2,13 @@
 use Rattle.std.proofs.Common.{◌≡◌, ℕ, true, false, List, IfSome, Some, Err, refl, sym, subst, ◌∙◌}
 use Rattle.stt_core.specs.PlainProblem.{PlainProblem}
 use Rattle.stt_tableau.specs.declared.refutation.Why.{Why}
-use Rattle.refute_text.specs.Trees.{RefutationTree}
-use Rattle.refute_read.specs.Answered.{reading_of}
-use Rattle.refute_read.specs.Reading.{lines_of, Reading, read, bad_line, no_start, no_end, Reads}
-use Rattle.refute_read.proofs.ReadingLaws.{reading-same}
-use Rattle.refute_read.specs.declared.refusal.TextRefused.{TextRefused}
-use Rattle.refute_read.specs.declared.refusal.TextRefused.TheVariants as unread
-use Rattle.refute_read.specs.declared.refusal.TextRefused.TheVariants.{BadLine, NoStart, NoEnd}
+use Rattle.written_refutation.specs.Trees.{RefutationTree}
+use Rattle.refute_text.specs.Answered.{reading_of}
+use Rattle.refute_text.specs.Reading.{lines_of, Reading, read, bad_line, no_start, no_end, Reads}
+use Rattle.refute_text.proofs.ReadingLaws.{reading-same}
+use Rattle.refute_text.specs.declared.refusal.TextRefused.{TextRefused}
+use Rattle.refute_text.specs.declared.refusal.TextRefused.TheVariants as unread
+use Rattle.refute_text.specs.declared.refusal.TextRefused.TheVariants.{BadLine, NoStart, NoEnd}
 use Rattle.refute_check.specs.Refusal.{IfLine}
 use Rattle.refute_check.specs.Acceptance.{IsAcceptedFor, TextFailsAt}
 use Rattle.refute_check.proofs.AcceptanceLaws.{one_text_failure, fails_not_accepted}

@@ -13,7 +13,7 @@ use Rattle.stt_tableau.specs.declared.refutation.RuleUse.{RuleUse}
 use Rattle.stt_tableau.specs.declared.refutation.RuleUse.TheVariants as rule
 use Rattle.stt_tableau.specs.declared.refutation.Line.{Line}
 use Rattle.stt_tableau.specs.declared.refutation.Refutation.{Refutation}
-use Rattle.refute_text.specs.Named.{Names, HasTypeNames, HasConstantNames, HasNames, HaveNames, HasRuleNames, RowsHaveNames, LinesHaveNames, IsNamed}
+use Rattle.written_refutation.specs.Named.{Names, HasTypeNames, HasConstantNames, HasNames, HaveNames, HasRuleNames, RowsHaveNames, LinesHaveNames, IsNamed}
 
 -- names for all that is declared
 pub record NamesAll (names : Names) (scope : Scope) : Type 0 where

@@ -5,7 +5,7 @@ use Rattle.std.specs.Option.{option_map_or}
 use Rattle.std.specs.Fmt.{digits, digits_onto, digit_glyph}
 use Rattle.std.proofs.lemmas.Bool.{and_parts, eqb-true}
 use Rattle.std.proofs.lemmas.Bool.Decides.{nat_tests}
-use Rattle.refute_read.specs.Reading.{is_one_line}
+use Rattle.refute_text.specs.Reading.{is_one_line}
 use Rattle.cli_words.specs.Names.{is_control, is_file_name}
 use Rattle.cli_words.specs.Requests.{Request, prove, refutation, generated, asked_by}
 use Rattle.cli_words.proofs.RequestLaws.{IsNamed, asked_by-named}

@@ -3,11 +3,11 @@ use Rattle.std.proofs.Common.{◌≡◌, ℕ, ◌+◌, Bool, true, false, ◌||�
 use Rattle.stt_core.specs.PlainProblem.{PlainProblem}
 use Rattle.delta_defs.specs.Unfolding.{taken_names}
 use Rattle.mode_file.specs.declared.Mode.{Mode}
-use Rattle.refute_text.specs.Text.{text_lines, as_bytes}
-use Rattle.refute_text.specs.Named.{name_at, named_refutation}
-use Rattle.refute_read.specs.Reading.{lines_of, start_mark, end_mark, is_start, is_one_line, read, Reads, TextStands}
-use Rattle.refute_read.proofs.ReadingLaws.{reading-same}
-use Rattle.refute_read.proofs.BackLaws.{reads_back}
+use Rattle.written_refutation.specs.Text.{text_lines, as_bytes}
+use Rattle.written_refutation.specs.Named.{name_at, named_refutation}
+use Rattle.refute_text.specs.Reading.{lines_of, start_mark, end_mark, is_start, is_one_line, read, Reads, TextStands}
+use Rattle.refute_text.proofs.ReadingLaws.{reading-same}
+use Rattle.refute_text.proofs.BackLaws.{reads_back}
 use Rattle.szs_report.specs.Report.{proof_report, report_of}
 use Rattle.szs_report.specs.declared.answer.Answer.TheVariants.{Proved}
 use Rattle.szs_report.specs.declared.answer.Claim.{Claim}

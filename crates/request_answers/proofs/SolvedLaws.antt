@@ -7,8 +7,8 @@ use Rattle.stt_core.specs.PlainProblem.{PlainProblem}
 use Rattle.stt_core.specs.Declarations.{scope_of}
 use Rattle.stt_tableau.specs.Start.{start}
 use Rattle.stt_tableau.specs.declared.refutation.Refutation.{Refutation}
-use Rattle.refute_text.specs.Text.{text_lines, as_bytes}
-use Rattle.refute_text.specs.Named.{named_refutation, IsNamed}
+use Rattle.written_refutation.specs.Text.{text_lines, as_bytes}
+use Rattle.written_refutation.specs.Named.{named_refutation, IsNamed}
 use Rattle.mode_file.specs.declared.Mode.{Mode}
 use Rattle.delta_defs.specs.Unfolding.{taken_names, unfolded_problem}
 use Rattle.delta_defs.specs.Laws.{AreDeclared}
@@ -18,7 +18,7 @@ use Rattle.tableau_run.specs.Ended.{IsRefuted}
 use Rattle.request_answers.specs.Names.{ArePrintable, names_in, HasTexts}
 use Rattle.request_answers.specs.Solved.{IsProofOf}
 use Rattle.thf_parse.specs.Printable.{IsPrintable}
-use Rattle.refute_text.specs.Letters.{is_printable, is_name}
+use Rattle.written_refutation.specs.Letters.{is_printable, is_name}
 use Rattle.request_answers.proofs.NameLaws.{NamesAll, accepted_named}
 use Rattle.request_answers.proofs.Numbering.{declared_placed, refutation-same}
 use Rattle.request_answers.proofs.Written.{AreWords, has_text}

@@ -5,12 +5,12 @@ use Rattle.delta_defs.specs.Unfolding.{taken_names}
 use Rattle.stt_tableau.specs.declared.refutation.Why.{Why}
 use Rattle.stt_tableau.specs.declared.refutation.Why.TheVariants.{Form, Start, End}
 use Rattle.stt_tableau.specs.declared.refutation.Refutation.{Refutation}
-use Rattle.refute_text.specs.Trees.{RefutationTree}
-use Rattle.refute_text.specs.Named.{named_refutation}
-use Rattle.refute_read.specs.Reading.{lines_of, Reading, read, bad_line, no_start, no_end, Reads}
-use Rattle.refute_read.specs.declared.refusal.TextRefused.{TextRefused}
-use Rattle.refute_read.specs.declared.refusal.TextRefused.TheVariants as unread
-use Rattle.refute_read.specs.declared.refusal.TextRefused.TheVariants.{BadLine, NoStart, NoEnd}
+use Rattle.written_refutation.specs.Trees.{RefutationTree}
+use Rattle.written_refutation.specs.Named.{named_refutation}
+use Rattle.refute_text.specs.Reading.{lines_of, Reading, read, bad_line, no_start, no_end, Reads}
+use Rattle.refute_text.specs.declared.refusal.TextRefused.{TextRefused}
+use Rattle.refute_text.specs.declared.refusal.TextRefused.TheVariants as unread
+use Rattle.refute_text.specs.declared.refusal.TextRefused.TheVariants.{BadLine, NoStart, NoEnd}
 use Rattle.refute_check.specs.Numbered.{numbered_refutation}
 use Rattle.refute_check.specs.Acceptance.{IsAcceptedFor, TextFailsAt}
 use Rattle.refute_check.specs.declared.refusal.CheckRefused.{CheckRefused}

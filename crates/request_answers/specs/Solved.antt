@@ -8,9 +8,9 @@ use Rattle.search_run.specs.Result.{IsExhausted, IsStopped}
 use Rattle.mode_file.specs.declared.Mode.{Mode}
 use Rattle.delta_defs.specs.Unfolding.{taken_names, unfolded_problem}
 use Rattle.tableau_run.specs.Ended.{setting_for, IsRefuted, IsSpent}
-use Rattle.refute_text.specs.Text.{text_lines, as_bytes}
-use Rattle.refute_text.specs.Named.{named_refutation}
-use Rattle.refute_read.specs.Reading.{HasText}
+use Rattle.written_refutation.specs.Text.{text_lines, as_bytes}
+use Rattle.written_refutation.specs.Named.{named_refutation}
+use Rattle.refute_text.specs.Reading.{HasText}
 use Rattle.refute_check.specs.Numbered.{numbered_refutation}
 use Rattle.szs_report.specs.declared.answer.Answer.{Answer}
 use Rattle.szs_report.specs.declared.answer.Answer.TheVariants.{Proved, DemoDone, GaveUp, CommandLimit, ConflictLimit, Memory}

@@ -9,7 +9,7 @@ ghost use Rattle.szs_report.specs.declared.answer.NamedFile.TheVariants.{Check};
 
 use outside::{Bytes, Files, ReadRefused, read_whole};
 use refute_check::{CheckRefused, check_refutation};
-use refute_read::{TextRefused, read_text};
+use refute_text::{TextRefused, read_text};
 use std::alloc::Global;
 use stt_core::Problem;
 use stt_tableau::Why;

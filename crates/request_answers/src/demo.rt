@@ -1,7 +1,7 @@
 //! Generated problems: each is made, proved, and its report read back and checked, all in memory.
 
 ghost use Rattle.std.specs.Prelude.{◌≡◌, ◌≤◌, ◌<◌, ◌++◌, ℕ, Bool, true, false, List, Option, codes, decimal, string_bytes, IfOk};
-ghost use Rattle.refute_read.specs.Reading.{is_one_line};
+ghost use Rattle.refute_text.specs.Reading.{is_one_line};
 ghost use Rattle.problem_gen.specs.Chain.{text};
 ghost use Rattle.cli_words.specs.Requests.{generated};
 ghost use Rattle.mode_file.specs.Given.{nothing, mode_of};

@@ -1,11 +1,11 @@
 //! The text of a refutation.
 
 ghost use Rattle.std.specs.Prelude.{◌≡◌, IfOk};
-ghost use Rattle.refute_text.specs.Text.{text_lines, as_bytes};
-ghost use Rattle.refute_text.specs.Named.{names_of, named_refutation, IsNamed, ArePlaces};
+ghost use Rattle.written_refutation.specs.Text.{text_lines, as_bytes};
+ghost use Rattle.written_refutation.specs.Named.{names_of, named_refutation, IsNamed, ArePlaces};
 
 use outside::{Bytes, Failed, GrowSink};
-use refute_text::write_text;
+use written_refutation::write_text;
 use std::alloc::{AllocError, Global};
 use stt_core::Signature;
 use stt_tableau::Refutation;

@@ -4,7 +4,7 @@ use Rattle.stt_core.specs.TypedName.{TypedName}
 use Rattle.stt_tableau.specs.Literals.{Literal}
 use Rattle.stt_tableau.specs.Accepted.{IsAccepted}
 use Rattle.stt_tableau.specs.declared.refutation.Refutation.{Refutation}
-use Rattle.refute_text.specs.Named.{names_of, IsNamed}
+use Rattle.written_refutation.specs.Named.{names_of, IsNamed}
 use Rattle.request_answers.proofs.NameLaws.{accepted_named}
 
 same_length : (cs : List TypedName) → length (map (λ c. c.type) cs) ≡ length (map (λ c. c.name) cs)

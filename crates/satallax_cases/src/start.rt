@@ -2,7 +2,7 @@
 
 use anyhow::{Context, bail};
 use outside::{Failed, Files, GrowSink};
-use refute_text::write_text;
+use written_refutation::write_text;
 use std::alloc::{AllocError, Global};
 use std::str;
 use stt_core::{Head, Nf, Nfs, Signature, Types};

@@ -12,8 +12,8 @@ use Rattle.type_check.specs.Statements.{IllInFile, problem_of}
 use Rattle.type_check.proofs.TypedProblems.{problem_of-typed}
 use Rattle.mode_file.specs.declared.Mode.{Mode}
 use Rattle.cli_words.specs.Requests.{Request, prove, refutation, generated, asked_by}
-use Rattle.refute_text.specs.Trees.{RefutationTree}
-use Rattle.refute_text.specs.Named.{named_refutation}
+use Rattle.written_refutation.specs.Trees.{RefutationTree}
+use Rattle.written_refutation.specs.Named.{named_refutation}
 use Rattle.refute_check.specs.Acceptance.{IsAcceptedFor}
 use Rattle.refute_check.proofs.AcceptanceLaws.{accepted_refuted}
 use Rattle.szs_report.specs.Outcomes.{claim_outcome, outcome_of}

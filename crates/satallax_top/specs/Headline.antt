@@ -13,8 +13,8 @@ use Rattle.mode_file.specs.declared.Mode.{Mode}
 use Rattle.delta_defs.specs.Unfolding.{taken_names, unfolded_problem}
 use Rattle.cli_words.specs.Requests.{prove, asked_by}
 use Rattle.tableau_run.specs.Ended.{IsRefuted}
-use Rattle.refute_text.specs.Text.{text_lines, as_bytes}
-use Rattle.refute_text.specs.Named.{named_refutation}
+use Rattle.written_refutation.specs.Text.{text_lines, as_bytes}
+use Rattle.written_refutation.specs.Named.{named_refutation}
 use Rattle.szs_report.specs.Outcomes.{claim_outcome, outcome_of}
 use Rattle.szs_report.specs.Report.{report_of}
 use Rattle.szs_report.specs.declared.answer.Answer.{Answer}

@@ -5,7 +5,7 @@ ghost use Rattle.stt_core.specs.TypedProblem.{IsTyped};
 use anyhow::bail;
 use mode_file::Mode;
 use outside::{Failed, GrowSink};
-use refute_text::write_text;
+use written_refutation::write_text;
 use std::alloc::{AllocError, Global};
 use std::str;
 use stt_core::{Problem, Signature};

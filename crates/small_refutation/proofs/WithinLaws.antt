@@ -9,7 +9,7 @@ use Rattle.stt_core.specs.View.{the_head}
 use Rattle.stt_core.specs.declared.nf.Head.{Head}
 use Rattle.stt_core.proofs.SpineLaws.{IsAtom}
 use Rattle.stt_core.proofs.HeadLaws.{atom_head}
-use Rattle.refute_text.specs.Sizes.{nesting, type_depth, type_limit}
+use Rattle.written_refutation.specs.Sizes.{nesting, type_depth, type_limit}
 use Rattle.small_refutation.specs.Means.Within.{IsWithin, IsArgument, AreWithin}
 
 depth-lambdas : (bs : List SimpleType) (t : Lambda) → depth (lambdas bs t) ≡ length bs + depth t

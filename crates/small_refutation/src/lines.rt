@@ -1,8 +1,8 @@
 //! Lines and rows that are small.
 ghost use Rattle.std.specs.Prelude.{◌≤◌, ◌<◌, ◌^◌, length, IsTrue, ◌↔◌};
 ghost use Rattle.std.specs.List.{AllByRecursion};
-ghost use Rattle.refute_text.specs.Limits.{IsChild};
-ghost use Rattle.refute_text.specs.Sizes.{IsSmallTerm, IsSmallRule, IsSmallLine, AreSmallLines, IsSmall};
+ghost use Rattle.written_refutation.specs.Limits.{IsChild};
+ghost use Rattle.written_refutation.specs.Sizes.{IsSmallTerm, IsSmallRule, IsSmallLine, AreSmallLines, IsSmall};
 ghost use Rattle.small_refutation.specs.Means.Within.{AreSmallRows};
 
 use crate::terms::{are_small_literals, is_small_term};

@@ -1,6 +1,6 @@
 //! Terms that nest no deeper than they may.
 ghost use Rattle.std.specs.Prelude.{IsTrue, ◌↔◌};
-ghost use Rattle.refute_text.specs.Sizes.{IsSmallTerm, AreSmallLiterals};
+ghost use Rattle.written_refutation.specs.Sizes.{IsSmallTerm, AreSmallLiterals};
 ghost use Rattle.small_refutation.specs.Means.Within.{IsWithin};
 
 use crate::types::{are_small_types, is_small_head};

@@ -2,7 +2,7 @@
 ghost use Rattle.std.specs.Prelude.{◌≤◌, IsTrue, ◌↔◌};
 ghost use Rattle.std.specs.List.{AllByRecursion};
 ghost use Rattle.stt_core.specs.View.{the_type, the_head};
-ghost use Rattle.refute_text.specs.Sizes.{nesting, type_depth, type_limit};
+ghost use Rattle.written_refutation.specs.Sizes.{nesting, type_depth, type_limit};
 
 use stt_core::{Head, Ty, Types};
 

@@ -1,7 +1,7 @@
 -- The pieces in which a report is written.
 use Rattle.std.proofs.Common.{◌≡◌, ℕ, List, [], ◌∷◌, ◌++◌, codes, refl, ap, ◌∙◌, append_assoc}
-use Rattle.refute_text.specs.Text.{as_bytes}
-use Rattle.refute_read.specs.Reading.{start_mark, end_mark}
+use Rattle.written_refutation.specs.Text.{as_bytes}
+use Rattle.refute_text.specs.Reading.{start_mark, end_mark}
 use Rattle.szs_report.specs.Report.{headed, counted_report, demo_report, refused_report}
 
 -- lines, and what follows them

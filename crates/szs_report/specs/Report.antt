@@ -2,10 +2,10 @@
 use Rattle.std.specs.Prelude.{ℕ, List, [], ◌∷◌, ◌++◌, codes, decimal, slice_get, unwrap_or}
 use Rattle.stt_tableau.specs.declared.refutation.Why.{Why}
 use Rattle.stt_tableau.specs.declared.refutation.Why.TheVariants as cause
-use Rattle.refute_text.specs.Text.{as_bytes}
+use Rattle.written_refutation.specs.Text.{as_bytes}
 use Rattle.type_check.specs.declared.refusal.IllWhy.{IllWhy}
 use Rattle.type_check.specs.declared.refusal.IllWhy.TheVariants.{Unknown, Twice, Mismatch, NotFormula, SecondConjecture, RoleUnknown}
-use Rattle.refute_read.specs.Reading.{start_mark, end_mark}
+use Rattle.refute_text.specs.Reading.{start_mark, end_mark}
 use Rattle.szs_report.specs.declared.answer.Answer.{Answer}
 use Rattle.szs_report.specs.declared.answer.Answer.TheVariants.{Proved, GaveUp, CommandLimit, ConflictLimit, DemoDone, Accepted, Refused, SyntaxAt, TypeAt, IncludeAt, ModeAt, Words, TooLong, ReadFault, Memory, UnreadWords}
 use Rattle.szs_report.specs.declared.answer.Claim.{Claim}

@@ -3,7 +3,7 @@
 ghost use Rattle.std.specs.Prelude.{◌≡◌, ◌≤◌, ◌++◌, [], ◌∷◌, OnOk, OnErr, IsTrue, codes, decimal};
 ghost use Rattle.outside.specs.Causes.{Rose};
 ghost use Rattle.outside.specs.Prefix.{AppendsProperly};
-ghost use Rattle.refute_text.specs.Text.{as_bytes};
+ghost use Rattle.written_refutation.specs.Text.{as_bytes};
 ghost use Rattle.szs_report.specs.Report.{headed, counted_report, proof_report, claim_status, file_name, place_in, ill_word, include_word, mode_word, why_word, refused_report, refused_in, demo_report, line_why, report_of};
 
 use crate::answer::{Answer, Claim, NamedFile};

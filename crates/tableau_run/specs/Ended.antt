@@ -18,7 +18,7 @@ use Rattle.search_run.specs.State.{State, Setting}
 use Rattle.search_run.specs.After.{after}
 use Rattle.search_run.specs.Result.{GoesOnUntil, IsProved, IsExhausted, IsStopped}
 use Rattle.rebuilt_refutation.specs.Trimmed.{IsEachReached}
-use Rattle.refute_text.specs.Sizes.{IsSmall}
+use Rattle.written_refutation.specs.Sizes.{IsSmall}
 use Rattle.mode_file.specs.declared.Mode.{Mode}
 use Rattle.search_tables.specs.Delays.{the_mode}
 use Rattle.tableau_run.specs.Origin.{EachComesFrom, AreRefutedShortly, AreRefutedWithin, ReachesFalse}

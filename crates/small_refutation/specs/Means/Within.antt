@@ -5,7 +5,7 @@ use Rattle.stt_core.specs.SimpleType.{SimpleType}
 use Rattle.stt_core.specs.Lambda.{Lambda}
 use Rattle.stt_core.specs.Depth.{depth}
 use Rattle.stt_tableau.specs.Witnesses.{Row}
-use Rattle.refute_text.specs.Sizes.{nesting, type_depth, type_limit, IsSmallTerm}
+use Rattle.written_refutation.specs.Sizes.{nesting, type_depth, type_limit, IsSmallTerm}
 
 -- the term nests no deeper than so much, and its types no deeper than they may
 abbrev pub IsWithin : ℕ → Lambda → Type 0

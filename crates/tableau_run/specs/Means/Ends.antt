@@ -9,7 +9,7 @@ use Rattle.search_run.specs.State.{Setting}
 use Rattle.search_run.specs.Unsatisfiable.{Clause}
 use Rattle.search_run.specs.Result.{GoesOn, IsProved, IsExhausted, IsStopped}
 use Rattle.rebuilt_refutation.specs.Trimmed.{IsEachReached}
-use Rattle.refute_text.specs.Sizes.{IsSmall}
+use Rattle.written_refutation.specs.Sizes.{IsSmall}
 use Rattle.command_queue.specs.Queue.{Queue}
 use Rattle.search_tables.specs.declared.command.Planned.{Planned}
 use Rattle.search_tables.specs.declared.command.Delays.{Delays}

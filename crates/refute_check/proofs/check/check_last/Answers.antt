@@ -3,7 +3,7 @@ use Rattle.std.proofs.lemmas.List.{length-map}
 use Rattle.stt_tableau.specs.Start.{start}
 use Rattle.stt_tableau.proofs.ListLaws.{untrue}
 use Rattle.stt_tableau.proofs.FailureLaws.{element, last_refused, none_refused, ends_within}
-use Rattle.refute_text.specs.TextView.{the_line, the_text}
+use Rattle.written_refutation.specs.TextView.{the_line, the_text}
 use Rattle.refute_check.specs.Numbered.{numbered_row, numbered_line, numbered_refutation}
 use Rattle.refute_check.proofs.check.check_last.Goals as goal
 

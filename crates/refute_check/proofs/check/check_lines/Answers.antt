@@ -5,7 +5,7 @@ use Rattle.stt_core.proofs.ListLaws.{take_got}
 use Rattle.stt_tableau.specs.Witnesses.{with_rows}
 use Rattle.stt_tableau.specs.Means.Answers.{LineAnswer}
 use Rattle.stt_tableau.proofs.FailureLaws.{line_refused, lines-more}
-use Rattle.refute_text.specs.TextView.{the_line, the_text}
+use Rattle.written_refutation.specs.TextView.{the_line, the_text}
 use Rattle.refute_check.specs.Numbered.{numbered_row, numbered_line, numbered_refutation}
 use Rattle.refute_check.specs.Means.Branches.{AreBranches}
 use Rattle.stt_core.proofs.ListLaws.{mapped_get}

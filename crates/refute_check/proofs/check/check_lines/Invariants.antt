@@ -2,7 +2,7 @@ use Rattle.std.proofs.Common.{[], map, take}
 use Rattle.stt_core.specs.ScopeView.{the_scope}
 use Rattle.stt_tableau.specs.Witnesses.{with_rows}
 use Rattle.stt_tableau.specs.Accepted.{AreRightLines}
-use Rattle.refute_text.specs.TextView.{the_line}
+use Rattle.written_refutation.specs.TextView.{the_line}
 use Rattle.refute_check.specs.Numbered.{numbered_row, numbered_line}
 use Rattle.refute_check.specs.Means.Branches.{AreBranches}
 use Rattle.refute_check.specs.Means.Lines.{KeepsLines}

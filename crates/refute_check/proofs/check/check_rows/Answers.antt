@@ -3,7 +3,7 @@ use Rattle.stt_core.specs.ScopeView.{the_scope}
 use Rattle.stt_core.proofs.ListLaws.{take_got}
 use Rattle.stt_tableau.specs.Means.Answers.{RowAnswer}
 use Rattle.stt_tableau.proofs.FailureLaws.{row_refused, table-more}
-use Rattle.refute_text.specs.TextView.{the_text}
+use Rattle.written_refutation.specs.TextView.{the_text}
 use Rattle.refute_check.specs.Numbered.{numbered_row, numbered_refutation}
 use Rattle.stt_core.proofs.ListLaws.{mapped_get}
 use Rattle.refute_check.proofs.check.check_rows.Goals as goal

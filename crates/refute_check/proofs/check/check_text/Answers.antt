@@ -2,8 +2,8 @@ use Rattle.std.proofs.Common.{OnOk, IfErr, subst}
 use Rattle.stt_tableau.specs.Start.{start}
 use Rattle.stt_tableau.specs.Accepted.{IsAccepted, FirstFailure}
 use Rattle.stt_tableau.specs.Refused.{IfRefused}
-use Rattle.refute_text.specs.TextView.{the_text}
-use Rattle.refute_text.specs.Named.{names_of}
+use Rattle.written_refutation.specs.TextView.{the_text}
+use Rattle.written_refutation.specs.Named.{names_of}
 use Rattle.refute_check.specs.Numbered.{numbered_refutation}
 use Rattle.refute_check.proofs.check.check_text.Goals as goal
 use Rattle.stt_core.specs.Declarations.{scope_of}

@@ -1,7 +1,7 @@
 use Rattle.std.proofs.Common.{ℕ, List, Option, Some, Err, true, ◌≡◌, refl, sym, ap, subst, ◌∙◌, arith}
 use Rattle.mode_file.specs.Given.{nothing, mode_of}
 use Rattle.cli_words.specs.Requests.{generated}
-use Rattle.refute_read.specs.Reading.{is_one_line}
+use Rattle.refute_text.specs.Reading.{is_one_line}
 use Rattle.request_answers.specs.Requested.{problem_name}
 use Rattle.request_answers.specs.Files.{OfFiles, Statements}
 use Rattle.request_answers.specs.Solved.{IsDemoed}

@@ -1,6 +1,6 @@
 use Rattle.std.proofs.Common.{[], length, map, refl, sym, ◌∙◌}
 use Rattle.std.proofs.lemmas.List.{length-map}
-use Rattle.refute_text.specs.Named.{names_of}
+use Rattle.written_refutation.specs.Named.{names_of}
 use Rattle.request_answers.proofs.NameLaws.{accepted_named}
 use Rattle.search_rows.proofs.run.write.Goals as goal
 

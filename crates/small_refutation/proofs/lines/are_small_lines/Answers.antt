@@ -1,4 +1,4 @@
-use Rattle.refute_text.specs.Sizes.{IsSmallLine}
+use Rattle.written_refutation.specs.Sizes.{IsSmallLine}
 use Rattle.small_refutation.proofs.AllLaws.{all-more}
 use Rattle.small_refutation.proofs.lines.are_small_lines.Goals as goal
 

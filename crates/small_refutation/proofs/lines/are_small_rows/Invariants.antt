@@ -1,7 +1,7 @@
 use Rattle.std.proofs.Common.{take}
 use Rattle.std.specs.List.{AllByRecursion}
 use Rattle.stt_tableau.specs.Witnesses.{Row}
-use Rattle.refute_text.specs.Sizes.{IsSmallTerm}
+use Rattle.written_refutation.specs.Sizes.{IsSmallTerm}
 use Rattle.small_refutation.proofs.lines.are_small_rows.Given as goal
 
 abbrev pub invariant-loop-i : goal.invariant-loop-i

@@ -1,6 +1,6 @@
 use Rattle.std.proofs.Common.{subst}
 use Rattle.stt_tableau.specs.Literals.{Literal}
-use Rattle.refute_text.specs.Sizes.{IsSmallTerm}
+use Rattle.written_refutation.specs.Sizes.{IsSmallTerm}
 use Rattle.small_refutation.proofs.AllLaws.{all-more}
 use Rattle.small_refutation.proofs.terms.are_small_literals.Goals as goal
 

@@ -1,6 +1,6 @@
 use Rattle.std.proofs.Common.{◌≤◌, take}
 use Rattle.std.specs.List.{AllByRecursion}
-use Rattle.refute_text.specs.Sizes.{nesting, type_limit}
+use Rattle.written_refutation.specs.Sizes.{nesting, type_limit}
 use Rattle.small_refutation.proofs.types.are_small_types.Given as goal
 
 abbrev pub invariant-loop-i : goal.invariant-loop-i

@@ -1,0 +1,75 @@
+//! The rows of a witness table.
+
+ghost use Rattle.std.specs.Prelude.{◌≡◌, ◌↔◌, ◌++◌, [], ◌∷◌, None, IsTrue, OnOk, IfOk};
+ghost use Rattle.stt_tableau.specs.Witnesses.{IsTypedRow, IsTwice};
+ghost use Rattle.term_bank.specs.Content.{HasTerm};
+ghost use Rattle.witness_names.specs.Rows.{row_of};
+ghost use Rattle.stt_tableau.specs.Means.Answers.{RowAnswer};
+ghost use Rattle.refute_check.specs.Numbered.{numbered_row};
+ghost use Rattle.refute_check.specs.Means.Branches.{Grow};
+ghost use Rattle.refute_check.specs.Means.Shared.{declared_in, the_atoms, the_rows, IsGood};
+
+use crate::number_line::number_row;
+use crate::numbering::Numbering;
+use crate::shared::Shared;
+use written_refutation::TextTerm;
+use std::alloc::{AllocError, Global};
+use stt_tableau::{Why, WitnessRow, is_typed_row};
+use term_bank::{Id, equal_ids_for_equal_terms};
+
+impl Shared {
+    fn is_row(&self, alloc: Global, row: &WitnessRow) -> Result<bool, AllocError>
+        requires good { IsGood self.now }
+        ensures { IfOk result (λ b. IsTrue b ↔ IsTypedRow (declared_in self.now) (the_rows self.now) row.now) }
+    {
+        Ok(is_typed_row(alloc, self.bank.sig(), &self.types, row)?)
+    }
+
+    /// Adds a witness for a predicate that has none, by its row.
+    fn push_row(&mut self, id: Id, row: WitnessRow) -> Result<(), AllocError>
+        requires good { IsGood self.old }
+        requires typed { IsTypedRow (declared_in self.old) (the_rows self.old) row }
+        requires once { IsTwice (the_rows self.old) row → ⊥ }
+        requires place { HasTerm self.old.bank id row.predicate }
+        requires first { row_of row.predicate ≡ row }
+        ensures rows { OnOk result (the_rows self.new ≡ the_rows self.old ++ row ∷ []) }
+        ensures atoms { OnOk result (the_atoms self.new ≡ the_atoms self.old) }
+        ensures declared { OnOk result (declared_in self.new ≡ declared_in self.old) }
+        ensures good { OnOk result (IsGood self.new) }
+    {
+        if self.witnesses.len() >= u32::MAX - 1 {
+            return Err(AllocError);
+        }
+        self.witnesses.fresh(&self.bank, id)?;
+        self.bank.add_witness(&row.ty)?;
+        self.types.push(row.ty)?;
+        Ok(())
+    }
+
+    /// Adds the witness of a text's row, or answers why the row fails.
+    pub(crate) fn add_row(
+        &mut self,
+        alloc: Global,
+        numbering: &Numbering<'_>,
+        predicate: &TextTerm,
+    ) -> Result<Option<Why>, AllocError>
+        requires good { IsGood self.old }
+        ensures answer { IfOk result (RowAnswer (declared_in self.old) (the_rows self.old) (numbered_row numbering.now predicate.now)) }
+        ensures rows { IfOk result (λ why. why ≡ None → the_rows self.new ≡ the_rows self.old ++ numbered_row numbering.now predicate.now ∷ []) }
+        ensures atoms { IfOk result (λ why. why ≡ None → Grow (the_atoms self.old) (the_atoms self.new)) }
+        ensures declared { IfOk result (λ why. why ≡ None → declared_in self.new ≡ declared_in self.old) }
+        ensures good { IfOk result (λ why. why ≡ None → IsGood self.new) }
+    {
+        let row = number_row(alloc, numbering, predicate)?;
+        if !self.is_row(alloc, &row)? {
+            return Ok(Some(Why::Typing));
+        }
+        let id = self.bank.import(&row.predicate)?;
+        equal_ids_for_equal_terms(&self.bank);
+        if self.witnesses.find(id).is_some() {
+            return Ok(Some(Why::Twice));
+        }
+        self.push_row(id, row)?;
+        Ok(None)
+    }
+}

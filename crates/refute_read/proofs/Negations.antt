@@ -1,9 +1,0 @@
--- The head of a term with arguments.
-use Rattle.std.proofs.Common.{◌≡◌, List, [], ◌∷◌, refl}
-use Rattle.refute_text.specs.Trees.{TermTree, app}
-use Rattle.refute_text.specs.Limits.{is_negated}
-use Rattle.refute_text.specs.Means.TreeSizes.{applied}
-
-pub negated-applied : (h : TermTree) (us : List TermTree) → is_negated (applied h us) ≡ is_negated h
-negated-applied h [] = refl
-negated-applied h (u ∷ us) = negated-applied (app h u) us

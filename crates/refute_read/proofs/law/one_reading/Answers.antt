@@ -1,5 +1,0 @@
-use Rattle.refute_read.proofs.ReadingLaws.{reading-same}
-use Rattle.refute_read.proofs.law.one_reading.Goals as goal
-
-pub returns : goal.returns
-returns c = λ lines a b h k. reading-same lines a b h k

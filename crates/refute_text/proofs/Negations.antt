@@ -1,0 +1,9 @@
+-- The head of a term with arguments.
+use Rattle.std.proofs.Common.{◌≡◌, List, [], ◌∷◌, refl}
+use Rattle.written_refutation.specs.Trees.{TermTree, app}
+use Rattle.written_refutation.specs.Limits.{is_negated}
+use Rattle.written_refutation.specs.Means.TreeSizes.{applied}
+
+pub negated-applied : (h : TermTree) (us : List TermTree) → is_negated (applied h us) ≡ is_negated h
+negated-applied h [] = refl
+negated-applied h (u ∷ us) = negated-applied (app h u) us

@@ -1,0 +1,13 @@
+use Rattle.std.proofs.Common.{◌≡◌, ◌≤◌, ◌-◌, ◌++◌, length, take, drop}
+use Rattle.refute_text.specs.Means.Reader.{is_digit, front, after}
+use Rattle.refute_text.proofs.read_name.digits.Given as goal
+
+abbrev pub invariant-loop-end : goal.invariant-loop-end
+invariant-loop-end l = record {
+  within : l.end ≤ length l.bytes;
+  front_is : take l.end l.bytes ++ front is_digit (drop l.end l.bytes) ≡ front is_digit l.bytes;
+  after_is : after is_digit (drop l.end l.bytes) ≡ after is_digit l.bytes;
+}
+
+abbrev pub decreases-loop-end : goal.decreases-loop-end
+decreases-loop-end l = length l.bytes - l.end

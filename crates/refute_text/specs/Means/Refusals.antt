@@ -1,0 +1,14 @@
+-- What a reader answers.
+use Rattle.std.specs.Prelude.{◌≡◌, Option, Some, None, Result, Ok, Err}
+use Rattle.refute_text.specs.declared.refusal.Refusal.{Refusal}
+use Rattle.refute_text.specs.declared.refusal.Refusal.TheVariants.{Form, Memory}
+
+-- nothing was to be read, or memory ran out first
+abbrev pub IsRefusal : {X : Type 0} → Refusal → Option X → Type 0
+IsRefusal Form read = read ≡ None
+IsRefusal Memory read = Unit {0}
+
+-- what was answered is what was to be read, or a refusal
+abbrev pub Answers : {R X : Type 0} → (R → X) → Result R Refusal → Option X → Type 0
+Answers view (Ok r) read = read ≡ Some (view r)
+Answers view (Err e) read = IsRefusal e read

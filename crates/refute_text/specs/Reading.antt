@@ -1,0 +1,139 @@
+-- How a text is read: line by line.
+use Rattle.std.specs.Prelude.{◌≡◌, ℕ, ◌+◌, ◌^◌, ◌≤◌, ◌==◌, nat_eq, not, Bool, true, false, List, [], ◌∷◌, ◌++◌, length, codes, if◌then◌else◌}
+use Rattle.std.specs.List.{AllByRecursion, list_all, list_any, onto_first, starts_with}
+use Rattle.written_refutation.specs.Trees.{RefutationTree}
+use Rattle.written_refutation.specs.Text.{text_lines, as_bytes}
+use Rattle.written_refutation.specs.Letters.{is_name}
+use Rattle.written_refutation.specs.Limits.{IsWithin, IsLine}
+
+-- the lines of bytes: a line feed ends each, and the bytes behind the last line feed are one more line, where there are any
+abbrev pub lines_of : List ℕ → List (List ℕ)
+lines_of [] = []
+lines_of (c ∷ cs) = if c == 10 then [] ∷ lines_of cs else onto_first c (lines_of cs)
+
+-- how the start line and the end line begin
+abbrev pub start_mark : List ℕ
+start_mark = codes "% SZS output start Refutation for "
+
+abbrev pub end_mark : List ℕ
+end_mark = codes "% SZS output end Refutation for "
+
+abbrev pub is_start : List ℕ → Bool
+is_start line = starts_with nat_eq line start_mark
+
+abbrev pub is_end : List ℕ → Bool
+is_end line = starts_with nat_eq line end_mark
+
+abbrev pub IsName : List ℕ → Type 0
+IsName w = is_name w ≡ true
+
+-- a refutation that has a text
+pub record HasText (r : RefutationTree) : Type 0 where
+  pub names : AllByRecursion IsName r.names
+  pub rows : AllByRecursion IsWithin r.rows
+  pub row_numbers : length r.rows ≤ 2 ^ 32
+  pub lines : AllByRecursion IsLine r.lines
+  pub line_numbers : length r.lines ≤ 2 ^ 64
+
+-- lines with which the text of some refutation begins
+pub record IsFront (front : List (List ℕ)) : Type 0 where
+  pub refutation : RefutationTree
+  pub more : List (List ℕ)
+  pub has_text : HasText refutation
+  pub whole : front ++ more ≡ text_lines refutation
+
+-- the lines before the start line, the first that begins so, and the lines behind it
+pub record Starts (lines before behind : List (List ℕ)) : Type 0 where
+  pub start : List ℕ
+  pub are_lines : lines ≡ before ++ (start ∷ behind)
+  pub none_before : list_any is_start before ≡ false
+  pub starts : is_start start ≡ true
+
+-- behind the start line stand the lines of the refutation's text and then the end line; what follows is passed over
+pub record HoldsText (behind : List (List ℕ)) (r : RefutationTree) : Type 0 where
+  pub last : List ℕ
+  pub after : List (List ℕ)
+  pub are_lines : behind ≡ text_lines r ++ (last ∷ after)
+  pub has_text : HasText r
+  pub ends : is_end last ≡ true
+
+-- lines that are the whole text of some refutation
+pub record IsText (lines : List (List ℕ)) : Type 0 where
+  pub refutation : RefutationTree
+  pub has_text : HasText refutation
+  pub whole : lines ≡ text_lines refutation
+
+-- the line at this place behind the start line is the first with which no text begins; an end line is bad where no whole text stands
+-- before it
+pub record IsBadAt (behind : List (List ℕ)) (place : ℕ) : Type 0 where
+  pub before : List (List ℕ)
+  pub bad : List ℕ
+  pub after : List (List ℕ)
+  pub are_lines : behind ≡ before ++ (bad ∷ after)
+  pub place_is : place ≡ length before
+  pub is_front : IsFront before
+  pub no_front : ¬ IsFront (before ++ (bad ∷ []))
+  pub no_end : is_end bad ≡ true → ¬ IsText before
+
+-- a refutation, with the line of its first row, or else of its first line, or else the end line; or the line at which none is read
+pub data Reading : Type 0 where
+  read : RefutationTree → ℕ → Reading
+  bad_line : ℕ → Reading
+  no_start : ℕ → Reading
+  no_end : ℕ → Reading
+
+pub record ReadsAs (lines : List (List ℕ)) (r : RefutationTree) (first : ℕ) : Type 0 where
+  pub before : List (List ℕ)
+  pub behind : List (List ℕ)
+  pub starts : Starts lines before behind
+  pub holds : HoldsText behind r
+  pub first_is : first ≡ length before + 3 + length r.names
+
+pub record HasBadLine (lines : List (List ℕ)) (line : ℕ) : Type 0 where
+  pub before : List (List ℕ)
+  pub behind : List (List ℕ)
+  pub place : ℕ
+  pub starts : Starts lines before behind
+  pub bad : IsBadAt behind place
+  pub line_is : line ≡ length before + 2 + place
+
+pub record HasNoStart (lines : List (List ℕ)) (line : ℕ) : Type 0 where
+  pub none : list_any is_start lines ≡ false
+  pub line_is : line ≡ length lines + 1
+
+pub record HasNoEnd (lines : List (List ℕ)) (line : ℕ) : Type 0 where
+  pub before : List (List ℕ)
+  pub behind : List (List ℕ)
+  pub starts : Starts lines before behind
+  pub is_front : IsFront behind
+  pub line_is : line ≡ length lines + 1
+
+-- How lines are read. They are counted from 1.
+abbrev pub Reads : List (List ℕ) → Reading → Type 0
+Reads lines (read r first) = ReadsAs lines r first
+Reads lines (bad_line line) = HasBadLine lines line
+Reads lines (no_start line) = HasNoStart lines line
+Reads lines (no_end line) = HasNoEnd lines line
+
+-- whether no line feed is in a line
+abbrev pub is_one_line : List ℕ → Bool
+is_one_line line = list_all (λ c. not (c == 10)) line
+
+abbrev pub AreLines : List (List ℕ) → Type 0
+AreLines [] = Unit {0}
+AreLines (l ∷ ls) = (is_one_line l ≡ true) × AreLines ls
+
+-- The text of a refutation stands in bytes between a start line, the first that begins so, and an end line. The first row, or else the
+-- first line, or else the end line, stands at the line of this number.
+pub record TextStands (bytes : List ℕ) (r : RefutationTree) (first : ℕ) : Type 0 where
+  pub before : List (List ℕ)
+  pub start : List ℕ
+  pub last : List ℕ
+  pub rest : List ℕ
+  pub bytes_are : bytes ≡ as_bytes (before ++ start ∷ []) ++ (as_bytes (text_lines r) ++ (as_bytes (last ∷ []) ++ rest))
+  pub lines_before : AreLines (before ++ start ∷ [])
+  pub last_line : is_one_line last ≡ true
+  pub none_before : list_any is_start before ≡ false
+  pub starts : is_start start ≡ true
+  pub ends : is_end last ≡ true
+  pub first_is : first ≡ length before + 3 + length r.names

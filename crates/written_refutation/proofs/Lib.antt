@@ -1,0 +1,4 @@
+mod Lists
+mod Writes
+mod TermTexts
+mod LineTexts

@@ -1,0 +1,16 @@
+use Rattle.outside.proofs.Writes.{on_err, took_both, stopped_first, stopped_later}
+use Rattle.written_refutation.proofs.write_line.write_literal_at.Goals as goal
+
+pub returns-in_err-write_comma-clause-stopped : goal.returns-in_err-write_comma-clause-stopped
+returns-in_err-write_comma-clause-stopped g c =
+    on_err c.from_residual.result
+    (stopped_first _ _ c.in_err-write_comma.ensures.stopped)
+
+pub returns-in_err-write_literal-clause-stopped : goal.returns-in_err-write_literal-clause-stopped
+returns-in_err-write_literal-clause-stopped g c =
+    on_err c.from_residual-in_err-write_literal.result
+    (stopped_later _ _ c.in_ok-write_comma.ensures.took c.in_err-write_literal.ensures.stopped)
+
+pub returns-clause-took : goal.returns-clause-took
+returns-clause-took g c =
+    took_both _ _ c.in_ok-write_comma.ensures.took c.in_ok-write_literal.ensures.took
