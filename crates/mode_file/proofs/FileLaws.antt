@@ -4,7 +4,7 @@ use Rattle.mode_file.specs.declared.Mode.{Mode}
 use Rattle.mode_file.specs.declared.given.Given.{Given}
 use Rattle.mode_file.specs.declared.refused.Cause.{Cause}
 use Rattle.mode_file.specs.Given.{nothing, mode_of, IsInRange}
-use Rattle.mode_file.specs.Lines.{lines_of}
+use Rattle.outside.specs.Lines.{lines_of}
 use Rattle.mode_file.specs.Grammar.{says_nothing, IsGood, AreGood, IsBadFor, States, IsFirstBad}
 use Rattle.mode_file.proofs.RangeLaws.{mode_in_range}
 

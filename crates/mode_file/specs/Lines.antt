@@ -4,11 +4,6 @@ use Rattle.std.specs.List.{onto_first}
 use Rattle.mode_file.specs.declared.bytes.ByteClass.{ByteClass}
 use Rattle.mode_file.specs.declared.bytes.ByteClass.TheVariants.{InLine, InWord, Space, Digit}
 
--- the lines of bytes: a line feed ends each, and the bytes behind the last line feed are one more line, where there are any
-abbrev pub lines_of : List ℕ → List (List ℕ)
-lines_of [] = []
-lines_of (c ∷ cs) = if c == 10 then [] ∷ lines_of cs else onto_first c (lines_of cs)
-
 -- a space, a tab or a carriage return
 abbrev pub is_blank : ℕ → Bool
 is_blank c = (c == 32) || (c == 9) || (c == 13)

@@ -1,6 +1,7 @@
 //! Bytes by lines and by fronts.
 ghost use Rattle.std.specs.Prelude.{◌≡◌, ◌<◌, ◌≤◌, [], ◌∷◌, length, IfSome, IfNone};
-ghost use Rattle.mode_file.specs.Lines.{lines_of, is_in, front, after};
+ghost use Rattle.outside.specs.Lines.{lines_of};
+ghost use Rattle.mode_file.specs.Lines.{is_in, front, after};
 
 /// A kind of bytes.
 #[derive(Clone, Copy, Debug)]

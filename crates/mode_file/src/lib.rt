@@ -3,7 +3,7 @@
 
 ghost use Rattle.std.specs.Prelude.{◌≡◌, ◌≤◌, ◌^◌, length, IfOk, IfErr};
 ghost use Rattle.mode_file.specs.Given.{nothing, mode_of, IsInRange};
-ghost use Rattle.mode_file.specs.Lines.{lines_of};
+ghost use Rattle.outside.specs.Lines.{lines_of};
 ghost use Rattle.mode_file.specs.Grammar.{States};
 ghost use Rattle.mode_file.specs.Refusals.{Refuses};
 

@@ -4,7 +4,7 @@ use Rattle.std.proofs.Math.ListN.{set, get_or-append}
 use Rattle.std.proofs.Math.Seq.{map-set_same, get_or-append_seam, set-append_seam}
 use Rattle.std.proofs.lemmas.List.{map-set, set-append_left, length-map, get_or-map}
 use Rattle.outside.specs.declared.file_list.Entry.{Entry}
-use Rattle.outside.specs.Causes.{raised}
+use Rattle.outside.specs.Causes.{next_count}
 use Rattle.outside.specs.Entry.{file_of, files_of, counts_of}
 use Rattle.outside.specs.Means.Counts.{raised_at}
 
@@ -16,7 +16,7 @@ pub files_of-recounted : (entries : List Entry) (place count : ℕ) (was : Entry
 files_of-recounted entries place count was at =
     map-set_same file_of entries place (recounted was count) was (ap file_of at)
 
-pub counts_of-recounted : (entries : List Entry) (others place count : ℕ) (was : Entry) → place < length entries → was ≡ get_or entries place was → count ≡ raised was.faults → counts_of (set entries place (recounted was count)) others ≡ raised_at (counts_of entries others) place
+pub counts_of-recounted : (entries : List Entry) (others place count : ℕ) (was : Entry) → place < length entries → was ≡ get_or entries place was → count ≡ next_count was.faults → counts_of (set entries place (recounted was count)) others ≡ raised_at (counts_of entries others) place
 counts_of-recounted entries others place count was within at up =
     let faults : Entry → ℕ = λ entry. entry.faults in
     let counts = map faults entries in
@@ -24,11 +24,11 @@ counts_of-recounted entries others place count was within at up =
     let here = get_or-append counts (others ∷ []) 0 place short ∙ get_or-map faults entries place was 0 within ∙ sym (ap faults at) in
     ap (λ xs. xs ++ others ∷ []) (map-set faults entries place (recounted was count))
     ∙ sym (set-append_left counts (others ∷ []) place count short)
-    ∙ ap (set (counts ++ others ∷ []) place) (up ∙ sym (ap raised here))
+    ∙ ap (set (counts ++ others ∷ []) place) (up ∙ sym (ap next_count here))
 
 -- past the last file stands the count of all other names
-pub counts_of-others : (entries : List Entry) (others place count : ℕ) → place ≡ length entries → count ≡ raised others → counts_of entries count ≡ raised_at (counts_of entries others) place
+pub counts_of-others : (entries : List Entry) (others place count : ℕ) → place ≡ length entries → count ≡ next_count others → counts_of entries count ≡ raised_at (counts_of entries others) place
 counts_of-others entries others place count at up =
     let faults : Entry → ℕ = λ entry. entry.faults in
     let counts = map faults entries in
-    rw (at ∙ sym (length-map entries faults)) (sym (set-append_seam counts others [] _ ∙ ap (λ v. counts ++ v ∷ []) (ap raised (get_or-append_seam counts others [] 0) ∙ sym up)))
+    rw (at ∙ sym (length-map entries faults)) (sym (set-append_seam counts others [] _ ∙ ap (λ v. counts ++ v ∷ []) (ap next_count (get_or-append_seam counts others [] 0) ∙ sym up)))

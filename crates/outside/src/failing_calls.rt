@@ -1,6 +1,6 @@
 // Which calls of an object fail, by their numbers.
 ghost use Rattle.std.specs.Prelude.{◌≡◌, ◌↔◌, IsTrue, Contains};
-ghost use Rattle.outside.specs.Causes.{raised};
+ghost use Rattle.outside.specs.Causes.{next_count};
 
 use crate::CallList;
 
@@ -22,7 +22,7 @@ impl FailingCalls {
     /// Counts a call that begins, and says whether it fails.
     pub fn next_fails(&mut self) -> bool
         ensures fails { IsTrue result ↔ Contains self.old.fails self.old.made }
-        ensures made { self.new ≡ record self.old { made = raised self.old.made } }
+        ensures made { self.new ≡ record self.old { made = next_count self.old.made } }
     {
         let number = self.made;
         self.made = number.saturating_add(1);

@@ -1,6 +1,6 @@
 // A sink in memory that grows.
 ghost use Rattle.std.specs.Prelude.{◌≡◌, ◌≤◌, ◌++◌, [], length, true, IfOk, OnOk, OnErr, IsTrue};
-ghost use Rattle.outside.specs.Causes.{raised};
+ghost use Rattle.outside.specs.Causes.{next_count};
 
 use crate::{Bytes, Failed, Sink};
 use std::alloc::Global;

@@ -1,6 +1,6 @@
 // A sink in memory with a fixed room.
 ghost use Rattle.std.specs.Prelude.{◌≡◌, ◌≤◌, ◌<◌, ◌-◌, ◌⊎◌, ◌++◌, [], length, min, take, true, IfOk, OnErr, IsErr, IsTrue, Contains, ◌↔◌};
-ghost use Rattle.outside.specs.Causes.{raised};
+ghost use Rattle.outside.specs.Causes.{next_count};
 
 use crate::failing_calls::FailingCalls;
 use crate::{CallList, Failed, Sink};

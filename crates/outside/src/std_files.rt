@@ -2,7 +2,7 @@
 ghost use Rattle.std.specs.Prelude.{◌≡◌, ◌≤◌, List, ℕ, [], None, false, IsTrue, OnOk, OnErr};
 ghost use Rattle.std.specs.Io.KnownBytes.{ReadConsumes};
 ghost use Rattle.std.specs.Io.{ReadsAtMost};
-ghost use Rattle.outside.specs.Causes.{raised};
+ghost use Rattle.outside.specs.Causes.{next_count};
 
 use crate::{Failed, Files};
 use std::io::Read;
@@ -65,7 +65,7 @@ impl<R: rt::Files> Files for StdFiles<R> {
             (known_left R.File.remaining self.new) result buf.new }
         ensures current { IsTrue (is_reading self.new) }
         ensures uncounted { OnOk result (fault_count self.new ≡ fault_count self.old) }
-        ensures counted { OnErr result (fault_count self.new ≡ raised (fault_count self.old)) }
+        ensures counted { OnErr result (fault_count self.new ≡ next_count (fault_count self.old)) }
         ensures later { fault_count self.old ≤ fault_count self.new }
     {
         let file = self.current.as_mut().unwrap();

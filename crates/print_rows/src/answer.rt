@@ -6,8 +6,7 @@ use std::alloc::{AllocError, Global};
 use std::str;
 use thf_lex::lex;
 use thf_parse::{ParseRefused, parse};
-use thf_print::write_surface;
-use thf_syntax::FileTree;
+use thf_syntax::{FileTree, write_surface};
 
 /// How long a file is at most.
 const MAX_BYTES: usize = 16_777_216;

@@ -2,7 +2,8 @@
 use Rattle.std.proofs.Common.{◌≡◌, ℕ, List, [], ◌∷◌, ◌++◌, refl, sym, ap, ◌∙◌, append_assoc, append-nil}
 use Rattle.written_refutation.specs.Trees.{RefutationTree}
 use Rattle.written_refutation.specs.Text.{text_lines, as_bytes}
-use Rattle.refute_text.specs.Reading.{lines_of, HasText, ReadsAs, TextStands}
+use Rattle.outside.specs.Lines.{lines_of}
+use Rattle.refute_text.specs.Reading.{HasText, ReadsAs, TextStands}
 use Rattle.refute_text.proofs.LineFeeds.{lines_of-as_bytes}
 use Rattle.refute_text.proofs.Printable.{text_lines-are_lines}
 use Rattle.refute_text.proofs.TextLaws.{text_lines-same}

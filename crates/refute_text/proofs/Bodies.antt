@@ -6,7 +6,8 @@ use Rattle.written_refutation.specs.Trees.{TermTree, LineTree, RefutationTree}
 use Rattle.written_refutation.specs.Text.{version_text, definition_text, row_texts, line_texts, text_lines}
 use Rattle.written_refutation.specs.TextView.{the_line, the_text, IsNumbered}
 use Rattle.written_refutation.specs.declared.line.RefutationText.{RefutationText}
-use Rattle.refute_text.specs.Reading.{lines_of, is_end, IsName, HasText, IsFront, IsText, HoldsText, Reading, read, bad_line, no_start, no_end, Reads}
+use Rattle.outside.specs.Lines.{lines_of}
+use Rattle.refute_text.specs.Reading.{is_end, IsName, HasText, IsFront, IsText, HoldsText, TextReading, read, bad_line, no_start, no_end, ReadsText}
 use Rattle.refute_text.specs.Answered.{reading_of}
 use Rattle.refute_text.specs.Means.Places.{BehindStart, RefusesBehind, nothing}
 use Rattle.refute_text.specs.declared.refusal.TextRefused.{TextRefused}
@@ -168,7 +169,7 @@ no_definition line h = go (definition_at line) refl h
     go (Some w) e k = cc
 
 -- whole texts
-pub read_from : (lines : List (List ℕ)) (n : ℕ) (behind : List (List ℕ)) (r : Result RefutationText TextRefused) → BehindStart lines n behind → IfOk r (λ t. HoldsText behind (the_text t)) → IfOk r (λ t. t.names_at ≡ n + 1) → IfOk r IsNumbered → IfErr r (RefusesBehind behind n) → IfSome (reading_of r) (Reads lines)
+pub read_from : (lines : List (List ℕ)) (n : ℕ) (behind : List (List ℕ)) (r : Result RefutationText TextRefused) → BehindStart lines n behind → IfOk r (λ t. HoldsText behind (the_text t)) → IfOk r (λ t. t.names_at ≡ n + 1) → IfOk r IsNumbered → IfErr r (RefusesBehind behind n) → IfSome (reading_of r) (ReadsText lines)
 read_from lines n behind (Ok t) s h e i f = record { before = s.before; behind = behind; starts = s.starts; holds = h; first_is = let k = s.line_is in let p = i.first_is in omega (arith, k, e, p) }
 read_from lines n behind (Err (BadLine line)) s h e i f = record { before = s.before; behind = behind; place = f.0; starts = s.starts; bad = f.1.0; line_is = let k = s.line_is in let q = f.1.1 in omega (arith, k, q) }
 read_from lines n behind (Err (NoStart line)) s h e i f = absurd f
@@ -184,7 +185,7 @@ read_from lines n behind (Err (NoEnd line)) s h e i f = record {
 }
 read_from lines n behind (Err Memory) s h e i f = tt
 
-pub one_answer : (lines : List (List ℕ)) (r : Result RefutationText TextRefused) → IfSome (reading_of r) (Reads lines) → IfSome (reading_of r) (λ o. (p : Reading) → Reads lines p → p ≡ o)
+pub one_answer : (lines : List (List ℕ)) (r : Result RefutationText TextRefused) → IfSome (reading_of r) (ReadsText lines) → IfSome (reading_of r) (λ o. (p : TextReading) → ReadsText lines p → p ≡ o)
 one_answer lines (Ok t) h = λ p k. reading-same lines p (read (the_text t) t.first) k h
 one_answer lines (Err (BadLine line)) h = λ p k. reading-same lines p (bad_line line) k h
 one_answer lines (Err (NoStart line)) h = λ p k. reading-same lines p (no_start line) k h

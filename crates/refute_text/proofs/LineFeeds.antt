@@ -4,7 +4,8 @@ use Rattle.std.specs.List.{list_all, onto_first}
 use Rattle.std.proofs.lemmas.Bool.{and_parts, not-true}
 use Rattle.written_refutation.specs.Text.{as_bytes}
 use Rattle.refute_text.specs.Means.Reader.{front, after, is_no_feed}
-use Rattle.refute_text.specs.Reading.{lines_of, AreLines}
+use Rattle.outside.specs.Lines.{lines_of}
+use Rattle.refute_text.specs.Reading.{AreLines}
 
 pub lines_of-front : (c : ℕ) (cs : List ℕ) → lines_of (c ∷ cs) ≡ front is_no_feed (c ∷ cs) ∷ lines_of (drop 1 (after is_no_feed (c ∷ cs)))
 lines_of-front c [] = go (c == 10)

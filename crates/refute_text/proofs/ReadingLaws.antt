@@ -3,7 +3,7 @@ use Rattle.std.proofs.Common.{◌≡◌, ℕ, ◌+◌, Bool, true, false, List, 
 use Rattle.std.specs.List.{list_any}
 use Rattle.written_refutation.specs.Trees.{RefutationTree}
 use Rattle.written_refutation.specs.Text.{text_lines}
-use Rattle.refute_text.specs.Reading.{is_start, is_end, IsFront, Starts, HoldsText, IsBadAt, Reading, read, bad_line, no_start, no_end, ReadsAs, HasBadLine, HasNoEnd, Reads}
+use Rattle.refute_text.specs.Reading.{is_start, is_end, IsFront, Starts, HoldsText, IsBadAt, TextReading, read, bad_line, no_start, no_end, ReadsAs, HasBadLine, HasNoEnd, ReadsText}
 use Rattle.refute_text.proofs.Fronts.{any_inside, front-append, front-text, front-without_end}
 use Rattle.refute_text.proofs.TextLaws.{text_lines-same}
 
@@ -107,7 +107,7 @@ bad-no_end lines m n h g =
     let p = starts-same lines h.before h.behind g.before g.behind h.starts g.starts in
     bad-front g.behind h.place (subst (λ x. IsBadAt x h.place) p.1 h.bad) g.is_front
 
-pub reading-same : (lines : List (List ℕ)) (o p : Reading) → Reads lines o → Reads lines p → o ≡ p
+pub reading-same : (lines : List (List ℕ)) (o p : TextReading) → ReadsText lines o → ReadsText lines p → o ≡ p
 reading-same lines (read r m) (read s n) h g = read-read lines r s m n h g
 reading-same lines (read r m) (bad_line n) h g = absurd (read-bad lines r m n h g)
 reading-same lines (read r m) (no_start n) h g = absurd (no_start-starts lines h.before h.behind g.none h.starts)

@@ -6,11 +6,6 @@ use Rattle.written_refutation.specs.Text.{text_lines, as_bytes}
 use Rattle.written_refutation.specs.Letters.{is_name}
 use Rattle.written_refutation.specs.Limits.{IsWithin, IsLine}
 
--- the lines of bytes: a line feed ends each, and the bytes behind the last line feed are one more line, where there are any
-abbrev pub lines_of : List ℕ → List (List ℕ)
-lines_of [] = []
-lines_of (c ∷ cs) = if c == 10 then [] ∷ lines_of cs else onto_first c (lines_of cs)
-
 -- how the start line and the end line begin
 abbrev pub start_mark : List ℕ
 start_mark = codes "% SZS output start Refutation for "
@@ -76,11 +71,11 @@ pub record IsBadAt (behind : List (List ℕ)) (place : ℕ) : Type 0 where
   pub no_end : is_end bad ≡ true → ¬ IsText before
 
 -- a refutation, with the line of its first row, or else of its first line, or else the end line; or the line at which none is read
-pub data Reading : Type 0 where
-  read : RefutationTree → ℕ → Reading
-  bad_line : ℕ → Reading
-  no_start : ℕ → Reading
-  no_end : ℕ → Reading
+pub data TextReading : Type 0 where
+  read : RefutationTree → ℕ → TextReading
+  bad_line : ℕ → TextReading
+  no_start : ℕ → TextReading
+  no_end : ℕ → TextReading
 
 pub record ReadsAs (lines : List (List ℕ)) (r : RefutationTree) (first : ℕ) : Type 0 where
   pub before : List (List ℕ)
@@ -109,11 +104,11 @@ pub record HasNoEnd (lines : List (List ℕ)) (line : ℕ) : Type 0 where
   pub line_is : line ≡ length lines + 1
 
 -- How lines are read. They are counted from 1.
-abbrev pub Reads : List (List ℕ) → Reading → Type 0
-Reads lines (read r first) = ReadsAs lines r first
-Reads lines (bad_line line) = HasBadLine lines line
-Reads lines (no_start line) = HasNoStart lines line
-Reads lines (no_end line) = HasNoEnd lines line
+abbrev pub ReadsText : List (List ℕ) → TextReading → Type 0
+ReadsText lines (read r first) = ReadsAs lines r first
+ReadsText lines (bad_line line) = HasBadLine lines line
+ReadsText lines (no_start line) = HasNoStart lines line
+ReadsText lines (no_end line) = HasNoEnd lines line
 
 -- whether no line feed is in a line
 abbrev pub is_one_line : List ℕ → Bool

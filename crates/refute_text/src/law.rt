@@ -2,16 +2,17 @@
 ghost use Rattle.std.specs.Prelude.{◌≡◌, ℕ, List};
 ghost use Rattle.written_refutation.specs.Trees.{RefutationTree};
 ghost use Rattle.written_refutation.specs.Text.{text_lines, as_bytes};
-ghost use Rattle.refute_text.specs.Reading.{lines_of, HasText, TextStands, Reading, read, Reads};
+ghost use Rattle.outside.specs.Lines.{lines_of};
+ghost use Rattle.refute_text.specs.Reading.{HasText, TextStands, TextReading, read, ReadsText};
 
 /// Lines are read in one way at most.
 pub fn one_reading()
-    ensures { (lines : List (List ℕ)) (a b : Reading) → Reads lines a → Reads lines b → a ≡ b }
+    ensures { (lines : List (List ℕ)) (a b : TextReading) → ReadsText lines a → ReadsText lines b → a ≡ b }
 {}
 
 /// The text of a refutation, which `write_text` writes, is read back between a start line and an end line.
 pub fn texts_read_back()
-    ensures { (bytes : List ℕ) (r : RefutationTree) (first : ℕ) → HasText r → TextStands bytes r first → Reads (lines_of bytes) (read r first) }
+    ensures { (bytes : List ℕ) (r : RefutationTree) (first : ℕ) → HasText r → TextStands bytes r first → ReadsText (lines_of bytes) (read r first) }
 {}
 
 /// No two refutations have the same text.

@@ -1,4 +1,4 @@
-//! The reading of refutations' texts.
+//! Refutations as they are written: their texts, written and read.
 #![tactic(auto)]
 
 mod law;
@@ -14,3 +14,7 @@ mod text;
 pub use law::{one_reading, one_refutation, texts_read_back};
 pub use refusal::TextRefused;
 pub use text::read_text;
+pub use written_refutation::{
+    RefutationText, TextHead, TextLine, TextLines, TextLit, TextLits, TextNames, TextNode, TextRule,
+    TextTerm, TextTerms, TextTy, write_text,
+};

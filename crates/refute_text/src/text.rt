@@ -4,7 +4,8 @@ ghost use Rattle.std.specs.Prelude.{◌≡◌, ℕ, ◌+◌, ◌-◌, ◌^◌, �
 ghost use Rattle.std.specs.List.{starts_with};
 ghost use Rattle.written_refutation.specs.Text.{text_lines};
 ghost use Rattle.written_refutation.specs.TextView.{the_text, IsNumbered};
-ghost use Rattle.refute_text.specs.Reading.{lines_of, HasText, IsFront, HoldsText, Reading, Reads};
+ghost use Rattle.outside.specs.Lines.{lines_of};
+ghost use Rattle.refute_text.specs.Reading.{HasText, IsFront, HoldsText, TextReading, ReadsText};
 ghost use Rattle.refute_text.specs.Means.LineReader.{definition_at};
 ghost use Rattle.refute_text.specs.Means.Refusals.{Answers};
 ghost use Rattle.refute_text.specs.Means.Places.{RefusesBehind, IfForm, MayDefine, nothing};
@@ -220,8 +221,8 @@ fn read_behind(alloc: Global, line: usize, bytes: &[u8]) -> Result<RefutationTex
 /// Reads the refutation whose text stands between the first line that begins with the start mark and the first line after it that
 /// begins with the end mark.
 pub fn read_text(alloc: Global, bytes: &[u8]) -> Result<RefutationText, TextRefused>
-    ensures reads { IfSome (reading_of result) (Reads (lines_of bytes.now)) }
-    ensures only { IfSome (reading_of result) (λ o. (p : Reading) → Reads (lines_of bytes.now) p → p ≡ o) }
+    ensures reads { IfSome (reading_of result) (ReadsText (lines_of bytes.now)) }
+    ensures only { IfSome (reading_of result) (λ o. (p : TextReading) → ReadsText (lines_of bytes.now) p → p ≡ o) }
     ensures numbered { IfOk result IsNumbered }
     ensures room { IfOk result (λ t. t.first + length t.witnesses + length t.lines < 2 ^ 64) }
 {

@@ -4,7 +4,8 @@ use Rattle.stt_core.specs.PlainProblem.{PlainProblem}
 use Rattle.stt_tableau.specs.declared.refutation.Why.{Why}
 use Rattle.written_refutation.specs.Trees.{RefutationTree}
 use Rattle.refute_text.specs.Answered.{reading_of}
-use Rattle.refute_text.specs.Reading.{lines_of, Reading, read, bad_line, no_start, no_end, Reads}
+use Rattle.outside.specs.Lines.{lines_of}
+use Rattle.refute_text.specs.Reading.{TextReading, read, bad_line, no_start, no_end, ReadsText}
 use Rattle.refute_text.proofs.ReadingLaws.{reading-same}
 use Rattle.refute_text.specs.declared.refusal.TextRefused.{TextRefused}
 use Rattle.refute_text.specs.declared.refusal.TextRefused.TheVariants as unread
@@ -21,14 +22,14 @@ use Rattle.request_answers.specs.Means.Unread.{verdict_of}
 use Rattle.request_answers.specs.Checked.{IsAcceptedText, FailsFirst, IsRefusedText, unread_answer, failed_answer, AnswersBytes}
 
 -- the answer where a text isn't read
-pub unread_answers : (p : PlainProblem) (bytes : List ℕ) (refused : TextRefused) → IfSome (reading_of (Err refused)) (Reads (lines_of bytes)) → AnswersBytes p bytes (unread_answer refused)
+pub unread_answers : (p : PlainProblem) (bytes : List ℕ) (refused : TextRefused) → IfSome (reading_of (Err refused)) (ReadsText (lines_of bytes)) → AnswersBytes p bytes (unread_answer refused)
 unread_answers p bytes (BadLine line) h = record { reading = bad_line line; reads = h; fails = (refl, refl) }
 unread_answers p bytes (NoStart line) h = record { reading = no_start line; reads = h; fails = (refl, refl) }
 unread_answers p bytes (NoEnd line) h = record { reading = no_end line; reads = h; fails = (refl, refl) }
 unread_answers p bytes unread.Memory h = tt
 
 -- the answer where what is read isn't accepted
-pub failed_answers : (p : PlainProblem) (bytes : List ℕ) (r : RefutationTree) (first : ℕ) (refused : CheckRefused) → Reads (lines_of bytes) (read r first) → IfLine refused (TextFailsAt p r first) → AnswersBytes p bytes (failed_answer refused)
+pub failed_answers : (p : PlainProblem) (bytes : List ℕ) (r : RefutationTree) (first : ℕ) (refused : CheckRefused) → ReadsText (lines_of bytes) (read r first) → IfLine refused (TextFailsAt p r first) → AnswersBytes p bytes (failed_answer refused)
 failed_answers p bytes r first (Line line why) reads h = record { reading = read r first; reads = reads; fails = h }
 failed_answers p bytes r first failed.Memory reads h = tt
 
@@ -36,7 +37,7 @@ failed_answers p bytes r first failed.Memory reads h = tt
 pub accepted_not_refused : (p : PlainProblem) (bytes : List ℕ) (line : ℕ) (why : Why) → IsAcceptedText p bytes → IsRefusedText p bytes line why → ⊥
 accepted_not_refused p bytes line why a r = go r.reading (reading-same (lines_of bytes) (read a.refutation a.first) r.reading a.reads r.reads) r.fails
   where
-    go : (o : Reading) → read a.refutation a.first ≡ o → FailsFirst p o line why → ⊥
+    go : (o : TextReading) → read a.refutation a.first ≡ o → FailsFirst p o line why → ⊥
     go (read s k) e f = let same : a.refutation ≡ s = cc in fails_not_accepted p s k line why f (subst (IsAcceptedFor p) same a.accepted)
     go (bad_line at) e f = cc
     go (no_start at) e f = cc
@@ -47,7 +48,7 @@ pub one_refusal : (p : PlainProblem) (bytes : List ℕ) (line other : ℕ) (why 
 one_refusal p bytes line other why cause a b =
     go a.reading a.fails (subst (λ o. FailsFirst p o other cause) (reading-same (lines_of bytes) b.reading a.reading b.reads a.reads) b.fails)
   where
-    go : (o : Reading) → FailsFirst p o line why → FailsFirst p o other cause → (line ≡ other) × (why ≡ cause)
+    go : (o : TextReading) → FailsFirst p o line why → FailsFirst p o other cause → (line ≡ other) × (why ≡ cause)
     go (read s k) f g = one_text_failure p s k line other why cause f g
     go (bad_line at) f g = (f.0 ∙ sym g.0, f.1 ∙ sym g.1)
     go (no_start at) f g = (f.0 ∙ sym g.0, f.1 ∙ sym g.1)

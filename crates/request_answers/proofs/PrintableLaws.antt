@@ -2,8 +2,8 @@
 use Rattle.std.proofs.Common.{◌+◌, ℕ, Bool, true, false, List, [], ◌∷◌, ◌++◌, length, filter, find, cond, Option, Some, None}
 use Rattle.std.specs.List.{AllByRecursion}
 use Rattle.std.proofs.lemmas.List.Elements.{All-from_recursion}
-use Rattle.thf_syntax.specs.Trees.{BodyTree, base, typing, formula, SelectedTree, StatementTree}
-use Rattle.thf_parse.specs.Printable.{IsPrintable, BodyDeclaresPrintable, DeclaresPrintable, DeclaredArePrintable}
+use Rattle.thf_grammar.specs.Trees.{BodyTree, base, typing, formula, SelectedTree, StatementTree}
+use Rattle.thf_grammar.specs.Printable.{IsPrintable, BodyDeclaresPrintable, DeclaresPrintable, DeclaredArePrintable}
 use Rattle.thf_parse.specs.Parsing.{depth_limit}
 use Rattle.thf_parse.proofs.PrintableLaws.{declared-printable}
 use Rattle.thf_include.specs.View.{PlacedTree}

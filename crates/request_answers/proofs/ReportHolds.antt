@@ -5,7 +5,8 @@ use Rattle.delta_defs.specs.Unfolding.{taken_names}
 use Rattle.mode_file.specs.declared.Mode.{Mode}
 use Rattle.written_refutation.specs.Text.{text_lines, as_bytes}
 use Rattle.written_refutation.specs.Named.{name_at, named_refutation}
-use Rattle.refute_text.specs.Reading.{lines_of, start_mark, end_mark, is_start, is_one_line, read, Reads, TextStands}
+use Rattle.outside.specs.Lines.{lines_of}
+use Rattle.refute_text.specs.Reading.{start_mark, end_mark, is_start, is_one_line, read, ReadsText, TextStands}
 use Rattle.refute_text.proofs.ReadingLaws.{reading-same}
 use Rattle.refute_text.proofs.BackLaws.{reads_back}
 use Rattle.szs_report.specs.Report.{proof_report, report_of}
@@ -53,7 +54,7 @@ holds_only status name m p n text proof clean plain_status other =
     let bytes = proof_report status name n text in
     let tree = named_refutation (names_in p) (taken_names p) proof.refutation in
     let first = 5 + length (map (name_at (names_in p).constants) (taken_names p)) in
-    let reads : Reads (lines_of bytes) (read tree first) = reads_back bytes tree first proof.has_text (stands_in_report status name m p n text proof clean plain_status other) in
+    let reads : ReadsText (lines_of bytes) (read tree first) = reads_back bytes tree first proof.has_text (stands_in_report status name m p n text proof clean plain_status other) in
     record { first = first; reads = reads; only = λ reading h. reading-same (lines_of bytes) reading (read tree first) h reads; numbered = proof.numbered }
 
 pub holds_report : (claim : Claim) (name : List ℕ) (m : Mode) (p : PlainProblem) (n : ℕ) (text : List ℕ) (proof : IsProofOf m p n text) → is_one_line name ≡ true → HoldsOnly p (report_of name (Proved claim n text)) proof.refutation

@@ -17,7 +17,7 @@ use Rattle.refute_check.proofs.AcceptanceLaws.{named_accepted, places_named}
 use Rattle.tableau_run.specs.Ended.{IsRefuted}
 use Rattle.request_answers.specs.Names.{ArePrintable, names_in, HasTexts}
 use Rattle.request_answers.specs.Solved.{IsProofOf}
-use Rattle.thf_parse.specs.Printable.{IsPrintable}
+use Rattle.thf_grammar.specs.Printable.{IsPrintable}
 use Rattle.written_refutation.specs.Letters.{is_printable, is_name}
 use Rattle.request_answers.proofs.NameLaws.{NamesAll, accepted_named}
 use Rattle.request_answers.proofs.Numbering.{declared_placed, refutation-same}

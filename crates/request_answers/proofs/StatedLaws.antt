@@ -2,7 +2,7 @@
 use Rattle.std.proofs.Common.{◌≡◌, List, Ok}
 use Rattle.std.proofs.lemmas.List.Elements.{All-map, recursion_from_All}
 use Rattle.stt_core.specs.PlainProblem.{PlainProblem}
-use Rattle.thf_parse.specs.Printable.{IsPrintable}
+use Rattle.thf_grammar.specs.Printable.{IsPrintable}
 use Rattle.thf_include.specs.View.{PlacedTree}
 use Rattle.type_check.specs.Statements.{problem_of}
 use Rattle.type_check.specs.Means.ProblemNames.{AllDeclared, AllNames}

@@ -7,7 +7,8 @@ use Rattle.stt_tableau.specs.declared.refutation.Why.TheVariants.{Form, Start, E
 use Rattle.stt_tableau.specs.declared.refutation.Refutation.{Refutation}
 use Rattle.written_refutation.specs.Trees.{RefutationTree}
 use Rattle.written_refutation.specs.Named.{named_refutation}
-use Rattle.refute_text.specs.Reading.{lines_of, Reading, read, bad_line, no_start, no_end, Reads}
+use Rattle.outside.specs.Lines.{lines_of}
+use Rattle.refute_text.specs.Reading.{TextReading, read, bad_line, no_start, no_end, ReadsText}
 use Rattle.refute_text.specs.declared.refusal.TextRefused.{TextRefused}
 use Rattle.refute_text.specs.declared.refusal.TextRefused.TheVariants as unread
 use Rattle.refute_text.specs.declared.refusal.TextRefused.TheVariants.{BadLine, NoStart, NoEnd}
@@ -26,11 +27,11 @@ use Rattle.szs_report.specs.declared.answer.Answer.TheVariants.{Accepted, Refuse
 pub record IsAcceptedText (p : PlainProblem) (bytes : List ℕ) : Type 0 where
   pub refutation : RefutationTree
   pub first : ℕ
-  pub reads : Reads (lines_of bytes) (read refutation first)
+  pub reads : ReadsText (lines_of bytes) (read refutation first)
   pub accepted : IsAcceptedFor p refutation
 
 -- what is read fails first at this line, and why: its form is wrong there, or the text isn't right there
-abbrev pub FailsFirst : PlainProblem → Reading → ℕ → Why → Type 0
+abbrev pub FailsFirst : PlainProblem → TextReading → ℕ → Why → Type 0
 FailsFirst p (read r first) line why = TextFailsAt p r first line why
 FailsFirst p (bad_line at) line why = (line ≡ at) × (why ≡ Form)
 FailsFirst p (no_start at) line why = (line ≡ at) × (why ≡ Start)
@@ -38,8 +39,8 @@ FailsFirst p (no_end at) line why = (line ≡ at) × (why ≡ End)
 
 -- The bytes hold no such text.
 pub record IsRefusedText (p : PlainProblem) (bytes : List ℕ) (line : ℕ) (why : Why) : Type 0 where
-  pub reading : Reading
-  pub reads : Reads (lines_of bytes) reading
+  pub reading : TextReading
+  pub reads : ReadsText (lines_of bytes) reading
   pub fails : FailsFirst p reading line why
 
 -- what the bytes of a text are answered with; want of memory may come anywhere
@@ -71,6 +72,6 @@ AnswersText told contents file p answer = OfFile told contents file (λ bytes. A
 -- The bytes hold one refutation, which is this one, with the names of the definitions that are taken: so they are read, and in no other way.
 pub record HoldsOnly (p : PlainProblem) (bytes : List ℕ) (refutation : Refutation) : Type 0 where
   pub first : ℕ
-  pub reads : Reads (lines_of bytes) (read (named_refutation (names_in p) (taken_names p) refutation) first)
-  pub only : (reading : Reading) → Reads (lines_of bytes) reading → reading ≡ read (named_refutation (names_in p) (taken_names p) refutation) first
+  pub reads : ReadsText (lines_of bytes) (read (named_refutation (names_in p) (taken_names p) refutation) first)
+  pub only : (reading : TextReading) → ReadsText (lines_of bytes) reading → reading ≡ read (named_refutation (names_in p) (taken_names p) refutation) first
   pub numbered : numbered_refutation (names_in p) (named_refutation (names_in p) (taken_names p) refutation) ≡ refutation

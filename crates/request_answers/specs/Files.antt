@@ -29,5 +29,5 @@ pub record Statements (p : PlainProblem) (ending : Ending) : Type 0 where
   pub read : problem_of statements ≡ Ok p
 
 -- the files of the problem that the words name state this problem
-abbrev pub State : List (List ℕ) → Bool → (List ℕ → Option (List ℕ)) → List (List ℕ) → PlainProblem → Type 0
-State words told contents names p = OfAsked (asked_by words) told contents names (Statements p)
+abbrev pub StatesProblem : List (List ℕ) → Bool → (List ℕ → Option (List ℕ)) → List (List ℕ) → PlainProblem → Type 0
+StatesProblem words told contents names p = OfAsked (asked_by words) told contents names (Statements p)

@@ -4,7 +4,7 @@ use Rattle.mode_file.specs.declared.Mode.{Mode}
 use Rattle.mode_file.specs.declared.refused.ModeRefused.{ModeRefused}
 use Rattle.mode_file.specs.declared.refused.ModeRefused.TheVariants as refusal
 use Rattle.mode_file.specs.Given.{nothing, mode_of}
-use Rattle.mode_file.specs.Lines.{lines_of}
+use Rattle.outside.specs.Lines.{lines_of}
 use Rattle.mode_file.specs.Grammar.{States}
 use Rattle.mode_file.specs.Refusals.{Refuses}
 use Rattle.szs_report.specs.declared.outcome.ModeWhy.{ModeWhy}

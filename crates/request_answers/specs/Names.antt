@@ -2,7 +2,7 @@
 use Rattle.std.specs.List.{AllByRecursion}
 use Rattle.stt_core.specs.PlainProblem.{PlainProblem}
 use Rattle.stt_core.specs.TypedProblem.{IsTyped, NamesDiffer}
-use Rattle.thf_parse.specs.Printable.{IsPrintable}
+use Rattle.thf_grammar.specs.Printable.{IsPrintable}
 use Rattle.written_refutation.specs.Named.{Names, names_of}
 
 -- the names that a problem declares, as the texts of refutations have them

@@ -1,7 +1,7 @@
 //! The problem that files state.
 
 ghost use Rattle.std.specs.Prelude.{◌≡◌, ◌≤◌, ◌<◌, ◌-◌, ◌^◌, ℕ, List, Ok, length, IfOk, IfErr, IsErrOf, OnOk};
-ghost use Rattle.thf_parse.specs.Printable.{IsPrintable};
+ghost use Rattle.thf_grammar.specs.Printable.{IsPrintable};
 ghost use Rattle.thf_include.specs.View.{the_statements};
 ghost use Rattle.type_check.specs.Statements.{problem_of};
 ghost use Rattle.type_check.specs.Means.ProblemNames.{AllDeclared};

@@ -6,7 +6,7 @@ use Rattle.thf_include.specs.Gathering.{Ending, done, stopped, wants, too_long, 
 use Rattle.type_check.specs.Statements.{IllInFile, problem_of}
 use Rattle.mode_file.specs.declared.Mode.{Mode as SearchMode}
 use Rattle.mode_file.specs.declared.refused.ModeRefused.{ModeRefused}
-use Rattle.mode_file.specs.Lines.{lines_of}
+use Rattle.outside.specs.Lines.{lines_of}
 use Rattle.mode_file.specs.Grammar.{States}
 use Rattle.mode_file.specs.Refusals.{Refuses}
 use Rattle.mode_file.proofs.AnswerLaws.{one_mode, one_refusal as one_bad_line, not_both_answers}

@@ -4,7 +4,7 @@ use Rattle.std.proofs.lemmas.Bool.{cases_order}
 use Rattle.std.proofs.lemmas.List.{take-take, length-take}
 use Rattle.std.proofs.lemmas.Option.{slice_get_within}
 use Rattle.std.proofs.Math.Seq.{take-append-add}
-use Rattle.thf_syntax.specs.Trees.{StatementTree}
+use Rattle.thf_grammar.specs.Trees.{StatementTree}
 use Rattle.thf_include.specs.Gathering.{Ending, done, stopped, wants, too_long, no_tree, cycle, too_many, no_name, behind, FileEnds, unread, long, refused, followed, StatementEnds, stays, in_cycle, past_limit, stops, selects, StatementsEnd, no_more, ends, goes_on, IsGathering}
 use Rattle.thf_include.specs.View.{PlacedTree}
 use Rattle.thf_include.specs.Answer.{AreContents}

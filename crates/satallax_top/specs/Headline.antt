@@ -22,7 +22,7 @@ use Rattle.szs_report.specs.declared.answer.Answer.TheVariants.{Proved}
 use Rattle.szs_report.specs.declared.outcome.Outcome.{Outcome}
 use Rattle.szs_report.specs.declared.outcome.Outcome.TheVariants.{Theorem, Unsatisfiable, DemoDone, Accepted, WriteFault}
 use Rattle.request_answers.specs.Requested.{name_of}
-use Rattle.request_answers.specs.Files.{State}
+use Rattle.request_answers.specs.Files.{StatesProblem}
 use Rattle.request_answers.specs.Modes.{IsModeBy}
 use Rattle.request_answers.specs.Names.{names_in}
 use Rattle.request_answers.specs.Checked.{IsAcceptedText, HoldsOnly}
@@ -52,7 +52,7 @@ IsWithoutModel p = (m : Model) → IsModel (scope_of p.declared) m → MeetsProb
 pub record HasNoModel (words : List (List ℕ)) (told : Bool) (contents : List ℕ → Option (List ℕ)) : Type 0 where
   pub names : List (List ℕ)
   pub problem : PlainProblem
-  pub stated : State words told contents names problem
+  pub stated : StatesProblem words told contents names problem
   pub no_model : IsWithoutModel problem
 
 -- the words ask for the proof of a problem, by this mode
@@ -72,7 +72,7 @@ pub record IsProofReport (words : List (List ℕ)) (told : Bool) (contents : Lis
   pub asked : IsAskedBy words told contents mode
   pub names : List (List ℕ)
   pub problem : PlainProblem
-  pub stated : State words told contents names problem
+  pub stated : StatesProblem words told contents names problem
   pub is_outcome : outcome ≡ claim_outcome (claim_of problem)
   pub commands : ℕ
   pub refutation : Refutation

@@ -1,7 +1,7 @@
 -- A gathering whose texts are cut off before those of the last file that it opens wants that file.
 use Rattle.std.proofs.Common.{◌≡◌, ℕ, ◌+◌, ◌<◌, List, [], ◌∷◌, length, take, sym, subst, ◌∙◌, length-append, arith}
 use Rattle.std.proofs.lemmas.List.{take-take, length-take, append-nil}
-use Rattle.thf_syntax.specs.Trees.{StatementTree}
+use Rattle.thf_grammar.specs.Trees.{StatementTree}
 use Rattle.thf_include.specs.Gathering.{Ending, stopped, wants, FileEnds, unread, long, refused, followed, StatementEnds, stays, in_cycle, past_limit, stops, selects, StatementsEnd, no_more, ends, goes_on}
 use Rattle.thf_include.proofs.Texts.{same-get, same-bytes}
 use Rattle.thf_include.proofs.SameTexts.{statement-same}

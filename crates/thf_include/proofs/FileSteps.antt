@@ -2,7 +2,7 @@
 use Rattle.std.proofs.Common.{◌≡◌, ℕ, zero, suc, ◌+◌, ◌-◌, ◌<◌, ◌≤◌, Bool, ◌⊎◌, inl, inr, IsTrue, List, [], ◌∷◌, ◌++◌, length, take, slice_get, Option, Some, Result, Ok, Err, refl, sym, ap, subst, ◌∙◌, append_assoc, length-append, arith}
 use Rattle.std.proofs.lemmas.List.{append-nil}
 use Rattle.std.proofs.Math.Seq.{take-append-add}
-use Rattle.thf_syntax.specs.Trees.{StatementTree}
+use Rattle.thf_grammar.specs.Trees.{StatementTree}
 use Rattle.thf_include.specs.Gathering.{byte_limit}
 use Rattle.thf_include.specs.declared.opened.Opened.{Opened}
 use Rattle.thf_include.specs.declared.refused.GatherRefused.{GatherRefused}
@@ -11,7 +11,7 @@ use Rattle.thf_include.specs.View.{PlacedTree}
 use Rattle.thf_include.specs.Gathering.{Stop, Ending, stopped, wants, too_long, no_tree, bytes_of, IsFileText, FileEnds, unread, long, refused, followed, StatementsEnd}
 use Rattle.thf_include.specs.Means.Opening.{IsReadRefusal, IsTextRefusal}
 use Rattle.thf_include.specs.Answer.{AreContents, StopsAs}
-use Rattle.thf_include.specs.Means.Steps.{AreRead, EndsAs, IsStep, FileSteps, StatementsStep}
+use Rattle.thf_include.specs.Means.Steps.{AreRead, StepsEndAs, IsStep, FileSteps, StatementsStep}
 use Rattle.thf_include.proofs.Texts.{same-get, same-bytes, take-append, bytes_of-more}
 use Rattle.thf_include.proofs.Stops.{StopsAs-map, StopsAs-cases, AreContents-take}
 
@@ -41,13 +41,13 @@ read-more texts text name old new names left r =
     }
 
 -- a step that opens nothing
-pub still-step : {T : Type 0} (tells : Bool) (contents : List ℕ → Option (List ℕ)) (R : List (List ℕ) → List (List ℕ) → Ending → Type 0) (texts : List (List ℕ)) (opened : Opened) (before after : List PlacedTree) (answer : Result T GatherRefused) → EndsAs R texts [] opened before after answer → IsStep tells contents R texts opened opened before after answer
+pub still-step : {T : Type 0} (tells : Bool) (contents : List ℕ → Option (List ℕ)) (R : List (List ℕ) → List (List ℕ) → Ending → Type 0) (texts : List (List ℕ)) (opened : Opened) (before after : List PlacedTree) (answer : Result T GatherRefused) → StepsEndAs R texts [] opened before after answer → IsStep tells contents R texts opened opened before after answer
 still-step tells contents R texts opened before after answer h = record {
   more = [];
   names = [];
   opened = sym (append-nil opened.names);
   told = λ _. tt;
-  ends = subst (λ all. EndsAs R all [] opened before after answer) (sym (append-nil texts)) h;
+  ends = subst (λ all. StepsEndAs R all [] opened before after answer) (sym (append-nil texts)) h;
 }
 
 -- a step that was done, where memory is wanted then

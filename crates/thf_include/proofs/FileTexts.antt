@@ -1,14 +1,14 @@
 -- A text has one tree, or is refused at one place.
 use Rattle.std.proofs.Common.{◌≡◌, ℕ, ◌⊎◌, List, inl, inr, sym, ap, subst, ◌∙◌}
-use Rattle.thf_lex.specs.declared.token.Token.{Token}
-use Rattle.thf_lex.specs.Reading.{AreTokens}
-use Rattle.thf_lex.proofs.Readings.{reads_same}
-use Rattle.thf_syntax.specs.Trees.{StatementTree}
-use Rattle.thf_parse.specs.Words.{Lexeme, lexemes}
+use Rattle.thf_grammar.specs.declared.token.Token.{Token}
+use Rattle.thf_grammar.specs.Reading.{AreTokens}
+use Rattle.thf_grammar.proofs.Readings.{reads_same}
+use Rattle.thf_grammar.specs.Trees.{StatementTree}
+use Rattle.thf_grammar.specs.Words.{Lexeme, lexemes}
 use Rattle.thf_parse.specs.Parsing.{depth_limit, HasTree, IsWrongAt, IsTooDeepAt}
 use Rattle.thf_parse.proofs.ParseLaws.{one-tree}
 use Rattle.thf_parse.proofs.RefusalLaws.{not-wrong, not-deep, one-wrong, one-deep, wrong-or-deep}
-use Rattle.thf_include.specs.Gathering.{IsFileText, IsRefusedText}
+use Rattle.thf_include.specs.Gathering.{IsFileText, IsWrongText}
 
 same-tokens : (text : List ℕ) (tokens others : List Token) → AreTokens text tokens → AreTokens text others → lexemes text tokens ≡ lexemes text others
 same-tokens text tokens others read again = ap (lexemes text) (reads_same 0 text tokens others read again)
@@ -17,7 +17,7 @@ abbrev RefusedAt : List Lexeme → ℕ → Type 0
 RefusedAt ts at = IsWrongAt depth_limit ts at ⊎ IsTooDeepAt depth_limit ts at
 
 -- a text with a tree isn't refused
-pub not-refused : (text : List ℕ) (at : ℕ) (tree : List StatementTree) → IsFileText text tree → IsRefusedText text at → ⊥
+pub not-refused : (text : List ℕ) (at : ℕ) (tree : List StatementTree) → IsFileText text tree → IsWrongText text at → ⊥
 not-refused text at tree h r = go r.refused
   where
     has : HasTree depth_limit (lexemes text r.tokens) tree
@@ -28,7 +28,7 @@ not-refused text at tree h r = go r.refused
     go (inr d) = not-deep depth_limit (lexemes text r.tokens) tree at has d
 
 -- a text is refused at one place
-pub same-place : (text : List ℕ) (at other : ℕ) → IsRefusedText text at → IsRefusedText text other → at ≡ other
+pub same-place : (text : List ℕ) (at other : ℕ) → IsWrongText text at → IsWrongText text other → at ≡ other
 same-place text at other r s = go r.refused (subst (λ ts. RefusedAt ts other) (same-tokens text s.tokens r.tokens s.read r.read) s.refused)
   where
     go : RefusedAt (lexemes text r.tokens) at → RefusedAt (lexemes text r.tokens) other → at ≡ other

@@ -7,21 +7,21 @@ use Rattle.std.proofs.lemmas.Bool.Decides.{nat_tests}
 use Rattle.std.proofs.lemmas.List.{drop-drop, length-append, take-append-le}
 use Rattle.std.proofs.Math.Seq.{take-length}
 use Rattle.std.proofs.lemmas.Str.{IsUtf8-from_ascii}
-use Rattle.thf_lex.specs.declared.token.TokenKind.{TokenKind}
-use Rattle.thf_lex.specs.declared.token.TokenKind.TheVariants as kind
-use Rattle.thf_lex.specs.declared.token.Token.{Token}
-use Rattle.thf_lex.specs.Bytes.{single_quote, backslash}
-use Rattle.thf_lex.specs.Texts.{IsToken, IsQuotedBy, AreCharacters, none, plain as plain_character, escape}
-use Rattle.thf_lex.specs.Reading.{Reads, gap, token, bad, end, token_at}
-use Rattle.thf_syntax.specs.declared.formula.Conn.TheVariants.{Not, And, Or, Imp, If, Iff, Xor, Nor, Nand}
-use Rattle.thf_syntax.specs.declared.formula.Binder.TheVariants.{All, Exists, Lam, Choice, Desc}
-use Rattle.thf_syntax.specs.Trees.{StatementTree}
-use Rattle.thf_parse.specs.declared.terminal.Mark.TheVariants as mark
-use Rattle.thf_parse.specs.declared.terminal.Terminal.{Terminal}
-use Rattle.thf_parse.specs.declared.terminal.Terminal.TheVariants as terminal
-use Rattle.thf_parse.specs.Terminals.{single, pair, triple, symbol, dollar_word, of_kind}
-use Rattle.thf_parse.specs.Words.{Lexeme, lexeme, lexemes, Word, plain, terminal_of, name_of, name_in, unescaped, name}
-use Rattle.thf_parse.specs.Statements.{IsStatement, annotated_statement, include_statement, IsFile, no_statement, more_statements}
+use Rattle.thf_grammar.specs.declared.token.TokenKind.{TokenKind}
+use Rattle.thf_grammar.specs.declared.token.TokenKind.TheVariants as kind
+use Rattle.thf_grammar.specs.declared.token.Token.{Token}
+use Rattle.thf_grammar.specs.Bytes.{single_quote, backslash}
+use Rattle.thf_grammar.specs.Texts.{IsToken, IsQuotedBy, AreCharacters, none, plain as plain_character, escape}
+use Rattle.thf_grammar.specs.Reading.{Reads, gap, token, bad, end, token_at}
+use Rattle.thf_grammar.specs.declared.connective.Conn.TheVariants.{Not, And, Or, Imp, If, Iff, Xor, Nor, Nand}
+use Rattle.thf_grammar.specs.declared.connective.Binder.TheVariants.{All, Exists, Lam, Choice, Desc}
+use Rattle.thf_grammar.specs.Trees.{StatementTree}
+use Rattle.thf_grammar.specs.declared.terminal.Mark.TheVariants as mark
+use Rattle.thf_grammar.specs.declared.terminal.Terminal.{Terminal}
+use Rattle.thf_grammar.specs.declared.terminal.Terminal.TheVariants as terminal
+use Rattle.thf_grammar.specs.Terminals.{single, pair, triple, symbol, dollar_word, of_kind}
+use Rattle.thf_grammar.specs.Words.{Lexeme, lexeme, lexemes, Word, plain, terminal_of, name_of, name_in, unescaped, name}
+use Rattle.thf_grammar.specs.Statements.{IsStatement, annotated_statement, include_statement, IsFile, no_statement, more_statements}
 use Rattle.thf_parse.specs.Parsing.{depth_limit, AreWithin}
 use Rattle.thf_include.specs.Gathering.{IsFileText}
 use Rattle.thf_include.specs.Means.Names.{IsNamed, AreNamed}

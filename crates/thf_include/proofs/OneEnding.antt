@@ -2,8 +2,8 @@
 use Rattle.std.proofs.Common.{◌≡◌, ℕ, ◌+◌, List, ◌∷◌, ◌++◌, length, Some, refl, sym, ap, ap₂, subst, arith}
 use Rattle.std.specs.Prelude.{slice_get}
 use Rattle.std.proofs.lemmas.Option.{slice_get_within}
-use Rattle.thf_syntax.specs.Trees.{StatementTree}
-use Rattle.thf_include.specs.Gathering.{no_tree, Ending, done, stopped, behind, select, IsFileText, IsRefusedText, FileEnds, unread, long, refused, followed, StatementEnds, stays, in_cycle, past_limit, stops, selects, StatementsEnd, no_more, ends, goes_on}
+use Rattle.thf_grammar.specs.Trees.{StatementTree}
+use Rattle.thf_include.specs.Gathering.{no_tree, Ending, done, stopped, behind, select, IsFileText, IsWrongText, FileEnds, unread, long, refused, followed, StatementEnds, stays, in_cycle, past_limit, stops, selects, StatementsEnd, no_more, ends, goes_on}
 use Rattle.thf_include.proofs.FileTexts.{not-refused, same-place, same-tree}
 
 pub record SameEnds (opened others : List (List ℕ)) (one other : Ending) : Type 0 where
@@ -11,14 +11,14 @@ pub record SameEnds (opened others : List (List ℕ)) (one other : Ending) : Typ
   pub endings : one ≡ other
 
 module _ (texts : List (List ℕ)) where
-  apart : (file at : ℕ) (text other : List ℕ) (tree : List StatementTree) → slice_get texts file ≡ Some text → slice_get texts file ≡ Some other → IsFileText text tree → IsRefusedText other at → ⊥
+  apart : (file at : ℕ) (text other : List ℕ) (tree : List StatementTree) → slice_get texts file ≡ Some text → slice_get texts file ≡ Some other → IsFileText text tree → IsWrongText other at → ⊥
   apart file at text other tree get again h r = let e : text ≡ other = cc in not-refused other at tree (subst (λ t. IsFileText t tree) e h) r
 
   one : (file : ℕ) (text other : List ℕ) (tree another : List StatementTree) → slice_get texts file ≡ Some text → slice_get texts file ≡ Some other → IsFileText text tree → IsFileText other another → another ≡ tree
   one file text other tree another get again h k = let e : other ≡ text = cc in same-tree text another tree (subst (λ t. IsFileText t another) e k) h
 
-  at_one : (file at place : ℕ) (text other : List ℕ) → slice_get texts file ≡ Some text → slice_get texts file ≡ Some other → IsRefusedText text at → IsRefusedText other place → at ≡ place
-  at_one file at place text other get again r s = let e : other ≡ text = cc in same-place text at place r (subst (λ t. IsRefusedText t place) e s)
+  at_one : (file at place : ℕ) (text other : List ℕ) → slice_get texts file ≡ Some text → slice_get texts file ≡ Some other → IsWrongText text at → IsWrongText other place → at ≡ place
+  at_one file at place text other get again r s = let e : other ≡ text = cc in same-place text at place r (subst (λ t. IsWrongText t place) e s)
 
   mutual
     pub one-file : (chain : List (List ℕ)) (file : ℕ) (name : List ℕ) (opened : List (List ℕ)) (e : Ending) → FileEnds texts chain file name opened e → (others : List (List ℕ)) (f : Ending) → FileEnds texts chain file name others f → SameEnds opened others e f

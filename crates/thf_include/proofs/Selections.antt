@@ -8,8 +8,8 @@ use Rattle.std.specs.Option.{option_or}
 use Rattle.std.specs.Str.{bytes_eq}
 use Rattle.std.proofs.lemmas.List.{map-append, take_more, take-append-drop}
 use Rattle.std.proofs.lemmas.List.Folds.{find-append}
-use Rattle.thf_syntax.specs.View.{the_selected}
-use Rattle.thf_syntax.specs.declared.statement.Selected.{Selected}
+use Rattle.thf_grammar.specs.View.{the_selected}
+use Rattle.thf_grammar.specs.declared.statement.Selected.{Selected}
 use Rattle.thf_include.specs.declared.gathered.Placed.{Placed}
 use Rattle.thf_include.specs.View.{PlacedTree, the_placed, the_statements}
 use Rattle.thf_include.specs.Gathering.{is_selected, is_missing}

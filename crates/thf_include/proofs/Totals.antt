@@ -1,8 +1,8 @@
 -- What is gathered in all.
 use Rattle.std.proofs.Common.{◌≡◌, ℕ, zero, suc, ◌+◌, ◌<◌, ◌≤◌, Bool, List, [], ◌∷◌, ◌++◌, length, Option, Ok, All, refl, sym, ap, subst, ◌∙◌, length-append, arith}
 use Rattle.std.proofs.lemmas.List.{length-map}
-use Rattle.thf_syntax.specs.View.{the_statement, the_file}
-use Rattle.thf_syntax.specs.declared.statement.Statement.{Statement}
+use Rattle.thf_grammar.specs.View.{the_statement, the_file}
+use Rattle.thf_grammar.specs.declared.statement.Statement.{Statement}
 use Rattle.thf_include.specs.declared.gathered.Placed.{Placed}
 use Rattle.thf_include.specs.Gathering.{byte_limit}
 use Rattle.thf_include.specs.declared.opened.Opened.{Opened}

@@ -2,12 +2,12 @@
 use Rattle.std.proofs.Common.{ℕ, ◌+◌, ◌<◌, ◌≤◌, List, ◌∷◌, length, drop, inl, inr, ap, arith, length-drop}
 use Rattle.std.specs.List.{AllByRecursion}
 use Rattle.std.proofs.lemmas.List.{length-map}
-use Rattle.thf_lex.specs.declared.token.Token.{Token}
-use Rattle.thf_lex.specs.Reading.{Reads, gap, token, bad, end}
-use Rattle.thf_lex.proofs.Pieces.{token_front}
-use Rattle.thf_syntax.specs.Trees.{StatementTree}
-use Rattle.thf_parse.specs.Words.{lexeme, Word, plain}
-use Rattle.thf_parse.specs.Statements.{IsStatement, IsFile, no_statement, more_statements}
+use Rattle.thf_grammar.specs.declared.token.Token.{Token}
+use Rattle.thf_grammar.specs.Reading.{Reads, gap, token, bad, end}
+use Rattle.thf_grammar.proofs.Pieces.{token_front}
+use Rattle.thf_grammar.specs.Trees.{StatementTree}
+use Rattle.thf_grammar.specs.Words.{lexeme, Word, plain}
+use Rattle.thf_grammar.specs.Statements.{IsStatement, IsFile, no_statement, more_statements}
 use Rattle.thf_parse.specs.Parsing.{depth_limit, AreWithin}
 use Rattle.thf_parse.specs.Means.StatementReader.{statement}
 use Rattle.thf_parse.proofs.Goes.{IsShallow, here, there, Goes}

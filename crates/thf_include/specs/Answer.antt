@@ -24,15 +24,15 @@ StopsAs Q E names (TooMany file at) = Q (too_many file at)
 StopsAs Q E names Memory = E ⊎ Q (wants (length names - 1))
 
 -- the answer is how the gathering over these texts ends
-abbrev pub IsAnswer : List (List ℕ) → List ℕ → List (List ℕ) → Result (List Placed) GatherRefused → Type 0
-IsAnswer texts name names (Ok gathered) = IsGathering texts name names (done (the_statements gathered)) × (length texts ≡ length names)
-IsAnswer texts name names (Err refused) = StopsAs (λ why. IsGathering texts name names (stopped why)) (names ≡ []) names refused
+abbrev pub IsGatherAnswer : List (List ℕ) → List ℕ → List (List ℕ) → Result (List Placed) GatherRefused → Type 0
+IsGatherAnswer texts name names (Ok gathered) = IsGathering texts name names (done (the_statements gathered)) × (length texts ≡ length names)
+IsGatherAnswer texts name names (Err refused) = StopsAs (λ why. IsGathering texts name names (stopped why)) (names ≡ []) names refused
 
 -- the answer is how the gathering ends over some texts, which are the contents of its files where these are told
 pub record Gathers (tells : Bool) (contents : List ℕ → Option (List ℕ)) (name : List ℕ) (names : List (List ℕ)) (answer : Result (List Placed) GatherRefused) : Type 0 where
   pub texts : List (List ℕ)
   pub told : IsTrue tells → AreContents contents names texts
-  pub answered : IsAnswer texts name names answer
+  pub answered : IsGatherAnswer texts name names answer
 
 -- P holds of the number of a file with a fault
 abbrev pub OfFault : (ℕ → Type 0) → GatherRefused → Type 0

@@ -2,10 +2,10 @@
 use Rattle.std.specs.Prelude.{◌≡◌, ℕ, ◌+◌, ◌<◌, ◌≤◌, Bool, not, ◌⊎◌, List, [], ◌∷◌, ◌++◌, length, take, sum_by, filter, find, slice_get, Contains, Option, Some, None}
 use Rattle.std.specs.List.{list_any}
 use Rattle.std.specs.Str.{bytes_eq}
-use Rattle.thf_lex.specs.declared.token.Token.{Token}
-use Rattle.thf_lex.specs.Reading.{AreTokens}
-use Rattle.thf_syntax.specs.Trees.{AnnotatedTree, SelectedTree, StatementTree, annotated, include}
-use Rattle.thf_parse.specs.Words.{lexemes}
+use Rattle.thf_grammar.specs.declared.token.Token.{Token}
+use Rattle.thf_grammar.specs.Reading.{AreTokens}
+use Rattle.thf_grammar.specs.Trees.{AnnotatedTree, SelectedTree, StatementTree, annotated, include}
+use Rattle.thf_grammar.specs.Words.{lexemes}
 use Rattle.thf_parse.specs.Parsing.{depth_limit, HasTree, IsWrongAt, IsTooDeepAt}
 use Rattle.thf_include.specs.View.{PlacedTree}
 
@@ -45,7 +45,7 @@ pub record IsFileText (text : List ℕ) (tree : List StatementTree) : Type 0 whe
   pub parsed : HasTree depth_limit (lexemes text tokens) tree
 
 -- the tokens of a text have no tree, and the first that is wrong or too deep stands at this place
-pub record IsRefusedText (text : List ℕ) (at : ℕ) : Type 0 where
+pub record IsWrongText (text : List ℕ) (at : ℕ) : Type 0 where
   pub tokens : List Token
   pub read : AreTokens text tokens
   pub refused : IsWrongAt depth_limit (lexemes text tokens) at ⊎ IsTooDeepAt depth_limit (lexemes text tokens) at
@@ -78,7 +78,7 @@ mutual
   pub data FileEnds (texts : List (List ℕ)) : List (List ℕ) → ℕ → List ℕ → List (List ℕ) → Ending → Type 0 where
     unread : (chain : List (List ℕ)) (file : ℕ) (name : List ℕ) → length texts ≤ file → FileEnds texts chain file name (name ∷ []) (stopped (wants file))
     long : (chain : List (List ℕ)) (file : ℕ) (name : List ℕ) → file < length texts → byte_limit < bytes_of texts (file + 1) → FileEnds texts chain file name (name ∷ []) (stopped (too_long file))
-    refused : (chain : List (List ℕ)) (file at : ℕ) (name text : List ℕ) → slice_get texts file ≡ Some text → bytes_of texts (file + 1) ≤ byte_limit → IsRefusedText text at → FileEnds texts chain file name (name ∷ []) (stopped (no_tree file at))
+    refused : (chain : List (List ℕ)) (file at : ℕ) (name text : List ℕ) → slice_get texts file ≡ Some text → bytes_of texts (file + 1) ≤ byte_limit → IsWrongText text at → FileEnds texts chain file name (name ∷ []) (stopped (no_tree file at))
     followed : (chain opened : List (List ℕ)) (file : ℕ) (name text : List ℕ) (tree : List StatementTree) (ending : Ending) → slice_get texts file ≡ Some text → bytes_of texts (file + 1) ≤ byte_limit → IsFileText text tree → StatementsEnd texts (name ∷ chain) file (file + 1) tree opened ending → FileEnds texts chain file name (name ∷ opened) ending
 
   -- from a statement of the file with the first number, where the next file that is opened has the second

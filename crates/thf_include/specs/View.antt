@@ -1,7 +1,7 @@
 -- A problem's statements as plain data.
 use Rattle.std.specs.Prelude.{ℕ, List, map}
-use Rattle.thf_syntax.specs.Trees.{AnnotatedTree}
-use Rattle.thf_syntax.specs.View.{the_annotated}
+use Rattle.thf_grammar.specs.Trees.{AnnotatedTree}
+use Rattle.thf_grammar.specs.View.{the_annotated}
 use Rattle.thf_include.specs.declared.gathered.Placed.{Placed}
 
 -- a statement, and the number of its file

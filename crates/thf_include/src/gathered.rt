@@ -4,7 +4,7 @@ ghost use Rattle.std.specs.Prelude.{◌≡◌, ◌<◌, [], ◌∷◌, ◌++◌,
 
 use std::alloc::{AllocError, Global};
 use std::marker::Model;
-use thf_syntax::Annotated;
+use thf_grammar::Annotated;
 
 /// A statement, and the number of its file: its place among the names of the problem's files, from 0.
 #[derive(Debug, Drop)]
@@ -22,8 +22,8 @@ pub struct Gathered {
 impl Model for Gathered {
     ghost use Rattle.std.specs.Prelude.{List};
     ghost use Rattle.std.specs.Coded.{codes};
-    ghost use Rattle.thf_syntax.specs.contracts.formula.Surface as formula;
-    ghost use Rattle.thf_syntax.specs.contracts.types.SurfaceTy as ty;
+    ghost use Rattle.thf_grammar.specs.contracts.formula.Surface as formula;
+    ghost use Rattle.thf_grammar.specs.contracts.types.SurfaceTy as ty;
     ghost use Rattle.thf_include.specs.declared.gathered.Placed.{Placed};
 
     ghost Value = { List Placed };

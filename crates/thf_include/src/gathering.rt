@@ -2,8 +2,8 @@
 
 ghost use Rattle.std.specs.Prelude.{◌≡◌, ◌≤◌, ◌<◌, ◌^◌, [], All, List, ℕ, length, map, slice_get, IsSomeAnd, IfOk, IfErr, IsUtf8};
 ghost use Rattle.outside.specs.Causes.{Rose};
-ghost use Rattle.thf_syntax.specs.Trees.{include};
-ghost use Rattle.thf_syntax.specs.View.{the_file, the_statement, the_selection};
+ghost use Rattle.thf_grammar.specs.Trees.{include};
+ghost use Rattle.thf_grammar.specs.View.{the_file, the_statement, the_selection};
 ghost use Rattle.thf_include.specs.Answer.{Gathers, OfFault, IsNoFault};
 ghost use Rattle.thf_include.specs.Means.Chain.{the_chain};
 ghost use Rattle.thf_include.specs.Means.Names.{IsNamed, AreNamed};
@@ -19,7 +19,7 @@ use crate::text::{statements_in, text_of};
 use crate::{FileNames, GatherRefused, Gathered, Placed};
 use outside::{Bytes, Files};
 use std::alloc::Global;
-use thf_syntax::{Selection, Statement};
+use thf_grammar::{Selection, Statement};
 
 /// An include in the file with the number `file`.
 #[derive(Drop)]

@@ -3,7 +3,7 @@
 ghost use Rattle.std.specs.Prelude.{◌≡◌, ◌++◌, List, ℕ, map, filter, find, option_map, IfOk, OnOk, Some};
 ghost use Rattle.std.specs.Str.{bytes_eq};
 ghost use Rattle.std.specs.List.{list_any};
-ghost use Rattle.thf_syntax.specs.View.{the_selection, the_selected};
+ghost use Rattle.thf_grammar.specs.View.{the_selection, the_selected};
 ghost use Rattle.thf_include.specs.View.{the_statements};
 ghost use Rattle.thf_include.specs.Gathering.{select, is_selected, is_missing};
 ghost use Rattle.thf_include.specs.Selection.{has_name};
@@ -12,7 +12,7 @@ ghost use Rattle.thf_include.specs.Means.Steps.{SelectsAs};
 use crate::{GatherRefused, Gathered};
 use std::alloc::{AllocError, Global};
 use std::collections::BTreeSet;
-use thf_syntax::Selection;
+use thf_grammar::Selection;
 
 /// Keeps the statements with selected names, for an include in the file with this number.
 pub fn keep_selected(

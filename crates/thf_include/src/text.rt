@@ -1,7 +1,7 @@
 //! The statements in the text of a file.
 
 ghost use Rattle.std.specs.Prelude.{◌≡◌, ◌≤◌, ◌^◌, length, IsUtf8, IfOk, IfErr};
-ghost use Rattle.thf_syntax.specs.View.{the_file};
+ghost use Rattle.thf_grammar.specs.View.{the_file};
 ghost use Rattle.thf_include.specs.Gathering.{IsFileText};
 ghost use Rattle.thf_include.specs.Means.Opening.{IsTextRefusal};
 
@@ -11,7 +11,7 @@ use std::alloc::Global;
 use std::str;
 use thf_lex::lex;
 use thf_parse::{ParseRefused, parse};
-use thf_syntax::Statement;
+use thf_grammar::Statement;
 
 /// The statements in the text of the file with this number.
 pub fn statements_in(

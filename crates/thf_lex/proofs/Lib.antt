@@ -1,8 +1,1 @@
-pub mod Firsts
-pub mod Gaps
-pub mod Pieces
-pub mod Quotes
-pub mod Readings
-pub mod Runs
 pub mod Symbols
-pub mod Words

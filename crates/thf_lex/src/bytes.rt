@@ -2,7 +2,7 @@
 ghost use Rattle.std.specs.Prelude.{◌≡◌, ◌≤◌, length};
 ghost use Rattle.std.specs.List.{prefix_len};
 ghost use Rattle.std.specs.Char.{is_ascii_digit};
-ghost use Rattle.thf_lex.specs.Bytes as spec;
+ghost use Rattle.thf_grammar.specs.Bytes as spec;
 
 pub fn is_plain(quote: u8, byte: u8) -> bool
     ensures { result ≡ spec.is_plain quote byte }

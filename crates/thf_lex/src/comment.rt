@@ -1,6 +1,6 @@
 //! Comments in `/*` and `*/`.
 ghost use Rattle.std.specs.Prelude.{◌≡◌, ℕ, ◌≤◌, length, take, IfSome, IfNone};
-ghost use Rattle.thf_lex.specs.Texts.{IsBlockComment};
+ghost use Rattle.thf_grammar.specs.Texts.{IsBlockComment};
 
 /// How many bytes the comment at the front takes, if it is closed.
 pub fn block_comment_len(bytes: &[u8]) -> Option<usize>

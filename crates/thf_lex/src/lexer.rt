@@ -1,10 +1,10 @@
 //! The reading of bytes into tokens.
 ghost use Rattle.std.specs.Prelude.{◌≡◌, ◌^◌, ◌≤◌, length, IfOk};
-ghost use Rattle.thf_lex.specs.Reading.{AreTokens, token_at};
+ghost use Rattle.thf_grammar.specs.Reading.{AreTokens, token_at};
 
 use crate::piece::{Piece, first_piece};
-use crate::token::{Token, TokenKind, Tokens};
 use std::alloc::{AllocError, Global};
+use thf_grammar::{Token, TokenKind, Tokens};
 
 /// The tokens of a file.
 pub fn lex(alloc: Global, bytes: &[u8]) -> Result<Tokens, AllocError>

@@ -8,8 +8,7 @@ mod lexer;
 mod piece;
 mod quoted;
 mod symbol;
-mod token;
 
 pub use law::one_reading;
 pub use lexer::lex;
-pub use token::{Token, TokenKind, Tokens};
+pub use thf_grammar::{Token, TokenKind, Tokens};

@@ -1,13 +1,13 @@
 //! What stands at the front of the bytes that are left.
 ghost use Rattle.std.specs.Prelude.{◌≡◌, ◌<◌, ◌⊎◌, length, slice_index};
-ghost use Rattle.thf_lex.specs.Means.Kind.{kind_of, IsQuoteOf};
+ghost use Rattle.thf_grammar.specs.Means.Kind.{kind_of, IsQuoteOf};
 ghost use Rattle.thf_lex.specs.Means.Piece.{IsFirst};
 
 use crate::bytes::{digits_len, is_sign, is_white_space, line_len, white_space_len, word_len};
 use crate::comment::block_comment_len;
 use crate::quoted::quoted_len;
 use crate::symbol::symbol_len;
-use crate::token::TokenKind;
+use thf_grammar::TokenKind;
 
 /// A piece with its number of bytes.
 #[derive(Clone, Copy)]

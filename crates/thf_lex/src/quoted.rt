@@ -1,7 +1,7 @@
 //! Quoted names and distinct objects.
 ghost use Rattle.std.specs.Prelude.{◌≡◌, ◌≢◌, ℕ, ◌<◌, ◌≤◌, length, take, slice_index, IfSome, IfNone};
-ghost use Rattle.thf_lex.specs.Bytes.{backslash};
-ghost use Rattle.thf_lex.specs.Texts.{IsQuotedBy};
+ghost use Rattle.thf_grammar.specs.Bytes.{backslash};
+ghost use Rattle.thf_grammar.specs.Texts.{IsQuotedBy};
 
 use crate::bytes::{is_escaped, is_plain};
 

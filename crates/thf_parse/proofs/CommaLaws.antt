@@ -1,9 +1,9 @@
 -- What stands between commas.
 use Rattle.std.proofs.Common.{◌≡◌, ℕ, zero, suc, ◌<◌, ◌≤◌, List, [], ◌∷◌, length, Bool, true, false, inl, inr, refl, sym, ap, subst, ◌∙◌, arith}
-use Rattle.thf_parse.specs.declared.terminal.Mark.TheVariants.{Comma}
-use Rattle.thf_parse.specs.declared.terminal.Terminal.{Terminal}
-use Rattle.thf_parse.specs.declared.terminal.Terminal.TheVariants as terminal
-use Rattle.thf_parse.specs.Words.{Lexeme, Word, plain, terminal_of, Is}
+use Rattle.thf_grammar.specs.declared.terminal.Mark.TheVariants.{Comma}
+use Rattle.thf_grammar.specs.declared.terminal.Terminal.{Terminal}
+use Rattle.thf_grammar.specs.declared.terminal.Terminal.TheVariants as terminal
+use Rattle.thf_grammar.specs.Words.{Lexeme, Word, plain, terminal_of, Is}
 use Rattle.thf_parse.specs.Means.Outcome.{Outcome, found, wrong, deep, Reader, ◌>>=◌, first_terminal, behind, is_mark}
 use Rattle.thf_parse.specs.Means.NoteReader.{comma_by, commas, all_commas}
 use Rattle.thf_parse.proofs.Locals.{IsLocal, IsLocalAt, rest_of, at, local-found, local-wrong, local-behind, local-bind, local-terminal, rest-length, local-counted}

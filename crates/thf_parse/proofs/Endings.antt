@@ -1,11 +1,11 @@
 -- Words with which something may end: a token of each kind, at a depth.
 use Rattle.std.proofs.Common.{ℕ, List, [], true, codes, refl}
-use Rattle.thf_lex.specs.declared.token.TokenKind.{TokenKind}
-use Rattle.thf_lex.specs.declared.token.TokenKind.TheVariants as kind
-use Rattle.thf_parse.specs.declared.terminal.Mark.{Mark}
-use Rattle.thf_parse.specs.declared.terminal.Mark.TheVariants as mark
-use Rattle.thf_parse.specs.declared.terminal.Terminal.TheVariants as terminal
-use Rattle.thf_parse.specs.Words.{Word, terminal_of, Is}
+use Rattle.thf_grammar.specs.declared.token.TokenKind.{TokenKind}
+use Rattle.thf_grammar.specs.declared.token.TokenKind.TheVariants as kind
+use Rattle.thf_grammar.specs.declared.terminal.Mark.{Mark}
+use Rattle.thf_grammar.specs.declared.terminal.Mark.TheVariants as mark
+use Rattle.thf_grammar.specs.declared.terminal.Terminal.TheVariants as terminal
+use Rattle.thf_grammar.specs.Words.{Word, terminal_of, Is}
 use Rattle.thf_parse.proofs.Finds.{word}
 
 abbrev some_token : TokenKind → List ℕ → ℕ → Word

@@ -1,16 +1,16 @@
 -- What is found is a formula.
 use Rattle.std.proofs.Common.{◌≡◌, ℕ, zero, suc, List, [], ◌∷◌, ◌++◌, Bool, true, false, if◌then◌else◌, Some, refl, sym, ap, subst, ◌∙◌, append_assoc}
-use Rattle.thf_syntax.specs.Trees.{TypeTree, indiv, VarTree, FormulaTree, constant, variable, truth, operator, negation, binary, equation, application, quantified, binding}
-use Rattle.thf_syntax.specs.declared.formula.Conn.{Conn}
-use Rattle.thf_syntax.specs.declared.formula.Conn.TheVariants.{Not, And, Or}
-use Rattle.thf_syntax.specs.declared.formula.Binder.{Binder}
-use Rattle.thf_parse.specs.declared.terminal.Mark.TheVariants.{Open, Close, OpenList, CloseList, Comma, Colon, At}
-use Rattle.thf_parse.specs.declared.terminal.Terminal.{Terminal}
-use Rattle.thf_parse.specs.declared.terminal.Terminal.TheVariants as terminal
-use Rattle.thf_parse.specs.Words.{Lexeme, Word, terminal_of, name_of, name, Is, lower, quoted}
-use Rattle.thf_parse.specs.Types.{IsVar, plain_var, typed_var}
-use Rattle.thf_parse.specs.Formulas as is
-use Rattle.thf_parse.specs.Formulas.{binds_many, is_chained, is_nonassoc, lone_depth, AreVars, IsFormula, AreLinks, AreArguments, IsUnit, IsOperand, IsNegation, IsUnitary, IsPrimary, IsBinder}
+use Rattle.thf_grammar.specs.Trees.{TypeTree, indiv, VarTree, FormulaTree, constant, variable, truth, operator, negation, binary, equation, application, quantified, binding}
+use Rattle.thf_grammar.specs.declared.connective.Conn.{Conn}
+use Rattle.thf_grammar.specs.declared.connective.Conn.TheVariants.{Not, And, Or}
+use Rattle.thf_grammar.specs.declared.connective.Binder.{Binder}
+use Rattle.thf_grammar.specs.declared.terminal.Mark.TheVariants.{Open, Close, OpenList, CloseList, Comma, Colon, At}
+use Rattle.thf_grammar.specs.declared.terminal.Terminal.{Terminal}
+use Rattle.thf_grammar.specs.declared.terminal.Terminal.TheVariants as terminal
+use Rattle.thf_grammar.specs.Words.{Lexeme, Word, terminal_of, name_of, name, Is, lower, quoted}
+use Rattle.thf_grammar.specs.Types.{IsVar, plain_var, typed_var}
+use Rattle.thf_grammar.specs.Formulas as is
+use Rattle.thf_grammar.specs.Formulas.{binds_many, is_chained, is_nonassoc, lone_depth, AreVars, IsFormulaText, AreLinks, AreArguments, IsUnit, IsOperand, IsNegation, IsUnitary, IsPrimary, IsBinder}
 use Rattle.thf_parse.specs.Means.Outcome.{found, wrong, Reader, ◌>>=◌, first_terminal, first_place, first_name, behind, enter}
 use Rattle.thf_parse.specs.Means.Reader.{type_with, inner_type}
 use Rattle.thf_parse.specs.Means.FormulaReader.{Readers, Inside, var, typed_by, variable_at, negation_at, primary_by, primary, next_variable_by, next_variable, bracket_by, binder_at, unitary_by, unitary, operand_by, operand, right_side, equated_by, unit_by, unit, next_link, is_link, links_by, links, arguments_by, arguments, quantified_by, quantified_at, second, tail_by, tail, applied_by, applied, behind_primary_by, behind_primary, formula_by, formula, closed, lone, negated_operand, negated_by, negated_at, grouped_by, grouped, body, bound_by, behind_variable, bound, readers, inner}
@@ -38,7 +38,7 @@ abbrev pub BinderIs : ℕ → FormulaTree → List Word → List Word → Type 0
 BinderIs d t ws rest = IsBinder d ws t rest
 
 abbrev pub FormulaIs : ℕ → FormulaTree → List Word → List Word → Type 0
-FormulaIs d t ws rest = IsFormula d ws t rest
+FormulaIs d t ws rest = IsFormulaText d ws t rest
 
 abbrev pub VarIs : ℕ → VarTree → List Word → List Word → Type 0
 VarIs d v ws rest = IsVar d ws v rest
@@ -97,11 +97,11 @@ finds-variable d type h t (s ∷ ts) e = go (terminal_of s) refl
         (λ u ws rest p. typed_var d (word t d) (word s d) ws rest u (here t terminal.Upper d e) (here s (terminal.Mark Colon) d f) p)))
     go _ f = none
 
-links-formula : (c : Conn) (d : ℕ) (t u : FormulaTree) (front ws rest : List Word) → is_chained c ≡ true → IsUnit d front t ws → AreLinks c d t ws u rest → IsFormula d front u rest
+links-formula : (c : Conn) (d : ℕ) (t u : FormulaTree) (front ws rest : List Word) → is_chained c ≡ true → IsUnit d front t ws → AreLinks c d t ws u rest → IsFormulaText d front u rest
 links-formula c d t u front ws rest e p (is.no_links _ _ _ _) = is.unit_formula d front rest t p
 links-formula c d t u front ws rest e p (is.more_links _ _ _ v _ w right behind _ q k m) = is.chain_formula d front right behind rest w c t v u p q e k m
 
-arguments-formula : (d : ℕ) (t u : FormulaTree) (front ws rest : List Word) → IsUnitary d front t ws → AreArguments d t ws u rest → IsFormula d front u rest
+arguments-formula : (d : ℕ) (t u : FormulaTree) (front ws rest : List Word) → IsUnitary d front t ws → AreArguments d t ws u rest → IsFormulaText d front u rest
 arguments-formula d t u front ws rest p (is.no_arguments _ _ _) = is.unit_formula d front rest t (is.unitary_unit d front rest t p)
 arguments-formula d t u front ws rest p (is.more_arguments _ _ v _ w right behind _ q k m) = is.apply_formula d front right behind rest w t v u p q k m
 
@@ -364,14 +364,14 @@ module _ (d : ℕ) (inside : Inside) (h : FindIn (FindReaders d) inside) where
       cases [] = none []
       cases (s ∷ us) = go s us (terminal_of s) refl
 
-  quantify : (all : Bool) (t : Lexeme) → terminal_of t ≡ terminal.Quant all → (w : Word) → Is (terminal.Mark At) (suc d) w → (u : FormulaTree) (ws rest : List Word) → IsOperand (suc d) ws u rest → IsFormula d (word t d ∷ w ∷ ws) (quantified w.lexeme.at all u) rest
+  quantify : (all : Bool) (t : Lexeme) → terminal_of t ≡ terminal.Quant all → (w : Word) → Is (terminal.Mark At) (suc d) w → (u : FormulaTree) (ws rest : List Word) → IsOperand (suc d) ws u rest → IsFormulaText d (word t d ∷ w ∷ ws) (quantified w.lexeme.at all u) rest
   quantify all t e w k u ws rest p = is.quantified_formula d (word t d) w ws rest rest all u (quantified w.lexeme.at all u) (here t (terminal.Quant all) d e) k p (is.no_arguments (suc d) (quantified w.lexeme.at all u) rest)
 
-  at-behind : (all : Bool) (t : Lexeme) → terminal_of t ≡ terminal.Quant all → (w : Word) → Is (terminal.Mark At) (suc d) w → Ending (λ u ws rest. IsFormula d (word t d ∷ w ∷ ws) u rest)
-  at-behind all t e w k = ending-map (OperandIs (suc d)) (λ u ws rest. IsFormula d (word t d ∷ w ∷ ws) u rest) (quantified w.lexeme.at all) (operand-ends (suc d)) (quantify all t e w k)
+  at-behind : (all : Bool) (t : Lexeme) → terminal_of t ≡ terminal.Quant all → (w : Word) → Is (terminal.Mark At) (suc d) w → Ending (λ u ws rest. IsFormulaText d (word t d ∷ w ∷ ws) u rest)
+  at-behind all t e w k = ending-map (OperandIs (suc d)) (λ u ws rest. IsFormulaText d (word t d ∷ w ∷ ws) u rest) (quantified w.lexeme.at all) (operand-ends (suc d)) (quantify all t e w k)
 
   -- a formula ends behind `!!` or `??` with `@` and `$true`
-  quantified-behind : (all : Bool) (t : Lexeme) → terminal_of t ≡ terminal.Quant all → Ending (λ u ws rest. IsFormula d (word t d ∷ ws) u rest)
+  quantified-behind : (all : Bool) (t : Lexeme) → terminal_of t ≡ terminal.Quant all → Ending (λ u ws rest. IsFormulaText d (word t d ∷ ws) u rest)
   quantified-behind all t e =
       let more = at-behind all t e (mark_word At (suc d)) (mark-is At (suc d)) in
       record { value = more.value; words = mark_word At (suc d) ∷ more.words; read = more.read }
@@ -384,16 +384,16 @@ module _ (d : ℕ) (inside : Inside) (h : FindIn (FindReaders d) inside) where
       go : (x : Terminal) → terminal_of s ≡ x → Finds (FormulaIs d) (t ∷ s ∷ ts) (quantified_by inside all x (s ∷ ts))
       go (terminal.Mark At) f =
           finds-enter (FormulaIs d) (FindReaders d) inside (t ∷ s ∷ ts) (s ∷ ts) _ h
-          (stopped-token (FormulaIs d) t d (s ∷ ts) ts (stopped-behind (λ u ws rest. IsFormula d (word t d ∷ ws) u rest) s (suc d) ts (at-behind all t e (word s (suc d)) (here s (terminal.Mark At) (suc d) f))))
+          (stopped-token (FormulaIs d) t d (s ∷ ts) ts (stopped-behind (λ u ws rest. IsFormulaText d (word t d ∷ ws) u rest) s (suc d) ts (at-behind all t e (word s (suc d)) (here s (terminal.Mark At) (suc d) f))))
           (λ r k. finds-behind (FormulaIs d) t d (s ∷ ts) _
-          (finds-behind (λ u ws rest. IsFormula d (word t d ∷ ws) u rest) s (suc d) ts _
-          (finds-bind (OperandIs (suc d)) (λ u. ArgumentsAre (suc d) (quantified s.at all u)) (λ v ws rest. IsFormula d (word t d ∷ word s (suc d) ∷ ws) v rest) ts (r.operand ts) _ (k.operand ts) (λ u. arguments-end (suc d) (quantified s.at all u)) (λ u mid. k.arguments (quantified s.at all u) mid)
+          (finds-behind (λ u ws rest. IsFormulaText d (word t d ∷ ws) u rest) s (suc d) ts _
+          (finds-bind (OperandIs (suc d)) (λ u. ArgumentsAre (suc d) (quantified s.at all u)) (λ v ws rest. IsFormulaText d (word t d ∷ word s (suc d) ∷ ws) v rest) ts (r.operand ts) _ (k.operand ts) (λ u. arguments-end (suc d) (quantified s.at all u)) (λ u mid. k.arguments (quantified s.at all u) mid)
           (λ u v ws mid rest p q. is.quantified_formula d (word t d) (word s (suc d)) ws mid rest all u v (here t (terminal.Quant all) d e) (here s (terminal.Mark At) (suc d) f) p q))))
       go _ f = stopped-behind (FormulaIs d) t d (s ∷ ts) (quantified-behind all t e)
 
   -- the rest of a formula behind its first unit
   abbrev TailIs : FormulaTree → FormulaTree → List Word → List Word → Type 0
-  TailIs t u ws rest = (front : List Word) → IsUnit d front t ws → IsFormula d front u rest
+  TailIs t u ws rest = (front : List Word) → IsUnit d front t ws → IsFormulaText d front u rest
 
   tail-ends : (t : FormulaTree) → Ending (TailIs t)
   tail-ends t = record { value = t; words = []; read = λ after front p. is.unit_formula d front after t p }
@@ -428,7 +428,7 @@ module _ (d : ℕ) (inside : Inside) (h : FindIn (FindReaders d) inside) where
 
   -- the rest of a formula behind a unitary formula at its beginning
   abbrev AppliedIs : FormulaTree → FormulaTree → List Word → List Word → Type 0
-  AppliedIs t u ws rest = (front : List Word) → IsUnitary d front t ws → IsFormula d front u rest
+  AppliedIs t u ws rest = (front : List Word) → IsUnitary d front t ws → IsFormulaText d front u rest
 
   applied-ends : (t : FormulaTree) → Ending (AppliedIs t)
   applied-ends t = ending-as (TailIs t) (AppliedIs t) (tail-ends t) (λ u ws rest p front q. p front (is.unitary_unit d front ws t q))
@@ -450,7 +450,7 @@ module _ (d : ℕ) (inside : Inside) (h : FindIn (FindReaders d) inside) where
 
   -- the rest of a formula behind a primary formula at its beginning
   abbrev BehindPrimaryIs : FormulaTree → FormulaTree → List Word → List Word → Type 0
-  BehindPrimaryIs t u ws rest = (front : List Word) → IsPrimary d front t ws → IsFormula d front u rest
+  BehindPrimaryIs t u ws rest = (front : List Word) → IsPrimary d front t ws → IsFormulaText d front u rest
 
   behind_primary-ends : (t : FormulaTree) → Ending (BehindPrimaryIs t)
   behind_primary-ends t = ending-as (AppliedIs t) (BehindPrimaryIs t) (applied-ends t) (λ u ws rest p front q. p front (is.primary_unitary d front ws t q))

@@ -1,16 +1,16 @@
 -- A formula is found, or a token of it is too deep.
 use Rattle.std.proofs.Common.{◌≡◌, ℕ, zero, suc, ◌+◌, ◌≤◌, List, [], ◌∷◌, ◌++◌, Bool, true, false, if◌then◌else◌, Some, None, refl, sym, ap, subst, ◌∙◌, append_assoc, arith}
-use Rattle.thf_syntax.specs.Trees.{TypeTree, indiv, VarTree, FormulaTree, operator, negation, binary, equation, application, quantified, binding}
-use Rattle.thf_syntax.specs.declared.formula.Conn.{Conn}
-use Rattle.thf_syntax.specs.declared.formula.Conn.TheVariants.{Not, And, Or, Imp, If, Iff, Xor, Nor, Nand}
-use Rattle.thf_syntax.specs.declared.formula.Binder.{Binder}
-use Rattle.thf_parse.specs.declared.terminal.Mark.TheVariants.{Open, Close, CloseList, Comma, Colon, Arrow, At}
-use Rattle.thf_parse.specs.declared.terminal.Terminal.{Terminal}
-use Rattle.thf_parse.specs.declared.terminal.Terminal.TheVariants as terminal
-use Rattle.thf_parse.specs.Words.{Lexeme, Word, plain, name_of, Is, lower, quoted}
-use Rattle.thf_parse.specs.Types.{IsVar, plain_var, typed_var}
-use Rattle.thf_parse.specs.Formulas as is
-use Rattle.thf_parse.specs.Formulas.{binds_many, is_chained, is_nonassoc, lone_depth, AreVars, IsFormula, AreLinks, AreArguments, IsUnit, IsOperand, IsNegation, IsUnitary, IsPrimary, IsBinder}
+use Rattle.thf_grammar.specs.Trees.{TypeTree, indiv, VarTree, FormulaTree, operator, negation, binary, equation, application, quantified, binding}
+use Rattle.thf_grammar.specs.declared.connective.Conn.{Conn}
+use Rattle.thf_grammar.specs.declared.connective.Conn.TheVariants.{Not, And, Or, Imp, If, Iff, Xor, Nor, Nand}
+use Rattle.thf_grammar.specs.declared.connective.Binder.{Binder}
+use Rattle.thf_grammar.specs.declared.terminal.Mark.TheVariants.{Open, Close, CloseList, Comma, Colon, Arrow, At}
+use Rattle.thf_grammar.specs.declared.terminal.Terminal.{Terminal}
+use Rattle.thf_grammar.specs.declared.terminal.Terminal.TheVariants as terminal
+use Rattle.thf_grammar.specs.Words.{Lexeme, Word, plain, name_of, Is, lower, quoted}
+use Rattle.thf_grammar.specs.Types.{IsVar, plain_var, typed_var}
+use Rattle.thf_grammar.specs.Formulas as is
+use Rattle.thf_grammar.specs.Formulas.{binds_many, is_chained, is_nonassoc, lone_depth, AreVars, IsFormulaText, AreLinks, AreArguments, IsUnit, IsOperand, IsNegation, IsUnitary, IsPrimary, IsBinder}
 use Rattle.thf_parse.specs.Means.Outcome.{found, wrong, Reader, ◌>>=◌, first_terminal, first_place, first_name, behind, is_mark, enter}
 use Rattle.thf_parse.specs.Means.Reader.{type_with, inner_type}
 use Rattle.thf_parse.specs.Means.FormulaReader.{Readers, Inside, var, typed_by, variable_at, negation_at, primary_by, primary, next_variable_by, next_variable, bracket_by, binder_at, unitary_by, unitary, operand_by, operand, right_side, equated_by, unit_by, unit, next_link, is_link, links, arguments_by, arguments, quantified_by, quantified_at, second, tail_by, tail, applied_by, applied, behind_primary_by, behind_primary, formula_by, formula, closed, lone, negated_operand, negated_by, negated_at, grouped_by, grouped, body, bound_by, behind_variable, bound, readers, inner}
@@ -220,7 +220,7 @@ module _ (limit : ℕ) where
     pub type : GoesTypes limit (suc d) r.type
     pub unit : (ws rest : List Word) (t : FormulaTree) → IsUnit (suc d) ws t rest → NoEquality rest → Goes limit ws rest t (r.unit (plain ws))
     pub operand : (ws rest : List Word) (t : FormulaTree) → IsOperand (suc d) ws t rest → NoEquality rest → Goes limit ws rest t (r.operand (plain ws))
-    pub grouped : (ws rest : List Word) (v : Word) (t : FormulaTree) → IsFormula (suc d) ws t (v ∷ rest) → Is (terminal.Mark Close) (suc d) v → Goes limit ws rest t (r.grouped (plain ws))
+    pub grouped : (ws rest : List Word) (v : Word) (t : FormulaTree) → IsFormulaText (suc d) ws t (v ∷ rest) → Is (terminal.Mark Close) (suc d) v → Goes limit ws rest t (r.grouped (plain ws))
     pub alone : (o v : Word) (rest : List Word) (c : Conn) → Is (terminal.Conn c) (lone_depth c (suc d)) o → Is (terminal.Mark Close) (suc d) v → Goes limit (o ∷ v ∷ rest) rest (operator o.lexeme.at c) (r.grouped (plain (o ∷ v ∷ rest)))
     pub links : (c : Conn) (t u : FormulaTree) (ws rest : List Word) → is_chained c ≡ true → AreLinks c (suc d) t ws u rest → Ends rest → Goes limit ws rest u (r.links c t (plain ws))
     pub arguments : (t u : FormulaTree) (ws rest : List Word) → AreArguments (suc d) t ws u rest → Ends rest → Goes limit ws rest u (r.arguments t (plain ws))
@@ -439,7 +439,7 @@ module _ (limit : ℕ) where
     linked : (c : Conn) (t u v : FormulaTree) (w : Word) (right mid rest : List Word) → Is (terminal.Conn c) (suc d) w → IsUnit (suc d) right u mid → AreLinks c (suc d) (binary w.lexeme.at c t u) mid v rest → Linked c d t (w ∷ right) v rest
     linked c t u v w right mid rest k q m = record { token = w; right = right; whole = refl; is = k; links = is.more_links c d t u v w right mid rest k q m }
 
-    pub goes-formula : (ws rest : List Word) (t : FormulaTree) → IsFormula d ws t rest → Ends rest → Goes limit ws rest t (formula inside (plain ws))
+    pub goes-formula : (ws rest : List Word) (t : FormulaTree) → IsFormulaText d ws t rest → Ends rest → Goes limit ws rest t (formula inside (plain ws))
     goes-formula ws rest t (is.unit_formula _ _ _ _ p) end = goes-by_unit ws rest rest t t p (ends d t rest) end
     goes-formula ws rest _ (is.pair_formula _ _ right _ w c t u p k e q) end = goes-by_unit ws (w ∷ right) rest t (binary w.lexeme.at c t u) p (pairs d t u w right rest c k e q) end
     goes-formula ws rest v (is.chain_formula _ _ right mid _ w c t u _ p k e q m) end = goes-by_unit ws (w ∷ right) rest t v p (chains d t v c e (linked c t u v w right mid rest k q m)) end
@@ -485,7 +485,7 @@ module _ (limit : ℕ) where
 
   module _ (d : ℕ) (within : suc d ≤ limit) (inside : Inside) (h : GoIn limit (GoReaders (suc d)) (suc d) inside) where
     -- a formula behind `(` that doesn't begin with a connective
-    goes-plainly : (ws rest : List Word) (v : Word) (t : FormulaTree) → grouped_by inside (first_of ws) (plain ws) ≡ (formula inside (plain ws) >>= λ u mid. closed u mid) → IsFormula (suc d) ws t (v ∷ rest) → Is (terminal.Mark Close) (suc d) v → Goes limit ws rest t (grouped inside (plain ws))
+    goes-plainly : (ws rest : List Word) (v : Word) (t : FormulaTree) → grouped_by inside (first_of ws) (plain ws) ≡ (formula inside (plain ws) >>= λ u mid. closed u mid) → IsFormulaText (suc d) ws t (v ∷ rest) → Is (terminal.Mark Close) (suc d) v → Goes limit ws rest t (grouped inside (plain ws))
     unfolding grouped
     goes-plainly ws rest v t e p c =
         subst (λ o. Goes limit ws rest t o) (sym e)
@@ -496,14 +496,14 @@ module _ (limit : ℕ) where
     unitary-plainly ws mid t (is.binder_unitary _ _ _ _ p) = ap (λ x. grouped_by inside x (plain ws)) (binder-begins (suc d) ws mid t p).1
 
     -- by the first unit and what follows it
-    goes-grouped_unit : (ws mid rest : List Word) (v : Word) (t u : FormulaTree) → IsUnit (suc d) ws t mid → Follows (suc d) t mid u (v ∷ rest) → IsFormula (suc d) ws u (v ∷ rest) → Is (terminal.Mark Close) (suc d) v → Goes limit ws rest u (grouped inside (plain ws))
+    goes-grouped_unit : (ws mid rest : List Word) (v : Word) (t u : FormulaTree) → IsUnit (suc d) ws t mid → Follows (suc d) t mid u (v ∷ rest) → IsFormulaText (suc d) ws u (v ∷ rest) → Is (terminal.Mark Close) (suc d) v → Goes limit ws rest u (grouped inside (plain ws))
     unfolding grouped first_terminal
     goes-grouped_unit ws mid rest v t u (is.unitary_unit _ _ _ _ p) f whole c = goes-plainly ws rest v u (unitary-plainly ws mid t p) whole c
     goes-grouped_unit ws mid rest v t u (is.equation_unit _ _ right _ w b s r p k q) f whole c = goes-plainly ws rest v u (primary-grouped inside (plain ws) (first_of ws) (primary-begins (suc d) ws (w ∷ right) s p)) whole c
     goes-grouped_unit _ mid rest v _ u (is.negation_unit _ _ _ _ (is.negated _ w ins _ t k p)) f whole c =
         subst (λ x. Goes limit (w ∷ ins) rest u (grouped_by inside x (plain (w ∷ ins)))) (sym k.terminal) (goes-negated d within inside h w v ins mid rest t u k p f c)
 
-    goes-grouped : (ws rest : List Word) (v : Word) (t : FormulaTree) → IsFormula (suc d) ws t (v ∷ rest) → Is (terminal.Mark Close) (suc d) v → Goes limit ws rest t (grouped inside (plain ws))
+    goes-grouped : (ws rest : List Word) (v : Word) (t : FormulaTree) → IsFormulaText (suc d) ws t (v ∷ rest) → Is (terminal.Mark Close) (suc d) v → Goes limit ws rest t (grouped inside (plain ws))
     unfolding first_terminal
     goes-grouped ws rest v t (is.unit_formula _ _ _ _ p) c = goes-grouped_unit ws (v ∷ rest) rest v t t p (ends (suc d) t (v ∷ rest)) (is.unit_formula (suc d) ws (v ∷ rest) t p) c
     goes-grouped ws rest v _ (is.pair_formula _ _ right _ w o t u p k e q) c = goes-grouped_unit ws (w ∷ right) rest v t (binary w.lexeme.at o t u) p (pairs (suc d) t u w right (v ∷ rest) o k e q) (is.pair_formula (suc d) ws right (v ∷ rest) w o t u p k e q) c

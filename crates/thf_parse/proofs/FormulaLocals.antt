@@ -1,13 +1,13 @@
 -- Formulas are read by the tokens up to the first that is left.
 use Rattle.std.proofs.Common.{◌≡◌, ℕ, zero, suc, List, [], ◌∷◌, ◌++◌, Bool, true, false, if◌then◌else◌, refl}
-use Rattle.thf_syntax.specs.Trees.{TypeTree, indiv, VarTree, FormulaTree, constant, variable, truth, operator, negation, binary, equation, application, quantified, binding}
-use Rattle.thf_syntax.specs.declared.formula.Conn.{Conn}
-use Rattle.thf_syntax.specs.declared.formula.Conn.TheVariants.{Not, And, Or}
-use Rattle.thf_syntax.specs.declared.formula.Binder.{Binder}
-use Rattle.thf_parse.specs.declared.terminal.Mark.TheVariants.{Open, Close, OpenList, CloseList, Comma, Colon, At}
-use Rattle.thf_parse.specs.declared.terminal.Terminal.{Terminal}
-use Rattle.thf_parse.specs.declared.terminal.Terminal.TheVariants as terminal
-use Rattle.thf_parse.specs.Formulas.{binds_many}
+use Rattle.thf_grammar.specs.Trees.{TypeTree, indiv, VarTree, FormulaTree, constant, variable, truth, operator, negation, binary, equation, application, quantified, binding}
+use Rattle.thf_grammar.specs.declared.connective.Conn.{Conn}
+use Rattle.thf_grammar.specs.declared.connective.Conn.TheVariants.{Not, And, Or}
+use Rattle.thf_grammar.specs.declared.connective.Binder.{Binder}
+use Rattle.thf_grammar.specs.declared.terminal.Mark.TheVariants.{Open, Close, OpenList, CloseList, Comma, Colon, At}
+use Rattle.thf_grammar.specs.declared.terminal.Terminal.{Terminal}
+use Rattle.thf_grammar.specs.declared.terminal.Terminal.TheVariants as terminal
+use Rattle.thf_grammar.specs.Formulas.{binds_many}
 use Rattle.thf_parse.specs.Means.Outcome.{found, wrong, Reader, ◌>>=◌, first_terminal, first_place, first_name, behind, expect}
 use Rattle.thf_parse.specs.Means.Reader.{type_with, inner_type}
 use Rattle.thf_parse.specs.Means.FormulaReader.{Readers, Inside, var, typed_by, variable_at, negation_at, primary_by, primary, next_variable_by, next_variable, bracket_by, binder_at, unitary_by, unitary, operand_by, operand, right_side, equated_by, unit_by, unit, next_link, is_link, links_by, links, arguments_by, arguments, quantified_by, quantified_at, second, tail_by, tail, applied_by, applied, behind_primary_by, behind_primary, formula_by, formula, closed, lone, negated_by, negated_at, grouped_by, grouped, body, bound_by, behind_variable, bound, readers, inner}

@@ -1,10 +1,10 @@
 -- The loop over labels.
 use Rattle.std.proofs.Common.{◌≡◌, ◌<◌, List, [], ◌∷◌, ◌++◌, length, true, false, sym, ap, ◌∙◌, arith}
-use Rattle.thf_syntax.specs.Trees.{SelectedTree}
+use Rattle.thf_grammar.specs.Trees.{SelectedTree}
 use Rattle.thf_parse.specs.declared.refusal.Refusal.{Refusal}
 use Rattle.thf_parse.specs.declared.refusal.Refusal.TheVariants.{Wrong, TooDeep, Memory}
-use Rattle.thf_parse.specs.declared.terminal.Mark.TheVariants.{Comma}
-use Rattle.thf_parse.specs.Words.{Lexeme}
+use Rattle.thf_grammar.specs.declared.terminal.Mark.TheVariants.{Comma}
+use Rattle.thf_grammar.specs.Words.{Lexeme}
 use Rattle.thf_parse.specs.Means.Outcome.{found, ◌>>=◌, first_terminal, behind, is_mark}
 use Rattle.thf_parse.specs.Means.Passes.{IsRefusal}
 use Rattle.thf_parse.specs.Means.NoteReader.{all_commas}

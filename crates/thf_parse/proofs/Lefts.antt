@@ -1,14 +1,14 @@
 -- What holds of all tokens holds of those that are left behind what is read.
 use Rattle.std.proofs.Common.{ℕ, List, Option}
 use Rattle.std.specs.List.{AllByRecursion}
-use Rattle.thf_syntax.specs.Trees.{TypeTree, VarTree, FormulaTree, BodyTree, SelectedTree, StatementTree}
-use Rattle.thf_syntax.specs.declared.formula.Conn.{Conn}
-use Rattle.thf_syntax.specs.declared.formula.Binder.{Binder}
-use Rattle.thf_parse.specs.Words.{Word}
-use Rattle.thf_parse.specs.Types.{IsType, IsSimpleType, IsVar, simple_type, arrow_type, indiv_type, form_type, named_type, group_type, plain_var, typed_var}
-use Rattle.thf_parse.specs.Formulas.{AreVars, IsFormula, AreLinks, AreArguments, IsUnit, IsOperand, IsNegation, IsUnitary, IsPrimary, IsBinder, last_var, more_vars, unit_formula, pair_formula, chain_formula, apply_formula, quantified_formula, no_links, more_links, no_arguments, more_arguments, unitary_unit, negation_unit, equation_unit, unitary_operand, negation_operand, negated, primary_unitary, binder_unitary, constant_primary, variable_primary, truth_primary, group_primary, operator_primary, bound}
-use Rattle.thf_parse.specs.Notes.{IsGeneral, AreGenerals, IsData, AreNotes, data_general, pair_general, empty_general, list_general, last_general, more_generals, name_data, call_data, upper_data, integer_data, distinct_data, no_notes, one_note, two_notes}
-use Rattle.thf_parse.specs.Statements.{IsTyping, IsBody, AreLabels, IsSelection, IsEnd, IsStatement, base_typing, constant_typing, group_typing, typing_body, formula_body, last_label, more_labels, everything, only, ends, annotated_statement, include_statement}
+use Rattle.thf_grammar.specs.Trees.{TypeTree, VarTree, FormulaTree, BodyTree, SelectedTree, StatementTree}
+use Rattle.thf_grammar.specs.declared.connective.Conn.{Conn}
+use Rattle.thf_grammar.specs.declared.connective.Binder.{Binder}
+use Rattle.thf_grammar.specs.Words.{Word}
+use Rattle.thf_grammar.specs.Types.{IsType, IsSimpleType, IsVar, simple_type, arrow_type, indiv_type, form_type, named_type, group_type, plain_var, typed_var}
+use Rattle.thf_grammar.specs.Formulas.{AreVars, IsFormulaText, AreLinks, AreArguments, IsUnit, IsOperand, IsNegation, IsUnitary, IsPrimary, IsBinder, last_var, more_vars, unit_formula, pair_formula, chain_formula, apply_formula, quantified_formula, no_links, more_links, no_arguments, more_arguments, unitary_unit, negation_unit, equation_unit, unitary_operand, negation_operand, negated, primary_unitary, binder_unitary, constant_primary, variable_primary, truth_primary, group_primary, operator_primary, bound}
+use Rattle.thf_grammar.specs.Notes.{IsGeneral, AreGenerals, IsData, AreNotes, data_general, pair_general, empty_general, list_general, last_general, more_generals, name_data, call_data, upper_data, integer_data, distinct_data, no_notes, one_note, two_notes}
+use Rattle.thf_grammar.specs.Statements.{IsTyping, IsBody, AreLabels, IsSelection, IsEnd, IsStatement, base_typing, constant_typing, group_typing, typing_body, formula_body, last_label, more_labels, everything, only, ends, annotated_statement, include_statement}
 
 module _ (P : Word → Type 0) where
   abbrev pub Each : List Word → Type 0
@@ -34,7 +34,7 @@ module _ (P : Word → Type 0) where
   left-vars (more_vars _ _ _ _ _ _ _ _ h _ _ k) e = left-vars k (left-var h e).1
 
   mutual
-    pub left-formula : {d : ℕ} {ws rest : List Word} {t : FormulaTree} → IsFormula d ws t rest → Each ws → Each rest
+    pub left-formula : {d : ℕ} {ws rest : List Word} {t : FormulaTree} → IsFormulaText d ws t rest → Each ws → Each rest
     left-formula (unit_formula _ _ _ _ h) e = left-unit h e
     left-formula (pair_formula _ _ _ _ _ _ _ _ h _ _ k) e = left-unit k (left-unit h e).1
     left-formula (chain_formula _ _ _ _ _ _ _ _ _ _ h _ _ k g) e = left-links g (left-unit k (left-unit h e).1)

@@ -1,18 +1,18 @@
 -- The tokens of a file end with its end, or with a byte that begins nothing.
 use Rattle.std.proofs.Common.{◌≡◌, ℕ, List, [], ◌∷◌, ◌+◌, take, drop, Bool, true, false, if◌then◌else◌, ◌==◌, ◌&&◌, ◌||◌, codes, refl}
 use Rattle.std.specs.Str.{bytes_eq}
-use Rattle.thf_lex.specs.declared.token.TokenKind.{TokenKind}
-use Rattle.thf_lex.specs.declared.token.TokenKind.TheVariants as kind
-use Rattle.thf_lex.specs.declared.token.Token.{Token}
-use Rattle.thf_lex.specs.Texts.{IsToken}
-use Rattle.thf_lex.specs.Reading.{Reads, AreTokens, token_at, gap, token, bad, end}
-use Rattle.thf_syntax.specs.declared.formula.Conn.TheVariants.{Not, And, Or, Imp, If, Iff, Xor, Nor, Nand}
-use Rattle.thf_syntax.specs.declared.formula.Binder.TheVariants.{All, Exists, Lam, Choice, Desc}
-use Rattle.thf_parse.specs.declared.terminal.Mark.TheVariants as mark
-use Rattle.thf_parse.specs.declared.terminal.Terminal.{Terminal}
-use Rattle.thf_parse.specs.declared.terminal.Terminal.TheVariants as terminal
-use Rattle.thf_parse.specs.Terminals.{single, pair, triple, symbol, dollar_word, of_kind}
-use Rattle.thf_parse.specs.Words.{Lexeme, lexeme, lexemes, terminal_of}
+use Rattle.thf_grammar.specs.declared.token.TokenKind.{TokenKind}
+use Rattle.thf_grammar.specs.declared.token.TokenKind.TheVariants as kind
+use Rattle.thf_grammar.specs.declared.token.Token.{Token}
+use Rattle.thf_grammar.specs.Texts.{IsToken}
+use Rattle.thf_grammar.specs.Reading.{Reads, AreTokens, token_at, gap, token, bad, end}
+use Rattle.thf_grammar.specs.declared.connective.Conn.TheVariants.{Not, And, Or, Imp, If, Iff, Xor, Nor, Nand}
+use Rattle.thf_grammar.specs.declared.connective.Binder.TheVariants.{All, Exists, Lam, Choice, Desc}
+use Rattle.thf_grammar.specs.declared.terminal.Mark.TheVariants as mark
+use Rattle.thf_grammar.specs.declared.terminal.Terminal.{Terminal}
+use Rattle.thf_grammar.specs.declared.terminal.Terminal.TheVariants as terminal
+use Rattle.thf_grammar.specs.Terminals.{single, pair, triple, symbol, dollar_word, of_kind}
+use Rattle.thf_grammar.specs.Words.{Lexeme, lexeme, lexemes, terminal_of}
 use Rattle.thf_parse.specs.Means.StatementReader.{is_end}
 use Rattle.thf_parse.proofs.ParseLaws.{IsEnded}
 

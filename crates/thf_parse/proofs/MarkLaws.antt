@@ -1,11 +1,11 @@
 -- Marks are read as the grammar says.
 use Rattle.std.proofs.Common.{◌≡◌, ℕ, ◌≤◌, List, [], ◌∷◌, ◌++◌, Bool, true, false, if◌then◌else◌, refl, sym, ap, subst, ◌∙◌, arith}
-use Rattle.thf_parse.specs.declared.terminal.Mark.{Mark}
-use Rattle.thf_parse.specs.declared.terminal.Mark.TheVariants as mark
-use Rattle.thf_parse.specs.declared.terminal.Terminal.{Terminal}
-use Rattle.thf_parse.specs.declared.terminal.Terminal.TheVariants as terminal
-use Rattle.thf_parse.specs.Means.Marks.{same_mark}
-use Rattle.thf_parse.specs.Words.{Lexeme, Word, plain, terminal_of, Is}
+use Rattle.thf_grammar.specs.declared.terminal.Mark.{Mark}
+use Rattle.thf_grammar.specs.declared.terminal.Mark.TheVariants as mark
+use Rattle.thf_grammar.specs.declared.terminal.Terminal.{Terminal}
+use Rattle.thf_grammar.specs.declared.terminal.Terminal.TheVariants as terminal
+use Rattle.thf_grammar.specs.Means.Marks.{same_mark}
+use Rattle.thf_grammar.specs.Words.{Lexeme, Word, plain, terminal_of, Is}
 use Rattle.thf_parse.specs.Means.Outcome.{Outcome, found, wrong, Reader, ◌>>=◌, first_terminal, behind, is_mark, expect, expect_by}
 use Rattle.thf_parse.proofs.Locals.{IsLocal, IsLocalAt, is_proper, at, local-found, local-wrong, local-behind, local-bind, local-terminal}
 use Rattle.thf_parse.proofs.Finds.{word, Ending, ending-then, Finds, stopped-here, finds-bind, finds-token, Nothing, nothing-ends, finds-nothing}

@@ -1,12 +1,12 @@
 -- Notes are read as the grammar says.
 use Rattle.std.proofs.Common.{◌≡◌, ℕ, zero, suc, ◌+◌, ◌≤◌, List, [], ◌∷◌, length, Bool, true, false, Option, refl, sym, ap, subst, ◌∙◌, arith}
-use Rattle.thf_parse.specs.declared.terminal.Mark.{Mark}
-use Rattle.thf_parse.specs.declared.terminal.Mark.TheVariants.{Open, Close, OpenList, CloseList, Comma, Colon}
-use Rattle.thf_parse.specs.declared.terminal.Terminal.{Terminal}
-use Rattle.thf_parse.specs.declared.terminal.Terminal.TheVariants as terminal
-use Rattle.thf_parse.specs.Words.{Lexeme, Word, plain, terminal_of, Is, IsName, lower, quoted}
-use Rattle.thf_parse.specs.Notes as is
-use Rattle.thf_parse.specs.Notes.{IsGeneral, AreGenerals, IsData, AreNotes}
+use Rattle.thf_grammar.specs.declared.terminal.Mark.{Mark}
+use Rattle.thf_grammar.specs.declared.terminal.Mark.TheVariants.{Open, Close, OpenList, CloseList, Comma, Colon}
+use Rattle.thf_grammar.specs.declared.terminal.Terminal.{Terminal}
+use Rattle.thf_grammar.specs.declared.terminal.Terminal.TheVariants as terminal
+use Rattle.thf_grammar.specs.Words.{Lexeme, Word, plain, terminal_of, Is, IsName, lower, quoted}
+use Rattle.thf_grammar.specs.Notes as is
+use Rattle.thf_grammar.specs.Notes.{IsGeneral, AreGenerals, IsData, AreNotes}
 use Rattle.thf_parse.specs.Means.Outcome.{found, wrong, Reader, ◌>>=◌, first_terminal, behind, is_mark, expect}
 use Rattle.thf_parse.specs.Means.NoteReader.{passed, NoteReaders, called_by, called, data_by, data_at, listed_by, listed, paired_by, paired, general_by, general, generals, inner_notes, second_note, notes_by, notes}
 use Rattle.thf_parse.proofs.Locals.{IsLocal, IsLocalAt, AreLocal, at, local-found, local-wrong, local-behind, local-bind, local-terminal, enter-at}

@@ -2,8 +2,8 @@
 use Rattle.std.proofs.Common.{◌≡◌, ◌≢◌, ℕ, zero, suc, ◌-◌, ◌<◌, List, length, Result, true, false, refl, sym, ap, subst, ◌∙◌, arith}
 use Rattle.thf_parse.specs.declared.refusal.Refusal.{Refusal}
 use Rattle.thf_parse.specs.declared.refusal.Refusal.TheVariants.{Wrong, TooDeep, Memory}
-use Rattle.thf_parse.specs.declared.terminal.Mark.TheVariants.{Comma}
-use Rattle.thf_parse.specs.Words.{Lexeme}
+use Rattle.thf_grammar.specs.declared.terminal.Mark.TheVariants.{Comma}
+use Rattle.thf_grammar.specs.Words.{Lexeme}
 use Rattle.thf_parse.specs.Means.Outcome.{found, Reader, first_terminal, behind, is_mark}
 use Rattle.thf_parse.specs.Means.Passes.{IsRefusal, Passes}
 use Rattle.thf_parse.specs.Means.NoteReader.{passed, all_commas, general, generals, listed, list_at, inner_notes}

@@ -1,11 +1,11 @@
 -- The tree of a file's tokens, and the tokens at which others are refused.
 use Rattle.std.proofs.Common.{◌≡◌, ℕ, suc, ◌+◌, ◌<◌, ◌≤◌, List, [], ◌∷◌, ◌++◌, length, map, true, false, ◌⊎◌, inl, inr, refl, sym, ap, subst, ◌∙◌, append_assoc, length-append, arith}
 use Rattle.std.proofs.lemmas.List.{append_cancel_right, append-nil, length-map}
-use Rattle.thf_syntax.specs.Trees.{StatementTree}
-use Rattle.thf_parse.specs.declared.terminal.Terminal.{Terminal}
-use Rattle.thf_parse.specs.declared.terminal.Terminal.TheVariants as terminal
-use Rattle.thf_parse.specs.Words.{Lexeme, Word, plain, terminal_of, Is}
-use Rattle.thf_parse.specs.Statements.{IsFile, no_statement}
+use Rattle.thf_grammar.specs.Trees.{StatementTree}
+use Rattle.thf_grammar.specs.declared.terminal.Terminal.{Terminal}
+use Rattle.thf_grammar.specs.declared.terminal.Terminal.TheVariants as terminal
+use Rattle.thf_grammar.specs.Words.{Lexeme, Word, plain, terminal_of, Is}
+use Rattle.thf_grammar.specs.Statements.{IsFile, no_statement}
 use Rattle.thf_parse.specs.Means.Outcome.{Outcome, found, wrong, deep, Reader, first_terminal, first_place, behind}
 use Rattle.thf_parse.specs.Means.StatementReader.{is_end, statements, file}
 use Rattle.thf_parse.specs.Parsing.{AreWithin, HasTree, BeginsFile, IsWrongAt, IsTooDeepAt}

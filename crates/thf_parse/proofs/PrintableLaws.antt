@@ -5,20 +5,20 @@ use Rattle.std.specs.Char.{is_ascii_lowercase, is_ascii_digit}
 use Rattle.std.proofs.lemmas.Bool.Decides.{nat_tests}
 use Rattle.std.proofs.Math.Seq.{take-append_seam}
 use Rattle.std.proofs.lemmas.List.{drop-drop, length-append}
-use Rattle.thf_lex.specs.declared.token.TokenKind.{TokenKind}
-use Rattle.thf_lex.specs.declared.token.TokenKind.TheVariants as kind
-use Rattle.thf_lex.specs.declared.token.Token.{Token}
-use Rattle.thf_lex.specs.Bytes.{single_quote, backslash, is_word_byte, is_sign, is_plain, is_escaped}
-use Rattle.thf_lex.specs.Texts.{IsRun, IsInteger, AreCharacters, none, plain, escape, IsQuotedBy, IsToken}
-use Rattle.thf_lex.specs.Reading.{Reads, AreTokens, gap, token, bad, end}
-use Rattle.thf_syntax.specs.Trees.{BodyTree, SelectedTree, StatementTree}
-use Rattle.thf_parse.specs.declared.terminal.Terminal.{Terminal}
-use Rattle.thf_parse.specs.declared.terminal.Terminal.TheVariants as terminal
-use Rattle.thf_parse.specs.Terminals.{symbol, dollar_word, of_kind}
-use Rattle.thf_parse.specs.Words.{Lexeme, lexemes, terminal_of, unescaped, name_in, name_of, Word, plain as plain_words, name, IsName, lower as lower_name, quoted as quoted_name}
-use Rattle.thf_parse.specs.Statements.{IsLabel, lower, quoted, integer, IsTyping, base_typing, constant_typing, group_typing, IsBody, typing_body, formula_body, AreLabels, last_label, more_labels, IsSelection, everything, only, IsStatement, annotated_statement, include_statement, IsFile, no_statement, more_statements}
+use Rattle.thf_grammar.specs.declared.token.TokenKind.{TokenKind}
+use Rattle.thf_grammar.specs.declared.token.TokenKind.TheVariants as kind
+use Rattle.thf_grammar.specs.declared.token.Token.{Token}
+use Rattle.thf_grammar.specs.Bytes.{single_quote, backslash, is_word_byte, is_sign, is_plain, is_escaped}
+use Rattle.thf_grammar.specs.Texts.{IsRun, IsInteger, AreCharacters, none, plain, escape, IsQuotedBy, IsToken}
+use Rattle.thf_grammar.specs.Reading.{Reads, AreTokens, gap, token, bad, end}
+use Rattle.thf_grammar.specs.Trees.{BodyTree, SelectedTree, StatementTree}
+use Rattle.thf_grammar.specs.declared.terminal.Terminal.{Terminal}
+use Rattle.thf_grammar.specs.declared.terminal.Terminal.TheVariants as terminal
+use Rattle.thf_grammar.specs.Terminals.{symbol, dollar_word, of_kind}
+use Rattle.thf_grammar.specs.Words.{Lexeme, lexemes, terminal_of, unescaped, name_in, name_of, Word, plain as plain_words, name, IsName, lower as lower_name, quoted as quoted_name}
+use Rattle.thf_grammar.specs.Statements.{IsLabel, lower, quoted, integer, IsTyping, base_typing, constant_typing, group_typing, IsBody, typing_body, formula_body, AreLabels, last_label, more_labels, IsSelection, everything, only, IsStatement, annotated_statement, include_statement, IsFile, no_statement, more_statements}
 use Rattle.thf_parse.specs.Parsing.{HasTree}
-use Rattle.thf_parse.specs.Printable.{is_printable, IsPrintable, BodyDeclaresPrintable, DeclaresPrintable, DeclaredArePrintable, SelectsPrintable, IncludesPrintable, IncludedArePrintable}
+use Rattle.thf_grammar.specs.Printable.{is_printable, IsPrintable, BodyDeclaresPrintable, DeclaresPrintable, DeclaredArePrintable, SelectsPrintable, IncludesPrintable, IncludedArePrintable}
 use Rattle.thf_parse.proofs.Lefts.{Each, left-statement}
 use Rattle.thf_parse.proofs.LexemeLaws.{is_kind, dollar-no_kind, symbol-no_kind}
 

@@ -1,9 +1,9 @@
 -- Tokens have a tree, or they are refused at one place.
 use Rattle.std.proofs.Common.{◌≡◌, ℕ, ◌≤◌, List, [], ◌∷◌, ◌++◌, refl, sym, ap, subst, ◌∙◌, append_assoc, arith}
 use Rattle.std.proofs.lemmas.List.{append-nil}
-use Rattle.thf_syntax.specs.Trees.{StatementTree}
-use Rattle.thf_parse.specs.Words.{Lexeme, Word, plain}
-use Rattle.thf_parse.specs.Statements.{IsFile}
+use Rattle.thf_grammar.specs.Trees.{StatementTree}
+use Rattle.thf_grammar.specs.Words.{Lexeme, Word, plain}
+use Rattle.thf_grammar.specs.Statements.{IsFile}
 use Rattle.thf_parse.specs.Parsing.{AreWithin, HasTree, BeginsFile, GoesBeyond, IsWrongAt, IsTooDeepAt}
 
 -- the words of the tokens in front, and those behind

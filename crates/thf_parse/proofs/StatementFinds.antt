@@ -3,18 +3,18 @@ use Rattle.std.proofs.Common.{◌≡◌, ℕ, zero, suc, List, [], ◌∷◌, �
 use Rattle.std.proofs.lemmas.List.{append-nil}
 use Rattle.std.specs.Str.{bytes_eq}
 use Rattle.std.proofs.lemmas.Slice.Eq.{bytes_eq-Decides}
-use Rattle.thf_syntax.specs.Trees.{TypeTree, BodyTree, base, typing, formula as formula_body, SelectedTree, StatementTree, include as include_tree}
+use Rattle.thf_grammar.specs.Trees.{TypeTree, BodyTree, base, typing, formula as formula_body, SelectedTree, StatementTree, include as include_tree}
 use Rattle.thf_parse.specs.declared.statement.Keyword.{Keyword}
 use Rattle.thf_parse.specs.declared.statement.Keyword.TheVariants.{Thf, Include, Unknown}
-use Rattle.thf_parse.specs.declared.terminal.Mark.TheVariants.{Open, Close, OpenList, CloseList, Comma, Stop, Colon}
-use Rattle.thf_parse.specs.declared.terminal.Terminal.{Terminal}
-use Rattle.thf_parse.specs.declared.terminal.Terminal.TheVariants as terminal
-use Rattle.thf_parse.specs.Words.{Lexeme, Word, terminal_of, name_of, name, Is, IsName, lower, quoted}
-use Rattle.thf_parse.specs.Types.{IsType}
-use Rattle.thf_parse.specs.Statements as is
-use Rattle.thf_parse.specs.Statements.{selected as labelled, IsLabel, IsKeyword, IsTyping, IsBody, AreLabels, IsSelection, IsEnd, IsStatement, IsFile}
-use Rattle.thf_parse.specs.Notes as notes_are
-use Rattle.thf_parse.specs.Notes.{AreNotes}
+use Rattle.thf_grammar.specs.declared.terminal.Mark.TheVariants.{Open, Close, OpenList, CloseList, Comma, Stop, Colon}
+use Rattle.thf_grammar.specs.declared.terminal.Terminal.{Terminal}
+use Rattle.thf_grammar.specs.declared.terminal.Terminal.TheVariants as terminal
+use Rattle.thf_grammar.specs.Words.{Lexeme, Word, terminal_of, name_of, name, Is, IsName, lower, quoted}
+use Rattle.thf_grammar.specs.Types.{IsType}
+use Rattle.thf_grammar.specs.Statements as is
+use Rattle.thf_grammar.specs.Statements.{selected as labelled, IsLabel, IsKeyword, IsTyping, IsBody, AreLabels, IsSelection, IsEnd, IsStatement, IsFile}
+use Rattle.thf_grammar.specs.Notes as notes_are
+use Rattle.thf_grammar.specs.Notes.{AreNotes}
 use Rattle.thf_parse.specs.Means.Outcome.{Outcome, found, wrong, deep, Reader, ◌>>=◌, first_terminal, first_place, first_name, first_text, behind, expect}
 use Rattle.thf_parse.specs.Means.Reader.{type_with, inner_type}
 use Rattle.thf_parse.specs.Means.FormulaReader.{formula, inner}

@@ -3,16 +3,16 @@ use Rattle.std.proofs.Common.{◌≡◌, ℕ, zero, suc, ◌+◌, ◌<◌, ◌�
 use Rattle.std.proofs.lemmas.List.{append-nil}
 use Rattle.std.specs.Str.{bytes_eq}
 use Rattle.std.proofs.lemmas.Slice.Eq.{bytes_eq-Decides}
-use Rattle.thf_syntax.specs.Trees.{TypeTree, BodyTree, base, typing, formula as formula_body, SelectedTree, StatementTree, include as include_tree}
-use Rattle.thf_parse.specs.declared.terminal.Mark.TheVariants.{Open, Close, OpenList, CloseList, Comma, Stop, Colon, Arrow}
-use Rattle.thf_parse.specs.declared.terminal.Terminal.{Terminal}
-use Rattle.thf_parse.specs.declared.terminal.Terminal.TheVariants as terminal
-use Rattle.thf_parse.specs.Words.{Lexeme, Word, plain, name, place, Is, IsName, lower, quoted}
-use Rattle.thf_parse.specs.Types.{IsType, IsSimpleType, simple_type, arrow_type, indiv_type, form_type, named_type, group_type}
-use Rattle.thf_parse.specs.Statements as is
-use Rattle.thf_parse.specs.Statements.{selected as labelled, IsLabel, IsKeyword, IsTyping, IsBody, AreLabels, IsSelection, IsEnd, IsStatement, IsFile}
-use Rattle.thf_parse.specs.Notes as notes_are
-use Rattle.thf_parse.specs.Notes.{AreNotes}
+use Rattle.thf_grammar.specs.Trees.{TypeTree, BodyTree, base, typing, formula as formula_body, SelectedTree, StatementTree, include as include_tree}
+use Rattle.thf_grammar.specs.declared.terminal.Mark.TheVariants.{Open, Close, OpenList, CloseList, Comma, Stop, Colon, Arrow}
+use Rattle.thf_grammar.specs.declared.terminal.Terminal.{Terminal}
+use Rattle.thf_grammar.specs.declared.terminal.Terminal.TheVariants as terminal
+use Rattle.thf_grammar.specs.Words.{Lexeme, Word, plain, name, place, Is, IsName, lower, quoted}
+use Rattle.thf_grammar.specs.Types.{IsType, IsSimpleType, simple_type, arrow_type, indiv_type, form_type, named_type, group_type}
+use Rattle.thf_grammar.specs.Statements as is
+use Rattle.thf_grammar.specs.Statements.{selected as labelled, IsLabel, IsKeyword, IsTyping, IsBody, AreLabels, IsSelection, IsEnd, IsStatement, IsFile}
+use Rattle.thf_grammar.specs.Notes as notes_are
+use Rattle.thf_grammar.specs.Notes.{AreNotes}
 use Rattle.thf_parse.specs.Means.Outcome.{found, Reader, ◌>>=◌, first_terminal, first_place, first_name, first_text, behind, is_mark, expect}
 use Rattle.thf_parse.specs.Means.Reader.{type_with, inner_type}
 use Rattle.thf_parse.specs.Means.FormulaReader.{formula, inner}

@@ -1,13 +1,13 @@
 -- Statements are read by the tokens up to the first that is left.
 use Rattle.std.proofs.Common.{◌≡◌, ℕ, zero, suc, ◌<◌, List, [], ◌∷◌, ◌++◌, length, Bool, true, false, if◌then◌else◌, Option, Some, None, codes, refl, sym, ap, ◌∙◌, arith}
 use Rattle.std.specs.Str.{bytes_eq}
-use Rattle.thf_syntax.specs.Trees.{TypeTree, BodyTree, base, typing, formula as formula_body, SelectedTree, StatementTree, include as include_tree}
+use Rattle.thf_grammar.specs.Trees.{TypeTree, BodyTree, base, typing, formula as formula_body, SelectedTree, StatementTree, include as include_tree}
 use Rattle.thf_parse.specs.declared.statement.Keyword.{Keyword}
 use Rattle.thf_parse.specs.declared.statement.Keyword.TheVariants.{Thf, Include, Unknown}
-use Rattle.thf_parse.specs.declared.terminal.Mark.TheVariants.{Open, Close, OpenList, CloseList, Comma, Stop, Colon}
-use Rattle.thf_parse.specs.declared.terminal.Terminal.{Terminal}
-use Rattle.thf_parse.specs.declared.terminal.Terminal.TheVariants as terminal
-use Rattle.thf_parse.specs.Words.{Lexeme}
+use Rattle.thf_grammar.specs.declared.terminal.Mark.TheVariants.{Open, Close, OpenList, CloseList, Comma, Stop, Colon}
+use Rattle.thf_grammar.specs.declared.terminal.Terminal.{Terminal}
+use Rattle.thf_grammar.specs.declared.terminal.Terminal.TheVariants as terminal
+use Rattle.thf_grammar.specs.Words.{Lexeme}
 use Rattle.thf_parse.specs.Means.Outcome.{Outcome, found, wrong, deep, Reader, ◌>>=◌, first_terminal, first_name, first_text, behind, expect}
 use Rattle.thf_parse.specs.Means.Reader.{type_with, inner_type}
 use Rattle.thf_parse.specs.Means.FormulaReader.{formula, inner}

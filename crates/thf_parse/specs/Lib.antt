@@ -1,9 +1,2 @@
-pub mod Terminals
-pub mod Words
-pub mod Types
-pub mod Formulas
-pub mod Notes
-pub mod Statements
 pub mod Parsing
-pub mod Printable
 pub mod Means

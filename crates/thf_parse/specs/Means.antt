@@ -6,4 +6,3 @@ pub mod NoteReader
 pub mod StatementReader
 pub mod Passes
 pub mod Reads
-pub mod Marks

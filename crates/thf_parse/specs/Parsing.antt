@@ -1,11 +1,11 @@
 -- Files: the tree of a list of tokens within a depth, and the token at which a list of tokens is refused.
 use Rattle.std.specs.Prelude.{◌≡◌, ℕ, ◌<◌, ◌≤◌, List, [], ◌∷◌, ◌++◌}
 use Rattle.std.specs.List.{AllByRecursion}
-use Rattle.thf_syntax.specs.Trees.{StatementTree}
+use Rattle.thf_grammar.specs.Trees.{StatementTree}
 use Rattle.thf_parse.specs.declared.parser.ParseRefused.{ParseRefused}
 use Rattle.thf_parse.specs.declared.parser.ParseRefused.TheVariants.{At, TooDeep, Memory}
-use Rattle.thf_parse.specs.Words.{Lexeme, Word, plain}
-use Rattle.thf_parse.specs.Statements.{IsFile}
+use Rattle.thf_grammar.specs.Words.{Lexeme, Word, plain}
+use Rattle.thf_grammar.specs.Statements.{IsFile}
 
 -- how many things may be open at once in a body or in notes
 abbrev pub depth_limit : ℕ

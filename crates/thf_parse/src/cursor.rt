@@ -1,11 +1,11 @@
 //! The tokens that are left to read.
 ghost use Rattle.std.specs.Prelude.{◌≡◌, IfOk};
-ghost use Rattle.thf_parse.specs.Words.{lexemes};
+ghost use Rattle.thf_grammar.specs.Words.{lexemes};
 ghost use Rattle.thf_parse.specs.Means.Outcome as spec;
 ghost use Rattle.thf_parse.specs.Means.Passes.{Passes};
 
 use crate::refusal::Refusal;
-use crate::terminal::{Mark, Terminal};
+use thf_grammar::{Mark, Terminal};
 use crate::words::{first_name, first_place, first_terminal, first_text};
 use outside::Bytes;
 use std::alloc::{AllocError, Global};
@@ -22,7 +22,7 @@ pub struct Cursor<'a> {
 
 impl<'a> Model for Cursor<'a> {
     ghost use Rattle.std.specs.Prelude.{◌≡◌, List};
-    ghost use Rattle.thf_parse.specs.Words.{Lexeme, lexemes};
+    ghost use Rattle.thf_grammar.specs.Words.{Lexeme, lexemes};
     ghost use Rattle.thf_parse.specs.Means.Outcome.{first_terminal};
 
     ghost Value = { List Lexeme };

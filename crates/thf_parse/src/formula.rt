@@ -1,17 +1,16 @@
 //! Formulas. In each reader, `room` is how many more things may be open at once.
 ghost use Rattle.std.specs.Prelude.{◌≡◌, [], ◌∷◌, ◌++◌, true, false};
-ghost use Rattle.thf_syntax.specs.View.{the_formula, the_vars};
-ghost use Rattle.thf_syntax.specs.declared.formula.Conn.TheVariants.{And, Or};
-ghost use Rattle.thf_parse.specs.Formulas as grammar;
+ghost use Rattle.thf_grammar.specs.View.{the_formula, the_vars};
+ghost use Rattle.thf_grammar.specs.declared.connective.Conn.TheVariants.{And, Or};
+ghost use Rattle.thf_grammar.specs.Formulas as grammar;
 ghost use Rattle.thf_parse.specs.Means.FormulaReader as reader;
 ghost use Rattle.thf_parse.specs.Means.Reads.{ReadsFormula};
 
 use crate::cursor::Cursor;
 use crate::refusal::Refusal;
-use crate::terminal::{Mark, Terminal};
 use crate::variable::{variable, with_variable};
 use std::alloc::Global;
-use thf_syntax::{Binder, Conn, Surface, SurfaceVars};
+use thf_grammar::{Binder, Conn, Mark, Surface, SurfaceVars, Terminal};
 
 /// A binder and the place where it stands.
 #[derive(Clone, Copy)]

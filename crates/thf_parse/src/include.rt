@@ -1,15 +1,14 @@
 //! Labels, and includes.
 ghost use Rattle.std.specs.Prelude.{◌≡◌, ◌∷◌, [], ◌++◌, map, IfOk};
-ghost use Rattle.thf_syntax.specs.View.{the_selected};
+ghost use Rattle.thf_grammar.specs.View.{the_selected};
 ghost use Rattle.thf_parse.specs.Means.StatementReader as reader;
 ghost use Rattle.thf_parse.specs.Means.Reads.{ReadsLabel, ReadsLabels, ReadsSelection, ReadsStatement};
 
 use crate::cursor::Cursor;
 use crate::refusal::Refusal;
 use crate::statement::finish;
-use crate::terminal::{Mark, Terminal};
 use std::alloc::{AllocError, Global};
-use thf_syntax::{Selected, Selection, Statement};
+use thf_grammar::{Mark, Selected, Selection, Statement, Terminal};
 
 /// The first token as a name with its place.
 pub fn named(alloc: Global, cursor: &mut Cursor) -> Result<Selected, Refusal>

@@ -1,12 +1,12 @@
 //! Laws about the trees of tokens.
 ghost use Rattle.std.specs.Prelude.{◌≡◌, ℕ, ◌⊎◌, List};
-ghost use Rattle.thf_lex.specs.declared.token.Token.{Token};
-ghost use Rattle.thf_lex.specs.Reading.{AreTokens};
-ghost use Rattle.thf_syntax.specs.Trees.{StatementTree};
-ghost use Rattle.thf_parse.specs.Words.{Lexeme, Word, plain, lexemes};
-ghost use Rattle.thf_parse.specs.Statements.{IsFile};
+ghost use Rattle.thf_grammar.specs.declared.token.Token.{Token};
+ghost use Rattle.thf_grammar.specs.Reading.{AreTokens};
+ghost use Rattle.thf_grammar.specs.Trees.{StatementTree};
+ghost use Rattle.thf_grammar.specs.Words.{Lexeme, Word, plain, lexemes};
+ghost use Rattle.thf_grammar.specs.Statements.{IsFile};
 ghost use Rattle.thf_parse.specs.Parsing.{HasTree, IsWrongAt, IsTooDeepAt};
-ghost use Rattle.thf_parse.specs.Printable.{DeclaredArePrintable, IncludedArePrintable};
+ghost use Rattle.thf_grammar.specs.Printable.{DeclaredArePrintable, IncludedArePrintable};
 
 /// Tokens have one tree at most.
 pub fn one_tree()

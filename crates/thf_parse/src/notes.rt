@@ -5,7 +5,7 @@ ghost use Rattle.thf_parse.specs.Means.Passes.{Passes};
 
 use crate::cursor::Cursor;
 use crate::refusal::Refusal;
-use crate::terminal::{Mark, Terminal};
+use thf_grammar::{Mark, Terminal};
 
 /// The arguments of a name, where it has any.
 #[cycle(notes)]

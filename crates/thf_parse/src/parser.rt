@@ -1,8 +1,8 @@
 //! Files.
 ghost use Rattle.std.specs.Prelude.{◌≡◌, ◌∷◌, [], ◌++◌, map, IfOk, OnErr, IfErr};
-ghost use Rattle.thf_lex.specs.Reading.{AreTokens};
-ghost use Rattle.thf_syntax.specs.View.{the_statement, the_file};
-ghost use Rattle.thf_parse.specs.Words.{lexemes};
+ghost use Rattle.thf_grammar.specs.Reading.{AreTokens};
+ghost use Rattle.thf_grammar.specs.View.{the_statement, the_file};
+ghost use Rattle.thf_grammar.specs.Words.{lexemes};
 ghost use Rattle.thf_parse.specs.Means.StatementReader as reader;
 ghost use Rattle.thf_parse.specs.Parsing.{depth_limit, HasTree, IsRefusedAt};
 ghost use Rattle.thf_parse.specs.Means.Reads.{ReadsFile};
@@ -10,10 +10,9 @@ ghost use Rattle.thf_parse.specs.Means.Reads.{ReadsFile};
 use crate::cursor::Cursor;
 use crate::refusal::Refusal;
 use crate::statement::statement;
-use crate::terminal::Terminal;
 use std::alloc::{AllocError, Global};
 use thf_lex::Tokens;
-use thf_syntax::{FileTree, Statement};
+use thf_grammar::{FileTree, Statement, Terminal};
 use thiserror::Error;
 
 /// How many things may be open at once in a body or in notes.

@@ -8,11 +8,10 @@ use crate::cursor::Cursor;
 use crate::include::{include, label, named};
 use crate::notes::notes;
 use crate::refusal::Refusal;
-use crate::terminal::{Mark, Terminal};
 use crate::typing::body;
 use outside::Bytes;
 use std::alloc::Global;
-use thf_syntax::{Annotated, Selected, Statement};
+use thf_grammar::{Annotated, Mark, Selected, Statement, Terminal};
 
 /// What a statement begins with.
 #[derive(Clone, Copy)]

@@ -1,13 +1,12 @@
 //! Types. In each reader, `room` is how many more things may be open at once.
 ghost use Rattle.thf_parse.specs.Means.Reader as reader;
 ghost use Rattle.thf_parse.specs.Means.Reads.{ReadsType};
-ghost use Rattle.thf_syntax.specs.View.{the_type};
+ghost use Rattle.thf_grammar.specs.View.{the_type};
 
 use crate::cursor::Cursor;
 use crate::refusal::Refusal;
-use crate::terminal::{Mark, Terminal};
 use std::alloc::Global;
-use thf_syntax::SurfaceTy;
+use thf_grammar::{Mark, SurfaceTy, Terminal};
 
 /// The type that the tokens begin with.
 #[cycle(types)]

@@ -1,5 +1,5 @@
 //! The bodies of annotated formulas. In each reader, `room` is how many more things may be open at once.
-ghost use Rattle.thf_syntax.specs.View.{the_selected};
+ghost use Rattle.thf_grammar.specs.View.{the_selected};
 ghost use Rattle.thf_parse.specs.Means.Reader.{inner_type, type_with};
 ghost use Rattle.thf_parse.specs.Means.StatementReader as reader;
 ghost use Rattle.thf_parse.specs.Means.Reads.{ReadsBody};
@@ -8,10 +8,9 @@ use crate::cursor::Cursor;
 use crate::formula::formula;
 use crate::include::named;
 use crate::refusal::Refusal;
-use crate::terminal::{Mark, Terminal};
 use crate::types::type_tree;
 use std::alloc::Global;
-use thf_syntax::{Body, Selected};
+use thf_grammar::{Body, Mark, Selected, Terminal};
 
 /// What the name is declared as, from the colon behind it on.
 #[tactic(auto, unfolding(crate::specs::Means::StatementReader::declared))]

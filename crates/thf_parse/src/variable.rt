@@ -1,16 +1,15 @@
 //! The variables of binders.
 ghost use Rattle.std.specs.Prelude.{◌≡◌, [], ◌∷◌, ◌++◌, IfOk};
-ghost use Rattle.thf_syntax.specs.View.{the_var, the_vars};
+ghost use Rattle.thf_grammar.specs.View.{the_var, the_vars};
 ghost use Rattle.thf_parse.specs.Means.Reader.{inner_type, type_with};
 ghost use Rattle.thf_parse.specs.Means.FormulaReader as reader;
 ghost use Rattle.thf_parse.specs.Means.Reads.{ReadsVar};
 
 use crate::cursor::Cursor;
 use crate::refusal::Refusal;
-use crate::terminal::{Mark, Terminal};
 use crate::types::type_tree;
 use std::alloc::{AllocError, Global};
-use thf_syntax::{SurfaceTy, SurfaceVar, SurfaceVars};
+use thf_grammar::{Mark, SurfaceTy, SurfaceVar, SurfaceVars, Terminal};
 
 /// The variable whose name is the first token, where `room` more things may be open at once.
 #[tactic(auto, unfolding(crate::specs::Means::FormulaReader::variable_at))]

@@ -1,10 +1,11 @@
 //! The first of some tokens.
 ghost use Rattle.std.specs.Prelude.{◌≡◌, ℕ, List, length, slice_range, IfOk};
-ghost use Rattle.thf_parse.specs.Words.{lexemes, unescaped, name_in};
+ghost use Rattle.thf_grammar.specs.Words.{lexemes, unescaped, name_in};
 ghost use Rattle.thf_parse.specs.Means.Outcome as spec;
-ghost use Rattle.thf_parse.specs.Terminals.{of_kind};
+ghost use Rattle.thf_grammar.specs.Terminals.{of_kind};
 
-use crate::terminal::{Terminal, terminal_of};
+use crate::terminal::terminal_of;
+use thf_grammar::Terminal;
 use outside::Bytes;
 use std::alloc::{AllocError, Global};
 use thf_lex::{Token, TokenKind};

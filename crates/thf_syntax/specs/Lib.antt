@@ -1,2 +1,5 @@
-pub mod Trees
-pub mod View
+pub mod Names
+pub mod Slots
+pub mod Texts
+pub mod Places
+pub mod Law

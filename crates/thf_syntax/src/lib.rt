@@ -1,10 +1,17 @@
-//! The surface trees of THF: what the grammar reads, with the places of its tokens.
+//! The surface trees of THF: what the grammar reads, with the places of its tokens; and their texts.
 #![tactic(auto)]
 
-mod formula;
-mod statement;
-mod types;
+mod law;
+mod slot;
+mod write_bytes;
+mod write_formula;
+mod write_name;
+mod write_statement;
+mod write_types;
 
-pub use formula::{Binder, Conn, Surface};
-pub use statement::{Annotated, Body, FileTree, Selected, Selection, Statement};
-pub use types::{SurfaceTy, SurfaceVar, SurfaceVars};
+pub use law::{read_trees_are_printable, texts_have_their_trees};
+pub use thf_grammar::{
+    Annotated, Binder, Body, Conn, FileTree, Selected, Selection, Statement, Surface, SurfaceTy,
+    SurfaceVar, SurfaceVars,
+};
+pub use write_statement::write_surface;

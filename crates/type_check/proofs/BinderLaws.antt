@@ -3,12 +3,12 @@ use Rattle.std.proofs.Common.{◌≡◌, ℕ, List, ◌∷◌, Result, Ok, ap, s
 use Rattle.stt_core.specs.SimpleType.{SimpleType}
 use Rattle.stt_core.specs.TypedName.{TypedName}
 use Rattle.stt_core.specs.Declarations.{Declarations}
-use Rattle.thf_syntax.specs.Trees.{VarTree}
-use Rattle.thf_syntax.specs.declared.formula.Binder.{Binder}
+use Rattle.thf_grammar.specs.Trees.{VarTree}
+use Rattle.thf_grammar.specs.declared.connective.Binder.{Binder}
 use Rattle.type_check.specs.Outcome.{IllPlace, ◌>>=◌}
 use Rattle.type_check.specs.Means.Answers.{Refuses}
 use Rattle.type_check.specs.Types.{read_type}
-use Rattle.type_check.specs.Terms.{Reading, bind, read_binder}
+use Rattle.type_check.specs.Terms.{TermReading, bind, read_binder}
 use Rattle.type_check.specs.declared.refusal.Refusal.{Refusal}
 use Rattle.type_check.specs.declared.refusal.Refusal.TheVariants.{At, Memory}
 
@@ -17,7 +17,7 @@ pub refuses-then : {A B : Type 0} (e : Refusal) (r : Result A IllPlace) (f : A �
 refuses-then (At at why) r f h = ap (λ r. r >>= f) h
 refuses-then Memory r f h = tt
 
-pub read_binder-first : (d : Declarations) (at : ℕ) (binder : Binder) (all : List VarTree) (v : VarTree) (vars : List VarTree) (scope : List TypedName) (body : List TypedName → Reading) (a : SimpleType) (name : List ℕ)
+pub read_binder-first : (d : Declarations) (at : ℕ) (binder : Binder) (all : List VarTree) (v : VarTree) (vars : List VarTree) (scope : List TypedName) (body : List TypedName → TermReading) (a : SimpleType) (name : List ℕ)
     → all ≡ v ∷ vars → read_type d v.ty ≡ Ok a → name ≡ v.name
     → read_binder d at binder all scope body ≡ read_binder d at binder vars (record { name = name; type = a } ∷ scope) body >>= bind at binder a
 read_binder-first d at binder all v vars scope body a name e h n =

@@ -9,7 +9,7 @@ use Rattle.stt_core.specs.Signature.{symbol_named, first_symbol}
 use Rattle.stt_core.specs.declared.signature.Symbol.{Symbol}
 use Rattle.stt_core.specs.declared.signature.Symbol.TheVariants.{Base, Const}
 use Rattle.stt_core.specs.Declarations.{Declarations}
-use Rattle.thf_syntax.specs.Trees.{TypeTree, form, indiv, named, arrow as arrow_tree}
+use Rattle.thf_grammar.specs.Trees.{TypeTree, form, indiv, named, arrow as arrow_tree}
 use Rattle.type_check.specs.Outcome.{◌>>=◌}
 use Rattle.type_check.specs.Types.{base_named, read_type}
 use Rattle.type_check.proofs.OutcomeLaws.{if_ok-then}

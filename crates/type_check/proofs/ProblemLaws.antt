@@ -4,7 +4,7 @@ use Rattle.std.proofs.lemmas.List.Elements.{All-head, All-tail}
 use Rattle.stt_core.specs.Lambda.{Lambda}
 use Rattle.stt_core.specs.Signature.{symbol_named}
 use Rattle.stt_core.specs.PlainProblem.{PlainProblem}
-use Rattle.thf_syntax.specs.Trees.{TypeTree, FormulaTree, BodyTree, base, typing, formula, AnnotatedTree}
+use Rattle.thf_grammar.specs.Trees.{TypeTree, FormulaTree, BodyTree, base, typing, formula, AnnotatedTree}
 use Rattle.thf_include.specs.View.{PlacedTree}
 use Rattle.type_check.specs.Outcome.{IllPlace, ◌>>=◌}
 use Rattle.type_check.specs.declared.refusal.IllWhy.TheVariants.{Twice, SecondConjecture, RoleUnknown}

@@ -5,8 +5,8 @@ use Rattle.stt_core.specs.SimpleType.{SimpleType, arrow, formula, predicate, is_
 use Rattle.stt_core.specs.Lambda.{Lambda, bound, constant, falsity, choice, description, lam, app, neg, imp, eq, every}
 use Rattle.stt_core.specs.Typing.{Scope, IsScope, AreDeclared, type_of, applied_type}
 use Rattle.stt_core.proofs.TypeLaws.{lambda_type, applied, constant_declared, get_declared, applies, abstracts}
-use Rattle.thf_syntax.specs.declared.formula.Conn.{Conn}
-use Rattle.thf_syntax.specs.declared.formula.Conn.TheVariants as conn
+use Rattle.thf_grammar.specs.declared.connective.Conn.{Conn}
+use Rattle.thf_grammar.specs.declared.connective.Conn.TheVariants as conn
 use Rattle.stt_core.specs.Lift.{lift}
 use Rattle.stt_core.proofs.LiftLaws.{type_of-lift}
 use Rattle.type_check.specs.Rows.{signed, truth_value, join, joining, operator_term, for_all, for_some, quantify}

@@ -1,6 +1,6 @@
 -- How many nodes and variables a formula has, by which its reading ends.
 use Rattle.std.proofs.Common.{ℕ, suc, ◌+◌, length}
-use Rattle.thf_syntax.specs.Trees.{FormulaTree, constant, variable, truth, operator, negation, binary, equation, application, quantified, binding}
+use Rattle.thf_grammar.specs.Trees.{FormulaTree, constant, variable, truth, operator, negation, binary, equation, application, quantified, binding}
 
 abbrev pub tree_size : FormulaTree → ℕ
 tree_size (constant at name) = 1

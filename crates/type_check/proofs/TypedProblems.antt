@@ -10,7 +10,7 @@ use Rattle.stt_core.proofs.ListLaws.{slice_get-append, map-append}
 use Rattle.stt_core.specs.Declarations.{Declarations, scope_of}
 use Rattle.stt_core.specs.PlainProblem.{PlainProblem}
 use Rattle.stt_core.specs.TypedProblem.{IsFormula, AreFormulas, IsTyped}
-use Rattle.thf_syntax.specs.Trees.{FormulaTree}
+use Rattle.thf_grammar.specs.Trees.{FormulaTree}
 use Rattle.thf_include.specs.View.{PlacedTree}
 use Rattle.type_check.specs.declared.refusal.IllWhy.TheVariants.{NotFormula}
 use Rattle.type_check.specs.Types.{read_type}

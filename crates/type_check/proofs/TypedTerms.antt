@@ -12,14 +12,14 @@ use Rattle.stt_core.specs.declared.signature.Symbol.{Symbol}
 use Rattle.stt_core.specs.declared.signature.Symbol.TheVariants.{Base, Const}
 use Rattle.stt_core.proofs.TypeLaws.{same_type-true}
 use Rattle.stt_core.specs.Declarations.{Declarations, scope_of}
-use Rattle.thf_syntax.specs.Trees.{VarTree, FormulaTree, constant as name_tree, variable, truth, operator, negation, binary, equation, application, quantified, binding}
-use Rattle.thf_syntax.specs.declared.formula.Conn.{Conn}
-use Rattle.thf_syntax.specs.declared.formula.Binder.{Binder}
-use Rattle.thf_syntax.specs.declared.formula.Binder.TheVariants as binder
+use Rattle.thf_grammar.specs.Trees.{VarTree, FormulaTree, constant as name_tree, variable, truth, operator, negation, binary, equation, application, quantified, binding}
+use Rattle.thf_grammar.specs.declared.connective.Conn.{Conn}
+use Rattle.thf_grammar.specs.declared.connective.Binder.{Binder}
+use Rattle.thf_grammar.specs.declared.connective.Binder.TheVariants as binder
 use Rattle.type_check.specs.Outcome.{◌>>=◌}
 use Rattle.type_check.specs.Types.{read_type}
 use Rattle.type_check.specs.Typed.{TypedTerm, typed, of_type, where_typed, domain}
-use Rattle.type_check.specs.Terms.{Reading, known, constant_at, constant_named, variable_named, negated, joined, equated, applied, quantified_over, quantified_by, chosen, described, bind, read_binder, read_term}
+use Rattle.type_check.specs.Terms.{TermReading, known, constant_at, constant_named, variable_named, negated, joined, equated, applied, quantified_over, quantified_by, chosen, described, bind, read_binder, read_term}
 use Rattle.type_check.specs.Rows.{signed, join, for_all, for_some}
 use Rattle.type_check.specs.declared.refusal.IllWhy.TheVariants.{Mismatch}
 use Rattle.type_check.proofs.OutcomeLaws.{if_ok-then, if_ok-where}
@@ -83,7 +83,7 @@ known-where P at None h = tt
 
 module _ (scope : Scope) (over : IsScope scope) (ctx : List SimpleType) (declared : AreDeclared scope.bases ctx) where
   -- whatever is read has its type
-  abbrev GivesTyped : Reading → Type 0
+  abbrev GivesTyped : TermReading → Type 0
   GivesTyped r = IfOk r (HasItsType scope ctx)
 
   -- whatever is read has this type
@@ -158,10 +158,10 @@ module _ (scope : Scope) (over : IsScope scope) (ctx : List SimpleType) (declare
         if_ok-then GivesBody (HasItsType scope ctx) (of_type at formula x) (described a) (body-typed at) (λ s k. description-type scope ctx a s a_declared k)
 
 module _ (d : Declarations) (over : IsScope (scope_of d)) where
-  abbrev IsTypedUnder : List TypedName → Reading → Type 0
+  abbrev IsTypedUnder : List TypedName → TermReading → Type 0
   IsTypedUnder vars r = IfOk r (HasItsType (scope_of d) (types_of vars))
 
-  read_binder-typed : (at : ℕ) (b : Binder) (vs : List VarTree) (vars : List TypedName) → AreDeclared (length d.bases) (types_of vars) → (body : List TypedName → Reading)
+  read_binder-typed : (at : ℕ) (b : Binder) (vs : List VarTree) (vars : List TypedName) → AreDeclared (length d.bases) (types_of vars) → (body : List TypedName → TermReading)
       → ((inner : List TypedName) → AreDeclared (length d.bases) (types_of inner) → IsTypedUnder inner (body inner)) → IsTypedUnder vars (read_binder d at b vs vars body)
   read_binder-typed at b [] vars declared body h = h vars declared
   read_binder-typed at b (v ∷ vs) vars declared body h =
@@ -171,7 +171,7 @@ module _ (d : Declarations) (over : IsScope (scope_of d)) where
       (read_binder-typed at b vs (inner a) (e, declared) body h) (λ x k. bind-typed (scope_of d) over (types_of vars) declared a e x k at b))
 
   -- two parts that are read one after the other
-  both : (vars : List TypedName) (s t : FormulaTree) (f : TypedTerm → TypedTerm → Reading) → IsTypedUnder vars (read_term d vars s) → IsTypedUnder vars (read_term d vars t)
+  both : (vars : List TypedName) (s t : FormulaTree) (f : TypedTerm → TypedTerm → TermReading) → IsTypedUnder vars (read_term d vars s) → IsTypedUnder vars (read_term d vars t)
       → ((x y : TypedTerm) → HasItsType (scope_of d) (types_of vars) x → HasItsType (scope_of d) (types_of vars) y → IsTypedUnder vars (f x y))
       → IsTypedUnder vars (read_term d vars s >>= λ x. read_term d vars t >>= f x)
   both vars s t f h k joins =

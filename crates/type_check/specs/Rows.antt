@@ -2,8 +2,8 @@
 use Rattle.std.specs.Prelude.{Bool, true, false}
 use Rattle.stt_core.specs.SimpleType.{SimpleType, arrow, formula}
 use Rattle.stt_core.specs.Lambda.{Lambda, bound, constant, falsity, lam, app, neg, imp, eq, every}
-use Rattle.thf_syntax.specs.declared.formula.Conn.{Conn}
-use Rattle.thf_syntax.specs.declared.formula.Conn.TheVariants as conn
+use Rattle.thf_grammar.specs.declared.connective.Conn.{Conn}
+use Rattle.thf_grammar.specs.declared.connective.Conn.TheVariants as conn
 use Rattle.stt_core.specs.Lift.{lift}
 use Rattle.type_check.specs.Typed.{TypedTerm, typed}
 

@@ -7,7 +7,7 @@ use Rattle.stt_core.specs.Lambda.{Lambda}
 use Rattle.stt_core.specs.Signature.{symbol_named}
 use Rattle.stt_core.specs.Declarations.{Declarations}
 use Rattle.stt_core.specs.PlainProblem.{PlainProblem}
-use Rattle.thf_syntax.specs.Trees.{TypeTree, FormulaTree, constant, variable, truth, operator, negation, binary, equation, application, quantified, binding, BodyTree, base, typing, formula, AnnotatedTree}
+use Rattle.thf_grammar.specs.Trees.{TypeTree, FormulaTree, constant, variable, truth, operator, negation, binary, equation, application, quantified, binding, BodyTree, base, typing, formula, AnnotatedTree}
 use Rattle.thf_include.specs.View.{PlacedTree}
 use Rattle.type_check.specs.Outcome.{IllPlace, ill, ◌>>=◌}
 use Rattle.type_check.specs.Types.{read_type}

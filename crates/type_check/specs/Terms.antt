@@ -10,21 +10,21 @@ use Rattle.stt_core.specs.Signature.{symbol_named}
 use Rattle.stt_core.specs.declared.signature.Symbol.{Symbol}
 use Rattle.stt_core.specs.declared.signature.Symbol.TheVariants.{Base, Const}
 use Rattle.stt_core.specs.Declarations.{Declarations}
-use Rattle.thf_syntax.specs.Trees.{VarTree, FormulaTree, constant as name_tree, variable, truth, operator, negation, binary, equation, application, quantified, binding}
-use Rattle.thf_syntax.specs.declared.formula.Conn.{Conn}
-use Rattle.thf_syntax.specs.declared.formula.Binder.{Binder}
-use Rattle.thf_syntax.specs.declared.formula.Binder.TheVariants as binder
+use Rattle.thf_grammar.specs.Trees.{VarTree, FormulaTree, constant as name_tree, variable, truth, operator, negation, binary, equation, application, quantified, binding}
+use Rattle.thf_grammar.specs.declared.connective.Conn.{Conn}
+use Rattle.thf_grammar.specs.declared.connective.Binder.{Binder}
+use Rattle.thf_grammar.specs.declared.connective.Binder.TheVariants as binder
 use Rattle.type_check.specs.Outcome.{IllPlace, ill, ◌>>=◌}
 use Rattle.type_check.specs.Types.{read_type}
 use Rattle.type_check.specs.Typed.{TypedTerm, typed, of_type, where_typed, domain}
 use Rattle.type_check.specs.Rows.{signed, truth_value, join, operator_term, for_all, for_some, quantify}
 use Rattle.type_check.specs.declared.refusal.IllWhy.TheVariants.{Unknown, Mismatch}
 
-abbrev pub Reading : Type 0
-Reading = Result TypedTerm IllPlace
+abbrev pub TermReading : Type 0
+TermReading = Result TypedTerm IllPlace
 
 -- a typed term that a name stands for, where it stands for one
-abbrev pub known : ℕ → Option TypedTerm → Reading
+abbrev pub known : ℕ → Option TypedTerm → TermReading
 known at (Some x) = Ok x
 known at None = ill at Unknown
 
@@ -44,50 +44,50 @@ variable_named k [] name = None
 variable_named k (v ∷ scope) name = if bytes_eq v.name name then Some (typed (bound k) v.type) else variable_named (suc k) scope name
 
 -- `~`
-abbrev pub negated : ℕ → TypedTerm → Reading
+abbrev pub negated : ℕ → TypedTerm → TermReading
 negated at x = do
   s ← of_type at formula x
   Ok (typed (neg s) formula)
 
 -- the binary connectives; `~` is none
-abbrev pub joined : ℕ → Conn → TypedTerm → TypedTerm → Reading
+abbrev pub joined : ℕ → Conn → TypedTerm → TypedTerm → TermReading
 joined at conn x y = do
   s ← of_type at formula x
   t ← of_type at formula y
   Ok (typed (join conn s t) formula)
 
 -- `=`, or `!=` where it isn't positive
-abbrev pub equated : ℕ → Bool → TypedTerm → TypedTerm → Reading
+abbrev pub equated : ℕ → Bool → TypedTerm → TypedTerm → TermReading
 equated at positive x y = do
   t ← of_type at x.type y
   Ok (typed (signed positive (eq x.type x.term t)) formula)
 
 -- `@`
-abbrev pub applied : ℕ → TypedTerm → TypedTerm → Reading
+abbrev pub applied : ℕ → TypedTerm → TypedTerm → TermReading
 applied at x y = where_typed at (app x.term y.term) (applied_type (Some x.type) (Some y.type))
 
 -- `!! @` and `?? @`, of a predicate on the type
-abbrev pub quantified_over : ℕ → Bool → Lambda → Option SimpleType → Reading
+abbrev pub quantified_over : ℕ → Bool → Lambda → Option SimpleType → TermReading
 quantified_over at all s (Some a) = Ok (typed (quantify all a s) formula)
 quantified_over at all s None = ill at Mismatch
 
-abbrev pub quantified_by : ℕ → Bool → TypedTerm → Reading
+abbrev pub quantified_by : ℕ → Bool → TypedTerm → TermReading
 quantified_by at all x = quantified_over at all x.term (domain x.type)
 
 -- `^`, of a variable of type a
-abbrev pub abstracted : SimpleType → TypedTerm → Reading
+abbrev pub abstracted : SimpleType → TypedTerm → TermReading
 abstracted a x = Ok (typed (lam a x.term) (arrow a x.type))
 
 -- `@+`, of a variable of type a, over a formula
-abbrev pub chosen : SimpleType → Lambda → Reading
+abbrev pub chosen : SimpleType → Lambda → TermReading
 chosen a s = Ok (typed (app (constant (choice a)) (lam a s)) a)
 
 -- `@-`, of a variable of type a, over a formula
-abbrev pub described : SimpleType → Lambda → Reading
+abbrev pub described : SimpleType → Lambda → TermReading
 described a s = Ok (typed (app (constant (description a)) (lam a s)) a)
 
 -- a binder of one variable, of type a, over a body
-abbrev pub bind : ℕ → Binder → SimpleType → TypedTerm → Reading
+abbrev pub bind : ℕ → Binder → SimpleType → TypedTerm → TermReading
 bind at binder.All a x = do
   s ← of_type at formula x
   Ok (typed (for_all a s) formula)
@@ -103,7 +103,7 @@ bind at binder.Desc a x = do
   described a s
 
 -- A binder of several variables is one of the first over one of the others. `body` reads what is bound, under the variables in scope.
-abbrev pub read_binder : Declarations → ℕ → Binder → List VarTree → List TypedName → (List TypedName → Reading) → Reading
+abbrev pub read_binder : Declarations → ℕ → Binder → List VarTree → List TypedName → (List TypedName → TermReading) → TermReading
 read_binder d at binder [] scope body = body scope
 read_binder d at binder (v ∷ vars) scope body = do
   a ← read_type d v.ty
@@ -111,7 +111,7 @@ read_binder d at binder (v ∷ vars) scope body = do
   bind at binder a x
 
 -- A term under the variables in scope, innermost first.
-abbrev pub read_term : Declarations → List TypedName → FormulaTree → Reading
+abbrev pub read_term : Declarations → List TypedName → FormulaTree → TermReading
 read_term d scope (name_tree at name) = known at (constant_named d.consts (symbol_named d.bases d.consts name))
 read_term d scope (variable at name) = known at (variable_named zero scope name)
 read_term d scope (truth at value) = Ok (typed (truth_value value) formula)

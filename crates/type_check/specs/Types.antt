@@ -5,7 +5,7 @@ use Rattle.stt_core.specs.Signature.{symbol_named}
 use Rattle.stt_core.specs.declared.signature.Symbol.{Symbol}
 use Rattle.stt_core.specs.declared.signature.Symbol.TheVariants.{Base, Const}
 use Rattle.stt_core.specs.Declarations.{Declarations}
-use Rattle.thf_syntax.specs.Trees.{TypeTree, form, indiv, named, arrow as arrow_tree}
+use Rattle.thf_grammar.specs.Trees.{TypeTree, form, indiv, named, arrow as arrow_tree}
 use Rattle.type_check.specs.Outcome.{IllPlace, ill, ◌>>=◌}
 use Rattle.type_check.specs.declared.refusal.IllWhy.TheVariants.{Unknown}
 

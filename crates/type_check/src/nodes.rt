@@ -12,7 +12,7 @@ use crate::term::{app, eq, lam, neg};
 use crate::typed::{TypeOf, Typed};
 use std::alloc::Global;
 use stt_core::{Term, Ty};
-use thf_syntax::{Binder, Conn};
+use thf_grammar::{Binder, Conn};
 
 /// `~`.
 pub(crate) fn negated(alloc: Global, at: u32, x: Typed) -> Result<Typed<'static>, Refusal>

@@ -8,7 +8,7 @@ use crate::lift::lift;
 use crate::term::{app, eq, every, imp, lam, neg};
 use std::alloc::{AllocError, Global};
 use stt_core::{Term, Ty};
-use thf_syntax::Conn;
+use thf_grammar::Conn;
 
 /// A formula where it is to hold, or else its negation.
 pub(crate) fn signed(alloc: Global, positive: bool, s: Term) -> Result<Term, AllocError>

@@ -2,7 +2,7 @@
 
 ghost use Rattle.std.specs.Prelude.{◌≡◌, ◌+◌, ◌-◌, ◌<◌, ◌≤◌, ◌^◌, length, IfOk};
 ghost use Rattle.stt_core.specs.View.{the_term};
-ghost use Rattle.thf_syntax.specs.View.{the_annotated, the_body, the_formula, the_type};
+ghost use Rattle.thf_grammar.specs.View.{the_annotated, the_body, the_formula, the_type};
 ghost use Rattle.type_check.specs.Means.Answers.{Answers};
 ghost use Rattle.type_check.specs.Statements as defined;
 ghost use Rattle.type_check.specs.Means.ReadingView.{the_reading};
@@ -14,7 +14,7 @@ use crate::terms::read_term;
 use crate::types::read_type;
 use std::alloc::{AllocError, Global};
 use stt_core::{Flags, Term, Terms, Ty};
-use thf_syntax::{Annotated, Body, Surface, SurfaceTy};
+use thf_grammar::{Annotated, Body, Surface, SurfaceTy};
 
 /// What the statements say so far: what is declared, the formulas that are assumed, in order, with a mark for each that tells whether it is
 /// a definition, and the conjecture, where there is one.

@@ -3,12 +3,12 @@
 ghost use Rattle.std.specs.Prelude.{◌≡◌, IfOk, option_map};
 ghost use Rattle.stt_core.specs.SimpleType.{arrow, formula};
 ghost use Rattle.stt_core.specs.View.{the_type};
-ghost use Rattle.thf_syntax.specs.View.{the_formula, the_vars};
+ghost use Rattle.thf_grammar.specs.View.{the_formula, the_vars};
 ghost use Rattle.type_check.specs.Means.Answers.{Answers};
 ghost use Rattle.type_check.specs.Means.Infixes as infixes;
 ghost use Rattle.type_check.specs.Rows as rows;
 ghost use Rattle.type_check.specs.Typed.{typed};
-ghost use Rattle.thf_syntax.specs.declared.formula.Conn.TheVariants as conn;
+ghost use Rattle.thf_grammar.specs.declared.connective.Conn.TheVariants as conn;
 ghost use Rattle.type_check.specs.Terms as defined;
 ghost use Rattle.type_check.specs.Means.ScopeView.{the_variables};
 ghost use Rattle.type_check.specs.Means.TypedView.{the_typed};
@@ -23,7 +23,7 @@ use crate::typed::{TypeOf, Typed};
 use crate::types::read_type;
 use std::alloc::{AllocError, Global};
 use stt_core::{Term, Ty};
-use thf_syntax::{Binder, Conn, Surface, SurfaceVar};
+use thf_grammar::{Binder, Conn, Surface, SurfaceVar};
 
 /// What a name stands for, where it stands for a term.
 fn known(at: u32, x: Option<Typed>) -> Result<Typed, Refusal>

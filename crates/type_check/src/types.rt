@@ -1,6 +1,6 @@
 //! The types that texts name.
 
-ghost use Rattle.thf_syntax.specs.View as surface;
+ghost use Rattle.thf_grammar.specs.View as surface;
 ghost use Rattle.stt_core.specs.View as core;
 ghost use Rattle.type_check.specs.Types as defined;
 ghost use Rattle.type_check.specs.Means.Answers.{Answers};
@@ -9,7 +9,7 @@ use crate::declared::Declared;
 use crate::refusal::{IllWhy, Refusal};
 use std::alloc::Global;
 use stt_core::{Symbol, Ty};
-use thf_syntax::SurfaceTy;
+use thf_grammar::SurfaceTy;
 
 /// The type that a name stands for.
 fn base_named(at: u32, symbol: Option<Symbol>) -> Result<Ty, Refusal>

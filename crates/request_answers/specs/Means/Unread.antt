@@ -4,7 +4,7 @@ use Rattle.stt_core.specs.PlainProblem.{PlainProblem}
 use Rattle.thf_include.specs.View.{PlacedTree}
 use Rattle.thf_include.specs.Gathering.{Ending, done, stopped}
 use Rattle.type_check.specs.Statements.{IllInFile, problem_of}
-use Rattle.mode_file.specs.Lines.{lines_of}
+use Rattle.outside.specs.Lines.{lines_of}
 use Rattle.mode_file.specs.Refusals.{Refuses}
 use Rattle.szs_report.specs.declared.answer.Answer.{Answer}
 use Rattle.szs_report.specs.declared.answer.Answer.TheVariants.{Accepted, TypeAt, ModeAt, TooLong, ReadFault, Memory}

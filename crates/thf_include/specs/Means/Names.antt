@@ -1,7 +1,7 @@
 -- Names that files can be opened by.
 use Rattle.std.specs.Prelude.{List, IsUtf8}
 use Rattle.std.specs.List.{AllByRecursion}
-use Rattle.thf_syntax.specs.Trees.{StatementTree, annotated, include}
+use Rattle.thf_grammar.specs.Trees.{StatementTree, annotated, include}
 
 -- an include has a name that is text
 abbrev pub IsNamed : StatementTree → Type 0

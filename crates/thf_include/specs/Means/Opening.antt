@@ -2,7 +2,7 @@
 use Rattle.std.specs.Prelude.{◌≡◌, ℕ, ◌<◌, Bool, ◌⊎◌, IsTrue, List, [], ◌∷◌, ◌++◌, length, Option, Some}
 use Rattle.thf_include.specs.declared.refused.GatherRefused.{GatherRefused}
 use Rattle.thf_include.specs.declared.refused.GatherRefused.TheVariants.{Fault, TooLong, Syntax, Cycle, NoSuchName, TooMany, Memory}
-use Rattle.thf_include.specs.Gathering.{IsRefusedText}
+use Rattle.thf_include.specs.Gathering.{IsWrongText}
 
 -- a text that has more bytes than are left
 pub record IsTooLong (tells : Bool) (contents : List ℕ → Option (List ℕ)) (name : List ℕ) (left : ℕ) : Type 0 where
@@ -23,7 +23,7 @@ IsReadRefusal tells contents name before after left (TooMany file at) = ⊥
 
 -- the text of the file with this number has no tree, by its token at a place
 abbrev pub IsTextRefusal : List ℕ → ℕ → GatherRefused → Type 0
-IsTextRefusal text number (Syntax file at) = (file ≡ number) × IsRefusedText text at
+IsTextRefusal text number (Syntax file at) = (file ≡ number) × IsWrongText text at
 IsTextRefusal text number Memory = Unit {0}
 IsTextRefusal text number (Fault file) = ⊥
 IsTextRefusal text number (TooLong file) = ⊥

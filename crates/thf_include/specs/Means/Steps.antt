@@ -1,6 +1,6 @@
 -- Steps of a gathering, from one state of what was opened to another.
 use Rattle.std.specs.Prelude.{◌≡◌, ℕ, ◌+◌, Bool, IsTrue, List, [], ◌++◌, length, Option, Result, Ok, Err}
-use Rattle.thf_syntax.specs.Trees.{StatementTree}
+use Rattle.thf_grammar.specs.Trees.{StatementTree}
 use Rattle.thf_include.specs.Gathering.{byte_limit}
 use Rattle.thf_include.specs.declared.opened.Opened.{Opened}
 use Rattle.thf_include.specs.declared.refused.GatherRefused.{GatherRefused}
@@ -22,9 +22,9 @@ pub record IsDone (R : List (List ℕ) → List (List ℕ) → Ending → Type 0
   pub read : AreRead texts opened
 
 -- how a step ends, by its answer, of which R says which names are opened over which texts
-abbrev pub EndsAs : {T : Type 0} → (List (List ℕ) → List (List ℕ) → Ending → Type 0) → List (List ℕ) → List (List ℕ) → Opened → List PlacedTree → List PlacedTree → Result T GatherRefused → Type 0
-EndsAs R texts names opened before after (Ok answer) = IsDone R texts names opened before after
-EndsAs R texts names opened before after (Err refused) = StopsAs (λ why. R texts names (stopped why)) (names ≡ []) opened.names refused
+abbrev pub StepsEndAs : {T : Type 0} → (List (List ℕ) → List (List ℕ) → Ending → Type 0) → List (List ℕ) → List (List ℕ) → Opened → List PlacedTree → List PlacedTree → Result T GatherRefused → Type 0
+StepsEndAs R texts names opened before after (Ok answer) = IsDone R texts names opened before after
+StepsEndAs R texts names opened before after (Err refused) = StopsAs (λ why. R texts names (stopped why)) (names ≡ []) opened.names refused
 
 -- A step behind these texts opens files and reads further texts. R says how it ends.
 pub record IsStep {T : Type 0} (tells : Bool) (contents : List ℕ → Option (List ℕ)) (R : List (List ℕ) → List (List ℕ) → Ending → Type 0) (texts : List (List ℕ)) (old new : Opened) (before after : List PlacedTree) (answer : Result T GatherRefused) : Type 0 where
@@ -32,7 +32,7 @@ pub record IsStep {T : Type 0} (tells : Bool) (contents : List ℕ → Option (L
   pub names : List (List ℕ)
   pub opened : new.names ≡ old.names ++ names
   pub told : IsTrue tells → AreContents contents names more
-  pub ends : EndsAs R (texts ++ more) names new before after answer
+  pub ends : StepsEndAs R (texts ++ more) names new before after answer
 
 -- the step of a file with this name, which is the next to be opened
 abbrev pub FileSteps : {T : Type 0} → Bool → (List ℕ → Option (List ℕ)) → List (List ℕ) → List ℕ → Opened → Opened → List PlacedTree → List PlacedTree → Result T GatherRefused → Type 0

@@ -2,7 +2,7 @@
 use Rattle.std.specs.Prelude.{◌≡◌, ℕ, ◌<◌, List, [], length}
 use Rattle.thf_lex.specs.declared.piece.Piece.{Piece}
 use Rattle.thf_lex.specs.declared.piece.Piece.TheVariants.{Gap, Word, Bad, End}
-use Rattle.thf_lex.specs.Longest.{IsLongestToken, IsLongestGap, BeginsNothing}
+use Rattle.thf_grammar.specs.Longest.{IsLongestToken, IsLongestGap, BeginsNothing}
 
 -- the piece is what the bytes begin with
 abbrev pub IsFirst : List ℕ → Piece → Type 0

@@ -1,6 +1,6 @@
 -- Symbols of a given length.
 use Rattle.std.specs.Prelude.{ℕ, ◌≤◌, IsTrue, List, length, take}
-use Rattle.thf_lex.specs.Texts.{is_symbol}
+use Rattle.thf_grammar.specs.Texts.{is_symbol}
 
 -- the first n bytes are a symbol
 abbrev pub BeginsWithSymbol : ℕ → List ℕ → Type 0

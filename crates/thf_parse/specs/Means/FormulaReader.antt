@@ -1,13 +1,13 @@
 -- How the reader goes through a formula.
 use Rattle.std.specs.Prelude.{ℕ, zero, suc, Bool, true, false, List, [], ◌∷◌, ◌++◌, Option, Some, None, if◌then◌else◌}
-use Rattle.thf_syntax.specs.Trees.{TypeTree, indiv, VarTree, FormulaTree, constant, variable, truth, operator, negation, binary, equation, application, quantified, binding}
-use Rattle.thf_syntax.specs.declared.formula.Conn.{Conn}
-use Rattle.thf_syntax.specs.declared.formula.Conn.TheVariants.{Not, And, Or}
-use Rattle.thf_syntax.specs.declared.formula.Binder.{Binder}
-use Rattle.thf_parse.specs.declared.terminal.Mark.TheVariants.{Open, Close, OpenList, CloseList, Comma, Colon, At}
-use Rattle.thf_parse.specs.declared.terminal.Terminal.{Terminal}
-use Rattle.thf_parse.specs.declared.terminal.Terminal.TheVariants as terminal
-use Rattle.thf_parse.specs.Formulas.{binds_many}
+use Rattle.thf_grammar.specs.Trees.{TypeTree, indiv, VarTree, FormulaTree, constant, variable, truth, operator, negation, binary, equation, application, quantified, binding}
+use Rattle.thf_grammar.specs.declared.connective.Conn.{Conn}
+use Rattle.thf_grammar.specs.declared.connective.Conn.TheVariants.{Not, And, Or}
+use Rattle.thf_grammar.specs.declared.connective.Binder.{Binder}
+use Rattle.thf_grammar.specs.declared.terminal.Mark.TheVariants.{Open, Close, OpenList, CloseList, Comma, Colon, At}
+use Rattle.thf_grammar.specs.declared.terminal.Terminal.{Terminal}
+use Rattle.thf_grammar.specs.declared.terminal.Terminal.TheVariants as terminal
+use Rattle.thf_grammar.specs.Formulas.{binds_many}
 use Rattle.thf_parse.specs.Means.Outcome.{found, wrong, Reader, ◌>>=◌, first_terminal, first_place, first_name, behind, expect, enter}
 use Rattle.thf_parse.specs.Means.Reader.{type_with, inner_type}
 

@@ -1,8 +1,8 @@
 -- How the reader goes through notes, and through what stands between commas.
 use Rattle.std.specs.Prelude.{ℕ, zero, suc, length, Option, Some, None}
-use Rattle.thf_parse.specs.declared.terminal.Mark.TheVariants.{Open, Close, OpenList, CloseList, Comma, Colon}
-use Rattle.thf_parse.specs.declared.terminal.Terminal.{Terminal}
-use Rattle.thf_parse.specs.declared.terminal.Terminal.TheVariants as terminal
+use Rattle.thf_grammar.specs.declared.terminal.Mark.TheVariants.{Open, Close, OpenList, CloseList, Comma, Colon}
+use Rattle.thf_grammar.specs.declared.terminal.Terminal.{Terminal}
+use Rattle.thf_grammar.specs.declared.terminal.Terminal.TheVariants as terminal
 use Rattle.thf_parse.specs.Means.Outcome.{found, wrong, Reader, ◌>>=◌, first_terminal, behind, expect, enter}
 
 -- what follows something that may stand before a comma

@@ -1,10 +1,10 @@
 -- What a reader finds at the front of tokens.
 use Rattle.std.specs.Prelude.{ℕ, List, [], ◌∷◌, Bool, false, Option, Some, None, if◌then◌else◌}
-use Rattle.thf_parse.specs.declared.terminal.Mark.{Mark}
-use Rattle.thf_parse.specs.declared.terminal.Terminal.{Terminal}
-use Rattle.thf_parse.specs.declared.terminal.Terminal.TheVariants as terminal
-use Rattle.thf_parse.specs.Means.Marks.{same_mark}
-use Rattle.thf_parse.specs.Words.{Lexeme, terminal_of, name_of}
+use Rattle.thf_grammar.specs.declared.terminal.Mark.{Mark}
+use Rattle.thf_grammar.specs.declared.terminal.Terminal.{Terminal}
+use Rattle.thf_grammar.specs.declared.terminal.Terminal.TheVariants as terminal
+use Rattle.thf_grammar.specs.Means.Marks.{is_mark}
+use Rattle.thf_grammar.specs.Words.{Lexeme, terminal_of, name_of}
 
 -- something with the tokens behind it, or the tokens from the one on that is wrong or too deep
 pub data Outcome (A : Type 0) : Type 0 where
@@ -40,10 +40,6 @@ first_text (t ∷ ts) = t.text
 unfoldable pub behind : List Lexeme → List Lexeme
 behind [] = []
 behind (t ∷ ts) = ts
-
-abbrev pub is_mark : Mark → Terminal → Bool
-is_mark mark (terminal.Mark other) = same_mark mark other
-is_mark mark _ = false
 
 -- a mark, and nothing of it
 abbrev pub expect_by : Mark → Terminal → List Lexeme → Outcome (Unit {0})

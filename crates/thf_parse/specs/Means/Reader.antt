@@ -1,9 +1,9 @@
 -- How the reader goes, token by token. A reader has the readers of one level deeper, where there is room for one.
 use Rattle.std.specs.Prelude.{ℕ, zero, suc, Option, Some, None}
-use Rattle.thf_syntax.specs.Trees.{TypeTree, form, indiv, named, arrow}
-use Rattle.thf_parse.specs.declared.terminal.Mark.TheVariants.{Open, Close, Arrow}
-use Rattle.thf_parse.specs.declared.terminal.Terminal.{Terminal}
-use Rattle.thf_parse.specs.declared.terminal.Terminal.TheVariants as terminal
+use Rattle.thf_grammar.specs.Trees.{TypeTree, form, indiv, named, arrow}
+use Rattle.thf_grammar.specs.declared.terminal.Mark.TheVariants.{Open, Close, Arrow}
+use Rattle.thf_grammar.specs.declared.terminal.Terminal.{Terminal}
+use Rattle.thf_grammar.specs.declared.terminal.Terminal.TheVariants as terminal
 use Rattle.thf_parse.specs.Means.Outcome.{found, wrong, Reader, ◌>>=◌, first_terminal, first_place, first_name, behind, expect, enter}
 
 abbrev pub group_type : Option (Reader TypeTree) → Reader TypeTree

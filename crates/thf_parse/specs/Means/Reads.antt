@@ -1,17 +1,17 @@
 -- What the code answers, with the tokens that are then left, beside what is to be read.
 use Rattle.std.specs.Prelude.{◌≡◌, List, Result, Ok, Err, Option, map}
 use Rattle.std.specs.Global.{Box}
-use Rattle.thf_syntax.specs.Trees.{TypeTree, VarTree, FormulaTree, BodyTree, SelectedTree, StatementTree}
-use Rattle.thf_syntax.specs.View.{the_type, the_var, the_formula, the_body, the_selected, the_selection, the_statement, the_file}
-use Rattle.thf_syntax.specs.declared.types.SurfaceTy.{SurfaceTy}
-use Rattle.thf_syntax.specs.declared.types.SurfaceVar.{SurfaceVar}
-use Rattle.thf_syntax.specs.declared.formula.Surface.{Surface}
-use Rattle.thf_syntax.specs.declared.statement.Body.{Body}
-use Rattle.thf_syntax.specs.declared.statement.Selected.{Selected}
-use Rattle.thf_syntax.specs.declared.statement.Statement.{Statement}
+use Rattle.thf_grammar.specs.Trees.{TypeTree, VarTree, FormulaTree, BodyTree, SelectedTree, StatementTree}
+use Rattle.thf_grammar.specs.View.{the_type, the_var, the_formula, the_body, the_selected, the_selection, the_statement, the_file}
+use Rattle.thf_grammar.specs.declared.types.SurfaceTy.{SurfaceTy}
+use Rattle.thf_grammar.specs.declared.types.SurfaceVar.{SurfaceVar}
+use Rattle.thf_grammar.specs.declared.formula.Surface.{Surface}
+use Rattle.thf_grammar.specs.declared.statement.Body.{Body}
+use Rattle.thf_grammar.specs.declared.statement.Selected.{Selected}
+use Rattle.thf_grammar.specs.declared.statement.Statement.{Statement}
 use Rattle.thf_parse.specs.declared.refusal.Refusal.{Refusal}
 use Rattle.thf_parse.specs.declared.statement.Heading.{Heading}
-use Rattle.thf_parse.specs.Words.{Lexeme}
+use Rattle.thf_grammar.specs.Words.{Lexeme}
 use Rattle.thf_parse.specs.Means.Outcome.{Outcome, found}
 use Rattle.thf_parse.specs.Means.Passes.{IsRefusal}
 use Rattle.thf_parse.specs.Means.StatementReader.{Head, head_of}

@@ -1,13 +1,13 @@
 -- How the reader goes through statements.
 use Rattle.std.specs.Prelude.{ℕ, zero, suc, Bool, true, false, List, [], ◌∷◌, ◌++◌, length, Option, Some, None, codes, if◌then◌else◌}
 use Rattle.std.specs.Str.{bytes_eq}
-use Rattle.thf_syntax.specs.Trees.{TypeTree, BodyTree, base, typing, formula as formula_body, SelectedTree, StatementTree, annotated as annotated_tree, include as include_tree}
+use Rattle.thf_grammar.specs.Trees.{TypeTree, BodyTree, base, typing, formula as formula_body, SelectedTree, StatementTree, annotated as annotated_tree, include as include_tree}
 use Rattle.thf_parse.specs.declared.statement.Keyword.{Keyword}
 use Rattle.thf_parse.specs.declared.statement.Keyword.TheVariants.{Thf, Include, Unknown}
-use Rattle.thf_parse.specs.declared.terminal.Mark.TheVariants.{Open, Close, OpenList, CloseList, Comma, Stop, Colon}
-use Rattle.thf_parse.specs.declared.terminal.Terminal.{Terminal}
-use Rattle.thf_parse.specs.declared.terminal.Terminal.TheVariants as terminal
-use Rattle.thf_parse.specs.Words.{Lexeme}
+use Rattle.thf_grammar.specs.declared.terminal.Mark.TheVariants.{Open, Close, OpenList, CloseList, Comma, Stop, Colon}
+use Rattle.thf_grammar.specs.declared.terminal.Terminal.{Terminal}
+use Rattle.thf_grammar.specs.declared.terminal.Terminal.TheVariants as terminal
+use Rattle.thf_grammar.specs.Words.{Lexeme}
 use Rattle.thf_parse.specs.Means.Outcome.{found, wrong, Reader, ◌>>=◌, first_terminal, first_place, first_name, first_text, behind, expect, enter}
 use Rattle.thf_parse.specs.Means.Reader.{type_with, inner_type}
 use Rattle.thf_parse.specs.Means.FormulaReader.{formula, inner}

@@ -2,19 +2,19 @@
 use Rattle.std.specs.Prelude.{ℕ, List}
 use Rattle.stt_core.specs.TypedName.{TypedName}
 use Rattle.stt_core.specs.Declarations.{Declarations}
-use Rattle.thf_syntax.specs.Trees.{FormulaTree}
+use Rattle.thf_grammar.specs.Trees.{FormulaTree}
 use Rattle.type_check.specs.Outcome.{◌>>=◌}
 use Rattle.type_check.specs.Typed.{TypedTerm}
-use Rattle.type_check.specs.Terms.{Reading, joined, equated, applied, read_term}
+use Rattle.type_check.specs.Terms.{TermReading, joined, equated, applied, read_term}
 use Rattle.type_check.specs.declared.nodes.Infix.{Infix}
 use Rattle.type_check.specs.declared.nodes.Infix.TheVariants.{Join, Equality, Application}
 
-abbrev pub combined : ℕ → Infix → TypedTerm → TypedTerm → Reading
+abbrev pub combined : ℕ → Infix → TypedTerm → TypedTerm → TermReading
 combined at (Join conn) x y = joined at conn x y
 combined at (Equality positive) x y = equated at positive x y
 combined at Application x y = applied at x y
 
-abbrev pub read_infix : Declarations → ℕ → Infix → List TypedName → FormulaTree → FormulaTree → Reading
+abbrev pub read_infix : Declarations → ℕ → Infix → List TypedName → FormulaTree → FormulaTree → TermReading
 read_infix d at between scope s t = do
   x ← read_term d scope s
   y ← read_term d scope t

@@ -1,8 +1,8 @@
 -- The names that a problem declares.
 use Rattle.std.specs.Prelude.{ℕ, List, All}
 use Rattle.stt_core.specs.Declarations.{Declarations}
-use Rattle.thf_syntax.specs.Trees as tree
-use Rattle.thf_syntax.specs.Trees.{BodyTree}
+use Rattle.thf_grammar.specs.Trees as tree
+use Rattle.thf_grammar.specs.Trees.{BodyTree}
 use Rattle.thf_include.specs.View.{PlacedTree}
 
 -- the name that a statement declares, where it declares one, has the property

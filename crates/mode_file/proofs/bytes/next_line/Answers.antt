@@ -1,6 +1,6 @@
 use Rattle.std.proofs.Common.{sym, ap, ◌∙◌, ◌∷◌}
 use Rattle.std.proofs.lemmas.List.{take_rest}
-use Rattle.mode_file.specs.Lines.{lines_of}
+use Rattle.outside.specs.Lines.{lines_of}
 use Rattle.mode_file.proofs.LineFeeds.{first_line, drop-none}
 use Rattle.mode_file.proofs.bytes.next_line.Goals as goal
 

@@ -1,6 +1,6 @@
 use Rattle.std.proofs.Common.{sym, ap, ◌∙◌, ◌∷◌}
 use Rattle.std.proofs.lemmas.List.{take_rest}
-use Rattle.refute_text.specs.Reading.{lines_of}
+use Rattle.outside.specs.Lines.{lines_of}
 use Rattle.refute_text.proofs.LineFeeds.{first_line, drop-none}
 use Rattle.refute_text.proofs.lines.next_line.Goals as goal
 

@@ -1,6 +1,6 @@
 use Rattle.std.proofs.Common.{◌≡◌, ◌+◌, ◌-◌, ◌∷◌, ◌++◌, IfErr, sym, ap, subst, ◌∙◌, arith}
 use Rattle.written_refutation.specs.Text.{text_lines}
-use Rattle.refute_text.specs.Reading.{lines_of}
+use Rattle.outside.specs.Lines.{lines_of}
 use Rattle.refute_text.specs.Means.Places.{RefusesBehind}
 use Rattle.refute_text.specs.declared.refusal.TextRefused.TheVariants.{NoEnd}
 use Rattle.refute_text.proofs.Bodies.{version_missing, version_bad}

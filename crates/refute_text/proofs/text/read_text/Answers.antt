@@ -1,4 +1,4 @@
-use Rattle.refute_text.specs.Reading.{lines_of}
+use Rattle.outside.specs.Lines.{lines_of}
 use Rattle.refute_text.proofs.Bodies.{read_from, one_answer}
 use Rattle.refute_text.proofs.text.read_text.Goals as goal
 

@@ -1,6 +1,7 @@
 use Rattle.std.proofs.Common.{◌-◌, ◌∷◌, ◌++◌, IfOk, IfErr, codes, sym, ap, subst, ◌∙◌}
 use Rattle.written_refutation.specs.TextView.{the_text}
-use Rattle.refute_text.specs.Reading.{lines_of, HoldsText}
+use Rattle.outside.specs.Lines.{lines_of}
+use Rattle.refute_text.specs.Reading.{HoldsText}
 use Rattle.refute_text.specs.Means.Places.{RefusesBehind}
 use Rattle.refute_text.specs.declared.refusal.TextRefused.TheVariants.{NoEnd}
 use Rattle.refute_text.proofs.Bodies.{definitions_missing, definition_bad, version_2_begins, no_definition}

@@ -2,8 +2,8 @@ use Rattle.std.proofs.Common.{◌≡◌, ◌∷◌, [], ◌++◌, length, map, C
 use Rattle.std.proofs.lemmas.List.{map-append}
 use Rattle.std.proofs.lemmas.Result.{err_from_is_err_and}
 use Rattle.std.specs.Vec.Iter.{into_iter_items}
-use Rattle.thf_syntax.specs.Trees.{include}
-use Rattle.thf_syntax.specs.View.{the_annotated, the_file, the_statement, the_selected, the_selection}
+use Rattle.thf_grammar.specs.Trees.{include}
+use Rattle.thf_grammar.specs.View.{the_annotated, the_file, the_statement, the_selected, the_selection}
 use Rattle.thf_include.specs.Means.Chain.{the_chain}
 use Rattle.thf_include.specs.Means.Steps.{FileSteps, StatementSteps, StatementsStep}
 use Rattle.thf_include.specs.Means.Names.{AreNamed}

@@ -1,6 +1,6 @@
 use Rattle.std.proofs.Common.{◌≡◌, ℕ, List, ◌++◌, ◌+◌, ◌-◌, ◌*◌, ◌≤◌, length, Ok}
 use Rattle.std.specs.Vec.Iter.{into_iter_items}
-use Rattle.thf_syntax.specs.View.{the_file}
+use Rattle.thf_grammar.specs.View.{the_file}
 use Rattle.thf_include.specs.Gathering.{file_limit}
 use Rattle.thf_include.specs.Means.Chain.{the_chain}
 use Rattle.thf_include.specs.Means.Steps.{StatementsStep}

@@ -1,7 +1,7 @@
 use Rattle.std.proofs.Common.{◌≡◌, map, get_or, Some, true, false, not, ap, sym, ◌∙◌, arith}
 use Rattle.std.specs.Option.{option_map}
 use Rattle.std.specs.Prelude.{find}
-use Rattle.thf_syntax.specs.View.{the_selected}
+use Rattle.thf_grammar.specs.View.{the_selected}
 use Rattle.thf_include.specs.View.{the_statements}
 use Rattle.thf_include.specs.Gathering.{is_missing}
 use Rattle.thf_include.proofs.Selections.{missing-is, find-more, find-here}

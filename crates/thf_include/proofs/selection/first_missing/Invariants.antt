@@ -1,6 +1,6 @@
 use Rattle.std.proofs.Common.{◌≡◌, None, map, take}
 use Rattle.std.specs.Prelude.{find}
-use Rattle.thf_syntax.specs.View.{the_selected}
+use Rattle.thf_grammar.specs.View.{the_selected}
 use Rattle.thf_include.specs.View.{the_statements}
 use Rattle.thf_include.specs.Gathering.{is_missing}
 use Rattle.thf_include.proofs.selection.first_missing.Given as goal

@@ -3,7 +3,7 @@ use Rattle.std.specs.Prelude.{filter}
 use Rattle.std.specs.Vec.Iter.{into_iter_items}
 use Rattle.std.proofs.lemmas.Fn.{filter_same}
 use Rattle.std.proofs.lemmas.List.{append-nil}
-use Rattle.thf_syntax.specs.View.{the_selected}
+use Rattle.thf_grammar.specs.View.{the_selected}
 use Rattle.thf_include.specs.declared.gathered.Placed.{Placed}
 use Rattle.thf_include.specs.View.{the_statements}
 use Rattle.thf_include.specs.Gathering.{is_selected}

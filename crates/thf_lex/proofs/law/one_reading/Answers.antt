@@ -1,4 +1,4 @@
-use Rattle.thf_lex.proofs.Readings.{reads_same}
+use Rattle.thf_grammar.proofs.Readings.{reads_same}
 use Rattle.thf_lex.proofs.law.one_reading.Goals as goal
 
 pub returns : goal.returns

@@ -1,9 +1,9 @@
 use Rattle.std.proofs.Common.{◌≡◌, ◌+◌, ◌++◌, ◌∷◌, [], subst, append_assoc, arith}
 use Rattle.std.proofs.lemmas.List.{take_rest, length-drop}
-use Rattle.thf_lex.specs.declared.token.TokenKind.TheVariants.{Bad, End}
-use Rattle.thf_lex.specs.Longest.{IsLongestToken, IsLongestGap}
-use Rattle.thf_lex.specs.Reading.{Reads, token_at}
-use Rattle.thf_lex.proofs.Readings.{reads_gap, reads_token, reads_bad, reads_end}
+use Rattle.thf_grammar.specs.declared.token.TokenKind.TheVariants.{Bad, End}
+use Rattle.thf_grammar.specs.Longest.{IsLongestToken, IsLongestGap}
+use Rattle.thf_grammar.specs.Reading.{Reads, token_at}
+use Rattle.thf_grammar.proofs.Readings.{reads_gap, reads_token, reads_bad, reads_end}
 use Rattle.thf_lex.proofs.lexer.lex.Goals as goal
 
 pub loop-len-preserved-in-Gap : goal.loop-len-preserved-in-Gap

@@ -1,6 +1,6 @@
 use Rattle.std.proofs.Common.{◌≤◌, ◌-◌, ◌++◌, List, length, drop}
-use Rattle.thf_lex.specs.declared.token.Token.{Token}
-use Rattle.thf_lex.specs.Reading.{Reads}
+use Rattle.thf_grammar.specs.declared.token.Token.{Token}
+use Rattle.thf_grammar.specs.Reading.{Reads}
 use Rattle.thf_lex.proofs.lexer.lex.Given as goal
 
 -- The tokens of what is left complete the tokens.

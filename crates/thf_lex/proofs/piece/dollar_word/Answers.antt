@@ -2,8 +2,8 @@ use Rattle.std.proofs.Common.{◌≡◌, ◌∙◌, ap, drop, get_or, arith}
 use Rattle.std.specs.List.{prefix_len}
 use Rattle.std.proofs.lemmas.Bool.Decides.{nat_tests}
 use Rattle.std.proofs.lemmas.List.{take_rest, length-drop, get_or-drop}
-use Rattle.thf_lex.specs.Bytes.{is_word_byte}
-use Rattle.thf_lex.proofs.Words.{dollar_word, lone_dollar}
+use Rattle.thf_grammar.specs.Bytes.{is_word_byte}
+use Rattle.thf_grammar.proofs.Words.{dollar_word, lone_dollar}
 use Rattle.thf_lex.proofs.piece.dollar_word.Goals as goal
 
 pub returns-in-97-to-122 : goal.returns-in-97-to-122

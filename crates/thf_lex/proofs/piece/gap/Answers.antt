@@ -1,5 +1,5 @@
 use Rattle.std.proofs.Common.{arith}
-use Rattle.thf_lex.proofs.Gaps.{white_space, line_comment, block_comment, lone_slash, odd_byte}
+use Rattle.thf_grammar.proofs.Gaps.{white_space, line_comment, block_comment, lone_slash, odd_byte}
 use Rattle.thf_lex.proofs.piece.gap.Goals as goal
 
 pub returns-in-37 : goal.returns-in-37

@@ -2,7 +2,7 @@ use Rattle.std.proofs.Common.{◌≡◌, ◌∙◌, sym, ap, drop, arith}
 use Rattle.std.specs.Char.{is_ascii_digit}
 use Rattle.std.specs.List.{prefix_len}
 use Rattle.std.proofs.lemmas.List.{take_rest}
-use Rattle.thf_lex.proofs.Words.{unsigned_integer, signed_integer, lone_sign}
+use Rattle.thf_grammar.proofs.Words.{unsigned_integer, signed_integer, lone_sign}
 use Rattle.thf_lex.proofs.piece.integer.Goals as goal
 
 pub returns-then-not-is_sign : goal.returns-then-not-is_sign

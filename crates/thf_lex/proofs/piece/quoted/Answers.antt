@@ -1,7 +1,7 @@
 use Rattle.std.proofs.Common.{◌≡◌, ◌∙◌, ap}
-use Rattle.thf_lex.specs.Means.Kind.{kind_of}
-use Rattle.thf_lex.proofs.Pieces.{longest_token, no_token, first_kind}
-use Rattle.thf_lex.proofs.Quotes.{quoted_token, quote_kind}
+use Rattle.thf_grammar.specs.Means.Kind.{kind_of}
+use Rattle.thf_grammar.proofs.Pieces.{longest_token, no_token, first_kind}
+use Rattle.thf_grammar.proofs.Quotes.{quoted_token, quote_kind}
 use Rattle.thf_lex.proofs.piece.quoted.Goals as goal
 
 pub quoted_len-requires-clause-apart : goal.quoted_len-requires-clause-apart

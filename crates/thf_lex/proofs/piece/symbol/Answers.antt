@@ -1,6 +1,6 @@
 use Rattle.std.proofs.Common.{◌<◌, arith}
-use Rattle.thf_lex.specs.declared.token.TokenKind.TheVariants.{Symbol}
-use Rattle.thf_lex.proofs.Pieces.{longest_token, no_token}
+use Rattle.thf_grammar.specs.declared.token.TokenKind.TheVariants.{Symbol}
+use Rattle.thf_grammar.proofs.Pieces.{longest_token, no_token}
 use Rattle.thf_lex.proofs.Symbols.{no_symbol}
 use Rattle.thf_lex.proofs.piece.symbol.Goals as goal
 

@@ -1,4 +1,4 @@
-use Rattle.thf_lex.proofs.Words.{letter_word}
+use Rattle.thf_grammar.proofs.Words.{letter_word}
 use Rattle.thf_lex.proofs.piece.word.Goals as goal
 
 pub returns : goal.returns

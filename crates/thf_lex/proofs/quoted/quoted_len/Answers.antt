@@ -1,6 +1,6 @@
 use Rattle.std.proofs.Common.{◌≡◌, ◌+◌, ◌<◌, false, get_or, length, arith, subst}
-use Rattle.thf_lex.specs.Bytes.{backslash, is_escaped}
-use Rattle.thf_lex.proofs.Quotes.{passed_none, passed_plain, passed_escape, stops_at, stops_at_end, quoted_by_place, quoted_here, quoted_no_later, nothing_quoted}
+use Rattle.thf_grammar.specs.Bytes.{backslash, is_escaped}
+use Rattle.thf_grammar.proofs.Quotes.{passed_none, passed_plain, passed_escape, stops_at, stops_at_end, quoted_by_place, quoted_here, quoted_no_later, nothing_quoted}
 use Rattle.thf_lex.proofs.quoted.quoted_len.Goals as goal
 use Rattle.thf_lex.proofs.quoted.quoted_len.Goals.{else-byte-eq92-via-then-byte-eq92+then-at-bytes+else-is_escaped, else-byte-eq92-via-then-byte-eq92+else-at-bytes, else-byte-eq92-via-else-byte-eq92}
 

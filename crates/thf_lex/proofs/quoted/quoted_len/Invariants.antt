@@ -1,5 +1,5 @@
 use Rattle.std.proofs.Common.{◌-◌, length}
-use Rattle.thf_lex.proofs.Quotes.{Passed}
+use Rattle.thf_grammar.proofs.Quotes.{Passed}
 use Rattle.thf_lex.proofs.quoted.quoted_len.Given as goal
 
 abbrev pub invariant-loop-at : goal.invariant-loop-at

@@ -1,7 +1,7 @@
 use Rattle.std.proofs.Common.{◌≡◌, ◌<◌, [], ◌∷◌, ◌++◌, map, length, true, false, sym, ap, ◌∙◌, arith}
 use Rattle.std.proofs.lemmas.Bool.Decides.{nat_tests}
-use Rattle.thf_syntax.specs.View.{the_selected}
-use Rattle.thf_parse.specs.declared.terminal.Mark.TheVariants.{Comma}
+use Rattle.thf_grammar.specs.View.{the_selected}
+use Rattle.thf_grammar.specs.declared.terminal.Mark.TheVariants.{Comma}
 use Rattle.thf_parse.specs.Means.Outcome.{found, first_terminal, behind, is_mark}
 use Rattle.thf_parse.specs.Means.NoteReader.{all_commas}
 use Rattle.thf_parse.specs.Means.StatementReader.{more_label}

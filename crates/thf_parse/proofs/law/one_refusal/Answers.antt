@@ -1,4 +1,4 @@
-use Rattle.thf_parse.specs.Words.{lexemes}
+use Rattle.thf_grammar.specs.Words.{lexemes}
 use Rattle.thf_parse.proofs.LexemeLaws.{tokens-ended}
 use Rattle.thf_parse.proofs.ParseLaws.{answered}
 use Rattle.thf_parse.proofs.RefusalLaws.{not-wrong, not-deep, wrong-or-deep, one-wrong, one-deep}

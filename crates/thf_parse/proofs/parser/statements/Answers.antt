@@ -1,6 +1,6 @@
 use Rattle.std.proofs.Common.{◌≡◌, [], ◌∷◌, ◌++◌, map, true, false, ap, ◌∙◌, arith}
 use Rattle.std.proofs.lemmas.Bool.Decides.{nat_tests}
-use Rattle.thf_syntax.specs.View.{the_statement}
+use Rattle.thf_grammar.specs.View.{the_statement}
 use Rattle.thf_parse.specs.Means.Outcome.{first_terminal}
 use Rattle.thf_parse.specs.Means.StatementReader.{is_end, file}
 use Rattle.thf_parse.proofs.StatementLocals.{statement-shorter}

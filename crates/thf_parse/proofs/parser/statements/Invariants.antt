@@ -1,5 +1,5 @@
 use Rattle.std.proofs.Common.{◌≡◌, [], map, length}
-use Rattle.thf_syntax.specs.View.{the_statement}
+use Rattle.thf_grammar.specs.View.{the_statement}
 use Rattle.thf_parse.specs.Means.StatementReader.{file}
 use Rattle.thf_parse.proofs.parser.statements.Given as goal
 

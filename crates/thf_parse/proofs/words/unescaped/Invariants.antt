@@ -1,5 +1,5 @@
 use Rattle.std.proofs.Common.{◌≡◌, ◌++◌, length}
-use Rattle.thf_parse.specs.Words.{unescaped}
+use Rattle.thf_grammar.specs.Words.{unescaped}
 use Rattle.thf_parse.proofs.words.unescaped.Given as goal
 
 -- what is left gives the rest of the name

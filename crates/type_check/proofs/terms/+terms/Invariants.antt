@@ -1,5 +1,5 @@
 use Rattle.std.proofs.Common.{◌+◌, length}
-use Rattle.thf_syntax.specs.View.{the_formula}
+use Rattle.thf_grammar.specs.View.{the_formula}
 use Rattle.type_check.proofs.TreeSizes.{tree_size}
 use Rattle.type_check.proofs.terms.+terms.Given as goal
 

@@ -1,0 +1,14 @@
+pub mod Bytes
+pub mod Texts
+pub mod Longest
+pub mod Reading
+pub mod Trees
+pub mod View
+pub mod Terminals
+pub mod Words
+pub mod Types
+pub mod Formulas
+pub mod Notes
+pub mod Statements
+pub mod Printable
+pub mod Means

@@ -1,0 +1,25 @@
+//! Connectives and binders.
+
+/// A connective: `~`, `&`, `|`, `=>`, `<=`, `<=>`, `<~>`, `~|` and `~&`, in this order.
+#[derive(Clone, Copy, Debug, PartialEq, Eq)]
+pub enum Conn {
+    Not,
+    And,
+    Or,
+    Imp,
+    If,
+    Iff,
+    Xor,
+    Nor,
+    Nand,
+}
+
+/// A binder: `!`, `?`, `^`, `@+` and `@-`, in this order.
+#[derive(Clone, Copy, Debug, PartialEq, Eq)]
+pub enum Binder {
+    All,
+    Exists,
+    Lam,
+    Choice,
+    Desc,
+}

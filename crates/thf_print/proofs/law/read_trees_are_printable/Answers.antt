@@ -1,5 +1,0 @@
-use Rattle.thf_print.proofs.Spelled.{is_text-printable}
-use Rattle.thf_print.proofs.law.read_trees_are_printable.Goals as goal
-
-pub returns : goal.returns
-returns c = is_text-printable

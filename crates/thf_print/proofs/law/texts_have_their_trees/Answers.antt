@@ -1,5 +1,0 @@
-use Rattle.thf_print.proofs.LawProofs.{printable-is_text}
-use Rattle.thf_print.proofs.law.texts_have_their_trees.Goals as goal
-
-pub returns : goal.returns
-returns c = printable-is_text

@@ -1,5 +1,0 @@
-pub mod Names
-pub mod Slots
-pub mod Texts
-pub mod Places
-pub mod Law
