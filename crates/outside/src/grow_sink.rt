@@ -53,7 +53,7 @@ impl Sink for GrowSink {
         ensures taken { OnOk result (self.new
             ≡ record self.old { bytes = self.old.bytes ++ bytes.now }) }
         ensures kept { OnErr result (self.new
-            ≡ record self.old { faults = raised self.old.faults }) }
+            ≡ record self.old { faults = next_count self.old.faults }) }
         ensures later { self.old.faults ≤ self.new.faults }
     {
         if self.bytes.extend_from_slice(bytes).is_err() {

@@ -75,11 +75,11 @@ impl Sink for MemSink {
             n ≡ min (length bytes.now) (self.old.room - length self.old.bytes)) }
         ensures taken { IfOk result (λ n. self.new ≡ record self.old {
           bytes = self.old.bytes ++ take n bytes.now;
-          calls = raised self.old.calls;
+          calls = next_count self.old.calls;
         }) }
         ensures kept { OnErr result (self.new ≡ record self.old {
-          calls = raised self.old.calls;
-          faults = raised self.old.faults;
+          calls = next_count self.old.calls;
+          faults = next_count self.old.faults;
         }) }
         ensures later { self.old.faults ≤ self.new.faults }
     {

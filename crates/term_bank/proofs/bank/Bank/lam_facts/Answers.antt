@@ -1,4 +1,5 @@
 use Rattle.std.proofs.Common.{◌∙◌, ap, arith, Some}
+use Rattle.stt_core.specs.SimpleType.{arrow}
 use Rattle.stt_core.specs.View.{the_type}
 use Rattle.term_bank.specs.Content.{content_scope}
 use Rattle.term_bank.specs.Terms.{term_at}
@@ -21,7 +22,7 @@ returns-then-marks-eq0 c =
       marks = m;
       shallow = omega (arith, c.lam_marks-marks.ensures.shallow, m.depth_is);
       typed = c.requires.typed;
-      closed = λ e. function_closed (content_scope c.args.self.now) a (the_type c.in_ok-outcome.outcome) t (Some (the_type c.in_ok-ty.ty)) c.requires.typed c.in_ok-outcome.ensures (ap Some c.in_ok-ty.ensures);
+      closed = λ e. function_closed (content_scope c.args.self.now) a (the_type c.in_ok-outcome.outcome) t (Some (the_type c.in_ok-ty.ty)) c.requires.typed c.in_ok-outcome.ensures (ap Some (c.in_ok-ty.ensures ∙ ap (λ b. arrow b (the_type c.in_ok-outcome.outcome)) c.in_ok-try_clone.ensures));
     }
 
 pub returns : goal.returns
