@@ -2,5 +2,5 @@ pub mod Keys
 pub mod Given
 pub mod Lines
 pub mod Grammar
-pub mod Reader
 pub mod Refusals
+pub mod Means

@@ -8,9 +8,6 @@ use Rattle.mode_file.specs.declared.bytes.ByteClass.TheVariants.{InLine, InWord,
 abbrev pub is_blank : ℕ → Bool
 is_blank c = (c == 32) || (c == 9) || (c == 13)
 
-abbrev pub is_space : ℕ → Bool
-is_space c = c == 32
-
 abbrev pub is_digit : ℕ → Bool
 is_digit c = nat_le 48 c && nat_le c 57
 
@@ -18,14 +15,3 @@ is_digit c = nat_le 48 c && nat_le c 57
 abbrev pub front : (ℕ → Bool) → List ℕ → List ℕ
 front p [] = []
 front p (c ∷ cs) = if p c then c ∷ front p cs else []
-
-abbrev pub after : (ℕ → Bool) → List ℕ → List ℕ
-after p [] = []
-after p (c ∷ cs) = if p c then after p cs else c ∷ cs
-
--- what stands in a line; in a word, which a blank byte ends; a space; a digit
-abbrev pub is_in : ByteClass → ℕ → Bool
-is_in InLine c = not (c == 10)
-is_in InWord c = not (is_blank c)
-is_in Space c = is_space c
-is_in Digit c = is_digit c

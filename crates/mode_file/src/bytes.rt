@@ -1,7 +1,8 @@
 //! Bytes by lines and by fronts.
 ghost use Rattle.std.specs.Prelude.{◌≡◌, ◌<◌, ◌≤◌, [], ◌∷◌, length, IfSome, IfNone};
 ghost use Rattle.outside.specs.Lines.{lines_of};
-ghost use Rattle.mode_file.specs.Lines.{is_in, front, after};
+ghost use Rattle.mode_file.specs.Lines.{front};
+ghost use Rattle.mode_file.specs.Means.Fronts.{is_in, after};
 
 /// A kind of bytes.
 #[derive(Clone, Copy, Debug)]

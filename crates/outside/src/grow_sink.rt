@@ -39,6 +39,13 @@ impl GrowSink {
     {
         self.bytes.as_slice()
     }
+
+    /// The bytes written, as one's own.
+    pub fn into_bytes(self) -> Bytes
+        ensures { result ≡ ⟦<GrowSink as Sink>⟧.written self }
+    {
+        self.bytes
+    }
 }
 
 impl Sink for GrowSink {

@@ -10,7 +10,8 @@ use Rattle.type_check.specs.Statements.{IllInFile, problem_of}
 use Rattle.szs_report.specs.declared.answer.Answer.{Answer}
 use Rattle.szs_report.specs.declared.answer.Answer.TheVariants as answer
 use Rattle.request_answers.specs.Files.{OfFiles, Statements}
-use Rattle.request_answers.specs.Answers.{stop_answer, refused_answer, AnswersStated, AnswersEnding}
+use Rattle.request_answers.specs.Answers.{stop_answer, AnswersStated, AnswersEnding}
+use Rattle.request_answers.specs.Means.RefusedFiles.{refused_answer}
 use Rattle.request_answers.specs.Means.Unread.{IsIllAt, IsIll, IsUnstated, IsUnread, IsFilesAnswer}
 
 -- what is answered where the files aren't gathered

@@ -19,7 +19,8 @@ use Rattle.refute_check.specs.declared.refusal.CheckRefused.TheVariants.{Line}
 use Rattle.szs_report.specs.declared.answer.Answer.{Answer}
 use Rattle.szs_report.specs.declared.answer.Answer.TheVariants.{Accepted, Refused, Memory}
 use Rattle.request_answers.specs.Means.Unread.{verdict_of}
-use Rattle.request_answers.specs.Checked.{IsAcceptedText, FailsFirst, IsRefusedText, unread_answer, failed_answer, AnswersBytes}
+use Rattle.request_answers.specs.Checked.{IsAcceptedText, FailsFirst, IsRefusedText, AnswersBytes}
+use Rattle.request_answers.specs.Means.RefusedTexts.{unread_answer, failed_answer}
 
 -- the answer where a text isn't read
 pub unread_answers : (p : PlainProblem) (bytes : List ℕ) (refused : TextRefused) → IfSome (reading_of (Err refused)) (ReadsText (lines_of bytes)) → AnswersBytes p bytes (unread_answer refused)

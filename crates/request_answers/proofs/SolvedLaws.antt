@@ -15,7 +15,8 @@ use Rattle.delta_defs.specs.Laws.{AreDeclared}
 use Rattle.refute_check.specs.Acceptance.{IsAcceptedFor}
 use Rattle.refute_check.proofs.AcceptanceLaws.{named_accepted, places_named}
 use Rattle.tableau_run.specs.Ended.{IsRefuted}
-use Rattle.request_answers.specs.Names.{ArePrintable, names_in, HasTexts}
+use Rattle.request_answers.specs.Names.{ArePrintable, names_in}
+use Rattle.request_answers.specs.Means.Texts.{HasTexts}
 use Rattle.request_answers.specs.Solved.{IsProofOf}
 use Rattle.thf_grammar.specs.Printable.{IsPrintable}
 use Rattle.written_refutation.specs.Letters.{is_printable, is_name}

@@ -31,16 +31,6 @@ stop_answer names (cycle file at) = IncludeAt (Part file names) at Cycle
 stop_answer names (too_many file at) = IncludeAt (Part file names) at TooMany
 stop_answer names (no_name file at) = IncludeAt (Part file names) at NoSuchName
 
--- what a refusal to gather is answered with
-abbrev pub refused_answer : List (List ℕ) → GatherRefused → Answer
-refused_answer names (Fault file) = ReadFault (Part file names)
-refused_answer names (refusal.TooLong file) = TooLong (Part file names)
-refused_answer names (Syntax file at) = SyntaxAt (Part file names) at
-refused_answer names (refusal.Cycle file at) = IncludeAt (Part file names) at Cycle
-refused_answer names (refusal.NoSuchName file at) = IncludeAt (Part file names) at NoSuchName
-refused_answer names (refusal.TooMany file at) = IncludeAt (Part file names) at TooMany
-refused_answer names refusal.Memory = Memory
-
 -- what the problem that is asked for is answered with, once it is read and where this is the mode
 abbrev pub AnswersProblem : Bool → (List ℕ → Option (List ℕ)) → Request → Mode → PlainProblem → Answer → Type 0
 AnswersProblem told contents (prove p mode) m = IsSolved m

@@ -41,11 +41,6 @@ pub record IsTextFault (r : Request) (told : Bool) (contents : List ℕ → Opti
   pub asked : r ≡ refutation file name
   pub rose : Rose (before file) (now file)
 
--- it isn't answered that a file can't be read
-abbrev pub IsNoReadFault : Answer → Type 0
-IsNoReadFault (ReadFault file) = ⊥
-IsNoReadFault answer = Unit {0}
-
 abbrev pub IsNoWriteFault : Outcome → Type 0
 IsNoWriteFault ended.WriteFault = ⊥
 IsNoWriteFault outcome = Unit {0}

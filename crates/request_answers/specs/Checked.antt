@@ -50,18 +50,6 @@ AnswersBytes p bytes Accepted = IsAcceptedText p bytes
 AnswersBytes p bytes (Refused line why) = IsRefusedText p bytes line why
 AnswersBytes p bytes answer = ⊥
 
--- what a text that isn't read is answered with
-abbrev pub unread_answer : TextRefused → Answer
-unread_answer (BadLine line) = Refused line Form
-unread_answer (NoStart line) = Refused line Start
-unread_answer (NoEnd line) = Refused line End
-unread_answer unread.Memory = Memory
-
--- what a refutation that isn't accepted is answered with
-abbrev pub failed_answer : CheckRefused → Answer
-failed_answer (Line line why) = Refused line why
-failed_answer failed.Memory = Memory
-
 -- what the text in a file is answered with, where it is checked against this problem; it is a fault's, where the file can't be read
 abbrev pub AnswersText : Bool → (List ℕ → Option (List ℕ)) → List ℕ → PlainProblem → Answer → Type 0
 AnswersText told contents file p Memory = Unit {0}

@@ -1,2 +1,7 @@
 -- Means of proof: what private contracts and proofs speak of.
 pub mod Unread
+pub mod RefusedFiles
+pub mod RefusedTexts
+pub mod RefusedModes
+pub mod ReadFaults
+pub mod Texts

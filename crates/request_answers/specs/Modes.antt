@@ -43,10 +43,3 @@ refused_at OutOfRange line = refusal.OutOfRange line
 abbrev pub IsBadMode : Bool → (List ℕ → Option (List ℕ)) → Option (List ℕ) → ℕ → ModeWhy → Type 0
 IsBadMode told contents None line why = ⊥
 IsBadMode told contents (Some file) line why = OfFile told contents file (λ bytes. Refuses (lines_of bytes) (refused_at why line))
-
--- what the refusal of a mode's file is answered with
-abbrev pub mode_answer : ModeRefused → Answer
-mode_answer (refusal.UnknownKey line) = ModeAt line UnknownKey
-mode_answer (refusal.Twice line) = ModeAt line Twice
-mode_answer (refusal.BadNumber line) = ModeAt line BadNumber
-mode_answer (refusal.OutOfRange line) = ModeAt line OutOfRange

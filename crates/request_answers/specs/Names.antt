@@ -12,9 +12,3 @@ names_in p = names_of p.declared.bases p.declared.consts
 pub record ArePrintable (names : Names) : Type 0 where
   pub bases : AllByRecursion IsPrintable names.bases
   pub constants : AllByRecursion IsPrintable names.constants
-
--- The problem is typed, and its names are printable and differ from one another: so its refutations have texts.
-pub record HasTexts (p : PlainProblem) : Type 0 where
-  pub typed : IsTyped p
-  pub printable : ArePrintable (names_in p)
-  pub apart : NamesDiffer p.declared

@@ -3,10 +3,12 @@
 ghost use Rattle.std.specs.Prelude.{◌≡◌, ◌≤◌, List, ℕ};
 ghost use Rattle.stt_core.specs.TypedProblem.{IsTyped};
 ghost use Rattle.outside.specs.Causes.{Rose};
-ghost use Rattle.request_answers.specs.Checked.{unread_answer, failed_answer, AnswersBytes, AnswersText};
-ghost use Rattle.request_answers.specs.Causes.{IsNoReadFault};
+ghost use Rattle.request_answers.specs.Checked.{AnswersBytes, AnswersText};
+ghost use Rattle.request_answers.specs.Means.RefusedTexts.{unread_answer, failed_answer};
+ghost use Rattle.request_answers.specs.Means.ReadFaults.{IsNoReadFault};
 ghost use Rattle.szs_report.specs.declared.answer.NamedFile.TheVariants.{Check};
 
+use crate::limits::MAX_BYTES;
 use outside::{Bytes, Files, ReadRefused, read_whole};
 use refute_check::{CheckRefused, check_refutation};
 use refute_text::{TextRefused, read_text};
@@ -14,9 +16,6 @@ use std::alloc::Global;
 use stt_core::Problem;
 use stt_tableau::Why;
 use szs_report::{Answer, NamedFile};
-
-/// How many bytes the text of a refutation, and the file of a mode, have at most.
-pub(crate) const MAX_BYTES: usize = 16_777_216;
 
 /// The answer where a text isn't read.
 fn unread_answer(refused: TextRefused) -> Answer

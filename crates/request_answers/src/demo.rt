@@ -5,12 +5,12 @@ ghost use Rattle.refute_text.specs.Reading.{is_one_line};
 ghost use Rattle.problem_gen.specs.Chain.{text};
 ghost use Rattle.cli_words.specs.Requests.{generated};
 ghost use Rattle.mode_file.specs.Given.{nothing, mode_of};
-ghost use Rattle.request_answers.specs.Names.{HasTexts};
+ghost use Rattle.request_answers.specs.Means.Texts.{HasTexts};
 ghost use Rattle.request_answers.specs.Checked.{IsAcceptedText};
 ghost use Rattle.request_answers.specs.Means.Unread.{verdict_of};
 ghost use Rattle.request_answers.specs.Solved.{IsSolved, IsDemoed};
 ghost use Rattle.request_answers.specs.Answers.{AnswersRequest};
-ghost use Rattle.request_answers.specs.Causes.{IsNoReadFault};
+ghost use Rattle.request_answers.specs.Means.ReadFaults.{IsNoReadFault};
 ghost use Rattle.szs_report.specs.Report.{report_of};
 
 use crate::check::check_bytes;
@@ -42,7 +42,7 @@ fn demo_text(alloc: Global, n: u32) -> Result<Bytes, AllocError>
 {
     let mut sink = GrowSink::new(alloc);
     match make(n, &mut sink) {
-        Ok(()) => Ok(Bytes::from_slice(alloc, sink.bytes())?),
+        Ok(()) => Ok(sink.into_bytes()),
         Err(Failed) => Err(AllocError),
     }
 }
@@ -53,7 +53,7 @@ fn report(alloc: Global, name: &str, answer: &Answer) -> Result<Bytes, AllocErro
 {
     let mut sink = GrowSink::new(alloc);
     match write_report(&mut sink, name.as_bytes(), answer) {
-        Ok(()) => Ok(Bytes::from_slice(alloc, sink.bytes())?),
+        Ok(()) => Ok(sink.into_bytes()),
         Err(Failed) => Err(AllocError),
     }
 }

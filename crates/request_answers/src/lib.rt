@@ -4,6 +4,7 @@
 mod check;
 mod demo;
 mod law;
+mod limits;
 mod mode;
 mod request;
 mod solve;

@@ -1,16 +1,15 @@
 //! The mode that a problem is proved by.
 
-ghost use Rattle.std.specs.Prelude.{◌≡◌, ◌≤◌, ℕ, List, option_map, IfOk, IfErr, IsErrOf, OnOk};
+ghost use Rattle.std.specs.Prelude.{◌≡◌, ◌≤◌, ℕ, List, Some, option_map, IfOk, IfErr, IsErrOf, OnOk};
 ghost use Rattle.outside.specs.Causes.{Rose};
-ghost use Rattle.mode_file.specs.Given.{IsInRange};
-ghost use Rattle.request_answers.specs.Modes.{IsModeBy, mode_answer};
-ghost use Rattle.request_answers.specs.Causes.{IsNoReadFault};
+ghost use Rattle.request_answers.specs.Modes.{IsModeBy};
+ghost use Rattle.request_answers.specs.Means.RefusedModes.{mode_answer};
+ghost use Rattle.request_answers.specs.Means.ReadFaults.{IsNoReadFault};
 ghost use Rattle.request_answers.specs.Means.Unread.{IsUnreadMode, IsUnaskedMode};
-ghost use Rattle.std.specs.Prelude.{Some};
 ghost use Rattle.szs_report.specs.declared.answer.Answer.TheVariants as answer;
 ghost use Rattle.szs_report.specs.declared.answer.NamedFile.TheVariants as named;
 
-use crate::check::MAX_BYTES;
+use crate::limits::MAX_BYTES;
 use mode_file::{Mode, ModeRefused, read_mode};
 use outside::{Bytes, Files, ReadRefused, read_whole};
 use std::alloc::Global;

@@ -3,7 +3,7 @@
 ghost use Rattle.std.specs.Prelude.{◌≡◌, IfOk};
 ghost use Rattle.delta_defs.specs.Unfolding.{unfolded_problem};
 ghost use Rattle.tableau_run.specs.Ended.{EndsAs};
-ghost use Rattle.request_answers.specs.Names.{HasTexts};
+ghost use Rattle.request_answers.specs.Means.Texts.{HasTexts};
 ghost use Rattle.request_answers.specs.Solved.{claim_of, IsSolved};
 
 use crate::text::refutation_text;

@@ -5,10 +5,10 @@ ghost use Rattle.written_refutation.specs.Text.{text_lines, as_bytes};
 ghost use Rattle.written_refutation.specs.Named.{names_of, named_refutation, IsNamed, ArePlaces};
 
 use outside::{Bytes, Failed, GrowSink};
-use written_refutation::write_text;
 use std::alloc::{AllocError, Global};
 use stt_core::Signature;
 use stt_tableau::Refutation;
+use written_refutation::write_text;
 
 /// The lines between the marks of the refutation, with the names of the definitions that are taken.
 pub(crate) fn refutation_text(
@@ -23,11 +23,7 @@ pub(crate) fn refutation_text(
 {
     let mut sink = GrowSink::new(alloc);
     match write_text(sig, taken, refutation, &mut sink) {
-        Ok(()) => {
-            let mut text = Bytes::new(alloc);
-            text.extend_from_slice(sink.bytes())?;
-            Ok(text)
-        }
+        Ok(()) => Ok(sink.into_bytes()),
         Err(Failed) => Err(AllocError),
     }
 }

@@ -19,7 +19,8 @@ use Rattle.szs_report.specs.declared.outcome.ModeWhy.{ModeWhy}
 use Rattle.szs_report.specs.declared.outcome.ModeWhy.TheVariants.{UnknownKey, Twice, BadNumber, OutOfRange}
 use Rattle.request_answers.specs.Requested.{problem_name, mode_file, told_of, contents_of}
 use Rattle.request_answers.specs.Files.{OfFiles}
-use Rattle.request_answers.specs.Modes.{byte_limit, OfFile, IsLong, IsModeBy, refused_at, IsBadMode, mode_answer}
+use Rattle.request_answers.specs.Modes.{byte_limit, OfFile, IsLong, IsModeBy, refused_at, IsBadMode}
+use Rattle.request_answers.specs.Means.RefusedModes.{mode_answer}
 use Rattle.request_answers.specs.Checked.{IsAcceptedText, IsRefusedText, AnswersBytes, AnswersText}
 use Rattle.request_answers.specs.Answers.{AnswersProblem, AnswersStated, AnswersEnding, AnswersFiles, AnswersAsked, IsSettled, Defined}
 use Rattle.request_answers.proofs.CheckedLaws.{accepted_not_refused, one_refusal}

@@ -1,5 +1,4 @@
 pub mod View
 pub mod Gathering
 pub mod Answer
-pub mod Selection
 pub mod Means

@@ -3,3 +3,4 @@ pub mod Chain
 pub mod Names
 pub mod Opening
 pub mod Steps
+pub mod Selection

@@ -6,7 +6,7 @@ ghost use Rattle.std.specs.List.{list_any};
 ghost use Rattle.thf_grammar.specs.View.{the_selection, the_selected};
 ghost use Rattle.thf_include.specs.View.{the_statements};
 ghost use Rattle.thf_include.specs.Gathering.{select, is_selected, is_missing};
-ghost use Rattle.thf_include.specs.Selection.{has_name};
+ghost use Rattle.thf_include.specs.Means.Selection.{has_name};
 ghost use Rattle.thf_include.specs.Means.Steps.{SelectsAs};
 
 use crate::{GatherRefused, Gathered};

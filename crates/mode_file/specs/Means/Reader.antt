@@ -1,6 +1,7 @@
 -- How a line is read. Contracts of public calls speak of the grammar alone.
 use Rattle.std.specs.Prelude.{ℕ, ◌==◌, ◌&&◌, not, Bool, true, false, List, [], ◌∷◌, Option, Some, None, if◌then◌else◌}
-use Rattle.mode_file.specs.Lines.{is_space, is_digit, front, after}
+use Rattle.mode_file.specs.Lines.{is_digit, front}
+use Rattle.mode_file.specs.Means.Fronts.{is_space, after}
 use Rattle.mode_file.specs.Grammar.{is_decimal}
 
 abbrev pub is_nil : List ℕ → Bool

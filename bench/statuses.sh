@@ -1,0 +1,21 @@
+#!/usr/bin/env bash
+# Runs the built program to the exit statuses to which no call over files in memory can be brought, so that no case has them: words that
+# aren't text (18), and want of memory (30), by a limit that is set from outside. Ends with 1 where another status comes.
+set -eu
+here=$(dirname -- "$(readlink -f -- "$0")")
+program=$here/../crates/satallax_cli/out/satallax_cli
+problem=$here/../examples/true.p
+wrong=0
+expect() { # the status, and what was done
+  if [ "$status" = "$1" ]; then echo "$1: $2"; else echo "$1 wanted, $status came: $2"; wrong=1; fi
+}
+status=0
+"$program" $'\xff' >/dev/null 2>&1 || status=$?
+expect 18 'a word that is no text'
+for space in $(seq 2000 100 20000); do
+  status=0
+  (ulimit -v "$space"; "$program" "$problem") >/dev/null 2>&1 || status=$?
+  if [ "$status" = 30 ]; then break; fi
+done
+expect 30 "an address space of $space KB"
+exit "$wrong"
