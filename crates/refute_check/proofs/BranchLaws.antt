@@ -36,9 +36,6 @@ pub grow-more : (a b c : List Lambda) → Grow a b → Grow b c → Grow a c
 grow-more a b c h g = (h.0 ++ g.0, g.1 ∙ ap (λ l. l ++ g.0) h.1 ∙ append_assoc a h.0 g.0)
 
 module _ (terms : List Lambda) where
-  pub numbered-more : (ls : List Literal) (l : Literal) (k : ℕ) → AreNumbered terms ls → number_in terms l.atom ≡ Some k → AreNumbered terms (ls ++ l ∷ [])
-  numbered-more ls l k h g m c = ⊎_elim (h m) (λ same. (k, ap (λ x. number_in terms x.atom) (sym same) ∙ g)) (Contains-push_cases ls l m c)
-
   pub represents-none : (b : Branch) → ((sign : Bool) (k : ℕ) → has b sign k ≡ false) → Represents terms [] b
   represents-none b h = record {
     sound = λ sign k e. absurd (untrue e (h sign k));

@@ -1,10 +1,7 @@
 -- The check of a whole text.
 use Rattle.std.proofs.Common.{◌≡◌, ◌≤◌, ◌+◌, ℕ, List, [], ◌∷◌, Option, map, length, Some, None, ap, subst, length-append, arith}
 use Rattle.std.specs.Option.{IfNone}
-use Rattle.stt_core.specs.SimpleType.{SimpleType}
 use Rattle.stt_core.specs.Typing.{Scope}
-use Rattle.stt_core.specs.ScopeView.{the_scope}
-use Rattle.stt_core.specs.declared.signature.Signature.{Signature}
 use Rattle.stt_tableau.specs.Literals.{Literal}
 use Rattle.stt_tableau.specs.Witnesses.{Row, with_rows}
 use Rattle.stt_tableau.specs.Means.Answers.{LineAnswer}
@@ -12,13 +9,16 @@ use Rattle.stt_tableau.specs.Accepted.{FirstFailure, at_row, at_line, at_last, n
 use Rattle.stt_tableau.specs.declared.refutation.Line.{Line}
 use Rattle.stt_tableau.specs.declared.refutation.Refutation.{Refutation}
 use Rattle.stt_tableau.specs.declared.refutation.Why.{Why}
-use Rattle.stt_tableau.proofs.FailureLaws.{over_rows}
+use Rattle.refute_check.specs.declared.shared.Shared.{Shared}
+use Rattle.refute_check.specs.Means.Shared.{scope_in, declared_in, the_rows, IsGood}
+use Rattle.refute_check.proofs.SharedLaws.{scope_rows}
 
 -- a line's answer over the witnesses of the table
-pub answer_over : (sig : Signature) (types : List SimpleType) (rows whole : List Row) → types ≡ map (λ r. r.type) rows → rows ≡ whole → (earlier : List Line) (line : Line) (why : Option Why) → LineAnswer (the_scope sig types) rows earlier line why → LineAnswer (with_rows (the_scope sig []) whole) whole earlier line why
-answer_over sig types rows whole types_are rows_are earlier line why h =
-    subst (λ rs. LineAnswer (with_rows (the_scope sig []) rs) rs earlier line why) rows_are
-    (over_rows (λ s. LineAnswer s rows earlier line why) sig types rows types_are h)
+pub answer_over : (s : Shared) → IsGood s → (scope : Scope) → declared_in s ≡ scope → (rows : List Row) → the_rows s ≡ rows → (earlier : List Line) (line : Line) (why : Option Why) → LineAnswer (scope_in s) (the_rows s) earlier line why → LineAnswer (with_rows scope rows) rows earlier line why
+answer_over s good scope declared rows are earlier line why h =
+    subst (λ x. LineAnswer (with_rows x rows) rows earlier line why) declared
+    (subst (λ rs. LineAnswer (with_rows (declared_in s) rs) rs earlier line why) are
+    (subst (λ x. LineAnswer x (the_rows s) earlier line why) (scope_rows s good) h))
 
 -- the place of a failure is none behind the last line
 pub failure_below : (scope : Scope) (start : List Literal) (r : Refutation) (place : ℕ) (why : Why) → FirstFailure scope start r place why → place ≤ length r.witnesses + length r.lines

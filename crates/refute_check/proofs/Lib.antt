@@ -1,9 +1,11 @@
-mod Keys
 mod NumberLaws
 mod SetLaws
 mod BranchLaws
 mod ChildLaws
-mod WitnessNumbers
+mod SharedLaws
+mod RowLaws
+mod TakingLaws
+mod InstanceLaws
 pub mod StartLaws
 mod CheckLaws
 pub mod LineLaws

@@ -3,5 +3,5 @@ pub mod Places
 pub mod Shared
 pub mod Numbers
 pub mod Branches
-pub mod Taking
 pub mod Lines
+pub mod Taking

@@ -29,17 +29,23 @@ impl Shared {
         if count == u32::MAX {
             return Err(AllocError);
         }
-        equal_ids_for_equal_terms(&self.bank);
-        match make(
+        let made = make(
             alloc,
             &mut self.bank,
             &mut self.normal,
             &mut self.lits,
             &mut self.witnesses,
             by,
-        ) {
-            Ok(instance) if self.witnesses.len() == count => Ok(Some(instance)),
-            Ok(_) => Ok(None),
+        );
+        equal_ids_for_equal_terms(&self.bank);
+        match made {
+            Ok(instance) => {
+                if self.witnesses.len() == count {
+                    Ok(Some(instance))
+                } else {
+                    Ok(None)
+                }
+            }
             Err(RuleRefused::NotThisRule) => Ok(None),
             Err(RuleRefused::Memory) => Err(AllocError),
         }

@@ -50,7 +50,7 @@ impl Shared {
         requires good { IsGood self.now }
         requires numbers { Each (IsNumber self.now) list.now }
         ensures set { IfOk result (Represents (the_atoms self.now) (map (literal_in self.now) list.now)) }
-        ensures numbered { AreNumbered (the_atoms self.now) (map (literal_in self.now) list.now) }
+        ensures numbered { OnOk result (AreNumbered (the_atoms self.now) (map (literal_in self.now) list.now)) }
     {
         equal_ids_for_equal_terms(&self.bank);
         self.lits.atoms_differ();

@@ -1,9 +1,11 @@
 //! The rows of a witness table.
 
-ghost use Rattle.std.specs.Prelude.{◌≡◌, ◌↔◌, ◌++◌, [], ◌∷◌, None, IsTrue, OnOk, IfOk};
-ghost use Rattle.stt_tableau.specs.Witnesses.{IsTypedRow, IsTwice};
-ghost use Rattle.term_bank.specs.Content.{HasTerm};
-ghost use Rattle.witness_names.specs.Rows.{row_of};
+ghost use Rattle.std.specs.Prelude.{◌≡◌, ◌↔◌, ◌<◌, ◌++◌, [], ◌∷◌, length, nat_eq, false, None, IsTrue, OnOk, IfOk};
+ghost use Rattle.std.specs.List.{list_any};
+ghost use Rattle.stt_core.specs.View.{the_type};
+ghost use Rattle.stt_tableau.specs.Witnesses.{IsTypedRow};
+ghost use Rattle.term_bank.specs.Terms.{term_at};
+ghost use Rattle.witness_names.specs.Rows.{binder_of, row_of};
 ghost use Rattle.stt_tableau.specs.Means.Answers.{RowAnswer};
 ghost use Rattle.refute_check.specs.Numbered.{numbered_row};
 ghost use Rattle.refute_check.specs.Means.Branches.{Grow};
@@ -14,6 +16,7 @@ use crate::numbering::Numbering;
 use crate::shared::Shared;
 use written_refutation::TextTerm;
 use std::alloc::{AllocError, Global};
+use stt_core::Ty;
 use stt_tableau::{Why, WitnessRow, is_typed_row};
 use term_bank::{Id, equal_ids_for_equal_terms};
 
@@ -25,14 +28,14 @@ impl Shared {
         Ok(is_typed_row(alloc, self.bank.sig(), &self.types, row)?)
     }
 
-    /// Adds a witness for a predicate that has none, by its row.
-    fn push_row(&mut self, id: Id, row: WitnessRow) -> Result<(), AllocError>
+    /// Adds a witness for a predicate that has none. The witness has the type that the predicate takes.
+    fn push_row(&mut self, id: Id, ty: Ty) -> Result<(), AllocError>
         requires good { IsGood self.old }
-        requires typed { IsTypedRow (declared_in self.old) (the_rows self.old) row }
-        requires once { IsTwice (the_rows self.old) row → ⊥ }
-        requires place { HasTerm self.old.bank id row.predicate }
-        requires first { row_of row.predicate ≡ row }
-        ensures rows { OnOk result (the_rows self.new ≡ the_rows self.old ++ row ∷ []) }
+        requires within { id < length self.old.bank.terms }
+        requires typed { IsTypedRow (declared_in self.old) (the_rows self.old) (row_of (term_at self.old.bank.terms id)) }
+        requires taken { the_type ty ≡ binder_of (term_at self.old.bank.terms id) }
+        requires none { list_any (nat_eq id) self.old.witnesses ≡ false }
+        ensures rows { OnOk result (the_rows self.new ≡ the_rows self.old ++ row_of (term_at self.old.bank.terms id) ∷ []) }
         ensures atoms { OnOk result (the_atoms self.new ≡ the_atoms self.old) }
         ensures declared { OnOk result (declared_in self.new ≡ declared_in self.old) }
         ensures good { OnOk result (IsGood self.new) }
@@ -41,8 +44,8 @@ impl Shared {
             return Err(AllocError);
         }
         self.witnesses.fresh(&self.bank, id)?;
-        self.bank.add_witness(&row.ty)?;
-        self.types.push(row.ty)?;
+        self.bank.add_witness(&ty)?;
+        self.types.push(ty)?;
         Ok(())
     }
 
@@ -69,7 +72,7 @@ impl Shared {
         if self.witnesses.find(id).is_some() {
             return Ok(Some(Why::Twice));
         }
-        self.push_row(id, row)?;
+        self.push_row(id, row.ty)?;
         Ok(None)
     }
 }

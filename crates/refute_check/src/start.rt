@@ -59,10 +59,13 @@ impl Shared {
         ensures good { OnOk result (IsGood self.new) }
     {
         let mut list = self.formulas(alloc, &problem.assumed)?;
-        if let Some(conjecture) = &problem.conjecture {
-            let denied = self.formula(conjecture)?.negated();
-            list.push(denied)?;
+        match &problem.conjecture {
+            None => Ok(self.set_of(alloc, &list)?),
+            Some(conjecture) => {
+                let denied = self.formula(conjecture)?.negated();
+                list.push(denied)?;
+                Ok(self.set_of(alloc, &list)?)
+            }
         }
-        self.set_of(alloc, &list)
     }
 }
