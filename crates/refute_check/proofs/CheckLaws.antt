@@ -1,6 +1,5 @@
 -- The check of a whole text.
-use Rattle.std.proofs.Common.{◌≡◌, ◌≤◌, ◌+◌, ℕ, List, [], ◌∷◌, Option, map, length, Some, None, ap, subst, length-append, arith}
-use Rattle.std.specs.Option.{IfNone}
+use Rattle.std.proofs.Common.{◌≡◌, ◌≤◌, ◌+◌, ℕ, List, [], ◌∷◌, Option, map, length, Result, Ok, Err, OnOk, IfErr, ap, subst, length-append, arith}
 use Rattle.stt_core.specs.Typing.{Scope}
 use Rattle.stt_tableau.specs.Literals.{Literal}
 use Rattle.stt_tableau.specs.Witnesses.{Row, with_rows}
@@ -9,6 +8,9 @@ use Rattle.stt_tableau.specs.Accepted.{FirstFailure, at_row, at_line, at_last, n
 use Rattle.stt_tableau.specs.declared.refutation.Line.{Line}
 use Rattle.stt_tableau.specs.declared.refutation.Refutation.{Refutation}
 use Rattle.stt_tableau.specs.declared.refutation.Why.{Why}
+use Rattle.stt_tableau.specs.declared.accepts.PlainRefused.{PlainRefused}
+use Rattle.stt_tableau.specs.declared.accepts.PlainRefused.TheVariants.{Refused, Memory}
+use Rattle.stt_tableau.specs.Refused.{IfRefused}
 use Rattle.refute_check.specs.declared.shared.Shared.{Shared}
 use Rattle.refute_check.specs.Means.Shared.{scope_in, declared_in, the_rows, IsGood}
 use Rattle.refute_check.proofs.SharedLaws.{scope_rows}
@@ -27,6 +29,15 @@ failure_below scope start r _ _ (at_line front back line why table is right fail
 failure_below scope start r _ _ (at_last front line table is right outside) = omega (arith, ap length is, length-append front (line ∷ []))
 failure_below scope start r _ _ (no_line table none) = omega arith
 
-pub if_none : {A : Type 0} {P : Type 0} (o : Option A) → IfNone o P → o ≡ None → P
-if_none None h e = h
-if_none (Some x) h e = let bad : ⊥ = cc in absurd bad
+-- what is said of a refusal's place and its word
+pub at_place : (e : PlainRefused) (P Q : ℕ → Why → Type 0) → ((place : ℕ) (why : Why) → P place why → Q place why) → IfRefused e P → IfRefused e Q
+at_place (Refused place why) P Q f h = f place why h
+at_place Memory P Q f h = tt
+
+pub if_place : (r : Result (Unit {0}) PlainRefused) (P Q : ℕ → Why → Type 0) → ((place : ℕ) (why : Why) → P place why → Q place why) → IfErr r (λ e. IfRefused e P) → IfErr r (λ e. IfRefused e Q)
+if_place (Ok u) P Q f h = tt
+if_place (Err e) P Q f h = at_place e P Q f h
+
+pub if_ok : {P Q : Type 0} (r : Result (Unit {0}) PlainRefused) → (P → Q) → OnOk r P → OnOk r Q
+if_ok (Ok u) f h = f h
+if_ok (Err e) f h = tt

@@ -81,6 +81,9 @@ module _ (b : Content) (atoms : List ℕ) (first : Option SatLit) (old new : Lis
   after_more kind.Des h e = absurd (e (ap length h))
   after_more kind.Cut h e = absurd (e (ap length h))
 
+pub witnesses_same : (b : Content) (atoms : List ℕ) (by : BankUse) (old new : List ℕ) → AreWitnessesBy b atoms by old new → length new ≡ length old → new ≡ old
+witnesses_same b atoms by old new h e = after_same b atoms by.first old new by.kind h e
+
 rows_wide : (b c : Content) (ids : List ℕ) → Widens b c → AreRows b ids → rows_of c.terms ids ≡ rows_of b.terms ids
 rows_wide b c ids w rows =
     map-same (λ i. i < length b.terms) (λ i. row_of (term_at c.terms i)) (λ i. row_of (term_at b.terms i)) (λ i k. ap row_of (wide_at b c w i k)) ids rows.within
@@ -154,10 +157,10 @@ pub record IsDenied (rows : List Row) (branch : List Literal) : Type 0 where
   pub literal : slice_get branch 0 ≡ Some (minus (every type predicate))
 
 denied_of : (scope : Scope) (rows : List Row) (branch : List Literal) (as' : List (List Literal)) → IsInstance scope rows branch (rule.AllNeg 0) as' → IsDenied rows branch
-denied_of scope rows branch as' h = go h.principals h.fits h.at_places
+denied_of scope rows branch as' h = go h.principals as' h.fits h.at_places
   where
-    go : (ps : List Literal) → Rule scope rows (rule.AllNeg 0) ps as' → AreAt branch (0 ∷ []) ps → IsDenied rows branch
-    go _ (all_neg_rule i k a f at) g = record { type = a; predicate = f; row = k; at = at; literal = g.0 }
+    go : (ps : List Literal) (as' : List (List Literal)) → Rule scope rows (rule.AllNeg 0) ps as' → AreAt branch (0 ∷ []) ps → IsDenied rows branch
+    go _ _ (all_neg_rule i k a f at) g = record { type = a; predicate = f; row = k; at = at; literal = g.0 }
 
 first_of : (s : Shared) (by : BankUse) (n : SatLit) → by.kind ≡ kind.AllNeg → by.first ≡ Some n → slice_get (map (literal_in s) (principals_of by)) 0 ≡ Some (literal_in s n)
 first_of s by n k e =

@@ -8,7 +8,7 @@ mod TakingLaws
 mod InstanceLaws
 pub mod StartLaws
 mod CheckLaws
-pub mod LineLaws
+mod LineAnswers
 pub mod PlaceLaws
 pub mod TermLaws
 mod DefinitionLaws

@@ -12,10 +12,14 @@ use Rattle.stt_core.proofs.ListLaws.{map-append, mapped_get}
 use Rattle.stt_tableau.proofs.ListLaws.{contains-get}
 use Rattle.stt_tableau.specs.Witnesses.{Row, with_rows, IsTwice}
 use Rattle.stt_tableau.proofs.FailureLaws.{contains_map}
-use Rattle.term_bank.specs.Content.{Content, content_scope, HasTerm}
+use Rattle.term_bank.specs.Content.{Content, content_scope, HasTerm, Grows}
 use Rattle.term_bank.specs.Terms.{term_at}
 use Rattle.term_bank.specs.Laws.{EqualIdsForEqualTerms}
-use Rattle.term_bank.proofs.GrowLaws.{has_within, has_at}
+use Rattle.term_bank.proofs.GrowLaws.{has_within, has_at, grown_all}
+use Rattle.literal_map.proofs.TableLaws.{found_at}
+use Rattle.witness_names.proofs.StayLaws.{rows_same}
+use Rattle.std.proofs.lemmas.List.Quantifiers.{position-Some}
+use Rattle.std.proofs.lemmas.Option.{slice_get-get_or}
 use Rattle.bank_normal.specs.Right.{IsRight}
 use Rattle.literal_map.specs.Atoms.{IsAtom}
 use Rattle.witness_names.specs.Rows.{binder_of, row_of, rows_of, AreRows, with_predicate}
@@ -26,7 +30,7 @@ use Rattle.refute_check.specs.declared.shared.Shared.{Shared}
 use Rattle.refute_check.specs.Means.Shared.{scope_in, declared_in, the_atoms, the_rows, IsGood}
 use Rattle.refute_check.specs.Numbered.{argument_type}
 
-pub binder_is : (t : Lambda) → argument_type t ≡ binder_of t
+binder_is : (t : Lambda) → argument_type t ≡ binder_of t
 binder_is (bound k) = refl
 binder_is (constant c) = refl
 binder_is (lam a s) = refl
@@ -41,7 +45,7 @@ position_any p xs h = list_any_none p xs (λ k d l. fails_before_first p xs k d 
     go false e g k l = grind (arith, common_steps)
 
 -- a predicate that has no witness is in no row
-pub not_twice : (b : Content) (ids : List ℕ) (id : ℕ) (t : Lambda) → EqualIdsForEqualTerms b → All (λ i. i < length b.terms) ids → HasTerm b id t → list_any (nat_eq id) ids ≡ false → (r : Row) → r.predicate ≡ t → IsTwice (rows_of b.terms ids) r → ⊥
+not_twice : (b : Content) (ids : List ℕ) (id : ℕ) (t : Lambda) → EqualIdsForEqualTerms b → All (λ i. i < length b.terms) ids → HasTerm b id t → list_any (nat_eq id) ids ≡ false → (r : Row) → r.predicate ≡ t → IsTwice (rows_of b.terms ids) r → ⊥
 not_twice b ids id t equal within has none r is h =
     let q = contains_map (λ x. x.predicate) (rows_of b.terms ids) r.predicate h in
     let p = contains_map (λ i. row_of (term_at b.terms i)) ids q.0 q.1 in
@@ -51,10 +55,25 @@ not_twice b ids id t equal within has none r is h =
     true≢false (sym (list_any_at (nat_eq id) ids p.1.0 p.0 p.1.1 (eq-eqb id (get_or ids p.1.0 p.0) (sym (p.1.2 ∙ e)))) ∙ none)
 
 -- a predicate that is there is in a row
-pub is_twice : (b : Content) (ids : List ℕ) (id k : ℕ) (t : Lambda) → HasTerm b id t → slice_get ids k ≡ Some id → (r : Row) → r.predicate ≡ t → IsTwice (rows_of b.terms ids) r
+is_twice : (b : Content) (ids : List ℕ) (id k : ℕ) (t : Lambda) → HasTerm b id t → slice_get ids k ≡ Some id → (r : Row) → r.predicate ≡ t → IsTwice (rows_of b.terms ids) r
 is_twice b ids id k t has at r is =
     contains-get (map (λ q. q.predicate) (rows_of b.terms ids)) k r.predicate
     (mapped_get (λ (q : Row). q.predicate) (rows_of b.terms ids) k (row_of (term_at b.terms id)) (mapped_get (λ i. row_of (term_at b.terms i)) ids k id at) ∙ ap Some (has_at b id t has ∙ sym is))
+
+pub row_of_place : (b : Content) (id : ℕ) (t : Lambda) → HasTerm b id t → row_of (term_at b.terms id) ≡ record { type = argument_type t; predicate = t }
+row_of_place b id t has = ap row_of (has_at b id t has) ∙ ap (λ a. record { type = a; predicate = t }) (sym (binder_is t))
+
+module _ (s : Shared) (good : IsGood s) (b : Content) (g : Grows s.bank b) (id : ℕ) (r : Row) (has : HasTerm b id r.predicate) where
+  pub found_twice : (k : ℕ) → position (nat_eq id) s.witnesses ≡ Some k → IsTwice (the_rows s) r
+  found_twice k h =
+      let p = position-Some (nat_eq id) s.witnesses k 0 h in
+      let at : slice_get s.witnesses k ≡ Some id = slice_get-get_or s.witnesses k 0 p.0 ∙ ap Some (found_at s.witnesses id k (sym h)) in
+      subst (λ rs. IsTwice rs r) (rows_same s.bank b g s.witnesses good.rows) (is_twice b s.witnesses id k r.predicate has at r refl)
+
+  pub found_once : EqualIdsForEqualTerms b → position (nat_eq id) s.witnesses ≡ None → IsTwice (the_rows s) r → ⊥
+  found_once equal h twice =
+      not_twice b s.witnesses id r.predicate equal (grown_all s.bank b s.witnesses g good.rows.within) has (position_any (nat_eq id) s.witnesses h) r refl
+      (subst (λ rs. IsTwice rs r) (sym (rows_same s.bank b g s.witnesses good.rows)) twice)
 
 module _ (s : Shared) (good : IsGood s) (id : ℕ) (none : list_any (nat_eq id) s.witnesses ≡ false) where
   abbrev the_row : Row

@@ -1,5 +1,5 @@
 -- Shared terms, as further ones come.
-use Rattle.std.proofs.Common.{◌≡◌, ℕ, zero, suc, ◌<◌, List, [], ◌∷◌, ◌++◌, Some, map, length, get_or, slice_get, take, Contains, refl, sym, ap, ap₂, subst, ◌∙◌, append-nil, append_assoc, length-append, arith, ◌↔◌}
+use Rattle.std.proofs.Common.{◌≡◌, ℕ, zero, suc, ◌<◌, true, false, Option, None, is_some, List, [], ◌∷◌, ◌++◌, Some, map, length, get_or, slice_get, take, Contains, refl, sym, ap, ap₂, subst, ◌∙◌, append-nil, append_assoc, length-append, arith, ◌↔◌}
 use Rattle.std.specs.Prelude.{All}
 use Rattle.std.proofs.lemmas.Option.{slice_get-get_or, get_or_from_slice_get, slice_get_within}
 use Rattle.std.proofs.lemmas.List.Elements.{All-weaker}
@@ -11,7 +11,7 @@ use Rattle.stt_core.specs.declared.signature.Signature.{Signature}
 use Rattle.stt_core.specs.Lambda.{Lambda}
 use Rattle.stt_core.specs.Typing.{Scope}
 use Rattle.stt_core.proofs.ListLaws.{mapped_get, map-append, take_got}
-use Rattle.stt_tableau.specs.Literals.{Literal}
+use Rattle.stt_tableau.specs.Literals.{Literal, IsLiteral, IsBranch}
 use Rattle.stt_tableau.specs.Start.{same_sign}
 use Rattle.stt_tableau.specs.Witnesses.{Row, with_rows}
 use Rattle.stt_tableau.proofs.FailureLaws.{contains_map}
@@ -30,7 +30,7 @@ use Rattle.refute_check.specs.declared.shared.Shared.{Shared}
 use Rattle.refute_check.specs.declared.branch.Branch.{Branch}
 use Rattle.refute_check.specs.Means.Numbers.{number_in}
 use Rattle.refute_check.specs.Means.Branches.{Grow, AreNumbered}
-use Rattle.refute_check.specs.Means.Shared.{scope_in, declared_in, the_atoms, the_rows, IsGood, Extends, IsNumber, literal_in, AreNumbersOf}
+use Rattle.refute_check.specs.Means.Shared.{scope_in, declared_in, the_atoms, the_rows, IsGood, Extends, IsNumber, literal_in, AreNumbersOf, NumbersLiteral}
 use Rattle.refute_check.proofs.NumberLaws.{number_in-only, mapped_at}
 
 -- EACH
@@ -51,7 +51,7 @@ each_weaker P Q f (x ∷ xs) h = (f x h.0, each_weaker P Q f xs h.1)
 each_contains : {X : Type 0} (P : X → Type 0) (xs : List X) (x : X) → Each P xs → Contains xs x → P x
 each_contains P xs x h c = each_at P xs c.0 x h (slice_get-get_or xs c.0 x c.1 ∙ ap Some c.2)
 
-map_each : {X Y : Type 0} (P : X → Type 0) (f g : X → Y) → ((x : X) → P x → f x ≡ g x) → (xs : List X) → Each P xs → map f xs ≡ map g xs
+pub map_each : {X Y : Type 0} (P : X → Type 0) (f g : X → Y) → ((x : X) → P x → f x ≡ g x) → (xs : List X) → Each P xs → map f xs ≡ map g xs
 map_each P f g same [] h = refl
 map_each P f g same (x ∷ xs) h = ap₂ (λ y ys. y ∷ ys) (same x h.0) (map_each P f g same xs h.1)
 
@@ -170,3 +170,27 @@ module _ (s : Shared) (b : Content) (g : Grows s.bank b) where
 
   pub imported_good : IsGood s → IsGood with_bank
   imported_good good = extends_good s with_bank imported_extends good (right_grown s.normal s.bank b g good.normal) (atoms_stay s.bank b g s.lits good.atoms) refl
+
+  -- a term that is closed and canonical has its place
+  pub has_place : (id : ℕ) (a : SimpleType) (nf t : Lambda) → nf ≡ t → IsCanonical (scope_in s) [] a nf → HasTerm b id nf → IsCanonical (scope_in with_bank) [] a t × HasTerm b id t
+  has_place id a nf t e h has = (subst (IsCanonical (scope_in with_bank) [] a) e (subst (λ x. IsCanonical x [] a nf) (sym (grown_scope s.bank b g)) h), subst (HasTerm b id) e has)
+
+pub some_of : {A : Type 0} (o : Option A) → is_some o ≡ true → (x : A) × (o ≡ Some x)
+some_of (Some x) h = (x, refl)
+some_of None h = cc
+
+pub none_of : {A : Type 0} (o : Option A) → is_some o ≡ false → o ≡ None
+none_of (Some x) h = cc
+none_of None h = refl
+
+pub branch-append : (scope : Scope) (ls : List Literal) (l : Literal) → IsBranch scope ls → IsLiteral scope l → IsBranch scope (ls ++ l ∷ [])
+branch-append scope [] l h g = (g, tt)
+branch-append scope (k ∷ ls) l h g = (h.0, branch-append scope ls l h.1 g)
+
+-- one literal more of a branch
+pub branch-more : (now new : Shared) → IsGood now → Extends now new → (ls : List Literal) (ns all : List SatLit) (l : Literal) (n : SatLit) → IsBranch (scope_in now) ls → AreNumbersOf now ls ns → NumbersLiteral new l (Some n) → all ≡ ns ++ n ∷ []
+    → IsBranch (scope_in new) (ls ++ l ∷ []) × AreNumbersOf new (ls ++ l ∷ []) all
+branch-more now new good e ls ns all l n h numbers is added = (
+  branch-append (scope_in new) ls l (subst (λ s. IsBranch s ls) (sym (extends_scope now new e)) h) is.0,
+  subst (AreNumbersOf new (ls ++ l ∷ [])) (sym added) (numbers-more new ls ns l n (extends_numbers now new e good ls ns numbers) is.1 is.2),
+)

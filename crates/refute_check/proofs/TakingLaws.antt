@@ -24,7 +24,7 @@ use Rattle.refute_check.specs.Numbered.{numbered_one_place, numbered_two_places,
 use Rattle.refute_check.specs.declared.shared.Shared.{Shared}
 use Rattle.refute_check.specs.declared.taking.Taking.{Taking}
 use Rattle.refute_check.specs.declared.taking.Taking.TheVariants.{Untyped, Missing, By}
-use Rattle.refute_check.specs.Means.Shared.{scope_in, the_rows, literal_in, IsNumber, AreNumbersOf}
+use Rattle.refute_check.specs.Means.Shared.{scope_in, the_rows, literal_in, IsNumber, AreNumbersOf, HasPredicate}
 use Rattle.refute_check.specs.Means.Taking.{kind_of_one, kind_of_two, kind_of_predicate, HasNoInstance, IsTaken, Takes}
 use Rattle.refute_check.proofs.SharedLaws.{each_at}
 
@@ -86,13 +86,13 @@ one_back branch i l at (p ∷ q ∷ ps) h = absurd h.1
 two_there : (branch : List Literal) (i j : ℕ) (l k : Literal) → slice_get branch i ≡ Some l → slice_get branch j ≡ Some k → (ps : List Literal) → AreAt (l ∷ k ∷ []) (0 ∷ 1 ∷ []) ps → AreAt branch (i ∷ j ∷ []) ps
 two_there branch i j l k at there [] h = absurd h
 two_there branch i j l k at there (p ∷ []) h = absurd h.1
-two_there branch i j l k at there (p ∷ q ∷ []) h = (at ∙ h.0, there ∙ h.1.0, tt)
+two_there branch i j l k at there (p ∷ q ∷ []) h = (at ∙ h.0, (there ∙ h.1.0, tt))
 two_there branch i j l k at there (p ∷ q ∷ r ∷ ps) h = absurd h.1.1
 
 two_back : (branch : List Literal) (i j : ℕ) (l k : Literal) → slice_get branch i ≡ Some l → slice_get branch j ≡ Some k → (ps : List Literal) → AreAt branch (i ∷ j ∷ []) ps → AreAt (l ∷ k ∷ []) (0 ∷ 1 ∷ []) ps
 two_back branch i j l k at there [] h = absurd h
 two_back branch i j l k at there (p ∷ []) h = absurd h.1
-two_back branch i j l k at there (p ∷ q ∷ []) h = (sym at ∙ h.0, sym there ∙ h.1.0, tt)
+two_back branch i j l k at there (p ∷ q ∷ []) h = (sym at ∙ h.0, (sym there ∙ h.1.0, tt))
 two_back branch i j l k at there (p ∷ q ∷ r ∷ ps) h = absurd h.1.1
 
 -- without a principal there is no instance
@@ -111,8 +111,8 @@ none_second branch r i j more is none scope rows as' h = go h.principals (subst 
     go (p ∷ []) g = g.1
     go (p ∷ q ∷ ps) g = let bad : None ≡ Some q = sym none ∙ g.1.0 in cc
 
-no_first : {A : Type 0} {P : A → Type 0} → ForSome None P
-no_first = λ x e. cc
+no_first : {A : Type 0} (P : A → Type 0) → ForSome None P
+no_first P = λ x e. cc
 
 this_first : {A : Type 0} (P : A → Type 0) (y : A) → P y → ForSome (Some y) P
 this_first P y h = λ x e. subst P (same_Some y x e) h
@@ -125,7 +125,7 @@ module _ (s : Shared) (branch : List Literal) where
         → principals_of by ≡ n ∷ [] → places r ≡ i ∷ [] → places alone ≡ 0 ∷ [] → moved i 0 alone ≡ r → moved 0 0 r ≡ alone → IsTaken s branch r by
     one_taken r by alone first second term is principals at_r at_alone there back = record {
       first = subst (λ o. ForSome o (IsNumber s)) (sym first) (this_first (IsNumber s) n number);
-      second = subst (λ o. ForSome o (IsNumber s)) (sym second) (no_first {P = IsNumber s});
+      second = subst (λ o. ForSome o (IsNumber s)) (sym second) (no_first (IsNumber s));
       term = term;
       taken = alone;
       is = is;
@@ -145,7 +145,7 @@ module _ (s : Shared) (branch : List Literal) where
     by_one k = record { kind = k; first = Some n; second = None; term = None }
 
     nothing : ForSome None (λ id. id < length s.bank.terms)
-    nothing = no_first {P = λ id. id < length s.bank.terms}
+    nothing = no_first (λ id. id < length s.bank.terms)
 
     pub one_takes : (r : OnePlace) → Takes s branch (numbered_one_place r i) (By (by_one (kind_of_one r)))
     one_takes False = (tt, one_taken (rule.False i) (by_one kind.False) (rule.False 0) refl refl nothing refl refl refl refl refl refl)
@@ -192,7 +192,7 @@ module _ (s : Shared) (branch : List Literal) where
     two_taken k r alone is principals at_r at_alone to back = record {
       first = this_first (IsNumber s) n number;
       second = this_first (IsNumber s) m second;
-      term = no_first {P = λ id. id < length s.bank.terms};
+      term = no_first (λ id. id < length s.bank.terms);
       taken = alone;
       is = is;
       to = λ scope rows as' h.
@@ -238,10 +238,10 @@ module _ (s : Shared) (branch : List Literal) where
     λ h. record { principals = h.principals; at_places = subst (λ p. AreAt [] p h.principals) (sym e) (none_back h.principals (subst (λ p. AreAt branch p h.principals) e h.at_places)); fits = h.fits },
   )
 
-  pub predicate_taken : (r : OfPredicate) (id : ℕ) (f : Lambda) → HasTerm s.bank id f → IsTaken s branch (numbered_of_predicate r f) (record { kind = kind_of_predicate r; first = None; second = None; term = Some id })
+  predicate_taken : (r : OfPredicate) (id : ℕ) (f : Lambda) → HasTerm s.bank id f → IsTaken s branch (numbered_of_predicate r f) (record { kind = kind_of_predicate r; first = None; second = None; term = Some id })
   predicate_taken Cho id f h = record {
-    first = no_first {P = IsNumber s};
-    second = no_first {P = IsNumber s};
+    first = no_first (IsNumber s);
+    second = no_first (IsNumber s);
     term = this_first (λ x. x < length s.bank.terms) id (has_within s.bank id f h);
     taken = rule.Cho f;
     is = ap (λ x. Some (rule.Cho x)) (has_at s.bank id f h);
@@ -249,8 +249,8 @@ module _ (s : Shared) (branch : List Literal) where
     back = λ scope rows as'. (unplaced (rule.Cho f) scope rows as' refl).1;
   }
   predicate_taken Des id f h = record {
-    first = no_first {P = IsNumber s};
-    second = no_first {P = IsNumber s};
+    first = no_first (IsNumber s);
+    second = no_first (IsNumber s);
     term = this_first (λ x. x < length s.bank.terms) id (has_within s.bank id f h);
     taken = rule.Des f;
     is = ap (λ x. Some (rule.Des x)) (has_at s.bank id f h);
@@ -258,11 +258,15 @@ module _ (s : Shared) (branch : List Literal) where
     back = λ scope rows as'. (unplaced (rule.Des f) scope rows as' refl).1;
   }
 
+  pub predicate_takes : (r : OfPredicate) (id : ℕ) (f : Lambda) → HasPredicate s f (Some id) → Takes s branch (numbered_of_predicate r f) (By (record { kind = kind_of_predicate r; first = None; second = None; term = Some id }))
+  predicate_takes Cho id f h = (h.0, predicate_taken Cho id f h.1)
+  predicate_takes Des id f h = (h.0, predicate_taken Des id f h.1)
+
   pub cut_taken : (n : SatLit) (l : Literal) → IsNumber s n → literal_in s n ≡ l → IsTaken s branch (rule.Cut l) (record { kind = kind.Cut; first = Some n; second = None; term = None })
   cut_taken n l number is = record {
     first = this_first (IsNumber s) n number;
-    second = no_first {P = IsNumber s};
-    term = no_first {P = λ id. id < length s.bank.terms};
+    second = no_first (IsNumber s);
+    term = no_first (λ id. id < length s.bank.terms);
     taken = rule.Cut l;
     is = ap (λ x. Some (rule.Cut x)) is;
     to = λ scope rows as'. (unplaced (rule.Cut l) scope rows as' refl).0;

@@ -17,7 +17,7 @@ ghost use Rattle.refute_check.specs.Numbered.{numbered_refutation};
 ghost use Rattle.refute_check.specs.Refusal.{IfLine, FailsAt};
 ghost use Rattle.refute_check.specs.Acceptance.{IsAcceptedFor, TextFailsAt};
 ghost use Rattle.refute_check.specs.Means.Shared.{declared_in, the_atoms, the_rows, IsGood};
-ghost use Rattle.refute_check.specs.Means.Branches.{Represents, Grow, AreBranches};
+ghost use Rattle.refute_check.specs.Means.Branches.{Represents, AreNumbered, Grow, AreBranches};
 ghost use Rattle.refute_check.specs.Means.Lines.{AreRightIn};
 
 use crate::branch::Branch;
@@ -26,6 +26,7 @@ use crate::lines::RightLines;
 use crate::numbering::Numbering;
 use crate::refusal::CheckRefused;
 use crate::shared::Shared;
+use crate::start::begin;
 use delta_defs::unfold_problem;
 use written_refutation::RefutationText;
 use std::alloc::{AllocError, Global};
@@ -120,6 +121,27 @@ fn check_last(
     }
 }
 
+/// Whether the text is accepted for these literals.
+fn check_from(
+    alloc: Global,
+    shared: &mut Shared,
+    numbering: &Numbering<'_>,
+    start: &Branch,
+    text: &RefutationText,
+) -> Result<(), PlainRefused>
+    requires good { IsGood shared.old }
+    requires none { the_rows shared.old ≡ [] }
+    requires room { length text.now.witnesses + length text.now.lines < 2 ^ 64 }
+    ensures accepted { OnOk result ((ls : List Literal) → Represents (the_atoms shared.old) ls start.now → AreNumbered (the_atoms shared.old) ls
+        → IsAccepted (declared_in shared.old) ls (numbered_refutation numbering.now (the_text text.now))) }
+    ensures refused { IfErr result (λ e. IfRefused e (λ place why. (ls : List Literal) → Represents (the_atoms shared.old) ls start.now → AreNumbered (the_atoms shared.old) ls
+        → FirstFailure (declared_in shared.old) ls (numbered_refutation numbering.now (the_text text.now)) place why)) }
+{
+    check_rows(alloc, shared, numbering, text)?;
+    let lines = check_lines(alloc, shared, numbering, text)?;
+    check_last(numbering, &lines, start, text)
+}
+
 /// Whether the text is accepted for the start of the problem, over its signature.
 fn check_over(
     alloc: Global,
@@ -136,12 +158,14 @@ fn check_over(
         (numbered_refutation (names_of sig.now.bases sig.now.consts) (the_text text.now)))) }
 {
     let numbering = Numbering::new(alloc, sig)?;
-    let mut shared = Shared::new(alloc, sig)?;
-    let start = shared.start(alloc, problem)?;
-    check_rows(alloc, &mut shared, &numbering, text)?;
-    let lines = check_lines(alloc, &mut shared, &numbering, text)?;
-    check_last(&numbering, &lines, &start, text)?;
-    Ok(())
+    let mut beginning = begin(alloc, sig, problem)?;
+    check_from(
+        alloc,
+        &mut beginning.shared,
+        &numbering,
+        &beginning.start,
+        text,
+    )
 }
 
 /// Whether the text is accepted, or the place of its first failure: its rows count from 0, and then its lines.

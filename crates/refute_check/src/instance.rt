@@ -46,8 +46,10 @@ impl Shared {
                     Ok(None)
                 }
             }
-            Err(RuleRefused::NotThisRule) => Ok(None),
-            Err(RuleRefused::Memory) => Err(AllocError),
+            Err(refused) => match refused {
+                RuleRefused::NotThisRule => Ok(None),
+                RuleRefused::Memory => Err(AllocError),
+            },
         }
     }
 }

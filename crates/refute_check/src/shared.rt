@@ -127,10 +127,11 @@ impl Shared {
         ensures good { OnOk result (IsGood self.new) }
     {
         let nf = number_term(alloc, numbering, term)?;
-        match self.type_of(alloc, &nf)? {
-            Some(_) => Ok(Some(self.bank.import(&nf)?)),
-            None => Ok(None),
+        if self.type_of(alloc, &nf)?.is_none() {
+            return Ok(None);
         }
+        let id = self.bank.import(&nf)?;
+        Ok(Some(id))
     }
 
     /// The same of a predicate.

@@ -19,7 +19,7 @@ loop-i-init c =
     (c.requires.good, c.requires.rows, refl, grow-itself (the_atoms s), c.new-lines.ensures (the_atoms s), tt)
 
 pub add-requires : goal.add-requires
-add-requires c = c.loop-i.invariant.0
+add-requires c = record { good = c.loop-i.invariant.0 }
 
 pub returns-in-Some-clause-refused : goal.returns-in-Some-clause-refused
 returns-in-Some-clause-refused c = λ start.
@@ -54,6 +54,6 @@ loop-i-preserved c =
       extends_rows now new e c.loop-i.invariant.0 ∙ c.loop-i.invariant.1,
       extends_declared now new e ∙ c.loop-i.invariant.2,
       grow-more (the_atoms old) (the_atoms now) (the_atoms new) c.loop-i.invariant.3 (extends_atoms now new e c.loop-i.invariant.0),
-      subst (λ ls. AreBranches (the_atoms new) ls c.add.new.lines.branches.items) (sym (take_got lines i line at)) (c.in_ok-why.ensures.added c.in_default.is (take i lines) c.loop-i.invariant.4),
+      subst (λ ls. AreBranches (the_atoms new) ls c.add.new.self.branches.items) (sym (take_got lines i line at)) (c.in_ok-why.ensures.added c.in_default.is (take i lines) c.loop-i.invariant.4),
       lines-more (with_rows scope rows) rows lines i line at c.loop-i.invariant.5 (subst (LineAnswer (with_rows scope rows) rows (take i lines) line) c.in_default.is answer),
     )
