@@ -1,6 +1,5 @@
 -- Instances over shared terms.
-use Rattle.std.proofs.Common.{◌≡◌, ℕ, zero, ◌<◌, Bool, true, false, nat_eq, List, [], ◌∷◌, ◌++◌, Option, Some, None, option_map, map, length, get_or, slice_get, refl, sym, ap, ap₂, subst, ◌∙◌, append-nil, length-append, eq-eqb, arith, if◌then◌else◌}
-use Rattle.std.specs.Prelude.{All}
+use Rattle.std.proofs.Common.{◌≡◌, ℕ, ◌<◌, Bool, true, false, nat_eq, List, [], ◌∷◌, ◌++◌, Option, Some, None, option_map, map, length, get_or, slice_get, refl, sym, ap, subst, ◌∙◌, append-nil, length-append, eq-eqb, arith, if◌then◌else◌}
 use Rattle.std.specs.Option.{ForSome}
 use Rattle.std.specs.List.{list_any}
 use Rattle.std.proofs.lemmas.Option.{same_Some, get_or_from_slice_get, slice_get_within}
@@ -11,19 +10,18 @@ use Rattle.stt_core.specs.Lambda.{Lambda, every}
 use Rattle.stt_core.specs.Typing.{Scope}
 use Rattle.stt_tableau.specs.Literals.{Literal, minus}
 use Rattle.stt_tableau.specs.Witnesses.{Row}
-use Rattle.stt_tableau.specs.Rules.{Rule, places, AreAt, IsInstance, all_neg_rule}
+use Rattle.stt_tableau.specs.Rules.{Rule, AreAt, IsInstance, all_neg_rule}
 use Rattle.stt_tableau.specs.declared.refutation.RuleUse.{RuleUse}
 use Rattle.stt_tableau.specs.declared.refutation.RuleUse.TheVariants as rule
-use Rattle.term_bank.specs.Content.{Content, content_scope, Grows}
+use Rattle.term_bank.specs.Content.{Content}
 use Rattle.term_bank.specs.Terms.{term_at}
 use Rattle.term_bank.specs.Laws.{EqualIdsForEqualTerms}
 use Rattle.term_bank.proofs.ListLaws.{map-same, get_or-front}
-use Rattle.literal_map.specs.Atoms.{literal_at, IsAtom, Begins}
+use Rattle.literal_map.specs.Atoms.{Begins}
 use Rattle.literal_map.specs.declared.instance.BankUse.{BankUse}
 use Rattle.literal_map.specs.declared.instance.RuleKind.{RuleKind}
 use Rattle.literal_map.specs.declared.instance.RuleKind.TheVariants as kind
-use Rattle.witness_names.specs.Rows.{row_of, rows_of, AreRows, with_predicate}
-use Rattle.search_run.specs.Each.{Each}
+use Rattle.witness_names.specs.Rows.{row_of, rows_of, AreRows}
 use Rattle.tableau_rules.specs.Uses.{rule_of, use_of, principals_of, IsInstanceBy}
 use Rattle.tableau_rules.specs.Changes.{Widens, HasWitness, AreWitnessesAfter, AreWitnessesBy}
 use Rattle.tableau_rules.proofs.WideLaws.{wide_at}

@@ -1,18 +1,15 @@
 -- What is answered of a line, while terms come.
-use Rattle.std.proofs.Common.{◌≡◌, List, [], ◌∷◌, ◌++◌, Option, Some, None, map, subst, sym, ◌∙◌}
-use Rattle.sat_base.specs.declared.literal.SatLit.{SatLit}
-use Rattle.stt_core.specs.Lambda.{Lambda}
+use Rattle.std.proofs.Common.{List, Option, subst, sym}
 use Rattle.stt_tableau.specs.Literals.{Literal, IsBranch}
-use Rattle.stt_tableau.specs.Rules.{IsInstance}
 use Rattle.stt_tableau.specs.Accepted.{IsTypedUse, IsTypedLine}
 use Rattle.stt_tableau.specs.Checks.{FindsInstance}
 use Rattle.stt_tableau.specs.declared.refutation.Line.{Line}
 use Rattle.refute_check.specs.declared.shared.Shared.{Shared}
 use Rattle.refute_check.specs.declared.branch.Branch.{Branch}
-use Rattle.refute_check.specs.Means.Branches.{Grow, AreBranches}
-use Rattle.refute_check.specs.Means.Shared.{scope_in, the_atoms, the_rows, literal_in, IsGood, Extends, AreNumbersOf}
-use Rattle.refute_check.proofs.BranchLaws.{grow-more, branches-grow}
-use Rattle.refute_check.proofs.SharedLaws.{extends_on, extends_scope, extends_rows, extends_atoms, extends_numbers}
+use Rattle.refute_check.specs.Means.Branches.{AreBranches}
+use Rattle.refute_check.specs.Means.Shared.{scope_in, the_atoms, the_rows, IsGood, Extends}
+use Rattle.refute_check.proofs.BranchLaws.{branches-grow}
+use Rattle.refute_check.proofs.SharedLaws.{extends_on, extends_scope, extends_rows, extends_atoms}
 
 module _ (first second third : Shared) (good : IsGood first) (e : Extends first second) (f : Extends second third) (line : Line) where
   -- the line is none over what is declared

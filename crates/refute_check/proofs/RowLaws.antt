@@ -1,5 +1,5 @@
 -- One row more.
-use Rattle.std.proofs.Common.{◌≡◌, ℕ, ◌<◌, ◌-◌, ◌^◌, Bool, true, false, nat_eq, List, [], ◌∷◌, ◌++◌, Some, None, position, nat_lt, cond, map, length, get_or, slice_get, Contains, refl, sym, ap, ap₂, subst, ◌∙◌, append-nil, eq-eqb, true≢false, arith, if◌then◌else◌}
+use Rattle.std.proofs.Common.{◌≡◌, ℕ, ◌<◌, ◌-◌, ◌^◌, Bool, true, false, nat_eq, List, [], ◌∷◌, ◌++◌, Some, None, position, nat_lt, cond, map, length, get_or, slice_get, refl, sym, ap, ap₂, subst, ◌∙◌, append-nil, eq-eqb, true≢false, arith, if◌then◌else◌}
 use Rattle.std.specs.Prelude.{All}
 use Rattle.std.specs.List.{list_any, position_or_len}
 use Rattle.std.proofs.lemmas.Grind.{common_steps}
@@ -27,7 +27,7 @@ use Rattle.tableau_rules.specs.Changes.{Widens}
 use Rattle.tableau_rules.proofs.WideLaws.{wide_atoms, right_by}
 use Rattle.tableau_rules.proofs.DeclareLaws.{table_by}
 use Rattle.refute_check.specs.declared.shared.Shared.{Shared}
-use Rattle.refute_check.specs.Means.Shared.{scope_in, declared_in, the_atoms, the_rows, IsGood}
+use Rattle.refute_check.specs.Means.Shared.{declared_in, the_atoms, the_rows, IsGood}
 use Rattle.refute_check.specs.Numbered.{argument_type}
 
 binder_is : (t : Lambda) → argument_type t ≡ binder_of t

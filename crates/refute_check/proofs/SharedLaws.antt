@@ -1,5 +1,5 @@
 -- Shared terms, as further ones come.
-use Rattle.std.proofs.Common.{◌≡◌, ℕ, zero, suc, ◌<◌, true, false, Option, None, is_some, List, [], ◌∷◌, ◌++◌, Some, map, length, get_or, slice_get, take, Contains, refl, sym, ap, ap₂, subst, ◌∙◌, append-nil, append_assoc, length-append, arith, ◌↔◌}
+use Rattle.std.proofs.Common.{◌≡◌, ℕ, zero, suc, ◌<◌, true, false, Option, None, is_some, List, [], ◌∷◌, ◌++◌, Some, map, length, get_or, slice_get, Contains, refl, sym, ap, ap₂, subst, ◌∙◌, append-nil, append_assoc, length-append, arith}
 use Rattle.std.specs.Prelude.{All}
 use Rattle.std.proofs.lemmas.Option.{slice_get-get_or, get_or_from_slice_get, slice_get_within}
 use Rattle.std.proofs.lemmas.List.Elements.{All-weaker}
@@ -10,9 +10,8 @@ use Rattle.stt_core.specs.ScopeView.{the_scope}
 use Rattle.stt_core.specs.declared.signature.Signature.{Signature}
 use Rattle.stt_core.specs.Lambda.{Lambda}
 use Rattle.stt_core.specs.Typing.{Scope}
-use Rattle.stt_core.proofs.ListLaws.{mapped_get, map-append, take_got}
+use Rattle.stt_core.proofs.ListLaws.{mapped_get, map-append}
 use Rattle.stt_tableau.specs.Literals.{Literal, IsLiteral, IsBranch}
-use Rattle.stt_tableau.specs.Start.{same_sign}
 use Rattle.stt_tableau.specs.Witnesses.{Row, with_rows}
 use Rattle.stt_tableau.proofs.FailureLaws.{contains_map}
 use Rattle.term_bank.specs.Content.{Content, content_scope, HasTerm, Grows}
@@ -20,14 +19,13 @@ use Rattle.term_bank.specs.Terms.{term_at}
 use Rattle.term_bank.specs.Laws.{EqualIdsForEqualTerms}
 use Rattle.term_bank.proofs.GrowLaws.{grows_itself, grows_on, grown_scope, grown_terms, has_at}
 use Rattle.bank_normal.specs.Right.{IsRight}
-use Rattle.literal_map.specs.Atoms.{atom_at, literal_at, IsAtom, Begins}
+use Rattle.literal_map.specs.Atoms.{atom_at, literal_at, IsAtom}
 use Rattle.bank_normal.proofs.RightLaws.{right_grown}
 use Rattle.literal_map.proofs.StayLaws.{atoms_stay, literals_same}
 use Rattle.witness_names.specs.Rows.{rows_of, AreRows}
 use Rattle.witness_names.proofs.StayLaws.{rows_same, rows_grown}
 use Rattle.search_run.specs.Each.{Each}
 use Rattle.refute_check.specs.declared.shared.Shared.{Shared}
-use Rattle.refute_check.specs.declared.branch.Branch.{Branch}
 use Rattle.refute_check.specs.Means.Numbers.{number_in}
 use Rattle.refute_check.specs.Means.Branches.{Grow, AreNumbered}
 use Rattle.refute_check.specs.Means.Shared.{scope_in, declared_in, the_atoms, the_rows, IsGood, Extends, IsNumber, literal_in, AreNumbersOf, NumbersLiteral}

@@ -7,7 +7,7 @@ use Rattle.stt_core.specs.Typing.{Scope}
 use Rattle.stt_core.specs.Canonical.{IsCanonical}
 use Rattle.stt_tableau.specs.Literals.{Literal, IsLiteral, IsBranch}
 use Rattle.stt_tableau.specs.Witnesses.{Row, with_rows}
-use Rattle.term_bank.specs.Content.{Content, content_scope, HasTerm, Grows}
+use Rattle.term_bank.specs.Content.{content_scope, HasTerm, Grows}
 use Rattle.term_bank.specs.Terms.{term_at}
 use Rattle.bank_normal.specs.Right.{IsRight}
 use Rattle.literal_map.specs.Atoms.{literal_at, IsAtom, Begins}

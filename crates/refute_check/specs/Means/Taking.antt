@@ -1,5 +1,5 @@
 -- What a rule of a text takes, by numbers.
-use Rattle.std.specs.Prelude.{◌≡◌, ◌<◌, ℕ, List, map, length, Option, Some, None}
+use Rattle.std.specs.Prelude.{◌≡◌, ◌<◌, List, map, length, Option, Some, None}
 use Rattle.std.specs.Option.{ForSome}
 use Rattle.stt_core.specs.Typing.{Scope}
 use Rattle.stt_tableau.specs.Literals.{Literal}

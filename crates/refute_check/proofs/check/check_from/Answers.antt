@@ -1,7 +1,7 @@
-use Rattle.std.proofs.Common.{List, ◌∙◌, rules, sym, subst}
+use Rattle.std.proofs.Common.{List, rules, subst}
 use Rattle.stt_core.specs.Typing.{Scope}
 use Rattle.stt_tableau.specs.Literals.{Literal}
-use Rattle.stt_tableau.specs.Accepted.{FirstFailure, EndsWithin}
+use Rattle.stt_tableau.specs.Accepted.{FirstFailure}
 use Rattle.written_refutation.specs.TextView.{the_text}
 use Rattle.refute_check.specs.Numbered.{numbered_refutation}
 use Rattle.refute_check.specs.Means.Branches.{Represents, AreNumbered}

@@ -1,4 +1,4 @@
-use Rattle.std.proofs.Common.{◌∙◌, [], refl, map, take, sym, subst}
+use Rattle.std.proofs.Common.{◌∙◌, refl, map, take, sym, subst}
 use Rattle.std.proofs.lemmas.List.{length-map}
 use Rattle.stt_core.proofs.ListLaws.{take_got, mapped_get}
 use Rattle.stt_tableau.specs.Witnesses.{with_rows}

@@ -1,10 +1,7 @@
 use Rattle.std.proofs.Common.{◌∙◌, ◌++◌, ◌∷◌, [], ap, ap₂, sym, subst}
-use Rattle.stt_core.specs.Lambda.{Lambda}
 use Rattle.stt_tableau.specs.Witnesses.{Row, IsTypedRow}
 use Rattle.term_bank.specs.Content.{HasTerm}
-use Rattle.term_bank.specs.Terms.{term_at}
 use Rattle.term_bank.proofs.GrowLaws.{has_within}
-use Rattle.witness_names.specs.Rows.{row_of}
 use Rattle.refute_check.specs.Numbered.{numbered_row}
 use Rattle.refute_check.specs.Means.Branches.{Grow}
 use Rattle.refute_check.specs.Means.Shared.{declared_in, the_atoms, the_rows}

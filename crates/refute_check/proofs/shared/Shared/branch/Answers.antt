@@ -1,4 +1,4 @@
-use Rattle.std.proofs.Common.{◌∙◌, ◌+◌, [], ◌∷◌, refl, ap, sym, subst, map, take}
+use Rattle.std.proofs.Common.{◌∙◌, [], ◌∷◌, refl, ap, sym, subst, map, take}
 use Rattle.stt_core.proofs.ListLaws.{mapped_get, take_got, map-append}
 use Rattle.stt_tableau.specs.Literals.{IsBranch}
 use Rattle.stt_tableau.proofs.ListLaws.{contains-get}

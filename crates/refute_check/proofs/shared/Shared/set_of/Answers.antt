@@ -1,4 +1,4 @@
-use Rattle.std.proofs.Common.{◌∙◌, [], ◌∷◌, ◌++◌, ap, sym, subst, map, take}
+use Rattle.std.proofs.Common.{◌∙◌, [], ◌∷◌, ap, sym, subst, map, take}
 use Rattle.stt_core.proofs.ListLaws.{take_got, map-append}
 use Rattle.refute_check.specs.Means.Branches.{Represents}
 use Rattle.refute_check.specs.Means.Shared.{the_atoms, literal_in, IsNumber}

@@ -1,4 +1,4 @@
-use Rattle.std.proofs.Common.{◌∙◌, [], None, Some, ◌++◌, map, option_map, ap, sym, subst, append-nil}
+use Rattle.std.proofs.Common.{◌∙◌, None, Some, map, option_map, ap, sym, subst, append-nil}
 use Rattle.stt_core.specs.Typing.{Scope}
 use Rattle.stt_core.specs.View.{the_term}
 use Rattle.stt_core.specs.Declarations.{scope_of}
