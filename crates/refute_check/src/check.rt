@@ -28,10 +28,10 @@ use crate::refusal::CheckRefused;
 use crate::shared::Shared;
 use crate::start::begin;
 use delta_defs::unfold_problem;
-use written_refutation::RefutationText;
 use std::alloc::{AllocError, Global};
 use stt_core::{Problem, Signature};
 use stt_tableau::{PlainRefused, Why};
+use written_refutation::RefutationText;
 
 /// Declares the witnesses of the text's rows, where these are a witness table.
 fn check_rows(

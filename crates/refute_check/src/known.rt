@@ -10,10 +10,10 @@ use crate::branch::Branch;
 use crate::numbering::Numbering;
 use crate::shared::Shared;
 use literal_map::LitList;
-use written_refutation::TextLits;
 use sat_base::SatLit;
 use std::alloc::{AllocError, Global};
 use term_bank::equal_ids_for_equal_terms;
+use written_refutation::TextLits;
 
 /// The literal at a place of the list.
 pub(crate) fn literal_at(list: &LitList, i: usize) -> Option<SatLit>

@@ -16,9 +16,9 @@ use crate::children::{are_children, branch_at};
 use crate::numbering::Numbering;
 use crate::shared::Shared;
 use crate::taking::Taking;
-use written_refutation::TextLine;
 use std::alloc::{AllocError, Global};
 use stt_tableau::Why;
+use written_refutation::TextLine;
 
 /// The branches of the lines that are right.
 #[derive(Drop)]
@@ -64,7 +64,14 @@ impl RightLines {
         };
         let own = shared.set_of(alloc, &branch)?;
         let earlier = self.branches.as_slice();
-        if !are_children(alloc, shared, earlier, &own, &instance.alternatives, &line.children)? {
+        if !are_children(
+            alloc,
+            shared,
+            earlier,
+            &own,
+            &instance.alternatives,
+            &line.children,
+        )? {
             return Ok(Some(Why::Child));
         }
         self.branches.push(own)?;

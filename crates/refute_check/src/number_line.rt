@@ -8,10 +8,10 @@ ghost use Rattle.refute_check.specs.Numbered.{argument_type as type_of_argument}
 
 use crate::number_term::number_term;
 use crate::numbering::Numbering;
-use written_refutation::{TextLit, TextTerm};
 use std::alloc::{AllocError, Global};
 use stt_core::{Nf, Ty};
 use stt_tableau::{Lit, Shape, WitnessRow, shape_of};
+use written_refutation::{TextLit, TextTerm};
 
 /// The type of a function's argument, or else that of formulas.
 fn argument_type(alloc: Global, nf: &Nf) -> Result<Ty, AllocError>

@@ -8,9 +8,9 @@ ghost use Rattle.written_refutation.specs.TreeView.{the_head};
 ghost use Rattle.refute_check.specs.Numbered.{numbered_type, numbered_term};
 
 use crate::numbering::Numbering;
-use written_refutation::{TextHead, TextNode, TextTerm, TextTerms, TextTy};
 use std::alloc::{AllocError, Global};
 use stt_core::{Head, Nf, Nfs, Ty, Types};
+use written_refutation::{TextHead, TextNode, TextTerm, TextTerms, TextTy};
 
 /// The number in 32 bits. A list of more names than these can count is taken as one that doesn't fit in memory.
 fn fitting(n: usize) -> Result<u32, AllocError>

@@ -14,11 +14,11 @@ ghost use Rattle.refute_check.specs.Means.Shared.{declared_in, the_atoms, the_ro
 use crate::number_line::number_row;
 use crate::numbering::Numbering;
 use crate::shared::Shared;
-use written_refutation::TextTerm;
 use std::alloc::{AllocError, Global};
 use stt_core::Ty;
 use stt_tableau::{Why, WitnessRow, is_typed_row};
 use term_bank::{Id, equal_ids_for_equal_terms};
+use written_refutation::TextTerm;
 
 impl Shared {
     fn is_row(&self, alloc: Global, row: &WitnessRow) -> Result<bool, AllocError>
