@@ -1,23 +1,19 @@
 -- Branches as sets of numbers.
-use Rattle.std.proofs.Common.{◌≡◌, ℕ, suc, ◌+◌, Bool, true, false, ◌||◌, ◌&&◌, ◌==◌, List, [], ◌∷◌, ◌++◌, Option, Some, None, option_map, length, slice_get, take, Contains, refl, sym, ap, subst, ◌∙◌, append_assoc, ⊎_elim, if◌then◌else◌, arith}
+use Rattle.std.proofs.Common.{◌≡◌, ℕ, suc, Bool, true, false, ◌||◌, ◌&&◌, ◌==◌, List, [], ◌∷◌, ◌++◌, Option, Some, None, option_map, Contains, refl, sym, ap, subst, ◌∙◌, append_assoc, append-nil, ⊎_elim, if◌then◌else◌, arith}
 use Rattle.std.proofs.lemmas.Bool.{and_from, and_parts, or_left, or_right, eqb-true, eq-eqb}
 use Rattle.std.proofs.lemmas.List.Elements.{Contains-push, Contains-append_left, Contains-push_cases}
 use Rattle.stt_core.specs.Lambda.{Lambda}
 use Rattle.stt_core.specs.SameTerm.{same_term}
-use Rattle.stt_core.specs.Typing.{Scope}
-use Rattle.stt_core.proofs.ListLaws.{take_got}
-use Rattle.stt_core.proofs.SameTerms.{same_term-of}
-use Rattle.stt_tableau.specs.Literals.{Literal, plus, IsLiteral, IsBranch}
+use Rattle.stt_tableau.specs.Literals.{Literal}
 use Rattle.stt_tableau.specs.Start.{same_sign}
 use Rattle.stt_tableau.specs.declared.refutation.Line.{Line}
-use Rattle.stt_tableau.proofs.ListLaws.{untrue, contains-get}
-use Rattle.refute_check.specs.Means.TermNumbers.{number_in, KeepsNumbers}
-use Rattle.refute_check.specs.declared.term_numbers.TermNumbers.{TermNumbers}
-use Rattle.refute_check.specs.Means.Branches.{has, IsLiteralOf, Represents, AreNumbered, AreAtoms, Grow, AreBranches}
-use Rattle.refute_check.specs.declared.branch.Branch.{Branch}
-use Rattle.refute_check.proofs.NumberLaws.{number_in-at, number_in-append, or_length}
-use Rattle.refute_check.proofs.SetLaws.{or_split}
+use Rattle.stt_tableau.proofs.ListLaws.{untrue}
 use Rattle.stt_tableau.proofs.AddedLaws.{same_sign-true}
+use Rattle.refute_check.specs.Means.Numbers.{number_in}
+use Rattle.refute_check.specs.Means.Branches.{has, IsLiteralOf, Represents, AreNumbered, Grow, AreBranches}
+use Rattle.refute_check.specs.declared.branch.Branch.{Branch}
+use Rattle.refute_check.proofs.NumberLaws.{number_in-at}
+use Rattle.refute_check.proofs.SetLaws.{or_split}
 
 -- two terms with the same number are the same
 pub same_number : (terms : List Lambda) (t u : Lambda) (k : ℕ) → number_in terms t ≡ Some k → number_in terms u ≡ Some k → t ≡ u
@@ -33,26 +29,13 @@ number_in-grown (u ∷ ts) us t k h = go (λ j. number_in-grown ts us t j) (same
     go more false None e g = cc
     go more false (Some j) e g = ap (option_map (λ n. suc n)) (more j e) ∙ g
 
--- a term that is added last has its number
-pub number_in-last : (ts : List Lambda) (t : Lambda) → number_in ts t ≡ None → number_in (ts ++ t ∷ []) t ≡ Some (length ts)
-number_in-last ts t h =
-    number_in-append ts t t ∙ ap (λ o. or_length o (same_term t t) (length ts)) h ∙ ap (λ b. or_length None b (length ts)) (same_term-of t t refl)
+pub grow-itself : (a : List Lambda) → Grow a a
+grow-itself a = ([], sym (append-nil a))
 
 pub grow-more : (a b c : List Lambda) → Grow a b → Grow b c → Grow a c
 grow-more a b c h g = (h.0 ++ g.0, g.1 ∙ ap (λ l. l ++ g.0) h.1 ∙ append_assoc a h.0 g.0)
 
-pub atoms-more : (scope : Scope) (ts : List Lambda) (t : Lambda) → AreAtoms scope ts → IsLiteral scope (plus t) → AreAtoms scope (ts ++ t ∷ [])
-atoms-more scope ts t h g u c = ⊎_elim (h u) (λ same. subst (λ x. IsLiteral scope (plus x)) same g) (Contains-push_cases ts t u c)
-
-pub numbered_atom : (scope : Scope) (ts : List Lambda) (l : Literal) (k : ℕ) → AreAtoms scope ts → number_in ts l.atom ≡ Some k → IsLiteral scope l
-numbered_atom scope ts l k h g =
-    let is = h l.atom (contains-get ts k l.atom (number_in-at ts l.atom k g)) in
-    record { formula = is.formula; unsigned = is.unsigned }
-
 module _ (terms : List Lambda) where
-  pub numbered-more : (ls : List Literal) (l : Literal) (k : ℕ) → AreNumbered terms ls → number_in terms l.atom ≡ Some k → AreNumbered terms (ls ++ l ∷ [])
-  numbered-more ls l k h g m c = ⊎_elim (h m) (λ same. (k, ap (λ x. number_in terms x.atom) (sym same) ∙ g)) (Contains-push_cases ls l m c)
-
   pub represents-none : (b : Branch) → ((sign : Bool) (k : ℕ) → has b sign k ≡ false) → Represents terms [] b
   represents-none b h = record {
     sound = λ sign k e. absurd (untrue e (h sign k));
@@ -86,16 +69,6 @@ module _ (terms : List Lambda) where
         (Contains-push_cases ls l (record { positive = sign; atom = i.atom }) i.among);
   }
 
-  -- one literal more, whose atom has none
-  pub represents-unknown : (ls : List Literal) (b : Branch) (l : Literal) → Represents terms ls b → number_in terms l.atom ≡ None → Represents terms (ls ++ l ∷ []) b
-  represents-unknown ls b l h g = record {
-    sound = λ sign k i. literal_in-more ls l sign k (h.sound sign k i);
-    whole = λ sign k i. ⊎_elim
-        (λ c. h.whole sign k (record { atom = i.atom; numbered = i.numbered; among = c }))
-        (λ same. let bad : None ≡ Some k = sym g ∙ ap (λ x. number_in terms x.atom) same ∙ i.numbered in cc)
-        (Contains-push_cases ls l (record { positive = sign; atom = i.atom }) i.among);
-  }
-
 -- more terms
 pub numbered-grown : (ts us : List Lambda) (ls : List Literal) → AreNumbered ts ls → AreNumbered (ts ++ us) ls
 numbered-grown ts us ls h l c = let n = h l c in (n.0, number_in-grown ts us l.atom n.0 n.1)
@@ -117,38 +90,6 @@ branches-grown ts us (line ∷ lines) [] h = absurd h
 branches-grown ts us (line ∷ lines) (b ∷ bs) h =
     (numbered-grown ts us line.branch h.0, represents-grown ts us line.branch b h.0 h.1, branches-grown ts us lines bs h.2)
 
--- the literals that are numbered so far
-pub record IsNumberedTo (scope : Scope) (before : List Lambda) (atoms : TermNumbers) (done : List Literal) (b : Branch) : Type 0 where
-  pub keeps : KeepsNumbers atoms
-  pub typed : AreAtoms scope atoms.terms
-  pub grow : Grow before atoms.terms
-  pub branch : IsBranch scope done
-  pub numbered : AreNumbered atoms.terms done
-  pub represents : Represents atoms.terms done b
-
-branch-append : (scope : Scope) (ls : List Literal) (l : Literal) → IsBranch scope ls → IsLiteral scope l → IsBranch scope (ls ++ l ∷ [])
-branch-append scope [] l h g = (g, tt)
-branch-append scope (k ∷ ls) l h g = (h.0, branch-append scope ls l h.1 g)
-
--- one literal more is numbered
-pub numbered_to-more : (scope : Scope) (before : List Lambda) (atoms after : TermNumbers) (branch : List Literal) (i : ℕ) (b new : Branch) (l : Literal) (sign : Bool) (n : ℕ)
-    → slice_get branch i ≡ Some l → IsNumberedTo scope before atoms (take i branch) b → KeepsNumbers after → AreAtoms scope after.terms → Grow atoms.terms after.terms
-    → IsLiteral scope l × (number_in after.terms l.atom ≡ Some n) → sign ≡ l.positive → ((s : Bool) (k : ℕ) → has new s k ≡ (has b s k || (same_sign sign s && n == k)))
-    → IsNumberedTo scope before after (take (i + 1) branch) new
-numbered_to-more scope before atoms after branch i b new l sign n at h keeps typed grow is signs e =
-    let done = take i branch in
-    let grown : Represents after.terms done b = subst (λ ts. Represents ts done b) (sym grow.1) (represents-grown atoms.terms grow.0 done b h.numbered h.represents) in
-    let numbered : AreNumbered after.terms done = subst (λ ts. AreNumbered ts done) (sym grow.1) (numbered-grown atoms.terms grow.0 done h.numbered) in
-    subst (λ ls. IsNumberedTo scope before after ls new) (sym (take_got branch i l at))
-    (record {
-      keeps = keeps;
-      typed = typed;
-      grow = grow-more before atoms.terms after.terms h.grow grow;
-      branch = branch-append scope done l h.branch is.0;
-      numbered = numbered-more after.terms done l n numbered is.1;
-      represents = represents-more after.terms done b new l n grown is.1 (λ s k. e s k ∙ ap (λ x. has b s k || (same_sign x s && n == k)) signs);
-    })
-
 pub branches-append : (ts : List Lambda) (lines : List Line) (bs : List Branch) (line : Line) (b : Branch) → AreBranches ts lines bs → AreNumbered ts line.branch → Represents ts line.branch b → AreBranches ts (lines ++ line ∷ []) (bs ++ b ∷ [])
 branches-append ts [] [] line b h n r = (n, r, tt)
 branches-append ts [] (c ∷ bs) line b h n r = absurd h
@@ -157,3 +98,9 @@ branches-append ts (l ∷ lines) (c ∷ bs) line b h n r = (h.0, h.1, branches-a
 
 pub branches-grow : (ts us : List Lambda) (lines : List Line) (bs : List Branch) → Grow ts us → AreBranches ts lines bs → AreBranches us lines bs
 branches-grow ts us lines bs g h = subst (λ vs. AreBranches vs lines bs) (sym g.1) (branches-grown ts g.0 lines bs h)
+
+pub numbered-grow : (ts us : List Lambda) (ls : List Literal) → Grow ts us → AreNumbered ts ls → AreNumbered us ls
+numbered-grow ts us ls g h = subst (λ vs. AreNumbered vs ls) (sym g.1) (numbered-grown ts g.0 ls h)
+
+pub represents-grow : (ts us : List Lambda) (ls : List Literal) (b : Branch) → Grow ts us → AreNumbered ts ls → Represents ts ls b → Represents us ls b
+represents-grow ts us ls b g n h = subst (λ vs. Represents vs ls b) (sym g.1) (represents-grown ts g.0 ls b n h)

@@ -1,10 +1,6 @@
 -- The check of a whole text.
-use Rattle.std.proofs.Common.{◌≡◌, ◌≤◌, ◌+◌, ℕ, List, [], ◌∷◌, Option, map, length, Some, None, ap, subst, length-append, arith}
-use Rattle.std.specs.Option.{IfNone}
-use Rattle.stt_core.specs.SimpleType.{SimpleType}
+use Rattle.std.proofs.Common.{◌≡◌, ◌≤◌, ◌+◌, ℕ, List, [], ◌∷◌, Option, length, Result, Ok, Err, OnOk, IfErr, ap, subst, length-append, arith}
 use Rattle.stt_core.specs.Typing.{Scope}
-use Rattle.stt_core.specs.ScopeView.{the_scope}
-use Rattle.stt_core.specs.declared.signature.Signature.{Signature}
 use Rattle.stt_tableau.specs.Literals.{Literal}
 use Rattle.stt_tableau.specs.Witnesses.{Row, with_rows}
 use Rattle.stt_tableau.specs.Means.Answers.{LineAnswer}
@@ -12,13 +8,19 @@ use Rattle.stt_tableau.specs.Accepted.{FirstFailure, at_row, at_line, at_last, n
 use Rattle.stt_tableau.specs.declared.refutation.Line.{Line}
 use Rattle.stt_tableau.specs.declared.refutation.Refutation.{Refutation}
 use Rattle.stt_tableau.specs.declared.refutation.Why.{Why}
-use Rattle.stt_tableau.proofs.FailureLaws.{over_rows}
+use Rattle.stt_tableau.specs.declared.accepts.PlainRefused.{PlainRefused}
+use Rattle.stt_tableau.specs.declared.accepts.PlainRefused.TheVariants.{Refused, Memory}
+use Rattle.stt_tableau.specs.Refused.{IfRefused}
+use Rattle.refute_check.specs.declared.shared.Shared.{Shared}
+use Rattle.refute_check.specs.Means.Shared.{scope_in, declared_in, the_rows, IsGood}
+use Rattle.refute_check.proofs.SharedLaws.{scope_rows}
 
 -- a line's answer over the witnesses of the table
-pub answer_over : (sig : Signature) (types : List SimpleType) (rows whole : List Row) → types ≡ map (λ r. r.type) rows → rows ≡ whole → (earlier : List Line) (line : Line) (why : Option Why) → LineAnswer (the_scope sig types) rows earlier line why → LineAnswer (with_rows (the_scope sig []) whole) whole earlier line why
-answer_over sig types rows whole types_are rows_are earlier line why h =
-    subst (λ rs. LineAnswer (with_rows (the_scope sig []) rs) rs earlier line why) rows_are
-    (over_rows (λ s. LineAnswer s rows earlier line why) sig types rows types_are h)
+pub answer_over : (s : Shared) → IsGood s → (scope : Scope) → declared_in s ≡ scope → (rows : List Row) → the_rows s ≡ rows → (earlier : List Line) (line : Line) (why : Option Why) → LineAnswer (scope_in s) (the_rows s) earlier line why → LineAnswer (with_rows scope rows) rows earlier line why
+answer_over s good scope declared rows are earlier line why h =
+    subst (λ x. LineAnswer (with_rows x rows) rows earlier line why) declared
+    (subst (λ rs. LineAnswer (with_rows (declared_in s) rs) rs earlier line why) are
+    (subst (λ x. LineAnswer x (the_rows s) earlier line why) (scope_rows s good) h))
 
 -- the place of a failure is none behind the last line
 pub failure_below : (scope : Scope) (start : List Literal) (r : Refutation) (place : ℕ) (why : Why) → FirstFailure scope start r place why → place ≤ length r.witnesses + length r.lines
@@ -27,6 +29,15 @@ failure_below scope start r _ _ (at_line front back line why table is right fail
 failure_below scope start r _ _ (at_last front line table is right outside) = omega (arith, ap length is, length-append front (line ∷ []))
 failure_below scope start r _ _ (no_line table none) = omega arith
 
-pub if_none : {A : Type 0} {P : Type 0} (o : Option A) → IfNone o P → o ≡ None → P
-if_none None h e = h
-if_none (Some x) h e = let bad : ⊥ = cc in absurd bad
+-- what is said of a refusal's place and its word
+pub at_place : (e : PlainRefused) (P Q : ℕ → Why → Type 0) → ((place : ℕ) (why : Why) → P place why → Q place why) → IfRefused e P → IfRefused e Q
+at_place (Refused place why) P Q f h = f place why h
+at_place Memory P Q f h = tt
+
+pub if_place : (r : Result (Unit {0}) PlainRefused) (P Q : ℕ → Why → Type 0) → ((place : ℕ) (why : Why) → P place why → Q place why) → IfErr r (λ e. IfRefused e P) → IfErr r (λ e. IfRefused e Q)
+if_place (Ok u) P Q f h = tt
+if_place (Err e) P Q f h = at_place e P Q f h
+
+pub if_ok : {P Q : Type 0} (r : Result (Unit {0}) PlainRefused) → (P → Q) → OnOk r P → OnOk r Q
+if_ok (Ok u) f h = f h
+if_ok (Err e) f h = tt

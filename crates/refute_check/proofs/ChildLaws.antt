@@ -7,7 +7,7 @@ use Rattle.stt_tableau.specs.Literals.{Literal, opposite}
 use Rattle.stt_tableau.specs.Accepted.{Within, IsClosed}
 use Rattle.stt_tableau.specs.declared.refutation.Line.{Line}
 use Rattle.stt_tableau.proofs.ListLaws.{contains-within, within-each}
-use Rattle.refute_check.specs.Means.TermNumbers.{number_in}
+use Rattle.refute_check.specs.Means.Numbers.{number_in}
 use Rattle.refute_check.specs.Means.Branches.{has, IsLiteralOf, Represents, AreNumbered, AreBranches}
 use Rattle.refute_check.specs.declared.branch.Branch.{Branch}
 use Rattle.refute_check.proofs.BranchLaws.{same_number}

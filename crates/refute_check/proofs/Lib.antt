@@ -1,12 +1,14 @@
-mod Keys
 mod NumberLaws
 mod SetLaws
 mod BranchLaws
 mod ChildLaws
-mod WitnessNumbers
+mod SharedLaws
+mod RowLaws
+mod TakingLaws
+mod InstanceLaws
 pub mod StartLaws
 mod CheckLaws
-pub mod LineLaws
+mod LineAnswers
 pub mod PlaceLaws
 pub mod TermLaws
 mod DefinitionLaws

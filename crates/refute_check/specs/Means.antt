@@ -1,7 +1,7 @@
 -- Means of proof: what private contracts and proofs speak of.
 pub mod Places
-pub mod Keys
-pub mod TermNumbers
+pub mod Shared
+pub mod Numbers
 pub mod Branches
-pub mod Witnesses
 pub mod Lines
+pub mod Taking

@@ -1,7 +1,8 @@
 //! Whether the text of a refutation is accepted for a problem.
 
-ghost use Rattle.std.specs.Prelude.{◌≡◌, ◌+◌, ◌^◌, ◌<◌, ◌++◌, [], ◌∷◌, None, List, length, map, OnOk, IfOk, IfErr};
+ghost use Rattle.std.specs.Prelude.{◌≡◌, ◌+◌, ◌^◌, ◌<◌, [], List, length, OnOk, IfOk, IfErr};
 ghost use Rattle.stt_core.specs.Typing.{Scope};
+ghost use Rattle.stt_core.specs.Lambda.{Lambda};
 ghost use Rattle.stt_core.specs.ScopeView.{the_scope};
 ghost use Rattle.stt_core.specs.TypedProblem.{IsTyped};
 ghost use Rattle.stt_core.specs.Declarations.{scope_of};
@@ -10,100 +11,72 @@ ghost use Rattle.stt_tableau.specs.Witnesses.{IsTable};
 ghost use Rattle.stt_tableau.specs.Start.{start};
 ghost use Rattle.stt_tableau.specs.Accepted.{EndsWithin, IsAccepted, FirstFailure};
 ghost use Rattle.stt_tableau.specs.Refused.{IfRefused};
-ghost use Rattle.stt_tableau.specs.Means.Answers.{LineAnswer};
-ghost use Rattle.stt_tableau.specs.declared.refutation.Line.{Line};
-ghost use Rattle.written_refutation.specs.TextView.{the_line, the_text, IsNumbered};
+ghost use Rattle.written_refutation.specs.TextView.{the_text, IsNumbered};
 ghost use Rattle.written_refutation.specs.Named.{names_of};
-ghost use Rattle.refute_check.specs.Numbered.{numbered_line, numbered_refutation};
+ghost use Rattle.refute_check.specs.Numbered.{numbered_refutation};
 ghost use Rattle.refute_check.specs.Refusal.{IfLine, FailsAt};
 ghost use Rattle.refute_check.specs.Acceptance.{IsAcceptedFor, TextFailsAt};
-ghost use Rattle.refute_check.specs.Means.TermNumbers.{KeepsNumbers};
-ghost use Rattle.refute_check.specs.Means.Branches.{AreBranches};
-ghost use Rattle.refute_check.specs.Means.Witnesses.{KeepsRows};
-ghost use Rattle.refute_check.specs.Means.Lines.{KeepsLines, AreRightIn};
+ghost use Rattle.refute_check.specs.Means.Shared.{declared_in, the_atoms, the_rows, IsGood};
+ghost use Rattle.refute_check.specs.Means.Branches.{Represents, AreNumbered, Grow, AreBranches};
+ghost use Rattle.refute_check.specs.Means.Lines.{AreRightIn};
 
+use crate::branch::Branch;
 use crate::definitions::check_definitions;
 use crate::lines::RightLines;
-use crate::number_line::{number_line, number_row};
 use crate::numbering::Numbering;
 use crate::refusal::CheckRefused;
-use crate::start::start_branch;
-use crate::witnesses::Witnesses;
+use crate::shared::Shared;
+use crate::start::begin;
 use delta_defs::unfold_problem;
 use std::alloc::{AllocError, Global};
 use stt_core::{Problem, Signature};
 use stt_tableau::{PlainRefused, Why};
-use written_refutation::{RefutationText, TextLine};
+use written_refutation::RefutationText;
 
-/// The rows of the text, where they are a witness table.
+/// Declares the witnesses of the text's rows, where these are a witness table.
 fn check_rows(
     alloc: Global,
-    sig: &Signature,
+    shared: &mut Shared,
     numbering: &Numbering<'_>,
     text: &RefutationText,
-) -> Result<Witnesses, PlainRefused>
-    ensures rows { IfOk result (λ w. w.rows ≡ (numbered_refutation numbering.now (the_text text.now)).witnesses) }
-    ensures keeps { IfOk result KeepsRows }
-    ensures table { OnOk result (IsTable (the_scope sig.now []) (numbered_refutation numbering.now (the_text text.now)).witnesses) }
-    ensures refused { IfErr result (λ e. IfRefused e (λ place why. (start : List Literal) → FirstFailure (the_scope sig.now []) start (numbered_refutation numbering.now (the_text text.now)) place why)) }
+) -> Result<(), PlainRefused>
+    requires good { IsGood shared.old }
+    requires none { the_rows shared.old ≡ [] }
+    ensures rows { OnOk result (the_rows shared.new ≡ (numbered_refutation numbering.now (the_text text.now)).witnesses) }
+    ensures table { OnOk result (IsTable (declared_in shared.old) (numbered_refutation numbering.now (the_text text.now)).witnesses) }
+    ensures atoms { OnOk result (Grow (the_atoms shared.old) (the_atoms shared.new)) }
+    ensures declared { OnOk result (declared_in shared.new ≡ declared_in shared.old) }
+    ensures good { OnOk result (IsGood shared.new) }
+    ensures refused { IfErr result (λ e. IfRefused e (λ place why. (start : List Literal) → FirstFailure (declared_in shared.old) start (numbered_refutation numbering.now (the_text text.now)) place why)) }
 {
-    let mut witnesses = Witnesses::new(alloc);
     for i in 0..text.witnesses.len() {
-        let row = number_row(alloc, numbering, text.witnesses.at(i))?;
-        if let Some(why) = witnesses.failure(alloc, sig, &row)? {
+        if let Some(why) = shared.add_row(alloc, numbering, text.witnesses.at(i))? {
             return Err(PlainRefused::Refused { line: i, why });
         }
-        witnesses.push(alloc, row)?;
     }
-    Ok(witnesses)
+    Ok(())
 }
 
-/// Adds a line of the text to those that are right, or answers why it fails.
-fn check_line(
-    alloc: Global,
-    sig: &Signature,
-    numbering: &Numbering<'_>,
-    witnesses: &Witnesses,
-    lines: &mut RightLines,
-    text: &TextLine,
-) -> Result<Option<Why>, AllocError>
-    requires rows { KeepsRows witnesses.now }
-    requires table { IsTable (the_scope sig.now []) witnesses.now.rows }
-    requires keeps { KeepsLines (the_scope sig.now witnesses.now.types) lines.old }
-    ensures answer { IfOk result (λ why. (earlier : List Line) → AreBranches lines.old.atoms.terms earlier lines.old.branches.items
-        → LineAnswer (the_scope sig.now witnesses.now.types) witnesses.now.rows earlier (numbered_line numbering.now (the_line text.now)) why) }
-    ensures added { IfOk result (λ why. why ≡ None → (earlier : List Line) → AreBranches lines.old.atoms.terms earlier lines.old.branches.items
-        → AreBranches lines.new.atoms.terms (earlier ++ numbered_line numbering.now (the_line text.now) ∷ []) lines.new.branches.items) }
-    ensures keeps { OnOk result (KeepsLines (the_scope sig.now witnesses.now.types) lines.new) }
-{
-    match number_line(alloc, numbering, text)? {
-        Some(line) => Ok(lines.add(alloc, sig, witnesses, &line)?),
-        None => Ok(Some(Why::Typing)),
-    }
-}
-
-/// The lines of the text by numbers, where they are right.
+/// The branches of the text's lines by numbers, where the lines are right.
 fn check_lines(
     alloc: Global,
-    sig: &Signature,
+    shared: &mut Shared,
     numbering: &Numbering<'_>,
-    witnesses: &Witnesses,
     text: &RefutationText,
 ) -> Result<RightLines, PlainRefused>
-    requires rows { witnesses.now.rows ≡ (numbered_refutation numbering.now (the_text text.now)).witnesses }
-    requires keeps { KeepsRows witnesses.now }
-    requires table { IsTable (the_scope sig.now []) (numbered_refutation numbering.now (the_text text.now)).witnesses }
+    requires good { IsGood shared.old }
+    requires rows { the_rows shared.old ≡ (numbered_refutation numbering.now (the_text text.now)).witnesses }
+    requires table { IsTable (declared_in shared.old) (numbered_refutation numbering.now (the_text text.now)).witnesses }
     requires room { length text.now.witnesses + length text.now.lines < 2 ^ 64 }
-    ensures right { OnOk result (AreRightIn (the_scope sig.now []) (numbered_refutation numbering.now (the_text text.now))) }
-    ensures branches { IfOk result (λ ls. AreBranches ls.atoms.terms (numbered_refutation numbering.now (the_text text.now)).lines ls.branches.items) }
-    ensures numbers { IfOk result (λ ls. KeepsNumbers ls.atoms) }
-    ensures refused { IfErr result (λ e. IfRefused e (λ place why. (start : List Literal) → FirstFailure (the_scope sig.now []) start (numbered_refutation numbering.now (the_text text.now)) place why)) }
+    ensures right { OnOk result (AreRightIn (declared_in shared.old) (numbered_refutation numbering.now (the_text text.now))) }
+    ensures branches { IfOk result (λ ls. AreBranches (the_atoms shared.new) (numbered_refutation numbering.now (the_text text.now)).lines ls.branches.items) }
+    ensures atoms { OnOk result (Grow (the_atoms shared.old) (the_atoms shared.new)) }
+    ensures refused { IfErr result (λ e. IfRefused e (λ place why. (start : List Literal) → FirstFailure (declared_in shared.old) start (numbered_refutation numbering.now (the_text text.now)) place why)) }
 {
     let rows = text.witnesses.len();
     let mut lines = RightLines::new(alloc);
     for i in 0..text.lines.len() {
-        let line = text.lines.at(i);
-        if let Some(why) = check_line(alloc, sig, numbering, witnesses, &mut lines, line)? {
+        if let Some(why) = lines.add(alloc, shared, numbering, text.lines.at(i))? {
             return Err(PlainRefused::Refused {
                 line: rows + i,
                 why,
@@ -115,20 +88,20 @@ fn check_lines(
 
 /// Whether the last line's branch is within the start.
 fn check_last(
-    alloc: Global,
-    problem: &Problem,
     numbering: &Numbering<'_>,
     lines: &RightLines,
+    start: &Branch,
     text: &RefutationText,
 ) -> Result<(), PlainRefused>
-    requires problem { IsTyped problem.now }
-    requires branches { AreBranches lines.now.atoms.terms (numbered_refutation numbering.now (the_text text.now)).lines lines.now.branches.items }
-    requires numbers { KeepsNumbers lines.now.atoms }
     requires room { length text.now.witnesses + length text.now.lines < 2 ^ 64 }
-    ensures last { OnOk result (EndsWithin (start problem.now) (numbered_refutation numbering.now (the_text text.now)).lines) }
-    ensures refused { IfErr result (λ e. IfRefused e (λ place why. (scope : Scope) → IsTable scope (numbered_refutation numbering.now (the_text text.now)).witnesses
+    ensures last { OnOk result ((terms : List Lambda) (ls : List Literal)
+        → AreBranches terms (numbered_refutation numbering.now (the_text text.now)).lines lines.now.branches.items → Represents terms ls start.now
+        → EndsWithin ls (numbered_refutation numbering.now (the_text text.now)).lines) }
+    ensures refused { IfErr result (λ e. IfRefused e (λ place why. (terms : List Lambda) (ls : List Literal)
+        → AreBranches terms (numbered_refutation numbering.now (the_text text.now)).lines lines.now.branches.items → Represents terms ls start.now
+        → (scope : Scope) → IsTable scope (numbered_refutation numbering.now (the_text text.now)).witnesses
         → AreRightIn scope (numbered_refutation numbering.now (the_text text.now))
-        → FirstFailure scope (start problem.now) (numbered_refutation numbering.now (the_text text.now)) place why)) }
+        → FirstFailure scope ls (numbered_refutation numbering.now (the_text text.now)) place why)) }
 {
     let rows = text.witnesses.len();
     let count = text.lines.len();
@@ -138,8 +111,7 @@ fn check_last(
             why: Why::Last,
         });
     }
-    let start = start_branch(alloc, problem, &lines.atoms)?;
-    if lines.is_within(count - 1, &start) {
+    if lines.is_within(count - 1, start) {
         Ok(())
     } else {
         Err(PlainRefused::Refused {
@@ -149,7 +121,28 @@ fn check_last(
     }
 }
 
-/// Whether the text is accepted for the start of the problem, over the signature.
+/// Whether the text is accepted for these literals.
+fn check_from(
+    alloc: Global,
+    shared: &mut Shared,
+    numbering: &Numbering<'_>,
+    start: &Branch,
+    text: &RefutationText,
+) -> Result<(), PlainRefused>
+    requires good { IsGood shared.old }
+    requires none { the_rows shared.old ≡ [] }
+    requires room { length text.now.witnesses + length text.now.lines < 2 ^ 64 }
+    ensures accepted { OnOk result ((ls : List Literal) → Represents (the_atoms shared.old) ls start.now → AreNumbered (the_atoms shared.old) ls
+        → IsAccepted (declared_in shared.old) ls (numbered_refutation numbering.now (the_text text.now))) }
+    ensures refused { IfErr result (λ e. IfRefused e (λ place why. (ls : List Literal) → Represents (the_atoms shared.old) ls start.now → AreNumbered (the_atoms shared.old) ls
+        → FirstFailure (declared_in shared.old) ls (numbered_refutation numbering.now (the_text text.now)) place why)) }
+{
+    check_rows(alloc, shared, numbering, text)?;
+    let lines = check_lines(alloc, shared, numbering, text)?;
+    check_last(numbering, &lines, start, text)
+}
+
+/// Whether the text is accepted for the start of the problem, over its signature.
 fn check_over(
     alloc: Global,
     sig: &Signature,
@@ -157,6 +150,7 @@ fn check_over(
     text: &RefutationText,
 ) -> Result<(), PlainRefused>
     requires problem { IsTyped problem.now }
+    requires own { the_scope sig.now [] ≡ scope_of problem.now.declared }
     requires room { length text.now.witnesses + length text.now.lines < 2 ^ 64 }
     ensures accepted { OnOk result (IsAccepted (the_scope sig.now []) (start problem.now)
         (numbered_refutation (names_of sig.now.bases sig.now.consts) (the_text text.now))) }
@@ -164,10 +158,14 @@ fn check_over(
         (numbered_refutation (names_of sig.now.bases sig.now.consts) (the_text text.now)))) }
 {
     let numbering = Numbering::new(alloc, sig)?;
-    let witnesses = check_rows(alloc, sig, &numbering, text)?;
-    let lines = check_lines(alloc, sig, &numbering, &witnesses, text)?;
-    check_last(alloc, problem, &numbering, &lines, text)?;
-    Ok(())
+    let mut beginning = begin(alloc, sig, problem)?;
+    check_from(
+        alloc,
+        &mut beginning.shared,
+        &numbering,
+        &beginning.start,
+        text,
+    )
 }
 
 /// Whether the text is accepted, or the place of its first failure: its rows count from 0, and then its lines.

@@ -1,18 +1,19 @@
 //! Whether the children of a line close its alternatives.
 
-ghost use Rattle.std.specs.Prelude.{◌≡◌, ◌↔◌, ◌++◌, List, IfOk, IsTrue, option_copied, slice_get};
+ghost use Rattle.std.specs.Prelude.{◌≡◌, ◌↔◌, ◌++◌, List, map, IfOk, IsTrue, option_copied, slice_get};
 ghost use Rattle.stt_tableau.specs.Literals.{Literal};
 ghost use Rattle.stt_core.specs.Lambda.{Lambda};
 ghost use Rattle.stt_tableau.specs.Accepted.{IsClosed, ClosesBy, AreChildren};
 ghost use Rattle.stt_tableau.specs.declared.refutation.Line.{Line};
-ghost use Rattle.refute_check.specs.Means.TermNumbers.{KeepsNumbers};
+ghost use Rattle.search_run.specs.Each.{Each};
 ghost use Rattle.refute_check.specs.Means.Branches.{Represents, AreNumbered, AreBranches};
+ghost use Rattle.refute_check.specs.Means.Shared.{the_atoms, literal_in, IsGood, IsNumber};
 
 use crate::branch::Branch;
-use crate::number_branch::known_literals;
-use crate::term_numbers::TermNumbers;
+use crate::shared::Shared;
+use literal_map::LitLists;
 use std::alloc::{AllocError, Global};
-use stt_tableau::{Alternatives, Child, Children, Lits};
+use stt_tableau::{Child, Children};
 
 /// The branch of a line.
 pub(crate) fn branch_at(earlier: &[Branch], j: usize) -> Option<&Branch>
@@ -45,11 +46,11 @@ fn closes_by(
 }
 
 /// Whether the branch with the alternative has a literal and its negation.
-fn is_closed_with(own_is_closed: bool, own: &Branch, known: &Branch, alternative: &Lits) -> bool
-    ensures { (terms : List Lambda) (branch : List Literal)
-        → AreNumbered terms branch → Represents terms branch own.now → Represents terms alternative.now known.now
+fn is_closed_with(own_is_closed: bool, own: &Branch, known: &Branch) -> bool
+    ensures { (terms : List Lambda) (alternative branch : List Literal)
+        → AreNumbered terms branch → Represents terms branch own.now → AreNumbered terms alternative → Represents terms alternative known.now
         → (IsTrue own_is_closed ↔ IsClosed branch)
-        → IsTrue result ↔ IsClosed (alternative.now ++ branch) }
+        → IsTrue result ↔ IsClosed (alternative ++ branch) }
 {
     if own_is_closed {
         return true;
@@ -57,31 +58,31 @@ fn is_closed_with(own_is_closed: bool, own: &Branch, known: &Branch, alternative
     if known.clashes(own) {
         return true;
     }
-    alternative.is_closed()
+    known.clashes(known)
 }
 
 /// Whether there is a child for each alternative, and it closes the branch with that.
 pub(crate) fn are_children(
     alloc: Global,
-    atoms: &TermNumbers,
+    shared: &Shared,
     earlier: &[Branch],
     own: &Branch,
-    alternatives: &Alternatives,
+    alternatives: &LitLists,
     children: &Children,
 ) -> Result<bool, AllocError>
-    requires { KeepsNumbers atoms.now }
+    requires good { IsGood shared.now }
+    requires numbers { Each (Each (IsNumber shared.now)) alternatives.now }
     ensures { IfOk result (λ b. (lines : List Line) (branch : List Literal)
-        → AreBranches atoms.now.terms lines earlier.now → AreNumbered atoms.now.terms branch → Represents atoms.now.terms branch own.now
-        → IsTrue b ↔ AreChildren lines branch alternatives.now children.now) }
+        → AreBranches (the_atoms shared.now) lines earlier.now → AreNumbered (the_atoms shared.now) branch → Represents (the_atoms shared.now) branch own.now
+        → IsTrue b ↔ AreChildren lines branch (map (map (literal_in shared.now)) alternatives.now) children.now) }
 {
     if alternatives.len() != children.len() {
         return Ok(false);
     }
     let own_is_closed = own.clashes(own);
     for i in 0..alternatives.len() {
-        let alternative = alternatives.at(i);
-        let known = known_literals(alloc, atoms, alternative)?;
-        let is_closed = is_closed_with(own_is_closed, own, &known, alternative);
+        let known = shared.set_of(alloc, alternatives.at(i))?;
+        let is_closed = is_closed_with(own_is_closed, own, &known);
         if !closes_by(earlier, own, &known, is_closed, children.at(i)) {
             return Ok(false);
         }

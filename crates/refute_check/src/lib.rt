@@ -1,21 +1,22 @@
-//! The check of refutations' texts, by ordered maps.
+//! The check of refutations' texts, over shared terms.
 #![tactic(auto)]
 
 mod branch;
 mod check;
 mod children;
 mod definitions;
-mod key;
+mod instance;
+mod known;
 mod law;
 mod lines;
-mod number_branch;
 mod number_line;
 mod number_term;
 mod numbering;
 mod refusal;
+mod rows;
+mod shared;
 mod start;
-mod term_numbers;
-mod witnesses;
+mod taking;
 
 pub use check::check_refutation;
 pub use law::{accepted_texts_refute, one_refusal, unfolded_start};

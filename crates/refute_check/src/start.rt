@@ -1,74 +1,98 @@
 //! The literals that a problem starts from.
 
-ghost use Rattle.std.specs.Prelude.{◌≡◌, ◌++◌, [], ◌∷◌, List, map, IfOk, OnOk};
+ghost use Rattle.std.specs.Prelude.{◌≡◌, [], map, IfOk, OnOk};
+ghost use Rattle.stt_core.specs.View.{the_term};
 ghost use Rattle.stt_core.specs.ScopeView.{the_scope};
 ghost use Rattle.stt_core.specs.Typing.{IsScope};
-ghost use Rattle.stt_core.specs.TypedProblem.{AreFormulas, IsTyped};
-ghost use Rattle.stt_tableau.specs.Literals.{Literal};
+ghost use Rattle.stt_core.specs.TypedProblem.{IsFormula, AreFormulas, IsTyped};
+ghost use Rattle.stt_core.specs.Declarations.{scope_of};
 ghost use Rattle.stt_tableau.specs.Start.{normal_literal, start};
-ghost use Rattle.refute_check.specs.Means.TermNumbers.{KeepsNumbers};
-ghost use Rattle.refute_check.specs.Means.Branches.{Represents};
+ghost use Rattle.refute_check.specs.Means.Branches.{Represents, AreNumbered};
+ghost use Rattle.refute_check.specs.Means.Shared.{scope_in, declared_in, the_atoms, the_rows, literal_in, IsGood, IsNumber, Extends, AreNumbersOf};
 
 use crate::branch::Branch;
-use crate::term_numbers::TermNumbers;
+use crate::shared::Shared;
+use literal_map::LitList;
+use sat_base::SatLit;
 use std::alloc::{AllocError, Global};
-use stt_core::{Problem, Signature, Terms};
-use stt_tableau::{Lit, formula_literal};
+use stt_core::{Problem, Signature, Term, Terms};
 
-/// Adds the literal, where its atom has a number.
-fn add_known(
-    alloc: Global,
-    atoms: &TermNumbers,
-    known: &mut Branch,
-    lit: &Lit,
-) -> Result<(), AllocError>
-    requires { KeepsNumbers atoms.now }
-    ensures { OnOk result ((ls : List Literal) → Represents atoms.now.terms ls known.old → Represents atoms.now.terms (ls ++ lit.now ∷ []) known.new) }
-{
-    if let Some(n) = atoms.find(alloc, &lit.atom)? {
-        known.insert(lit.positive, n)?;
-    }
-    Ok(())
+/// The terms of a problem's start, and its literals as a set.
+#[derive(Drop)]
+pub(crate) struct Beginning {
+    pub shared: Shared,
+    pub start: Branch,
 }
 
-/// The literals of the assumed formulas whose atoms have numbers.
-fn assumed_branch(
+/// The start of a problem over its signature.
+pub(crate) fn begin(
     alloc: Global,
     sig: &Signature,
-    atoms: &TermNumbers,
-    assumed: &Terms,
-) -> Result<Branch, AllocError>
-    requires keeps { KeepsNumbers atoms.now }
-    requires scope { IsScope (the_scope sig.now []) }
-    requires assumed { AreFormulas (the_scope sig.now []) assumed.now }
-    ensures { IfOk result (Represents atoms.now.terms (map (normal_literal (the_scope sig.now [])) assumed.now)) }
+    problem: &Problem,
+) -> Result<Beginning, AllocError>
+    requires problem { IsTyped problem.now }
+    requires own { the_scope sig.now [] ≡ scope_of problem.now.declared }
+    ensures set { IfOk result (λ b. Represents (the_atoms b.shared) (start problem.now) b.start) }
+    ensures numbered { IfOk result (λ b. AreNumbered (the_atoms b.shared) (start problem.now)) }
+    ensures rows { IfOk result (λ b. the_rows b.shared ≡ []) }
+    ensures declared { IfOk result (λ b. declared_in b.shared ≡ the_scope sig.now []) }
+    ensures good { IfOk result (λ b. IsGood b.shared) }
 {
-    let mut known = Branch::new(alloc);
-    for i in 0..assumed.len() {
-        let lit = formula_literal(alloc, sig, assumed.at(i))?;
-        add_known(alloc, atoms, &mut known, &lit)?;
-    }
-    Ok(known)
+    let mut shared = Shared::new(alloc, sig)?;
+    let start = shared.start(alloc, problem)?;
+    Ok(Beginning { shared, start })
 }
 
-/// The literals of the start whose atoms have numbers.
-pub(crate) fn start_branch(
-    alloc: Global,
-    problem: &Problem,
-    atoms: &TermNumbers,
-) -> Result<Branch, AllocError>
-    requires keeps { KeepsNumbers atoms.now }
-    requires problem { IsTyped problem.now }
-    ensures { IfOk result (Represents atoms.now.terms (start problem.now)) }
-{
-    let sig = &problem.signature;
-    let mut known = assumed_branch(alloc, sig, atoms, &problem.assumed)?;
-    match &problem.conjecture {
-        None => Ok(known),
-        Some(conjecture) => {
-            let denied = formula_literal(alloc, sig, conjecture)?.opposite();
-            add_known(alloc, atoms, &mut known, &denied)?;
-            Ok(known)
+impl Shared {
+    /// The number of the literal of a formula's normal form.
+    fn formula(&mut self, formula: &Term) -> Result<SatLit, AllocError>
+        requires good { IsGood self.old }
+        requires scope { IsScope (scope_in self.old) }
+        requires formula { IsFormula (scope_in self.old) (the_term formula.now) }
+        ensures number { IfOk result (IsNumber self.new) }
+        ensures literal { IfOk result (λ n. literal_in self.new n ≡ normal_literal (scope_in self.old) (the_term formula.now)) }
+        ensures extends { OnOk result (Extends self.old self.new) }
+        ensures good { OnOk result (IsGood self.new) }
+    {
+        let id = self.normal.normalise(&mut self.bank, formula)?;
+        Ok(self.lits.lit_of(&self.bank, id)?)
+    }
+
+    /// The numbers of the literals of formulas.
+    fn formulas(&mut self, alloc: Global, formulas: &Terms) -> Result<LitList, AllocError>
+        requires good { IsGood self.old }
+        requires scope { IsScope (scope_in self.old) }
+        requires formulas { AreFormulas (scope_in self.old) formulas.now }
+        ensures numbers { IfOk result (AreNumbersOf self.new (map (normal_literal (scope_in self.old)) formulas.now)) }
+        ensures extends { OnOk result (Extends self.old self.new) }
+        ensures good { OnOk result (IsGood self.new) }
+    {
+        let mut list = LitList::new(alloc);
+        for i in 0..formulas.len() {
+            let lit = self.formula(formulas.at(i))?;
+            list.push(lit)?;
+        }
+        Ok(list)
+    }
+
+    /// The literals that a problem starts from, as a set.
+    fn start(&mut self, alloc: Global, problem: &Problem) -> Result<Branch, AllocError>
+        requires good { IsGood self.old }
+        requires scope { scope_in self.old ≡ scope_of problem.now.declared }
+        requires problem { IsTyped problem.now }
+        ensures set { IfOk result (Represents (the_atoms self.new) (start problem.now)) }
+        ensures numbered { OnOk result (AreNumbered (the_atoms self.new) (start problem.now)) }
+        ensures extends { OnOk result (Extends self.old self.new) }
+        ensures good { OnOk result (IsGood self.new) }
+    {
+        let mut list = self.formulas(alloc, &problem.assumed)?;
+        match &problem.conjecture {
+            None => Ok(self.set_of(alloc, &list)?),
+            Some(conjecture) => {
+                let denied = self.formula(conjecture)?.negated();
+                list.push(denied)?;
+                Ok(self.set_of(alloc, &list)?)
+            }
         }
     }
 }

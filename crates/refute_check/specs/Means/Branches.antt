@@ -1,12 +1,11 @@
 -- Branches as sets of numbers.
-use Rattle.std.specs.Prelude.{◌≡◌, ℕ, Bool, true, false, List, [], ◌∷◌, ◌++◌, Option, Some, None, IsTrue, Contains}
+use Rattle.std.specs.Prelude.{◌≡◌, ℕ, Bool, true, false, List, [], ◌∷◌, ◌++◌, Some, IsTrue, Contains}
 use Rattle.std.specs.BTreeSet.{contains}
 use Rattle.std.specs.Ordering.{nat_cmp}
 use Rattle.stt_core.specs.Lambda.{Lambda}
-use Rattle.stt_core.specs.Typing.{Scope}
-use Rattle.stt_tableau.specs.Literals.{Literal, plus, IsLiteral, IsBranch}
+use Rattle.stt_tableau.specs.Literals.{Literal}
 use Rattle.stt_tableau.specs.declared.refutation.Line.{Line}
-use Rattle.refute_check.specs.Means.TermNumbers.{number_in}
+use Rattle.refute_check.specs.Means.Numbers.{number_in}
 use Rattle.refute_check.specs.declared.branch.Branch.{Branch}
 
 -- whether the set has the literal of this sign whose atom has this number
@@ -29,23 +28,9 @@ pub record Represents (terms : List Lambda) (ls : List Literal) (b : Branch) : T
 abbrev pub AreNumbered : List Lambda → List Literal → Type 0
 AreNumbered terms ls = (l : Literal) → Contains ls l → (k : ℕ) × (number_in terms l.atom ≡ Some k)
 
--- the terms are atoms of literals over what is declared
-abbrev pub AreAtoms : Scope → List Lambda → Type 0
-AreAtoms scope terms = (t : Lambda) → Contains terms t → IsLiteral scope (plus t)
-
 -- the terms after are those before and some more
 abbrev pub Grow : List Lambda → List Lambda → Type 0
 Grow before after = (more : List Lambda) × (after ≡ before ++ more)
-
--- the literal is one over what is declared, and its atom has this number; or it is none
-abbrev pub NumbersLiteral : Scope → List Lambda → Literal → Option ℕ → Type 0
-NumbersLiteral scope terms l (Some k) = IsLiteral scope l × (number_in terms l.atom ≡ Some k)
-NumbersLiteral scope terms l None = IsLiteral scope l → ⊥
-
--- the branch is one over what is declared, all its atoms have numbers, and these are its literals; or it is none
-abbrev pub NumbersBranch : Scope → List Lambda → List Literal → Option Branch → Type 0
-NumbersBranch scope terms ls (Some b) = IsBranch scope ls × AreNumbered terms ls × Represents terms ls b
-NumbersBranch scope terms ls None = IsBranch scope ls → ⊥
 
 -- the branches are those of the lines
 abbrev pub AreBranches : List Lambda → List Line → List Branch → Type 0

@@ -1,4 +1,4 @@
-use Rattle.std.proofs.Common.{OnOk, IfErr, subst}
+use Rattle.std.proofs.Common.{OnOk, IfErr, ap, subst}
 use Rattle.stt_tableau.specs.Start.{start}
 use Rattle.stt_tableau.specs.Accepted.{IsAccepted, FirstFailure}
 use Rattle.stt_tableau.specs.Refused.{IfRefused}
@@ -7,6 +7,7 @@ use Rattle.written_refutation.specs.Named.{names_of}
 use Rattle.refute_check.specs.Numbered.{numbered_refutation}
 use Rattle.refute_check.proofs.check.check_text.Goals as goal
 use Rattle.stt_core.specs.Declarations.{scope_of}
+use Rattle.stt_core.specs.PlainProblem.{PlainProblem}
 
 pub returns-clause-accepted : goal.returns-clause-accepted
 returns-clause-accepted c =
@@ -17,3 +18,6 @@ pub returns-clause-refused : goal.returns-clause-refused
 returns-clause-refused c =
     let begin = start c.args.problem.now in
     subst (λ p. IfErr c.check_over.result (λ e. IfRefused e (FirstFailure (scope_of p.declared) begin (numbered_refutation (names_of p.declared.bases p.declared.consts) (the_text c.args.text.now))))) c.problem.view_is c.check_over.ensures.refused
+
+pub check_over-requires-clause-own : goal.check_over-requires-clause-own
+check_over-requires-clause-own c = ap (λ (p : PlainProblem). scope_of p.declared) c.problem.view_is

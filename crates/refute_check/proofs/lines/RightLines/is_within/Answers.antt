@@ -5,8 +5,7 @@ use Rattle.refute_check.proofs.ChildLaws.{line_at, no_line_at, within-numbers, n
 use Rattle.refute_check.proofs.lines.RightLines.is_within.Goals as goal
 
 pub returns-in-Some : goal.returns-in-Some
-returns-in-Some c = λ lines line ls are at r.
-    let terms = c.args.self.now.atoms.terms in
+returns-in-Some c = λ terms lines line ls are at r.
     let branches = c.args.self.now.branches.items in
     let b = c.in-Some.branch.now in
     let s = c.args.start.now in
@@ -20,5 +19,5 @@ returns-in-Some c = λ lines line ls are at r.
     )
 
 pub returns-in-None : goal.returns-in-None
-returns-in-None c = λ lines line ls are at r.
-    absurd (no_line_at c.args.self.now.atoms.terms lines c.args.self.now.branches.items c.args.i line are (ap (λ bs. slice_get bs c.args.i) (sym c.as_slice.ensures.value) ∙ sym c.branch_at.ensures ∙ ap option_copied c.in-None.is) at)
+returns-in-None c = λ terms lines line ls are at r.
+    absurd (no_line_at terms lines c.args.self.now.branches.items c.args.i line are (ap (λ bs. slice_get bs c.args.i) (sym c.as_slice.ensures.value) ∙ sym c.branch_at.ensures ∙ ap option_copied c.in-None.is) at)

@@ -1,0 +1,54 @@
+use Rattle.std.proofs.Common.{List, rules, subst}
+use Rattle.stt_core.specs.Typing.{Scope}
+use Rattle.stt_tableau.specs.Literals.{Literal}
+use Rattle.stt_tableau.specs.Accepted.{FirstFailure}
+use Rattle.written_refutation.specs.TextView.{the_text}
+use Rattle.refute_check.specs.Numbered.{numbered_refutation}
+use Rattle.refute_check.specs.Means.Branches.{Represents, AreNumbered}
+use Rattle.refute_check.specs.Means.Lines.{AreRightIn}
+use Rattle.refute_check.specs.Means.Shared.{declared_in, the_atoms}
+use Rattle.refute_check.proofs.BranchLaws.{grow-more, represents-grow}
+use Rattle.refute_check.proofs.CheckLaws.{at_place, if_place, if_ok}
+use Rattle.refute_check.proofs.check.check_from.Goals as goal
+
+pub returns-in_err-check_rows-clause-refused : goal.returns-in_err-check_rows-clause-refused
+returns-in_err-check_rows-clause-refused c =
+    let s = c.args.shared.now in
+    let r = numbered_refutation c.args.numbering.now (the_text c.args.text.now) in
+    let refused = at_place c.in_err-check_rows.field-0.0 _ (λ place why. (ls : List Literal) → Represents (the_atoms s) ls c.args.start.now → AreNumbered (the_atoms s) ls → FirstFailure (declared_in s) ls r place why)
+    (λ place why h ls _ _. h ls) c.in_err-check_rows.ensures.refused in
+    search (rules, refused)
+
+pub returns-in_err-lines-clause-refused : goal.returns-in_err-lines-clause-refused
+returns-in_err-lines-clause-refused c =
+    let s = c.args.shared.now in
+    let r = numbered_refutation c.args.numbering.now (the_text c.args.text.now) in
+    let refused = at_place c.in_err-lines.field-0.0 _ (λ place why. (ls : List Literal) → Represents (the_atoms s) ls c.args.start.now → AreNumbered (the_atoms s) ls → FirstFailure (declared_in s) ls r place why)
+    (λ place why h ls _ _. subst (λ (x : Scope). FirstFailure x ls r place why) c.in_ok-check_rows.ensures.declared (h ls)) c.in_err-lines.ensures.refused in
+    search (rules, refused)
+
+pub returns-clause-accepted : goal.returns-clause-accepted
+returns-clause-accepted c =
+    let s = c.args.shared.now in
+    let now = c.check_rows.new.shared in
+    let new = c.check_lines.new.shared in
+    let r = numbered_refutation c.args.numbering.now (the_text c.args.text.now) in
+    if_ok c.check_last.result
+    (λ h ls represents numbered. record {
+      table = c.in_ok-check_rows.ensures.table;
+      lines = subst (λ (x : Scope). AreRightIn x r) c.in_ok-check_rows.ensures.declared c.in_ok-lines.ensures.right;
+      last = h (the_atoms new) ls c.in_ok-lines.ensures.branches (represents-grow (the_atoms s) (the_atoms new) ls c.args.start.now (grow-more (the_atoms s) (the_atoms now) (the_atoms new) c.in_ok-check_rows.ensures.atoms c.in_ok-lines.ensures.atoms) numbered represents);
+    })
+    c.check_last.ensures.last
+
+pub returns-clause-refused : goal.returns-clause-refused
+returns-clause-refused c =
+    let s = c.args.shared.now in
+    let now = c.check_rows.new.shared in
+    let new = c.check_lines.new.shared in
+    let r = numbered_refutation c.args.numbering.now (the_text c.args.text.now) in
+    if_place c.check_last.result _ (λ place why. (ls : List Literal) → Represents (the_atoms s) ls c.args.start.now → AreNumbered (the_atoms s) ls → FirstFailure (declared_in s) ls r place why)
+    (λ place why h ls represents numbered.
+    h (the_atoms new) ls c.in_ok-lines.ensures.branches (represents-grow (the_atoms s) (the_atoms new) ls c.args.start.now (grow-more (the_atoms s) (the_atoms now) (the_atoms new) c.in_ok-check_rows.ensures.atoms c.in_ok-lines.ensures.atoms) numbered represents)
+    (declared_in s) c.in_ok-check_rows.ensures.table (subst (λ (x : Scope). AreRightIn x r) c.in_ok-check_rows.ensures.declared c.in_ok-lines.ensures.right))
+    c.check_last.ensures.refused

@@ -1,0 +1,30 @@
+use Rattle.std.proofs.Common.{[], subst}
+use Rattle.stt_core.specs.Typing.{Scope}
+use Rattle.stt_core.specs.ScopeView.{the_scope}
+use Rattle.stt_tableau.specs.Start.{start}
+use Rattle.stt_tableau.specs.Accepted.{IsAccepted, FirstFailure}
+use Rattle.written_refutation.specs.TextView.{the_text}
+use Rattle.written_refutation.specs.Named.{Names, names_of}
+use Rattle.refute_check.specs.Numbered.{numbered_refutation}
+use Rattle.refute_check.proofs.CheckLaws.{if_place, if_ok}
+use Rattle.refute_check.proofs.check.check_over.Goals as goal
+
+pub returns-clause-accepted : goal.returns-clause-accepted
+returns-clause-accepted c =
+    let begin = start c.args.problem.now in
+    let t = the_text c.args.text.now in
+    let names = c.in_ok-numbering.numbering in
+    if_ok c.check_from.result
+    (λ h. subst (λ (n : Names). IsAccepted (the_scope c.args.sig.now []) begin (numbered_refutation n t)) c.in_ok-numbering.ensures
+    (subst (λ (x : Scope). IsAccepted x begin (numbered_refutation names t)) c.in_ok-beginning.ensures.declared (h begin c.in_ok-beginning.ensures.set c.in_ok-beginning.ensures.numbered)))
+    c.check_from.ensures.accepted
+
+pub returns-clause-refused : goal.returns-clause-refused
+returns-clause-refused c =
+    let begin = start c.args.problem.now in
+    let t = the_text c.args.text.now in
+    let names = c.in_ok-numbering.numbering in
+    if_place c.check_from.result _ (FirstFailure (the_scope c.args.sig.now []) begin (numbered_refutation (names_of c.args.sig.now.bases c.args.sig.now.consts) t))
+    (λ place why h. subst (λ (n : Names). FirstFailure (the_scope c.args.sig.now []) begin (numbered_refutation n t) place why) c.in_ok-numbering.ensures
+    (subst (λ (x : Scope). FirstFailure x begin (numbered_refutation names t) place why) c.in_ok-beginning.ensures.declared (h begin c.in_ok-beginning.ensures.set c.in_ok-beginning.ensures.numbered)))
+    c.check_from.ensures.refused

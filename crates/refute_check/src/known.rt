@@ -1,0 +1,64 @@
+//! Branches of numbered literals.
+
+ghost use Rattle.std.specs.Prelude.{◌≡◌, map, OnOk, IfOk, slice_get};
+ghost use Rattle.search_run.specs.Each.{Each};
+ghost use Rattle.refute_check.specs.Numbered.{numbered_literal};
+ghost use Rattle.refute_check.specs.Means.Branches.{Represents, AreNumbered};
+ghost use Rattle.refute_check.specs.Means.Shared.{the_atoms, literal_in, IsGood, IsNumber, Extends, NumbersBranch};
+
+use crate::branch::Branch;
+use crate::numbering::Numbering;
+use crate::shared::Shared;
+use literal_map::LitList;
+use sat_base::SatLit;
+use std::alloc::{AllocError, Global};
+use term_bank::equal_ids_for_equal_terms;
+use written_refutation::TextLits;
+
+/// The literal at a place of the list.
+pub(crate) fn literal_at(list: &LitList, i: usize) -> Option<SatLit>
+    ensures { result ≡ slice_get list.now i }
+{
+    list.as_slice().get(i).copied()
+}
+
+impl Shared {
+    /// The literals of a text's branch by number, or none where it is no branch over what is declared.
+    pub(crate) fn branch(
+        &mut self,
+        alloc: Global,
+        numbering: &Numbering<'_>,
+        lits: &TextLits,
+    ) -> Result<Option<LitList>, AllocError>
+        requires good { IsGood self.old }
+        ensures branch { IfOk result (NumbersBranch self.new (map (numbered_literal numbering.now) lits.now)) }
+        ensures extends { OnOk result (Extends self.old self.new) }
+        ensures good { OnOk result (IsGood self.new) }
+    {
+        let mut list = LitList::new(alloc);
+        for i in 0..lits.len() {
+            match self.literal(alloc, numbering, lits.at(i))? {
+                Some(lit) => list.push(lit)?,
+                None => return Ok(None),
+            }
+        }
+        Ok(Some(list))
+    }
+
+    /// The numbered literals as a set.
+    pub(crate) fn set_of(&self, alloc: Global, list: &LitList) -> Result<Branch, AllocError>
+        requires good { IsGood self.now }
+        requires numbers { Each (IsNumber self.now) list.now }
+        ensures set { IfOk result (Represents (the_atoms self.now) (map (literal_in self.now) list.now)) }
+        ensures numbered { OnOk result (AreNumbered (the_atoms self.now) (map (literal_in self.now) list.now)) }
+    {
+        equal_ids_for_equal_terms(&self.bank);
+        self.lits.atoms_differ();
+        let mut set = Branch::new(alloc);
+        for i in 0..list.len() {
+            let lit = list.at(i);
+            set.insert(lit.positive, lit.var.0)?;
+        }
+        Ok(set)
+    }
+}
