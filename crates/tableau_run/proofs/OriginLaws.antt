@@ -20,7 +20,7 @@ use Rattle.sat_log.specs.Propagation.{IsUnit, IsFalseIn, Propagates, ReachesFals
 use Rattle.search_run.specs.Numbered.{atom_at, literal_at}
 use Rattle.search_run.specs.Unsatisfiable.{Clause, holds as holds_among, is_false}
 use Rattle.rebuilt_refutation.specs.Input.{clause_by, clause_in, Sourced, Input, literals_of}
-use Rattle.rebuilt_refutation.specs.Trimmed.{IsFromClause, IsFromSearch, CutsOnAtom as IsCutOnVariable}
+use Rattle.rebuilt_refutation.specs.Trimmed.{IsFromClause, IsFromSearch, IsCutOnAtom as IsCutOnVariable}
 use Rattle.rebuilt_refutation.proofs.LiteralLaws.{contains_literal, each_literal, contains_held}
 use Rattle.tableau_run.specs.Origin.{CutsOnAtom, ComesFrom, IsPropagated, by_unit, PropagatesToFalse, Follows, AreRefutedWithin}
 
