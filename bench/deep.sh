@@ -1,0 +1,27 @@
+#!/usr/bin/env bash
+# Runs the built program over deep and wide inputs with a stack of 8 MB and 4 GB of addresses, at most 60 s each, and tells of each its exit
+# status, seconds and greatest memory: bench/deep.sh [FOLDER], where FOLDER has a file `calls` with the words of a call a line and the files
+# that they name; without it the inputs of bench/deep.py are run. Ends with 1 where a status comes that isn't one of README's.
+set -eu
+here=$(dirname -- "$(readlink -f -- "$0")")
+program=$(readlink -f -- "$here/../crates/satallax_cli/out/satallax_cli")
+folder=${1:-}
+if [ -z "$folder" ]; then
+  folder=$(mktemp -d)
+  trap 'rm -rf -- "$folder"' EXIT
+  python3 "$here/deep.py" "$folder"
+fi
+cd -- "$folder"
+wrong=0
+while read -r -a words; do
+  status=0
+  told=$( (ulimit -s 8192; ulimit -v 4000000; command time -f '%U s %M KB' timeout 60 "$program" "${words[@]}") 2>&1 >/dev/null | tail -n 1) || true
+  (ulimit -s 8192; ulimit -v 4000000; timeout 60 "$program" "${words[@]}") >/dev/null 2>&1 || status=$?
+  case $status in
+    0 | 1 | 2 | 3 | 4 | 1[0-5] | 18 | 20 | 21 | 30) ;;
+    124) told='no answer in 60 s' ;;
+    *) wrong=1 ;;
+  esac
+  echo "status $status, $told: ${words[*]}"
+done <calls
+exit "$wrong"
