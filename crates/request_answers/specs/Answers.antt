@@ -2,9 +2,6 @@
 use Rattle.std.specs.Prelude.{◌≡◌, ℕ, Bool, true, List, Option, Some, None, Result, Ok, Err}
 use Rattle.stt_core.specs.PlainProblem.{PlainProblem}
 use Rattle.thf_include.specs.Gathering.{Ending, done, stopped, Stop, wants, too_long, no_tree, cycle, too_many, no_name}
-use Rattle.thf_include.specs.declared.refused.GatherRefused.{GatherRefused}
-use Rattle.thf_include.specs.declared.refused.GatherRefused.TheVariants as refusal
-use Rattle.thf_include.specs.declared.refused.GatherRefused.TheVariants.{Fault, Syntax}
 use Rattle.type_check.specs.Statements.{IllInFile, problem_of}
 use Rattle.mode_file.specs.declared.Mode.{Mode}
 use Rattle.cli_words.specs.Requests.{Request, prove, refutation, generated, asked_by}

@@ -3,9 +3,7 @@ use Rattle.std.specs.Prelude.{◌≡◌, ℕ, Bool, List, Option, Some, None, sl
 use Rattle.stt_core.specs.PlainProblem.{PlainProblem}
 use Rattle.outside.specs.Causes.{Rose}
 use Rattle.thf_include.specs.Gathering.{stopped, wants}
-use Rattle.cli_words.specs.Requests.{Request, prove, refutation, generated, asked_by}
-use Rattle.szs_report.specs.declared.answer.Answer.{Answer}
-use Rattle.szs_report.specs.declared.answer.Answer.TheVariants.{ReadFault}
+use Rattle.cli_words.specs.Requests.{Request, refutation, generated, asked_by}
 use Rattle.szs_report.specs.declared.outcome.FileRef.TheVariants as reference
 use Rattle.szs_report.specs.declared.outcome.Outcome.{Outcome}
 use Rattle.szs_report.specs.declared.outcome.Outcome.TheVariants as ended

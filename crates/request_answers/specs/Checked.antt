@@ -9,14 +9,8 @@ use Rattle.written_refutation.specs.Trees.{RefutationTree}
 use Rattle.written_refutation.specs.Named.{named_refutation}
 use Rattle.outside.specs.Lines.{lines_of}
 use Rattle.refute_text.specs.Reading.{TextReading, read, bad_line, no_start, no_end, ReadsText}
-use Rattle.refute_text.specs.declared.refusal.TextRefused.{TextRefused}
-use Rattle.refute_text.specs.declared.refusal.TextRefused.TheVariants as unread
-use Rattle.refute_text.specs.declared.refusal.TextRefused.TheVariants.{BadLine, NoStart, NoEnd}
 use Rattle.refute_check.specs.Numbered.{numbered_refutation}
 use Rattle.refute_check.specs.Acceptance.{IsAcceptedFor, TextFailsAt}
-use Rattle.refute_check.specs.declared.refusal.CheckRefused.{CheckRefused}
-use Rattle.refute_check.specs.declared.refusal.CheckRefused.TheVariants as failed
-use Rattle.refute_check.specs.declared.refusal.CheckRefused.TheVariants.{Line}
 use Rattle.request_answers.specs.Names.{names_in}
 use Rattle.request_answers.specs.Modes.{OfFile, IsLong}
 use Rattle.szs_report.specs.declared.answer.NamedFile.TheVariants.{Check}

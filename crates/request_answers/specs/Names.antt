@@ -1,7 +1,6 @@
 -- The names that a problem declares.
 use Rattle.std.specs.List.{AllByRecursion}
 use Rattle.stt_core.specs.PlainProblem.{PlainProblem}
-use Rattle.stt_core.specs.TypedProblem.{IsTyped, NamesDiffer}
 use Rattle.thf_grammar.specs.Printable.{IsPrintable}
 use Rattle.written_refutation.specs.Named.{Names, names_of}
 

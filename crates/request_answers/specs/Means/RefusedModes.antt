@@ -1,16 +1,9 @@
 -- What is answered where a mode's file isn't read.
-use Rattle.std.specs.Prelude.{◌≡◌, ◌<◌, ◌≤◌, ℕ, Bool, IsTrue, List, length, Option, Some, None}
-use Rattle.mode_file.specs.declared.Mode.{Mode}
 use Rattle.mode_file.specs.declared.refused.ModeRefused.{ModeRefused}
 use Rattle.mode_file.specs.declared.refused.ModeRefused.TheVariants as refusal
-use Rattle.mode_file.specs.Given.{nothing, mode_of}
-use Rattle.outside.specs.Lines.{lines_of}
-use Rattle.mode_file.specs.Grammar.{States}
-use Rattle.mode_file.specs.Refusals.{Refuses}
-use Rattle.szs_report.specs.declared.outcome.ModeWhy.{ModeWhy}
 use Rattle.szs_report.specs.declared.outcome.ModeWhy.TheVariants.{UnknownKey, Twice, BadNumber, OutOfRange}
 use Rattle.szs_report.specs.declared.answer.Answer.{Answer}
-use Rattle.szs_report.specs.declared.answer.Answer.TheVariants.{ModeAt, Memory}
+use Rattle.szs_report.specs.declared.answer.Answer.TheVariants.{ModeAt}
 
 -- what the refusal of a mode's file is answered with
 abbrev pub mode_answer : ModeRefused → Answer

@@ -1,9 +1,6 @@
 -- Problems whose refutations have texts.
-use Rattle.std.specs.List.{AllByRecursion}
 use Rattle.stt_core.specs.PlainProblem.{PlainProblem}
 use Rattle.stt_core.specs.TypedProblem.{IsTyped, NamesDiffer}
-use Rattle.thf_grammar.specs.Printable.{IsPrintable}
-use Rattle.written_refutation.specs.Named.{Names, names_of}
 use Rattle.request_answers.specs.Names.{names_in, ArePrintable}
 
 -- The problem is typed, and its names are printable and differ from one another: so its refutations have texts.
