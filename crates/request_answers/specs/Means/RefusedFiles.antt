@@ -7,7 +7,6 @@ use Rattle.szs_report.specs.declared.answer.Answer.{Answer}
 use Rattle.szs_report.specs.declared.answer.Answer.TheVariants.{SyntaxAt, IncludeAt, TooLong, ReadFault, Memory}
 use Rattle.szs_report.specs.declared.answer.NamedFile.TheVariants.{Part}
 use Rattle.szs_report.specs.declared.outcome.IncludeWhy.TheVariants.{Cycle, NoSuchName, TooMany}
-use Rattle.request_answers.specs.Answers.{names}
 
 -- what a refusal to gather is answered with
 abbrev pub refused_answer : List (List ℕ) → GatherRefused → Answer
