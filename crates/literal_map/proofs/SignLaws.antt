@@ -4,7 +4,7 @@ use Rattle.stt_core.specs.Lambda.{name, witness, falsity, negation, implication,
 use Rattle.stt_core.proofs.SpineLaws.{IsAtom}
 use Rattle.stt_core.specs.View.{the_head}
 use Rattle.stt_core.proofs.HeadLaws.{atom_head}
-use Rattle.stt_tableau.specs.Literals.{plus, literal, is_negated}
+use Rattle.stt_tableau.specs.Literals.{plus, as_literal, is_negated}
 use Rattle.stt_tableau.proofs.LiteralLaws.{literal_cases}
 use Rattle.term_bank.specs.Shape.{spine}
 use Rattle.term_bank.specs.Terms.{term_at, shape_term}
@@ -49,5 +49,5 @@ not_denied ts (App h is) none = go (the_head h) is (atom_head h) none
 pub unsigned_node : (ts : List Lambda) (t : Lambda) (n : Node) → t ≡ shape_term ts (the_shape n) → IsDenied (the_shape n) None → is_negated t ≡ false
 unsigned_node ts t n e none = ap is_negated e ∙ not_denied ts n none
 
-pub unsigned_literal : (t : Lambda) → is_negated t ≡ false → plus t ≡ literal t
+pub unsigned_literal : (t : Lambda) → is_negated t ≡ false → plus t ≡ as_literal t
 unsigned_literal t = literal_cases (λ t l. is_negated t ≡ false → plus t ≡ l) (λ s k h. cc) (λ t k h. refl) t

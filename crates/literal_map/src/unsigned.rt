@@ -1,6 +1,6 @@
 //! The atom and the sign of a formula.
 ghost use Rattle.std.specs.Prelude.{◌≡◌, ◌↔◌, ◌<◌, length, false, IsTrue};
-ghost use Rattle.stt_tableau.specs.Literals.{literal, is_negated};
+ghost use Rattle.stt_tableau.specs.Literals.{as_literal, is_negated};
 ghost use Rattle.term_bank.specs.Terms.{term_at};
 ghost use Rattle.term_bank.specs.NodeView.{the_shape};
 ghost use Rattle.stt_core.specs.Lambda.{constant, negation};
@@ -64,7 +64,7 @@ fn denied(node: &Node) -> Option<Id>
 /// The formula without its outer negations, each of which changes the sign.
 pub fn atom_of(bank: &Bank, id: Id) -> SignedAtom
     requires { id < length bank.now.terms }
-    ensures literal { record { positive = result.positive; atom = term_at bank.now.terms result.atom } ≡ literal (term_at bank.now.terms id) }
+    ensures literal { record { positive = result.positive; atom = term_at bank.now.terms result.atom } ≡ as_literal (term_at bank.now.terms id) }
     ensures within { result.atom < length bank.now.terms }
     ensures unsigned { is_negated (term_at bank.now.terms result.atom) ≡ false }
 {

@@ -2,7 +2,7 @@
 ghost use Rattle.std.specs.Prelude.{◌≡◌, ◌↔◌, ◌<◌, length, false, IsTrue};
 ghost use Rattle.stt_core.specs.Lambda.{constant, negation};
 ghost use Rattle.stt_core.specs.View.{the_head};
-ghost use Rattle.stt_tableau.specs.Literals.{literal, is_negated};
+ghost use Rattle.stt_tableau.specs.Literals.{as_literal, is_negated};
 ghost use Rattle.term_bank.specs.NodeView.{the_shape};
 ghost use Rattle.term_bank.specs.Terms.{term_at};
 ghost use Rattle.literal_map.specs.Means.Denied.{IsDenied, IsOnly};
@@ -64,7 +64,7 @@ fn negated(node: &Node) -> Option<Id>
 /// The formula without its outer negations, each of which changes the sign. There may be as many of them as there is memory for.
 pub fn atom_of(bank: &Bank, formula: Id) -> SignedAtom
     requires { formula < length bank.now.terms }
-    ensures literal { record { positive = result.positive; atom = term_at bank.now.terms result.atom } ≡ literal (term_at bank.now.terms formula) }
+    ensures literal { record { positive = result.positive; atom = term_at bank.now.terms result.atom } ≡ as_literal (term_at bank.now.terms formula) }
     ensures within { result.atom < length bank.now.terms }
     ensures unsigned { is_negated (term_at bank.now.terms result.atom) ≡ false }
 {

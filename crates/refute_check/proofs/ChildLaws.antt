@@ -4,7 +4,7 @@ use Rattle.std.proofs.lemmas.Bool.{or_left, or_right}
 use Rattle.std.proofs.lemmas.List.Elements.{Contains-append_left, Contains-append_right, Contains-append_cases}
 use Rattle.stt_core.specs.Lambda.{Lambda}
 use Rattle.stt_tableau.specs.Literals.{Literal, opposite}
-use Rattle.stt_tableau.specs.Accepted.{Within, IsClosed}
+use Rattle.stt_tableau.specs.Accepted.{Within, IsClosedBranch}
 use Rattle.stt_tableau.specs.declared.refutation.Line.{Line}
 use Rattle.stt_tableau.proofs.ListLaws.{contains-within, within-each}
 use Rattle.refute_check.specs.Means.Numbers.{number_in}
@@ -62,7 +62,7 @@ module _ (terms : List Lambda) where
         either_in l.positive k.0 l.atom k.1 (h l.positive k.0 (r.whole l.positive k.0 (record { atom = l.atom; numbered = k.1; among = c }))))
 
     -- a literal of the alternative whose negation is in the branch
-    pub clash-closed : (sign : Bool) (k : ℕ) → IsTrue (has known sign k) → IsTrue (has own (not sign) k) → IsClosed (alternative ++ branch)
+    pub clash-closed : (sign : Bool) (k : ℕ) → IsTrue (has known sign k) → IsTrue (has own (not sign) k) → IsClosedBranch (alternative ++ branch)
     clash-closed sign k e g =
         let l = a.sound sign k e in
         record {
@@ -72,7 +72,7 @@ module _ (terms : List Lambda) where
         }
 
   -- a literal of the branch whose negation is in it
-  pub itself-closed : (branch : List Literal) (own : Branch) → Represents terms branch own → (sign : Bool) (k : ℕ) → IsTrue (has own sign k) → IsTrue (has own (not sign) k) → IsClosed branch
+  pub itself-closed : (branch : List Literal) (own : Branch) → Represents terms branch own → (sign : Bool) (k : ℕ) → IsTrue (has own sign k) → IsTrue (has own (not sign) k) → IsClosedBranch branch
   itself-closed branch own o sign k e g =
       let l = o.sound sign k e in
       record {
@@ -82,7 +82,7 @@ module _ (terms : List Lambda) where
       }
 
   -- whether a branch is closed, by numbers
-  pub clashes_closed : (branch : List Literal) (own : Branch) (answer : Bool) → AreNumbered terms branch → Represents terms branch own → (IsTrue answer ↔ ((k : ℕ) × (sign : Bool) × IsTrue (has own sign k) × IsTrue (has own (not sign) k))) → IsTrue answer ↔ IsClosed branch
+  pub clashes_closed : (branch : List Literal) (own : Branch) (answer : Bool) → AreNumbered terms branch → Represents terms branch own → (IsTrue answer ↔ ((k : ℕ) × (sign : Bool) × IsTrue (has own sign k) × IsTrue (has own (not sign) k))) → IsTrue answer ↔ IsClosedBranch branch
   clashes_closed branch own answer n o h = (
     λ e. let c = h.0 e in itself-closed branch own o c.1 c.0 c.2 c.3,
     λ c.
@@ -96,10 +96,10 @@ module _ (terms : List Lambda) where
 
   module _ {P : Type 0} (alternative branch : List Literal) (known own : Branch) (n : AreNumbered terms branch) (a : Represents terms alternative known) (o : Represents terms branch own) where
     -- where a branch with an alternative is closed
-    pub closed-cases : IsClosed (alternative ++ branch)
+    pub closed-cases : IsClosedBranch (alternative ++ branch)
         → ((sign : Bool) (k : ℕ) → IsTrue (has own sign k) → IsTrue (has own (not sign) k) → P)
         → ((sign : Bool) (k : ℕ) → IsTrue (has known sign k) → IsTrue (has own (not sign) k) → P)
-        → (IsClosed alternative → P) → P
+        → (IsClosedBranch alternative → P) → P
     closed-cases c own_closed clash alone =
         let l = c.literal in
         ⊎_elim

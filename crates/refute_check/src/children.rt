@@ -3,7 +3,7 @@
 ghost use Rattle.std.specs.Prelude.{◌≡◌, ◌↔◌, ◌++◌, List, map, IfOk, IsTrue, option_copied, slice_get};
 ghost use Rattle.stt_tableau.specs.Literals.{Literal};
 ghost use Rattle.stt_core.specs.Lambda.{Lambda};
-ghost use Rattle.stt_tableau.specs.Accepted.{IsClosed, ClosesBy, AreChildren};
+ghost use Rattle.stt_tableau.specs.Accepted.{IsClosedBranch, ClosesBy, AreChildren};
 ghost use Rattle.stt_tableau.specs.declared.refutation.Line.{Line};
 ghost use Rattle.search_run.specs.Each.{Each};
 ghost use Rattle.refute_check.specs.Means.Branches.{Represents, AreNumbered, AreBranches};

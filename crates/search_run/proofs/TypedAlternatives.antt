@@ -7,11 +7,11 @@ use Rattle.stt_core.specs.Typing.{Scope, IsScope}
 use Rattle.stt_core.specs.Canonical.{IsCanonical}
 use Rattle.stt_core.proofs.TypeLaws.{constant_declared}
 use Rattle.stt_normal.specs.Normal.{eta, apply}
-use Rattle.stt_tableau.specs.Literals.{Literal, opposite, literal, IsLiteral, IsBranch}
+use Rattle.stt_tableau.specs.Literals.{Literal, opposite, as_literal, IsLiteral, IsBranch}
 use Rattle.stt_tableau.specs.Witnesses.{Row}
 use Rattle.stt_tableau.specs.Rules.{Rule, false_rule, close_rule, refl_rule, imp_pos_rule, imp_neg_rule, bool_pos_rule, bool_neg_rule, fun_pos_rule, fun_neg_rule, all_pos_rule, all_neg_rule, mat_rule, dec_rule, con_rule, cho_rule, des_rule, cut_rule, agreement, nowhere, chosen, at_most_once, described, differ_each}
 use Rattle.stt_tableau.specs.declared.refutation.RuleUse.{RuleUse}
-use Rattle.stt_tableau.proofs.LiteralLaws.{imp_canonical, literal-is_literal, opposite-is_literal}
+use Rattle.stt_tableau.proofs.LiteralLaws.{imp_canonical, as_literal-is_literal, opposite-is_literal}
 use Rattle.stt_tableau.proofs.EquationLaws.{eq_canonical, differ-is_literal}
 use Rattle.stt_tableau.proofs.FunctionLaws.{every_canonical, canonical-agreement, canonical-nowhere, canonical-chosen, canonical-at_most_once, canonical-described, canonical-applied}
 use Rattle.stt_tableau.proofs.DecompositionLaws.{Takes, arguments_taken}
@@ -19,11 +19,11 @@ use Rattle.stt_tableau.proofs.RuleLaws.{canonical-witness}
 use Rattle.search_run.specs.Each.{Each}
 
 module _ (scope : Scope) where
-  lit : (t : Lambda) → IsCanonical scope [] formula t → IsLiteral scope (literal t)
-  lit t h = literal-is_literal scope t h
+  lit : (t : Lambda) → IsCanonical scope [] formula t → IsLiteral scope (as_literal t)
+  lit t h = as_literal-is_literal scope t h
 
-  denied : (t : Lambda) → IsCanonical scope [] formula t → IsLiteral scope (opposite (literal t))
-  denied t h = opposite-is_literal scope (literal t) (literal-is_literal scope t h)
+  denied : (t : Lambda) → IsCanonical scope [] formula t → IsLiteral scope (opposite (as_literal t))
+  denied t h = opposite-is_literal scope (as_literal t) (as_literal-is_literal scope t h)
 
   differ_typed : (a b : SimpleType) (ss ts : List Lambda) → is_declared scope.bases a ≡ true → Takes scope a ss b → Takes scope a ts b → Each (IsBranch scope) (differ_each a ss ts)
   differ_typed (base n) b ss ts d hs ht = tt

@@ -12,7 +12,7 @@ use Rattle.stt_tableau.specs.Start.{same_sign}
 use Rattle.sat_base.specs.declared.literal.Var.{Var}
 use Rattle.sat_base.specs.declared.literal.SatLit.{SatLit}
 use Rattle.sat_base.specs.Truth.{literal_value, clause_value, only, Unsat}
-use Rattle.search_run.specs.Unsatisfiable.{formulas, holds, is_false, Unsatisfiable}
+use Rattle.search_run.specs.Unsatisfiable.{formulas, is_true_where, is_false, Unsatisfiable}
 use Rattle.search_run.specs.Numbered.{numbers, atom_at, literal_at, IsNumber, AreApart}
 use Rattle.search_run.specs.Each.{Each}
 use Rattle.search_run.proofs.NamingLaws.{StandFor, either, pick}
@@ -56,11 +56,11 @@ value_turned true false = refl
 value_turned false true = refl
 value_turned false false = refl
 
-value_is : (atoms : List Lambda) (vars : List Var) (terms : List Lambda) → SameValues atoms vars terms → (l : SatLit) → IsNumber atoms l → holds terms (literal_at atoms l) ≡ literal_value (only vars) l
+value_is : (atoms : List Lambda) (vars : List Var) (terms : List Lambda) → SameValues atoms vars terms → (l : SatLit) → IsNumber atoms l → is_true_where terms (literal_at atoms l) ≡ literal_value (only vars) l
 value_is atoms vars terms same l g =
     ap (λ b. if b then l.positive else not l.positive) (same l.var.0 g) ∙ value_turned (list_any (λ w. l.var.0 == w.0) vars) l.positive
 
-clause_is : (atoms : List Lambda) (vars : List Var) (terms : List Lambda) → SameValues atoms vars terms → (c : List SatLit) → Each (IsNumber atoms) c → list_any (holds terms) (map (literal_at atoms) c) ≡ clause_value (only vars) c
+clause_is : (atoms : List Lambda) (vars : List Var) (terms : List Lambda) → SameValues atoms vars terms → (c : List SatLit) → Each (IsNumber atoms) c → list_any (is_true_where terms) (map (literal_at atoms) c) ≡ clause_value (only vars) c
 clause_is atoms vars terms same [] g = refl
 clause_is atoms vars terms same (l ∷ c) g = either (value_is atoms vars terms same l g.0) (clause_is atoms vars terms same c g.1)
 

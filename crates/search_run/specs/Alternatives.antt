@@ -3,35 +3,35 @@ use Rattle.std.specs.Prelude.{List, [], ◌∷◌, Option, Some, None}
 use Rattle.stt_core.specs.SimpleType.{SimpleType}
 use Rattle.stt_core.specs.Lambda.{Lambda, eq}
 use Rattle.stt_normal.specs.Normal.{eta, apply}
-use Rattle.stt_tableau.specs.Literals.{Literal, minus, opposite, literal}
+use Rattle.stt_tableau.specs.Literals.{Literal, minus, opposite, as_literal}
 use Rattle.stt_tableau.specs.Rules.{agreement, nowhere, chosen, at_most_once, described, differ_each}
 
 abbrev pub Alternatives : Type 0
 Alternatives = List (List Literal)
 
 abbrev pub imp_pos : Lambda → Lambda → Alternatives
-imp_pos s t = (opposite (literal s) ∷ []) ∷ (literal t ∷ []) ∷ []
+imp_pos s t = (opposite (as_literal s) ∷ []) ∷ (as_literal t ∷ []) ∷ []
 
 abbrev pub imp_neg : Lambda → Lambda → Alternatives
-imp_neg s t = (literal s ∷ opposite (literal t) ∷ []) ∷ []
+imp_neg s t = (as_literal s ∷ opposite (as_literal t) ∷ []) ∷ []
 
 abbrev pub bool_pos : Lambda → Lambda → Alternatives
-bool_pos s t = (literal s ∷ literal t ∷ []) ∷ (opposite (literal s) ∷ opposite (literal t) ∷ []) ∷ []
+bool_pos s t = (as_literal s ∷ as_literal t ∷ []) ∷ (opposite (as_literal s) ∷ opposite (as_literal t) ∷ []) ∷ []
 
 abbrev pub bool_neg : Lambda → Lambda → Alternatives
-bool_neg s t = (literal s ∷ opposite (literal t) ∷ []) ∷ (opposite (literal s) ∷ literal t ∷ []) ∷ []
+bool_neg s t = (as_literal s ∷ opposite (as_literal t) ∷ []) ∷ (opposite (as_literal s) ∷ as_literal t ∷ []) ∷ []
 
 abbrev pub fun_pos : SimpleType → SimpleType → Lambda → Lambda → Alternatives
-fun_pos a b s t = (literal (agreement a b s t) ∷ []) ∷ []
+fun_pos a b s t = (as_literal (agreement a b s t) ∷ []) ∷ []
 
 abbrev pub fun_neg : SimpleType → SimpleType → Lambda → Lambda → Alternatives
-fun_neg a b s t = (opposite (literal (agreement a b s t)) ∷ []) ∷ []
+fun_neg a b s t = (opposite (as_literal (agreement a b s t)) ∷ []) ∷ []
 
 abbrev pub all_pos : Lambda → Lambda → Alternatives
-all_pos f u = (literal (apply f u) ∷ []) ∷ []
+all_pos f u = (as_literal (apply f u) ∷ []) ∷ []
 
 abbrev pub all_neg : SimpleType → Lambda → Lambda → Alternatives
-all_neg a f w = (opposite (literal (apply f (eta a w))) ∷ []) ∷ []
+all_neg a f w = (opposite (as_literal (apply f (eta a w))) ∷ []) ∷ []
 
 -- the arguments of a head of this type differ somewhere
 abbrev pub differ : Option SimpleType → List Lambda → List Lambda → Alternatives
@@ -42,7 +42,7 @@ abbrev pub con : SimpleType → Lambda → Lambda → Lambda → Lambda → Alte
 con b s t u v = (minus (eq b s u) ∷ minus (eq b t u) ∷ []) ∷ (minus (eq b s v) ∷ minus (eq b t v) ∷ []) ∷ []
 
 abbrev pub cho : SimpleType → Lambda → Alternatives
-cho a f = (literal (nowhere a f) ∷ []) ∷ (literal (apply f (chosen a f)) ∷ []) ∷ []
+cho a f = (as_literal (nowhere a f) ∷ []) ∷ (as_literal (apply f (chosen a f)) ∷ []) ∷ []
 
 abbrev pub des : SimpleType → Lambda → Alternatives
-des a f = (literal (nowhere a f) ∷ []) ∷ (opposite (literal (at_most_once a f)) ∷ []) ∷ (literal (apply f (described a f)) ∷ []) ∷ []
+des a f = (as_literal (nowhere a f) ∷ []) ∷ (opposite (as_literal (at_most_once a f)) ∷ []) ∷ (as_literal (apply f (described a f)) ∷ []) ∷ []

@@ -16,12 +16,12 @@ abbrev pub Clause : Type 0
 Clause = List Literal
 
 -- whether the literal is true where these atoms are the true ones
-abbrev pub holds : List Lambda → Literal → Bool
-holds atoms l = if list_any (same_term l.atom) atoms then l.positive else not l.positive
+abbrev pub is_true_where : List Lambda → Literal → Bool
+is_true_where atoms l = if list_any (same_term l.atom) atoms then l.positive else not l.positive
 
 -- whether no literal of the clause is true
 abbrev pub is_false : List Lambda → Clause → Bool
-is_false atoms clause = not (list_any (holds atoms) clause)
+is_false atoms clause = not (list_any (is_true_where atoms) clause)
 
 -- whatever list of atoms is taken as the true ones, one of the clauses has no true literal
 abbrev pub Unsatisfiable : List Clause → Type 0

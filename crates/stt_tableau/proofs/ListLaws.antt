@@ -3,7 +3,7 @@ use Rattle.std.proofs.Common.{◌≡◌, ℕ, zero, suc, ◌+◌, ◌≤◌, Lis
 use Rattle.std.proofs.lemmas.List.Elements.{Contains-append_left, Contains-append_right, Contains-push_cases}
 use Rattle.stt_core.proofs.ListLaws.{take_got}
 use Rattle.stt_tableau.specs.Literals.{Literal, opposite}
-use Rattle.stt_tableau.specs.Accepted.{Within, IsClosed}
+use Rattle.stt_tableau.specs.Accepted.{Within, IsClosedBranch}
 
 pub contains-first : {A : Type 0} (x : A) (xs : List A) → Contains (x ∷ xs) x
 contains-first x xs = (0, omega arith, refl)
@@ -51,7 +51,7 @@ pub within-appends : (front ls branch : List Literal) → Within ls branch → W
 within-appends front ls branch h =
     within-both front ls (front ++ branch) (within-before front branch) (within-behind front ls branch h)
 
-pub closed-within : (ls branch : List Literal) → IsClosed ls → Within ls branch → IsClosed branch
+pub closed-within : (ls branch : List Literal) → IsClosedBranch ls → Within ls branch → IsClosedBranch branch
 closed-within ls branch c w = record {
   literal = c.literal;
   holds = contains-within c.literal ls branch c.holds w;

@@ -8,11 +8,11 @@ use Rattle.stt_core.specs.Meaning.{Model, value, IsModel}
 use Rattle.stt_core.proofs.TypeLaws.{type_of-canonical}
 use Rattle.stt_core.proofs.ValueLaws.{value-lt}
 use Rattle.stt_core.proofs.ConstantValues.{value-neg, bit}
-use Rattle.stt_tableau.specs.Literals.{Literal, plus, opposite, literal, is_negated, IsLiteral, IsBranch}
+use Rattle.stt_tableau.specs.Literals.{Literal, plus, opposite, as_literal, is_negated, IsLiteral, IsBranch}
 use Rattle.stt_tableau.specs.Meets.{truth, MeetsLiteral, MeetsBranch}
 
 -- what holds of a formula and its literal, where negation passes it on and it holds of what isn't negated
-pub literal_cases : (P : Lambda → Literal → Type 0) → ((s : Lambda) → P s (literal s) → P (neg s) (opposite (literal s))) → ((t : Lambda) → is_negated t ≡ false → P t (plus t)) → (t : Lambda) → P t (literal t)
+pub literal_cases : (P : Lambda → Literal → Type 0) → ((s : Lambda) → P s (as_literal s) → P (neg s) (opposite (as_literal s))) → ((t : Lambda) → is_negated t ≡ false → P t (plus t)) → (t : Lambda) → P t (as_literal t)
 literal_cases P step rest (bound k) = rest (bound k) refl
 literal_cases P step rest (constant c) = rest (constant c) refl
 literal_cases P step rest (lam a s) = rest (lam a s) refl
@@ -58,10 +58,10 @@ module _ (scope : Scope) where
   pub opposite-is_literal : (l : Literal) → IsLiteral scope l → IsLiteral scope (opposite l)
   opposite-is_literal l h = record { formula = h.formula; unsigned = h.unsigned }
 
-  pub literal-is_literal : (t : Lambda) → IsCanonical scope [] formula t → IsLiteral scope (literal t)
-  literal-is_literal =
+  pub as_literal-is_literal : (t : Lambda) → IsCanonical scope [] formula t → IsLiteral scope (as_literal t)
+  as_literal-is_literal =
       literal_cases (λ t l. IsCanonical scope [] formula t → IsLiteral scope l)
-      (λ s inside h. opposite-is_literal (literal s) (inside (neg_canonical s h)))
+      (λ s inside h. opposite-is_literal (as_literal s) (inside (neg_canonical s h)))
       (λ t unsigned h. record { formula = h; unsigned = unsigned })
 
   pub branch-append : (ls branch : List Literal) → IsBranch scope ls → IsBranch scope branch → IsBranch scope (ls ++ branch)
@@ -80,12 +80,12 @@ module _ (scope : Scope) (m : Model) (good : IsModel scope m) where
   value-bit t h = value-lt scope m good [] [] formula t (type_of-canonical scope [] formula t h) tt
 
   -- the literal of a closed canonical formula says what its value is
-  pub literal-says : (t : Lambda) → IsCanonical scope [] formula t → Says scope m (literal t) (value scope m [] [] t)
-  literal-says =
+  pub as_literal-says : (t : Lambda) → IsCanonical scope [] formula t → Says scope m (as_literal t) (value scope m [] [] t)
+  as_literal-says =
       literal_cases (λ t l. IsCanonical scope [] formula t → Says scope m l (value scope m [] [] t))
       (λ s inside h.
       let c = neg_canonical scope s h in
-      says_opposite (literal s) (value scope m [] [] s) (value scope m [] [] (neg s)) (value-bit s c) (value-neg scope m good [] [] tt s (type_of-canonical scope [] formula s c)) (inside c))
+      says_opposite (as_literal s) (value scope m [] [] s) (value scope m [] [] (neg s)) (value-bit s c) (value-neg scope m good [] [] tt s (type_of-canonical scope [] formula s c)) (inside c))
       (λ t unsigned h. record { at_one = λ e. e; at_zero = λ e. e })
 
   -- a literal or its opposite is met

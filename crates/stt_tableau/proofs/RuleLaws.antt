@@ -14,7 +14,7 @@ use Rattle.stt_tableau.specs.Meets.{MeetsBranch, MeetsOne}
 use Rattle.stt_tableau.specs.Witnesses.{Row}
 use Rattle.stt_tableau.specs.Rules.{Rule, false_rule, close_rule, refl_rule, imp_pos_rule, imp_neg_rule, bool_pos_rule, bool_neg_rule, fun_pos_rule, fun_neg_rule, all_pos_rule, all_neg_rule, mat_rule, dec_rule, con_rule, cho_rule, des_rule, cut_rule, agreement, nowhere, chosen, at_most_once, described}
 use Rattle.stt_tableau.specs.declared.refutation.RuleUse.{RuleUse}
-use Rattle.stt_tableau.proofs.LiteralLaws.{imp_canonical, value-bit, literal-says, literal_or_opposite, not_both}
+use Rattle.stt_tableau.proofs.LiteralLaws.{imp_canonical, value-bit, as_literal-says, literal_or_opposite, not_both}
 use Rattle.stt_normal.specs.Normal.{eta, apply}
 use Rattle.stt_normal.proofs.NormalValues.{canonical-eta, value-eta}
 use Rattle.stt_tableau.specs.Along.{GoesAlong}
@@ -57,17 +57,17 @@ module _ (scope : Scope) (m : Model) (good : IsModel scope m) where
   rule_keeps rows types along _ _ _ (imp_pos_rule i s t) typed met =
       let sides = imp_canonical scope s t typed.0.formula in
       let v = imp_one (value scope m [] [] s) (value scope m [] [] t) (value-bit scope m good s sides.0) (sym (value-imp-canonical s t typed.0.formula) ∙ met.0) in
-      ⊎_elim (λ e. inl ((literal-says scope m good s sides.0).at_zero e, tt)) (λ e. inr (inl ((literal-says scope m good t sides.1).at_one e, tt))) v
+      ⊎_elim (λ e. inl ((as_literal-says scope m good s sides.0).at_zero e, tt)) (λ e. inr (inl ((as_literal-says scope m good t sides.1).at_one e, tt))) v
   rule_keeps rows types along _ _ _ (imp_neg_rule i s t) typed met =
       let sides = imp_canonical scope s t typed.0.formula in
       let v = imp_zero (value scope m [] [] s) (value scope m [] [] t) (value-bit scope m good s sides.0) (sym (value-imp-canonical s t typed.0.formula) ∙ met.0) in
-      inl ((literal-says scope m good s sides.0).at_one v.0, ((literal-says scope m good t sides.1).at_zero v.1, tt))
+      inl ((as_literal-says scope m good s sides.0).at_one v.0, ((as_literal-says scope m good t sides.1).at_zero v.1, tt))
   rule_keeps rows types along _ _ _ (refl_rule i a s) typed met = met-differ scope m good a s s (eq_canonical scope a s s typed.0.formula) met.0 refl
   rule_keeps rows types along _ _ _ (bool_pos_rule i s t) typed met =
       let sides = eq_canonical scope formula s t typed.0.formula in
       let v = met-eq scope m good formula s t sides met.0 in
-      let p = literal-says scope m good s sides.left in
-      let q = literal-says scope m good t sides.right in
+      let p = as_literal-says scope m good s sides.left in
+      let q = as_literal-says scope m good t sides.right in
       ⊎_elim
       (λ z. inr (inl (p.at_zero z, (q.at_zero (sym v ∙ z), tt))))
       (λ o. inl (p.at_one o, (q.at_one (sym v ∙ o), tt)))
@@ -75,8 +75,8 @@ module _ (scope : Scope) (m : Model) (good : IsModel scope m) where
   rule_keeps rows types along _ _ _ (bool_neg_rule i s t) typed met =
       let sides = eq_canonical scope formula s t typed.0.formula in
       let apart = met-differ scope m good formula s t sides met.0 in
-      let p = literal-says scope m good s sides.left in
-      let q = literal-says scope m good t sides.right in
+      let p = as_literal-says scope m good s sides.left in
+      let q = as_literal-says scope m good t sides.right in
       let bt = bit (value scope m [] [] t) (value-bit scope m good t sides.right) in
       ⊎_elim
       (λ z. ⊎_elim (λ y. absurd (apart (z ∙ sym y))) (λ o. inr (inl (p.at_zero z, (q.at_one o, tt)))) bt)
@@ -85,17 +85,17 @@ module _ (scope : Scope) (m : Model) (good : IsModel scope m) where
   rule_keeps rows types along _ _ _ (fun_pos_rule i a b s t) typed met =
       let sides = eq_canonical scope (arrow a b) s t typed.0.formula in
       let v = met-eq scope m good (arrow a b) s t sides met.0 in
-      inl ((literal-says scope m good (agreement a b s t) (canonical-agreement scope a b s t sides)).at_one ((value-agreement scope m good a b s t sides).1 v), tt)
+      inl ((as_literal-says scope m good (agreement a b s t) (canonical-agreement scope a b s t sides)).at_one ((value-agreement scope m good a b s t sides).1 v), tt)
   rule_keeps rows types along _ _ _ (fun_neg_rule i a b s t) typed met =
       let sides = eq_canonical scope (arrow a b) s t typed.0.formula in
       let apart = met-differ scope m good (arrow a b) s t sides met.0 in
       let c = canonical-agreement scope a b s t sides in
       let zero_there : value scope m [] [] (agreement a b s t) ≡ 0 = ⊎_elim (λ z. z) (λ o. absurd (apart ((value-agreement scope m good a b s t sides).0 o))) (bit (value scope m [] [] (agreement a b s t)) (value-bit scope m good (agreement a b s t) c)) in
-      inl ((literal-says scope m good (agreement a b s t) c).at_zero zero_there, tt)
+      inl ((as_literal-says scope m good (agreement a b s t) c).at_zero zero_there, tt)
   rule_keeps rows types along _ _ _ (all_pos_rule i a f u c) typed met =
       let e = every_canonical scope a f typed.0.formula in
       let o = (value-every-canonical scope m good a f e.0 e.1).0 met.0 (value scope m [] [] u) (value-lt scope m good [] [] a u (type_of-canonical scope [] a u c) tt) in
-      inl ((literal-says scope m good (apply f u) (canonical-applied scope a f u e.1 c)).at_one (value-applied scope m good a f u e.1 c ∙ o), tt)
+      inl ((as_literal-says scope m good (apply f u) (canonical-applied scope a f u e.1 c)).at_one (value-applied scope m good a f u e.1 c ∙ o), tt)
   rule_keeps rows types along _ _ _ (all_neg_rule i k a f g) typed met =
       let e = every_canonical scope a f typed.0.formula in
       let w = eta a (constant (witness k)) in
@@ -103,13 +103,13 @@ module _ (scope : Scope) (m : Model) (good : IsModel scope m) where
       let z = (value-every-canonical scope m good a f e.0 e.1).1 met.0 in
       let o = along.at_witness k (record { type = a; predicate = f }) g z.0 z.1 z.2 in
       let v : value scope m [] [] (eta a (constant (witness k))) ≡ m.witness_values k = value-eta scope m good [] [] a (constant (witness k)) e.0 tt (witness_typed scope rows types k (record { type = a; predicate = f }) g) in
-      inl ((literal-says scope m good (apply f (eta a (constant (witness k)))) (canonical-applied scope a f (eta a (constant (witness k))) e.1 c)).at_zero (value-applied scope m good a f (eta a (constant (witness k))) e.1 c ∙ ap (entry 2 (value scope m [] [] f)) v ∙ o), tt)
+      inl ((as_literal-says scope m good (apply f (eta a (constant (witness k)))) (canonical-applied scope a f (eta a (constant (witness k))) e.1 c)).at_zero (value-applied scope m good a f (eta a (constant (witness k))) e.1 c ∙ ap (entry 2 (value scope m [] [] f)) v ∙ o), tt)
   rule_keeps rows types along _ _ _ (cho_rule a f c) typed met =
       let n = canonical-nowhere scope a f c in
       let k = canonical-applied scope a f (chosen a f) c (canonical-chosen scope a f c) in
       ⊎_elim
-      (λ z. inr (inl ((literal-says scope m good (apply f (chosen a f)) k).at_one (value-chosen scope m good a f c z), tt)))
-      (λ o. inl ((literal-says scope m good (nowhere a f) n).at_one o, tt))
+      (λ z. inr (inl ((as_literal-says scope m good (apply f (chosen a f)) k).at_one (value-chosen scope m good a f c z), tt)))
+      (λ o. inl ((as_literal-says scope m good (nowhere a f) n).at_one o, tt))
       (bit (value scope m [] [] (nowhere a f)) (value-bit scope m good (nowhere a f) n))
   rule_keeps rows types along _ _ _ (des_rule a f c) typed met =
       let n = canonical-nowhere scope a f c in
@@ -117,10 +117,10 @@ module _ (scope : Scope) (m : Model) (good : IsModel scope m) where
       let k = canonical-applied scope a f (described a f) c (canonical-described scope a f c) in
       ⊎_elim
       (λ z. inr (⊎_elim
-      (λ v. inl ((literal-says scope m good (at_most_once a f) u).at_zero v, tt))
-      (λ o. inr (inl ((literal-says scope m good (apply f (described a f)) k).at_one (value-described scope m good a f c z o), tt)))
+      (λ v. inl ((as_literal-says scope m good (at_most_once a f) u).at_zero v, tt))
+      (λ o. inr (inl ((as_literal-says scope m good (apply f (described a f)) k).at_one (value-described scope m good a f c z o), tt)))
       (bit (value scope m [] [] (at_most_once a f)) (value-bit scope m good (at_most_once a f) u))))
-      (λ o. inl ((literal-says scope m good (nowhere a f) n).at_one o, tt))
+      (λ o. inl ((as_literal-says scope m good (nowhere a f) n).at_one o, tt))
       (bit (value scope m [] [] (nowhere a f)) (value-bit scope m good (nowhere a f) n))
   rule_keeps rows types along _ _ _ (mat_rule i j c a s t ss ts d e) typed met =
       differ_one scope m good a formula (constant c) (constant c) (s ∷ ss) (t ∷ ts) tt e e refl (arguments_taken scope c a s ss formula e typed.0.formula) (arguments_taken scope c a t ts formula e typed.1.0.formula)

@@ -12,13 +12,13 @@ use Rattle.stt_core.specs.PlainProblem.{PlainProblem}
 use Rattle.stt_core.specs.TypedProblem.{IsFormula, AreFormulas, IsFormulaIfThere, IsTyped}
 use Rattle.stt_normal.specs.Normal.{normal_form}
 use Rattle.stt_normal.proofs.NormalValues.{canonical-normal_form, value-normal_form}
-use Rattle.stt_tableau.specs.Literals.{Literal, opposite, literal, IsLiteral, IsBranch}
+use Rattle.stt_tableau.specs.Literals.{Literal, opposite, as_literal, IsLiteral, IsBranch}
 use Rattle.stt_tableau.specs.Witnesses.{IsNoWitness, NamesNoWitness, NoneNamesWitness}
 use Rattle.stt_tableau.specs.Meets.{MeetsLiteral, MeetsBranch}
 use Rattle.stt_tableau.specs.Start.{added, normal_literal, denied, start}
 use Rattle.stt_tableau.proofs.AddedLaws.{contains_cases-added}
 use Rattle.stt_tableau.proofs.ListLaws.{contains-first, contains-later, contains_cases, Each}
-use Rattle.stt_tableau.proofs.LiteralLaws.{literal-is_literal, opposite-is_literal, literal-says, value-bit}
+use Rattle.stt_tableau.proofs.LiteralLaws.{as_literal-is_literal, opposite-is_literal, as_literal-says, value-bit}
 
 every_each : {A : Type 0} (P : A → Type 0) (xs : List A) → Each P xs → Every P xs
 every_each P [] h = tt
@@ -100,18 +100,18 @@ module _ (p : PlainProblem) (typed : IsTyped p) where
   normal-canonical : (t : Lambda) → IsFormula scope t → IsCanonical scope [] formula (normal_form scope [] t)
   normal-canonical t h = canonical-normal_form scope typed.scope [] formula t tt h
 
-  of_start : (P : Literal → Type 0) → ((t : Lambda) → IsCanonical scope [] formula t → P (literal t)) → ((t : Lambda) → IsCanonical scope [] formula t → P (opposite (literal t))) → Every P (start p)
+  of_start : (P : Literal → Type 0) → ((t : Lambda) → IsCanonical scope [] formula t → P (as_literal t)) → ((t : Lambda) → IsCanonical scope [] formula t → P (opposite (as_literal t))) → Every P (start p)
   of_start P f g =
       every_start p (IsFormula scope) P (λ t h. f (normal_form scope [] t) (normal-canonical t h)) (λ t h. g (normal_form scope [] t) (normal-canonical t h)) (typed_each scope p.assumed typed.assumed) (typed_if_there scope p.conjecture typed.conjecture)
 
-  unnamed-literal : (t : Lambda) → IsCanonical scope [] formula t → NamesNoWitness (literal t).atom
-  unnamed-literal t h = unnamed-canonical scope [] formula (literal t).atom refl (literal-is_literal scope t h).formula
+  unnamed-literal : (t : Lambda) → IsCanonical scope [] formula t → NamesNoWitness (as_literal t).atom
+  unnamed-literal t h = unnamed-canonical scope [] formula (as_literal t).atom refl (as_literal-is_literal scope t h).formula
 
   pub start_unnamed : NoneNamesWitness (start p)
   start_unnamed = none_named _ (of_start (λ l. NamesNoWitness l.atom) unnamed-literal unnamed-literal)
 
   pub start_typed : IsBranch scope (start p)
-  start_typed = is_branch scope _ (of_start (IsLiteral scope) (literal-is_literal scope) (λ t h. opposite-is_literal scope (literal t) (literal-is_literal scope t h)))
+  start_typed = is_branch scope _ (of_start (IsLiteral scope) (as_literal-is_literal scope) (λ t h. opposite-is_literal scope (as_literal t) (as_literal-is_literal scope t h)))
 
   -- a model of the problem meets the start
   module _ (m : Model) (good : IsModel scope m) where
@@ -119,7 +119,7 @@ module _ (p : PlainProblem) (typed : IsTyped p) where
     normal-value t h = value-normal_form scope typed.scope m good [] [] formula t tt h tt
 
     literal_met : (t : Lambda) → IsFormula scope t → MeetsFormula scope m t → MeetsLiteral scope m (normal_literal scope t)
-    literal_met t h k = (literal-says scope m good (normal_form scope [] t) (normal-canonical t h)).at_one (normal-value t h ∙ k)
+    literal_met t h k = (as_literal-says scope m good (normal_form scope [] t) (normal-canonical t h)).at_one (normal-value t h ∙ k)
 
     literals_met : (ts : List Lambda) → AreFormulas scope ts → MeetsFormulas scope m ts → Every (MeetsLiteral scope m) (map (normal_literal scope) ts)
     literals_met [] h k = tt
@@ -135,7 +135,7 @@ module _ (p : PlainProblem) (typed : IsTyped p) where
     denied_met (Some t) h k =
         let s = normal_form scope [] t in
         let v = value scope m [] [] s in
-        ((literal-says scope m good s (normal-canonical t h)).at_zero (not_one v (value-bit scope m good s (normal-canonical t h)) (λ e. k (sym (normal-value t h) ∙ e))), tt)
+        ((as_literal-says scope m good s (normal-canonical t h)).at_zero (not_one v (value-bit scope m good s (normal-canonical t h)) (λ e. k (sym (normal-value t h) ∙ e))), tt)
 
     pub start_met : MeetsProblem p m → MeetsBranch scope m (start p)
     start_met h =

@@ -21,7 +21,7 @@ Within [] branch = Unit {0}
 Within (l ∷ ls) branch = Contains branch l × Within ls branch
 
 -- the branch holds a literal and its negation
-pub record IsClosed (branch : List Literal) : Type 0 where
+pub record IsClosedBranch (branch : List Literal) : Type 0 where
   pub literal : Literal
   pub holds : Contains branch literal
   pub holds_opposite : Contains branch (opposite literal)
@@ -39,7 +39,7 @@ IsTypedLine scope line = IsBranch scope line.branch × IsTypedUse scope line.rul
 
 -- the child closes the branch with the alternative
 abbrev pub ClosesBy : List Line → List Literal → Child → Type 0
-ClosesBy earlier branch child.Closed = IsClosed branch
+ClosesBy earlier branch child.Closed = IsClosedBranch branch
 ClosesBy earlier branch (child.Line j) = (line : Line) × (slice_get earlier j ≡ Some line) × Within line.branch branch
 
 -- there is a child for each alternative, and it closes the branch with that

@@ -4,7 +4,7 @@ use Rattle.stt_core.specs.Typing.{Scope}
 use Rattle.stt_tableau.specs.Literals.{Literal}
 use Rattle.stt_tableau.specs.Witnesses.{Row}
 use Rattle.stt_tableau.specs.Rules.{Rule, places}
-use Rattle.stt_tableau.specs.Accepted.{Within, IsClosed}
+use Rattle.stt_tableau.specs.Accepted.{Within, IsClosedBranch}
 use Rattle.stt_tableau.specs.declared.refutation.RuleUse.{RuleUse}
 use Rattle.stt_tableau.specs.declared.refutation.Child.{Child}
 use Rattle.stt_tableau.specs.declared.refutation.Child.TheVariants.{Closed, Line as Numbered}
@@ -24,7 +24,7 @@ mutual
 abbrev mutual
   -- the tableau closes the branch
   pub Closes : Scope → List Row → Tableau → List Literal → Type 0
-  Closes scope rows leaf branch = IsClosed branch
+  Closes scope rows leaf branch = IsClosedBranch branch
   Closes scope rows (node rule principals children) branch =
       (alternatives : List (List Literal)) × Rule scope rows rule principals alternatives × Within principals branch × CloseAll scope rows children alternatives branch
 

@@ -23,9 +23,9 @@ abbrev pub opposite : Literal → Literal
 opposite l = record { positive = not l.positive; atom = l.atom }
 
 -- The literal of a canonical formula: its outer negations are taken off, and each changes the sign.
-abbrev pub literal : Lambda → Literal
-literal (app (constant negation) s) = opposite (literal s)
-literal t = plus t
+abbrev pub as_literal : Lambda → Literal
+as_literal (app (constant negation) s) = opposite (as_literal s)
+as_literal t = plus t
 
 -- whether a formula's head is negation
 abbrev pub is_negated : Lambda → Bool

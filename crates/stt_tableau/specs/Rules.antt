@@ -7,7 +7,7 @@ use Rattle.stt_core.specs.Typing.{Scope, constant_type}
 use Rattle.stt_core.specs.Canonical.{IsCanonical}
 use Rattle.stt_core.specs.Lift.{lift}
 use Rattle.stt_normal.specs.Normal.{eta, apply}
-use Rattle.stt_tableau.specs.Literals.{Literal, plus, minus, opposite, literal, IsLiteral}
+use Rattle.stt_tableau.specs.Literals.{Literal, plus, minus, opposite, as_literal, IsLiteral}
 use Rattle.stt_tableau.specs.Witnesses.{Row}
 use Rattle.stt_tableau.specs.declared.refutation.RuleUse.{RuleUse}
 use Rattle.stt_tableau.specs.declared.refutation.RuleUse.TheVariants.{False, Close, Refl, ImpPos, ImpNeg, BoolPos, BoolNeg, FunPos, FunNeg, AllPos, AllNeg, Mat, Dec, Con, Cho, Des, Cut}
@@ -69,19 +69,19 @@ pub data Rule (scope : Scope) (rows : List Row) : RuleUse → List Literal → L
   false_rule : (i : ℕ) → Rule scope rows (False i) (plus (constant falsity) ∷ []) []
   close_rule : (i j : ℕ) (l : Literal) → Rule scope rows (Close i j) (l ∷ opposite l ∷ []) []
   refl_rule : (i : ℕ) (a : SimpleType) (s : Lambda) → Rule scope rows (Refl i) (minus (eq a s s) ∷ []) []
-  imp_pos_rule : (i : ℕ) (s t : Lambda) → Rule scope rows (ImpPos i) (plus (imp s t) ∷ []) ((opposite (literal s) ∷ []) ∷ (literal t ∷ []) ∷ [])
-  imp_neg_rule : (i : ℕ) (s t : Lambda) → Rule scope rows (ImpNeg i) (minus (imp s t) ∷ []) ((literal s ∷ opposite (literal t) ∷ []) ∷ [])
-  bool_pos_rule : (i : ℕ) (s t : Lambda) → Rule scope rows (BoolPos i) (plus (eq formula s t) ∷ []) ((literal s ∷ literal t ∷ []) ∷ (opposite (literal s) ∷ opposite (literal t) ∷ []) ∷ [])
-  bool_neg_rule : (i : ℕ) (s t : Lambda) → Rule scope rows (BoolNeg i) (minus (eq formula s t) ∷ []) ((literal s ∷ opposite (literal t) ∷ []) ∷ (opposite (literal s) ∷ literal t ∷ []) ∷ [])
-  fun_pos_rule : (i : ℕ) (a b : SimpleType) (s t : Lambda) → Rule scope rows (FunPos i) (plus (eq (arrow a b) s t) ∷ []) ((literal (agreement a b s t) ∷ []) ∷ [])
-  fun_neg_rule : (i : ℕ) (a b : SimpleType) (s t : Lambda) → Rule scope rows (FunNeg i) (minus (eq (arrow a b) s t) ∷ []) ((opposite (literal (agreement a b s t)) ∷ []) ∷ [])
-  all_pos_rule : (i : ℕ) (a : SimpleType) (f u : Lambda) → IsCanonical scope [] a u → Rule scope rows (AllPos i u) (plus (every a f) ∷ []) ((literal (apply f u) ∷ []) ∷ [])
-  all_neg_rule : (i k : ℕ) (a : SimpleType) (f : Lambda) → slice_get rows k ≡ Some (record { type = a; predicate = f }) → Rule scope rows (AllNeg i) (minus (every a f) ∷ []) ((opposite (literal (apply f (eta a (constant (witness k))))) ∷ []) ∷ [])
+  imp_pos_rule : (i : ℕ) (s t : Lambda) → Rule scope rows (ImpPos i) (plus (imp s t) ∷ []) ((opposite (as_literal s) ∷ []) ∷ (as_literal t ∷ []) ∷ [])
+  imp_neg_rule : (i : ℕ) (s t : Lambda) → Rule scope rows (ImpNeg i) (minus (imp s t) ∷ []) ((as_literal s ∷ opposite (as_literal t) ∷ []) ∷ [])
+  bool_pos_rule : (i : ℕ) (s t : Lambda) → Rule scope rows (BoolPos i) (plus (eq formula s t) ∷ []) ((as_literal s ∷ as_literal t ∷ []) ∷ (opposite (as_literal s) ∷ opposite (as_literal t) ∷ []) ∷ [])
+  bool_neg_rule : (i : ℕ) (s t : Lambda) → Rule scope rows (BoolNeg i) (minus (eq formula s t) ∷ []) ((as_literal s ∷ opposite (as_literal t) ∷ []) ∷ (opposite (as_literal s) ∷ as_literal t ∷ []) ∷ [])
+  fun_pos_rule : (i : ℕ) (a b : SimpleType) (s t : Lambda) → Rule scope rows (FunPos i) (plus (eq (arrow a b) s t) ∷ []) ((as_literal (agreement a b s t) ∷ []) ∷ [])
+  fun_neg_rule : (i : ℕ) (a b : SimpleType) (s t : Lambda) → Rule scope rows (FunNeg i) (minus (eq (arrow a b) s t) ∷ []) ((opposite (as_literal (agreement a b s t)) ∷ []) ∷ [])
+  all_pos_rule : (i : ℕ) (a : SimpleType) (f u : Lambda) → IsCanonical scope [] a u → Rule scope rows (AllPos i u) (plus (every a f) ∷ []) ((as_literal (apply f u) ∷ []) ∷ [])
+  all_neg_rule : (i k : ℕ) (a : SimpleType) (f : Lambda) → slice_get rows k ≡ Some (record { type = a; predicate = f }) → Rule scope rows (AllNeg i) (minus (every a f) ∷ []) ((opposite (as_literal (apply f (eta a (constant (witness k))))) ∷ []) ∷ [])
   mat_rule : (i j : ℕ) (c : Constant) (a : SimpleType) (s t : Lambda) (ss ts : List Lambda) → IsDecomposed c → constant_type scope c ≡ Some a → Rule scope rows (Mat i j) (plus (applied (constant c) (s ∷ ss)) ∷ minus (applied (constant c) (t ∷ ts)) ∷ []) (differ_each a (s ∷ ss) (t ∷ ts))
   dec_rule : (i n : ℕ) (c : Constant) (a : SimpleType) (s t : Lambda) (ss ts : List Lambda) → IsDecomposed c → constant_type scope c ≡ Some a → Rule scope rows (Dec i) (minus (eq (base (suc n)) (applied (constant c) (s ∷ ss)) (applied (constant c) (t ∷ ts))) ∷ []) (differ_each a (s ∷ ss) (t ∷ ts))
   con_rule : (i j n : ℕ) (s t u v : Lambda) → Rule scope rows (Con i j) (plus (eq (base (suc n)) s t) ∷ minus (eq (base (suc n)) u v) ∷ []) ((minus (eq (base (suc n)) s u) ∷ minus (eq (base (suc n)) t u) ∷ []) ∷ (minus (eq (base (suc n)) s v) ∷ minus (eq (base (suc n)) t v) ∷ []) ∷ [])
-  cho_rule : (a : SimpleType) (f : Lambda) → IsCanonical scope [] (predicate a) f → Rule scope rows (Cho f) [] ((literal (nowhere a f) ∷ []) ∷ (literal (apply f (chosen a f)) ∷ []) ∷ [])
-  des_rule : (a : SimpleType) (f : Lambda) → IsCanonical scope [] (predicate a) f → Rule scope rows (Des f) [] ((literal (nowhere a f) ∷ []) ∷ (opposite (literal (at_most_once a f)) ∷ []) ∷ (literal (apply f (described a f)) ∷ []) ∷ [])
+  cho_rule : (a : SimpleType) (f : Lambda) → IsCanonical scope [] (predicate a) f → Rule scope rows (Cho f) [] ((as_literal (nowhere a f) ∷ []) ∷ (as_literal (apply f (chosen a f)) ∷ []) ∷ [])
+  des_rule : (a : SimpleType) (f : Lambda) → IsCanonical scope [] (predicate a) f → Rule scope rows (Des f) [] ((as_literal (nowhere a f) ∷ []) ∷ (opposite (as_literal (at_most_once a f)) ∷ []) ∷ (as_literal (apply f (described a f)) ∷ []) ∷ [])
   cut_rule : (l : Literal) → IsLiteral scope l → Rule scope rows (Cut l) [] ((l ∷ []) ∷ (opposite l ∷ []) ∷ [])
 
 -- the places of the principals in the branch

@@ -7,7 +7,7 @@ use Rattle.stt_core.specs.Typing.{Scope}
 use Rattle.stt_core.specs.Declarations.{scope_of}
 use Rattle.stt_core.specs.PlainProblem.{PlainProblem}
 use Rattle.stt_normal.specs.Normal.{normal_form}
-use Rattle.stt_tableau.specs.Literals.{Literal, opposite, literal}
+use Rattle.stt_tableau.specs.Literals.{Literal, opposite, as_literal}
 
 abbrev pub same_sign : Bool → Bool → Bool
 same_sign true b = b
@@ -32,7 +32,7 @@ without_repeats ls = added [] ls
 
 -- the literal of a formula's normal form
 abbrev pub normal_literal : Scope → Lambda → Literal
-normal_literal scope t = literal (normal_form scope [] t)
+normal_literal scope t = as_literal (normal_form scope [] t)
 
 -- the negation of the conjecture, where there is one
 abbrev pub denied : Scope → Option Lambda → List Literal

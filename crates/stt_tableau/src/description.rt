@@ -8,7 +8,7 @@ ghost use Rattle.stt_core.specs.View.{the_type};
 ghost use Rattle.stt_core.specs.ScopeView.{the_scope};
 ghost use Rattle.stt_normal.specs.Normal.{eta, apply};
 ghost use Rattle.stt_normal.specs.Ready.{CanApply};
-ghost use Rattle.stt_tableau.specs.Literals.{literal, opposite};
+ghost use Rattle.stt_tableau.specs.Literals.{as_literal, opposite};
 ghost use Rattle.stt_tableau.specs.Witnesses.{Row};
 ghost use Rattle.stt_tableau.specs.Rules.{nowhere, at_outer, at_inner, at_most_once, described};
 ghost use Rattle.stt_tableau.specs.Checks.{FindsInstance};
@@ -87,7 +87,7 @@ fn at_most_once_of(alloc: Global, ty: &Ty, f: &Nf) -> Result<Nf, AllocError>
 /// The literal that a predicate doesn't hold of one value at most.
 fn repeated_literal(alloc: Global, ty: &Ty, f: &Nf) -> Result<Lit, AllocError>
     requires { IsFunctionFrom (the_type ty.now) f.now }
-    ensures { IfOk result (λ l. l ≡ opposite (literal (at_most_once (the_type ty.now) f.now))) }
+    ensures { IfOk result (λ l. l ≡ opposite (as_literal (at_most_once (the_type ty.now) f.now))) }
 {
     let formula = at_most_once_of(alloc, ty, f)?;
     let once = literal_of(alloc, &formula)?;
@@ -106,7 +106,7 @@ fn described_by(alloc: Global, ty: &Ty, f: &Nf) -> Result<Nf, AllocError>
 /// The literal that a predicate holds of what it describes.
 fn described_literal(alloc: Global, ty: &Ty, f: &Nf) -> Result<Lit, AllocError>
     requires { CanApply f.now (described (the_type ty.now) f.now) }
-    ensures { IfOk result (λ l. l ≡ literal (apply f.now (described (the_type ty.now) f.now))) }
+    ensures { IfOk result (λ l. l ≡ as_literal (apply f.now (described (the_type ty.now) f.now))) }
 {
     let value = described_by(alloc, ty, f)?;
     Ok(applied_literal(alloc, f, &value)?)
@@ -115,7 +115,7 @@ fn described_literal(alloc: Global, ty: &Ty, f: &Nf) -> Result<Lit, AllocError>
 /// That a predicate holds nowhere, that it holds of more than one value, or that it holds of what it describes.
 fn nowhere_repeated_or_described(alloc: Global, ty: &Ty, f: &Nf) -> Result<Alternatives, AllocError>
     requires { IsPredicateOn (the_type ty.now) f.now }
-    ensures { IfOk result (λ a. a ≡ (literal (nowhere (the_type ty.now) f.now) ∷ []) ∷ (opposite (literal (at_most_once (the_type ty.now) f.now)) ∷ []) ∷ (literal (apply f.now (described (the_type ty.now) f.now)) ∷ []) ∷ []) }
+    ensures { IfOk result (λ a. a ≡ (as_literal (nowhere (the_type ty.now) f.now) ∷ []) ∷ (opposite (as_literal (at_most_once (the_type ty.now) f.now)) ∷ []) ∷ (as_literal (apply f.now (described (the_type ty.now) f.now)) ∷ []) ∷ []) }
 {
     let none = nowhere_literal(alloc, ty, f)?;
     let more = repeated_literal(alloc, ty, f)?;

@@ -5,7 +5,7 @@ ghost use Rattle.stt_core.specs.Typing.{Scope};
 ghost use Rattle.stt_core.specs.SimpleType.{base};
 ghost use Rattle.stt_core.specs.Lambda.{eq};
 ghost use Rattle.stt_core.specs.View.{the_head, the_type};
-ghost use Rattle.stt_tableau.specs.Literals.{literal, opposite, minus};
+ghost use Rattle.stt_tableau.specs.Literals.{as_literal, opposite, minus};
 ghost use Rattle.stt_tableau.specs.Witnesses.{Row};
 ghost use Rattle.stt_tableau.specs.Means.Heads.{equality_of, IsEquation};
 ghost use Rattle.stt_tableau.specs.Checks.{FindsInstance};
@@ -96,7 +96,7 @@ pub fn refl_instance(alloc: Global, branch: &Lits, i: usize) -> Option<Alternati
 
 /// Both formulas, or neither.
 fn both_or_neither(alloc: Global, s: &Nf, t: &Nf) -> Result<Alternatives, AllocError>
-    ensures { IfOk result (λ a. a ≡ (literal s.now ∷ literal t.now ∷ []) ∷ (opposite (literal s.now) ∷ opposite (literal t.now) ∷ []) ∷ []) }
+    ensures { IfOk result (λ a. a ≡ (as_literal s.now ∷ as_literal t.now ∷ []) ∷ (opposite (as_literal s.now) ∷ opposite (as_literal t.now) ∷ []) ∷ []) }
 {
     let both = (literal_of(alloc, s)?, literal_of(alloc, t)?);
     let neither = (
@@ -108,7 +108,7 @@ fn both_or_neither(alloc: Global, s: &Nf, t: &Nf) -> Result<Alternatives, AllocE
 
 /// One of the formulas without the other.
 fn one_of_both(alloc: Global, s: &Nf, t: &Nf) -> Result<Alternatives, AllocError>
-    ensures { IfOk result (λ a. a ≡ (literal s.now ∷ opposite (literal t.now) ∷ []) ∷ (opposite (literal s.now) ∷ literal t.now ∷ []) ∷ []) }
+    ensures { IfOk result (λ a. a ≡ (as_literal s.now ∷ opposite (as_literal t.now) ∷ []) ∷ (opposite (as_literal s.now) ∷ as_literal t.now ∷ []) ∷ []) }
 {
     let first = (literal_of(alloc, s)?, literal_of(alloc, t)?.opposite());
     let second = (literal_of(alloc, s)?.opposite(), literal_of(alloc, t)?);

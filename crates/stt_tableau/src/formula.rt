@@ -1,7 +1,7 @@
 //! The literal of a formula.
 
 ghost use Rattle.std.specs.Prelude.{◌≡◌, IfOk, false};
-ghost use Rattle.stt_tableau.specs.Literals.{plus, literal, is_negated};
+ghost use Rattle.stt_tableau.specs.Literals.{plus, as_literal, is_negated};
 
 use crate::lit::Lit;
 use crate::shape::{Shape, shape_of};
@@ -21,7 +21,7 @@ fn positive(alloc: Global, nf: &Nf) -> Result<Lit, AllocError>
 
 /// The literal of a canonical formula: its outer negations are taken off, and each changes the sign.
 pub fn literal_of(alloc: Global, nf: &Nf) -> Result<Lit, AllocError>
-    ensures { IfOk result (λ l. l ≡ literal nf.now) }
+    ensures { IfOk result (λ l. l ≡ as_literal nf.now) }
 {
     match shape_of(nf) {
         Shape::Not(negated) => {

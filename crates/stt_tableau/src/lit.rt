@@ -2,7 +2,7 @@
 
 ghost use Rattle.std.specs.Prelude.{◌≡◌, ◌<◌, ◌++◌, [], ◌∷◌, length, OnOk, OnErr, slice_get, option_copied, Some, false, IfOk, IsTrue, ◌↔◌, Contains};
 ghost use Rattle.stt_tableau.specs.Literals.{Literal, is_negated, opposite};
-ghost use Rattle.stt_tableau.specs.Accepted.{Within, IsClosed};
+ghost use Rattle.stt_tableau.specs.Accepted.{Within, IsClosedBranch};
 
 use std::alloc::{AllocError, Global};
 use std::marker::Model;
@@ -182,7 +182,7 @@ impl Lits {
 
     /// Whether the list has a literal and its negation.
     pub fn is_closed(&self) -> bool
-        ensures { IsTrue result ↔ IsClosed self.now }
+        ensures { IsTrue result ↔ IsClosedBranch self.now }
     {
         for i in 0..self.len() {
             if self.contains_opposite(self.at(i)) {

@@ -9,7 +9,7 @@ ghost use Rattle.stt_core.specs.View.{the_head, the_type};
 ghost use Rattle.stt_core.specs.ScopeView.{the_scope};
 ghost use Rattle.stt_normal.specs.Normal.{eta, apply};
 ghost use Rattle.stt_normal.specs.Ready.{CanApply};
-ghost use Rattle.stt_tableau.specs.Literals.{literal, opposite, IsBranch};
+ghost use Rattle.stt_tableau.specs.Literals.{as_literal, opposite, IsBranch};
 ghost use Rattle.stt_tableau.specs.Witnesses.{Row};
 ghost use Rattle.stt_tableau.specs.Means.Heads.{quantified_by, IsQuantified};
 ghost use Rattle.stt_tableau.specs.Rules.{at_new, agreement, nowhere, chosen};
@@ -146,7 +146,7 @@ fn nowhere_of(alloc: Global, a: &Ty, f: &Nf) -> Result<Nf, AllocError>
 /// The literal of the formula that two functions agree everywhere.
 fn agreement_literal(alloc: Global, a: &Ty, b: &Ty, s: &Nf, t: &Nf) -> Result<Lit, AllocError>
     requires { AreFunctionsFrom (the_type a.now) s.now t.now }
-    ensures { IfOk result (λ l. l ≡ literal (agreement (the_type a.now) (the_type b.now) s.now t.now)) }
+    ensures { IfOk result (λ l. l ≡ as_literal (agreement (the_type a.now) (the_type b.now) s.now t.now)) }
 {
     let formula = agreement_of(alloc, a, b, s, t)?;
     Ok(literal_of(alloc, &formula)?)
@@ -155,7 +155,7 @@ fn agreement_literal(alloc: Global, a: &Ty, b: &Ty, s: &Nf, t: &Nf) -> Result<Li
 /// The literal of what a predicate gives at an argument.
 pub fn applied_literal(alloc: Global, f: &Nf, u: &Nf) -> Result<Lit, AllocError>
     requires { CanApply f.now u.now }
-    ensures { IfOk result (λ l. l ≡ literal (apply f.now u.now)) }
+    ensures { IfOk result (λ l. l ≡ as_literal (apply f.now u.now)) }
 {
     let formula = apply_nf(alloc, f, u)?;
     Ok(literal_of(alloc, &formula)?)
@@ -261,7 +261,7 @@ fn witness_at(alloc: Global, k: usize, ty: &Ty) -> Result<Nf, AllocError>
 /// The literal that a predicate holds of a witness.
 fn witness_literal(alloc: Global, k: usize, ty: &Ty, f: &Nf) -> Result<Lit, AllocError>
     requires { CanApply f.now (eta (the_type ty.now) (constant (witness k))) }
-    ensures { IfOk result (λ l. l ≡ literal (apply f.now (eta (the_type ty.now) (constant (witness k))))) }
+    ensures { IfOk result (λ l. l ≡ as_literal (apply f.now (eta (the_type ty.now) (constant (witness k))))) }
 {
     let value = witness_at(alloc, k, ty)?;
     Ok(applied_literal(alloc, f, &value)?)
@@ -274,7 +274,7 @@ pub fn denied_of_witness(
     k: usize,
 ) -> Result<Alternatives, AllocError>
     requires { CanApply quantified.now.predicate.now (eta (the_type quantified.now.ty.now) (constant (witness k))) }
-    ensures { IfOk result (λ a. a ≡ (opposite (literal (apply quantified.now.predicate.now (eta (the_type quantified.now.ty.now) (constant (witness k))))) ∷ []) ∷ []) }
+    ensures { IfOk result (λ a. a ≡ (opposite (as_literal (apply quantified.now.predicate.now (eta (the_type quantified.now.ty.now) (constant (witness k))))) ∷ []) ∷ []) }
 {
     let holds = witness_literal(alloc, k, quantified.ty, quantified.predicate)?;
     Ok(one(alloc, holds.opposite())?)
@@ -310,7 +310,7 @@ fn chosen_by(alloc: Global, ty: &Ty, f: &Nf) -> Result<Nf, AllocError>
 /// The literal that a predicate holds nowhere.
 pub fn nowhere_literal(alloc: Global, ty: &Ty, f: &Nf) -> Result<Lit, AllocError>
     requires { IsFunctionFrom (the_type ty.now) f.now }
-    ensures { IfOk result (λ l. l ≡ literal (nowhere (the_type ty.now) f.now)) }
+    ensures { IfOk result (λ l. l ≡ as_literal (nowhere (the_type ty.now) f.now)) }
 {
     let formula = nowhere_of(alloc, ty, f)?;
     Ok(literal_of(alloc, &formula)?)
@@ -319,7 +319,7 @@ pub fn nowhere_literal(alloc: Global, ty: &Ty, f: &Nf) -> Result<Lit, AllocError
 /// The literal that a predicate holds of what is chosen by it.
 fn chosen_literal(alloc: Global, ty: &Ty, f: &Nf) -> Result<Lit, AllocError>
     requires { CanApply f.now (chosen (the_type ty.now) f.now) }
-    ensures { IfOk result (λ l. l ≡ literal (apply f.now (chosen (the_type ty.now) f.now))) }
+    ensures { IfOk result (λ l. l ≡ as_literal (apply f.now (chosen (the_type ty.now) f.now))) }
 {
     let value = chosen_by(alloc, ty, f)?;
     Ok(applied_literal(alloc, f, &value)?)
@@ -328,7 +328,7 @@ fn chosen_literal(alloc: Global, ty: &Ty, f: &Nf) -> Result<Lit, AllocError>
 /// That a predicate holds nowhere, or that it holds of what is chosen by it.
 fn nowhere_or_chosen(alloc: Global, ty: &Ty, f: &Nf) -> Result<Alternatives, AllocError>
     requires { IsPredicateOn (the_type ty.now) f.now }
-    ensures { IfOk result (λ a. a ≡ (literal (nowhere (the_type ty.now) f.now) ∷ []) ∷ (literal (apply f.now (chosen (the_type ty.now) f.now)) ∷ []) ∷ []) }
+    ensures { IfOk result (λ a. a ≡ (as_literal (nowhere (the_type ty.now) f.now) ∷ []) ∷ (as_literal (apply f.now (chosen (the_type ty.now) f.now)) ∷ []) ∷ []) }
 {
     let none = nowhere_literal(alloc, ty, f)?;
     let some = chosen_literal(alloc, ty, f)?;

@@ -3,7 +3,7 @@ use Rattle.std.proofs.Common.{◌≡◌, ◌<◌, ℕ, length, List, [], ◌∷�
 use Rattle.stt_core.specs.SimpleType.{SimpleType}
 use Rattle.stt_core.specs.Lambda.{Constant, constant, app}
 use Rattle.stt_normal.specs.Normal.{eta, apply}
-use Rattle.stt_tableau.specs.Literals.{literal, opposite}
+use Rattle.stt_tableau.specs.Literals.{as_literal, opposite}
 use Rattle.stt_tableau.specs.Witnesses.{Row}
 use Rattle.stt_tableau.specs.Rules.{IsInstance, chosen, nowhere, at_most_once, described}
 use Rattle.stt_tableau.specs.declared.refutation.RuleUse.TheVariants.{Cho, Des}
@@ -27,12 +27,12 @@ pub picked_back : (C : SimpleType → Constant) (b c e : Content) (a x : SimpleT
 picked_back C b c e a x f v g w same m = m ∙ ap₂ (λ t y. Some (apply t (eta a (app (constant (C y)) t)))) (grown_at b c f g w) same
 
 module _ (b e : Content) (rows : List Row) (a : SimpleType) (f : ℕ) (g : Grows b e) (p : IsPredicate b a f) (n : ℕ) (none : HasTerm e n (nowhere a (term_at b.terms f))) (v : ℕ) where
-  first_is : literal (term_at e.terms n) ≡ literal (nowhere a (term_at b.terms f))
-  first_is = ap literal (has_at e n (nowhere a (term_at b.terms f)) none)
+  first_is : as_literal (term_at e.terms n) ≡ as_literal (nowhere a (term_at b.terms f))
+  first_is = ap as_literal (has_at e n (nowhere a (term_at b.terms f)) none)
 
   pub cho_found : HasTerm e v (apply (term_at b.terms f) (chosen a (term_at b.terms f))) → (ds : List (List Signed)) → ds ≡ (yes n ∷ []) ∷ (yes v ∷ []) ∷ [] → Drafted e rows [] (Cho (term_at b.terms f)) (Some ds)
   cho_found holds ds w =
-      let second = ap literal (has_at e v (apply (term_at b.terms f) (chosen a (term_at b.terms f))) holds) in
+      let second = ap as_literal (has_at e v (apply (term_at b.terms f) (chosen a (term_at b.terms f))) holds) in
       subst (λ l. Drafted e rows [] (Cho (term_at b.terms f)) (Some l)) (sym w) (
         ((has_within e n (nowhere a (term_at b.terms f)) none, tt), ((has_within e v (apply (term_at b.terms f) (chosen a (term_at b.terms f))) holds, tt), tt)),
         subst (λ s. IsInstance s rows [] (Cho (term_at b.terms f)) (alternatives_at e ((yes n ∷ []) ∷ (yes v ∷ []) ∷ []))) (sym (grown_scope b e g))
@@ -41,12 +41,12 @@ module _ (b e : Content) (rows : List Row) (a : SimpleType) (f : ℕ) (g : Grows
 
   pub des_found : (m : ℕ) → HasTerm e m (at_most_once a (term_at b.terms f)) → HasTerm e v (apply (term_at b.terms f) (described a (term_at b.terms f))) → (ds : List (List Signed)) → ds ≡ (yes n ∷ []) ∷ (nay m ∷ []) ∷ (yes v ∷ []) ∷ [] → Drafted e rows [] (Des (term_at b.terms f)) (Some ds)
   des_found m once holds ds w =
-      let second = ap (λ t. opposite (literal t)) (has_at e m (at_most_once a (term_at b.terms f)) once) in
-      let third = ap literal (has_at e v (apply (term_at b.terms f) (described a (term_at b.terms f))) holds) in
+      let second = ap (λ t. opposite (as_literal t)) (has_at e m (at_most_once a (term_at b.terms f)) once) in
+      let third = ap as_literal (has_at e v (apply (term_at b.terms f) (described a (term_at b.terms f))) holds) in
       subst (λ l. Drafted e rows [] (Des (term_at b.terms f)) (Some l)) (sym w) (
         ((has_within e n (nowhere a (term_at b.terms f)) none, tt), ((has_within e m (at_most_once a (term_at b.terms f)) once, tt), ((has_within e v (apply (term_at b.terms f) (described a (term_at b.terms f))) holds, tt), tt))),
         subst (λ s. IsInstance s rows [] (Des (term_at b.terms f)) (alternatives_at e ((yes n ∷ []) ∷ (nay m ∷ []) ∷ (yes v ∷ []) ∷ []))) (sym (grown_scope b e g))
             (des_is (content_scope b) rows [] a (term_at b.terms f) (alternatives_at e ((yes n ∷ []) ∷ (nay m ∷ []) ∷ (yes v ∷ []) ∷ [])) p.predicate_in
-            (ap₂ (λ x y. (x ∷ []) ∷ (y ∷ []) ∷ (literal (term_at e.terms v) ∷ []) ∷ []) first_is second
-            ∙ ap (λ z. (literal (nowhere a (term_at b.terms f)) ∷ []) ∷ (opposite (literal (at_most_once a (term_at b.terms f))) ∷ []) ∷ (z ∷ []) ∷ []) third)),
+            (ap₂ (λ x y. (x ∷ []) ∷ (y ∷ []) ∷ (as_literal (term_at e.terms v) ∷ []) ∷ []) first_is second
+            ∙ ap (λ z. (as_literal (nowhere a (term_at b.terms f)) ∷ []) ∷ (opposite (as_literal (at_most_once a (term_at b.terms f))) ∷ []) ∷ (z ∷ []) ∷ []) third)),
       )

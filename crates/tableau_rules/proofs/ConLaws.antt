@@ -4,7 +4,7 @@ use Rattle.stt_core.specs.SimpleType.{SimpleType, base, formula}
 use Rattle.stt_core.specs.Lambda.{eq}
 use Rattle.stt_core.specs.Canonical.{IsCanonical}
 use Rattle.stt_core.specs.View.{the_type}
-use Rattle.stt_tableau.specs.Literals.{minus, opposite, literal}
+use Rattle.stt_tableau.specs.Literals.{minus, opposite, as_literal}
 use Rattle.stt_tableau.specs.Witnesses.{Row}
 use Rattle.stt_tableau.specs.Rules.{IsInstance}
 use Rattle.stt_tableau.specs.declared.refutation.RuleUse.TheVariants.{Con}
@@ -33,7 +33,7 @@ difference_of b c d a s t x g hs ht h =
 difference_is : (b d : Content) (a : SimpleType) (s t : ℕ) (x : Signed) → IsDifference b d a s t x → signed_at d x ≡ minus (eq a (term_at b.terms s) (term_at b.terms t))
 difference_is b d a s t x h =
     ap (λ y. signed_at d (record { formula = x.formula; positive = y })) h.denied
-    ∙ ap (λ u. opposite (literal u)) (has_at d x.formula (eq a (term_at b.terms s) (term_at b.terms t)) h.has)
+    ∙ ap (λ u. opposite (as_literal u)) (has_at d x.formula (eq a (term_at b.terms s) (term_at b.terms t)) h.has)
 
 module _ (b : Content) (p q : Principal) (e o : Equation) (hp : IsPrincipal b p) (hq : IsPrincipal b q) (left : IsEquationOf b (term_at b.terms p.atom) (Some e)) (right : IsEquationOf b (term_at b.terms q.atom) (Some o)) where
   pub con_different : (rows : List Row) → ((the_type e.ty.now ≡ the_type o.ty.now) → (n : ℕ) → the_type e.ty.now ≡ base (suc n) → ⊥) → Drafted b rows (p ∷ q ∷ []) (Con 0 1) None

@@ -4,7 +4,7 @@ use Rattle.std.specs.Bool.{beq}
 use Rattle.stt_core.specs.SimpleType.{formula}
 use Rattle.stt_core.specs.Lambda.{falsity, Lambda, constant, imp, eq}
 use Rattle.stt_core.specs.View.{the_type}
-use Rattle.stt_tableau.specs.Literals.{plus, opposite, literal}
+use Rattle.stt_tableau.specs.Literals.{plus, opposite, as_literal}
 use Rattle.stt_tableau.specs.Witnesses.{Row}
 use Rattle.stt_tableau.specs.declared.refutation.RuleUse.TheVariants.{False, Close, Refl, ImpPos, ImpNeg, BoolPos, BoolNeg, Cut}
 use Rattle.stt_tableau.proofs.InstanceLaws.{false_is, close_is, imp_pos_is, imp_neg_is, refl_is, bool_pos_is, bool_neg_is, cut_is}
@@ -41,12 +41,12 @@ module _ (b : Content) (rows : List Row) (p : Principal) where
   pub imp_pos_found : (s : Sides) (l r : Signed) (ds : List (List Signed)) → p.positive ≡ true → IsImplicationOf b (term_at b.terms p.atom) (Some s) → l ≡ nay s.left → r ≡ yes s.right → ds ≡ (l ∷ []) ∷ (r ∷ []) ∷ [] → Drafted b rows (p ∷ []) (ImpPos 0) (Some ds)
   imp_pos_found s l r ds h g hl hr e =
       subst (λ d. Drafted b rows (p ∷ []) (ImpPos 0) (Some d)) (sym (e ∙ ap₂ (λ x y. (x ∷ []) ∷ (y ∷ []) ∷ []) hl hr))
-      (((g.1, tt), ((g.2, tt), tt)), imp_pos_is (content_scope b) rows (principal_at b p ∷ []) 0 (term_at b.terms s.left) (term_at b.terms s.right) (opposite (literal (term_at b.terms s.left))) (literal (term_at b.terms s.right)) (alternatives_at b ((nay s.left ∷ []) ∷ (yes s.right ∷ []) ∷ [])) (stands b p true (imp (term_at b.terms s.left) (term_at b.terms s.right)) h g.0) refl refl refl)
+      (((g.1, tt), ((g.2, tt), tt)), imp_pos_is (content_scope b) rows (principal_at b p ∷ []) 0 (term_at b.terms s.left) (term_at b.terms s.right) (opposite (as_literal (term_at b.terms s.left))) (as_literal (term_at b.terms s.right)) (alternatives_at b ((nay s.left ∷ []) ∷ (yes s.right ∷ []) ∷ [])) (stands b p true (imp (term_at b.terms s.left) (term_at b.terms s.right)) h g.0) refl refl refl)
 
   pub imp_neg_found : (s : Sides) (l r : Signed) (ds : List (List Signed)) → p.positive ≡ false → IsImplicationOf b (term_at b.terms p.atom) (Some s) → l ≡ yes s.left → r ≡ nay s.right → ds ≡ (l ∷ r ∷ []) ∷ [] → Drafted b rows (p ∷ []) (ImpNeg 0) (Some ds)
   imp_neg_found s l r ds h g hl hr e =
       subst (λ d. Drafted b rows (p ∷ []) (ImpNeg 0) (Some d)) (sym (e ∙ ap₂ (λ x y. (x ∷ y ∷ []) ∷ []) hl hr))
-      (((g.1, (g.2, tt)), tt), imp_neg_is (content_scope b) rows (principal_at b p ∷ []) 0 (term_at b.terms s.left) (term_at b.terms s.right) (literal (term_at b.terms s.left)) (opposite (literal (term_at b.terms s.right))) (alternatives_at b ((yes s.left ∷ nay s.right ∷ []) ∷ [])) (stands b p false (imp (term_at b.terms s.left) (term_at b.terms s.right)) h g.0) refl refl refl)
+      (((g.1, (g.2, tt)), tt), imp_neg_is (content_scope b) rows (principal_at b p ∷ []) 0 (term_at b.terms s.left) (term_at b.terms s.right) (as_literal (term_at b.terms s.left)) (opposite (as_literal (term_at b.terms s.right))) (alternatives_at b ((yes s.left ∷ nay s.right ∷ []) ∷ [])) (stands b p false (imp (term_at b.terms s.left) (term_at b.terms s.right)) h g.0) refl refl refl)
 
   pub refl_found : (q : Equation) (ds : List (List Signed)) → p.positive ≡ false → IsEquationOf b (term_at b.terms p.atom) (Some q) → term_at b.terms q.left ≡ term_at b.terms q.right → ds ≡ [] → Drafted b rows (p ∷ []) (Refl 0) (Some ds)
   refl_found q ds h g same e =
@@ -79,7 +79,7 @@ module _ (b : Content) (rows : List Row) (p : Principal) where
       subst (λ d. Drafted b rows [] (Cut (principal_at b p)) (Some d)) (sym (e ∙ ap₂ (λ x y. (x ∷ []) ∷ (y ∷ []) ∷ []) hl hr))
       (((h.within, tt), ((h.within, tt), tt)), cut_is (content_scope b) rows [] (principal_at b p) (signed_at b (record { formula = p.atom; positive = p.positive })) (signed_at b (record { formula = p.atom; positive = not p.positive })) (alternatives_at b ((record { formula = p.atom; positive = p.positive } ∷ []) ∷ (record { formula = p.atom; positive = not p.positive } ∷ []) ∷ [])) h.typed (left p.positive) (right p.positive) refl)
     where
-      plain : literal (term_at b.terms p.atom) ≡ plus (term_at b.terms p.atom)
+      plain : as_literal (term_at b.terms p.atom) ≡ plus (term_at b.terms p.atom)
       plain = sym (unsigned_literal (term_at b.terms p.atom) h.typed.unsigned)
 
       left : (s : Bool) → signed_at b (record { formula = p.atom; positive = s }) ≡ record { positive = s; atom = term_at b.terms p.atom }

@@ -4,7 +4,7 @@ use Rattle.stt_core.specs.Lambda.{every}
 use Rattle.stt_core.specs.Canonical.{IsCanonical}
 use Rattle.stt_core.specs.View.{the_type}
 use Rattle.stt_normal.specs.Normal.{apply}
-use Rattle.stt_tableau.specs.Literals.{literal}
+use Rattle.stt_tableau.specs.Literals.{as_literal}
 use Rattle.stt_tableau.specs.Witnesses.{Row}
 use Rattle.stt_tableau.specs.Rules.{IsInstance}
 use Rattle.stt_tableau.specs.declared.refutation.RuleUse.{RuleUse}
@@ -39,7 +39,7 @@ pub all_pos_found : (b c : Content) (rows : List Row) (p : Principal) (q : Quant
 all_pos_found b c rows p q u v s ds g h sign is canonical made hs e =
     subst (λ d. Drafted c rows (p ∷ []) (AllPos 0 (term_at b.terms u)) (Some d)) (sym (e ∙ ap (λ x. (x ∷ []) ∷ []) hs))
     (drafted_grown b c rows p (AllPos 0 (term_at b.terms u)) ((yes v ∷ []) ∷ []) g h ((has_within c v (apply (term_at b.terms q.predicate) (term_at b.terms u)) made, tt), tt)
-    (all_pos_is (content_scope b) rows (principal_at b p ∷ []) 0 (the_type q.ty.now) (term_at b.terms q.predicate) (term_at b.terms u) (term_at c.terms v) (literal (term_at c.terms v)) (alternatives_at c ((yes v ∷ []) ∷ [])) (stands b p true (every (the_type q.ty.now) (term_at b.terms q.predicate)) sign is.0) canonical (has_at c v (apply (term_at b.terms q.predicate) (term_at b.terms u)) made) refl refl))
+    (all_pos_is (content_scope b) rows (principal_at b p ∷ []) 0 (the_type q.ty.now) (term_at b.terms q.predicate) (term_at b.terms u) (term_at c.terms v) (as_literal (term_at c.terms v)) (alternatives_at c ((yes v ∷ []) ∷ [])) (stands b p true (every (the_type q.ty.now) (term_at b.terms q.predicate)) sign is.0) canonical (has_at c v (apply (term_at b.terms q.predicate) (term_at b.terms u)) made) refl refl))
 
 -- EQUATIONS BETWEEN FUNCTIONS
 
@@ -53,12 +53,12 @@ module _ (b c : Content) (rows : List Row) (p : Principal) (f : Functions) (v : 
   fun_pos_found sign hs =
       subst (λ d. Drafted c rows (p ∷ []) (FunPos 0) (Some d)) (sym (e ∙ ap (λ x. (x ∷ []) ∷ []) hs))
       (drafted_grown b c rows p (FunPos 0) ((yes v ∷ []) ∷ []) g h ((has_within c v (agreement (the_type f.argument) (the_type f.outcome) (term_at b.terms f.left) (term_at b.terms f.right)) made, tt), tt)
-      (fun_pos_is (content_scope b) rows (principal_at b p ∷ []) 0 (arrow (the_type f.argument) (the_type f.outcome)) (the_type f.argument) (the_type f.outcome) (term_at b.terms f.left) (term_at b.terms f.right) (term_at c.terms v) (literal (term_at c.terms v)) (alternatives_at c ((yes v ∷ []) ∷ []))
+      (fun_pos_is (content_scope b) rows (principal_at b p ∷ []) 0 (arrow (the_type f.argument) (the_type f.outcome)) (the_type f.argument) (the_type f.outcome) (term_at b.terms f.left) (term_at b.terms f.right) (term_at c.terms v) (as_literal (term_at c.terms v)) (alternatives_at c ((yes v ∷ []) ∷ []))
       (stands b p true (eq (arrow (the_type f.argument) (the_type f.outcome)) (term_at b.terms f.left) (term_at b.terms f.right)) sign is.0) refl (has_at c v (agreement (the_type f.argument) (the_type f.outcome) (term_at b.terms f.left) (term_at b.terms f.right)) made) refl refl))
 
   pub fun_neg_found : p.positive ≡ false → s ≡ nay v → Drafted c rows (p ∷ []) (FunNeg 0) (Some ds)
   fun_neg_found sign hs =
       subst (λ d. Drafted c rows (p ∷ []) (FunNeg 0) (Some d)) (sym (e ∙ ap (λ x. (x ∷ []) ∷ []) hs))
       (drafted_grown b c rows p (FunNeg 0) ((nay v ∷ []) ∷ []) g h ((has_within c v (agreement (the_type f.argument) (the_type f.outcome) (term_at b.terms f.left) (term_at b.terms f.right)) made, tt), tt)
-      (fun_neg_is (content_scope b) rows (principal_at b p ∷ []) 0 (arrow (the_type f.argument) (the_type f.outcome)) (the_type f.argument) (the_type f.outcome) (term_at b.terms f.left) (term_at b.terms f.right) (term_at c.terms v) (literal (term_at c.terms v)) (opposite (literal (term_at c.terms v))) (alternatives_at c ((nay v ∷ []) ∷ []))
+      (fun_neg_is (content_scope b) rows (principal_at b p ∷ []) 0 (arrow (the_type f.argument) (the_type f.outcome)) (the_type f.argument) (the_type f.outcome) (term_at b.terms f.left) (term_at b.terms f.right) (term_at c.terms v) (as_literal (term_at c.terms v)) (opposite (as_literal (term_at c.terms v))) (alternatives_at c ((nay v ∷ []) ∷ []))
       (stands b p false (eq (arrow (the_type f.argument) (the_type f.outcome)) (term_at b.terms f.left) (term_at b.terms f.right)) sign is.0) refl (has_at c v (agreement (the_type f.argument) (the_type f.outcome) (term_at b.terms f.left) (term_at b.terms f.right)) made) refl refl refl))

@@ -7,7 +7,7 @@ use Rattle.stt_core.specs.SimpleType.{formula}
 use Rattle.stt_core.specs.Lambda.{Lambda}
 use Rattle.stt_core.specs.Typing.{Scope, IsScope}
 use Rattle.stt_core.specs.Canonical.{IsCanonical}
-use Rattle.stt_tableau.specs.Literals.{Literal, opposite, literal, IsLiteral, IsBranch}
+use Rattle.stt_tableau.specs.Literals.{Literal, opposite, as_literal, IsLiteral, IsBranch}
 use Rattle.stt_tableau.specs.Rules.{places, AreAt, IsInstance}
 use Rattle.stt_tableau.specs.Witnesses.{Row}
 use Rattle.stt_tableau.specs.declared.refutation.RuleUse.{RuleUse}
@@ -32,14 +32,14 @@ use Rattle.tableau_rules.proofs.WideLaws.{wide_at, wide_instance}
 -- FORMULAS
 
 -- a formula whose literal is typed is typed
-literal_typed : (scope : Scope) (t : Lambda) → IsLiteral scope (literal t) → IsCanonical scope [] formula t
+literal_typed : (scope : Scope) (t : Lambda) → IsLiteral scope (as_literal t) → IsCanonical scope [] formula t
 literal_typed scope t h =
     literal_cases (λ t l. IsCanonical scope [] formula l.atom → IsCanonical scope [] formula t) (λ s go k. (tt, (formula, refl, go k))) (λ t n k. k) t h.formula
 
 signed_typed : (b : Content) (s : Signed) → IsLiteral (content_scope b) (signed_at b s) → IsCanonical (content_scope b) [] formula (term_at b.terms s.formula)
 signed_typed b s h = literal_typed (content_scope b) (term_at b.terms s.formula) (go s.positive h)
   where
-    go : (sign : Bool) → IsLiteral (content_scope b) (if sign then literal (term_at b.terms s.formula) else opposite (literal (term_at b.terms s.formula))) → IsLiteral (content_scope b) (literal (term_at b.terms s.formula))
+    go : (sign : Bool) → IsLiteral (content_scope b) (if sign then as_literal (term_at b.terms s.formula) else opposite (as_literal (term_at b.terms s.formula))) → IsLiteral (content_scope b) (as_literal (term_at b.terms s.formula))
     go true h = h
     go false h = record { formula = h.formula; unsigned = h.unsigned }
 

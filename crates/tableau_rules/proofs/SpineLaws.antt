@@ -15,7 +15,7 @@ use Rattle.stt_core.proofs.HeadLaws.{atom_head}
 use Rattle.stt_core.proofs.ListLaws.{take_got}
 use Rattle.stt_core.proofs.SpineLaws.{SameParts, parts}
 use Rattle.stt_core.proofs.TypeLaws.{constant_declared}
-use Rattle.stt_tableau.specs.Literals.{minus, opposite, literal}
+use Rattle.stt_tableau.specs.Literals.{minus, opposite, as_literal}
 use Rattle.stt_tableau.specs.Rules.{IsDecomposed, differ_each}
 use Rattle.stt_tableau.specs.Means.Heads.{IsDecomposedHead}
 use Rattle.stt_tableau.proofs.DecompositionLaws.{Takes, arguments_taken}
@@ -176,7 +176,7 @@ module _ (b : Content) (n : ℕ) (over : IsScope (content_scope b)) where
 difference_is : (b d : Content) (a : SimpleType) (s t : ℕ) (x : Signed) → IsDifference b d a s t x → signed_at d x ≡ minus (eq a (term_at b.terms s) (term_at b.terms t))
 difference_is b d a s t x h =
     ap (λ y. signed_at d (record { formula = x.formula; positive = y })) h.denied
-    ∙ ap (λ u. opposite (literal u)) (has_at d x.formula (eq a (term_at b.terms s) (term_at b.terms t)) h.has)
+    ∙ ap (λ u. opposite (as_literal u)) (has_at d x.formula (eq a (term_at b.terms s) (term_at b.terms t)) h.has)
 
 module _ (b d : Content) where
   each_within : (a : SimpleType) (ss ts : List ℕ) (ds : List (List Signed)) → TakesBoth b a ss ts → DifferEach b d ss ts ds → AreWithin d ds

@@ -9,7 +9,7 @@ use Rattle.stt_core.specs.View.{the_type}
 use Rattle.stt_core.proofs.ListLaws.{mapped_get}
 use Rattle.stt_normal.specs.Normal.{eta, apply}
 use Rattle.stt_normal.proofs.NormalValues.{canonical-eta}
-use Rattle.stt_tableau.specs.Literals.{Literal, minus, opposite, literal}
+use Rattle.stt_tableau.specs.Literals.{Literal, minus, opposite, as_literal}
 use Rattle.stt_tableau.specs.Witnesses.{Row, with_rows, IsTypedRow}
 use Rattle.stt_tableau.specs.declared.refutation.RuleUse.TheVariants.{AllNeg}
 use Rattle.stt_tableau.proofs.FunctionLaws.{every_canonical}
@@ -109,7 +109,7 @@ module _ (b : Content) (p : Principal) (q : Quantified) (h : IsPrincipal b p) (i
       all_neg_found n made s ds hs e =
           subst (λ l. DraftedOver c (rows_of c.terms ids) (p ∷ []) (AllNeg 0) (Some l)) (sym (e ∙ ap (λ x. (x ∷ []) ∷ []) hs)) (
             ((has_within c n (apply (term_at c.terms q.predicate) (eta (the_type q.ty.now) (constant (witness k)))) made, tt), tt),
-            all_neg_is (content_scope c) (rows_of c.terms ids) (principal_at c p ∷ []) 0 k (the_type q.ty.now) (term_at c.terms q.predicate) (eta (the_type q.ty.now) (constant (witness k))) (term_at c.terms n) (literal (term_at c.terms n)) (opposite (literal (term_at c.terms n))) (alternatives_at c ((nay n ∷ []) ∷ []))
+            all_neg_is (content_scope c) (rows_of c.terms ids) (principal_at c p ∷ []) 0 k (the_type q.ty.now) (term_at c.terms q.predicate) (eta (the_type q.ty.now) (constant (witness k))) (term_at c.terms n) (as_literal (term_at c.terms n)) (opposite (as_literal (term_at c.terms n))) (alternatives_at c ((nay n ∷ []) ∷ []))
                 (ap Some denies) row_is refl (has_at c n (apply (term_at c.terms q.predicate) (eta (the_type q.ty.now) (constant (witness k)))) made) refl refl refl,
           )
 

@@ -18,7 +18,7 @@ use Rattle.sat_base.proofs.LiteralLaws.{same_var-true, negated-negated}
 use Rattle.sat_base.proofs.TruthLaws.{implied_true}
 use Rattle.sat_log.specs.Propagation.{IsUnit, IsFalseIn, Propagates, ReachesFalse as NumbersReachFalse}
 use Rattle.search_run.specs.Numbered.{atom_at, literal_at}
-use Rattle.search_run.specs.Unsatisfiable.{Clause, holds as holds_among, is_false}
+use Rattle.search_run.specs.Unsatisfiable.{Clause, is_true_where, is_false}
 use Rattle.rebuilt_refutation.specs.Input.{clause_by, clause_in, Sourced, Input, literals_of}
 use Rattle.rebuilt_refutation.specs.Trimmed.{IsFromClause, IsFromSearch, IsCutOnAtom as IsCutOnVariable}
 use Rattle.rebuilt_refutation.proofs.LiteralLaws.{contains_literal, each_literal, contains_held}
@@ -142,7 +142,7 @@ module _ (atoms : List Lambda) (terms : List Lambda) where
   either_way false true = refl
   either_way false false = refl
 
-  value_of : (c : List SatLit) → list_any (holds_among terms) (literals_of atoms c) ≡ clause_value value c
+  value_of : (c : List SatLit) → list_any (is_true_where terms) (literals_of atoms c) ≡ clause_value value c
   value_of [] = refl
   value_of (l ∷ c) = λ i. either_way (value l.var) l.positive i || value_of c i
 
@@ -151,7 +151,7 @@ module _ (atoms : List Lambda) (terms : List Lambda) where
   not_not false h = cc
 
   one_true : (c : List SatLit) → is_false terms (literals_of atoms c) ≡ false → IsTrue (clause_value value c)
-  one_true c h = sym (value_of c) ∙ not_not (list_any (holds_among terms) (literals_of atoms c)) h
+  one_true c h = sym (value_of c) ∙ not_not (list_any (is_true_where terms) (literals_of atoms c)) h
 
   all_true : (clauses : List (List SatLit)) → All (λ c. is_false terms c ≡ false) (map (literals_of atoms) clauses) → AllTrue value clauses
   all_true [] h = All-nil (λ c. IsTrue (clause_value value c))

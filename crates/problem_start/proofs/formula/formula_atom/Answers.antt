@@ -1,7 +1,7 @@
 use Rattle.std.proofs.Common.{ap, ◌∙◌, []}
 use Rattle.stt_core.specs.View.{the_term}
 use Rattle.stt_normal.specs.Normal.{normal_form}
-use Rattle.stt_tableau.specs.Literals.{literal}
+use Rattle.stt_tableau.specs.Literals.{as_literal}
 use Rattle.term_bank.specs.Content.{content_scope}
 use Rattle.term_bank.proofs.GrowLaws.{has_at, has_within}
 use Rattle.problem_start.proofs.PeelLaws.{normal-atom}
@@ -15,7 +15,7 @@ atom_of-requires c =
 pub returns-clause-literal : goal.returns-clause-literal
 returns-clause-literal c =
     let b = c.args.bank.now in
-    c.atom_of.ensures.literal ∙ ap literal (has_at c.normalise.new.bank c.in_ok-id.id (normal_form (content_scope b) [] (the_term c.args.formula.now)) c.in_ok-id.ensures.term)
+    c.atom_of.ensures.literal ∙ ap as_literal (has_at c.normalise.new.bank c.in_ok-id.id (normal_form (content_scope b) [] (the_term c.args.formula.now)) c.in_ok-id.ensures.term)
 
 pub returns-clause-atom : goal.returns-clause-atom
 returns-clause-atom c =

@@ -1,5 +1,5 @@
 use Rattle.std.proofs.Common.{◌≡◌, ◌<◌, length}
-use Rattle.stt_tableau.specs.Literals.{literal}
+use Rattle.stt_tableau.specs.Literals.{as_literal}
 use Rattle.term_bank.specs.Terms.{term_at}
 use Rattle.problem_start.proofs.PeelLaws.{with_sign}
 use Rattle.problem_start.proofs.unsigned.atom_of.Given as goal
@@ -8,7 +8,7 @@ use Rattle.problem_start.proofs.unsigned.atom_of.Given as goal
 abbrev pub invariant-loop-inner : goal.invariant-loop-inner
 invariant-loop-inner l = record {
   within : l.atom < length l.bank.terms;
-  literal : with_sign l.positive (literal (term_at l.bank.terms l.atom)) ≡ literal (term_at l.bank.terms l.formula);
+  literal : with_sign l.positive (as_literal (term_at l.bank.terms l.atom)) ≡ as_literal (term_at l.bank.terms l.formula);
 }
 
 abbrev pub decreases-loop-inner : goal.decreases-loop-inner

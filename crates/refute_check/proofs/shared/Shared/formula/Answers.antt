@@ -3,7 +3,7 @@ use Rattle.stt_core.specs.SimpleType.{formula}
 use Rattle.stt_core.specs.View.{the_term}
 use Rattle.stt_normal.specs.Normal.{normal_form}
 use Rattle.stt_normal.proofs.NormalValues.{canonical-normal_form}
-use Rattle.stt_tableau.specs.Literals.{literal}
+use Rattle.stt_tableau.specs.Literals.{as_literal}
 use Rattle.term_bank.proofs.GrowLaws.{has_at}
 use Rattle.literal_map.proofs.StayLaws.{atoms_stay}
 use Rattle.refute_check.specs.declared.shared.Shared.{Shared}
@@ -24,7 +24,7 @@ lit_of-requires-clause-atoms c = atoms_stay c.args.self.now.bank c.normalise.new
 pub returns-clause-literal : goal.returns-clause-literal
 returns-clause-literal c =
     c.in_ok-lit_of.ensures.literal
-    ∙ ap literal (has_at c.normalise.new.bank c.in_ok-id.id (normal_form (scope_in c.args.self.now) [] (the_term c.args.formula.now)) c.in_ok-id.ensures.term)
+    ∙ ap as_literal (has_at c.normalise.new.bank c.in_ok-id.id (normal_form (scope_in c.args.self.now) [] (the_term c.args.formula.now)) c.in_ok-id.ensures.term)
 
 pub returns-clause-good : goal.returns-clause-good
 returns-clause-good c =
