@@ -12,10 +12,10 @@ use Rattle.term_bank.specs.Means.ShapeLaws.{shape_decides}
 use Rattle.term_bank.specs.Means.Sound.{terms_after}
 use Rattle.term_bank.specs.Terms.{term_at, shape_term, IsBelow}
 use Rattle.term_bank.specs.NodeView.{the_shape}
-use Rattle.term_bank.specs.Means.FactsView.{AreFactsOf}
+use Rattle.term_bank.specs.Means.MarksView.{IsMarked}
 use Rattle.term_bank.specs.Means.Sound.{Entry, terms_of, AreSound}
 use Rattle.term_bank.specs.declared.node.Node.{Node}
-use Rattle.term_bank.specs.declared.facts.Facts.{Facts}
+use Rattle.term_bank.specs.declared.marks.Marks.{Marks}
 use Rattle.stt_core.proofs.ListLaws.{slice_get-end, map-append}
 use Rattle.term_bank.proofs.ListLaws.{get_or-end, get_or-front, end_cases}
 use Rattle.term_bank.proofs.TermLaws.{terms_after-end}
@@ -49,7 +49,7 @@ none_of : {A : Type 0} (o : Option A) → false ≡ is_some o → o ≡ None
 none_of None h = refl
 none_of (Some x) h = absurd (true≢false (sym h))
 
-pub entries_after : {S : Type 0} (m : IndexMap Node Facts S) (n : Node) (f : Facts) → false ≡ is_some (get is_node m n) → (es : List Entry) → es ≡ insert_entry is_node m.entries n f → es ≡ m.entries ++ (n, f) ∷ []
+pub entries_after : {S : Type 0} (m : IndexMap Node Marks S) (n : Node) (f : Marks) → false ≡ is_some (get is_node m n) → (es : List Entry) → es ≡ insert_entry is_node m.entries n f → es ≡ m.entries ++ (n, f) ∷ []
 entries_after m n f h es e = e ∙ insert_entry-new is_node m n f (none_of (get is_node m n) h)
 
 pub terms_of-end : (es : List Entry) (e : Entry) → terms_of (es ++ e ∷ []) ≡ terms_of es ++ shape_term (terms_of es) (entry_shape e) ∷ []
@@ -59,7 +59,7 @@ module _ (scope : Scope) (es : List Entry) (sound : AreSound scope es) (e : Entr
   -- what is asked of the node that is added
   pub record CanAdd : Type 0 where
     pub below : IsBelow (length (terms_of es)) (entry_shape e)
-    pub facts : AreFactsOf scope (length (terms_of es)) (shape_term (terms_of es) (entry_shape e)) e.1
+    pub marked : IsMarked scope (shape_term (terms_of es) (entry_shape e)) e.1
 
   module _ (can : CanAdd) where
     after : List Entry
@@ -81,12 +81,11 @@ module _ (scope : Scope) (es : List Entry) (sound : AreSound scope es) (e : Entr
       below = λ k x h. end_cases (IsBelow k (the_shape x.0)) es e x k h
           (λ early. sound.below k x early)
           (λ last same. subst (λ y. IsBelow k (entry_shape y)) same (subst (λ j. IsBelow j (entry_shape e)) (terms_of-length es ∙ sym last) can.below));
-      facts = λ k x h. end_cases (AreFactsOf scope k (term_at (terms_of (es ++ e ∷ [])) k) x.1) es e x k h
-          (λ early. subst (λ t. AreFactsOf scope k t x.1) (sym (front_term k (slice_get_within es k x early))) (sound.facts k x early))
+      marked = λ k x h. end_cases (IsMarked scope (term_at (terms_of (es ++ e ∷ [])) k) x.1) es e x k h
+          (λ early. subst (λ t. IsMarked scope t x.1) (sym (front_term k (slice_get_within es k x early))) (sound.marked k x early))
           (λ last same.
-          let here : AreFactsOf scope (length es) (term_at (terms_of (es ++ e ∷ [])) (length es)) e.1 =
-          subst (λ t. AreFactsOf scope (length es) t e.1) (sym end_term) (subst (λ j. AreFactsOf scope j (shape_term (terms_of es) (entry_shape e)) e.1) (terms_of-length es) can.facts) in
-          subst (λ y. AreFactsOf scope k (term_at (terms_of (es ++ e ∷ [])) k) y.1) same (subst (λ j. AreFactsOf scope j (term_at (terms_of (es ++ e ∷ [])) j) e.1) (sym last) here));
+          let here : IsMarked scope (term_at (terms_of (es ++ e ∷ [])) (length es)) e.1 = subst (λ t. IsMarked scope t e.1) (sym end_term) can.marked in
+          subst (λ y. IsMarked scope (term_at (terms_of (es ++ e ∷ [])) k) y.1) same (subst (λ j. IsMarked scope (term_at (terms_of (es ++ e ∷ [])) j) e.1) (sym last) here));
     }
 
 -- what a bank's entries are after one more
@@ -96,12 +95,12 @@ pub record Added (scope : Scope) (es after : List Entry) (t : Lambda) : Type 0 w
   pub place : slice_get (terms_of after) (length es) ≡ Some t
 
 -- `ts` are the terms that are there, `t` is that of the new node `n`, and `s` is that node's shape
-pub added : (scope : Scope) (es after : List Entry) (n : Node) (f : Facts) (s : Shape) (ts : List Lambda) (t : Lambda) → AreSound scope es → the_shape n ≡ s → terms_of es ≡ ts → shape_term ts s ≡ t → IsBelow (length ts) s → AreFactsOf scope (length ts) t f → after ≡ es ++ (n, f) ∷ [] → Added scope es after t
-added scope es after n f s ts t sound shape terms term below facts is =
+pub added : (scope : Scope) (es after : List Entry) (n : Node) (f : Marks) (s : Shape) (ts : List Lambda) (t : Lambda) → AreSound scope es → the_shape n ≡ s → terms_of es ≡ ts → shape_term ts s ≡ t → IsBelow (length ts) s → IsMarked scope t f → after ≡ es ++ (n, f) ∷ [] → Added scope es after t
+added scope es after n f s ts t sound shape terms term below marked is =
     let whole : shape_term (terms_of es) (the_shape n) ≡ t = ap₂ shape_term terms shape ∙ term in
     let can : CanAdd scope es sound (n, f) = record {
       below = subst (λ x. IsBelow (length (terms_of es)) x) (sym shape) (subst (λ l. IsBelow (length l) s) (sym terms) below);
-      facts = subst (λ x. AreFactsOf scope (length (terms_of es)) x f) (sym whole) (subst (λ l. AreFactsOf scope (length l) t f) (sym terms) facts);
+      marked = subst (λ x. IsMarked scope x f) (sym whole) marked;
     } in
     let more : terms_of after ≡ terms_of es ++ t ∷ [] = ap terms_of is ∙ terms_of-end es (n, f) ∙ ap (λ x. terms_of es ++ x ∷ []) whole in
     record {

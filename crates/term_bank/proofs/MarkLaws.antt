@@ -10,8 +10,8 @@ use Rattle.stt_core.proofs.CanonicalTypes.{applied-more}
 use Rattle.stt_core.specs.Depth.{depth}
 use Rattle.term_bank.specs.Means.Marks.{greater, greatest_witness}
 use Rattle.term_bank.specs.Terms.{term_at}
-use Rattle.term_bank.specs.Means.FactsView.{AreMarksOf}
-use Rattle.term_bank.specs.declared.facts.Marks.{Marks}
+use Rattle.term_bank.specs.Means.MarksView.{AreMarksOf}
+use Rattle.term_bank.specs.declared.marks.Marks.{Marks}
 
 pub depth_atom : (h : Lambda) → IsAtom h → 0 ≡ depth h
 depth_atom (bound k) o = refl
@@ -36,13 +36,3 @@ marks_more ts h args i id before argument after g m d e w d' e' w' =
 
 pub marks_whole : (ts : List Lambda) (h : Lambda) (args : List ℕ) (i : ℕ) (m : Marks) → length args ≤ i → AreMarksOf (applied h (map (term_at ts) (take i args))) m → AreMarksOf (applied h (map (term_at ts) args)) m
 marks_whole ts h args i m l h' = subst (λ us. AreMarksOf (applied h (map (term_at ts) us)) m) (take_all i args l) h'
-
--- a head with arguments that are no deeper than their places is no deeper than the number of places
-shallow-from : (n : ℕ) (t : Lambda) (us : List Lambda) → depth t ≤ n → All (λ u. depth u < n) us → depth (applied t us) ≤ n
-shallow-from n t [] d all = d
-shallow-from n t (u ∷ us) d all =
-    let first = All-head (λ v. depth v < n) u us all in
-    shallow-from n (app t u) us (omega (arith, d, first)) (All-tail (λ v. depth v < n) u us all)
-
-pub shallow_spine : (n : ℕ) (h : Lambda) (us : List Lambda) → IsAtom h → All (λ u. depth u < n) us → depth (applied h us) ≤ n
-shallow_spine n h us o all = shallow-from n h us (omega (arith, depth_atom h o)) all

@@ -5,9 +5,9 @@ use Rattle.stt_core.specs.Lambda.{Constant, name, witness, falsity, negation, im
 use Rattle.stt_core.specs.Typing.{Scope, IsScope, AreDeclared, constant_type}
 use Rattle.stt_core.specs.Canonical.{IsFrom, IsCanonical, IsNeutral}
 use Rattle.term_bank.specs.Terms.{term_at}
-use Rattle.term_bank.specs.Means.FactsView.{AreFactsOf}
+use Rattle.term_bank.specs.Means.MarksView.{IsMarked}
 use Rattle.term_bank.specs.Means.Sound.{Entry, terms_of, AreSound}
-use Rattle.term_bank.specs.declared.facts.Facts.{Facts}
+use Rattle.term_bank.specs.declared.marks.Marks.{Marks}
 use Rattle.stt_core.proofs.ListLaws.{slice_get-append}
 
 from_each : (c a : SimpleType) (P Q : SimpleType → Type 0) → ((b : SimpleType) → P b → Q b) → IsFrom c a P → IsFrom c a Q
@@ -49,16 +49,14 @@ module _ (bases : ℕ) (names wits : List SimpleType) (more : SimpleType) where
     neutral_after ctx a (lam c s) h = h
     neutral_after ctx a (app s u) h = (h.0, neutral_after ctx (arrow h.0 a) s h.1, canonical_after ctx h.0 u h.2)
 
-  facts_after : (k : ℕ) (t : Lambda) (f : Facts) → AreFactsOf before k t f → AreFactsOf after k t f
-  facts_after k t f h = record {
+  marked_after : (t : Lambda) (m : Marks) → IsMarked before t m → IsMarked after t m
+  marked_after t m h = record {
     marks = h.marks;
-    shallow = h.shallow;
     typed = record { ctx = h.typed.ctx; type = h.typed.type; canonical = canonical_after h.typed.ctx h.typed.type t h.typed.canonical };
-    closed = λ m. let c = h.closed m in record { is = c.is; type_is = c.type_is; canonical = canonical_after [] c.is t c.canonical };
   }
 
   pub sound_more : (es : List Entry) → AreSound before es → AreSound after es
-  sound_more es h = record { below = h.below; facts = λ k e g. facts_after k (term_at (terms_of es) k) e.1 (h.facts k e g) }
+  sound_more es h = record { below = h.below; marked = λ k e g. marked_after (term_at (terms_of es) k) e.1 (h.marked k e g) }
 
   pub scope_more : IsScope before → is_declared bases more ≡ true → IsScope after
   scope_more h d = record { names_declared = h.names_declared; witnesses_declared = declared-end bases wits more h.witnesses_declared d }

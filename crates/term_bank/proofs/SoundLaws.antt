@@ -7,7 +7,7 @@ use Rattle.stt_core.specs.Lambda.{Lambda, bound}
 use Rattle.term_bank.specs.Shape.{Shape}
 use Rattle.term_bank.specs.Terms.{term_at, shape_term, IsBelow}
 use Rattle.term_bank.specs.NodeView.{the_shape}
-use Rattle.term_bank.specs.Means.FactsView.{AreFactsOf}
+use Rattle.term_bank.specs.Means.MarksView.{IsMarked}
 use Rattle.term_bank.specs.Means.Sound.{Entry, terms_of, AreSound}
 use Rattle.term_bank.proofs.TermLaws.{terms_after-length, term_of_node, AreBelow}
 
@@ -48,8 +48,8 @@ module _ (scope : Scope) (es : List Entry) (sound : AreSound scope es) where
       ∙ get_or_from_slice_get (terms_of es) k (shape_term (terms_of es) (entry_shape e)) (bound 0) (entry_term k e h)
       ∙ ap (λ l. shape_term l (entry_shape e)) same
 
-  pub facts_are : (ts : List Lambda) (k : ℕ) (e : Entry) → terms_of es ≡ ts → slice_get es k ≡ Some e → AreFactsOf scope k (term_at ts k) e.1
-  facts_are ts k e same h = subst (λ l. AreFactsOf scope k (term_at l k) e.1) same (sound.facts k e h)
+  pub marks_are : (ts : List Lambda) (k : ℕ) (e : Entry) → terms_of es ≡ ts → slice_get es k ≡ Some e → IsMarked scope (term_at ts k) e.1
+  marks_are ts k e same h = subst (λ l. IsMarked scope (term_at l k) e.1) same (sound.marked k e h)
 
 -- the places of the terms are those of the entries
 pub within_entries : (es : List Entry) (ts : List Lambda) (k : ℕ) → terms_of es ≡ ts → k < length ts → k < length es

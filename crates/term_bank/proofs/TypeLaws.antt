@@ -10,9 +10,8 @@ use Rattle.stt_core.specs.Canonical.{IsBase, IsCanonical, IsNeutral}
 use Rattle.stt_core.specs.Means.Missing.{missing_binders}
 use Rattle.stt_core.proofs.TypeLaws.{type_of-neutral}
 use Rattle.stt_core.proofs.SpineLaws.{IsAtom}
-use Rattle.term_bank.specs.Means.FactsView.{HasTypeIn}
+use Rattle.term_bank.specs.Means.MarksView.{HasTypeIn}
 use Rattle.term_bank.specs.Terms.{IsTypedTerm}
-use Rattle.term_bank.specs.Means.FactsView.{HasClosedType}
 use Rattle.term_bank.proofs.ClosedLaws.{canonical-front}
 
 -- A FUNCTION'S BODY
@@ -34,17 +33,6 @@ function_of scope ctx a b s d h = (d, (refl, h))
 
 pub body_typed : (scope : Scope) (ctx : List SimpleType) (a : SimpleType) (s : Lambda) → HasTypeIn scope ctx (lam a s) → HasTypeIn scope (a ∷ ctx) s
 body_typed scope ctx a s h = let b = body_of scope ctx a h.type s h.canonical in record { type = b.result; canonical = b.canonical }
-
--- a function that is closed has a body that needs its variable alone
-pub body_closed : (scope : Scope) (a : SimpleType) (s : Lambda) → IsTypedTerm scope (lam a s) → missing_binders s ≤ 1 → HasTypeIn scope (a ∷ []) s
-body_closed scope a s h m =
-    let b = body_of scope h.ctx a h.type s h.canonical in
-    record { type = b.result; canonical = canonical-front scope h.ctx [] (a ∷ []) b.result s m b.canonical }
-
-pub function_closed : (scope : Scope) (a type : SimpleType) (s : Lambda) (o : Option SimpleType) → IsTypedTerm scope (lam a s) → IsCanonical scope (a ∷ []) type s → o ≡ Some (arrow a type) → HasClosedType scope (lam a s) o
-function_closed scope a type s o h k e =
-    let b = body_of scope h.ctx a h.type s h.canonical in
-    record { is = arrow a type; type_is = e; canonical = function_of scope [] a type s b.declared k }
 
 -- A HEAD WITH ITS ARGUMENTS
 
@@ -100,9 +88,9 @@ module _ (scope : Scope) (ctx : List SimpleType) where
       let w : a ≡ b = sym (based a n.0) ∙ ap base (sym r.ends) ∙ sym q in
       subst (λ x. IsCanonical scope ctx x (applied h us)) w c
 
-pub spine_closed : (scope : Scope) (h : Lambda) (us : List Lambda) → IsTypedTerm scope (applied h us) → missing_binders (applied h us) ≡ 0 → HasTypeIn scope [] (applied h us)
-spine_closed scope h us c m =
-    record { type = c.type; canonical = canonical-front scope c.ctx [] [] c.type (applied h us) (omega (arith, m)) c.canonical }
+-- a typed term that needs no binder has its type without a context
+pub closed_typed : (scope : Scope) (t : Lambda) → IsTypedTerm scope t → missing_binders t ≡ 0 → HasTypeIn scope [] t
+closed_typed scope t h m = record { type = h.type; canonical = canonical-front scope h.ctx [] [] h.type t (omega (arith, m)) h.canonical }
 
 pub argument_typed : (scope : Scope) (ctx : List SimpleType) (a : SimpleType) (h : Lambda) (us : List Lambda) (i : ℕ) (u : Lambda) → IsAtom h → IsCanonical scope ctx a (applied h us) → slice_get us i ≡ Some u → HasTypeIn scope ctx u
 argument_typed scope ctx a h us i u o c g = go h us i (neutral_spine scope ctx a h us (atom_no_function h o) c).1 g

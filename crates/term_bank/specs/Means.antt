@@ -3,6 +3,6 @@ pub mod ShapeHash
 pub mod ShapeLaws
 pub mod Marks
 pub mod Target
-pub mod FactsView
+pub mod MarksView
 pub mod Sound
 pub mod Inside

@@ -2,7 +2,7 @@
 
 ghost use Rattle.std.specs.Prelude.{◌≡◌, ◌<◌, [], ◌∷◌, ◌++◌, length, OnOk, OnErr, IsTrue, ◌↔◌};
 
-use crate::facts::{Facts, Marks};
+use crate::marks::Marks;
 use crate::node::{Id, Node};
 use indexmap::IndexMap;
 use std::alloc::{AllocError, Global};
@@ -16,7 +16,7 @@ use stt_core::{Signature, Ty, Types};
 pub struct Bank {
     pub(crate) sig: Signature,
     pub(crate) wits: Types,
-    pub(crate) nodes: IndexMap<Node, Facts>,
+    pub(crate) nodes: IndexMap<Node, Marks>,
     pub(crate) alloc: Global,
 }
 
@@ -42,7 +42,7 @@ impl Bank {
     ghost use Rattle.term_bank.specs.Content.{Content, content_scope};
     ghost use Rattle.term_bank.specs.Terms.{term_at, shape_term, IsBelow, IsTypedTerm};
     ghost use Rattle.term_bank.specs.NodeView.{the_shape};
-    ghost use Rattle.term_bank.specs.Means.FactsView.{AreFactsOf};
+    ghost use Rattle.term_bank.specs.Means.MarksView.{IsMarked};
 
     /// A bank without terms and without witnesses.
     pub fn new(alloc: Global, sig: Signature) -> Bank
@@ -71,7 +71,7 @@ impl Bank {
         ensures below { IsBelow id (the_shape result.now) }
         ensures typed { IsTypedTerm (content_scope self.now) (term_at self.now.terms id) }
     {
-        match self.nodes.get_index(id) {
+        match self.nodes.get_index(id as usize) {
             Some((node, _)) => node,
             None => unreachable!(),
         }
@@ -84,13 +84,13 @@ impl Bank {
         let _len = self.nodes.len();
     }
 
-    /// What is kept beside the node of a term.
-    pub(crate) fn facts(&self, id: Id) -> &Facts
+    /// The marks of a term.
+    pub(crate) fn marks(&self, id: Id) -> Marks
         requires { id < length self.now.terms }
-        ensures { AreFactsOf (content_scope self.now) id (term_at self.now.terms id) result.now }
+        ensures { IsMarked (content_scope self.now) (term_at self.now.terms id) result }
     {
-        match self.nodes.get_index(id) {
-            Some((_, facts)) => facts,
+        match self.nodes.get_index(id as usize) {
+            Some((_, marks)) => *marks,
             None => unreachable!(),
         }
     }

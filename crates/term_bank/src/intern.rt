@@ -7,13 +7,22 @@ ghost use Rattle.stt_core.specs.SimpleType.{SimpleType, arrow};
 ghost use Rattle.stt_core.specs.Typing.{type_of};
 ghost use Rattle.stt_core.specs.View.{the_head, the_type};
 ghost use Rattle.term_bank.specs.Content.{content_scope, HasTerm, Grows};
-ghost use Rattle.term_bank.specs.Means.FactsView.{AreMarksOf};
 ghost use Rattle.term_bank.specs.Terms.{term_at, IsTypedTerm};
 
 use crate::bank::Bank;
 use crate::node::{Id, Ids, Node};
 use std::alloc::AllocError;
 use stt_core::{Context, Declared, Head, Ty, head_type};
+
+/// The number of the term at this place. There is no room for more than 2^32 terms.
+fn number_of(place: usize) -> Result<Id, AllocError>
+    ensures { IfOk result (λ id. id ≡ place) }
+{
+    match Id::try_from(place) {
+        Ok(id) => Ok(id),
+        Err(_) => Err(AllocError),
+    }
+}
 
 impl Bank {
     /// The type of a head in a context, where it has one.
@@ -41,11 +50,11 @@ impl Bank {
             body,
         };
         match self.nodes.get_index_of(&node) {
-            Some(id) => Ok(id),
+            Some(place) => Ok(number_of(place)?),
             None => {
-                let facts = self.lam_facts(ty, body)?;
-                let id = self.nodes.len();
-                self.nodes.insert(node, facts)?;
+                let marks = self.lam_marks(body)?;
+                let id = number_of(self.nodes.len())?;
+                self.nodes.insert(node, marks)?;
                 Ok(id)
             }
         }
@@ -65,11 +74,11 @@ impl Bank {
             args: Ids::from_slice(self.alloc, args)?,
         };
         match self.nodes.get_index_of(&node) {
-            Some(id) => Ok(id),
+            Some(place) => Ok(number_of(place)?),
             None => {
-                let facts = self.app_facts(head, args)?;
-                let id = self.nodes.len();
-                self.nodes.insert(node, facts)?;
+                let marks = self.app_marks(head, args)?;
+                let id = number_of(self.nodes.len())?;
+                self.nodes.insert(node, marks)?;
                 Ok(id)
             }
         }

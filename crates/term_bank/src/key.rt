@@ -4,7 +4,7 @@ ghost use Rattle.std.specs.Prelude.{◌≡◌, fold};
 ghost use Rattle.std.specs.Cmp.Lexicographic.{pointwise};
 ghost use Rattle.stt_core.specs.View.{the_type, the_head};
 ghost use Rattle.term_bank.specs.Shape.{spine, same_shape};
-ghost use Rattle.term_bank.specs.Means.ShapeHash.{type_writes, head_writes, shape_writes};
+ghost use Rattle.term_bank.specs.Means.ShapeHash.{stirred, mixed, type_number, head_writes, shape_writes};
 ghost use Rattle.term_bank.specs.NodeView.{the_shape};
 ghost use Rattle.term_bank.specs.Means.ShapeLaws.{node_partial_laws, node_laws, node_respects};
 
@@ -43,19 +43,29 @@ impl Eq for Node {
     ghost laws = { node_laws };
 }
 
-fn hash_type<H: Hasher>(ty: &Ty, state: &mut H)
-    ensures { state.new ≡ fold H.write state.old (type_writes (the_type ty.now)) }
+fn stirred(z: u64) -> u64
+    ensures { result ≡ stirred z }
+{
+    z.wrapping_mul(z.wrapping_mul(2).wrapping_add(1))
+}
+
+// The odd number next to 2^64 over the golden ratio.
+const MULTIPLIER: u64 = 11_400_714_819_323_198_485;
+
+/// A number of 64 bits from two others.
+fn mixed(x: u64, y: u64) -> u64
+    ensures { result ≡ mixed x y }
+{
+    stirred(x.wrapping_mul(MULTIPLIER).wrapping_add(y).wrapping_add(1))
+}
+
+/// A number of 64 bits for a type, so that a hasher takes in one number and not the whole type.
+fn type_number(ty: &Ty) -> u64
+    ensures { result ≡ type_number (the_type ty.now) }
 {
     match ty {
-        Ty::Base(n) => {
-            state.write_u8(0);
-            state.write_u32(*n);
-        }
-        Ty::Arrow(a, b) => {
-            state.write_u8(1);
-            hash_type(a, state);
-            hash_type(b, state);
-        }
+        Ty::Base(n) => mixed(0, u64::from(*n)),
+        Ty::Arrow(a, b) => mixed(type_number(a), type_number(b)),
     }
 }
 
@@ -80,19 +90,19 @@ fn hash_head<H: Hasher>(head: &Head, state: &mut H)
         Head::Imp => state.write_u8(4),
         Head::All(a) => {
             state.write_u8(5);
-            hash_type(a, state);
+            state.write_u64(type_number(a));
         }
         Head::Eq(a) => {
             state.write_u8(6);
-            hash_type(a, state);
+            state.write_u64(type_number(a));
         }
         Head::Choice(a) => {
             state.write_u8(7);
-            hash_type(a, state);
+            state.write_u64(type_number(a));
         }
         Head::Desc(a) => {
             state.write_u8(8);
-            hash_type(a, state);
+            state.write_u64(type_number(a));
         }
     }
 }
@@ -106,7 +116,7 @@ impl Hash for Node {
         match self {
             Node::Lam { ty, body } => {
                 state.write_u8(10);
-                hash_type(ty, state);
+                state.write_u64(type_number(ty));
                 body.hash(state);
             }
             Node::App { head, args } => {

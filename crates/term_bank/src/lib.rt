@@ -3,14 +3,15 @@
 
 mod bank;
 mod declare;
-mod facts;
 mod intern;
 mod key;
 mod law;
 mod mark;
+mod marks;
 mod node;
 mod read;
 mod tree;
+mod types;
 
 pub use bank::Bank;
 pub use law::{equal_ids_for_equal_terms, ids_keep_their_terms};

@@ -11,7 +11,7 @@ use stt_core::{Head, Ty};
 const INLINE: usize = 4;
 
 /// The number of a term, by which a bank knows it: its place in the bank's list.
-pub type Id = usize;
+pub type Id = u32;
 
 /// A list of numbers of terms.
 #[derive(Drop)]

@@ -1,31 +1,15 @@
 //! What a bank tells of its terms. None of it takes memory.
 
 ghost use Rattle.std.specs.Prelude.{◌≡◌, ℕ, ◌<◌, ◌≤◌, [], length, Some, IsTrue, ◌↔◌, IfSome};
-ghost use Rattle.stt_core.specs.Canonical.{IsCanonical};
 ghost use Rattle.stt_core.specs.Lambda.{witness};
 ghost use Rattle.stt_core.specs.Occurrence.{IsClosed, IsFree, Occurs};
-ghost use Rattle.stt_core.specs.View.{the_type};
-ghost use Rattle.term_bank.specs.Content.{content_scope};
 ghost use Rattle.stt_core.specs.Depth.{depth};
 ghost use Rattle.term_bank.specs.Terms.{term_at};
 
 use crate::bank::Bank;
 use crate::node::Id;
-use stt_core::Ty;
 
 impl Bank {
-    /// The type of a closed term.
-    pub fn ty(&self, id: Id) -> &Ty
-        requires within { id < length self.now.terms }
-        requires closed { IsClosed (term_at self.now.terms id) }
-        ensures { IsCanonical (content_scope self.now) [] (the_type result.now) (term_at self.now.terms id) }
-    {
-        match &self.facts(id).ty {
-            Some(ty) => ty,
-            None => unreachable!(),
-        }
-    }
-
     /// Whether the two terms are the same.
     pub fn same(&self, a: Id, b: Id) -> bool
         requires a_within { a < length self.now.terms }
@@ -42,7 +26,7 @@ impl Bank {
         ensures occurs { IfSome result (λ w. Occurs (witness w) (term_at self.now.terms id)) }
         ensures greatest { (w : ℕ) → Occurs (witness w) (term_at self.now.terms id) → (m : ℕ) × (result ≡ Some m) × (w ≤ m) }
     {
-        self.facts(id).marks.greatest
+        self.marks(id).greatest
     }
 
     /// How deep the term nests.
@@ -50,7 +34,7 @@ impl Bank {
         requires { id < length self.now.terms }
         ensures { result ≡ depth (term_at self.now.terms id) }
     {
-        self.facts(id).marks.depth
+        self.marks(id).depth as usize
     }
 
     /// How many binders more would bind every variable of the term.
@@ -59,7 +43,7 @@ impl Bank {
         ensures bound { (k : ℕ) → IsFree k (term_at self.now.terms id) → k < result }
         ensures least { (n : ℕ) → ((k : ℕ) → IsFree k (term_at self.now.terms id) → k < n) → result ≤ n }
     {
-        self.facts(id).marks.missing
+        u64::from(self.marks(id).missing)
     }
 
     /// Whether no bound variable is free in the term.
@@ -67,6 +51,6 @@ impl Bank {
         requires { id < length self.now.terms }
         ensures { IsTrue result ↔ IsClosed (term_at self.now.terms id) }
     {
-        self.facts(id).marks.missing == 0
+        self.marks(id).missing == 0
     }
 }

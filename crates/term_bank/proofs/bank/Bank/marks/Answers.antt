@@ -1,7 +1,7 @@
 use Rattle.std.proofs.Common.{ap, subst}
 use Rattle.std.specs.Option.{IsSome}
 use Rattle.term_bank.proofs.SoundLaws.{within_entries}
-use Rattle.term_bank.proofs.bank.Bank.facts.Goals as goal
+use Rattle.term_bank.proofs.bank.Bank.marks.Goals as goal
 
 pub unreachable-requires : goal.unreachable-requires
 unreachable-requires c =
