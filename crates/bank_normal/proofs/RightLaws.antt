@@ -1,13 +1,16 @@
 -- Memos that stay right.
-use Rattle.std.proofs.Common.{ℕ, ◌<◌, List, length, sym, subst, ⊎_elim}
+use Rattle.std.proofs.Common.{◌≡◌, ℕ, ◌<◌, List, length, Some, sym, subst, ⊎_elim}
+use Rattle.stt_core.specs.SimpleType.{SimpleType}
+use Rattle.stt_core.specs.Lambda.{name, constant}
+use Rattle.stt_core.specs.Typing.{constant_type}
 use Rattle.stt_core.specs.Lift.{lift_by}
-use Rattle.stt_normal.specs.Normal.{replace, apply}
-use Rattle.term_bank.specs.Content.{Content, HasTerm, Grows}
+use Rattle.stt_normal.specs.Normal.{replace, apply, eta}
+use Rattle.term_bank.specs.Content.{Content, content_scope, HasTerm, Grows}
 use Rattle.term_bank.specs.Terms.{term_at}
-use Rattle.term_bank.proofs.GrowLaws.{grown_term, grown_at, grown_within}
+use Rattle.term_bank.proofs.GrowLaws.{grown_scope, grown_term, grown_at, grown_within}
 use Rattle.bank_normal.specs.Known.{Known}
 use Rattle.bank_normal.specs.Means.Memos.{KnowsOnly}
-use Rattle.bank_normal.specs.Right.{term_ways, IsLifted, IsReplaced, IsApplied, AllKnown, IsRight}
+use Rattle.bank_normal.specs.Right.{term_ways, IsLifted, IsReplaced, IsApplied, IsLong, AllKnown, IsRight}
 use Rattle.bank_normal.specs.declared.normaliser.Normaliser.{Normaliser}
 
 lifted_grown : (a b : Content) (k : Known) → Grows a b → IsLifted a k → IsLifted b k
@@ -34,12 +37,20 @@ applied_grown a b k g h = record {
       (subst (λ r. HasTerm b k.result (apply (term_at a.terms k.term) r)) (sym (grown_at a b k.by g h.by_within)) (grown_term a b k.result _ g h.result_is));
 }
 
+long_grown : (a b : Content) (k : Known) → Grows a b → IsLong a k → IsLong b k
+long_grown a b k g h = record {
+  type = h.type;
+  type_is = subst (λ s. constant_type s (name k.term) ≡ Some h.type) (sym (grown_scope a b g)) h.type_is;
+  result_is = grown_term a b k.result _ g h.result_is;
+}
+
 -- a memo that is right stays so when the bank grows
 pub right_grown : (n : Normaliser) (a b : Content) → Grows a b → IsRight n a → IsRight n b
 right_grown n a b g h = record {
   lifted = λ k j. lifted_grown a b k g (h.lifted k j);
   replaced = λ k j. replaced_grown a b k g (h.replaced k j);
   applied = λ k j. applied_grown a b k g (h.applied k j);
+  long = λ k j. long_grown a b k g (h.long k j);
 }
 
 -- one thing more is known
@@ -69,4 +80,11 @@ applied_known old b by id v g w x h = record {
   result_is =
       subst (λ t. HasTerm b v (apply t (term_at b.terms by))) (sym (grown_at old b id g w))
       (subst (λ r. HasTerm b v (apply (term_at old.terms id) r)) (sym (grown_at old b by g x)) h);
+}
+
+pub long_known : (old b : Content) (a : SimpleType) (n v : ℕ) → Grows old b → constant_type (content_scope old) (name n) ≡ Some a → HasTerm b v (eta a (constant (name n))) → IsLong b (record { by = 0; depth = 0; term = n; result = v })
+long_known old b a n v g d h = record {
+  type = a;
+  type_is = subst (λ s. constant_type s (name n) ≡ Some a) (sym (grown_scope old b g)) d;
+  result_is = h;
 }

@@ -1,9 +1,11 @@
 -- Memos that are right over a bank: what they have for terms of the bank is what comes of them.
-use Rattle.std.specs.Prelude.{◌<◌, List, [], ◌∷◌, length}
-use Rattle.stt_core.specs.Lambda.{Lambda, bound, constant, lam, app}
+use Rattle.std.specs.Prelude.{◌≡◌, ◌<◌, List, [], ◌∷◌, length, Some}
+use Rattle.stt_core.specs.SimpleType.{SimpleType}
+use Rattle.stt_core.specs.Lambda.{Lambda, name, bound, constant, lam, app}
+use Rattle.stt_core.specs.Typing.{constant_type}
 use Rattle.stt_core.specs.Lift.{lift_by}
-use Rattle.stt_normal.specs.Normal.{Way, ways, apply_by, replace, apply}
-use Rattle.term_bank.specs.Content.{Content, HasTerm}
+use Rattle.stt_normal.specs.Normal.{Way, ways, apply_by, replace, apply, eta}
+use Rattle.term_bank.specs.Content.{Content, content_scope, HasTerm}
 use Rattle.term_bank.specs.Terms.{term_at}
 use Rattle.bank_normal.specs.Known.{Known, IsKnown}
 use Rattle.bank_normal.specs.declared.normaliser.Normaliser.{Normaliser}
@@ -32,6 +34,12 @@ pub record IsApplied (b : Content) (k : Known) : Type 0 where
   pub by_within : k.by < length b.terms
   pub result_is : HasTerm b k.result (apply (term_at b.terms k.term) (term_at b.terms k.by))
 
+-- the result is the eta-long form of the constant with that number
+pub record IsLong (b : Content) (k : Known) : Type 0 where
+  pub type : SimpleType
+  pub type_is : constant_type (content_scope b) (name k.term) ≡ Some type
+  pub result_is : HasTerm b k.result (eta type (constant (name k.term)))
+
 -- all that is known has the property
 abbrev pub AllKnown : (Known → Type 0) → List Known → Type 0
 AllKnown P ks = (k : Known) → IsKnown ks k → P k
@@ -40,3 +48,4 @@ pub record IsRight (n : Normaliser) (b : Content) : Type 0 where
   pub lifted : AllKnown (IsLifted b) n.lifted
   pub replaced : AllKnown (IsReplaced b) n.replaced
   pub applied : AllKnown (IsApplied b) n.applied
+  pub long : AllKnown (IsLong b) n.long

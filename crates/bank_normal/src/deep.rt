@@ -28,7 +28,7 @@ pub(crate) const SHALLOW: usize = 64;
 fn push_unknown(
     bank: &Bank,
     memo: &Memo,
-    by: usize,
+    by: u32,
     part: Task,
     tasks: &mut Vec<Task>,
 ) -> Result<(), AllocError>
@@ -50,7 +50,7 @@ fn push_unknown(
 fn push_parts(
     bank: &Bank,
     memo: &Memo,
-    by: usize,
+    by: u32,
     whole: Task,
     tasks: &mut Vec<Task>,
 ) -> Result<(), AllocError>
@@ -83,7 +83,7 @@ fn push_parts(
 pub(crate) fn waits(
     bank: &Bank,
     memo: &Memo,
-    by: usize,
+    by: u32,
     task: Task,
     tasks: &mut Vec<Task>,
 ) -> Result<bool, AllocError>
@@ -116,7 +116,7 @@ impl Normaliser {
         ensures grows { Grows bank.old bank.new }
         ensures right { IsRight self.new bank.new }
     {
-        if !waits(&*bank, &self.lifted, by as usize, task, tasks)? {
+        if !waits(&*bank, &self.lifted, by, task, tasks)? {
             self.lift(bank, levels, by, task.depth, task.id)?;
         }
         Ok(())

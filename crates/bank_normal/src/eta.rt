@@ -1,7 +1,7 @@
 //! Eta-long forms.
 
-ghost use Rattle.std.specs.Prelude.{◌<◌, length, map, IfOk, All};
-ghost use Rattle.stt_core.specs.Lambda.{applied};
+ghost use Rattle.std.specs.Prelude.{◌≡◌, ◌<◌, [], length, map, IfOk, IfSome, All};
+ghost use Rattle.stt_core.specs.Lambda.{name, constant, applied};
 ghost use Rattle.stt_core.specs.View.{the_head, the_type};
 ghost use Rattle.stt_normal.specs.Normal.{eta};
 ghost use Rattle.term_bank.specs.Content.{content_scope, HasTerm, Grows};
@@ -10,11 +10,23 @@ ghost use Rattle.bank_normal.specs.Right.{IsRight};
 ghost use Rattle.bank_normal.specs.Fits.{IsNeutralOf};
 
 use crate::lift::lift_head;
+use crate::memo::Key;
 use crate::normaliser::Normaliser;
 use crate::replace::LEVELS;
 use std::alloc::AllocError;
 use stt_core::{Head, Ty};
 use term_bank::{Bank, Id, Ids};
+
+/// The number of the constant that stands without arguments, if one does.
+fn lone_constant(head: &Head, args: &Ids) -> Option<u32>
+    ensures head { IfSome result (λ k. the_head head.now ≡ constant (name k)) }
+    ensures args { IfSome result (λ k. args.now ≡ []) }
+{
+    match head {
+        Head::Name(k) => { if args.len() == 0 { Some(*k) } else { None } }
+        _ => None,
+    }
+}
 
 impl Normaliser {
     /// The eta-long form of a head of this type.
@@ -55,6 +67,50 @@ impl Normaliser {
                 let body = self.eta_spine(bank, rest, head, all)?;
                 Ok(bank.intern_lam(argument, body)?)
             }
+        }
+    }
+
+    /// The eta-long form of a constant of this type, which is worked out once.
+    fn eta_constant(&mut self, bank: &mut Bank, ty: &Ty, k: u32) -> Result<Id, AllocError>
+        requires fits { IsNeutralOf (content_scope bank.old) (the_type ty.now) (constant (name k)) }
+        requires right { IsRight self.old bank.old }
+        ensures term { IfOk result (λ id. HasTerm bank.new id (eta (the_type ty.now) (constant (name k)))) }
+        ensures grows { Grows bank.old bank.new }
+        ensures right { IsRight self.new bank.new }
+    {
+        let key = Key {
+            by: 0,
+            depth: 0,
+            term: k,
+        };
+        match self.long.get(key) {
+            Some(id) => Ok(id),
+            None => {
+                let id = self.eta(bank, &Head::Name(k), ty)?;
+                self.long.insert(key, id)?;
+                Ok(id)
+            }
+        }
+    }
+
+    /// The eta-long form of a head with arguments, which has this type.
+    pub(crate) fn eta_once(
+        &mut self,
+        bank: &mut Bank,
+        ty: &Ty,
+        head: Head,
+        args: Ids,
+    ) -> Result<Id, AllocError>
+        requires within { All (λ id. id < length bank.old.terms) args }
+        requires fits { IsNeutralOf (content_scope bank.old) (the_type ty.now) (applied (the_head head) (map (term_at bank.old.terms) args)) }
+        requires right { IsRight self.old bank.old }
+        ensures term { IfOk result (λ id. HasTerm bank.new id (eta (the_type ty.now) (applied (the_head head) (map (term_at bank.old.terms) args)))) }
+        ensures grows { Grows bank.old bank.new }
+        ensures right { IsRight self.new bank.new }
+    {
+        match lone_constant(&head, &args) {
+            Some(k) => Ok(self.eta_constant(bank, ty, k)?),
+            None => Ok(self.eta_spine(bank, ty, head, args)?),
         }
     }
 }

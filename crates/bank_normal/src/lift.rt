@@ -65,7 +65,7 @@ impl Normaliser {
             return Ok(id);
         }
         let key = Key {
-            by: by as usize,
+            by,
             depth: from,
             term: id,
         };

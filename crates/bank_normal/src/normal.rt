@@ -63,7 +63,7 @@ impl Normaliser {
     {
         let head = term.to_head(self.alloc)?;
         match bank.head_type(ctx, &head)? {
-            Some(ty) => Ok(self.eta_spine(bank, outcome(&ty, args.len()), head, args)?),
+            Some(ty) => Ok(self.eta_once(bank, outcome(&ty, args.len()), head, args)?),
             None => unreachable!(),
         }
     }

@@ -9,6 +9,7 @@ pub struct Normaliser {
     pub(crate) lifted: Memo,
     pub(crate) replaced: Memo,
     pub(crate) applied: Memo,
+    pub(crate) long: Memo,
     pub(crate) alloc: Global,
 }
 
@@ -24,6 +25,7 @@ impl Normaliser {
             lifted: Memo::new(alloc),
             replaced: Memo::new(alloc),
             applied: Memo::new(alloc),
+            long: Memo::new(alloc),
             alloc,
         }
     }

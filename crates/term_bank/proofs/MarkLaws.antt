@@ -1,7 +1,5 @@
 -- The marks of a head with its arguments.
-use Rattle.std.proofs.Common.{◌≡◌, ℕ, suc, ◌+◌, ◌<◌, ◌≤◌, max, List, [], ◌∷◌, map, take, take_all, length, slice_get, Some, refl, sym, ap, ap₂, subst, ◌∙◌, arith}
-use Rattle.std.specs.Prelude.{All}
-use Rattle.std.proofs.lemmas.List.Elements.{All-head, All-tail}
+use Rattle.std.proofs.Common.{◌≡◌, ℕ, suc, ◌+◌, ◌≤◌, max, List, [], ◌∷◌, map, take, take_all, length, slice_get, Some, refl, sym, ap, ap₂, subst, ◌∙◌}
 use Rattle.stt_core.specs.Lambda.{Lambda, bound, constant, lam, app, applied}
 use Rattle.stt_core.specs.Means.Missing.{missing_binders}
 use Rattle.stt_core.proofs.SpineLaws.{IsAtom}

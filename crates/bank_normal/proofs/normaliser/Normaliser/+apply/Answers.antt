@@ -42,7 +42,7 @@ apply-replace_deep-requires t c =
 pub apply-returns-in_err-insert-in-None-clause-right : goal.apply-returns-in_err-insert-in-None-clause-right
 apply-returns-in_err-insert-in-None-clause-right t c =
     let r = c.in_ok-made-in-None.ensures.right in
-    record { lifted = r.lifted; replaced = r.replaced; applied = subst (AllKnown (IsApplied c.replace_deep.new.bank)) (sym c.in_err-insert-in-None.ensures.err) r.applied }
+    record { lifted = r.lifted; replaced = r.replaced; applied = subst (AllKnown (IsApplied c.replace_deep.new.bank)) (sym c.in_err-insert-in-None.ensures.err) r.applied; long = r.long }
 
 pub apply-returns-in-Some-clause-term : goal.apply-returns-in-Some-clause-term
 apply-returns-in-Some-clause-term t c = (c.requires.right.applied _ c.in-Some.ensures).result_is
@@ -64,6 +64,7 @@ apply-returns-in_ok-insert-in-None-clause-right t c =
       replaced = e.right.replaced;
       applied = all_known (IsApplied c.replace_deep.new.bank) c.replace_deep.new.self.applied c.insert.new.self _ e.right.applied c.in_ok-insert-in-None.ensures.only
           (applied_known b c.replace_deep.new.bank c.args.arg c.args.f c.in_ok-made-in-None.made e.grows c.requires.f_within c.requires.arg_within made);
+      long = e.right.long;
     }
 
 pub apply_all-apply-requires : goal.apply_all-apply-requires
@@ -107,7 +108,7 @@ replace-returns-then-missing-from-clause-term t c =
 pub replace-returns-in_err-insert-in-None-clause-right : goal.replace-returns-in_err-insert-in-None-clause-right
 replace-returns-in_err-insert-in-None-clause-right t c =
     let r = c.in_ok-replaced-in-None.ensures.right in
-    record { lifted = r.lifted; replaced = subst (AllKnown (IsReplaced c.replace_node.new.bank)) (sym c.in_err-insert-in-None.ensures.err) r.replaced; applied = r.applied }
+    record { lifted = r.lifted; replaced = subst (AllKnown (IsReplaced c.replace_node.new.bank)) (sym c.in_err-insert-in-None.ensures.err) r.replaced; applied = r.applied; long = r.long }
 
 pub replace-returns-in-Some-clause-term : goal.replace-returns-in-Some-clause-term
 replace-returns-in-Some-clause-term t c = (c.requires.right.replaced _ c.in-Some.ensures).result_is
@@ -121,6 +122,7 @@ replace-returns-in_ok-insert-in-None-clause-right t c =
       replaced = all_known (IsReplaced b) c.replace_node.new.self.replaced c.insert.new.self _ e.right.replaced c.in_ok-insert-in-None.ensures.only
           (replaced_known c.args.bank.now b c.args.arg c.args.k c.args.id c.in_ok-replaced-in-None.replaced e.grows c.requires.within c.requires.arg_within e.term);
       applied = e.right.applied;
+      long = e.right.long;
     }
 
 pub replace_all-loop-i-preserved : goal.replace_all-loop-i-preserved

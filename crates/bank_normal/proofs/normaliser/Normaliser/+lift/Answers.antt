@@ -25,6 +25,7 @@ lift-returns-in_err-insert-in-None-clause-right t c =
       lifted = subst (AllKnown (IsLifted c.lift_node.new.bank)) (sym c.in_err-insert-in-None.ensures.err) r.lifted;
       replaced = r.replaced;
       applied = r.applied;
+      long = r.long;
     }
 
 pub lift-returns-in-Some-clause-term : goal.lift-returns-in-Some-clause-term
@@ -39,6 +40,7 @@ lift-returns-in_ok-insert-in-None-clause-right t c =
           (lifted_known c.args.bank.now b c.args.by c.args.from c.args.id c.in_ok-lifted-in-None.lifted e.grows c.requires.within e.term);
       replaced = e.right.replaced;
       applied = e.right.applied;
+      long = e.right.long;
     }
 
 pub lift_all-loop-i-preserved : goal.lift_all-loop-i-preserved

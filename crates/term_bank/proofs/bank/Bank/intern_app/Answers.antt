@@ -1,4 +1,4 @@
-use Rattle.std.proofs.Common.{length, map, [], ◌∷◌, ◌++◌, sym, ◌∙◌, ap, ap₂, refl, subst, slice_get}
+use Rattle.std.proofs.Common.{map, [], ◌∷◌, ◌++◌, sym, ◌∙◌, ap, ap₂, refl, subst, slice_get}
 use Rattle.stt_core.specs.Lambda.{applied}
 use Rattle.stt_core.specs.View.{the_head}
 use Rattle.term_bank.specs.Shape.{spine}
@@ -8,7 +8,7 @@ use Rattle.term_bank.specs.Means.MarksView.{IsMarked}
 use Rattle.term_bank.specs.Means.Inside.{the_content}
 use Rattle.term_bank.specs.Means.Sound.{terms_of}
 use Rattle.term_bank.specs.declared.node.Node.TheVariants.{App}
-use Rattle.term_bank.proofs.AddLaws.{found_in, entries_after, Added, added}
+use Rattle.term_bank.proofs.AddLaws.{found_in, entries_after, added}
 use Rattle.term_bank.proofs.bank.Bank.intern_app.Goals as goal
 
 pub returns-in_ok-number_of-in-Some-clause-term : goal.returns-in_ok-number_of-in-Some-clause-term

@@ -1,4 +1,4 @@
-use Rattle.std.proofs.Common.{length, [], ◌∷◌, ◌++◌, sym, ◌∙◌, ap, refl, subst, slice_get}
+use Rattle.std.proofs.Common.{[], ◌∷◌, ◌++◌, sym, ◌∙◌, ap, refl, subst, slice_get}
 use Rattle.stt_core.specs.Lambda.{lam}
 use Rattle.stt_core.specs.View.{the_type}
 use Rattle.term_bank.specs.Shape.{abstraction}
@@ -8,7 +8,7 @@ use Rattle.term_bank.specs.Means.MarksView.{IsMarked}
 use Rattle.term_bank.specs.Means.Inside.{the_content}
 use Rattle.term_bank.specs.Means.Sound.{terms_of}
 use Rattle.term_bank.specs.declared.node.Node.TheVariants.{Lam}
-use Rattle.term_bank.proofs.AddLaws.{found_in, entries_after, Added, added}
+use Rattle.term_bank.proofs.AddLaws.{found_in, entries_after, added}
 use Rattle.term_bank.proofs.bank.Bank.intern_lam.Goals as goal
 
 pub returns-in_ok-number_of-in-Some-clause-term : goal.returns-in_ok-number_of-in-Some-clause-term
