@@ -1,3 +1,4 @@
 pub mod TableLaws
 pub mod SignLaws
+pub mod PeelLaws
 pub mod StayLaws

@@ -9,3 +9,4 @@ mod unsigned;
 pub use instance::{BankUse, Instance, LitList, LitLists, RuleKind};
 pub use law::literals_stay;
 pub use table::LitTable;
+pub use unsigned::{SignedAtom, atom_of};

@@ -10,8 +10,8 @@ ghost use Rattle.literal_map.specs.Means.Denied.{IsDenied, IsOnly};
 use stt_core::Head;
 use term_bank::{Bank, Id, Ids, Node};
 
-/// A formula without its outer negations, and whether their number is even.
-#[derive(Clone, Copy)]
+/// A formula that isn't a negation, by its number, with a sign.
+#[derive(Clone, Copy, Debug, PartialEq, Eq)]
 pub struct SignedAtom {
     pub atom: Id,
     pub positive: bool,
@@ -45,8 +45,8 @@ fn only_one(ids: &Ids) -> Option<Id>
     }
 }
 
-/// The formula whose negation the node is, where it is one.
-fn denied(node: &Node) -> Option<Id>
+/// The formula that the node negates, where it is a negation.
+fn negated(node: &Node) -> Option<Id>
     ensures { IsDenied (the_shape node.now) result }
 {
     match node {
@@ -61,24 +61,18 @@ fn denied(node: &Node) -> Option<Id>
     }
 }
 
-/// The formula without its outer negations, each of which changes the sign.
-pub fn atom_of(bank: &Bank, id: Id) -> SignedAtom
-    requires { id < length bank.now.terms }
-    ensures literal { record { positive = result.positive; atom = term_at bank.now.terms result.atom } ≡ as_literal (term_at bank.now.terms id) }
+/// The formula without its outer negations, each of which changes the sign. There may be as many of them as there is memory for.
+pub fn atom_of(bank: &Bank, formula: Id) -> SignedAtom
+    requires { formula < length bank.now.terms }
+    ensures literal { record { positive = result.positive; atom = term_at bank.now.terms result.atom } ≡ as_literal (term_at bank.now.terms formula) }
     ensures within { result.atom < length bank.now.terms }
     ensures unsigned { is_negated (term_at bank.now.terms result.atom) ≡ false }
 {
-    match denied(bank.node(id)) {
-        Some(inner) => {
-            let rest = atom_of(bank, inner);
-            SignedAtom {
-                atom: rest.atom,
-                positive: !rest.positive,
-            }
-        }
-        None => SignedAtom {
-            atom: id,
-            positive: true,
-        },
+    let mut atom = formula;
+    let mut positive = true;
+    while let Some(inner) = negated(bank.node(atom)) {
+        atom = inner;
+        positive = !positive;
     }
+    SignedAtom { atom, positive }
 }

@@ -8,9 +8,8 @@ ghost use Rattle.term_bank.specs.Terms.{term_at};
 ghost use Rattle.bank_normal.specs.Right.{IsRight};
 ghost use Rattle.literal_map.specs.Atoms.{literal_at, IsAtom, Begins};
 
-use crate::unsigned::{SignedAtom, atom_of};
 use bank_normal::Normaliser;
-use literal_map::{LitTable, literals_stay};
+use literal_map::{LitTable, SignedAtom, atom_of, literals_stay};
 use sat_base::SatLit;
 use std::alloc::AllocError;
 use stt_core::Term;

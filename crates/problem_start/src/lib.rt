@@ -2,7 +2,5 @@
 #![tactic(auto)]
 
 mod formula;
-mod unsigned;
 
 pub use formula::{formula_atom, formula_literal};
-pub use unsigned::{SignedAtom, atom_of};

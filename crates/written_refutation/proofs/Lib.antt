@@ -2,3 +2,4 @@ mod Lists
 mod Writes
 mod TermTexts
 mod LineTexts
+mod SharedLists

@@ -1,11 +1,13 @@
 //! The lines of a text.
 
 ghost use Rattle.std.specs.Prelude.{◌≡◌, ◌++◌, [], ◌∷◌, OnOk, OnErr, ◌<◌, Some, length, slice_get};
+ghost use Rattle.written_refutation.specs.Trees.{LiteralTree};
 
 use crate::tree::{TextTerm, TextTerms};
 use outside::Bytes;
 use std::alloc::{AllocError, Global};
 use std::marker::Model;
+use std::rc::Rc;
 use stt_tableau::Children;
 
 /// A formula with a sign. Contracts see it as the plain tree that it is.
@@ -26,14 +28,22 @@ impl Model for TextLit {
     ghost view = { λ l. record { positive = l.positive; atom = l.atom } };
 }
 
-/// A list of literals.
+/// A literal, and the place in the list to which it was pushed.
+#[derive(Drop)]
+struct Pushed {
+    lit: TextLit,
+    place: usize,
+}
+
+/// A list of literals. Lists share their literals.
 #[derive(Drop)]
 pub struct TextLits {
-    items: Vec<TextLit>,
+    items: Vec<Rc<Pushed>>,
+    alloc: Global,
 }
 
 impl Model for TextLits {
-    ghost use Rattle.std.specs.Prelude.{List};
+    ghost use Rattle.std.specs.Prelude.{List, map};
     ghost use Rattle.std.specs.Coded.{coded_list};
     ghost use Rattle.written_refutation.specs.Trees.{LiteralTree};
     ghost use Rattle.written_refutation.specs.Means.LiteralCode.{literal_tree_code};
@@ -42,7 +52,7 @@ impl Model for TextLits {
 
     ghost coded = { coded_list literal_tree_code };
 
-    ghost view = { λ a. a.items.items };
+    ghost view = { λ a. map (λ p. p.value.lit) a.items.items };
 }
 
 impl TextLits {
@@ -51,6 +61,7 @@ impl TextLits {
     {
         TextLits {
             items: Vec::new(alloc),
+            alloc,
         }
     }
 
@@ -58,7 +69,20 @@ impl TextLits {
         ensures ok { OnOk result (self.new ≡ self.old ++ lit ∷ []) }
         ensures err { OnErr result (self.new ≡ self.old) }
     {
-        self.items.push(lit)?;
+        let place = self.items.len();
+        let shared = Rc::new(self.alloc, Pushed { lit, place })?;
+        self.items.push(shared)?;
+        Ok(())
+    }
+
+    /// Appends the literal at a place of another list, which shares it from then on.
+    pub fn share(&mut self, other: &TextLits, i: usize) -> Result<(), AllocError>
+        requires { i < length other.now }
+        ensures ok { OnOk result ((lit : LiteralTree) → slice_get other.now i ≡ Some lit → self.new ≡ self.old ++ lit ∷ []) }
+        ensures err { OnErr result (self.new ≡ self.old) }
+    {
+        let shared = Rc::clone(&other.items[i])?;
+        self.items.push(shared)?;
         Ok(())
     }
 
@@ -73,7 +97,14 @@ impl TextLits {
         requires { i < length self.now }
         ensures { slice_get self.now i ≡ Some result.now }
     {
-        &self.items[i]
+        &self.items[i].lit
+    }
+
+    /// The place in the list to which the literal at this place was pushed first, by which lists that share their literals may be read fast.
+    pub fn pushed_at(&self, i: usize) -> usize
+        requires { i < length self.now }
+    {
+        self.items[i].place
     }
 }
 

@@ -1,8 +1,8 @@
 use Rattle.std.proofs.Common.{◌≡◌, ◌<◌, length}
 use Rattle.stt_tableau.specs.Literals.{as_literal}
 use Rattle.term_bank.specs.Terms.{term_at}
-use Rattle.problem_start.proofs.PeelLaws.{with_sign}
-use Rattle.problem_start.proofs.unsigned.atom_of.Given as goal
+use Rattle.literal_map.proofs.PeelLaws.{with_sign}
+use Rattle.literal_map.proofs.unsigned.atom_of.Given as goal
 
 -- the literal of what is left, with the sign so far, is that of the formula
 abbrev pub invariant-loop-inner : goal.invariant-loop-inner

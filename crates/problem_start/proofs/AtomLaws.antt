@@ -1,0 +1,23 @@
+-- Atoms of formulas' normal forms.
+use Rattle.std.specs.Prelude.{◌≡◌, ◌<◌, ℕ, Bool, false, [], length}
+use Rattle.std.proofs.Common.{sym, ap, ◌∙◌, subst}
+use Rattle.stt_core.specs.Lambda.{Lambda}
+use Rattle.stt_core.specs.Typing.{Scope, IsScope}
+use Rattle.stt_core.specs.Canonical.{IsCanonical}
+use Rattle.stt_core.specs.SimpleType.{formula}
+use Rattle.stt_core.specs.TypedProblem.{IsFormula}
+use Rattle.stt_normal.specs.Normal.{normal_form}
+use Rattle.stt_normal.proofs.NormalValues.{canonical-normal_form}
+use Rattle.stt_tableau.specs.Literals.{as_literal, is_negated, IsLiteral}
+use Rattle.stt_tableau.proofs.LiteralLaws.{as_literal-is_literal}
+use Rattle.term_bank.specs.Content.{Content, HasTerm, Grows, content_scope}
+use Rattle.term_bank.specs.Terms.{term_at}
+use Rattle.term_bank.proofs.GrowLaws.{grown_scope, has_at}
+use Rattle.literal_map.specs.Atoms.{IsAtom}
+
+-- the atom of the literal of a formula's normal form is one of the bank
+pub normal-atom : (a b : Content) (n id : ℕ) (p : Bool) (t : Lambda) → Grows a b → IsScope (content_scope a) → IsFormula (content_scope a) t → HasTerm b n (normal_form (content_scope a) [] t) → id < length b.terms → is_negated (term_at b.terms id) ≡ false → record { positive = p; atom = term_at b.terms id } ≡ as_literal (term_at b.terms n) → IsAtom b id
+normal-atom a b n id p t grows scope typed has within unsigned is =
+    let l = subst (IsLiteral (content_scope a)) (sym (is ∙ ap as_literal (has_at b n (normal_form (content_scope a) [] t) has))) (as_literal-is_literal (content_scope a) (normal_form (content_scope a) [] t) (canonical-normal_form (content_scope a) scope [] formula t tt typed)) in
+    let C : Scope → Type 0 = λ s. IsCanonical s [] formula (term_at b.terms id) in
+    record { within = within; is_formula = subst C (sym (grown_scope a b grows)) l.formula; unsigned = unsigned }
