@@ -125,7 +125,7 @@ module _ (s : Shared) (good : IsGood s) (id : ℕ) (none : list_any (nat_eq id) 
 
       pub row_good : IsGood new
       row_good = record {
-        normal = subst (λ n. IsRight n new.bank) (sym normal) (right_by s.normal s.bank new.bank terms good.normal);
+        normal = subst (λ n. IsRight n new.bank) (sym normal) (right_by s.normal s.bank new.bank (ap (λ (b : Content). b.consts) bank) terms good.normal);
         atoms = subst (λ xs. All (IsAtom new.bank) xs) (sym lits) (subst (λ b. All (IsAtom b) s.lits) (sym bank) (wide_atoms s.bank (with_type a) wider s.lits good.atoms));
         rows = subst (λ b. AreRows b new.witnesses) (sym bank) rows_with;
         declared = ap (λ ts. map (λ (r : Row). r.type) (rows_of ts new.witnesses)) terms ∙ all_types ∙ sym (ap (λ (b : Content). b.witnesses) bank);

@@ -78,7 +78,7 @@ fn list_taker(takers: &mut Enumerator, output: u32, before: u32, now: u32) -> Re
     ensures { OnOk result (takers.new ≡ (if nat_lt before now then with_listed (base output) before takers.old else takers.old)) }
 {
     if before < now {
-        takers.add_term(&Ty::Base(output), before as usize)?;
+        takers.add_term(&Ty::Base(output), before)?;
         return Ok(());
     }
     Ok(())

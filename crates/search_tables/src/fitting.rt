@@ -34,7 +34,7 @@ fn count_below(places: &[Id], n: usize) -> usize
 {
     for behind in 0..places.len() {
         let last = places.len() - behind - 1;
-        if id_of(places, last) < n {
+        if (id_of(places, last) as usize) < n {
             return last + 1;
         }
     }
@@ -76,7 +76,7 @@ impl Tables {
         let takers = self.takers.terms_of(&Ty::Base(base));
         let count = count_below(takers, witnesses);
         if place < count {
-            return Ok(HoleHead::Wit(small(id_of(takers, place))?));
+            return Ok(HoleHead::Wit(id_of(takers, place)));
         }
         let bases = self.basis.bank.sig().bases.len();
         Ok(logical_head(bases, base, place - count)?)
@@ -98,13 +98,12 @@ impl Tables {
         let base = self.open_holes.base(p);
         let variables = self.open_holes.variables(self.alloc, p)?;
         if place < variables.len() {
-            let k = id_of(variables.as_slice(), place);
-            return Ok(HoleHead::Bound(small(k)?));
+            return Ok(HoleHead::Bound(small(variables[place])?));
         }
         let behind = place - variables.len();
         let names = self.names.terms_of(&Ty::Base(base));
         if behind < names.len() {
-            return Ok(HoleHead::Name(small(id_of(names, behind))?));
+            return Ok(HoleHead::Name(id_of(names, behind)));
         }
         Ok(self.later_head(base, witnesses, behind - names.len())?)
     }

@@ -8,6 +8,7 @@ ghost use Rattle.search_run.specs.Each.{Each};
 ghost use Rattle.search_tables.specs.Means.Names.{IsNumber};
 ghost use Rattle.search_tables.specs.Means.Standing.{can_pair, is_universal, the_state, IsBasis, IsRight};
 
+use crate::fitting::small;
 use crate::shape::{has_equal_sides, quantified_type};
 use crate::tables::{Core, Tables};
 use crate::waiting::Waiting;
@@ -30,7 +31,8 @@ impl Tables {
         let atom = self.basis.lits.formula_of(lit);
         match quantified_type(&self.basis.bank, atom) {
             Some(ty) => {
-                self.universals.add_term(ty, self.noted.len())?;
+                let place = small(self.noted.len())?;
+                self.universals.add_term(ty, place)?;
                 Ok(())
             }
             None => Ok(()),

@@ -74,7 +74,8 @@ impl Tables {
         match first {
             Command::Inst(lit, id) => {
                 let places = listed_under(&self.basis, &self.universals, lit);
-                let universal = literal_of(self.noted.as_slice(), id_of(places, place));
+                let noted = id_of(places, place) as usize;
+                let universal = literal_of(self.noted.as_slice(), noted);
                 Command::Inst(universal, id)
             }
             _ => unreachable!(),

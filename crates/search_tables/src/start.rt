@@ -9,6 +9,7 @@ ghost use Rattle.search_tables.specs.Means.Empty.{AreEmpty};
 ghost use Rattle.search_tables.specs.Means.Standing.{the_state, IsBasis, IsRight};
 
 use crate::by_base::ByBase;
+use crate::fitting::small;
 use crate::holes::OpenHoles;
 use crate::plan::Plan;
 use crate::set::{IdSet, LitSet};
@@ -31,7 +32,8 @@ fn names_by_target(alloc: Global, consts: &Consts) -> Result<Enumerator, AllocEr
     for i in 0..consts.len() {
         match consts.type_of(i) {
             Some(ty) => {
-                names.add_term(&Ty::Base(target_of(ty)), i)?;
+                let number = small(i)?;
+                names.add_term(&Ty::Base(target_of(ty)), number)?;
             }
             None => unreachable!(),
         }

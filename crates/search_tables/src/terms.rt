@@ -36,10 +36,8 @@ impl<W: Weigher<Waiting>> Core<W> {
         if count == 0 {
             return Ok(());
         }
-        let first = Command::Inst(
-            literal_of(self.tables.noted.as_slice(), id_of(universals, 0)),
-            id,
-        );
+        let place = id_of(universals, 0) as usize;
+        let first = Command::Inst(literal_of(self.tables.noted.as_slice(), place), id);
         self.push_whole(first, Over::Universals, count)?;
         Ok(())
     }

@@ -121,10 +121,10 @@ impl Waiting {
             Command::Process(lit) => Ok(Waiting::alone(Kind::Process, lit, plain(0))?),
             Command::Mate(lit, partner) => Ok(Waiting::alone(Kind::Mate, lit, partner)?),
             Command::Confront(lit, partner) => Ok(Waiting::alone(Kind::Confront, lit, partner)?),
-            Command::Inst(lit, id) => Ok(Waiting::alone(Kind::Inst, lit, plain(id))?),
+            Command::Inst(lit, id) => Ok(Waiting::alone(Kind::Inst, lit, plain(id as usize))?),
             Command::Grow(p, h) => Ok(Waiting::alone(Kind::Grow, plain(p), plain(h))?),
-            Command::Choose(id) => Ok(Waiting::alone(Kind::Choose, plain(id), plain(0))?),
-            Command::Describe(id) => Ok(Waiting::alone(Kind::Describe, plain(id), plain(0))?),
+            Command::Choose(id) => Ok(Waiting::alone(Kind::Choose, plain(id as usize), plain(0))?),
+            Command::Describe(id) => Ok(Waiting::alone(Kind::Describe, plain(id as usize), plain(0))?),
         }
     }
 
@@ -187,10 +187,10 @@ impl Waiting {
             Kind::Process => Command::Process(first),
             Kind::Mate => Command::Mate(first, second),
             Kind::Confront => Command::Confront(first, second),
-            Kind::Inst => Command::Inst(first, second.var.0),
+            Kind::Inst => Command::Inst(first, self.second),
             Kind::Grow => Command::Grow(first.var.0, second.var.0),
-            Kind::Choose => Command::Choose(first.var.0),
-            Kind::Describe => Command::Describe(first.var.0),
+            Kind::Choose => Command::Choose(self.first),
+            Kind::Describe => Command::Describe(self.first),
         }
     }
 

@@ -1,10 +1,11 @@
 -- Banks with further witnesses and further terms.
-use Rattle.std.proofs.Common.{◌≡◌, ◌<◌, ℕ, List, [], ◌∷◌, ◌++◌, map, length, get_or, Some, refl, sym, ap, ap₂, subst, ◌∙◌, append-nil, append_assoc, length-append, arith}
+use Rattle.std.proofs.Common.{◌≡◌, ◌<◌, ℕ, List, [], ◌∷◌, ◌++◌, map, length, get_or, slice_get, Some, refl, sym, ap, ap₂, subst, ◌∙◌, append-nil, append_assoc, length-append, arith}
 use Rattle.std.specs.Prelude.{All}
 use Rattle.std.proofs.lemmas.List.{map-append}
 use Rattle.std.proofs.lemmas.List.Elements.{All-weaker}
 use Rattle.stt_core.specs.SimpleType.{SimpleType, formula, predicate}
-use Rattle.stt_core.specs.Lambda.{Constant, Lambda, bound, constant}
+use Rattle.stt_core.specs.TypedName.{TypedName}
+use Rattle.stt_core.specs.Lambda.{Constant, name, Lambda, bound, constant}
 use Rattle.stt_core.specs.Typing.{Scope, constant_type}
 use Rattle.stt_core.specs.Canonical.{IsCanonical, IsNeutral}
 use Rattle.stt_tableau.specs.Literals.{Literal, is_negated}
@@ -15,7 +16,7 @@ use Rattle.term_bank.specs.Content.{Content, content_scope, HasTerm, Grows}
 use Rattle.term_bank.specs.Terms.{term_at}
 use Rattle.term_bank.proofs.ListLaws.{get_or-front}
 use Rattle.stt_core.specs.Lift.{lift_by}
-use Rattle.stt_normal.specs.Normal.{replace, apply}
+use Rattle.stt_normal.specs.Normal.{replace, apply, eta}
 use Rattle.bank_normal.specs.Right.{IsRight, term_ways}
 use Rattle.bank_normal.specs.declared.normaliser.Normaliser.{Normaliser}
 use Rattle.literal_map.specs.Atoms.{IsAtom}
@@ -122,9 +123,9 @@ module _ (b c : Content) (w : Widens b c) where
   pub wide_atoms : (atoms : List ℕ) → All (IsAtom b) atoms → All (IsAtom c) atoms
   wide_atoms atoms h = All-weaker (IsAtom b) (IsAtom c) wide_atom atoms h
 
--- a memo that is right over a bank is right over one with the same terms
-pub right_by : (n : Normaliser) (b c : Content) → c.terms ≡ b.terms → IsRight n b → IsRight n c
-right_by n b c e h = record {
+-- a memo that is right over a bank is right over one with the same constants and terms
+pub right_by : (n : Normaliser) (b c : Content) → c.consts ≡ b.consts → c.terms ≡ b.terms → IsRight n b → IsRight n c
+right_by n b c d e h = record {
   lifted = λ k i.
       let x = h.lifted k i in
       record { term_within = subst (λ ts. k.term < length ts) (sym e) x.term_within; result_is = subst (λ ts. HasTerm (record c { terms = ts }) k.result (lift_by k.by k.depth (term_at ts k.term))) (sym e) x.result_is };
@@ -141,5 +142,12 @@ right_by n b c e h = record {
         term_within = subst (λ ts. k.term < length ts) (sym e) x.term_within;
         by_within = subst (λ ts. k.by < length ts) (sym e) x.by_within;
         result_is = subst (λ ts. HasTerm (record c { terms = ts }) k.result (apply (term_at ts k.term) (term_at ts k.by))) (sym e) x.result_is;
+      };
+  long = λ k i.
+      let x = h.long k i in
+      record {
+        type = x.type;
+        type_is = subst (λ cs. slice_get (map (λ (y : TypedName). y.type) cs) k.term ≡ Some x.type) (sym d) x.type_is;
+        result_is = subst (λ ts. HasTerm (record c { terms = ts }) k.result (eta x.type (constant (name k.term)))) (sym e) x.result_is;
       };
 }

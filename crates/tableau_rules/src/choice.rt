@@ -28,7 +28,7 @@ fn predicate_type(alloc: Global, bank: &Bank, f: Id) -> Result<Option<Ty>, Alloc
     if !bank.is_closed(f) {
         return Ok(None);
     }
-    match bank.ty(f) {
+    match &bank.ty(f)? {
         Ty::Arrow(argument, outcome) => {
             if outcome.same(&Ty::Base(0)) {
                 Ok(Some(argument.try_clone(alloc)?))

@@ -17,14 +17,14 @@ use stt_core::Ty;
 use term_bank::{Bank, Id};
 
 /// Whether the term is closed and has this type.
-fn is_closed_of(bank: &Bank, u: Id, ty: &Ty) -> bool
+fn is_closed_of(bank: &Bank, u: Id, ty: &Ty) -> Result<bool, AllocError>
     requires { u < length bank.now.terms }
-    ensures { IsTrue result ↔ IsCanonical (content_scope bank.now) [] (the_type ty.now) (term_at bank.now.terms u) }
+    ensures { IfOk result (λ is. IsTrue is ↔ IsCanonical (content_scope bank.now) [] (the_type ty.now) (term_at bank.now.terms u)) }
 {
     if bank.is_closed(u) {
-        bank.ty(u).same(ty)
+        Ok(bank.ty(u)?.same(ty))
     } else {
-        false
+        Ok(false)
     }
 }
 
@@ -47,7 +47,7 @@ pub(crate) fn all_pos_drafts(
     }
     match quantified_of(&*bank, p.atom) {
         Some(quantified) => {
-            if is_closed_of(&*bank, u, quantified.ty) {
+            if is_closed_of(&*bank, u, quantified.ty)? {
                 let predicate = quantified.predicate;
                 let value = normal.instantiate(bank, predicate, u)?;
                 Ok(Some(one(alloc, holds(value))?))

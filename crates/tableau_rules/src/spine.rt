@@ -75,7 +75,7 @@ fn differ(alloc: Global, bank: &mut Bank, s: Id, t: Id) -> Result<Signed, AllocE
     ensures differs { IfOk result (DiffersAt bank.old bank.new s t) }
     ensures grows { Grows bank.old bank.new }
 {
-    let head = Head::Eq(bank.ty(s).try_clone(alloc)?);
+    let head = Head::Eq(bank.ty(s)?);
     let equal = bank.intern_app(&head, &[s, t])?;
     Ok(fails(equal))
 }

@@ -10,14 +10,14 @@ returns-then-not-is_closed c = open_none c.args.bank.now c.args.f c.is_closed.re
 
 pub returns-in_ok-try_clone-in-Arrow : goal.returns-in_ok-try_clone-in-Arrow
 returns-in_ok-try_clone-in-Arrow c =
-    predicate_is c.args.bank.now c.args.f (the_type c.ty.result.now) c.ty.ensures (the_type c.in-Arrow.argument.value) (the_type c.in-Arrow.outcome.value) (the_type c.in_ok-try_clone-in-Arrow.field-0) c.requires (ap the_type c.in-Arrow.is)
+    predicate_is c.args.bank.now c.args.f (the_type c.in_ok-ty.field-0) c.in_ok-ty.ensures (the_type c.in-Arrow.argument.value) (the_type c.in-Arrow.outcome.value) (the_type c.in_ok-try_clone-in-Arrow.field-0) c.requires (ap the_type c.in-Arrow.is)
     (ap the_type (sym c.deref.ensures) ∙ same_type-true (the_type c.deref.result.now) formula (sym c.same.ensures ∙ c.if-same.true))
     (c.in_ok-try_clone-in-Arrow.ensures ∙ ap the_type c.deref-then-same.ensures)
 
 pub returns-else-same : goal.returns-else-same
 returns-else-same c =
-    function_none c.args.bank.now c.args.f (the_type c.ty.result.now) c.ty.ensures (the_type c.in-Arrow.argument.value) (the_type c.in-Arrow.outcome.value) (ap the_type c.in-Arrow.is)
+    function_none c.args.bank.now c.args.f (the_type c.in_ok-ty.field-0) c.in_ok-ty.ensures (the_type c.in-Arrow.argument.value) (the_type c.in-Arrow.outcome.value) (ap the_type c.in-Arrow.is)
     (λ e. differ_type (the_type c.deref.result.now) formula (sym c.same.ensures ∙ c.if-same.false) (ap the_type c.deref.ensures ∙ e))
 
 pub returns-in-Base : goal.returns-in-Base
-returns-in-Base c = base_none c.args.bank.now c.args.f (the_type c.ty.result.now) c.ty.ensures c.in-Base.field-0 (ap the_type c.in-Base.is)
+returns-in-Base c = base_none c.args.bank.now c.args.f (the_type c.in_ok-ty.field-0) c.in_ok-ty.ensures c.in-Base.field-0 (ap the_type c.in-Base.is)

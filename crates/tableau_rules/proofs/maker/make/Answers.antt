@@ -9,7 +9,7 @@ use Rattle.tableau_rules.proofs.MadeLaws.{instance_on, instance_wider}
 use Rattle.tableau_rules.proofs.maker.make.Goals as goal
 
 pub returns-in_err-declare-clause-right : goal.returns-in_err-declare-clause-right
-returns-in_err-declare-clause-right c = right_by c.args.normal.now c.args.bank.now c.declare.new.bank c.declare.ensures.declares.terms c.requires.right
+returns-in_err-declare-clause-right c = right_by c.args.normal.now c.args.bank.now c.declare.new.bank c.declare.ensures.declares.widens.consts c.declare.ensures.declares.terms c.requires.right
 
 pub returns-in_err-declare-clause-atoms : goal.returns-in_err-declare-clause-atoms
 returns-in_err-declare-clause-atoms c = wide_atoms c.args.bank.now c.declare.new.bank c.declare.ensures.declares.widens c.args.lits.now c.requires.atoms
@@ -18,7 +18,7 @@ pub drafts_of-requires-clause-atoms : goal.drafts_of-requires-clause-atoms
 drafts_of-requires-clause-atoms c = wide_atoms c.args.bank.now c.declare.new.bank c.declare.ensures.declares.widens c.args.lits.now c.requires.atoms
 
 pub drafts_of-requires-clause-right : goal.drafts_of-requires-clause-right
-drafts_of-requires-clause-right c = right_by c.args.normal.now c.args.bank.now c.declare.new.bank c.declare.ensures.declares.terms c.requires.right
+drafts_of-requires-clause-right c = right_by c.args.normal.now c.args.bank.now c.declare.new.bank c.declare.ensures.declares.widens.consts c.declare.ensures.declares.terms c.requires.right
 
 pub returns-in_err-drafts-clause-atoms : goal.returns-in_err-drafts-clause-atoms
 returns-in_err-drafts-clause-atoms c = wide_atoms c.args.bank.now c.drafts_of.new.bank (widens_on c.args.bank.now c.declare.new.bank c.drafts_of.new.bank c.declare.ensures.declares.widens c.drafts_of.ensures.widens) c.args.lits.now c.requires.atoms

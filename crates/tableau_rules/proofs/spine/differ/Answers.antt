@@ -15,9 +15,9 @@ ty-requires-clause-closed c =
 pub intern_app-requires-clause-typed : goal.intern_app-requires-clause-typed
 intern_app-requires-clause-typed c =
     let b = c.args.bank.now in
-    equation_typed b (the_type c.ty.result.now) (the_type c.in_ok-try_clone.field-0) c.args.s c.args.t c.in_ok-try_clone.ensures
-    (sides_here b (the_type c.ty.result.now) (the_type c.ty.result.now) c.args.s c.args.t c.ty.ensures refl c.requires.0 c.requires.1)
+    equation_typed b (the_type c.in_ok-ty.field-0) (the_type c.in_ok-ty.field-0) c.args.s c.args.t refl
+    (sides_here b (the_type c.in_ok-ty.field-0) (the_type c.in_ok-ty.field-0) c.args.s c.args.t c.in_ok-ty.ensures refl c.requires.0 c.requires.1)
 
 pub returns-clause-differs : goal.returns-clause-differs
 returns-clause-differs c =
-    differs_here c.args.bank.now (the_type c.ty.result.now) (the_type c.in_ok-try_clone.field-0) c.args.s c.args.t c.ty.ensures c.in_ok-try_clone.ensures c.intern_app.new.self c.in_ok-equal.equal c.fails.result c.in_ok-equal.ensures.term c.fails.ensures
+    differs_here c.args.bank.now (the_type c.in_ok-ty.field-0) (the_type c.in_ok-ty.field-0) c.args.s c.args.t c.in_ok-ty.ensures refl c.intern_app.new.self c.in_ok-equal.equal c.fails.result c.in_ok-equal.ensures.term c.fails.ensures

@@ -27,7 +27,7 @@ returns-in_err-w-in-Some-clause-err c =
     on_err _ (may_be_witnessed c.args.bank.now c.args.p c.in-Some.quantified c.requires.principal c.in-Some.ensures c.witness_of.new.bank c.witness_of.ensures.declares.widens c.if-p.false c.args.witnesses.now c.witness_of.new.witnesses c.in_err-w-in-Some.ensures.err)
 
 pub returns-in_err-w-in-Some-clause-right : goal.returns-in_err-w-in-Some-clause-right
-returns-in_err-w-in-Some-clause-right c = right_by c.args.normal.now c.args.bank.now c.witness_of.new.bank c.witness_of.ensures.declares.terms c.requires.right
+returns-in_err-w-in-Some-clause-right c = right_by c.args.normal.now c.args.bank.now c.witness_of.new.bank c.witness_of.ensures.declares.widens.consts c.witness_of.ensures.declares.terms c.requires.right
 
 pub eta-requires-clause-fits : goal.eta-requires-clause-fits
 eta-requires-clause-fits c =
@@ -35,7 +35,7 @@ eta-requires-clause-fits c =
     c.witness_of.new.witnesses c.in_ok-w-in-Some.w c.in_ok-w-in-Some.ensures.row c.in_ok-w-in-Some.ensures.all (the_type c.in_ok-ty-in-Some.ty) c.in_ok-ty-in-Some.ensures
 
 pub eta-requires-clause-right : goal.eta-requires-clause-right
-eta-requires-clause-right c = right_by c.args.normal.now c.args.bank.now c.witness_of.new.bank c.witness_of.ensures.declares.terms c.requires.right
+eta-requires-clause-right c = right_by c.args.normal.now c.args.bank.now c.witness_of.new.bank c.witness_of.ensures.declares.widens.consts c.witness_of.ensures.declares.terms c.requires.right
 
 pub returns-in_err-witness-in-Some-clause-err : goal.returns-in_err-witness-in-Some-clause-err
 returns-in_err-witness-in-Some-clause-err c =
