@@ -8,16 +8,16 @@ use Rattle.tableau_rules.proofs.choice.predicate_type.Goals as goal
 pub returns-then-not-is_closed : goal.returns-then-not-is_closed
 returns-then-not-is_closed c = open_none c.args.bank.now c.args.f c.is_closed.result c.is_closed.ensures c.if-not-is_closed.true
 
-pub returns-in_ok-try_clone-in-Arrow : goal.returns-in_ok-try_clone-in-Arrow
-returns-in_ok-try_clone-in-Arrow c =
-    predicate_is c.args.bank.now c.args.f (the_type c.in_ok-ty.field-0) c.in_ok-ty.ensures (the_type c.in-Arrow.argument.value) (the_type c.in-Arrow.outcome.value) (the_type c.in_ok-try_clone-in-Arrow.field-0) c.requires (ap the_type c.in-Arrow.is)
+pub returns-then-same : goal.returns-then-same
+returns-then-same c =
+    predicate_is c.args.bank.now c.args.f (the_type c.in_ok-argument.field-0) c.in_ok-argument.ensures (the_type c.in-Arrow.argument.value) (the_type c.in-Arrow.outcome.value) (the_type c.in_ok-try_clone-in-Arrow.field-0) c.requires (ap the_type c.in-Arrow.is)
     (ap the_type (sym c.deref.ensures) ∙ same_type-true (the_type c.deref.result.now) formula (sym c.same.ensures ∙ c.if-same.true))
     (c.in_ok-try_clone-in-Arrow.ensures ∙ ap the_type c.deref-then-same.ensures)
 
-pub returns-else-same : goal.returns-else-same
-returns-else-same c =
-    function_none c.args.bank.now c.args.f (the_type c.in_ok-ty.field-0) c.in_ok-ty.ensures (the_type c.in-Arrow.argument.value) (the_type c.in-Arrow.outcome.value) (ap the_type c.in-Arrow.is)
+pub returns-in-Arrow : goal.returns-in-Arrow
+returns-in-Arrow c =
+    function_none c.args.bank.now c.args.f (the_type c.in_ok-argument.field-0) c.in_ok-argument.ensures (the_type c.in-Arrow.argument.value) (the_type c.in-Arrow.outcome.value) (ap the_type c.in-Arrow.is)
     (λ e. differ_type (the_type c.deref.result.now) formula (sym c.same.ensures ∙ c.if-same.false) (ap the_type c.deref.ensures ∙ e))
 
-pub returns-in-Base : goal.returns-in-Base
-returns-in-Base c = base_none c.args.bank.now c.args.f (the_type c.in_ok-ty.field-0) c.in_ok-ty.ensures c.in-Base.field-0 (ap the_type c.in-Base.is)
+pub returns : goal.returns
+returns c = base_none c.args.bank.now c.args.f (the_type c.in_ok-argument.field-0) c.in_ok-argument.ensures c.in-Base.field-0 (ap the_type c.in-Base.is)
