@@ -28,6 +28,7 @@ pub mod ByBaseLaws
 pub mod ChainLaws
 pub mod HoleLaws
 pub mod FittingLaws
+pub mod AscendingLaws
 pub mod NotingLaws
 pub mod SelectingLaws
 pub mod EmptyLaws

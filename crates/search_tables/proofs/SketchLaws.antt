@@ -5,7 +5,6 @@ use Rattle.std.proofs.lemmas.Option.{same_Some}
 use Rattle.stt_core.specs.SimpleType.{formula}
 use Rattle.stt_core.specs.Typing.{Scope}
 use Rattle.stt_core.specs.View.{the_type}
-use Rattle.stt_core.specs.declared.ty.Ty.{Ty}
 use Rattle.command_queue.specs.Queue.{Queue}
 use Rattle.term_bank.proofs.ListLaws.{get_or-front}
 use Rattle.search_run.specs.Commands.{grown_by}
@@ -88,7 +87,7 @@ module _ (t : Tables) (q : Queue Planned Delays) (r : IsRight t q) (p : ℕ) whe
     before_there : (m : ℕ) → m < length stands.before → sketch_at stands.before m ≡ sketch_at sketches m
     before_there m h = sym (ap (λ (xs : List Sketch). get_or xs m no_sketch) stands.are ∙ get_or-front stands.before (sketch_of (scope_by t.basis) stands.before s ∷ stands.behind) m no_sketch h)
 
-  pub sketch-blank : (a : Ty) → slice_get t.stems.items p ≡ Some (Blank a) → sketch_at sketches p ≡ record { type = the_type a; partial = blank (the_type a) }
+  pub sketch-blank : (a : _) → slice_get t.stems.items p ≡ Some (Blank a) → sketch_at sketches p ≡ record { type = the_type a.value; partial = blank (the_type a.value) }
   sketch-blank a at = sketch_there (Blank a) at
 
   module _ (m : ℕ) (h : HoleHead) (at : slice_get t.stems.items p ≡ Some (Grown m h)) where

@@ -4,13 +4,14 @@ ghost use Rattle.stt_core.specs.SimpleType.{base};
 ghost use Rattle.instantiate.specs.Listing.{ids_of};
 ghost use Rattle.search_tables.specs.Means.ByBase.{listings};
 
+use crate::fitting::small;
 use std::alloc::{AllocError, Global};
 use std::marker::Model;
 
 /// Lists of numbers, one for each base type. Contracts see the numbers with their base types.
 #[derive(Drop)]
 pub struct ByBase {
-    lists: Vec<Vec<usize>>,
+    lists: Vec<Vec<u32>>,
     alloc: Global,
 }
 
@@ -29,7 +30,7 @@ impl Model for ByBase {
 }
 
 /// Appends empty lists up to the one of a base type.
-fn reach(alloc: Global, lists: &mut Vec<Vec<usize>>, n: u32) -> Result<(), AllocError>
+fn reach(alloc: Global, lists: &mut Vec<Vec<u32>>, n: u32) -> Result<(), AllocError>
     ensures same { OnOk result (listings 0 (map (λ v. v.items) lists.new.items) ≡ listings 0 (map (λ v. v.items) lists.old.items)) }
     ensures there { OnOk result (n < length lists.new.items) }
 {
@@ -50,7 +51,7 @@ impl ByBase {
     }
 
     /// The numbers under a base type, in the order in which they came.
-    pub fn under(&self, n: u32) -> &[usize]
+    pub fn under(&self, n: u32) -> &[u32]
         ensures { result.now ≡ ids_of (base n) self.now }
     {
         match self.lists.get(n as usize) {
@@ -64,7 +65,8 @@ impl ByBase {
         ensures { OnOk result ((m : _) → ids_of (base m) self.new ≡ (if nat_eq n m then ids_of (base m) self.old ++ k ∷ [] else ids_of (base m) self.old)) }
     {
         reach(self.alloc, &mut self.lists, n)?;
-        self.lists[n as usize].push(k)?;
+        let number = small(k)?;
+        self.lists[n as usize].push(number)?;
         Ok(())
     }
 }

@@ -7,6 +7,8 @@ ghost use Rattle.search_run.specs.Heads.{places_to};
 ghost use Rattle.search_tables.specs.Means.Holes.{binders_onto, blank_hole, argument_holes, after_head};
 ghost use Rattle.search_tables.specs.Means.Chains.{chain, Extends};
 
+use crate::contexts::Contexts;
+use crate::fitting::small;
 use instantiate::target_of;
 use std::alloc::{AllocError, Global};
 use std::marker::Model;
@@ -19,8 +21,8 @@ use term_bank::Bank;
 #[derive(Drop)]
 pub(crate) struct Cell {
     base: u32,
+    rest: u32,
     context: Rc<Types>,
-    rest: usize,
 }
 
 impl Model for Cell {
@@ -45,34 +47,6 @@ fn push_where(places: &mut Vec<usize>, fits: bool, place: usize) -> Result<(), A
     Ok(())
 }
 
-/// Appends the types of a type's binders.
-fn push_binders(alloc: Global, types: &mut Types, ty: &Ty) -> Result<(), AllocError>
-    ensures { OnOk result (reverse types.new ≡ binders_onto (reverse types.old) (the_type ty.now)) }
-{
-    match ty {
-        Ty::Base(_) => Ok(()),
-        Ty::Arrow(argument, outcome) => {
-            types.push(argument.try_clone(alloc)?)?;
-            push_binders(alloc, types, outcome)?;
-            Ok(())
-        }
-    }
-}
-
-/// The types of the variables in scope under the binders of a type.
-fn under(alloc: Global, context: &Rc<Types>, ty: &Ty) -> Result<Rc<Types>, AllocError>
-    ensures { IfOk result (λ inner. reverse inner.value ≡ binders_onto (reverse context.now.value) (the_type ty.now)) }
-{
-    match ty {
-        Ty::Base(_) => Ok(Rc::clone(context)?),
-        Ty::Arrow(_, _) => {
-            let mut inner = context.try_clone(alloc)?;
-            push_binders(alloc, &mut inner, ty)?;
-            Ok(Rc::new(alloc, inner)?)
-        }
-    }
-}
-
 impl Cell {
     /// The types of the variables in scope, outermost first.
     pub(crate) fn context(&self) -> Result<Rc<Types>, AllocError>
@@ -91,7 +65,7 @@ impl Cell {
     pub(crate) fn rest(&self) -> usize
         ensures { result ≡ self.now.1 }
     {
-        self.rest
+        self.rest as usize
     }
 
     /// The type of a head there, where it has one.
@@ -196,6 +170,7 @@ impl Cells {
     pub(crate) fn add_blank(
         &mut self,
         alloc: Global,
+        contexts: &mut Contexts,
         context: &Rc<Types>,
         ty: &Ty,
         rest: usize,
@@ -205,12 +180,13 @@ impl Cells {
         ensures within { IfOk result (λ k. k ≤ length self.new) }
         ensures extends { Extends self.old self.new }
     {
-        let context = under(alloc, context, ty)?;
+        let inner = contexts.under(alloc, context, ty)?;
         let base = target_of(ty);
+        let behind = small(rest)?;
         Ok(self.add(Cell {
             base,
-            context,
-            rest,
+            rest: behind,
+            context: inner,
         })?)
     }
 
@@ -219,6 +195,7 @@ impl Cells {
     pub(crate) fn add_arguments(
         &mut self,
         alloc: Global,
+        contexts: &mut Contexts,
         context: &Rc<Types>,
         ty: &Ty,
         rest: usize,
@@ -231,8 +208,8 @@ impl Cells {
         match ty {
             Ty::Base(_) => Ok(rest),
             Ty::Arrow(argument, outcome) => {
-                let later = self.add_arguments(alloc, context, outcome, rest)?;
-                Ok(self.add_blank(alloc, context, argument, later)?)
+                let later = self.add_arguments(alloc, contexts, context, outcome, rest)?;
+                Ok(self.add_blank(alloc, contexts, context, argument, later)?)
             }
         }
     }
@@ -241,6 +218,7 @@ impl Cells {
     pub(crate) fn add_grown(
         &mut self,
         alloc: Global,
+        contexts: &mut Contexts,
         k: usize,
         ty: &Ty,
     ) -> Result<usize, AllocError>
@@ -255,6 +233,6 @@ impl Cells {
         let first = self.first(k);
         let context = first.context()?;
         let rest = first.rest();
-        Ok(self.add_arguments(alloc, &context, ty, rest)?)
+        Ok(self.add_arguments(alloc, contexts, &context, ty, rest)?)
     }
 }

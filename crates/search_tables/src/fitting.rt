@@ -1,5 +1,6 @@
 //! Heads that fit the hole of a partial term.
-ghost use Rattle.std.specs.Prelude.{◌≡◌, ◌<◌, ◌≤◌, [], length, take, Some, slice_get, IfOk};
+ghost use Rattle.std.specs.Prelude.{◌≡◌, ◌<◌, ◌≤◌, [], length, nat_lt, take, Some, slice_get, IfOk};
+ghost use Rattle.std.specs.List.Sorted.{IsNonDecreasingBy};
 ghost use Rattle.stt_tableau.specs.Witnesses.{with_rows};
 ghost use Rattle.command_queue.specs.Queue.{Queue};
 ghost use Rattle.search_run.specs.Heads.{heads_for};
@@ -18,8 +19,8 @@ use std::alloc::AllocError;
 use stt_core::Ty;
 use term_bank::Id;
 
-/// A number with 32 bits.
-pub(crate) fn small(n: usize) -> Result<u32, AllocError>
+/// A number with 32 bits. Where it has more, there is no memory.
+pub fn small(n: usize) -> Result<u32, AllocError>
     ensures { IfOk result (λ k. k ≡ n) }
 {
     if n > u32::MAX as usize {
@@ -30,15 +31,14 @@ pub(crate) fn small(n: usize) -> Result<u32, AllocError>
 
 /// How many of some ascending places are below a number.
 fn count_below(places: &[Id], n: usize) -> usize
+    requires { IsNonDecreasingBy (λ i. i) places.now }
     ensures { SplitsAt n places.now result }
 {
-    for behind in 0..places.len() {
-        let last = places.len() - behind - 1;
-        if (id_of(places, last) as usize) < n {
-            return last + 1;
-        }
-    }
-    0
+    places.partition_point(
+        |place: &Id| -> bool
+            ensures { result ≡ nat_lt place.now n }
+        { (*place as usize) < n },
+    )
 }
 
 /// The logic's own head at a place among those of a base type, over so many base types.

@@ -10,6 +10,8 @@ ghost use Rattle.search_tables.specs.Means.Holes.{leftmost, blank_hole, after_he
 ghost use Rattle.search_tables.specs.Means.Pending.{base_of};
 
 use crate::cells::{Cell, Cells};
+use crate::contexts::Contexts;
+use crate::fitting::small;
 use crate::head::{HoleHead, head_of};
 use std::alloc::{AllocError, Global};
 use std::marker::Model;
@@ -21,7 +23,8 @@ use term_bank::Bank;
 #[derive(Drop)]
 pub struct OpenHoles {
     cells: Cells,
-    lists: Vec<usize>,
+    lists: Vec<u32>,
+    contexts: Contexts,
 }
 
 impl Model for OpenHoles {
@@ -48,6 +51,7 @@ impl OpenHoles {
         OpenHoles {
             cells: Cells::new(alloc),
             lists: Vec::new(alloc),
+            contexts: Contexts::new(alloc),
         }
     }
 
@@ -58,7 +62,7 @@ impl OpenHoles {
     {
         match self.lists[p] {
             0 => None,
-            k => Some(self.cells.first(k)),
+            k => Some(self.cells.first(k as usize)),
         }
     }
 
@@ -89,7 +93,7 @@ impl OpenHoles {
         requires { p < length self.now }
         ensures { (holes : List Hole) → slice_get self.now p ≡ Some holes → result ≡ nat_eq (length holes) 1 }
     {
-        self.cells.is_single(self.lists[p])
+        self.cells.is_single(self.lists[p] as usize)
     }
 
     /// The base type of the first hole of a partial term, where it has one.
@@ -119,8 +123,10 @@ impl OpenHoles {
         ensures { OnOk result (self.new ≡ self.old ++ (blank_hole [] (the_type ty.now) ∷ []) ∷ []) }
     {
         let context = Rc::new(alloc, Types::new(alloc))?;
-        let list = self.cells.add_blank(alloc, &context, ty, 0)?;
-        self.lists.push(list)?;
+        let contexts = &mut self.contexts;
+        let list = self.cells.add_blank(alloc, contexts, &context, ty, 0)?;
+        let number = small(list)?;
+        self.lists.push(number)?;
         Ok(())
     }
 
@@ -129,9 +135,11 @@ impl OpenHoles {
         requires { p < length self.old }
         ensures { OnOk result ((holes : List Hole) → slice_get self.old p ≡ Some holes → self.new ≡ self.old ++ after_head (the_type ty.now) holes ∷ []) }
     {
-        let k = self.lists[p];
-        let list = self.cells.add_grown(alloc, k, ty)?;
-        self.lists.push(list)?;
+        let k = self.lists[p] as usize;
+        let contexts = &mut self.contexts;
+        let list = self.cells.add_grown(alloc, contexts, k, ty)?;
+        let number = small(list)?;
+        self.lists.push(number)?;
         Ok(())
     }
 }

@@ -32,6 +32,14 @@ pub(crate) fn id_of(ids: &[Id], i: usize) -> Id
     ids[i]
 }
 
+/// What is at a place of a list of small numbers.
+fn number_at(numbers: &[u32], i: usize) -> usize
+    requires { i < length numbers.now }
+    ensures { slice_get numbers.now i ≡ Some result }
+{
+    numbers[i] as usize
+}
+
 /// What is listed under the type over which the atom of a literal ranges.
 pub(crate) fn listed_under<'a>(basis: &Basis, list: &'a Enumerator, lit: SatLit) -> &'a [Id]
     requires basis { IsBasis basis.now }
@@ -158,7 +166,7 @@ impl Tables {
     }
 
     /// The partial terms whose first hole has the base type of the first one of this partial term.
-    fn parked_like(&self, p: usize) -> &[Id]
+    fn parked_like(&self, p: usize) -> &[u32]
         requires right { (q : Queue Planned Delays) × IsRight self.now q }
         requires number { p < length (sketches_in self.now) }
         ensures { result.now ≡ ids_of (base (base_of (first_hole [] (sketch_at (sketches_in self.now) p).partial))) self.now.holes }
@@ -175,7 +183,7 @@ impl Tables {
         ensures numbers { AreNumbers (names_in self.now) result }
     {
         match first {
-            Command::Grow(p, h) => Command::Grow(id_of(self.parked_like(p), place), h),
+            Command::Grow(p, h) => Command::Grow(number_at(self.parked_like(p), place), h),
             _ => unreachable!(),
         }
     }

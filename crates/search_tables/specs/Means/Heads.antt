@@ -27,7 +27,7 @@ the_hole_head (Choice b) = constant (choice (base b))
 
 -- the partial term of a stem, where the earlier ones are known
 abbrev pub sketch_of : Scope → List Sketch → Stem → Sketch
-sketch_of scope earlier (Blank a) = record { type = the_type a; partial = blank (the_type a) }
+sketch_of scope earlier (Blank a) = record { type = the_type a.value; partial = blank (the_type a.value) }
 sketch_of scope earlier (Grown p h) = grown_by scope (the_hole_head h) (sketch_at earlier p)
 
 -- partial terms, with those of further stems

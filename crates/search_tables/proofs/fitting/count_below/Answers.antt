@@ -1,13 +1,9 @@
-use Rattle.std.proofs.Common.{◌≡◌, ◌≤◌, ◌-◌, ◌+◌, drop, length, sym, ap, subst, ◌∙◌, arith}
-use Rattle.stt_core.proofs.ListLaws.{drop_got}
-use Rattle.search_run.specs.Each.{Each}
+use Rattle.std.proofs.Common.{ltb, rules}
+use Rattle.std.proofs.lemmas.List.Sorted.{IsPartitionedBy-ltb, IsPartitionPoint-from_clause}
+use Rattle.search_tables.proofs.AscendingLaws.{splits-from}
 use Rattle.search_tables.proofs.fitting.count_below.Goals as goal
 
-pub loop-behind-preserved : goal.loop-behind-preserved
-loop-behind-preserved c =
-    let places = c.args.places.now in
-    let n = c.args.n in
-    let last = length places - c.loop-behind.behind - 1 in
-    subst (Each (λ i. n ≤ i))
-    (sym (ap (λ k. drop k places) (let e : length places - (c.loop-behind.behind + 1) ≡ last = omega arith in e) ∙ drop_got places last c.id_of.result c.id_of.ensures))
-    (omega (arith, c.if-id_of-n.false), subst (λ k. Each (λ i. n ≤ i) (drop k places)) (let e : length places - c.loop-behind.behind ≡ last + 1 = omega (arith, c.loop-behind-test.true) in e) c.loop-behind.invariant)
+pub returns : goal.returns
+returns c =
+    splits-from c.args.n c.args.places.now c.partition_point.result c.partition_point.ensures.bound
+    (IsPartitionPoint-from_clause (λ y. ltb y c.args.n) c.args.places.now c.partition_point.result c.partition_point.ensures.partitioned (IsPartitionedBy-ltb (λ i. i) c.args.places.now c.args.n c.requires) (λ a r f' k. search rules))

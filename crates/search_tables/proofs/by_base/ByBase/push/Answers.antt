@@ -1,4 +1,4 @@
-use Rattle.std.proofs.Common.{Vec, Global, ℕ, List, map, sym, ap, ◌∙◌}
+use Rattle.std.proofs.Common.{Vec, Global, ℕ, List, [], ◌∷◌, ◌++◌, map, sym, ap, ◌∙◌}
 use Rattle.stt_core.specs.SimpleType.{base}
 use Rattle.instantiate.specs.Listing.{Listing, ids_of}
 use Rattle.search_tables.proofs.ByBaseLaws.{ids-listings, listed-push}
@@ -9,4 +9,4 @@ returns c = λ m.
     let f : Vec ℕ Global → List ℕ = λ v. v.items in
     let stood = sym (ids-listings m (map f c.reach.new.lists.items)) ∙ ap (λ (all : List Listing). ids_of (base m) all) (c.in_ok-reach.ensures.same ∙ c.self.view_is) in
     ids-listings m _
-    ∙ listed-push f c.reach.new.lists.items c.args.n m c.args.k c.index_mut.result.now c.push.new.self (ids_of (base m) c.args.self.now) c.in_ok-reach.ensures.there c.index_mut.ensures.value c.in_ok-push.ensures.items stood
+    ∙ listed-push f c.reach.new.lists.items c.args.n m c.args.k c.index_mut.result.now c.push.new.self (ids_of (base m) c.args.self.now) c.in_ok-reach.ensures.there c.index_mut.ensures.value (c.in_ok-push.ensures.items ∙ ap (λ n. c.index_mut.result.now.items ++ n ∷ []) c.in_ok-number.ensures) stood

@@ -12,8 +12,8 @@ use Rattle.search_tables.proofs.LoopLists.{got-mapped, within-mapped}
 use Rattle.search_tables.proofs.HoleLaws.{parked-loop, parked-below}
 use Rattle.search_tables.proofs.tables.Tables.in_parked.Goals as goal
 
-pub id_of-requires : goal.id_of-requires
-id_of-requires c =
+pub number_at-requires : goal.number_at-requires
+number_at-requires c =
     let t = c.args.self.now in
     let p = c.in-Grow.p in
     let n = base_of (first_hole [] (sketch_at (sketches_in t) p).partial) in
@@ -27,8 +27,8 @@ returns-clause-command c =
     let p = c.in-Grow.p in
     let n = base_of (first_hole [] (sketch_at (sketches_in t) p).partial) in
     ap (λ f. slice_get (over_parked (sources t) (command_at (names_in t) f)) c.args.place) c.in-Grow.is
-    ∙ got-mapped (over_parked (sources t) (command_at (names_in t) (Grow p c.in-Grow.h))) (λ i. command_at (names_in t) (Grow i c.in-Grow.h)) (ids_of (base n) t.holes) (parked-loop t c.requires.right.0 c.requires.right.1 p c.in-Grow.h) c.args.place c.id_of.result
-    (ap (λ (xs : List ℕ). slice_get xs c.args.place) (sym c.parked_like.ensures) ∙ c.id_of.ensures)
+    ∙ got-mapped (over_parked (sources t) (command_at (names_in t) (Grow p c.in-Grow.h))) (λ i. command_at (names_in t) (Grow i c.in-Grow.h)) (ids_of (base n) t.holes) (parked-loop t c.requires.right.0 c.requires.right.1 p c.in-Grow.h) c.args.place c.number_at.result
+    (ap (λ (xs : List ℕ). slice_get xs c.args.place) (sym c.parked_like.ensures) ∙ c.number_at.ensures)
 
 pub returns-clause-numbers : goal.returns-clause-numbers
 returns-clause-numbers c =
@@ -36,4 +36,4 @@ returns-clause-numbers c =
     let p = c.in-Grow.p in
     let n = base_of (first_hole [] (sketch_at (sketches_in t) p).partial) in
     let numbers = subst (AreNumbers (names_in t)) c.in-Grow.is c.requires.numbers in
-    (each-at (λ i. i < length (sketches_in t)) (ids_of (base n) t.holes) c.args.place c.id_of.result (parked-below t c.requires.right.0 c.requires.right.1 n) (ap (λ (xs : List ℕ). slice_get xs c.args.place) (sym c.parked_like.ensures) ∙ c.id_of.ensures), numbers.1)
+    (each-at (λ i. i < length (sketches_in t)) (ids_of (base n) t.holes) c.args.place c.number_at.result (parked-below t c.requires.right.0 c.requires.right.1 n) (ap (λ (xs : List ℕ). slice_get xs c.args.place) (sym c.parked_like.ensures) ∙ c.number_at.ensures), numbers.1)

@@ -1,9 +1,19 @@
-use Rattle.std.proofs.Common.{◌≡◌, ◌<◌, ◌-◌, ℕ, List, length, slice_get, Some, sym, ap, subst, ◌∙◌, arith}
+use Rattle.std.proofs.Common.{◌≡◌, ◌<◌, ◌-◌, ℕ, List, length, map, slice_get, Some, sym, ap, subst, ◌∙◌, arith}
+use Rattle.std.specs.List.Sorted.{IsNonDecreasingBy}
 use Rattle.stt_core.specs.Lambda.{constant, witness}
+use Rattle.stt_tableau.specs.Witnesses.{Row}
 use Rattle.search_tables.specs.Means.Fitting.{logical_for, SplitsAt}
 use Rattle.search_tables.specs.Means.Heads.{the_hole_head}
+use Rattle.search_tables.specs.Means.Standing.{rows_in}
+use Rattle.search_tables.proofs.AscendingLaws.{places-ascend}
 use Rattle.search_tables.proofs.FittingLaws.{witness-there, logical-below, logical-there}
 use Rattle.search_tables.proofs.tables.Tables.later_head.Goals as goal
+
+pub count_below-count-requires : goal.count_below-count-requires
+count_below-count-requires c =
+    let t = c.args.self.now in
+    let types = map (λ (x : Row). x.type) (rows_in t.basis) in
+    subst (IsNonDecreasingBy (λ i. i)) (sym (c.terms_of-takers.ensures ∙ c.requires.right.1.takers c.args.base)) (places-ascend c.args.base 0 types)
 
 pub returns-then-place-count : goal.returns-then-place-count
 returns-then-place-count c =
