@@ -69,7 +69,8 @@ fn type_number(ty: &Ty) -> u64
     }
 }
 
-fn hash_head<H: Hasher>(head: &Head, state: &mut H)
+/// Feeds a hasher with a head.
+pub fn hash_head<H: Hasher>(head: &Head, state: &mut H)
     ensures { state.new ≡ fold H.write state.old (head_writes (the_head head.now)) }
 {
     match head {

@@ -14,5 +14,6 @@ mod tree;
 mod types;
 
 pub use bank::Bank;
+pub use key::hash_head;
 pub use law::{equal_ids_for_equal_terms, ids_keep_their_terms};
 pub use node::{Id, Ids, Node};
