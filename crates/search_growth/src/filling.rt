@@ -25,7 +25,7 @@ use crate::stems::{partial_of, root_of};
 use crate::taking::{is_last, taken_type};
 use command_queue::Weigher;
 use instantiate::Grown;
-use search_tables::{Core, HoleHead, Stem, Tables, Waiting, head_of, numbered_head};
+use search_tables::{Core, HoleHead, Stem, Tables, Waiting, head_of, numbered_head, small};
 use std::alloc::AllocError;
 use term_bank::Id;
 
@@ -105,8 +105,9 @@ pub fn fill<W: Weigher<Waiting>>(
         fill_last(core, parent, filler)?;
         return Ok(());
     }
+    let number = small(parent)?;
     let stem = Stem::Grown {
-        parent,
+        parent: number,
         head: filler,
     };
     open_stem(core, stem)?;

@@ -14,6 +14,7 @@ use crate::parking::park;
 use command_queue::Weigher;
 use search_tables::{Core, Stem, Waiting};
 use std::alloc::AllocError;
+use std::rc::Rc;
 use stt_core::{Ty, Types};
 
 /// Whether a type is one of a list.
@@ -55,7 +56,8 @@ fn prepare_function<W: Weigher<Waiting>>(core: &mut Core<W>, ty: &Ty) -> Result<
     if has_type(&core.tables.roots, ty) {
         return Ok(());
     }
-    let blank = ty.try_clone(core.tables.alloc)?;
+    let alloc = core.tables.alloc;
+    let blank = Rc::new(alloc, ty.try_clone(alloc)?)?;
     open_stem(core, Stem::Blank(blank))?;
     Ok(())
 }

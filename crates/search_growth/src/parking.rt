@@ -31,8 +31,9 @@ fn push_holes(tables: &mut Tables, stem: &Stem) -> Result<(), AllocError>
             Ok(())
         }
         Stem::Grown { parent, head } => {
-            let ty = taken_type(tables, *parent, *head)?;
-            tables.open_holes.push_grown(tables.alloc, *parent, &ty)?;
+            let parent = *parent as usize;
+            let ty = taken_type(tables, parent, *head)?;
+            tables.open_holes.push_grown(tables.alloc, parent, &ty)?;
             Ok(())
         }
     }

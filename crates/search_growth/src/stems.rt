@@ -32,7 +32,7 @@ pub(crate) fn root_of(tables: &Tables, p: usize) -> &Ty
 {
     match stem_at(tables.stems.as_slice(), p) {
         Stem::Blank(ty) => ty,
-        Stem::Grown { parent, .. } => root_of(tables, *parent),
+        Stem::Grown { parent, .. } => root_of(tables, *parent as usize),
     }
 }
 
@@ -62,8 +62,9 @@ pub(crate) fn partial_of(tables: &Tables, p: usize) -> Result<Partial, AllocErro
     match stem_at(tables.stems.as_slice(), p) {
         Stem::Blank(ty) => Ok(Partial::of_type(tables.alloc, ty)?),
         Stem::Grown { parent, head } => {
-            let before = partial_of(tables, *parent)?;
-            Ok(grown_from(tables, before, *parent, *head)?)
+            let parent = *parent as usize;
+            let before = partial_of(tables, parent)?;
+            Ok(grown_from(tables, before, parent, *head)?)
         }
     }
 }

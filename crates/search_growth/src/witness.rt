@@ -31,7 +31,7 @@ fn grow_with<W: Weigher<Waiting>>(core: &mut Core<W>, output: u32, w: u32) -> Re
     if count == 0 {
         return Ok(());
     }
-    let first = Command::Grow(parked[0], number_of(HoleHead::Wit(w)));
+    let first = Command::Grow(parked[0] as usize, number_of(HoleHead::Wit(w)));
     core.push_whole(first, Over::Parked, count)?;
     Ok(())
 }

@@ -1,13 +1,15 @@
-use Rattle.std.proofs.Common.{ap, subst, sym, ◌∙◌, arith}
+use Rattle.std.proofs.Common.{ℕ, ap, subst, sym, ◌∙◌, arith}
 use Rattle.stt_core.specs.Lambda.{Lambda}
 use Rattle.stt_core.specs.View.{the_type}
 use Rattle.instantiate.specs.Means.Blanks.{term_of}
 use Rattle.instantiate.proofs.SearchLaws.{sketch_takes}
-use Rattle.search_run.specs.Commands.{carried_out}
+use Rattle.search_run.specs.Commands.{carried_out, grown_by}
 use Rattle.search_run.specs.State.{grow}
+use Rattle.search_run.specs.Terms.{opened}
 use Rattle.search_run.specs.TypedState.{Grows}
+use Rattle.search_tables.specs.declared.stem.Stem.TheVariants.{Grown}
 use Rattle.search_tables.specs.declared.tables.Tables.{Tables}
-use Rattle.search_tables.specs.Means.Heads.{the_hole_head}
+use Rattle.search_tables.specs.Means.Heads.{the_hole_head, IsStem}
 use Rattle.search_tables.specs.Means.Names.{sketch_at}
 use Rattle.search_tables.specs.Means.Standing.{scope_by, setting_by, sketches_in, the_state}
 use Rattle.search_tables.proofs.HoleLaws.{holes-length}
@@ -71,7 +73,8 @@ open_stem-requires-clause-stem g c =
     let x = sketch_at (sketches_in t) c.args.parent in
     let G : Lambda → Type 0 = λ u. Grows (scope_by t.basis) x u in
     let u = the_hole_head c.numbered_head-filler.result in
-    (c.requires.numbers.0, sketch_takes (scope_by t.basis) x u (subst G (sym c.numbered_head-filler.ensures) c.requires.fits))
+    let S : ℕ → Type 0 = λ k. IsStem (scope_by t.basis) (sketches_in t) (Grown k c.numbered_head-filler.result) in
+    subst S (sym c.in_ok-number.ensures) (c.requires.numbers.0, sketch_takes (scope_by t.basis) x u (subst G (sym c.numbered_head-filler.ensures) c.requires.fits))
 
 pub returns-clause-state : goal.returns-clause-state
 returns-clause-state g c =
@@ -85,6 +88,7 @@ returns-clause-state g c =
     let takes = sketch_takes (scope_by t.basis) x u (subst G (sym c.numbered_head-filler.ensures) c.requires.fits) in
     let e = last-is t q r p c.requires.numbers.0 u takes (the_type c.in_ok-ty.ty) (c.in_ok-ty.ensures takes) c.is_last.result c.is_last.ensures in
     c.in_ok-open_stem.ensures.state
+    ∙ ap (λ k. opened (setting_by t q) (grown_by (scope_by t.basis) u (sketch_at (sketches_in t) k)) (the_state t q)) c.in_ok-number.ensures
     ∙ carried-open (setting_by t q) (the_state t q) x u (hole-left t q r p c.requires.numbers.0 u takes (sym e ∙ c.if-is_last.false))
     ∙ ap (λ h. carried_out (setting_by t q) (grow x h) (the_state t q)) c.numbered_head-filler.ensures
 

@@ -25,5 +25,5 @@ returns-clause-state g c =
     let s = the_state t q in
     let roots = list_any (same_type a) t.roots in
     c.in_ok-open_stem.ensures.state
-    ∙ ap (λ (x : SimpleType). opened (setting_by t q) (record { type = x; partial = blank x }) s) c.in_ok-blank.ensures
+    ∙ ap (λ (x : SimpleType). opened (setting_by t q) (record { type = x; partial = blank x }) s) (ap the_type c.in_ok-blank.ensures.ok ∙ c.in_ok-try_clone.ensures)
     ∙ prepared-now (setting_by t q) s a c.requires.function.0 c.requires.function.1.0 c.requires.function.1.1 roots (c.requires.right.roots a) (sym c.has_type.ensures ∙ c.if-has_type.false)

@@ -3,7 +3,7 @@ use Rattle.stt_core.specs.View.{the_type}
 use Rattle.search_run.specs.Partial.{Hole}
 use Rattle.search_tables.specs.declared.stem.Stem.{Stem}
 use Rattle.search_tables.specs.Means.Heads.{the_hole_head, sketch_of, IsStem}
-use Rattle.search_tables.specs.Means.Holes.{holes_in}
+use Rattle.search_tables.specs.Means.Holes.{holes_in, blank_hole}
 use Rattle.search_tables.specs.Means.Names.{sketch_at}
 use Rattle.search_tables.specs.Means.Standing.{scope_by, sketches_in}
 use Rattle.search_tables.proofs.FilledHoles.{holes-blank}
@@ -15,7 +15,7 @@ pub returns-in_ok-push_blank-in-Blank-clause-holes : goal.returns-in_ok-push_bla
 returns-in_ok-push_blank-in-Blank-clause-holes c =
     let t = c.args.tables.now in
     let Of : Stem → List Hole = λ s. holes_in [] (sketch_of (scope_by t.basis) (sketches_in t) s).partial in
-    c.in_ok-push_blank-in-Blank.ensures ∙ ap (λ hs. t.open_holes ++ hs ∷ []) (sym (holes-blank [] (the_type c.in-Blank.ty)) ∙ ap Of (sym c.in-Blank.is))
+    c.in_ok-push_blank-in-Blank.ensures ∙ ap (λ hs. t.open_holes ++ hs ∷ []) (ap (λ a. blank_hole [] (the_type a) ∷ []) c.deref.ensures ∙ sym (holes-blank [] (the_type c.in-Blank.ty.value)) ∙ ap Of (sym c.in-Blank.is))
 
 pub taken_type-requires-clause-number : goal.taken_type-requires-clause-number
 taken_type-requires-clause-number c =

@@ -11,7 +11,7 @@ pub returns-in_ok-push-in-Blank-clause-roots : goal.returns-in_ok-push-in-Blank-
 returns-in_ok-push-in-Blank-clause-roots c =
     let t = c.args.tables.now in
     let Of : Stem → Sketch = sketch_of (scope_by t.basis) (sketches_in t) in
-    roots-blank (sketches_in t) (Of c.args.stem.now) t.roots c.requires.roots c.push.new.self (the_type c.in_ok-root-in-Blank.root) (c.in_ok-root-in-Blank.ensures ∙ ap (λ s. (Of s).type) (sym c.in-Blank.is)) c.in_ok-push-in-Blank.ensures.ok
+    roots-blank (sketches_in t) (Of c.args.stem.now) t.roots c.requires.roots c.push.new.self (the_type c.in_ok-root-in-Blank.root) (c.in_ok-root-in-Blank.ensures ∙ ap the_type c.deref.ensures ∙ ap (λ s. (Of s).type) (sym c.in-Blank.is)) c.in_ok-push-in-Blank.ensures.ok
 
 pub returns-in-Grown-clause-roots : goal.returns-in-Grown-clause-roots
 returns-in-Grown-clause-roots c =

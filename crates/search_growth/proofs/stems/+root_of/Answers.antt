@@ -1,4 +1,5 @@
 use Rattle.std.proofs.Common.{length, slice_get, Some, sym, ap, ◌∙◌, arith}
+use Rattle.stt_core.specs.View.{the_type}
 use Rattle.search_run.specs.State.{Sketch}
 use Rattle.search_tables.proofs.SketchLaws.{stems-length, sketch-blank, parent-before, sketch-grown}
 use Rattle.search_growth.proofs.stems.+root_of.Goals as goal
@@ -27,7 +28,7 @@ returns-in-Blank d c =
     let q = c.requires.right.0 in
     let r = c.requires.right.1 in
     let at = ap (λ xs. slice_get xs c.args.p) (sym c.as_slice.ensures.value) ∙ c.stem_at.ensures ∙ ap Some c.in-Blank.is in
-    ap (λ (s : Sketch). s.type) (sym (sketch-blank t q r c.args.p c.in-Blank.ty at))
+    ap the_type c.deref.ensures ∙ ap (λ (s : Sketch). s.type) (sym (sketch-blank t q r c.args.p c.in-Blank.ty at))
 
 pub returns-in-Grown : goal.returns-in-Grown
 returns-in-Grown d c =
