@@ -1,13 +1,12 @@
 //! Heads that fit the hole of a partial term.
 ghost use Rattle.std.specs.Prelude.{◌≡◌, ◌<◌, ◌≤◌, [], length, nat_lt, take, Some, slice_get, IfOk};
-ghost use Rattle.std.specs.List.Sorted.{IsNonDecreasingBy};
 ghost use Rattle.stt_tableau.specs.Witnesses.{with_rows};
 ghost use Rattle.command_queue.specs.Queue.{Queue};
 ghost use Rattle.search_run.specs.Heads.{heads_for};
 ghost use Rattle.search_run.specs.Partial.{first_hole};
 ghost use Rattle.search_tables.specs.declared.command.Planned.{Planned};
 ghost use Rattle.search_tables.specs.declared.command.Delays.{Delays};
-ghost use Rattle.search_tables.specs.Means.Fitting.{logical_for, later_heads, SplitsAt};
+ghost use Rattle.search_tables.specs.Means.Fitting.{logical_for, later_heads};
 ghost use Rattle.search_tables.specs.Means.Heads.{the_hole_head};
 ghost use Rattle.search_tables.specs.Means.Names.{sketch_at};
 ghost use Rattle.search_tables.specs.Means.Standing.{declared_scope, rows_in, sketches_in, IsRight};
@@ -27,18 +26,6 @@ pub fn small(n: usize) -> Result<u32, AllocError>
         return Err(AllocError);
     }
     Ok(n as u32)
-}
-
-/// How many of some ascending places are below a number.
-fn count_below(places: &[Id], n: usize) -> usize
-    requires { IsNonDecreasingBy (λ i. i) places.now }
-    ensures { SplitsAt n places.now result }
-{
-    places.partition_point(
-        |place: &Id| -> bool
-            ensures { result ≡ nat_lt place.now n }
-        { (*place as usize) < n },
-    )
 }
 
 /// The logic's own head at a place among those of a base type, over so many base types.
@@ -74,7 +61,11 @@ impl Tables {
         ensures { IfOk result (λ h. slice_get (later_heads (with_rows (declared_scope self.now.basis.bank) (take witnesses (rows_in self.now.basis))) base) place ≡ Some (the_hole_head h)) }
     {
         let takers = self.takers.terms_of(&Ty::Base(base));
-        let count = count_below(takers, witnesses);
+        let count = takers.partition_point(
+            |taker: &Id| -> bool
+                ensures { result ≡ nat_lt taker.now witnesses }
+            { (*taker as usize) < witnesses },
+        );
         if place < count {
             return Ok(HoleHead::Wit(id_of(takers, place)));
         }
