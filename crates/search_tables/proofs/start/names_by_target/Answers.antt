@@ -1,4 +1,6 @@
-use Rattle.std.proofs.Common.{map, ◌∙◌}
+use Rattle.std.proofs.Common.{map, ap, ◌∙◌}
+use Rattle.stt_core.specs.SimpleType.{base}
+use Rattle.instantiate.specs.Listing.{with_listed}
 use Rattle.stt_core.specs.View.{the_type}
 use Rattle.stt_core.specs.TypedName.{TypedName}
 use Rattle.search_tables.proofs.EmptyLaws.{got-typed, below-more, all-more}
@@ -10,7 +12,8 @@ loop-i-preserved c =
     let a = the_type c.in-Some.ty.now in
     let at = got-typed c.args.consts.now c.loop-i.i a c.in-Some.ensures in
     let inv = c.loop-i.invariant in
+    let added = c.in_ok-add_term-in-Some.ensures.ok ∙ ap (λ k. with_listed (base c.target_of.result) k c.loop-i.names) c.in_ok-number-in-Some.ensures in
     record {
-      below = below-more types c.loop-i.i a at c.target_of.result c.target_of.ensures c.loop-i.names c.add_term.new.self c.in_ok-add_term-in-Some.ensures.ok inv.below;
-      all = λ n. all-more types c.loop-i.i a at c.target_of.result c.target_of.ensures c.loop-i.names c.add_term.new.self c.in_ok-add_term-in-Some.ensures.ok inv.below n ∙ inv.all n;
+      below = below-more types c.loop-i.i a at c.target_of.result c.target_of.ensures c.loop-i.names c.add_term.new.self added inv.below;
+      all = λ n. all-more types c.loop-i.i a at c.target_of.result c.target_of.ensures c.loop-i.names c.add_term.new.self added inv.below n ∙ inv.all n;
     }

@@ -46,7 +46,6 @@ returns-then-behind-names c =
     let named = ap length names in
     name-at vs ns (later_heads scope (base_of o)) (heads_for scope o) are c.args.place c.id_of.result passed
     (ap₂ (λ (xs : List ℕ) n. slice_get xs (c.args.place - n)) (sym names) (sym count) ∙ c.id_of.ensures)
-    ∙ ap (λ k. Some (constant (name k))) (sym c.in_ok-small-2.ensures)
 
 pub later_head-requires-clause-within : goal.later_head-requires-clause-within
 later_head-requires-clause-within c =

@@ -21,7 +21,6 @@ returns-then-place-count c =
     let S : List ℕ → Type 0 = λ xs. SplitsAt c.args.witnesses xs k in
     witness-there t c.requires.right.0 c.requires.right.1 c.args.base c.args.witnesses c.requires.few k (subst S c.terms_of-takers.ensures splits) c.args.place c.id_of.result c.if-place-count.true
     (ap (λ (xs : List ℕ). slice_get xs c.args.place) (sym c.terms_of-takers.ensures) ∙ c.id_of.ensures)
-    ∙ ap (λ k. Some (constant (witness k))) (sym c.in_ok-small.ensures)
 
 pub logical_head-requires : goal.logical_head-requires
 logical_head-requires c =

@@ -17,7 +17,7 @@ returns-in_ok-add_term-in-Some-clause-listed c = λ a.
     let b = the_type c.in-Some.ty.now in
     let last = length t.noted.items in
     let atom = get_or_from_slice_get t.basis.lits c.args.lit.var.0 c.formula_of-atom.result 0 c.formula_of-atom.ensures in
-    listed-last a b last t.universals c.add_term.new.self (c.in_ok-add_term-in-Some.ensures.ok ∙ ap (λ i. with_listed b i t.universals) (c.len.ensures ∙ (let n : vec_len t.noted ≡ last = omega (arith, t.noted.ok.0) in n))) (c.requires.places b)
+    listed-last a b last t.universals c.add_term.new.self (c.in_ok-add_term-in-Some.ensures.ok ∙ ap (λ i. with_listed b i t.universals) (c.in_ok-place-in-Some.ensures ∙ c.len.ensures ∙ (let n : vec_len t.noted ≡ last = omega (arith, t.noted.ok.0) in n))) (c.requires.places b)
     ∙ ap (λ (x : Bool). if x then ids_of a t.universals ++ last ∷ [] else ids_of a t.universals)
     (sym (universal-by t a c.args.lit (Some b) (positive c.args.lit.positive c.if-not-lit.false) (c.in-Some.ensures ∙ ap (λ i. quantified_type (term_at t.basis.bank.terms i)) (sym atom))))
 
