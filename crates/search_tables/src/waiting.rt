@@ -124,7 +124,11 @@ impl Waiting {
             Command::Inst(lit, id) => Ok(Waiting::alone(Kind::Inst, lit, plain(id as usize))?),
             Command::Grow(p, h) => Ok(Waiting::alone(Kind::Grow, plain(p), plain(h))?),
             Command::Choose(id) => Ok(Waiting::alone(Kind::Choose, plain(id as usize), plain(0))?),
-            Command::Describe(id) => Ok(Waiting::alone(Kind::Describe, plain(id as usize), plain(0))?),
+            Command::Describe(id) => Ok(Waiting::alone(
+                Kind::Describe,
+                plain(id as usize),
+                plain(0),
+            )?),
         }
     }
 

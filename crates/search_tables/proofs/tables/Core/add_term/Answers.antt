@@ -67,7 +67,7 @@ push_whole-requires-clause-numbers g c =
     let vs = c.terms_of-universals.result.now in
     let ids : ids_of a self.tables.universals ≡ get_or vs 0 0 ∷ drop 1 vs = sym c.terms_of-universals.ensures ∙ head-is vs (omega (arith, c.if-count-eq0.false)) in
     let N : SatLit → Type 0 = λ l. l.var.0 < length self.tables.basis.lits in
-    (subst N (sym (noted-is self.tables self.plan c.requires.right a (get_or vs 0 0) c.literal_of.result (ap (λ ls. slice_get ls (get_or vs 0 0)) (sym c.as_slice.ensures.value) ∙ at-first c.as_slice.result.now c.literal_of.result vs c.id_of.result c.id_of.ensures c.literal_of.ensures))) (first-number self.tables self.plan c.requires.right a (get_or vs 0 0) (drop 1 vs) ids), c.requires.place)
+    (subst N (sym (noted-is self.tables self.plan c.requires.right a (get_or vs 0 0) c.literal_of.result (ap (λ ls. slice_get ls (get_or vs 0 0)) (sym c.as_slice.ensures.value) ∙ at-first c.as_slice.result.now c.literal_of.result vs c.id_of-place.result c.id_of-place.ensures c.literal_of.ensures))) (first-number self.tables self.plan c.requires.right a (get_or vs 0 0) (drop 1 vs) ids), c.requires.place)
 
 pub push_whole-requires-clause-begins : goal.push_whole-requires-clause-begins
 push_whole-requires-clause-begins g c =
@@ -77,7 +77,7 @@ push_whole-requires-clause-begins g c =
     let vs = c.terms_of-universals.result.now in
     let ids : ids_of a self.tables.universals ≡ get_or vs 0 0 ∷ drop 1 vs = sym c.terms_of-universals.ensures ∙ head-is vs (omega (arith, c.if-count-eq0.false)) in
     let B : SatLit → Type 0 = λ l. let d = command_at (names_in t) (Inst l c.args.id) in BeginsWith d (loop_over (declared_scope t.basis.bank) (sources t) Universals d) in
-    subst B (sym (noted-is self.tables self.plan c.requires.right a (get_or vs 0 0) c.literal_of.result (ap (λ ls. slice_get ls (get_or vs 0 0)) (sym c.as_slice.ensures.value) ∙ at-first c.as_slice.result.now c.literal_of.result vs c.id_of.result c.id_of.ensures c.literal_of.ensures)))
+    subst B (sym (noted-is self.tables self.plan c.requires.right a (get_or vs 0 0) c.literal_of.result (ap (λ ls. slice_get ls (get_or vs 0 0)) (sym c.as_slice.ensures.value) ∙ at-first c.as_slice.result.now c.literal_of.result vs c.id_of-place.result c.id_of-place.ensures c.literal_of.ensures)))
     (_, universals-loop self.tables self.plan c.requires.right a (get_or vs 0 0) (drop 1 vs) ids c.args.id ∙ universals-begin self.tables self.plan c.requires.right a (get_or vs 0 0) (drop 1 vs) ids c.args.id)
 
 pub push_whole-requires-clause-count : goal.push_whole-requires-clause-count
@@ -89,7 +89,7 @@ push_whole-requires-clause-count g c =
     let vs = c.terms_of-universals.result.now in
     let ids : ids_of a self.tables.universals ≡ get_or vs 0 0 ∷ drop 1 vs = sym c.terms_of-universals.ensures ∙ head-is vs (omega (arith, c.if-count-eq0.false)) in
     let C : SatLit → Type 0 = λ l. length vs ≡ length (loop_over (declared_scope t.basis.bank) (sources t) Universals (command_at (names_in t) (Inst l c.args.id))) in
-    subst C (sym (noted-is self.tables self.plan c.requires.right a (get_or vs 0 0) c.literal_of.result (ap (λ ls. slice_get ls (get_or vs 0 0)) (sym c.as_slice.ensures.value) ∙ at-first c.as_slice.result.now c.literal_of.result vs c.id_of.result c.id_of.ensures c.literal_of.ensures)))
+    subst C (sym (noted-is self.tables self.plan c.requires.right a (get_or vs 0 0) c.literal_of.result (ap (λ ls. slice_get ls (get_or vs 0 0)) (sym c.as_slice.ensures.value) ∙ at-first c.as_slice.result.now c.literal_of.result vs c.id_of-place.result c.id_of-place.ensures c.literal_of.ensures)))
     (ap length c.terms_of-universals.ensures ∙ sym (universals-length self.tables self.plan c.requires.right a u)
     ∙ ap length (sym (universals-loop self.tables self.plan c.requires.right a (get_or vs 0 0) (drop 1 vs) ids c.args.id)))
 
@@ -103,7 +103,7 @@ returns-clause-state g c =
     let vs = c.terms_of-universals.result.now in
     let ids : ids_of a self.tables.universals ≡ get_or vs 0 0 ∷ drop 1 vs = sym c.terms_of-universals.ensures ∙ head-is vs (omega (arith, c.if-count-eq0.false)) in
     c.in_ok-push_whole.ensures.state
-    ∙ ap (λ (l : SatLit). pushed mode (loop_over (declared_scope t.basis.bank) (sources t) Universals (command_at (names_in t) (Inst l c.args.id))) after) (noted-is self.tables self.plan c.requires.right a (get_or vs 0 0) c.literal_of.result (ap (λ ls. slice_get ls (get_or vs 0 0)) (sym c.as_slice.ensures.value) ∙ at-first c.as_slice.result.now c.literal_of.result vs c.id_of.result c.id_of.ensures c.literal_of.ensures))
+    ∙ ap (λ (l : SatLit). pushed mode (loop_over (declared_scope t.basis.bank) (sources t) Universals (command_at (names_in t) (Inst l c.args.id))) after) (noted-is self.tables self.plan c.requires.right a (get_or vs 0 0) c.literal_of.result (ap (λ ls. slice_get ls (get_or vs 0 0)) (sym c.as_slice.ensures.value) ∙ at-first c.as_slice.result.now c.literal_of.result vs c.id_of-place.result c.id_of-place.ensures c.literal_of.ensures))
     ∙ ap (λ (cs : List Meant). pushed mode cs after) (universals-loop self.tables self.plan c.requires.right a (get_or vs 0 0) (drop 1 vs) ids c.args.id)
     ∙ is-new self.tables self.plan c.requires.right a c.args.id c.requires.place c.equal_ids_for_equal_terms.ensures mode c.add_term.new.self c.in_ok-add_term.ensures.ok
     (was_new (list_any (nat_eq c.args.id) (ids_of a self.tables.terms)) (sym c.in_ok-add_term.ensures.fresh ∙ c.if-not-branch.false))
@@ -112,5 +112,5 @@ pub literal_of-requires : goal.literal_of-requires
 literal_of-requires g c =
     let self = c.args.self.now in
     let a = the_type c.args.ty.now in
-    subst (λ (ls : List SatLit). c.id_of.result < length ls) (sym c.as_slice.ensures.value)
-    (each-at (λ i. i < length self.tables.noted.items) (ids_of a self.tables.universals) 0 c.id_of.result (universals-within self.tables self.plan c.requires.right a) (ap (λ (xs : List ℕ). slice_get xs 0) (sym c.terms_of-universals.ensures) ∙ c.id_of.ensures))
+    subst (λ (ls : List SatLit). c.id_of-place.result < length ls) (sym c.as_slice.ensures.value)
+    (each-at (λ i. i < length self.tables.noted.items) (ids_of a self.tables.universals) 0 c.id_of-place.result (universals-within self.tables self.plan c.requires.right a) (ap (λ (xs : List ℕ). slice_get xs 0) (sym c.terms_of-universals.ensures) ∙ c.id_of-place.ensures))

@@ -1,4 +1,5 @@
-use Rattle.std.proofs.Common.{◌≡◌, ◌≤◌, ◌-◌, ℕ, List, [], length, take, slice_get, Some, sym, ap, ap₂, ◌∙◌, arith}
+use Rattle.std.proofs.Common.{◌≡◌, ◌<◌, ◌≤◌, ◌-◌, ℕ, List, [], length, take, slice_get, Some, sym, ap, ap₂, ◌∙◌, arith}
+use Rattle.std.proofs.lemmas.Option.{slice_get-get_or}
 use Rattle.stt_core.specs.Lambda.{bound, constant, name}
 use Rattle.stt_tableau.specs.Witnesses.{with_rows}
 use Rattle.search_run.specs.Heads.{places_to, heads_for}
@@ -24,8 +25,10 @@ returns-then-place-len c =
     let ns = places_to (base_of o) 0 scope.names in
     let variables : c.in_ok-variables.variables.items ≡ vs = c.in_ok-variables.ensures (holes_in [] (sketch_at (sketches_in t) c.args.p).partial) (holes-at t q r c.args.p c.requires.number) ∙ ap variables_for (leftmost-first [] (sketch_at (sketches_in t) c.args.p).partial) in
     let are = heads-list scope o c.args.place c.requires.within in
-    variable-at vs ns (later_heads scope (base_of o)) (heads_for scope o) are c.args.place c.id_of-k.result
-    (ap (λ (xs : List ℕ). slice_get xs c.args.place) (sym variables ∙ sym c.as_slice.ensures.value) ∙ c.id_of-k.ensures)
+    let got = c.in_ok-variables.variables.items in
+    let within : c.args.place < length got = omega (arith, c.if-place-len.true, c.len.ensures, c.in_ok-variables.variables.ok.0) in
+    variable-at vs ns (later_heads scope (base_of o)) (heads_for scope o) are c.args.place c.index.result.now
+    (ap (λ (xs : List ℕ). slice_get xs c.args.place) (sym variables) ∙ slice_get-get_or got c.args.place c.index.result.now within ∙ ap Some (sym c.index.ensures))
     ∙ ap (λ k. Some (bound k)) (sym c.in_ok-small.ensures)
 
 pub returns-then-behind-names : goal.returns-then-behind-names
