@@ -27,3 +27,4 @@ pub mod Grows
 pub mod Bodies
 pub mod Printable
 pub mod BackLaws
+pub mod KnownLaws

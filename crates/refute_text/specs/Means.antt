@@ -4,3 +4,4 @@ pub mod TermReader
 pub mod LineReader
 pub mod Refusals
 pub mod Places
+pub mod Known

@@ -1,6 +1,6 @@
 -- How a text is read: line by line.
-use Rattle.std.specs.Prelude.{◌≡◌, ℕ, ◌+◌, ◌^◌, ◌≤◌, ◌==◌, nat_eq, not, Bool, true, false, List, [], ◌∷◌, ◌++◌, length, codes, if◌then◌else◌}
-use Rattle.std.specs.List.{AllByRecursion, list_all, list_any, onto_first, starts_with}
+use Rattle.std.specs.Prelude.{◌≡◌, ℕ, ◌+◌, ◌^◌, ◌≤◌, ◌==◌, nat_eq, not, Bool, true, false, List, [], ◌∷◌, ◌++◌, length, codes}
+use Rattle.std.specs.List.{AllByRecursion, list_all, list_any, starts_with}
 use Rattle.written_refutation.specs.Trees.{RefutationTree}
 use Rattle.written_refutation.specs.Text.{text_lines, as_bytes}
 use Rattle.written_refutation.specs.Letters.{is_name}

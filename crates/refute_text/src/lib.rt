@@ -1,6 +1,7 @@
 //! Refutations as they are written: their texts, written and read.
 #![tactic(auto)]
 
+mod known;
 mod law;
 mod lines;
 mod read_line;

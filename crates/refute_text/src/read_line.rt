@@ -7,8 +7,9 @@ ghost use Rattle.refute_text.specs.Means.Refusals.{Answers};
 ghost use Rattle.written_refutation.specs.LineView.{the_rule};
 ghost use Rattle.written_refutation.specs.TextView.{the_line};
 
+use crate::known::Known;
 use crate::read_name::{behind, name};
-use crate::read_rule::{DEPTH, read_literal, read_number, read_rule};
+use crate::read_rule::{DEPTH, read_number, read_rule};
 use crate::read_term::{index, read_term};
 use crate::read_type::expect;
 use crate::refusal::Refusal;
@@ -27,6 +28,7 @@ struct LiteralsRead<'a> {
 /// More literals behind the first ones, each after a comma.
 fn more_literals<'a>(
     alloc: Global,
+    known: &mut Known<'a>,
     first: TextLits,
     bytes: &'a [u8],
 ) -> Result<LiteralsRead<'a>, Refusal>
@@ -35,11 +37,8 @@ fn more_literals<'a>(
     let mut literals = first;
     let mut rest = bytes;
     while let Some(more) = behind(b",", rest) {
-        match read_literal(alloc, more) {
-            Ok(read) => {
-                literals.push(read.literal)?;
-                rest = read.rest;
-            }
+        match known.read(alloc, &mut literals, more) {
+            Ok(after) => rest = after,
             Err(refusal) => return Err(refusal),
         }
     }
@@ -47,16 +46,19 @@ fn more_literals<'a>(
 }
 
 /// The literals of a branch, and the bracket that closes them.
-fn literals(alloc: Global, bytes: &[u8]) -> Result<LiteralsRead<'_>, Refusal>
+fn literals<'a>(
+    alloc: Global,
+    known: &mut Known<'a>,
+    bytes: &'a [u8],
+) -> Result<LiteralsRead<'a>, Refusal>
     ensures { Answers (λ r. (r.literals, r.rest.now)) result (items_at literal_at bytes.now) }
 {
     let mut literals = TextLits::new(alloc);
     if let Some(rest) = behind(b"]", bytes) {
         return Ok(LiteralsRead { literals, rest });
     }
-    let first = read_literal(alloc, bytes)?;
-    literals.push(first.literal)?;
-    let read = more_literals(alloc, literals, first.rest)?;
+    let behind_first = known.read(alloc, &mut literals, bytes)?;
+    let read = more_literals(alloc, known, literals, behind_first)?;
     let rest = expect(b"]", read.rest)?;
     Ok(LiteralsRead {
         literals: read.literals,
@@ -190,11 +192,15 @@ pub(crate) fn read_row(alloc: Global, number: usize, line: &[u8]) -> Result<Text
 }
 
 /// The branch behind a rule.
-fn branch(alloc: Global, bytes: &[u8]) -> Result<LiteralsRead<'_>, Refusal>
+fn branch<'a>(
+    alloc: Global,
+    known: &mut Known<'a>,
+    bytes: &'a [u8],
+) -> Result<LiteralsRead<'a>, Refusal>
     ensures { Answers (λ r. (r.literals, r.rest.now)) result (branch_at bytes.now) }
 {
     let rest = expect(b" [", bytes)?;
-    literals(alloc, rest)
+    literals(alloc, known, rest)
 }
 
 /// The children behind a branch, which end the line.
@@ -209,10 +215,15 @@ fn line_children(alloc: Global, bytes: &[u8]) -> Result<Children, Refusal>
 
 /// The branch and the children behind a rule.
 #[tactic(auto, unfolding(crate::specs::Means::LineReader::lists_at))]
-fn lists(alloc: Global, rule: TextRule, bytes: &[u8]) -> Result<TextLine, Refusal>
+fn lists<'a>(
+    alloc: Global,
+    known: &mut Known<'a>,
+    rule: TextRule,
+    bytes: &'a [u8],
+) -> Result<TextLine, Refusal>
     ensures { Answers (λ l. the_line l) result (lists_at (the_rule rule) bytes.now) }
 {
-    let read = branch(alloc, bytes)?;
+    let read = branch(alloc, known, bytes)?;
     let children = line_children(alloc, read.rest)?;
     Ok(TextLine {
         branch: read.literals,
@@ -223,11 +234,16 @@ fn lists(alloc: Global, rule: TextRule, bytes: &[u8]) -> Result<TextLine, Refusa
 
 /// The line of this number.
 #[tactic(auto, unfolding(crate::specs::Means::LineReader::line_at))]
-pub(crate) fn read_line(alloc: Global, number: usize, line: &[u8]) -> Result<TextLine, Refusal>
+pub(crate) fn read_line<'a>(
+    alloc: Global,
+    known: &mut Known<'a>,
+    number: usize,
+    line: &'a [u8],
+) -> Result<TextLine, Refusal>
     ensures { Answers (λ l. the_line l) result (line_at number line.now) }
 {
     let rest = line_number(number, line)?;
     let rest = expect(b": ", rest)?;
     let rule = read_rule(alloc, rest)?;
-    lists(alloc, rule.rule, rule.rest)
+    lists(alloc, known, rule.rule, rule.rest)
 }

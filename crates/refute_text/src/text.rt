@@ -11,6 +11,7 @@ ghost use Rattle.refute_text.specs.Means.Refusals.{Answers};
 ghost use Rattle.refute_text.specs.Means.Places.{RefusesBehind, IfForm, MayDefine, nothing};
 ghost use Rattle.refute_text.specs.Answered.{reading_of};
 
+use crate::known::Known;
 use crate::lines::{behind_start, is_end, next_line};
 use crate::read_line::{read_definition, read_line, read_row};
 use crate::refusal::{Refusal, TextRefused};
@@ -56,7 +57,12 @@ fn add_row(alloc: Global, text: &mut RefutationText, line: &[u8]) -> Result<(), 
 }
 
 /// Adds the line that the line is.
-fn add_numbered(alloc: Global, text: &mut RefutationText, line: &[u8]) -> Result<(), Refusal>
+fn add_numbered<'a>(
+    alloc: Global,
+    known: &mut Known<'a>,
+    text: &mut RefutationText,
+    line: &'a [u8],
+) -> Result<(), Refusal>
     requires has_text { HasText (the_text text.old) }
     requires numbered { IsNumbered text.old }
     requires no_definition { MayDefine text.old → starts_with nat_eq line.now (codes "d") ≡ false }
@@ -67,7 +73,7 @@ fn add_numbered(alloc: Global, text: &mut RefutationText, line: &[u8]) -> Result
     ensures numbered { OnOk result (IsNumbered text.new) }
     ensures place { text.new.names_at ≡ text.old.names_at }
 {
-    let numbered = read_line(alloc, text.lines.len(), line)?;
+    let numbered = read_line(alloc, known, text.lines.len(), line)?;
     text.lines.push(numbered)?;
     Ok(())
 }
@@ -80,7 +86,12 @@ fn may_define(text: &RefutationText) -> bool
 }
 
 /// Adds the definition, the witness row or the line that the line is.
-fn add_line(alloc: Global, text: &mut RefutationText, line: &[u8]) -> Result<(), Refusal>
+fn add_line<'a>(
+    alloc: Global,
+    known: &mut Known<'a>,
+    text: &mut RefutationText,
+    line: &'a [u8],
+) -> Result<(), Refusal>
     requires has_text { HasText (the_text text.old) }
     requires numbered { IsNumbered text.old }
     requires room { text.old.first + 1 < 2 ^ 64 }
@@ -95,7 +106,7 @@ fn add_line(alloc: Global, text: &mut RefutationText, line: &[u8]) -> Result<(),
     } else if line.starts_with(b"w") && text.lines.len() == 0 {
         add_row(alloc, text, line)
     } else {
-        add_numbered(alloc, text, line)
+        add_numbered(alloc, known, text, line)
     }
 }
 
@@ -117,6 +128,7 @@ fn read_on(
     ensures room { IfOk result (λ t. t.first + length t.witnesses + length t.lines < 2 ^ 64) }
     ensures refused { IfErr result (RefusesBehind (text_lines (the_text begun) ++ lines_of bytes.now) (begun.names_at - 1)) }
 {
+    let mut known = Known::new(alloc);
     let mut text = begun;
     let mut line = first;
     let mut rest = bytes;
@@ -124,7 +136,7 @@ fn read_on(
         if is_end(cut.line) {
             return Ok(text);
         }
-        match add_line(alloc, &mut text, cut.line) {
+        match add_line(alloc, &mut known, &mut text, cut.line) {
             Ok(()) => {}
             Err(Refusal::Form) => return Err(TextRefused::BadLine { line }),
             Err(Refusal::Memory) => return Err(TextRefused::Memory),
