@@ -33,7 +33,7 @@ fn closes_by(
 ) -> bool
     ensures { (terms : List Lambda) (lines : List Line) (alternative branch : List Literal)
         → AreBranches terms lines earlier.now → Represents terms branch own.now → Represents terms alternative known.now
-        → (IsTrue is_closed ↔ IsClosed (alternative ++ branch))
+        → (IsTrue is_closed ↔ IsClosedBranch (alternative ++ branch))
         → IsTrue result ↔ ClosesBy lines (alternative ++ branch) child }
 {
     match child {
@@ -49,8 +49,8 @@ fn closes_by(
 fn is_closed_with(own_is_closed: bool, own: &Branch, known: &Branch) -> bool
     ensures { (terms : List Lambda) (alternative branch : List Literal)
         → AreNumbered terms branch → Represents terms branch own.now → AreNumbered terms alternative → Represents terms alternative known.now
-        → (IsTrue own_is_closed ↔ IsClosed branch)
-        → IsTrue result ↔ IsClosed (alternative ++ branch) }
+        → (IsTrue own_is_closed ↔ IsClosedBranch branch)
+        → IsTrue result ↔ IsClosedBranch (alternative ++ branch) }
 {
     if own_is_closed {
         return true;

@@ -1,6 +1,7 @@
 -- The lines of definitions.
 use Rattle.std.proofs.Common.{◌≡◌, ℕ, true, List, [], ◌++◌, Some, codes, refl, sym, ap, ◌∙◌, append-nil}
-use Rattle.written_refutation.specs.Letters.{name_text, is_name}
+use Rattle.thf_syntax.specs.Names.{name_text}
+use Rattle.written_refutation.specs.Letters.{is_name}
 use Rattle.written_refutation.specs.Text.{definition_text}
 use Rattle.refute_text.specs.Means.Reader.{behind, name_at}
 use Rattle.refute_text.specs.Means.LineReader.{end_at, definition_at}

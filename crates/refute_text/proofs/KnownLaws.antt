@@ -12,7 +12,7 @@ use Rattle.std.proofs.lemmas.Option.{same_Some, slice_get-map, slice_get-get_or}
 use Rattle.std.proofs.lemmas.List.{map-append}
 use Rattle.std.proofs.lemmas.List.Quantifiers.{position-Some}
 use Rattle.written_refutation.specs.Trees.{LiteralTree}
-use Rattle.written_refutation.specs.Letters.{is_word_byte}
+use Rattle.thf_grammar.specs.Bytes.{is_word_byte}
 use Rattle.written_refutation.specs.Limits.{IsLiteral}
 use Rattle.written_refutation.specs.Text.{literal_text}
 use Rattle.refute_text.specs.Means.Known.{ends_literal, AreTexts}

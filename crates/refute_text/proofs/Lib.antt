@@ -1,6 +1,7 @@
 pub mod Numbers
 pub mod Readers
 pub mod Inversions
+pub mod LowerWords
 pub mod NameReads
 pub mod TypeReads
 pub mod TreeTexts

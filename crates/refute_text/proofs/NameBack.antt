@@ -1,12 +1,17 @@
 -- The texts of numbers and names are read back.
-use Rattle.std.proofs.Common.{◌≡◌, ℕ, zero, suc, ◌^◌, ◌<◌, ◌≤◌, ◌==◌, ◌&&◌, ◌||◌, not, nat_eq, nat_lt, nat_le, Bool, true, false, List, [], ◌∷◌, ◌++◌, Some, None, length, get_or, decimal, codes, refl, ap, ap₂, ◌∙◌, append_assoc, append-nil, arith, if◌then◌else◌}
+use Rattle.std.proofs.Common.{◌≡◌, ℕ, zero, suc, ◌^◌, ◌<◌, ◌≤◌, ◌==◌, ◌&&◌, ◌||◌, not, nat_eq, nat_lt, Bool, true, false, List, [], ◌∷◌, ◌++◌, Some, None, length, get_or, decimal, codes, refl, ap, ap₂, ◌∙◌, append_assoc, append-nil, arith, if◌then◌else◌}
 use Rattle.std.specs.List.{list_all, flat_map}
+use Rattle.std.specs.Char.{is_ascii_lowercase}
 use Rattle.std.proofs.lemmas.Bool.{and_parts, not-true, or_left, or_right, lt-ltb}
 use Rattle.std.proofs.lemmas.Bool.Decides.{nat_tests}
 use Rattle.std.proofs.lemmas.Fmt.{decimal_digit, decimal_nonempty, first_decimal, digits_decimal, digits_value-decimal}
-use Rattle.written_refutation.specs.Letters.{is_lower, is_word_byte, is_printable, is_plain, escaped, quoted, name_text, is_name}
+use Rattle.thf_grammar.specs.Bytes.{is_word_byte}
+use Rattle.thf_grammar.specs.Printable.{is_printable}
+use Rattle.thf_syntax.specs.Names.{is_lower_word, escaped, quoted, name_text}
+use Rattle.written_refutation.specs.Letters.{is_name}
 use Rattle.refute_text.specs.Means.Reader.{behind, front, after, is_digit, is_decimal, number_of, number_at, with_first, characters_at, escaped_at, where_quoted, plain_at, name_at}
 use Rattle.refute_text.proofs.Numbers.{own}
+use Rattle.refute_text.proofs.LowerWords.{lower_word-bytes}
 use Rattle.refute_text.proofs.Inversions.{found}
 use Rattle.refute_text.proofs.Answers.{front_skips, behind_other}
 
@@ -35,15 +40,16 @@ word_ends : (rest : List ℕ) → stops rest ≡ true → (front is_word_byte re
 word_ends [] h = (refl, refl)
 word_ends (c ∷ cs) h = ends_at is_word_byte c cs (not-true (is_word_byte c) h)
 
-third_false : (a b d u : Bool) → a || b || d || u ≡ false → d ≡ false
-third_false true b d u h = cc
-third_false false true d u h = cc
-third_false false false true u h = cc
-third_false false false false u h = refl
+no_word_byte-no_digit : (c : ℕ) → is_word_byte c ≡ false → is_digit c ≡ false
+no_word_byte-no_digit c h = go (is_digit c) refl
+  where
+    go : (b : Bool) → is_digit c ≡ b → is_digit c ≡ false
+    go true e = absurd (grind (arith, nat_tests, h, e))
+    go false e = e
 
 digits_end : (rest : List ℕ) → stops rest ≡ true → (front is_digit rest ≡ []) × (after is_digit rest ≡ rest)
 digits_end [] h = (refl, refl)
-digits_end (c ∷ cs) h = ends_at is_digit c cs (third_false (is_lower c) (nat_le 65 c && nat_le c 90) (is_digit c) (c == 95) (not-true (is_word_byte c) h))
+digits_end (c ∷ cs) h = ends_at is_digit c cs (no_word_byte-no_digit c (not-true (is_word_byte c) h))
 
 leading_digit : (ds : List ℕ) → 0 < length ds → 48 < get_or ds 0 0 → is_decimal ds ≡ true
 leading_digit [] h k = absurd (omega arith)
@@ -95,15 +101,16 @@ characters_at-escaped (c ∷ w) rest h =
     ap characters_at (append_assoc (escaped c) (flat_map escaped w) (39 ∷ rest))
     ∙ character_back c w (flat_map escaped w ++ (39 ∷ rest)) rest (c == 39) (c == 92) refl refl p.0 (characters_at-escaped w rest p.1)
 
-plain_at-append : (w rest : List ℕ) → is_plain w ≡ true → list_all is_word_byte w ≡ true → stops rest ≡ true → plain_at (w ++ rest) ≡ found w rest
-plain_at-append w rest h words stop =
+plain_at-append : (w rest : List ℕ) → is_lower_word w ≡ true → stops rest ≡ true → plain_at (w ++ rest) ≡ found w rest
+plain_at-append w rest h stop =
+    let words = lower_word-bytes w h in
     let e = word_ends rest stop in
     let f : front is_word_byte (w ++ rest) ≡ w = front-append is_word_byte w rest words ∙ ap (λ x. w ++ x) e.0 ∙ append-nil w in
     let a : after is_word_byte (w ++ rest) ≡ rest = after-append is_word_byte w rest words ∙ e.1 in
-    ap₂ (λ x y. if is_plain x then found x y else None) f a ∙ ap (λ b. if b then found w rest else None) h
+    ap₂ (λ x y. if is_lower_word x then found x y else None) f a ∙ ap (λ b. if b then found w rest else None) h
 
 -- a byte below the letters
-below_letters : (x c : ℕ) → nat_lt x 97 ≡ true → is_lower c ≡ true → nat_eq x c ≡ false
+below_letters : (x c : ℕ) → nat_lt x 97 ≡ true → is_ascii_lowercase c ≡ true → nat_eq x c ≡ false
 below_letters x c h k = go (nat_eq x c) refl
   where
     go : (b : Bool) → nat_eq x c ≡ b → nat_eq x c ≡ false
@@ -112,20 +119,20 @@ below_letters x c h k = go (nat_eq x c) refl
 
 pub behind-name : (x : ℕ) (t w rest : List ℕ) → nat_eq x 39 ≡ false → nat_lt x 97 ≡ true → is_name w ≡ true → behind (x ∷ t) (name_text w ++ rest) ≡ None
 behind-name x t [] rest h k n = cc
-behind-name x t (c ∷ cs) rest h k n = go (is_plain (c ∷ cs)) refl
+behind-name x t (c ∷ cs) rest h k n = go (is_lower_word (c ∷ cs)) refl
   where
-    go : (b : Bool) → is_plain (c ∷ cs) ≡ b → behind (x ∷ t) ((if b then c ∷ cs else quoted (c ∷ cs)) ++ rest) ≡ None
-    go true e = behind_other x t c (cs ++ rest) (below_letters x c k (and_parts (is_lower c) (list_all is_word_byte (c ∷ cs)) e).0)
+    go : (b : Bool) → is_lower_word (c ∷ cs) ≡ b → behind (x ∷ t) ((if b then c ∷ cs else quoted (c ∷ cs)) ++ rest) ≡ None
+    go true e = behind_other x t c (cs ++ rest) (below_letters x c k (and_parts (is_ascii_lowercase c) (list_all is_word_byte cs) e).0)
     go false e = behind_other x t 39 ((flat_map escaped (c ∷ cs) ++ codes "'") ++ rest) h
 
-plain_back : (c : ℕ) (cs rest : List ℕ) → is_plain (c ∷ cs) ≡ true → stops rest ≡ true → name_at ((c ∷ cs) ++ rest) ≡ found (c ∷ cs) rest
+plain_back : (c : ℕ) (cs rest : List ℕ) → is_lower_word (c ∷ cs) ≡ true → stops rest ≡ true → name_at ((c ∷ cs) ++ rest) ≡ found (c ∷ cs) rest
 unfolding name_at
 plain_back c cs rest e stop =
-    let p = and_parts (is_lower c) (list_all is_word_byte (c ∷ cs)) e in
+    let p = and_parts (is_ascii_lowercase c) (list_all is_word_byte cs) e in
     front_skips (behind (codes "'") (c ∷ (cs ++ rest))) (λ r. where_quoted (characters_at r)) (plain_at (c ∷ (cs ++ rest))) (c ∷ cs, rest)
-    (behind_other 39 [] c (cs ++ rest) (below_letters 39 c refl p.0)) (plain_at-append (c ∷ cs) rest e p.1 stop)
+    (behind_other 39 [] c (cs ++ rest) (below_letters 39 c refl p.0)) (plain_at-append (c ∷ cs) rest e stop)
 
-quoted_back : (c : ℕ) (cs rest : List ℕ) → is_plain (c ∷ cs) ≡ false → list_all is_printable (c ∷ cs) ≡ true → name_at (quoted (c ∷ cs) ++ rest) ≡ found (c ∷ cs) rest
+quoted_back : (c : ℕ) (cs rest : List ℕ) → is_lower_word (c ∷ cs) ≡ false → list_all is_printable (c ∷ cs) ≡ true → name_at (quoted (c ∷ cs) ++ rest) ≡ found (c ∷ cs) rest
 unfolding name_at
 quoted_back c cs rest e p =
     ap (λ x. where_quoted (characters_at x)) (append_assoc (flat_map escaped (c ∷ cs)) (codes "'") rest)
@@ -134,8 +141,8 @@ quoted_back c cs rest e p =
 
 pub name_at-text : (w rest : List ℕ) → is_name w ≡ true → stops rest ≡ true → name_at (name_text w ++ rest) ≡ Some (w, rest)
 name_at-text [] rest h stop = cc
-name_at-text (c ∷ cs) rest h stop = go (is_plain (c ∷ cs)) refl
+name_at-text (c ∷ cs) rest h stop = go (is_lower_word (c ∷ cs)) refl
   where
-    go : (b : Bool) → is_plain (c ∷ cs) ≡ b → name_at ((if b then c ∷ cs else quoted (c ∷ cs)) ++ rest) ≡ found (c ∷ cs) rest
+    go : (b : Bool) → is_lower_word (c ∷ cs) ≡ b → name_at ((if b then c ∷ cs else quoted (c ∷ cs)) ++ rest) ≡ found (c ∷ cs) rest
     go true e = plain_back c cs rest e stop
     go false e = quoted_back c cs rest e h

@@ -4,10 +4,14 @@ use Rattle.std.specs.List.{list_all, flat_map}
 use Rattle.std.proofs.lemmas.Bool.{and_parts, eqb-true}
 use Rattle.std.proofs.lemmas.Bool.Decides.{nat_tests}
 use Rattle.std.proofs.lemmas.Fmt.{decimal-digits_value}
-use Rattle.written_refutation.specs.Letters.{is_lower, is_word_byte, is_printable, is_plain, escaped, quoted, name_text, is_name}
+use Rattle.thf_grammar.specs.Bytes.{is_word_byte}
+use Rattle.thf_grammar.specs.Printable.{is_printable}
+use Rattle.thf_syntax.specs.Names.{is_lower_word, escaped, quoted, name_text}
+use Rattle.written_refutation.specs.Letters.{is_name}
 use Rattle.refute_text.specs.Means.Reader.{behind, front, after, is_digit, is_decimal, number_from, number_of, number_at, with_first, characters_at, escaped_at, needs_quotes, where_quoted, plain_at, name_at}
 use Rattle.refute_text.proofs.Numbers.{own}
 use Rattle.refute_text.proofs.Readers.{list_all-front}
+use Rattle.refute_text.proofs.LowerWords.{lower_word-bytes}
 use Rattle.refute_text.proofs.Inversions.{found, found_first, found_second, front_sound, behind_some, front-after}
 
 decimal-shape : (ds : List ℕ) → is_decimal ds ≡ true → (0 < length ds) × (get_or ds 0 0 ≡ 48 → length ds ≡ 1)
@@ -109,19 +113,19 @@ word-printable (c ∷ cs) h =
     let p = and_parts (is_word_byte c) (list_all is_word_byte cs) h in
     ap₂ (λ x y. x && y) (word_byte-printable c p.0) (word-printable cs p.1)
 
-plain-is_name : (w : List ℕ) → is_plain w ≡ true → is_name w ≡ true
-plain-is_name [] h = cc
-plain-is_name (c ∷ cs) h = word-printable (c ∷ cs) (and_parts (is_lower c) (list_all is_word_byte (c ∷ cs)) h).1
+lower_word-is_name : (w : List ℕ) → is_lower_word w ≡ true → is_name w ≡ true
+lower_word-is_name [] h = cc
+lower_word-is_name (c ∷ cs) h = word-printable (c ∷ cs) (lower_word-bytes (c ∷ cs) h)
 
 plain_reads : (bs w r : List ℕ) → plain_at bs ≡ Some (w, r) → (bs ≡ name_text w ++ r) × (is_name w ≡ true)
-plain_reads bs w r h = go (is_plain (front is_word_byte bs)) refl h
+plain_reads bs w r h = go (is_lower_word (front is_word_byte bs)) refl h
   where
-    go : (b : Bool) → is_plain (front is_word_byte bs) ≡ b → (if b then found (front is_word_byte bs) (after is_word_byte bs) else None) ≡ Some (w, r) → (bs ≡ name_text w ++ r) × (is_name w ≡ true)
+    go : (b : Bool) → is_lower_word (front is_word_byte bs) ≡ b → (if b then found (front is_word_byte bs) (after is_word_byte bs) else None) ≡ Some (w, r) → (bs ≡ name_text w ++ r) × (is_name w ≡ true)
     go true e k =
         let name : front is_word_byte bs ≡ w = found_first (front is_word_byte bs) w (after is_word_byte bs) r k in
         let rest : after is_word_byte bs ≡ r = found_second (front is_word_byte bs) w (after is_word_byte bs) r k in
-        let plain : is_plain w ≡ true = ap is_plain (sym name) ∙ e in
-        (sym (front-after is_word_byte bs) ∙ ap₂ (λ x y. x ++ y) name rest ∙ ap (λ x. x ++ r) (sym (ap (λ b. if b then w else quoted w) plain)), plain-is_name w plain)
+        let plain : is_lower_word w ≡ true = ap is_lower_word (sym name) ∙ e in
+        (sym (front-after is_word_byte bs) ∙ ap₂ (λ x y. x ++ y) name rest ∙ ap (λ x. x ++ r) (sym (ap (λ b. if b then w else quoted w) plain)), lower_word-is_name w plain)
     go false e k = cc
 
 quoted_sound : {P : Type 0} (o : Option (List ℕ × List ℕ)) (w r : List ℕ) → where_quoted o ≡ Some (w, r) → (o ≡ Some (w, r) → needs_quotes w ≡ true → P) → P
@@ -134,9 +138,9 @@ quoted_sound {P = P} (Some s) w r h k = go (needs_quotes s.0) refl h
 
 quotes_needed : (w : List ℕ) → needs_quotes w ≡ true → list_all is_printable w ≡ true → (name_text w ≡ quoted w) × (is_name w ≡ true)
 quotes_needed [] h k = cc
-quotes_needed (c ∷ cs) h k = (go (is_plain (c ∷ cs)) refl h, k)
+quotes_needed (c ∷ cs) h k = (go (is_lower_word (c ∷ cs)) refl h, k)
   where
-    go : (b : Bool) → is_plain (c ∷ cs) ≡ b → not b ≡ true → name_text (c ∷ cs) ≡ quoted (c ∷ cs)
+    go : (b : Bool) → is_lower_word (c ∷ cs) ≡ b → not b ≡ true → name_text (c ∷ cs) ≡ quoted (c ∷ cs)
     go true e j = cc
     go false e j = ap (λ b. if b then c ∷ cs else quoted (c ∷ cs)) e
 

@@ -6,7 +6,9 @@ use Rattle.std.proofs.lemmas.Bool.Decides.{nat_tests}
 use Rattle.std.proofs.lemmas.Fmt.{digits_decimal}
 use Rattle.stt_tableau.specs.declared.refutation.Child.{Child}
 use Rattle.stt_tableau.specs.declared.refutation.Child.TheVariants.{Closed, Line as Numbered}
-use Rattle.written_refutation.specs.Letters.{is_printable, is_plain, escaped, quoted, name_text, is_name}
+use Rattle.thf_grammar.specs.Printable.{is_printable}
+use Rattle.thf_syntax.specs.Names.{is_lower_word, escaped, quoted, name_text}
+use Rattle.written_refutation.specs.Letters.{is_name}
 use Rattle.written_refutation.specs.Trees.{TypeTree, formula, individual, named, arrow, ConstantTree, name, witness, falsity, negation, implication, all, equality, choice, description, TermTree, bound, constant, lam, app, LiteralTree, OnePlace, False, Refl, ImpPos, ImpNeg, BoolPos, BoolNeg, FunPos, FunNeg, AllNeg, Dec, TwoPlaces, Close, Mat, Con, OfPredicate, Cho, Des, RuleTree, at_one, at_two, with_instance, with_predicate, with_cut, LineTree, RefutationTree}
 use Rattle.written_refutation.specs.Text.{version_text, definition_text, type_text, constant_text, term_text, spine_text, sign_text, literal_text, after_commas, separated, branch_text, child_text, children_text, one_place_name, two_places_name, predicate_name, rule_text, row_text, line_text, row_texts, line_texts, text_lines}
 use Rattle.written_refutation.specs.Limits.{IsType, IsConstant, IsTerm, IsSpine, IsWithin, IsLiteral, IsRule, IsChild, IsLine}
@@ -52,7 +54,7 @@ characters_printable (c ∷ w) h =
 
 name_printable : (w : List ℕ) → is_name w ≡ true → IsPrintable (name_text w)
 name_printable [] h = cc
-name_printable (c ∷ cs) h = go (is_plain (c ∷ cs))
+name_printable (c ∷ cs) h = go (is_lower_word (c ∷ cs))
   where
     go : (b : Bool) → IsPrintable (if b then c ∷ cs else quoted (c ∷ cs))
     go true = h

@@ -1,6 +1,7 @@
 -- The texts of types are read back.
 use Rattle.std.proofs.Common.{◌≡◌, ℕ, zero, suc, ◌≤◌, true, List, [], ◌∷◌, ◌++◌, Option, Some, codes, refl, ap, ◌∙◌, append_assoc, arith}
-use Rattle.written_refutation.specs.Letters.{is_name, name_text}
+use Rattle.thf_syntax.specs.Names.{name_text}
+use Rattle.written_refutation.specs.Letters.{is_name}
 use Rattle.written_refutation.specs.Trees.{TypeTree, formula, individual, named, arrow}
 use Rattle.written_refutation.specs.Text.{type_text}
 use Rattle.written_refutation.specs.Limits.{IsType, type_depth}

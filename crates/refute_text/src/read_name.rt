@@ -2,7 +2,8 @@
 
 ghost use Rattle.std.specs.Prelude.{◌≡◌, ◌++◌, ◌≤◌, ◌<◌, ◌^◌, length, option_map, IfSome, Some, None, nat_lt, ◌+◌, true, if◌then◌else◌};
 ghost use Rattle.std.specs.List.{list_all};
-ghost use Rattle.written_refutation.specs.Letters.{is_word_byte, is_printable};
+ghost use Rattle.thf_grammar.specs.Bytes.{is_word_byte};
+ghost use Rattle.thf_grammar.specs.Printable.{is_printable};
 ghost use Rattle.refute_text.specs.Means.Reader.{front, after, behind, is_digit, is_decimal, number_from, number_at, escaped_character, character_at, characters_at, needs_quotes, plain_at, name_at};
 ghost use Rattle.refute_text.specs.Means.Refusals.{Answers};
 
@@ -10,7 +11,7 @@ use crate::refusal::Refusal;
 use outside::Bytes;
 use std::alloc::Global;
 use std::str;
-use written_refutation::{is_plain, is_word_byte};
+use thf_syntax::{is_lower_word, is_word_byte};
 
 /// What follows the text, where the bytes begin with it.
 pub(crate) fn behind<'a>(text: &[u8], bytes: &'a [u8]) -> Option<&'a [u8]>
@@ -197,7 +198,7 @@ fn characters(alloc: Global, bytes: &[u8]) -> Result<NameRead<'_>, Refusal>
 fn needs_quotes(name: &[u8]) -> bool
     ensures { result ≡ needs_quotes name.now }
 {
-    !name.is_empty() && !is_plain(name)
+    !name.is_empty() && !is_lower_word(name)
 }
 
 /// A name that is a lower word.
@@ -205,7 +206,7 @@ fn plain(alloc: Global, bytes: &[u8]) -> Result<NameRead<'_>, Refusal>
     ensures { Answers (λ r. (r.name, r.rest.now)) result (plain_at bytes.now) }
 {
     let split = word(bytes);
-    if !is_plain(split.front) {
+    if !is_lower_word(split.front) {
         return Err(Refusal::Form);
     }
     Ok(NameRead {

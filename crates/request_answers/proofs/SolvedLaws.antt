@@ -18,8 +18,8 @@ use Rattle.tableau_run.specs.Ended.{IsRefuted}
 use Rattle.request_answers.specs.Names.{ArePrintable, names_in}
 use Rattle.request_answers.specs.Means.Texts.{HasTexts}
 use Rattle.request_answers.specs.Solved.{IsProofOf}
-use Rattle.thf_grammar.specs.Printable.{IsPrintable}
-use Rattle.written_refutation.specs.Letters.{is_printable, is_name}
+use Rattle.thf_grammar.specs.Printable.{is_printable, IsPrintable}
+use Rattle.written_refutation.specs.Letters.{is_name}
 use Rattle.request_answers.proofs.NameLaws.{NamesAll, accepted_named}
 use Rattle.request_answers.proofs.Numbering.{declared_placed, refutation-same}
 use Rattle.request_answers.proofs.Written.{AreWords, has_text}

@@ -1,13 +1,14 @@
 //! Writes formulas.
-ghost use Rattle.std.specs.Prelude.{◌≡◌, OnOk, OnErr};
+ghost use Rattle.std.specs.Prelude.{◌≡◌, ◌++◌, codes, OnOk, OnErr};
 ghost use Rattle.thf_grammar.specs.View.{the_formula, the_vars};
+ghost use Rattle.thf_syntax.specs.declared.slot.Slot.TheVariants.{Member, Operand};
 ghost use Rattle.thf_syntax.specs.Slots.{takes};
 ghost use Rattle.thf_syntax.specs.Texts as spec;
 ghost use Rattle.outside.specs.Writing.{Took, Stopped};
 
+use crate::names::write_name;
 use crate::slot::Slot;
 use crate::write_bytes::{write, write_between};
-use crate::write_name::write_name;
 use crate::write_types::write_vars;
 use outside::{Failed, Sink};
 use thf_grammar::{Binder, Conn, Surface, SurfaceVar};
@@ -82,10 +83,7 @@ pub fn write_formula<S: Sink>(sink: &mut S, tree: &Surface) -> Result<(), Failed
         Surface::Var { name, .. } => write(sink, name.as_slice()),
         Surface::Truth { value, .. } => write(sink, truth_text(*value)),
         Surface::Op { conn, .. } => write_between(sink, b"(", conn_text(*conn), b")"),
-        Surface::Not { body, .. } => {
-            write(sink, b"~ ")?;
-            write_in(sink, Slot::Operand, body)
-        }
+        Surface::Not { body, .. } => write_negation(sink, body),
         Surface::Binary {
             conn,
             left,
@@ -108,20 +106,55 @@ pub fn write_formula<S: Sink>(sink: &mut S, tree: &Surface) -> Result<(), Failed
             write_in(sink, Slot::Head, fun)?;
             write_right(sink, b"@", Slot::Operand, arg)
         }
-        Surface::Quant { all, arg, .. } => {
-            write(sink, quantifier_text(*all))?;
-            write_right(sink, b"@", Slot::Operand, arg)
-        }
+        Surface::Quant { all, arg, .. } => write_quantified(sink, *all, arg),
         Surface::Bind {
             binder,
             vars,
             body,
             ..
-        } => {
-            write_binder(sink, *binder, vars.as_slice())?;
-            write_in(sink, Slot::Member, body)
-        }
+        } => write_binding(sink, *binder, vars.as_slice(), body),
     }
+}
+
+/// Writes a negation.
+#[cycle(formula)]
+fn write_negation<S: Sink>(sink: &mut S, body: &Surface) -> Result<(), Failed>
+    ensures took { OnOk result (Took S.tells S.written S.faults sink.old sink.new
+        (codes "~ " ++ spec.grouped_unless (takes Operand (the_formula body.now)) (spec.formula_text (the_formula body.now)))) }
+    ensures stopped { OnErr result (Stopped S.tells S.written S.faults sink.old sink.new
+        (codes "~ " ++ spec.grouped_unless (takes Operand (the_formula body.now)) (spec.formula_text (the_formula body.now)))) }
+{
+    write(sink, b"~ ")?;
+    write_in(sink, Slot::Operand, body)
+}
+
+/// Writes a quantifier that is applied to a formula.
+#[cycle(formula)]
+fn write_quantified<S: Sink>(sink: &mut S, all: bool, arg: &Surface) -> Result<(), Failed>
+    ensures took { OnOk result (Took S.tells S.written S.faults sink.old sink.new
+        (spec.infixed (spec.quantifier_text all) (codes "@") (spec.grouped_unless (takes Operand (the_formula arg.now)) (spec.formula_text (the_formula arg.now))))) }
+    ensures stopped { OnErr result (Stopped S.tells S.written S.faults sink.old sink.new
+        (spec.infixed (spec.quantifier_text all) (codes "@") (spec.grouped_unless (takes Operand (the_formula arg.now)) (spec.formula_text (the_formula arg.now))))) }
+{
+    write(sink, quantifier_text(all))?;
+    write_right(sink, b"@", Slot::Operand, arg)
+}
+
+/// Writes a formula behind its binder.
+#[cycle(formula)]
+fn write_binding<S: Sink>(
+    sink: &mut S,
+    binder: Binder,
+    vars: &[SurfaceVar],
+    body: &Surface,
+) -> Result<(), Failed>
+    ensures took { OnOk result (Took S.tells S.written S.faults sink.old sink.new
+        (spec.opening_text binder (the_vars vars.now) ++ spec.grouped_unless (takes Member (the_formula body.now)) (spec.formula_text (the_formula body.now)))) }
+    ensures stopped { OnErr result (Stopped S.tells S.written S.faults sink.old sink.new
+        (spec.opening_text binder (the_vars vars.now) ++ spec.grouped_unless (takes Member (the_formula body.now)) (spec.formula_text (the_formula body.now)))) }
+{
+    write_binder(sink, binder, vars)?;
+    write_in(sink, Slot::Member, body)
 }
 
 /// Writes a symbol and the formula to its right, each behind a space.

@@ -9,9 +9,9 @@ ghost use Rattle.thf_syntax.specs.Names.{name_text};
 ghost use Rattle.thf_syntax.specs.Texts as spec;
 ghost use Rattle.outside.specs.Writing.{Took, Stopped};
 
+use crate::names::{write_label, write_name, write_quoted};
 use crate::write_bytes::{write, write_between};
 use crate::write_formula::write_formula;
-use crate::write_name::{write_label, write_name, write_quoted};
 use crate::write_types::write_type;
 use outside::{Failed, Sink};
 use thf_grammar::{Annotated, Body, FileTree, Selected, Selection, Statement, SurfaceTy};

@@ -4,7 +4,7 @@ use Rattle.stt_tableau.specs.Literals.{Literal}
 use Rattle.stt_tableau.specs.Witnesses.{Row}
 use Rattle.stt_tableau.specs.declared.refutation.Child.{Child}
 use Rattle.stt_tableau.specs.declared.refutation.Line.{Line}
-use Rattle.written_refutation.specs.Letters.{name_text}
+use Rattle.thf_syntax.specs.Names.{name_text}
 use Rattle.written_refutation.specs.Trees.{RefutationTree}
 use Rattle.written_refutation.specs.Text.{version_text, definition_text, text_lines, term_text, literal_text, child_text, rule_text, after_commas, separated, branch_text, children_text, row_texts, line_texts, as_bytes}
 use Rattle.written_refutation.specs.Named.{Names, name_at, ArePlaces, named_term, named_literal, named_rule, named_line, HasNames, HaveNames, HasLineNames, RowsHaveNames, LinesHaveNames}

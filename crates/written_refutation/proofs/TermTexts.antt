@@ -5,7 +5,7 @@ use Rattle.stt_core.specs.Lambda.{Lambda, bound, constant, lam, app, lambdas, ap
 use Rattle.stt_core.specs.View.{the_head}
 use Rattle.stt_core.specs.declared.nf.Head.{Head}
 use Rattle.stt_core.specs.declared.nf.Head.TheVariants as head
-use Rattle.written_refutation.specs.Letters.{name_text}
+use Rattle.thf_syntax.specs.Names.{name_text}
 use Rattle.written_refutation.specs.Text.{type_text, term_text, spine_text}
 use Rattle.written_refutation.specs.Named.{Names, named_type, named_term, HasTypeNames, HasNames}
 use Rattle.written_refutation.specs.Means.Pieces.{binder_text, binders_text, argument_text, arguments_text, applied_text, BindersHaveNames, ArgumentsHaveNames}

@@ -2,7 +2,7 @@
 use Rattle.std.specs.Prelude.{ℕ, suc, Bool, true, false, List, [], ◌∷◌, ◌++◌, map, codes, decimal}
 use Rattle.stt_tableau.specs.declared.refutation.Child.{Child}
 use Rattle.stt_tableau.specs.declared.refutation.Child.TheVariants.{Closed, Line as Numbered}
-use Rattle.written_refutation.specs.Letters.{name_text}
+use Rattle.thf_syntax.specs.Names.{name_text}
 use Rattle.written_refutation.specs.Trees.{TypeTree, formula, individual, named, arrow, ConstantTree, name, witness, falsity, negation, implication, all, equality, choice, description, TermTree, bound, constant, lam, app, LiteralTree, OnePlace, False, Refl, ImpPos, ImpNeg, BoolPos, BoolNeg, FunPos, FunNeg, AllNeg, Dec, TwoPlaces, Close, Mat, Con, OfPredicate, Cho, Des, RuleTree, at_one, at_two, with_instance, with_predicate, with_cut, LineTree, RefutationTree}
 
 abbrev pub type_text : TypeTree → List ℕ

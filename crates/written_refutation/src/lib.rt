@@ -1,16 +1,14 @@
 //! Refutations as they are written: their trees, and the text of one, written.
 #![tactic(auto)]
 
-mod letters;
 mod line;
 mod tree;
+mod write_bytes;
 mod write_line;
-mod write_name;
 mod write_rule;
 mod write_term;
 mod write_whole;
 
-pub use letters::{is_plain, is_word_byte};
 pub use line::{RefutationText, TextLine, TextLines, TextLit, TextLits, TextNames, TextRule};
 pub use tree::{TextHead, TextNode, TextTerm, TextTerms, TextTy};
 pub use write_whole::write_text;

@@ -6,7 +6,7 @@ ghost use Rattle.written_refutation.specs.Named.{names_of, named_term, named_lit
 ghost use Rattle.written_refutation.specs.Means.Pieces.{comma_before, literal_at, child_at, row_line, line_end, line_line};
 ghost use Rattle.outside.specs.Writing.{Took, Stopped};
 
-use crate::write_name::{write, write_numbered};
+use crate::write_bytes::{write, write_numbered};
 use crate::write_rule::{write_literal, write_rule};
 use crate::write_term::write_term;
 use outside::{Failed, Sink};

@@ -5,7 +5,7 @@ ghost use Rattle.written_refutation.specs.Text.{term_text, sign_text, literal_te
 ghost use Rattle.written_refutation.specs.Named.{names_of, named_term, named_literal, named_rule, HasNames, HasRuleNames};
 ghost use Rattle.outside.specs.Writing.{Took, Stopped};
 
-use crate::write_name::{write, write_numbered};
+use crate::write_bytes::{write, write_numbered};
 use crate::write_term::write_term;
 use outside::{Failed, Sink};
 use stt_core::{Nf, Signature};

@@ -8,9 +8,10 @@ ghost use Rattle.written_refutation.specs.Named.{names_of, named_type, named_ter
 ghost use Rattle.written_refutation.specs.Means.Pieces.{binders_text, argument_text, arguments_text, applied_text, BindersHaveNames, ArgumentsHaveNames};
 ghost use Rattle.outside.specs.Writing.{Took, Stopped};
 
-use crate::write_name::{write, write_name, write_numbered};
+use crate::write_bytes::{write, write_numbered};
 use outside::{Failed, Sink};
 use stt_core::{Head, Nf, Nfs, Signature, Ty, Types};
+use thf_syntax::write_name;
 
 /// Writes the base type of a number.
 fn write_base<S: Sink>(sink: &mut S, sig: &Signature, number: u32) -> Result<(), Failed>

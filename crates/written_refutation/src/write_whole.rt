@@ -4,16 +4,17 @@ ghost use Rattle.std.specs.Prelude.{◌≡◌, ◌≤◌, ◌<◌, ◌++◌, map
 ghost use Rattle.outside.specs.Causes.{Rose};
 ghost use Rattle.outside.specs.Prefix.{AppendsProperly};
 ghost use Rattle.outside.specs.Writing.{Took, Stopped};
-ghost use Rattle.written_refutation.specs.Letters.{name_text};
+ghost use Rattle.thf_syntax.specs.Names.{name_text};
 ghost use Rattle.written_refutation.specs.Text.{definition_text, text_lines, as_bytes};
 ghost use Rattle.written_refutation.specs.Named.{names_of, name_at, named_refutation, ArePlaces, IsNamed};
 ghost use Rattle.written_refutation.specs.Means.Pieces.{version_line, definition_line};
 
+use crate::write_bytes::write;
 use crate::write_line::{write_lines, write_rows};
-use crate::write_name::{write, write_name};
 use outside::{Failed, Sink};
 use stt_core::Signature;
 use stt_tableau::Refutation;
+use thf_syntax::write_name;
 
 /// Writes the line of the version.
 fn write_version<S: Sink>(sink: &mut S, sig: &Signature, taken: &[u32]) -> Result<(), Failed>

@@ -1,7 +1,9 @@
 -- How the reader goes: what stands at the front of bytes, and what follows it.
 use Rattle.std.specs.Prelude.{ℕ, zero, suc, ◌+◌, ◌-◌, ◌*◌, ◌==◌, ◌||◌, ◌&&◌, not, nat_eq, nat_le, nat_lt, drop, length, Bool, true, false, List, [], ◌∷◌, ◌++◌, codes, Option, Some, None, if◌then◌else◌}
 use Rattle.std.specs.List.{starts_with}
-use Rattle.written_refutation.specs.Letters.{is_word_byte, is_printable, is_plain}
+use Rattle.thf_grammar.specs.Bytes.{is_word_byte}
+use Rattle.thf_grammar.specs.Printable.{is_printable}
+use Rattle.thf_syntax.specs.Names.{is_lower_word}
 use Rattle.written_refutation.specs.Trees.{TypeTree, formula, individual, named, arrow}
 
 infixl 10 ◌>>=◌
@@ -94,14 +96,14 @@ character_at (c ∷ cs) = if c == 92 then escaped_character cs else (if is_print
 -- whether a name isn't empty and needs quotes
 abbrev pub needs_quotes : List ℕ → Bool
 needs_quotes [] = false
-needs_quotes (c ∷ cs) = not (is_plain (c ∷ cs))
+needs_quotes (c ∷ cs) = not (is_lower_word (c ∷ cs))
 
 abbrev pub where_quoted : Option (List ℕ × List ℕ) → Option (List ℕ × List ℕ)
 where_quoted None = None
 where_quoted (Some r) = if needs_quotes r.0 then Some r else None
 
 abbrev pub plain_at : List ℕ → Option (List ℕ × List ℕ)
-plain_at bytes = if is_plain (front is_word_byte bytes) then Some (front is_word_byte bytes, after is_word_byte bytes) else None
+plain_at bytes = if is_lower_word (front is_word_byte bytes) then Some (front is_word_byte bytes, after is_word_byte bytes) else None
 
 unfoldable pub name_at : List ℕ → Option (List ℕ × List ℕ)
 name_at bytes = by_front (behind (codes "'") bytes) (λ rest. where_quoted (characters_at rest)) (plain_at bytes)

@@ -7,7 +7,7 @@ use Rattle.stt_tableau.specs.Literals.{Literal}
 use Rattle.stt_tableau.specs.Witnesses.{Row}
 use Rattle.stt_tableau.specs.declared.refutation.Child.{Child}
 use Rattle.stt_tableau.specs.declared.refutation.Line.{Line}
-use Rattle.written_refutation.specs.Letters.{name_text}
+use Rattle.thf_syntax.specs.Names.{name_text}
 use Rattle.written_refutation.specs.Text.{version_text, type_text, term_text, literal_text, branch_text, children_text, child_text, rule_text}
 use Rattle.written_refutation.specs.Named.{Names, name_at, named_type, named_term, named_literal, named_rule, HasTypeNames, HasNames}
 

@@ -1,5 +1,5 @@
 use Rattle.std.proofs.Common.{◌≡◌, ◌≤◌, ◌-◌, ◌++◌, length, take, drop}
-use Rattle.written_refutation.specs.Letters.{is_word_byte}
+use Rattle.thf_grammar.specs.Bytes.{is_word_byte}
 use Rattle.refute_text.specs.Means.Reader.{front, after}
 use Rattle.refute_text.proofs.read_name.word.Given as goal
 

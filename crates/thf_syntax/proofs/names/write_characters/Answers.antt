@@ -2,7 +2,7 @@ use Rattle.std.proofs.Common.{refl}
 use Rattle.thf_syntax.specs.Names.{escaped}
 use Rattle.outside.proofs.Writes.{on_err}
 use Rattle.thf_syntax.proofs.Writes.{stopped_at}
-use Rattle.thf_syntax.proofs.write_name.write_characters.Goals as goal
+use Rattle.thf_syntax.proofs.names.write_characters.Goals as goal
 
 pub returns-in_err-write_escaped-clause-stopped : goal.returns-in_err-write_escaped-clause-stopped
 returns-in_err-write_escaped-clause-stopped g c = on_err c.from_residual.result

@@ -1,4 +1,4 @@
-//! Writes names.
+//! Names as they are spelled.
 ghost use Rattle.std.specs.Prelude.{◌≡◌, OnOk, OnErr};
 ghost use Rattle.std.specs.Char.{is_ascii_digit};
 ghost use Rattle.std.specs.List.{flat_map, list_all};
@@ -9,7 +9,8 @@ ghost use Rattle.outside.specs.Writing.{Took, Stopped};
 use crate::write_bytes::write;
 use outside::{Failed, Sink};
 
-fn is_word_byte(byte: u8) -> bool
+/// Whether the byte is a letter, a digit or `_`.
+pub fn is_word_byte(byte: u8) -> bool
     ensures { result ≡ lex.is_word_byte byte }
 {
     byte.is_ascii_alphanumeric() || byte == b'_'
@@ -21,7 +22,8 @@ fn are_word_bytes(bytes: &[u8]) -> bool
     bytes.iter().all(|&byte| is_word_byte(byte))
 }
 
-fn is_lower_word(name: &[u8]) -> bool
+/// Whether the name is a lower-case letter, and then letters, digits and `_`.
+pub fn is_lower_word(name: &[u8]) -> bool
     ensures { result ≡ spec.is_lower_word name.now }
 {
     match name {

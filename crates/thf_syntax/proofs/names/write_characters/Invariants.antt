@@ -2,7 +2,7 @@ use Rattle.std.proofs.Common.{take}
 use Rattle.std.specs.List.{flat_map}
 use Rattle.thf_syntax.specs.Names.{escaped}
 use Rattle.outside.specs.Writing.{Took}
-use Rattle.thf_syntax.proofs.write_name.write_characters.Given as goal
+use Rattle.thf_syntax.proofs.names.write_characters.Given as goal
 
 abbrev pub invariant-loop-byte : goal.invariant-loop-byte
 invariant-loop-byte g l =
