@@ -13,3 +13,4 @@ pub mod PlaceLaws
 pub mod TermLaws
 mod DefinitionLaws
 pub mod AcceptanceLaws
+mod SeenLaws

@@ -17,7 +17,7 @@ use Rattle.stt_tableau.proofs.FailureLaws.{contains_map}
 use Rattle.term_bank.specs.Content.{Content, content_scope, HasTerm, Grows}
 use Rattle.term_bank.specs.Terms.{term_at}
 use Rattle.term_bank.specs.Laws.{EqualIdsForEqualTerms}
-use Rattle.term_bank.proofs.GrowLaws.{grows_itself, grows_on, grown_scope, grown_terms, has_at}
+use Rattle.term_bank.proofs.GrowLaws.{grows_itself, grows_on, grown_scope, grown_terms}
 use Rattle.bank_normal.specs.Right.{IsRight}
 use Rattle.literal_map.specs.Atoms.{atom_at, literal_at, IsAtom}
 use Rattle.bank_normal.proofs.RightLaws.{right_grown}
@@ -46,7 +46,7 @@ pub each_weaker : {X : Type 0} (P Q : X → Type 0) → ((x : X) → P x → Q x
 each_weaker P Q f [] h = tt
 each_weaker P Q f (x ∷ xs) h = (f x h.0, each_weaker P Q f xs h.1)
 
-each_contains : {X : Type 0} (P : X → Type 0) (xs : List X) (x : X) → Each P xs → Contains xs x → P x
+pub each_contains : {X : Type 0} (P : X → Type 0) (xs : List X) (x : X) → Each P xs → Contains xs x → P x
 each_contains P xs x h c = each_at P xs c.0 x h (slice_get-get_or xs c.0 x c.1 ∙ ap Some c.2)
 
 pub map_each : {X Y : Type 0} (P : X → Type 0) (f g : X → Y) → ((x : X) → P x → f x ≡ g x) → (xs : List X) → Each P xs → map f xs ≡ map g xs
@@ -152,11 +152,6 @@ good-none s lits witnesses types kept normal = record {
   declared = ap (λ ids. map (λ (r : Row). r.type) (rows_of s.bank.terms ids)) witnesses ∙ sym types;
   types = kept ∙ sym types;
 }
-
--- a canonical term stands in a bank that has grown
-pub placed : (old new : Content) → Grows old new → (id : ℕ) (a : SimpleType) (t : Lambda) → HasTerm new id t → IsCanonical (content_scope old) [] a t → IsCanonical (content_scope new) [] a (term_at new.terms id)
-placed old new g id a t has h =
-    subst (IsCanonical (content_scope new) [] a) (sym (has_at new id t has)) (subst (λ s. IsCanonical s [] a t) (sym (grown_scope old new g)) h)
 
 -- terms alone have come
 module _ (s : Shared) (b : Content) (g : Grows s.bank b) where

@@ -1,32 +1,31 @@
 //! Branches as sets of numbers.
 
-ghost use Rattle.std.specs.Prelude.{◌≡◌, ℕ, Bool, false, ◌&&◌, ◌||◌, not, ◌==◌, OnOk, IfOk, IsTrue, ◌↔◌, List};
+ghost use Rattle.std.specs.Prelude.{◌≡◌, ℕ, Bool, false, ◌&&◌, ◌||◌, not, ◌==◌, OnOk, IfOk, IsTrue, ◌↔◌, List, nat_eq};
 ghost use Rattle.std.specs.List.{list_all, list_any};
-ghost use Rattle.std.specs.BTreeSet.{contains};
-ghost use Rattle.std.specs.Ordering.{nat_cmp};
+ghost use Rattle.indexmap.specs.IndexSet.{contains};
 ghost use Rattle.stt_tableau.specs.Start.{same_sign};
 ghost use Rattle.refute_check.specs.Means.Branches.{has};
 
+use indexmap::IndexSet;
 use std::alloc::{AllocError, Global};
-use std::collections::BTreeSet;
 
 /// The literals of a branch: the numbers of the atoms that stand in it, and of those that stand in it negated.
 #[derive(Drop)]
 pub(crate) struct Branch {
-    positive: BTreeSet<usize>,
-    negative: BTreeSet<usize>,
+    positive: IndexSet<usize>,
+    negative: IndexSet<usize>,
 }
 
 /// Whether each number of the first set is in one of the other two.
-fn is_among(set: &BTreeSet<usize>, left: &BTreeSet<usize>, right: &BTreeSet<usize>) -> bool
-    ensures { result ≡ list_all (λ k. contains nat_cmp left.now k || contains nat_cmp right.now k) set.now.keys }
+fn is_among(set: &IndexSet<usize>, left: &IndexSet<usize>, right: &IndexSet<usize>) -> bool
+    ensures { result ≡ list_all (λ k. contains nat_eq left.now k || contains nat_eq right.now k) set.now.keys }
 {
     set.iter().all(|k| left.contains(k) || right.contains(k))
 }
 
 /// Whether the two sets have a number in common.
-fn meet(few: &BTreeSet<usize>, many: &BTreeSet<usize>) -> bool
-    ensures { result ≡ list_any (contains nat_cmp many.now) few.now.keys }
+fn meet(few: &IndexSet<usize>, many: &IndexSet<usize>) -> bool
+    ensures { result ≡ list_any (contains nat_eq many.now) few.now.keys }
 {
     few.iter().any(|k| many.contains(k))
 }
@@ -36,8 +35,8 @@ impl Branch {
         ensures { (sign : Bool) (k : ℕ) → has result sign k ≡ false }
     {
         Branch {
-            positive: BTreeSet::new(alloc),
-            negative: BTreeSet::new(alloc),
+            positive: IndexSet::new(alloc),
+            negative: IndexSet::new(alloc),
         }
     }
 

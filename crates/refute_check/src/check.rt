@@ -25,6 +25,7 @@ use crate::definitions::check_definitions;
 use crate::lines::RightLines;
 use crate::numbering::Numbering;
 use crate::refusal::CheckRefused;
+use crate::seen::Seen;
 use crate::shared::Shared;
 use crate::start::begin;
 use delta_defs::unfold_problem;
@@ -74,9 +75,10 @@ fn check_lines(
     ensures refused { IfErr result (λ e. IfRefused e (λ place why. (start : List Literal) → FirstFailure (declared_in shared.old) start (numbered_refutation numbering.now (the_text text.now)) place why)) }
 {
     let rows = text.witnesses.len();
+    let mut seen = Seen::new(alloc);
     let mut lines = RightLines::new(alloc);
     for i in 0..text.lines.len() {
-        if let Some(why) = lines.add(alloc, shared, numbering, text.lines.at(i))? {
+        if let Some(why) = lines.add(alloc, shared, numbering, &mut seen, text.lines.at(i))? {
             return Err(PlainRefused::Refused {
                 line: rows + i,
                 why,

@@ -39,7 +39,7 @@ fn closes_by(
     match child {
         Child::Closed => is_closed,
         Child::Line(j) => match branch_at(earlier, j) {
-            Some(branch) => branch.is_within(known, own),
+            Some(branch) => branch.is_within(own, known),
             None => false,
         },
     }

@@ -4,10 +4,12 @@ ghost use Rattle.std.specs.Prelude.{◌≡◌, map, OnOk, IfOk, slice_get};
 ghost use Rattle.search_run.specs.Each.{Each};
 ghost use Rattle.refute_check.specs.Numbered.{numbered_literal};
 ghost use Rattle.refute_check.specs.Means.Branches.{Represents, AreNumbered};
+ghost use Rattle.refute_check.specs.Means.Seen.{IsSeen};
 ghost use Rattle.refute_check.specs.Means.Shared.{the_atoms, literal_in, IsGood, IsNumber, Extends, NumbersBranch};
 
 use crate::branch::Branch;
 use crate::numbering::Numbering;
+use crate::seen::Seen;
 use crate::shared::Shared;
 use literal_map::LitList;
 use sat_base::SatLit;
@@ -24,20 +26,24 @@ pub(crate) fn literal_at(list: &LitList, i: usize) -> Option<SatLit>
 
 impl Shared {
     /// The literals of a text's branch by number, or none where it is no branch over what is declared.
-    pub(crate) fn branch(
+    pub(crate) fn branch<'t>(
         &mut self,
         alloc: Global,
         numbering: &Numbering<'_>,
-        lits: &TextLits,
+        seen: &mut Seen<'t>,
+        lits: &'t TextLits,
     ) -> Result<Option<LitList>, AllocError>
         requires good { IsGood self.old }
+        requires seen { IsSeen numbering.now self.old seen.old }
         ensures branch { IfOk result (NumbersBranch self.new (map (numbered_literal numbering.now) lits.now)) }
         ensures extends { OnOk result (Extends self.old self.new) }
         ensures good { OnOk result (IsGood self.new) }
+        ensures seen { OnOk result (IsSeen numbering.now self.new seen.new) }
     {
         let mut list = LitList::new(alloc);
         for i in 0..lits.len() {
-            match self.literal(alloc, numbering, lits.at(i))? {
+            let place = lits.pushed_at(i);
+            match self.seen_literal(alloc, numbering, seen, place, lits.at(i))? {
                 Some(lit) => list.push(lit)?,
                 None => return Ok(None),
             }

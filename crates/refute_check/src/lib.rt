@@ -14,6 +14,8 @@ mod number_term;
 mod numbering;
 mod refusal;
 mod rows;
+mod same;
+mod seen;
 mod shared;
 mod start;
 mod taking;

@@ -9,11 +9,13 @@ ghost use Rattle.stt_tableau.specs.declared.refutation.Line.{Line as TheLine};
 ghost use Rattle.written_refutation.specs.TextView.{the_line};
 ghost use Rattle.refute_check.specs.Numbered.{numbered_line};
 ghost use Rattle.refute_check.specs.Means.Branches.{Represents, AreNumbered, AreBranches};
+ghost use Rattle.refute_check.specs.Means.Seen.{IsSeen};
 ghost use Rattle.refute_check.specs.Means.Shared.{scope_in, the_atoms, the_rows, IsGood, Extends};
 
 use crate::branch::Branch;
 use crate::children::{are_children, branch_at};
 use crate::numbering::Numbering;
+use crate::seen::Seen;
 use crate::shared::Shared;
 use crate::taking::Taking;
 use std::alloc::{AllocError, Global};
@@ -36,22 +38,25 @@ impl RightLines {
     }
 
     /// Adds a line, or answers why it fails.
-    pub(crate) fn add(
+    pub(crate) fn add<'t>(
         &mut self,
         alloc: Global,
         shared: &mut Shared,
         numbering: &Numbering<'_>,
-        line: &TextLine,
+        seen: &mut Seen<'t>,
+        line: &'t TextLine,
     ) -> Result<Option<Why>, AllocError>
         requires good { IsGood shared.old }
+        requires seen { IsSeen numbering.now shared.old seen.old }
         ensures answer { IfOk result (λ why. (earlier : List TheLine) → AreBranches (the_atoms shared.old) earlier self.old.branches.items
             → LineAnswer (scope_in shared.old) (the_rows shared.old) earlier (numbered_line numbering.now (the_line line.now)) why) }
         ensures added { IfOk result (λ why. why ≡ None → (earlier : List TheLine) → AreBranches (the_atoms shared.old) earlier self.old.branches.items
             → AreBranches (the_atoms shared.new) (earlier ++ numbered_line numbering.now (the_line line.now) ∷ []) self.new.branches.items) }
         ensures extends { IfOk result (λ why. why ≡ None → Extends shared.old shared.new) }
         ensures good { IfOk result (λ why. why ≡ None → IsGood shared.new) }
+        ensures seen { IfOk result (λ why. why ≡ None → IsSeen numbering.now shared.new seen.new) }
     {
-        let Some(branch) = shared.branch(alloc, numbering, &line.branch)? else {
+        let Some(branch) = shared.branch(alloc, numbering, seen, &line.branch)? else {
             return Ok(Some(Why::Typing));
         };
         let by = match shared.taking(alloc, numbering, &branch, &line.rule)? {

@@ -13,6 +13,7 @@ ghost use Rattle.refute_check.specs.Means.Shared.{scope_in, declared_in, the_ato
 use crate::branch::Branch;
 use crate::shared::Shared;
 use literal_map::LitList;
+use problem_start::formula_literal;
 use sat_base::SatLit;
 use std::alloc::{AllocError, Global};
 use stt_core::{Problem, Signature, Term, Terms};
@@ -54,8 +55,7 @@ impl Shared {
         ensures extends { OnOk result (Extends self.old self.new) }
         ensures good { OnOk result (IsGood self.new) }
     {
-        let id = self.normal.normalise(&mut self.bank, formula)?;
-        Ok(self.lits.lit_of(&self.bank, id)?)
+        Ok(formula_literal(&mut self.bank, &mut self.normal, &mut self.lits, formula)?)
     }
 
     /// The numbers of the literals of formulas.

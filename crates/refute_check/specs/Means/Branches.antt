@@ -1,7 +1,6 @@
 -- Branches as sets of numbers.
-use Rattle.std.specs.Prelude.{◌≡◌, ℕ, Bool, true, false, List, [], ◌∷◌, ◌++◌, Some, IsTrue, Contains}
-use Rattle.std.specs.BTreeSet.{contains}
-use Rattle.std.specs.Ordering.{nat_cmp}
+use Rattle.std.specs.Prelude.{◌≡◌, ℕ, nat_eq, Bool, true, false, List, [], ◌∷◌, ◌++◌, Some, IsTrue, Contains}
+use Rattle.indexmap.specs.IndexSet.{contains}
 use Rattle.stt_core.specs.Lambda.{Lambda}
 use Rattle.stt_tableau.specs.Literals.{Literal}
 use Rattle.stt_tableau.specs.declared.refutation.Line.{Line}
@@ -10,8 +9,8 @@ use Rattle.refute_check.specs.declared.branch.Branch.{Branch}
 
 -- whether the set has the literal of this sign whose atom has this number
 abbrev pub has : Branch → Bool → ℕ → Bool
-has b true k = contains nat_cmp b.positive k
-has b false k = contains nat_cmp b.negative k
+has b true k = contains nat_eq b.positive k
+has b false k = contains nat_eq b.negative k
 
 -- one of the literals has this sign, and its atom this number
 pub record IsLiteralOf (terms : List Lambda) (ls : List Literal) (sign : Bool) (k : ℕ) : Type 0 where

@@ -16,10 +16,10 @@ use Rattle.refute_check.proofs.check.check_lines.Goals as goal
 pub loop-i-init : goal.loop-i-init
 loop-i-init c =
     let s = c.args.shared.now in
-    (c.requires.good, c.requires.rows, refl, grow-itself (the_atoms s), c.new-lines.ensures (the_atoms s), tt)
+    (c.requires.good, c.requires.rows, refl, grow-itself (the_atoms s), c.new-lines.ensures (the_atoms s), tt, c.new-seen.ensures c.args.numbering.now s)
 
 pub add-requires : goal.add-requires
-add-requires c = record { good = c.loop-i.invariant.0 }
+add-requires c = record { good = c.loop-i.invariant.0; seen = c.loop-i.invariant.6 }
 
 pub returns-in-Some-clause-refused : goal.returns-in-Some-clause-refused
 returns-in-Some-clause-refused c = λ start.
@@ -56,4 +56,5 @@ loop-i-preserved c =
       grow-more (the_atoms old) (the_atoms now) (the_atoms new) c.loop-i.invariant.3 (extends_atoms now new e c.loop-i.invariant.0),
       subst (λ ls. AreBranches (the_atoms new) ls c.add.new.self.branches.items) (sym (take_got lines i line at)) (c.in_ok-why.ensures.added c.in_default.is (take i lines) c.loop-i.invariant.4),
       lines-more (with_rows scope rows) rows lines i line at c.loop-i.invariant.5 (subst (LineAnswer (with_rows scope rows) rows (take i lines) line) c.in_default.is answer),
+      c.in_ok-why.ensures.seen c.in_default.is,
     )

@@ -5,6 +5,7 @@ use Rattle.written_refutation.specs.TextView.{the_line}
 use Rattle.refute_check.specs.Numbered.{numbered_row, numbered_line}
 use Rattle.refute_check.specs.Means.Branches.{Grow, AreBranches}
 use Rattle.refute_check.specs.Means.Shared.{declared_in, the_atoms, the_rows, IsGood}
+use Rattle.refute_check.specs.Means.Seen.{IsSeen}
 use Rattle.refute_check.proofs.check.check_lines.Given as goal
 
 abbrev pub invariant-loop-i : goal.invariant-loop-i
@@ -14,3 +15,4 @@ invariant-loop-i l =
     IsGood l.shared × (the_rows l.shared ≡ rows) × (declared_in l.shared ≡ declared_in l.fn.shared) × Grow (the_atoms l.fn.shared) (the_atoms l.shared)
     × AreBranches (the_atoms l.shared) lines l.lines.branches.items
     × AreRightLines (with_rows (declared_in l.fn.shared) rows) rows [] lines
+    × IsSeen l.numbering l.shared l.seen

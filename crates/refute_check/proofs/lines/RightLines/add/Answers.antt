@@ -7,6 +7,7 @@ use Rattle.refute_check.specs.Means.Shared.{scope_in, the_atoms, the_rows, Exten
 use Rattle.refute_check.specs.Means.Taking.{Takes, Finds, alternatives_in}
 use Rattle.refute_check.proofs.BranchLaws.{branches-append}
 use Rattle.refute_check.proofs.SharedLaws.{extends_on, extends_numbers}
+use Rattle.refute_check.proofs.SeenLaws.{seen_stays}
 use Rattle.refute_check.proofs.LineAnswers.{no_use_typed, line_typed, finds_first, branches_extended}
 use Rattle.refute_check.proofs.lines.RightLines.add.Goals as goal
 
@@ -175,3 +176,11 @@ returns-clause-added c = λ _ earlier are.
     let grown = branches_extended s0 s3 c.requires.good all earlier c.args.self.now.branches.items are in
     subst (AreBranches (the_atoms s3) (earlier ++ line ∷ [])) (sym c.in_ok-push.ensures.items)
     (branches-append (the_atoms s3) earlier c.args.self.now.branches.items line c.in_ok-own.own grown (subst (AreNumbered (the_atoms s3)) n3.literals c.in_ok-own.ensures.numbered) (subst (λ ls. Represents (the_atoms s3) ls c.in_ok-own.own) n3.literals c.in_ok-own.ensures.set))
+
+pub returns-clause-seen : goal.returns-clause-seen
+returns-clause-seen c = λ _.
+    let s1 = c.branch-shared.new.self in
+    let s2 = c.taking.new.self in
+    let s3 = c.instance.new.self in
+    let g = subst (λ o. IfSome o (λ _. Extends s2 s3)) c.in-Some-2.is c.in_ok-instance.ensures.extends in
+    seen_stays c.args.numbering.now s1 s3 c.branch-shared.new.seen c.in_ok-branch.ensures.good (extends_on s1 s2 s3 c.in_ok-by.ensures.extends g) c.in_ok-branch.ensures.seen

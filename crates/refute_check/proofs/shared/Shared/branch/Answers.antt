@@ -11,10 +11,10 @@ use Rattle.refute_check.proofs.shared.Shared.branch.Goals as goal
 pub loop-i-init : goal.loop-i-init
 loop-i-init c =
     let s = c.args.self.now in
-    (c.requires.good, extends_itself s, tt, subst (AreNumbersOf s []) (sym c.new-list.ensures) (record { numbers = tt; literals = refl }))
+    (c.requires.good, extends_itself s, tt, subst (AreNumbersOf s []) (sym c.new-list.ensures) (record { numbers = tt; literals = refl }), c.requires.seen)
 
-pub literal-requires : goal.literal-requires
-literal-requires c = record { good = c.loop-i.invariant.0 }
+pub seen_literal-requires : goal.seen_literal-requires
+seen_literal-requires c = record { good = c.loop-i.invariant.0; seen = c.loop-i.invariant.4 }
 
 pub returns-in-None-clause-branch : goal.returns-in-None-clause-branch
 returns-in-None-clause-branch c = λ h.
@@ -22,17 +22,17 @@ returns-in-None-clause-branch c = λ h.
     let l = f c.at.result.now in
     let branch = map f c.args.lits.now in
     let at = mapped_get f c.args.lits.now c.loop-i.i c.at.result.now c.at.ensures in
-    subst (NumbersLiteral c.literal.new.self l) c.in-None.is c.in_ok-lit.ensures.number
-    (literal_in (scope_in c.literal.new.self) l branch (contains-get branch c.loop-i.i l at) h)
+    subst (NumbersLiteral c.seen_literal.new.self l) c.in-None.is c.in_ok-lit.ensures.number
+    (literal_in (scope_in c.seen_literal.new.self) l branch (contains-get branch c.loop-i.i l at) h)
 
 pub returns-in-None-clause-extends : goal.returns-in-None-clause-extends
-returns-in-None-clause-extends c = extends_on c.args.self.now c.loop-i.self c.literal.new.self c.loop-i.invariant.1 c.in_ok-lit.ensures.extends
+returns-in-None-clause-extends c = extends_on c.args.self.now c.loop-i.self c.seen_literal.new.self c.loop-i.invariant.1 c.in_ok-lit.ensures.extends
 
 pub loop-i-preserved : goal.loop-i-preserved
 loop-i-preserved c =
     let f = numbered_literal c.args.numbering.now in
     let l = f c.at.result.now in
-    let new = c.literal.new.self in
+    let new = c.seen_literal.new.self in
     let i = c.loop-i.i in
     let done = take i c.args.lits.now in
     let is = subst (NumbersLiteral new l) c.in-Some.is c.in_ok-lit.ensures.number in
@@ -42,4 +42,5 @@ loop-i-preserved c =
       extends_on c.args.self.now c.loop-i.self new c.loop-i.invariant.1 c.in_ok-lit.ensures.extends,
       subst (IsBranch (scope_in new)) (sym all) more.0,
       subst (λ ls. AreNumbersOf new ls c.push.new.self) (sym all) more.1,
+      c.in_ok-lit.ensures.seen,
     )

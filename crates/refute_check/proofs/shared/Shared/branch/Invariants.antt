@@ -1,10 +1,11 @@
 use Rattle.std.proofs.Common.{map, take}
 use Rattle.stt_tableau.specs.Literals.{IsBranch}
 use Rattle.refute_check.specs.Numbered.{numbered_literal}
+use Rattle.refute_check.specs.Means.Seen.{IsSeen}
 use Rattle.refute_check.specs.Means.Shared.{scope_in, IsGood, Extends, AreNumbersOf}
 use Rattle.refute_check.proofs.shared.Shared.branch.Given as goal
 
 abbrev pub invariant-loop-i : goal.invariant-loop-i
 invariant-loop-i l =
     let ls = map (numbered_literal l.numbering) (take l.i l.lits) in
-    IsGood l.self × Extends l.fn.self l.self × IsBranch (scope_in l.self) ls × AreNumbersOf l.self ls l.list
+    IsGood l.self × Extends l.fn.self l.self × IsBranch (scope_in l.self) ls × AreNumbersOf l.self ls l.list × IsSeen l.numbering l.self l.seen

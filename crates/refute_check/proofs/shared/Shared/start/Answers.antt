@@ -6,7 +6,7 @@ use Rattle.stt_core.specs.PlainProblem.{PlainProblem}
 use Rattle.stt_tableau.specs.Start.{normal_literal, start}
 use Rattle.refute_check.specs.Means.Branches.{Represents, AreNumbered}
 use Rattle.refute_check.specs.Means.Shared.{scope_in, the_atoms, AreNumbersOf}
-use Rattle.refute_check.proofs.SharedLaws.{extends_scope}
+use Rattle.refute_check.proofs.SharedLaws.{extends_on, extends_scope}
 use Rattle.refute_check.proofs.StartLaws.{numbers_denied, start_in}
 use Rattle.refute_check.proofs.shared.Shared.start.Goals as goal
 
@@ -69,3 +69,7 @@ returns-clause-numbered c =
     c.negated-denied.ensures c.in_ok-push-in-Some.ensures.ok in
     subst (λ q. AreNumbered (the_atoms s) (start q)) c.problem.view_is
     (start_in s p scope (Some t) c.in_ok-set_of-in-Some.field-0 c.push.new.self e (ap (option_map the_term) c.in-Some.is) numbers c.in_ok-set_of-in-Some.ensures.set c.in_ok-set_of-in-Some.ensures.numbered).1
+
+pub returns-clause-extends : goal.returns-clause-extends
+returns-clause-extends c =
+    extends_on c.args.self.now c.formulas.new.self c.formula.new.self c.in_ok-list.ensures.extends c.in_ok-formula-in-Some.ensures.extends

@@ -1,0 +1,29 @@
+-- Numbers that are noted for literals of a text.
+use Rattle.std.proofs.Common.{◌∙◌, Some, sym, subst}
+use Rattle.sat_base.specs.declared.literal.SatLit.{SatLit}
+use Rattle.stt_tableau.specs.Literals.{Literal, IsLiteral}
+use Rattle.written_refutation.specs.Named.{Names}
+use Rattle.written_refutation.specs.Trees.{LiteralTree}
+use Rattle.refute_check.specs.Numbered.{numbered_literal}
+use Rattle.refute_check.specs.Means.Seen.{IsSeen, IsNoted}
+use Rattle.refute_check.specs.Means.Shared.{IsGood, Extends, NumbersLiteral}
+use Rattle.refute_check.specs.declared.seen.Noted.{Noted}
+use Rattle.refute_check.specs.declared.seen.Seen.{Seen}
+use Rattle.refute_check.specs.declared.shared.Shared.{Shared}
+use Rattle.refute_check.proofs.SharedLaws.{each_contains, each_weaker, extends_scope, extends_number, extends_literal}
+
+abbrev pub IsRightNote : Names → Shared → Noted → Type 0
+IsRightNote names s n = NumbersLiteral s (numbered_literal names n.lit.now) (Some n.number)
+
+pub noted_number : (names : Names) (s : Shared) (seen : Seen) (l : LiteralTree) (n : SatLit) → IsSeen names s seen → IsNoted seen l n → NumbersLiteral s (numbered_literal names l) (Some n)
+noted_number names s seen l n h i =
+    let right : IsRightNote names s i.0 = each_contains (IsRightNote names s) seen.items.items i.0 h i.1 in
+    subst (λ k. NumbersLiteral s (numbered_literal names l) (Some k)) i.3 (subst (λ t. NumbersLiteral s (numbered_literal names t) (Some i.0.number)) i.2 right)
+
+-- the number of a literal stays
+number_stays : (old new : Shared) → IsGood old → Extends old new → (l : Literal) (n : SatLit) → NumbersLiteral old l (Some n) → NumbersLiteral new l (Some n)
+number_stays old new good e l n h = (subst (λ s. IsLiteral s l) (sym (extends_scope old new e)) h.0, extends_number old new e n h.1, extends_literal old new e good n h.1 ∙ h.2)
+
+pub seen_stays : (names : Names) (old new : Shared) (seen : Seen) → IsGood old → Extends old new → IsSeen names old seen → IsSeen names new seen
+seen_stays names old new seen good e h =
+    each_weaker (IsRightNote names old) (IsRightNote names new) (λ n k. number_stays old new good e (numbered_literal names n.lit.now) n.number k) seen.items.items h
