@@ -88,7 +88,9 @@ pub fn applied(alloc: Global, bank: &mut Bank, function: Id, argument: Id) -> Re
     if !bank.is_closed(argument) {
         return Err(RowRefused::Untyped);
     }
-    if !takes(bank.ty(function), bank.ty(argument)) {
+    let function_type = bank.ty(function)?;
+    let argument_type = bank.ty(argument)?;
+    if !takes(&function_type, &argument_type) {
         return Err(RowRefused::Untyped);
     }
     let mut normal = Normaliser::new(alloc);

@@ -1,5 +1,5 @@
 //! The tables in which instances are made.
-ghost use Rattle.std.specs.Prelude.{◌<◌, [], length, map, IsTrue};
+ghost use Rattle.std.specs.Prelude.{◌<◌, [], length, map, IfOk, IsTrue};
 ghost use Rattle.std.specs.Option.{ForSome};
 ghost use Rattle.stt_core.specs.Canonical.{IsCanonical};
 ghost use Rattle.stt_core.specs.SimpleType.{formula};
@@ -71,17 +71,17 @@ impl Tables {
     }
 
     /// Whether the number is that of a closed formula.
-    fn is_formula(&self, id: Id) -> bool
-        ensures within { IsTrue result → id < length self.now.bank.terms }
-        ensures formula { IsTrue result → IsCanonical (content_scope self.now.bank) [] formula (term_at self.now.bank.terms id) }
+    fn is_formula(&self, id: Id) -> Result<bool, AllocError>
+        ensures within { IfOk result (λ is. IsTrue is → id < length self.now.bank.terms) }
+        ensures formula { IfOk result (λ is. IsTrue is → IsCanonical (content_scope self.now.bank) [] formula (term_at self.now.bank.terms id)) }
     {
-        if id >= self.bank.len() {
-            return false;
+        if id as usize >= self.bank.len() {
+            return Ok(false);
         }
         if !self.bank.is_closed(id) {
-            return false;
+            return Ok(false);
         }
-        self.bank.ty(id).same(&Ty::Base(0))
+        Ok(self.bank.ty(id)?.same(&Ty::Base(0)))
     }
 
     /// The literal of the formula that a text stands for.
@@ -90,7 +90,7 @@ impl Tables {
         ensures { IsSound self.new }
     {
         let id = self.term(text)?;
-        if self.is_formula(id) {
+        if self.is_formula(id)? {
             Ok(self.lits.lit_of(&self.bank, id)?)
         } else {
             Err(RowRefused::Unread)
@@ -124,7 +124,7 @@ impl Tables {
         ensures { IsTrue result → ForSome id (λ i. i < length self.now.bank.terms) }
     {
         match id {
-            Some(id) => id < self.bank.len(),
+            Some(id) => (id as usize) < self.bank.len(),
             None => true,
         }
     }
@@ -207,7 +207,7 @@ impl Tables {
     }
 
     fn write_term(&self, id: Id, out: &mut String) -> Result<(), AllocError> {
-        if id >= self.bank.len() {
+        if id as usize >= self.bank.len() {
             return out.push('?');
         }
         write_nf(out, &self.bank.export(id)?)

@@ -12,10 +12,10 @@ instantiate-requires-clause-fits c =
     record {
       ctx = [];
       applies = record {
-        argument = the_type c.ty-2.result.now;
+        argument = the_type c.in_ok-argument_type.argument_type;
         result = t.0;
-        function_in = subst (λ a. IsCanonical (content_scope b) [] a (term_at b.terms c.args.function)) t.1 c.ty.ensures;
-        argument_in = c.ty-2.ensures;
+        function_in = subst (λ a. IsCanonical (content_scope b) [] a (term_at b.terms c.args.function)) t.1 c.in_ok-function_type.ensures;
+        argument_in = c.in_ok-argument_type.ensures;
       };
     }
 

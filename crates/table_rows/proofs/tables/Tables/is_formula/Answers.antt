@@ -10,4 +10,4 @@ use Rattle.table_rows.proofs.tables.Tables.is_formula.Goals as goal
 pub returns-clause-formula : goal.returns-clause-formula
 returns-clause-formula c = λ h.
     let b = c.args.self.now.bank in
-    subst (λ a. IsCanonical (content_scope b) [] a (term_at b.terms c.args.id)) (same_type-true (the_type c.ty.result.now) formula (sym c.same.ensures ∙ h)) c.ty.ensures
+    subst (λ a. IsCanonical (content_scope b) [] a (term_at b.terms c.args.id)) (same_type-true (the_type c.in_ok-ty.field-0) formula (sym c.same.ensures ∙ h)) c.in_ok-ty.ensures
