@@ -101,3 +101,8 @@ leaf_head (head.All a) = tt
 leaf_head (head.Eq a) = tt
 leaf_head (head.Choice a) = tt
 leaf_head (head.Desc a) = tt
+
+-- an application behind a space
+pub argument_text-applied : (names : Names) (bs : List SimpleType) (h : Lambda) (us : List Lambda) (t : Lambda) → IsLeaf h → length bs ≡ 0 → length us ≢ 0 → lambdas bs (applied h us) ≡ t → codes " (" ++ (term_text (named_term names h) ++ (arguments_text names us ++ codes ")")) ≡ argument_text names t
+argument_text-applied names [] h us t l none some e = ap (λ x. codes " " ++ x) (applied_text-some names h us some ∙ whole_text names [] h us t l e)
+argument_text-applied names (a ∷ bs) h us t l none some e = absurd (omega (arith, none))

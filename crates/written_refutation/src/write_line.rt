@@ -1,13 +1,13 @@
 //! Writes rows and lines.
 
-ghost use Rattle.std.specs.Prelude.{map, OnOk, OnErr};
-ghost use Rattle.written_refutation.specs.Text.{child_text, branch_text, children_text, row_texts, line_texts, as_bytes};
+ghost use Rattle.std.specs.Prelude.{◌≡◌, ◌++◌, map, OnOk, OnErr};
+ghost use Rattle.written_refutation.specs.Text.{sign_text, child_text, branch_text, children_text, row_texts, line_texts, as_bytes};
 ghost use Rattle.written_refutation.specs.Named.{names_of, named_term, named_literal, named_line, HasNames, HaveNames, HasLineNames, RowsHaveNames, LinesHaveNames};
 ghost use Rattle.written_refutation.specs.Means.Pieces.{comma_before, literal_at, child_at, row_line, line_end, line_line};
 ghost use Rattle.outside.specs.Writing.{Took, Stopped};
 
 use crate::write_bytes::{write, write_numbered};
-use crate::write_rule::{write_literal, write_rule};
+use crate::write_rule::write_rule;
 use crate::write_term::write_term;
 use outside::{Failed, Sink};
 use stt_core::Signature;
@@ -24,6 +24,18 @@ fn write_comma<S: Sink>(sink: &mut S, place: usize) -> Result<(), Failed>
     Ok(())
 }
 
+/// What stands before the atom of the literal at this place of a list.
+fn before_atom(place: usize, positive: bool) -> &'static [u8]
+    ensures { result.now ≡ comma_before place ++ sign_text positive }
+{
+    match (place > 0, positive) {
+        (true, true) => b",+",
+        (true, false) => b",-",
+        (false, true) => b"+",
+        (false, false) => b"-",
+    }
+}
+
 fn write_literal_at<S: Sink>(
     sink: &mut S,
     sig: &Signature,
@@ -36,8 +48,8 @@ fn write_literal_at<S: Sink>(
     ensures stopped { OnErr result (Stopped S.tells S.written S.faults sink.old sink.new
         (literal_at (names_of sig.now.bases sig.now.consts) place lit.now)) }
 {
-    write_comma(sink, place)?;
-    write_literal(sink, sig, lit)?;
+    write(sink, before_atom(place, lit.positive))?;
+    write_term(sink, sig, &lit.atom)?;
     Ok(())
 }
 

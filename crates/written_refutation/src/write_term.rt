@@ -95,6 +95,44 @@ fn write_head<S: Sink>(sink: &mut S, sig: &Signature, head: &Head) -> Result<(),
     Ok(())
 }
 
+/// Writes a parenthesis and a head, in one piece where the head is a connective.
+fn write_opened_head<S: Sink>(sink: &mut S, sig: &Signature, head: &Head) -> Result<(), Failed>
+    requires { HasNames (names_of sig.now.bases sig.now.consts) (the_head head.now) }
+    ensures took { OnOk result (Took S.tells S.written S.faults sink.old sink.new
+        (codes "(" ++ term_text (named_term (names_of sig.now.bases sig.now.consts) (the_head head.now)))) }
+    ensures stopped { OnErr result (Stopped S.tells S.written S.faults sink.old sink.new
+        (codes "(" ++ term_text (named_term (names_of sig.now.bases sig.now.consts) (the_head head.now)))) }
+{
+    match head {
+        Head::Not => write(sink, b"($not")?,
+        Head::Imp => write(sink, b"($imp")?,
+        _ => {
+            write(sink, b"(")?;
+            write_head(sink, sig, head)?;
+        }
+    }
+    Ok(())
+}
+
+/// Writes a space, a parenthesis and a head, in one piece where the head is a connective.
+fn write_spaced_head<S: Sink>(sink: &mut S, sig: &Signature, head: &Head) -> Result<(), Failed>
+    requires { HasNames (names_of sig.now.bases sig.now.consts) (the_head head.now) }
+    ensures took { OnOk result (Took S.tells S.written S.faults sink.old sink.new
+        (codes " (" ++ term_text (named_term (names_of sig.now.bases sig.now.consts) (the_head head.now)))) }
+    ensures stopped { OnErr result (Stopped S.tells S.written S.faults sink.old sink.new
+        (codes " (" ++ term_text (named_term (names_of sig.now.bases sig.now.consts) (the_head head.now)))) }
+{
+    match head {
+        Head::Not => write(sink, b" ($not")?,
+        Head::Imp => write(sink, b" ($imp")?,
+        _ => {
+            write(sink, b" (")?;
+            write_head(sink, sig, head)?;
+        }
+    }
+    Ok(())
+}
+
 fn write_binders<S: Sink>(sink: &mut S, sig: &Signature, binders: &Types) -> Result<(), Failed>
     requires { BindersHaveNames (names_of sig.now.bases sig.now.consts) binders.now }
     ensures took { OnOk result (Took S.tells S.written S.faults sink.old sink.new
@@ -123,6 +161,7 @@ fn write_arguments<S: Sink>(sink: &mut S, sig: &Signature, args: &Nfs) -> Result
     Ok(())
 }
 
+/// Writes an argument behind a space, which is one piece with the parenthesis and the head of an application.
 #[cycle(term)]
 fn write_argument<S: Sink>(sink: &mut S, sig: &Signature, arg: &Nf) -> Result<(), Failed>
     requires { HasNames (names_of sig.now.bases sig.now.consts) arg.now }
@@ -131,8 +170,14 @@ fn write_argument<S: Sink>(sink: &mut S, sig: &Signature, arg: &Nf) -> Result<()
     ensures stopped { OnErr result (Stopped S.tells S.written S.faults sink.old sink.new
         (argument_text (names_of sig.now.bases sig.now.consts) arg.now)) }
 {
-    write(sink, b" ")?;
-    write_term(sink, sig, arg)?;
+    if arg.binders.len() == 0 && arg.args.len() > 0 {
+        write_spaced_head(sink, sig, &arg.head)?;
+        write_arguments(sink, sig, &arg.args)?;
+        write(sink, b")")?;
+    } else {
+        write(sink, b" ")?;
+        write_term(sink, sig, arg)?;
+    }
     Ok(())
 }
 
@@ -154,8 +199,7 @@ fn write_applied<S: Sink>(
     if args.len() == 0 {
         write_head(sink, sig, head)?;
     } else {
-        write(sink, b"(")?;
-        write_head(sink, sig, head)?;
+        write_opened_head(sink, sig, head)?;
         write_arguments(sink, sig, args)?;
         write(sink, b")")?;
     }
