@@ -15,6 +15,9 @@ fn is_within(nf: &Nf, limit: usize) -> bool
     ensures { IsTrue result ↔ IsWithin limit nf.now }
 {
     let binders = nf.binders.len();
+    if binders == 0 && nf.args.len() == 0 {
+        return is_small_head(&nf.head);
+    }
     if binders > limit {
         return false;
     }

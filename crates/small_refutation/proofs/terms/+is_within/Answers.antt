@@ -20,7 +20,7 @@ returns-then-not-are_small_types t c =
 pub returns-then-not-is_small_head : goal.returns-then-not-is_small_head
 returns-then-not-is_small_head t c =
     let i = c.nf.inside in
-    (λ h. absurd (untrue h refl), λ w. absurd (untrue (c.is_small_head.ensures.1 (within-parts c.args.limit i.binders i.head i.args c.args.nf.now c.nf.view_is w).head) c.if-not-is_small_head.true))
+    (λ h. absurd (untrue h refl), λ w. absurd (untrue (c.is_small_head-2.ensures.1 (within-parts c.args.limit i.binders i.head i.args c.args.nf.now c.nf.view_is w).head) c.if-not-is_small_head.true))
 
 pub returns-then-binders-limit-2 : goal.returns-then-binders-limit-2
 returns-then-binders-limit-2 t c =
@@ -57,7 +57,7 @@ returns t c =
       λ h. parts-within c.args.limit i.binders i.head i.args c.args.nf.now c.nf.view_is record {
         few = omega (arith, c.len-binders.ensures, c.if-binders-limit.false);
         types = c.are_small_types.ensures.0 c.if-not-are_small_types.false;
-        head = c.is_small_head.ensures.0 c.if-not-is_small_head.false;
+        head = c.is_small_head-2.ensures.0 c.if-not-is_small_head.false;
         arguments = all;
       },
       λ w. refl,
