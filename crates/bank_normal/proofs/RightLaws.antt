@@ -8,9 +8,9 @@ use Rattle.stt_normal.specs.Normal.{replace, apply, eta}
 use Rattle.term_bank.specs.Content.{Content, content_scope, HasTerm, Grows}
 use Rattle.term_bank.specs.Terms.{term_at}
 use Rattle.term_bank.proofs.GrowLaws.{grown_scope, grown_term, grown_at, grown_within}
-use Rattle.bank_normal.specs.Known.{Known}
+use Rattle.bank_normal.specs.Known.{Known, KnownVariable}
 use Rattle.bank_normal.specs.Means.Memos.{KnowsOnly}
-use Rattle.bank_normal.specs.Right.{term_ways, IsLifted, IsReplaced, IsApplied, IsLong, AllKnown, IsRight}
+use Rattle.bank_normal.specs.Right.{term_ways, IsLifted, IsReplaced, IsApplied, IsLong, IsLongVariable, AllKnown, IsRight}
 use Rattle.bank_normal.specs.declared.normaliser.Normaliser.{Normaliser}
 
 lifted_grown : (a b : Content) (k : Known) → Grows a b → IsLifted a k → IsLifted b k
@@ -44,6 +44,9 @@ long_grown a b k g h = record {
   result_is = grown_term a b k.result _ g h.result_is;
 }
 
+variable_grown : (a b : Content) (k : KnownVariable) → Grows a b → IsLongVariable a k → IsLongVariable b k
+variable_grown a b k g h = grown_term a b k.result _ g h
+
 -- a memo that is right stays so when the bank grows
 pub right_grown : (n : Normaliser) (a b : Content) → Grows a b → IsRight n a → IsRight n b
 right_grown n a b g h = record {
@@ -51,10 +54,11 @@ right_grown n a b g h = record {
   replaced = λ k j. replaced_grown a b k g (h.replaced k j);
   applied = λ k j. applied_grown a b k g (h.applied k j);
   long = λ k j. long_grown a b k g (h.long k j);
+  variables = λ k j. variable_grown a b k g (h.variables k j);
 }
 
 -- one thing more is known
-pub all_known : (P : Known → Type 0) (old new : List Known) (k : Known) → AllKnown P old → KnowsOnly old new k → P k → AllKnown P new
+pub all_known : {A : Type 0} (P : A → Type 0) (old new : List A) (k : A) → AllKnown P old → KnowsOnly old new k → P k → AllKnown P new
 all_known P old new k all only here j h = ⊎_elim (λ before. all j before) (λ same. subst P (sym same) here) (only j h)
 
 -- what was just worked out
