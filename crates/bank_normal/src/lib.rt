@@ -9,6 +9,7 @@ mod memo;
 mod normal;
 mod normaliser;
 mod replace;
+mod variables;
 
 pub use law::memos_stay_right;
 pub use normaliser::Normaliser;
