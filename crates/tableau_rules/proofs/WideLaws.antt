@@ -150,4 +150,5 @@ right_by n b c d e h = record {
         type_is = subst (λ cs. slice_get (map (λ (y : TypedName). y.type) cs) k.term ≡ Some x.type) (sym d) x.type_is;
         result_is = subst (λ ts. HasTerm (record c { terms = ts }) k.result (eta x.type (constant (name k.term)))) (sym e) x.result_is;
       };
+  variables = λ k i. subst (λ ts. HasTerm (record c { terms = ts }) k.result (eta k.type (bound 0))) (sym e) (h.variables k i);
 }
