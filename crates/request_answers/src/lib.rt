@@ -9,7 +9,6 @@ mod mode;
 mod request;
 mod solve;
 mod stated;
-mod text;
 
 pub use law::one_check;
 pub use request::{answer, name_of};

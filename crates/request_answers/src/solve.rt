@@ -6,12 +6,11 @@ ghost use Rattle.tableau_run.specs.Ended.{EndsAs};
 ghost use Rattle.request_answers.specs.Means.Texts.{HasTexts};
 ghost use Rattle.request_answers.specs.Solved.{claim_of, IsSolved};
 
-use crate::text::refutation_text;
 use delta_defs::{taken, unfold_problem};
 use mode_file::Mode;
 use std::alloc::{AllocError, Global};
 use stt_core::Problem;
-use szs_report::{Answer, Claim};
+use szs_report::{Answer, Claim, ProofText};
 use tableau_run::{Ended, run};
 
 /// What a refutation of the problem's start shows.
@@ -41,7 +40,7 @@ fn ended_answer(
             refutation,
         } => {
             let names = taken(alloc, problem)?;
-            let text = refutation_text(alloc, &problem.signature, names.as_slice(), &refutation)?;
+            let text = ProofText::new(alloc, &problem.signature, names.as_slice(), refutation)?;
             Ok(Answer::Proved {
                 claim: claim_of(problem),
                 commands,

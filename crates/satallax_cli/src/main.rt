@@ -1,8 +1,9 @@
 // Runs the prover on the words of the command line.
 #![tactic(auto)]
 
-use outside::{StdFiles, StdSink};
-use satallax_top::{Words, satallax};
+use buffered_sink::BufferedSink;
+use outside::{Failed, StdFiles, StdSink};
+use satallax_top::{Outcome, Words, satallax};
 use std::alloc::{AllocError, Global};
 use std::process::ExitCode;
 use std::{env, io};
@@ -38,6 +39,11 @@ fn main(rt: HostRuntime) -> ExitCode {
     };
     let alloc = rt.alloc();
     let mut files = StdFiles::new(&rt);
-    let mut out = StdSink::new(io::writer(&rt));
-    ExitCode::from(satallax(alloc, &words, &mut files, &mut out).status())
+    let mut out = BufferedSink::new(StdSink::new(io::writer(&rt)));
+    let outcome = satallax(alloc, &words, &mut files, &mut out);
+    let outcome = match out.flush() {
+        Ok(()) => outcome,
+        Err(Failed) => Outcome::WriteFault,
+    };
+    ExitCode::from(outcome.status())
 }

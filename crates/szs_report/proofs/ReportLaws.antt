@@ -1,22 +1,11 @@
 -- The pieces in which a report is written.
-use Rattle.std.proofs.Common.{◌≡◌, ℕ, List, [], ◌∷◌, ◌++◌, codes, refl, ap, ◌∙◌, append_assoc}
+use Rattle.std.proofs.Common.{◌≡◌, ℕ, List, [], ◌∷◌, ◌++◌, codes, ap, ◌∙◌, append_assoc}
 use Rattle.written_refutation.specs.Text.{as_bytes}
-use Rattle.refute_text.specs.Reading.{start_mark, end_mark}
-use Rattle.szs_report.specs.Report.{headed, counted_report, demo_report, refused_report}
+use Rattle.refute_text.specs.Reading.{start_mark}
+use Rattle.szs_report.specs.Report.{headed, demo_report, refused_report}
 
--- lines, and what follows them
-abbrev lines_then : List (List ℕ) → List ℕ → List ℕ
-lines_then [] rest = rest
-lines_then (l ∷ lines) rest = l ++ (10 ∷ lines_then lines rest)
-
-pub as_bytes-append : (lines : List (List ℕ)) (rest : List ℕ) → as_bytes lines ++ rest ≡ lines_then lines rest
-as_bytes-append [] rest = refl
-as_bytes-append (l ∷ lines) rest = append_assoc l (10 ∷ as_bytes lines) rest ∙ ap (λ x. l ++ (10 ∷ x)) (as_bytes-append lines rest)
-
-pub counted_report-pieces : (status name count text : List ℕ) → counted_report status name count text ≡ status ++ (name ++ (codes "\n% commands " ++ (count ++ (codes "\n% SZS output start Refutation for " ++ (name ++ (codes "\n" ++ (text ++ (codes "% SZS output end Refutation for " ++ (name ++ (codes "\n" ++ []))))))))))
-counted_report-pieces status name count text =
-    as_bytes-append ((status ++ name) ∷ (codes "% commands " ++ count) ∷ (start_mark ++ name) ∷ []) (text ++ as_bytes ((end_mark ++ name) ∷ []))
-    ∙ append_assoc status name _
+pub proof_start-pieces : (status name count : List ℕ) → as_bytes ((status ++ name) ∷ (codes "% commands " ++ count) ∷ (start_mark ++ name) ∷ []) ≡ status ++ (name ++ (codes "\n% commands " ++ (count ++ (codes "\n% SZS output start Refutation for " ++ (name ++ (codes "\n" ++ []))))))
+proof_start-pieces status name count = append_assoc status name _
 
 headed-pieces : (status name word what : List ℕ) → headed status name word what ≡ status ++ (name ++ (codes "\n" ++ (word ++ (what ++ codes "\n"))))
 headed-pieces status name word what =

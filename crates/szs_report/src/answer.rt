@@ -6,6 +6,7 @@ ghost use Rattle.szs_report.specs.Report.{file_name};
 ghost use Rattle.szs_report.specs.declared.outcome.Outcome.TheVariants as outcome;
 
 use crate::outcome::{FileRef, IncludeWhy, ModeWhy, Outcome};
+use crate::proof_text::ProofText;
 use outside::Bytes;
 use stt_tableau::Why;
 use thf_include::FileNames;
@@ -38,7 +39,7 @@ pub enum Answer {
     Proved {
         claim: Claim,
         commands: u32,
-        text: Bytes,
+        text: ProofText,
     },
     /// No command is left after so many, and nothing is proved.
     GaveUp {

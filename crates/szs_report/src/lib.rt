@@ -4,8 +4,10 @@
 mod answer;
 mod causes;
 mod outcome;
+mod proof_text;
 mod report;
 
 pub use answer::{Answer, Claim, NamedFile};
 pub use outcome::{FileRef, IncludeWhy, ModeWhy, Outcome};
+pub use proof_text::ProofText;
 pub use report::write_report;

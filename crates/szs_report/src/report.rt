@@ -3,14 +3,17 @@
 ghost use Rattle.std.specs.Prelude.{◌≡◌, ◌≤◌, ◌++◌, [], ◌∷◌, OnOk, OnErr, IsTrue, codes, decimal};
 ghost use Rattle.outside.specs.Causes.{Rose};
 ghost use Rattle.outside.specs.Prefix.{AppendsProperly};
+ghost use Rattle.outside.specs.Writing.{Took, Stopped};
 ghost use Rattle.written_refutation.specs.Text.{as_bytes};
+ghost use Rattle.refute_text.specs.Reading.{start_mark, end_mark};
 ghost use Rattle.szs_report.specs.Report.{headed, counted_report, proof_report, claim_status, file_name, place_in, ill_word, include_word, mode_word, why_word, refused_report, refused_in, demo_report, line_why, report_of};
 
 use crate::answer::{Answer, Claim, NamedFile};
 use crate::causes::{ill_word, include_word, mode_word, why_word};
 use crate::outcome::{IncludeWhy, ModeWhy};
+use crate::proof_text::ProofText;
 use itoa::Buffer;
-use outside::{Bytes, Failed, Sink, write_all_counted, write_pieces};
+use outside::{Failed, Sink, write_all_counted, write_pieces};
 use stt_tableau::Why;
 use type_check::IllWhy;
 
@@ -44,22 +47,17 @@ fn write_headed<S: Sink>(
     write_pieces(out, &[status, name, b"\n", word, what, b"\n"])
 }
 
-/// Writes the pieces of the report of a proof after so many commands, in digits.
-fn write_proof_pieces<S: Sink>(
+/// Writes the lines above the text of a refutation that came after so many commands, in digits.
+fn write_proof_start<S: Sink>(
     out: &mut S,
     status: &[u8],
     name: &[u8],
     commands: &[u8],
-    text: &[u8],
 ) -> Result<(), Failed>
-    ensures appended { OnOk result (IsTrue (S.tells out.old)
-        → S.written out.new ≡ S.written out.old ++ counted_report status.now name.now commands.now text.now) }
-    ensures failed { OnErr result (IsTrue (S.tells out.old)
-        → AppendsProperly (S.written out.old) (S.written out.new) (counted_report status.now name.now commands.now text.now)) }
-    ensures quiet { OnOk result (S.faults out.new ≡ S.faults out.old) }
-    ensures cause { OnErr result (Rose (S.faults out.old) (S.faults out.new)) }
-    ensures later { S.faults out.old ≤ S.faults out.new }
-    ensures telling { IsTrue (S.tells out.old) → IsTrue (S.tells out.new) }
+    ensures took { OnOk result (Took S.tells S.written S.faults out.old out.new
+        (as_bytes ((status.now ++ name.now) ∷ (codes "% commands " ++ commands.now) ∷ (start_mark ++ name.now) ∷ []))) }
+    ensures stopped { OnErr result (Stopped S.tells S.written S.faults out.old out.new
+        (as_bytes ((status.now ++ name.now) ∷ (codes "% commands " ++ commands.now) ∷ (start_mark ++ name.now) ∷ []))) }
 {
     write_pieces(
         out,
@@ -71,12 +69,44 @@ fn write_proof_pieces<S: Sink>(
             b"\n% SZS output start Refutation for ",
             name,
             b"\n",
-            text,
-            b"% SZS output end Refutation for ",
-            name,
-            b"\n",
         ],
-    )
+    )?;
+    Ok(())
+}
+
+/// Writes the text of a refutation.
+fn write_text<S: Sink>(out: &mut S, text: &ProofText) -> Result<(), Failed>
+    ensures took { OnOk result (Took S.tells S.written S.faults out.old out.new text.now) }
+    ensures stopped { OnErr result (Stopped S.tells S.written S.faults out.old out.new text.now) }
+{
+    text.write_to(out)?;
+    Ok(())
+}
+
+/// Writes the line below the text of a refutation.
+fn write_proof_end<S: Sink>(out: &mut S, name: &[u8]) -> Result<(), Failed>
+    ensures took { OnOk result (Took S.tells S.written S.faults out.old out.new (as_bytes ((end_mark ++ name.now) ∷ []))) }
+    ensures stopped { OnErr result (Stopped S.tells S.written S.faults out.old out.new (as_bytes ((end_mark ++ name.now) ∷ []))) }
+{
+    write_pieces(out, &[b"% SZS output end Refutation for ", name, b"\n"])?;
+    Ok(())
+}
+
+/// Writes the parts of the report of a proof after so many commands, in digits.
+fn write_proof_parts<S: Sink>(
+    out: &mut S,
+    status: &[u8],
+    name: &[u8],
+    commands: &[u8],
+    text: &ProofText,
+) -> Result<(), Failed>
+    ensures took { OnOk result (Took S.tells S.written S.faults out.old out.new (counted_report status.now name.now commands.now text.now)) }
+    ensures stopped { OnErr result (Stopped S.tells S.written S.faults out.old out.new (counted_report status.now name.now commands.now text.now)) }
+{
+    write_proof_start(out, status, name, commands)?;
+    write_text(out, text)?;
+    write_proof_end(out, name)?;
+    Ok(())
 }
 
 /// The head of the report of a proof.
@@ -95,7 +125,7 @@ fn write_proof<S: Sink>(
     name: &[u8],
     claim: Claim,
     commands: u32,
-    text: &Bytes,
+    text: &ProofText,
 ) -> Result<(), Failed>
     ensures appended { OnOk result (IsTrue (S.tells out.old)
         → S.written out.new ≡ S.written out.old ++ proof_report (claim_status claim) name.now commands text.now) }
@@ -109,7 +139,8 @@ fn write_proof<S: Sink>(
     let mut buffer = Buffer::new();
     let digits = buffer.format(commands).as_bytes();
     let status = claim_status(claim);
-    write_proof_pieces(out, status, name, digits, text.as_slice())
+    write_proof_parts(out, status, name, digits, text)?;
+    Ok(())
 }
 
 /// Writes a report of two lines, of which the second ends with a number.
