@@ -10,15 +10,15 @@ use Rattle.request_answers.specs.Names.{names_in}
 use Rattle.request_answers.proofs.SolvedLaws.{run_named, proof_of_run}
 use Rattle.request_answers.proofs.solve.ended_answer.Goals as goal
 
-pub refutation_text-requires-clause-places : goal.refutation_text-requires-clause-places
-refutation_text-requires-clause-places c =
+pub new-requires-clause-places : goal.new-requires-clause-places
+new-requires-clause-places c =
     let p = c.args.problem.now in
     let names = c.as_slice.ensures ∙ c.in_ok-names-in-Proved.ensures.names in
     subst (λ q. ArePlaces (names_in q) c.as_slice.result.now) (sym c.problem.view_is)
     (subst (ArePlaces (names_in p)) (sym names) (places_named p (taken_names p) (taken_declared p c.requires.texts.typed)))
 
-pub refutation_text-requires-clause-named : goal.refutation_text-requires-clause-named
-refutation_text-requires-clause-named c =
+pub new-requires-clause-named : goal.new-requires-clause-named
+new-requires-clause-named c =
     let p = c.args.problem.now in
     let m = c.args.mode.now in
     subst (λ q. IsNamed (names_in q) c.in-Proved.refutation) (sym c.problem.view_is)
