@@ -8,12 +8,12 @@ use Rattle.term_bank.specs.Content.{Content}
 use Rattle.term_bank.specs.Terms.{term_at}
 use Rattle.term_bank.proofs.ListLaws.{get_or-front}
 use Rattle.literal_map.specs.Atoms.{IsAtom, Begins}
-use Rattle.tableau_rules.specs.Means.Numbered.{IsFormula, AreFormulas, AllFormulas, IsNumbered, AreNumbered, AllNumbered}
+use Rattle.tableau_rules.specs.Means.Numbered.{IsSignedFormula, AreFormulas, AllFormulas, IsNumbered, AreNumbered, AllNumbered}
 use Rattle.tableau_rules.specs.declared.draft.Signed.{Signed}
 
-pub formula_at : (b : Content) (draft : List Signed) (i : ℕ) (s : Signed) → AreFormulas b draft → slice_get draft i ≡ Some s → IsFormula b s
+pub formula_at : (b : Content) (draft : List Signed) (i : ℕ) (s : Signed) → AreFormulas b draft → slice_get draft i ≡ Some s → IsSignedFormula b s
 formula_at b [] i s h e = cc
-formula_at b (x ∷ draft) zero s h e = subst (IsFormula b) (same_Some x s e) h.0
+formula_at b (x ∷ draft) zero s h e = subst (IsSignedFormula b) (same_Some x s e) h.0
 formula_at b (x ∷ draft) (suc i) s h e = formula_at b draft i s h.1 e
 
 pub formulas_at : (b : Content) (drafts : List (List Signed)) (i : ℕ) (d : List Signed) → AllFormulas b drafts → slice_get drafts i ≡ Some d → AreFormulas b d

@@ -3,7 +3,7 @@ ghost use Rattle.std.specs.Prelude.{◌≡◌, ◌<◌, length, map, IfOk, OnErr
 ghost use Rattle.term_bank.specs.Terms.{term_at};
 ghost use Rattle.literal_map.specs.Atoms.{literal_at, IsAtom, Begins};
 ghost use Rattle.tableau_rules.specs.Means.Drafted.{principal_at, signed_at, alternatives_at, IsPrincipal};
-ghost use Rattle.tableau_rules.specs.Means.Numbered.{IsFormula, AreFormulas, AllFormulas, IsNumbered, AreNumbered, AllNumbered};
+ghost use Rattle.tableau_rules.specs.Means.Numbered.{IsSignedFormula, AreFormulas, AllFormulas, IsNumbered, AreNumbered, AllNumbered};
 
 use crate::draft::{Draft, Drafts, Principal, Signed};
 use literal_map::{LitList, LitLists, LitTable};
@@ -25,7 +25,7 @@ pub(crate) fn principal_of(bank: &Bank, lits: &LitTable, lit: SatLit) -> Princip
 }
 
 fn number_signed(bank: &Bank, lits: &mut LitTable, signed: Signed) -> Result<SatLit, AllocError>
-    requires formula { IsFormula bank.now signed }
+    requires formula { IsSignedFormula bank.now signed }
     requires atoms { All (IsAtom bank.now) lits.old }
     ensures numbered { IfOk result (IsNumbered bank.now lits.new signed) }
     ensures begins { Begins lits.old lits.new }

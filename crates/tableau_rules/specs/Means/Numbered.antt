@@ -10,13 +10,13 @@ use Rattle.tableau_rules.specs.Means.Drafted.{signed_at}
 use Rattle.tableau_rules.specs.declared.draft.Signed.{Signed}
 
 -- a closed formula of the bank
-pub record IsFormula (b : Content) (s : Signed) : Type 0 where
+pub record IsSignedFormula (b : Content) (s : Signed) : Type 0 where
   pub within : s.formula < length b.terms
   pub typed : IsCanonical (content_scope b) [] formula (term_at b.terms s.formula)
 
 abbrev pub AreFormulas : Content → List Signed → Type 0
 AreFormulas b [] = Unit {0}
-AreFormulas b (s ∷ draft) = IsFormula b s × AreFormulas b draft
+AreFormulas b (s ∷ draft) = IsSignedFormula b s × AreFormulas b draft
 
 abbrev pub AllFormulas : Content → List (List Signed) → Type 0
 AllFormulas b [] = Unit {0}
