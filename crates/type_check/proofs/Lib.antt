@@ -2,6 +2,7 @@ pub mod DeclaredNames
 pub mod TypedProblems
 mod BinderLaws
 mod DeclaredTypes
+mod Maps
 mod MoreDeclared
 mod OutcomeLaws
 pub mod ProblemLaws

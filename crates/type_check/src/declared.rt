@@ -8,7 +8,7 @@ ghost use Rattle.stt_core.specs.View.{the_type};
 
 use crate::typed::{TypeOf, Typed};
 use std::alloc::{AllocError, Global};
-use std::collections::BTreeMap;
+use std::collections::HashMap;
 use std::marker::Model;
 use stt_core::{Signature, Symbol, Term, Ty};
 
@@ -16,15 +16,14 @@ use stt_core::{Signature, Symbol, Term, Ty};
 #[derive(Drop)]
 pub(crate) struct Declared {
     signature: Signature,
-    symbols: BTreeMap<Vec<u8>, Symbol>,
+    symbols: HashMap<Vec<u8>, Symbol>,
     alloc: Global,
 }
 
 impl Model for Declared {
     ghost use Rattle.std.specs.Prelude.{◌≡◌, List, ℕ};
-    ghost use Rattle.std.specs.BTreeMap.{get_by};
-    ghost use Rattle.std.specs.Cmp.Lexicographic.{slice_cmp};
-    ghost use Rattle.std.specs.Ordering.{nat_cmp};
+    ghost use Rattle.std.specs.HashMap.{get_by};
+    ghost use Rattle.std.specs.Str.{bytes_eq};
     ghost use Rattle.stt_core.specs.Signature.{symbol_named};
     ghost use Rattle.stt_core.specs.Declarations.{Declarations, declarations_code};
 
@@ -34,7 +33,7 @@ impl Model for Declared {
 
     ghost view = { λ d. record { bases = d.signature.bases; consts = d.signature.consts } };
 
-    ghost invariant = { λ d. (name : List ℕ) → get_by (λ key. slice_cmp nat_cmp name key.items) d.symbols ≡ symbol_named d.signature.bases d.signature.consts name };
+    ghost invariant = { λ d. (name : List ℕ) → get_by (λ key. bytes_eq name key.items) d.symbols ≡ symbol_named d.signature.bases d.signature.consts name };
 }
 
 impl Declared {
@@ -44,7 +43,7 @@ impl Declared {
     {
         Declared {
             signature: Signature::new(alloc),
-            symbols: BTreeMap::new(alloc),
+            symbols: HashMap::new(alloc),
             alloc,
         }
     }

@@ -2,7 +2,8 @@ use Rattle.std.proofs.Common.{◌≡◌, ◌∙◌, length, ap, sym}
 use Rattle.stt_core.specs.Signature.{symbol_named}
 use Rattle.stt_core.specs.View.{the_type}
 use Rattle.stt_core.specs.declared.signature.Symbol.TheVariants.{Const}
-use Rattle.stt_core.proofs.Maps.{at_bytes, at_bytes-inserted, same_change}
+use Rattle.stt_core.proofs.Maps.{same_change}
+use Rattle.type_check.proofs.Maps.{at_bytes, at_bytes-inserted}
 use Rattle.type_check.proofs.Symbols.{symbol_named-const}
 use Rattle.type_check.proofs.declared.Declared.with_const.Goals as goal
 
