@@ -1,18 +1,17 @@
 -- What is answered by files.
-use Rattle.std.proofs.Common.{◌≡◌, ℕ, Bool, List, Option, None, Some, Result, Ok, Err, refl, sym, subst}
+use Rattle.std.proofs.Common.{ℕ, Bool, List, Option, Err, refl, sym, subst}
 use Rattle.stt_core.specs.PlainProblem.{PlainProblem}
 use Rattle.thf_include.specs.View.{PlacedTree}
 use Rattle.thf_include.specs.Answer.{Gathers}
-use Rattle.thf_include.specs.Gathering.{Ending, done, stopped, Stop, wants, too_long, no_tree, cycle, too_many, no_name}
+use Rattle.thf_include.specs.Gathering.{Ending, done, stopped, wants, too_long, no_tree, cycle, too_many, no_name}
 use Rattle.thf_include.specs.declared.refused.GatherRefused.{GatherRefused}
 use Rattle.thf_include.specs.declared.refused.GatherRefused.TheVariants.{Fault, TooLong, Syntax, Cycle, NoSuchName, TooMany, Memory}
-use Rattle.type_check.specs.Statements.{IllInFile, problem_of}
 use Rattle.szs_report.specs.declared.answer.Answer.{Answer}
 use Rattle.szs_report.specs.declared.answer.Answer.TheVariants as answer
 use Rattle.request_answers.specs.Files.{OfFiles, Statements}
-use Rattle.request_answers.specs.Answers.{stop_answer, AnswersStated, AnswersEnding}
+use Rattle.request_answers.specs.Answers.{AnswersStated, AnswersEnding}
 use Rattle.request_answers.specs.Means.RefusedFiles.{refused_answer}
-use Rattle.request_answers.specs.Means.Unread.{IsIllAt, IsIll, IsUnstated, IsUnread, IsFilesAnswer}
+use Rattle.request_answers.specs.Means.Unread.{IsIllAt, IsUnstated, IsUnread, IsFilesAnswer}
 
 -- what is answered where the files aren't gathered
 pub refusal_unread : (told : Bool) (contents : List ℕ → Option (List ℕ)) (name : List ℕ) (names : List (List ℕ)) (refused : GatherRefused) → Gathers told contents name names (Err refused) → IsUnread name told contents (refused_answer names refused)

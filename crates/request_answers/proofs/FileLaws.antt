@@ -11,15 +11,15 @@ use Rattle.cli_words.specs.Requests.{Request, prove, refutation, generated}
 use Rattle.problem_gen.specs.Chain.{text}
 use Rattle.szs_report.specs.Outcomes.{outcome_of}
 use Rattle.szs_report.specs.declared.answer.Answer.{Answer}
-use Rattle.szs_report.specs.declared.answer.Answer.TheVariants.{Proved, SyntaxAt, TypeAt, IncludeAt, ModeAt, TooLong, ReadFault, Memory}
+use Rattle.szs_report.specs.declared.answer.Answer.TheVariants.{Proved, ModeAt, TooLong, ReadFault, Memory}
 use Rattle.szs_report.specs.declared.answer.Claim.TheVariants.{Theorem, Unsatisfiable}
 use Rattle.szs_report.specs.declared.answer.NamedFile.TheVariants.{Part, Check}
 use Rattle.szs_report.specs.declared.answer.NamedFile.TheVariants as named
 use Rattle.request_answers.specs.Requested.{problem_name, told_of, contents_of, mode_file}
-use Rattle.request_answers.specs.Files.{OfFiles, Statements}
+use Rattle.request_answers.specs.Files.{OfFiles}
 use Rattle.request_answers.specs.Modes.{byte_limit, IsModeBy}
 use Rattle.request_answers.specs.Solved.{IsDemoed}
-use Rattle.request_answers.specs.Answers.{stop_answer, AnswersProblem, AnswersStated, AnswersEnding, AnswersFiles, AnswersRequest}
+use Rattle.request_answers.specs.Answers.{stop_answer, AnswersProblem, AnswersStated, AnswersEnding, AnswersRequest}
 use Rattle.request_answers.specs.Causes.{IsFaultIn, IsFaultOf, IsModeFault, IsTextFault, HasCauseOf}
 use Rattle.request_answers.specs.Means.ReadFaults.{IsNoReadFault}
 use Rattle.request_answers.specs.Means.Unread.{IsUnaskedMode, IsUnstated, IsUnread, IsFilesAnswer}

@@ -20,7 +20,7 @@ use Rattle.stt_tableau.specs.declared.refutation.Line.{Line}
 use Rattle.stt_tableau.specs.declared.refutation.Refutation.{Refutation}
 use Rattle.written_refutation.specs.Letters.{is_name}
 use Rattle.written_refutation.specs.Limits as text
-use Rattle.written_refutation.specs.Limits.{constant_depth, term_depth, spine_depth, IsType, IsConstant, IsTerm, IsSpine, greatest_depth, IsWithin, IsLiteral, IsRule, IsLine}
+use Rattle.written_refutation.specs.Limits.{constant_depth, term_depth, spine_depth, IsType, IsConstant, IsTerm, IsSpine, IsWithin, IsLiteral, IsRule, IsLine}
 use Rattle.written_refutation.specs.Sizes.{term_limit, nesting, nesting_in, type_depth, IsSmallTerm, AreSmallLiterals, IsSmallRule, IsSmallLine, IsSmall}
 use Rattle.written_refutation.specs.Named.{Names, name_at, named_type, named_constant, named_term, named_literal, named_rule, named_line, named_refutation, HasTypeNames, HasConstantNames, ArePlaces}
 use Rattle.refute_text.specs.Reading.{IsName, HasText}

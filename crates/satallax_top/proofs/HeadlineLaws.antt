@@ -1,5 +1,5 @@
 -- What a call answers and writes has the meaning that it claims.
-use Rattle.std.proofs.Common.{◌≡◌, ℕ, Bool, true, false, IsTrue, ◌||◌, List, [], ◌∷◌, ◌++◌, codes, decimal, Option, Some, None, Result, Ok, Err, refl, sym, ap, ap₂, subst, ◌∙◌, append-nil}
+use Rattle.std.proofs.Common.{◌≡◌, ℕ, Bool, true, IsTrue, List, ◌++◌, Option, Some, None, Result, Ok, Err, refl, sym, ap, subst, ◌∙◌}
 use Rattle.outside.specs.Causes.{Rose}
 use Rattle.stt_core.specs.PlainProblem.{PlainProblem}
 use Rattle.stt_core.specs.TypedProblem.{IsTyped}
@@ -16,8 +16,8 @@ use Rattle.written_refutation.specs.Trees.{RefutationTree}
 use Rattle.written_refutation.specs.Named.{named_refutation}
 use Rattle.refute_check.specs.Acceptance.{IsAcceptedFor}
 use Rattle.refute_check.proofs.AcceptanceLaws.{accepted_refuted}
-use Rattle.szs_report.specs.Outcomes.{claim_outcome, outcome_of}
-use Rattle.szs_report.specs.Report.{proof_report, report_of}
+use Rattle.szs_report.specs.Outcomes.{outcome_of}
+use Rattle.szs_report.specs.Report.{report_of}
 use Rattle.szs_report.specs.declared.answer.Answer.{Answer}
 use Rattle.szs_report.specs.declared.answer.Answer.TheVariants.{Proved, DemoDone, ConflictLimit, Accepted, SyntaxAt, TypeAt, IncludeAt, Words, TooLong, ReadFault, Memory, UnreadWords}
 use Rattle.szs_report.specs.declared.answer.Claim.{Claim}
@@ -32,10 +32,10 @@ use Rattle.request_answers.specs.Files.{OfFiles, OfAsked, Statements}
 use Rattle.request_answers.specs.Modes.{IsModeBy}
 use Rattle.request_answers.specs.Names.{names_in}
 use Rattle.request_answers.specs.Checked.{HoldsOnly}
-use Rattle.request_answers.specs.Solved.{IsProofOf, claim_of, IsSolved, IsDemoed}
-use Rattle.request_answers.specs.Answers.{stop_answer, AnswersProblem, AnswersStated, AnswersEnding, AnswersFiles, AnswersRequest, AnswersAsked, IsAnswer, IsDefined}
+use Rattle.request_answers.specs.Solved.{IsProofOf, claim_of}
+use Rattle.request_answers.specs.Answers.{stop_answer, AnswersProblem, AnswersStated, AnswersEnding, AnswersFiles, AnswersAsked, IsAnswer, IsDefined}
 use Rattle.request_answers.specs.Causes.{HasCauseOf, HasCauseAsked, HasCause}
-use Rattle.satallax_top.specs.Headline.{IsProvedOutcome, ShowsNoModel, IsWithoutModel, HasNoModel, IsAskedBy, IsProofReport, Appends, IsWritten, IsOutcome}
+use Rattle.satallax_top.specs.Headline.{IsProvedOutcome, ShowsNoModel, IsWithoutModel, HasNoModel, IsProofReport, Appends, IsWritten, IsOutcome}
 use Rattle.request_answers.proofs.OneLine.{name_one_line}
 use Rattle.request_answers.proofs.ReportHolds.{holds_report, accepted_report}
 use Rattle.request_answers.proofs.SolvedLaws.{proof_accepted}

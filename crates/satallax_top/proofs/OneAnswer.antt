@@ -2,10 +2,9 @@
 use Rattle.std.proofs.Common.{◌≡◌, ℕ, ◌<◌, ◌≤◌, ◌⊎◌, inl, inr, true, List, length, Option, Some, None, Result, Ok, Err, refl, sym, ap, ap₂, subst, ◌∙◌, arith}
 use Rattle.stt_core.specs.PlainProblem.{PlainProblem}
 use Rattle.stt_tableau.specs.declared.refutation.Why.{Why}
-use Rattle.thf_include.specs.Gathering.{Ending, done, stopped, wants, too_long, no_tree, cycle, too_many, no_name, IsGathering}
+use Rattle.thf_include.specs.Gathering.{Ending, done, stopped, wants, too_long, no_tree, cycle, too_many, no_name}
 use Rattle.type_check.specs.Statements.{IllInFile, problem_of}
 use Rattle.mode_file.specs.declared.Mode.{Mode as SearchMode}
-use Rattle.mode_file.specs.declared.refused.ModeRefused.{ModeRefused}
 use Rattle.outside.specs.Lines.{lines_of}
 use Rattle.mode_file.specs.Grammar.{States}
 use Rattle.mode_file.specs.Refusals.{Refuses}
@@ -13,12 +12,11 @@ use Rattle.mode_file.proofs.AnswerLaws.{one_mode, one_refusal as one_bad_line, n
 use Rattle.cli_words.specs.Requests.{Request, prove, refutation, generated, asked_by}
 use Rattle.szs_report.specs.Outcomes.{outcome_of, without_refutation}
 use Rattle.szs_report.specs.declared.answer.Answer.{Answer}
-use Rattle.szs_report.specs.declared.answer.Answer.TheVariants.{Proved, ConflictLimit, Accepted, Refused, TypeAt, ModeAt, Words, TooLong, ReadFault, Memory, UnreadWords}
-use Rattle.szs_report.specs.declared.answer.NamedFile.TheVariants.{Part, Mode, Check}
+use Rattle.szs_report.specs.declared.answer.Answer.TheVariants.{Proved, ConflictLimit, Accepted, Refused, ModeAt, Words, TooLong, ReadFault, Memory, UnreadWords}
+use Rattle.szs_report.specs.declared.answer.NamedFile.TheVariants.{Mode, Check}
 use Rattle.szs_report.specs.declared.outcome.ModeWhy.{ModeWhy}
 use Rattle.szs_report.specs.declared.outcome.ModeWhy.TheVariants.{UnknownKey, Twice, BadNumber, OutOfRange}
 use Rattle.request_answers.specs.Requested.{problem_name, mode_file, told_of, contents_of}
-use Rattle.request_answers.specs.Files.{OfFiles}
 use Rattle.request_answers.specs.Modes.{byte_limit, OfFile, IsLong, IsModeBy, refused_at, IsBadMode}
 use Rattle.request_answers.specs.Means.RefusedModes.{mode_answer}
 use Rattle.request_answers.specs.Checked.{IsAcceptedText, IsRefusedText, AnswersBytes, AnswersText}

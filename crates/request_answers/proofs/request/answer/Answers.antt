@@ -1,6 +1,6 @@
 use Rattle.std.proofs.Common.{refl, sym, subst}
 use Rattle.mode_file.specs.Given.{nothing, mode_of}
-use Rattle.cli_words.specs.Requests.{refutation, generated}
+use Rattle.cli_words.specs.Requests.{refutation}
 use Rattle.cli_words.specs.View.{the_request}
 use Rattle.request_answers.specs.Answers.{AnswersRequest}
 use Rattle.request_answers.proofs.FileLaws.{files_request}

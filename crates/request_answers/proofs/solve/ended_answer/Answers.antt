@@ -1,6 +1,5 @@
 use Rattle.std.proofs.Common.{subst, sym, ap, ◌∙◌}
 use Rattle.delta_defs.specs.Unfolding.{taken_names, unfolded_problem}
-use Rattle.delta_defs.specs.Laws.{AreDeclared}
 use Rattle.delta_defs.proofs.KeptModels.{taken_declared}
 use Rattle.tableau_run.specs.Ended.{EndsAs}
 use Rattle.refute_check.proofs.AcceptanceLaws.{places_named}
