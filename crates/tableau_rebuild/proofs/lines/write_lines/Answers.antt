@@ -1,4 +1,4 @@
-use Rattle.std.proofs.Common.{◌≡◌, ◌≤◌, ℕ, zero, suc, List, [], ◌∷◌, map, length, take, slice_index_or, sym, ap, subst, ◌∙◌, arith}
+use Rattle.std.proofs.Common.{◌≡◌, ◌≤◌, ◌<◌, ◌^◌, ℕ, zero, suc, List, [], ◌∷◌, map, length, take, slice_index_or, sym, ap, subst, ◌∙◌, arith}
 use Rattle.std.proofs.lemmas.List.{length-map}
 use Rattle.std.proofs.lemmas.Option.{slice_get-get_or}
 use Rattle.stt_core.proofs.ListLaws.{map_more}
@@ -22,6 +22,22 @@ length_front : {A : Type 0} (k : ℕ) (xs : List A) → k ≤ length xs → leng
 length_front zero xs l = omega arith
 length_front (suc k) [] l = absurd (omega (arith, l))
 length_front (suc k) (x ∷ xs) l = let rest = length_front k xs (omega (arith, l)) in omega (arith, rest)
+
+take_most : {A : Type 0} (k : ℕ) (xs : List A) → length (take k xs) ≤ k
+take_most zero xs = omega arith
+take_most (suc k) [] = omega arith
+take_most (suc k) (x ∷ xs) = let rest = take_most k xs in omega (arith, rest)
+
+pub returns-clause-small : goal.returns-clause-small
+returns-clause-small c =
+    let order = c.args.order.now in
+    let k = c.loop-k.k in
+    let A = the_atoms c.args.bank.now.terms c.args.atoms.now in
+    let tree = the_tree c.args.bank.now.terms c.args.atoms.now c.args.steps.now c.args.drafts.now in
+    let count = ap length c.loop-k.invariant.lines ∙ length-map (take k order) (λ i. line_of A (map tree order) (tree i)) in
+    let most = take_most k order in
+    let below : k < 2 ^ 64 = omega arith in
+    record { each = c.loop-k.invariant.small; numbers = omega (arith, count, most, below) }
 
 pub branch_of-requires-clause-ready : goal.branch_of-requires-clause-ready
 branch_of-requires-clause-ready c =
