@@ -1,6 +1,6 @@
 //! The sink with its buffer.
 
-ghost use Rattle.std.specs.Prelude.{◌≡◌, ◌≤◌, ◌++◌, [], OnOk, OnErr, IsTrue};
+ghost use Rattle.std.specs.Prelude.{◌≡◌, ◌≤◌, ◌++◌, [], drop, length, OnOk, OnErr, IsTrue};
 ghost use Rattle.outside.specs.Causes.{Rose};
 ghost use Rattle.outside.specs.Prefix.{AppendsProperly};
 
@@ -59,13 +59,36 @@ impl<S: Sink> BufferedSink<S> {
         ensures telling { IsTrue (S.tells self.old.sink) → IsTrue (S.tells self.new.sink) }
     {
         let (done, result) = hand_on(&mut self.sink, self.held.as_slice());
+        self.let_go(done);
+        result
+    }
+
+    /// Lets go of so many bytes from the front.
+    fn let_go(&mut self, done: usize)
+        requires { done ≤ length self.old.held }
+        ensures sink { self.new.sink ≡ self.old.sink }
+        ensures rest { self.new.held ≡ drop done self.old.held }
+    {
+        if done == self.held.len() {
+            self.held.clear();
+        } else {
+            self.keep_from(done);
+        }
+    }
+
+    /// Holds the rest alone. This is a call of its own, so that only what needs a second buffer makes one.
+    #[inline(never)]
+    fn keep_from(&mut self, done: usize)
+        requires { done ≤ length self.old.held }
+        ensures sink { self.new.sink ≡ self.old.sink }
+        ensures rest { self.new.held ≡ drop done self.old.held }
+    {
         let mut rest = ArrayVec::new();
         let left = &self.held.as_slice()[done..];
         if rest.try_extend_from_slice(left).is_err() {
             unreachable!();
         }
         self.held = rest;
-        result
     }
 }
 
@@ -77,6 +100,9 @@ impl<S: Sink> Sink for BufferedSink<S> {
     ghost faults = { λ b. S.faults b.sink };
 
     fn write(&mut self, bytes: &[u8]) -> Result<usize, Failed> {
+        if self.held.try_extend_from_slice(bytes).is_ok() {
+            return Ok(bytes.len());
+        }
         if self.held.is_full() {
             self.flush()?;
         }

@@ -6,13 +6,14 @@ use Rattle.std.proofs.lemmas.Option.{same_Some}
 use Rattle.stt_core.proofs.ListLaws.{take_got}
 
 module _ {X : Type 0} (P : X → Type 0) where
-  all_last : (xs : List X) (x : X) → AllByRecursion P xs → P x → AllByRecursion P (xs ++ x ∷ [])
-  all_last [] x h k = (k, tt)
-  all_last (y ∷ xs) x h k = (h.0, all_last xs x h.1 k)
+  -- of one more at the end
+  pub all-last : (xs : List X) (x : X) → AllByRecursion P xs → P x → AllByRecursion P (xs ++ x ∷ [])
+  all-last [] x h k = (k, tt)
+  all-last (y ∷ xs) x h k = (h.0, all-last xs x h.1 k)
 
   -- of one more
   pub all-more : (xs : List X) (i : ℕ) (x : X) → slice_get xs i ≡ Some x → AllByRecursion P (take i xs) → P x → AllByRecursion P (take (i + 1) xs)
-  all-more xs i x at h k = subst (AllByRecursion P) (sym (take_got xs i x at)) (all_last (take i xs) x h k)
+  all-more xs i x at h k = subst (AllByRecursion P) (sym (take_got xs i x at)) (all-last (take i xs) x h k)
 
   -- of all
   pub all-taken : (xs : List X) (i : ℕ) → length xs ≤ i → AllByRecursion P (take i xs) → AllByRecursion P xs

@@ -1,8 +1,9 @@
-//! Whether a refutation is small enough for a text.
+//! Whether the parts of a refutation are small enough for a text.
 #![tactic(auto)]
 
 mod lines;
 mod terms;
 mod types;
 
-pub use lines::is_small;
+pub use lines::{are_small_rows, is_small_line};
+pub use terms::is_small_term;

@@ -2,11 +2,11 @@
 ghost use Rattle.std.specs.Prelude.{◌≤◌, ◌<◌, ◌^◌, length, IsTrue, ◌↔◌};
 ghost use Rattle.std.specs.List.{AllByRecursion};
 ghost use Rattle.written_refutation.specs.Limits.{IsChild};
-ghost use Rattle.written_refutation.specs.Sizes.{IsSmallTerm, IsSmallRule, IsSmallLine, AreSmallLines, IsSmall};
-ghost use Rattle.small_refutation.specs.Means.Within.{AreSmallRows};
+ghost use Rattle.written_refutation.specs.Sizes.{IsSmallTerm, AreSmallLiterals, IsSmallRule, IsSmallLine};
+ghost use Rattle.small_refutation.specs.SmallRows.{AreSmallRows};
 
-use crate::terms::{are_small_literals, is_small_term};
-use stt_tableau::{Child, Children, Line, Lines, Refutation, Rows, RuleUse};
+use crate::terms::is_small_term;
+use stt_tableau::{Child, Children, Line, Rows, RuleUse};
 
 /// Whether a place has a number in range, as each number of the machine is.
 fn is_place(_place: usize) -> bool
@@ -59,25 +59,17 @@ fn children_in_range(children: &Children)
     }
 }
 
-fn is_small_line(line: &Line) -> bool
+/// Whether a line is small, where the literals of its branch are.
+pub fn is_small_line(line: &Line) -> bool
+    requires { AreSmallLiterals line.now.branch }
     ensures { IsTrue result ↔ IsSmallLine line.now }
 {
     children_in_range(&line.children);
-    are_small_literals(&line.branch) && is_small_rule(&line.rule)
+    is_small_rule(&line.rule)
 }
 
-fn are_small_lines(lines: &Lines) -> bool
-    ensures { IsTrue result ↔ AreSmallLines lines.now }
-{
-    for i in 0..lines.len() {
-        if !is_small_line(lines.at(i)) {
-            return false;
-        }
-    }
-    true
-}
-
-fn are_small_rows(rows: &Rows) -> bool
+/// Whether the predicates of rows are small, and the rows few enough to have numbers.
+pub fn are_small_rows(rows: &Rows) -> bool
     ensures { IsTrue result ↔ AreSmallRows rows.now }
 {
     for i in 0..rows.len() {
@@ -86,11 +78,4 @@ fn are_small_rows(rows: &Rows) -> bool
         }
     }
     rows.len() <= 1 << 32
-}
-
-/// Whether the refutation is small enough for a text, whatever names it has.
-pub fn is_small(refutation: &Refutation) -> bool
-    ensures { IsTrue result ↔ IsSmall refutation.now }
-{
-    are_small_rows(&refutation.witnesses) && are_small_lines(&refutation.lines)
 }

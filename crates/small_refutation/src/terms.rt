@@ -1,11 +1,10 @@
 //! Terms that nest no deeper than they may.
 ghost use Rattle.std.specs.Prelude.{IsTrue, ◌↔◌};
-ghost use Rattle.written_refutation.specs.Sizes.{IsSmallTerm, AreSmallLiterals};
+ghost use Rattle.written_refutation.specs.Sizes.{IsSmallTerm};
 ghost use Rattle.small_refutation.specs.Means.Within.{IsWithin};
 
 use crate::types::{are_small_types, is_small_head};
 use stt_core::Nf;
-use stt_tableau::Lits;
 
 /// How deep a term may nest.
 const TERM_LIMIT: usize = 4_096;
@@ -38,19 +37,9 @@ fn is_within(nf: &Nf, limit: usize) -> bool
     true
 }
 
-pub(crate) fn is_small_term(nf: &Nf) -> bool
+/// Whether a term is small enough for a text, whatever names it has.
+pub fn is_small_term(nf: &Nf) -> bool
     ensures { IsTrue result ↔ IsSmallTerm nf.now }
 {
     is_within(nf, TERM_LIMIT)
-}
-
-pub(crate) fn are_small_literals(lits: &Lits) -> bool
-    ensures { IsTrue result ↔ AreSmallLiterals lits.now }
-{
-    for i in 0..lits.len() {
-        if !is_small_term(&lits.at(i).atom) {
-            return false;
-        }
-    }
-    true
 }

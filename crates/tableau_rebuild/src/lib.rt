@@ -10,6 +10,7 @@ mod lines;
 mod literals;
 mod needed;
 mod numbering;
+mod packed_branch;
 mod pool;
 mod reached;
 mod refutation;

@@ -6,6 +6,7 @@ ghost use Rattle.stt_tableau.specs.declared.refutation.Child.TheVariants.{Closed
 ghost use Rattle.search_run.specs.Numbered.{literal_at};
 ghost use Rattle.term_bank.specs.Terms.{term_at};
 ghost use Rattle.literal_map.specs.Atoms.{IsAtom};
+ghost use Rattle.written_refutation.specs.Sizes.{AreSmallLiterals};
 ghost use Rattle.rebuilt_refutation.specs.Input.{literals_of};
 ghost use Rattle.rebuilt_refutation.specs.Stands.{placed, place_in};
 ghost use Rattle.tableau_rules.specs.Uses.{use_of};
@@ -161,7 +162,8 @@ fn instance_line(
     requires atoms { All (IsAtom bank.now) atoms.now }
     requires good { IsGoodUse bank.now atoms.now instance.now.by }
     requires literals { literals ≡ literals_of (the_atoms bank.now.terms atoms.now) branch.now }
-    ensures { IfOk result (λ line. line ≡ instance_by (the_atoms bank.now.terms atoms.now) branch.now (the_instance bank.now.terms atoms.now instance.now)) }
+    ensures line { IfOk result (λ line. line ≡ instance_by (the_atoms bank.now.terms atoms.now) branch.now (the_instance bank.now.terms atoms.now instance.now)) }
+    ensures branch { IfOk result (λ line. line.branch ≡ literals) }
 {
     let places = places_of(alloc, branch, &instance.principals)?;
     let rule = rule_of(bank, atoms, &instance.by, &places)?;
@@ -188,8 +190,11 @@ pub(crate) fn line_of(
     requires numbered { IsOver (length atoms.now) branch.now }
     requires makeable { IsMakeable bank.now atoms.now steps.now numbers.now draft }
     requires made { IsMade (the_atoms bank.now.terms atoms.now) pool.old }
+    requires small { AreSmallLiterals pool.old.lits }
     ensures made { OnOk result (IsMade (the_atoms bank.now.terms atoms.now) pool.new) }
+    ensures small { OnOk result (AreSmallLiterals pool.new.lits) }
     ensures line { IfOk result (λ line. IsLineBy bank.now atoms.now steps.now numbers.now branch.now draft line) }
+    ensures small_branch { IfOk result (λ line. AreSmallLiterals line.branch) }
 {
     let literals = lits_of(alloc, bank, atoms, branch, pool)?;
     match draft {

@@ -2,6 +2,7 @@
 ghost use Rattle.std.specs.Prelude.{◌≡◌, ◌<◌, ℕ, [], length, map, Some, slice_get, IfOk, All};
 ghost use Rattle.sat_base.specs.Literal.{IsOver};
 ghost use Rattle.literal_map.specs.Atoms.{IsAtom};
+ghost use Rattle.written_refutation.specs.Sizes.{AreSmallLines};
 ghost use Rattle.witness_names.specs.Rows.{rows_of, AreRows};
 ghost use Rattle.rebuilt_refutation.specs.NeededRows.{rows_for_lines};
 ghost use Rattle.rebuilt_refutation.specs.Lines.{walked, line_of as line_in};
@@ -13,14 +14,14 @@ ghost use Rattle.tableau_rebuild.specs.Means.Numbers.{AreNumbers};
 ghost use Rattle.tableau_rebuild.specs.Means.LineParts.{IsMakeable};
 ghost use Rattle.tableau_rebuild.specs.Means.Written.{the_tree};
 
-use crate::branch::branch_of;
+use crate::branch::{BranchResolver, branch_of};
 use crate::draft::Draft;
 use crate::line::line_of;
 use crate::needed::rows_for_line;
+use crate::packed_branch::PackedBranch;
 use crate::pool::Pool;
 use literal_map::LitTable;
-use sat_base::Clause;
-use sat_log::Resolver;
+use small_refutation::is_small_line;
 use std::alloc::{AllocError, Global};
 use stt_tableau::Lines;
 use tableau_clauses::StepTable;
@@ -34,7 +35,7 @@ pub(crate) struct Written {
     pub(crate) rows: usize,
 }
 
-/// The lines of the drafts in this order, of which each has its number.
+/// The lines of the drafts in this order, of which each has its number. There is no memory for one that is too large for a text.
 pub(crate) fn write_lines(
     alloc: Global,
     bank: &Bank,
@@ -56,12 +57,13 @@ pub(crate) fn write_lines(
     requires makeable { (k i : ℕ) (d : Draft) → slice_get order.now k ≡ Some i → slice_get drafts.now i ≡ Some d → IsMakeable bank.now atoms.now steps.now numbers.now d }
     requires numbered { (k i : ℕ) → slice_get order.now k ≡ Some i → IsOver (length atoms.now) (branch (the_tree bank.now.terms atoms.now steps.now drafts.now i)) }
     ensures lines { IfOk result (λ written. written.lines ≡ map (λ i. line_in (the_atoms bank.now.terms atoms.now) (map (the_tree bank.now.terms atoms.now steps.now drafts.now) order.now) (the_tree bank.now.terms atoms.now steps.now drafts.now i)) order.now) }
+    ensures small { IfOk result (λ written. AreSmallLines written.lines) }
     ensures rows { IfOk result (λ written. written.rows ≡ rows_for_lines (rows_of bank.now.terms witnesses.now) written.lines) }
 {
-    let mut branches: Vec<Clause> = Vec::new(alloc);
+    let mut branches: Vec<PackedBranch> = Vec::new(alloc);
     let mut lines = Lines::new(alloc);
     let mut rows: usize = 0;
-    let mut resolver = Resolver::new(alloc);
+    let mut resolver = BranchResolver::new(alloc);
     let mut pool = Pool::new(alloc);
     for k in 0..order.len() {
         let draft = drafts[order[k]];
@@ -77,8 +79,12 @@ pub(crate) fn write_lines(
             &mut pool,
         )?;
         rows = rows.max(rows_for_line(bank, atoms, witnesses, steps, draft, branch.as_slice()));
+        if !is_small_line(&line) {
+            return Err(AllocError);
+        }
         lines.push(line)?;
-        branches.push(branch)?;
+        let packed = PackedBranch::of(alloc, branch.as_slice())?;
+        branches.push(packed)?;
     }
     Ok(Written { lines, rows })
 }

@@ -1,12 +1,13 @@
-//! Literals of which each is made once.
+//! Literals of which each is made and checked once.
 ghost use Rattle.std.specs.Prelude.{◌≡◌, ◌<◌, [], ◌∷◌, ◌++◌, List, length, Some, slice_get, IfOk, OnOk, All};
 ghost use Rattle.stt_core.specs.Lambda.{Lambda};
 ghost use Rattle.search_run.specs.Numbered.{literal_at};
 ghost use Rattle.literal_map.specs.Atoms.{IsAtom};
+ghost use Rattle.written_refutation.specs.Sizes.{IsSmallTerm, AreSmallLiterals};
 ghost use Rattle.tableau_rebuild.specs.Tables.{the_atoms};
 ghost use Rattle.tableau_rebuild.specs.Means.Pools.{IsMade};
 
-use crate::literals::lit_of;
+use crate::literals::small_lit_of;
 use indexmap::IndexSet;
 use literal_map::LitTable;
 use sat_base::SatLit;
@@ -14,7 +15,7 @@ use std::alloc::{AllocError, Global};
 use stt_tableau::Lits;
 use term_bank::Bank;
 
-/// The literals that were made of their numbers so far. Lines share them.
+/// The literals that were made of their numbers so far, each small enough for a text. Lines share them.
 #[derive(Drop)]
 pub(crate) struct Pool {
     numbers: IndexSet<SatLit>,
@@ -24,7 +25,8 @@ pub(crate) struct Pool {
 impl Pool {
     /// A pool without literals.
     pub(crate) fn new(alloc: Global) -> Pool
-        ensures { (atoms : List Lambda) → IsMade atoms result }
+        ensures made { (atoms : List Lambda) → IsMade atoms result }
+        ensures small { AreSmallLiterals result.lits }
     {
         Pool {
             numbers: IndexSet::new(alloc),
@@ -42,12 +44,14 @@ impl Pool {
         requires atoms { All (IsAtom bank.now) atoms.now }
         requires within { literal.var.0 < length atoms.now }
         requires made { IsMade (the_atoms bank.now.terms atoms.now) self.old }
+        requires small { AreSmallLiterals self.old.lits }
         ensures made { OnOk result (IsMade (the_atoms bank.now.terms atoms.now) self.new) }
+        ensures small { OnOk result (AreSmallLiterals self.new.lits) }
         ensures place { IfOk result (λ place. slice_get self.new.lits place ≡ Some (literal_at (the_atoms bank.now.terms atoms.now) literal)) }
     {
         let (place, is_new) = self.numbers.insert_full(literal)?;
         if is_new {
-            let lit = lit_of(bank, atoms, literal)?;
+            let lit = small_lit_of(bank, atoms, literal)?;
             self.lits.push(lit)?;
             return Ok(place);
         }
@@ -65,8 +69,11 @@ impl Pool {
         requires atoms { All (IsAtom bank.now) atoms.now }
         requires within { literal.var.0 < length atoms.now }
         requires made { IsMade (the_atoms bank.now.terms atoms.now) self.old }
+        requires small { AreSmallLiterals self.old.lits }
         ensures made { OnOk result (IsMade (the_atoms bank.now.terms atoms.now) self.new) }
+        ensures small { OnOk result (AreSmallLiterals self.new.lits) }
         ensures pushed { OnOk result (lits.new ≡ lits.old ++ literal_at (the_atoms bank.now.terms atoms.now) literal ∷ []) }
+        ensures small_literal { OnOk result (IsSmallTerm (literal_at (the_atoms bank.now.terms atoms.now) literal).atom) }
     {
         let place = self.place_of(bank, atoms, literal)?;
         lits.share(&self.lits, place)?;

@@ -9,6 +9,7 @@ ghost use Rattle.term_bank.specs.Content.{content_scope};
 ghost use Rattle.literal_map.specs.Atoms.{IsAtom};
 ghost use Rattle.witness_names.specs.Rows.{rows_of, AreRows};
 ghost use Rattle.tableau_clauses.specs.Table.{the_clauses, the_instances};
+ghost use Rattle.written_refutation.specs.Sizes.{IsSmall};
 ghost use Rattle.rebuilt_refutation.specs.Lines.{lines_from};
 ghost use Rattle.rebuilt_refutation.specs.NeededRows.{rows_for_lines};
 ghost use Rattle.rebuilt_refutation.specs.Rebuilt.{IsRebuilt};
@@ -29,6 +30,7 @@ use crate::walk::walk_from;
 use literal_map::LitTable;
 use rebuilt_refutation::{rebuilt_is_accepted, rebuilt_is_trimmed};
 use sat_log::Log;
+use small_refutation::are_small_rows;
 use std::alloc::{AllocError, Global};
 use stt_tableau::Refutation;
 use tableau_clauses::StepTable;
@@ -52,6 +54,7 @@ fn refutation_of(
     requires founded { IsFounded bank.now atoms.now steps.now drafts.now last }
     ensures lines { IfOk result (λ refutation. refutation.lines ≡ lines_from (the_atoms bank.now.terms atoms.now) (the_tree bank.now.terms atoms.now steps.now drafts.now last)) }
     ensures rows { IfOk result (λ refutation. refutation.witnesses ≡ take (rows_for_lines (rows_of bank.now.terms witnesses.now) refutation.lines) (rows_of bank.now.terms witnesses.now)) }
+    ensures small { IfOk result IsSmall }
 {
     let order = walk_from(alloc, drafts, last)?;
     let numbers = number_lines(alloc, drafts, last, &order)?;
@@ -59,6 +62,9 @@ fn refutation_of(
         alloc, bank, atoms, steps, witnesses, drafts, last, &order, &numbers,
     )?;
     let rows = write_rows(alloc, bank, witnesses, written.rows)?;
+    if !are_small_rows(&rows) {
+        return Err(AllocError);
+    }
     Ok(Refutation {
         witnesses: rows,
         lines: written.lines,
@@ -80,7 +86,8 @@ fn refutation_from(
     requires instances { All (IsInstanceOver bank.now lits.now (rows_of bank.now.terms witnesses.now)) (the_instances steps.now) }
     requires log { IsLogOver (the_clauses steps.now) log.now }
     requires closed { EndsEmpty log.now }
-    ensures { IfOk result (λ refutation. IsRebuilt (the_input bank.now lits.now steps.now log.now witnesses.now) refutation) }
+    ensures rebuilt { IfOk result (λ refutation. IsRebuilt (the_input bank.now lits.now steps.now log.now witnesses.now) refutation) }
+    ensures small { IfOk result IsSmall }
 {
     steps.clauses_come_from_origins();
     let arena = draw(alloc, steps, log)?;
@@ -98,7 +105,7 @@ fn refutation_from(
     }
 }
 
-/// The refutation that a log gives, whose last result is the empty clause.
+/// The refutation that a log gives, whose last result is the empty clause. There is no memory for one that is too large for a text.
 pub fn rebuild(
     alloc: Global,
     bank: &Bank,
@@ -119,6 +126,7 @@ pub fn rebuild(
     ensures reached { IfOk result (λ refutation. IsEachReached refutation.lines) }
     ensures from_search { IfOk result (λ refutation. (l : Line) → Contains refutation.lines l → IsFromSearch (unit_literals (the_atoms bank.now.terms lits.now) steps.now.0) (the_input bank.now lits.now steps.now log.now witnesses.now) l) }
     ensures few { IfOk result (λ refutation. AreFew log.now refutation.lines) }
+    ensures small { IfOk result IsSmall }
 {
     tables_are_given(bank, lits, steps, log, witnesses);
     rebuilt_is_accepted();

@@ -15,7 +15,6 @@ use crate::ended::Ended;
 use command_queue::Weigher;
 use mode_file::Mode;
 use search_tables::Tables;
-use small_refutation::is_small;
 use std::alloc::{AllocError, Global};
 use stt_core::Problem;
 use stt_tableau::Refutation;
@@ -39,9 +38,6 @@ fn refutation_of(alloc: Global, tables: &Tables) -> Result<Refutation, AllocErro
         log,
         &basis.witnesses,
     )?;
-    if !is_small(&refutation) {
-        return Err(AllocError);
-    }
     Ok(refutation)
 }
 

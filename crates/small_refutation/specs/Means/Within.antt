@@ -1,11 +1,10 @@
--- Terms that nest no deeper than some number, and rows with small predicates.
-use Rattle.std.specs.Prelude.{ℕ, suc, ◌+◌, ◌^◌, ◌≤◌, List, length}
+-- Terms that nest no deeper than some number.
+use Rattle.std.specs.Prelude.{ℕ, suc, ◌+◌, ◌≤◌, List, length}
 use Rattle.std.specs.List.{AllByRecursion}
 use Rattle.stt_core.specs.SimpleType.{SimpleType}
 use Rattle.stt_core.specs.Lambda.{Lambda}
 use Rattle.stt_core.specs.Depth.{depth}
-use Rattle.stt_tableau.specs.Witnesses.{Row}
-use Rattle.written_refutation.specs.Sizes.{nesting, type_depth, type_limit, IsSmallTerm}
+use Rattle.written_refutation.specs.Sizes.{nesting, type_depth, type_limit}
 
 -- the term nests no deeper than so much, and its types no deeper than they may
 abbrev pub IsWithin : ℕ → Lambda → Type 0
@@ -21,6 +20,3 @@ pub record AreWithin (n : ℕ) (binders : List SimpleType) (h : Lambda) (us : Li
   pub types : AllByRecursion (λ a. nesting a ≤ type_limit) binders
   pub head : type_depth h ≤ type_limit
   pub arguments : AllByRecursion (IsArgument n (length binders)) us
-
-abbrev pub AreSmallRows : List Row → Type 0
-AreSmallRows rows = AllByRecursion (λ (row : Row). IsSmallTerm row.predicate) rows × (length rows ≤ 2 ^ 32)

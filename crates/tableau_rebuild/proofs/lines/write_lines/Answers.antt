@@ -1,8 +1,11 @@
-use Rattle.std.proofs.Common.{◌≡◌, ◌≤◌, ℕ, zero, suc, List, [], ◌∷◌, map, length, take, slice_index_or, sym, ap, subst, ◌∙◌, arith}
+use Rattle.std.proofs.Common.{◌≡◌, ◌≤◌, ◌<◌, ◌^◌, ℕ, zero, suc, List, [], ◌∷◌, map, length, take, slice_index_or, sym, ap, subst, ◌∙◌, arith}
 use Rattle.std.proofs.lemmas.List.{length-map}
 use Rattle.std.proofs.lemmas.Option.{slice_get-get_or}
 use Rattle.stt_core.proofs.ListLaws.{map_more}
 use Rattle.sat_base.specs.Literal.{IsOver}
+use Rattle.std.specs.List.{AllByRecursion}
+use Rattle.written_refutation.specs.Sizes.{IsSmallLine}
+use Rattle.small_refutation.proofs.AllLaws.{all-last}
 use Rattle.rebuilt_refutation.specs.Lines.{line_of}
 use Rattle.rebuilt_refutation.specs.Trees.{branch}
 use Rattle.tableau_rebuild.specs.declared.draft.Draft.TheVariants.{Clause}
@@ -19,6 +22,22 @@ length_front : {A : Type 0} (k : ℕ) (xs : List A) → k ≤ length xs → leng
 length_front zero xs l = omega arith
 length_front (suc k) [] l = absurd (omega (arith, l))
 length_front (suc k) (x ∷ xs) l = let rest = length_front k xs (omega (arith, l)) in omega (arith, rest)
+
+take_most : {A : Type 0} (k : ℕ) (xs : List A) → length (take k xs) ≤ k
+take_most zero xs = omega arith
+take_most (suc k) [] = omega arith
+take_most (suc k) (x ∷ xs) = let rest = take_most k xs in omega (arith, rest)
+
+pub returns-clause-small : goal.returns-clause-small
+returns-clause-small c =
+    let order = c.args.order.now in
+    let k = c.loop-k.k in
+    let A = the_atoms c.args.bank.now.terms c.args.atoms.now in
+    let tree = the_tree c.args.bank.now.terms c.args.atoms.now c.args.steps.now c.args.drafts.now in
+    let count = ap length c.loop-k.invariant.lines ∙ length-map (take k order) (λ i. line_of A (map tree order) (tree i)) in
+    let most = take_most k order in
+    let below : k < 2 ^ 64 = omega arith in
+    record { each = c.loop-k.invariant.small; numbers = omega (arith, count, most, below) }
 
 pub branch_of-requires-clause-ready : goal.branch_of-requires-clause-ready
 branch_of-requires-clause-ready c =
@@ -102,9 +121,11 @@ loop-k-preserved c =
     let line = subst (λ ls. IsLineBy b atoms t numbers ls d c.in_ok-line.line) (c.as_slice.ensures ∙ is) c.in_ok-line.ensures.line in
     let right = line_made b atoms t ds c.requires.right c.args.last c.requires.last order c.requires.walked c.requires.inside numbers c.requires.numbers k i d c.in_ok-line.line listed drafted can line in
     record {
-      branches = map_more (λ j. branch (the_tree b.terms atoms t ds j)) order k i c.loop-k.branches.items c.push-in-loop-k.new.self.items c.in_ok-branch.branch listed c.loop-k.invariant.branches is c.in_ok-push-2.ensures.items;
+      branches = map_more (λ j. branch (the_tree b.terms atoms t ds j)) order k i c.loop-k.branches.items c.push-in-loop-k.new.self.items c.in_ok-packed.packed listed c.loop-k.invariant.branches (c.in_ok-packed.ensures ∙ c.as_slice-in-loop-k-2.ensures ∙ is) c.in_ok-push-2.ensures.items;
       lines = map_more (λ j. line_of (the_atoms b.terms atoms) (map (the_tree b.terms atoms t ds) order) (the_tree b.terms atoms t ds j)) order k i c.loop-k.lines c.push.new.self c.in_ok-line.line listed c.loop-k.invariant.lines right c.in_ok-push.ensures.ok;
       rows = lines_more (rows_of b.terms c.args.witnesses.now) c.loop-k.lines c.push.new.self c.in_ok-line.line c.loop-k.rows c.rows_for_line.result c.max-rows.result c.in_ok-push.ensures.ok c.loop-k.invariant.rows (c.rows_for_line.ensures numbers c.in_ok-line.line (subst (λ ls. IsLineBy b atoms t numbers ls d c.in_ok-line.line) (c.as_slice.ensures ∙ sym c.as_slice-in-loop-k.ensures) c.in_ok-line.ensures.line)) c.max-rows.ensures;
       empty = c.in_ok-branch.ensures.empty;
       made = c.in_ok-line.ensures.made;
+      small_literals = c.in_ok-line.ensures.small;
+      small = subst (AllByRecursion IsSmallLine) (sym c.in_ok-push.ensures.ok) (all-last IsSmallLine c.loop-k.lines c.in_ok-line.line c.loop-k.invariant.small (c.is_small_line.ensures.0 c.if-not-is_small_line.false));
     }

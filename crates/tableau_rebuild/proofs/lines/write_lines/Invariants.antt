@@ -1,4 +1,6 @@
 use Rattle.std.proofs.Common.{◌≡◌, [], map, take}
+use Rattle.std.specs.List.{AllByRecursion}
+use Rattle.written_refutation.specs.Sizes.{AreSmallLiterals, IsSmallLine}
 use Rattle.witness_names.specs.Rows.{rows_of}
 use Rattle.rebuilt_refutation.specs.Lines.{line_of}
 use Rattle.rebuilt_refutation.specs.NeededRows.{rows_for_lines}
@@ -13,6 +15,8 @@ invariant-loop-k l = record {
   branches : l.branches.items ≡ map (λ i. branch (the_tree l.bank.terms l.atoms l.steps l.drafts i)) (take l.k l.order);
   lines : l.lines ≡ map (λ i. line_of (the_atoms l.bank.terms l.atoms) (map (the_tree l.bank.terms l.atoms l.steps l.drafts) l.order) (the_tree l.bank.terms l.atoms l.steps l.drafts i)) (take l.k l.order);
   rows : l.rows ≡ rows_for_lines (rows_of l.bank.terms l.witnesses) l.lines;
-  empty : l.resolver ≡ [];
+  empty : l.resolver.resolver ≡ [];
   made : IsMade (the_atoms l.bank.terms l.atoms) l.pool;
+  small_literals : AreSmallLiterals l.pool.lits;
+  small : AllByRecursion IsSmallLine l.lines;
 }

@@ -1,6 +1,7 @@
 use Rattle.std.proofs.Common.{◌≡◌, take}
 use Rattle.rebuilt_refutation.specs.Input.{literals_of}
 use Rattle.tableau_rebuild.specs.Tables.{the_atoms}
+use Rattle.written_refutation.specs.Sizes.{AreSmallLiterals}
 use Rattle.tableau_rebuild.specs.Means.Pools.{IsMade}
 use Rattle.tableau_rebuild.proofs.literals.lits_of.Given as goal
 
@@ -8,4 +9,6 @@ abbrev pub invariant-loop-i : goal.invariant-loop-i
 invariant-loop-i l = record {
   lits : l.lits ≡ literals_of (the_atoms l.bank.terms l.atoms) (take l.i l.branch);
   made : IsMade (the_atoms l.bank.terms l.atoms) l.pool;
+  small : AreSmallLiterals l.pool.lits;
+  small_literals : AreSmallLiterals l.lits;
 }

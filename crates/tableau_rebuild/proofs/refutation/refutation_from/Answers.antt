@@ -53,8 +53,8 @@ refutation_of-requires-clause-founded c =
     stands_founded b atoms t log witnesses c.clauses_come_from_origins.ensures c.requires.instances c.requires.units (at_result c.requires.closed.number) [] (the_standing (the_sources b.terms atoms t) ds (Line c.in-Line.last)) (stands.stands b atoms witnesses) in
     subst (λ xs. IsFounded b atoms t xs c.in-Line.last) (sym c.deref.ensures.value) founded.1
 
-pub returns : goal.returns
-returns c =
+pub returns-clause-rebuilt : goal.returns-clause-rebuilt
+returns-clause-rebuilt c =
     let b = c.args.bank.now in
     let atoms = c.args.lits.now in
     let witnesses = c.args.witnesses.now in

@@ -42,7 +42,7 @@ returns c =
     record {
       accepted = accepted-declared t.basis.bank (start_in t) units c.in_ok-refutation.refutation (sym (units-named t.basis r.basis t.steps.0 r.clauses)) c.in_ok-refutation.ensures.accepted;
       reached = c.in_ok-refutation.ensures.reached;
-      small = c.is_small.ensures.0 c.if-not-is_small.false;
+      small = c.in_ok-refutation.ensures.small;
       origin = subst S (sym (units-named t.basis r.basis t.steps.0 r.clauses)) (origin-named t.basis r.basis t.steps r.clauses c.log-log.result.now units lines c.clauses_come_from_origins.ensures c.in_ok-refutation.ensures.from_search);
       shortly = shortly-named t.basis r.basis t.steps r.clauses t.solver.log (learned t.solver) lines (subst C r.solver c.log-log.ensures.sound.logged) c.requires.ends (subst F c.log-log.ensures.log c.in_ok-refutation.ensures.few);
     }

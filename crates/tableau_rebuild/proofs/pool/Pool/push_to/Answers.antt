@@ -1,0 +1,11 @@
+use Rattle.stt_tableau.specs.Literals.{Literal}
+use Rattle.search_run.specs.Numbered.{literal_at}
+use Rattle.written_refutation.specs.Sizes.{IsSmallTerm}
+use Rattle.small_refutation.proofs.AllLaws.{all-at}
+use Rattle.tableau_rebuild.specs.Tables.{the_atoms}
+use Rattle.tableau_rebuild.proofs.pool.Pool.push_to.Goals as goal
+
+pub returns-clause-small_literal : goal.returns-clause-small_literal
+returns-clause-small_literal c =
+    let S : Literal → Type 0 = λ l. IsSmallTerm l.atom in
+    all-at S c.place_of.new.self.lits c.in_ok-place.place (literal_at (the_atoms c.args.bank.now.terms c.args.atoms.now) c.args.literal) c.in_ok-place.ensures.small c.in_ok-place.ensures.place
