@@ -10,12 +10,15 @@ from pathlib import Path
 SOURCES = {
     "sat_base": ["literal", "clause", "store"],
     "sat_log": ["stamps", "resolver", "chain", "log"],
+    "sat_propagate": ["packed"],
     "stt_core": ["ty", "nf"],
     "stt_tableau": ["lit", "refutation"],
     "literal_map": ["instance"],
     "tableau_clauses": ["origin"],
+    "small_refutation": ["types", "terms", "lines"],
     "tableau_rebuild": [
-        "draft", "arena", "branch", "literals", "line", "needed", "lines", "numbering", "pool", "reached", "rows", "walk", "refutation",
+        "draft", "arena", "packed_branch", "branch", "literals", "line", "needed", "lines", "numbering", "pool", "reached", "rows", "walk",
+        "refutation",
     ],
 }
 
@@ -33,6 +36,7 @@ pub mod rt {
     pub struct Vec<T>(pub std::vec::Vec<T>);
     impl<T> Vec<T> {
         pub fn new(_: Global) -> Self { Vec(std::vec::Vec::new()) }
+        pub fn with_capacity(_: Global, n: usize) -> Result<Self, AllocError> { Ok(Vec(std::vec::Vec::with_capacity(n))) }
         pub fn push(&mut self, x: T) -> Result<(), AllocError> { self.0.push(x); Ok(()) }
         pub fn push_reserved(&mut self, x: T) { self.0.push(x) }
         pub fn reserve(&mut self, n: usize) -> Result<(), AllocError> { self.0.reserve(n); Ok(()) }
@@ -51,6 +55,11 @@ pub mod rt {
     }
     impl<T> Deref for Vec<T> { type Target = [T]; fn deref(&self) -> &[T] { &self.0 } }
     impl<T> DerefMut for Vec<T> { fn deref_mut(&mut self) -> &mut [T] { &mut self.0 } }
+    impl<'a, T> IntoIterator for &'a Vec<T> {
+        type Item = &'a T;
+        type IntoIter = std::slice::Iter<'a, T>;
+        fn into_iter(self) -> Self::IntoIter { self.0.iter() }
+    }
     pub type SmallVec<T> = Vec<T>;
     #[derive(Debug)]
     pub struct Box<T>(std::boxed::Box<T>);
