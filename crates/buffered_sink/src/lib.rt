@@ -6,5 +6,3 @@ mod sink;
 
 pub use sink::BufferedSink;
 
-#[cfg(test)]
-mod tests;

@@ -6,8 +6,6 @@ mod agenda;
 mod bag;
 mod entry;
 mod rule;
-#[cfg(test)]
-mod tests;
 
 pub use agenda::Agenda;
 pub use entry::Entry;

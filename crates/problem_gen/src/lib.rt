@@ -7,8 +7,6 @@ ghost use Rattle.outside.specs.Prefix.{AppendsProperly};
 ghost use Rattle.problem_gen.specs.Chain.{text};
 
 mod lengths;
-#[cfg(test)]
-mod tests;
 mod write;
 
 use outside::{Failed, Sink};

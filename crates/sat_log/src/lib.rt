@@ -6,8 +6,6 @@ mod law;
 mod log;
 mod resolver;
 mod stamps;
-#[cfg(test)]
-mod tests;
 
 pub use chain::{Chain, ChainStep, ChainSteps, Premise};
 pub use law::{

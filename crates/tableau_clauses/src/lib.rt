@@ -7,8 +7,6 @@ mod law;
 mod origin;
 mod steps;
 mod table;
-#[cfg(test)]
-mod tests;
 
 pub use law::clauses_hold_no_variable_twice;
 pub use origin::Origin;
