@@ -5,4 +5,3 @@ mod hand_on;
 mod sink;
 
 pub use sink::BufferedSink;
-
