@@ -16,7 +16,7 @@ ghost use Rattle.written_refutation.specs.Named.{names_of};
 ghost use Rattle.refute_check.specs.Numbered.{numbered_refutation};
 ghost use Rattle.refute_check.specs.Refusal.{IfLine, FailsAt};
 ghost use Rattle.refute_check.specs.Acceptance.{IsAcceptedFor, TextFailsAt};
-ghost use Rattle.refute_check.specs.Means.Shared.{declared_in, the_atoms, the_rows, IsGood};
+ghost use Rattle.refute_check.specs.Means.Shared.{scope_in, declared_in, the_atoms, the_rows, IsGood};
 ghost use Rattle.refute_check.specs.Means.Branches.{Represents, AreNumbered, Grow, AreBranches};
 ghost use Rattle.refute_check.specs.Means.Lines.{AreRightIn};
 
@@ -27,7 +27,6 @@ use crate::numbering::Numbering;
 use crate::refusal::CheckRefused;
 use crate::seen::Seen;
 use crate::shared::Shared;
-use crate::start::begin;
 use delta_defs::unfold_problem;
 use std::alloc::{AllocError, Global};
 use stt_core::{Problem, Signature};
@@ -144,6 +143,26 @@ fn check_from(
     check_last(numbering, &lines, start, text)
 }
 
+/// Whether the text is accepted for the start of the problem, where nothing of either is there yet.
+fn check_with(
+    alloc: Global,
+    shared: &mut Shared,
+    numbering: &Numbering<'_>,
+    problem: &Problem,
+    text: &RefutationText,
+) -> Result<(), PlainRefused>
+    requires good { IsGood shared.old }
+    requires none { the_rows shared.old ≡ [] }
+    requires scope { scope_in shared.old ≡ scope_of problem.now.declared }
+    requires problem { IsTyped problem.now }
+    requires room { length text.now.witnesses + length text.now.lines < 2 ^ 64 }
+    ensures accepted { OnOk result (IsAccepted (declared_in shared.old) (start problem.now) (numbered_refutation numbering.now (the_text text.now))) }
+    ensures refused { IfErr result (λ e. IfRefused e (FirstFailure (declared_in shared.old) (start problem.now) (numbered_refutation numbering.now (the_text text.now)))) }
+{
+    let start = shared.start(alloc, problem)?;
+    check_from(alloc, shared, numbering, &start, text)
+}
+
 /// Whether the text is accepted for the start of the problem, over its signature.
 fn check_over(
     alloc: Global,
@@ -160,14 +179,10 @@ fn check_over(
         (numbered_refutation (names_of sig.now.bases sig.now.consts) (the_text text.now)))) }
 {
     let numbering = Numbering::new(alloc, sig)?;
-    let mut beginning = begin(alloc, sig, problem)?;
-    check_from(
-        alloc,
-        &mut beginning.shared,
-        &numbering,
-        &beginning.start,
-        text,
-    )
+    let mut shared = Shared::new(alloc, sig)?;
+    let checked = check_with(alloc, &mut shared, &numbering, problem, text);
+    drop(shared);
+    checked
 }
 
 /// Whether the text is accepted, or the place of its first failure: its rows count from 0, and then its lines.

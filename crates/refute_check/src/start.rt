@@ -1,14 +1,13 @@
 //! The literals that a problem starts from.
 
-ghost use Rattle.std.specs.Prelude.{◌≡◌, [], map, IfOk, OnOk};
+ghost use Rattle.std.specs.Prelude.{◌≡◌, map, IfOk, OnOk};
 ghost use Rattle.stt_core.specs.View.{the_term};
-ghost use Rattle.stt_core.specs.ScopeView.{the_scope};
 ghost use Rattle.stt_core.specs.Typing.{IsScope};
 ghost use Rattle.stt_core.specs.TypedProblem.{IsFormula, AreFormulas, IsTyped};
 ghost use Rattle.stt_core.specs.Declarations.{scope_of};
 ghost use Rattle.stt_tableau.specs.Start.{normal_literal, start};
 ghost use Rattle.refute_check.specs.Means.Branches.{Represents, AreNumbered};
-ghost use Rattle.refute_check.specs.Means.Shared.{scope_in, declared_in, the_atoms, the_rows, literal_in, IsGood, IsNumber, Extends, AreNumbersOf};
+ghost use Rattle.refute_check.specs.Means.Shared.{scope_in, the_atoms, literal_in, IsGood, IsNumber, Extends, AreNumbersOf};
 
 use crate::branch::Branch;
 use crate::shared::Shared;
@@ -16,33 +15,7 @@ use literal_map::LitList;
 use problem_start::formula_literal;
 use sat_base::SatLit;
 use std::alloc::{AllocError, Global};
-use stt_core::{Problem, Signature, Term, Terms};
-
-/// The terms of a problem's start, and its literals as a set.
-#[derive(Drop)]
-pub(crate) struct Beginning {
-    pub shared: Shared,
-    pub start: Branch,
-}
-
-/// The start of a problem over its signature.
-pub(crate) fn begin(
-    alloc: Global,
-    sig: &Signature,
-    problem: &Problem,
-) -> Result<Beginning, AllocError>
-    requires problem { IsTyped problem.now }
-    requires own { the_scope sig.now [] ≡ scope_of problem.now.declared }
-    ensures set { IfOk result (λ b. Represents (the_atoms b.shared) (start problem.now) b.start) }
-    ensures numbered { IfOk result (λ b. AreNumbered (the_atoms b.shared) (start problem.now)) }
-    ensures rows { IfOk result (λ b. the_rows b.shared ≡ []) }
-    ensures declared { IfOk result (λ b. declared_in b.shared ≡ the_scope sig.now []) }
-    ensures good { IfOk result (λ b. IsGood b.shared) }
-{
-    let mut shared = Shared::new(alloc, sig)?;
-    let start = shared.start(alloc, problem)?;
-    Ok(Beginning { shared, start })
-}
+use stt_core::{Problem, Term, Terms};
 
 impl Shared {
     /// The number of the literal of a formula's normal form.
@@ -76,7 +49,7 @@ impl Shared {
     }
 
     /// The literals that a problem starts from, as a set.
-    fn start(&mut self, alloc: Global, problem: &Problem) -> Result<Branch, AllocError>
+    pub(crate) fn start(&mut self, alloc: Global, problem: &Problem) -> Result<Branch, AllocError>
         requires good { IsGood self.old }
         requires scope { scope_in self.old ≡ scope_of problem.now.declared }
         requires problem { IsTyped problem.now }

@@ -1,10 +1,13 @@
 //! The literals from which the refutations of a problem start, as text.
 
+ghost use Rattle.std.specs.Prelude.{IfOk};
+ghost use Rattle.stt_core.specs.TypedProblem.{IsTyped};
+
 use anyhow::{Context, bail};
 use outside::{Failed, Files, GrowSink};
 use std::alloc::{AllocError, Global};
 use std::str;
-use stt_core::{Head, Nf, Nfs, Signature, Types};
+use stt_core::{Head, Nf, Nfs, Problem, Signature, Types};
 use stt_tableau::{
     Children, Line, Lines, Lit, Lits, Refutation, Rows, RuleUse, accepts_plain, start_literals,
 };
@@ -73,16 +76,27 @@ fn branch_text(alloc: Global, sig: &Signature, branch: &Lits) -> anyhow::Result<
     Ok(String::from_str(alloc, str::from_utf8(sink.bytes())?)?)
 }
 
-/// The literals of the start of the problem in a file, with commas between them.
-pub fn start_text<F: Files>(alloc: Global, files: &mut F, name: &str) -> anyhow::Result<String> {
+/// The problem in a file.
+fn problem_in<F: Files>(alloc: Global, files: &mut F, name: &str) -> anyhow::Result<Problem>
+    ensures { IfOk result (λ problem. IsTyped problem) }
+{
     let mut names = FileNames::new(alloc);
     let Ok(gathered) = gather(alloc, files, &mut names, name) else {
         bail!("the files aren't gathered");
     };
-    let Ok(problem) = check(alloc, &gathered) else {
-        bail!("the problem isn't read");
-    };
-    let branch = with_falsity(alloc, &start_literals(alloc, &problem)?)?;
+    let checked = check(alloc, &gathered);
+    drop(gathered);
+    match checked {
+        Ok(problem) => Ok(problem),
+        Err(_) => bail!("the problem isn't read"),
+    }
+}
+
+/// The literals of the start of a problem, with commas between them.
+fn literals_of(alloc: Global, problem: &Problem) -> anyhow::Result<String>
+    requires { IsTyped problem.now }
+{
+    let branch = with_falsity(alloc, &start_literals(alloc, problem)?)?;
     let text = branch_text(alloc, &problem.signature, &branch)?;
     let literals = text
         .strip_prefix(BEFORE)
@@ -90,4 +104,12 @@ pub fn start_text<F: Files>(alloc: Global, files: &mut F, name: &str) -> anyhow:
         .context("the text has another form")?;
     let literals = literals.strip_prefix(',').unwrap_or(literals);
     Ok(String::from_str(alloc, literals)?)
+}
+
+/// The literals of the start of the problem in a file, with commas between them.
+pub fn start_text<F: Files>(alloc: Global, files: &mut F, name: &str) -> anyhow::Result<String> {
+    let problem = problem_in(alloc, files, name)?;
+    let text = literals_of(alloc, &problem);
+    drop(problem);
+    text
 }

@@ -3,6 +3,8 @@
 //! is checked, but behind the word `alone`.
 #![tactic(auto)]
 
+ghost use Rattle.stt_core.specs.TypedProblem.{IsTyped};
+
 mod problem;
 mod row;
 mod run;
@@ -13,16 +15,26 @@ use outside::{Files, StdFiles};
 use problem::problem_in;
 use row::{Row, Told, row_of};
 use std::alloc::Global;
+use stt_core::Problem;
+
+/// What is told of the run over a row's problem.
+fn told(alloc: Global, problem: &Problem, row: &Row) -> Result<String, Error>
+    requires { IsTyped problem.now }
+{
+    match row.told {
+        Told::Commands => trace::trace(alloc, problem, &row.mode),
+        Told::Text => run::text(alloc, problem, &row.mode),
+        Told::End => run::end(alloc, problem, &row.mode),
+        Told::Alone => run::alone(alloc, problem, &row.mode),
+    }
+}
 
 /// What is written for a row.
 fn answer<F: Files>(alloc: Global, files: &mut F, row: &Row) -> Result<String, Error> {
     let problem = problem_in(alloc, files, row.file.as_str())?;
-    match row.told {
-        Told::Commands => trace::trace(alloc, &problem, &row.mode),
-        Told::Text => run::text(alloc, &problem, &row.mode),
-        Told::End => run::end(alloc, &problem, &row.mode),
-        Told::Alone => run::alone(alloc, &problem, &row.mode),
-    }
+    let answer = told(alloc, &problem, row);
+    drop(problem);
+    answer
 }
 
 fn main(rt: HostRuntime) -> anyhow::Result<()> {

@@ -54,7 +54,20 @@ fn line_of(alloc: Global, ended: &Ended) -> anyhow::Result<String> {
 pub fn alone(alloc: Global, problem: &Problem, mode: &Mode) -> anyhow::Result<String>
     requires { IsTyped problem.now }
 {
-    line_of(alloc, &run(alloc, problem, mode)?)
+    let ended = run(alloc, problem, mode)?;
+    let line = line_of(alloc, &ended);
+    drop(ended);
+    line
+}
+
+/// How a run over the problem ended, where its refutation is right.
+fn checked_line(alloc: Global, problem: &Problem, ended: &Ended) -> anyhow::Result<String>
+    requires { IsTyped problem.now }
+{
+    if let Ended::Proved { refutation, .. } = ended {
+        text_of(alloc, problem, refutation)?;
+    }
+    line_of(alloc, ended)
 }
 
 /// How the run over a problem ends.
@@ -62,10 +75,21 @@ pub fn end(alloc: Global, problem: &Problem, mode: &Mode) -> anyhow::Result<Stri
     requires { IsTyped problem.now }
 {
     let ended = run(alloc, problem, mode)?;
-    if let Ended::Proved { refutation, .. } = &ended {
-        text_of(alloc, problem, refutation)?;
+    let line = checked_line(alloc, problem, &ended);
+    drop(ended);
+    line
+}
+
+/// How a run over the problem ended, with the text of the refutation.
+fn line_and_text(alloc: Global, problem: &Problem, ended: &Ended) -> anyhow::Result<String>
+    requires { IsTyped problem.now }
+{
+    let line = line_of(alloc, ended)?;
+    if let Ended::Proved { refutation, .. } = ended {
+        let text = text_of(alloc, problem, refutation)?;
+        return Ok(format!(in alloc; "{line}\n{text}")?);
     }
-    line_of(alloc, &ended)
+    Ok(line)
 }
 
 /// How the run over a problem ends, with the text of the refutation.
@@ -73,10 +97,7 @@ pub fn text(alloc: Global, problem: &Problem, mode: &Mode) -> anyhow::Result<Str
     requires { IsTyped problem.now }
 {
     let ended = run(alloc, problem, mode)?;
-    let line = line_of(alloc, &ended)?;
-    if let Ended::Proved { refutation, .. } = &ended {
-        let text = text_of(alloc, problem, refutation)?;
-        return Ok(format!(in alloc; "{line}\n{text}")?);
-    }
-    Ok(line)
+    let text = line_and_text(alloc, problem, &ended);
+    drop(ended);
+    text
 }

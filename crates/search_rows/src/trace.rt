@@ -58,7 +58,9 @@ fn trace_by<W: Weigher<Waiting>>(
     requires answers { W.answers weigher (λ waiting now. now + delay_by mode.now waiting.first) }
 {
     let mut search = Search::new(alloc, problem, mode, weigher)?;
-    trace_from(alloc, &mut search)
+    let text = trace_from(alloc, &mut search);
+    drop(search);
+    text
 }
 
 /// What there is after each command of the run over a problem, and how the run ends.

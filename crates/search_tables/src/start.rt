@@ -80,10 +80,15 @@ impl<W: Weigher<Waiting>> Core<W> {
         ensures mode { IfOk result (λ core. core.plan.rule.mode ≡ mode) }
         ensures steps { IfOk result (λ core. core.tables.steps ≡ ([], [])) }
     {
-        let names = names_by_target(alloc, &basis.bank.sig().consts)?;
-        Ok(Core {
-            tables: empty_tables(alloc, basis, names),
-            plan: Plan::new(alloc, mode, weigher),
-        })
+        match names_by_target(alloc, &basis.bank.sig().consts) {
+            Ok(names) => Ok(Core {
+                tables: empty_tables(alloc, basis, names),
+                plan: Plan::new(alloc, mode, weigher),
+            }),
+            Err(AllocError) => {
+                drop(basis);
+                Err(AllocError)
+            }
+        }
     }
 }

@@ -35,6 +35,101 @@ pub(crate) struct Written {
     pub(crate) rows: usize,
 }
 
+/// What is written so far: lines, and the branches of these. The resolver and the pool serve the lines to come.
+#[derive(Drop)]
+struct Writing {
+    written: Written,
+    branches: Vec<PackedBranch>,
+    resolver: BranchResolver,
+    pool: Pool,
+}
+
+impl Writing {
+    /// No line.
+    fn new(alloc: Global) -> Writing
+        ensures lines { result.written.lines ≡ [] }
+        ensures rows { result.written.rows ≡ 0 }
+        ensures branches { result.branches.items ≡ [] }
+        ensures empty { result.resolver.resolver ≡ [] }
+        ensures made { (terms : List Lambda) → IsMade terms result.pool }
+        ensures small { AreSmallLiterals result.pool.lits }
+    {
+        Writing {
+            written: Written {
+                lines: Lines::new(alloc),
+                rows: 0,
+            },
+            branches: Vec::new(alloc),
+            resolver: BranchResolver::new(alloc),
+            pool: Pool::new(alloc),
+        }
+    }
+
+    /// Writes the lines of the drafts in this order, of which each has its number.
+    fn write(
+        &mut self,
+        alloc: Global,
+        bank: &Bank,
+        atoms: &LitTable,
+        steps: &StepTable,
+        witnesses: &Witnesses,
+        drafts: &[Draft],
+        last: usize,
+        order: &[usize],
+        numbers: &[usize],
+    ) -> Result<(), AllocError>
+        requires lines { self.old.written.lines ≡ [] }
+        requires none { self.old.written.rows ≡ 0 }
+        requires branches { self.old.branches.items ≡ [] }
+        requires empty { self.old.resolver.resolver ≡ [] }
+        requires made { IsMade (the_atoms bank.now.terms atoms.now) self.old.pool }
+        requires small { AreSmallLiterals self.old.pool.lits }
+        requires atoms { All (IsAtom bank.now) atoms.now }
+        requires rows { AreRows bank.now witnesses.now }
+        requires right { AreDrafts drafts.now }
+        requires last { last < length drafts.now }
+        requires walked { map (tree_at (trees drafts.now)) order.now ≡ walked [] (tree_at (trees drafts.now) last) }
+        requires inside { (k i : ℕ) → slice_get order.now k ≡ Some i → i < length drafts.now }
+        requires numbers { AreNumbers order.now numbers.now }
+        requires makeable { (k i : ℕ) (d : Draft) → slice_get order.now k ≡ Some i → slice_get drafts.now i ≡ Some d → IsMakeable bank.now atoms.now steps.now numbers.now d }
+        requires numbered { (k i : ℕ) → slice_get order.now k ≡ Some i → IsOver (length atoms.now) (branch (the_tree bank.now.terms atoms.now steps.now drafts.now i)) }
+        ensures lines { OnOk result (self.new.written.lines ≡ map (λ i. line_in (the_atoms bank.now.terms atoms.now) (map (the_tree bank.now.terms atoms.now steps.now drafts.now) order.now) (the_tree bank.now.terms atoms.now steps.now drafts.now i)) order.now) }
+        ensures small { OnOk result (AreSmallLines self.new.written.lines) }
+        ensures rows { OnOk result (self.new.written.rows ≡ rows_for_lines (rows_of bank.now.terms witnesses.now) self.new.written.lines) }
+    {
+        for k in 0..order.len() {
+            let draft = drafts[order[k]];
+            let branch = branch_of(
+                alloc,
+                steps,
+                draft,
+                numbers,
+                &self.branches,
+                &mut self.resolver,
+            )?;
+            let line = line_of(
+                alloc,
+                bank,
+                atoms,
+                steps,
+                draft,
+                branch.as_slice(),
+                numbers,
+                &mut self.pool,
+            )?;
+            let rows = rows_for_line(bank, atoms, witnesses, steps, draft, branch.as_slice());
+            self.written.rows = self.written.rows.max(rows);
+            if !is_small_line(&line) {
+                return Err(AllocError);
+            }
+            self.written.lines.push(line)?;
+            let packed = PackedBranch::of(alloc, branch.as_slice())?;
+            self.branches.push(packed)?;
+        }
+        Ok(())
+    }
+}
+
 /// The lines of the drafts in this order, of which each has its number. There is no memory for one that is too large for a text.
 pub(crate) fn write_lines(
     alloc: Global,
@@ -60,31 +155,9 @@ pub(crate) fn write_lines(
     ensures small { IfOk result (λ written. AreSmallLines written.lines) }
     ensures rows { IfOk result (λ written. written.rows ≡ rows_for_lines (rows_of bank.now.terms witnesses.now) written.lines) }
 {
-    let mut branches: Vec<PackedBranch> = Vec::new(alloc);
-    let mut lines = Lines::new(alloc);
-    let mut rows: usize = 0;
-    let mut resolver = BranchResolver::new(alloc);
-    let mut pool = Pool::new(alloc);
-    for k in 0..order.len() {
-        let draft = drafts[order[k]];
-        let branch = branch_of(alloc, steps, draft, numbers, &branches, &mut resolver)?;
-        let line = line_of(
-            alloc,
-            bank,
-            atoms,
-            steps,
-            draft,
-            branch.as_slice(),
-            numbers,
-            &mut pool,
-        )?;
-        rows = rows.max(rows_for_line(bank, atoms, witnesses, steps, draft, branch.as_slice()));
-        if !is_small_line(&line) {
-            return Err(AllocError);
-        }
-        lines.push(line)?;
-        let packed = PackedBranch::of(alloc, branch.as_slice())?;
-        branches.push(packed)?;
-    }
-    Ok(Written { lines, rows })
+    let mut writing = Writing::new(alloc);
+    writing.write(
+        alloc, bank, atoms, steps, witnesses, drafts, last, order, numbers,
+    )?;
+    Ok(writing.written)
 }

@@ -112,7 +112,9 @@ fn run_by<W: Weigher<Waiting>>(
     ensures { IfOk result (EndsAs problem.now mode.now) }
 {
     let mut search = Search::new(alloc, problem, mode, weigher)?;
-    run_on(alloc, &mut search, mode.commands)
+    let ended = run_on(alloc, &mut search, mode.commands);
+    drop(search);
+    ended
 }
 
 /// Runs the search over a problem by a mode.

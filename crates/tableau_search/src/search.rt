@@ -60,7 +60,10 @@ impl<W: Weigher<Waiting>> Search<W> {
                 mode: *mode,
                 is_refused: false,
             }),
-            Err(AllocError) => Err(AllocError),
+            Err(AllocError) => {
+                drop(core);
+                Err(AllocError)
+            }
         }
     }
 

@@ -14,17 +14,17 @@ returns-clause-accepted c =
     let begin = start c.args.problem.now in
     let t = the_text c.args.text.now in
     let names = c.in_ok-numbering.numbering in
-    if_ok c.check_from.result
+    if_ok c.check_with-checked.result
     (λ h. subst (λ (n : Names). IsAccepted (the_scope c.args.sig.now []) begin (numbered_refutation n t)) c.in_ok-numbering.ensures
-    (subst (λ (x : Scope). IsAccepted x begin (numbered_refutation names t)) c.in_ok-beginning.ensures.declared (h begin c.in_ok-beginning.ensures.set c.in_ok-beginning.ensures.numbered)))
-    c.check_from.ensures.accepted
+    (subst (λ (x : Scope). IsAccepted x begin (numbered_refutation names t)) c.in_ok-shared.ensures.declared h))
+    c.check_with-checked.ensures.accepted
 
 pub returns-clause-refused : goal.returns-clause-refused
 returns-clause-refused c =
     let begin = start c.args.problem.now in
     let t = the_text c.args.text.now in
     let names = c.in_ok-numbering.numbering in
-    if_place c.check_from.result _ (FirstFailure (the_scope c.args.sig.now []) begin (numbered_refutation (names_of c.args.sig.now.bases c.args.sig.now.consts) t))
+    if_place c.check_with-checked.result _ (FirstFailure (the_scope c.args.sig.now []) begin (numbered_refutation (names_of c.args.sig.now.bases c.args.sig.now.consts) t))
     (λ place why h. subst (λ (n : Names). FirstFailure (the_scope c.args.sig.now []) begin (numbered_refutation n t) place why) c.in_ok-numbering.ensures
-    (subst (λ (x : Scope). FirstFailure x begin (numbered_refutation names t) place why) c.in_ok-beginning.ensures.declared (h begin c.in_ok-beginning.ensures.set c.in_ok-beginning.ensures.numbered)))
-    c.check_from.ensures.refused
+    (subst (λ (x : Scope). FirstFailure x begin (numbered_refutation names t) place why) c.in_ok-shared.ensures.declared h))
+    c.check_with-checked.ensures.refused

@@ -4,7 +4,7 @@ use Rattle.search_run.specs.Heads.{places_to}
 use Rattle.search_tables.proofs.EmptyLaws.{right-empty}
 use Rattle.search_tables.proofs.tables.Core.new.Goals as goal
 
-pub returns-clause-right : goal.returns-clause-right
-returns-clause-right g c =
-    right-empty c.args.basis c.in_ok-names.names c.empty_tables.result c.empty_tables.ensures c.requires.unwitnessed c.new.result c.new.ensures.empty c.new.ensures.pushes c.requires.basis
-    (λ n. c.in_ok-names.ensures n ∙ ap (λ (cs : List TypedName). places_to n 0 (map (λ (x : TypedName). x.type) cs)) c.sig.ensures.consts)
+pub returns-in-Ok-clause-right : goal.returns-in-Ok-clause-right
+returns-in-Ok-clause-right g c =
+    right-empty c.args.basis c.in-Ok.names c.empty_tables.result c.empty_tables.ensures c.requires.unwitnessed c.new.result c.new.ensures.empty c.new.ensures.pushes c.requires.basis
+    (λ n. c.in-Ok.ensures n ∙ ap (λ (cs : List TypedName). places_to n 0 (map (λ (x : TypedName). x.type) cs)) c.sig.ensures.consts)

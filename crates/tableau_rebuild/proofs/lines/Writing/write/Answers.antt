@@ -16,7 +16,7 @@ use Rattle.witness_names.specs.Rows.{rows_of}
 use Rattle.tableau_rebuild.proofs.WriteLaws.{branch_made, line_made, ready}
 use Rattle.tableau_rebuild.proofs.NeededLaws.{lines_more}
 use Rattle.tableau_rebuild.proofs.LastLaws.{has_parts}
-use Rattle.tableau_rebuild.proofs.lines.write_lines.Goals as goal
+use Rattle.tableau_rebuild.proofs.lines.Writing.write.Goals as goal
 
 length_front : {A : Type 0} (k : ℕ) (xs : List A) → k ≤ length xs → length (take k xs) ≡ k
 length_front zero xs l = omega arith
@@ -121,11 +121,11 @@ loop-k-preserved c =
     let line = subst (λ ls. IsLineBy b atoms t numbers ls d c.in_ok-line.line) (c.as_slice.ensures ∙ is) c.in_ok-line.ensures.line in
     let right = line_made b atoms t ds c.requires.right c.args.last c.requires.last order c.requires.walked c.requires.inside numbers c.requires.numbers k i d c.in_ok-line.line listed drafted can line in
     record {
-      branches = map_more (λ j. branch (the_tree b.terms atoms t ds j)) order k i c.loop-k.branches.items c.push-in-loop-k.new.self.items c.in_ok-packed.packed listed c.loop-k.invariant.branches (c.in_ok-packed.ensures ∙ c.as_slice-in-loop-k-2.ensures ∙ is) c.in_ok-push-2.ensures.items;
-      lines = map_more (λ j. line_of (the_atoms b.terms atoms) (map (the_tree b.terms atoms t ds) order) (the_tree b.terms atoms t ds j)) order k i c.loop-k.lines c.push.new.self c.in_ok-line.line listed c.loop-k.invariant.lines right c.in_ok-push.ensures.ok;
-      rows = lines_more (rows_of b.terms c.args.witnesses.now) c.loop-k.lines c.push.new.self c.in_ok-line.line c.loop-k.rows c.rows_for_line.result c.max-rows.result c.in_ok-push.ensures.ok c.loop-k.invariant.rows (c.rows_for_line.ensures numbers c.in_ok-line.line (subst (λ ls. IsLineBy b atoms t numbers ls d c.in_ok-line.line) (c.as_slice.ensures ∙ sym c.as_slice-in-loop-k.ensures) c.in_ok-line.ensures.line)) c.max-rows.ensures;
+      branches = map_more (λ j. branch (the_tree b.terms atoms t ds j)) order k i c.loop-k.self.branches.items c.push-in-loop-k.new.self.items c.in_ok-packed.packed listed c.loop-k.invariant.branches (c.in_ok-packed.ensures ∙ c.as_slice-in-loop-k-2.ensures ∙ is) c.in_ok-push-2.ensures.items;
+      lines = map_more (λ j. line_of (the_atoms b.terms atoms) (map (the_tree b.terms atoms t ds) order) (the_tree b.terms atoms t ds j)) order k i c.loop-k.self.written.lines c.push.new.self c.in_ok-line.line listed c.loop-k.invariant.lines right c.in_ok-push.ensures.ok;
+      rows = lines_more (rows_of b.terms c.args.witnesses.now) c.loop-k.self.written.lines c.push.new.self c.in_ok-line.line c.loop-k.self.written.rows c.rows_for_line.result c.max-rows.result c.in_ok-push.ensures.ok c.loop-k.invariant.rows (c.rows_for_line.ensures numbers c.in_ok-line.line (subst (λ ls. IsLineBy b atoms t numbers ls d c.in_ok-line.line) (c.as_slice.ensures ∙ sym c.as_slice-in-loop-k.ensures) c.in_ok-line.ensures.line)) c.max-rows.ensures;
       empty = c.in_ok-branch.ensures.empty;
       made = c.in_ok-line.ensures.made;
       small_literals = c.in_ok-line.ensures.small;
-      small = subst (AllByRecursion IsSmallLine) (sym c.in_ok-push.ensures.ok) (all-last IsSmallLine c.loop-k.lines c.in_ok-line.line c.loop-k.invariant.small (c.is_small_line.ensures.0 c.if-not-is_small_line.false));
+      small = subst (AllByRecursion IsSmallLine) (sym c.in_ok-push.ensures.ok) (all-last IsSmallLine c.loop-k.self.written.lines c.in_ok-line.line c.loop-k.invariant.small (c.is_small_line.ensures.0 c.if-not-is_small_line.false));
     }

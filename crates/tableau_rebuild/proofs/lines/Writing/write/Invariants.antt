@@ -1,0 +1,22 @@
+use Rattle.std.proofs.Common.{◌≡◌, [], map, take}
+use Rattle.std.specs.List.{AllByRecursion}
+use Rattle.written_refutation.specs.Sizes.{AreSmallLiterals, IsSmallLine}
+use Rattle.witness_names.specs.Rows.{rows_of}
+use Rattle.rebuilt_refutation.specs.Lines.{line_of}
+use Rattle.rebuilt_refutation.specs.NeededRows.{rows_for_lines}
+use Rattle.rebuilt_refutation.specs.Trees.{branch}
+use Rattle.tableau_rebuild.specs.Tables.{the_atoms}
+use Rattle.tableau_rebuild.specs.Means.Written.{the_tree}
+use Rattle.tableau_rebuild.specs.Means.Pools.{IsMade}
+use Rattle.tableau_rebuild.proofs.lines.Writing.write.Given as goal
+
+abbrev pub invariant-loop-k : goal.invariant-loop-k
+invariant-loop-k l = record {
+  branches : l.self.branches.items ≡ map (λ i. branch (the_tree l.bank.terms l.atoms l.steps l.drafts i)) (take l.k l.order);
+  lines : l.self.written.lines ≡ map (λ i. line_of (the_atoms l.bank.terms l.atoms) (map (the_tree l.bank.terms l.atoms l.steps l.drafts) l.order) (the_tree l.bank.terms l.atoms l.steps l.drafts i)) (take l.k l.order);
+  rows : l.self.written.rows ≡ rows_for_lines (rows_of l.bank.terms l.witnesses) l.self.written.lines;
+  empty : l.self.resolver.resolver ≡ [];
+  made : IsMade (the_atoms l.bank.terms l.atoms) l.self.pool;
+  small_literals : AreSmallLiterals l.self.pool.lits;
+  small : AllByRecursion IsSmallLine l.self.written.lines;
+}
