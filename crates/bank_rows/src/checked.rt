@@ -49,8 +49,9 @@ pub fn normalised(alloc: Global, bank: &mut Bank, term: &Term) -> Result<Id, Row
         return Err(RowRefused::Untyped);
     };
     let mut normal = Normaliser::new(alloc);
-    let id = normal.normalise(bank, term)?;
-    Ok(id)
+    let id = normal.normalise(bank, term);
+    drop(normal);
+    Ok(id?)
 }
 
 /// The normal form of a closed term, as a tree.
@@ -90,10 +91,14 @@ pub fn applied(alloc: Global, bank: &mut Bank, function: Id, argument: Id) -> Re
     }
     let function_type = bank.ty(function)?;
     let argument_type = bank.ty(argument)?;
-    if !takes(&function_type, &argument_type) {
+    let fits = takes(&function_type, &argument_type);
+    drop(function_type);
+    drop(argument_type);
+    if !fits {
         return Err(RowRefused::Untyped);
     }
     let mut normal = Normaliser::new(alloc);
-    let id = normal.instantiate(bank, function, argument)?;
-    Ok(id)
+    let id = normal.instantiate(bank, function, argument);
+    drop(normal);
+    Ok(id?)
 }

@@ -1,12 +1,12 @@
 //! What the terms are over: `c` of type `i`, `g` of type `i > i`, `f` of type `i > i > i` and `k` of type `(i > i) > i`.
 
-ghost use Rattle.std.specs.Prelude.{◌≡◌, IfOk};
+ghost use Rattle.std.specs.Prelude.{◌≡◌, [], map, IfOk, OnOk};
 ghost use Rattle.stt_core.specs.SimpleType.{base, arrow};
 ghost use Rattle.stt_core.specs.View.{the_type};
-ghost use Rattle.bank_rows.specs.Individuals.{HasNames, HasNoWitness};
+ghost use Rattle.bank_rows.specs.Individuals.{HasNames, HasNoWitness, types};
 
 use std::alloc::{AllocError, Global};
-use stt_core::{Signature, Ty};
+use stt_core::{Consts, Signature, Ty};
 use term_bank::Bank;
 
 /// The places of the constants.
@@ -25,17 +25,24 @@ pub fn endo(alloc: Global) -> Result<Ty, AllocError>
     Ty::function(alloc, Ty::Base(1), Ty::Base(1))
 }
 
+/// Declares the constants.
+fn declare(alloc: Global, consts: &mut Consts) -> Result<(), AllocError>
+    requires { consts.old ≡ [] }
+    ensures { OnOk result (map (λ c. c.type) consts.new ≡ types) }
+{
+    consts.push(b"c", Ty::Base(1))?;
+    consts.push(b"g", endo(alloc)?)?;
+    consts.push(b"f", Ty::function(alloc, Ty::Base(1), endo(alloc)?)?)?;
+    consts.push(b"k", Ty::function(alloc, endo(alloc)?, Ty::Base(1))?)?;
+    Ok(())
+}
+
 /// A bank without terms over the constants.
 pub fn empty_bank(alloc: Global) -> Result<Bank, AllocError>
     ensures names { IfOk result HasNames }
     ensures witnesses { IfOk result HasNoWitness }
 {
     let mut sig = Signature::new(alloc);
-    sig.consts.push(b"c", Ty::Base(1))?;
-    sig.consts.push(b"g", endo(alloc)?)?;
-    sig.consts
-        .push(b"f", Ty::function(alloc, Ty::Base(1), endo(alloc)?)?)?;
-    sig.consts
-        .push(b"k", Ty::function(alloc, endo(alloc)?, Ty::Base(1))?)?;
+    declare(alloc, &mut sig.consts)?;
     Ok(Bank::new(alloc, sig))
 }

@@ -79,6 +79,11 @@ fn soon(name: char) -> Job {
     Job { name, delay: 1 }
 }
 
+/// A job without a delay.
+fn at_once(name: char) -> Job {
+    Job { name, delay: 0 }
+}
+
 /// Adds the names in the order in which they leave of a loop of the jobs a, b and c, of which one waits at a time, beside a job d that was
 /// pushed after it.
 fn write_loop<W: Weigher<Job>>(
@@ -132,8 +137,8 @@ fn write_counts<W: Weigher<Job>>(
     agenda.reserve(3)?;
     let room = agenda.spare();
     write!(out, "{}", room >= 3)?;
-    agenda.push(soon('a'), 0)?;
-    agenda.push(soon('b'), 0)?;
+    agenda.push(at_once('a'), 0)?;
+    agenda.push(at_once('b'), 0)?;
     for _ in 0..2 {
         let less = room.saturating_sub(agenda.spare());
         write!(out, ", {} of {} less {less}", agenda.len(), agenda.pushes())?;

@@ -46,7 +46,7 @@ pub fn queued(alloc: Global, text: &str) -> anyhow::Result<String> {
 }
 
 /// Whether a text is written out.
-pub fn written<W: Write>(out: W, text: &str) -> Result<(), Failed> {
+pub fn written<W: Write + Drop>(out: W, text: &str) -> Result<(), Failed> {
     write_all_counted(&mut StdSink::new(out), text.as_bytes())
 }
 

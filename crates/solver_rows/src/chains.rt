@@ -165,30 +165,34 @@ pub fn write_chains(alloc: Global, out: &mut String) -> Result<(), AllocError> {
     write_each(alloc, CHAINS, out)
 }
 
-/// Adds a log over the four clauses of two variables: the results of its chains, from `p` to the empty clause, and how many steps the last
-/// chain has.
-pub fn write_log(alloc: Global, out: &mut String) -> Result<(), AllocError> {
-    let store = store_of(alloc, &[&[P, Q], &[P, NOT_Q], &[NOT_P, Q], &[NOT_P, NOT_Q]])?;
-    let mut log = Log::new(alloc);
-    let first = Premise::Clause(0);
-    let steps = steps_of(alloc, &[(1, 1)])?;
-    log.push(&store, Chain { first, steps })?;
-    let first = Premise::Result(0);
-    let mut steps = steps_of(alloc, &[(0, 2), (1, 3)])?;
-    steps.push(ChainStep {
-        var: Var(0),
-        premise: first,
-    })?;
-    log.push(&store, Chain { first, steps })?;
-    write!(
-        out,
-        "a log of {}, the last of {} steps:",
-        log.len(),
-        log.chain(1).steps.len()
-    )?;
+/// Adds the results of a log, with how many steps each took.
+fn write_results(log: &Log, out: &mut String) -> Result<(), AllocError> {
+    write!(out, "a log of {}:", log.len())?;
     for n in 0..log.len() {
-        out.push(' ')?;
+        write!(out, " {} steps ", log.chain(n).steps.len())?;
         write_clause(out, log.result(n).as_slice())?;
     }
     out.push('\n')
+}
+
+/// Adds a log over the four clauses of two variables: first `p`, and from that the empty clause.
+pub fn write_log(alloc: Global, out: &mut String) -> Result<(), AllocError> {
+    let steps_to_p = steps_of(alloc, &[(1, 1)])?;
+    let p = Premise::Result(0);
+    let mut steps = steps_of(alloc, &[(0, 2), (1, 3)])?;
+    steps.push(ChainStep {
+        var: Var(0),
+        premise: p,
+    })?;
+    let store = store_of(alloc, &[&[P, Q], &[P, NOT_Q], &[NOT_P, Q], &[NOT_P, NOT_Q]])?;
+    let mut log = Log::new(alloc);
+    log.push(
+        &store,
+        Chain {
+            first: Premise::Clause(0),
+            steps: steps_to_p,
+        },
+    )?;
+    log.push(&store, Chain { first: p, steps })?;
+    write_results(&log, out)
 }

@@ -12,12 +12,17 @@ pub struct Problem {
     clauses: ClauseStore,
 }
 
+fn make_variables(solver: &mut Solver, count: usize) -> Result<(), AllocError> {
+    for _ in 0..count {
+        let _var = solver.new_var()?;
+    }
+    Ok(())
+}
+
 impl Problem {
     pub fn new(alloc: Global, variables: usize) -> Result<Self, AllocError> {
         let mut solver = Solver::new(alloc);
-        for _ in 0..variables {
-            let _var = solver.new_var()?;
-        }
+        make_variables(&mut solver, variables)?;
         Ok(Problem {
             solver,
             clauses: ClauseStore::new(alloc),

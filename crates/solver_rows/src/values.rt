@@ -54,30 +54,42 @@ pub fn write_values(alloc: Global, out: &mut String) -> Result<(), AllocError> {
     Ok(())
 }
 
-/// Two clauses, of which the first one grew.
-fn two_clauses(alloc: Global) -> Result<ClauseStore, AllocError> {
+/// A clause that grew.
+fn grown(alloc: Global) -> Result<Clause, AllocError> {
     let mut clause = Clause::new(alloc);
     for literal in [P, Q.negated()] {
         clause.push(literal)?;
     }
-    let mut store = ClauseStore::new(alloc);
-    store.push(clause)?;
-    store.push(Clause::from_slice(alloc, &[Q])?)?;
-    Ok(store)
+    Ok(clause)
 }
 
-/// Adds what is empty at first, and the clauses of a store with how many literals each has.
-pub fn write_store(alloc: Global, out: &mut String) -> Result<(), AllocError> {
-    let no_clause = ClauseStore::new(alloc).is_empty();
-    let no_literal = Clause::new(alloc).is_empty();
-    let store = two_clauses(alloc)?;
-    let count = store.len();
-    write!(out, "empty: {no_clause}, {no_literal}; stored: {count}")?;
-    for n in 0..count {
-        let clause = store.get(n);
+/// Stores two clauses, of which the first one grew.
+fn store_two(alloc: Global, store: &mut ClauseStore) -> Result<(), AllocError> {
+    store.push(grown(alloc)?)?;
+    store.push(Clause::from_slice(alloc, &[Q])?)
+}
+
+/// Adds the clauses of a store, with how many literals each has.
+fn write_stored(store: &ClauseStore, out: &mut String) -> Result<(), AllocError> {
+    write!(out, "stored: {}", store.len())?;
+    for n in 0..store.len() {
         out.push(' ')?;
+        let clause = store.get(n);
         write_clause(out, clause.as_slice())?;
         write!(out, " of {}", clause.iter().count())?;
     }
     out.push('\n')
+}
+
+/// Adds what is empty at first, and a store with two clauses.
+pub fn write_store(alloc: Global, out: &mut String) -> Result<(), AllocError> {
+    let mut store = ClauseStore::new(alloc);
+    let no_clause = store.is_empty();
+    let no_literal = Clause::new(alloc).is_empty();
+    let stored = store_two(alloc, &mut store);
+    let written = write_stored(&store, out);
+    drop(store);
+    stored?;
+    written?;
+    writeln!(out, "empty at first: {no_clause}, {no_literal}")
 }

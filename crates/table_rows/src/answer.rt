@@ -175,13 +175,18 @@ fn write_answer(
     }
 }
 
+/// Adds what tables with nothing in them answer.
+fn write_asked(alloc: Global, line: &str, out: &mut String) -> Result<(), RowRefused> {
+    let sig = signature(alloc)?;
+    let mut tables = Tables::new(alloc, sig);
+    write_answer(alloc, &mut tables, line, out)
+}
+
 /// The line, and behind it what the tables answer.
 pub fn answer(alloc: Global, line: &str) -> Result<String, RowRefused> {
     let mut out = String::from_str(alloc, line)?;
-    if line.starts_with('%') {
-        return Ok(out);
+    if !line.starts_with('%') {
+        write_asked(alloc, line, &mut out)?;
     }
-    let mut tables = Tables::new(alloc, signature(alloc)?);
-    write_answer(alloc, &mut tables, line, &mut out)?;
     Ok(out)
 }

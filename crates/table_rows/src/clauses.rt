@@ -12,7 +12,8 @@ fn lit(number: usize, positive: bool) -> SatLit {
     }
 }
 
-fn list(alloc: Global, lits: &[SatLit]) -> Result<LitList, AllocError> {
+/// The list of these literals.
+pub fn list(alloc: Global, lits: &[SatLit]) -> Result<LitList, AllocError> {
     let mut list = LitList::new(alloc);
     for lit in lits {
         list.push(*lit)?;
@@ -27,10 +28,13 @@ fn alternatives(alloc: Global) -> Result<LitLists, AllocError> {
     Ok(lists)
 }
 
-/// The first variable's literal is confronted with the denial of the second one's: two alternatives of two literals each.
-fn confrontation(alloc: Global) -> Result<Instance, AllocError> {
-    let first = lit(0, true);
-    let second = lit(1, false);
+/// Two literals are confronted, with these alternatives.
+pub fn confronted(
+    alloc: Global,
+    first: SatLit,
+    second: SatLit,
+    alternatives: LitLists,
+) -> Result<Instance, AllocError> {
     let principals = list(alloc, &[first, second])?;
     Ok(Instance {
         by: BankUse {
@@ -40,8 +44,14 @@ fn confrontation(alloc: Global) -> Result<Instance, AllocError> {
             term: None,
         },
         principals,
-        alternatives: alternatives(alloc)?,
+        alternatives,
     })
+}
+
+/// The first variable's literal is confronted with the denial of the second one's: two alternatives of two literals each.
+fn confrontation(alloc: Global) -> Result<Instance, AllocError> {
+    let alternatives = alternatives(alloc)?;
+    confronted(alloc, lit(0, true), lit(1, false), alternatives)
 }
 
 /// Adds whether the unit of a literal is new.
