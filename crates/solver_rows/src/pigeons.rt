@@ -53,10 +53,9 @@ fn place(
     Ok(())
 }
 
-/// The problem with so many holes.
-pub fn pigeons(alloc: Global, holes: usize) -> Result<Problem, AllocError> {
+/// States the problem with so many holes.
+pub fn state_pigeons(alloc: Global, problem: &mut Problem, holes: usize) -> Result<(), AllocError> {
     let count = holes.wrapping_add(1);
-    let mut problem = Problem::new(alloc, count.wrapping_mul(holes))?;
-    place(alloc, &mut problem, holes, count)?;
-    Ok(problem)
+    problem.restart(alloc, count.wrapping_mul(holes))?;
+    place(alloc, problem, holes, count)
 }
