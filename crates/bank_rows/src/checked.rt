@@ -49,9 +49,8 @@ pub fn normalised(alloc: Global, bank: &mut Bank, term: &Term) -> Result<Id, Row
         return Err(RowRefused::Untyped);
     };
     let mut normal = Normaliser::new(alloc);
-    let id = normal.normalise(bank, term);
-    drop(normal);
-    Ok(id?)
+    let id = normal.normalise(bank, term)?;
+    Ok(id)
 }
 
 /// The normal form of a closed term, as a tree.
@@ -91,14 +90,10 @@ pub fn applied(alloc: Global, bank: &mut Bank, function: Id, argument: Id) -> Re
     }
     let function_type = bank.ty(function)?;
     let argument_type = bank.ty(argument)?;
-    let fits = takes(&function_type, &argument_type);
-    drop(function_type);
-    drop(argument_type);
-    if !fits {
+    if !takes(&function_type, &argument_type) {
         return Err(RowRefused::Untyped);
     }
     let mut normal = Normaliser::new(alloc);
-    let id = normal.instantiate(bank, function, argument);
-    drop(normal);
-    Ok(id?)
+    let id = normal.instantiate(bank, function, argument)?;
+    Ok(id)
 }
