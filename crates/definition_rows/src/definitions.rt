@@ -3,12 +3,18 @@
 ghost use Rattle.stt_core.specs.TypedProblem.{IsTyped};
 
 use delta_defs::{taken, unfold_problem};
-use std::alloc::Global;
+use std::alloc::{AllocError, Global};
 use std::str;
 use stt_core::Problem;
 
-/// The names of the definitions that are taken, and how many formulas are left.
-pub fn taken_from(alloc: Global, problem: &Problem) -> anyhow::Result<String>
+/// How many formulas are left.
+fn left(alloc: Global, problem: &Problem) -> Result<usize, AllocError> {
+    let unfolded = unfold_problem(alloc, problem)?;
+    Ok(unfolded.assumed.len())
+}
+
+/// The names of the definitions that are taken, each with a comma.
+fn names_taken(alloc: Global, problem: &Problem) -> anyhow::Result<String>
     requires { IsTyped problem.now }
 {
     let taken = taken(alloc, problem)?;
@@ -18,6 +24,14 @@ pub fn taken_from(alloc: Global, problem: &Problem) -> anyhow::Result<String>
         text.push_str(str::from_utf8(name)?)?;
         text.push_str(", ")?;
     }
-    let left = unfold_problem(alloc, problem)?.assumed.len();
-    Ok(format!(in alloc; "{text}{left} left")?)
+    Ok(text)
+}
+
+/// The names of the definitions that are taken, and how many formulas are left.
+pub fn taken_from(alloc: Global, problem: &Problem) -> anyhow::Result<String>
+    requires { IsTyped problem.now }
+{
+    let left = left(alloc, problem)?;
+    let names = names_taken(alloc, problem)?;
+    Ok(format!(in alloc; "{names}{left} left")?)
 }

@@ -19,6 +19,25 @@ fn bytes_in<F: Files>(alloc: Global, files: &mut F, name: &str) -> anyhow::Resul
     }
 }
 
+/// Why a text isn't read.
+fn refusal(alloc: Global, refused: TextRefused) -> anyhow::Result<String> {
+    match refused {
+        TextRefused::BadLine { line } => Ok(format!(in alloc; "line {line} form")?),
+        TextRefused::NoStart { line } => Ok(format!(in alloc; "line {line} start")?),
+        TextRefused::NoEnd { line } => Ok(format!(in alloc; "line {line} end")?),
+        TextRefused::Memory => bail!("no memory"),
+    }
+}
+
+/// What the check of a text answers.
+fn verdict(alloc: Global, checked: Result<(), CheckRefused>) -> anyhow::Result<String> {
+    match checked {
+        Ok(()) => Ok(String::from_str(alloc, "accepted")?),
+        Err(CheckRefused::Line { line, why }) => Ok(format!(in alloc; "line {line} {why:?}")?),
+        Err(CheckRefused::Memory) => bail!("no memory"),
+    }
+}
+
 /// Whether the text in a file is accepted for the problem, or its first line that fails.
 pub fn check<F: Files>(
     alloc: Global,
@@ -29,16 +48,10 @@ pub fn check<F: Files>(
     requires { IsTyped problem.now }
 {
     let bytes = bytes_in(alloc, files, name)?;
-    let text = match read_text(alloc, bytes.as_slice()) {
-        Ok(text) => text,
-        Err(TextRefused::BadLine { line }) => return Ok(format!(in alloc; "line {line} form")?),
-        Err(TextRefused::NoStart { line }) => return Ok(format!(in alloc; "line {line} start")?),
-        Err(TextRefused::NoEnd { line }) => return Ok(format!(in alloc; "line {line} end")?),
-        Err(TextRefused::Memory) => bail!("no memory"),
-    };
-    match check_refutation(alloc, problem, &text) {
-        Ok(()) => Ok(String::from_str(alloc, "accepted")?),
-        Err(CheckRefused::Line { line, why }) => Ok(format!(in alloc; "line {line} {why:?}")?),
-        Err(CheckRefused::Memory) => bail!("no memory"),
+    let read = read_text(alloc, bytes.as_slice());
+    drop(bytes);
+    match read {
+        Ok(text) => verdict(alloc, check_refutation(alloc, problem, &text)),
+        Err(refused) => refusal(alloc, refused),
     }
 }

@@ -22,39 +22,63 @@ fn tree_of(alloc: Global, bytes: &[u8]) -> Result<FileTree, ParseRefused> {
     }
 }
 
+/// Why bytes have no tree, if they have none.
+fn refusal(alloc: Global, bytes: &[u8]) -> Option<ParseRefused> {
+    match tree_of(alloc, bytes) {
+        Ok(_tree) => None,
+        Err(refused) => Some(refused),
+    }
+}
+
 /// Whether bytes have a tree.
 fn verdict(alloc: Global, bytes: &[u8]) -> Result<String, AllocError> {
-    match tree_of(alloc, bytes) {
-        Ok(_tree) => String::from_str(alloc, "has a tree"),
-        Err(refused) => format!(in alloc; "{refused:?}"),
+    match refusal(alloc, bytes) {
+        Some(refused) => format!(in alloc; "{refused:?}"),
+        None => String::from_str(alloc, "has a tree"),
     }
+}
+
+/// The text of a tree, and whether that has one.
+fn text_of(alloc: Global, line: &str, bytes: &[u8]) -> anyhow::Result<String> {
+    let text = str::from_utf8(bytes)?;
+    let verdict = verdict(alloc, bytes)?;
+    Ok(format!(in alloc; "{line} = {text:?} {verdict}")?)
+}
+
+fn surface_of(alloc: Global, line: &str, tree: &FileTree) -> anyhow::Result<String> {
+    let mut sink = GrowSink::new(alloc);
+    if write_surface(tree, &mut sink).is_err() {
+        bail!("the text can't be written");
+    }
+    text_of(alloc, line, sink.bytes())
 }
 
 /// The text of a line's tree.
 fn written(alloc: Global, line: &str) -> anyhow::Result<String> {
-    let tree = match tree_of(alloc, line.as_bytes()) {
-        Ok(tree) => tree,
+    match tree_of(alloc, line.as_bytes()) {
+        Ok(tree) => surface_of(alloc, line, &tree),
         Err(refused) => bail!("{line}: {refused:?}"),
-    };
-    let mut sink = GrowSink::new(alloc);
-    if write_surface(&tree, &mut sink).is_err() {
-        bail!("the text can't be written");
     }
-    let verdict = verdict(alloc, sink.bytes())?;
+}
+
+fn surface_within(
+    alloc: Global,
+    line: &str,
+    tree: &FileTree,
+    room: usize,
+) -> anyhow::Result<String> {
+    let mut sink = MemSink::new(alloc, room, CallList::new(alloc))?;
+    let outcome = write_surface(tree, &mut sink);
     let text = str::from_utf8(sink.bytes())?;
-    Ok(format!(in alloc; "{line} = {text:?} {verdict}")?)
+    Ok(format!(in alloc; "{line} = {text:?} {outcome:?}")?)
 }
 
 /// As much of the text of a line's tree as a sink has room for.
 fn written_within(alloc: Global, line: &str, text: &str, room: usize) -> anyhow::Result<String> {
-    let tree = match tree_of(alloc, text.as_bytes()) {
-        Ok(tree) => tree,
+    match tree_of(alloc, text.as_bytes()) {
+        Ok(tree) => surface_within(alloc, line, &tree, room),
         Err(refused) => bail!("{line}: {refused:?}"),
-    };
-    let mut sink = MemSink::new(alloc, room, CallList::new(alloc))?;
-    let outcome = write_surface(&tree, &mut sink);
-    let text = str::from_utf8(sink.bytes())?;
-    Ok(format!(in alloc; "{line} = {text:?} {outcome:?}")?)
+    }
 }
 
 /// The line, and behind it what is written of its tree.

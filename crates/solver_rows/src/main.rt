@@ -1,30 +1,34 @@
-//! The solver's answers beside truth tables: pigeonhole problems, random problems, and random sequences of variables, clauses and answers.
+//! Clauses, chains and logs worked out by hand, and the solver's answers beside truth tables: pigeonhole problems, random problems, and random
+//! sequences of variables, clauses and answers.
 #![tactic(auto)]
 
+mod chains;
 mod pigeons;
 mod problem;
 mod random;
 mod rows;
 mod table;
+mod values;
+mod written;
 
-use rows::{
-    four_clauses_within, pigeonholes_refuted, random_problems_right, random_sequences_right,
-};
+use chains::{write_chains, write_log};
+use rows::write_answers;
+use std::alloc::{AllocError, Global};
+use values::{write_store, write_values};
+
+/// Adds the lines of clauses, chains and logs, and those of the solver.
+fn write_lines(alloc: Global, out: &mut String) -> Result<(), AllocError> {
+    write_values(alloc, out)?;
+    write_store(alloc, out)?;
+    write_chains(alloc, out)?;
+    write_log(alloc, out)?;
+    write_answers(alloc, out)
+}
 
 fn main(rt: HostRuntime) -> anyhow::Result<()> {
     let alloc = rt.alloc();
-    println!(rt;
-        "pigeonhole problems of 3 to 7 pigeons: {} refuted",
-        pigeonholes_refuted(alloc)?
-    )?;
-    println!(rt; "random problems: {} right", random_problems_right(alloc)?)?;
-    for budget in [0, 729] {
-        let answer = four_clauses_within(alloc, budget)?;
-        println!(rt; "four clauses over two variables within {budget} conflicts: {answer:?}")?;
-    }
-    println!(rt;
-        "random sequences: {} right",
-        random_sequences_right(alloc)?
-    )?;
+    let mut out = String::new(alloc);
+    write_lines(alloc, &mut out)?;
+    print!(rt; "{out}")?;
     Ok(())
 }

@@ -37,15 +37,25 @@ fn somewhere(alloc: Global, holes: usize, pigeon: usize) -> Result<Clause, Alloc
     Ok(clause)
 }
 
-/// The problem with so many holes.
-pub fn pigeons(alloc: Global, holes: usize) -> Result<Problem, AllocError> {
-    let count = holes.wrapping_add(1);
-    let mut problem = Problem::new(alloc, count.wrapping_mul(holes))?;
+/// Puts so many pigeons in some hole each, and no two of them in one.
+fn place(
+    alloc: Global,
+    problem: &mut Problem,
+    holes: usize,
+    count: usize,
+) -> Result<(), AllocError> {
     for pigeon in 0..count {
         let _added = problem.add(somewhere(alloc, holes, pigeon)?)?;
         for other in 0..pigeon {
-            keep_apart(alloc, &mut problem, holes, pigeon, other)?;
+            keep_apart(alloc, problem, holes, pigeon, other)?;
         }
     }
-    Ok(problem)
+    Ok(())
+}
+
+/// States the problem with so many holes.
+pub fn state_pigeons(alloc: Global, problem: &mut Problem, holes: usize) -> Result<(), AllocError> {
+    let count = holes.wrapping_add(1);
+    problem.restart(alloc, count.wrapping_mul(holes))?;
+    place(alloc, problem, holes, count)
 }

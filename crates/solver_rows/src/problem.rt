@@ -12,16 +12,27 @@ pub struct Problem {
     clauses: ClauseStore,
 }
 
+fn make_variables(solver: &mut Solver, count: usize) -> Result<(), AllocError> {
+    for _ in 0..count {
+        let _var = solver.new_var()?;
+    }
+    Ok(())
+}
+
 impl Problem {
-    pub fn new(alloc: Global, variables: usize) -> Result<Self, AllocError> {
-        let mut solver = Solver::new(alloc);
-        for _ in 0..variables {
-            let _var = solver.new_var()?;
-        }
-        Ok(Problem {
-            solver,
+    /// The problem without variables.
+    pub fn new(alloc: Global) -> Self {
+        Problem {
+            solver: Solver::new(alloc),
             clauses: ClauseStore::new(alloc),
-        })
+        }
+    }
+
+    /// Begins anew, with so many variables.
+    pub fn restart(&mut self, alloc: Global, variables: usize) -> Result<(), AllocError> {
+        self.solver = Solver::new(alloc);
+        self.clauses = ClauseStore::new(alloc);
+        make_variables(&mut self.solver, variables)
     }
 
     /// Adds a clause, and tells whether its variables are there.

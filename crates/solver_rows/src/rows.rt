@@ -1,6 +1,7 @@
 //! The rows.
+ghost use Rattle.std.specs.Prelude.{◌<◌};
 
-use crate::pigeons::pigeons;
+use crate::pigeons::state_pigeons;
 use crate::problem::Problem;
 use crate::random::{Random, literal, random_clause};
 use sat_base::Clause;
@@ -8,52 +9,55 @@ use sat_core::Answer;
 use std::alloc::{AllocError, Global};
 
 /// How many of the problems with two to six holes are refuted.
-pub fn pigeonholes_refuted(alloc: Global) -> Result<u32, AllocError> {
+fn pigeonholes_refuted(alloc: Global, problem: &mut Problem) -> Result<u32, AllocError> {
     let mut refuted: u32 = 0;
     for holes in 2..7 {
-        if pigeons(alloc, holes)?.solve(100_000)? == Answer::Unsat {
+        state_pigeons(alloc, problem, holes)?;
+        if problem.solve(100_000)? == Answer::Unsat {
             refuted = refuted.saturating_add(1);
         }
     }
     Ok(refuted)
 }
 
-/// A problem of 8 to 14 variables, with four times as many clauses.
-fn random_problem(alloc: Global, random: &mut Random) -> Result<Problem, AllocError> {
-    let variables = 8 + random.below(7) as usize;
-    let mut problem = Problem::new(alloc, variables)?;
-    for _ in 0..4 * variables {
+/// States a problem of so many variables, with four times as many clauses.
+fn state_random(
+    alloc: Global,
+    problem: &mut Problem,
+    random: &mut Random,
+    variables: usize,
+) -> Result<(), AllocError>
+    requires { 0 < variables }
+{
+    problem.restart(alloc, variables)?;
+    for _ in 0..variables.saturating_mul(4) {
         let _added = problem.add(random_clause(alloc, random, variables)?)?;
     }
-    Ok(problem)
+    Ok(())
 }
 
-/// How many of twenty random problems are answered as their truth tables say.
-pub fn random_problems_right(alloc: Global) -> Result<u32, AllocError> {
+/// How many of twenty random problems of 8 to 14 variables are answered as their truth tables say.
+fn random_problems_right(alloc: Global, problem: &mut Problem) -> Result<u32, AllocError> {
     let mut random = Random { state: 1 };
     let mut right: u32 = 0;
     for _ in 0..20 {
-        if random_problem(alloc, &mut random)?.is_right(alloc, 5_000_000)? {
+        let variables = 8 + random.below(7) as usize;
+        state_random(alloc, problem, &mut random, variables)?;
+        if problem.is_right(alloc, 5_000_000)? {
             right = right.saturating_add(1);
         }
     }
     Ok(right)
 }
 
-/// All four clauses of two literals over two variables.
-fn four_clauses(alloc: Global) -> Result<Problem, AllocError> {
-    let mut problem = Problem::new(alloc, 2)?;
+/// States all four clauses of two literals over two variables.
+fn state_four(alloc: Global, problem: &mut Problem) -> Result<(), AllocError> {
+    problem.restart(alloc, 2)?;
     for (first, second) in [(true, true), (true, false), (false, true), (false, false)] {
         let literals = [literal(0, first), literal(1, second)];
-        let clause = Clause::from_slice(alloc, &literals)?;
-        let _added = problem.add(clause)?;
+        let _added = problem.add(Clause::from_slice(alloc, &literals)?)?;
     }
-    Ok(problem)
-}
-
-/// The answer to all four clauses of two literals over two variables.
-pub fn four_clauses_within(alloc: Global, budget: u64) -> Result<Answer, AllocError> {
-    four_clauses(alloc)?.solve(budget)
+    Ok(())
 }
 
 /// Whether the next thing is a variable, where there are some.
@@ -97,10 +101,14 @@ fn is_round_right(
 }
 
 /// Whether twenty rounds over one solver are right.
-fn is_sequence_right(alloc: Global, random: &mut Random) -> Result<bool, AllocError> {
-    let mut problem = Problem::new(alloc, 1)?;
+fn is_sequence_right(
+    alloc: Global,
+    problem: &mut Problem,
+    random: &mut Random,
+) -> Result<bool, AllocError> {
+    problem.restart(alloc, 1)?;
     for _ in 0..20 {
-        if !is_round_right(alloc, &mut problem, random)? {
+        if !is_round_right(alloc, problem, random)? {
             return Ok(false);
         }
     }
@@ -108,13 +116,39 @@ fn is_sequence_right(alloc: Global, random: &mut Random) -> Result<bool, AllocEr
 }
 
 /// How many of two hundred random sequences are right.
-pub fn random_sequences_right(alloc: Global) -> Result<u32, AllocError> {
+fn random_sequences_right(alloc: Global, problem: &mut Problem) -> Result<u32, AllocError> {
     let mut random = Random { state: 2 };
     let mut right: u32 = 0;
     for _ in 0..200 {
-        if is_sequence_right(alloc, &mut random)? {
+        if is_sequence_right(alloc, problem, &mut random)? {
             right = right.saturating_add(1);
         }
     }
     Ok(right)
+}
+
+fn write_each(alloc: Global, problem: &mut Problem, out: &mut String) -> Result<(), AllocError> {
+    let refuted = pigeonholes_refuted(alloc, problem)?;
+    writeln!(
+        out,
+        "pigeonhole problems of 3 to 7 pigeons: {refuted} refuted"
+    )?;
+    let right = random_problems_right(alloc, problem)?;
+    writeln!(out, "random problems: {right} right")?;
+    for budget in [0, 729] {
+        state_four(alloc, problem)?;
+        let answer = problem.solve(budget)?;
+        writeln!(
+            out,
+            "four clauses over two variables within {budget} conflicts: {answer:?}"
+        )?;
+    }
+    let right = random_sequences_right(alloc, problem)?;
+    writeln!(out, "random sequences: {right} right")
+}
+
+/// Adds how many problems are answered as they should be.
+pub fn write_answers(alloc: Global, out: &mut String) -> Result<(), AllocError> {
+    let mut problem = Problem::new(alloc);
+    write_each(alloc, &mut problem, out)
 }

@@ -33,23 +33,25 @@ fn advance(values: &mut [bool]) -> bool {
     false
 }
 
+/// Whether a row from this one on makes each clause true.
+fn is_some_row_true(clauses: &ClauseStore, values: &mut [bool]) -> bool {
+    for _ in 0..ROWS {
+        if hold(clauses, values) {
+            return true;
+        }
+        if !advance(values) {
+            return false;
+        }
+    }
+    false
+}
+
 /// Whether a row of the table makes each clause true.
 pub fn is_satisfiable(
     alloc: Global,
     clauses: &ClauseStore,
     variables: usize,
 ) -> Result<bool, AllocError> {
-    let mut values = Vec::new(alloc);
-    for _ in 0..variables {
-        values.push(false)?;
-    }
-    for _ in 0..ROWS {
-        if hold(clauses, values.as_slice()) {
-            return Ok(true);
-        }
-        if !advance(values.as_mut_slice()) {
-            return Ok(false);
-        }
-    }
-    Ok(false)
+    let mut values = vec![in alloc; false; variables]?;
+    Ok(is_some_row_true(clauses, values.as_mut_slice()))
 }

@@ -2,6 +2,8 @@
 ghost use Rattle.table_rows.specs.Sound.{IsSound};
 
 use crate::bulk::{clauses_of, partners_of};
+use crate::clauses::write_clauses;
+use crate::growth::{write_grown, write_terms};
 use crate::refusal::RowRefused;
 use crate::scope::signature;
 use crate::tables::Tables;
@@ -142,6 +144,16 @@ fn write_noted(
     Ok(write_number(alloc, count, out)?)
 }
 
+/// Adds what two units and two confrontations give, or terms of some types.
+fn write_twice(alloc: Global, words: &str, out: &mut String) -> Result<(), RowRefused> {
+    out.push_str(" =")?;
+    match words {
+        "clauses" => Ok(write_clauses(alloc, out)?),
+        "terms" => Ok(write_terms(alloc, out)?),
+        _ => Err(RowRefused::Unread),
+    }
+}
+
 /// Adds what the tables answer.
 fn write_answer(
     alloc: Global,
@@ -157,17 +169,24 @@ fn write_answer(
         "partners" => write_partners(alloc, tables, words, out),
         "kept" => write_kept(alloc, words, out),
         "noted" => write_noted(alloc, tables, words, out),
+        "twice" => write_twice(alloc, words, out),
+        "grown" => write_grown(alloc, words, out),
         _ => write_instances(alloc, tables, line, out),
     }
+}
+
+/// Adds what tables with nothing in them answer.
+fn write_asked(alloc: Global, line: &str, out: &mut String) -> Result<(), RowRefused> {
+    let sig = signature(alloc)?;
+    let mut tables = Tables::new(alloc, sig);
+    write_answer(alloc, &mut tables, line, out)
 }
 
 /// The line, and behind it what the tables answer.
 pub fn answer(alloc: Global, line: &str) -> Result<String, RowRefused> {
     let mut out = String::from_str(alloc, line)?;
-    if line.starts_with('%') {
-        return Ok(out);
+    if !line.starts_with('%') {
+        write_asked(alloc, line, &mut out)?;
     }
-    let mut tables = Tables::new(alloc, signature(alloc)?);
-    write_answer(alloc, &mut tables, line, &mut out)?;
     Ok(out)
 }

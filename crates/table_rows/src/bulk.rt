@@ -1,9 +1,10 @@
 //! Rows of many instances and of many notes, so that their time can be taken.
 ghost use Rattle.table_rows.specs.Sound.{IsSound};
 
+use crate::clauses::{confronted, list};
 use crate::refusal::RowRefused;
 use crate::tables::Tables;
-use literal_map::{BankUse, Instance, LitList, LitLists, RuleKind};
+use literal_map::{Instance, LitList, LitLists};
 use sat_base::{SatLit, Var};
 use std::alloc::{AllocError, Global};
 use tableau_clauses::StepTable;
@@ -37,31 +38,23 @@ impl Draws {
     }
 
     fn pair(&mut self, alloc: Global) -> Result<LitList, AllocError> {
-        let mut list = LitList::new(alloc);
-        list.push(self.lit(false))?;
-        list.push(self.lit(false))?;
-        Ok(list)
+        let first = self.lit(false);
+        let second = self.lit(false);
+        list(alloc, &[first, second])
+    }
+
+    fn alternatives(&mut self, alloc: Global) -> Result<LitLists, AllocError> {
+        let mut lists = LitLists::new(alloc);
+        lists.push(self.pair(alloc)?)?;
+        lists.push(self.pair(alloc)?)?;
+        Ok(lists)
     }
 
     fn confrontation(&mut self, alloc: Global) -> Result<Instance, AllocError> {
         let first = self.lit(true);
         let second = self.lit(false);
-        let mut principals = LitList::new(alloc);
-        principals.push(first)?;
-        principals.push(second)?;
-        let mut alternatives = LitLists::new(alloc);
-        alternatives.push(self.pair(alloc)?)?;
-        alternatives.push(self.pair(alloc)?)?;
-        Ok(Instance {
-            by: BankUse {
-                kind: RuleKind::Con,
-                first: Some(first),
-                second: Some(second),
-                term: None,
-            },
-            principals,
-            alternatives,
-        })
+        let alternatives = self.alternatives(alloc)?;
+        confronted(alloc, first, second, alternatives)
     }
 }
 
@@ -88,6 +81,40 @@ fn text_of(alloc: Global, front: &str, number: usize, end: &str) -> Result<Strin
     Ok(text)
 }
 
+/// The literal of the formula between two texts with the term of a number.
+fn numbered(
+    alloc: Global,
+    tables: &mut Tables,
+    front: &str,
+    number: usize,
+    end: &str,
+) -> Result<SatLit, RowRefused>
+    requires { IsSound tables.old }
+    ensures { IsSound tables.new }
+{
+    let text = text_of(alloc, front, number, end)?;
+    tables.signed(text.as_str())
+}
+
+/// Adds the literals between two texts of so many numbers.
+fn add_numbered(
+    alloc: Global,
+    tables: &mut Tables,
+    lits: &mut LitList,
+    front: &str,
+    end: &str,
+    count: usize,
+) -> Result<(), RowRefused>
+    requires { IsSound tables.old }
+    ensures { IsSound tables.new }
+{
+    for k in 0..count {
+        let lit = numbered(alloc, tables, front, k, end)?;
+        lits.push(lit)?;
+    }
+    Ok(())
+}
+
 /// How many partners are found for 1,000 literals, each of which has ten, and which are noted so many times, where so many literals of
 /// another head are there before.
 pub fn partners_of(
@@ -99,18 +126,9 @@ pub fn partners_of(
     requires { IsSound tables.old }
 {
     let mut before = LitList::new(alloc);
-    for k in 0..others {
-        let text = text_of(alloc, "+@@h", k, "c")?;
-        before.push(tables.signed(text.as_str())?)?;
-    }
-    for k in 0..PARTNERS {
-        let text = text_of(alloc, "+@r", k, "")?;
-        before.push(tables.signed(text.as_str())?)?;
-    }
+    add_numbered(alloc, tables, &mut before, "+@@h", "c", others)?;
+    add_numbered(alloc, tables, &mut before, "+@r", "", PARTNERS)?;
     let mut after = LitList::new(alloc);
-    for k in 0..NOTED {
-        let text = text_of(alloc, "-@r", k, "")?;
-        after.push(tables.signed(text.as_str())?)?;
-    }
+    add_numbered(alloc, tables, &mut after, "-@r", "", NOTED)?;
     tables.count_partners(&before, &after, rounds)
 }

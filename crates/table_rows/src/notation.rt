@@ -131,18 +131,17 @@ fn letter(letters: &[u8], k: u32) -> char {
 
 fn write_head(out: &mut String, head: &Head) -> Result<(), AllocError> {
     match head {
-        Head::Bound(k) => out.push(digit(*k))?,
-        Head::Name(k) => out.push(letter(CONSTANTS, *k))?,
-        Head::Wit(k) => out.push(letter(WITNESSES, *k))?,
-        Head::False => out.push('F')?,
-        Head::Not => out.push('N')?,
-        Head::Imp => out.push('I')?,
-        Head::All(a) => write_with_type(out, 'A', a)?,
-        Head::Eq(a) => write_with_type(out, 'E', a)?,
-        Head::Choice(a) => write_with_type(out, 'C', a)?,
-        Head::Desc(a) => write_with_type(out, 'D', a)?,
+        Head::Bound(k) => out.push(digit(*k)),
+        Head::Name(k) => out.push(letter(CONSTANTS, *k)),
+        Head::Wit(k) => out.push(letter(WITNESSES, *k)),
+        Head::False => out.push('F'),
+        Head::Not => out.push('N'),
+        Head::Imp => out.push('I'),
+        Head::All(a) => write_with_type(out, 'A', a),
+        Head::Eq(a) => write_with_type(out, 'E', a),
+        Head::Choice(a) => write_with_type(out, 'C', a),
+        Head::Desc(a) => write_with_type(out, 'D', a),
     }
-    Ok(())
 }
 
 /// Adds the text of a canonical term.

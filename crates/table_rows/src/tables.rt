@@ -156,22 +156,54 @@ impl Tables {
     }
 
     /// Notes the literals one after the other, and adds the text of each one's partners among those before it.
-    pub fn write_partners(&self, noted: &LitList, out: &mut String) -> Result<(), RowRefused>
-        requires { IsSound self.now }
+    fn write_noted(
+        &self,
+        index: &mut Index,
+        noted: &LitList,
+        out: &mut String,
+    ) -> Result<(), RowRefused>
+        requires sound { IsSound self.now }
+        requires right { IsRight self.now.bank.terms self.now.lits index.old }
     {
-        let mut index = Index::new(self.alloc);
         for lit in noted.as_slice() {
             if !self.is_number(Some(*lit)) {
                 return Err(RowRefused::Unread);
             }
-            let partners = index.note(&self.bank, &self.lits, *lit)?;
             out.push(' ')?;
+            let partners = index.note(&self.bank, &self.lits, *lit)?;
             self.write_lits(partners.as_slice(), out)?;
         }
         Ok(())
     }
 
+    /// Notes the literals where none is noted yet, and adds the text of each one's partners.
+    pub fn write_partners(&self, noted: &LitList, out: &mut String) -> Result<(), RowRefused>
+        requires { IsSound self.now }
+    {
+        let mut index = Index::new(self.alloc);
+        self.write_noted(&mut index, noted, out)
+    }
+
     /// How many partners are found for the later literals, which are noted so many times after the earlier ones.
+    fn count_noted(
+        &self,
+        index: &mut Index,
+        earlier: &LitList,
+        later: &LitList,
+        rounds: usize,
+    ) -> Result<usize, RowRefused>
+        requires sound { IsSound self.now }
+        requires right { IsRight self.now.bank.terms self.now.lits index.old }
+    {
+        self.note_all(index, earlier)?;
+        let mut count: usize = 0;
+        for _ in 0..rounds {
+            count = count.saturating_add(self.note_all(index, later)?);
+        }
+        Ok(count)
+    }
+
+    /// How many partners are found for the later literals, where none is noted before the earlier ones.
     pub fn count_partners(
         &self,
         earlier: &LitList,
@@ -181,12 +213,7 @@ impl Tables {
         requires { IsSound self.now }
     {
         let mut index = Index::new(self.alloc);
-        self.note_all(&mut index, earlier)?;
-        let mut count: usize = 0;
-        for _ in 0..rounds {
-            count = count.saturating_add(self.note_all(&mut index, later)?);
-        }
-        Ok(count)
+        self.count_noted(&mut index, earlier, later, rounds)
     }
 
     /// Notes the literals. The answer is the number of all their partners.
