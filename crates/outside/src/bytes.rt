@@ -1,17 +1,13 @@
 // A list of bytes that grows.
 ghost use Rattle.std.specs.Prelude.{◌≡◌, [], ◌∷◌, ◌++◌, length, IfOk, OnOk, OnErr, IsTrue, ◌↔◌};
 
-use smallvec::SmallVec;
 use std::alloc::{AllocError, Global};
 use std::marker::Model;
-
-// Most names have at most this many bytes, and then take no allocation.
-const INLINE: usize = 24;
 
 /// A list of bytes that grows.
 #[derive(Debug, Drop)]
 pub struct Bytes {
-    items: SmallVec<u8, INLINE>,
+    items: Vec<u8>,
 }
 
 impl Model for Bytes {
@@ -27,7 +23,7 @@ impl Bytes {
         ensures { result ≡ [] }
     {
         Bytes {
-            items: SmallVec::new(alloc),
+            items: Vec::new(alloc),
         }
     }
 
@@ -35,7 +31,7 @@ impl Bytes {
         ensures { IfOk result (λ copy. copy ≡ bytes.now) }
     {
         Ok(Bytes {
-            items: SmallVec::from_slice(alloc, bytes)?,
+            items: Vec::from_slice(alloc, bytes)?,
         })
     }
 
@@ -58,7 +54,7 @@ impl Bytes {
     pub fn as_slice(&self) -> &[u8]
         ensures { result.now ≡ self.now }
     {
-        self.items.as_slice()
+        &self.items
     }
 
     pub fn len(&self) -> usize

@@ -7,7 +7,7 @@ ghost use Rattle.stt_tableau.specs.Witnesses.{IsTypedRow};
 ghost use Rattle.term_bank.specs.Terms.{term_at};
 ghost use Rattle.witness_names.specs.Rows.{binder_of, row_of};
 ghost use Rattle.stt_tableau.specs.Means.Answers.{RowAnswer};
-ghost use Rattle.refute_check.specs.Numbered.{numbered_row};
+ghost use Rattle.refute_check.specs.Numbered.{argument_type, numbered_row};
 ghost use Rattle.refute_check.specs.Means.Branches.{Grow};
 ghost use Rattle.refute_check.specs.Means.Shared.{declared_in, the_atoms, the_rows, IsGood};
 
@@ -49,6 +49,28 @@ impl Shared {
         Ok(())
     }
 
+    /// Adds the witness of a row, whose type is that which its predicate takes, or answers why the row fails.
+    fn add_numbered(&mut self, alloc: Global, row: &WitnessRow) -> Result<Option<Why>, AllocError>
+        requires good { IsGood self.old }
+        requires formed { row.now.type ≡ argument_type row.now.predicate }
+        ensures answer { IfOk result (RowAnswer (declared_in self.old) (the_rows self.old) row.now) }
+        ensures rows { IfOk result (λ why. why ≡ None → the_rows self.new ≡ the_rows self.old ++ row.now ∷ []) }
+        ensures atoms { IfOk result (λ why. why ≡ None → Grow (the_atoms self.old) (the_atoms self.new)) }
+        ensures declared { IfOk result (λ why. why ≡ None → declared_in self.new ≡ declared_in self.old) }
+        ensures good { IfOk result (λ why. why ≡ None → IsGood self.new) }
+    {
+        if !self.is_row(alloc, row)? {
+            return Ok(Some(Why::Typing));
+        }
+        let id = self.bank.import(&row.predicate)?;
+        equal_ids_for_equal_terms(&self.bank);
+        if self.witnesses.find(id).is_some() {
+            return Ok(Some(Why::Twice));
+        }
+        self.push_row(id, row.ty.try_clone(alloc)?)?;
+        Ok(None)
+    }
+
     /// Adds the witness of a text's row, or answers why the row fails.
     pub(crate) fn add_row(
         &mut self,
@@ -64,15 +86,8 @@ impl Shared {
         ensures good { IfOk result (λ why. why ≡ None → IsGood self.new) }
     {
         let row = number_row(alloc, numbering, predicate)?;
-        if !self.is_row(alloc, &row)? {
-            return Ok(Some(Why::Typing));
-        }
-        let id = self.bank.import(&row.predicate)?;
-        equal_ids_for_equal_terms(&self.bank);
-        if self.witnesses.find(id).is_some() {
-            return Ok(Some(Why::Twice));
-        }
-        self.push_row(id, row.ty)?;
-        Ok(None)
+        let answer = self.add_numbered(alloc, &row);
+        drop(row);
+        answer
     }
 }

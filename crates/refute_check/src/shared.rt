@@ -114,6 +114,20 @@ impl Shared {
         }
     }
 
+    /// The place of a term, or none where it isn't closed and canonical over what is declared.
+    fn place_of(&mut self, alloc: Global, nf: &Nf) -> Result<Option<Id>, AllocError>
+        requires good { IsGood self.old }
+        ensures place { IfOk result (HasPlace self.new nf.now) }
+        ensures extends { OnOk result (Extends self.old self.new) }
+        ensures good { OnOk result (IsGood self.new) }
+    {
+        if self.type_of(alloc, nf)?.is_none() {
+            return Ok(None);
+        }
+        let id = self.bank.import(nf)?;
+        Ok(Some(id))
+    }
+
     /// The place of a text's term, or none where it isn't closed and canonical over what is declared.
     pub(crate) fn term(
         &mut self,
@@ -127,10 +141,23 @@ impl Shared {
         ensures good { OnOk result (IsGood self.new) }
     {
         let nf = number_term(alloc, numbering, term)?;
-        if self.type_of(alloc, &nf)?.is_none() {
+        let place = self.place_of(alloc, &nf);
+        drop(nf);
+        place
+    }
+
+    /// The place of a predicate, or none where the term is none.
+    fn predicate_place(&mut self, alloc: Global, nf: &Nf) -> Result<Option<Id>, AllocError>
+        requires good { IsGood self.old }
+        ensures place { IfOk result (HasPredicate self.new nf.now) }
+        ensures extends { OnOk result (Extends self.old self.new) }
+        ensures good { OnOk result (IsGood self.new) }
+    {
+        let found = self.type_of(alloc, nf)?;
+        if !is_predicate(found) {
             return Ok(None);
         }
-        let id = self.bank.import(&nf)?;
+        let id = self.bank.import(nf)?;
         Ok(Some(id))
     }
 
@@ -147,11 +174,8 @@ impl Shared {
         ensures good { OnOk result (IsGood self.new) }
     {
         let nf = number_term(alloc, numbering, term)?;
-        let found = self.type_of(alloc, &nf)?;
-        if !is_predicate(found) {
-            return Ok(None);
-        }
-        let id = self.bank.import(&nf)?;
-        Ok(Some(id))
+        let place = self.predicate_place(alloc, &nf);
+        drop(nf);
+        place
     }
 }

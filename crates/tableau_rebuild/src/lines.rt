@@ -1,8 +1,9 @@
 //! The lines of a refutation.
-ghost use Rattle.std.specs.Prelude.{◌≡◌, ◌<◌, ℕ, [], length, map, Some, slice_get, IfOk, All};
+ghost use Rattle.std.specs.Prelude.{◌≡◌, ◌<◌, ℕ, List, [], length, map, Some, slice_get, IfOk, OnOk, All};
+ghost use Rattle.stt_core.specs.Lambda.{Lambda};
 ghost use Rattle.sat_base.specs.Literal.{IsOver};
 ghost use Rattle.literal_map.specs.Atoms.{IsAtom};
-ghost use Rattle.written_refutation.specs.Sizes.{AreSmallLines};
+ghost use Rattle.written_refutation.specs.Sizes.{AreSmallLiterals, AreSmallLines};
 ghost use Rattle.witness_names.specs.Rows.{rows_of, AreRows};
 ghost use Rattle.rebuilt_refutation.specs.NeededRows.{rows_for_lines};
 ghost use Rattle.rebuilt_refutation.specs.Lines.{walked, line_of as line_in};
@@ -11,6 +12,7 @@ ghost use Rattle.tableau_rebuild.specs.declared.draft.Draft.{Draft};
 ghost use Rattle.tableau_rebuild.specs.Tables.{the_atoms};
 ghost use Rattle.tableau_rebuild.specs.Means.Drafts.{trees, tree_at, AreDrafts};
 ghost use Rattle.tableau_rebuild.specs.Means.Numbers.{AreNumbers};
+ghost use Rattle.tableau_rebuild.specs.Means.Pools.{IsMade};
 ghost use Rattle.tableau_rebuild.specs.Means.LineParts.{IsMakeable};
 ghost use Rattle.tableau_rebuild.specs.Means.Written.{the_tree};
 

@@ -1,74 +1,20 @@
-use Rattle.std.proofs.Common.{◌∙◌, ◌++◌, ◌∷◌, [], ap, ap₂, sym, subst}
-use Rattle.stt_tableau.specs.Witnesses.{Row, IsTypedRow}
-use Rattle.term_bank.specs.Content.{HasTerm}
-use Rattle.term_bank.proofs.GrowLaws.{has_within}
-use Rattle.refute_check.specs.Numbered.{numbered_row}
-use Rattle.refute_check.specs.Means.Branches.{Grow}
-use Rattle.refute_check.specs.Means.Shared.{declared_in, the_atoms, the_rows}
-use Rattle.refute_check.proofs.SharedLaws.{with_bank, imported_extends, imported_good, extends_declared, extends_rows, extends_atoms, some_of, none_of}
-use Rattle.refute_check.proofs.RowLaws.{row_of_place, position_any, found_twice, found_once}
+use Rattle.std.proofs.Common.{◌≡◌, ◌++◌, ◌∷◌, [], None, IfOk, refl, sym, subst}
+use Rattle.stt_tableau.specs.Witnesses.{Row}
+use Rattle.stt_tableau.specs.Means.Answers.{RowAnswer}
+use Rattle.refute_check.specs.Numbered.{argument_type}
+use Rattle.refute_check.specs.Means.Shared.{declared_in, the_rows}
 use Rattle.refute_check.proofs.shared.Shared.add_row.Goals as goal
 
-pub returns-then-is_some-clause-answer : goal.returns-then-is_some-clause-answer
-returns-then-is_some-clause-answer c =
-    let s = c.args.self.now in
-    let row = numbered_row c.args.numbering.now c.args.predicate.now in
-    let has = subst (HasTerm c.import.new.self c.in_ok-id.id) (ap (λ (r : Row). r.predicate) (c.row.view_is ∙ c.in_ok-row.ensures)) c.in_ok-id.ensures.term in
-    let k = some_of c.find.result (sym c.is_some.ensures ∙ c.if-is_some.true) in (
-      subst (IsTypedRow (declared_in s) (the_rows s)) c.in_ok-row.ensures (c.in_ok-is_row.ensures.0 c.if-not-branch.false),
-      found_twice s c.requires.good c.import.new.self c.in_ok-id.ensures.grows c.in_ok-id.id row has k.0 (sym c.find.ensures ∙ k.1),
-    )
-
-pub push_row-requires-clause-good : goal.push_row-requires-clause-good
-push_row-requires-clause-good c = imported_good c.args.self.now c.import.new.self c.in_ok-id.ensures.grows c.requires.good
-
-pub push_row-requires-clause-within : goal.push_row-requires-clause-within
-push_row-requires-clause-within c = has_within c.import.new.self c.in_ok-id.id c.row.inside.predicate c.in_ok-id.ensures.term
-
-pub push_row-requires-clause-typed : goal.push_row-requires-clause-typed
-push_row-requires-clause-typed c =
-    let s = c.args.self.now in
-    let b = c.import.new.self in
-    let row = numbered_row c.args.numbering.now c.args.predicate.now in
-    let new = with_bank s b c.in_ok-id.ensures.grows in
-    let e = imported_extends s b c.in_ok-id.ensures.grows in
-    let has = subst (HasTerm b c.in_ok-id.id) (ap (λ (r : Row). r.predicate) (c.row.view_is ∙ c.in_ok-row.ensures)) c.in_ok-id.ensures.term in
-    let typed = subst (IsTypedRow (declared_in s) (the_rows s)) c.in_ok-row.ensures (c.in_ok-is_row.ensures.0 c.if-not-branch.false) in
-    subst (IsTypedRow (declared_in new) (the_rows new)) (sym (row_of_place b c.in_ok-id.id row.predicate has))
-    (subst (λ rs. IsTypedRow (declared_in new) rs row) (sym (extends_rows s new e c.requires.good))
-    (subst (λ x. IsTypedRow x (the_rows s) row) (sym (extends_declared s new e)) typed))
-
-pub push_row-requires-clause-taken : goal.push_row-requires-clause-taken
-push_row-requires-clause-taken c =
-    let row = numbered_row c.args.numbering.now c.args.predicate.now in
-    let is = c.row.view_is ∙ c.in_ok-row.ensures in
-    let has = subst (HasTerm c.import.new.self c.in_ok-id.id) (ap (λ (r : Row). r.predicate) is) c.in_ok-id.ensures.term in
-    ap (λ (r : Row). r.type) is ∙ sym (ap (λ (r : Row). r.type) (row_of_place c.import.new.self c.in_ok-id.id row.predicate has))
-
-pub push_row-requires-clause-none : goal.push_row-requires-clause-none
-push_row-requires-clause-none c =
-    position_any _ c.args.self.now.witnesses (sym c.find.ensures ∙ none_of c.find.result (sym c.is_some.ensures ∙ c.if-is_some.false))
+pub add_numbered-answer-requires-clause-formed : goal.add_numbered-answer-requires-clause-formed
+add_numbered-answer-requires-clause-formed c = subst (λ (r : Row). r.type ≡ argument_type r.predicate) (sym c.in_ok-row.ensures) refl
 
 pub returns-clause-answer : goal.returns-clause-answer
 returns-clause-answer c =
     let s = c.args.self.now in
-    let row = numbered_row c.args.numbering.now c.args.predicate.now in
-    let has = subst (HasTerm c.import.new.self c.in_ok-id.id) (ap (λ (r : Row). r.predicate) (c.row.view_is ∙ c.in_ok-row.ensures)) c.in_ok-id.ensures.term in (
-      subst (IsTypedRow (declared_in s) (the_rows s)) c.in_ok-row.ensures (c.in_ok-is_row.ensures.0 c.if-not-branch.false),
-      found_once s c.requires.good c.import.new.self c.in_ok-id.ensures.grows c.in_ok-id.id row has c.equal_ids_for_equal_terms.ensures (sym c.find.ensures ∙ none_of c.find.result (sym c.is_some.ensures ∙ c.if-is_some.false)),
-    )
+    subst (λ r. IfOk c.add_numbered-answer.result (RowAnswer (declared_in s) (the_rows s) r)) c.in_ok-row.ensures c.add_numbered-answer.ensures.answer
 
 pub returns-clause-rows : goal.returns-clause-rows
-returns-clause-rows c = λ _.
+returns-clause-rows c =
     let s = c.args.self.now in
-    let b = c.import.new.self in
-    let row = numbered_row c.args.numbering.now c.args.predicate.now in
-    let has = subst (HasTerm b c.in_ok-id.id) (ap (λ (r : Row). r.predicate) (c.row.view_is ∙ c.in_ok-row.ensures)) c.in_ok-id.ensures.term in
-    c.in_ok-push_row.ensures.rows
-    ∙ ap₂ (λ rs r. rs ++ r ∷ []) (extends_rows s (with_bank s b c.in_ok-id.ensures.grows) (imported_extends s b c.in_ok-id.ensures.grows) c.requires.good) (row_of_place b c.in_ok-id.id row.predicate has)
-
-pub returns-clause-atoms : goal.returns-clause-atoms
-returns-clause-atoms c = λ _.
-    let s = c.args.self.now in
-    let b = c.import.new.self in
-    subst (Grow (the_atoms s)) (sym c.in_ok-push_row.ensures.atoms) (extends_atoms s (with_bank s b c.in_ok-id.ensures.grows) (imported_extends s b c.in_ok-id.ensures.grows) c.requires.good)
+    let new = c.add_numbered-answer.new.self in
+    subst (λ r. IfOk c.add_numbered-answer.result (λ why. why ≡ None → the_rows new ≡ the_rows s ++ r ∷ [])) c.in_ok-row.ensures c.add_numbered-answer.ensures.rows
