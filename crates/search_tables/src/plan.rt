@@ -86,8 +86,9 @@ impl<W: Weigher<Waiting>> Plan<W> {
         Ok(())
     }
 
-    /// Makes room for so many entries.
+    /// Makes room for so many entries, beside those that are there.
     pub fn reserve(&mut self, n: usize) -> Result<(), AllocError>
+        ensures room { OnOk result (n ≤ self.new.spare) }
         ensures same { GainsRoom self.old self.new }
     {
         self.agenda.reserve(n)
