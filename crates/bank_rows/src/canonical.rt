@@ -47,31 +47,16 @@ pub fn outcome_is_constant(alloc: Global, bank: &mut Bank) -> Result<Found, RowR
     Ok(Found::Same(bank.same(made, wanted)))
 }
 
-/// The list of one type.
-fn one_type(alloc: Global, ty: Ty) -> Result<Types, AllocError> {
-    let mut types = Types::new(alloc);
-    types.push(ty)?;
-    Ok(types)
-}
-
-/// The list of one argument.
-fn one_argument(alloc: Global, argument: Nf) -> Result<Nfs, AllocError> {
-    let mut arguments = Nfs::new(alloc);
-    arguments.push(argument)?;
-    Ok(arguments)
-}
-
-/// `^i.(#1 #0)`
-fn long_variable(alloc: Global) -> Result<Nf, AllocError> {
-    let inner = one_argument(alloc, constantly(alloc, 0, Head::Bound(0))?)?;
-    let individual = one_type(alloc, Ty::Base(1))?;
-    Ok(tree(individual, Head::Bound(1), inner))
-}
-
 /// `^(i > i).(k ^i.(#1 #0))`
 fn long_function(alloc: Global) -> Result<Nf, AllocError> {
-    let outer = one_argument(alloc, long_variable(alloc)?)?;
-    let functions = one_type(alloc, endo(alloc)?)?;
+    let mut inner = Nfs::new(alloc);
+    inner.push(constantly(alloc, 0, Head::Bound(0))?)?;
+    let mut individual = Types::new(alloc);
+    individual.push(Ty::Base(1))?;
+    let mut outer = Nfs::new(alloc);
+    outer.push(tree(individual, Head::Bound(1), inner))?;
+    let mut functions = Types::new(alloc);
+    functions.push(endo(alloc)?)?;
     Ok(tree(functions, Head::Name(K), outer))
 }
 

@@ -121,7 +121,8 @@ fn instance(alloc: Global, bank: &mut Bank, function: Id, argument: Id) -> Resul
     requires argument { IsOf bank.old [] (base 1) argument }
 {
     let mut normal = Normaliser::new(alloc);
-    normal.instantiate(bank, function, argument)
+    let id = normal.instantiate(bank, function, argument)?;
+    Ok(id)
 }
 
 /// How many terms a bank has after the function that doubles its argument forty times was applied to a constant.

@@ -7,10 +7,9 @@ use crate::doubling::{doubled, doubled_at_constant, interned};
 use crate::power::{plain_power, shared_power};
 use crate::refused::RowRefused;
 use crate::row::Row;
-use crate::scope::declare;
+use crate::scope::empty_bank;
 use crate::shared::twice_imported;
 use std::alloc::Global;
-use stt_core::Signature;
 use term_bank::Bank;
 
 /// How many terms a bank has, once or after each of two calls; how deep a term is, or how many nodes a tree has; or whether two terms are one.
@@ -53,8 +52,6 @@ fn answer_over(alloc: Global, bank: &mut Bank, row: Row) -> Result<Found, RowRef
 
 /// What is found for a row over a bank without terms.
 pub fn answer(alloc: Global, row: Row) -> Result<Found, RowRefused> {
-    let mut sig = Signature::new(alloc);
-    declare(alloc, &mut sig.consts)?;
-    let mut bank = Bank::new(alloc, sig);
+    let mut bank = empty_bank(alloc)?;
     answer_over(alloc, &mut bank, row)
 }

@@ -1,13 +1,13 @@
 //! What the terms are over: `c` of type `i`, `g` of type `i > i`, `f` of type `i > i > i` and `k` of type `(i > i) > i`.
 
-ghost use Rattle.std.specs.Prelude.{◌≡◌, [], ℕ, map, IfOk, OnOk};
+ghost use Rattle.std.specs.Prelude.{◌≡◌, IfOk};
 ghost use Rattle.stt_core.specs.SimpleType.{base, arrow};
-ghost use Rattle.stt_core.specs.Typing.{AreDeclared};
 ghost use Rattle.stt_core.specs.View.{the_type};
-ghost use Rattle.bank_rows.specs.Individuals.{types};
+ghost use Rattle.bank_rows.specs.Individuals.{HasNames, HasNoWitness};
 
 use std::alloc::{AllocError, Global};
-use stt_core::{Consts, Ty};
+use stt_core::{Signature, Ty};
+use term_bank::Bank;
 
 /// The places of the constants.
 pub const C: u32 = 0;
@@ -25,15 +25,17 @@ pub fn endo(alloc: Global) -> Result<Ty, AllocError>
     Ty::function(alloc, Ty::Base(1), Ty::Base(1))
 }
 
-/// Declares the constants.
-pub fn declare(alloc: Global, consts: &mut Consts) -> Result<(), AllocError>
-    requires { consts.old ≡ [] }
-    ensures names { OnOk result (map (λ c. c.type) consts.new ≡ types) }
-    ensures declared { OnOk result ((bases : ℕ) → AreDeclared bases (map (λ c. c.type) consts.new)) }
+/// A bank without terms over the constants.
+pub fn empty_bank(alloc: Global) -> Result<Bank, AllocError>
+    ensures names { IfOk result HasNames }
+    ensures witnesses { IfOk result HasNoWitness }
 {
-    consts.push(b"c", Ty::Base(1))?;
-    consts.push(b"g", endo(alloc)?)?;
-    consts.push(b"f", Ty::function(alloc, Ty::Base(1), endo(alloc)?)?)?;
-    consts.push(b"k", Ty::function(alloc, endo(alloc)?, Ty::Base(1))?)?;
-    Ok(())
+    let mut sig = Signature::new(alloc);
+    sig.consts.push(b"c", Ty::Base(1))?;
+    sig.consts.push(b"g", endo(alloc)?)?;
+    sig.consts
+        .push(b"f", Ty::function(alloc, Ty::Base(1), endo(alloc)?)?)?;
+    sig.consts
+        .push(b"k", Ty::function(alloc, endo(alloc)?, Ty::Base(1))?)?;
+    Ok(Bank::new(alloc, sig))
 }

@@ -18,16 +18,11 @@ fn applied(alloc: Global) -> Result<Nf, AllocError> {
     Ok(tree(Types::new(alloc), Head::Name(G), args))
 }
 
-/// `(g c)`, twice
-fn equal_parts(alloc: Global, args: &mut Nfs) -> Result<(), AllocError> {
-    args.push(applied(alloc)?)?;
-    args.push(applied(alloc)?)
-}
-
 /// `(f (g c) (g c))`
 fn with_equal_parts(alloc: Global) -> Result<Nf, AllocError> {
     let mut args = Nfs::new(alloc);
-    equal_parts(alloc, &mut args)?;
+    args.push(applied(alloc)?)?;
+    args.push(applied(alloc)?)?;
     Ok(tree(Types::new(alloc), Head::Name(F), args))
 }
 

@@ -1,33 +1,14 @@
 //! What is written for a line.
 
-ghost use Rattle.std.specs.Prelude.{[], ◌∷◌, length};
-ghost use Rattle.stt_core.specs.SimpleType.{base};
+ghost use Rattle.std.specs.Prelude.{length};
 ghost use Rattle.stt_core.specs.Typing.{IsScope, AreDeclared};
 ghost use Rattle.stt_core.specs.ScopeView.{the_scope};
 
 use crate::notation::{term_of, write_nf};
-use crate::scope::{signature, variable_types, witness_types};
 use anyhow::bail;
 use std::alloc::Global;
-use stt_core::{Nf, Signature, Term, Ty, Types, type_of, type_of_closed};
+use stt_core::{Nf, Signature, Ty, Types, type_of, type_of_closed};
 use stt_normal::{apply_nf, normalise};
-
-/// The normal form of a term.
-fn normal_form(
-    alloc: Global,
-    sig: &Signature,
-    wits: &Types,
-    ctx: &Types,
-    term: &Term,
-) -> anyhow::Result<Nf>
-    requires declared { IsScope (the_scope sig.now wits.now) }
-    requires ctx_declared { AreDeclared (length sig.now.bases) ctx.now }
-{
-    match type_of(alloc, sig, wits, ctx, term)? {
-        Some(_) => Ok(normalise(alloc, sig, wits, ctx, term)?),
-        None => bail!("the term has no type"),
-    }
-}
 
 /// The normal form of the term that a text stands for.
 fn normal(
@@ -41,23 +22,10 @@ fn normal(
     requires ctx_declared { AreDeclared (length sig.now.bases) ctx.now }
 {
     let term = term_of(alloc, text)?;
-    normal_form(alloc, sig, wits, ctx, &term)
-}
-
-/// The normal form of the closed term that a text stands for.
-fn closed_normal(alloc: Global, sig: &Signature, wits: &Types, text: &str) -> anyhow::Result<Nf>
-    requires { IsScope (the_scope sig.now wits.now) }
-{
-    let none = Types::new(alloc);
-    normal(alloc, sig, wits, &none, text)
-}
-
-/// The normal form of the term that a text stands for, in which the variables may be free.
-fn open_normal(alloc: Global, sig: &Signature, wits: &Types, text: &str) -> anyhow::Result<Nf>
-    requires { IsScope (the_scope sig.now wits.now) }
-{
-    let ctx = variable_types(alloc)?;
-    normal(alloc, sig, wits, &ctx, text)
+    match type_of(alloc, sig, wits, ctx, &term)? {
+        Some(_) => Ok(normalise(alloc, sig, wits, ctx, &term)?),
+        None => bail!("the term has no type"),
+    }
 }
 
 /// What a closed canonical function gives at a closed canonical argument.
@@ -74,21 +42,7 @@ fn applied(alloc: Global, sig: &Signature, wits: &Types, f: &Nf, a: &Nf) -> anyh
     Ok(apply_nf(alloc, f, a)?)
 }
 
-/// What a function gives at the argument that a text stands for.
-fn at_argument(
-    alloc: Global,
-    sig: &Signature,
-    wits: &Types,
-    f: &Nf,
-    text: &str,
-) -> anyhow::Result<Nf>
-    requires { IsScope (the_scope sig.now wits.now) }
-{
-    let a = closed_normal(alloc, sig, wits, text)?;
-    applied(alloc, sig, wits, f, &a)
-}
-
-fn at_texts(
+fn answer_with_argument(
     alloc: Global,
     sig: &Signature,
     wits: &Types,
@@ -97,39 +51,32 @@ fn at_texts(
 ) -> anyhow::Result<Nf>
     requires { IsScope (the_scope sig.now wits.now) }
 {
-    let f = closed_normal(alloc, sig, wits, function)?;
-    at_argument(alloc, sig, wits, &f, argument)
-}
-
-fn asked_over(alloc: Global, sig: &Signature, line: &str) -> anyhow::Result<Nf>
-    requires { IsScope (the_scope sig.now (base 1 ∷ [])) }
-{
-    let wits = witness_types(alloc)?;
-    match line.split_once(' ') {
-        Some((function, argument)) => at_texts(alloc, sig, &wits, function, argument),
-        None => open_normal(alloc, sig, &wits, line),
-    }
-}
-
-/// The normal form that a line asks for.
-fn asked(alloc: Global, line: &str) -> anyhow::Result<Nf> {
-    let sig = signature(alloc)?;
-    asked_over(alloc, &sig, line)
-}
-
-fn write_asked(alloc: Global, line: &str, out: &mut String) -> anyhow::Result<()> {
-    out.push_str(" = ")?;
-    let nf = asked(alloc, line)?;
-    let written = write_nf(out, &nf);
-    drop(nf);
-    Ok(written?)
+    let none = Types::new(alloc);
+    let f = normal(alloc, sig, wits, &none, function)?;
+    let a = normal(alloc, sig, wits, &none, argument)?;
+    applied(alloc, sig, wits, &f, &a)
 }
 
 /// The line, and behind it the normal form that it asks for.
-pub fn answer(alloc: Global, line: &str) -> anyhow::Result<String> {
+pub fn answer(
+    alloc: Global,
+    sig: &Signature,
+    wits: &Types,
+    ctx: &Types,
+    line: &str,
+) -> anyhow::Result<String>
+    requires declared { IsScope (the_scope sig.now wits.now) }
+    requires ctx_declared { AreDeclared (length sig.now.bases) ctx.now }
+{
     let mut out = String::from_str(alloc, line)?;
-    if !line.starts_with('%') {
-        write_asked(alloc, line, &mut out)?;
+    if line.starts_with('%') {
+        return Ok(out);
     }
+    let nf = match line.split_once(' ') {
+        Some((function, argument)) => answer_with_argument(alloc, sig, wits, function, argument)?,
+        None => normal(alloc, sig, wits, ctx, line)?,
+    };
+    out.push_str(" = ")?;
+    write_nf(&mut out, &nf)?;
     Ok(out)
 }

@@ -8,12 +8,16 @@ mod notation;
 mod scope;
 
 use answer::answer;
+use scope::{signature, variable_types, witness_types};
 
 fn main(rt: HostRuntime) -> anyhow::Result<()> {
     let alloc = rt.alloc();
+    let sig = signature(alloc)?;
+    let wits = witness_types(alloc)?;
+    let ctx = variable_types(alloc)?;
     for line in rt.lines(alloc) {
         let line = line?;
-        let text = answer(alloc, line.as_str())?;
+        let text = answer(alloc, &sig, &wits, &ctx, line.as_str())?;
         println!(rt; "{text}")?;
     }
     Ok(())

@@ -131,17 +131,18 @@ fn digit(k: u32) -> char {
 
 fn write_head(out: &mut String, head: &Head) -> Result<(), AllocError> {
     match head {
-        Head::Bound(k) => out.push(digit(*k)),
-        Head::Name(k) => out.push(char::from(CONSTANTS.get(*k as usize).copied().unwrap_or(b'?'))),
-        Head::Wit(_) => out.push('w'),
-        Head::False => out.push('F'),
-        Head::Not => out.push('N'),
-        Head::Imp => out.push('I'),
-        Head::All(a) => write_with_type(out, 'A', a),
-        Head::Eq(a) => write_with_type(out, 'E', a),
-        Head::Choice(a) => write_with_type(out, 'C', a),
-        Head::Desc(a) => write_with_type(out, 'D', a),
+        Head::Bound(k) => out.push(digit(*k))?,
+        Head::Name(k) => out.push(char::from(CONSTANTS.get(*k as usize).copied().unwrap_or(b'?')))?,
+        Head::Wit(_) => out.push('w')?,
+        Head::False => out.push('F')?,
+        Head::Not => out.push('N')?,
+        Head::Imp => out.push('I')?,
+        Head::All(a) => write_with_type(out, 'A', a)?,
+        Head::Eq(a) => write_with_type(out, 'E', a)?,
+        Head::Choice(a) => write_with_type(out, 'C', a)?,
+        Head::Desc(a) => write_with_type(out, 'D', a)?,
     }
+    Ok(())
 }
 
 /// Adds the text of a canonical term.
