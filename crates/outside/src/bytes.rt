@@ -1,13 +1,17 @@
 // A list of bytes that grows.
 ghost use Rattle.std.specs.Prelude.{◌≡◌, [], ◌∷◌, ◌++◌, length, IfOk, OnOk, OnErr, IsTrue, ◌↔◌};
 
+use smallvec::SmallVec;
 use std::alloc::{AllocError, Global};
 use std::marker::Model;
+
+// Most names of a file have at most this many bytes, and then take no allocation.
+const INLINE: usize = 24;
 
 /// A list of bytes that grows.
 #[derive(Debug, Drop)]
 pub struct Bytes {
-    items: Vec<u8>,
+    items: SmallVec<u8, INLINE>,
 }
 
 impl Model for Bytes {
@@ -23,7 +27,7 @@ impl Bytes {
         ensures { result ≡ [] }
     {
         Bytes {
-            items: Vec::new(alloc),
+            items: SmallVec::new(alloc),
         }
     }
 
@@ -31,7 +35,7 @@ impl Bytes {
         ensures { IfOk result (λ copy. copy ≡ bytes.now) }
     {
         Ok(Bytes {
-            items: Vec::from_slice(alloc, bytes)?,
+            items: SmallVec::from_slice(alloc, bytes)?,
         })
     }
 
@@ -54,7 +58,7 @@ impl Bytes {
     pub fn as_slice(&self) -> &[u8]
         ensures { result.now ≡ self.now }
     {
-        &self.items
+        self.items.as_slice()
     }
 
     pub fn len(&self) -> usize

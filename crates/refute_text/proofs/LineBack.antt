@@ -1,12 +1,13 @@
 -- The texts of rules, rows and lines are read back.
 use Rattle.std.proofs.Common.{◌≡◌, ℕ, ◌^◌, ◌<◌, List, [], ◌++◌, Option, Some, None, codes, decimal, refl, sym, ap, ◌∙◌, append_assoc, append-nil, arith, if◌then◌else◌}
 use Rattle.std.proofs.lemmas.Bool.{eq-eqb}
+use Rattle.stt_tableau.specs.declared.refutation.Child.{Child}
 use Rattle.written_refutation.specs.Trees.{TermTree, LiteralTree, OnePlace, False, Refl, ImpPos, ImpNeg, BoolPos, BoolNeg, FunPos, FunNeg, AllNeg, Dec, TwoPlaces, Close, Mat, Con, OfPredicate, Cho, Des, RuleTree, at_one, at_two, with_instance, with_predicate, with_cut, LineTree}
 use Rattle.written_refutation.specs.Text.{term_text, literal_text, rule_text, row_text, branch_text, children_text, line_text}
 use Rattle.written_refutation.specs.Limits.{greatest_depth, IsWithin, IsLiteral, IsRule, IsLine}
 use Rattle.refute_text.specs.Means.Reader.{number_at}
 use Rattle.refute_text.specs.Means.TermReader.{term_at}
-use Rattle.refute_text.specs.Means.LineReader.{literal_at, child_at, items_at, place_at, one_place_at, places_at, two_places_at, instance_at, predicate_at, cut_at, one_place_rule_at, rule_at, where_number, row_at, children_at, lists_at, line_at}
+use Rattle.refute_text.specs.Means.LineReader.{literal_at, child_at, items_at, place_at, one_place_at, places_at, two_places_at, instance_at, predicate_at, cut_at, one_place_rule_at, rule_at, where_number, row_at, children_at, behind_rule_at, lists_at, line_at}
 use Rattle.refute_text.proofs.Inversions.{found}
 use Rattle.refute_text.proofs.Answers.{bind_gives}
 use Rattle.refute_text.proofs.NameBack.{number_at-decimal}
@@ -84,13 +85,19 @@ row_at-text k t small within =
     bind_gives (where_number k (number_at (2 ^ 32) (decimal k ++ end))) _ end t (number_back k end (number_at (2 ^ 32) (decimal k ++ end)) (number_at-decimal (2 ^ 32) k end small (omega arith) refl))
     (bind_gives (term_at greatest_depth (term_text t)) _ (t, []) t (ap (term_at greatest_depth) (sym (append-nil (term_text t))) ∙ within_back t [] within refl) refl)
 
+behind_rule_back : (line : LineTree) → IsLine line → behind_rule_at (codes " [" ++ (branch_text line.branch ++ (codes "] [" ++ (children_text line.children ++ codes "]")))) ≡ Some (line.branch, line.children)
+unfolding behind_rule_at
+behind_rule_back line is =
+    let end = codes " [" ++ (children_text line.children ++ codes "]") in
+    let both : List LiteralTree × List Child = (line.branch, line.children) in
+    bind_gives (items_at literal_at (branch_text line.branch ++ (codes "]" ++ end))) _ (line.branch, end) both (items_at-branch line.branch end is.branch)
+    (bind_gives (children_at end) _ line.children both
+    (bind_gives (items_at child_at (children_text line.children ++ codes "]")) _ (line.children, []) line.children (items_at-children line.children [] is.children) refl) refl)
+
 lists_back : (line : LineTree) → IsLine line → lists_at line.rule (codes " [" ++ (branch_text line.branch ++ (codes "] [" ++ (children_text line.children ++ codes "]")))) ≡ Some line
 unfolding lists_at
 lists_back line is =
-    let end = codes " [" ++ (children_text line.children ++ codes "]") in
-    bind_gives (items_at literal_at (branch_text line.branch ++ (codes "]" ++ end))) _ (line.branch, end) line (items_at-branch line.branch end is.branch)
-    (bind_gives (children_at end) _ line.children line
-    (bind_gives (items_at child_at (children_text line.children ++ codes "]")) _ (line.children, []) line.children (items_at-children line.children [] is.children) refl) refl)
+    bind_gives (behind_rule_at (codes " [" ++ (branch_text line.branch ++ (codes "] [" ++ (children_text line.children ++ codes "]"))))) _ (line.branch, line.children) line (behind_rule_back line is) refl
 
 pub line_at-text : (k : ℕ) (line : LineTree) → k < 2 ^ 64 → IsLine line → line_at k (line_text k line) ≡ Some line
 unfolding line_at

@@ -8,7 +8,7 @@ use Rattle.written_refutation.specs.Text.{term_text, literal_text, child_text, a
 use Rattle.written_refutation.specs.Limits.{greatest_depth, IsWithin, IsLiteral, IsRule, IsChild, IsLine}
 use Rattle.refute_text.specs.Means.Reader.{behind, number_at, with_items, repeated_at}
 use Rattle.refute_text.specs.Means.TermReader.{term_at}
-use Rattle.refute_text.specs.Means.LineReader.{literal_at, child_at, some_items_at, items_at, rule_at, where_number, end_at, row_at, branch_at, children_at, lists_at, line_at}
+use Rattle.refute_text.specs.Means.LineReader.{literal_at, child_at, some_items_at, items_at, rule_at, where_number, end_at, row_at, branch_at, children_at, behind_rule_at, with_lists, lists_at, line_at}
 use Rattle.refute_text.proofs.Inversions.{found, found_first, found_second, bind_sound, front_sound, behind_some}
 use Rattle.refute_text.proofs.NameReads.{number_reads}
 use Rattle.refute_text.proofs.TermReads.{with_sound, term_reads}
@@ -144,18 +144,16 @@ record ListsStand (bs : List ℕ) (rule : RuleTree) (l : LineTree) : Type 0 wher
   branch : AllByRecursion IsLiteral l.branch
   children : AllByRecursion IsChild l.children
 
-abbrev made : RuleTree → List LiteralTree → List Child → LineTree
-made rule branch children = record { branch = branch; rule = rule; children = children }
-
 line_is : (a b : LineTree) → Some a ≡ Some b → a ≡ b
 line_is a b e = cc
 
 lists_read : (rule : RuleTree) (bs : List ℕ) (l : LineTree) → lists_at rule bs ≡ Some l → ListsStand bs rule l
-unfolding lists_at
+unfolding lists_at behind_rule_at
 lists_read rule bs l h =
-    bind_sound (branch_at bs) _ l h (λ branch at h1.
+    bind_sound (behind_rule_at bs) (λ lists. Some (with_lists rule lists)) l h (λ lists at0 h2.
+    bind_sound (branch_at bs) _ lists at0 (λ branch at h1.
     bind_sound (behind (codes " [") bs) (λ rest. items_at literal_at rest) branch at (λ rest at1 at2.
-    bind_sound (children_at branch.1) (λ children. Some (made rule branch.0 children)) l h1 (λ children at3 h2.
+    bind_sound (children_at branch.1) (λ children. Some (branch.0, children)) lists h1 (λ children at3 h6.
     bind_sound (behind (codes " [") branch.1) _ children at3 (λ rest1 at4 h3.
     bind_sound (items_at child_at rest1) _ children h3 (λ read at5 h4.
     bind_sound (end_at read.1) (λ end. Some read.0) children h4 (λ end at6 h5.
@@ -163,14 +161,15 @@ lists_read rule bs l h =
     let p = items_read literal_at literal_text IsLiteral literals_read rest branch.0 branch.1 at2 in
     let q = items_read child_at child_text IsChild children_read rest1 read.0 read.1 at5 in
     let same : read.0 ≡ children = cc in
-    subst (ListsStand bs rule) (line_is (made rule branch.0 children) l h2) (record {
+    let both : (branch.0, children) ≡ lists = cc in
+    subst (ListsStand bs rule) (line_is (with_lists rule (branch.0, children)) l (ap (λ x. Some (with_lists rule x)) both ∙ h2)) (record {
       text =
           behind_some (codes " [") bs rest at1
           ∙ ap (λ x. codes " [" ++ x) (p.text_is ∙ ap (λ x. branch_text branch.0 ++ (codes "]" ++ x)) (behind_some (codes " [") branch.1 rest1 at4 ∙ ap (λ x. codes " [" ++ x) (q.text_is ∙ ap₂ (λ x y. children_text x ++ (codes "]" ++ y)) same none)));
       rule_is = refl;
       branch = p.all;
       children = subst (AllByRecursion IsChild) same q.all;
-    }))))))))
+    })))))))))
 
 pub line_reads : (k : ℕ) (line : List ℕ) (l : LineTree) → line_at k line ≡ Some l → IsLineText k line l
 unfolding line_at

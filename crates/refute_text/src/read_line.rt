@@ -2,7 +2,7 @@
 
 ghost use Rattle.std.specs.Prelude.{◌≡◌, ◌^◌, length, codes};
 ghost use Rattle.refute_text.specs.Means.Reader.{number_at, repeated_at, with_items};
-ghost use Rattle.refute_text.specs.Means.LineReader.{literal_at, child_at, items_at, where_number, end_at, definition_at, row_at, branch_at, children_at, lists_at, line_at};
+ghost use Rattle.refute_text.specs.Means.LineReader.{literal_at, child_at, items_at, where_number, end_at, definition_at, row_at, branch_at, children_at, behind_rule_at, lists_at, line_at};
 ghost use Rattle.refute_text.specs.Means.Refusals.{Answers};
 ghost use Rattle.written_refutation.specs.LineView.{the_rule};
 ghost use Rattle.written_refutation.specs.TextView.{the_line};
@@ -213,7 +213,31 @@ fn line_children(alloc: Global, bytes: &[u8]) -> Result<Children, Refusal>
     Ok(read.children)
 }
 
-/// The branch and the children behind a rule.
+/// The branch and the children of a line.
+#[derive(Drop)]
+struct ListsRead {
+    branch: TextLits,
+    children: Children,
+}
+
+/// What stands behind the rule of a line.
+#[tactic(auto, unfolding(crate::specs::Means::LineReader::behind_rule_at))]
+fn behind_rule<'a>(
+    alloc: Global,
+    known: &mut Known<'a>,
+    bytes: &'a [u8],
+) -> Result<ListsRead, Refusal>
+    ensures { Answers (λ lists. (lists.branch, lists.children)) result (behind_rule_at bytes.now) }
+{
+    let read = branch(alloc, known, bytes)?;
+    let children = line_children(alloc, read.rest)?;
+    Ok(ListsRead {
+        branch: read.literals,
+        children,
+    })
+}
+
+/// The line with this rule, from what stands behind it on.
 #[tactic(auto, unfolding(crate::specs::Means::LineReader::lists_at))]
 fn lists<'a>(
     alloc: Global,
@@ -223,13 +247,17 @@ fn lists<'a>(
 ) -> Result<TextLine, Refusal>
     ensures { Answers (λ l. the_line l) result (lists_at (the_rule rule) bytes.now) }
 {
-    let read = branch(alloc, known, bytes)?;
-    let children = line_children(alloc, read.rest)?;
-    Ok(TextLine {
-        branch: read.literals,
-        rule,
-        children,
-    })
+    match behind_rule(alloc, known, bytes) {
+        Ok(lists) => Ok(TextLine {
+            branch: lists.branch,
+            rule,
+            children: lists.children,
+        }),
+        Err(refusal) => {
+            drop(rule);
+            Err(refusal)
+        }
+    }
 }
 
 /// The line of this number.

@@ -147,11 +147,20 @@ children_at bytes = do
   end ← end_at children.1
   Some children.0
 
-unfoldable pub lists_at : RuleTree → List ℕ → Option LineTree
-lists_at rule bytes = do
+-- what stands behind the rule of a line
+unfoldable pub behind_rule_at : List ℕ → Option (List LiteralTree × List Child)
+behind_rule_at bytes = do
   branch ← branch_at bytes
   children ← children_at branch.1
-  Some (record { branch = branch.0; rule = rule; children = children })
+  Some (branch.0, children)
+
+abbrev pub with_lists : RuleTree → List LiteralTree × List Child → LineTree
+with_lists rule lists = record { branch = lists.0; rule = rule; children = lists.1 }
+
+unfoldable pub lists_at : RuleTree → List ℕ → Option LineTree
+lists_at rule bytes = do
+  lists ← behind_rule_at bytes
+  Some (with_lists rule lists)
 
 unfoldable pub line_at : ℕ → List ℕ → Option LineTree
 line_at k line = do

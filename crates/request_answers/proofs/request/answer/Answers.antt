@@ -1,10 +1,28 @@
 use Rattle.std.proofs.Common.{refl, sym, subst}
 use Rattle.mode_file.specs.Given.{nothing, mode_of}
-use Rattle.cli_words.specs.Requests.{refutation}
+use Rattle.std.specs.Prelude.{option_map}
+use Rattle.cli_words.specs.Requests.{prove, refutation}
 use Rattle.cli_words.specs.View.{the_request}
+use Rattle.szs_report.specs.Outcomes.{outcome_of}
 use Rattle.request_answers.specs.Answers.{AnswersRequest}
-use Rattle.request_answers.proofs.FileLaws.{files_request}
+use Rattle.request_answers.specs.Causes.{HasCauseOf}
+use Rattle.request_answers.proofs.FileLaws.{files_request, cause_of, mode_fault, no_text_asked}
 use Rattle.request_answers.proofs.request.answer.Goals as goal
+
+pub returns-in-Prove-clause-cause : goal.returns-in-Prove-clause-cause
+returns-in-Prove-clause-cause g c =
+    let told = g.F.Files.tells c.args.files.now in
+    let contents = g.F.Files.contents c.args.files.now in
+    let before = g.F.Files.faults c.args.files.now in
+    let now = g.F.Files.faults c.prove.new.files in
+    let file = option_map (λ f. f.now) c.in-Prove.mode in
+    let request = prove c.in-Prove.problem.now file in
+    let answer = c.prove.result in
+    subst (λ a. HasCauseOf (the_request a) told contents before now (outcome_of answer)) (sym c.in-Prove.is)
+    (cause_of request told contents before now answer c.prove.ensures.fault
+    (λ name is. mode_fault request told contents before now name (subst (AnswersRequest request told contents) is c.prove.ensures.answers) (c.prove.ensures.mode_fault name is))
+    (λ name is. absurd (no_text_asked c.in-Prove.problem.now file told contents name (subst (AnswersRequest request told contents) is c.prove.ensures.answers)))
+    c.prove.ensures.quiet)
 
 pub returns-in-Check-clause-answers : goal.returns-in-Check-clause-answers
 returns-in-Check-clause-answers g c =
