@@ -1,5 +1,5 @@
 -- Hash maps whose keys are lists of bytes, and what one more entry changes.
-use Rattle.std.proofs.Common.{◌≡◌, ℕ, Bool, true, false, cond, List, Option, sym, ◌∙◌, Vec, Global}
+use Rattle.std.proofs.Common.{◌≡◌, ℕ, Bool, true, false, cond, List, Option, sym, ◌∙◌}
 use Rattle.std.specs.Str.{bytes_eq}
 use Rattle.std.specs.Cmp.Lexicographic.{nat_list_eq_equiv}
 use Rattle.std.specs.HashMap.{HashMap, Updates, get_by}
@@ -15,9 +15,9 @@ module _ {K : Type 0} (eq : K → K → Bool) (test : K → Bool) where
   other_entries old new h = h
 
 -- the value at these bytes
-abbrev pub at_bytes : {X S : Type 0} → HashMap (Vec ℕ Global) X S → List ℕ → Option X
-at_bytes m bs = get_by (λ key. bytes_eq bs key.items) m
+abbrev pub at_bytes : {X S : Type 0} → HashMap (List ℕ) X S → List ℕ → Option X
+at_bytes m bs = get_by (bytes_eq bs) m
 
-pub at_bytes-inserted : {X S : Type 0} (m n : HashMap (Vec ℕ Global) X S) (k : Vec ℕ Global) (w : Option X) → Updates (λ x y. bytes_eq x.items y.items) m n k w
-    → (cs : List ℕ) → at_bytes n cs ≡ cond (bytes_eq k.items cs) w (at_bytes m cs)
-at_bytes-inserted m n k w h = by_bytes (at_bytes m) (at_bytes n) k.items w h.1 (λ cs e. other_entries _ _ _ _ h.3 _ (λ x y. nat_list_eq_equiv.congr cs x.items y.items) (λ j. apart k.items cs j.items e))
+pub at_bytes-inserted : {X S : Type 0} (m n : HashMap (List ℕ) X S) (k : List ℕ) (w : Option X) → Updates bytes_eq m n k w
+    → (cs : List ℕ) → at_bytes n cs ≡ cond (bytes_eq k cs) w (at_bytes m cs)
+at_bytes-inserted m n k w h = by_bytes (at_bytes m) (at_bytes n) k w h.1 (λ cs e. other_entries _ _ _ _ h.3 _ (λ x y. nat_list_eq_equiv.congr cs x y) (λ j. apart k cs j e))

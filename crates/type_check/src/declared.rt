@@ -1,27 +1,31 @@
 //! What is declared so far, with its names in a map.
 
-ghost use Rattle.std.specs.Prelude.{◌≡◌, ◌+◌, ◌<◌, ◌^◌, ◌-◌, ◌++◌, [], ◌∷◌, length, IfOk, None, option_map};
+ghost use Rattle.std.specs.Prelude.{◌≡◌, ◌<◌, ◌^◌, ◌-◌, ◌++◌, [], ◌∷◌, length, IfOk, None, option_map};
 ghost use Rattle.type_check.specs.Terms.{constant_named, constant_at};
 ghost use Rattle.type_check.specs.Means.TypedView.{the_typed};
 ghost use Rattle.stt_core.specs.Signature.{symbol_named};
 ghost use Rattle.stt_core.specs.View.{the_type};
 
+use crate::type_list::TypeList;
 use crate::typed::{TypeOf, Typed};
+use outside::Bytes;
 use std::alloc::{AllocError, Global};
 use std::collections::HashMap;
 use std::marker::Model;
 use stt_core::{Signature, Symbol, Term, Ty};
 
-/// What is declared: a signature, and what each of its names stands for.
+/// What is declared: a signature, what each of its names stands for, and the types of its constants, which the reading of terms finds here
+/// since the signature has each beside its name.
 #[derive(Drop)]
 pub(crate) struct Declared {
     signature: Signature,
-    symbols: HashMap<Vec<u8>, Symbol>,
+    symbols: HashMap<Bytes, Symbol>,
+    types: TypeList,
     alloc: Global,
 }
 
 impl Model for Declared {
-    ghost use Rattle.std.specs.Prelude.{◌≡◌, List, ℕ};
+    ghost use Rattle.std.specs.Prelude.{◌≡◌, List, ℕ, map};
     ghost use Rattle.std.specs.HashMap.{get_by};
     ghost use Rattle.std.specs.Str.{bytes_eq};
     ghost use Rattle.stt_core.specs.Signature.{symbol_named};
@@ -33,7 +37,8 @@ impl Model for Declared {
 
     ghost view = { λ d. record { bases = d.signature.bases; consts = d.signature.consts } };
 
-    ghost invariant = { λ d. (name : List ℕ) → get_by (λ key. bytes_eq name key.items) d.symbols ≡ symbol_named d.signature.bases d.signature.consts name };
+    ghost invariant = { λ d. ((name : List ℕ) → get_by (λ key. bytes_eq name key) d.symbols ≡ symbol_named d.signature.bases d.signature.consts name)
+        × (d.types ≡ map (λ c. c.type) d.signature.consts) };
 }
 
 impl Declared {
@@ -44,19 +49,20 @@ impl Declared {
         Declared {
             signature: Signature::new(alloc),
             symbols: HashMap::new(alloc),
+            types: TypeList::new(alloc),
             alloc,
         }
     }
 
     /// What a name stands for.
-    pub(crate) fn find(&self, name: &[u8]) -> Option<Symbol>
+    pub(crate) fn find(&self, name: &Bytes) -> Option<Symbol>
         ensures { result ≡ symbol_named self.now.bases self.now.consts name.now }
     {
         self.symbols.get(name).copied()
     }
 
     /// The constant of that name.
-    pub(crate) fn constant(&self, name: &[u8]) -> Option<Typed<'_>>
+    pub(crate) fn constant(&self, name: &Bytes) -> Option<Typed<'_>>
         ensures { option_map the_typed result ≡ constant_named self.now.consts (symbol_named self.now.bases self.now.consts name.now) }
     {
         match self.find(name) {
@@ -69,7 +75,7 @@ impl Declared {
     fn const_at(&self, k: u32) -> Option<Typed<'_>>
         ensures { option_map the_typed result ≡ constant_at self.now.consts k }
     {
-        self.signature.consts.type_of(k as usize).map(|ty| Typed {
+        self.types.get(k as usize).map(|ty| Typed {
             term: Term::Name(k),
             ty: TypeOf::Kept(ty),
         })
@@ -84,7 +90,7 @@ impl Declared {
     }
 
     /// Declares a base type.
-    pub(crate) fn with_base(self, name: &[u8]) -> Result<Declared, AllocError>
+    pub(crate) fn with_base(self, name: &Bytes) -> Result<Declared, AllocError>
         requires new { symbol_named self.bases self.consts name.now ≡ None }
         requires room { length self.bases < 2 ^ 32 - 2 }
         ensures bases { IfOk result (λ d. d.bases ≡ self.bases ++ name.now ∷ []) }
@@ -93,20 +99,23 @@ impl Declared {
         let Declared {
             mut signature,
             mut symbols,
+            types,
             alloc,
         } = self;
         let symbol = Symbol::Base(signature.bases.len() as u32 + 2);
-        symbols.insert(name.to_vec(alloc)?, symbol)?;
+        let name = name.as_slice();
+        symbols.insert(Bytes::from_slice(alloc, name)?, symbol)?;
         signature.bases.push(name)?;
         Ok(Declared {
             signature,
             symbols,
+            types,
             alloc,
         })
     }
 
     /// Declares a constant.
-    pub(crate) fn with_const(self, name: &[u8], ty: Ty) -> Result<Declared, AllocError>
+    pub(crate) fn with_const(self, name: &Bytes, ty: Ty) -> Result<Declared, AllocError>
         requires new { symbol_named self.bases self.consts name.now ≡ None }
         requires room { length self.consts < 2 ^ 32 }
         ensures bases { IfOk result (λ d. d.bases ≡ self.bases) }
@@ -115,14 +124,18 @@ impl Declared {
         let Declared {
             mut signature,
             mut symbols,
+            mut types,
             alloc,
         } = self;
         let symbol = Symbol::Const(signature.consts.len() as u32);
-        symbols.insert(name.to_vec(alloc)?, symbol)?;
+        let name = name.as_slice();
+        symbols.insert(Bytes::from_slice(alloc, name)?, symbol)?;
+        let ty = types.push(ty)?;
         signature.consts.push(name, ty)?;
         Ok(Declared {
             signature,
             symbols,
+            types,
             alloc,
         })
     }

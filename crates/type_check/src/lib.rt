@@ -11,6 +11,7 @@ mod scope;
 mod statements;
 mod term;
 mod terms;
+mod type_list;
 mod typed;
 mod types;
 

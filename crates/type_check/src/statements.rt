@@ -12,6 +12,7 @@ use crate::refusal::{IllWhy, Refusal};
 use crate::scope::Scope;
 use crate::terms::read_term;
 use crate::types::read_type;
+use outside::Bytes;
 use std::alloc::{AllocError, Global};
 use stt_core::{Flags, Term, Terms, Ty};
 use thf_grammar::{Annotated, Body, Surface, SurfaceTy};
@@ -100,7 +101,7 @@ impl Reading {
     }
 
     /// Declares a base type.
-    fn read_base(self, at: u32, name: &[u8]) -> Result<Reading, Refusal>
+    fn read_base(self, at: u32, name: &Bytes) -> Result<Reading, Refusal>
         requires { length self.declared.bases < 2 ^ 32 - 2 }
         ensures answer { Answers the_reading result (defined.read_base (the_reading self) at name.now) }
         ensures grows { IfOk result (λ r. length r.declared.bases + length r.declared.consts ≤ length self.declared.bases + length self.declared.consts + 1) }
@@ -122,7 +123,7 @@ impl Reading {
         self,
         alloc: Global,
         at: u32,
-        name: &[u8],
+        name: &Bytes,
         ty: &SurfaceTy,
     ) -> Result<Reading, Refusal>
         requires { length self.declared.consts < 2 ^ 32 }
@@ -164,8 +165,8 @@ impl Reading {
         ensures grows { IfOk result (λ r. length r.declared.bases + length r.declared.consts ≤ length self.declared.bases + length self.declared.consts + 1) }
     {
         match body {
-            Body::Base { at, name } => self.read_base(*at, name.as_slice()),
-            Body::Typing { at, name, ty } => self.read_const(alloc, *at, name.as_slice(), ty),
+            Body::Base { at, name } => self.read_base(*at, name),
+            Body::Typing { at, name, ty } => self.read_const(alloc, *at, name, ty),
             Body::Formula(tree) => {
                 let t = read_formula(alloc, &self.declared, tree)?;
                 Ok(self.with_formula(role, t)?)

@@ -107,7 +107,7 @@ pub(crate) fn read_term<'a>(
     ensures { Answers the_typed result (defined.read_term declared.now (the_variables scope.now) (the_formula tree.now)) }
 {
     match tree {
-        Surface::Name { at, name } => known(*at, declared.constant(name.as_slice())),
+        Surface::Name { at, name } => known(*at, declared.constant(name)),
         Surface::Var { at, name } => known(*at, scope.variable(0, name.as_slice())?),
         Surface::Truth { value, .. } => Ok(truth(alloc, *value)?),
         Surface::Op { conn, .. } => Ok(operator(alloc, *conn)?),

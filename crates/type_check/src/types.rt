@@ -31,7 +31,7 @@ pub(crate) fn read_type(alloc: Global, declared: &Declared, ty: &SurfaceTy) -> R
     match ty {
         SurfaceTy::Form { .. } => Ok(Ty::Base(0)),
         SurfaceTy::Indiv { .. } => Ok(Ty::Base(1)),
-        SurfaceTy::Named { at, name } => base_named(*at, declared.find(name.as_slice())),
+        SurfaceTy::Named { at, name } => base_named(*at, declared.find(name)),
         SurfaceTy::Arrow { from, to, .. } => {
             let from = read_type(alloc, declared, from)?;
             let to = read_type(alloc, declared, to)?;
