@@ -28,7 +28,7 @@ least() {
   done | awk '{ print $1 + $2 }' | sort -n | head -n 1
 }
 
-for declarations in 1000 48000; do
+for declarations in 1000 8500 48000; do
   problem=$folder/$declarations.p
   python3 "$here/reading.py" "$problem" "$declarations"
   ours=$(least "$program" "$problem")
