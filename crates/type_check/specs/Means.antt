@@ -5,3 +5,4 @@ pub mod Infixes
 pub mod ScopeView
 pub mod ReadingView
 pub mod ProblemNames
+pub mod Fingerprint

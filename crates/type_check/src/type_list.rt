@@ -2,6 +2,7 @@
 
 ghost use Rattle.std.specs.Prelude.{◌≡◌, ◌++◌, [], ◌∷◌, slice_get, option_map, IfOk, OnOk};
 ghost use Rattle.stt_core.specs.View.{the_type};
+ghost use Rattle.type_check.specs.Means.Fingerprint.{fingerprint};
 
 use std::alloc::{AllocError, Global};
 use std::collections::HashMap;
@@ -32,8 +33,10 @@ impl Model for TypeList {
     ghost view = { λ l. map (λ ty. the_type ty.value) l.items.items };
 }
 
-/// A number that equal types share. Different types may have it too.
-fn fingerprint(ty: &Ty) -> u64 {
+/// A number of 64 bits, which few types share.
+fn fingerprint(ty: &Ty) -> u64
+    ensures { result ≡ fingerprint (the_type ty.now) }
+{
     match ty {
         Ty::Base(n) => u64::from(*n),
         Ty::Arrow(argument, outcome) => fingerprint(argument)
