@@ -32,11 +32,11 @@ def check(name, lines, problem=HEAD + "thf(a,axiom,q).\nthf(b,axiom,~ q).\n"):
     calls.append(f"--check {name}.txt {name}.p")
 
 
-def church(name, exponent):
+def church(exponent):
     numeral = lambda n, a: f"^[F: {a} > {a}, X: {a}] : " + "(F @ " * n + "X" + ")" * n
     low, high = "$i", "($i > $i)"
     term = f"({numeral(exponent, high)}) @ ({numeral(2, low)}) @ f @ c"
-    run(name, HEAD + f"thf(a,axiom,p @ ({term})).\n")
+    return HEAD + f"thf(a,axiom,p @ ({term})).\n"
 
 
 for n in (1000, 8190):
@@ -54,7 +54,8 @@ for n in (1000, 50000):
     check(f"arguments{n}", f"0: False(0) [+(p (g {'c ' * n}))] []\n")
     check(f"long_name{n}", f"0: False(0) [+({'p' * n} c)] []\n")
 for n in (10, 16, 20):
-    church(f"church{n}", n)
+    run(f"church{n}", church(n))
+    check(f"church_checked{n}", "0: Close(0,1) [+q,-q] []\n", church(n))
 for n in (10, 24):
     run(f"doubled{n}", HEAD + "thf(a,axiom,p @ (" + "(^[X: $i] : (g @ X @ X)) @ (" * n + "c" + ")" * n + ")).\n")
 for n in (100, 500):
