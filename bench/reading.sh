@@ -1,7 +1,7 @@
 #!/usr/bin/env bash
 # Compares a program that reads and types a problem with a plain fold over the bytes of its file (`h * 31 + b`, built by rustc): bench/reading.sh
 # PROGRAM, with 16 MiB of typed statements in the layout of the TPTP. Each line: how many constants are declared, the seconds (user and system)
-# of both, the least of five runs each, and their ratio. A run of the fold makes fifty of it, so that its seconds are told as finely.
+# of both, the least of ten runs each by turns, and their ratio. A run of the fold makes fifty of it, so that its seconds are told as finely.
 set -eu
 here=$(dirname -- "$(readlink -f -- "$0")")
 program=${1:?a program}
@@ -21,18 +21,23 @@ fn main() {
 RUST
 rustc -C opt-level=2 -o "$folder/fold" "$folder/fold.rs"
 
-# The seconds of the fastest of five runs: least COMMAND ..
-least() {
-  for _ in 1 2 3 4 5; do
-    { time "$@" >"$folder/answer" 2>&1 || true; } 2>&1
-  done | awk '{ print $1 + $2 }' | sort -n | head -n 1
+# Adds the seconds of one run of a command to a file: run FILE COMMAND ..
+run() {
+  local times=$1
+  shift
+  { time "$@" >"$folder/answer" 2>&1 || true; } 2>&1 | awk '{ print $1 + $2 }' >>"$times"
 }
 
 for declarations in 1000 8500 48000; do
   problem=$folder/$declarations.p
   python3 "$here/reading.py" "$problem" "$declarations"
-  ours=$(least "$program" "$problem")
-  folds=$(least "$folder/fold" "$problem")
+  rm -f "$folder/ours" "$folder/folds"
+  for _ in 1 2 3 4 5 6 7 8 9 10; do
+    run "$folder/ours" "$program" "$problem"
+    run "$folder/folds" "$folder/fold" "$problem"
+  done
+  ours=$(sort -n "$folder/ours" | head -n 1)
+  folds=$(sort -n "$folder/folds" | head -n 1)
   awk -v n="$declarations" -v ours="$ours" -v folds="$folds" '
     BEGIN { printf "%d constants: %.3f s, the fold %.4f s, %.1f times\n", n, ours, folds / 50, ours / (folds / 50) }'
 done
