@@ -12,7 +12,7 @@ expect() { # the status, and what was done
 status=0
 "$program" $'\xff' >/dev/null 2>&1 || status=$?
 expect 18 'a word that is no text'
-for space in $(seq 2000 20 6000); do
+for space in $(seq 2000 20 20000); do
   status=0
   (ulimit -v "$space"; "$program" "$problem") >/dev/null 2>&1 || status=$?
   if [ "$status" = 30 ]; then break; fi
