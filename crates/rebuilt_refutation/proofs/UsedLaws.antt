@@ -1,5 +1,7 @@
 -- How many lines a rebuilt refutation has.
-use Rattle.std.proofs.Common.{◌≡◌, ◌<◌, ◌≤◌, ◌+◌, ◌&&◌, cond, not, if◌then◌else◌, ℕ, zero, suc, Bool, true, false, List, [], ◌∷◌, ◌++◌, map, length, Some, slice_get, Contains, refl, sym, ap, ◌∙◌, subst, append_assoc, length-append, arith}
+use Rattle.std.proofs.Common.{◌≡◌, ◌<◌, ◌≤◌, ◌+◌, ◌&&◌, ◌||◌, cond, not, nat_eq, if◌then◌else◌, ℕ, zero, suc, Bool, true, false, List, [], ◌∷◌, ◌++◌, map, length, Option, Some, None, slice_get, Contains, refl, sym, ap, ◌∙◌, subst, append_assoc, length-append, arith}
+use Rattle.std.specs.List.{list_any}
+use Rattle.std.proofs.lemmas.Bool.{false≢true, eqb-true, eq-eqb}
 use Rattle.std.proofs.lemmas.Option.{slice_get_within}
 use Rattle.std.proofs.lemmas.List.{length-map}
 use Rattle.std.proofs.lemmas.List.Elements.{Contains-append_left, Contains-append_right}
@@ -15,33 +17,43 @@ use Rattle.rebuilt_refutation.specs.Input.{Input}
 use Rattle.rebuilt_refutation.specs.Trees.{Place, at_clause, at_step, at_result, same_place, Tree, made_at, same_line}
 use Rattle.rebuilt_refutation.specs.Stands.{Standing, start, line, joined, stepped, place_of, Stands, of_start, of_instance, of_first, of_next, of_result}
 use Rattle.rebuilt_refutation.specs.Lines.{walked, number_in, line_of, lines_from}
-use Rattle.rebuilt_refutation.specs.Used.{IsUsed, last_result, first_of, step_of, step_count, AreDistinct, AreFew}
+use Rattle.rebuilt_refutation.specs.Used.{IsUsed, last_result, first_of, step_of, steps_in, steps_of, AreDistinct, AreFew}
 use Rattle.rebuilt_refutation.proofs.WalkLaws.{same_place-refl, IsEach, IsOrdered, get-middle}
 use Rattle.rebuilt_refutation.proofs.ReachedLaws.{walked_all}
 use Rattle.rebuilt_refutation.proofs.CountLaws.{HasNoneTwice, no_longer}
 
--- the places after the steps of a chain, and of the chains of a log
+-- the places after the steps of a chain, and of the chains of results of a log
 step_places : ℕ → ℕ → List ChainStep → List Place
 step_places n k [] = []
 step_places n k (step ∷ steps) = at_step n (suc k) ∷ step_places n (suc k) steps
 
-all_places : ℕ → List LogEntry → List Place
-all_places n [] = []
-all_places n (entry ∷ log) = step_places n zero entry.chain.steps ++ all_places (suc n) log
+steps_at : Option LogEntry → List ChainStep
+steps_at None = []
+steps_at (Some entry) = entry.chain.steps
+
+result_places : List LogEntry → List ℕ → List Place
+result_places log [] = []
+result_places log (n ∷ ns) = step_places n zero (steps_at (slice_get log n)) ++ result_places log ns
 
 step_places-length : (n k : ℕ) (steps : List ChainStep) → length (step_places n k steps) ≡ length steps
 unfolding step_places
 step_places-length n k [] = refl
 step_places-length n k (step ∷ steps) = let rest = step_places-length n (suc k) steps in omega (arith, rest)
 
-all_places-length : (n : ℕ) (log : List LogEntry) → length (all_places n log) ≡ step_count log
-unfolding all_places
-all_places-length n [] = refl
-all_places-length n (entry ∷ log) =
-    let here = step_places-length n zero entry.chain.steps in
-    let rest = all_places-length (suc n) log in
-    let both = length-append (step_places n zero entry.chain.steps) (all_places (suc n) log) in
-    omega (arith, here, rest, both)
+steps_at-length : (o : Option LogEntry) → length (steps_at o) ≡ steps_in o
+unfolding steps_at
+steps_at-length None = refl
+steps_at-length (Some entry) = refl
+
+result_places-length : (log : List LogEntry) (ns : List ℕ) → length (result_places log ns) ≡ steps_of log ns
+unfolding result_places
+result_places-length log [] = refl
+result_places-length log (n ∷ ns) =
+    let here = step_places-length n zero (steps_at (slice_get log n)) in
+    let steps = steps_at-length (slice_get log n) in
+    let rest = result_places-length log ns in
+    let both = length-append (step_places n zero (steps_at (slice_get log n))) (result_places log ns) in
+    omega (arith, here, steps, rest, both)
 
 step_there : (n k : ℕ) (steps : List ChainStep) (j r : ℕ) → r ≡ k + j → j < length steps → Contains (step_places n k steps) (at_step n (suc r))
 unfolding step_places
@@ -52,16 +64,110 @@ step_there n k (step ∷ steps) zero r e l =
 step_there n k (step ∷ steps) (suc j) r e l =
     contains-later (at_step n (suc r)) (at_step n (suc k)) (step_places n (suc k) steps) (step_there n (suc k) steps j r (omega (arith, e)) (omega (arith, l)))
 
-place_there : (m : ℕ) (log : List LogEntry) (n : ℕ) (entry : LogEntry) (j q : ℕ) → q ≡ m + n → slice_get log n ≡ Some entry → j < length entry.chain.steps → Contains (all_places m log) (at_step q (suc j))
-unfolding all_places
-place_there m [] n entry j q e h l = cc
-place_there m (first ∷ log) zero entry j q e h l =
-    let same : first ≡ entry = cc in
-    let number : m ≡ q = omega (arith, e) in
-    Contains-append_left (step_places m zero first.chain.steps) (all_places (suc m) log) (at_step q (suc j))
-    (subst (λ x. Contains (step_places m zero first.chain.steps) (at_step x (suc j))) number (step_there m zero first.chain.steps j j (omega arith) (subst (λ x. j < length x.chain.steps) (sym same) l)))
-place_there m (first ∷ log) (suc n) entry j q e h l =
-    Contains-append_right (step_places m zero first.chain.steps) (all_places (suc m) log) (at_step q (suc j)) (place_there (suc m) log n entry j q (omega (arith, e)) h l)
+place_here : (n j : ℕ) (o : Option LogEntry) (entry : LogEntry) → o ≡ Some entry → j < length entry.chain.steps → Contains (step_places n zero (steps_at o)) (at_step n (suc j))
+unfolding steps_at
+place_here n j None entry e l = cc
+place_here n j (Some other) entry e l =
+    let same : other ≡ entry = cc in
+    step_there n zero other.chain.steps j j (omega arith) (subst (λ x. j < length x.chain.steps) (sym same) l)
+
+place_there : (log : List LogEntry) (ns : List ℕ) (n : ℕ) (entry : LogEntry) (j : ℕ) → Contains ns n → slice_get log n ≡ Some entry → j < length entry.chain.steps → Contains (result_places log ns) (at_step n (suc j))
+unfolding result_places
+place_there log [] n entry j c h l = absurd (omega (arith, c.1))
+place_there log (m ∷ ns) n entry j c h l =
+    contains_cases (Contains (step_places m zero (steps_at (slice_get log m)) ++ result_places log ns) (at_step n (suc j))) n m ns c
+    (λ same. Contains-append_left (step_places m zero (steps_at (slice_get log m))) (result_places log ns) (at_step n (suc j))
+    (subst (λ x. Contains (step_places x zero (steps_at (slice_get log x))) (at_step n (suc j))) (sym same) (place_here n j (slice_get log n) entry h l)))
+    (λ later. Contains-append_right (step_places m zero (steps_at (slice_get log m))) (result_places log ns) (at_step n (suc j)) (place_there log ns n entry j later h l))
+
+-- the numbers of the results among some places, each once
+with_number : ℕ → List ℕ → List ℕ
+with_number n ns = if list_any (nat_eq n) ns then ns else n ∷ ns
+
+step_numbers : List Place → List ℕ
+step_numbers [] = []
+step_numbers (at_clause n ∷ ps) = step_numbers ps
+step_numbers (at_step n k ∷ ps) = with_number n (step_numbers ps)
+step_numbers (at_result n ∷ ps) = step_numbers ps
+
+among : (n : ℕ) (ns : List ℕ) → list_any (nat_eq n) ns ≡ true → Contains ns n
+among n [] e = absurd (cc)
+among n (m ∷ ns) e = go (nat_eq n m) refl e (among n ns)
+  where
+    go : (b : Bool) → nat_eq n m ≡ b → (b || list_any (nat_eq n) ns) ≡ true → (list_any (nat_eq n) ns ≡ true → Contains ns n) → Contains (m ∷ ns) n
+    go true same h later = subst (λ x. Contains (x ∷ ns) n) (eqb-true n m same) (contains-first n ns)
+    go false other h later = contains-later n m ns (later h)
+
+not_among : (n : ℕ) (ns : List ℕ) → list_any (nat_eq n) ns ≡ false → Contains ns n → ⊥
+not_among n [] e c = omega (arith, c.1)
+not_among n (m ∷ ns) e c = contains_cases ⊥ n m ns c (λ same. absurd (false≢true (sym (or_false_left (nat_eq n m) (list_any (nat_eq n) ns) e) ∙ eq-eqb n m (sym same)))) (λ later. not_among n ns (or_false_right (nat_eq n m) (list_any (nat_eq n) ns) e) later)
+  where
+    or_false_left : (a b : Bool) → (a || b) ≡ false → a ≡ false
+    or_false_left true b h = absurd (false≢true (sym h))
+    or_false_left false b h = refl
+
+    or_false_right : (a b : Bool) → (a || b) ≡ false → b ≡ false
+    or_false_right true b h = absurd (false≢true (sym h))
+    or_false_right false b h = h
+
+with_there : (n m : ℕ) (ns : List ℕ) → Contains ns m → Contains (with_number n ns) m
+unfolding with_number
+with_there n m ns c = go (list_any (nat_eq n) ns)
+  where
+    go : (b : Bool) → Contains (if b then ns else n ∷ ns) m
+    go true = c
+    go false = contains-later m n ns c
+
+with_itself : (n : ℕ) (ns : List ℕ) → Contains (with_number n ns) n
+unfolding with_number
+with_itself n ns = go (list_any (nat_eq n) ns) refl
+  where
+    go : (b : Bool) → list_any (nat_eq n) ns ≡ b → Contains (if b then ns else n ∷ ns) n
+    go true e = among n ns e
+    go false e = contains-first n ns
+
+with_distinct : (n : ℕ) (ns : List ℕ) → AreDistinct ns → AreDistinct (with_number n ns)
+unfolding with_number
+with_distinct n ns h = go (list_any (nat_eq n) ns) refl
+  where
+    go : (b : Bool) → list_any (nat_eq n) ns ≡ b → AreDistinct (if b then ns else n ∷ ns)
+    go true e = h
+    go false e = (not_among n ns e, h)
+
+with_cases : (Q : Type 0) (n m : ℕ) (ns : List ℕ) → Contains (with_number n ns) m → (n ≡ m → Q) → (Contains ns m → Q) → Q
+unfolding with_number
+with_cases Q n m ns c same later = go (list_any (nat_eq n) ns) c
+  where
+    go : (b : Bool) → Contains (if b then ns else n ∷ ns) m → Q
+    go true k = later k
+    go false k = contains_cases Q m n ns k same later
+
+step_number : (ps : List Place) (n k : ℕ) → Contains ps (at_step n k) → Contains (step_numbers ps) n
+unfolding step_numbers
+step_number [] n k h = absurd (omega (arith, h.1))
+step_number (at_clause m ∷ ps) n k h = contains_cases (Contains (step_numbers ps) n) (at_step n k) (at_clause m) ps h (λ same. cc) (λ later. step_number ps n k later)
+step_number (at_step m j ∷ ps) n k h =
+    contains_cases (Contains (with_number m (step_numbers ps)) n) (at_step n k) (at_step m j) ps h
+    (λ same. let e : m ≡ n = cc in subst (λ x. Contains (with_number x (step_numbers ps)) n) (sym e) (with_itself n (step_numbers ps)))
+    (λ later. with_there m n (step_numbers ps) (step_number ps n k later))
+step_number (at_result m ∷ ps) n k h = contains_cases (Contains (step_numbers ps) n) (at_step n k) (at_result m) ps h (λ same. cc) (λ later. step_number ps n k later)
+
+number_step : (ps : List Place) (n : ℕ) → Contains (step_numbers ps) n → (k : ℕ) × Contains ps (at_step n k)
+unfolding step_numbers
+number_step [] n h = absurd (omega (arith, h.1))
+number_step (at_clause m ∷ ps) n h = let r = number_step ps n h in (r.0, contains-later (at_step n r.0) (at_clause m) ps r.1)
+number_step (at_step m j ∷ ps) n h =
+    with_cases ((k : ℕ) × Contains (at_step m j ∷ ps) (at_step n k)) m n (step_numbers ps) h
+    (λ same. (j, subst (λ x. Contains (at_step m j ∷ ps) (at_step x j)) same (contains-first (at_step m j) ps)))
+    (λ later. let r = number_step ps n later in (r.0, contains-later (at_step n r.0) (at_step m j) ps r.1))
+number_step (at_result m ∷ ps) n h = let r = number_step ps n h in (r.0, contains-later (at_step n r.0) (at_result m) ps r.1)
+
+steps_distinct : (ps : List Place) → AreDistinct (step_numbers ps)
+unfolding step_numbers
+steps_distinct [] = tt
+steps_distinct (at_clause m ∷ ps) = steps_distinct ps
+steps_distinct (at_step m j ∷ ps) = with_distinct m (step_numbers ps) (steps_distinct ps)
+steps_distinct (at_result m ∷ ps) = steps_distinct ps
 
 -- the numbers of the clauses among some places
 clause_numbers : List Place → List ℕ
@@ -100,11 +206,11 @@ contains_map f [] x h = absurd (omega (arith, h.1))
 contains_map f (y ∷ xs) x h = contains_cases (Contains (map f (y ∷ xs)) (f x)) x y xs h (λ same. subst (λ z. Contains (map f (y ∷ xs)) (f z)) same (contains-first (f y) (map f xs))) (λ later. contains-later (f x) (f y) (map f xs) (contains_map f xs x later))
 
 module _ (log : List LogEntry) where
-  -- a place that is counted: a clause that is used, or a step of the log
+  -- a place that is counted: a clause that is used, or a step of a result that is used
   abbrev IsCounted : Place → Type 0
   IsCounted (at_clause n) = IsUsed log (at_clause n)
   IsCounted (at_step n zero) = ⊥
-  IsCounted (at_step n (suc k)) = (entry : LogEntry) × (slice_get log n ≡ Some entry) × (k < length entry.chain.steps)
+  IsCounted (at_step n (suc k)) = IsUsed log (at_result n) × ((entry : LogEntry) × (slice_get log n ≡ Some entry) × (k < length entry.chain.steps))
   IsCounted (at_result n) = ⊥
 
   abbrev IsCountedLine : Tree → Type 0
@@ -144,7 +250,7 @@ module _ (input : Input) where
       are_counted (place_of entry.chain.first) d t h (used_at input.log entry.chain.first (first_of n entry e used))
   are_counted p c s (of_next n k entry step a b d x y e f h j r) used =
       let premise = used_at input.log step.premise (step_of n entry step e used (contains-get entry.chain.steps k step f)) in
-      stepped_counted input.log (at_step n (suc k)) step.var a b x y (entry, e, slice_get_within entry.chain.steps k step f) (are_counted (at_step n k) a x h used) (are_counted (place_of step.premise) b y j premise)
+      stepped_counted input.log (at_step n (suc k)) step.var a b x y (used, (entry, e, slice_get_within entry.chain.steps k step f)) (are_counted (at_step n k) a x h used) (are_counted (place_of step.premise) b y j premise)
   are_counted p c s (of_result n entry d t e h) used = are_counted (at_step n (length entry.chain.steps)) d t h used
 
 -- a line stands at no later place than one that is made where it is
@@ -188,15 +294,20 @@ module _ (Is : Tree → Type 0) (trees : List Tree) (ordered : IsOrdered Is tree
   pub places_once : HasNoneTwice (map made_at trees)
   places_once = none_twice [] trees refl
 
--- the counted places are among those of the log and those of clauses
-within_counted : (log : List LogEntry) (ps : List Place) → ((p : Place) → Contains ps p → IsCounted log p) → (p : Place) → Contains ps p → Contains (all_places 0 log ++ map at_clause (clause_numbers ps)) p
+-- the counted places are among those of the results that are used and those of clauses
+within_counted : (log : List LogEntry) (ps : List Place) → ((p : Place) → Contains ps p → IsCounted log p) → (p : Place) → Contains ps p → Contains (result_places log (step_numbers ps) ++ map at_clause (clause_numbers ps)) p
 within_counted log ps counted (at_clause n) h =
-    Contains-append_right (all_places 0 log) (map at_clause (clause_numbers ps)) (at_clause n) (contains_map at_clause (clause_numbers ps) n (place_number ps n h))
+    Contains-append_right (result_places log (step_numbers ps)) (map at_clause (clause_numbers ps)) (at_clause n) (contains_map at_clause (clause_numbers ps) n (place_number ps n h))
 within_counted log ps counted (at_step n zero) h = absurd (counted (at_step n zero) h)
 within_counted log ps counted (at_step n (suc k)) h =
-    let there = counted (at_step n (suc k)) h in
-    Contains-append_left (all_places 0 log) (map at_clause (clause_numbers ps)) (at_step n (suc k)) (place_there 0 log n there.0 k n (omega arith) there.1 there.2)
+    let there = (counted (at_step n (suc k)) h).1 in
+    Contains-append_left (result_places log (step_numbers ps)) (map at_clause (clause_numbers ps)) (at_step n (suc k)) (place_there log (step_numbers ps) n there.0 k (step_number ps n (suc k) h) there.1 there.2)
 within_counted log ps counted (at_result n) h = absurd (counted (at_result n) h)
+
+-- a result with a counted step is used
+used_step : (log : List LogEntry) (ps : List Place) → ((p : Place) → Contains ps p → IsCounted log p) → (n k : ℕ) → Contains ps (at_step n k) → IsUsed log (at_result n)
+used_step log ps counted n zero h = absurd (counted (at_step n zero) h)
+used_step log ps counted n (suc k) h = (counted (at_step n (suc k)) h).0
 
 each_place : (P : Place → Type 0) (trees : List Tree) → ((i : ℕ) (t : Tree) → slice_get trees i ≡ Some t → P (made_at t)) → (p : Place) → Contains (map made_at trees) p → P p
 each_place P [] all p h = absurd (omega (arith, h.1))
@@ -209,14 +320,17 @@ lines_few input n t last stands Is ordered =
     let is = are_counted input (at_result n) [] (line t) stands (last_result n last) in
     let counted = each_place (IsCounted input.log) trees (walked_all (IsCountedLine input.log) t [] (λ i u h. cc) is) in
     let once = places_once Is trees ordered in
-    let ys = all_places 0 input.log ++ map at_clause (clause_numbers ps) in
+    let ys = result_places input.log (step_numbers ps) ++ map at_clause (clause_numbers ps) in
     let bound = no_longer ps ys once (within_counted input.log ps counted) in
     let lines = length-map trees (line_of input.atoms trees) in
     let places = length-map trees made_at in
-    let both = length-append (all_places 0 input.log) (map at_clause (clause_numbers ps)) in
-    let steps = all_places-length 0 input.log in
+    let both = length-append (result_places input.log (step_numbers ps)) (map at_clause (clause_numbers ps)) in
+    let steps = result_places-length input.log (step_numbers ps) in
     let numbers = length-map (clause_numbers ps) at_clause in
     record {
+      results = step_numbers ps;
+      results_distinct = steps_distinct ps;
+      each_result = λ m h. let step = number_step ps m h in used_step input.log ps counted m step.0 step.1;
       used = clause_numbers ps;
       distinct = numbers_distinct ps once;
       each_used = λ m h. counted (at_clause m) (number_place ps m h);

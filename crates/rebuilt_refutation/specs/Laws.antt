@@ -47,7 +47,7 @@ abbrev pub RebuiltIsFromSearch : Type 0
 RebuiltIsFromSearch =
     (scope : Scope) (start : List Literal) (input : Input) (refutation : Refutation) → IsGiven scope start input → IsRebuilt input refutation → (l : Line) → Contains refutation.lines l → IsFromSearch start input l
 
--- there is at most one line for each step of the log and one for each clause that the last result's chain reaches
+-- there is at most one line for each step of the results and one for each clause that the last result's chain reaches
 abbrev pub RebuiltIsFew : Type 0
 RebuiltIsFew = (scope : Scope) (start : List Literal) (input : Input) (refutation : Refutation) → IsGiven scope start input → IsRebuilt input refutation → AreFew input.log refutation.lines
 

@@ -1,5 +1,5 @@
 -- What the chain of the last result reaches, and how many lines there are for it.
-use Rattle.std.specs.Prelude.{◌≡◌, ◌+◌, ◌≤◌, ℕ, List, [], ◌∷◌, map, length, Some, slice_get, Contains}
+use Rattle.std.specs.Prelude.{◌≡◌, ◌+◌, ◌≤◌, ℕ, List, [], ◌∷◌, map, length, Option, Some, None, slice_get, Contains}
 use Rattle.stt_tableau.specs.declared.refutation.Line.{Line}
 use Rattle.sat_base.specs.declared.literal.SatLit.{SatLit}
 use Rattle.sat_base.specs.Literal.{negated}
@@ -15,21 +15,28 @@ pub data IsUsed (log : List LogEntry) : Place → Type 0 where
   first_of : (n : ℕ) (entry : LogEntry) → slice_get log n ≡ Some entry → IsUsed log (at_result n) → IsUsed log (place_of entry.chain.first)
   step_of : (n : ℕ) (entry : LogEntry) (step : ChainStep) → slice_get log n ≡ Some entry → IsUsed log (at_result n) → Contains entry.chain.steps step → IsUsed log (place_of step.premise)
 
--- how many steps the chains of a log have
-abbrev pub step_count : List LogEntry → ℕ
-step_count [] = 0
-step_count (entry ∷ log) = length entry.chain.steps + step_count log
+-- how many steps the chains of these results of a log have
+abbrev pub steps_in : Option LogEntry → ℕ
+steps_in None = 0
+steps_in (Some entry) = length entry.chain.steps
+
+abbrev pub steps_of : List LogEntry → List ℕ → ℕ
+steps_of log [] = 0
+steps_of log (n ∷ ns) = steps_in (slice_get log n) + steps_of log ns
 
 abbrev pub AreDistinct : List ℕ → Type 0
 AreDistinct [] = Unit {0}
 AreDistinct (n ∷ ns) = (Contains ns n → ⊥) × AreDistinct ns
 
--- at most one line for each step of the log and one for each clause that is used
+-- at most one line for each step of the results that are used and one for each clause that is used
 pub record AreFew (log : List LogEntry) (lines : List Line) : Type 0 where
+  pub results : List ℕ
+  pub results_distinct : AreDistinct results
+  pub each_result : (n : ℕ) → Contains results n → IsUsed log (at_result n)
   pub used : List ℕ
   pub distinct : AreDistinct used
   pub each_used : (n : ℕ) → Contains used n → IsUsed log (at_clause n)
-  pub few : length lines ≤ step_count log + length used
+  pub few : length lines ≤ steps_of log results + length used
 
 -- one of the lines is that of the clause: its branch is the negations of the clause's literals
 pub record HasLineOf (input : Input) (lines : List Line) (clause : List SatLit) : Type 0 where

@@ -117,6 +117,17 @@ clause_value-same : (f g : Var → Bool) (clause : List SatLit) → ((v : Var) �
 clause_value-same f g [] same = refl
 clause_value-same f g (l ∷ clause) same = ap₂ (λ (x y : Bool). x || y) (ap (λ (x : Bool). if l.positive then x else not x) (same l.var)) (clause_value-same f g clause same)
 
+-- the table has room for one variable more
+pub keeper_ahead : (values same : List Bool) (uses more : List (List ℕ)) (listed kept : ℕ) (clauses : List (List SatLit)) → same ≡ values → more ≡ uses ++ [] ∷ []
+    → IsKeeper values uses listed kept clauses → IsKeeper same more listed kept clauses
+keeper_ahead values same uses more listed kept clauses e longer s = record {
+  listed_within = s.listed_within;
+  kept_within = s.kept_within;
+  used = λ k clause below at l h. subst (λ (table : List (List ℕ)). Contains (uses_of table l.var) k) (sym longer) (uses_longer uses l.var k (s.used k clause below at l h));
+  kept_true = λ k clause below at. subst (λ (list : List Bool). IsTrue (clause_value (assigned list) clause)) (sym e) (s.kept_true k clause below at);
+  uses_made = omega (arith, s.uses_made, ap (λ (list : List Bool). length list) e, ap (λ (table : List (List ℕ)). length table) longer, length-append uses ([] ∷ []));
+}
+
 -- one variable more, which is false
 pub keeper_longer : (values : List Bool) (uses : List (List ℕ)) (listed kept : ℕ) (clauses : List (List SatLit)) → IsKeeper values uses listed kept clauses
     → IsKeeper (values ++ false ∷ []) (uses ++ [] ∷ []) listed kept clauses

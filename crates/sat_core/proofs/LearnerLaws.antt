@@ -2,7 +2,7 @@
 use Rattle.std.proofs.Common.{◌≡◌, ◌≢◌, inl, inr, ◌<◌, ◌≤◌, ◌+◌, ◌-◌, ◌^◌, ℕ, zero, suc, Bool, true, false, List, [], ◌∷◌, ◌++◌, Some, IsTrue, length, take, get_or, refl, sym, ap, ◌∙◌, subst, arith, length-append, append_assoc, append-nil}
 use Rattle.std.specs.List.{All, Any, Contains, list_any, slice_get}
 use Rattle.std.proofs.lemmas.Bool.{false≢true, cases_order, or_left, or_right}
-use Rattle.std.proofs.lemmas.List.{length-map, length-take-le, take-take, take-append-le, map-append}
+use Rattle.std.proofs.lemmas.List.{length-map, length-take-le, take-take, take-append-le, take_all, map-append}
 use Rattle.std.proofs.lemmas.List.Elements.{All-push, All-weaker, All-contains, All-contains_itself, Contains-append_left, Contains-append_right, Contains-append_cases, Contains-push_cases}
 use Rattle.std.proofs.lemmas.List.Quantifiers.{all_pairs_push}
 use Rattle.std.proofs.lemmas.Option.{slice_get_within, slice_get-get_or, same_Some}
@@ -25,7 +25,7 @@ use Rattle.sat_propagate.specs.declared.propagator.Propagator.{Propagator}
 use Rattle.sat_propagate.proofs.ListLaws.{get-take}
 use Rattle.sat_propagate.proofs.TableLaws.{get_or-any}
 use Rattle.sat_core.specs.declared.learner.Learner.{Learner}
-use Rattle.sat_core.specs.Solver.{learned_from, AreAmong}
+use Rattle.sat_core.specs.Solver.{learned_from, AreAmong, IsLearnedFrom, WereLearned}
 use Rattle.sat_core.specs.Means.Learned.{Occurs}
 use Rattle.sat_core.specs.Means.Learner.{IsNamedPropagator, AreInserted, AreLearned, Grew}
 use Rattle.sat_core.proofs.AnalysisSteps.{contains_at}
@@ -114,6 +114,57 @@ AreLearned-push clauses learned outcome before new once occurring = record {
     | inl earlier ↦ before.occurring clause l earlier h
     | inr last ↦ occurring l (ap (λ (c : List SatLit). holds c l) last ∙ h)
   ];
+}
+
+-- clauses were added
+pub WereLearned-append : (clauses more learned : List (List SatLit)) → WereLearned clauses learned → WereLearned (clauses ++ more) learned
+WereLearned-append clauses more learned w = record {
+  there = w.there;
+  counted = w.counted;
+  in_order = w.in_order;
+  within = All-weaker (λ (n : ℕ). n ≤ length clauses) (λ (n : ℕ). n ≤ length (clauses ++ more)) (λ n h. omega (arith, h, length-append clauses more)) w.there w.within;
+  each = λ k n clause at_k at.
+      subst (λ (front : List (List SatLit)). IsLearnedFrom front (take k learned) clause) (sym (take-append-le n clauses more (at_most w n k at_k))) (w.each k n clause at_k at);
+}
+  where
+    at_most : (w : WereLearned clauses learned) (n k : ℕ) → slice_get w.there k ≡ Some n → n ≤ length clauses
+    at_most w n k at_k = All-contains (λ (m : ℕ). m ≤ length clauses) w.there n w.within (contains_at w.there k n at_k)
+
+pub WereLearned-nil : (clauses : List (List SatLit)) → WereLearned clauses []
+WereLearned-nil clauses = record {
+  there = [];
+  counted = refl;
+  in_order = λ i j d before h. absurd (omega (arith, h));
+  within = λ k d h. absurd (omega (arith, h));
+  each = λ k n clause at_k at. let inside = slice_get_within {A = List SatLit} [] k clause at in absurd (omega (arith, inside));
+}
+
+-- a clause is learned from all that are there
+pub WereLearned-push : (clauses learned : List (List SatLit)) (outcome : List SatLit) → WereLearned clauses learned → IsLearnedFrom clauses learned outcome → WereLearned clauses (learned ++ outcome ∷ [])
+WereLearned-push clauses learned outcome before last = record {
+  there = before.there ++ length clauses ∷ [];
+  counted = omega (arith, before.counted, length-append before.there (length clauses ∷ []), length-append learned (outcome ∷ []));
+  in_order = all_pairs_push (λ (n m : ℕ). n ≤ m) before.there (length clauses) before.in_order before.within;
+  within = All-push (λ (n : ℕ). n ≤ length clauses) before.there (length clauses) before.within (omega arith);
+  each = λ k n clause at_k at.
+      elim (cases_order k (length learned)) [
+        | inl end ↦
+            let all : length clauses ≡ n =
+            same_Some _ _ (sym (slice_get-seam before.there (length clauses)) ∙ ap (slice_get (before.there ++ length clauses ∷ [])) (before.counted ∙ sym end) ∙ at_k) in
+            let is : outcome ≡ clause = same_Some _ _ (sym (slice_get-seam learned outcome) ∙ ap (slice_get (learned ++ outcome ∷ [])) (sym end) ∙ at) in
+            let front : take n clauses ≡ clauses = ap (λ (m : ℕ). take m clauses) (sym all) ∙ take_all (length clauses) clauses (omega arith) in
+            let earlier : take k (learned ++ outcome ∷ []) ≡ learned = ap (λ (m : ℕ). take m (learned ++ outcome ∷ [])) end ∙ take-append_seam learned (outcome ∷ []) in
+            subst (λ (c : List SatLit). IsLearnedFrom (take n clauses) (take k (learned ++ outcome ∷ [])) c) is
+            (subst (λ (list : List (List SatLit)). IsLearnedFrom (take n clauses) list outcome) (sym earlier)
+            (subst (λ (list : List (List SatLit)). IsLearnedFrom list learned outcome) (sym front) last))
+        | inr other ↦ elim other [
+          | inl less ↦
+              subst (λ (list : List (List SatLit)). IsLearnedFrom (take n clauses) list clause) (sym (take-append-le k learned (outcome ∷ []) (omega (arith, less))))
+              (before.each k n clause (sym (slice_get-before before.there (length clauses ∷ []) k (omega (arith, less, before.counted))) ∙ at_k)
+              (sym (slice_get-before learned (outcome ∷ []) k less) ∙ at))
+          | inr more ↦ let inside = slice_get_within (learned ++ outcome ∷ []) k clause at in absurd (omega (arith, more, inside, length-append learned (outcome ∷ [])))
+        ]
+      ];
 }
 
 -- a literal of a clause or a learned one occurs in the clauses

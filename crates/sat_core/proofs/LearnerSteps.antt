@@ -7,22 +7,23 @@ use Rattle.std.proofs.lemmas.List.Elements.{All-weaker, All-contains, All-contai
 use Rattle.std.proofs.lemmas.Option.{same_Some, slice_get_within}
 use Rattle.sat_base.specs.declared.literal.SatLit.{SatLit}
 use Rattle.sat_base.specs.Literal.{IsOver}
-use Rattle.sat_base.specs.Truth.{assigned, clause_value, AllTrue}
+use Rattle.sat_base.specs.Truth.{assigned, clause_value, AllTrue, Implies}
 use Rattle.sat_log.specs.declared.chain.Premise.{Premise}
 use Rattle.sat_log.specs.declared.chain.Premise.TheVariants.{Clause, Result}
 use Rattle.sat_log.specs.declared.log.LogEntry.{LogEntry}
 use Rattle.sat_log.specs.Chains.{premise_clause, results, IsLogOver}
-use Rattle.sat_log.specs.Propagation.{Includes, ReachesFalse}
+use Rattle.sat_log.specs.Propagation.{IsNew, Includes, ReachesFalse}
 use Rattle.sat_log.proofs.ChainLaws.{slice_get-before, slice_get-seam, slice_get-append, IsLogOver-append}
+use Rattle.sat_log.proofs.Implied.{results_implied}
 use Rattle.sat_log.proofs.PropagationLaws.{ReachesFalse-included}
 use Rattle.sat_propagate.specs.Means.Propagator.{IsPropagator, texts}
 use Rattle.sat_propagate.specs.declared.propagator.Propagator.{Propagator}
 use Rattle.sat_propagate.proofs.ListLaws.{get-past_seam}
-use Rattle.sat_core.specs.Solver.{learned_from}
+use Rattle.sat_core.specs.Solver.{learned_from, WereLearned}
 use Rattle.sat_core.specs.Means.Learner.{IsNamedPropagator, AreInserted, AreLearned, IsLearnerOf, IsUnlearned}
 use Rattle.sat_core.specs.declared.learner.Learner.{Learner}
 use Rattle.sat_core.proofs.NameLaws.{ready_same}
-use Rattle.sat_core.proofs.LearnerLaws.{AreInserted-within, AreInserted-next, AreInserted-append, AreLearned-append, learned_open, learned_pushed}
+use Rattle.sat_core.proofs.LearnerLaws.{AreInserted-within, AreInserted-next, AreInserted-append, AreLearned-append, WereLearned-append, WereLearned-push, learned_open, learned_pushed}
 
 log_length : (log : List LogEntry) → length (results log) ≡ length log
 log_length log = length-map log (λ (entry : LogEntry). entry.result)
@@ -39,6 +40,7 @@ learner_kept clauses log is_refuted before after names more marks marked n m rea
   clauses_in = AreInserted-within n clauses (texts before.clauses.items) (texts after.clauses.items) within l.clauses_in;
   results_in = AreInserted-within m (results log) (texts before.clauses.items) (texts after.clauses.items) within l.results_in;
   of_learned = l.of_learned;
+  in_turn = l.in_turn;
   refuted = l.refuted;
 }
 
@@ -49,11 +51,16 @@ Includes-push before after clause e = λ c there. subst (λ (list : List (List S
 pub Includes-same : (before after : List (List SatLit)) → after ≡ before → Includes before after
 Includes-same before after e = λ c there. subst (λ (list : List (List SatLit)). Contains list c) (sym e) there
 
+-- the last result of a log is implied
+last_implied : (clauses : List (List SatLit)) (before after : List LogEntry) (outcome : List SatLit) → IsLogOver clauses after → results after ≡ results before ++ outcome ∷ [] → Implies clauses outcome
+last_implied clauses before after outcome logged are =
+    All-contains (Implies clauses) (results after) outcome (results_implied clauses after logged) (subst (λ (list : List (List SatLit)). Contains list outcome) (sym are) (Contains-push (results before) outcome))
+
 -- the log has one result more
 pub learner_logged : (clauses : List (List SatLit)) (before after : List LogEntry) (is_refuted : Bool) (propagator : Propagator) (names : List Premise) (marks : List Bool) (n m : ℕ) (outcome : List SatLit)
     → is_refuted ≡ false → IsNamedPropagator clauses (results after) propagator names marks → IsLogOver clauses after → results after ≡ results before ++ outcome ∷ [] → AreLearned clauses (results before ++ outcome ∷ [])
-    → IsLearnerOf clauses before is_refuted propagator names marks n m → IsLearnerOf clauses after is_refuted propagator names marks n m
-learner_logged clauses before after is_refuted propagator names marks n m outcome still_open ready logged are learned l = record {
+    → IsNew (clauses ++ results before) outcome → IsLearnerOf clauses before is_refuted propagator names marks n m → IsLearnerOf clauses after is_refuted propagator names marks n m
+learner_logged clauses before after is_refuted propagator names marks n m outcome still_open ready logged are learned new l = record {
   ready = ready;
   logged = logged;
   clauses_made = l.clauses_made;
@@ -62,6 +69,9 @@ learner_logged clauses before after is_refuted propagator names marks n m outcom
   results_in = subst (λ (list : List (List SatLit)). AreInserted m list (texts propagator.clauses.items)) (sym are)
       (AreInserted-append m (results before) (outcome ∷ []) (texts propagator.clauses.items) (omega (arith, l.results_made, log_length before)) l.results_in);
   of_learned = subst (AreLearned clauses) (sym (learned_open is_refuted (results after) still_open ∙ are)) learned;
+  in_turn = subst (WereLearned clauses) (sym (learned_open is_refuted (results after) still_open ∙ are))
+      (WereLearned-push clauses (results before) outcome (subst (WereLearned clauses) (learned_open is_refuted (results before) still_open) l.in_turn)
+      (record { implied = last_implied clauses before after outcome logged are; new = new }));
   refuted = λ e. absurd (false≢true (sym still_open ∙ e));
 }
 
@@ -78,6 +88,7 @@ learner_refuted clauses before after was_refuted propagator names marks n m stil
   results_in = subst (λ (list : List (List SatLit)). AreInserted m list (texts propagator.clauses.items)) (sym are)
       (AreInserted-append m (results before) ([] ∷ []) (texts propagator.clauses.items) (omega (arith, l.results_made, log_length before)) l.results_in);
   of_learned = subst (AreLearned clauses) (sym learned_is) (subst (AreLearned clauses) (learned_open was_refuted (results before) still_open) l.of_learned);
+  in_turn = subst (WereLearned clauses) (sym learned_is) (subst (WereLearned clauses) (learned_open was_refuted (results before) still_open) l.in_turn);
   refuted = λ e. record {
     ends = are ∙ ap (λ (list : List (List SatLit)). list ++ [] ∷ []) (sym learned_is);
     propagated = subst (λ (list : List (List SatLit)). ReachesFalse (clauses ++ list) []) (sym learned_is) reaches;
@@ -135,6 +146,7 @@ learner_added clauses more log is_refuted propagator names marks n m over l = re
   clauses_in = AreInserted-append n clauses (more ∷ []) (texts propagator.clauses.items) l.clauses_made l.clauses_in;
   results_in = l.results_in;
   of_learned = AreLearned-append clauses (more ∷ []) (learned_from is_refuted (results log)) l.of_learned;
+  in_turn = WereLearned-append clauses (more ∷ []) (learned_from is_refuted (results log)) l.in_turn;
   refuted = λ e. let r = l.refuted e in record {
     ends = r.ends;
     propagated = ReachesFalse-included (clauses ++ learned_from true (results log)) ((clauses ++ more ∷ []) ++ learned_from true (results log))
@@ -153,6 +165,7 @@ learner_next_clause clauses log is_refuted propagator names marks n m clause at 
   clauses_in = AreInserted-next n clauses (texts propagator.clauses.items) clause at there l.clauses_in;
   results_in = l.results_in;
   of_learned = l.of_learned;
+  in_turn = l.in_turn;
   refuted = l.refuted;
 }
 
@@ -167,6 +180,7 @@ learner_next_result clauses log is_refuted propagator names marks n m clause at 
   clauses_in = l.clauses_in;
   results_in = AreInserted-next m (results log) (texts propagator.clauses.items) clause at there l.results_in;
   of_learned = l.of_learned;
+  in_turn = l.in_turn;
   refuted = l.refuted;
 }
 

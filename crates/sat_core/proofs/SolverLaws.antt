@@ -17,11 +17,13 @@ use Rattle.sat_core.specs.Means.Learner.{IsLearner, Grew, seen, shown}
 use Rattle.sat_core.proofs.AnalysisSteps.{contains_at}
 use Rattle.sat_core.proofs.LearnerLaws.{learned_open, learned_at}
 
-pub sound_of : (s : Learner) → IsLearner s → IsSound (seen s)
-sound_of s l = record {
+pub sound_of : (values : List Bool) (s : Learner) → IsLearner s → IsSound (shown values s)
+sound_of values s l = record {
   logged = l.logged;
   once = l.of_learned.once;
   apart = l.of_learned.apart;
+  occurring = l.of_learned.occurring;
+  in_turn = l.in_turn;
   ends = λ e. let r = l.refuted e in r.ends ∙ ap (λ (b : Bool). learned_from b (results s.log) ++ [] ∷ []) (sym e);
 }
 

@@ -35,7 +35,9 @@ use Rattle.request_answers.specs.Checked.{HoldsOnly}
 use Rattle.request_answers.specs.Solved.{IsProofOf, claim_of}
 use Rattle.request_answers.specs.Answers.{stop_answer, AnswersProblem, AnswersStated, AnswersEnding, AnswersFiles, AnswersAsked, IsAnswer, IsDefined}
 use Rattle.request_answers.specs.Causes.{HasCauseOf, HasCauseAsked, HasCause}
-use Rattle.satallax_top.specs.Headline.{IsProvedOutcome, ShowsNoModel, IsWithoutModel, HasNoModel, IsProofReport, Appends, IsWritten, IsOutcome}
+use Rattle.tableau_run.specs.Ended.{setting_for}
+use Rattle.tableau_run.proofs.EnoughLaws.{never-ends}
+use Rattle.satallax_top.specs.Headline.{EnoughAsked, IsProvedOutcome, ShowsNoModel, IsWithoutModel, HasNoModel, IsProofReport, Appends, IsWritten, IsOutcome}
 use Rattle.request_answers.proofs.OneLine.{name_one_line}
 use Rattle.request_answers.proofs.ReportHolds.{holds_report, accepted_report}
 use Rattle.request_answers.proofs.SolvedLaws.{proof_accepted}
@@ -251,6 +253,18 @@ words_asked (Some (generated n)) told contents h = let f = files_answered (gener
 
 pub words_answer : (words : List (List ℕ)) (told : Bool) (contents : List ℕ → Option (List ℕ)) (o : Outcome) (a : Answer) → IsAnswer words told contents a → o ≡ outcome_of a → o ≡ ended.Words → asked_by words ≡ None
 words_answer words told contents o a answer is e = words_asked (asked_by words) told contents (subst (IsAnswer words told contents) (words_form a (sym is ∙ e)) answer)
+
+-- conflicts that are enough aren't answered to be spent
+pub never_spent : (o : Option Request) (told : Bool) (contents : List ℕ → Option (List ℕ)) (conflicts : ℕ) → EnoughAsked o told contents → AnswersAsked o told contents (ConflictLimit conflicts) → ⊥
+never_spent None told contents conflicts enough h = cc
+never_spent (Some (prove p file)) told contents conflicts enough h =
+    let f = files_answered (prove p file) told contents (ConflictLimit conflicts) (λ x. x) h in
+    never-ends (setting_for f.problem f.mode) (start (unfolded_problem f.problem)) conflicts (enough f.mode f.names f.problem f.is_mode f.stated) f.answered
+never_spent (Some (refutation file p)) told contents conflicts enough h =
+    let f = files_answered (refutation file p) told contents (ConflictLimit conflicts) (λ x. x) h in f.answered.holds
+never_spent (Some (generated n)) told contents conflicts enough h =
+    let f = files_answered (generated n) told contents (ConflictLimit conflicts) (λ x. x) h in
+    never-ends (setting_for f.problem f.mode) (start (unfolded_problem f.problem)) conflicts (enough f.mode f.names f.problem f.is_mode f.stated) f.answered
 
 -- the outcome of an answer
 pub outcome_whole : (words : List (List ℕ)) (told : Bool) (contents : List ℕ → Option (List ℕ)) (o : Outcome) (a : Answer) → IsAnswer words told contents a → o ≡ outcome_of a → IsOutcome words told contents o

@@ -1,5 +1,5 @@
 -- What a reported proof means.
-use Rattle.std.specs.Prelude.{◌≡◌, ℕ, Bool, List, ◌++◌, Option, Some}
+use Rattle.std.specs.Prelude.{◌≡◌, ℕ, Bool, List, ◌++◌, Option, Some, None}
 use Rattle.outside.specs.Prefix.{AppendsProperly}
 use Rattle.stt_core.specs.Meaning.{Model, IsModel}
 use Rattle.stt_core.specs.Meets.{MeetsProblem}
@@ -11,8 +11,8 @@ use Rattle.stt_tableau.specs.Start.{start}
 use Rattle.stt_tableau.specs.declared.refutation.Refutation.{Refutation}
 use Rattle.mode_file.specs.declared.Mode.{Mode}
 use Rattle.delta_defs.specs.Unfolding.{taken_names, unfolded_problem}
-use Rattle.cli_words.specs.Requests.{prove, asked_by}
-use Rattle.tableau_run.specs.Ended.{IsRefuted}
+use Rattle.cli_words.specs.Requests.{Request, prove, asked_by}
+use Rattle.tableau_run.specs.Ended.{setting_for, IsRefuted, HasEnoughConflicts}
 use Rattle.written_refutation.specs.Text.{text_lines, as_bytes}
 use Rattle.written_refutation.specs.Named.{named_refutation}
 use Rattle.szs_report.specs.Outcomes.{claim_outcome, outcome_of}
@@ -21,8 +21,8 @@ use Rattle.szs_report.specs.declared.answer.Answer.{Answer}
 use Rattle.szs_report.specs.declared.answer.Answer.TheVariants.{Proved}
 use Rattle.szs_report.specs.declared.outcome.Outcome.{Outcome}
 use Rattle.szs_report.specs.declared.outcome.Outcome.TheVariants.{Theorem, Unsatisfiable, DemoDone, Accepted, WriteFault}
-use Rattle.request_answers.specs.Requested.{name_of}
-use Rattle.request_answers.specs.Files.{StatesProblem}
+use Rattle.request_answers.specs.Requested.{name_of, problem_name, mode_file, told_of, contents_of}
+use Rattle.request_answers.specs.Files.{OfFiles, Statements, StatesProblem}
 use Rattle.request_answers.specs.Modes.{IsModeBy}
 use Rattle.request_answers.specs.Names.{names_in}
 use Rattle.request_answers.specs.Checked.{IsAcceptedText, HoldsOnly}
@@ -54,6 +54,17 @@ pub record HasNoModel (words : List (List ℕ)) (told : Bool) (contents : List �
   pub problem : PlainProblem
   pub stated : StatesProblem words told contents names problem
   pub no_model : IsWithoutModel problem
+
+-- Whatever problem the files state that a request is about, and by whatever mode it is run: the mode has enough conflicts for the clauses of
+-- each state of the run.
+abbrev pub EnoughAsked : Option Request → Bool → (List ℕ → Option (List ℕ)) → Type 0
+EnoughAsked None told contents = Unit {0}
+EnoughAsked (Some r) told contents =
+    (mode : Mode) (names : List (List ℕ)) (p : PlainProblem) → IsModeBy told contents (mode_file r) mode → OfFiles (problem_name r) (told_of told r) (contents_of contents r) names (Statements p)
+    → HasEnoughConflicts (setting_for p mode) (start (unfolded_problem p))
+
+abbrev pub AreConflictsEnough : List (List ℕ) → Bool → (List ℕ → Option (List ℕ)) → Type 0
+AreConflictsEnough words told contents = EnoughAsked (asked_by words) told contents
 
 -- the words ask for the proof of a problem, by this mode
 pub record IsAskedBy (words : List (List ℕ)) (told : Bool) (contents : List ℕ → Option (List ℕ)) (mode : Mode) : Type 0 where

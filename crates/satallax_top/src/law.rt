@@ -1,12 +1,14 @@
 //! Laws of the definitions, each as the contract of a function that does nothing.
 
-ghost use Rattle.std.specs.Prelude.{◌≡◌, ℕ, List, Option};
+ghost use Rattle.std.specs.Prelude.{◌≡◌, ℕ, Bool, List, Option};
 ghost use Rattle.stt_core.specs.PlainProblem.{PlainProblem};
 ghost use Rattle.mode_file.specs.declared.Mode.{Mode};
 ghost use Rattle.szs_report.specs.Outcomes.{outcome_of, without_refutation};
 ghost use Rattle.szs_report.specs.declared.answer.Answer.{Answer};
+ghost use Rattle.szs_report.specs.declared.answer.Answer.TheVariants.{ConflictLimit};
 ghost use Rattle.request_answers.specs.Solved.{IsSolved};
-ghost use Rattle.request_answers.specs.Answers.{IsSettled, Defined};
+ghost use Rattle.request_answers.specs.Answers.{IsSettled, Defined, IsAnswer};
+ghost use Rattle.satallax_top.specs.Headline.{AreConflictsEnough};
 
 /// Over told contents there is one defined answer, but for the refutation of a proof: any that is accepted will do. So there is one outcome.
 /// A run ends in one way, after one number of commands, where its conflicts aren't spent.
@@ -17,4 +19,10 @@ pub fn one_answer()
         → without_refutation one ≡ without_refutation other }
     ensures outcome { (words : List (List ℕ)) (contents : List ℕ → Option (List ℕ)) (one other : Answer) → Defined words contents one → Defined words contents other
         → outcome_of one ≡ outcome_of other }
+{}
+
+/// Where the mode has enough conflicts for all clauses over the atoms of each state of the run, it isn't answered that they are spent.
+pub fn enough_is_never_spent()
+    ensures { (words : List (List ℕ)) (told : Bool) (contents : List ℕ → Option (List ℕ)) (conflicts : ℕ) → AreConflictsEnough words told contents
+        → IsAnswer words told contents (ConflictLimit conflicts) → ⊥ }
 {}

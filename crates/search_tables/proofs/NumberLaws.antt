@@ -36,7 +36,7 @@ module _ (b : Content) (atoms : List ℕ) (good : All (IsAtom b) atoms) where
   named_number l h = omega (arith, h, length-map atoms (term_at b.terms))
 
   module _ (equal : EqualIdsForEqualTerms b) (differ : (v w id : ℕ) → slice_get atoms v ≡ Some id → slice_get atoms w ≡ Some id → v ≡ w) where
-    apart : AreApart named
+    pub apart : AreApart named
     apart i j h k e =
         let h' : i < length atoms = omega (arith, h, length-map atoms (term_at b.terms)) in
         let k' : j < length atoms = omega (arith, k, length-map atoms (term_at b.terms)) in
@@ -53,7 +53,7 @@ module _ (b : Content) (atoms : List ℕ) (good : All (IsAtom b) atoms) where
     clauses_named : (cs : List (List SatLit)) → Each (Each (IsNumber atoms)) cs → map (map (by_atoms.literal_at named)) cs ≡ map (map (literal_at b.terms atoms)) cs
     clauses_named cs h = map-same (map (by_atoms.literal_at named)) (map (literal_at b.terms atoms)) (Each (IsNumber atoms)) (λ c g. map-same (by_atoms.literal_at named) (literal_at b.terms atoms) (IsNumber atoms) literal_named c g) cs h
 
-    clauses_number : (cs : List (List SatLit)) → Each (Each (IsNumber atoms)) cs → Each (Each (by_atoms.IsNumber named)) cs
+    pub clauses_number : (cs : List (List SatLit)) → Each (Each (IsNumber atoms)) cs → Each (Each (by_atoms.IsNumber named)) cs
     clauses_number cs h = each-weaker (Each (IsNumber atoms)) (Each (by_atoms.IsNumber named)) (λ c g. each-weaker (IsNumber atoms) (by_atoms.IsNumber named) named_number c g) cs h
 
     -- Clauses of numbers are unsatisfiable exactly where the clauses that they stand for are.

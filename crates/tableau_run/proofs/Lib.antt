@@ -1,3 +1,4 @@
+pub mod EnoughLaws
 pub mod OriginLaws
 pub mod PrincipalLaws
 pub mod RebuildUses

@@ -26,7 +26,7 @@ use Rattle.tableau_run.specs.Origin.{CutsOnAtom, ComesFrom, IsPropagated, by_uni
 
 -- LISTS
 
-contains-mapped : {A B : Type 0} (f : A → B) (xs : List A) (x : A) → Contains xs x → Contains (map f xs) (f x)
+pub contains-mapped : {A B : Type 0} (f : A → B) (xs : List A) (x : A) → Contains xs x → Contains (map f xs) (f x)
 contains-mapped f [] x h = absurd (omega (arith, h.1))
 contains-mapped f (y ∷ xs) x h =
     contains_cases (Contains (map f (y ∷ xs)) (f x)) x y xs h (λ same. subst (λ z. Contains (map f (y ∷ xs)) (f z)) same (contains-first (f y) (map f xs))) (λ later. contains-later (f x) (f y) (map f xs) (contains-mapped f xs x later))

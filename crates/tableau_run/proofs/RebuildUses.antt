@@ -11,19 +11,23 @@ use Rattle.stt_tableau.specs.Literals.{Literal}
 use Rattle.stt_tableau.specs.Witnesses.{with_rows}
 use Rattle.stt_tableau.specs.Rules.{Rule, places}
 use Rattle.stt_tableau.specs.declared.refutation.Line.{Line}
+use Rattle.stt_tableau.specs.declared.refutation.Refutation.{Refutation}
 use Rattle.stt_tableau.proofs.AcceptedLaws.{literals_at-are}
 use Rattle.sat_base.specs.declared.literal.SatLit.{SatLit}
 use Rattle.sat_base.specs.Literal.{IsOver}
 use Rattle.sat_log.specs.declared.log.LogEntry.{LogEntry}
 use Rattle.sat_log.specs.Chains.{results, IsLogOver}
+use Rattle.sat_core.specs.Solver.{SolverState, learned, OccurIn, WereLearned, IsSound}
 use Rattle.term_bank.specs.Content.{content_scope}
 use Rattle.search_run.specs.Each.{Each}
 use Rattle.literal_map.specs.Atoms.{literal_at}
 use Rattle.literal_map.specs.declared.instance.Instance.{Instance}
 use Rattle.rebuilt_refutation.specs.Input.{literals_of, clause_in}
+use Rattle.rebuilt_refutation.specs.Rebuilt.{IsRebuilt}
 use Rattle.rebuilt_refutation.specs.Trimmed.{IsFromSearch}
 use Rattle.rebuilt_refutation.specs.Used.{AreFew}
 use Rattle.search_run.specs.Numbered as by_atoms
+use Rattle.search_run.specs.Numbered.{AreApart}
 use Rattle.search_run.specs.Unsatisfiable.{Clause}
 use Rattle.tableau_clauses.specs.Table.{Step, Table, the_clauses, ComesFrom, EachComes}
 use Rattle.tableau_clauses.specs.declared.origin.Origin.{Origin}
@@ -146,18 +150,31 @@ module _ (g : Basis) (good : IsBasis g) where
         in
         subst C same (comes-from (the_input g.bank g.lits t log g.witnesses) ls l (from l there))
 
-    pub shortly-named : (log : List LogEntry) (front : List (List SatLit)) (lines : List Line) → IsLogOver (the_clauses t) log → results log ≡ front ++ [] ∷ [] → AreFew log lines
-        → AreRefutedShortly (map (map by_number) (the_clauses t)) lines
-    shortly-named log front lines logged ends few = record {
-      atoms = named;
-      numbered = the_clauses t;
-      stand = sym (lists-named (the_clauses t) numbers);
-      log = log;
-      logged = logged;
-      front = front;
-      ends = ends;
-      few = few;
-    }
+    -- the log of a solver over the clauses, from which a refutation is rebuilt, refutes the clauses of formulas
+    pub shortly-named : (y : SolverState) (refutation : Refutation) → EachComes t → AreApart named → Each (Each (by_atoms.IsNumber named)) (the_clauses t) → y.clauses ≡ the_clauses t → IsSound y
+        → results y.log ≡ learned y ++ [] ∷ [] → IsRebuilt (the_input g.bank g.lits t y.log g.witnesses) refutation → AreFew y.log refutation.lines
+        → AreRefutedShortly (map (map by_number) (the_clauses t)) (learned y) refutation
+    shortly-named y refutation comes apart over_atoms is sound ends rebuilt few =
+        let sourced : map clause_in (the_sources g.bank.terms g.lits t) ≡ the_clauses t = sources-clauses g.bank.terms g.lits t comes in
+        let same : y.clauses ≡ map clause_in (the_sources g.bank.terms g.lits t) = is ∙ sym sourced in
+        let N : List (List SatLit) → Type 0 = λ cs. Each (Each (by_atoms.IsNumber named)) cs in
+        let L : List (List SatLit) → Type 0 = λ cs. IsLogOver cs y.log in
+        let O : List (List SatLit) → Type 0 = λ cs. OccurIn cs (learned y) in
+        let W : List (List SatLit) → Type 0 = λ cs. WereLearned cs (learned y) in
+        record {
+          input = the_input g.bank g.lits t y.log g.witnesses;
+          apart = apart;
+          numbers = subst N (sym sourced) over_atoms;
+          stand = ap (map (literals_of named)) sourced ∙ sym (lists-named (the_clauses t) numbers);
+          logged = subst L same sound.logged;
+          ends = ends;
+          once = sound.once;
+          differ = sound.apart;
+          occurring = subst O same sound.occurring;
+          in_turn = subst W same sound.in_turn;
+          rebuilt = rebuilt;
+          few = few;
+        }
 
 last_at : {X : Type 0} (xs : List X) (x : X) → slice_get (xs ++ x ∷ []) (length xs) ≡ Some x
 last_at [] x = refl

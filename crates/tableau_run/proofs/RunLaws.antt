@@ -1,5 +1,5 @@
 -- Runs from their start to their end.
-use Rattle.std.specs.Prelude.{◌≡◌, ◌≤◌, ◌+◌, ◌-◌, ◌^◌, ◌∷◌, ◌++◌, ℕ, zero, suc, Bool, true, false, List, [], map, filter, length, Some, Contains, refl}
+use Rattle.std.specs.Prelude.{◌≡◌, ◌≤◌, ◌+◌, ◌-◌, ◌^◌, ◌∷◌, ◌++◌, ℕ, zero, suc, Bool, true, false, List, [], map, filter, length, Some, slice_get, Contains, refl}
 use Rattle.std.specs.List.{All}
 use Rattle.std.proofs.Common.{sym, ap, ap₂, subst, ◌∙◌, arith, inl, inr, cond}
 use Rattle.std.proofs.lemmas.Bool.{cases_lt}
@@ -19,7 +19,7 @@ use Rattle.sat_base.specs.declared.literal.SatLit.{SatLit}
 use Rattle.sat_base.specs.Truth.{Implies}
 use Rattle.sat_log.specs.Chains.{results}
 use Rattle.sat_log.specs.Propagation.{AreFailingDecisions, ReachesFalse as NumbersReachFalse}
-use Rattle.sat_core.specs.Solver.{learned_from, learned, AreAmong}
+use Rattle.sat_core.specs.Solver.{learned_from, learned, AreAmong, OccurIn, WereLearned, IsSound}
 use Rattle.tableau_clauses.specs.Table.{the_clauses}
 use Rattle.tableau_rebuild.specs.Tables.{the_atoms}
 use Rattle.search_run.specs.Shallow.{is_shallow_literal}
@@ -30,10 +30,12 @@ use Rattle.search_run.specs.Result.{GoesOn, GoesOnUntil, IsExhausted, IsStopped}
 use Rattle.command_queue.specs.Queue.{Queue}
 use Rattle.mode_file.specs.declared.Mode.{Mode}
 use Rattle.term_bank.specs.Content.{Content, content_scope}
+use Rattle.term_bank.specs.Laws.{EqualIdsForEqualTerms}
 use Rattle.search_tables.specs.declared.command.Planned.{Planned}
 use Rattle.search_tables.specs.declared.command.Delays.{Delays}
 use Rattle.search_tables.specs.declared.tables.Tables.{Tables}
 use Rattle.search_tables.specs.Means.Standing.{declared_scope, setting_by, the_state, IsRight}
+use Rattle.search_tables.proofs.NumberLaws.{apart, clauses_number}
 use Rattle.tableau_search.specs.Means.Running.{start_in, IsRunning}
 use Rattle.tableau_search.specs.Means.Progress.{Progress}
 use Rattle.tableau_search.specs.Means.Answers.{StepCloses, IsEmpty, IsAtLimit, StepSpends as IsSpentAt, GoesOn as GoesOnBy}
@@ -62,29 +64,34 @@ module _ (t : Tables) (q : Queue Planned Delays) (r : IsRunning t q) (t2 : Table
   pub goes-on : GoesOnBy old new → GoesOn (setting_by t q) (start_in t) t.done
   goes-on g = record { state = the_state t q; open_state = record { comes_to = r.comes_to; satisfiable = g.satisfiable }; some_left = g.some_left; below = g.below }
 
+  -- no more clauses are learned than the mode has conflicts
+  budget_kept : IsRight t2 q2 → setting_by t2 q2 ≡ setting_by t q → length (learned t2.solver) ≤ q.rule.mode.conflicts
+  budget_kept right same = subst (λ n. length (learned t2.solver) ≤ n) (ap (λ (s : Setting). s.mode.conflicts) same) right.budget
+
   -- the clauses are refuted within the conflicts of the mode
   within_budget : StepCloses old new → IsRight t2 q2 → setting_by t2 q2 ≡ setting_by t q → All (Implies t2.solver.clauses) (results t2.solver.log) → AreRefutedWithin q.rule.mode.conflicts (the_state t q).clauses
   within_budget k right same implied =
       let C : List (List SatLit) → Type 0 = λ cs. All (Implies cs) (learned t2.solver) in
       let R : List (List SatLit) → Type 0 = λ cs. NumbersReachFalse (cs ++ learned t2.solver) [] in
       let A : List Clause → Type 0 = λ cs. AreRefutedWithin q.rule.mode.conflicts cs in
-      let budget : length (learned t2.solver) ≤ q.rule.mode.conflicts = subst (λ n. length (learned t2.solver) ≤ n) (ap (λ (s : Setting). s.mode.conflicts) same) right.budget in
       subst A (sym (lists-named t2.basis right.basis (the_clauses t2.steps) right.clauses) ∙ ap (λ (s : State). s.clauses) k.stays.state)
       (
-      refuted-within (the_atoms t2.basis.bank.terms t2.basis.lits) q.rule.mode.conflicts (the_clauses t2.steps) (learned t2.solver) budget
+      refuted-within (the_atoms t2.basis.bank.terms t2.basis.lits) q.rule.mode.conflicts (the_clauses t2.steps) (learned t2.solver) (budget_kept right same)
       (subst C right.solver (learned-among (Implies t2.solver.clauses) t2.solver.is_refuted (results t2.solver.log) implied))
       (subst R right.solver k.propagated)
       )
 
   pub is-proved : (refutation : Refutation) → StepCloses old new → IsRight t2 q2 → setting_by t2 q2 ≡ setting_by t q → All (Implies t2.solver.clauses) (results t2.solver.log)
-      → RefutesFrom (setting_by t q).scope (start_in t) (the_state t q).clauses refutation → GoesOnUntil (setting_by t q) (start_in t) t.done → IsProvedBy (setting_by t q) (start_in t) t2.done refutation
+      → RefutesFrom (setting_by t q).scope (start_in t) (the_state t q).clauses (learned t2.solver) refutation → GoesOnUntil (setting_by t q) (start_in t) t.done → IsProvedBy (setting_by t q) (start_in t) t2.done refutation
   is-proved refutation k right same implied refutes until =
       let P : ℕ → Type 0 = λ n. IsProvedBy (setting_by t q) (start_in t) n refutation in
       subst P (sym k.stays.done)
       (
       record {
         proved = record { until = until; state = the_state t q; comes_to = r.comes_to; unsatisfiable = k.unsatisfiable };
+        learned = learned t2.solver;
         refutes = refutes;
+        counted = budget_kept right same;
         within = within_budget k right same implied;
       }
       )
@@ -100,11 +107,15 @@ module _ (t : Tables) (q : Queue Planned Delays) (r : IsRunning t q) (t2 : Table
       subst P (sym k.stays.done) (record { until = until; state = the_state t q; open_state = record { comes_to = r.comes_to; satisfiable = k.satisfiable }; some_left = k.some_left; at_limit = k.at_limit })
 
   -- the conflicts are spent over the clauses that the new tables have
-  pub is-spent : (conflicts : ℕ) → IsSpentAt old new conflicts → IsRight t2 q2 → All (Implies t2.solver.clauses) (results t2.solver.log) → GoesOnUntil (setting_by t q) (start_in t) t.done → IsSpent (setting_by t q) (start_in t) conflicts
-  is-spent conflicts k right implied until =
+  pub is-spent : (conflicts : ℕ) → IsSpentAt old new conflicts → IsRight t2 q2 → EqualIdsForEqualTerms t2.basis.bank
+      → ((v w id : ℕ) → slice_get t2.basis.lits v ≡ Some id → slice_get t2.basis.lits w ≡ Some id → v ≡ w) → IsSound t2.solver → All (Implies t2.solver.clauses) (results t2.solver.log)
+      → GoesOnUntil (setting_by t q) (start_in t) t.done → IsSpent (setting_by t q) (start_in t) conflicts
+  is-spent conflicts k right equal differ sound implied until =
       let C : List (List SatLit) → Type 0 = λ cs. All (Implies cs) (learned t2.solver) in
       let F : List (List SatLit) → Type 0 = λ cs. AreFailingDecisions (cs ++ learned t2.solver) k.decisions in
       let A : List (List SatLit) → Type 0 = λ cs. (variables : List Var) → AreAmong variables cs → 3 ^ length variables ≤ conflicts → ⊥ in
+      let O : List (List SatLit) → Type 0 = λ cs. OccurIn cs (learned t2.solver) in
+      let W : List (List SatLit) → Type 0 = λ cs. WereLearned cs (learned t2.solver) in
       record {
         is_budget = k.reported;
         commands = t.done;
@@ -113,10 +124,16 @@ module _ (t : Tables) (q : Queue Planned Delays) (r : IsRunning t q) (t2 : Table
         comes_to = r.comes_to;
         spent = record {
           atoms = the_atoms t2.basis.bank.terms t2.basis.lits;
+          apart = apart t2.basis.bank t2.basis.lits right.basis.atoms equal differ;
           numbered = the_clauses t2.steps;
+          numbers = clauses_number t2.basis.bank t2.basis.lits right.basis.atoms equal differ (the_clauses t2.steps) right.clauses;
           stand = sym (lists-named t2.basis right.basis (the_clauses t2.steps) right.clauses) ∙ ap (λ (s : State). s.clauses) k.stays.state;
           learned = learned t2.solver;
           counted = k.counted;
+          once = sound.once;
+          differ = sound.apart;
+          occurring = subst O right.solver sound.occurring;
+          in_turn = subst W right.solver sound.in_turn;
           implied = subst C right.solver (learned-among (Implies t2.solver.clauses) t2.solver.is_refuted (results t2.solver.log) implied);
           decisions = k.decisions;
           failing = subst F right.solver k.failing;
@@ -227,7 +244,9 @@ module _ (p : PlainProblem) (m : Mode) (setting : Setting) (ls : List Literal) (
     reached = k.refutes.reached;
     small = k.refutes.small;
     origin = λ l there. comes_whole (start p) k.proved.state.clauses l (k.refutes.origin l there);
+    learned = k.learned;
     shortly = k.refutes.shortly;
+    counted = k.counted;
     within = k.within;
     at_once = λ e. refuted-at_once k.proved.state.clauses (subst (λ n. AreRefutedWithin n k.proved.state.clauses) e k.within);
   }

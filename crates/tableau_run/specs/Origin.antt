@@ -1,15 +1,20 @@
 -- Where the lines of a run's refutation come from, and what the propositional search found.
 use Rattle.std.specs.Prelude.{◌≡◌, ◌≢◌, ◌≤◌, ◌⊎◌, false, ℕ, List, [], ◌∷◌, ◌++◌, map, length, Contains}
-use Rattle.std.specs.List.{All}
+use Rattle.std.specs.List.{All, AllPairs}
 use Rattle.stt_core.specs.Lambda.{Lambda}
 use Rattle.stt_tableau.specs.Literals.{Literal, opposite}
 use Rattle.stt_tableau.specs.declared.refutation.RuleUse.TheVariants.{Cut}
 use Rattle.stt_tableau.specs.declared.refutation.Line.{Line}
+use Rattle.stt_tableau.specs.declared.refutation.Refutation.{Refutation}
 use Rattle.sat_base.specs.declared.literal.SatLit.{SatLit}
-use Rattle.sat_log.specs.declared.log.LogEntry.{LogEntry}
+use Rattle.sat_base.specs.Literal.{HoldsNoVariableTwice, IsAlike}
 use Rattle.sat_log.specs.Chains.{results, IsLogOver}
-use Rattle.search_run.specs.Numbered.{literal_at}
+use Rattle.sat_core.specs.Solver.{OccurIn, WereLearned}
+use Rattle.search_run.specs.Each.{Each}
+use Rattle.search_run.specs.Numbered.{literal_at, IsNumber, AreApart}
 use Rattle.search_run.specs.Unsatisfiable.{Clause, is_false}
+use Rattle.rebuilt_refutation.specs.Input.{Input, clause_in}
+use Rattle.rebuilt_refutation.specs.Rebuilt.{IsRebuilt}
 use Rattle.rebuilt_refutation.specs.Trimmed.{IsClosedByStart}
 use Rattle.rebuilt_refutation.specs.Used.{AreFew}
 
@@ -35,17 +40,24 @@ ComesFrom start clauses l = CutsOnAtom clauses l ⊎ (IsClosedByStart start l �
 abbrev pub EachComesFrom : List Literal → List Clause → List Line → Type 0
 EachComesFrom start clauses lines = (l : Line) → Contains lines l → ComesFrom start clauses l
 
--- The clauses are refuted by a log of resolution chains (Robinson 1965): clauses of numbered literals stand for them, each result of the log
--- is its chain's, and the last one is the empty clause. There is at most one line for each step of the log and one for each clause that is used.
-pub record AreRefutedShortly (clauses : List Clause) (lines : List Line) : Type 0 where
-  pub atoms : List Lambda
-  pub numbered : List (List SatLit)
-  pub stand : map (map (literal_at atoms)) numbered ≡ clauses
-  pub log : List LogEntry
-  pub logged : IsLogOver numbered log
-  pub front : List (List SatLit)
-  pub ends : results log ≡ front ++ [] ∷ []
-  pub few : AreFew log lines
+-- The clauses are refuted by the log of a solver, a list of resolution chains (Robinson 1965; Marques-Silva and Sakallah 1999), and from this
+-- log the refutation is rebuilt. Clauses of numbered literals stand for them, where each number has an atom and no two have the same one. Each
+-- result of the log is its chain's, and the last one is the empty clause. The others, these here, hold no variable twice, no two of them are
+-- alike, their literals occur in the clauses, and each was learned from the clauses that were there, so that it is none of them. There is at
+-- most one line for each step of the results that are used and one for each clause that is.
+pub record AreRefutedShortly (clauses : List Clause) (learned : List (List SatLit)) (refutation : Refutation) : Type 0 where
+  pub input : Input
+  pub apart : AreApart input.atoms
+  pub numbers : Each (Each (IsNumber input.atoms)) (map clause_in input.clauses)
+  pub stand : map (map (literal_at input.atoms)) (map clause_in input.clauses) ≡ clauses
+  pub logged : IsLogOver (map clause_in input.clauses) input.log
+  pub ends : results input.log ≡ learned ++ [] ∷ []
+  pub once : All HoldsNoVariableTwice learned
+  pub differ : AllPairs (λ a b. ¬ IsAlike a b) learned
+  pub occurring : OccurIn (map clause_in input.clauses) learned
+  pub in_turn : WereLearned (map clause_in input.clauses) learned
+  pub rebuilt : IsRebuilt input refutation
+  pub few : AreFew input.log refutation.lines
 
 -- Unit propagation over the clauses, from no literals, reaches a literal (Davis and Putnam 1960): some clause has it, and the negations of
 -- the clause's other literals are reached.

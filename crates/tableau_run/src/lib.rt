@@ -3,8 +3,10 @@
 
 mod delays;
 mod ended;
+mod law;
 mod running;
 
 pub use delays::delay;
 pub use ended::Ended;
+pub use law::enough_conflicts;
 pub use running::run;

@@ -20,14 +20,17 @@ use stt_core::Problem;
 use stt_tableau::Refutation;
 use tableau_rebuild::rebuild;
 use tableau_search::{Command, Search, Stepped, Waiting};
+use term_bank::equal_ids_for_equal_terms;
 
 /// The refutation from the log of a run whose clauses are unsatisfiable. There is no memory for one that is too large for a text.
 fn refutation_of(alloc: Global, tables: &Tables) -> Result<Refutation, AllocError>
     requires right { AreRight tables.now }
     requires ends { results tables.now.solver.log ≡ learned tables.now.solver ++ [] ∷ [] }
-    ensures { IfOk result (RefutesFrom (declared_scope tables.now.basis.bank) (start_in tables.now) (clauses_of tables.now)) }
+    ensures { IfOk result (RefutesFrom (declared_scope tables.now.basis.bank) (start_in tables.now) (clauses_of tables.now) (learned tables.now.solver)) }
 {
     tables.steps.clauses_come_from_origins();
+    equal_ids_for_equal_terms(&tables.basis.bank);
+    tables.basis.lits.atoms_differ();
     let log = tables.solver.log();
     let basis = &tables.basis;
     let refutation = rebuild(
@@ -72,6 +75,9 @@ fn next<W: Weigher<Waiting>>(
             commands: search.commands(),
         })),
         Stepped::Spent { conflicts } => {
+            // No two numbers have the same atom, and the log is asked for its clauses on what was learned.
+            equal_ids_for_equal_terms(&search.core.tables.basis.bank);
+            search.core.tables.basis.lits.atoms_differ();
             let _log = search.log();
             Ok(Some(Ended::ConflictLimit { conflicts }))
         }

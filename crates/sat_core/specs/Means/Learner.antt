@@ -1,16 +1,16 @@
 -- What is true of a learner between any two calls. Only proofs and private contracts use it.
-use Rattle.std.specs.Prelude.{◌≡◌, ◌≢◌, ◌≤◌, ◌<◌, ◌^◌, ◌∷◌, ◌++◌, [], ℕ, Bool, true, false, IsTrue, List, Some, length, take, slice_get}
-use Rattle.std.specs.List.{All, AllPairs, Any, Contains}
+use Rattle.std.specs.Prelude.{◌≡◌, ◌≢◌, ◌≤◌, ◌<◌, ◌^◌, ◌∷◌, ◌++◌, [], ℕ, Bool, true, false, List, Some, length, take, slice_get}
+use Rattle.std.specs.List.{All, AllPairs, Contains}
 use Rattle.sat_base.specs.declared.literal.Var.{Var}
 use Rattle.sat_base.specs.declared.literal.SatLit.{SatLit}
-use Rattle.sat_base.specs.Literal.{holds, HoldsNoVariableTwice, IsAlike, IsOver}
+use Rattle.sat_base.specs.Literal.{HoldsNoVariableTwice, IsAlike, IsOver}
 use Rattle.sat_base.specs.Truth.{AllTrue, assigned}
 use Rattle.sat_log.specs.declared.chain.Premise.{Premise}
 use Rattle.sat_log.specs.declared.log.LogEntry.{LogEntry}
 use Rattle.sat_log.specs.Chains.{premise_clause, results, IsLogOver}
 use Rattle.sat_log.specs.Propagation.{IsNew, ReachesFalse, AreFailingDecisions}
 use Rattle.sat_core.specs.Means.Learned.{AreNamed}
-use Rattle.sat_core.specs.Solver.{SolverState, learned_from, AreAmong}
+use Rattle.sat_core.specs.Solver.{SolverState, learned_from, AreAmong, OccurIn, WereLearned}
 use Rattle.sat_core.specs.declared.learner.Learner.{Learner}
 use Rattle.sat_core.specs.declared.learner.Answer.{Answer}
 use Rattle.sat_core.specs.declared.learner.Answer.TheVariants.{Sat, Unsat, Spent}
@@ -35,7 +35,7 @@ pub record AreLearned (clauses learned : List (List SatLit)) : Type 0 where
   pub filled : (clause : List SatLit) → Contains learned clause → clause ≢ []
   pub once : All HoldsNoVariableTwice learned
   pub apart : AllPairs (λ a b. ¬ IsAlike a b) learned
-  pub occurring : (clause : List SatLit) (l : SatLit) → Contains learned clause → IsTrue (holds clause l) → Any (λ c. IsTrue (holds c l)) clauses
+  pub occurring : OccurIn clauses learned
 
 -- the empty clause is the last result, and unit propagation shows why
 pub record IsRefuted (clauses results : List (List SatLit)) : Type 0 where
@@ -50,6 +50,7 @@ pub record IsLearnerOf (clauses : List (List SatLit)) (log : List LogEntry) (is_
   pub clauses_in : AreInserted inserted_clauses clauses (texts propagator.clauses.items)
   pub results_in : AreInserted inserted_results (results log) (texts propagator.clauses.items)
   pub of_learned : AreLearned clauses (learned_from is_refuted (results log))
+  pub in_turn : WereLearned clauses (learned_from is_refuted (results log))
   pub refuted : is_refuted ≡ true → IsRefuted clauses (results log)
 
 -- the facts that hold of a learner between any two calls

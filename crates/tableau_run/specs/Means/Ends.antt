@@ -1,9 +1,10 @@
 -- How a run from literals ends.
-use Rattle.std.specs.Prelude.{◌≡◌, ◌+◌, ℕ, List, map}
+use Rattle.std.specs.Prelude.{◌≡◌, ◌≤◌, ◌+◌, ℕ, List, map, length}
 use Rattle.stt_core.specs.Typing.{Scope}
 use Rattle.stt_tableau.specs.Literals.{Literal}
 use Rattle.stt_tableau.specs.Accepted.{IsAccepted}
 use Rattle.stt_tableau.specs.declared.refutation.Refutation.{Refutation}
+use Rattle.sat_base.specs.declared.literal.SatLit.{SatLit}
 use Rattle.search_run.specs.Each.{Each}
 use Rattle.search_run.specs.State.{Setting}
 use Rattle.search_run.specs.Unsatisfiable.{Clause}
@@ -35,18 +36,20 @@ abbrev pub clauses_of : Tables → List Clause
 clauses_of t = map (map (literal_at t.basis.bank.terms t.basis.lits)) (the_clauses t.steps)
 
 -- The refutation is accepted for the start and small enough for a text. Each of its lines is reached and comes from the clauses, which a log
--- refutes as shortly.
-pub record RefutesFrom (scope : Scope) (start : List Literal) (clauses : List Clause) (refutation : Refutation) : Type 0 where
+-- refutes with these learned clauses.
+pub record RefutesFrom (scope : Scope) (start : List Literal) (clauses : List Clause) (learned : List (List SatLit)) (refutation : Refutation) : Type 0 where
   pub accepted : IsAccepted scope start refutation
   pub reached : IsEachReached refutation.lines
   pub small : IsSmall refutation
   pub origin : EachComesFrom start clauses refutation.lines
-  pub shortly : AreRefutedShortly clauses refutation.lines
+  pub shortly : AreRefutedShortly clauses learned refutation
 
 -- the run from literals is proved after so many commands, with a refutation
 pub record IsProvedBy (setting : Setting) (start : List Literal) (n : ℕ) (refutation : Refutation) : Type 0 where
   pub proved : IsProved setting start n
-  pub refutes : RefutesFrom setting.scope start proved.state.clauses refutation
+  pub learned : List (List SatLit)
+  pub refutes : RefutesFrom setting.scope start proved.state.clauses learned refutation
+  pub counted : length learned ≤ setting.mode.conflicts
   pub within : AreRefutedWithin setting.mode.conflicts proved.state.clauses
 
 abbrev pub EndsFrom : Setting → List Literal → Ended → Type 0

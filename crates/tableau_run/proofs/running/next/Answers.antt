@@ -5,6 +5,7 @@ use Rattle.stt_tableau.specs.Literals.{Literal}
 use Rattle.search_run.specs.State.{State, Setting}
 use Rattle.search_run.specs.Unsatisfiable.{Clause}
 use Rattle.search_run.specs.Result.{IsExhausted, IsStopped}
+use Rattle.sat_core.specs.Solver.{learned}
 use Rattle.search_tables.specs.Means.Standing.{setting_by, the_state}
 use Rattle.tableau_search.specs.Means.Running.{start_in}
 use Rattle.tableau_search.specs.Means.Answers.{Answers}
@@ -22,8 +23,8 @@ returns-in_ok-refutation-in-Closed-clause-ended g c = λ until.
     let refutation = c.in_ok-refutation-in-Closed.refutation in
     let A : Stepped → Type 0 = λ s. Answers (record { tables = t; plan = q }) (record { tables = u; plan = p }) s in
     let P : ℕ → Type 0 = λ n. IsProvedBy (setting_by t q) (start_in t) n refutation in
-    let R : Scope → List Literal → Type 0 = λ scope ls. RefutesFrom scope ls (the_state t q).clauses refutation in
-    let F : List Clause → Type 0 = λ cs. RefutesFrom (setting_by u p).scope (start_in u) cs refutation in
+    let R : Scope → List Literal → Type 0 = λ scope ls. RefutesFrom scope ls (the_state t q).clauses (learned u.solver) refutation in
+    let F : List Clause → Type 0 = λ cs. RefutesFrom (setting_by u p).scope (start_in u) cs (learned u.solver) refutation in
     let closed = subst A c.in-Closed.is c.in_ok-step.ensures.answers in
     let under_way = c.in_ok-step.ensures.under_way c.in_ok-step.ensures.ready in
     let over = subst F (ap (λ (s : State). s.clauses) closed.stays.state) c.in_ok-refutation-in-Closed.ensures in
@@ -58,4 +59,4 @@ returns-in-Spent-clause-ended g c = λ until.
     let p = c.step.new.self.core.plan in
     let A : Stepped → Type 0 = λ s. Answers (record { tables = t; plan = q }) (record { tables = u; plan = p }) s in
     let under_way = c.in_ok-step.ensures.under_way c.in_ok-step.ensures.ready in
-    is-spent t q c.requires.under_way.running u p c.in-Spent.conflicts (subst A c.in-Spent.is c.in_ok-step.ensures.answers) under_way.running.right c.log-log-in-Spent.ensures.implied until
+    is-spent t q c.requires.under_way.running u p c.in-Spent.conflicts (subst A c.in-Spent.is c.in_ok-step.ensures.answers) under_way.running.right c.equal_ids_for_equal_terms.ensures c.atoms_differ.ensures c.log-log-in-Spent.ensures.sound c.log-log-in-Spent.ensures.implied until

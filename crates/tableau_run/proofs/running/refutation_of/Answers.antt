@@ -1,12 +1,13 @@
 use Rattle.std.proofs.Common.{List, sym, subst}
 use Rattle.stt_tableau.specs.Literals.{Literal}
-use Rattle.sat_base.specs.declared.literal.SatLit.{SatLit}
 use Rattle.sat_log.specs.declared.log.LogEntry.{LogEntry}
-use Rattle.sat_log.specs.Chains.{IsLogOver}
 use Rattle.sat_core.specs.Solver.{learned}
 use Rattle.tableau_rebuild.specs.Conditions.{EndsEmpty}
-use Rattle.tableau_rebuild.specs.Tables.{the_atoms, unit_literals}
+use Rattle.tableau_rebuild.specs.Tables.{the_atoms, the_input, unit_literals}
+use Rattle.tableau_clauses.specs.Table.{the_clauses}
+use Rattle.search_tables.proofs.NumberLaws.{apart, clauses_number}
 use Rattle.tableau_search.specs.Means.Running.{start_in}
+use Rattle.rebuilt_refutation.specs.Rebuilt.{IsRebuilt}
 use Rattle.rebuilt_refutation.specs.Used.{AreFew}
 use Rattle.tableau_run.specs.Origin.{EachComesFrom}
 use Rattle.tableau_run.specs.Means.Ends.{clauses_of}
@@ -37,12 +38,17 @@ returns c =
     let lines = c.in_ok-refutation.refutation.lines in
     let units = unit_literals (the_atoms t.basis.bank.terms t.basis.lits) t.steps.0 in
     let S : List Literal → Type 0 = λ ls. EachComesFrom ls (clauses_of t) lines in
-    let C : List (List SatLit) → Type 0 = λ cs. IsLogOver cs t.solver.log in
+    let refutation = c.in_ok-refutation.refutation in
     let F : List LogEntry → Type 0 = λ log. AreFew log lines in
+    let I : List LogEntry → Type 0 = λ log. IsRebuilt (the_input t.basis.bank t.basis.lits t.steps log t.basis.witnesses) refutation in
+    let equal = c.equal_ids_for_equal_terms.ensures in
+    let differ = c.atoms_differ.ensures in
     record {
       accepted = accepted-declared t.basis.bank (start_in t) units c.in_ok-refutation.refutation (sym (units-named t.basis r.basis t.steps.0 r.clauses)) c.in_ok-refutation.ensures.accepted;
       reached = c.in_ok-refutation.ensures.reached;
       small = c.in_ok-refutation.ensures.small;
       origin = subst S (sym (units-named t.basis r.basis t.steps.0 r.clauses)) (origin-named t.basis r.basis t.steps r.clauses c.log-log.result.now units lines c.clauses_come_from_origins.ensures c.in_ok-refutation.ensures.from_search);
-      shortly = shortly-named t.basis r.basis t.steps r.clauses t.solver.log (learned t.solver) lines (subst C r.solver c.log-log.ensures.sound.logged) c.requires.ends (subst F c.log-log.ensures.log c.in_ok-refutation.ensures.few);
+      shortly = shortly-named t.basis r.basis t.steps r.clauses t.solver refutation c.clauses_come_from_origins.ensures (apart t.basis.bank t.basis.lits r.basis.atoms equal differ)
+          (clauses_number t.basis.bank t.basis.lits r.basis.atoms equal differ (the_clauses t.steps) r.clauses) r.solver c.log-log.ensures.sound c.requires.ends
+          (subst I c.log-log.ensures.log c.in_ok-refutation.ensures.rebuilt) (subst F c.log-log.ensures.log c.in_ok-refutation.ensures.few);
     }

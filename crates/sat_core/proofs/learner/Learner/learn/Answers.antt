@@ -33,7 +33,8 @@ returns-clause-learner c =
     (ap (λ (t : TrailState). length t.phases) c.bump.ensures.trail) same ready)
     (Includes-same (texts s.propagator.clauses.items) (texts bumped.clauses.items) same)
     (learner_logged s.clauses s.log after s.is_refuted s.propagator s.names.items s.marks s.inserted_clauses s.inserted_results learns.outcome c.requires.open ready c.push.ensures.right are
-    (learned_more s.clauses (results s.log) s.propagator s.names.items s.marks learns.outcome l.ready known c.requires.included learns.new learns.once learns.occurring) l)
+    (learned_more s.clauses (results s.log) s.propagator s.names.items s.marks learns.outcome l.ready known c.requires.included learns.new learns.once learns.occurring)
+    (IsNew-fewer (s.clauses ++ results s.log) (texts s.propagator.clauses.items) learns.outcome c.requires.included learns.new) l)
 
 pub returns-clause-grew : goal.returns-clause-grew
 returns-clause-grew c =

@@ -1,8 +1,29 @@
 use Rattle.std.proofs.Common.{◌≡◌, ◌+◌, ◌∷◌, [], ◌++◌, false, Bool, List, ℕ, length, length-append, sym, ap, subst, ◌∙◌}
 use Rattle.sat_base.specs.declared.literal.SatLit.{SatLit}
 use Rattle.sat_core.specs.Means.Keeper.{IsKeeper}
-use Rattle.sat_core.proofs.KeeperLaws.{keeper_longer}
+use Rattle.sat_core.proofs.KeeperLaws.{keeper_longer, keeper_ahead}
 use Rattle.sat_core.proofs.solver.Solver.new_var.Goals as goal
+
+pub invariant_of-self-in_err-reserve : goal.invariant_of-self-in_err-reserve
+invariant_of-self-in_err-reserve c =
+    let s = c.self.inside in
+    record {
+      learns = c.self.invariant.learns;
+      keeps = keeper_ahead s.keeper.values.items c.reserve.new.self.items s.keeper.uses c.add_variable.new.self s.keeper.listed s.keeper.kept s.learner.clauses
+          c.reserve.ensures.items c.in_ok-add_variable.ensures.ok c.self.invariant.keeps;
+      made = ap (λ (list : List Bool). length list) c.reserve.ensures.items ∙ c.self.invariant.made;
+    }
+
+pub invariant_of-self-in_err-var : goal.invariant_of-self-in_err-var
+invariant_of-self-in_err-var c =
+    let s = c.self.inside in
+    record {
+      learns = c.new_var.ensures.learner;
+      keeps = subst (λ (clauses : List (List SatLit)). IsKeeper c.reserve.new.self.items c.add_variable.new.self s.keeper.listed s.keeper.kept clauses) (sym c.new_var.ensures.clauses)
+          (keeper_ahead s.keeper.values.items c.reserve.new.self.items s.keeper.uses c.add_variable.new.self s.keeper.listed s.keeper.kept s.learner.clauses
+          c.reserve.ensures.items c.in_ok-add_variable.ensures.ok c.self.invariant.keeps);
+      made = ap (λ (list : List Bool). length list) c.reserve.ensures.items ∙ c.self.invariant.made ∙ sym (ap (λ (list : List Bool). length list) c.in_err-var.ensures.err);
+    }
 
 pub invariant_of-self-2 : goal.invariant_of-self-2
 invariant_of-self-2 c =
