@@ -1,0 +1,106 @@
+-- Small terms in a refutation that is rebuilt.
+use Rattle.std.specs.Prelude.{◌≡◌, ◌<◌, ◌≤◌, ◌^◌, ℕ, List, length, Some, slice_get}
+use Rattle.std.specs.List.{AllByRecursion}
+use Rattle.std.specs.Option.{ForSome}
+use Rattle.stt_core.specs.Lambda.{Lambda}
+use Rattle.stt_tableau.specs.Witnesses.{Row}
+use Rattle.stt_tableau.specs.declared.refutation.RuleUse.{RuleUse}
+use Rattle.stt_tableau.specs.declared.refutation.RuleUse.TheVariants as rule
+use Rattle.stt_tableau.specs.declared.refutation.Line.{Line}
+use Rattle.stt_tableau.specs.declared.refutation.Refutation.{Refutation}
+use Rattle.sat_base.specs.declared.literal.SatLit.{SatLit}
+use Rattle.search_run.specs.Each.{Each}
+use Rattle.search_run.specs.Numbered.{literal_at}
+use Rattle.rebuilt_refutation.specs.Input.{Sourced, start_unit, clause_by, Input}
+use Rattle.rebuilt_refutation.specs.Rebuilt.{IsRebuilt}
+use Rattle.term_bank.specs.Terms.{term_at}
+use Rattle.literal_map.specs.Atoms.{literal_at as literal_of}
+use Rattle.literal_map.specs.declared.instance.BankUse.{BankUse}
+use Rattle.tableau_rules.specs.Uses.{use_of}
+use Rattle.written_refutation.specs.Limits.{IsChild}
+use Rattle.written_refutation.specs.Sizes.{IsSmallTerm, AreSmallLiterals, IsSmall}
+
+-- the term that a rule takes is small
+abbrev pub TakesSmall : RuleUse → Type 0
+TakesSmall (rule.False i) = Unit {0}
+TakesSmall (rule.Close i j) = Unit {0}
+TakesSmall (rule.Refl i) = Unit {0}
+TakesSmall (rule.ImpPos i) = Unit {0}
+TakesSmall (rule.ImpNeg i) = Unit {0}
+TakesSmall (rule.BoolPos i) = Unit {0}
+TakesSmall (rule.BoolNeg i) = Unit {0}
+TakesSmall (rule.FunPos i) = Unit {0}
+TakesSmall (rule.FunNeg i) = Unit {0}
+TakesSmall (rule.AllPos i u) = IsSmallTerm u
+TakesSmall (rule.AllNeg i) = Unit {0}
+TakesSmall (rule.Mat i j) = Unit {0}
+TakesSmall (rule.Dec i) = Unit {0}
+TakesSmall (rule.Con i j) = Unit {0}
+TakesSmall (rule.Cho f) = IsSmallTerm f
+TakesSmall (rule.Des f) = IsSmallTerm f
+TakesSmall (rule.Cut l) = IsSmallTerm l.atom
+
+-- a numbered literal's atom is small
+abbrev pub IsSmallNumber : Input → SatLit → Type 0
+IsSmallNumber input l = IsSmallTerm (literal_at input.atoms l).atom
+
+abbrev pub IsSmallSource : Input → Sourced → Type 0
+IsSmallSource input (start_unit l) = IsSmallNumber input l
+IsSmallSource input (clause_by c i) = Each (IsSmallNumber input) c × TakesSmall i.rule
+
+pub record HasSmallTerms (input : Input) : Type 0 where
+  pub clauses : (n : ℕ) (c : Sourced) → slice_get input.clauses n ≡ Some c → IsSmallSource input c
+  pub rows : AllByRecursion (λ (row : Row). IsSmallTerm row.predicate) input.rows
+
+-- the literals and the terms of a line are small
+pub record HasSmallParts (line : Line) : Type 0 where
+  pub branch : AreSmallLiterals line.branch
+  pub takes : TakesSmall line.rule
+
+-- all terms in the refutation are small
+pub record AreTermsSmall (r : Refutation) : Type 0 where
+  pub rows : AllByRecursion (λ (row : Row). IsSmallTerm row.predicate) r.witnesses
+  pub lines : AllByRecursion HasSmallParts r.lines
+
+abbrev pub RebuiltTermsAreSmall : Type 0
+RebuiltTermsAreSmall = (input : Input) (refutation : Refutation) → HasSmallTerms input → IsRebuilt input refutation → AreTermsSmall refutation
+
+-- the places that a rule is used at are numbers of the machine
+abbrev pub HasPlaces : RuleUse → Type 0
+HasPlaces (rule.False i) = i < 2 ^ 64
+HasPlaces (rule.Close i j) = (i < 2 ^ 64) × (j < 2 ^ 64)
+HasPlaces (rule.Refl i) = i < 2 ^ 64
+HasPlaces (rule.ImpPos i) = i < 2 ^ 64
+HasPlaces (rule.ImpNeg i) = i < 2 ^ 64
+HasPlaces (rule.BoolPos i) = i < 2 ^ 64
+HasPlaces (rule.BoolNeg i) = i < 2 ^ 64
+HasPlaces (rule.FunPos i) = i < 2 ^ 64
+HasPlaces (rule.FunNeg i) = i < 2 ^ 64
+HasPlaces (rule.AllPos i u) = i < 2 ^ 64
+HasPlaces (rule.AllNeg i) = i < 2 ^ 64
+HasPlaces (rule.Mat i j) = (i < 2 ^ 64) × (j < 2 ^ 64)
+HasPlaces (rule.Dec i) = i < 2 ^ 64
+HasPlaces (rule.Con i j) = (i < 2 ^ 64) × (j < 2 ^ 64)
+HasPlaces (rule.Cho f) = Unit {0}
+HasPlaces (rule.Des f) = Unit {0}
+HasPlaces (rule.Cut l) = Unit {0}
+
+-- the numbers in a line are numbers of the machine
+pub record HasNumbers (line : Line) : Type 0 where
+  pub places : HasPlaces line.rule
+  pub children : AllByRecursion IsChild line.children
+
+-- so are those of a refutation's lines, and its rows have numbers
+pub record AreNumbersInRange (r : Refutation) : Type 0 where
+  pub rows : length r.witnesses ≤ 2 ^ 32
+  pub lines : length r.lines ≤ 2 ^ 64
+  pub each : AllByRecursion HasNumbers r.lines
+
+abbrev pub SmallInRange : Type 0
+SmallInRange = (refutation : Refutation) → AreNumbersInRange refutation → AreTermsSmall refutation → IsSmall refutation
+
+-- a rule with what it takes by numbers takes a small term where that at the number is one, and the literal of a cut is
+abbrev pub UsesTakeSmall : Type 0
+UsesTakeSmall =
+    (terms : List Lambda) (atoms : List ℕ) (by : BankUse) (rule : RuleUse) → use_of terms atoms by ≡ Some rule → ForSome by.first (λ l. IsSmallTerm (literal_of terms atoms l).atom)
+    → ForSome by.term (λ u. IsSmallTerm (term_at terms u)) → TakesSmall rule

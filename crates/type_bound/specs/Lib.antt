@@ -1,0 +1,4 @@
+pub mod Types
+pub mod Modest
+pub mod Deep
+pub mod Small
