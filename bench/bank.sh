@@ -1,5 +1,5 @@
 #!/usr/bin/env bash
-# Times the bank and the normaliser in the built program bank_rows: bench/bank.sh
+# Times the bank and the normaliser in the built program test_bank: bench/bank.sh
 # A million terms come into a bank, beside as many keys of 56 bytes that come into a HashMap of std in plain Rust. The Church numeral of 5 to the
 # power of 5 is worked out over a bank and as a whole tree, 200 times each. What the program takes without a row is taken off. Each line: the
 # milliseconds of both, the least of five tries, and their ratio.
@@ -7,7 +7,7 @@ set -eu
 top=$(dirname -- "$(dirname -- "$(readlink -f -- "$0")")")
 folder=$(mktemp -d)
 trap 'rm -r "$folder"' EXIT
-(cd "$top/crates/bank_rows" && rt run <stdin >"$folder/built" 2>&1) || { cat "$folder/built"; exit 1; }
+(cd "$top/crates/test_bank" && rt run <stdin >"$folder/built" 2>&1) || { cat "$folder/built"; exit 1; }
 
 cat >"$folder/map.rs" <<'RUST'
 use std::collections::HashMap;
@@ -40,6 +40,6 @@ compare() { awk -v what="$1" -v one="$2" -v other="$3" -v nothing="$4" -v same="
   one -= nothing; other -= same * nothing
   printf "%s: %d ms, %d ms, %.2f times\n", what, one, other, one / (other > 0 ? other : 1) }'; }
 
-rows=$top/crates/bank_rows/out/bank_rows
+rows=$top/crates/test_bank/out/test_bank
 compare "a million terms, a million keys" "$(least 1 'interned 1000000' "$rows")" "$(least 1 '' "$folder/map")" "$(least 1 '' "$rows")" 0
 compare "5 to the 5, shared and as a tree" "$(least 200 'power 5 5' "$rows")" "$(least 200 'plain 5 5' "$rows")" "$(least 200 '' "$rows")" 1

@@ -125,7 +125,7 @@ pub mod witness_names {
     }
 }
 
-pub mod rebuilt_refutation {
+pub mod rebuild_spec {
     pub fn rebuilt_is_accepted() {}
     pub fn rebuilt_is_trimmed() {}
 }

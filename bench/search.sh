@@ -1,10 +1,10 @@
 #!/usr/bin/env bash
-# Times runs of the search by the built program search_rows (built by `rt run` in its crate) beside another program with the same words:
+# Times runs of the search by the built program test_search (built by `rt run` in its crate) beside another program with the same words:
 # bench/search.sh PROGRAM FOLDER, where FOLDER has problems and mode files. Each line has processor seconds and peak memory in KB. The
 # search's refutations are made, and not checked.
 set -eu
 here=$(dirname -- "$(readlink -f -- "$0")")
-rows=$here/../crates/search_rows/out/search_rows
+rows=$here/../crates/test_search/out/test_search
 program=${1:?a program to measure against}
 folder=${2:?a folder with problems and mode files}
 for run in "inj.p 20000" "inj.p 1000000" "partial.p 20000" "partial.p 1000000" "pigeons6.p 20000" "pigeons8.p 20000"; do

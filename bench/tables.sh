@@ -1,14 +1,14 @@
 #!/usr/bin/env bash
-# Times rows of the built program table_rows: bench/tables.sh
+# Times rows of the built program test_tables: bench/tables.sh
 # 50,000 and 100,000 confrontations over 1,000 atoms are kept. 1,000 literals with ten partners each are noted 10,000 times, among 1,000
 # and among 100,000 literals of another head; what the same rows take without a round is taken off. Each line: the least milliseconds of
 # processor time of five runs of both, and their ratio.
 set -eu
 top=$(dirname -- "$(dirname -- "$(readlink -f -- "$0")")")
-program=$top/crates/table_rows/out/table_rows
+program=$top/crates/test_tables/out/test_tables
 log=$(mktemp)
 trap 'rm "$log"' EXIT
-[ -x "$program" ] || (cd "$top/crates/table_rows" && rt run <stdin >"$log" 2>&1) || { cat "$log"; exit 1; }
+[ -x "$program" ] || (cd "$top/crates/test_tables" && rt run <stdin >"$log" 2>&1) || { cat "$log"; exit 1; }
 
 exec python3 - "$program" <<'END'
 import resource

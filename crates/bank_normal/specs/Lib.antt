@@ -2,4 +2,4 @@ pub mod Known
 pub mod Right
 pub mod Fits
 pub mod Laws
-pub mod Means
+pub mod Internal

@@ -7,7 +7,7 @@ use Rattle.std.proofs.lemmas.Bool.Decides.{nat_tests}
 use Rattle.std.proofs.lemmas.List.Sorted.{IsPermutation-trans, IsPermutation-sym, IsPermutation-middle, IsPermutation-append_right}
 use Rattle.command_queue.specs.declared.entry.Entry.{Entry}
 use Rattle.command_queue.specs.Queue.{comes_before}
-use Rattle.command_queue.specs.Means.Inside.{heap_order, in_front}
+use Rattle.command_queue.specs.Internal.Inside.{heap_order, in_front}
 use Rattle.command_queue.proofs.OrderLaws.{all_weaker}
 
 before_by : (d n e m x y : ℕ) → (nat_lt d e || ((d == e) && nat_lt n m)) ≡ true → is_lt (ordering_then (nat_cmp x e) (nat_cmp y m)) ≡ false → is_lt (ordering_then (nat_cmp x d) (nat_cmp y n)) ≡ false

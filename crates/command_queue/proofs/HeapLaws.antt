@@ -9,7 +9,7 @@ use Rattle.std.proofs.lemmas.List.Sorted.{All-permutation, length_permutation}
 use Rattle.std.proofs.lemmas.Map.Keys.{IsDistinct-tail, IsDistinct-head, IsDistinct-cons}
 use Rattle.command_queue.specs.declared.entry.Entry.{Entry}
 use Rattle.command_queue.specs.Queue.{IsBefore, AreNumbered}
-use Rattle.command_queue.specs.Means.Inside.{in_order, heap_order, HasOwnNumbers, HoldsPushed}
+use Rattle.command_queue.specs.Internal.Inside.{in_order, heap_order, HasOwnNumbers, HoldsPushed}
 use Rattle.command_queue.proofs.OrderLaws.{StandsByNumber, in_order-push, in_order-push_at, length-in_order, all_both, all_weaker, all-in_order, all-from_in_order, leaves_first, IsAscending-in_order, AllPairs-ascending, HasOwnNumbers-push, HasOwnNumbers-IsPermutation}
 
 differs : (a b : ℕ) → (a == b) ≡ false → b ≢ a

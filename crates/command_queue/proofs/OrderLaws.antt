@@ -11,7 +11,7 @@ use Rattle.std.proofs.lemmas.List.Sorted.{All-permutation, IsPermutation-sym}
 use Rattle.std.proofs.lemmas.Map.Keys.{IsDistinct-IsPermutation, IsDistinct-tail, IsDistinct-head, IsDistinct-cons}
 use Rattle.command_queue.specs.declared.entry.Entry.{Entry}
 use Rattle.command_queue.specs.Queue.{IsBefore}
-use Rattle.command_queue.specs.Means.Inside.{placed, in_order, heap_order, HasOwnNumbers}
+use Rattle.command_queue.specs.Internal.Inside.{placed, in_order, heap_order, HasOwnNumbers}
 
 other_greater : (a b : ℕ) → nat_lt a b ≡ false → (a == b) ≡ false → b < a
 other_greater a b h k = grind (arith, nat_tests)

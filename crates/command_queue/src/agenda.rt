@@ -21,7 +21,7 @@ pub struct Agenda<C, R: DueRule<C>, W: Weigher<C>> {
 
 impl<C, R: DueRule<C>, W: Weigher<C>> Model for Agenda<C, R, W> {
     ghost use Rattle.command_queue.specs.Queue.{Queue};
-    ghost use Rattle.command_queue.specs.Means.Inside.{in_order, HoldsPushed};
+    ghost use Rattle.command_queue.specs.Internal.Inside.{in_order, HoldsPushed};
 
     ghost Value = { Queue C R };
 

@@ -3,7 +3,7 @@ ghost use Rattle.std.specs.Prelude.{◌≡◌, ◌<◌, ◌≤◌, ◌+◌, ◌-
 ghost use Rattle.std.specs.List.Sorted.{IsPermutation};
 ghost use Rattle.std.specs.BinaryHeap.{KeepsHeap, heap_items, heap_len, heap_capacity, IsHeap, IsUpperBound};
 ghost use Rattle.command_queue.specs.Queue.{comes_before};
-ghost use Rattle.command_queue.specs.Means.Inside.{heap_order, in_front, LeavesFirst, LeavesLater};
+ghost use Rattle.command_queue.specs.Internal.Inside.{heap_order, in_front, LeavesFirst, LeavesLater};
 
 use crate::entry::Entry;
 use std::alloc::{AllocError, Global};
@@ -21,7 +21,7 @@ pub(crate) struct Bag<C> {
 impl<C> Model for Bag<C> {
     ghost use Rattle.std.specs.Prelude.{◌++◌, ◌+◌, ◌-◌, ◌≤◌, length};
     ghost use Rattle.std.specs.BinaryHeap.{heap_items, heap_len, heap_capacity, IsHeap};
-    ghost use Rattle.command_queue.specs.Means.Inside.{Held, heap_order, in_front};
+    ghost use Rattle.command_queue.specs.Internal.Inside.{Held, heap_order, in_front};
 
     ghost Value = { Held C };
 

@@ -1,4 +1,4 @@
 pub mod Definitions
 pub mod Unfolding
 pub mod Laws
-pub mod Means
+pub mod Internal

@@ -9,8 +9,8 @@ ghost use Rattle.stt_core.specs.Lambda.{name, constant};
 ghost use Rattle.stt_core.specs.View.{the_term};
 ghost use Rattle.delta_defs.specs.Definitions.{meant, mentions as occurs_in};
 ghost use Rattle.delta_defs.specs.Unfolding.{involves};
-ghost use Rattle.delta_defs.specs.Means.DefinitionView.{the_definition};
-ghost use Rattle.delta_defs.specs.Means.Finding.{first_or};
+ghost use Rattle.delta_defs.specs.Internal.DefinitionView.{the_definition};
+ghost use Rattle.delta_defs.specs.Internal.Finding.{first_or};
 
 use std::alloc::{AllocError, Global};
 use std::collections::{BTreeMap, BTreeSet};
@@ -37,9 +37,9 @@ impl Model for Definitions {
     ghost use Rattle.std.specs.Prelude.{List, map};
     ghost use Rattle.std.specs.Coded.{coded_list};
     ghost use Rattle.delta_defs.specs.Definitions.{Definition};
-    ghost use Rattle.delta_defs.specs.Means.DefinitionCode.{definition_code};
-    ghost use Rattle.delta_defs.specs.Means.DefinitionView.{the_definition};
-    ghost use Rattle.delta_defs.specs.Means.Finding.{HasFirsts, HasInvolved};
+    ghost use Rattle.delta_defs.specs.Internal.DefinitionCode.{definition_code};
+    ghost use Rattle.delta_defs.specs.Internal.DefinitionView.{the_definition};
+    ghost use Rattle.delta_defs.specs.Internal.Finding.{HasFirsts, HasInvolved};
 
     ghost Value = { List Definition };
 

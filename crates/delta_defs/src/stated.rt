@@ -3,7 +3,7 @@
 ghost use Rattle.std.specs.Prelude.{◌≡◌, IfOk, option_map};
 ghost use Rattle.stt_core.specs.View.{the_term};
 ghost use Rattle.delta_defs.specs.Unfolding.{in_terms_of, if_it_may_follow, stated as has_form, taken_from as is_taken_from};
-ghost use Rattle.delta_defs.specs.Means.DefinitionView.{the_definition};
+ghost use Rattle.delta_defs.specs.Internal.DefinitionView.{the_definition};
 
 use crate::definition::{Definitions, Taken, mentions};
 use crate::replace::{unfold_term, without_unfolded};

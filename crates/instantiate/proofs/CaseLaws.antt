@@ -4,10 +4,10 @@ use Rattle.std.proofs.Common.{sym, subst}
 use Rattle.stt_core.specs.SimpleType.{SimpleType, arrow, formula}
 use Rattle.stt_core.specs.Lambda.{Lambda}
 use Rattle.stt_core.specs.Typing.{Scope, type_of}
-use Rattle.search_run.specs.Partial.{Partial, blank}
-use Rattle.search_run.proofs.PartialLaws.{blank_typed}
+use Rattle.search_spec.specs.Partial.{Partial, blank}
+use Rattle.search_spec.proofs.PartialLaws.{blank_typed}
 use Rattle.instantiate.specs.Growing.{IsTyped, TakesHead}
-use Rattle.instantiate.specs.Means.Cases.{individual, one_constant}
+use Rattle.instantiate.specs.Internal.Cases.{individual, one_constant}
 
 pub hole_typed : (scope : Scope) (p : Partial) → scope ≡ one_constant → p ≡ blank (arrow individual formula) → IsTyped scope p
 hole_typed scope p e f =

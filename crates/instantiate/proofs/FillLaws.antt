@@ -5,10 +5,10 @@ use Rattle.std.proofs.lemmas.List.{drop-set-lt, take_more_set}
 use Rattle.std.proofs.lemmas.Option.{slice_get_within}
 use Rattle.stt_core.specs.SimpleType.{SimpleType, base, arrow}
 use Rattle.stt_core.specs.Lambda.{Lambda}
-use Rattle.search_run.specs.Partial.{Partial, head, application, in_first, filled, blank, with_holes}
-use Rattle.instantiate.specs.Means.PartialSizes.{applications}
-use Rattle.instantiate.specs.Means.Holes.{placed, filling, filling_all}
-use Rattle.instantiate.specs.Means.Blanks.{blanks}
+use Rattle.search_spec.specs.Partial.{Partial, head, application, in_first, filled, blank, with_holes}
+use Rattle.instantiate.specs.Internal.PartialSizes.{applications}
+use Rattle.instantiate.specs.Internal.Holes.{placed, filling, filling_all}
+use Rattle.instantiate.specs.Internal.Blanks.{blanks}
 use Rattle.instantiate.proofs.HoleLaws.{drop-at}
 
 pub with_holes-blanks : (a : SimpleType) (p : Partial) → with_holes a p ≡ applications p (blanks a)

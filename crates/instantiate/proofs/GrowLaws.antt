@@ -13,17 +13,17 @@ use Rattle.stt_core.specs.declared.nf.Head.TheVariants.{Bound, Name, Wit, False,
 use Rattle.stt_core.proofs.TypeLaws.{get_declared, constant_declared}
 use Rattle.term_bank.specs.Content.{Content, HasTerm}
 use Rattle.term_bank.specs.Terms.{IsTypedTerm}
-use Rattle.search_run.specs.Partial.{Partial, head, Hole, first_hole, filled, with_holes}
-use Rattle.search_run.specs.TypedPartial.{IsPartial}
-use Rattle.search_run.specs.Heads.{target}
-use Rattle.search_run.specs.Commands.{filled_at}
-use Rattle.search_run.specs.TypedState.{IsTypedSketch}
-use Rattle.search_run.proofs.PartialLaws.{Fills, with_holes_typed, fills, whole_canonical}
-use Rattle.search_run.proofs.TypedHeads.{DeclaredAt, declared_at}
+use Rattle.search_spec.specs.Partial.{Partial, head, Hole, first_hole, filled, with_holes}
+use Rattle.search_spec.specs.TypedPartial.{IsPartial}
+use Rattle.search_spec.specs.Heads.{target}
+use Rattle.search_spec.specs.Commands.{filled_at}
+use Rattle.search_spec.specs.TypedState.{IsTypedSketch}
+use Rattle.search_spec.proofs.PartialLaws.{Fills, with_holes_typed, fills, whole_canonical}
+use Rattle.search_spec.proofs.TypedHeads.{DeclaredAt, declared_at}
 use Rattle.instantiate.specs.Growing.{IsTyped, TakesHead, IsTerm, IsPartOf}
-use Rattle.instantiate.specs.Means.Holes.{base_in, placed, filling}
-use Rattle.instantiate.specs.Means.Blanks.{term_of}
-use Rattle.instantiate.specs.Means.Fitting.{to_base, fitting}
+use Rattle.instantiate.specs.Internal.Holes.{base_in, placed, filling}
+use Rattle.instantiate.specs.Internal.Blanks.{term_of}
+use Rattle.instantiate.specs.Internal.Fitting.{to_base, fitting}
 use Rattle.instantiate.proofs.WholeLaws.{whole-none, whole-hole}
 
 pub head_leaf : (h : Head) → IsLeaf (the_head h)

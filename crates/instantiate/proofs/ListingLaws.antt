@@ -6,7 +6,7 @@ use Rattle.std.proofs.lemmas.Option.{same_Some}
 use Rattle.stt_core.specs.SimpleType.{SimpleType, same_type}
 use Rattle.stt_core.proofs.TypeLaws.{same_type-true}
 use Rattle.instantiate.specs.Listing.{Listing, ids_of, with_listed}
-use Rattle.instantiate.specs.Means.Groups.{Group, first_group, place_in, AreRight}
+use Rattle.instantiate.specs.Internal.Groups.{Group, first_group, place_in, AreRight}
 
 -- what stands at the place of a type
 pub at_place : (a : SimpleType) (gs : List Group) (g : Group) → slice_get gs (place_in a gs) ≡ Some g → (same_type a g.0 ≡ true) × (first_group a gs ≡ g.1)

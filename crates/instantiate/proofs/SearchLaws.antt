@@ -5,11 +5,11 @@ use Rattle.stt_core.specs.SimpleType.{SimpleType}
 use Rattle.stt_core.specs.Lambda.{Lambda, bound, constant, lam, app, IsLeaf}
 use Rattle.stt_core.specs.Typing.{Scope, type_of}
 use Rattle.stt_core.specs.Canonical.{IsNeutral}
-use Rattle.search_run.specs.Partial.{Partial, first_hole}
-use Rattle.search_run.specs.Heads.{target}
-use Rattle.search_run.specs.State.{Sketch}
-use Rattle.search_run.specs.TypedState.{Grows}
-use Rattle.search_run.specs.Commands.{filled_at, grown_by}
+use Rattle.search_spec.specs.Partial.{Partial, first_hole}
+use Rattle.search_spec.specs.Heads.{target}
+use Rattle.search_spec.specs.State.{Sketch}
+use Rattle.search_spec.specs.TypedState.{Grows}
+use Rattle.search_spec.specs.Commands.{filled_at, grown_by}
 use Rattle.instantiate.specs.Growing.{IsTyped, TakesHead, gives, fits}
 
 module _ (scope : Scope) (p : Sketch) (h : Lambda) where

@@ -6,16 +6,16 @@ use Rattle.stt_core.specs.SimpleType.{SimpleType}
 use Rattle.stt_core.specs.Lambda.{Lambda, lam, app, applied}
 use Rattle.stt_core.specs.Typing.{Scope}
 use Rattle.stt_core.proofs.SpineLaws.{IsAtom}
-use Rattle.search_run.specs.Partial.{Partial, hole, head, function, application, or_else, whole}
+use Rattle.search_spec.specs.Partial.{Partial, hole, head, function, application, or_else, whole}
 use Rattle.term_bank.specs.Content.{Content, content_scope, HasTerm, Grows}
 use Rattle.term_bank.specs.Terms.{term_at, IsTypedTerm}
 use Rattle.term_bank.proofs.GrowLaws.{grows_itself, grown_scope, has_at}
 use Rattle.term_bank.proofs.TypeLaws.{body_of}
 use Rattle.term_bank.proofs.TreeLaws.{AreImported, argument_ready}
-use Rattle.instantiate.specs.Means.PartialSizes.{applications}
-use Rattle.instantiate.specs.Means.Holes.{base_in, base_among}
-use Rattle.instantiate.specs.Means.Blanks.{term_of}
-use Rattle.instantiate.specs.Means.Interned.{AreTyped, HaveTerms}
+use Rattle.instantiate.specs.Internal.PartialSizes.{applications}
+use Rattle.instantiate.specs.Internal.Holes.{base_in, base_among}
+use Rattle.instantiate.specs.Internal.Blanks.{term_of}
+use Rattle.instantiate.specs.Internal.Interned.{AreTyped, HaveTerms}
 use Rattle.instantiate.proofs.HoleLaws.{base_in-function, base_in-application}
 
 term_of-applications : (p : Partial) (qs : List Partial) → term_of (applications p qs) ≡ applied (term_of p) (map term_of qs)

@@ -3,10 +3,10 @@ use Rattle.std.specs.Prelude.{◌≡◌, ℕ, nat_eq, Bool, false, [], Option, S
 use Rattle.stt_core.specs.SimpleType.{SimpleType}
 use Rattle.stt_core.specs.Lambda.{Lambda}
 use Rattle.stt_core.specs.Typing.{Scope, type_of}
-use Rattle.search_run.specs.Partial.{Partial, Hole, first_hole, whole}
-use Rattle.search_run.specs.Heads.{target}
-use Rattle.search_run.specs.Commands.{filled_at}
-use Rattle.search_run.specs.TypedState.{IsTypedSketch}
+use Rattle.search_spec.specs.Partial.{Partial, Hole, first_hole, whole}
+use Rattle.search_spec.specs.Heads.{target}
+use Rattle.search_spec.specs.Commands.{filled_at}
+use Rattle.search_spec.specs.TypedState.{IsTypedSketch}
 use Rattle.term_bank.specs.Content.{Content, HasTerm}
 use Rattle.instantiate.specs.declared.growing.Grown.{Grown}
 use Rattle.instantiate.specs.declared.growing.Grown.TheVariants.{Term, More}

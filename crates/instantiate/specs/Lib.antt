@@ -1,4 +1,4 @@
 pub mod Listing
 pub mod PartialView
 pub mod Growing
-pub mod Means
+pub mod Internal

@@ -1,9 +1,9 @@
 -- The partial terms of the code as plain trees.
 use Rattle.stt_core.specs.View.{the_type, the_head}
-use Rattle.search_run.specs.Partial.{Partial, hole, head, function}
+use Rattle.search_spec.specs.Partial.{Partial, hole, head, function}
 use Rattle.instantiate.specs.declared.partial.PartialNode.{PartialNode}
 use Rattle.instantiate.specs.declared.partial.PartialNode.TheVariants.{Hole, Lam, App}
-use Rattle.instantiate.specs.Means.PartialSizes.{applications}
+use Rattle.instantiate.specs.Internal.PartialSizes.{applications}
 
 abbrev pub the_node : PartialNode → Partial
 the_node (Hole n) = hole n

@@ -3,7 +3,7 @@ ghost use Rattle.std.specs.Prelude.{◌≡◌, ◌≤◌, ◌++◌, [], ◌∷�
 ghost use Rattle.std.specs.List.{list_any};
 ghost use Rattle.stt_core.specs.View.{the_type};
 ghost use Rattle.instantiate.specs.Listing.{ids_of, with_listed};
-ghost use Rattle.instantiate.specs.Means.Groups.{place_in};
+ghost use Rattle.instantiate.specs.Internal.Groups.{place_in};
 
 use crate::list::{Listed, TermList};
 use std::alloc::{AllocError, Global};
@@ -22,9 +22,9 @@ pub struct Enumerator {
 impl Model for Enumerator {
     ghost use Rattle.std.specs.Prelude.{List};
     ghost use Rattle.std.specs.Coded.{coded_list, coded×, coded_ℕ};
-    ghost use Rattle.stt_core.specs.Means.TypeCode.{type_code};
+    ghost use Rattle.stt_core.specs.Internal.TypeCode.{type_code};
     ghost use Rattle.instantiate.specs.Listing.{Listing};
-    ghost use Rattle.instantiate.specs.Means.Groups.{AreRight};
+    ghost use Rattle.instantiate.specs.Internal.Groups.{AreRight};
 
     ghost Value = { List Listing };
 

@@ -1,9 +1,9 @@
 //! Partial terms with something in their first hole.
 ghost use Rattle.std.specs.Prelude.{◌≡◌, ◌++◌, [], IfOk, OnOk, unwrap_or};
 ghost use Rattle.stt_core.specs.View.{the_type, the_head};
-ghost use Rattle.search_run.specs.Partial.{head as the_leaf, filled, with_holes};
-ghost use Rattle.instantiate.specs.Means.Blanks.{blanks};
-ghost use Rattle.instantiate.specs.Means.Holes.{filling, filling_all};
+ghost use Rattle.search_spec.specs.Partial.{head as the_leaf, filled, with_holes};
+ghost use Rattle.instantiate.specs.Internal.Blanks.{blanks};
+ghost use Rattle.instantiate.specs.Internal.Holes.{filling, filling_all};
 
 use crate::partial::{Partial, PartialNode, Partials};
 use std::alloc::{AllocError, Global};

@@ -19,7 +19,7 @@ pub(crate) struct Listed {
 
 impl Model for Listed {
     ghost use Rattle.std.specs.Coded.{coded×, coded_ℕ};
-    ghost use Rattle.stt_core.specs.Means.TypeCode.{type_code};
+    ghost use Rattle.stt_core.specs.Internal.TypeCode.{type_code};
     ghost use Rattle.stt_core.specs.View.{the_type};
     ghost use Rattle.instantiate.specs.Listing.{Listing};
 
@@ -50,9 +50,9 @@ pub(crate) struct TermList {
 
 impl Model for TermList {
     ghost use Rattle.std.specs.Coded.{coded×, coded_list, coded_ℕ};
-    ghost use Rattle.stt_core.specs.Means.TypeCode.{type_code};
+    ghost use Rattle.stt_core.specs.Internal.TypeCode.{type_code};
     ghost use Rattle.stt_core.specs.View.{the_type};
-    ghost use Rattle.instantiate.specs.Means.Groups.{Group};
+    ghost use Rattle.instantiate.specs.Internal.Groups.{Group};
 
     ghost Value = { Group };
 

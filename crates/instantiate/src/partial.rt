@@ -1,8 +1,8 @@
 //! Partial terms: terms with holes in place of which terms are still to come.
 ghost use Rattle.std.specs.Prelude.{◌≡◌, ◌<◌, ◌++◌, Some, [], ◌∷◌, length, IfOk, OnOk, OnErr, option_map, slice_get};
 ghost use Rattle.stt_core.specs.View.{the_type};
-ghost use Rattle.search_run.specs.Partial.{first_hole, blank};
-ghost use Rattle.instantiate.specs.Means.Holes.{base_among};
+ghost use Rattle.search_spec.specs.Partial.{first_hole, blank};
+ghost use Rattle.instantiate.specs.Internal.Holes.{base_among};
 
 use std::alloc::{AllocError, Global};
 use std::marker::Model;
@@ -32,14 +32,14 @@ pub struct Partials {
 }
 
 impl Model for Partial {
-    ghost use Rattle.search_run.specs.Partial.{Partial};
-    ghost use Rattle.instantiate.specs.Means.PartialCode.{partial_code};
+    ghost use Rattle.search_spec.specs.Partial.{Partial};
+    ghost use Rattle.instantiate.specs.Internal.PartialCode.{partial_code};
 
     ghost Value = { Partial };
 
     ghost coded = { partial_code };
 
-    ghost use Rattle.instantiate.specs.Means.PartialSizes.{node_count};
+    ghost use Rattle.instantiate.specs.Internal.PartialSizes.{node_count};
     ghost use Rattle.instantiate.specs.PartialView.{the_node};
 
     ghost view = { λ a. the_node a.node };
@@ -47,7 +47,7 @@ impl Model for Partial {
     ghost size = { node_count };
 
     ghost use Rattle.std.proofs.Common.{arith};
-    ghost use Rattle.instantiate.specs.Means.PartialFalls.{node_falls};
+    ghost use Rattle.instantiate.specs.Internal.PartialFalls.{node_falls};
 
     ghost size_decreases = { λ a h. omega (arith, node_falls a.node) };
 }
@@ -55,8 +55,8 @@ impl Model for Partial {
 impl Model for Partials {
     ghost use Rattle.std.specs.Prelude.{List};
     ghost use Rattle.std.specs.Coded.{coded_list};
-    ghost use Rattle.search_run.specs.Partial.{Partial};
-    ghost use Rattle.instantiate.specs.Means.PartialCode.{partial_code};
+    ghost use Rattle.search_spec.specs.Partial.{Partial};
+    ghost use Rattle.instantiate.specs.Internal.PartialCode.{partial_code};
 
     ghost Value = { List Partial };
 
@@ -65,7 +65,7 @@ impl Model for Partials {
     ghost view = { λ a. a.items.items };
 
     ghost use Rattle.std.proofs.Common.{arith};
-    ghost use Rattle.instantiate.specs.Means.PartialSizes.{counts, partials_fall};
+    ghost use Rattle.instantiate.specs.Internal.PartialSizes.{counts, partials_fall};
 
     ghost size = { counts };
 

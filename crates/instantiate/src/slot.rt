@@ -2,10 +2,10 @@
 ghost use Rattle.std.specs.Prelude.{◌≡◌, IfOk, option_map};
 ghost use Rattle.stt_core.specs.View.{the_head};
 ghost use Rattle.stt_core.specs.ContextView.{the_context};
-ghost use Rattle.search_run.specs.Partial.{first_hole};
+ghost use Rattle.search_spec.specs.Partial.{first_hole};
 ghost use Rattle.term_bank.specs.Content.{content_scope};
-ghost use Rattle.instantiate.specs.Means.Slots.{the_slot, slot_of};
-ghost use Rattle.instantiate.specs.Means.Holes.{first_among};
+ghost use Rattle.instantiate.specs.Internal.Slots.{the_slot, slot_of};
+ghost use Rattle.instantiate.specs.Internal.Holes.{first_among};
 
 use crate::partial::{Partial, PartialNode, Partials};
 use std::alloc::AllocError;

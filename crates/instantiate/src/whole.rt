@@ -2,9 +2,9 @@
 ghost use Rattle.std.specs.Prelude.{◌≡◌, None, map, IfOk};
 ghost use Rattle.term_bank.specs.Content.{content_scope, HasTerm, Grows};
 ghost use Rattle.term_bank.specs.Terms.{IsTypedTerm};
-ghost use Rattle.instantiate.specs.Means.Blanks.{term_of};
-ghost use Rattle.instantiate.specs.Means.Holes.{base_in, base_among};
-ghost use Rattle.instantiate.specs.Means.Interned.{AreTyped, HaveTerms};
+ghost use Rattle.instantiate.specs.Internal.Blanks.{term_of};
+ghost use Rattle.instantiate.specs.Internal.Holes.{base_in, base_among};
+ghost use Rattle.instantiate.specs.Internal.Interned.{AreTyped, HaveTerms};
 
 use crate::partial::{Partial, PartialNode, Partials};
 use std::alloc::{AllocError, Global};

@@ -3,12 +3,12 @@ use Rattle.std.specs.Prelude.{◌≡◌, ◌<◌, ℕ, Bool, true, false, not, L
 use Rattle.std.proofs.Common.{sym, ap, ◌∙◌, subst}
 use Rattle.std.proofs.lemmas.List.Elements.{All-head}
 use Rattle.stt_core.specs.Lambda.{Lambda, neg}
-use Rattle.stt_tableau.specs.Literals.{Literal, opposite, as_literal, is_negated}
-use Rattle.stt_tableau.specs.Start.{same_sign}
-use Rattle.stt_tableau.proofs.LiteralLaws.{opposite_twice}
+use Rattle.tableau_calculus.specs.Literals.{Literal, opposite, as_literal, is_negated}
+use Rattle.tableau_calculus.specs.Start.{same_sign}
+use Rattle.tableau_calculus.proofs.LiteralLaws.{opposite_twice}
 use Rattle.term_bank.specs.Shape.{Shape}
 use Rattle.term_bank.specs.Terms.{term_at, shape_term, IsBelow}
-use Rattle.literal_map.specs.Means.Denied.{IsDenied}
+use Rattle.literal_map.specs.Internal.Denied.{IsDenied}
 use Rattle.literal_map.proofs.SignLaws.{unsigned_literal}
 
 -- the literal with this sign in place of a positive one

@@ -4,14 +4,14 @@ use Rattle.stt_core.specs.Lambda.{name, witness, falsity, negation, implication,
 use Rattle.stt_core.proofs.SpineLaws.{IsAtom}
 use Rattle.stt_core.specs.View.{the_head}
 use Rattle.stt_core.proofs.HeadLaws.{atom_head}
-use Rattle.stt_tableau.specs.Literals.{plus, as_literal, is_negated}
-use Rattle.stt_tableau.proofs.LiteralLaws.{literal_cases}
+use Rattle.tableau_calculus.specs.Literals.{plus, as_literal, is_negated}
+use Rattle.tableau_calculus.proofs.LiteralLaws.{literal_cases}
 use Rattle.term_bank.specs.Shape.{spine}
 use Rattle.term_bank.specs.Terms.{term_at, shape_term}
 use Rattle.term_bank.specs.NodeView.{the_shape}
 use Rattle.term_bank.specs.declared.node.Node.{Node}
 use Rattle.term_bank.specs.declared.node.Node.TheVariants.{Lam, App}
-use Rattle.literal_map.specs.Means.Denied.{IsDenied}
+use Rattle.literal_map.specs.Internal.Denied.{IsDenied}
 
 two_arguments : (f s t : Lambda) (us : List Lambda) → is_negated (applied (app (app f s) t) us) ≡ false
 two_arguments f s t [] = refl

@@ -1,3 +1,3 @@
 pub mod Atoms
 pub mod Laws
-pub mod Means
+pub mod Internal

@@ -2,7 +2,7 @@
 ghost use Rattle.std.specs.Prelude.{◌≡◌, ℕ, ◌<◌, length, [], Some, IfOk, OnErr, IfSome, IfNone, All, get_or, slice_get, take};
 ghost use Rattle.stt_core.specs.Canonical.{IsCanonical};
 ghost use Rattle.stt_core.specs.SimpleType.{formula};
-ghost use Rattle.stt_tableau.specs.Literals.{as_literal};
+ghost use Rattle.tableau_calculus.specs.Literals.{as_literal};
 ghost use Rattle.term_bank.specs.Content.{content_scope};
 ghost use Rattle.term_bank.specs.Terms.{term_at};
 ghost use Rattle.literal_map.specs.Atoms.{literal_at, IsAtom, Begins};

@@ -1,11 +1,11 @@
 //! The atom and the sign of a formula.
 ghost use Rattle.std.specs.Prelude.{◌≡◌, ◌↔◌, ◌<◌, length, false, IsTrue};
-ghost use Rattle.stt_tableau.specs.Literals.{as_literal, is_negated};
+ghost use Rattle.tableau_calculus.specs.Literals.{as_literal, is_negated};
 ghost use Rattle.term_bank.specs.Terms.{term_at};
 ghost use Rattle.term_bank.specs.NodeView.{the_shape};
 ghost use Rattle.stt_core.specs.Lambda.{constant, negation};
 ghost use Rattle.stt_core.specs.View.{the_head};
-ghost use Rattle.literal_map.specs.Means.Denied.{IsDenied, IsOnly};
+ghost use Rattle.literal_map.specs.Internal.Denied.{IsDenied, IsOnly};
 
 use stt_core::Head;
 use term_bank::{Bank, Id, Ids, Node};

@@ -6,7 +6,7 @@ use Rattle.stt_core.specs.SimpleType.{SimpleType, base, arrow, formula, predicat
 use Rattle.stt_core.specs.Lambda.{Constant, equality, Lambda, bound, constant, lam, app}
 use Rattle.stt_core.specs.Typing.{Scope, constant_type}
 use Rattle.stt_core.specs.Canonical.{IsCanonical, IsNeutral}
-use Rattle.search_run.specs.Spine.{head_of, is_application}
+use Rattle.search_spec.specs.Spine.{head_of, is_application}
 
 -- how many arguments a function of this type takes, and a term's head has
 abbrev arity : SimpleType → ℕ

@@ -8,11 +8,11 @@ use Rattle.std.proofs.lemmas.Bool.{ltb-false}
 use Rattle.stt_core.specs.Lambda.{Lambda}
 use Rattle.stt_core.specs.SameTerm.{same_term}
 use Rattle.stt_core.proofs.SameTerms.{same_term-true, same_term-of}
-use Rattle.stt_tableau.specs.Start.{same_sign}
+use Rattle.tableau_calculus.specs.Start.{same_sign}
 use Rattle.sat_base.specs.declared.literal.SatLit.{SatLit}
 use Rattle.indexmap.specs.IndexMap.{insert_entry, set_value_at}
 use Rattle.mating_rules.specs.Noted.{Signed, of_sign, kept_under}
-use Rattle.mating_rules.specs.Means.Groups.{with_literal, alone, place_in, IsNew, Keeps}
+use Rattle.mating_rules.specs.Internal.Groups.{with_literal, alone, place_in, IsNew, Keeps}
 
 abbrev Group : Type 0
 Group = Lambda × Signed

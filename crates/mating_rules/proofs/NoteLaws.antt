@@ -9,7 +9,7 @@ use Rattle.stt_core.specs.Canonical.{IsCanonical}
 use Rattle.stt_core.specs.SameTerm.{same_term}
 use Rattle.stt_core.proofs.HeadLaws.{atom_head}
 use Rattle.stt_core.proofs.SpineLaws.{IsAtom as IsLeaf}
-use Rattle.stt_tableau.specs.Start.{same_sign}
+use Rattle.tableau_calculus.specs.Start.{same_sign}
 use Rattle.sat_base.specs.declared.literal.SatLit.{SatLit}
 use Rattle.term_bank.specs.Content.{Content, content_scope}
 use Rattle.term_bank.specs.Shape.{spine}
@@ -19,7 +19,7 @@ use Rattle.term_bank.specs.declared.node.Node.{Node}
 use Rattle.term_bank.specs.declared.node.Node.TheVariants.{Lam, App}
 use Rattle.literal_map.specs.Atoms.{atom_at, IsAtom}
 use Rattle.mating_rules.specs.Noted.{Signed, Notes, kept_under, has_pairing_head, are_partners, partners_of, IsRight}
-use Rattle.mating_rules.specs.Means.Pairing.{pairing_head, kept_where, KeepsWhere}
+use Rattle.mating_rules.specs.Internal.Pairing.{pairing_head, kept_where, KeepsWhere}
 use Rattle.mating_rules.proofs.FilterLaws.{filter-agree, filter-none}
 use Rattle.mating_rules.proofs.PairLaws.{head-kept, partners-head, IsHeadOf, head_of-shape}
 

@@ -8,13 +8,13 @@ use Rattle.stt_core.specs.Canonical.{IsCanonical}
 use Rattle.stt_core.specs.SameTerm.{same_term, same_constant}
 use Rattle.stt_core.proofs.SameTerms.{same_term-true, same_term-of}
 use Rattle.stt_core.proofs.SpineLaws.{IsAtom}
-use Rattle.search_run.specs.Spine.{head_of, is_compared, has_compared_head, is_application, same_head}
-use Rattle.search_run.specs.Partners.{equates_on}
-use Rattle.search_run.proofs.SpineLaws.{equation_is}
+use Rattle.search_spec.specs.Spine.{head_of, is_compared, has_compared_head, is_application, same_head}
+use Rattle.search_spec.specs.Partners.{equates_on}
+use Rattle.search_spec.proofs.SpineLaws.{equation_is}
 use Rattle.term_bank.specs.Shape.{Shape, abstraction, spine}
 use Rattle.term_bank.specs.Terms.{term_at, shape_term}
 use Rattle.mating_rules.specs.Noted.{pairs, has_pairing_head, equates_alike, are_partners}
-use Rattle.mating_rules.specs.Means.Pairing.{is_pairing, pairing_head}
+use Rattle.mating_rules.specs.Internal.Pairing.{is_pairing, pairing_head}
 use Rattle.mating_rules.proofs.ArityLaws.{count-same, count-equation, is_application-count, count-is_application, two_arguments}
 
 and_false : (b : Bool) → (b && false) ≡ false

@@ -3,11 +3,11 @@ use Rattle.std.specs.Prelude.{◌≡◌, ◌<◌, ◌&&◌, ℕ, List, length, m
 use Rattle.std.proofs.Common.{sym, ap, ◌∙◌, arith, length-append}
 use Rattle.std.proofs.lemmas.List.Elements.{All-weaker}
 use Rattle.stt_core.specs.Lambda.{Lambda}
-use Rattle.stt_tableau.specs.Literals.{Literal}
-use Rattle.stt_tableau.specs.Start.{same_sign}
+use Rattle.tableau_calculus.specs.Literals.{Literal}
+use Rattle.tableau_calculus.specs.Start.{same_sign}
 use Rattle.sat_base.specs.declared.literal.SatLit.{SatLit}
 use Rattle.term_bank.specs.Content.{Content, Grows}
-use Rattle.search_run.specs.Partners.{partners}
+use Rattle.search_spec.specs.Partners.{partners}
 use Rattle.literal_map.specs.Atoms.{atom_at, literal_at, IsAtom, Begins}
 use Rattle.literal_map.proofs.StayLaws.{literals_same}
 use Rattle.mating_rules.specs.Noted.{Notes, IsRight, are_partners, partners_of, has_pairing_head}

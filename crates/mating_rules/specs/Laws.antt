@@ -2,7 +2,7 @@
 use Rattle.std.specs.Prelude.{◌≡◌, ℕ, List, map, All}
 use Rattle.stt_core.specs.Lambda.{Lambda}
 use Rattle.sat_base.specs.declared.literal.SatLit.{SatLit}
-use Rattle.search_run.specs.Partners.{partners}
+use Rattle.search_spec.specs.Partners.{partners}
 use Rattle.term_bank.specs.Content.{Content, Grows}
 use Rattle.literal_map.specs.Atoms.{literal_at, atom_at, IsAtom, Begins}
 use Rattle.mating_rules.specs.Noted.{Notes, IsRight, are_partners, partners_of}

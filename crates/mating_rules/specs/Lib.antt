@@ -1,3 +1,3 @@
 pub mod Noted
 pub mod Laws
-pub mod Means
+pub mod Internal

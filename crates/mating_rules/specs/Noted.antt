@@ -3,10 +3,10 @@ use Rattle.std.specs.Prelude.{◌≡◌, ◌<◌, ◌&&◌, not, ℕ, suc, Bool,
 use Rattle.stt_core.specs.SimpleType.{base}
 use Rattle.stt_core.specs.Lambda.{Constant, equality, Lambda, constant, app}
 use Rattle.stt_core.specs.SameTerm.{same_term}
-use Rattle.stt_tableau.specs.Start.{same_sign}
+use Rattle.tableau_calculus.specs.Start.{same_sign}
 use Rattle.sat_base.specs.declared.literal.SatLit.{SatLit}
-use Rattle.search_run.specs.Spine.{head_of, is_compared, is_application, is_spine, same_head}
-use Rattle.search_run.specs.Partners.{equates_on}
+use Rattle.search_spec.specs.Spine.{head_of, is_compared, is_application, is_spine, same_head}
+use Rattle.search_spec.specs.Partners.{equates_on}
 use Rattle.literal_map.specs.Atoms.{atom_at}
 
 -- whether the second formula is an equation on the same base type as the first, which isn't that of formulas

@@ -4,8 +4,8 @@ ghost use Rattle.stt_core.specs.Lambda.{Lambda};
 ghost use Rattle.mating_rules.specs.Noted.{kept_under};
 ghost use Rattle.stt_core.specs.View.{the_head};
 ghost use Rattle.term_bank.specs.NodeView.{the_shape};
-ghost use Rattle.mating_rules.specs.Means.Groups.{Keeps, place_in, IsNew};
-ghost use Rattle.mating_rules.specs.Means.Pairing.{is_pairing, pairing_head, kept_where, KeepsWhere};
+ghost use Rattle.mating_rules.specs.Internal.Groups.{Keeps, place_in, IsNew};
+ghost use Rattle.mating_rules.specs.Internal.Pairing.{is_pairing, pairing_head, kept_where, KeepsWhere};
 
 use crate::key::Key;
 use crate::partners::Partners;
@@ -39,9 +39,9 @@ impl Model for Heads {
     ghost use Rattle.std.specs.Prelude.{List};
     ghost use Rattle.std.specs.Coded.{coded×, coded_list};
     ghost use Rattle.stt_core.specs.Lambda.{Lambda};
-    ghost use Rattle.stt_core.specs.Means.LambdaCode.{lambda_code};
+    ghost use Rattle.stt_core.specs.Internal.LambdaCode.{lambda_code};
     ghost use Rattle.mating_rules.specs.Noted.{Signed};
-    ghost use Rattle.mating_rules.specs.Means.NotesCode.{signed_code};
+    ghost use Rattle.mating_rules.specs.Internal.NotesCode.{signed_code};
 
     ghost Value = { List (Lambda × Signed) };
 

@@ -21,7 +21,7 @@ pub struct Index {
 
 impl Model for Index {
     ghost use Rattle.mating_rules.specs.Noted.{Notes};
-    ghost use Rattle.mating_rules.specs.Means.NotesCode.{notes_code};
+    ghost use Rattle.mating_rules.specs.Internal.NotesCode.{notes_code};
 
     ghost Value = { Notes };
 

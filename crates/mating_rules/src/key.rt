@@ -4,8 +4,8 @@ ghost use Rattle.std.proofs.Common.{ap};
 ghost use Rattle.std.specs.Cmp.{decided, partial_equiv_from_equiv};
 ghost use Rattle.stt_core.specs.SameTerm.{same_term};
 ghost use Rattle.stt_core.specs.View.{the_head};
-ghost use Rattle.term_bank.specs.Means.ShapeHash.{head_writes};
-ghost use Rattle.mating_rules.specs.Means.Keys.{term_decides};
+ghost use Rattle.term_bank.specs.Internal.ShapeHash.{head_writes};
+ghost use Rattle.mating_rules.specs.Internal.Keys.{term_decides};
 
 use std::alloc::{AllocError, Global};
 use std::hash::{Hash, Hasher};
@@ -21,7 +21,7 @@ pub(crate) struct Key {
 
 impl Model for Key {
     ghost use Rattle.stt_core.specs.Lambda.{Lambda};
-    ghost use Rattle.stt_core.specs.Means.LambdaCode.{lambda_code};
+    ghost use Rattle.stt_core.specs.Internal.LambdaCode.{lambda_code};
     ghost use Rattle.stt_core.specs.View.{the_head};
 
     ghost Value = { Lambda };

@@ -1,7 +1,7 @@
 //! Literals by sign.
 ghost use Rattle.std.specs.Prelude.{◌≡◌, [], ◌∷◌, ◌++◌, IfOk, OnOk, OnErr};
 ghost use Rattle.mating_rules.specs.Noted.{of_sign};
-ghost use Rattle.mating_rules.specs.Means.Groups.{with_literal, alone};
+ghost use Rattle.mating_rules.specs.Internal.Groups.{with_literal, alone};
 
 use sat_base::SatLit;
 use std::alloc::{AllocError, Global};
@@ -16,7 +16,7 @@ pub(crate) struct SignedLits {
 
 impl Model for SignedLits {
     ghost use Rattle.mating_rules.specs.Noted.{Signed};
-    ghost use Rattle.mating_rules.specs.Means.NotesCode.{signed_code};
+    ghost use Rattle.mating_rules.specs.Internal.NotesCode.{signed_code};
 
     ghost Value = { Signed };
 

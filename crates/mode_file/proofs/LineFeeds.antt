@@ -4,7 +4,7 @@ use Rattle.std.specs.List.{onto_first}
 use Rattle.mode_file.specs.declared.bytes.ByteClass.TheVariants.{InLine}
 use Rattle.outside.specs.Lines.{lines_of}
 use Rattle.mode_file.specs.Lines.{front}
-use Rattle.mode_file.specs.Means.Fronts.{is_in, after}
+use Rattle.mode_file.specs.Internal.Fronts.{is_in, after}
 
 lines_of-front : (c : ℕ) (cs : List ℕ) → lines_of (c ∷ cs) ≡ front (is_in InLine) (c ∷ cs) ∷ lines_of (drop 1 (after (is_in InLine) (c ∷ cs)))
 lines_of-front c [] = go (c == 10)

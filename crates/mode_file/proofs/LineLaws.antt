@@ -6,10 +6,10 @@ use Rattle.std.proofs.lemmas.Slice.Eq.{bytes_eq-Decides}
 use Rattle.mode_file.specs.declared.keys.Key.{Key}
 use Rattle.mode_file.specs.declared.keys.Key.TheVariants.{Process, Mate, Confront, Inst, Choose, Grow, Commands, Conflicts}
 use Rattle.mode_file.specs.Keys.{keys, name_of, greatest, key_of}
-use Rattle.mode_file.specs.Means.Fronts.{after, is_in}
+use Rattle.mode_file.specs.Internal.Fronts.{after, is_in}
 use Rattle.mode_file.specs.declared.bytes.ByteClass.TheVariants.{InWord}
 use Rattle.mode_file.specs.Grammar.{says_nothing, first_word, number_from, Sets}
-use Rattle.mode_file.specs.Means.Reader.{digits_in}
+use Rattle.mode_file.specs.Internal.Reader.{digits_in}
 use Rattle.mode_file.proofs.NumeralLaws.{front-after, number_stands, number_found}
 
 -- a key's name at the front of a line

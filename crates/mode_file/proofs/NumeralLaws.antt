@@ -4,9 +4,9 @@ use Rattle.std.specs.List.{list_all}
 use Rattle.std.proofs.lemmas.Bool.{and_parts}
 use Rattle.std.proofs.lemmas.Bool.Decides.{nat_tests}
 use Rattle.mode_file.specs.Lines.{is_digit, front}
-use Rattle.mode_file.specs.Means.Fronts.{is_space, after}
+use Rattle.mode_file.specs.Internal.Fronts.{is_space, after}
 use Rattle.mode_file.specs.Grammar.{is_decimal}
-use Rattle.mode_file.specs.Means.Reader.{is_nil, is_ending, behind_spaces, digits_in}
+use Rattle.mode_file.specs.Internal.Reader.{is_nil, is_ending, behind_spaces, digits_in}
 use Rattle.mode_file.proofs.Numbers.{digits_of}
 
 pub front-after : (p : ℕ → Bool) (xs : List ℕ) → front p xs ++ after p xs ≡ xs

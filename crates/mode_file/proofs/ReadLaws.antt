@@ -7,9 +7,9 @@ use Rattle.mode_file.specs.declared.keys.Key.{Key}
 use Rattle.mode_file.specs.declared.bytes.ByteClass.TheVariants.{InWord}
 use Rattle.mode_file.specs.Keys.{greatest, key_of}
 use Rattle.mode_file.specs.Given.{number_of}
-use Rattle.mode_file.specs.Means.Fronts.{after, is_in}
+use Rattle.mode_file.specs.Internal.Fronts.{after, is_in}
 use Rattle.mode_file.specs.Grammar.{first_word, is_decimal, number_from, Sets, HasBadNumber, IsOutOfRange}
-use Rattle.mode_file.specs.Means.Reader.{digits_in}
+use Rattle.mode_file.specs.Internal.Reader.{digits_in}
 use Rattle.mode_file.proofs.NumeralLaws.{number_stands}
 use Rattle.mode_file.proofs.LineLaws.{Sets-digits, sets, greatest_fits}
 

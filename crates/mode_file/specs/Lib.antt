@@ -3,4 +3,4 @@ pub mod Given
 pub mod Lines
 pub mod Grammar
 pub mod Refusals
-pub mod Means
+pub mod Internal

@@ -2,7 +2,7 @@
 ghost use Rattle.std.specs.Prelude.{◌≡◌, ◌<◌, ◌≤◌, [], ◌∷◌, length, IfSome, IfNone};
 ghost use Rattle.outside.specs.Lines.{lines_of};
 ghost use Rattle.mode_file.specs.Lines.{front};
-ghost use Rattle.mode_file.specs.Means.Fronts.{is_in, after};
+ghost use Rattle.mode_file.specs.Internal.Fronts.{is_in, after};
 
 /// A kind of bytes.
 #[derive(Clone, Copy, Debug)]

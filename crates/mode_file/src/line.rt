@@ -5,7 +5,7 @@ ghost use Rattle.mode_file.specs.Lines.{is_blank, is_digit};
 ghost use Rattle.mode_file.specs.Keys.{greatest};
 ghost use Rattle.mode_file.specs.Given.{number_of};
 ghost use Rattle.mode_file.specs.Grammar.{says_nothing, is_decimal, number_from, Sets, IsBadFor};
-ghost use Rattle.mode_file.specs.Means.Reader.{is_ending, digits_in};
+ghost use Rattle.mode_file.specs.Internal.Reader.{is_ending, digits_in};
 
 use crate::bytes::{ByteClass, split_front};
 use crate::given::Given;

@@ -6,7 +6,7 @@ use Rattle.std.proofs.lemmas.List.{map-set, set-append_left, length-map, get_or-
 use Rattle.outside.specs.declared.file_list.Entry.{Entry}
 use Rattle.outside.specs.Causes.{next_count}
 use Rattle.outside.specs.Entry.{file_of, files_of, counts_of}
-use Rattle.outside.specs.Means.Counts.{raised_at}
+use Rattle.outside.specs.Internal.Counts.{raised_at}
 
 -- an entry with another count
 abbrev pub recounted : Entry → ℕ → Entry

@@ -2,7 +2,7 @@
 ghost use Rattle.std.specs.Prelude.{◌≡◌, ◌≤◌, ◌<◌, ◌+◌, ◌^◌, None, Some, length, position, replicate, slice_index, string_bytes};
 ghost use Rattle.std.specs.Str.{bytes_eq};
 ghost use Rattle.outside.specs.FileList.{place_of, content_of, bytes_at};
-ghost use Rattle.outside.specs.Means.Counts.{raised_at};
+ghost use Rattle.outside.specs.Internal.Counts.{raised_at};
 
 use crate::FileList;
 use crate::file_list::Entry;
@@ -17,7 +17,7 @@ pub struct CountedFiles {
 }
 
 impl Model for CountedFiles {
-    ghost use Rattle.outside.specs.Means.Counts.{FilesAndCounts};
+    ghost use Rattle.outside.specs.Internal.Counts.{FilesAndCounts};
 
     ghost Value = { FilesAndCounts };
 

@@ -6,10 +6,10 @@ use Rattle.stt_core.specs.Typing.{Scope, IsScope}
 use Rattle.stt_core.specs.Canonical.{IsCanonical}
 use Rattle.stt_core.specs.SimpleType.{formula}
 use Rattle.stt_core.specs.TypedProblem.{IsFormula}
-use Rattle.stt_normal.specs.Normal.{normal_form}
-use Rattle.stt_normal.proofs.NormalValues.{canonical-normal_form}
-use Rattle.stt_tableau.specs.Literals.{as_literal, is_negated, IsLiteral}
-use Rattle.stt_tableau.proofs.LiteralLaws.{as_literal-is_literal}
+use Rattle.normal_forms.specs.Normal.{normal_form}
+use Rattle.normal_forms.proofs.NormalValues.{canonical-normal_form}
+use Rattle.tableau_calculus.specs.Literals.{as_literal, is_negated, IsLiteral}
+use Rattle.tableau_calculus.proofs.LiteralLaws.{as_literal-is_literal}
 use Rattle.term_bank.specs.Content.{Content, HasTerm, Grows, content_scope}
 use Rattle.term_bank.specs.Terms.{term_at}
 use Rattle.term_bank.proofs.GrowLaws.{grown_scope, has_at}

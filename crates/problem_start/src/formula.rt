@@ -2,7 +2,7 @@
 ghost use Rattle.std.specs.Prelude.{◌≡◌, ◌<◌, length, All, IfOk};
 ghost use Rattle.stt_core.specs.TypedProblem.{IsFormula};
 ghost use Rattle.stt_core.specs.View.{the_term};
-ghost use Rattle.stt_tableau.specs.Start.{normal_literal};
+ghost use Rattle.tableau_calculus.specs.Start.{normal_literal};
 ghost use Rattle.term_bank.specs.Content.{Grows, content_scope};
 ghost use Rattle.term_bank.specs.Terms.{term_at};
 ghost use Rattle.bank_normal.specs.Right.{IsRight};

@@ -24,8 +24,8 @@ use Rattle.type_check.specs.Typed.{TypedTerm, typed, of_type, where_typed, domai
 use Rattle.type_check.specs.Rows.{signed, truth_value, join, operator_term, quantify}
 use Rattle.type_check.specs.Terms.{TermReading, known, constant_named, variable_named, negated, joined, equated, applied, quantified_over, quantified_by, bind, read_binder, read_term}
 use Rattle.type_check.specs.Statements.{is_role, is_conjecture, is_definition, own_place, where_formula, read_formula, where_new, with_base, with_const, with_formula, with_assumed, with_conjecture, read_body, read_known, read_statement, IllInFile, in_file, read_statements, nothing}
-use Rattle.search_run.specs.Each.{Each}
-use Rattle.search_run.proofs.NamingLaws.{each-joined, pick_good}
+use Rattle.search_spec.specs.Each.{Each}
+use Rattle.search_spec.proofs.NamingLaws.{each-joined, pick_good}
 use Rattle.type_bound.specs.Types.{nesting}
 use Rattle.type_bound.specs.Modest.{IsModest, IsModestIfAny}
 use Rattle.type_bound.proofs.ModestTerms.{lift_keeps}

@@ -5,11 +5,11 @@ use Rattle.stt_core.specs.Lambda.{Constant, name, equality, Lambda, bound, const
 use Rattle.stt_core.specs.Declarations.{scope_of}
 use Rattle.delta_defs.specs.Definitions.{Definition, meant, unfolded}
 use Rattle.delta_defs.specs.Unfolding.{stated, in_terms_of, may_follow, if_it_may_follow, taken_from, with_next, taken_after, unless_taken, left_after, definitions_of, left_formulas, unfolded_problem}
-use Rattle.stt_tableau.specs.Start.{start}
-use Rattle.search_run.specs.Each.{Each}
-use Rattle.search_run.specs.State.{Setting}
-use Rattle.search_run.proofs.NamingLaws.{each-joined, pick_good}
-use Rattle.search_run.proofs.TypedPushes.{each_mapped}
+use Rattle.tableau_calculus.specs.Start.{start}
+use Rattle.search_spec.specs.Each.{Each}
+use Rattle.search_spec.specs.State.{Setting}
+use Rattle.search_spec.proofs.NamingLaws.{each-joined, pick_good}
+use Rattle.search_spec.proofs.TypedPushes.{each_mapped}
 use Rattle.type_bound.specs.Modest.{IsModest, IsModestIfAny}
 use Rattle.type_bound.proofs.StartLaws.{start-keeps}
 use Rattle.type_bound.proofs.SmallLaws.{stay_small}

@@ -3,10 +3,10 @@ use Rattle.std.specs.Prelude.{◌≡◌, ◌≤◌, ◌+◌, ℕ, suc, max, List
 use Rattle.stt_core.specs.PlainProblem.{PlainProblem}
 use Rattle.stt_core.specs.Declarations.{scope_of}
 use Rattle.delta_defs.specs.Unfolding.{unfolded_problem}
-use Rattle.stt_tableau.specs.Start.{start}
-use Rattle.search_run.specs.Mode.{Mode}
-use Rattle.search_run.specs.State.{State}
-use Rattle.search_run.specs.After.{after}
+use Rattle.tableau_calculus.specs.Start.{start}
+use Rattle.search_spec.specs.Mode.{Mode}
+use Rattle.search_spec.specs.State.{State}
+use Rattle.search_spec.specs.After.{after}
 use Rattle.thf_grammar.specs.Trees.{TypeTree, form, indiv, named, arrow, VarTree, FormulaTree, constant, variable, truth, operator, negation, binary, equation, application, quantified, binding, BodyTree, base, typing, formula, StatementTree, annotated, include}
 use Rattle.thf_include.specs.View.{PlacedTree}
 use Rattle.thf_include.specs.Gathering.{done, IsGathering}

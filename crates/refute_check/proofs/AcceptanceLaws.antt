@@ -7,21 +7,21 @@ use Rattle.stt_core.specs.Declarations.{scope_of}
 use Rattle.stt_core.specs.TypedProblem.{IsTyped}
 use Rattle.stt_core.specs.PlainProblem.{PlainProblem}
 use Rattle.stt_core.specs.Meets.{MeetsProblem}
-use Rattle.stt_tableau.specs.Start.{start}
-use Rattle.stt_tableau.specs.Accepted.{IsAccepted}
-use Rattle.stt_tableau.specs.declared.refutation.Refutation.{Refutation}
-use Rattle.stt_tableau.specs.declared.refutation.Why.{Why}
-use Rattle.stt_tableau.specs.declared.refutation.Why.TheVariants.{Defs}
-use Rattle.stt_tableau.proofs.Soundness.{accepted_refutes}
-use Rattle.stt_tableau.proofs.StartMeets.{start_unnamed, start_met}
-use Rattle.stt_tableau.proofs.FirstFailureLaws.{accepted_no_failure, one_first_failure}
+use Rattle.tableau_calculus.specs.Start.{start}
+use Rattle.tableau_calculus.specs.Accepted.{IsAccepted}
+use Rattle.tableau_calculus.specs.declared.refutation.Refutation.{Refutation}
+use Rattle.tableau_calculus.specs.declared.refutation.Why.{Why}
+use Rattle.tableau_calculus.specs.declared.refutation.Why.TheVariants.{Defs}
+use Rattle.tableau_calculus.proofs.Soundness.{accepted_refutes}
+use Rattle.tableau_calculus.proofs.StartMeets.{start_unnamed, start_met}
+use Rattle.tableau_calculus.proofs.FirstFailureLaws.{accepted_no_failure, one_first_failure}
 use Rattle.delta_defs.specs.Definitions.{Definition}
 use Rattle.delta_defs.specs.Unfolding.{definitions_of, taken_names, unfolded_problem}
 use Rattle.delta_defs.specs.Laws.{AreDeclared}
 use Rattle.delta_defs.proofs.KeptModels.{keeps_models, keeps_types}
 use Rattle.delta_defs.proofs.UnfoldedOnce.{nothing_unfolded, unfold_twice}
-use Rattle.written_refutation.specs.Trees.{RefutationTree}
-use Rattle.written_refutation.specs.Named.{names_of, name_at, named_refutation, ArePlaces}
+use Rattle.refute_print.specs.Trees.{RefutationTree}
+use Rattle.refute_print.specs.Named.{names_of, name_at, named_refutation, ArePlaces}
 use Rattle.refute_check.specs.Numbered.{numbered_refutation}
 use Rattle.refute_check.specs.Refusal.{IfLine, FailsAt}
 use Rattle.refute_check.specs.Acceptance.{taken_texts, NamesDefinitions, refuted_problem, IsAcceptedFor, DifferFirst, TextFailsAt, at_definition, behind_definitions}

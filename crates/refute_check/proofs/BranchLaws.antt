@@ -4,13 +4,13 @@ use Rattle.std.proofs.lemmas.Bool.{and_from, and_parts, or_left, or_right, eqb-t
 use Rattle.std.proofs.lemmas.List.Elements.{Contains-push, Contains-append_left, Contains-push_cases}
 use Rattle.stt_core.specs.Lambda.{Lambda}
 use Rattle.stt_core.specs.SameTerm.{same_term}
-use Rattle.stt_tableau.specs.Literals.{Literal}
-use Rattle.stt_tableau.specs.Start.{same_sign}
-use Rattle.stt_tableau.specs.declared.refutation.Line.{Line}
-use Rattle.stt_tableau.proofs.ListLaws.{untrue}
-use Rattle.stt_tableau.proofs.AddedLaws.{same_sign-true}
-use Rattle.refute_check.specs.Means.Numbers.{number_in}
-use Rattle.refute_check.specs.Means.Branches.{has, IsLiteralOf, Represents, AreNumbered, Grow, AreBranches}
+use Rattle.tableau_calculus.specs.Literals.{Literal}
+use Rattle.tableau_calculus.specs.Start.{same_sign}
+use Rattle.tableau_calculus.specs.declared.refutation.Line.{Line}
+use Rattle.tableau_calculus.proofs.ListLaws.{untrue}
+use Rattle.tableau_calculus.proofs.AddedLaws.{same_sign-true}
+use Rattle.refute_check.specs.Internal.Numbers.{number_in}
+use Rattle.refute_check.specs.Internal.Branches.{has, IsLiteralOf, Represents, AreNumbered, Grow, AreBranches}
 use Rattle.refute_check.specs.declared.branch.Branch.{Branch}
 use Rattle.refute_check.proofs.NumberLaws.{number_in-at}
 use Rattle.refute_check.proofs.SetLaws.{or_split}

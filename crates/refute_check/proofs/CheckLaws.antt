@@ -1,18 +1,18 @@
 -- The check of a whole text.
 use Rattle.std.proofs.Common.{◌≡◌, ◌≤◌, ◌+◌, ℕ, List, [], ◌∷◌, Option, length, Result, Ok, Err, OnOk, IfErr, ap, subst, length-append, arith}
 use Rattle.stt_core.specs.Typing.{Scope}
-use Rattle.stt_tableau.specs.Literals.{Literal}
-use Rattle.stt_tableau.specs.Witnesses.{Row, with_rows}
-use Rattle.stt_tableau.specs.Means.Answers.{LineAnswer}
-use Rattle.stt_tableau.specs.Accepted.{FirstFailure, at_row, at_line, at_last, no_line}
-use Rattle.stt_tableau.specs.declared.refutation.Line.{Line}
-use Rattle.stt_tableau.specs.declared.refutation.Refutation.{Refutation}
-use Rattle.stt_tableau.specs.declared.refutation.Why.{Why}
-use Rattle.stt_tableau.specs.declared.accepts.PlainRefused.{PlainRefused}
-use Rattle.stt_tableau.specs.declared.accepts.PlainRefused.TheVariants.{Refused, Memory}
-use Rattle.stt_tableau.specs.Refused.{IfRefused}
+use Rattle.tableau_calculus.specs.Literals.{Literal}
+use Rattle.tableau_calculus.specs.Witnesses.{Row, with_rows}
+use Rattle.tableau_calculus.specs.Internal.Answers.{LineAnswer}
+use Rattle.tableau_calculus.specs.Accepted.{FirstFailure, at_row, at_line, at_last, no_line}
+use Rattle.tableau_calculus.specs.declared.refutation.Line.{Line}
+use Rattle.tableau_calculus.specs.declared.refutation.Refutation.{Refutation}
+use Rattle.tableau_calculus.specs.declared.refutation.Why.{Why}
+use Rattle.tableau_calculus.specs.declared.refused.PlainRefused.{PlainRefused}
+use Rattle.tableau_calculus.specs.declared.refused.PlainRefused.TheVariants.{Refused, Memory}
+use Rattle.tableau_calculus.specs.Refused.{IfRefused}
 use Rattle.refute_check.specs.declared.shared.Shared.{Shared}
-use Rattle.refute_check.specs.Means.Shared.{scope_in, declared_in, the_rows, IsGood}
+use Rattle.refute_check.specs.Internal.Shared.{scope_in, declared_in, the_rows, IsGood}
 use Rattle.refute_check.proofs.SharedLaws.{scope_rows}
 
 -- a line's answer over the witnesses of the table

@@ -3,12 +3,12 @@ use Rattle.std.proofs.Common.{◌≡◌, ℕ, zero, suc, Bool, true, false, not,
 use Rattle.std.proofs.lemmas.Bool.{or_left, or_right}
 use Rattle.std.proofs.lemmas.List.Elements.{Contains-append_left, Contains-append_right, Contains-append_cases}
 use Rattle.stt_core.specs.Lambda.{Lambda}
-use Rattle.stt_tableau.specs.Literals.{Literal, opposite}
-use Rattle.stt_tableau.specs.Accepted.{Within, IsClosedBranch}
-use Rattle.stt_tableau.specs.declared.refutation.Line.{Line}
-use Rattle.stt_tableau.proofs.ListLaws.{contains-within, within-each}
-use Rattle.refute_check.specs.Means.Numbers.{number_in}
-use Rattle.refute_check.specs.Means.Branches.{has, IsLiteralOf, Represents, AreNumbered, AreBranches}
+use Rattle.tableau_calculus.specs.Literals.{Literal, opposite}
+use Rattle.tableau_calculus.specs.Accepted.{Within, IsClosedBranch}
+use Rattle.tableau_calculus.specs.declared.refutation.Line.{Line}
+use Rattle.tableau_calculus.proofs.ListLaws.{contains-within, within-each}
+use Rattle.refute_check.specs.Internal.Numbers.{number_in}
+use Rattle.refute_check.specs.Internal.Branches.{has, IsLiteralOf, Represents, AreNumbered, AreBranches}
 use Rattle.refute_check.specs.declared.branch.Branch.{Branch}
 use Rattle.refute_check.proofs.BranchLaws.{same_number}
 use Rattle.refute_check.proofs.SetLaws.{or_split}

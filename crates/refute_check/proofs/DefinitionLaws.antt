@@ -4,7 +4,7 @@ use Rattle.std.specs.List.{AllByRecursion}
 use Rattle.std.proofs.lemmas.Bool.{cases_lt}
 use Rattle.stt_core.specs.TypedName.{TypedName}
 use Rattle.stt_core.proofs.ListLaws.{take_got, mapped_get}
-use Rattle.written_refutation.specs.Named.{name_at}
+use Rattle.refute_print.specs.Named.{name_at}
 use Rattle.refute_check.specs.Acceptance.{DifferFirst}
 
 pub declared_at : (limit : ℕ) (ks : List ℕ) (i k : ℕ) → AllByRecursion (λ j. j < limit) ks → slice_get ks i ≡ Some k → k < limit

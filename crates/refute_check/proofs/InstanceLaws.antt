@@ -8,11 +8,11 @@ use Rattle.sat_base.specs.declared.literal.SatLit.{SatLit}
 use Rattle.stt_core.specs.SimpleType.{SimpleType}
 use Rattle.stt_core.specs.Lambda.{Lambda, every}
 use Rattle.stt_core.specs.Typing.{Scope}
-use Rattle.stt_tableau.specs.Literals.{Literal, minus}
-use Rattle.stt_tableau.specs.Witnesses.{Row}
-use Rattle.stt_tableau.specs.Rules.{Rule, AreAt, IsInstance, all_neg_rule}
-use Rattle.stt_tableau.specs.declared.refutation.RuleUse.{RuleUse}
-use Rattle.stt_tableau.specs.declared.refutation.RuleUse.TheVariants as rule
+use Rattle.tableau_calculus.specs.Literals.{Literal, minus}
+use Rattle.tableau_calculus.specs.Witnesses.{Row}
+use Rattle.tableau_calculus.specs.Rules.{Rule, AreAt, IsInstance, all_neg_rule}
+use Rattle.tableau_calculus.specs.declared.refutation.RuleUse.{RuleUse}
+use Rattle.tableau_calculus.specs.declared.refutation.RuleUse.TheVariants as rule
 use Rattle.term_bank.specs.Content.{Content}
 use Rattle.term_bank.specs.Terms.{term_at}
 use Rattle.term_bank.specs.Laws.{EqualIdsForEqualTerms}
@@ -27,8 +27,8 @@ use Rattle.tableau_rules.specs.Changes.{Widens, HasWitness, AreWitnessesAfter, A
 use Rattle.tableau_rules.proofs.WideLaws.{wide_at}
 use Rattle.tableau_rules.proofs.MadeLaws.{principals_within}
 use Rattle.refute_check.specs.declared.shared.Shared.{Shared}
-use Rattle.refute_check.specs.Means.Shared.{scope_in, the_rows, literal_in, IsNumber, IsGood, Extends}
-use Rattle.refute_check.specs.Means.Taking.{IsTaken}
+use Rattle.refute_check.specs.Internal.Shared.{scope_in, the_rows, literal_in, IsNumber, IsGood, Extends}
+use Rattle.refute_check.specs.Internal.Taking.{IsTaken}
 use Rattle.refute_check.proofs.NumberLaws.{mapped_at}
 use Rattle.refute_check.proofs.SharedLaws.{map_each, extends_scope, extends_rows, extends_literal}
 

@@ -1,13 +1,13 @@
 -- What is answered of a line, while terms come.
 use Rattle.std.proofs.Common.{List, Option, subst, sym}
-use Rattle.stt_tableau.specs.Literals.{Literal, IsBranch}
-use Rattle.stt_tableau.specs.Accepted.{IsTypedUse, IsTypedLine}
-use Rattle.stt_tableau.specs.Checks.{FindsInstance}
-use Rattle.stt_tableau.specs.declared.refutation.Line.{Line}
+use Rattle.tableau_calculus.specs.Literals.{Literal, IsBranch}
+use Rattle.tableau_calculus.specs.Accepted.{IsTypedUse, IsTypedLine}
+use Rattle.tableau_calculus.specs.Checks.{FindsInstance}
+use Rattle.tableau_calculus.specs.declared.refutation.Line.{Line}
 use Rattle.refute_check.specs.declared.shared.Shared.{Shared}
 use Rattle.refute_check.specs.declared.branch.Branch.{Branch}
-use Rattle.refute_check.specs.Means.Branches.{AreBranches}
-use Rattle.refute_check.specs.Means.Shared.{scope_in, the_atoms, the_rows, IsGood, Extends}
+use Rattle.refute_check.specs.Internal.Branches.{AreBranches}
+use Rattle.refute_check.specs.Internal.Shared.{scope_in, the_atoms, the_rows, IsGood, Extends}
 use Rattle.refute_check.proofs.BranchLaws.{branches-grow}
 use Rattle.refute_check.proofs.SharedLaws.{extends_on, extends_scope, extends_rows, extends_atoms}
 

@@ -3,8 +3,8 @@ use Rattle.std.proofs.Common.{◌≡◌, ℕ, zero, suc, Bool, true, false, List
 use Rattle.stt_core.specs.Lambda.{Lambda}
 use Rattle.stt_core.specs.SameTerm.{same_term}
 use Rattle.stt_core.proofs.SameTerms.{same_term-true, same_term-of}
-use Rattle.stt_tableau.proofs.ListLaws.{untrue, contains_cases, contains-get}
-use Rattle.refute_check.specs.Means.Numbers.{number_in}
+use Rattle.tableau_calculus.proofs.ListLaws.{untrue, contains_cases, contains-get}
+use Rattle.refute_check.specs.Internal.Numbers.{number_in}
 
 -- a term that has a number stands at its place
 pub number_in-at : (ts : List Lambda) (t : Lambda) (k : ℕ) → number_in ts t ≡ Some k → slice_get ts k ≡ Some t

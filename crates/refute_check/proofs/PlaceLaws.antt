@@ -11,9 +11,9 @@ use Rattle.std.specs.Cmp.Lexicographic.{slice_cmp, bytes_decides}
 use Rattle.std.specs.Ordering.{nat_cmp}
 use Rattle.std.specs.Str.{bytes_eq}
 use Rattle.stt_core.proofs.ListLaws.{take_got}
-use Rattle.stt_tableau.proofs.FailureLaws.{length-front}
+use Rattle.tableau_calculus.proofs.FailureLaws.{length-front}
 use Rattle.refute_check.specs.Numbered.{place_of}
-use Rattle.refute_check.specs.Means.Places.{noted, first_place, noted_next, HasPlaces}
+use Rattle.refute_check.specs.Internal.Places.{noted, first_place, noted_next, HasPlaces}
 
 position_push-kept : {X : Type 0} (p : X → Bool) (xs : List X) (y : X) (k : ℕ) → position p xs ≡ Some k → position p (xs ++ y ∷ []) ≡ Some k
 position_push-kept p xs y k h = grind (arith, common_steps, position_or_len_push p xs y, prefix_len-le-length (λ x. not (p x)) xs)

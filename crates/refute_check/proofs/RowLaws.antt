@@ -9,9 +9,9 @@ use Rattle.stt_core.specs.SimpleType.{SimpleType}
 use Rattle.stt_core.specs.Lambda.{Lambda, bound, constant, lam, app}
 use Rattle.std.proofs.lemmas.List.{length-map}
 use Rattle.stt_core.proofs.ListLaws.{map-append, mapped_get}
-use Rattle.stt_tableau.proofs.ListLaws.{contains-get}
-use Rattle.stt_tableau.specs.Witnesses.{Row, with_rows, IsTwice}
-use Rattle.stt_tableau.proofs.FailureLaws.{contains_map}
+use Rattle.tableau_calculus.proofs.ListLaws.{contains-get}
+use Rattle.tableau_calculus.specs.Witnesses.{Row, with_rows, IsTwice}
+use Rattle.tableau_calculus.proofs.FailureLaws.{contains_map}
 use Rattle.term_bank.specs.Content.{Content, content_scope, HasTerm, Grows}
 use Rattle.term_bank.specs.Terms.{term_at}
 use Rattle.term_bank.specs.Laws.{EqualIdsForEqualTerms}
@@ -27,7 +27,7 @@ use Rattle.tableau_rules.specs.Changes.{Widens}
 use Rattle.tableau_rules.proofs.WideLaws.{wide_atoms, right_by}
 use Rattle.tableau_rules.proofs.DeclareLaws.{table_by}
 use Rattle.refute_check.specs.declared.shared.Shared.{Shared}
-use Rattle.refute_check.specs.Means.Shared.{declared_in, the_atoms, the_rows, IsGood}
+use Rattle.refute_check.specs.Internal.Shared.{declared_in, the_atoms, the_rows, IsGood}
 use Rattle.refute_check.specs.Numbered.{argument_type}
 
 binder_is : (t : Lambda) → argument_type t ≡ binder_of t

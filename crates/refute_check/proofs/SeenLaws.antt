@@ -1,12 +1,12 @@
 -- Numbers that are noted for literals of a text.
 use Rattle.std.proofs.Common.{◌∙◌, Some, sym, subst}
 use Rattle.sat_base.specs.declared.literal.SatLit.{SatLit}
-use Rattle.stt_tableau.specs.Literals.{Literal, IsLiteral}
-use Rattle.written_refutation.specs.Named.{Names}
-use Rattle.written_refutation.specs.Trees.{LiteralTree}
+use Rattle.tableau_calculus.specs.Literals.{Literal, IsLiteral}
+use Rattle.refute_print.specs.Named.{Names}
+use Rattle.refute_print.specs.Trees.{LiteralTree}
 use Rattle.refute_check.specs.Numbered.{numbered_literal}
-use Rattle.refute_check.specs.Means.Seen.{IsSeen, IsNoted}
-use Rattle.refute_check.specs.Means.Shared.{IsGood, Extends, NumbersLiteral}
+use Rattle.refute_check.specs.Internal.Seen.{IsSeen, IsNoted}
+use Rattle.refute_check.specs.Internal.Shared.{IsGood, Extends, NumbersLiteral}
 use Rattle.refute_check.specs.declared.seen.Noted.{Noted}
 use Rattle.refute_check.specs.declared.seen.Seen.{Seen}
 use Rattle.refute_check.specs.declared.shared.Shared.{Shared}

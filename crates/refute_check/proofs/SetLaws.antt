@@ -3,8 +3,8 @@ use Rattle.std.proofs.Common.{◌≡◌, ℕ, nat_eq, Bool, true, false, ◌||�
 use Rattle.std.proofs.lemmas.Bool.{and_from, and_parts, or_cases, or_left, or_right, eqb-true, eq-eqb}
 use Rattle.std.specs.List.{list_all, list_any}
 use Rattle.indexmap.specs.IndexSet.{IndexSet, contains}
-use Rattle.stt_tableau.proofs.ListLaws.{untrue}
-use Rattle.refute_check.specs.Means.Branches.{has}
+use Rattle.tableau_calculus.proofs.ListLaws.{untrue}
+use Rattle.refute_check.specs.Internal.Branches.{has}
 use Rattle.refute_check.specs.declared.branch.Branch.{Branch}
 
 pub or_split : {P : Type 0} (a b : Bool) → (a || b) ≡ true → (a ≡ true → P) → (b ≡ true → P) → P

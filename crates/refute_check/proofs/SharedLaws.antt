@@ -11,9 +11,9 @@ use Rattle.stt_core.specs.declared.signature.Signature.{Signature}
 use Rattle.stt_core.specs.Lambda.{Lambda}
 use Rattle.stt_core.specs.Typing.{Scope}
 use Rattle.stt_core.proofs.ListLaws.{mapped_get, map-append}
-use Rattle.stt_tableau.specs.Literals.{Literal, IsLiteral, IsBranch}
-use Rattle.stt_tableau.specs.Witnesses.{Row, with_rows}
-use Rattle.stt_tableau.proofs.FailureLaws.{contains_map}
+use Rattle.tableau_calculus.specs.Literals.{Literal, IsLiteral, IsBranch}
+use Rattle.tableau_calculus.specs.Witnesses.{Row, with_rows}
+use Rattle.tableau_calculus.proofs.FailureLaws.{contains_map}
 use Rattle.term_bank.specs.Content.{Content, content_scope, HasTerm, Grows}
 use Rattle.term_bank.specs.Terms.{term_at}
 use Rattle.term_bank.specs.Laws.{EqualIdsForEqualTerms}
@@ -24,11 +24,11 @@ use Rattle.bank_normal.proofs.RightLaws.{right_grown}
 use Rattle.literal_map.proofs.StayLaws.{atoms_stay, literals_same}
 use Rattle.witness_names.specs.Rows.{rows_of, AreRows}
 use Rattle.witness_names.proofs.StayLaws.{rows_same, rows_grown}
-use Rattle.search_run.specs.Each.{Each}
+use Rattle.search_spec.specs.Each.{Each}
 use Rattle.refute_check.specs.declared.shared.Shared.{Shared}
-use Rattle.refute_check.specs.Means.Numbers.{number_in}
-use Rattle.refute_check.specs.Means.Branches.{Grow, AreNumbered}
-use Rattle.refute_check.specs.Means.Shared.{scope_in, declared_in, the_atoms, the_rows, IsGood, Extends, IsNumber, literal_in, AreNumbersOf, NumbersLiteral}
+use Rattle.refute_check.specs.Internal.Numbers.{number_in}
+use Rattle.refute_check.specs.Internal.Branches.{Grow, AreNumbered}
+use Rattle.refute_check.specs.Internal.Shared.{scope_in, declared_in, the_atoms, the_rows, IsGood, Extends, IsNumber, literal_in, AreNumbersOf, NumbersLiteral}
 use Rattle.refute_check.proofs.NumberLaws.{number_in-only, mapped_at}
 
 -- EACH

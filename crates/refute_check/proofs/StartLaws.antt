@@ -6,13 +6,13 @@ use Rattle.stt_core.specs.PlainProblem.{PlainProblem}
 use Rattle.stt_core.specs.Typing.{Scope}
 use Rattle.sat_base.specs.declared.literal.SatLit.{SatLit}
 use Rattle.sat_base.specs.Literal.{negated}
-use Rattle.stt_tableau.specs.Literals.{Literal, opposite}
-use Rattle.stt_tableau.specs.Start.{without_repeats, normal_literal, denied, start}
-use Rattle.stt_tableau.proofs.AddedLaws.{contains_cases-added, contains-added}
-use Rattle.refute_check.specs.Means.Branches.{Represents, AreNumbered}
+use Rattle.tableau_calculus.specs.Literals.{Literal, opposite}
+use Rattle.tableau_calculus.specs.Start.{without_repeats, normal_literal, denied, start}
+use Rattle.tableau_calculus.proofs.AddedLaws.{contains_cases-added, contains-added}
+use Rattle.refute_check.specs.Internal.Branches.{Represents, AreNumbered}
 use Rattle.refute_check.specs.declared.branch.Branch.{Branch}
 use Rattle.refute_check.specs.declared.shared.Shared.{Shared}
-use Rattle.refute_check.specs.Means.Shared.{the_atoms, IsGood, Extends, IsNumber, literal_in, AreNumbersOf}
+use Rattle.refute_check.specs.Internal.Shared.{the_atoms, IsGood, Extends, IsNumber, literal_in, AreNumbersOf}
 use Rattle.refute_check.proofs.SharedLaws.{numbers-more, extends_numbers}
 
 -- what represents a list represents each list with the same literals

@@ -5,12 +5,12 @@ use Rattle.std.specs.Option.{ForSome}
 use Rattle.sat_base.specs.declared.literal.SatLit.{SatLit}
 use Rattle.stt_core.specs.Lambda.{Lambda}
 use Rattle.stt_core.specs.Typing.{Scope}
-use Rattle.stt_tableau.specs.Literals.{Literal}
-use Rattle.stt_tableau.specs.Witnesses.{Row}
-use Rattle.stt_tableau.specs.Rules.{Rule, places, AreAt, IsInstance, false_rule, close_rule, refl_rule, imp_pos_rule, imp_neg_rule, bool_pos_rule, bool_neg_rule, fun_pos_rule, fun_neg_rule, all_pos_rule, all_neg_rule, mat_rule, dec_rule, con_rule, cho_rule, des_rule, cut_rule}
-use Rattle.stt_tableau.specs.declared.refutation.RuleUse.{RuleUse}
-use Rattle.stt_tableau.specs.declared.refutation.RuleUse.TheVariants as rule
-use Rattle.written_refutation.specs.Trees.{OnePlace, False, Refl, ImpPos, ImpNeg, BoolPos, BoolNeg, FunPos, FunNeg, AllNeg, Dec, TwoPlaces, Close, Mat, Con, OfPredicate, Cho, Des}
+use Rattle.tableau_calculus.specs.Literals.{Literal}
+use Rattle.tableau_calculus.specs.Witnesses.{Row}
+use Rattle.tableau_calculus.specs.Rules.{Rule, places, AreAt, IsInstance, false_rule, close_rule, refl_rule, imp_pos_rule, imp_neg_rule, bool_pos_rule, bool_neg_rule, fun_pos_rule, fun_neg_rule, all_pos_rule, all_neg_rule, mat_rule, dec_rule, con_rule, cho_rule, des_rule, cut_rule}
+use Rattle.tableau_calculus.specs.declared.refutation.RuleUse.{RuleUse}
+use Rattle.tableau_calculus.specs.declared.refutation.RuleUse.TheVariants as rule
+use Rattle.refute_print.specs.Trees.{OnePlace, False, Refl, ImpPos, ImpNeg, BoolPos, BoolNeg, FunPos, FunNeg, AllNeg, Dec, TwoPlaces, Close, Mat, Con, OfPredicate, Cho, Des}
 use Rattle.term_bank.specs.Content.{HasTerm}
 use Rattle.term_bank.proofs.GrowLaws.{has_within, has_at}
 use Rattle.literal_map.specs.declared.instance.BankUse.{BankUse}
@@ -20,8 +20,8 @@ use Rattle.tableau_rules.specs.Uses.{use_of, principals_of}
 use Rattle.refute_check.specs.Numbered.{numbered_one_place, numbered_two_places, numbered_of_predicate}
 use Rattle.refute_check.specs.declared.shared.Shared.{Shared}
 use Rattle.refute_check.specs.declared.taking.Taking.TheVariants.{Missing, By}
-use Rattle.refute_check.specs.Means.Shared.{literal_in, IsNumber, AreNumbersOf, HasPredicate}
-use Rattle.refute_check.specs.Means.Taking.{kind_of_one, kind_of_two, kind_of_predicate, HasNoInstance, IsTaken, Takes}
+use Rattle.refute_check.specs.Internal.Shared.{literal_in, IsNumber, AreNumbersOf, HasPredicate}
+use Rattle.refute_check.specs.Internal.Taking.{kind_of_one, kind_of_two, kind_of_predicate, HasNoInstance, IsTaken, Takes}
 use Rattle.refute_check.proofs.SharedLaws.{each_at}
 
 -- the rule with its principals at other places

@@ -6,10 +6,10 @@ use Rattle.stt_core.specs.Lambda as lambda
 use Rattle.stt_core.specs.View.{the_head}
 use Rattle.stt_core.specs.declared.nf.Head.{Head}
 use Rattle.stt_core.specs.declared.nf.Head.TheVariants as head
-use Rattle.written_refutation.specs.Trees.{TypeTree, TermTree, app}
-use Rattle.written_refutation.specs.Trees as tree
-use Rattle.written_refutation.specs.Means.TreeSizes.{applied, node_count, counts}
-use Rattle.written_refutation.specs.Named.{Names}
+use Rattle.refute_print.specs.Trees.{TypeTree, TermTree, app}
+use Rattle.refute_print.specs.Trees as tree
+use Rattle.refute_print.specs.Internal.TreeSizes.{applied, node_count, counts}
+use Rattle.refute_print.specs.Named.{Names}
 use Rattle.refute_check.specs.Numbered.{numbered_type, numbered_term, argument_type}
 
 pub numbered_term-applied : (names : Names) (h : TermTree) (us : List TermTree) → numbered_term names (applied h us) ≡ lambda.applied (numbered_term names h) (map (numbered_term names) us)

@@ -2,13 +2,13 @@
 use Rattle.std.specs.Prelude.{◌≡◌, ◌≢◌, ◌<◌, ℕ, ◌+◌, List, [], ◌∷◌, map, length, take, slice_get}
 use Rattle.stt_core.specs.Declarations.{scope_of}
 use Rattle.stt_core.specs.PlainProblem.{PlainProblem}
-use Rattle.stt_tableau.specs.Start.{start}
-use Rattle.stt_tableau.specs.Accepted.{IsAccepted}
-use Rattle.stt_tableau.specs.declared.refutation.Why.{Why}
-use Rattle.stt_tableau.specs.declared.refutation.Why.TheVariants.{Defs}
+use Rattle.tableau_calculus.specs.Start.{start}
+use Rattle.tableau_calculus.specs.Accepted.{IsAccepted}
+use Rattle.tableau_calculus.specs.declared.refutation.Why.{Why}
+use Rattle.tableau_calculus.specs.declared.refutation.Why.TheVariants.{Defs}
 use Rattle.delta_defs.specs.Unfolding.{taken_names, unfolded_problem}
-use Rattle.written_refutation.specs.Trees.{RefutationTree}
-use Rattle.written_refutation.specs.Named.{names_of, name_at}
+use Rattle.refute_print.specs.Trees.{RefutationTree}
+use Rattle.refute_print.specs.Named.{names_of, name_at}
 use Rattle.refute_check.specs.Numbered.{numbered_refutation}
 use Rattle.refute_check.specs.Refusal.{FailsAt}
 

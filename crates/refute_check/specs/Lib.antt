@@ -1,4 +1,4 @@
 pub mod Numbered
 pub mod Refusal
 pub mod Acceptance
-pub mod Means
+pub mod Internal

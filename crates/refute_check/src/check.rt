@@ -6,19 +6,19 @@ ghost use Rattle.stt_core.specs.Lambda.{Lambda};
 ghost use Rattle.stt_core.specs.ScopeView.{the_scope};
 ghost use Rattle.stt_core.specs.TypedProblem.{IsTyped};
 ghost use Rattle.stt_core.specs.Declarations.{scope_of};
-ghost use Rattle.stt_tableau.specs.Literals.{Literal};
-ghost use Rattle.stt_tableau.specs.Witnesses.{IsTable};
-ghost use Rattle.stt_tableau.specs.Start.{start};
-ghost use Rattle.stt_tableau.specs.Accepted.{EndsWithin, IsAccepted, FirstFailure};
-ghost use Rattle.stt_tableau.specs.Refused.{IfRefused};
-ghost use Rattle.written_refutation.specs.TextView.{the_text, IsNumbered};
-ghost use Rattle.written_refutation.specs.Named.{names_of};
+ghost use Rattle.tableau_calculus.specs.Literals.{Literal};
+ghost use Rattle.tableau_calculus.specs.Witnesses.{IsTable};
+ghost use Rattle.tableau_calculus.specs.Start.{start};
+ghost use Rattle.tableau_calculus.specs.Accepted.{EndsWithin, IsAccepted, FirstFailure};
+ghost use Rattle.tableau_calculus.specs.Refused.{IfRefused};
+ghost use Rattle.refute_print.specs.TextView.{the_text, IsNumbered};
+ghost use Rattle.refute_print.specs.Named.{names_of};
 ghost use Rattle.refute_check.specs.Numbered.{numbered_refutation};
 ghost use Rattle.refute_check.specs.Refusal.{IfLine, FailsAt};
 ghost use Rattle.refute_check.specs.Acceptance.{IsAcceptedFor, TextFailsAt};
-ghost use Rattle.refute_check.specs.Means.Shared.{scope_in, declared_in, the_atoms, the_rows, IsGood};
-ghost use Rattle.refute_check.specs.Means.Branches.{Represents, AreNumbered, Grow, AreBranches};
-ghost use Rattle.refute_check.specs.Means.Lines.{AreRightIn};
+ghost use Rattle.refute_check.specs.Internal.Shared.{scope_in, declared_in, the_atoms, the_rows, IsGood};
+ghost use Rattle.refute_check.specs.Internal.Branches.{Represents, AreNumbered, Grow, AreBranches};
+ghost use Rattle.refute_check.specs.Internal.Lines.{AreRightIn};
 
 use crate::branch::Branch;
 use crate::definitions::check_definitions;
@@ -30,8 +30,8 @@ use crate::shared::Shared;
 use delta_defs::unfold_problem;
 use std::alloc::{AllocError, Global};
 use stt_core::{Problem, Signature};
-use stt_tableau::{PlainRefused, Why};
-use written_refutation::RefutationText;
+use tableau_calculus::{PlainRefused, Why};
+use refute_print::RefutationText;
 
 /// Declares the witnesses of the text's rows, where these are a witness table.
 fn check_rows(

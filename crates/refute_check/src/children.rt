@@ -1,19 +1,19 @@
 //! Whether the children of a line close its alternatives.
 
 ghost use Rattle.std.specs.Prelude.{◌≡◌, ◌↔◌, ◌++◌, List, map, IfOk, IsTrue, option_copied, slice_get};
-ghost use Rattle.stt_tableau.specs.Literals.{Literal};
+ghost use Rattle.tableau_calculus.specs.Literals.{Literal};
 ghost use Rattle.stt_core.specs.Lambda.{Lambda};
-ghost use Rattle.stt_tableau.specs.Accepted.{IsClosedBranch, ClosesBy, AreChildren};
-ghost use Rattle.stt_tableau.specs.declared.refutation.Line.{Line};
-ghost use Rattle.search_run.specs.Each.{Each};
-ghost use Rattle.refute_check.specs.Means.Branches.{Represents, AreNumbered, AreBranches};
-ghost use Rattle.refute_check.specs.Means.Shared.{the_atoms, literal_in, IsGood, IsNumber};
+ghost use Rattle.tableau_calculus.specs.Accepted.{IsClosedBranch, ClosesBy, AreChildren};
+ghost use Rattle.tableau_calculus.specs.declared.refutation.Line.{Line};
+ghost use Rattle.search_spec.specs.Each.{Each};
+ghost use Rattle.refute_check.specs.Internal.Branches.{Represents, AreNumbered, AreBranches};
+ghost use Rattle.refute_check.specs.Internal.Shared.{the_atoms, literal_in, IsGood, IsNumber};
 
 use crate::branch::Branch;
 use crate::shared::Shared;
 use literal_map::LitLists;
 use std::alloc::{AllocError, Global};
-use stt_tableau::{Child, Children};
+use tableau_calculus::{Child, Children};
 
 /// The branch of a line.
 pub(crate) fn branch_at(earlier: &[Branch], j: usize) -> Option<&Branch>

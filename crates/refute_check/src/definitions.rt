@@ -3,9 +3,9 @@
 ghost use Rattle.std.specs.Prelude.{◌≡◌, ℕ, ◌+◌, ◌^◌, ◌<◌, ◌≤◌, ◌↔◌, Some, map, length, slice_get, IsTrue, OnOk, IfErr, IfSome, IfNone};
 ghost use Rattle.std.specs.List.{AllByRecursion};
 ghost use Rattle.stt_core.specs.TypedProblem.{IsTyped};
-ghost use Rattle.stt_tableau.specs.declared.refutation.Why.TheVariants.{Defs};
-ghost use Rattle.written_refutation.specs.Named.{names_of, name_at};
-ghost use Rattle.written_refutation.specs.TextView.{IsNumbered};
+ghost use Rattle.tableau_calculus.specs.declared.refutation.Why.TheVariants.{Defs};
+ghost use Rattle.refute_print.specs.Named.{names_of, name_at};
+ghost use Rattle.refute_print.specs.TextView.{IsNumbered};
 ghost use Rattle.refute_check.specs.Acceptance.{taken_texts, DifferFirst};
 ghost use Rattle.refute_check.specs.Refusal.{IfLine};
 
@@ -13,8 +13,8 @@ use crate::refusal::CheckRefused;
 use delta_defs::{NameIds, taken};
 use std::alloc::Global;
 use stt_core::{Problem, Signature};
-use stt_tableau::Why;
-use written_refutation::{RefutationText, TextNames};
+use tableau_calculus::Why;
+use refute_print::{RefutationText, TextNames};
 
 /// The name of the constant at a place of the list.
 fn taken_name<'a>(sig: &'a Signature, taken: &NameIds, i: usize) -> &'a [u8]

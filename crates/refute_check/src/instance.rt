@@ -1,10 +1,10 @@
 //! The instances of rules.
 
 ghost use Rattle.std.specs.Prelude.{◌≡◌, ◌<◌, ◌^◌, List, length, None, OnOk, IfOk, IfSome};
-ghost use Rattle.stt_tableau.specs.Literals.{Literal};
-ghost use Rattle.stt_tableau.specs.declared.refutation.RuleUse.{RuleUse};
-ghost use Rattle.refute_check.specs.Means.Shared.{IsGood, Extends};
-ghost use Rattle.refute_check.specs.Means.Taking.{IsTaken, Finds};
+ghost use Rattle.tableau_calculus.specs.Literals.{Literal};
+ghost use Rattle.tableau_calculus.specs.declared.refutation.RuleUse.{RuleUse};
+ghost use Rattle.refute_check.specs.Internal.Shared.{IsGood, Extends};
+ghost use Rattle.refute_check.specs.Internal.Taking.{IsTaken, Finds};
 
 use crate::shared::Shared;
 use literal_map::{BankUse, Instance};

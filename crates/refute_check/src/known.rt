@@ -1,11 +1,11 @@
 //! Branches of numbered literals.
 
 ghost use Rattle.std.specs.Prelude.{◌≡◌, map, OnOk, IfOk, slice_get};
-ghost use Rattle.search_run.specs.Each.{Each};
+ghost use Rattle.search_spec.specs.Each.{Each};
 ghost use Rattle.refute_check.specs.Numbered.{numbered_literal};
-ghost use Rattle.refute_check.specs.Means.Branches.{Represents, AreNumbered};
-ghost use Rattle.refute_check.specs.Means.Seen.{IsSeen};
-ghost use Rattle.refute_check.specs.Means.Shared.{the_atoms, literal_in, IsGood, IsNumber, Extends, NumbersBranch};
+ghost use Rattle.refute_check.specs.Internal.Branches.{Represents, AreNumbered};
+ghost use Rattle.refute_check.specs.Internal.Seen.{IsSeen};
+ghost use Rattle.refute_check.specs.Internal.Shared.{the_atoms, literal_in, IsGood, IsNumber, Extends, NumbersBranch};
 
 use crate::branch::Branch;
 use crate::numbering::Numbering;
@@ -15,7 +15,7 @@ use literal_map::LitList;
 use sat_base::SatLit;
 use std::alloc::{AllocError, Global};
 use term_bank::equal_ids_for_equal_terms;
-use written_refutation::TextLits;
+use refute_print::TextLits;
 
 /// The literal at a place of the list.
 pub(crate) fn literal_at(list: &LitList, i: usize) -> Option<SatLit>

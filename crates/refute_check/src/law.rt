@@ -5,10 +5,10 @@ ghost use Rattle.stt_core.specs.Meaning.{Model, IsModel};
 ghost use Rattle.stt_core.specs.Declarations.{scope_of};
 ghost use Rattle.stt_core.specs.TypedProblem.{IsTyped};
 ghost use Rattle.stt_core.specs.Meets.{MeetsProblem};
-ghost use Rattle.stt_tableau.specs.Start.{start};
-ghost use Rattle.stt_tableau.specs.declared.refutation.Why.{Why};
+ghost use Rattle.tableau_calculus.specs.Start.{start};
+ghost use Rattle.tableau_calculus.specs.declared.refutation.Why.{Why};
 ghost use Rattle.delta_defs.specs.Unfolding.{unfolded_problem};
-ghost use Rattle.written_refutation.specs.Trees.{RefutationTree};
+ghost use Rattle.refute_print.specs.Trees.{RefutationTree};
 ghost use Rattle.refute_check.specs.Acceptance.{taken_texts, NamesDefinitions, refuted_problem, IsAcceptedFor, TextFailsAt};
 
 use stt_core::Problem;

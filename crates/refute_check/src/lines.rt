@@ -2,15 +2,15 @@
 
 ghost use Rattle.std.specs.Prelude.{◌≡◌, ◌↔◌, ◌++◌, [], ◌∷◌, None, Some, List, slice_get, IsTrue, IfOk, OnOk, IfSome};
 ghost use Rattle.stt_core.specs.Lambda.{Lambda};
-ghost use Rattle.stt_tableau.specs.Literals.{Literal};
-ghost use Rattle.stt_tableau.specs.Accepted.{Within};
-ghost use Rattle.stt_tableau.specs.Means.Answers.{LineAnswer};
-ghost use Rattle.stt_tableau.specs.declared.refutation.Line.{Line as TheLine};
-ghost use Rattle.written_refutation.specs.TextView.{the_line};
+ghost use Rattle.tableau_calculus.specs.Literals.{Literal};
+ghost use Rattle.tableau_calculus.specs.Accepted.{Within};
+ghost use Rattle.tableau_calculus.specs.Internal.Answers.{LineAnswer};
+ghost use Rattle.tableau_calculus.specs.declared.refutation.Line.{Line as TheLine};
+ghost use Rattle.refute_print.specs.TextView.{the_line};
 ghost use Rattle.refute_check.specs.Numbered.{numbered_line};
-ghost use Rattle.refute_check.specs.Means.Branches.{Represents, AreNumbered, AreBranches};
-ghost use Rattle.refute_check.specs.Means.Seen.{IsSeen};
-ghost use Rattle.refute_check.specs.Means.Shared.{scope_in, the_atoms, the_rows, IsGood, Extends};
+ghost use Rattle.refute_check.specs.Internal.Branches.{Represents, AreNumbered, AreBranches};
+ghost use Rattle.refute_check.specs.Internal.Seen.{IsSeen};
+ghost use Rattle.refute_check.specs.Internal.Shared.{scope_in, the_atoms, the_rows, IsGood, Extends};
 
 use crate::branch::Branch;
 use crate::children::{are_children, branch_at};
@@ -19,8 +19,8 @@ use crate::seen::Seen;
 use crate::shared::Shared;
 use crate::taking::Taking;
 use std::alloc::{AllocError, Global};
-use stt_tableau::Why;
-use written_refutation::TextLine;
+use tableau_calculus::Why;
+use refute_print::TextLine;
 
 /// The branches of the lines that are right.
 #[derive(Drop)]

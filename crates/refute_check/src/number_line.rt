@@ -2,7 +2,7 @@
 
 ghost use Rattle.std.specs.Prelude.{◌≡◌, IfOk, IfSome, IfNone, true};
 ghost use Rattle.stt_core.specs.View.{the_type};
-ghost use Rattle.stt_tableau.specs.Literals.{is_negated};
+ghost use Rattle.tableau_calculus.specs.Literals.{is_negated};
 ghost use Rattle.refute_check.specs.Numbered.{numbered_term, numbered_row, numbered_literal};
 ghost use Rattle.refute_check.specs.Numbered.{argument_type as type_of_argument};
 
@@ -10,8 +10,8 @@ use crate::number_term::number_term;
 use crate::numbering::Numbering;
 use std::alloc::{AllocError, Global};
 use stt_core::{Nf, Ty};
-use stt_tableau::{Lit, Shape, WitnessRow, shape_of};
-use written_refutation::{TextLit, TextTerm};
+use tableau_calculus::{Lit, Shape, WitnessRow, shape_of};
+use refute_print::{TextLit, TextTerm};
 
 /// The type of a function's argument, or else that of formulas.
 fn argument_type(alloc: Global, nf: &Nf) -> Result<Ty, AllocError>

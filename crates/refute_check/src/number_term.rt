@@ -3,14 +3,14 @@
 ghost use Rattle.std.specs.Prelude.{◌≡◌, ◌+◌, IfOk, map};
 ghost use Rattle.stt_core.specs.Lambda.{lambdas};
 ghost use Rattle.stt_core.specs.View.{the_type as plain_type, the_head as plain_head};
-ghost use Rattle.written_refutation.specs.View.{the_type};
-ghost use Rattle.written_refutation.specs.TreeView.{the_head};
+ghost use Rattle.refute_print.specs.View.{the_type};
+ghost use Rattle.refute_print.specs.TreeView.{the_head};
 ghost use Rattle.refute_check.specs.Numbered.{numbered_type, numbered_term};
 
 use crate::numbering::Numbering;
 use std::alloc::{AllocError, Global};
 use stt_core::{Head, Nf, Nfs, Ty, Types};
-use written_refutation::{TextHead, TextNode, TextTerm, TextTerms, TextTy};
+use refute_print::{TextHead, TextNode, TextTerm, TextTerms, TextTy};
 
 /// The number in 32 bits. A list of more names than these can count is taken as one that doesn't fit in memory.
 fn fitting(n: usize) -> Result<u32, AllocError>

@@ -1,9 +1,9 @@
 //! The numbers of the names that a signature declares.
 
 ghost use Rattle.std.specs.Prelude.{◌≡◌, List, ℕ, IfOk, OnOk, unwrap_or, map};
-ghost use Rattle.written_refutation.specs.Named.{names_of};
+ghost use Rattle.refute_print.specs.Named.{names_of};
 ghost use Rattle.refute_check.specs.Numbered.{place_of};
-ghost use Rattle.refute_check.specs.Means.Places.{noted, noted_next, HasPlaces};
+ghost use Rattle.refute_check.specs.Internal.Places.{noted, noted_next, HasPlaces};
 
 use std::alloc::{AllocError, Global};
 use std::collections::BTreeMap;
@@ -63,8 +63,8 @@ pub(crate) struct Numbering<'a> {
 
 impl<'a> Model for Numbering<'a> {
     ghost use Rattle.std.specs.Prelude.{map};
-    ghost use Rattle.written_refutation.specs.Named.{Names, names_of};
-    ghost use Rattle.refute_check.specs.Means.Places.{HasPlaces};
+    ghost use Rattle.refute_print.specs.Named.{Names, names_of};
+    ghost use Rattle.refute_check.specs.Internal.Places.{HasPlaces};
 
     ghost Value = { Names };
 

@@ -1,7 +1,7 @@
 //! Why a check refuses.
 
 use std::alloc::AllocError;
-use stt_tableau::Why;
+use tableau_calculus::Why;
 use thiserror::Error;
 
 /// Why a text isn't accepted: the first of its lines that fails, counted from 1 in the whole file, and why; or want of memory.

@@ -3,22 +3,22 @@
 ghost use Rattle.std.specs.Prelude.{◌≡◌, ◌↔◌, ◌<◌, ◌++◌, [], ◌∷◌, length, nat_eq, false, None, IsTrue, OnOk, IfOk};
 ghost use Rattle.std.specs.List.{list_any};
 ghost use Rattle.stt_core.specs.View.{the_type};
-ghost use Rattle.stt_tableau.specs.Witnesses.{IsTypedRow};
+ghost use Rattle.tableau_calculus.specs.Witnesses.{IsTypedRow};
 ghost use Rattle.term_bank.specs.Terms.{term_at};
 ghost use Rattle.witness_names.specs.Rows.{binder_of, row_of};
-ghost use Rattle.stt_tableau.specs.Means.Answers.{RowAnswer};
+ghost use Rattle.tableau_calculus.specs.Internal.Answers.{RowAnswer};
 ghost use Rattle.refute_check.specs.Numbered.{argument_type, numbered_row};
-ghost use Rattle.refute_check.specs.Means.Branches.{Grow};
-ghost use Rattle.refute_check.specs.Means.Shared.{declared_in, the_atoms, the_rows, IsGood};
+ghost use Rattle.refute_check.specs.Internal.Branches.{Grow};
+ghost use Rattle.refute_check.specs.Internal.Shared.{declared_in, the_atoms, the_rows, IsGood};
 
 use crate::number_line::number_row;
 use crate::numbering::Numbering;
 use crate::shared::Shared;
 use std::alloc::{AllocError, Global};
 use stt_core::Ty;
-use stt_tableau::{Why, WitnessRow, is_typed_row};
+use tableau_calculus::{Why, WitnessRow, is_typed_row};
 use term_bank::{Id, equal_ids_for_equal_terms};
-use written_refutation::TextTerm;
+use refute_print::TextTerm;
 
 impl Shared {
     fn is_row(&self, alloc: Global, row: &WitnessRow) -> Result<bool, AllocError>

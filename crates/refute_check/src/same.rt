@@ -1,10 +1,10 @@
 //! Literals of a text that are the same.
 
 ghost use Rattle.std.specs.Prelude.{◌≡◌, IsTrue};
-ghost use Rattle.written_refutation.specs.View.{the_type};
-ghost use Rattle.written_refutation.specs.TreeView.{the_head, the_node};
+ghost use Rattle.refute_print.specs.View.{the_type};
+ghost use Rattle.refute_print.specs.TreeView.{the_head, the_node};
 
-use written_refutation::{TextHead, TextLit, TextNode, TextTerm, TextTerms, TextTy};
+use refute_print::{TextHead, TextLit, TextNode, TextTerm, TextTerms, TextTy};
 
 fn same_type(left: &TextTy, right: &TextTy) -> bool
     ensures { IsTrue result → the_type left.now ≡ the_type right.now }

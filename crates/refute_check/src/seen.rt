@@ -2,17 +2,17 @@
 
 ghost use Rattle.std.specs.Prelude.{◌≡◌, Some, IfOk, OnOk, IfSome, option_copied, slice_get};
 ghost use Rattle.refute_check.specs.Numbered.{numbered_literal};
-ghost use Rattle.refute_check.specs.Means.Shared.{IsGood, Extends, NumbersLiteral};
-ghost use Rattle.refute_check.specs.Means.Seen.{IsSeen, IsNoted};
+ghost use Rattle.refute_check.specs.Internal.Shared.{IsGood, Extends, NumbersLiteral};
+ghost use Rattle.refute_check.specs.Internal.Seen.{IsSeen, IsNoted};
 ghost use Rattle.refute_check.specs.declared.shared.Shared.{Shared as TheShared};
-ghost use Rattle.written_refutation.specs.Named.{Names};
+ghost use Rattle.refute_print.specs.Named.{Names};
 
 use crate::numbering::Numbering;
 use crate::same::same_literal;
 use crate::shared::Shared;
 use sat_base::SatLit;
 use std::alloc::{AllocError, Global};
-use written_refutation::TextLit;
+use refute_print::TextLit;
 
 /// A literal with its number.
 #[derive(Clone, Copy, Drop)]

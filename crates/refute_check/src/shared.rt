@@ -6,9 +6,9 @@ ghost use Rattle.stt_core.specs.ScopeView.{the_scope};
 ghost use Rattle.stt_core.specs.SimpleType.{SimpleType, predicate};
 ghost use Rattle.stt_core.specs.View.{the_type};
 ghost use Rattle.stt_core.specs.Canonical.{IsCanonical};
-ghost use Rattle.stt_tableau.specs.Literals.{IsLiteral};
+ghost use Rattle.tableau_calculus.specs.Literals.{IsLiteral};
 ghost use Rattle.refute_check.specs.Numbered.{numbered_term, numbered_literal};
-ghost use Rattle.refute_check.specs.Means.Shared.{scope_in, declared_in, the_atoms, the_rows, IsGood, Extends, NumbersLiteral, HasPlace, HasPredicate};
+ghost use Rattle.refute_check.specs.Internal.Shared.{scope_in, declared_in, the_atoms, the_rows, IsGood, Extends, NumbersLiteral, HasPlace, HasPredicate};
 
 use crate::number_line::number_literal;
 use crate::number_term::number_term;
@@ -18,10 +18,10 @@ use literal_map::LitTable;
 use sat_base::SatLit;
 use std::alloc::{AllocError, Global};
 use stt_core::{Nf, Signature, Ty, Types, type_of_closed};
-use stt_tableau::{Lit, is_typed_literal};
+use tableau_calculus::{Lit, is_typed_literal};
 use term_bank::{Bank, Id};
 use witness_names::Witnesses;
-use written_refutation::{TextLit, TextTerm};
+use refute_print::{TextLit, TextTerm};
 
 /// A bank, with numbers for atoms and for the predicates of witnesses. The types of the witnesses stand in a list of their own too.
 #[derive(Drop)]

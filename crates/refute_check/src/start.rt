@@ -5,9 +5,9 @@ ghost use Rattle.stt_core.specs.View.{the_term};
 ghost use Rattle.stt_core.specs.Typing.{IsScope};
 ghost use Rattle.stt_core.specs.TypedProblem.{IsFormula, AreFormulas, IsTyped};
 ghost use Rattle.stt_core.specs.Declarations.{scope_of};
-ghost use Rattle.stt_tableau.specs.Start.{normal_literal, start};
-ghost use Rattle.refute_check.specs.Means.Branches.{Represents, AreNumbered};
-ghost use Rattle.refute_check.specs.Means.Shared.{scope_in, the_atoms, literal_in, IsGood, IsNumber, Extends, AreNumbersOf};
+ghost use Rattle.tableau_calculus.specs.Start.{normal_literal, start};
+ghost use Rattle.refute_check.specs.Internal.Branches.{Represents, AreNumbered};
+ghost use Rattle.refute_check.specs.Internal.Shared.{scope_in, the_atoms, literal_in, IsGood, IsNumber, Extends, AreNumbersOf};
 
 use crate::branch::Branch;
 use crate::shared::Shared;

@@ -1,21 +1,21 @@
 //! What the rules of a text take, by numbers.
 
 ghost use Rattle.std.specs.Prelude.{◌≡◌, List, OnOk, IfOk};
-ghost use Rattle.stt_tableau.specs.Literals.{Literal};
-ghost use Rattle.written_refutation.specs.LineView.{the_rule};
-ghost use Rattle.written_refutation.specs.Trees.{OnePlace, TwoPlaces, OfPredicate};
+ghost use Rattle.tableau_calculus.specs.Literals.{Literal};
+ghost use Rattle.refute_print.specs.LineView.{the_rule};
+ghost use Rattle.refute_print.specs.Trees.{OnePlace, TwoPlaces, OfPredicate};
 ghost use Rattle.refute_check.specs.Numbered.{numbered_rule, numbered_one_place, numbered_two_places, numbered_of_predicate, numbered_term, numbered_literal};
-ghost use Rattle.refute_check.specs.Means.Shared.{AreNumbersOf, IsGood, Extends};
-ghost use Rattle.refute_check.specs.Means.Taking.{kind_of_one, kind_of_two, kind_of_predicate, Takes};
+ghost use Rattle.refute_check.specs.Internal.Shared.{AreNumbersOf, IsGood, Extends};
+ghost use Rattle.refute_check.specs.Internal.Taking.{kind_of_one, kind_of_two, kind_of_predicate, Takes};
 ghost use Rattle.refute_check.specs.declared.shared.Shared.{Shared as TheShared};
-ghost use Rattle.stt_tableau.specs.declared.refutation.RuleUse.TheVariants.{AllPos as AllPosOf, Cut as CutOf};
+ghost use Rattle.tableau_calculus.specs.declared.refutation.RuleUse.TheVariants.{AllPos as AllPosOf, Cut as CutOf};
 
 use crate::known::literal_at;
 use crate::numbering::Numbering;
 use crate::shared::Shared;
 use literal_map::{BankUse, LitList, RuleKind};
 use std::alloc::{AllocError, Global};
-use written_refutation::{TextLit, TextRule, TextTerm};
+use refute_print::{TextLit, TextRule, TextTerm};
 
 /// What a rule takes, where that is typed and its principals stand at its places.
 #[derive(Clone, Copy)]

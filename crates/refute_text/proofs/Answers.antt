@@ -3,7 +3,7 @@ use Rattle.std.proofs.Common.{◌≡◌, ℕ, ◌&&◌, nat_eq, true, false, Lis
 use Rattle.std.specs.List.{starts_with}
 use Rattle.std.proofs.lemmas.Bool.{eq-eqb}
 use Rattle.std.proofs.lemmas.List.{drop_at}
-use Rattle.refute_text.specs.Means.Reader.{◌>>=◌, behind, by_front}
+use Rattle.refute_text.specs.Internal.Reader.{◌>>=◌, behind, by_front}
 
 pub bind_gives : {A B : Type 0} (o : Option A) (f : A → Option B) (x : A) (y : B) → o ≡ Some x → f x ≡ Some y → (o >>= f) ≡ Some y
 bind_gives o f x y e k = ap (λ p. p >>= f) e ∙ k

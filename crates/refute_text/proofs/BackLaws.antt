@@ -1,7 +1,7 @@
 -- Texts are read back.
 use Rattle.std.proofs.Common.{◌≡◌, ℕ, List, [], ◌∷◌, ◌++◌, refl, sym, ap, ◌∙◌, append_assoc, append-nil}
-use Rattle.written_refutation.specs.Trees.{RefutationTree}
-use Rattle.written_refutation.specs.Text.{text_lines, as_bytes}
+use Rattle.refute_print.specs.Trees.{RefutationTree}
+use Rattle.refute_print.specs.Text.{text_lines, as_bytes}
 use Rattle.outside.specs.Lines.{lines_of}
 use Rattle.refute_text.specs.Reading.{HasText, ReadsAs, TextStands}
 use Rattle.refute_text.proofs.LineFeeds.{lines_of-as_bytes}

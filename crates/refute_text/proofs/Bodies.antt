@@ -2,17 +2,17 @@
 use Rattle.std.proofs.Common.{◌≡◌, ℕ, suc, ◌+◌, ◌-◌, ◌≤◌, false, List, [], ◌∷◌, ◌++◌, length, map, Option, Some, None, option_map, codes, refl, sym, ap, ap₂, subst, ◌∙◌, arith, length-append, Result, Ok, Err, IfOk, IfErr, IfSome}
 use Rattle.std.specs.List.{AllByRecursion}
 use Rattle.std.proofs.lemmas.List.{length-map}
-use Rattle.written_refutation.specs.Trees.{TermTree, LineTree, RefutationTree}
-use Rattle.written_refutation.specs.Text.{version_text, definition_text, row_texts, line_texts, text_lines}
-use Rattle.written_refutation.specs.TextView.{the_line, the_text, IsNumbered}
-use Rattle.written_refutation.specs.declared.line.RefutationText.{RefutationText}
+use Rattle.refute_print.specs.Trees.{TermTree, LineTree, RefutationTree}
+use Rattle.refute_print.specs.Text.{version_text, definition_text, row_texts, line_texts, text_lines}
+use Rattle.refute_print.specs.TextView.{the_line, the_text, IsNumbered}
+use Rattle.refute_print.specs.declared.line.RefutationText.{RefutationText}
 use Rattle.outside.specs.Lines.{lines_of}
 use Rattle.refute_text.specs.Reading.{is_end, IsName, HasText, IsFront, IsText, HoldsText, TextReading, read, bad_line, no_start, no_end, ReadsText}
 use Rattle.refute_text.specs.Answered.{reading_of}
-use Rattle.refute_text.specs.Means.Places.{BehindStart, RefusesBehind, nothing}
+use Rattle.refute_text.specs.Internal.Places.{BehindStart, RefusesBehind, nothing}
 use Rattle.refute_text.specs.declared.refusal.TextRefused.{TextRefused}
 use Rattle.refute_text.specs.declared.refusal.TextRefused.TheVariants.{BadLine, NoStart, NoEnd, Memory}
-use Rattle.refute_text.specs.Means.LineReader.{definition_at}
+use Rattle.refute_text.specs.Internal.LineReader.{definition_at}
 use Rattle.refute_text.proofs.DefinitionLines.{definition_reads, definition_at-text}
 use Rattle.refute_text.proofs.Fronts.{front-text, first-same, rest-same, versions_differ}
 use Rattle.refute_text.proofs.ReadingLaws.{reading-same}

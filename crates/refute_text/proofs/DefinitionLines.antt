@@ -1,10 +1,10 @@
 -- The lines of definitions.
 use Rattle.std.proofs.Common.{◌≡◌, ℕ, true, List, [], ◌++◌, Some, codes, refl, sym, ap, ◌∙◌, append-nil}
-use Rattle.thf_syntax.specs.Names.{name_text}
-use Rattle.written_refutation.specs.Letters.{is_name}
-use Rattle.written_refutation.specs.Text.{definition_text}
-use Rattle.refute_text.specs.Means.Reader.{behind, name_at}
-use Rattle.refute_text.specs.Means.LineReader.{end_at, definition_at}
+use Rattle.thf_names.specs.Names.{name_text}
+use Rattle.refute_print.specs.Letters.{is_name}
+use Rattle.refute_print.specs.Text.{definition_text}
+use Rattle.refute_text.specs.Internal.Reader.{behind, name_at}
+use Rattle.refute_text.specs.Internal.LineReader.{end_at, definition_at}
 use Rattle.refute_text.proofs.Inversions.{bind_sound, behind_some}
 use Rattle.refute_text.proofs.Answers.{bind_gives}
 use Rattle.refute_text.proofs.NameReads.{name_reads}

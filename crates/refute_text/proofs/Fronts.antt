@@ -1,10 +1,10 @@
 -- The lines with which a text begins.
 use Rattle.std.proofs.Common.{◌≡◌, ℕ, suc, ◌+◌, ◌^◌, ◌<◌, ◌≤◌, ◌||◌, ◌⊎◌, inl, inr, nat_eq, Bool, true, false, List, [], ◌∷◌, ◌++◌, length, map, get_or, codes, refl, sym, ap, ap₂, subst, ◌∙◌, append_assoc, append-nil, arith}
 use Rattle.std.specs.List.{AllByRecursion, list_any, starts_with}
-use Rattle.written_refutation.specs.Letters.{is_name}
-use Rattle.written_refutation.specs.Trees.{TermTree, LineTree, RefutationTree}
-use Rattle.written_refutation.specs.Text.{version_text, definition_text, rule_text, branch_text, children_text, row_text, line_text, row_texts, line_texts, text_lines}
-use Rattle.written_refutation.specs.Limits.{IsWithin, IsLine}
+use Rattle.refute_print.specs.Letters.{is_name}
+use Rattle.refute_print.specs.Trees.{TermTree, LineTree, RefutationTree}
+use Rattle.refute_print.specs.Text.{version_text, definition_text, rule_text, branch_text, children_text, row_text, line_text, row_texts, line_texts, text_lines}
+use Rattle.refute_print.specs.Limits.{IsWithin, IsLine}
 use Rattle.refute_text.specs.Reading.{is_end, IsName, HasText, IsFront}
 use Rattle.refute_text.proofs.LineReads.{IsRowText, IsLineText}
 use Rattle.refute_text.proofs.DefinitionLines.{IsDefinitionText}

@@ -2,16 +2,16 @@
 use Rattle.std.proofs.Common.{◌≡◌, ℕ, suc, ◌+◌, ◌<◌, inl, inr, true, false, List, [], ◌∷◌, ◌++◌, Option, Some, None, length, map, refl, sym, ap, ap₂, subst, ◌∙◌, append_assoc, append-nil, arith, length-append}
 use Rattle.std.specs.List.{AllByRecursion}
 use Rattle.std.proofs.lemmas.List.{length-map, map_push}
-use Rattle.written_refutation.specs.Trees.{TermTree, LineTree, RefutationTree}
-use Rattle.written_refutation.specs.Text.{version_text, definition_text, row_text, line_text, row_texts, line_texts, text_lines}
-use Rattle.written_refutation.specs.Limits.{IsWithin, IsLine}
-use Rattle.written_refutation.specs.TextView.{the_line, the_text}
-use Rattle.written_refutation.specs.declared.line.TextLine.{TextLine}
-use Rattle.written_refutation.specs.declared.line.RefutationText.{RefutationText}
-use Rattle.refute_text.specs.Means.LineReader.{definition_at, row_at, line_at}
+use Rattle.refute_print.specs.Trees.{TermTree, LineTree, RefutationTree}
+use Rattle.refute_print.specs.Text.{version_text, definition_text, row_text, line_text, row_texts, line_texts, text_lines}
+use Rattle.refute_print.specs.Limits.{IsWithin, IsLine}
+use Rattle.refute_print.specs.TextView.{the_line, the_text}
+use Rattle.refute_print.specs.declared.line.TextLine.{TextLine}
+use Rattle.refute_print.specs.declared.line.RefutationText.{RefutationText}
+use Rattle.refute_text.specs.Internal.LineReader.{definition_at, row_at, line_at}
 use Rattle.refute_text.specs.Reading.{IsName, HasText, IsFront}
-use Rattle.refute_text.specs.Means.Refusals.{IsRefusal}
-use Rattle.refute_text.specs.Means.Places.{IfForm, MayDefine}
+use Rattle.refute_text.specs.Internal.Refusals.{IsRefusal}
+use Rattle.refute_text.specs.Internal.Places.{IfForm, MayDefine}
 use Rattle.refute_text.specs.declared.refusal.Refusal.{Refusal}
 use Rattle.refute_text.specs.declared.refusal.Refusal.TheVariants.{Form, Memory}
 use Rattle.refute_text.proofs.DefinitionLines.{definition_reads, definition_at-text}

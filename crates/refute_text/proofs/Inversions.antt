@@ -2,7 +2,7 @@
 use Rattle.std.proofs.Common.{◌≡◌, ℕ, nat_eq, Bool, true, false, List, [], ◌∷◌, ◌++◌, Option, Some, None, length, drop, refl, sym, ap, ap₂, ◌∙◌, if◌then◌else◌}
 use Rattle.std.specs.List.{starts_with}
 use Rattle.std.proofs.lemmas.Bool.{and_parts, eqb-true}
-use Rattle.refute_text.specs.Means.Reader.{◌>>=◌, behind, by_front, front, after}
+use Rattle.refute_text.specs.Internal.Reader.{◌>>=◌, behind, by_front, front, after}
 
 -- a value and what follows it
 abbrev pub found : {A B : Type 0} → A → B → Option (A × B)

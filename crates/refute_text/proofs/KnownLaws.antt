@@ -11,12 +11,12 @@ use Rattle.std.proofs.lemmas.Bool.{eqb-true, or_cases}
 use Rattle.std.proofs.lemmas.Option.{same_Some, slice_get-map, slice_get-get_or}
 use Rattle.std.proofs.lemmas.List.{map-append}
 use Rattle.std.proofs.lemmas.List.Quantifiers.{position-Some}
-use Rattle.written_refutation.specs.Trees.{LiteralTree}
+use Rattle.refute_print.specs.Trees.{LiteralTree}
 use Rattle.thf_grammar.specs.Bytes.{is_word_byte}
-use Rattle.written_refutation.specs.Limits.{IsLiteral}
-use Rattle.written_refutation.specs.Text.{literal_text}
-use Rattle.refute_text.specs.Means.Known.{ends_literal, AreTexts}
-use Rattle.refute_text.specs.Means.LineReader.{literal_at}
+use Rattle.refute_print.specs.Limits.{IsLiteral}
+use Rattle.refute_print.specs.Text.{literal_text}
+use Rattle.refute_text.specs.Internal.Known.{ends_literal, AreTexts}
+use Rattle.refute_text.specs.Internal.LineReader.{literal_at}
 use Rattle.refute_text.proofs.NameBack.{stops}
 use Rattle.refute_text.proofs.LiteralBack.{literal_at-text}
 

@@ -1,13 +1,13 @@
 -- The texts of rules, rows and lines are read back.
 use Rattle.std.proofs.Common.{◌≡◌, ℕ, ◌^◌, ◌<◌, List, [], ◌++◌, Option, Some, None, codes, decimal, refl, sym, ap, ◌∙◌, append_assoc, append-nil, arith, if◌then◌else◌}
 use Rattle.std.proofs.lemmas.Bool.{eq-eqb}
-use Rattle.stt_tableau.specs.declared.refutation.Child.{Child}
-use Rattle.written_refutation.specs.Trees.{TermTree, LiteralTree, OnePlace, False, Refl, ImpPos, ImpNeg, BoolPos, BoolNeg, FunPos, FunNeg, AllNeg, Dec, TwoPlaces, Close, Mat, Con, OfPredicate, Cho, Des, RuleTree, at_one, at_two, with_instance, with_predicate, with_cut, LineTree}
-use Rattle.written_refutation.specs.Text.{term_text, literal_text, rule_text, row_text, branch_text, children_text, line_text}
-use Rattle.written_refutation.specs.Limits.{greatest_depth, IsWithin, IsLiteral, IsRule, IsLine}
-use Rattle.refute_text.specs.Means.Reader.{number_at}
-use Rattle.refute_text.specs.Means.TermReader.{term_at}
-use Rattle.refute_text.specs.Means.LineReader.{literal_at, child_at, items_at, place_at, one_place_at, places_at, two_places_at, instance_at, predicate_at, cut_at, one_place_rule_at, rule_at, where_number, row_at, children_at, behind_rule_at, lists_at, line_at}
+use Rattle.tableau_calculus.specs.declared.refutation.Child.{Child}
+use Rattle.refute_print.specs.Trees.{TermTree, LiteralTree, OnePlace, False, Refl, ImpPos, ImpNeg, BoolPos, BoolNeg, FunPos, FunNeg, AllNeg, Dec, TwoPlaces, Close, Mat, Con, OfPredicate, Cho, Des, RuleTree, at_one, at_two, with_instance, with_predicate, with_cut, LineTree}
+use Rattle.refute_print.specs.Text.{term_text, literal_text, rule_text, row_text, branch_text, children_text, line_text}
+use Rattle.refute_print.specs.Limits.{greatest_depth, IsWithin, IsLiteral, IsRule, IsLine}
+use Rattle.refute_text.specs.Internal.Reader.{number_at}
+use Rattle.refute_text.specs.Internal.TermReader.{term_at}
+use Rattle.refute_text.specs.Internal.LineReader.{literal_at, child_at, items_at, place_at, one_place_at, places_at, two_places_at, instance_at, predicate_at, cut_at, one_place_rule_at, rule_at, where_number, row_at, children_at, behind_rule_at, lists_at, line_at}
 use Rattle.refute_text.proofs.Inversions.{found}
 use Rattle.refute_text.proofs.Answers.{bind_gives}
 use Rattle.refute_text.proofs.NameBack.{number_at-decimal}

@@ -2,8 +2,8 @@
 use Rattle.std.proofs.Common.{◌≡◌, ℕ, ◌==◌, not, Bool, true, false, List, [], ◌∷◌, ◌++◌, ◌<◌, length, drop, refl, sym, ap, ap₂, ◌∙◌, append_assoc, arith, if◌then◌else◌}
 use Rattle.std.specs.List.{list_all, onto_first}
 use Rattle.std.proofs.lemmas.Bool.{and_parts, not-true}
-use Rattle.written_refutation.specs.Text.{as_bytes}
-use Rattle.refute_text.specs.Means.Reader.{front, after, is_no_feed}
+use Rattle.refute_print.specs.Text.{as_bytes}
+use Rattle.refute_text.specs.Internal.Reader.{front, after, is_no_feed}
 use Rattle.outside.specs.Lines.{lines_of}
 use Rattle.refute_text.specs.Reading.{AreLines}
 

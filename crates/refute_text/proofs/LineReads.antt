@@ -2,13 +2,13 @@
 use Rattle.std.proofs.Common.{◌≡◌, ℕ, zero, suc, ◌^◌, ◌<◌, ◌≤◌, ◌==◌, Bool, true, false, List, [], ◌∷◌, ◌++◌, Option, Some, None, length, map, codes, decimal, refl, sym, ap, ap₂, subst, ◌∙◌, append_assoc, append-nil, arith, if◌then◌else◌}
 use Rattle.std.specs.List.{AllByRecursion}
 use Rattle.std.proofs.lemmas.Bool.{eqb-true}
-use Rattle.stt_tableau.specs.declared.refutation.Child.{Child}
-use Rattle.written_refutation.specs.Trees.{TermTree, LiteralTree, RuleTree, LineTree}
-use Rattle.written_refutation.specs.Text.{term_text, literal_text, child_text, after_commas, separated, branch_text, children_text, rule_text, row_text, line_text}
-use Rattle.written_refutation.specs.Limits.{greatest_depth, IsWithin, IsLiteral, IsRule, IsChild, IsLine}
-use Rattle.refute_text.specs.Means.Reader.{behind, number_at, with_items, repeated_at}
-use Rattle.refute_text.specs.Means.TermReader.{term_at}
-use Rattle.refute_text.specs.Means.LineReader.{literal_at, child_at, some_items_at, items_at, rule_at, where_number, end_at, row_at, branch_at, children_at, behind_rule_at, with_lists, lists_at, line_at}
+use Rattle.tableau_calculus.specs.declared.refutation.Child.{Child}
+use Rattle.refute_print.specs.Trees.{TermTree, LiteralTree, RuleTree, LineTree}
+use Rattle.refute_print.specs.Text.{term_text, literal_text, child_text, after_commas, separated, branch_text, children_text, rule_text, row_text, line_text}
+use Rattle.refute_print.specs.Limits.{greatest_depth, IsWithin, IsLiteral, IsRule, IsChild, IsLine}
+use Rattle.refute_text.specs.Internal.Reader.{behind, number_at, with_items, repeated_at}
+use Rattle.refute_text.specs.Internal.TermReader.{term_at}
+use Rattle.refute_text.specs.Internal.LineReader.{literal_at, child_at, some_items_at, items_at, rule_at, where_number, end_at, row_at, branch_at, children_at, behind_rule_at, with_lists, lists_at, line_at}
 use Rattle.refute_text.proofs.Inversions.{found, found_first, found_second, bind_sound, front_sound, behind_some}
 use Rattle.refute_text.proofs.NameReads.{number_reads}
 use Rattle.refute_text.proofs.TermReads.{with_sound, term_reads}

@@ -4,14 +4,14 @@ use Rattle.std.specs.List.{AllByRecursion, list_all, starts_with}
 use Rattle.std.proofs.lemmas.Bool.{and_parts}
 use Rattle.std.proofs.lemmas.Bool.Decides.{nat_tests}
 use Rattle.std.proofs.lemmas.Fmt.{decimal_nonempty, digits_decimal}
-use Rattle.stt_tableau.specs.declared.refutation.Child.{Child}
-use Rattle.stt_tableau.specs.declared.refutation.Child.TheVariants.{Closed, Line as Numbered}
-use Rattle.written_refutation.specs.Trees.{TermTree, LiteralTree}
-use Rattle.written_refutation.specs.Text.{term_text, sign_text, literal_text, child_text, after_commas, branch_text, children_text}
-use Rattle.written_refutation.specs.Limits.{is_negated, greatest_depth, IsWithin, IsLiteral, IsChild}
-use Rattle.refute_text.specs.Means.Reader.{behind, is_digit, number_at, with_items, repeated_at}
-use Rattle.refute_text.specs.Means.TermReader.{term_at}
-use Rattle.refute_text.specs.Means.LineReader.{read_literal, unsigned_at, signed_at, literal_at, child_at, some_items_at, items_at}
+use Rattle.tableau_calculus.specs.declared.refutation.Child.{Child}
+use Rattle.tableau_calculus.specs.declared.refutation.Child.TheVariants.{Closed, Line as Numbered}
+use Rattle.refute_print.specs.Trees.{TermTree, LiteralTree}
+use Rattle.refute_print.specs.Text.{term_text, sign_text, literal_text, child_text, after_commas, branch_text, children_text}
+use Rattle.refute_print.specs.Limits.{is_negated, greatest_depth, IsWithin, IsLiteral, IsChild}
+use Rattle.refute_text.specs.Internal.Reader.{behind, is_digit, number_at, with_items, repeated_at}
+use Rattle.refute_text.specs.Internal.TermReader.{term_at}
+use Rattle.refute_text.specs.Internal.LineReader.{read_literal, unsigned_at, signed_at, literal_at, child_at, some_items_at, items_at}
 use Rattle.refute_text.proofs.Numbers.{own}
 use Rattle.refute_text.proofs.Inversions.{found}
 use Rattle.refute_text.proofs.Answers.{bind_gives, front_skips}

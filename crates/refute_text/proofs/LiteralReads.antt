@@ -1,13 +1,13 @@
 -- The literals and children that are read stand at the front of the bytes.
 use Rattle.std.proofs.Common.{◌≡◌, ℕ, ◌^◌, ◌≤◌, Bool, true, false, List, ◌++◌, Some, None, length, codes, refl, sym, ap, ap₂, subst, ◌∙◌, append_assoc, arith, length-append, if◌then◌else◌}
-use Rattle.stt_tableau.specs.declared.refutation.Child.{Child}
-use Rattle.stt_tableau.specs.declared.refutation.Child.TheVariants.{Closed, Line as Numbered}
-use Rattle.written_refutation.specs.Trees.{TermTree, LiteralTree}
-use Rattle.written_refutation.specs.Text.{term_text, sign_text, literal_text, child_text}
-use Rattle.written_refutation.specs.Limits.{is_negated, greatest_depth, IsLiteral, IsChild}
-use Rattle.refute_text.specs.Means.Reader.{behind, number_at}
-use Rattle.refute_text.specs.Means.TermReader.{term_at}
-use Rattle.refute_text.specs.Means.LineReader.{read_literal, unsigned_at, signed_at, literal_at, child_at}
+use Rattle.tableau_calculus.specs.declared.refutation.Child.{Child}
+use Rattle.tableau_calculus.specs.declared.refutation.Child.TheVariants.{Closed, Line as Numbered}
+use Rattle.refute_print.specs.Trees.{TermTree, LiteralTree}
+use Rattle.refute_print.specs.Text.{term_text, sign_text, literal_text, child_text}
+use Rattle.refute_print.specs.Limits.{is_negated, greatest_depth, IsLiteral, IsChild}
+use Rattle.refute_text.specs.Internal.Reader.{behind, number_at}
+use Rattle.refute_text.specs.Internal.TermReader.{term_at}
+use Rattle.refute_text.specs.Internal.LineReader.{read_literal, unsigned_at, signed_at, literal_at, child_at}
 use Rattle.refute_text.proofs.Inversions.{found, found_first, found_second, bind_sound, front_sound, behind_some}
 use Rattle.refute_text.proofs.NameReads.{number_reads}
 use Rattle.refute_text.proofs.TermReads.{TermStands, term_reads}

@@ -4,7 +4,7 @@ use Rattle.std.specs.List.{list_all}
 use Rattle.std.specs.Char.{is_ascii_lowercase, is_ascii_digit, is_ascii_uppercase, is_ascii_alphanumeric}
 use Rattle.std.proofs.lemmas.Bool.{and_parts, or_left, or_right}
 use Rattle.thf_grammar.specs.Bytes.{underscore, is_word_byte}
-use Rattle.thf_syntax.specs.Names.{is_lower_word}
+use Rattle.thf_names.specs.Names.{is_lower_word}
 
 pub lower_word-bytes : (w : List ℕ) → is_lower_word w ≡ true → list_all is_word_byte w ≡ true
 lower_word-bytes [] h = cc

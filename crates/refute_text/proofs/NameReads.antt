@@ -6,9 +6,9 @@ use Rattle.std.proofs.lemmas.Bool.Decides.{nat_tests}
 use Rattle.std.proofs.lemmas.Fmt.{decimal-digits_value}
 use Rattle.thf_grammar.specs.Bytes.{is_word_byte}
 use Rattle.thf_grammar.specs.Printable.{is_printable}
-use Rattle.thf_syntax.specs.Names.{is_lower_word, escaped, quoted, name_text}
-use Rattle.written_refutation.specs.Letters.{is_name}
-use Rattle.refute_text.specs.Means.Reader.{behind, front, after, is_digit, is_decimal, number_from, number_of, number_at, with_first, characters_at, escaped_at, needs_quotes, where_quoted, plain_at, name_at}
+use Rattle.thf_names.specs.Names.{is_lower_word, escaped, quoted, name_text}
+use Rattle.refute_print.specs.Letters.{is_name}
+use Rattle.refute_text.specs.Internal.Reader.{behind, front, after, is_digit, is_decimal, number_from, number_of, number_at, with_first, characters_at, escaped_at, needs_quotes, where_quoted, plain_at, name_at}
 use Rattle.refute_text.proofs.Numbers.{own}
 use Rattle.refute_text.proofs.Readers.{list_all-front}
 use Rattle.refute_text.proofs.LowerWords.{lower_word-bytes}

@@ -1,8 +1,8 @@
 -- The head of a term with arguments.
 use Rattle.std.proofs.Common.{◌≡◌, List, [], ◌∷◌, refl}
-use Rattle.written_refutation.specs.Trees.{TermTree, app}
-use Rattle.written_refutation.specs.Limits.{is_negated}
-use Rattle.written_refutation.specs.Means.TreeSizes.{applied}
+use Rattle.refute_print.specs.Trees.{TermTree, app}
+use Rattle.refute_print.specs.Limits.{is_negated}
+use Rattle.refute_print.specs.Internal.TreeSizes.{applied}
 
 pub negated-applied : (h : TermTree) (us : List TermTree) → is_negated (applied h us) ≡ is_negated h
 negated-applied h [] = refl

@@ -4,15 +4,15 @@ use Rattle.std.specs.List.{AllByRecursion, list_all, flat_map}
 use Rattle.std.proofs.lemmas.Bool.{and_parts, not_from_false}
 use Rattle.std.proofs.lemmas.Bool.Decides.{nat_tests}
 use Rattle.std.proofs.lemmas.Fmt.{digits_decimal}
-use Rattle.stt_tableau.specs.declared.refutation.Child.{Child}
-use Rattle.stt_tableau.specs.declared.refutation.Child.TheVariants.{Closed, Line as Numbered}
+use Rattle.tableau_calculus.specs.declared.refutation.Child.{Child}
+use Rattle.tableau_calculus.specs.declared.refutation.Child.TheVariants.{Closed, Line as Numbered}
 use Rattle.thf_grammar.specs.Printable.{is_printable}
-use Rattle.thf_syntax.specs.Names.{is_lower_word, escaped, quoted, name_text}
-use Rattle.written_refutation.specs.Letters.{is_name}
-use Rattle.written_refutation.specs.Trees.{TypeTree, formula, individual, named, arrow, ConstantTree, name, witness, falsity, negation, implication, all, equality, choice, description, TermTree, bound, constant, lam, app, LiteralTree, OnePlace, False, Refl, ImpPos, ImpNeg, BoolPos, BoolNeg, FunPos, FunNeg, AllNeg, Dec, TwoPlaces, Close, Mat, Con, OfPredicate, Cho, Des, RuleTree, at_one, at_two, with_instance, with_predicate, with_cut, LineTree, RefutationTree}
-use Rattle.written_refutation.specs.Text.{version_text, definition_text, type_text, constant_text, term_text, spine_text, sign_text, literal_text, after_commas, separated, branch_text, child_text, children_text, one_place_name, two_places_name, predicate_name, rule_text, row_text, line_text, row_texts, line_texts, text_lines}
-use Rattle.written_refutation.specs.Limits.{IsType, IsConstant, IsTerm, IsSpine, IsWithin, IsLiteral, IsRule, IsChild, IsLine}
-use Rattle.refute_text.specs.Means.Reader.{is_digit}
+use Rattle.thf_names.specs.Names.{is_lower_word, escaped, quoted, name_text}
+use Rattle.refute_print.specs.Letters.{is_name}
+use Rattle.refute_print.specs.Trees.{TypeTree, formula, individual, named, arrow, ConstantTree, name, witness, falsity, negation, implication, all, equality, choice, description, TermTree, bound, constant, lam, app, LiteralTree, OnePlace, False, Refl, ImpPos, ImpNeg, BoolPos, BoolNeg, FunPos, FunNeg, AllNeg, Dec, TwoPlaces, Close, Mat, Con, OfPredicate, Cho, Des, RuleTree, at_one, at_two, with_instance, with_predicate, with_cut, LineTree, RefutationTree}
+use Rattle.refute_print.specs.Text.{version_text, definition_text, type_text, constant_text, term_text, spine_text, sign_text, literal_text, after_commas, separated, branch_text, child_text, children_text, one_place_name, two_places_name, predicate_name, rule_text, row_text, line_text, row_texts, line_texts, text_lines}
+use Rattle.refute_print.specs.Limits.{IsType, IsConstant, IsTerm, IsSpine, IsWithin, IsLiteral, IsRule, IsChild, IsLine}
+use Rattle.refute_text.specs.Internal.Reader.{is_digit}
 use Rattle.refute_text.specs.Reading.{IsName, HasText, is_one_line, AreLines}
 use Rattle.refute_text.proofs.Numbers.{own}
 

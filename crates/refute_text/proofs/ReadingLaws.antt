@@ -1,8 +1,8 @@
 -- Lines have one reading.
 use Rattle.std.proofs.Common.{◌≡◌, ℕ, ◌+◌, Bool, true, false, List, [], ◌∷◌, ◌++◌, length, refl, sym, ap, ap₂, subst, ◌∙◌, append_assoc}
 use Rattle.std.specs.List.{list_any}
-use Rattle.written_refutation.specs.Trees.{RefutationTree}
-use Rattle.written_refutation.specs.Text.{text_lines}
+use Rattle.refute_print.specs.Trees.{RefutationTree}
+use Rattle.refute_print.specs.Text.{text_lines}
 use Rattle.refute_text.specs.Reading.{is_start, is_end, IsFront, Starts, HoldsText, IsBadAt, TextReading, read, bad_line, no_start, no_end, ReadsAs, HasBadLine, HasNoEnd, ReadsText}
 use Rattle.refute_text.proofs.Fronts.{any_inside, front-append, front-text, front-without_end}
 use Rattle.refute_text.proofs.TextLaws.{text_lines-same}

@@ -1,7 +1,7 @@
 -- How the readers of repeated items go on.
 use Rattle.std.proofs.Common.{◌≡◌, ℕ, zero, suc, ◌+◌, ◌<◌, ◌≤◌, List, [], ◌∷◌, ◌++◌, Option, Some, None, length, refl, sym, ap, ◌∙◌, append_assoc, append-nil, arith, length-append}
-use Rattle.refute_text.specs.Means.Reader.{◌>>=◌, behind, by_front, with_item, with_items, repeated_at}
-use Rattle.refute_text.specs.Means.Refusals.{IsRefusal}
+use Rattle.refute_text.specs.Internal.Reader.{◌>>=◌, behind, by_front, with_item, with_items, repeated_at}
+use Rattle.refute_text.specs.Internal.Refusals.{IsRefusal}
 use Rattle.refute_text.specs.declared.refusal.Refusal.{Refusal}
 use Rattle.refute_text.specs.declared.refusal.Refusal.TheVariants.{Form, Memory}
 use Rattle.refute_text.proofs.Inversions.{found, behind_some}

@@ -1,7 +1,7 @@
 -- The texts of repeated items are read back.
 use Rattle.std.proofs.Common.{◌≡◌, ℕ, zero, suc, ◌≤◌, true, List, [], ◌∷◌, ◌++◌, Option, Some, None, length, refl, ap, ◌∙◌, append_assoc, arith, length-append}
 use Rattle.std.specs.List.{flat_map}
-use Rattle.refute_text.specs.Means.Reader.{◌>>=◌, behind, with_item, repeated_at}
+use Rattle.refute_text.specs.Internal.Reader.{◌>>=◌, behind, with_item, repeated_at}
 use Rattle.refute_text.proofs.Inversions.{found}
 use Rattle.refute_text.proofs.Answers.{bind_gives, front_gives, front_skips, behind-append}
 use Rattle.refute_text.proofs.NameBack.{stops}

@@ -1,11 +1,11 @@
 -- The rules that are read stand at the front of the bytes.
 use Rattle.std.proofs.Common.{◌≡◌, ℕ, ◌^◌, ◌<◌, List, ◌++◌, Option, Some, None, codes, decimal, sym, ap, ap₂, subst, ◌∙◌, append_assoc, arith}
-use Rattle.written_refutation.specs.Trees.{OnePlace, False, Refl, ImpPos, ImpNeg, BoolPos, BoolNeg, FunPos, FunNeg, AllNeg, Dec, TwoPlaces, Close, Mat, Con, OfPredicate, Cho, Des, RuleTree, at_one, at_two, with_instance, with_predicate, with_cut}
-use Rattle.written_refutation.specs.Text.{term_text, literal_text, one_place_name, two_places_name, predicate_name, rule_text}
-use Rattle.written_refutation.specs.Limits.{greatest_depth, IsRule}
-use Rattle.refute_text.specs.Means.Reader.{behind, by_front, number_at}
-use Rattle.refute_text.specs.Means.TermReader.{term_at}
-use Rattle.refute_text.specs.Means.LineReader.{literal_at, place_at, one_place_at, places_at, two_places_at, instance_at, predicate_at, cut_at, one_place_rule_at, rule_at}
+use Rattle.refute_print.specs.Trees.{OnePlace, False, Refl, ImpPos, ImpNeg, BoolPos, BoolNeg, FunPos, FunNeg, AllNeg, Dec, TwoPlaces, Close, Mat, Con, OfPredicate, Cho, Des, RuleTree, at_one, at_two, with_instance, with_predicate, with_cut}
+use Rattle.refute_print.specs.Text.{term_text, literal_text, one_place_name, two_places_name, predicate_name, rule_text}
+use Rattle.refute_print.specs.Limits.{greatest_depth, IsRule}
+use Rattle.refute_text.specs.Internal.Reader.{behind, by_front, number_at}
+use Rattle.refute_text.specs.Internal.TermReader.{term_at}
+use Rattle.refute_text.specs.Internal.LineReader.{literal_at, place_at, one_place_at, places_at, two_places_at, instance_at, predicate_at, cut_at, one_place_rule_at, rule_at}
 use Rattle.refute_text.proofs.Inversions.{found, found_first, found_second, bind_sound, front_sound, behind_some}
 use Rattle.refute_text.proofs.NameReads.{number_reads}
 use Rattle.refute_text.proofs.TermReads.{term_reads}

@@ -1,11 +1,11 @@
 -- The texts of terms are read back.
 use Rattle.std.proofs.Common.{◌≡◌, ℕ, zero, suc, ◌^◌, ◌<◌, ◌≤◌, true, List, [], ◌∷◌, ◌++◌, Some, length, codes, decimal, refl, sym, ap, subst, ◌∙◌, append_assoc, arith}
-use Rattle.written_refutation.specs.Trees.{TypeTree, ConstantTree, name, witness, falsity, negation, implication, all, equality, choice, description, TermTree, bound, constant, lam, app}
-use Rattle.written_refutation.specs.Means.TreeSizes.{applied}
-use Rattle.written_refutation.specs.Text.{type_text, term_text}
-use Rattle.written_refutation.specs.Limits.{IsType, type_depth, IsTerm, IsSpine, term_depth, spine_depth}
-use Rattle.refute_text.specs.Means.Reader.{behind, by_front, number_at, name_at, type_at}
-use Rattle.refute_text.specs.Means.TermReader.{TermAt, counted_at, named_head_at, bracketed_type_at, bracketed_at, dollar_head_at, head_at, arguments_at, application_at, lambda_at, no_term, term_at}
+use Rattle.refute_print.specs.Trees.{TypeTree, ConstantTree, name, witness, falsity, negation, implication, all, equality, choice, description, TermTree, bound, constant, lam, app}
+use Rattle.refute_print.specs.Internal.TreeSizes.{applied}
+use Rattle.refute_print.specs.Text.{type_text, term_text}
+use Rattle.refute_print.specs.Limits.{IsType, type_depth, IsTerm, IsSpine, term_depth, spine_depth}
+use Rattle.refute_text.specs.Internal.Reader.{behind, by_front, number_at, name_at, type_at}
+use Rattle.refute_text.specs.Internal.TermReader.{TermAt, counted_at, named_head_at, bracketed_type_at, bracketed_at, dollar_head_at, head_at, arguments_at, application_at, lambda_at, no_term, term_at}
 use Rattle.refute_text.proofs.Inversions.{found}
 use Rattle.refute_text.proofs.Answers.{bind_gives, front_skips}
 use Rattle.refute_text.proofs.NameBack.{stops, behind-name, number_at-decimal, name_at-text}

@@ -1,10 +1,10 @@
 -- Refutations with the same text are the same.
 use Rattle.std.proofs.Common.{◌≡◌, ℕ, suc, ◌+◌, ◌^◌, ◌<◌, ◌≤◌, List, [], ◌∷◌, ◌++◌, Some, length, map, refl, sym, ap, ap₂, ◌∙◌, arith}
 use Rattle.std.specs.List.{AllByRecursion}
-use Rattle.written_refutation.specs.Trees.{TermTree, LineTree, RefutationTree}
-use Rattle.written_refutation.specs.Text.{version_text, definition_text, row_text, line_text, row_texts, line_texts, text_lines}
-use Rattle.written_refutation.specs.Limits.{IsWithin, IsLine}
-use Rattle.refute_text.specs.Means.LineReader.{row_at, line_at}
+use Rattle.refute_print.specs.Trees.{TermTree, LineTree, RefutationTree}
+use Rattle.refute_print.specs.Text.{version_text, definition_text, row_text, line_text, row_texts, line_texts, text_lines}
+use Rattle.refute_print.specs.Limits.{IsWithin, IsLine}
+use Rattle.refute_text.specs.Internal.LineReader.{row_at, line_at}
 use Rattle.refute_text.specs.Reading.{IsName, HasText}
 use Rattle.refute_text.proofs.LineBack.{row_at-text, line_at-text}
 use Rattle.refute_text.proofs.DefinitionLines.{definition_text-same}

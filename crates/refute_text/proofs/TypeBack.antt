@@ -1,11 +1,11 @@
 -- The texts of types are read back.
 use Rattle.std.proofs.Common.{◌≡◌, ℕ, zero, suc, ◌≤◌, true, List, [], ◌∷◌, ◌++◌, Option, Some, codes, refl, ap, ◌∙◌, append_assoc, arith}
-use Rattle.thf_syntax.specs.Names.{name_text}
-use Rattle.written_refutation.specs.Letters.{is_name}
-use Rattle.written_refutation.specs.Trees.{TypeTree, formula, individual, named, arrow}
-use Rattle.written_refutation.specs.Text.{type_text}
-use Rattle.written_refutation.specs.Limits.{IsType, type_depth}
-use Rattle.refute_text.specs.Means.Reader.{behind, name_at, named_at, arrow_at, no_type, type_from, type_at}
+use Rattle.thf_names.specs.Names.{name_text}
+use Rattle.refute_print.specs.Letters.{is_name}
+use Rattle.refute_print.specs.Trees.{TypeTree, formula, individual, named, arrow}
+use Rattle.refute_print.specs.Text.{type_text}
+use Rattle.refute_print.specs.Limits.{IsType, type_depth}
+use Rattle.refute_text.specs.Internal.Reader.{behind, name_at, named_at, arrow_at, no_type, type_from, type_at}
 use Rattle.refute_text.proofs.Inversions.{found}
 use Rattle.refute_text.proofs.Answers.{bind_gives, front_skips}
 use Rattle.refute_text.proofs.NameBack.{stops, behind-name, name_at-text}

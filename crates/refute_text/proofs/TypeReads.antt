@@ -1,9 +1,9 @@
 -- The types that are read stand at the front of the bytes.
 use Rattle.std.proofs.Common.{◌≡◌, ℕ, zero, suc, ◌≤◌, List, ◌++◌, Option, Some, codes, sym, ap, ap₂, subst, ◌∙◌, append_assoc, arith}
-use Rattle.written_refutation.specs.Trees.{TypeTree, formula, individual, named, arrow}
-use Rattle.written_refutation.specs.Text.{type_text}
-use Rattle.written_refutation.specs.Limits.{IsType, type_depth}
-use Rattle.refute_text.specs.Means.Reader.{behind, name_at, named_at, arrow_at, no_type, type_from, type_at}
+use Rattle.refute_print.specs.Trees.{TypeTree, formula, individual, named, arrow}
+use Rattle.refute_print.specs.Text.{type_text}
+use Rattle.refute_print.specs.Limits.{IsType, type_depth}
+use Rattle.refute_text.specs.Internal.Reader.{behind, name_at, named_at, arrow_at, no_type, type_from, type_at}
 use Rattle.refute_text.proofs.Inversions.{found, found_first, found_second, bind_sound, front_sound, behind_some}
 use Rattle.refute_text.proofs.NameReads.{name_reads}
 

@@ -1,7 +1,7 @@
 -- What was answered for a text, as a reading.
 use Rattle.std.specs.Prelude.{Result, Ok, Err, Option, Some, None}
-use Rattle.written_refutation.specs.TextView.{the_text}
-use Rattle.written_refutation.specs.declared.line.RefutationText.{RefutationText}
+use Rattle.refute_print.specs.TextView.{the_text}
+use Rattle.refute_print.specs.declared.line.RefutationText.{RefutationText}
 use Rattle.refute_text.specs.Reading.{TextReading, read, bad_line, no_start, no_end}
 use Rattle.refute_text.specs.declared.refusal.TextRefused.{TextRefused}
 use Rattle.refute_text.specs.declared.refusal.TextRefused.TheVariants.{BadLine, NoStart, NoEnd, Memory}

@@ -1,3 +1,3 @@
 pub mod Reading
 pub mod Answered
-pub mod Means
+pub mod Internal

@@ -1,10 +1,10 @@
 -- How a text is read: line by line.
 use Rattle.std.specs.Prelude.{◌≡◌, ℕ, ◌+◌, ◌^◌, ◌≤◌, ◌==◌, nat_eq, not, Bool, true, false, List, [], ◌∷◌, ◌++◌, length, codes}
 use Rattle.std.specs.List.{AllByRecursion, list_all, list_any, starts_with}
-use Rattle.written_refutation.specs.Trees.{RefutationTree}
-use Rattle.written_refutation.specs.Text.{text_lines, as_bytes}
-use Rattle.written_refutation.specs.Letters.{is_name}
-use Rattle.written_refutation.specs.Limits.{IsWithin, IsLine}
+use Rattle.refute_print.specs.Trees.{RefutationTree}
+use Rattle.refute_print.specs.Text.{text_lines, as_bytes}
+use Rattle.refute_print.specs.Letters.{is_name}
+use Rattle.refute_print.specs.Limits.{IsWithin, IsLine}
 
 -- how the start line and the end line begin
 abbrev pub start_mark : List ℕ

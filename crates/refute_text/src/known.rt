@@ -1,19 +1,19 @@
 //! The literals of branches that were read, by their texts.
 
 ghost use Rattle.std.specs.Prelude.{◌≡◌, ◌<◌, ◌++◌, ◌∷◌, [], true, Some, length, slice_get, OnOk, IfOk, IfErr, IfSome, IsTrue};
-ghost use Rattle.written_refutation.specs.Trees.{LiteralTree};
-ghost use Rattle.written_refutation.specs.Limits.{IsLiteral};
-ghost use Rattle.written_refutation.specs.Text.{literal_text};
-ghost use Rattle.refute_text.specs.Means.Known.{ends_literal};
-ghost use Rattle.refute_text.specs.Means.LineReader.{literal_at};
-ghost use Rattle.refute_text.specs.Means.Refusals.{IsRefusal, AppendsRead};
+ghost use Rattle.refute_print.specs.Trees.{LiteralTree};
+ghost use Rattle.refute_print.specs.Limits.{IsLiteral};
+ghost use Rattle.refute_print.specs.Text.{literal_text};
+ghost use Rattle.refute_text.specs.Internal.Known.{ends_literal};
+ghost use Rattle.refute_text.specs.Internal.LineReader.{literal_at};
+ghost use Rattle.refute_text.specs.Internal.Refusals.{IsRefusal, AppendsRead};
 
 use crate::read_rule::read_literal;
 use crate::refusal::Refusal;
 use indexmap::IndexSet;
 use std::alloc::{AllocError, Global};
 use std::marker::Model;
-use written_refutation::{TextLit, TextLits};
+use refute_print::{TextLit, TextLits};
 
 /// A front of bytes, and what follows it.
 #[derive(Drop)]
@@ -58,9 +58,9 @@ pub(crate) struct Known<'a> {
 impl<'a> Model for Known<'a> {
     ghost use Rattle.std.specs.Prelude.{List};
     ghost use Rattle.std.specs.Coded.{coded_list};
-    ghost use Rattle.written_refutation.specs.Trees.{LiteralTree};
-    ghost use Rattle.written_refutation.specs.Means.LiteralCode.{literal_tree_code};
-    ghost use Rattle.refute_text.specs.Means.Known.{AreTexts};
+    ghost use Rattle.refute_print.specs.Trees.{LiteralTree};
+    ghost use Rattle.refute_print.specs.Internal.LiteralCode.{literal_tree_code};
+    ghost use Rattle.refute_text.specs.Internal.Known.{AreTexts};
 
     ghost Value = { List LiteralTree };
 

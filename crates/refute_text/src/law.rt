@@ -1,7 +1,7 @@
 //! Laws of texts. Each function does nothing: what it says stands in its contract.
 ghost use Rattle.std.specs.Prelude.{◌≡◌, ℕ, List};
-ghost use Rattle.written_refutation.specs.Trees.{RefutationTree};
-ghost use Rattle.written_refutation.specs.Text.{text_lines, as_bytes};
+ghost use Rattle.refute_print.specs.Trees.{RefutationTree};
+ghost use Rattle.refute_print.specs.Text.{text_lines, as_bytes};
 ghost use Rattle.outside.specs.Lines.{lines_of};
 ghost use Rattle.refute_text.specs.Reading.{HasText, TextStands, TextReading, read, ReadsText};
 

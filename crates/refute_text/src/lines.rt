@@ -1,10 +1,10 @@
 //! The lines of a text.
 
 ghost use Rattle.std.specs.Prelude.{◌≡◌, ◌+◌, ◌<◌, ◌≤◌, ◌^◌, ◌∷◌, [], length, IfOk, IfErr, IfSome, IfNone, drop};
-ghost use Rattle.refute_text.specs.Means.Reader.{front, after, is_no_feed};
+ghost use Rattle.refute_text.specs.Internal.Reader.{front, after, is_no_feed};
 ghost use Rattle.outside.specs.Lines.{lines_of};
 ghost use Rattle.refute_text.specs.Reading.{is_start, is_end, HasNoStart};
-ghost use Rattle.refute_text.specs.Means.Places.{BehindStart};
+ghost use Rattle.refute_text.specs.Internal.Places.{BehindStart};
 
 /// Bytes of a text, and the number of the line that begins with them.
 #[derive(Clone, Copy, Drop)]

@@ -1,11 +1,11 @@
 //! Reads the lines of a text.
 
 ghost use Rattle.std.specs.Prelude.{◌≡◌, ◌^◌, length, codes};
-ghost use Rattle.refute_text.specs.Means.Reader.{number_at, repeated_at, with_items};
-ghost use Rattle.refute_text.specs.Means.LineReader.{literal_at, child_at, items_at, where_number, end_at, definition_at, row_at, branch_at, children_at, behind_rule_at, lists_at, line_at};
-ghost use Rattle.refute_text.specs.Means.Refusals.{Answers};
-ghost use Rattle.written_refutation.specs.LineView.{the_rule};
-ghost use Rattle.written_refutation.specs.TextView.{the_line};
+ghost use Rattle.refute_text.specs.Internal.Reader.{number_at, repeated_at, with_items};
+ghost use Rattle.refute_text.specs.Internal.LineReader.{literal_at, child_at, items_at, where_number, end_at, definition_at, row_at, branch_at, children_at, behind_rule_at, lists_at, line_at};
+ghost use Rattle.refute_text.specs.Internal.Refusals.{Answers};
+ghost use Rattle.refute_print.specs.LineView.{the_rule};
+ghost use Rattle.refute_print.specs.TextView.{the_line};
 
 use crate::known::Known;
 use crate::read_name::{behind, name};
@@ -15,8 +15,8 @@ use crate::read_type::expect;
 use crate::refusal::Refusal;
 use outside::Bytes;
 use std::alloc::Global;
-use stt_tableau::{Child, Children};
-use written_refutation::{TextLine, TextLits, TextRule, TextTerm};
+use tableau_calculus::{Child, Children};
+use refute_print::{TextLine, TextLits, TextRule, TextTerm};
 
 /// Literals, and what follows them.
 #[derive(Drop)]
@@ -73,7 +73,7 @@ struct ChildRead<'a> {
     rest: &'a [u8],
 }
 
-#[tactic(auto, unfolding(crate::specs::Means::LineReader::child_at))]
+#[tactic(auto, unfolding(crate::specs::Internal::LineReader::child_at))]
 fn child(bytes: &[u8]) -> Result<ChildRead<'_>, Refusal>
     ensures { Answers (λ r. (r.child, r.rest.now)) result (child_at bytes.now) }
 {
@@ -168,7 +168,7 @@ fn line_number(number: usize, bytes: &[u8]) -> Result<&[u8], Refusal>
 }
 
 /// The name on the line of a definition.
-#[tactic(auto, unfolding(crate::specs::Means::LineReader::definition_at))]
+#[tactic(auto, unfolding(crate::specs::Internal::LineReader::definition_at))]
 pub(crate) fn read_definition(alloc: Global, line: &[u8]) -> Result<Bytes, Refusal>
     ensures { Answers (λ w. w) result (definition_at line.now) }
 {
@@ -179,7 +179,7 @@ pub(crate) fn read_definition(alloc: Global, line: &[u8]) -> Result<Bytes, Refus
 }
 
 /// The predicate of the witness row of this number.
-#[tactic(auto, unfolding(crate::specs::Means::LineReader::row_at))]
+#[tactic(auto, unfolding(crate::specs::Internal::LineReader::row_at))]
 pub(crate) fn read_row(alloc: Global, number: usize, line: &[u8]) -> Result<TextTerm, Refusal>
     ensures { Answers (λ t. t) result (row_at number line.now) }
 {
@@ -221,7 +221,7 @@ struct ListsRead {
 }
 
 /// What stands behind the rule of a line.
-#[tactic(auto, unfolding(crate::specs::Means::LineReader::behind_rule_at))]
+#[tactic(auto, unfolding(crate::specs::Internal::LineReader::behind_rule_at))]
 fn behind_rule<'a>(
     alloc: Global,
     known: &mut Known<'a>,
@@ -238,7 +238,7 @@ fn behind_rule<'a>(
 }
 
 /// The line with this rule, from what stands behind it on.
-#[tactic(auto, unfolding(crate::specs::Means::LineReader::lists_at))]
+#[tactic(auto, unfolding(crate::specs::Internal::LineReader::lists_at))]
 fn lists<'a>(
     alloc: Global,
     known: &mut Known<'a>,
@@ -261,7 +261,7 @@ fn lists<'a>(
 }
 
 /// The line of this number.
-#[tactic(auto, unfolding(crate::specs::Means::LineReader::line_at))]
+#[tactic(auto, unfolding(crate::specs::Internal::LineReader::line_at))]
 pub(crate) fn read_line<'a>(
     alloc: Global,
     known: &mut Known<'a>,

@@ -4,14 +4,14 @@ ghost use Rattle.std.specs.Prelude.{◌≡◌, ◌++◌, ◌≤◌, ◌<◌, ◌
 ghost use Rattle.std.specs.List.{list_all};
 ghost use Rattle.thf_grammar.specs.Bytes.{is_word_byte};
 ghost use Rattle.thf_grammar.specs.Printable.{is_printable};
-ghost use Rattle.refute_text.specs.Means.Reader.{front, after, behind, is_digit, is_decimal, number_from, number_at, escaped_character, character_at, characters_at, needs_quotes, plain_at, name_at};
-ghost use Rattle.refute_text.specs.Means.Refusals.{Answers};
+ghost use Rattle.refute_text.specs.Internal.Reader.{front, after, behind, is_digit, is_decimal, number_from, number_at, escaped_character, character_at, characters_at, needs_quotes, plain_at, name_at};
+ghost use Rattle.refute_text.specs.Internal.Refusals.{Answers};
 
 use crate::refusal::Refusal;
 use outside::Bytes;
 use std::alloc::Global;
 use std::str;
-use thf_syntax::{is_lower_word, is_word_byte};
+use thf_names::{is_lower_word, is_word_byte};
 
 /// What follows the text, where the bytes begin with it.
 pub(crate) fn behind<'a>(text: &[u8], bytes: &'a [u8]) -> Option<&'a [u8]>
@@ -101,7 +101,7 @@ fn value(digits: &[u8]) -> Option<u64>
 }
 
 /// A number up to the greatest one.
-#[tactic(auto, unfolding(crate::specs::Means::Reader::number_at))]
+#[tactic(auto, unfolding(crate::specs::Internal::Reader::number_at))]
 pub(crate) fn number(greatest: u64, bytes: &[u8]) -> Option<NumberRead<'_>>
     ensures read { option_map (λ r. (r.number, r.rest.now)) result ≡ number_at (greatest + 1) bytes.now }
     ensures bound { IfSome result (λ r. r.number ≤ greatest) }
@@ -216,7 +216,7 @@ fn plain(alloc: Global, bytes: &[u8]) -> Result<NameRead<'_>, Refusal>
 }
 
 /// A name.
-#[tactic(auto, unfolding(crate::specs::Means::Reader::name_at))]
+#[tactic(auto, unfolding(crate::specs::Internal::Reader::name_at))]
 pub(crate) fn name(alloc: Global, bytes: &[u8]) -> Result<NameRead<'_>, Refusal>
     ensures { Answers (λ r. (r.name, r.rest.now)) result (name_at bytes.now) }
 {

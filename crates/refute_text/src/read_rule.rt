@@ -1,20 +1,20 @@
 //! Reads literals and rules.
 
 ghost use Rattle.std.specs.Prelude.{◌≡◌, ◌^◌};
-ghost use Rattle.written_refutation.specs.Limits.{is_negated};
-ghost use Rattle.written_refutation.specs.Trees.{Cho, Des};
-ghost use Rattle.refute_text.specs.Means.Reader.{number_at};
-ghost use Rattle.refute_text.specs.Means.LineReader.{signed_at, literal_at, place_at, places_at, instance_at, predicate_at, cut_at, one_place_rule_at, rule_at};
-ghost use Rattle.refute_text.specs.Means.Refusals.{Answers};
-ghost use Rattle.written_refutation.specs.LineView.{the_rule};
-ghost use Rattle.written_refutation.specs.TreeView.{the_head};
+ghost use Rattle.refute_print.specs.Limits.{is_negated};
+ghost use Rattle.refute_print.specs.Trees.{Cho, Des};
+ghost use Rattle.refute_text.specs.Internal.Reader.{number_at};
+ghost use Rattle.refute_text.specs.Internal.LineReader.{signed_at, literal_at, place_at, places_at, instance_at, predicate_at, cut_at, one_place_rule_at, rule_at};
+ghost use Rattle.refute_text.specs.Internal.Refusals.{Answers};
+ghost use Rattle.refute_print.specs.LineView.{the_rule};
+ghost use Rattle.refute_print.specs.TreeView.{the_head};
 
 use crate::read_name::{behind, number};
 use crate::read_term::read_term;
 use crate::read_type::expect;
 use crate::refusal::Refusal;
 use std::alloc::Global;
-use written_refutation::{TextHead, TextLit, TextNode, TextRule, TextTerm};
+use refute_print::{TextHead, TextLit, TextNode, TextRule, TextTerm};
 
 /// How many parentheses, brackets and functions of types and terms may be open at once.
 pub(crate) const DEPTH: u32 = 8192;
@@ -62,7 +62,7 @@ fn signed(alloc: Global, positive: bool, bytes: &[u8]) -> Result<LiteralRead<'_>
 }
 
 /// A literal.
-#[tactic(auto, unfolding(crate::specs::Means::LineReader::literal_at))]
+#[tactic(auto, unfolding(crate::specs::Internal::LineReader::literal_at))]
 pub(crate) fn read_literal(alloc: Global, bytes: &[u8]) -> Result<LiteralRead<'_>, Refusal>
     ensures { Answers (λ r. (r.literal, r.rest.now)) result (literal_at bytes.now) }
 {
@@ -94,7 +94,7 @@ pub(crate) fn read_number(bytes: &[u8]) -> Result<PlaceRead<'_>, Refusal>
 }
 
 /// A place, and the parenthesis behind it.
-#[tactic(auto, unfolding(crate::specs::Means::LineReader::place_at))]
+#[tactic(auto, unfolding(crate::specs::Internal::LineReader::place_at))]
 fn place(bytes: &[u8]) -> Result<PlaceRead<'_>, Refusal>
     ensures { Answers (λ r. (r.place, r.rest.now)) result (place_at bytes.now) }
 {
@@ -114,7 +114,7 @@ pub(crate) struct RuleRead<'a> {
 }
 
 /// A rule of one place.
-#[tactic(auto, unfolding(crate::specs::Means::LineReader::one_place_rule_at))]
+#[tactic(auto, unfolding(crate::specs::Internal::LineReader::one_place_rule_at))]
 fn one_place_rule(bytes: &[u8]) -> Result<RuleRead<'_>, Refusal>
     ensures { Answers (λ r. (the_rule r.rule, r.rest.now)) result (one_place_rule_at bytes.now) }
 {
@@ -222,7 +222,7 @@ fn cut(alloc: Global, bytes: &[u8]) -> Result<RuleRead<'_>, Refusal>
 }
 
 /// A rule.
-#[tactic(auto, unfolding(crate::specs::Means::LineReader::rule_at))]
+#[tactic(auto, unfolding(crate::specs::Internal::LineReader::rule_at))]
 pub(crate) fn read_rule(alloc: Global, bytes: &[u8]) -> Result<RuleRead<'_>, Refusal>
     ensures { Answers (λ r. (the_rule r.rule, r.rest.now)) result (rule_at bytes.now) }
 {

@@ -1,18 +1,18 @@
 //! Reads terms.
 
 ghost use Rattle.std.specs.Prelude.{◌≡◌, ◌<◌, ◌^◌, option_map, IfSome, length};
-ghost use Rattle.written_refutation.specs.Trees.{bound, constant, witness, all, equality, choice, description};
-ghost use Rattle.refute_text.specs.Means.Reader.{number_at, type_at};
-ghost use Rattle.refute_text.specs.Means.TermReader.{named_head_at, bracketed_at, bracketed_type_at, dollar_head_at, head_at, arguments_at, application_at, lambda_at, term_at};
-ghost use Rattle.refute_text.specs.Means.Refusals.{Answers};
-ghost use Rattle.written_refutation.specs.View.{the_type};
-ghost use Rattle.written_refutation.specs.TreeView.{the_head};
+ghost use Rattle.refute_print.specs.Trees.{bound, constant, witness, all, equality, choice, description};
+ghost use Rattle.refute_text.specs.Internal.Reader.{number_at, type_at};
+ghost use Rattle.refute_text.specs.Internal.TermReader.{named_head_at, bracketed_at, bracketed_type_at, dollar_head_at, head_at, arguments_at, application_at, lambda_at, term_at};
+ghost use Rattle.refute_text.specs.Internal.Refusals.{Answers};
+ghost use Rattle.refute_print.specs.View.{the_type};
+ghost use Rattle.refute_print.specs.TreeView.{the_head};
 
 use crate::read_name::{behind, name, number};
 use crate::read_type::{TypeRead, expect, read_type};
 use crate::refusal::Refusal;
 use std::alloc::Global;
-use written_refutation::{TextHead, TextNode, TextTerm, TextTerms};
+use refute_print::{TextHead, TextNode, TextTerm, TextTerms};
 
 /// A number below 2^32, and what follows it.
 #[derive(Drop)]
@@ -63,7 +63,7 @@ fn bracketed(alloc: Global, depth: u32, bytes: &[u8]) -> Result<TypeRead<'_>, Re
 }
 
 /// A head behind its `$`.
-#[tactic(auto, unfolding(crate::specs::Means::TermReader::dollar_head_at))]
+#[tactic(auto, unfolding(crate::specs::Internal::TermReader::dollar_head_at))]
 fn dollar_head(alloc: Global, depth: u32, bytes: &[u8]) -> Result<HeadRead<'_>, Refusal>
     ensures { Answers (λ r. (the_head r.head, r.rest.now)) result (dollar_head_at depth bytes.now) }
 {
@@ -95,7 +95,7 @@ fn dollar_head(alloc: Global, depth: u32, bytes: &[u8]) -> Result<HeadRead<'_>, 
 }
 
 /// The head of a term.
-#[tactic(auto, unfolding(crate::specs::Means::TermReader::head_at))]
+#[tactic(auto, unfolding(crate::specs::Internal::TermReader::head_at))]
 fn read_head(alloc: Global, depth: u32, bytes: &[u8]) -> Result<HeadRead<'_>, Refusal>
     ensures { Answers (λ r. (the_head r.head, r.rest.now)) result (head_at depth bytes.now) }
 {
@@ -180,7 +180,7 @@ fn function(alloc: Global, depth: u32, bytes: &[u8]) -> Result<TermRead<'_>, Ref
 
 /// A term in which at most so many parentheses, brackets and functions are open at once.
 #[cycle(read_term)]
-#[tactic(auto, unfolding(crate::specs::Means::TermReader::term_at))]
+#[tactic(auto, unfolding(crate::specs::Internal::TermReader::term_at))]
 pub(crate) fn read_term(alloc: Global, depth: u32, bytes: &[u8]) -> Result<TermRead<'_>, Refusal>
     ensures { Answers (λ r. (r.term, r.rest.now)) result (term_at depth bytes.now) }
 {

@@ -1,14 +1,14 @@
 //! Reads types.
 
 ghost use Rattle.std.specs.Prelude.{◌≡◌};
-ghost use Rattle.refute_text.specs.Means.Reader.{behind, named_at, type_at};
-ghost use Rattle.refute_text.specs.Means.Refusals.{Answers};
-ghost use Rattle.written_refutation.specs.View.{the_type};
+ghost use Rattle.refute_text.specs.Internal.Reader.{behind, named_at, type_at};
+ghost use Rattle.refute_text.specs.Internal.Refusals.{Answers};
+ghost use Rattle.refute_print.specs.View.{the_type};
 
 use crate::read_name::{behind, name};
 use crate::refusal::Refusal;
 use std::alloc::Global;
-use written_refutation::TextTy;
+use refute_print::TextTy;
 
 /// A type, and what follows it.
 #[derive(Drop)]
@@ -38,7 +38,7 @@ fn named(alloc: Global, bytes: &[u8]) -> Result<TypeRead<'_>, Refusal>
 }
 
 /// A type in which at most so many parentheses are open at once.
-#[tactic(auto, unfolding(crate::specs::Means::Reader::type_at))]
+#[tactic(auto, unfolding(crate::specs::Internal::Reader::type_at))]
 pub(crate) fn read_type(alloc: Global, depth: u32, bytes: &[u8]) -> Result<TypeRead<'_>, Refusal>
     ensures { Answers (λ r. (the_type r.ty, r.rest.now)) result (type_at depth bytes.now) }
 {

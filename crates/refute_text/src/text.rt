@@ -2,13 +2,13 @@
 
 ghost use Rattle.std.specs.Prelude.{◌≡◌, ℕ, ◌+◌, ◌-◌, ◌^◌, ◌<◌, ◌≤◌, ◌++◌, [], ◌∷◌, true, false, length, codes, nat_eq, option_map, IsTrue, OnOk, IfOk, IfErr, IfSome, ◌↔◌};
 ghost use Rattle.std.specs.List.{starts_with};
-ghost use Rattle.written_refutation.specs.Text.{text_lines};
-ghost use Rattle.written_refutation.specs.TextView.{the_text, IsNumbered};
+ghost use Rattle.refute_print.specs.Text.{text_lines};
+ghost use Rattle.refute_print.specs.TextView.{the_text, IsNumbered};
 ghost use Rattle.outside.specs.Lines.{lines_of};
 ghost use Rattle.refute_text.specs.Reading.{HasText, IsFront, HoldsText, TextReading, ReadsText};
-ghost use Rattle.refute_text.specs.Means.LineReader.{definition_at};
-ghost use Rattle.refute_text.specs.Means.Refusals.{Answers};
-ghost use Rattle.refute_text.specs.Means.Places.{RefusesBehind, IfForm, MayDefine, nothing};
+ghost use Rattle.refute_text.specs.Internal.LineReader.{definition_at};
+ghost use Rattle.refute_text.specs.Internal.Refusals.{Answers};
+ghost use Rattle.refute_text.specs.Internal.Places.{RefusesBehind, IfForm, MayDefine, nothing};
 ghost use Rattle.refute_text.specs.Answered.{reading_of};
 
 use crate::known::Known;
@@ -16,7 +16,7 @@ use crate::lines::{behind_start, is_end, next_line};
 use crate::read_line::{read_definition, read_line, read_row};
 use crate::refusal::{Refusal, TextRefused};
 use std::alloc::Global;
-use written_refutation::{RefutationText, TextLines, TextNames, TextTerms};
+use refute_print::{RefutationText, TextLines, TextNames, TextTerms};
 
 /// Adds the name whose definition the line is.
 fn add_definition(alloc: Global, text: &mut RefutationText, line: &[u8]) -> Result<(), Refusal>

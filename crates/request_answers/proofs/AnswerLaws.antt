@@ -10,8 +10,8 @@ use Rattle.szs_report.specs.declared.answer.Answer.{Answer}
 use Rattle.szs_report.specs.declared.answer.Answer.TheVariants as answer
 use Rattle.request_answers.specs.Files.{OfFiles, Statements}
 use Rattle.request_answers.specs.Answers.{AnswersStated, AnswersEnding}
-use Rattle.request_answers.specs.Means.RefusedFiles.{refused_answer}
-use Rattle.request_answers.specs.Means.Unread.{IsIllAt, IsUnstated, IsUnread, IsFilesAnswer}
+use Rattle.request_answers.specs.Internal.RefusedFiles.{refused_answer}
+use Rattle.request_answers.specs.Internal.Unread.{IsIllAt, IsUnstated, IsUnread, IsFilesAnswer}
 
 -- what is answered where the files aren't gathered
 pub refusal_unread : (told : Bool) (contents : List ℕ → Option (List ℕ)) (name : List ℕ) (names : List (List ℕ)) (refused : GatherRefused) → Gathers told contents name names (Err refused) → IsUnread name told contents (refused_answer names refused)

@@ -1,8 +1,8 @@
 -- What the check of a text is answered with.
 use Rattle.std.proofs.Common.{◌≡◌, ℕ, true, false, List, IfSome, Some, Err, refl, sym, subst, ◌∙◌}
 use Rattle.stt_core.specs.PlainProblem.{PlainProblem}
-use Rattle.stt_tableau.specs.declared.refutation.Why.{Why}
-use Rattle.written_refutation.specs.Trees.{RefutationTree}
+use Rattle.tableau_calculus.specs.declared.refutation.Why.{Why}
+use Rattle.refute_print.specs.Trees.{RefutationTree}
 use Rattle.refute_text.specs.Answered.{reading_of}
 use Rattle.outside.specs.Lines.{lines_of}
 use Rattle.refute_text.specs.Reading.{TextReading, read, bad_line, no_start, no_end, ReadsText}
@@ -18,9 +18,9 @@ use Rattle.refute_check.specs.declared.refusal.CheckRefused.TheVariants as faile
 use Rattle.refute_check.specs.declared.refusal.CheckRefused.TheVariants.{Line}
 use Rattle.szs_report.specs.declared.answer.Answer.{Answer}
 use Rattle.szs_report.specs.declared.answer.Answer.TheVariants.{Accepted, Refused, Memory}
-use Rattle.request_answers.specs.Means.Unread.{verdict_of}
+use Rattle.request_answers.specs.Internal.Unread.{verdict_of}
 use Rattle.request_answers.specs.Checked.{IsAcceptedText, FailsFirst, IsRefusedText, AnswersBytes}
-use Rattle.request_answers.specs.Means.RefusedTexts.{unread_answer, failed_answer}
+use Rattle.request_answers.specs.Internal.RefusedTexts.{unread_answer, failed_answer}
 
 -- the answer where a text isn't read
 pub unread_answers : (p : PlainProblem) (bytes : List ℕ) (refused : TextRefused) → IfSome (reading_of (Err refused)) (ReadsText (lines_of bytes)) → AnswersBytes p bytes (unread_answer refused)

@@ -21,8 +21,8 @@ use Rattle.request_answers.specs.Modes.{byte_limit, IsModeBy}
 use Rattle.request_answers.specs.Solved.{IsDemoed}
 use Rattle.request_answers.specs.Answers.{stop_answer, AnswersProblem, AnswersStated, AnswersEnding, AnswersRequest}
 use Rattle.request_answers.specs.Causes.{IsFaultIn, IsFaultOf, IsModeFault, IsTextFault, HasCauseOf}
-use Rattle.request_answers.specs.Means.ReadFaults.{IsNoReadFault}
-use Rattle.request_answers.specs.Means.Unread.{IsUnaskedMode, IsUnstated, IsUnread, IsFilesAnswer}
+use Rattle.request_answers.specs.Internal.ReadFaults.{IsNoReadFault}
+use Rattle.request_answers.specs.Internal.Unread.{IsUnaskedMode, IsUnstated, IsUnread, IsFilesAnswer}
 
 -- an answer of a mode's file
 abbrev IsOfMode : Answer → Type 0

@@ -6,14 +6,14 @@ use Rattle.stt_core.specs.Lambda.{Constant, name, witness, falsity, negation, im
 use Rattle.stt_core.specs.Typing.{Scope, constant_type}
 use Rattle.stt_core.specs.Canonical.{IsCanonical, IsNeutral}
 use Rattle.stt_core.proofs.TypeLaws.{given}
-use Rattle.stt_tableau.specs.Literals.{Literal, IsBranch}
-use Rattle.stt_tableau.specs.Witnesses.{Row, with_rows, IsTableAfter}
-use Rattle.stt_tableau.specs.Accepted.{IsTypedUse, AreRightLines, IsAccepted}
-use Rattle.stt_tableau.specs.declared.refutation.RuleUse.{RuleUse}
-use Rattle.stt_tableau.specs.declared.refutation.RuleUse.TheVariants as rule
-use Rattle.stt_tableau.specs.declared.refutation.Line.{Line}
-use Rattle.stt_tableau.specs.declared.refutation.Refutation.{Refutation}
-use Rattle.written_refutation.specs.Named.{Names, HasTypeNames, HasConstantNames, HasNames, HaveNames, HasRuleNames, RowsHaveNames, LinesHaveNames, IsNamed}
+use Rattle.tableau_calculus.specs.Literals.{Literal, IsBranch}
+use Rattle.tableau_calculus.specs.Witnesses.{Row, with_rows, IsTableAfter}
+use Rattle.tableau_calculus.specs.Accepted.{IsTypedUse, AreRightLines, IsAccepted}
+use Rattle.tableau_calculus.specs.declared.refutation.RuleUse.{RuleUse}
+use Rattle.tableau_calculus.specs.declared.refutation.RuleUse.TheVariants as rule
+use Rattle.tableau_calculus.specs.declared.refutation.Line.{Line}
+use Rattle.tableau_calculus.specs.declared.refutation.Refutation.{Refutation}
+use Rattle.refute_print.specs.Named.{Names, HasTypeNames, HasConstantNames, HasNames, HaveNames, HasRuleNames, RowsHaveNames, LinesHaveNames, IsNamed}
 
 -- names for all that is declared
 pub record NamesAll (names : Names) (scope : Scope) : Type 0 where

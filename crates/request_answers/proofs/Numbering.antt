@@ -13,13 +13,13 @@ use Rattle.stt_core.specs.Declarations.{Declarations}
 use Rattle.stt_core.specs.TypedProblem.{NamesDiffer}
 use Rattle.stt_core.specs.Typing.{Scope}
 use Rattle.stt_core.specs.Canonical.{IsCanonical}
-use Rattle.stt_tableau.specs.Literals.{Literal}
-use Rattle.stt_tableau.specs.Witnesses.{Row, with_rows, IsTableAfter}
-use Rattle.stt_tableau.specs.declared.refutation.RuleUse.{RuleUse}
-use Rattle.stt_tableau.specs.declared.refutation.RuleUse.TheVariants as rule
-use Rattle.stt_tableau.specs.declared.refutation.Line.{Line}
-use Rattle.stt_tableau.specs.declared.refutation.Refutation.{Refutation}
-use Rattle.written_refutation.specs.Named.{Names, names_of, name_at, named_type, named_constant, named_term, named_literal, named_rule, named_line, named_refutation, HasTypeNames, HasConstantNames, HasNames, HaveNames, HasRuleNames, LinesHaveNames, RowsHaveNames, IsNamed}
+use Rattle.tableau_calculus.specs.Literals.{Literal}
+use Rattle.tableau_calculus.specs.Witnesses.{Row, with_rows, IsTableAfter}
+use Rattle.tableau_calculus.specs.declared.refutation.RuleUse.{RuleUse}
+use Rattle.tableau_calculus.specs.declared.refutation.RuleUse.TheVariants as rule
+use Rattle.tableau_calculus.specs.declared.refutation.Line.{Line}
+use Rattle.tableau_calculus.specs.declared.refutation.Refutation.{Refutation}
+use Rattle.refute_print.specs.Named.{Names, names_of, name_at, named_type, named_constant, named_term, named_literal, named_rule, named_line, named_refutation, HasTypeNames, HasConstantNames, HasNames, HaveNames, HasRuleNames, LinesHaveNames, RowsHaveNames, IsNamed}
 use Rattle.refute_check.specs.Numbered.{place_of, numbered_type, numbered_constant, numbered_term, numbered_literal, numbered_rule, numbered_line, argument_type, numbered_row, numbered_refutation}
 
 -- each name stands at its own place only

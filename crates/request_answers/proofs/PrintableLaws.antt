@@ -8,7 +8,7 @@ use Rattle.thf_parse.specs.Parsing.{depth_limit}
 use Rattle.thf_parse.proofs.PrintableLaws.{declared-printable}
 use Rattle.thf_include.specs.View.{PlacedTree}
 use Rattle.thf_include.specs.Gathering.{Ending, done, stopped, behind, is_selected, is_missing, select_by, select, FileEnds, unread, long, refused, followed, StatementEnds, stays, in_cycle, past_limit, stops, selects, StatementsEnd, no_more, ends, goes_on, IsGathering}
-use Rattle.type_check.specs.Means.ProblemNames.{IsDeclaredWith, AllDeclared}
+use Rattle.type_check.specs.Internal.ProblemNames.{IsDeclaredWith, AllDeclared}
 
 -- each name that a statement declares is printable
 abbrev DeclarePrintable : List PlacedTree → Type 0

@@ -3,8 +3,8 @@ use Rattle.std.proofs.Common.{◌≡◌, ℕ, ◌+◌, Bool, true, false, ◌||�
 use Rattle.stt_core.specs.PlainProblem.{PlainProblem}
 use Rattle.delta_defs.specs.Unfolding.{taken_names}
 use Rattle.mode_file.specs.declared.Mode.{Mode}
-use Rattle.written_refutation.specs.Text.{text_lines, as_bytes}
-use Rattle.written_refutation.specs.Named.{name_at, named_refutation}
+use Rattle.refute_print.specs.Text.{text_lines, as_bytes}
+use Rattle.refute_print.specs.Named.{name_at, named_refutation}
 use Rattle.outside.specs.Lines.{lines_of}
 use Rattle.refute_text.specs.Reading.{start_mark, end_mark, is_start, is_one_line, read, ReadsText, TextStands}
 use Rattle.refute_text.proofs.ReadingLaws.{reading-same}

@@ -1,12 +1,12 @@
 -- The answer to a run is the same, but for the refutation, where its conflicts aren't spent.
 use Rattle.std.proofs.Common.{◌≡◌, [], ap, sym, refl, ◌∙◌}
 use Rattle.stt_core.specs.PlainProblem.{PlainProblem}
-use Rattle.stt_tableau.specs.Start.{start}
-use Rattle.search_run.specs.Result.{Result, proved, gave_up, stopped, IsResult}
-use Rattle.search_run.proofs.ResultLaws.{one_result}
+use Rattle.tableau_calculus.specs.Start.{start}
+use Rattle.search_spec.specs.Result.{Result, proved, gave_up, stopped, IsResult}
+use Rattle.search_spec.proofs.ResultLaws.{one_result}
 use Rattle.mode_file.specs.declared.Mode.{Mode}
 use Rattle.delta_defs.specs.Unfolding.{unfolded_problem}
-use Rattle.tableau_run.specs.Ended.{setting_for}
+use Rattle.prover_run.specs.Ended.{setting_for}
 use Rattle.szs_report.specs.Outcomes.{without_refutation}
 use Rattle.szs_report.specs.declared.answer.Answer.{Answer}
 use Rattle.szs_report.specs.declared.answer.Answer.TheVariants.{Proved, DemoDone, GaveUp, CommandLimit, ConflictLimit, Memory}

@@ -5,21 +5,21 @@ use Rattle.std.proofs.lemmas.List.Sums.{list_all-from_AllPass}
 use Rattle.stt_core.specs.TypedName.{TypedName}
 use Rattle.stt_core.specs.PlainProblem.{PlainProblem}
 use Rattle.stt_core.specs.Declarations.{scope_of}
-use Rattle.stt_tableau.specs.Start.{start}
-use Rattle.stt_tableau.specs.declared.refutation.Refutation.{Refutation}
-use Rattle.written_refutation.specs.Text.{text_lines, as_bytes}
-use Rattle.written_refutation.specs.Named.{named_refutation, IsNamed}
+use Rattle.tableau_calculus.specs.Start.{start}
+use Rattle.tableau_calculus.specs.declared.refutation.Refutation.{Refutation}
+use Rattle.refute_print.specs.Text.{text_lines, as_bytes}
+use Rattle.refute_print.specs.Named.{named_refutation, IsNamed}
 use Rattle.mode_file.specs.declared.Mode.{Mode}
 use Rattle.delta_defs.specs.Unfolding.{taken_names, unfolded_problem}
 use Rattle.delta_defs.specs.Laws.{AreDeclared}
 use Rattle.refute_check.specs.Acceptance.{IsAcceptedFor}
 use Rattle.refute_check.proofs.AcceptanceLaws.{named_accepted, places_named}
-use Rattle.tableau_run.specs.Ended.{IsRefuted}
+use Rattle.prover_run.specs.Ended.{IsRefuted}
 use Rattle.request_answers.specs.Names.{ArePrintable, names_in}
-use Rattle.request_answers.specs.Means.Texts.{HasTexts}
+use Rattle.request_answers.specs.Internal.Texts.{HasTexts}
 use Rattle.request_answers.specs.Solved.{IsProofOf}
 use Rattle.thf_grammar.specs.Printable.{is_printable, IsPrintable}
-use Rattle.written_refutation.specs.Letters.{is_name}
+use Rattle.refute_print.specs.Letters.{is_name}
 use Rattle.request_answers.proofs.NameLaws.{NamesAll, accepted_named}
 use Rattle.request_answers.proofs.Numbering.{declared_placed, refutation-same}
 use Rattle.request_answers.proofs.Written.{AreWords, has_text}

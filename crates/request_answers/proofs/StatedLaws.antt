@@ -5,11 +5,11 @@ use Rattle.stt_core.specs.PlainProblem.{PlainProblem}
 use Rattle.thf_grammar.specs.Printable.{IsPrintable}
 use Rattle.thf_include.specs.View.{PlacedTree}
 use Rattle.type_check.specs.Statements.{problem_of}
-use Rattle.type_check.specs.Means.ProblemNames.{AllDeclared, AllNames}
+use Rattle.type_check.specs.Internal.ProblemNames.{AllDeclared, AllNames}
 use Rattle.type_check.proofs.TypedProblems.{problem_of-typed}
 use Rattle.type_check.proofs.DeclaredNames.{problem_of-declares, problem_of-names_differ}
 use Rattle.request_answers.specs.Names.{ArePrintable, names_in}
-use Rattle.request_answers.specs.Means.Texts.{HasTexts}
+use Rattle.request_answers.specs.Internal.Texts.{HasTexts}
 
 names_printable : (p : PlainProblem) → AllNames IsPrintable p.declared → ArePrintable (names_in p)
 names_printable p h = record {

@@ -10,19 +10,19 @@ use Rattle.stt_core.specs.Lambda.{Constant, name, witness, falsity, negation, im
 use Rattle.stt_core.specs.Depth.{depth}
 use Rattle.stt_core.specs.Typing.{Scope, constant_type}
 use Rattle.stt_core.specs.Canonical.{IsCanonical, IsNeutral}
-use Rattle.stt_tableau.specs.Literals as plain
-use Rattle.stt_tableau.specs.Literals.{Literal, IsBranch}
-use Rattle.stt_tableau.specs.Witnesses.{Row, with_rows, IsTableAfter}
-use Rattle.stt_tableau.specs.Accepted.{IsTypedUse, AreRightLines, IsAccepted}
-use Rattle.stt_tableau.specs.declared.refutation.RuleUse.{RuleUse}
-use Rattle.stt_tableau.specs.declared.refutation.RuleUse.TheVariants as rule
-use Rattle.stt_tableau.specs.declared.refutation.Line.{Line}
-use Rattle.stt_tableau.specs.declared.refutation.Refutation.{Refutation}
-use Rattle.written_refutation.specs.Letters.{is_name}
-use Rattle.written_refutation.specs.Limits as text
-use Rattle.written_refutation.specs.Limits.{constant_depth, term_depth, spine_depth, IsType, IsConstant, IsTerm, IsSpine, IsWithin, IsLiteral, IsRule, IsLine}
-use Rattle.written_refutation.specs.Sizes.{term_limit, nesting, nesting_in, type_depth, IsSmallTerm, AreSmallLiterals, IsSmallRule, IsSmallLine, IsSmall}
-use Rattle.written_refutation.specs.Named.{Names, name_at, named_type, named_constant, named_term, named_literal, named_rule, named_line, named_refutation, HasTypeNames, HasConstantNames, ArePlaces}
+use Rattle.tableau_calculus.specs.Literals as plain
+use Rattle.tableau_calculus.specs.Literals.{Literal, IsBranch}
+use Rattle.tableau_calculus.specs.Witnesses.{Row, with_rows, IsTableAfter}
+use Rattle.tableau_calculus.specs.Accepted.{IsTypedUse, AreRightLines, IsAccepted}
+use Rattle.tableau_calculus.specs.declared.refutation.RuleUse.{RuleUse}
+use Rattle.tableau_calculus.specs.declared.refutation.RuleUse.TheVariants as rule
+use Rattle.tableau_calculus.specs.declared.refutation.Line.{Line}
+use Rattle.tableau_calculus.specs.declared.refutation.Refutation.{Refutation}
+use Rattle.refute_print.specs.Letters.{is_name}
+use Rattle.refute_print.specs.Limits as text
+use Rattle.refute_print.specs.Limits.{constant_depth, term_depth, spine_depth, IsType, IsConstant, IsTerm, IsSpine, IsWithin, IsLiteral, IsRule, IsLine}
+use Rattle.refute_print.specs.Sizes.{term_limit, nesting, nesting_in, type_depth, IsSmallTerm, AreSmallLiterals, IsSmallRule, IsSmallLine, IsSmall}
+use Rattle.refute_print.specs.Named.{Names, name_at, named_type, named_constant, named_term, named_literal, named_rule, named_line, named_refutation, HasTypeNames, HasConstantNames, ArePlaces}
 use Rattle.refute_text.specs.Reading.{IsName, HasText}
 use Rattle.request_answers.proofs.NameLaws.{NamesAll, type_named, constant_named}
 

@@ -2,11 +2,11 @@
 use Rattle.std.specs.Prelude.{◌≡◌, ℕ, Bool, List, Option}
 use Rattle.stt_core.specs.PlainProblem.{PlainProblem}
 use Rattle.delta_defs.specs.Unfolding.{taken_names}
-use Rattle.stt_tableau.specs.declared.refutation.Why.{Why}
-use Rattle.stt_tableau.specs.declared.refutation.Why.TheVariants.{Form, Start, End}
-use Rattle.stt_tableau.specs.declared.refutation.Refutation.{Refutation}
-use Rattle.written_refutation.specs.Trees.{RefutationTree}
-use Rattle.written_refutation.specs.Named.{named_refutation}
+use Rattle.tableau_calculus.specs.declared.refutation.Why.{Why}
+use Rattle.tableau_calculus.specs.declared.refutation.Why.TheVariants.{Form, Start, End}
+use Rattle.tableau_calculus.specs.declared.refutation.Refutation.{Refutation}
+use Rattle.refute_print.specs.Trees.{RefutationTree}
+use Rattle.refute_print.specs.Named.{named_refutation}
 use Rattle.outside.specs.Lines.{lines_of}
 use Rattle.refute_text.specs.Reading.{TextReading, read, bad_line, no_start, no_end, ReadsText}
 use Rattle.refute_check.specs.Numbered.{numbered_refutation}

@@ -6,4 +6,4 @@ pub mod Checked
 pub mod Solved
 pub mod Answers
 pub mod Causes
-pub mod Means
+pub mod Internal

@@ -2,7 +2,7 @@
 use Rattle.std.specs.List.{AllByRecursion}
 use Rattle.stt_core.specs.PlainProblem.{PlainProblem}
 use Rattle.thf_grammar.specs.Printable.{IsPrintable}
-use Rattle.written_refutation.specs.Named.{Names, names_of}
+use Rattle.refute_print.specs.Named.{Names, names_of}
 
 -- the names that a problem declares, as the texts of refutations have them
 abbrev pub names_in : PlainProblem → Names

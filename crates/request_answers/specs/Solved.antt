@@ -2,14 +2,14 @@
 use Rattle.std.specs.Prelude.{◌≡◌, ℕ, List, Option, Some, None}
 use Rattle.stt_core.specs.Lambda.{Lambda}
 use Rattle.stt_core.specs.PlainProblem.{PlainProblem}
-use Rattle.stt_tableau.specs.Start.{start}
-use Rattle.stt_tableau.specs.declared.refutation.Refutation.{Refutation}
-use Rattle.search_run.specs.Result.{IsExhausted, IsStopped}
+use Rattle.tableau_calculus.specs.Start.{start}
+use Rattle.tableau_calculus.specs.declared.refutation.Refutation.{Refutation}
+use Rattle.search_spec.specs.Result.{IsExhausted, IsStopped}
 use Rattle.mode_file.specs.declared.Mode.{Mode}
 use Rattle.delta_defs.specs.Unfolding.{taken_names, unfolded_problem}
-use Rattle.tableau_run.specs.Ended.{setting_for, IsRefuted, IsSpent}
-use Rattle.written_refutation.specs.Text.{text_lines, as_bytes}
-use Rattle.written_refutation.specs.Named.{named_refutation}
+use Rattle.prover_run.specs.Ended.{setting_for, IsRefuted, IsSpent}
+use Rattle.refute_print.specs.Text.{text_lines, as_bytes}
+use Rattle.refute_print.specs.Named.{named_refutation}
 use Rattle.refute_text.specs.Reading.{HasText}
 use Rattle.refute_check.specs.Numbered.{numbered_refutation}
 use Rattle.szs_report.specs.declared.answer.Answer.{Answer}

@@ -4,8 +4,8 @@ ghost use Rattle.std.specs.Prelude.{◌≡◌, ◌≤◌, List, ℕ};
 ghost use Rattle.stt_core.specs.TypedProblem.{IsTyped};
 ghost use Rattle.outside.specs.Causes.{Rose};
 ghost use Rattle.request_answers.specs.Checked.{AnswersBytes, AnswersText};
-ghost use Rattle.request_answers.specs.Means.RefusedTexts.{unread_answer, failed_answer};
-ghost use Rattle.request_answers.specs.Means.ReadFaults.{IsNoReadFault};
+ghost use Rattle.request_answers.specs.Internal.RefusedTexts.{unread_answer, failed_answer};
+ghost use Rattle.request_answers.specs.Internal.ReadFaults.{IsNoReadFault};
 ghost use Rattle.szs_report.specs.declared.answer.NamedFile.TheVariants.{Check};
 
 use crate::limits::MAX_BYTES;
@@ -14,7 +14,7 @@ use refute_check::{CheckRefused, check_refutation};
 use refute_text::{TextRefused, read_text};
 use std::alloc::Global;
 use stt_core::Problem;
-use stt_tableau::Why;
+use tableau_calculus::Why;
 use szs_report::{Answer, NamedFile};
 
 /// The answer where a text isn't read.

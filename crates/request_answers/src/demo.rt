@@ -5,12 +5,12 @@ ghost use Rattle.refute_text.specs.Reading.{is_one_line};
 ghost use Rattle.problem_gen.specs.Chain.{text};
 ghost use Rattle.cli_words.specs.Requests.{generated};
 ghost use Rattle.mode_file.specs.Given.{nothing, mode_of};
-ghost use Rattle.request_answers.specs.Means.Texts.{HasTexts};
+ghost use Rattle.request_answers.specs.Internal.Texts.{HasTexts};
 ghost use Rattle.request_answers.specs.Checked.{IsAcceptedText};
-ghost use Rattle.request_answers.specs.Means.Unread.{verdict_of};
+ghost use Rattle.request_answers.specs.Internal.Unread.{verdict_of};
 ghost use Rattle.request_answers.specs.Solved.{IsSolved, IsDemoed};
 ghost use Rattle.request_answers.specs.Answers.{AnswersRequest};
-ghost use Rattle.request_answers.specs.Means.ReadFaults.{IsNoReadFault};
+ghost use Rattle.request_answers.specs.Internal.ReadFaults.{IsNoReadFault};
 ghost use Rattle.szs_report.specs.Report.{report_of};
 
 use crate::check::check_bytes;

@@ -2,7 +2,7 @@
 
 ghost use Rattle.std.specs.Prelude.{◌≡◌, ℕ, List};
 ghost use Rattle.stt_core.specs.PlainProblem.{PlainProblem};
-ghost use Rattle.stt_tableau.specs.declared.refutation.Why.{Why};
+ghost use Rattle.tableau_calculus.specs.declared.refutation.Why.{Why};
 ghost use Rattle.request_answers.specs.Checked.{IsAcceptedText, IsRefusedText};
 
 /// No text is both accepted and refused, and none is refused at two lines or for two causes.

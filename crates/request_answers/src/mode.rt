@@ -3,9 +3,9 @@
 ghost use Rattle.std.specs.Prelude.{◌≡◌, ◌≤◌, ℕ, List, Some, option_map, IfOk, IfErr, IsErrOf, OnOk};
 ghost use Rattle.outside.specs.Causes.{Rose};
 ghost use Rattle.request_answers.specs.Modes.{IsModeBy};
-ghost use Rattle.request_answers.specs.Means.RefusedModes.{mode_answer};
-ghost use Rattle.request_answers.specs.Means.ReadFaults.{IsNoReadFault};
-ghost use Rattle.request_answers.specs.Means.Unread.{IsUnreadMode, IsUnaskedMode};
+ghost use Rattle.request_answers.specs.Internal.RefusedModes.{mode_answer};
+ghost use Rattle.request_answers.specs.Internal.ReadFaults.{IsNoReadFault};
+ghost use Rattle.request_answers.specs.Internal.Unread.{IsUnreadMode, IsUnaskedMode};
 ghost use Rattle.szs_report.specs.declared.answer.Answer.TheVariants as answer;
 ghost use Rattle.szs_report.specs.declared.answer.NamedFile.TheVariants as named;
 

@@ -2,8 +2,8 @@
 
 ghost use Rattle.std.specs.Prelude.{◌≡◌, IfOk};
 ghost use Rattle.delta_defs.specs.Unfolding.{unfolded_problem};
-ghost use Rattle.tableau_run.specs.Ended.{EndsAs};
-ghost use Rattle.request_answers.specs.Means.Texts.{HasTexts};
+ghost use Rattle.prover_run.specs.Ended.{EndsAs};
+ghost use Rattle.request_answers.specs.Internal.Texts.{HasTexts};
 ghost use Rattle.request_answers.specs.Solved.{claim_of, IsSolved};
 
 use delta_defs::{taken, unfold_problem};
@@ -11,7 +11,7 @@ use mode_file::Mode;
 use std::alloc::{AllocError, Global};
 use stt_core::Problem;
 use szs_report::{Answer, Claim, ProofText};
-use tableau_run::{Ended, run};
+use prover_run::{Ended, run};
 
 /// What a refutation of the problem's start shows.
 fn claim_of(problem: &Problem) -> Claim

@@ -4,13 +4,13 @@ ghost use Rattle.std.specs.Prelude.{◌≡◌, ◌≤◌, ◌<◌, ◌-◌, ◌^
 ghost use Rattle.thf_grammar.specs.Printable.{IsPrintable};
 ghost use Rattle.thf_include.specs.View.{the_statements};
 ghost use Rattle.type_check.specs.Statements.{problem_of};
-ghost use Rattle.type_check.specs.Means.ProblemNames.{AllDeclared};
+ghost use Rattle.type_check.specs.Internal.ProblemNames.{AllDeclared};
 ghost use Rattle.request_answers.specs.Files.{OfFiles, Statements};
-ghost use Rattle.request_answers.specs.Means.Texts.{HasTexts};
-ghost use Rattle.request_answers.specs.Means.RefusedFiles.{refused_answer};
+ghost use Rattle.request_answers.specs.Internal.Texts.{HasTexts};
+ghost use Rattle.request_answers.specs.Internal.RefusedFiles.{refused_answer};
 ghost use Rattle.request_answers.specs.Causes.{IsFaultIn};
-ghost use Rattle.request_answers.specs.Means.ReadFaults.{IsNoReadFault};
-ghost use Rattle.request_answers.specs.Means.Unread.{IsIll, IsUnread};
+ghost use Rattle.request_answers.specs.Internal.ReadFaults.{IsNoReadFault};
+ghost use Rattle.request_answers.specs.Internal.Unread.{IsIll, IsUnread};
 ghost use Rattle.szs_report.specs.declared.answer.Answer.TheVariants as answer;
 ghost use Rattle.szs_report.specs.declared.answer.NamedFile.TheVariants.{Part};
 

@@ -18,18 +18,18 @@ use Rattle.std.specs.Prelude.{if◌then◌else◌}
 use Rattle.sat_log.specs.Chains.{premise_clause, after_step, after_steps, chain_result}
 use Rattle.sat_log.specs.Propagation.{IsUnit, IsFalseIn, IsConsistent}
 use Rattle.sat_log.proofs.ChainLaws.{and_then-Some}
-use Rattle.sat_laws.specs.Means.Analysis.{IsFalseBefore, one_if, how_many}
-use Rattle.sat_laws.specs.Means.Complete.{IsComplete}
+use Rattle.sat_laws.specs.Internal.Analysis.{IsFalseBefore, one_if, how_many}
+use Rattle.sat_laws.specs.Internal.Complete.{IsComplete}
 use Rattle.sat_laws.proofs.CompleteLaws.{consistent_once}
 use Rattle.sat_laws.proofs.TrailLaws.{held_at}
 use Rattle.sat_laws.proofs.WatchLaws.{held-take}
 use Rattle.sat_laws.proofs.AnalysisLaws.{IsOutcome, step_resolves, outcome_false, outcome_mentions, others_before, mentioned_by, place_below, held_below, get-drop, one_at_least}
-use Rattle.sat_propagate.specs.Means.Trail.{TrailState, literals, IsTrail}
-use Rattle.sat_propagate.specs.Means.Propagator.{texts}
-use Rattle.sat_core.specs.Means.Marks.{is_marked, marks_literal, others}
-use Rattle.sat_core.specs.Means.Learned.{AreNamed, IsLearned, IsAnalysed, IsRefuting}
+use Rattle.sat_propagate.specs.Internal.Trail.{TrailState, literals, IsTrail}
+use Rattle.sat_propagate.specs.Internal.Propagator.{texts}
+use Rattle.sat_core.specs.Internal.Marks.{is_marked, marks_literal, others}
+use Rattle.sat_core.specs.Internal.Learned.{AreNamed, IsLearned, IsAnalysed, IsRefuting}
 use Rattle.sat_propagate.specs.declared.trail.Step.{Step}
-use Rattle.sat_propagate.specs.Means.ClauseTable.{Watched}
+use Rattle.sat_propagate.specs.Internal.ClauseTable.{Watched}
 use Rattle.sat_propagate.proofs.PlaceLaws.{literal_at, once_place}
 use Rattle.sat_propagate.proofs.TableLaws.{get_or-any}
 

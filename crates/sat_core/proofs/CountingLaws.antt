@@ -8,11 +8,11 @@ use Rattle.sat_base.specs.declared.literal.Var.{Var}
 use Rattle.sat_base.specs.declared.literal.SatLit.{SatLit}
 use Rattle.sat_base.specs.Literal.{same_var, same_literal, holds, mentions, HoldsNoVariableTwice}
 use Rattle.sat_base.proofs.LiteralLaws.{same_var-refl, same_var-true, same_literal-refl, mentions-held}
-use Rattle.sat_laws.specs.Means.Analysis.{one_if, how_many}
+use Rattle.sat_laws.specs.Internal.Analysis.{one_if, how_many}
 use Rattle.sat_laws.proofs.AnalysisLaws.{how_many-same, how_many-more}
 use Rattle.sat_propagate.proofs.PlaceLaws.{not_after}
-use Rattle.sat_propagate.specs.Means.Trail.{TrailState, literals, IsTrail}
-use Rattle.sat_core.specs.Means.Marks.{is_marked, marks_literal}
+use Rattle.sat_propagate.specs.Internal.Trail.{TrailState, literals, IsTrail}
+use Rattle.sat_core.specs.Internal.Marks.{is_marked, marks_literal}
 use Rattle.sat_propagate.specs.declared.trail.Step.{Step}
 
 -- a variable that is mentioned stands at some place

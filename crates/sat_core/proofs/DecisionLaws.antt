@@ -12,21 +12,21 @@ use Rattle.sat_log.specs.declared.chain.Premise.{Premise}
 use Rattle.sat_log.specs.declared.chain.Premise.TheVariants.{Clause, Result}
 use Rattle.sat_log.specs.Chains.{premise_clause}
 use Rattle.sat_log.specs.Propagation.{IsUnit, IsFalseIn, Includes, ReachesFalse, AreFailingDecisions}
-use Rattle.sat_laws.specs.Means.Complete.{IsComplete, IsWithin}
-use Rattle.sat_laws.specs.Means.Trail.{IsForced}
+use Rattle.sat_laws.specs.Internal.Complete.{IsComplete, IsWithin}
+use Rattle.sat_laws.specs.Internal.Trail.{IsForced}
 use Rattle.sat_laws.proofs.CompleteLaws.{consistent_once}
 use Rattle.sat_laws.proofs.WatchLaws.{held-take}
 use Rattle.sat_laws.proofs.TrailLaws.{held_at, trail_reaches_false, failing_decisions}
 use Rattle.sat_laws.proofs.AnalysisLaws.{place_below, held_below}
-use Rattle.sat_propagate.specs.Means.Trail.{TrailState, literals, IsTrail}
-use Rattle.sat_propagate.specs.Means.Propagator.{IsConflict, texts}
+use Rattle.sat_propagate.specs.Internal.Trail.{TrailState, literals, IsTrail}
+use Rattle.sat_propagate.specs.Internal.Propagator.{IsConflict, texts}
 use Rattle.sat_propagate.specs.declared.trail.Step.{Step}
 use Rattle.sat_propagate.specs.declared.propagator.Propagator.{Propagator}
 use Rattle.sat_propagate.proofs.ListLaws.{get-take, no_literal}
 use Rattle.sat_propagate.proofs.PlaceLaws.{literal_at, once_place}
 use Rattle.sat_propagate.proofs.LevelLaws.{complete_at}
 use Rattle.sat_propagate.proofs.TableLaws.{get_or-any}
-use Rattle.sat_core.specs.Means.Learner.{IsNamedPropagator}
+use Rattle.sat_core.specs.Internal.Learner.{IsNamedPropagator}
 use Rattle.sat_core.proofs.AnalysisSteps.{contains_at, no_start}
 
 -- a premise names a clause or a result

@@ -13,7 +13,7 @@ use Rattle.sat_base.specs.Truth.{AllTrue, assigned, literal_value, clause_value}
 use Rattle.sat_base.proofs.LiteralLaws.{same_var-refl}
 use Rattle.sat_base.proofs.TruthLaws.{clause_value-held}
 use Rattle.sat_laws.proofs.AnalysisLaws.{mentioned_by}
-use Rattle.sat_core.specs.Means.Keeper.{uses_of, AreUsed, AreTrue, AreTrueBut, IsKeeper}
+use Rattle.sat_core.specs.Internal.Keeper.{uses_of, AreUsed, AreTrue, AreTrueBut, IsKeeper}
 
 -- Options.
 

@@ -18,16 +18,16 @@ use Rattle.sat_log.specs.Chains.{premise_clause, results}
 use Rattle.sat_log.specs.Propagation.{IsNew, Includes}
 use Rattle.sat_log.proofs.ChainLaws.{slice_get-before, slice_get-seam}
 use Rattle.sat_log.proofs.PropagationLaws.{Reaches-included, ReachesFalse-included, IsNew-apart}
-use Rattle.sat_laws.specs.Means.Counting.{IsAmong}
+use Rattle.sat_laws.specs.Internal.Counting.{IsAmong}
 use Rattle.sat_laws.proofs.CountLaws.{clause_count}
-use Rattle.sat_propagate.specs.Means.Propagator.{texts}
+use Rattle.sat_propagate.specs.Internal.Propagator.{texts}
 use Rattle.sat_propagate.specs.declared.propagator.Propagator.{Propagator}
 use Rattle.sat_propagate.proofs.ListLaws.{get-take}
 use Rattle.sat_propagate.proofs.TableLaws.{get_or-any}
 use Rattle.sat_core.specs.declared.learner.Learner.{Learner}
 use Rattle.sat_core.specs.Solver.{learned_from, AreAmong, IsLearnedFrom, WereLearned}
-use Rattle.sat_core.specs.Means.Learned.{Occurs}
-use Rattle.sat_core.specs.Means.Learner.{IsNamedPropagator, AreInserted, AreLearned, Grew}
+use Rattle.sat_core.specs.Internal.Learned.{Occurs}
+use Rattle.sat_core.specs.Internal.Learner.{IsNamedPropagator, AreInserted, AreLearned, Grew}
 use Rattle.sat_core.proofs.AnalysisSteps.{contains_at}
 
 -- 1. Which clauses are inserted

@@ -16,11 +16,11 @@ use Rattle.sat_log.specs.Propagation.{IsNew, Includes, ReachesFalse}
 use Rattle.sat_log.proofs.ChainLaws.{slice_get-before, slice_get-seam, slice_get-append, IsLogOver-append}
 use Rattle.sat_log.proofs.Implied.{results_implied}
 use Rattle.sat_log.proofs.PropagationLaws.{ReachesFalse-included}
-use Rattle.sat_propagate.specs.Means.Propagator.{IsPropagator, texts}
+use Rattle.sat_propagate.specs.Internal.Propagator.{IsPropagator, texts}
 use Rattle.sat_propagate.specs.declared.propagator.Propagator.{Propagator}
 use Rattle.sat_propagate.proofs.ListLaws.{get-past_seam}
 use Rattle.sat_core.specs.Solver.{learned_from, WereLearned}
-use Rattle.sat_core.specs.Means.Learner.{IsNamedPropagator, AreInserted, AreLearned, IsLearnerOf, IsUnlearned}
+use Rattle.sat_core.specs.Internal.Learner.{IsNamedPropagator, AreInserted, AreLearned, IsLearnerOf, IsUnlearned}
 use Rattle.sat_core.specs.declared.learner.Learner.{Learner}
 use Rattle.sat_core.proofs.NameLaws.{ready_same}
 use Rattle.sat_core.proofs.LearnerLaws.{AreInserted-within, AreInserted-next, AreInserted-append, AreLearned-append, WereLearned-append, WereLearned-push, learned_open, learned_pushed}

@@ -15,13 +15,13 @@ use Rattle.sat_log.specs.declared.log.LogEntry.{LogEntry}
 use Rattle.sat_log.specs.declared.chain.Premise.TheVariants.{Clause, Result}
 use Rattle.std.specs.Prelude.{IsSome, Option}
 use Rattle.sat_base.proofs.LiteralLaws.{All-held, All-from_held}
-use Rattle.sat_core.specs.Means.Learned.{AreNamed, Learns}
-use Rattle.sat_propagate.specs.Means.Trail.{TrailState}
-use Rattle.sat_propagate.specs.Means.WatchLists.{WatchPair}
-use Rattle.sat_propagate.specs.Means.Propagator.{IsPropagator, texts}
-use Rattle.sat_core.specs.Means.Learner.{IsNamedPropagator}
+use Rattle.sat_core.specs.Internal.Learned.{AreNamed, Learns}
+use Rattle.sat_propagate.specs.Internal.Trail.{TrailState}
+use Rattle.sat_propagate.specs.Internal.WatchLists.{WatchPair}
+use Rattle.sat_propagate.specs.Internal.Propagator.{IsPropagator, texts}
+use Rattle.sat_core.specs.Internal.Learner.{IsNamedPropagator}
 use Rattle.sat_propagate.specs.declared.propagator.Propagator.{Propagator}
-use Rattle.sat_propagate.specs.Means.ClauseTable.{Watched}
+use Rattle.sat_propagate.specs.Internal.ClauseTable.{Watched}
 use Rattle.sat_core.proofs.AnalysisSteps.{over_more}
 use Rattle.sat_propagate.proofs.ListLaws.{get-past_seam}
 

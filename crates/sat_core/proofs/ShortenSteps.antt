@@ -16,18 +16,18 @@ use Rattle.sat_log.proofs.ResolutionLaws.{holds-without}
 use Rattle.sat_log.proofs.VariableLaws.{mentioned_as}
 use Rattle.sat_log.specs.Chains.{premise_clause}
 use Rattle.sat_log.specs.Propagation.{IsUnit, IsConsistent}
-use Rattle.sat_laws.specs.Means.Complete.{IsComplete}
+use Rattle.sat_laws.specs.Internal.Complete.{IsComplete}
 use Rattle.sat_laws.proofs.CompleteLaws.{consistent_once}
 use Rattle.sat_laws.proofs.TrailLaws.{held_at}
 use Rattle.sat_laws.proofs.WatchLaws.{held-take}
 use Rattle.sat_laws.proofs.AnalysisLaws.{IsOutcome, step_resolves, outcome_mentions, mentioned_by, place_below, held_below, learned_new}
-use Rattle.sat_propagate.specs.Means.Trail.{TrailState, literals, IsTrail}
-use Rattle.sat_propagate.specs.Means.Propagator.{texts}
+use Rattle.sat_propagate.specs.Internal.Trail.{TrailState, literals, IsTrail}
+use Rattle.sat_propagate.specs.Internal.Propagator.{texts}
 use Rattle.sat_propagate.specs.declared.trail.Step.{Step}
-use Rattle.sat_propagate.specs.Means.ClauseTable.{Watched}
+use Rattle.sat_propagate.specs.Internal.ClauseTable.{Watched}
 use Rattle.sat_propagate.proofs.PlaceLaws.{literal_at, once_place}
-use Rattle.sat_core.specs.Means.Marks.{is_marked, others}
-use Rattle.sat_core.specs.Means.Learned.{IsLearned, IsShortening, Learns}
+use Rattle.sat_core.specs.Internal.Marks.{is_marked, others}
+use Rattle.sat_core.specs.Internal.Learned.{IsLearned, IsShortening, Learns}
 use Rattle.sat_core.proofs.AnalysisSteps.{chain_result-push, reason_undenied, once_resolved}
 
 -- the literals of what is learned are false

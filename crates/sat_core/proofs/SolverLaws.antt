@@ -13,7 +13,7 @@ use Rattle.sat_log.specs.Propagation.{IsNew, ReachesFalse}
 use Rattle.sat_log.proofs.Implied.{results_implied}
 use Rattle.sat_core.specs.declared.learner.Learner.{Learner}
 use Rattle.sat_core.specs.Solver.{SolverState, learned_from, learned, Grows, IsSound}
-use Rattle.sat_core.specs.Means.Learner.{IsLearner, Grew, seen, shown}
+use Rattle.sat_core.specs.Internal.Learner.{IsLearner, Grew, seen, shown}
 use Rattle.sat_core.proofs.AnalysisSteps.{contains_at}
 use Rattle.sat_core.proofs.LearnerLaws.{learned_open, learned_at}
 

@@ -8,14 +8,14 @@ use Rattle.sat_log.specs.declared.chain.Chain.{Chain}
 use Rattle.sat_log.specs.declared.log.LogEntry.{LogEntry}
 use Rattle.sat_log.specs.Chains.{results}
 use Rattle.sat_log.specs.Propagation.{Includes}
-use Rattle.sat_propagate.specs.Means.Trail.{IsTrail}
-use Rattle.sat_propagate.specs.Means.Propagator.{IsConflict, texts}
+use Rattle.sat_propagate.specs.Internal.Trail.{IsTrail}
+use Rattle.sat_propagate.specs.Internal.Propagator.{IsConflict, texts}
 use Rattle.sat_propagate.specs.declared.propagator.Propagator.{Propagator}
 use Rattle.sat_core.specs.declared.learner.Answer.{Answer}
 use Rattle.sat_core.specs.declared.learner.Answer.TheVariants.{Sat, Spent}
 use Rattle.sat_core.specs.Solver.{SolverState}
-use Rattle.sat_core.specs.Means.Learned.{Learns}
-use Rattle.sat_core.specs.Means.Learner.{IsNamedPropagator, AreLearned, IsSpent, Answers}
+use Rattle.sat_core.specs.Internal.Learned.{Learns}
+use Rattle.sat_core.specs.Internal.Learner.{IsNamedPropagator, AreLearned, IsSpent, Answers}
 use Rattle.sat_core.proofs.LearnerLaws.{learned_more, learned_count}
 use Rattle.sat_core.proofs.DecisionLaws.{decisions_fail}
 

@@ -1,2 +1,2 @@
 pub mod Solver
-pub mod Means
+pub mod Internal

@@ -3,13 +3,13 @@ ghost use Rattle.std.specs.Prelude.{◌≡◌, ◌<◌, ◌≤◌, ◌≢◌, �
 ghost use Rattle.sat_base.specs.declared.literal.Var.{Var};
 ghost use Rattle.sat_base.specs.declared.literal.SatLit.{SatLit};
 ghost use Rattle.sat_base.specs.Literal.{holds, mentions, same_var, IsOver};
-ghost use Rattle.sat_laws.specs.Means.Analysis.{how_many};
-ghost use Rattle.sat_propagate.specs.Means.Trail.{literals, IsTrail};
-ghost use Rattle.sat_propagate.specs.Means.Propagator.{IsPropagator, IsConflict};
-ghost use Rattle.sat_core.specs.Means.Learned.{IsShortening, AreNamed};
+ghost use Rattle.sat_laws.specs.Internal.Analysis.{how_many};
+ghost use Rattle.sat_propagate.specs.Internal.Trail.{literals, IsTrail};
+ghost use Rattle.sat_propagate.specs.Internal.Propagator.{IsPropagator, IsConflict};
+ghost use Rattle.sat_core.specs.Internal.Learned.{IsShortening, AreNamed};
 ghost use Rattle.sat_log.specs.Chains.{premise_clause, chain_result};
 ghost use Rattle.sat_log.specs.Propagation.{IsFalseIn};
-ghost use Rattle.sat_core.specs.Means.Marks.{is_marked, marks_literal, others};
+ghost use Rattle.sat_core.specs.Internal.Marks.{is_marked, marks_literal, others};
 
 use crate::marks::Marks;
 use sat_base::{SatLit, Var};

@@ -5,7 +5,7 @@ ghost use Rattle.sat_base.specs.declared.literal.Var.{Var};
 ghost use Rattle.sat_base.specs.declared.literal.SatLit.{SatLit};
 ghost use Rattle.sat_base.specs.Literal.{holds, IsOver};
 ghost use Rattle.sat_base.specs.Truth.{AllTrue, assigned, clause_value};
-ghost use Rattle.sat_core.specs.Means.Keeper.{uses_of, IsUsed, AreUsed, AreOver, AreTrue, AreTrueBut, IsKeeper};
+ghost use Rattle.sat_core.specs.Internal.Keeper.{uses_of, IsUsed, AreUsed, AreOver, AreTrue, AreTrueBut, IsKeeper};
 
 use crate::uses::Uses;
 use sat_base::{ClauseStore, SatLit, Var};

@@ -4,10 +4,10 @@ ghost use Rattle.sat_base.specs.declared.literal.SatLit.{SatLit};
 ghost use Rattle.sat_base.specs.Literal.{IsOver};
 ghost use Rattle.sat_log.specs.Propagation.{IsFalseIn, Includes};
 ghost use Rattle.sat_log.specs.declared.chain.Premise.{Premise};
-ghost use Rattle.sat_propagate.specs.Means.Trail.{literals};
-ghost use Rattle.sat_propagate.specs.Means.Propagator.{texts, IsConflict};
-ghost use Rattle.sat_core.specs.Means.Learned.{Learns};
-ghost use Rattle.sat_core.specs.Means.Learner.{IsNamedPropagator, IsLearner, IsUnlearned, Grew, Answers, seen};
+ghost use Rattle.sat_propagate.specs.Internal.Trail.{literals};
+ghost use Rattle.sat_propagate.specs.Internal.Propagator.{texts, IsConflict};
+ghost use Rattle.sat_core.specs.Internal.Learned.{Learns};
+ghost use Rattle.sat_core.specs.Internal.Learner.{IsNamedPropagator, IsLearner, IsUnlearned, Grew, Answers, seen};
 ghost use Rattle.sat_core.specs.Solver.{learned_from};
 ghost use Rattle.sat_log.specs.Chains.{premise_clause, results, IsLogOver, AppendsChain};
 

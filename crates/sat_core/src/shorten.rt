@@ -1,7 +1,7 @@
 //! What is learned from a conflict, without the literals that its others make false.
 ghost use Rattle.std.specs.Prelude.{◌≡◌, ◌<◌, ◌≤◌, length, IfOk, OnOk};
-ghost use Rattle.sat_propagate.specs.Means.Propagator.{IsPropagator, IsConflict};
-ghost use Rattle.sat_core.specs.Means.Learned.{Learns, IsShortening};
+ghost use Rattle.sat_propagate.specs.Internal.Propagator.{IsPropagator, IsConflict};
+ghost use Rattle.sat_core.specs.Internal.Learned.{Learns, IsShortening};
 
 use crate::analysis::{mark_others, name_of, point_chain};
 use crate::marks::Marks;

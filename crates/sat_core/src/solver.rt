@@ -25,8 +25,8 @@ pub struct Solver {
 
 impl Model for Solver {
     ghost use Rattle.sat_core.specs.Solver.{SolverState};
-    ghost use Rattle.sat_core.specs.Means.Learner.{shown};
-    ghost use Rattle.sat_core.specs.Means.Keeper.{IsSolver};
+    ghost use Rattle.sat_core.specs.Internal.Learner.{shown};
+    ghost use Rattle.sat_core.specs.Internal.Keeper.{IsSolver};
 
     ghost Value = { SolverState };
 

@@ -2,7 +2,7 @@
 ghost use Rattle.std.specs.Prelude.{◌≡◌, ◌<◌, [], ◌∷◌, ◌++◌, if◌then◌else◌, length, OnOk, OnErr};
 ghost use Rattle.sat_base.specs.declared.literal.Var.{Var};
 ghost use Rattle.sat_base.specs.Literal.{same_var};
-ghost use Rattle.sat_core.specs.Means.Keeper.{uses_of};
+ghost use Rattle.sat_core.specs.Internal.Keeper.{uses_of};
 
 use sat_base::Var;
 use std::alloc::{AllocError, Global};

@@ -12,8 +12,8 @@ use Rattle.sat_base.proofs.LiteralLaws.{same_var-refl, same_var-true, mentions-h
 use Rattle.sat_log.specs.Resolution.{without, resolvent, resolved}
 use Rattle.sat_log.specs.Propagation.{IsUnit, IsConsistent, IsNew}
 use Rattle.sat_log.proofs.ResolutionLaws.{holds-without, holds-without_repeats}
-use Rattle.sat_laws.specs.Means.Analysis.{IsFalseBefore, one_if, how_many}
-use Rattle.sat_laws.specs.Means.Complete.{IsComplete}
+use Rattle.sat_laws.specs.Internal.Analysis.{IsFalseBefore, one_if, how_many}
+use Rattle.sat_laws.specs.Internal.Complete.{IsComplete}
 use Rattle.sat_laws.proofs.CompleteLaws.{new_by_complete}
 use Rattle.sat_laws.proofs.WatchLaws.{held-take}
 

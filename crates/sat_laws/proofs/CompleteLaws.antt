@@ -9,7 +9,7 @@ use Rattle.sat_log.proofs.ResolutionLaws.{holds-without}
 use Rattle.sat_log.specs.Resolution.{without}
 use Rattle.sat_log.specs.Propagation.{IsUnit, IsFalseIn, IsConsistent, Propagates, IsPropagation, Reaches, ReachesFalse, IsNew}
 use Rattle.sat_log.proofs.VariableLaws.{no_clash}
-use Rattle.sat_laws.specs.Means.Complete.{satisfies, IsWithin, IsComplete}
+use Rattle.sat_laws.specs.Internal.Complete.{satisfies, IsWithin, IsComplete}
 
 -- a list that holds no variable twice is consistent
 pub consistent_once : (literals : List SatLit) → HoldsNoVariableTwice literals → IsConsistent literals

@@ -12,7 +12,7 @@ use Rattle.sat_base.specs.declared.literal.SatLit.{SatLit}
 use Rattle.sat_base.specs.Literal.{same_var, holds, HoldsNoVariableTwice, IsAlike}
 use Rattle.sat_base.proofs.LiteralLaws.{sign_cases, same_var-true}
 use Rattle.sat_base.proofs.CountLaws.{digit, digit-lt, same_literals}
-use Rattle.sat_laws.specs.Means.Counting.{IsAmong}
+use Rattle.sat_laws.specs.Internal.Counting.{IsAmong}
 
 abbrev code : List Var → List SatLit → ℕ
 code [] clause = 0

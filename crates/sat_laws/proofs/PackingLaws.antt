@@ -5,7 +5,7 @@ use Rattle.std.proofs.lemmas.Nat.{shr_high, mod_low}
 use Rattle.sat_base.specs.declared.literal.Var.{Var}
 use Rattle.sat_base.specs.declared.literal.SatLit.{SatLit}
 use Rattle.sat_base.specs.Literal.{literal}
-use Rattle.sat_laws.specs.Means.Packing.{packed, unpacked}
+use Rattle.sat_laws.specs.Internal.Packing.{packed, unpacked}
 
 rest_bit : (n : ℕ) (b : Bool) → (n % 2 == 1) ≡ b → n / 2 * 2 + (if b then 1 else 0) ≡ n
 rest_bit n true e = let odd : n % 2 ≡ 1 = eqb-true (n % 2) 1 e in omega (arith, odd)

@@ -8,8 +8,8 @@ use Rattle.sat_base.specs.declared.literal.SatLit.{SatLit}
 use Rattle.sat_base.specs.Literal.{negated, same_literal, holds}
 use Rattle.sat_base.proofs.LiteralLaws.{same_literal-refl, holds-append, All-held, All-from_held}
 use Rattle.sat_log.specs.Propagation.{IsUnit, IsFalseIn, IsConsistent, Propagates, ReachesFalse, AreFailingDecisions}
-use Rattle.sat_laws.specs.Means.Complete.{IsWithin, IsComplete}
-use Rattle.sat_laws.specs.Means.Trail.{IsForced}
+use Rattle.sat_laws.specs.Internal.Complete.{IsWithin, IsComplete}
+use Rattle.sat_laws.specs.Internal.Trail.{IsForced}
 use Rattle.sat_laws.proofs.CompleteLaws.{IsWithin-push, reached_within, none_reached_false}
 
 pub held_at : (literals : List SatLit) (i : ℕ) (l : SatLit) → slice_get literals i ≡ Some l → holds literals l ≡ true

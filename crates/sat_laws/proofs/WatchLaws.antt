@@ -8,8 +8,8 @@ use Rattle.sat_base.specs.declared.literal.SatLit.{SatLit}
 use Rattle.sat_base.specs.Literal.{negated, same_literal, holds}
 use Rattle.sat_base.proofs.LiteralLaws.{holds-append, same_literal-true}
 use Rattle.sat_log.specs.Propagation.{IsUnit, IsFalseIn, IsConsistent}
-use Rattle.sat_laws.specs.Means.Complete.{satisfies}
-use Rattle.sat_laws.specs.Means.Watching.{IsGuarded, IsKept}
+use Rattle.sat_laws.specs.Internal.Complete.{satisfies}
+use Rattle.sat_laws.specs.Internal.Watching.{IsGuarded, IsKept}
 use Rattle.sat_laws.proofs.CompleteLaws.{satisfies-more, satisfied_complete, satisfied_complete_unit, watched_not_false, watched_unit}
 
 -- each boundary is within the trail

@@ -5,10 +5,10 @@ ghost use Rattle.sat_base.specs.declared.literal.Var.{Var};
 ghost use Rattle.sat_base.specs.declared.literal.SatLit.{SatLit};
 ghost use Rattle.sat_base.specs.Literal.{holds, negated, same_literal, HoldsNoVariableTwice, IsAlike};
 ghost use Rattle.sat_log.specs.Propagation.{Reaches, ReachesFalse, IsConsistent, IsFalseIn, IsUnit, AreFailingDecisions, IsNew};
-ghost use Rattle.sat_laws.specs.Means.Complete.{IsComplete, IsWithin};
-ghost use Rattle.sat_laws.specs.Means.Counting.{IsAmong};
-ghost use Rattle.sat_laws.specs.Means.Trail.{IsForced};
-ghost use Rattle.sat_laws.specs.Means.Watching.{IsKept};
+ghost use Rattle.sat_laws.specs.Internal.Complete.{IsComplete, IsWithin};
+ghost use Rattle.sat_laws.specs.Internal.Counting.{IsAmong};
+ghost use Rattle.sat_laws.specs.Internal.Trail.{IsForced};
+ghost use Rattle.sat_laws.specs.Internal.Watching.{IsKept};
 
 /// What unit propagation reaches from literals of a complete list is in the list, and it reaches no false clause.
 pub fn complete_law()

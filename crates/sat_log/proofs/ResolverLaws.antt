@@ -11,9 +11,9 @@ use Rattle.sat_base.specs.Literal.{same_literal, holds}
 use Rattle.sat_base.proofs.LiteralLaws.{same_literal-comm, same_literal-refl, holds-append}
 use Rattle.sat_log.specs.declared.resolver.Placed.{Placed}
 use Rattle.sat_log.specs.declared.stamps.Stamps.{Stamps}
-use Rattle.sat_log.specs.Means.Stamps.{stamp_of, Updates}
+use Rattle.sat_log.specs.Internal.Stamps.{stamp_of, Updates}
 use Rattle.sat_log.specs.Resolution.{without}
-use Rattle.sat_log.specs.Means.Resolver.{is_stamp, is_live, live, in_order, IsMarked}
+use Rattle.sat_log.specs.Internal.Resolver.{is_stamp, is_live, live, in_order, IsMarked}
 use Rattle.sat_log.proofs.ResolutionLaws.{holds-without, without-cons_same, without-cons_other}
 
 pub live-append : (table : List Stamps) (xs ys : List Placed) → live table (xs ++ ys) ≡ live table xs ++ live table ys

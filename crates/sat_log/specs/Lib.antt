@@ -1,4 +1,4 @@
 pub mod Resolution
 pub mod Chains
 pub mod Propagation
-pub mod Means
+pub mod Internal

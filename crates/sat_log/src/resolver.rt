@@ -4,8 +4,8 @@ ghost use Rattle.std.specs.List.{list_any};
 ghost use Rattle.sat_base.specs.declared.literal.SatLit.{SatLit};
 ghost use Rattle.sat_base.specs.Literal.{holds, same_literal};
 ghost use Rattle.sat_log.specs.Resolution.{without, without_repeats, HasNoRepeats, resolved, resolvent};
-ghost use Rattle.sat_log.specs.Means.Stamps.{stamp_of};
-ghost use Rattle.sat_log.specs.Means.Resolver.{is_live as is_live_in, live};
+ghost use Rattle.sat_log.specs.Internal.Stamps.{stamp_of};
+ghost use Rattle.sat_log.specs.Internal.Resolver.{is_live as is_live_in, live};
 
 use crate::stamps::StampTable;
 use sat_base::{Clause, SatLit, Var};
@@ -32,7 +32,7 @@ pub struct Resolver {
 impl Model for Resolver {
     ghost use Rattle.std.specs.Prelude.{List};
     ghost use Rattle.sat_base.specs.declared.literal.SatLit.{SatLit};
-    ghost use Rattle.sat_log.specs.Means.Resolver.{live, in_order, IsMarked};
+    ghost use Rattle.sat_log.specs.Internal.Resolver.{live, in_order, IsMarked};
 
     ghost Value = { List SatLit };
 

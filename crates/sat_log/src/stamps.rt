@@ -35,7 +35,7 @@ impl Model for StampTable {
 }
 
 impl StampTable {
-    ghost use Rattle.sat_log.specs.Means.Stamps.{stamp_of, Updates};
+    ghost use Rattle.sat_log.specs.Internal.Stamps.{stamp_of, Updates};
 
     pub fn new(alloc: Global) -> Self
         ensures { result ≡ [] }

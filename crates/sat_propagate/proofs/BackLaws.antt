@@ -6,13 +6,13 @@ use Rattle.std.proofs.lemmas.List.{take-take, get_or-take, length-take-le}
 use Rattle.std.proofs.lemmas.Option.{slice_get_within, get_or_from_slice_get}
 use Rattle.sat_base.specs.declared.literal.SatLit.{SatLit}
 use Rattle.sat_log.specs.Propagation.{IsUnit}
-use Rattle.sat_laws.specs.Means.Watching.{IsKept}
+use Rattle.sat_laws.specs.Internal.Watching.{IsKept}
 use Rattle.sat_laws.proofs.WatchLaws.{AreWithin, kept_back}
-use Rattle.sat_propagate.specs.Means.Trail.{TrailState, literals, IsTrail}
-use Rattle.sat_propagate.specs.Means.WatchLists.{WatchPair}
-use Rattle.sat_propagate.specs.Means.Propagator.{IsPropagator}
+use Rattle.sat_propagate.specs.Internal.Trail.{TrailState, literals, IsTrail}
+use Rattle.sat_propagate.specs.Internal.WatchLists.{WatchPair}
+use Rattle.sat_propagate.specs.Internal.Propagator.{IsPropagator}
 use Rattle.sat_propagate.specs.declared.trail.Step.{Step}
-use Rattle.sat_propagate.specs.Means.ClauseTable.{Watched}
+use Rattle.sat_propagate.specs.Internal.ClauseTable.{Watched}
 use Rattle.sat_propagate.proofs.ListLaws.{get-take}
 use Rattle.sat_propagate.proofs.TableLaws.{take_literals_is, get_or-any}
 

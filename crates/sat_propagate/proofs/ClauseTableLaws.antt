@@ -8,7 +8,7 @@ use Rattle.std.proofs.lemmas.List.Elements.{All-weaker, All-head, All-tail, All-
 use Rattle.std.proofs.lemmas.Option.{slice_get-map, slice_get-get_or, slice_get_within, same_Some}
 use Rattle.std.proofs.lemmas.Bool.{ltb-true}
 use Rattle.sat_base.specs.declared.literal.SatLit.{SatLit}
-use Rattle.sat_propagate.specs.Means.ClauseTable.{Watched, Clauses, headed, all_headed, AreHeads}
+use Rattle.sat_propagate.specs.Internal.ClauseTable.{Watched, Clauses, headed, all_headed, AreHeads}
 use Rattle.sat_propagate.specs.declared.clause_table.Head.{Head}
 
 pub all_headed-get : (literals : List SatLit) (heads : List Head) (n : ℕ) (head : Head) → slice_get heads n ≡ Some head → slice_get (all_headed literals heads) n ≡ Some (headed literals head)

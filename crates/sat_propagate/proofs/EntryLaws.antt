@@ -8,15 +8,15 @@ use Rattle.sat_base.specs.declared.literal.SatLit.{SatLit}
 use Rattle.sat_base.specs.Literal.{negated, same_literal, holds}
 use Rattle.sat_base.proofs.LiteralLaws.{same_literal-true, same_literal-refl, holds-append, All-held}
 use Rattle.sat_log.specs.Propagation.{IsUnit}
-use Rattle.sat_laws.specs.Means.Complete.{satisfies}
+use Rattle.sat_laws.specs.Internal.Complete.{satisfies}
 use Rattle.sat_laws.proofs.CompleteLaws.{satisfied_by}
-use Rattle.sat_propagate.specs.Means.Trail.{TrailState, literals}
-use Rattle.sat_propagate.specs.Means.WatchLists.{WatchPair, watchers}
-use Rattle.sat_propagate.specs.Means.Propagator.{IsPair, Watches, IsPropagator, AreDone, Rewatched, Moves}
-use Rattle.sat_propagate.specs.Means.Finding.{FindsOther, FindsUnit}
+use Rattle.sat_propagate.specs.Internal.Trail.{TrailState, literals}
+use Rattle.sat_propagate.specs.Internal.WatchLists.{WatchPair, watchers}
+use Rattle.sat_propagate.specs.Internal.Propagator.{IsPair, Watches, IsPropagator, AreDone, Rewatched, Moves}
+use Rattle.sat_propagate.specs.Internal.Finding.{FindsOther, FindsUnit}
 use Rattle.sat_propagate.specs.declared.trail.Step.{Step}
 use Rattle.sat_propagate.specs.declared.watch_lists.Watch.{Watch}
-use Rattle.sat_propagate.specs.Means.ClauseTable.{Watched}
+use Rattle.sat_propagate.specs.Internal.ClauseTable.{Watched}
 use Rattle.sat_propagate.proofs.ListLaws.{get-set_same, length-swap_remove}
 use Rattle.sat_propagate.proofs.PropagatorLaws.{Removes, Replaces, removed_here, if_true, if_false, right_removed, done_removed, done_written, done_more, done_by_blocker, done_longer, right_rewatched, done_rewatched, distinct_from, pair_members, watches_pair, IsFresh, distinct_pair}
 

@@ -12,17 +12,17 @@ use Rattle.sat_base.specs.Literal.{negated, same_literal, holds, mentions, IsOve
 use Rattle.sat_base.proofs.LiteralLaws.{holds-append, same_literal-true, same_literal-refl, mentions-held, All-held, All-from_held}
 use Rattle.sat_log.specs.Propagation.{IsUnit, IsFalseIn}
 use Rattle.sat_log.proofs.ChainLaws.{slice_get-append, slice_get-before, slice_get-seam}
-use Rattle.sat_laws.specs.Means.Watching.{IsKept, IsGuarded}
+use Rattle.sat_laws.specs.Internal.Watching.{IsKept, IsGuarded}
 use Rattle.sat_laws.proofs.CompleteLaws.{satisfied_by}
 use Rattle.sat_laws.proofs.WatchLaws.{held-take, kept_push}
 use Rattle.sat_laws.proofs.AnalysisLaws.{place_below, held_below}
-use Rattle.sat_propagate.specs.Means.Trail.{TrailState, literals, IsTrail}
-use Rattle.sat_propagate.specs.Means.WatchLists.{WatchPair, Names, watchers, no_watches}
-use Rattle.sat_propagate.specs.Means.Propagator.{IsPropagator, Watches, Enlists, texts}
-use Rattle.sat_propagate.specs.Means.Insertion.{IsSooner, IsRank, IsBest, IsUnseen}
+use Rattle.sat_propagate.specs.Internal.Trail.{TrailState, literals, IsTrail}
+use Rattle.sat_propagate.specs.Internal.WatchLists.{WatchPair, Names, watchers, no_watches}
+use Rattle.sat_propagate.specs.Internal.Propagator.{IsPropagator, Watches, Enlists, texts}
+use Rattle.sat_propagate.specs.Internal.Insertion.{IsSooner, IsRank, IsBest, IsUnseen}
 use Rattle.sat_propagate.specs.declared.trail.Step.{Step}
 use Rattle.sat_propagate.specs.declared.watch_lists.Watch.{Watch}
-use Rattle.sat_propagate.specs.Means.ClauseTable.{Watched}
+use Rattle.sat_propagate.specs.Internal.ClauseTable.{Watched}
 use Rattle.sat_propagate.proofs.ListLaws.{held_more, unmentioned, no_literal, get-past_seam}
 use Rattle.sat_propagate.proofs.TableLaws.{take_literals_is, get_or-any, get_or-default}
 use Rattle.sat_propagate.proofs.PropagatorLaws.{names_longer, names_new, reasoned_longer, starts_within, literals-push}

@@ -15,15 +15,15 @@ use Rattle.std.proofs.lemmas.Option.{slice_get_cases, slice_get-map, get_or_from
 use Rattle.sat_base.specs.declared.literal.SatLit.{SatLit}
 use Rattle.sat_base.specs.Literal.{negated, holds, mentions, HoldsNoVariableTwice, IsOver}
 use Rattle.sat_log.specs.Propagation.{IsUnit, IsFalseIn, IsConsistent}
-use Rattle.sat_laws.specs.Means.Complete.{IsComplete}
-use Rattle.sat_laws.specs.Means.Watching.{IsKept}
+use Rattle.sat_laws.specs.Internal.Complete.{IsComplete}
+use Rattle.sat_laws.specs.Internal.Watching.{IsKept}
 use Rattle.sat_laws.proofs.CompleteLaws.{consistent_once}
 use Rattle.sat_laws.proofs.WatchLaws.{kept_at, kept_now, held-take}
-use Rattle.sat_propagate.specs.Means.Trail.{TrailState, literals, IsTrail, IsPhased}
-use Rattle.sat_propagate.specs.Means.WatchLists.{WatchPair}
-use Rattle.sat_propagate.specs.Means.Propagator.{IsPropagator, texts}
+use Rattle.sat_propagate.specs.Internal.Trail.{TrailState, literals, IsTrail, IsPhased}
+use Rattle.sat_propagate.specs.Internal.WatchLists.{WatchPair}
+use Rattle.sat_propagate.specs.Internal.Propagator.{IsPropagator, texts}
 use Rattle.sat_propagate.specs.declared.trail.Step.{Step}
-use Rattle.sat_propagate.specs.Means.ClauseTable.{Watched}
+use Rattle.sat_propagate.specs.Internal.ClauseTable.{Watched}
 
 -- a text is that of some clause
 pub text_at : (clauses : List Watched) (clause : List SatLit) → Contains (texts clauses) clause → (n : ℕ) × (watched : Watched) × (slice_get clauses n ≡ Some watched) × (watched.clause ≡ clause)

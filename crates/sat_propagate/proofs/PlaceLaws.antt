@@ -9,7 +9,7 @@ use Rattle.sat_base.specs.declared.literal.SatLit.{SatLit}
 use Rattle.sat_base.specs.Literal.{same_var, mentions, HoldsNoVariableTwice}
 use Rattle.sat_base.proofs.LiteralLaws.{mentions-held}
 use Rattle.sat_laws.proofs.TrailLaws.{held_at}
-use Rattle.sat_propagate.specs.Means.Trail.{literals}
+use Rattle.sat_propagate.specs.Internal.Trail.{literals}
 use Rattle.sat_propagate.specs.declared.trail.Step.{Step}
 
 pub literal_at : (steps : List Step) (i : ℕ) (step : Step) → slice_get steps i ≡ Some step → slice_get (literals steps) i ≡ Some step.literal

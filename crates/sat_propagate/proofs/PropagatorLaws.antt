@@ -15,17 +15,17 @@ use Rattle.sat_base.specs.Literal.{negated, same_var, same_literal, holds, menti
 use Rattle.sat_base.proofs.LiteralLaws.{same_literal-true, same_literal-refl, holds-append, negated-negated, All-held}
 use Rattle.sat_log.specs.Propagation.{IsUnit}
 use Rattle.sat_log.proofs.ChainLaws.{slice_get-append, slice_get-before, slice_get-seam}
-use Rattle.sat_laws.specs.Means.Complete.{satisfies}
-use Rattle.sat_laws.specs.Means.Watching.{IsKept}
+use Rattle.sat_laws.specs.Internal.Complete.{satisfies}
+use Rattle.sat_laws.specs.Internal.Watching.{IsKept}
 use Rattle.sat_laws.proofs.CompleteLaws.{satisfied_by, satisfies-more}
 use Rattle.sat_laws.proofs.WatchLaws.{AreWithin, kept_push, kept_start, kept_next, kept_rewatched, kept_from_pair, kept_to_pair}
 use Rattle.sat_laws.proofs.TrailLaws.{held_at}
-use Rattle.sat_propagate.specs.Means.Trail.{TrailState, literals, IsTrail}
-use Rattle.sat_propagate.specs.Means.WatchLists.{WatchPair, Names, watchers}
-use Rattle.sat_propagate.specs.Means.Propagator.{IsReasoned, IsPair, Watches, IsPropagator, IsDone, AreDone, Rewatched, Enlists, Grew, texts}
+use Rattle.sat_propagate.specs.Internal.Trail.{TrailState, literals, IsTrail}
+use Rattle.sat_propagate.specs.Internal.WatchLists.{WatchPair, Names, watchers}
+use Rattle.sat_propagate.specs.Internal.Propagator.{IsReasoned, IsPair, Watches, IsPropagator, IsDone, AreDone, Rewatched, Enlists, Grew, texts}
 use Rattle.sat_propagate.specs.declared.trail.Step.{Step}
 use Rattle.sat_propagate.specs.declared.watch_lists.Watch.{Watch}
-use Rattle.sat_propagate.specs.Means.ClauseTable.{Watched}
+use Rattle.sat_propagate.specs.Internal.ClauseTable.{Watched}
 use Rattle.sat_propagate.proofs.ListLaws.{map-set_same, get-past_seam, get-set_same, get-set_other, get-swap_remove_before, kept-swap_remove}
 
 pub if_true : {X : Type 0} (b : Bool) (x y : X) → b ≡ true → (if b then x else y) ≡ x

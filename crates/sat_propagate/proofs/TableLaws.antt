@@ -14,7 +14,7 @@ use Rattle.sat_base.specs.declared.literal.SatLit.{SatLit}
 use Rattle.sat_base.specs.Literal.{literal, same_var, same_literal, holds, mentions, HoldsNoVariableTwice, IsOver}
 use Rattle.sat_base.proofs.LiteralLaws.{same_var-refl, same_var-true, holds-append, mentions-held, All-held, All-from_held}
 use Rattle.sat_laws.proofs.TrailLaws.{held_at}
-use Rattle.sat_propagate.specs.Means.Trail.{TrailState, literals, open_cell, cell_of, is_true_in, IsTabled, IsTrail, IsTrailInside}
+use Rattle.sat_propagate.specs.Internal.Trail.{TrailState, literals, open_cell, cell_of, is_true_in, IsTabled, IsTrail, IsTrailInside}
 use Rattle.sat_propagate.specs.declared.trail.Step.{Step}
 use Rattle.sat_propagate.specs.declared.trail.Cell.{Cell}
 use Rattle.sat_propagate.proofs.ListLaws.{get-take, map-set_same, unmentioned}

@@ -1,7 +1,7 @@
 //! Clauses with their watched literals.
 ghost use Rattle.std.specs.Prelude.{◌≡◌, ◌≢◌, ◌<◌, ◌++◌, [], ◌∷◌, List, length, Some, slice_get, OnOk, OnErr, IfSome, IfNone};
 ghost use Rattle.sat_base.specs.declared.literal.SatLit.{SatLit};
-ghost use Rattle.sat_propagate.specs.Means.ClauseTable.{Watched};
+ghost use Rattle.sat_propagate.specs.Internal.ClauseTable.{Watched};
 
 use crate::packed::{Packed, narrow};
 use sat_base::SatLit;
@@ -18,8 +18,8 @@ pub struct Head {
 }
 
 impl Head {
-    ghost use Rattle.sat_propagate.specs.Means.ClauseTable.{headed};
-    ghost use Rattle.sat_propagate.specs.Means.Propagator.{IsPair};
+    ghost use Rattle.sat_propagate.specs.Internal.ClauseTable.{headed};
+    ghost use Rattle.sat_propagate.specs.Internal.Propagator.{IsPair};
 
     /// Watches a literal in place of another one.
     fn replace(&mut self, from: SatLit, to: Packed)
@@ -42,7 +42,7 @@ pub struct ClauseTable {
 }
 
 impl Model for ClauseTable {
-    ghost use Rattle.sat_propagate.specs.Means.ClauseTable.{Clauses, all_headed, AreHeads};
+    ghost use Rattle.sat_propagate.specs.Internal.ClauseTable.{Clauses, all_headed, AreHeads};
 
     ghost Value = { Clauses };
 
@@ -52,7 +52,7 @@ impl Model for ClauseTable {
 }
 
 impl ClauseTable {
-    ghost use Rattle.sat_propagate.specs.Means.Propagator.{IsPair, Watches, Rewatched};
+    ghost use Rattle.sat_propagate.specs.Internal.Propagator.{IsPair, Watches, Rewatched};
 
     pub fn new(alloc: Global) -> Self
         ensures { result.items ≡ [] }

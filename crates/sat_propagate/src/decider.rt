@@ -1,7 +1,7 @@
 //! The order in which variables are proposed for decisions.
 ghost use Rattle.std.specs.Prelude.{◌≡◌, ◌<◌, false, length, IfSome};
 ghost use Rattle.sat_base.specs.Literal.{mentions};
-ghost use Rattle.sat_propagate.specs.Means.Trail.{literals};
+ghost use Rattle.sat_propagate.specs.Internal.Trail.{literals};
 
 use crate::trail::Trail;
 use sat_base::Var;

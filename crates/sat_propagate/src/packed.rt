@@ -14,7 +14,7 @@ pub struct Packed {
 impl Model for Packed {
     ghost use Rattle.std.proofs.Common.{ap};
     ghost use Rattle.sat_base.specs.declared.literal.SatLit.{SatLit};
-    ghost use Rattle.sat_laws.specs.Means.Packing.{packed, unpacked};
+    ghost use Rattle.sat_laws.specs.Internal.Packing.{packed, unpacked};
     ghost use Rattle.sat_laws.proofs.PackingLaws.{packed-unpacked};
 
     ghost Value = { SatLit };

@@ -40,7 +40,7 @@ pub struct Trail {
 
 impl Model for Trail {
     ghost use Rattle.std.specs.Prelude.{map};
-    ghost use Rattle.sat_propagate.specs.Means.Trail.{TrailState, IsTrailInside};
+    ghost use Rattle.sat_propagate.specs.Internal.Trail.{TrailState, IsTrailInside};
 
     ghost Value = { TrailState };
 
@@ -50,7 +50,7 @@ impl Model for Trail {
 }
 
 impl Trail {
-    ghost use Rattle.sat_propagate.specs.Means.Trail.{literals, IsTrail, IsPhased};
+    ghost use Rattle.sat_propagate.specs.Internal.Trail.{literals, IsTrail, IsPhased};
     ghost use Rattle.sat_propagate.specs.declared.trail.Step.{Step};
 
     pub fn new(alloc: Global) -> Self

@@ -24,7 +24,7 @@ pub struct Watchers {
 }
 
 impl Model for Watchers {
-    ghost use Rattle.sat_propagate.specs.Means.WatchLists.{WatchPair};
+    ghost use Rattle.sat_propagate.specs.Internal.WatchLists.{WatchPair};
 
     ghost Value = { WatchPair };
 
@@ -40,7 +40,7 @@ pub struct WatchLists {
 
 impl Model for WatchLists {
     ghost use Rattle.std.specs.Prelude.{List};
-    ghost use Rattle.sat_propagate.specs.Means.WatchLists.{WatchPair};
+    ghost use Rattle.sat_propagate.specs.Internal.WatchLists.{WatchPair};
 
     ghost Value = { List WatchPair };
 
@@ -48,7 +48,7 @@ impl Model for WatchLists {
 }
 
 impl WatchLists {
-    ghost use Rattle.sat_propagate.specs.Means.WatchLists.{watchers, no_watches};
+    ghost use Rattle.sat_propagate.specs.Internal.WatchLists.{watchers, no_watches};
 
     pub fn new(alloc: Global) -> Self
         ensures { result ≡ [] }

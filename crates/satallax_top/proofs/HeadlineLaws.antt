@@ -4,16 +4,16 @@ use Rattle.outside.specs.Causes.{Rose}
 use Rattle.stt_core.specs.PlainProblem.{PlainProblem}
 use Rattle.stt_core.specs.TypedProblem.{IsTyped}
 use Rattle.stt_core.specs.Declarations.{scope_of}
-use Rattle.stt_tableau.specs.Start.{start}
-use Rattle.stt_tableau.proofs.Soundness.{accepted_closes_start}
+use Rattle.tableau_calculus.specs.Start.{start}
+use Rattle.tableau_calculus.proofs.Soundness.{accepted_closes_start}
 use Rattle.delta_defs.specs.Unfolding.{taken_names, unfolded_problem}
 use Rattle.thf_include.specs.Gathering.{Ending, done, stopped, Stop, wants, too_long, no_tree, cycle, too_many, no_name}
 use Rattle.type_check.specs.Statements.{IllInFile, problem_of}
 use Rattle.type_check.proofs.TypedProblems.{problem_of-typed}
 use Rattle.mode_file.specs.declared.Mode.{Mode}
 use Rattle.cli_words.specs.Requests.{Request, prove, refutation, generated, asked_by}
-use Rattle.written_refutation.specs.Trees.{RefutationTree}
-use Rattle.written_refutation.specs.Named.{named_refutation}
+use Rattle.refute_print.specs.Trees.{RefutationTree}
+use Rattle.refute_print.specs.Named.{named_refutation}
 use Rattle.refute_check.specs.Acceptance.{IsAcceptedFor}
 use Rattle.refute_check.proofs.AcceptanceLaws.{accepted_refuted}
 use Rattle.szs_report.specs.Outcomes.{outcome_of}
@@ -35,8 +35,8 @@ use Rattle.request_answers.specs.Checked.{HoldsOnly}
 use Rattle.request_answers.specs.Solved.{IsProofOf, claim_of}
 use Rattle.request_answers.specs.Answers.{stop_answer, AnswersProblem, AnswersStated, AnswersEnding, AnswersFiles, AnswersAsked, IsAnswer, IsDefined}
 use Rattle.request_answers.specs.Causes.{HasCauseOf, HasCauseAsked, HasCause}
-use Rattle.tableau_run.specs.Ended.{setting_for}
-use Rattle.tableau_run.proofs.EnoughLaws.{never-ends}
+use Rattle.prover_run.specs.Ended.{setting_for}
+use Rattle.prover_run.proofs.EnoughLaws.{never-ends}
 use Rattle.satallax_top.specs.Headline.{EnoughAsked, IsProvedOutcome, ShowsNoModel, IsWithoutModel, HasNoModel, IsProofReport, Appends, IsWritten, IsOutcome}
 use Rattle.request_answers.proofs.OneLine.{name_one_line}
 use Rattle.request_answers.proofs.ReportHolds.{holds_report, accepted_report}

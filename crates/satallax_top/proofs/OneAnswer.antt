@@ -1,7 +1,7 @@
 -- Over told contents there is one defined answer, but for the refutation of a proof.
 use Rattle.std.proofs.Common.{◌≡◌, ℕ, ◌<◌, ◌≤◌, ◌⊎◌, inl, inr, true, List, length, Option, Some, None, Result, Ok, Err, refl, sym, ap, ap₂, subst, ◌∙◌, arith}
 use Rattle.stt_core.specs.PlainProblem.{PlainProblem}
-use Rattle.stt_tableau.specs.declared.refutation.Why.{Why}
+use Rattle.tableau_calculus.specs.declared.refutation.Why.{Why}
 use Rattle.thf_include.specs.Gathering.{Ending, done, stopped, wants, too_long, no_tree, cycle, too_many, no_name}
 use Rattle.type_check.specs.Statements.{IllInFile, problem_of}
 use Rattle.mode_file.specs.declared.Mode.{Mode as SearchMode}
@@ -18,7 +18,7 @@ use Rattle.szs_report.specs.declared.outcome.ModeWhy.{ModeWhy}
 use Rattle.szs_report.specs.declared.outcome.ModeWhy.TheVariants.{UnknownKey, Twice, BadNumber, OutOfRange}
 use Rattle.request_answers.specs.Requested.{problem_name, mode_file, told_of, contents_of}
 use Rattle.request_answers.specs.Modes.{byte_limit, OfFile, IsLong, IsModeBy, refused_at, IsBadMode}
-use Rattle.request_answers.specs.Means.RefusedModes.{mode_answer}
+use Rattle.request_answers.specs.Internal.RefusedModes.{mode_answer}
 use Rattle.request_answers.specs.Checked.{IsAcceptedText, IsRefusedText, AnswersBytes, AnswersText}
 use Rattle.request_answers.specs.Answers.{AnswersProblem, AnswersStated, AnswersEnding, AnswersFiles, AnswersAsked, IsSettled, Defined}
 use Rattle.request_answers.proofs.CheckedLaws.{accepted_not_refused, one_refusal}

@@ -5,16 +5,16 @@ use Rattle.stt_core.specs.Meaning.{Model, IsModel}
 use Rattle.stt_core.specs.Meets.{MeetsProblem}
 use Rattle.stt_core.specs.PlainProblem.{PlainProblem}
 use Rattle.stt_core.specs.Declarations.{scope_of}
-use Rattle.stt_tableau.specs.Witnesses.{with_rows}
-use Rattle.stt_tableau.specs.Closed.{Closes, tableau_of}
-use Rattle.stt_tableau.specs.Start.{start}
-use Rattle.stt_tableau.specs.declared.refutation.Refutation.{Refutation}
+use Rattle.tableau_calculus.specs.Witnesses.{with_rows}
+use Rattle.tableau_calculus.specs.Closed.{Closes, tableau_of}
+use Rattle.tableau_calculus.specs.Start.{start}
+use Rattle.tableau_calculus.specs.declared.refutation.Refutation.{Refutation}
 use Rattle.mode_file.specs.declared.Mode.{Mode}
 use Rattle.delta_defs.specs.Unfolding.{taken_names, unfolded_problem}
 use Rattle.cli_words.specs.Requests.{Request, prove, asked_by}
-use Rattle.tableau_run.specs.Ended.{setting_for, IsRefuted, HasEnoughConflicts}
-use Rattle.written_refutation.specs.Text.{text_lines, as_bytes}
-use Rattle.written_refutation.specs.Named.{named_refutation}
+use Rattle.prover_run.specs.Ended.{setting_for, IsRefuted, HasEnoughConflicts}
+use Rattle.refute_print.specs.Text.{text_lines, as_bytes}
+use Rattle.refute_print.specs.Named.{named_refutation}
 use Rattle.szs_report.specs.Outcomes.{claim_outcome, outcome_of}
 use Rattle.szs_report.specs.Report.{report_of}
 use Rattle.szs_report.specs.declared.answer.Answer.{Answer}

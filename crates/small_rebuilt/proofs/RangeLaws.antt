@@ -3,17 +3,17 @@ use Rattle.std.proofs.Common.{ℕ, List, [], ◌∷◌, Option, Some, None, opti
 use Rattle.std.specs.List.{AllByRecursion}
 use Rattle.std.specs.Option.{ForSome}
 use Rattle.stt_core.specs.Lambda.{Lambda}
-use Rattle.stt_tableau.specs.Literals.{Literal}
-use Rattle.stt_tableau.specs.declared.refutation.RuleUse.{RuleUse}
-use Rattle.stt_tableau.specs.declared.refutation.RuleUse.TheVariants as rule
-use Rattle.stt_tableau.specs.declared.refutation.Line.{Line}
+use Rattle.tableau_calculus.specs.Literals.{Literal}
+use Rattle.tableau_calculus.specs.declared.refutation.RuleUse.{RuleUse}
+use Rattle.tableau_calculus.specs.declared.refutation.RuleUse.TheVariants as rule
+use Rattle.tableau_calculus.specs.declared.refutation.Line.{Line}
 use Rattle.sat_base.specs.declared.literal.SatLit.{SatLit}
 use Rattle.term_bank.specs.Terms.{term_at}
 use Rattle.literal_map.specs.Atoms.{literal_at as literal_of}
 use Rattle.literal_map.specs.declared.instance.RuleKind.{RuleKind}
 use Rattle.literal_map.specs.declared.instance.RuleKind.TheVariants as kind
 use Rattle.tableau_rules.specs.Uses.{rule_of}
-use Rattle.written_refutation.specs.Sizes.{IsSmallTerm, IsSmallRule, IsSmallLine}
+use Rattle.refute_print.specs.Sizes.{IsSmallTerm, IsSmallRule, IsSmallLine}
 use Rattle.small_rebuilt.specs.Small.{TakesSmall, HasSmallParts, HasPlaces, HasNumbers, SmallInRange, UsesTakeSmall}
 
 rule_small : (r : RuleUse) → HasPlaces r → TakesSmall r → IsSmallRule r

@@ -2,25 +2,25 @@
 use Rattle.std.proofs.Common.{◌≡◌, inl, inr, ◌&&◌, not, ℕ, zero, suc, true, List, [], ◌∷◌, ◌++◌, map, take, Some, slice_get, refl, sym, subst}
 use Rattle.std.specs.List.{AllByRecursion}
 use Rattle.std.proofs.lemmas.Bool.{false≢true, or_cases}
-use Rattle.stt_tableau.specs.Witnesses.{Row}
-use Rattle.stt_tableau.specs.declared.refutation.RuleUse.{RuleUse}
-use Rattle.stt_tableau.specs.declared.refutation.RuleUse.TheVariants as rule
+use Rattle.tableau_calculus.specs.Witnesses.{Row}
+use Rattle.tableau_calculus.specs.declared.refutation.RuleUse.{RuleUse}
+use Rattle.tableau_calculus.specs.declared.refutation.RuleUse.TheVariants as rule
 use Rattle.sat_base.specs.declared.literal.Var.{Var}
 use Rattle.sat_base.specs.declared.literal.SatLit.{SatLit}
 use Rattle.sat_base.specs.Literal.{positive, negative, negated, same_literal, holds}
 use Rattle.sat_base.proofs.LiteralLaws.{same_literal-true}
 use Rattle.sat_log.specs.Resolution.{without, without_repeats, resolvent, resolved}
 use Rattle.sat_log.proofs.ChainLaws.{resolved_cases}
-use Rattle.search_run.specs.Each.{Each}
-use Rattle.search_run.proofs.NamingLaws.{each-joined, pick_good}
-use Rattle.search_run.proofs.TypedPushes.{each_filtered}
-use Rattle.rebuilt_refutation.specs.Input.{clause_by, Input, literals_of}
-use Rattle.rebuilt_refutation.specs.Trees.{Place, at_result, Tree, leaf, cut, branch}
-use Rattle.rebuilt_refutation.specs.Stands.{Standing, start, line, placed, joined, stepped, place_of, Stands, of_start, of_instance, of_first, of_next, of_result}
-use Rattle.rebuilt_refutation.specs.Lines.{walked, line_of}
-use Rattle.rebuilt_refutation.proofs.WalkLaws.{IsEach}
-use Rattle.rebuilt_refutation.proofs.ReachedLaws.{walked_all}
-use Rattle.written_refutation.specs.Sizes.{IsSmallTerm, AreSmallLiterals}
+use Rattle.search_spec.specs.Each.{Each}
+use Rattle.search_spec.proofs.NamingLaws.{each-joined, pick_good}
+use Rattle.search_spec.proofs.TypedPushes.{each_filtered}
+use Rattle.rebuild_spec.specs.Input.{clause_by, Input, literals_of}
+use Rattle.rebuild_spec.specs.Trees.{Place, at_result, Tree, leaf, cut, branch}
+use Rattle.rebuild_spec.specs.Stands.{Standing, start, line, placed, joined, stepped, place_of, Stands, of_start, of_instance, of_first, of_next, of_result}
+use Rattle.rebuild_spec.specs.Lines.{walked, line_of}
+use Rattle.rebuild_spec.proofs.WalkLaws.{IsEach}
+use Rattle.rebuild_spec.proofs.ReachedLaws.{walked_all}
+use Rattle.refute_print.specs.Sizes.{IsSmallTerm, AreSmallLiterals}
 use Rattle.small_rebuilt.specs.Small.{TakesSmall, IsSmallNumber, HasSmallTerms, HasSmallParts, RebuiltTermsAreSmall}
 
 placed_takes : (r : RuleUse) (is : List ℕ) → TakesSmall r → TakesSmall (placed r is)

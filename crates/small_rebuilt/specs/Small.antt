@@ -3,22 +3,22 @@ use Rattle.std.specs.Prelude.{◌≡◌, ◌<◌, ◌≤◌, ◌^◌, ℕ, List,
 use Rattle.std.specs.List.{AllByRecursion}
 use Rattle.std.specs.Option.{ForSome}
 use Rattle.stt_core.specs.Lambda.{Lambda}
-use Rattle.stt_tableau.specs.Witnesses.{Row}
-use Rattle.stt_tableau.specs.declared.refutation.RuleUse.{RuleUse}
-use Rattle.stt_tableau.specs.declared.refutation.RuleUse.TheVariants as rule
-use Rattle.stt_tableau.specs.declared.refutation.Line.{Line}
-use Rattle.stt_tableau.specs.declared.refutation.Refutation.{Refutation}
+use Rattle.tableau_calculus.specs.Witnesses.{Row}
+use Rattle.tableau_calculus.specs.declared.refutation.RuleUse.{RuleUse}
+use Rattle.tableau_calculus.specs.declared.refutation.RuleUse.TheVariants as rule
+use Rattle.tableau_calculus.specs.declared.refutation.Line.{Line}
+use Rattle.tableau_calculus.specs.declared.refutation.Refutation.{Refutation}
 use Rattle.sat_base.specs.declared.literal.SatLit.{SatLit}
-use Rattle.search_run.specs.Each.{Each}
-use Rattle.search_run.specs.Numbered.{literal_at}
-use Rattle.rebuilt_refutation.specs.Input.{Sourced, start_unit, clause_by, Input}
-use Rattle.rebuilt_refutation.specs.Rebuilt.{IsRebuilt}
+use Rattle.search_spec.specs.Each.{Each}
+use Rattle.search_spec.specs.Numbered.{literal_at}
+use Rattle.rebuild_spec.specs.Input.{Sourced, start_unit, clause_by, Input}
+use Rattle.rebuild_spec.specs.Rebuilt.{IsRebuilt}
 use Rattle.term_bank.specs.Terms.{term_at}
 use Rattle.literal_map.specs.Atoms.{literal_at as literal_of}
 use Rattle.literal_map.specs.declared.instance.BankUse.{BankUse}
 use Rattle.tableau_rules.specs.Uses.{use_of}
-use Rattle.written_refutation.specs.Limits.{IsChild}
-use Rattle.written_refutation.specs.Sizes.{IsSmallTerm, AreSmallLiterals, IsSmall}
+use Rattle.refute_print.specs.Limits.{IsChild}
+use Rattle.refute_print.specs.Sizes.{IsSmallTerm, AreSmallLiterals, IsSmall}
 
 -- the term that a rule takes is small
 abbrev pub TakesSmall : RuleUse → Type 0

@@ -4,7 +4,7 @@ use Rattle.stt_core.specs.SimpleType.{SimpleType, base, arrow, is_declared}
 use Rattle.stt_core.specs.Lambda.{Lambda, bound, constant, lam, app, applied}
 use Rattle.stt_core.specs.Typing.{Scope, constant_type, applied_type}
 use Rattle.stt_core.specs.Canonical.{IsBase, IsFrom, IsCanonical, IsNeutral}
-use Rattle.stt_core.specs.Means.CanonicalType.{where_base, abstracted_type, canonical_type, neutral_type}
+use Rattle.stt_core.specs.Internal.CanonicalType.{where_base, abstracted_type, canonical_type, neutral_type}
 use Rattle.stt_core.proofs.TypeLaws.{applies, abstracts, applied as applied_is}
 use Rattle.stt_core.proofs.SpineLaws.{IsAtom}
 use Rattle.stt_core.proofs.ListLaws.{take_got}

@@ -5,7 +5,7 @@ use Rattle.stt_core.specs.SimpleType.{SimpleType}
 use Rattle.stt_core.specs.Lambda.{Constant, Lambda, bound, constant, lam, app, lambdas, applied, node_count}
 use Rattle.stt_core.specs.Sizes.{counts, node_count-applied}
 use Rattle.stt_core.specs.Occurrence.{Occurs, IsFree, IsClosed}
-use Rattle.stt_core.specs.Means.Missing.{missing_binders}
+use Rattle.stt_core.specs.Internal.Missing.{missing_binders}
 use Rattle.stt_core.proofs.CanonicalTypes.{applied-more}
 use Rattle.stt_core.proofs.ListLaws.{take_got}
 use Rattle.stt_core.proofs.SpineLaws.{IsAtom}

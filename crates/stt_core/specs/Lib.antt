@@ -20,4 +20,4 @@ pub mod Meets
 pub mod TypedProblem
 pub mod Sizes
 pub mod Depth
-pub mod Means
+pub mod Internal

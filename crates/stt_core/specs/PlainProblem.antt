@@ -2,7 +2,7 @@
 use Rattle.std.specs.Prelude.{Bool, List, Option, refl}
 use Rattle.std.specs.Coded.{Coded, code_by, coded_bool, coded_list, coded_option, coded×}
 use Rattle.stt_core.specs.Lambda.{Lambda}
-use Rattle.stt_core.specs.Means.LambdaCode.{lambda_code}
+use Rattle.stt_core.specs.Internal.LambdaCode.{lambda_code}
 use Rattle.stt_core.specs.Declarations.{Declarations, declarations_code}
 
 -- A problem: what is declared; the formulas that are assumed, in order, with a mark for each of them that tells whether it is stated as a

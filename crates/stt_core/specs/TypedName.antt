@@ -2,7 +2,7 @@
 use Rattle.std.specs.Prelude.{ℕ, List, refl}
 use Rattle.std.specs.Coded.{Coded, code_by, coded_ℕ, coded_list, coded×}
 use Rattle.stt_core.specs.SimpleType.{SimpleType}
-use Rattle.stt_core.specs.Means.TypeCode.{type_code}
+use Rattle.stt_core.specs.Internal.TypeCode.{type_code}
 
 pub record TypedName : Type 0 where
   pub name : List ℕ

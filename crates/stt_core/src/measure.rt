@@ -3,7 +3,7 @@
 ghost use Rattle.std.specs.Prelude.{◌≡◌, ◌-◌, ◌^◌, min, IsTrue, ◌↔◌};
 ghost use Rattle.stt_core.specs.Lambda.{name, node_count};
 ghost use Rattle.stt_core.specs.Occurrence.{IsClosed, Occurs};
-ghost use Rattle.stt_core.specs.Means.Missing.{missing_binders};
+ghost use Rattle.stt_core.specs.Internal.Missing.{missing_binders};
 ghost use Rattle.stt_core.specs.View.{the_head};
 
 use crate::nf::{Head, Nf};

@@ -40,7 +40,7 @@ pub struct Nfs {
 
 impl Model for Nf {
     ghost use Rattle.stt_core.specs.Lambda.{Lambda, lambdas, applied, node_count};
-    ghost use Rattle.stt_core.specs.Means.LambdaCode.{lambda_code};
+    ghost use Rattle.stt_core.specs.Internal.LambdaCode.{lambda_code};
 
     ghost Value = { Lambda };
 
@@ -62,7 +62,7 @@ impl Model for Nfs {
     ghost use Rattle.std.specs.Prelude.{List};
     ghost use Rattle.std.specs.Coded.{coded_list};
     ghost use Rattle.stt_core.specs.Lambda.{Lambda};
-    ghost use Rattle.stt_core.specs.Means.LambdaCode.{lambda_code};
+    ghost use Rattle.stt_core.specs.Internal.LambdaCode.{lambda_code};
 
     ghost Value = { List Lambda };
 

@@ -19,7 +19,7 @@ impl Model for Terms {
     ghost use Rattle.std.specs.Prelude.{List, map};
     ghost use Rattle.std.specs.Coded.{coded_list};
     ghost use Rattle.stt_core.specs.Lambda.{Lambda};
-    ghost use Rattle.stt_core.specs.Means.LambdaCode.{lambda_code};
+    ghost use Rattle.stt_core.specs.Internal.LambdaCode.{lambda_code};
     ghost use Rattle.stt_core.specs.View.{the_term};
 
     ghost Value = { List Lambda };

@@ -57,7 +57,7 @@ pub struct Types {
 impl Model for Types {
     ghost use Rattle.std.specs.Prelude.{List, map};
     ghost use Rattle.stt_core.specs.SimpleType.{SimpleType};
-    ghost use Rattle.stt_core.specs.Means.TypeCode.{type_code};
+    ghost use Rattle.stt_core.specs.Internal.TypeCode.{type_code};
     ghost use Rattle.std.specs.Coded.{coded_list};
     ghost use Rattle.stt_core.specs.View.{the_type};
 

@@ -4,7 +4,7 @@ ghost use Rattle.std.specs.Prelude.{◌≡◌, ◌≤◌, IfOk, MatchOption, opt
 ghost use Rattle.stt_core.specs.SimpleType.{SimpleType, arrow, predicate, formula, is_declared};
 ghost use Rattle.stt_core.specs.Lambda.{applied, lambdas};
 ghost use Rattle.stt_core.specs.Typing.{type_of, applied_type, where_declared};
-ghost use Rattle.stt_core.specs.Means.CanonicalType.{where_base, abstracted_type, canonical_type, neutral_type};
+ghost use Rattle.stt_core.specs.Internal.CanonicalType.{where_base, abstracted_type, canonical_type, neutral_type};
 ghost use Rattle.stt_core.specs.View.{the_type, the_head};
 ghost use Rattle.stt_core.specs.ScopeView.{the_scope};
 ghost use Rattle.stt_core.specs.ContextView.{the_context, declared_scope};

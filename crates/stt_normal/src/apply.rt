@@ -2,9 +2,9 @@
 
 ghost use Rattle.std.specs.Prelude.{◌≡◌, ◌+◌, ◌≤◌, IfOk, drop, length};
 ghost use Rattle.stt_core.specs.View.{the_head, the_type};
-ghost use Rattle.stt_normal.specs.Normal.{ways, ways_of, replace, apply};
-ghost use Rattle.stt_normal.specs.Ready.{CanApply, Replaces, AppliesAll, HeadReplaces};
-ghost use Rattle.stt_normal.specs.Means.Applying.{apply_ways, body};
+ghost use Rattle.normal_forms.specs.Normal.{ways, ways_of, replace, apply};
+ghost use Rattle.normal_forms.specs.Ready.{CanApply, Replaces, AppliesAll, HeadReplaces};
+ghost use Rattle.normal_forms.specs.Internal.Applying.{apply_ways, body};
 
 use crate::lift::{deeper, lift_nf};
 use crate::part::{bind_all, spine};

@@ -4,7 +4,7 @@ ghost use Rattle.std.specs.Prelude.{◌≡◌, map, IfOk};
 ghost use Rattle.stt_core.specs.Lambda.{applied};
 ghost use Rattle.stt_core.specs.View.{the_head, the_type};
 ghost use Rattle.stt_core.specs.Lift.{lift};
-ghost use Rattle.stt_normal.specs.Normal.{eta};
+ghost use Rattle.normal_forms.specs.Normal.{eta};
 
 use crate::lift::{lift_head, lift_nf};
 use crate::part::{bind, spine};

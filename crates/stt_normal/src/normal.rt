@@ -3,14 +3,14 @@
 ghost use Rattle.std.specs.Prelude.{◌≡◌, length, reverse, IfOk, IsSome};
 ghost use Rattle.stt_core.specs.Lambda.{IsLeaf};
 ghost use Rattle.stt_core.specs.Typing.{IsScope, AreDeclared, type_of};
-ghost use Rattle.stt_core.specs.Means.CanonicalType.{canonical_type};
+ghost use Rattle.stt_core.specs.Internal.CanonicalType.{canonical_type};
 ghost use Rattle.stt_core.specs.View.{the_head, the_type, the_term};
 ghost use Rattle.stt_core.specs.ScopeView.{the_scope};
 ghost use Rattle.stt_core.specs.ContextView.{the_context, declared_scope};
-ghost use Rattle.stt_normal.specs.Normal.{apply_each, eta_if, normal_form};
-ghost use Rattle.stt_normal.specs.Laws.{HaveSameValue};
-ghost use Rattle.stt_normal.specs.Ready.{ArgumentsApply};
-ghost use Rattle.stt_normal.specs.Means.Applying.{IsApplicable, result_after};
+ghost use Rattle.normal_forms.specs.Normal.{apply_each, eta_if, normal_form};
+ghost use Rattle.normal_forms.specs.Laws.{HaveSameValue};
+ghost use Rattle.normal_forms.specs.Ready.{ArgumentsApply};
+ghost use Rattle.normal_forms.specs.Internal.Applying.{IsApplicable, result_after};
 
 use crate::apply::apply_nf;
 use crate::eta::eta_long;

@@ -6,15 +6,15 @@ use Rattle.stt_core.specs.Typing.{Scope, type_of, constant_type}
 use Rattle.stt_core.specs.View.{the_head}
 use Rattle.stt_core.proofs.ListLaws.{drop_got}
 use Rattle.stt_core.proofs.SpineLaws.{parts}
-use Rattle.stt_tableau.specs.Literals.{Literal, plus, minus}
-use Rattle.stt_tableau.specs.Witnesses.{Row}
-use Rattle.stt_tableau.specs.Rules.{IsDecomposed, differ_each, mat_rule, dec_rule, AreAt, IsInstance}
-use Rattle.stt_tableau.specs.Means.Heads.{IsSpine}
-use Rattle.stt_tableau.specs.Checks.{StandsAt, FindsInstance}
-use Rattle.stt_tableau.specs.Means.Instances.{IsSpineAt, ArgumentsDiffer, SpinesDiffer}
+use Rattle.tableau_calculus.specs.Literals.{Literal, plus, minus}
+use Rattle.tableau_calculus.specs.Witnesses.{Row}
+use Rattle.tableau_calculus.specs.Rules.{IsDecomposed, differ_each, mat_rule, dec_rule, AreAt, IsInstance}
+use Rattle.stt_tableau.specs.Internal.Parts.{IsSpine}
+use Rattle.tableau_calculus.specs.Checks.{StandsAt, FindsInstance}
+use Rattle.stt_tableau.specs.Internal.Instances.{IsSpineAt, ArgumentsDiffer, SpinesDiffer}
 use Rattle.stt_tableau.specs.declared.decompose.Spine.{Spine}
-use Rattle.stt_tableau.specs.declared.refutation.RuleUse.TheVariants.{Mat, Dec}
-use Rattle.stt_tableau.proofs.InstanceLaws.{fits}
+use Rattle.tableau_calculus.specs.declared.refutation.RuleUse.TheVariants.{Mat, Dec}
+use Rattle.tableau_calculus.proofs.InstanceLaws.{fits}
 
 drop_all : (xs : List Lambda) (i : ℕ) → length xs ≤ i → drop i xs ≡ []
 drop_all [] zero h = refl

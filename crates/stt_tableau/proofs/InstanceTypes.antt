@@ -5,23 +5,23 @@ use Rattle.stt_core.specs.SimpleType.{SimpleType, arrow, formula, predicate, is_
 use Rattle.stt_core.specs.Lambda.{witness, Lambda, bound, constant, eq, every, applied}
 use Rattle.stt_core.specs.Typing.{Scope}
 use Rattle.stt_core.specs.Canonical.{IsCanonical}
-use Rattle.stt_core.specs.Means.CanonicalType.{canonical_type}
+use Rattle.stt_core.specs.Internal.CanonicalType.{canonical_type}
 use Rattle.stt_core.proofs.CanonicalTypes.{canonical_type-at}
 use Rattle.stt_core.specs.Lift.{lift_by}
-use Rattle.stt_normal.specs.Normal.{eta}
-use Rattle.stt_normal.specs.Ready.{CanApply}
-use Rattle.stt_normal.proofs.CanonicalLaws.{canonical-lift}
-use Rattle.stt_normal.proofs.NormalValues.{canonical-eta}
-use Rattle.stt_tableau.specs.Literals.{Literal, IsBranch}
-use Rattle.stt_tableau.specs.Witnesses.{Row}
-use Rattle.stt_tableau.specs.Rules.{chosen, described}
-use Rattle.stt_tableau.specs.Checks.{StandsAt, IsTypedWith}
-use Rattle.stt_tableau.specs.Means.Instances.{IsFunctionFrom, AreFunctionsFrom, IsPredicateOn, IsTypedSomewhere}
-use Rattle.stt_tableau.proofs.ListLaws.{contains-get}
-use Rattle.stt_tableau.proofs.EquationLaws.{eq_canonical}
-use Rattle.stt_tableau.proofs.FunctionLaws.{every_canonical, canonical-chosen, canonical-described, predicate_declared}
-use Rattle.stt_tableau.proofs.RuleLaws.{canonical-witness}
-use Rattle.stt_tableau.proofs.ClosedLaws.{literal_in}
+use Rattle.normal_forms.specs.Normal.{eta}
+use Rattle.normal_forms.specs.Ready.{CanApply}
+use Rattle.normal_forms.proofs.CanonicalLaws.{canonical-lift}
+use Rattle.normal_forms.proofs.NormalValues.{canonical-eta}
+use Rattle.tableau_calculus.specs.Literals.{Literal, IsBranch}
+use Rattle.tableau_calculus.specs.Witnesses.{Row}
+use Rattle.tableau_calculus.specs.Rules.{chosen, described}
+use Rattle.tableau_calculus.specs.Checks.{StandsAt, IsTypedWith}
+use Rattle.stt_tableau.specs.Internal.Instances.{IsFunctionFrom, AreFunctionsFrom, IsPredicateOn, IsTypedSomewhere}
+use Rattle.tableau_calculus.proofs.ListLaws.{contains-get}
+use Rattle.tableau_calculus.proofs.EquationLaws.{eq_canonical}
+use Rattle.tableau_calculus.proofs.FunctionLaws.{every_canonical, canonical-chosen, canonical-described, predicate_declared}
+use Rattle.tableau_calculus.proofs.RuleLaws.{canonical-witness}
+use Rattle.tableau_calculus.proofs.ClosedLaws.{literal_in}
 
 pub stands_typed : (scope : Scope) (branch : List Literal) (i : ℕ) (sign : Bool) (t : Lambda) → IsBranch scope branch → StandsAt branch i sign t → IsCanonical scope [] formula t
 stands_typed scope branch i sign t h at =

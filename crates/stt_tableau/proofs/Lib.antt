@@ -1,25 +1,3 @@
-pub mod ListLaws
-mod ShareLaws
-pub mod LiteralLaws
-pub mod EquationLaws
-pub mod FunctionLaws
-pub mod ChoiceLaws
-pub mod DecompositionLaws
-pub mod RuleLaws
-pub mod ClosedLaws
-pub mod InstanceTypes
-pub mod AcceptedLaws
-pub mod WitnessLaws
-pub mod AlongLaws
-pub mod Soundness
-pub mod ShapeLaws
-pub mod SpineShapes
-pub mod InstanceLaws
-pub mod DecompositionInstances
-pub mod TypedLaws
-pub mod ChildLaws
-pub mod FailureLaws
-pub mod FirstFailureLaws
-pub mod AddedLaws
-pub mod StartLaws
-pub mod StartMeets
+mod SpineShapes
+mod DecompositionInstances
+mod InstanceTypes

@@ -3,8 +3,8 @@ use Rattle.std.proofs.Common.{◌≡◌, ◌≤◌, ◌<◌, List, [], ◌∷◌
 use Rattle.stt_core.specs.SimpleType.{SimpleType}
 use Rattle.stt_core.specs.Lambda.{Constant, name, witness, falsity, negation, implication, all, equality, choice, description, Lambda, bound, constant, lam, app, eq, every, lambdas, applied}
 use Rattle.stt_core.proofs.SpineLaws.{IsAtom, SameParts, parts}
-use Rattle.stt_tableau.specs.Rules.{IsDecomposed}
-use Rattle.stt_tableau.specs.Means.Heads.{equality_of, quantified_by, IsDecomposedHead}
+use Rattle.tableau_calculus.specs.Rules.{IsDecomposed}
+use Rattle.tableau_calculus.specs.Internal.Heads.{equality_of, quantified_by, IsDecomposedHead}
 
 no_binders : (bs : List SimpleType) → length bs ≤ 0 → bs ≡ []
 no_binders [] l = refl

@@ -3,41 +3,20 @@
 ghost use Rattle.std.specs.Prelude.{◌≡◌, ◌<◌, ◌≤◌, ◌↔◌, [], List, length, map, take, slice_get, IfOk, OnOk, IfErr, IsTrue};
 ghost use Rattle.stt_core.specs.Typing.{Scope};
 ghost use Rattle.stt_core.specs.ScopeView.{the_scope};
-ghost use Rattle.stt_tableau.specs.Literals.{Literal};
-ghost use Rattle.stt_tableau.specs.Witnesses.{Row, with_rows, IsTwice, IsTable};
-ghost use Rattle.stt_tableau.specs.Accepted.{IsTypedLine, AreRightLines, EndsWithin, IsAccepted, FirstFailure};
-ghost use Rattle.stt_tableau.specs.Means.Answers.{RowAnswer, LineAnswer};
-ghost use Rattle.stt_tableau.specs.Refused.{IfRefused};
-ghost use Rattle.stt_tableau.specs.declared.refutation.Line.{Line as TheLine};
+ghost use Rattle.tableau_calculus.specs.Literals.{Literal};
+ghost use Rattle.tableau_calculus.specs.Witnesses.{Row, with_rows, IsTwice, IsTable};
+ghost use Rattle.tableau_calculus.specs.Accepted.{IsTypedLine, AreRightLines, EndsWithin, IsAccepted, FirstFailure};
+ghost use Rattle.tableau_calculus.specs.Internal.Answers.{RowAnswer, LineAnswer};
+ghost use Rattle.tableau_calculus.specs.Refused.{IfRefused};
+ghost use Rattle.tableau_calculus.specs.declared.refutation.Line.{Line as TheLine};
 
 use crate::children::are_children;
 use crate::instance::find_instance;
-use crate::lit::Lits;
-use crate::refutation::{Line, Refutation, Rows, Why, WitnessRow};
-use crate::typed::{is_typed_branch, is_typed_row, is_typed_use};
+use tableau_calculus::Lits;
+use tableau_calculus::{Line, Refutation, Rows, Why, WitnessRow};
+use tableau_calculus::{is_typed_branch, is_typed_row, is_typed_use};
 use std::alloc::{AllocError, Global};
 use stt_core::{Signature, Types, same_nf};
-use thiserror::Error;
-
-/// Why a refutation isn't accepted: the first row or line that fails, and why, or want of memory. Rows count from 0, and then lines.
-#[derive(Debug, Drop, Error)]
-pub enum PlainRefused {
-    #[error("row or line {line}: {why}")]
-    Refused { line: usize, why: Why },
-    #[error("no memory is left")]
-    Memory,
-}
-
-impl From<AllocError> for PlainRefused {
-    ghost use Rattle.std.specs.Prelude.{◌≡◌};
-    ghost use Rattle.stt_tableau.specs.declared.accepts.PlainRefused.TheVariants.{Memory};
-
-    ghost from_gives = { λ _ e. e ≡ Memory };
-
-    fn from(_: AllocError) -> PlainRefused {
-        PlainRefused::Memory
-    }
-}
 
 /// Whether one of the first `count` rows has the row's predicate.
 fn is_twice(rows: &Rows, count: usize, row: &WitnessRow) -> bool

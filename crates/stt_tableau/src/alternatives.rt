@@ -2,7 +2,7 @@
 
 ghost use Rattle.std.specs.Prelude.{◌≡◌, ◌<◌, ◌++◌, [], ◌∷◌, length, OnOk, OnErr, IfOk, slice_get};
 
-use crate::lit::{Lit, Lits};
+use tableau_calculus::{Lit, Lits};
 use std::alloc::{AllocError, Global};
 use std::marker::Model;
 
@@ -15,7 +15,7 @@ pub struct Alternatives {
 impl Model for Alternatives {
     ghost use Rattle.std.specs.Prelude.{List};
     ghost use Rattle.std.specs.Coded.{coded_list};
-    ghost use Rattle.stt_tableau.specs.Literals.{Literal, literal_code};
+    ghost use Rattle.tableau_calculus.specs.Literals.{Literal, literal_code};
 
     ghost Value = { List (List Literal) };
 

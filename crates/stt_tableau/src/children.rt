@@ -1,11 +1,11 @@
 //! Whether the children of a line close its alternatives.
 
 ghost use Rattle.std.specs.Prelude.{◌≡◌, ◌≤◌, ◌↔◌, ◌++◌, IfOk, IsTrue, length, take};
-ghost use Rattle.stt_tableau.specs.Accepted.{ClosesBy, AreChildren};
+ghost use Rattle.tableau_calculus.specs.Accepted.{ClosesBy, AreChildren};
 
 use crate::alternatives::Alternatives;
-use crate::lit::Lits;
-use crate::refutation::{Child, Children, Lines};
+use tableau_calculus::Lits;
+use tableau_calculus::{Child, Children, Lines};
 use std::alloc::{AllocError, Global};
 
 /// The literals of both lists.

@@ -3,16 +3,17 @@
 ghost use Rattle.std.specs.Prelude.{◌≡◌, ◌↔◌, ◌++◌, [], ◌∷◌, List, drop, IfOk, IsTrue};
 ghost use Rattle.stt_core.specs.View.{the_head, the_type};
 ghost use Rattle.stt_core.specs.ScopeView.{the_scope};
-ghost use Rattle.stt_tableau.specs.Witnesses.{Row};
-ghost use Rattle.stt_tableau.specs.Rules.{differ_each};
-ghost use Rattle.stt_tableau.specs.Means.Heads.{IsDecomposedHead, IsSpine};
-ghost use Rattle.stt_tableau.specs.Checks.{FindsInstance};
-ghost use Rattle.stt_tableau.specs.Means.Instances.{IsSpineAt, ArgumentsDiffer, SpinesDiffer};
-ghost use Rattle.stt_tableau.specs.declared.refutation.RuleUse.TheVariants.{Mat, Dec};
+ghost use Rattle.tableau_calculus.specs.Witnesses.{Row};
+ghost use Rattle.tableau_calculus.specs.Rules.{differ_each};
+ghost use Rattle.tableau_calculus.specs.Internal.Heads.{IsDecomposedHead};
+ghost use Rattle.stt_tableau.specs.Internal.Parts.{IsSpine};
+ghost use Rattle.tableau_calculus.specs.Checks.{FindsInstance};
+ghost use Rattle.stt_tableau.specs.Internal.Instances.{IsSpineAt, ArgumentsDiffer, SpinesDiffer};
+ghost use Rattle.tableau_calculus.specs.declared.refutation.RuleUse.TheVariants.{Mat, Dec};
 
 use crate::alternatives::{Alternatives, alone};
 use crate::equation::{differ, equation_at, is_plain_base};
-use crate::lit::Lits;
+use tableau_calculus::Lits;
 use std::alloc::{AllocError, Global};
 use stt_core::{Context, Declared, Head, Nf, Nfs, Signature, Ty, Types, head_type};
 

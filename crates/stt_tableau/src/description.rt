@@ -6,18 +6,18 @@ ghost use Rattle.stt_core.specs.Lambda.{bound, imp, eq};
 ghost use Rattle.stt_core.specs.Canonical.{IsCanonical};
 ghost use Rattle.stt_core.specs.View.{the_type};
 ghost use Rattle.stt_core.specs.ScopeView.{the_scope};
-ghost use Rattle.stt_normal.specs.Normal.{eta, apply};
-ghost use Rattle.stt_normal.specs.Ready.{CanApply};
-ghost use Rattle.stt_tableau.specs.Literals.{as_literal, opposite};
-ghost use Rattle.stt_tableau.specs.Witnesses.{Row};
-ghost use Rattle.stt_tableau.specs.Rules.{nowhere, at_outer, at_inner, at_most_once, described};
-ghost use Rattle.stt_tableau.specs.Checks.{FindsInstance};
-ghost use Rattle.stt_tableau.specs.Means.Instances.{IsFunctionFrom, IsPredicateOn};
-ghost use Rattle.stt_tableau.specs.declared.refutation.RuleUse.TheVariants.{Des};
+ghost use Rattle.normal_forms.specs.Normal.{eta, apply};
+ghost use Rattle.normal_forms.specs.Ready.{CanApply};
+ghost use Rattle.tableau_calculus.specs.Literals.{as_literal, opposite};
+ghost use Rattle.tableau_calculus.specs.Witnesses.{Row};
+ghost use Rattle.tableau_calculus.specs.Rules.{nowhere, at_outer, at_inner, at_most_once, described};
+ghost use Rattle.tableau_calculus.specs.Checks.{FindsInstance};
+ghost use Rattle.stt_tableau.specs.Internal.Instances.{IsFunctionFrom, IsPredicateOn};
+ghost use Rattle.tableau_calculus.specs.declared.refutation.RuleUse.TheVariants.{Des};
 
 use crate::alternatives::{Alternatives, any_of_three};
 use crate::formula::literal_of;
-use crate::lit::{Lit, Lits};
+use tableau_calculus::{Lit, Lits};
 use crate::quantifier::{
     applied_literal, at_new_variable, everywhere, nowhere_literal, of_new_variable,
 };

@@ -5,16 +5,17 @@ ghost use Rattle.stt_core.specs.Typing.{Scope};
 ghost use Rattle.stt_core.specs.SimpleType.{base};
 ghost use Rattle.stt_core.specs.Lambda.{eq};
 ghost use Rattle.stt_core.specs.View.{the_head, the_type};
-ghost use Rattle.stt_tableau.specs.Literals.{as_literal, opposite, minus};
-ghost use Rattle.stt_tableau.specs.Witnesses.{Row};
-ghost use Rattle.stt_tableau.specs.Means.Heads.{equality_of, IsEquation};
-ghost use Rattle.stt_tableau.specs.Checks.{FindsInstance};
-ghost use Rattle.stt_tableau.specs.Means.Instances.{IsEquationAt};
-ghost use Rattle.stt_tableau.specs.declared.refutation.RuleUse.TheVariants.{Refl, BoolPos, BoolNeg, Con};
+ghost use Rattle.tableau_calculus.specs.Literals.{as_literal, opposite, minus};
+ghost use Rattle.tableau_calculus.specs.Witnesses.{Row};
+ghost use Rattle.tableau_calculus.specs.Internal.Heads.{equality_of};
+ghost use Rattle.stt_tableau.specs.Internal.Parts.{IsEquation};
+ghost use Rattle.tableau_calculus.specs.Checks.{FindsInstance};
+ghost use Rattle.stt_tableau.specs.Internal.Instances.{IsEquationAt};
+ghost use Rattle.tableau_calculus.specs.declared.refutation.RuleUse.TheVariants.{Refl, BoolPos, BoolNeg, Con};
 
 use crate::alternatives::{Alternatives, either_both};
 use crate::formula::literal_of;
-use crate::lit::{Lit, Lits};
+use tableau_calculus::{Lit, Lits};
 use std::alloc::{AllocError, Global};
 use stt_core::{Head, Nf, Nfs, Ty, Types, same_nf};
 

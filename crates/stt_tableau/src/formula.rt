@@ -1,10 +1,10 @@
 //! The literal of a formula.
 
 ghost use Rattle.std.specs.Prelude.{◌≡◌, IfOk, false};
-ghost use Rattle.stt_tableau.specs.Literals.{plus, as_literal, is_negated};
+ghost use Rattle.tableau_calculus.specs.Literals.{plus, as_literal, is_negated};
 
-use crate::lit::Lit;
-use crate::shape::{Shape, shape_of};
+use tableau_calculus::Lit;
+use tableau_calculus::{Shape, shape_of};
 use std::alloc::{AllocError, Global};
 use stt_core::Nf;
 

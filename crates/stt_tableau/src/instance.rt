@@ -2,22 +2,22 @@
 
 ghost use Rattle.std.specs.Prelude.{◌≡◌, map, IfOk};
 ghost use Rattle.stt_core.specs.ScopeView.{the_scope};
-ghost use Rattle.stt_tableau.specs.Literals.{IsBranch};
-ghost use Rattle.stt_tableau.specs.Accepted.{IsTypedUse};
-ghost use Rattle.stt_tableau.specs.Checks.{FindsInstance};
+ghost use Rattle.tableau_calculus.specs.Literals.{IsBranch};
+ghost use Rattle.tableau_calculus.specs.Accepted.{IsTypedUse};
+ghost use Rattle.tableau_calculus.specs.Checks.{FindsInstance};
 
 use crate::alternatives::Alternatives;
 use crate::decompose::{dec_instance, mat_instance};
 use crate::description::des_instance;
 use crate::equation::{bool_neg_instance, bool_pos_instance, con_instance, refl_instance};
-use crate::lit::Lits;
+use tableau_calculus::Lits;
 use crate::propositional::{
     close_instance, cut_instance, false_instance, imp_neg_instance, imp_pos_instance,
 };
 use crate::quantifier::{
     all_neg_instance, all_pos_instance, cho_instance, fun_neg_instance, fun_pos_instance,
 };
-use crate::refutation::{Rows, RuleUse};
+use tableau_calculus::{Rows, RuleUse};
 use std::alloc::{AllocError, Global};
 use stt_core::{Signature, Types};
 

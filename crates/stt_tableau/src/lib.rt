@@ -1,4 +1,4 @@
-//! The tableau calculus: literals, refutations as lists of lines, a plain decider of them, and its soundness.
+//! A plain decider of the tableau calculus: it reads a refutation line by line and looks for the instance of each rule.
 #![tactic(auto)]
 
 mod accepts;
@@ -9,23 +9,17 @@ mod description;
 mod equation;
 mod formula;
 mod instance;
-mod law;
-mod lit;
 mod propositional;
 mod quantifier;
-mod refutation;
-mod shape;
 mod start;
-mod typed;
 
-pub use accepts::{PlainRefused, accepts_plain};
+pub use accepts::accepts_plain;
 pub use alternatives::Alternatives;
 pub use formula::literal_of;
 pub use instance::find_instance;
-pub use law::{models_extend, rules_keep_models, soundness_law, start_keeps_models};
-pub use lit::{Lit, Lits};
 pub use quantifier::{Quantified, denied_of_witness, quantified_at};
-pub use refutation::{Child, Children, Line, Lines, Refutation, Rows, RuleUse, Why, WitnessRow};
-pub use shape::{Connective, Shape, shape_of};
 pub use start::{formula_literal, start_literals};
-pub use typed::{is_typed_literal, is_typed_row, is_typed_use};
+pub use tableau_calculus::{
+    Child, Children, Connective, Line, Lines, Lit, Lits, PlainRefused, Refutation, Rows, RuleUse, Shape, Why, WitnessRow,
+    is_typed_literal, is_typed_row, is_typed_use, models_extend, rules_keep_models, shape_of, soundness_law, start_keeps_models,
+};

@@ -2,16 +2,16 @@
 
 ghost use Rattle.std.specs.Prelude.{[], ◌∷◌, List, Some, IfOk};
 ghost use Rattle.stt_core.specs.Typing.{Scope};
-ghost use Rattle.stt_tableau.specs.Literals.{IsLiteral};
-ghost use Rattle.stt_tableau.specs.Witnesses.{Row};
-ghost use Rattle.stt_tableau.specs.Checks.{FindsInstance};
-ghost use Rattle.stt_tableau.specs.Means.Instances.{HasShapeAt};
-ghost use Rattle.stt_tableau.specs.declared.refutation.RuleUse.TheVariants.{False, Close, ImpPos, ImpNeg, Cut};
+ghost use Rattle.tableau_calculus.specs.Literals.{IsLiteral};
+ghost use Rattle.tableau_calculus.specs.Witnesses.{Row};
+ghost use Rattle.tableau_calculus.specs.Checks.{FindsInstance};
+ghost use Rattle.stt_tableau.specs.Internal.Instances.{HasShapeAt};
+ghost use Rattle.tableau_calculus.specs.declared.refutation.RuleUse.TheVariants.{False, Close, ImpPos, ImpNeg, Cut};
 
 use crate::alternatives::{Alternatives, both, either};
 use crate::formula::literal_of;
-use crate::lit::{Lit, Lits};
-use crate::shape::{Shape, shape_of};
+use tableau_calculus::{Lit, Lits};
+use tableau_calculus::{Shape, shape_of};
 use std::alloc::{AllocError, Global};
 
 /// The shape of the atom of the literal of this sign at a place; `Other` where none stands there.

@@ -5,10 +5,10 @@ ghost use Rattle.stt_core.specs.View.{the_term};
 ghost use Rattle.stt_core.specs.ScopeView.{the_scope};
 ghost use Rattle.stt_core.specs.Typing.{IsScope};
 ghost use Rattle.stt_core.specs.TypedProblem.{IsFormula, AreFormulas, IsTyped};
-ghost use Rattle.stt_tableau.specs.Start.{added, without_repeats, normal_literal, start};
+ghost use Rattle.tableau_calculus.specs.Start.{added, without_repeats, normal_literal, start};
 
 use crate::formula::literal_of;
-use crate::lit::{Lit, Lits};
+use tableau_calculus::{Lit, Lits};
 use std::alloc::{AllocError, Global};
 use stt_core::{Problem, Signature, Term, Terms, Types};
 use stt_normal::normalise;

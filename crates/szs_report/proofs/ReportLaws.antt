@@ -1,6 +1,6 @@
 -- The pieces in which a report is written.
 use Rattle.std.proofs.Common.{◌≡◌, ℕ, List, [], ◌∷◌, ◌++◌, codes, ap, ◌∙◌, append_assoc}
-use Rattle.written_refutation.specs.Text.{as_bytes}
+use Rattle.refute_print.specs.Text.{as_bytes}
 use Rattle.refute_text.specs.Reading.{start_mark}
 use Rattle.szs_report.specs.Report.{headed, demo_report, refused_report}
 

@@ -1,8 +1,8 @@
 -- What is written at the end of a call (Sutcliffe, The SZS ontologies for automated reasoning software, 2008).
 use Rattle.std.specs.Prelude.{ℕ, List, [], ◌∷◌, ◌++◌, codes, decimal, slice_get, unwrap_or}
-use Rattle.stt_tableau.specs.declared.refutation.Why.{Why}
-use Rattle.stt_tableau.specs.declared.refutation.Why.TheVariants as cause
-use Rattle.written_refutation.specs.Text.{as_bytes}
+use Rattle.tableau_calculus.specs.declared.refutation.Why.{Why}
+use Rattle.tableau_calculus.specs.declared.refutation.Why.TheVariants as cause
+use Rattle.refute_print.specs.Text.{as_bytes}
 use Rattle.type_check.specs.declared.refusal.IllWhy.{IllWhy}
 use Rattle.type_check.specs.declared.refusal.IllWhy.TheVariants.{Unknown, Twice, Mismatch, NotFormula, SecondConjecture, RoleUnknown}
 use Rattle.refute_text.specs.Reading.{start_mark, end_mark}

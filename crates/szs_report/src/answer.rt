@@ -8,7 +8,7 @@ ghost use Rattle.szs_report.specs.declared.outcome.Outcome.TheVariants as outcom
 use crate::outcome::{FileRef, IncludeWhy, ModeWhy, Outcome};
 use crate::proof_text::ProofText;
 use outside::Bytes;
-use stt_tableau::Why;
+use tableau_calculus::Why;
 use thf_include::FileNames;
 use type_check::IllWhy;
 

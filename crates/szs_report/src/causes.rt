@@ -4,7 +4,7 @@ ghost use Rattle.std.specs.Prelude.{◌≡◌};
 ghost use Rattle.szs_report.specs.Report.{ill_word, include_word, mode_word, why_word};
 
 use crate::outcome::{IncludeWhy, ModeWhy};
-use stt_tableau::Why;
+use tableau_calculus::Why;
 use type_check::IllWhy;
 
 pub(crate) fn ill_word(why: IllWhy) -> &'static [u8]

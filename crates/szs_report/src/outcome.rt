@@ -3,7 +3,7 @@
 ghost use Rattle.std.specs.Prelude.{◌≡◌};
 ghost use Rattle.szs_report.specs.Status.{status_of};
 
-use stt_tableau::Why;
+use tableau_calculus::Why;
 use type_check::IllWhy;
 
 /// A file that a call reads: the files of the problem are numbered from 0 in the order in which they are opened, and the problem itself is

@@ -3,15 +3,15 @@
 ghost use Rattle.std.specs.Prelude.{◌≡◌, ◌≤◌, ◌++◌, IfOk, OnOk, OnErr, IsTrue};
 ghost use Rattle.outside.specs.Causes.{Rose};
 ghost use Rattle.outside.specs.Prefix.{AppendsProperly};
-ghost use Rattle.written_refutation.specs.Text.{text_lines, as_bytes};
-ghost use Rattle.written_refutation.specs.Named.{names_of, named_refutation, IsNamed, ArePlaces};
+ghost use Rattle.refute_print.specs.Text.{text_lines, as_bytes};
+ghost use Rattle.refute_print.specs.Named.{names_of, named_refutation, IsNamed, ArePlaces};
 
 use outside::{Failed, Sink};
 use std::alloc::{AllocError, Global};
 use std::marker::Model;
 use stt_core::Signature;
-use stt_tableau::Refutation;
-use written_refutation::write_text;
+use tableau_calculus::Refutation;
+use refute_print::write_text;
 
 /// The lines between the marks of a refutation, as the refutation and what its names come from. The bytes are made as they are written.
 #[derive(Drop)]
@@ -23,8 +23,8 @@ pub struct ProofText {
 
 impl Model for ProofText {
     ghost use Rattle.std.specs.Prelude.{List, ℕ};
-    ghost use Rattle.written_refutation.specs.Text.{text_lines, as_bytes};
-    ghost use Rattle.written_refutation.specs.Named.{names_of, named_refutation, IsNamed, ArePlaces};
+    ghost use Rattle.refute_print.specs.Text.{text_lines, as_bytes};
+    ghost use Rattle.refute_print.specs.Named.{names_of, named_refutation, IsNamed, ArePlaces};
 
     ghost Value = { List ℕ };
 

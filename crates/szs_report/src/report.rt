@@ -4,7 +4,7 @@ ghost use Rattle.std.specs.Prelude.{◌≡◌, ◌≤◌, ◌++◌, [], ◌∷�
 ghost use Rattle.outside.specs.Causes.{Rose};
 ghost use Rattle.outside.specs.Prefix.{AppendsProperly};
 ghost use Rattle.outside.specs.Writing.{Took, Stopped};
-ghost use Rattle.written_refutation.specs.Text.{as_bytes};
+ghost use Rattle.refute_print.specs.Text.{as_bytes};
 ghost use Rattle.refute_text.specs.Reading.{start_mark, end_mark};
 ghost use Rattle.szs_report.specs.Report.{headed, counted_report, proof_report, claim_status, file_name, place_in, ill_word, include_word, mode_word, why_word, refused_report, refused_in, demo_report, line_why, report_of};
 
@@ -14,7 +14,7 @@ use crate::outcome::{IncludeWhy, ModeWhy};
 use crate::proof_text::ProofText;
 use itoa::Buffer;
 use outside::{Failed, Sink, write_all_counted, write_pieces};
-use stt_tableau::Why;
+use tableau_calculus::Why;
 use type_check::IllWhy;
 
 const GAVE_UP: &[u8] = b"% SZS status GaveUp for ";

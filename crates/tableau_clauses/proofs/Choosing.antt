@@ -5,9 +5,9 @@ use Rattle.std.proofs.Common.{sym, ap, ◌∙◌, append_assoc, arith, length-ap
 use Rattle.std.proofs.lemmas.List.{map-append}
 use Rattle.std.proofs.lemmas.List.Elements.{filter-append}
 use Rattle.sat_base.specs.declared.literal.SatLit.{SatLit}
-use Rattle.search_run.specs.Clauses.{choices, is_tautology, clause_of, instance_clauses}
-use Rattle.search_run.specs.Numbered.{numbers}
-use Rattle.tableau_clauses.specs.Means.Chosen.{clauses_from, choices_after}
+use Rattle.search_spec.specs.Clauses.{choices, is_tautology, clause_of, instance_clauses}
+use Rattle.search_spec.specs.Numbered.{numbers}
+use Rattle.tableau_clauses.specs.Internal.Chosen.{clauses_from, choices_after}
 
 -- the clauses of choices and of others
 pub clauses-joined : (ps : List SatLit) (xs ys : List (List SatLit)) → clauses_from ps (xs ++ ys) ≡ clauses_from ps xs ++ clauses_from ps ys

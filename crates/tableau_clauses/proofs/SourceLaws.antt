@@ -2,15 +2,15 @@
 use Rattle.std.proofs.Common.{◌≡◌, ℕ, zero, suc, List, [], ◌∷◌, ◌++◌, length, Some, slice_get, Contains, Bool, true, false, if◌then◌else◌, refl, sym, ap, subst, ◌∙◌, arith}
 use Rattle.std.specs.List.{list_any}
 use Rattle.stt_core.proofs.ListLaws.{slice_get-append}
-use Rattle.stt_tableau.proofs.ListLaws.{contains-first, contains-later, contains_cases}
+use Rattle.tableau_calculus.proofs.ListLaws.{contains-first, contains-later, contains_cases}
 use Rattle.sat_base.specs.declared.literal.SatLit.{SatLit}
 use Rattle.literal_map.specs.declared.instance.Instance.{Instance}
-use Rattle.search_run.specs.Clauses.{same_clause, instance_clauses}
-use Rattle.search_run.specs.Numbered.{numbers}
+use Rattle.search_spec.specs.Clauses.{same_clause, instance_clauses}
+use Rattle.search_spec.specs.Numbered.{numbers}
 use Rattle.tableau_clauses.specs.declared.origin.Origin.{Origin}
 use Rattle.tableau_clauses.specs.declared.origin.Origin.TheVariants.{Start, Instance as From}
 use Rattle.tableau_clauses.specs.Table.{Step, clauses_in, Table, ComesFrom, EachComes}
-use Rattle.tableau_clauses.specs.Means.Stepping.{with_steps}
+use Rattle.tableau_clauses.specs.Internal.Stepping.{with_steps}
 
 pub none_come : EachComes ([], [])
 none_come n s h = cc

@@ -6,11 +6,11 @@ use Rattle.std.specs.Map.{lookup}
 use Rattle.std.proofs.lemmas.List.{map-append, length-map}
 use Rattle.indexmap.specs.IndexMap.{IndexMap, get_by, insert_entry}
 use Rattle.sat_base.specs.declared.literal.SatLit.{SatLit}
-use Rattle.search_run.specs.Clauses.{same_clause, with_clauses}
-use Rattle.search_run.specs.Numbered.{numbers}
+use Rattle.search_spec.specs.Clauses.{same_clause, with_clauses}
+use Rattle.search_spec.specs.Numbered.{numbers}
 use Rattle.tableau_clauses.specs.declared.origin.Origin.{Origin}
 use Rattle.tableau_clauses.specs.Table.{Step, clauses_in, origins_in}
-use Rattle.tableau_clauses.specs.Means.Stepping.{with_steps, Adds}
+use Rattle.tableau_clauses.specs.Internal.Stepping.{with_steps, Adds}
 
 abbrev pub is_there : List SatLit → List Step → Bool
 is_there c es = list_any (same_clause numbers c) (clauses_in es)

@@ -1,9 +1,9 @@
 //! The clauses of an instance.
 ghost use Rattle.std.specs.Prelude.{◌≡◌, ◌++◌, [], ◌∷◌, OnOk, IfOk};
 ghost use Rattle.std.specs.List.{flat_map};
-ghost use Rattle.search_run.specs.Clauses.{has, added, is_tautology, clause_of, instance_clauses};
-ghost use Rattle.search_run.specs.Numbered.{numbers};
-ghost use Rattle.tableau_clauses.specs.Means.Chosen.{clauses_from, choices_after};
+ghost use Rattle.search_spec.specs.Clauses.{has, added, is_tautology, clause_of, instance_clauses};
+ghost use Rattle.search_spec.specs.Numbered.{numbers};
+ghost use Rattle.tableau_clauses.specs.Internal.Chosen.{clauses_from, choices_after};
 
 use literal_map::{Instance, LitList};
 use sat_base::{Clause, SatLit};

@@ -2,9 +2,9 @@
 ghost use Rattle.std.specs.Prelude.{◌≡◌};
 ghost use Rattle.std.proofs.Common.{ap};
 ghost use Rattle.std.specs.Cmp.{decided, partial_equiv_from_equiv};
-ghost use Rattle.search_run.specs.Clauses.{same_clause};
-ghost use Rattle.search_run.specs.Numbered.{numbers};
-ghost use Rattle.tableau_clauses.specs.Means.Keys.{clause_writes, clause_decides};
+ghost use Rattle.search_spec.specs.Clauses.{same_clause};
+ghost use Rattle.search_spec.specs.Numbered.{numbers};
+ghost use Rattle.tableau_clauses.specs.Internal.Keys.{clause_writes, clause_decides};
 
 use sat_base::Clause;
 use std::hash::{Hash, Hasher};

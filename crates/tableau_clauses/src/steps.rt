@@ -1,9 +1,9 @@
 //! Clauses by number, each there once, with where it comes from.
 ghost use Rattle.std.specs.Prelude.{◌≡◌, ◌<◌, [], ◌∷◌, not, map, length, take, slice_get, Some, IfOk, OnOk, OnErr};
 ghost use Rattle.std.specs.List.{list_any};
-ghost use Rattle.search_run.specs.Clauses.{same_clause};
-ghost use Rattle.search_run.specs.Numbered.{numbers};
-ghost use Rattle.tableau_clauses.specs.Means.Stepping.{with_steps, Adds};
+ghost use Rattle.search_spec.specs.Clauses.{same_clause};
+ghost use Rattle.search_spec.specs.Numbered.{numbers};
+ghost use Rattle.tableau_clauses.specs.Internal.Stepping.{with_steps, Adds};
 ghost use Rattle.tableau_clauses.specs.Table.{clauses_in, origins_in};
 
 use crate::key::Key;

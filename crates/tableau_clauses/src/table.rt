@@ -1,10 +1,10 @@
 //! The clauses of the steps of a search, and the instances from which they come.
 ghost use Rattle.std.specs.Prelude.{◌≡◌, ◌<◌, ◌-◌, ◌++◌, [], ◌∷◌, not, length, replicate, slice_get, Some, IfOk, OnOk, OnErr};
 ghost use Rattle.std.specs.List.{list_any};
-ghost use Rattle.search_run.specs.Clauses.{same_clause, instance_clauses, with_clauses};
-ghost use Rattle.search_run.specs.Numbered.{numbers};
+ghost use Rattle.search_spec.specs.Clauses.{same_clause, instance_clauses, with_clauses};
+ghost use Rattle.search_spec.specs.Numbered.{numbers};
 ghost use Rattle.tableau_clauses.specs.declared.origin.Origin.TheVariants.{Start, Instance as From};
-ghost use Rattle.tableau_clauses.specs.Means.Stepping.{with_steps, Adds};
+ghost use Rattle.tableau_clauses.specs.Internal.Stepping.{with_steps, Adds};
 ghost use Rattle.tableau_clauses.specs.Table.{the_clauses, the_origins, the_instances, EachComes};
 
 use crate::choice::clauses_of;

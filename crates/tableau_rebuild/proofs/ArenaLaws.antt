@@ -4,7 +4,7 @@ use Rattle.std.proofs.lemmas.Bool.{eqb-true, eq-eqb, false≢true}
 use Rattle.std.proofs.lemmas.List.{get_or-set_same, get_or-set_other}
 use Rattle.std.proofs.lemmas.Option.{slice_get_within, slice_get-map}
 use Rattle.stt_core.specs.Lambda.{Lambda}
-use Rattle.stt_tableau.specs.declared.refutation.RuleUse.TheVariants.{False}
+use Rattle.tableau_calculus.specs.declared.refutation.RuleUse.TheVariants.{False}
 use Rattle.sat_base.specs.declared.literal.Var.{Var}
 use Rattle.sat_base.specs.declared.literal.SatLit.{SatLit}
 use Rattle.sat_log.specs.declared.log.LogEntry.{LogEntry}
@@ -12,19 +12,19 @@ use Rattle.term_bank.specs.Content.{Content}
 use Rattle.tableau_clauses.specs.declared.origin.Origin.{Origin}
 use Rattle.tableau_clauses.specs.declared.origin.Origin.TheVariants.{Start as FromStart, Instance as From}
 use Rattle.tableau_clauses.specs.Table.{Step, Table, EachComes}
-use Rattle.rebuilt_refutation.specs.Input.{Sourced, start_unit, clause_by}
-use Rattle.rebuilt_refutation.specs.Trees.{Place, at_clause, at_result, Tree, leaf, made_at, same_line}
-use Rattle.rebuilt_refutation.specs.Stands.{start, line, instance_line, Stands, of_start, of_instance}
-use Rattle.rebuilt_refutation.proofs.WalkLaws.{get-append, get-push, get-middle}
-use Rattle.rebuilt_refutation.proofs.StandsLaws.{same_place-true}
+use Rattle.rebuild_spec.specs.Input.{Sourced, start_unit, clause_by}
+use Rattle.rebuild_spec.specs.Trees.{Place, at_clause, at_result, Tree, leaf, made_at, same_line}
+use Rattle.rebuild_spec.specs.Stands.{start, line, instance_line, Stands, of_start, of_instance}
+use Rattle.rebuild_spec.proofs.WalkLaws.{get-append, get-push, get-middle}
+use Rattle.rebuild_spec.proofs.StandsLaws.{same_place-true}
 use Rattle.tableau_rebuild.specs.Tables.{no_instance, the_instance, sourced, the_sources, the_input}
 use Rattle.tableau_rebuild.specs.declared.draft.At.{At}
 use Rattle.tableau_rebuild.specs.declared.draft.Draft.{Draft}
 use Rattle.tableau_rebuild.specs.declared.draft.Draft.TheVariants.{Clause, Close, Cut}
 use Rattle.tableau_rebuild.specs.declared.arena.Standing.{Standing}
 use Rattle.tableau_rebuild.specs.declared.arena.Standing.TheVariants.{Start, Line}
-use Rattle.tableau_rebuild.specs.Means.Drafts.{after_step, tree_at, tree_of, trees_after, trees, AreDrafts}
-use Rattle.tableau_rebuild.specs.Means.Arenas.{clause_line, fleshed, unit_in, the_standing, IsWithin, place_at, IsDrawn, IsBefore, Extends, StandsFor, AreResults}
+use Rattle.tableau_rebuild.specs.Internal.Drafts.{after_step, tree_at, tree_of, trees_after, trees, AreDrafts}
+use Rattle.tableau_rebuild.specs.Internal.Arenas.{clause_line, fleshed, unit_in, the_standing, IsWithin, place_at, IsDrawn, IsBefore, Extends, StandsFor, AreResults}
 use Rattle.tableau_rebuild.proofs.DraftLaws.{at_front, grown, there, clause_tree, close_tree, cut_tree}
 
 -- MORE LINES

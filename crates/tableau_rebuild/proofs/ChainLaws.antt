@@ -15,13 +15,13 @@ use Rattle.sat_log.proofs.ResolutionLaws.{holds-without_repeats, without_repeats
 use Rattle.sat_log.proofs.ChainLaws.{and_then-Some, HasNoRepeats-resolved}
 use Rattle.term_bank.specs.Content.{Content}
 use Rattle.tableau_clauses.specs.Table.{Table, the_clauses}
-use Rattle.rebuilt_refutation.specs.Trees.{at_step, at_result}
-use Rattle.rebuilt_refutation.specs.Stands.{joined, stepped, place_of, Stands, of_first, of_next, of_result}
-use Rattle.rebuilt_refutation.proofs.ExistsLaws.{map_some, got_of-take}
+use Rattle.rebuild_spec.specs.Trees.{at_step, at_result}
+use Rattle.rebuild_spec.specs.Stands.{joined, stepped, place_of, Stands, of_first, of_next, of_result}
+use Rattle.rebuild_spec.proofs.ExistsLaws.{map_some, got_of-take}
 use Rattle.tableau_rebuild.specs.Tables.{the_sources, the_input}
 use Rattle.tableau_rebuild.specs.declared.draft.Draft.{Draft}
 use Rattle.tableau_rebuild.specs.declared.arena.Standing.{Standing}
-use Rattle.tableau_rebuild.specs.Means.Arenas.{the_standing, IsWithin, Extends, StandsFor, AreResults, IsJoined, IsThere, IsChained, HasStep}
+use Rattle.tableau_rebuild.specs.Internal.Arenas.{the_standing, IsWithin, Extends, StandsFor, AreResults, IsJoined, IsThere, IsChained, HasStep}
 use Rattle.tableau_rebuild.proofs.ArenaLaws.{standing_later}
 
 pub got : {A : Type 0} (xs : List A) (n : ℕ) (x : A) → n < length xs → x ≡ slice_index_or xs n x → slice_get xs n ≡ Some x

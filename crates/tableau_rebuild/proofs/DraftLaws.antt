@@ -1,15 +1,15 @@
 -- The trees of drafts.
 use Rattle.std.proofs.Common.{◌≡◌, ◌<◌, ◌+◌, ℕ, zero, suc, true, List, [], ◌∷◌, ◌++◌, length, Some, slice_get, refl, sym, ap, ap₂, ◌∙◌, subst, append_assoc, append-nil, length-append, arith}
 use Rattle.std.proofs.lemmas.Option.{slice_get_within}
-use Rattle.stt_tableau.specs.declared.refutation.RuleUse.TheVariants.{False, Close as CloseRule}
+use Rattle.tableau_calculus.specs.declared.refutation.RuleUse.TheVariants.{False, Close as CloseRule}
 use Rattle.sat_base.specs.declared.literal.Var.{Var}
 use Rattle.sat_base.specs.declared.literal.SatLit.{SatLit}
-use Rattle.rebuilt_refutation.specs.Trees.{at_clause, Tree, leaf, cut, same_line}
-use Rattle.rebuilt_refutation.proofs.WalkLaws.{IsEach}
+use Rattle.rebuild_spec.specs.Trees.{at_clause, Tree, leaf, cut, same_line}
+use Rattle.rebuild_spec.proofs.WalkLaws.{IsEach}
 use Rattle.tableau_rebuild.specs.declared.draft.At.{At}
 use Rattle.tableau_rebuild.specs.declared.draft.Draft.{Draft}
 use Rattle.tableau_rebuild.specs.declared.draft.Draft.TheVariants.{Clause, Close, Cut}
-use Rattle.tableau_rebuild.specs.Means.Drafts.{after_step, tree_at, tree_of, trees_after, trees, AreDrafts}
+use Rattle.tableau_rebuild.specs.Internal.Drafts.{after_step, tree_at, tree_of, trees_after, trees, AreDrafts}
 
 at_middle : (front back : List Tree) (x : Tree) → tree_at (front ++ x ∷ back) (length front) ≡ x
 at_middle [] back x = refl

@@ -6,7 +6,7 @@ use Rattle.std.proofs.lemmas.List.{get_or-set_same, get_or-set_other}
 use Rattle.std.proofs.lemmas.List.Elements.{All-nil, All-cons, All-contains}
 use Rattle.std.proofs.lemmas.List.Folds.{list_any-append}
 use Rattle.stt_core.proofs.ListLaws.{take_got}
-use Rattle.stt_tableau.proofs.ListLaws.{contains-first, contains-later, contains_cases}
+use Rattle.tableau_calculus.proofs.ListLaws.{contains-first, contains-later, contains_cases}
 use Rattle.sat_base.specs.declared.literal.SatLit.{SatLit}
 use Rattle.sat_log.specs.declared.chain.Premise.{Premise}
 use Rattle.sat_log.specs.declared.chain.Premise.TheVariants.{Clause, Result}
@@ -17,15 +17,15 @@ use Rattle.sat_log.specs.Resolution.{resolved}
 use Rattle.sat_log.specs.Chains.{premise_clause, after_step, after_steps, results, IsLogOver}
 use Rattle.sat_log.proofs.ChainLaws.{and_then-Some}
 use Rattle.tableau_clauses.specs.Table.{Table, the_clauses}
-use Rattle.rebuilt_refutation.specs.Trees.{Place, at_clause, at_step, at_result, same_place}
-use Rattle.rebuilt_refutation.specs.Stands.{place_of}
-use Rattle.rebuilt_refutation.specs.Used.{IsUsed, last_result, first_of, step_of}
-use Rattle.rebuilt_refutation.proofs.WalkLaws.{same_place-refl}
-use Rattle.rebuilt_refutation.proofs.StandsLaws.{same_place-true}
+use Rattle.rebuild_spec.specs.Trees.{Place, at_clause, at_step, at_result, same_place}
+use Rattle.rebuild_spec.specs.Stands.{place_of}
+use Rattle.rebuild_spec.specs.Used.{IsUsed, last_result, first_of, step_of}
+use Rattle.rebuild_spec.proofs.WalkLaws.{same_place-refl}
+use Rattle.rebuild_spec.proofs.StandsLaws.{same_place-true}
 use Rattle.tableau_rebuild.specs.declared.reached.Reached.{Reached}
 use Rattle.tableau_rebuild.specs.UsedInstances.{IsUsedInstance}
-use Rattle.tableau_rebuild.specs.Means.Arenas.{IsThere}
-use Rattle.tableau_rebuild.specs.Means.Flags.{flagged, is_premise, is_premise_of, is_premise_in, ArePremisesThere, AreFlagsOf, IsFlaggedOrigin, HasFlaggedOrigin}
+use Rattle.tableau_rebuild.specs.Internal.Arenas.{IsThere}
+use Rattle.tableau_rebuild.specs.Internal.Flags.{flagged, is_premise, is_premise_of, is_premise_in, ArePremisesThere, AreFlagsOf, IsFlaggedOrigin, HasFlaggedOrigin}
 use Rattle.tableau_rebuild.proofs.ChainLaws.{there_later, premise_in, first_facts}
 
 -- BITS

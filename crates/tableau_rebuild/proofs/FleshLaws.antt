@@ -2,13 +2,13 @@
 use Rattle.std.proofs.Common.{◌≡◌, ◌+◌, ◌||◌, not, cond, if◌then◌else◌, ℕ, Bool, true, false, List, [], ◌∷◌, ◌++◌, map, Option, Some, None, slice_get, refl, sym, ap, ap₂, ◌∙◌}
 use Rattle.std.specs.List.{list_any}
 use Rattle.stt_core.proofs.ListLaws.{map-append}
-use Rattle.stt_tableau.specs.declared.refutation.RuleUse.{RuleUse}
-use Rattle.stt_tableau.specs.declared.refutation.Child.{Child}
+use Rattle.tableau_calculus.specs.declared.refutation.RuleUse.{RuleUse}
+use Rattle.tableau_calculus.specs.declared.refutation.Child.{Child}
 use Rattle.sat_base.specs.declared.literal.SatLit.{SatLit}
-use Rattle.rebuilt_refutation.specs.Input.{Sourced, start_unit, clause_by}
-use Rattle.rebuilt_refutation.specs.Trees.{at_clause, at_step, at_result, same_place, Tree, leaf, cut, made_at, same_line}
-use Rattle.rebuilt_refutation.specs.Lines.{with_line, walked, number_in}
-use Rattle.tableau_rebuild.specs.Means.Arenas.{clause_line, fleshed}
+use Rattle.rebuild_spec.specs.Input.{Sourced, start_unit, clause_by}
+use Rattle.rebuild_spec.specs.Trees.{at_clause, at_step, at_result, same_place, Tree, leaf, cut, made_at, same_line}
+use Rattle.rebuild_spec.specs.Lines.{with_line, walked, number_in}
+use Rattle.tableau_rebuild.specs.Internal.Arenas.{clause_line, fleshed}
 
 module _ (sources : List Sourced) where
   flesh : Tree → Tree

@@ -6,21 +6,21 @@ use Rattle.std.proofs.lemmas.List.Elements.{All-contains}
 use Rattle.stt_core.specs.SimpleType.{SimpleType, formula}
 use Rattle.stt_core.specs.Lambda.{Lambda}
 use Rattle.stt_core.specs.Canonical.{IsCanonical}
-use Rattle.stt_tableau.specs.Literals.{plus, IsLiteral}
-use Rattle.stt_tableau.specs.Witnesses.{Row, with_rows}
-use Rattle.stt_tableau.specs.Rules.{Rule}
-use Rattle.stt_tableau.specs.declared.refutation.RuleUse.TheVariants.{False}
-use Rattle.stt_tableau.proofs.ListLaws.{contains_cases, contains-later, contains-first}
+use Rattle.tableau_calculus.specs.Literals.{plus, IsLiteral}
+use Rattle.tableau_calculus.specs.Witnesses.{Row, with_rows}
+use Rattle.tableau_calculus.specs.Rules.{Rule}
+use Rattle.tableau_calculus.specs.declared.refutation.RuleUse.TheVariants.{False}
+use Rattle.tableau_calculus.proofs.ListLaws.{contains_cases, contains-later, contains-first}
 use Rattle.sat_base.specs.declared.literal.SatLit.{SatLit}
 use Rattle.sat_log.specs.declared.log.LogEntry.{LogEntry}
 use Rattle.term_bank.specs.Content.{Content, content_scope}
 use Rattle.term_bank.specs.Terms.{term_at}
 use Rattle.literal_map.specs.Atoms.{IsAtom}
-use Rattle.search_run.proofs.WiderLaws.{canonical_wider}
+use Rattle.search_spec.proofs.WiderLaws.{canonical_wider}
 use Rattle.witness_names.specs.Rows.{rows_of, AreRows}
 use Rattle.tableau_clauses.specs.Table.{Table, EachComes}
-use Rattle.rebuilt_refutation.specs.Input.{Instance, Sourced, start_unit, clause_by, literals_of}
-use Rattle.rebuilt_refutation.specs.Given.{IsClauseOf, IsRightClause, IsGiven}
+use Rattle.rebuild_spec.specs.Input.{Instance, Sourced, start_unit, clause_by, literals_of}
+use Rattle.rebuild_spec.specs.Given.{IsClauseOf, IsRightClause, IsGiven}
 use Rattle.tableau_rebuild.specs.Tables.{the_atoms, the_sources, the_input, unit_literals}
 use Rattle.tableau_rebuild.specs.Conditions.{IsInstanceOver}
 use Rattle.tableau_rebuild.proofs.SourceLaws.{IsInstanceClause, instance_clause, unit_clause, unit_there}

@@ -2,21 +2,21 @@
 use Rattle.std.proofs.Common.{◌≡◌, ◌<◌, ◌≤◌, nat_lt, if◌then◌else◌, ℕ, suc, Bool, true, false, List, [], ◌∷◌, ◌++◌, length, Option, Some, slice_get, refl, sym, ap, ap₂, ◌∙◌, subst, arith}
 use Rattle.std.proofs.lemmas.Bool.{lt-ltb, ltb-true}
 use Rattle.stt_core.specs.Lambda.{Lambda}
-use Rattle.stt_tableau.specs.declared.refutation.RuleUse.TheVariants.{Close as CloseRule}
+use Rattle.tableau_calculus.specs.declared.refutation.RuleUse.TheVariants.{Close as CloseRule}
 use Rattle.sat_base.specs.declared.literal.Var.{Var}
 use Rattle.sat_base.specs.declared.literal.SatLit.{SatLit}
 use Rattle.tableau_clauses.specs.Table.{Table}
-use Rattle.rebuilt_refutation.specs.Trees.{leaf, cut}
-use Rattle.rebuilt_refutation.specs.Stands.{line, joined}
-use Rattle.rebuilt_refutation.proofs.WalkLaws.{get-middle}
+use Rattle.rebuild_spec.specs.Trees.{leaf, cut}
+use Rattle.rebuild_spec.specs.Stands.{line, joined}
+use Rattle.rebuild_spec.proofs.WalkLaws.{get-middle}
 use Rattle.tableau_rebuild.specs.Tables.{the_sources}
 use Rattle.tableau_rebuild.specs.declared.draft.At.{At}
 use Rattle.tableau_rebuild.specs.declared.draft.Draft.{Draft}
 use Rattle.tableau_rebuild.specs.declared.draft.Draft.TheVariants.{Close, Cut}
 use Rattle.tableau_rebuild.specs.declared.arena.Standing.{Standing}
 use Rattle.tableau_rebuild.specs.declared.arena.Standing.TheVariants.{Start, Line}
-use Rattle.tableau_rebuild.specs.Means.Drafts.{after_step, tree_at, trees}
-use Rattle.tableau_rebuild.specs.Means.Arenas.{fleshed, unit_in, the_standing, place_at, IsDrawn, IsBefore, Extends, IsJoined}
+use Rattle.tableau_rebuild.specs.Internal.Drafts.{after_step, tree_at, trees}
+use Rattle.tableau_rebuild.specs.Internal.Arenas.{fleshed, unit_in, the_standing, place_at, IsDrawn, IsBefore, Extends, IsJoined}
 use Rattle.tableau_rebuild.proofs.DraftLaws.{close_tree, cut_tree}
 use Rattle.tableau_rebuild.proofs.ArenaLaws.{drawn_step, before_step, tree_later}
 

@@ -1,31 +1,31 @@
 -- The lines that the last one stands on can be written.
 use Rattle.std.proofs.Common.{◌≡◌, ◌-◌, ℕ, List, [], ◌∷◌, map, length, Option, Some, None, option_map, slice_get, slice_index_or, refl, sym, ap, ◌∙◌, subst, arith}
 use Rattle.std.proofs.lemmas.Option.{slice_get-map, slice_get_within}
-use Rattle.stt_tableau.specs.declared.refutation.RuleUse.TheVariants.{False}
+use Rattle.tableau_calculus.specs.declared.refutation.RuleUse.TheVariants.{False}
 use Rattle.sat_base.specs.declared.literal.SatLit.{SatLit}
 use Rattle.sat_base.specs.Literal.{IsOver}
 use Rattle.sat_log.specs.declared.log.LogEntry.{LogEntry}
 use Rattle.term_bank.specs.Content.{Content}
 use Rattle.literal_map.specs.declared.instance.Instance.{Instance as BankInstance}
 use Rattle.tableau_clauses.specs.Table.{Table}
-use Rattle.rebuilt_refutation.specs.Input.{Sourced, start_unit, clause_by, Input}
-use Rattle.rebuilt_refutation.specs.Trees.{Place, at_clause, at_result, leaf, branch}
-use Rattle.rebuilt_refutation.specs.Stands.{start, line, Stands}
-use Rattle.rebuilt_refutation.specs.Lines.{walked, line_of, lines_from}
-use Rattle.rebuilt_refutation.proofs.ReachedLaws.{walked_all}
-use Rattle.rebuilt_refutation.proofs.StandsLaws.{one_stands}
-use Rattle.rebuilt_refutation.proofs.ExistsLaws.{empty_line}
+use Rattle.rebuild_spec.specs.Input.{Sourced, start_unit, clause_by, Input}
+use Rattle.rebuild_spec.specs.Trees.{Place, at_clause, at_result, leaf, branch}
+use Rattle.rebuild_spec.specs.Stands.{start, line, Stands}
+use Rattle.rebuild_spec.specs.Lines.{walked, line_of, lines_from}
+use Rattle.rebuild_spec.proofs.ReachedLaws.{walked_all}
+use Rattle.rebuild_spec.proofs.StandsLaws.{one_stands}
+use Rattle.rebuild_spec.proofs.ExistsLaws.{empty_line}
 use Rattle.tableau_rebuild.specs.Tables.{the_atoms, the_sources, the_input}
 use Rattle.tableau_rebuild.specs.Conditions.{EndsEmpty}
 use Rattle.tableau_rebuild.specs.declared.arena.Standing.{Standing}
 use Rattle.tableau_rebuild.specs.declared.arena.Standing.TheVariants.{Start}
 use Rattle.tableau_rebuild.specs.declared.draft.Draft.{Draft}
 use Rattle.tableau_rebuild.specs.declared.draft.Draft.TheVariants.{Clause, Close, Cut}
-use Rattle.tableau_rebuild.specs.Means.Drafts.{tree_at, trees, AreDrafts}
-use Rattle.tableau_rebuild.specs.Means.Arenas.{clause_line, fleshed, unit_in, StandsFor, AreResults}
-use Rattle.tableau_rebuild.specs.Means.LineParts.{IsClauseFrom, IsMakeable}
-use Rattle.tableau_rebuild.specs.Means.Needed.{HasParts}
-use Rattle.tableau_rebuild.specs.Means.Written.{the_tree, IsFoundedLine, IsFounded}
+use Rattle.tableau_rebuild.specs.Internal.Drafts.{tree_at, trees, AreDrafts}
+use Rattle.tableau_rebuild.specs.Internal.Arenas.{clause_line, fleshed, unit_in, StandsFor, AreResults}
+use Rattle.tableau_rebuild.specs.Internal.LineParts.{IsClauseFrom, IsMakeable}
+use Rattle.tableau_rebuild.specs.Internal.Needed.{HasParts}
+use Rattle.tableau_rebuild.specs.Internal.Written.{the_tree, IsFoundedLine, IsFounded}
 use Rattle.tableau_rebuild.proofs.ChainLaws.{got}
 use Rattle.tableau_rebuild.proofs.DraftLaws.{clause_tree, cut_tree}
 use Rattle.tableau_rebuild.proofs.FleshLaws.{walked-fleshed}

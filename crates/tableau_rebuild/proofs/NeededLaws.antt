@@ -13,19 +13,19 @@ use Rattle.stt_core.specs.Occurrence.{Occurs}
 use Rattle.stt_core.specs.SameTerm.{same_term}
 use Rattle.stt_core.proofs.ListLaws.{take_got, map-append}
 use Rattle.stt_core.proofs.SameTerms.{same_term-refl, same_term-true}
-use Rattle.stt_tableau.specs.Literals.{Literal}
-use Rattle.stt_tableau.specs.Witnesses.{Row}
-use Rattle.stt_tableau.specs.declared.refutation.Line.{Line}
+use Rattle.tableau_calculus.specs.Literals.{Literal}
+use Rattle.tableau_calculus.specs.Witnesses.{Row}
+use Rattle.tableau_calculus.specs.declared.refutation.Line.{Line}
 use Rattle.term_bank.specs.Content.{Content}
 use Rattle.term_bank.specs.Terms.{term_at}
 use Rattle.term_bank.specs.Laws.{EqualIdsForEqualTerms}
 use Rattle.witness_names.specs.Rows.{binder_of, rows_of}
-use Rattle.rebuilt_refutation.specs.NeededRows.{rows_for_constant, rows_for, rows_for_all, rows_up_to, rows_for_rule, rows_for_lines}
+use Rattle.rebuild_spec.specs.NeededRows.{rows_for_constant, rows_for, rows_for_all, rows_up_to, rows_for_rule, rows_for_lines}
 use Rattle.sat_base.specs.declared.literal.SatLit.{SatLit}
-use Rattle.search_run.specs.Numbered.{literal_at}
-use Rattle.rebuilt_refutation.specs.Input.{literals_of}
-use Rattle.tableau_rebuild.specs.Means.LineParts.{first_in}
-use Rattle.tableau_rebuild.specs.Means.Needed.{is_quantifier}
+use Rattle.search_spec.specs.Numbered.{literal_at}
+use Rattle.rebuild_spec.specs.Input.{literals_of}
+use Rattle.tableau_rebuild.specs.Internal.LineParts.{first_in}
+use Rattle.tableau_rebuild.specs.Internal.Needed.{is_quantifier}
 
 -- TERMS
 

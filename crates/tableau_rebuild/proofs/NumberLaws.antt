@@ -4,15 +4,15 @@ use Rattle.std.proofs.lemmas.Bool.{eqb-true, eq-eqb, false≢true}
 use Rattle.std.proofs.lemmas.List.{get_or-set_same, get_or-set_other}
 use Rattle.std.proofs.lemmas.Option.{slice_get_within, slice_get-map}
 use Rattle.sat_base.specs.declared.literal.Var.{Var}
-use Rattle.rebuilt_refutation.specs.Trees.{Tree, cut, made_at, same_line}
-use Rattle.rebuilt_refutation.specs.Lines.{walked, number_in}
-use Rattle.rebuilt_refutation.proofs.WalkLaws.{same_place-refl, IsListed, IsOrdered}
-use Rattle.rebuilt_refutation.proofs.LastLaws.{walk_ordered}
-use Rattle.rebuilt_refutation.proofs.ExistsLaws.{map_some}
+use Rattle.rebuild_spec.specs.Trees.{Tree, cut, made_at, same_line}
+use Rattle.rebuild_spec.specs.Lines.{walked, number_in}
+use Rattle.rebuild_spec.proofs.WalkLaws.{same_place-refl, IsListed, IsOrdered}
+use Rattle.rebuild_spec.proofs.LastLaws.{walk_ordered}
+use Rattle.rebuild_spec.proofs.ExistsLaws.{map_some}
 use Rattle.tableau_rebuild.specs.declared.draft.At.{At}
 use Rattle.tableau_rebuild.specs.declared.draft.Draft.{Draft}
 use Rattle.tableau_rebuild.specs.declared.draft.Draft.TheVariants.{Cut}
-use Rattle.tableau_rebuild.specs.Means.Drafts.{after_step, tree_at, trees, AreDrafts}
+use Rattle.tableau_rebuild.specs.Internal.Drafts.{after_step, tree_at, trees, AreDrafts}
 use Rattle.tableau_rebuild.proofs.DraftLaws.{cut_tree, IsDrafted, one_drafted, each_drafted}
 
 module _ (drafts : List Draft) (right : AreDrafts drafts) (last : ℕ) (below : last < length drafts) (order : List ℕ) (walks : map (tree_at (trees drafts)) order ≡ walked [] (tree_at (trees drafts) last)) where

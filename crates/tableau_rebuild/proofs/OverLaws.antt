@@ -13,17 +13,17 @@ use Rattle.sat_log.specs.declared.log.LogEntry.{LogEntry}
 use Rattle.term_bank.specs.Content.{Content}
 use Rattle.witness_names.specs.Rows.{rows_of}
 use Rattle.tableau_clauses.specs.Table.{Table, EachComes}
-use Rattle.rebuilt_refutation.specs.Input.{Instance}
-use Rattle.rebuilt_refutation.specs.Trees.{Place, at_clause, at_step, at_result, Tree, leaf, cut, branch}
-use Rattle.rebuilt_refutation.specs.Stands.{Standing, start, line, in_order, joined, stepped, Stands, of_start, of_instance, of_first, of_next, of_result}
-use Rattle.rebuilt_refutation.proofs.WalkLaws.{IsEach}
-use Rattle.rebuilt_refutation.proofs.BackedLaws.{held-without}
-use Rattle.rebuilt_refutation.proofs.LiteralLaws.{negated-held}
-use Rattle.rebuilt_refutation.proofs.PickedLaws.{Picks, clause_picked}
+use Rattle.rebuild_spec.specs.Input.{Instance}
+use Rattle.rebuild_spec.specs.Trees.{Place, at_clause, at_step, at_result, Tree, leaf, cut, branch}
+use Rattle.rebuild_spec.specs.Stands.{Standing, start, line, in_order, joined, stepped, Stands, of_start, of_instance, of_first, of_next, of_result}
+use Rattle.rebuild_spec.proofs.WalkLaws.{IsEach}
+use Rattle.rebuild_spec.proofs.BackedLaws.{held-without}
+use Rattle.rebuild_spec.proofs.LiteralLaws.{negated-held}
+use Rattle.rebuild_spec.proofs.PickedLaws.{Picks, clause_picked}
 use Rattle.tableau_rebuild.specs.Tables.{the_input}
 use Rattle.tableau_rebuild.specs.Conditions.{AreUnitsNumbered, IsInstanceOver}
-use Rattle.tableau_rebuild.specs.Means.LineParts.{IsClauseFrom}
-use Rattle.tableau_rebuild.specs.Means.Written.{IsFoundedLine}
+use Rattle.tableau_rebuild.specs.Internal.LineParts.{IsClauseFrom}
+use Rattle.tableau_rebuild.specs.Internal.Written.{IsFoundedLine}
 use Rattle.tableau_rebuild.proofs.SourceLaws.{IsInstanceClause, instance_clause, unit_over}
 
 -- LISTS OF LITERALS

@@ -4,19 +4,19 @@ use Rattle.std.specs.List.{All}
 use Rattle.std.proofs.lemmas.Option.{slice_get-map}
 use Rattle.std.proofs.lemmas.List.Elements.{All-contains, Contains-append_right}
 use Rattle.stt_core.specs.Lambda.{Lambda}
-use Rattle.stt_tableau.proofs.ListLaws.{contains-first, contains-get}
+use Rattle.tableau_calculus.proofs.ListLaws.{contains-first, contains-get}
 use Rattle.sat_base.specs.declared.literal.SatLit.{SatLit}
 use Rattle.sat_base.specs.Literal.{IsOver}
 use Rattle.term_bank.specs.Content.{Content}
 use Rattle.literal_map.specs.declared.instance.Instance.{Instance as BankInstance}
-use Rattle.search_run.specs.Clauses.{instance_clauses}
-use Rattle.search_run.specs.Numbered.{numbers, literal_at}
+use Rattle.search_spec.specs.Clauses.{instance_clauses}
+use Rattle.search_spec.specs.Numbered.{numbers, literal_at}
 use Rattle.witness_names.specs.Rows.{rows_of}
 use Rattle.tableau_clauses.specs.declared.origin.Origin.{Origin}
 use Rattle.tableau_clauses.specs.declared.origin.Origin.TheVariants.{Start, Instance as From}
 use Rattle.tableau_clauses.specs.Table.{Step, Table, EachComes}
-use Rattle.rebuilt_refutation.specs.Input.{Instance, Sourced, start_unit, clause_by}
-use Rattle.rebuilt_refutation.proofs.ExistsLaws.{map_some}
+use Rattle.rebuild_spec.specs.Input.{Instance, Sourced, start_unit, clause_by}
+use Rattle.rebuild_spec.proofs.ExistsLaws.{map_some}
 use Rattle.tableau_rebuild.specs.Tables.{no_literal, no_instance, the_instance, sourced, the_sources, start_literals_in, unit_literals}
 use Rattle.tableau_rebuild.specs.Conditions.{AreUnitsNumbered, IsInstanceOver}
 

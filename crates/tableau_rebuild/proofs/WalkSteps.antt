@@ -6,22 +6,22 @@ use Rattle.std.proofs.lemmas.List.{get_or-set_same, get_or-set_other, length-set
 use Rattle.std.proofs.lemmas.List.Folds.{list_any-append}
 use Rattle.std.proofs.lemmas.List.Elements.{All-nil, All-cons, All-head, All-tail}
 use Rattle.stt_core.proofs.ListLaws.{map-append}
-use Rattle.rebuilt_refutation.specs.Trees.{Place, Tree, leaf, cut, made_at, same_line}
-use Rattle.rebuilt_refutation.specs.Lines.{with_line, walked}
-use Rattle.rebuilt_refutation.proofs.WalkLaws.{same_place-refl, get-push}
-use Rattle.rebuilt_refutation.proofs.LastLaws.{walk_ordered}
-use Rattle.rebuilt_refutation.proofs.SkipLaws.{Task as Step, visit, list, run as run_steps, run_passes}
+use Rattle.rebuild_spec.specs.Trees.{Place, Tree, leaf, cut, made_at, same_line}
+use Rattle.rebuild_spec.specs.Lines.{with_line, walked}
+use Rattle.rebuild_spec.proofs.WalkLaws.{same_place-refl, get-push}
+use Rattle.rebuild_spec.proofs.LastLaws.{walk_ordered}
+use Rattle.rebuild_spec.proofs.SkipLaws.{Task as Step, visit, list, run as run_steps, run_passes}
 use Rattle.sat_base.specs.declared.literal.Var.{Var}
 use Rattle.sat_base.specs.declared.literal.SatLit.{SatLit}
-use Rattle.stt_tableau.specs.declared.refutation.RuleUse.{RuleUse}
-use Rattle.stt_tableau.specs.declared.refutation.Child.{Child}
+use Rattle.tableau_calculus.specs.declared.refutation.RuleUse.{RuleUse}
+use Rattle.tableau_calculus.specs.declared.refutation.Child.{Child}
 use Rattle.tableau_rebuild.specs.declared.draft.At.{At}
 use Rattle.tableau_rebuild.specs.declared.draft.Draft.{Draft}
 use Rattle.tableau_rebuild.specs.declared.draft.Draft.TheVariants.{Clause, Close, Cut}
 use Rattle.tableau_rebuild.specs.declared.walk.Task.{Task}
 use Rattle.tableau_rebuild.specs.declared.walk.Task.TheVariants.{Visit, Enter}
-use Rattle.tableau_rebuild.specs.Means.Drafts.{tree_at, trees, AreDrafts}
-use Rattle.tableau_rebuild.specs.Means.Walks.{number_of, size, weight, run, IsUnderWay}
+use Rattle.tableau_rebuild.specs.Internal.Drafts.{tree_at, trees, AreDrafts}
+use Rattle.tableau_rebuild.specs.Internal.Walks.{number_of, size, weight, run, IsUnderWay}
 use Rattle.tableau_rebuild.proofs.DraftLaws.{clause_tree, close_tree, cut_tree, IsDrafted, one_drafted, each_drafted}
 
 pub any_default : {A : Type 0} (xs : List A) (i : ℕ) (d e : A) → i < length xs → get_or xs i d ≡ get_or xs i e

@@ -2,8 +2,8 @@
 use Rattle.std.proofs.Common.{◌≡◌, ◌<◌, ℕ, zero, suc, List, [], ◌∷◌, map, length, take, Some, option_map, unwrap_or, slice_get, slice_index_or, refl, sym, ap, ap₂, ◌∙◌, arith}
 use Rattle.std.proofs.lemmas.List.{length-map}
 use Rattle.std.proofs.lemmas.Option.{slice_get-map, slice_get_within}
-use Rattle.stt_tableau.specs.declared.refutation.RuleUse.TheVariants.{False}
-use Rattle.stt_tableau.specs.declared.refutation.Line.{Line}
+use Rattle.tableau_calculus.specs.declared.refutation.RuleUse.TheVariants.{False}
+use Rattle.tableau_calculus.specs.declared.refutation.Line.{Line}
 use Rattle.sat_base.specs.declared.literal.Var.{Var}
 use Rattle.sat_base.specs.declared.literal.SatLit.{SatLit}
 use Rattle.sat_base.specs.Literal.{negated}
@@ -12,20 +12,20 @@ use Rattle.term_bank.specs.Content.{Content}
 use Rattle.literal_map.specs.declared.instance.Instance.{Instance as BankInstance}
 use Rattle.tableau_clauses.specs.declared.origin.Origin.TheVariants.{Instance as From}
 use Rattle.tableau_clauses.specs.Table.{Step, Table, the_clauses}
-use Rattle.rebuilt_refutation.specs.Input.{clause_by}
-use Rattle.rebuilt_refutation.specs.Trees.{at_clause, leaf, cut, branch}
-use Rattle.rebuilt_refutation.specs.Stands.{instance_line}
-use Rattle.rebuilt_refutation.specs.Lines.{walked, number_in, line_of}
+use Rattle.rebuild_spec.specs.Input.{clause_by}
+use Rattle.rebuild_spec.specs.Trees.{at_clause, leaf, cut, branch}
+use Rattle.rebuild_spec.specs.Stands.{instance_line}
+use Rattle.rebuild_spec.specs.Lines.{walked, number_in, line_of}
 use Rattle.tableau_rebuild.specs.Tables.{no_instance, the_atoms, the_instance, sourced, the_sources}
 use Rattle.tableau_rebuild.specs.declared.draft.At.{At}
 use Rattle.tableau_rebuild.specs.declared.draft.Draft.{Draft}
 use Rattle.tableau_rebuild.specs.declared.draft.Draft.TheVariants.{Clause, Close, Cut}
-use Rattle.tableau_rebuild.specs.Means.Drafts.{after_step, tree_at, trees, AreDrafts}
-use Rattle.tableau_rebuild.specs.Means.Arenas.{clause_line, fleshed}
-use Rattle.tableau_rebuild.specs.Means.Numbers.{AreNumbers}
-use Rattle.tableau_rebuild.specs.Means.Branches.{branch_at, branch_by, IsReady}
-use Rattle.tableau_rebuild.specs.Means.LineParts.{instance_by, close_by, cut_by, IsClauseFrom, IsMakeable, IsLineBy}
-use Rattle.tableau_rebuild.specs.Means.Written.{the_tree}
+use Rattle.tableau_rebuild.specs.Internal.Drafts.{after_step, tree_at, trees, AreDrafts}
+use Rattle.tableau_rebuild.specs.Internal.Arenas.{clause_line, fleshed}
+use Rattle.tableau_rebuild.specs.Internal.Numbers.{AreNumbers}
+use Rattle.tableau_rebuild.specs.Internal.Branches.{branch_at, branch_by, IsReady}
+use Rattle.tableau_rebuild.specs.Internal.LineParts.{instance_by, close_by, cut_by, IsClauseFrom, IsMakeable, IsLineBy}
+use Rattle.tableau_rebuild.specs.Internal.Written.{the_tree}
 use Rattle.tableau_rebuild.proofs.DraftLaws.{clause_tree, close_tree, cut_tree}
 use Rattle.tableau_rebuild.proofs.FleshLaws.{number_in-fleshed}
 use Rattle.tableau_rebuild.proofs.NumberLaws.{IsEarlier, cut_children}

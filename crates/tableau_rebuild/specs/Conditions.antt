@@ -1,15 +1,15 @@
 -- What is right of the tables that a refutation is rebuilt from.
 use Rattle.std.specs.Prelude.{◌≡◌, ◌+◌, ◌<◌, ℕ, List, [], map, length, Some, IfSome, slice_get, All}
-use Rattle.stt_tableau.specs.Witnesses.{Row, with_rows}
-use Rattle.stt_tableau.specs.Rules.{Rule}
-use Rattle.stt_tableau.specs.declared.refutation.RuleUse.{RuleUse}
+use Rattle.tableau_calculus.specs.Witnesses.{Row, with_rows}
+use Rattle.tableau_calculus.specs.Rules.{Rule}
+use Rattle.tableau_calculus.specs.declared.refutation.RuleUse.{RuleUse}
 use Rattle.sat_base.specs.Literal.{IsOver}
 use Rattle.sat_log.specs.declared.log.LogEntry.{LogEntry}
 use Rattle.term_bank.specs.Content.{Content, content_scope}
 use Rattle.literal_map.specs.declared.instance.Instance.{Instance}
 use Rattle.tableau_clauses.specs.declared.origin.Origin.TheVariants.{Start}
 use Rattle.tableau_clauses.specs.Table.{Table}
-use Rattle.rebuilt_refutation.specs.Input.{literals_of}
+use Rattle.rebuild_spec.specs.Input.{literals_of}
 use Rattle.tableau_rules.specs.Uses.{use_of}
 use Rattle.tableau_rebuild.specs.Tables.{the_atoms}
 

@@ -1,4 +1,4 @@
 pub mod Tables
 pub mod Conditions
 pub mod UsedInstances
-pub mod Means
+pub mod Internal

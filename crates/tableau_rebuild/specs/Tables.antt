@@ -1,8 +1,8 @@
 -- The tables of a search as what a refutation is rebuilt from.
 use Rattle.std.specs.Prelude.{false, ℕ, List, [], ◌∷◌, ◌++◌, map, get_or, slice_get, option_map, unwrap_or}
 use Rattle.stt_core.specs.Lambda.{Lambda}
-use Rattle.stt_tableau.specs.Literals.{Literal}
-use Rattle.stt_tableau.specs.declared.refutation.RuleUse.TheVariants.{False}
+use Rattle.tableau_calculus.specs.Literals.{Literal}
+use Rattle.tableau_calculus.specs.declared.refutation.RuleUse.TheVariants.{False}
 use Rattle.sat_base.specs.declared.literal.SatLit.{SatLit}
 use Rattle.sat_log.specs.declared.log.LogEntry.{LogEntry}
 use Rattle.term_bank.specs.Content.{Content}
@@ -12,7 +12,7 @@ use Rattle.witness_names.specs.Rows.{rows_of}
 use Rattle.tableau_clauses.specs.declared.origin.Origin.{Origin}
 use Rattle.tableau_clauses.specs.declared.origin.Origin.TheVariants.{Start, Instance as From}
 use Rattle.tableau_clauses.specs.Table.{Step, Table}
-use Rattle.rebuilt_refutation.specs.Input.{Instance, Sourced, start_unit, clause_by, Input, literals_of}
+use Rattle.rebuild_spec.specs.Input.{Instance, Sourced, start_unit, clause_by, Input, literals_of}
 use Rattle.tableau_rules.specs.Uses.{use_of}
 
 -- the atoms at these places of the bank

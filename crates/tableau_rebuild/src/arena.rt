@@ -5,13 +5,13 @@ ghost use Rattle.sat_base.specs.declared.literal.SatLit.{SatLit};
 ghost use Rattle.sat_log.specs.declared.log.LogEntry.{LogEntry};
 ghost use Rattle.sat_log.specs.Chains.{premise_clause, results, IsLogOver};
 ghost use Rattle.tableau_clauses.specs.Table.{the_clauses};
-ghost use Rattle.rebuilt_refutation.specs.Stands.{place_of};
-ghost use Rattle.rebuilt_refutation.specs.Trees.{at_clause, at_result};
+ghost use Rattle.rebuild_spec.specs.Stands.{place_of};
+ghost use Rattle.rebuild_spec.specs.Trees.{at_clause, at_result};
 ghost use Rattle.tableau_rebuild.specs.Tables.{the_sources};
 ghost use Rattle.tableau_rebuild.specs.declared.draft.Draft.TheVariants.{Clause as ClauseDraft, Close as CloseDraft};
 ghost use Rattle.tableau_rebuild.specs.declared.arena.Standing.TheVariants.{Line};
-ghost use Rattle.tableau_rebuild.specs.Means.Drafts.{after_step};
-ghost use Rattle.tableau_rebuild.specs.Means.Arenas.{unit_in, IsUnit, IsWithin, place_at, IsDrawn, IsBefore, Extends, StandsFor, AreResults, IsJoined, IsThere, IsChained, HasStep};
+ghost use Rattle.tableau_rebuild.specs.Internal.Drafts.{after_step};
+ghost use Rattle.tableau_rebuild.specs.Internal.Arenas.{unit_in, IsUnit, IsWithin, place_at, IsDrawn, IsBefore, Extends, StandsFor, AreResults, IsJoined, IsThere, IsChained, HasStep};
 
 use crate::draft::{At, Draft};
 use sat_base::{Clause, SatLit, Var};

@@ -2,7 +2,7 @@
 ghost use Rattle.std.specs.Prelude.{◌≡◌, [], ◌∷◌, length, IfOk, OnOk};
 ghost use Rattle.sat_log.specs.Resolution.{resolvent};
 ghost use Rattle.tableau_clauses.specs.Table.{the_clauses};
-ghost use Rattle.tableau_rebuild.specs.Means.Branches.{branch_by, IsReady};
+ghost use Rattle.tableau_rebuild.specs.Internal.Branches.{branch_by, IsReady};
 
 use crate::draft::Draft;
 use crate::literals::negations;

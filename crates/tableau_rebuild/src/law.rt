@@ -4,7 +4,7 @@ ghost use Rattle.term_bank.specs.Content.{content_scope};
 ghost use Rattle.literal_map.specs.Atoms.{IsAtom};
 ghost use Rattle.witness_names.specs.Rows.{rows_of, AreRows};
 ghost use Rattle.tableau_clauses.specs.Table.{the_instances};
-ghost use Rattle.rebuilt_refutation.specs.Given.{IsGiven};
+ghost use Rattle.rebuild_spec.specs.Given.{IsGiven};
 ghost use Rattle.tableau_rebuild.specs.Tables.{the_atoms, the_input, unit_literals};
 ghost use Rattle.tableau_rebuild.specs.Conditions.{IsInstanceOver};
 

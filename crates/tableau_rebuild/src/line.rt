@@ -1,18 +1,18 @@
 //! Lines.
 ghost use Rattle.std.specs.Prelude.{◌≡◌, ◌<◌, [], ◌∷◌, length, map, Some, IsSome, IfSome, IfOk, OnOk, All, unwrap_or};
 ghost use Rattle.sat_base.specs.Literal.{IsOver};
-ghost use Rattle.stt_tableau.specs.declared.refutation.RuleUse.{RuleUse};
-ghost use Rattle.stt_tableau.specs.declared.refutation.Child.TheVariants.{Closed, Line as Numbered};
-ghost use Rattle.search_run.specs.Numbered.{literal_at};
+ghost use Rattle.tableau_calculus.specs.declared.refutation.RuleUse.{RuleUse};
+ghost use Rattle.tableau_calculus.specs.declared.refutation.Child.TheVariants.{Closed, Line as Numbered};
+ghost use Rattle.search_spec.specs.Numbered.{literal_at};
 ghost use Rattle.term_bank.specs.Terms.{term_at};
 ghost use Rattle.literal_map.specs.Atoms.{IsAtom};
-ghost use Rattle.written_refutation.specs.Sizes.{AreSmallLiterals};
-ghost use Rattle.rebuilt_refutation.specs.Input.{literals_of};
-ghost use Rattle.rebuilt_refutation.specs.Stands.{placed, place_in};
+ghost use Rattle.refute_print.specs.Sizes.{AreSmallLiterals};
+ghost use Rattle.rebuild_spec.specs.Input.{literals_of};
+ghost use Rattle.rebuild_spec.specs.Stands.{placed, place_in};
 ghost use Rattle.tableau_rules.specs.Uses.{use_of};
 ghost use Rattle.tableau_rebuild.specs.Tables.{no_literal, the_atoms, the_instance};
-ghost use Rattle.tableau_rebuild.specs.Means.LineParts.{first_in, left_in, right_in, instance_by, IsGoodUse, IsMakeable, IsLineBy};
-ghost use Rattle.tableau_rebuild.specs.Means.Pools.{IsMade};
+ghost use Rattle.tableau_rebuild.specs.Internal.LineParts.{first_in, left_in, right_in, instance_by, IsGoodUse, IsMakeable, IsLineBy};
+ghost use Rattle.tableau_rebuild.specs.Internal.Pools.{IsMade};
 
 use crate::draft::Draft;
 use crate::literals::{lit_of, lits_of, position};
@@ -21,7 +21,7 @@ use literal_map::{BankUse, Instance, LitList, LitLists, LitTable, RuleKind};
 use sat_base::SatLit;
 use std::alloc::{AllocError, Global};
 use stt_core::Nf;
-use stt_tableau::{Child, Children, Line, Lit, Lits, RuleUse};
+use tableau_calculus::{Child, Children, Line, Lit, Lits, RuleUse};
 use tableau_clauses::{Origin, StepTable};
 use term_bank::Bank;
 

@@ -1,20 +1,20 @@
 //! Literals and branches, by numbers and as terms.
 ghost use Rattle.std.specs.Prelude.{◌≡◌, ◌<◌, [], ◌∷◌, ◌++◌, length, map, IfOk, OnOk, All};
 ghost use Rattle.sat_base.specs.Literal.{negated, IsOver};
-ghost use Rattle.search_run.specs.Numbered.{literal_at};
+ghost use Rattle.search_spec.specs.Numbered.{literal_at};
 ghost use Rattle.literal_map.specs.Atoms.{IsAtom};
-ghost use Rattle.written_refutation.specs.Sizes.{IsSmallTerm, AreSmallLiterals};
-ghost use Rattle.rebuilt_refutation.specs.Input.{literals_of};
-ghost use Rattle.rebuilt_refutation.specs.Stands.{place_in};
+ghost use Rattle.refute_print.specs.Sizes.{IsSmallTerm, AreSmallLiterals};
+ghost use Rattle.rebuild_spec.specs.Input.{literals_of};
+ghost use Rattle.rebuild_spec.specs.Stands.{place_in};
 ghost use Rattle.tableau_rebuild.specs.Tables.{the_atoms};
-ghost use Rattle.tableau_rebuild.specs.Means.Pools.{IsMade};
+ghost use Rattle.tableau_rebuild.specs.Internal.Pools.{IsMade};
 
 use crate::pool::Pool;
 use literal_map::LitTable;
 use sat_base::{Clause, SatLit};
-use small_refutation::is_small_term;
+use refute_print::is_small_term;
 use std::alloc::{AllocError, Global};
-use stt_tableau::{Lit, Lits};
+use tableau_calculus::{Lit, Lits};
 use term_bank::Bank;
 
 /// The place of a literal in a branch.

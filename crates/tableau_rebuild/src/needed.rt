@@ -3,20 +3,20 @@ ghost use Rattle.std.specs.Prelude.{◌≡◌, ◌<◌, ◌^◌, ℕ, List, max,
 ghost use Rattle.std.specs.List.{position_or_len};
 ghost use Rattle.stt_core.specs.SameTerm.{same_term};
 ghost use Rattle.stt_core.specs.View.{the_head};
-ghost use Rattle.stt_tableau.specs.declared.refutation.RuleUse.{RuleUse};
-ghost use Rattle.stt_tableau.specs.declared.refutation.Line.{Line};
+ghost use Rattle.tableau_calculus.specs.declared.refutation.RuleUse.{RuleUse};
+ghost use Rattle.tableau_calculus.specs.declared.refutation.Line.{Line};
 ghost use Rattle.sat_base.specs.Literal.{IsOver};
-ghost use Rattle.search_run.specs.Numbered.{literal_at};
+ghost use Rattle.search_spec.specs.Numbered.{literal_at};
 ghost use Rattle.term_bank.specs.Terms.{term_at};
 ghost use Rattle.witness_names.specs.Rows.{rows_of, AreRows};
 ghost use Rattle.literal_map.specs.Atoms.{IsAtom};
-ghost use Rattle.rebuilt_refutation.specs.Input.{literals_of};
-ghost use Rattle.rebuilt_refutation.specs.NeededRows.{rows_for, rows_for_all, rows_for_rule, rows_up_to, rows_up_to_principal};
-ghost use Rattle.rebuilt_refutation.specs.Stands.{placed, place_in};
+ghost use Rattle.rebuild_spec.specs.Input.{literals_of};
+ghost use Rattle.rebuild_spec.specs.NeededRows.{rows_for, rows_for_all, rows_for_rule, rows_up_to, rows_up_to_principal};
+ghost use Rattle.rebuild_spec.specs.Stands.{placed, place_in};
 ghost use Rattle.tableau_rules.specs.Uses.{use_of};
 ghost use Rattle.tableau_rebuild.specs.Tables.{no_literal, the_atoms, the_instance};
-ghost use Rattle.tableau_rebuild.specs.Means.LineParts.{first_in, instance_by, IsGoodUse, IsLineBy};
-ghost use Rattle.tableau_rebuild.specs.Means.Needed.{is_quantifier, HasParts};
+ghost use Rattle.tableau_rebuild.specs.Internal.LineParts.{first_in, instance_by, IsGoodUse, IsLineBy};
+ghost use Rattle.tableau_rebuild.specs.Internal.Needed.{is_quantifier, HasParts};
 
 use crate::draft::Draft;
 use crate::literals::position;

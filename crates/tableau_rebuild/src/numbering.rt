@@ -1,8 +1,8 @@
 //! The numbers of the lines.
 ghost use Rattle.std.specs.Prelude.{◌≡◌, ◌<◌, ℕ, [], length, map, Some, slice_get, IfOk};
-ghost use Rattle.rebuilt_refutation.specs.Lines.{walked};
-ghost use Rattle.tableau_rebuild.specs.Means.Drafts.{trees, tree_at, AreDrafts};
-ghost use Rattle.tableau_rebuild.specs.Means.Numbers.{AreNumbers};
+ghost use Rattle.rebuild_spec.specs.Lines.{walked};
+ghost use Rattle.tableau_rebuild.specs.Internal.Drafts.{trees, tree_at, AreDrafts};
+ghost use Rattle.tableau_rebuild.specs.Internal.Numbers.{AreNumbers};
 
 use crate::draft::Draft;
 use std::alloc::{AllocError, Global};

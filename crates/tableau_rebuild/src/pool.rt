@@ -1,18 +1,18 @@
 //! Literals of which each is made and checked once.
 ghost use Rattle.std.specs.Prelude.{◌≡◌, ◌<◌, [], ◌∷◌, ◌++◌, List, length, Some, slice_get, IfOk, OnOk, All};
 ghost use Rattle.stt_core.specs.Lambda.{Lambda};
-ghost use Rattle.search_run.specs.Numbered.{literal_at};
+ghost use Rattle.search_spec.specs.Numbered.{literal_at};
 ghost use Rattle.literal_map.specs.Atoms.{IsAtom};
-ghost use Rattle.written_refutation.specs.Sizes.{IsSmallTerm, AreSmallLiterals};
+ghost use Rattle.refute_print.specs.Sizes.{IsSmallTerm, AreSmallLiterals};
 ghost use Rattle.tableau_rebuild.specs.Tables.{the_atoms};
-ghost use Rattle.tableau_rebuild.specs.Means.Pools.{IsMade};
+ghost use Rattle.tableau_rebuild.specs.Internal.Pools.{IsMade};
 
 use crate::literals::small_lit_of;
 use indexmap::IndexSet;
 use literal_map::LitTable;
 use sat_base::SatLit;
 use std::alloc::{AllocError, Global};
-use stt_tableau::Lits;
+use tableau_calculus::Lits;
 use term_bank::Bank;
 
 /// The literals that were made of their numbers so far, each small enough for a text. Lines share them.

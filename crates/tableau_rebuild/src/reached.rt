@@ -3,12 +3,12 @@ ghost use Rattle.std.specs.Prelude.{◌≡◌, ◌<◌, ◌||◌, ◌&&◌, ◌�
 ghost use Rattle.std.specs.List.Sorted.{IsStrictlyIncreasing};
 ghost use Rattle.sat_log.specs.Chains.{IsLogOver};
 ghost use Rattle.tableau_clauses.specs.Table.{the_clauses};
-ghost use Rattle.rebuilt_refutation.specs.Stands.{place_of};
-ghost use Rattle.rebuilt_refutation.specs.Trees.{Place, at_result, same_place};
+ghost use Rattle.rebuild_spec.specs.Stands.{place_of};
+ghost use Rattle.rebuild_spec.specs.Trees.{Place, at_result, same_place};
 ghost use Rattle.tableau_rebuild.specs.Conditions.{EndsEmpty};
 ghost use Rattle.tableau_rebuild.specs.UsedInstances.{IsUsedInstance};
-ghost use Rattle.tableau_rebuild.specs.Means.Arenas.{IsThere};
-ghost use Rattle.tableau_rebuild.specs.Means.Flags.{flagged, is_premise, is_premise_in, ArePremisesThere, AreFlagsOf, IsFlaggedOrigin, HasFlaggedOrigin};
+ghost use Rattle.tableau_rebuild.specs.Internal.Arenas.{IsThere};
+ghost use Rattle.tableau_rebuild.specs.Internal.Flags.{flagged, is_premise, is_premise_in, ArePremisesThere, AreFlagsOf, IsFlaggedOrigin, HasFlaggedOrigin};
 
 use sat_log::{Chain, Log, Premise};
 use std::alloc::{AllocError, Global};

@@ -6,7 +6,7 @@ ghost use Rattle.witness_names.specs.Rows.{binder_of, row_of, rows_of};
 
 use std::alloc::{AllocError, Global};
 use stt_core::Ty;
-use stt_tableau::{Rows, WitnessRow};
+use tableau_calculus::{Rows, WitnessRow};
 use term_bank::{Bank, Id, Node};
 use witness_names::Witnesses;
 

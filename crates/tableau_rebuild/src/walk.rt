@@ -1,9 +1,9 @@
 //! The order of the lines.
 ghost use Rattle.std.specs.Prelude.{◌≡◌, ◌<◌, ℕ, false, [], ◌∷◌, length, map, reverse, Some, slice_get, IfOk, OnOk};
-ghost use Rattle.rebuilt_refutation.specs.Lines.{walked};
+ghost use Rattle.rebuild_spec.specs.Lines.{walked};
 ghost use Rattle.tableau_rebuild.specs.declared.walk.Task.TheVariants.{Enter, Visit};
-ghost use Rattle.tableau_rebuild.specs.Means.Drafts.{trees, tree_at, AreDrafts};
-ghost use Rattle.tableau_rebuild.specs.Means.Walks.{IsUnderWay, weight};
+ghost use Rattle.tableau_rebuild.specs.Internal.Drafts.{trees, tree_at, AreDrafts};
+ghost use Rattle.tableau_rebuild.specs.Internal.Walks.{IsUnderWay, weight};
 
 use crate::draft::Draft;
 use std::alloc::{AllocError, Global};

@@ -2,17 +2,17 @@
 use Rattle.std.proofs.Common.{◌≡◌, ◌<◌, ℕ, length, List, [], ◌∷◌, Some, None, sym, ap, ap₂, subst, ◌∙◌}
 use Rattle.stt_core.specs.SimpleType.{SimpleType}
 use Rattle.stt_core.specs.Lambda.{Constant, constant, app}
-use Rattle.stt_normal.specs.Normal.{eta, apply}
-use Rattle.stt_tableau.specs.Literals.{as_literal, opposite}
-use Rattle.stt_tableau.specs.Witnesses.{Row}
-use Rattle.stt_tableau.specs.Rules.{IsInstance, chosen, nowhere, at_most_once, described}
-use Rattle.stt_tableau.specs.declared.refutation.RuleUse.TheVariants.{Cho, Des}
-use Rattle.stt_tableau.proofs.InstanceLaws.{cho_is, des_is, fits}
+use Rattle.normal_forms.specs.Normal.{eta, apply}
+use Rattle.tableau_calculus.specs.Literals.{as_literal, opposite}
+use Rattle.tableau_calculus.specs.Witnesses.{Row}
+use Rattle.tableau_calculus.specs.Rules.{IsInstance, chosen, nowhere, at_most_once, described}
+use Rattle.tableau_calculus.specs.declared.refutation.RuleUse.TheVariants.{Cho, Des}
+use Rattle.tableau_calculus.proofs.InstanceLaws.{cho_is, des_is, fits}
 use Rattle.term_bank.specs.Content.{Content, content_scope, HasTerm, Grows}
 use Rattle.term_bank.specs.Terms.{term_at}
 use Rattle.term_bank.proofs.GrowLaws.{grown_scope, grown_at, has_at, has_within}
-use Rattle.tableau_rules.specs.Means.Typed.{IsPredicate, IsPredicateType}
-use Rattle.tableau_rules.specs.Means.Drafted.{alternatives_at, Drafted}
+use Rattle.tableau_rules.specs.Internal.Typed.{IsPredicate, IsPredicateType}
+use Rattle.tableau_rules.specs.Internal.Drafted.{alternatives_at, Drafted}
 use Rattle.tableau_rules.specs.declared.draft.Signed.{Signed}
 use Rattle.tableau_rules.proofs.DraftLaws.{yes, nay}
 

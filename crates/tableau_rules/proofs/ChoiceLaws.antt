@@ -9,15 +9,15 @@ use Rattle.stt_core.specs.Occurrence.{IsClosed}
 use Rattle.stt_core.specs.Typing.{type_of}
 use Rattle.stt_core.specs.Canonical.{IsCanonical, IsNeutral}
 use Rattle.stt_core.proofs.CanonicalTypes.{canonical_type-at}
-use Rattle.stt_normal.specs.Normal.{eta, apply}
-use Rattle.stt_normal.proofs.NormalValues.{canonical-eta}
-use Rattle.stt_normal.proofs.EtaReplace.{apply_each-eta}
-use Rattle.stt_tableau.proofs.FunctionLaws.{predicate_declared}
+use Rattle.normal_forms.specs.Normal.{eta, apply}
+use Rattle.normal_forms.proofs.NormalValues.{canonical-eta}
+use Rattle.normal_forms.proofs.EtaReplace.{apply_each-eta}
+use Rattle.tableau_calculus.proofs.FunctionLaws.{predicate_declared}
 use Rattle.term_bank.specs.Content.{Content, content_scope, HasTerm, Grows}
 use Rattle.term_bank.specs.Terms.{term_at}
 use Rattle.term_bank.proofs.GrowLaws.{grown_scope, grown_at, grown_within, grows_on, has_at}
 use Rattle.bank_normal.specs.Fits.{AppliesIn, IsNeutralOf}
-use Rattle.tableau_rules.specs.Means.Typed.{IsPredicate, IsPredicateType, IsOperator}
+use Rattle.tableau_rules.specs.Internal.Typed.{IsPredicate, IsPredicateType, IsOperator}
 use Rattle.tableau_rules.proofs.ClosedLaws.{canonical_closed}
 
 pub open_none : (b : Content) (f : ℕ) (r : Bool) → (IsTrue r ↔ IsClosed (term_at b.terms f)) → r ≡ false → IsPredicateType b f None

@@ -5,7 +5,7 @@ use Rattle.std.proofs.lemmas.Option.{slice_get_within, same_Some}
 use Rattle.stt_core.specs.SimpleType.{SimpleType, base, arrow, same_type}
 use Rattle.stt_core.specs.Lambda.{Lambda, bound, constant, lam, app}
 use Rattle.stt_core.specs.Occurrence.{IsClosed}
-use Rattle.stt_core.specs.Means.Missing.{missing_binders}
+use Rattle.stt_core.specs.Internal.Missing.{missing_binders}
 use Rattle.stt_core.specs.Typing.{Scope}
 use Rattle.stt_core.specs.Canonical.{IsCanonical, IsNeutral, IsFrom}
 use Rattle.stt_core.proofs.CanonicalTypes.{canonical_type-at}

@@ -4,18 +4,18 @@ use Rattle.stt_core.specs.SimpleType.{SimpleType, base, formula}
 use Rattle.stt_core.specs.Lambda.{eq}
 use Rattle.stt_core.specs.Canonical.{IsCanonical}
 use Rattle.stt_core.specs.View.{the_type}
-use Rattle.stt_tableau.specs.Literals.{minus, opposite, as_literal}
-use Rattle.stt_tableau.specs.Witnesses.{Row}
-use Rattle.stt_tableau.specs.Rules.{IsInstance}
-use Rattle.stt_tableau.specs.declared.refutation.RuleUse.TheVariants.{Con}
-use Rattle.stt_tableau.proofs.InstanceLaws.{con_is}
-use Rattle.stt_tableau.proofs.EquationLaws.{eq_canonical}
+use Rattle.tableau_calculus.specs.Literals.{minus, opposite, as_literal}
+use Rattle.tableau_calculus.specs.Witnesses.{Row}
+use Rattle.tableau_calculus.specs.Rules.{IsInstance}
+use Rattle.tableau_calculus.specs.declared.refutation.RuleUse.TheVariants.{Con}
+use Rattle.tableau_calculus.proofs.InstanceLaws.{con_is}
+use Rattle.tableau_calculus.proofs.EquationLaws.{eq_canonical}
 use Rattle.term_bank.specs.Content.{Content, content_scope, Grows}
 use Rattle.term_bank.specs.Terms.{term_at}
 use Rattle.term_bank.proofs.GrowLaws.{grown_scope, grown_at, grown_term, grows_on, has_at, has_within}
-use Rattle.tableau_rules.specs.Means.Drafted.{principal_at, signed_at, alternatives_at, IsPrincipal, Drafted, IsDifference, DifferFromBoth}
-use Rattle.tableau_rules.specs.Means.Parts.{IsEquationOf}
-use Rattle.tableau_rules.specs.Means.Typed.{AreSides}
+use Rattle.tableau_rules.specs.Internal.Drafted.{principal_at, signed_at, alternatives_at, IsPrincipal, Drafted, IsDifference, DifferFromBoth}
+use Rattle.tableau_rules.specs.Internal.Parts.{IsEquationOf}
+use Rattle.tableau_rules.specs.Internal.Typed.{AreSides}
 use Rattle.tableau_rules.specs.declared.draft.Principal.{Principal}
 use Rattle.tableau_rules.specs.declared.draft.Signed.{Signed}
 use Rattle.tableau_rules.specs.declared.part.Equation.{Equation}

@@ -8,13 +8,13 @@ use Rattle.stt_core.specs.Typing.{Scope}
 use Rattle.stt_core.specs.Canonical.{IsCanonical}
 use Rattle.stt_core.proofs.SpineLaws.{IsAtom, binders_of, binders-spine}
 use Rattle.stt_core.proofs.ListLaws.{mapped_get}
-use Rattle.stt_tableau.specs.Witnesses.{Row, with_rows, IsTypedRow, IsTableAfter}
-use Rattle.stt_tableau.proofs.FunctionLaws.{predicate_declared}
+use Rattle.tableau_calculus.specs.Witnesses.{Row, with_rows, IsTypedRow, IsTableAfter}
+use Rattle.tableau_calculus.proofs.FunctionLaws.{predicate_declared}
 use Rattle.term_bank.specs.Content.{Content, content_scope, Grows}
 use Rattle.witness_names.proofs.StayLaws.{rows_same}
 use Rattle.term_bank.specs.Terms.{term_at}
 use Rattle.witness_names.specs.Rows.{binder_of, row_of, rows_of, AreRows}
-use Rattle.tableau_rules.specs.Means.Declaring.{Declares, AreDeclaredIn}
+use Rattle.tableau_rules.specs.Internal.Declaring.{Declares, AreDeclaredIn}
 use Rattle.tableau_rules.proofs.WideLaws.{widens_itself, widens_on}
 
 typed_at : (scope : Scope) (earlier rows : List Row) (k : ℕ) (r : Row) → IsTableAfter scope earlier rows → slice_get rows k ≡ Some r → (es : List Row) × IsTypedRow scope es r

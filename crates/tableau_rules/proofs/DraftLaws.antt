@@ -4,15 +4,15 @@ use Rattle.std.specs.Bool.{beq}
 use Rattle.stt_core.specs.SimpleType.{formula}
 use Rattle.stt_core.specs.Lambda.{falsity, Lambda, constant, imp, eq}
 use Rattle.stt_core.specs.View.{the_type}
-use Rattle.stt_tableau.specs.Literals.{plus, opposite, as_literal}
-use Rattle.stt_tableau.specs.Witnesses.{Row}
-use Rattle.stt_tableau.specs.declared.refutation.RuleUse.TheVariants.{False, Close, Refl, ImpPos, ImpNeg, BoolPos, BoolNeg, Cut}
-use Rattle.stt_tableau.proofs.InstanceLaws.{false_is, close_is, imp_pos_is, imp_neg_is, refl_is, bool_pos_is, bool_neg_is, cut_is}
+use Rattle.tableau_calculus.specs.Literals.{plus, opposite, as_literal}
+use Rattle.tableau_calculus.specs.Witnesses.{Row}
+use Rattle.tableau_calculus.specs.declared.refutation.RuleUse.TheVariants.{False, Close, Refl, ImpPos, ImpNeg, BoolPos, BoolNeg, Cut}
+use Rattle.tableau_calculus.proofs.InstanceLaws.{false_is, close_is, imp_pos_is, imp_neg_is, refl_is, bool_pos_is, bool_neg_is, cut_is}
 use Rattle.term_bank.specs.Content.{Content, content_scope}
 use Rattle.term_bank.specs.Terms.{term_at}
 use Rattle.literal_map.proofs.SignLaws.{unsigned_literal}
-use Rattle.tableau_rules.specs.Means.Drafted.{principal_at, signed_at, alternatives_at, IsPrincipal, Drafted}
-use Rattle.tableau_rules.specs.Means.Parts.{IsImplicationOf, IsEquationOf}
+use Rattle.tableau_rules.specs.Internal.Drafted.{principal_at, signed_at, alternatives_at, IsPrincipal, Drafted}
+use Rattle.tableau_rules.specs.Internal.Parts.{IsImplicationOf, IsEquationOf}
 use Rattle.tableau_rules.specs.declared.draft.Principal.{Principal}
 use Rattle.tableau_rules.specs.declared.draft.Signed.{Signed}
 use Rattle.tableau_rules.specs.declared.part.Sides.{Sides}

@@ -3,26 +3,26 @@ use Rattle.std.proofs.Common.{◌≡◌, ℕ, true, false, List, [], ◌∷◌, 
 use Rattle.stt_core.specs.Lambda.{every}
 use Rattle.stt_core.specs.Canonical.{IsCanonical}
 use Rattle.stt_core.specs.View.{the_type}
-use Rattle.stt_normal.specs.Normal.{apply}
-use Rattle.stt_tableau.specs.Literals.{as_literal}
-use Rattle.stt_tableau.specs.Witnesses.{Row}
-use Rattle.stt_tableau.specs.Rules.{IsInstance}
-use Rattle.stt_tableau.specs.declared.refutation.RuleUse.{RuleUse}
-use Rattle.stt_tableau.specs.declared.refutation.RuleUse.TheVariants.{AllPos, FunPos, FunNeg}
+use Rattle.normal_forms.specs.Normal.{apply}
+use Rattle.tableau_calculus.specs.Literals.{as_literal}
+use Rattle.tableau_calculus.specs.Witnesses.{Row}
+use Rattle.tableau_calculus.specs.Rules.{IsInstance}
+use Rattle.tableau_calculus.specs.declared.refutation.RuleUse.{RuleUse}
+use Rattle.tableau_calculus.specs.declared.refutation.RuleUse.TheVariants.{AllPos, FunPos, FunNeg}
 use Rattle.stt_core.specs.SimpleType.{arrow, formula}
 use Rattle.stt_core.specs.Lambda.{eq}
-use Rattle.stt_tableau.specs.Literals.{opposite}
-use Rattle.stt_tableau.specs.Rules.{agreement}
-use Rattle.stt_tableau.proofs.EquationLaws.{eq_canonical}
-use Rattle.tableau_rules.specs.Means.Typed.{AreSides}
-use Rattle.tableau_rules.specs.Means.Functions.{AreFunctionsOf}
+use Rattle.tableau_calculus.specs.Literals.{opposite}
+use Rattle.tableau_calculus.specs.Rules.{agreement}
+use Rattle.tableau_calculus.proofs.EquationLaws.{eq_canonical}
+use Rattle.tableau_rules.specs.Internal.Typed.{AreSides}
+use Rattle.tableau_rules.specs.Internal.Functions.{AreFunctionsOf}
 use Rattle.tableau_rules.specs.declared.function.Functions.{Functions}
-use Rattle.stt_tableau.proofs.InstanceLaws.{all_pos_is, fun_pos_is, fun_neg_is}
+use Rattle.tableau_calculus.proofs.InstanceLaws.{all_pos_is, fun_pos_is, fun_neg_is}
 use Rattle.term_bank.specs.Content.{Content, content_scope, HasTerm, Grows}
 use Rattle.term_bank.specs.Terms.{term_at}
 use Rattle.term_bank.proofs.GrowLaws.{grown_scope, grown_at, has_at, has_within}
-use Rattle.tableau_rules.specs.Means.Drafted.{principal_at, alternatives_at, IsPrincipal, AreWithin, Drafted}
-use Rattle.tableau_rules.specs.Means.Parts.{IsQuantifiedOf}
+use Rattle.tableau_rules.specs.Internal.Drafted.{principal_at, alternatives_at, IsPrincipal, AreWithin, Drafted}
+use Rattle.tableau_rules.specs.Internal.Parts.{IsQuantifiedOf}
 use Rattle.tableau_rules.specs.declared.draft.Principal.{Principal}
 use Rattle.tableau_rules.specs.declared.draft.Signed.{Signed}
 use Rattle.tableau_rules.specs.declared.part.Quantified.{Quantified}

@@ -7,25 +7,25 @@ use Rattle.stt_core.specs.SimpleType.{formula}
 use Rattle.stt_core.specs.Lambda.{Lambda}
 use Rattle.stt_core.specs.Typing.{Scope, IsScope}
 use Rattle.stt_core.specs.Canonical.{IsCanonical}
-use Rattle.stt_tableau.specs.Literals.{Literal, opposite, as_literal, IsLiteral, IsBranch}
-use Rattle.stt_tableau.specs.Rules.{places, AreAt, IsInstance}
-use Rattle.stt_tableau.specs.Witnesses.{Row}
-use Rattle.stt_tableau.specs.declared.refutation.RuleUse.{RuleUse}
-use Rattle.stt_tableau.proofs.LiteralLaws.{literal_cases}
-use Rattle.stt_tableau.proofs.ClosedLaws.{literal_in}
-use Rattle.stt_tableau.proofs.ListLaws.{contains-get}
+use Rattle.tableau_calculus.specs.Literals.{Literal, opposite, as_literal, IsLiteral, IsBranch}
+use Rattle.tableau_calculus.specs.Rules.{places, AreAt, IsInstance}
+use Rattle.tableau_calculus.specs.Witnesses.{Row}
+use Rattle.tableau_calculus.specs.declared.refutation.RuleUse.{RuleUse}
+use Rattle.tableau_calculus.proofs.LiteralLaws.{literal_cases}
+use Rattle.tableau_calculus.proofs.ClosedLaws.{literal_in}
+use Rattle.tableau_calculus.proofs.ListLaws.{contains-get}
 use Rattle.term_bank.specs.Content.{Content, content_scope}
 use Rattle.term_bank.specs.Terms.{term_at}
 use Rattle.term_bank.proofs.ListLaws.{get_or-front}
 use Rattle.literal_map.specs.Atoms.{literal_at, IsAtom, Begins}
 use Rattle.literal_map.specs.declared.instance.BankUse.{BankUse}
-use Rattle.search_run.specs.Each.{Each}
-use Rattle.search_run.proofs.TypedAlternatives.{alternatives_typed}
+use Rattle.search_spec.specs.Each.{Each}
+use Rattle.search_spec.proofs.TypedAlternatives.{alternatives_typed}
 use Rattle.tableau_rules.specs.Uses.{rule_of, use_of, is_cut, principals_of, IsInstanceBy}
 use Rattle.tableau_rules.specs.Changes.{Widens}
-use Rattle.tableau_rules.specs.Means.Drafted.{signed_at, alternatives_at, IsWithin, AreWithin}
-use Rattle.tableau_rules.specs.Means.Numbered.{AreFormulas, AllFormulas, AreNumbered, AllNumbered}
-use Rattle.tableau_rules.specs.Means.Made.{AreDraftsOf}
+use Rattle.tableau_rules.specs.Internal.Drafted.{signed_at, alternatives_at, IsWithin, AreWithin}
+use Rattle.tableau_rules.specs.Internal.Numbered.{AreFormulas, AllFormulas, AreNumbered, AllNumbered}
+use Rattle.tableau_rules.specs.Internal.Made.{AreDraftsOf}
 use Rattle.tableau_rules.specs.declared.draft.Signed.{Signed}
 use Rattle.tableau_rules.proofs.WideLaws.{wide_at, wide_instance}
 

@@ -3,12 +3,12 @@ use Rattle.std.proofs.Common.{◌≡◌, ℕ, true, [], ◌∷◌, Some, refl, s
 use Rattle.stt_core.specs.SimpleType.{SimpleType, formula, is_declared}
 use Rattle.stt_core.specs.Lambda.{lam, neg, every}
 use Rattle.stt_core.specs.Canonical.{IsCanonical}
-use Rattle.stt_tableau.specs.Rules.{at_new, nowhere}
-use Rattle.stt_tableau.proofs.FunctionLaws.{canonical-at_new, predicate_declared}
+use Rattle.tableau_calculus.specs.Rules.{at_new, nowhere}
+use Rattle.tableau_calculus.proofs.FunctionLaws.{canonical-at_new, predicate_declared}
 use Rattle.term_bank.specs.Content.{Content, content_scope, HasTerm, Grows}
 use Rattle.term_bank.specs.Terms.{term_at, IsTypedTerm}
 use Rattle.term_bank.proofs.GrowLaws.{grown_scope, has_at, has_within}
-use Rattle.tableau_rules.specs.Means.Typed.{IsFunction, IsPredicate, IsOpenFormula}
+use Rattle.tableau_rules.specs.Internal.Typed.{IsFunction, IsPredicate, IsOpenFormula}
 use Rattle.tableau_rules.proofs.TypedLaws.{declared_grown}
 
 pub predicate_function : (b : Content) (a : SimpleType) (f : ℕ) → IsPredicate b a f → IsFunction b a f

@@ -8,7 +8,7 @@ use Rattle.term_bank.specs.Content.{Content}
 use Rattle.term_bank.specs.Terms.{term_at}
 use Rattle.term_bank.proofs.ListLaws.{get_or-front}
 use Rattle.literal_map.specs.Atoms.{IsAtom, Begins}
-use Rattle.tableau_rules.specs.Means.Numbered.{IsSignedFormula, AreFormulas, AllFormulas, IsNumbered, AreNumbered, AllNumbered}
+use Rattle.tableau_rules.specs.Internal.Numbered.{IsSignedFormula, AreFormulas, AllFormulas, IsNumbered, AreNumbered, AllNumbered}
 use Rattle.tableau_rules.specs.declared.draft.Signed.{Signed}
 
 pub formula_at : (b : Content) (draft : List Signed) (i : ℕ) (s : Signed) → AreFormulas b draft → slice_get draft i ≡ Some s → IsSignedFormula b s

@@ -7,11 +7,11 @@ use Rattle.stt_core.specs.Lambda.{Constant, name, witness, falsity, negation, im
 use Rattle.stt_core.specs.View.{the_head}
 use Rattle.stt_core.proofs.SpineLaws.{SameParts, parts, binders-spine, binders_of}
 use Rattle.stt_core.proofs.HeadLaws.{atom_head}
-use Rattle.stt_tableau.specs.Means.Heads.{equality_of, quantified_by}
+use Rattle.tableau_calculus.specs.Internal.Heads.{equality_of, quantified_by}
 use Rattle.term_bank.specs.Content.{Content}
 use Rattle.term_bank.specs.Terms.{term_at}
 use Rattle.bank_normal.proofs.NodeLaws.{within_at}
-use Rattle.tableau_rules.specs.Means.Parts.{IsSpineOf}
+use Rattle.tableau_rules.specs.Internal.Parts.{IsSpineOf}
 use Rattle.tableau_rules.specs.declared.part.Spine.{Spine}
 
 pub function_no_spine : (t : Lambda) (a : SimpleType) (s : Lambda) → t ≡ lam a s → (c : Constant) (us : List Lambda) → t ≡ applied (constant c) us → ⊥

@@ -4,17 +4,17 @@ use Rattle.std.proofs.lemmas.Option.{same_Some}
 use Rattle.stt_core.specs.SimpleType.{base}
 use Rattle.stt_core.specs.Lambda.{Constant, Lambda, constant, eq, applied}
 use Rattle.stt_core.specs.View.{the_type}
-use Rattle.stt_tableau.specs.Literals.{plus, minus}
-use Rattle.stt_tableau.specs.Rules.{IsDecomposed, differ_each, mat_rule, dec_rule, AreAt, IsInstance}
-use Rattle.stt_tableau.specs.Witnesses.{Row}
-use Rattle.stt_tableau.specs.declared.refutation.RuleUse.TheVariants.{Mat, Dec}
-use Rattle.stt_tableau.proofs.InstanceLaws.{fits}
+use Rattle.tableau_calculus.specs.Literals.{plus, minus}
+use Rattle.tableau_calculus.specs.Rules.{IsDecomposed, differ_each, mat_rule, dec_rule, AreAt, IsInstance}
+use Rattle.tableau_calculus.specs.Witnesses.{Row}
+use Rattle.tableau_calculus.specs.declared.refutation.RuleUse.TheVariants.{Mat, Dec}
+use Rattle.tableau_calculus.proofs.InstanceLaws.{fits}
 use Rattle.term_bank.specs.Content.{Content, content_scope, Grows}
 use Rattle.term_bank.specs.Terms.{term_at}
 use Rattle.term_bank.proofs.GrowLaws.{grown_scope}
-use Rattle.tableau_rules.specs.Means.Compared.{AreComparedBy}
-use Rattle.tableau_rules.specs.Means.Drafted.{principal_at, alternatives_at, IsPrincipal, Drafted}
-use Rattle.tableau_rules.specs.Means.Parts.{IsEquationOf}
+use Rattle.tableau_rules.specs.Internal.Compared.{AreComparedBy}
+use Rattle.tableau_rules.specs.Internal.Drafted.{principal_at, alternatives_at, IsPrincipal, Drafted}
+use Rattle.tableau_rules.specs.Internal.Parts.{IsEquationOf}
 use Rattle.tableau_rules.specs.declared.draft.Principal.{Principal}
 use Rattle.tableau_rules.specs.declared.draft.Signed.{Signed}
 use Rattle.tableau_rules.specs.declared.part.Equation.{Equation}

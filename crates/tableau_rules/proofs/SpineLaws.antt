@@ -15,17 +15,17 @@ use Rattle.stt_core.proofs.HeadLaws.{atom_head}
 use Rattle.stt_core.proofs.ListLaws.{take_got}
 use Rattle.stt_core.proofs.SpineLaws.{SameParts, parts}
 use Rattle.stt_core.proofs.TypeLaws.{constant_declared}
-use Rattle.stt_tableau.specs.Literals.{minus, opposite, as_literal}
-use Rattle.stt_tableau.specs.Rules.{IsDecomposed, differ_each}
-use Rattle.stt_tableau.specs.Means.Heads.{IsDecomposedHead}
-use Rattle.stt_tableau.proofs.DecompositionLaws.{Takes, arguments_taken}
+use Rattle.tableau_calculus.specs.Literals.{minus, opposite, as_literal}
+use Rattle.tableau_calculus.specs.Rules.{IsDecomposed, differ_each}
+use Rattle.tableau_calculus.specs.Internal.Heads.{IsDecomposedHead}
+use Rattle.tableau_calculus.proofs.DecompositionLaws.{Takes, arguments_taken}
 use Rattle.term_bank.specs.Content.{Content, content_scope, HasTerm, Grows}
 use Rattle.term_bank.specs.Terms.{term_at}
 use Rattle.term_bank.proofs.GrowLaws.{grows_on, has_at, has_within}
-use Rattle.tableau_rules.specs.Means.Compared.{AreNotCompared, HaveArguments, TakesBoth, DiffersAt, DifferEach, IsComparison}
-use Rattle.tableau_rules.specs.Means.Drafted.{signed_at, alternatives_at, AreWithin, IsDifference}
-use Rattle.tableau_rules.specs.Means.Parts.{IsSpineOf}
-use Rattle.tableau_rules.specs.Means.Typed.{AreSides}
+use Rattle.tableau_rules.specs.Internal.Compared.{AreNotCompared, HaveArguments, TakesBoth, DiffersAt, DifferEach, IsComparison}
+use Rattle.tableau_rules.specs.Internal.Drafted.{signed_at, alternatives_at, AreWithin, IsDifference}
+use Rattle.tableau_rules.specs.Internal.Parts.{IsSpineOf}
+use Rattle.tableau_rules.specs.Internal.Typed.{AreSides}
 use Rattle.tableau_rules.specs.declared.draft.Signed.{Signed}
 use Rattle.tableau_rules.specs.declared.part.Spine.{Spine}
 use Rattle.tableau_rules.proofs.ConLaws.{difference_grown, difference_of}

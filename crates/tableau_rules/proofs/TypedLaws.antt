@@ -5,23 +5,23 @@ use Rattle.stt_core.specs.SimpleType.{SimpleType, formula, arrow, predicate, is_
 use Rattle.stt_core.specs.Lambda.{Lambda, bound, lam, eq, every}
 use Rattle.stt_core.specs.Canonical.{IsCanonical}
 use Rattle.stt_core.specs.Lift.{lift}
-use Rattle.stt_normal.specs.Normal.{eta, apply}
-use Rattle.stt_normal.proofs.NormalValues.{canonical-eta}
-use Rattle.stt_tableau.specs.Rules.{at_new}
-use Rattle.stt_tableau.proofs.EquationLaws.{canonical-eq}
+use Rattle.normal_forms.specs.Normal.{eta, apply}
+use Rattle.normal_forms.proofs.NormalValues.{canonical-eta}
+use Rattle.tableau_calculus.specs.Rules.{at_new}
+use Rattle.tableau_calculus.proofs.EquationLaws.{canonical-eq}
 use Rattle.term_bank.specs.Content.{Content, content_scope}
 use Rattle.term_bank.specs.Terms.{term_at, IsTypedTerm}
 use Rattle.bank_normal.specs.Fits.{IsNeutralOf, AppliesIn}
 use Rattle.std.proofs.lemmas.Bool.{and_parts}
-use Rattle.stt_tableau.specs.Rules.{agreement}
+use Rattle.tableau_calculus.specs.Rules.{agreement}
 use Rattle.std.proofs.Common.{subst₂, zero, suc, get_or, arith}
 use Rattle.bank_normal.proofs.LiftLaws.{lift_by_none}
-use Rattle.stt_normal.proofs.CanonicalLaws.{canonical-lift}
-use Rattle.stt_tableau.proofs.FunctionLaws.{canonical-every, canonical-at_new}
+use Rattle.normal_forms.proofs.CanonicalLaws.{canonical-lift}
+use Rattle.tableau_calculus.proofs.FunctionLaws.{canonical-every, canonical-at_new}
 use Rattle.term_bank.specs.Content.{HasTerm, Grows}
 use Rattle.term_bank.proofs.GrowLaws.{grown_scope, grown_at, grown_within, grown_term, has_at, has_within}
 use Rattle.tableau_rules.proofs.ClosedLaws.{missing_none}
-use Rattle.tableau_rules.specs.Means.Typed.{AreSides, IsFunction, IsOpenFormula}
+use Rattle.tableau_rules.specs.Internal.Typed.{AreSides, IsFunction, IsOpenFormula}
 
 pub equation_typed : (b : Content) (a c : SimpleType) (s t : ℕ) → c ≡ a → AreSides b a s t → IsTypedTerm (content_scope b) (eq c (term_at b.terms s) (term_at b.terms t))
 equation_typed b a c s t e h =

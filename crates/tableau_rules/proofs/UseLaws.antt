@@ -5,11 +5,11 @@ use Rattle.std.specs.Option.{ForSome}
 use Rattle.std.proofs.lemmas.Option.{same_Some}
 use Rattle.sat_base.specs.declared.literal.SatLit.{SatLit}
 use Rattle.stt_core.specs.Lambda.{Lambda}
-use Rattle.stt_tableau.specs.Literals.{Literal}
-use Rattle.stt_tableau.specs.Witnesses.{Row}
-use Rattle.stt_tableau.specs.Rules.{IsInstance}
-use Rattle.stt_tableau.specs.declared.refutation.RuleUse.{RuleUse}
-use Rattle.stt_tableau.specs.declared.refutation.RuleUse.TheVariants as use_of_table
+use Rattle.tableau_calculus.specs.Literals.{Literal}
+use Rattle.tableau_calculus.specs.Witnesses.{Row}
+use Rattle.tableau_calculus.specs.Rules.{IsInstance}
+use Rattle.tableau_calculus.specs.declared.refutation.RuleUse.{RuleUse}
+use Rattle.tableau_calculus.specs.declared.refutation.RuleUse.TheVariants as use_of_table
 use Rattle.term_bank.specs.Content.{Content, content_scope, Grows}
 use Rattle.term_bank.specs.Terms.{term_at}
 use Rattle.term_bank.proofs.ListLaws.{get_or-front}
@@ -20,9 +20,9 @@ use Rattle.literal_map.specs.declared.instance.RuleKind.TheVariants as kind
 use Rattle.literal_map.proofs.StayLaws.{literals_same}
 use Rattle.tableau_rules.specs.Uses.{rule_of, use_of, is_cut, principals_of}
 use Rattle.tableau_rules.specs.Changes.{Widens, AreWitnessesAfter, AreWitnessesBy}
-use Rattle.tableau_rules.specs.Means.Drafted.{principal_at, alternatives_at, IsPrincipal, Drafted}
-use Rattle.tableau_rules.specs.Means.Declaring.{DraftedOver, IsWitnessed, WitnessedWhere, MayBeWitnessed}
-use Rattle.tableau_rules.specs.Means.Used.{DraftedBy, WitnessesWhere, IsOnlyFirst}
+use Rattle.tableau_rules.specs.Internal.Drafted.{principal_at, alternatives_at, IsPrincipal, Drafted}
+use Rattle.tableau_rules.specs.Internal.Declaring.{DraftedOver, IsWitnessed, WitnessedWhere, MayBeWitnessed}
+use Rattle.tableau_rules.specs.Internal.Used.{DraftedBy, WitnessesWhere, IsOnlyFirst}
 use Rattle.tableau_rules.specs.declared.draft.Principal.{Principal}
 use Rattle.tableau_rules.specs.declared.draft.Signed.{Signed}
 use Rattle.tableau_rules.proofs.GrownLaws.{principal_grown}

@@ -6,20 +6,20 @@ use Rattle.stt_core.specs.Lambda.{Lambda, bound, constant, lam, app, imp, eq, ev
 use Rattle.stt_core.specs.Typing.{Scope}
 use Rattle.stt_core.specs.Canonical.{IsCanonical}
 use Rattle.stt_core.specs.Lift.{lift}
-use Rattle.stt_normal.specs.Normal.{ways, eta, apply}
-use Rattle.stt_normal.proofs.CanonicalLaws.{canonical-lift}
-use Rattle.stt_normal.proofs.CommuteLaws.{lifts, replace_outside}
-use Rattle.stt_normal.proofs.EtaReplace.{lift-eta}
-use Rattle.stt_normal.proofs.NormalValues.{canonical-eta}
-use Rattle.stt_tableau.specs.Rules.{at_new, at_outer, at_inner, at_most_once}
-use Rattle.stt_tableau.proofs.EquationLaws.{canonical-eq}
-use Rattle.stt_tableau.proofs.FunctionLaws.{predicate_declared, canonical-every, canonical-at_new}
+use Rattle.normal_forms.specs.Normal.{ways, eta, apply}
+use Rattle.normal_forms.proofs.CanonicalLaws.{canonical-lift}
+use Rattle.normal_forms.proofs.CommuteLaws.{lifts, replace_outside}
+use Rattle.normal_forms.proofs.EtaReplace.{lift-eta}
+use Rattle.normal_forms.proofs.NormalValues.{canonical-eta}
+use Rattle.tableau_calculus.specs.Rules.{at_new, at_outer, at_inner, at_most_once}
+use Rattle.tableau_calculus.proofs.EquationLaws.{canonical-eq}
+use Rattle.tableau_calculus.proofs.FunctionLaws.{predicate_declared, canonical-every, canonical-at_new}
 use Rattle.term_bank.specs.Content.{Content, content_scope, HasTerm, Grows}
 use Rattle.term_bank.specs.Terms.{term_at, IsTypedTerm}
 use Rattle.term_bank.proofs.GrowLaws.{grown_scope, grown_at, grown_term, grows_on, has_at, has_within}
 use Rattle.bank_normal.specs.Fits.{AppliesIn, IsNeutralOf}
 use Rattle.bank_normal.proofs.LiftLaws.{lift_by_none}
-use Rattle.tableau_rules.specs.Means.Typed.{IsPredicate, IsOpenFormula}
+use Rattle.tableau_rules.specs.Internal.Typed.{IsPredicate, IsOpenFormula}
 use Rattle.tableau_rules.proofs.ClosedLaws.{missing_none}
 use Rattle.tableau_rules.proofs.TypedLaws.{declared_grown}
 

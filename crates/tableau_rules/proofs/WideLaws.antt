@@ -8,19 +8,19 @@ use Rattle.stt_core.specs.TypedName.{TypedName}
 use Rattle.stt_core.specs.Lambda.{Constant, name, Lambda, bound, constant}
 use Rattle.stt_core.specs.Typing.{Scope, constant_type}
 use Rattle.stt_core.specs.Canonical.{IsCanonical, IsNeutral}
-use Rattle.stt_tableau.specs.Literals.{Literal, is_negated}
-use Rattle.stt_tableau.specs.Witnesses.{Row, with_rows}
-use Rattle.stt_tableau.specs.Rules.{Rule, false_rule, close_rule, refl_rule, imp_pos_rule, imp_neg_rule, bool_pos_rule, bool_neg_rule, fun_pos_rule, fun_neg_rule, all_pos_rule, all_neg_rule, mat_rule, dec_rule, con_rule, cho_rule, des_rule, cut_rule, IsInstance}
-use Rattle.stt_tableau.specs.declared.refutation.RuleUse.{RuleUse}
+use Rattle.tableau_calculus.specs.Literals.{Literal, is_negated}
+use Rattle.tableau_calculus.specs.Witnesses.{Row, with_rows}
+use Rattle.tableau_calculus.specs.Rules.{Rule, false_rule, close_rule, refl_rule, imp_pos_rule, imp_neg_rule, bool_pos_rule, bool_neg_rule, fun_pos_rule, fun_neg_rule, all_pos_rule, all_neg_rule, mat_rule, dec_rule, con_rule, cho_rule, des_rule, cut_rule, IsInstance}
+use Rattle.tableau_calculus.specs.declared.refutation.RuleUse.{RuleUse}
 use Rattle.term_bank.specs.Content.{Content, content_scope, HasTerm, Grows}
 use Rattle.term_bank.specs.Terms.{term_at}
 use Rattle.term_bank.proofs.ListLaws.{get_or-front}
 use Rattle.stt_core.specs.Lift.{lift_by}
-use Rattle.stt_normal.specs.Normal.{replace, apply, eta}
+use Rattle.normal_forms.specs.Normal.{replace, apply, eta}
 use Rattle.bank_normal.specs.Right.{IsRight, term_ways}
 use Rattle.bank_normal.specs.declared.normaliser.Normaliser.{Normaliser}
 use Rattle.literal_map.specs.Atoms.{IsAtom}
-use Rattle.search_run.proofs.WiderLaws.{canonical_wider, neutral_wider}
+use Rattle.search_spec.proofs.WiderLaws.{canonical_wider, neutral_wider}
 use Rattle.tableau_rules.specs.Changes.{Widens}
 
 pub widens_itself : (b : Content) → Widens b b

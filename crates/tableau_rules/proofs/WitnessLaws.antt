@@ -7,23 +7,23 @@ use Rattle.stt_core.specs.Typing.{Scope}
 use Rattle.stt_core.specs.Canonical.{IsCanonical}
 use Rattle.stt_core.specs.View.{the_type}
 use Rattle.stt_core.proofs.ListLaws.{mapped_get}
-use Rattle.stt_normal.specs.Normal.{eta, apply}
-use Rattle.stt_normal.proofs.NormalValues.{canonical-eta}
-use Rattle.stt_tableau.specs.Literals.{Literal, minus, opposite, as_literal}
-use Rattle.stt_tableau.specs.Witnesses.{Row, with_rows, IsTypedRow}
-use Rattle.stt_tableau.specs.declared.refutation.RuleUse.TheVariants.{AllNeg}
-use Rattle.stt_tableau.proofs.FunctionLaws.{every_canonical}
-use Rattle.stt_tableau.proofs.InstanceLaws.{all_neg_is}
+use Rattle.normal_forms.specs.Normal.{eta, apply}
+use Rattle.normal_forms.proofs.NormalValues.{canonical-eta}
+use Rattle.tableau_calculus.specs.Literals.{Literal, minus, opposite, as_literal}
+use Rattle.tableau_calculus.specs.Witnesses.{Row, with_rows, IsTypedRow}
+use Rattle.tableau_calculus.specs.declared.refutation.RuleUse.TheVariants.{AllNeg}
+use Rattle.tableau_calculus.proofs.FunctionLaws.{every_canonical}
+use Rattle.tableau_calculus.proofs.InstanceLaws.{all_neg_is}
 use Rattle.term_bank.specs.Content.{Content, content_scope, HasTerm, Grows}
 use Rattle.term_bank.specs.Terms.{term_at}
 use Rattle.term_bank.proofs.GrowLaws.{grown_scope, grown_at, grown_within, has_at, has_within}
 use Rattle.bank_normal.specs.Fits.{AppliesIn, IsNeutralOf}
 use Rattle.witness_names.specs.Rows.{binder_of, row_of, rows_of, AreRows, with_predicate}
 use Rattle.tableau_rules.specs.Changes.{Widens}
-use Rattle.tableau_rules.specs.Means.Declaring.{AreDeclaredIn, IsWitnessed, MayBeWitnessed, DraftedOver}
-use Rattle.tableau_rules.specs.Means.Drafted.{principal_at, alternatives_at, IsPrincipal}
-use Rattle.tableau_rules.specs.Means.Parts.{IsQuantifiedOf}
-use Rattle.tableau_rules.specs.Means.Typed.{IsPredicate}
+use Rattle.tableau_rules.specs.Internal.Declaring.{AreDeclaredIn, IsWitnessed, MayBeWitnessed, DraftedOver}
+use Rattle.tableau_rules.specs.Internal.Drafted.{principal_at, alternatives_at, IsPrincipal}
+use Rattle.tableau_rules.specs.Internal.Parts.{IsQuantifiedOf}
+use Rattle.tableau_rules.specs.Internal.Typed.{IsPredicate}
 use Rattle.tableau_rules.specs.declared.draft.Principal.{Principal}
 use Rattle.tableau_rules.specs.declared.draft.Signed.{Signed}
 use Rattle.tableau_rules.specs.declared.part.Quantified.{Quantified}

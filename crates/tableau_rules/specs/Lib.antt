@@ -1,3 +1,3 @@
 pub mod Uses
 pub mod Changes
-pub mod Means
+pub mod Internal

@@ -2,11 +2,11 @@
 use Rattle.std.specs.Prelude.{◌≡◌, ℕ, Bool, true, false, List, [], ◌++◌, map, Option, Some, None, option_map, option_to_list, if◌then◌else◌}
 use Rattle.sat_base.specs.declared.literal.SatLit.{SatLit}
 use Rattle.stt_core.specs.Lambda.{Lambda}
-use Rattle.stt_tableau.specs.Literals.{Literal}
-use Rattle.stt_tableau.specs.Witnesses.{Row}
-use Rattle.stt_tableau.specs.Rules.{IsInstance}
-use Rattle.stt_tableau.specs.declared.refutation.RuleUse.{RuleUse}
-use Rattle.stt_tableau.specs.declared.refutation.RuleUse.TheVariants.{False, Close, Refl, ImpPos, ImpNeg, BoolPos, BoolNeg, FunPos, FunNeg, AllPos, AllNeg, Mat, Dec, Con, Cho, Des, Cut}
+use Rattle.tableau_calculus.specs.Literals.{Literal}
+use Rattle.tableau_calculus.specs.Witnesses.{Row}
+use Rattle.tableau_calculus.specs.Rules.{IsInstance}
+use Rattle.tableau_calculus.specs.declared.refutation.RuleUse.{RuleUse}
+use Rattle.tableau_calculus.specs.declared.refutation.RuleUse.TheVariants.{False, Close, Refl, ImpPos, ImpNeg, BoolPos, BoolNeg, FunPos, FunNeg, AllPos, AllNeg, Mat, Dec, Con, Cho, Des, Cut}
 use Rattle.term_bank.specs.Content.{Content, content_scope}
 use Rattle.term_bank.specs.Terms.{term_at}
 use Rattle.literal_map.specs.Atoms.{literal_at}

@@ -3,15 +3,15 @@ ghost use Rattle.std.specs.Prelude.{◌≡◌, ◌<◌, [], List, length, IfOk, 
 ghost use Rattle.stt_core.specs.SimpleType.{is_declared};
 ghost use Rattle.stt_core.specs.Lambda.{app, bound, imp, eq};
 ghost use Rattle.stt_core.specs.View.{the_type, the_head};
-ghost use Rattle.stt_normal.specs.Normal.{eta, apply};
-ghost use Rattle.stt_tableau.specs.Rules.{at_outer, at_inner, at_most_once};
-ghost use Rattle.stt_tableau.specs.Witnesses.{Row};
-ghost use Rattle.stt_tableau.specs.declared.refutation.RuleUse.TheVariants.{Cho, Des};
+ghost use Rattle.normal_forms.specs.Normal.{eta, apply};
+ghost use Rattle.tableau_calculus.specs.Rules.{at_outer, at_inner, at_most_once};
+ghost use Rattle.tableau_calculus.specs.Witnesses.{Row};
+ghost use Rattle.tableau_calculus.specs.declared.refutation.RuleUse.TheVariants.{Cho, Des};
 ghost use Rattle.term_bank.specs.Content.{content_scope, Grows, HasTerm};
 ghost use Rattle.term_bank.specs.Terms.{term_at};
 ghost use Rattle.bank_normal.specs.Right.{IsRight};
-ghost use Rattle.tableau_rules.specs.Means.Drafted.{Drafted};
-ghost use Rattle.tableau_rules.specs.Means.Typed.{IsPredicate, IsPredicateType, IsOperator};
+ghost use Rattle.tableau_rules.specs.Internal.Drafted.{Drafted};
+ghost use Rattle.tableau_rules.specs.Internal.Typed.{IsPredicate, IsPredicateType, IsOperator};
 
 use crate::draft::{Drafts, any_of_three, either, fails, holds};
 use crate::function::{at_new_variable, everywhere, nowhere_of};

@@ -1,15 +1,15 @@
 //! The rules by what they take.
 ghost use Rattle.std.specs.Prelude.{◌≡◌, ◌<◌, ◌-◌, ◌^◌, ℕ, List, length, Some, None, All, IfOk, OnOk, OnErr, ◌⊎◌};
 ghost use Rattle.std.specs.Option.{ForSome};
-ghost use Rattle.stt_tableau.specs.Witnesses.{Row};
+ghost use Rattle.tableau_calculus.specs.Witnesses.{Row};
 ghost use Rattle.term_bank.specs.Content.{Grows};
 ghost use Rattle.bank_normal.specs.Right.{IsRight};
 ghost use Rattle.literal_map.specs.Atoms.{IsAtom};
 ghost use Rattle.literal_map.specs.declared.instance.RuleKind.TheVariants.{AllNeg};
 ghost use Rattle.witness_names.specs.Rows.{rows_of, AreRows};
 ghost use Rattle.tableau_rules.specs.Changes.{Widens, AreWitnessesBy};
-ghost use Rattle.tableau_rules.specs.Means.Declaring.{AreDeclaredIn};
-ghost use Rattle.tableau_rules.specs.Means.Used.{DraftedBy, WitnessesWhere, MakesNoWitness, IsOnlyFirst};
+ghost use Rattle.tableau_rules.specs.Internal.Declaring.{AreDeclaredIn};
+ghost use Rattle.tableau_rules.specs.Internal.Used.{DraftedBy, WitnessesWhere, MakesNoWitness, IsOnlyFirst};
 
 use crate::choice::{cho_drafts, des_drafts};
 use crate::draft::Drafts;

@@ -2,15 +2,15 @@
 ghost use Rattle.std.specs.Prelude.{◌≡◌, ◌<◌, [], ◌∷◌, List, length, IfOk};
 ghost use Rattle.stt_core.specs.View.{the_type};
 ghost use Rattle.stt_core.specs.Lambda.{every, lam};
-ghost use Rattle.stt_tableau.specs.Rules.{at_new, agreement, nowhere};
-ghost use Rattle.stt_tableau.specs.Witnesses.{Row};
-ghost use Rattle.stt_tableau.specs.declared.refutation.RuleUse.TheVariants.{FunPos, FunNeg};
+ghost use Rattle.tableau_calculus.specs.Rules.{at_new, agreement, nowhere};
+ghost use Rattle.tableau_calculus.specs.Witnesses.{Row};
+ghost use Rattle.tableau_calculus.specs.declared.refutation.RuleUse.TheVariants.{FunPos, FunNeg};
 ghost use Rattle.term_bank.specs.Content.{Grows, HasTerm};
 ghost use Rattle.term_bank.specs.Terms.{term_at};
 ghost use Rattle.bank_normal.specs.Right.{IsRight};
-ghost use Rattle.tableau_rules.specs.Means.Drafted.{IsPrincipal, Drafted};
-ghost use Rattle.tableau_rules.specs.Means.Typed.{AreSides, IsFunction, IsOpenFormula, IsPredicate};
-ghost use Rattle.tableau_rules.specs.Means.Functions.{AreFunctionsOf};
+ghost use Rattle.tableau_rules.specs.Internal.Drafted.{IsPrincipal, Drafted};
+ghost use Rattle.tableau_rules.specs.Internal.Typed.{AreSides, IsFunction, IsOpenFormula, IsPredicate};
+ghost use Rattle.tableau_rules.specs.Internal.Functions.{AreFunctionsOf};
 ghost use Rattle.stt_core.specs.SimpleType.{arrow};
 
 use crate::draft::{Drafts, Principal, fails, holds, one};

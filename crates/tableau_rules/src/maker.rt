@@ -1,17 +1,17 @@
 //! Instances of rules.
 ghost use Rattle.std.specs.Prelude.{◌≡◌, ◌<◌, ◌-◌, ◌^◌, ◌++◌, List, length, map, All, Err, IfOk, IfErr, OnOk, OnErr, option_to_list};
 ghost use Rattle.std.specs.Option.{ForSome};
-ghost use Rattle.stt_tableau.specs.Literals.{Literal};
-ghost use Rattle.stt_tableau.specs.Witnesses.{Row};
+ghost use Rattle.tableau_calculus.specs.Literals.{Literal};
+ghost use Rattle.tableau_calculus.specs.Witnesses.{Row};
 ghost use Rattle.bank_normal.specs.Right.{IsRight};
 ghost use Rattle.literal_map.specs.Atoms.{literal_at, IsAtom, Begins};
 ghost use Rattle.witness_names.specs.Rows.{rows_of, AreRows};
-ghost use Rattle.search_run.specs.Each.{Each};
+ghost use Rattle.search_spec.specs.Each.{Each};
 ghost use Rattle.tableau_rules.specs.Uses.{principals_of, IsInstanceBy};
 ghost use Rattle.tableau_rules.specs.Changes.{Widens, AreWitnessesBy, LeavesWitnesses};
-ghost use Rattle.tableau_rules.specs.Means.Drafted.{alternatives_at};
-ghost use Rattle.tableau_rules.specs.Means.Made.{AreDraftsOf};
-ghost use Rattle.tableau_rules.specs.Means.Numbered.{AllFormulas, AllNumbered};
+ghost use Rattle.tableau_rules.specs.Internal.Drafted.{alternatives_at};
+ghost use Rattle.tableau_rules.specs.Internal.Made.{AreDraftsOf};
+ghost use Rattle.tableau_rules.specs.Internal.Numbered.{AllFormulas, AllNumbered};
 ghost use Rattle.tableau_rules.specs.declared.refusal.RuleRefused.TheVariants.{NotThisRule};
 
 use crate::dispatch::drafts_of;

@@ -2,8 +2,8 @@
 ghost use Rattle.std.specs.Prelude.{◌≡◌, ◌<◌, length, map, IfOk, OnErr, All};
 ghost use Rattle.term_bank.specs.Terms.{term_at};
 ghost use Rattle.literal_map.specs.Atoms.{literal_at, IsAtom, Begins};
-ghost use Rattle.tableau_rules.specs.Means.Drafted.{principal_at, signed_at, alternatives_at, IsPrincipal};
-ghost use Rattle.tableau_rules.specs.Means.Numbered.{IsSignedFormula, AreFormulas, AllFormulas, IsNumbered, AreNumbered, AllNumbered};
+ghost use Rattle.tableau_rules.specs.Internal.Drafted.{principal_at, signed_at, alternatives_at, IsPrincipal};
+ghost use Rattle.tableau_rules.specs.Internal.Numbered.{IsSignedFormula, AreFormulas, AllFormulas, IsNumbered, AreNumbered, AllNumbered};
 
 use crate::draft::{Draft, Drafts, Principal, Signed};
 use literal_map::{LitList, LitLists, LitTable};

@@ -2,9 +2,9 @@
 ghost use Rattle.std.specs.Prelude.{◌≡◌, ◌<◌, ◌↔◌, length, IsTrue, Some, option_map};
 ghost use Rattle.stt_core.specs.Lambda.{constant, falsity, implication};
 ghost use Rattle.stt_core.specs.View.{the_head, the_type};
-ghost use Rattle.stt_tableau.specs.Means.Heads.{equality_of, quantified_by};
+ghost use Rattle.tableau_calculus.specs.Internal.Heads.{equality_of, quantified_by};
 ghost use Rattle.term_bank.specs.Terms.{term_at};
-ghost use Rattle.tableau_rules.specs.Means.Parts.{IsSpineOf, IsImplicationOf, IsEquationOf, IsQuantifiedOf};
+ghost use Rattle.tableau_rules.specs.Internal.Parts.{IsSpineOf, IsImplicationOf, IsEquationOf, IsQuantifiedOf};
 
 use stt_core::{Head, Ty};
 use term_bank::{Bank, Id, Ids, Node};

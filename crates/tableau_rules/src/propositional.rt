@@ -1,8 +1,8 @@
 //! Falsity, a literal and its negation, implications and the cut.
 ghost use Rattle.std.specs.Prelude.{[], ◌∷◌, List, Some, IfOk};
-ghost use Rattle.stt_tableau.specs.Witnesses.{Row};
-ghost use Rattle.stt_tableau.specs.declared.refutation.RuleUse.TheVariants.{False, Close, ImpPos, ImpNeg, Cut};
-ghost use Rattle.tableau_rules.specs.Means.Drafted.{principal_at, IsPrincipal, Drafted};
+ghost use Rattle.tableau_calculus.specs.Witnesses.{Row};
+ghost use Rattle.tableau_calculus.specs.declared.refutation.RuleUse.TheVariants.{False, Close, ImpPos, ImpNeg, Cut};
+ghost use Rattle.tableau_rules.specs.Internal.Drafted.{principal_at, IsPrincipal, Drafted};
 
 use crate::draft::{Drafts, Principal, Signed, both, either, fails, holds};
 use crate::part::{Sides, implication_of, is_falsity};

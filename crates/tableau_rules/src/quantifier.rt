@@ -2,12 +2,12 @@
 ghost use Rattle.std.specs.Prelude.{◌≡◌, ◌<◌, ◌↔◌, [], ◌∷◌, List, length, IfOk, IsTrue};
 ghost use Rattle.stt_core.specs.Canonical.{IsCanonical};
 ghost use Rattle.stt_core.specs.View.{the_type};
-ghost use Rattle.stt_tableau.specs.Witnesses.{Row};
-ghost use Rattle.stt_tableau.specs.declared.refutation.RuleUse.TheVariants.{AllPos};
+ghost use Rattle.tableau_calculus.specs.Witnesses.{Row};
+ghost use Rattle.tableau_calculus.specs.declared.refutation.RuleUse.TheVariants.{AllPos};
 ghost use Rattle.term_bank.specs.Content.{content_scope, Grows};
 ghost use Rattle.term_bank.specs.Terms.{term_at};
 ghost use Rattle.bank_normal.specs.Right.{IsRight};
-ghost use Rattle.tableau_rules.specs.Means.Drafted.{IsPrincipal, Drafted};
+ghost use Rattle.tableau_rules.specs.Internal.Drafted.{IsPrincipal, Drafted};
 
 use crate::draft::{Drafts, Principal, holds, one};
 use crate::part::quantified_of;

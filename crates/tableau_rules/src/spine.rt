@@ -1,15 +1,15 @@
 //! The rules that compare the arguments of one head.
 ghost use Rattle.std.specs.Prelude.{◌<◌, ◌↔◌, ◌∷◌, [], List, length, IfOk, IsTrue};
 ghost use Rattle.stt_core.specs.View.{the_head};
-ghost use Rattle.stt_tableau.specs.Means.Heads.{IsDecomposedHead};
-ghost use Rattle.stt_tableau.specs.Witnesses.{Row};
-ghost use Rattle.stt_tableau.specs.declared.refutation.RuleUse.TheVariants.{Mat, Dec};
+ghost use Rattle.tableau_calculus.specs.Internal.Heads.{IsDecomposedHead};
+ghost use Rattle.tableau_calculus.specs.Witnesses.{Row};
+ghost use Rattle.tableau_calculus.specs.declared.refutation.RuleUse.TheVariants.{Mat, Dec};
 ghost use Rattle.term_bank.specs.Content.{Grows};
 ghost use Rattle.term_bank.specs.Terms.{term_at};
 ghost use Rattle.stt_core.specs.SimpleType.{SimpleType};
-ghost use Rattle.tableau_rules.specs.Means.Drafted.{IsPrincipal, Drafted};
-ghost use Rattle.tableau_rules.specs.Means.Typed.{AreSides};
-ghost use Rattle.tableau_rules.specs.Means.Compared.{AreArgumentsOf, AreBaseSides, TakesBoth, DiffersAt, DifferEach, AreComparedBy};
+ghost use Rattle.tableau_rules.specs.Internal.Drafted.{IsPrincipal, Drafted};
+ghost use Rattle.tableau_rules.specs.Internal.Typed.{AreSides};
+ghost use Rattle.tableau_rules.specs.Internal.Compared.{AreArgumentsOf, AreBaseSides, TakesBoth, DiffersAt, DifferEach, AreComparedBy};
 
 use crate::draft::{Drafts, Principal, Signed, alone, fails};
 use crate::equation::is_plain_base;

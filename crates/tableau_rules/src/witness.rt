@@ -1,13 +1,13 @@
 //! Witnesses and their types, and the rule for what doesn't hold everywhere.
 ghost use Rattle.std.specs.Prelude.{◌≡◌, ◌<◌, ◌-◌, ◌+◌, ◌^◌, [], ◌∷◌, length, Some, slice_get, IfOk, OnOk, OnErr, ◌⊎◌};
 ghost use Rattle.stt_core.specs.View.{the_type};
-ghost use Rattle.stt_tableau.specs.declared.refutation.RuleUse.TheVariants.{AllNeg};
+ghost use Rattle.tableau_calculus.specs.declared.refutation.RuleUse.TheVariants.{AllNeg};
 ghost use Rattle.bank_normal.specs.Right.{IsRight};
 ghost use Rattle.witness_names.specs.Rows.{rows_of, AreRows, with_predicate};
 ghost use Rattle.tableau_rules.specs.Changes.{Widens};
-ghost use Rattle.tableau_rules.specs.Means.Declaring.{Declares, AreDeclaredIn, DraftedOver, WitnessedWhere, MayBeWitnessed};
-ghost use Rattle.tableau_rules.specs.Means.Drafted.{IsPrincipal};
-ghost use Rattle.tableau_rules.specs.Means.Typed.{IsPredicate};
+ghost use Rattle.tableau_rules.specs.Internal.Declaring.{Declares, AreDeclaredIn, DraftedOver, WitnessedWhere, MayBeWitnessed};
+ghost use Rattle.tableau_rules.specs.Internal.Drafted.{IsPrincipal};
+ghost use Rattle.tableau_rules.specs.Internal.Typed.{IsPredicate};
 
 use crate::draft::{Drafts, Principal, fails, one};
 use crate::part::quantified_of;

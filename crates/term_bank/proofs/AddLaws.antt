@@ -8,12 +8,12 @@ use Rattle.indexmap.proofs.CallerLemmas.{insert_entry-new}
 use Rattle.stt_core.specs.Typing.{Scope}
 use Rattle.stt_core.specs.Lambda.{Lambda, bound}
 use Rattle.term_bank.specs.Shape.{Shape, same_shape}
-use Rattle.term_bank.specs.Means.ShapeLaws.{shape_decides}
-use Rattle.term_bank.specs.Means.Sound.{terms_after}
+use Rattle.term_bank.specs.Internal.ShapeLaws.{shape_decides}
+use Rattle.term_bank.specs.Internal.Sound.{terms_after}
 use Rattle.term_bank.specs.Terms.{term_at, shape_term, IsBelow}
 use Rattle.term_bank.specs.NodeView.{the_shape}
-use Rattle.term_bank.specs.Means.MarksView.{IsMarked}
-use Rattle.term_bank.specs.Means.Sound.{Entry, terms_of, AreSound}
+use Rattle.term_bank.specs.Internal.MarksView.{IsMarked}
+use Rattle.term_bank.specs.Internal.Sound.{Entry, terms_of, AreSound}
 use Rattle.term_bank.specs.declared.node.Node.{Node}
 use Rattle.term_bank.specs.declared.marks.Marks.{Marks}
 use Rattle.stt_core.proofs.ListLaws.{slice_get-end, map-append}

@@ -6,7 +6,7 @@ use Rattle.stt_core.specs.SimpleType.{SimpleType, base, arrow}
 use Rattle.stt_core.specs.Lambda.{Lambda, bound, constant, lam, app}
 use Rattle.stt_core.specs.Typing.{Scope}
 use Rattle.stt_core.specs.Canonical.{IsFrom, IsCanonical, IsNeutral}
-use Rattle.stt_core.specs.Means.Missing.{missing_binders}
+use Rattle.stt_core.specs.Internal.Missing.{missing_binders}
 use Rattle.stt_core.specs.Occurrence.{IsFree, IsClosed}
 use Rattle.stt_core.proofs.OccurrenceLaws.{closed_tells}
 

@@ -9,10 +9,10 @@ use Rattle.stt_core.specs.Lambda.{Lambda, lam, applied}
 use Rattle.stt_core.proofs.SpineLaws.{IsAtom, parts, binders-spine, binders_of}
 use Rattle.stt_core.proofs.HeadLaws.{atom_head}
 use Rattle.term_bank.specs.Shape.{Shape, abstraction, spine}
-use Rattle.term_bank.specs.Means.ShapeLaws.{shape_decides}
+use Rattle.term_bank.specs.Internal.ShapeLaws.{shape_decides}
 use Rattle.term_bank.specs.Terms.{term_at, shape_term, IsBelow}
 use Rattle.term_bank.specs.NodeView.{the_shape}
-use Rattle.term_bank.specs.Means.Sound.{Entry, terms_of, AreSound}
+use Rattle.term_bank.specs.Internal.Sound.{Entry, terms_of, AreSound}
 use Rattle.term_bank.specs.declared.node.Node.{Node}
 use Rattle.term_bank.specs.declared.node.Node.TheVariants.{Lam, App}
 use Rattle.term_bank.proofs.SoundLaws.{entry_shape, node_is}

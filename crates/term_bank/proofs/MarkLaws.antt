@@ -1,14 +1,14 @@
 -- The marks of a head with its arguments.
 use Rattle.std.proofs.Common.{◌≡◌, ℕ, suc, ◌+◌, ◌≤◌, max, List, [], ◌∷◌, map, take, take_all, length, slice_get, Some, refl, sym, ap, ap₂, subst, ◌∙◌}
 use Rattle.stt_core.specs.Lambda.{Lambda, bound, constant, lam, app, applied}
-use Rattle.stt_core.specs.Means.Missing.{missing_binders}
+use Rattle.stt_core.specs.Internal.Missing.{missing_binders}
 use Rattle.stt_core.proofs.SpineLaws.{IsAtom}
 use Rattle.stt_core.proofs.ListLaws.{take_got, map-append}
 use Rattle.stt_core.proofs.CanonicalTypes.{applied-more}
 use Rattle.stt_core.specs.Depth.{depth}
-use Rattle.term_bank.specs.Means.Marks.{greater, greatest_witness}
+use Rattle.term_bank.specs.Internal.Marks.{greater, greatest_witness}
 use Rattle.term_bank.specs.Terms.{term_at}
-use Rattle.term_bank.specs.Means.MarksView.{AreMarksOf}
+use Rattle.term_bank.specs.Internal.MarksView.{AreMarksOf}
 use Rattle.term_bank.specs.declared.marks.Marks.{Marks}
 
 pub depth_atom : (h : Lambda) → IsAtom h → 0 ≡ depth h

@@ -5,8 +5,8 @@ use Rattle.stt_core.specs.Lambda.{Constant, name, witness, falsity, negation, im
 use Rattle.stt_core.specs.Typing.{Scope, IsScope, AreDeclared, constant_type}
 use Rattle.stt_core.specs.Canonical.{IsFrom, IsCanonical, IsNeutral}
 use Rattle.term_bank.specs.Terms.{term_at}
-use Rattle.term_bank.specs.Means.MarksView.{IsMarked}
-use Rattle.term_bank.specs.Means.Sound.{Entry, terms_of, AreSound}
+use Rattle.term_bank.specs.Internal.MarksView.{IsMarked}
+use Rattle.term_bank.specs.Internal.Sound.{Entry, terms_of, AreSound}
 use Rattle.term_bank.specs.declared.marks.Marks.{Marks}
 use Rattle.stt_core.proofs.ListLaws.{slice_get-append}
 

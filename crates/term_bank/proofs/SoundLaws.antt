@@ -7,8 +7,8 @@ use Rattle.stt_core.specs.Lambda.{Lambda, bound}
 use Rattle.term_bank.specs.Shape.{Shape}
 use Rattle.term_bank.specs.Terms.{term_at, shape_term, IsBelow}
 use Rattle.term_bank.specs.NodeView.{the_shape}
-use Rattle.term_bank.specs.Means.MarksView.{IsMarked}
-use Rattle.term_bank.specs.Means.Sound.{Entry, terms_of, AreSound}
+use Rattle.term_bank.specs.Internal.MarksView.{IsMarked}
+use Rattle.term_bank.specs.Internal.Sound.{Entry, terms_of, AreSound}
 use Rattle.term_bank.proofs.TermLaws.{terms_after-length, term_of_node, AreBelow}
 
 -- the node of an entry

@@ -3,7 +3,7 @@ use Rattle.std.proofs.Common.{◌≡◌, ℕ, zero, suc, ◌+◌, ◌<◌, List,
 use Rattle.std.proofs.lemmas.Option.{same_Some}
 use Rattle.stt_core.specs.Lambda.{Lambda, bound, lam, applied}
 use Rattle.term_bank.specs.Shape.{Shape, abstraction, spine}
-use Rattle.term_bank.specs.Means.Sound.{terms_after}
+use Rattle.term_bank.specs.Internal.Sound.{terms_after}
 use Rattle.term_bank.specs.Terms.{term_at, shape_term, IsBelow}
 use Rattle.stt_core.proofs.ListLaws.{slice_get-append, slice_get-end}
 use Rattle.term_bank.proofs.ListLaws.{get_or-front, map-same}

@@ -3,14 +3,14 @@ use Rattle.std.proofs.Common.{◌≡◌, ℕ, zero, suc, List, [], ◌∷◌, sl
 use Rattle.std.specs.Prelude.{IsSome}
 use Rattle.std.proofs.lemmas.Option.{same_Some}
 use Rattle.stt_core.specs.SimpleType.{SimpleType, base, arrow, is_declared}
-use Rattle.term_bank.specs.Means.Target.{target}
+use Rattle.term_bank.specs.Internal.Target.{target}
 use Rattle.stt_core.specs.Lambda.{Lambda, bound, constant, lam, app, applied}
 use Rattle.stt_core.specs.Typing.{Scope, type_of}
 use Rattle.stt_core.specs.Canonical.{IsBase, IsCanonical, IsNeutral}
-use Rattle.stt_core.specs.Means.Missing.{missing_binders}
+use Rattle.stt_core.specs.Internal.Missing.{missing_binders}
 use Rattle.stt_core.proofs.TypeLaws.{type_of-neutral}
 use Rattle.stt_core.proofs.SpineLaws.{IsAtom}
-use Rattle.term_bank.specs.Means.MarksView.{HasTypeIn}
+use Rattle.term_bank.specs.Internal.MarksView.{HasTypeIn}
 use Rattle.term_bank.specs.Terms.{IsTypedTerm}
 use Rattle.term_bank.proofs.ClosedLaws.{canonical-front}
 

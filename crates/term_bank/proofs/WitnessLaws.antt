@@ -5,7 +5,7 @@ use Rattle.std.proofs.lemmas.Bool.{leb-true, leb-false}
 use Rattle.std.proofs.lemmas.Option.{same_Some}
 use Rattle.stt_core.specs.Lambda.{Constant, name, witness, falsity, negation, implication, all, equality, choice, description, Lambda, bound, constant, lam, app}
 use Rattle.stt_core.specs.Occurrence.{Occurs}
-use Rattle.term_bank.specs.Means.Marks.{greater, witness_of, greatest_witness}
+use Rattle.term_bank.specs.Internal.Marks.{greater, witness_of, greatest_witness}
 
 -- a number that is there, and another one that is no greater
 pub record UpTo (o : Option ℕ) (w : ℕ) : Type 0 where

@@ -2,10 +2,10 @@
 use Rattle.std.specs.Prelude.{◌≡◌, ℕ, List, ◌++◌, map, length, slice_get, Some, refl}
 use Rattle.std.specs.Coded.{Coded, code_by, coded×, coded_ℕ, coded_list}
 use Rattle.stt_core.specs.SimpleType.{SimpleType}
-use Rattle.stt_core.specs.Means.TypeCode.{type_code}
+use Rattle.stt_core.specs.Internal.TypeCode.{type_code}
 use Rattle.stt_core.specs.TypedName.{TypedName, typed_name_code}
 use Rattle.stt_core.specs.Lambda.{Lambda}
-use Rattle.stt_core.specs.Means.LambdaCode.{lambda_code}
+use Rattle.stt_core.specs.Internal.LambdaCode.{lambda_code}
 use Rattle.stt_core.specs.Typing.{Scope}
 
 -- The names of the base types and the constants that are declared, the types of the witnesses, and the terms. A term is known by its

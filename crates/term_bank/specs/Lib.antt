@@ -3,4 +3,4 @@ pub mod NodeView
 pub mod Terms
 pub mod Content
 pub mod Laws
-pub mod Means
+pub mod Internal

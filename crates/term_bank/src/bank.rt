@@ -27,7 +27,7 @@ impl Model for Bank {
 
     ghost coded = { content_code };
 
-    ghost use Rattle.term_bank.specs.Means.Inside.{the_content, IsSoundBank};
+    ghost use Rattle.term_bank.specs.Internal.Inside.{the_content, IsSoundBank};
 
     ghost view = { the_content };
 
@@ -42,7 +42,7 @@ impl Bank {
     ghost use Rattle.term_bank.specs.Content.{Content, content_scope};
     ghost use Rattle.term_bank.specs.Terms.{term_at, shape_term, IsBelow, IsTypedTerm};
     ghost use Rattle.term_bank.specs.NodeView.{the_shape};
-    ghost use Rattle.term_bank.specs.Means.MarksView.{IsMarked};
+    ghost use Rattle.term_bank.specs.Internal.MarksView.{IsMarked};
 
     /// A bank without terms and without witnesses.
     pub fn new(alloc: Global, sig: Signature) -> Bank

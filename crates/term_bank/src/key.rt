@@ -4,9 +4,9 @@ ghost use Rattle.std.specs.Prelude.{◌≡◌, fold};
 ghost use Rattle.std.specs.Cmp.Lexicographic.{pointwise};
 ghost use Rattle.stt_core.specs.View.{the_type, the_head};
 ghost use Rattle.term_bank.specs.Shape.{spine, same_shape};
-ghost use Rattle.term_bank.specs.Means.ShapeHash.{stirred, mixed, type_number, head_writes, shape_writes};
+ghost use Rattle.term_bank.specs.Internal.ShapeHash.{stirred, mixed, type_number, head_writes, shape_writes};
 ghost use Rattle.term_bank.specs.NodeView.{the_shape};
-ghost use Rattle.term_bank.specs.Means.ShapeLaws.{node_partial_laws, node_laws, node_respects};
+ghost use Rattle.term_bank.specs.Internal.ShapeLaws.{node_partial_laws, node_laws, node_respects};
 
 use crate::node::{Ids, Node};
 use std::hash::{Hash, Hasher};

@@ -2,12 +2,12 @@
 
 ghost use Rattle.std.specs.Prelude.{◌≡◌, ◌<◌, suc, length, map, IfOk, All};
 ghost use Rattle.stt_core.specs.Lambda.{lam, applied};
-ghost use Rattle.stt_core.specs.Means.Missing.{missing_binders};
+ghost use Rattle.stt_core.specs.Internal.Missing.{missing_binders};
 ghost use Rattle.stt_core.specs.Depth.{depth};
 ghost use Rattle.stt_core.specs.SimpleType.{SimpleType};
 ghost use Rattle.stt_core.specs.View.{the_head};
-ghost use Rattle.term_bank.specs.Means.Marks.{greatest_witness};
-ghost use Rattle.term_bank.specs.Means.MarksView.{AreMarksOf};
+ghost use Rattle.term_bank.specs.Internal.Marks.{greatest_witness};
+ghost use Rattle.term_bank.specs.Internal.MarksView.{AreMarksOf};
 ghost use Rattle.term_bank.specs.Terms.{term_at};
 
 use crate::bank::Bank;

@@ -1,9 +1,9 @@
 //! What is kept of a term beside its node, so that it needn't be looked for again.
 
 ghost use Rattle.std.specs.Prelude.{◌≡◌, suc, IfOk};
-ghost use Rattle.stt_core.specs.Means.Missing.{missing_binders};
+ghost use Rattle.stt_core.specs.Internal.Missing.{missing_binders};
 ghost use Rattle.stt_core.specs.View.{the_head};
-ghost use Rattle.term_bank.specs.Means.Marks.{greater, greatest_witness};
+ghost use Rattle.term_bank.specs.Internal.Marks.{greater, greatest_witness};
 
 use std::alloc::AllocError;
 use stt_core::Head;

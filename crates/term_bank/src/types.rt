@@ -8,8 +8,8 @@ ghost use Rattle.stt_core.specs.SimpleType.{base};
 ghost use Rattle.stt_core.specs.Typing.{type_of};
 ghost use Rattle.stt_core.specs.View.{the_head, the_type};
 ghost use Rattle.term_bank.specs.Content.{content_scope};
-ghost use Rattle.term_bank.specs.Means.MarksView.{HasTypeIn};
-ghost use Rattle.term_bank.specs.Means.Target.{target};
+ghost use Rattle.term_bank.specs.Internal.MarksView.{HasTypeIn};
+ghost use Rattle.term_bank.specs.Internal.Target.{target};
 ghost use Rattle.term_bank.specs.Terms.{term_at};
 
 use crate::bank::Bank;

@@ -8,7 +8,7 @@ use Rattle.std.specs.Cmp.Lexicographic.{same_text}
 use Rattle.thf_grammar.specs.declared.token.TokenKind.{TokenKind}
 use Rattle.thf_grammar.specs.declared.token.TokenKind.TheVariants.{Lower, Upper, Quoted, Dollar, Integer, Distinct, Symbol, End, Bad}
 use Rattle.thf_grammar.specs.Bytes.{dollar, is_word_byte, is_sign}
-use Rattle.thf_grammar.specs.Means.Kind.{kind_of}
+use Rattle.thf_grammar.specs.Internal.Kind.{kind_of}
 use Rattle.thf_grammar.specs.Texts.{IsToken, IsGap, IsWhiteSpace, IsLineComment, is_symbol, symbols}
 
 both : (a b : Bool) → (a && b) ≡ true → (a ≡ true) × (b ≡ true)

@@ -7,7 +7,7 @@ use Rattle.std.proofs.lemmas.List.{length-take, length-take-le, get_or-take}
 use Rattle.std.proofs.lemmas.List.Sums.{prefix_len-le-length}
 use Rattle.thf_grammar.specs.declared.token.TokenKind.TheVariants.{Bad}
 use Rattle.thf_grammar.specs.Bytes.{is_white_space, is_in_line, percent, slash}
-use Rattle.thf_grammar.specs.Means.Kind.{kind_of}
+use Rattle.thf_grammar.specs.Internal.Kind.{kind_of}
 use Rattle.thf_grammar.specs.Texts.{IsWhiteSpace, IsLineComment, IsBlockComment, IsClosedAt, IsGap}
 use Rattle.thf_grammar.specs.Longest.{IsLongestGap, BeginsNothing}
 use Rattle.thf_grammar.proofs.Pieces.{first_kind, longest_gap, no_gap}

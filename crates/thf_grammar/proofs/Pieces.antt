@@ -3,7 +3,7 @@ use Rattle.std.proofs.Common.{◌≡◌, ◌≢◌, ℕ, ◌<◌, ◌≤◌, Lis
 use Rattle.std.proofs.lemmas.List.{length-take, get_or-take}
 use Rattle.thf_grammar.specs.declared.token.TokenKind.{TokenKind}
 use Rattle.thf_grammar.specs.declared.token.TokenKind.TheVariants.{Bad}
-use Rattle.thf_grammar.specs.Means.Kind.{kind_of}
+use Rattle.thf_grammar.specs.Internal.Kind.{kind_of}
 use Rattle.thf_grammar.specs.Texts.{IsToken, IsGap}
 use Rattle.thf_grammar.specs.Longest.{IsLongestToken, IsLongestGap, BeginsNothing}
 use Rattle.thf_grammar.proofs.Firsts.{BeginsAs, token_begins, gap_begins}

@@ -5,7 +5,7 @@ use Rattle.std.proofs.lemmas.Bool.Decides.{nat_tests}
 use Rattle.std.proofs.lemmas.List.{length-take, length-append, get_or-take, take-take, take_at, get_or_at, take_more, drop_more, take_min, get_or-drop, length-drop}
 use Rattle.thf_grammar.specs.declared.token.TokenKind.{TokenKind}
 use Rattle.thf_grammar.specs.declared.token.TokenKind.TheVariants.{Lower, Upper, Quoted, Dollar, Integer, Distinct, Symbol, End, Bad}
-use Rattle.thf_grammar.specs.Means.Kind.{kind_of, IsQuoteOf}
+use Rattle.thf_grammar.specs.Internal.Kind.{kind_of, IsQuoteOf}
 use Rattle.thf_grammar.specs.Bytes.{backslash, is_plain, is_escaped}
 use Rattle.thf_grammar.specs.Texts.{AreCharacters, none, plain, escape, IsQuotedBy, IsToken}
 

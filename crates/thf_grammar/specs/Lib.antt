@@ -11,4 +11,4 @@ pub mod Formulas
 pub mod Notes
 pub mod Statements
 pub mod Printable
-pub mod Means
+pub mod Internal

@@ -1,6 +1,6 @@
 //! What the grammar tells apart among tokens.
 ghost use Rattle.std.specs.Prelude.{◌≡◌};
-ghost use Rattle.thf_grammar.specs.Means.Marks.{is_mark, same_mark};
+ghost use Rattle.thf_grammar.specs.Internal.Marks.{is_mark, same_mark};
 
 use crate::connective::{Binder, Conn};
 

@@ -9,9 +9,9 @@ use Rattle.thf_include.specs.declared.refused.GatherRefused.{GatherRefused}
 use Rattle.thf_include.specs.declared.refused.GatherRefused.TheVariants.{Fault, TooLong, Syntax, Cycle, NoSuchName, TooMany, Memory}
 use Rattle.thf_include.specs.View.{PlacedTree}
 use Rattle.thf_include.specs.Gathering.{Stop, Ending, stopped, wants, too_long, no_tree, bytes_of, IsFileText, FileEnds, unread, long, refused, followed, StatementsEnd}
-use Rattle.thf_include.specs.Means.Opening.{IsReadRefusal, IsTextRefusal}
+use Rattle.thf_include.specs.Internal.Opening.{IsReadRefusal, IsTextRefusal}
 use Rattle.thf_include.specs.Answer.{AreContents, StopsAs}
-use Rattle.thf_include.specs.Means.Steps.{AreRead, StepsEndAs, IsStep, FileSteps, StatementsStep}
+use Rattle.thf_include.specs.Internal.Steps.{AreRead, StepsEndAs, IsStep, FileSteps, StatementsStep}
 use Rattle.thf_include.proofs.Texts.{same-get, same-bytes, take-append, bytes_of-more}
 use Rattle.thf_include.proofs.Stops.{StopsAs-map, StopsAs-cases, AreContents-take}
 

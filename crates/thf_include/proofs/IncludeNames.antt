@@ -24,7 +24,7 @@ use Rattle.thf_grammar.specs.Words.{Lexeme, lexeme, lexemes, Word, plain, termin
 use Rattle.thf_grammar.specs.Statements.{IsStatement, annotated_statement, include_statement, IsFile, no_statement, more_statements}
 use Rattle.thf_parse.specs.Parsing.{depth_limit, AreWithin}
 use Rattle.thf_include.specs.Gathering.{IsFileText}
-use Rattle.thf_include.specs.Means.Names.{IsNamed, AreNamed}
+use Rattle.thf_include.specs.Internal.Names.{IsNamed, AreNamed}
 use Rattle.thf_include.proofs.Trees.{follows, behind-all}
 
 -- the terminal isn't a quoted name

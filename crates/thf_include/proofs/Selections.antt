@@ -13,7 +13,7 @@ use Rattle.thf_grammar.specs.declared.statement.Selected.{Selected}
 use Rattle.thf_include.specs.declared.gathered.Placed.{Placed}
 use Rattle.thf_include.specs.View.{PlacedTree, the_placed, the_statements}
 use Rattle.thf_include.specs.Gathering.{is_selected, is_missing}
-use Rattle.thf_include.specs.Means.Selection.{has_name}
+use Rattle.thf_include.specs.Internal.Selection.{has_name}
 use Rattle.thf_include.proofs.NameSets.{bytes_eq-comm}
 
 list_any-map : {A B : Type 0} (f : A → B) (p : B → Bool) (xs : List A) → list_any p (map f xs) ≡ list_any (λ x. p (f x)) xs

@@ -10,7 +10,7 @@ use Rattle.thf_include.specs.declared.refused.GatherRefused.TheVariants.{Fault, 
 use Rattle.thf_include.specs.View.{PlacedTree}
 use Rattle.thf_include.specs.Gathering.{Stop, Ending, done, stopped, wants, no_name, behind, placed, select, FileEnds, unread, long, refused, followed, StatementEnds, stays, in_cycle, past_limit, stops, selects, StatementsEnd, no_more, ends, goes_on}
 use Rattle.thf_include.specs.Answer.{AreContents, StopsAs}
-use Rattle.thf_include.specs.Means.Steps.{AreRead, IsStep, FileSteps, StatementSteps, StatementsStep, SelectsAs}
+use Rattle.thf_include.specs.Internal.Steps.{AreRead, IsStep, FileSteps, StatementSteps, StatementsStep, SelectsAs}
 use Rattle.thf_include.proofs.Texts.{take-append}
 use Rattle.thf_include.proofs.SameTexts.{statements-same}
 use Rattle.thf_include.proofs.Cuts.{file-cut, statements-cut}

@@ -8,8 +8,8 @@ use Rattle.thf_include.specs.Gathering.{byte_limit}
 use Rattle.thf_include.specs.declared.opened.Opened.{Opened}
 use Rattle.thf_include.specs.View.{the_placed, the_statements}
 use Rattle.thf_include.specs.Gathering.{done}
-use Rattle.thf_include.specs.Means.Names.{IsNamed, AreNamed}
-use Rattle.thf_include.specs.Means.Steps.{AreRead, FileSteps}
+use Rattle.thf_include.specs.Internal.Names.{IsNamed, AreNamed}
+use Rattle.thf_include.specs.Internal.Steps.{AreRead, FileSteps}
 use Rattle.thf_include.proofs.Bounds.{AreBelow, AreBounded, file-bounded}
 
 -- one of the statements

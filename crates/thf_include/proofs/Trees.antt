@@ -9,7 +9,7 @@ use Rattle.thf_grammar.specs.Trees.{StatementTree}
 use Rattle.thf_grammar.specs.Words.{lexeme, Word, plain}
 use Rattle.thf_grammar.specs.Statements.{IsStatement, IsFile, no_statement, more_statements}
 use Rattle.thf_parse.specs.Parsing.{depth_limit, AreWithin}
-use Rattle.thf_parse.specs.Means.StatementReader.{statement}
+use Rattle.thf_parse.specs.Internal.StatementReader.{statement}
 use Rattle.thf_parse.proofs.Goes.{IsShallow, here, there, Goes}
 use Rattle.thf_parse.proofs.StatementGoes.{goes-statement}
 use Rattle.thf_parse.proofs.StatementLocals.{statement-shorter}

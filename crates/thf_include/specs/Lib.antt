@@ -1,4 +1,4 @@
 pub mod View
 pub mod Gathering
 pub mod Answer
-pub mod Means
+pub mod Internal

@@ -1,7 +1,7 @@
 //! The files that are open.
 
 ghost use Rattle.std.specs.Prelude.{◌↔◌, Contains, IsTrue};
-ghost use Rattle.thf_include.specs.Means.Chain.{the_chain};
+ghost use Rattle.thf_include.specs.Internal.Chain.{the_chain};
 
 /// The names of the files that are open, linked from the innermost one outwards.
 #[derive(Drop)]

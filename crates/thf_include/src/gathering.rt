@@ -5,9 +5,9 @@ ghost use Rattle.outside.specs.Causes.{Rose};
 ghost use Rattle.thf_grammar.specs.Trees.{include};
 ghost use Rattle.thf_grammar.specs.View.{the_file, the_statement, the_selection};
 ghost use Rattle.thf_include.specs.Answer.{Gathers, OfFault, IsNoFault};
-ghost use Rattle.thf_include.specs.Means.Chain.{the_chain};
-ghost use Rattle.thf_include.specs.Means.Names.{IsNamed, AreNamed};
-ghost use Rattle.thf_include.specs.Means.Steps.{FileSteps, StatementSteps, StatementsStep};
+ghost use Rattle.thf_include.specs.Internal.Chain.{the_chain};
+ghost use Rattle.thf_include.specs.Internal.Names.{IsNamed, AreNamed};
+ghost use Rattle.thf_include.specs.Internal.Steps.{FileSteps, StatementSteps, StatementsStep};
 ghost use Rattle.thf_include.specs.View.{the_statements};
 ghost use Rattle.thf_include.specs.Gathering.{file_limit};
 

@@ -4,7 +4,7 @@ ghost use Rattle.std.specs.Prelude.{◌≡◌, ◌+◌, ◌∷◌, [], ◌++◌,
 ghost use Rattle.outside.specs.Causes.{Rose};
 ghost use Rattle.thf_include.specs.Gathering.{byte_limit, file_limit};
 ghost use Rattle.thf_include.specs.Answer.{OfFault, IsNoFault};
-ghost use Rattle.thf_include.specs.Means.Opening.{IsReadRefusal};
+ghost use Rattle.thf_include.specs.Internal.Opening.{IsReadRefusal};
 
 use crate::limits::{MAX_BYTES, MAX_FILES};
 use crate::{FileNames, GatherRefused};

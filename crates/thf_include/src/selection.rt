@@ -6,8 +6,8 @@ ghost use Rattle.std.specs.List.{list_any};
 ghost use Rattle.thf_grammar.specs.View.{the_selection, the_selected};
 ghost use Rattle.thf_include.specs.View.{the_statements};
 ghost use Rattle.thf_include.specs.Gathering.{select, is_selected, is_missing};
-ghost use Rattle.thf_include.specs.Means.Selection.{has_name};
-ghost use Rattle.thf_include.specs.Means.Steps.{SelectsAs};
+ghost use Rattle.thf_include.specs.Internal.Selection.{has_name};
+ghost use Rattle.thf_include.specs.Internal.Steps.{SelectsAs};
 
 use crate::{GatherRefused, Gathered};
 use std::alloc::{AllocError, Global};

@@ -3,7 +3,7 @@
 ghost use Rattle.std.specs.Prelude.{◌≡◌, ◌≤◌, ◌^◌, length, IsUtf8, IfOk, IfErr};
 ghost use Rattle.thf_grammar.specs.View.{the_file};
 ghost use Rattle.thf_include.specs.Gathering.{IsFileText};
-ghost use Rattle.thf_include.specs.Means.Opening.{IsTextRefusal};
+ghost use Rattle.thf_include.specs.Internal.Opening.{IsTextRefusal};
 
 use crate::GatherRefused;
 use outside::Bytes;

@@ -3,7 +3,7 @@ use Rattle.std.proofs.Common.{◌≢◌, ℕ, ◌≤◌, List, length, take, min
 use Rattle.std.proofs.lemmas.List.{length-take, take_min}
 use Rattle.std.specs.Prelude.{IsTrue}
 use Rattle.thf_grammar.specs.Texts.{is_symbol}
-use Rattle.thf_lex.specs.Means.Symbols.{BeginsWithSymbol}
+use Rattle.thf_lex.specs.Internal.Symbols.{BeginsWithSymbol}
 use Rattle.thf_grammar.proofs.Firsts.{symbol_len_fits}
 
 other_length : (bytes : List ℕ) (n m : ℕ) → (BeginsWithSymbol n bytes → ⊥) → m ≤ length bytes → IsTrue (is_symbol (take m bytes)) → m ≢ n

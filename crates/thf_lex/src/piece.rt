@@ -1,7 +1,7 @@
 //! What stands at the front of the bytes that are left.
 ghost use Rattle.std.specs.Prelude.{◌≡◌, ◌<◌, ◌⊎◌, length, slice_index};
-ghost use Rattle.thf_grammar.specs.Means.Kind.{kind_of, IsQuoteOf};
-ghost use Rattle.thf_lex.specs.Means.Piece.{IsFirst};
+ghost use Rattle.thf_grammar.specs.Internal.Kind.{kind_of, IsQuoteOf};
+ghost use Rattle.thf_lex.specs.Internal.Piece.{IsFirst};
 
 use crate::bytes::{digits_len, is_sign, is_white_space, line_len, white_space_len, word_len};
 use crate::comment::block_comment_len;

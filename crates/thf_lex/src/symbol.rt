@@ -1,7 +1,7 @@
 //! Symbols.
 ghost use Rattle.std.specs.Prelude.{◌≡◌, ◌↔◌, ℕ, ◌<◌, ◌≤◌, [], ◌∷◌, length, take, IsTrue};
 ghost use Rattle.thf_grammar.specs.Texts.{is_symbol};
-ghost use Rattle.thf_lex.specs.Means.Symbols.{BeginsWithSymbol};
+ghost use Rattle.thf_lex.specs.Internal.Symbols.{BeginsWithSymbol};
 
 /// How many bytes the longest symbol at the front takes, or 0 where there is none.
 pub fn symbol_len(bytes: &[u8]) -> usize

@@ -4,9 +4,9 @@ use Rattle.thf_grammar.specs.declared.terminal.Mark.TheVariants.{Comma}
 use Rattle.thf_grammar.specs.declared.terminal.Terminal.{Terminal}
 use Rattle.thf_grammar.specs.declared.terminal.Terminal.TheVariants as terminal
 use Rattle.thf_grammar.specs.Words.{Lexeme, Word, plain, terminal_of, Is}
-use Rattle.thf_parse.specs.Means.Outcome.{Outcome, found, wrong, deep, Reader, ◌>>=◌, first_terminal, behind}
-use Rattle.thf_grammar.specs.Means.Marks.{is_mark}
-use Rattle.thf_parse.specs.Means.NoteReader.{comma_by, commas, all_commas}
+use Rattle.thf_parse.specs.Internal.Outcome.{Outcome, found, wrong, deep, Reader, ◌>>=◌, first_terminal, behind}
+use Rattle.thf_grammar.specs.Internal.Marks.{is_mark}
+use Rattle.thf_parse.specs.Internal.NoteReader.{comma_by, commas, all_commas}
 use Rattle.thf_parse.proofs.Locals.{IsLocal, IsLocalAt, rest_of, at, local-found, local-wrong, local-behind, local-bind, local-terminal, rest-length, local-counted}
 use Rattle.thf_parse.proofs.Finds.{word, Ending, Finds, stopped-here, ending-as, finds-bind, finds-token, finds-none}
 use Rattle.thf_parse.proofs.Goes.{Goes, sinks-bind, goes-bind, goes-token, goes-found}

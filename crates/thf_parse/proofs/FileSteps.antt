@@ -4,9 +4,9 @@ use Rattle.thf_grammar.specs.Trees.{StatementTree}
 use Rattle.thf_parse.specs.declared.refusal.Refusal.{Refusal}
 use Rattle.thf_parse.specs.declared.refusal.Refusal.TheVariants.{Wrong, TooDeep, Memory}
 use Rattle.thf_grammar.specs.Words.{Lexeme}
-use Rattle.thf_parse.specs.Means.Outcome.{found, first_terminal}
-use Rattle.thf_parse.specs.Means.Passes.{IsRefusal}
-use Rattle.thf_parse.specs.Means.StatementReader.{statement, is_end, file}
+use Rattle.thf_parse.specs.Internal.Outcome.{found, first_terminal}
+use Rattle.thf_parse.specs.Internal.Passes.{IsRefusal}
+use Rattle.thf_parse.specs.Internal.StatementReader.{statement, is_end, file}
 use Rattle.thf_parse.proofs.StatementLocals.{file-ended, file-more, file-wrong, file-deep}
 
 module _ (room : ℕ) (so_far : List StatementTree) (us ts : List Lexeme) (before : file room so_far us ≡ file room [] ts) where

@@ -1,7 +1,7 @@
 -- What readers find is in the grammar, and what stands before a token that they refuse begins something that is.
 use Rattle.std.proofs.Common.{◌≡◌, ℕ, List, [], ◌∷◌, ◌++◌, Option, Some, None, refl, sym, ap, subst, ◌∙◌, append_assoc}
 use Rattle.thf_grammar.specs.Words.{Lexeme, Word, plain}
-use Rattle.thf_parse.specs.Means.Outcome.{Outcome, found, wrong, deep, ◌>>=◌, Reader, behind, enter}
+use Rattle.thf_parse.specs.Internal.Outcome.{Outcome, found, wrong, deep, ◌>>=◌, Reader, behind, enter}
 
 abbrev pub word : Lexeme → ℕ → Word
 word t depth = record { lexeme = t; depth = depth }

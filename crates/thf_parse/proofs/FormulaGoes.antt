@@ -11,10 +11,10 @@ use Rattle.thf_grammar.specs.Words.{Lexeme, Word, plain, name_of, Is, lower, quo
 use Rattle.thf_grammar.specs.Types.{IsVar, plain_var, typed_var}
 use Rattle.thf_grammar.specs.Formulas as is
 use Rattle.thf_grammar.specs.Formulas.{binds_many, is_chained, is_nonassoc, lone_depth, AreVars, IsFormulaText, AreLinks, AreArguments, IsUnit, IsOperand, IsNegation, IsUnitary, IsPrimary, IsBinder}
-use Rattle.thf_parse.specs.Means.Outcome.{found, wrong, Reader, ◌>>=◌, first_terminal, first_place, first_name, behind, enter}
-use Rattle.thf_grammar.specs.Means.Marks.{is_mark}
-use Rattle.thf_parse.specs.Means.Reader.{type_with, inner_type}
-use Rattle.thf_parse.specs.Means.FormulaReader.{Readers, Inside, var, typed_by, variable_at, negation_at, primary_by, primary, next_variable_by, next_variable, bracket_by, binder_at, unitary_by, unitary, operand_by, operand, right_side, equated_by, unit_by, unit, next_link, is_link, links, arguments_by, arguments, quantified_by, quantified_at, second, tail_by, tail, applied_by, applied, behind_primary_by, behind_primary, formula_by, formula, closed, lone, negated_operand, negated_by, negated_at, grouped_by, grouped, body, bound_by, behind_variable, bound, readers, inner}
+use Rattle.thf_parse.specs.Internal.Outcome.{found, wrong, Reader, ◌>>=◌, first_terminal, first_place, first_name, behind, enter}
+use Rattle.thf_grammar.specs.Internal.Marks.{is_mark}
+use Rattle.thf_parse.specs.Internal.Reader.{type_with, inner_type}
+use Rattle.thf_parse.specs.Internal.FormulaReader.{Readers, Inside, var, typed_by, variable_at, negation_at, primary_by, primary, next_variable_by, next_variable, bracket_by, binder_at, unitary_by, unitary, operand_by, operand, right_side, equated_by, unit_by, unit, next_link, is_link, links, arguments_by, arguments, quantified_by, quantified_at, second, tail_by, tail, applied_by, applied, behind_primary_by, behind_primary, formula_by, formula, closed, lone, negated_operand, negated_by, negated_at, grouped_by, grouped, body, bound_by, behind_variable, bound, readers, inner}
 use Rattle.thf_parse.proofs.Goes.{Goes, GoIn, goes-bind, goes-token, goes-found, goes-enter, goes-into}
 use Rattle.thf_parse.proofs.MarkLaws.{goes-closed, goes-past}
 use Rattle.thf_parse.proofs.TypeLaws.{NoArrow, GoesTypes, goes-type_with, goes-inner_type}

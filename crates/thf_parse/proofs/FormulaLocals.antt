@@ -8,9 +8,9 @@ use Rattle.thf_grammar.specs.declared.terminal.Mark.TheVariants.{Open, Close, Op
 use Rattle.thf_grammar.specs.declared.terminal.Terminal.{Terminal}
 use Rattle.thf_grammar.specs.declared.terminal.Terminal.TheVariants as terminal
 use Rattle.thf_grammar.specs.Formulas.{binds_many}
-use Rattle.thf_parse.specs.Means.Outcome.{found, wrong, Reader, ◌>>=◌, first_terminal, first_place, first_name, behind, expect}
-use Rattle.thf_parse.specs.Means.Reader.{type_with, inner_type}
-use Rattle.thf_parse.specs.Means.FormulaReader.{Readers, Inside, var, typed_by, variable_at, negation_at, primary_by, primary, next_variable_by, next_variable, bracket_by, binder_at, unitary_by, unitary, operand_by, operand, right_side, equated_by, unit_by, unit, next_link, is_link, links_by, links, arguments_by, arguments, quantified_by, quantified_at, second, tail_by, tail, applied_by, applied, behind_primary_by, behind_primary, formula_by, formula, closed, lone, negated_by, negated_at, grouped_by, grouped, body, bound_by, behind_variable, bound, readers, inner}
+use Rattle.thf_parse.specs.Internal.Outcome.{found, wrong, Reader, ◌>>=◌, first_terminal, first_place, first_name, behind, expect}
+use Rattle.thf_parse.specs.Internal.Reader.{type_with, inner_type}
+use Rattle.thf_parse.specs.Internal.FormulaReader.{Readers, Inside, var, typed_by, variable_at, negation_at, primary_by, primary, next_variable_by, next_variable, bracket_by, binder_at, unitary_by, unitary, operand_by, operand, right_side, equated_by, unit_by, unit, next_link, is_link, links_by, links, arguments_by, arguments, quantified_by, quantified_at, second, tail_by, tail, applied_by, applied, behind_primary_by, behind_primary, formula_by, formula, closed, lone, negated_by, negated_at, grouped_by, grouped, body, bound_by, behind_variable, bound, readers, inner}
 use Rattle.thf_parse.proofs.Locals.{IsLocal, IsLocalAt, AreLocal, is_proper, at, local-found, local-wrong, local-behind, local-bind, bind-at, local-terminal, place-at, name-at, enter-at}
 use Rattle.thf_parse.proofs.MarkLaws.{local-past, local-expect}
 use Rattle.thf_parse.proofs.TypeLaws.{local-type_with, local-inner_type}

@@ -1,7 +1,7 @@
 -- What is in the grammar is found, or a token of it is too deep.
 use Rattle.std.proofs.Common.{◌≡◌, ℕ, suc, ◌<◌, ◌≤◌, List, ◌∷◌, Option, Some, None, ◌⊎◌, inl, inr, refl, ap, ◌∙◌, arith}
 use Rattle.thf_grammar.specs.Words.{Word, plain}
-use Rattle.thf_parse.specs.Means.Outcome.{Outcome, found, deep, ◌>>=◌, Reader, enter}
+use Rattle.thf_parse.specs.Internal.Outcome.{Outcome, found, deep, ◌>>=◌, Reader, enter}
 
 -- no token up to the tokens behind is deeper than the limit
 pub data IsShallow (limit : ℕ) : List Word → List Word → Type 0 where

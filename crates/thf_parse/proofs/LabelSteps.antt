@@ -5,11 +5,11 @@ use Rattle.thf_parse.specs.declared.refusal.Refusal.{Refusal}
 use Rattle.thf_parse.specs.declared.refusal.Refusal.TheVariants.{Wrong, TooDeep, Memory}
 use Rattle.thf_grammar.specs.declared.terminal.Mark.TheVariants.{Comma}
 use Rattle.thf_grammar.specs.Words.{Lexeme}
-use Rattle.thf_parse.specs.Means.Outcome.{found, ◌>>=◌, first_terminal, behind}
-use Rattle.thf_grammar.specs.Means.Marks.{is_mark}
-use Rattle.thf_parse.specs.Means.Passes.{IsRefusal}
-use Rattle.thf_parse.specs.Means.NoteReader.{all_commas}
-use Rattle.thf_parse.specs.Means.StatementReader.{label, more_label, labels}
+use Rattle.thf_parse.specs.Internal.Outcome.{found, ◌>>=◌, first_terminal, behind}
+use Rattle.thf_grammar.specs.Internal.Marks.{is_mark}
+use Rattle.thf_parse.specs.Internal.Passes.{IsRefusal}
+use Rattle.thf_parse.specs.Internal.NoteReader.{all_commas}
+use Rattle.thf_parse.specs.Internal.StatementReader.{label, more_label, labels}
 use Rattle.thf_parse.proofs.Locals.{rest_of, rest-length}
 use Rattle.thf_parse.proofs.MarkLaws.{is_mark-is}
 use Rattle.thf_parse.proofs.CommaLaws.{all-more, all-last, all-wrong, all-deep, comma-shorter}

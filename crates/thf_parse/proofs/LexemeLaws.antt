@@ -13,7 +13,7 @@ use Rattle.thf_grammar.specs.declared.terminal.Terminal.{Terminal}
 use Rattle.thf_grammar.specs.declared.terminal.Terminal.TheVariants as terminal
 use Rattle.thf_grammar.specs.Terminals.{single, pair, triple, symbol, dollar_word, of_kind}
 use Rattle.thf_grammar.specs.Words.{Lexeme, lexeme, lexemes, terminal_of}
-use Rattle.thf_parse.specs.Means.StatementReader.{is_end}
+use Rattle.thf_parse.specs.Internal.StatementReader.{is_end}
 use Rattle.thf_parse.proofs.ParseLaws.{IsEnded}
 
 -- a terminal that a token's kind tells alone

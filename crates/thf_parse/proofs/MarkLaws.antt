@@ -4,9 +4,9 @@ use Rattle.thf_grammar.specs.declared.terminal.Mark.{Mark}
 use Rattle.thf_grammar.specs.declared.terminal.Mark.TheVariants as mark
 use Rattle.thf_grammar.specs.declared.terminal.Terminal.{Terminal}
 use Rattle.thf_grammar.specs.declared.terminal.Terminal.TheVariants as terminal
-use Rattle.thf_grammar.specs.Means.Marks.{same_mark, is_mark}
+use Rattle.thf_grammar.specs.Internal.Marks.{same_mark, is_mark}
 use Rattle.thf_grammar.specs.Words.{Lexeme, Word, plain, terminal_of, Is}
-use Rattle.thf_parse.specs.Means.Outcome.{Outcome, found, wrong, Reader, ◌>>=◌, first_terminal, behind, expect, expect_by}
+use Rattle.thf_parse.specs.Internal.Outcome.{Outcome, found, wrong, Reader, ◌>>=◌, first_terminal, behind, expect, expect_by}
 use Rattle.thf_parse.proofs.Locals.{IsLocal, IsLocalAt, is_proper, at, local-found, local-wrong, local-behind, local-bind, local-terminal}
 use Rattle.thf_parse.proofs.Finds.{word, Ending, ending-then, Finds, stopped-here, finds-bind, finds-token, Nothing, nothing-ends, finds-nothing}
 use Rattle.thf_parse.proofs.Endings.{mark_word, mark-is}

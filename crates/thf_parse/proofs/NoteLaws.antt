@@ -7,9 +7,9 @@ use Rattle.thf_grammar.specs.declared.terminal.Terminal.TheVariants as terminal
 use Rattle.thf_grammar.specs.Words.{Lexeme, Word, plain, terminal_of, Is, IsName, lower, quoted}
 use Rattle.thf_grammar.specs.Notes as is
 use Rattle.thf_grammar.specs.Notes.{IsGeneral, AreGenerals, IsData, AreNotes}
-use Rattle.thf_parse.specs.Means.Outcome.{found, wrong, Reader, ◌>>=◌, first_terminal, behind, expect}
-use Rattle.thf_grammar.specs.Means.Marks.{is_mark}
-use Rattle.thf_parse.specs.Means.NoteReader.{passed, NoteReaders, called_by, called, data_by, data_at, listed_by, listed, paired_by, paired, general_by, general, generals, inner_notes, second_note, notes_by, notes}
+use Rattle.thf_parse.specs.Internal.Outcome.{found, wrong, Reader, ◌>>=◌, first_terminal, behind, expect}
+use Rattle.thf_grammar.specs.Internal.Marks.{is_mark}
+use Rattle.thf_parse.specs.Internal.NoteReader.{passed, NoteReaders, called_by, called, data_by, data_at, listed_by, listed, paired_by, paired, general_by, general, generals, inner_notes, second_note, notes_by, notes}
 use Rattle.thf_parse.proofs.Locals.{IsLocal, IsLocalAt, AreLocal, at, local-found, local-wrong, local-behind, local-bind, local-terminal, enter-at}
 use Rattle.thf_parse.proofs.Finds.{word, Ending, ending-then, Finds, stopped-here, stopped-behind, ending-as, finds-bind, finds-token, finds-as, finds-one, finds-none, FindIn, finds-enter}
 use Rattle.thf_parse.proofs.Endings.{mark_word, mark-is, upper_word, upper-is}

@@ -4,10 +4,10 @@ use Rattle.thf_parse.specs.declared.refusal.Refusal.{Refusal}
 use Rattle.thf_parse.specs.declared.refusal.Refusal.TheVariants.{Wrong, TooDeep, Memory}
 use Rattle.thf_grammar.specs.declared.terminal.Mark.TheVariants.{Comma}
 use Rattle.thf_grammar.specs.Words.{Lexeme}
-use Rattle.thf_parse.specs.Means.Outcome.{found, Reader, first_terminal, behind}
-use Rattle.thf_grammar.specs.Means.Marks.{is_mark}
-use Rattle.thf_parse.specs.Means.Passes.{IsRefusal, Passes}
-use Rattle.thf_parse.specs.Means.NoteReader.{passed, all_commas, general, generals, listed, list_at, inner_notes}
+use Rattle.thf_parse.specs.Internal.Outcome.{found, Reader, first_terminal, behind}
+use Rattle.thf_grammar.specs.Internal.Marks.{is_mark}
+use Rattle.thf_parse.specs.Internal.Passes.{IsRefusal, Passes}
+use Rattle.thf_parse.specs.Internal.NoteReader.{passed, all_commas, general, generals, listed, list_at, inner_notes}
 use Rattle.thf_parse.proofs.Locals.{IsLocal, rest_of, rest-length}
 use Rattle.thf_parse.proofs.MarkLaws.{is_mark-is}
 use Rattle.thf_parse.proofs.CommaLaws.{all-more, all-last, all-wrong, all-deep, comma-shorter}

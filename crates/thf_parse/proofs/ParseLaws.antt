@@ -6,8 +6,8 @@ use Rattle.thf_grammar.specs.declared.terminal.Terminal.{Terminal}
 use Rattle.thf_grammar.specs.declared.terminal.Terminal.TheVariants as terminal
 use Rattle.thf_grammar.specs.Words.{Lexeme, Word, plain, terminal_of, Is}
 use Rattle.thf_grammar.specs.Statements.{IsFile, no_statement}
-use Rattle.thf_parse.specs.Means.Outcome.{Outcome, found, wrong, deep, Reader, first_terminal, first_place, behind}
-use Rattle.thf_parse.specs.Means.StatementReader.{is_end, statements, file}
+use Rattle.thf_parse.specs.Internal.Outcome.{Outcome, found, wrong, deep, Reader, first_terminal, first_place, behind}
+use Rattle.thf_parse.specs.Internal.StatementReader.{is_end, statements, file}
 use Rattle.thf_parse.specs.Parsing.{AreWithin, HasTree, BeginsFile, IsWrongAt, IsTooDeepAt}
 use Rattle.thf_parse.proofs.Locals.{Decided, ArePassed, none, more, is_proper, rest_of, with_rest}
 use Rattle.thf_parse.proofs.Finds.{Reading, Stopped, Finds, word, plain-append}

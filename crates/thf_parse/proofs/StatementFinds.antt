@@ -15,11 +15,11 @@ use Rattle.thf_grammar.specs.Statements as is
 use Rattle.thf_grammar.specs.Statements.{selected as labelled, IsLabel, IsKeyword, IsTyping, IsBody, AreLabels, IsSelection, IsEnd, IsStatement, IsFile}
 use Rattle.thf_grammar.specs.Notes as notes_are
 use Rattle.thf_grammar.specs.Notes.{AreNotes}
-use Rattle.thf_parse.specs.Means.Outcome.{Outcome, found, wrong, deep, Reader, ◌>>=◌, first_terminal, first_place, first_name, first_text, behind, expect}
-use Rattle.thf_parse.specs.Means.Reader.{type_with, inner_type}
-use Rattle.thf_parse.specs.Means.FormulaReader.{formula, inner}
-use Rattle.thf_parse.specs.Means.NoteReader.{passed, general, second_note, notes_by, notes, inner_notes}
-use Rattle.thf_parse.specs.Means.StatementReader.{selected, named_at, label_by, label, role_by, role, quoted_by, quoted as quoted_reader, declared_by, declared, typing_by, typing_with, inner_typing, body, Head, head_of, head, finish, annotated_of, annotated, more_label, labels, names, selection_by, selection, include, keyword_in, keyword_by, keyword, statement_by, statement, is_end, statements_by, statements, file}
+use Rattle.thf_parse.specs.Internal.Outcome.{Outcome, found, wrong, deep, Reader, ◌>>=◌, first_terminal, first_place, first_name, first_text, behind, expect}
+use Rattle.thf_parse.specs.Internal.Reader.{type_with, inner_type}
+use Rattle.thf_parse.specs.Internal.FormulaReader.{formula, inner}
+use Rattle.thf_parse.specs.Internal.NoteReader.{passed, general, second_note, notes_by, notes, inner_notes}
+use Rattle.thf_parse.specs.Internal.StatementReader.{selected, named_at, label_by, label, role_by, role, quoted_by, quoted as quoted_reader, declared_by, declared, typing_by, typing_with, inner_typing, body, Head, head_of, head, finish, annotated_of, annotated, more_label, labels, names, selection_by, selection, include, keyword_in, keyword_by, keyword, statement_by, statement, is_end, statements_by, statements, file}
 use Rattle.thf_parse.proofs.Finds.{word, Ending, ending-then, ending-map, ending-as, Finds, stopped-here, stopped-behind, finds-bind, finds-token, finds-as, finds-behind, finds-map, finds-one, finds-none, FindIn, finds-enter}
 use Rattle.thf_parse.proofs.Endings.{lower_word, lower-is, quoted_word, quoted-is, include_word, include-is}
 use Rattle.thf_parse.proofs.MarkLaws.{Closed, closed-ends, finds-closed, past-ends, finds-past, Expected, expected-ends, finds-expect}

@@ -13,12 +13,12 @@ use Rattle.thf_grammar.specs.Statements as is
 use Rattle.thf_grammar.specs.Statements.{selected as labelled, IsLabel, IsKeyword, IsTyping, IsBody, AreLabels, IsSelection, IsEnd, IsStatement, IsFile}
 use Rattle.thf_grammar.specs.Notes as notes_are
 use Rattle.thf_grammar.specs.Notes.{AreNotes}
-use Rattle.thf_parse.specs.Means.Outcome.{found, Reader, ◌>>=◌, first_terminal, first_place, first_name, first_text, behind, expect}
-use Rattle.thf_grammar.specs.Means.Marks.{is_mark}
-use Rattle.thf_parse.specs.Means.Reader.{type_with, inner_type}
-use Rattle.thf_parse.specs.Means.FormulaReader.{formula, inner}
-use Rattle.thf_parse.specs.Means.NoteReader.{passed, general, second_note, notes_by, notes, inner_notes}
-use Rattle.thf_parse.specs.Means.StatementReader.{named_at, label_by, label, role_by, role, quoted_by, quoted as quoted_reader, declared_by, declared, typing_by, typing_with, inner_typing, body, head_of, head, finish, annotated_of, annotated, more_label, labels, names, selection_by, selection, include, keyword_in, keyword_by, keyword, statement_by, statement, is_end, statements_by, statements}
+use Rattle.thf_parse.specs.Internal.Outcome.{found, Reader, ◌>>=◌, first_terminal, first_place, first_name, first_text, behind, expect}
+use Rattle.thf_grammar.specs.Internal.Marks.{is_mark}
+use Rattle.thf_parse.specs.Internal.Reader.{type_with, inner_type}
+use Rattle.thf_parse.specs.Internal.FormulaReader.{formula, inner}
+use Rattle.thf_parse.specs.Internal.NoteReader.{passed, general, second_note, notes_by, notes, inner_notes}
+use Rattle.thf_parse.specs.Internal.StatementReader.{named_at, label_by, label, role_by, role, quoted_by, quoted as quoted_reader, declared_by, declared, typing_by, typing_with, inner_typing, body, head_of, head, finish, annotated_of, annotated, more_label, labels, names, selection_by, selection, include, keyword_in, keyword_by, keyword, statement_by, statement, is_end, statements_by, statements}
 use Rattle.thf_parse.proofs.Goes.{Goes, GoIn, sinks-bind, goes-bind, goes-token, goes-found, goes-enter}
 use Rattle.thf_parse.proofs.MarkLaws.{goes-expect, goes-past, goes-closed}
 use Rattle.thf_parse.proofs.TypeLaws.{GoesTypes, goes-type_with, goes-inner_type}

@@ -8,11 +8,11 @@ use Rattle.thf_grammar.specs.declared.terminal.Mark.TheVariants.{Open, Close, Op
 use Rattle.thf_grammar.specs.declared.terminal.Terminal.{Terminal}
 use Rattle.thf_grammar.specs.declared.terminal.Terminal.TheVariants as terminal
 use Rattle.thf_grammar.specs.Words.{Lexeme}
-use Rattle.thf_parse.specs.Means.Outcome.{Outcome, found, wrong, deep, Reader, ◌>>=◌, first_terminal, first_name, first_text, behind, expect}
-use Rattle.thf_parse.specs.Means.Reader.{type_with, inner_type}
-use Rattle.thf_parse.specs.Means.FormulaReader.{formula, inner}
-use Rattle.thf_parse.specs.Means.NoteReader.{notes, inner_notes}
-use Rattle.thf_parse.specs.Means.StatementReader.{selected, named_at, label_by, label, role_by, role, quoted_by, quoted, declared_by, declared, typing_by, typing_with, inner_typing, body, head_of, head, finish, annotated_of, annotated, more_label, labels, names, selection_by, selection, include, keyword_by, keyword, statement_by, statement, is_end, statements_by, statements, file}
+use Rattle.thf_parse.specs.Internal.Outcome.{Outcome, found, wrong, deep, Reader, ◌>>=◌, first_terminal, first_name, first_text, behind, expect}
+use Rattle.thf_parse.specs.Internal.Reader.{type_with, inner_type}
+use Rattle.thf_parse.specs.Internal.FormulaReader.{formula, inner}
+use Rattle.thf_parse.specs.Internal.NoteReader.{notes, inner_notes}
+use Rattle.thf_parse.specs.Internal.StatementReader.{selected, named_at, label_by, label, role_by, role, quoted_by, quoted, declared_by, declared, typing_by, typing_with, inner_typing, body, head_of, head, finish, annotated_of, annotated, more_label, labels, names, selection_by, selection, include, keyword_by, keyword, statement_by, statement, is_end, statements_by, statements, file}
 use Rattle.thf_parse.proofs.Locals.{IsLocal, IsLocalAt, AreLocal, Decided, is_proper, rest_of, at, local-found, local-wrong, local-behind, local-bind, bind-at, local-terminal, place-at, name-at, enter-at, decided-head, rest-length, local-counted}
 use Rattle.thf_parse.proofs.MarkLaws.{local-past, local-expect, local-closed}
 use Rattle.thf_parse.proofs.TypeLaws.{local-type_with, local-inner_type}

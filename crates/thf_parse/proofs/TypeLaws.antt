@@ -6,9 +6,9 @@ use Rattle.thf_grammar.specs.declared.terminal.Terminal.{Terminal}
 use Rattle.thf_grammar.specs.declared.terminal.Terminal.TheVariants as terminal
 use Rattle.thf_grammar.specs.Words.{Lexeme, Word, plain, terminal_of, name_of, Is, lower, quoted}
 use Rattle.thf_grammar.specs.Types.{IsType, simple_type as simple_is, arrow_type as arrow_is, IsSimpleType, indiv_type as indiv_is, form_type as form_is, named_type as named_is, group_type as group_is}
-use Rattle.thf_parse.specs.Means.Outcome.{found, wrong, Reader, ◌>>=◌, first_terminal, first_place, first_name, behind, expect}
-use Rattle.thf_grammar.specs.Means.Marks.{is_mark}
-use Rattle.thf_parse.specs.Means.Reader.{group_type, named_type, simple_type_by, simple_type, right_type, arrow_by, type_with, inner_type}
+use Rattle.thf_parse.specs.Internal.Outcome.{found, wrong, Reader, ◌>>=◌, first_terminal, first_place, first_name, behind, expect}
+use Rattle.thf_grammar.specs.Internal.Marks.{is_mark}
+use Rattle.thf_parse.specs.Internal.Reader.{group_type, named_type, simple_type_by, simple_type, right_type, arrow_by, type_with, inner_type}
 use Rattle.thf_parse.proofs.Locals.{IsLocal, IsLocalAt, AreLocal, is_proper, at, local-found, local-wrong, local-behind, local-bind, local-terminal, place-at, name-at, enter-at}
 use Rattle.thf_parse.proofs.Finds.{word, Ending, Finds, stopped-here, stopped-behind, ending-as, ending-map, finds-bind, finds-token, finds-behind, finds-map, finds-one, finds-none, FindIn, finds-enter}
 use Rattle.thf_parse.proofs.Endings.{indiv_word, indiv-is}

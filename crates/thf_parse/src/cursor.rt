@@ -1,8 +1,8 @@
 //! The tokens that are left to read.
 ghost use Rattle.std.specs.Prelude.{◌≡◌, IfOk};
 ghost use Rattle.thf_grammar.specs.Words.{lexemes};
-ghost use Rattle.thf_parse.specs.Means.Outcome as spec;
-ghost use Rattle.thf_parse.specs.Means.Passes.{Passes};
+ghost use Rattle.thf_parse.specs.Internal.Outcome as spec;
+ghost use Rattle.thf_parse.specs.Internal.Passes.{Passes};
 
 use crate::refusal::Refusal;
 use crate::words::{first_name, first_place, first_terminal, first_text};
@@ -23,7 +23,7 @@ pub struct Cursor<'a> {
 impl<'a> Model for Cursor<'a> {
     ghost use Rattle.std.specs.Prelude.{◌≡◌, List};
     ghost use Rattle.thf_grammar.specs.Words.{Lexeme, lexemes};
-    ghost use Rattle.thf_parse.specs.Means.Outcome.{first_terminal};
+    ghost use Rattle.thf_parse.specs.Internal.Outcome.{first_terminal};
 
     ghost Value = { List Lexeme };
 
@@ -72,7 +72,7 @@ impl<'a> Cursor<'a> {
     }
 
     /// Passes the first token.
-    #[tactic(auto, unfolding(crate::specs::Means::Outcome::behind))]
+    #[tactic(auto, unfolding(crate::specs::Internal::Outcome::behind))]
     pub fn advance(&mut self)
         ensures { self.new ≡ spec.behind self.old }
     {
@@ -83,7 +83,7 @@ impl<'a> Cursor<'a> {
     }
 
     /// Passes the mark that the tokens begin with.
-    #[tactic(auto, unfolding(crate::specs::Means::Outcome::expect))]
+    #[tactic(auto, unfolding(crate::specs::Internal::Outcome::expect))]
     pub fn expect(&mut self, mark: Mark) -> Result<(), Refusal>
         ensures { Passes self.new result (spec.expect mark self.old) }
     {

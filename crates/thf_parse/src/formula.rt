@@ -3,8 +3,8 @@ ghost use Rattle.std.specs.Prelude.{◌≡◌, [], ◌∷◌, ◌++◌, true, fa
 ghost use Rattle.thf_grammar.specs.View.{the_formula, the_vars};
 ghost use Rattle.thf_grammar.specs.declared.connective.Conn.TheVariants.{And, Or};
 ghost use Rattle.thf_grammar.specs.Formulas as grammar;
-ghost use Rattle.thf_parse.specs.Means.FormulaReader as reader;
-ghost use Rattle.thf_parse.specs.Means.Reads.{ReadsFormula};
+ghost use Rattle.thf_parse.specs.Internal.FormulaReader as reader;
+ghost use Rattle.thf_parse.specs.Internal.Reads.{ReadsFormula};
 
 use crate::cursor::Cursor;
 use crate::refusal::Refusal;
@@ -64,7 +64,7 @@ fn truth(alloc: Global, value: bool, cursor: &mut Cursor) -> Result<Box<Surface>
 }
 
 #[cycle(formulas)]
-#[tactic(auto, unfolding(crate::specs::Means::FormulaReader::inner))]
+#[tactic(auto, unfolding(crate::specs::Internal::FormulaReader::inner))]
 fn negation(alloc: Global, room: u32, cursor: &mut Cursor) -> Result<Box<Surface>, Refusal>
     ensures { ReadsFormula cursor.new result (reader.negation_at (reader.inner room) cursor.old) }
 {
@@ -78,7 +78,7 @@ fn negation(alloc: Global, room: u32, cursor: &mut Cursor) -> Result<Box<Surface
 }
 
 #[cycle(formulas)]
-#[tactic(auto, unfolding(crate::specs::Means::FormulaReader::inner))]
+#[tactic(auto, unfolding(crate::specs::Internal::FormulaReader::inner))]
 fn group(alloc: Global, room: u32, cursor: &mut Cursor) -> Result<Box<Surface>, Refusal>
     ensures { ReadsFormula cursor.new result (reader.group_at (reader.inner room) cursor.old) }
 {
@@ -90,7 +90,7 @@ fn group(alloc: Global, room: u32, cursor: &mut Cursor) -> Result<Box<Surface>, 
 }
 
 #[cycle(formulas)]
-#[tactic(auto, unfolding(crate::specs::Means::FormulaReader::primary))]
+#[tactic(auto, unfolding(crate::specs::Internal::FormulaReader::primary))]
 fn primary(alloc: Global, room: u32, cursor: &mut Cursor) -> Result<Box<Surface>, Refusal>
     ensures { ReadsFormula cursor.new result (reader.primary (reader.inner room) cursor.old) }
 {
@@ -105,7 +105,7 @@ fn primary(alloc: Global, room: u32, cursor: &mut Cursor) -> Result<Box<Surface>
 
 /// A primary formula or a binder's.
 #[cycle(formulas)]
-#[tactic(auto, unfolding(crate::specs::Means::FormulaReader::unitary))]
+#[tactic(auto, unfolding(crate::specs::Internal::FormulaReader::unitary))]
 fn unitary(alloc: Global, room: u32, cursor: &mut Cursor) -> Result<Box<Surface>, Refusal>
     ensures { ReadsFormula cursor.new result (reader.unitary (reader.inner room) cursor.old) }
 {
@@ -117,7 +117,7 @@ fn unitary(alloc: Global, room: u32, cursor: &mut Cursor) -> Result<Box<Surface>
 
 /// A unitary formula or a negation.
 #[cycle(formulas)]
-#[tactic(auto, unfolding(crate::specs::Means::FormulaReader::operand))]
+#[tactic(auto, unfolding(crate::specs::Internal::FormulaReader::operand))]
 fn operand(alloc: Global, room: u32, cursor: &mut Cursor) -> Result<Box<Surface>, Refusal>
     ensures { ReadsFormula cursor.new result (reader.operand (reader.inner room) cursor.old) }
 {
@@ -129,7 +129,7 @@ fn operand(alloc: Global, room: u32, cursor: &mut Cursor) -> Result<Box<Surface>
 
 /// The equation with `left` on its left, where the tokens begin with its sign.
 #[cycle(formulas)]
-#[tactic(auto, unfolding(crate::specs::Means::FormulaReader::right_side))]
+#[tactic(auto, unfolding(crate::specs::Internal::FormulaReader::right_side))]
 fn right_side(
     alloc: Global,
     room: u32,
@@ -152,7 +152,7 @@ fn right_side(
 }
 
 #[cycle(formulas)]
-#[tactic(auto, unfolding(crate::specs::Means::FormulaReader::unit))]
+#[tactic(auto, unfolding(crate::specs::Internal::FormulaReader::unit))]
 fn unit(alloc: Global, room: u32, cursor: &mut Cursor) -> Result<Box<Surface>, Refusal>
     ensures { ReadsFormula cursor.new result (reader.unit (reader.inner room) cursor.old) }
 {
@@ -171,7 +171,7 @@ fn unit(alloc: Global, room: u32, cursor: &mut Cursor) -> Result<Box<Surface>, R
 
 /// The binder's formula that begins with the first token.
 #[cycle(formulas)]
-#[tactic(auto, unfolding(crate::specs::Means::FormulaReader::binder_at, crate::specs::Means::FormulaReader::inner))]
+#[tactic(auto, unfolding(crate::specs::Internal::FormulaReader::binder_at, crate::specs::Internal::FormulaReader::inner))]
 fn bind(
     alloc: Global,
     room: u32,
@@ -197,7 +197,7 @@ fn bind(
 
 /// The rest of a binder's formula from a variable on.
 #[cycle(formulas)]
-#[tactic(auto, unfolding(crate::specs::Means::FormulaReader::next_variable, crate::specs::Means::FormulaReader::inner))]
+#[tactic(auto, unfolding(crate::specs::Internal::FormulaReader::next_variable, crate::specs::Internal::FormulaReader::inner))]
 fn next_variable(
     alloc: Global,
     room: u32,
@@ -220,7 +220,7 @@ fn next_variable(
 
 /// The rest of a binder's formula from a variable on that is counted.
 #[cycle(formulas)]
-#[tactic(auto, unfolding(crate::specs::Means::FormulaReader::bound, crate::specs::Means::FormulaReader::inner))]
+#[tactic(auto, unfolding(crate::specs::Internal::FormulaReader::bound, crate::specs::Internal::FormulaReader::inner))]
 fn variables(
     alloc: Global,
     room: u32,
@@ -240,7 +240,7 @@ fn variables(
 
 /// The rest of a binder's formula behind a variable.
 #[cycle(formulas)]
-#[tactic(auto, unfolding(crate::specs::Means::FormulaReader::behind_variable))]
+#[tactic(auto, unfolding(crate::specs::Internal::FormulaReader::behind_variable))]
 fn behind_variable(
     alloc: Global,
     room: u32,
@@ -268,7 +268,7 @@ fn behind_variable(
 
 /// A binder's formula, from the colon before its body on.
 #[cycle(formulas)]
-#[tactic(auto, unfolding(crate::specs::Means::FormulaReader::body))]
+#[tactic(auto, unfolding(crate::specs::Internal::FormulaReader::body))]
 fn body(
     alloc: Global,
     room: u32,
@@ -291,7 +291,7 @@ fn body(
 
 /// The chain of `conn` from its operator on, where `left` is the tree of the operands before.
 #[cycle(formulas)]
-#[tactic(auto, unfolding(crate::specs::Means::FormulaReader::links))]
+#[tactic(auto, unfolding(crate::specs::Internal::FormulaReader::links))]
 fn links(
     alloc: Global,
     room: u32,
@@ -310,7 +310,7 @@ fn links(
 
 /// The chain of `conn` from an operator on that is there.
 #[cycle(formulas)]
-#[tactic(auto, unfolding(crate::specs::Means::FormulaReader::inner))]
+#[tactic(auto, unfolding(crate::specs::Internal::FormulaReader::inner))]
 fn next_link(
     alloc: Global,
     room: u32,
@@ -337,7 +337,7 @@ fn next_link(
 
 /// What is applied to further arguments, from their `@` on, where `left` is the tree of what stands before.
 #[cycle(formulas)]
-#[tactic(auto, unfolding(crate::specs::Means::FormulaReader::arguments))]
+#[tactic(auto, unfolding(crate::specs::Internal::FormulaReader::arguments))]
 fn arguments(
     alloc: Global,
     room: u32,
@@ -354,7 +354,7 @@ fn arguments(
 
 /// What is applied to further arguments, from an `@` on that is there.
 #[cycle(formulas)]
-#[tactic(auto, unfolding(crate::specs::Means::FormulaReader::inner))]
+#[tactic(auto, unfolding(crate::specs::Internal::FormulaReader::inner))]
 fn next_argument(
     alloc: Global,
     room: u32,
@@ -375,7 +375,7 @@ fn next_argument(
 
 /// The argument of `!!` or `??`, and those behind it, from the `@` on.
 #[cycle(formulas)]
-#[tactic(auto, unfolding(crate::specs::Means::FormulaReader::quantified_at, crate::specs::Means::FormulaReader::inner))]
+#[tactic(auto, unfolding(crate::specs::Internal::FormulaReader::quantified_at, crate::specs::Internal::FormulaReader::inner))]
 fn quantified(
     alloc: Global,
     room: u32,
@@ -401,7 +401,7 @@ fn quantified(
 
 /// The formula of a connective that has two operands, from the connective on.
 #[cycle(formulas)]
-#[tactic(auto, unfolding(crate::specs::Means::FormulaReader::second))]
+#[tactic(auto, unfolding(crate::specs::Internal::FormulaReader::second))]
 fn second(
     alloc: Global,
     room: u32,
@@ -425,7 +425,7 @@ fn second(
 
 /// The formula whose first unit is `left`.
 #[cycle(formulas)]
-#[tactic(auto, unfolding(crate::specs::Means::FormulaReader::tail))]
+#[tactic(auto, unfolding(crate::specs::Internal::FormulaReader::tail))]
 fn tail(
     alloc: Global,
     room: u32,
@@ -445,7 +445,7 @@ fn tail(
 
 /// The formula that begins with the unitary formula `left`, which isn't a side of an equation.
 #[cycle(formulas)]
-#[tactic(auto, unfolding(crate::specs::Means::FormulaReader::applied))]
+#[tactic(auto, unfolding(crate::specs::Internal::FormulaReader::applied))]
 fn applied(
     alloc: Global,
     room: u32,
@@ -462,7 +462,7 @@ fn applied(
 
 /// The formula that begins with the primary formula `left`.
 #[cycle(formulas)]
-#[tactic(auto, unfolding(crate::specs::Means::FormulaReader::behind_primary))]
+#[tactic(auto, unfolding(crate::specs::Internal::FormulaReader::behind_primary))]
 fn behind_primary(
     alloc: Global,
     room: u32,
@@ -481,7 +481,7 @@ fn behind_primary(
 }
 
 #[cycle(formulas)]
-#[tactic(auto, unfolding(crate::specs::Means::FormulaReader::formula))]
+#[tactic(auto, unfolding(crate::specs::Internal::FormulaReader::formula))]
 pub fn formula(alloc: Global, room: u32, cursor: &mut Cursor) -> Result<Box<Surface>, Refusal>
     ensures { ReadsFormula cursor.new result (reader.formula (reader.inner room) cursor.old) }
 {
@@ -506,7 +506,7 @@ pub fn formula(alloc: Global, room: u32, cursor: &mut Cursor) -> Result<Box<Surf
 }
 
 /// A connective alone, up to the `)` behind it.
-#[tactic(auto, unfolding(crate::specs::Means::FormulaReader::lone))]
+#[tactic(auto, unfolding(crate::specs::Internal::FormulaReader::lone))]
 fn lone(alloc: Global, conn: Conn, cursor: &mut Cursor) -> Result<Box<Surface>, Refusal>
     ensures { ReadsFormula cursor.new result (reader.lone conn cursor.old) }
 {
@@ -518,7 +518,7 @@ fn lone(alloc: Global, conn: Conn, cursor: &mut Cursor) -> Result<Box<Surface>, 
 
 /// What stands behind a `(` and begins with a `~`, up to its `)`.
 #[cycle(formulas)]
-#[tactic(auto, unfolding(crate::specs::Means::FormulaReader::inner))]
+#[tactic(auto, unfolding(crate::specs::Internal::FormulaReader::inner))]
 fn negated(alloc: Global, room: u32, cursor: &mut Cursor) -> Result<Box<Surface>, Refusal>
     ensures { ReadsFormula cursor.new result (reader.negated_at (reader.inner room) cursor.old) }
 {
@@ -539,7 +539,7 @@ fn negated(alloc: Global, room: u32, cursor: &mut Cursor) -> Result<Box<Surface>
 
 /// What is negated behind a `(` and a `~` at the place `at`, and what follows it, up to the `)`.
 #[cycle(formulas)]
-#[tactic(auto, unfolding(crate::specs::Means::FormulaReader::inner))]
+#[tactic(auto, unfolding(crate::specs::Internal::FormulaReader::inner))]
 fn negated_operand(
     alloc: Global,
     room: u32,
@@ -567,7 +567,7 @@ fn closed(inside: Box<Surface>, cursor: &mut Cursor) -> Result<Box<Surface>, Ref
 
 /// What stands behind a `(`, up to its `)`.
 #[cycle(formulas)]
-#[tactic(auto, unfolding(crate::specs::Means::FormulaReader::grouped))]
+#[tactic(auto, unfolding(crate::specs::Internal::FormulaReader::grouped))]
 fn grouped(alloc: Global, room: u32, cursor: &mut Cursor) -> Result<Box<Surface>, Refusal>
     ensures { ReadsFormula cursor.new result (reader.grouped (reader.inner room) cursor.old) }
 {

@@ -1,8 +1,8 @@
 //! Labels, and includes.
 ghost use Rattle.std.specs.Prelude.{◌≡◌, ◌∷◌, [], ◌++◌, map, IfOk};
 ghost use Rattle.thf_grammar.specs.View.{the_selected};
-ghost use Rattle.thf_parse.specs.Means.StatementReader as reader;
-ghost use Rattle.thf_parse.specs.Means.Reads.{ReadsLabel, ReadsLabels, ReadsSelection, ReadsStatement};
+ghost use Rattle.thf_parse.specs.Internal.StatementReader as reader;
+ghost use Rattle.thf_parse.specs.Internal.Reads.{ReadsLabel, ReadsLabels, ReadsSelection, ReadsStatement};
 
 use crate::cursor::Cursor;
 use crate::refusal::Refusal;
@@ -20,7 +20,7 @@ pub fn named(alloc: Global, cursor: &mut Cursor) -> Result<Selected, Refusal>
     Ok(Selected { at, name })
 }
 
-#[tactic(auto, unfolding(crate::specs::Means::StatementReader::label))]
+#[tactic(auto, unfolding(crate::specs::Internal::StatementReader::label))]
 pub fn label(alloc: Global, cursor: &mut Cursor) -> Result<Selected, Refusal>
     ensures { ReadsLabel cursor.new result (reader.label cursor.old) }
 {
@@ -30,7 +30,7 @@ pub fn label(alloc: Global, cursor: &mut Cursor) -> Result<Selected, Refusal>
     }
 }
 
-#[tactic(auto, unfolding(crate::specs::Means::StatementReader::quoted))]
+#[tactic(auto, unfolding(crate::specs::Internal::StatementReader::quoted))]
 fn quoted(alloc: Global, cursor: &mut Cursor) -> Result<Selected, Refusal>
     ensures { ReadsLabel cursor.new result (reader.quoted cursor.old) }
 {
@@ -49,7 +49,7 @@ fn with_label(mut labels: Selection, label: Selected) -> Result<Selection, Alloc
 }
 
 /// The selected names in brackets.
-#[tactic(auto, unfolding(crate::specs::Means::StatementReader::names))]
+#[tactic(auto, unfolding(crate::specs::Internal::StatementReader::names))]
 fn names(alloc: Global, cursor: &mut Cursor) -> Result<Option<Selection>, Refusal>
     ensures { ReadsSelection cursor.new result (reader.names cursor.old) }
 {
@@ -76,7 +76,7 @@ fn labels(alloc: Global, cursor: &mut Cursor) -> Result<Selection, Refusal>
     }
 }
 
-#[tactic(auto, unfolding(crate::specs::Means::StatementReader::selection))]
+#[tactic(auto, unfolding(crate::specs::Internal::StatementReader::selection))]
 fn selection(alloc: Global, cursor: &mut Cursor) -> Result<Option<Selection>, Refusal>
     ensures { ReadsSelection cursor.new result (reader.selection cursor.old) }
 {
@@ -90,7 +90,7 @@ fn selection(alloc: Global, cursor: &mut Cursor) -> Result<Option<Selection>, Re
 }
 
 /// An include from its parenthesis on.
-#[tactic(auto, unfolding(crate::specs::Means::StatementReader::include))]
+#[tactic(auto, unfolding(crate::specs::Internal::StatementReader::include))]
 pub fn include(alloc: Global, cursor: &mut Cursor) -> Result<Statement, Refusal>
     ensures { ReadsStatement cursor.new result (reader.include cursor.old) }
 {

@@ -1,7 +1,7 @@
 //! Notes, which are read and not kept. In each reader, `room` is how many more things may be open at once.
-ghost use Rattle.thf_parse.specs.Means.NoteReader as reader;
-ghost use Rattle.thf_parse.specs.Means.Outcome.{first_terminal};
-ghost use Rattle.thf_parse.specs.Means.Passes.{Passes};
+ghost use Rattle.thf_parse.specs.Internal.NoteReader as reader;
+ghost use Rattle.thf_parse.specs.Internal.Outcome.{first_terminal};
+ghost use Rattle.thf_parse.specs.Internal.Passes.{Passes};
 
 use crate::cursor::Cursor;
 use crate::refusal::Refusal;
@@ -9,7 +9,7 @@ use thf_grammar::{Mark, Terminal};
 
 /// The arguments of a name, where it has any.
 #[cycle(notes)]
-#[tactic(auto, unfolding(crate::specs::Means::NoteReader::called, crate::specs::Means::NoteReader::inner_notes))]
+#[tactic(auto, unfolding(crate::specs::Internal::NoteReader::called, crate::specs::Internal::NoteReader::inner_notes))]
 fn called(room: u32, cursor: &mut Cursor) -> Result<(), Refusal>
     ensures { Passes cursor.new result (reader.called (reader.inner_notes room) cursor.old) }
 {
@@ -27,7 +27,7 @@ fn called(room: u32, cursor: &mut Cursor) -> Result<(), Refusal>
 }
 
 #[cycle(notes)]
-#[tactic(auto, unfolding(crate::specs::Means::NoteReader::data_at))]
+#[tactic(auto, unfolding(crate::specs::Internal::NoteReader::data_at))]
 fn general_data(room: u32, cursor: &mut Cursor) -> Result<(), Refusal>
     ensures { Passes cursor.new result (reader.data_at (reader.inner_notes room) cursor.old) }
 {
@@ -46,7 +46,7 @@ fn general_data(room: u32, cursor: &mut Cursor) -> Result<(), Refusal>
 
 /// A list, from its `[` on.
 #[cycle(notes)]
-#[tactic(auto, unfolding(crate::specs::Means::NoteReader::inner_notes))]
+#[tactic(auto, unfolding(crate::specs::Internal::NoteReader::inner_notes))]
 fn list(room: u32, cursor: &mut Cursor) -> Result<(), Refusal>
     ensures { Passes cursor.new result (reader.list_at (reader.inner_notes room) cursor.old) }
 {
@@ -76,7 +76,7 @@ fn listed(room: u32, cursor: &mut Cursor) -> Result<(), Refusal>
 
 /// A colon and what follows it, where there is one.
 #[cycle(notes)]
-#[tactic(auto, unfolding(crate::specs::Means::NoteReader::paired, crate::specs::Means::NoteReader::inner_notes))]
+#[tactic(auto, unfolding(crate::specs::Internal::NoteReader::paired, crate::specs::Internal::NoteReader::inner_notes))]
 fn paired(room: u32, cursor: &mut Cursor) -> Result<(), Refusal>
     ensures { Passes cursor.new result (reader.paired (reader.inner_notes room) cursor.old) }
 {
@@ -93,7 +93,7 @@ fn paired(room: u32, cursor: &mut Cursor) -> Result<(), Refusal>
 }
 
 #[cycle(notes)]
-#[tactic(auto, unfolding(crate::specs::Means::NoteReader::general))]
+#[tactic(auto, unfolding(crate::specs::Internal::NoteReader::general))]
 fn general(room: u32, cursor: &mut Cursor) -> Result<(), Refusal>
     ensures { Passes cursor.new result (reader.general (reader.inner_notes room) cursor.old) }
 {
@@ -123,7 +123,7 @@ fn generals(room: u32, cursor: &mut Cursor) -> Result<(), Refusal>
 }
 
 /// The notes, where there are any.
-#[tactic(auto, unfolding(crate::specs::Means::NoteReader::notes))]
+#[tactic(auto, unfolding(crate::specs::Internal::NoteReader::notes))]
 pub fn notes(room: u32, cursor: &mut Cursor) -> Result<(), Refusal>
     ensures { Passes cursor.new result (reader.notes (reader.inner_notes room) cursor.old) }
 {

@@ -3,9 +3,9 @@ ghost use Rattle.std.specs.Prelude.{◌≡◌, ◌∷◌, [], ◌++◌, map, IfO
 ghost use Rattle.thf_grammar.specs.Reading.{AreTokens};
 ghost use Rattle.thf_grammar.specs.View.{the_statement, the_file};
 ghost use Rattle.thf_grammar.specs.Words.{lexemes};
-ghost use Rattle.thf_parse.specs.Means.StatementReader as reader;
+ghost use Rattle.thf_parse.specs.Internal.StatementReader as reader;
 ghost use Rattle.thf_parse.specs.Parsing.{depth_limit, HasTree, IsRefusedAt};
-ghost use Rattle.thf_parse.specs.Means.Reads.{ReadsFile};
+ghost use Rattle.thf_parse.specs.Internal.Reads.{ReadsFile};
 
 use crate::cursor::Cursor;
 use crate::refusal::Refusal;

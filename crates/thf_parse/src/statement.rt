@@ -1,8 +1,8 @@
 //! Statements.
 ghost use Rattle.std.specs.Prelude.{◌≡◌};
-ghost use Rattle.thf_parse.specs.Means.StatementReader as reader;
-ghost use Rattle.thf_parse.specs.Means.Passes.{Passes};
-ghost use Rattle.thf_parse.specs.Means.Reads.{ReadsLabel, ReadsHead, ReadsStatement};
+ghost use Rattle.thf_parse.specs.Internal.StatementReader as reader;
+ghost use Rattle.thf_parse.specs.Internal.Passes.{Passes};
+ghost use Rattle.thf_parse.specs.Internal.Reads.{ReadsLabel, ReadsHead, ReadsStatement};
 
 use crate::cursor::Cursor;
 use crate::include::{include, label, named};
@@ -41,7 +41,7 @@ fn keyword_in(text: &[u8]) -> Keyword
 }
 
 /// The keyword that is the first token.
-#[tactic(auto, unfolding(crate::specs::Means::StatementReader::keyword))]
+#[tactic(auto, unfolding(crate::specs::Internal::StatementReader::keyword))]
 fn first_keyword(cursor: &Cursor) -> Keyword
     ensures { result ≡ reader.keyword cursor.now }
 {
@@ -51,7 +51,7 @@ fn first_keyword(cursor: &Cursor) -> Keyword
     }
 }
 
-#[tactic(auto, unfolding(crate::specs::Means::StatementReader::role))]
+#[tactic(auto, unfolding(crate::specs::Internal::StatementReader::role))]
 fn role(alloc: Global, cursor: &mut Cursor) -> Result<Selected, Refusal>
     ensures { ReadsLabel cursor.new result (reader.role cursor.old) }
 {
@@ -62,7 +62,7 @@ fn role(alloc: Global, cursor: &mut Cursor) -> Result<Selected, Refusal>
 }
 
 /// An annotated formula from its parenthesis up to its body.
-#[tactic(auto, unfolding(crate::specs::Means::StatementReader::head))]
+#[tactic(auto, unfolding(crate::specs::Internal::StatementReader::head))]
 fn head(alloc: Global, cursor: &mut Cursor) -> Result<Heading, Refusal>
     ensures { ReadsHead cursor.new result (reader.head cursor.old) }
 {
@@ -78,7 +78,7 @@ fn head(alloc: Global, cursor: &mut Cursor) -> Result<Heading, Refusal>
 }
 
 /// The end of a statement.
-#[tactic(auto, unfolding(crate::specs::Means::StatementReader::finish))]
+#[tactic(auto, unfolding(crate::specs::Internal::StatementReader::finish))]
 pub fn finish(cursor: &mut Cursor) -> Result<(), Refusal>
     ensures { Passes cursor.new result (reader.finish cursor.old) }
 {
@@ -87,7 +87,7 @@ pub fn finish(cursor: &mut Cursor) -> Result<(), Refusal>
 }
 
 /// An annotated formula from its parenthesis on.
-#[tactic(auto, unfolding(crate::specs::Means::StatementReader::annotated))]
+#[tactic(auto, unfolding(crate::specs::Internal::StatementReader::annotated))]
 fn annotated(alloc: Global, room: u32, cursor: &mut Cursor) -> Result<Statement, Refusal>
     ensures { ReadsStatement cursor.new result (reader.annotated room cursor.old) }
 {
@@ -104,7 +104,7 @@ fn annotated(alloc: Global, room: u32, cursor: &mut Cursor) -> Result<Statement,
 }
 
 /// The statement that the tokens begin with, where `room` things may be open at once.
-#[tactic(auto, unfolding(crate::specs::Means::StatementReader::statement))]
+#[tactic(auto, unfolding(crate::specs::Internal::StatementReader::statement))]
 pub fn statement(alloc: Global, room: u32, cursor: &mut Cursor) -> Result<Statement, Refusal>
     ensures { ReadsStatement cursor.new result (reader.statement room cursor.old) }
 {

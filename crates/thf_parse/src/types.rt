@@ -1,6 +1,6 @@
 //! Types. In each reader, `room` is how many more things may be open at once.
-ghost use Rattle.thf_parse.specs.Means.Reader as reader;
-ghost use Rattle.thf_parse.specs.Means.Reads.{ReadsType};
+ghost use Rattle.thf_parse.specs.Internal.Reader as reader;
+ghost use Rattle.thf_parse.specs.Internal.Reads.{ReadsType};
 ghost use Rattle.thf_grammar.specs.View.{the_type};
 
 use crate::cursor::Cursor;
@@ -10,7 +10,7 @@ use thf_grammar::{Mark, SurfaceTy, Terminal};
 
 /// The type that the tokens begin with.
 #[cycle(types)]
-#[tactic(auto, unfolding(crate::specs::Means::Reader::type_with))]
+#[tactic(auto, unfolding(crate::specs::Internal::Reader::type_with))]
 pub fn type_tree(alloc: Global, room: u32, cursor: &mut Cursor) -> Result<SurfaceTy, Refusal>
     ensures { ReadsType cursor.new result (reader.type_with (reader.inner_type room) cursor.old) }
 {
@@ -23,7 +23,7 @@ pub fn type_tree(alloc: Global, room: u32, cursor: &mut Cursor) -> Result<Surfac
 
 /// The type from `left` to the one behind the arrow that the tokens begin with.
 #[cycle(types)]
-#[tactic(auto, unfolding(crate::specs::Means::Reader::inner_type))]
+#[tactic(auto, unfolding(crate::specs::Internal::Reader::inner_type))]
 fn right_type(
     alloc: Global,
     room: u32,
@@ -42,7 +42,7 @@ fn right_type(
 }
 
 #[cycle(types)]
-#[tactic(auto, unfolding(crate::specs::Means::Reader::simple_type))]
+#[tactic(auto, unfolding(crate::specs::Internal::Reader::simple_type))]
 fn simple_type(alloc: Global, room: u32, cursor: &mut Cursor) -> Result<SurfaceTy, Refusal>
     ensures { ReadsType cursor.new result (reader.simple_type (reader.inner_type room) cursor.old) }
 {
@@ -73,7 +73,7 @@ fn named_type(alloc: Global, cursor: &mut Cursor) -> Result<SurfaceTy, Refusal>
 
 /// A type in parentheses.
 #[cycle(types)]
-#[tactic(auto, unfolding(crate::specs::Means::Reader::inner_type))]
+#[tactic(auto, unfolding(crate::specs::Internal::Reader::inner_type))]
 fn group_type(alloc: Global, room: u32, cursor: &mut Cursor) -> Result<SurfaceTy, Refusal>
     ensures { ReadsType cursor.new result (reader.group_type (reader.inner_type room) cursor.old) }
 {

@@ -1,8 +1,8 @@
 //! The bodies of annotated formulas. In each reader, `room` is how many more things may be open at once.
 ghost use Rattle.thf_grammar.specs.View.{the_selected};
-ghost use Rattle.thf_parse.specs.Means.Reader.{inner_type, type_with};
-ghost use Rattle.thf_parse.specs.Means.StatementReader as reader;
-ghost use Rattle.thf_parse.specs.Means.Reads.{ReadsBody};
+ghost use Rattle.thf_parse.specs.Internal.Reader.{inner_type, type_with};
+ghost use Rattle.thf_parse.specs.Internal.StatementReader as reader;
+ghost use Rattle.thf_parse.specs.Internal.Reads.{ReadsBody};
 
 use crate::cursor::Cursor;
 use crate::formula::formula;
@@ -13,7 +13,7 @@ use std::alloc::Global;
 use thf_grammar::{Body, Mark, Selected, Terminal};
 
 /// What the name is declared as, from the colon behind it on.
-#[tactic(auto, unfolding(crate::specs::Means::StatementReader::declared))]
+#[tactic(auto, unfolding(crate::specs::Internal::StatementReader::declared))]
 fn declared(alloc: Global, room: u32, label: Selected, cursor: &mut Cursor) -> Result<Body, Refusal>
     ensures { ReadsBody cursor.new result (reader.declared (type_with (inner_type room)) (the_selected label) cursor.old) }
 {
@@ -33,7 +33,7 @@ fn declared(alloc: Global, room: u32, label: Selected, cursor: &mut Cursor) -> R
 
 /// A typing.
 #[cycle(typing)]
-#[tactic(auto, unfolding(crate::specs::Means::StatementReader::typing_with))]
+#[tactic(auto, unfolding(crate::specs::Internal::StatementReader::typing_with))]
 fn typing(alloc: Global, room: u32, cursor: &mut Cursor) -> Result<Body, Refusal>
     ensures { ReadsBody cursor.new result (reader.typing_with (type_with (inner_type room)) (reader.inner_typing room) cursor.old) }
 {
@@ -49,7 +49,7 @@ fn typing(alloc: Global, room: u32, cursor: &mut Cursor) -> Result<Body, Refusal
 
 /// A typing in parentheses.
 #[cycle(typing)]
-#[tactic(auto, unfolding(crate::specs::Means::StatementReader::inner_typing))]
+#[tactic(auto, unfolding(crate::specs::Internal::StatementReader::inner_typing))]
 fn group_typing(alloc: Global, room: u32, cursor: &mut Cursor) -> Result<Body, Refusal>
     ensures { ReadsBody cursor.new result (reader.group_typing (reader.inner_typing room) cursor.old) }
 {
@@ -63,7 +63,7 @@ fn group_typing(alloc: Global, room: u32, cursor: &mut Cursor) -> Result<Body, R
 }
 
 /// The body of an annotated formula with this role.
-#[tactic(auto, unfolding(crate::specs::Means::StatementReader::body))]
+#[tactic(auto, unfolding(crate::specs::Internal::StatementReader::body))]
 pub fn body(alloc: Global, room: u32, role: &[u8], cursor: &mut Cursor) -> Result<Body, Refusal>
     ensures { ReadsBody cursor.new result (reader.body room role.now cursor.old) }
 {

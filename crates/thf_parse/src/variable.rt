@@ -1,9 +1,9 @@
 //! The variables of binders.
 ghost use Rattle.std.specs.Prelude.{◌≡◌, [], ◌∷◌, ◌++◌, IfOk};
 ghost use Rattle.thf_grammar.specs.View.{the_var, the_vars};
-ghost use Rattle.thf_parse.specs.Means.Reader.{inner_type, type_with};
-ghost use Rattle.thf_parse.specs.Means.FormulaReader as reader;
-ghost use Rattle.thf_parse.specs.Means.Reads.{ReadsVar};
+ghost use Rattle.thf_parse.specs.Internal.Reader.{inner_type, type_with};
+ghost use Rattle.thf_parse.specs.Internal.FormulaReader as reader;
+ghost use Rattle.thf_parse.specs.Internal.Reads.{ReadsVar};
 
 use crate::cursor::Cursor;
 use crate::refusal::Refusal;
@@ -12,7 +12,7 @@ use std::alloc::{AllocError, Global};
 use thf_grammar::{Mark, SurfaceTy, SurfaceVar, SurfaceVars, Terminal};
 
 /// The variable whose name is the first token, where `room` more things may be open at once.
-#[tactic(auto, unfolding(crate::specs::Means::FormulaReader::variable_at))]
+#[tactic(auto, unfolding(crate::specs::Internal::FormulaReader::variable_at))]
 pub fn variable(alloc: Global, room: u32, cursor: &mut Cursor) -> Result<SurfaceVar, Refusal>
     ensures { ReadsVar cursor.new result (reader.variable_at (type_with (inner_type room)) cursor.old) }
 {

@@ -1,7 +1,7 @@
 //! The first of some tokens.
 ghost use Rattle.std.specs.Prelude.{◌≡◌, ℕ, List, length, slice_range, IfOk};
 ghost use Rattle.thf_grammar.specs.Words.{lexemes, unescaped, name_in};
-ghost use Rattle.thf_parse.specs.Means.Outcome as spec;
+ghost use Rattle.thf_parse.specs.Internal.Outcome as spec;
 ghost use Rattle.thf_grammar.specs.Terminals.{of_kind};
 
 use crate::terminal::terminal_of;
@@ -38,7 +38,7 @@ fn terminal(bytes: &[u8], token: &Token) -> Terminal
 }
 
 /// The terminal of the first token.
-#[tactic(auto, unfolding(crate::specs::Means::Outcome::first_terminal, thf_grammar::specs::Words::terminal_of))]
+#[tactic(auto, unfolding(crate::specs::Internal::Outcome::first_terminal, thf_grammar::specs::Words::terminal_of))]
 pub fn first_terminal(bytes: &[u8], tokens: &[Token]) -> Terminal
     ensures { result ≡ spec.first_terminal (lexemes bytes.now tokens.now) }
 {
@@ -49,7 +49,7 @@ pub fn first_terminal(bytes: &[u8], tokens: &[Token]) -> Terminal
 }
 
 /// The bytes of the first token.
-#[tactic(auto, unfolding(crate::specs::Means::Outcome::first_text))]
+#[tactic(auto, unfolding(crate::specs::Internal::Outcome::first_text))]
 pub fn first_text<'b>(bytes: &'b [u8], tokens: &[Token]) -> &'b [u8]
     ensures { result.now ≡ spec.first_text (lexemes bytes.now tokens.now) }
 {
@@ -60,7 +60,7 @@ pub fn first_text<'b>(bytes: &'b [u8], tokens: &[Token]) -> &'b [u8]
 }
 
 /// The place of the first token.
-#[tactic(auto, unfolding(crate::specs::Means::Outcome::first_place))]
+#[tactic(auto, unfolding(crate::specs::Internal::Outcome::first_place))]
 pub fn first_place(tokens: &[Token]) -> u32
     ensures { (bytes : List ℕ) → result ≡ spec.first_place (lexemes bytes tokens.now) }
 {
@@ -109,7 +109,7 @@ fn name_in(alloc: Global, kind: TokenKind, text: &[u8]) -> Result<Bytes, AllocEr
 }
 
 /// The name that the first token is.
-#[tactic(auto, unfolding(crate::specs::Means::Outcome::first_name, thf_grammar::specs::Words::name_of))]
+#[tactic(auto, unfolding(crate::specs::Internal::Outcome::first_name, thf_grammar::specs::Words::name_of))]
 pub fn first_name(alloc: Global, bytes: &[u8], tokens: &[Token]) -> Result<Bytes, AllocError>
     ensures { IfOk result (λ name. name ≡ spec.first_name (lexemes bytes.now tokens.now)) }
 {

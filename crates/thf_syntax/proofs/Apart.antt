@@ -10,7 +10,7 @@ use Rattle.thf_grammar.specs.declared.connective.Conn.TheVariants.{Not, And, Or,
 use Rattle.thf_grammar.specs.declared.connective.Binder.{Binder}
 use Rattle.thf_grammar.specs.declared.connective.Binder.TheVariants.{All, Exists, Lam, Choice, Desc}
 use Rattle.thf_syntax.specs.declared.slot.Slot.TheVariants.{Primary, Unitary, Head, Operand, Member}
-use Rattle.thf_syntax.specs.Names.{is_lower_word, quoted, name_text, label_text}
+use Rattle.thf_names.specs.Names.{is_lower_word, quoted, name_text, label_text}
 use Rattle.thf_syntax.specs.Slots.{left_slot, takes, is_simple}
 use Rattle.thf_syntax.specs.Texts.{conn_text, binder_text, truth_text, equality_text, quantifier_text}
 use Rattle.thf_syntax.proofs.Pieces.{Piece, token, is_mark, stops, begins, AreApart}

@@ -10,7 +10,7 @@ use Rattle.thf_grammar.specs.declared.terminal.Terminal.{Terminal}
 use Rattle.thf_grammar.specs.declared.terminal.Terminal.TheVariants as terminal
 use Rattle.thf_grammar.specs.Terminals.{of_kind}
 use Rattle.thf_grammar.specs.Words.{Word, terminal_of, name_of, name_in, Is, IsName, lower, quoted, name}
-use Rattle.thf_syntax.specs.Names as spec
+use Rattle.thf_names.specs.Names as spec
 use Rattle.thf_syntax.specs.Texts.{conn_text, binder_text, truth_text, equality_text, quantifier_text}
 use Rattle.thf_syntax.proofs.Pieces.{Piece, word_at, words_at}
 use Rattle.thf_syntax.proofs.Printed.{name_kind}

@@ -13,7 +13,7 @@ use Rattle.std.proofs.lemmas.List.Sums.{list_all-from_AllPass}
 use Rattle.thf_grammar.specs.declared.token.TokenKind.{TokenKind}
 use Rattle.thf_grammar.specs.declared.token.TokenKind.TheVariants.{Lower, Upper, Quoted, Dollar, Integer, Distinct, Symbol, End, Bad}
 use Rattle.thf_grammar.specs.Bytes.{is_white_space, is_word_byte, is_sign, backslash, single_quote, double_quote}
-use Rattle.thf_grammar.specs.Means.Kind.{kind_of}
+use Rattle.thf_grammar.specs.Internal.Kind.{kind_of}
 use Rattle.thf_grammar.specs.Texts.{IsToken, IsQuotedBy, AreCharacters, none, plain, escape, is_symbol, symbols}
 use Rattle.thf_grammar.specs.Longest.{IsLongestToken, IsLongestGap}
 use Rattle.thf_grammar.specs.Reading as reading

@@ -1,10 +1,10 @@
+pub mod Lists
 pub mod Apart
 pub mod FormulaFound
 pub mod Found
 pub mod GrammarProper
 pub mod LawProofs
 pub mod Lexed
-pub mod Lists
 pub mod Pieces
 pub mod Placed
 pub mod Places
@@ -16,4 +16,3 @@ pub mod Spelling
 pub mod StatementFound
 pub mod TypeFound
 pub mod WordNames
-pub mod Writes

@@ -3,7 +3,7 @@ use Rattle.std.proofs.Common.{◌≡◌, ℕ, List, [], ◌∷◌, ◌++◌, map
 use Rattle.thf_grammar.specs.Trees.{TypeTree, form, indiv, named, arrow, VarTree, FormulaTree, constant, variable, truth, operator, negation, binary, equation, application, quantified, binding, BodyTree, base, typing, formula, SelectedTree, StatementTree, annotated, include}
 use Rattle.thf_syntax.specs.declared.slot.Slot.{Slot}
 use Rattle.thf_syntax.specs.declared.slot.Slot.TheVariants.{Primary, Unitary, Head, Operand, Member}
-use Rattle.thf_syntax.specs.Names.{quoted, name_text, label_text}
+use Rattle.thf_names.specs.Names.{quoted, name_text, label_text}
 use Rattle.thf_syntax.specs.Slots.{left_slot, takes, is_simple}
 use Rattle.thf_syntax.specs.Texts.{grouped_unless, separated, type_text, var_text, conn_text, binder_text, equality_text, quantifier_text, infixed, formula_text, body_text, selected_text, selection_text, heading_text, statement_text, surface_text}
 use Rattle.thf_syntax.specs.Places.{bare_type, bare_var, bare_formula, bare_body, bare_selected, bare_selection, bare_statement, SamePlacesAside}

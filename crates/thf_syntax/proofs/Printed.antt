@@ -7,7 +7,7 @@ use Rattle.thf_grammar.specs.declared.connective.Conn.{Conn}
 use Rattle.thf_grammar.specs.Formulas.{is_chained, lone_depth}
 use Rattle.thf_syntax.specs.declared.slot.Slot.{Slot}
 use Rattle.thf_syntax.specs.declared.slot.Slot.TheVariants.{Primary, Unitary, Head, Operand, Member}
-use Rattle.thf_syntax.specs.Names.{is_lower_word, is_integer, quoted, name_text, label_text}
+use Rattle.thf_names.specs.Names.{is_lower_word, is_integer, quoted, name_text, label_text}
 use Rattle.thf_syntax.specs.Slots.{left_slot, takes_binary, takes, is_simple}
 use Rattle.thf_syntax.specs.Texts.{conn_text, binder_text, truth_text, equality_text, quantifier_text}
 use Rattle.thf_syntax.proofs.Pieces.{Piece, token, gap}

@@ -2,7 +2,7 @@
 use Rattle.std.proofs.Common.{◌≡◌, ℕ, suc, Bool, true, false, List, [], ◌∷◌, ◌++◌, map, Option, Some, None, codes, refl, sym, ap, ◌∙◌, append_assoc}
 use Rattle.thf_grammar.specs.Trees.{TypeTree, form, indiv, named, arrow, VarTree, FormulaTree, constant, variable, truth, operator, negation, binary, equation, application, quantified, binding, BodyTree, base, typing, formula, AnnotatedTree, SelectedTree, StatementTree, annotated, include}
 use Rattle.thf_syntax.specs.declared.slot.Slot.TheVariants.{Primary, Unitary, Head, Operand, Member}
-use Rattle.thf_syntax.specs.Names.{quoted, name_text, label_text}
+use Rattle.thf_names.specs.Names.{quoted, name_text, label_text}
 use Rattle.thf_syntax.specs.Slots.{left_slot, takes, is_simple}
 use Rattle.thf_syntax.specs.Texts.{grouped_unless, separated, type_text, var_text, conn_text, binder_text, equality_text, quantifier_text, behind_symbol, infixed, opening_text, formula_text, body_text, selected_text, selection_text, heading_text, annotated_text, statement_text, surface_text}
 use Rattle.thf_syntax.proofs.Pieces.{Piece, bytes_of}

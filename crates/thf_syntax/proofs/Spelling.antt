@@ -10,7 +10,7 @@ use Rattle.thf_grammar.specs.declared.token.TokenKind.TheVariants.{Lower, Quoted
 use Rattle.thf_grammar.specs.Bytes.{single_quote, backslash, is_word_byte, is_sign}
 use Rattle.thf_grammar.specs.Texts.{IsToken, IsInteger, IsDigits, AreCharacters, none, plain, escape}
 use Rattle.thf_grammar.specs.Words.{unescaped, name_in}
-use Rattle.thf_syntax.specs.Names.{is_lower_word, are_digits, is_integer, escaped, quoted, name_text, label_text}
+use Rattle.thf_names.specs.Names.{is_lower_word, are_digits, is_integer, escaped, quoted, name_text, label_text}
 use Rattle.thf_syntax.proofs.Printed.{name_kind, label_kind}
 
 -- a character that may stand between quotes

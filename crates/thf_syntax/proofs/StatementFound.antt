@@ -8,7 +8,7 @@ use Rattle.thf_grammar.specs.Words.{name}
 use Rattle.thf_grammar.specs.Notes.{no_notes}
 use Rattle.thf_grammar.specs.Statements as grammar
 use Rattle.thf_grammar.specs.Statements.{IsLabel, IsKeyword, selected, IsTyping, IsBody, AreLabels, IsSelection, IsEnd, IsStatement, IsFile}
-use Rattle.thf_syntax.specs.Names as spec
+use Rattle.thf_names.specs.Names as spec
 use Rattle.thf_syntax.specs.Places.{bare_body, bare_selected, bare_selection, bare_statement}
 use Rattle.thf_syntax.proofs.Pieces.{Piece, token, word_at, words_at}
 use Rattle.thf_syntax.proofs.Printed.{label_kind, body_pieces, labels_pieces, selection_pieces, end_pieces, statement_pieces, file_pieces}

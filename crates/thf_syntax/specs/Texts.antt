@@ -7,7 +7,7 @@ use Rattle.thf_grammar.specs.declared.connective.Conn.TheVariants.{Not, And, Or,
 use Rattle.thf_grammar.specs.declared.connective.Binder.{Binder}
 use Rattle.thf_grammar.specs.declared.connective.Binder.TheVariants.{All, Exists, Lam, Choice, Desc}
 use Rattle.thf_syntax.specs.declared.slot.Slot.TheVariants.{Primary, Unitary, Head, Operand, Member}
-use Rattle.thf_syntax.specs.Names.{quoted, name_text, label_text}
+use Rattle.thf_names.specs.Names.{quoted, name_text, label_text}
 use Rattle.thf_syntax.specs.Slots.{left_slot, takes, is_simple}
 
 -- a text, in parentheses unless it needs none

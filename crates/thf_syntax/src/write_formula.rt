@@ -6,9 +6,9 @@ ghost use Rattle.thf_syntax.specs.Slots.{takes};
 ghost use Rattle.thf_syntax.specs.Texts as spec;
 ghost use Rattle.outside.specs.Writing.{Took, Stopped};
 
-use crate::names::write_name;
+use thf_names::write_name;
 use crate::slot::Slot;
-use crate::write_bytes::{write, write_between};
+use thf_names::{write, write_between};
 use crate::write_types::write_vars;
 use outside::{Failed, Sink};
 use thf_grammar::{Binder, Conn, Surface, SurfaceVar};

@@ -5,12 +5,12 @@ ghost use Rattle.outside.specs.Causes.{Rose};
 ghost use Rattle.outside.specs.Prefix.{AppendsProperly};
 ghost use Rattle.thf_grammar.specs.View.{the_type, the_body, the_annotated, the_selected, the_selection, the_statement, the_file};
 ghost use Rattle.thf_syntax.specs.Law.{HasTokens, AppendsTextOf};
-ghost use Rattle.thf_syntax.specs.Names.{name_text};
+ghost use Rattle.thf_names.specs.Names.{name_text};
 ghost use Rattle.thf_syntax.specs.Texts as spec;
 ghost use Rattle.outside.specs.Writing.{Took, Stopped};
 
-use crate::names::{write_label, write_name, write_quoted};
-use crate::write_bytes::{write, write_between};
+use thf_names::{write_label, write_name, write_quoted};
+use thf_names::{write, write_between};
 use crate::write_formula::write_formula;
 use crate::write_types::write_type;
 use outside::{Failed, Sink};

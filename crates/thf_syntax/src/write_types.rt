@@ -6,8 +6,8 @@ ghost use Rattle.thf_syntax.specs.Slots.{is_simple};
 ghost use Rattle.thf_syntax.specs.Texts.{type_text, var_text, separated, grouped_unless};
 ghost use Rattle.outside.specs.Writing.{Took, Stopped};
 
-use crate::names::write_name;
-use crate::write_bytes::write;
+use thf_names::write_name;
+use thf_names::write;
 use outside::{Failed, Sink};
 use thf_grammar::{SurfaceTy, SurfaceVar};
 

@@ -7,30 +7,30 @@ use Rattle.stt_core.specs.Lambda.{name, witness, falsity, negation, implication,
 use Rattle.stt_core.specs.Depth.{depth}
 use Rattle.stt_core.specs.Typing.{type_of}
 use Rattle.stt_core.specs.SameTerm.{same_term}
-use Rattle.stt_tableau.specs.Literals.{Literal, plus, minus}
-use Rattle.stt_tableau.specs.Start.{has}
-use Rattle.stt_tableau.specs.Witnesses.{Row}
-use Rattle.search_run.specs.Each.{Each}
-use Rattle.search_run.specs.Clauses.{instance_clauses, with_clauses}
-use Rattle.search_run.specs.Unsatisfiable.{formulas}
-use Rattle.search_run.specs.Heads.{target, heads_for}
-use Rattle.search_run.specs.Partial.{first_hole, whole, blank}
-use Rattle.search_run.specs.Shallow.{is_shallow, is_shallow_literal}
-use Rattle.search_run.specs.Queue.{Waiting, waiting, is_before, first_of, next_command, without}
-use Rattle.search_run.specs.Closed.{is_closed}
-use Rattle.search_run.specs.State.{State, Setting, Typed, Sketch, Command, process, mate, confront, inst, choose, describe, grow, due, pushed, scope_in}
-use Rattle.search_run.specs.Spine.{head_of, arguments, is_spine, same_head}
-use Rattle.search_run.specs.Alternatives.{Alternatives, imp_pos, imp_neg, bool_pos, bool_neg, fun_pos, fun_neg, all_pos, all_neg, differ, con, cho, des}
-use Rattle.search_run.specs.Instances.{with_literal, with_literals, with_instance}
-use Rattle.search_run.specs.Terms.{terms_of, ranges_over, universals, with_term, with_terms, first_terms, opened, prepared}
-use Rattle.search_run.specs.Partners.{partners, positive_first, matings, confrontations}
-use Rattle.search_run.specs.Selections.{Selection, by_choice, by_description, selection_by, selections_in, with_selection, with_selections}
-use Rattle.search_run.specs.Witness.{same_row, witness_of, has_hole_of, with_new_witness, witnessed}
-use Rattle.search_run.specs.Processing.{decomposed, confronted, equated, quantified, mated, worked, processed}
-use Rattle.search_run.specs.Commands.{confronted_pair, instantiated, grown, grown_by, carried_out}
-use Rattle.search_run.specs.After.{nothing_yet, started, after_command, stepped, after}
-use Rattle.search_run.proofs.NamingLaws.{StandFor, each-joined, pick_good, instance_clauses_good, with_clauses_good}
-use Rattle.search_run.proofs.TypedPushes.{each_filtered, each_mapped}
+use Rattle.tableau_calculus.specs.Literals.{Literal, plus, minus}
+use Rattle.tableau_calculus.specs.Start.{has}
+use Rattle.tableau_calculus.specs.Witnesses.{Row}
+use Rattle.search_spec.specs.Each.{Each}
+use Rattle.search_spec.specs.Clauses.{instance_clauses, with_clauses}
+use Rattle.search_spec.specs.Unsatisfiable.{formulas}
+use Rattle.search_spec.specs.Heads.{target, heads_for}
+use Rattle.search_spec.specs.Partial.{first_hole, whole, blank}
+use Rattle.search_spec.specs.Shallow.{is_shallow, is_shallow_literal}
+use Rattle.search_spec.specs.Queue.{Waiting, waiting, is_before, first_of, next_command, without}
+use Rattle.search_spec.specs.Closed.{is_closed}
+use Rattle.search_spec.specs.State.{State, Setting, Typed, Sketch, Command, process, mate, confront, inst, choose, describe, grow, due, pushed, scope_in}
+use Rattle.search_spec.specs.Spine.{head_of, arguments, is_spine, same_head}
+use Rattle.search_spec.specs.Alternatives.{Alternatives, imp_pos, imp_neg, bool_pos, bool_neg, fun_pos, fun_neg, all_pos, all_neg, differ, con, cho, des}
+use Rattle.search_spec.specs.Instances.{with_literal, with_literals, with_instance}
+use Rattle.search_spec.specs.Terms.{terms_of, ranges_over, universals, with_term, with_terms, first_terms, opened, prepared}
+use Rattle.search_spec.specs.Partners.{partners, positive_first, matings, confrontations}
+use Rattle.search_spec.specs.Selections.{Selection, by_choice, by_description, selection_by, selections_in, with_selection, with_selections}
+use Rattle.search_spec.specs.Witness.{same_row, witness_of, has_hole_of, with_new_witness, witnessed}
+use Rattle.search_spec.specs.Processing.{decomposed, confronted, equated, quantified, mated, worked, processed}
+use Rattle.search_spec.specs.Commands.{confronted_pair, instantiated, grown, grown_by, carried_out}
+use Rattle.search_spec.specs.After.{nothing_yet, started, after_command, stepped, after}
+use Rattle.search_spec.proofs.NamingLaws.{StandFor, each-joined, pick_good, instance_clauses_good, with_clauses_good}
+use Rattle.search_spec.proofs.TypedPushes.{each_filtered, each_mapped}
 use Rattle.type_bound.specs.Deep.{IsFlat, IsFlatCommand, IsFlatState}
 
 each_waiting : (P : Command → Type 0) (d : Command → ℕ) (n : ℕ) (cs : List Command) → Each P cs → Each (λ q. P q.command) (waiting d n cs)

@@ -6,25 +6,25 @@ use Rattle.stt_core.specs.SimpleType.{SimpleType, base, arrow, formula}
 use Rattle.stt_core.specs.Lambda.{falsity, implication, all, equality, Lambda, constant, app, imp, eq, every}
 use Rattle.stt_core.specs.Typing.{type_of}
 use Rattle.stt_core.specs.SameTerm.{same_term}
-use Rattle.stt_tableau.specs.Literals.{Literal, plus, minus}
-use Rattle.stt_tableau.specs.Witnesses.{Row}
-use Rattle.search_run.specs.Each.{Each}
-use Rattle.search_run.specs.Heads.{target}
-use Rattle.search_run.specs.Shallow.{is_shallow, is_shallow_literal}
-use Rattle.search_run.specs.Queue.{Waiting, is_before, first_of, next_command, without}
-use Rattle.search_run.specs.State.{State, Setting, Sketch, Command, process, mate, confront, inst, choose, describe, grow, pushed, scope_in}
-use Rattle.search_run.specs.Spine.{head_of, arguments, is_spine, same_head}
-use Rattle.search_run.specs.Alternatives.{imp_pos, imp_neg, bool_pos, bool_neg, fun_pos, fun_neg, all_pos, all_neg, differ, con, cho, des}
-use Rattle.search_run.specs.Instances.{with_instance}
-use Rattle.search_run.specs.Terms.{terms_of, with_term, prepared}
-use Rattle.search_run.specs.Partners.{matings, confrontations}
-use Rattle.search_run.specs.Selections.{selections_in}
-use Rattle.search_run.specs.Witness.{same_row, witness_of, has_hole_of, with_new_witness, witnessed}
-use Rattle.search_run.specs.Processing.{decomposed, confronted, equated, quantified, mated, worked, processed}
-use Rattle.search_run.specs.Commands.{mated_pair, confronted_pair, instantiated, carried_out}
-use Rattle.search_run.specs.After.{nothing_yet, started, after_command, stepped, after}
-use Rattle.search_run.proofs.NamingLaws.{each-joined, pick_good}
-use Rattle.search_run.proofs.TypedPushes.{each_filtered, each_mapped}
+use Rattle.tableau_calculus.specs.Literals.{Literal, plus, minus}
+use Rattle.tableau_calculus.specs.Witnesses.{Row}
+use Rattle.search_spec.specs.Each.{Each}
+use Rattle.search_spec.specs.Heads.{target}
+use Rattle.search_spec.specs.Shallow.{is_shallow, is_shallow_literal}
+use Rattle.search_spec.specs.Queue.{Waiting, is_before, first_of, next_command, without}
+use Rattle.search_spec.specs.State.{State, Setting, Sketch, Command, process, mate, confront, inst, choose, describe, grow, pushed, scope_in}
+use Rattle.search_spec.specs.Spine.{head_of, arguments, is_spine, same_head}
+use Rattle.search_spec.specs.Alternatives.{imp_pos, imp_neg, bool_pos, bool_neg, fun_pos, fun_neg, all_pos, all_neg, differ, con, cho, des}
+use Rattle.search_spec.specs.Instances.{with_instance}
+use Rattle.search_spec.specs.Terms.{terms_of, with_term, prepared}
+use Rattle.search_spec.specs.Partners.{matings, confrontations}
+use Rattle.search_spec.specs.Selections.{selections_in}
+use Rattle.search_spec.specs.Witness.{same_row, witness_of, has_hole_of, with_new_witness, witnessed}
+use Rattle.search_spec.specs.Processing.{decomposed, confronted, equated, quantified, mated, worked, processed}
+use Rattle.search_spec.specs.Commands.{mated_pair, confronted_pair, instantiated, carried_out}
+use Rattle.search_spec.specs.After.{nothing_yet, started, after_command, stepped, after}
+use Rattle.search_spec.proofs.NamingLaws.{each-joined, pick_good}
+use Rattle.search_spec.proofs.TypedPushes.{each_filtered, each_mapped}
 use Rattle.type_bound.specs.Types.{nesting}
 use Rattle.type_bound.specs.Modest.{IsModest, IsModestLiteral, IsModestPartial, IsModestRow, IsModestCommand, IsModestState, IsModestSetting}
 use Rattle.type_bound.proofs.ModestTerms.{head_of_keeps, arguments_keep, head_shallow, imp_pos_keeps, imp_neg_keeps, bool_pos_keeps, bool_neg_keeps, fun_pos_keeps, fun_neg_keeps, all_pos_keeps, all_neg_keeps, differ_keeps, con_keeps, cho_keeps, des_keeps}

@@ -7,28 +7,28 @@ use Rattle.stt_core.specs.SimpleType.{SimpleType, base, arrow, formula, same_typ
 use Rattle.stt_core.specs.Lambda.{name, witness, falsity, negation, implication, all, equality, choice, description, Lambda, bound, constant, lam, app, IsLeaf}
 use Rattle.stt_core.specs.Typing.{Scope, type_of}
 use Rattle.stt_core.specs.SameTerm.{same_term}
-use Rattle.search_run.specs.Closed.{is_closed}
+use Rattle.search_spec.specs.Closed.{is_closed}
 use Rattle.stt_core.proofs.SameTerms.{same_term-true}
-use Rattle.stt_tableau.specs.Literals.{Literal}
-use Rattle.stt_tableau.specs.Start.{has}
-use Rattle.stt_tableau.specs.Witnesses.{Row}
-use Rattle.search_run.specs.Each.{Each}
-use Rattle.search_run.specs.Shallow.{is_shallow_literal}
-use Rattle.search_run.specs.Clauses.{instance_clauses, with_clauses}
-use Rattle.search_run.specs.Unsatisfiable.{formulas}
-use Rattle.search_run.specs.Queue.{waiting}
-use Rattle.search_run.specs.State.{State, Setting, Typed, Sketch, Command, process, mate, confront, inst, choose, describe, grow, due, pushed, scope_in}
-use Rattle.search_run.specs.Spine.{head_of, has_compared_head, same_head}
-use Rattle.search_run.specs.Alternatives.{Alternatives}
-use Rattle.search_run.specs.Instances.{with_literal, with_literals, with_instance}
-use Rattle.search_run.specs.Heads.{places_to, bases_from, logical_heads, heads_for}
-use Rattle.search_run.specs.Partial.{Partial, hole, head, function, application, Hole, or_else, first_hole, in_first, filled, whole, blank, with_holes}
-use Rattle.search_run.specs.Terms.{terms_of, ranges_over, universals, with_term, with_terms, first_terms, opened, prepared}
-use Rattle.search_run.specs.Partners.{partners, positive_first, matings, confrontations}
-use Rattle.search_run.specs.Selections.{Selection, by_choice, by_description, selection_by, selections_in, with_selection, with_selections}
-use Rattle.search_run.specs.Commands.{grown, filled_at, grown_by}
-use Rattle.search_run.proofs.NamingLaws.{StandFor, each-joined, pick_good, instance_clauses_good, with_clauses_good}
-use Rattle.search_run.proofs.TypedPushes.{each_filtered, each_mapped}
+use Rattle.tableau_calculus.specs.Literals.{Literal}
+use Rattle.tableau_calculus.specs.Start.{has}
+use Rattle.tableau_calculus.specs.Witnesses.{Row}
+use Rattle.search_spec.specs.Each.{Each}
+use Rattle.search_spec.specs.Shallow.{is_shallow_literal}
+use Rattle.search_spec.specs.Clauses.{instance_clauses, with_clauses}
+use Rattle.search_spec.specs.Unsatisfiable.{formulas}
+use Rattle.search_spec.specs.Queue.{waiting}
+use Rattle.search_spec.specs.State.{State, Setting, Typed, Sketch, Command, process, mate, confront, inst, choose, describe, grow, due, pushed, scope_in}
+use Rattle.search_spec.specs.Spine.{head_of, has_compared_head, same_head}
+use Rattle.search_spec.specs.Alternatives.{Alternatives}
+use Rattle.search_spec.specs.Instances.{with_literal, with_literals, with_instance}
+use Rattle.search_spec.specs.Heads.{places_to, bases_from, logical_heads, heads_for}
+use Rattle.search_spec.specs.Partial.{Partial, hole, head, function, application, Hole, or_else, first_hole, in_first, filled, whole, blank, with_holes}
+use Rattle.search_spec.specs.Terms.{terms_of, ranges_over, universals, with_term, with_terms, first_terms, opened, prepared}
+use Rattle.search_spec.specs.Partners.{partners, positive_first, matings, confrontations}
+use Rattle.search_spec.specs.Selections.{Selection, by_choice, by_description, selection_by, selections_in, with_selection, with_selections}
+use Rattle.search_spec.specs.Commands.{grown, filled_at, grown_by}
+use Rattle.search_spec.proofs.NamingLaws.{StandFor, each-joined, pick_good, instance_clauses_good, with_clauses_good}
+use Rattle.search_spec.proofs.TypedPushes.{each_filtered, each_mapped}
 use Rattle.type_bound.specs.Types.{nesting, IsShallowType}
 use Rattle.type_bound.specs.Modest.{IsModest, IsModestLiteral, IsModestPartial, IsModestRow, IsModestCommand, IsModestState, IsModestSetting}
 use Rattle.type_bound.proofs.ModestTerms.{leaf_shallow}

@@ -4,13 +4,13 @@ use Rattle.stt_core.specs.SimpleType.{SimpleType, base, arrow, formula, predicat
 use Rattle.stt_core.specs.Lambda.{Constant, name, witness, falsity, negation, implication, all, equality, choice, description, Lambda, bound, constant, lam, app, IsLeaf}
 use Rattle.stt_core.specs.Typing.{Scope, constant_type, type_of}
 use Rattle.stt_core.specs.Lift.{lift}
-use Rattle.stt_normal.specs.Normal.{Way, eta, later, by_first, ways_at, ways_of, put, replace, apply_by, ways, apply}
-use Rattle.stt_tableau.specs.Literals.{as_literal}
-use Rattle.stt_tableau.specs.Rules.{at_new, agreement, nowhere, chosen, at_most_once, described, differ_each}
-use Rattle.search_run.specs.Each.{Each}
-use Rattle.search_run.specs.Spine.{head_of, arguments, is_compared, has_compared_head}
-use Rattle.search_run.specs.Alternatives.{Alternatives, imp_pos, imp_neg, bool_pos, bool_neg, fun_pos, fun_neg, all_pos, all_neg, differ, con, cho, des}
-use Rattle.search_run.proofs.NamingLaws.{each-joined}
+use Rattle.normal_forms.specs.Normal.{Way, eta, later, by_first, ways_at, ways_of, put, replace, apply_by, ways, apply}
+use Rattle.tableau_calculus.specs.Literals.{as_literal}
+use Rattle.tableau_calculus.specs.Rules.{at_new, agreement, nowhere, chosen, at_most_once, described, differ_each}
+use Rattle.search_spec.specs.Each.{Each}
+use Rattle.search_spec.specs.Spine.{head_of, arguments, is_compared, has_compared_head}
+use Rattle.search_spec.specs.Alternatives.{Alternatives, imp_pos, imp_neg, bool_pos, bool_neg, fun_pos, fun_neg, all_pos, all_neg, differ, con, cho, des}
+use Rattle.search_spec.proofs.NamingLaws.{each-joined}
 use Rattle.type_bound.specs.Types.{nesting, IsShallowType}
 use Rattle.type_bound.specs.Modest.{IsModestConstant, IsModest, IsModestLiteral}
 

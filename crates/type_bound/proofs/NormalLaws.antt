@@ -4,7 +4,7 @@ use Rattle.stt_core.specs.SimpleType.{SimpleType, base, arrow}
 use Rattle.stt_core.specs.Lambda.{Lambda, bound, constant, lam, app}
 use Rattle.stt_core.specs.Typing.{Scope, constant_type}
 use Rattle.stt_core.specs.Lift.{lift}
-use Rattle.stt_normal.specs.Normal.{Way, eta, later, by_first, ways_at, ways_of, put, replace, apply_by, ways, apply, eta_if, normal_form}
+use Rattle.normal_forms.specs.Normal.{Way, eta, later, by_first, ways_at, ways_of, put, replace, apply_by, ways, apply, eta_if, normal_form}
 use Rattle.type_bound.specs.Types.{nesting, IsShallowType, HasShallowTypes, AreShallowTypes, NormalFormsKeepTypes}
 
 module _ (limit : ℕ) (scope : Scope) where

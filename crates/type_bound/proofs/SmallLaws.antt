@@ -3,13 +3,13 @@ use Rattle.std.proofs.Common.{◌≡◌, ◌≤◌, ℕ, suc, max, List, [], ◌
 use Rattle.stt_core.specs.SimpleType.{SimpleType, base, arrow}
 use Rattle.stt_core.specs.Lambda.{Constant, name, witness, falsity, negation, implication, all, equality, choice, description, Lambda, bound, constant, lam, app}
 use Rattle.stt_core.specs.Depth.{depth}
-use Rattle.stt_tableau.specs.Literals.{Literal}
-use Rattle.stt_tableau.specs.Witnesses.{Row}
-use Rattle.search_run.specs.Each.{Each}
-use Rattle.search_run.specs.Queue.{Waiting}
-use Rattle.search_run.specs.State.{State, Command, process, mate, confront, inst, choose, describe, grow}
-use Rattle.written_refutation.specs.Sizes.{IsSmallTerm, type_depth, nesting_in}
-use Rattle.written_refutation.specs.Sizes as sizes
+use Rattle.tableau_calculus.specs.Literals.{Literal}
+use Rattle.tableau_calculus.specs.Witnesses.{Row}
+use Rattle.search_spec.specs.Each.{Each}
+use Rattle.search_spec.specs.Queue.{Waiting}
+use Rattle.search_spec.specs.State.{State, Command, process, mate, confront, inst, choose, describe, grow}
+use Rattle.refute_print.specs.Sizes.{IsSmallTerm, type_depth, nesting_in}
+use Rattle.refute_print.specs.Sizes as sizes
 use Rattle.type_bound.specs.Types.{nesting}
 use Rattle.type_bound.specs.Modest.{IsModestConstant, IsModest, IsModestLiteral, IsModestRow, IsModestCommand, IsModestState}
 use Rattle.type_bound.specs.Deep.{IsFlat, IsFlatCommand, IsFlatState}

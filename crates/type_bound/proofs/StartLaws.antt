@@ -4,12 +4,12 @@ use Rattle.stt_core.specs.SimpleType.{SimpleType}
 use Rattle.stt_core.specs.Lambda.{Lambda, bound, constant, lam, app}
 use Rattle.stt_core.specs.Typing.{Scope, constant_type}
 use Rattle.stt_core.specs.Declarations.{scope_of}
-use Rattle.stt_normal.specs.Normal.{eta_if, normal_form}
-use Rattle.stt_tableau.specs.Literals.{Literal}
-use Rattle.stt_tableau.specs.Start.{has, added, normal_literal, denied}
-use Rattle.search_run.specs.Each.{Each}
-use Rattle.search_run.proofs.NamingLaws.{each-joined, pick_good}
-use Rattle.search_run.proofs.TypedPushes.{each_mapped}
+use Rattle.normal_forms.specs.Normal.{eta_if, normal_form}
+use Rattle.tableau_calculus.specs.Literals.{Literal}
+use Rattle.tableau_calculus.specs.Start.{has, added, normal_literal, denied}
+use Rattle.search_spec.specs.Each.{Each}
+use Rattle.search_spec.proofs.NamingLaws.{each-joined, pick_good}
+use Rattle.search_spec.proofs.TypedPushes.{each_mapped}
 use Rattle.type_bound.specs.Types.{nesting, IsShallowType}
 use Rattle.type_bound.specs.Modest.{IsModest, IsModestLiteral, IsModestIfAny, StartsKeepTypes}
 use Rattle.type_bound.proofs.ModestTerms.{apply_keeps, eta_keeps, as_literal_keeps, at_shallow, constant_shallow}

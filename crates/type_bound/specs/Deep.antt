@@ -1,10 +1,10 @@
 -- States of the search whose terms are no deeper than those of a text may be.
 use Rattle.std.specs.Prelude.{◌≡◌, ◌≤◌, ℕ, List, Some}
 use Rattle.stt_core.specs.Depth.{depth}
-use Rattle.stt_tableau.specs.Literals.{Literal}
-use Rattle.search_run.specs.Each.{Each}
-use Rattle.search_run.specs.State.{State, Setting, Command, process, mate, confront, inst, choose, describe, grow}
-use Rattle.search_run.specs.After.{after}
+use Rattle.tableau_calculus.specs.Literals.{Literal}
+use Rattle.search_spec.specs.Each.{Each}
+use Rattle.search_spec.specs.State.{State, Setting, Command, process, mate, confront, inst, choose, describe, grow}
+use Rattle.search_spec.specs.After.{after}
 
 abbrev pub IsFlat : Literal → Type 0
 IsFlat l = depth l.atom ≤ 4096

@@ -3,14 +3,14 @@ use Rattle.std.specs.Prelude.{◌≡◌, ◌≤◌, ℕ, suc, true, List, Option
 use Rattle.stt_core.specs.Lambda.{Constant, name, witness, falsity, negation, implication, all, equality, choice, description, Lambda, bound, constant, lam, app, IsLeaf}
 use Rattle.stt_core.specs.PlainProblem.{PlainProblem}
 use Rattle.stt_core.specs.Declarations.{scope_of}
-use Rattle.stt_tableau.specs.Literals.{Literal}
-use Rattle.stt_tableau.specs.Start.{start}
-use Rattle.stt_tableau.specs.Witnesses.{Row}
-use Rattle.search_run.specs.Each.{Each}
-use Rattle.search_run.specs.Spine.{head_of, has_compared_head}
-use Rattle.search_run.specs.Partial.{Partial, hole, head, function, application}
-use Rattle.search_run.specs.State.{State, Setting, Command, process, mate, confront, inst, choose, describe, grow}
-use Rattle.search_run.specs.After.{after}
+use Rattle.tableau_calculus.specs.Literals.{Literal}
+use Rattle.tableau_calculus.specs.Start.{start}
+use Rattle.tableau_calculus.specs.Witnesses.{Row}
+use Rattle.search_spec.specs.Each.{Each}
+use Rattle.search_spec.specs.Spine.{head_of, has_compared_head}
+use Rattle.search_spec.specs.Partial.{Partial, hole, head, function, application}
+use Rattle.search_spec.specs.State.{State, Setting, Command, process, mate, confront, inst, choose, describe, grow}
+use Rattle.search_spec.specs.After.{after}
 use Rattle.type_bound.specs.Types.{nesting}
 
 -- A constant's own type nests no deeper than so much, one less for a choice or a description: its predicate's type may be one of an equation.

@@ -1,10 +1,10 @@
 -- States of the search whose terms are small enough for a text.
 use Rattle.std.specs.Prelude.{◌≡◌, ◌≤◌, ℕ, List, Some}
-use Rattle.stt_tableau.specs.Literals.{Literal}
-use Rattle.search_run.specs.Each.{Each}
-use Rattle.search_run.specs.State.{State, Setting, Command, process, mate, confront, inst, choose, describe, grow}
-use Rattle.search_run.specs.After.{after}
-use Rattle.written_refutation.specs.Sizes.{type_limit, type_depth, IsSmallTerm}
+use Rattle.tableau_calculus.specs.Literals.{Literal}
+use Rattle.search_spec.specs.Each.{Each}
+use Rattle.search_spec.specs.State.{State, Setting, Command, process, mate, confront, inst, choose, describe, grow}
+use Rattle.search_spec.specs.After.{after}
+use Rattle.refute_print.specs.Sizes.{type_limit, type_depth, IsSmallTerm}
 use Rattle.type_bound.specs.Modest.{IsModestLiteral, IsModestSetting}
 
 abbrev pub IsSmallLiteral : Literal → Type 0

@@ -3,7 +3,7 @@ use Rattle.std.specs.Prelude.{ℕ, suc, max, ◌≤◌, List, [], ◌∷◌, Opt
 use Rattle.stt_core.specs.SimpleType.{SimpleType, base, arrow}
 use Rattle.stt_core.specs.Lambda.{Lambda, bound, constant, lam, app}
 use Rattle.stt_core.specs.Typing.{Scope, constant_type}
-use Rattle.stt_normal.specs.Normal.{normal_form}
+use Rattle.normal_forms.specs.Normal.{normal_form}
 
 -- how many types of functions stand one inside the other
 abbrev pub nesting : SimpleType → ℕ

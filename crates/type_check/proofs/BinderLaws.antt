@@ -6,7 +6,7 @@ use Rattle.stt_core.specs.Declarations.{Declarations}
 use Rattle.thf_grammar.specs.Trees.{VarTree}
 use Rattle.thf_grammar.specs.declared.connective.Binder.{Binder}
 use Rattle.type_check.specs.Outcome.{IllPlace, ◌>>=◌}
-use Rattle.type_check.specs.Means.Answers.{Refuses}
+use Rattle.type_check.specs.Internal.Answers.{Refuses}
 use Rattle.type_check.specs.Types.{read_type}
 use Rattle.type_check.specs.Terms.{TermReading, bind, read_binder}
 use Rattle.type_check.specs.declared.refusal.Refusal.{Refusal}

@@ -16,7 +16,7 @@ use Rattle.thf_include.specs.View.{PlacedTree}
 use Rattle.type_check.specs.Types.{read_type}
 use Rattle.type_check.specs.Statements.{read_formula, with_const, with_formula, problem_of}
 use Rattle.stt_core.specs.TypedProblem.{declared_names, NamesDiffer}
-use Rattle.type_check.specs.Means.ProblemNames.{IsDeclaredWith, AllDeclared, AllNames}
+use Rattle.type_check.specs.Internal.ProblemNames.{IsDeclaredWith, AllDeclared, AllNames}
 use Rattle.type_check.proofs.OutcomeLaws.{if_ok-always}
 use Rattle.type_check.proofs.ProblemLaws.{with_formula-cases, Keeps, problem_of-keeps}
 use Rattle.type_check.proofs.Symbols.{fresh}

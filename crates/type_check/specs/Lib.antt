@@ -5,4 +5,4 @@ pub mod Rows
 pub mod Terms
 pub mod Statements
 pub mod Checks
-pub mod Means
+pub mod Internal

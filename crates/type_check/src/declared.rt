@@ -2,7 +2,7 @@
 
 ghost use Rattle.std.specs.Prelude.{◌≡◌, ◌<◌, ◌^◌, ◌-◌, ◌++◌, [], ◌∷◌, length, IfOk, None, option_map};
 ghost use Rattle.type_check.specs.Terms.{constant_named, constant_at};
-ghost use Rattle.type_check.specs.Means.TypedView.{the_typed};
+ghost use Rattle.type_check.specs.Internal.TypedView.{the_typed};
 ghost use Rattle.stt_core.specs.Signature.{symbol_named};
 ghost use Rattle.stt_core.specs.View.{the_type};
 

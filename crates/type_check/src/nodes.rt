@@ -1,10 +1,10 @@
 //! Nodes of formulas over parts that are read.
 
 ghost use Rattle.stt_core.specs.View.{the_type, the_term};
-ghost use Rattle.type_check.specs.Means.Answers.{Answers};
-ghost use Rattle.type_check.specs.Means.Infixes as infixes;
+ghost use Rattle.type_check.specs.Internal.Answers.{Answers};
+ghost use Rattle.type_check.specs.Internal.Infixes as infixes;
 ghost use Rattle.type_check.specs.Terms as defined;
-ghost use Rattle.type_check.specs.Means.TypedView.{the_typed};
+ghost use Rattle.type_check.specs.Internal.TypedView.{the_typed};
 
 use crate::refusal::{IllWhy, Refusal};
 use crate::rows::{for_all, for_some, join, quantify, signed};

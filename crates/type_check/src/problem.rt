@@ -4,7 +4,7 @@ ghost use Rattle.std.specs.Prelude.{◌≡◌, ◌+◌, ◌-◌, ◌<◌, ◌≤
 ghost use Rattle.stt_core.specs.TypedProblem.{IsTyped, NamesDiffer};
 ghost use Rattle.thf_include.specs.View.{the_placed, the_statements};
 ghost use Rattle.type_check.specs.Checks.{IsIll};
-ghost use Rattle.type_check.specs.Means.ReadingView.{the_reading};
+ghost use Rattle.type_check.specs.Internal.ReadingView.{the_reading};
 ghost use Rattle.type_check.specs.Statements.{in_file, read_statement, problem_of};
 
 use crate::refusal::{Ill, Refusal};

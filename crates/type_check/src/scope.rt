@@ -2,8 +2,8 @@
 
 ghost use Rattle.std.specs.Prelude.{◌≡◌, IfOk, option_map};
 ghost use Rattle.type_check.specs.Terms.{variable_named};
-ghost use Rattle.type_check.specs.Means.TypedView.{the_typed};
-ghost use Rattle.type_check.specs.Means.ScopeView.{the_variables};
+ghost use Rattle.type_check.specs.Internal.TypedView.{the_typed};
+ghost use Rattle.type_check.specs.Internal.ScopeView.{the_variables};
 
 use crate::lift::one_more;
 use crate::typed::{TypeOf, Typed};

@@ -3,9 +3,9 @@
 ghost use Rattle.std.specs.Prelude.{◌≡◌, ◌+◌, ◌-◌, ◌<◌, ◌≤◌, ◌^◌, length, IfOk};
 ghost use Rattle.stt_core.specs.View.{the_term};
 ghost use Rattle.thf_grammar.specs.View.{the_annotated, the_body, the_formula, the_type};
-ghost use Rattle.type_check.specs.Means.Answers.{Answers};
+ghost use Rattle.type_check.specs.Internal.Answers.{Answers};
 ghost use Rattle.type_check.specs.Statements as defined;
-ghost use Rattle.type_check.specs.Means.ReadingView.{the_reading};
+ghost use Rattle.type_check.specs.Internal.ReadingView.{the_reading};
 
 use crate::declared::Declared;
 use crate::refusal::{IllWhy, Refusal};

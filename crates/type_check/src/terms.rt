@@ -4,14 +4,14 @@ ghost use Rattle.std.specs.Prelude.{◌≡◌, IfOk, option_map};
 ghost use Rattle.stt_core.specs.SimpleType.{arrow, formula};
 ghost use Rattle.stt_core.specs.View.{the_type};
 ghost use Rattle.thf_grammar.specs.View.{the_formula, the_vars};
-ghost use Rattle.type_check.specs.Means.Answers.{Answers};
-ghost use Rattle.type_check.specs.Means.Infixes as infixes;
+ghost use Rattle.type_check.specs.Internal.Answers.{Answers};
+ghost use Rattle.type_check.specs.Internal.Infixes as infixes;
 ghost use Rattle.type_check.specs.Rows as rows;
 ghost use Rattle.type_check.specs.Typed.{typed};
 ghost use Rattle.thf_grammar.specs.declared.connective.Conn.TheVariants as conn;
 ghost use Rattle.type_check.specs.Terms as defined;
-ghost use Rattle.type_check.specs.Means.ScopeView.{the_variables};
-ghost use Rattle.type_check.specs.Means.TypedView.{the_typed};
+ghost use Rattle.type_check.specs.Internal.ScopeView.{the_variables};
+ghost use Rattle.type_check.specs.Internal.TypedView.{the_typed};
 
 use crate::declared::Declared;
 use crate::nodes::{Infix, bind, combined, negated, quantified};

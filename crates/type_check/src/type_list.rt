@@ -2,7 +2,7 @@
 
 ghost use Rattle.std.specs.Prelude.{◌≡◌, ◌++◌, [], ◌∷◌, slice_get, option_map, IfOk, OnOk};
 ghost use Rattle.stt_core.specs.View.{the_type};
-ghost use Rattle.type_check.specs.Means.Fingerprint.{fingerprint};
+ghost use Rattle.type_check.specs.Internal.Fingerprint.{fingerprint};
 
 use std::alloc::{AllocError, Global};
 use std::collections::HashMap;
@@ -23,7 +23,7 @@ impl Model for TypeList {
     ghost use Rattle.std.specs.Prelude.{List, map};
     ghost use Rattle.std.specs.Coded.{coded_list};
     ghost use Rattle.stt_core.specs.SimpleType.{SimpleType};
-    ghost use Rattle.stt_core.specs.Means.TypeCode.{type_code};
+    ghost use Rattle.stt_core.specs.Internal.TypeCode.{type_code};
     ghost use Rattle.stt_core.specs.View.{the_type};
 
     ghost Value = { List SimpleType };

@@ -3,9 +3,9 @@
 ghost use Rattle.std.specs.Prelude.{◌≡◌, Some, IfOk, option_map};
 ghost use Rattle.stt_core.specs.Typing.{applied_type};
 ghost use Rattle.stt_core.specs.View.{the_type, the_term};
-ghost use Rattle.type_check.specs.Means.Answers.{Answers};
+ghost use Rattle.type_check.specs.Internal.Answers.{Answers};
 ghost use Rattle.type_check.specs.Typed as defined;
-ghost use Rattle.type_check.specs.Means.TypedView.{the_type_of, the_typed};
+ghost use Rattle.type_check.specs.Internal.TypedView.{the_type_of, the_typed};
 
 use crate::refusal::{IllWhy, Refusal};
 use std::alloc::{AllocError, Global};

@@ -3,7 +3,7 @@
 ghost use Rattle.thf_grammar.specs.View as surface;
 ghost use Rattle.stt_core.specs.View as core;
 ghost use Rattle.type_check.specs.Types as defined;
-ghost use Rattle.type_check.specs.Means.Answers.{Answers};
+ghost use Rattle.type_check.specs.Internal.Answers.{Answers};
 
 use crate::declared::Declared;
 use crate::refusal::{IllWhy, Refusal};

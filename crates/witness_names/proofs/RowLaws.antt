@@ -5,8 +5,8 @@ use Rattle.std.specs.List.{list_any}
 use Rattle.std.proofs.lemmas.List.{map-append}
 use Rattle.std.proofs.lemmas.List.Elements.{All-append}
 use Rattle.std.proofs.lemmas.List.Folds.{list_any_at}
-use Rattle.stt_tableau.specs.Witnesses.{Row, IsTypedRow, IsTwice, IsTable}
-use Rattle.stt_tableau.proofs.FailureLaws.{table-append, contains_map}
+use Rattle.tableau_calculus.specs.Witnesses.{Row, IsTypedRow, IsTwice, IsTable}
+use Rattle.tableau_calculus.proofs.FailureLaws.{table-append, contains_map}
 use Rattle.term_bank.specs.Content.{Content, content_scope}
 use Rattle.term_bank.specs.Terms.{term_at}
 use Rattle.witness_names.specs.Rows.{row_of, rows_of, AreRows, with_predicate}

@@ -1,7 +1,7 @@
 -- Rows where the bank grows.
 use Rattle.std.proofs.Common.{◌≡◌, ℕ, ◌<◌, List, ◌++◌, map, length, sym, ap, subst, ◌∙◌}
 use Rattle.stt_core.specs.Typing.{Scope}
-use Rattle.stt_tableau.specs.Witnesses.{Row, IsTable}
+use Rattle.tableau_calculus.specs.Witnesses.{Row, IsTable}
 use Rattle.term_bank.specs.Content.{Content, content_scope, Grows}
 use Rattle.term_bank.specs.Terms.{term_at}
 use Rattle.term_bank.proofs.GrowLaws.{grown_scope, grown_at, grown_all}

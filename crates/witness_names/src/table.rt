@@ -1,6 +1,6 @@
 //! Witness tables.
 ghost use Rattle.std.specs.Prelude.{◌≡◌, ◌<◌, ◌-◌, ◌^◌, length, [], Some, IfOk, OnOk, OnErr, nat_eq, position, slice_get};
-ghost use Rattle.stt_tableau.specs.Witnesses.{IsTypedRow};
+ghost use Rattle.tableau_calculus.specs.Witnesses.{IsTypedRow};
 ghost use Rattle.term_bank.specs.Content.{content_scope};
 ghost use Rattle.term_bank.specs.Terms.{term_at};
 ghost use Rattle.witness_names.specs.Rows.{row_of, rows_of, AreRows, with_predicate};

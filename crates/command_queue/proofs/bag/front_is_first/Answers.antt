@@ -1,6 +1,6 @@
 use Rattle.std.proofs.Common.{◌∙◌, sym, subst, Option, heap_items}
 use Rattle.command_queue.specs.declared.entry.Entry.{Entry}
-use Rattle.command_queue.specs.Means.Inside.{LeavesFirst}
+use Rattle.command_queue.specs.Internal.Inside.{LeavesFirst}
 use Rattle.command_queue.proofs.BagLaws.{before-top}
 use Rattle.command_queue.proofs.bag.front_is_first.Goals as goal
 

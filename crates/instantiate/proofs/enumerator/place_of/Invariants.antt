@@ -1,6 +1,6 @@
 use Rattle.std.proofs.Common.{◌≡◌, ◌+◌, drop}
 use Rattle.stt_core.specs.View.{the_type}
-use Rattle.instantiate.specs.Means.Groups.{place_in}
+use Rattle.instantiate.specs.Internal.Groups.{place_in}
 use Rattle.instantiate.proofs.enumerator.place_of.Given as goal
 
 -- the place among the lists that are left

@@ -2,10 +2,10 @@ use Rattle.std.proofs.Common.{length, refl, ap, sym, ◌∙◌, ◌≡◌, ◌�
 use Rattle.std.proofs.lemmas.List.{length-set}
 use Rattle.std.proofs.lemmas.Option.{slice_get_read}
 use Rattle.stt_core.specs.View.{the_head}
-use Rattle.search_run.specs.Partial.{Partial, head as the_leaf}
+use Rattle.search_spec.specs.Partial.{Partial, head as the_leaf}
 use Rattle.instantiate.specs.PartialView.{the_node}
-use Rattle.instantiate.specs.Means.PartialSizes.{applications, counts}
-use Rattle.instantiate.specs.Means.Holes.{filling, filling_all}
+use Rattle.instantiate.specs.Internal.PartialSizes.{applications, counts}
+use Rattle.instantiate.specs.Internal.Holes.{filling, filling_all}
 use Rattle.instantiate.proofs.HoleLaws.{node_count-at}
 use Rattle.instantiate.proofs.FillLaws.{filling-spine, at-later, drop-later, filled-later, filler-later, filled-whole, filler-whole}
 use Rattle.instantiate.proofs.partial.+fill.Goals as goal

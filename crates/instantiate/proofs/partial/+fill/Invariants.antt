@@ -1,6 +1,6 @@
 use Rattle.std.proofs.Common.{◌≡◌, ◌++◌, take, drop, length}
-use Rattle.instantiate.specs.Means.PartialSizes.{node_count, counts}
-use Rattle.instantiate.specs.Means.Holes.{filling_all}
+use Rattle.instantiate.specs.Internal.PartialSizes.{node_count, counts}
+use Rattle.instantiate.specs.Internal.Holes.{filling_all}
 use Rattle.instantiate.proofs.partial.+fill.Given as goal
 
 abbrev pub decreases-Partial::fill : goal.decreases-Partial::fill

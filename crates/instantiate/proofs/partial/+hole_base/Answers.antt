@@ -1,7 +1,7 @@
 use Rattle.std.proofs.Common.{ap, sym, ◌∙◌, arith}
 use Rattle.stt_core.specs.View.{the_type, the_head}
 use Rattle.instantiate.specs.PartialView.{the_node}
-use Rattle.instantiate.specs.Means.Holes.{base_in}
+use Rattle.instantiate.specs.Internal.Holes.{base_in}
 use Rattle.instantiate.proofs.HoleLaws.{base_in-function, base_in-spine, base_among-found, base_among-later, node_count-at}
 use Rattle.instantiate.proofs.partial.+hole_base.Goals as goal
 

@@ -1,6 +1,6 @@
 use Rattle.std.proofs.Common.{◌≡◌, drop}
-use Rattle.instantiate.specs.Means.PartialSizes.{node_count, counts}
-use Rattle.instantiate.specs.Means.Holes.{base_among}
+use Rattle.instantiate.specs.Internal.PartialSizes.{node_count, counts}
+use Rattle.instantiate.specs.Internal.Holes.{base_among}
 use Rattle.instantiate.proofs.partial.+hole_base.Given as goal
 
 abbrev pub decreases-Partial::hole_base : goal.decreases-Partial::hole_base

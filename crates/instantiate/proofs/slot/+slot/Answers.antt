@@ -3,7 +3,7 @@ use Rattle.stt_core.specs.View.{the_head}
 use Rattle.stt_core.specs.ContextView.{the_context}
 use Rattle.term_bank.specs.Content.{content_scope}
 use Rattle.instantiate.specs.PartialView.{the_node}
-use Rattle.instantiate.specs.Means.Slots.{the_slot, slot_of}
+use Rattle.instantiate.specs.Internal.Slots.{the_slot, slot_of}
 use Rattle.instantiate.proofs.HoleLaws.{node_count-at, slots-spine, first_among-found, first_among-later}
 use Rattle.instantiate.proofs.slot.+slot.Goals as goal
 

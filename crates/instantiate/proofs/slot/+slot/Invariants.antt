@@ -2,9 +2,9 @@ use Rattle.std.proofs.Common.{◌≡◌, option_map, drop}
 use Rattle.stt_core.specs.View.{the_head}
 use Rattle.stt_core.specs.ContextView.{the_context}
 use Rattle.term_bank.specs.Content.{content_scope}
-use Rattle.instantiate.specs.Means.PartialSizes.{node_count, counts}
-use Rattle.instantiate.specs.Means.Slots.{slot_of}
-use Rattle.instantiate.specs.Means.Holes.{first_among}
+use Rattle.instantiate.specs.Internal.PartialSizes.{node_count, counts}
+use Rattle.instantiate.specs.Internal.Slots.{slot_of}
+use Rattle.instantiate.specs.Internal.Holes.{first_among}
 use Rattle.instantiate.proofs.slot.+slot.Given as goal
 
 abbrev pub decreases-slot_in : goal.decreases-slot_in

@@ -2,15 +2,15 @@ use Rattle.std.proofs.Common.{map, ap, sym, subst, ◌∙◌, ◌≡◌, arith}
 use Rattle.stt_core.specs.View.{the_type, the_head}
 use Rattle.stt_core.specs.Lambda.{Lambda, lam}
 use Rattle.stt_core.proofs.HeadLaws.{atom_head}
-use Rattle.search_run.specs.Partial.{head as the_leaf, function}
+use Rattle.search_spec.specs.Partial.{head as the_leaf, function}
 use Rattle.term_bank.specs.Content.{content_scope, HasTerm}
 use Rattle.term_bank.specs.Terms.{IsTypedTerm}
 use Rattle.term_bank.proofs.GrowLaws.{has_within, has_at}
 use Rattle.term_bank.proofs.TreeLaws.{one_imported}
 use Rattle.instantiate.specs.PartialView.{the_node}
-use Rattle.instantiate.specs.Means.PartialSizes.{node_count, applications, applications_fall}
-use Rattle.instantiate.specs.Means.Holes.{base_in}
-use Rattle.instantiate.specs.Means.Blanks.{term_of}
+use Rattle.instantiate.specs.Internal.PartialSizes.{node_count, applications, applications_fall}
+use Rattle.instantiate.specs.Internal.Holes.{base_in}
+use Rattle.instantiate.specs.Internal.Blanks.{term_of}
 use Rattle.instantiate.proofs.HoleLaws.{node_count-at, base_in-function, base_in-spine}
 use Rattle.instantiate.proofs.WholeLaws.{term_of-spine, none_at, body_typed, arguments_typed, at_typed, map-at, spine_same, lam_ready, app_ready}
 use Rattle.instantiate.proofs.whole.+intern.Goals as goal

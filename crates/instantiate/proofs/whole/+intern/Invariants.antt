@@ -1,7 +1,7 @@
 use Rattle.std.proofs.Common.{map, take}
 use Rattle.term_bank.proofs.TreeLaws.{AreImported}
-use Rattle.instantiate.specs.Means.PartialSizes.{node_count, counts}
-use Rattle.instantiate.specs.Means.Blanks.{term_of}
+use Rattle.instantiate.specs.Internal.PartialSizes.{node_count, counts}
+use Rattle.instantiate.specs.Internal.Blanks.{term_of}
 use Rattle.instantiate.proofs.whole.+intern.Given as goal
 
 abbrev pub decreases-intern : goal.decreases-intern

@@ -1,7 +1,7 @@
 use Rattle.std.proofs.Common.{subst, ◌∙◌, arith}
 use Rattle.term_bank.specs.Terms.{term_at}
 use Rattle.term_bank.specs.NodeView.{the_shape}
-use Rattle.literal_map.specs.Means.Denied.{IsDenied}
+use Rattle.literal_map.specs.Internal.Denied.{IsDenied}
 use Rattle.literal_map.proofs.SignLaws.{unsigned_node}
 use Rattle.literal_map.proofs.PeelLaws.{sign-peeled, below-peeled, sign-plain}
 use Rattle.literal_map.proofs.unsigned.atom_of.Goals as goal

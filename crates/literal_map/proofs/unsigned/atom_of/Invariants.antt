@@ -1,5 +1,5 @@
 use Rattle.std.proofs.Common.{◌≡◌, ◌<◌, length}
-use Rattle.stt_tableau.specs.Literals.{as_literal}
+use Rattle.tableau_calculus.specs.Literals.{as_literal}
 use Rattle.term_bank.specs.Terms.{term_at}
 use Rattle.literal_map.proofs.PeelLaws.{with_sign}
 use Rattle.literal_map.proofs.unsigned.atom_of.Given as goal

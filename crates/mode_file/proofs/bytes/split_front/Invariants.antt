@@ -1,6 +1,6 @@
 use Rattle.std.proofs.Common.{◌≡◌, ◌≤◌, ◌-◌, ◌++◌, length, take, drop}
 use Rattle.mode_file.specs.Lines.{front}
-use Rattle.mode_file.specs.Means.Fronts.{is_in, after}
+use Rattle.mode_file.specs.Internal.Fronts.{is_in, after}
 use Rattle.mode_file.proofs.bytes.split_front.Given as goal
 
 abbrev pub invariant-loop-end : goal.invariant-loop-end

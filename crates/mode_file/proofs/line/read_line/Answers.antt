@@ -1,9 +1,9 @@
 use Rattle.std.proofs.Common.{◌≡◌, ◌∙◌, ◌<◌, ◌≤◌, Some, None, sym, ap, arith}
 use Rattle.mode_file.specs.declared.bytes.ByteClass.TheVariants.{InWord}
 use Rattle.mode_file.specs.Keys.{greatest, key_of}
-use Rattle.mode_file.specs.Means.Fronts.{after, is_in}
+use Rattle.mode_file.specs.Internal.Fronts.{after, is_in}
 use Rattle.mode_file.specs.Grammar.{first_word}
-use Rattle.mode_file.specs.Means.Reader.{digits_in}
+use Rattle.mode_file.specs.Internal.Reader.{digits_in}
 use Rattle.mode_file.proofs.ReadLaws.{has_none, decimal, bad_number, sets_read, out_of_range, far_out_of_range}
 use Rattle.mode_file.proofs.line.read_line.Goals as goal
 

@@ -1,12 +1,12 @@
 use Rattle.std.proofs.Common.{List, rules, subst}
 use Rattle.stt_core.specs.Typing.{Scope}
-use Rattle.stt_tableau.specs.Literals.{Literal}
-use Rattle.stt_tableau.specs.Accepted.{FirstFailure}
-use Rattle.written_refutation.specs.TextView.{the_text}
+use Rattle.tableau_calculus.specs.Literals.{Literal}
+use Rattle.tableau_calculus.specs.Accepted.{FirstFailure}
+use Rattle.refute_print.specs.TextView.{the_text}
 use Rattle.refute_check.specs.Numbered.{numbered_refutation}
-use Rattle.refute_check.specs.Means.Branches.{Represents, AreNumbered}
-use Rattle.refute_check.specs.Means.Lines.{AreRightIn}
-use Rattle.refute_check.specs.Means.Shared.{declared_in, the_atoms}
+use Rattle.refute_check.specs.Internal.Branches.{Represents, AreNumbered}
+use Rattle.refute_check.specs.Internal.Lines.{AreRightIn}
+use Rattle.refute_check.specs.Internal.Shared.{declared_in, the_atoms}
 use Rattle.refute_check.proofs.BranchLaws.{grow-more, represents-grow}
 use Rattle.refute_check.proofs.CheckLaws.{at_place, if_place, if_ok}
 use Rattle.refute_check.proofs.check.check_from.Goals as goal

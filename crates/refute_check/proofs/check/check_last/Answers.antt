@@ -1,8 +1,8 @@
 use Rattle.std.proofs.Common.{◌<◌, ◌-◌, ◌≡◌, ◌∙◌, length, map, sym, arith}
 use Rattle.std.proofs.lemmas.List.{length-map}
-use Rattle.stt_tableau.proofs.ListLaws.{untrue}
-use Rattle.stt_tableau.proofs.FailureLaws.{element, last_refused, none_refused, ends_within}
-use Rattle.written_refutation.specs.TextView.{the_line, the_text}
+use Rattle.tableau_calculus.proofs.ListLaws.{untrue}
+use Rattle.tableau_calculus.proofs.FailureLaws.{element, last_refused, none_refused, ends_within}
+use Rattle.refute_print.specs.TextView.{the_line, the_text}
 use Rattle.refute_check.specs.Numbered.{numbered_row, numbered_line, numbered_refutation}
 use Rattle.refute_check.proofs.check.check_last.Goals as goal
 

@@ -1,13 +1,13 @@
 use Rattle.std.proofs.Common.{◌∙◌, refl, map, take, sym, subst}
 use Rattle.std.proofs.lemmas.List.{length-map}
 use Rattle.stt_core.proofs.ListLaws.{take_got, mapped_get}
-use Rattle.stt_tableau.specs.Witnesses.{with_rows}
-use Rattle.stt_tableau.specs.Means.Answers.{LineAnswer}
-use Rattle.stt_tableau.proofs.FailureLaws.{line_refused, lines-more}
-use Rattle.written_refutation.specs.TextView.{the_line, the_text}
+use Rattle.tableau_calculus.specs.Witnesses.{with_rows}
+use Rattle.tableau_calculus.specs.Internal.Answers.{LineAnswer}
+use Rattle.tableau_calculus.proofs.FailureLaws.{line_refused, lines-more}
+use Rattle.refute_print.specs.TextView.{the_line, the_text}
 use Rattle.refute_check.specs.Numbered.{numbered_row, numbered_line, numbered_refutation}
-use Rattle.refute_check.specs.Means.Branches.{AreBranches}
-use Rattle.refute_check.specs.Means.Shared.{declared_in, the_atoms}
+use Rattle.refute_check.specs.Internal.Branches.{AreBranches}
+use Rattle.refute_check.specs.Internal.Shared.{declared_in, the_atoms}
 use Rattle.refute_check.proofs.BranchLaws.{grow-itself, grow-more}
 use Rattle.refute_check.proofs.SharedLaws.{extends_declared, extends_rows, extends_atoms}
 use Rattle.refute_check.proofs.CheckLaws.{answer_over}

@@ -1,11 +1,11 @@
 use Rattle.std.proofs.Common.{◌≡◌, [], map, take}
-use Rattle.stt_tableau.specs.Witnesses.{with_rows}
-use Rattle.stt_tableau.specs.Accepted.{AreRightLines}
-use Rattle.written_refutation.specs.TextView.{the_line}
+use Rattle.tableau_calculus.specs.Witnesses.{with_rows}
+use Rattle.tableau_calculus.specs.Accepted.{AreRightLines}
+use Rattle.refute_print.specs.TextView.{the_line}
 use Rattle.refute_check.specs.Numbered.{numbered_row, numbered_line}
-use Rattle.refute_check.specs.Means.Branches.{Grow, AreBranches}
-use Rattle.refute_check.specs.Means.Shared.{declared_in, the_atoms, the_rows, IsGood}
-use Rattle.refute_check.specs.Means.Seen.{IsSeen}
+use Rattle.refute_check.specs.Internal.Branches.{Grow, AreBranches}
+use Rattle.refute_check.specs.Internal.Shared.{declared_in, the_atoms, the_rows, IsGood}
+use Rattle.refute_check.specs.Internal.Seen.{IsSeen}
 use Rattle.refute_check.proofs.check.check_lines.Given as goal
 
 abbrev pub invariant-loop-i : goal.invariant-loop-i

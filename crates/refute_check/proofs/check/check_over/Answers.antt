@@ -1,10 +1,10 @@
 use Rattle.std.proofs.Common.{[], subst}
 use Rattle.stt_core.specs.Typing.{Scope}
 use Rattle.stt_core.specs.ScopeView.{the_scope}
-use Rattle.stt_tableau.specs.Start.{start}
-use Rattle.stt_tableau.specs.Accepted.{IsAccepted, FirstFailure}
-use Rattle.written_refutation.specs.TextView.{the_text}
-use Rattle.written_refutation.specs.Named.{Names, names_of}
+use Rattle.tableau_calculus.specs.Start.{start}
+use Rattle.tableau_calculus.specs.Accepted.{IsAccepted, FirstFailure}
+use Rattle.refute_print.specs.TextView.{the_text}
+use Rattle.refute_print.specs.Named.{Names, names_of}
 use Rattle.refute_check.specs.Numbered.{numbered_refutation}
 use Rattle.refute_check.proofs.CheckLaws.{if_place, if_ok}
 use Rattle.refute_check.proofs.check.check_over.Goals as goal

@@ -1,5 +1,5 @@
 use Rattle.std.proofs.Common.{sym, ◌∙◌}
-use Rattle.written_refutation.specs.TextView.{the_text}
+use Rattle.refute_print.specs.TextView.{the_text}
 use Rattle.refute_check.specs.Acceptance.{TextFailsAt}
 use Rattle.refute_check.proofs.AcceptanceLaws.{if_line, plain_fails, fails_not_accepted}
 use Rattle.refute_check.proofs.check.check_refutation.Goals as goal

@@ -1,10 +1,10 @@
 use Rattle.std.proofs.Common.{◌++◌, [], ◌∷◌, ◌∙◌, refl, map, take, ap, sym, subst}
 use Rattle.stt_core.proofs.ListLaws.{take_got, mapped_get}
-use Rattle.stt_tableau.specs.Means.Answers.{RowAnswer}
-use Rattle.stt_tableau.proofs.FailureLaws.{row_refused, table-more}
-use Rattle.written_refutation.specs.TextView.{the_text}
+use Rattle.tableau_calculus.specs.Internal.Answers.{RowAnswer}
+use Rattle.tableau_calculus.proofs.FailureLaws.{row_refused, table-more}
+use Rattle.refute_print.specs.TextView.{the_text}
 use Rattle.refute_check.specs.Numbered.{numbered_row, numbered_refutation}
-use Rattle.refute_check.specs.Means.Shared.{declared_in, the_atoms}
+use Rattle.refute_check.specs.Internal.Shared.{declared_in, the_atoms}
 use Rattle.refute_check.proofs.BranchLaws.{grow-itself, grow-more}
 use Rattle.refute_check.proofs.check.check_rows.Goals as goal
 

@@ -1,8 +1,8 @@
 use Rattle.std.proofs.Common.{◌≡◌, map, take}
-use Rattle.stt_tableau.specs.Witnesses.{IsTable}
+use Rattle.tableau_calculus.specs.Witnesses.{IsTable}
 use Rattle.refute_check.specs.Numbered.{numbered_row}
-use Rattle.refute_check.specs.Means.Branches.{Grow}
-use Rattle.refute_check.specs.Means.Shared.{declared_in, the_atoms, the_rows, IsGood}
+use Rattle.refute_check.specs.Internal.Branches.{Grow}
+use Rattle.refute_check.specs.Internal.Shared.{declared_in, the_atoms, the_rows, IsGood}
 use Rattle.refute_check.proofs.check.check_rows.Given as goal
 
 abbrev pub invariant-loop-i : goal.invariant-loop-i

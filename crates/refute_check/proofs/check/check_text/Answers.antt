@@ -1,9 +1,9 @@
 use Rattle.std.proofs.Common.{OnOk, IfErr, ap, subst}
-use Rattle.stt_tableau.specs.Start.{start}
-use Rattle.stt_tableau.specs.Accepted.{IsAccepted, FirstFailure}
-use Rattle.stt_tableau.specs.Refused.{IfRefused}
-use Rattle.written_refutation.specs.TextView.{the_text}
-use Rattle.written_refutation.specs.Named.{names_of}
+use Rattle.tableau_calculus.specs.Start.{start}
+use Rattle.tableau_calculus.specs.Accepted.{IsAccepted, FirstFailure}
+use Rattle.tableau_calculus.specs.Refused.{IfRefused}
+use Rattle.refute_print.specs.TextView.{the_text}
+use Rattle.refute_print.specs.Named.{names_of}
 use Rattle.refute_check.specs.Numbered.{numbered_refutation}
 use Rattle.refute_check.proofs.check.check_text.Goals as goal
 use Rattle.stt_core.specs.Declarations.{scope_of}

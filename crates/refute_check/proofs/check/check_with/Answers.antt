@@ -1,10 +1,10 @@
 use Rattle.std.proofs.Common.{subst, ◌∙◌}
 use Rattle.stt_core.specs.Typing.{Scope}
-use Rattle.stt_tableau.specs.Start.{start}
-use Rattle.stt_tableau.specs.Accepted.{IsAccepted, FirstFailure}
-use Rattle.written_refutation.specs.TextView.{the_text}
+use Rattle.tableau_calculus.specs.Start.{start}
+use Rattle.tableau_calculus.specs.Accepted.{IsAccepted, FirstFailure}
+use Rattle.refute_print.specs.TextView.{the_text}
 use Rattle.refute_check.specs.Numbered.{numbered_refutation}
-use Rattle.refute_check.specs.Means.Shared.{declared_in}
+use Rattle.refute_check.specs.Internal.Shared.{declared_in}
 use Rattle.refute_check.proofs.CheckLaws.{if_place, if_ok}
 use Rattle.refute_check.proofs.SharedLaws.{extends_declared, extends_rows}
 use Rattle.refute_check.proofs.check.check_with.Goals as goal

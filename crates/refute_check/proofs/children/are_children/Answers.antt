@@ -1,11 +1,11 @@
 use Rattle.std.proofs.Common.{refl, map, arith}
 use Rattle.std.proofs.lemmas.List.{length-map}
 use Rattle.stt_core.proofs.ListLaws.{mapped_get}
-use Rattle.stt_tableau.specs.Accepted.{AreChildren}
-use Rattle.stt_tableau.proofs.ListLaws.{untrue}
-use Rattle.stt_tableau.proofs.ChildLaws.{children_length, children_at, children-more}
-use Rattle.search_run.specs.Each.{Each}
-use Rattle.refute_check.specs.Means.Shared.{the_atoms, literal_in, IsNumber}
+use Rattle.tableau_calculus.specs.Accepted.{AreChildren}
+use Rattle.tableau_calculus.proofs.ListLaws.{untrue}
+use Rattle.tableau_calculus.proofs.ChildLaws.{children_length, children_at, children-more}
+use Rattle.search_spec.specs.Each.{Each}
+use Rattle.refute_check.specs.Internal.Shared.{the_atoms, literal_in, IsNumber}
 use Rattle.refute_check.proofs.ChildLaws.{clashes_closed}
 use Rattle.refute_check.proofs.SharedLaws.{each_at}
 use Rattle.refute_check.proofs.children.are_children.Goals as goal

@@ -1,9 +1,9 @@
 use Rattle.std.proofs.Common.{List, map, take}
-use Rattle.stt_tableau.specs.Literals.{Literal}
-use Rattle.stt_tableau.specs.Accepted.{AreChildren}
-use Rattle.stt_tableau.specs.declared.refutation.Line.{Line}
-use Rattle.refute_check.specs.Means.Branches.{Represents, AreNumbered, AreBranches}
-use Rattle.refute_check.specs.Means.Shared.{the_atoms, literal_in}
+use Rattle.tableau_calculus.specs.Literals.{Literal}
+use Rattle.tableau_calculus.specs.Accepted.{AreChildren}
+use Rattle.tableau_calculus.specs.declared.refutation.Line.{Line}
+use Rattle.refute_check.specs.Internal.Branches.{Represents, AreNumbered, AreBranches}
+use Rattle.refute_check.specs.Internal.Shared.{the_atoms, literal_in}
 use Rattle.refute_check.proofs.children.are_children.Given as goal
 
 abbrev pub invariant-loop-i : goal.invariant-loop-i

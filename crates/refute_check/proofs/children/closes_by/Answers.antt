@@ -1,6 +1,6 @@
 use Rattle.std.proofs.Common.{◌≡◌, ◌∙◌, ◌++◌, false, Some, option_copied, IsTrue, ap, sym, subst}
-use Rattle.stt_tableau.specs.Accepted.{Within, ClosesBy}
-use Rattle.refute_check.specs.Means.Branches.{has}
+use Rattle.tableau_calculus.specs.Accepted.{Within, ClosesBy}
+use Rattle.refute_check.specs.Internal.Branches.{has}
 use Rattle.refute_check.proofs.SetLaws.{or_swap}
 use Rattle.refute_check.proofs.ChildLaws.{line_at, no_line_at, within-numbers, numbers-within}
 use Rattle.refute_check.proofs.children.closes_by.Goals as goal

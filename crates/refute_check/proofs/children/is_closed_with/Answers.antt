@@ -1,5 +1,5 @@
 use Rattle.std.proofs.Common.{refl, ◌++◌}
-use Rattle.stt_tableau.proofs.ListLaws.{untrue, within-itself, within-before, within-behind, closed-within}
+use Rattle.tableau_calculus.proofs.ListLaws.{untrue, within-itself, within-before, within-behind, closed-within}
 use Rattle.refute_check.proofs.ChildLaws.{clash-closed, itself-closed, closed-cases, clashes_closed}
 use Rattle.refute_check.proofs.children.is_closed_with.Goals as goal
 

@@ -1,6 +1,6 @@
 use Rattle.std.proofs.Common.{map, sym, ◌∙◌, arith}
 use Rattle.std.proofs.lemmas.List.{length-map}
-use Rattle.written_refutation.specs.Named.{names_of, name_at}
+use Rattle.refute_print.specs.Named.{names_of, name_at}
 use Rattle.refute_check.proofs.DefinitionLaws.{same_further, differ_in_length}
 use Rattle.refute_check.proofs.definitions.first_other.Goals as goal
 

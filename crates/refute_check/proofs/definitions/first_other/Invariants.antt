@@ -1,5 +1,5 @@
 use Rattle.std.proofs.Common.{◌≡◌, map, take}
-use Rattle.written_refutation.specs.Named.{names_of, name_at}
+use Rattle.refute_print.specs.Named.{names_of, name_at}
 use Rattle.refute_check.proofs.definitions.first_other.Given as goal
 
 abbrev pub invariant-loop-i : goal.invariant-loop-i

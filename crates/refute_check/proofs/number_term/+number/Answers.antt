@@ -2,8 +2,8 @@ use Rattle.std.proofs.Common.{ap, sym, ◌∙◌, arith}
 use Rattle.stt_core.proofs.ListLaws.{map_more}
 use Rattle.stt_core.specs.Lambda.{lambdas}
 use Rattle.stt_core.specs.View.{the_type as plain_type, the_head as plain_head}
-use Rattle.written_refutation.specs.View.{the_type}
-use Rattle.written_refutation.specs.TreeView.{the_head, the_node}
+use Rattle.refute_print.specs.View.{the_type}
+use Rattle.refute_print.specs.TreeView.{the_head, the_node}
 use Rattle.refute_check.specs.Numbered.{numbered_term}
 use Rattle.refute_check.proofs.TermLaws.{node_count-at, under_more, under_applied}
 use Rattle.refute_check.proofs.number_term.+number.Goals as goal

@@ -1,5 +1,5 @@
 use Rattle.std.proofs.Common.{◌≡◌, map, take}
-use Rattle.written_refutation.specs.Means.TreeSizes.{node_count, counts}
+use Rattle.refute_print.specs.Internal.TreeSizes.{node_count, counts}
 use Rattle.refute_check.specs.Numbered.{numbered_term}
 use Rattle.refute_check.proofs.number_term.+number.Given as goal
 

@@ -1,5 +1,5 @@
 use Rattle.std.proofs.Common.{take, map}
-use Rattle.refute_check.specs.Means.Places.{HasPlaces}
+use Rattle.refute_check.specs.Internal.Places.{HasPlaces}
 use Rattle.refute_check.proofs.numbering.const_places.Given as goal
 
 -- the places of the names so far

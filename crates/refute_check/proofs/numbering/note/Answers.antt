@@ -1,5 +1,5 @@
 use Rattle.std.proofs.Common.{sym, ◌∙◌}
-use Rattle.refute_check.specs.Means.Places.{noted}
+use Rattle.refute_check.specs.Internal.Places.{noted}
 use Rattle.refute_check.proofs.PlaceLaws.{noted-new, none_is}
 use Rattle.refute_check.proofs.numbering.note.Goals as goal
 

@@ -1,5 +1,5 @@
 use Rattle.std.proofs.Common.{◌≡◌, take}
-use Rattle.written_refutation.specs.Means.TreeSizes.{node_count, counts}
+use Rattle.refute_print.specs.Internal.TreeSizes.{node_count, counts}
 use Rattle.refute_check.proofs.same.+same_term.Given as goal
 
 abbrev pub decreases-same_terms : goal.decreases-same_terms

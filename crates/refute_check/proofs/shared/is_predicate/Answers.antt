@@ -1,7 +1,7 @@
 use Rattle.std.proofs.Common.{option_map, Some, ap, ◌∙◌}
 use Rattle.stt_core.specs.SimpleType.{formula, same_type}
 use Rattle.stt_core.specs.View.{the_type}
-use Rattle.stt_tableau.proofs.TypedLaws.{predicate_tells}
+use Rattle.tableau_calculus.proofs.TypedLaws.{predicate_tells}
 use Rattle.refute_check.proofs.shared.is_predicate.Goals as goal
 
 pub returns-in-Some-Arrow : goal.returns-in-Some-Arrow

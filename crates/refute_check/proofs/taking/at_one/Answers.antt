@@ -1,6 +1,6 @@
 use Rattle.std.proofs.Common.{◌∙◌, None, Some, sym, subst}
 use Rattle.refute_check.specs.Numbered.{numbered_one_place}
-use Rattle.refute_check.specs.Means.Taking.{Takes}
+use Rattle.refute_check.specs.Internal.Taking.{Takes}
 use Rattle.refute_check.specs.declared.taking.Taking.TheVariants.{By}
 use Rattle.refute_check.proofs.TakingLaws.{one_takes, one_missing, number_at, no_number_at}
 use Rattle.refute_check.proofs.taking.at_one.Goals as goal

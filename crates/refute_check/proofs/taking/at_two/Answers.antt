@@ -1,6 +1,6 @@
 use Rattle.std.proofs.Common.{◌∙◌, None, Some, sym, subst}
 use Rattle.refute_check.specs.Numbered.{numbered_two_places}
-use Rattle.refute_check.specs.Means.Taking.{Takes}
+use Rattle.refute_check.specs.Internal.Taking.{Takes}
 use Rattle.refute_check.specs.declared.taking.Taking.TheVariants.{By}
 use Rattle.refute_check.proofs.TakingLaws.{two_takes, first_missing, second_missing, number_at, no_number_at}
 use Rattle.refute_check.proofs.taking.at_two.Goals as goal

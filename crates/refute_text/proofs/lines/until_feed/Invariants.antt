@@ -1,5 +1,5 @@
 use Rattle.std.proofs.Common.{◌≡◌, ◌≤◌, ◌-◌, ◌++◌, length, take, drop}
-use Rattle.refute_text.specs.Means.Reader.{is_no_feed, front, after}
+use Rattle.refute_text.specs.Internal.Reader.{is_no_feed, front, after}
 use Rattle.refute_text.proofs.lines.until_feed.Given as goal
 
 abbrev pub invariant-loop-end : goal.invariant-loop-end

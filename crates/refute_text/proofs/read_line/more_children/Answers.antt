@@ -1,6 +1,6 @@
 use Rattle.std.proofs.Common.{sym, ap, subst, refl, ◌∙◌, length, option_map, codes, arith, length-append}
-use Rattle.refute_text.specs.Means.Reader.{repeated_at, with_items}
-use Rattle.refute_text.specs.Means.LineReader.{child_at}
+use Rattle.refute_text.specs.Internal.Reader.{repeated_at, with_items}
+use Rattle.refute_text.specs.Internal.LineReader.{child_at}
 use Rattle.refute_text.proofs.Inversions.{behind_some}
 use Rattle.refute_text.proofs.Repeats.{ItemsLeft, items_more, items_refused, items_end}
 use Rattle.refute_text.proofs.LiteralReads.{child_shorter}

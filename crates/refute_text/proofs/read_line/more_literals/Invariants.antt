@@ -1,6 +1,6 @@
 use Rattle.std.proofs.Common.{length, codes}
-use Rattle.refute_text.specs.Means.Reader.{repeated_at, with_items}
-use Rattle.refute_text.specs.Means.LineReader.{literal_at}
+use Rattle.refute_text.specs.Internal.Reader.{repeated_at, with_items}
+use Rattle.refute_text.specs.Internal.LineReader.{literal_at}
 use Rattle.refute_text.proofs.Repeats.{ItemsLeft}
 use Rattle.refute_text.proofs.read_line.more_literals.Given as goal
 

@@ -1,5 +1,5 @@
 use Rattle.std.proofs.Common.{◌≡◌, length}
-use Rattle.refute_text.specs.Means.Reader.{characters_at}
+use Rattle.refute_text.specs.Internal.Reader.{characters_at}
 use Rattle.refute_text.proofs.Readers.{with_front}
 use Rattle.refute_text.proofs.read_name.characters.Given as goal
 

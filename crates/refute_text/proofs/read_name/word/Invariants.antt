@@ -1,6 +1,6 @@
 use Rattle.std.proofs.Common.{◌≡◌, ◌≤◌, ◌-◌, ◌++◌, length, take, drop}
 use Rattle.thf_grammar.specs.Bytes.{is_word_byte}
-use Rattle.refute_text.specs.Means.Reader.{front, after}
+use Rattle.refute_text.specs.Internal.Reader.{front, after}
 use Rattle.refute_text.proofs.read_name.word.Given as goal
 
 abbrev pub invariant-loop-end : goal.invariant-loop-end

@@ -1,6 +1,6 @@
 use Rattle.std.proofs.Common.{sym, ap, ◌∙◌}
-use Rattle.written_refutation.specs.Limits.{is_negated}
-use Rattle.written_refutation.specs.TreeView.{the_head, the_node}
+use Rattle.refute_print.specs.Limits.{is_negated}
+use Rattle.refute_print.specs.TreeView.{the_head, the_node}
 use Rattle.refute_text.proofs.Negations.{negated-applied}
 use Rattle.refute_text.proofs.read_rule.is_negated.Goals as goal
 

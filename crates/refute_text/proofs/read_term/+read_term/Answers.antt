@@ -1,5 +1,5 @@
 use Rattle.std.proofs.Common.{sym, ap, subst, ◌∙◌, length, option_map, codes, arith, length-append}
-use Rattle.refute_text.specs.Means.TermReader.{arguments_at, term_at}
+use Rattle.refute_text.specs.Internal.TermReader.{arguments_at, term_at}
 use Rattle.refute_text.proofs.Inversions.{behind_some}
 use Rattle.refute_text.proofs.Repeats.{ItemsLeft, items_start, items_more, items_refused, items_end}
 use Rattle.refute_text.proofs.TermReads.{term_shorter}

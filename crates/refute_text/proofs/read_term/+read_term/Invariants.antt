@@ -1,5 +1,5 @@
 use Rattle.std.proofs.Common.{◌+◌, ◌*◌, length, codes}
-use Rattle.refute_text.specs.Means.TermReader.{arguments_at, term_at}
+use Rattle.refute_text.specs.Internal.TermReader.{arguments_at, term_at}
 use Rattle.refute_text.proofs.Repeats.{ItemsLeft}
 use Rattle.refute_text.proofs.read_term.+read_term.Given as goal
 

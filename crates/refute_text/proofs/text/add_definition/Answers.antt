@@ -1,6 +1,6 @@
 use Rattle.std.proofs.Common.{sym, ap, subst, ◌∙◌, rules}
-use Rattle.written_refutation.specs.Text.{text_lines}
-use Rattle.written_refutation.specs.TextView.{the_text}
+use Rattle.refute_print.specs.Text.{text_lines}
+use Rattle.refute_print.specs.TextView.{the_text}
 use Rattle.refute_text.specs.Reading.{HasText}
 use Rattle.refute_text.proofs.Grows.{name_added, definition_refused}
 use Rattle.refute_text.proofs.text.add_definition.Goals as goal

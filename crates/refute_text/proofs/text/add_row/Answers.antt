@@ -1,9 +1,9 @@
 use Rattle.std.proofs.Common.{sym, ap, subst, ◌∙◌, rules}
-use Rattle.written_refutation.specs.Text.{text_lines}
-use Rattle.written_refutation.specs.TextView.{the_text}
-use Rattle.refute_text.specs.Means.LineReader.{row_at}
+use Rattle.refute_print.specs.Text.{text_lines}
+use Rattle.refute_print.specs.TextView.{the_text}
+use Rattle.refute_text.specs.Internal.LineReader.{row_at}
 use Rattle.refute_text.specs.Reading.{HasText}
-use Rattle.refute_text.specs.Means.Refusals.{IsRefusal}
+use Rattle.refute_text.specs.Internal.Refusals.{IsRefusal}
 use Rattle.refute_text.proofs.Grows.{row_added, row_refused}
 use Rattle.refute_text.proofs.text.add_row.Goals as goal
 

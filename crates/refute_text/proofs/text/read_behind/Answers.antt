@@ -1,7 +1,7 @@
 use Rattle.std.proofs.Common.{◌≡◌, ◌+◌, ◌-◌, ◌∷◌, ◌++◌, IfErr, sym, ap, subst, ◌∙◌, arith}
-use Rattle.written_refutation.specs.Text.{text_lines}
+use Rattle.refute_print.specs.Text.{text_lines}
 use Rattle.outside.specs.Lines.{lines_of}
-use Rattle.refute_text.specs.Means.Places.{RefusesBehind}
+use Rattle.refute_text.specs.Internal.Places.{RefusesBehind}
 use Rattle.refute_text.specs.declared.refusal.TextRefused.TheVariants.{NoEnd}
 use Rattle.refute_text.proofs.Bodies.{version_missing, version_bad}
 use Rattle.refute_text.proofs.text.read_behind.Goals as goal

@@ -1,6 +1,6 @@
 use Rattle.std.proofs.Common.{◌+◌, ◌≤◌, ◌++◌, length}
-use Rattle.written_refutation.specs.Text.{text_lines}
-use Rattle.written_refutation.specs.TextView.{the_text}
+use Rattle.refute_print.specs.Text.{text_lines}
+use Rattle.refute_print.specs.TextView.{the_text}
 use Rattle.outside.specs.Lines.{lines_of}
 use Rattle.refute_text.proofs.Bodies.{TextSoFar}
 use Rattle.refute_text.proofs.text.read_on.Given as goal

@@ -1,8 +1,8 @@
 use Rattle.std.proofs.Common.{◌-◌, ◌∷◌, ◌++◌, IfOk, IfErr, codes, sym, ap, subst, ◌∙◌}
-use Rattle.written_refutation.specs.TextView.{the_text}
+use Rattle.refute_print.specs.TextView.{the_text}
 use Rattle.outside.specs.Lines.{lines_of}
 use Rattle.refute_text.specs.Reading.{HoldsText}
-use Rattle.refute_text.specs.Means.Places.{RefusesBehind}
+use Rattle.refute_text.specs.Internal.Places.{RefusesBehind}
 use Rattle.refute_text.specs.declared.refusal.TextRefused.TheVariants.{NoEnd}
 use Rattle.refute_text.proofs.Bodies.{definitions_missing, definition_bad, version_2_begins, no_definition}
 use Rattle.refute_text.proofs.text.read_version_2.Goals as goal

@@ -1,5 +1,5 @@
 use Rattle.std.proofs.Common.{subst, sym}
-use Rattle.written_refutation.specs.TextView.{the_text}
+use Rattle.refute_print.specs.TextView.{the_text}
 use Rattle.request_answers.specs.Checked.{AnswersBytes}
 use Rattle.request_answers.proofs.CheckedLaws.{unread_answers, failed_answers}
 use Rattle.request_answers.proofs.check.check_bytes.Goals as goal

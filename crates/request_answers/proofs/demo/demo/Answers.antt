@@ -5,7 +5,7 @@ use Rattle.refute_text.specs.Reading.{is_one_line}
 use Rattle.request_answers.specs.Requested.{problem_name}
 use Rattle.request_answers.specs.Files.{OfFiles, Statements}
 use Rattle.request_answers.specs.Solved.{IsDemoed}
-use Rattle.request_answers.specs.Means.Unread.{IsUnread}
+use Rattle.request_answers.specs.Internal.Unread.{IsUnread}
 use Rattle.request_answers.proofs.AnswerLaws.{unread_answers, stated_answers}
 use Rattle.request_answers.proofs.FileLaws.{demo_request, unread_no_fault}
 use Rattle.request_answers.proofs.OneLine.{demo_one_line}

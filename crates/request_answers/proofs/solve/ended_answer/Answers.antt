@@ -1,10 +1,10 @@
 use Rattle.std.proofs.Common.{subst, sym, ap, ◌∙◌}
 use Rattle.delta_defs.specs.Unfolding.{taken_names, unfolded_problem}
 use Rattle.delta_defs.proofs.KeptModels.{taken_declared}
-use Rattle.tableau_run.specs.Ended.{EndsAs}
+use Rattle.prover_run.specs.Ended.{EndsAs}
 use Rattle.refute_check.proofs.AcceptanceLaws.{places_named}
-use Rattle.written_refutation.specs.Named.{named_refutation, IsNamed, ArePlaces}
-use Rattle.written_refutation.specs.Text.{text_lines, as_bytes}
+use Rattle.refute_print.specs.Named.{named_refutation, IsNamed, ArePlaces}
+use Rattle.refute_print.specs.Text.{text_lines, as_bytes}
 use Rattle.request_answers.specs.Names.{names_in}
 use Rattle.request_answers.proofs.SolvedLaws.{run_named, proof_of_run}
 use Rattle.request_answers.proofs.solve.ended_answer.Goals as goal

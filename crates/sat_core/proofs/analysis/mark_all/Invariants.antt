@@ -1,7 +1,7 @@
 use Rattle.std.proofs.Common.{◌≡◌, ◌||◌, None, length, take}
 use Rattle.sat_base.specs.declared.literal.Var.{Var}
 use Rattle.sat_base.specs.Literal.{mentions}
-use Rattle.sat_core.specs.Means.Marks.{is_marked, others}
+use Rattle.sat_core.specs.Internal.Marks.{is_marked, others}
 use Rattle.sat_core.proofs.analysis.mark_all.Given as goal
 
 abbrev pub invariant-loop-literal : goal.invariant-loop-literal

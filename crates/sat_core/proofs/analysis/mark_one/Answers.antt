@@ -1,5 +1,5 @@
 use Rattle.std.proofs.Common.{◌≡◌, ◌<◌, ◌≤◌, false, sym, ◌∙◌, arith}
-use Rattle.sat_core.specs.Means.Marks.{is_marked}
+use Rattle.sat_core.specs.Internal.Marks.{is_marked}
 use Rattle.sat_core.proofs.CountingLaws.{place_of, counted_late, counted_early}
 use Rattle.sat_core.proofs.analysis.mark_one.Goals as goal
 

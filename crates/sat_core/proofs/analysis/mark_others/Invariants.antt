@@ -1,9 +1,9 @@
 use Rattle.std.proofs.Common.{◌≡◌, ◌≤◌, ◌+◌, ◌||◌, length, take, drop}
 use Rattle.sat_base.specs.declared.literal.Var.{Var}
 use Rattle.sat_base.specs.Literal.{mentions}
-use Rattle.sat_laws.specs.Means.Analysis.{how_many}
-use Rattle.sat_propagate.specs.Means.Trail.{literals}
-use Rattle.sat_core.specs.Means.Marks.{is_marked, marks_literal, others}
+use Rattle.sat_laws.specs.Internal.Analysis.{how_many}
+use Rattle.sat_propagate.specs.Internal.Trail.{literals}
+use Rattle.sat_core.specs.Internal.Marks.{is_marked, marks_literal, others}
 use Rattle.sat_core.proofs.analysis.mark_others.Given as goal
 
 abbrev pub invariant-loop-packed : goal.invariant-loop-packed

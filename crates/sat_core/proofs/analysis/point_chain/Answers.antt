@@ -4,12 +4,12 @@ use Rattle.sat_base.specs.declared.literal.Var.{Var}
 use Rattle.sat_base.specs.declared.literal.SatLit.{SatLit}
 use Rattle.sat_base.specs.Literal.{mentions, same_var, IsOver, holds}
 use Rattle.sat_log.specs.declared.chain.ChainStep.{ChainStep}
-use Rattle.sat_propagate.specs.Means.Trail.{literals}
-use Rattle.sat_core.specs.Means.Marks.{is_marked, others}
-use Rattle.sat_core.specs.Means.Learned.{IsLearned, IsAnalysed}
+use Rattle.sat_propagate.specs.Internal.Trail.{literals}
+use Rattle.sat_core.specs.Internal.Marks.{is_marked, others}
+use Rattle.sat_core.specs.Internal.Learned.{IsLearned, IsAnalysed}
 use Rattle.sat_propagate.proofs.LevelLaws.{complete_at}
-use Rattle.sat_laws.specs.Means.Complete.{IsComplete}
-use Rattle.sat_propagate.specs.Means.Propagator.{texts}
+use Rattle.sat_laws.specs.Internal.Complete.{IsComplete}
+use Rattle.sat_propagate.specs.Internal.Propagator.{texts}
 use Rattle.sat_core.proofs.CountingLaws.{held_from}
 use Rattle.sat_core.proofs.AnalysisSteps.{over_more, learned_once, contains_at, conflict_valued, reason_valued, analysed_start, analysed_next, analysed_skip, analysed_stop, analysed_end}
 use Rattle.sat_core.proofs.analysis.point_chain.Goals as goal

@@ -1,5 +1,5 @@
 use Rattle.std.proofs.Common.{◌≡◌, length}
-use Rattle.sat_core.specs.Means.Learned.{IsAnalysed}
+use Rattle.sat_core.specs.Internal.Learned.{IsAnalysed}
 use Rattle.sat_core.proofs.analysis.point_chain.Given as goal
 
 abbrev pub invariant-loop-place : goal.invariant-loop-place

@@ -3,8 +3,8 @@ use Rattle.std.proofs.lemmas.Option.{slice_get_within}
 use Rattle.sat_base.specs.declared.literal.SatLit.{SatLit}
 use Rattle.sat_base.specs.Literal.{mentions, same_var, IsOver, holds}
 use Rattle.sat_log.specs.declared.chain.ChainStep.{ChainStep}
-use Rattle.sat_core.specs.Means.Marks.{is_marked, others}
-use Rattle.sat_core.specs.Means.Learned.{IsRefuting}
+use Rattle.sat_core.specs.Internal.Marks.{is_marked, others}
+use Rattle.sat_core.specs.Internal.Learned.{IsRefuting}
 use Rattle.sat_core.proofs.AnalysisSteps.{over_more, conflict_valued, reason_valued, refuting_start, refuting_next, refuting_skip, refuting_end, no_start}
 use Rattle.sat_core.proofs.analysis.refuted_chain.Goals as goal
 

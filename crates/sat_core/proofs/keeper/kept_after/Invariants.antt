@@ -1,5 +1,5 @@
 use Rattle.std.proofs.Common.{◌≡◌, ◌<◌, length}
-use Rattle.sat_core.specs.Means.Keeper.{AreTrueBut}
+use Rattle.sat_core.specs.Internal.Keeper.{AreTrueBut}
 use Rattle.sat_core.proofs.keeper.kept_after.Given as goal
 
 abbrev pub invariant-loop-round : goal.invariant-loop-round

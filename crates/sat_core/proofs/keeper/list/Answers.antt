@@ -2,7 +2,7 @@ use Rattle.std.proofs.Common.{inl, inr, ℕ, List, get_or, sym, subst, ◌∙◌
 use Rattle.std.specs.List.{Contains}
 use Rattle.sat_base.specs.declared.literal.SatLit.{SatLit}
 use Rattle.sat_propagate.proofs.ListLaws.{held_more, no_literal}
-use Rattle.sat_core.specs.Means.Keeper.{uses_of}
+use Rattle.sat_core.specs.Internal.Keeper.{uses_of}
 use Rattle.sat_core.proofs.KeeperLaws.{uses_kept, uses_there}
 use Rattle.sat_core.proofs.keeper.list.Goals as goal
 

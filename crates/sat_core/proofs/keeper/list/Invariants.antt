@@ -1,7 +1,7 @@
 use Rattle.std.proofs.Common.{◌≡◌, ℕ, length, take}
 use Rattle.std.specs.List.{Contains}
 use Rattle.sat_base.specs.declared.literal.Var.{Var}
-use Rattle.sat_core.specs.Means.Keeper.{uses_of, IsUsed}
+use Rattle.sat_core.specs.Internal.Keeper.{uses_of, IsUsed}
 use Rattle.sat_core.proofs.keeper.list.Given as goal
 
 abbrev pub invariant-loop-literal : goal.invariant-loop-literal

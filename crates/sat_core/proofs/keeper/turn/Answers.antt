@@ -3,7 +3,7 @@ use Rattle.std.specs.Prelude.{slice_set}
 use Rattle.std.specs.List.{slice_get, Contains}
 use Rattle.sat_base.specs.declared.literal.SatLit.{SatLit}
 use Rattle.sat_base.specs.Truth.{clause_value, assigned}
-use Rattle.sat_core.specs.Means.Keeper.{AreTrueBut}
+use Rattle.sat_core.specs.Internal.Keeper.{AreTrueBut}
 use Rattle.sat_core.proofs.KeeperLaws.{if_none, if_both, set_back, turned_true}
 use Rattle.sat_core.proofs.keeper.turn.Goals as goal
 

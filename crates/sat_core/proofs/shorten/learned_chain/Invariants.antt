@@ -1,5 +1,5 @@
 use Rattle.std.proofs.Common.{◌≡◌, length}
-use Rattle.sat_core.specs.Means.Learned.{IsShortening}
+use Rattle.sat_core.specs.Internal.Learned.{IsShortening}
 use Rattle.sat_core.proofs.shorten.learned_chain.Given as goal
 
 abbrev pub invariant-loop-i : goal.invariant-loop-i

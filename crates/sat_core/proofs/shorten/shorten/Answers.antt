@@ -3,8 +3,8 @@ use Rattle.std.proofs.lemmas.Option.{slice_get_within}
 use Rattle.sat_base.specs.declared.literal.SatLit.{SatLit}
 use Rattle.sat_base.specs.Literal.{holds, mentions, same_var, IsOver}
 use Rattle.sat_log.specs.declared.chain.ChainStep.{ChainStep}
-use Rattle.sat_core.specs.Means.Marks.{is_marked, others}
-use Rattle.sat_core.specs.Means.Learned.{IsShortening}
+use Rattle.sat_core.specs.Internal.Marks.{is_marked, others}
+use Rattle.sat_core.specs.Internal.Learned.{IsShortening}
 use Rattle.sat_core.proofs.AnalysisSteps.{over_more, reason_valued}
 use Rattle.sat_core.proofs.ShortenSteps.{shortening_next}
 use Rattle.sat_core.proofs.shorten.shorten.Goals as goal

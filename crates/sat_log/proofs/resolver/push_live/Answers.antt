@@ -1,7 +1,7 @@
 use Rattle.std.proofs.Common.{◌++◌, List, ap, sym, take, ◌∙◌}
 use Rattle.sat_base.specs.declared.literal.SatLit.{SatLit}
 use Rattle.sat_log.proofs.ResolverLaws.{pushed_more, live_more, live_same}
-use Rattle.sat_log.specs.Means.Resolver.{live}
+use Rattle.sat_log.specs.Internal.Resolver.{live}
 use Rattle.sat_log.proofs.resolver.push_live.Goals as goal
 use Rattle.sat_log.proofs.resolver.push_live.Goals.{then-is_live+in_ok-push, else-is_live}
 

@@ -1,5 +1,5 @@
 use Rattle.std.proofs.Common.{◌≡◌, ◌++◌, take}
-use Rattle.sat_log.specs.Means.Resolver.{live}
+use Rattle.sat_log.specs.Internal.Resolver.{live}
 use Rattle.sat_log.proofs.resolver.push_live.Given as goal
 
 abbrev pub invariant-loop-p : goal.invariant-loop-p

@@ -1,7 +1,7 @@
 use Rattle.std.proofs.Common.{◌++◌, List, ap, sym, drop, reverse, ◌∙◌}
 use Rattle.sat_base.specs.declared.literal.SatLit.{SatLit}
 use Rattle.sat_log.proofs.ResolverLaws.{pushed_more, live_reversed_more, live_reversed_same}
-use Rattle.sat_log.specs.Means.Resolver.{live}
+use Rattle.sat_log.specs.Internal.Resolver.{live}
 use Rattle.sat_log.proofs.resolver.push_live_reversed.Goals as goal
 
 pub loop-i-preserved-in-Continue-1 : goal.loop-i-preserved-in-Continue-1

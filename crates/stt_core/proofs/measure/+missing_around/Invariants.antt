@@ -1,6 +1,6 @@
 use Rattle.std.proofs.Common.{◌≡◌, take}
 use Rattle.stt_core.specs.Lambda.{applied, node_count}
-use Rattle.stt_core.specs.Means.Missing.{missing_binders}
+use Rattle.stt_core.specs.Internal.Missing.{missing_binders}
 use Rattle.stt_core.specs.View.{the_head}
 use Rattle.stt_core.proofs.measure.+missing_around.Given as goal
 

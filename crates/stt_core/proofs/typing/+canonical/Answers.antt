@@ -2,7 +2,7 @@ use Rattle.std.proofs.Common.{◌≤◌, length, ap, ap₂, sym, ◌∙◌, arit
 use Rattle.std.proofs.lemmas.List.{at_drop_all}
 use Rattle.stt_core.specs.Lambda.{applied, lambdas}
 use Rattle.stt_core.specs.Typing.{applied_type}
-use Rattle.stt_core.specs.Means.CanonicalType.{where_base, abstracted_type, canonical_type}
+use Rattle.stt_core.specs.Internal.CanonicalType.{where_base, abstracted_type, canonical_type}
 use Rattle.stt_core.specs.View.{the_type, the_head}
 use Rattle.stt_core.specs.ContextView.{the_context, declared_scope}
 use Rattle.stt_core.proofs.CanonicalTypes.{neutral_type-more, canonical_type-spine}

@@ -4,10 +4,10 @@ use Rattle.stt_core.specs.Lambda.{bound}
 use Rattle.stt_core.specs.View.{the_head, the_type}
 use Rattle.stt_core.proofs.HeadLaws.{constant_head}
 use Rattle.stt_core.proofs.ListLaws.{map_more}
-use Rattle.stt_normal.specs.Normal.{ways, replace}
-use Rattle.stt_normal.specs.Means.Applying.{body}
-use Rattle.stt_normal.proofs.ReplaceLaws.{body_view, replaced_whole}
-use Rattle.stt_normal.proofs.CycleLaws.{not_function_head, one_ready, one_returns, all_ready, all_returns, no_argument, head_ready, head_returns, below_returns, above_returns, constant_returns, argument_ready, head_of_ready}
+use Rattle.normal_forms.specs.Normal.{ways, replace}
+use Rattle.normal_forms.specs.Internal.Applying.{body}
+use Rattle.normal_forms.proofs.ReplaceLaws.{body_view, replaced_whole}
+use Rattle.normal_forms.proofs.CycleLaws.{not_function_head, one_ready, one_returns, all_ready, all_returns, no_argument, head_ready, head_returns, below_returns, above_returns, constant_returns, argument_ready, head_of_ready}
 use Rattle.stt_normal.proofs.apply.+apply.Goals as goal
 
 pub apply_all-replace_nf-requires : goal.apply_all-replace_nf-requires

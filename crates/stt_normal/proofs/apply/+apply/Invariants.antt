@@ -1,8 +1,8 @@
 use Rattle.std.proofs.Common.{◌≡◌, ◌+◌, map, take, drop}
 use Rattle.stt_core.specs.View.{the_type, the_head}
-use Rattle.stt_normal.specs.Normal.{ways, ways_of, replace}
-use Rattle.stt_normal.specs.Means.Applying.{body}
-use Rattle.stt_normal.proofs.Prices.{price, price_all, prices}
+use Rattle.normal_forms.specs.Normal.{ways, ways_of, replace}
+use Rattle.normal_forms.specs.Internal.Applying.{body}
+use Rattle.normal_forms.proofs.Prices.{price, price_all, prices}
 use Rattle.stt_normal.proofs.apply.+apply.Given as goal
 
 abbrev pub decreases-replace_nf : goal.decreases-replace_nf

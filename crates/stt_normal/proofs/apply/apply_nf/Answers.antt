@@ -1,7 +1,7 @@
 use Rattle.std.proofs.Common.{◌∙◌}
 use Rattle.stt_core.specs.View.{the_head, the_type}
-use Rattle.stt_normal.proofs.CycleLaws.{not_function_head}
-use Rattle.stt_normal.proofs.EtaLaws.{first_of_function}
+use Rattle.normal_forms.proofs.CycleLaws.{not_function_head}
+use Rattle.normal_forms.proofs.EtaLaws.{first_of_function}
 use Rattle.stt_normal.proofs.apply.apply_nf.Goals as goal
 
 pub at-requires : goal.at-requires

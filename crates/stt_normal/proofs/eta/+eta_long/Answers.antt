@@ -1,8 +1,8 @@
 use Rattle.std.proofs.Common.{ap, ◌∙◌}
 use Rattle.stt_core.specs.Lambda.{bound, lam, applied}
 use Rattle.stt_core.specs.View.{the_head, the_type}
-use Rattle.stt_normal.specs.Normal.{eta}
-use Rattle.stt_normal.proofs.EtaLaws.{eta_whole}
+use Rattle.normal_forms.specs.Normal.{eta}
+use Rattle.normal_forms.proofs.EtaLaws.{eta_whole}
 use Rattle.stt_normal.proofs.eta.+eta_long.Goals as goal
 
 pub returns-in_ok-bind-in-Arrow : goal.returns-in_ok-bind-in-Arrow

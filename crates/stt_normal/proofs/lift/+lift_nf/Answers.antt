@@ -4,7 +4,7 @@ use Rattle.stt_core.specs.View.{the_head}
 use Rattle.stt_core.proofs.ListLaws.{map_more}
 use Rattle.stt_core.proofs.SizeLaws.{argument_smaller}
 use Rattle.stt_core.specs.Lift.{lift_by}
-use Rattle.stt_normal.proofs.Spines.{lifted_whole}
+use Rattle.normal_forms.proofs.Spines.{lifted_whole}
 use Rattle.stt_normal.proofs.lift.+lift_nf.Goals as goal
 
 pub lift_nf-requires : goal.lift_nf-requires

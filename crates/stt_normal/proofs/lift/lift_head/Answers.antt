@@ -3,7 +3,7 @@ use Rattle.stt_core.specs.Lambda.{bound}
 use Rattle.stt_core.specs.View.{the_head}
 use Rattle.stt_core.proofs.HeadLaws.{constant_head}
 use Rattle.stt_core.specs.Lift.{lift_by}
-use Rattle.stt_normal.proofs.Spines.{lift_by_above, lift_by_below, lift_by_constant}
+use Rattle.normal_forms.proofs.Spines.{lift_by_above, lift_by_below, lift_by_constant}
 use Rattle.stt_normal.proofs.lift.lift_head.Goals as goal
 
 pub returns-in_ok-deeper-in-Bound : goal.returns-in_ok-deeper-in-Bound

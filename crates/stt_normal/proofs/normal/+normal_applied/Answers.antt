@@ -2,8 +2,8 @@ use Rattle.std.proofs.Common.{◌≡◌, ap, sym, ◌∙◌, arith}
 use Rattle.stt_core.specs.ContextView.{the_context, declared_scope}
 use Rattle.stt_core.specs.Lambda.{lam, app}
 use Rattle.stt_core.specs.View.{the_term, the_type}
-use Rattle.stt_normal.specs.Normal.{apply_each, normal_form}
-use Rattle.stt_normal.proofs.NormalReady.{argument_ready, function_ready, body_ready, function_is, function_applies}
+use Rattle.normal_forms.specs.Normal.{apply_each, normal_form}
+use Rattle.normal_forms.proofs.NormalReady.{argument_ready, function_ready, body_ready, function_is, function_applies}
 use Rattle.stt_normal.proofs.normal.+normal_applied.Goals as goal
 
 pub normal_applied-requires : goal.normal_applied-requires

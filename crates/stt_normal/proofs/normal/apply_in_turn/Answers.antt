@@ -1,5 +1,5 @@
-use Rattle.stt_normal.specs.Normal.{apply_each}
-use Rattle.stt_normal.proofs.NormalReady.{turn_ready, turn_taken}
+use Rattle.normal_forms.specs.Normal.{apply_each}
+use Rattle.normal_forms.proofs.NormalReady.{turn_ready, turn_taken}
 use Rattle.stt_normal.proofs.normal.apply_in_turn.Goals as goal
 
 pub apply_nf-requires : goal.apply_nf-requires

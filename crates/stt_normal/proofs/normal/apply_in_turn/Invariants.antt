@@ -1,6 +1,6 @@
 use Rattle.std.proofs.Common.{◌≡◌, drop}
-use Rattle.stt_normal.specs.Normal.{apply_each}
-use Rattle.stt_normal.specs.Ready.{ArgumentsApply}
+use Rattle.normal_forms.specs.Normal.{apply_each}
+use Rattle.normal_forms.specs.Ready.{ArgumentsApply}
 use Rattle.stt_normal.proofs.normal.apply_in_turn.Given as goal
 
 abbrev pub invariant-loop-i : goal.invariant-loop-i

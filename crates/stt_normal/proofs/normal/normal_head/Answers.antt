@@ -1,7 +1,7 @@
 use Rattle.std.proofs.Common.{ap, sym, ◌∙◌, option_map}
 use Rattle.stt_core.specs.ContextView.{the_context, declared_scope}
 use Rattle.stt_core.specs.View.{the_head, the_term, the_type}
-use Rattle.stt_normal.proofs.NormalReady.{head_returns}
+use Rattle.normal_forms.proofs.NormalReady.{head_returns}
 use Rattle.stt_normal.proofs.normal.normal_head.Goals as goal
 
 pub returns : goal.returns

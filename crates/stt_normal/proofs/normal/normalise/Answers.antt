@@ -1,8 +1,8 @@
 use Rattle.std.proofs.Common.{reverse}
 use Rattle.stt_core.specs.ScopeView.{the_scope}
 use Rattle.stt_core.specs.View.{the_term}
-use Rattle.stt_normal.specs.Normal.{normal_form}
-use Rattle.stt_normal.proofs.NormalReady.{whole_ready, whole_is, whole_type, whole_value}
+use Rattle.normal_forms.specs.Normal.{normal_form}
+use Rattle.normal_forms.proofs.NormalReady.{whole_ready, whole_is, whole_type, whole_value}
 use Rattle.stt_normal.proofs.normal.normalise.Goals as goal
 
 pub normal_applied-requires : goal.normal_applied-requires

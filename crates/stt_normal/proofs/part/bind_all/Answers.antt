@@ -1,7 +1,7 @@
 use Rattle.std.proofs.Common.{ap, ◌∙◌, ◌++◌, drop}
 use Rattle.stt_core.specs.Lambda.{lambdas, applied}
 use Rattle.stt_core.specs.View.{the_head}
-use Rattle.stt_normal.proofs.ReplaceLaws.{lambdas-append}
+use Rattle.normal_forms.proofs.ReplaceLaws.{lambdas-append}
 use Rattle.stt_normal.proofs.part.bind_all.Goals as goal
 
 pub returns : goal.returns

@@ -1,6 +1,6 @@
 use Rattle.std.proofs.Common.{rules, []}
 use Rattle.stt_core.specs.ScopeView.{the_scope}
-use Rattle.stt_tableau.proofs.FirstFailureLaws.{refused_not_accepted}
+use Rattle.tableau_calculus.proofs.FirstFailureLaws.{refused_not_accepted}
 use Rattle.stt_tableau.proofs.accepts.accepts_plain.Goals as goal
 
 pub returns-in_err-types-clause-refused_only : goal.returns-in_err-types-clause-refused_only

@@ -1,6 +1,6 @@
 use Rattle.std.proofs.Common.{◌<◌, arith}
-use Rattle.stt_tableau.proofs.ListLaws.{untrue}
-use Rattle.stt_tableau.proofs.FailureLaws.{last_refused, none_refused, ends_within}
+use Rattle.tableau_calculus.proofs.ListLaws.{untrue}
+use Rattle.tableau_calculus.proofs.FailureLaws.{last_refused, none_refused, ends_within}
 use Rattle.stt_tableau.proofs.accepts.check_last.Goals as goal
 
 pub returns-then-count-eq0-clause-refused : goal.returns-then-count-eq0-clause-refused

@@ -1,8 +1,8 @@
 use Rattle.std.proofs.Common.{◌<◌, length, [], take, subst, arith}
 use Rattle.stt_core.specs.ScopeView.{the_scope}
-use Rattle.stt_tableau.specs.Witnesses.{with_rows}
-use Rattle.stt_tableau.specs.Means.Answers.{LineAnswer}
-use Rattle.stt_tableau.proofs.FailureLaws.{element, line_refused, lines-more}
+use Rattle.tableau_calculus.specs.Witnesses.{with_rows}
+use Rattle.tableau_calculus.specs.Internal.Answers.{LineAnswer}
+use Rattle.tableau_calculus.proofs.FailureLaws.{element, line_refused, lines-more}
 use Rattle.stt_tableau.proofs.accepts.check_lines.Goals as goal
 
 pub returns-in-Some-clause-refused : goal.returns-in-Some-clause-refused

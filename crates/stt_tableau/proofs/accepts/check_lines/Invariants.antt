@@ -1,7 +1,7 @@
 use Rattle.std.proofs.Common.{[], take}
 use Rattle.stt_core.specs.ScopeView.{the_scope}
-use Rattle.stt_tableau.specs.Witnesses.{with_rows}
-use Rattle.stt_tableau.specs.Accepted.{AreRightLines}
+use Rattle.tableau_calculus.specs.Witnesses.{with_rows}
+use Rattle.tableau_calculus.specs.Accepted.{AreRightLines}
 use Rattle.stt_tableau.proofs.accepts.check_lines.Given as goal
 
 abbrev pub invariant-loop-i : goal.invariant-loop-i

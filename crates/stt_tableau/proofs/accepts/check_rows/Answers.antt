@@ -1,9 +1,9 @@
 use Rattle.std.proofs.Common.{◌<◌, None, length, [], take, subst, arith}
 use Rattle.stt_core.specs.View.{the_type}
 use Rattle.stt_core.specs.ScopeView.{the_scope}
-use Rattle.stt_tableau.specs.Witnesses.{Row}
-use Rattle.stt_tableau.specs.Means.Answers.{RowAnswer}
-use Rattle.stt_tableau.proofs.FailureLaws.{element, row_refused, types-more, table-more}
+use Rattle.tableau_calculus.specs.Witnesses.{Row}
+use Rattle.tableau_calculus.specs.Internal.Answers.{RowAnswer}
+use Rattle.tableau_calculus.proofs.FailureLaws.{element, row_refused, types-more, table-more}
 use Rattle.stt_tableau.proofs.accepts.check_rows.Goals as goal
 
 pub returns-in-Some-clause-refused : goal.returns-in-Some-clause-refused

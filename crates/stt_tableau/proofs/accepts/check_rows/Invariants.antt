@@ -1,6 +1,6 @@
 use Rattle.std.proofs.Common.{◌≡◌, [], map, take}
 use Rattle.stt_core.specs.ScopeView.{the_scope}
-use Rattle.stt_tableau.specs.Witnesses.{IsTable}
+use Rattle.tableau_calculus.specs.Witnesses.{IsTable}
 use Rattle.stt_tableau.proofs.accepts.check_rows.Given as goal
 
 abbrev pub invariant-loop-i : goal.invariant-loop-i

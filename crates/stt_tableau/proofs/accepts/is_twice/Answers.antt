@@ -1,6 +1,6 @@
 use Rattle.std.proofs.Common.{◌≡◌, refl, subst, sym, ap, ◌∙◌, take, arith}
-use Rattle.stt_tableau.proofs.ListLaws.{untrue, Each, each-more}
-use Rattle.stt_tableau.proofs.FailureLaws.{contains_map}
+use Rattle.tableau_calculus.proofs.ListLaws.{untrue, Each, each-more}
+use Rattle.tableau_calculus.proofs.FailureLaws.{contains_map}
 use Rattle.stt_tableau.proofs.accepts.is_twice.Goals as goal
 
 pub loop-j-preserved : goal.loop-j-preserved

@@ -1,5 +1,5 @@
 use Rattle.std.proofs.Common.{◌≡◌, take}
-use Rattle.stt_tableau.proofs.ListLaws.{Each}
+use Rattle.tableau_calculus.proofs.ListLaws.{Each}
 use Rattle.stt_tableau.proofs.accepts.is_twice.Given as goal
 
 abbrev pub invariant-loop-j : goal.invariant-loop-j

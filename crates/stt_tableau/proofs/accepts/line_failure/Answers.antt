@@ -1,13 +1,13 @@
 use Rattle.std.proofs.Common.{◌≡◌, List, [], Some, take, sym, subst, ◌∙◌}
 use Rattle.stt_core.specs.ScopeView.{the_scope}
-use Rattle.stt_tableau.specs.Literals.{Literal}
-use Rattle.stt_tableau.specs.Witnesses.{with_rows}
-use Rattle.stt_tableau.specs.Rules.{IsInstance}
-use Rattle.stt_tableau.specs.Accepted.{IsTypedLine, LineFails}
-use Rattle.stt_tableau.specs.Checks.{FindsInstance}
-use Rattle.stt_tableau.specs.declared.refutation.Line.{Line}
-use Rattle.stt_tableau.specs.declared.refutation.Why.TheVariants.{Principal}
-use Rattle.stt_tableau.proofs.FailureLaws.{over_rows}
+use Rattle.tableau_calculus.specs.Literals.{Literal}
+use Rattle.tableau_calculus.specs.Witnesses.{with_rows}
+use Rattle.tableau_calculus.specs.Rules.{IsInstance}
+use Rattle.tableau_calculus.specs.Accepted.{IsTypedLine, LineFails}
+use Rattle.tableau_calculus.specs.Checks.{FindsInstance}
+use Rattle.tableau_calculus.specs.declared.refutation.Line.{Line}
+use Rattle.tableau_calculus.specs.declared.refutation.Why.TheVariants.{Principal}
+use Rattle.tableau_calculus.proofs.FailureLaws.{over_rows}
 use Rattle.stt_tableau.proofs.accepts.line_failure.Goals as goal
 
 pub returns-in-None : goal.returns-in-None

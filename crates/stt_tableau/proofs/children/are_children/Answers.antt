@@ -1,7 +1,7 @@
 use Rattle.std.proofs.Common.{take, refl, sym, subst, arith}
-use Rattle.stt_tableau.specs.Accepted.{ClosesBy, AreChildren}
-use Rattle.stt_tableau.proofs.ListLaws.{untrue}
-use Rattle.stt_tableau.proofs.ChildLaws.{children_length, children_at, children-more}
+use Rattle.tableau_calculus.specs.Accepted.{ClosesBy, AreChildren}
+use Rattle.tableau_calculus.proofs.ListLaws.{untrue}
+use Rattle.tableau_calculus.proofs.ChildLaws.{children_length, children_at, children-more}
 use Rattle.stt_tableau.proofs.children.are_children.Goals as goal
 
 pub returns-then-len : goal.returns-then-len

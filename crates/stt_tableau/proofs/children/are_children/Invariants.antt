@@ -1,5 +1,5 @@
 use Rattle.std.proofs.Common.{take}
-use Rattle.stt_tableau.specs.Accepted.{AreChildren}
+use Rattle.tableau_calculus.specs.Accepted.{AreChildren}
 use Rattle.stt_tableau.proofs.children.are_children.Given as goal
 
 abbrev pub invariant-loop-i : goal.invariant-loop-i

@@ -1,5 +1,5 @@
 use Rattle.std.proofs.Common.{◌++◌, ◌∙◌, ap, take_all, arith}
-use Rattle.stt_tableau.proofs.ChildLaws.{append_more}
+use Rattle.tableau_calculus.proofs.ChildLaws.{append_more}
 use Rattle.stt_tableau.proofs.children.joined.Goals as goal
 
 pub loop-i-preserved : goal.loop-i-preserved

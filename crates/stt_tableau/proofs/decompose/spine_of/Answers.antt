@@ -1,7 +1,7 @@
 use Rattle.std.proofs.Common.{arith}
 use Rattle.stt_core.specs.View.{the_head}
 use Rattle.stt_core.proofs.HeadLaws.{atom_head}
-use Rattle.stt_tableau.proofs.ListLaws.{untrue}
+use Rattle.tableau_calculus.proofs.ListLaws.{untrue}
 use Rattle.stt_tableau.proofs.SpineShapes.{no_spine-binders, no_spine-count, no_spine-head, is_spine}
 use Rattle.stt_tableau.proofs.decompose.spine_of.Goals as goal
 

@@ -2,7 +2,7 @@ use Rattle.std.proofs.Common.{sym, ◌∙◌}
 use Rattle.stt_core.specs.SimpleType.{formula}
 use Rattle.stt_core.specs.View.{the_type}
 use Rattle.stt_core.proofs.TypeLaws.{same_type-true}
-use Rattle.stt_tableau.proofs.InstanceLaws.{bool_pos_is}
+use Rattle.tableau_calculus.proofs.InstanceLaws.{bool_pos_is}
 use Rattle.stt_tableau.proofs.equation.bool_pos_instance.Goals as goal
 
 pub returns-in_ok-both_or_neither-in-Some : goal.returns-in_ok-both_or_neither-in-Some

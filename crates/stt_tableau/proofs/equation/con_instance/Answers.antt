@@ -1,7 +1,7 @@
 use Rattle.std.proofs.Common.{sym, ◌∙◌}
 use Rattle.stt_core.specs.View.{the_type}
 use Rattle.stt_core.proofs.TypeLaws.{same_type-true}
-use Rattle.stt_tableau.proofs.InstanceLaws.{con_is}
+use Rattle.tableau_calculus.proofs.InstanceLaws.{con_is}
 use Rattle.stt_tableau.proofs.equation.con_instance.Goals as goal
 
 pub returns-in_ok-either_both-in-Some-equation_at : goal.returns-in_ok-either_both-in-Some-equation_at

@@ -1,5 +1,5 @@
 use Rattle.stt_core.specs.View.{the_type}
-use Rattle.stt_tableau.proofs.InstanceLaws.{refl_is}
+use Rattle.tableau_calculus.proofs.InstanceLaws.{refl_is}
 use Rattle.stt_tableau.proofs.equation.refl_instance.Goals as goal
 
 pub returns-then-same_nf : goal.returns-then-same_nf

@@ -1,7 +1,7 @@
 use Rattle.std.proofs.Common.{sym, subst}
 use Rattle.stt_core.specs.ScopeView.{the_scope}
-use Rattle.stt_tableau.specs.Accepted.{IsTypedUse}
-use Rattle.stt_tableau.specs.Checks.{FindsInstance}
+use Rattle.tableau_calculus.specs.Accepted.{IsTypedUse}
+use Rattle.tableau_calculus.specs.Checks.{FindsInstance}
 use Rattle.stt_tableau.proofs.instance.find_instance.Goals as goal
 
 pub returns-in-False : goal.returns-in-False

@@ -1,5 +1,5 @@
 use Rattle.std.proofs.Common.{sym}
-use Rattle.stt_tableau.proofs.InstanceLaws.{close_is}
+use Rattle.tableau_calculus.proofs.InstanceLaws.{close_is}
 use Rattle.stt_tableau.proofs.propositional.close_instance.Goals as goal
 
 pub returns-then-is_opposite : goal.returns-then-is_opposite

@@ -1,6 +1,6 @@
 use Rattle.std.proofs.Common.{◌∙◌, ap}
-use Rattle.stt_tableau.specs.Literals.{opposite}
-use Rattle.stt_tableau.proofs.InstanceLaws.{cut_is}
+use Rattle.tableau_calculus.specs.Literals.{opposite}
+use Rattle.tableau_calculus.proofs.InstanceLaws.{cut_is}
 use Rattle.stt_tableau.proofs.propositional.cut_instance.Goals as goal
 
 pub returns : goal.returns

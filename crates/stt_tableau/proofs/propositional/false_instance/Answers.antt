@@ -1,4 +1,4 @@
-use Rattle.stt_tableau.proofs.InstanceLaws.{false_is}
+use Rattle.tableau_calculus.proofs.InstanceLaws.{false_is}
 use Rattle.stt_tableau.proofs.propositional.false_instance.Goals as goal
 
 pub returns-in-False : goal.returns-in-False

@@ -1,6 +1,6 @@
 use Rattle.std.proofs.Common.{◌∙◌, ap}
-use Rattle.stt_tableau.specs.Literals.{opposite}
-use Rattle.stt_tableau.proofs.InstanceLaws.{imp_neg_is}
+use Rattle.tableau_calculus.specs.Literals.{opposite}
+use Rattle.tableau_calculus.proofs.InstanceLaws.{imp_neg_is}
 use Rattle.stt_tableau.proofs.propositional.imp_neg_instance.Goals as goal
 
 pub returns-in_ok-both-in-Imp : goal.returns-in_ok-both-in-Imp

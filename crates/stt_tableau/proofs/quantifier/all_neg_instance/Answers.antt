@@ -1,9 +1,9 @@
 use Rattle.std.proofs.Common.{false, refl}
 use Rattle.stt_core.specs.Lambda.{witness, constant}
 use Rattle.stt_core.specs.View.{the_type}
-use Rattle.stt_normal.specs.Normal.{eta, apply}
-use Rattle.stt_tableau.specs.Literals.{as_literal, opposite}
-use Rattle.stt_tableau.proofs.InstanceLaws.{all_neg_is}
+use Rattle.normal_forms.specs.Normal.{eta, apply}
+use Rattle.tableau_calculus.specs.Literals.{as_literal, opposite}
+use Rattle.tableau_calculus.proofs.InstanceLaws.{all_neg_is}
 use Rattle.stt_tableau.proofs.InstanceTypes.{witness_applies}
 use Rattle.stt_tableau.proofs.quantifier.all_neg_instance.Goals as goal
 

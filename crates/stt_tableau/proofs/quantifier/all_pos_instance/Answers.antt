@@ -1,8 +1,8 @@
 use Rattle.std.proofs.Common.{true, refl}
 use Rattle.stt_core.specs.View.{the_type}
 use Rattle.stt_core.specs.ScopeView.{the_scope}
-use Rattle.stt_normal.specs.Normal.{apply}
-use Rattle.stt_tableau.proofs.InstanceLaws.{all_pos_is}
+use Rattle.normal_forms.specs.Normal.{apply}
+use Rattle.tableau_calculus.proofs.InstanceLaws.{all_pos_is}
 use Rattle.stt_tableau.proofs.InstanceTypes.{predicate_applies}
 use Rattle.stt_tableau.proofs.quantifier.all_pos_instance.Goals as goal
 

@@ -3,7 +3,7 @@ use Rattle.stt_core.specs.SimpleType.{predicate}
 use Rattle.stt_core.specs.Canonical.{IsCanonical}
 use Rattle.stt_core.specs.View.{the_type}
 use Rattle.stt_core.specs.ScopeView.{the_scope}
-use Rattle.stt_tableau.proofs.InstanceLaws.{cho_is}
+use Rattle.tableau_calculus.proofs.InstanceLaws.{cho_is}
 use Rattle.stt_tableau.proofs.InstanceTypes.{predicate_on, not_untyped}
 use Rattle.stt_tableau.proofs.quantifier.cho_instance.Goals as goal
 

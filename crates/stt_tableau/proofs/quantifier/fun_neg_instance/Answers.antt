@@ -1,8 +1,8 @@
 use Rattle.std.proofs.Common.{◌≡◌, false, refl, ap, ap₂, sym, ◌∙◌}
 use Rattle.stt_core.specs.SimpleType.{arrow}
 use Rattle.stt_core.specs.View.{the_type}
-use Rattle.stt_tableau.specs.Rules.{agreement}
-use Rattle.stt_tableau.proofs.InstanceLaws.{fun_neg_is}
+use Rattle.tableau_calculus.specs.Rules.{agreement}
+use Rattle.tableau_calculus.proofs.InstanceLaws.{fun_neg_is}
 use Rattle.stt_tableau.proofs.InstanceTypes.{functions_at}
 use Rattle.stt_tableau.proofs.quantifier.fun_neg_instance.Goals as goal
 

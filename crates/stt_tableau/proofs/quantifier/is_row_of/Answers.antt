@@ -3,7 +3,7 @@ use Rattle.stt_core.specs.SimpleType.{SimpleType, same_type}
 use Rattle.stt_core.specs.Lambda.{Lambda}
 use Rattle.stt_core.specs.View.{the_type}
 use Rattle.stt_core.proofs.TypeLaws.{same_type-true, differ_type}
-use Rattle.stt_tableau.specs.Witnesses.{Row}
+use Rattle.tableau_calculus.specs.Witnesses.{Row}
 use Rattle.stt_tableau.proofs.quantifier.is_row_of.Goals as goal
 
 of_same_type : (q r : Row) (a : SimpleType) (f : Lambda) (b : Bool) → q ≡ r → q.type ≡ a → (IsTrue b ↔ q.predicate ≡ f) → IsTrue b ↔ r ≡ record { type = a; predicate = f }

@@ -1,6 +1,6 @@
 use Rattle.std.proofs.Common.{◌≡◌, ◌≤◌, Some, refl, subst, ap, ◌∙◌, take_all, length, arith}
 use Rattle.stt_core.specs.View.{the_type}
-use Rattle.stt_tableau.proofs.ListLaws.{untrue, Each, each-more, contains-get}
+use Rattle.tableau_calculus.proofs.ListLaws.{untrue, Each, each-more, contains-get}
 use Rattle.stt_tableau.proofs.quantifier.witness_of.Goals as goal
 
 pub returns-then-is_row_of : goal.returns-then-is_row_of

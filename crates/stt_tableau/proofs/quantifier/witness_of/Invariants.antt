@@ -1,6 +1,6 @@
 use Rattle.std.proofs.Common.{◌≡◌, take}
 use Rattle.stt_core.specs.View.{the_type}
-use Rattle.stt_tableau.proofs.ListLaws.{Each}
+use Rattle.tableau_calculus.proofs.ListLaws.{Each}
 use Rattle.stt_tableau.proofs.quantifier.witness_of.Given as goal
 
 abbrev pub invariant-loop-k : goal.invariant-loop-k

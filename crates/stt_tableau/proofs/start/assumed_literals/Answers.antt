@@ -1,8 +1,8 @@
 use Rattle.std.proofs.Common.{ap, ◌∙◌, [], ◌∷◌}
 use Rattle.stt_core.specs.View.{the_term}
 use Rattle.stt_core.specs.ScopeView.{the_scope}
-use Rattle.stt_tableau.specs.Start.{added, normal_literal}
-use Rattle.stt_tableau.proofs.StartLaws.{formula_at, added-more}
+use Rattle.tableau_calculus.specs.Start.{added, normal_literal}
+use Rattle.tableau_calculus.proofs.StartLaws.{formula_at, added-more}
 use Rattle.stt_tableau.proofs.start.assumed_literals.Goals as goal
 
 pub formula_literal-requires : goal.formula_literal-requires

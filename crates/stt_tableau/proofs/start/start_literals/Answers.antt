@@ -1,9 +1,9 @@
 use Rattle.std.proofs.Common.{ap, ◌∙◌, option_map}
 use Rattle.stt_core.specs.View.{the_term}
 use Rattle.stt_core.specs.PlainProblem.{PlainProblem}
-use Rattle.stt_tableau.specs.Literals.{opposite}
-use Rattle.stt_tableau.specs.Start.{start}
-use Rattle.stt_tableau.proofs.StartLaws.{start-denied}
+use Rattle.tableau_calculus.specs.Literals.{opposite}
+use Rattle.tableau_calculus.specs.Start.{start}
+use Rattle.tableau_calculus.proofs.StartLaws.{start-denied}
 use Rattle.stt_tableau.proofs.start.start_literals.Goals as goal
 
 pub returns-in_ok-add-in-Some : goal.returns-in_ok-add-in-Some

@@ -1,7 +1,7 @@
 use Rattle.std.proofs.Common.{◌≡◌, ◌++◌, map, drop}
 use Rattle.sat_base.specs.Literal.{negated}
-use Rattle.search_run.specs.Clauses.{added, clause_of}
-use Rattle.search_run.specs.Numbered.{numbers}
+use Rattle.search_spec.specs.Clauses.{added, clause_of}
+use Rattle.search_spec.specs.Numbered.{numbers}
 use Rattle.tableau_clauses.proofs.choice.clause_from.Given as goal
 
 -- what is left to add brings the clause to what it is to be

@@ -1,8 +1,8 @@
 use Rattle.std.proofs.Common.{◌≡◌, false, take}
 use Rattle.std.specs.List.{list_any}
 use Rattle.sat_base.specs.Literal.{negated}
-use Rattle.search_run.specs.Clauses.{has}
-use Rattle.search_run.specs.Numbered.{numbers}
+use Rattle.search_spec.specs.Clauses.{has}
+use Rattle.search_spec.specs.Numbered.{numbers}
 use Rattle.tableau_clauses.proofs.choice.is_tautology.Given as goal
 
 abbrev pub invariant-loop-i : goal.invariant-loop-i

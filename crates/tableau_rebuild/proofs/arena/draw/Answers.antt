@@ -1,5 +1,5 @@
 use Rattle.std.proofs.Common.{◌≡◌, ◌+◌, ◌-◌, ◌++◌, ℕ, zero, List, [], ◌∷◌, suc, length, take, replicate, Option, None, slice_index_or, ap₂, refl, sym, ap, subst, ◌∙◌, length-append, arith}
-use Rattle.tableau_rebuild.specs.Means.Arenas.{IsDrawn, IsBefore, AreResults}
+use Rattle.tableau_rebuild.specs.Internal.Arenas.{IsDrawn, IsBefore, AreResults}
 use Rattle.tableau_rebuild.proofs.ArenaLaws.{none_drawn, none_before, results_more}
 use Rattle.tableau_rebuild.proofs.arena.draw.Goals as goal
 

@@ -1,5 +1,5 @@
 use Rattle.std.proofs.Common.{◌≡◌, []}
-use Rattle.tableau_rebuild.specs.Means.Arenas.{AreDone}
+use Rattle.tableau_rebuild.specs.Internal.Arenas.{AreDone}
 use Rattle.tableau_rebuild.proofs.arena.draw.Given as goal
 
 abbrev pub invariant-loop-n : goal.invariant-loop-n

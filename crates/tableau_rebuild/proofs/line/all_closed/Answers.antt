@@ -1,7 +1,7 @@
 use Rattle.std.proofs.Common.{[], slice_index_or, refl, arith}
 use Rattle.std.proofs.lemmas.Option.{slice_get-get_or}
 use Rattle.stt_core.proofs.ListLaws.{map_more}
-use Rattle.stt_tableau.specs.declared.refutation.Child.TheVariants.{Closed}
+use Rattle.tableau_calculus.specs.declared.refutation.Child.TheVariants.{Closed}
 use Rattle.tableau_rebuild.proofs.line.all_closed.Goals as goal
 
 pub loop-i-preserved : goal.loop-i-preserved

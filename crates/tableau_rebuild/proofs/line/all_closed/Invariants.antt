@@ -1,5 +1,5 @@
 use Rattle.std.proofs.Common.{◌≡◌, map, take}
-use Rattle.stt_tableau.specs.declared.refutation.Child.TheVariants.{Closed}
+use Rattle.tableau_calculus.specs.declared.refutation.Child.TheVariants.{Closed}
 use Rattle.tableau_rebuild.proofs.line.all_closed.Given as goal
 
 abbrev pub invariant-loop-i : goal.invariant-loop-i

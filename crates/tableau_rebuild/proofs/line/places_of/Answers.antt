@@ -1,5 +1,5 @@
 use Rattle.stt_core.proofs.ListLaws.{map_more}
-use Rattle.rebuilt_refutation.specs.Stands.{place_in}
+use Rattle.rebuild_spec.specs.Stands.{place_in}
 use Rattle.tableau_rebuild.proofs.line.places_of.Goals as goal
 
 pub loop-i-preserved : goal.loop-i-preserved

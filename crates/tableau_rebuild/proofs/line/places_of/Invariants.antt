@@ -1,5 +1,5 @@
 use Rattle.std.proofs.Common.{◌≡◌, map, take}
-use Rattle.rebuilt_refutation.specs.Stands.{place_in}
+use Rattle.rebuild_spec.specs.Stands.{place_in}
 use Rattle.tableau_rebuild.proofs.line.places_of.Given as goal
 
 abbrev pub invariant-loop-i : goal.invariant-loop-i

@@ -1,8 +1,8 @@
 use Rattle.std.proofs.Common.{◌≡◌, take}
-use Rattle.rebuilt_refutation.specs.Input.{literals_of}
+use Rattle.rebuild_spec.specs.Input.{literals_of}
 use Rattle.tableau_rebuild.specs.Tables.{the_atoms}
-use Rattle.written_refutation.specs.Sizes.{AreSmallLiterals}
-use Rattle.tableau_rebuild.specs.Means.Pools.{IsMade}
+use Rattle.refute_print.specs.Sizes.{AreSmallLiterals}
+use Rattle.tableau_rebuild.specs.Internal.Pools.{IsMade}
 use Rattle.tableau_rebuild.proofs.literals.lits_of.Given as goal
 
 abbrev pub invariant-loop-i : goal.invariant-loop-i

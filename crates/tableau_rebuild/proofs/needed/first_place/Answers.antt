@@ -1,5 +1,5 @@
 use Rattle.std.proofs.Common.{sym, ◌∙◌}
-use Rattle.rebuilt_refutation.specs.Stands.{place_in}
+use Rattle.rebuild_spec.specs.Stands.{place_in}
 use Rattle.tableau_rebuild.proofs.NeededLaws.{first_in-map}
 use Rattle.tableau_rebuild.proofs.needed.first_place.Goals as goal
 

@@ -1,6 +1,6 @@
 use Rattle.std.proofs.Common.{◌≡◌, take}
-use Rattle.rebuilt_refutation.specs.Input.{literals_of}
-use Rattle.rebuilt_refutation.specs.NeededRows.{rows_for_all}
+use Rattle.rebuild_spec.specs.Input.{literals_of}
+use Rattle.rebuild_spec.specs.NeededRows.{rows_for_all}
 use Rattle.tableau_rebuild.specs.Tables.{the_atoms}
 use Rattle.tableau_rebuild.proofs.needed.rows_for_branch.Given as goal
 

@@ -5,12 +5,12 @@ use Rattle.std.proofs.lemmas.List.Elements.{All-contains}
 use Rattle.stt_core.specs.Lambda.{applied}
 use Rattle.stt_core.specs.SameTerm.{same_term}
 use Rattle.stt_core.specs.View.{the_head}
-use Rattle.stt_tableau.specs.Witnesses.{Row}
-use Rattle.stt_tableau.proofs.ListLaws.{contains-get}
+use Rattle.tableau_calculus.specs.Witnesses.{Row}
+use Rattle.tableau_calculus.proofs.ListLaws.{contains-get}
 use Rattle.term_bank.specs.NodeView.{the_shape}
 use Rattle.term_bank.specs.Terms.{term_at, shape_term, IsBelow}
 use Rattle.witness_names.specs.Rows.{rows_of}
-use Rattle.rebuilt_refutation.specs.NeededRows.{rows_up_to}
+use Rattle.rebuild_spec.specs.NeededRows.{rows_up_to}
 use Rattle.tableau_rebuild.proofs.NeededLaws.{rows_up_to-one, rows_up_to-other, head_alone, one_argument, first_there}
 use Rattle.tableau_rebuild.proofs.needed.rows_up_to.Goals as goal
 

@@ -1,5 +1,5 @@
 use Rattle.std.proofs.Common.{◌≡◌, length, inl, inr, subst, sym, arith}
-use Rattle.tableau_rebuild.specs.Means.Flags.{HasFlaggedOrigin}
+use Rattle.tableau_rebuild.specs.Internal.Flags.{HasFlaggedOrigin}
 use Rattle.tableau_rebuild.proofs.FlagLaws.{origin_more, origin_less}
 use Rattle.tableau_rebuild.proofs.reached.instances_of.Goals as goal
 

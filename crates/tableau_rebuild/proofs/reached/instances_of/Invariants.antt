@@ -1,5 +1,5 @@
 use Rattle.std.proofs.Common.{ℕ, ◌↔◌, Contains}
-use Rattle.tableau_rebuild.specs.Means.Flags.{HasFlaggedOrigin}
+use Rattle.tableau_rebuild.specs.Internal.Flags.{HasFlaggedOrigin}
 use Rattle.tableau_rebuild.proofs.reached.instances_of.Given as goal
 
 abbrev pub invariant-loop-n : goal.invariant-loop-n

@@ -1,8 +1,8 @@
 use Rattle.std.proofs.Common.{◌≡◌, ◌-◌, ◌||◌, false, suc, length, sym, ap, subst, ◌∙◌, arith}
 use Rattle.std.proofs.lemmas.List.{length-replicate}
-use Rattle.rebuilt_refutation.specs.Trees.{at_result, same_place}
+use Rattle.rebuild_spec.specs.Trees.{at_result, same_place}
 use Rattle.tableau_rebuild.specs.declared.reached.Reached.{Reached}
-use Rattle.tableau_rebuild.specs.Means.Flags.{flagged, AreFlagsOf}
+use Rattle.tableau_rebuild.specs.Internal.Flags.{flagged, AreFlagsOf}
 use Rattle.tableau_rebuild.proofs.FlagLaws.{flags_begin, flags_more}
 use Rattle.tableau_rebuild.proofs.reached.reach.Goals as goal
 

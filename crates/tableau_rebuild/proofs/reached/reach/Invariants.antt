@@ -1,4 +1,4 @@
-use Rattle.tableau_rebuild.specs.Means.Flags.{AreFlagsOf}
+use Rattle.tableau_rebuild.specs.Internal.Flags.{AreFlagsOf}
 use Rattle.tableau_rebuild.proofs.reached.reach.Given as goal
 
 abbrev pub invariant-loop-n : goal.invariant-loop-n

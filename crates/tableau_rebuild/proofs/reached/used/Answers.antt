@@ -3,7 +3,7 @@ use Rattle.std.proofs.lemmas.List.Filters.{dedup_is}
 use Rattle.std.proofs.lemmas.List.Kept.{Contains-dedup_nat, Contains-from_dedup}
 use Rattle.std.proofs.lemmas.List.Sorted.{Contains-permutation, IsPermutation-sym}
 use Rattle.std.proofs.lemmas.Map.Keys.{IsStrictlyIncreasing-dedup}
-use Rattle.tableau_rebuild.specs.Means.Flags.{HasFlaggedOrigin}
+use Rattle.tableau_rebuild.specs.Internal.Flags.{HasFlaggedOrigin}
 use Rattle.tableau_rebuild.proofs.FlagLaws.{origin_used, used_origin}
 use Rattle.tableau_rebuild.proofs.reached.used.Goals as goal
 

@@ -1,11 +1,11 @@
 use Rattle.std.proofs.Common.{◌<◌, [], length, sym, subst}
-use Rattle.rebuilt_refutation.specs.Trees.{at_result}
-use Rattle.rebuilt_refutation.specs.Stands.{line, Stands}
+use Rattle.rebuild_spec.specs.Trees.{at_result}
+use Rattle.rebuild_spec.specs.Stands.{line, Stands}
 use Rattle.tableau_rebuild.specs.Tables.{the_input, the_sources}
 use Rattle.tableau_rebuild.specs.declared.arena.Standing.TheVariants.{Line}
-use Rattle.tableau_rebuild.specs.Means.Arenas.{the_standing, StandsFor}
-use Rattle.tableau_rebuild.specs.Means.Drafts.{AreDrafts}
-use Rattle.tableau_rebuild.specs.Means.Written.{the_tree, IsFounded}
+use Rattle.tableau_rebuild.specs.Internal.Arenas.{the_standing, StandsFor}
+use Rattle.tableau_rebuild.specs.Internal.Drafts.{AreDrafts}
+use Rattle.tableau_rebuild.specs.Internal.Written.{the_tree, IsFounded}
 use Rattle.tableau_rebuild.proofs.ArenaLaws.{are_drafts}
 use Rattle.tableau_rebuild.proofs.LastLaws.{last_stands, last_start}
 use Rattle.tableau_rebuild.proofs.OverLaws.{stands_founded}

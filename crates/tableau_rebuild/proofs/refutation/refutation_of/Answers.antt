@@ -1,5 +1,5 @@
 use Rattle.std.proofs.Common.{length, map, slice_get, sym, ap, ◌∙◌}
-use Rattle.tableau_rebuild.specs.Means.Drafts.{tree_at, trees}
+use Rattle.tableau_rebuild.specs.Internal.Drafts.{tree_at, trees}
 use Rattle.tableau_rebuild.proofs.LastLaws.{listed_makeable, listed_over, all_lines}
 use Rattle.tableau_rebuild.proofs.refutation.refutation_of.Goals as goal
 

@@ -1,6 +1,6 @@
 use Rattle.std.proofs.Common.{◌∙◌, sym, subst, reverse, length, ◌<◌, arith, false, true, slice_set}
 use Rattle.std.proofs.lemmas.List.Elements.{All-head}
-use Rattle.tableau_rebuild.specs.Means.Walks.{number_of, IsUnderWay}
+use Rattle.tableau_rebuild.specs.Internal.Walks.{number_of, IsUnderWay}
 use Rattle.tableau_rebuild.specs.declared.walk.Task.TheVariants.{Enter}
 use Rattle.tableau_rebuild.proofs.WalkSteps.{any_default, enter_there, enter_new}
 use Rattle.tableau_rebuild.proofs.walk.enter.Goals as goal

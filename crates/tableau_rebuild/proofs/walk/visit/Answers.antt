@@ -4,8 +4,8 @@ use Rattle.std.proofs.lemmas.List.Elements.{All-head}
 use Rattle.tableau_rebuild.specs.declared.draft.Draft.TheVariants.{Clause}
 use Rattle.tableau_rebuild.specs.declared.walk.Task.{Task}
 use Rattle.tableau_rebuild.specs.declared.walk.Task.TheVariants.{Visit, Enter}
-use Rattle.tableau_rebuild.specs.Means.Drafts.{trees}
-use Rattle.tableau_rebuild.specs.Means.Walks.{number_of, IsUnderWay, weight}
+use Rattle.tableau_rebuild.specs.Internal.Drafts.{trees}
+use Rattle.tableau_rebuild.specs.Internal.Walks.{number_of, IsUnderWay, weight}
 use Rattle.tableau_rebuild.proofs.WalkSteps.{visit_there, visit_clause, visit_close, visit_cut, reverse_push}
 use Rattle.tableau_rebuild.proofs.walk.visit.Goals as goal
 

@@ -1,6 +1,6 @@
 use Rattle.std.proofs.Common.{reverse}
-use Rattle.tableau_rebuild.specs.Means.Drafts.{trees}
-use Rattle.tableau_rebuild.specs.Means.Walks.{IsUnderWay, weight}
+use Rattle.tableau_rebuild.specs.Internal.Drafts.{trees}
+use Rattle.tableau_rebuild.specs.Internal.Walks.{IsUnderWay, weight}
 use Rattle.tableau_rebuild.proofs.walk.walk_from.Given as goal
 
 abbrev pub invariant-loop-task : goal.invariant-loop-task

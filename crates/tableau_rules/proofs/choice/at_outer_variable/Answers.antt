@@ -1,6 +1,6 @@
 use Rattle.stt_core.specs.Lambda.{bound}
 use Rattle.stt_core.specs.View.{the_type}
-use Rattle.stt_normal.specs.Normal.{eta}
+use Rattle.normal_forms.specs.Normal.{eta}
 use Rattle.term_bank.specs.Content.{content_scope}
 use Rattle.term_bank.proofs.GrowLaws.{has_within}
 use Rattle.tableau_rules.proofs.VariableLaws.{type_declared, outer_neutral, outer_applies, outer_made}

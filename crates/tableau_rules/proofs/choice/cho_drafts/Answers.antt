@@ -1,10 +1,10 @@
 use Rattle.std.proofs.Common.{[], ◌∷◌, ap₂, ◌∙◌, subst, option_map}
 use Rattle.stt_core.specs.Lambda.{choice}
 use Rattle.stt_core.specs.View.{the_type}
-use Rattle.stt_tableau.specs.Rules.{nowhere}
+use Rattle.tableau_calculus.specs.Rules.{nowhere}
 use Rattle.term_bank.specs.Terms.{term_at}
 use Rattle.term_bank.proofs.GrowLaws.{grows_on, grown_term}
-use Rattle.tableau_rules.specs.Means.Typed.{IsPredicateType}
+use Rattle.tableau_rules.specs.Internal.Typed.{IsPredicateType}
 use Rattle.tableau_rules.proofs.ChoiceDrafts.{cho_found, picked_back}
 use Rattle.tableau_rules.proofs.choice.cho_drafts.Goals as goal
 

@@ -1,10 +1,10 @@
 use Rattle.std.proofs.Common.{Some, [], ◌∷◌, ap, ap₂, ◌∙◌, subst, option_map}
 use Rattle.stt_core.specs.Lambda.{description}
 use Rattle.stt_core.specs.View.{the_type}
-use Rattle.stt_tableau.specs.Rules.{nowhere, at_most_once}
+use Rattle.tableau_calculus.specs.Rules.{nowhere, at_most_once}
 use Rattle.term_bank.specs.Terms.{term_at}
 use Rattle.term_bank.proofs.GrowLaws.{grows_on, grown_term, grown_at}
-use Rattle.tableau_rules.specs.Means.Typed.{IsPredicateType}
+use Rattle.tableau_rules.specs.Internal.Typed.{IsPredicateType}
 use Rattle.tableau_rules.proofs.DraftLaws.{yes, nay}
 use Rattle.tableau_rules.proofs.ChoiceDrafts.{des_found, picked_back}
 use Rattle.tableau_rules.proofs.choice.des_drafts.Goals as goal

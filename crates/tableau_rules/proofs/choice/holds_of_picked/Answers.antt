@@ -1,6 +1,6 @@
 use Rattle.std.proofs.Common.{ap, sym, ◌∙◌, option_map}
 use Rattle.stt_core.specs.View.{the_type, the_head}
-use Rattle.stt_normal.specs.Normal.{apply}
+use Rattle.normal_forms.specs.Normal.{apply}
 use Rattle.term_bank.specs.Terms.{term_at}
 use Rattle.term_bank.proofs.GrowLaws.{has_within}
 use Rattle.tableau_rules.proofs.ChoiceLaws.{operator_typed, operator_fits, picked_fits, holds_fits, holds_made}

@@ -1,5 +1,5 @@
 use Rattle.std.proofs.Common.{Some, refl}
-use Rattle.stt_tableau.specs.declared.refutation.RuleUse.TheVariants as table
+use Rattle.tableau_calculus.specs.declared.refutation.RuleUse.TheVariants as table
 use Rattle.literal_map.specs.declared.instance.RuleKind.TheVariants as kind
 use Rattle.bank_normal.proofs.RightLaws.{right_grown}
 use Rattle.tableau_rules.proofs.UseLaws.{principal_now, one_by, cut_by}

@@ -1,7 +1,7 @@
 use Rattle.std.proofs.Common.{List, Some, None, subst}
-use Rattle.stt_tableau.specs.Witnesses.{Row}
+use Rattle.tableau_calculus.specs.Witnesses.{Row}
 use Rattle.bank_normal.proofs.RightLaws.{right_grown}
-use Rattle.tableau_rules.specs.Means.Used.{DraftedBy}
+use Rattle.tableau_rules.specs.Internal.Used.{DraftedBy}
 use Rattle.tableau_rules.proofs.UseLaws.{by_fields}
 use Rattle.tableau_rules.proofs.dispatch.unwitnessed_drafts.Goals as goal
 

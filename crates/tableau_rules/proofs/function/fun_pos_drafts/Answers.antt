@@ -1,6 +1,6 @@
 use Rattle.std.proofs.Common.{subst}
 use Rattle.term_bank.specs.Terms.{term_at}
-use Rattle.tableau_rules.specs.Means.Functions.{AreFunctionsOf}
+use Rattle.tableau_rules.specs.Internal.Functions.{AreFunctionsOf}
 use Rattle.tableau_rules.proofs.GrownLaws.{functions_sides, fun_pos_found}
 use Rattle.tableau_rules.proofs.function.fun_pos_drafts.Goals as goal
 

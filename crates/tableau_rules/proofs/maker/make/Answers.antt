@@ -1,8 +1,8 @@
 use Rattle.std.proofs.Common.{sym, subst}
 use Rattle.witness_names.specs.Rows.{rows_of}
 use Rattle.tableau_rules.specs.Uses.{IsInstanceBy}
-use Rattle.tableau_rules.specs.Means.Drafted.{alternatives_at}
-use Rattle.tableau_rules.specs.Means.Used.{DraftedBy, WitnessesWhere}
+use Rattle.tableau_rules.specs.Internal.Drafted.{alternatives_at}
+use Rattle.tableau_rules.specs.Internal.Used.{DraftedBy, WitnessesWhere}
 use Rattle.tableau_rules.proofs.WideLaws.{widens_on, wide_atoms, right_by}
 use Rattle.tableau_rules.proofs.UseLaws.{witnesses_on}
 use Rattle.tableau_rules.proofs.MadeLaws.{instance_on, instance_wider}

@@ -1,5 +1,5 @@
 use Rattle.std.proofs.Common.{arith}
-use Rattle.stt_tableau.proofs.ListLaws.{untrue}
+use Rattle.tableau_calculus.proofs.ListLaws.{untrue}
 use Rattle.term_bank.specs.Terms.{term_at}
 use Rattle.tableau_rules.proofs.SpineLaws.{compared-no_left, compared-no_right, compared-head, compared-heads}
 use Rattle.tableau_rules.proofs.spine.arguments_of.Goals.{then-len-eq0-via-then-len-eq0, then-len-eq0-via-else-len-eq0+then-len-eq0-2, then-not-is_compared-via-then-not-is_compared, then-not-is_compared-via-else-not-is_compared+then-not-same}

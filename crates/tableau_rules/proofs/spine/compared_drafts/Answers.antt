@@ -1,6 +1,6 @@
 use Rattle.std.proofs.Common.{subst}
 use Rattle.term_bank.specs.Terms.{term_at}
-use Rattle.tableau_rules.specs.Means.Compared.{AreArgumentsOf}
+use Rattle.tableau_rules.specs.Internal.Compared.{AreArgumentsOf}
 use Rattle.tableau_rules.proofs.SpineLaws.{arguments_fit, compared_found}
 use Rattle.tableau_rules.proofs.spine.compared_drafts.Goals as goal
 

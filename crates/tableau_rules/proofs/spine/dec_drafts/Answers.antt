@@ -1,4 +1,4 @@
-use Rattle.stt_tableau.proofs.ListLaws.{untrue}
+use Rattle.tableau_calculus.proofs.ListLaws.{untrue}
 use Rattle.term_bank.proofs.GrowLaws.{grows_itself}
 use Rattle.tableau_rules.proofs.SpineDrafts.{dec_found, dec_not}
 use Rattle.tableau_rules.proofs.spine.dec_drafts.Goals as goal

@@ -1,7 +1,7 @@
 use Rattle.std.proofs.Common.{inr}
 use Rattle.stt_core.specs.Lambda.{constant, witness}
 use Rattle.stt_core.specs.View.{the_type}
-use Rattle.stt_normal.specs.Normal.{eta}
+use Rattle.normal_forms.specs.Normal.{eta}
 use Rattle.term_bank.proofs.GrowLaws.{grows_on, has_within}
 use Rattle.witness_names.specs.Rows.{rows_of}
 use Rattle.witness_names.proofs.StayLaws.{rows_grown}

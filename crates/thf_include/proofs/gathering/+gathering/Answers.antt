@@ -4,9 +4,9 @@ use Rattle.std.proofs.lemmas.Result.{err_from_is_err_and}
 use Rattle.std.specs.Vec.Iter.{into_iter_items}
 use Rattle.thf_grammar.specs.Trees.{include}
 use Rattle.thf_grammar.specs.View.{the_annotated, the_file, the_statement, the_selected, the_selection}
-use Rattle.thf_include.specs.Means.Chain.{the_chain}
-use Rattle.thf_include.specs.Means.Steps.{FileSteps, StatementSteps, StatementsStep}
-use Rattle.thf_include.specs.Means.Names.{AreNamed}
+use Rattle.thf_include.specs.Internal.Chain.{the_chain}
+use Rattle.thf_include.specs.Internal.Steps.{FileSteps, StatementSteps, StatementsStep}
+use Rattle.thf_include.specs.Internal.Names.{AreNamed}
 use Rattle.thf_include.specs.View.{the_placed, the_statements}
 use Rattle.thf_include.proofs.FileSteps.{read-refused, text-refused, file-follows}
 use Rattle.thf_include.proofs.IncludeNames.{tree-named}

@@ -2,8 +2,8 @@ use Rattle.std.proofs.Common.{◌≡◌, ℕ, List, ◌++◌, ◌+◌, ◌-◌, 
 use Rattle.std.specs.Vec.Iter.{into_iter_items}
 use Rattle.thf_grammar.specs.View.{the_file}
 use Rattle.thf_include.specs.Gathering.{file_limit}
-use Rattle.thf_include.specs.Means.Chain.{the_chain}
-use Rattle.thf_include.specs.Means.Steps.{StatementsStep}
+use Rattle.thf_include.specs.Internal.Chain.{the_chain}
+use Rattle.thf_include.specs.Internal.Steps.{StatementsStep}
 use Rattle.thf_include.specs.View.{the_statements}
 use Rattle.thf_include.proofs.gathering.+gathering.Given as goal
 

@@ -7,7 +7,7 @@ use Rattle.thf_grammar.specs.View.{the_selected}
 use Rattle.thf_include.specs.declared.gathered.Placed.{Placed}
 use Rattle.thf_include.specs.View.{the_statements}
 use Rattle.thf_include.specs.Gathering.{is_selected}
-use Rattle.thf_include.specs.Means.Selection.{has_name}
+use Rattle.thf_include.specs.Internal.Selection.{has_name}
 use Rattle.thf_include.proofs.Selections.{selected-is, filter-statements}
 use Rattle.thf_include.proofs.selection.keep.Goals as goal
 

@@ -1,7 +1,7 @@
 use Rattle.std.proofs.Common.{◌≡◌, List, ℕ, take}
 use Rattle.std.specs.Str.{bytes_eq}
 use Rattle.std.specs.List.{list_any}
-use Rattle.thf_include.specs.Means.Selection.{has_name}
+use Rattle.thf_include.specs.Internal.Selection.{has_name}
 use Rattle.thf_include.proofs.selection.selected_names.Given as goal
 
 abbrev pub invariant-loop-selected : goal.invariant-loop-selected

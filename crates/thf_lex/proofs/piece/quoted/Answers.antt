@@ -1,5 +1,5 @@
 use Rattle.std.proofs.Common.{◌≡◌, ◌∙◌, ap}
-use Rattle.thf_grammar.specs.Means.Kind.{kind_of}
+use Rattle.thf_grammar.specs.Internal.Kind.{kind_of}
 use Rattle.thf_grammar.proofs.Pieces.{longest_token, no_token, first_kind}
 use Rattle.thf_grammar.proofs.Quotes.{quoted_token, quote_kind}
 use Rattle.thf_lex.proofs.piece.quoted.Goals as goal

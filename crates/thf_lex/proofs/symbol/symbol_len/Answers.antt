@@ -1,6 +1,6 @@
 use Rattle.std.proofs.Common.{sym, ◌∙◌}
 use Rattle.std.proofs.lemmas.Bool.{false≢true}
-use Rattle.thf_lex.specs.Means.Symbols.{BeginsWithSymbol}
+use Rattle.thf_lex.specs.Internal.Symbols.{BeginsWithSymbol}
 use Rattle.thf_lex.proofs.Symbols.{within_three, within_two, within_one, within_none}
 use Rattle.thf_lex.proofs.symbol.symbol_len.Goals as goal
 

@@ -2,10 +2,10 @@ use Rattle.std.proofs.Common.{◌≡◌, ◌<◌, [], ◌∷◌, ◌++◌, map, 
 use Rattle.std.proofs.lemmas.Bool.Decides.{nat_tests}
 use Rattle.thf_grammar.specs.View.{the_selected}
 use Rattle.thf_grammar.specs.declared.terminal.Mark.TheVariants.{Comma}
-use Rattle.thf_parse.specs.Means.Outcome.{found, first_terminal, behind}
-use Rattle.thf_grammar.specs.Means.Marks.{is_mark}
-use Rattle.thf_parse.specs.Means.NoteReader.{all_commas}
-use Rattle.thf_parse.specs.Means.StatementReader.{more_label}
+use Rattle.thf_parse.specs.Internal.Outcome.{found, first_terminal, behind}
+use Rattle.thf_grammar.specs.Internal.Marks.{is_mark}
+use Rattle.thf_parse.specs.Internal.NoteReader.{all_commas}
+use Rattle.thf_parse.specs.Internal.StatementReader.{more_label}
 use Rattle.thf_parse.proofs.LabelSteps.{labels-refused, labels-ended, labels-more, labels-shorter}
 use Rattle.thf_parse.proofs.include.labels.Goals as goal
 

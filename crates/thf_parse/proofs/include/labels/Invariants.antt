@@ -1,7 +1,7 @@
 use Rattle.std.proofs.Common.{◌≡◌, [], map, length}
 use Rattle.thf_grammar.specs.View.{the_selected}
-use Rattle.thf_parse.specs.Means.NoteReader.{all_commas}
-use Rattle.thf_parse.specs.Means.StatementReader.{more_label}
+use Rattle.thf_parse.specs.Internal.NoteReader.{all_commas}
+use Rattle.thf_parse.specs.Internal.StatementReader.{more_label}
 use Rattle.thf_parse.proofs.include.labels.Given as goal
 
 -- what is left is read as all is

@@ -1,9 +1,9 @@
 use Rattle.std.proofs.Common.{◌≡◌, ◌<◌, length, true, false, ap, ◌∙◌, arith}
 use Rattle.std.proofs.lemmas.Bool.Decides.{nat_tests}
 use Rattle.thf_grammar.specs.declared.terminal.Mark.TheVariants.{Comma}
-use Rattle.thf_parse.specs.Means.Outcome.{first_terminal, behind}
-use Rattle.thf_grammar.specs.Means.Marks.{is_mark}
-use Rattle.thf_parse.specs.Means.NoteReader.{passed, all_commas, general, inner_notes}
+use Rattle.thf_parse.specs.Internal.Outcome.{first_terminal, behind}
+use Rattle.thf_grammar.specs.Internal.Marks.{is_mark}
+use Rattle.thf_parse.specs.Internal.NoteReader.{passed, all_commas, general, inner_notes}
 use Rattle.thf_parse.proofs.NoteSteps.{list-entered, generals-refused, generals-ended, generals-more, generals-shorter}
 use Rattle.thf_parse.proofs.notes.+notes.Goals as goal
 

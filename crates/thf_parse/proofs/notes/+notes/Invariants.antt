@@ -1,6 +1,6 @@
 -- A reader calls those with less room, or those that stand below it here.
 use Rattle.std.proofs.Common.{◌≡◌, ◌+◌, ◌*◌, length}
-use Rattle.thf_parse.specs.Means.NoteReader.{passed, all_commas, general, inner_notes}
+use Rattle.thf_parse.specs.Internal.NoteReader.{passed, all_commas, general, inner_notes}
 use Rattle.thf_parse.proofs.notes.+notes.Given as goal
 
 abbrev pub decreases-called : goal.decreases-called

@@ -1,7 +1,7 @@
 use Rattle.std.proofs.Common.{[], sym, ap, subst, ◌∙◌}
 use Rattle.thf_grammar.specs.View.{the_file}
 use Rattle.thf_grammar.specs.Words.{lexemes}
-use Rattle.thf_parse.specs.Means.StatementReader.{file}
+use Rattle.thf_parse.specs.Internal.StatementReader.{file}
 use Rattle.thf_parse.specs.Parsing.{depth_limit, IsWrongAt, IsTooDeepAt}
 use Rattle.thf_parse.proofs.ParseLaws.{parsed, refused-wrong, refused-deep}
 use Rattle.thf_parse.proofs.LexemeLaws.{tokens-ended}

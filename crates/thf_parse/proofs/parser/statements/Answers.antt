@@ -1,8 +1,8 @@
 use Rattle.std.proofs.Common.{◌≡◌, [], ◌∷◌, ◌++◌, map, true, false, ap, ◌∙◌, arith}
 use Rattle.std.proofs.lemmas.Bool.Decides.{nat_tests}
 use Rattle.thf_grammar.specs.View.{the_statement}
-use Rattle.thf_parse.specs.Means.Outcome.{first_terminal}
-use Rattle.thf_parse.specs.Means.StatementReader.{is_end, file}
+use Rattle.thf_parse.specs.Internal.Outcome.{first_terminal}
+use Rattle.thf_parse.specs.Internal.StatementReader.{is_end, file}
 use Rattle.thf_parse.proofs.StatementLocals.{statement-shorter}
 use Rattle.thf_parse.proofs.FileSteps.{file-refused, file-done, file-onward}
 use Rattle.thf_parse.proofs.parser.statements.Goals as goal

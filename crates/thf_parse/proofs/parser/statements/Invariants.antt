@@ -1,6 +1,6 @@
 use Rattle.std.proofs.Common.{◌≡◌, [], map, length}
 use Rattle.thf_grammar.specs.View.{the_statement}
-use Rattle.thf_parse.specs.Means.StatementReader.{file}
+use Rattle.thf_parse.specs.Internal.StatementReader.{file}
 use Rattle.thf_parse.proofs.parser.statements.Given as goal
 
 -- what is left is read as all is

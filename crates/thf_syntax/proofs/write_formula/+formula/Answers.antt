@@ -1,6 +1,6 @@
 use Rattle.std.proofs.Common.{codes}
 use Rattle.outside.proofs.Writes.{on_err, stopped_first}
-use Rattle.thf_syntax.proofs.Writes.{err_later}
+use Rattle.thf_names.proofs.Writes.{err_later}
 use Rattle.thf_syntax.proofs.write_formula.+formula.Goals as goal
 
 pub write_formula-returns-in_err-write_in-in-Binary-clause-stopped : goal.write_formula-returns-in_err-write_in-in-Binary-clause-stopped

@@ -1,9 +1,9 @@
 use Rattle.std.proofs.Common.{codes, ◌++◌}
 use Rattle.thf_grammar.specs.View.{the_selected}
 use Rattle.thf_syntax.specs.Texts.{selected_text}
-use Rattle.thf_syntax.proofs.Lists.{flat_map-map_map}
+use Rattle.thf_names.proofs.Lists.{flat_map-map_map}
 use Rattle.outside.proofs.Writes.{on_err}
-use Rattle.thf_syntax.proofs.Writes.{stopped_at, took_all}
+use Rattle.thf_names.proofs.Writes.{stopped_at, took_all}
 use Rattle.thf_syntax.proofs.write_statement.write_further_labels.Goals as goal
 
 pub returns-in_err-write_selected-clause-stopped : goal.returns-in_err-write_selected-clause-stopped

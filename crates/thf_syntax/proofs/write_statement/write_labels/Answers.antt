@@ -3,7 +3,7 @@ use Rattle.thf_grammar.specs.View.{the_selected}
 use Rattle.thf_syntax.specs.Texts.{selected_text}
 use Rattle.thf_syntax.proofs.Lists.{separated-first}
 use Rattle.outside.proofs.Writes.{on_err, stopped_first}
-use Rattle.thf_syntax.proofs.Writes.{err_later}
+use Rattle.thf_names.proofs.Writes.{err_later}
 use Rattle.thf_syntax.proofs.write_statement.write_labels.Goals as goal
 
 pub returns-in_err-write_selected-in-len1-up-clause-stopped : goal.returns-in_err-write_selected-in-len1-up-clause-stopped

@@ -1,5 +1,5 @@
 use Rattle.outside.proofs.Writes.{on_err, stopped_first}
-use Rattle.thf_syntax.proofs.Writes.{err_later}
+use Rattle.thf_names.proofs.Writes.{err_later}
 use Rattle.thf_syntax.proofs.write_statement.write_selected.Goals as goal
 
 pub returns-in_err-write-clause-stopped : goal.returns-in_err-write-clause-stopped

@@ -2,7 +2,7 @@ use Rattle.std.proofs.lemmas.List.Folds.{flat_map-map}
 use Rattle.thf_grammar.specs.View.{the_statement}
 use Rattle.thf_syntax.specs.Texts.{statement_text}
 use Rattle.outside.proofs.Writes.{on_err}
-use Rattle.thf_syntax.proofs.Writes.{stopped_at, took_all}
+use Rattle.thf_names.proofs.Writes.{stopped_at, took_all}
 use Rattle.thf_syntax.proofs.write_statement.write_statements.Goals as goal
 
 pub returns-in_err-write_statement-clause-stopped : goal.returns-in_err-write_statement-clause-stopped

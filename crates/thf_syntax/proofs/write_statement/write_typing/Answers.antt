@@ -1,6 +1,6 @@
 use Rattle.std.proofs.Common.{codes}
 use Rattle.outside.proofs.Writes.{on_err, stopped_first, stopped_later}
-use Rattle.thf_syntax.proofs.Writes.{err_later}
+use Rattle.thf_names.proofs.Writes.{err_later}
 use Rattle.thf_syntax.proofs.write_statement.write_typing.Goals as goal
 
 pub returns-in_err-write_name-clause-stopped : goal.returns-in_err-write_name-clause-stopped

@@ -1,6 +1,6 @@
 use Rattle.std.proofs.Common.{codes}
 use Rattle.outside.proofs.Writes.{on_err, stopped_first, stopped_later}
-use Rattle.thf_syntax.proofs.Writes.{err_later}
+use Rattle.thf_names.proofs.Writes.{err_later}
 use Rattle.thf_syntax.proofs.write_types.+types.Goals as goal
 
 pub write_argument_type-returns-in_err-write-clause-stopped : goal.write_argument_type-returns-in_err-write-clause-stopped

@@ -7,7 +7,7 @@ use Rattle.thf_include.specs.declared.gathered.Placed.{Placed}
 use Rattle.thf_include.specs.View.{the_placed, the_statements}
 use Rattle.type_check.specs.Outcome.{◌>>=◌}
 use Rattle.type_check.specs.Checks.{IsIll}
-use Rattle.type_check.specs.Means.ReadingView.{the_reading}
+use Rattle.type_check.specs.Internal.ReadingView.{the_reading}
 use Rattle.type_check.specs.Statements.{in_file, read_statement, read_statements, problem_of}
 use Rattle.stt_core.proofs.ListLaws.{mapped_get}
 use Rattle.type_check.proofs.StatementLaws.{ill-then, read_statements-got, read_statements-end}

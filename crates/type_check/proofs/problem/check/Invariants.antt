@@ -1,6 +1,6 @@
 use Rattle.std.proofs.Common.{◌≡◌, ◌+◌, ◌≤◌, length, drop}
 use Rattle.thf_include.specs.View.{the_statements}
-use Rattle.type_check.specs.Means.ReadingView.{the_reading}
+use Rattle.type_check.specs.Internal.ReadingView.{the_reading}
 use Rattle.type_check.specs.Statements.{read_statements, problem_of}
 use Rattle.type_check.proofs.problem.check.Given as goal
 

@@ -3,11 +3,11 @@ use Rattle.std.proofs.lemmas.Result.{err_from_is_err_and}
 use Rattle.stt_core.specs.TypedName.{TypedName}
 use Rattle.stt_core.specs.View.{the_type}
 use Rattle.thf_grammar.specs.View.{the_formula, the_vars, the_var}
-use Rattle.type_check.specs.Means.Answers.{Answers, Refuses}
+use Rattle.type_check.specs.Internal.Answers.{Answers, Refuses}
 use Rattle.type_check.specs.Outcome.{◌>>=◌}
 use Rattle.type_check.specs.Terms.{TermReading, read_term, read_binder, bind}
-use Rattle.type_check.specs.Means.ScopeView.{the_variables}
-use Rattle.type_check.specs.Means.TypedView.{the_typed}
+use Rattle.type_check.specs.Internal.ScopeView.{the_variables}
+use Rattle.type_check.specs.Internal.TypedView.{the_typed}
 use Rattle.type_check.proofs.BinderLaws.{refuses-then, read_binder-first}
 use Rattle.type_check.proofs.terms.+terms.Goals as goal
 

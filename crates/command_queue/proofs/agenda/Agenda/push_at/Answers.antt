@@ -3,7 +3,7 @@ use Rattle.std.specs.List.{All}
 use Rattle.std.proofs.lemmas.List.Elements.{All-from_recursion}
 use Rattle.command_queue.specs.declared.entry.Entry.{Entry}
 use Rattle.command_queue.specs.Queue.{Queue}
-use Rattle.command_queue.specs.Means.Inside.{in_order}
+use Rattle.command_queue.specs.Internal.Inside.{in_order}
 use Rattle.command_queue.proofs.HeapLaws.{HoldsPushed-push_at, joins_at}
 use Rattle.command_queue.proofs.agenda.Agenda.push_at.Goals as goal
 

@@ -2,7 +2,7 @@ use Rattle.std.proofs.Common.{◌≡◌, ◌+◌, List, ◌∷◌, ◌++◌, sym
 use Rattle.std.specs.List.Sorted.{IsPermutation}
 use Rattle.std.specs.BinaryHeap.{IsHeap}
 use Rattle.command_queue.specs.declared.entry.Entry.{Entry}
-use Rattle.command_queue.specs.Means.Inside.{Held, heap_order, in_front}
+use Rattle.command_queue.specs.Internal.Inside.{Held, heap_order, in_front}
 use Rattle.command_queue.proofs.BagLaws.{joins-heap}
 use Rattle.command_queue.proofs.bag.Bag.add_likely.Goals as goal
 

@@ -1,7 +1,7 @@
 use Rattle.std.proofs.Common.{List, ◌∷◌, ◌++◌, ap, subst, heap_items}
 use Rattle.std.specs.List.Sorted.{IsPermutation}
 use Rattle.command_queue.specs.declared.entry.Entry.{Entry}
-use Rattle.command_queue.specs.Means.Inside.{Held, in_front}
+use Rattle.command_queue.specs.Internal.Inside.{Held, in_front}
 use Rattle.command_queue.proofs.BagLaws.{leaves-heap}
 use Rattle.command_queue.proofs.bag.Bag.take_first.Goals as goal
 

@@ -3,7 +3,7 @@ use Rattle.std.specs.List.{list_any}
 use Rattle.std.proofs.lemmas.Option.{slice_get_read}
 use Rattle.stt_core.specs.View.{the_type}
 use Rattle.instantiate.specs.Listing.{Listing, ids_of}
-use Rattle.instantiate.specs.Means.Groups.{first_group, place_in, AreRight}
+use Rattle.instantiate.specs.Internal.Groups.{first_group, place_in, AreRight}
 use Rattle.instantiate.proofs.ListingLaws.{shown_at, none_there, first_right, set_right, with_new, with_old}
 use Rattle.instantiate.proofs.enumerator.Enumerator.add_term.Goals as goal
 

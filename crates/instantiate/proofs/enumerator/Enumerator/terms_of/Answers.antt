@@ -2,7 +2,7 @@ use Rattle.std.proofs.Common.{length, refl, ap, ◌∙◌}
 use Rattle.std.proofs.lemmas.Option.{slice_get_read, slice_get_past}
 use Rattle.stt_core.specs.View.{the_type}
 use Rattle.instantiate.specs.Listing.{ids_of}
-use Rattle.instantiate.specs.Means.Groups.{AreRight}
+use Rattle.instantiate.specs.Internal.Groups.{AreRight}
 use Rattle.instantiate.proofs.ListingLaws.{shown, none_shown}
 use Rattle.instantiate.proofs.enumerator.Enumerator.terms_of.Goals as goal
 

@@ -1,6 +1,6 @@
 use Rattle.std.proofs.Common.{ap, ◌∙◌}
 use Rattle.std.specs.Prelude.{unwrap_or}
-use Rattle.search_run.specs.Partial.{Partial, filled}
+use Rattle.search_spec.specs.Partial.{Partial, filled}
 use Rattle.instantiate.proofs.FillLaws.{placed-first}
 use Rattle.instantiate.proofs.partial.Partial.with_head.Goals as goal
 

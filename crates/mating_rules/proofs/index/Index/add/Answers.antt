@@ -1,7 +1,7 @@
 use Rattle.std.proofs.Common.{ap, ◌++◌, ◌∷◌, [], ◌∙◌, subst}
 use Rattle.term_bank.specs.NodeView.{the_shape}
 use Rattle.mating_rules.specs.Noted.{Notes}
-use Rattle.mating_rules.specs.Means.Pairing.{pairing_head, KeepsWhere}
+use Rattle.mating_rules.specs.Internal.Pairing.{pairing_head, KeepsWhere}
 use Rattle.mating_rules.proofs.NoteLaws.{found_at, noted_right}
 use Rattle.mating_rules.proofs.index.Index.add.Goals as goal
 

@@ -1,7 +1,7 @@
 use Rattle.std.proofs.Common.{not, ap, ◌∙◌}
 use Rattle.term_bank.specs.NodeView.{the_shape}
 use Rattle.mating_rules.specs.Noted.{Notes}
-use Rattle.mating_rules.specs.Means.Pairing.{pairing_head, kept_where}
+use Rattle.mating_rules.specs.Internal.Pairing.{pairing_head, kept_where}
 use Rattle.mating_rules.proofs.NoteLaws.{found_at, kept-partners}
 use Rattle.mating_rules.proofs.index.Index.partners.Goals as goal
 

@@ -1,7 +1,7 @@
 use Rattle.std.proofs.Common.{◌≡◌, ◌∙◌, length, ap, sym, arith, refl}
 use Rattle.std.proofs.lemmas.List.{length-map}
 use Rattle.outside.specs.Entry.{file_of}
-use Rattle.outside.specs.Means.Counts.{FilesAndCounts}
+use Rattle.outside.specs.Internal.Counts.{FilesAndCounts}
 use Rattle.outside.proofs.Counts.{files_of-recounted, counts_of-recounted, counts_of-others}
 use Rattle.outside.proofs.counted_files.CountedFiles.count_fault.Goals as goal
 

@@ -1,5 +1,5 @@
 use Rattle.std.proofs.Common.{◌∙◌, sym}
-use Rattle.stt_tableau.proofs.ListLaws.{untrue}
+use Rattle.tableau_calculus.proofs.ListLaws.{untrue}
 use Rattle.refute_check.proofs.SetLaws.{within_sides, positive_within, negative_within}
 use Rattle.refute_check.proofs.branch.Branch.is_within.Goals as goal
 

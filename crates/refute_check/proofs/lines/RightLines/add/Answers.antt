@@ -1,10 +1,10 @@
 use Rattle.std.proofs.Common.{◌++◌, [], ◌∷◌, None, Some, IfSome, sym, subst}
-use Rattle.stt_tableau.proofs.ListLaws.{untrue}
-use Rattle.written_refutation.specs.TextView.{the_line}
+use Rattle.tableau_calculus.proofs.ListLaws.{untrue}
+use Rattle.refute_print.specs.TextView.{the_line}
 use Rattle.refute_check.specs.Numbered.{numbered_line}
-use Rattle.refute_check.specs.Means.Branches.{Represents, AreNumbered, AreBranches}
-use Rattle.refute_check.specs.Means.Shared.{scope_in, the_atoms, the_rows, Extends, NumbersBranch}
-use Rattle.refute_check.specs.Means.Taking.{Takes, Finds, alternatives_in}
+use Rattle.refute_check.specs.Internal.Branches.{Represents, AreNumbered, AreBranches}
+use Rattle.refute_check.specs.Internal.Shared.{scope_in, the_atoms, the_rows, Extends, NumbersBranch}
+use Rattle.refute_check.specs.Internal.Taking.{Takes, Finds, alternatives_in}
 use Rattle.refute_check.proofs.BranchLaws.{branches-append}
 use Rattle.refute_check.proofs.SharedLaws.{extends_on, extends_numbers}
 use Rattle.refute_check.proofs.SeenLaws.{seen_stays}

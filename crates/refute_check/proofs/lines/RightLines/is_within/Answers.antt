@@ -1,6 +1,6 @@
 use Rattle.std.proofs.Common.{◌≡◌, ◌∙◌, ◌++◌, Some, slice_get, option_copied, ap, sym, subst}
-use Rattle.stt_tableau.specs.Accepted.{Within}
-use Rattle.stt_tableau.proofs.ListLaws.{within-trans, within-itself, within-behind, within-both}
+use Rattle.tableau_calculus.specs.Accepted.{Within}
+use Rattle.tableau_calculus.proofs.ListLaws.{within-trans, within-itself, within-behind, within-both}
 use Rattle.refute_check.proofs.ChildLaws.{line_at, no_line_at, within-numbers, numbers-within}
 use Rattle.refute_check.proofs.lines.RightLines.is_within.Goals as goal
 

@@ -1,5 +1,5 @@
 use Rattle.std.proofs.Common.{◌∙◌, option_copied, slice_get, ap, refl, sym}
-use Rattle.stt_tableau.proofs.ListLaws.{contains-get}
+use Rattle.tableau_calculus.proofs.ListLaws.{contains-get}
 use Rattle.refute_check.proofs.seen.Seen.find.Goals as goal
 
 pub returns-then-same_literal : goal.returns-then-same_literal

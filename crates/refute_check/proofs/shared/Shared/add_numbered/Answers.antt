@@ -1,9 +1,9 @@
 use Rattle.std.proofs.Common.{◌∙◌, ◌++◌, ◌∷◌, [], ap, ap₂, sym, subst}
-use Rattle.stt_tableau.specs.Witnesses.{Row, IsTypedRow}
+use Rattle.tableau_calculus.specs.Witnesses.{Row, IsTypedRow}
 use Rattle.term_bank.specs.Content.{HasTerm}
 use Rattle.term_bank.proofs.GrowLaws.{has_within}
-use Rattle.refute_check.specs.Means.Branches.{Grow}
-use Rattle.refute_check.specs.Means.Shared.{declared_in, the_atoms, the_rows}
+use Rattle.refute_check.specs.Internal.Branches.{Grow}
+use Rattle.refute_check.specs.Internal.Shared.{declared_in, the_atoms, the_rows}
 use Rattle.refute_check.proofs.SharedLaws.{with_bank, imported_extends, imported_good, extends_declared, extends_rows, extends_atoms, some_of, none_of}
 use Rattle.refute_check.proofs.RowLaws.{row_of_place, position_any, found_twice, found_once}
 use Rattle.refute_check.proofs.shared.Shared.add_numbered.Goals as goal

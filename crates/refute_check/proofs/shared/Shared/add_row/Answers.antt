@@ -1,8 +1,8 @@
 use Rattle.std.proofs.Common.{◌≡◌, ◌++◌, ◌∷◌, [], None, IfOk, refl, sym, subst}
-use Rattle.stt_tableau.specs.Witnesses.{Row}
-use Rattle.stt_tableau.specs.Means.Answers.{RowAnswer}
+use Rattle.tableau_calculus.specs.Witnesses.{Row}
+use Rattle.tableau_calculus.specs.Internal.Answers.{RowAnswer}
 use Rattle.refute_check.specs.Numbered.{argument_type}
-use Rattle.refute_check.specs.Means.Shared.{declared_in, the_rows}
+use Rattle.refute_check.specs.Internal.Shared.{declared_in, the_rows}
 use Rattle.refute_check.proofs.shared.Shared.add_row.Goals as goal
 
 pub add_numbered-answer-requires-clause-formed : goal.add_numbered-answer-requires-clause-formed

@@ -1,6 +1,6 @@
 use Rattle.std.proofs.Common.{◌∙◌, sym, subst}
 use Rattle.refute_check.specs.Numbered.{numbered_term}
-use Rattle.refute_check.specs.Means.Shared.{HasPlace}
+use Rattle.refute_check.specs.Internal.Shared.{HasPlace}
 use Rattle.refute_check.proofs.SharedLaws.{extends_numbers}
 use Rattle.refute_check.proofs.TakingLaws.{term_taken, term_missing, number_at, no_number_at}
 use Rattle.refute_check.proofs.shared.Shared.at_term.Goals as goal

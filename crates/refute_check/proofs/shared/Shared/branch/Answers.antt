@@ -1,10 +1,10 @@
 use Rattle.std.proofs.Common.{◌∙◌, [], ◌∷◌, refl, ap, sym, subst, map, take}
 use Rattle.stt_core.proofs.ListLaws.{mapped_get, take_got, map-append}
-use Rattle.stt_tableau.specs.Literals.{IsBranch}
-use Rattle.stt_tableau.proofs.ListLaws.{contains-get}
-use Rattle.stt_tableau.proofs.ClosedLaws.{literal_in}
+use Rattle.tableau_calculus.specs.Literals.{IsBranch}
+use Rattle.tableau_calculus.proofs.ListLaws.{contains-get}
+use Rattle.tableau_calculus.proofs.ClosedLaws.{literal_in}
 use Rattle.refute_check.specs.Numbered.{numbered_literal}
-use Rattle.refute_check.specs.Means.Shared.{scope_in, AreNumbersOf, NumbersLiteral}
+use Rattle.refute_check.specs.Internal.Shared.{scope_in, AreNumbersOf, NumbersLiteral}
 use Rattle.refute_check.proofs.SharedLaws.{extends_itself, extends_on, branch-more}
 use Rattle.refute_check.proofs.shared.Shared.branch.Goals as goal
 

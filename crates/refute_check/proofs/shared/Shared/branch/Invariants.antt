@@ -1,8 +1,8 @@
 use Rattle.std.proofs.Common.{map, take}
-use Rattle.stt_tableau.specs.Literals.{IsBranch}
+use Rattle.tableau_calculus.specs.Literals.{IsBranch}
 use Rattle.refute_check.specs.Numbered.{numbered_literal}
-use Rattle.refute_check.specs.Means.Seen.{IsSeen}
-use Rattle.refute_check.specs.Means.Shared.{scope_in, IsGood, Extends, AreNumbersOf}
+use Rattle.refute_check.specs.Internal.Seen.{IsSeen}
+use Rattle.refute_check.specs.Internal.Shared.{scope_in, IsGood, Extends, AreNumbersOf}
 use Rattle.refute_check.proofs.shared.Shared.branch.Given as goal
 
 abbrev pub invariant-loop-i : goal.invariant-loop-i

@@ -2,9 +2,9 @@ use Rattle.std.proofs.Common.{◌∙◌, ◌+◌, [], ◌∷◌, ◌++◌, refl,
 use Rattle.stt_core.specs.View.{the_term}
 use Rattle.stt_core.specs.Typing.{Scope, IsScope}
 use Rattle.stt_core.specs.TypedProblem.{IsFormula}
-use Rattle.stt_tableau.specs.Start.{normal_literal}
-use Rattle.stt_tableau.proofs.StartLaws.{formula_at, literals-more}
-use Rattle.refute_check.specs.Means.Shared.{scope_in, AreNumbersOf}
+use Rattle.tableau_calculus.specs.Start.{normal_literal}
+use Rattle.tableau_calculus.proofs.StartLaws.{formula_at, literals-more}
+use Rattle.refute_check.specs.Internal.Shared.{scope_in, AreNumbersOf}
 use Rattle.refute_check.proofs.SharedLaws.{extends_itself, extends_on, extends_scope, extends_numbers, numbers-more}
 use Rattle.refute_check.proofs.shared.Shared.formulas.Goals as goal
 

@@ -1,6 +1,6 @@
 use Rattle.std.proofs.Common.{map, take}
-use Rattle.stt_tableau.specs.Start.{normal_literal}
-use Rattle.refute_check.specs.Means.Shared.{scope_in, IsGood, Extends, AreNumbersOf}
+use Rattle.tableau_calculus.specs.Start.{normal_literal}
+use Rattle.refute_check.specs.Internal.Shared.{scope_in, IsGood, Extends, AreNumbersOf}
 use Rattle.refute_check.proofs.shared.Shared.formulas.Given as goal
 
 abbrev pub invariant-loop-i : goal.invariant-loop-i

@@ -1,7 +1,7 @@
 use Rattle.std.proofs.Common.{None, Some, sym, subst}
 use Rattle.refute_check.specs.Numbered.{numbered_term, numbered_of_predicate}
-use Rattle.refute_check.specs.Means.Shared.{HasPredicate}
-use Rattle.refute_check.specs.Means.Taking.{Takes}
+use Rattle.refute_check.specs.Internal.Shared.{HasPredicate}
+use Rattle.refute_check.specs.Internal.Taking.{Takes}
 use Rattle.refute_check.specs.declared.taking.Taking.TheVariants.{By}
 use Rattle.refute_check.proofs.TakingLaws.{predicate_takes}
 use Rattle.refute_check.proofs.shared.Shared.of_predicate.Goals as goal

@@ -1,5 +1,5 @@
 use Rattle.std.proofs.Common.{IfOk, subst}
-use Rattle.refute_check.specs.Means.Shared.{HasPredicate}
+use Rattle.refute_check.specs.Internal.Shared.{HasPredicate}
 use Rattle.refute_check.proofs.shared.Shared.predicate.Goals as goal
 
 pub returns-clause-place : goal.returns-clause-place

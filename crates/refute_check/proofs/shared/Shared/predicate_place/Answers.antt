@@ -1,6 +1,6 @@
 use Rattle.std.proofs.Common.{[], refl}
 use Rattle.stt_core.specs.SimpleType.{predicate}
-use Rattle.stt_tableau.proofs.ListLaws.{untrue}
+use Rattle.tableau_calculus.proofs.ListLaws.{untrue}
 use Rattle.refute_check.proofs.SharedLaws.{imported_good, has_place}
 use Rattle.refute_check.proofs.shared.Shared.predicate_place.Goals as goal
 

@@ -1,6 +1,6 @@
 use Rattle.std.proofs.Common.{subst}
 use Rattle.refute_check.specs.Numbered.{numbered_literal}
-use Rattle.refute_check.specs.Means.Shared.{NumbersLiteral}
+use Rattle.refute_check.specs.Internal.Shared.{NumbersLiteral}
 use Rattle.refute_check.proofs.SeenLaws.{seen_stays}
 use Rattle.refute_check.proofs.shared.Shared.seen_literal.Goals as goal
 

@@ -1,7 +1,7 @@
 use Rattle.std.proofs.Common.{◌∙◌, [], ◌∷◌, ap, sym, subst, map, take}
 use Rattle.stt_core.proofs.ListLaws.{take_got, map-append}
-use Rattle.refute_check.specs.Means.Branches.{Represents}
-use Rattle.refute_check.specs.Means.Shared.{the_atoms, literal_in, IsNumber}
+use Rattle.refute_check.specs.Internal.Branches.{Represents}
+use Rattle.refute_check.specs.Internal.Shared.{the_atoms, literal_in, IsNumber}
 use Rattle.refute_check.proofs.BranchLaws.{represents-more}
 use Rattle.refute_check.proofs.SharedLaws.{each_at, number_of-atom, literals_numbered}
 use Rattle.refute_check.proofs.shared.Shared.set_of.Goals as goal

@@ -1,6 +1,6 @@
 use Rattle.std.proofs.Common.{map, take}
-use Rattle.refute_check.specs.Means.Branches.{Represents}
-use Rattle.refute_check.specs.Means.Shared.{the_atoms, literal_in}
+use Rattle.refute_check.specs.Internal.Branches.{Represents}
+use Rattle.refute_check.specs.Internal.Shared.{the_atoms, literal_in}
 use Rattle.refute_check.proofs.shared.Shared.set_of.Given as goal
 
 abbrev pub invariant-loop-i : goal.invariant-loop-i

@@ -3,9 +3,9 @@ use Rattle.stt_core.specs.Typing.{Scope}
 use Rattle.stt_core.specs.View.{the_term}
 use Rattle.stt_core.specs.Declarations.{scope_of}
 use Rattle.stt_core.specs.PlainProblem.{PlainProblem}
-use Rattle.stt_tableau.specs.Start.{normal_literal, start}
-use Rattle.refute_check.specs.Means.Branches.{Represents, AreNumbered}
-use Rattle.refute_check.specs.Means.Shared.{scope_in, the_atoms, AreNumbersOf}
+use Rattle.tableau_calculus.specs.Start.{normal_literal, start}
+use Rattle.refute_check.specs.Internal.Branches.{Represents, AreNumbered}
+use Rattle.refute_check.specs.Internal.Shared.{scope_in, the_atoms, AreNumbersOf}
 use Rattle.refute_check.proofs.SharedLaws.{extends_on, extends_scope}
 use Rattle.refute_check.proofs.StartLaws.{numbers_denied, start_in}
 use Rattle.refute_check.proofs.shared.Shared.start.Goals as goal

@@ -1,8 +1,8 @@
 use Rattle.std.proofs.Common.{refl, sym, subst}
-use Rattle.written_refutation.specs.LineView.{the_rule}
-use Rattle.written_refutation.specs.Trees.{False, Refl, ImpPos, ImpNeg, BoolPos, BoolNeg, FunPos, FunNeg, AllNeg, Dec, Close, Mat, Con, Cho, Des}
+use Rattle.refute_print.specs.LineView.{the_rule}
+use Rattle.refute_print.specs.Trees.{False, Refl, ImpPos, ImpNeg, BoolPos, BoolNeg, FunPos, FunNeg, AllNeg, Dec, Close, Mat, Con, Cho, Des}
 use Rattle.refute_check.specs.Numbered.{numbered_rule}
-use Rattle.refute_check.specs.Means.Taking.{Takes}
+use Rattle.refute_check.specs.Internal.Taking.{Takes}
 use Rattle.refute_check.proofs.shared.Shared.taking.Goals as goal
 
 pub returns-in-False-clause-takes : goal.returns-in-False-clause-takes

@@ -1,5 +1,5 @@
 use Rattle.std.proofs.Common.{IfOk, subst}
-use Rattle.refute_check.specs.Means.Shared.{HasPlace}
+use Rattle.refute_check.specs.Internal.Shared.{HasPlace}
 use Rattle.refute_check.proofs.shared.Shared.term.Goals as goal
 
 pub returns-clause-place : goal.returns-clause-place

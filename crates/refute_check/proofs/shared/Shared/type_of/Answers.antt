@@ -1,8 +1,8 @@
 use Rattle.std.proofs.Common.{◌∙◌, [], option_map, ap}
 use Rattle.stt_core.specs.View.{the_type}
-use Rattle.stt_core.specs.Means.CanonicalType.{canonical_type}
-use Rattle.stt_tableau.proofs.TypedLaws.{canonical_tells}
-use Rattle.refute_check.specs.Means.Shared.{scope_in}
+use Rattle.stt_core.specs.Internal.CanonicalType.{canonical_type}
+use Rattle.tableau_calculus.proofs.TypedLaws.{canonical_tells}
+use Rattle.refute_check.specs.Internal.Shared.{scope_in}
 use Rattle.refute_check.proofs.SharedLaws.{signature_scope}
 use Rattle.refute_check.proofs.shared.Shared.type_of.Goals as goal
 

@@ -1,5 +1,5 @@
 use Rattle.std.proofs.Common.{◌∙◌, ◌∷◌, ◌++◌, [], sym, subst}
-use Rattle.refute_text.specs.Means.Known.{AreTexts}
+use Rattle.refute_text.specs.Internal.Known.{AreTexts}
 use Rattle.refute_text.proofs.KnownLaws.{texts-more, text_added, text_kept, stored_literal}
 use Rattle.refute_text.proofs.known.Known.place_of.Goals as goal
 

@@ -1,4 +1,4 @@
-use Rattle.written_refutation.specs.Text.{literal_text}
+use Rattle.refute_print.specs.Text.{literal_text}
 use Rattle.std.proofs.lemmas.Option.{slice_get_within}
 use Rattle.refute_text.proofs.KnownLaws.{front_of}
 use Rattle.refute_text.proofs.LiteralReads.{literal_reads, literal_shorter}

@@ -1,5 +1,5 @@
 use Rattle.std.proofs.Common.{◌≡◌, ◌-◌, length}
-use Rattle.sat_core.specs.Means.Keeper.{IsKeeper}
+use Rattle.sat_core.specs.Internal.Keeper.{IsKeeper}
 use Rattle.sat_core.proofs.keeper.Keeper.list_all.Given as goal
 
 abbrev pub invariant-loop-self : goal.invariant-loop-self

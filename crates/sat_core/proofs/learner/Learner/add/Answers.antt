@@ -1,7 +1,7 @@
 use Rattle.std.proofs.Common.{◌≡◌, List, length, sym, ◌∙◌, subst}
 use Rattle.sat_base.specs.declared.literal.SatLit.{SatLit}
 use Rattle.sat_base.specs.Literal.{IsOver}
-use Rattle.sat_core.specs.Means.Learner.{IsLearnerOf}
+use Rattle.sat_core.specs.Internal.Learner.{IsLearnerOf}
 use Rattle.sat_core.proofs.LearnerSteps.{learner_added}
 use Rattle.sat_core.proofs.learner.Learner.add.Goals as goal
 

@@ -4,9 +4,9 @@ use Rattle.sat_log.specs.declared.chain.Premise.{Premise}
 use Rattle.sat_log.specs.Chains.{premise_clause, results}
 use Rattle.std.proofs.lemmas.Option.{same_Some}
 use Rattle.sat_log.specs.Propagation.{IsFalseIn}
-use Rattle.sat_propagate.specs.Means.Trail.{literals}
-use Rattle.sat_propagate.specs.Means.Propagator.{texts}
-use Rattle.sat_core.specs.Means.Learner.{IsNamedPropagator, IsLearnerOf}
+use Rattle.sat_propagate.specs.Internal.Trail.{literals}
+use Rattle.sat_propagate.specs.Internal.Propagator.{texts}
+use Rattle.sat_core.specs.Internal.Learner.{IsNamedPropagator, IsLearnerOf}
 use Rattle.sat_core.proofs.NameLaws.{ready_pushed, ready_same}
 use Rattle.sat_core.proofs.LearnerSteps.{learner_kept, Includes-same, Includes-push}
 use Rattle.sat_core.proofs.learner.Learner.insert.Goals as goal

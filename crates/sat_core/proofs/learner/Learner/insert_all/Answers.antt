@@ -7,7 +7,7 @@ use Rattle.sat_base.specs.declared.literal.SatLit.{SatLit}
 use Rattle.sat_log.specs.declared.chain.Premise.{Premise}
 use Rattle.sat_log.specs.declared.log.LogEntry.{LogEntry}
 use Rattle.sat_log.specs.Chains.{premise_clause, results}
-use Rattle.sat_propagate.specs.Means.Propagator.{texts}
+use Rattle.sat_propagate.specs.Internal.Propagator.{texts}
 use Rattle.sat_core.proofs.NameLaws.{result_there}
 use Rattle.sat_core.proofs.LearnerLaws.{all_inserted}
 use Rattle.sat_core.proofs.LearnerSteps.{learner_next_clause, learner_next_result, IsUnlearned-trans, pushed_there}

@@ -1,5 +1,5 @@
 use Rattle.std.proofs.Common.{◌≤◌, ◌-◌, length}
-use Rattle.sat_core.specs.Means.Learner.{IsLearner, IsUnlearned}
+use Rattle.sat_core.specs.Internal.Learner.{IsLearner, IsUnlearned}
 use Rattle.sat_core.proofs.learner.Learner.insert_all.Given as goal
 
 abbrev pub invariant-loop-self : goal.invariant-loop-self

@@ -2,10 +2,10 @@ use Rattle.std.proofs.Common.{◌≡◌, [], ◌∷◌, ◌++◌, List, length, 
 use Rattle.sat_base.specs.declared.literal.SatLit.{SatLit}
 use Rattle.sat_log.specs.Chains.{results}
 use Rattle.sat_log.specs.Propagation.{IsNew}
-use Rattle.sat_propagate.specs.Means.Propagator.{texts}
-use Rattle.sat_propagate.specs.Means.Trail.{TrailState}
+use Rattle.sat_propagate.specs.Internal.Propagator.{texts}
+use Rattle.sat_propagate.specs.Internal.Trail.{TrailState}
 use Rattle.std.proofs.lemmas.Option.{same_Some}
-use Rattle.sat_core.specs.Means.Learner.{IsNamedPropagator, AreLearned}
+use Rattle.sat_core.specs.Internal.Learner.{IsNamedPropagator, AreLearned}
 use Rattle.sat_core.proofs.NameLaws.{ready_appended, ready_same, right_same, appended_results}
 use Rattle.sat_core.proofs.LearnerLaws.{learned_more, learned_open, IsNew-fewer, Grew-same, Grew-pushed}
 use Rattle.sat_core.proofs.LearnerSteps.{learner_logged, learner_kept, Includes-same}

@@ -3,9 +3,9 @@ use Rattle.sat_base.specs.declared.literal.SatLit.{SatLit}
 use Rattle.sat_log.specs.declared.log.LogEntry.{LogEntry}
 use Rattle.sat_log.specs.Chains.{results}
 use Rattle.sat_log.specs.Propagation.{Includes}
-use Rattle.sat_propagate.specs.Means.Propagator.{texts}
+use Rattle.sat_propagate.specs.Internal.Propagator.{texts}
 use Rattle.sat_propagate.specs.declared.propagator.Propagator.{Propagator}
-use Rattle.sat_core.specs.Means.Learner.{AreLearned}
+use Rattle.sat_core.specs.Internal.Learner.{AreLearned}
 use Rattle.sat_core.proofs.NameLaws.{ready_same}
 use Rattle.sat_core.proofs.LearnerLaws.{learned_open, Grew-same, Grew-trans}
 use Rattle.sat_core.proofs.LearnerSteps.{learner_kept, Includes-same}

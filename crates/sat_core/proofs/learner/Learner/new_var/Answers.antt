@@ -1,7 +1,7 @@
 use Rattle.std.proofs.Common.{◌≡◌, ◌+◌, [], ◌∷◌, Bool, List, false, length, length-append, ap, ◌∙◌, arith}
 use Rattle.sat_log.specs.Chains.{results}
-use Rattle.sat_propagate.specs.Means.Trail.{TrailState}
-use Rattle.sat_propagate.specs.Means.Propagator.{texts}
+use Rattle.sat_propagate.specs.Internal.Trail.{TrailState}
+use Rattle.sat_propagate.specs.Internal.Propagator.{texts}
 use Rattle.sat_core.proofs.NameLaws.{ready_variable, ready_marks}
 use Rattle.sat_core.proofs.LearnerSteps.{learner_kept, Includes-same}
 use Rattle.sat_core.proofs.learner.Learner.new_var.Goals as goal

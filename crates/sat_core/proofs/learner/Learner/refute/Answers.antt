@@ -6,9 +6,9 @@ use Rattle.sat_base.specs.Literal.{IsOver}
 use Rattle.sat_log.specs.declared.chain.Premise.{Premise}
 use Rattle.sat_log.specs.declared.log.LogEntry.{LogEntry}
 use Rattle.sat_log.specs.Chains.{chain_result, results}
-use Rattle.sat_propagate.specs.Means.Propagator.{texts}
-use Rattle.sat_core.specs.Means.Learned.{AreNamed}
-use Rattle.sat_core.specs.Means.Learner.{IsNamedPropagator, IsLearnerOf}
+use Rattle.sat_propagate.specs.Internal.Propagator.{texts}
+use Rattle.sat_core.specs.Internal.Learned.{AreNamed}
+use Rattle.sat_core.specs.Internal.Learner.{IsNamedPropagator, IsLearnerOf}
 use Rattle.sat_core.proofs.NameLaws.{appended_results, ready_learned, ready_marks}
 use Rattle.sat_core.proofs.LearnerLaws.{Grew-same, Grew-pushed}
 use Rattle.sat_core.proofs.LearnerSteps.{learner_kept, learner_refuted, Includes-same}

@@ -3,7 +3,7 @@ use Rattle.std.proofs.lemmas.List.{length-map}
 use Rattle.sat_base.specs.declared.literal.SatLit.{SatLit}
 use Rattle.sat_log.specs.declared.log.LogEntry.{LogEntry}
 use Rattle.sat_log.specs.Chains.{results}
-use Rattle.sat_propagate.specs.Means.Propagator.{texts}
+use Rattle.sat_propagate.specs.Internal.Propagator.{texts}
 use Rattle.sat_core.proofs.LearnerLaws.{learned_open, Grew-same, Grew-trans}
 use Rattle.sat_core.proofs.LearnerSteps.{learner_same}
 use Rattle.sat_core.proofs.learner.Learner.solve.Goals as goal

@@ -1,5 +1,5 @@
 use Rattle.std.proofs.Common.{◌≡◌, ◌≤◌, ◌-◌, false, length}
-use Rattle.sat_core.specs.Means.Learner.{IsLearner, Grew}
+use Rattle.sat_core.specs.Internal.Learner.{IsLearner, Grew}
 use Rattle.sat_core.proofs.learner.Learner.solve.Given as goal
 
 abbrev pub invariant-loop-answer : goal.invariant-loop-answer

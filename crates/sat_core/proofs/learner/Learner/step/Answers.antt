@@ -1,7 +1,7 @@
 use Rattle.std.proofs.Common.{◌∙◌}
 use Rattle.std.proofs.lemmas.List.Elements.{Contains-append_left}
 use Rattle.sat_log.specs.Chains.{results}
-use Rattle.sat_propagate.specs.Means.Propagator.{texts}
+use Rattle.sat_propagate.specs.Internal.Propagator.{texts}
 use Rattle.sat_core.proofs.LearnerLaws.{Grew-same}
 use Rattle.sat_core.proofs.LearnerSteps.{learner_same, Includes-same, true_within}
 use Rattle.sat_core.proofs.SpentLaws.{sat_answer}

@@ -1,7 +1,7 @@
 use Rattle.std.proofs.Common.{◌<◌, ◌||◌, Bool, List, length, sym, ap, subst, ◌∙◌}
 use Rattle.std.proofs.lemmas.List.{length-map}
 use Rattle.sat_base.specs.Literal.{same_var}
-use Rattle.sat_core.specs.Means.Marks.{is_marked}
+use Rattle.sat_core.specs.Internal.Marks.{is_marked}
 use Rattle.sat_core.proofs.MarkLaws.{one_stamped}
 use Rattle.sat_core.proofs.marks.Marks.mark.Goals as goal
 

@@ -1,6 +1,6 @@
 use Rattle.std.proofs.Common.{◌≡◌, ◌+◌, ◌∷◌, [], ◌++◌, false, Bool, List, ℕ, length, length-append, sym, ap, subst, ◌∙◌}
 use Rattle.sat_base.specs.declared.literal.SatLit.{SatLit}
-use Rattle.sat_core.specs.Means.Keeper.{IsKeeper}
+use Rattle.sat_core.specs.Internal.Keeper.{IsKeeper}
 use Rattle.sat_core.proofs.KeeperLaws.{keeper_longer, keeper_ahead}
 use Rattle.sat_core.proofs.solver.Solver.new_var.Goals as goal
 

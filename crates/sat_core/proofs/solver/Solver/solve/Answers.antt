@@ -2,7 +2,7 @@ use Rattle.std.proofs.Common.{◌≡◌, true, ℕ, sym, subst, ◌∙◌}
 use Rattle.sat_base.specs.Literal.{IsOver}
 use Rattle.sat_base.specs.Truth.{Unsat}
 use Rattle.sat_log.specs.declared.chain.Premise.TheVariants.{Clause}
-use Rattle.sat_core.specs.Means.Learner.{Answers, seen, shown}
+use Rattle.sat_core.specs.Internal.Learner.{Answers, seen, shown}
 use Rattle.sat_core.specs.Solver.{SolverState, Grows}
 use Rattle.sat_core.proofs.SolverLaws.{unsat_of, grows_of, grows_same, grows_shown}
 use Rattle.sat_core.proofs.solver.Solver.solve.Goals as goal

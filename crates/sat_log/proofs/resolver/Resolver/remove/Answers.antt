@@ -1,6 +1,6 @@
 use Rattle.std.proofs.Common.{ap, ◌∙◌}
 use Rattle.sat_log.specs.Resolution.{without}
-use Rattle.sat_log.specs.Means.Resolver.{in_order}
+use Rattle.sat_log.specs.Internal.Resolver.{in_order}
 use Rattle.sat_log.proofs.ResolverLaws.{removed}
 use Rattle.sat_log.proofs.resolver.Resolver.remove.Goals as goal
 

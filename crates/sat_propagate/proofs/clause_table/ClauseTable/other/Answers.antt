@@ -4,7 +4,7 @@ use Rattle.std.proofs.lemmas.Option.{same_Some}
 use Rattle.sat_base.specs.declared.literal.SatLit.{SatLit}
 use Rattle.sat_base.specs.Literal.{same_literal}
 use Rattle.sat_base.proofs.LiteralLaws.{same_literal-true, same_literal-refl}
-use Rattle.sat_propagate.specs.Means.ClauseTable.{Watched, headed}
+use Rattle.sat_propagate.specs.Internal.ClauseTable.{Watched, headed}
 use Rattle.sat_propagate.proofs.ClauseTableLaws.{headed-found}
 use Rattle.sat_propagate.proofs.clause_table.ClauseTable.other.Goals as goal
 

@@ -2,7 +2,7 @@ use Rattle.std.proofs.Common.{◌≡◌, ◌++◌, [], ◌∷◌, List, length, 
 use Rattle.std.proofs.Common.{Result, Ok, Err}
 use Rattle.std.specs.Result.{OnErr}
 use Rattle.sat_base.specs.declared.literal.SatLit.{SatLit}
-use Rattle.sat_propagate.specs.Means.ClauseTable.{Watched, Clauses, all_headed, AreHeads}
+use Rattle.sat_propagate.specs.Internal.ClauseTable.{Watched, Clauses, all_headed, AreHeads}
 use Rattle.sat_propagate.specs.declared.clause_table.Head.{Head}
 use Rattle.sat_propagate.proofs.ClauseTableLaws.{all_headed-append, all_headed-push}
 use Rattle.sat_propagate.proofs.clause_table.ClauseTable.push.Goals as goal

@@ -1,7 +1,7 @@
 use Rattle.std.proofs.Common.{◌≡◌, ℕ, set, take, drop, sym, ap, ap₂, subst, ◌∙◌}
 use Rattle.std.proofs.lemmas.List.{map-set}
-use Rattle.sat_propagate.specs.Means.ClauseTable.{Watched, Clauses, headed}
-use Rattle.sat_propagate.specs.Means.Propagator.{IsPair}
+use Rattle.sat_propagate.specs.Internal.ClauseTable.{Watched, Clauses, headed}
+use Rattle.sat_propagate.specs.Internal.Propagator.{IsPair}
 use Rattle.sat_propagate.proofs.ClauseTableLaws.{headed-there}
 use Rattle.sat_propagate.proofs.PropagatorLaws.{rewatched_by_write}
 use Rattle.sat_propagate.proofs.clause_table.ClauseTable.replace.Goals as goal

@@ -1,7 +1,7 @@
 use Rattle.std.proofs.Common.{◌<◌, [], ◌∷◌, ◌++◌, false, List, length, length-append, subst, sym, arith}
-use Rattle.sat_propagate.specs.Means.Trail.{TrailState}
-use Rattle.sat_propagate.specs.Means.WatchLists.{WatchPair, no_watches}
-use Rattle.sat_propagate.specs.Means.Propagator.{IsPropagator}
+use Rattle.sat_propagate.specs.Internal.Trail.{TrailState}
+use Rattle.sat_propagate.specs.Internal.WatchLists.{WatchPair, no_watches}
+use Rattle.sat_propagate.specs.Internal.Propagator.{IsPropagator}
 use Rattle.sat_propagate.proofs.InsertLaws.{right_more_lists, right_variable}
 use Rattle.sat_propagate.proofs.propagator.Propagator.add_variable.Goals as goal
 

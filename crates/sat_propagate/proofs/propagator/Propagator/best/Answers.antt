@@ -2,7 +2,7 @@ use Rattle.std.proofs.Common.{◌≡◌, ◌≤◌, ◌+◌, ℕ, List, Option, 
 use Rattle.std.specs.Prelude.{IfNone, IsTrue}
 use Rattle.sat_base.specs.declared.literal.SatLit.{SatLit}
 use Rattle.sat_base.specs.Literal.{holds}
-use Rattle.sat_propagate.specs.Means.Trail.{literals}
+use Rattle.sat_propagate.specs.Internal.Trail.{literals}
 use Rattle.sat_propagate.proofs.ListLaws.{no_literal}
 use Rattle.sat_propagate.proofs.InsertLaws.{IsBestSoFar, best_taken, best_left, best_none}
 use Rattle.sat_propagate.proofs.propagator.Propagator.best.Goals.{then-is_better, else-is_better}

@@ -1,4 +1,4 @@
-use Rattle.sat_propagate.specs.Means.Trail.{literals}
+use Rattle.sat_propagate.specs.Internal.Trail.{literals}
 use Rattle.sat_propagate.proofs.InsertLaws.{IsBestSoFar}
 use Rattle.sat_propagate.proofs.propagator.Propagator.best.Given as goal
 

@@ -1,4 +1,4 @@
-use Rattle.sat_propagate.specs.Means.Trail.{literals}
+use Rattle.sat_propagate.specs.Internal.Trail.{literals}
 use Rattle.sat_propagate.proofs.InsertLaws.{empty_false}
 use Rattle.sat_propagate.proofs.propagator.Propagator.insert.Goals as goal
 

@@ -1,5 +1,5 @@
 use Rattle.std.proofs.Common.{sym, ◌∙◌}
-use Rattle.sat_propagate.specs.Means.Trail.{literals}
+use Rattle.sat_propagate.specs.Internal.Trail.{literals}
 use Rattle.sat_propagate.proofs.InsertLaws.{alone_false}
 use Rattle.sat_propagate.proofs.propagator.Propagator.insert_unit.Goals as goal
 

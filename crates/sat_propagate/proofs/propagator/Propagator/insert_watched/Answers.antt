@@ -1,9 +1,9 @@
 use Rattle.std.proofs.Common.{◌≡◌, ◌<◌, ◌++◌, [], ◌∷◌, ℕ, List, length, subst, sym, ap, ◌∙◌, arith}
 use Rattle.sat_base.specs.declared.literal.SatLit.{SatLit}
 use Rattle.sat_base.specs.Literal.{IsOver}
-use Rattle.sat_propagate.specs.Means.Propagator.{IsPropagator, Enlists}
-use Rattle.sat_propagate.specs.Means.WatchLists.{WatchPair}
-use Rattle.sat_propagate.specs.Means.ClauseTable.{Watched, Clauses}
+use Rattle.sat_propagate.specs.Internal.Propagator.{IsPropagator, Enlists}
+use Rattle.sat_propagate.specs.Internal.WatchLists.{WatchPair}
+use Rattle.sat_propagate.specs.Internal.ClauseTable.{Watched, Clauses}
 use Rattle.sat_propagate.proofs.ClauseTableLaws.{same_watched}
 use Rattle.sat_propagate.proofs.InsertLaws.{literal_made, right_enlisted, right_watched}
 use Rattle.sat_propagate.proofs.propagator.Propagator.insert_watched.Goals as goal

@@ -2,8 +2,8 @@ use Rattle.std.proofs.Common.{◌≤◌, ◌<◌, arith, subst, ◌∙◌, sym}
 use Rattle.std.proofs.lemmas.Bool.{ltb-true, ltb-false}
 use Rattle.std.proofs.lemmas.Option.{same_Some}
 use Rattle.sat_base.specs.declared.literal.SatLit.{SatLit}
-use Rattle.sat_propagate.specs.Means.Trail.{literals}
-use Rattle.sat_propagate.specs.Means.Insertion.{IsSooner}
+use Rattle.sat_propagate.specs.Internal.Trail.{literals}
+use Rattle.sat_propagate.specs.Internal.Insertion.{IsSooner}
 use Rattle.sat_propagate.proofs.InsertLaws.{sooner_by_rank}
 use Rattle.sat_propagate.proofs.propagator.Propagator.is_better.Goals as goal
 

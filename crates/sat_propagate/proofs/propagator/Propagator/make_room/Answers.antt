@@ -1,7 +1,7 @@
 use Rattle.std.proofs.Common.{ℕ, List, subst, sym, ◌∙◌}
 use Rattle.std.specs.List.{Contains}
-use Rattle.sat_propagate.specs.Means.Trail.{TrailState, literals}
-use Rattle.sat_propagate.specs.Means.Insertion.{IsUnseen}
+use Rattle.sat_propagate.specs.Internal.Trail.{TrailState, literals}
+use Rattle.sat_propagate.specs.Internal.Insertion.{IsUnseen}
 use Rattle.sat_propagate.proofs.InsertLaws.{denied_mentioned, rank_of_place, unseen_open, unseen_back, back_same}
 use Rattle.sat_propagate.proofs.propagator.Propagator.make_room.Goals as goal
 

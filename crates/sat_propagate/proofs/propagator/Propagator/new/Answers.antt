@@ -1,8 +1,8 @@
 use Rattle.std.proofs.Common.{[], List, subst, sym}
-use Rattle.sat_propagate.specs.Means.Trail.{TrailState}
-use Rattle.sat_propagate.specs.Means.WatchLists.{WatchPair}
-use Rattle.sat_propagate.specs.Means.Propagator.{IsPropagator}
-use Rattle.sat_propagate.specs.Means.ClauseTable.{Watched}
+use Rattle.sat_propagate.specs.Internal.Trail.{TrailState}
+use Rattle.sat_propagate.specs.Internal.WatchLists.{WatchPair}
+use Rattle.sat_propagate.specs.Internal.Propagator.{IsPropagator}
+use Rattle.sat_propagate.specs.Internal.ClauseTable.{Watched}
 use Rattle.sat_propagate.proofs.InsertLaws.{right_empty}
 use Rattle.sat_propagate.proofs.propagator.Propagator.new.Goals as goal
 

@@ -1,5 +1,5 @@
 use Rattle.std.proofs.Common.{◌-◌, length}
-use Rattle.sat_propagate.specs.Means.Propagator.{IsPropagator, Grew}
+use Rattle.sat_propagate.specs.Internal.Propagator.{IsPropagator, Grew}
 use Rattle.sat_propagate.proofs.propagator.Propagator.propagate.Given as goal
 
 abbrev pub invariant-loop-self : goal.invariant-loop-self

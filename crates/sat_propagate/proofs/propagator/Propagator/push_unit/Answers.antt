@@ -1,9 +1,9 @@
 use Rattle.std.proofs.Common.{◌≡◌, ◌<◌, ◌++◌, [], ◌∷◌, List, length, subst, sym, ap, ◌∙◌, arith}
 use Rattle.sat_base.proofs.LiteralLaws.{All-held}
 use Rattle.sat_base.specs.declared.literal.SatLit.{SatLit}
-use Rattle.sat_propagate.specs.Means.Trail.{literals}
-use Rattle.sat_propagate.specs.Means.ClauseTable.{Watched}
-use Rattle.sat_propagate.specs.Means.Propagator.{IsPropagator}
+use Rattle.sat_propagate.specs.Internal.Trail.{literals}
+use Rattle.sat_propagate.specs.Internal.ClauseTable.{Watched}
+use Rattle.sat_propagate.specs.Internal.Propagator.{IsPropagator}
 use Rattle.sat_propagate.proofs.ClauseTableLaws.{same_watched}
 use Rattle.sat_propagate.proofs.InsertLaws.{right_unit, right_unit_assigned, unit_open}
 use Rattle.sat_propagate.proofs.propagator.Propagator.push_unit.Goals as goal

@@ -1,6 +1,6 @@
 use Rattle.sat_propagate.proofs.InsertLaws.{rank_of_place, rank_of_end, denied_mentioned}
 use Rattle.std.proofs.Common.{◌∙◌, sym}
-use Rattle.sat_propagate.specs.Means.Trail.{literals}
+use Rattle.sat_propagate.specs.Internal.Trail.{literals}
 use Rattle.sat_propagate.proofs.propagator.Propagator.rank.Goals as goal
 
 pub place-requires : goal.place-requires

@@ -1,9 +1,9 @@
 use Rattle.std.proofs.Common.{◌≡◌, ◌<◌, ◌+◌, List, length, sym, ap, ◌∙◌, subst, arith, length-append}
 use Rattle.sat_base.specs.Truth.{AllTrue, assigned}
-use Rattle.sat_propagate.specs.Means.Propagator.{texts}
-use Rattle.sat_propagate.specs.Means.ClauseTable.{Watched}
+use Rattle.sat_propagate.specs.Internal.Propagator.{texts}
+use Rattle.sat_propagate.specs.Internal.ClauseTable.{Watched}
 use Rattle.sat_propagate.proofs.LevelLaws.{values_true}
-use Rattle.sat_propagate.specs.Means.Trail.{TrailState}
+use Rattle.sat_propagate.specs.Internal.Trail.{TrailState}
 use Rattle.sat_propagate.specs.declared.trail.Step.{Step}
 use Rattle.sat_propagate.proofs.TableLaws.{trail_room}
 use Rattle.sat_propagate.proofs.propagator.Propagator.search.Goals as goal

@@ -1,5 +1,5 @@
 use Rattle.std.proofs.Common.{◌≡◌, ◌-◌, length}
-use Rattle.sat_propagate.specs.Means.Propagator.{IsPropagator, texts}
+use Rattle.sat_propagate.specs.Internal.Propagator.{IsPropagator, texts}
 use Rattle.sat_propagate.proofs.propagator.Propagator.search.Given as goal
 
 abbrev pub invariant-loop-conflict : goal.invariant-loop-conflict

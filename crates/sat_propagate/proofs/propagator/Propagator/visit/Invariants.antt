@@ -1,8 +1,8 @@
 use Rattle.std.proofs.Common.{◌≡◌, ◌<◌, ◌-◌, IsTrue, length}
 use Rattle.sat_base.specs.Literal.{holds, negated}
-use Rattle.sat_propagate.specs.Means.Trail.{literals}
-use Rattle.sat_propagate.specs.Means.WatchLists.{watchers}
-use Rattle.sat_propagate.specs.Means.Propagator.{IsPropagator, AreDone, Grew}
+use Rattle.sat_propagate.specs.Internal.Trail.{literals}
+use Rattle.sat_propagate.specs.Internal.WatchLists.{watchers}
+use Rattle.sat_propagate.specs.Internal.Propagator.{IsPropagator, AreDone, Grew}
 use Rattle.sat_propagate.proofs.propagator.Propagator.visit.Given as goal
 
 -- the propagator is right, and the entries before i are done

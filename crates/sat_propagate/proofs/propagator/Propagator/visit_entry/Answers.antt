@@ -2,10 +2,10 @@ use Rattle.std.proofs.Common.{◌≡◌, ◌<◌, inl, inr, true, length, Some, 
 use Rattle.std.specs.List.{slice_get}
 use Rattle.std.proofs.lemmas.Option.{same_Some}
 use Rattle.sat_base.specs.Literal.{holds}
-use Rattle.sat_propagate.specs.Means.Trail.{TrailState, literals}
-use Rattle.sat_propagate.specs.Means.Propagator.{IsPropagator, AreDone}
+use Rattle.sat_propagate.specs.Internal.Trail.{TrailState, literals}
+use Rattle.sat_propagate.specs.Internal.Propagator.{IsPropagator, AreDone}
 use Rattle.sat_propagate.specs.declared.watch_lists.Watch.{Watch}
-use Rattle.sat_propagate.specs.Means.ClauseTable.{Watched}
+use Rattle.sat_propagate.specs.Internal.ClauseTable.{Watched}
 use Rattle.sat_propagate.proofs.ListLaws.{unmentioned}
 use Rattle.sat_propagate.proofs.PropagatorLaws.{right_removed, done_removed, right_written, done_more, done_by_blocker, right_assigned}
 use Rattle.sat_propagate.proofs.EntryLaws.{var_made, other_in, length_removed, length_written, next_written, found_unit, next_assigned, right_moved}

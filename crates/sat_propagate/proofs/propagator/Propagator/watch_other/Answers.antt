@@ -1,6 +1,6 @@
 use Rattle.std.proofs.Common.{inl, inr, subst}
 use Rattle.sat_base.specs.declared.literal.SatLit.{SatLit}
-use Rattle.sat_propagate.specs.Means.Propagator.{IsPair, Watches, Enlists}
+use Rattle.sat_propagate.specs.Internal.Propagator.{IsPair, Watches, Enlists}
 use Rattle.sat_propagate.proofs.propagator.Propagator.watch_other.Goals as goal
 
 pub returns-clause-moved : goal.returns-clause-moved

@@ -1,5 +1,5 @@
 use Rattle.std.proofs.Common.{List, map, sym, subst}
-use Rattle.sat_propagate.specs.Means.Trail.{IsTrailInside}
+use Rattle.sat_propagate.specs.Internal.Trail.{IsTrailInside}
 use Rattle.sat_propagate.specs.declared.trail.Cell.{Cell}
 use Rattle.sat_propagate.proofs.TableLaws.{inside_variable}
 use Rattle.sat_propagate.proofs.trail.Trail.add_variable.Goals as goal

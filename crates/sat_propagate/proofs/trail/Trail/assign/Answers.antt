@@ -1,7 +1,7 @@
 use Rattle.std.proofs.Common.{◌≡◌, ◌<◌, false, length, sym, ap, subst, ◌∙◌, arith}
 use Rattle.std.proofs.lemmas.List.{length-map}
 use Rattle.sat_base.specs.Literal.{mentions}
-use Rattle.sat_propagate.specs.Means.Trail.{TrailState, literals}
+use Rattle.sat_propagate.specs.Internal.Trail.{TrailState, literals}
 use Rattle.sat_propagate.specs.declared.trail.Cell.{Cell}
 use Rattle.sat_propagate.proofs.TableLaws.{inside_assigned, inside_read}
 use Rattle.sat_propagate.proofs.trail.Trail.assign.Goals as goal

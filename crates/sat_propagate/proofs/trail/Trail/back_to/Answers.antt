@@ -1,7 +1,7 @@
 use Rattle.std.proofs.Common.{◌≡◌, ◌<◌, ◌≤◌, ℕ, List, Some, length, take, map, get_or, refl, sym, ap, subst, ◌∙◌, arith}
 use Rattle.std.specs.List.{slice_get}
 use Rattle.std.proofs.lemmas.Option.{slice_get-get_or}
-use Rattle.sat_propagate.specs.Means.Trail.{TrailState, open_cell, IsTrailInside}
+use Rattle.sat_propagate.specs.Internal.Trail.{TrailState, open_cell, IsTrailInside}
 use Rattle.sat_propagate.specs.declared.trail.Step.{Step}
 use Rattle.sat_propagate.specs.declared.trail.Cell.{Cell}
 use Rattle.sat_propagate.proofs.TableLaws.{IsUndone, undone_start, undone_next, inside_back, get_or-any, var_in_table}

@@ -1,7 +1,7 @@
 use Rattle.std.proofs.Common.{◌≡◌, ◌<◌, ◌++◌, ◌∷◌, [], ℕ, List, None, true, false, length, map, set, refl, sym, ap, subst, ◌∙◌, arith}
 use Rattle.std.proofs.lemmas.List.{length-map}
 use Rattle.sat_base.specs.Literal.{mentions}
-use Rattle.sat_propagate.specs.Means.Trail.{TrailState, literals, IsTrailInside}
+use Rattle.sat_propagate.specs.Internal.Trail.{TrailState, literals, IsTrailInside}
 use Rattle.sat_propagate.specs.declared.trail.Step.{Step}
 use Rattle.sat_propagate.specs.declared.trail.Cell.{Cell}
 use Rattle.sat_propagate.proofs.TableLaws.{inside_assigned, inside_read, inside_started}

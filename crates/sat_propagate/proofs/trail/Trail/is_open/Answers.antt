@@ -1,5 +1,5 @@
 use Rattle.std.proofs.lemmas.Bool.{not_from_false}
-use Rattle.sat_propagate.specs.Means.Trail.{literals}
+use Rattle.sat_propagate.specs.Internal.Trail.{literals}
 use Rattle.sat_propagate.proofs.TableLaws.{open_then, open_else_true}
 use Rattle.sat_propagate.proofs.trail.Trail.is_open.Goals as goal
 

@@ -1,5 +1,5 @@
 use Rattle.std.proofs.Common.{subst}
-use Rattle.sat_propagate.specs.Means.Trail.{IsPhased}
+use Rattle.sat_propagate.specs.Internal.Trail.{IsPhased}
 use Rattle.sat_propagate.proofs.TableLaws.{phase_held}
 use Rattle.sat_propagate.proofs.trail.Trail.len.Goals as goal
 

@@ -1,6 +1,6 @@
 use Rattle.std.proofs.Common.{◌≡◌, ◌<◌, true, length, sym, ap, ◌∙◌, arith}
 use Rattle.sat_base.specs.Literal.{mentions}
-use Rattle.sat_propagate.specs.Means.Trail.{TrailState, literals, cell_of, open_cell}
+use Rattle.sat_propagate.specs.Internal.Trail.{TrailState, literals, cell_of, open_cell}
 use Rattle.std.specs.List.{slice_get}
 use Rattle.sat_propagate.specs.declared.trail.Cell.{Cell}
 use Rattle.sat_propagate.proofs.TableLaws.{made_if_mentioned, get_or-any}

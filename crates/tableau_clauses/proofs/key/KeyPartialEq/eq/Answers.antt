@@ -1,7 +1,7 @@
 use Rattle.std.proofs.Common.{ap₂, ◌∙◌}
 use Rattle.std.specs.Cmp.Lexicographic.{pointwise}
 use Rattle.sat_base.specs.Literal.{same_literal}
-use Rattle.tableau_clauses.specs.Means.Keys.{pointwise-same}
+use Rattle.tableau_clauses.specs.Internal.Keys.{pointwise-same}
 use Rattle.tableau_clauses.proofs.key.KeyPartialEq.eq.Goals as goal
 
 pub returns : goal.returns

@@ -1,6 +1,6 @@
 use Rattle.std.proofs.Common.{not, sym, ap, ◌∙◌}
-use Rattle.search_run.specs.Clauses.{same_clause}
-use Rattle.search_run.specs.Numbered.{numbers}
+use Rattle.search_spec.specs.Clauses.{same_clause}
+use Rattle.search_spec.specs.Numbered.{numbers}
 use Rattle.tableau_clauses.proofs.StepLaws.{found-any, old_step, new_step}
 use Rattle.tableau_clauses.proofs.steps.Steps.add.Goals as goal
 

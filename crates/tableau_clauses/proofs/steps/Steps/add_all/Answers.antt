@@ -1,5 +1,5 @@
 use Rattle.std.proofs.Common.{sym, ap, ◌∙◌}
-use Rattle.tableau_clauses.specs.Means.Stepping.{with_steps}
+use Rattle.tableau_clauses.specs.Internal.Stepping.{with_steps}
 use Rattle.tableau_clauses.proofs.StepLaws.{step_later}
 use Rattle.tableau_clauses.proofs.steps.Steps.add_all.Goals as goal
 

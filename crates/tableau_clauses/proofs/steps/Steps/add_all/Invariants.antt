@@ -1,5 +1,5 @@
 use Rattle.std.proofs.Common.{◌≡◌}
-use Rattle.tableau_clauses.specs.Means.Stepping.{with_steps, Adds}
+use Rattle.tableau_clauses.specs.Internal.Stepping.{with_steps, Adds}
 use Rattle.tableau_clauses.proofs.steps.Steps.add_all.Given as goal
 
 -- the clauses that are left bring the steps to what they are to be

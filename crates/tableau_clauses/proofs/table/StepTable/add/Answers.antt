@@ -1,6 +1,6 @@
 use Rattle.std.proofs.Common.{◌++◌, ◌-◌, length, replicate, ap, sym, ◌∙◌}
-use Rattle.search_run.specs.Clauses.{instance_clauses, with_clauses}
-use Rattle.search_run.specs.Numbered.{numbers}
+use Rattle.search_spec.specs.Clauses.{instance_clauses, with_clauses}
+use Rattle.search_spec.specs.Numbered.{numbers}
 use Rattle.tableau_clauses.specs.declared.origin.Origin.TheVariants.{Instance as From}
 use Rattle.tableau_clauses.specs.Table.{clauses_in, the_clauses, the_origins, the_instances}
 use Rattle.tableau_clauses.proofs.StepLaws.{clauses-with_steps, origins-added}

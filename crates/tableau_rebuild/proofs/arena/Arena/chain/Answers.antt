@@ -4,7 +4,7 @@ use Rattle.sat_log.specs.declared.chain.Chain.{Chain}
 use Rattle.sat_log.specs.declared.log.LogEntry.{LogEntry}
 use Rattle.sat_log.specs.Resolution.{without_repeats}
 use Rattle.tableau_clauses.specs.Table.{the_clauses}
-use Rattle.tableau_rebuild.specs.Means.Arenas.{AreResults, IsBefore, IsThere, IsChained}
+use Rattle.tableau_rebuild.specs.Internal.Arenas.{AreResults, IsBefore, IsThere, IsChained}
 use Rattle.tableau_rebuild.proofs.ArenaLaws.{before_next, extends-more, results_later}
 use Rattle.tableau_rebuild.proofs.ChainLaws.{there_later, first_facts, chain_entry, chained_first, chained_last}
 use Rattle.tableau_rebuild.proofs.arena.Arena.chain.Goals as goal

@@ -1,4 +1,4 @@
-use Rattle.tableau_rebuild.specs.Means.Arenas.{IsOnChain}
+use Rattle.tableau_rebuild.specs.Internal.Arenas.{IsOnChain}
 use Rattle.tableau_rebuild.proofs.arena.Arena.chain.Given as goal
 
 abbrev pub invariant-loop-k : goal.invariant-loop-k

@@ -1,7 +1,7 @@
 use Rattle.std.proofs.Common.{refl, ap, subst}
 use Rattle.tableau_rebuild.specs.declared.draft.Draft.TheVariants.{Close, Cut}
 use Rattle.tableau_rebuild.specs.declared.arena.Standing.TheVariants.{Line}
-use Rattle.tableau_rebuild.specs.Means.Arenas.{IsWithin}
+use Rattle.tableau_rebuild.specs.Internal.Arenas.{IsWithin}
 use Rattle.tableau_rebuild.proofs.JoinLaws.{closed_in_order, closed_turned, cut_joined, step_drawn, step_before, close_children, cut_children}
 use Rattle.tableau_rebuild.proofs.arena.Arena.join.Goals as goal
 

@@ -1,7 +1,7 @@
 use Rattle.std.proofs.Common.{◌≡◌, ◌++◌, ℕ, [], ◌∷◌, List, Option, Some, None, slice_get, slice_index_or, slice_set, refl, sym, ap, subst, ◌∙◌}
-use Rattle.rebuilt_refutation.proofs.WalkLaws.{get-middle}
+use Rattle.rebuild_spec.proofs.WalkLaws.{get-middle}
 use Rattle.tableau_rebuild.specs.declared.draft.Draft.TheVariants.{Clause as ClauseDraft}
-use Rattle.tableau_rebuild.specs.Means.Arenas.{IsDrawn, IsBefore}
+use Rattle.tableau_rebuild.specs.Internal.Arenas.{IsDrawn, IsBefore}
 use Rattle.tableau_rebuild.proofs.ArenaLaws.{drawn_clause, before_clause}
 use Rattle.tableau_rebuild.proofs.arena.Arena.line_of.Goals as goal
 

@@ -3,9 +3,9 @@ use Rattle.sat_base.specs.declared.literal.SatLit.{SatLit}
 use Rattle.sat_log.specs.declared.chain.Premise.TheVariants.{Clause}
 use Rattle.sat_log.specs.Chains.{premise_clause, results}
 use Rattle.tableau_clauses.specs.Table.{the_clauses}
-use Rattle.rebuilt_refutation.specs.Stands.{place_of}
+use Rattle.rebuild_spec.specs.Stands.{place_of}
 use Rattle.tableau_rebuild.specs.declared.arena.Standing.TheVariants.{Start}
-use Rattle.tableau_rebuild.specs.Means.Arenas.{IsThere, StandsFor}
+use Rattle.tableau_rebuild.specs.Internal.Arenas.{IsThere, StandsFor}
 use Rattle.tableau_rebuild.proofs.ArenaLaws.{start_premise, instance_premise}
 use Rattle.tableau_rebuild.proofs.ChainLaws.{result_premise}
 use Rattle.tableau_rebuild.proofs.arena.Arena.premise.Goals as goal

@@ -3,7 +3,7 @@ use Rattle.std.proofs.lemmas.Option.{slice_get_within}
 use Rattle.sat_base.specs.Literal.{positive, holds}
 use Rattle.sat_log.specs.Resolution.{resolved}
 use Rattle.tableau_clauses.specs.Table.{the_clauses}
-use Rattle.tableau_rebuild.specs.Means.Arenas.{IsThere}
+use Rattle.tableau_rebuild.specs.Internal.Arenas.{IsThere}
 use Rattle.tableau_rebuild.proofs.ChainLaws.{there_later, step_facts, no_repeats, resolves, chained_more}
 use Rattle.tableau_rebuild.proofs.arena.Arena.step.Goals as goal
 

@@ -4,14 +4,14 @@ use Rattle.std.proofs.lemmas.Option.{slice_get-get_or}
 use Rattle.stt_core.proofs.ListLaws.{map_more}
 use Rattle.sat_base.specs.Literal.{IsOver}
 use Rattle.std.specs.List.{AllByRecursion}
-use Rattle.written_refutation.specs.Sizes.{IsSmallLine}
-use Rattle.small_refutation.proofs.AllLaws.{all-last}
-use Rattle.rebuilt_refutation.specs.Lines.{line_of}
-use Rattle.rebuilt_refutation.specs.Trees.{branch}
+use Rattle.refute_print.specs.Sizes.{IsSmallLine}
+use Rattle.refute_print.proofs.AllLaws.{all-last}
+use Rattle.rebuild_spec.specs.Lines.{line_of}
+use Rattle.rebuild_spec.specs.Trees.{branch}
 use Rattle.tableau_rebuild.specs.declared.draft.Draft.TheVariants.{Clause}
 use Rattle.tableau_rebuild.specs.Tables.{the_atoms}
-use Rattle.tableau_rebuild.specs.Means.LineParts.{IsLineBy}
-use Rattle.tableau_rebuild.specs.Means.Written.{the_tree}
+use Rattle.tableau_rebuild.specs.Internal.LineParts.{IsLineBy}
+use Rattle.tableau_rebuild.specs.Internal.Written.{the_tree}
 use Rattle.witness_names.specs.Rows.{rows_of}
 use Rattle.tableau_rebuild.proofs.WriteLaws.{branch_made, line_made, ready}
 use Rattle.tableau_rebuild.proofs.NeededLaws.{lines_more}

@@ -1,13 +1,13 @@
 use Rattle.std.proofs.Common.{◌≡◌, [], map, take}
 use Rattle.std.specs.List.{AllByRecursion}
-use Rattle.written_refutation.specs.Sizes.{AreSmallLiterals, IsSmallLine}
+use Rattle.refute_print.specs.Sizes.{AreSmallLiterals, IsSmallLine}
 use Rattle.witness_names.specs.Rows.{rows_of}
-use Rattle.rebuilt_refutation.specs.Lines.{line_of}
-use Rattle.rebuilt_refutation.specs.NeededRows.{rows_for_lines}
-use Rattle.rebuilt_refutation.specs.Trees.{branch}
+use Rattle.rebuild_spec.specs.Lines.{line_of}
+use Rattle.rebuild_spec.specs.NeededRows.{rows_for_lines}
+use Rattle.rebuild_spec.specs.Trees.{branch}
 use Rattle.tableau_rebuild.specs.Tables.{the_atoms}
-use Rattle.tableau_rebuild.specs.Means.Written.{the_tree}
-use Rattle.tableau_rebuild.specs.Means.Pools.{IsMade}
+use Rattle.tableau_rebuild.specs.Internal.Written.{the_tree}
+use Rattle.tableau_rebuild.specs.Internal.Pools.{IsMade}
 use Rattle.tableau_rebuild.proofs.lines.Writing.write.Given as goal
 
 abbrev pub invariant-loop-k : goal.invariant-loop-k

@@ -1,10 +1,10 @@
 use Rattle.std.proofs.Common.{rules, ◌≡◌, map, sym, subst, arith}
 use Rattle.std.proofs.lemmas.Grind.{common_steps}
-use Rattle.search_run.specs.Numbered.{literal_at}
+use Rattle.search_spec.specs.Numbered.{literal_at}
 use Rattle.tableau_rebuild.specs.Tables.{the_atoms}
-use Rattle.stt_tableau.specs.Literals.{Literal}
-use Rattle.written_refutation.specs.Sizes.{IsSmallTerm, AreSmallLiterals}
-use Rattle.small_refutation.proofs.AllLaws.{all-last}
+use Rattle.tableau_calculus.specs.Literals.{Literal}
+use Rattle.refute_print.specs.Sizes.{IsSmallTerm, AreSmallLiterals}
+use Rattle.refute_print.proofs.AllLaws.{all-last}
 use Rattle.tableau_rebuild.proofs.PoolLaws.{made-at}
 use Rattle.tableau_rebuild.proofs.pool.Pool.place_of.Goals as goal
 

@@ -1,7 +1,7 @@
-use Rattle.stt_tableau.specs.Literals.{Literal}
-use Rattle.search_run.specs.Numbered.{literal_at}
-use Rattle.written_refutation.specs.Sizes.{IsSmallTerm}
-use Rattle.small_refutation.proofs.AllLaws.{all-at}
+use Rattle.tableau_calculus.specs.Literals.{Literal}
+use Rattle.search_spec.specs.Numbered.{literal_at}
+use Rattle.refute_print.specs.Sizes.{IsSmallTerm}
+use Rattle.refute_print.proofs.AllLaws.{all-at}
 use Rattle.tableau_rebuild.specs.Tables.{the_atoms}
 use Rattle.tableau_rebuild.proofs.pool.Pool.push_to.Goals as goal
 

@@ -1,7 +1,7 @@
 use Rattle.std.proofs.Common.{◌≡◌, ◌||◌, length, take}
-use Rattle.rebuilt_refutation.specs.Trees.{Place, same_place}
-use Rattle.rebuilt_refutation.specs.Stands.{place_of}
-use Rattle.tableau_rebuild.specs.Means.Flags.{flagged}
+use Rattle.rebuild_spec.specs.Trees.{Place, same_place}
+use Rattle.rebuild_spec.specs.Stands.{place_of}
+use Rattle.tableau_rebuild.specs.Internal.Flags.{flagged}
 use Rattle.tableau_rebuild.proofs.FlagLaws.{any_premise}
 use Rattle.tableau_rebuild.proofs.reached.Reached.mark_chain.Given as goal
 

@@ -1,6 +1,6 @@
 use Rattle.std.proofs.Common.{length, sym, subst, arith}
 use Rattle.tableau_clauses.specs.Table.{the_clauses}
-use Rattle.tableau_rebuild.specs.Means.Flags.{ArePremisesThere}
+use Rattle.tableau_rebuild.specs.Internal.Flags.{ArePremisesThere}
 use Rattle.tableau_rebuild.proofs.ChainLaws.{chain_entry}
 use Rattle.tableau_rebuild.proofs.FlagLaws.{entry_premises, premises_later}
 use Rattle.tableau_rebuild.proofs.reached.Reached.mark_from.Goals as goal

@@ -1,7 +1,7 @@
 use Rattle.std.proofs.Common.{◌≡◌, ◌<◌, ◌^◌, length, map, [], ◌∷◌, ◌++◌, true, sym, ap, subst, ◌∙◌, arith, length-append}
 use Rattle.stt_core.specs.SimpleType.{is_declared}
 use Rattle.stt_core.specs.View.{the_type}
-use Rattle.term_bank.specs.Means.Inside.{IsSoundBank}
+use Rattle.term_bank.specs.Internal.Inside.{IsSoundBank}
 use Rattle.term_bank.proofs.ScopeLaws.{sound_more, scope_more}
 use Rattle.term_bank.proofs.bank.Bank.add_witness.Goals as goal
 

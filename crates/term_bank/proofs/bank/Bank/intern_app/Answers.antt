@@ -4,9 +4,9 @@ use Rattle.stt_core.specs.View.{the_head}
 use Rattle.term_bank.specs.Shape.{spine}
 use Rattle.term_bank.specs.Content.{content_scope}
 use Rattle.term_bank.specs.Terms.{term_at, IsTypedTerm}
-use Rattle.term_bank.specs.Means.MarksView.{IsMarked}
-use Rattle.term_bank.specs.Means.Inside.{the_content}
-use Rattle.term_bank.specs.Means.Sound.{terms_of}
+use Rattle.term_bank.specs.Internal.MarksView.{IsMarked}
+use Rattle.term_bank.specs.Internal.Inside.{the_content}
+use Rattle.term_bank.specs.Internal.Sound.{terms_of}
 use Rattle.term_bank.specs.declared.node.Node.TheVariants.{App}
 use Rattle.term_bank.proofs.AddLaws.{found_in, entries_after, added}
 use Rattle.term_bank.proofs.bank.Bank.intern_app.Goals as goal

@@ -1,6 +1,6 @@
 use Rattle.std.proofs.Common.{ap}
 use Rattle.term_bank.specs.Content.{content_scope}
-use Rattle.term_bank.specs.Means.Inside.{the_content}
+use Rattle.term_bank.specs.Internal.Inside.{the_content}
 use Rattle.term_bank.proofs.SoundLaws.{within_entries}
 use Rattle.term_bank.proofs.DistinctLaws.{one_term}
 use Rattle.term_bank.proofs.bank.Bank.terms_differ.Goals as goal

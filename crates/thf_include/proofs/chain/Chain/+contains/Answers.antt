@@ -1,6 +1,6 @@
 use Rattle.std.proofs.Common.{◌≡◌, true, false, sym, ◌∙◌}
 use Rattle.std.proofs.lemmas.Slice.Eq.{bytes_eq-Decides}
-use Rattle.thf_include.specs.Means.Chain.{the_chain}
+use Rattle.thf_include.specs.Internal.Chain.{the_chain}
 use Rattle.thf_include.proofs.ChainLaws.{Contains-later}
 use Rattle.thf_include.proofs.chain.Chain.+contains.Goals as goal
 

@@ -1,0 +1,25 @@
+-- How a line is read. Contracts of public calls speak of the grammar alone.
+use Rattle.std.specs.Prelude.{ℕ, ◌==◌, ◌&&◌, not, Bool, true, false, List, [], ◌∷◌, Option, Some, None, if◌then◌else◌}
+use Rattle.mode_file.specs.Lines.{is_digit, front}
+use Rattle.mode_file.specs.Internal.Fronts.{is_space, after}
+use Rattle.mode_file.specs.Grammar.{is_decimal}
+
+abbrev pub is_nil : List ℕ → Bool
+is_nil [] = true
+is_nil (c ∷ cs) = false
+
+-- nothing, or one carriage return
+abbrev pub is_ending : List ℕ → Bool
+is_ending [] = true
+is_ending (c ∷ []) = c == 13
+is_ending (c ∷ d ∷ ds) = false
+
+-- what follows the spaces at the front
+abbrev pub behind_spaces : List ℕ → List ℕ
+behind_spaces bytes = after is_space bytes
+
+-- the digits of a number, behind some spaces and before any spaces and an ending
+abbrev pub digits_in : List ℕ → Option (List ℕ)
+digits_in bytes =
+    if not (is_nil (front is_space bytes)) && is_decimal (front is_digit (behind_spaces bytes)) && is_ending (behind_spaces (after is_digit (behind_spaces bytes)))
+    then Some (front is_digit (behind_spaces bytes)) else None

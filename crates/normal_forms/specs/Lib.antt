@@ -1,0 +1,4 @@
+pub mod Normal
+pub mod Ready
+pub mod Laws
+pub mod Internal

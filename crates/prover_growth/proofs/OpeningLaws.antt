@@ -1,0 +1,46 @@
+-- Types that are prepared.
+use Rattle.std.specs.Prelude.{◌≡◌, ◌||◌, ◌+◌, ℕ, Bool, true, false, List, [], drop, slice_get, Some, refl, if◌then◌else◌}
+use Rattle.std.specs.List.{list_any}
+use Rattle.std.proofs.Common.{sym, ap, subst, ◌∙◌, append-nil}
+use Rattle.stt_core.specs.SimpleType.{SimpleType, arrow, same_type}
+use Rattle.stt_core.proofs.ListLaws.{drop_got}
+use Rattle.search_spec.specs.Partial.{blank}
+use Rattle.search_spec.specs.State.{State, Setting, Sketch}
+use Rattle.search_spec.specs.Terms.{opened, prepared}
+use Rattle.prover_state.specs.declared.tables.Basis.{Basis}
+use Rattle.prover_state.specs.Internal.Growing.{BasisGrows}
+
+-- a test of the elements from a place on
+module _ {X : Type 0} (test : X → Bool) (xs : List X) (i : ℕ) (x : X) (at : slice_get xs i ≡ Some x) (all : Bool) (inv : list_any test (drop i xs) ≡ all) where
+  from_here : (test x || list_any test (drop (i + 1) xs)) ≡ all
+  from_here = sym (ap (list_any test) (drop_got xs i x at)) ∙ inv
+
+  pub any-passed : test x ≡ false → list_any test (drop (i + 1) xs) ≡ all
+  any-passed e = sym (ap (λ (b : Bool). b || list_any test (drop (i + 1) xs)) e) ∙ from_here
+
+  pub any-found : test x ≡ true → true ≡ all
+  any-found e = sym (ap (λ (b : Bool). b || list_any test (drop (i + 1) xs)) e) ∙ from_here
+
+module _ (setting : Setting) (s : State) (c a b : SimpleType) (is : c ≡ arrow a b) (roots : Bool) (found : list_any (λ (p : Sketch). same_type c p.type) s.parked ≡ roots) where
+  abbrev P : SimpleType → Type 0
+  P x = prepared setting x s ≡ (if list_any (λ (p : Sketch). same_type x p.type) s.parked then s else opened setting (record { type = x; partial = blank x }) s)
+
+  by_roots : prepared setting c s ≡ (if roots then s else opened setting (record { type = c; partial = blank c }) s)
+  by_roots = subst P (sym is) refl ∙ ap (λ (x : Bool). if x then s else opened setting (record { type = c; partial = blank c }) s) found
+
+  pub prepared-before : roots ≡ true → s ≡ prepared setting c s
+  prepared-before e = sym (by_roots ∙ ap (λ (x : Bool). if x then s else opened setting (record { type = c; partial = blank c }) s) e)
+
+  pub prepared-now : roots ≡ false → opened setting (record { type = c; partial = blank c }) s ≡ prepared setting c s
+  prepared-now e = sym (by_roots ∙ ap (λ (x : Bool). if x then s else opened setting (record { type = c; partial = blank c }) s) e)
+
+-- a basis that stays
+pub same-grows : (old new : Basis) → new ≡ old → BasisGrows old new
+same-grows old new e =
+    let G : Basis → Type 0 = λ g. BasisGrows old g in
+    subst G (sym e)
+    (record {
+      bank = record { bases = refl; consts = refl; witnesses = refl; further = []; terms = sym (append-nil old.bank.terms) };
+      lits = record { further = []; is = sym (append-nil old.lits) };
+      witnesses = refl;
+    })

@@ -1,0 +1,31 @@
+use Rattle.std.proofs.Common.{◌≡◌, [], length, Some, None, ap, ◌∙◌, arith}
+use Rattle.search_spec.specs.Partial.{first_hole}
+use Rattle.prover_state.specs.Internal.Fitting.{variables_for}
+use Rattle.prover_state.specs.Internal.Names.{sketch_at}
+use Rattle.prover_state.specs.Internal.Standing.{scope_by, sketches_in}
+use Rattle.prover_state.proofs.HoleLaws.{holes-length}
+use Rattle.prover_growth.proofs.HeadCounts.{count-heads, count-none, first-base-at, variables-at}
+use Rattle.prover_growth.proofs.heads.count_heads.Goals as goal
+
+pub first_base-requires : goal.first_base-requires
+first_base-requires c = let n = holes-length c.args.tables.now c.requires.right.0 c.requires.right.1 in omega (arith, n, c.requires.number)
+
+pub variables-requires : goal.variables-requires
+variables-requires c = let n = holes-length c.args.tables.now c.requires.right.0 c.requires.right.1 in omega (arith, n, c.requires.number)
+
+pub returns-in_ok-plus-in-Some : goal.returns-in_ok-plus-in-Some
+returns-in_ok-plus-in-Some c =
+    let t = c.args.tables.now in
+    let q = c.requires.right.0 in
+    let r = c.requires.right.1 in
+    let o = first_hole [] (sketch_at (sketches_in t) c.args.p).partial in
+    let found = first-base-at t q r c.args.p c.requires.number (Some c.in-Some.base) (λ holes at. c.in-Some.ensures holes at) in
+    let e = ap length (variables-at t q r c.args.p c.requires.number c.in_ok-variables-in-Some.variables.items c.in_ok-variables-in-Some.ensures) in
+    let many : c.len.result ≡ length (variables_for o) = omega (arith, c.len.ensures, c.in_ok-variables-in-Some.variables.ok.0, e) in
+    c.in_ok-plus-in-Some.ensures ∙ count-heads (scope_by t.basis) o c.in-Some.base c.len.result c.in_ok-constants-in-Some.constants found many c.in_ok-constants-in-Some.ensures
+
+pub returns-in-None : goal.returns-in-None
+returns-in-None c =
+    let t = c.args.tables.now in
+    let o = first_hole [] (sketch_at (sketches_in t) c.args.p).partial in
+    count-none (scope_by t.basis) o (first-base-at t c.requires.right.0 c.requires.right.1 c.args.p c.requires.number None c.in-None.ensures)

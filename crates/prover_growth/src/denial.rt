@@ -1,0 +1,113 @@
+//! Literals that say of a predicate that it doesn't hold everywhere.
+ghost use Rattle.std.specs.Prelude.{◌≡◌, ◌<◌, ◌-◌, ◌^◌, nat_lt, [], ◌∷◌, length, map, if◌then◌else◌, IfOk, OnOk};
+ghost use Rattle.stt_core.specs.SimpleType.{SimpleType, base};
+ghost use Rattle.stt_core.specs.Lambda.{Lambda};
+ghost use Rattle.literal_map.specs.Atoms.{literal_at};
+ghost use Rattle.instantiate.specs.Listing.{with_listed};
+ghost use Rattle.search_spec.specs.Alternatives.{all_neg};
+ghost use Rattle.search_spec.specs.Heads.{target};
+ghost use Rattle.search_spec.specs.Witness.{witness_of};
+ghost use Rattle.prover_growth.specs.Internal.Denials.{Denies, with_row};
+ghost use Rattle.prover_state.specs.Internal.Growing.{BasisWidens};
+ghost use Rattle.prover_state.specs.Internal.Names.{IsNumber};
+ghost use Rattle.prover_state.specs.Internal.Standing.{rows_in, the_state, IsBasis, IsRight};
+ghost use Rattle.prover_state.specs.Internal.Steps.{IsMade};
+
+use command_queue::Weigher;
+use instantiate::{Enumerator, target_of};
+use literal_map::{BankUse, Instance, RuleKind};
+use sat_base::SatLit;
+use prover_state::{Basis, Core, Waiting, quantified_type};
+use std::alloc::{AllocError, Global};
+use stt_core::Ty;
+use tableau_rules::{RuleRefused, make};
+use term_bank::equal_ids_for_equal_terms;
+
+/// The base type that the type of the predicate's witness gives, once it has all its arguments.
+pub(crate) fn denied_target(basis: &Basis, lit: SatLit) -> u32
+    requires good { IsBasis basis.now }
+    requires number { IsNumber basis.now.lits lit }
+    requires denies { (a : SimpleType) × ((f : Lambda) × Denies basis.now lit a f) }
+    ensures { (a : SimpleType) (f : Lambda) → Denies basis.now lit a f → result ≡ target a }
+{
+    match quantified_type(&basis.bank, basis.lits.formula_of(lit)) {
+        Some(ty) => target_of(ty),
+        None => unreachable!(),
+    }
+}
+
+/// The instance of the rule for the literal. The predicate gets a witness, where it has none.
+fn make_denial(alloc: Global, basis: &mut Basis, lit: SatLit) -> Result<Instance, AllocError>
+    requires good { IsBasis basis.old }
+    requires number { IsNumber basis.old.lits lit }
+    requires few { length basis.old.witnesses < 2 ^ 32 - 1 }
+    requires denies { (a : SimpleType) × ((f : Lambda) × Denies basis.old lit a f) }
+    ensures made { IfOk result (IsMade basis.new) }
+    ensures principals { IfOk result (λ i. i.principals ≡ lit ∷ []) }
+    ensures alternatives { IfOk result (λ i. (a : SimpleType) (f : Lambda) → Denies basis.old lit a f → map (map (literal_at basis.new.bank.terms basis.new.lits)) i.alternatives ≡ all_neg a f (witness_of (rows_in basis.old) (record { type = a; predicate = f }))) }
+    ensures rows { OnOk result ((a : SimpleType) (f : Lambda) → Denies basis.old lit a f → rows_in basis.new ≡ with_row (rows_in basis.old) (record { type = a; predicate = f })) }
+    ensures good { OnOk result (IsBasis basis.new) }
+    ensures widens { OnOk result (BasisWidens basis.old basis.new) }
+{
+    let by = BankUse {
+        kind: RuleKind::AllNeg,
+        first: Some(lit),
+        second: None,
+        term: None,
+    };
+    let made = make(
+        alloc,
+        &mut basis.bank,
+        &mut basis.normal,
+        &mut basis.lits,
+        &mut basis.witnesses,
+        &by,
+    );
+    equal_ids_for_equal_terms(&basis.bank);
+    match made {
+        Ok(instance) => Ok(instance),
+        Err(refused) => match refused {
+            RuleRefused::Memory => Err(AllocError),
+            RuleRefused::NotThisRule => unreachable!(),
+        },
+    }
+}
+
+/// Lists the witness behind the earlier ones, where there is one, by the base type that its type gives.
+fn list_taker(takers: &mut Enumerator, output: u32, before: u32, now: u32) -> Result<(), AllocError>
+    ensures { OnOk result (takers.new ≡ (if nat_lt before now then with_listed (base output) before takers.old else takers.old)) }
+{
+    if before < now {
+        takers.add_term(&Ty::Base(output), before)?;
+        return Ok(());
+    }
+    Ok(())
+}
+
+/// The instance of the rule for the literal. The predicate gets a witness, where it has none, and this one is listed.
+pub(crate) fn deny<W: Weigher<Waiting>>(
+    core: &mut Core<W>,
+    output: u32,
+    lit: SatLit,
+) -> Result<Instance, AllocError>
+    requires right { IsRight core.old.tables core.old.plan }
+    requires number { IsNumber core.old.tables.basis.lits lit }
+    requires few { length core.old.tables.basis.witnesses < 2 ^ 32 - 1 }
+    requires denies { (a : SimpleType) × ((f : Lambda) × Denies core.old.tables.basis lit a f) }
+    requires output { (a : SimpleType) (f : Lambda) → Denies core.old.tables.basis lit a f → output ≡ target a }
+    ensures state { OnOk result ((a : SimpleType) (f : Lambda) → Denies core.old.tables.basis lit a f → the_state core.new.tables core.new.plan ≡ record (the_state core.old.tables core.old.plan) { rows = with_row (rows_in core.old.tables.basis) (record { type = a; predicate = f }) }) }
+    ensures right { OnOk result (IsRight core.new.tables core.new.plan) }
+    ensures made { IfOk result (IsMade core.new.tables.basis) }
+    ensures principals { IfOk result (λ i. i.principals ≡ lit ∷ []) }
+    ensures alternatives { IfOk result (λ i. (a : SimpleType) (f : Lambda) → Denies core.old.tables.basis lit a f → map (map (literal_at core.new.tables.basis.bank.terms core.new.tables.basis.lits)) i.alternatives ≡ all_neg a f (witness_of (rows_in core.old.tables.basis) (record { type = a; predicate = f }))) }
+    ensures rows { OnOk result ((a : SimpleType) (f : Lambda) → Denies core.old.tables.basis lit a f → rows_in core.new.tables.basis ≡ with_row (rows_in core.old.tables.basis) (record { type = a; predicate = f })) }
+    ensures widens { OnOk result (BasisWidens core.old.tables.basis core.new.tables.basis) }
+    ensures tables { OnOk result (core.new.tables ≡ record core.old.tables { basis = core.new.tables.basis; takers = core.new.tables.takers }) }
+    ensures plan { core.new.plan ≡ core.old.plan }
+{
+    let before = core.tables.basis.witnesses.len();
+    let instance = make_denial(core.tables.alloc, &mut core.tables.basis, lit)?;
+    let now = core.tables.basis.witnesses.len();
+    list_taker(&mut core.tables.takers, output, before, now)?;
+    Ok(instance)
+}

@@ -1,0 +1,99 @@
+//! The heads that fit the first hole of a partial term.
+ghost use Rattle.std.specs.Prelude.{◌≡◌, ◌<◌, ◌+◌, [], length, map, IfOk, OnOk};
+ghost use Rattle.command_queue.specs.Queue.{Queue};
+ghost use Rattle.search_spec.specs.Heads.{places_to, heads_for};
+ghost use Rattle.search_spec.specs.Partial.{first_hole};
+ghost use Rattle.search_spec.specs.State.{grow, pushed};
+ghost use Rattle.prover_state.specs.declared.command.Planned.{Planned};
+ghost use Rattle.prover_state.specs.declared.command.Delays.{Delays};
+ghost use Rattle.prover_state.specs.Delays.{the_mode};
+ghost use Rattle.prover_state.specs.Internal.Fitting.{logical_for, later_heads};
+ghost use Rattle.prover_state.specs.Internal.Names.{sketch_at};
+ghost use Rattle.prover_state.specs.Internal.Standing.{scope_by, sketches_in, the_state, IsRight};
+
+use command_queue::Weigher;
+use prover_state::{Command, Core, Over, Tables, Waiting, number_of};
+use std::alloc::AllocError;
+use stt_core::Ty;
+
+/// The sum of two numbers. Where it is too great, there is no memory.
+fn plus(m: usize, n: usize) -> Result<usize, AllocError>
+    ensures { IfOk result (λ sum. sum ≡ m + n) }
+{
+    if m > usize::MAX - n {
+        return Err(AllocError);
+    }
+    Ok(m + n)
+}
+
+/// How many heads of the logic's own have a base type as their target, over so many base types.
+fn count_logical(bases: usize, base: u32) -> Result<usize, AllocError>
+    ensures { IfOk result (λ n. n ≡ length (logical_for bases base)) }
+{
+    if base > 0 {
+        return Ok(1);
+    }
+    let pairs = plus(bases, bases)?;
+    Ok(plus(pairs, 6)?)
+}
+
+/// How many witnesses and heads of the logic's own have a base type as their target.
+fn count_later(tables: &Tables, base: u32) -> Result<usize, AllocError>
+    requires right { (q : Queue Planned Delays) × IsRight tables.now q }
+    ensures { IfOk result (λ n. n ≡ length (later_heads (scope_by tables.now.basis) base)) }
+{
+    let takers = tables.takers.terms_of(&Ty::Base(base));
+    let bases = tables.basis.bank.sig().bases.len();
+    let logical = count_logical(bases, base)?;
+    Ok(plus(takers.len(), logical)?)
+}
+
+/// How many names, witnesses and heads of the logic's own have a base type as their target.
+fn count_constants(tables: &Tables, base: u32) -> Result<usize, AllocError>
+    requires right { (q : Queue Planned Delays) × IsRight tables.now q }
+    ensures { IfOk result (λ n. n ≡ length (places_to base 0 (scope_by tables.now.basis).names) + length (later_heads (scope_by tables.now.basis) base)) }
+{
+    let names = tables.names.terms_of(&Ty::Base(base));
+    let later = count_later(tables, base)?;
+    Ok(plus(names.len(), later)?)
+}
+
+/// How many heads fit the first hole of a partial term.
+fn count_heads(tables: &Tables, p: usize) -> Result<usize, AllocError>
+    requires right { (q : Queue Planned Delays) × IsRight tables.now q }
+    requires number { p < length (sketches_in tables.now) }
+    ensures { IfOk result (λ n. n ≡ length (heads_for (scope_by tables.now.basis) (first_hole [] (sketch_at (sketches_in tables.now) p).partial))) }
+{
+    match tables.open_holes.first_base(p) {
+        Some(base) => {
+            let variables = tables.open_holes.variables(tables.alloc, p)?;
+            let constants = count_constants(tables, base)?;
+            Ok(plus(variables.len(), constants)?)
+        }
+        None => Ok(0),
+    }
+}
+
+/// Pushes the commands that fill the first hole of a partial term with each head that fits.
+pub(crate) fn push_heads<W: Weigher<Waiting>>(
+    core: &mut Core<W>,
+    p: usize,
+) -> Result<(), AllocError>
+    requires right { IsRight core.old.tables core.old.plan }
+    requires number { p < length (sketches_in core.old.tables) }
+    ensures state { OnOk result (let q = sketch_at (sketches_in core.old.tables) p in the_state core.new.tables core.new.plan ≡ pushed (the_mode core.old.plan.rule.mode) (map (grow q) (heads_for (scope_by core.old.tables.basis) (first_hole [] q.partial))) (the_state core.old.tables core.old.plan)) }
+    ensures right { OnOk result (IsRight core.new.tables core.new.plan) }
+    ensures tables { core.new.tables ≡ core.old.tables }
+    ensures rule { OnOk result (core.new.plan.rule ≡ core.old.plan.rule) }
+{
+    let count = count_heads(&core.tables, p)?;
+    if count == 0 {
+        return Ok(());
+    }
+    let known = core.tables.basis.witnesses.len();
+    let witnesses = known as usize;
+    let head = core.tables.fitting_head(p, witnesses, 0)?;
+    let first = Command::Grow(p, number_of(head));
+    core.push_whole(first, Over::Heads { witnesses }, count)?;
+    Ok(())
+}

@@ -1,0 +1,197 @@
+-- The tables of a run are what a refutation is rebuilt from.
+use Rattle.std.specs.Prelude.{◌≡◌, ◌<◌, ◌++◌, ℕ, suc, get_or, List, [], ◌∷◌, map, length, Option, Some, None, option_map, IfSome, slice_get, Contains, refl}
+use Rattle.std.specs.List.{All}
+use Rattle.std.specs.Option.{ForSome}
+use Rattle.std.proofs.Common.{sym, ap, subst, ◌∙◌, length-append}
+use Rattle.std.proofs.lemmas.List.{map-append, length-map}
+use Rattle.std.proofs.lemmas.Option.{same_Some, slice_get-map}
+use Rattle.stt_core.specs.Typing.{Scope}
+use Rattle.stt_core.specs.Lambda.{Lambda}
+use Rattle.tableau_calculus.specs.Literals.{Literal}
+use Rattle.tableau_calculus.specs.Witnesses.{with_rows}
+use Rattle.tableau_calculus.specs.Rules.{Rule, places}
+use Rattle.tableau_calculus.specs.declared.refutation.Line.{Line}
+use Rattle.tableau_calculus.specs.declared.refutation.Refutation.{Refutation}
+use Rattle.tableau_calculus.proofs.AcceptedLaws.{literals_at-are}
+use Rattle.sat_base.specs.declared.literal.SatLit.{SatLit}
+use Rattle.sat_base.specs.Literal.{IsOver}
+use Rattle.sat_log.specs.declared.log.LogEntry.{LogEntry}
+use Rattle.sat_log.specs.Chains.{results, IsLogOver}
+use Rattle.sat_core.specs.Solver.{SolverState, learned, OccurIn, WereLearned, IsSound}
+use Rattle.term_bank.specs.Content.{content_scope}
+use Rattle.search_spec.specs.Each.{Each}
+use Rattle.literal_map.specs.Atoms.{literal_at}
+use Rattle.literal_map.specs.declared.instance.Instance.{Instance}
+use Rattle.rebuild_spec.specs.Input.{literals_of, clause_in}
+use Rattle.rebuild_spec.specs.Rebuilt.{IsRebuilt}
+use Rattle.rebuild_spec.specs.Trimmed.{IsFromSearch}
+use Rattle.rebuild_spec.specs.Used.{AreFew}
+use Rattle.search_spec.specs.Numbered as by_atoms
+use Rattle.search_spec.specs.Numbered.{AreApart}
+use Rattle.search_spec.specs.Unsatisfiable.{Clause}
+use Rattle.tableau_clauses.specs.Table.{Step, Table, the_clauses, ComesFrom, EachComes}
+use Rattle.tableau_clauses.specs.declared.origin.Origin.{Origin}
+use Rattle.tableau_clauses.specs.declared.origin.Origin.TheVariants.{Start, Instance as From}
+use Rattle.tableau_rules.specs.Uses.{principals_of}
+use Rattle.tableau_rules.proofs.MadeLaws.{principals_within}
+use Rattle.tableau_rebuild.specs.Tables.{no_literal, the_atoms, sourced, the_sources, the_input, start_literals_in, unit_literals}
+use Rattle.tableau_rebuild.specs.Conditions.{IsInstanceOver, EndsEmpty}
+use Rattle.prover_state.specs.declared.tables.Basis.{Basis}
+use Rattle.prover_state.specs.Internal.Names.{IsNumber}
+use Rattle.prover_state.specs.Internal.Standing.{rows_in, IsBasis}
+use Rattle.prover_state.specs.Internal.Steps.{IsMade}
+use Rattle.prover_state.proofs.EachLaws.{each-weaker, each-unmapped, map-same, All-from_each}
+use Rattle.prover_state.proofs.NumberLaws.{literal_named}
+use Rattle.prover_search.specs.Internal.Running.{unit_in, units}
+use Rattle.prover_run.specs.Origin.{ComesFrom as ComesFromClauses, EachComesFrom, AreRefutedShortly}
+use Rattle.prover_run.proofs.OriginLaws.{comes-from}
+use Rattle.prover_run.proofs.PrincipalLaws.{principals-at}
+
+some_for : {X : Type 0} (P : X → Type 0) (o : Option X) → ForSome o P → IfSome o P
+some_for P None h = tt
+some_for P (Some x) h = h x refl
+
+-- the clause of a source is the clause that comes from there
+clause_sourced : (terms : List Lambda) (atoms : List ℕ) (t : Table) (clause : List SatLit) (o : Origin) → ComesFrom t.1 clause o → clause_in (sourced terms atoms t.1 clause o) ≡ clause
+clause_sourced terms atoms t clause Start h = ap (λ c. get_or c 0 no_literal ∷ []) h.1 ∙ sym h.1
+clause_sourced terms atoms t clause (From k) h = refl
+
+sourced-each : (terms : List Lambda) (atoms : List ℕ) (t : Table) (steps : List Step) → ((n : ℕ) (s : Step) → slice_get steps n ≡ Some s → ComesFrom t.1 s.0 s.1)
+    → map clause_in (map (λ (s : Step). sourced terms atoms t.1 s.0 s.1) steps) ≡ map (λ (s : Step). s.0) steps
+sourced-each terms atoms t [] h = refl
+sourced-each terms atoms t (s ∷ steps) h =
+    let here = clause_sourced terms atoms t s.0 s.1 (h 0 s refl) in
+    let later = sourced-each terms atoms t steps (λ n r at. h (suc n) r at) in
+    λ i. here i ∷ later i
+
+-- the clauses of the sources are those of the table
+pub sources-clauses : (terms : List Lambda) (atoms : List ℕ) (t : Table) → EachComes t → map clause_in (the_sources terms atoms t) ≡ the_clauses t
+sources-clauses terms atoms t comes = sourced-each terms atoms t t.0 comes
+
+module _ (g : Basis) (good : IsBasis g) where
+  abbrev named : List Lambda
+  named = the_atoms g.bank.terms g.lits
+
+  abbrev by_number : SatLit → Literal
+  by_number = literal_at g.bank.terms g.lits
+
+  -- numbered literals are those of the list of atoms
+  pub literals-named : (ls : List SatLit) → Each (IsNumber g.lits) ls → map by_number ls ≡ literals_of named ls
+  literals-named ls h = sym (map-same (by_atoms.literal_at named) by_number (IsNumber g.lits) (literal_named g.bank g.lits good.atoms) ls h)
+
+  pub lists-named : (lists : List (List SatLit)) → Each (Each (IsNumber g.lits)) lists → map (map by_number) lists ≡ map (literals_of named) lists
+  lists-named lists h = map-same (map by_number) (literals_of named) (Each (IsNumber g.lits)) literals-named lists h
+
+  over : (ls : List SatLit) → Each (IsNumber g.lits) ls → IsOver (length g.lits) ls
+  over ls h = All-from_each (IsNumber g.lits) ls h
+
+  -- the witnesses of the bank are those of the rows
+  scope_rows : with_rows (content_scope g.bank) (rows_in g) ≡ content_scope g.bank
+  scope_rows = λ i. record { bases = length g.bank.bases; names = map (λ c. c.type) g.bank.consts; witnesses = good.typed i }
+
+  module _ (i : Instance) (m : IsMade g i) where
+    abbrev principals_number : Each (IsNumber g.lits) i.principals
+    principals_number = subst (Each (IsNumber g.lits)) (sym m.principals) (principals_within (length g.lits) i.by m.first m.second)
+
+    principals_are : m.fits.is_instance.principals ≡ literals_of named i.principals
+    principals_are =
+        sym (literals_at-are (map by_number (principals_of i.by)) (places m.fits.rule) m.fits.is_instance.principals m.fits.is_instance.at_places)
+        ∙ principals-at by_number i.by _ m.fits.rule m.fits.is_rule
+        ∙ ap (map by_number) (sym m.principals)
+        ∙ literals-named i.principals principals_number
+
+    rule_fits : Rule (with_rows (content_scope g.bank) (rows_in g)) (rows_in g) m.fits.rule (literals_of named i.principals) (map (literals_of named) i.alternatives)
+    rule_fits =
+        let S : Scope → Type 0 = λ s. Rule s (rows_in g) m.fits.rule (literals_of named i.principals) (map (literals_of named) i.alternatives) in
+        let P : List Literal → Type 0 = λ ls. Rule (content_scope g.bank) (rows_in g) m.fits.rule ls (map (literals_of named) i.alternatives) in
+        let A : List (List Literal) → Type 0 = λ as'. Rule (content_scope g.bank) (rows_in g) m.fits.rule m.fits.is_instance.principals as' in
+        subst S (sym scope_rows) (subst P principals_are (subst A (lists-named i.alternatives m.numbers) m.fits.is_instance.fits))
+
+    pub made-over : IsInstanceOver g.bank g.lits (rows_in g) i
+    made-over = record {
+      rule = m.fits.rule;
+      is_rule = m.fits.is_rule;
+      first = some_for (IsNumber g.lits) i.by.first m.first;
+      term = some_for (λ u. u < length g.bank.terms) i.by.term m.term;
+      principals = over i.principals principals_number;
+      alternatives = All-from_each (IsOver (length g.lits)) i.alternatives (each-weaker (Each (IsNumber g.lits)) (IsOver (length g.lits)) over i.alternatives m.numbers);
+      fits = rule_fits;
+    }
+
+  pub instances-over : (is : List Instance) → Each (IsMade g) is → All (IsInstanceOver g.bank g.lits (rows_in g)) is
+  instances-over is h = All-from_each (IsInstanceOver g.bank g.lits (rows_in g)) is (each-weaker (IsMade g) (IsInstanceOver g.bank g.lits (rows_in g)) made-over is h)
+
+  units_each : (steps : List Step) → Each (λ (s : Step). Each (IsNumber g.lits) s.0) steps → Each (λ (s : Step). s.1 ≡ Start → IsOver (length g.lits) s.0) steps
+  units_each steps h = each-weaker (λ (s : Step). Each (IsNumber g.lits) s.0) (λ (s : Step). s.1 ≡ Start → IsOver (length g.lits) s.0) (λ s k _. over s.0 k) steps h
+
+  pub units-numbered : (steps : List Step) → Each (Each (IsNumber g.lits)) (map (λ (s : Step). s.0) steps) → All (λ (s : Step). s.1 ≡ Start → IsOver (length g.lits) s.0) steps
+  units-numbered steps h = All-from_each (λ (s : Step). s.1 ≡ Start → IsOver (length g.lits) s.0) steps (units_each steps (each-unmapped (Each (IsNumber g.lits)) (λ (s : Step). s.0) steps h))
+
+  unit_named : (clause : List SatLit) (o : Origin) → Each (IsNumber g.lits) clause → map by_number (unit_in clause o) ≡ start_literals_in named clause o
+  unit_named clause Start h = literals-named clause h
+  unit_named clause (From k) h = refl
+
+  -- the start units are the same literals
+  pub units-named : (steps : List Step) → Each (Each (IsNumber g.lits)) (map (λ (s : Step). s.0) steps) → map by_number (units steps) ≡ unit_literals named steps
+  units-named [] h = refl
+  units-named (s ∷ steps) h =
+      map-append by_number (unit_in s.0 s.1) (units steps)
+      ∙ ap (λ ls. ls ++ map by_number (units steps)) (unit_named s.0 s.1 h.0)
+      ∙ ap (λ ls. start_literals_in named s.0 s.1 ++ ls) (units-named steps h.1)
+
+  module _ (t : Table) (numbers : Each (Each (IsNumber g.lits)) (the_clauses t)) where
+    -- lines of what the tables give come from the clauses of formulas
+    pub origin-named : (log : List LogEntry) (ls : List Literal) (lines : List Line) → EachComes t → ((l : Line) → Contains lines l → IsFromSearch ls (the_input g.bank g.lits t log g.witnesses) l)
+        → EachComesFrom ls (map (map by_number) (the_clauses t)) lines
+    origin-named log ls lines comes from l there =
+        let C : List Clause → Type 0 = λ cs. ComesFromClauses ls cs l in
+        let same : map (literals_of named) (map clause_in (the_sources g.bank.terms g.lits t)) ≡ map (map by_number) (the_clauses t) =
+        ap (map (literals_of named)) (sources-clauses g.bank.terms g.lits t comes) ∙ sym (lists-named (the_clauses t) numbers)
+        in
+        subst C same (comes-from (the_input g.bank g.lits t log g.witnesses) ls l (from l there))
+
+    -- the log of a solver over the clauses, from which a refutation is rebuilt, refutes the clauses of formulas
+    pub shortly-named : (y : SolverState) (refutation : Refutation) → EachComes t → AreApart named → Each (Each (by_atoms.IsNumber named)) (the_clauses t) → y.clauses ≡ the_clauses t → IsSound y
+        → results y.log ≡ learned y ++ [] ∷ [] → IsRebuilt (the_input g.bank g.lits t y.log g.witnesses) refutation → AreFew y.log refutation.lines
+        → AreRefutedShortly (map (map by_number) (the_clauses t)) (learned y) refutation
+    shortly-named y refutation comes apart over_atoms is sound ends rebuilt few =
+        let sourced : map clause_in (the_sources g.bank.terms g.lits t) ≡ the_clauses t = sources-clauses g.bank.terms g.lits t comes in
+        let same : y.clauses ≡ map clause_in (the_sources g.bank.terms g.lits t) = is ∙ sym sourced in
+        let N : List (List SatLit) → Type 0 = λ cs. Each (Each (by_atoms.IsNumber named)) cs in
+        let L : List (List SatLit) → Type 0 = λ cs. IsLogOver cs y.log in
+        let O : List (List SatLit) → Type 0 = λ cs. OccurIn cs (learned y) in
+        let W : List (List SatLit) → Type 0 = λ cs. WereLearned cs (learned y) in
+        record {
+          input = the_input g.bank g.lits t y.log g.witnesses;
+          apart = apart;
+          numbers = subst N (sym sourced) over_atoms;
+          stand = ap (map (literals_of named)) sourced ∙ sym (lists-named (the_clauses t) numbers);
+          logged = subst L same sound.logged;
+          ends = ends;
+          once = sound.once;
+          differ = sound.apart;
+          occurring = subst O same sound.occurring;
+          in_turn = subst W same sound.in_turn;
+          rebuilt = rebuilt;
+          few = few;
+        }
+
+last_at : {X : Type 0} (xs : List X) (x : X) → slice_get (xs ++ x ∷ []) (length xs) ≡ Some x
+last_at [] x = refl
+last_at (y ∷ xs) x = last_at xs x
+
+entry_with : (clause : List SatLit) (o : Option LogEntry) → option_map (λ (e : LogEntry). e.result) o ≡ Some clause → (entry : LogEntry) × ((o ≡ Some entry) × (entry.result ≡ clause))
+entry_with clause None h = cc
+entry_with clause (Some e) h = (e, (refl, same_Some e.result clause h))
+
+-- a log whose results end with the empty clause
+pub ends-empty : (log : List LogEntry) (front : List (List SatLit)) → results log ≡ front ++ [] ∷ [] → EndsEmpty log
+ends-empty log front ends =
+    let found = entry_with [] (slice_get log (length front)) (sym (slice_get-map (λ (e : LogEntry). e.result) log (length front)) ∙ ap (λ rs. slice_get rs (length front)) ends ∙ last_at front []) in
+    record {
+      number = length front;
+      is_last = sym (length-map log (λ (e : LogEntry). e.result)) ∙ ap length ends ∙ length-append front ([] ∷ []);
+      entry = found.0;
+      at = found.1.0;
+      empty = found.1.1;
+    }

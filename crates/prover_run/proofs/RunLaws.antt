@@ -1,0 +1,280 @@
+-- Runs from their start to their end.
+use Rattle.std.specs.Prelude.{◌≡◌, ◌≤◌, ◌+◌, ◌-◌, ◌^◌, ◌∷◌, ◌++◌, ℕ, zero, suc, Bool, true, false, List, [], map, filter, length, Some, slice_get, Contains, refl}
+use Rattle.std.specs.List.{All}
+use Rattle.std.proofs.Common.{sym, ap, ap₂, subst, ◌∙◌, arith, inl, inr, cond}
+use Rattle.std.proofs.lemmas.Bool.{cases_lt}
+use Rattle.std.proofs.lemmas.List.Elements.{All-take}
+use Rattle.stt_core.specs.Typing.{Scope}
+use Rattle.stt_core.specs.PlainProblem.{PlainProblem}
+use Rattle.stt_core.specs.Declarations.{scope_of}
+use Rattle.tableau_calculus.specs.Literals.{Literal}
+use Rattle.tableau_calculus.specs.Start.{start}
+use Rattle.tableau_calculus.specs.Witnesses.{Row, IsTableAfter}
+use Rattle.tableau_calculus.specs.Accepted.{Within, EndsWithin, IsAccepted}
+use Rattle.tableau_calculus.specs.declared.refutation.Line.{Line}
+use Rattle.tableau_calculus.specs.declared.refutation.Refutation.{Refutation}
+use Rattle.tableau_calculus.proofs.ListLaws.{contains-first, contains-later, contains_cases}
+use Rattle.sat_base.specs.declared.literal.Var.{Var}
+use Rattle.sat_base.specs.declared.literal.SatLit.{SatLit}
+use Rattle.sat_base.specs.Truth.{Implies}
+use Rattle.sat_log.specs.Chains.{results}
+use Rattle.sat_log.specs.Propagation.{AreFailingDecisions, ReachesFalse as NumbersReachFalse}
+use Rattle.sat_core.specs.Solver.{learned_from, learned, AreAmong, OccurIn, WereLearned, IsSound}
+use Rattle.tableau_clauses.specs.Table.{the_clauses}
+use Rattle.tableau_rebuild.specs.Tables.{the_atoms}
+use Rattle.search_spec.specs.Shallow.{is_shallow_literal}
+use Rattle.search_spec.specs.Unsatisfiable.{Clause}
+use Rattle.search_spec.specs.State.{State, Setting, process, pushed}
+use Rattle.search_spec.specs.After.{nothing_yet, stepped, after}
+use Rattle.search_spec.specs.Result.{GoesOn, GoesOnUntil, IsExhausted, IsStopped}
+use Rattle.command_queue.specs.Queue.{Queue}
+use Rattle.mode_file.specs.declared.Mode.{Mode}
+use Rattle.term_bank.specs.Content.{Content, content_scope}
+use Rattle.term_bank.specs.Laws.{EqualIdsForEqualTerms}
+use Rattle.prover_state.specs.declared.command.Planned.{Planned}
+use Rattle.prover_state.specs.declared.command.Delays.{Delays}
+use Rattle.prover_state.specs.declared.tables.Tables.{Tables}
+use Rattle.prover_state.specs.Internal.Standing.{declared_scope, setting_by, the_state, IsRight}
+use Rattle.prover_state.proofs.NumberLaws.{apart, clauses_number}
+use Rattle.prover_search.specs.Internal.Running.{start_in, IsRunning}
+use Rattle.prover_search.specs.Internal.Progress.{Progress}
+use Rattle.prover_search.specs.Internal.Answers.{StepCloses, IsEmpty, IsAtLimit, StepSpends as IsSpentAt, GoesOn as GoesOnBy}
+use Rattle.prover_run.specs.declared.ended.Ended.{Ended}
+use Rattle.prover_run.specs.declared.ended.Ended.TheVariants.{Proved, GaveUp, CommandLimit, ConflictLimit}
+use Rattle.prover_run.specs.Ended.{setting_for, IsSpent, EndsAs}
+use Rattle.prover_run.specs.Origin.{ComesFrom, AreRefutedWithin}
+use Rattle.prover_run.specs.Internal.Ends.{RefutesFrom, IsProvedBy, EndsFrom}
+use Rattle.prover_run.proofs.OriginLaws.{refuted-within, refuted-at_once}
+use Rattle.prover_run.proofs.RebuildUses.{lists-named}
+
+-- what holds of all results holds of the learned ones
+learned-among : (P : List SatLit → Type 0) (refuted : Bool) (rs : List (List SatLit)) → All P rs → All P (learned_from refuted rs)
+learned-among P true rs h = All-take P (length rs - 1) rs h
+learned-among P false rs h = h
+
+-- A STEP
+
+module _ (t : Tables) (q : Queue Planned Delays) (r : IsRunning t q) (t2 : Tables) (q2 : Queue Planned Delays) where
+  abbrev old : Progress
+  old = record { tables = t; plan = q }
+
+  abbrev new : Progress
+  new = record { tables = t2; plan = q2 }
+
+  pub goes-on : GoesOnBy old new → GoesOn (setting_by t q) (start_in t) t.done
+  goes-on g = record { state = the_state t q; open_state = record { comes_to = r.comes_to; satisfiable = g.satisfiable }; some_left = g.some_left; below = g.below }
+
+  -- no more clauses are learned than the mode has conflicts
+  budget_kept : IsRight t2 q2 → setting_by t2 q2 ≡ setting_by t q → length (learned t2.solver) ≤ q.rule.mode.conflicts
+  budget_kept right same = subst (λ n. length (learned t2.solver) ≤ n) (ap (λ (s : Setting). s.mode.conflicts) same) right.budget
+
+  -- the clauses are refuted within the conflicts of the mode
+  within_budget : StepCloses old new → IsRight t2 q2 → setting_by t2 q2 ≡ setting_by t q → All (Implies t2.solver.clauses) (results t2.solver.log) → AreRefutedWithin q.rule.mode.conflicts (the_state t q).clauses
+  within_budget k right same implied =
+      let C : List (List SatLit) → Type 0 = λ cs. All (Implies cs) (learned t2.solver) in
+      let R : List (List SatLit) → Type 0 = λ cs. NumbersReachFalse (cs ++ learned t2.solver) [] in
+      let A : List Clause → Type 0 = λ cs. AreRefutedWithin q.rule.mode.conflicts cs in
+      subst A (sym (lists-named t2.basis right.basis (the_clauses t2.steps) right.clauses) ∙ ap (λ (s : State). s.clauses) k.stays.state)
+      (
+      refuted-within (the_atoms t2.basis.bank.terms t2.basis.lits) q.rule.mode.conflicts (the_clauses t2.steps) (learned t2.solver) (budget_kept right same)
+      (subst C right.solver (learned-among (Implies t2.solver.clauses) t2.solver.is_refuted (results t2.solver.log) implied))
+      (subst R right.solver k.propagated)
+      )
+
+  pub is-proved : (refutation : Refutation) → StepCloses old new → IsRight t2 q2 → setting_by t2 q2 ≡ setting_by t q → All (Implies t2.solver.clauses) (results t2.solver.log)
+      → RefutesFrom (setting_by t q).scope (start_in t) (the_state t q).clauses (learned t2.solver) refutation → GoesOnUntil (setting_by t q) (start_in t) t.done → IsProvedBy (setting_by t q) (start_in t) t2.done refutation
+  is-proved refutation k right same implied refutes until =
+      let P : ℕ → Type 0 = λ n. IsProvedBy (setting_by t q) (start_in t) n refutation in
+      subst P (sym k.stays.done)
+      (
+      record {
+        proved = record { until = until; state = the_state t q; comes_to = r.comes_to; unsatisfiable = k.unsatisfiable };
+        learned = learned t2.solver;
+        refutes = refutes;
+        counted = budget_kept right same;
+        within = within_budget k right same implied;
+      }
+      )
+
+  pub is-exhausted : IsEmpty old new → GoesOnUntil (setting_by t q) (start_in t) t.done → IsExhausted (setting_by t q) (start_in t) t2.done
+  is-exhausted k until =
+      let P : ℕ → Type 0 = λ n. IsExhausted (setting_by t q) (start_in t) n in
+      subst P (sym k.stays.done) (record { until = until; state = the_state t q; open_state = record { comes_to = r.comes_to; satisfiable = k.satisfiable }; none_left = k.none_left })
+
+  pub is-stopped : IsAtLimit old new → GoesOnUntil (setting_by t q) (start_in t) t.done → IsStopped (setting_by t q) (start_in t) t2.done
+  is-stopped k until =
+      let P : ℕ → Type 0 = λ n. IsStopped (setting_by t q) (start_in t) n in
+      subst P (sym k.stays.done) (record { until = until; state = the_state t q; open_state = record { comes_to = r.comes_to; satisfiable = k.satisfiable }; some_left = k.some_left; at_limit = k.at_limit })
+
+  -- the conflicts are spent over the clauses that the new tables have
+  pub is-spent : (conflicts : ℕ) → IsSpentAt old new conflicts → IsRight t2 q2 → EqualIdsForEqualTerms t2.basis.bank
+      → ((v w id : ℕ) → slice_get t2.basis.lits v ≡ Some id → slice_get t2.basis.lits w ≡ Some id → v ≡ w) → IsSound t2.solver → All (Implies t2.solver.clauses) (results t2.solver.log)
+      → GoesOnUntil (setting_by t q) (start_in t) t.done → IsSpent (setting_by t q) (start_in t) conflicts
+  is-spent conflicts k right equal differ sound implied until =
+      let C : List (List SatLit) → Type 0 = λ cs. All (Implies cs) (learned t2.solver) in
+      let F : List (List SatLit) → Type 0 = λ cs. AreFailingDecisions (cs ++ learned t2.solver) k.decisions in
+      let A : List (List SatLit) → Type 0 = λ cs. (variables : List Var) → AreAmong variables cs → 3 ^ length variables ≤ conflicts → ⊥ in
+      let O : List (List SatLit) → Type 0 = λ cs. OccurIn cs (learned t2.solver) in
+      let W : List (List SatLit) → Type 0 = λ cs. WereLearned cs (learned t2.solver) in
+      record {
+        is_budget = k.reported;
+        commands = t.done;
+        until = until;
+        state = the_state t q;
+        comes_to = r.comes_to;
+        spent = record {
+          atoms = the_atoms t2.basis.bank.terms t2.basis.lits;
+          apart = apart t2.basis.bank t2.basis.lits right.basis.atoms equal differ;
+          numbered = the_clauses t2.steps;
+          numbers = clauses_number t2.basis.bank t2.basis.lits right.basis.atoms equal differ (the_clauses t2.steps) right.clauses;
+          stand = sym (lists-named t2.basis right.basis (the_clauses t2.steps) right.clauses) ∙ ap (λ (s : State). s.clauses) k.stays.state;
+          learned = learned t2.solver;
+          counted = k.counted;
+          once = sound.once;
+          differ = sound.apart;
+          occurring = subst O right.solver sound.occurring;
+          in_turn = subst W right.solver sound.in_turn;
+          implied = subst C right.solver (learned-among (Implies t2.solver.clauses) t2.solver.is_refuted (results t2.solver.log) implied);
+          decisions = k.decisions;
+          failing = subst F right.solver k.failing;
+          few = subst A right.solver k.few;
+        };
+      }
+
+-- MANY STEPS
+
+pub until-nothing : (setting : Setting) (ls : List Literal) → GoesOnUntil setting ls 0
+until-nothing setting ls m h = absurd (omega (arith, h))
+
+pub until-next : (setting : Setting) (ls : List Literal) (n : ℕ) → GoesOnUntil setting ls n → GoesOn setting ls n → GoesOnUntil setting ls (n + 1)
+until-next setting ls n until g m h =
+    elim (cases_lt m n) [
+      | inl less ↦ until m less
+      | inr least ↦ subst (GoesOn setting ls) (omega (arith, h, least)) g
+    ]
+
+-- THE START OF A PROBLEM
+
+filter_again : {X : Type 0} (test : X → Bool) (xs : List X) → filter test (filter test xs) ≡ filter test xs
+filter_again test [] = refl
+filter_again test (x ∷ xs) = go (test x) refl (filter_again test xs)
+  where
+    go : (b : Bool) → test x ≡ b → filter test (filter test xs) ≡ filter test xs → filter test (cond b (x ∷ filter test xs) (filter test xs)) ≡ cond b (x ∷ filter test xs) (filter test xs)
+    go true e rest = ap₂ (λ c ys. cond c (x ∷ ys) ys) e rest
+    go false e rest = rest
+
+-- literals that are too deep don't count
+after_shallow : (setting : Setting) (ls : List Literal) (n : ℕ) → after setting (filter is_shallow_literal ls) n ≡ after setting ls n
+after_shallow setting ls zero = ap (λ ks. Some (pushed setting.mode (map process ks) (record nothing_yet { clauses = map (λ l. l ∷ []) ks; seen = ks }))) (filter_again is_shallow_literal ls)
+after_shallow setting ls (suc n) = ap (stepped setting) (after_shallow setting ls n)
+
+module _ (setting : Setting) (ls : List Literal) where
+  abbrev few : List Literal
+  few = filter is_shallow_literal ls
+
+  goes_on_whole : (n : ℕ) → GoesOn setting few n → GoesOn setting ls n
+  goes_on_whole n g = record {
+    state = g.state;
+    open_state = record { comes_to = sym (after_shallow setting ls n) ∙ g.open_state.comes_to; satisfiable = g.open_state.satisfiable };
+    some_left = g.some_left;
+    below = g.below;
+  }
+
+  until_whole : (n : ℕ) → GoesOnUntil setting few n → GoesOnUntil setting ls n
+  until_whole n until m h = goes_on_whole m (until m h)
+
+  pub exhausted-whole : (n : ℕ) → IsExhausted setting few n → IsExhausted setting ls n
+  exhausted-whole n p = record {
+    until = until_whole n p.until;
+    state = p.state;
+    open_state = record { comes_to = sym (after_shallow setting ls n) ∙ p.open_state.comes_to; satisfiable = p.open_state.satisfiable };
+    none_left = p.none_left;
+  }
+
+  pub stopped-whole : (n : ℕ) → IsStopped setting few n → IsStopped setting ls n
+  stopped-whole n p = record {
+    until = until_whole n p.until;
+    state = p.state;
+    open_state = record { comes_to = sym (after_shallow setting ls n) ∙ p.open_state.comes_to; satisfiable = p.open_state.satisfiable };
+    some_left = p.some_left;
+    at_limit = p.at_limit;
+  }
+
+none_held : {X : Type 0} (x : X) → Contains [] x → ⊥
+none_held x h = omega (arith, h.1)
+
+held_whole : (test : Literal → Bool) (ls : List Literal) (l : Literal) → Contains (filter test ls) l → Contains ls l
+held_whole test [] l h = absurd (none_held l h)
+held_whole test (k ∷ ls) l h = go (test k) (λ c. contains-later l k ls (held_whole test ls l c)) h
+  where
+    go : (b : Bool) → (Contains (filter test ls) l → Contains (k ∷ ls) l) → Contains (cond b (k ∷ filter test ls) (filter test ls)) l → Contains (k ∷ ls) l
+    go true later c = contains_cases (Contains (k ∷ ls) l) l k (filter test ls) c (λ e. subst (Contains (k ∷ ls)) e (contains-first k ls)) later
+    go false later c = later c
+
+within_whole : (branch ls : List Literal) → Within branch (filter is_shallow_literal ls) → Within branch ls
+within_whole [] ls h = tt
+within_whole (l ∷ branch) ls h = (held_whole is_shallow_literal ls l h.0, within_whole branch ls h.1)
+
+accepted_whole : (scope : Scope) (ls : List Literal) (refutation : Refutation) → IsAccepted scope (filter is_shallow_literal ls) refutation → IsAccepted scope ls refutation
+accepted_whole scope ls refutation a = record {
+  table = a.table;
+  lines = a.lines;
+  last = record { front = a.last.front; last = a.last.last; are = a.last.are; within = within_whole a.last.last.branch ls a.last.within };
+}
+
+comes_whole : (ls : List Literal) (clauses : List Clause) (l : Line) → ComesFrom (filter is_shallow_literal ls) clauses l → ComesFrom ls clauses l
+comes_whole ls clauses l (inl cut) = inl cut
+comes_whole ls clauses l (inr (inr from)) = inr (inr from)
+comes_whole ls clauses l (inr (inl h)) =
+    inr (inl (record {
+      first = h.first;
+      second = h.second;
+      rule = h.rule;
+      branch = h.branch;
+      first_in = held_whole is_shallow_literal ls h.first h.first_in;
+      second_in = held_whole is_shallow_literal ls h.second h.second_in;
+    }))
+
+-- what ends from the literals of a problem that aren't too deep, ends from the problem's start
+module _ (p : PlainProblem) (m : Mode) (setting : Setting) (ls : List Literal) (is_setting : setting ≡ setting_for p m) (is_start : ls ≡ filter is_shallow_literal (start p)) where
+  ends_here : (e : Ended) → EndsFrom (setting_for p m) (filter is_shallow_literal (start p)) e → EndsAs p m e
+  ends_here (Proved n refutation) k = record {
+    proved = record { until = until_whole (setting_for p m) (start p) n k.proved.until; state = k.proved.state; comes_to = sym (after_shallow (setting_for p m) (start p) n) ∙ k.proved.comes_to; unsatisfiable = k.proved.unsatisfiable };
+    accepted = accepted_whole (scope_of p.declared) (start p) refutation k.refutes.accepted;
+    reached = k.refutes.reached;
+    small = k.refutes.small;
+    origin = λ l there. comes_whole (start p) k.proved.state.clauses l (k.refutes.origin l there);
+    learned = k.learned;
+    shortly = k.refutes.shortly;
+    counted = k.counted;
+    within = k.within;
+    at_once = λ e. refuted-at_once k.proved.state.clauses (subst (λ n. AreRefutedWithin n k.proved.state.clauses) e k.within);
+  }
+  ends_here (GaveUp n) k = exhausted-whole (setting_for p m) (start p) n k
+  ends_here (CommandLimit n) k = stopped-whole (setting_for p m) (start p) n k
+  ends_here (ConflictLimit c) k = record {
+    is_budget = k.is_budget;
+    commands = k.commands;
+    until = until_whole (setting_for p m) (start p) k.commands k.until;
+    state = k.state;
+    comes_to = sym (after_shallow (setting_for p m) (start p) k.commands) ∙ k.comes_to;
+    spent = k.spent;
+  }
+
+  pub ends-as : (e : Ended) → EndsFrom setting ls e → EndsAs p m e
+  ends-as e k =
+      let S : Setting → Type 0 = λ s. EndsFrom s (filter is_shallow_literal (start p)) e in
+      let L : List Literal → Type 0 = λ ks. EndsFrom setting ks e in
+      ends_here e (subst S is_setting (subst L is_start k))
+
+-- A REFUTATION OVER THE BANK
+
+table_declared : (b : Content) (earlier rows : List Row) → IsTableAfter (content_scope b) earlier rows → IsTableAfter (declared_scope b) earlier rows
+table_declared b earlier [] h = tt
+table_declared b earlier (r ∷ rows) h = (h.0, h.1, table_declared b (earlier ++ r ∷ []) rows h.2)
+
+-- what is accepted over a bank is accepted over what it declares, its witnesses apart
+pub accepted-declared : (b : Content) (ls ks : List Literal) (refutation : Refutation) → ks ≡ ls → IsAccepted (content_scope b) ks refutation → IsAccepted (declared_scope b) ls refutation
+accepted-declared b ls ks refutation same a =
+    let L : List Literal → Type 0 = λ xs. EndsWithin xs refutation.lines in
+    record { table = table_declared b [] refutation.witnesses a.table; lines = a.lines; last = subst L same a.last }

@@ -1,0 +1,62 @@
+use Rattle.std.proofs.Common.{sym, ap, subst, subst₂}
+use Rattle.std.specs.Prelude.{ℕ, List}
+use Rattle.stt_core.specs.Typing.{Scope}
+use Rattle.tableau_calculus.specs.Literals.{Literal}
+use Rattle.search_spec.specs.State.{State, Setting}
+use Rattle.search_spec.specs.Unsatisfiable.{Clause}
+use Rattle.search_spec.specs.Result.{IsExhausted, IsStopped}
+use Rattle.sat_core.specs.Solver.{learned}
+use Rattle.prover_state.specs.Internal.Standing.{setting_by, the_state}
+use Rattle.prover_search.specs.Internal.Running.{start_in}
+use Rattle.prover_search.specs.Internal.Answers.{Answers}
+use Rattle.prover_search.specs.declared.stepped.Stepped.{Stepped}
+use Rattle.prover_run.specs.Internal.Ends.{RefutesFrom, IsProvedBy}
+use Rattle.prover_run.proofs.RunLaws.{is-proved, is-exhausted, is-stopped, is-spent}
+use Rattle.prover_run.proofs.running.next.Goals as goal
+
+pub returns-in_ok-refutation-in-Closed-clause-ended : goal.returns-in_ok-refutation-in-Closed-clause-ended
+returns-in_ok-refutation-in-Closed-clause-ended g c = λ until.
+    let t = c.args.search.now.core.tables in
+    let q = c.args.search.now.core.plan in
+    let u = c.step.new.self.core.tables in
+    let p = c.step.new.self.core.plan in
+    let refutation = c.in_ok-refutation-in-Closed.refutation in
+    let A : Stepped → Type 0 = λ s. Answers (record { tables = t; plan = q }) (record { tables = u; plan = p }) s in
+    let P : ℕ → Type 0 = λ n. IsProvedBy (setting_by t q) (start_in t) n refutation in
+    let R : Scope → List Literal → Type 0 = λ scope ls. RefutesFrom scope ls (the_state t q).clauses (learned u.solver) refutation in
+    let F : List Clause → Type 0 = λ cs. RefutesFrom (setting_by u p).scope (start_in u) cs (learned u.solver) refutation in
+    let closed = subst A c.in-Closed.is c.in_ok-step.ensures.answers in
+    let under_way = c.in_ok-step.ensures.under_way c.in_ok-step.ensures.ready in
+    let over = subst F (ap (λ (s : State). s.clauses) closed.stays.state) c.in_ok-refutation-in-Closed.ensures in
+    let refutes = subst₂ R (ap (λ (s : Setting). s.scope) c.in_ok-step.ensures.setting) c.in_ok-step.ensures.start over in
+    subst P (sym c.commands.ensures) (is-proved t q c.requires.under_way.running u p refutation closed under_way.running.right c.in_ok-step.ensures.setting c.log-log.ensures.implied refutes until)
+
+pub returns-in-Empty-clause-ended : goal.returns-in-Empty-clause-ended
+returns-in-Empty-clause-ended g c = λ until.
+    let t = c.args.search.now.core.tables in
+    let q = c.args.search.now.core.plan in
+    let u = c.step.new.self.core.tables in
+    let p = c.step.new.self.core.plan in
+    let A : Stepped → Type 0 = λ s. Answers (record { tables = t; plan = q }) (record { tables = u; plan = p }) s in
+    let P : ℕ → Type 0 = λ n. IsExhausted (setting_by t q) (start_in t) n in
+    subst P (sym c.commands-in-Empty.ensures) (is-exhausted t q c.requires.under_way.running u p (subst A c.in-Empty.is c.in_ok-step.ensures.answers) until)
+
+pub returns-in-Limit-clause-ended : goal.returns-in-Limit-clause-ended
+returns-in-Limit-clause-ended g c = λ until.
+    let t = c.args.search.now.core.tables in
+    let q = c.args.search.now.core.plan in
+    let u = c.step.new.self.core.tables in
+    let p = c.step.new.self.core.plan in
+    let A : Stepped → Type 0 = λ s. Answers (record { tables = t; plan = q }) (record { tables = u; plan = p }) s in
+    let P : ℕ → Type 0 = λ n. IsStopped (setting_by t q) (start_in t) n in
+    subst P (sym c.commands-in-Limit.ensures) (is-stopped t q c.requires.under_way.running u p (subst A c.in-Limit.is c.in_ok-step.ensures.answers) until)
+
+pub returns-in-Spent-clause-ended : goal.returns-in-Spent-clause-ended
+returns-in-Spent-clause-ended g c = λ until.
+    let t = c.args.search.now.core.tables in
+    let q = c.args.search.now.core.plan in
+    let u = c.step.new.self.core.tables in
+    let p = c.step.new.self.core.plan in
+    let A : Stepped → Type 0 = λ s. Answers (record { tables = t; plan = q }) (record { tables = u; plan = p }) s in
+    let under_way = c.in_ok-step.ensures.under_way c.in_ok-step.ensures.ready in
+    is-spent t q c.requires.under_way.running u p c.in-Spent.conflicts (subst A c.in-Spent.is c.in_ok-step.ensures.answers) under_way.running.right c.equal_ids_for_equal_terms.ensures c.atoms_differ.ensures c.log-log-in-Spent.ensures.sound c.log-log-in-Spent.ensures.implied until

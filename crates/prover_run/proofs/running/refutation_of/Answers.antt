@@ -1,0 +1,54 @@
+use Rattle.std.proofs.Common.{List, sym, subst}
+use Rattle.tableau_calculus.specs.Literals.{Literal}
+use Rattle.sat_log.specs.declared.log.LogEntry.{LogEntry}
+use Rattle.sat_core.specs.Solver.{learned}
+use Rattle.tableau_rebuild.specs.Conditions.{EndsEmpty}
+use Rattle.tableau_rebuild.specs.Tables.{the_atoms, the_input, unit_literals}
+use Rattle.tableau_clauses.specs.Table.{the_clauses}
+use Rattle.prover_state.proofs.NumberLaws.{apart, clauses_number}
+use Rattle.prover_search.specs.Internal.Running.{start_in}
+use Rattle.rebuild_spec.specs.Rebuilt.{IsRebuilt}
+use Rattle.rebuild_spec.specs.Used.{AreFew}
+use Rattle.prover_run.specs.Origin.{EachComesFrom}
+use Rattle.prover_run.specs.Internal.Ends.{clauses_of}
+use Rattle.prover_run.proofs.RebuildUses.{instances-over, units-numbered, units-named, origin-named, shortly-named, ends-empty}
+use Rattle.prover_run.proofs.RunLaws.{accepted-declared}
+use Rattle.prover_run.proofs.running.refutation_of.Goals as goal
+
+pub rebuild-requires-clause-units : goal.rebuild-requires-clause-units
+rebuild-requires-clause-units c =
+    let t = c.args.tables.now in
+    units-numbered t.basis c.requires.right.right.basis t.steps.0 c.requires.right.right.clauses
+
+pub rebuild-requires-clause-instances : goal.rebuild-requires-clause-instances
+rebuild-requires-clause-instances c =
+    let t = c.args.tables.now in
+    instances-over t.basis c.requires.right.right.basis t.steps.1 c.requires.right.made
+
+pub rebuild-requires-clause-closed : goal.rebuild-requires-clause-closed
+rebuild-requires-clause-closed c =
+    let t = c.args.tables.now in
+    let E : List LogEntry → Type 0 = λ log. EndsEmpty log in
+    subst E (sym c.log-log.ensures.log) (ends-empty t.solver.log (learned t.solver) c.requires.ends)
+
+pub returns : goal.returns
+returns c =
+    let t = c.args.tables.now in
+    let r = c.requires.right.right in
+    let lines = c.in_ok-refutation.refutation.lines in
+    let units = unit_literals (the_atoms t.basis.bank.terms t.basis.lits) t.steps.0 in
+    let S : List Literal → Type 0 = λ ls. EachComesFrom ls (clauses_of t) lines in
+    let refutation = c.in_ok-refutation.refutation in
+    let F : List LogEntry → Type 0 = λ log. AreFew log lines in
+    let I : List LogEntry → Type 0 = λ log. IsRebuilt (the_input t.basis.bank t.basis.lits t.steps log t.basis.witnesses) refutation in
+    let equal = c.equal_ids_for_equal_terms.ensures in
+    let differ = c.atoms_differ.ensures in
+    record {
+      accepted = accepted-declared t.basis.bank (start_in t) units c.in_ok-refutation.refutation (sym (units-named t.basis r.basis t.steps.0 r.clauses)) c.in_ok-refutation.ensures.accepted;
+      reached = c.in_ok-refutation.ensures.reached;
+      small = c.in_ok-refutation.ensures.small;
+      origin = subst S (sym (units-named t.basis r.basis t.steps.0 r.clauses)) (origin-named t.basis r.basis t.steps r.clauses c.log-log.result.now units lines c.clauses_come_from_origins.ensures c.in_ok-refutation.ensures.from_search);
+      shortly = shortly-named t.basis r.basis t.steps r.clauses t.solver refutation c.clauses_come_from_origins.ensures (apart t.basis.bank t.basis.lits r.basis.atoms equal differ)
+          (clauses_number t.basis.bank t.basis.lits r.basis.atoms equal differ (the_clauses t.steps) r.clauses) r.solver c.log-log.ensures.sound c.requires.ends
+          (subst I c.log-log.ensures.log c.in_ok-refutation.ensures.rebuilt) (subst F c.log-log.ensures.log c.in_ok-refutation.ensures.few);
+    }

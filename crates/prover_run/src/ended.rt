@@ -1,0 +1,22 @@
+//! How runs end.
+
+use tableau_calculus::Refutation;
+
+/// How a run ends: after so many commands its clauses have no satisfying assignment, as a refutation shows; after so many no command is
+/// left; the limit of commands is reached; or the conflicts of the mode are spent, and how many they are.
+#[derive(Drop)]
+pub enum Ended {
+    Proved {
+        commands: u32,
+        refutation: Refutation,
+    },
+    GaveUp {
+        commands: u32,
+    },
+    CommandLimit {
+        commands: u32,
+    },
+    ConflictLimit {
+        conflicts: u64,
+    },
+}

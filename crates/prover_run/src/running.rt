@@ -1,0 +1,135 @@
+//! Runs to their end.
+ghost use Rattle.std.specs.Prelude.{◌≡◌, ◌+◌, ◌++◌, [], ◌∷◌, false, IfOk, IfSome, IfNone, OnOk};
+ghost use Rattle.stt_core.specs.TypedProblem.{IsTyped};
+ghost use Rattle.sat_log.specs.Chains.{results};
+ghost use Rattle.sat_core.specs.Solver.{learned};
+ghost use Rattle.search_spec.specs.Result.{GoesOnUntil};
+ghost use Rattle.prover_state.specs.Delays.{delay_by};
+ghost use Rattle.prover_state.specs.Internal.Standing.{declared_scope, setting_by};
+ghost use Rattle.prover_search.specs.Internal.Running.{start_in, IsUnderWay};
+ghost use Rattle.prover_run.specs.Ended.{EndsAs};
+ghost use Rattle.prover_run.specs.Internal.Ends.{AreRight, clauses_of, RefutesFrom, EndsFrom, GoesOnTo};
+
+use crate::delays::delay;
+use crate::ended::Ended;
+use command_queue::Weigher;
+use mode_file::Mode;
+use prover_state::Tables;
+use std::alloc::{AllocError, Global};
+use stt_core::Problem;
+use tableau_calculus::Refutation;
+use tableau_rebuild::rebuild;
+use prover_search::{Command, Search, Stepped, Waiting};
+use term_bank::equal_ids_for_equal_terms;
+
+/// The refutation from the log of a run whose clauses are unsatisfiable. There is no memory for one that is too large for a text.
+fn refutation_of(alloc: Global, tables: &Tables) -> Result<Refutation, AllocError>
+    requires right { AreRight tables.now }
+    requires ends { results tables.now.solver.log ≡ learned tables.now.solver ++ [] ∷ [] }
+    ensures { IfOk result (RefutesFrom (declared_scope tables.now.basis.bank) (start_in tables.now) (clauses_of tables.now) (learned tables.now.solver)) }
+{
+    tables.steps.clauses_come_from_origins();
+    equal_ids_for_equal_terms(&tables.basis.bank);
+    tables.basis.lits.atoms_differ();
+    let log = tables.solver.log();
+    let basis = &tables.basis;
+    let refutation = rebuild(
+        alloc,
+        &basis.bank,
+        &basis.lits,
+        &tables.steps,
+        log,
+        &basis.witnesses,
+    )?;
+    Ok(refutation)
+}
+
+/// Takes a step. The answer is how the run ends, where it ends there.
+fn next<W: Weigher<Waiting>>(
+    alloc: Global,
+    search: &mut Search<W>,
+) -> Result<Option<Ended>, AllocError>
+    requires under_way { IsUnderWay search.old.core.tables search.old.core.plan search.old.mode }
+    requires ready { search.old.is_refused ≡ false }
+    ensures ended { IfOk result (λ o. IfSome o (λ e. GoesOnUntil (setting_by search.old.core.tables search.old.core.plan) (start_in search.old.core.tables) search.old.core.tables.done
+        → EndsFrom (setting_by search.old.core.tables search.old.core.plan) (start_in search.old.core.tables) e)) }
+    ensures goes_on { IfOk result (λ o. IfNone o (GoesOnTo search.old.core.tables search.old.core.plan search.new.core.tables search.new.core.plan)) }
+    ensures under_way { OnOk result (IsUnderWay search.new.core.tables search.new.core.plan search.new.mode) }
+    ensures mode { search.new.mode ≡ search.old.mode }
+    ensures ready { OnOk result (search.new.is_refused ≡ false) }
+{
+    match search.step()? {
+        Stepped::Closed => {
+            // The log is asked for its clause that what was learned follows.
+            let _log = search.log();
+            let refutation = refutation_of(alloc, &search.core.tables)?;
+            Ok(Some(Ended::Proved {
+                commands: search.commands(),
+                refutation,
+            }))
+        }
+        Stepped::Empty => Ok(Some(Ended::GaveUp {
+            commands: search.commands(),
+        })),
+        Stepped::Limit => Ok(Some(Ended::CommandLimit {
+            commands: search.commands(),
+        })),
+        Stepped::Spent { conflicts } => {
+            // No two numbers have the same atom, and the log is asked for its clauses on what was learned.
+            equal_ids_for_equal_terms(&search.core.tables.basis.bank);
+            search.core.tables.basis.lits.atoms_differ();
+            let _log = search.log();
+            Ok(Some(Ended::ConflictLimit { conflicts }))
+        }
+        Stepped::Went => Ok(None),
+    }
+}
+
+/// Runs a search from its start to its end.
+fn run_on<W: Weigher<Waiting>>(
+    alloc: Global,
+    search: &mut Search<W>,
+    limit: u32,
+) -> Result<Ended, AllocError>
+    requires under_way { IsUnderWay search.old.core.tables search.old.core.plan search.old.mode }
+    requires ready { search.old.is_refused ≡ false }
+    requires done { search.old.core.tables.done ≡ 0 }
+    requires limit { limit ≡ search.old.mode.commands }
+    ensures { IfOk result (EndsFrom (setting_by search.old.core.tables search.old.core.plan) (start_in search.old.core.tables)) }
+{
+    for _commands in 0..limit as u64 + 1 {
+        if let Some(ended) = next(alloc, search)? {
+            return Ok(ended);
+        }
+    }
+    unreachable!()
+}
+
+/// Runs the search over a problem by a mode, with what computes when commands are due.
+fn run_by<W: Weigher<Waiting>>(
+    alloc: Global,
+    problem: &Problem,
+    mode: &Mode,
+    weigher: W,
+) -> Result<Ended, AllocError>
+    requires typed { IsTyped problem.now }
+    requires callable { W.is_callable weigher }
+    requires answers { W.answers weigher (λ waiting now. now + delay_by mode.now waiting.first) }
+    ensures { IfOk result (EndsAs problem.now mode.now) }
+{
+    let mut search = Search::new(alloc, problem, mode, weigher)?;
+    let ended = run_on(alloc, &mut search, mode.commands);
+    drop(search);
+    ended
+}
+
+/// Runs the search over a problem by a mode.
+pub fn run(alloc: Global, problem: &Problem, mode: &Mode) -> Result<Ended, AllocError>
+    requires { IsTyped problem.now }
+    ensures { IfOk result (EndsAs problem.now mode.now) }
+{
+    let by = *mode;
+    run_by(alloc, problem, mode, |waiting: &Waiting, now: u64| {
+        now + delay(&by, &waiting.command()) as u64
+    })
+}

@@ -1,0 +1,109 @@
+-- What is made stays so where the tables become wider.
+use Rattle.std.specs.Prelude.{◌≡◌, ℕ, List, [], ◌++◌, map, refl}
+use Rattle.std.proofs.Common.{sym, ap, ◌∙◌, subst}
+use Rattle.stt_core.specs.Typing.{Scope}
+use Rattle.stt_core.proofs.ListLaws.{map-append, slice_get-append}
+use Rattle.tableau_calculus.specs.Literals.{Literal}
+use Rattle.tableau_calculus.specs.Witnesses.{Row}
+use Rattle.tableau_calculus.specs.Rules.{Rule, false_rule, close_rule, refl_rule, imp_pos_rule, imp_neg_rule, bool_pos_rule, bool_neg_rule, fun_pos_rule, fun_neg_rule, all_pos_rule, all_neg_rule, mat_rule, dec_rule, con_rule, cho_rule, des_rule, cut_rule}
+use Rattle.tableau_calculus.specs.declared.refutation.RuleUse.{RuleUse}
+use Rattle.sat_base.specs.declared.literal.SatLit.{SatLit}
+use Rattle.search_spec.specs.Each.{Each}
+use Rattle.term_bank.specs.Content.{Content}
+use Rattle.term_bank.specs.Terms.{term_at}
+use Rattle.literal_map.specs.Atoms.{literal_at}
+use Rattle.literal_map.specs.declared.instance.BankUse.{BankUse}
+use Rattle.literal_map.specs.declared.instance.Instance.{Instance}
+use Rattle.witness_names.specs.Rows.{row_of, rows_of}
+use Rattle.tableau_rules.specs.Uses.{IsInstanceBy}
+use Rattle.tableau_rules.proofs.MadeLaws.{instance_on, instance_wider}
+use Rattle.tableau_rules.proofs.WideLaws.{wide_within}
+use Rattle.prover_state.specs.declared.tables.Basis.{Basis}
+use Rattle.prover_state.specs.Internal.Names.{Names, IsNumber, IsPlace}
+use Rattle.prover_state.specs.Internal.Growing.{Continues}
+use Rattle.prover_state.specs.Internal.Standing.{rows_in, IsBasis}
+use Rattle.prover_state.proofs.EachLaws.{each-weaker, map-same, each-from_All}
+use Rattle.prover_state.proofs.NamesLaws.{number-stays, literal-stays, term-stays}
+use Rattle.prover_state.specs.Internal.Steps.{IsMade}
+use Rattle.prover_search.specs.Internal.Developing.{IsWider}
+
+-- with further rows a rule has the instances that it had
+rule_rows : (scope : Scope) (rows more : List Row) (rule : RuleUse) (ps : List Literal) (as' : List (List Literal)) → Rule scope rows rule ps as' → Rule scope (rows ++ more) rule ps as'
+rule_rows scope rows more _ _ _ (false_rule i) = false_rule i
+rule_rows scope rows more _ _ _ (close_rule i j l) = close_rule i j l
+rule_rows scope rows more _ _ _ (refl_rule i a u) = refl_rule i a u
+rule_rows scope rows more _ _ _ (imp_pos_rule i u t) = imp_pos_rule i u t
+rule_rows scope rows more _ _ _ (imp_neg_rule i u t) = imp_neg_rule i u t
+rule_rows scope rows more _ _ _ (bool_pos_rule i u t) = bool_pos_rule i u t
+rule_rows scope rows more _ _ _ (bool_neg_rule i u t) = bool_neg_rule i u t
+rule_rows scope rows more _ _ _ (fun_pos_rule i a b u t) = fun_pos_rule i a b u t
+rule_rows scope rows more _ _ _ (fun_neg_rule i a b u t) = fun_neg_rule i a b u t
+rule_rows scope rows more _ _ _ (all_pos_rule i a f u c) = all_pos_rule i a f u c
+rule_rows scope rows more _ _ _ (all_neg_rule i k a f g) = all_neg_rule i k a f (slice_get-append rows more k (record { type = a; predicate = f }) g)
+rule_rows scope rows more _ _ _ (mat_rule i j c a u t us ts d e) = mat_rule i j c a u t us ts d e
+rule_rows scope rows more _ _ _ (dec_rule i n c a u t us ts d e) = dec_rule i n c a u t us ts d e
+rule_rows scope rows more _ _ _ (con_rule i j n u t v w) = con_rule i j n u t v w
+rule_rows scope rows more _ _ _ (cho_rule a f c) = cho_rule a f c
+rule_rows scope rows more _ _ _ (des_rule a f c) = des_rule a f c
+rule_rows scope rows more _ _ _ (cut_rule l h) = cut_rule l h
+
+instance_rows : (b : Content) (atoms : List ℕ) (rows more : List Row) (by : BankUse) (as' : List (List Literal)) → IsInstanceBy b atoms rows by as' → IsInstanceBy b atoms (rows ++ more) by as'
+instance_rows b atoms rows more by as' h = record {
+  rule = h.rule;
+  is_rule = h.is_rule;
+  is_instance = record { principals = h.is_instance.principals; at_places = h.is_instance.at_places; fits = rule_rows _ rows more h.rule h.is_instance.principals as' h.is_instance.fits };
+}
+
+-- names without partial terms
+abbrev plain : Basis → Names
+plain g = record { terms = g.bank.terms; atoms = g.lits; sketches = [] }
+
+module _ (g h : Basis) (good : IsBasis g) (w : IsWider g h) where
+  continues : Continues (plain g) (plain h)
+  continues = record {
+    within = λ k d p. (good.atoms k d p).within;
+    terms = (w.bank.further, w.bank.terms);
+    atoms = (w.lits.further, w.lits.is);
+    sketches = ([], refl);
+  }
+
+  pub number-wider : (l : SatLit) → IsNumber g.lits l → IsNumber h.lits l
+  number-wider l k = number-stays (plain g) (plain h) continues l k
+
+  pub literal-wider : (l : SatLit) → IsNumber g.lits l → literal_at h.bank.terms h.lits l ≡ literal_at g.bank.terms g.lits l
+  literal-wider l k = literal-stays (plain g) (plain h) continues l k
+
+  pub literals-wider : (ls : List SatLit) → Each (IsNumber g.lits) ls → map (literal_at h.bank.terms h.lits) ls ≡ map (literal_at g.bank.terms g.lits) ls
+  literals-wider ls k = map-same (literal_at h.bank.terms h.lits) (literal_at g.bank.terms g.lits) (IsNumber g.lits) literal-wider ls k
+
+  pub term-wider : (u : ℕ) → IsPlace g.bank.terms u → term_at h.bank.terms u ≡ term_at g.bank.terms u
+  term-wider u k = term-stays g.bank.terms h.bank.terms continues.terms u k
+
+  -- the rows are the first ones
+  pub rows-wider : rows_in h ≡ rows_in g ++ rows_of h.bank.terms w.witnesses.0
+  rows-wider =
+      ap (rows_of h.bank.terms) w.witnesses.1
+      ∙ map-append (λ id. row_of (term_at h.bank.terms id)) g.witnesses w.witnesses.0
+      ∙ ap (λ (rs : List Row). rs ++ rows_of h.bank.terms w.witnesses.0)
+      (map-same (λ id. row_of (term_at h.bank.terms id)) (λ id. row_of (term_at g.bank.terms id)) (IsPlace g.bank.terms) (λ id k. ap row_of (term-wider id k)) g.witnesses (each-from_All (IsPlace g.bank.terms) g.witnesses good.rows.within))
+
+  pub made-wider : (i : Instance) → IsMade g i → IsMade h i
+  made-wider i m =
+      let d : SatLit → Literal = literal_at g.bank.terms g.lits in
+      let e : SatLit → Literal = literal_at h.bank.terms h.lits in
+      let same : map (map e) i.alternatives ≡ map (map d) i.alternatives = map-same (map e) (map d) (Each (IsNumber g.lits)) literals-wider i.alternatives m.numbers in
+      let F : List (List Literal) → Type 0 = λ as'. IsInstanceBy h.bank h.lits (rows_in h) i.by as' in
+      let R : List Row → Type 0 = λ rs. IsInstanceBy h.bank h.lits rs i.by (map (map d) i.alternatives) in
+      record {
+        principals = m.principals;
+        first = λ l q. number-wider l (m.first l q);
+        second = λ l q. number-wider l (m.second l q);
+        term = λ u q. wide_within g.bank h.bank w.bank u (m.term u q);
+        numbers = each-weaker (Each (IsNumber g.lits)) (Each (IsNumber h.lits)) (λ ls k. each-weaker (IsNumber g.lits) (IsNumber h.lits) number-wider ls k) i.alternatives m.numbers;
+        fits =
+            subst F (sym same)
+            (subst R (sym rows-wider)
+            (instance_rows h.bank h.lits (rows_in g) (rows_of h.bank.terms w.witnesses.0) i.by (map (map d) i.alternatives)
+            (instance_on h.bank g.lits h.lits i.by w.lits m.first m.second (rows_in g) (map (map d) i.alternatives)
+            (instance_wider g.bank h.bank g.lits i.by w.bank good.atoms m.first m.second m.term (rows_in g) (map (map d) i.alternatives) m.fits))));
+      }

@@ -1,0 +1,65 @@
+use Rattle.std.proofs.Common.{◌+◌, subst, sym, ◌∙◌}
+use Rattle.search_spec.specs.Each.{Each}
+use Rattle.search_spec.specs.TypedState.{IsTypedSketch, IsTypedCommand}
+use Rattle.prover_state.specs.declared.tables.Tables.{Tables}
+use Rattle.prover_state.specs.Internal.Names.{command_at}
+use Rattle.prover_state.specs.Internal.Standing.{scope_by, sketches_in, names_in}
+use Rattle.prover_search.proofs.RunLaws.{counted, Carried, right-done, taken-typed, taken-sketches, setting-next, start-next, goes-on, running-next}
+use Rattle.prover_search.proofs.advance.go.Goals as goal
+
+pub carry_out-requires-clause-right : goal.carry_out-requires-clause-right
+carry_out-requires-clause-right g c = let u = c.take_next.new.self in right-done u.tables u.plan (u.tables.done + 1) c.in_ok-command.ensures.right
+
+pub carry_out-requires-clause-typed : goal.carry_out-requires-clause-typed
+carry_out-requires-clause-typed g c =
+    let core = c.args.core.now in
+    let u = c.take_next.new.self in
+    let T : Tables → Type 0 = λ x. IsTypedCommand (scope_by (counted x).basis) (command_at (names_in (counted x)) c.in_ok-command.command) in
+    subst T (sym c.take_next.ensures.tables) (taken-typed core.tables core.plan u.plan c.requires.running c.in_ok-command.command c.in_ok-command.ensures.takes c.in_ok-command.ensures.rule)
+
+pub carry_out-requires-clause-sketches : goal.carry_out-requires-clause-sketches
+carry_out-requires-clause-sketches g c =
+    let core = c.args.core.now in
+    let u = c.take_next.new.self in
+    let T : Tables → Type 0 = λ x. Each (IsTypedSketch (scope_by (counted x).basis)) (sketches_in (counted x)) in
+    subst T (sym c.take_next.ensures.tables) (taken-sketches core.tables core.plan u.plan c.requires.running c.in_ok-command.command c.in_ok-command.ensures.takes c.in_ok-command.ensures.rule)
+
+pub returns-clause-running : goal.returns-clause-running
+returns-clause-running g c =
+    let core = c.args.core.now in
+    let u = c.take_next.new.self in
+    let new = c.carry_out.new.core in
+    let K : Tables → Type 0 = λ x. Carried x u.plan c.in_ok-command.command new.tables new.plan in
+    running-next core.tables core.plan u.plan c.requires.running c.in_ok-command.command c.in_ok-command.ensures.takes c.in_ok-command.ensures.rule new.tables new.plan
+    (subst K c.take_next.ensures.tables (record { is = c.in_ok-carry_out.ensures.state; develops = c.in_ok-carry_out.ensures.develops; few = c.in_ok-carry_out.ensures.witnesses }))
+    c.in_ok-carry_out.ensures.right c.in_ok-carry_out.ensures.rule (λ e. c.requires.below (e ∙ sym c.requires.limit))
+
+pub returns-clause-goes_on : goal.returns-clause-goes_on
+returns-clause-goes_on g c =
+    let core = c.args.core.now in
+    let u = c.take_next.new.self in
+    let new = c.carry_out.new.core in
+    let K : Tables → Type 0 = λ x. Carried x u.plan c.in_ok-command.command new.tables new.plan in
+    goes-on core.tables core.plan u.plan c.requires.running c.in_ok-command.command c.in_ok-command.ensures.takes c.in_ok-command.ensures.rule new.tables new.plan
+    (subst K c.take_next.ensures.tables (record { is = c.in_ok-carry_out.ensures.state; develops = c.in_ok-carry_out.ensures.develops; few = c.in_ok-carry_out.ensures.witnesses }))
+    c.in_ok-carry_out.ensures.right c.in_ok-carry_out.ensures.rule c.requires.satisfiable (λ e. c.requires.below (e ∙ sym c.requires.limit))
+
+pub returns-clause-setting : goal.returns-clause-setting
+returns-clause-setting g c =
+    let core = c.args.core.now in
+    let u = c.take_next.new.self in
+    let new = c.carry_out.new.core in
+    let K : Tables → Type 0 = λ x. Carried x u.plan c.in_ok-command.command new.tables new.plan in
+    setting-next core.tables core.plan u.plan c.requires.running c.in_ok-command.command c.in_ok-command.ensures.takes c.in_ok-command.ensures.rule new.tables new.plan
+    (subst K c.take_next.ensures.tables (record { is = c.in_ok-carry_out.ensures.state; develops = c.in_ok-carry_out.ensures.develops; few = c.in_ok-carry_out.ensures.witnesses }))
+    c.in_ok-carry_out.ensures.right c.in_ok-carry_out.ensures.rule
+
+pub returns-clause-start : goal.returns-clause-start
+returns-clause-start g c =
+    let core = c.args.core.now in
+    let u = c.take_next.new.self in
+    let new = c.carry_out.new.core in
+    let K : Tables → Type 0 = λ x. Carried x u.plan c.in_ok-command.command new.tables new.plan in
+    start-next core.tables core.plan u.plan c.requires.running c.in_ok-command.command c.in_ok-command.ensures.takes c.in_ok-command.ensures.rule new.tables new.plan
+    (subst K c.take_next.ensures.tables (record { is = c.in_ok-carry_out.ensures.state; develops = c.in_ok-carry_out.ensures.develops; few = c.in_ok-carry_out.ensures.witnesses }))
+    c.in_ok-carry_out.ensures.right c.in_ok-carry_out.ensures.rule

@@ -1,0 +1,16 @@
+use Rattle.std.proofs.Common.{sym, subst}
+use Rattle.stt_core.specs.Typing.{IsScope}
+use Rattle.prover_search.proofs.RuleUses.{scope-is, mate-fits}
+use Rattle.prover_search.proofs.instances.mate.Goals as goal
+
+pub apply_rule-requires-clause-fits : goal.apply_rule-requires-clause-fits
+apply_rule-requires-clause-fits g c =
+    let basis = c.args.core.now.tables.basis in
+    let good = c.requires.right.basis in
+    (_, mate-fits basis good (subst IsScope (sym (scope-is basis good)) c.sig-declared.ensures.declared) c.args.first c.args.second c.requires.typed)
+
+pub returns-clause-state : goal.returns-clause-state
+returns-clause-state g c =
+    let basis = c.args.core.now.tables.basis in
+    let good = c.requires.right.basis in
+    c.in_ok-apply_rule.ensures.state _ (mate-fits basis good (subst IsScope (sym (scope-is basis good)) c.sig-declared.ensures.declared) c.args.first c.args.second c.requires.typed)

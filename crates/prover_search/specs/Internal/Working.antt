@@ -1,0 +1,32 @@
+-- What the work on a literal depends on, and what its rules take.
+use Rattle.std.specs.Prelude.{zero, suc, Bool, not, ◌&&◌, Some, None}
+use Rattle.stt_core.specs.SimpleType.{SimpleType, base, arrow}
+use Rattle.stt_core.specs.Lambda.{falsity, implication, all, equality, Lambda, constant, app}
+use Rattle.tableau_calculus.specs.Literals.{Literal}
+use Rattle.sat_base.specs.declared.literal.SatLit.{SatLit}
+use Rattle.search_spec.specs.Partners.{has_equal_sides}
+use Rattle.literal_map.specs.declared.instance.BankUse.{BankUse}
+use Rattle.literal_map.specs.declared.instance.RuleKind.{RuleKind}
+use Rattle.prover_search.specs.declared.shape.Shape.{Shape}
+use Rattle.prover_search.specs.declared.shape.Shape.TheVariants.{Falsity, Implication, FormulaEquation, FunctionEquation, BaseEquation, Quantified, Other}
+
+-- the shape of an equation between terms of a type
+abbrev pub equation_shape : SimpleType → Shape
+equation_shape (base zero) = FormulaEquation
+equation_shape (base (suc n)) = BaseEquation (suc n)
+equation_shape (arrow a b) = FunctionEquation
+
+abbrev pub shape_of : Lambda → Shape
+shape_of (constant falsity) = Falsity
+shape_of (app (app (constant implication) s) t) = Implication
+shape_of (app (app (constant (equality a)) s) t) = equation_shape a
+shape_of (app (constant (all a)) f) = Quantified
+shape_of t = Other
+
+-- whether the literal denies that a term equals itself
+abbrev pub denies_itself : Literal → Bool
+denies_itself l = not l.positive && has_equal_sides l.atom
+
+-- a rule with one literal and nothing else
+abbrev pub alone : RuleKind → SatLit → BankUse
+alone rule lit = record { kind = rule; first = Some lit; second = None; term = None }

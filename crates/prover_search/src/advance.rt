@@ -1,0 +1,64 @@
+//! A step over right tables.
+ghost use Rattle.std.specs.Prelude.{◌≡◌, ◌≢◌, [], OnOk, IfOk, false};
+ghost use Rattle.search_spec.specs.Unsatisfiable.{Unsatisfiable};
+ghost use Rattle.prover_state.specs.Internal.Standing.{setting_by, the_state};
+ghost use Rattle.prover_search.specs.Internal.Running.{start_in, IsRunning};
+ghost use Rattle.prover_search.specs.Internal.Answers.{GoesOn, Answers};
+
+use crate::carry::carry_out;
+use crate::stepped::Stepped;
+use command_queue::Weigher;
+use mode_file::Mode;
+use sat_core::Answer;
+use prover_state::{Core, Waiting};
+use std::alloc::AllocError;
+
+/// The next command is carried out.
+fn go<W: Weigher<Waiting>>(core: &mut Core<W>, limit: u32) -> Result<(), AllocError>
+    requires running { IsRunning core.old.tables core.old.plan }
+    requires satisfiable { Unsatisfiable (the_state core.old.tables core.old.plan).clauses → ⊥ }
+    requires some { core.old.plan.entries ≢ [] }
+    requires limit { limit ≡ core.old.plan.rule.mode.commands }
+    requires below { core.old.tables.done ≢ limit }
+    ensures running { OnOk result (IsRunning core.new.tables core.new.plan) }
+    ensures goes_on { OnOk result (GoesOn (record { tables = core.old.tables; plan = core.old.plan }) (record { tables = core.new.tables; plan = core.new.plan })) }
+    ensures rule { OnOk result (core.new.plan.rule ≡ core.old.plan.rule) }
+    ensures setting { OnOk result (setting_by core.new.tables core.new.plan ≡ setting_by core.old.tables core.old.plan) }
+    ensures start { OnOk result (start_in core.new.tables ≡ start_in core.old.tables) }
+{
+    let command = core.take_next()?;
+    core.tables.done += 1;
+    carry_out(core, command)?;
+    Ok(())
+}
+
+/// Asks the solver, and then carries out the next command, where one is left and the limit isn't reached.
+pub(crate) fn advance<W: Weigher<Waiting>>(
+    core: &mut Core<W>,
+    mode: &Mode,
+) -> Result<Stepped, AllocError>
+    requires running { IsRunning core.old.tables core.old.plan }
+    requires mode { core.old.plan.rule.mode ≡ mode.now }
+    ensures running { OnOk result (IsRunning core.new.tables core.new.plan) }
+    ensures answers { IfOk result (Answers (record { tables = core.old.tables; plan = core.old.plan }) (record { tables = core.new.tables; plan = core.new.plan })) }
+    ensures rule { OnOk result (core.new.plan.rule ≡ core.old.plan.rule) }
+    ensures setting { OnOk result (setting_by core.new.tables core.new.plan ≡ setting_by core.old.tables core.old.plan) }
+    ensures start { OnOk result (start_in core.new.tables ≡ start_in core.old.tables) }
+{
+    match core.solve(mode.conflicts)? {
+        Answer::Unsat => {
+            let _log = core.tables.solver.log();
+            return Ok(Stepped::Closed);
+        }
+        Answer::Spent { conflicts } => return Ok(Stepped::Spent { conflicts }),
+        Answer::Sat => {}
+    }
+    if core.plan.is_empty() {
+        return Ok(Stepped::Empty);
+    }
+    if core.tables.done == mode.commands {
+        return Ok(Stepped::Limit);
+    }
+    go(core, mode.commands)?;
+    Ok(Stepped::Went)
+}

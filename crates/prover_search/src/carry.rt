@@ -1,0 +1,46 @@
+//! Commands are carried out.
+ghost use Rattle.std.specs.Prelude.{◌≡◌, ◌<◌, ◌≤◌, suc, length, OnOk};
+ghost use Rattle.search_spec.specs.Commands.{carried_out};
+ghost use Rattle.search_spec.specs.Each.{Each};
+ghost use Rattle.search_spec.specs.TypedState.{IsTypedSketch, IsTypedCommand};
+ghost use Rattle.prover_state.specs.Internal.Names.{command_at, AreNumbers};
+ghost use Rattle.prover_state.specs.Internal.Standing.{scope_by, sketches_in, names_in, setting_by, the_state, IsRight};
+ghost use Rattle.prover_search.specs.Internal.Developing.{Develops};
+
+use crate::instances::{choose, confront, describe, instantiate, mate};
+use crate::process::process;
+use command_queue::Weigher;
+use prover_growth::fill;
+use prover_state::{Command, Core, Waiting};
+use std::alloc::AllocError;
+
+/// Carries out a command. Fewer witnesses were made than commands were taken, of which this one is the last.
+pub(crate) fn carry_out<W: Weigher<Waiting>>(
+    core: &mut Core<W>,
+    command: Command,
+) -> Result<(), AllocError>
+    requires right { IsRight core.old.tables core.old.plan }
+    requires numbers { AreNumbers (names_in core.old.tables) command }
+    requires typed { IsTypedCommand (scope_by core.old.tables.basis) (command_at (names_in core.old.tables) command) }
+    requires sketches { Each (IsTypedSketch (scope_by core.old.tables.basis)) (sketches_in core.old.tables) }
+    requires few { length core.old.tables.basis.witnesses < core.old.tables.done }
+    ensures state { OnOk result (the_state core.new.tables core.new.plan ≡ carried_out (setting_by core.old.tables core.old.plan) (command_at (names_in core.old.tables) command) (the_state core.old.tables core.old.plan)) }
+    ensures right { OnOk result (IsRight core.new.tables core.new.plan) }
+    ensures develops { OnOk result (Develops core.old.tables core.new.tables) }
+    ensures witnesses { OnOk result (length core.new.tables.basis.witnesses ≤ suc (length core.old.tables.basis.witnesses)) }
+    ensures rule { OnOk result (core.new.plan.rule ≡ core.old.plan.rule) }
+{
+    let _done = core.tables.done;
+    match command {
+        Command::Process(lit) => process(core, lit),
+        Command::Mate(first, second) => mate(core, first, second),
+        Command::Confront(first, second) => confront(core, first, second),
+        Command::Inst(lit, id) => instantiate(core, lit, id),
+        Command::Grow(parent, head) => {
+            fill(core, parent, head)?;
+            Ok(())
+        }
+        Command::Choose(id) => choose(core, id),
+        Command::Describe(id) => describe(core, id),
+    }
+}

@@ -1,0 +1,196 @@
+//! Equations.
+ghost use Rattle.std.specs.Prelude.{◌≡◌, ◌<◌, ◌-◌, ◌^◌, true, false, ℕ, suc, length, OnOk};
+ghost use Rattle.stt_core.specs.SimpleType.{base};
+ghost use Rattle.stt_core.specs.Lambda.{eq};
+ghost use Rattle.tableau_calculus.specs.Literals.{minus};
+ghost use Rattle.term_bank.specs.Terms.{term_at};
+ghost use Rattle.literal_map.specs.Atoms.{atom_at, literal_at};
+ghost use Rattle.search_spec.specs.Processing.{decomposed, worked};
+ghost use Rattle.search_spec.specs.Terms.{with_term};
+ghost use Rattle.prover_state.specs.Delays.{the_mode};
+ghost use Rattle.prover_state.specs.Internal.Names.{IsNumber, IsPlace};
+ghost use Rattle.prover_state.specs.Internal.Pending.{equation_type};
+ghost use Rattle.prover_state.specs.Internal.Shapes.{IsBaseEquation};
+ghost use Rattle.prover_state.specs.Internal.Standing.{setting_by, the_state, IsBasis, IsRight};
+ghost use Rattle.prover_search.specs.Internal.Developing.{Develops};
+ghost use Rattle.prover_search.specs.Internal.Working.{denies_itself, shape_of};
+ghost use Rattle.prover_search.specs.declared.shape.Shape.TheVariants.{FormulaEquation, FunctionEquation, BaseEquation};
+
+use crate::alone::apply_alone;
+use crate::shape::atom_of;
+use crate::spine::share_spine;
+use command_queue::Weigher;
+use literal_map::RuleKind;
+use sat_base::SatLit;
+use prover_state::{Basis, Core, Waiting, part_of};
+use std::alloc::AllocError;
+use stt_core::Ty;
+use term_bank::Id;
+
+/// An equation between formulas, or the negation of one, is split by the truth of its sides.
+pub(crate) fn work_on_formulas<W: Weigher<Waiting>>(
+    core: &mut Core<W>,
+    lit: SatLit,
+) -> Result<(), AllocError>
+    requires right { IsRight core.old.tables core.old.plan }
+    requires number { IsNumber core.old.tables.basis.lits lit }
+    requires few { length core.old.tables.basis.witnesses < 2 ^ 32 - 1 }
+    requires shape { shape_of (atom_at core.old.tables.basis.bank.terms core.old.tables.basis.lits lit.var.0) ≡ FormulaEquation }
+    requires differs { denies_itself (literal_at core.old.tables.basis.bank.terms core.old.tables.basis.lits lit) ≡ false }
+    ensures state { OnOk result (let l = literal_at core.old.tables.basis.bank.terms core.old.tables.basis.lits lit in the_state core.new.tables core.new.plan ≡ worked (setting_by core.old.tables core.old.plan) l.positive l.atom (the_state core.old.tables core.old.plan)) }
+    ensures right { OnOk result (IsRight core.new.tables core.new.plan) }
+    ensures develops { OnOk result (Develops core.old.tables core.new.tables) }
+    ensures witnesses { OnOk result (core.new.tables.basis.witnesses ≡ core.old.tables.basis.witnesses) }
+    ensures rule { OnOk result (core.new.plan.rule ≡ core.old.plan.rule) }
+{
+    if lit.positive {
+        apply_alone(core, RuleKind::BoolPos, lit)?;
+        return Ok(());
+    }
+    apply_alone(core, RuleKind::BoolNeg, lit)?;
+    Ok(())
+}
+
+/// An equation between functions, or the negation of one, says of these that they agree everywhere, or not.
+pub(crate) fn work_on_functions<W: Weigher<Waiting>>(
+    core: &mut Core<W>,
+    lit: SatLit,
+) -> Result<(), AllocError>
+    requires right { IsRight core.old.tables core.old.plan }
+    requires number { IsNumber core.old.tables.basis.lits lit }
+    requires few { length core.old.tables.basis.witnesses < 2 ^ 32 - 1 }
+    requires shape { shape_of (atom_at core.old.tables.basis.bank.terms core.old.tables.basis.lits lit.var.0) ≡ FunctionEquation }
+    requires differs { denies_itself (literal_at core.old.tables.basis.bank.terms core.old.tables.basis.lits lit) ≡ false }
+    ensures state { OnOk result (let l = literal_at core.old.tables.basis.bank.terms core.old.tables.basis.lits lit in the_state core.new.tables core.new.plan ≡ worked (setting_by core.old.tables core.old.plan) l.positive l.atom (the_state core.old.tables core.old.plan)) }
+    ensures right { OnOk result (IsRight core.new.tables core.new.plan) }
+    ensures develops { OnOk result (Develops core.old.tables core.new.tables) }
+    ensures witnesses { OnOk result (core.new.tables.basis.witnesses ≡ core.old.tables.basis.witnesses) }
+    ensures rule { OnOk result (core.new.plan.rule ≡ core.old.plan.rule) }
+{
+    if lit.positive {
+        apply_alone(core, RuleKind::FunPos, lit)?;
+        return Ok(());
+    }
+    apply_alone(core, RuleKind::FunNeg, lit)?;
+    Ok(())
+}
+
+/// The sides of an equation.
+#[derive(Clone, Copy)]
+struct Sides {
+    left: Id,
+    right: Id,
+}
+
+/// The sides of an equation on a base type other than that of formulas.
+fn sides_of(basis: &Basis, lit: SatLit) -> Sides
+    requires basis { IsBasis basis.now }
+    requires number { IsNumber basis.now.lits lit }
+    requires equation { IsBaseEquation (atom_at basis.now.bank.terms basis.now.lits lit.var.0) }
+    ensures left { IsPlace basis.now.bank.terms result.left }
+    ensures right { IsPlace basis.now.bank.terms result.right }
+    ensures equation { let t = atom_at basis.now.bank.terms basis.now.lits lit.var.0 in t ≡ eq (equation_type t) (term_at basis.now.bank.terms result.left) (term_at basis.now.bank.terms result.right) }
+{
+    let atom = atom_of(basis, lit);
+    Sides {
+        left: part_of(&basis.bank, atom, 0),
+        right: part_of(&basis.bank, atom, 1),
+    }
+}
+
+/// Two terms of a base type are for instances.
+fn add_terms<W: Weigher<Waiting>>(
+    core: &mut Core<W>,
+    n: u32,
+    sides: Sides,
+) -> Result<(), AllocError>
+    requires right { IsRight core.old.tables core.old.plan }
+    requires left_place { IsPlace core.old.tables.basis.bank.terms sides.left }
+    requires right_place { IsPlace core.old.tables.basis.bank.terms sides.right }
+    ensures state { OnOk result (let mode = the_mode core.old.plan.rule.mode in the_state core.new.tables core.new.plan ≡ with_term mode (base n) (term_at core.old.tables.basis.bank.terms sides.right) (with_term mode (base n) (term_at core.old.tables.basis.bank.terms sides.left) (the_state core.old.tables core.old.plan))) }
+    ensures right { OnOk result (IsRight core.new.tables core.new.plan) }
+    ensures tables { OnOk result (core.new.tables ≡ record core.old.tables { terms = core.new.tables.terms }) }
+    ensures rule { OnOk result (core.new.plan.rule ≡ core.old.plan.rule) }
+{
+    let ty = Ty::Base(n);
+    core.add_term(&ty, sides.left)?;
+    core.add_term(&ty, sides.right)?;
+    Ok(())
+}
+
+/// The negated equation between two terms with the same compared head is decomposed.
+fn decompose<W: Weigher<Waiting>>(
+    core: &mut Core<W>,
+    lit: SatLit,
+    sides: Sides,
+) -> Result<(), AllocError>
+    requires right { IsRight core.old.tables core.old.plan }
+    requires number { IsNumber core.old.tables.basis.lits lit }
+    requires few { length core.old.tables.basis.witnesses < 2 ^ 32 - 1 }
+    requires left_place { IsPlace core.old.tables.basis.bank.terms sides.left }
+    requires right_place { IsPlace core.old.tables.basis.bank.terms sides.right }
+    requires denies { (n : ℕ) × (literal_at core.old.tables.basis.bank.terms core.old.tables.basis.lits lit ≡ minus (eq (base (suc n)) (term_at core.old.tables.basis.bank.terms sides.left) (term_at core.old.tables.basis.bank.terms sides.right))) }
+    ensures state { OnOk result (let s = term_at core.old.tables.basis.bank.terms sides.left in let t = term_at core.old.tables.basis.bank.terms sides.right in (n : ℕ) → literal_at core.old.tables.basis.bank.terms core.old.tables.basis.lits lit ≡ minus (eq (base (suc n)) s t)
+        → the_state core.new.tables core.new.plan ≡ decomposed (setting_by core.old.tables core.old.plan) (base (suc n)) s t (the_state core.old.tables core.old.plan)) }
+    ensures right { OnOk result (IsRight core.new.tables core.new.plan) }
+    ensures develops { OnOk result (Develops core.old.tables core.new.tables) }
+    ensures witnesses { OnOk result (core.new.tables.basis.witnesses ≡ core.old.tables.basis.witnesses) }
+    ensures rule { OnOk result (core.new.plan.rule ≡ core.old.plan.rule) }
+{
+    let _declared = core.tables.basis.bank.sig();
+    if !share_spine(&core.tables.basis.bank, sides.left, sides.right) {
+        return Ok(());
+    }
+    apply_alone(core, RuleKind::Dec, lit)?;
+    Ok(())
+}
+
+/// The negation of an equation on a base type: its sides are terms for instances, it is decomposed, and it is to be confronted with
+/// equations.
+fn work_on_difference<W: Weigher<Waiting>>(
+    core: &mut Core<W>,
+    lit: SatLit,
+    n: u32,
+) -> Result<(), AllocError>
+    requires right { IsRight core.old.tables core.old.plan }
+    requires number { IsNumber core.old.tables.basis.lits lit }
+    requires few { length core.old.tables.basis.witnesses < 2 ^ 32 - 1 }
+    requires shape { shape_of (atom_at core.old.tables.basis.bank.terms core.old.tables.basis.lits lit.var.0) ≡ BaseEquation n }
+    requires negative { lit.positive ≡ false }
+    requires differs { denies_itself (literal_at core.old.tables.basis.bank.terms core.old.tables.basis.lits lit) ≡ false }
+    ensures state { OnOk result (let l = literal_at core.old.tables.basis.bank.terms core.old.tables.basis.lits lit in the_state core.new.tables core.new.plan ≡ worked (setting_by core.old.tables core.old.plan) l.positive l.atom (the_state core.old.tables core.old.plan)) }
+    ensures right { OnOk result (IsRight core.new.tables core.new.plan) }
+    ensures develops { OnOk result (Develops core.old.tables core.new.tables) }
+    ensures witnesses { OnOk result (core.new.tables.basis.witnesses ≡ core.old.tables.basis.witnesses) }
+    ensures rule { OnOk result (core.new.plan.rule ≡ core.old.plan.rule) }
+{
+    let sides = sides_of(&core.tables.basis, lit);
+    add_terms(core, n, sides)?;
+    decompose(core, lit, sides)?;
+    core.push_confrontations(lit)?;
+    Ok(())
+}
+
+/// An equation on a base type other than that of formulas is to be confronted with negations of such, and the other way round.
+pub(crate) fn work_on_terms<W: Weigher<Waiting>>(
+    core: &mut Core<W>,
+    lit: SatLit,
+    n: u32,
+) -> Result<(), AllocError>
+    requires right { IsRight core.old.tables core.old.plan }
+    requires number { IsNumber core.old.tables.basis.lits lit }
+    requires few { length core.old.tables.basis.witnesses < 2 ^ 32 - 1 }
+    requires shape { shape_of (atom_at core.old.tables.basis.bank.terms core.old.tables.basis.lits lit.var.0) ≡ BaseEquation n }
+    requires differs { denies_itself (literal_at core.old.tables.basis.bank.terms core.old.tables.basis.lits lit) ≡ false }
+    ensures state { OnOk result (let l = literal_at core.old.tables.basis.bank.terms core.old.tables.basis.lits lit in the_state core.new.tables core.new.plan ≡ worked (setting_by core.old.tables core.old.plan) l.positive l.atom (the_state core.old.tables core.old.plan)) }
+    ensures right { OnOk result (IsRight core.new.tables core.new.plan) }
+    ensures develops { OnOk result (Develops core.old.tables core.new.tables) }
+    ensures witnesses { OnOk result (core.new.tables.basis.witnesses ≡ core.old.tables.basis.witnesses) }
+    ensures rule { OnOk result (core.new.plan.rule ≡ core.old.plan.rule) }
+{
+    if !lit.positive {
+        return work_on_difference(core, lit, n);
+    }
+    core.push_confrontations(lit)?;
+    Ok(())
+}

@@ -1,0 +1,22 @@
+//! The search: commands are carried out one after the other, until the clauses are unsatisfiable, no command is left, or the limit is
+//! reached.
+#![tactic(auto)]
+
+mod advance;
+mod alone;
+mod carry;
+mod equation;
+mod instances;
+mod process;
+mod propositional;
+mod quantifier;
+mod search;
+mod shape;
+mod spine;
+mod start;
+mod stepped;
+mod work;
+
+pub use search::Search;
+pub use prover_state::{Command, Waiting};
+pub use stepped::Stepped;

@@ -1,0 +1,33 @@
+//! Literals are processed.
+ghost use Rattle.std.specs.Prelude.{◌≡◌, ◌<◌, ◌≤◌, ◌-◌, ◌^◌, suc, length, OnOk};
+ghost use Rattle.literal_map.specs.Atoms.{literal_at};
+ghost use Rattle.search_spec.specs.Processing.{processed};
+ghost use Rattle.prover_state.specs.Internal.Names.{IsNumber};
+ghost use Rattle.prover_state.specs.Internal.Standing.{setting_by, the_state, IsRight};
+ghost use Rattle.prover_search.specs.Internal.Developing.{Develops};
+
+use crate::work::work;
+use command_queue::Weigher;
+use sat_base::SatLit;
+use prover_state::{Core, Waiting};
+use std::alloc::AllocError;
+
+/// A literal is processed: what its shape asks for is done, it is noted, and the choices and the descriptions in its atom are taken up.
+pub(crate) fn process<W: Weigher<Waiting>>(
+    core: &mut Core<W>,
+    lit: SatLit,
+) -> Result<(), AllocError>
+    requires right { IsRight core.old.tables core.old.plan }
+    requires number { IsNumber core.old.tables.basis.lits lit }
+    requires few { length core.old.tables.basis.witnesses < 2 ^ 32 - 1 }
+    ensures state { OnOk result (the_state core.new.tables core.new.plan ≡ processed (setting_by core.old.tables core.old.plan) (literal_at core.old.tables.basis.bank.terms core.old.tables.basis.lits lit) (the_state core.old.tables core.old.plan)) }
+    ensures right { OnOk result (IsRight core.new.tables core.new.plan) }
+    ensures develops { OnOk result (Develops core.old.tables core.new.tables) }
+    ensures witnesses { OnOk result (length core.new.tables.basis.witnesses ≤ suc (length core.old.tables.basis.witnesses)) }
+    ensures rule { OnOk result (core.new.plan.rule ≡ core.old.plan.rule) }
+{
+    work(core, lit)?;
+    core.note_literal(lit)?;
+    core.select(lit)?;
+    Ok(())
+}

@@ -1,0 +1,73 @@
+//! Claims that a predicate holds everywhere.
+ghost use Rattle.std.specs.Prelude.{◌≡◌, ◌<◌, ◌≤◌, ◌-◌, ◌^◌, true, suc, length, IfOk, OnOk};
+ghost use Rattle.stt_core.specs.View.{the_type};
+ghost use Rattle.literal_map.specs.Atoms.{atom_at, literal_at};
+ghost use Rattle.search_spec.specs.Processing.{worked};
+ghost use Rattle.prover_state.specs.Internal.Names.{IsNumber};
+ghost use Rattle.prover_state.specs.Internal.Pending.{range_of};
+ghost use Rattle.prover_state.specs.Internal.Standing.{setting_by, the_state, IsBasis, IsRight};
+ghost use Rattle.prover_search.specs.Internal.Developing.{Develops};
+ghost use Rattle.prover_search.specs.Internal.Working.{shape_of};
+ghost use Rattle.prover_search.specs.declared.shape.Shape.TheVariants.{Quantified};
+
+use crate::shape::atom_of;
+use command_queue::Weigher;
+use sat_base::SatLit;
+use prover_growth::{add_witness, prepare};
+use prover_state::{Basis, Core, Waiting, quantified_type};
+use std::alloc::{AllocError, Global};
+use stt_core::Ty;
+
+/// The type over which the atom of a literal ranges.
+fn range_of(alloc: Global, basis: &Basis, lit: SatLit) -> Result<Ty, AllocError>
+    requires basis { IsBasis basis.now }
+    requires number { IsNumber basis.now.lits lit }
+    requires shape { shape_of (atom_at basis.now.bank.terms basis.now.lits lit.var.0) ≡ Quantified }
+    ensures { IfOk result (λ ty. the_type ty ≡ range_of (atom_at basis.now.bank.terms basis.now.lits lit.var.0)) }
+{
+    match quantified_type(&basis.bank, atom_of(basis, lit)) {
+        Some(ty) => Ok(ty.try_clone(alloc)?),
+        None => unreachable!(),
+    }
+}
+
+/// A predicate holds everywhere: the type is prepared, and there is to be an instance with each term of the type.
+fn work_on_universal<W: Weigher<Waiting>>(core: &mut Core<W>, lit: SatLit) -> Result<(), AllocError>
+    requires right { IsRight core.old.tables core.old.plan }
+    requires number { IsNumber core.old.tables.basis.lits lit }
+    requires shape { shape_of (atom_at core.old.tables.basis.bank.terms core.old.tables.basis.lits lit.var.0) ≡ Quantified }
+    requires positive { lit.positive ≡ true }
+    ensures state { OnOk result (let l = literal_at core.old.tables.basis.bank.terms core.old.tables.basis.lits lit in the_state core.new.tables core.new.plan ≡ worked (setting_by core.old.tables core.old.plan) l.positive l.atom (the_state core.old.tables core.old.plan)) }
+    ensures right { OnOk result (IsRight core.new.tables core.new.plan) }
+    ensures develops { OnOk result (Develops core.old.tables core.new.tables) }
+    ensures witnesses { OnOk result (core.new.tables.basis.witnesses ≡ core.old.tables.basis.witnesses) }
+    ensures rule { OnOk result (core.new.plan.rule ≡ core.old.plan.rule) }
+{
+    let ty = range_of(core.tables.alloc, &core.tables.basis, lit)?;
+    prepare(core, &ty)?;
+    core.push_instances(lit)?;
+    Ok(())
+}
+
+/// A predicate holds everywhere, or it doesn't, and then there is a witness.
+pub(crate) fn work_on_quantified<W: Weigher<Waiting>>(
+    core: &mut Core<W>,
+    lit: SatLit,
+) -> Result<(), AllocError>
+    requires right { IsRight core.old.tables core.old.plan }
+    requires number { IsNumber core.old.tables.basis.lits lit }
+    requires few { length core.old.tables.basis.witnesses < 2 ^ 32 - 1 }
+    requires shape { shape_of (atom_at core.old.tables.basis.bank.terms core.old.tables.basis.lits lit.var.0) ≡ Quantified }
+    ensures state { OnOk result (let l = literal_at core.old.tables.basis.bank.terms core.old.tables.basis.lits lit in the_state core.new.tables core.new.plan ≡ worked (setting_by core.old.tables core.old.plan) l.positive l.atom (the_state core.old.tables core.old.plan)) }
+    ensures right { OnOk result (IsRight core.new.tables core.new.plan) }
+    ensures develops { OnOk result (Develops core.old.tables core.new.tables) }
+    ensures witnesses { OnOk result (length core.new.tables.basis.witnesses ≤ suc (length core.old.tables.basis.witnesses)) }
+    ensures rule { OnOk result (core.new.plan.rule ≡ core.old.plan.rule) }
+{
+    if !lit.positive {
+        add_witness(core, lit)?;
+        return Ok(());
+    }
+    work_on_universal(core, lit)?;
+    Ok(())
+}

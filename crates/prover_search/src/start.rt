@@ -1,0 +1,179 @@
+//! The start of a search.
+ghost use Rattle.std.specs.Prelude.{◌≡◌, ◌+◌, ◌<◌, [], ◌∷◌, map, IfOk, OnOk};
+ghost use Rattle.stt_core.specs.Declarations.{scope_of};
+ghost use Rattle.stt_core.specs.ScopeView.{the_scope};
+ghost use Rattle.stt_core.specs.TypedProblem.{IsFormula, AreFormulas, IsTyped};
+ghost use Rattle.stt_core.specs.Typing.{IsScope};
+ghost use Rattle.stt_core.specs.View.{the_term};
+ghost use Rattle.tableau_calculus.specs.Start.{without_repeats, normal_literal, start};
+ghost use Rattle.sat_base.specs.declared.literal.SatLit.{SatLit};
+ghost use Rattle.sat_core.specs.Solver.{learned};
+ghost use Rattle.search_spec.specs.After.{nothing_yet};
+ghost use Rattle.search_spec.specs.Instances.{with_instance};
+ghost use Rattle.term_bank.specs.Content.{content_scope};
+ghost use Rattle.prover_state.specs.Delays.{the_mode, delay_by};
+ghost use Rattle.prover_state.specs.Internal.Growing.{BasisGrows};
+ghost use Rattle.literal_map.specs.Atoms.{literal_at};
+ghost use Rattle.tableau_clauses.specs.Table.{the_clauses};
+ghost use Rattle.prover_state.specs.Internal.Names.{IsNumber};
+ghost use Rattle.prover_state.specs.Internal.Standing.{declared_scope, the_state, IsBasis, IsRight};
+ghost use Rattle.prover_search.specs.Internal.Starting.{AddsUnit, AddsStart, IsStarting};
+
+use bank_normal::Normaliser;
+use command_queue::Weigher;
+use literal_map::LitTable;
+use mode_file::Mode;
+use problem_start::formula_literal;
+use sat_base::{Clause, SatLit};
+use sat_core::Solver;
+use prover_state::{Basis, Core, DEPTH, Waiting, make_variables};
+use std::alloc::{AllocError, Global};
+use stt_core::{Problem, Signature, Term, Terms};
+use tableau_clauses::StepTable;
+use term_bank::{Bank, equal_ids_for_equal_terms};
+use witness_names::Witnesses;
+
+/// Terms, numbers and witnesses before there is one.
+fn new_basis(alloc: Global, sig: &Signature) -> Result<Basis, AllocError>
+    requires declared { IsScope (the_scope sig.now []) }
+    ensures good { IfOk result (λ g. IsBasis g) }
+    ensures bases { IfOk result (λ g. g.bank.bases ≡ sig.now.bases) }
+    ensures consts { IfOk result (λ g. g.bank.consts ≡ sig.now.consts) }
+    ensures unwitnessed { IfOk result (λ g. g.witnesses ≡ []) }
+{
+    let sig = sig.try_clone(alloc)?;
+    Ok(Basis {
+        bank: Bank::new(alloc, sig),
+        normal: Normaliser::new(alloc),
+        lits: LitTable::new(alloc),
+        witnesses: Witnesses::new(alloc),
+    })
+}
+
+/// Tables in which nothing was done yet.
+pub(crate) fn new_core<W: Weigher<Waiting>>(
+    alloc: Global,
+    sig: &Signature,
+    mode: Mode,
+    weigher: W,
+) -> Result<Core<W>, AllocError>
+    requires declared { IsScope (the_scope sig.now []) }
+    requires callable { W.is_callable weigher }
+    requires answers { W.answers weigher (λ waiting now. now + delay_by mode waiting.first) }
+    ensures state { IfOk result (λ core. the_state core.tables core.plan ≡ nothing_yet) }
+    ensures right { IfOk result (λ core. IsRight core.tables core.plan) }
+    ensures bases { IfOk result (λ core. core.tables.basis.bank.bases ≡ sig.now.bases) }
+    ensures consts { IfOk result (λ core. core.tables.basis.bank.consts ≡ sig.now.consts) }
+    ensures unwitnessed { IfOk result (λ core. core.tables.basis.witnesses ≡ []) }
+    ensures steps { IfOk result (λ core. core.tables.steps ≡ ([], [])) }
+    ensures mode { IfOk result (λ core. core.plan.rule.mode ≡ mode) }
+{
+    let basis = new_basis(alloc, sig)?;
+    Ok(Core::new(alloc, basis, mode, weigher)?)
+}
+
+/// The literal of a formula, by its number.
+fn number_of(basis: &mut Basis, formula: &Term) -> Result<SatLit, AllocError>
+    requires good { IsBasis basis.old }
+    requires formula { IsFormula (content_scope basis.old.bank) (the_term formula.now) }
+    ensures number { IfOk result (λ l. IsNumber basis.new.lits l) }
+    ensures literal { IfOk result (λ l. literal_at basis.new.bank.terms basis.new.lits l ≡ normal_literal (content_scope basis.old.bank) (the_term formula.now)) }
+    ensures good { OnOk result (IsBasis basis.new) }
+    ensures grows { OnOk result (BasisGrows basis.old basis.new) }
+{
+    let Basis {
+        bank,
+        normal,
+        lits,
+        witnesses: _,
+    } = basis;
+    Ok(formula_literal(bank, normal, lits, formula)?)
+}
+
+/// Adds a start unit, for the solver too.
+fn add_unit(
+    steps: &mut StepTable,
+    solver: &mut Solver,
+    alloc: Global,
+    atoms: usize,
+    lit: SatLit,
+) -> Result<(), AllocError>
+    requires number { lit.var.0 < atoms }
+    requires same { solver.old.clauses ≡ the_clauses steps.old }
+    ensures unit { OnOk result (AddsUnit lit steps.old steps.new) }
+    ensures same { OnOk result (solver.new.clauses ≡ the_clauses steps.new) }
+    ensures learned { OnOk result (learned solver.new ≡ learned solver.old) }
+{
+    if !steps.start(lit)? {
+        return Ok(());
+    }
+    make_variables(solver, atoms)?;
+    let mut clause = Clause::new(alloc);
+    clause.push(lit)?;
+    solver.add(&clause)?;
+    Ok(())
+}
+
+/// A literal is a start unit, is seen, and is to be processed, unless it is too deep or was one before.
+fn start_with<W: Weigher<Waiting>>(core: &mut Core<W>, lit: SatLit) -> Result<(), AllocError>
+    requires right { IsRight core.old.tables core.old.plan }
+    requires number { IsNumber core.old.tables.basis.lits lit }
+    ensures state { OnOk result (the_state core.new.tables core.new.plan ≡ with_instance (the_mode core.old.plan.rule.mode) [] ((literal_at core.old.tables.basis.bank.terms core.old.tables.basis.lits lit ∷ []) ∷ []) (the_state core.old.tables core.old.plan)) }
+    ensures right { OnOk result (IsRight core.new.tables core.new.plan) }
+    ensures basis { OnOk result (core.new.tables.basis ≡ core.old.tables.basis) }
+    ensures steps { OnOk result (AddsStart lit core.old.tables core.new.tables) }
+    ensures rule { OnOk result (core.new.plan.rule ≡ core.old.plan.rule) }
+{
+    let basis = &core.tables.basis;
+    if basis.bank.depth(basis.lits.formula_of(lit)) > DEPTH {
+        return Ok(());
+    }
+    equal_ids_for_equal_terms(&basis.bank);
+    basis.lits.atoms_differ();
+    let atoms = basis.lits.len();
+    let alloc = core.tables.alloc;
+    let tables = &mut core.tables;
+    add_unit(&mut tables.steps, &mut tables.solver, alloc, atoms, lit)?;
+    core.see(lit)?;
+    Ok(())
+}
+
+/// Starts from the literals of the assumed formulas.
+fn start_assumed<W: Weigher<Waiting>>(core: &mut Core<W>, assumed: &Terms) -> Result<(), AllocError>
+    requires state { the_state core.old.tables core.old.plan ≡ nothing_yet }
+    requires right { IsRight core.old.tables core.old.plan }
+    requires unwitnessed { core.old.tables.basis.witnesses ≡ [] }
+    requires steps { core.old.tables.steps ≡ ([], []) }
+    requires typed { AreFormulas (declared_scope core.old.tables.basis.bank) assumed.now }
+    ensures { OnOk result (IsStarting core.old.tables core.old.plan core.new.tables core.new.plan (without_repeats (map (normal_literal (declared_scope core.old.tables.basis.bank)) assumed.now))) }
+{
+    for i in 0..assumed.len() {
+        let lit = number_of(&mut core.tables.basis, assumed.at(i))?;
+        start_with(core, lit)?;
+    }
+    Ok(())
+}
+
+/// Starts a problem's run: from the literals of the assumed formulas, in order, and then the negation of the conjecture's.
+pub(crate) fn start_all<W: Weigher<Waiting>>(
+    core: &mut Core<W>,
+    problem: &Problem,
+) -> Result<(), AllocError>
+    requires state { the_state core.old.tables core.old.plan ≡ nothing_yet }
+    requires right { IsRight core.old.tables core.old.plan }
+    requires unwitnessed { core.old.tables.basis.witnesses ≡ [] }
+    requires steps { core.old.tables.steps ≡ ([], []) }
+    requires declared { declared_scope core.old.tables.basis.bank ≡ scope_of problem.now.declared }
+    requires typed { IsTyped problem.now }
+    ensures { OnOk result (IsStarting core.old.tables core.old.plan core.new.tables core.new.plan (start problem.now)) }
+{
+    start_assumed(core, &problem.assumed)?;
+    match &problem.conjecture {
+        None => Ok(()),
+        Some(conjecture) => {
+            let lit = number_of(&mut core.tables.basis, conjecture)?;
+            start_with(core, lit.negated())?;
+            Ok(())
+        }
+    }
+}

@@ -1,0 +1,114 @@
+-- Predicates that are chosen by, and those that are described.
+use Rattle.std.specs.Prelude.{◌≡◌, nat_eq, ℕ, Bool, true, false, List, [], ◌∷◌, ◌++◌, if◌then◌else◌}
+use Rattle.std.specs.List.{list_any}
+use Rattle.std.proofs.Common.{sym, ap, subst, ◌∙◌}
+use Rattle.stt_core.specs.Lambda.{Lambda}
+use Rattle.stt_core.proofs.ListLaws.{map-append}
+use Rattle.command_queue.specs.Queue.{Queue}
+use Rattle.search_spec.specs.Each.{Each}
+use Rattle.search_spec.specs.Mode.{Mode}
+use Rattle.search_spec.specs.Selections.{by_choice, by_description, with_selection}
+use Rattle.search_spec.specs.State.{State, choose, describe, pushed}
+use Rattle.term_bank.specs.Laws.{EqualIdsForEqualTerms}
+use Rattle.term_bank.specs.Terms.{term_at}
+use Rattle.witness_names.specs.Rows.{binder_of}
+use Rattle.prover_state.specs.declared.command.Planned.{Planned}
+use Rattle.prover_state.specs.declared.command.Delays.{Delays}
+use Rattle.prover_state.specs.declared.tables.Tables.{Tables}
+use Rattle.prover_state.specs.Internal.Names.{IsPlace}
+use Rattle.prover_state.specs.Internal.Standing.{the_state, IsRight}
+use Rattle.prover_state.proofs.EachLaws.{each-last}
+use Rattle.prover_state.proofs.PlaceLaws.{any-places}
+
+-- a place that joins a list where it isn't there
+abbrev joined : List ℕ → ℕ → Bool → List ℕ
+joined ids id b = if b then ids else ids ++ id ∷ []
+
+joined_good : (P : ℕ → Type 0) (ids : List ℕ) (id : ℕ) → Each P ids → P id → (b : Bool) → Each P (joined ids id b)
+joined_good P ids id h k true = h
+joined_good P ids id h k false = each-last P ids id h k
+
+module _ (t : Tables) (q : Queue Planned Delays) (equal : EqualIdsForEqualTerms t.basis.bank) (r : IsRight t q) (mode : Mode) (id : ℕ) (place : IsPlace t.basis.bank.terms id) where
+  abbrev f : Lambda
+  f = term_at t.basis.bank.terms id
+
+  abbrev before : State
+  before = the_state t q
+
+  abbrev chosen_now : State
+  chosen_now = pushed mode (choose (binder_of f) f ∷ []) (record before { chosen = before.chosen ++ f ∷ [] })
+
+  abbrev described_now : State
+  described_now = pushed mode (describe (binder_of f) f ∷ []) (record before { described = before.described ++ f ∷ [] })
+
+  choice_by : (b : Bool) → list_any (nat_eq id) t.chosen ≡ b → (if b then before else chosen_now) ≡ with_selection mode (by_choice (binder_of f) f) before
+  choice_by b e = sym (ap (λ (x : Bool). if x then before else chosen_now) (any-places t.basis.bank equal id t.chosen place r.chosen ∙ e))
+
+  description_by : (b : Bool) → list_any (nat_eq id) t.described ≡ b → (if b then before else described_now) ≡ with_selection mode (by_description (binder_of f) f) before
+  description_by b e = sym (ap (λ (x : Bool). if x then before else described_now) (any-places t.basis.bank equal id t.described place r.described ∙ e))
+
+  module _ (x : List ℕ) (is : x ≡ joined t.chosen id (list_any (nat_eq id) t.chosen)) where
+    pub chosen-before : list_any (nat_eq id) t.chosen ≡ true → the_state (record t { chosen = x }) q ≡ with_selection mode (by_choice (binder_of f) f) before
+    chosen-before e = ap (λ xs. the_state (record t { chosen = xs }) q) (is ∙ ap (joined t.chosen id) e) ∙ choice_by true e
+
+    pub chosen-now : list_any (nat_eq id) t.chosen ≡ false → pushed mode (choose (binder_of f) f ∷ []) (the_state (record t { chosen = x }) q) ≡ with_selection mode (by_choice (binder_of f) f) before
+    chosen-now e =
+        ap (λ xs. pushed mode (choose (binder_of f) f ∷ []) (the_state (record t { chosen = xs }) q)) (is ∙ ap (joined t.chosen id) e)
+        ∙ ap (λ (fs : List Lambda). pushed mode (choose (binder_of f) f ∷ []) (record before { chosen = fs })) (map-append (term_at t.basis.bank.terms) t.chosen (id ∷ []))
+        ∙ choice_by false e
+
+    pub right-chosen : IsRight (record t { chosen = x }) q
+    right-chosen = record {
+      basis = r.basis;
+      clauses = r.clauses;
+      solver = r.solver;
+      seen = r.seen;
+      noted = r.noted;
+      universals = r.universals;
+      terms = r.terms;
+      described = r.described;
+      index = r.index;
+      paired = r.paired;
+      names = r.names;
+      takers = r.takers;
+      stems = r.stems;
+      open_holes = r.open_holes;
+      roots = r.roots;
+      holes = r.holes;
+      budget = r.budget;
+      queue = r.queue;
+      chosen = subst (Each (IsPlace t.basis.bank.terms)) (sym is) (joined_good (IsPlace t.basis.bank.terms) t.chosen id r.chosen place (list_any (nat_eq id) t.chosen));
+    }
+
+  module _ (x : List ℕ) (is : x ≡ joined t.described id (list_any (nat_eq id) t.described)) where
+    pub described-before : list_any (nat_eq id) t.described ≡ true → the_state (record t { described = x }) q ≡ with_selection mode (by_description (binder_of f) f) before
+    described-before e = ap (λ xs. the_state (record t { described = xs }) q) (is ∙ ap (joined t.described id) e) ∙ description_by true e
+
+    pub described-now : list_any (nat_eq id) t.described ≡ false → pushed mode (describe (binder_of f) f ∷ []) (the_state (record t { described = x }) q) ≡ with_selection mode (by_description (binder_of f) f) before
+    described-now e =
+        ap (λ xs. pushed mode (describe (binder_of f) f ∷ []) (the_state (record t { described = xs }) q)) (is ∙ ap (joined t.described id) e)
+        ∙ ap (λ (fs : List Lambda). pushed mode (describe (binder_of f) f ∷ []) (record before { described = fs })) (map-append (term_at t.basis.bank.terms) t.described (id ∷ []))
+        ∙ description_by false e
+
+    pub right-described : IsRight (record t { described = x }) q
+    right-described = record {
+      basis = r.basis;
+      clauses = r.clauses;
+      solver = r.solver;
+      seen = r.seen;
+      noted = r.noted;
+      universals = r.universals;
+      terms = r.terms;
+      chosen = r.chosen;
+      index = r.index;
+      paired = r.paired;
+      names = r.names;
+      takers = r.takers;
+      stems = r.stems;
+      open_holes = r.open_holes;
+      roots = r.roots;
+      holes = r.holes;
+      budget = r.budget;
+      queue = r.queue;
+      described = subst (Each (IsPlace t.basis.bank.terms)) (sym is) (joined_good (IsPlace t.basis.bank.terms) t.described id r.described place (list_any (nat_eq id) t.described));
+    }

@@ -1,0 +1,28 @@
+-- Tables in which nothing was done yet.
+use Rattle.std.specs.Prelude.{◌≡◌, ℕ, false, List, []}
+use Rattle.stt_core.specs.Lambda.{Lambda}
+use Rattle.instantiate.specs.Listing.{Listing}
+use Rattle.mating_rules.specs.Noted.{IsRight as IsRightIndex}
+use Rattle.prover_state.specs.declared.tables.Basis.{Basis}
+use Rattle.prover_state.specs.declared.tables.Tables.{Tables}
+
+-- nothing is in the tables but a basis and numbers of names
+pub record AreEmpty (g : Basis) (listed : List Listing) (t : Tables) : Type 0 where
+  pub basis : t.basis ≡ g
+  pub steps : t.steps ≡ ([], [])
+  pub solver : t.solver ≡ record { values = []; clauses = []; log = []; is_refuted = false }
+  pub seen : t.seen ≡ []
+  pub noted : t.noted.items ≡ []
+  pub index : t.index ≡ record { noted = []; heads = [] }
+  pub indexed : (terms : List Lambda) (atoms : List ℕ) → IsRightIndex terms atoms t.index
+  pub universals : t.universals ≡ []
+  pub terms : t.terms ≡ []
+  pub chosen : t.chosen ≡ []
+  pub described : t.described ≡ []
+  pub names : t.names ≡ listed
+  pub takers : t.takers ≡ []
+  pub stems : t.stems.items ≡ []
+  pub open_holes : t.open_holes ≡ []
+  pub holes : t.holes ≡ []
+  pub roots : t.roots ≡ []
+  pub done : t.done ≡ 0

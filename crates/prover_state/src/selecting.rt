@@ -1,0 +1,83 @@
+//! The choices and the descriptions in a formula.
+ghost use Rattle.std.specs.Prelude.{◌≡◌, OnOk};
+ghost use Rattle.term_bank.specs.Terms.{term_at};
+ghost use Rattle.literal_map.specs.Atoms.{atom_at};
+ghost use Rattle.search_spec.specs.Selections.{selections_in, with_selections};
+ghost use Rattle.prover_state.specs.Delays.{the_mode};
+ghost use Rattle.prover_state.specs.Internal.Names.{IsNumber, IsPlace};
+ghost use Rattle.prover_state.specs.Internal.Selecting.{head_selection, AreTaken};
+ghost use Rattle.prover_state.specs.Internal.Standing.{the_state, IsRight};
+
+use crate::clauses::DEPTH;
+use crate::selected::{Selected, count_parts, part_of, selection_of};
+use crate::set::IdSet;
+use crate::tables::Core;
+use crate::waiting::Waiting;
+use command_queue::Weigher;
+use sat_base::SatLit;
+use std::alloc::AllocError;
+use term_bank::Id;
+
+impl<W: Weigher<Waiting>> Core<W> {
+    /// The predicate by which a term chooses or describes at its head is chosen by or described, unless it was before.
+    fn select_head(&mut self, id: Id) -> Result<(), AllocError>
+        requires right { IsRight self.old.tables self.old.plan }
+        requires place { IsPlace self.old.tables.basis.bank.terms id }
+        ensures state { OnOk result (the_state self.new.tables self.new.plan ≡ with_selections (the_mode self.old.plan.rule.mode) (head_selection (term_at self.old.tables.basis.bank.terms id)) (the_state self.old.tables self.old.plan)) }
+        ensures right { OnOk result (IsRight self.new.tables self.new.plan) }
+        ensures tables { OnOk result (self.new.tables ≡ record self.old.tables { chosen = self.new.tables.chosen; described = self.new.tables.described }) }
+        ensures rule { OnOk result (self.new.plan.rule ≡ self.old.plan.rule) }
+    {
+        // The node is asked for its clause that the term is typed.
+        let _typed = self.tables.basis.bank.node(id);
+        match selection_of(&self.tables.basis.bank, id) {
+            Selected::Chosen(predicate) => self.choose(predicate),
+            Selected::Described(predicate) => self.describe(predicate),
+            Selected::Nothing => Ok(()),
+        }
+    }
+
+    /// Takes up what a term chooses or describes by, unless the term was walked before.
+    fn walk(&mut self, walked: &mut IdSet, id: Id) -> Result<(), AllocError>
+        requires right { IsRight self.old.tables self.old.plan }
+        requires place { IsPlace self.old.tables.basis.bank.terms id }
+        requires taken { AreTaken (the_state self.old.tables self.old.plan) self.old.tables.basis.bank.terms walked.old }
+        ensures state { OnOk result (the_state self.new.tables self.new.plan ≡ with_selections (the_mode self.old.plan.rule.mode) (selections_in (term_at self.old.tables.basis.bank.terms id)) (the_state self.old.tables self.old.plan)) }
+        ensures taken { OnOk result (AreTaken (the_state self.new.tables self.new.plan) self.old.tables.basis.bank.terms walked.new) }
+        ensures right { OnOk result (IsRight self.new.tables self.new.plan) }
+        ensures tables { OnOk result (self.new.tables ≡ record self.old.tables { chosen = self.new.tables.chosen; described = self.new.tables.described }) }
+        ensures rule { OnOk result (self.new.plan.rule ≡ self.old.plan.rule) }
+    {
+        if walked.contains(id) {
+            return Ok(());
+        }
+        // The node is asked for its clause that the term is its term.
+        let _node = self.tables.basis.bank.node(id);
+        self.select_head(id)?;
+        for i in 0..count_parts(&self.tables.basis.bank, id) {
+            let part = part_of(&self.tables.basis.bank, id, i);
+            self.walk(walked, part)?;
+        }
+        walked.insert(id)?;
+        Ok(())
+    }
+
+    /// The closed predicates by which the atom of a literal chooses or describes, from left to right, are chosen by or described, unless
+    /// they were before. The walk takes room for each level of the atom, and below the depth at which literals enter the clauses there
+    /// is none.
+    pub fn select(&mut self, lit: SatLit) -> Result<(), AllocError>
+        requires right { IsRight self.old.tables self.old.plan }
+        requires number { IsNumber self.old.tables.basis.lits lit }
+        ensures state { OnOk result (the_state self.new.tables self.new.plan ≡ with_selections (the_mode self.old.plan.rule.mode) (selections_in (atom_at self.old.tables.basis.bank.terms self.old.tables.basis.lits lit.var.0)) (the_state self.old.tables self.old.plan)) }
+        ensures right { OnOk result (IsRight self.new.tables self.new.plan) }
+        ensures tables { OnOk result (self.new.tables ≡ record self.old.tables { chosen = self.new.tables.chosen; described = self.new.tables.described }) }
+        ensures rule { OnOk result (self.new.plan.rule ≡ self.old.plan.rule) }
+    {
+        let atom = self.tables.basis.lits.formula_of(lit);
+        if self.tables.basis.bank.depth(atom) > DEPTH {
+            return Err(AllocError);
+        }
+        let mut walked = IdSet::new(self.tables.alloc);
+        self.walk(&mut walked, atom)
+    }
+}

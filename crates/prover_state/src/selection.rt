@@ -1,0 +1,51 @@
+//! The predicates that are chosen by, and those that are described.
+ghost use Rattle.std.specs.Prelude.{◌≡◌, OnOk};
+ghost use Rattle.term_bank.specs.Terms.{term_at};
+ghost use Rattle.witness_names.specs.Rows.{binder_of};
+ghost use Rattle.search_spec.specs.Selections.{with_selection, by_choice, by_description};
+ghost use Rattle.prover_state.specs.Delays.{the_mode};
+ghost use Rattle.prover_state.specs.Internal.Names.{IsPlace};
+ghost use Rattle.prover_state.specs.Internal.Standing.{the_state, IsRight};
+
+use crate::command::Command;
+use crate::tables::Core;
+use crate::waiting::Waiting;
+use command_queue::Weigher;
+use std::alloc::AllocError;
+use term_bank::{Id, equal_ids_for_equal_terms};
+
+impl<W: Weigher<Waiting>> Core<W> {
+    /// A closed predicate is chosen by, unless it was before.
+    pub fn choose(&mut self, predicate: Id) -> Result<(), AllocError>
+        requires right { IsRight self.old.tables self.old.plan }
+        requires place { IsPlace self.old.tables.basis.bank.terms predicate }
+        ensures state { OnOk result (let f = term_at self.old.tables.basis.bank.terms predicate in the_state self.new.tables self.new.plan ≡ with_selection (the_mode self.old.plan.rule.mode) (by_choice (binder_of f) f) (the_state self.old.tables self.old.plan)) }
+        ensures right { OnOk result (IsRight self.new.tables self.new.plan) }
+        ensures tables { OnOk result (self.new.tables ≡ record self.old.tables { chosen = self.new.tables.chosen }) }
+        ensures rule { OnOk result (self.new.plan.rule ≡ self.old.plan.rule) }
+    {
+        equal_ids_for_equal_terms(&self.tables.basis.bank);
+        if !self.tables.chosen.insert(predicate)? {
+            return Ok(());
+        }
+        self.push_alone(Command::Choose(predicate))?;
+        Ok(())
+    }
+
+    /// A closed predicate is described, unless it was before.
+    pub fn describe(&mut self, predicate: Id) -> Result<(), AllocError>
+        requires right { IsRight self.old.tables self.old.plan }
+        requires place { IsPlace self.old.tables.basis.bank.terms predicate }
+        ensures state { OnOk result (let f = term_at self.old.tables.basis.bank.terms predicate in the_state self.new.tables self.new.plan ≡ with_selection (the_mode self.old.plan.rule.mode) (by_description (binder_of f) f) (the_state self.old.tables self.old.plan)) }
+        ensures right { OnOk result (IsRight self.new.tables self.new.plan) }
+        ensures tables { OnOk result (self.new.tables ≡ record self.old.tables { described = self.new.tables.described }) }
+        ensures rule { OnOk result (self.new.plan.rule ≡ self.old.plan.rule) }
+    {
+        equal_ids_for_equal_terms(&self.tables.basis.bank);
+        if !self.tables.described.insert(predicate)? {
+            return Ok(());
+        }
+        self.push_alone(Command::Describe(predicate))?;
+        Ok(())
+    }
+}

@@ -1,0 +1,39 @@
+-- Branches as sets of numbers.
+use Rattle.std.specs.Prelude.{◌≡◌, ℕ, nat_eq, Bool, true, false, List, [], ◌∷◌, ◌++◌, Some, IsTrue, Contains}
+use Rattle.indexmap.specs.IndexSet.{contains}
+use Rattle.stt_core.specs.Lambda.{Lambda}
+use Rattle.tableau_calculus.specs.Literals.{Literal}
+use Rattle.tableau_calculus.specs.declared.refutation.Line.{Line}
+use Rattle.refute_check.specs.Internal.Numbers.{number_in}
+use Rattle.refute_check.specs.declared.branch.Branch.{Branch}
+
+-- whether the set has the literal of this sign whose atom has this number
+abbrev pub has : Branch → Bool → ℕ → Bool
+has b true k = contains nat_eq b.positive k
+has b false k = contains nat_eq b.negative k
+
+-- one of the literals has this sign, and its atom this number
+pub record IsLiteralOf (terms : List Lambda) (ls : List Literal) (sign : Bool) (k : ℕ) : Type 0 where
+  pub atom : Lambda
+  pub numbered : number_in terms atom ≡ Some k
+  pub among : Contains ls (record { positive = sign; atom = atom })
+
+-- the set has the literals, as far as their atoms have numbers
+pub record Represents (terms : List Lambda) (ls : List Literal) (b : Branch) : Type 0 where
+  pub sound : (sign : Bool) (k : ℕ) → IsTrue (has b sign k) → IsLiteralOf terms ls sign k
+  pub whole : (sign : Bool) (k : ℕ) → IsLiteralOf terms ls sign k → IsTrue (has b sign k)
+
+-- the atom of each literal has a number
+abbrev pub AreNumbered : List Lambda → List Literal → Type 0
+AreNumbered terms ls = (l : Literal) → Contains ls l → (k : ℕ) × (number_in terms l.atom ≡ Some k)
+
+-- the terms after are those before and some more
+abbrev pub Grow : List Lambda → List Lambda → Type 0
+Grow before after = (more : List Lambda) × (after ≡ before ++ more)
+
+-- the branches are those of the lines
+abbrev pub AreBranches : List Lambda → List Line → List Branch → Type 0
+AreBranches terms [] [] = Unit {0}
+AreBranches terms [] (b ∷ bs) = ⊥
+AreBranches terms (line ∷ lines) [] = ⊥
+AreBranches terms (line ∷ lines) (b ∷ bs) = AreNumbered terms line.branch × Represents terms line.branch b × AreBranches terms lines bs

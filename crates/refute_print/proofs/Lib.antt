@@ -1,0 +1,7 @@
+mod Lists
+mod Writes
+mod TermTexts
+mod LineTexts
+mod SharedLists
+pub mod AllLaws
+mod WithinLaws

@@ -1,0 +1,12 @@
+pub mod Letters
+pub mod Trees
+pub mod Text
+pub mod Named
+pub mod Limits
+pub mod Sizes
+pub mod SmallRows
+pub mod View
+pub mod TreeView
+pub mod LineView
+pub mod TextView
+pub mod Internal

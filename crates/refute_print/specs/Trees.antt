@@ -1,0 +1,77 @@
+-- Refutations as they are written: trees whose names are bytes.
+use Rattle.std.specs.Prelude.{ℕ, Bool, List}
+use Rattle.tableau_calculus.specs.declared.refutation.Child.{Child}
+
+-- `$o`, `$i`, a base type by its name, or the functions from the first type to the second
+pub data TypeTree : Type 0 where
+  formula : TypeTree
+  individual : TypeTree
+  named : List ℕ → TypeTree
+  arrow : TypeTree → TypeTree → TypeTree
+
+-- a constant by its name, a witness by its number, falsity, negation, implication, and for each type the quantifier over it, the
+-- equality on it, the choice from it and the description of its values
+pub data ConstantTree : Type 0 where
+  name : List ℕ → ConstantTree
+  witness : ℕ → ConstantTree
+  falsity : ConstantTree
+  negation : ConstantTree
+  implication : ConstantTree
+  all : TypeTree → ConstantTree
+  equality : TypeTree → ConstantTree
+  choice : TypeTree → ConstantTree
+  description : TypeTree → ConstantTree
+
+-- a bound variable, which counts the binders between it and its own, a constant, a function, whose argument has the given type, or an
+-- application
+pub data TermTree : Type 0 where
+  bound : ℕ → TermTree
+  constant : ConstantTree → TermTree
+  lam : TypeTree → TermTree → TermTree
+  app : TermTree → TermTree → TermTree
+
+-- a formula with a sign
+pub record LiteralTree : Type 0 where
+  pub positive : Bool
+  pub atom : TermTree
+
+-- the rules whose instances are given by one place of the branch, by two, and by a predicate
+pub data OnePlace : Type 0 where
+  False : OnePlace
+  Refl : OnePlace
+  ImpPos : OnePlace
+  ImpNeg : OnePlace
+  BoolPos : OnePlace
+  BoolNeg : OnePlace
+  FunPos : OnePlace
+  FunNeg : OnePlace
+  AllNeg : OnePlace
+  Dec : OnePlace
+
+pub data TwoPlaces : Type 0 where
+  Close : TwoPlaces
+  Mat : TwoPlaces
+  Con : TwoPlaces
+
+pub data OfPredicate : Type 0 where
+  Cho : OfPredicate
+  Des : OfPredicate
+
+-- a rule with what its instance takes: places of the branch, which count from 0, a term or a literal
+pub data RuleTree : Type 0 where
+  at_one : OnePlace → ℕ → RuleTree
+  at_two : TwoPlaces → ℕ → ℕ → RuleTree
+  with_instance : ℕ → TermTree → RuleTree
+  with_predicate : OfPredicate → TermTree → RuleTree
+  with_cut : LiteralTree → RuleTree
+
+pub record LineTree : Type 0 where
+  pub branch : List LiteralTree
+  pub rule : RuleTree
+  pub children : List Child
+
+-- the names whose definitions are unfolded, the predicates of the witness rows, and the lines
+pub record RefutationTree : Type 0 where
+  pub names : List (List ℕ)
+  pub rows : List TermTree
+  pub lines : List LineTree

@@ -1,0 +1,181 @@
+//! Writes rows and lines.
+
+ghost use Rattle.std.specs.Prelude.{◌≡◌, ◌++◌, map, OnOk, OnErr};
+ghost use Rattle.refute_print.specs.Text.{sign_text, child_text, branch_text, children_text, row_texts, line_texts, as_bytes};
+ghost use Rattle.refute_print.specs.Named.{names_of, named_term, named_literal, named_line, HasNames, HaveNames, HasLineNames, RowsHaveNames, LinesHaveNames};
+ghost use Rattle.refute_print.specs.Internal.Pieces.{comma_before, literal_at, child_at, row_line, line_end, line_line};
+ghost use Rattle.outside.specs.Writing.{Took, Stopped};
+
+use crate::write_bytes::{write, write_numbered};
+use crate::write_rule::write_rule;
+use crate::write_term::write_term;
+use outside::{Failed, Sink};
+use stt_core::Signature;
+use tableau_calculus::{Child, Children, Line, Lines, Lit, Lits, Rows, WitnessRow};
+
+/// Writes the comma before the member of a list at this place, which the first one has not.
+fn write_comma<S: Sink>(sink: &mut S, place: usize) -> Result<(), Failed>
+    ensures took { OnOk result (Took S.tells S.written S.faults sink.old sink.new (comma_before place)) }
+    ensures stopped { OnErr result (Stopped S.tells S.written S.faults sink.old sink.new (comma_before place)) }
+{
+    if place > 0 {
+        write(sink, b",")?;
+    }
+    Ok(())
+}
+
+/// What stands before the atom of the literal at this place of a list.
+fn before_atom(place: usize, positive: bool) -> &'static [u8]
+    ensures { result.now ≡ comma_before place ++ sign_text positive }
+{
+    match (place > 0, positive) {
+        (true, true) => b",+",
+        (true, false) => b",-",
+        (false, true) => b"+",
+        (false, false) => b"-",
+    }
+}
+
+fn write_literal_at<S: Sink>(
+    sink: &mut S,
+    sig: &Signature,
+    place: usize,
+    lit: &Lit,
+) -> Result<(), Failed>
+    requires { HasNames (names_of sig.now.bases sig.now.consts) lit.now.atom }
+    ensures took { OnOk result (Took S.tells S.written S.faults sink.old sink.new
+        (literal_at (names_of sig.now.bases sig.now.consts) place lit.now)) }
+    ensures stopped { OnErr result (Stopped S.tells S.written S.faults sink.old sink.new
+        (literal_at (names_of sig.now.bases sig.now.consts) place lit.now)) }
+{
+    write(sink, before_atom(place, lit.positive))?;
+    write_term(sink, sig, &lit.atom)?;
+    Ok(())
+}
+
+fn write_branch<S: Sink>(sink: &mut S, sig: &Signature, branch: &Lits) -> Result<(), Failed>
+    requires { HaveNames (names_of sig.now.bases sig.now.consts) branch.now }
+    ensures took { OnOk result (Took S.tells S.written S.faults sink.old sink.new
+        (branch_text (map (named_literal (names_of sig.now.bases sig.now.consts)) branch.now))) }
+    ensures stopped { OnErr result (Stopped S.tells S.written S.faults sink.old sink.new
+        (branch_text (map (named_literal (names_of sig.now.bases sig.now.consts)) branch.now))) }
+{
+    for i in 0..branch.len() {
+        write_literal_at(sink, sig, i, branch.at(i))?;
+    }
+    Ok(())
+}
+
+fn write_child_text<S: Sink>(sink: &mut S, child: Child) -> Result<(), Failed>
+    ensures took { OnOk result (Took S.tells S.written S.faults sink.old sink.new (child_text child)) }
+    ensures stopped { OnErr result (Stopped S.tells S.written S.faults sink.old sink.new (child_text child)) }
+{
+    match child {
+        Child::Closed => write(sink, b"x")?,
+        Child::Line(k) => write_numbered(sink, b"", k, b"")?,
+    }
+    Ok(())
+}
+
+fn write_child<S: Sink>(sink: &mut S, place: usize, child: Child) -> Result<(), Failed>
+    ensures took { OnOk result (Took S.tells S.written S.faults sink.old sink.new (child_at place child)) }
+    ensures stopped { OnErr result (Stopped S.tells S.written S.faults sink.old sink.new (child_at place child)) }
+{
+    write_comma(sink, place)?;
+    write_child_text(sink, child)?;
+    Ok(())
+}
+
+fn write_children<S: Sink>(sink: &mut S, children: &Children) -> Result<(), Failed>
+    ensures took { OnOk result (Took S.tells S.written S.faults sink.old sink.new (children_text children.now)) }
+    ensures stopped { OnErr result (Stopped S.tells S.written S.faults sink.old sink.new (children_text children.now)) }
+{
+    for i in 0..children.len() {
+        write_child(sink, i, children.at(i))?;
+    }
+    Ok(())
+}
+
+fn write_row<S: Sink>(
+    sink: &mut S,
+    sig: &Signature,
+    number: usize,
+    row: &WitnessRow,
+) -> Result<(), Failed>
+    requires { HasNames (names_of sig.now.bases sig.now.consts) row.now.predicate }
+    ensures took { OnOk result (Took S.tells S.written S.faults sink.old sink.new
+        (row_line (names_of sig.now.bases sig.now.consts) number row.now)) }
+    ensures stopped { OnErr result (Stopped S.tells S.written S.faults sink.old sink.new
+        (row_line (names_of sig.now.bases sig.now.consts) number row.now)) }
+{
+    write_numbered(sink, b"w", number, b"")?;
+    write(sink, b" ")?;
+    write_term(sink, sig, &row.predicate)?;
+    write(sink, b"\n")?;
+    Ok(())
+}
+
+/// Writes what follows the rule of a line.
+fn write_line_end<S: Sink>(sink: &mut S, sig: &Signature, line: &Line) -> Result<(), Failed>
+    requires { HaveNames (names_of sig.now.bases sig.now.consts) line.now.branch }
+    ensures took { OnOk result (Took S.tells S.written S.faults sink.old sink.new
+        (line_end (names_of sig.now.bases sig.now.consts) line.now)) }
+    ensures stopped { OnErr result (Stopped S.tells S.written S.faults sink.old sink.new
+        (line_end (names_of sig.now.bases sig.now.consts) line.now)) }
+{
+    write(sink, b" [")?;
+    write_branch(sink, sig, &line.branch)?;
+    write(sink, b"] [")?;
+    write_children(sink, &line.children)?;
+    write(sink, b"]\n")?;
+    Ok(())
+}
+
+fn write_line<S: Sink>(
+    sink: &mut S,
+    sig: &Signature,
+    number: usize,
+    line: &Line,
+) -> Result<(), Failed>
+    requires { HasLineNames (names_of sig.now.bases sig.now.consts) line.now }
+    ensures took { OnOk result (Took S.tells S.written S.faults sink.old sink.new
+        (line_line (names_of sig.now.bases sig.now.consts) number line.now)) }
+    ensures stopped { OnErr result (Stopped S.tells S.written S.faults sink.old sink.new
+        (line_line (names_of sig.now.bases sig.now.consts) number line.now)) }
+{
+    write_numbered(sink, b"", number, b"")?;
+    write(sink, b": ")?;
+    write_rule(sink, sig, &line.rule)?;
+    write_line_end(sink, sig, line)?;
+    Ok(())
+}
+
+pub(crate) fn write_rows<S: Sink>(sink: &mut S, sig: &Signature, rows: &Rows) -> Result<(), Failed>
+    requires { RowsHaveNames (names_of sig.now.bases sig.now.consts) rows.now }
+    ensures took { OnOk result (Took S.tells S.written S.faults sink.old sink.new
+        (as_bytes (row_texts 0 (map (λ row. named_term (names_of sig.now.bases sig.now.consts) row.predicate) rows.now)))) }
+    ensures stopped { OnErr result (Stopped S.tells S.written S.faults sink.old sink.new
+        (as_bytes (row_texts 0 (map (λ row. named_term (names_of sig.now.bases sig.now.consts) row.predicate) rows.now)))) }
+{
+    for i in 0..rows.len() {
+        write_row(sink, sig, i, rows.at(i))?;
+    }
+    Ok(())
+}
+
+pub(crate) fn write_lines<S: Sink>(
+    sink: &mut S,
+    sig: &Signature,
+    lines: &Lines,
+) -> Result<(), Failed>
+    requires { LinesHaveNames (names_of sig.now.bases sig.now.consts) lines.now }
+    ensures took { OnOk result (Took S.tells S.written S.faults sink.old sink.new
+        (as_bytes (line_texts 0 (map (named_line (names_of sig.now.bases sig.now.consts)) lines.now)))) }
+    ensures stopped { OnErr result (Stopped S.tells S.written S.faults sink.old sink.new
+        (as_bytes (line_texts 0 (map (named_line (names_of sig.now.bases sig.now.consts)) lines.now)))) }
+{
+    for i in 0..lines.len() {
+        write_line(sink, sig, i, lines.at(i))?;
+    }
+    Ok(())
+}

@@ -1,0 +1,133 @@
+//! Writes literals and rules.
+
+ghost use Rattle.std.specs.Prelude.{◌≡◌, ◌++◌, codes, decimal, OnOk, OnErr};
+ghost use Rattle.refute_print.specs.Text.{term_text, sign_text, literal_text, rule_text};
+ghost use Rattle.refute_print.specs.Named.{names_of, named_term, named_literal, named_rule, HasNames, HasRuleNames};
+ghost use Rattle.outside.specs.Writing.{Took, Stopped};
+
+use crate::write_bytes::{write, write_numbered};
+use crate::write_term::write_term;
+use outside::{Failed, Sink};
+use stt_core::{Nf, Signature};
+use tableau_calculus::{Lit, RuleUse};
+
+fn sign(positive: bool) -> &'static [u8]
+    ensures { result.now ≡ sign_text positive }
+{
+    if positive { b"+" } else { b"-" }
+}
+
+pub(crate) fn write_literal<S: Sink>(sink: &mut S, sig: &Signature, lit: &Lit) -> Result<(), Failed>
+    requires { HasNames (names_of sig.now.bases sig.now.consts) lit.now.atom }
+    ensures took { OnOk result (Took S.tells S.written S.faults sink.old sink.new
+        (literal_text (named_literal (names_of sig.now.bases sig.now.consts) lit.now))) }
+    ensures stopped { OnErr result (Stopped S.tells S.written S.faults sink.old sink.new
+        (literal_text (named_literal (names_of sig.now.bases sig.now.consts) lit.now))) }
+{
+    write(sink, sign(lit.positive))?;
+    write_term(sink, sig, &lit.atom)?;
+    Ok(())
+}
+
+/// Writes a rule with two places.
+fn write_two_places<S: Sink>(
+    sink: &mut S,
+    rule: &[u8],
+    first: usize,
+    second: usize,
+) -> Result<(), Failed>
+    ensures took { OnOk result (Took S.tells S.written S.faults sink.old sink.new
+        (rule.now ++ (decimal first ++ (codes "," ++ (decimal second ++ codes ")"))))) }
+    ensures stopped { OnErr result (Stopped S.tells S.written S.faults sink.old sink.new
+        (rule.now ++ (decimal first ++ (codes "," ++ (decimal second ++ codes ")"))))) }
+{
+    write_numbered(sink, rule, first, b"")?;
+    write_numbered(sink, b",", second, b")")?;
+    Ok(())
+}
+
+/// Writes the rule of a place and a term for its instance.
+fn write_instance<S: Sink>(
+    sink: &mut S,
+    sig: &Signature,
+    place: usize,
+    term: &Nf,
+) -> Result<(), Failed>
+    requires { HasNames (names_of sig.now.bases sig.now.consts) term.now }
+    ensures took { OnOk result (Took S.tells S.written S.faults sink.old sink.new
+        (codes "All+(" ++ (decimal place ++ (codes ";" ++ (term_text (named_term (names_of sig.now.bases sig.now.consts) term.now) ++ codes ")"))))) }
+    ensures stopped { OnErr result (Stopped S.tells S.written S.faults sink.old sink.new
+        (codes "All+(" ++ (decimal place ++ (codes ";" ++ (term_text (named_term (names_of sig.now.bases sig.now.consts) term.now) ++ codes ")"))))) }
+{
+    write_numbered(sink, b"All+(", place, b"")?;
+    write(sink, b";")?;
+    write_term(sink, sig, term)?;
+    write(sink, b")")?;
+    Ok(())
+}
+
+/// Writes a rule that takes a predicate.
+fn write_predicate<S: Sink>(
+    sink: &mut S,
+    sig: &Signature,
+    rule: &[u8],
+    predicate: &Nf,
+) -> Result<(), Failed>
+    requires { HasNames (names_of sig.now.bases sig.now.consts) predicate.now }
+    ensures took { OnOk result (Took S.tells S.written S.faults sink.old sink.new
+        (rule.now ++ (term_text (named_term (names_of sig.now.bases sig.now.consts) predicate.now) ++ codes ")"))) }
+    ensures stopped { OnErr result (Stopped S.tells S.written S.faults sink.old sink.new
+        (rule.now ++ (term_text (named_term (names_of sig.now.bases sig.now.consts) predicate.now) ++ codes ")"))) }
+{
+    write(sink, rule)?;
+    write_term(sink, sig, predicate)?;
+    write(sink, b")")?;
+    Ok(())
+}
+
+fn write_cut<S: Sink>(sink: &mut S, sig: &Signature, lit: &Lit) -> Result<(), Failed>
+    requires { HasNames (names_of sig.now.bases sig.now.consts) lit.now.atom }
+    ensures took { OnOk result (Took S.tells S.written S.faults sink.old sink.new
+        (codes "Cut(" ++ (literal_text (named_literal (names_of sig.now.bases sig.now.consts) lit.now) ++ codes ")"))) }
+    ensures stopped { OnErr result (Stopped S.tells S.written S.faults sink.old sink.new
+        (codes "Cut(" ++ (literal_text (named_literal (names_of sig.now.bases sig.now.consts) lit.now) ++ codes ")"))) }
+{
+    write(sink, b"Cut(")?;
+    write_literal(sink, sig, lit)?;
+    write(sink, b")")?;
+    Ok(())
+}
+
+/// Writes a rule.
+pub(crate) fn write_rule<S: Sink>(
+    sink: &mut S,
+    sig: &Signature,
+    rule: &RuleUse,
+) -> Result<(), Failed>
+    requires { HasRuleNames (names_of sig.now.bases sig.now.consts) rule.now }
+    ensures took { OnOk result (Took S.tells S.written S.faults sink.old sink.new
+        (rule_text (named_rule (names_of sig.now.bases sig.now.consts) rule.now))) }
+    ensures stopped { OnErr result (Stopped S.tells S.written S.faults sink.old sink.new
+        (rule_text (named_rule (names_of sig.now.bases sig.now.consts) rule.now))) }
+{
+    match rule {
+        RuleUse::False(i) => write_numbered(sink, b"False(", *i, b")")?,
+        RuleUse::Close(i, j) => write_two_places(sink, b"Close(", *i, *j)?,
+        RuleUse::Refl(i) => write_numbered(sink, b"Refl(", *i, b")")?,
+        RuleUse::ImpPos(i) => write_numbered(sink, b"Imp+(", *i, b")")?,
+        RuleUse::ImpNeg(i) => write_numbered(sink, b"Imp-(", *i, b")")?,
+        RuleUse::BoolPos(i) => write_numbered(sink, b"Bool+(", *i, b")")?,
+        RuleUse::BoolNeg(i) => write_numbered(sink, b"Bool-(", *i, b")")?,
+        RuleUse::FunPos(i) => write_numbered(sink, b"Fun+(", *i, b")")?,
+        RuleUse::FunNeg(i) => write_numbered(sink, b"Fun-(", *i, b")")?,
+        RuleUse::AllPos(i, term) => write_instance(sink, sig, *i, term)?,
+        RuleUse::AllNeg(i) => write_numbered(sink, b"All-(", *i, b")")?,
+        RuleUse::Mat(i, j) => write_two_places(sink, b"Mat(", *i, *j)?,
+        RuleUse::Dec(i) => write_numbered(sink, b"Dec(", *i, b")")?,
+        RuleUse::Con(i, j) => write_two_places(sink, b"Con(", *i, *j)?,
+        RuleUse::Cho(predicate) => write_predicate(sink, sig, b"Cho(", predicate)?,
+        RuleUse::Des(predicate) => write_predicate(sink, sig, b"Des(", predicate)?,
+        RuleUse::Cut(lit) => write_cut(sink, sig, lit)?,
+    }
+    Ok(())
+}

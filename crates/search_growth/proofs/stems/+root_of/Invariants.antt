@@ -1,4 +1,0 @@
-use Rattle.search_growth.proofs.stems.+root_of.Given as goal
-
-abbrev pub decreases-root_of : goal.decreases-root_of
-decreases-root_of l = l.p

@@ -1,5 +1,0 @@
-use Rattle.search_run.proofs.Rows.{all_runs, agree_runs, chosen_runs, described_runs, sym_runs, some_runs}
-use Rattle.search_run.proofs.law.examples_run.Goals as goal
-
-pub returns : goal.returns
-returns c = (all_runs, agree_runs, chosen_runs, described_runs, sym_runs, some_runs)

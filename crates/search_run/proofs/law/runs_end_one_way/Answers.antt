@@ -1,5 +1,0 @@
-use Rattle.search_run.proofs.ResultLaws.{one_result}
-use Rattle.search_run.proofs.law.runs_end_one_way.Goals as goal
-
-pub returns : goal.returns
-returns c = λ setting start r r' h h'. one_result setting start r r' h h'

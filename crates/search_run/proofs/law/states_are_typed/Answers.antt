@@ -1,5 +1,0 @@
-use Rattle.search_run.proofs.TypedCommands.{after-typed}
-use Rattle.search_run.proofs.law.states_are_typed.Goals as goal
-
-pub returns : goal.returns
-returns c = λ setting over start h n s e. after-typed setting over start h n s e

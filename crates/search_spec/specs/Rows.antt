@@ -1,0 +1,138 @@
+-- Worked examples: problems, and the commands of their runs.
+use Rattle.std.specs.Prelude.{◌≡◌, ℕ, List, [], ◌∷◌, drop, map, Some, option_map}
+use Rattle.stt_core.specs.SimpleType.{SimpleType, base, arrow, predicate}
+use Rattle.stt_core.specs.Lambda.{name, witness, falsity, choice, description, Lambda, bound, constant, lam, app, neg, imp, eq, every}
+use Rattle.tableau_calculus.specs.Literals.{Literal, plus, minus, opposite}
+use Rattle.search_spec.specs.Mode.{standard}
+use Rattle.search_spec.specs.Queue.{Waiting}
+use Rattle.search_spec.specs.State.{Setting, Command, process, mate, confront, inst, choose, describe}
+use Rattle.search_spec.specs.After.{started, after}
+use Rattle.search_spec.specs.Trace.{trace}
+
+abbrev pub i : SimpleType
+i = base 1
+
+abbrev pub named : ℕ → Lambda
+named k = constant (name k)
+
+abbrev pub one_setting : List SimpleType → Setting
+one_setting names = record { scope = record { bases = 0; names = names; witnesses = [] }; mode = standard }
+
+abbrev pub commands : List (Waiting Command) → List Command
+commands queue = map (λ q. q.command) queue
+
+abbrev pub dues : List (Waiting Command) → List (ℕ × ℕ)
+dues queue = map (λ q. (q.due, q.number)) queue
+
+-- `all.p`: a: $i > $o and c: $i, with ! [X] : a X and the conjecture a c
+abbrev pub all_setting : Setting
+all_setting = one_setting (predicate i ∷ i ∷ [])
+
+abbrev pub all_universal : Literal
+all_universal = plus (every i (lam i (app (named 0) (bound 0))))
+
+abbrev pub all_goal : Literal
+all_goal = minus (app (named 0) (named 1))
+
+abbrev pub default : Lambda
+default = app (constant (choice i)) (lam i (constant falsity))
+
+abbrev pub all_start : List Literal
+all_start = all_universal ∷ all_goal ∷ []
+
+abbrev pub all_commands : List Command
+all_commands =
+    process all_universal
+    ∷ process all_goal
+    ∷ inst all_universal default
+    ∷ process (plus (app (named 0) default))
+    ∷ mate (plus (app (named 0) default)) all_goal
+    ∷ process (minus (eq i default (named 1)))
+    ∷ choose i (lam i (constant falsity))
+    ∷ inst all_universal (named 1)
+    ∷ []
+
+-- two functions that agree everywhere, f and g: $i > $i
+abbrev pub agree_setting : Setting
+agree_setting = one_setting (arrow i i ∷ arrow i i ∷ [])
+
+abbrev pub agree_everywhere : Literal
+agree_everywhere = plus (every i (lam i (eq i (app (named 0) (bound 0)) (app (named 1) (bound 0)))))
+
+abbrev pub agree_goal : Literal
+agree_goal = minus (eq (arrow i i) (lam i (app (named 0) (bound 0))) (lam i (app (named 1) (bound 0))))
+
+-- what p holds of, p: $i > $o, is chosen by p
+abbrev pub chosen_setting : Setting
+chosen_setting = one_setting (predicate i ∷ [])
+
+abbrev pub p_of : Lambda
+p_of = lam i (app (named 0) (bound 0))
+
+abbrev pub some_p : Literal
+some_p = minus (every i (lam i (neg (app (named 0) (bound 0)))))
+
+abbrev pub p_of_chosen : Literal
+p_of_chosen = minus (app (named 0) (app (constant (choice i)) p_of))
+
+-- p: $i > $o holds of something, and of nothing else, and the conjecture is that it holds of what it describes
+abbrev pub p_at : Lambda → Lambda
+p_at t = app (named 0) t
+
+abbrev pub only_p : Literal
+only_p = plus (every i (lam i (every i (lam i (imp (p_at (bound 1)) (imp (p_at (bound 0)) (eq i (bound 1) (bound 0))))))))
+
+abbrev pub p_of_described : Literal
+p_of_described = minus (p_at (app (constant (description i)) p_of))
+
+abbrev pub described_start : List Literal
+described_start = some_p ∷ only_p ∷ p_of_described ∷ []
+
+-- a = b, and the conjecture b = a
+abbrev pub sym_setting : Setting
+sym_setting = one_setting (i ∷ i ∷ [])
+
+abbrev pub a_is_b : Literal
+a_is_b = plus (eq i (named 0) (named 1))
+
+abbrev pub b_is_not_a : Literal
+b_is_not_a = minus (eq i (named 1) (named 0))
+
+-- c: $i, and the conjecture that something holds of it
+abbrev pub some_setting : Setting
+some_setting = one_setting (i ∷ [])
+
+abbrev pub none_holds : Literal
+none_holds = plus (every (predicate i) (lam (predicate i) (neg (app (bound 0) (named 0)))))
+
+abbrev pub AllRuns : Type 0
+AllRuns =
+    (commands (trace all_setting 8 (Some (started all_setting all_start))) ≡ all_commands)
+    × (dues (trace all_setting 8 (Some (started all_setting all_start))) ≡ (0, 0) ∷ (0, 1) ∷ (2, 2) ∷ (3, 3) ∷ (5, 4) ∷ (5, 6) ∷ (6, 5) ∷ (7, 7) ∷ [])
+
+-- the second command's clause denies what the first literal says, so that the clauses are unsatisfiable
+abbrev pub AgreeRuns : Type 0
+AgreeRuns =
+    (commands (trace agree_setting 2 (Some (started agree_setting (agree_everywhere ∷ agree_goal ∷ [])))) ≡ process agree_everywhere ∷ process agree_goal ∷ [])
+    × (option_map (λ s. s.clauses) (after agree_setting (agree_everywhere ∷ agree_goal ∷ []) 2) ≡ Some ((agree_everywhere ∷ []) ∷ (agree_goal ∷ []) ∷ (opposite agree_goal ∷ opposite agree_everywhere ∷ []) ∷ []))
+
+abbrev pub ChosenRuns : Type 0
+ChosenRuns =
+    commands (trace chosen_setting 4 (Some (started chosen_setting (some_p ∷ p_of_chosen ∷ []))))
+    ≡ process some_p ∷ process p_of_chosen ∷ process (plus (app (named 0) (constant (witness 0)))) ∷ choose i p_of ∷ []
+
+-- the sixth command's clause denies what the three literals say, so that the clauses are unsatisfiable
+abbrev pub DescribedRuns : Type 0
+DescribedRuns =
+    (commands (trace chosen_setting 6 (Some (started chosen_setting described_start))) ≡ process some_p ∷ process only_p ∷ process p_of_described ∷ process (plus (p_at (constant (witness 0)))) ∷ inst only_p default ∷ describe i p_of ∷ [])
+    × (option_map (λ s. drop 5 s.clauses) (after chosen_setting described_start 6) ≡ Some ((opposite some_p ∷ opposite only_p ∷ opposite p_of_described ∷ []) ∷ []))
+
+abbrev pub SymRuns : Type 0
+SymRuns =
+    commands (trace sym_setting 6 (Some (started sym_setting (a_is_b ∷ b_is_not_a ∷ []))))
+    ≡ process a_is_b ∷ process b_is_not_a ∷ confront a_is_b b_is_not_a ∷ process (minus (eq i (named 0) (named 1))) ∷ process (minus (eq i (named 1) (named 1))) ∷ process (minus (eq i (named 0) (named 0))) ∷ []
+
+abbrev pub SomeRuns : Type 0
+SomeRuns =
+    (dues (trace some_setting 28 (Some (started some_setting (none_holds ∷ [])))) ≡ (0, 0) ∷ (5, 1) ∷ (3, 7) ∷ (3, 8) ∷ (5, 2) ∷ (5, 3) ∷ (5, 4) ∷ (5, 5) ∷ (5, 6) ∷ (9, 9) ∷ (9, 10) ∷ (9, 11) ∷ (9, 12) ∷ (9, 13) ∷ (9, 14) ∷ (10, 15) ∷ (10, 16) ∷ (10, 17) ∷ (10, 18) ∷ (10, 19) ∷ (10, 20) ∷ (11, 21) ∷ (11, 22) ∷ (11, 23) ∷ (11, 24) ∷ (11, 25) ∷ (11, 26) ∷ (11, 36) ∷ [])
+    × (option_map (λ s. s.clauses) (after some_setting (none_holds ∷ []) 28) ≡ Some ((none_holds ∷ []) ∷ (opposite none_holds ∷ minus (constant falsity) ∷ []) ∷ (opposite none_holds ∷ plus (constant falsity) ∷ []) ∷ []))

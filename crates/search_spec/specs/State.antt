@@ -1,0 +1,74 @@
+-- The state of the search (Brown, Reducing higher-order theorem proving to a sequence of SAT problems, 2013).
+use Rattle.std.specs.Prelude.{ℕ, ◌+◌, ◌++◌, length, List}
+use Rattle.stt_core.specs.SimpleType.{SimpleType}
+use Rattle.stt_core.specs.Lambda.{Lambda}
+use Rattle.stt_core.specs.Typing.{Scope}
+use Rattle.tableau_calculus.specs.Literals.{Literal}
+use Rattle.tableau_calculus.specs.Witnesses.{Row, with_rows}
+use Rattle.search_spec.specs.Unsatisfiable.{Clause}
+use Rattle.search_spec.specs.Mode.{Mode}
+use Rattle.search_spec.specs.Partial.{Partial}
+use Rattle.search_spec.specs.Queue.{Waiting, waiting}
+
+-- what a run is given: what is declared, and how long commands wait
+pub record Setting : Type 0 where
+  pub scope : Scope
+  pub mode : Mode
+
+-- a term of a type, to instantiate quantifiers over the type with
+pub record Typed : Type 0 where
+  pub type : SimpleType
+  pub term : Lambda
+
+-- a partial term of a type
+pub record Sketch : Type 0 where
+  pub type : SimpleType
+  pub partial : Partial
+
+-- A command: a literal is processed, opposite literals are mated, an equation is confronted with the negation of one, a universal literal
+-- is instantiated with a term, a predicate on a type is chosen by, one is described, a partial term's first hole is filled with a head.
+pub data Command : Type 0 where
+  process : Literal → Command
+  mate : Literal → Literal → Command
+  confront : Literal → Literal → Command
+  inst : Literal → Lambda → Command
+  choose : SimpleType → Lambda → Command
+  describe : SimpleType → Lambda → Command
+  grow : Sketch → Lambda → Command
+
+-- The clauses, the literals that were seen and those that were processed, the terms for instances, the predicates that were chosen by
+-- and those that were described, the witness table, the partial terms, the commands that wait, and how many commands were pushed and done so far.
+pub record State : Type 0 where
+  pub clauses : List Clause
+  pub seen : List Literal
+  pub noted : List Literal
+  pub terms : List Typed
+  pub chosen : List Lambda
+  pub described : List Lambda
+  pub rows : List Row
+  pub parked : List Sketch
+  pub queue : List (Waiting Command)
+  pub pushes : ℕ
+  pub done : ℕ
+
+-- How long a command waits. A choice and a description wait equally long.
+abbrev pub delay : Mode → Command → ℕ
+delay mode (process l) = mode.process
+delay mode (mate l m) = mode.mate
+delay mode (confront l m) = mode.confront
+delay mode (inst l u) = mode.inst
+delay mode (choose a f) = mode.choose
+delay mode (describe a f) = mode.choose
+delay mode (grow p h) = mode.grow
+
+-- the moment at which a command is due that is pushed at a moment
+abbrev pub due : Mode → ℕ → Command → ℕ
+due mode now c = now + delay mode c
+
+-- the state with commands pushed
+abbrev pub pushed : Mode → List Command → State → State
+pushed mode cs s = record s { queue = s.queue ++ waiting (due mode s.done) s.pushes cs; pushes = s.pushes + length cs }
+
+-- what is declared, with the witnesses so far
+abbrev pub scope_in : Setting → State → Scope
+scope_in setting s = with_rows setting.scope s.rows

@@ -1,2 +1,0 @@
-pub mod SmallRows
-pub mod Means

@@ -1,2 +1,0 @@
--- Means of proof: what private contracts and proofs speak of.
-pub mod Within

@@ -1,5 +1,0 @@
-use Rattle.stt_normal.proofs.ApplyLaws.{replace-head}
-use Rattle.stt_normal.proofs.law.arguments_are_replaced_first.Goals as goal
-
-pub returns : goal.returns
-returns c = λ scope front ctx a r us h fit. replace-head scope front ctx a r us h fit

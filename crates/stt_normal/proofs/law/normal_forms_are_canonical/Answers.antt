@@ -1,6 +1,0 @@
-use Rattle.stt_normal.proofs.NormalValues.{canonical-normal_form}
-use Rattle.stt_normal.proofs.law.normal_forms_are_canonical.Goals as goal
-
-pub returns : goal.returns
-returns c =
-    λ scope ctx t ready. canonical-normal_form scope ready.scope_declared ctx ready.type t ready.ctx_declared ready.has_type

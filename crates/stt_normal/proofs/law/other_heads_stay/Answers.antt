@@ -1,5 +1,0 @@
-use Rattle.stt_normal.proofs.ApplyLaws.{replace-other_head}
-use Rattle.stt_normal.proofs.law.other_heads_stay.Goals as goal
-
-pub returns : goal.returns
-returns c = λ a k j r us n. replace-other_head a k j r us n

@@ -1,5 +1,0 @@
-use Rattle.stt_core.specs.Lambda.{node_count}
-use Rattle.stt_normal_rows.proofs.notation.+write_nf.Given as goal
-
-abbrev pub decreases-write_nf : goal.decreases-write_nf
-decreases-write_nf l = node_count l.nf.now

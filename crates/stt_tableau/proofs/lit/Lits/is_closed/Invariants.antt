@@ -1,7 +1,0 @@
-use Rattle.std.proofs.Common.{take, Contains}
-use Rattle.stt_tableau.specs.Literals.{opposite}
-use Rattle.stt_tableau.proofs.ListLaws.{Each}
-use Rattle.stt_tableau.proofs.lit.Lits.is_closed.Given as goal
-
-abbrev pub invariant-loop-i : goal.invariant-loop-i
-invariant-loop-i l = Each (λ k. Contains l.self (opposite k) → ⊥) (take l.i l.self)

@@ -1,6 +1,0 @@
-use Rattle.std.proofs.Common.{take, Contains}
-use Rattle.stt_tableau.proofs.ListLaws.{Each}
-use Rattle.stt_tableau.proofs.lit.Lits.is_within.Given as goal
-
-abbrev pub invariant-loop-i : goal.invariant-loop-i
-invariant-loop-i l = Each (Contains l.other) (take l.i l.self)

@@ -1,4 +1,0 @@
--- Means of proof: what private contracts and proofs speak of.
-pub mod Answers
-pub mod Instances
-pub mod Heads

@@ -1,5 +1,0 @@
-use Rattle.table_rows.specs.Sound.{IsSound}
-use Rattle.table_rows.proofs.answer.write_numbers.Given as goal
-
-abbrev pub invariant-loop-word : goal.invariant-loop-word
-invariant-loop-word l = IsSound l.tables

@@ -1,5 +1,0 @@
-use Rattle.std.proofs.Common.{length}
-use Rattle.table_rows.proofs.scope.signature.Goals as goal
-
-pub returns : goal.returns
-returns c = c.in_ok-declare.ensures (length c.new-sig.result.bases)

@@ -1,5 +1,0 @@
-use Rattle.mating_rules.specs.Noted.{IsRight}
-use Rattle.table_rows.proofs.tables.Tables.write_noted.Given as goal
-
-abbrev pub invariant-loop-lit : goal.invariant-loop-lit
-invariant-loop-lit l = IsRight l.self.bank.terms l.self.lits l.index

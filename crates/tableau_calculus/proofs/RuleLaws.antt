@@ -1,0 +1,145 @@
+-- Each rule keeps a model.
+use Rattle.std.proofs.Common.{◌≡◌, ℕ, zero, suc, ◌<◌, List, [], ◌∷◌, Some, slice_get, map, refl, sym, ap, ◌∙◌, true, nat_eq, if◌then◌else◌, ◌⊎◌, inl, inr, ⊎_elim, arith}
+use Rattle.stt_core.specs.SimpleType.{SimpleType, is_declared, base, arrow, formula}
+use Rattle.stt_core.specs.Lambda.{witness, Lambda, constant, imp, applied}
+use Rattle.stt_core.specs.Typing.{Scope}
+use Rattle.stt_core.specs.Canonical.{IsCanonical}
+use Rattle.stt_core.specs.Meaning.{Model, value, IsModel}
+use Rattle.stt_core.proofs.TypeLaws.{type_of-canonical}
+use Rattle.stt_core.specs.Digits.{entry}
+use Rattle.stt_core.proofs.ValueLaws.{value-lt}
+use Rattle.stt_core.proofs.ConstantValues.{value-imp, bit}
+use Rattle.tableau_calculus.specs.Literals.{Literal, IsBranch}
+use Rattle.tableau_calculus.specs.Meets.{MeetsBranch, MeetsOne}
+use Rattle.tableau_calculus.specs.Witnesses.{Row}
+use Rattle.tableau_calculus.specs.Rules.{Rule, false_rule, close_rule, refl_rule, imp_pos_rule, imp_neg_rule, bool_pos_rule, bool_neg_rule, fun_pos_rule, fun_neg_rule, all_pos_rule, all_neg_rule, mat_rule, dec_rule, con_rule, cho_rule, des_rule, cut_rule, agreement, nowhere, chosen, at_most_once, described}
+use Rattle.tableau_calculus.specs.declared.refutation.RuleUse.{RuleUse}
+use Rattle.tableau_calculus.proofs.LiteralLaws.{imp_canonical, value-bit, as_literal-says, literal_or_opposite, not_both}
+use Rattle.normal_forms.specs.Normal.{eta, apply}
+use Rattle.normal_forms.proofs.NormalValues.{canonical-eta, value-eta}
+use Rattle.tableau_calculus.specs.Along.{GoesAlong}
+use Rattle.tableau_calculus.proofs.FunctionLaws.{every_canonical, canonical-agreement, canonical-nowhere, canonical-chosen, canonical-at_most_once, canonical-described, canonical-applied, value-applied, value-every-canonical, value-agreement, value-chosen, value-described}
+use Rattle.tableau_calculus.proofs.DecompositionLaws.{arguments_taken, differ_one}
+use Rattle.tableau_calculus.proofs.EquationLaws.{eq_canonical, same_or_not, met-eq, met-differ, meets-differ}
+
+-- the type of a witness is that of its row
+witness_typed : (scope : Scope) (rows : List Row) → scope.witnesses ≡ map (λ r. r.type) rows → (k : ℕ) (r : Row) → slice_get rows k ≡ Some r → slice_get scope.witnesses k ≡ Some r.type
+witness_typed scope rows e k r h = ap (λ ws. slice_get ws k) e ∙ typed_at rows k h
+  where
+    typed_at : (rows : List Row) (k : ℕ) → slice_get rows k ≡ Some r → slice_get (map (λ q. q.type) rows) k ≡ Some r.type
+    typed_at [] k h = cc
+    typed_at (q ∷ rows) zero h = let same : q ≡ r = cc in ap (λ x. Some x.type) same
+    typed_at (q ∷ rows) (suc k) h = typed_at rows k h
+
+pub canonical-witness : (scope : Scope) (rows : List Row) → scope.witnesses ≡ map (λ r. r.type) rows → (k : ℕ) (a : SimpleType) (f : Lambda) → slice_get rows k ≡ Some (record { type = a; predicate = f }) → is_declared scope.bases a ≡ true → IsCanonical scope [] a (eta a (constant (witness k)))
+canonical-witness scope rows e k a f h d = canonical-eta scope [] a (constant (witness k)) d (witness_typed scope rows e k (record { type = a; predicate = f }) h)
+
+imp_one : (x y : ℕ) → x < 2 → (if nat_eq x 1 then y else 1) ≡ 1 → (x ≡ 0) ⊎ (y ≡ 1)
+imp_one zero y h e = inl refl
+imp_one (suc zero) y h e = inr e
+imp_one (suc (suc x)) y h e = absurd (omega arith)
+
+imp_zero : (x y : ℕ) → x < 2 → (if nat_eq x 1 then y else 1) ≡ 0 → (x ≡ 1) × (y ≡ 0)
+imp_zero zero y h e = absurd (omega arith)
+imp_zero (suc zero) y h e = (refl, e)
+imp_zero (suc (suc x)) y h e = absurd (omega arith)
+
+module _ (scope : Scope) (m : Model) (good : IsModel scope m) where
+  value-imp-canonical : (s t : Lambda) → IsCanonical scope [] formula (imp s t) → value scope m [] [] (imp s t) ≡ (if nat_eq (value scope m [] [] s) 1 then value scope m [] [] t else 1)
+  value-imp-canonical s t h =
+      let sides = imp_canonical scope s t h in
+      value-imp scope m good [] [] tt s t (type_of-canonical scope [] formula s sides.0) (type_of-canonical scope [] formula t sides.1)
+
+  -- a model that meets the principals of a rule meets one whole alternative
+  pub rule_keeps : (rows : List Row) → scope.witnesses ≡ map (λ r. r.type) rows → GoesAlong scope m rows → (rule : RuleUse) (principals : List Literal) (alternatives : List (List Literal)) → Rule scope rows rule principals alternatives → IsBranch scope principals → MeetsBranch scope m principals → MeetsOne scope m alternatives
+  rule_keeps rows types along _ _ _ (false_rule i) typed met = absurd (omega (arith, met.0))
+  rule_keeps rows types along _ _ _ (close_rule i j l) typed met = not_both scope m l met.0 met.1.0
+  rule_keeps rows types along _ _ _ (imp_pos_rule i s t) typed met =
+      let sides = imp_canonical scope s t typed.0.formula in
+      let v = imp_one (value scope m [] [] s) (value scope m [] [] t) (value-bit scope m good s sides.0) (sym (value-imp-canonical s t typed.0.formula) ∙ met.0) in
+      ⊎_elim (λ e. inl ((as_literal-says scope m good s sides.0).at_zero e, tt)) (λ e. inr (inl ((as_literal-says scope m good t sides.1).at_one e, tt))) v
+  rule_keeps rows types along _ _ _ (imp_neg_rule i s t) typed met =
+      let sides = imp_canonical scope s t typed.0.formula in
+      let v = imp_zero (value scope m [] [] s) (value scope m [] [] t) (value-bit scope m good s sides.0) (sym (value-imp-canonical s t typed.0.formula) ∙ met.0) in
+      inl ((as_literal-says scope m good s sides.0).at_one v.0, ((as_literal-says scope m good t sides.1).at_zero v.1, tt))
+  rule_keeps rows types along _ _ _ (refl_rule i a s) typed met = met-differ scope m good a s s (eq_canonical scope a s s typed.0.formula) met.0 refl
+  rule_keeps rows types along _ _ _ (bool_pos_rule i s t) typed met =
+      let sides = eq_canonical scope formula s t typed.0.formula in
+      let v = met-eq scope m good formula s t sides met.0 in
+      let p = as_literal-says scope m good s sides.left in
+      let q = as_literal-says scope m good t sides.right in
+      ⊎_elim
+      (λ z. inr (inl (p.at_zero z, (q.at_zero (sym v ∙ z), tt))))
+      (λ o. inl (p.at_one o, (q.at_one (sym v ∙ o), tt)))
+      (bit (value scope m [] [] s) (value-bit scope m good s sides.left))
+  rule_keeps rows types along _ _ _ (bool_neg_rule i s t) typed met =
+      let sides = eq_canonical scope formula s t typed.0.formula in
+      let apart = met-differ scope m good formula s t sides met.0 in
+      let p = as_literal-says scope m good s sides.left in
+      let q = as_literal-says scope m good t sides.right in
+      let bt = bit (value scope m [] [] t) (value-bit scope m good t sides.right) in
+      ⊎_elim
+      (λ z. ⊎_elim (λ y. absurd (apart (z ∙ sym y))) (λ o. inr (inl (p.at_zero z, (q.at_one o, tt)))) bt)
+      (λ o. ⊎_elim (λ z. inl (p.at_one o, (q.at_zero z, tt))) (λ y. absurd (apart (o ∙ sym y))) bt)
+      (bit (value scope m [] [] s) (value-bit scope m good s sides.left))
+  rule_keeps rows types along _ _ _ (fun_pos_rule i a b s t) typed met =
+      let sides = eq_canonical scope (arrow a b) s t typed.0.formula in
+      let v = met-eq scope m good (arrow a b) s t sides met.0 in
+      inl ((as_literal-says scope m good (agreement a b s t) (canonical-agreement scope a b s t sides)).at_one ((value-agreement scope m good a b s t sides).1 v), tt)
+  rule_keeps rows types along _ _ _ (fun_neg_rule i a b s t) typed met =
+      let sides = eq_canonical scope (arrow a b) s t typed.0.formula in
+      let apart = met-differ scope m good (arrow a b) s t sides met.0 in
+      let c = canonical-agreement scope a b s t sides in
+      let zero_there : value scope m [] [] (agreement a b s t) ≡ 0 = ⊎_elim (λ z. z) (λ o. absurd (apart ((value-agreement scope m good a b s t sides).0 o))) (bit (value scope m [] [] (agreement a b s t)) (value-bit scope m good (agreement a b s t) c)) in
+      inl ((as_literal-says scope m good (agreement a b s t) c).at_zero zero_there, tt)
+  rule_keeps rows types along _ _ _ (all_pos_rule i a f u c) typed met =
+      let e = every_canonical scope a f typed.0.formula in
+      let o = (value-every-canonical scope m good a f e.0 e.1).0 met.0 (value scope m [] [] u) (value-lt scope m good [] [] a u (type_of-canonical scope [] a u c) tt) in
+      inl ((as_literal-says scope m good (apply f u) (canonical-applied scope a f u e.1 c)).at_one (value-applied scope m good a f u e.1 c ∙ o), tt)
+  rule_keeps rows types along _ _ _ (all_neg_rule i k a f g) typed met =
+      let e = every_canonical scope a f typed.0.formula in
+      let w = eta a (constant (witness k)) in
+      let c = canonical-witness scope rows types k a f g e.0 in
+      let z = (value-every-canonical scope m good a f e.0 e.1).1 met.0 in
+      let o = along.at_witness k (record { type = a; predicate = f }) g z.0 z.1 z.2 in
+      let v : value scope m [] [] (eta a (constant (witness k))) ≡ m.witness_values k = value-eta scope m good [] [] a (constant (witness k)) e.0 tt (witness_typed scope rows types k (record { type = a; predicate = f }) g) in
+      inl ((as_literal-says scope m good (apply f (eta a (constant (witness k)))) (canonical-applied scope a f (eta a (constant (witness k))) e.1 c)).at_zero (value-applied scope m good a f (eta a (constant (witness k))) e.1 c ∙ ap (entry 2 (value scope m [] [] f)) v ∙ o), tt)
+  rule_keeps rows types along _ _ _ (cho_rule a f c) typed met =
+      let n = canonical-nowhere scope a f c in
+      let k = canonical-applied scope a f (chosen a f) c (canonical-chosen scope a f c) in
+      ⊎_elim
+      (λ z. inr (inl ((as_literal-says scope m good (apply f (chosen a f)) k).at_one (value-chosen scope m good a f c z), tt)))
+      (λ o. inl ((as_literal-says scope m good (nowhere a f) n).at_one o, tt))
+      (bit (value scope m [] [] (nowhere a f)) (value-bit scope m good (nowhere a f) n))
+  rule_keeps rows types along _ _ _ (des_rule a f c) typed met =
+      let n = canonical-nowhere scope a f c in
+      let u = canonical-at_most_once scope a f c in
+      let k = canonical-applied scope a f (described a f) c (canonical-described scope a f c) in
+      ⊎_elim
+      (λ z. inr (⊎_elim
+      (λ v. inl ((as_literal-says scope m good (at_most_once a f) u).at_zero v, tt))
+      (λ o. inr (inl ((as_literal-says scope m good (apply f (described a f)) k).at_one (value-described scope m good a f c z o), tt)))
+      (bit (value scope m [] [] (at_most_once a f)) (value-bit scope m good (at_most_once a f) u))))
+      (λ o. inl ((as_literal-says scope m good (nowhere a f) n).at_one o, tt))
+      (bit (value scope m [] [] (nowhere a f)) (value-bit scope m good (nowhere a f) n))
+  rule_keeps rows types along _ _ _ (mat_rule i j c a s t ss ts d e) typed met =
+      differ_one scope m good a formula (constant c) (constant c) (s ∷ ss) (t ∷ ts) tt e e refl (arguments_taken scope c a s ss formula e typed.0.formula) (arguments_taken scope c a t ts formula e typed.1.0.formula)
+      (λ k. absurd (omega (arith, met.0, met.1.0, k)))
+  rule_keeps rows types along _ _ _ (dec_rule i n c a s t ss ts d e) typed met =
+      let b = base (suc n) in
+      let sides = eq_canonical scope b (applied (constant c) (s ∷ ss)) (applied (constant c) (t ∷ ts)) typed.0.formula in
+      differ_one scope m good a b (constant c) (constant c) (s ∷ ss) (t ∷ ts) tt e e refl (arguments_taken scope c a s ss b e sides.left) (arguments_taken scope c a t ts b e sides.right)
+      (met-differ scope m good b (applied (constant c) (s ∷ ss)) (applied (constant c) (t ∷ ts)) sides met.0)
+  rule_keeps rows types along _ _ _ (con_rule i j n s t u v) typed met =
+      let b = base (suc n) in
+      let e = eq_canonical scope b s t typed.0.formula in
+      let g = eq_canonical scope b u v typed.1.0.formula in
+      let st = met-eq scope m good b s t e met.0 in
+      let uv = met-differ scope m good b u v g met.1.0 in
+      let d = λ (x y : Lambda) (p : IsCanonical scope [] b x) (q : IsCanonical scope [] b y). meets-differ scope m good b x y (record { declared = e.declared; left = p; right = q }) in
+      ⊎_elim
+      (λ c. inr (inl (d s v e.left g.right (λ k. uv (sym c ∙ k)), (d t v e.right g.right (λ k. uv (sym c ∙ st ∙ k)), tt))))
+      (λ apart. inl (d s u e.left g.left apart, (d t u e.right g.left (λ k. apart (st ∙ k)), tt)))
+      (same_or_not (value scope m [] [] s) (value scope m [] [] u))
+  rule_keeps rows types along _ _ _ (cut_rule l is_literal) typed met =
+      ⊎_elim (λ k. inl (k, tt)) (λ k. inr (inl (k, tt))) (literal_or_opposite scope m good l is_literal)

@@ -1,0 +1,13 @@
+pub mod Literals
+pub mod Witnesses
+pub mod Rules
+pub mod Along
+pub mod Accepted
+pub mod Closed
+pub mod Meets
+pub mod Laws
+pub mod Start
+pub mod Shape
+pub mod Checks
+pub mod Refused
+pub mod Internal

@@ -1,0 +1,118 @@
+-- The rules of the calculus (Brown and Smolka 2010, section 4; Backes and Brown, Analytic tableaux for higher-order logic with choice,
+-- 2011, section 3). The rule for descriptions and the cut are this project's own.
+use Rattle.std.specs.Prelude.{◌≡◌, ℕ, suc, List, [], ◌∷◌, Some, slice_get}
+use Rattle.stt_core.specs.SimpleType.{SimpleType, base, arrow, formula, predicate}
+use Rattle.stt_core.specs.Lambda.{Constant, name, witness, falsity, negation, implication, all, equality, choice, description, Lambda, bound, constant, lam, app, neg, imp, eq, every, applied}
+use Rattle.stt_core.specs.Typing.{Scope, constant_type}
+use Rattle.stt_core.specs.Canonical.{IsCanonical}
+use Rattle.stt_core.specs.Lift.{lift}
+use Rattle.normal_forms.specs.Normal.{eta, apply}
+use Rattle.tableau_calculus.specs.Literals.{Literal, plus, minus, opposite, as_literal, IsLiteral}
+use Rattle.tableau_calculus.specs.Witnesses.{Row}
+use Rattle.tableau_calculus.specs.declared.refutation.RuleUse.{RuleUse}
+use Rattle.tableau_calculus.specs.declared.refutation.RuleUse.TheVariants.{False, Close, Refl, ImpPos, ImpNeg, BoolPos, BoolNeg, FunPos, FunNeg, AllPos, AllNeg, Mat, Dec, Con, Cho, Des, Cut}
+
+-- what a function gives at a new variable of this type, which is its argument type
+abbrev pub at_new : SimpleType → Lambda → Lambda
+at_new a f = apply (lift 0 f) (eta a (bound 0))
+
+-- the formula that two functions from the first type to the second agree everywhere
+abbrev pub agreement : SimpleType → SimpleType → Lambda → Lambda → Lambda
+agreement a b s t = every a (lam a (eq b (at_new a s) (at_new a t)))
+
+-- the formula that a predicate on a type holds nowhere
+abbrev pub nowhere : SimpleType → Lambda → Lambda
+nowhere a f = every a (lam a (neg (at_new a f)))
+
+-- what is chosen by a predicate on a type
+abbrev pub chosen : SimpleType → Lambda → Lambda
+chosen a f = eta a (app (constant (choice a)) f)
+
+-- what a predicate on a type gives at the outer and at the inner one of two new variables
+abbrev pub at_outer : SimpleType → Lambda → Lambda
+at_outer a f = lift 0 (at_new a f)
+
+abbrev pub at_inner : SimpleType → Lambda → Lambda
+at_inner a f = at_new a (lift 0 f)
+
+-- the formula that a predicate on a type holds of one value at most: of two of which it holds each is the other
+abbrev pub at_most_once : SimpleType → Lambda → Lambda
+at_most_once a f =
+    every a (lam a (every a (lam a (imp (at_outer a f) (imp (at_inner a f) (eq a (eta a (bound 1)) (eta a (bound 0))))))))
+
+-- what a predicate on a type describes: the value of which alone it holds
+abbrev pub described : SimpleType → Lambda → Lambda
+described a f = eta a (app (constant (description a)) f)
+
+-- a constant whose arguments are compared: a name, a witness, or the choice from a type or a description of its values
+abbrev pub IsDecomposed : Constant → Type 0
+IsDecomposed (name k) = Unit {0}
+IsDecomposed (witness k) = Unit {0}
+IsDecomposed (choice a) = Unit {0}
+IsDecomposed (description a) = Unit {0}
+IsDecomposed falsity = ⊥
+IsDecomposed negation = ⊥
+IsDecomposed implication = ⊥
+IsDecomposed (all a) = ⊥
+IsDecomposed (equality a) = ⊥
+
+-- for each argument of a function of this type, first one first, the alternative that the two there differ
+abbrev pub differ_each : SimpleType → List Lambda → List Lambda → List (List Literal)
+differ_each (base n) ss ts = []
+differ_each (arrow a b) [] ts = []
+differ_each (arrow a b) (s ∷ ss) [] = []
+differ_each (arrow a b) (s ∷ ss) (t ∷ ts) = (minus (eq a s t) ∷ []) ∷ differ_each b ss ts
+
+-- The table: a rule with what it takes, its principals, and its alternatives. A branch that holds the principals is met only by models
+-- that meet a whole alternative too. A base type whose number is a successor is one other than that of formulas.
+pub data Rule (scope : Scope) (rows : List Row) : RuleUse → List Literal → List (List Literal) → Type 0 where
+  false_rule : (i : ℕ) → Rule scope rows (False i) (plus (constant falsity) ∷ []) []
+  close_rule : (i j : ℕ) (l : Literal) → Rule scope rows (Close i j) (l ∷ opposite l ∷ []) []
+  refl_rule : (i : ℕ) (a : SimpleType) (s : Lambda) → Rule scope rows (Refl i) (minus (eq a s s) ∷ []) []
+  imp_pos_rule : (i : ℕ) (s t : Lambda) → Rule scope rows (ImpPos i) (plus (imp s t) ∷ []) ((opposite (as_literal s) ∷ []) ∷ (as_literal t ∷ []) ∷ [])
+  imp_neg_rule : (i : ℕ) (s t : Lambda) → Rule scope rows (ImpNeg i) (minus (imp s t) ∷ []) ((as_literal s ∷ opposite (as_literal t) ∷ []) ∷ [])
+  bool_pos_rule : (i : ℕ) (s t : Lambda) → Rule scope rows (BoolPos i) (plus (eq formula s t) ∷ []) ((as_literal s ∷ as_literal t ∷ []) ∷ (opposite (as_literal s) ∷ opposite (as_literal t) ∷ []) ∷ [])
+  bool_neg_rule : (i : ℕ) (s t : Lambda) → Rule scope rows (BoolNeg i) (minus (eq formula s t) ∷ []) ((as_literal s ∷ opposite (as_literal t) ∷ []) ∷ (opposite (as_literal s) ∷ as_literal t ∷ []) ∷ [])
+  fun_pos_rule : (i : ℕ) (a b : SimpleType) (s t : Lambda) → Rule scope rows (FunPos i) (plus (eq (arrow a b) s t) ∷ []) ((as_literal (agreement a b s t) ∷ []) ∷ [])
+  fun_neg_rule : (i : ℕ) (a b : SimpleType) (s t : Lambda) → Rule scope rows (FunNeg i) (minus (eq (arrow a b) s t) ∷ []) ((opposite (as_literal (agreement a b s t)) ∷ []) ∷ [])
+  all_pos_rule : (i : ℕ) (a : SimpleType) (f u : Lambda) → IsCanonical scope [] a u → Rule scope rows (AllPos i u) (plus (every a f) ∷ []) ((as_literal (apply f u) ∷ []) ∷ [])
+  all_neg_rule : (i k : ℕ) (a : SimpleType) (f : Lambda) → slice_get rows k ≡ Some (record { type = a; predicate = f }) → Rule scope rows (AllNeg i) (minus (every a f) ∷ []) ((opposite (as_literal (apply f (eta a (constant (witness k))))) ∷ []) ∷ [])
+  mat_rule : (i j : ℕ) (c : Constant) (a : SimpleType) (s t : Lambda) (ss ts : List Lambda) → IsDecomposed c → constant_type scope c ≡ Some a → Rule scope rows (Mat i j) (plus (applied (constant c) (s ∷ ss)) ∷ minus (applied (constant c) (t ∷ ts)) ∷ []) (differ_each a (s ∷ ss) (t ∷ ts))
+  dec_rule : (i n : ℕ) (c : Constant) (a : SimpleType) (s t : Lambda) (ss ts : List Lambda) → IsDecomposed c → constant_type scope c ≡ Some a → Rule scope rows (Dec i) (minus (eq (base (suc n)) (applied (constant c) (s ∷ ss)) (applied (constant c) (t ∷ ts))) ∷ []) (differ_each a (s ∷ ss) (t ∷ ts))
+  con_rule : (i j n : ℕ) (s t u v : Lambda) → Rule scope rows (Con i j) (plus (eq (base (suc n)) s t) ∷ minus (eq (base (suc n)) u v) ∷ []) ((minus (eq (base (suc n)) s u) ∷ minus (eq (base (suc n)) t u) ∷ []) ∷ (minus (eq (base (suc n)) s v) ∷ minus (eq (base (suc n)) t v) ∷ []) ∷ [])
+  cho_rule : (a : SimpleType) (f : Lambda) → IsCanonical scope [] (predicate a) f → Rule scope rows (Cho f) [] ((as_literal (nowhere a f) ∷ []) ∷ (as_literal (apply f (chosen a f)) ∷ []) ∷ [])
+  des_rule : (a : SimpleType) (f : Lambda) → IsCanonical scope [] (predicate a) f → Rule scope rows (Des f) [] ((as_literal (nowhere a f) ∷ []) ∷ (opposite (as_literal (at_most_once a f)) ∷ []) ∷ (as_literal (apply f (described a f)) ∷ []) ∷ [])
+  cut_rule : (l : Literal) → IsLiteral scope l → Rule scope rows (Cut l) [] ((l ∷ []) ∷ (opposite l ∷ []) ∷ [])
+
+-- the places of the principals in the branch
+abbrev pub places : RuleUse → List ℕ
+places (False i) = i ∷ []
+places (Close i j) = i ∷ j ∷ []
+places (Refl i) = i ∷ []
+places (ImpPos i) = i ∷ []
+places (ImpNeg i) = i ∷ []
+places (BoolPos i) = i ∷ []
+places (BoolNeg i) = i ∷ []
+places (FunPos i) = i ∷ []
+places (FunNeg i) = i ∷ []
+places (AllPos i u) = i ∷ []
+places (AllNeg i) = i ∷ []
+places (Mat i j) = i ∷ j ∷ []
+places (Dec i) = i ∷ []
+places (Con i j) = i ∷ j ∷ []
+places (Cho f) = []
+places (Des f) = []
+places (Cut l) = []
+
+-- the literals stand at these places of the branch
+abbrev pub AreAt : List Literal → List ℕ → List Literal → Type 0
+AreAt branch [] [] = Unit {0}
+AreAt branch [] (l ∷ ls) = ⊥
+AreAt branch (i ∷ is) [] = ⊥
+AreAt branch (i ∷ is) (l ∷ ls) = (slice_get branch i ≡ Some l) × AreAt branch is ls
+
+-- an instance of the rule, whose principals stand at its places in the branch
+pub record IsInstance (scope : Scope) (rows : List Row) (branch : List Literal) (rule : RuleUse) (alternatives : List (List Literal)) : Type 0 where
+  pub principals : List Literal
+  pub at_places : AreAt branch (places rule) principals
+  pub fits : Rule scope rows rule principals alternatives

@@ -1,0 +1,36 @@
+-- The trees of lines that have no numbers yet. The lines of clauses have no branches here.
+use Rattle.std.specs.Prelude.{◌≡◌, ◌<◌, ℕ, suc, true, List, [], ◌∷◌, ◌++◌, length, Some, slice_get, slice_index_or}
+use Rattle.tableau_calculus.specs.declared.refutation.RuleUse.TheVariants.{False, Close as CloseRule}
+use Rattle.sat_base.specs.declared.literal.Var.{Var}
+use Rattle.rebuild_spec.specs.Trees.{Place, at_clause, at_step, Tree, leaf, cut, same_line}
+use Rattle.tableau_rebuild.specs.declared.draft.At.{At}
+use Rattle.tableau_rebuild.specs.declared.draft.Draft.{Draft}
+use Rattle.tableau_rebuild.specs.declared.draft.Draft.TheVariants.{Clause, Close, Cut}
+
+abbrev pub nothing : Tree
+nothing = leaf (at_clause 0) [] (False 0) []
+
+abbrev pub tree_at : List Tree → ℕ → Tree
+tree_at ts i = slice_index_or ts i nothing
+
+-- the place after a step
+abbrev pub after_step : At → Place
+after_step at = at_step at.result (suc at.step)
+
+-- the tree of a draft over those of the earlier ones
+abbrev pub tree_of : List Tree → Draft → Tree
+tree_of earlier (Clause n) = leaf (at_clause n) [] (False 0) []
+tree_of earlier (Close at l m) = leaf (after_step at) (l ∷ m ∷ []) (CloseRule 0 1) []
+tree_of earlier (Cut at v a b) = cut (after_step at) v (tree_at earlier a) (tree_at earlier b)
+
+abbrev pub trees_after : List Tree → List Draft → List Tree
+trees_after earlier [] = earlier
+trees_after earlier (d ∷ ds) = trees_after (earlier ++ tree_of earlier d ∷ []) ds
+
+abbrev pub trees : List Draft → List Tree
+trees drafts = trees_after [] drafts
+
+-- a cut's lines are earlier ones, and no two lines are made at one place
+pub record AreDrafts (drafts : List Draft) : Type 0 where
+  pub below : (i : ℕ) (at : At) (v : Var) (a b : ℕ) → slice_get drafts i ≡ Some (Cut at v a b) → (a < i) × (b < i)
+  pub apart : (i j : ℕ) → i < length drafts → j < length drafts → same_line (tree_at (trees drafts) i) (tree_at (trees drafts) j) ≡ true → i ≡ j

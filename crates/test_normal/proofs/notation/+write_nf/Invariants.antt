@@ -1,0 +1,5 @@
+use Rattle.stt_core.specs.Lambda.{node_count}
+use Rattle.test_normal.proofs.notation.+write_nf.Given as goal
+
+abbrev pub decreases-write_nf : goal.decreases-write_nf
+decreases-write_nf l = node_count l.nf.now

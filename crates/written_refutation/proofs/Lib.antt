@@ -1,5 +1,0 @@
-mod Lists
-mod Writes
-mod TermTexts
-mod LineTexts
-mod SharedLists
