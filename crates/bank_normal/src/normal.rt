@@ -9,7 +9,7 @@ ghost use Rattle.normal_forms.specs.Normal.{apply_each, normal_form};
 ghost use Rattle.normal_forms.specs.Internal.Applying.{IsApplicable, result_after};
 ghost use Rattle.term_bank.specs.Content.{content_scope, HasTerm, Grows};
 ghost use Rattle.term_bank.specs.Terms.{term_at};
-ghost use Rattle.bank_normal.specs.Right.{IsRight};
+ghost use Rattle.bank_normal.specs.Right.{IsRightNormaliser};
 
 use crate::normaliser::Normaliser;
 use crate::replace::LEVELS;
@@ -34,10 +34,10 @@ impl Normaliser {
     /// The eta-long beta-normal form of a closed term. Levels of terms are bounded as in `instantiate`.
     pub fn normalise(&mut self, bank: &mut Bank, term: &Term) -> Result<Id, AllocError>
         requires typed { IsSome (type_of (content_scope bank.old) [] (the_term term.now)) }
-        requires right { IsRight self.old bank.old }
+        requires right { IsRightNormaliser self.old bank.old }
         ensures term { IfOk result (λ id. HasTerm bank.new id (normal_form (content_scope bank.old) [] (the_term term.now))) }
         ensures grows { Grows bank.old bank.new }
-        ensures right { IsRight self.new bank.new }
+        ensures right { IsRightNormaliser self.new bank.new }
     {
         // The signature is asked for its clause that all types in it are declared.
         let _sig = bank.sig();
@@ -56,10 +56,10 @@ impl Normaliser {
         requires leaf { IsLeaf (the_term term.now) }
         requires within { All (λ id. id < length bank.old.terms) args }
         requires fits { IsApplicable (content_scope bank.old) (the_context ctx.now) (the_term term.now) (map (term_at bank.old.terms) args) }
-        requires right { IsRight self.old bank.old }
+        requires right { IsRightNormaliser self.old bank.old }
         ensures term { IfOk result (λ id. HasTerm bank.new id (apply_each (normal_form (content_scope bank.old) (the_context ctx.now) (the_term term.now)) (map (term_at bank.old.terms) args))) }
         ensures grows { Grows bank.old bank.new }
-        ensures right { IsRight self.new bank.new }
+        ensures right { IsRightNormaliser self.new bank.new }
     {
         let head = term.to_head(self.alloc)?;
         match bank.head_type(ctx, &head)? {
@@ -78,10 +78,10 @@ impl Normaliser {
     ) -> Result<Id, AllocError>
         requires within { All (λ id. id < length bank.old.terms) args }
         requires fits { IsApplicable (content_scope bank.old) (the_context ctx.now) (the_term term.now) (map (term_at bank.old.terms) args) }
-        requires right { IsRight self.old bank.old }
+        requires right { IsRightNormaliser self.old bank.old }
         ensures term { IfOk result (λ id. HasTerm bank.new id (apply_each (normal_form (content_scope bank.old) (the_context ctx.now) (the_term term.now)) (map (term_at bank.old.terms) args))) }
         ensures grows { Grows bank.old bank.new }
-        ensures right { IsRight self.new bank.new }
+        ensures right { IsRightNormaliser self.new bank.new }
     {
         match term {
             Term::App(function, argument) => {

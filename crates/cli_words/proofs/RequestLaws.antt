@@ -3,10 +3,10 @@ use Rattle.std.proofs.Common.{◌≡◌, ◌<◌, ◌≤◌, ◌+◌, ◌-◌, �
 use Rattle.std.specs.List.{list_all}
 use Rattle.std.proofs.lemmas.Bool.{and_parts}
 use Rattle.std.proofs.lemmas.Bool.Decides.{nat_tests}
-use Rattle.cli_words.specs.Names.{is_file_name, is_digit, is_decimal, number_from, number_to}
+use Rattle.cli_words.specs.Names.{is_file_name, is_digit, is_positive_decimal, number_from, number_to}
 use Rattle.cli_words.specs.declared.options.OptionName.TheVariants.{Mode, Check, Demo}
 use Rattle.cli_words.specs.Line.{is_taken}
-use Rattle.cli_words.specs.Requests.{Entry, value, problem, Request, prove, refutation, generated, naming, asked, entries_in, asked_by}
+use Rattle.cli_words.specs.Requests.{WordEntry, value, problem, Request, prove, refutation, generated, naming, asked, entries_in, asked_by}
 
 -- the problem's name is the name of a file, or its number is from 1 to 1000
 abbrev pub IsNamed : Request → Type 0
@@ -35,7 +35,7 @@ number_from-least n [] = omega arith
 number_from-least n (c ∷ cs) = let more = number_from-least (10 * n + (c - 48)) cs in omega (arith, more)
 
 -- a decimal number without a leading 0 is above 0
-decimal_above : (text : List ℕ) → is_decimal text ≡ true → 0 < number_from 0 text
+decimal_above : (text : List ℕ) → is_positive_decimal text ≡ true → 0 < number_from 0 text
 decimal_above [] h = cc
 decimal_above (c ∷ cs) h =
     let parts = and_parts (not (c == 48)) (list_all is_digit (c ∷ cs)) h in
@@ -48,16 +48,16 @@ decimal_above (c ∷ cs) h =
     not_zero c h k = grind (arith, nat_tests, h, k)
 
 generated_named : (text : List ℕ) (r : Request) → option_map generated (number_to 1000 text) ≡ Some r → IsNamed r
-generated_named text r h = go (is_decimal text && nat_le (number_from 0 text) 1000) refl h
+generated_named text r h = go (is_positive_decimal text && nat_le (number_from 0 text) 1000) refl h
   where
-    go : (b : Bool) → is_decimal text && nat_le (number_from 0 text) 1000 ≡ b → option_map generated (if b then Some (number_from 0 text) else None) ≡ Some r → IsNamed r
+    go : (b : Bool) → is_positive_decimal text && nat_le (number_from 0 text) 1000 ≡ b → option_map generated (if b then Some (number_from 0 text) else None) ≡ Some r → IsNamed r
     go false e k = cc
     go true e k =
-        let parts = and_parts (is_decimal text) (nat_le (number_from 0 text) 1000) e in
+        let parts = and_parts (is_positive_decimal text) (nat_le (number_from 0 text) 1000) e in
         let same : generated (number_from 0 text) ≡ r = cc in
         subst IsNamed same (decimal_above text parts.0, grind (arith, nat_tests, parts.1))
 
-asked_named : (es : List Entry) (r : Request) → asked es ≡ Some r → IsNamed r
+asked_named : (es : List WordEntry) (r : Request) → asked es ≡ Some r → IsNamed r
 asked_named [] r h = cc
 asked_named (problem p ∷ []) r h = first_named p None r h
 asked_named (problem p ∷ e ∷ es) r h = cc

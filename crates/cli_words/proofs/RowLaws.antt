@@ -10,10 +10,10 @@ use Rattle.clap.specs.declared.builder.value_parser.Reading.TheVariants.{AsWritt
 use Rattle.clap.specs.declared.parser.matches.ValueSource.TheVariants.{CommandLine}
 use Rattle.cli_words.specs.declared.options.OptionName.{OptionName}
 use Rattle.cli_words.specs.declared.options.OptionName.TheVariants.{Mode, Check, Demo}
-use Rattle.cli_words.specs.Options.{options, name_of}
+use Rattle.cli_words.specs.Options.{options, option_name}
 use Rattle.cli_words.specs.Line.{line, is_nil, is_taken, value_in}
 use Rattle.cli_words.specs.Names.{number_to}
-use Rattle.cli_words.specs.Requests.{Entry, value, problem, asked, asked_by, given, entries_in, naming, prove, refutation, generated}
+use Rattle.cli_words.specs.Requests.{WordEntry, value, problem, asked, asked_by, given, entries_in, naming, prove, refutation, generated}
 use Rattle.cli_words.specs.Rows.{is_hyphened, AsksAlone, AsksBeside}
 
 abbrev top : Shape
@@ -66,13 +66,13 @@ abbrev at_problem : Text → Walk
 at_problem p = state [] (Some (codes "problem", p ∷ [])) idle 2
 
 abbrev at_option : OptionName → List Row → ℕ → Walk
-at_option o rows position = state rows (Some (name_of o, [])) (option (name_of o)) position
+at_option o rows position = state rows (Some (option_name o, [])) (option (option_name o)) position
 
 abbrev at_value : OptionName → List Row → ℕ → Text → Walk
-at_value o rows position v = state rows (Some (name_of o, v ∷ [])) idle position
+at_value o rows position v = state rows (Some (option_name o, v ∷ [])) idle position
 
 abbrev at_both : OptionName → Text → Text → Walk
-at_both o v p = state (row (name_of o) v ∷ []) (Some (codes "problem", p ∷ [])) idle 2
+at_both o v p = state (row (option_name o) v ∷ []) (Some (codes "problem", p ∷ [])) idle 2
 
 -- the turns
 problem_turn : (p : Text) → is_hyphened p ≡ false → Turn (walk_from nothing_held) p (at_problem p)
@@ -80,13 +80,13 @@ unfolding clap_on_literals state
 problem_turn [] h = record { goes = refl; faultless = refl }
 problem_turn (c ∷ cs) h = record { goes = simp h; faultless = simp h }
 
-option_turn : (o : OptionName) → Turn (walk_from nothing_held) (codes "--" ++ name_of o) (at_option o [] 1)
+option_turn : (o : OptionName) → Turn (walk_from nothing_held) (codes "--" ++ option_name o) (at_option o [] 1)
 unfolding clap_on_literals state
 option_turn Mode = record { goes = refl; faultless = refl }
 option_turn Check = record { goes = refl; faultless = refl }
 option_turn Demo = record { goes = refl; faultless = refl }
 
-option_turn_behind : (o : OptionName) (p : Text) → Turn (at_problem p) (codes "--" ++ name_of o) (at_option o (row (codes "problem") p ∷ []) 2)
+option_turn_behind : (o : OptionName) (p : Text) → Turn (at_problem p) (codes "--" ++ option_name o) (at_option o (row (codes "problem") p ∷ []) 2)
 unfolding clap_on_literals state row
 option_turn_behind Mode p = record { goes = refl; faultless = refl }
 option_turn_behind Check p = record { goes = refl; faultless = refl }
@@ -110,29 +110,29 @@ last_turn Check v (c ∷ cs) h = record { goes = simp h; faultless = simp h }
 last_turn Demo v [] h = record { goes = refl; faultless = refl }
 last_turn Demo v (c ∷ cs) h = record { goes = simp h; faultless = simp h }
 
-attached_turn : (o : OptionName) (v : Text) → Turn (walk_from nothing_held) (codes "--" ++ name_of o ++ codes "=" ++ v) (state (row (name_of o) v ∷ []) None idle 1)
+attached_turn : (o : OptionName) (v : Text) → Turn (walk_from nothing_held) (codes "--" ++ option_name o ++ codes "=" ++ v) (state (row (option_name o) v ∷ []) None idle 1)
 unfolding clap_on_literals state row
 attached_turn Mode v = record { goes = refl; faultless = refl }
 attached_turn Check v = record { goes = refl; faultless = refl }
 attached_turn Demo v = record { goes = refl; faultless = refl }
 
-last_turn_attached : (o : OptionName) (v p : Text) → is_hyphened p ≡ false → Turn (state (row (name_of o) v ∷ []) None idle 1) p (at_both o v p)
+last_turn_attached : (o : OptionName) (v p : Text) → is_hyphened p ≡ false → Turn (state (row (option_name o) v ∷ []) None idle 1) p (at_both o v p)
 unfolding clap_on_literals state row
 last_turn_attached o v [] h = record { goes = refl; faultless = refl }
 last_turn_attached o v (c ∷ cs) h = record { goes = simp h; faultless = simp h }
 
-attached_turn_behind : (o : OptionName) (v p : Text) → Turn (at_problem p) (codes "--" ++ name_of o ++ codes "=" ++ v) (state (row (codes "problem") p ∷ row (name_of o) v ∷ []) None idle 2)
+attached_turn_behind : (o : OptionName) (v p : Text) → Turn (at_problem p) (codes "--" ++ option_name o ++ codes "=" ++ v) (state (row (codes "problem") p ∷ row (option_name o) v ∷ []) None idle 2)
 unfolding clap_on_literals state row
 attached_turn_behind Mode v p = record { goes = refl; faultless = refl }
 attached_turn_behind Check v p = record { goes = refl; faultless = refl }
 attached_turn_behind Demo v p = record { goes = refl; faultless = refl }
 
 -- what is asked for, by the last state
-abbrev values_of : List Row → List OptionName → List Entry
+abbrev values_of : List Row → List OptionName → List WordEntry
 values_of rows [] = []
-values_of rows (o ∷ os) = given (value o) (first_of (name_of o) rows) ++ values_of rows os
+values_of rows (o ∷ os) = given (value o) (first_of (option_name o) rows) ++ values_of rows os
 
-abbrev entries_of : List Row → List Entry
+abbrev entries_of : List Row → List WordEntry
 entries_of rows = values_of rows options ++ given problem (first_of (codes "problem") rows)
 
 -- the words lead to this state, without a fault
@@ -190,23 +190,23 @@ both_end Mode v p = refl
 both_end Check v p = refl
 both_end Demo v p = refl
 
-attached_end : (o : OptionName) (v : Text) → end_fault (state (row (name_of o) v ∷ []) None idle 1) ≡ []
+attached_end : (o : OptionName) (v : Text) → end_fault (state (row (option_name o) v ∷ []) None idle 1) ≡ []
 unfolding clap_on_literals state row
 attached_end Mode v = refl
 attached_end Check v = refl
 attached_end Demo v = refl
 
-attached_end_behind : (o : OptionName) (v p : Text) → end_fault (state (row (codes "problem") p ∷ row (name_of o) v ∷ []) None idle 2) ≡ []
+attached_end_behind : (o : OptionName) (v p : Text) → end_fault (state (row (codes "problem") p ∷ row (option_name o) v ∷ []) None idle 2) ≡ []
 unfolding clap_on_literals state row
 attached_end_behind Mode v p = refl
 attached_end_behind Check v p = refl
 attached_end_behind Demo v p = refl
 
 -- the words of an option with PROBLEM, and of an option alone
-before_leads : (o : OptionName) (v p : Text) → is_hyphened v ≡ false → is_hyphened p ≡ false → Leads ((codes "--" ++ name_of o) ∷ v ∷ p ∷ []) (at_both o v p)
+before_leads : (o : OptionName) (v p : Text) → is_hyphened v ≡ false → is_hyphened p ≡ false → Leads ((codes "--" ++ option_name o) ∷ v ∷ p ∷ []) (at_both o v p)
 before_leads o v p h k = three_words _ _ _ _ _ _ (option_turn o) (value_turn o [] 1 v h) (last_turn o v p k)
 
-behind_leads : (o : OptionName) (v p : Text) → is_hyphened v ≡ false → is_hyphened p ≡ false → Leads (p ∷ (codes "--" ++ name_of o) ∷ v ∷ []) (at_value o (row (codes "problem") p ∷ []) 2 v)
+behind_leads : (o : OptionName) (v p : Text) → is_hyphened v ≡ false → is_hyphened p ≡ false → Leads (p ∷ (codes "--" ++ option_name o) ∷ v ∷ []) (at_value o (row (codes "problem") p ∷ []) 2 v)
 behind_leads o v p h k = three_words _ _ _ _ _ _ (problem_turn p k) (option_turn_behind o p) (value_turn o (row (codes "problem") p ∷ []) 2 v h)
 
 pub mode_row : (m p : List ℕ) → is_hyphened p ≡ false → AsksBeside (codes "mode") m p (naming (m ∷ p ∷ []) (prove p (Some m)))

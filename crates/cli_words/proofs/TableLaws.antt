@@ -4,18 +4,18 @@ use Rattle.std.proofs.Math.Seq.{drop-cons}
 use Rattle.clap.specs.Words.{App, with_rule}
 use Rattle.cli_words.specs.declared.options.OptionName.{OptionName}
 use Rattle.cli_words.specs.Line.{with_options, option_rule, value_in}
-use Rattle.cli_words.specs.Options.{options, name_of}
-use Rattle.cli_words.specs.Requests.{Entry, value, given, values_in}
+use Rattle.cli_words.specs.Options.{options, option_name}
+use Rattle.cli_words.specs.Requests.{WordEntry, value, given, values_in}
 
 drop-next : (i : ℕ) (d : OptionName) → i < length options → drop i options ≡ get_or options i d ∷ drop (i + 1) options
 drop-next i d h = rw add-one (drop-cons options i d h)
 
-pub with_options-next : (a b : App) (i : ℕ) (d : OptionName) → i < length options → b ≡ with_rule a (option_rule (name_of (get_or options i d))) → with_options a (drop i options) ≡ with_options b (drop (i + 1) options)
+pub with_options-next : (a b : App) (i : ℕ) (d : OptionName) → i < length options → b ≡ with_rule a (option_rule (option_name (get_or options i d))) → with_options a (drop i options) ≡ with_options b (drop (i + 1) options)
 with_options-next a b i d h e =
     ap (with_options a) (drop-next i d h) ∙ ap (λ (app : App). with_options app (drop (i + 1) options)) (sym e)
 
-pub values_in-next : (words : List (List ℕ)) (a b : List Entry) (i : ℕ) (d : OptionName) → i < length options → b ≡ a ++ given (value (get_or options i d)) (value_in words (name_of (get_or options i d))) → a ++ values_in words (drop i options) ≡ b ++ values_in words (drop (i + 1) options)
+pub values_in-next : (words : List (List ℕ)) (a b : List WordEntry) (i : ℕ) (d : OptionName) → i < length options → b ≡ a ++ given (value (get_or options i d)) (value_in words (option_name (get_or options i d))) → a ++ values_in words (drop i options) ≡ b ++ values_in words (drop (i + 1) options)
 values_in-next words a b i d h e =
     ap (λ (os : List OptionName). a ++ values_in words os) (drop-next i d h)
-    ∙ sym (append_assoc a (given (value (get_or options i d)) (value_in words (name_of (get_or options i d)))) (values_in words (drop (i + 1) options)))
-    ∙ ap (λ (es : List Entry). es ++ values_in words (drop (i + 1) options)) (sym e)
+    ∙ sym (append_assoc a (given (value (get_or options i d)) (value_in words (option_name (get_or options i d)))) (values_in words (drop (i + 1) options)))
+    ∙ ap (λ (es : List WordEntry). es ++ values_in words (drop (i + 1) options)) (sym e)

@@ -3,7 +3,7 @@ use Rattle.std.specs.Prelude.{Bool, List, [], ◌∷◌, codes, Some, Option, tr
 use Rattle.clap.specs.Simple.{new_shape}
 use Rattle.clap.specs.Words.{App, Rule, Text, new_rule, with_rule, fault_of, matches_of, first_of}
 use Rattle.cli_words.specs.declared.options.OptionName.{OptionName}
-use Rattle.cli_words.specs.Options.{options, name_of}
+use Rattle.cli_words.specs.Options.{options, option_name}
 
 -- an option that takes one value, by its long name
 abbrev pub option_rule : Text → Rule
@@ -15,7 +15,7 @@ bare = record { top = record (new_shape (codes "satallax")) { no_binary_name = t
 
 abbrev pub with_options : App → List OptionName → App
 with_options app [] = app
-with_options app (o ∷ os) = with_options (with_rule app (option_rule (name_of o))) os
+with_options app (o ∷ os) = with_options (with_rule app (option_rule (option_name o))) os
 
 -- The options of the table, and the positional PROBLEM. No rule ties one to another.
 abbrev pub line : App

@@ -7,7 +7,7 @@ abbrev pub options : List OptionName
 options = Mode ∷ Check ∷ Demo ∷ []
 
 -- an option's name, which stands behind two hyphens
-abbrev pub name_of : OptionName → List ℕ
-name_of Mode = codes "mode"
-name_of Check = codes "check"
-name_of Demo = codes "demo"
+abbrev pub option_name : OptionName → List ℕ
+option_name Mode = codes "mode"
+option_name Check = codes "check"
+option_name Demo = codes "demo"

@@ -4,14 +4,14 @@ use Rattle.std.specs.List.{list_all}
 use Rattle.std.specs.Option.{option_to_list}
 use Rattle.cli_words.specs.declared.options.OptionName.{OptionName}
 use Rattle.cli_words.specs.declared.options.OptionName.TheVariants.{Mode, Check, Demo}
-use Rattle.cli_words.specs.Options.{options, name_of}
+use Rattle.cli_words.specs.Options.{options, option_name}
 use Rattle.cli_words.specs.Line.{is_taken, value_in}
 use Rattle.cli_words.specs.Names.{is_file_name, number_to}
 
 -- a value that the words give: that of an option, or the problem
-pub data Entry : Type 0 where
-  value : OptionName → List ℕ → Entry
-  problem : List ℕ → Entry
+pub data WordEntry : Type 0 where
+  value : OptionName → List ℕ → WordEntry
+  problem : List ℕ → WordEntry
 
 -- prove a problem, with a mode or the standard mode; check a refutation's text against a problem; make and prove a problem
 pub data Request : Type 0 where
@@ -24,7 +24,7 @@ abbrev pub naming : List (List ℕ) → Request → Option Request
 naming names r = if list_all is_file_name names then Some r else None
 
 -- what is asked for by the entries that the words give
-abbrev pub asked : List Entry → Option Request
+abbrev pub asked : List WordEntry → Option Request
 asked (problem p ∷ []) = naming (p ∷ []) (prove p None)
 asked (value Mode m ∷ problem p ∷ []) = naming (m ∷ p ∷ []) (prove p (Some m))
 asked (value Check text ∷ problem p ∷ []) = naming (text ∷ p ∷ []) (refutation text p)
@@ -32,16 +32,16 @@ asked (value Demo number ∷ []) = option_map generated (number_to 1000 number)
 asked _ = None
 
 -- one entry, where its value is given
-abbrev pub given : (List ℕ → Entry) → Option (List ℕ) → List Entry
+abbrev pub given : (List ℕ → WordEntry) → Option (List ℕ) → List WordEntry
 given entry v = option_to_list (option_map entry v)
 
 -- the values of these options that the words give, in their order
-abbrev pub values_in : List (List ℕ) → List OptionName → List Entry
+abbrev pub values_in : List (List ℕ) → List OptionName → List WordEntry
 values_in words [] = []
-values_in words (o ∷ os) = given (value o) (value_in words (name_of o)) ++ values_in words os
+values_in words (o ∷ os) = given (value o) (value_in words (option_name o)) ++ values_in words os
 
 -- the entries that the words give, in the order of the table, and then the problem
-abbrev pub entries_in : List (List ℕ) → List Entry
+abbrev pub entries_in : List (List ℕ) → List WordEntry
 entries_in words = values_in words options ++ given problem (value_in words (codes "problem"))
 
 -- what the words ask for: nothing where the command doesn't take them, or where no row of the table fits

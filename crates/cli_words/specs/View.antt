@@ -12,6 +12,6 @@ the_request (Prove problem mode) = request.prove problem.now (option_map (λ m. 
 the_request (Check text problem) = request.refutation text.now problem.now
 the_request (Demo n) = request.generated n
 
-abbrev pub the_entry : Entry → request.Entry
+abbrev pub the_entry : Entry → request.WordEntry
 the_entry (entry.Value o v) = request.value o v.now
 the_entry (entry.Problem p) = request.problem p.now

@@ -3,7 +3,7 @@ ghost use Rattle.std.specs.Prelude.{◌≡◌, ◌++◌, ℕ, List, map, option_
 ghost use Rattle.std.specs.Option.{option_to_list};
 ghost use Rattle.clap.specs.Words.{app_of, with_rule, first_value, found_of};
 ghost use Rattle.cli_words.specs.Line.{option_rule, with_options, bare, line, is_taken, value_in};
-ghost use Rattle.cli_words.specs.Options.{options, name_of};
+ghost use Rattle.cli_words.specs.Options.{options, option_name};
 ghost use Rattle.cli_words.specs.Requests.{entries_in, values_in};
 ghost use Rattle.cli_words.specs.View.{the_entry};
 

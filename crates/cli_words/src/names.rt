@@ -1,7 +1,7 @@
 //! Names of files, and numbers.
 ghost use Rattle.std.specs.Prelude.{◌≡◌};
 ghost use Rattle.std.specs.List.{list_any, list_all};
-ghost use Rattle.cli_words.specs.Names.{is_control, is_file_name, is_digit, is_decimal, number_to};
+ghost use Rattle.cli_words.specs.Names.{is_control, is_file_name, is_digit, is_positive_decimal, number_to};
 
 fn has_control(bytes: &[u8]) -> bool
     ensures { result ≡ list_any is_control bytes.now }
@@ -22,7 +22,7 @@ fn are_digits(bytes: &[u8]) -> bool
 }
 
 fn is_decimal(bytes: &[u8]) -> bool
-    ensures { result ≡ is_decimal bytes.now }
+    ensures { result ≡ is_positive_decimal bytes.now }
 {
     match bytes {
         [] => false,

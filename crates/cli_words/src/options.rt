@@ -1,6 +1,6 @@
 //! The table of the program's options.
 ghost use Rattle.std.specs.Prelude.{◌≡◌};
-ghost use Rattle.cli_words.specs.Options.{name_of};
+ghost use Rattle.cli_words.specs.Options.{option_name};
 
 /// An option, which takes one value.
 #[derive(Clone, Copy, Debug, PartialEq, Eq)]
@@ -16,7 +16,7 @@ pub(crate) const OPTIONS: [OptionName; 3] = [OptionName::Mode, OptionName::Check
 impl OptionName {
     /// What stands behind the two hyphens.
     pub(crate) fn name(self) -> &'static str
-        ensures { result.now ≡ name_of self }
+        ensures { result.now ≡ option_name self }
     {
         match self {
             OptionName::Mode => "mode",

@@ -9,7 +9,7 @@ use Rattle.std.proofs.lemmas.List.Sorted.{All-permutation, length_permutation}
 use Rattle.std.proofs.lemmas.Map.Keys.{IsDistinct-tail, IsDistinct-head, IsDistinct-cons}
 use Rattle.command_queue.specs.declared.entry.Entry.{Entry}
 use Rattle.command_queue.specs.Queue.{IsBefore, AreNumbered}
-use Rattle.command_queue.specs.Internal.Inside.{in_order, heap_order, HasOwnNumbers, HoldsPushed}
+use Rattle.command_queue.specs.Internal.Inside.{entries_in_order, heap_order, HasOwnNumbers, HoldsPushed}
 use Rattle.command_queue.proofs.OrderLaws.{StandsByNumber, in_order-push, in_order-push_at, length-in_order, all_both, all_weaker, all-in_order, all-from_in_order, leaves_first, IsAscending-in_order, AllPairs-ascending, HasOwnNumbers-push, HasOwnNumbers-IsPermutation}
 
 differs : (a b : ℕ) → (a == b) ≡ false → b ≢ a
@@ -45,22 +45,22 @@ module _ {C : Type 0} where
       HoldsPushed-join e xs ys pushes (pushes + numbers) held (omega arith) (omega (arith, is, some)) own moved
 
   -- no entry of a heap has this number, where none of the entries by their numbers has it
-  own_number : (e : Entry C) (xs : List (Entry C)) → All (λ x. x.number ≢ e.number) (in_order xs) → AllByRecursion (λ (x : Entry C). (e.number == x.number) ≡ false) xs
+  own_number : (e : Entry C) (xs : List (Entry C)) → All (λ x. x.number ≢ e.number) (entries_in_order xs) → AllByRecursion (λ (x : Entry C). (e.number == x.number) ≡ false) xs
   own_number e xs free =
       all_weaker (λ x. x.number ≢ e.number) (λ (x : Entry C). (e.number == x.number) ≡ false) (λ x h. is_other e.number x.number h) xs
-      (all-from_in_order (λ x. x.number ≢ e.number) xs (recursion_from_All (λ x. x.number ≢ e.number) (in_order xs) free))
+      (all-from_in_order (λ x. x.number ≢ e.number) xs (recursion_from_All (λ x. x.number ≢ e.number) (entries_in_order xs) free))
 
-  pub HoldsPushed-push_at : (e : Entry C) (xs ys : List (Entry C)) (pushes : ℕ) → HoldsPushed xs pushes → e.number < pushes → All (λ x. x.number ≢ e.number) (in_order xs) → IsPermutation (e ∷ xs) ys → HoldsPushed ys pushes
+  pub HoldsPushed-push_at : (e : Entry C) (xs ys : List (Entry C)) (pushes : ℕ) → HoldsPushed xs pushes → e.number < pushes → All (λ x. x.number ≢ e.number) (entries_in_order xs) → IsPermutation (e ∷ xs) ys → HoldsPushed ys pushes
   HoldsPushed-push_at e xs ys pushes held taken free moved =
       HoldsPushed-join e xs ys pushes pushes held (omega arith) taken (IsDistinct-cons (λ a b. a.number == b.number) e xs (own_number e xs free) held.distinct) moved
 
-  pub joins_at : (e : Entry C) (xs ys : List (Entry C)) (pushes : ℕ) → HoldsPushed xs pushes → All (λ x. x.number ≢ e.number) (in_order xs) → IsPermutation (e ∷ xs) ys → StandsByNumber e (in_order xs) (in_order ys)
+  pub joins_at : (e : Entry C) (xs ys : List (Entry C)) (pushes : ℕ) → HoldsPushed xs pushes → All (λ x. x.number ≢ e.number) (entries_in_order xs) → IsPermutation (e ∷ xs) ys → StandsByNumber e (entries_in_order xs) (entries_in_order ys)
   joins_at e xs ys pushes held free moved = in_order-push_at e xs ys moved held.distinct (own_number e xs free)
 
-  pub HoldsPushed-AreNumbered : (xs : List (Entry C)) (pushes : ℕ) → HoldsPushed xs pushes → AreNumbered (in_order xs) pushes
+  pub HoldsPushed-AreNumbered : (xs : List (Entry C)) (pushes : ℕ) → HoldsPushed xs pushes → AreNumbered (entries_in_order xs) pushes
   HoldsPushed-AreNumbered xs pushes held = record {
-    ascending = AllPairs-ascending (in_order xs) (IsAscending-in_order xs held.distinct);
-    taken = All-from_recursion (λ x. x.number < pushes) (in_order xs) (all-in_order (λ x. x.number < pushes) xs (recursion_from_All (λ x. x.number < pushes) xs held.numbered));
+    ascending = AllPairs-ascending (entries_in_order xs) (IsAscending-in_order xs held.distinct);
+    taken = All-from_recursion (λ x. x.number < pushes) (entries_in_order xs) (all-in_order (λ x. x.number < pushes) xs (recursion_from_All (λ x. x.number < pushes) xs held.numbered));
   }
 
   -- the number of what leaves was taken
@@ -74,27 +74,27 @@ module _ {C : Type 0} where
     distinct = IsDistinct-tail _ e ys (HasOwnNumbers-IsPermutation xs (e ∷ ys) moved held.distinct);
   }
 
-  pub joins_last : (e : Entry C) (xs ys : List (Entry C)) → HoldsPushed xs e.number → IsPermutation (e ∷ xs) ys → in_order ys ≡ in_order xs ++ e ∷ []
+  pub joins_last : (e : Entry C) (xs ys : List (Entry C)) → HoldsPushed xs e.number → IsPermutation (e ∷ xs) ys → entries_in_order ys ≡ entries_in_order xs ++ e ∷ []
   joins_last e xs ys held moved = in_order-push e xs ys moved (recursion_from_All (λ (x : Entry C). x.number < e.number) xs held.numbered) held.distinct
 
   pub same_entry : (d e n m : ℕ) (command : C) → d ≡ e → n ≡ m → (let a : Entry C = record { due = d; number = n; command = command } in a) ≡ record { due = e; number = m; command = command }
   same_entry d e n m command p q = cc
 
-  pub not_empty : (e : Entry C) (xs ys : List (Entry C)) → IsPermutation xs (e ∷ ys) → in_order xs ≡ [] → ⊥
+  pub not_empty : (e : Entry C) (xs ys : List (Entry C)) → IsPermutation xs (e ∷ ys) → entries_in_order xs ≡ [] → ⊥
   not_empty e xs ys moved none =
-      let here : length (in_order xs) ≡ 0 = ap length none in
+      let here : length (entries_in_order xs) ≡ 0 = ap length none in
       let one : suc (length ys) ≡ length xs = length_permutation xs (e ∷ ys) moved in
       absurd (omega (arith, here, one, length-in_order xs))
 
   -- the top of a heap comes before all others, and has another number
-  pub top_is_first : (e : Entry C) (xs ys : List (Entry C)) → HasOwnNumbers xs → IsPermutation xs (e ∷ ys) → IsUpperBound heap_order e ys → All (IsBefore e) (in_order ys)
+  pub top_is_first : (e : Entry C) (xs ys : List (Entry C)) → HasOwnNumbers xs → IsPermutation xs (e ∷ ys) → IsUpperBound heap_order e ys → All (IsBefore e) (entries_in_order ys)
   top_is_first e xs ys own moved top =
       let apart : AllByRecursion (λ (x : Entry C). (e.number == x.number) ≡ false) ys = IsDistinct-head _ e ys (HasOwnNumbers-IsPermutation xs (e ∷ ys) moved own) in
-      All-from_recursion (IsBefore e) (in_order ys)
+      All-from_recursion (IsBefore e) (entries_in_order ys)
       (all-in_order (IsBefore e) ys (all_both (λ x. lt_by_cmp heap_order e x ≡ false) (λ x. (e.number == x.number) ≡ false) (IsBefore e) (leaves_first e) ys top apart))
 
-  pub top_has_own_number : (e : Entry C) (xs ys : List (Entry C)) → HasOwnNumbers xs → IsPermutation xs (e ∷ ys) → All (λ x. x.number ≢ e.number) (in_order ys)
+  pub top_has_own_number : (e : Entry C) (xs ys : List (Entry C)) → HasOwnNumbers xs → IsPermutation xs (e ∷ ys) → All (λ x. x.number ≢ e.number) (entries_in_order ys)
   top_has_own_number e xs ys own moved =
       let apart : AllByRecursion (λ (x : Entry C). (e.number == x.number) ≡ false) ys = IsDistinct-head _ e ys (HasOwnNumbers-IsPermutation xs (e ∷ ys) moved own) in
-      All-from_recursion (λ x. x.number ≢ e.number) (in_order ys)
+      All-from_recursion (λ x. x.number ≢ e.number) (entries_in_order ys)
       (all-in_order (λ x. x.number ≢ e.number) ys (all_weaker _ (λ x. x.number ≢ e.number) (λ x h. differs e.number x.number h) ys apart))

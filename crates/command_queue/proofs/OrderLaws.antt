@@ -11,7 +11,7 @@ use Rattle.std.proofs.lemmas.List.Sorted.{All-permutation, IsPermutation-sym}
 use Rattle.std.proofs.lemmas.Map.Keys.{IsDistinct-IsPermutation, IsDistinct-tail, IsDistinct-head, IsDistinct-cons}
 use Rattle.command_queue.specs.declared.entry.Entry.{Entry}
 use Rattle.command_queue.specs.Queue.{IsBefore}
-use Rattle.command_queue.specs.Internal.Inside.{placed, in_order, heap_order, HasOwnNumbers}
+use Rattle.command_queue.specs.Internal.Inside.{placed_entry, entries_in_order, heap_order, HasOwnNumbers}
 
 other_greater : (a b : ℕ) → nat_lt a b ≡ false → (a == b) ≡ false → b < a
 other_greater a b h k = grind (arith, nat_tests)
@@ -51,55 +51,55 @@ module _ {C : Type 0} where
   at_Has P (x ∷ xs) z h (inr k) = at_Has P xs z h.1 k
 
   -- in its place
-  pub all-placed : (P : Entry C → Type 0) (e : Entry C) (xs : List (Entry C)) → P e → AllByRecursion P xs → AllByRecursion P (placed e xs)
+  pub all-placed : (P : Entry C → Type 0) (e : Entry C) (xs : List (Entry C)) → P e → AllByRecursion P xs → AllByRecursion P (placed_entry e xs)
   all-placed P e [] h k = (h, tt)
   all-placed P e (x ∷ xs) h k = go (nat_lt e.number x.number) (all-placed P e xs h k.1)
     where
-      go : (b : Bool) → AllByRecursion P (placed e xs) → AllByRecursion P (if b then e ∷ x ∷ xs else x ∷ placed e xs)
+      go : (b : Bool) → AllByRecursion P (placed_entry e xs) → AllByRecursion P (if b then e ∷ x ∷ xs else x ∷ placed_entry e xs)
       go true rest = (h, k)
       go false rest = (k.0, rest)
 
-  pub all-in_order : (P : Entry C → Type 0) (xs : List (Entry C)) → AllByRecursion P xs → AllByRecursion P (in_order xs)
+  pub all-in_order : (P : Entry C → Type 0) (xs : List (Entry C)) → AllByRecursion P xs → AllByRecursion P (entries_in_order xs)
   all-in_order P [] h = tt
-  all-in_order P (x ∷ xs) h = all-placed P x (in_order xs) h.0 (all-in_order P xs h.1)
+  all-in_order P (x ∷ xs) h = all-placed P x (entries_in_order xs) h.0 (all-in_order P xs h.1)
 
-  Has-placed_itself : (e : Entry C) (xs : List (Entry C)) → Has (placed e xs) e
+  Has-placed_itself : (e : Entry C) (xs : List (Entry C)) → Has (placed_entry e xs) e
   Has-placed_itself e [] = inl refl
   Has-placed_itself e (x ∷ xs) = go (nat_lt e.number x.number) (Has-placed_itself e xs)
     where
-      go : (b : Bool) → Has (placed e xs) e → Has (if b then e ∷ x ∷ xs else x ∷ placed e xs) e
+      go : (b : Bool) → Has (placed_entry e xs) e → Has (if b then e ∷ x ∷ xs else x ∷ placed_entry e xs) e
       go true rest = inl refl
       go false rest = inr rest
 
-  Has-placed : (e z : Entry C) (xs : List (Entry C)) → Has xs z → Has (placed e xs) z
+  Has-placed : (e z : Entry C) (xs : List (Entry C)) → Has xs z → Has (placed_entry e xs) z
   Has-placed e z [] h = absurd h
   Has-placed e z (x ∷ xs) h = go (nat_lt e.number x.number) h (Has-placed e z xs)
     where
-      go : (b : Bool) → Has (x ∷ xs) z → (Has xs z → Has (placed e xs) z) → Has (if b then e ∷ x ∷ xs else x ∷ placed e xs) z
+      go : (b : Bool) → Has (x ∷ xs) z → (Has xs z → Has (placed_entry e xs) z) → Has (if b then e ∷ x ∷ xs else x ∷ placed_entry e xs) z
       go true k rest = inr k
       go false (inl same) rest = inl same
       go false (inr k) rest = inr (rest k)
 
-  all-Has_in_order : (xs : List (Entry C)) → AllByRecursion (Has (in_order xs)) xs
+  all-Has_in_order : (xs : List (Entry C)) → AllByRecursion (Has (entries_in_order xs)) xs
   all-Has_in_order [] = tt
   all-Has_in_order (x ∷ xs) =
-      (Has-placed_itself x (in_order xs), all_weaker (Has (in_order xs)) (Has (placed x (in_order xs))) (λ z. Has-placed x z (in_order xs)) xs (all-Has_in_order xs))
+      (Has-placed_itself x (entries_in_order xs), all_weaker (Has (entries_in_order xs)) (Has (placed_entry x (entries_in_order xs))) (λ z. Has-placed x z (entries_in_order xs)) xs (all-Has_in_order xs))
 
   -- an entry with another number than all keeps the numbers ascending
-  IsAscending-placed : (e : Entry C) (xs : List (Entry C)) → IsAscending xs → AllByRecursion (λ y. (e.number == y.number) ≡ false) xs → IsAscending (placed e xs)
+  IsAscending-placed : (e : Entry C) (xs : List (Entry C)) → IsAscending xs → AllByRecursion (λ y. (e.number == y.number) ≡ false) xs → IsAscending (placed_entry e xs)
   IsAscending-placed e [] h k = (tt, tt)
   IsAscending-placed e (x ∷ xs) h k = go (nat_lt e.number x.number) refl (IsAscending-placed e xs h.1 k.1)
     where
-      go : (b : Bool) → nat_lt e.number x.number ≡ b → IsAscending (placed e xs) → IsAscending (if b then e ∷ x ∷ xs else x ∷ placed e xs)
+      go : (b : Bool) → nat_lt e.number x.number ≡ b → IsAscending (placed_entry e xs) → IsAscending (if b then e ∷ x ∷ xs else x ∷ placed_entry e xs)
       go true is rest =
           let less : e.number < x.number = grind (arith, nat_tests) in
           ((less, all_weaker (λ y. x.number < y.number) (λ y. e.number < y.number) (λ y l. omega (arith, less, l)) xs h.0), h)
       go false is rest = (all-placed (λ y. x.number < y.number) e xs (other_greater e.number x.number is k.0) h.0, rest)
 
-  pub IsAscending-in_order : (xs : List (Entry C)) → HasOwnNumbers xs → IsAscending (in_order xs)
+  pub IsAscending-in_order : (xs : List (Entry C)) → HasOwnNumbers xs → IsAscending (entries_in_order xs)
   IsAscending-in_order [] h = tt
   IsAscending-in_order (x ∷ xs) h =
-      IsAscending-placed x (in_order xs) (IsAscending-in_order xs (IsDistinct-tail _ x xs h))
+      IsAscending-placed x (entries_in_order xs) (IsAscending-in_order xs (IsDistinct-tail _ x xs h))
       (all-in_order (λ y. (x.number == y.number) ≡ false) xs (IsDistinct-head _ x xs h))
 
   -- two ascending lists of the same entries are one
@@ -138,29 +138,29 @@ module _ {C : Type 0} where
   all_permuted : (P : Entry C → Type 0) (xs ys : List (Entry C)) → IsPermutation xs ys → AllByRecursion P xs → AllByRecursion P ys
   all_permuted P xs ys moved h = recursion_from_All P ys (All-permutation P xs ys moved (All-from_recursion P xs h))
 
-  pub in_order-IsPermutation : (xs ys : List (Entry C)) → IsPermutation xs ys → HasOwnNumbers xs → in_order xs ≡ in_order ys
+  pub in_order-IsPermutation : (xs ys : List (Entry C)) → IsPermutation xs ys → HasOwnNumbers xs → entries_in_order xs ≡ entries_in_order ys
   in_order-IsPermutation xs ys moved own =
-      same_entries (in_order xs) (in_order ys)
+      same_entries (entries_in_order xs) (entries_in_order ys)
       (IsAscending-in_order xs own) (IsAscending-in_order ys (HasOwnNumbers-IsPermutation xs ys moved own))
-      (all-in_order (Has (in_order ys)) xs (all_permuted (Has (in_order ys)) ys xs (IsPermutation-sym xs ys moved) (all-Has_in_order ys)))
-      (all-in_order (Has (in_order xs)) ys (all_permuted (Has (in_order xs)) xs ys moved (all-Has_in_order xs)))
+      (all-in_order (Has (entries_in_order ys)) xs (all_permuted (Has (entries_in_order ys)) ys xs (IsPermutation-sym xs ys moved) (all-Has_in_order ys)))
+      (all-in_order (Has (entries_in_order xs)) ys (all_permuted (Has (entries_in_order xs)) xs ys moved (all-Has_in_order xs)))
 
   -- what joins last, and what leaves
-  placed-last : (e : Entry C) (xs : List (Entry C)) → AllByRecursion (λ x. x.number < e.number) xs → placed e xs ≡ xs ++ e ∷ []
+  placed-last : (e : Entry C) (xs : List (Entry C)) → AllByRecursion (λ x. x.number < e.number) xs → placed_entry e xs ≡ xs ++ e ∷ []
   placed-last e [] h = refl
   placed-last e (x ∷ xs) h = go (nat_lt e.number x.number) refl (placed-last e xs h.1)
     where
-      go : (b : Bool) → nat_lt e.number x.number ≡ b → placed e xs ≡ xs ++ e ∷ [] → (if b then e ∷ x ∷ xs else x ∷ placed e xs) ≡ (x ∷ xs) ++ e ∷ []
+      go : (b : Bool) → nat_lt e.number x.number ≡ b → placed_entry e xs ≡ xs ++ e ∷ [] → (if b then e ∷ x ∷ xs else x ∷ placed_entry e xs) ≡ (x ∷ xs) ++ e ∷ []
       go true is rest = let less : x.number < e.number = h.0 in absurd (grind (arith, nat_tests, less, is))
       go false is rest = ap (λ (ys : List (Entry C)). x ∷ ys) rest
 
   pub HasOwnNumbers-push : (e : Entry C) (xs : List (Entry C)) → AllByRecursion (λ x. x.number < e.number) xs → HasOwnNumbers xs → HasOwnNumbers (e ∷ xs)
   HasOwnNumbers-push e xs below own = IsDistinct-cons (λ a b. a.number == b.number) e xs (all_weaker (λ x. x.number < e.number) (λ x. (e.number == x.number) ≡ false) (λ x h. other_number e.number x.number h) xs below) own
 
-  pub in_order-push : (e : Entry C) (xs ys : List (Entry C)) → IsPermutation (e ∷ xs) ys → AllByRecursion (λ x. x.number < e.number) xs → HasOwnNumbers xs → in_order ys ≡ in_order xs ++ e ∷ []
+  pub in_order-push : (e : Entry C) (xs ys : List (Entry C)) → IsPermutation (e ∷ xs) ys → AllByRecursion (λ x. x.number < e.number) xs → HasOwnNumbers xs → entries_in_order ys ≡ entries_in_order xs ++ e ∷ []
   in_order-push e xs ys moved below own =
       sym (in_order-IsPermutation (e ∷ xs) ys moved (HasOwnNumbers-push e xs below own))
-      ∙ placed-last e (in_order xs) (all-in_order (λ x. x.number < e.number) xs below)
+      ∙ placed-last e (entries_in_order xs) (all-in_order (λ x. x.number < e.number) xs below)
 
   -- where an entry stands among others
   pub record Stands (e : Entry C) (others all : List (Entry C)) : Type 0 where
@@ -169,11 +169,11 @@ module _ {C : Type 0} where
     pub others_are : others ≡ before ++ behind
     pub all_are : all ≡ before ++ e ∷ behind
 
-  placed-stands : (e : Entry C) (xs : List (Entry C)) → Stands e xs (placed e xs)
+  placed-stands : (e : Entry C) (xs : List (Entry C)) → Stands e xs (placed_entry e xs)
   placed-stands e [] = record { before = []; behind = []; others_are = refl; all_are = refl }
   placed-stands e (x ∷ xs) = go (nat_lt e.number x.number) (placed-stands e xs)
     where
-      go : (b : Bool) → Stands e xs (placed e xs) → Stands e (x ∷ xs) (if b then e ∷ x ∷ xs else x ∷ placed e xs)
+      go : (b : Bool) → Stands e xs (placed_entry e xs) → Stands e (x ∷ xs) (if b then e ∷ x ∷ xs else x ∷ placed_entry e xs)
       go true rest = record { before = []; behind = x ∷ xs; others_are = refl; all_are = refl }
       go false rest = record {
         before = x ∷ rest.before;
@@ -188,11 +188,11 @@ module _ {C : Type 0} where
     pub below : AllByRecursion (λ x. x.number < e.number) stands.before
     pub above : AllByRecursion (λ x. e.number < x.number) stands.behind
 
-  placed-stands_by_number : (e : Entry C) (xs : List (Entry C)) → IsAscending xs → AllByRecursion (λ x. (e.number == x.number) ≡ false) xs → StandsByNumber e xs (placed e xs)
+  placed-stands_by_number : (e : Entry C) (xs : List (Entry C)) → IsAscending xs → AllByRecursion (λ x. (e.number == x.number) ≡ false) xs → StandsByNumber e xs (placed_entry e xs)
   placed-stands_by_number e [] h k = record { stands = record { before = []; behind = []; others_are = refl; all_are = refl }; below = tt; above = tt }
   placed-stands_by_number e (x ∷ xs) h k = go (nat_lt e.number x.number) refl (placed-stands_by_number e xs h.1 k.1)
     where
-      go : (b : Bool) → nat_lt e.number x.number ≡ b → StandsByNumber e xs (placed e xs) → StandsByNumber e (x ∷ xs) (if b then e ∷ x ∷ xs else x ∷ placed e xs)
+      go : (b : Bool) → nat_lt e.number x.number ≡ b → StandsByNumber e xs (placed_entry e xs) → StandsByNumber e (x ∷ xs) (if b then e ∷ x ∷ xs else x ∷ placed_entry e xs)
       go true is rest =
           let less : e.number < x.number = grind (arith, nat_tests) in
           record {
@@ -211,25 +211,25 @@ module _ {C : Type 0} where
         above = rest.above;
       }
 
-  pub in_order-push_at : (e : Entry C) (xs ys : List (Entry C)) → IsPermutation (e ∷ xs) ys → HasOwnNumbers xs → AllByRecursion (λ x. (e.number == x.number) ≡ false) xs → StandsByNumber e (in_order xs) (in_order ys)
+  pub in_order-push_at : (e : Entry C) (xs ys : List (Entry C)) → IsPermutation (e ∷ xs) ys → HasOwnNumbers xs → AllByRecursion (λ x. (e.number == x.number) ≡ false) xs → StandsByNumber e (entries_in_order xs) (entries_in_order ys)
   in_order-push_at e xs ys moved own apart =
       let all_own : HasOwnNumbers (e ∷ xs) = IsDistinct-cons (λ a b. a.number == b.number) e xs apart own in
-      let is : placed e (in_order xs) ≡ in_order ys = in_order-IsPermutation (e ∷ xs) ys moved all_own in
-      subst (StandsByNumber e (in_order xs)) is
-      (placed-stands_by_number e (in_order xs) (IsAscending-in_order xs own) (all-in_order (λ x. (e.number == x.number) ≡ false) xs apart))
+      let is : placed_entry e (entries_in_order xs) ≡ entries_in_order ys = in_order-IsPermutation (e ∷ xs) ys moved all_own in
+      subst (StandsByNumber e (entries_in_order xs)) is
+      (placed-stands_by_number e (entries_in_order xs) (IsAscending-in_order xs own) (all-in_order (λ x. (e.number == x.number) ≡ false) xs apart))
 
   -- what holds of the entries by their numbers holds of them as they stand
-  pub all-from_in_order : (P : Entry C → Type 0) (xs : List (Entry C)) → AllByRecursion P (in_order xs) → AllByRecursion P xs
-  all-from_in_order P xs h = all_weaker (Has (in_order xs)) P (λ z k. at_Has P (in_order xs) z h k) xs (all-Has_in_order xs)
+  pub all-from_in_order : (P : Entry C → Type 0) (xs : List (Entry C)) → AllByRecursion P (entries_in_order xs) → AllByRecursion P xs
+  all-from_in_order P xs h = all_weaker (Has (entries_in_order xs)) P (λ z k. at_Has P (entries_in_order xs) z h k) xs (all-Has_in_order xs)
 
   pub AllPairs-ascending : (xs : List (Entry C)) → IsAscending xs → AllPairs (λ a b. a.number < b.number) xs
   AllPairs-ascending [] h = λ i j d less within. absurd (omega arith)
   AllPairs-ascending (x ∷ xs) h = AllPairs-cons (λ a b. a.number < b.number) x xs (All-from_recursion (λ y. x.number < y.number) xs h.0) (AllPairs-ascending xs h.1)
 
-  pub in_order-pop : (e : Entry C) (xs ys : List (Entry C)) → IsPermutation xs (e ∷ ys) → HasOwnNumbers xs → Stands e (in_order ys) (in_order xs)
+  pub in_order-pop : (e : Entry C) (xs ys : List (Entry C)) → IsPermutation xs (e ∷ ys) → HasOwnNumbers xs → Stands e (entries_in_order ys) (entries_in_order xs)
   in_order-pop e xs ys moved own =
-      let is : in_order xs ≡ placed e (in_order ys) = in_order-IsPermutation xs (e ∷ ys) moved own in
-      let stands = placed-stands e (in_order ys) in
+      let is : entries_in_order xs ≡ placed_entry e (entries_in_order ys) = in_order-IsPermutation xs (e ∷ ys) moved own in
+      let stands = placed-stands e (entries_in_order ys) in
       record {
         before = stands.before;
         behind = stands.behind;
@@ -237,17 +237,17 @@ module _ {C : Type 0} where
         all_are = is ∙ stands.all_are;
       }
 
-  length-placed : (e : Entry C) (xs : List (Entry C)) → length (placed e xs) ≡ suc (length xs)
+  length-placed : (e : Entry C) (xs : List (Entry C)) → length (placed_entry e xs) ≡ suc (length xs)
   length-placed e [] = refl
   length-placed e (x ∷ xs) = go (nat_lt e.number x.number) (length-placed e xs)
     where
-      go : (b : Bool) → length (placed e xs) ≡ suc (length xs) → length (if b then e ∷ x ∷ xs else x ∷ placed e xs) ≡ suc (suc (length xs))
+      go : (b : Bool) → length (placed_entry e xs) ≡ suc (length xs) → length (if b then e ∷ x ∷ xs else x ∷ placed_entry e xs) ≡ suc (suc (length xs))
       go true rest = refl
       go false rest = ap suc rest
 
-  pub length-in_order : (xs : List (Entry C)) → length (in_order xs) ≡ length xs
+  pub length-in_order : (xs : List (Entry C)) → length (entries_in_order xs) ≡ length xs
   length-in_order [] = refl
-  length-in_order (x ∷ xs) = length-placed x (in_order xs) ∙ ap suc (length-in_order xs)
+  length-in_order (x ∷ xs) = length-placed x (entries_in_order xs) ∙ ap suc (length-in_order xs)
 
   -- what the top of a heap says
   pub leaves_first : (x y : Entry C) → lt_by_cmp heap_order x y ≡ false → (x.number == y.number) ≡ false → IsBefore x y

@@ -21,13 +21,13 @@ pub struct Agenda<C, R: DueRule<C>, W: Weigher<C>> {
 
 impl<C, R: DueRule<C>, W: Weigher<C>> Model for Agenda<C, R, W> {
     ghost use Rattle.command_queue.specs.Queue.{Queue};
-    ghost use Rattle.command_queue.specs.Internal.Inside.{in_order, HoldsPushed};
+    ghost use Rattle.command_queue.specs.Internal.Inside.{entries_in_order, HoldsPushed};
 
     ghost Value = { Queue C R };
 
     ghost view = { λ a. record {
       rule = a.rule;
-      entries = in_order a.bag.items;
+      entries = entries_in_order a.bag.items;
       pushes = a.pushes;
       spare = a.bag.spare;
     } };

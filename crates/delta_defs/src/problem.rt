@@ -5,7 +5,7 @@ ghost use Rattle.stt_core.specs.View.{the_term};
 ghost use Rattle.stt_core.specs.TypedProblem.{IsTyped};
 ghost use Rattle.delta_defs.specs.Definitions.{unfolded};
 ghost use Rattle.delta_defs.specs.Unfolding.{taken_from as is_taken_from, with_next, unless_taken, definitions_of, left_formulas, taken_names, unfolded_problem};
-ghost use Rattle.delta_defs.specs.Laws.{KeepsModels, AreDeclared};
+ghost use Rattle.delta_defs.specs.Laws.{KeepsModels, AreDeclaredNames};
 
 use crate::definition::Definitions;
 use crate::names::NameIds;
@@ -148,7 +148,7 @@ fn names_of(alloc: Global, definitions: &Definitions) -> Result<NameIds, AllocEr
 /// The places of the taken names, in order.
 pub fn taken(alloc: Global, problem: &Problem) -> Result<NameIds, AllocError>
     ensures names { IfOk result (λ names. names ≡ taken_names problem.now) }
-    ensures declared { IfOk result (λ names. IsTyped problem.now → AreDeclared problem.now names) }
+    ensures declared { IfOk result (λ names. IsTyped problem.now → AreDeclaredNames problem.now names) }
 {
     let sorted = sort(alloc, problem)?;
     let names = names_of(alloc, &sorted.definitions)?;

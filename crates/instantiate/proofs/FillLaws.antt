@@ -5,31 +5,31 @@ use Rattle.std.proofs.lemmas.List.{drop-set-lt, take_more_set}
 use Rattle.std.proofs.lemmas.Option.{slice_get_within}
 use Rattle.stt_core.specs.SimpleType.{SimpleType, base, arrow}
 use Rattle.stt_core.specs.Lambda.{Lambda}
-use Rattle.search_spec.specs.Partial.{Partial, head, application, in_first, filled, blank, with_holes}
+use Rattle.search_spec.specs.Partial.{Partial, head, application, in_first, with_filling, blank_partial, with_holes}
 use Rattle.instantiate.specs.Internal.PartialSizes.{applications}
-use Rattle.instantiate.specs.Internal.Holes.{placed, filling, filling_all}
+use Rattle.instantiate.specs.Internal.Holes.{placed_partial, filling, filling_all}
 use Rattle.instantiate.specs.Internal.Blanks.{blanks}
 use Rattle.instantiate.proofs.HoleLaws.{drop-at}
 
 pub with_holes-blanks : (a : SimpleType) (p : Partial) → with_holes a p ≡ applications p (blanks a)
 with_holes-blanks (base n) p = refl
-with_holes-blanks (arrow a b) p = with_holes-blanks b (application p (blank a))
+with_holes-blanks (arrow a b) p = with_holes-blanks b (application p (blank_partial a))
 
-pub placed-first : (r p : Partial) (o : Option Partial) → (placed r p o).0 ≡ unwrap_or o p
+pub placed-first : (r p : Partial) (o : Option Partial) → (placed_partial r p o).0 ≡ unwrap_or o p
 placed-first r p (Some q) = refl
 placed-first r p None = refl
 
 filling-application : (o : Option Partial) (p q : Partial) → filling o (application p q) ≡ (application (filling o p).0 (filling (filling o p).1 q).0, (filling (filling o p).1 q).1)
 filling-application None p q = refl
-filling-application (Some r) p q = go (filled r p)
+filling-application (Some r) p q = go (with_filling r p)
   where
-    second : (y : Option Partial) → placed r (application p q) (in_first None p y q) ≡ (application p (placed r q y).0, (placed r q y).1)
+    second : (y : Option Partial) → placed_partial r (application p q) (in_first None p y q) ≡ (application p (placed_partial r q y).0, (placed_partial r q y).1)
     second (Some q') = refl
     second None = refl
 
-    go : (x : Option Partial) → placed r (application p q) (in_first x p (filled r q) q) ≡ (application (placed r p x).0 (filling (placed r p x).1 q).0, (filling (placed r p x).1 q).1)
+    go : (x : Option Partial) → placed_partial r (application p q) (in_first x p (with_filling r q) q) ≡ (application (placed_partial r p x).0 (filling (placed_partial r p x).1 q).0, (filling (placed_partial r p x).1 q).1)
     go (Some p') = refl
-    go None = second (filled r q)
+    go None = second (with_filling r q)
 
 filling-applications : (o : Option Partial) (p : Partial) (qs : List Partial) → filling o (applications p qs) ≡ (applications (filling o p).0 (filling_all (filling o p).1 qs).0, (filling_all (filling o p).1 qs).1)
 filling-applications o p [] = refl

@@ -13,15 +13,15 @@ use Rattle.stt_core.specs.declared.nf.Head.TheVariants.{Bound, Name, Wit, False,
 use Rattle.stt_core.proofs.TypeLaws.{get_declared, constant_declared}
 use Rattle.term_bank.specs.Content.{Content, HasTerm}
 use Rattle.term_bank.specs.Terms.{IsTypedTerm}
-use Rattle.search_spec.specs.Partial.{Partial, head, Hole, first_hole, filled, with_holes}
+use Rattle.search_spec.specs.Partial.{Partial, head, Hole, first_hole, with_filling, with_holes}
 use Rattle.search_spec.specs.TypedPartial.{IsPartial}
 use Rattle.search_spec.specs.Heads.{target}
-use Rattle.search_spec.specs.Commands.{filled_at}
+use Rattle.search_spec.specs.Commands.{filling_at}
 use Rattle.search_spec.specs.TypedState.{IsTypedSketch}
 use Rattle.search_spec.proofs.PartialLaws.{Fills, with_holes_typed, fills, whole_canonical}
 use Rattle.search_spec.proofs.TypedHeads.{DeclaredAt, declared_at}
-use Rattle.instantiate.specs.Growing.{IsTyped, TakesHead, IsTerm, IsPartOf}
-use Rattle.instantiate.specs.Internal.Holes.{base_in, placed, filling}
+use Rattle.instantiate.specs.Growing.{IsTypedPartialTerm, TakesHead, IsTerm, IsPartOf}
+use Rattle.instantiate.specs.Internal.Holes.{base_in, placed_partial, filling}
 use Rattle.instantiate.specs.Internal.Blanks.{term_of}
 use Rattle.instantiate.specs.Internal.Fitting.{to_base, fitting}
 use Rattle.instantiate.proofs.WholeLaws.{whole-none, whole-hole}
@@ -69,15 +69,15 @@ module _ (scope : Scope) (good : IsScope scope) where
       let OfBase : ℕ → Type 0 = λ n. IsPartial scope at.context (base n) (with_holes a (head h)) in
       subst OfBase gives (with_holes_typed scope at.context a (head h) (leaf_declared at.context a h d leaf type) (leaf, leaf_neutral at.context a h leaf type))
 
-  copy_is : (p r q s : Partial) → filled r p ≡ Some s → q ≡ (filling (Some r) p).0 → q ≡ s
-  copy_is p r q s f copy = copy ∙ ap (λ o. (placed r p o).0) f
+  copy_is : (p r q s : Partial) → with_filling r p ≡ Some s → q ≡ (filling (Some r) p).0 → q ≡ s
+  copy_is p r q s f copy = copy ∙ ap (λ o. (placed_partial r p o).0) f
 
-  filled_is : (p : Partial) (h : Lambda) (at : Hole) (a : SimpleType) (q : Partial) → first_hole [] p ≡ Some at → type_of scope at.context h ≡ Some a → filled (with_holes a (head h)) p ≡ Some q → filled_at scope h p (first_hole [] p) ≡ Some q
-  filled_is p h at a q first type f = ap (filled_at scope h p) first ∙ ap (λ o. filled (with_holes (unwrap_or o formula) (head h)) p) type ∙ f
+  filled_is : (p : Partial) (h : Lambda) (at : Hole) (a : SimpleType) (q : Partial) → first_hole [] p ≡ Some at → type_of scope at.context h ≡ Some a → with_filling (with_holes a (head h)) p ≡ Some q → filling_at scope h p (first_hole [] p) ≡ Some q
+  filled_is p h at a q first type f = ap (filling_at scope h p) first ∙ ap (λ o. with_filling (with_holes (unwrap_or o formula) (head h)) p) type ∙ f
 
   -- the partial term with the head in its first hole
   pub record HasGrown (h : Lambda) (p q : Partial) (a : SimpleType) : Type 0 where
-    pub is_filled : filled_at scope h p (first_hole [] p) ≡ Some q
+    pub is_filled : filling_at scope h p (first_hole [] p) ≡ Some q
     pub typed : IsPartial scope [] a q
 
   at_hole : (p : Partial) (h : Lambda) (b : SimpleType) → IsTypedSketch scope (record { type = b; partial = p }) → IsLeaf h → (at : Hole) → first_hole [] p ≡ Some at → (a : SimpleType) → type_of scope at.context h ≡ Some a → target a ≡ at.base → (r q : Partial) → r ≡ with_holes a (head h) → q ≡ (filling (Some r) p).0 → HasGrown h p q b
@@ -91,7 +91,7 @@ module _ (scope : Scope) (good : IsScope scope) where
           let Typed : Partial → Type 0 = λ s. IsPartial scope [] b s in
           record { is_filled = filled_is p h at a q first type (f.1 ∙ ap Some (sym same)); typed = subst Typed (sym same) f.2 }
 
-  pub has_grown : (p : Partial) (h : Lambda) (typed : IsTyped scope p) (takes : TakesHead scope p h) → IsLeaf h → (a : SimpleType) (r q : Partial) → Some a ≡ fitting scope h (first_hole [] p) → r ≡ with_holes a (head h) → q ≡ (filling (Some r) p).0 → HasGrown h p q typed.type
+  pub has_grown : (p : Partial) (h : Lambda) (typed : IsTypedPartialTerm scope p) (takes : TakesHead scope p h) → IsLeaf h → (a : SimpleType) (r q : Partial) → Some a ≡ fitting scope h (first_hole [] p) → r ≡ with_holes a (head h) → q ≡ (filling (Some r) p).0 → HasGrown h p q typed.type
   has_grown p h typed takes leaf a r q fit is copy =
       let f : Fits a takes.type takes.hole.base = fits_base takes.hole.base a takes.type (fit ∙ ap (fitting scope h) takes.is_first ∙ ap (to_base takes.hole.base) takes.has_type) in
       at_hole p h typed.type typed.sketch leaf takes.hole takes.is_first a (takes.has_type ∙ ap Some f.same) f.gives r q is copy

@@ -5,7 +5,7 @@ use Rattle.std.proofs.lemmas.Option.{same_Some}
 use Rattle.stt_core.specs.SimpleType.{SimpleType}
 use Rattle.stt_core.specs.Lambda.{Lambda}
 use Rattle.search_spec.specs.Partial.{Partial, hole, head, function, application, Hole, first_hole, or_else}
-use Rattle.instantiate.specs.Internal.PartialSizes.{applications, node_count, counts}
+use Rattle.instantiate.specs.Internal.PartialSizes.{applications, partial_node_count, partial_node_counts}
 use Rattle.instantiate.specs.Internal.Holes.{base_in, base_among, first_among}
 
 option_map-or_else : {A B : Type 0} (f : A → B) (x y : Option A) → option_map f (or_else x y) ≡ or_else (option_map f x) (option_map f y)
@@ -63,9 +63,9 @@ base_among-found ps i n p at e = ap (λ x. or_else x (base_among (drop (i + 1) p
 pub base_among-later : (ps : List Partial) (i : ℕ) (p : Partial) → slice_get ps i ≡ Some p → None ≡ base_in p → base_among (drop (i + 1) ps) ≡ base_among (drop i ps)
 base_among-later ps i p at e = ap (λ x. or_else x (base_among (drop (i + 1) ps))) e ∙ ap base_among (sym (drop-at ps i p at))
 
-pub node_count-at : (ps : List Partial) (i : ℕ) (p : Partial) → slice_get ps i ≡ Some p → node_count p < counts ps
+pub node_count-at : (ps : List Partial) (i : ℕ) (p : Partial) → slice_get ps i ≡ Some p → partial_node_count p < partial_node_counts ps
 node_count-at [] i p h = cc
-node_count-at (q ∷ ps) zero p h = omega (arith, ap node_count (same_Some q p h))
+node_count-at (q ∷ ps) zero p h = omega (arith, ap partial_node_count (same_Some q p h))
 node_count-at (q ∷ ps) (suc i) p h = omega (arith, node_count-at ps i p h)
 
 -- A HOLE WITH A HEAD THERE

@@ -6,22 +6,22 @@ use Rattle.std.proofs.lemmas.Option.{same_Some}
 use Rattle.stt_core.specs.SimpleType.{SimpleType, same_type}
 use Rattle.stt_core.proofs.TypeLaws.{same_type-true}
 use Rattle.instantiate.specs.Listing.{Listing, ids_of, with_listed}
-use Rattle.instantiate.specs.Internal.Groups.{Group, first_group, place_in, AreRight}
+use Rattle.instantiate.specs.Internal.Groups.{Group, first_group, group_place, AreRightGroups}
 
 -- what stands at the place of a type
-pub at_place : (a : SimpleType) (gs : List Group) (g : Group) → slice_get gs (place_in a gs) ≡ Some g → (same_type a g.0 ≡ true) × (first_group a gs ≡ g.1)
+pub at_place : (a : SimpleType) (gs : List Group) (g : Group) → slice_get gs (group_place a gs) ≡ Some g → (same_type a g.0 ≡ true) × (first_group a gs ≡ g.1)
 at_place a [] g h = cc
 at_place a (k ∷ gs) g h = go (same_type a k.0) refl (at_place a gs g) h
   where
-    go : (b : Bool) → same_type a k.0 ≡ b → (slice_get gs (place_in a gs) ≡ Some g → (same_type a g.0 ≡ true) × (first_group a gs ≡ g.1)) → slice_get (k ∷ gs) (if b then 0 else suc (place_in a gs)) ≡ Some g → (same_type a g.0 ≡ true) × ((if b then k.1 else first_group a gs) ≡ g.1)
+    go : (b : Bool) → same_type a k.0 ≡ b → (slice_get gs (group_place a gs) ≡ Some g → (same_type a g.0 ≡ true) × (first_group a gs ≡ g.1)) → slice_get (k ∷ gs) (if b then 0 else suc (group_place a gs)) ≡ Some g → (same_type a g.0 ≡ true) × ((if b then k.1 else first_group a gs) ≡ g.1)
     go true e rest h = let same : k ≡ g = same_Some k g h in (ap (λ (x : Group). same_type a x.0) (sym same) ∙ e, ap (λ (x : Group). x.1) same)
     go false e rest h = rest h
 
-pub no_place : (a : SimpleType) (gs : List Group) → slice_get gs (place_in a gs) ≡ None → first_group a gs ≡ []
+pub no_place : (a : SimpleType) (gs : List Group) → slice_get gs (group_place a gs) ≡ None → first_group a gs ≡ []
 no_place a [] h = refl
 no_place a (k ∷ gs) h = go (same_type a k.0) (no_place a gs) h
   where
-    go : (b : Bool) → (slice_get gs (place_in a gs) ≡ None → first_group a gs ≡ []) → slice_get (k ∷ gs) (if b then 0 else suc (place_in a gs)) ≡ None → (if b then k.1 else first_group a gs) ≡ []
+    go : (b : Bool) → (slice_get gs (group_place a gs) ≡ None → first_group a gs ≡ []) → slice_get (k ∷ gs) (if b then 0 else suc (group_place a gs)) ≡ None → (if b then k.1 else first_group a gs) ≡ []
     go true rest h = cc
     go false rest h = rest h
 
@@ -44,11 +44,11 @@ twice : {X : Type 0} (s : Bool) (x y z : X) → (if s then x else z) ≡ (if s t
 twice true x y z = refl
 twice false x y z = refl
 
-pub set-first : (a : SimpleType) (gs : List Group) (g : Group) (is : List ℕ) → slice_get gs (place_in a gs) ≡ Some g → (c : SimpleType) → first_group c (set gs (place_in a gs) (g.0, is)) ≡ (if same_type c a then is else first_group c gs)
+pub set-first : (a : SimpleType) (gs : List Group) (g : Group) (is : List ℕ) → slice_get gs (group_place a gs) ≡ Some g → (c : SimpleType) → first_group c (set gs (group_place a gs) (g.0, is)) ≡ (if same_type c a then is else first_group c gs)
 set-first a [] g is h c = cc
 set-first a (k ∷ gs) g is h c = go (same_type a k.0) refl (λ e. set-first a gs g is e c) h
   where
-    go : (b : Bool) → same_type a k.0 ≡ b → (slice_get gs (place_in a gs) ≡ Some g → first_group c (set gs (place_in a gs) (g.0, is)) ≡ (if same_type c a then is else first_group c gs)) → slice_get (k ∷ gs) (if b then 0 else suc (place_in a gs)) ≡ Some g → first_group c (set (k ∷ gs) (if b then 0 else suc (place_in a gs)) (g.0, is)) ≡ (if same_type c a then is else (if same_type c k.0 then k.1 else first_group c gs))
+    go : (b : Bool) → same_type a k.0 ≡ b → (slice_get gs (group_place a gs) ≡ Some g → first_group c (set gs (group_place a gs) (g.0, is)) ≡ (if same_type c a then is else first_group c gs)) → slice_get (k ∷ gs) (if b then 0 else suc (group_place a gs)) ≡ Some g → first_group c (set (k ∷ gs) (if b then 0 else suc (group_place a gs)) (g.0, is)) ≡ (if same_type c a then is else (if same_type c k.0 then k.1 else first_group c gs))
     go true e rest h =
         let same : k ≡ g = same_Some k g h in
         let ty : a ≡ k.0 = same_type-true a k.0 e in
@@ -56,21 +56,21 @@ set-first a (k ∷ gs) g is h c = go (same_type a k.0) refl (λ e. set-first a g
         ∙ ap (λ (x : SimpleType). if same_type c x then is else first_group c gs) (sym ty)
         ∙ twice (same_type c a) is k.1 (first_group c gs)
         ∙ ap (λ (x : SimpleType). if same_type c a then is else (if same_type c x then k.1 else first_group c gs)) ty
-    go false e rest h = step a c k.0 is k.1 (first_group c gs) (first_group c (set gs (place_in a gs) (g.0, is))) e (rest h)
+    go false e rest h = step a c k.0 is k.1 (first_group c gs) (first_group c (set gs (group_place a gs) (g.0, is))) e (rest h)
 
-pub end-first : (a : SimpleType) (gs : List Group) (is : List ℕ) → place_in a gs ≡ length gs → (c : SimpleType) → first_group c (gs ++ (a, is) ∷ []) ≡ (if same_type c a then is else first_group c gs)
+pub end-first : (a : SimpleType) (gs : List Group) (is : List ℕ) → group_place a gs ≡ length gs → (c : SimpleType) → first_group c (gs ++ (a, is) ∷ []) ≡ (if same_type c a then is else first_group c gs)
 end-first a [] is h c = refl
 end-first a (k ∷ gs) is h c = go (same_type a k.0) refl (λ e. end-first a gs is e c) h
   where
-    go : (b : Bool) → same_type a k.0 ≡ b → (place_in a gs ≡ length gs → first_group c (gs ++ (a, is) ∷ []) ≡ (if same_type c a then is else first_group c gs)) → (if b then 0 else suc (place_in a gs)) ≡ suc (length gs) → first_group c (k ∷ (gs ++ (a, is) ∷ [])) ≡ (if same_type c a then is else (if same_type c k.0 then k.1 else first_group c gs))
+    go : (b : Bool) → same_type a k.0 ≡ b → (group_place a gs ≡ length gs → first_group c (gs ++ (a, is) ∷ []) ≡ (if same_type c a then is else first_group c gs)) → (if b then 0 else suc (group_place a gs)) ≡ suc (length gs) → first_group c (k ∷ (gs ++ (a, is) ∷ [])) ≡ (if same_type c a then is else (if same_type c k.0 then k.1 else first_group c gs))
     go true e rest h = absurd (omega (arith, h))
     go false e rest h = step a c k.0 is k.1 (first_group c gs) (first_group c (gs ++ (a, is) ∷ [])) e (rest (omega (arith, h)))
 
-pub at_end : (a : SimpleType) (gs : List Group) → place_in a gs ≡ length gs → first_group a gs ≡ []
+pub at_end : (a : SimpleType) (gs : List Group) → group_place a gs ≡ length gs → first_group a gs ≡ []
 at_end a [] h = refl
 at_end a (k ∷ gs) h = go (same_type a k.0) (at_end a gs) h
   where
-    go : (b : Bool) → (place_in a gs ≡ length gs → first_group a gs ≡ []) → (if b then 0 else suc (place_in a gs)) ≡ suc (length gs) → (if b then k.1 else first_group a gs) ≡ []
+    go : (b : Bool) → (group_place a gs ≡ length gs → first_group a gs ≡ []) → (if b then 0 else suc (group_place a gs)) ≡ suc (length gs) → (if b then k.1 else first_group a gs) ≡ []
     go true rest h = absurd (omega (arith, h))
     go false rest h = rest (omega (arith, h))
 
@@ -101,31 +101,31 @@ by_type a c xs ys is os here else' = go (same_type c a) refl
     go true e = here e
     go false e = else'
 
-pub further_right : (gs after : List Group) (all : List Listing) (a : SimpleType) (g : Group) (id : ℕ) → AreRight gs all → slice_get gs (place_in a gs) ≡ Some g → after ≡ set gs (place_in a gs) (g.0, g.1 ++ id ∷ []) → AreRight after (all ++ (a, id) ∷ [])
+pub further_right : (gs after : List Group) (all : List Listing) (a : SimpleType) (g : Group) (id : ℕ) → AreRightGroups gs all → slice_get gs (group_place a gs) ≡ Some g → after ≡ set gs (group_place a gs) (g.0, g.1 ++ id ∷ []) → AreRightGroups after (all ++ (a, id) ∷ [])
 further_right gs after all a g id right here is c =
     ap (first_group c) is ∙ set-first a gs g (g.1 ++ id ∷ []) here c
     ∙ by_type a c (g.1 ++ id ∷ []) (first_group c gs) (ids_of c all ++ id ∷ []) (ids_of c all)
     (λ e. ap (λ is. is ++ id ∷ []) (sym (at_place a gs g here).1 ∙ ap (λ x. first_group x gs) (sym (same_type-true c a e)) ∙ right c)) (right c)
     ∙ sym (ids-end all a c id)
 
-pub first_right : (gs : List Group) (all : List Listing) (a : SimpleType) (id : ℕ) → AreRight gs all → place_in a gs ≡ length gs → AreRight (gs ++ (a, id ∷ []) ∷ []) (all ++ (a, id) ∷ [])
+pub first_right : (gs : List Group) (all : List Listing) (a : SimpleType) (id : ℕ) → AreRightGroups gs all → group_place a gs ≡ length gs → AreRightGroups (gs ++ (a, id ∷ []) ∷ []) (all ++ (a, id) ∷ [])
 first_right gs all a id right at c =
     end-first a gs (id ∷ []) at c
     ∙ by_type a c (id ∷ []) (first_group c gs) (ids_of c all ++ id ∷ []) (ids_of c all)
     (λ e. ap (λ is. is ++ id ∷ []) (sym (at_end a gs at) ∙ ap (λ x. first_group x gs) (sym (same_type-true c a e)) ∙ right c)) (right c)
     ∙ sym (ids-end all a c id)
 
-pub none_there : (gs : List Group) (all : List Listing) (a : SimpleType) (n id : ℕ) → AreRight gs all → n ≡ place_in a gs → n ≡ length gs → list_any (nat_eq id) (ids_of a all) ≡ false
+pub none_there : (gs : List Group) (all : List Listing) (a : SimpleType) (n id : ℕ) → AreRightGroups gs all → n ≡ group_place a gs → n ≡ length gs → list_any (nat_eq id) (ids_of a all) ≡ false
 none_there gs all a n id right at end = ap (list_any (nat_eq id)) (sym (right a) ∙ at_end a gs (sym at ∙ end))
 
-here_place : (gs ss ds : List Group) (a : SimpleType) (n : ℕ) (o : Option Group) → ss ≡ gs → n ≡ place_in a ss → ds ≡ gs → slice_get ds n ≡ o → slice_get gs (place_in a gs) ≡ o
-here_place gs ss ds a n o same at deref h = ap₂ slice_get (sym deref) (ap (place_in a) (sym same) ∙ sym at) ∙ h
+here_place : (gs ss ds : List Group) (a : SimpleType) (n : ℕ) (o : Option Group) → ss ≡ gs → n ≡ group_place a ss → ds ≡ gs → slice_get ds n ≡ o → slice_get gs (group_place a gs) ≡ o
+here_place gs ss ds a n o same at deref h = ap₂ slice_get (sym deref) (ap (group_place a) (sym same) ∙ sym at) ∙ h
 
 -- what is read at the place of a type are its terms
-pub shown : (gs ss ds : List Group) (all : List Listing) (a : SimpleType) (n : ℕ) (g : Group) → AreRight gs all → ss ≡ gs → n ≡ place_in a ss → ds ≡ gs → slice_get ds n ≡ Some g → g.1 ≡ ids_of a all
+pub shown : (gs ss ds : List Group) (all : List Listing) (a : SimpleType) (n : ℕ) (g : Group) → AreRightGroups gs all → ss ≡ gs → n ≡ group_place a ss → ds ≡ gs → slice_get ds n ≡ Some g → g.1 ≡ ids_of a all
 shown gs ss ds all a n g right same at deref h = sym (at_place a gs g (here_place gs ss ds a n (Some g) same at deref h)).1 ∙ right a
 
-pub none_shown : (gs ss ds : List Group) (all : List Listing) (a : SimpleType) (n : ℕ) → AreRight gs all → ss ≡ gs → n ≡ place_in a ss → ds ≡ gs → slice_get ds n ≡ None → [] ≡ ids_of a all
+pub none_shown : (gs ss ds : List Group) (all : List Listing) (a : SimpleType) (n : ℕ) → AreRightGroups gs all → ss ≡ gs → n ≡ group_place a ss → ds ≡ gs → slice_get ds n ≡ None → [] ≡ ids_of a all
 none_shown gs ss ds all a n right same at deref h = sym (no_place a gs (here_place gs ss ds a n None same at deref h)) ∙ right a
 
 pub with_new : (all after : List Listing) (a : SimpleType) (id : ℕ) → list_any (nat_eq id) (ids_of a all) ≡ false → after ≡ all ++ (a, id) ∷ [] → after ≡ with_listed a id all
@@ -134,10 +134,10 @@ with_new all after a id h e = e ∙ sym (ap (λ (b : Bool). if b then all else a
 pub with_old : (all : List Listing) (a : SimpleType) (id : ℕ) → list_any (nat_eq id) (ids_of a all) ≡ true → all ≡ with_listed a id all
 with_old all a id h = sym (ap (λ (b : Bool). if b then all else all ++ (a, id) ∷ []) h)
 
-pub set_right : (gs ss after : List Group) (all : List Listing) (a : SimpleType) (n id : ℕ) (g : Group) → AreRight gs all → ss ≡ gs → n ≡ place_in a ss → slice_get gs n ≡ Some g → after ≡ set gs n (g.0, g.1 ++ id ∷ []) → AreRight after (all ++ (a, id) ∷ [])
+pub set_right : (gs ss after : List Group) (all : List Listing) (a : SimpleType) (n id : ℕ) (g : Group) → AreRightGroups gs all → ss ≡ gs → n ≡ group_place a ss → slice_get gs n ≡ Some g → after ≡ set gs n (g.0, g.1 ++ id ∷ []) → AreRightGroups after (all ++ (a, id) ∷ [])
 set_right gs ss after all a n id g right same at here is =
-    let place : n ≡ place_in a gs = at ∙ ap (place_in a) same in
+    let place : n ≡ group_place a gs = at ∙ ap (group_place a) same in
     further_right gs after all a g id right (ap (slice_get gs) (sym place) ∙ here) (is ∙ ap (λ (k : ℕ). set gs k (g.0, g.1 ++ id ∷ [])) place)
 
-pub shown_at : (gs : List Group) (all : List Listing) (a : SimpleType) (n : ℕ) (g : Group) → AreRight gs all → n ≡ place_in a gs → slice_get gs n ≡ Some g → g.1 ≡ ids_of a all
+pub shown_at : (gs : List Group) (all : List Listing) (a : SimpleType) (n : ℕ) (g : Group) → AreRightGroups gs all → n ≡ group_place a gs → slice_get gs n ≡ Some g → g.1 ≡ ids_of a all
 shown_at gs all a n g right at h = shown gs gs gs all a n g right refl at refl h

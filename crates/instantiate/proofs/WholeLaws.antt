@@ -6,7 +6,7 @@ use Rattle.stt_core.specs.SimpleType.{SimpleType}
 use Rattle.stt_core.specs.Lambda.{Lambda, lam, app, applied}
 use Rattle.stt_core.specs.Typing.{Scope}
 use Rattle.stt_core.proofs.SpineLaws.{IsAtom}
-use Rattle.search_spec.specs.Partial.{Partial, hole, head, function, application, or_else, whole}
+use Rattle.search_spec.specs.Partial.{Partial, hole, head, function, application, or_else, whole_term}
 use Rattle.term_bank.specs.Content.{Content, content_scope, HasTerm, Grows}
 use Rattle.term_bank.specs.Terms.{term_at, IsTypedTerm}
 use Rattle.term_bank.proofs.GrowLaws.{grows_itself, grown_scope, has_at}
@@ -15,7 +15,7 @@ use Rattle.term_bank.proofs.TreeLaws.{AreImported, argument_ready}
 use Rattle.instantiate.specs.Internal.PartialSizes.{applications}
 use Rattle.instantiate.specs.Internal.Holes.{base_in, base_among}
 use Rattle.instantiate.specs.Internal.Blanks.{term_of}
-use Rattle.instantiate.specs.Internal.Interned.{AreTyped, HaveTerms}
+use Rattle.instantiate.specs.Internal.Interned.{AreTyped, HaveInternedTerms}
 use Rattle.instantiate.proofs.HoleLaws.{base_in-function, base_in-application}
 
 term_of-applications : (p : Partial) (qs : List Partial) → term_of (applications p qs) ≡ applied (term_of p) (map term_of qs)
@@ -36,7 +36,7 @@ none_at [] i p e at = cc
 none_at (q ∷ ps) zero p e at = ap base_in (sym (same_Some q p at)) ∙ (neither (base_in q) (base_among ps) e).0
 none_at (q ∷ ps) (suc i) p e at = none_at ps i p (neither (base_in q) (base_among ps) e).1 at
 
-pub whole-none : (p : Partial) → base_in p ≡ None → whole p ≡ Some (term_of p)
+pub whole-none : (p : Partial) → base_in p ≡ None → whole_term p ≡ Some (term_of p)
 whole-none (hole n) e = cc
 whole-none (head h) e = refl
 whole-none (function a p) e = ap (option_map (lam a)) (whole-none p (sym (base_in-function a p) ∙ e))
@@ -44,14 +44,14 @@ whole-none (application p q) e =
     let both = neither (base_in p) (base_in q) (sym (base_in-application p q) ∙ e) in
     ap₂ (λ x y. option_and_then (λ s. option_map (app s) y) x) (whole-none p both.0) (whole-none q both.1)
 
-pub whole-hole : (p : Partial) (n : ℕ) → Some n ≡ base_in p → whole p ≡ None
+pub whole-hole : (p : Partial) (n : ℕ) → Some n ≡ base_in p → whole_term p ≡ None
 whole-hole (hole m) n e = refl
 whole-hole (head h) n e = cc
 whole-hole (function a p) n e = ap (option_map (lam a)) (whole-hole p n (e ∙ base_in-function a p))
 whole-hole (application p q) n e = go (base_in p) refl (e ∙ base_in-application p q) (λ m f. whole-hole p m f) (λ g. whole-hole q n g)
   where
-    go : (x : Option ℕ) → base_in p ≡ x → Some n ≡ or_else x (base_in q) → ((m : ℕ) → Some m ≡ base_in p → whole p ≡ None) → (Some n ≡ base_in q → whole q ≡ None) → option_and_then (λ s. option_map (app s) (whole q)) (whole p) ≡ None
-    go (Some m) f g left right = ap (option_and_then (λ s. option_map (app s) (whole q))) (left m (sym f))
+    go : (x : Option ℕ) → base_in p ≡ x → Some n ≡ or_else x (base_in q) → ((m : ℕ) → Some m ≡ base_in p → whole_term p ≡ None) → (Some n ≡ base_in q → whole_term q ≡ None) → option_and_then (λ s. option_map (app s) (whole_term q)) (whole_term p) ≡ None
+    go (Some m) f g left right = ap (option_and_then (λ s. option_map (app s) (whole_term q))) (left m (sym f))
     go None f g left right = ap₂ (λ x y. option_and_then (λ s. option_map (app s) y) x) (whole-none p f) (right g)
 
 -- TERMS OF A BANK
@@ -70,10 +70,10 @@ at_typed old new ps i p g typed at =
 pub map-at : (ps : List Partial) (i : ℕ) (p : Partial) → slice_get ps i ≡ Some p → slice_get (map term_of ps) i ≡ Some (term_of p)
 map-at ps i p at = slice_get-map term_of ps i ∙ ap (option_map term_of) at
 
-pub all_have : (old new : Content) (us : List Lambda) (ids : List ℕ) (i : ℕ) → AreImported old new (take i us) ids → length us ≤ i → HaveTerms new ids us
+pub all_have : (old new : Content) (us : List Lambda) (ids : List ℕ) (i : ℕ) → AreImported old new (take i us) ids → length us ≤ i → HaveInternedTerms new ids us
 all_have old new us ids i r past = record { within = r.within; are = r.are ∙ take_all i us past }
 
-pub spine_same : (b : Content) (h : Lambda) (ids slice : List ℕ) (us : List Lambda) → HaveTerms b ids us → slice ≡ ids → applied h (map (term_at b.terms) slice) ≡ applied h us
+pub spine_same : (b : Content) (h : Lambda) (ids slice : List ℕ) (us : List Lambda) → HaveInternedTerms b ids us → slice ≡ ids → applied h (map (term_at b.terms) slice) ≡ applied h us
 spine_same b h ids slice us r e = ap (applied h) (ap (map (term_at b.terms)) e ∙ r.are)
 
 pub lam_ready : (old new : Content) (a : SimpleType) (p : Partial) (id : ℕ) (t : Lambda) → Grows old new → t ≡ lam a (term_of p) → IsTypedTerm (content_scope old) t → HasTerm new id (term_of p) → IsTypedTerm (content_scope new) (lam a (term_at new.terms id))
@@ -82,7 +82,7 @@ lam_ready old new a p id t g e typed has =
     let Q : Lambda → Type 0 = λ u. IsTypedTerm (content_scope old) u in
     subst P (sym (grown_scope old new g)) (subst Q (e ∙ ap (lam a) (sym (has_at new id (term_of p) has))) typed)
 
-pub app_ready : (old new : Content) (h : Lambda) (qs : List Partial) (ids slice : List ℕ) (t : Lambda) → Grows old new → t ≡ applied h (map term_of qs) → IsTypedTerm (content_scope old) t → HaveTerms new ids (map term_of qs) → slice ≡ ids → IsTypedTerm (content_scope new) (applied h (map (term_at new.terms) slice))
+pub app_ready : (old new : Content) (h : Lambda) (qs : List Partial) (ids slice : List ℕ) (t : Lambda) → Grows old new → t ≡ applied h (map term_of qs) → IsTypedTerm (content_scope old) t → HaveInternedTerms new ids (map term_of qs) → slice ≡ ids → IsTypedTerm (content_scope new) (applied h (map (term_at new.terms) slice))
 app_ready old new h qs ids slice t g e typed have same =
     let P : Scope → Type 0 = λ s. IsTypedTerm s (applied h (map (term_at new.terms) slice)) in
     let Q : Lambda → Type 0 = λ u. IsTypedTerm (content_scope old) u in

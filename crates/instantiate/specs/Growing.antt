@@ -3,16 +3,16 @@ use Rattle.std.specs.Prelude.{◌≡◌, ℕ, nat_eq, Bool, false, [], Option, S
 use Rattle.stt_core.specs.SimpleType.{SimpleType}
 use Rattle.stt_core.specs.Lambda.{Lambda}
 use Rattle.stt_core.specs.Typing.{Scope, type_of}
-use Rattle.search_spec.specs.Partial.{Partial, Hole, first_hole, whole}
+use Rattle.search_spec.specs.Partial.{Partial, Hole, first_hole, whole_term}
 use Rattle.search_spec.specs.Heads.{target}
-use Rattle.search_spec.specs.Commands.{filled_at}
+use Rattle.search_spec.specs.Commands.{filling_at}
 use Rattle.search_spec.specs.TypedState.{IsTypedSketch}
 use Rattle.term_bank.specs.Content.{Content, HasTerm}
 use Rattle.instantiate.specs.declared.growing.Grown.{Grown}
 use Rattle.instantiate.specs.declared.growing.Grown.TheVariants.{Term, More}
 
 -- the partial term has a type, over what is declared
-pub record IsTyped (scope : Scope) (p : Partial) : Type 0 where
+pub record IsTypedPartialTerm (scope : Scope) (p : Partial) : Type 0 where
   pub type : SimpleType
   pub sketch : IsTypedSketch scope (record { type = type; partial = p })
 
@@ -36,15 +36,15 @@ fits scope h (Some at) = gives at.base (type_of scope at.context h)
 -- place of the bank
 pub record IsTerm (scope : Scope) (h : Lambda) (p : Partial) (b : Content) (id : ℕ) : Type 0 where
   pub filled : Partial
-  pub is_filled : filled_at scope h p (first_hole [] p) ≡ Some filled
+  pub is_filled : filling_at scope h p (first_hole [] p) ≡ Some filled
   pub term : Lambda
-  pub is_whole : whole filled ≡ Some term
+  pub is_whole : whole_term filled ≡ Some term
   pub stands : HasTerm b id term
 
 -- this is the partial term with the head in its first hole, and it still has holes
 pub record IsPartOf (scope : Scope) (h : Lambda) (p q : Partial) : Type 0 where
-  pub is_filled : filled_at scope h p (first_hole [] p) ≡ Some q
-  pub has_hole : whole q ≡ None
+  pub is_filled : filling_at scope h p (first_hole [] p) ≡ Some q
+  pub has_hole : whole_term q ≡ None
 
 abbrev pub IsGrown : Scope → Lambda → Partial → Content → Grown → Type 0
 IsGrown scope h p b (Term id) = IsTerm scope h p b id

@@ -5,7 +5,7 @@ use Rattle.instantiate.specs.declared.partial.PartialNode.{PartialNode}
 use Rattle.instantiate.specs.declared.partial.PartialNode.TheVariants.{Hole, Lam, App}
 use Rattle.instantiate.specs.Internal.PartialSizes.{applications}
 
-abbrev pub the_node : PartialNode → Partial
-the_node (Hole n) = hole n
-the_node (Lam a p) = function (the_type a) p.value
-the_node (App h ps) = applications (head (the_head h)) ps
+abbrev pub the_partial_node : PartialNode → Partial
+the_partial_node (Hole n) = hole n
+the_partial_node (Lam a p) = function (the_type a) p.value
+the_partial_node (App h ps) = applications (head (the_head h)) ps

@@ -3,7 +3,7 @@ ghost use Rattle.std.specs.Prelude.{◌≡◌, ◌≤◌, ◌++◌, [], ◌∷�
 ghost use Rattle.std.specs.List.{list_any};
 ghost use Rattle.stt_core.specs.View.{the_type};
 ghost use Rattle.instantiate.specs.Listing.{ids_of, with_listed};
-ghost use Rattle.instantiate.specs.Internal.Groups.{place_in};
+ghost use Rattle.instantiate.specs.Internal.Groups.{group_place};
 
 use crate::list::{Listed, TermList};
 use std::alloc::{AllocError, Global};
@@ -24,7 +24,7 @@ impl Model for Enumerator {
     ghost use Rattle.std.specs.Coded.{coded_list, coded×, coded_ℕ};
     ghost use Rattle.stt_core.specs.Internal.TypeCode.{type_code};
     ghost use Rattle.instantiate.specs.Listing.{Listing};
-    ghost use Rattle.instantiate.specs.Internal.Groups.{AreRight};
+    ghost use Rattle.instantiate.specs.Internal.Groups.{AreRightGroups};
 
     ghost Value = { List Listing };
 
@@ -32,7 +32,7 @@ impl Model for Enumerator {
 
     ghost view = { λ e. e.order.items };
 
-    ghost invariant = { λ e. AreRight e.lists.items e.order.items };
+    ghost invariant = { λ e. AreRightGroups e.lists.items e.order.items };
 }
 
 impl Enumerator {
@@ -84,7 +84,7 @@ impl Enumerator {
 
 /// The place of the first list of the type, or the end.
 fn place_of(lists: &[TermList], ty: &Ty) -> usize
-    ensures place { result ≡ place_in (the_type ty.now) lists.now }
+    ensures place { result ≡ group_place (the_type ty.now) lists.now }
     ensures within { result ≤ length lists.now }
 {
     for i in 0..lists.len() {

@@ -1,7 +1,7 @@
 //! Partial terms with something in their first hole.
 ghost use Rattle.std.specs.Prelude.{◌≡◌, ◌++◌, [], IfOk, OnOk, unwrap_or};
 ghost use Rattle.stt_core.specs.View.{the_type, the_head};
-ghost use Rattle.search_spec.specs.Partial.{head as the_leaf, filled, with_holes};
+ghost use Rattle.search_spec.specs.Partial.{head as the_leaf, with_filling, with_holes};
 ghost use Rattle.instantiate.specs.Internal.Blanks.{blanks};
 ghost use Rattle.instantiate.specs.Internal.Holes.{filling, filling_all};
 
@@ -51,7 +51,7 @@ impl Partial {
 
     /// The partial term with a head of this type, and with holes for its arguments, in the first hole, where there is one.
     pub fn with_head(self, alloc: Global, head: &Head, ty: &Ty) -> Result<Partial, AllocError>
-        ensures { IfOk result (λ p. p ≡ unwrap_or (filled (with_holes (the_type ty.now) (the_leaf (the_head head.now))) self) self) }
+        ensures { IfOk result (λ p. p ≡ unwrap_or (with_filling (with_holes (the_type ty.now) (the_leaf (the_head head.now))) self) self) }
     {
         let mut filler = Some(Partial::with_holes(alloc, head, ty)?);
         let mut partial = self;

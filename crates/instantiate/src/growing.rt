@@ -4,7 +4,7 @@ ghost use Rattle.stt_core.specs.View.{the_type, the_head};
 ghost use Rattle.search_spec.specs.Heads.{target};
 ghost use Rattle.search_spec.specs.Partial.{first_hole};
 ghost use Rattle.term_bank.specs.Content.{content_scope, Grows};
-ghost use Rattle.instantiate.specs.Growing.{IsTyped, TakesHead, fits, IsGrown};
+ghost use Rattle.instantiate.specs.Growing.{IsTypedPartialTerm, TakesHead, fits, IsGrown};
 ghost use Rattle.instantiate.specs.Internal.Fitting.{fitting};
 
 use crate::enumerator::Enumerator;
@@ -58,7 +58,7 @@ impl Enumerator {
         partial: Partial,
         head: &Head,
     ) -> Result<Option<Grown>, AllocError>
-        requires typed { IsTyped (content_scope bank.old) partial }
+        requires typed { IsTypedPartialTerm (content_scope bank.old) partial }
         requires takes { TakesHead (content_scope bank.old) partial (the_head head.now) }
         ensures fits { IfOk result (λ o. is_some o ≡ fits (content_scope bank.old) (the_head head.now) (first_hole [] partial)) }
         ensures grown { IfOk result (λ o. IfSome o (λ g. IsGrown (content_scope bank.old) (the_head head.now) partial bank.new g)) }

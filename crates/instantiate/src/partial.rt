@@ -1,7 +1,7 @@
 //! Partial terms: terms with holes in place of which terms are still to come.
 ghost use Rattle.std.specs.Prelude.{◌≡◌, ◌<◌, ◌++◌, Some, [], ◌∷◌, length, IfOk, OnOk, OnErr, option_map, slice_get};
 ghost use Rattle.stt_core.specs.View.{the_type};
-ghost use Rattle.search_spec.specs.Partial.{first_hole, blank};
+ghost use Rattle.search_spec.specs.Partial.{first_hole, blank_partial};
 ghost use Rattle.instantiate.specs.Internal.Holes.{base_among};
 
 use std::alloc::{AllocError, Global};
@@ -39,17 +39,17 @@ impl Model for Partial {
 
     ghost coded = { partial_code };
 
-    ghost use Rattle.instantiate.specs.Internal.PartialSizes.{node_count};
-    ghost use Rattle.instantiate.specs.PartialView.{the_node};
+    ghost use Rattle.instantiate.specs.Internal.PartialSizes.{partial_node_count};
+    ghost use Rattle.instantiate.specs.PartialView.{the_partial_node};
 
-    ghost view = { λ a. the_node a.node };
+    ghost view = { λ a. the_partial_node a.node };
 
-    ghost size = { node_count };
+    ghost size = { partial_node_count };
 
     ghost use Rattle.std.proofs.Common.{arith};
-    ghost use Rattle.instantiate.specs.Internal.PartialFalls.{node_falls};
+    ghost use Rattle.instantiate.specs.Internal.PartialFalls.{partial_node_falls};
 
-    ghost size_decreases = { λ a h. omega (arith, node_falls a.node) };
+    ghost size_decreases = { λ a h. omega (arith, partial_node_falls a.node) };
 }
 
 impl Model for Partials {
@@ -65,9 +65,9 @@ impl Model for Partials {
     ghost view = { λ a. a.items.items };
 
     ghost use Rattle.std.proofs.Common.{arith};
-    ghost use Rattle.instantiate.specs.Internal.PartialSizes.{counts, partials_fall};
+    ghost use Rattle.instantiate.specs.Internal.PartialSizes.{partial_node_counts, partials_fall};
 
-    ghost size = { counts };
+    ghost size = { partial_node_counts };
 
     ghost size_decreases = { λ a h. omega (arith, partials_fall a.items.items) };
 }
@@ -121,7 +121,7 @@ impl Partials {
 impl Partial {
     /// One hole, under the binders of the type.
     pub fn of_type(alloc: Global, ty: &Ty) -> Result<Partial, AllocError>
-        ensures { IfOk result (λ partial. partial ≡ blank (the_type ty.now)) }
+        ensures { IfOk result (λ partial. partial ≡ blank_partial (the_type ty.now)) }
     {
         match ty {
             Ty::Base(n) => Ok(Partial {

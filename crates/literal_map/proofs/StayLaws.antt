@@ -12,7 +12,7 @@ use Rattle.term_bank.specs.Content.{Content, content_scope, Grows}
 use Rattle.term_bank.specs.Terms.{term_at}
 use Rattle.term_bank.proofs.GrowLaws.{grown_scope, grown_at, grown_within}
 use Rattle.term_bank.proofs.ListLaws.{get_or-front}
-use Rattle.literal_map.specs.Atoms.{literal_at, IsAtom, Begins}
+use Rattle.literal_map.specs.Atoms.{bank_literal, IsAtom, Begins}
 
 atom_stays : (old new : Content) → Grows old new → (id : ℕ) → IsAtom old id → IsAtom new id
 atom_stays old new g id a =
@@ -28,7 +28,7 @@ atom_stays old new g id a =
 pub atoms_stay : (old new : Content) → Grows old new → (atoms : List ℕ) → All (IsAtom old) atoms → All (IsAtom new) atoms
 atoms_stay old new g atoms h = All-weaker (IsAtom old) (IsAtom new) (λ id a. atom_stays old new g id a) atoms h
 
-pub literals_same : (old new : Content) → Grows old new → (atoms further : List ℕ) → All (IsAtom old) atoms → Begins atoms further → (l : SatLit) → l.var.0 < length atoms → literal_at new.terms further l ≡ literal_at old.terms atoms l
+pub literals_same : (old new : Content) → Grows old new → (atoms further : List ℕ) → All (IsAtom old) atoms → Begins atoms further → (l : SatLit) → l.var.0 < length atoms → bank_literal new.terms further l ≡ bank_literal old.terms atoms l
 literals_same old new g atoms further h b l k =
     let place : get_or further l.var.0 0 ≡ get_or atoms l.var.0 0 = ap (λ xs. get_or xs l.var.0 0) b.is ∙ get_or-front atoms b.further l.var.0 0 k in
     let L : Lambda → Literal = λ t. record { positive = l.positive; atom = t } in

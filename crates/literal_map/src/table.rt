@@ -5,7 +5,7 @@ ghost use Rattle.stt_core.specs.SimpleType.{formula};
 ghost use Rattle.tableau_calculus.specs.Literals.{as_literal};
 ghost use Rattle.term_bank.specs.Content.{content_scope};
 ghost use Rattle.term_bank.specs.Terms.{term_at};
-ghost use Rattle.literal_map.specs.Atoms.{literal_at, IsAtom, Begins};
+ghost use Rattle.literal_map.specs.Atoms.{bank_literal, IsAtom, Begins};
 
 use crate::unsigned::atom_of;
 use indexmap::IndexSet;
@@ -58,7 +58,7 @@ impl LitTable {
         requires formula { IsCanonical (content_scope bank.now) [] formula (term_at bank.now.terms id) }
         requires atoms { All (IsAtom bank.now) self.old }
         ensures number { IfOk result (λ l. l.var.0 < length self.new) }
-        ensures literal { IfOk result (λ l. literal_at bank.now.terms self.new l ≡ as_literal (term_at bank.now.terms id)) }
+        ensures literal { IfOk result (λ l. bank_literal bank.now.terms self.new l ≡ as_literal (term_at bank.now.terms id)) }
         ensures begins { Begins self.old self.new }
         ensures atoms { All (IsAtom bank.now) self.new }
         ensures err { OnErr result (self.new ≡ self.old) }
@@ -94,8 +94,8 @@ impl LitTable {
         requires within { id < length bank.now.terms }
         requires atoms { All (IsAtom bank.now) self.now }
         ensures number { IfSome result (λ l. l.var.0 < length self.now) }
-        ensures literal { IfSome result (λ l. literal_at bank.now.terms self.now l ≡ as_literal (term_at bank.now.terms id)) }
-        ensures none { IfNone result ((l : SatLit) → l.var.0 < length self.now → literal_at bank.now.terms self.now l ≡ as_literal (term_at bank.now.terms id) → ⊥) }
+        ensures literal { IfSome result (λ l. bank_literal bank.now.terms self.now l ≡ as_literal (term_at bank.now.terms id)) }
+        ensures none { IfNone result ((l : SatLit) → l.var.0 < length self.now → bank_literal bank.now.terms self.now l ≡ as_literal (term_at bank.now.terms id) → ⊥) }
     {
         let formula = atom_of(bank, id);
         equal_ids_for_equal_terms(bank);

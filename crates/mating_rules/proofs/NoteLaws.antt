@@ -17,8 +17,8 @@ use Rattle.term_bank.specs.Terms.{term_at, shape_term}
 use Rattle.term_bank.specs.NodeView.{the_shape}
 use Rattle.term_bank.specs.declared.node.Node.{Node}
 use Rattle.term_bank.specs.declared.node.Node.TheVariants.{Lam, App}
-use Rattle.literal_map.specs.Atoms.{atom_at, IsAtom}
-use Rattle.mating_rules.specs.Noted.{Signed, Notes, kept_under, has_pairing_head, are_partners, partners_of, IsRight}
+use Rattle.literal_map.specs.Atoms.{bank_atom, IsAtom}
+use Rattle.mating_rules.specs.Noted.{Signed, Notes, kept_under, has_pairing_head, are_partners, partners_of, IsRightIndex}
 use Rattle.mating_rules.specs.Internal.Pairing.{pairing_head, kept_where, KeepsWhere}
 use Rattle.mating_rules.proofs.FilterLaws.{filter-agree, filter-none}
 use Rattle.mating_rules.proofs.PairLaws.{head-kept, partners-head, IsHeadOf, head_of-shape}
@@ -38,24 +38,24 @@ found_head b t n f e =
     subst Q (sym e) (head_of-shape (content_scope b) b.terms (the_shape n) (leaves n) (subst P e f))
 
 -- the same at the number of an atom in its table
-pub found_at : (b : Content) (atoms : List ℕ) (v id : ℕ) (n : Node) → v < length atoms → All (IsAtom b) atoms → slice_get atoms v ≡ Some id → term_at b.terms id ≡ shape_term b.terms (the_shape n) → IsHeadOf (atom_at b.terms atoms v) (pairing_head (the_shape n))
+pub found_at : (b : Content) (atoms : List ℕ) (v id : ℕ) (n : Node) → v < length atoms → All (IsAtom b) atoms → slice_get atoms v ≡ Some id → term_at b.terms id ≡ shape_term b.terms (the_shape n) → IsHeadOf (bank_atom b.terms atoms v) (pairing_head (the_shape n))
 found_at b atoms v id n number all at e =
-    found_head b (atom_at b.terms atoms v) n (all v 0 number).is_formula (ap (term_at b.terms) (get_or_from_slice_get atoms v id 0 at) ∙ e)
+    found_head b (bank_atom b.terms atoms v) n (all v 0 number).is_formula (ap (term_at b.terms) (get_or_from_slice_get atoms v id 0 at) ∙ e)
 
 turned_sign : (p q : Bool) → not (same_sign p q) ≡ same_sign (not p) q
 turned_sign true q = refl
 turned_sign false true = refl
 turned_sign false false = refl
 
-module _ (b : Content) (atoms : List ℕ) (all : All (IsAtom b) atoms) (i : Notes) (right : IsRight b.terms atoms i) (l : SatLit) (number : l.var.0 < length atoms) where
+module _ (b : Content) (atoms : List ℕ) (all : All (IsAtom b) atoms) (i : Notes) (right : IsRightIndex b.terms atoms i) (l : SatLit) (number : l.var.0 < length atoms) where
   abbrev t : Lambda
-  t = atom_at b.terms atoms l.var.0
+  t = bank_atom b.terms atoms l.var.0
 
   abbrev Formula : Lambda → Type 0
   Formula u = IsCanonical (content_scope b) [] formula u
 
-  formulas : All (λ (m : SatLit). Formula (atom_at b.terms atoms m.var.0)) i.noted
-  formulas = All-weaker (λ (m : SatLit). m.var.0 < length atoms) (λ m. Formula (atom_at b.terms atoms m.var.0)) (λ m k. (all m.var.0 0 k).is_formula) i.noted right.numbers
+  formulas : All (λ (m : SatLit). Formula (bank_atom b.terms atoms m.var.0)) i.noted
+  formulas = All-weaker (λ (m : SatLit). m.var.0 < length atoms) (λ m. Formula (bank_atom b.terms atoms m.var.0)) (λ m k. (all m.var.0 0 k).is_formula) i.noted right.numbers
 
   own : Formula t
   own = (all l.var.0 0 number).is_formula
@@ -63,20 +63,20 @@ module _ (b : Content) (atoms : List ℕ) (all : All (IsAtom b) atoms) (i : Note
   -- the literals of the other sign under the atom's head are the partners
   pub kept-partners : (o : Option Lambda) → IsHeadOf t o → kept_where o (not l.positive) i.heads ≡ partners_of b.terms atoms l i.noted
   kept-partners None none =
-      sym (filter-none (λ m. not (same_sign l.positive m.positive) && are_partners t (atom_at b.terms atoms m.var.0)) i.noted
-      (λ m. ap (λ b. not (same_sign l.positive m.positive) && b) (none.partners (atom_at b.terms atoms m.var.0)) ∙ no_one (not (same_sign l.positive m.positive))))
+      sym (filter-none (λ m. not (same_sign l.positive m.positive) && are_partners t (bank_atom b.terms atoms m.var.0)) i.noted
+      (λ m. ap (λ b. not (same_sign l.positive m.positive) && b) (none.partners (bank_atom b.terms atoms m.var.0)) ∙ no_one (not (same_sign l.positive m.positive))))
     where
       no_one : (x : Bool) → (x && false) ≡ false
       no_one true = refl
       no_one false = refl
   kept-partners (Some h) u =
       right.kept h (not l.positive)
-      ∙ filter-agree (λ m. same_sign (not l.positive) m.positive && has_pairing_head h (atom_at b.terms atoms m.var.0)) (λ m. not (same_sign l.positive m.positive) && are_partners t (atom_at b.terms atoms m.var.0)) i.noted
-      (All-weaker (λ (m : SatLit). Formula (atom_at b.terms atoms m.var.0)) (λ m. (same_sign (not l.positive) m.positive && has_pairing_head h (atom_at b.terms atoms m.var.0)) ≡ (not (same_sign l.positive m.positive) && are_partners t (atom_at b.terms atoms m.var.0)))
-      (λ m f. ap₂ (λ x y. x && y) (sym (turned_sign l.positive m.positive)) (ap (λ k. has_pairing_head k (atom_at b.terms atoms m.var.0)) u.is ∙ sym (partners-head (content_scope b) t u.head own u.at u.applies u.pairing (atom_at b.terms atoms m.var.0) f))) i.noted formulas)
+      ∙ filter-agree (λ m. same_sign (not l.positive) m.positive && has_pairing_head h (bank_atom b.terms atoms m.var.0)) (λ m. not (same_sign l.positive m.positive) && are_partners t (bank_atom b.terms atoms m.var.0)) i.noted
+      (All-weaker (λ (m : SatLit). Formula (bank_atom b.terms atoms m.var.0)) (λ m. (same_sign (not l.positive) m.positive && has_pairing_head h (bank_atom b.terms atoms m.var.0)) ≡ (not (same_sign l.positive m.positive) && are_partners t (bank_atom b.terms atoms m.var.0)))
+      (λ m f. ap₂ (λ x y. x && y) (sym (turned_sign l.positive m.positive)) (ap (λ k. has_pairing_head k (bank_atom b.terms atoms m.var.0)) u.is ∙ sym (partners-head (content_scope b) t u.head own u.at u.applies u.pairing (bank_atom b.terms atoms m.var.0) f))) i.noted formulas)
 
   abbrev test : Lambda → Bool → SatLit → Bool
-  test k sign m = same_sign sign m.positive && has_pairing_head k (atom_at b.terms atoms m.var.0)
+  test k sign m = same_sign sign m.positive && has_pairing_head k (bank_atom b.terms atoms m.var.0)
 
   one_more : (k : Lambda) (sign : Bool) → filter (test k sign) (i.noted ++ l ∷ []) ≡ (if test k sign l then kept_under k sign i.heads ++ l ∷ [] else kept_under k sign i.heads)
   one_more k sign =
@@ -106,7 +106,7 @@ module _ (b : Content) (atoms : List ℕ) (all : All (IsAtom b) atoms) (i : Note
       ∙ ap (λ (x : Bool). if x then kept_under k sign i.heads ++ l ∷ [] else kept_under k sign i.heads)
       (either_way (same_term k h) (same_sign sign l.positive) ∙ ap (λ y. same_sign sign l.positive && y) (ap (same_term k) u.is ∙ sym (head-kept (content_scope b) t u.head own u.at u.applies u.pairing k)))
 
-  pub noted_right : (o : Option Lambda) → IsHeadOf t o → (new : Notes) → new.noted ≡ i.noted ++ l ∷ [] → KeepsWhere o l i.heads new.heads → IsRight b.terms atoms new
+  pub noted_right : (o : Option Lambda) → IsHeadOf t o → (new : Notes) → new.noted ≡ i.noted ++ l ∷ [] → KeepsWhere o l i.heads new.heads → IsRightIndex b.terms atoms new
   noted_right o u new longer keeps = record {
     numbers = let P : List SatLit → Type 0 = λ ls. All (λ (m : SatLit). m.var.0 < length atoms) ls in subst P (sym longer) (All-push (λ (m : SatLit). m.var.0 < length atoms) i.noted l right.numbers number);
     kept = λ k sign. kept_on o u new.heads keeps k sign ∙ sym (one_more k sign) ∙ ap (filter (test k sign)) (sym longer);

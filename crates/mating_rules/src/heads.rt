@@ -4,7 +4,7 @@ ghost use Rattle.stt_core.specs.Lambda.{Lambda};
 ghost use Rattle.mating_rules.specs.Noted.{kept_under};
 ghost use Rattle.stt_core.specs.View.{the_head};
 ghost use Rattle.term_bank.specs.NodeView.{the_shape};
-ghost use Rattle.mating_rules.specs.Internal.Groups.{Keeps, place_in, IsNew};
+ghost use Rattle.mating_rules.specs.Internal.Groups.{Keeps, notes_place, IsNewGroup};
 ghost use Rattle.mating_rules.specs.Internal.Pairing.{is_pairing, pairing_head, kept_where, KeepsWhere};
 
 use crate::key::Key;
@@ -62,9 +62,9 @@ impl Heads {
 
     /// The place of a head.
     fn place_of(&self, key: &Key) -> Option<usize>
-        ensures place { IfSome result (λ place. place ≡ place_in key.now self.now) }
+        ensures place { IfSome result (λ place. place ≡ notes_place key.now self.now) }
         ensures within { IfSome result (λ place. place < length self.now) }
-        ensures none { IfNone result (IsNew key.now self.now) }
+        ensures none { IfNone result (IsNewGroup key.now self.now) }
     {
         self.lits.get_index_of(key)
     }
@@ -72,8 +72,8 @@ impl Heads {
     /// Keeps a literal under the head at a place. The answer are those of the other sign that are there.
     fn keep_at(&mut self, place: usize, lit: SatLit) -> Result<Partners, AllocError>
         requires { place < length self.old }
-        ensures partners { IfOk result (λ found. (h : Lambda) → place ≡ place_in h self.old → found ≡ kept_under h (not lit.positive) self.old) }
-        ensures keeps { OnOk result ((h : Lambda) → place ≡ place_in h self.old → Keeps h lit self.old self.new) }
+        ensures partners { IfOk result (λ found. (h : Lambda) → place ≡ notes_place h self.old → found ≡ kept_under h (not lit.positive) self.old) }
+        ensures keeps { OnOk result ((h : Lambda) → place ≡ notes_place h self.old → Keeps h lit self.old self.new) }
         ensures err { OnErr result (self.new ≡ self.old) }
     {
         let (_, lits) = self.lits.pair_mut(place);
@@ -84,7 +84,7 @@ impl Heads {
 
     /// Keeps a literal under a new head.
     fn keep_first(&mut self, key: Key, lit: SatLit) -> Result<(), AllocError>
-        requires { IsNew key self.old }
+        requires { IsNewGroup key self.old }
         ensures keeps { OnOk result (Keeps key lit self.old self.new) }
         ensures err { OnErr result (self.new ≡ self.old) }
     {
@@ -111,7 +111,7 @@ impl Heads {
     /// The literals of a sign that are kept under the head at a place.
     fn kept_at(&self, place: usize, positive: bool) -> &[SatLit]
         requires { place < length self.now }
-        ensures { (h : Lambda) → place ≡ place_in h self.now → result.now ≡ kept_under h positive self.now }
+        ensures { (h : Lambda) → place ≡ notes_place h self.now → result.now ≡ kept_under h positive self.now }
     {
         match self.lits.get_index(place) {
             Some((_, lits)) => lits.of_sign(positive),
@@ -148,7 +148,7 @@ impl Heads {
     /// Adds a literal under the head at a place.
     fn add_at(&mut self, place: usize, lit: SatLit) -> Result<(), AllocError>
         requires { place < length self.old }
-        ensures keeps { OnOk result ((h : Lambda) → place ≡ place_in h self.old → Keeps h lit self.old self.new) }
+        ensures keeps { OnOk result ((h : Lambda) → place ≡ notes_place h self.old → Keeps h lit self.old self.new) }
         ensures err { OnErr result (self.new ≡ self.old) }
     {
         let (_, lits) = self.lits.pair_mut(place);

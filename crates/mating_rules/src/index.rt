@@ -2,7 +2,7 @@
 ghost use Rattle.std.specs.Prelude.{◌≡◌, ℕ, ◌<◌, ◌++◌, List, [], ◌∷◌, length, All, IfOk, OnOk, OnErr};
 ghost use Rattle.stt_core.specs.Lambda.{Lambda};
 ghost use Rattle.literal_map.specs.Atoms.{IsAtom};
-ghost use Rattle.mating_rules.specs.Noted.{IsRight, partners_of};
+ghost use Rattle.mating_rules.specs.Noted.{IsRightIndex, partners_of};
 
 use crate::heads::Heads;
 use crate::partners::Partners;
@@ -34,7 +34,7 @@ impl Index {
     /// An index without literals.
     pub fn new(alloc: Global) -> Index
         ensures empty { result ≡ record { noted = []; heads = [] } }
-        ensures right { (terms : List Lambda) (atoms : List ℕ) → IsRight terms atoms result }
+        ensures right { (terms : List Lambda) (atoms : List ℕ) → IsRightIndex terms atoms result }
     {
         Index {
             noted: Vec::new(alloc),
@@ -51,7 +51,7 @@ impl Index {
     ) -> Result<&[SatLit], AllocError>
         requires number { lit.var.0 < length lits.now }
         requires atoms { All (IsAtom bank.now) lits.now }
-        requires right { IsRight bank.now.terms lits.now self.now }
+        requires right { IsRightIndex bank.now.terms lits.now self.now }
         ensures { IfOk result (λ found. found.now ≡ partners_of bank.now.terms lits.now lit self.now.noted) }
     {
         let atom = lits.formula_of(lit);
@@ -62,9 +62,9 @@ impl Index {
     pub fn add(&mut self, bank: &Bank, lits: &LitTable, lit: SatLit) -> Result<(), AllocError>
         requires number { lit.var.0 < length lits.now }
         requires atoms { All (IsAtom bank.now) lits.now }
-        requires right { IsRight bank.now.terms lits.now self.old }
+        requires right { IsRightIndex bank.now.terms lits.now self.old }
         ensures noted { OnOk result (self.new.noted ≡ self.old.noted ++ lit ∷ []) }
-        ensures right { IsRight bank.now.terms lits.now self.new }
+        ensures right { IsRightIndex bank.now.terms lits.now self.new }
         ensures err { OnErr result (self.new ≡ self.old) }
     {
         let atom = lits.formula_of(lit);
@@ -82,10 +82,10 @@ impl Index {
     ) -> Result<Partners, AllocError>
         requires number { lit.var.0 < length lits.now }
         requires atoms { All (IsAtom bank.now) lits.now }
-        requires right { IsRight bank.now.terms lits.now self.old }
+        requires right { IsRightIndex bank.now.terms lits.now self.old }
         ensures partners { IfOk result (λ found. found ≡ partners_of bank.now.terms lits.now lit self.old.noted) }
         ensures noted { OnOk result (self.new.noted ≡ self.old.noted ++ lit ∷ []) }
-        ensures right { IsRight bank.now.terms lits.now self.new }
+        ensures right { IsRightIndex bank.now.terms lits.now self.new }
         ensures err { OnErr result (self.new ≡ self.old) }
     {
         let atom = lits.formula_of(lit);

@@ -1,7 +1,7 @@
 //! Literals by sign.
 ghost use Rattle.std.specs.Prelude.{◌≡◌, [], ◌∷◌, ◌++◌, IfOk, OnOk, OnErr};
 ghost use Rattle.mating_rules.specs.Noted.{of_sign};
-ghost use Rattle.mating_rules.specs.Internal.Groups.{with_literal, alone};
+ghost use Rattle.mating_rules.specs.Internal.Groups.{with_signed, lone_literal};
 
 use sat_base::SatLit;
 use std::alloc::{AllocError, Global};
@@ -28,7 +28,7 @@ impl Model for SignedLits {
 impl SignedLits {
     /// The list of one literal.
     pub(crate) fn of(alloc: Global, lit: SatLit) -> Result<SignedLits, AllocError>
-        ensures { IfOk result (λ lits. lits ≡ alone lit) }
+        ensures { IfOk result (λ lits. lits ≡ lone_literal lit) }
     {
         let mut lits = SignedLits {
             positive: Vec::new(alloc),
@@ -49,7 +49,7 @@ impl SignedLits {
     }
 
     pub(crate) fn push(&mut self, lit: SatLit) -> Result<(), AllocError>
-        ensures ok { OnOk result (self.new ≡ with_literal lit self.old) }
+        ensures ok { OnOk result (self.new ≡ with_signed lit self.old) }
         ensures err { OnErr result (self.new ≡ self.old) }
     {
         if lit.positive {

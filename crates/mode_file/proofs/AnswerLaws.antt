@@ -8,8 +8,8 @@ use Rattle.mode_file.specs.declared.refused.Cause.TheVariants.{UnknownKey, Twice
 use Rattle.mode_file.specs.declared.refused.ModeRefused.{ModeRefused}
 use Rattle.mode_file.specs.declared.refused.ModeRefused.TheVariants as refused
 use Rattle.mode_file.specs.Keys.{greatest, key_of}
-use Rattle.mode_file.specs.Given.{nothing, number_of, with_number, mode_of}
-use Rattle.mode_file.specs.Grammar.{says_nothing, first_word, Sets, Gives, IsGood, AreGood, IsTwice, HasBadNumber, IsOutOfRange, IsBadFor, States, IsFirstBad}
+use Rattle.mode_file.specs.Given.{nothing_given, number_given, with_number, mode_of}
+use Rattle.mode_file.specs.Grammar.{says_nothing, first_word, Sets, Gives, IsGoodLine, AreGoodLines, IsGivenTwice, HasBadNumber, IsOutOfRange, IsBadFor, States, IsFirstBad}
 use Rattle.mode_file.specs.Refusals.{Refuses}
 use Rattle.mode_file.proofs.LineLaws.{Sets-says, Sets-key, one_key, one_number}
 
@@ -23,7 +23,7 @@ gives_one before line x y g h =
     let number = one_number line g.key h.key g.n h.n g.sets h.sets in
     g.after_is ∙ ap (λ (k : Key). with_number before k g.n) key ∙ ap (with_number before h.key) number ∙ sym h.after_is
 
-good_one : (before : Given) (line : List ℕ) (x y : Given) → IsGood before line x → IsGood before line y → x ≡ y
+good_one : (before : Given) (line : List ℕ) (x y : Given) → IsGoodLine before line x → IsGoodLine before line y → x ≡ y
 good_one before line x y (inl g) (inl h) = g.1 ∙ sym h.1
 good_one before line x y (inl g) (inr h) = let other = Sets-says line h.key h.n h.sets in let one = g.0 in absurd (cc)
 good_one before line x y (inr g) (inl h) = let other = Sets-says line g.key g.n g.sets in let one = h.0 in absurd (cc)
@@ -35,7 +35,7 @@ gives_no_bad before line x Twice g bad =
     let named = Sets-key line g.key g.n g.sets in
     let other = bad.named in
     let same : g.key ≡ bad.key = cc in
-    not_both (number_of before bad.key) (ap (number_of before) (sym same) ∙ g.is_new) bad.has
+    not_both (number_given before bad.key) (ap (number_given before) (sym same) ∙ g.is_new) bad.has
 gives_no_bad before line x BadNumber g bad =
     let named = Sets-key line g.key g.n g.sets in
     let other = bad.named in
@@ -49,11 +49,11 @@ gives_no_bad before line x OutOfRange g bad =
     let above = bad.above in
     absurd (omega (arith, number, limit, within, above))
 
-good_no_bad : (before : Given) (line : List ℕ) (x : Given) (cause : Cause) → says_nothing line ≡ false → IsGood before line x → IsBadFor before line cause → ⊥
+good_no_bad : (before : Given) (line : List ℕ) (x : Given) (cause : Cause) → says_nothing line ≡ false → IsGoodLine before line x → IsBadFor before line cause → ⊥
 good_no_bad before line x cause says (inl g) bad = let one = g.0 in absurd (cc)
 good_no_bad before line x cause says (inr g) bad = gives_no_bad before line x cause g bad
 
-unknown_twice : (given : Given) (line : List ℕ) → key_of (first_word line) ≡ None → IsTwice given line → ⊥
+unknown_twice : (given : Given) (line : List ℕ) → key_of (first_word line) ≡ None → IsGivenTwice given line → ⊥
 unknown_twice given line h k = let named = k.named in absurd (cc)
 
 unknown_number : (given : Given) (line : List ℕ) → key_of (first_word line) ≡ None → HasBadNumber given line → ⊥
@@ -62,19 +62,19 @@ unknown_number given line h k = let named = k.named in absurd (cc)
 unknown_range : (given : Given) (line : List ℕ) → key_of (first_word line) ≡ None → IsOutOfRange given line → ⊥
 unknown_range given line h k = let named = Sets-key line k.key k.n k.sets in absurd (cc)
 
-twice_number : (given : Given) (line : List ℕ) → IsTwice given line → HasBadNumber given line → ⊥
+twice_number : (given : Given) (line : List ℕ) → IsGivenTwice given line → HasBadNumber given line → ⊥
 twice_number given line h k =
     let named = h.named in
     let other = k.named in
     let same : k.key ≡ h.key = cc in
-    not_both (number_of given h.key) (ap (number_of given) (sym same) ∙ k.is_new) h.has
+    not_both (number_given given h.key) (ap (number_given given) (sym same) ∙ k.is_new) h.has
 
-twice_range : (given : Given) (line : List ℕ) → IsTwice given line → IsOutOfRange given line → ⊥
+twice_range : (given : Given) (line : List ℕ) → IsGivenTwice given line → IsOutOfRange given line → ⊥
 twice_range given line h k =
     let named = h.named in
     let other = Sets-key line k.key k.n k.sets in
     let same : k.key ≡ h.key = cc in
-    not_both (number_of given h.key) (ap (number_of given) (sym same) ∙ k.is_new) h.has
+    not_both (number_given given h.key) (ap (number_given given) (sym same) ∙ k.is_new) h.has
 
 number_range : (given : Given) (line : List ℕ) → HasBadNumber given line → IsOutOfRange given line → ⊥
 number_range given line h k =
@@ -102,18 +102,18 @@ one_cause given line OutOfRange BadNumber h k = absurd (number_range given line 
 one_cause given line OutOfRange OutOfRange h k = refl
 
 -- whole files
-good_lines_one : (lines : List (List ℕ)) (before x y : Given) → AreGood before lines x → AreGood before lines y → x ≡ y
+good_lines_one : (lines : List (List ℕ)) (before x y : Given) → AreGoodLines before lines x → AreGoodLines before lines y → x ≡ y
 good_lines_one [] before x y g h = g ∙ sym h
 good_lines_one (l ∷ ls) before x y g h =
     let same = good_one before l g.0 h.0 g.1.0 h.1.0 in
-    good_lines_one ls g.0 x y g.1.1 (subst (λ (v : Given). AreGood v ls y) (sym same) h.1.1)
+    good_lines_one ls g.0 x y g.1.1 (subst (λ (v : Given). AreGoodLines v ls y) (sym same) h.1.1)
 
-good_lines_no_bad : (front behind : List (List ℕ)) (bad : List ℕ) (before given x : Given) (cause : Cause) → AreGood before (front ++ (bad ∷ behind)) x → AreGood before front given → says_nothing bad ≡ false → IsBadFor given bad cause → ⊥
+good_lines_no_bad : (front behind : List (List ℕ)) (bad : List ℕ) (before given x : Given) (cause : Cause) → AreGoodLines before (front ++ (bad ∷ behind)) x → AreGoodLines before front given → says_nothing bad ≡ false → IsBadFor given bad cause → ⊥
 good_lines_no_bad [] behind bad before given x cause g h says is_bad =
     good_no_bad before bad g.0 cause says g.1.0 (subst (λ (v : Given). IsBadFor v bad cause) h is_bad)
 good_lines_no_bad (l ∷ ls) behind bad before given x cause g h says is_bad =
     let same = good_one before l g.0 h.0 g.1.0 h.1.0 in
-    good_lines_no_bad ls behind bad g.0 given x cause g.1.1 (subst (λ (v : Given). AreGood v ls given) (sym same) h.1.1) says is_bad
+    good_lines_no_bad ls behind bad g.0 given x cause g.1.1 (subst (λ (v : Given). AreGoodLines v ls given) (sym same) h.1.1) says is_bad
 
 -- a first bad line, behind good ones
 record BadBehind (before : Given) (lines front : List (List ℕ)) (cause : Cause) : Type 0 where
@@ -121,7 +121,7 @@ record BadBehind (before : Given) (lines front : List (List ℕ)) (cause : Cause
   behind : List (List ℕ)
   given : Given
   lines_are : lines ≡ front ++ (bad ∷ behind)
-  good : AreGood before front given
+  good : AreGoodLines before front given
   says : says_nothing bad ≡ false
   cause_is : IsBadFor given bad cause
 
@@ -138,34 +138,34 @@ same_bad [] (l ∷ ls) lines before c d x y =
     let second = y.lines_are in
     let same : l ≡ x.bad = cc in
     let bad : IsBadFor before x.bad c = subst (λ (v : Given). IsBadFor v x.bad c) x.good x.cause_is in
-    absurd (good_no_bad before x.bad y.good.0 c x.says (subst (λ (m : List ℕ). IsGood before m y.good.0) same y.good.1.0) bad)
+    absurd (good_no_bad before x.bad y.good.0 c x.says (subst (λ (m : List ℕ). IsGoodLine before m y.good.0) same y.good.1.0) bad)
 same_bad (l ∷ ls) [] lines before c d x y =
     let first = x.lines_are in
     let second = y.lines_are in
     let same : l ≡ y.bad = cc in
     let bad : IsBadFor before y.bad d = subst (λ (v : Given). IsBadFor v y.bad d) y.good y.cause_is in
-    absurd (good_no_bad before y.bad x.good.0 d y.says (subst (λ (m : List ℕ). IsGood before m x.good.0) same x.good.1.0) bad)
+    absurd (good_no_bad before y.bad x.good.0 d y.says (subst (λ (m : List ℕ). IsGoodLine before m x.good.0) same x.good.1.0) bad)
 same_bad (l ∷ ls) (m ∷ ms) lines before c d x y =
     let first = x.lines_are in
     let second = y.lines_are in
     let head : m ≡ l = cc in
     let tail : ls ++ (x.bad ∷ x.behind) ≡ ms ++ (y.bad ∷ y.behind) = cc in
-    let step : IsGood before l y.good.0 = subst (λ (k : List ℕ). IsGood before k y.good.0) head y.good.1.0 in
+    let step : IsGoodLine before l y.good.0 = subst (λ (k : List ℕ). IsGoodLine before k y.good.0) head y.good.1.0 in
     let same = good_one before l x.good.0 y.good.0 x.good.1.0 step in
     let rest = same_bad ls ms (ls ++ (x.bad ∷ x.behind)) x.good.0 c d
     (record { bad = x.bad; behind = x.behind; given = x.given; lines_are = refl; good = x.good.1.1; says = x.says; cause_is = x.cause_is })
-    (record { bad = y.bad; behind = y.behind; given = y.given; lines_are = tail; good = subst (λ (v : Given). AreGood v ms y.given) (sym same) y.good.1.1; says = y.says; cause_is = y.cause_is }) in
+    (record { bad = y.bad; behind = y.behind; given = y.given; lines_are = tail; good = subst (λ (v : Given). AreGoodLines v ms y.given) (sym same) y.good.1.1; says = y.says; cause_is = y.cause_is }) in
     (ap suc rest.0, rest.1)
 
 pub one_mode : (lines : List (List ℕ)) (m n : Mode) → States lines m → States lines n → m ≡ n
-one_mode lines m n s t = s.mode_is ∙ ap mode_of (good_lines_one lines nothing s.given t.given s.good t.good) ∙ sym t.mode_is
+one_mode lines m n s t = s.mode_is ∙ ap mode_of (good_lines_one lines nothing_given s.given t.given s.good t.good) ∙ sym t.mode_is
 
-bad_behind : (lines : List (List ℕ)) (number : ℕ) (cause : Cause) (f : IsFirstBad lines number cause) → BadBehind nothing lines f.before cause
+bad_behind : (lines : List (List ℕ)) (number : ℕ) (cause : Cause) (f : IsFirstBad lines number cause) → BadBehind nothing_given lines f.before cause
 bad_behind lines number cause f = record { bad = f.bad; behind = f.behind; given = f.given; lines_are = f.lines_are; good = f.good; says = f.says; cause_is = f.cause_is }
 
 first_bad_one : (lines : List (List ℕ)) (i j : ℕ) (c d : Cause) → IsFirstBad lines i c → IsFirstBad lines j d → (i ≡ j) × (c ≡ d)
 first_bad_one lines i j c d f g =
-    let same = same_bad f.before g.before lines nothing c d (bad_behind lines i c f) (bad_behind lines j d g) in
+    let same = same_bad f.before g.before lines nothing_given c d (bad_behind lines i c f) (bad_behind lines j d g) in
     (f.number_is ∙ ap (λ n. n + 1) same.0 ∙ sym g.number_is, same.1)
 
 -- the parts of a refusal
@@ -207,4 +207,4 @@ one_refusal lines r s h k =
 pub not_both_answers : (lines : List (List ℕ)) (m : Mode) (r : ModeRefused) → States lines m → Refuses lines r → ⊥
 not_both_answers lines m r s h =
     let f = first_bad lines r h in
-    good_lines_no_bad f.before f.behind f.bad nothing f.given s.given (cause_of r) (subst (λ (ls : List (List ℕ)). AreGood nothing ls s.given) f.lines_are s.good) f.good f.says f.cause_is
+    good_lines_no_bad f.before f.behind f.bad nothing_given f.given s.given (cause_of r) (subst (λ (ls : List (List ℕ)). AreGoodLines nothing_given ls s.given) f.lines_are s.good) f.good f.says f.cause_is

@@ -5,7 +5,7 @@ use Rattle.std.specs.List.{find}
 use Rattle.std.proofs.lemmas.Slice.Eq.{bytes_eq-Decides}
 use Rattle.mode_file.specs.declared.keys.Key.{Key}
 use Rattle.mode_file.specs.declared.keys.Key.TheVariants.{Process, Mate, Confront, Inst, Choose, Grow, Commands, Conflicts}
-use Rattle.mode_file.specs.Keys.{keys, name_of, greatest, key_of}
+use Rattle.mode_file.specs.Keys.{keys, key_name, greatest, key_of}
 use Rattle.mode_file.specs.Internal.Fronts.{after, is_in}
 use Rattle.mode_file.specs.declared.bytes.ByteClass.TheVariants.{InWord}
 use Rattle.mode_file.specs.Grammar.{says_nothing, first_word, number_from, Sets}
@@ -14,10 +14,10 @@ use Rattle.mode_file.proofs.NumeralLaws.{front-after, number_stands, number_foun
 
 -- a key's name at the front of a line
 pub record Begins (key : Key) (rest : List ℕ) : Type 0 where
-  pub word : first_word (name_of key ++ (32 ∷ rest)) ≡ name_of key
-  pub behind : after (is_in InWord) (name_of key ++ (32 ∷ rest)) ≡ 32 ∷ rest
-  pub says : says_nothing (name_of key ++ (32 ∷ rest)) ≡ false
-  pub named : key_of (name_of key) ≡ Some key
+  pub word : first_word (key_name key ++ (32 ∷ rest)) ≡ key_name key
+  pub behind : after (is_in InWord) (key_name key ++ (32 ∷ rest)) ≡ 32 ∷ rest
+  pub says : says_nothing (key_name key ++ (32 ∷ rest)) ≡ false
+  pub named : key_of (key_name key) ≡ Some key
 
 pub begins : (key : Key) (rest : List ℕ) → Begins key rest
 unfolding key_of
@@ -30,15 +30,15 @@ begins Grow rest = record { word = refl; behind = refl; says = refl; named = ref
 begins Commands rest = record { word = refl; behind = refl; says = refl; named = refl }
 begins Conflicts rest = record { word = refl; behind = refl; says = refl; named = refl }
 
-found : (word : List ℕ) (ks : List Key) (key : Key) → find (λ k. bytes_eq (name_of k) word) ks ≡ Some key → word ≡ name_of key
+found : (word : List ℕ) (ks : List Key) (key : Key) → find (λ k. bytes_eq (key_name k) word) ks ≡ Some key → word ≡ key_name key
 found word [] key h = absurd (cc)
-found word (k ∷ ks) key h = go (bytes_eq (name_of k) word) refl h (found word ks key)
+found word (k ∷ ks) key h = go (bytes_eq (key_name k) word) refl h (found word ks key)
   where
-    go : (b : Bool) → bytes_eq (name_of k) word ≡ b → cond b (Some k) (find (λ l. bytes_eq (name_of l) word) ks) ≡ Some key → (find (λ l. bytes_eq (name_of l) word) ks ≡ Some key → word ≡ name_of key) → word ≡ name_of key
-    go true e h rest = let same : k ≡ key = cc in sym ((bytes_eq-Decides (name_of k) word).0 e) ∙ ap name_of same
+    go : (b : Bool) → bytes_eq (key_name k) word ≡ b → cond b (Some k) (find (λ l. bytes_eq (key_name l) word) ks) ≡ Some key → (find (λ l. bytes_eq (key_name l) word) ks ≡ Some key → word ≡ key_name key) → word ≡ key_name key
+    go true e h rest = let same : k ≡ key = cc in sym ((bytes_eq-Decides (key_name k) word).0 e) ∙ ap key_name same
     go false e h rest = rest h
 
-pub name_is : (word : List ℕ) (key : Key) → key_of word ≡ Some key → word ≡ name_of key
+pub name_is : (word : List ℕ) (key : Key) → key_of word ≡ Some key → word ≡ key_name key
 unfolding key_of
 name_is word key h = found word keys key h
 
@@ -82,7 +82,7 @@ sets line key digits named h =
       line_is =
           sym (front-after (is_in InWord) line)
           ∙ ap (λ (w : List ℕ). w ++ after (is_in InWord) line) (name_is (first_word line) key named)
-          ∙ ap (λ (r : List ℕ). name_of key ++ r) stands.bytes_are;
+          ∙ ap (λ (r : List ℕ). key_name key ++ r) stands.bytes_are;
       decimal = stands.decimal;
       number_is = refl;
       ends = stands.ends;

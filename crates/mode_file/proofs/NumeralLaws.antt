@@ -6,7 +6,7 @@ use Rattle.std.proofs.lemmas.Bool.Decides.{nat_tests}
 use Rattle.mode_file.specs.Lines.{is_digit, front}
 use Rattle.mode_file.specs.Internal.Fronts.{is_space, after}
 use Rattle.mode_file.specs.Grammar.{is_decimal}
-use Rattle.mode_file.specs.Internal.Reader.{is_nil, is_ending, behind_spaces, digits_in}
+use Rattle.mode_file.specs.Internal.Reader.{has_no_bytes, is_ending, behind_spaces, digits_in}
 use Rattle.mode_file.proofs.Numbers.{digits_of}
 
 pub front-after : (p : ℕ → Bool) (xs : List ℕ) → front p xs ++ after p xs ≡ xs
@@ -51,11 +51,11 @@ pub record NumberStands (bytes digits : List ℕ) : Type 0 where
   pub decimal : is_decimal digits ≡ true
   pub ends : (ending ≡ []) ⊎ (ending ≡ 13 ∷ [])
 
-some_spaces : (xs : List ℕ) → not (is_nil xs) ≡ true → list_all is_space xs ≡ true → (gap : ℕ) × (xs ≡ replicate (suc gap) 32)
+some_spaces : (xs : List ℕ) → not (has_no_bytes xs) ≡ true → list_all is_space xs ≡ true → (gap : ℕ) × (xs ≡ replicate (suc gap) 32)
 some_spaces [] h k = absurd (cc)
 some_spaces (c ∷ cs) h k = (length cs, spaces_are (c ∷ cs) k)
 
-parted : (bytes : List ℕ) → not (is_nil (front is_space bytes)) ≡ true → is_decimal (front is_digit (behind_spaces bytes)) ≡ true → is_ending (behind_spaces (after is_digit (behind_spaces bytes))) ≡ true → NumberStands bytes (front is_digit (behind_spaces bytes))
+parted : (bytes : List ℕ) → not (has_no_bytes (front is_space bytes)) ≡ true → is_decimal (front is_digit (behind_spaces bytes)) ≡ true → is_ending (behind_spaces (after is_digit (behind_spaces bytes))) ≡ true → NumberStands bytes (front is_digit (behind_spaces bytes))
 parted bytes some decimal ending =
     let gap = some_spaces (front is_space bytes) some (list_all-front is_space bytes) in
     let rest = behind_spaces bytes in
@@ -77,9 +77,9 @@ parted bytes some decimal ending =
 
 pub number_stands : (bytes digits : List ℕ) → digits_in bytes ≡ Some digits → NumberStands bytes digits
 number_stands bytes digits h =
-    go (not (is_nil (front is_space bytes))) (is_decimal (front is_digit (behind_spaces bytes))) (is_ending (behind_spaces (after is_digit (behind_spaces bytes)))) refl refl refl h
+    go (not (has_no_bytes (front is_space bytes))) (is_decimal (front is_digit (behind_spaces bytes))) (is_ending (behind_spaces (after is_digit (behind_spaces bytes)))) refl refl refl h
   where
-    go : (a b c : Bool) → not (is_nil (front is_space bytes)) ≡ a → is_decimal (front is_digit (behind_spaces bytes)) ≡ b → is_ending (behind_spaces (after is_digit (behind_spaces bytes))) ≡ c → (if a && b && c then Some (front is_digit (behind_spaces bytes)) else None) ≡ Some digits → NumberStands bytes digits
+    go : (a b c : Bool) → not (has_no_bytes (front is_space bytes)) ≡ a → is_decimal (front is_digit (behind_spaces bytes)) ≡ b → is_ending (behind_spaces (after is_digit (behind_spaces bytes))) ≡ c → (if a && b && c then Some (front is_digit (behind_spaces bytes)) else None) ≡ Some digits → NumberStands bytes digits
     go true true true some decimal ending e =
         let same : front is_digit (behind_spaces bytes) ≡ digits = cc in
         subst (NumberStands bytes) same (parted bytes some decimal ending)
@@ -151,17 +151,17 @@ pub record IsSplit (bytes gap rest digits tail ending : List ℕ) : Type 0 where
   pub tail_is : tail ≡ after is_digit rest
   pub ending_is : ending ≡ after is_space tail
 
-digits_by : (bytes gap rest digits tail ending : List ℕ) → IsSplit bytes gap rest digits tail ending → (if not (is_nil gap) && is_decimal digits && is_ending ending then Some digits else None) ≡ digits_in bytes
+digits_by : (bytes gap rest digits tail ending : List ℕ) → IsSplit bytes gap rest digits tail ending → (if not (has_no_bytes gap) && is_decimal digits && is_ending ending then Some digits else None) ≡ digits_in bytes
 digits_by bytes gap rest digits tail ending s =
     let rest_is = s.rest_is in
     let gap_is = s.gap_is in
     let digits_are : digits ≡ front is_digit (after is_space bytes) = s.digits_are ∙ ap (front is_digit) s.rest_is in
     let ending_is : ending ≡ after is_space (after is_digit (after is_space bytes)) = s.ending_is ∙ ap (after is_space) (s.tail_is ∙ ap (after is_digit) s.rest_is) in
-    ap (λ (xs : List ℕ). if not (is_nil xs) && is_decimal digits && is_ending ending then Some digits else None) gap_is
-    ∙ ap (λ (xs : List ℕ). if not (is_nil (front is_space bytes)) && is_decimal xs && is_ending ending then Some xs else None) digits_are
-    ∙ ap (λ (xs : List ℕ). if not (is_nil (front is_space bytes)) && is_decimal (front is_digit (after is_space bytes)) && is_ending xs then Some (front is_digit (after is_space bytes)) else None) ending_is
+    ap (λ (xs : List ℕ). if not (has_no_bytes xs) && is_decimal digits && is_ending ending then Some digits else None) gap_is
+    ∙ ap (λ (xs : List ℕ). if not (has_no_bytes (front is_space bytes)) && is_decimal xs && is_ending ending then Some xs else None) digits_are
+    ∙ ap (λ (xs : List ℕ). if not (has_no_bytes (front is_space bytes)) && is_decimal (front is_digit (after is_space bytes)) && is_ending xs then Some (front is_digit (after is_space bytes)) else None) ending_is
 
-is_nil-length : (xs : List ℕ) → is_nil xs ≡ (length xs == 0)
+is_nil-length : (xs : List ℕ) → has_no_bytes xs ≡ (length xs == 0)
 is_nil-length [] = refl
 is_nil-length (c ∷ cs) = grind (arith, nat_tests)
 
@@ -170,7 +170,7 @@ all_pass a b c digits e f h = simp (e, f, h)
 
 pub digits_some : (bytes gap rest digits tail ending : List ℕ) → IsSplit bytes gap rest digits tail ending → (length gap == 0) ≡ false → is_decimal digits ≡ true → is_ending ending ≡ true → Some digits ≡ digits_in bytes
 digits_some bytes gap rest digits tail ending s a b c =
-    all_pass (is_nil gap) (is_decimal digits) (is_ending ending) digits (is_nil-length gap ∙ a) b c ∙ digits_by bytes gap rest digits tail ending s
+    all_pass (has_no_bytes gap) (is_decimal digits) (is_ending ending) digits (is_nil-length gap ∙ a) b c ∙ digits_by bytes gap rest digits tail ending s
 
 none_passes : (a b c : Bool) (digits : List ℕ) → ((a ≡ true) ⊎ ((b ≡ false) ⊎ (c ≡ false))) → None ≡ (if not a && b && c then Some digits else None)
 none_passes true b c digits h = refl
@@ -181,5 +181,5 @@ none_passes false true true digits (inr (inl e)) = absurd (cc)
 none_passes false true true digits (inr (inr e)) = absurd (cc)
 
 pub digits_none : (bytes gap rest digits tail ending : List ℕ) → IsSplit bytes gap rest digits tail ending → (((length gap == 0) ≡ true) ⊎ ((is_decimal digits ≡ false) ⊎ (is_ending ending ≡ false))) → None ≡ digits_in bytes
-digits_none bytes gap rest digits tail ending s (inl a) = none_passes (is_nil gap) (is_decimal digits) (is_ending ending) digits (inl (is_nil-length gap ∙ a)) ∙ digits_by bytes gap rest digits tail ending s
-digits_none bytes gap rest digits tail ending s (inr h) = none_passes (is_nil gap) (is_decimal digits) (is_ending ending) digits (inr h) ∙ digits_by bytes gap rest digits tail ending s
+digits_none bytes gap rest digits tail ending s (inl a) = none_passes (has_no_bytes gap) (is_decimal digits) (is_ending ending) digits (inl (is_nil-length gap ∙ a)) ∙ digits_by bytes gap rest digits tail ending s
+digits_none bytes gap rest digits tail ending s (inr h) = none_passes (has_no_bytes gap) (is_decimal digits) (is_ending ending) digits (inr h) ∙ digits_by bytes gap rest digits tail ending s

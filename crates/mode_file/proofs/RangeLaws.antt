@@ -3,9 +3,9 @@ use Rattle.std.proofs.Common.{inl, inr, ℕ, ◌≤◌, List, [], ◌∷◌, Opt
 use Rattle.mode_file.specs.declared.given.Given.{Given}
 use Rattle.mode_file.specs.declared.keys.Key.{Key}
 use Rattle.mode_file.specs.declared.keys.Key.TheVariants.{Process, Mate, Confront, Inst, Choose, Grow, Commands, Conflicts}
-use Rattle.mode_file.specs.Keys.{standard, greatest}
-use Rattle.mode_file.specs.Given.{nothing, with_number, mode_of, IsInRange}
-use Rattle.mode_file.specs.Grammar.{IsGood, AreGood}
+use Rattle.mode_file.specs.Keys.{standard_number, greatest}
+use Rattle.mode_file.specs.Given.{nothing_given, with_number, mode_of, IsInRange}
+use Rattle.mode_file.specs.Grammar.{IsGoodLine, AreGoodLines}
 
 -- each number that is given is within its key's range
 record AreInRange (given : Given) : Type 0 where
@@ -28,31 +28,31 @@ one_more given Grow n h within = record { process = h.process; mate = h.mate; co
 one_more given Commands n h within = record { process = h.process; mate = h.mate; confront = h.confront; inst = h.inst; choose = h.choose; grow = h.grow; commands = within; conflicts = h.conflicts }
 one_more given Conflicts n h within = record { process = h.process; mate = h.mate; confront = h.confront; inst = h.inst; choose = h.choose; grow = h.grow; commands = h.commands; conflicts = within }
 
-good_line : (before : Given) (line : List ℕ) (after : Given) → IsGood before line after → AreInRange before → AreInRange after
+good_line : (before : Given) (line : List ℕ) (after : Given) → IsGoodLine before line after → AreInRange before → AreInRange after
 good_line before line after (inl g) h = subst AreInRange (sym g.1) h
 good_line before line after (inr g) h = subst AreInRange (sym g.after_is) (one_more before g.key g.n h g.in_range)
 
-good_lines : (lines : List (List ℕ)) (before after : Given) → AreGood before lines after → AreInRange before → AreInRange after
+good_lines : (lines : List (List ℕ)) (before after : Given) → AreGoodLines before lines after → AreInRange before → AreInRange after
 good_lines [] before after g h = subst AreInRange (sym g) h
 good_lines (l ∷ ls) before after g h = good_lines ls g.0 after g.1.1 (good_line before l g.0 g.1.0 h)
 
-none : AreInRange nothing
+none : AreInRange nothing_given
 none = record { process = tt; mate = tt; confront = tt; inst = tt; choose = tt; grow = tt; commands = tt; conflicts = tt }
 
 unwrap_or-within : (o : Option ℕ) (other limit : ℕ) → IfSome o (λ n. n ≤ limit) → other ≤ limit → unwrap_or o other ≤ limit
 unwrap_or-within None other limit h k = k
 unwrap_or-within (Some n) other limit h k = h
 
-pub mode_in_range : (lines : List (List ℕ)) (given : Given) → AreGood nothing lines given → IsInRange (mode_of given)
+pub mode_in_range : (lines : List (List ℕ)) (given : Given) → AreGoodLines nothing_given lines given → IsInRange (mode_of given)
 mode_in_range lines given g =
-    let h = good_lines lines nothing given g none in
+    let h = good_lines lines nothing_given given g none in
     record {
-      process = unwrap_or-within given.process (standard Process) (greatest Process) h.process (lit≤ tt);
-      mate = unwrap_or-within given.mate (standard Mate) (greatest Mate) h.mate (lit≤ tt);
-      confront = unwrap_or-within given.confront (standard Confront) (greatest Confront) h.confront (lit≤ tt);
-      inst = unwrap_or-within given.inst (standard Inst) (greatest Inst) h.inst (lit≤ tt);
-      choose = unwrap_or-within given.choose (standard Choose) (greatest Choose) h.choose (lit≤ tt);
-      grow = unwrap_or-within given.grow (standard Grow) (greatest Grow) h.grow (lit≤ tt);
-      commands = unwrap_or-within given.commands (standard Commands) (greatest Commands) h.commands (lit≤ tt);
-      conflicts = unwrap_or-within given.conflicts (standard Conflicts) (greatest Conflicts) h.conflicts (lit≤ tt);
+      process = unwrap_or-within given.process (standard_number Process) (greatest Process) h.process (lit≤ tt);
+      mate = unwrap_or-within given.mate (standard_number Mate) (greatest Mate) h.mate (lit≤ tt);
+      confront = unwrap_or-within given.confront (standard_number Confront) (greatest Confront) h.confront (lit≤ tt);
+      inst = unwrap_or-within given.inst (standard_number Inst) (greatest Inst) h.inst (lit≤ tt);
+      choose = unwrap_or-within given.choose (standard_number Choose) (greatest Choose) h.choose (lit≤ tt);
+      grow = unwrap_or-within given.grow (standard_number Grow) (greatest Grow) h.grow (lit≤ tt);
+      commands = unwrap_or-within given.commands (standard_number Commands) (greatest Commands) h.commands (lit≤ tt);
+      conflicts = unwrap_or-within given.conflicts (standard_number Conflicts) (greatest Conflicts) h.conflicts (lit≤ tt);
     }

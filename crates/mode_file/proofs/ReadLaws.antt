@@ -6,7 +6,7 @@ use Rattle.mode_file.specs.declared.given.Given.{Given}
 use Rattle.mode_file.specs.declared.keys.Key.{Key}
 use Rattle.mode_file.specs.declared.bytes.ByteClass.TheVariants.{InWord}
 use Rattle.mode_file.specs.Keys.{greatest, key_of}
-use Rattle.mode_file.specs.Given.{number_of}
+use Rattle.mode_file.specs.Given.{number_given}
 use Rattle.mode_file.specs.Internal.Fronts.{after, is_in}
 use Rattle.mode_file.specs.Grammar.{first_word, is_decimal, number_from, Sets, HasBadNumber, IsOutOfRange}
 use Rattle.mode_file.specs.Internal.Reader.{digits_in}
@@ -20,11 +20,11 @@ has_none (Some n) h = absurd (cc)
 pub decimal : (bytes digits : List ℕ) → digits_in bytes ≡ Some digits → is_decimal digits ≡ true
 decimal bytes digits h = (number_stands bytes digits h).decimal
 
-pub bad_number : (given : Given) (line : List ℕ) (key : Key) → key_of (first_word line) ≡ Some key → is_some (number_of given key) ≡ false → digits_in (after (is_in InWord) line) ≡ None → HasBadNumber given line
+pub bad_number : (given : Given) (line : List ℕ) (key : Key) → key_of (first_word line) ≡ Some key → is_some (number_given given key) ≡ false → digits_in (after (is_in InWord) line) ≡ None → HasBadNumber given line
 bad_number given line key named new none = record {
   key = key;
   named = named;
-  is_new = has_none (number_of given key) new;
+  is_new = has_none (number_given given key) new;
   no_number = λ n s. let some = Sets-digits line key n s in absurd (cc);
 }
 
@@ -47,14 +47,14 @@ module _ (line : List ℕ) (key : Key) (digits : List ℕ) (named : key_of (firs
   pub sets_read : (n : ℕ) → Some n ≡ (if nat_lt (number_from 0 digits) (2 ^ 64) then Some (number_from 0 digits) else None) → Sets line key n
   sets_read n h = rw (within n (number_from 0 digits) h) (sets line key digits named there)
 
-  pub out_of_range : (given : Given) (n : ℕ) → is_some (number_of given key) ≡ false → Some n ≡ (if nat_lt (number_from 0 digits) (2 ^ 64) then Some (number_from 0 digits) else None) → greatest key < n → IsOutOfRange given line
-  out_of_range given n new h above = record { key = key; n = n; sets = sets_read n h; is_new = has_none (number_of given key) new; above = above }
+  pub out_of_range : (given : Given) (n : ℕ) → is_some (number_given given key) ≡ false → Some n ≡ (if nat_lt (number_from 0 digits) (2 ^ 64) then Some (number_from 0 digits) else None) → greatest key < n → IsOutOfRange given line
+  out_of_range given n new h above = record { key = key; n = n; sets = sets_read n h; is_new = has_none (number_given given key) new; above = above }
 
-  pub far_out_of_range : (given : Given) → is_some (number_of given key) ≡ false → None ≡ (if nat_lt (number_from 0 digits) (2 ^ 64) then Some (number_from 0 digits) else None) → IsOutOfRange given line
+  pub far_out_of_range : (given : Given) → is_some (number_given given key) ≡ false → None ≡ (if nat_lt (number_from 0 digits) (2 ^ 64) then Some (number_from 0 digits) else None) → IsOutOfRange given line
   far_out_of_range given new h = record {
     key = key;
     n = number_from 0 digits;
     sets = sets line key digits named there;
-    is_new = has_none (number_of given key) new;
+    is_new = has_none (number_given given key) new;
     above = let far = beyond (number_from 0 digits) h in let fits = greatest_fits key in omega (arith, far, fits);
   }

@@ -4,10 +4,10 @@ use Rattle.mode_file.specs.declared.Mode.{Mode}
 use Rattle.mode_file.specs.declared.given.Given.{Given}
 use Rattle.mode_file.specs.declared.keys.Key.{Key}
 use Rattle.mode_file.specs.declared.keys.Key.TheVariants.{Process, Mate, Confront, Inst, Choose, Grow, Commands, Conflicts}
-use Rattle.mode_file.specs.Keys.{standard, greatest}
+use Rattle.mode_file.specs.Keys.{standard_number, greatest}
 
-abbrev pub nothing : Given
-nothing = record {
+abbrev pub nothing_given : Given
+nothing_given = record {
   process = None;
   mate = None;
   confront = None;
@@ -18,15 +18,15 @@ nothing = record {
   conflicts = None;
 }
 
-abbrev pub number_of : Given → Key → Option ℕ
-number_of given Process = given.process
-number_of given Mate = given.mate
-number_of given Confront = given.confront
-number_of given Inst = given.inst
-number_of given Choose = given.choose
-number_of given Grow = given.grow
-number_of given Commands = given.commands
-number_of given Conflicts = given.conflicts
+abbrev pub number_given : Given → Key → Option ℕ
+number_given given Process = given.process
+number_given given Mate = given.mate
+number_given given Confront = given.confront
+number_given given Inst = given.inst
+number_given given Choose = given.choose
+number_given given Grow = given.grow
+number_given given Commands = given.commands
+number_given given Conflicts = given.conflicts
 
 -- the same numbers, with one more
 abbrev pub with_number : Given → Key → ℕ → Given
@@ -42,14 +42,14 @@ with_number given Conflicts n = record given { conflicts = Some n }
 -- the mode of these numbers: the other keys have their standard ones
 abbrev pub mode_of : Given → Mode
 mode_of given = record {
-  process = unwrap_or given.process (standard Process);
-  mate = unwrap_or given.mate (standard Mate);
-  confront = unwrap_or given.confront (standard Confront);
-  inst = unwrap_or given.inst (standard Inst);
-  choose = unwrap_or given.choose (standard Choose);
-  grow = unwrap_or given.grow (standard Grow);
-  commands = unwrap_or given.commands (standard Commands);
-  conflicts = unwrap_or given.conflicts (standard Conflicts);
+  process = unwrap_or given.process (standard_number Process);
+  mate = unwrap_or given.mate (standard_number Mate);
+  confront = unwrap_or given.confront (standard_number Confront);
+  inst = unwrap_or given.inst (standard_number Inst);
+  choose = unwrap_or given.choose (standard_number Choose);
+  grow = unwrap_or given.grow (standard_number Grow);
+  commands = unwrap_or given.commands (standard_number Commands);
+  conflicts = unwrap_or given.conflicts (standard_number Conflicts);
 }
 
 -- no number of the mode is above the greatest that its key takes

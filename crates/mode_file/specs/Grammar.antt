@@ -6,8 +6,8 @@ use Rattle.mode_file.specs.declared.given.Given.{Given}
 use Rattle.mode_file.specs.declared.keys.Key.{Key}
 use Rattle.mode_file.specs.declared.refused.Cause.{Cause}
 use Rattle.mode_file.specs.declared.refused.Cause.TheVariants.{UnknownKey, Twice, BadNumber, OutOfRange}
-use Rattle.mode_file.specs.Keys.{name_of, greatest, key_of}
-use Rattle.mode_file.specs.Given.{nothing, number_of, with_number, mode_of}
+use Rattle.mode_file.specs.Keys.{key_name, greatest, key_of}
+use Rattle.mode_file.specs.Given.{nothing_given, number_given, with_number, mode_of}
 use Rattle.mode_file.specs.Lines.{is_blank, is_digit, front}
 
 -- whether a line says nothing: it is blank, or a comment
@@ -35,7 +35,7 @@ pub record Sets (line : List ℕ) (key : Key) (n : ℕ) : Type 0 where
   pub digits : List ℕ
   pub spaces : ℕ
   pub ending : List ℕ
-  pub line_is : line ≡ name_of key ++ (replicate (suc gap) 32 ++ (digits ++ (replicate spaces 32 ++ ending)))
+  pub line_is : line ≡ key_name key ++ (replicate (suc gap) 32 ++ (digits ++ (replicate spaces 32 ++ ending)))
   pub decimal : is_decimal digits ≡ true
   pub number_is : number_from 0 digits ≡ n
   pub ends : (ending ≡ []) ⊎ (ending ≡ 13 ∷ [])
@@ -45,30 +45,30 @@ pub record Gives (before : Given) (line : List ℕ) (after : Given) : Type 0 whe
   pub key : Key
   pub n : ℕ
   pub sets : Sets line key n
-  pub is_new : number_of before key ≡ None
+  pub is_new : number_given before key ≡ None
   pub in_range : n ≤ greatest key
   pub after_is : after ≡ with_number before key n
 
 -- a good line, which says nothing or gives a number
-abbrev pub IsGood : Given → List ℕ → Given → Type 0
-IsGood before line after = ((says_nothing line ≡ true) × (after ≡ before)) ⊎ Gives before line after
+abbrev pub IsGoodLine : Given → List ℕ → Given → Type 0
+IsGoodLine before line after = ((says_nothing line ≡ true) × (after ≡ before)) ⊎ Gives before line after
 
 -- good lines, one after the other
-abbrev pub AreGood : Given → List (List ℕ) → Given → Type 0
-AreGood before [] after = after ≡ before
-AreGood before (line ∷ lines) after = (between : Given) × (IsGood before line between × AreGood between lines after)
+abbrev pub AreGoodLines : Given → List (List ℕ) → Given → Type 0
+AreGoodLines before [] after = after ≡ before
+AreGoodLines before (line ∷ lines) after = (between : Given) × (IsGoodLine before line between × AreGoodLines between lines after)
 
 -- the line's first word is a key that has a number
-pub record IsTwice (given : Given) (line : List ℕ) : Type 0 where
+pub record IsGivenTwice (given : Given) (line : List ℕ) : Type 0 where
   pub key : Key
   pub named : key_of (first_word line) ≡ Some key
-  pub has : IsSome (number_of given key)
+  pub has : IsSome (number_given given key)
 
 -- the line's first word is a key that has no number, and the line isn't one that gives it a number
 pub record HasBadNumber (given : Given) (line : List ℕ) : Type 0 where
   pub key : Key
   pub named : key_of (first_word line) ≡ Some key
-  pub is_new : number_of given key ≡ None
+  pub is_new : number_given given key ≡ None
   pub no_number : (n : ℕ) → Sets line key n → ⊥
 
 -- the line gives a key that has no number one above its range
@@ -76,20 +76,20 @@ pub record IsOutOfRange (given : Given) (line : List ℕ) : Type 0 where
   pub key : Key
   pub n : ℕ
   pub sets : Sets line key n
-  pub is_new : number_of given key ≡ None
+  pub is_new : number_given given key ≡ None
   pub above : greatest key < n
 
 -- why a line is bad that says something, behind lines that gave these numbers
 abbrev pub IsBadFor : Given → List ℕ → Cause → Type 0
 IsBadFor given line UnknownKey = key_of (first_word line) ≡ None
-IsBadFor given line Twice = IsTwice given line
+IsBadFor given line Twice = IsGivenTwice given line
 IsBadFor given line BadNumber = HasBadNumber given line
 IsBadFor given line OutOfRange = IsOutOfRange given line
 
 -- the lines state this mode
 pub record States (lines : List (List ℕ)) (mode : Mode) : Type 0 where
   pub given : Given
-  pub good : AreGood nothing lines given
+  pub good : AreGoodLines nothing_given lines given
   pub mode_is : mode ≡ mode_of given
 
 -- the line of this number, counted from 1, is the first bad one, for this cause
@@ -99,7 +99,7 @@ pub record IsFirstBad (lines : List (List ℕ)) (number : ℕ) (cause : Cause) :
   pub behind : List (List ℕ)
   pub given : Given
   pub lines_are : lines ≡ before ++ (bad ∷ behind)
-  pub good : AreGood nothing before given
+  pub good : AreGoodLines nothing_given before given
   pub says : says_nothing bad ≡ false
   pub cause_is : IsBadFor given bad cause
   pub number_is : number ≡ length before + 1

@@ -7,25 +7,25 @@ use Rattle.mode_file.specs.declared.keys.Key.TheVariants.{Process, Mate, Confron
 abbrev pub keys : List Key
 keys = Process ∷ Mate ∷ Confront ∷ Inst ∷ Choose ∷ Grow ∷ Commands ∷ Conflicts ∷ []
 
-abbrev pub name_of : Key → List ℕ
-name_of Process = codes "process"
-name_of Mate = codes "mate"
-name_of Confront = codes "confront"
-name_of Inst = codes "inst"
-name_of Choose = codes "choose"
-name_of Grow = codes "grow"
-name_of Commands = codes "commands"
-name_of Conflicts = codes "conflicts"
+abbrev pub key_name : Key → List ℕ
+key_name Process = codes "process"
+key_name Mate = codes "mate"
+key_name Confront = codes "confront"
+key_name Inst = codes "inst"
+key_name Choose = codes "choose"
+key_name Grow = codes "grow"
+key_name Commands = codes "commands"
+key_name Conflicts = codes "conflicts"
 
-abbrev pub standard : Key → ℕ
-standard Process = 0
-standard Mate = 1
-standard Confront = 1
-standard Inst = 1
-standard Choose = 2
-standard Grow = 4
-standard Commands = 20000
-standard Conflicts = 1000000
+abbrev pub standard_number : Key → ℕ
+standard_number Process = 0
+standard_number Mate = 1
+standard_number Confront = 1
+standard_number Inst = 1
+standard_number Choose = 2
+standard_number Grow = 4
+standard_number Commands = 20000
+standard_number Conflicts = 1000000
 
 abbrev pub greatest : Key → ℕ
 greatest Process = 1000
@@ -39,4 +39,4 @@ greatest Conflicts = 1000000000000
 
 -- the key of this name
 unfoldable pub key_of : List ℕ → Option Key
-key_of name = find (λ key. bytes_eq (name_of key) name) keys
+key_of name = find (λ key. bytes_eq (key_name key) name) keys

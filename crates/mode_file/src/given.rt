@@ -1,7 +1,7 @@
 //! The numbers that a mode file gives to keys.
 ghost use Rattle.std.specs.Prelude.{◌≡◌, ◌≤◌, is_some};
 ghost use Rattle.mode_file.specs.Keys.{greatest};
-ghost use Rattle.mode_file.specs.Given.{nothing, number_of, with_number, mode_of};
+ghost use Rattle.mode_file.specs.Given.{nothing_given, number_given, with_number, mode_of};
 
 use crate::Mode;
 use crate::keys::Key;
@@ -21,7 +21,7 @@ pub(crate) struct Given {
 
 impl Given {
     pub(crate) fn new() -> Self
-        ensures { result ≡ nothing }
+        ensures { result ≡ nothing_given }
     {
         Given {
             process: None,
@@ -37,7 +37,7 @@ impl Given {
 
     /// Whether the key has a number.
     pub(crate) fn has(&self, key: Key) -> bool
-        ensures { result ≡ is_some (number_of self.now key) }
+        ensures { result ≡ is_some (number_given self.now key) }
     {
         match key {
             Key::Process => self.process.is_some(),

@@ -1,6 +1,6 @@
 //! The keys of a mode.
 ghost use Rattle.std.specs.Prelude.{◌≡◌};
-ghost use Rattle.mode_file.specs.Keys.{name_of, greatest, key_of};
+ghost use Rattle.mode_file.specs.Keys.{key_name, greatest, key_of};
 
 /// A key of a mode file.
 #[derive(Clone, Copy, Debug)]
@@ -28,7 +28,7 @@ const KEYS: [Key; 8] = [
 
 impl Key {
     fn name(self) -> &'static [u8]
-        ensures { result.now ≡ name_of self }
+        ensures { result.now ≡ key_name self }
     {
         match self {
             Key::Process => b"process",

@@ -2,7 +2,7 @@
 #![tactic(auto)]
 
 ghost use Rattle.std.specs.Prelude.{◌≡◌, ◌≤◌, ◌^◌, length, IfOk, IfErr};
-ghost use Rattle.mode_file.specs.Given.{nothing, mode_of, IsInRange};
+ghost use Rattle.mode_file.specs.Given.{nothing_given, mode_of, IsInRange};
 ghost use Rattle.outside.specs.Lines.{lines_of};
 ghost use Rattle.mode_file.specs.Grammar.{States};
 ghost use Rattle.mode_file.specs.Refusals.{Refuses};
@@ -35,7 +35,7 @@ pub struct Mode {
 
 impl Mode {
     pub fn standard() -> Mode
-        ensures standard { result ≡ mode_of nothing }
+        ensures standard { result ≡ mode_of nothing_given }
         ensures in_range { IsInRange result }
     {
         Given::new().mode()

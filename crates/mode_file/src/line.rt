@@ -3,7 +3,7 @@ ghost use Rattle.std.specs.Prelude.{◌≡◌, ◌≤◌, ◌^◌, ◌<◌, ◌�
 ghost use Rattle.std.specs.List.{list_all};
 ghost use Rattle.mode_file.specs.Lines.{is_blank, is_digit};
 ghost use Rattle.mode_file.specs.Keys.{greatest};
-ghost use Rattle.mode_file.specs.Given.{number_of};
+ghost use Rattle.mode_file.specs.Given.{number_given};
 ghost use Rattle.mode_file.specs.Grammar.{says_nothing, is_decimal, number_from, Sets, IsBadFor};
 ghost use Rattle.mode_file.specs.Internal.Reader.{is_ending, digits_in};
 
@@ -92,7 +92,7 @@ pub(crate) struct Setting {
 pub(crate) fn read_line(line: &[u8], given: &Given) -> Result<Setting, Cause>
     requires { says_nothing line.now ≡ false }
     ensures { MatchResult result
-        (λ s. Sets line.now s.key s.number × (number_of given.now s.key ≡ None) × (s.number ≤ greatest s.key))
+        (λ s. Sets line.now s.key s.number × (number_given given.now s.key ≡ None) × (s.number ≤ greatest s.key))
         (IsBadFor given.now line.now) }
 {
     let word = split_front(ByteClass::InWord, line);

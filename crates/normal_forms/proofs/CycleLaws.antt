@@ -11,7 +11,7 @@ use Rattle.stt_core.proofs.ListLaws.{drop_got}
 use Rattle.stt_core.specs.Lift.{lift_by}
 use Rattle.normal_forms.specs.Normal.{Way, ways_of, put, replace, apply_by, ways}
 use Rattle.normal_forms.specs.Ready.{ArgumentsFit, Replaces, AppliesAll, HeadReplaces}
-use Rattle.normal_forms.specs.Internal.Applying.{apply_ways, body}
+use Rattle.normal_forms.specs.Internal.Applying.{apply_ways, body_under}
 use Rattle.normal_forms.proofs.CanonicalLaws.{keeps}
 use Rattle.normal_forms.proofs.Prices.{price, price_by, price_all, prices, argument_paid, arguments_paid}
 use Rattle.normal_forms.proofs.ReplaceLaws.{NotFunction, Spine, spine_under, under, under_front, length-under, map_fits, lift_front, apply_ways_none, put_same, ways_same, put_below, ways_below, put_above, ways_above}
@@ -19,33 +19,33 @@ use Rattle.normal_forms.proofs.ReplaceLaws.{NotFunction, Spine, spine_under, und
 -- THE FIRST ARGUMENT
 
 -- a canonical function stands under a binder
-function_body : (scope : Scope) (ctx : List SimpleType) (x y : SimpleType) (f : Lambda) → IsCanonical scope ctx (arrow x y) f → lam x (body 1 f) ≡ f
+function_body : (scope : Scope) (ctx : List SimpleType) (x y : SimpleType) (f : Lambda) → IsCanonical scope ctx (arrow x y) f → lam x (body_under 1 f) ≡ f
 function_body scope ctx x y (bound k) h = absurd h.0
 function_body scope ctx x y (constant c) h = absurd h.0
 function_body scope ctx x y (app s u) h = absurd h.0
 function_body scope ctx x y (lam c s) h = ap (λ a. lam a s) h.1.0
 
-pub function_replaces : (scope : Scope) (ctx : List SimpleType) (x y : SimpleType) (f u : Lambda) → IsCanonical scope ctx (arrow x y) f → IsCanonical scope ctx x u → Replaces x 0 u (body 1 f)
+pub function_replaces : (scope : Scope) (ctx : List SimpleType) (x y : SimpleType) (f u : Lambda) → IsCanonical scope ctx (arrow x y) f → IsCanonical scope ctx x u → Replaces x 0 u (body_under 1 f)
 function_replaces scope ctx x y f u h k =
     let whole = subst (IsCanonical scope ctx (arrow x y)) (sym (function_body scope ctx x y f h)) h in
     record { scope = scope; ctx = ctx; front = []; result = y; length_is = refl; r_in = k; t_in = whole.1.1 }
 
-pub function_applied : (scope : Scope) (ctx : List SimpleType) (x y : SimpleType) (f u : Lambda) → IsCanonical scope ctx (arrow x y) f → replace (ways x) 0 u (body 1 f) ≡ apply_by (ways x) f u
+pub function_applied : (scope : Scope) (ctx : List SimpleType) (x y : SimpleType) (f u : Lambda) → IsCanonical scope ctx (arrow x y) f → replace (ways x) 0 u (body_under 1 f) ≡ apply_by (ways x) f u
 function_applied scope ctx x y f u h = ap (λ t. apply_by (ways x) t u) (function_body scope ctx x y f h)
 
-function_priced : (scope : Scope) (ctx : List SimpleType) (x y : SimpleType) (f u : Lambda) → IsCanonical scope ctx (arrow x y) f → suc (suc (suc (price (ways x) (prices x) 0 u (body 1 f)))) ≡ price_by (ways x) (prices x) f u
+function_priced : (scope : Scope) (ctx : List SimpleType) (x y : SimpleType) (f u : Lambda) → IsCanonical scope ctx (arrow x y) f → suc (suc (suc (price (ways x) (prices x) 0 u (body_under 1 f)))) ≡ price_by (ways x) (prices x) f u
 function_priced scope ctx x y f u h =
     ap (λ t. price_by (ways x) (prices x) t u) (function_body scope ctx x y f h)
 
-one_at : (x y : SimpleType) (f u : Lambda) (us : List Lambda) → AppliesAll (arrow x y) f (u ∷ us) → Replaces x 0 u (body 1 f) × (2 + price (ways x) (prices x) 0 u (body 1 f) < price_all (ways (arrow x y)) (prices (arrow x y)) f (u ∷ us))
+one_at : (x y : SimpleType) (f u : Lambda) (us : List Lambda) → AppliesAll (arrow x y) f (u ∷ us) → Replaces x 0 u (body_under 1 f) × (2 + price (ways x) (prices x) 0 u (body_under 1 f) < price_all (ways (arrow x y)) (prices (arrow x y)) f (u ∷ us))
 one_at x y f u us h =
     (function_replaces h.scope h.ctx x y f u h.t_in h.us_in.0, omega (arith, function_priced h.scope h.ctx x y f u h.t_in))
 
-pub one_ready : (a x y : SimpleType) (f u : Lambda) (us : List Lambda) (i : ℕ) → AppliesAll a f (drop i us) → a ≡ arrow x y → slice_get us i ≡ Some u → Replaces x 0 u (body 1 f) × (2 + price (ways x) (prices x) 0 u (body 1 f) < price_all (ways a) (prices a) f (drop i us))
+pub one_ready : (a x y : SimpleType) (f u : Lambda) (us : List Lambda) (i : ℕ) → AppliesAll a f (drop i us) → a ≡ arrow x y → slice_get us i ≡ Some u → Replaces x 0 u (body_under 1 f) × (2 + price (ways x) (prices x) 0 u (body_under 1 f) < price_all (ways a) (prices a) f (drop i us))
 one_ready a x y f u us i h e g =
     let l = drop_got us i u g in
     let h' = subst₂ (λ b vs. AppliesAll b f vs) e l h in
-    subst₂ (λ b vs. Replaces x 0 u (body 1 f) × (2 + price (ways x) (prices x) 0 u (body 1 f) < price_all (ways b) (prices b) f vs)) (sym e) (sym l) (one_at x y f u (drop (i + 1) us) h')
+    subst₂ (λ b vs. Replaces x 0 u (body_under 1 f) × (2 + price (ways x) (prices x) 0 u (body_under 1 f) < price_all (ways b) (prices b) f vs)) (sym e) (sym l) (one_at x y f u (drop (i + 1) us) h')
 
 -- THE OTHER ARGUMENTS
 
@@ -54,7 +54,7 @@ all_at x y f u us h =
     (record { scope = h.scope; ctx = h.ctx; t_in = (keeps h.scope (arrow x y)).0 h.ctx f u h.t_in h.us_in.0; us_in = h.us_in.1 }, omega arith)
 
 -- what the first argument gives
-pub one_returns : (a x y : SimpleType) (f u g : Lambda) (us : List Lambda) (i : ℕ) → AppliesAll a f (drop i us) → a ≡ arrow x y → slice_get us i ≡ Some u → g ≡ replace (ways x) 0 u (body 1 f) → g ≡ apply_by (ways x) f u
+pub one_returns : (a x y : SimpleType) (f u g : Lambda) (us : List Lambda) (i : ℕ) → AppliesAll a f (drop i us) → a ≡ arrow x y → slice_get us i ≡ Some u → g ≡ replace (ways x) 0 u (body_under 1 f) → g ≡ apply_by (ways x) f u
 one_returns a x y f u g us i h e k q =
     let h' = subst₂ (λ b vs. AppliesAll b f vs) e (drop_got us i u k) h in
     q ∙ function_applied h'.scope h'.ctx x y f u h'.t_in

@@ -7,7 +7,7 @@ use Rattle.stt_core.specs.Canonical.{IsCanonical}
 use Rattle.stt_core.specs.Lift.{lift}
 use Rattle.normal_forms.specs.Normal.{eta, apply, replace, ways}
 use Rattle.normal_forms.specs.Ready.{CanApply, Replaces}
-use Rattle.normal_forms.specs.Internal.Applying.{body}
+use Rattle.normal_forms.specs.Internal.Applying.{body_under}
 use Rattle.normal_forms.proofs.Spines.{lift-applied}
 use Rattle.normal_forms.proofs.ReplaceLaws.{NotFunction}
 use Rattle.normal_forms.proofs.CycleLaws.{function_replaces}
@@ -33,7 +33,7 @@ no_function scope ctx a b t (u ∷ us) o h = no_function scope ctx a b (app t u)
 -- a function has a binder, whose type is the argument's
 pub record First (bs : List SimpleType) (f u : Lambda) : Type 0 where
   pub within : 0 < length bs
-  pub first : (a : SimpleType) → slice_get bs 0 ≡ Some a → Replaces a 0 u (body 1 f) × (replace (ways a) 0 u (body 1 f) ≡ apply f u)
+  pub first : (a : SimpleType) → slice_get bs 0 ≡ Some a → Replaces a 0 u (body_under 1 f) × (replace (ways a) 0 u (body_under 1 f) ≡ apply f u)
 
 first_at : (bs : List SimpleType) (h : Lambda) (us : List Lambda) (u : Lambda) → NotFunction h → CanApply (lambdas bs (applied h us)) u → First bs (lambdas bs (applied h us)) u
 first_at [] h us u o c =

@@ -7,7 +7,7 @@ use Rattle.stt_core.specs.Canonical.{IsFrom, IsCanonical, IsNeutral}
 use Rattle.stt_core.specs.Lift.{lift, lift_by}
 use Rattle.normal_forms.specs.Normal.{Way, ways_at, ways_of, put, replace, ways}
 use Rattle.normal_forms.specs.Ready.{ArgumentsFit}
-use Rattle.normal_forms.specs.Internal.Applying.{apply_ways, body}
+use Rattle.normal_forms.specs.Internal.Applying.{apply_ways, body_under}
 use Rattle.normal_forms.proofs.CanonicalLaws.{keeps, canonical-lift, canonical-replace}
 
 pub apply_ways_none : (t : Lambda) (us : List Lambda) → apply_ways [] t us ≡ applied t us
@@ -77,21 +77,21 @@ not_function_applied : (t : Lambda) (us : List Lambda) → NotFunction t → Not
 not_function_applied t [] o = o
 not_function_applied t (u ∷ us) o = not_function_applied (app t u) us tt
 
-body_not_function : (n : ℕ) (t : Lambda) → NotFunction t → body n t ≡ t
+body_not_function : (n : ℕ) (t : Lambda) → NotFunction t → body_under n t ≡ t
 body_not_function zero t o = refl
 body_not_function (suc n) (bound k) o = refl
 body_not_function (suc n) (constant c) o = refl
 body_not_function (suc n) (lam a s) o = absurd o
 body_not_function (suc n) (app s u) o = refl
 
-body-lambdas : (n : ℕ) (bs : List SimpleType) (t : Lambda) → NotFunction t → body n (lambdas bs t) ≡ lambdas (drop n bs) t
+body-lambdas : (n : ℕ) (bs : List SimpleType) (t : Lambda) → NotFunction t → body_under n (lambdas bs t) ≡ lambdas (drop n bs) t
 body-lambdas zero bs t o = refl
 body-lambdas (suc n) [] t o = body_not_function (suc n) t o
 body-lambdas (suc n) (b ∷ bs) t o = body-lambdas n bs t o
 
 -- the parts of a term without its first binders
-pub body_view : (n : ℕ) (bs : List SimpleType) (h : Lambda) (us : List Lambda) (whole : Lambda) → NotFunction h → lambdas bs (applied h us) ≡ whole → lambdas (drop n bs) (applied h us) ≡ body n whole
-body_view n bs h us whole o e = sym (body-lambdas n bs (applied h us) (not_function_applied h us o)) ∙ ap (body n) e
+pub body_view : (n : ℕ) (bs : List SimpleType) (h : Lambda) (us : List Lambda) (whole : Lambda) → NotFunction h → lambdas bs (applied h us) ≡ whole → lambdas (drop n bs) (applied h us) ≡ body_under n whole
+body_view n bs h us whole o e = sym (body-lambdas n bs (applied h us) (not_function_applied h us o)) ∙ ap (body_under n) e
 
 module _ (scope : Scope) where
   pub neutral_of : (ctx : List SimpleType) (b : SimpleType) (t : Lambda) (us : List Lambda) → NotFunction t → IsCanonical scope ctx b (applied t us) → IsNeutral scope ctx b (applied t us)

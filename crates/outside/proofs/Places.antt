@@ -6,7 +6,7 @@ use Rattle.std.specs.List.{position_or_len}
 use Rattle.std.specs.Option.{option_map}
 use Rattle.outside.specs.declared.file_list.Entry.{Entry}
 use Rattle.outside.specs.Entry.{files_of}
-use Rattle.outside.specs.FileList.{place_of, content_of, bytes_at}
+use Rattle.outside.specs.FileList.{file_place, content_of, bytes_at}
 
 pub position_or_len-map : {X Y : Type 0} (f : X → Y) (p : Y → Bool) (xs : List X) → position_or_len p (map f xs) ≡ position_or_len (λ x. p (f x)) xs
 position_or_len-map f p [] = refl
@@ -22,15 +22,15 @@ bytes_past [] place past = refl
 bytes_past (file ∷ files) zero past = absurd (omega arith)
 bytes_past (file ∷ files) (suc place) past = bytes_past files place (omega arith)
 
-content_at : (files : List (List ℕ × List ℕ)) (name : List ℕ) → content_of files name ≡ option_map (λ file. file.1) (slice_get files (place_of files name))
+content_at : (files : List (List ℕ × List ℕ)) (name : List ℕ) → content_of files name ≡ option_map (λ file. file.1) (slice_get files (file_place files name))
 content_at files name = ap (option_map (λ file. file.1)) (find_at _ files)
 
 -- a name that stands before the end has the bytes at its place
-pub content_within : (files : List (List ℕ × List ℕ)) (name : List ℕ) → place_of files name < length files → content_of files name ≡ Some (bytes_at files (place_of files name))
+pub content_within : (files : List (List ℕ × List ℕ)) (name : List ℕ) → file_place files name < length files → content_of files name ≡ Some (bytes_at files (file_place files name))
 content_within files name within = content_at files name ∙ bytes_within files _ within
 
 -- a name whose place is the end has no file
-pub content_past : (files : List (List ℕ × List ℕ)) (name : List ℕ) → length files ≤ place_of files name → content_of files name ≡ None
+pub content_past : (files : List (List ℕ × List ℕ)) (name : List ℕ) → length files ≤ file_place files name → content_of files name ≡ None
 content_past files name past = content_at files name ∙ bytes_past files _ past
 
 -- the bytes at a place are those of the entry there

@@ -5,8 +5,8 @@ use Rattle.std.specs.Option.{option_map, option_map_or}
 use Rattle.std.specs.Str.{bytes_eq}
 
 -- the place of the first file of a name, or the number of files where none has it
-abbrev pub place_of : List (List ℕ × List ℕ) → List ℕ → ℕ
-place_of files name = position_or_len (λ file. bytes_eq file.0 name) files
+abbrev pub file_place : List (List ℕ × List ℕ) → List ℕ → ℕ
+file_place files name = position_or_len (λ file. bytes_eq file.0 name) files
 
 -- the bytes of the first file of a name
 abbrev pub content_of : List (List ℕ × List ℕ) → List ℕ → Option (List ℕ)

@@ -1,7 +1,7 @@
 // Files in memory beside their counts of faults.
 ghost use Rattle.std.specs.Prelude.{◌≡◌, ◌≤◌, ◌<◌, ◌+◌, ◌^◌, None, Some, length, position, replicate, slice_index, string_bytes};
 ghost use Rattle.std.specs.Str.{bytes_eq};
-ghost use Rattle.outside.specs.FileList.{place_of, content_of, bytes_at};
+ghost use Rattle.outside.specs.FileList.{file_place, content_of, bytes_at};
 ghost use Rattle.outside.specs.Internal.Counts.{raised_at};
 
 use crate::FileList;
@@ -50,7 +50,7 @@ impl CountedFiles {
 
     /// The place of the first file of a name, or the number of files where none has it.
     pub fn first_place(&self, name: &str) -> usize
-        ensures place { result ≡ place_of self.now.files name.now }
+        ensures place { result ≡ file_place self.now.files name.now }
         ensures within { result ≤ length self.now.files }
         ensures found { result < length self.now.files
             → content_of self.now.files name.now ≡ Some (bytes_at self.now.files result) }

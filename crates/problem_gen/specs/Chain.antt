@@ -2,8 +2,8 @@
 use Rattle.std.specs.Prelude.{ℕ, zero, suc, ◌+◌, List, [], ◌++◌, codes, decimal}
 
 -- thf(pK_type,type,pK: $i > $o).
-abbrev pub predicate : ℕ → List ℕ
-predicate k = codes "thf(p" ++ (decimal k ++ (codes "_type,type,p" ++ (decimal k ++ codes ": $i > $o).\n")))
+abbrev pub predicate_letter : ℕ → List ℕ
+predicate_letter k = codes "thf(p" ++ (decimal k ++ (codes "_type,type,p" ++ (decimal k ++ codes ": $i > $o).\n")))
 
 -- thf(aK,axiom,( ( pJ @ c ) => ( ( ^ [X:$i] : ( pK @ X ) ) @ c ) )). The number J is given, and K is the next one.
 abbrev pub implication : ℕ → List ℕ
@@ -24,4 +24,4 @@ lines_below line (suc k) = lines_below line k ++ line k
 abbrev pub text : ℕ → List ℕ
 text n =
     codes "thf(c_type,type,c: $i).\n"
-    ++ (lines_below predicate (n + 1) ++ (codes "thf(a0,axiom,( p0 @ c )).\n" ++ (lines_below implication n ++ goal n)))
+    ++ (lines_below predicate_letter (n + 1) ++ (codes "thf(a0,axiom,( p0 @ c )).\n" ++ (lines_below implication n ++ goal n)))

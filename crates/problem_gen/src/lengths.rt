@@ -1,6 +1,6 @@
 //! How many bytes problems have.
 ghost use Rattle.std.specs.Prelude.{◌≡◌, ◌≤◌, ◌+◌, ◌*◌, length, decimal};
-ghost use Rattle.problem_gen.specs.Chain.{predicate, implication, lines_below, text};
+ghost use Rattle.problem_gen.specs.Chain.{predicate_letter, implication, lines_below, text};
 
 use itoa::Buffer;
 
@@ -12,7 +12,7 @@ fn digits(n: u32) -> usize
 }
 
 fn predicate_length(k: u32) -> usize
-    ensures value { result ≡ length (predicate k) }
+    ensures value { result ≡ length (predicate_letter k) }
     ensures bound { result ≤ 200 }
 {
     29 + 2 * digits(k)
@@ -28,7 +28,7 @@ fn implication_length(j: u32) -> usize
 
 fn predicates_length(end: u32) -> usize
     requires { end ≤ 1001 }
-    ensures value { result ≡ length (lines_below predicate end) }
+    ensures value { result ≡ length (lines_below predicate_letter end) }
     ensures bound { result ≤ 200 * end }
 {
     let mut total = 0;

@@ -1,6 +1,6 @@
 //! Writes problems.
 ghost use Rattle.std.specs.Prelude.{◌≡◌, ◌≤◌, ◌++◌, ◌+◌, OnOk, OnErr};
-ghost use Rattle.problem_gen.specs.Chain.{predicate, implication, goal, lines_below, text};
+ghost use Rattle.problem_gen.specs.Chain.{predicate_letter, implication, goal, lines_below, text};
 ghost use Rattle.outside.specs.Writing.{Took, Stopped};
 
 use itoa::Buffer;
@@ -15,8 +15,8 @@ fn write<S: Sink>(sink: &mut S, bytes: &[u8]) -> Result<(), Failed>
 }
 
 fn write_predicate<S: Sink>(k: u32, sink: &mut S) -> Result<(), Failed>
-    ensures took { OnOk result (Took S.tells S.written S.faults sink.old sink.new (predicate k)) }
-    ensures stopped { OnErr result (Stopped S.tells S.written S.faults sink.old sink.new (predicate k)) }
+    ensures took { OnOk result (Took S.tells S.written S.faults sink.old sink.new (predicate_letter k)) }
+    ensures stopped { OnErr result (Stopped S.tells S.written S.faults sink.old sink.new (predicate_letter k)) }
 {
     let mut buffer = Buffer::new();
     let digits = buffer.format(k).as_bytes();
@@ -62,8 +62,8 @@ fn write_goal<S: Sink>(n: u32, sink: &mut S) -> Result<(), Failed>
 }
 
 fn write_predicates<S: Sink>(end: u32, sink: &mut S) -> Result<(), Failed>
-    ensures took { OnOk result (Took S.tells S.written S.faults sink.old sink.new (lines_below predicate end)) }
-    ensures stopped { OnErr result (Stopped S.tells S.written S.faults sink.old sink.new (lines_below predicate end)) }
+    ensures took { OnOk result (Took S.tells S.written S.faults sink.old sink.new (lines_below predicate_letter end)) }
+    ensures stopped { OnErr result (Stopped S.tells S.written S.faults sink.old sink.new (lines_below predicate_letter end)) }
 {
     for k in 0..end {
         write_predicate(k, sink)?;

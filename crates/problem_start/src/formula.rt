@@ -5,8 +5,8 @@ ghost use Rattle.stt_core.specs.View.{the_term};
 ghost use Rattle.tableau_calculus.specs.Start.{normal_literal};
 ghost use Rattle.term_bank.specs.Content.{Grows, content_scope};
 ghost use Rattle.term_bank.specs.Terms.{term_at};
-ghost use Rattle.bank_normal.specs.Right.{IsRight};
-ghost use Rattle.literal_map.specs.Atoms.{literal_at, IsAtom, Begins};
+ghost use Rattle.bank_normal.specs.Right.{IsRightNormaliser};
+ghost use Rattle.literal_map.specs.Atoms.{bank_literal, IsAtom, Begins};
 
 use bank_normal::Normaliser;
 use literal_map::{LitTable, SignedAtom, atom_of, literals_stay};
@@ -22,11 +22,11 @@ pub fn formula_atom(
     formula: &Term,
 ) -> Result<SignedAtom, AllocError>
     requires formula { IsFormula (content_scope bank.old) (the_term formula.now) }
-    requires right { IsRight normal.old bank.old }
+    requires right { IsRightNormaliser normal.old bank.old }
     ensures literal { IfOk result (λ a. record { positive = a.positive; atom = term_at bank.new.terms a.atom } ≡ normal_literal (content_scope bank.old) (the_term formula.now)) }
     ensures atom { IfOk result (λ a. IsAtom bank.new a.atom) }
     ensures grows { Grows bank.old bank.new }
-    ensures right { IsRight normal.new bank.new }
+    ensures right { IsRightNormaliser normal.new bank.new }
 {
     let _declared = bank.sig();
     let id = normal.normalise(bank, formula)?;
@@ -42,12 +42,12 @@ pub fn formula_literal(
     formula: &Term,
 ) -> Result<SatLit, AllocError>
     requires formula { IsFormula (content_scope bank.old) (the_term formula.now) }
-    requires right { IsRight normal.old bank.old }
+    requires right { IsRightNormaliser normal.old bank.old }
     requires atoms { All (IsAtom bank.old) lits.old }
     ensures number { IfOk result (λ l. l.var.0 < length lits.new) }
-    ensures literal { IfOk result (λ l. literal_at bank.new.terms lits.new l ≡ normal_literal (content_scope bank.old) (the_term formula.now)) }
+    ensures literal { IfOk result (λ l. bank_literal bank.new.terms lits.new l ≡ normal_literal (content_scope bank.old) (the_term formula.now)) }
     ensures grows { Grows bank.old bank.new }
-    ensures right { IsRight normal.new bank.new }
+    ensures right { IsRightNormaliser normal.new bank.new }
     ensures begins { Begins lits.old lits.new }
     ensures atoms { All (IsAtom bank.new) lits.new }
 {

@@ -14,7 +14,7 @@ use Rattle.instantiate.specs.Listing.{Listing, ids_of}
 use Rattle.search_spec.specs.Each.{Each}
 use Rattle.search_spec.specs.Mode.{Mode}
 use Rattle.search_spec.specs.State.{State, Setting, Typed}
-use Rattle.search_spec.specs.Terms.{first_terms, prepared, with_term, with_terms}
+use Rattle.search_spec.specs.Terms.{first_terms, with_preparation, with_term, with_terms}
 use Rattle.prover_state.specs.Internal.Names.{typed_at, IsPlace}
 use Rattle.prover_state.proofs.EachLaws.{All-from_each}
 
@@ -100,11 +100,11 @@ none_listed terms a (l ∷ listed) h = go (same_type a l.0) h (none_listed terms
     go false k rest = rest k
 
 module _ (setting : Setting) (n : ℕ) (terms : List Lambda) (listed : List Listing) (s : State) (are : s.terms ≡ map (typed_at terms) listed) where
-  by_test : (b : Bool) → list_any (λ (u : Typed). same_type (base n) u.type) (map (typed_at terms) listed) ≡ b → prepared setting (base n) s ≡ (if b then s else with_terms setting.mode (base n) (first_terms (base n)) s)
+  by_test : (b : Bool) → list_any (λ (u : Typed). same_type (base n) u.type) (map (typed_at terms) listed) ≡ b → with_preparation setting (base n) s ≡ (if b then s else with_terms setting.mode (base n) (first_terms (base n)) s)
   by_test b e = ap (λ (x : Bool). if x then s else with_terms setting.mode (base n) (first_terms (base n)) s) (ap (list_any (λ (u : Typed). same_type (base n) u.type)) are ∙ e)
 
-  pub base-before : 0 < length (ids_of (base n) listed) → s ≡ prepared setting (base n) s
+  pub base-before : 0 < length (ids_of (base n) listed) → s ≡ with_preparation setting (base n) s
   base-before h = sym (by_test true (some_listed terms (base n) listed h))
 
-  pub base-now : length (ids_of (base n) listed) ≤ 0 → with_terms setting.mode (base n) (first_terms (base n)) s ≡ prepared setting (base n) s
+  pub base-now : length (ids_of (base n) listed) ≤ 0 → with_terms setting.mode (base n) (first_terms (base n)) s ≡ with_preparation setting (base n) s
   base-now h = sym (by_test false (none_listed terms (base n) listed h))

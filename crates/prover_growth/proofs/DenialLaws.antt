@@ -23,7 +23,7 @@ use Rattle.sat_base.specs.declared.literal.SatLit.{SatLit}
 use Rattle.term_bank.specs.Content.{Content, content_scope}
 use Rattle.term_bank.specs.Laws.{EqualIdsForEqualTerms}
 use Rattle.term_bank.specs.Terms.{term_at}
-use Rattle.literal_map.specs.Atoms.{literal_at, Begins}
+use Rattle.literal_map.specs.Atoms.{bank_literal, Begins}
 use Rattle.literal_map.specs.declared.instance.BankUse.{BankUse}
 use Rattle.literal_map.specs.declared.instance.Instance.{Instance}
 use Rattle.literal_map.specs.declared.instance.RuleKind.TheVariants as kind
@@ -38,9 +38,9 @@ use Rattle.search_spec.proofs.RowLaws.{row_at, no_row}
 use Rattle.prover_growth.specs.Internal.Denials.{Denies, with_row}
 use Rattle.prover_state.specs.declared.tables.Basis.{Basis}
 use Rattle.prover_state.specs.Internal.Growing.{Longer, Continues, BasisWidens}
-use Rattle.prover_state.specs.Internal.Names.{Names, IsNumber, IsPlace}
+use Rattle.prover_state.specs.Internal.Names.{Naming, IsNumberIn, IsPlace}
 use Rattle.prover_state.specs.Internal.Standing.{rows_in, IsBasis}
-use Rattle.prover_state.specs.Internal.Steps.{IsMade}
+use Rattle.prover_state.specs.Internal.Steps.{IsMadeInstance}
 use Rattle.prover_state.proofs.EachLaws.{each-weaker, each-from_All}
 use Rattle.prover_state.proofs.NamesLaws.{place-stays, literal-stays}
 use Rattle.prover_state.proofs.PlaceLaws.{same-places}
@@ -83,24 +83,24 @@ module _ (scope : Scope) (rows : List Row) (l : Literal) (a : SimpleType) (f : L
   denial-alternatives distinct as' h = one_instance scope rows distinct (l ∷ []) (AllNeg 0) as' (all_neg a f (constant (witness k))) h denial-instance
 
 -- the rule is one for the literal
-pub denial-fits : (b : Content) (atoms : List ℕ) (lit : SatLit) (a : SimpleType) (f : Lambda) → literal_at b.terms atoms lit ≡ minus (every a f) → IsInstanceBy b atoms (denied_row a f ∷ []) (denial_use lit) (all_neg a f (constant (witness 0)))
+pub denial-fits : (b : Content) (atoms : List ℕ) (lit : SatLit) (a : SimpleType) (f : Lambda) → bank_literal b.terms atoms lit ≡ minus (every a f) → IsInstanceBy b atoms (denied_row a f ∷ []) (denial_use lit) (all_neg a f (constant (witness 0)))
 denial-fits b atoms lit a f denies = record {
   rule = AllNeg 0;
   is_rule = refl;
-  is_instance = denial-instance (content_scope b) (denied_row a f ∷ []) (literal_at b.terms atoms lit) a f 0 denies refl;
+  is_instance = denial-instance (content_scope b) (denied_row a f ∷ []) (bank_literal b.terms atoms lit) a f 0 denies refl;
 }
 
 same_use : (u v : RuleUse) → Some u ≡ Some v → u ≡ v
 same_use u v e = cc
 
-pub alternatives-by : (b : Content) (atoms : List ℕ) (rows : List Row) (lit : SatLit) (a : SimpleType) (f : Lambda) (k : ℕ) → literal_at b.terms atoms lit ≡ minus (every a f) → slice_get rows k ≡ Some (denied_row a f) → AreDistinct rows
+pub alternatives-by : (b : Content) (atoms : List ℕ) (rows : List Row) (lit : SatLit) (a : SimpleType) (f : Lambda) (k : ℕ) → bank_literal b.terms atoms lit ≡ minus (every a f) → slice_get rows k ≡ Some (denied_row a f) → AreDistinct rows
     → (as' : List (List Literal)) → IsInstanceBy b atoms rows (denial_use lit) as' → as' ≡ all_neg a f (constant (witness k))
 alternatives-by b atoms rows lit a f k denies at distinct as' h =
-    denial-alternatives (content_scope b) rows (literal_at b.terms atoms lit) a f k denies at distinct as'
-    (subst (λ u. IsInstance (content_scope b) rows (literal_at b.terms atoms lit ∷ []) u as') (sym (same_use (AllNeg 0) h.rule h.is_rule)) h.is_instance)
+    denial-alternatives (content_scope b) rows (bank_literal b.terms atoms lit) a f k denies at distinct as'
+    (subst (λ u. IsInstance (content_scope b) rows (bank_literal b.terms atoms lit ∷ []) u as') (sym (same_use (AllNeg 0) h.rule h.is_rule)) h.is_instance)
 
 -- names without partial terms
-abbrev plain : Basis → Names
+abbrev plain : Basis → Naming
 plain g = record { terms = g.bank.terms; atoms = g.lits; sketches = [] }
 
 -- the type that a predicate is one on is that of its binder
@@ -116,8 +116,8 @@ same_arguments a b f g e = cc
 same_predicates : (a b : SimpleType) (f g : Lambda) → minus (every a f) ≡ minus (every b g) → f ≡ g
 same_predicates a b f g e = same_arguments a b f g (ap (λ (l : Literal). l.atom) e)
 
-module _ (old new : Basis) (w : BasisWidens old new) (good : IsBasis old) (lit : SatLit) (number : IsNumber old.lits lit) (a : SimpleType) (f : Lambda) (denies : Denies old lit a f) where
-  literal_same : literal_at new.bank.terms new.lits lit ≡ literal_at old.bank.terms old.lits lit
+module _ (old new : Basis) (w : BasisWidens old new) (good : IsBasis old) (lit : SatLit) (number : IsNumberIn old.lits lit) (a : SimpleType) (f : Lambda) (denies : Denies old lit a f) where
+  literal_same : bank_literal new.bank.terms new.lits lit ≡ bank_literal old.bank.terms old.lits lit
   literal_same =
       let c : Continues (plain old) (plain new) = record {
         within = λ k d h. (good.atoms k d h).within;
@@ -183,7 +183,7 @@ module _ (old new : Basis) (w : BasisWidens old new) (good : IsBasis old) (lit :
   pub denied-rows : EqualIdsForEqualTerms new.bank → HasWitness new.bank new.lits (Some lit) old.witnesses new.witnesses → rows_in new ≡ with_row (rows_in old) (denied_row a f)
   denied-rows equal h =
       let same : h.literal ≡ lit = cc (h.is_principal) in
-      let now : literal_at new.bank.terms new.lits lit ≡ minus (every h.type (term_at new.bank.terms h.predicate)) = ap (literal_at new.bank.terms new.lits) (sym same) ∙ h.denies in
+      let now : bank_literal new.bank.terms new.lits lit ≡ minus (every h.type (term_at new.bank.terms h.predicate)) = ap (bank_literal new.bank.terms new.lits) (sym same) ∙ h.denies in
       rows-with equal h.predicate h.within (same_predicates a h.type f (term_at new.bank.terms h.predicate) (sym denies-on ∙ now)) h.added
 
   -- the alternatives of the rule
@@ -199,8 +199,8 @@ one_of : (x y : SatLit) → Some x ≡ Some y → x ≡ y
 one_of x y h = cc
 
 -- the literal that the rule takes has a number
-pub taken-first : (atoms : List ℕ) (lit : SatLit) → IsNumber atoms lit → ForSome (Some lit) (IsNumber atoms)
-taken-first atoms lit h = λ l e. subst (IsNumber atoms) (one_of lit l e) h
+pub taken-first : (atoms : List ℕ) (lit : SatLit) → IsNumberIn atoms lit → ForSome (Some lit) (IsNumberIn atoms)
+taken-first atoms lit h = λ l e. subst (IsNumberIn atoms) (one_of lit l e) h
 
 pub predicates-longer : (ids new : List ℕ) (id : ℕ) → new ≡ with_predicate ids id → Longer ids new × (length new ≤ suc (length ids))
 predicates-longer ids new id e = subst P (sym e) (by_test (list_any (nat_eq id) ids))
@@ -218,19 +218,19 @@ denial-widens old new p w begins h =
     record { bank = w; lits = begins; witnesses = l.0; few = l.1 }
 
 -- the instance is one of the rule with what it takes
-pub denial-made : (old new : Basis) → Begins old.lits new.lits → (lit : SatLit) → IsNumber old.lits lit → (i : Instance) → i.by ≡ denial_use lit → i.principals ≡ principals_of (denial_use lit) → Each (Each (IsNumber new.lits)) i.alternatives
-    → IsInstanceBy new.bank new.lits (rows_in new) (denial_use lit) (map (map (literal_at new.bank.terms new.lits)) i.alternatives) → IsMade new i
+pub denial-made : (old new : Basis) → Begins old.lits new.lits → (lit : SatLit) → IsNumberIn old.lits lit → (i : Instance) → i.by ≡ denial_use lit → i.principals ≡ principals_of (denial_use lit) → Each (Each (IsNumberIn new.lits)) i.alternatives
+    → IsInstanceBy new.bank new.lits (rows_in new) (denial_use lit) (map (map (bank_literal new.bank.terms new.lits)) i.alternatives) → IsMadeInstance new i
 denial-made old new begins lit number i e principals numbered fits = record {
   principals = principals ∙ ap principals_of (sym e);
-  first = subst (λ (b : BankUse). ForSome b.first (IsNumber new.lits)) (sym e) (λ l h. here l (one_of lit l h));
-  second = subst (λ (b : BankUse). ForSome b.second (IsNumber new.lits)) (sym e) (λ l h. none l h);
+  first = subst (λ (b : BankUse). ForSome b.first (IsNumberIn new.lits)) (sym e) (λ l h. here l (one_of lit l h));
+  second = subst (λ (b : BankUse). ForSome b.second (IsNumberIn new.lits)) (sym e) (λ l h. none l h);
   term = subst (λ (b : BankUse). ForSome b.term (IsPlace new.bank.terms)) (sym e) (λ u h. none u h);
   numbers = numbered;
-  fits = subst (λ (b : BankUse). IsInstanceBy new.bank new.lits (rows_in new) b (map (map (literal_at new.bank.terms new.lits)) i.alternatives)) (sym e) fits;
+  fits = subst (λ (b : BankUse). IsInstanceBy new.bank new.lits (rows_in new) b (map (map (bank_literal new.bank.terms new.lits)) i.alternatives)) (sym e) fits;
 }
   where
-    here : (l : SatLit) → lit ≡ l → IsNumber new.lits l
-    here l h = subst (IsNumber new.lits) h (let n = ap length begins.is in let m = length-append old.lits begins.further in omega (arith, number, n, m))
+    here : (l : SatLit) → lit ≡ l → IsNumberIn new.lits l
+    here l h = subst (IsNumberIn new.lits) h (let n = ap length begins.is in let m = length-append old.lits begins.further in omega (arith, number, n, m))
 
     none : {X : Type 0} {P : Type 0} (x : X) → None ≡ Some x → P
     none x h = cc

@@ -19,11 +19,11 @@ use Rattle.prover_state.specs.declared.command.Planned.{Planned}
 use Rattle.prover_state.specs.declared.command.Delays.{Delays}
 use Rattle.prover_state.specs.declared.tables.Tables.{Tables}
 use Rattle.prover_state.specs.Internal.Fitting.{variables_for, logical_for, later_heads}
-use Rattle.prover_state.specs.Internal.HeadNumbers.{head_at}
+use Rattle.prover_state.specs.Internal.HeadNumbers.{head_numbered}
 use Rattle.prover_state.specs.Internal.Holes.{holes_in, leftmost}
 use Rattle.prover_state.specs.Internal.Names.{sketch_at, command_at}
 use Rattle.prover_state.specs.Internal.Pending.{over_heads, BeginsWith}
-use Rattle.prover_state.specs.Internal.Standing.{declared_scope, rows_in, scope_by, sketches_in, names_in, sources, IsRight}
+use Rattle.prover_state.specs.Internal.Standing.{without_witnesses, rows_in, scope_by, sketches_in, naming_in, sources, IsRightState}
 use Rattle.prover_state.proofs.FittingLaws.{length-bases, heads-some}
 use Rattle.prover_state.proofs.HoleLaws.{leftmost-first, holes-at}
 use Rattle.prover_state.proofs.LoopLists.{begins-mapped}
@@ -78,7 +78,7 @@ pub count-none : (scope : Scope) (o : Option Hole) → None ≡ option_map (λ (
 count-none scope None e = refl
 count-none scope (Some h) e = cc
 
-module _ (t : Tables) (q : Queue Planned Delays) (r : IsRight t q) (b : ℕ) where
+module _ (t : Tables) (q : Queue Planned Delays) (r : IsRightState t q) (b : ℕ) where
   pub later-count : (ks : List ℕ) (bases logical n : ℕ) → ks ≡ ids_of (base b) t.takers → bases ≡ length t.basis.bank.bases → logical ≡ length (logical_for bases b) → n ≡ length ks + logical → n ≡ length (later_heads (scope_by t.basis) b)
   later-count ks bases logical n takers many own sum =
       sum
@@ -90,7 +90,7 @@ module _ (t : Tables) (q : Queue Planned Delays) (r : IsRight t q) (b : ℕ) whe
 
 -- THE LOOP OVER THEM
 
-module _ (t : Tables) (q : Queue Planned Delays) (r : IsRight t q) (p : ℕ) where
+module _ (t : Tables) (q : Queue Planned Delays) (r : IsRightState t q) (p : ℕ) where
   abbrev sketch : Sketch
   sketch = sketch_at (sketches_in t) p
 
@@ -102,19 +102,19 @@ module _ (t : Tables) (q : Queue Planned Delays) (r : IsRight t q) (p : ℕ) whe
 
   -- the heads that fit, with so many witnesses
   abbrev heads_with : ℕ → List Lambda
-  heads_with w = heads_for (with_rows (declared_scope t.basis.bank) (take w (rows_in t.basis))) (first_hole [] sketch.partial)
+  heads_with w = heads_for (with_rows (without_witnesses t.basis.bank) (take w (rows_in t.basis))) (first_hole [] sketch.partial)
 
   abbrev loop_with : ℕ → ℕ → List Meant
-  loop_with w h = over_heads (declared_scope t.basis.bank) (sources t) w (command_at (names_in t) (Grow p h))
+  loop_with w h = over_heads (without_witnesses t.basis.bank) (sources t) w (command_at (naming_in t) (Grow p h))
 
   pub heads-all : (w : ℕ) → w ≡ length (rows_in t.basis) → heads_with w ≡ heads_for (scope_by t.basis) (first_hole [] sketch.partial)
-  heads-all w e = ap (λ (rows : List Row). heads_for (with_rows (declared_scope t.basis.bank) rows) (first_hole [] sketch.partial)) (ap (λ k. take k (rows_in t.basis)) e ∙ take-length (rows_in t.basis))
+  heads-all w e = ap (λ (rows : List Row). heads_for (with_rows (without_witnesses t.basis.bank) rows) (first_hole [] sketch.partial)) (ap (λ k. take k (rows_in t.basis)) e ∙ take-length (rows_in t.basis))
 
   pub heads-loop : (w h : ℕ) → w ≡ length (rows_in t.basis) → loop_with w h ≡ map (grow sketch) (heads_for (scope_by t.basis) (first_hole [] sketch.partial))
   heads-loop w h e = ap (map (grow sketch)) (heads-all w e)
 
-  pub heads-begin : (w h : ℕ) (u : Lambda) → head_at h ≡ u → slice_get (heads_with w) 0 ≡ Some u → BeginsWith (command_at (names_in t) (Grow p h)) (loop_with w h)
-  heads-begin w h u e at = begins-mapped (loop_with w h) (grow sketch) (heads_with w) refl (head_at h) (drop 1 (heads_with w)) (drop_got (heads_with w) 0 (head_at h) (at ∙ ap Some (sym e)))
+  pub heads-begin : (w h : ℕ) (u : Lambda) → head_numbered h ≡ u → slice_get (heads_with w) 0 ≡ Some u → BeginsWith (command_at (naming_in t) (Grow p h)) (loop_with w h)
+  heads-begin w h u e at = begins-mapped (loop_with w h) (grow sketch) (heads_with w) refl (head_numbered h) (drop 1 (heads_with w)) (drop_got (heads_with w) 0 (head_numbered h) (at ∙ ap Some (sym e)))
 
   pub heads-count : (w h n : ℕ) → w ≡ length (rows_in t.basis) → n ≡ length (heads_for (scope_by t.basis) (first_hole [] sketch.partial)) → n ≡ length (loop_with w h)
   heads-count w h n e m = m ∙ sym (length-map (heads_for (scope_by t.basis) (first_hole [] sketch.partial)) (grow sketch)) ∙ ap length (sym (heads-loop w h e))

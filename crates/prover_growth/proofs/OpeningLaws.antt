@@ -4,9 +4,9 @@ use Rattle.std.specs.List.{list_any}
 use Rattle.std.proofs.Common.{sym, ap, subst, ◌∙◌, append-nil}
 use Rattle.stt_core.specs.SimpleType.{SimpleType, arrow, same_type}
 use Rattle.stt_core.proofs.ListLaws.{drop_got}
-use Rattle.search_spec.specs.Partial.{blank}
+use Rattle.search_spec.specs.Partial.{blank_partial}
 use Rattle.search_spec.specs.State.{State, Setting, Sketch}
-use Rattle.search_spec.specs.Terms.{opened, prepared}
+use Rattle.search_spec.specs.Terms.{with_opening, with_preparation}
 use Rattle.prover_state.specs.declared.tables.Basis.{Basis}
 use Rattle.prover_state.specs.Internal.Growing.{BasisGrows}
 
@@ -23,16 +23,16 @@ module _ {X : Type 0} (test : X → Bool) (xs : List X) (i : ℕ) (x : X) (at : 
 
 module _ (setting : Setting) (s : State) (c a b : SimpleType) (is : c ≡ arrow a b) (roots : Bool) (found : list_any (λ (p : Sketch). same_type c p.type) s.parked ≡ roots) where
   abbrev P : SimpleType → Type 0
-  P x = prepared setting x s ≡ (if list_any (λ (p : Sketch). same_type x p.type) s.parked then s else opened setting (record { type = x; partial = blank x }) s)
+  P x = with_preparation setting x s ≡ (if list_any (λ (p : Sketch). same_type x p.type) s.parked then s else with_opening setting (record { type = x; partial = blank_partial x }) s)
 
-  by_roots : prepared setting c s ≡ (if roots then s else opened setting (record { type = c; partial = blank c }) s)
-  by_roots = subst P (sym is) refl ∙ ap (λ (x : Bool). if x then s else opened setting (record { type = c; partial = blank c }) s) found
+  by_roots : with_preparation setting c s ≡ (if roots then s else with_opening setting (record { type = c; partial = blank_partial c }) s)
+  by_roots = subst P (sym is) refl ∙ ap (λ (x : Bool). if x then s else with_opening setting (record { type = c; partial = blank_partial c }) s) found
 
-  pub prepared-before : roots ≡ true → s ≡ prepared setting c s
-  prepared-before e = sym (by_roots ∙ ap (λ (x : Bool). if x then s else opened setting (record { type = c; partial = blank c }) s) e)
+  pub prepared-before : roots ≡ true → s ≡ with_preparation setting c s
+  prepared-before e = sym (by_roots ∙ ap (λ (x : Bool). if x then s else with_opening setting (record { type = c; partial = blank_partial c }) s) e)
 
-  pub prepared-now : roots ≡ false → opened setting (record { type = c; partial = blank c }) s ≡ prepared setting c s
-  prepared-now e = sym (by_roots ∙ ap (λ (x : Bool). if x then s else opened setting (record { type = c; partial = blank c }) s) e)
+  pub prepared-now : roots ≡ false → with_opening setting (record { type = c; partial = blank_partial c }) s ≡ with_preparation setting c s
+  prepared-now e = sym (by_roots ∙ ap (λ (x : Bool). if x then s else with_opening setting (record { type = c; partial = blank_partial c }) s) e)
 
 -- a basis that stays
 pub same-grows : (old new : Basis) → new ≡ old → BasisGrows old new

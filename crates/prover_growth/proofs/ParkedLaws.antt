@@ -13,10 +13,10 @@ use Rattle.prover_state.specs.declared.command.Command.TheVariants.{Grow}
 use Rattle.prover_state.specs.declared.command.Planned.{Planned}
 use Rattle.prover_state.specs.declared.command.Delays.{Delays}
 use Rattle.prover_state.specs.declared.tables.Tables.{Tables}
-use Rattle.prover_state.specs.Internal.HeadNumbers.{head_at}
+use Rattle.prover_state.specs.Internal.HeadNumbers.{head_numbered}
 use Rattle.prover_state.specs.Internal.Names.{sketch_at, command_at}
 use Rattle.prover_state.specs.Internal.Pending.{base_of, over_parked}
-use Rattle.prover_state.specs.Internal.Standing.{names_in, sketches_in, sources, IsRight}
+use Rattle.prover_state.specs.Internal.Standing.{naming_in, sketches_in, sources, IsRightState}
 use Rattle.prover_state.proofs.EachLaws.{each-at, each-unmapped}
 use Rattle.prover_state.proofs.PlaceLaws.{each-passes, filter-places, map-mapped}
 
@@ -31,7 +31,7 @@ each_of : (sketches : List Sketch) → Each (λ (p : Sketch). Unit {0}) sketches
 each_of [] = tt
 each_of (p ∷ sketches) = (tt, each_of sketches)
 
-module _ (t : Tables) (q : Queue Planned Delays) (r : IsRight t q) (n : ℕ) where
+module _ (t : Tables) (q : Queue Planned Delays) (r : IsRightState t q) (n : ℕ) where
   abbrev sketches : List Sketch
   sketches = sketches_in t
 
@@ -47,18 +47,18 @@ module _ (t : Tables) (q : Queue Planned Delays) (r : IsRight t q) (n : ℕ) whe
       each-unmapped P (sketch_at sketches) ids
       (subst (Each P) passing-are (each-passes (λ (p : Sketch). Unit {0}) (has_hole_of n) sketches (each_of sketches)))
 
-  module _ (h : ℕ) (w : Lambda) (is : head_at h ≡ w) where
+  module _ (h : ℕ) (w : Lambda) (is : head_numbered h ≡ w) where
     -- the commands for the partial terms whose first hole has the base type
-    pub parked-commands : map (λ (p : Sketch). grow p w) (filter (has_hole_of n) sketches) ≡ map (λ i. command_at (names_in t) (Grow i h)) ids
+    pub parked-commands : map (λ (p : Sketch). grow p w) (filter (has_hole_of n) sketches) ≡ map (λ i. command_at (naming_in t) (Grow i h)) ids
     parked-commands =
         ap (λ u. map (λ (p : Sketch). grow p u) (filter (has_hole_of n) sketches)) (sym is)
-        ∙ ap (map (λ (p : Sketch). grow p (head_at h))) passing-are
-        ∙ map-mapped (λ (p : Sketch). grow p (head_at h)) (sketch_at sketches) ids
+        ∙ ap (map (λ (p : Sketch). grow p (head_numbered h))) passing-are
+        ∙ map-mapped (λ (p : Sketch). grow p (head_numbered h)) (sketch_at sketches) ids
 
     -- they are the loop of the first one
-    pub parked-are : (i : ℕ) → slice_get ids 0 ≡ Some i → over_parked (sources t) (command_at (names_in t) (Grow i h)) ≡ map (λ j. command_at (names_in t) (Grow j h)) ids
+    pub parked-are : (i : ℕ) → slice_get ids 0 ≡ Some i → over_parked (sources t) (command_at (naming_in t) (Grow i h)) ≡ map (λ j. command_at (naming_in t) (Grow j h)) ids
     parked-are i at =
         let e = each-at (λ (j : ℕ). Unit {0} × (has_hole_of n (sketch_at sketches j) ≡ true)) ids 0 i each_passing at in
-        ap (λ b. map (λ (p : Sketch). grow p (head_at h)) (filter (has_hole_of b) sketches)) (hole_base n (first_hole [] (sketch_at sketches i).partial) e.1)
-        ∙ ap (map (λ (p : Sketch). grow p (head_at h))) passing-are
-        ∙ map-mapped (λ (p : Sketch). grow p (head_at h)) (sketch_at sketches) ids
+        ap (λ b. map (λ (p : Sketch). grow p (head_numbered h)) (filter (has_hole_of b) sketches)) (hole_base n (first_hole [] (sketch_at sketches i).partial) e.1)
+        ∙ ap (map (λ (p : Sketch). grow p (head_numbered h))) passing-are
+        ∙ map-mapped (λ (p : Sketch). grow p (head_numbered h)) (sketch_at sketches) ids

@@ -9,8 +9,8 @@ use Rattle.stt_core.proofs.ListLaws.{map-append, slice_get-end}
 use Rattle.command_queue.specs.Queue.{Queue}
 use Rattle.search_spec.specs.Partial.{Hole, hole, first_hole}
 use Rattle.search_spec.specs.Heads.{heads_for}
-use Rattle.search_spec.specs.State.{Sketch, grow, pushed}
-use Rattle.search_spec.specs.Terms.{opened}
+use Rattle.search_spec.specs.State.{Sketch, grow, with_commands}
+use Rattle.search_spec.specs.Terms.{with_opening}
 use Rattle.search_spec.specs.Witness.{is_hole_of, has_hole_of}
 use Rattle.search_spec.specs.Internal.Loops.{queue_of}
 use Rattle.term_bank.specs.Content.{content_scope}
@@ -21,11 +21,11 @@ use Rattle.prover_state.specs.declared.stem.Stem.{Stem}
 use Rattle.prover_state.specs.declared.tables.Basis.{Basis}
 use Rattle.prover_state.specs.declared.tables.Tables.{Tables}
 use Rattle.prover_state.specs.Delays.{the_mode}
-use Rattle.prover_state.specs.Internal.Growing.{Longer, Continues, Extends}
+use Rattle.prover_state.specs.Internal.Growing.{Longer, Continues, ExtendsState}
 use Rattle.prover_state.specs.Internal.Heads.{sketch_of, sketches_of, IsStem, AreStems}
 use Rattle.prover_state.specs.Internal.Holes.{holes_in, leftmost}
 use Rattle.prover_state.specs.Internal.Names.{sketch_at}
-use Rattle.prover_state.specs.Internal.Standing.{declared_scope, scope_by, setting_by, sketches_in, names_in, sources, parts, loops_in, the_state, places_where, IsBasis, IsRight}
+use Rattle.prover_state.specs.Internal.Standing.{without_witnesses, scope_by, setting_by, sketches_in, naming_in, sources, state_parts, loops_in, the_state, places_where, IsBasis, IsRightState}
 use Rattle.prover_state.proofs.HoleLaws.{leftmost-first, holes-length}
 use Rattle.prover_state.proofs.LoopStays.{loops-stay, entries-stay}
 use Rattle.prover_state.proofs.NamesLaws.{command-stays, numbers-stay}
@@ -91,7 +91,7 @@ listed-none n p all (Some h) e = cc
 itself : {X : Type 0} (xs : List X) → Longer xs xs
 itself xs = ([], sym (append-nil xs))
 
-module _ (t : Tables) (q : Queue Planned Delays) (r : IsRight t q) (stem : Stem) (is : IsStem (scope_by t.basis) (sketches_in t) stem) where
+module _ (t : Tables) (q : Queue Planned Delays) (r : IsRightState t q) (stem : Stem) (is : IsStem (scope_by t.basis) (sketches_in t) stem) where
   abbrev pub newest : Sketch
   newest = sketch_of (scope_by t.basis) (sketches_in t) stem
 
@@ -123,7 +123,7 @@ module _ (t : Tables) (q : Queue Planned Delays) (r : IsRight t q) (stem : Stem)
       end_is : length t.stems.items ≡ 0 + length (sketches_in t)
       end_is = let e = stems_length in omega (arith, e)
 
-      continues : Continues (names_in t) (names_in t')
+      continues : Continues (naming_in t) (naming_in t')
       continues = record {
         within = λ k d h. (r.basis.atoms k d h).within;
         terms = itself t.basis.bank.terms;
@@ -131,7 +131,7 @@ module _ (t : Tables) (q : Queue Planned Delays) (r : IsRight t q) (stem : Stem)
         sketches = (newest ∷ [], sketches-more);
       }
 
-      extends : Extends (sources t) (sources t')
+      extends : ExtendsState (sources t) (sources t')
       extends = record {
         noted = itself (sources t).noted;
         terms = itself (sources t).terms;
@@ -141,15 +141,15 @@ module _ (t : Tables) (q : Queue Planned Delays) (r : IsRight t q) (stem : Stem)
 
       loops_same : loops_in t' q.entries ≡ loops_in t q.entries
       loops_same =
-          loops-stay (declared_scope t.basis.bank) (sources t) (sources t') extends (names_in t) (names_in t')
-          (command-stays (names_in t) (names_in t') continues) (numbers-stay (names_in t) (names_in t') continues) q.entries r.queue
+          loops-stay (without_witnesses t.basis.bank) (sources t) (sources t') extends (naming_in t) (naming_in t')
+          (command-stays (naming_in t) (naming_in t') continues) (numbers-stay (naming_in t) (naming_in t') continues) q.entries r.queue
 
       pub state-parked : the_state t' q ≡ record (the_state t q) { parked = (the_state t q).parked ++ newest ∷ [] }
-      state-parked = ap₂ (λ (ps : List Sketch) loops. record (parts t) { parked = ps; queue = queue_of loops; pushes = q.pushes }) sketches-more loops_same
+      state-parked = ap₂ (λ (ps : List Sketch) loops. record (state_parts t) { parked = ps; queue = queue_of loops; pushes = q.pushes }) sketches-more loops_same
 
       pub right-parked : ((n : ℕ) (ks : List Hole) → slice_get hs (length t.stems.items) ≡ Some ks → ids_of (base n) ls ≡ (if is_hole_of n (leftmost ks) then ids_of (base n) t.holes ++ length t.stems.items ∷ [] else ids_of (base n) t.holes))
           → ((a : SimpleType) → list_any (λ p. same_type a p.type) (sketches_in t ++ newest ∷ []) ≡ list_any (same_type a) rs)
-          → IsRight t' q
+          → IsRightState t' q
       right-parked listed roots = record {
         basis = r.basis;
         clauses = r.clauses;
@@ -179,8 +179,8 @@ module _ (t : Tables) (q : Queue Planned Delays) (r : IsRight t q) (stem : Stem)
             ∙ ap (places_where (has_hole_of n) 0) (sym sketches-more);
         budget = r.budget;
         queue =
-            entries-stay (declared_scope t.basis.bank) (sources t) (sources t') extends (names_in t) (names_in t')
-            (command-stays (names_in t) (names_in t') continues) (numbers-stay (names_in t) (names_in t') continues) q.entries r.queue;
+            entries-stay (without_witnesses t.basis.bank) (sources t) (sources t') extends (naming_in t) (naming_in t')
+            (command-stays (naming_in t) (naming_in t') continues) (numbers-stay (naming_in t) (naming_in t') continues) q.entries r.queue;
       }
 
   pub newest-at : (xs : List Sketch) (p : ℕ) → xs ≡ sketches_in t ++ newest ∷ [] → p ≡ length t.stems.items → sketch_at xs p ≡ newest
@@ -190,10 +190,10 @@ module _ (t : Tables) (q : Queue Planned Delays) (r : IsRight t q) (stem : Stem)
 
   -- with the heads that fit it is opened
   pub opened-newest : (t1 : Tables) (q1 : Queue Planned Delays) (p : ℕ) (are : sketches_in t1 ≡ sketches_in t ++ newest ∷ []) (same : t1.basis ≡ t.basis) (plan : q1 ≡ q) (place : p ≡ length t.stems.items) → the_state t1 q1 ≡ record (the_state t q) { parked = (the_state t q).parked ++ newest ∷ [] }
-      → pushed (the_mode q1.rule.mode) (map (grow (sketch_at (sketches_in t1) p)) (heads_for (scope_by t1.basis) (first_hole [] (sketch_at (sketches_in t1) p).partial))) (the_state t1 q1) ≡ opened (setting_by t q) newest (the_state t q)
+      → with_commands (the_mode q1.rule.mode) (map (grow (sketch_at (sketches_in t1) p)) (heads_for (scope_by t1.basis) (first_hole [] (sketch_at (sketches_in t1) p).partial))) (the_state t1 q1) ≡ with_opening (setting_by t q) newest (the_state t q)
   opened-newest t1 q1 p are same plan place state =
       let x = newest-at (sketches_in t1) p are place in
-      λ i. pushed (the_mode (plan i).rule.mode) (map (grow (x i)) (heads_for (scope_by (same i)) (first_hole [] (x i).partial))) (state i)
+      λ i. with_commands (the_mode (plan i).rule.mode) (map (grow (x i)) (heads_for (scope_by (same i)) (first_hole [] (x i).partial))) (state i)
 
   -- the same after the writes, one after the other
   module _ (t1 t2 t3 : Tables) (e1 : t1 ≡ record t { open_holes = t1.open_holes }) (e2 : t2 ≡ record t1 { roots = t2.roots }) (e3 : t3 ≡ record t2 { holes = t3.holes }) (p : ℕ) (place : p ≡ length t.stems.items) (holes : t1.open_holes ≡ t.open_holes ++ holes_in [] newest.partial ∷ []) where
@@ -224,10 +224,10 @@ module _ (t : Tables) (q : Queue Planned Delays) (r : IsRight t q) (stem : Stem)
 
       pub right-written : ((n : ℕ) (ks : List Hole) → slice_get t2.open_holes p ≡ Some ks → ids_of (base n) t3.holes ≡ (if is_hole_of n (leftmost ks) then ids_of (base n) t2.holes ++ p ∷ [] else ids_of (base n) t2.holes))
           → ((a : SimpleType) → list_any (λ p. same_type a p.type) (sketches_in t1 ++ sketch_of (scope_by t1.basis) (sketches_in t1) stem ∷ []) ≡ list_any (same_type a) t2.roots)
-          → IsRight (record t3 { stems = ss }) q
+          → IsRightState (record t3 { stems = ss }) q
       right-written listed roots =
           let Listed : Tables → ℕ → Type 0 = λ u k. (n : ℕ) (ks : List Hole) → slice_get u.open_holes k ≡ Some ks → ids_of (base n) t3.holes ≡ (if is_hole_of n (leftmost ks) then ids_of (base n) u.holes ++ k ∷ [] else ids_of (base n) u.holes) in
           let Roots : Tables → Type 0 = λ u. (a : SimpleType) → list_any (λ p. same_type a p.type) (sketches_in u ++ sketch_of (scope_by u.basis) (sketches_in u) stem ∷ []) ≡ list_any (same_type a) t2.roots in
-          let R : Tables → Type 0 = λ u. IsRight u q in
+          let R : Tables → Type 0 = λ u. IsRightState u q in
           subst R (sym written)
           (right-parked t1.open_holes holes ss stems_here t3.holes t2.roots (subst (λ u. Listed u (length t.stems.items)) two (subst (Listed t2) place listed)) (subst Roots e1 roots))

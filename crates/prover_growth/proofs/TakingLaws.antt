@@ -8,12 +8,12 @@ use Rattle.stt_core.specs.Lambda.{Lambda}
 use Rattle.stt_core.specs.Typing.{Scope, type_of}
 use Rattle.command_queue.specs.Queue.{Queue}
 use Rattle.term_bank.specs.Content.{Content, content_scope, HasTerm}
-use Rattle.search_spec.specs.Partial.{Hole, Partial, first_hole, whole}
+use Rattle.search_spec.specs.Partial.{Hole, Partial, first_hole, whole_term}
 use Rattle.search_spec.specs.State.{State, Setting, Sketch, grow, scope_in}
-use Rattle.search_spec.specs.Terms.{with_term, opened}
-use Rattle.search_spec.specs.Commands.{grown, filled_at, grown_by, carried_out}
-use Rattle.search_spec.specs.TypedState.{Grows}
-use Rattle.instantiate.specs.Growing.{IsTyped, TakesHead, IsTerm, IsPartOf, IsGrown, fits}
+use Rattle.search_spec.specs.Terms.{with_term, with_opening}
+use Rattle.search_spec.specs.Commands.{with_growth, filling_at, growth_by, with_command}
+use Rattle.search_spec.specs.TypedState.{GrowsSketch}
+use Rattle.instantiate.specs.Growing.{IsTypedPartialTerm, TakesHead, IsTerm, IsPartOf, IsGrown, fits}
 use Rattle.instantiate.specs.declared.growing.Grown.{Grown}
 use Rattle.instantiate.specs.declared.growing.Grown.TheVariants.{Term, More}
 use Rattle.instantiate.specs.Internal.Blanks.{term_of}
@@ -24,7 +24,7 @@ use Rattle.prover_state.specs.declared.command.Delays.{Delays}
 use Rattle.prover_state.specs.declared.tables.Tables.{Tables}
 use Rattle.prover_state.specs.Internal.Holes.{holes_in, leftmost, argument_holes, after_head}
 use Rattle.prover_state.specs.Internal.Names.{sketch_at}
-use Rattle.prover_state.specs.Internal.Standing.{scope_by, sketches_in, IsRight}
+use Rattle.prover_state.specs.Internal.Standing.{scope_by, sketches_in, IsRightState}
 use Rattle.prover_state.proofs.HoleLaws.{leftmost-first, holes-at}
 use Rattle.prover_state.proofs.FilledHoles.{leftmost-taken, type-taken, grown-holes}
 use Rattle.prover_growth.proofs.ParkingLaws.{scope-is}
@@ -52,13 +52,13 @@ some_there : (hs : List Hole) (h : Hole) → leftmost hs ≡ Some h → 0 < leng
 some_there [] h e = cc
 some_there (x ∷ hs) h e = omega arith
 
-module _ (t : Tables) (q : Queue Planned Delays) (r : IsRight t q) (p : ℕ) (number : p < length (sketches_in t)) (u : Lambda) (takes : TakesHead (scope_by t.basis) (sketch_at (sketches_in t) p).partial u) where
+module _ (t : Tables) (q : Queue Planned Delays) (r : IsRightState t q) (p : ℕ) (number : p < length (sketches_in t)) (u : Lambda) (takes : TakesHead (scope_by t.basis) (sketch_at (sketches_in t) p).partial u) where
   abbrev x : Sketch
   x = sketch_at (sketches_in t) p
 
   -- the partial term with the head in its first hole
   abbrev pub further : Sketch
-  further = grown_by (scope_by t.basis) u x
+  further = growth_by (scope_by t.basis) u x
 
   pub taken-type : (o : Option SimpleType) → ((holes : List Hole) → slice_get t.open_holes p ≡ Some holes → o ≡ option_and_then (λ (h : Hole). type_of (content_scope t.basis.bank) h.context u) (leftmost holes)) → o ≡ Some takes.type
   taken-type o told =
@@ -77,28 +77,28 @@ module _ (t : Tables) (q : Queue Planned Delays) (r : IsRight t q) (p : ℕ) (nu
   pub no-hole-left : nat_eq (length (holes_in [] further.partial)) 0 ≡ true → first_hole [] further.partial ≡ None
   no-hole-left e = sym (leftmost-first [] further.partial) ∙ none_left (holes_in [] further.partial) e
 
-  pub hole-left : nat_eq (length (holes_in [] further.partial)) 0 ≡ false → whole further.partial ≡ None
+  pub hole-left : nat_eq (length (holes_in [] further.partial)) 0 ≡ false → whole_term further.partial ≡ None
   hole-left e =
       let k = some_left (holes_in [] further.partial) e in
       whole-hole further.partial k.0.base (ap (option_map (λ (h : Hole). h.base)) (sym k.1 ∙ leftmost-first [] further.partial))
 
 -- a partial term without holes has its term
-pub whole-term : (s : Partial) → first_hole [] s ≡ None → whole s ≡ Some (term_of s)
+pub whole-term : (s : Partial) → first_hole [] s ≡ None → whole_term s ≡ Some (term_of s)
 whole-term s e = whole-none s (ap (option_map (λ (h : Hole). h.base)) e)
 
 -- TERMS
 
-module _ (t : Tables) (q : Queue Planned Delays) (r : IsRight t q) (x : Sketch) (u : Lambda) (grows : Grows (scope_by t.basis) x u) (last : first_hole [] (grown_by (scope_by t.basis) u x).partial ≡ None) (s : Partial) (is : s ≡ x.partial) where
+module _ (t : Tables) (q : Queue Planned Delays) (r : IsRightState t q) (x : Sketch) (u : Lambda) (grows : GrowsSketch (scope_by t.basis) x u) (last : first_hole [] (growth_by (scope_by t.basis) u x).partial ≡ None) (s : Partial) (is : s ≡ x.partial) where
   abbrev scope : Scope
   scope = content_scope t.basis.bank
 
   abbrev after : Partial
-  after = (grown_by (scope_by t.basis) u x).partial
+  after = (growth_by (scope_by t.basis) u x).partial
 
-  pub typed-here : IsTyped scope s
+  pub typed-here : IsTypedPartialTerm scope s
   typed-here =
-      let Over : Scope → Type 0 = λ k. IsTyped k s in
-      subst Over (scope-is t.basis r.basis) (subst (IsTyped (scope_by t.basis)) (sym is) (sketch_typed (scope_by t.basis) x u grows))
+      let Over : Scope → Type 0 = λ k. IsTypedPartialTerm k s in
+      subst Over (scope-is t.basis r.basis) (subst (IsTypedPartialTerm (scope_by t.basis)) (sym is) (sketch_typed (scope_by t.basis) x u grows))
 
   pub takes-here : TakesHead scope s u
   takes-here =
@@ -114,20 +114,20 @@ module _ (t : Tables) (q : Queue Planned Delays) (r : IsRight t q) (x : Sketch) 
       ∙ sketch_fits (scope_by t.basis) x u grows in
       cc
 
-  filled_here : (y : Partial) → filled_at scope u s (first_hole [] s) ≡ Some y → after ≡ y
+  filled_here : (y : Partial) → filling_at scope u s (first_hole [] s) ≡ Some y → after ≡ y
   filled_here y e =
-      let F : Scope → Type 0 = λ k. filled_at k u s (first_hole [] s) ≡ Some y in
-      let G : Partial → Type 0 = λ z. filled_at (scope_by t.basis) u z (first_hole [] z) ≡ Some y in
+      let F : Scope → Type 0 = λ k. filling_at k u s (first_hole [] s) ≡ Some y in
+      let G : Partial → Type 0 = λ z. filling_at (scope_by t.basis) u z (first_hole [] z) ≡ Some y in
       grown_by-filled (scope_by t.basis) x u y (subst G is (subst F (sym (scope-is t.basis r.basis)) e))
 
   pub term-here : (b : Content) (id : ℕ) → IsTerm scope u s b id → HasTerm b id (term_of after)
   term-here b id k =
-      let same : term_of after ≡ k.term = same_Some (term_of after) k.term (sym (whole-term after last) ∙ ap whole (filled_here k.filled k.is_filled) ∙ k.is_whole) in
+      let same : term_of after ≡ k.term = same_Some (term_of after) k.term (sym (whole-term after last) ∙ ap whole_term (filled_here k.filled k.is_filled) ∙ k.is_whole) in
       subst (HasTerm b id) (sym same) k.stands
 
   no_part : (y : Partial) → IsPartOf scope u s y → ⊥
   no_part y k =
-      let none : whole after ≡ None = ap whole (filled_here y k.is_filled) ∙ k.has_hole in
+      let none : whole_term after ≡ None = ap whole_term (filled_here y k.is_filled) ∙ k.has_hole in
       let some = whole-term after last in
       cc
 
@@ -139,10 +139,10 @@ module _ (t : Tables) (q : Queue Planned Delays) (r : IsRight t q) (x : Sketch) 
 
 module _ (setting : Setting) (s : State) (p : Sketch) (h : Lambda) where
   abbrev outcome : Sketch
-  outcome = grown_by (scope_in setting s) h p
+  outcome = growth_by (scope_in setting s) h p
 
-  pub carried-last : (u : Lambda) → whole outcome.partial ≡ Some u → with_term setting.mode p.type u s ≡ carried_out setting (grow p h) s
-  carried-last u e = sym (ap (λ o. grown setting outcome o s) e)
+  pub carried-last : (u : Lambda) → whole_term outcome.partial ≡ Some u → with_term setting.mode p.type u s ≡ with_command setting (grow p h) s
+  carried-last u e = sym (ap (λ o. with_growth setting outcome o s) e)
 
-  pub carried-open : whole outcome.partial ≡ None → opened setting outcome s ≡ carried_out setting (grow p h) s
-  carried-open e = sym (ap (λ o. grown setting outcome o s) e)
+  pub carried-open : whole_term outcome.partial ≡ None → with_opening setting outcome s ≡ with_command setting (grow p h) s
+  carried-open e = sym (ap (λ o. with_growth setting outcome o s) e)

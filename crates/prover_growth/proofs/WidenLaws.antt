@@ -22,18 +22,18 @@ use Rattle.term_bank.specs.Terms.{term_at}
 use Rattle.witness_names.specs.Rows.{row_of, rows_of}
 use Rattle.instantiate.specs.Listing.{Listing, ids_of}
 use Rattle.tableau_clauses.specs.Table.{the_clauses}
-use Rattle.mating_rules.specs.Noted.{IsRight as IsRightIndex}
+use Rattle.mating_rules.specs.Noted.{IsRightIndex}
 use Rattle.mating_rules.proofs.StayLaws.{right_stays}
 use Rattle.prover_state.specs.declared.command.Planned.{Planned}
 use Rattle.prover_state.specs.declared.command.Delays.{Delays}
 use Rattle.prover_state.specs.declared.tables.Basis.{Basis}
 use Rattle.prover_state.specs.declared.tables.Tables.{Tables}
-use Rattle.prover_state.specs.Internal.Growing.{Longer, Continues, BasisGrows, BasisWidens, Extends}
+use Rattle.prover_state.specs.Internal.Growing.{Longer, Continues, BasisGrows, BasisWidens, ExtendsState}
 use Rattle.prover_state.specs.Internal.Heads.{sketches_of, AreStems}
 use Rattle.prover_state.specs.Internal.Holes.{holes_in}
-use Rattle.prover_state.specs.Internal.Names.{IsNumber, IsPlace}
+use Rattle.prover_state.specs.Internal.Names.{IsNumberIn, IsPlace}
 use Rattle.prover_state.specs.Internal.Pending.{loop_at, IsEntry}
-use Rattle.prover_state.specs.Internal.Standing.{declared_scope, rows_in, scope_by, sketches_in, names_in, sources, loops_in, the_state, is_universal, can_pair, places_where, IsBasis, IsRight}
+use Rattle.prover_state.specs.Internal.Standing.{without_witnesses, rows_in, scope_by, sketches_in, naming_in, sources, loops_in, the_state, is_universal, can_pair, places_where, IsBasis, IsRightState}
 use Rattle.prover_state.proofs.EachLaws.{each-weaker, each-from_All, map-same}
 use Rattle.prover_state.proofs.LoopStays.{loops-stay, entries-stay}
 use Rattle.prover_state.proofs.NamesLaws.{place-stays, term-stays, literal-stays, command-stays, numbers-stay}
@@ -44,8 +44,8 @@ itself : {X : Type 0} (xs ys : List X) → ys ≡ xs → Longer xs ys
 itself xs ys e = ([], e ∙ sym (append-nil xs))
 
 -- numbers of literals are numbers over what has become wider
-pub more-numbers : (old new : Basis) → BasisWidens old new → (ls : List SatLit) → Each (IsNumber old.lits) ls → Each (IsNumber new.lits) ls
-more-numbers old new w ls h = each-weaker (IsNumber old.lits) (IsNumber new.lits) (λ l k. omega (arith, k, ap length w.lits.is, length-append old.lits w.lits.further)) ls h
+pub more-numbers : (old new : Basis) → BasisWidens old new → (ls : List SatLit) → Each (IsNumberIn old.lits) ls → Each (IsNumberIn new.lits) ls
+more-numbers old new w ls h = each-weaker (IsNumberIn old.lits) (IsNumberIn new.lits) (λ l k. omega (arith, k, ap length w.lits.is, length-append old.lits w.lits.further)) ls h
 
 module _ (old new : Basis) (w : BasisWidens old new) (good : IsBasis old) where
   -- the rows of the earlier witnesses stay
@@ -60,10 +60,10 @@ module _ (old new : Basis) (w : BasisWidens old new) (good : IsBasis old) where
         ∙ ap (λ (rows : List Row). rows ++ rows_of new.bank.terms w.witnesses.0) rows-stay,
   )
 
-  pub scope-stays : declared_scope new.bank ≡ declared_scope old.bank
+  pub scope-stays : without_witnesses new.bank ≡ without_witnesses old.bank
   scope-stays = λ i. record { bases = length (w.bank.bases i); names = map (λ c. c.type) (w.bank.consts i); witnesses = [] }
 
-  scope_wider : scope_by new ≡ with_rows (declared_scope old.bank) (rows_in old ++ rows-longer.0)
+  scope_wider : scope_by new ≡ with_rows (without_witnesses old.bank) (rows_in old ++ rows-longer.0)
   scope_wider = ap₂ (λ (scope : Scope) (rows : List Row). with_rows scope rows) scope-stays rows-longer.1
 
   -- the basis with the further terms and atoms, and no further witness
@@ -76,21 +76,21 @@ module _ (old new : Basis) (w : BasisWidens old new) (good : IsBasis old) where
   pub unwitnessed-grows : BasisGrows old unwitnessed
   unwitnessed-grows = record { bank = bank_grows; lits = w.lits; witnesses = refl }
 
-module _ (t : Tables) (q : Queue Planned Delays) (g : Basis) (w : BasisWidens t.basis g) (r : IsRight t q) (takers : List Listing) where
+module _ (t : Tables) (q : Queue Planned Delays) (g : Basis) (w : BasisWidens t.basis g) (r : IsRightState t q) (takers : List Listing) where
   abbrev pub widened : Tables
   widened = record t { basis = g; takers = takers }
 
   sketches_stay : sketches_in widened ≡ sketches_in t
   sketches_stay =
       ap (λ (scope : Scope). sketches_of scope t.stems.items) (scope_wider t.basis g w r.basis)
-      ∙ sketches-wider (declared_scope t.basis.bank) (rows-longer t.basis g w r.basis).0 (rows_in t.basis) [] t.stems.items r.stems
+      ∙ sketches-wider (without_witnesses t.basis.bank) (rows-longer t.basis g w r.basis).0 (rows_in t.basis) [] t.stems.items r.stems
 
   stems_stay : AreStems (scope_by g) [] t.stems.items
   stems_stay =
       subst (λ scope. AreStems scope [] t.stems.items) (sym (scope_wider t.basis g w r.basis))
-      (stems-wider (declared_scope t.basis.bank) (rows-longer t.basis g w r.basis).0 (rows_in t.basis) [] t.stems.items r.stems)
+      (stems-wider (without_witnesses t.basis.bank) (rows-longer t.basis g w r.basis).0 (rows_in t.basis) [] t.stems.items r.stems)
 
-  continues : Continues (names_in t) (names_in widened)
+  continues : Continues (naming_in t) (naming_in widened)
   continues = record {
     within = λ k d h. (r.basis.atoms k d h).within;
     terms = (w.bank.further, w.bank.terms);
@@ -105,7 +105,7 @@ module _ (t : Tables) (q : Queue Planned Delays) (g : Basis) (w : BasisWidens t.
   between_same : the_state between q ≡ the_state t q
   between_same = state-stays t q (unwitnessed t.basis g w r.basis) (unwitnessed-grows t.basis g w r.basis) r
 
-  extends : Extends (sources t) (sources widened)
+  extends : ExtendsState (sources t) (sources widened)
   extends = record {
     noted = itself (sources t).noted (sources widened).noted (ap (λ (s : State). s.noted) between_same);
     terms = itself (sources t).terms (sources widened).terms (ap (λ (s : State). s.terms) between_same);
@@ -115,9 +115,9 @@ module _ (t : Tables) (q : Queue Planned Delays) (g : Basis) (w : BasisWidens t.
 
   loops_same : loops_in widened q.entries ≡ loops_in t q.entries
   loops_same =
-      ap (λ scope. map (loop_at scope (names_in widened) (sources widened)) q.entries) (scope-stays t.basis g w r.basis)
-      ∙ loops-stay (declared_scope t.basis.bank) (sources t) (sources widened) extends (names_in t) (names_in widened)
-      (command-stays (names_in t) (names_in widened) continues) (numbers-stay (names_in t) (names_in widened) continues) q.entries r.queue
+      ap (λ scope. map (loop_at scope (naming_in widened) (sources widened)) q.entries) (scope-stays t.basis g w r.basis)
+      ∙ loops-stay (without_witnesses t.basis.bank) (sources t) (sources widened) extends (naming_in t) (naming_in widened)
+      (command-stays (naming_in t) (naming_in widened) continues) (numbers-stay (naming_in t) (naming_in widened) continues) q.entries r.queue
 
   -- The state stays, but for the rows.
   pub state-widens : the_state widened q ≡ record (the_state t q) { rows = rows_in g }
@@ -130,28 +130,28 @@ module _ (t : Tables) (q : Queue Planned Delays) (g : Basis) (w : BasisWidens t.
   place_stays : (id : ℕ) → IsPlace t.basis.bank.terms id → IsPlace g.bank.terms id
   place_stays id h = place-stays t.basis.bank.terms g.bank.terms continues.terms id h
 
-  universal_stays : (a : SimpleType) → (l : SatLit) → IsNumber t.basis.lits l → is_universal t.basis.bank.terms t.basis.lits a l ≡ is_universal g.bank.terms g.lits a l
-  universal_stays a l h = ap (λ (m : Literal). l.positive && ranges_over a m.atom) (sym (literal-stays (names_in t) (names_in widened) continues l h))
+  universal_stays : (a : SimpleType) → (l : SatLit) → IsNumberIn t.basis.lits l → is_universal t.basis.bank.terms t.basis.lits a l ≡ is_universal g.bank.terms g.lits a l
+  universal_stays a l h = ap (λ (m : Literal). l.positive && ranges_over a m.atom) (sym (literal-stays (naming_in t) (naming_in widened) continues l h))
 
-  pair_stays : (l : SatLit) → IsNumber t.basis.lits l → can_pair t.basis.bank.terms t.basis.lits l ≡ can_pair g.bank.terms g.lits l
-  pair_stays l h = ap (λ (m : Literal). l.positive || not (has_equal_sides m.atom)) (sym (literal-stays (names_in t) (names_in widened) continues l h))
+  pair_stays : (l : SatLit) → IsNumberIn t.basis.lits l → can_pair t.basis.bank.terms t.basis.lits l ≡ can_pair g.bank.terms g.lits l
+  pair_stays l h = ap (λ (m : Literal). l.positive || not (has_equal_sides m.atom)) (sym (literal-stays (naming_in t) (naming_in widened) continues l h))
 
   index_stays : IsRightIndex g.bank.terms g.lits t.index
   index_stays = right_stays t.basis.bank (unwitnessed t.basis g w r.basis).bank (bank_grows t.basis g w r.basis) t.basis.lits g.lits r.basis.atoms w.lits t.index r.index
 
   -- The tables stay right, where the further witness is listed.
-  pub right-widens : IsBasis g → ((n : ℕ) → ids_of (base n) takers ≡ places_to n 0 (map (λ x. x.type) (rows_in g))) → IsRight widened q
+  pub right-widens : IsBasis g → ((n : ℕ) → ids_of (base n) takers ≡ places_to n 0 (map (λ x. x.type) (rows_in g))) → IsRightState widened q
   right-widens good listed =
-      let Q : Scope → Type 0 = λ scope. Each (λ (e : Entry Planned). IsEntry scope (names_in widened) (sources widened) e.command) q.entries in
+      let Q : Scope → Type 0 = λ scope. Each (λ (e : Entry Planned). IsEntry scope (naming_in widened) (sources widened) e.command) q.entries in
       record {
         basis = good;
-        clauses = each-weaker (Each (IsNumber t.basis.lits)) (Each (IsNumber g.lits)) (more-numbers t.basis g w) (the_clauses t.steps) r.clauses;
+        clauses = each-weaker (Each (IsNumberIn t.basis.lits)) (Each (IsNumberIn g.lits)) (more-numbers t.basis g w) (the_clauses t.steps) r.clauses;
         solver = r.solver;
         seen = more-numbers t.basis g w t.seen r.seen;
         noted = more-numbers t.basis g w t.noted.items r.noted;
         index = index_stays;
-        paired = r.paired ∙ filter-same (can_pair t.basis.bank.terms t.basis.lits) (can_pair g.bank.terms g.lits) (IsNumber t.basis.lits) pair_stays t.noted.items r.noted;
-        universals = λ a. r.universals a ∙ places-same (is_universal t.basis.bank.terms t.basis.lits a) (is_universal g.bank.terms g.lits a) (IsNumber t.basis.lits) (universal_stays a) 0 t.noted.items r.noted;
+        paired = r.paired ∙ filter-same (can_pair t.basis.bank.terms t.basis.lits) (can_pair g.bank.terms g.lits) (IsNumberIn t.basis.lits) pair_stays t.noted.items r.noted;
+        universals = λ a. r.universals a ∙ places-same (is_universal t.basis.bank.terms t.basis.lits a) (is_universal g.bank.terms g.lits a) (IsNumberIn t.basis.lits) (universal_stays a) 0 t.noted.items r.noted;
         names = λ n. r.names n ∙ ap (λ (scope : Scope). places_to n 0 scope.names) (sym (scope-stays t.basis g w r.basis));
         takers = listed;
         terms = each-weaker (λ (u : Listing). IsPlace t.basis.bank.terms u.1) (λ (u : Listing). IsPlace g.bank.terms u.1) (λ u h. place_stays u.1 h) t.terms r.terms;
@@ -163,6 +163,6 @@ module _ (t : Tables) (q : Queue Planned Delays) (g : Basis) (w : BasisWidens t.
         budget = r.budget;
         holes = λ n. r.holes n ∙ ap (places_where (has_hole_of n) 0) (sym sketches_stay);
         queue = subst Q (sym (scope-stays t.basis g w r.basis))
-            (entries-stay (declared_scope t.basis.bank) (sources t) (sources widened) extends (names_in t) (names_in widened)
-            (command-stays (names_in t) (names_in widened) continues) (numbers-stay (names_in t) (names_in widened) continues) q.entries r.queue);
+            (entries-stay (without_witnesses t.basis.bank) (sources t) (sources widened) extends (naming_in t) (naming_in widened)
+            (command-stays (naming_in t) (naming_in widened) continues) (numbers-stay (naming_in t) (naming_in widened) continues) q.entries r.queue);
       }

@@ -5,8 +5,8 @@ use Rattle.stt_core.specs.SimpleType.{SimpleType, formula}
 use Rattle.stt_core.specs.Lambda.{witness, Lambda, constant}
 use Rattle.stt_core.specs.Typing.{Scope, type_of}
 use Rattle.tableau_calculus.specs.Witnesses.{Row, with_rows}
-use Rattle.search_spec.specs.Commands.{filled_at, grown_by}
-use Rattle.search_spec.specs.Partial.{Partial, head, first_hole, filled, with_holes}
+use Rattle.search_spec.specs.Commands.{filling_at, growth_by}
+use Rattle.search_spec.specs.Partial.{Partial, head, first_hole, with_filling, with_holes}
 use Rattle.search_spec.specs.State.{Sketch}
 use Rattle.search_spec.proofs.WiderLaws.{neutral_wider}
 use Rattle.instantiate.specs.Growing.{TakesHead}
@@ -39,12 +39,12 @@ module _ (scope : Scope) (more rows : List Row) where
   takes_wider p h t = record { hole = t.hole; is_first = t.is_first; type = t.type; has_type = head_wider h t.hole.context t.type t.has_type }
 
   -- what the first hole becomes, where the head has a type there
-  filled_with : (s : Scope) (p : Partial) (h : Lambda) (t : TakesHead s p h) → filled_at s h p (first_hole [] p) ≡ filled (with_holes t.type (head h)) p
+  filled_with : (s : Scope) (p : Partial) (h : Lambda) (t : TakesHead s p h) → filling_at s h p (first_hole [] p) ≡ with_filling (with_holes t.type (head h)) p
   filled_with s p h t =
-      ap (filled_at s h p) t.is_first
-      ∙ ap (λ (o : Option SimpleType). filled (with_holes (unwrap_or o formula) (head h)) p) t.has_type
+      ap (filling_at s h p) t.is_first
+      ∙ ap (λ (o : Option SimpleType). with_filling (with_holes (unwrap_or o formula) (head h)) p) t.has_type
 
-  grown_same : (p : Sketch) (h : HoleHead) → TakesHead old p.partial (the_hole_head h) → grown_by new (the_hole_head h) p ≡ grown_by old (the_hole_head h) p
+  grown_same : (p : Sketch) (h : HoleHead) → TakesHead old p.partial (the_hole_head h) → growth_by new (the_hole_head h) p ≡ growth_by old (the_hole_head h) p
   unfolding takes_wider
   grown_same p h t =
       ap (λ (o : Option Partial). record p { partial = unwrap_or o p.partial })

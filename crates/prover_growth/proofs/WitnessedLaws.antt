@@ -10,8 +10,8 @@ use Rattle.search_spec.specs.Alternatives.{Alternatives, all_neg}
 use Rattle.search_spec.specs.Heads.{target}
 use Rattle.search_spec.specs.Instances.{with_instance}
 use Rattle.search_spec.specs.Mode.{Mode}
-use Rattle.search_spec.specs.State.{State, Setting, Sketch, grow, pushed}
-use Rattle.search_spec.specs.Witness.{same_row, witness_of, has_hole_of, with_new_witness, witnessed}
+use Rattle.search_spec.specs.State.{State, Setting, Sketch, grow, with_commands}
+use Rattle.search_spec.specs.Witness.{same_row, witness_of, has_hole_of, with_new_witness, with_witness}
 use Rattle.search_spec.proofs.RowLaws.{no_row}
 use Rattle.prover_growth.specs.Internal.Denials.{with_row}
 use Rattle.prover_growth.proofs.DenialLaws.{denied_row, row-there, row-new}
@@ -36,18 +36,18 @@ module _ (setting : Setting) (a : SimpleType) (f : Lambda) (s : State) where
       ∙ ap (λ (bs : Alternatives). with_instance setting.mode (minus (every a f) ∷ []) bs y) q
       ∙ ap with_denial e
 
-  by_test : (b : Bool) → list_any (same_row r) s.rows ≡ b → witnessed setting a f s ≡ (if b then with_denial s else with_new_witness setting a w (with_denial (record s { rows = s.rows ++ r ∷ [] })))
+  by_test : (b : Bool) → list_any (same_row r) s.rows ≡ b → with_witness setting a f s ≡ (if b then with_denial s else with_new_witness setting a w (with_denial (record s { rows = s.rows ++ r ∷ [] })))
   by_test b e = ap (λ (x : Bool). if x then with_denial s else with_new_witness setting a w (with_denial (record s { rows = s.rows ++ r ∷ [] }))) e
 
-  pub witnessed-before : list_any (same_row r) s.rows ≡ true → with_denial (record s { rows = with_row s.rows r }) ≡ witnessed setting a f s
+  pub witnessed-before : list_any (same_row r) s.rows ≡ true → with_denial (record s { rows = with_row s.rows r }) ≡ with_witness setting a f s
   witnessed-before e = ap (λ (rows : List Row). with_denial (record s { rows = rows })) (row-there s.rows r e) ∙ sym (by_test true e)
 
   pub witnessed-now : list_any (same_row r) s.rows ≡ false → (x : State) → x ≡ with_denial (record s { rows = with_row s.rows r }) → (n k : ℕ) → n ≡ target a → k ≡ length s.rows → (parked : List Sketch) → parked ≡ x.parked
-      → pushed setting.mode (map (λ (p : Sketch). grow p (constant (witness k))) (filter (has_hole_of n) parked)) x ≡ witnessed setting a f s
+      → with_commands setting.mode (map (λ (p : Sketch). grow p (constant (witness k))) (filter (has_hole_of n) parked)) x ≡ with_witness setting a f s
   witnessed-now e x is n k to place parked are =
-      ap (λ m. pushed setting.mode (map (λ (p : Sketch). grow p (constant (witness k))) (filter (has_hole_of m) parked)) x) to
-      ∙ ap (λ j. pushed setting.mode (map (λ (p : Sketch). grow p (constant (witness j))) (filter (has_hole_of (target a)) parked)) x) (place ∙ sym (no_row s.rows r e))
-      ∙ ap (λ ps. pushed setting.mode (map (λ (p : Sketch). grow p w) (filter (has_hole_of (target a)) ps)) x) are
+      ap (λ m. with_commands setting.mode (map (λ (p : Sketch). grow p (constant (witness k))) (filter (has_hole_of m) parked)) x) to
+      ∙ ap (λ j. with_commands setting.mode (map (λ (p : Sketch). grow p (constant (witness j))) (filter (has_hole_of (target a)) parked)) x) (place ∙ sym (no_row s.rows r e))
+      ∙ ap (λ ps. with_commands setting.mode (map (λ (p : Sketch). grow p w) (filter (has_hole_of (target a)) ps)) x) are
       ∙ ap (with_new_witness setting a w) (is ∙ ap (λ (rows : List Row). with_denial (record s { rows = rows })) (row-new s.rows r e))
       ∙ sym (by_test false e)
 

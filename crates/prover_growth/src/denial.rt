@@ -2,16 +2,16 @@
 ghost use Rattle.std.specs.Prelude.{◌≡◌, ◌<◌, ◌-◌, ◌^◌, nat_lt, [], ◌∷◌, length, map, if◌then◌else◌, IfOk, OnOk};
 ghost use Rattle.stt_core.specs.SimpleType.{SimpleType, base};
 ghost use Rattle.stt_core.specs.Lambda.{Lambda};
-ghost use Rattle.literal_map.specs.Atoms.{literal_at};
+ghost use Rattle.literal_map.specs.Atoms.{bank_literal};
 ghost use Rattle.instantiate.specs.Listing.{with_listed};
 ghost use Rattle.search_spec.specs.Alternatives.{all_neg};
 ghost use Rattle.search_spec.specs.Heads.{target};
 ghost use Rattle.search_spec.specs.Witness.{witness_of};
 ghost use Rattle.prover_growth.specs.Internal.Denials.{Denies, with_row};
 ghost use Rattle.prover_state.specs.Internal.Growing.{BasisWidens};
-ghost use Rattle.prover_state.specs.Internal.Names.{IsNumber};
-ghost use Rattle.prover_state.specs.Internal.Standing.{rows_in, the_state, IsBasis, IsRight};
-ghost use Rattle.prover_state.specs.Internal.Steps.{IsMade};
+ghost use Rattle.prover_state.specs.Internal.Names.{IsNumberIn};
+ghost use Rattle.prover_state.specs.Internal.Standing.{rows_in, the_state, IsBasis, IsRightState};
+ghost use Rattle.prover_state.specs.Internal.Steps.{IsMadeInstance};
 
 use command_queue::Weigher;
 use instantiate::{Enumerator, target_of};
@@ -26,7 +26,7 @@ use term_bank::equal_ids_for_equal_terms;
 /// The base type that the type of the predicate's witness gives, once it has all its arguments.
 pub(crate) fn denied_target(basis: &Basis, lit: SatLit) -> u32
     requires good { IsBasis basis.now }
-    requires number { IsNumber basis.now.lits lit }
+    requires number { IsNumberIn basis.now.lits lit }
     requires denies { (a : SimpleType) × ((f : Lambda) × Denies basis.now lit a f) }
     ensures { (a : SimpleType) (f : Lambda) → Denies basis.now lit a f → result ≡ target a }
 {
@@ -39,12 +39,12 @@ pub(crate) fn denied_target(basis: &Basis, lit: SatLit) -> u32
 /// The instance of the rule for the literal. The predicate gets a witness, where it has none.
 fn make_denial(alloc: Global, basis: &mut Basis, lit: SatLit) -> Result<Instance, AllocError>
     requires good { IsBasis basis.old }
-    requires number { IsNumber basis.old.lits lit }
+    requires number { IsNumberIn basis.old.lits lit }
     requires few { length basis.old.witnesses < 2 ^ 32 - 1 }
     requires denies { (a : SimpleType) × ((f : Lambda) × Denies basis.old lit a f) }
-    ensures made { IfOk result (IsMade basis.new) }
+    ensures made { IfOk result (IsMadeInstance basis.new) }
     ensures principals { IfOk result (λ i. i.principals ≡ lit ∷ []) }
-    ensures alternatives { IfOk result (λ i. (a : SimpleType) (f : Lambda) → Denies basis.old lit a f → map (map (literal_at basis.new.bank.terms basis.new.lits)) i.alternatives ≡ all_neg a f (witness_of (rows_in basis.old) (record { type = a; predicate = f }))) }
+    ensures alternatives { IfOk result (λ i. (a : SimpleType) (f : Lambda) → Denies basis.old lit a f → map (map (bank_literal basis.new.bank.terms basis.new.lits)) i.alternatives ≡ all_neg a f (witness_of (rows_in basis.old) (record { type = a; predicate = f }))) }
     ensures rows { OnOk result ((a : SimpleType) (f : Lambda) → Denies basis.old lit a f → rows_in basis.new ≡ with_row (rows_in basis.old) (record { type = a; predicate = f })) }
     ensures good { OnOk result (IsBasis basis.new) }
     ensures widens { OnOk result (BasisWidens basis.old basis.new) }
@@ -90,16 +90,16 @@ pub(crate) fn deny<W: Weigher<Waiting>>(
     output: u32,
     lit: SatLit,
 ) -> Result<Instance, AllocError>
-    requires right { IsRight core.old.tables core.old.plan }
-    requires number { IsNumber core.old.tables.basis.lits lit }
+    requires right { IsRightState core.old.tables core.old.plan }
+    requires number { IsNumberIn core.old.tables.basis.lits lit }
     requires few { length core.old.tables.basis.witnesses < 2 ^ 32 - 1 }
     requires denies { (a : SimpleType) × ((f : Lambda) × Denies core.old.tables.basis lit a f) }
     requires output { (a : SimpleType) (f : Lambda) → Denies core.old.tables.basis lit a f → output ≡ target a }
     ensures state { OnOk result ((a : SimpleType) (f : Lambda) → Denies core.old.tables.basis lit a f → the_state core.new.tables core.new.plan ≡ record (the_state core.old.tables core.old.plan) { rows = with_row (rows_in core.old.tables.basis) (record { type = a; predicate = f }) }) }
-    ensures right { OnOk result (IsRight core.new.tables core.new.plan) }
-    ensures made { IfOk result (IsMade core.new.tables.basis) }
+    ensures right { OnOk result (IsRightState core.new.tables core.new.plan) }
+    ensures made { IfOk result (IsMadeInstance core.new.tables.basis) }
     ensures principals { IfOk result (λ i. i.principals ≡ lit ∷ []) }
-    ensures alternatives { IfOk result (λ i. (a : SimpleType) (f : Lambda) → Denies core.old.tables.basis lit a f → map (map (literal_at core.new.tables.basis.bank.terms core.new.tables.basis.lits)) i.alternatives ≡ all_neg a f (witness_of (rows_in core.old.tables.basis) (record { type = a; predicate = f }))) }
+    ensures alternatives { IfOk result (λ i. (a : SimpleType) (f : Lambda) → Denies core.old.tables.basis lit a f → map (map (bank_literal core.new.tables.basis.bank.terms core.new.tables.basis.lits)) i.alternatives ≡ all_neg a f (witness_of (rows_in core.old.tables.basis) (record { type = a; predicate = f }))) }
     ensures rows { OnOk result ((a : SimpleType) (f : Lambda) → Denies core.old.tables.basis lit a f → rows_in core.new.tables.basis ≡ with_row (rows_in core.old.tables.basis) (record { type = a; predicate = f })) }
     ensures widens { OnOk result (BasisWidens core.old.tables.basis core.new.tables.basis) }
     ensures tables { OnOk result (core.new.tables ≡ record core.old.tables { basis = core.new.tables.basis; takers = core.new.tables.takers }) }

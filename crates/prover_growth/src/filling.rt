@@ -3,21 +3,21 @@ ghost use Rattle.std.specs.Prelude.{◌≡◌, ◌<◌, ℕ, [], None, length, I
 ghost use Rattle.command_queue.specs.Queue.{Queue};
 ghost use Rattle.instantiate.specs.Internal.Blanks.{term_of};
 ghost use Rattle.instantiate.specs.declared.growing.Grown.TheVariants.{Term};
-ghost use Rattle.search_spec.specs.Commands.{carried_out, grown_by};
+ghost use Rattle.search_spec.specs.Commands.{with_command, growth_by};
 ghost use Rattle.search_spec.specs.Each.{Each};
 ghost use Rattle.search_spec.specs.Partial.{first_hole};
 ghost use Rattle.search_spec.specs.State.{grow};
 ghost use Rattle.search_spec.specs.Terms.{with_term};
-ghost use Rattle.search_spec.specs.TypedState.{Grows, IsTypedSketch};
+ghost use Rattle.search_spec.specs.TypedState.{GrowsSketch, IsTypedSketch};
 ghost use Rattle.term_bank.specs.Content.{HasTerm};
 ghost use Rattle.prover_state.specs.declared.command.Planned.{Planned};
 ghost use Rattle.prover_state.specs.declared.command.Delays.{Delays};
 ghost use Rattle.prover_state.specs.Delays.{the_mode};
 ghost use Rattle.prover_state.specs.Internal.Growing.{BasisGrows};
-ghost use Rattle.prover_state.specs.Internal.HeadNumbers.{head_at};
+ghost use Rattle.prover_state.specs.Internal.HeadNumbers.{head_numbered};
 ghost use Rattle.prover_state.specs.Internal.Heads.{the_hole_head};
-ghost use Rattle.prover_state.specs.Internal.Names.{sketch_at, AreNumbers};
-ghost use Rattle.prover_state.specs.Internal.Standing.{names_in, scope_by, setting_by, sketches_in, the_state, IsBasis, IsRight};
+ghost use Rattle.prover_state.specs.Internal.Names.{sketch_at, IsNumberedCommand};
+ghost use Rattle.prover_state.specs.Internal.Standing.{naming_in, scope_by, setting_by, sketches_in, the_state, IsBasis, IsRightState};
 ghost use Rattle.prover_state.specs.declared.command.Command.TheVariants.{Grow};
 
 use crate::opening::open_stem;
@@ -42,11 +42,11 @@ fn term_in(grown: Grown) -> Id
 
 /// The term that a partial term becomes where its last hole is filled.
 fn make_term(tables: &mut Tables, parent: usize, head: HoleHead) -> Result<Id, AllocError>
-    requires right { (q : Queue Planned Delays) × IsRight tables.old q }
+    requires right { (q : Queue Planned Delays) × IsRightState tables.old q }
     requires number { parent < length (sketches_in tables.old) }
-    requires grows { Grows (scope_by tables.old.basis) (sketch_at (sketches_in tables.old) parent) (the_hole_head head) }
-    requires last { first_hole [] (grown_by (scope_by tables.old.basis) (the_hole_head head) (sketch_at (sketches_in tables.old) parent)).partial ≡ None }
-    ensures term { IfOk result (λ id. HasTerm tables.new.basis.bank id (term_of (grown_by (scope_by tables.old.basis) (the_hole_head head) (sketch_at (sketches_in tables.old) parent)).partial)) }
+    requires grows { GrowsSketch (scope_by tables.old.basis) (sketch_at (sketches_in tables.old) parent) (the_hole_head head) }
+    requires last { first_hole [] (growth_by (scope_by tables.old.basis) (the_hole_head head) (sketch_at (sketches_in tables.old) parent)).partial ≡ None }
+    ensures term { IfOk result (λ id. HasTerm tables.new.basis.bank id (term_of (growth_by (scope_by tables.old.basis) (the_hole_head head) (sketch_at (sketches_in tables.old) parent)).partial)) }
     ensures good { OnOk result (IsBasis tables.new.basis) }
     ensures basis { OnOk result (BasisGrows tables.old.basis tables.new.basis) }
     ensures tables { tables.new ≡ record tables.old { basis = tables.new.basis } }
@@ -66,12 +66,12 @@ fn fill_last<W: Weigher<Waiting>>(
     parent: usize,
     head: HoleHead,
 ) -> Result<(), AllocError>
-    requires right { IsRight core.old.tables core.old.plan }
+    requires right { IsRightState core.old.tables core.old.plan }
     requires number { parent < length (sketches_in core.old.tables) }
-    requires grows { Grows (scope_by core.old.tables.basis) (sketch_at (sketches_in core.old.tables) parent) (the_hole_head head) }
-    requires last { first_hole [] (grown_by (scope_by core.old.tables.basis) (the_hole_head head) (sketch_at (sketches_in core.old.tables) parent)).partial ≡ None }
-    ensures state { OnOk result (let p = sketch_at (sketches_in core.old.tables) parent in the_state core.new.tables core.new.plan ≡ with_term (the_mode core.old.plan.rule.mode) p.type (term_of (grown_by (scope_by core.old.tables.basis) (the_hole_head head) p).partial) (the_state core.old.tables core.old.plan)) }
-    ensures right { OnOk result (IsRight core.new.tables core.new.plan) }
+    requires grows { GrowsSketch (scope_by core.old.tables.basis) (sketch_at (sketches_in core.old.tables) parent) (the_hole_head head) }
+    requires last { first_hole [] (growth_by (scope_by core.old.tables.basis) (the_hole_head head) (sketch_at (sketches_in core.old.tables) parent)).partial ≡ None }
+    ensures state { OnOk result (let p = sketch_at (sketches_in core.old.tables) parent in the_state core.new.tables core.new.plan ≡ with_term (the_mode core.old.plan.rule.mode) p.type (term_of (growth_by (scope_by core.old.tables.basis) (the_hole_head head) p).partial) (the_state core.old.tables core.old.plan)) }
+    ensures right { OnOk result (IsRightState core.new.tables core.new.plan) }
     ensures basis { OnOk result (BasisGrows core.old.tables.basis core.new.tables.basis) }
     ensures tables { OnOk result (core.new.tables ≡ record core.old.tables { basis = core.new.tables.basis; terms = core.new.tables.terms }) }
     ensures rule { OnOk result (core.new.plan.rule ≡ core.old.plan.rule) }
@@ -89,12 +89,12 @@ pub fn fill<W: Weigher<Waiting>>(
     parent: usize,
     head: usize,
 ) -> Result<(), AllocError>
-    requires right { IsRight core.old.tables core.old.plan }
-    requires numbers { AreNumbers (names_in core.old.tables) (Grow parent head) }
+    requires right { IsRightState core.old.tables core.old.plan }
+    requires numbers { IsNumberedCommand (naming_in core.old.tables) (Grow parent head) }
     requires typed { Each (IsTypedSketch (scope_by core.old.tables.basis)) (sketches_in core.old.tables) }
-    requires fits { Grows (scope_by core.old.tables.basis) (sketch_at (sketches_in core.old.tables) parent) (head_at head) }
-    ensures state { OnOk result (the_state core.new.tables core.new.plan ≡ carried_out (setting_by core.old.tables core.old.plan) (grow (sketch_at (sketches_in core.old.tables) parent) (head_at head)) (the_state core.old.tables core.old.plan)) }
-    ensures right { OnOk result (IsRight core.new.tables core.new.plan) }
+    requires fits { GrowsSketch (scope_by core.old.tables.basis) (sketch_at (sketches_in core.old.tables) parent) (head_numbered head) }
+    ensures state { OnOk result (the_state core.new.tables core.new.plan ≡ with_command (setting_by core.old.tables core.old.plan) (grow (sketch_at (sketches_in core.old.tables) parent) (head_numbered head)) (the_state core.old.tables core.old.plan)) }
+    ensures right { OnOk result (IsRightState core.new.tables core.new.plan) }
     ensures basis { OnOk result (BasisGrows core.old.tables.basis core.new.tables.basis) }
     ensures tables { OnOk result (core.new.tables ≡ record core.old.tables { basis = core.new.tables.basis; terms = core.new.tables.terms; stems = core.new.tables.stems; open_holes = core.new.tables.open_holes; holes = core.new.tables.holes; roots = core.new.tables.roots }) }
     ensures rule { OnOk result (core.new.plan.rule ≡ core.old.plan.rule) }

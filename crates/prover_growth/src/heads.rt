@@ -3,13 +3,13 @@ ghost use Rattle.std.specs.Prelude.{◌≡◌, ◌<◌, ◌+◌, [], length, map
 ghost use Rattle.command_queue.specs.Queue.{Queue};
 ghost use Rattle.search_spec.specs.Heads.{places_to, heads_for};
 ghost use Rattle.search_spec.specs.Partial.{first_hole};
-ghost use Rattle.search_spec.specs.State.{grow, pushed};
+ghost use Rattle.search_spec.specs.State.{grow, with_commands};
 ghost use Rattle.prover_state.specs.declared.command.Planned.{Planned};
 ghost use Rattle.prover_state.specs.declared.command.Delays.{Delays};
 ghost use Rattle.prover_state.specs.Delays.{the_mode};
 ghost use Rattle.prover_state.specs.Internal.Fitting.{logical_for, later_heads};
 ghost use Rattle.prover_state.specs.Internal.Names.{sketch_at};
-ghost use Rattle.prover_state.specs.Internal.Standing.{scope_by, sketches_in, the_state, IsRight};
+ghost use Rattle.prover_state.specs.Internal.Standing.{scope_by, sketches_in, the_state, IsRightState};
 
 use command_queue::Weigher;
 use prover_state::{Command, Core, Over, Tables, Waiting, number_of};
@@ -39,7 +39,7 @@ fn count_logical(bases: usize, base: u32) -> Result<usize, AllocError>
 
 /// How many witnesses and heads of the logic's own have a base type as their target.
 fn count_later(tables: &Tables, base: u32) -> Result<usize, AllocError>
-    requires right { (q : Queue Planned Delays) × IsRight tables.now q }
+    requires right { (q : Queue Planned Delays) × IsRightState tables.now q }
     ensures { IfOk result (λ n. n ≡ length (later_heads (scope_by tables.now.basis) base)) }
 {
     let takers = tables.takers.terms_of(&Ty::Base(base));
@@ -50,7 +50,7 @@ fn count_later(tables: &Tables, base: u32) -> Result<usize, AllocError>
 
 /// How many names, witnesses and heads of the logic's own have a base type as their target.
 fn count_constants(tables: &Tables, base: u32) -> Result<usize, AllocError>
-    requires right { (q : Queue Planned Delays) × IsRight tables.now q }
+    requires right { (q : Queue Planned Delays) × IsRightState tables.now q }
     ensures { IfOk result (λ n. n ≡ length (places_to base 0 (scope_by tables.now.basis).names) + length (later_heads (scope_by tables.now.basis) base)) }
 {
     let names = tables.names.terms_of(&Ty::Base(base));
@@ -60,7 +60,7 @@ fn count_constants(tables: &Tables, base: u32) -> Result<usize, AllocError>
 
 /// How many heads fit the first hole of a partial term.
 fn count_heads(tables: &Tables, p: usize) -> Result<usize, AllocError>
-    requires right { (q : Queue Planned Delays) × IsRight tables.now q }
+    requires right { (q : Queue Planned Delays) × IsRightState tables.now q }
     requires number { p < length (sketches_in tables.now) }
     ensures { IfOk result (λ n. n ≡ length (heads_for (scope_by tables.now.basis) (first_hole [] (sketch_at (sketches_in tables.now) p).partial))) }
 {
@@ -79,10 +79,10 @@ pub(crate) fn push_heads<W: Weigher<Waiting>>(
     core: &mut Core<W>,
     p: usize,
 ) -> Result<(), AllocError>
-    requires right { IsRight core.old.tables core.old.plan }
+    requires right { IsRightState core.old.tables core.old.plan }
     requires number { p < length (sketches_in core.old.tables) }
-    ensures state { OnOk result (let q = sketch_at (sketches_in core.old.tables) p in the_state core.new.tables core.new.plan ≡ pushed (the_mode core.old.plan.rule.mode) (map (grow q) (heads_for (scope_by core.old.tables.basis) (first_hole [] q.partial))) (the_state core.old.tables core.old.plan)) }
-    ensures right { OnOk result (IsRight core.new.tables core.new.plan) }
+    ensures state { OnOk result (let q = sketch_at (sketches_in core.old.tables) p in the_state core.new.tables core.new.plan ≡ with_commands (the_mode core.old.plan.rule.mode) (map (grow q) (heads_for (scope_by core.old.tables.basis) (first_hole [] q.partial))) (the_state core.old.tables core.old.plan)) }
+    ensures right { OnOk result (IsRightState core.new.tables core.new.plan) }
     ensures tables { core.new.tables ≡ core.old.tables }
     ensures rule { OnOk result (core.new.plan.rule ≡ core.old.plan.rule) }
 {

@@ -3,10 +3,10 @@ ghost use Rattle.std.specs.Prelude.{◌≡◌, true, length, OnOk};
 ghost use Rattle.std.specs.List.{list_any};
 ghost use Rattle.stt_core.specs.SimpleType.{SimpleType, arrow, is_declared, same_type};
 ghost use Rattle.stt_core.specs.View.{the_type};
-ghost use Rattle.search_spec.specs.Terms.{opened, prepared};
+ghost use Rattle.search_spec.specs.Terms.{with_opening, with_preparation};
 ghost use Rattle.prover_state.specs.Internal.Growing.{BasisGrows};
 ghost use Rattle.prover_state.specs.Internal.Heads.{sketch_of, IsStem};
-ghost use Rattle.prover_state.specs.Internal.Standing.{scope_by, setting_by, sketches_in, the_state, IsRight};
+ghost use Rattle.prover_state.specs.Internal.Standing.{scope_by, setting_by, sketches_in, the_state, IsRightState};
 
 use crate::base_terms::prepare_base;
 use crate::heads::push_heads;
@@ -31,10 +31,10 @@ fn has_type(types: &Types, ty: &Ty) -> bool
 
 /// A partial term is opened: it is parked, and its first hole is to be filled with each head that fits.
 pub fn open_stem<W: Weigher<Waiting>>(core: &mut Core<W>, stem: Stem) -> Result<(), AllocError>
-    requires right { IsRight core.old.tables core.old.plan }
+    requires right { IsRightState core.old.tables core.old.plan }
     requires stem { IsStem (scope_by core.old.tables.basis) (sketches_in core.old.tables) stem }
-    ensures state { OnOk result (the_state core.new.tables core.new.plan ≡ opened (setting_by core.old.tables core.old.plan) (sketch_of (scope_by core.old.tables.basis) (sketches_in core.old.tables) stem) (the_state core.old.tables core.old.plan)) }
-    ensures right { OnOk result (IsRight core.new.tables core.new.plan) }
+    ensures state { OnOk result (the_state core.new.tables core.new.plan ≡ with_opening (setting_by core.old.tables core.old.plan) (sketch_of (scope_by core.old.tables.basis) (sketches_in core.old.tables) stem) (the_state core.old.tables core.old.plan)) }
+    ensures right { OnOk result (IsRightState core.new.tables core.new.plan) }
     ensures tables { OnOk result (core.new.tables ≡ record core.old.tables { stems = core.new.tables.stems; open_holes = core.new.tables.open_holes; holes = core.new.tables.holes; roots = core.new.tables.roots }) }
     ensures rule { OnOk result (core.new.plan.rule ≡ core.old.plan.rule) }
 {
@@ -46,10 +46,10 @@ pub fn open_stem<W: Weigher<Waiting>>(core: &mut Core<W>, stem: Stem) -> Result<
 
 /// For a function type one hole under its binders is opened, where none of its partial terms is parked.
 fn prepare_function<W: Weigher<Waiting>>(core: &mut Core<W>, ty: &Ty) -> Result<(), AllocError>
-    requires right { IsRight core.old.tables core.old.plan }
+    requires right { IsRightState core.old.tables core.old.plan }
     requires function { (a : SimpleType) × ((b : SimpleType) × (the_type ty.now ≡ arrow a b)) }
-    ensures state { OnOk result (the_state core.new.tables core.new.plan ≡ prepared (setting_by core.old.tables core.old.plan) (the_type ty.now) (the_state core.old.tables core.old.plan)) }
-    ensures right { OnOk result (IsRight core.new.tables core.new.plan) }
+    ensures state { OnOk result (the_state core.new.tables core.new.plan ≡ with_preparation (setting_by core.old.tables core.old.plan) (the_type ty.now) (the_state core.old.tables core.old.plan)) }
+    ensures right { OnOk result (IsRightState core.new.tables core.new.plan) }
     ensures tables { OnOk result (core.new.tables ≡ record core.old.tables { stems = core.new.tables.stems; open_holes = core.new.tables.open_holes; holes = core.new.tables.holes; roots = core.new.tables.roots }) }
     ensures rule { OnOk result (core.new.plan.rule ≡ core.old.plan.rule) }
 {
@@ -65,10 +65,10 @@ fn prepare_function<W: Weigher<Waiting>>(core: &mut Core<W>, ty: &Ty) -> Result<
 /// A type is prepared: a base type gets its first terms, where it has none, and for a function type one hole under its binders is
 /// opened, where none of its partial terms is parked.
 pub fn prepare<W: Weigher<Waiting>>(core: &mut Core<W>, ty: &Ty) -> Result<(), AllocError>
-    requires right { IsRight core.old.tables core.old.plan }
+    requires right { IsRightState core.old.tables core.old.plan }
     requires declared { is_declared (length core.old.tables.basis.bank.bases) (the_type ty.now) ≡ true }
-    ensures state { OnOk result (the_state core.new.tables core.new.plan ≡ prepared (setting_by core.old.tables core.old.plan) (the_type ty.now) (the_state core.old.tables core.old.plan)) }
-    ensures right { OnOk result (IsRight core.new.tables core.new.plan) }
+    ensures state { OnOk result (the_state core.new.tables core.new.plan ≡ with_preparation (setting_by core.old.tables core.old.plan) (the_type ty.now) (the_state core.old.tables core.old.plan)) }
+    ensures right { OnOk result (IsRightState core.new.tables core.new.plan) }
     ensures basis { OnOk result (BasisGrows core.old.tables.basis core.new.tables.basis) }
     ensures tables { OnOk result (core.new.tables ≡ record core.old.tables { basis = core.new.tables.basis; terms = core.new.tables.terms; stems = core.new.tables.stems; open_holes = core.new.tables.open_holes; holes = core.new.tables.holes; roots = core.new.tables.roots }) }
     ensures rule { OnOk result (core.new.plan.rule ≡ core.old.plan.rule) }

@@ -11,7 +11,7 @@ ghost use Rattle.prover_state.specs.declared.command.Planned.{Planned};
 ghost use Rattle.prover_state.specs.declared.command.Delays.{Delays};
 ghost use Rattle.prover_state.specs.Internal.Heads.{sketch_of, IsStem};
 ghost use Rattle.prover_state.specs.Internal.Holes.{holes_in, leftmost};
-ghost use Rattle.prover_state.specs.Internal.Standing.{scope_by, sketches_in, the_state, IsRight};
+ghost use Rattle.prover_state.specs.Internal.Standing.{scope_by, sketches_in, the_state, IsRightState};
 
 use crate::taking::taken_type;
 use command_queue::Weigher;
@@ -20,7 +20,7 @@ use std::alloc::AllocError;
 
 /// Appends the holes of a partial term.
 fn push_holes(tables: &mut Tables, stem: &Stem) -> Result<(), AllocError>
-    requires right { (q : Queue Planned Delays) × IsRight tables.old q }
+    requires right { (q : Queue Planned Delays) × IsRightState tables.old q }
     requires stem { IsStem (scope_by tables.old.basis) (sketches_in tables.old) stem.now }
     ensures holes { OnOk result (tables.new.open_holes ≡ tables.old.open_holes ++ holes_in [] (sketch_of (scope_by tables.old.basis) (sketches_in tables.old) stem.now).partial ∷ []) }
     ensures tables { tables.new ≡ record tables.old { open_holes = tables.new.open_holes } }
@@ -74,10 +74,10 @@ fn list_hole(tables: &mut Tables, p: usize) -> Result<(), AllocError>
 
 /// Parks a partial term: it is the last one.
 pub(crate) fn park<W: Weigher<Waiting>>(core: &mut Core<W>, stem: Stem) -> Result<(), AllocError>
-    requires right { IsRight core.old.tables core.old.plan }
+    requires right { IsRightState core.old.tables core.old.plan }
     requires stem { IsStem (scope_by core.old.tables.basis) (sketches_in core.old.tables) stem }
     ensures state { OnOk result (let s = the_state core.old.tables core.old.plan in the_state core.new.tables core.new.plan ≡ record s { parked = s.parked ++ sketch_of (scope_by core.old.tables.basis) (sketches_in core.old.tables) stem ∷ [] }) }
-    ensures right { OnOk result (IsRight core.new.tables core.new.plan) }
+    ensures right { OnOk result (IsRightState core.new.tables core.new.plan) }
     ensures sketches { OnOk result (sketches_in core.new.tables ≡ sketches_in core.old.tables ++ sketch_of (scope_by core.old.tables.basis) (sketches_in core.old.tables) stem ∷ []) }
     ensures tables { OnOk result (core.new.tables ≡ record core.old.tables { stems = core.new.tables.stems; open_holes = core.new.tables.open_holes; holes = core.new.tables.holes; roots = core.new.tables.roots }) }
     ensures plan { core.new.plan ≡ core.old.plan }

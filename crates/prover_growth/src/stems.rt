@@ -3,12 +3,12 @@ ghost use Rattle.std.specs.Prelude.{◌≡◌, ◌<◌, Some, length, slice_get,
 ghost use Rattle.stt_core.specs.View.{the_type};
 ghost use Rattle.command_queue.specs.Queue.{Queue};
 ghost use Rattle.instantiate.specs.Growing.{TakesHead};
-ghost use Rattle.search_spec.specs.Commands.{grown_by};
+ghost use Rattle.search_spec.specs.Commands.{growth_by};
 ghost use Rattle.prover_state.specs.declared.command.Planned.{Planned};
 ghost use Rattle.prover_state.specs.declared.command.Delays.{Delays};
 ghost use Rattle.prover_state.specs.Internal.Heads.{the_hole_head};
 ghost use Rattle.prover_state.specs.Internal.Names.{sketch_at};
-ghost use Rattle.prover_state.specs.Internal.Standing.{scope_by, sketches_in, IsRight};
+ghost use Rattle.prover_state.specs.Internal.Standing.{scope_by, sketches_in, IsRightState};
 
 use crate::taking::taken_type;
 use instantiate::Partial;
@@ -26,7 +26,7 @@ fn stem_at(stems: &[Stem], p: usize) -> &Stem
 
 /// The type of a partial term.
 pub(crate) fn root_of(tables: &Tables, p: usize) -> &Ty
-    requires right { (q : Queue Planned Delays) × IsRight tables.now q }
+    requires right { (q : Queue Planned Delays) × IsRightState tables.now q }
     requires number { p < length (sketches_in tables.now) }
     ensures { the_type result.now ≡ (sketch_at (sketches_in tables.now) p).type }
 {
@@ -43,11 +43,11 @@ fn grown_from(
     parent: usize,
     head: HoleHead,
 ) -> Result<Partial, AllocError>
-    requires right { (q : Queue Planned Delays) × IsRight tables.now q }
+    requires right { (q : Queue Planned Delays) × IsRightState tables.now q }
     requires number { parent < length (sketches_in tables.now) }
     requires takes { TakesHead (scope_by tables.now.basis) (sketch_at (sketches_in tables.now) parent).partial (the_hole_head head) }
     requires before { before ≡ (sketch_at (sketches_in tables.now) parent).partial }
-    ensures { IfOk result (λ partial. partial ≡ (grown_by (scope_by tables.now.basis) (the_hole_head head) (sketch_at (sketches_in tables.now) parent)).partial) }
+    ensures { IfOk result (λ partial. partial ≡ (growth_by (scope_by tables.now.basis) (the_hole_head head) (sketch_at (sketches_in tables.now) parent)).partial) }
 {
     let ty = taken_type(tables, parent, head)?;
     Ok(before.with_head(tables.alloc, &head_of(head), &ty)?)
@@ -55,7 +55,7 @@ fn grown_from(
 
 /// The partial term of a number.
 pub(crate) fn partial_of(tables: &Tables, p: usize) -> Result<Partial, AllocError>
-    requires right { (q : Queue Planned Delays) × IsRight tables.now q }
+    requires right { (q : Queue Planned Delays) × IsRightState tables.now q }
     requires number { p < length (sketches_in tables.now) }
     ensures { IfOk result (λ partial. partial ≡ (sketch_at (sketches_in tables.now) p).partial) }
 {

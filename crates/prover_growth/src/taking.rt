@@ -9,7 +9,7 @@ ghost use Rattle.prover_state.specs.declared.command.Delays.{Delays};
 ghost use Rattle.prover_state.specs.Internal.Heads.{the_hole_head};
 ghost use Rattle.prover_state.specs.Internal.Holes.{after_head};
 ghost use Rattle.prover_state.specs.Internal.Names.{sketch_at};
-ghost use Rattle.prover_state.specs.Internal.Standing.{scope_by, sketches_in, IsRight};
+ghost use Rattle.prover_state.specs.Internal.Standing.{scope_by, sketches_in, IsRightState};
 
 use prover_state::{HoleHead, Tables};
 use std::alloc::AllocError;
@@ -17,7 +17,7 @@ use stt_core::Ty;
 
 /// The type of a head at the first hole of a partial term.
 pub(crate) fn taken_type(tables: &Tables, p: usize, head: HoleHead) -> Result<Ty, AllocError>
-    requires right { (q : Queue Planned Delays) × IsRight tables.now q }
+    requires right { (q : Queue Planned Delays) × IsRightState tables.now q }
     requires number { p < length (sketches_in tables.now) }
     requires takes { TakesHead (scope_by tables.now.basis) (sketch_at (sketches_in tables.now) p).partial (the_hole_head head) }
     ensures { IfOk result (λ ty. (takes : TakesHead (scope_by tables.now.basis) (sketch_at (sketches_in tables.now) p).partial (the_hole_head head)) → the_type ty ≡ takes.type) }

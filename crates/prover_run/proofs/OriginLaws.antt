@@ -12,7 +12,7 @@ use Rattle.tableau_calculus.specs.declared.refutation.Line.{Line}
 use Rattle.tableau_calculus.proofs.ListLaws.{contains-first, contains-later, contains_cases, contains-get}
 use Rattle.sat_base.specs.declared.literal.Var.{Var}
 use Rattle.sat_base.specs.declared.literal.SatLit.{SatLit}
-use Rattle.sat_base.specs.Literal.{positive, negated, same_var, holds, mentions}
+use Rattle.sat_base.specs.Literal.{positive, negated, same_var, holds, mentions_variable}
 use Rattle.sat_base.specs.Truth.{clause_value, AllTrue, Implies}
 use Rattle.sat_base.proofs.LiteralLaws.{same_var-true, negated-negated}
 use Rattle.sat_base.proofs.TruthLaws.{implied_true}
@@ -41,10 +41,10 @@ unnegated : (atoms : List Lambda) (c : List SatLit) → map opposite (literals_o
 unnegated atoms [] = refl
 unnegated atoms (l ∷ c) = λ i. literal_at atoms (negated-negated l i) ∷ unnegated atoms c i
 
-mentioned-in : (c : List SatLit) (v : Var) → mentions c v ≡ true → (l : SatLit) × Contains c l × (v ≡ l.var)
+mentioned-in : (c : List SatLit) (v : Var) → mentions_variable c v ≡ true → (l : SatLit) × Contains c l × (v ≡ l.var)
 mentioned-in [] v h = cc
 mentioned-in (l ∷ c) v h =
-    elim (or_cases (same_var v l.var) (mentions c v) h) [
+    elim (or_cases (same_var v l.var) (mentions_variable c v) h) [
       | inl e ↦ (l, contains-first l c, same_var-true v l.var e)
       | inr later ↦ (let m = mentioned-in c v later in (m.0, contains-later m.0 l c m.1, m.2))
     ]

@@ -20,7 +20,7 @@ use Rattle.sat_log.specs.Chains.{results, IsLogOver}
 use Rattle.sat_core.specs.Solver.{SolverState, learned, OccurIn, WereLearned, IsSound}
 use Rattle.term_bank.specs.Content.{content_scope}
 use Rattle.search_spec.specs.Each.{Each}
-use Rattle.literal_map.specs.Atoms.{literal_at}
+use Rattle.literal_map.specs.Atoms.{bank_literal}
 use Rattle.literal_map.specs.declared.instance.Instance.{Instance}
 use Rattle.rebuild_spec.specs.Input.{literals_of, clause_in}
 use Rattle.rebuild_spec.specs.Rebuilt.{IsRebuilt}
@@ -29,20 +29,20 @@ use Rattle.rebuild_spec.specs.Used.{AreFew}
 use Rattle.search_spec.specs.Numbered as by_atoms
 use Rattle.search_spec.specs.Numbered.{AreApart}
 use Rattle.search_spec.specs.Unsatisfiable.{Clause}
-use Rattle.tableau_clauses.specs.Table.{Step, Table, the_clauses, ComesFrom, EachComes}
+use Rattle.tableau_clauses.specs.Table.{Step, Table, the_clauses, ComesFromOrigin, EachComes}
 use Rattle.tableau_clauses.specs.declared.origin.Origin.{Origin}
 use Rattle.tableau_clauses.specs.declared.origin.Origin.TheVariants.{Start, Instance as From}
 use Rattle.tableau_rules.specs.Uses.{principals_of}
 use Rattle.tableau_rules.proofs.MadeLaws.{principals_within}
-use Rattle.tableau_rebuild.specs.Tables.{no_literal, the_atoms, sourced, the_sources, the_input, start_literals_in, unit_literals}
+use Rattle.tableau_rebuild.specs.Tables.{no_literal, atoms_at, sourced, the_sources, the_input, start_literals_in, unit_literals}
 use Rattle.tableau_rebuild.specs.Conditions.{IsInstanceOver, EndsEmpty}
 use Rattle.prover_state.specs.declared.tables.Basis.{Basis}
-use Rattle.prover_state.specs.Internal.Names.{IsNumber}
+use Rattle.prover_state.specs.Internal.Names.{IsNumberIn}
 use Rattle.prover_state.specs.Internal.Standing.{rows_in, IsBasis}
-use Rattle.prover_state.specs.Internal.Steps.{IsMade}
+use Rattle.prover_state.specs.Internal.Steps.{IsMadeInstance}
 use Rattle.prover_state.proofs.EachLaws.{each-weaker, each-unmapped, map-same, All-from_each}
 use Rattle.prover_state.proofs.NumberLaws.{literal_named}
-use Rattle.prover_search.specs.Internal.Running.{unit_in, units}
+use Rattle.prover_search.specs.Internal.Running.{unit_of_origin, units}
 use Rattle.prover_run.specs.Origin.{ComesFrom as ComesFromClauses, EachComesFrom, AreRefutedShortly}
 use Rattle.prover_run.proofs.OriginLaws.{comes-from}
 use Rattle.prover_run.proofs.PrincipalLaws.{principals-at}
@@ -52,11 +52,11 @@ some_for P None h = tt
 some_for P (Some x) h = h x refl
 
 -- the clause of a source is the clause that comes from there
-clause_sourced : (terms : List Lambda) (atoms : List ℕ) (t : Table) (clause : List SatLit) (o : Origin) → ComesFrom t.1 clause o → clause_in (sourced terms atoms t.1 clause o) ≡ clause
+clause_sourced : (terms : List Lambda) (atoms : List ℕ) (t : Table) (clause : List SatLit) (o : Origin) → ComesFromOrigin t.1 clause o → clause_in (sourced terms atoms t.1 clause o) ≡ clause
 clause_sourced terms atoms t clause Start h = ap (λ c. get_or c 0 no_literal ∷ []) h.1 ∙ sym h.1
 clause_sourced terms atoms t clause (From k) h = refl
 
-sourced-each : (terms : List Lambda) (atoms : List ℕ) (t : Table) (steps : List Step) → ((n : ℕ) (s : Step) → slice_get steps n ≡ Some s → ComesFrom t.1 s.0 s.1)
+sourced-each : (terms : List Lambda) (atoms : List ℕ) (t : Table) (steps : List Step) → ((n : ℕ) (s : Step) → slice_get steps n ≡ Some s → ComesFromOrigin t.1 s.0 s.1)
     → map clause_in (map (λ (s : Step). sourced terms atoms t.1 s.0 s.1) steps) ≡ map (λ (s : Step). s.0) steps
 sourced-each terms atoms t [] h = refl
 sourced-each terms atoms t (s ∷ steps) h =
@@ -70,28 +70,28 @@ sources-clauses terms atoms t comes = sourced-each terms atoms t t.0 comes
 
 module _ (g : Basis) (good : IsBasis g) where
   abbrev named : List Lambda
-  named = the_atoms g.bank.terms g.lits
+  named = atoms_at g.bank.terms g.lits
 
   abbrev by_number : SatLit → Literal
-  by_number = literal_at g.bank.terms g.lits
+  by_number = bank_literal g.bank.terms g.lits
 
   -- numbered literals are those of the list of atoms
-  pub literals-named : (ls : List SatLit) → Each (IsNumber g.lits) ls → map by_number ls ≡ literals_of named ls
-  literals-named ls h = sym (map-same (by_atoms.literal_at named) by_number (IsNumber g.lits) (literal_named g.bank g.lits good.atoms) ls h)
+  pub literals-named : (ls : List SatLit) → Each (IsNumberIn g.lits) ls → map by_number ls ≡ literals_of named ls
+  literals-named ls h = sym (map-same (by_atoms.literal_at named) by_number (IsNumberIn g.lits) (literal_named g.bank g.lits good.atoms) ls h)
 
-  pub lists-named : (lists : List (List SatLit)) → Each (Each (IsNumber g.lits)) lists → map (map by_number) lists ≡ map (literals_of named) lists
-  lists-named lists h = map-same (map by_number) (literals_of named) (Each (IsNumber g.lits)) literals-named lists h
+  pub lists-named : (lists : List (List SatLit)) → Each (Each (IsNumberIn g.lits)) lists → map (map by_number) lists ≡ map (literals_of named) lists
+  lists-named lists h = map-same (map by_number) (literals_of named) (Each (IsNumberIn g.lits)) literals-named lists h
 
-  over : (ls : List SatLit) → Each (IsNumber g.lits) ls → IsOver (length g.lits) ls
-  over ls h = All-from_each (IsNumber g.lits) ls h
+  over : (ls : List SatLit) → Each (IsNumberIn g.lits) ls → IsOver (length g.lits) ls
+  over ls h = All-from_each (IsNumberIn g.lits) ls h
 
   -- the witnesses of the bank are those of the rows
   scope_rows : with_rows (content_scope g.bank) (rows_in g) ≡ content_scope g.bank
   scope_rows = λ i. record { bases = length g.bank.bases; names = map (λ c. c.type) g.bank.consts; witnesses = good.typed i }
 
-  module _ (i : Instance) (m : IsMade g i) where
-    abbrev principals_number : Each (IsNumber g.lits) i.principals
-    principals_number = subst (Each (IsNumber g.lits)) (sym m.principals) (principals_within (length g.lits) i.by m.first m.second)
+  module _ (i : Instance) (m : IsMadeInstance g i) where
+    abbrev principals_number : Each (IsNumberIn g.lits) i.principals
+    principals_number = subst (Each (IsNumberIn g.lits)) (sym m.principals) (principals_within (length g.lits) i.by m.first m.second)
 
     principals_are : m.fits.is_instance.principals ≡ literals_of named i.principals
     principals_are =
@@ -111,35 +111,35 @@ module _ (g : Basis) (good : IsBasis g) where
     made-over = record {
       rule = m.fits.rule;
       is_rule = m.fits.is_rule;
-      first = some_for (IsNumber g.lits) i.by.first m.first;
+      first = some_for (IsNumberIn g.lits) i.by.first m.first;
       term = some_for (λ u. u < length g.bank.terms) i.by.term m.term;
       principals = over i.principals principals_number;
-      alternatives = All-from_each (IsOver (length g.lits)) i.alternatives (each-weaker (Each (IsNumber g.lits)) (IsOver (length g.lits)) over i.alternatives m.numbers);
+      alternatives = All-from_each (IsOver (length g.lits)) i.alternatives (each-weaker (Each (IsNumberIn g.lits)) (IsOver (length g.lits)) over i.alternatives m.numbers);
       fits = rule_fits;
     }
 
-  pub instances-over : (is : List Instance) → Each (IsMade g) is → All (IsInstanceOver g.bank g.lits (rows_in g)) is
-  instances-over is h = All-from_each (IsInstanceOver g.bank g.lits (rows_in g)) is (each-weaker (IsMade g) (IsInstanceOver g.bank g.lits (rows_in g)) made-over is h)
+  pub instances-over : (is : List Instance) → Each (IsMadeInstance g) is → All (IsInstanceOver g.bank g.lits (rows_in g)) is
+  instances-over is h = All-from_each (IsInstanceOver g.bank g.lits (rows_in g)) is (each-weaker (IsMadeInstance g) (IsInstanceOver g.bank g.lits (rows_in g)) made-over is h)
 
-  units_each : (steps : List Step) → Each (λ (s : Step). Each (IsNumber g.lits) s.0) steps → Each (λ (s : Step). s.1 ≡ Start → IsOver (length g.lits) s.0) steps
-  units_each steps h = each-weaker (λ (s : Step). Each (IsNumber g.lits) s.0) (λ (s : Step). s.1 ≡ Start → IsOver (length g.lits) s.0) (λ s k _. over s.0 k) steps h
+  units_each : (steps : List Step) → Each (λ (s : Step). Each (IsNumberIn g.lits) s.0) steps → Each (λ (s : Step). s.1 ≡ Start → IsOver (length g.lits) s.0) steps
+  units_each steps h = each-weaker (λ (s : Step). Each (IsNumberIn g.lits) s.0) (λ (s : Step). s.1 ≡ Start → IsOver (length g.lits) s.0) (λ s k _. over s.0 k) steps h
 
-  pub units-numbered : (steps : List Step) → Each (Each (IsNumber g.lits)) (map (λ (s : Step). s.0) steps) → All (λ (s : Step). s.1 ≡ Start → IsOver (length g.lits) s.0) steps
-  units-numbered steps h = All-from_each (λ (s : Step). s.1 ≡ Start → IsOver (length g.lits) s.0) steps (units_each steps (each-unmapped (Each (IsNumber g.lits)) (λ (s : Step). s.0) steps h))
+  pub units-numbered : (steps : List Step) → Each (Each (IsNumberIn g.lits)) (map (λ (s : Step). s.0) steps) → All (λ (s : Step). s.1 ≡ Start → IsOver (length g.lits) s.0) steps
+  units-numbered steps h = All-from_each (λ (s : Step). s.1 ≡ Start → IsOver (length g.lits) s.0) steps (units_each steps (each-unmapped (Each (IsNumberIn g.lits)) (λ (s : Step). s.0) steps h))
 
-  unit_named : (clause : List SatLit) (o : Origin) → Each (IsNumber g.lits) clause → map by_number (unit_in clause o) ≡ start_literals_in named clause o
+  unit_named : (clause : List SatLit) (o : Origin) → Each (IsNumberIn g.lits) clause → map by_number (unit_of_origin clause o) ≡ start_literals_in named clause o
   unit_named clause Start h = literals-named clause h
   unit_named clause (From k) h = refl
 
   -- the start units are the same literals
-  pub units-named : (steps : List Step) → Each (Each (IsNumber g.lits)) (map (λ (s : Step). s.0) steps) → map by_number (units steps) ≡ unit_literals named steps
+  pub units-named : (steps : List Step) → Each (Each (IsNumberIn g.lits)) (map (λ (s : Step). s.0) steps) → map by_number (units steps) ≡ unit_literals named steps
   units-named [] h = refl
   units-named (s ∷ steps) h =
-      map-append by_number (unit_in s.0 s.1) (units steps)
+      map-append by_number (unit_of_origin s.0 s.1) (units steps)
       ∙ ap (λ ls. ls ++ map by_number (units steps)) (unit_named s.0 s.1 h.0)
       ∙ ap (λ ls. start_literals_in named s.0 s.1 ++ ls) (units-named steps h.1)
 
-  module _ (t : Table) (numbers : Each (Each (IsNumber g.lits)) (the_clauses t)) where
+  module _ (t : Table) (numbers : Each (Each (IsNumberIn g.lits)) (the_clauses t)) where
     -- lines of what the tables give come from the clauses of formulas
     pub origin-named : (log : List LogEntry) (ls : List Literal) (lines : List Line) → EachComes t → ((l : Line) → Contains lines l → IsFromSearch ls (the_input g.bank g.lits t log g.witnesses) l)
         → EachComesFrom ls (map (map by_number) (the_clauses t)) lines

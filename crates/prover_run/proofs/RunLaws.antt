@@ -21,11 +21,11 @@ use Rattle.sat_log.specs.Chains.{results}
 use Rattle.sat_log.specs.Propagation.{AreFailingDecisions, ReachesFalse as NumbersReachFalse}
 use Rattle.sat_core.specs.Solver.{learned_from, learned, AreAmong, OccurIn, WereLearned, IsSound}
 use Rattle.tableau_clauses.specs.Table.{the_clauses}
-use Rattle.tableau_rebuild.specs.Tables.{the_atoms}
+use Rattle.tableau_rebuild.specs.Tables.{atoms_at}
 use Rattle.search_spec.specs.Shallow.{is_shallow_literal}
 use Rattle.search_spec.specs.Unsatisfiable.{Clause}
-use Rattle.search_spec.specs.State.{State, Setting, process, pushed}
-use Rattle.search_spec.specs.After.{nothing_yet, stepped, after}
+use Rattle.search_spec.specs.State.{State, Setting, process, with_commands}
+use Rattle.search_spec.specs.After.{nothing_yet, next_state, state_after}
 use Rattle.search_spec.specs.Result.{GoesOn, GoesOnUntil, IsExhausted, IsStopped}
 use Rattle.command_queue.specs.Queue.{Queue}
 use Rattle.mode_file.specs.declared.Mode.{Mode}
@@ -34,11 +34,11 @@ use Rattle.term_bank.specs.Laws.{EqualIdsForEqualTerms}
 use Rattle.prover_state.specs.declared.command.Planned.{Planned}
 use Rattle.prover_state.specs.declared.command.Delays.{Delays}
 use Rattle.prover_state.specs.declared.tables.Tables.{Tables}
-use Rattle.prover_state.specs.Internal.Standing.{declared_scope, setting_by, the_state, IsRight}
+use Rattle.prover_state.specs.Internal.Standing.{without_witnesses, setting_by, the_state, IsRightState}
 use Rattle.prover_state.proofs.NumberLaws.{apart, clauses_number}
 use Rattle.prover_search.specs.Internal.Running.{start_in, IsRunning}
 use Rattle.prover_search.specs.Internal.Progress.{Progress}
-use Rattle.prover_search.specs.Internal.Answers.{StepCloses, IsEmpty, IsAtLimit, StepSpends as IsSpentAt, GoesOn as GoesOnBy}
+use Rattle.prover_search.specs.Internal.Answers.{StepCloses, IsEmpty, IsAtLimit, StepSpends as IsSpentAt, StepGoesOn as GoesOnBy}
 use Rattle.prover_run.specs.declared.ended.Ended.{Ended}
 use Rattle.prover_run.specs.declared.ended.Ended.TheVariants.{Proved, GaveUp, CommandLimit, ConflictLimit}
 use Rattle.prover_run.specs.Ended.{setting_for, IsSpent, EndsAs}
@@ -65,23 +65,23 @@ module _ (t : Tables) (q : Queue Planned Delays) (r : IsRunning t q) (t2 : Table
   goes-on g = record { state = the_state t q; open_state = record { comes_to = r.comes_to; satisfiable = g.satisfiable }; some_left = g.some_left; below = g.below }
 
   -- no more clauses are learned than the mode has conflicts
-  budget_kept : IsRight t2 q2 → setting_by t2 q2 ≡ setting_by t q → length (learned t2.solver) ≤ q.rule.mode.conflicts
+  budget_kept : IsRightState t2 q2 → setting_by t2 q2 ≡ setting_by t q → length (learned t2.solver) ≤ q.rule.mode.conflicts
   budget_kept right same = subst (λ n. length (learned t2.solver) ≤ n) (ap (λ (s : Setting). s.mode.conflicts) same) right.budget
 
   -- the clauses are refuted within the conflicts of the mode
-  within_budget : StepCloses old new → IsRight t2 q2 → setting_by t2 q2 ≡ setting_by t q → All (Implies t2.solver.clauses) (results t2.solver.log) → AreRefutedWithin q.rule.mode.conflicts (the_state t q).clauses
+  within_budget : StepCloses old new → IsRightState t2 q2 → setting_by t2 q2 ≡ setting_by t q → All (Implies t2.solver.clauses) (results t2.solver.log) → AreRefutedWithin q.rule.mode.conflicts (the_state t q).clauses
   within_budget k right same implied =
       let C : List (List SatLit) → Type 0 = λ cs. All (Implies cs) (learned t2.solver) in
       let R : List (List SatLit) → Type 0 = λ cs. NumbersReachFalse (cs ++ learned t2.solver) [] in
       let A : List Clause → Type 0 = λ cs. AreRefutedWithin q.rule.mode.conflicts cs in
       subst A (sym (lists-named t2.basis right.basis (the_clauses t2.steps) right.clauses) ∙ ap (λ (s : State). s.clauses) k.stays.state)
       (
-      refuted-within (the_atoms t2.basis.bank.terms t2.basis.lits) q.rule.mode.conflicts (the_clauses t2.steps) (learned t2.solver) (budget_kept right same)
+      refuted-within (atoms_at t2.basis.bank.terms t2.basis.lits) q.rule.mode.conflicts (the_clauses t2.steps) (learned t2.solver) (budget_kept right same)
       (subst C right.solver (learned-among (Implies t2.solver.clauses) t2.solver.is_refuted (results t2.solver.log) implied))
       (subst R right.solver k.propagated)
       )
 
-  pub is-proved : (refutation : Refutation) → StepCloses old new → IsRight t2 q2 → setting_by t2 q2 ≡ setting_by t q → All (Implies t2.solver.clauses) (results t2.solver.log)
+  pub is-proved : (refutation : Refutation) → StepCloses old new → IsRightState t2 q2 → setting_by t2 q2 ≡ setting_by t q → All (Implies t2.solver.clauses) (results t2.solver.log)
       → RefutesFrom (setting_by t q).scope (start_in t) (the_state t q).clauses (learned t2.solver) refutation → GoesOnUntil (setting_by t q) (start_in t) t.done → IsProvedBy (setting_by t q) (start_in t) t2.done refutation
   is-proved refutation k right same implied refutes until =
       let P : ℕ → Type 0 = λ n. IsProvedBy (setting_by t q) (start_in t) n refutation in
@@ -107,7 +107,7 @@ module _ (t : Tables) (q : Queue Planned Delays) (r : IsRunning t q) (t2 : Table
       subst P (sym k.stays.done) (record { until = until; state = the_state t q; open_state = record { comes_to = r.comes_to; satisfiable = k.satisfiable }; some_left = k.some_left; at_limit = k.at_limit })
 
   -- the conflicts are spent over the clauses that the new tables have
-  pub is-spent : (conflicts : ℕ) → IsSpentAt old new conflicts → IsRight t2 q2 → EqualIdsForEqualTerms t2.basis.bank
+  pub is-spent : (conflicts : ℕ) → IsSpentAt old new conflicts → IsRightState t2 q2 → EqualIdsForEqualTerms t2.basis.bank
       → ((v w id : ℕ) → slice_get t2.basis.lits v ≡ Some id → slice_get t2.basis.lits w ≡ Some id → v ≡ w) → IsSound t2.solver → All (Implies t2.solver.clauses) (results t2.solver.log)
       → GoesOnUntil (setting_by t q) (start_in t) t.done → IsSpent (setting_by t q) (start_in t) conflicts
   is-spent conflicts k right equal differ sound implied until =
@@ -123,7 +123,7 @@ module _ (t : Tables) (q : Queue Planned Delays) (r : IsRunning t q) (t2 : Table
         state = the_state t q;
         comes_to = r.comes_to;
         spent = record {
-          atoms = the_atoms t2.basis.bank.terms t2.basis.lits;
+          atoms = atoms_at t2.basis.bank.terms t2.basis.lits;
           apart = apart t2.basis.bank t2.basis.lits right.basis.atoms equal differ;
           numbered = the_clauses t2.steps;
           numbers = clauses_number t2.basis.bank t2.basis.lits right.basis.atoms equal differ (the_clauses t2.steps) right.clauses;
@@ -164,9 +164,9 @@ filter_again test (x ∷ xs) = go (test x) refl (filter_again test xs)
     go false e rest = rest
 
 -- literals that are too deep don't count
-after_shallow : (setting : Setting) (ls : List Literal) (n : ℕ) → after setting (filter is_shallow_literal ls) n ≡ after setting ls n
-after_shallow setting ls zero = ap (λ ks. Some (pushed setting.mode (map process ks) (record nothing_yet { clauses = map (λ l. l ∷ []) ks; seen = ks }))) (filter_again is_shallow_literal ls)
-after_shallow setting ls (suc n) = ap (stepped setting) (after_shallow setting ls n)
+after_shallow : (setting : Setting) (ls : List Literal) (n : ℕ) → state_after setting (filter is_shallow_literal ls) n ≡ state_after setting ls n
+after_shallow setting ls zero = ap (λ ks. Some (with_commands setting.mode (map process ks) (record nothing_yet { clauses = map (λ l. l ∷ []) ks; seen = ks }))) (filter_again is_shallow_literal ls)
+after_shallow setting ls (suc n) = ap (next_state setting) (after_shallow setting ls n)
 
 module _ (setting : Setting) (ls : List Literal) where
   abbrev few : List Literal
@@ -269,12 +269,12 @@ module _ (p : PlainProblem) (m : Mode) (setting : Setting) (ls : List Literal) (
 
 -- A REFUTATION OVER THE BANK
 
-table_declared : (b : Content) (earlier rows : List Row) → IsTableAfter (content_scope b) earlier rows → IsTableAfter (declared_scope b) earlier rows
+table_declared : (b : Content) (earlier rows : List Row) → IsTableAfter (content_scope b) earlier rows → IsTableAfter (without_witnesses b) earlier rows
 table_declared b earlier [] h = tt
 table_declared b earlier (r ∷ rows) h = (h.0, h.1, table_declared b (earlier ++ r ∷ []) rows h.2)
 
 -- what is accepted over a bank is accepted over what it declares, its witnesses apart
-pub accepted-declared : (b : Content) (ls ks : List Literal) (refutation : Refutation) → ks ≡ ls → IsAccepted (content_scope b) ks refutation → IsAccepted (declared_scope b) ls refutation
+pub accepted-declared : (b : Content) (ls ks : List Literal) (refutation : Refutation) → ks ≡ ls → IsAccepted (content_scope b) ks refutation → IsAccepted (without_witnesses b) ls refutation
 accepted-declared b ls ks refutation same a =
     let L : List Literal → Type 0 = λ xs. EndsWithin xs refutation.lines in
     record { table = table_declared b [] refutation.witnesses a.table; lines = a.lines; last = subst L same a.last }

@@ -18,7 +18,7 @@ use Rattle.search_spec.specs.Each.{Each}
 use Rattle.search_spec.specs.Numbered.{literal_at, IsNumber, AreApart}
 use Rattle.search_spec.specs.Unsatisfiable.{Clause}
 use Rattle.search_spec.specs.State.{State, Setting}
-use Rattle.search_spec.specs.After.{after}
+use Rattle.search_spec.specs.After.{state_after}
 use Rattle.search_spec.specs.Result.{GoesOnUntil, IsProved, IsExhausted, IsStopped}
 use Rattle.rebuild_spec.specs.Trimmed.{IsEachReached}
 use Rattle.refute_print.specs.Sizes.{IsSmall}
@@ -76,7 +76,7 @@ pub record IsSpent (setting : Setting) (literals : List Literal) (conflicts : �
   pub commands : ℕ
   pub until : GoesOnUntil setting literals commands
   pub state : State
-  pub comes_to : after setting literals commands ≡ Some state
+  pub comes_to : state_after setting literals commands ≡ Some state
   pub spent : AreSpent state.clauses conflicts
 
 -- the atoms of the clauses are in the list
@@ -91,7 +91,7 @@ pub record AreEnough (conflicts : ℕ) (clauses : List Clause) : Type 0 where
 
 -- the mode has enough conflicts for the clauses of each state of the run
 abbrev pub HasEnoughConflicts : Setting → List Literal → Type 0
-HasEnoughConflicts setting literals = (n : ℕ) (state : State) → after setting literals n ≡ Some state → AreEnough setting.mode.conflicts state.clauses
+HasEnoughConflicts setting literals = (n : ℕ) (state : State) → state_after setting literals n ≡ Some state → AreEnough setting.mode.conflicts state.clauses
 
 -- how the run over the problem by the mode ends
 abbrev pub EndsAs : PlainProblem → Mode → Ended → Type 0

@@ -5,10 +5,10 @@ ghost use Rattle.sat_log.specs.Chains.{results};
 ghost use Rattle.sat_core.specs.Solver.{learned};
 ghost use Rattle.search_spec.specs.Result.{GoesOnUntil};
 ghost use Rattle.prover_state.specs.Delays.{delay_by};
-ghost use Rattle.prover_state.specs.Internal.Standing.{declared_scope, setting_by};
+ghost use Rattle.prover_state.specs.Internal.Standing.{without_witnesses, setting_by};
 ghost use Rattle.prover_search.specs.Internal.Running.{start_in, IsUnderWay};
 ghost use Rattle.prover_run.specs.Ended.{EndsAs};
-ghost use Rattle.prover_run.specs.Internal.Ends.{AreRight, clauses_of, RefutesFrom, EndsFrom, GoesOnTo};
+ghost use Rattle.prover_run.specs.Internal.Ends.{AreRightTables, clauses_of, RefutesFrom, EndsFrom, GoesOnTo};
 
 use crate::delays::delay;
 use crate::ended::Ended;
@@ -24,9 +24,9 @@ use term_bank::equal_ids_for_equal_terms;
 
 /// The refutation from the log of a run whose clauses are unsatisfiable. There is no memory for one that is too large for a text.
 fn refutation_of(alloc: Global, tables: &Tables) -> Result<Refutation, AllocError>
-    requires right { AreRight tables.now }
+    requires right { AreRightTables tables.now }
     requires ends { results tables.now.solver.log ≡ learned tables.now.solver ++ [] ∷ [] }
-    ensures { IfOk result (RefutesFrom (declared_scope tables.now.basis.bank) (start_in tables.now) (clauses_of tables.now) (learned tables.now.solver)) }
+    ensures { IfOk result (RefutesFrom (without_witnesses tables.now.basis.bank) (start_in tables.now) (clauses_of tables.now) (learned tables.now.solver)) }
 {
     tables.steps.clauses_come_from_origins();
     equal_ids_for_equal_terms(&tables.basis.bank);

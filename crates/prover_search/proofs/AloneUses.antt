@@ -18,28 +18,28 @@ use Rattle.search_spec.specs.Alternatives.{Alternatives, imp_pos, imp_neg, bool_
 use Rattle.search_spec.proofs.SpineLaws.{spine_is, same_head_is, applied_whole}
 use Rattle.search_spec.proofs.TypedPartners.{head_function}
 use Rattle.search_spec.proofs.TypedProcessing.{spines_differ, other_arguments}
-use Rattle.literal_map.specs.Atoms.{literal_at}
+use Rattle.literal_map.specs.Atoms.{bank_literal}
 use Rattle.literal_map.specs.declared.instance.RuleKind.{RuleKind}
 use Rattle.literal_map.specs.declared.instance.RuleKind.TheVariants as kind
 use Rattle.tableau_rules.specs.Uses.{IsInstanceBy}
 use Rattle.prover_state.specs.declared.tables.Basis.{Basis}
-use Rattle.prover_state.specs.Internal.Names.{IsNumber}
-use Rattle.prover_state.specs.Internal.Standing.{declared_scope, rows_in, scope_by, IsBasis}
-use Rattle.prover_search.specs.Internal.Working.{alone}
+use Rattle.prover_state.specs.Internal.Names.{IsNumberIn}
+use Rattle.prover_state.specs.Internal.Standing.{without_witnesses, rows_in, scope_by, IsBasis}
+use Rattle.prover_search.specs.Internal.Working.{lone_use}
 use Rattle.prover_search.proofs.RuleUses.{scope-is, typed_here}
 
 -- the atom of a number is a closed formula
-pub atom-canonical : (g : Basis) → IsBasis g → (lit : SatLit) → IsNumber g.lits lit → IsCanonical (scope_by g) [] formula (literal_at g.bank.terms g.lits lit).atom
+pub atom-canonical : (g : Basis) → IsBasis g → (lit : SatLit) → IsNumberIn g.lits lit → IsCanonical (scope_by g) [] formula (bank_literal g.bank.terms g.lits lit).atom
 atom-canonical g good lit number =
-    let P : Scope → Type 0 = λ s. IsCanonical s [] formula (literal_at g.bank.terms g.lits lit).atom in
+    let P : Scope → Type 0 = λ s. IsCanonical s [] formula (bank_literal g.bank.terms g.lits lit).atom in
     subst P (sym (scope-is g good)) (good.atoms lit.var.0 0 number).is_formula
 
 module _ (g : Basis) (lit : SatLit) where
   abbrev l_at : Literal
-  l_at = literal_at g.bank.terms g.lits lit
+  l_at = bank_literal g.bank.terms g.lits lit
 
   abbrev pub Takes : RuleKind → Alternatives → Type 0
-  Takes rule as' = IsInstanceBy g.bank g.lits (rows_in g) (alone rule lit) as'
+  Takes rule as' = IsInstanceBy g.bank g.lits (rows_in g) (lone_use rule lit) as'
 
   pub false-takes : l_at ≡ plus (constant falsity) → Takes kind.False []
   false-takes e = record { rule = False 0; is_rule = refl; is_instance = record { principals = plus (constant falsity) ∷ []; at_places = (ap Some e, tt); fits = false_rule 0 } }
@@ -66,11 +66,11 @@ module _ (g : Basis) (lit : SatLit) where
   fun_neg-takes a b s t e = record { rule = FunNeg 0; is_rule = refl; is_instance = record { principals = minus (eq (arrow a b) s t) ∷ []; at_places = (ap Some e, tt); fits = fun_neg_rule 0 a b s t } }
 
   -- the sides of a negated equation, which have one compared head
-  module _ (good : IsBasis g) (number : IsNumber g.lits lit) (over : IsScope (scope_by g)) where
+  module _ (good : IsBasis g) (number : IsNumberIn g.lits lit) (over : IsScope (scope_by g)) where
     pub dec-takes : (n : ℕ) (s t : Lambda) → l_at ≡ minus (eq (base (suc n)) s t) → (is_spine s && same_head s t) ≡ true → Takes kind.Dec (differ (type_of (scope_by g) [] (head_of s)) (arguments s) (arguments t))
     dec-takes n s t e h =
         let b : SimpleType = base (suc n) in
-        let setting : Setting = record { scope = declared_scope g.bank; mode = standard } in
+        let setting : Setting = record { scope = without_witnesses g.bank; mode = standard } in
         let C : Lambda → Type 0 = λ u. IsCanonical (scope_by g) [] formula u in
         let P : Lambda → Type 0 = λ u. IsCanonical (scope_by g) [] b u in
         let p = and_parts (is_spine s) (same_head s t) h in

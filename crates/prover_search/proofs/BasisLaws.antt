@@ -7,7 +7,7 @@ use Rattle.tableau_calculus.specs.Witnesses.{Row}
 use Rattle.sat_base.specs.declared.literal.SatLit.{SatLit}
 use Rattle.search_spec.specs.Clauses.{same_clause, with_clauses}
 use Rattle.search_spec.specs.Numbered.{numbers}
-use Rattle.bank_normal.specs.Right.{IsRight}
+use Rattle.bank_normal.specs.Right.{IsRightNormaliser}
 use Rattle.literal_map.specs.Atoms.{IsAtom}
 use Rattle.witness_names.specs.Rows.{rows_of, AreRows}
 use Rattle.witness_names.proofs.StayLaws.{rows_same, rows_grown}
@@ -20,7 +20,7 @@ use Rattle.prover_state.proofs.EachLaws.{All-from_each}
 use Rattle.prover_search.specs.Internal.Starting.{AddsUnit}
 
 -- what is right stays so where terms and atoms come
-pub basis-grown : (g h : Basis) → BasisGrows g h → IsBasis g → All (IsAtom h.bank) h.lits → IsRight h.normal h.bank → IsBasis h
+pub basis-grown : (g h : Basis) → BasisGrows g h → IsBasis g → All (IsAtom h.bank) h.lits → IsRightNormaliser h.normal h.bank → IsBasis h
 basis-grown g h w good atoms memo =
     let R : List ℕ → Type 0 = λ ids. AreRows h.bank ids in
     record {
@@ -34,7 +34,7 @@ basis-grown g h w good atoms memo =
     }
 
 -- nothing is there
-pub basis-none : (g : Basis) → g.lits ≡ [] → g.witnesses ≡ [] → g.bank.witnesses ≡ [] → IsRight g.normal g.bank → IsBasis g
+pub basis-none : (g : Basis) → g.lits ≡ [] → g.witnesses ≡ [] → g.bank.witnesses ≡ [] → IsRightNormaliser g.normal g.bank → IsBasis g
 basis-none g lits witnesses types memo =
     let A : List ℕ → Type 0 = λ ids. All (IsAtom g.bank) ids in
     let R : List ℕ → Type 0 = λ ids. AreRows g.bank ids in

@@ -11,7 +11,7 @@ use Rattle.prover_state.specs.declared.tables.Tables.{Tables}
 use Rattle.prover_state.specs.Internal.Growing.{BasisGrows}
 use Rattle.prover_state.specs.Internal.Standing.{IsBasis}
 use Rattle.prover_state.proofs.EachLaws.{each-weaker}
-use Rattle.prover_state.specs.Internal.Steps.{IsMade, StepsGrow}
+use Rattle.prover_state.specs.Internal.Steps.{IsMadeInstance, StepsGrow}
 use Rattle.prover_search.specs.Internal.Developing.{IsWider, Develops}
 use Rattle.prover_search.proofs.MadeStays.{made-wider}
 
@@ -52,11 +52,11 @@ steps-then P Q f a b c h k = record {
 pub develops-same : (t u : Tables) → u.basis ≡ t.basis → u.steps ≡ t.steps → u.done ≡ t.done → Develops t u
 develops-same t u b s d =
     let W : Basis → Type 0 = λ g. IsWider t.basis g in
-    record { basis = subst W (sym b) (wider-itself t.basis); steps = steps-same (IsMade u.basis) t.steps u.steps s; done = d }
+    record { basis = subst W (sym b) (wider-itself t.basis); steps = steps-same (IsMadeInstance u.basis) t.steps u.steps s; done = d }
 
 pub develops-then : (a b c : Tables) → IsBasis b.basis → Develops a b → Develops b c → Develops a c
 develops-then a b c good h k = record {
   basis = wider-then a.basis b.basis c.basis h.basis k.basis;
-  steps = steps-then (IsMade b.basis) (IsMade c.basis) (made-wider b.basis c.basis good k.basis) a.steps b.steps c.steps h.steps k.steps;
+  steps = steps-then (IsMadeInstance b.basis) (IsMadeInstance c.basis) (made-wider b.basis c.basis good k.basis) a.steps b.steps c.steps h.steps k.steps;
   done = k.done ∙ h.done;
 }

@@ -11,7 +11,7 @@ use Rattle.sat_base.specs.declared.literal.SatLit.{SatLit}
 use Rattle.search_spec.specs.Each.{Each}
 use Rattle.term_bank.specs.Content.{Content}
 use Rattle.term_bank.specs.Terms.{term_at}
-use Rattle.literal_map.specs.Atoms.{literal_at}
+use Rattle.literal_map.specs.Atoms.{bank_literal}
 use Rattle.literal_map.specs.declared.instance.BankUse.{BankUse}
 use Rattle.literal_map.specs.declared.instance.Instance.{Instance}
 use Rattle.witness_names.specs.Rows.{row_of, rows_of}
@@ -19,12 +19,12 @@ use Rattle.tableau_rules.specs.Uses.{IsInstanceBy}
 use Rattle.tableau_rules.proofs.MadeLaws.{instance_on, instance_wider}
 use Rattle.tableau_rules.proofs.WideLaws.{wide_within}
 use Rattle.prover_state.specs.declared.tables.Basis.{Basis}
-use Rattle.prover_state.specs.Internal.Names.{Names, IsNumber, IsPlace}
+use Rattle.prover_state.specs.Internal.Names.{Naming, IsNumberIn, IsPlace}
 use Rattle.prover_state.specs.Internal.Growing.{Continues}
 use Rattle.prover_state.specs.Internal.Standing.{rows_in, IsBasis}
 use Rattle.prover_state.proofs.EachLaws.{each-weaker, map-same, each-from_All}
 use Rattle.prover_state.proofs.NamesLaws.{number-stays, literal-stays, term-stays}
-use Rattle.prover_state.specs.Internal.Steps.{IsMade}
+use Rattle.prover_state.specs.Internal.Steps.{IsMadeInstance}
 use Rattle.prover_search.specs.Internal.Developing.{IsWider}
 
 -- with further rows a rule has the instances that it had
@@ -55,7 +55,7 @@ instance_rows b atoms rows more by as' h = record {
 }
 
 -- names without partial terms
-abbrev plain : Basis → Names
+abbrev plain : Basis → Naming
 plain g = record { terms = g.bank.terms; atoms = g.lits; sketches = [] }
 
 module _ (g h : Basis) (good : IsBasis g) (w : IsWider g h) where
@@ -67,14 +67,14 @@ module _ (g h : Basis) (good : IsBasis g) (w : IsWider g h) where
     sketches = ([], refl);
   }
 
-  pub number-wider : (l : SatLit) → IsNumber g.lits l → IsNumber h.lits l
+  pub number-wider : (l : SatLit) → IsNumberIn g.lits l → IsNumberIn h.lits l
   number-wider l k = number-stays (plain g) (plain h) continues l k
 
-  pub literal-wider : (l : SatLit) → IsNumber g.lits l → literal_at h.bank.terms h.lits l ≡ literal_at g.bank.terms g.lits l
+  pub literal-wider : (l : SatLit) → IsNumberIn g.lits l → bank_literal h.bank.terms h.lits l ≡ bank_literal g.bank.terms g.lits l
   literal-wider l k = literal-stays (plain g) (plain h) continues l k
 
-  pub literals-wider : (ls : List SatLit) → Each (IsNumber g.lits) ls → map (literal_at h.bank.terms h.lits) ls ≡ map (literal_at g.bank.terms g.lits) ls
-  literals-wider ls k = map-same (literal_at h.bank.terms h.lits) (literal_at g.bank.terms g.lits) (IsNumber g.lits) literal-wider ls k
+  pub literals-wider : (ls : List SatLit) → Each (IsNumberIn g.lits) ls → map (bank_literal h.bank.terms h.lits) ls ≡ map (bank_literal g.bank.terms g.lits) ls
+  literals-wider ls k = map-same (bank_literal h.bank.terms h.lits) (bank_literal g.bank.terms g.lits) (IsNumberIn g.lits) literal-wider ls k
 
   pub term-wider : (u : ℕ) → IsPlace g.bank.terms u → term_at h.bank.terms u ≡ term_at g.bank.terms u
   term-wider u k = term-stays g.bank.terms h.bank.terms continues.terms u k
@@ -87,11 +87,11 @@ module _ (g h : Basis) (good : IsBasis g) (w : IsWider g h) where
       ∙ ap (λ (rs : List Row). rs ++ rows_of h.bank.terms w.witnesses.0)
       (map-same (λ id. row_of (term_at h.bank.terms id)) (λ id. row_of (term_at g.bank.terms id)) (IsPlace g.bank.terms) (λ id k. ap row_of (term-wider id k)) g.witnesses (each-from_All (IsPlace g.bank.terms) g.witnesses good.rows.within))
 
-  pub made-wider : (i : Instance) → IsMade g i → IsMade h i
+  pub made-wider : (i : Instance) → IsMadeInstance g i → IsMadeInstance h i
   made-wider i m =
-      let d : SatLit → Literal = literal_at g.bank.terms g.lits in
-      let e : SatLit → Literal = literal_at h.bank.terms h.lits in
-      let same : map (map e) i.alternatives ≡ map (map d) i.alternatives = map-same (map e) (map d) (Each (IsNumber g.lits)) literals-wider i.alternatives m.numbers in
+      let d : SatLit → Literal = bank_literal g.bank.terms g.lits in
+      let e : SatLit → Literal = bank_literal h.bank.terms h.lits in
+      let same : map (map e) i.alternatives ≡ map (map d) i.alternatives = map-same (map e) (map d) (Each (IsNumberIn g.lits)) literals-wider i.alternatives m.numbers in
       let F : List (List Literal) → Type 0 = λ as'. IsInstanceBy h.bank h.lits (rows_in h) i.by as' in
       let R : List Row → Type 0 = λ rs. IsInstanceBy h.bank h.lits rs i.by (map (map d) i.alternatives) in
       record {
@@ -99,7 +99,7 @@ module _ (g h : Basis) (good : IsBasis g) (w : IsWider g h) where
         first = λ l q. number-wider l (m.first l q);
         second = λ l q. number-wider l (m.second l q);
         term = λ u q. wide_within g.bank h.bank w.bank u (m.term u q);
-        numbers = each-weaker (Each (IsNumber g.lits)) (Each (IsNumber h.lits)) (λ ls k. each-weaker (IsNumber g.lits) (IsNumber h.lits) number-wider ls k) i.alternatives m.numbers;
+        numbers = each-weaker (Each (IsNumberIn g.lits)) (Each (IsNumberIn h.lits)) (λ ls k. each-weaker (IsNumberIn g.lits) (IsNumberIn h.lits) number-wider ls k) i.alternatives m.numbers;
         fits =
             subst F (sym same)
             (subst R (sym rows-wider)

@@ -15,18 +15,18 @@ use Rattle.search_spec.specs.Shallow.{is_shallow}
 use Rattle.search_spec.specs.State.{State, Setting}
 use Rattle.search_spec.specs.Alternatives.{Alternatives, all_pos, con, cho, des, differ}
 use Rattle.search_spec.specs.Instances.{with_instance}
-use Rattle.search_spec.specs.Commands.{confronted_pair, instantiated}
+use Rattle.search_spec.specs.Commands.{with_confrontation, with_instantiation}
 use Rattle.search_spec.specs.TypedState.{Mates, Confronts, Instantiates}
 use Rattle.search_spec.proofs.TypedPartners.{head_function}
 use Rattle.search_spec.proofs.TypedProcessing.{spines_differ}
 use Rattle.term_bank.specs.Content.{content_scope}
 use Rattle.term_bank.specs.Terms.{term_at}
-use Rattle.literal_map.specs.Atoms.{literal_at}
+use Rattle.literal_map.specs.Atoms.{bank_literal}
 use Rattle.literal_map.specs.declared.instance.BankUse.{BankUse}
 use Rattle.literal_map.specs.declared.instance.RuleKind.TheVariants as kind
 use Rattle.tableau_rules.specs.Uses.{IsInstanceBy}
 use Rattle.prover_state.specs.declared.tables.Basis.{Basis}
-use Rattle.prover_state.specs.Internal.Standing.{declared_scope, rows_in, scope_by, IsBasis}
+use Rattle.prover_state.specs.Internal.Standing.{without_witnesses, rows_in, scope_by, IsBasis}
 
 pub head_of-applied : (t : Lambda) (us : List Lambda) → head_of (applied t us) ≡ head_of t
 head_of-applied t [] = refl
@@ -46,7 +46,7 @@ scope-is g good = λ i. record { bases = length g.bank.bases; names = map (λ c.
 
 module _ (g : Basis) (good : IsBasis g) where
   abbrev l_at : SatLit → Literal
-  l_at = literal_at g.bank.terms g.lits
+  l_at = bank_literal g.bank.terms g.lits
 
   abbrev t_at : ℕ → Lambda
   t_at = term_at g.bank.terms
@@ -111,7 +111,7 @@ module _ (g : Basis) (good : IsBasis g) where
         let mits : (l_at m).atom ≡ applied (constant c) (h.t ∷ h.ts) = ap (λ (x : Literal). x.atom) h.is_negative in
         let P : Lambda → Type 0 = λ u. IsCanonical (scope_by g) [] formula u in
         let f = head_function (scope_by g) (constant c) h.s h.ss formula (subst P lits h.positive.formula) in
-        let setting : Setting = record { scope = declared_scope g.bank; mode = standard } in
+        let setting : Setting = record { scope = without_witnesses g.bank; mode = standard } in
         let same = spines_differ setting (rows_in g) over (l_at l).atom (l_at m).atom c (arrow f.0 f.1) h.s h.ss h.t h.ts
         (ap head_of lits ∙ head_of-applied (constant c) (h.s ∷ h.ss))
         (ap arguments lits ∙ arguments-applied (constant c) (h.s ∷ h.ss))
@@ -129,20 +129,20 @@ module _ (g : Basis) (good : IsBasis g) where
 
 -- What the commands do, where they have their instances.
 module _ (setting : Setting) (s : State) where
-  pub instantiated-is : (scope : Scope) (l : Literal) (u : Lambda) (h : Instantiates scope l u) → is_shallow u ≡ true → with_instance setting.mode (l ∷ []) (all_pos h.predicate u) s ≡ instantiated setting l l.atom u s
+  pub instantiated-is : (scope : Scope) (l : Literal) (u : Lambda) (h : Instantiates scope l u) → is_shallow u ≡ true → with_instance setting.mode (l ∷ []) (all_pos h.predicate u) s ≡ with_instantiation setting l l.atom u s
   instantiated-is scope l u h e =
-      let P : Lambda → Type 0 = λ x. with_instance setting.mode (l ∷ []) (all_pos h.predicate u) s ≡ instantiated setting l x u s in
+      let P : Lambda → Type 0 = λ x. with_instance setting.mode (l ∷ []) (all_pos h.predicate u) s ≡ with_instantiation setting l x u s in
       subst P (sym (ap (λ (x : Literal). x.atom) h.is_universal)) (sym (ap (λ (b : Bool). if b then with_instance setting.mode (l ∷ []) (all_pos h.predicate u) s else s) e))
 
-  pub instantiated-deep : (scope : Scope) (l : Literal) (u : Lambda) (h : Instantiates scope l u) → is_shallow u ≡ false → s ≡ instantiated setting l l.atom u s
+  pub instantiated-deep : (scope : Scope) (l : Literal) (u : Lambda) (h : Instantiates scope l u) → is_shallow u ≡ false → s ≡ with_instantiation setting l l.atom u s
   instantiated-deep scope l u h e =
-      let P : Lambda → Type 0 = λ x. s ≡ instantiated setting l x u s in
+      let P : Lambda → Type 0 = λ x. s ≡ with_instantiation setting l x u s in
       subst P (sym (ap (λ (x : Literal). x.atom) h.is_universal)) (sym (ap (λ (b : Bool). if b then with_instance setting.mode (l ∷ []) (all_pos h.predicate u) s else s) e))
 
-  pub confronted-is : (scope : Scope) (l m : Literal) (h : Confronts scope l m) → with_instance setting.mode (l ∷ m ∷ []) (con (base (suc h.n)) h.s h.t h.u h.v) s ≡ confronted_pair setting l m l.atom m.atom s
+  pub confronted-is : (scope : Scope) (l m : Literal) (h : Confronts scope l m) → with_instance setting.mode (l ∷ m ∷ []) (con (base (suc h.n)) h.s h.t h.u h.v) s ≡ with_confrontation setting l m l.atom m.atom s
   confronted-is scope l m h =
       let b = base (suc h.n) in
       let done = with_instance setting.mode (l ∷ m ∷ []) (con b h.s h.t h.u h.v) s in
-      let P : Lambda → Type 0 = λ x. done ≡ confronted_pair setting l m x m.atom s in
-      let Q : Lambda → Type 0 = λ y. done ≡ confronted_pair setting l m (eq b h.s h.t) y s in
+      let P : Lambda → Type 0 = λ x. done ≡ with_confrontation setting l m x m.atom s in
+      let Q : Lambda → Type 0 = λ y. done ≡ with_confrontation setting l m (eq b h.s h.t) y s in
       subst P (sym (ap (λ (x : Literal). x.atom) h.is_positive)) (subst Q (sym (ap (λ (x : Literal). x.atom) h.is_negative)) refl)

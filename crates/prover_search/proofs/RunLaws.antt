@@ -9,10 +9,10 @@ use Rattle.command_queue.specs.declared.entry.Entry.{Entry}
 use Rattle.command_queue.specs.Queue.{Queue}
 use Rattle.search_spec.specs.Each.{Each}
 use Rattle.search_spec.specs.Unsatisfiable.{Unsatisfiable}
-use Rattle.search_spec.specs.Queue.{Waiting, is_before, first_of, next_command, without}
+use Rattle.search_spec.specs.Queue.{Waiting, is_before, first_waiting, next_command, without_number}
 use Rattle.search_spec.specs.State.{State, Setting, Command as Meant}
-use Rattle.search_spec.specs.Commands.{carried_out}
-use Rattle.search_spec.specs.After.{after_command, stepped, after}
+use Rattle.search_spec.specs.Commands.{with_command}
+use Rattle.search_spec.specs.After.{after_command, next_state, state_after}
 use Rattle.search_spec.specs.TypedState.{IsTypedSketch, IsTypedCommand}
 use Rattle.search_spec.specs.Internal.Loops.{queue_of}
 use Rattle.search_spec.proofs.NamingLaws.{each-joined, pick_good}
@@ -24,24 +24,24 @@ use Rattle.prover_state.specs.declared.tables.Basis.{Basis}
 use Rattle.prover_state.specs.declared.tables.Tables.{Tables}
 use Rattle.prover_state.specs.Delays.{the_mode}
 use Rattle.prover_state.specs.Internal.Names.{command_at}
-use Rattle.prover_state.specs.Internal.Standing.{declared_scope, scope_by, sketches_in, names_in, setting_by, loops_in, the_state, IsRight}
+use Rattle.prover_state.specs.Internal.Standing.{without_witnesses, scope_by, sketches_in, naming_in, setting_by, loops_in, the_state, IsRightState}
 use Rattle.prover_state.specs.Internal.Taking.{TakesNext}
 use Rattle.prover_state.proofs.EachLaws.{each-weaker}
-use Rattle.prover_state.specs.Internal.Steps.{IsMade}
+use Rattle.prover_state.specs.Internal.Steps.{IsMadeInstance}
 use Rattle.prover_search.specs.Internal.Developing.{IsWider, Develops}
 use Rattle.prover_search.specs.Internal.Running.{start_in, IsRunning}
-use Rattle.prover_search.specs.Internal.Answers.{GoesOn}
+use Rattle.prover_search.specs.Internal.Answers.{StepGoesOn}
 use Rattle.prover_search.proofs.MadeStays.{made-wider}
 use Rattle.prover_search.proofs.UnitLaws.{units-grow, start-stays}
 
-first_good : (P : Waiting Meant → Type 0) (q : Waiting Meant) (qs : List (Waiting Meant)) → P q → Each P qs → P (first_of q qs)
+first_good : (P : Waiting Meant → Type 0) (q : Waiting Meant) (qs : List (Waiting Meant)) → P q → Each P qs → P (first_waiting q qs)
 first_good P q [] h k = h
 first_good P q (p ∷ ps) h k = first_good P (if is_before p q then p else q) ps (pick_good P (is_before p q) p q k.0 h) k.1
 
 -- what holds of all commands that wait holds of the next one
 pub next-good : (P : Waiting Meant → Type 0) (qs : List (Waiting Meant)) (q : Waiting Meant) → Each P qs → next_command qs ≡ Some q → P q
 next-good P [] q h e = cc
-next-good P (p ∷ ps) q h e = subst P (same_Some (first_of p ps) q e) (first_good P p ps h.0 h.1)
+next-good P (p ∷ ps) q h e = subst P (same_Some (first_waiting p ps) q e) (first_good P p ps h.0 h.1)
 
 some_next : (qs : List (Waiting Meant)) (q : Waiting Meant) → next_command qs ≡ Some q → qs ≢ []
 some_next [] q e = cc
@@ -56,7 +56,7 @@ pub none-waits : (t : Tables) (q : Queue Planned Delays) → q.entries ≡ [] �
 none-waits t q e = ap (λ es. queue_of (loops_in t es)) e
 
 -- the number of commands doesn't count for what is right
-pub right-done : (t : Tables) (q : Queue Planned Delays) (n : ℕ) → IsRight t q → IsRight (record t { done = n }) q
+pub right-done : (t : Tables) (q : Queue Planned Delays) (n : ℕ) → IsRightState t q → IsRightState (record t { done = n }) q
 right-done t q n r = record {
   basis = r.basis;
   clauses = r.clauses;
@@ -79,7 +79,7 @@ right-done t q n r = record {
   queue = r.queue;
 }
 
-pub scope-wider : (g h : Basis) → IsWider g h → declared_scope h.bank ≡ declared_scope g.bank
+pub scope-wider : (g h : Basis) → IsWider g h → without_witnesses h.bank ≡ without_witnesses g.bank
 scope-wider g h w = λ i. record { bases = length (w.bank.bases i); names = map (λ c. c.type) (w.bank.consts i); witnesses = [] }
 
 -- the tables with one command more
@@ -88,7 +88,7 @@ counted t = record t { done = t.done + 1 }
 
 -- what the command did to the tables that count it
 pub record Carried (t : Tables) (q1 : Queue Planned Delays) (c : Command) (t2 : Tables) (q2 : Queue Planned Delays) : Type 0 where
-  pub is : the_state t2 q2 ≡ carried_out (setting_by (counted t) q1) (command_at (names_in (counted t)) c) (the_state (counted t) q1)
+  pub is : the_state t2 q2 ≡ with_command (setting_by (counted t) q1) (command_at (naming_in (counted t)) c) (the_state (counted t) q1)
   pub develops : Develops (counted t) t2
   pub few : length t2.basis.witnesses ≤ suc (length t.basis.witnesses)
 
@@ -102,7 +102,7 @@ module _ (t : Tables) (q q1 : Queue Planned Delays) (r : IsRunning t q) (c : Com
   abbrev t1 : Tables
   t1 = counted t
 
-  pub taken-typed : IsTypedCommand (scope_by t1.basis) (command_at (names_in t1) c)
+  pub taken-typed : IsTypedCommand (scope_by t1.basis) (command_at (naming_in t1) c)
   taken-typed =
       let typed = after-typed setting r.declared (start_in t) r.start t.done s r.comes_to in
       next-good (λ w. IsTypedCommand (scope_by t.basis) w.command) s.queue _ typed.typed.queue takes.is_next
@@ -113,38 +113,38 @@ module _ (t : Tables) (q q1 : Queue Planned Delays) (r : IsRunning t q) (c : Com
   pub taken-few : length t1.basis.witnesses < t1.done
   taken-few = omega (arith, r.few)
 
-  taken_state : the_state t1 q1 ≡ record s { queue = without takes.number s.queue; done = suc s.done }
-  taken_state = ap (λ (x : State). record x { done = t.done + 1 }) takes.leaves ∙ ap (λ n. record s { queue = without takes.number s.queue; done = n }) (add-one t.done)
+  taken_state : the_state t1 q1 ≡ record s { queue = without_number takes.number s.queue; done = suc s.done }
+  taken_state = ap (λ (x : State). record x { done = t.done + 1 }) takes.leaves ∙ ap (λ n. record s { queue = without_number takes.number s.queue; done = n }) (add-one t.done)
 
   taken_setting : setting_by t1 q1 ≡ setting
-  taken_setting = ap (λ (d : Delays). record { scope = declared_scope t.basis.bank; mode = the_mode d.mode }) rule
+  taken_setting = ap (λ (d : Delays). record { scope = without_witnesses t.basis.bank; mode = the_mode d.mode }) rule
 
-  module _ (t2 : Tables) (q2 : Queue Planned Delays) (k : Carried t q1 c t2 q2) (right : IsRight t2 q2) (rule2 : q2.rule ≡ q1.rule) where
+  module _ (t2 : Tables) (q2 : Queue Planned Delays) (k : Carried t q1 c t2 q2) (right : IsRightState t2 q2) (rule2 : q2.rule ≡ q1.rule) where
     abbrev develops : Develops t1 t2
     develops = k.develops
 
-    next_state : stepped setting (Some s) ≡ Some (the_state t2 q2)
+    next_state : next_state setting (Some s) ≡ Some (the_state t2 q2)
     next_state =
         ap (λ o. after_command setting o s) takes.is_next
-        ∙ ap Some (sym (k.is ∙ ap₂ (λ (x : Setting) (y : State). carried_out x (command_at (names_in t) c) y) taken_setting taken_state))
+        ∙ ap Some (sym (k.is ∙ ap₂ (λ (x : Setting) (y : State). with_command x (command_at (naming_in t) c) y) taken_setting taken_state))
 
     pub setting-next : setting_by t2 q2 ≡ setting
     setting-next = ap₂ (λ (x : Scope) (d : Delays). record { scope = x; mode = the_mode d.mode }) (scope-wider t.basis t2.basis develops.basis) (rule2 ∙ rule)
 
     pub start-next : start_in t2 ≡ start_in t
-    start-next = start-stays t t2 r.right.basis develops.basis r.right.clauses (units-grow (IsMade t2.basis) t.steps t2.steps develops.steps)
+    start-next = start-stays t t2 r.right.basis develops.basis r.right.clauses (units-grow (IsMadeInstance t2.basis) t.steps t2.steps develops.steps)
 
     abbrev Comes : Setting → List Literal → ℕ → Type 0
-    Comes x ls n = after x ls n ≡ Some (the_state t2 q2)
+    Comes x ls n = state_after x ls n ≡ Some (the_state t2 q2)
 
     comes_next : Comes (setting_by t2 q2) (start_in t2) t2.done
     comes_next =
         subst (λ x. Comes x (start_in t2) t2.done) (sym setting-next)
         (subst (λ ls. Comes setting ls t2.done) (sym start-next)
         (subst (λ n. Comes setting (start_in t) n) (sym (develops.done ∙ add-one t.done))
-        (ap (stepped setting) r.comes_to ∙ next_state)))
+        (ap (next_state setting) r.comes_to ∙ next_state)))
 
-    pub goes-on : (Unsatisfiable s.clauses → ⊥) → t.done ≢ q.rule.mode.commands → GoesOn (record { tables = t; plan = q }) (record { tables = t2; plan = q2 })
+    pub goes-on : (Unsatisfiable s.clauses → ⊥) → t.done ≢ q.rule.mode.commands → StepGoesOn (record { tables = t; plan = q }) (record { tables = t2; plan = q2 })
     goes-on satisfiable below = record { satisfiable = satisfiable; some_left = some_next s.queue _ takes.is_next; below = below; next = next_state; done = develops.done }
 
     pub running-next : t.done ≢ q.rule.mode.commands → IsRunning t2 q2
@@ -160,11 +160,11 @@ module _ (t : Tables) (q q1 : Queue Planned Delays) (r : IsRunning t q) (c : Com
           few = omega (arith, r.few, k.few, develops.done);
           declared = subst IsScope (sym (scope-wider old new w)) r.declared;
           start = let B : Scope → Type 0 = λ x. IsBranch (with_rows x []) (start_in t2) in
-              let L : List Literal → Type 0 = λ ls. IsBranch (with_rows (declared_scope old.bank) []) ls in
+              let L : List Literal → Type 0 = λ ls. IsBranch (with_rows (without_witnesses old.bank) []) ls in
               subst B (sym (scope-wider old new w)) (subst L (sym start-next) r.start);
           made =
-              subst (Each (IsMade new)) (sym develops.steps.instances)
-              (each-joined (IsMade new) t.steps.1 develops.steps.more (each-weaker (IsMade old) (IsMade new) (made-wider old new r.right.basis w) t.steps.1 r.made) develops.steps.good);
+              subst (Each (IsMadeInstance new)) (sym develops.steps.instances)
+              (each-joined (IsMadeInstance new) t.steps.1 develops.steps.more (each-weaker (IsMadeInstance old) (IsMadeInstance new) (made-wider old new r.right.basis w) t.steps.1 r.made) develops.steps.good);
         }
 
 -- THE SOLVER IS ASKED
@@ -182,16 +182,16 @@ module _ (t u : Tables) (q p : Queue Planned Delays) (tables : u ≡ record t { 
   pub done-solved : u.done ≡ t.done
   done-solved = ap (λ (x : Tables). x.done) tables
 
-  pub running-solved : IsRunning t q → IsRight u p → IsRunning u p
+  pub running-solved : IsRunning t q → IsRightState u p → IsRunning u p
   running-solved r right =
-      let P : Tables → Queue Planned Delays → Type 0 = λ x y. IsRight x y → IsRunning x y in
+      let P : Tables → Queue Planned Delays → Type 0 = λ x y. IsRightState x y → IsRunning x y in
       let Q : Queue Planned Delays → Type 0 = λ y. P u y in
       let T : Tables → Type 0 = λ x. P x q in
       subst Q (sym plan)
       (subst T (sym tables)
       (λ good. record { right = good; comes_to = r.comes_to; within = r.within; few = r.few; declared = r.declared; start = r.start; made = r.made })) right
 
-  pub goes-on-solved : (t2 : Tables) (q2 : Queue Planned Delays) → GoesOn (record { tables = u; plan = p }) (record { tables = t2; plan = q2 }) → GoesOn (record { tables = t; plan = q }) (record { tables = t2; plan = q2 })
+  pub goes-on-solved : (t2 : Tables) (q2 : Queue Planned Delays) → StepGoesOn (record { tables = u; plan = p }) (record { tables = t2; plan = q2 }) → StepGoesOn (record { tables = t; plan = q }) (record { tables = t2; plan = q2 })
   goes-on-solved t2 q2 g =
       let U : State → Type 0 = λ s. Unsatisfiable s.clauses → ⊥ in
       let L : State → Type 0 = λ s. s.queue ≢ [] in
@@ -200,6 +200,6 @@ module _ (t u : Tables) (q p : Queue Planned Delays) (tables : u ≡ record t { 
         satisfiable = subst U state-solved g.satisfiable;
         some_left = subst L state-solved g.some_left;
         below = λ e. g.below (done-solved ∙ e ∙ sym same);
-        next = sym (ap₂ (λ (x : Setting) (s : State). stepped x (Some s)) setting-solved state-solved) ∙ g.next;
+        next = sym (ap₂ (λ (x : Setting) (s : State). next_state x (Some s)) setting-solved state-solved) ∙ g.next;
         done = g.done ∙ ap (λ n. n + 1) done-solved;
       }

@@ -9,16 +9,16 @@ use Rattle.tableau_calculus.specs.Literals.{IsBranch}
 use Rattle.tableau_calculus.specs.Start.{start}
 use Rattle.tableau_calculus.proofs.StartMeets.{start_typed}
 use Rattle.term_bank.specs.Content.{Content}
-use Rattle.prover_state.specs.Internal.Standing.{declared_scope}
+use Rattle.prover_state.specs.Internal.Standing.{without_witnesses}
 
 module _ (p : PlainProblem) (typed : IsTyped p) (b : Content) (bases : b.bases ≡ p.declared.bases) (consts : b.consts ≡ p.declared.consts) where
-  pub scope-same : declared_scope b ≡ scope_of p.declared
+  pub scope-same : without_witnesses b ≡ scope_of p.declared
   scope-same = λ i. record { bases = length (bases i); names = map (λ c. c.type) (consts i); witnesses = [] }
 
-  pub scope-declared : IsScope (declared_scope b)
+  pub scope-declared : IsScope (without_witnesses b)
   scope-declared = subst IsScope (sym scope-same) typed.scope
 
-  pub start-declared : IsBranch (declared_scope b) (start p)
+  pub start-declared : IsBranch (without_witnesses b) (start p)
   start-declared =
       let S : Scope → Type 0 = λ x. IsBranch x (start p) in
       subst S (sym scope-same) (start_typed p typed)

@@ -12,9 +12,9 @@ use Rattle.tableau_calculus.specs.Literals.{plus, minus}
 use Rattle.search_spec.specs.Partners.{has_equal_sides}
 use Rattle.search_spec.specs.Spine.{head_of, has_compared_head, is_application, is_spine, same_head}
 use Rattle.search_spec.specs.State.{State, Setting}
-use Rattle.search_spec.specs.Processing.{worked, mated}
+use Rattle.search_spec.specs.Processing.{with_rules, with_matings}
 use Rattle.prover_state.specs.Internal.Pending.{equation_type}
-use Rattle.prover_state.specs.Internal.Selecting.{parts}
+use Rattle.prover_state.specs.Internal.Selecting.{term_parts}
 use Rattle.prover_state.specs.Internal.Shapes.{IsBaseEquation}
 use Rattle.prover_search.specs.Internal.Working.{equation_shape, shape_of}
 use Rattle.prover_search.specs.declared.shape.Shape.{Shape}
@@ -25,7 +25,7 @@ use Rattle.prover_search.proofs.RuleUses.{head_of-applied}
 
 -- for a literal with this atom no more is done than that it is mated
 abbrev pub IsMated : Lambda → Type 0
-IsMated t = (setting : Setting) (st : State) → (worked setting true t st ≡ mated setting (plus t) st) × (worked setting false t st ≡ mated setting (minus t) st)
+IsMated t = (setting : Setting) (st : State) → (with_rules setting true t st ≡ with_matings setting (plus t) st) × (with_rules setting false t st ≡ with_matings setting (minus t) st)
 
 abbrev pub IsShaped : Lambda → Shape → Type 0
 IsShaped t Falsity = t ≡ constant falsity
@@ -86,14 +86,14 @@ pub base-sides : (t : Lambda) (n : ℕ) (x y : Lambda) → shape_of t ≡ BaseEq
 base-sides t n x y e f = let k = shaped-as t (BaseEquation n) e in (k.0, k.3, f ∙ ap (λ u. eq (equation_type u) x y) k.4)
 
 -- the parts of an equation are its sides
-pub sides-are : (t : Lambda) → IsBaseEquation t → (x y : Lambda) → slice_get (parts t) 0 ≡ Some x → slice_get (parts t) 1 ≡ Some y → t ≡ eq (equation_type t) x y
+pub sides-are : (t : Lambda) → IsBaseEquation t → (x y : Lambda) → slice_get (term_parts t) 0 ≡ Some x → slice_get (term_parts t) 1 ≡ Some y → t ≡ eq (equation_type t) x y
 sides-are t h x y =
     let b : SimpleType = base (suc h.base_number) in
-    let P : Lambda → Type 0 = λ u. slice_get (parts u) 0 ≡ Some x → slice_get (parts u) 1 ≡ Some y → u ≡ eq (equation_type u) x y in
+    let P : Lambda → Type 0 = λ u. slice_get (term_parts u) 0 ≡ Some x → slice_get (term_parts u) 1 ≡ Some y → u ≡ eq (equation_type u) x y in
     subst P (sym h.is) (λ p q. ap₂ (eq b) (same_Some h.left x p) (same_Some h.right y q))
 
-pub two-parts : (t : Lambda) → IsBaseEquation t → length (parts t) ≡ 2
-two-parts t h = ap (λ u. length (parts u)) h.is
+pub two-parts : (t : Lambda) → IsBaseEquation t → length (term_parts t) ≡ 2
+two-parts t h = ap (λ u. length (term_parts u)) h.is
 
 -- what has equal sides is an equation
 pub equal-sides : (t : Lambda) → has_equal_sides t ≡ true → (a : SimpleType) × (s : Lambda) × (t ≡ eq a s s)

@@ -6,16 +6,16 @@ use Rattle.std.proofs.lemmas.List.Elements.{filter-append}
 use Rattle.stt_core.proofs.ListLaws.{map-append}
 use Rattle.stt_core.specs.SameTerm.{same_term}
 use Rattle.tableau_calculus.specs.Literals.{Literal, opposite}
-use Rattle.tableau_calculus.specs.Start.{has, same_sign, same_literal}
+use Rattle.tableau_calculus.specs.Start.{has, same_sign, same_signed}
 use Rattle.tableau_calculus.proofs.AddedLaws.{same_literal-true}
 use Rattle.search_spec.specs.Mode.{Mode}
 use Rattle.search_spec.specs.Shallow.{is_shallow_literal}
 use Rattle.search_spec.specs.Clauses.{Kind, same_clause, with_clauses, instance_clauses}
 use Rattle.search_spec.specs.Unsatisfiable.{formulas, Clause}
-use Rattle.search_spec.specs.Queue.{Waiting, waiting}
-use Rattle.search_spec.specs.State.{State, Setting, Command, process, due, pushed}
+use Rattle.search_spec.specs.Queue.{Waiting, new_entries}
+use Rattle.search_spec.specs.State.{State, Setting, Command, process, due, with_commands}
 use Rattle.search_spec.specs.Instances.{with_literals, with_instance}
-use Rattle.search_spec.specs.After.{nothing_yet, started}
+use Rattle.search_spec.specs.After.{nothing_yet, starting_state}
 
 -- the clauses of an alternative alone, which is a literal
 pub alone-clauses : {L : Type 0} (kind : Kind L) (l : L) → kind.same (kind.opposite l) l ≡ false → instance_clauses kind [] ((l ∷ []) ∷ []) ≡ (l ∷ []) ∷ []
@@ -25,7 +25,7 @@ sign_differs : (b : Bool) → same_sign (not b) b ≡ false
 sign_differs true = refl
 sign_differs false = refl
 
-opposite_differs : (l : Literal) → same_literal (opposite l) l ≡ false
+opposite_differs : (l : Literal) → same_signed (opposite l) l ≡ false
 opposite_differs l = ap (λ (b : Bool). b && same_term l.atom l.atom) (sign_differs l.positive)
 
 -- the clause of one literal
@@ -38,7 +38,7 @@ same_unit false c = refl
 
 units_have : (l : Literal) (ls : List Literal) → list_any (same_clause formulas (unit l)) (map unit ls) ≡ has ls l
 units_have l [] = refl
-units_have l (k ∷ ks) = same_unit (same_literal l k) (list_any (same_clause formulas (unit l)) (map unit ks)) ∙ ap (λ b. same_literal l k || b) (units_have l ks)
+units_have l (k ∷ ks) = same_unit (same_signed l k) (list_any (same_clause formulas (unit l)) (map unit ks)) ∙ ap (λ b. same_signed l k || b) (units_have l ks)
 
 none_of : (b c : Bool) → (b || c) ≡ false → (b ≡ false) × (c ≡ false)
 none_of true c e = cc
@@ -59,26 +59,26 @@ with_unit_again ls l e =
 
 -- PUSHES
 
-waiting_last : (d : Command → ℕ) (n : ℕ) (cs : List Command) (c : Command) → waiting d n (cs ++ c ∷ []) ≡ waiting d n cs ++ waiting d (n + length cs) (c ∷ [])
-waiting_last d n [] c = let e : n ≡ n + 0 = omega arith in ap (λ k. waiting d k (c ∷ [])) e
+waiting_last : (d : Command → ℕ) (n : ℕ) (cs : List Command) (c : Command) → new_entries d n (cs ++ c ∷ []) ≡ new_entries d n cs ++ new_entries d (n + length cs) (c ∷ [])
+waiting_last d n [] c = let e : n ≡ n + 0 = omega arith in ap (λ k. new_entries d k (c ∷ [])) e
 waiting_last d n (x ∷ cs) c =
     let e : suc n + length cs ≡ n + suc (length cs) = omega arith in
-    ap (λ (qs : List (Waiting Command)). record { due = d x; number = n; command = x } ∷ qs) (waiting_last d (suc n) cs c ∙ ap (λ k. waiting d (suc n) cs ++ waiting d k (c ∷ [])) e)
+    ap (λ (qs : List (Waiting Command)). record { due = d x; number = n; command = x } ∷ qs) (waiting_last d (suc n) cs c ∙ ap (λ k. new_entries d (suc n) cs ++ new_entries d k (c ∷ [])) e)
 
-pushed_last : (mode : Mode) (cs : List Command) (c : Command) (s : State) → pushed mode (cs ++ c ∷ []) s ≡ pushed mode (c ∷ []) (pushed mode cs s)
+pushed_last : (mode : Mode) (cs : List Command) (c : Command) (s : State) → with_commands mode (cs ++ c ∷ []) s ≡ with_commands mode (c ∷ []) (with_commands mode cs s)
 pushed_last mode cs c s =
     let d = due mode s.done in
     let lengths : s.pushes + length (cs ++ c ∷ []) ≡ s.pushes + length cs + length (c ∷ []) = omega (arith, length-append cs (c ∷ [])) in
     ap₂ (λ (q : List (Waiting Command)) (n : ℕ). record s { queue = q; pushes = n })
-    (ap (λ w. s.queue ++ w) (waiting_last d s.pushes cs c) ∙ sym (append_assoc s.queue (waiting d s.pushes cs) (waiting d (s.pushes + length cs) (c ∷ []))))
+    (ap (λ w. s.queue ++ w) (waiting_last d s.pushes cs c) ∙ sym (append_assoc s.queue (new_entries d s.pushes cs) (new_entries d (s.pushes + length cs) (c ∷ []))))
     lengths
 
 none_filtered : (l : Literal) (ls : List Literal) → has ls l ≡ false → has (filter is_shallow_literal ls) l ≡ false
 none_filtered l [] e = refl
-none_filtered l (k ∷ ks) e = by_test (is_shallow_literal k) (none_filtered l ks (none_of (same_literal l k) (has ks l) e).1)
+none_filtered l (k ∷ ks) e = by_test (is_shallow_literal k) (none_filtered l ks (none_of (same_signed l k) (has ks l) e).1)
   where
     by_test : (b : Bool) → has (filter is_shallow_literal ks) l ≡ false → has (if b then k ∷ filter is_shallow_literal ks else filter is_shallow_literal ks) l ≡ false
-    by_test true rest = ap₂ (λ x y. x || y) (none_of (same_literal l k) (has ks l) e).0 rest
+    by_test true rest = ap₂ (λ x y. x || y) (none_of (same_signed l k) (has ks l) e).0 rest
     by_test false rest = rest
 
 later : (b c : Bool) → c ≡ true → b || c ≡ true
@@ -87,13 +87,13 @@ later false c e = e
 
 has-filter : (l : Literal) (ls : List Literal) → is_shallow_literal l ≡ true → has ls l ≡ true → has (filter is_shallow_literal ls) l ≡ true
 has-filter l [] shallow e = cc
-has-filter l (k ∷ ks) shallow e = by_test (same_literal l k) refl e (λ h. has-filter l ks shallow h)
+has-filter l (k ∷ ks) shallow e = by_test (same_signed l k) refl e (λ h. has-filter l ks shallow h)
   where
     with_depth : (b : Bool) → has (filter is_shallow_literal ks) l ≡ true → has (if b then k ∷ filter is_shallow_literal ks else filter is_shallow_literal ks) l ≡ true
-    with_depth true h = later (same_literal l k) (has (filter is_shallow_literal ks) l) h
+    with_depth true h = later (same_signed l k) (has (filter is_shallow_literal ks) l) h
     with_depth false h = h
 
-    by_test : (b : Bool) → same_literal l k ≡ b → b || has ks l ≡ true → (has ks l ≡ true → has (filter is_shallow_literal ks) l ≡ true) → has (filter is_shallow_literal (k ∷ ks)) l ≡ true
+    by_test : (b : Bool) → same_signed l k ≡ b → b || has ks l ≡ true → (has ks l ≡ true → has (filter is_shallow_literal ks) l ≡ true) → has (filter is_shallow_literal (k ∷ ks)) l ≡ true
     by_test true same h rest =
         let first : is_shallow_literal k ≡ true = ap is_shallow_literal (sym (same_literal-true l k same)) ∙ shallow in
         ap (λ (b : Bool). has (if b then k ∷ filter is_shallow_literal ks else filter is_shallow_literal ks) l) first
@@ -105,7 +105,7 @@ module _ (setting : Setting) where
   blank ls = record nothing_yet { clauses = map unit ls; seen = ls }
 
   abbrev begun : List Literal → State
-  begun ls = pushed setting.mode (map process ls) (blank ls)
+  begun ls = with_commands setting.mode (map process ls) (blank ls)
 
   -- the state with the clauses of one literal
   abbrev with_clause : List Literal → Literal → State
@@ -113,15 +113,15 @@ module _ (setting : Setting) where
 
   begun_last : (ls : List Literal) (l : Literal) → has ls l ≡ false → begun (ls ++ l ∷ []) ≡ with_literals setting.mode (l ∷ []) (with_clause ls l)
   begun_last ls l e =
-      let after = pushed setting.mode (process l ∷ []) (record (with_clause ls l) { seen = ls ++ l ∷ [] }) in
-      ap (λ cs. pushed setting.mode cs (blank (ls ++ l ∷ []))) (map-append process ls (l ∷ []))
+      let after = with_commands setting.mode (process l ∷ []) (record (with_clause ls l) { seen = ls ++ l ∷ [] }) in
+      ap (λ cs. with_commands setting.mode cs (blank (ls ++ l ∷ []))) (map-append process ls (l ∷ []))
       ∙ pushed_last setting.mode (map process ls) (process l) (blank (ls ++ l ∷ []))
-      ∙ ap (λ (cs : List Clause). pushed setting.mode (process l ∷ []) (record (begun ls) { clauses = cs; seen = ls ++ l ∷ [] })) (sym (with_unit ls l e))
+      ∙ ap (λ (cs : List Clause). with_commands setting.mode (process l ∷ []) (record (begun ls) { clauses = cs; seen = ls ++ l ∷ [] })) (sym (with_unit ls l e))
       ∙ sym (ap (λ (b : Bool). if b then with_clause ls l else after) e)
 
   begun_again : (ls : List Literal) (l : Literal) → has ls l ≡ true → with_literals setting.mode (l ∷ []) (with_clause ls l) ≡ begun ls
   begun_again ls l e =
-      ap (λ (b : Bool). if b then with_clause ls l else pushed setting.mode (process l ∷ []) (record (with_clause ls l) { seen = ls ++ l ∷ [] })) e
+      ap (λ (b : Bool). if b then with_clause ls l else with_commands setting.mode (process l ∷ []) (record (with_clause ls l) { seen = ls ++ l ∷ [] })) e
       ∙ ap (λ (cs : List Clause). record (begun ls) { clauses = cs }) (with_unit_again ls l e)
 
   abbrev shallow : List Literal → List Literal
@@ -130,31 +130,31 @@ module _ (setting : Setting) where
   abbrev with_all : List Literal → Literal → State
   with_all xs l = with_literals setting.mode (l ∷ []) (with_clause (shallow xs) l)
 
-  with_test : (xs : List Literal) (l : Literal) (b : Bool) → is_shallow_literal l ≡ b → (if (b && true) && true then with_all xs l else begun (shallow xs)) ≡ with_instance setting.mode [] ((l ∷ []) ∷ []) (started setting xs)
+  with_test : (xs : List Literal) (l : Literal) (b : Bool) → is_shallow_literal l ≡ b → (if (b && true) && true then with_all xs l else begun (shallow xs)) ≡ with_instance setting.mode [] ((l ∷ []) ∷ []) (starting_state setting xs)
   with_test xs l b e = sym (ap (λ (c : Bool). if (c && true) && true then with_all xs l else begun (shallow xs)) e)
 
   -- a start with one literal more
-  pub started-last : (xs : List Literal) (l : Literal) → has xs l ≡ false → started setting (xs ++ l ∷ []) ≡ with_instance setting.mode [] ((l ∷ []) ∷ []) (started setting xs)
+  pub started-last : (xs : List Literal) (l : Literal) → has xs l ≡ false → starting_state setting (xs ++ l ∷ []) ≡ with_instance setting.mode [] ((l ∷ []) ∷ []) (starting_state setting xs)
   started-last xs l fresh = by_depth (is_shallow_literal l) refl
     where
       filtered : (b : Bool) → is_shallow_literal l ≡ b → shallow (xs ++ l ∷ []) ≡ shallow xs ++ (if b then l ∷ [] else [])
       filtered b e = filter-append is_shallow_literal xs (l ∷ []) ∙ ap (λ (c : Bool). shallow xs ++ (if c then l ∷ [] else [])) e
 
-      by_depth : (b : Bool) → is_shallow_literal l ≡ b → started setting (xs ++ l ∷ []) ≡ with_instance setting.mode [] ((l ∷ []) ∷ []) (started setting xs)
+      by_depth : (b : Bool) → is_shallow_literal l ≡ b → starting_state setting (xs ++ l ∷ []) ≡ with_instance setting.mode [] ((l ∷ []) ∷ []) (starting_state setting xs)
       by_depth true e = ap begun (filtered true e) ∙ begun_last (shallow xs) l (none_filtered l xs fresh) ∙ with_test xs l true e
       by_depth false e = ap begun (filtered false e ∙ append-nil (shallow xs)) ∙ with_test xs l false e
 
   -- a literal that is there already changes nothing
-  pub started-again : (xs : List Literal) (l : Literal) → has xs l ≡ true → with_instance setting.mode [] ((l ∷ []) ∷ []) (started setting xs) ≡ started setting xs
+  pub started-again : (xs : List Literal) (l : Literal) → has xs l ≡ true → with_instance setting.mode [] ((l ∷ []) ∷ []) (starting_state setting xs) ≡ starting_state setting xs
   started-again xs l there = by_depth (is_shallow_literal l) refl
     where
-      by_depth : (b : Bool) → is_shallow_literal l ≡ b → with_instance setting.mode [] ((l ∷ []) ∷ []) (started setting xs) ≡ started setting xs
+      by_depth : (b : Bool) → is_shallow_literal l ≡ b → with_instance setting.mode [] ((l ∷ []) ∷ []) (starting_state setting xs) ≡ starting_state setting xs
       by_depth true e = sym (with_test xs l true e) ∙ begun_again (shallow xs) l (has-filter l xs e there)
       by_depth false e = sym (with_test xs l false e)
 
-  pub started-none : started setting [] ≡ nothing_yet
+  pub started-none : starting_state setting [] ≡ nothing_yet
   started-none = refl
 
   -- its clauses are its literals'
-  pub started-clauses : (xs : List Literal) → (started setting xs).clauses ≡ map unit (shallow xs)
+  pub started-clauses : (xs : List Literal) → (starting_state setting xs).clauses ≡ map unit (shallow xs)
   started-clauses xs = refl

@@ -18,12 +18,12 @@ use Rattle.std.specs.Bool.{beq}
 use Rattle.search_spec.specs.Unsatisfiable.{formulas}
 use Rattle.search_spec.specs.Clauses.{same_clause, with_clauses, instance_clauses}
 use Rattle.search_spec.specs.Numbered.{numbers}
-use Rattle.search_spec.specs.State.{State, Setting, process, pushed}
+use Rattle.search_spec.specs.State.{State, Setting, process, with_commands}
 use Rattle.search_spec.specs.Instances.{with_literals, with_instance}
-use Rattle.search_spec.specs.After.{nothing_yet, started, after}
+use Rattle.search_spec.specs.After.{nothing_yet, starting_state, state_after}
 use Rattle.term_bank.specs.Content.{content_scope}
 use Rattle.witness_names.specs.Rows.{rows_of}
-use Rattle.literal_map.specs.Atoms.{literal_at}
+use Rattle.literal_map.specs.Atoms.{bank_literal}
 use Rattle.tableau_clauses.specs.declared.origin.Origin.TheVariants.{Start}
 use Rattle.tableau_clauses.specs.Table.{Step, Table, clauses_in, the_clauses}
 use Rattle.prover_state.specs.declared.command.Planned.{Planned}
@@ -32,8 +32,8 @@ use Rattle.prover_state.specs.declared.tables.Basis.{Basis}
 use Rattle.prover_state.specs.declared.tables.Tables.{Tables}
 use Rattle.prover_state.specs.Delays.{the_mode}
 use Rattle.prover_state.specs.Internal.Growing.{BasisGrows}
-use Rattle.prover_state.specs.Internal.Standing.{declared_scope, setting_by, the_state, IsBasis, IsRight}
-use Rattle.prover_state.specs.Internal.Steps.{IsMade}
+use Rattle.prover_state.specs.Internal.Standing.{without_witnesses, setting_by, the_state, IsBasis, IsRightState}
+use Rattle.prover_state.specs.Internal.Steps.{IsMadeInstance}
 use Rattle.prover_search.specs.Internal.Running.{units, start_in, IsRunning}
 use Rattle.prover_search.specs.Internal.Starting.{AddsUnit, AddsStart, IsStarting}
 use Rattle.prover_search.proofs.DevelopLaws.{grows-wider, wider-then, wider-itself}
@@ -78,9 +78,9 @@ branch_filtered scope (l ∷ ls) h = by_test (is_shallow_literal l) (branch_filt
     by_test false rest = rest
 
 clauses_length : (t : Tables) (q : Queue Planned Delays) → length (the_state t q).clauses ≡ length t.steps.0
-clauses_length t q = mapped_length (map (literal_at t.basis.bank.terms t.basis.lits)) (the_clauses t.steps) ∙ mapped_length (λ s. s.0) t.steps.0
+clauses_length t q = mapped_length (map (bank_literal t.basis.bank.terms t.basis.lits)) (the_clauses t.steps) ∙ mapped_length (λ s. s.0) t.steps.0
 
-pub scope-grows : (g h : Basis) → BasisGrows g h → declared_scope h.bank ≡ declared_scope g.bank
+pub scope-grows : (g h : Basis) → BasisGrows g h → without_witnesses h.bank ≡ without_witnesses g.bank
 scope-grows g h w = λ i. record { bases = length (w.bank.bases i); names = map (λ c. c.type) (w.bank.consts i); witnesses = [] }
 
 pub grows-then : (a b c : Basis) → BasisGrows a b → BasisGrows b c → BasisGrows a c
@@ -114,13 +114,13 @@ both-true true e f = cc
 both-true false e f = cc
 
 -- what a literal adds that is too deep, and one that isn't
-pub adds-deep : (lit : SatLit) (t : Tables) → is_shallow_literal (literal_at t.basis.bank.terms t.basis.lits lit) ≡ false → AddsStart lit t t
-adds-deep lit t deep = record { deep = λ e. refl; unit = λ e. absurd (both-true (is_shallow_literal (literal_at t.basis.bank.terms t.basis.lits lit)) e deep) }
+pub adds-deep : (lit : SatLit) (t : Tables) → is_shallow_literal (bank_literal t.basis.bank.terms t.basis.lits lit) ≡ false → AddsStart lit t t
+adds-deep lit t deep = record { deep = λ e. refl; unit = λ e. absurd (both-true (is_shallow_literal (bank_literal t.basis.bank.terms t.basis.lits lit)) e deep) }
 
-pub adds-shallow : (lit : SatLit) (t u v : Tables) (seen : List SatLit) → v ≡ record u { seen = seen } → is_shallow_literal (literal_at t.basis.bank.terms t.basis.lits lit) ≡ true → AddsUnit lit t.steps u.steps → AddsStart lit t v
+pub adds-shallow : (lit : SatLit) (t u v : Tables) (seen : List SatLit) → v ≡ record u { seen = seen } → is_shallow_literal (bank_literal t.basis.bank.terms t.basis.lits lit) ≡ true → AddsUnit lit t.steps u.steps → AddsStart lit t v
 adds-shallow lit t u v seen e shallow unit =
     let A : Tables → Type 0 = λ x. AddsStart lit t x in
-    subst A (sym e) (record { deep = λ f. absurd (both-true (is_shallow_literal (literal_at t.basis.bank.terms t.basis.lits lit)) shallow f); unit = λ f. unit })
+    subst A (sym e) (record { deep = λ f. absurd (both-true (is_shallow_literal (bank_literal t.basis.bank.terms t.basis.lits lit)) shallow f); unit = λ f. unit })
 
 sign_differs : (b : Bool) → beq (not b) b ≡ false
 sign_differs true = refl
@@ -149,12 +149,12 @@ module _ (t0 : Tables) (q0 : Queue Planned Delays) where
   abbrev setting : Setting
   setting = setting_by t0 q0
 
-  pub starting-none : the_state t0 q0 ≡ nothing_yet → IsRight t0 q0 → t0.steps ≡ ([], []) → IsStarting t0 q0 t0 q0 []
+  pub starting-none : the_state t0 q0 ≡ nothing_yet → IsRightState t0 q0 → t0.steps ≡ ([], []) → IsStarting t0 q0 t0 q0 []
   starting-none empty right none = record {
     state = empty;
     right = right;
     basis = grows-itself t0.basis;
-    units = ap (λ (x : Table). map (literal_at t0.basis.bank.terms t0.basis.lits) (units x.0)) none;
+    units = ap (λ (x : Table). map (bank_literal t0.basis.bank.terms t0.basis.lits) (units x.0)) none;
     instances = ap (λ (x : Table). x.1) none;
     rule = refl;
   }
@@ -170,28 +170,28 @@ module _ (t0 : Tables) (q0 : Queue Planned Delays) where
     rule = s.rule;
   }
 
-  module _ (t u : Tables) (q p : Queue Planned Delays) (ls : List Literal) (lit : SatLit) (s : IsStarting t0 q0 t q ls) (is : the_state u p ≡ with_instance (the_mode q.rule.mode) [] ((literal_at t.basis.bank.terms t.basis.lits lit ∷ []) ∷ []) (the_state t q)) (right : IsRight u p) (same : u.basis ≡ t.basis) (adds : AddsStart lit t u) (rule : p.rule ≡ q.rule) where
+  module _ (t u : Tables) (q p : Queue Planned Delays) (ls : List Literal) (lit : SatLit) (s : IsStarting t0 q0 t q ls) (is : the_state u p ≡ with_instance (the_mode q.rule.mode) [] ((bank_literal t.basis.bank.terms t.basis.lits lit ∷ []) ∷ []) (the_state t q)) (right : IsRightState u p) (same : u.basis ≡ t.basis) (adds : AddsStart lit t u) (rule : p.rule ≡ q.rule) where
     abbrev l : Literal
-    l = literal_at t.basis.bank.terms t.basis.lits lit
+    l = bank_literal t.basis.bank.terms t.basis.lits lit
 
     abbrev shallow : List Literal → List Literal
     shallow xs = filter is_shallow_literal xs
 
-    from_start : the_state u p ≡ with_instance setting.mode [] ((l ∷ []) ∷ []) (started setting ls)
+    from_start : the_state u p ≡ with_instance setting.mode [] ((l ∷ []) ∷ []) (starting_state setting ls)
     from_start = is ∙ ap₂ (λ (d : Delays) (x : State). with_instance (the_mode d.mode) [] ((l ∷ []) ∷ []) x) s.rule s.state
 
     basis_grows : BasisGrows t0.basis u.basis
     basis_grows = subst (BasisGrows t0.basis) (sym same) s.basis
 
     -- the start units by what the numbers stood for
-    in_place : start_in u ≡ map (literal_at t.basis.bank.terms t.basis.lits) (units u.steps.0)
-    in_place = ap (λ (g : Basis). map (literal_at g.bank.terms g.lits) (units u.steps.0)) same
+    in_place : start_in u ≡ map (bank_literal t.basis.bank.terms t.basis.lits) (units u.steps.0)
+    in_place = ap (λ (g : Basis). map (bank_literal g.bank.terms g.lits) (units u.steps.0)) same
 
     steps_before : length t.steps.0 ≡ length (shallow ls)
     steps_before = sym (clauses_length t q) ∙ ap (λ (x : State). length x.clauses) s.state ∙ mapped_length unit (shallow ls)
 
     module _ (there : has ls l ≡ true) where
-      state_again : the_state u p ≡ started setting ls
+      state_again : the_state u p ≡ starting_state setting ls
       state_again = from_start ∙ started-again setting ls l there
 
       steps_again : length u.steps.0 ≡ length t.steps.0
@@ -208,13 +208,13 @@ module _ (t0 : Tables) (q0 : Queue Planned Delays) where
             state = state_again;
             right = right;
             basis = basis_grows;
-            units = in_place ∙ ap (λ (x : Table). map (literal_at t.basis.bank.terms t.basis.lits) (units x.0)) kept ∙ s.units;
+            units = in_place ∙ ap (λ (x : Table). map (bank_literal t.basis.bank.terms t.basis.lits) (units x.0)) kept ∙ s.units;
             instances = ap (λ (x : Table). x.1) kept ∙ s.instances;
             rule = rule ∙ s.rule;
           }
 
     module _ (fresh : has ls l ≡ false) where
-      state_more : the_state u p ≡ started setting (ls ++ l ∷ [])
+      state_more : the_state u p ≡ starting_state setting (ls ++ l ∷ [])
       state_more = from_start ∙ sym (started-last setting ls l fresh)
 
       longer : (b : Bool) → is_shallow_literal l ≡ b → shallow (ls ++ l ∷ []) ≡ shallow ls ++ (if b then l ∷ [] else [])
@@ -223,13 +223,13 @@ module _ (t0 : Tables) (q0 : Queue Planned Delays) where
       units_more : (b : Bool) → is_shallow_literal l ≡ b → (start_in u ≡ shallow (ls ++ l ∷ [])) × (u.steps.1 ≡ [])
       units_more false e =
           let kept = adds.deep e in (
-            in_place ∙ ap (λ (x : Table). map (literal_at t.basis.bank.terms t.basis.lits) (units x.0)) kept ∙ s.units ∙ sym (longer false e ∙ append-nil (shallow ls)),
+            in_place ∙ ap (λ (x : Table). map (bank_literal t.basis.bank.terms t.basis.lits) (units x.0)) kept ∙ s.units ∙ sym (longer false e ∙ append-nil (shallow ls)),
             ap (λ (x : Table). x.1) kept ∙ s.instances,
           )
       units_more true e =
-          let d : SatLit → Literal = literal_at t.basis.bank.terms t.basis.lits in
-          let after : length u.steps.0 ≡ length (shallow (ls ++ l ∷ [])) = sym (clauses_length u p) ∙ ap (λ (x : State). length x.clauses) state_more ∙ mapped_length unit (shallow (ls ++ l ∷ [])) in
-          let one_more : length u.steps.0 ≡ length t.steps.0 + 1 = omega (arith, after, steps_before, ap length (longer true e), length-append (shallow ls) (l ∷ [])) in (
+          let d : SatLit → Literal = bank_literal t.basis.bank.terms t.basis.lits in
+          let state_after : length u.steps.0 ≡ length (shallow (ls ++ l ∷ [])) = sym (clauses_length u p) ∙ ap (λ (x : State). length x.clauses) state_more ∙ mapped_length unit (shallow (ls ++ l ∷ [])) in
+          let one_more : length u.steps.0 ≡ length t.steps.0 + 1 = omega (arith, state_after, steps_before, ap length (longer true e), length-append (shallow ls) (l ∷ [])) in (
             in_place
                 ∙ ap (map d) (units_added lit t.steps u.steps (adds.unit e) one_more)
                 ∙ map-append d (units t.steps.0) (lit ∷ [])
@@ -252,13 +252,13 @@ module _ (t0 : Tables) (q0 : Queue Planned Delays) where
         by_test false e = starting_more e
 
   -- the literal of a formula was added
-  pub starting-literal : (t : Tables) (q : Queue Planned Delays) (ls : List Literal) → IsStarting t0 q0 t q ls → (g : Basis) → BasisGrows t.basis g → IsBasis g → (u : Tables) (p : Queue Planned Delays) (lit : SatLit) (l : Literal) → literal_at g.bank.terms g.lits lit ≡ l → the_state u p ≡ with_instance (the_mode q.rule.mode) [] ((literal_at g.bank.terms g.lits lit ∷ []) ∷ []) (the_state (record t { basis = g }) q) → IsRight u p → u.basis ≡ g → AddsStart lit (record t { basis = g }) u → p.rule ≡ q.rule → IsStarting t0 q0 u p (added ls (l ∷ []))
+  pub starting-literal : (t : Tables) (q : Queue Planned Delays) (ls : List Literal) → IsStarting t0 q0 t q ls → (g : Basis) → BasisGrows t.basis g → IsBasis g → (u : Tables) (p : Queue Planned Delays) (lit : SatLit) (l : Literal) → bank_literal g.bank.terms g.lits lit ≡ l → the_state u p ≡ with_instance (the_mode q.rule.mode) [] ((bank_literal g.bank.terms g.lits lit ∷ []) ∷ []) (the_state (record t { basis = g }) q) → IsRightState u p → u.basis ≡ g → AddsStart lit (record t { basis = g }) u → p.rule ≡ q.rule → IsStarting t0 q0 u p (added ls (l ∷ []))
   starting-literal t q ls s g grows good u p lit l named is right same adds rule =
       let S : Literal → Type 0 = λ k. IsStarting t0 q0 u p (added ls (k ∷ [])) in
       subst S named (starting-added (record t { basis = g }) u q p ls lit (starting-grown t q ls s g grows good) is right same adds rule)
 
   -- what is declared now is what was declared
-  pub scope-now : (t : Tables) (q : Queue Planned Delays) (ls : List Literal) → IsStarting t0 q0 t q ls → t0.basis.witnesses ≡ [] → content_scope t.basis.bank ≡ declared_scope t0.basis.bank
+  pub scope-now : (t : Tables) (q : Queue Planned Delays) (ls : List Literal) → IsStarting t0 q0 t q ls → t0.basis.witnesses ≡ [] → content_scope t.basis.bank ≡ without_witnesses t0.basis.bank
   scope-now t q ls s unwitnessed =
       let none : t.basis.bank.witnesses ≡ [] = sym s.right.basis.typed ∙ ap (λ ws. map (λ (r : Row). r.type) (rows_of t.basis.bank.terms ws)) (s.basis.witnesses ∙ unwitnessed) in
       ap (λ ws. record { bases = length t.basis.bank.bases; names = map (λ c. c.type) t.basis.bank.consts; witnesses = ws }) none
@@ -268,21 +268,21 @@ module _ (t0 : Tables) (q0 : Queue Planned Delays) where
   done-none t q ls s = ap (λ (x : State). x.done) s.state
 
   -- a start is the start of a run
-  module _ (t : Tables) (q : Queue Planned Delays) (ls : List Literal) (s : IsStarting t0 q0 t q ls) (declared : IsScope (declared_scope t0.basis.bank)) (typed : IsBranch (declared_scope t0.basis.bank) ls) (unwitnessed : t0.basis.witnesses ≡ []) where
+  module _ (t : Tables) (q : Queue Planned Delays) (ls : List Literal) (s : IsStarting t0 q0 t q ls) (declared : IsScope (without_witnesses t0.basis.bank)) (typed : IsBranch (without_witnesses t0.basis.bank) ls) (unwitnessed : t0.basis.witnesses ≡ []) where
     setting_same : setting_by t q ≡ setting
     setting_same = ap₂ (λ (x : Scope) (d : Delays). record { scope = x; mode = the_mode d.mode }) (scope-grows t0.basis t.basis s.basis) s.rule
 
-    state_is : started (setting_by t q) (start_in t) ≡ the_state t q
+    state_is : starting_state (setting_by t q) (start_in t) ≡ the_state t q
     state_is =
-        ap₂ (λ (x : Setting) (ks : List Literal). started x ks) setting_same s.units
-        ∙ ap (λ ks. pushed setting.mode (map process ks) (record nothing_yet { clauses = map unit ks; seen = ks })) (shallow_twice ls)
+        ap₂ (λ (x : Setting) (ks : List Literal). starting_state x ks) setting_same s.units
+        ∙ ap (λ ks. with_commands setting.mode (map process ks) (record nothing_yet { clauses = map unit ks; seen = ks })) (shallow_twice ls)
         ∙ sym s.state
 
     pub running-start : IsRunning t q
     running-start =
-        let C : ℕ → Type 0 = λ n. after (setting_by t q) (start_in t) n ≡ Some (the_state t q) in
+        let C : ℕ → Type 0 = λ n. state_after (setting_by t q) (start_in t) n ≡ Some (the_state t q) in
         let B : Scope → Type 0 = λ x. IsBranch (with_rows x []) (start_in t) in
-        let L : List Literal → Type 0 = λ ks. IsBranch (with_rows (declared_scope t0.basis.bank) []) ks in
+        let L : List Literal → Type 0 = λ ks. IsBranch (with_rows (without_witnesses t0.basis.bank) []) ks in
         let same = scope-grows t0.basis t.basis s.basis in
         record {
           right = s.right;
@@ -290,6 +290,6 @@ module _ (t0 : Tables) (q0 : Queue Planned Delays) where
           within = omega (arith, done-none t q ls s);
           few = omega (arith, ap length s.basis.witnesses, ap length unwitnessed);
           declared = subst IsScope (sym same) declared;
-          start = subst B (sym same) (subst L (sym s.units) (branch_filtered (declared_scope t0.basis.bank) ls typed));
-          made = subst (Each (IsMade t.basis)) (sym s.instances) tt;
+          start = subst B (sym same) (subst L (sym s.units) (branch_filtered (without_witnesses t0.basis.bank) ls typed));
+          made = subst (Each (IsMadeInstance t.basis)) (sym s.instances) tt;
         }

@@ -10,26 +10,26 @@ use Rattle.sat_base.specs.declared.literal.SatLit.{SatLit}
 use Rattle.command_queue.specs.Queue.{Queue}
 use Rattle.search_spec.specs.Mode.{Mode}
 use Rattle.search_spec.specs.Spine.{head_of, arguments, is_spine, same_head}
-use Rattle.search_spec.specs.State.{State, Setting, inst, pushed, scope_in}
+use Rattle.search_spec.specs.State.{State, Setting, inst, with_commands, scope_in}
 use Rattle.search_spec.specs.Alternatives.{Alternatives, differ}
 use Rattle.search_spec.specs.Instances.{with_instance}
 use Rattle.search_spec.specs.Partners.{matings, confrontations}
-use Rattle.search_spec.specs.Terms.{terms_of, prepared, with_term}
+use Rattle.search_spec.specs.Terms.{terms_of, with_preparation, with_term}
 use Rattle.search_spec.specs.Selections.{selections_in, with_selections}
-use Rattle.search_spec.specs.Processing.{worked, equated, decomposed, confronted, mated, processed}
+use Rattle.search_spec.specs.Processing.{with_rules, with_equation, with_decomposition, with_confrontations, with_matings, with_processing}
 use Rattle.term_bank.specs.Terms.{term_at}
-use Rattle.literal_map.specs.Atoms.{literal_at}
+use Rattle.literal_map.specs.Atoms.{bank_literal}
 use Rattle.prover_state.specs.declared.command.Planned.{Planned}
 use Rattle.prover_state.specs.declared.command.Delays.{Delays}
 use Rattle.prover_state.specs.declared.tables.Basis.{Basis}
 use Rattle.prover_state.specs.declared.tables.Tables.{Tables}
 use Rattle.prover_state.specs.Delays.{the_mode}
 use Rattle.prover_state.specs.Internal.Growing.{BasisGrows, BasisWidens}
-use Rattle.prover_state.specs.Internal.Names.{IsNumber}
+use Rattle.prover_state.specs.Internal.Names.{IsNumberIn}
 use Rattle.prover_state.specs.Internal.Pending.{equation_type, range_of}
 use Rattle.prover_state.specs.Internal.Shapes.{IsBaseEquation}
 use Rattle.prover_state.specs.Internal.Standing.{setting_by, the_state, IsBasis}
-use Rattle.prover_state.specs.Internal.Steps.{IsMade, StepsGrow}
+use Rattle.prover_state.specs.Internal.Steps.{IsMadeInstance, StepsGrow}
 use Rattle.prover_search.specs.Internal.Developing.{IsWider, Develops}
 use Rattle.prover_search.specs.Internal.Working.{denies_itself}
 use Rattle.prover_search.proofs.MadeStays.{literal-wider}
@@ -44,40 +44,40 @@ literal-is l b t e f = ap₂ (λ c u. record { positive = c; atom = u }) e f
 
 module _ (setting : Setting) (st : State) where
   -- what is done for a literal is an instance with it
-  pub worked-alone : (l k : Literal) (as' : Alternatives) → l ≡ k → with_instance setting.mode (k ∷ []) as' st ≡ worked setting k.positive k.atom st → with_instance setting.mode (l ∷ []) as' st ≡ worked setting l.positive l.atom st
-  worked-alone l k as' e h = let P : Literal → Type 0 = λ m. with_instance setting.mode (m ∷ []) as' st ≡ worked setting m.positive m.atom st in subst P (sym e) h
+  pub worked-alone : (l k : Literal) (as' : Alternatives) → l ≡ k → with_instance setting.mode (k ∷ []) as' st ≡ with_rules setting k.positive k.atom st → with_instance setting.mode (l ∷ []) as' st ≡ with_rules setting l.positive l.atom st
+  worked-alone l k as' e h = let P : Literal → Type 0 = λ m. with_instance setting.mode (m ∷ []) as' st ≡ with_rules setting m.positive m.atom st in subst P (sym e) h
 
   -- what is done for a literal is what is done for an equal one
-  pub worked-as : (l k : Literal) (s : State) → l ≡ k → s ≡ worked setting k.positive k.atom st → s ≡ worked setting l.positive l.atom st
-  worked-as l k s e h = let P : Literal → Type 0 = λ m. s ≡ worked setting m.positive m.atom st in subst P (sym e) h
+  pub worked-as : (l k : Literal) (s : State) → l ≡ k → s ≡ with_rules setting k.positive k.atom st → s ≡ with_rules setting l.positive l.atom st
+  worked-as l k s e h = let P : Literal → Type 0 = λ m. s ≡ with_rules setting m.positive m.atom st in subst P (sym e) h
 
   -- an equation whose negation has two different sides
-  pub worked-equation : (sign : Bool) (a : SimpleType) (s t : Lambda) → denies_itself (record { positive = sign; atom = eq a s t }) ≡ false → equated setting a sign s t st ≡ worked setting sign (eq a s t) st
+  pub worked-equation : (sign : Bool) (a : SimpleType) (s t : Lambda) → denies_itself (record { positive = sign; atom = eq a s t }) ≡ false → with_equation setting a sign s t st ≡ with_rules setting sign (eq a s t) st
   worked-equation true a s t e = refl
-  worked-equation false a s t e = sym (ap (λ (b : Bool). if b then with_instance setting.mode (minus (eq a s t) ∷ []) [] st else equated setting a false s t st) e)
+  worked-equation false a s t e = sym (ap (λ (b : Bool). if b then with_instance setting.mode (minus (eq a s t) ∷ []) [] st else with_equation setting a false s t st) e)
 
-  pub worked-itself : (a : SimpleType) (s : Lambda) → same_term s s ≡ true → with_instance setting.mode (minus (eq a s s) ∷ []) [] st ≡ worked setting false (eq a s s) st
-  worked-itself a s e = sym (ap (λ (b : Bool). if b then with_instance setting.mode (minus (eq a s s) ∷ []) [] st else equated setting a false s s st) e)
+  pub worked-itself : (a : SimpleType) (s : Lambda) → same_term s s ≡ true → with_instance setting.mode (minus (eq a s s) ∷ []) [] st ≡ with_rules setting false (eq a s s) st
+  worked-itself a s e = sym (ap (λ (b : Bool). if b then with_instance setting.mode (minus (eq a s s) ∷ []) [] st else with_equation setting a false s s st) e)
 
   -- a negated equation is decomposed where its sides have one compared head
-  pub decomposed-not : (a : SimpleType) (s t : Lambda) → (is_spine s && same_head s t) ≡ false → st ≡ decomposed setting a s t st
+  pub decomposed-not : (a : SimpleType) (s t : Lambda) → (is_spine s && same_head s t) ≡ false → st ≡ with_decomposition setting a s t st
   decomposed-not a s t e = sym (ap (λ (b : Bool). if b then with_instance setting.mode (minus (eq a s t) ∷ []) (differ (type_of (scope_in setting st) [] (head_of s)) (arguments s) (arguments t)) st else st) e)
 
-  pub decomposed-is : (a : SimpleType) (s t : Lambda) → (is_spine s && same_head s t) ≡ true → with_instance setting.mode (minus (eq a s t) ∷ []) (differ (type_of (scope_in setting st) [] (head_of s)) (arguments s) (arguments t)) st ≡ decomposed setting a s t st
+  pub decomposed-is : (a : SimpleType) (s t : Lambda) → (is_spine s && same_head s t) ≡ true → with_instance setting.mode (minus (eq a s t) ∷ []) (differ (type_of (scope_in setting st) [] (head_of s)) (arguments s) (arguments t)) st ≡ with_decomposition setting a s t st
   decomposed-is a s t e = sym (ap (λ (b : Bool). if b then with_instance setting.mode (minus (eq a s t) ∷ []) (differ (type_of (scope_in setting st) [] (head_of s)) (arguments s) (arguments t)) st else st) e)
 
   -- a literal is mated where its atom is a compared head with arguments
-  pub mated-not : (l : Literal) → is_spine l.atom ≡ false → st ≡ mated setting l st
-  mated-not l e = sym (ap (λ (b : Bool). if b then pushed setting.mode (matings l st.noted) st else st) e)
+  pub mated-not : (l : Literal) → is_spine l.atom ≡ false → st ≡ with_matings setting l st
+  mated-not l e = sym (ap (λ (b : Bool). if b then with_commands setting.mode (matings l st.noted) st else st) e)
 
-  pub mated-is : (l : Literal) → is_spine l.atom ≡ true → pushed setting.mode (matings l st.noted) st ≡ mated setting l st
-  mated-is l e = sym (ap (λ (b : Bool). if b then pushed setting.mode (matings l st.noted) st else st) e)
+  pub mated-is : (l : Literal) → is_spine l.atom ≡ true → with_commands setting.mode (matings l st.noted) st ≡ with_matings setting l st
+  mated-is l e = sym (ap (λ (b : Bool). if b then with_commands setting.mode (matings l st.noted) st else st) e)
 
   -- for a literal of another shape no more is done than that it is mated
-  pub worked-other : (l : Literal) → IsMated l.atom → mated setting l st ≡ worked setting l.positive l.atom st
+  pub worked-other : (l : Literal) → IsMated l.atom → with_matings setting l st ≡ with_rules setting l.positive l.atom st
   worked-other l h = by_sign l.positive l.atom (h setting st)
     where
-      by_sign : (b : Bool) (t : Lambda) → (worked setting true t st ≡ mated setting (plus t) st) × (worked setting false t st ≡ mated setting (minus t) st) → mated setting (record { positive = b; atom = t }) st ≡ worked setting b t st
+      by_sign : (b : Bool) (t : Lambda) → (with_rules setting true t st ≡ with_matings setting (plus t) st) × (with_rules setting false t st ≡ with_matings setting (minus t) st) → with_matings setting (record { positive = b; atom = t }) st ≡ with_rules setting b t st
       by_sign true t k = sym k.0
       by_sign false t k = sym k.1
 
@@ -91,9 +91,9 @@ widens-wider g h k = record { bank = k.bank; lits = k.lits; witnesses = k.witnes
 
 -- tables whose basis has grown, with the same steps and number of commands
 pub develops-grown : (t u : Tables) → BasisGrows t.basis u.basis → u.steps ≡ t.steps → u.done ≡ t.done → Develops t u
-develops-grown t u g s d = record { basis = grows-wider t.basis u.basis g; steps = steps-same (IsMade u.basis) t.steps u.steps s; done = d }
+develops-grown t u g s d = record { basis = grows-wider t.basis u.basis g; steps = steps-same (IsMadeInstance u.basis) t.steps u.steps s; done = d }
 
-pub develops-widened : (t u : Tables) → BasisWidens t.basis u.basis → StepsGrow (IsMade u.basis) t.steps u.steps → u.done ≡ t.done → Develops t u
+pub develops-widened : (t u : Tables) → BasisWidens t.basis u.basis → StepsGrow (IsMadeInstance u.basis) t.steps u.steps → u.done ≡ t.done → Develops t u
 develops-widened t u g s d = record { basis = widens-wider t.basis u.basis g; steps = s; done = d }
 
 module _ (t u : Tables) (q p : Queue Planned Delays) (rule : p.rule ≡ q.rule) where
@@ -103,14 +103,14 @@ module _ (t u : Tables) (q p : Queue Planned Delays) (rule : p.rule ≡ q.rule) 
   pub setting-wider : IsWider t.basis u.basis → setting_by u p ≡ setting_by t q
   setting-wider w = ap₂ (λ (x : Scope) (d : Delays). record { scope = x; mode = the_mode d.mode }) (scope-wider t.basis u.basis w) rule
 
-pub literal-same : (g h : Basis) (lit : SatLit) → h ≡ g → literal_at h.bank.terms h.lits lit ≡ literal_at g.bank.terms g.lits lit
-literal-same g h lit e = ap (λ (x : Basis). literal_at x.bank.terms x.lits lit) e
+pub literal-same : (g h : Basis) (lit : SatLit) → h ≡ g → bank_literal h.bank.terms h.lits lit ≡ bank_literal g.bank.terms g.lits lit
+literal-same g h lit e = ap (λ (x : Basis). bank_literal x.bank.terms x.lits lit) e
 
-pub number-same : (g h : Basis) (lit : SatLit) → h ≡ g → IsNumber g.lits lit → IsNumber h.lits lit
-number-same g h lit e k = let P : Basis → Type 0 = λ x. IsNumber x.lits lit in subst P (sym e) k
+pub number-same : (g h : Basis) (lit : SatLit) → h ≡ g → IsNumberIn g.lits lit → IsNumberIn h.lits lit
+number-same g h lit e k = let P : Basis → Type 0 = λ x. IsNumberIn x.lits lit in subst P (sym e) k
 
 -- an equation stays one where terms come
-pub difference-equation : (g h k : Basis) (lit : SatLit) → IsBasis g → IsNumber g.lits lit → h ≡ g → IsWider h k → IsBaseEquation (literal_at g.bank.terms g.lits lit).atom → IsBaseEquation (literal_at k.bank.terms k.lits lit).atom
+pub difference-equation : (g h k : Basis) (lit : SatLit) → IsBasis g → IsNumberIn g.lits lit → h ≡ g → IsWider h k → IsBaseEquation (bank_literal g.bank.terms g.lits lit).atom → IsBaseEquation (bank_literal k.bank.terms k.lits lit).atom
 difference-equation g h k lit good number e w is =
     let W : Basis → Type 0 = λ x. IsWider x k in
     let Q : Lambda → Type 0 = λ t. IsBaseEquation t in
@@ -120,7 +120,7 @@ difference-equation g h k lit good number e w is =
 
 module _ (t t1 t2 t3 : Tables) (q q1 q2 q3 : Queue Planned Delays) (lit : SatLit) where
   abbrev l : Literal
-  l = literal_at t.basis.bank.terms t.basis.lits lit
+  l = bank_literal t.basis.bank.terms t.basis.lits lit
 
   abbrev s : State
   s = the_state t q
@@ -128,52 +128,52 @@ module _ (t t1 t2 t3 : Tables) (q q1 q2 q3 : Queue Planned Delays) (lit : SatLit
   abbrev setting : Setting
   setting = setting_by t q
 
-  pub processed-is : IsBasis t.basis → IsNumber t.basis.lits lit → Develops t t1 → q1.rule ≡ q.rule → t2.basis ≡ t1.basis → q2 ≡ q1
-      → the_state t1 q1 ≡ worked setting l.positive l.atom s
-      → the_state t2 q2 ≡ record (the_state t1 q1) { noted = (the_state t1 q1).noted ++ literal_at t1.basis.bank.terms t1.basis.lits lit ∷ [] }
-      → the_state t3 q3 ≡ with_selections (the_mode q2.rule.mode) (selections_in (literal_at t2.basis.bank.terms t2.basis.lits lit).atom) (the_state t2 q2)
-      → the_state t3 q3 ≡ processed setting l s
+  pub processed-is : IsBasis t.basis → IsNumberIn t.basis.lits lit → Develops t t1 → q1.rule ≡ q.rule → t2.basis ≡ t1.basis → q2 ≡ q1
+      → the_state t1 q1 ≡ with_rules setting l.positive l.atom s
+      → the_state t2 q2 ≡ record (the_state t1 q1) { noted = (the_state t1 q1).noted ++ bank_literal t1.basis.bank.terms t1.basis.lits lit ∷ [] }
+      → the_state t3 q3 ≡ with_selections (the_mode q2.rule.mode) (selections_in (bank_literal t2.basis.bank.terms t2.basis.lits lit).atom) (the_state t2 q2)
+      → the_state t3 q3 ≡ with_processing setting l s
   processed-is good number develops rule basis plan working noting selecting =
-      let same : literal_at t1.basis.bank.terms t1.basis.lits lit ≡ l = literal-wider t.basis t1.basis good develops.basis lit number in
-      let later : literal_at t2.basis.bank.terms t2.basis.lits lit ≡ l = literal-same t1.basis t2.basis lit basis ∙ same in
+      let same : bank_literal t1.basis.bank.terms t1.basis.lits lit ≡ l = literal-wider t.basis t1.basis good develops.basis lit number in
+      let later : bank_literal t2.basis.bank.terms t2.basis.lits lit ≡ l = literal-same t1.basis t2.basis lit basis ∙ same in
       let mode : the_mode q2.rule.mode ≡ the_mode q.rule.mode = ap (λ (x : Queue Planned Delays). the_mode x.rule.mode) plan ∙ mode-same t t1 q q1 rule in
       selecting
       ∙ ap₂ (λ (m : Mode) (k : Literal). with_selections m (selections_in k.atom) (the_state t2 q2)) mode later
       ∙ ap (with_selections (the_mode q.rule.mode) (selections_in l.atom)) (noting ∙ ap₂ (λ (x : State) (k : Literal). record x { noted = x.noted ++ k ∷ [] }) working same)
 
   -- the type is prepared, and the instances are pushed
-  pub universal-is : IsBasis t.basis → IsNumber t.basis.lits lit → IsWider t.basis t1.basis → q1.rule ≡ q.rule → (a : SimpleType) (f : Lambda) → l ≡ plus (every a f)
-      → the_state t1 q1 ≡ prepared setting a s
-      → the_state t2 q2 ≡ (let k = literal_at t1.basis.bank.terms t1.basis.lits lit in pushed (the_mode q1.rule.mode) (map (inst k) (terms_of (range_of k.atom) (the_state t1 q1))) (the_state t1 q1))
-      → the_state t2 q2 ≡ worked setting l.positive l.atom s
+  pub universal-is : IsBasis t.basis → IsNumberIn t.basis.lits lit → IsWider t.basis t1.basis → q1.rule ≡ q.rule → (a : SimpleType) (f : Lambda) → l ≡ plus (every a f)
+      → the_state t1 q1 ≡ with_preparation setting a s
+      → the_state t2 q2 ≡ (let k = bank_literal t1.basis.bank.terms t1.basis.lits lit in with_commands (the_mode q1.rule.mode) (map (inst k) (terms_of (range_of k.atom) (the_state t1 q1))) (the_state t1 q1))
+      → the_state t2 q2 ≡ with_rules setting l.positive l.atom s
   universal-is good number wider rule a f e preparing pushing =
-      let same : literal_at t1.basis.bank.terms t1.basis.lits lit ≡ plus (every a f) = literal-wider t.basis t1.basis good wider lit number ∙ e in
+      let same : bank_literal t1.basis.bank.terms t1.basis.lits lit ≡ plus (every a f) = literal-wider t.basis t1.basis good wider lit number ∙ e in
       let ready = the_state t1 q1 in
       worked-as setting s l (plus (every a f)) (the_state t2 q2) e
       (pushing
-      ∙ ap₂ (λ (m : Mode) (k : Literal). pushed m (map (inst k) (terms_of (range_of k.atom) ready)) ready) (mode-same t t1 q q1 rule) same
-      ∙ ap (λ (x : State). pushed (the_mode q.rule.mode) (map (inst (plus (every a f))) (terms_of a x)) x) preparing)
+      ∙ ap₂ (λ (m : Mode) (k : Literal). with_commands m (map (inst k) (terms_of (range_of k.atom) ready)) ready) (mode-same t t1 q q1 rule) same
+      ∙ ap (λ (x : State). with_commands (the_mode q.rule.mode) (map (inst (plus (every a f))) (terms_of a x)) x) preparing)
 
   -- the sides are for instances, the negated equation is decomposed, and its confrontations are pushed
-  pub difference-is : IsBasis t.basis → IsNumber t.basis.lits lit → t1.basis ≡ t.basis → IsWider t1.basis t2.basis → q1.rule ≡ q.rule → q2.rule ≡ q1.rule
+  pub difference-is : IsBasis t.basis → IsNumberIn t.basis.lits lit → t1.basis ≡ t.basis → IsWider t1.basis t2.basis → q1.rule ≡ q.rule → q2.rule ≡ q1.rule
       → (n m : ℕ) (i j : ℕ) → n ≡ suc m → l ≡ minus (eq (base (suc m)) (term_at t.basis.bank.terms i) (term_at t.basis.bank.terms j)) → denies_itself l ≡ false
       → the_state t1 q1 ≡ with_term (the_mode q.rule.mode) (base n) (term_at t.basis.bank.terms j) (with_term (the_mode q.rule.mode) (base n) (term_at t.basis.bank.terms i) s)
-      → ((k : ℕ) → literal_at t1.basis.bank.terms t1.basis.lits lit ≡ minus (eq (base (suc k)) (term_at t1.basis.bank.terms i) (term_at t1.basis.bank.terms j))
-      → the_state t2 q2 ≡ decomposed (setting_by t1 q1) (base (suc k)) (term_at t1.basis.bank.terms i) (term_at t1.basis.bank.terms j) (the_state t1 q1))
-      → the_state t3 q3 ≡ (let k = literal_at t2.basis.bank.terms t2.basis.lits lit in pushed (the_mode q2.rule.mode) (confrontations (equation_type k.atom) k (the_state t2 q2).noted) (the_state t2 q2))
-      → the_state t3 q3 ≡ worked setting l.positive l.atom s
+      → ((k : ℕ) → bank_literal t1.basis.bank.terms t1.basis.lits lit ≡ minus (eq (base (suc k)) (term_at t1.basis.bank.terms i) (term_at t1.basis.bank.terms j))
+      → the_state t2 q2 ≡ with_decomposition (setting_by t1 q1) (base (suc k)) (term_at t1.basis.bank.terms i) (term_at t1.basis.bank.terms j) (the_state t1 q1))
+      → the_state t3 q3 ≡ (let k = bank_literal t2.basis.bank.terms t2.basis.lits lit in with_commands (the_mode q2.rule.mode) (confrontations (equation_type k.atom) k (the_state t2 q2).noted) (the_state t2 q2))
+      → the_state t3 q3 ≡ with_rules setting l.positive l.atom s
   difference-is good number basis wider rule rule2 n m i j is e differs adding decomposing pushing =
       let b : SimpleType = base (suc m) in
       let x : Lambda = term_at t.basis.bank.terms i in
       let y : Lambda = term_at t.basis.bank.terms j in
       let mode : Mode = the_mode q.rule.mode in
       let W : Basis → Type 0 = λ g. IsWider g t2.basis in
-      let D : Basis → Type 0 = λ g. (k : ℕ) → literal_at g.bank.terms g.lits lit ≡ minus (eq (base (suc k)) (term_at g.bank.terms i) (term_at g.bank.terms j)) → the_state t2 q2 ≡ decomposed (setting_by t1 q1) (base (suc k)) (term_at g.bank.terms i) (term_at g.bank.terms j) (the_state t1 q1) in
-      let same : literal_at t2.basis.bank.terms t2.basis.lits lit ≡ minus (eq b x y) = literal-wider t.basis t2.basis good (subst W basis wider) lit number ∙ e in
+      let D : Basis → Type 0 = λ g. (k : ℕ) → bank_literal g.bank.terms g.lits lit ≡ minus (eq (base (suc k)) (term_at g.bank.terms i) (term_at g.bank.terms j)) → the_state t2 q2 ≡ with_decomposition (setting_by t1 q1) (base (suc k)) (term_at g.bank.terms i) (term_at g.bank.terms j) (the_state t1 q1) in
+      let same : bank_literal t2.basis.bank.terms t2.basis.lits lit ≡ minus (eq b x y) = literal-wider t.basis t2.basis good (subst W basis wider) lit number ∙ e in
       let now : setting_by t1 q1 ≡ setting = ap₂ (λ (g : Basis) (d : Delays). setting_by (record t { basis = g }) (record q { rule = d })) basis rule in
       let added : the_state t1 q1 ≡ with_term mode b y (with_term mode b x s) = adding ∙ ap (λ k. with_term mode (base k) y (with_term mode (base k) x s)) is in
       worked-as setting s l (minus (eq b x y)) (the_state t3 q3) e
       (pushing
-      ∙ ap₂ (λ (o : Mode) (k : Literal). pushed o (confrontations (equation_type k.atom) k (the_state t2 q2).noted) (the_state t2 q2)) (mode-same t t2 q q2 (rule2 ∙ rule)) same
-      ∙ ap (confronted setting b (minus (eq b x y))) (subst D basis decomposing m e ∙ ap₂ (λ (o : Setting) (z : State). decomposed o b x y z) now added)
+      ∙ ap₂ (λ (o : Mode) (k : Literal). with_commands o (confrontations (equation_type k.atom) k (the_state t2 q2).noted) (the_state t2 q2)) (mode-same t t2 q q2 (rule2 ∙ rule)) same
+      ∙ ap (with_confrontations setting b (minus (eq b x y))) (subst D basis decomposing m e ∙ ap₂ (λ (o : Setting) (z : State). with_decomposition o b x y z) now added)
       ∙ worked-equation setting s false b x y (differs-as l (minus (eq b x y)) e differs))

@@ -3,7 +3,7 @@ ghost use Rattle.std.specs.Prelude.{◌≡◌, ◌≢◌, [], OnOk, IfOk, false}
 ghost use Rattle.search_spec.specs.Unsatisfiable.{Unsatisfiable};
 ghost use Rattle.prover_state.specs.Internal.Standing.{setting_by, the_state};
 ghost use Rattle.prover_search.specs.Internal.Running.{start_in, IsRunning};
-ghost use Rattle.prover_search.specs.Internal.Answers.{GoesOn, Answers};
+ghost use Rattle.prover_search.specs.Internal.Answers.{StepGoesOn, AnswersStep};
 
 use crate::carry::carry_out;
 use crate::stepped::Stepped;
@@ -21,7 +21,7 @@ fn go<W: Weigher<Waiting>>(core: &mut Core<W>, limit: u32) -> Result<(), AllocEr
     requires limit { limit ≡ core.old.plan.rule.mode.commands }
     requires below { core.old.tables.done ≢ limit }
     ensures running { OnOk result (IsRunning core.new.tables core.new.plan) }
-    ensures goes_on { OnOk result (GoesOn (record { tables = core.old.tables; plan = core.old.plan }) (record { tables = core.new.tables; plan = core.new.plan })) }
+    ensures goes_on { OnOk result (StepGoesOn (record { tables = core.old.tables; plan = core.old.plan }) (record { tables = core.new.tables; plan = core.new.plan })) }
     ensures rule { OnOk result (core.new.plan.rule ≡ core.old.plan.rule) }
     ensures setting { OnOk result (setting_by core.new.tables core.new.plan ≡ setting_by core.old.tables core.old.plan) }
     ensures start { OnOk result (start_in core.new.tables ≡ start_in core.old.tables) }
@@ -40,7 +40,7 @@ pub(crate) fn advance<W: Weigher<Waiting>>(
     requires running { IsRunning core.old.tables core.old.plan }
     requires mode { core.old.plan.rule.mode ≡ mode.now }
     ensures running { OnOk result (IsRunning core.new.tables core.new.plan) }
-    ensures answers { IfOk result (Answers (record { tables = core.old.tables; plan = core.old.plan }) (record { tables = core.new.tables; plan = core.new.plan })) }
+    ensures answers { IfOk result (AnswersStep (record { tables = core.old.tables; plan = core.old.plan }) (record { tables = core.new.tables; plan = core.new.plan })) }
     ensures rule { OnOk result (core.new.plan.rule ≡ core.old.plan.rule) }
     ensures setting { OnOk result (setting_by core.new.tables core.new.plan ≡ setting_by core.old.tables core.old.plan) }
     ensures start { OnOk result (start_in core.new.tables ≡ start_in core.old.tables) }

@@ -1,15 +1,15 @@
 //! Rules that take one literal.
 ghost use Rattle.std.specs.Prelude.{◌≡◌, ◌≢◌, ◌<◌, ◌-◌, ◌^◌, List, length, map, OnOk};
 ghost use Rattle.tableau_calculus.specs.Literals.{Literal};
-ghost use Rattle.literal_map.specs.Atoms.{literal_at};
+ghost use Rattle.literal_map.specs.Atoms.{bank_literal};
 ghost use Rattle.literal_map.specs.declared.instance.RuleKind.TheVariants.{AllNeg as MakesWitness};
 ghost use Rattle.tableau_rules.specs.Uses.{principals_of, IsInstanceBy};
 ghost use Rattle.search_spec.specs.Instances.{with_instance};
 ghost use Rattle.prover_state.specs.Delays.{the_mode};
-ghost use Rattle.prover_state.specs.Internal.Names.{IsNumber};
-ghost use Rattle.prover_state.specs.Internal.Standing.{rows_in, the_state, IsRight};
+ghost use Rattle.prover_state.specs.Internal.Names.{IsNumberIn};
+ghost use Rattle.prover_state.specs.Internal.Standing.{rows_in, the_state, IsRightState};
 ghost use Rattle.prover_search.specs.Internal.Developing.{Develops};
-ghost use Rattle.prover_search.specs.Internal.Working.{alone};
+ghost use Rattle.prover_search.specs.Internal.Working.{lone_use};
 
 use command_queue::Weigher;
 use literal_map::{BankUse, RuleKind};
@@ -23,14 +23,14 @@ pub(crate) fn apply_alone<W: Weigher<Waiting>>(
     rule: RuleKind,
     lit: SatLit,
 ) -> Result<(), AllocError>
-    requires right { IsRight core.old.tables core.old.plan }
-    requires number { IsNumber core.old.tables.basis.lits lit }
+    requires right { IsRightState core.old.tables core.old.plan }
+    requires number { IsNumberIn core.old.tables.basis.lits lit }
     requires few { length core.old.tables.basis.witnesses < 2 ^ 32 - 1 }
     requires unwitnessed { rule ≢ MakesWitness }
-    requires fits { (alternatives : List (List Literal)) × IsInstanceBy core.old.tables.basis.bank core.old.tables.basis.lits (rows_in core.old.tables.basis) (alone rule lit) alternatives }
-    ensures state { OnOk result ((alternatives : List (List Literal)) → IsInstanceBy core.old.tables.basis.bank core.old.tables.basis.lits (rows_in core.old.tables.basis) (alone rule lit) alternatives
-        → the_state core.new.tables core.new.plan ≡ with_instance (the_mode core.old.plan.rule.mode) (map (literal_at core.old.tables.basis.bank.terms core.old.tables.basis.lits) (principals_of (alone rule lit))) alternatives (the_state core.old.tables core.old.plan)) }
-    ensures right { OnOk result (IsRight core.new.tables core.new.plan) }
+    requires fits { (alternatives : List (List Literal)) × IsInstanceBy core.old.tables.basis.bank core.old.tables.basis.lits (rows_in core.old.tables.basis) (lone_use rule lit) alternatives }
+    ensures state { OnOk result ((alternatives : List (List Literal)) → IsInstanceBy core.old.tables.basis.bank core.old.tables.basis.lits (rows_in core.old.tables.basis) (lone_use rule lit) alternatives
+        → the_state core.new.tables core.new.plan ≡ with_instance (the_mode core.old.plan.rule.mode) (map (bank_literal core.old.tables.basis.bank.terms core.old.tables.basis.lits) (principals_of (lone_use rule lit))) alternatives (the_state core.old.tables core.old.plan)) }
+    ensures right { OnOk result (IsRightState core.new.tables core.new.plan) }
     ensures develops { OnOk result (Develops core.old.tables core.new.tables) }
     ensures witnesses { OnOk result (core.new.tables.basis.witnesses ≡ core.old.tables.basis.witnesses) }
     ensures rule { OnOk result (core.new.plan.rule ≡ core.old.plan.rule) }

@@ -1,10 +1,10 @@
 //! Commands are carried out.
 ghost use Rattle.std.specs.Prelude.{◌≡◌, ◌<◌, ◌≤◌, suc, length, OnOk};
-ghost use Rattle.search_spec.specs.Commands.{carried_out};
+ghost use Rattle.search_spec.specs.Commands.{with_command};
 ghost use Rattle.search_spec.specs.Each.{Each};
 ghost use Rattle.search_spec.specs.TypedState.{IsTypedSketch, IsTypedCommand};
-ghost use Rattle.prover_state.specs.Internal.Names.{command_at, AreNumbers};
-ghost use Rattle.prover_state.specs.Internal.Standing.{scope_by, sketches_in, names_in, setting_by, the_state, IsRight};
+ghost use Rattle.prover_state.specs.Internal.Names.{command_at, IsNumberedCommand};
+ghost use Rattle.prover_state.specs.Internal.Standing.{scope_by, sketches_in, naming_in, setting_by, the_state, IsRightState};
 ghost use Rattle.prover_search.specs.Internal.Developing.{Develops};
 
 use crate::instances::{choose, confront, describe, instantiate, mate};
@@ -19,13 +19,13 @@ pub(crate) fn carry_out<W: Weigher<Waiting>>(
     core: &mut Core<W>,
     command: Command,
 ) -> Result<(), AllocError>
-    requires right { IsRight core.old.tables core.old.plan }
-    requires numbers { AreNumbers (names_in core.old.tables) command }
-    requires typed { IsTypedCommand (scope_by core.old.tables.basis) (command_at (names_in core.old.tables) command) }
+    requires right { IsRightState core.old.tables core.old.plan }
+    requires numbers { IsNumberedCommand (naming_in core.old.tables) command }
+    requires typed { IsTypedCommand (scope_by core.old.tables.basis) (command_at (naming_in core.old.tables) command) }
     requires sketches { Each (IsTypedSketch (scope_by core.old.tables.basis)) (sketches_in core.old.tables) }
     requires few { length core.old.tables.basis.witnesses < core.old.tables.done }
-    ensures state { OnOk result (the_state core.new.tables core.new.plan ≡ carried_out (setting_by core.old.tables core.old.plan) (command_at (names_in core.old.tables) command) (the_state core.old.tables core.old.plan)) }
-    ensures right { OnOk result (IsRight core.new.tables core.new.plan) }
+    ensures state { OnOk result (the_state core.new.tables core.new.plan ≡ with_command (setting_by core.old.tables core.old.plan) (command_at (naming_in core.old.tables) command) (the_state core.old.tables core.old.plan)) }
+    ensures right { OnOk result (IsRightState core.new.tables core.new.plan) }
     ensures develops { OnOk result (Develops core.old.tables core.new.tables) }
     ensures witnesses { OnOk result (length core.new.tables.basis.witnesses ≤ suc (length core.old.tables.basis.witnesses)) }
     ensures rule { OnOk result (core.new.plan.rule ≡ core.old.plan.rule) }

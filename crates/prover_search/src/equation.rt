@@ -4,14 +4,14 @@ ghost use Rattle.stt_core.specs.SimpleType.{base};
 ghost use Rattle.stt_core.specs.Lambda.{eq};
 ghost use Rattle.tableau_calculus.specs.Literals.{minus};
 ghost use Rattle.term_bank.specs.Terms.{term_at};
-ghost use Rattle.literal_map.specs.Atoms.{atom_at, literal_at};
-ghost use Rattle.search_spec.specs.Processing.{decomposed, worked};
+ghost use Rattle.literal_map.specs.Atoms.{bank_atom, bank_literal};
+ghost use Rattle.search_spec.specs.Processing.{with_decomposition, with_rules};
 ghost use Rattle.search_spec.specs.Terms.{with_term};
 ghost use Rattle.prover_state.specs.Delays.{the_mode};
-ghost use Rattle.prover_state.specs.Internal.Names.{IsNumber, IsPlace};
+ghost use Rattle.prover_state.specs.Internal.Names.{IsNumberIn, IsPlace};
 ghost use Rattle.prover_state.specs.Internal.Pending.{equation_type};
 ghost use Rattle.prover_state.specs.Internal.Shapes.{IsBaseEquation};
-ghost use Rattle.prover_state.specs.Internal.Standing.{setting_by, the_state, IsBasis, IsRight};
+ghost use Rattle.prover_state.specs.Internal.Standing.{setting_by, the_state, IsBasis, IsRightState};
 ghost use Rattle.prover_search.specs.Internal.Developing.{Develops};
 ghost use Rattle.prover_search.specs.Internal.Working.{denies_itself, shape_of};
 ghost use Rattle.prover_search.specs.declared.shape.Shape.TheVariants.{FormulaEquation, FunctionEquation, BaseEquation};
@@ -32,13 +32,13 @@ pub(crate) fn work_on_formulas<W: Weigher<Waiting>>(
     core: &mut Core<W>,
     lit: SatLit,
 ) -> Result<(), AllocError>
-    requires right { IsRight core.old.tables core.old.plan }
-    requires number { IsNumber core.old.tables.basis.lits lit }
+    requires right { IsRightState core.old.tables core.old.plan }
+    requires number { IsNumberIn core.old.tables.basis.lits lit }
     requires few { length core.old.tables.basis.witnesses < 2 ^ 32 - 1 }
-    requires shape { shape_of (atom_at core.old.tables.basis.bank.terms core.old.tables.basis.lits lit.var.0) ≡ FormulaEquation }
-    requires differs { denies_itself (literal_at core.old.tables.basis.bank.terms core.old.tables.basis.lits lit) ≡ false }
-    ensures state { OnOk result (let l = literal_at core.old.tables.basis.bank.terms core.old.tables.basis.lits lit in the_state core.new.tables core.new.plan ≡ worked (setting_by core.old.tables core.old.plan) l.positive l.atom (the_state core.old.tables core.old.plan)) }
-    ensures right { OnOk result (IsRight core.new.tables core.new.plan) }
+    requires shape { shape_of (bank_atom core.old.tables.basis.bank.terms core.old.tables.basis.lits lit.var.0) ≡ FormulaEquation }
+    requires differs { denies_itself (bank_literal core.old.tables.basis.bank.terms core.old.tables.basis.lits lit) ≡ false }
+    ensures state { OnOk result (let l = bank_literal core.old.tables.basis.bank.terms core.old.tables.basis.lits lit in the_state core.new.tables core.new.plan ≡ with_rules (setting_by core.old.tables core.old.plan) l.positive l.atom (the_state core.old.tables core.old.plan)) }
+    ensures right { OnOk result (IsRightState core.new.tables core.new.plan) }
     ensures develops { OnOk result (Develops core.old.tables core.new.tables) }
     ensures witnesses { OnOk result (core.new.tables.basis.witnesses ≡ core.old.tables.basis.witnesses) }
     ensures rule { OnOk result (core.new.plan.rule ≡ core.old.plan.rule) }
@@ -56,13 +56,13 @@ pub(crate) fn work_on_functions<W: Weigher<Waiting>>(
     core: &mut Core<W>,
     lit: SatLit,
 ) -> Result<(), AllocError>
-    requires right { IsRight core.old.tables core.old.plan }
-    requires number { IsNumber core.old.tables.basis.lits lit }
+    requires right { IsRightState core.old.tables core.old.plan }
+    requires number { IsNumberIn core.old.tables.basis.lits lit }
     requires few { length core.old.tables.basis.witnesses < 2 ^ 32 - 1 }
-    requires shape { shape_of (atom_at core.old.tables.basis.bank.terms core.old.tables.basis.lits lit.var.0) ≡ FunctionEquation }
-    requires differs { denies_itself (literal_at core.old.tables.basis.bank.terms core.old.tables.basis.lits lit) ≡ false }
-    ensures state { OnOk result (let l = literal_at core.old.tables.basis.bank.terms core.old.tables.basis.lits lit in the_state core.new.tables core.new.plan ≡ worked (setting_by core.old.tables core.old.plan) l.positive l.atom (the_state core.old.tables core.old.plan)) }
-    ensures right { OnOk result (IsRight core.new.tables core.new.plan) }
+    requires shape { shape_of (bank_atom core.old.tables.basis.bank.terms core.old.tables.basis.lits lit.var.0) ≡ FunctionEquation }
+    requires differs { denies_itself (bank_literal core.old.tables.basis.bank.terms core.old.tables.basis.lits lit) ≡ false }
+    ensures state { OnOk result (let l = bank_literal core.old.tables.basis.bank.terms core.old.tables.basis.lits lit in the_state core.new.tables core.new.plan ≡ with_rules (setting_by core.old.tables core.old.plan) l.positive l.atom (the_state core.old.tables core.old.plan)) }
+    ensures right { OnOk result (IsRightState core.new.tables core.new.plan) }
     ensures develops { OnOk result (Develops core.old.tables core.new.tables) }
     ensures witnesses { OnOk result (core.new.tables.basis.witnesses ≡ core.old.tables.basis.witnesses) }
     ensures rule { OnOk result (core.new.plan.rule ≡ core.old.plan.rule) }
@@ -85,11 +85,11 @@ struct Sides {
 /// The sides of an equation on a base type other than that of formulas.
 fn sides_of(basis: &Basis, lit: SatLit) -> Sides
     requires basis { IsBasis basis.now }
-    requires number { IsNumber basis.now.lits lit }
-    requires equation { IsBaseEquation (atom_at basis.now.bank.terms basis.now.lits lit.var.0) }
+    requires number { IsNumberIn basis.now.lits lit }
+    requires equation { IsBaseEquation (bank_atom basis.now.bank.terms basis.now.lits lit.var.0) }
     ensures left { IsPlace basis.now.bank.terms result.left }
     ensures right { IsPlace basis.now.bank.terms result.right }
-    ensures equation { let t = atom_at basis.now.bank.terms basis.now.lits lit.var.0 in t ≡ eq (equation_type t) (term_at basis.now.bank.terms result.left) (term_at basis.now.bank.terms result.right) }
+    ensures equation { let t = bank_atom basis.now.bank.terms basis.now.lits lit.var.0 in t ≡ eq (equation_type t) (term_at basis.now.bank.terms result.left) (term_at basis.now.bank.terms result.right) }
 {
     let atom = atom_of(basis, lit);
     Sides {
@@ -104,11 +104,11 @@ fn add_terms<W: Weigher<Waiting>>(
     n: u32,
     sides: Sides,
 ) -> Result<(), AllocError>
-    requires right { IsRight core.old.tables core.old.plan }
+    requires right { IsRightState core.old.tables core.old.plan }
     requires left_place { IsPlace core.old.tables.basis.bank.terms sides.left }
     requires right_place { IsPlace core.old.tables.basis.bank.terms sides.right }
     ensures state { OnOk result (let mode = the_mode core.old.plan.rule.mode in the_state core.new.tables core.new.plan ≡ with_term mode (base n) (term_at core.old.tables.basis.bank.terms sides.right) (with_term mode (base n) (term_at core.old.tables.basis.bank.terms sides.left) (the_state core.old.tables core.old.plan))) }
-    ensures right { OnOk result (IsRight core.new.tables core.new.plan) }
+    ensures right { OnOk result (IsRightState core.new.tables core.new.plan) }
     ensures tables { OnOk result (core.new.tables ≡ record core.old.tables { terms = core.new.tables.terms }) }
     ensures rule { OnOk result (core.new.plan.rule ≡ core.old.plan.rule) }
 {
@@ -124,15 +124,15 @@ fn decompose<W: Weigher<Waiting>>(
     lit: SatLit,
     sides: Sides,
 ) -> Result<(), AllocError>
-    requires right { IsRight core.old.tables core.old.plan }
-    requires number { IsNumber core.old.tables.basis.lits lit }
+    requires right { IsRightState core.old.tables core.old.plan }
+    requires number { IsNumberIn core.old.tables.basis.lits lit }
     requires few { length core.old.tables.basis.witnesses < 2 ^ 32 - 1 }
     requires left_place { IsPlace core.old.tables.basis.bank.terms sides.left }
     requires right_place { IsPlace core.old.tables.basis.bank.terms sides.right }
-    requires denies { (n : ℕ) × (literal_at core.old.tables.basis.bank.terms core.old.tables.basis.lits lit ≡ minus (eq (base (suc n)) (term_at core.old.tables.basis.bank.terms sides.left) (term_at core.old.tables.basis.bank.terms sides.right))) }
-    ensures state { OnOk result (let s = term_at core.old.tables.basis.bank.terms sides.left in let t = term_at core.old.tables.basis.bank.terms sides.right in (n : ℕ) → literal_at core.old.tables.basis.bank.terms core.old.tables.basis.lits lit ≡ minus (eq (base (suc n)) s t)
-        → the_state core.new.tables core.new.plan ≡ decomposed (setting_by core.old.tables core.old.plan) (base (suc n)) s t (the_state core.old.tables core.old.plan)) }
-    ensures right { OnOk result (IsRight core.new.tables core.new.plan) }
+    requires denies { (n : ℕ) × (bank_literal core.old.tables.basis.bank.terms core.old.tables.basis.lits lit ≡ minus (eq (base (suc n)) (term_at core.old.tables.basis.bank.terms sides.left) (term_at core.old.tables.basis.bank.terms sides.right))) }
+    ensures state { OnOk result (let s = term_at core.old.tables.basis.bank.terms sides.left in let t = term_at core.old.tables.basis.bank.terms sides.right in (n : ℕ) → bank_literal core.old.tables.basis.bank.terms core.old.tables.basis.lits lit ≡ minus (eq (base (suc n)) s t)
+        → the_state core.new.tables core.new.plan ≡ with_decomposition (setting_by core.old.tables core.old.plan) (base (suc n)) s t (the_state core.old.tables core.old.plan)) }
+    ensures right { OnOk result (IsRightState core.new.tables core.new.plan) }
     ensures develops { OnOk result (Develops core.old.tables core.new.tables) }
     ensures witnesses { OnOk result (core.new.tables.basis.witnesses ≡ core.old.tables.basis.witnesses) }
     ensures rule { OnOk result (core.new.plan.rule ≡ core.old.plan.rule) }
@@ -152,14 +152,14 @@ fn work_on_difference<W: Weigher<Waiting>>(
     lit: SatLit,
     n: u32,
 ) -> Result<(), AllocError>
-    requires right { IsRight core.old.tables core.old.plan }
-    requires number { IsNumber core.old.tables.basis.lits lit }
+    requires right { IsRightState core.old.tables core.old.plan }
+    requires number { IsNumberIn core.old.tables.basis.lits lit }
     requires few { length core.old.tables.basis.witnesses < 2 ^ 32 - 1 }
-    requires shape { shape_of (atom_at core.old.tables.basis.bank.terms core.old.tables.basis.lits lit.var.0) ≡ BaseEquation n }
+    requires shape { shape_of (bank_atom core.old.tables.basis.bank.terms core.old.tables.basis.lits lit.var.0) ≡ BaseEquation n }
     requires negative { lit.positive ≡ false }
-    requires differs { denies_itself (literal_at core.old.tables.basis.bank.terms core.old.tables.basis.lits lit) ≡ false }
-    ensures state { OnOk result (let l = literal_at core.old.tables.basis.bank.terms core.old.tables.basis.lits lit in the_state core.new.tables core.new.plan ≡ worked (setting_by core.old.tables core.old.plan) l.positive l.atom (the_state core.old.tables core.old.plan)) }
-    ensures right { OnOk result (IsRight core.new.tables core.new.plan) }
+    requires differs { denies_itself (bank_literal core.old.tables.basis.bank.terms core.old.tables.basis.lits lit) ≡ false }
+    ensures state { OnOk result (let l = bank_literal core.old.tables.basis.bank.terms core.old.tables.basis.lits lit in the_state core.new.tables core.new.plan ≡ with_rules (setting_by core.old.tables core.old.plan) l.positive l.atom (the_state core.old.tables core.old.plan)) }
+    ensures right { OnOk result (IsRightState core.new.tables core.new.plan) }
     ensures develops { OnOk result (Develops core.old.tables core.new.tables) }
     ensures witnesses { OnOk result (core.new.tables.basis.witnesses ≡ core.old.tables.basis.witnesses) }
     ensures rule { OnOk result (core.new.plan.rule ≡ core.old.plan.rule) }
@@ -177,13 +177,13 @@ pub(crate) fn work_on_terms<W: Weigher<Waiting>>(
     lit: SatLit,
     n: u32,
 ) -> Result<(), AllocError>
-    requires right { IsRight core.old.tables core.old.plan }
-    requires number { IsNumber core.old.tables.basis.lits lit }
+    requires right { IsRightState core.old.tables core.old.plan }
+    requires number { IsNumberIn core.old.tables.basis.lits lit }
     requires few { length core.old.tables.basis.witnesses < 2 ^ 32 - 1 }
-    requires shape { shape_of (atom_at core.old.tables.basis.bank.terms core.old.tables.basis.lits lit.var.0) ≡ BaseEquation n }
-    requires differs { denies_itself (literal_at core.old.tables.basis.bank.terms core.old.tables.basis.lits lit) ≡ false }
-    ensures state { OnOk result (let l = literal_at core.old.tables.basis.bank.terms core.old.tables.basis.lits lit in the_state core.new.tables core.new.plan ≡ worked (setting_by core.old.tables core.old.plan) l.positive l.atom (the_state core.old.tables core.old.plan)) }
-    ensures right { OnOk result (IsRight core.new.tables core.new.plan) }
+    requires shape { shape_of (bank_atom core.old.tables.basis.bank.terms core.old.tables.basis.lits lit.var.0) ≡ BaseEquation n }
+    requires differs { denies_itself (bank_literal core.old.tables.basis.bank.terms core.old.tables.basis.lits lit) ≡ false }
+    ensures state { OnOk result (let l = bank_literal core.old.tables.basis.bank.terms core.old.tables.basis.lits lit in the_state core.new.tables core.new.plan ≡ with_rules (setting_by core.old.tables core.old.plan) l.positive l.atom (the_state core.old.tables core.old.plan)) }
+    ensures right { OnOk result (IsRightState core.new.tables core.new.plan) }
     ensures develops { OnOk result (Develops core.old.tables core.new.tables) }
     ensures witnesses { OnOk result (core.new.tables.basis.witnesses ≡ core.old.tables.basis.witnesses) }
     ensures rule { OnOk result (core.new.plan.rule ≡ core.old.plan.rule) }

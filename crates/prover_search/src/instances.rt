@@ -1,17 +1,17 @@
 //! The commands that add an instance of a rule.
 ghost use Rattle.std.specs.Prelude.{◌≡◌, ◌<◌, ◌-◌, ◌^◌, [], length, OnOk};
 ghost use Rattle.term_bank.specs.Terms.{term_at};
-ghost use Rattle.literal_map.specs.Atoms.{literal_at};
+ghost use Rattle.literal_map.specs.Atoms.{bank_literal};
 ghost use Rattle.witness_names.specs.Rows.{binder_of};
 ghost use Rattle.stt_core.specs.SimpleType.{predicate};
 ghost use Rattle.stt_core.specs.Canonical.{IsCanonical};
 ghost use Rattle.search_spec.specs.Alternatives.{cho, des};
-ghost use Rattle.search_spec.specs.Commands.{mated_pair, confronted_pair, instantiated};
+ghost use Rattle.search_spec.specs.Commands.{with_mating, with_confrontation, with_instantiation};
 ghost use Rattle.search_spec.specs.Instances.{with_instance};
 ghost use Rattle.search_spec.specs.TypedState.{Mates, Confronts, Instantiates};
 ghost use Rattle.prover_state.specs.Delays.{the_mode};
-ghost use Rattle.prover_state.specs.Internal.Names.{IsNumber, IsPlace};
-ghost use Rattle.prover_state.specs.Internal.Standing.{scope_by, setting_by, the_state, IsRight};
+ghost use Rattle.prover_state.specs.Internal.Names.{IsNumberIn, IsPlace};
+ghost use Rattle.prover_state.specs.Internal.Standing.{scope_by, setting_by, the_state, IsRightState};
 ghost use Rattle.prover_search.specs.Internal.Developing.{Develops};
 
 use command_queue::Weigher;
@@ -27,13 +27,13 @@ pub(crate) fn mate<W: Weigher<Waiting>>(
     first: SatLit,
     second: SatLit,
 ) -> Result<(), AllocError>
-    requires right { IsRight core.old.tables core.old.plan }
-    requires first { IsNumber core.old.tables.basis.lits first }
-    requires second { IsNumber core.old.tables.basis.lits second }
+    requires right { IsRightState core.old.tables core.old.plan }
+    requires first { IsNumberIn core.old.tables.basis.lits first }
+    requires second { IsNumberIn core.old.tables.basis.lits second }
     requires few { length core.old.tables.basis.witnesses < 2 ^ 32 - 1 }
-    requires typed { Mates (scope_by core.old.tables.basis) (literal_at core.old.tables.basis.bank.terms core.old.tables.basis.lits first) (literal_at core.old.tables.basis.bank.terms core.old.tables.basis.lits second) }
-    ensures state { OnOk result (the_state core.new.tables core.new.plan ≡ mated_pair (setting_by core.old.tables core.old.plan) (literal_at core.old.tables.basis.bank.terms core.old.tables.basis.lits first) (literal_at core.old.tables.basis.bank.terms core.old.tables.basis.lits second) (the_state core.old.tables core.old.plan)) }
-    ensures right { OnOk result (IsRight core.new.tables core.new.plan) }
+    requires typed { Mates (scope_by core.old.tables.basis) (bank_literal core.old.tables.basis.bank.terms core.old.tables.basis.lits first) (bank_literal core.old.tables.basis.bank.terms core.old.tables.basis.lits second) }
+    ensures state { OnOk result (the_state core.new.tables core.new.plan ≡ with_mating (setting_by core.old.tables core.old.plan) (bank_literal core.old.tables.basis.bank.terms core.old.tables.basis.lits first) (bank_literal core.old.tables.basis.bank.terms core.old.tables.basis.lits second) (the_state core.old.tables core.old.plan)) }
+    ensures right { OnOk result (IsRightState core.new.tables core.new.plan) }
     ensures develops { OnOk result (Develops core.old.tables core.new.tables) }
     ensures witnesses { OnOk result (core.new.tables.basis.witnesses ≡ core.old.tables.basis.witnesses) }
     ensures rule { OnOk result (core.new.plan.rule ≡ core.old.plan.rule) }
@@ -54,13 +54,13 @@ pub(crate) fn confront<W: Weigher<Waiting>>(
     first: SatLit,
     second: SatLit,
 ) -> Result<(), AllocError>
-    requires right { IsRight core.old.tables core.old.plan }
-    requires first { IsNumber core.old.tables.basis.lits first }
-    requires second { IsNumber core.old.tables.basis.lits second }
+    requires right { IsRightState core.old.tables core.old.plan }
+    requires first { IsNumberIn core.old.tables.basis.lits first }
+    requires second { IsNumberIn core.old.tables.basis.lits second }
     requires few { length core.old.tables.basis.witnesses < 2 ^ 32 - 1 }
-    requires typed { Confronts (scope_by core.old.tables.basis) (literal_at core.old.tables.basis.bank.terms core.old.tables.basis.lits first) (literal_at core.old.tables.basis.bank.terms core.old.tables.basis.lits second) }
-    ensures state { OnOk result (let l = literal_at core.old.tables.basis.bank.terms core.old.tables.basis.lits first in let m = literal_at core.old.tables.basis.bank.terms core.old.tables.basis.lits second in the_state core.new.tables core.new.plan ≡ confronted_pair (setting_by core.old.tables core.old.plan) l m l.atom m.atom (the_state core.old.tables core.old.plan)) }
-    ensures right { OnOk result (IsRight core.new.tables core.new.plan) }
+    requires typed { Confronts (scope_by core.old.tables.basis) (bank_literal core.old.tables.basis.bank.terms core.old.tables.basis.lits first) (bank_literal core.old.tables.basis.bank.terms core.old.tables.basis.lits second) }
+    ensures state { OnOk result (let l = bank_literal core.old.tables.basis.bank.terms core.old.tables.basis.lits first in let m = bank_literal core.old.tables.basis.bank.terms core.old.tables.basis.lits second in the_state core.new.tables core.new.plan ≡ with_confrontation (setting_by core.old.tables core.old.plan) l m l.atom m.atom (the_state core.old.tables core.old.plan)) }
+    ensures right { OnOk result (IsRightState core.new.tables core.new.plan) }
     ensures develops { OnOk result (Develops core.old.tables core.new.tables) }
     ensures witnesses { OnOk result (core.new.tables.basis.witnesses ≡ core.old.tables.basis.witnesses) }
     ensures rule { OnOk result (core.new.plan.rule ≡ core.old.plan.rule) }
@@ -80,13 +80,13 @@ pub(crate) fn instantiate<W: Weigher<Waiting>>(
     lit: SatLit,
     id: Id,
 ) -> Result<(), AllocError>
-    requires right { IsRight core.old.tables core.old.plan }
-    requires number { IsNumber core.old.tables.basis.lits lit }
+    requires right { IsRightState core.old.tables core.old.plan }
+    requires number { IsNumberIn core.old.tables.basis.lits lit }
     requires place { IsPlace core.old.tables.basis.bank.terms id }
     requires few { length core.old.tables.basis.witnesses < 2 ^ 32 - 1 }
-    requires typed { Instantiates (scope_by core.old.tables.basis) (literal_at core.old.tables.basis.bank.terms core.old.tables.basis.lits lit) (term_at core.old.tables.basis.bank.terms id) }
-    ensures state { OnOk result (let l = literal_at core.old.tables.basis.bank.terms core.old.tables.basis.lits lit in the_state core.new.tables core.new.plan ≡ instantiated (setting_by core.old.tables core.old.plan) l l.atom (term_at core.old.tables.basis.bank.terms id) (the_state core.old.tables core.old.plan)) }
-    ensures right { OnOk result (IsRight core.new.tables core.new.plan) }
+    requires typed { Instantiates (scope_by core.old.tables.basis) (bank_literal core.old.tables.basis.bank.terms core.old.tables.basis.lits lit) (term_at core.old.tables.basis.bank.terms id) }
+    ensures state { OnOk result (let l = bank_literal core.old.tables.basis.bank.terms core.old.tables.basis.lits lit in the_state core.new.tables core.new.plan ≡ with_instantiation (setting_by core.old.tables core.old.plan) l l.atom (term_at core.old.tables.basis.bank.terms id) (the_state core.old.tables core.old.plan)) }
+    ensures right { OnOk result (IsRightState core.new.tables core.new.plan) }
     ensures develops { OnOk result (Develops core.old.tables core.new.tables) }
     ensures witnesses { OnOk result (core.new.tables.basis.witnesses ≡ core.old.tables.basis.witnesses) }
     ensures rule { OnOk result (core.new.plan.rule ≡ core.old.plan.rule) }
@@ -105,12 +105,12 @@ pub(crate) fn instantiate<W: Weigher<Waiting>>(
 
 /// A value is chosen by a predicate.
 pub(crate) fn choose<W: Weigher<Waiting>>(core: &mut Core<W>, id: Id) -> Result<(), AllocError>
-    requires right { IsRight core.old.tables core.old.plan }
+    requires right { IsRightState core.old.tables core.old.plan }
     requires place { IsPlace core.old.tables.basis.bank.terms id }
     requires few { length core.old.tables.basis.witnesses < 2 ^ 32 - 1 }
     requires typed { let f = term_at core.old.tables.basis.bank.terms id in IsCanonical (scope_by core.old.tables.basis) [] (predicate (binder_of f)) f }
     ensures state { OnOk result (let f = term_at core.old.tables.basis.bank.terms id in the_state core.new.tables core.new.plan ≡ with_instance (the_mode core.old.plan.rule.mode) [] (cho (binder_of f) f) (the_state core.old.tables core.old.plan)) }
-    ensures right { OnOk result (IsRight core.new.tables core.new.plan) }
+    ensures right { OnOk result (IsRightState core.new.tables core.new.plan) }
     ensures develops { OnOk result (Develops core.old.tables core.new.tables) }
     ensures witnesses { OnOk result (core.new.tables.basis.witnesses ≡ core.old.tables.basis.witnesses) }
     ensures rule { OnOk result (core.new.plan.rule ≡ core.old.plan.rule) }
@@ -126,12 +126,12 @@ pub(crate) fn choose<W: Weigher<Waiting>>(core: &mut Core<W>, id: Id) -> Result<
 
 /// A value is described by a predicate.
 pub(crate) fn describe<W: Weigher<Waiting>>(core: &mut Core<W>, id: Id) -> Result<(), AllocError>
-    requires right { IsRight core.old.tables core.old.plan }
+    requires right { IsRightState core.old.tables core.old.plan }
     requires place { IsPlace core.old.tables.basis.bank.terms id }
     requires few { length core.old.tables.basis.witnesses < 2 ^ 32 - 1 }
     requires typed { let f = term_at core.old.tables.basis.bank.terms id in IsCanonical (scope_by core.old.tables.basis) [] (predicate (binder_of f)) f }
     ensures state { OnOk result (let f = term_at core.old.tables.basis.bank.terms id in the_state core.new.tables core.new.plan ≡ with_instance (the_mode core.old.plan.rule.mode) [] (des (binder_of f) f) (the_state core.old.tables core.old.plan)) }
-    ensures right { OnOk result (IsRight core.new.tables core.new.plan) }
+    ensures right { OnOk result (IsRightState core.new.tables core.new.plan) }
     ensures develops { OnOk result (Develops core.old.tables core.new.tables) }
     ensures witnesses { OnOk result (core.new.tables.basis.witnesses ≡ core.old.tables.basis.witnesses) }
     ensures rule { OnOk result (core.new.plan.rule ≡ core.old.plan.rule) }

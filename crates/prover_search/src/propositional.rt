@@ -1,9 +1,9 @@
 //! Falsity and implications.
 ghost use Rattle.std.specs.Prelude.{◌≡◌, ◌<◌, ◌-◌, ◌^◌, length, OnOk};
-ghost use Rattle.literal_map.specs.Atoms.{atom_at, literal_at};
-ghost use Rattle.search_spec.specs.Processing.{worked};
-ghost use Rattle.prover_state.specs.Internal.Names.{IsNumber};
-ghost use Rattle.prover_state.specs.Internal.Standing.{setting_by, the_state, IsRight};
+ghost use Rattle.literal_map.specs.Atoms.{bank_atom, bank_literal};
+ghost use Rattle.search_spec.specs.Processing.{with_rules};
+ghost use Rattle.prover_state.specs.Internal.Names.{IsNumberIn};
+ghost use Rattle.prover_state.specs.Internal.Standing.{setting_by, the_state, IsRightState};
 ghost use Rattle.prover_search.specs.Internal.Developing.{Develops};
 ghost use Rattle.prover_search.specs.Internal.Working.{shape_of};
 ghost use Rattle.prover_search.specs.declared.shape.Shape.TheVariants.{Falsity, Implication};
@@ -20,12 +20,12 @@ pub(crate) fn work_on_falsity<W: Weigher<Waiting>>(
     core: &mut Core<W>,
     lit: SatLit,
 ) -> Result<(), AllocError>
-    requires right { IsRight core.old.tables core.old.plan }
-    requires number { IsNumber core.old.tables.basis.lits lit }
+    requires right { IsRightState core.old.tables core.old.plan }
+    requires number { IsNumberIn core.old.tables.basis.lits lit }
     requires few { length core.old.tables.basis.witnesses < 2 ^ 32 - 1 }
-    requires shape { shape_of (atom_at core.old.tables.basis.bank.terms core.old.tables.basis.lits lit.var.0) ≡ Falsity }
-    ensures state { OnOk result (let l = literal_at core.old.tables.basis.bank.terms core.old.tables.basis.lits lit in the_state core.new.tables core.new.plan ≡ worked (setting_by core.old.tables core.old.plan) l.positive l.atom (the_state core.old.tables core.old.plan)) }
-    ensures right { OnOk result (IsRight core.new.tables core.new.plan) }
+    requires shape { shape_of (bank_atom core.old.tables.basis.bank.terms core.old.tables.basis.lits lit.var.0) ≡ Falsity }
+    ensures state { OnOk result (let l = bank_literal core.old.tables.basis.bank.terms core.old.tables.basis.lits lit in the_state core.new.tables core.new.plan ≡ with_rules (setting_by core.old.tables core.old.plan) l.positive l.atom (the_state core.old.tables core.old.plan)) }
+    ensures right { OnOk result (IsRightState core.new.tables core.new.plan) }
     ensures develops { OnOk result (Develops core.old.tables core.new.tables) }
     ensures witnesses { OnOk result (core.new.tables.basis.witnesses ≡ core.old.tables.basis.witnesses) }
     ensures rule { OnOk result (core.new.plan.rule ≡ core.old.plan.rule) }
@@ -42,12 +42,12 @@ pub(crate) fn work_on_implication<W: Weigher<Waiting>>(
     core: &mut Core<W>,
     lit: SatLit,
 ) -> Result<(), AllocError>
-    requires right { IsRight core.old.tables core.old.plan }
-    requires number { IsNumber core.old.tables.basis.lits lit }
+    requires right { IsRightState core.old.tables core.old.plan }
+    requires number { IsNumberIn core.old.tables.basis.lits lit }
     requires few { length core.old.tables.basis.witnesses < 2 ^ 32 - 1 }
-    requires shape { shape_of (atom_at core.old.tables.basis.bank.terms core.old.tables.basis.lits lit.var.0) ≡ Implication }
-    ensures state { OnOk result (let l = literal_at core.old.tables.basis.bank.terms core.old.tables.basis.lits lit in the_state core.new.tables core.new.plan ≡ worked (setting_by core.old.tables core.old.plan) l.positive l.atom (the_state core.old.tables core.old.plan)) }
-    ensures right { OnOk result (IsRight core.new.tables core.new.plan) }
+    requires shape { shape_of (bank_atom core.old.tables.basis.bank.terms core.old.tables.basis.lits lit.var.0) ≡ Implication }
+    ensures state { OnOk result (let l = bank_literal core.old.tables.basis.bank.terms core.old.tables.basis.lits lit in the_state core.new.tables core.new.plan ≡ with_rules (setting_by core.old.tables core.old.plan) l.positive l.atom (the_state core.old.tables core.old.plan)) }
+    ensures right { OnOk result (IsRightState core.new.tables core.new.plan) }
     ensures develops { OnOk result (Develops core.old.tables core.new.tables) }
     ensures witnesses { OnOk result (core.new.tables.basis.witnesses ≡ core.old.tables.basis.witnesses) }
     ensures rule { OnOk result (core.new.plan.rule ≡ core.old.plan.rule) }

@@ -10,7 +10,7 @@ ghost use Rattle.search_spec.specs.Shallow.{is_shallow_literal};
 ghost use Rattle.prover_state.specs.Delays.{delay_by};
 ghost use Rattle.prover_state.specs.Internal.Standing.{setting_by};
 ghost use Rattle.prover_search.specs.Internal.Running.{start_in, IsUnderWay};
-ghost use Rattle.prover_search.specs.Internal.Answers.{Answers};
+ghost use Rattle.prover_search.specs.Internal.Answers.{AnswersStep};
 
 use crate::advance::advance;
 use crate::start::{new_core, start_all};
@@ -70,7 +70,7 @@ impl<W: Weigher<Waiting>> Search<W> {
     /// Asks the solver, and then carries out the next command, where one is left and the limit isn't reached.
     pub fn step(&mut self) -> Result<Stepped, AllocError>
         requires under_way { self.old.is_refused ≡ false → IsUnderWay self.old.core.tables self.old.core.plan self.old.mode }
-        ensures answers { IfOk result (Answers (record { tables = self.old.core.tables; plan = self.old.core.plan }) (record { tables = self.new.core.tables; plan = self.new.core.plan })) }
+        ensures answers { IfOk result (AnswersStep (record { tables = self.old.core.tables; plan = self.old.core.plan }) (record { tables = self.new.core.tables; plan = self.new.core.plan })) }
         ensures under_way { self.new.is_refused ≡ false → IsUnderWay self.new.core.tables self.new.core.plan self.new.mode }
         ensures setting { OnOk result (setting_by self.new.core.tables self.new.core.plan ≡ setting_by self.old.core.tables self.old.core.plan) }
         ensures start { OnOk result (start_in self.new.core.tables ≡ start_in self.old.core.tables) }

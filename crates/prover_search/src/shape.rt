@@ -3,8 +3,8 @@ ghost use Rattle.std.specs.Prelude.{◌≡◌, ◌<◌, List, length};
 ghost use Rattle.stt_core.specs.Lambda.{Lambda, applied};
 ghost use Rattle.stt_core.specs.View.{the_head, the_type};
 ghost use Rattle.term_bank.specs.Terms.{term_at};
-ghost use Rattle.literal_map.specs.Atoms.{atom_at, literal_at};
-ghost use Rattle.prover_state.specs.Internal.Names.{IsNumber, IsPlace};
+ghost use Rattle.literal_map.specs.Atoms.{bank_atom, bank_literal};
+ghost use Rattle.prover_state.specs.Internal.Names.{IsNumberIn, IsPlace};
 ghost use Rattle.prover_state.specs.Internal.Standing.{IsBasis};
 ghost use Rattle.prover_search.specs.Internal.Working.{denies_itself, equation_shape, shape_of};
 
@@ -98,9 +98,9 @@ pub(crate) fn shape_of(bank: &Bank, id: Id) -> Shape
 /// The atom of a literal.
 pub(crate) fn atom_of(basis: &Basis, lit: SatLit) -> Id
     requires basis { IsBasis basis.now }
-    requires number { IsNumber basis.now.lits lit }
+    requires number { IsNumberIn basis.now.lits lit }
     ensures place { IsPlace basis.now.bank.terms result }
-    ensures atom { term_at basis.now.bank.terms result ≡ atom_at basis.now.bank.terms basis.now.lits lit.var.0 }
+    ensures atom { term_at basis.now.bank.terms result ≡ bank_atom basis.now.bank.terms basis.now.lits lit.var.0 }
 {
     basis.lits.formula_of(lit)
 }
@@ -108,8 +108,8 @@ pub(crate) fn atom_of(basis: &Basis, lit: SatLit) -> Id
 /// Whether a literal denies that a term equals itself.
 pub(crate) fn denies_itself(basis: &Basis, lit: SatLit) -> bool
     requires basis { IsBasis basis.now }
-    requires number { IsNumber basis.now.lits lit }
-    ensures { result ≡ denies_itself (literal_at basis.now.bank.terms basis.now.lits lit) }
+    requires number { IsNumberIn basis.now.lits lit }
+    ensures { result ≡ denies_itself (bank_literal basis.now.bank.terms basis.now.lits lit) }
 {
     if lit.positive {
         return false;

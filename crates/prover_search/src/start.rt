@@ -13,10 +13,10 @@ ghost use Rattle.search_spec.specs.Instances.{with_instance};
 ghost use Rattle.term_bank.specs.Content.{content_scope};
 ghost use Rattle.prover_state.specs.Delays.{the_mode, delay_by};
 ghost use Rattle.prover_state.specs.Internal.Growing.{BasisGrows};
-ghost use Rattle.literal_map.specs.Atoms.{literal_at};
+ghost use Rattle.literal_map.specs.Atoms.{bank_literal};
 ghost use Rattle.tableau_clauses.specs.Table.{the_clauses};
-ghost use Rattle.prover_state.specs.Internal.Names.{IsNumber};
-ghost use Rattle.prover_state.specs.Internal.Standing.{declared_scope, the_state, IsBasis, IsRight};
+ghost use Rattle.prover_state.specs.Internal.Names.{IsNumberIn};
+ghost use Rattle.prover_state.specs.Internal.Standing.{without_witnesses, the_state, IsBasis, IsRightState};
 ghost use Rattle.prover_search.specs.Internal.Starting.{AddsUnit, AddsStart, IsStarting};
 
 use bank_normal::Normaliser;
@@ -61,7 +61,7 @@ pub(crate) fn new_core<W: Weigher<Waiting>>(
     requires callable { W.is_callable weigher }
     requires answers { W.answers weigher (λ waiting now. now + delay_by mode waiting.first) }
     ensures state { IfOk result (λ core. the_state core.tables core.plan ≡ nothing_yet) }
-    ensures right { IfOk result (λ core. IsRight core.tables core.plan) }
+    ensures right { IfOk result (λ core. IsRightState core.tables core.plan) }
     ensures bases { IfOk result (λ core. core.tables.basis.bank.bases ≡ sig.now.bases) }
     ensures consts { IfOk result (λ core. core.tables.basis.bank.consts ≡ sig.now.consts) }
     ensures unwitnessed { IfOk result (λ core. core.tables.basis.witnesses ≡ []) }
@@ -76,8 +76,8 @@ pub(crate) fn new_core<W: Weigher<Waiting>>(
 fn number_of(basis: &mut Basis, formula: &Term) -> Result<SatLit, AllocError>
     requires good { IsBasis basis.old }
     requires formula { IsFormula (content_scope basis.old.bank) (the_term formula.now) }
-    ensures number { IfOk result (λ l. IsNumber basis.new.lits l) }
-    ensures literal { IfOk result (λ l. literal_at basis.new.bank.terms basis.new.lits l ≡ normal_literal (content_scope basis.old.bank) (the_term formula.now)) }
+    ensures number { IfOk result (λ l. IsNumberIn basis.new.lits l) }
+    ensures literal { IfOk result (λ l. bank_literal basis.new.bank.terms basis.new.lits l ≡ normal_literal (content_scope basis.old.bank) (the_term formula.now)) }
     ensures good { OnOk result (IsBasis basis.new) }
     ensures grows { OnOk result (BasisGrows basis.old basis.new) }
 {
@@ -116,10 +116,10 @@ fn add_unit(
 
 /// A literal is a start unit, is seen, and is to be processed, unless it is too deep or was one before.
 fn start_with<W: Weigher<Waiting>>(core: &mut Core<W>, lit: SatLit) -> Result<(), AllocError>
-    requires right { IsRight core.old.tables core.old.plan }
-    requires number { IsNumber core.old.tables.basis.lits lit }
-    ensures state { OnOk result (the_state core.new.tables core.new.plan ≡ with_instance (the_mode core.old.plan.rule.mode) [] ((literal_at core.old.tables.basis.bank.terms core.old.tables.basis.lits lit ∷ []) ∷ []) (the_state core.old.tables core.old.plan)) }
-    ensures right { OnOk result (IsRight core.new.tables core.new.plan) }
+    requires right { IsRightState core.old.tables core.old.plan }
+    requires number { IsNumberIn core.old.tables.basis.lits lit }
+    ensures state { OnOk result (the_state core.new.tables core.new.plan ≡ with_instance (the_mode core.old.plan.rule.mode) [] ((bank_literal core.old.tables.basis.bank.terms core.old.tables.basis.lits lit ∷ []) ∷ []) (the_state core.old.tables core.old.plan)) }
+    ensures right { OnOk result (IsRightState core.new.tables core.new.plan) }
     ensures basis { OnOk result (core.new.tables.basis ≡ core.old.tables.basis) }
     ensures steps { OnOk result (AddsStart lit core.old.tables core.new.tables) }
     ensures rule { OnOk result (core.new.plan.rule ≡ core.old.plan.rule) }
@@ -141,11 +141,11 @@ fn start_with<W: Weigher<Waiting>>(core: &mut Core<W>, lit: SatLit) -> Result<()
 /// Starts from the literals of the assumed formulas.
 fn start_assumed<W: Weigher<Waiting>>(core: &mut Core<W>, assumed: &Terms) -> Result<(), AllocError>
     requires state { the_state core.old.tables core.old.plan ≡ nothing_yet }
-    requires right { IsRight core.old.tables core.old.plan }
+    requires right { IsRightState core.old.tables core.old.plan }
     requires unwitnessed { core.old.tables.basis.witnesses ≡ [] }
     requires steps { core.old.tables.steps ≡ ([], []) }
-    requires typed { AreFormulas (declared_scope core.old.tables.basis.bank) assumed.now }
-    ensures { OnOk result (IsStarting core.old.tables core.old.plan core.new.tables core.new.plan (without_repeats (map (normal_literal (declared_scope core.old.tables.basis.bank)) assumed.now))) }
+    requires typed { AreFormulas (without_witnesses core.old.tables.basis.bank) assumed.now }
+    ensures { OnOk result (IsStarting core.old.tables core.old.plan core.new.tables core.new.plan (without_repeats (map (normal_literal (without_witnesses core.old.tables.basis.bank)) assumed.now))) }
 {
     for i in 0..assumed.len() {
         let lit = number_of(&mut core.tables.basis, assumed.at(i))?;
@@ -160,10 +160,10 @@ pub(crate) fn start_all<W: Weigher<Waiting>>(
     problem: &Problem,
 ) -> Result<(), AllocError>
     requires state { the_state core.old.tables core.old.plan ≡ nothing_yet }
-    requires right { IsRight core.old.tables core.old.plan }
+    requires right { IsRightState core.old.tables core.old.plan }
     requires unwitnessed { core.old.tables.basis.witnesses ≡ [] }
     requires steps { core.old.tables.steps ≡ ([], []) }
-    requires declared { declared_scope core.old.tables.basis.bank ≡ scope_of problem.now.declared }
+    requires declared { without_witnesses core.old.tables.basis.bank ≡ scope_of problem.now.declared }
     requires typed { IsTyped problem.now }
     ensures { OnOk result (IsStarting core.old.tables core.old.plan core.new.tables core.new.plan (start problem.now)) }
 {

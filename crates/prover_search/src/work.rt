@@ -1,9 +1,9 @@
 //! What is done for a literal.
 ghost use Rattle.std.specs.Prelude.{◌≡◌, ◌<◌, ◌≤◌, ◌-◌, ◌^◌, false, suc, length, OnOk};
-ghost use Rattle.literal_map.specs.Atoms.{atom_at, literal_at};
-ghost use Rattle.search_spec.specs.Processing.{worked};
-ghost use Rattle.prover_state.specs.Internal.Names.{IsNumber};
-ghost use Rattle.prover_state.specs.Internal.Standing.{setting_by, the_state, IsRight};
+ghost use Rattle.literal_map.specs.Atoms.{bank_atom, bank_literal};
+ghost use Rattle.search_spec.specs.Processing.{with_rules};
+ghost use Rattle.prover_state.specs.Internal.Names.{IsNumberIn};
+ghost use Rattle.prover_state.specs.Internal.Standing.{setting_by, the_state, IsRightState};
 ghost use Rattle.prover_search.specs.Internal.Developing.{Develops};
 ghost use Rattle.prover_search.specs.Internal.Working.{denies_itself, shape_of};
 ghost use Rattle.prover_search.specs.declared.shape.Shape.TheVariants.{Other as OtherShape};
@@ -22,11 +22,11 @@ use std::alloc::AllocError;
 
 /// A literal of another shape is to be mated, where its atom is a compared head with arguments.
 fn work_on_other<W: Weigher<Waiting>>(core: &mut Core<W>, lit: SatLit) -> Result<(), AllocError>
-    requires right { IsRight core.old.tables core.old.plan }
-    requires number { IsNumber core.old.tables.basis.lits lit }
-    requires shape { shape_of (atom_at core.old.tables.basis.bank.terms core.old.tables.basis.lits lit.var.0) ≡ OtherShape }
-    ensures state { OnOk result (let l = literal_at core.old.tables.basis.bank.terms core.old.tables.basis.lits lit in the_state core.new.tables core.new.plan ≡ worked (setting_by core.old.tables core.old.plan) l.positive l.atom (the_state core.old.tables core.old.plan)) }
-    ensures right { OnOk result (IsRight core.new.tables core.new.plan) }
+    requires right { IsRightState core.old.tables core.old.plan }
+    requires number { IsNumberIn core.old.tables.basis.lits lit }
+    requires shape { shape_of (bank_atom core.old.tables.basis.bank.terms core.old.tables.basis.lits lit.var.0) ≡ OtherShape }
+    ensures state { OnOk result (let l = bank_literal core.old.tables.basis.bank.terms core.old.tables.basis.lits lit in the_state core.new.tables core.new.plan ≡ with_rules (setting_by core.old.tables core.old.plan) l.positive l.atom (the_state core.old.tables core.old.plan)) }
+    ensures right { OnOk result (IsRightState core.new.tables core.new.plan) }
     ensures develops { OnOk result (Develops core.old.tables core.new.tables) }
     ensures witnesses { OnOk result (core.new.tables.basis.witnesses ≡ core.old.tables.basis.witnesses) }
     ensures rule { OnOk result (core.new.plan.rule ≡ core.old.plan.rule) }
@@ -41,12 +41,12 @@ fn work_on_other<W: Weigher<Waiting>>(core: &mut Core<W>, lit: SatLit) -> Result
 
 /// What the shape of a literal asks for, unless it denies that a term equals itself.
 fn work_by_shape<W: Weigher<Waiting>>(core: &mut Core<W>, lit: SatLit) -> Result<(), AllocError>
-    requires right { IsRight core.old.tables core.old.plan }
-    requires number { IsNumber core.old.tables.basis.lits lit }
+    requires right { IsRightState core.old.tables core.old.plan }
+    requires number { IsNumberIn core.old.tables.basis.lits lit }
     requires few { length core.old.tables.basis.witnesses < 2 ^ 32 - 1 }
-    requires differs { denies_itself (literal_at core.old.tables.basis.bank.terms core.old.tables.basis.lits lit) ≡ false }
-    ensures state { OnOk result (let l = literal_at core.old.tables.basis.bank.terms core.old.tables.basis.lits lit in the_state core.new.tables core.new.plan ≡ worked (setting_by core.old.tables core.old.plan) l.positive l.atom (the_state core.old.tables core.old.plan)) }
-    ensures right { OnOk result (IsRight core.new.tables core.new.plan) }
+    requires differs { denies_itself (bank_literal core.old.tables.basis.bank.terms core.old.tables.basis.lits lit) ≡ false }
+    ensures state { OnOk result (let l = bank_literal core.old.tables.basis.bank.terms core.old.tables.basis.lits lit in the_state core.new.tables core.new.plan ≡ with_rules (setting_by core.old.tables core.old.plan) l.positive l.atom (the_state core.old.tables core.old.plan)) }
+    ensures right { OnOk result (IsRightState core.new.tables core.new.plan) }
     ensures develops { OnOk result (Develops core.old.tables core.new.tables) }
     ensures witnesses { OnOk result (length core.new.tables.basis.witnesses ≤ suc (length core.old.tables.basis.witnesses)) }
     ensures rule { OnOk result (core.new.plan.rule ≡ core.old.plan.rule) }
@@ -65,11 +65,11 @@ fn work_by_shape<W: Weigher<Waiting>>(core: &mut Core<W>, lit: SatLit) -> Result
 
 /// What the shape of a literal asks for. That a term differs from itself is refuted.
 pub(crate) fn work<W: Weigher<Waiting>>(core: &mut Core<W>, lit: SatLit) -> Result<(), AllocError>
-    requires right { IsRight core.old.tables core.old.plan }
-    requires number { IsNumber core.old.tables.basis.lits lit }
+    requires right { IsRightState core.old.tables core.old.plan }
+    requires number { IsNumberIn core.old.tables.basis.lits lit }
     requires few { length core.old.tables.basis.witnesses < 2 ^ 32 - 1 }
-    ensures state { OnOk result (let l = literal_at core.old.tables.basis.bank.terms core.old.tables.basis.lits lit in the_state core.new.tables core.new.plan ≡ worked (setting_by core.old.tables core.old.plan) l.positive l.atom (the_state core.old.tables core.old.plan)) }
-    ensures right { OnOk result (IsRight core.new.tables core.new.plan) }
+    ensures state { OnOk result (let l = bank_literal core.old.tables.basis.bank.terms core.old.tables.basis.lits lit in the_state core.new.tables core.new.plan ≡ with_rules (setting_by core.old.tables core.old.plan) l.positive l.atom (the_state core.old.tables core.old.plan)) }
+    ensures right { OnOk result (IsRightState core.new.tables core.new.plan) }
     ensures develops { OnOk result (Develops core.old.tables core.new.tables) }
     ensures witnesses { OnOk result (length core.new.tables.basis.witnesses ≤ suc (length core.old.tables.basis.witnesses)) }
     ensures rule { OnOk result (core.new.plan.rule ≡ core.old.plan.rule) }

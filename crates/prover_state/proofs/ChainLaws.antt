@@ -9,7 +9,7 @@ use Rattle.stt_core.proofs.ListLaws.{mapped_get, map-append}
 use Rattle.search_spec.specs.Each.{Each}
 use Rattle.search_spec.specs.Partial.{Hole}
 use Rattle.prover_state.proofs.EachLaws.{each-weaker, map-same}
-use Rattle.prover_state.specs.Internal.Chains.{Cell, chain, AreLinked, Extends}
+use Rattle.prover_state.specs.Internal.Chains.{Cell, chain, AreLinked, ExtendsCells}
 
 -- the newest list
 pub chain-newest : (c : Cell) (older : List Cell) → chain (c ∷ older) (suc (length older)) ≡ c.0 ∷ chain older c.1
@@ -35,13 +35,13 @@ pub chain-none : (cells : List Cell) → chain cells 0 ≡ []
 chain-none [] = refl
 chain-none (c ∷ older) = chain-kept c older 0 (omega arith) ∙ chain-none older
 
-pub extends-same : (cells : List Cell) → Extends cells cells
+pub extends-same : (cells : List Cell) → ExtendsCells cells cells
 extends-same cells = record { longer = omega arith; kept = λ k h. refl }
 
-pub extends-cell : (c : Cell) (older : List Cell) → Extends older (c ∷ older)
+pub extends-cell : (c : Cell) (older : List Cell) → ExtendsCells older (c ∷ older)
 extends-cell c older = record { longer = omega arith; kept = λ k h. chain-kept c older k h }
 
-pub extends-later : (a b c : List Cell) → Extends a b → Extends b c → Extends a c
+pub extends-later : (a b c : List Cell) → ExtendsCells a b → ExtendsCells b c → ExtendsCells a c
 extends-later a b c e f = record { longer = omega (arith, e.longer, f.longer); kept = λ k h. f.kept k (omega (arith, h, e.longer)) ∙ e.kept k h }
 
 module _ (d : Cell) (older : List Cell) (n : ℕ) (c : Cell) (linked : AreLinked (d ∷ older)) (e : c ≡ get_or (d ∷ older) (suc (length older) - suc n) c) where
@@ -99,10 +99,10 @@ chain-single cells k (suc r) h e i =
     ∙ sym (ap (λ hs. nat_eq (length hs) 1) e ∙ not_equal (suc (length (chain cells (suc r)))) 1 (λ z. absurd (omega (arith, z, others))))
 
 -- the lists of some numbers stay
-pub lists-stay : (old new : List Cell) (ks : List ℕ) → Extends old new → Each (λ k. k ≤ length old) ks → map (chain new) ks ≡ map (chain old) ks
+pub lists-stay : (old new : List Cell) (ks : List ℕ) → ExtendsCells old new → Each (λ k. k ≤ length old) ks → map (chain new) ks ≡ map (chain old) ks
 lists-stay old new ks e h = map-same (chain new) (chain old) (λ k. k ≤ length old) e.kept ks h
 
-pub numbers-stay : (old new : List Cell) (ks : List ℕ) → Extends old new → Each (λ k. k ≤ length old) ks → Each (λ k. k ≤ length new) ks
+pub numbers-stay : (old new : List Cell) (ks : List ℕ) → ExtendsCells old new → Each (λ k. k ≤ length old) ks → Each (λ k. k ≤ length new) ks
 numbers-stay old new ks e h = each-weaker (λ k. k ≤ length old) (λ k. k ≤ length new) (λ k i. omega (arith, i, e.longer)) ks h
 
 -- the list that stands at a place
@@ -113,6 +113,6 @@ list-placed cells ks p k lists hs e at h got =
     same_Some (chain cells k) hs (sym (mapped_get (chain cells) ks p k here) ∙ ap (λ ls. slice_get ls p) e ∙ at)
 
 -- the lists of some numbers and of one more, over further cells
-pub lists-last : (old new : List Cell) (ks all : List ℕ) (k : ℕ) (lists : List (List Hole)) (hs : List Hole) → Extends old new → Each (λ i. i ≤ length old) ks → map (chain old) ks ≡ lists → all ≡ ks ++ k ∷ [] → chain new k ≡ hs → map (chain new) all ≡ lists ++ hs ∷ []
+pub lists-last : (old new : List Cell) (ks all : List ℕ) (k : ℕ) (lists : List (List Hole)) (hs : List Hole) → ExtendsCells old new → Each (λ i. i ≤ length old) ks → map (chain old) ks ≡ lists → all ≡ ks ++ k ∷ [] → chain new k ≡ hs → map (chain new) all ≡ lists ++ hs ∷ []
 lists-last old new ks all k lists hs e h is more last =
     ap (map (chain new)) more ∙ map-append (chain new) ks (k ∷ []) ∙ ap₂ (λ (xs : List (List Hole)) (x : List Hole). xs ++ x ∷ []) (lists-stay old new ks e h ∙ is) last

@@ -9,7 +9,7 @@ use Rattle.tableau_calculus.specs.Witnesses.{Row}
 use Rattle.sat_core.specs.Solver.{SolverState, learned}
 use Rattle.command_queue.specs.Queue.{Queue}
 use Rattle.command_queue.specs.declared.entry.Entry.{Entry}
-use Rattle.literal_map.specs.Atoms.{literal_at}
+use Rattle.literal_map.specs.Atoms.{bank_literal}
 use Rattle.term_bank.specs.Terms.{term_at}
 use Rattle.witness_names.specs.Rows.{rows_of}
 use Rattle.tableau_clauses.specs.Table.{Table, the_clauses}
@@ -28,9 +28,9 @@ use Rattle.prover_state.specs.declared.tables.Tables.{Tables}
 use Rattle.prover_state.specs.Internal.Empty.{AreEmpty}
 use Rattle.prover_state.specs.Internal.Heads.{sketches_of, AreStems}
 use Rattle.prover_state.specs.Internal.Holes.{holes_in}
-use Rattle.prover_state.specs.Internal.Names.{typed_at, IsNumber, IsPlace}
+use Rattle.prover_state.specs.Internal.Names.{typed_at, IsNumberIn, IsPlace}
 use Rattle.prover_state.specs.Internal.Pending.{loop_at, IsEntry}
-use Rattle.prover_state.specs.Internal.Standing.{declared_scope, rows_in, scope_by, sketches_in, names_in, sources, the_state, is_universal, can_pair, places_where, IsBasis, IsRight}
+use Rattle.prover_state.specs.Internal.Standing.{without_witnesses, rows_in, scope_by, sketches_in, naming_in, sources, the_state, is_universal, can_pair, places_where, IsBasis, IsRightState}
 use Rattle.prover_state.proofs.EachLaws.{each-weaker, each-last}
 use Rattle.prover_state.proofs.NotingLaws.{listed-last}
 use Rattle.prover_state.proofs.FittingLaws.{places-step}
@@ -47,37 +47,37 @@ module _ (g : Basis) (names : List Listing) (t : Tables) (e : AreEmpty g names t
 
   pub state-empty : the_state t q ≡ nothing_yet
   state-empty = λ i. record {
-    clauses = map (map (literal_at t.basis.bank.terms t.basis.lits)) (the_clauses (e.steps i));
-    seen = map (literal_at t.basis.bank.terms t.basis.lits) (e.seen i);
-    noted = map (literal_at t.basis.bank.terms t.basis.lits) (e.noted i);
+    clauses = map (map (bank_literal t.basis.bank.terms t.basis.lits)) (the_clauses (e.steps i));
+    seen = map (bank_literal t.basis.bank.terms t.basis.lits) (e.seen i);
+    noted = map (bank_literal t.basis.bank.terms t.basis.lits) (e.noted i);
     terms = map (typed_at t.basis.bank.terms) (e.terms i);
     chosen = map (term_at t.basis.bank.terms) (e.chosen i);
     described = map (term_at t.basis.bank.terms) (e.described i);
     rows = no_rows i;
     parked = no_sketches i;
-    queue = queue_of (map (loop_at (declared_scope t.basis.bank) (names_in t) (sources t)) (entries i));
+    queue = queue_of (map (loop_at (without_witnesses t.basis.bank) (naming_in t) (sources t)) (entries i));
     pushes = pushes i;
     done = e.done i;
   }
 
-  pub right-empty : IsBasis g → ((n : ℕ) → ids_of (base n) names ≡ places_to n 0 (declared_scope g.bank).names) → IsRight t q
+  pub right-empty : IsBasis g → ((n : ℕ) → ids_of (base n) names ≡ places_to n 0 (without_witnesses g.bank).names) → IsRightState t q
   right-empty good named =
-      let C : Table → Type 0 = λ x. Each (Each (IsNumber t.basis.lits)) (the_clauses x) in
+      let C : Table → Type 0 = λ x. Each (Each (IsNumberIn t.basis.lits)) (the_clauses x) in
       let B : SolverState → Type 0 = λ x. length (learned x) ≤ q.rule.mode.conflicts in
-      let Q : List (Entry Planned) → Type 0 = λ es. Each (λ x. IsEntry (declared_scope t.basis.bank) (names_in t) (sources t) x.command) es in
+      let Q : List (Entry Planned) → Type 0 = λ es. Each (λ x. IsEntry (without_witnesses t.basis.bank) (naming_in t) (sources t) x.command) es in
       record {
         basis = subst IsBasis (sym e.basis) good;
         clauses = subst C (sym e.steps) tt;
         solver = ap (λ (x : SolverState). x.clauses) e.solver ∙ sym (ap the_clauses e.steps);
-        seen = subst (Each (IsNumber t.basis.lits)) (sym e.seen) tt;
-        noted = subst (Each (IsNumber t.basis.lits)) (sym e.noted) tt;
+        seen = subst (Each (IsNumberIn t.basis.lits)) (sym e.seen) tt;
+        noted = subst (Each (IsNumberIn t.basis.lits)) (sym e.noted) tt;
         index = e.indexed t.basis.bank.terms t.basis.lits;
         paired = ap (λ x. x.noted) e.index ∙ sym (ap (filter (can_pair t.basis.bank.terms t.basis.lits)) e.noted);
         universals = λ a. ap (ids_of a) e.universals ∙ sym (ap (places_where (is_universal t.basis.bank.terms t.basis.lits a) 0) e.noted);
         terms = subst (Each (λ u. IsPlace t.basis.bank.terms u.1)) (sym e.terms) tt;
         chosen = subst (Each (IsPlace t.basis.bank.terms)) (sym e.chosen) tt;
         described = subst (Each (IsPlace t.basis.bank.terms)) (sym e.described) tt;
-        names = λ n. ap (ids_of (base n)) e.names ∙ named n ∙ ap (λ (h : Basis). places_to n 0 (declared_scope h.bank).names) (sym e.basis);
+        names = λ n. ap (ids_of (base n)) e.names ∙ named n ∙ ap (λ (h : Basis). places_to n 0 (without_witnesses h.bank).names) (sym e.basis);
         takers = λ n. ap (ids_of (base n)) e.takers ∙ sym (ap (λ (rows : List Row). places_to n 0 (map (λ r. r.type) rows)) no_rows);
         stems = subst (AreStems (scope_by t.basis) []) (sym e.stems) tt;
         open_holes = e.open_holes ∙ sym (ap (map (λ (p : Sketch). holes_in [] p.partial)) no_sketches);

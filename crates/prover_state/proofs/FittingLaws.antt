@@ -14,7 +14,7 @@ use Rattle.prover_state.specs.Internal.Pending.{base_of}
 use Rattle.prover_state.specs.declared.command.Planned.{Planned}
 use Rattle.prover_state.specs.declared.command.Delays.{Delays}
 use Rattle.prover_state.specs.declared.tables.Tables.{Tables}
-use Rattle.prover_state.specs.Internal.Standing.{declared_scope, rows_in, IsRight}
+use Rattle.prover_state.specs.Internal.Standing.{without_witnesses, rows_in, IsRightState}
 use Rattle.command_queue.specs.Queue.{Queue}
 use Rattle.instantiate.specs.Listing.{ids_of}
 use Rattle.tableau_calculus.specs.Witnesses.{Row, with_rows}
@@ -230,12 +230,12 @@ mapped_take f zero xs = refl
 mapped_take f (suc n) [] = refl
 mapped_take f (suc n) (x ∷ xs) = ap (λ ys. f x ∷ ys) (mapped_take f n xs)
 
-module _ (t : Tables) (q : Queue Planned Delays) (r : IsRight t q) (b n : ℕ) (few : n ≤ length (rows_in t.basis)) (k : ℕ) (splits : SplitsAt n (ids_of (base b) t.takers) k) where
+module _ (t : Tables) (q : Queue Planned Delays) (r : IsRightState t q) (b n : ℕ) (few : n ≤ length (rows_in t.basis)) (k : ℕ) (splits : SplitsAt n (ids_of (base b) t.takers) k) where
   abbrev types : List SimpleType
   types = map (λ (x : Row). x.type) (rows_in t.basis)
 
   abbrev scope : Scope
-  scope = with_rows (declared_scope t.basis.bank) (take n (rows_in t.basis))
+  scope = with_rows (without_witnesses t.basis.bank) (take n (rows_in t.basis))
 
   few_types : n ≤ length types
   few_types = let m = length-map (rows_in t.basis) (λ (x : Row). x.type) in omega (arith, few, m)

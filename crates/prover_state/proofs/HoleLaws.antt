@@ -14,11 +14,11 @@ use Rattle.prover_state.specs.declared.command.Command.TheVariants.{Grow}
 use Rattle.prover_state.specs.declared.command.Planned.{Planned}
 use Rattle.prover_state.specs.declared.command.Delays.{Delays}
 use Rattle.prover_state.specs.declared.tables.Tables.{Tables}
-use Rattle.prover_state.specs.Internal.HeadNumbers.{head_at}
+use Rattle.prover_state.specs.Internal.HeadNumbers.{head_numbered}
 use Rattle.prover_state.specs.Internal.Holes.{holes_in, leftmost}
 use Rattle.prover_state.specs.Internal.Names.{sketch_at, command_at}
 use Rattle.prover_state.specs.Internal.Pending.{base_of, over_parked}
-use Rattle.prover_state.specs.Internal.Standing.{names_in, sketches_in, sources, IsRight}
+use Rattle.prover_state.specs.Internal.Standing.{naming_in, sketches_in, sources, IsRightState}
 use Rattle.prover_state.proofs.PlaceLaws.{filter-places, places-below, map-mapped}
 
 leftmost_of : (xs ys : List Hole) → leftmost (xs ++ ys) ≡ or_else (leftmost xs) (leftmost ys)
@@ -40,7 +40,7 @@ there-is [] i d h = absurd (omega (arith, h))
 there-is (x ∷ xs) zero d h = refl
 there-is (x ∷ xs) (suc i) d h = there-is xs i d (omega (arith, h))
 
-module _ (t : Tables) (q : Queue Planned Delays) (r : IsRight t q) where
+module _ (t : Tables) (q : Queue Planned Delays) (r : IsRightState t q) where
   abbrev sketches : List Sketch
   sketches = sketches_in t
 
@@ -52,13 +52,13 @@ module _ (t : Tables) (q : Queue Planned Delays) (r : IsRight t q) where
   base-at p h b told = told (holes_in [] (sketch_at sketches p).partial) (holes-at p h) ∙ ap base_of (leftmost-first [] (sketch_at sketches p).partial)
 
   -- the loop over the partial terms that take a head
-  pub parked-loop : (p h : ℕ) → over_parked (sources t) (command_at (names_in t) (Grow p h)) ≡ map (λ i. command_at (names_in t) (Grow i h)) (ids_of (base (base_of (first_hole [] (sketch_at sketches p).partial))) t.holes)
+  pub parked-loop : (p h : ℕ) → over_parked (sources t) (command_at (naming_in t) (Grow p h)) ≡ map (λ i. command_at (naming_in t) (Grow i h)) (ids_of (base (base_of (first_hole [] (sketch_at sketches p).partial))) t.holes)
   parked-loop p h =
       let n = base_of (first_hole [] (sketch_at sketches p).partial) in
-      let with : Sketch → Meant = λ s. grow s (head_at h) in
+      let with : Sketch → Meant = λ s. grow s (head_numbered h) in
       ap (map with) (filter-places (has_hole_of n) no_sketch [] sketches)
       ∙ map-mapped with (sketch_at sketches) _
-      ∙ ap (map (λ i. command_at (names_in t) (Grow i h))) (sym (r.holes n))
+      ∙ ap (map (λ i. command_at (naming_in t) (Grow i h))) (sym (r.holes n))
 
   pub parked-below : (n : ℕ) → Each (λ i. i < length sketches) (ids_of (base n) t.holes)
   parked-below n = subst (Each (λ i. i < length sketches)) (sym (r.holes n)) (places-below (has_hole_of n) sketches)

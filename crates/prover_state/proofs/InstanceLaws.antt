@@ -16,14 +16,14 @@ use Rattle.search_spec.specs.State.{State}
 use Rattle.search_spec.specs.Instances.{with_literals, with_instance}
 use Rattle.search_spec.proofs.NamingLaws.{each-joined, instance_clauses-mapped, with_clauses-mapped, instance_clauses_good, with_clauses_good}
 use Rattle.term_bank.specs.Laws.{EqualIdsForEqualTerms}
-use Rattle.literal_map.specs.Atoms.{literal_at}
+use Rattle.literal_map.specs.Atoms.{bank_literal}
 use Rattle.tableau_clauses.specs.Table.{Table, the_clauses}
 use Rattle.sat_core.specs.Solver.{SolverState, learned}
 use Rattle.prover_state.specs.declared.command.Planned.{Planned}
 use Rattle.prover_state.specs.declared.command.Delays.{Delays}
 use Rattle.prover_state.specs.declared.tables.Tables.{Tables}
-use Rattle.prover_state.specs.Internal.Names.{IsNumber}
-use Rattle.prover_state.specs.Internal.Standing.{the_state, IsRight}
+use Rattle.prover_state.specs.Internal.Names.{IsNumberIn}
+use Rattle.prover_state.specs.Internal.Standing.{the_state, IsRightState}
 use Rattle.prover_state.proofs.NumberLaws.{stand}
 
 pub joined-mapped : {K L : Type 0} (d : K → L) (as' : List (List K)) → flat_map (λ (a : List L). a) (map (map d) as') ≡ map d (flat_map (λ (a : List K). a) as')
@@ -34,9 +34,9 @@ pub each-flat : {K : Type 0} (P : K → Type 0) (as' : List (List K)) → Each (
 each-flat P [] h = tt
 each-flat P (a ∷ as') h = each-joined P a (flat_map (λ a. a) as') h.0 (each-flat P as' h.1)
 
-module _ (t : Tables) (q : Queue Planned Delays) (equal : EqualIdsForEqualTerms t.basis.bank) (differ : (v w id : ℕ) → slice_get t.basis.lits v ≡ Some id → slice_get t.basis.lits w ≡ Some id → v ≡ w) (r : IsRight t q) (mode : Mode) (ps : List SatLit) (as' : List (List SatLit)) (gp : Each (IsNumber t.basis.lits) ps) (ga : Each (Each (IsNumber t.basis.lits)) as') where
+module _ (t : Tables) (q : Queue Planned Delays) (equal : EqualIdsForEqualTerms t.basis.bank) (differ : (v w id : ℕ) → slice_get t.basis.lits v ≡ Some id → slice_get t.basis.lits w ≡ Some id → v ≡ w) (r : IsRightState t q) (mode : Mode) (ps : List SatLit) (as' : List (List SatLit)) (gp : Each (IsNumberIn t.basis.lits) ps) (ga : Each (Each (IsNumberIn t.basis.lits)) as') where
   abbrev d : SatLit → Literal
-  d = literal_at t.basis.bank.terms t.basis.lits
+  d = bank_literal t.basis.bank.terms t.basis.lits
 
   abbrev before : State
   before = the_state t q
@@ -48,17 +48,17 @@ module _ (t : Tables) (q : Queue Planned Delays) (equal : EqualIdsForEqualTerms 
   abbrev further : List Clause
   further = with_clauses formulas before.clauses (instance_clauses formulas (map d ps) (map (map d) as'))
 
-  pub clauses_are_numbers : Each (Each (IsNumber t.basis.lits)) more
+  pub clauses_are_numbers : Each (Each (IsNumberIn t.basis.lits)) more
   clauses_are_numbers =
-      with_clauses_good numbers (IsNumber t.basis.lits) (the_clauses t.steps) (instance_clauses numbers ps as') r.clauses
-      (instance_clauses_good numbers formulas (IsNumber t.basis.lits) d (stand t.basis.bank t.basis.lits r.basis.atoms equal differ) ps as' gp ga)
+      with_clauses_good numbers (IsNumberIn t.basis.lits) (the_clauses t.steps) (instance_clauses numbers ps as') r.clauses
+      (instance_clauses_good numbers formulas (IsNumberIn t.basis.lits) d (stand t.basis.bank t.basis.lits r.basis.atoms equal differ) ps as' gp ga)
 
   further_is : further ≡ map (map d) more
   further_is =
       let s = stand t.basis.bank t.basis.lits r.basis.atoms equal differ in
-      ap (with_clauses formulas before.clauses) (instance_clauses-mapped numbers formulas (IsNumber t.basis.lits) d s ps as' gp ga)
-      ∙ with_clauses-mapped numbers formulas (IsNumber t.basis.lits) d s (the_clauses t.steps) (instance_clauses numbers ps as') r.clauses
-      (instance_clauses_good numbers formulas (IsNumber t.basis.lits) d s ps as' gp ga)
+      ap (with_clauses formulas before.clauses) (instance_clauses-mapped numbers formulas (IsNumberIn t.basis.lits) d s ps as' gp ga)
+      ∙ with_clauses-mapped numbers formulas (IsNumberIn t.basis.lits) d s (the_clauses t.steps) (instance_clauses numbers ps as') r.clauses
+      (instance_clauses_good numbers formulas (IsNumberIn t.basis.lits) d s ps as' gp ga)
 
   abbrev with_all : State
   with_all = with_literals mode (flat_map (λ (a : List Literal). a) (map (map d) as')) (record before { clauses = further })
@@ -75,7 +75,7 @@ module _ (t : Tables) (q : Queue Planned Delays) (equal : EqualIdsForEqualTerms 
       ap₂ (λ ls (cs : List Clause). with_literals mode ls (record before { clauses = cs })) (sym (joined-mapped d as')) (ap (map (map d)) is ∙ sym further_is)
       ∙ by_test true e
 
-  pub right-added : (x : Table) (y : SolverState) → the_clauses x ≡ more → y.clauses ≡ the_clauses x → learned y ≡ learned t.solver → IsRight (record t { steps = x; solver = y }) q
+  pub right-added : (x : Table) (y : SolverState) → the_clauses x ≡ more → y.clauses ≡ the_clauses x → learned y ≡ learned t.solver → IsRightState (record t { steps = x; solver = y }) q
   right-added x y is same learns =
       let B : List (List SatLit) → Type 0 = λ ls. length ls ≤ q.rule.mode.conflicts in
       record {
@@ -96,6 +96,6 @@ module _ (t : Tables) (q : Queue Planned Delays) (equal : EqualIdsForEqualTerms 
         holes = r.holes;
         budget = subst B (sym learns) r.budget;
         queue = r.queue;
-        clauses = subst (Each (Each (IsNumber t.basis.lits))) (sym is) clauses_are_numbers;
+        clauses = subst (Each (Each (IsNumberIn t.basis.lits))) (sym is) clauses_are_numbers;
         solver = same;
       }

@@ -23,8 +23,8 @@ use Rattle.prover_state.specs.declared.command.Over.{Over}
 use Rattle.prover_state.specs.declared.command.Over.TheVariants.{Terms, Universals, Negatives, Positives, Heads, Parked}
 use Rattle.prover_state.specs.declared.command.Planned.{Planned}
 use Rattle.prover_state.specs.declared.command.Rest.{Rest}
-use Rattle.prover_state.specs.Internal.Growing.{Longer, Extends}
-use Rattle.prover_state.specs.Internal.Names.{Names, command_at, AreNumbers}
+use Rattle.prover_state.specs.Internal.Growing.{Longer, ExtendsState}
+use Rattle.prover_state.specs.Internal.Names.{Naming, command_at, IsNumberedCommand}
 use Rattle.prover_state.specs.Internal.Pending.{range_of, equation_type, base_of, over_terms, over_universals, over_negatives, over_positives, over_heads, over_parked, loop_over, between, later_of, HasWitnesses, AreThere, IsEntry, loop_at}
 use Rattle.prover_state.proofs.EachLaws.{each-weaker, map-same}
 
@@ -41,7 +41,7 @@ filtered test xs ys l = (filter test l.0, ap (filter test) l.1 ∙ filter-append
 same : {X : Type 0} (xs ys : List X) → ys ≡ xs → Longer xs ys
 same xs ys e = ([], e ∙ sym (append-nil xs))
 
-module _ (scope : Scope) (s s' : State) (ext : Extends s s') where
+module _ (scope : Scope) (s s' : State) (ext : ExtendsState s s') where
   terms_longer : (c : Meant) → Longer (over_terms s c) (over_terms s' c)
   terms_longer (inst l u) =
       mapped (inst l) (terms_of (range_of l.atom) s) (terms_of (range_of l.atom) s')
@@ -144,7 +144,7 @@ module _ (scope : Scope) (s s' : State) (ext : Extends s s') where
         signed = w.signed;
       }
 
-  module _ (names names' : Names) (commands : (c : Command) → AreNumbers names c → command_at names' c ≡ command_at names c) (numbers : (c : Command) → AreNumbers names c → AreNumbers names' c) where
+  module _ (names names' : Naming) (commands : (c : Command) → IsNumberedCommand names c → command_at names' c ≡ command_at names c) (numbers : (c : Command) → IsNumberedCommand names c → IsNumberedCommand names' c) where
     loop_stays : (e : Entry Planned) → IsEntry scope names s e.command → loop_at scope names' s' e ≡ loop_at scope names s e
     loop_stays e h =
         let L : Meant → List Meant → Loop Meant = λ c cs. record { due = e.due; number = e.number; first = c; later = cs } in

@@ -9,13 +9,13 @@ use Rattle.search_spec.specs.Partial.{hole}
 use Rattle.search_spec.specs.State.{Typed, process, mate, confront, inst, grow, choose, describe}
 use Rattle.term_bank.specs.Terms.{term_at}
 use Rattle.term_bank.proofs.ListLaws.{get_or-front}
-use Rattle.literal_map.specs.Atoms.{literal_at}
+use Rattle.literal_map.specs.Atoms.{bank_literal}
 use Rattle.witness_names.specs.Rows.{binder_of}
 use Rattle.instantiate.specs.Listing.{Listing}
 use Rattle.prover_state.specs.declared.command.Command.{Command}
 use Rattle.prover_state.specs.declared.command.Command.TheVariants.{Process, Mate, Confront, Inst, Grow, Choose, Describe}
-use Rattle.prover_state.specs.Internal.HeadNumbers.{head_at}
-use Rattle.prover_state.specs.Internal.Names.{Names, sketch_at, command_at, typed_at, IsNumber, IsPlace, AreNumbers}
+use Rattle.prover_state.specs.Internal.HeadNumbers.{head_numbered}
+use Rattle.prover_state.specs.Internal.Names.{Naming, sketch_at, command_at, typed_at, IsNumberIn, IsPlace, IsNumberedCommand}
 use Rattle.prover_state.specs.Internal.Growing.{Longer, Continues}
 
 longer_length : {X : Type 0} (xs ys : List X) → Longer xs ys → (n : ℕ) → n < length xs → n < length ys
@@ -30,11 +30,11 @@ place-stays terms terms' l id h = longer_length terms terms' l id h
 pub term-stays : (terms terms' : List Lambda) → Longer terms terms' → (id : ℕ) → IsPlace terms id → term_at terms' id ≡ term_at terms id
 term-stays terms terms' l id h = front_stays terms terms' l id (bound 0) h
 
-module _ (names names' : Names) (c : Continues names names') where
-  pub number-stays : (l : SatLit) → IsNumber names.atoms l → IsNumber names'.atoms l
+module _ (names names' : Naming) (c : Continues names names') where
+  pub number-stays : (l : SatLit) → IsNumberIn names.atoms l → IsNumberIn names'.atoms l
   number-stays l h = longer_length names.atoms names'.atoms c.atoms l.var.0 h
 
-  pub literal-stays : (l : SatLit) → IsNumber names.atoms l → literal_at names'.terms names'.atoms l ≡ literal_at names.terms names.atoms l
+  pub literal-stays : (l : SatLit) → IsNumberIn names.atoms l → bank_literal names'.terms names'.atoms l ≡ bank_literal names.terms names.atoms l
   literal-stays l h =
       let L : Lambda → Literal = λ t. record { positive = l.positive; atom = t } in
       ap L (ap (term_at names'.terms) (front_stays names.atoms names'.atoms c.atoms l.var.0 0 h)
@@ -46,16 +46,16 @@ module _ (names names' : Names) (c : Continues names names') where
   sketch_stays : (p : ℕ) → p < length names.sketches → sketch_at names'.sketches p ≡ sketch_at names.sketches p
   sketch_stays p h = front_stays names.sketches names'.sketches c.sketches p (record { type = formula; partial = hole 0 }) h
 
-  pub command-stays : (d : Command) → AreNumbers names d → command_at names' d ≡ command_at names d
+  pub command-stays : (d : Command) → IsNumberedCommand names d → command_at names' d ≡ command_at names d
   command-stays (Process l) h = ap process (literal-stays l h)
   command-stays (Mate l m) h = ap₂ mate (literal-stays l h.0) (literal-stays m h.1)
   command-stays (Confront l m) h = ap₂ confront (literal-stays l h.0) (literal-stays m h.1)
   command-stays (Inst l u) h = ap₂ inst (literal-stays l h.0) (term-stays names.terms names'.terms c.terms u h.1)
-  command-stays (Grow p k) h = ap (λ q. grow q (head_at k)) (sketch_stays p h.0)
+  command-stays (Grow p k) h = ap (λ q. grow q (head_numbered k)) (sketch_stays p h.0)
   command-stays (Choose f) h = ap (λ t. choose (binder_of t) t) (term-stays names.terms names'.terms c.terms f h)
   command-stays (Describe f) h = ap (λ t. describe (binder_of t) t) (term-stays names.terms names'.terms c.terms f h)
 
-  pub numbers-stay : (d : Command) → AreNumbers names d → AreNumbers names' d
+  pub numbers-stay : (d : Command) → IsNumberedCommand names d → IsNumberedCommand names' d
   numbers-stay (Process l) h = number-stays l h
   numbers-stay (Mate l m) h = (number-stays l h.0, number-stays m h.1)
   numbers-stay (Confront l m) h = (number-stays l h.0, number-stays m h.1)

@@ -12,16 +12,16 @@ use Rattle.command_queue.specs.Queue.{Queue}
 use Rattle.search_spec.specs.Each.{Each}
 use Rattle.search_spec.specs.Terms.{ranges_over}
 use Rattle.search_spec.specs.Internal.Loops.{queue_of}
-use Rattle.literal_map.specs.Atoms.{literal_at, atom_at}
-use Rattle.mating_rules.specs.Noted.{Notes, IsRight as IsRightIndex}
+use Rattle.literal_map.specs.Atoms.{bank_literal, bank_atom}
+use Rattle.mating_rules.specs.Noted.{Notes, IsRightIndex}
 use Rattle.instantiate.specs.Listing.{Listing, ids_of, with_listed}
 use Rattle.prover_state.specs.declared.command.Planned.{Planned}
 use Rattle.prover_state.specs.declared.command.Delays.{Delays}
 use Rattle.prover_state.specs.declared.tables.Tables.{Tables}
-use Rattle.prover_state.specs.Internal.Growing.{Longer, Extends}
-use Rattle.prover_state.specs.Internal.Names.{IsNumber}
+use Rattle.prover_state.specs.Internal.Growing.{Longer, ExtendsState}
+use Rattle.prover_state.specs.Internal.Names.{IsNumberIn}
 use Rattle.prover_state.specs.Internal.Shapes.{quantified_type}
-use Rattle.prover_state.specs.Internal.Standing.{declared_scope, names_in, sources, parts, loops_in, the_state, can_pair, is_universal, places_where, IsRight}
+use Rattle.prover_state.specs.Internal.Standing.{without_witnesses, naming_in, sources, state_parts, loops_in, the_state, can_pair, is_universal, places_where, IsRightState}
 use Rattle.prover_state.proofs.EachLaws.{each-last}
 use Rattle.prover_state.proofs.PlaceLaws.{places-below}
 use Rattle.prover_state.proofs.ShapeLaws.{ranges_by, ranges-quantified}
@@ -74,20 +74,20 @@ listed-last a b id all new is below =
     ∙ last_of_type a b id all
 
 -- whether a literal is universal
-pub universal-by : (t : Tables) (a : SimpleType) (l : SatLit) (o : Option SimpleType) → l.positive ≡ true → o ≡ quantified_type (atom_at t.basis.bank.terms t.basis.lits l.var.0) → is_universal t.basis.bank.terms t.basis.lits a l ≡ ranges_by a o
+pub universal-by : (t : Tables) (a : SimpleType) (l : SatLit) (o : Option SimpleType) → l.positive ≡ true → o ≡ quantified_type (bank_atom t.basis.bank.terms t.basis.lits l.var.0) → is_universal t.basis.bank.terms t.basis.lits a l ≡ ranges_by a o
 universal-by t a l o e is =
-    ap (λ (b : Bool). b && ranges_over a (atom_at t.basis.bank.terms t.basis.lits l.var.0)) e
-    ∙ sym (ranges-quantified a (atom_at t.basis.bank.terms t.basis.lits l.var.0))
+    ap (λ (b : Bool). b && ranges_over a (bank_atom t.basis.bank.terms t.basis.lits l.var.0)) e
+    ∙ sym (ranges-quantified a (bank_atom t.basis.bank.terms t.basis.lits l.var.0))
     ∙ ap (ranges_by a) (sym is)
 
 pub universal-not : (t : Tables) (a : SimpleType) (l : SatLit) → l.positive ≡ false → is_universal t.basis.bank.terms t.basis.lits a l ≡ false
-universal-not t a l e = ap (λ (b : Bool). b && ranges_over a (atom_at t.basis.bank.terms t.basis.lits l.var.0)) e
+universal-not t a l e = ap (λ (b : Bool). b && ranges_over a (bank_atom t.basis.bank.terms t.basis.lits l.var.0)) e
 
 -- A NOTED LITERAL MORE
 
-module _ (t : Tables) (q : Queue Planned Delays) (r : IsRight t q) (l : SatLit) (number : IsNumber t.basis.lits l) where
+module _ (t : Tables) (q : Queue Planned Delays) (r : IsRightState t q) (l : SatLit) (number : IsNumberIn t.basis.lits l) where
   abbrev d : SatLit → Literal
-  d = literal_at t.basis.bank.terms t.basis.lits
+  d = bank_literal t.basis.bank.terms t.basis.lits
 
   pub universal-places : (a : SimpleType) → Each (λ i. i < length t.noted.items) (ids_of a t.universals)
   universal-places a = subst (Each (λ i. i < length t.noted.items)) (sym (r.universals a)) (places-below (is_universal t.basis.bank.terms t.basis.lits a) t.noted.items)
@@ -106,7 +106,7 @@ module _ (t : Tables) (q : Queue Planned Delays) (r : IsRight t q) (l : SatLit) 
     itself : {X : Type 0} (xs : List X) → Longer xs xs
     itself xs = ([], sym (append-nil xs))
 
-    extends : Extends (sources t) (sources t')
+    extends : ExtendsState (sources t) (sources t')
     extends = record {
       noted = (d l ∷ [], noted_more);
       terms = itself (sources t).terms;
@@ -115,21 +115,21 @@ module _ (t : Tables) (q : Queue Planned Delays) (r : IsRight t q) (l : SatLit) 
     }
 
     loops_same : loops_in t' q.entries ≡ loops_in t q.entries
-    loops_same = loops-stay (declared_scope t.basis.bank) (sources t) (sources t') extends (names_in t) (names_in t) (λ c h. refl) (λ c h. h) q.entries r.queue
+    loops_same = loops-stay (without_witnesses t.basis.bank) (sources t) (sources t') extends (naming_in t) (naming_in t) (λ c h. refl) (λ c h. h) q.entries r.queue
 
     pub state-noted : the_state t' q ≡ record (the_state t q) { noted = (the_state t q).noted ++ d l ∷ [] }
-    state-noted = ap₂ (λ (ls : List Literal) loops. record (parts t) { noted = ls; queue = queue_of loops; pushes = q.pushes }) noted_more loops_same
+    state-noted = ap₂ (λ (ls : List Literal) loops. record (state_parts t) { noted = ls; queue = queue_of loops; pushes = q.pushes }) noted_more loops_same
 
     pub right-noted : i.noted ≡ (if can_pair t.basis.bank.terms t.basis.lits l then t.index.noted ++ l ∷ [] else t.index.noted)
         → IsRightIndex t.basis.bank.terms t.basis.lits i
         → ((a : SimpleType) → ids_of a us ≡ (if is_universal t.basis.bank.terms t.basis.lits a l then ids_of a t.universals ++ length t.noted.items ∷ [] else ids_of a t.universals))
-        → IsRight t' q
+        → IsRightState t' q
     right-noted pairs good listed = record {
       basis = r.basis;
       clauses = r.clauses;
       solver = r.solver;
       seen = r.seen;
-      noted = subst (Each (IsNumber t.basis.lits)) (sym noted) (each-last (IsNumber t.basis.lits) t.noted.items l r.noted number);
+      noted = subst (Each (IsNumberIn t.basis.lits)) (sym noted) (each-last (IsNumberIn t.basis.lits) t.noted.items l r.noted number);
       index = good;
       paired =
           pairs
@@ -151,5 +151,5 @@ module _ (t : Tables) (q : Queue Planned Delays) (r : IsRight t q) (l : SatLit) 
       roots = r.roots;
       holes = r.holes;
       budget = r.budget;
-      queue = entries-stay (declared_scope t.basis.bank) (sources t) (sources t') extends (names_in t) (names_in t) (λ c h. refl) (λ c h. h) q.entries r.queue;
+      queue = entries-stay (without_witnesses t.basis.bank) (sources t) (sources t') extends (naming_in t) (naming_in t) (λ c h. refl) (λ c h. h) q.entries r.queue;
     }

@@ -13,15 +13,15 @@ use Rattle.search_spec.specs.Each.{Each}
 use Rattle.search_spec.specs.Partners.{partners, equates_on, has_equal_sides, positive_first, matings, confrontations}
 use Rattle.search_spec.specs.Spine.{head_of, has_compared_head, is_application, is_spine, same_head}
 use Rattle.search_spec.specs.State.{Command as Meant, mate, confront}
-use Rattle.literal_map.specs.Atoms.{literal_at}
+use Rattle.literal_map.specs.Atoms.{bank_literal}
 use Rattle.mating_rules.specs.Noted.{are_partners, equates_alike, partners_of}
 use Rattle.mating_rules.proofs.StayLaws.{literals-partners}
 use Rattle.prover_state.specs.declared.command.Planned.{Planned}
 use Rattle.prover_state.specs.declared.command.Delays.{Delays}
 use Rattle.prover_state.specs.declared.tables.Tables.{Tables}
-use Rattle.prover_state.specs.Internal.Names.{IsNumber}
+use Rattle.prover_state.specs.Internal.Names.{IsNumberIn}
 use Rattle.prover_state.specs.Internal.Pending.{equation_type, is_base_equation}
-use Rattle.prover_state.specs.Internal.Standing.{can_pair, IsRight}
+use Rattle.prover_state.specs.Internal.Standing.{can_pair, IsRightState}
 use Rattle.prover_state.proofs.EachLaws.{each-from_All, each-weaker}
 use Rattle.prover_state.proofs.PlaceLaws.{map-mapped, each-passes}
 
@@ -106,19 +106,19 @@ opposed false true false e = refl
 opposed false false q true = refl
 opposed false false q false = refl
 
-module _ (t : Tables) (q : Queue Planned Delays) (r : IsRight t q) (l : SatLit) where
+module _ (t : Tables) (q : Queue Planned Delays) (r : IsRightState t q) (l : SatLit) where
   abbrev d : SatLit → Literal
-  d = literal_at t.basis.bank.terms t.basis.lits
+  d = bank_literal t.basis.bank.terms t.basis.lits
 
   abbrev found : List SatLit
   found = partners_of t.basis.bank.terms t.basis.lits l t.index.noted
 
   -- the partners are noted literals
-  pub partner-numbers : Each (IsNumber t.basis.lits) found
+  pub partner-numbers : Each (IsNumberIn t.basis.lits) found
   partner-numbers =
       let test : SatLit → Bool = λ m. not (same_sign l.positive m.positive) && are_partners (d l).atom (d m).atom in
-      each-weaker (λ m. IsNumber t.basis.lits m × (test m ≡ true)) (IsNumber t.basis.lits) (λ m h. h.0) found
-      (each-passes (IsNumber t.basis.lits) test t.index.noted (each-from_All (IsNumber t.basis.lits) t.index.noted r.index.numbers))
+      each-weaker (λ m. IsNumberIn t.basis.lits m × (test m ≡ true)) (IsNumberIn t.basis.lits) (λ m h. h.0) found
+      (each-passes (IsNumberIn t.basis.lits) test t.index.noted (each-from_All (IsNumberIn t.basis.lits) t.index.noted r.index.numbers))
 
   abbrev opposite : (Lambda → Bool) → Literal → Bool
   opposite test m = not (same_sign l.positive m.positive) && test m.atom

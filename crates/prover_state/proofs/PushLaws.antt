@@ -10,9 +10,9 @@ use Rattle.command_queue.specs.declared.entry.Entry.{Entry}
 use Rattle.command_queue.specs.Queue.{Queue, AddsEntry}
 use Rattle.search_spec.specs.Each.{Each}
 use Rattle.search_spec.specs.Mode.{Mode as Delaying}
-use Rattle.search_spec.specs.Queue.{waiting}
+use Rattle.search_spec.specs.Queue.{new_entries}
 use Rattle.search_spec.specs.Partners.{positive_first}
-use Rattle.search_spec.specs.State.{State, Command as Meant, process, mate, confront, inst, grow, choose, describe, delay, due, pushed}
+use Rattle.search_spec.specs.State.{State, Command as Meant, process, mate, confront, inst, grow, choose, describe, delay, due, with_commands}
 use Rattle.search_spec.specs.Internal.Loops.{queue_of}
 use Rattle.prover_state.specs.declared.command.Command.{Command}
 use Rattle.prover_state.specs.declared.command.Command.TheVariants.{Process, Mate, Confront, Inst, Grow, Choose, Describe}
@@ -23,13 +23,13 @@ use Rattle.prover_state.specs.declared.command.Rest.{Rest}
 use Rattle.prover_state.specs.declared.command.Delays.{Delays}
 use Rattle.prover_state.specs.declared.tables.Tables.{Tables}
 use Rattle.prover_state.specs.Delays.{the_mode, delay_by}
-use Rattle.prover_state.specs.Internal.Names.{Names, command_at}
+use Rattle.prover_state.specs.Internal.Names.{Naming, command_at}
 use Rattle.prover_state.specs.Internal.Pending.{over_terms, over_universals, over_negatives, over_positives, over_heads, over_parked, loop_over, between, later_of, AreThere, IsEntry, span, span_of, loop_at}
-use Rattle.prover_state.specs.Internal.Standing.{declared_scope, names_in, sources, parts, loops_in, the_state, IsRight}
+use Rattle.prover_state.specs.Internal.Standing.{without_witnesses, naming_in, sources, state_parts, loops_in, the_state, IsRightState}
 use Rattle.prover_state.proofs.EachLaws.{each-last}
 use Rattle.prover_state.proofs.QueueLaws.{queue-last}
 
-waiting-same : {C : Type 0} (d : C → ℕ) (m n : ℕ) (cs : List C) → Each (λ c. d c ≡ m) cs → waiting d n cs ≡ waiting (λ c. m) n cs
+waiting-same : {C : Type 0} (d : C → ℕ) (m n : ℕ) (cs : List C) → Each (λ c. d c ≡ m) cs → new_entries d n cs ≡ new_entries (λ c. m) n cs
 waiting-same d m n [] h = refl
 waiting-same d m n (c ∷ cs) h = ap₂ (λ k qs. record { due = k; number = n; command = c } ∷ qs) h.0 (waiting-same d m (suc n) cs h.1)
 
@@ -134,7 +134,7 @@ pub length-later : (scope : Scope) (s : State) (c : Meant) (r : Option Rest) →
 length-later scope s c None w = refl
 length-later scope s c (Some r) w = length-between r.next r.end (loop_over scope s r.over c) w.ascends w.within
 
-pub delay-numbered : (m : Mode) (names : Names) (c : Command) → delay (the_mode m) (command_at names c) ≡ delay_by m c
+pub delay-numbered : (m : Mode) (names : Naming) (c : Command) → delay (the_mode m) (command_at names c) ≡ delay_by m c
 delay-numbered m names (Process l) = refl
 delay-numbered m names (Mate l k) = refl
 delay-numbered m names (Confront l k) = refl
@@ -143,12 +143,12 @@ delay-numbered m names (Grow p h) = refl
 delay-numbered m names (Choose f) = refl
 delay-numbered m names (Describe f) = refl
 
-module _ (t : Tables) (old new : Queue Planned Delays) (p : Planned) (entry : IsEntry (declared_scope t.basis.bank) (names_in t) (sources t) p) (adds : AddsEntry old new (suc (span p)) (t.done + delay_by old.rule.mode p.first) p) where
+module _ (t : Tables) (old new : Queue Planned Delays) (p : Planned) (entry : IsEntry (without_witnesses t.basis.bank) (naming_in t) (sources t) p) (adds : AddsEntry old new (suc (span p)) (t.done + delay_by old.rule.mode p.first) p) where
   abbrev scope : Scope
-  scope = declared_scope t.basis.bank
+  scope = without_witnesses t.basis.bank
 
   abbrev first : Meant
-  first = command_at (names_in t) p.first
+  first = command_at (naming_in t) p.first
 
   abbrev commands : List Meant
   commands = first ∷ later_of scope (sources t) first p.rest
@@ -158,32 +158,32 @@ module _ (t : Tables) (old new : Queue Planned Delays) (p : Planned) (entry : Is
 
   delays_are : Each (λ c. due (the_mode old.rule.mode) t.done c ≡ t.done + delay_by old.rule.mode p.first) commands
   delays_are = (
-    ap (λ d. t.done + d) (delay-numbered old.rule.mode (names_in t) p.first),
+    ap (λ d. t.done + d) (delay-numbered old.rule.mode (naming_in t) p.first),
     each_due (later_of scope (sources t) first p.rest)
         (later_waits (the_mode old.rule.mode) scope (sources t) first p.rest),
   )
     where
       each_due : (cs : List Meant) → Each (WaitsLike (the_mode old.rule.mode) first) cs → Each (λ c. due (the_mode old.rule.mode) t.done c ≡ t.done + delay_by old.rule.mode p.first) cs
       each_due [] h = tt
-      each_due (c ∷ cs) h = (ap (λ d. t.done + d) (h.0 ∙ delay-numbered old.rule.mode (names_in t) p.first), each_due cs h.1)
+      each_due (c ∷ cs) h = (ap (λ d. t.done + d) (h.0 ∙ delay-numbered old.rule.mode (naming_in t) p.first), each_due cs h.1)
 
   -- The state with the commands of a loop pushed.
-  pub pushed-loop : the_state t new ≡ pushed (the_mode old.rule.mode) commands (the_state t old)
-  pushed-loop = ap₂ (λ qs n. record (parts t) { queue = qs; pushes = n }) queue_is pushes_is
+  pub pushed-loop : the_state t new ≡ with_commands (the_mode old.rule.mode) commands (the_state t old)
+  pushed-loop = ap₂ (λ qs n. record (state_parts t) { queue = qs; pushes = n }) queue_is pushes_is
     where
-      queue_is : queue_of (loops_in t new.entries) ≡ queue_of (loops_in t old.entries) ++ waiting (due (the_mode old.rule.mode) t.done) old.pushes commands
+      queue_is : queue_of (loops_in t new.entries) ≡ queue_of (loops_in t old.entries) ++ new_entries (due (the_mode old.rule.mode) t.done) old.pushes commands
       queue_is =
           ap (λ es. queue_of (loops_in t es)) adds.entries
-          ∙ queue-last (loop_at scope (names_in t) (sources t)) (λ e. refl) (λ e. refl) old.entries added
+          ∙ queue-last (loop_at scope (naming_in t) (sources t)) (λ e. refl) (λ e. refl) old.entries added
           ∙ ap (λ qs. queue_of (loops_in t old.entries) ++ qs) (sym (waiting-same (due (the_mode old.rule.mode) t.done) (t.done + delay_by old.rule.mode p.first) old.pushes commands delays_are))
 
       pushes_is : new.pushes ≡ old.pushes + length commands
       pushes_is = adds.pushes ∙ ap (λ n. old.pushes + suc n) (sym (length-later scope (sources t) first p.rest entry.later))
 
-  pub right-pushed : IsRight t old → IsRight t new
+  pub right-pushed : IsRightState t old → IsRightState t new
   right-pushed r =
       let B : Delays → Type 0 = λ d. length (learned t.solver) ≤ d.mode.conflicts in
-      let Q : List (Entry Planned) → Type 0 = λ es. Each (λ e. IsEntry scope (names_in t) (sources t) e.command) es in
+      let Q : List (Entry Planned) → Type 0 = λ es. Each (λ e. IsEntry scope (naming_in t) (sources t) e.command) es in
       record {
         basis = r.basis;
         clauses = r.clauses;
@@ -203,5 +203,5 @@ module _ (t : Tables) (old new : Queue Planned Delays) (p : Planned) (entry : Is
         roots = r.roots;
         holes = r.holes;
         budget = subst B (sym adds.rule) r.budget;
-        queue = subst Q (sym adds.entries) (each-last (λ e. IsEntry scope (names_in t) (sources t) e.command) old.entries added r.queue entry);
+        queue = subst Q (sym adds.entries) (each-last (λ e. IsEntry scope (naming_in t) (sources t) e.command) old.entries added r.queue entry);
       }

@@ -7,8 +7,8 @@ use Rattle.stt_core.proofs.ListLaws.{map-append}
 use Rattle.command_queue.specs.declared.entry.Entry.{Entry}
 use Rattle.command_queue.specs.Queue.{Queue, IsBefore, TakesEntry, AddsEntryAt}
 use Rattle.search_spec.specs.Each.{Each}
-use Rattle.search_spec.specs.Queue.{Waiting, is_before, first_of, next_command, without}
-use Rattle.search_spec.specs.Internal.Loops.{Loop, entries, first_entry, queue_of, loop_left, advanced, IsFirstOrNone}
+use Rattle.search_spec.specs.Queue.{Waiting, is_before, first_waiting, next_command, without_number}
+use Rattle.search_spec.specs.Internal.Loops.{Loop, entries, first_entry, queue_of, loop_left, loops_after, IsFirstOrNone}
 use Rattle.search_spec.proofs.LoopLaws.{next_of_loops, without_from_loops}
 use Rattle.prover_state.specs.declared.command.Planned.{Planned}
 use Rattle.prover_state.specs.Internal.Pending.{span, EndsBelow, AreSpaced}
@@ -53,13 +53,13 @@ module _ {D : Type 0} where
       go false e false f c g k = cc
 
   -- nothing is before the first
-  stays_first : (q : Waiting D) (ps : List (Waiting D)) → Each (λ p. is_before q p ≡ true) ps → first_of q ps ≡ q
+  stays_first : (q : Waiting D) (ps : List (Waiting D)) → Each (λ p. is_before q p ≡ true) ps → first_waiting q ps ≡ q
   stays_first q [] h = refl
-  stays_first q (p ∷ ps) h = ap (λ b. first_of (if b then p else q) ps) (not_after q p h.0) ∙ stays_first q ps h.1
+  stays_first q (p ∷ ps) h = ap (λ b. first_waiting (if b then p else q) ps) (not_after q p h.0) ∙ stays_first q ps h.1
 
   -- what is before all others is taken for the first
-  comes_first : (e q : Waiting D) (ps qs : List (Waiting D)) → is_before e q ≡ true → Each (λ p. is_before e p ≡ true) ps → Each (λ p. is_before e p ≡ true) qs → first_of q (ps ++ e ∷ qs) ≡ e
-  comes_first e q [] qs h k l = ap (λ b. first_of (if b then e else q) qs) h ∙ stays_first e qs l
+  comes_first : (e q : Waiting D) (ps qs : List (Waiting D)) → is_before e q ≡ true → Each (λ p. is_before e p ≡ true) ps → Each (λ p. is_before e p ≡ true) qs → first_waiting q (ps ++ e ∷ qs) ≡ e
+  comes_first e q [] qs h k l = ap (λ b. first_waiting (if b then e else q) qs) h ∙ stays_first e qs l
   comes_first e q (p ∷ ps) qs h k l = comes_first e (if is_before p q then p else q) ps qs (one (is_before p q)) k.1 l
     where
       one : (b : Bool) → is_before e (if b then p else q) ≡ true
@@ -70,17 +70,17 @@ module _ {D : Type 0} where
   next-is e [] qs k l = ap Some (stays_first e qs l)
   next-is e (p ∷ ps) qs k l = ap Some (comes_first e p ps qs k.0 k.1 l)
 
-  others_stay : (n : ℕ) (ls : List (Loop D)) → Each (λ l. l.number ≡ n → ⊥) ls → advanced n ls ≡ ls
+  others_stay : (n : ℕ) (ls : List (Loop D)) → Each (λ l. l.number ≡ n → ⊥) ls → loops_after n ls ≡ ls
   others_stay n [] h = refl
   others_stay n (l ∷ ls) h =
-      ap (λ b. (if b then loop_left l.due l.number l.later else l ∷ []) ++ advanced n ls) (ne_eqb l.number n h.0) ∙ ap (λ xs. l ∷ xs) (others_stay n ls h.1)
+      ap (λ b. (if b then loop_left l.due l.number l.later else l ∷ []) ++ loops_after n ls) (ne_eqb l.number n h.0) ∙ ap (λ xs. l ∷ xs) (others_stay n ls h.1)
 
   -- the loop of the number goes on, and the others stay
-  one_goes_on : (before : List (Loop D)) (l : Loop D) (behind : List (Loop D)) → Each (λ k. k.number ≡ l.number → ⊥) before → Each (λ k. k.number ≡ l.number → ⊥) behind → advanced l.number (before ++ l ∷ behind) ≡ before ++ (loop_left l.due l.number l.later ++ behind)
+  one_goes_on : (before : List (Loop D)) (l : Loop D) (behind : List (Loop D)) → Each (λ k. k.number ≡ l.number → ⊥) before → Each (λ k. k.number ≡ l.number → ⊥) behind → loops_after l.number (before ++ l ∷ behind) ≡ before ++ (loop_left l.due l.number l.later ++ behind)
   one_goes_on before l behind h k =
       flat_map-append (λ x. if x.number == l.number then loop_left x.due x.number x.later else x ∷ []) before (l ∷ behind)
       ∙ ap₂ (λ xs ys. xs ++ ys) (others_stay l.number before h)
-      (ap (λ b. (if b then loop_left l.due l.number l.later else l ∷ []) ++ advanced l.number behind) (eq-eqb l.number l.number refl)
+      (ap (λ b. (if b then loop_left l.due l.number l.later else l ∷ []) ++ loops_after l.number behind) (eq-eqb l.number l.number refl)
       ∙ ap (λ ys. loop_left l.due l.number l.later ++ ys) (others_stay l.number behind k))
 
 -- two ways to part a list at a number are one
@@ -162,7 +162,7 @@ module _ {D : Type 0} (f : Entry Planned → Loop D) (due_is : (e : Entry Planne
 
   -- The queue without the first command of an entry: the later ones are left of it.
   without-first : (before : List (Entry Planned)) (e : Entry Planned) (behind : List (Entry Planned)) (n : ℕ) → AreSpaced (before ++ e ∷ behind) n → Each IsFull (before ++ e ∷ behind)
-      → without e.number (queue_of (map f (before ++ e ∷ behind))) ≡ queue_of (map f before ++ (loop_left (f e).due (f e).number (f e).later ++ map f behind))
+      → without_number e.number (queue_of (map f (before ++ e ∷ behind))) ≡ queue_of (map f before ++ (loop_left (f e).due (f e).number (f e).later ++ map f behind))
   without-first before e behind n h k =
       let P : List (Loop D) → Type 0 = λ ls. Each (IsFirstOrNone e.number) ls in
       let below = before_ends before e behind n h in
@@ -172,8 +172,8 @@ module _ {D : Type 0} (f : Entry Planned → Loop D) (due_is : (e : Entry Planne
       (joined_each (IsFirstOrNone e.number) (map f before) (f e ∷ map f behind) (outside_before e.number before below (each-left IsFull before (e ∷ behind) k))
       (inl (number_is e), outside_behind e behind above)) in
       without_from_loops e.number (map f (before ++ e ∷ behind)) each
-      ∙ ap (λ ls. queue_of (advanced e.number ls)) (map-append f before (e ∷ behind))
-      ∙ ap (λ m. queue_of (advanced m (map f before ++ f e ∷ map f behind))) (sym (number_is e))
+      ∙ ap (λ ls. queue_of (loops_after e.number ls)) (map-append f before (e ∷ behind))
+      ∙ ap (λ m. queue_of (loops_after m (map f before ++ f e ∷ map f behind))) (sym (number_is e))
       ∙ ap queue_of (one_goes_on (map f before) (f e) (map f behind)
       (renumbered (map f before) (differ_before e.number before below)) (renumbered (map f behind) (differ_behind e behind above)))
     where
@@ -182,10 +182,10 @@ module _ {D : Type 0} (f : Entry Planned → Loop D) (due_is : (e : Entry Planne
 
   -- An entry without later commands leaves.
   pub without-alone : {R : Type 0} (old new : Queue Planned R) (e : Entry Planned) → TakesEntry old new e → AreSpaced old.entries old.pushes → Each IsFull old.entries → (f e).later ≡ []
-      → without e.number (queue_of (map f old.entries)) ≡ queue_of (map f new.entries)
+      → without_number e.number (queue_of (map f old.entries)) ≡ queue_of (map f new.entries)
   without-alone old new e t h k none =
       let P : List (Entry Planned) → Type 0 = λ es. AreSpaced es old.pushes in
-      ap (λ es. without e.number (queue_of (map f es))) t.stands
+      ap (λ es. without_number e.number (queue_of (map f es))) t.stands
       ∙ without-first t.before e t.behind old.pushes (subst P t.stands h) (subst (Each IsFull) t.stands k)
       ∙ ap (λ cs. queue_of (map f t.before ++ (loop_left (f e).due (f e).number cs ++ map f t.behind))) none
       ∙ ap queue_of (sym (map-append f t.before t.behind) ∙ ap (map f) (sym t.leaves))
@@ -193,7 +193,7 @@ module _ {D : Type 0} (f : Entry Planned → Loop D) (due_is : (e : Entry Planne
   -- An entry leaves, and one with its later commands joins in its place.
   pub without-more : {R : Type 0} (old mid new : Queue Planned R) (e e' : Entry Planned) → TakesEntry old mid e → AddsEntryAt mid new e' → AreSpaced old.entries old.pushes → Each IsFull old.entries
       → e'.number ≡ suc e.number → 0 < span e.command → loop_left (f e).due (f e).number (f e).later ≡ f e' ∷ []
-      → without e.number (queue_of (map f old.entries)) ≡ queue_of (map f new.entries)
+      → without_number e.number (queue_of (map f old.entries)) ≡ queue_of (map f new.entries)
   without-more old mid new e e' t a h k number_follows some left =
       let P : List (Entry Planned) → Type 0 = λ es. AreSpaced es old.pushes in
       let h' = subst P t.stands h in
@@ -202,7 +202,7 @@ module _ {D : Type 0} (f : Entry Planned → Loop D) (due_is : (e : Entry Planne
       (each-weaker (EndsBelow e.number) (λ x. x.number < e'.number) (λ x l. omega (arith, l, number_follows)) t.before (before_ends t.before e t.behind old.pushes h'))
       (each-weaker (λ x. EndsBelow x.number e) (λ x. e'.number < x.number) (λ x l. omega (arith, l, number_follows, some)) t.behind (behind_begins t.before e t.behind old.pushes h'))
       (each-from_All (λ x. x.number < e'.number) a.before a.below) (each-from_All (λ x. e'.number < x.number) a.behind a.above) in
-      ap (λ es. without e.number (queue_of (map f es))) t.stands
+      ap (λ es. without_number e.number (queue_of (map f es))) t.stands
       ∙ without-first t.before e t.behind old.pushes h' (subst (Each IsFull) t.stands k)
       ∙ ap (λ ls. queue_of (map f t.before ++ (ls ++ map f t.behind))) left
       ∙ ap₂ (λ xs ys. queue_of (map f xs ++ f e' ∷ map f ys)) parts.0 parts.1

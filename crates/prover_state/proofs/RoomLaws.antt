@@ -10,15 +10,15 @@ use Rattle.prover_state.specs.declared.command.Planned.{Planned}
 use Rattle.prover_state.specs.declared.command.Delays.{Delays}
 use Rattle.prover_state.specs.declared.tables.Tables.{Tables}
 use Rattle.prover_state.specs.Internal.Pending.{IsEntry}
-use Rattle.prover_state.specs.Internal.Standing.{declared_scope, names_in, sources, parts, loops_in, the_state, IsRight}
+use Rattle.prover_state.specs.Internal.Standing.{without_witnesses, naming_in, sources, state_parts, loops_in, the_state, IsRightState}
 
 pub state-room : (t : Tables) (q q' : Queue Planned Delays) → GainsRoom q q' → the_state t q' ≡ the_state t q
-state-room t q q' room = ap₂ (λ es n. record (parts t) { queue = queue_of (loops_in t es); pushes = n }) room.entries room.pushes
+state-room t q q' room = ap₂ (λ es n. record (state_parts t) { queue = queue_of (loops_in t es); pushes = n }) room.entries room.pushes
 
-pub right-room : (t : Tables) (q q' : Queue Planned Delays) → GainsRoom q q' → IsRight t q → IsRight t q'
+pub right-room : (t : Tables) (q q' : Queue Planned Delays) → GainsRoom q q' → IsRightState t q → IsRightState t q'
 right-room t q q' room r =
     let B : Delays → Type 0 = λ d. length (learned t.solver) ≤ d.mode.conflicts in
-    let Q : List (Entry Planned) → Type 0 = λ es. Each (λ e. IsEntry (declared_scope t.basis.bank) (names_in t) (sources t) e.command) es in
+    let Q : List (Entry Planned) → Type 0 = λ es. Each (λ e. IsEntry (without_witnesses t.basis.bank) (naming_in t) (sources t) e.command) es in
     record {
       basis = r.basis;
       clauses = r.clauses;

@@ -13,7 +13,7 @@ use Rattle.sat_base.specs.declared.literal.SatLit.{SatLit}
 use Rattle.term_bank.specs.Content.{Content, content_scope, Grows}
 use Rattle.term_bank.specs.Terms.{term_at}
 use Rattle.term_bank.proofs.GrowLaws.{grown_scope}
-use Rattle.literal_map.specs.Atoms.{literal_at}
+use Rattle.literal_map.specs.Atoms.{bank_literal}
 use Rattle.literal_map.specs.declared.instance.BankUse.{BankUse}
 use Rattle.literal_map.specs.declared.instance.RuleKind.{RuleKind}
 use Rattle.literal_map.specs.declared.instance.RuleKind.TheVariants as kind
@@ -22,7 +22,7 @@ use Rattle.tableau_rules.specs.Changes.{Widens, AreWitnessesAfter}
 use Rattle.search_spec.specs.Each.{Each}
 use Rattle.prover_state.specs.declared.tables.Basis.{Basis}
 use Rattle.prover_state.specs.Internal.Growing.{Continues, BasisGrows}
-use Rattle.prover_state.specs.Internal.Names.{Names, IsNumber, IsPlace}
+use Rattle.prover_state.specs.Internal.Names.{Naming, IsNumberIn, IsPlace}
 use Rattle.prover_state.specs.Internal.Standing.{rows_in, IsBasis}
 use Rattle.prover_state.proofs.EachLaws.{map-same, each-from_All, each-weaker}
 use Rattle.prover_state.proofs.NamesLaws.{term-stays, literal-stays}
@@ -31,7 +31,7 @@ use Rattle.witness_names.specs.Rows.{row_of, rows_of}
 use Rattle.witness_names.proofs.StayLaws.{rows_same}
 
 -- names without partial terms
-abbrev plain : Basis → Names
+abbrev plain : Basis → Naming
 plain g = record { terms = g.bank.terms; atoms = g.lits; sketches = [] }
 
 module _ (old new : Basis) (grows : BasisGrows old new) (good : IsBasis old) where
@@ -46,10 +46,10 @@ module _ (old new : Basis) (grows : BasisGrows old new) (good : IsBasis old) whe
   term_same : (u : ℕ) → IsPlace old.bank.terms u → term_at new.bank.terms u ≡ term_at old.bank.terms u
   term_same u h = term-stays old.bank.terms new.bank.terms continues.terms u h
 
-  literal_same : (l : SatLit) → IsNumber old.lits l → literal_at new.bank.terms new.lits l ≡ literal_at old.bank.terms old.lits l
+  literal_same : (l : SatLit) → IsNumberIn old.lits l → bank_literal new.bank.terms new.lits l ≡ bank_literal old.bank.terms old.lits l
   literal_same l h = literal-stays (plain old) (plain new) continues l h
 
-  literals_same : (o : Option SatLit) → ForSome o (IsNumber old.lits) → option_map (literal_at new.bank.terms new.lits) o ≡ option_map (literal_at old.bank.terms old.lits) o
+  literals_same : (o : Option SatLit) → ForSome o (IsNumberIn old.lits) → option_map (bank_literal new.bank.terms new.lits) o ≡ option_map (bank_literal old.bank.terms old.lits) o
   literals_same (Some l) h = ap Some (literal_same l (h l refl))
   literals_same None h = refl
 
@@ -57,31 +57,31 @@ module _ (old new : Basis) (grows : BasisGrows old new) (good : IsBasis old) whe
   terms_same (Some u) h = ap Some (term_same u (h u refl))
   terms_same None h = refl
 
-  use_same : (by : BankUse) → ForSome by.first (IsNumber old.lits) → ForSome by.second (IsNumber old.lits) → ForSome by.term (IsPlace old.bank.terms) → use_of new.bank.terms new.lits by ≡ use_of old.bank.terms old.lits by
+  use_same : (by : BankUse) → ForSome by.first (IsNumberIn old.lits) → ForSome by.second (IsNumberIn old.lits) → ForSome by.term (IsPlace old.bank.terms) → use_of new.bank.terms new.lits by ≡ use_of old.bank.terms old.lits by
   use_same by first second term =
-      ap (λ o. rule_of by.kind o (option_map (literal_at new.bank.terms new.lits) by.second) (option_map (term_at new.bank.terms) by.term)) (literals_same by.first first)
-      ∙ ap (λ o. rule_of by.kind (option_map (literal_at old.bank.terms old.lits) by.first) o (option_map (term_at new.bank.terms) by.term)) (literals_same by.second second)
-      ∙ ap (rule_of by.kind (option_map (literal_at old.bank.terms old.lits) by.first) (option_map (literal_at old.bank.terms old.lits) by.second)) (terms_same by.term term)
+      ap (λ o. rule_of by.kind o (option_map (bank_literal new.bank.terms new.lits) by.second) (option_map (term_at new.bank.terms) by.term)) (literals_same by.first first)
+      ∙ ap (λ o. rule_of by.kind (option_map (bank_literal old.bank.terms old.lits) by.first) o (option_map (term_at new.bank.terms) by.term)) (literals_same by.second second)
+      ∙ ap (rule_of by.kind (option_map (bank_literal old.bank.terms old.lits) by.first) (option_map (bank_literal old.bank.terms old.lits) by.second)) (terms_same by.term term)
 
-  listed_numbers : (o : Option SatLit) → ForSome o (IsNumber old.lits) → Each (IsNumber old.lits) (option_to_list o)
+  listed_numbers : (o : Option SatLit) → ForSome o (IsNumberIn old.lits) → Each (IsNumberIn old.lits) (option_to_list o)
   listed_numbers (Some l) h = (h l refl, tt)
   listed_numbers None h = tt
 
-  both : (xs ys : List SatLit) → Each (IsNumber old.lits) xs → Each (IsNumber old.lits) ys → Each (IsNumber old.lits) (xs ++ ys)
+  both : (xs ys : List SatLit) → Each (IsNumberIn old.lits) xs → Each (IsNumberIn old.lits) ys → Each (IsNumberIn old.lits) (xs ++ ys)
   both [] ys h k = k
   both (x ∷ xs) ys h k = (h.0, both xs ys h.1 k)
 
-  unless : (b : Bool) (ls : List SatLit) → Each (IsNumber old.lits) ls → Each (IsNumber old.lits) (if b then [] else ls)
+  unless : (b : Bool) (ls : List SatLit) → Each (IsNumberIn old.lits) ls → Each (IsNumberIn old.lits) (if b then [] else ls)
   unless true ls h = tt
   unless false ls h = h
 
-  module _ (by : BankUse) (first : ForSome by.first (IsNumber old.lits)) (second : ForSome by.second (IsNumber old.lits)) (term : ForSome by.term (IsPlace old.bank.terms)) where
-    pub principal-numbers : Each (IsNumber old.lits) (principals_of by)
+  module _ (by : BankUse) (first : ForSome by.first (IsNumberIn old.lits)) (second : ForSome by.second (IsNumberIn old.lits)) (term : ForSome by.term (IsPlace old.bank.terms)) where
+    pub principal-numbers : Each (IsNumberIn old.lits) (principals_of by)
     principal-numbers =
         unless (is_cut by.kind) (option_to_list by.first ++ option_to_list by.second) (both (option_to_list by.first) (option_to_list by.second) (listed_numbers by.first first) (listed_numbers by.second second))
 
-    pub principals_same : map (literal_at new.bank.terms new.lits) (principals_of by) ≡ map (literal_at old.bank.terms old.lits) (principals_of by)
-    principals_same = map-same (literal_at new.bank.terms new.lits) (literal_at old.bank.terms old.lits) (IsNumber old.lits) literal_same (principals_of by) principal-numbers
+    pub principals_same : map (bank_literal new.bank.terms new.lits) (principals_of by) ≡ map (bank_literal old.bank.terms old.lits) (principals_of by)
+    principals_same = map-same (bank_literal new.bank.terms new.lits) (bank_literal old.bank.terms old.lits) (IsNumberIn old.lits) literal_same (principals_of by) principal-numbers
 
     rows_stay : rows_in new ≡ rows_in old
     rows_stay = ap (rows_of new.bank.terms) grows.witnesses ∙ rows_same old.bank new.bank grows.bank old.witnesses good.rows
@@ -91,11 +91,11 @@ module _ (old new : Basis) (grows : BasisGrows old new) (good : IsBasis old) whe
     same-alternatives as' bs h k =
         let rule : k.rule ≡ h.rule = same_Some k.rule h.rule (sym k.is_rule ∙ use_same by first second term ∙ h.is_rule) in
         let scope = grown_scope old.bank new.bank grows.bank in
-        let S : Scope → Type 0 = λ s. IsInstance s (rows_in new) (map (literal_at new.bank.terms new.lits) (principals_of by)) k.rule bs in
-        let R : List Row → Type 0 = λ r. IsInstance (content_scope old.bank) r (map (literal_at new.bank.terms new.lits) (principals_of by)) k.rule bs in
+        let S : Scope → Type 0 = λ s. IsInstance s (rows_in new) (map (bank_literal new.bank.terms new.lits) (principals_of by)) k.rule bs in
+        let R : List Row → Type 0 = λ r. IsInstance (content_scope old.bank) r (map (bank_literal new.bank.terms new.lits) (principals_of by)) k.rule bs in
         let P : List Literal → Type 0 = λ ps. IsInstance (content_scope old.bank) (rows_in old) ps k.rule bs in
-        let U : RuleUse → Type 0 = λ u. IsInstance (content_scope old.bank) (rows_in old) (map (literal_at old.bank.terms old.lits) (principals_of by)) u bs in
-        sym (one_instance (content_scope old.bank) (rows_in old) (table-distinct (content_scope old.bank) (rows_in old) good.rows.table) (map (literal_at old.bank.terms old.lits) (principals_of by)) h.rule as' bs h.is_instance
+        let U : RuleUse → Type 0 = λ u. IsInstance (content_scope old.bank) (rows_in old) (map (bank_literal old.bank.terms old.lits) (principals_of by)) u bs in
+        sym (one_instance (content_scope old.bank) (rows_in old) (table-distinct (content_scope old.bank) (rows_in old) good.rows.table) (map (bank_literal old.bank.terms old.lits) (principals_of by)) h.rule as' bs h.is_instance
         (subst U rule (subst P principals_same (subst R rows_stay (subst S scope k.is_instance)))))
 
 -- a bank that has become wider by no witness has grown
@@ -117,5 +117,5 @@ no-witness b atoms kind.AllNeg p old new h w = absurd (h refl)
 no-witness b atoms k p old new h w = w
 
 -- numbers of the principals are numbers in what has grown
-pub more-numbers : (old new : Basis) → BasisGrows old new → (ls : List SatLit) → Each (IsNumber old.lits) ls → Each (IsNumber new.lits) ls
-more-numbers old new grows ls h = each-weaker (IsNumber old.lits) (IsNumber new.lits) (λ l k. omega (arith, k, ap length grows.lits.is, length-append old.lits grows.lits.further)) ls h
+pub more-numbers : (old new : Basis) → BasisGrows old new → (ls : List SatLit) → Each (IsNumberIn old.lits) ls → Each (IsNumberIn new.lits) ls
+more-numbers old new grows ls h = each-weaker (IsNumberIn old.lits) (IsNumberIn new.lits) (λ l k. omega (arith, k, ap length grows.lits.is, length-append old.lits grows.lits.further)) ls h

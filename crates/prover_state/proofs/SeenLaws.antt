@@ -12,44 +12,44 @@ use Rattle.search_spec.specs.Mode.{Mode}
 use Rattle.search_spec.specs.Clauses.{has, added}
 use Rattle.search_spec.specs.Unsatisfiable.{formulas}
 use Rattle.search_spec.specs.Numbered.{numbers}
-use Rattle.search_spec.specs.State.{State, process, pushed}
+use Rattle.search_spec.specs.State.{State, process, with_commands}
 use Rattle.search_spec.specs.Instances.{with_literal, with_literals}
 use Rattle.search_spec.proofs.NamingLaws.{has-mapped}
 use Rattle.term_bank.specs.Laws.{EqualIdsForEqualTerms}
-use Rattle.literal_map.specs.Atoms.{literal_at}
+use Rattle.literal_map.specs.Atoms.{bank_literal}
 use Rattle.prover_state.specs.declared.command.Planned.{Planned}
 use Rattle.prover_state.specs.declared.command.Delays.{Delays}
 use Rattle.prover_state.specs.declared.tables.Tables.{Tables}
-use Rattle.prover_state.specs.Internal.Names.{IsNumber}
-use Rattle.prover_state.specs.Internal.Standing.{the_state, IsRight}
+use Rattle.prover_state.specs.Internal.Names.{IsNumberIn}
+use Rattle.prover_state.specs.Internal.Standing.{the_state, IsRightState}
 use Rattle.prover_state.proofs.EachLaws.{each-last}
 use Rattle.prover_state.proofs.NumberLaws.{stand}
 
-module _ (t : Tables) (q : Queue Planned Delays) (equal : EqualIdsForEqualTerms t.basis.bank) (differ : (v w id : ℕ) → slice_get t.basis.lits v ≡ Some id → slice_get t.basis.lits w ≡ Some id → v ≡ w) (r : IsRight t q) (mode : Mode) (l : SatLit) (number : IsNumber t.basis.lits l) where
+module _ (t : Tables) (q : Queue Planned Delays) (equal : EqualIdsForEqualTerms t.basis.bank) (differ : (v w id : ℕ) → slice_get t.basis.lits v ≡ Some id → slice_get t.basis.lits w ≡ Some id → v ≡ w) (r : IsRightState t q) (mode : Mode) (l : SatLit) (number : IsNumberIn t.basis.lits l) where
   abbrev meant : Literal
-  meant = literal_at t.basis.bank.terms t.basis.lits l
+  meant = bank_literal t.basis.bank.terms t.basis.lits l
 
   abbrev before : State
   before = the_state t q
 
   test_is : holds before.seen meant ≡ has numbers t.seen l
-  test_is = has-mapped numbers formulas (IsNumber t.basis.lits) (literal_at t.basis.bank.terms t.basis.lits) (stand t.basis.bank t.basis.lits r.basis.atoms equal differ) t.seen l r.seen number
+  test_is = has-mapped numbers formulas (IsNumberIn t.basis.lits) (bank_literal t.basis.bank.terms t.basis.lits) (stand t.basis.bank t.basis.lits r.basis.atoms equal differ) t.seen l r.seen number
 
-  by_test : (b : Bool) → holds before.seen meant ≡ b → (if b then before else pushed mode (process meant ∷ []) (record before { seen = before.seen ++ meant ∷ [] })) ≡ with_literal mode meant before
-  by_test b e = sym (ap (λ x. if x then before else pushed mode (process meant ∷ []) (record before { seen = before.seen ++ meant ∷ [] })) e)
+  by_test : (b : Bool) → holds before.seen meant ≡ b → (if b then before else with_commands mode (process meant ∷ []) (record before { seen = before.seen ++ meant ∷ [] })) ≡ with_literal mode meant before
+  by_test b e = sym (ap (λ x. if x then before else with_commands mode (process meant ∷ []) (record before { seen = before.seen ++ meant ∷ [] })) e)
 
   pub seen_before : (x : List SatLit) → x ≡ added numbers t.seen (l ∷ []) → has numbers t.seen l ≡ true → the_state (record t { seen = x }) q ≡ with_literal mode meant before
   seen_before x is e =
       ap (λ xs. the_state (record t { seen = xs }) q) (is ∙ ap (λ (b : Bool). if b then t.seen else t.seen ++ l ∷ []) e)
       ∙ by_test true (test_is ∙ e)
 
-  pub seen_now : (x : List SatLit) → x ≡ added numbers t.seen (l ∷ []) → has numbers t.seen l ≡ false → pushed mode (process meant ∷ []) (the_state (record t { seen = x }) q) ≡ with_literal mode meant before
+  pub seen_now : (x : List SatLit) → x ≡ added numbers t.seen (l ∷ []) → has numbers t.seen l ≡ false → with_commands mode (process meant ∷ []) (the_state (record t { seen = x }) q) ≡ with_literal mode meant before
   seen_now x is e =
-      ap (λ xs. pushed mode (process meant ∷ []) (the_state (record t { seen = xs }) q)) (is ∙ ap (λ (b : Bool). if b then t.seen else t.seen ++ l ∷ []) e)
-      ∙ ap (λ ls. pushed mode (process meant ∷ []) (record before { seen = ls })) (map-append (literal_at t.basis.bank.terms t.basis.lits) t.seen (l ∷ []))
+      ap (λ xs. with_commands mode (process meant ∷ []) (the_state (record t { seen = xs }) q)) (is ∙ ap (λ (b : Bool). if b then t.seen else t.seen ++ l ∷ []) e)
+      ∙ ap (λ ls. with_commands mode (process meant ∷ []) (record before { seen = ls })) (map-append (bank_literal t.basis.bank.terms t.basis.lits) t.seen (l ∷ []))
       ∙ by_test false (test_is ∙ e)
 
-  pub right-seen : (x : List SatLit) → x ≡ added numbers t.seen (l ∷ []) → IsRight (record t { seen = x }) q
+  pub right-seen : (x : List SatLit) → x ≡ added numbers t.seen (l ∷ []) → IsRightState (record t { seen = x }) q
   right-seen x is = record {
     basis = r.basis;
     clauses = r.clauses;
@@ -69,12 +69,12 @@ module _ (t : Tables) (q : Queue Planned Delays) (equal : EqualIdsForEqualTerms 
     holes = r.holes;
     budget = r.budget;
     queue = r.queue;
-    seen = subst (Each (IsNumber t.basis.lits)) (sym is) (go (has numbers t.seen l));
+    seen = subst (Each (IsNumberIn t.basis.lits)) (sym is) (go (has numbers t.seen l));
   }
     where
-      go : (b : Bool) → Each (IsNumber t.basis.lits) (if b then t.seen else t.seen ++ l ∷ [])
+      go : (b : Bool) → Each (IsNumberIn t.basis.lits) (if b then t.seen else t.seen ++ l ∷ [])
       go true = r.seen
-      go false = each-last (IsNumber t.basis.lits) t.seen l r.seen number
+      go false = each-last (IsNumberIn t.basis.lits) t.seen l r.seen number
 
 -- one literal more is seen
 module _ (mode : Mode) (d : SatLit → Literal) (lits : List SatLit) (i : ℕ) (l : SatLit) (at : slice_get lits i ≡ Some l) (goal : State) where

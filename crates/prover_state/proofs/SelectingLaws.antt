@@ -15,7 +15,7 @@ use Rattle.search_spec.specs.Each.{Each}
 use Rattle.search_spec.specs.Mode.{Mode}
 use Rattle.search_spec.specs.Selections.{Selection, by_choice, by_description, selection_by, selections_in, with_selection, with_selections}
 use Rattle.search_spec.specs.Spine.{head_of, arguments}
-use Rattle.search_spec.specs.State.{State, choose, describe, pushed}
+use Rattle.search_spec.specs.State.{State, choose, describe, with_commands}
 use Rattle.search_spec.proofs.TypedSelections.{IsPredicate, selections_in-typed}
 use Rattle.stt_core.specs.View.{the_head}
 use Rattle.stt_core.specs.Occurrence.{IsClosed}
@@ -28,7 +28,7 @@ use Rattle.term_bank.specs.Terms.{term_at, shape_term, IsTypedTerm}
 use Rattle.term_bank.specs.declared.node.Node.{Node}
 use Rattle.term_bank.specs.declared.node.Node.TheVariants.{Lam, App}
 use Rattle.witness_names.specs.Rows.{binder_of}
-use Rattle.prover_state.specs.Internal.Selecting.{parts, selection_at, head_selection, IsTaken, AreTaken}
+use Rattle.prover_state.specs.Internal.Selecting.{term_parts, selection_at, head_selection, IsTakenSelection, AreTaken}
 use Rattle.prover_state.proofs.EachLaws.{each-weaker, each-left, each-last}
 
 -- THE PARTS OF A TERM
@@ -53,17 +53,17 @@ arguments_leaf (constant c) a = refl
 arguments_leaf (lam b s) a = absurd a
 arguments_leaf (app s u) a = absurd a
 
-parts_leaf : (h : Lambda) → IsAtom h → parts h ≡ []
+parts_leaf : (h : Lambda) → IsAtom h → term_parts h ≡ []
 parts_leaf (bound k) a = refl
 parts_leaf (constant c) a = refl
 parts_leaf (lam b s) a = absurd a
 parts_leaf (app s u) a = absurd a
 
-parts_more : (s u : Lambda) (us : List Lambda) → parts (applied (app s u) us) ≡ arguments (applied (app s u) us)
+parts_more : (s u : Lambda) (us : List Lambda) → term_parts (applied (app s u) us) ≡ arguments (applied (app s u) us)
 parts_more s u [] = refl
 parts_more s u (v ∷ us) = parts_more (app s u) v us
 
-pub parts-applied : (h : Lambda) → IsAtom h → (us : List Lambda) → parts (applied h us) ≡ us
+pub parts-applied : (h : Lambda) → IsAtom h → (us : List Lambda) → term_parts (applied h us) ≡ us
 parts-applied h a [] = parts_leaf h a
 parts-applied h a (u ∷ us) = parts_more h u us ∙ arguments_applied (app h u) us ∙ ap (λ (xs : List Lambda). xs ++ u ∷ [] ++ us) (arguments_leaf h a)
 
@@ -94,8 +94,8 @@ selections_applied h a (u ∷ us) =
 
 -- the node of a head with its arguments
 module _ (terms : List Lambda) (h : Head) (is : List ℕ) (t : Lambda) (e : t ≡ applied (the_head h) (map (term_at terms) is)) where
-  pub parts-app : parts t ≡ map (term_at terms) is
-  parts-app = ap parts e ∙ parts-applied (the_head h) (atom_head h) (map (term_at terms) is)
+  pub parts-app : term_parts t ≡ map (term_at terms) is
+  parts-app = ap term_parts e ∙ parts-applied (the_head h) (atom_head h) (map (term_at terms) is)
 
   pub head-app : (f : ℕ) → slice_get is 0 ≡ Some f → head_selection t ≡ selection_by (the_head h) (term_at terms f)
   head-app f at =
@@ -125,7 +125,7 @@ open-none h f never = by_test (is_closed f) refl
     by_test false e = open_none h f e
 
 -- A term's choices and descriptions are the one at its head, and then those of its parts.
-pub selections-node : (terms : List Lambda) (n : Node) → selections_in (shape_term terms (the_shape n)) ≡ head_selection (shape_term terms (the_shape n)) ++ all_in (parts (shape_term terms (the_shape n)))
+pub selections-node : (terms : List Lambda) (n : Node) → selections_in (shape_term terms (the_shape n)) ≡ head_selection (shape_term terms (the_shape n)) ++ all_in (term_parts (shape_term terms (the_shape n)))
 selections-node terms (App h is) =
     let us = map (term_at terms) is in
     selections_applied (the_head h) (atom_head h) us
@@ -133,15 +133,15 @@ selections-node terms (App h is) =
     ∙ ap (λ (vs : List Lambda). head_selection (applied (the_head h) us) ++ all_in vs) (sym (parts-applied (the_head h) (atom_head h) us))
 selections-node terms (Lam a i) = sym (append-nil (selections_in (term_at terms i)))
 
-pub selections-split : (terms : List Lambda) (n : Node) (t : Lambda) → t ≡ shape_term terms (the_shape n) → selections_in t ≡ head_selection t ++ all_in (parts t)
-selections-split terms n t is = let P : Lambda → Type 0 = λ u. selections_in u ≡ head_selection u ++ all_in (parts u) in subst P (sym is) (selections-node terms n)
+pub selections-split : (terms : List Lambda) (n : Node) (t : Lambda) → t ≡ shape_term terms (the_shape n) → selections_in t ≡ head_selection t ++ all_in (term_parts t)
+selections-split terms n t is = let P : Lambda → Type 0 = λ u. selections_in u ≡ head_selection u ++ all_in (term_parts u) in subst P (sym is) (selections-node terms n)
 
 -- the predicate at the head is typed
 pub head-typed : (scope : Scope) (terms : List Lambda) (n : Node) (t : Lambda) → t ≡ shape_term terms (the_shape n) → IsTypedTerm scope t → Each (IsPredicate scope) (head_selection t)
 head-typed scope terms n t is typed =
     let E : List Selection → Type 0 = λ ps. Each (IsPredicate scope) ps in
     let all : Each (IsPredicate scope) (selections_in t) = selections_in-typed scope typed.ctx typed.type t typed.canonical in
-    each-left (IsPredicate scope) (head_selection t) (all_in (parts t)) (subst E (selections-split terms n t is) all)
+    each-left (IsPredicate scope) (head_selection t) (all_in (term_parts t)) (subst E (selections-split terms n t is) all)
 
 pub binder-is : (scope : Scope) (a : SimpleType) (f : Lambda) → IsCanonical scope [] (predicate a) f → a ≡ binder_of f
 binder-is scope a (bound k) h = absurd h.0
@@ -168,61 +168,61 @@ any_more f (g ∷ fs) gs e = go (same_term f g) e (any_more f fs gs)
     go false e rest = rest e
 
 module _ (mode : Mode) where
-  taken_by : (p : Selection) (s : State) → IsTaken (with_selection mode p s) p
+  taken_by : (p : Selection) (s : State) → IsTakenSelection (with_selection mode p s) p
   taken_by (by_choice a f) s = go (list_any (same_term f) s.chosen) refl
     where
-      go : (b : Bool) → list_any (same_term f) s.chosen ≡ b → list_any (same_term f) (if b then s else pushed mode (choose a f ∷ []) (record s { chosen = s.chosen ++ f ∷ [] })).chosen ≡ true
+      go : (b : Bool) → list_any (same_term f) s.chosen ≡ b → list_any (same_term f) (if b then s else with_commands mode (choose a f ∷ []) (record s { chosen = s.chosen ++ f ∷ [] })).chosen ≡ true
       go true e = e
       go false e = any_last f s.chosen
   taken_by (by_description a f) s = go (list_any (same_term f) s.described) refl
     where
-      go : (b : Bool) → list_any (same_term f) s.described ≡ b → list_any (same_term f) (if b then s else pushed mode (describe a f ∷ []) (record s { described = s.described ++ f ∷ [] })).described ≡ true
+      go : (b : Bool) → list_any (same_term f) s.described ≡ b → list_any (same_term f) (if b then s else with_commands mode (describe a f ∷ []) (record s { described = s.described ++ f ∷ [] })).described ≡ true
       go true e = e
       go false e = any_last f s.described
 
-  taken_stays : (p q : Selection) (s : State) → IsTaken s p → IsTaken (with_selection mode q s) p
+  taken_stays : (p q : Selection) (s : State) → IsTakenSelection s p → IsTakenSelection (with_selection mode q s) p
   taken_stays (by_choice a f) (by_choice b g) s h = go (list_any (same_term g) s.chosen)
     where
-      go : (x : Bool) → list_any (same_term f) (if x then s else pushed mode (choose b g ∷ []) (record s { chosen = s.chosen ++ g ∷ [] })).chosen ≡ true
+      go : (x : Bool) → list_any (same_term f) (if x then s else with_commands mode (choose b g ∷ []) (record s { chosen = s.chosen ++ g ∷ [] })).chosen ≡ true
       go true = h
       go false = any_more f s.chosen (g ∷ []) h
   taken_stays (by_choice a f) (by_description b g) s h = go (list_any (same_term g) s.described)
     where
-      go : (x : Bool) → list_any (same_term f) (if x then s else pushed mode (describe b g ∷ []) (record s { described = s.described ++ g ∷ [] })).chosen ≡ true
+      go : (x : Bool) → list_any (same_term f) (if x then s else with_commands mode (describe b g ∷ []) (record s { described = s.described ++ g ∷ [] })).chosen ≡ true
       go true = h
       go false = h
   taken_stays (by_description a f) (by_choice b g) s h = go (list_any (same_term g) s.chosen)
     where
-      go : (x : Bool) → list_any (same_term f) (if x then s else pushed mode (choose b g ∷ []) (record s { chosen = s.chosen ++ g ∷ [] })).described ≡ true
+      go : (x : Bool) → list_any (same_term f) (if x then s else with_commands mode (choose b g ∷ []) (record s { chosen = s.chosen ++ g ∷ [] })).described ≡ true
       go true = h
       go false = h
   taken_stays (by_description a f) (by_description b g) s h = go (list_any (same_term g) s.described)
     where
-      go : (x : Bool) → list_any (same_term f) (if x then s else pushed mode (describe b g ∷ []) (record s { described = s.described ++ g ∷ [] })).described ≡ true
+      go : (x : Bool) → list_any (same_term f) (if x then s else with_commands mode (describe b g ∷ []) (record s { described = s.described ++ g ∷ [] })).described ≡ true
       go true = h
       go false = any_more f s.described (g ∷ []) h
 
-  taken_kept : (qs : List Selection) (p : Selection) (s : State) → IsTaken s p → IsTaken (with_selections mode qs s) p
+  taken_kept : (qs : List Selection) (p : Selection) (s : State) → IsTakenSelection s p → IsTakenSelection (with_selections mode qs s) p
   taken_kept [] p s h = h
   taken_kept (q ∷ qs) p s h = taken_kept qs p (with_selection mode q s) (taken_stays p q s h)
 
   -- what was taken up before stays so
   pub are-kept : (qs : List Selection) (s : State) (terms : List Lambda) (ids : List ℕ) → AreTaken s terms ids → AreTaken (with_selections mode qs s) terms ids
   are-kept qs s terms ids h =
-      each-weaker (λ id. Each (IsTaken s) (selections_in (term_at terms id))) (λ id. Each (IsTaken (with_selections mode qs s)) (selections_in (term_at terms id)))
-      (λ id k. each-weaker (IsTaken s) (IsTaken (with_selections mode qs s)) (λ p. taken_kept qs p s) (selections_in (term_at terms id)) k) ids h
+      each-weaker (λ id. Each (IsTakenSelection s) (selections_in (term_at terms id))) (λ id. Each (IsTakenSelection (with_selections mode qs s)) (selections_in (term_at terms id)))
+      (λ id k. each-weaker (IsTakenSelection s) (IsTakenSelection (with_selections mode qs s)) (λ p. taken_kept qs p s) (selections_in (term_at terms id)) k) ids h
 
   -- after all were taken up, each of them was
-  pub all-taken : (ps : List Selection) (s : State) → Each (IsTaken (with_selections mode ps s)) ps
+  pub all-taken : (ps : List Selection) (s : State) → Each (IsTakenSelection (with_selections mode ps s)) ps
   all-taken [] s = tt
   all-taken (p ∷ ps) s = (taken_kept ps p (with_selection mode p s) (taken_by p s), all-taken ps (with_selection mode p s))
 
-  nothing_new : (p : Selection) (s : State) → IsTaken s p → with_selection mode p s ≡ s
-  nothing_new (by_choice a f) s h = ap (λ (b : Bool). if b then s else pushed mode (choose a f ∷ []) (record s { chosen = s.chosen ++ f ∷ [] })) h
-  nothing_new (by_description a f) s h = ap (λ (b : Bool). if b then s else pushed mode (describe a f ∷ []) (record s { described = s.described ++ f ∷ [] })) h
+  nothing_new : (p : Selection) (s : State) → IsTakenSelection s p → with_selection mode p s ≡ s
+  nothing_new (by_choice a f) s h = ap (λ (b : Bool). if b then s else with_commands mode (choose a f ∷ []) (record s { chosen = s.chosen ++ f ∷ [] })) h
+  nothing_new (by_description a f) s h = ap (λ (b : Bool). if b then s else with_commands mode (describe a f ∷ []) (record s { described = s.described ++ f ∷ [] })) h
 
   -- what was taken up before leaves the state as it is
-  pub taken-leaves : (ps : List Selection) (s : State) → Each (IsTaken s) ps → with_selections mode ps s ≡ s
+  pub taken-leaves : (ps : List Selection) (s : State) → Each (IsTakenSelection s) ps → with_selections mode ps s ≡ s
   taken-leaves [] s h = refl
   taken-leaves (p ∷ ps) s h = ap (with_selections mode ps) (nothing_new p s h.0) ∙ taken-leaves ps s h.1
 

@@ -8,7 +8,7 @@ use Rattle.command_queue.specs.Queue.{Queue}
 use Rattle.search_spec.specs.Each.{Each}
 use Rattle.search_spec.specs.Mode.{Mode}
 use Rattle.search_spec.specs.Selections.{by_choice, by_description, with_selection}
-use Rattle.search_spec.specs.State.{State, choose, describe, pushed}
+use Rattle.search_spec.specs.State.{State, choose, describe, with_commands}
 use Rattle.term_bank.specs.Laws.{EqualIdsForEqualTerms}
 use Rattle.term_bank.specs.Terms.{term_at}
 use Rattle.witness_names.specs.Rows.{binder_of}
@@ -16,7 +16,7 @@ use Rattle.prover_state.specs.declared.command.Planned.{Planned}
 use Rattle.prover_state.specs.declared.command.Delays.{Delays}
 use Rattle.prover_state.specs.declared.tables.Tables.{Tables}
 use Rattle.prover_state.specs.Internal.Names.{IsPlace}
-use Rattle.prover_state.specs.Internal.Standing.{the_state, IsRight}
+use Rattle.prover_state.specs.Internal.Standing.{the_state, IsRightState}
 use Rattle.prover_state.proofs.EachLaws.{each-last}
 use Rattle.prover_state.proofs.PlaceLaws.{any-places}
 
@@ -28,7 +28,7 @@ joined_good : (P : ℕ → Type 0) (ids : List ℕ) (id : ℕ) → Each P ids �
 joined_good P ids id h k true = h
 joined_good P ids id h k false = each-last P ids id h k
 
-module _ (t : Tables) (q : Queue Planned Delays) (equal : EqualIdsForEqualTerms t.basis.bank) (r : IsRight t q) (mode : Mode) (id : ℕ) (place : IsPlace t.basis.bank.terms id) where
+module _ (t : Tables) (q : Queue Planned Delays) (equal : EqualIdsForEqualTerms t.basis.bank) (r : IsRightState t q) (mode : Mode) (id : ℕ) (place : IsPlace t.basis.bank.terms id) where
   abbrev f : Lambda
   f = term_at t.basis.bank.terms id
 
@@ -36,10 +36,10 @@ module _ (t : Tables) (q : Queue Planned Delays) (equal : EqualIdsForEqualTerms 
   before = the_state t q
 
   abbrev chosen_now : State
-  chosen_now = pushed mode (choose (binder_of f) f ∷ []) (record before { chosen = before.chosen ++ f ∷ [] })
+  chosen_now = with_commands mode (choose (binder_of f) f ∷ []) (record before { chosen = before.chosen ++ f ∷ [] })
 
   abbrev described_now : State
-  described_now = pushed mode (describe (binder_of f) f ∷ []) (record before { described = before.described ++ f ∷ [] })
+  described_now = with_commands mode (describe (binder_of f) f ∷ []) (record before { described = before.described ++ f ∷ [] })
 
   choice_by : (b : Bool) → list_any (nat_eq id) t.chosen ≡ b → (if b then before else chosen_now) ≡ with_selection mode (by_choice (binder_of f) f) before
   choice_by b e = sym (ap (λ (x : Bool). if x then before else chosen_now) (any-places t.basis.bank equal id t.chosen place r.chosen ∙ e))
@@ -51,13 +51,13 @@ module _ (t : Tables) (q : Queue Planned Delays) (equal : EqualIdsForEqualTerms 
     pub chosen-before : list_any (nat_eq id) t.chosen ≡ true → the_state (record t { chosen = x }) q ≡ with_selection mode (by_choice (binder_of f) f) before
     chosen-before e = ap (λ xs. the_state (record t { chosen = xs }) q) (is ∙ ap (joined t.chosen id) e) ∙ choice_by true e
 
-    pub chosen-now : list_any (nat_eq id) t.chosen ≡ false → pushed mode (choose (binder_of f) f ∷ []) (the_state (record t { chosen = x }) q) ≡ with_selection mode (by_choice (binder_of f) f) before
+    pub chosen-now : list_any (nat_eq id) t.chosen ≡ false → with_commands mode (choose (binder_of f) f ∷ []) (the_state (record t { chosen = x }) q) ≡ with_selection mode (by_choice (binder_of f) f) before
     chosen-now e =
-        ap (λ xs. pushed mode (choose (binder_of f) f ∷ []) (the_state (record t { chosen = xs }) q)) (is ∙ ap (joined t.chosen id) e)
-        ∙ ap (λ (fs : List Lambda). pushed mode (choose (binder_of f) f ∷ []) (record before { chosen = fs })) (map-append (term_at t.basis.bank.terms) t.chosen (id ∷ []))
+        ap (λ xs. with_commands mode (choose (binder_of f) f ∷ []) (the_state (record t { chosen = xs }) q)) (is ∙ ap (joined t.chosen id) e)
+        ∙ ap (λ (fs : List Lambda). with_commands mode (choose (binder_of f) f ∷ []) (record before { chosen = fs })) (map-append (term_at t.basis.bank.terms) t.chosen (id ∷ []))
         ∙ choice_by false e
 
-    pub right-chosen : IsRight (record t { chosen = x }) q
+    pub right-chosen : IsRightState (record t { chosen = x }) q
     right-chosen = record {
       basis = r.basis;
       clauses = r.clauses;
@@ -84,13 +84,13 @@ module _ (t : Tables) (q : Queue Planned Delays) (equal : EqualIdsForEqualTerms 
     pub described-before : list_any (nat_eq id) t.described ≡ true → the_state (record t { described = x }) q ≡ with_selection mode (by_description (binder_of f) f) before
     described-before e = ap (λ xs. the_state (record t { described = xs }) q) (is ∙ ap (joined t.described id) e) ∙ description_by true e
 
-    pub described-now : list_any (nat_eq id) t.described ≡ false → pushed mode (describe (binder_of f) f ∷ []) (the_state (record t { described = x }) q) ≡ with_selection mode (by_description (binder_of f) f) before
+    pub described-now : list_any (nat_eq id) t.described ≡ false → with_commands mode (describe (binder_of f) f ∷ []) (the_state (record t { described = x }) q) ≡ with_selection mode (by_description (binder_of f) f) before
     described-now e =
-        ap (λ xs. pushed mode (describe (binder_of f) f ∷ []) (the_state (record t { described = xs }) q)) (is ∙ ap (joined t.described id) e)
-        ∙ ap (λ (fs : List Lambda). pushed mode (describe (binder_of f) f ∷ []) (record before { described = fs })) (map-append (term_at t.basis.bank.terms) t.described (id ∷ []))
+        ap (λ xs. with_commands mode (describe (binder_of f) f ∷ []) (the_state (record t { described = xs }) q)) (is ∙ ap (joined t.described id) e)
+        ∙ ap (λ (fs : List Lambda). with_commands mode (describe (binder_of f) f ∷ []) (record before { described = fs })) (map-append (term_at t.basis.bank.terms) t.described (id ∷ []))
         ∙ description_by false e
 
-    pub right-described : IsRight (record t { described = x }) q
+    pub right-described : IsRightState (record t { described = x }) q
     right-described = record {
       basis = r.basis;
       clauses = r.clauses;

@@ -7,8 +7,8 @@ use Rattle.stt_core.specs.Typing.{Scope}
 use Rattle.stt_core.specs.View.{the_type}
 use Rattle.command_queue.specs.Queue.{Queue}
 use Rattle.term_bank.proofs.ListLaws.{get_or-front}
-use Rattle.search_spec.specs.Commands.{grown_by}
-use Rattle.search_spec.specs.Partial.{hole, blank}
+use Rattle.search_spec.specs.Commands.{growth_by}
+use Rattle.search_spec.specs.Partial.{hole, blank_partial}
 use Rattle.search_spec.specs.State.{Sketch}
 use Rattle.instantiate.specs.Growing.{TakesHead}
 use Rattle.prover_state.specs.declared.command.Planned.{Planned}
@@ -19,7 +19,7 @@ use Rattle.prover_state.specs.declared.stem.Stem.TheVariants.{Blank, Grown}
 use Rattle.prover_state.specs.declared.tables.Tables.{Tables}
 use Rattle.prover_state.specs.Internal.Heads.{the_hole_head, sketch_of, sketches_after, IsStem, AreStems}
 use Rattle.prover_state.specs.Internal.Names.{sketch_at}
-use Rattle.prover_state.specs.Internal.Standing.{scope_by, sketches_in, IsRight}
+use Rattle.prover_state.specs.Internal.Standing.{scope_by, sketches_in, IsRightState}
 use Rattle.prover_state.proofs.PlaceLaws.{at-end}
 
 module _ (scope : Scope) where
@@ -65,7 +65,7 @@ module _ (scope : Scope) where
       let n = length-append earlier (sketch_of scope earlier x ∷ []) in
       record { before = later.before; behind = later.behind; are = later.are; place = omega (arith, later.place, n); stem = later.stem }
 
-module _ (t : Tables) (q : Queue Planned Delays) (r : IsRight t q) (p : ℕ) where
+module _ (t : Tables) (q : Queue Planned Delays) (r : IsRightState t q) (p : ℕ) where
   abbrev sketches : List Sketch
   sketches = sketches_in t
 
@@ -87,7 +87,7 @@ module _ (t : Tables) (q : Queue Planned Delays) (r : IsRight t q) (p : ℕ) whe
     before_there : (m : ℕ) → m < length stands.before → sketch_at stands.before m ≡ sketch_at sketches m
     before_there m h = sym (ap (λ (xs : List Sketch). get_or xs m no_sketch) stands.are ∙ get_or-front stands.before (sketch_of (scope_by t.basis) stands.before s ∷ stands.behind) m no_sketch h)
 
-  pub sketch-blank : (a : _) → slice_get t.stems.items p ≡ Some (Blank a) → sketch_at sketches p ≡ record { type = the_type a.value; partial = blank (the_type a.value) }
+  pub sketch-blank : (a : _) → slice_get t.stems.items p ≡ Some (Blank a) → sketch_at sketches p ≡ record { type = the_type a.value; partial = blank_partial (the_type a.value) }
   sketch-blank a at = sketch_there (Blank a) at
 
   module _ (m : ℕ) (h : HoleHead) (at : slice_get t.stems.items p ≡ Some (Grown m h)) where
@@ -100,7 +100,7 @@ module _ (t : Tables) (q : Queue Planned Delays) (r : IsRight t q) (p : ℕ) whe
         let T : Sketch → Type 0 = λ x. TakesHead (scope_by t.basis) x.partial (the_hole_head h) in
         subst T (before_there (Grown m h) at m s.stem.0) s.stem.1
 
-    pub sketch-grown : sketch_at sketches p ≡ grown_by (scope_by t.basis) (the_hole_head h) (sketch_at sketches m)
+    pub sketch-grown : sketch_at sketches p ≡ growth_by (scope_by t.basis) (the_hole_head h) (sketch_at sketches m)
     sketch-grown =
         let s = stands (Grown m h) at in
-        sketch_there (Grown m h) at ∙ ap (grown_by (scope_by t.basis) (the_hole_head h)) (before_there (Grown m h) at m s.stem.0)
+        sketch_there (Grown m h) at ∙ ap (growth_by (scope_by t.basis) (the_hole_head h)) (before_there (Grown m h) at m s.stem.0)

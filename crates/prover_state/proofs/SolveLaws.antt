@@ -10,17 +10,17 @@ use Rattle.tableau_clauses.specs.Table.{the_clauses}
 use Rattle.prover_state.specs.declared.command.Planned.{Planned}
 use Rattle.prover_state.specs.declared.command.Delays.{Delays}
 use Rattle.prover_state.specs.declared.tables.Tables.{Tables}
-use Rattle.prover_state.specs.Internal.Standing.{the_state, IsRight}
+use Rattle.prover_state.specs.Internal.Standing.{the_state, IsRightState}
 use Rattle.prover_state.proofs.NumberLaws.{unsatisfiable-numbers}
 
-module _ (t : Tables) (q : Queue Planned Delays) (r : IsRight t q) (equal : EqualIdsForEqualTerms t.basis.bank) (differ : (v w id : ℕ) → slice_get t.basis.lits v ≡ Some id → slice_get t.basis.lits w ≡ Some id → v ≡ w) (y : SolverState) (same : y.clauses ≡ t.solver.clauses) where
+module _ (t : Tables) (q : Queue Planned Delays) (r : IsRightState t q) (equal : EqualIdsForEqualTerms t.basis.bank) (differ : (v w id : ℕ) → slice_get t.basis.lits v ≡ Some id → slice_get t.basis.lits w ≡ Some id → v ≡ w) (y : SolverState) (same : y.clauses ≡ t.solver.clauses) where
   pub refuted : Unsat y.clauses → Unsatisfiable (the_state t q).clauses
   refuted u = (unsatisfiable-numbers t.basis.bank t.basis.lits r.basis.atoms equal differ (the_clauses t.steps) r.clauses).0 (subst Unsat (same ∙ r.solver) u)
 
   pub satisfied : (Unsat y.clauses → ⊥) → Unsatisfiable (the_state t q).clauses → ⊥
   satisfied never u = never (subst Unsat (sym (same ∙ r.solver)) ((unsatisfiable-numbers t.basis.bank t.basis.lits r.basis.atoms equal differ (the_clauses t.steps) r.clauses).1 u))
 
-  pub right-solved : length (learned y) ≤ q.rule.mode.conflicts → IsRight (record t { solver = y }) q
+  pub right-solved : length (learned y) ≤ q.rule.mode.conflicts → IsRightState (record t { solver = y }) q
   right-solved within = record {
     basis = r.basis;
     clauses = r.clauses;

@@ -15,22 +15,22 @@ use Rattle.search_spec.specs.Terms.{ranges_over}
 use Rattle.search_spec.specs.Witness.{has_hole_of}
 use Rattle.search_spec.specs.Internal.Loops.{queue_of}
 use Rattle.term_bank.specs.Terms.{term_at}
-use Rattle.literal_map.specs.Atoms.{literal_at}
+use Rattle.literal_map.specs.Atoms.{bank_literal}
 use Rattle.witness_names.specs.Rows.{rows_of}
 use Rattle.witness_names.proofs.StayLaws.{rows_same}
 use Rattle.tableau_clauses.specs.Table.{the_clauses}
-use Rattle.mating_rules.specs.Noted.{IsRight as IsRightIndex}
+use Rattle.mating_rules.specs.Noted.{IsRightIndex}
 use Rattle.mating_rules.proofs.StayLaws.{right_stays}
 use Rattle.prover_state.specs.declared.command.Planned.{Planned}
 use Rattle.prover_state.specs.declared.command.Delays.{Delays}
 use Rattle.prover_state.specs.declared.tables.Basis.{Basis}
 use Rattle.prover_state.specs.declared.tables.Tables.{Tables}
-use Rattle.prover_state.specs.Internal.Growing.{Longer, Continues, BasisGrows, Extends}
+use Rattle.prover_state.specs.Internal.Growing.{Longer, Continues, BasisGrows, ExtendsState}
 use Rattle.prover_state.specs.Internal.Heads.{sketches_of, AreStems}
 use Rattle.prover_state.specs.Internal.Holes.{holes_in}
-use Rattle.prover_state.specs.Internal.Names.{typed_at, IsNumber, IsPlace}
+use Rattle.prover_state.specs.Internal.Names.{typed_at, IsNumberIn, IsPlace}
 use Rattle.prover_state.specs.Internal.Pending.{loop_at, IsEntry}
-use Rattle.prover_state.specs.Internal.Standing.{declared_scope, rows_in, scope_by, sketches_in, names_in, sources, loops_in, the_state, is_universal, can_pair, places_where, IsBasis, IsRight}
+use Rattle.prover_state.specs.Internal.Standing.{without_witnesses, rows_in, scope_by, sketches_in, naming_in, sources, loops_in, the_state, is_universal, can_pair, places_where, IsBasis, IsRightState}
 use Rattle.prover_state.proofs.EachLaws.{each-weaker, map-same}
 use Rattle.prover_state.proofs.NamesLaws.{place-stays, term-stays, number-stays, literal-stays, typed-stays, command-stays, numbers-stay}
 use Rattle.prover_state.proofs.LoopStays.{loops-stay, entries-stay}
@@ -47,14 +47,14 @@ places-same f g P e n [] h = refl
 places-same {X} f g P e n (x ∷ xs) h =
     ap (λ (b : Bool). if b then n ∷ places_where f (suc n) xs else places_where f (suc n) xs) (e x h.0) ∙ ap (λ (ys : List ℕ). if g x then n ∷ ys else ys) (places-same f g P e (suc n) xs h.1)
 
-module _ (t : Tables) (q : Queue Planned Delays) (g : Basis) (grows : BasisGrows t.basis g) (r : IsRight t q) where
+module _ (t : Tables) (q : Queue Planned Delays) (g : Basis) (grows : BasisGrows t.basis g) (r : IsRightState t q) where
   abbrev grown : Tables
   grown = record t { basis = g }
 
   rows_stay : rows_in g ≡ rows_in t.basis
   rows_stay = ap (rows_of g.bank.terms) grows.witnesses ∙ rows_same t.basis.bank g.bank grows.bank t.basis.witnesses r.basis.rows
 
-  scope_stays : declared_scope g.bank ≡ declared_scope t.basis.bank
+  scope_stays : without_witnesses g.bank ≡ without_witnesses t.basis.bank
   scope_stays = λ i. record { bases = length (grows.bank.bases i); names = map (λ c. c.type) (grows.bank.consts i); witnesses = [] }
 
   scope_by_stays : scope_by g ≡ scope_by t.basis
@@ -66,7 +66,7 @@ module _ (t : Tables) (q : Queue Planned Delays) (g : Basis) (grows : BasisGrows
   itself : {X : Type 0} (xs ys : List X) → ys ≡ xs → Longer xs ys
   itself xs ys e = ([], e ∙ sym (append-nil xs))
 
-  continues : Continues (names_in t) (names_in grown)
+  continues : Continues (naming_in t) (naming_in grown)
   continues = record {
     within = λ k d h. (r.basis.atoms k d h).within;
     terms = (grows.bank.further, grows.bank.terms);
@@ -75,24 +75,24 @@ module _ (t : Tables) (q : Queue Planned Delays) (g : Basis) (grows : BasisGrows
   }
 
   abbrev old_literal : SatLit → Literal
-  old_literal = literal_at t.basis.bank.terms t.basis.lits
+  old_literal = bank_literal t.basis.bank.terms t.basis.lits
 
   abbrev new_literal : SatLit → Literal
-  new_literal = literal_at g.bank.terms g.lits
+  new_literal = bank_literal g.bank.terms g.lits
 
-  literals_stay : (ls : List SatLit) → Each (IsNumber t.basis.lits) ls → map new_literal ls ≡ map old_literal ls
-  literals_stay ls h = map-same new_literal old_literal (IsNumber t.basis.lits) (literal-stays (names_in t) (names_in grown) continues) ls h
+  literals_stay : (ls : List SatLit) → Each (IsNumberIn t.basis.lits) ls → map new_literal ls ≡ map old_literal ls
+  literals_stay ls h = map-same new_literal old_literal (IsNumberIn t.basis.lits) (literal-stays (naming_in t) (naming_in grown) continues) ls h
 
   clauses_stay : map (map new_literal) (the_clauses t.steps) ≡ map (map old_literal) (the_clauses t.steps)
-  clauses_stay = map-same (map new_literal) (map old_literal) (Each (IsNumber t.basis.lits)) literals_stay (the_clauses t.steps) r.clauses
+  clauses_stay = map-same (map new_literal) (map old_literal) (Each (IsNumberIn t.basis.lits)) literals_stay (the_clauses t.steps) r.clauses
 
   terms_stay : map (typed_at g.bank.terms) t.terms ≡ map (typed_at t.basis.bank.terms) t.terms
-  terms_stay = map-same (typed_at g.bank.terms) (typed_at t.basis.bank.terms) (λ u. IsPlace t.basis.bank.terms u.1) (typed-stays (names_in t) (names_in grown) continues) t.terms r.terms
+  terms_stay = map-same (typed_at g.bank.terms) (typed_at t.basis.bank.terms) (λ u. IsPlace t.basis.bank.terms u.1) (typed-stays (naming_in t) (naming_in grown) continues) t.terms r.terms
 
   places_stay : (ids : List ℕ) → Each (IsPlace t.basis.bank.terms) ids → map (term_at g.bank.terms) ids ≡ map (term_at t.basis.bank.terms) ids
   places_stay ids h = map-same (term_at g.bank.terms) (term_at t.basis.bank.terms) (IsPlace t.basis.bank.terms) (term-stays t.basis.bank.terms g.bank.terms continues.terms) ids h
 
-  extends : Extends (sources t) (sources grown)
+  extends : ExtendsState (sources t) (sources grown)
   extends = record {
     noted = itself (sources t).noted (sources grown).noted (literals_stay t.noted.items r.noted);
     terms = itself (sources t).terms (sources grown).terms terms_stay;
@@ -102,9 +102,9 @@ module _ (t : Tables) (q : Queue Planned Delays) (g : Basis) (grows : BasisGrows
 
   loops_same : loops_in grown q.entries ≡ loops_in t q.entries
   loops_same =
-      ap (λ scope. map (loop_at scope (names_in grown) (sources grown)) q.entries) scope_stays
-      ∙ loops-stay (declared_scope t.basis.bank) (sources t) (sources grown) extends (names_in t) (names_in grown)
-      (command-stays (names_in t) (names_in grown) continues) (numbers-stay (names_in t) (names_in grown) continues) q.entries r.queue
+      ap (λ scope. map (loop_at scope (naming_in grown) (sources grown)) q.entries) scope_stays
+      ∙ loops-stay (without_witnesses t.basis.bank) (sources t) (sources grown) extends (naming_in t) (naming_in grown)
+      (command-stays (naming_in t) (naming_in grown) continues) (numbers-stay (naming_in t) (naming_in grown) continues) q.entries r.queue
 
   -- The state stays.
   pub state-stays : the_state grown q ≡ the_state t q
@@ -122,34 +122,34 @@ module _ (t : Tables) (q : Queue Planned Delays) (g : Basis) (grows : BasisGrows
     done = t.done;
   }
 
-  more_numbers : (ls : List SatLit) → Each (IsNumber t.basis.lits) ls → Each (IsNumber g.lits) ls
-  more_numbers ls h = each-weaker (IsNumber t.basis.lits) (IsNumber g.lits) (number-stays (names_in t) (names_in grown) continues) ls h
+  more_numbers : (ls : List SatLit) → Each (IsNumberIn t.basis.lits) ls → Each (IsNumberIn g.lits) ls
+  more_numbers ls h = each-weaker (IsNumberIn t.basis.lits) (IsNumberIn g.lits) (number-stays (naming_in t) (naming_in grown) continues) ls h
 
   more_places : (ids : List ℕ) → Each (IsPlace t.basis.bank.terms) ids → Each (IsPlace g.bank.terms) ids
   more_places ids h = each-weaker (IsPlace t.basis.bank.terms) (IsPlace g.bank.terms) (place-stays t.basis.bank.terms g.bank.terms continues.terms) ids h
 
-  universal_stays : (a : SimpleType) → (l : SatLit) → IsNumber t.basis.lits l → is_universal t.basis.bank.terms t.basis.lits a l ≡ is_universal g.bank.terms g.lits a l
-  universal_stays a l h = ap (λ (m : Literal). l.positive && ranges_over a m.atom) (sym (literal-stays (names_in t) (names_in grown) continues l h))
+  universal_stays : (a : SimpleType) → (l : SatLit) → IsNumberIn t.basis.lits l → is_universal t.basis.bank.terms t.basis.lits a l ≡ is_universal g.bank.terms g.lits a l
+  universal_stays a l h = ap (λ (m : Literal). l.positive && ranges_over a m.atom) (sym (literal-stays (naming_in t) (naming_in grown) continues l h))
 
-  pair_stays : (l : SatLit) → IsNumber t.basis.lits l → can_pair t.basis.bank.terms t.basis.lits l ≡ can_pair g.bank.terms g.lits l
-  pair_stays l h = ap (λ (m : Literal). l.positive || not (has_equal_sides m.atom)) (sym (literal-stays (names_in t) (names_in grown) continues l h))
+  pair_stays : (l : SatLit) → IsNumberIn t.basis.lits l → can_pair t.basis.bank.terms t.basis.lits l ≡ can_pair g.bank.terms g.lits l
+  pair_stays l h = ap (λ (m : Literal). l.positive || not (has_equal_sides m.atom)) (sym (literal-stays (naming_in t) (naming_in grown) continues l h))
 
   index_stays : IsRightIndex g.bank.terms g.lits t.index
   index_stays = right_stays t.basis.bank g.bank grows.bank t.basis.lits g.lits r.basis.atoms grows.lits t.index r.index
 
   -- The tables stay right.
-  pub right-stays : IsBasis g → IsRight grown q
+  pub right-stays : IsBasis g → IsRightState grown q
   right-stays good =
-      let Q : Scope → Type 0 = λ scope. Each (λ e. IsEntry scope (names_in grown) (sources grown) e.command) q.entries in
+      let Q : Scope → Type 0 = λ scope. Each (λ e. IsEntry scope (naming_in grown) (sources grown) e.command) q.entries in
       record {
         basis = good;
-        clauses = each-weaker (Each (IsNumber t.basis.lits)) (Each (IsNumber g.lits)) more_numbers (the_clauses t.steps) r.clauses;
+        clauses = each-weaker (Each (IsNumberIn t.basis.lits)) (Each (IsNumberIn g.lits)) more_numbers (the_clauses t.steps) r.clauses;
         solver = r.solver;
         seen = more_numbers t.seen r.seen;
         noted = more_numbers t.noted.items r.noted;
         index = index_stays;
-        paired = r.paired ∙ filter-same (can_pair t.basis.bank.terms t.basis.lits) (can_pair g.bank.terms g.lits) (IsNumber t.basis.lits) pair_stays t.noted.items r.noted;
-        universals = λ a. r.universals a ∙ places-same (is_universal t.basis.bank.terms t.basis.lits a) (is_universal g.bank.terms g.lits a) (IsNumber t.basis.lits) (universal_stays a) 0 t.noted.items r.noted;
+        paired = r.paired ∙ filter-same (can_pair t.basis.bank.terms t.basis.lits) (can_pair g.bank.terms g.lits) (IsNumberIn t.basis.lits) pair_stays t.noted.items r.noted;
+        universals = λ a. r.universals a ∙ places-same (is_universal t.basis.bank.terms t.basis.lits a) (is_universal g.bank.terms g.lits a) (IsNumberIn t.basis.lits) (universal_stays a) 0 t.noted.items r.noted;
         names = λ n. r.names n ∙ ap (λ (scope : Scope). places_to n 0 scope.names) (sym scope_stays);
         takers = λ n. r.takers n ∙ ap (λ (rows : List Row). places_to n 0 (map (λ r. r.type) rows)) (sym rows_stay);
         terms = each-weaker (λ u. IsPlace t.basis.bank.terms u.1) (λ u. IsPlace g.bank.terms u.1) (λ u h. place-stays t.basis.bank.terms g.bank.terms continues.terms u.1 h) t.terms r.terms;
@@ -161,6 +161,6 @@ module _ (t : Tables) (q : Queue Planned Delays) (g : Basis) (grows : BasisGrows
         budget = r.budget;
         holes = λ n. r.holes n ∙ ap (places_where (has_hole_of n) 0) (sym sketches_stay);
         queue = subst Q (sym scope_stays)
-            (entries-stay (declared_scope t.basis.bank) (sources t) (sources grown) extends (names_in t) (names_in grown)
-            (command-stays (names_in t) (names_in grown) continues) (numbers-stay (names_in t) (names_in grown) continues) q.entries r.queue);
+            (entries-stay (without_witnesses t.basis.bank) (sources t) (sources grown) extends (naming_in t) (naming_in grown)
+            (command-stays (naming_in t) (naming_in grown) continues) (numbers-stay (naming_in t) (naming_in grown) continues) q.entries r.queue);
       }

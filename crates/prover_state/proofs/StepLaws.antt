@@ -6,7 +6,7 @@ use Rattle.sat_base.specs.declared.literal.SatLit.{SatLit}
 use Rattle.search_spec.specs.Each.{Each}
 use Rattle.search_spec.specs.Clauses.{with_clauses}
 use Rattle.search_spec.specs.Numbered.{numbers}
-use Rattle.literal_map.specs.Atoms.{literal_at}
+use Rattle.literal_map.specs.Atoms.{bank_literal}
 use Rattle.literal_map.specs.declared.instance.BankUse.{BankUse}
 use Rattle.literal_map.specs.declared.instance.Instance.{Instance}
 use Rattle.term_bank.proofs.GrowLaws.{grown_within}
@@ -16,9 +16,9 @@ use Rattle.tableau_clauses.specs.declared.origin.Origin.TheVariants.{Start, Inst
 use Rattle.tableau_clauses.specs.Table.{Step, Table, clauses_in, origins_in, the_clauses, the_origins, the_instances}
 use Rattle.prover_state.specs.declared.tables.Basis.{Basis}
 use Rattle.prover_state.specs.Internal.Growing.{BasisGrows}
-use Rattle.prover_state.specs.Internal.Names.{IsNumber, IsPlace}
+use Rattle.prover_state.specs.Internal.Names.{IsNumberIn, IsPlace}
 use Rattle.prover_state.specs.Internal.Standing.{rows_in}
-use Rattle.prover_state.specs.Internal.Steps.{IsMade, StepsGrow}
+use Rattle.prover_state.specs.Internal.Steps.{IsMadeInstance, StepsGrow}
 use Rattle.prover_state.proofs.ClauseLaws.{with_clauses-longer}
 use Rattle.prover_state.proofs.EachLaws.{each-weaker}
 
@@ -64,16 +64,16 @@ steps-weaker P Q f old new s = record { further = s.further; clauses = s.clauses
 
 -- an instance by a use whose parts have numbers
 pub is-made : (old new : Basis) → BasisGrows old new → (by : BankUse) (i : Instance) → i.by ≡ by → i.principals ≡ principals_of by
-    → ForSome by.first (IsNumber old.lits) → ForSome by.second (IsNumber old.lits) → ForSome by.term (IsPlace old.bank.terms) → Each (Each (IsNumber new.lits)) i.alternatives
-    → IsInstanceBy new.bank new.lits (rows_in new) by (map (map (literal_at new.bank.terms new.lits)) i.alternatives) → IsMade new i
+    → ForSome by.first (IsNumberIn old.lits) → ForSome by.second (IsNumberIn old.lits) → ForSome by.term (IsPlace old.bank.terms) → Each (Each (IsNumberIn new.lits)) i.alternatives
+    → IsInstanceBy new.bank new.lits (rows_in new) by (map (map (bank_literal new.bank.terms new.lits)) i.alternatives) → IsMadeInstance new i
 is-made old new grows by i e principals first second term numbered fits = record {
   principals = principals ∙ ap principals_of (sym e);
-  first = subst (λ (b : BankUse). ForSome b.first (IsNumber new.lits)) (sym e) (λ l h. number l (first l h));
-  second = subst (λ (b : BankUse). ForSome b.second (IsNumber new.lits)) (sym e) (λ l h. number l (second l h));
+  first = subst (λ (b : BankUse). ForSome b.first (IsNumberIn new.lits)) (sym e) (λ l h. number l (first l h));
+  second = subst (λ (b : BankUse). ForSome b.second (IsNumberIn new.lits)) (sym e) (λ l h. number l (second l h));
   term = subst (λ (b : BankUse). ForSome b.term (IsPlace new.bank.terms)) (sym e) (λ u h. grown_within old.bank new.bank u grows.bank (term u h));
   numbers = numbered;
-  fits = subst (λ (b : BankUse). IsInstanceBy new.bank new.lits (rows_in new) b (map (map (literal_at new.bank.terms new.lits)) i.alternatives)) (sym e) fits;
+  fits = subst (λ (b : BankUse). IsInstanceBy new.bank new.lits (rows_in new) b (map (map (bank_literal new.bank.terms new.lits)) i.alternatives)) (sym e) fits;
 }
   where
-    number : (l : SatLit) → IsNumber old.lits l → IsNumber new.lits l
+    number : (l : SatLit) → IsNumberIn old.lits l → IsNumberIn new.lits l
     number l k = omega (arith, k, ap length grows.lits.is, length-append old.lits grows.lits.further)

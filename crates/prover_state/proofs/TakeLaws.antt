@@ -6,7 +6,7 @@ use Rattle.stt_core.proofs.ListLaws.{drop_got}
 use Rattle.command_queue.specs.declared.entry.Entry.{Entry}
 use Rattle.command_queue.specs.Queue.{Queue, TakesEntry, AddsEntryAt}
 use Rattle.search_spec.specs.Each.{Each}
-use Rattle.search_spec.specs.Queue.{next_command, without}
+use Rattle.search_spec.specs.Queue.{next_command, without_number}
 use Rattle.search_spec.specs.State.{State, Command as Meant}
 use Rattle.search_spec.specs.Internal.Loops.{Loop, queue_of, loop_left}
 use Rattle.prover_state.specs.declared.command.Command.{Command}
@@ -14,10 +14,10 @@ use Rattle.prover_state.specs.declared.command.Planned.{Planned}
 use Rattle.prover_state.specs.declared.command.Rest.{Rest}
 use Rattle.prover_state.specs.declared.command.Delays.{Delays}
 use Rattle.prover_state.specs.declared.tables.Tables.{Tables}
-use Rattle.prover_state.specs.Internal.Names.{Names, command_at, AreNumbers}
-use Rattle.prover_state.specs.Internal.Pending.{loop_over, later_of, between, AreThere, IsSigned, IsWithin, IsEntry, span, span_of, loop_at, EndsBelow, IsApart, AreSpaced}
+use Rattle.prover_state.specs.Internal.Names.{Naming, command_at, IsNumberedCommand}
+use Rattle.prover_state.specs.Internal.Pending.{loop_over, later_of, between, AreThere, IsSigned, IsWithinScope, IsEntry, span, span_of, loop_at, EndsBelow, IsApart, AreSpaced}
 use Rattle.sat_core.specs.Solver.{learned}
-use Rattle.prover_state.specs.Internal.Standing.{declared_scope, names_in, sources, parts, loops_in, the_state, IsRight}
+use Rattle.prover_state.specs.Internal.Standing.{without_witnesses, naming_in, sources, state_parts, loops_in, the_state, IsRightState}
 use Rattle.prover_state.specs.Internal.Taking.{TakesNext, rest_behind}
 use Rattle.prover_state.proofs.EachLaws.{each-weaker, each-between, each-without, each-at}
 use Rattle.prover_state.proofs.SpacedLaws.{each_ends, before_ends, behind_begins}
@@ -31,7 +31,7 @@ between-more next end xs x h e =
     ap (take (end - next)) (drop_got xs next x e ∙ ap (λ n. x ∷ drop n xs) (let k : next + 1 ≡ suc next = omega arith in k))
     ∙ ap (λ n. take n (x ∷ drop (suc next) xs)) (let k : end - next ≡ suc (end - suc next) = omega (arith, h) in k)
 
-module _ (scope : Scope) (names : Names) (s : State) (old mid : Queue Planned Delays) (e : Entry Planned) (takes : TakesEntry old mid e) (spaced : AreSpaced old.entries old.pushes) (good : Each (λ x. IsEntry scope names s x.command) old.entries) where
+module _ (scope : Scope) (names : Naming) (s : State) (old mid : Queue Planned Delays) (e : Entry Planned) (takes : TakesEntry old mid e) (spaced : AreSpaced old.entries old.pushes) (good : Each (λ x. IsEntry scope names s x.command) old.entries) where
   abbrev f : Entry Planned → Loop Meant
   f = loop_at scope names s
 
@@ -60,20 +60,20 @@ module _ (scope : Scope) (names : Names) (s : State) (old mid : Queue Planned De
   pub is-next : next_command (queue_of (map f old.entries)) ≡ Some (record { due = e.due; number = e.number; command = here })
   is-next = next-taken f (λ x. refl) (λ x. refl) old mid e takes
 
-  pub leaves-alone : later_of scope s here e.command.rest ≡ [] → without e.number (queue_of (map f old.entries)) ≡ queue_of (map f mid.entries)
+  pub leaves-alone : later_of scope s here e.command.rest ≡ [] → without_number e.number (queue_of (map f old.entries)) ≡ queue_of (map f mid.entries)
   leaves-alone none = without-alone f (λ x. refl) (λ x. refl) old mid e takes spaced full none
 
   spaced_parted : AreSpaced (takes.before ++ e ∷ takes.behind) old.pushes
   spaced_parted = let P : List (Entry Planned) → Type 0 = λ es. AreSpaced es old.pushes in subst P takes.stands spaced
 
-  module _ (r : Rest) (rest : e.command.rest ≡ Some r) (some : r.next < r.end) (next : Command) (at : slice_get (loop_over scope s r.over here) r.next ≡ Some (command_at names next)) (numbers : AreNumbers names next) where
+  module _ (r : Rest) (rest : e.command.rest ≡ Some r) (some : r.next < r.end) (next : Command) (at : slice_get (loop_over scope s r.over here) r.next ≡ Some (command_at names next)) (numbers : IsNumberedCommand names next) where
     abbrev entry' : Entry Planned
     entry' = record { due = e.due; number = e.number + 1; command = record { first = next; rest = Some (rest_behind r) } }
 
     span_is : span e.command ≡ r.end - r.next
     span_is = ap span_of rest
 
-    within : IsWithin scope s here r
+    within : IsWithinScope scope s here r
     within = let T : Option Rest → Type 0 = λ o. AreThere scope s here o in subst T rest entry-good.later
 
     loops : (loop_over scope s r.over (command_at names next) ≡ loop_over scope s r.over here) × IsSigned r.over (command_at names next)
@@ -120,7 +120,7 @@ module _ (scope : Scope) (names : Names) (s : State) (old mid : Queue Planned De
     }
 
     module _ (new : Queue Planned Delays) (adds : AddsEntryAt mid new entry') where
-      pub leaves-more : without e.number (queue_of (map f old.entries)) ≡ queue_of (map f new.entries)
+      pub leaves-more : without_number e.number (queue_of (map f old.entries)) ≡ queue_of (map f new.entries)
       leaves-more =
           without-more f (λ x. refl) (λ x. refl) old mid new e entry' takes adds spaced full (let k : e.number + 1 ≡ suc e.number = omega arith in k) (omega (arith, span_is, some)) left_is
 
@@ -128,14 +128,14 @@ module _ (scope : Scope) (names : Names) (s : State) (old mid : Queue Planned De
       all-good =
           subst (Each Good) (sym adds.stands) (each-between Good adds.before entry' adds.behind (subst (Each Good) adds.stood others-good) entry_good)
 
-module _ (t : Tables) (old mid : Queue Planned Delays) (e : Entry Planned) (takes : TakesEntry old mid e) (spaced : AreSpaced old.entries old.pushes) (r : IsRight t old) where
+module _ (t : Tables) (old mid : Queue Planned Delays) (e : Entry Planned) (takes : TakesEntry old mid e) (spaced : AreSpaced old.entries old.pushes) (r : IsRightState t old) where
   abbrev scope : Scope
-  scope = declared_scope t.basis.bank
+  scope = without_witnesses t.basis.bank
 
-  state_after : (new : Queue Planned Delays) → without e.number (queue_of (loops_in t old.entries)) ≡ queue_of (loops_in t new.entries) → new.pushes ≡ old.pushes → the_state t new ≡ record (the_state t old) { queue = without e.number (the_state t old).queue }
-  state_after new h k = ap₂ (λ qs n. record (parts t) { queue = qs; pushes = n }) (sym h) k
+  state_after : (new : Queue Planned Delays) → without_number e.number (queue_of (loops_in t old.entries)) ≡ queue_of (loops_in t new.entries) → new.pushes ≡ old.pushes → the_state t new ≡ record (the_state t old) { queue = without_number e.number (the_state t old).queue }
+  state_after new h k = ap₂ (λ qs n. record (state_parts t) { queue = qs; pushes = n }) (sym h) k
 
-  right_with : (new : Queue Planned Delays) → Each (λ x. IsEntry scope (names_in t) (sources t) x.command) new.entries → new.rule ≡ old.rule → IsRight t new
+  right_with : (new : Queue Planned Delays) → Each (λ x. IsEntry scope (naming_in t) (sources t) x.command) new.entries → new.rule ≡ old.rule → IsRightState t new
   right_with new h k =
       let B : Delays → Type 0 = λ d. length (learned t.solver) ≤ d.mode.conflicts in
       record {
@@ -160,32 +160,32 @@ module _ (t : Tables) (old mid : Queue Planned Delays) (e : Entry Planned) (take
         queue = h;
       }
 
-  pub takes-alone : later_of scope (sources t) (command_at (names_in t) e.command.first) e.command.rest ≡ [] → TakesNext t old mid e.command.first
+  pub takes-alone : later_of scope (sources t) (command_at (naming_in t) e.command.first) e.command.rest ≡ [] → TakesNext t old mid e.command.first
   takes-alone none = record {
     due = e.due;
     number = e.number;
-    is_next = is-next scope (names_in t) (sources t) old mid e takes spaced r.queue;
-    leaves = state_after mid (leaves-alone scope (names_in t) (sources t) old mid e takes spaced r.queue none) takes.pushes;
-    numbers = (entry-good scope (names_in t) (sources t) old mid e takes spaced r.queue).numbers;
+    is_next = is-next scope (naming_in t) (sources t) old mid e takes spaced r.queue;
+    leaves = state_after mid (leaves-alone scope (naming_in t) (sources t) old mid e takes spaced r.queue none) takes.pushes;
+    numbers = (entry-good scope (naming_in t) (sources t) old mid e takes spaced r.queue).numbers;
   }
 
-  pub right-alone : IsRight t mid
-  right-alone = right_with mid (others-good scope (names_in t) (sources t) old mid e takes spaced r.queue) takes.rule
+  pub right-alone : IsRightState t mid
+  right-alone = right_with mid (others-good scope (naming_in t) (sources t) old mid e takes spaced r.queue) takes.rule
 
-  pub none-left : (o : Option Rest) → o ≡ e.command.rest → (rest : Rest) → o ≡ Some rest → rest.end ≤ rest.next → later_of scope (sources t) (command_at (names_in t) e.command.first) e.command.rest ≡ []
+  pub none-left : (o : Option Rest) → o ≡ e.command.rest → (rest : Rest) → o ≡ Some rest → rest.end ≤ rest.next → later_of scope (sources t) (command_at (naming_in t) e.command.first) e.command.rest ≡ []
   none-left o is rest k h =
-      ap (later_of scope (sources t) (command_at (names_in t) e.command.first)) (sym is ∙ k)
-      ∙ ap (λ n. take n (drop rest.next (loop_over scope (sources t) rest.over (command_at (names_in t) e.command.first)))) (let z : rest.end - rest.next ≡ 0 = omega (arith, h) in z)
+      ap (later_of scope (sources t) (command_at (naming_in t) e.command.first)) (sym is ∙ k)
+      ∙ ap (λ n. take n (drop rest.next (loop_over scope (sources t) rest.over (command_at (naming_in t) e.command.first)))) (let z : rest.end - rest.next ≡ 0 = omega (arith, h) in z)
 
-  module _ (rest : Rest) (is : e.command.rest ≡ Some rest) (some : rest.next < rest.end) (next : Command) (at : slice_get (loop_over scope (sources t) rest.over (command_at (names_in t) e.command.first)) rest.next ≡ Some (command_at (names_in t) next)) (numbers : AreNumbers (names_in t) next) (new : Queue Planned Delays) (adds : AddsEntryAt mid new (record { due = e.due; number = e.number + 1; command = record { first = next; rest = Some (rest_behind rest) } })) where
+  module _ (rest : Rest) (is : e.command.rest ≡ Some rest) (some : rest.next < rest.end) (next : Command) (at : slice_get (loop_over scope (sources t) rest.over (command_at (naming_in t) e.command.first)) rest.next ≡ Some (command_at (naming_in t) next)) (numbers : IsNumberedCommand (naming_in t) next) (new : Queue Planned Delays) (adds : AddsEntryAt mid new (record { due = e.due; number = e.number + 1; command = record { first = next; rest = Some (rest_behind rest) } })) where
     pub takes-more : TakesNext t old new e.command.first
     takes-more = record {
       due = e.due;
       number = e.number;
-      is_next = is-next scope (names_in t) (sources t) old mid e takes spaced r.queue;
-      leaves = state_after new (leaves-more scope (names_in t) (sources t) old mid e takes spaced r.queue rest is some next at numbers new adds) (adds.pushes ∙ takes.pushes);
-      numbers = (entry-good scope (names_in t) (sources t) old mid e takes spaced r.queue).numbers;
+      is_next = is-next scope (naming_in t) (sources t) old mid e takes spaced r.queue;
+      leaves = state_after new (leaves-more scope (naming_in t) (sources t) old mid e takes spaced r.queue rest is some next at numbers new adds) (adds.pushes ∙ takes.pushes);
+      numbers = (entry-good scope (naming_in t) (sources t) old mid e takes spaced r.queue).numbers;
     }
 
-    pub right-more : IsRight t new
-    right-more = right_with new (all-good scope (names_in t) (sources t) old mid e takes spaced r.queue rest is some next at numbers new adds) (adds.rule ∙ takes.rule)
+    pub right-more : IsRightState t new
+    right-more = right_with new (all-good scope (naming_in t) (sources t) old mid e takes spaced r.queue rest is some next at numbers new adds) (adds.rule ∙ takes.rule)

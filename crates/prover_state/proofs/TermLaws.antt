@@ -14,22 +14,22 @@ use Rattle.command_queue.specs.Queue.{Queue}
 use Rattle.search_spec.specs.Each.{Each}
 use Rattle.search_spec.specs.Mode.{Mode}
 use Rattle.search_spec.specs.Terms.{terms_of, ranges_over, universals, with_term}
-use Rattle.search_spec.specs.State.{State, Typed, inst, pushed}
+use Rattle.search_spec.specs.State.{State, Typed, inst, with_commands}
 use Rattle.search_spec.specs.Internal.Loops.{queue_of}
 use Rattle.search_spec.proofs.TypedPushes.{is_over}
 use Rattle.term_bank.specs.Laws.{EqualIdsForEqualTerms}
 use Rattle.term_bank.specs.Terms.{term_at}
-use Rattle.literal_map.specs.Atoms.{literal_at}
+use Rattle.literal_map.specs.Atoms.{bank_literal}
 use Rattle.instantiate.specs.Listing.{Listing, ids_of, with_listed}
 use Rattle.prover_state.specs.declared.command.Command.TheVariants.{Inst}
 use Rattle.prover_state.specs.declared.command.Over.TheVariants.{Universals}
 use Rattle.prover_state.specs.declared.command.Planned.{Planned}
 use Rattle.prover_state.specs.declared.command.Delays.{Delays}
 use Rattle.prover_state.specs.declared.tables.Tables.{Tables}
-use Rattle.prover_state.specs.Internal.Growing.{Longer, Extends}
-use Rattle.prover_state.specs.Internal.Names.{typed_at, command_at, IsNumber, IsPlace}
+use Rattle.prover_state.specs.Internal.Growing.{Longer, ExtendsState}
+use Rattle.prover_state.specs.Internal.Names.{typed_at, command_at, IsNumberIn, IsPlace}
 use Rattle.prover_state.specs.Internal.Pending.{range_of, loop_over}
-use Rattle.prover_state.specs.Internal.Standing.{declared_scope, names_in, sources, parts, loops_in, the_state, is_universal, IsRight}
+use Rattle.prover_state.specs.Internal.Standing.{without_witnesses, naming_in, sources, state_parts, loops_in, the_state, is_universal, IsRightState}
 use Rattle.prover_state.proofs.EachLaws.{each-last, each-weaker, each-unmapped}
 use Rattle.prover_state.proofs.PlaceLaws.{any-places, filter-mapped, terms-of, each-passes, places-of, filter-places, places-below}
 use Rattle.prover_state.proofs.LoopStays.{loops-stay, entries-stay}
@@ -37,7 +37,7 @@ use Rattle.prover_state.proofs.LoopStays.{loops-stay, entries-stay}
 itself : {X : Type 0} (xs : List X) → Longer xs xs
 itself xs = ([], sym (append-nil xs))
 
-pub pushed-nothing : (mode : Mode) (s : State) → pushed mode [] s ≡ s
+pub pushed-nothing : (mode : Mode) (s : State) → with_commands mode [] s ≡ s
 pushed-nothing mode s = ap₂ (λ q n. record s { queue = q; pushes = n }) (append-nil s.queue) (add-zero s.pushes)
 
 pub range-is : (a : SimpleType) (l : Literal) → (l.positive && ranges_over a l.atom) ≡ true → range_of l.atom ≡ a
@@ -45,9 +45,9 @@ range-is a l e =
     let o = is_over a l e in
     ap (λ (m : Literal). range_of m.atom) o.is
 
-module _ (t : Tables) (q : Queue Planned Delays) (r : IsRight t q) (a : SimpleType) where
+module _ (t : Tables) (q : Queue Planned Delays) (r : IsRightState t q) (a : SimpleType) where
   abbrev d : SatLit → Literal
-  d = literal_at t.basis.bank.terms t.basis.lits
+  d = bank_literal t.basis.bank.terms t.basis.lits
 
   -- the noted literal at a place
   abbrev pub noted_at : ℕ → SatLit
@@ -59,8 +59,8 @@ module _ (t : Tables) (q : Queue Planned Delays) (r : IsRight t q) (a : SimpleTy
   abbrev passing : List SatLit
   passing = filter (is_universal t.basis.bank.terms t.basis.lits a) t.noted.items
 
-  each_passing : Each (λ l. IsNumber t.basis.lits l × (is_universal t.basis.bank.terms t.basis.lits a l ≡ true)) passing
-  each_passing = each-passes (IsNumber t.basis.lits) (is_universal t.basis.bank.terms t.basis.lits a) t.noted.items r.noted
+  each_passing : Each (λ l. IsNumberIn t.basis.lits l × (is_universal t.basis.bank.terms t.basis.lits a l ≡ true)) passing
+  each_passing = each-passes (IsNumberIn t.basis.lits) (is_universal t.basis.bank.terms t.basis.lits a) t.noted.items r.noted
 
   passing_are : passing ≡ map noted_at (ids_of a t.universals)
   passing_are =
@@ -70,32 +70,32 @@ module _ (t : Tables) (q : Queue Planned Delays) (r : IsRight t q) (a : SimpleTy
   pub universals-within : Each (λ i. i < length t.noted.items) (ids_of a t.universals)
   universals-within = subst (Each (λ i. i < length t.noted.items)) (sym (r.universals a)) (places-below (is_universal t.basis.bank.terms t.basis.lits a) t.noted.items)
 
-  pub universal-numbers : Each (λ i. IsNumber t.basis.lits (noted_at i)) (ids_of a t.universals)
+  pub universal-numbers : Each (λ i. IsNumberIn t.basis.lits (noted_at i)) (ids_of a t.universals)
   universal-numbers =
-      each-unmapped (IsNumber t.basis.lits) noted_at (ids_of a t.universals)
-      (subst (Each (IsNumber t.basis.lits)) passing_are (each-weaker (λ l. IsNumber t.basis.lits l × (is_universal t.basis.bank.terms t.basis.lits a l ≡ true)) (IsNumber t.basis.lits) (λ l h. h.0) passing each_passing))
+      each-unmapped (IsNumberIn t.basis.lits) noted_at (ids_of a t.universals)
+      (subst (Each (IsNumberIn t.basis.lits)) passing_are (each-weaker (λ l. IsNumberIn t.basis.lits l × (is_universal t.basis.bank.terms t.basis.lits a l ≡ true)) (IsNumberIn t.basis.lits) (λ l h. h.0) passing each_passing))
 
   -- the universal literals of the type, by their places
   pub universals-are : universals a (sources t) ≡ map d (map noted_at (ids_of a t.universals))
   universals-are = filter-mapped (λ (l : Literal). l.positive && ranges_over a l.atom) d t.noted.items ∙ ap (map d) passing_are
 
   module _ (v : ℕ) (vs : List ℕ) (ids : ids_of a t.universals ≡ v ∷ vs) where
-    first_passes : IsNumber t.basis.lits (noted_at v) × (is_universal t.basis.bank.terms t.basis.lits a (noted_at v) ≡ true)
+    first_passes : IsNumberIn t.basis.lits (noted_at v) × (is_universal t.basis.bank.terms t.basis.lits a (noted_at v) ≡ true)
     first_passes =
-        let P : List SatLit → Type 0 = λ ls. Each (λ l. IsNumber t.basis.lits l × (is_universal t.basis.bank.terms t.basis.lits a l ≡ true)) ls in
+        let P : List SatLit → Type 0 = λ ls. Each (λ l. IsNumberIn t.basis.lits l × (is_universal t.basis.bank.terms t.basis.lits a l ≡ true)) ls in
         (subst P (passing_are ∙ ap (map noted_at) ids) each_passing).0
 
-    pub first-number : IsNumber t.basis.lits (noted_at v)
+    pub first-number : IsNumberIn t.basis.lits (noted_at v)
     first-number = first_passes.0
 
     pub first-range : range_of (d (noted_at v)).atom ≡ a
     first-range = range-is a (d (noted_at v)) first_passes.1
 
     -- the whole loop over the universal literals of the type
-    pub universals-loop : (u : ℕ) → loop_over (declared_scope t.basis.bank) (sources t) Universals (command_at (names_in t) (Inst (noted_at v) u)) ≡ map (λ k. inst k (term_at t.basis.bank.terms u)) (universals a (sources t))
+    pub universals-loop : (u : ℕ) → loop_over (without_witnesses t.basis.bank) (sources t) Universals (command_at (naming_in t) (Inst (noted_at v) u)) ≡ map (λ k. inst k (term_at t.basis.bank.terms u)) (universals a (sources t))
     universals-loop u = ap (λ b. map (λ k. inst k (term_at t.basis.bank.terms u)) (universals b (sources t))) first-range
 
-    pub universals-begin : (u : ℕ) → map (λ k. inst k (term_at t.basis.bank.terms u)) (universals a (sources t)) ≡ command_at (names_in t) (Inst (noted_at v) u) ∷ map (λ k. inst k (term_at t.basis.bank.terms u)) (map d (map noted_at vs))
+    pub universals-begin : (u : ℕ) → map (λ k. inst k (term_at t.basis.bank.terms u)) (universals a (sources t)) ≡ command_at (naming_in t) (Inst (noted_at v) u) ∷ map (λ k. inst k (term_at t.basis.bank.terms u)) (map d (map noted_at vs))
     universals-begin u = ap (map (λ k. inst k (term_at t.basis.bank.terms u))) (universals-are ∙ ap (λ is. map d (map noted_at is)) ids)
 
   pub universals-length : (u : Lambda) → length (map (λ k. inst k u) (universals a (sources t))) ≡ length (ids_of a t.universals)
@@ -117,8 +117,8 @@ module _ (t : Tables) (q : Queue Planned Delays) (r : IsRight t q) (a : SimpleTy
     abbrev appended : State
     appended = record (the_state t q) { terms = (the_state t q).terms ++ record { type = a; term = u } ∷ [] }
 
-    by_test : (mode : Mode) (b : Bool) → list_any (same_term u) (terms_of a (the_state t q)) ≡ b → (if b then the_state t q else pushed mode (map (λ l. inst l u) (universals a (the_state t q))) appended) ≡ with_term mode a u (the_state t q)
-    by_test mode b e = sym (ap (λ (x : Bool). if x then the_state t q else pushed mode (map (λ l. inst l u) (universals a (the_state t q))) appended) e)
+    by_test : (mode : Mode) (b : Bool) → list_any (same_term u) (terms_of a (the_state t q)) ≡ b → (if b then the_state t q else with_commands mode (map (λ l. inst l u) (universals a (the_state t q))) appended) ≡ with_term mode a u (the_state t q)
+    by_test mode b e = sym (ap (λ (x : Bool). if x then the_state t q else with_commands mode (map (λ l. inst l u) (universals a (the_state t q))) appended) e)
 
     pub was-there : (mode : Mode) (x : List Listing) → x ≡ with_listed a id t.terms → list_any (nat_eq id) (ids_of a t.terms) ≡ true → the_state (record t { terms = x }) q ≡ with_term mode a u (the_state t q)
     was-there mode x is e =
@@ -134,7 +134,7 @@ module _ (t : Tables) (q : Queue Planned Delays) (r : IsRight t q) (a : SimpleTy
     typed_more : map (typed_at t.basis.bank.terms) more ≡ map (typed_at t.basis.bank.terms) t.terms ++ record { type = a; term = u } ∷ []
     typed_more = map-append (typed_at t.basis.bank.terms) t.terms ((a, id) ∷ [])
 
-    extends : Extends (sources t) (sources t')
+    extends : ExtendsState (sources t) (sources t')
     extends = record {
       noted = itself (sources t).noted;
       terms = (record { type = a; term = u } ∷ [], typed_more);
@@ -143,12 +143,12 @@ module _ (t : Tables) (q : Queue Planned Delays) (r : IsRight t q) (a : SimpleTy
     }
 
     loops_same : loops_in t' q.entries ≡ loops_in t q.entries
-    loops_same = loops-stay (declared_scope t.basis.bank) (sources t) (sources t') extends (names_in t) (names_in t) (λ c h. refl) (λ c h. h) q.entries r.queue
+    loops_same = loops-stay (without_witnesses t.basis.bank) (sources t) (sources t') extends (naming_in t) (naming_in t) (λ c h. refl) (λ c h. h) q.entries r.queue
 
     state_more : the_state t' q ≡ appended
-    state_more = ap₂ (λ (us : List Typed) ls. record (parts t) { terms = us; queue = queue_of ls; pushes = q.pushes }) typed_more loops_same
+    state_more = ap₂ (λ (us : List Typed) ls. record (state_parts t) { terms = us; queue = queue_of ls; pushes = q.pushes }) typed_more loops_same
 
-    right_more : IsRight t' q
+    right_more : IsRightState t' q
     right_more = record {
       basis = r.basis;
       clauses = r.clauses;
@@ -168,23 +168,23 @@ module _ (t : Tables) (q : Queue Planned Delays) (r : IsRight t q) (a : SimpleTy
       holes = r.holes;
       budget = r.budget;
       terms = each-last (λ (l : Listing). IsPlace t.basis.bank.terms l.1) t.terms (a, id) r.terms place;
-      queue = entries-stay (declared_scope t.basis.bank) (sources t) (sources t') extends (names_in t) (names_in t) (λ c h. refl) (λ c h. h) q.entries r.queue;
+      queue = entries-stay (without_witnesses t.basis.bank) (sources t) (sources t') extends (naming_in t) (naming_in t) (λ c h. refl) (λ c h. h) q.entries r.queue;
     }
 
-    pub right-term : (x : List Listing) → x ≡ with_listed a id t.terms → IsRight (record t { terms = x }) q
+    pub right-term : (x : List Listing) → x ≡ with_listed a id t.terms → IsRightState (record t { terms = x }) q
     right-term x is =
-        let R : List Listing → Type 0 = λ xs. IsRight (record t { terms = xs }) q in
+        let R : List Listing → Type 0 = λ xs. IsRightState (record t { terms = xs }) q in
         subst R (sym is) (go (list_any (nat_eq id) (ids_of a t.terms)))
       where
-        go : (b : Bool) → IsRight (record t { terms = if b then t.terms else t.terms ++ (a, id) ∷ [] }) q
+        go : (b : Bool) → IsRightState (record t { terms = if b then t.terms else t.terms ++ (a, id) ∷ [] }) q
         go true = r
         go false = right_more
 
     -- the term is new: what is pushed brings the state to where it is to come
-    pub is-new : (mode : Mode) (x : List Listing) → x ≡ with_listed a id t.terms → list_any (nat_eq id) (ids_of a t.terms) ≡ false → pushed mode (map (λ l. inst l u) (universals a (sources t))) (the_state (record t { terms = x }) q) ≡ with_term mode a u (the_state t q)
+    pub is-new : (mode : Mode) (x : List Listing) → x ≡ with_listed a id t.terms → list_any (nat_eq id) (ids_of a t.terms) ≡ false → with_commands mode (map (λ l. inst l u) (universals a (sources t))) (the_state (record t { terms = x }) q) ≡ with_term mode a u (the_state t q)
     is-new mode x is e =
-        ap (λ xs. pushed mode (map (λ l. inst l u) (universals a (sources t))) (the_state (record t { terms = xs }) q)) (is ∙ ap (λ (b : Bool). if b then t.terms else t.terms ++ (a, id) ∷ []) e)
-        ∙ ap (pushed mode (map (λ l. inst l u) (universals a (sources t)))) state_more
+        ap (λ xs. with_commands mode (map (λ l. inst l u) (universals a (sources t))) (the_state (record t { terms = xs }) q)) (is ∙ ap (λ (b : Bool). if b then t.terms else t.terms ++ (a, id) ∷ []) e)
+        ∙ ap (with_commands mode (map (λ l. inst l u) (universals a (sources t)))) state_more
         ∙ by_test mode false (there_is ∙ e)
 
 -- the literal at the first of some places

@@ -5,7 +5,7 @@ ghost use Rattle.stt_core.specs.View.{the_type, the_head};
 ghost use Rattle.term_bank.specs.Content.{content_scope};
 ghost use Rattle.search_spec.specs.Heads.{places_to};
 ghost use Rattle.prover_state.specs.Internal.Holes.{binders_onto, blank_hole, argument_holes, after_head};
-ghost use Rattle.prover_state.specs.Internal.Chains.{chain, Extends};
+ghost use Rattle.prover_state.specs.Internal.Chains.{chain, ExtendsCells};
 
 use crate::contexts::Contexts;
 use crate::fitting::small;
@@ -160,7 +160,7 @@ impl Cells {
         requires linked { cell.1 ≤ length self.old }
         ensures list { IfOk result (λ k. chain self.new k ≡ cell.0 ∷ chain self.old cell.1) }
         ensures within { IfOk result (λ k. k ≤ length self.new) }
-        ensures extends { Extends self.old self.new }
+        ensures extends { ExtendsCells self.old self.new }
     {
         self.items.push(cell)?;
         Ok(self.items.len())
@@ -178,7 +178,7 @@ impl Cells {
         requires linked { rest ≤ length self.old }
         ensures list { IfOk result (λ k. chain self.new k ≡ blank_hole (reverse context.now.value) (the_type ty.now) ∷ chain self.old rest) }
         ensures within { IfOk result (λ k. k ≤ length self.new) }
-        ensures extends { Extends self.old self.new }
+        ensures extends { ExtendsCells self.old self.new }
     {
         let inner = contexts.under(alloc, context, ty)?;
         let base = target_of(ty);
@@ -203,7 +203,7 @@ impl Cells {
         requires linked { rest ≤ length self.old }
         ensures list { IfOk result (λ k. chain self.new k ≡ argument_holes (reverse context.now.value) (the_type ty.now) ++ chain self.old rest) }
         ensures within { IfOk result (λ k. k ≤ length self.new) }
-        ensures extends { Extends self.old self.new }
+        ensures extends { ExtendsCells self.old self.new }
     {
         match ty {
             Ty::Base(_) => Ok(rest),
@@ -225,7 +225,7 @@ impl Cells {
         requires there { k ≤ length self.old }
         ensures list { IfOk result (λ n. chain self.new n ≡ after_head (the_type ty.now) (chain self.old k)) }
         ensures within { IfOk result (λ n. n ≤ length self.new) }
-        ensures extends { Extends self.old self.new }
+        ensures extends { ExtendsCells self.old self.new }
     {
         if k == 0 {
             return Ok(0);

@@ -7,10 +7,10 @@ ghost use Rattle.search_spec.specs.Each.{Each};
 ghost use Rattle.search_spec.specs.Clauses.{instance_clauses, with_clauses};
 ghost use Rattle.search_spec.specs.Numbered.{numbers};
 ghost use Rattle.search_spec.specs.Shallow.{is_shallow_literal};
-ghost use Rattle.literal_map.specs.Atoms.{literal_at, IsAtom};
+ghost use Rattle.literal_map.specs.Atoms.{bank_literal, IsAtom};
 ghost use Rattle.sat_core.specs.Solver.{learned};
 ghost use Rattle.tableau_clauses.specs.Table.{the_clauses};
-ghost use Rattle.prover_state.specs.Internal.Names.{IsNumber};
+ghost use Rattle.prover_state.specs.Internal.Names.{IsNumberIn};
 ghost use Rattle.prover_state.specs.Internal.Steps.{StepsGrow};
 
 use literal_map::{Instance, LitLists, LitTable};
@@ -34,8 +34,8 @@ pub(crate) fn literal_of(literals: &[SatLit], i: usize) -> SatLit
 /// Whether no literal is too deep.
 pub(crate) fn are_shallow(bank: &Bank, lits: &LitTable, literals: &[SatLit]) -> bool
     requires atoms { All (IsAtom bank.now) lits.now }
-    requires numbers { Each (IsNumber lits.now) literals.now }
-    ensures { result ≡ list_all is_shallow_literal (map (literal_at bank.now.terms lits.now) literals.now) }
+    requires numbers { Each (IsNumberIn lits.now) literals.now }
+    ensures { result ≡ list_all is_shallow_literal (map (bank_literal bank.now.terms lits.now) literals.now) }
 {
     for i in 0..literals.len() {
         if bank.depth(lits.formula_of(literal_of(literals, i))) > DEPTH {
@@ -48,8 +48,8 @@ pub(crate) fn are_shallow(bank: &Bank, lits: &LitTable, literals: &[SatLit]) -> 
 /// Whether no literal of the lists is too deep.
 pub(crate) fn all_shallow(bank: &Bank, lits: &LitTable, lists: &LitLists) -> bool
     requires atoms { All (IsAtom bank.now) lits.now }
-    requires numbers { Each (Each (IsNumber lits.now)) lists.now }
-    ensures { result ≡ list_all (list_all is_shallow_literal) (map (map (literal_at bank.now.terms lits.now)) lists.now) }
+    requires numbers { Each (Each (IsNumberIn lits.now)) lists.now }
+    ensures { result ≡ list_all (list_all is_shallow_literal) (map (map (bank_literal bank.now.terms lits.now)) lists.now) }
 {
     for i in 0..lists.len() {
         if !are_shallow(bank, lits, lists.at(i).as_slice()) {

@@ -9,7 +9,7 @@ ghost use Rattle.prover_state.specs.declared.command.Delays.{Delays};
 ghost use Rattle.prover_state.specs.Internal.Fitting.{logical_for, later_heads};
 ghost use Rattle.prover_state.specs.Internal.Heads.{the_hole_head};
 ghost use Rattle.prover_state.specs.Internal.Names.{sketch_at};
-ghost use Rattle.prover_state.specs.Internal.Standing.{declared_scope, rows_in, sketches_in, IsRight};
+ghost use Rattle.prover_state.specs.Internal.Standing.{without_witnesses, rows_in, sketches_in, IsRightState};
 
 use crate::head::HoleHead;
 use crate::places::id_of;
@@ -55,10 +55,10 @@ fn logical_head(bases: usize, base: u32, i: usize) -> Result<HoleHead, AllocErro
 impl Tables {
     /// The witness or the logic's own head at a place behind the variables and the names of a base type, with the first witnesses.
     fn later_head(&self, base: u32, witnesses: usize, place: usize) -> Result<HoleHead, AllocError>
-        requires right { (q : Queue Planned Delays) × IsRight self.now q }
+        requires right { (q : Queue Planned Delays) × IsRightState self.now q }
         requires few { witnesses ≤ length (rows_in self.now.basis) }
-        requires within { place < length (later_heads (with_rows (declared_scope self.now.basis.bank) (take witnesses (rows_in self.now.basis))) base) }
-        ensures { IfOk result (λ h. slice_get (later_heads (with_rows (declared_scope self.now.basis.bank) (take witnesses (rows_in self.now.basis))) base) place ≡ Some (the_hole_head h)) }
+        requires within { place < length (later_heads (with_rows (without_witnesses self.now.basis.bank) (take witnesses (rows_in self.now.basis))) base) }
+        ensures { IfOk result (λ h. slice_get (later_heads (with_rows (without_witnesses self.now.basis.bank) (take witnesses (rows_in self.now.basis))) base) place ≡ Some (the_hole_head h)) }
     {
         let takers = self.takers.terms_of(&Ty::Base(base));
         let count = takers.partition_point(
@@ -80,11 +80,11 @@ impl Tables {
         witnesses: usize,
         place: usize,
     ) -> Result<HoleHead, AllocError>
-        requires right { (q : Queue Planned Delays) × IsRight self.now q }
+        requires right { (q : Queue Planned Delays) × IsRightState self.now q }
         requires number { p < length (sketches_in self.now) }
         requires few { witnesses ≤ length (rows_in self.now.basis) }
-        requires within { place < length (heads_for (with_rows (declared_scope self.now.basis.bank) (take witnesses (rows_in self.now.basis))) (first_hole [] (sketch_at (sketches_in self.now) p).partial)) }
-        ensures { IfOk result (λ h. slice_get (heads_for (with_rows (declared_scope self.now.basis.bank) (take witnesses (rows_in self.now.basis))) (first_hole [] (sketch_at (sketches_in self.now) p).partial)) place ≡ Some (the_hole_head h)) }
+        requires within { place < length (heads_for (with_rows (without_witnesses self.now.basis.bank) (take witnesses (rows_in self.now.basis))) (first_hole [] (sketch_at (sketches_in self.now) p).partial)) }
+        ensures { IfOk result (λ h. slice_get (heads_for (with_rows (without_witnesses self.now.basis.bank) (take witnesses (rows_in self.now.basis))) (first_hole [] (sketch_at (sketches_in self.now) p).partial)) place ≡ Some (the_hole_head h)) }
     {
         let base = self.open_holes.base(p);
         let variables = self.open_holes.variables(self.alloc, p)?;

@@ -1,7 +1,7 @@
 //! The heads that fill holes, and their numbers.
 ghost use Rattle.std.specs.Prelude.{◌≡◌, ◌<◌, ◌+◌, ◌*◌};
 ghost use Rattle.stt_core.specs.View.{the_head};
-ghost use Rattle.prover_state.specs.Internal.HeadNumbers.{head_at, IsHeadNumber};
+ghost use Rattle.prover_state.specs.Internal.HeadNumbers.{head_numbered, IsHeadNumber};
 ghost use Rattle.prover_state.specs.Internal.Heads.{the_hole_head};
 
 use stt_core::{Head, Ty};
@@ -52,7 +52,7 @@ fn number_of_kind(kind: usize, k: u32) -> usize
 
 /// The place of a head in the list of all heads, in which the kinds take turns.
 pub fn number_of(head: HoleHead) -> usize
-    ensures head { head_at result ≡ the_hole_head head }
+    ensures head { head_numbered result ≡ the_hole_head head }
     ensures number { IsHeadNumber result }
 {
     match head {
@@ -71,7 +71,7 @@ pub fn number_of(head: HoleHead) -> usize
 /// The head at a place of the list of all heads.
 pub fn numbered_head(h: usize) -> HoleHead
     requires { IsHeadNumber h }
-    ensures { the_hole_head result ≡ head_at h }
+    ensures { the_hole_head result ≡ head_numbered h }
 {
     let k = (h / KINDS) as u32;
     match h % KINDS {

@@ -1,11 +1,11 @@
 //! Instances of rules.
 ghost use Rattle.std.specs.Prelude.{◌≡◌, map, OnOk};
-ghost use Rattle.literal_map.specs.Atoms.{literal_at};
+ghost use Rattle.literal_map.specs.Atoms.{bank_literal};
 ghost use Rattle.search_spec.specs.Each.{Each};
 ghost use Rattle.search_spec.specs.Instances.{with_instance};
 ghost use Rattle.prover_state.specs.Delays.{the_mode};
-ghost use Rattle.prover_state.specs.Internal.Names.{IsNumber};
-ghost use Rattle.prover_state.specs.Internal.Standing.{the_state, IsRight};
+ghost use Rattle.prover_state.specs.Internal.Names.{IsNumberIn};
+ghost use Rattle.prover_state.specs.Internal.Standing.{the_state, IsRightState};
 ghost use Rattle.prover_state.specs.Internal.Steps.{StepsGrow};
 
 use crate::clauses::{add_clauses, all_shallow, joined};
@@ -20,11 +20,11 @@ impl<W: Weigher<Waiting>> Core<W> {
     /// Adds the clauses of an instance, and the literals of its alternatives are to be processed, unless one of them is too deep. Room
     /// for their entries is made before the clauses are added.
     pub fn add_instance(&mut self, instance: Instance) -> Result<(), AllocError>
-        requires right { IsRight self.old.tables self.old.plan }
-        requires principals { Each (IsNumber self.old.tables.basis.lits) instance.principals }
-        requires alternatives { Each (Each (IsNumber self.old.tables.basis.lits)) instance.alternatives }
-        ensures state { OnOk result (let d = literal_at self.old.tables.basis.bank.terms self.old.tables.basis.lits in the_state self.new.tables self.new.plan ≡ with_instance (the_mode self.old.plan.rule.mode) (map d instance.principals) (map (map d) instance.alternatives) (the_state self.old.tables self.old.plan)) }
-        ensures right { OnOk result (IsRight self.new.tables self.new.plan) }
+        requires right { IsRightState self.old.tables self.old.plan }
+        requires principals { Each (IsNumberIn self.old.tables.basis.lits) instance.principals }
+        requires alternatives { Each (Each (IsNumberIn self.old.tables.basis.lits)) instance.alternatives }
+        ensures state { OnOk result (let d = bank_literal self.old.tables.basis.bank.terms self.old.tables.basis.lits in the_state self.new.tables self.new.plan ≡ with_instance (the_mode self.old.plan.rule.mode) (map d instance.principals) (map (map d) instance.alternatives) (the_state self.old.tables self.old.plan)) }
+        ensures right { OnOk result (IsRightState self.new.tables self.new.plan) }
         ensures tables { OnOk result (self.new.tables ≡ record self.old.tables { seen = self.new.tables.seen; steps = self.new.tables.steps; solver = self.new.tables.solver }) }
         ensures steps { OnOk result (StepsGrow (λ i. i ≡ instance) self.old.tables.steps self.new.tables.steps) }
         ensures rule { OnOk result (self.new.plan.rule ≡ self.old.plan.rule) }

@@ -1,12 +1,12 @@
 //! Literals that were processed.
 ghost use Rattle.std.specs.Prelude.{◌≡◌, ◌<◌, [], ◌∷◌, ◌++◌, length, if◌then◌else◌, OnOk};
 ghost use Rattle.stt_core.specs.SimpleType.{SimpleType};
-ghost use Rattle.literal_map.specs.Atoms.{literal_at};
-ghost use Rattle.mating_rules.specs.Noted.{IsRight as IsRightIndex};
+ghost use Rattle.literal_map.specs.Atoms.{bank_literal};
+ghost use Rattle.mating_rules.specs.Noted.{IsRightIndex};
 ghost use Rattle.instantiate.specs.Listing.{ids_of};
 ghost use Rattle.search_spec.specs.Each.{Each};
-ghost use Rattle.prover_state.specs.Internal.Names.{IsNumber};
-ghost use Rattle.prover_state.specs.Internal.Standing.{can_pair, is_universal, the_state, IsBasis, IsRight};
+ghost use Rattle.prover_state.specs.Internal.Names.{IsNumberIn};
+ghost use Rattle.prover_state.specs.Internal.Standing.{can_pair, is_universal, the_state, IsBasis, IsRightState};
 
 use crate::fitting::small;
 use crate::shape::{has_equal_sides, quantified_type};
@@ -20,7 +20,7 @@ impl Tables {
     /// Lists the place behind the noted literals for a literal that is to stand there, where it is universal.
     fn list_universal(&mut self, lit: SatLit) -> Result<(), AllocError>
         requires basis { IsBasis self.old.basis }
-        requires number { IsNumber self.old.basis.lits lit }
+        requires number { IsNumberIn self.old.basis.lits lit }
         requires places { (a : SimpleType) → Each (λ i. i < length self.old.noted.items) (ids_of a self.old.universals) }
         ensures listed { OnOk result ((a : SimpleType) → ids_of a self.new.universals ≡ (if is_universal self.old.basis.bank.terms self.old.basis.lits a lit then ids_of a self.old.universals ++ length self.old.noted.items ∷ [] else ids_of a self.old.universals)) }
         ensures tables { self.new ≡ record self.old { universals = self.new.universals } }
@@ -42,7 +42,7 @@ impl Tables {
     /// Adds a literal to the index, where it can be the partner of another one.
     fn index_literal(&mut self, lit: SatLit) -> Result<(), AllocError>
         requires basis { IsBasis self.old.basis }
-        requires number { IsNumber self.old.basis.lits lit }
+        requires number { IsNumberIn self.old.basis.lits lit }
         requires index { IsRightIndex self.old.basis.bank.terms self.old.basis.lits self.old.index }
         ensures noted { OnOk result (self.new.index.noted ≡ (if can_pair self.old.basis.bank.terms self.old.basis.lits lit then self.old.index.noted ++ lit ∷ [] else self.old.index.noted)) }
         ensures index { OnOk result (IsRightIndex self.old.basis.bank.terms self.old.basis.lits self.new.index) }
@@ -60,10 +60,10 @@ impl Tables {
 impl<W: Weigher<Waiting>> Core<W> {
     /// A literal is noted, as the last one.
     pub fn note_literal(&mut self, lit: SatLit) -> Result<(), AllocError>
-        requires right { IsRight self.old.tables self.old.plan }
-        requires number { IsNumber self.old.tables.basis.lits lit }
-        ensures state { OnOk result (let s = the_state self.old.tables self.old.plan in the_state self.new.tables self.new.plan ≡ record s { noted = s.noted ++ literal_at self.old.tables.basis.bank.terms self.old.tables.basis.lits lit ∷ [] }) }
-        ensures right { OnOk result (IsRight self.new.tables self.new.plan) }
+        requires right { IsRightState self.old.tables self.old.plan }
+        requires number { IsNumberIn self.old.tables.basis.lits lit }
+        ensures state { OnOk result (let s = the_state self.old.tables self.old.plan in the_state self.new.tables self.new.plan ≡ record s { noted = s.noted ++ bank_literal self.old.tables.basis.bank.terms self.old.tables.basis.lits lit ∷ [] }) }
+        ensures right { OnOk result (IsRightState self.new.tables self.new.plan) }
         ensures tables { OnOk result (self.new.tables ≡ record self.old.tables { noted = self.new.tables.noted; index = self.new.tables.index; universals = self.new.tables.universals }) }
         ensures plan { self.new.plan ≡ self.old.plan }
     {

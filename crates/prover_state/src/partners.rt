@@ -1,15 +1,15 @@
 //! Loops over the partners of a literal, and over the terms for one.
 ghost use Rattle.std.specs.Prelude.{◌≡◌, true, map, OnOk};
-ghost use Rattle.literal_map.specs.Atoms.{atom_at, literal_at};
+ghost use Rattle.literal_map.specs.Atoms.{bank_atom, bank_literal};
 ghost use Rattle.search_spec.specs.Partners.{matings, confrontations};
 ghost use Rattle.search_spec.specs.Spine.{is_spine};
-ghost use Rattle.search_spec.specs.State.{inst, pushed};
+ghost use Rattle.search_spec.specs.State.{inst, with_commands};
 ghost use Rattle.search_spec.specs.Terms.{terms_of};
 ghost use Rattle.prover_state.specs.Delays.{the_mode};
-ghost use Rattle.prover_state.specs.Internal.Names.{IsNumber};
+ghost use Rattle.prover_state.specs.Internal.Names.{IsNumberIn};
 ghost use Rattle.prover_state.specs.Internal.Pending.{equation_type, range_of};
-ghost use Rattle.prover_state.specs.Internal.Shapes.{IsBaseEquation, IsQuantified};
-ghost use Rattle.prover_state.specs.Internal.Standing.{the_state, IsRight};
+ghost use Rattle.prover_state.specs.Internal.Shapes.{IsBaseEquation, IsQuantifiedFormula};
+ghost use Rattle.prover_state.specs.Internal.Standing.{the_state, IsRightState};
 
 use crate::clauses::literal_of;
 use crate::command::{Command, Over};
@@ -24,11 +24,11 @@ impl<W: Weigher<Waiting>> Core<W> {
     /// A literal, whose atom is a compared constant with arguments, is to be mated with each noted one of the other sign that has this
     /// head.
     pub fn push_matings(&mut self, lit: SatLit) -> Result<(), AllocError>
-        requires right { IsRight self.old.tables self.old.plan }
-        requires number { IsNumber self.old.tables.basis.lits lit }
-        requires spine { is_spine (atom_at self.old.tables.basis.bank.terms self.old.tables.basis.lits lit.var.0) ≡ true }
-        ensures state { OnOk result (let s = the_state self.old.tables self.old.plan in the_state self.new.tables self.new.plan ≡ pushed (the_mode self.old.plan.rule.mode) (matings (literal_at self.old.tables.basis.bank.terms self.old.tables.basis.lits lit) s.noted) s) }
-        ensures right { OnOk result (IsRight self.new.tables self.new.plan) }
+        requires right { IsRightState self.old.tables self.old.plan }
+        requires number { IsNumberIn self.old.tables.basis.lits lit }
+        requires spine { is_spine (bank_atom self.old.tables.basis.bank.terms self.old.tables.basis.lits lit.var.0) ≡ true }
+        ensures state { OnOk result (let s = the_state self.old.tables self.old.plan in the_state self.new.tables self.new.plan ≡ with_commands (the_mode self.old.plan.rule.mode) (matings (bank_literal self.old.tables.basis.bank.terms self.old.tables.basis.lits lit) s.noted) s) }
+        ensures right { OnOk result (IsRightState self.new.tables self.new.plan) }
         ensures tables { self.new.tables ≡ self.old.tables }
         ensures rule { OnOk result (self.new.plan.rule ≡ self.old.plan.rule) }
     {
@@ -47,11 +47,11 @@ impl<W: Weigher<Waiting>> Core<W> {
     /// An equation, or the negation of one, on a base type other than that of formulas is to be confronted with each noted one of the
     /// other sign, where a negated one has two different sides.
     pub fn push_confrontations(&mut self, lit: SatLit) -> Result<(), AllocError>
-        requires right { IsRight self.old.tables self.old.plan }
-        requires number { IsNumber self.old.tables.basis.lits lit }
-        requires equation { IsBaseEquation (atom_at self.old.tables.basis.bank.terms self.old.tables.basis.lits lit.var.0) }
-        ensures state { OnOk result (let s = the_state self.old.tables self.old.plan in let l = literal_at self.old.tables.basis.bank.terms self.old.tables.basis.lits lit in the_state self.new.tables self.new.plan ≡ pushed (the_mode self.old.plan.rule.mode) (confrontations (equation_type l.atom) l s.noted) s) }
-        ensures right { OnOk result (IsRight self.new.tables self.new.plan) }
+        requires right { IsRightState self.old.tables self.old.plan }
+        requires number { IsNumberIn self.old.tables.basis.lits lit }
+        requires equation { IsBaseEquation (bank_atom self.old.tables.basis.bank.terms self.old.tables.basis.lits lit.var.0) }
+        ensures state { OnOk result (let s = the_state self.old.tables self.old.plan in let l = bank_literal self.old.tables.basis.bank.terms self.old.tables.basis.lits lit in the_state self.new.tables self.new.plan ≡ with_commands (the_mode self.old.plan.rule.mode) (confrontations (equation_type l.atom) l s.noted) s) }
+        ensures right { OnOk result (IsRightState self.new.tables self.new.plan) }
         ensures tables { self.new.tables ≡ self.old.tables }
         ensures rule { OnOk result (self.new.plan.rule ≡ self.old.plan.rule) }
     {
@@ -69,11 +69,11 @@ impl<W: Weigher<Waiting>> Core<W> {
 
     /// A literal that says of a predicate that it holds everywhere is to be instantiated with each term of the type.
     pub fn push_instances(&mut self, lit: SatLit) -> Result<(), AllocError>
-        requires right { IsRight self.old.tables self.old.plan }
-        requires number { IsNumber self.old.tables.basis.lits lit }
-        requires quantified { IsQuantified (atom_at self.old.tables.basis.bank.terms self.old.tables.basis.lits lit.var.0) }
-        ensures state { OnOk result (let s = the_state self.old.tables self.old.plan in let l = literal_at self.old.tables.basis.bank.terms self.old.tables.basis.lits lit in the_state self.new.tables self.new.plan ≡ pushed (the_mode self.old.plan.rule.mode) (map (inst l) (terms_of (range_of l.atom) s)) s) }
-        ensures right { OnOk result (IsRight self.new.tables self.new.plan) }
+        requires right { IsRightState self.old.tables self.old.plan }
+        requires number { IsNumberIn self.old.tables.basis.lits lit }
+        requires quantified { IsQuantifiedFormula (bank_atom self.old.tables.basis.bank.terms self.old.tables.basis.lits lit.var.0) }
+        ensures state { OnOk result (let s = the_state self.old.tables self.old.plan in let l = bank_literal self.old.tables.basis.bank.terms self.old.tables.basis.lits lit in the_state self.new.tables self.new.plan ≡ with_commands (the_mode self.old.plan.rule.mode) (map (inst l) (terms_of (range_of l.atom) s)) s) }
+        ensures right { OnOk result (IsRightState self.new.tables self.new.plan) }
         ensures tables { self.new.tables ≡ self.old.tables }
         ensures rule { OnOk result (self.new.plan.rule ≡ self.old.plan.rule) }
     {

@@ -1,13 +1,13 @@
 //! Pushes.
 ghost use Rattle.std.specs.Prelude.{◌≡◌, [], ◌∷◌, map, length, OnOk};
-ghost use Rattle.literal_map.specs.Atoms.{literal_at};
+ghost use Rattle.literal_map.specs.Atoms.{bank_literal};
 ghost use Rattle.search_spec.specs.Each.{Each};
 ghost use Rattle.search_spec.specs.Instances.{with_literal, with_literals};
-ghost use Rattle.search_spec.specs.State.{pushed};
+ghost use Rattle.search_spec.specs.State.{with_commands};
 ghost use Rattle.prover_state.specs.Delays.{the_mode};
-ghost use Rattle.prover_state.specs.Internal.Names.{command_at, AreNumbers, IsNumber};
+ghost use Rattle.prover_state.specs.Internal.Names.{command_at, IsNumberedCommand, IsNumberIn};
 ghost use Rattle.prover_state.specs.Internal.Pending.{loop_over, later_of, BeginsWith, HasWitnesses, IsSigned, IsEntry};
-ghost use Rattle.prover_state.specs.Internal.Standing.{declared_scope, names_in, sources, the_state, IsRight};
+ghost use Rattle.prover_state.specs.Internal.Standing.{without_witnesses, naming_in, sources, the_state, IsRightState};
 
 use crate::clauses::literal_of;
 use crate::command::{Command, Over, Planned, Rest};
@@ -21,10 +21,10 @@ use term_bank::equal_ids_for_equal_terms;
 impl<W: Weigher<Waiting>> Core<W> {
     /// Pushes the commands of a loop.
     pub fn push_loop(&mut self, planned: Planned) -> Result<(), AllocError>
-        requires right { IsRight self.old.tables self.old.plan }
-        requires entry { IsEntry (declared_scope self.old.tables.basis.bank) (names_in self.old.tables) (sources self.old.tables) planned }
-        ensures state { OnOk result (let first = command_at (names_in self.old.tables) planned.first in the_state self.new.tables self.new.plan ≡ pushed (the_mode self.old.plan.rule.mode) (first ∷ later_of (declared_scope self.old.tables.basis.bank) (sources self.old.tables) first planned.rest) (the_state self.old.tables self.old.plan)) }
-        ensures right { OnOk result (IsRight self.new.tables self.new.plan) }
+        requires right { IsRightState self.old.tables self.old.plan }
+        requires entry { IsEntry (without_witnesses self.old.tables.basis.bank) (naming_in self.old.tables) (sources self.old.tables) planned }
+        ensures state { OnOk result (let first = command_at (naming_in self.old.tables) planned.first in the_state self.new.tables self.new.plan ≡ with_commands (the_mode self.old.plan.rule.mode) (first ∷ later_of (without_witnesses self.old.tables.basis.bank) (sources self.old.tables) first planned.rest) (the_state self.old.tables self.old.plan)) }
+        ensures right { OnOk result (IsRightState self.new.tables self.new.plan) }
         ensures tables { self.new.tables ≡ self.old.tables }
         ensures rule { OnOk result (self.new.plan.rule ≡ self.old.plan.rule) }
     {
@@ -34,10 +34,10 @@ impl<W: Weigher<Waiting>> Core<W> {
 
     /// Pushes one command.
     pub fn push_alone(&mut self, command: Command) -> Result<(), AllocError>
-        requires right { IsRight self.old.tables self.old.plan }
-        requires numbers { AreNumbers (names_in self.old.tables) command }
-        ensures state { OnOk result (the_state self.new.tables self.new.plan ≡ pushed (the_mode self.old.plan.rule.mode) (command_at (names_in self.old.tables) command ∷ []) (the_state self.old.tables self.old.plan)) }
-        ensures right { OnOk result (IsRight self.new.tables self.new.plan) }
+        requires right { IsRightState self.old.tables self.old.plan }
+        requires numbers { IsNumberedCommand (naming_in self.old.tables) command }
+        ensures state { OnOk result (the_state self.new.tables self.new.plan ≡ with_commands (the_mode self.old.plan.rule.mode) (command_at (naming_in self.old.tables) command ∷ []) (the_state self.old.tables self.old.plan)) }
+        ensures right { OnOk result (IsRightState self.new.tables self.new.plan) }
         ensures tables { self.new.tables ≡ self.old.tables }
         ensures rule { OnOk result (self.new.plan.rule ≡ self.old.plan.rule) }
     {
@@ -50,14 +50,14 @@ impl<W: Weigher<Waiting>> Core<W> {
 
     /// Pushes a whole loop, which has so many commands and of which the first one is given.
     pub fn push_whole(&mut self, first: Command, over: Over, count: usize) -> Result<(), AllocError>
-        requires right { IsRight self.old.tables self.old.plan }
-        requires numbers { AreNumbers (names_in self.old.tables) first }
-        requires begins { let c = command_at (names_in self.old.tables) first in BeginsWith c (loop_over (declared_scope self.old.tables.basis.bank) (sources self.old.tables) over c) }
-        requires count { count ≡ length (loop_over (declared_scope self.old.tables.basis.bank) (sources self.old.tables) over (command_at (names_in self.old.tables) first)) }
+        requires right { IsRightState self.old.tables self.old.plan }
+        requires numbers { IsNumberedCommand (naming_in self.old.tables) first }
+        requires begins { let c = command_at (naming_in self.old.tables) first in BeginsWith c (loop_over (without_witnesses self.old.tables.basis.bank) (sources self.old.tables) over c) }
+        requires count { count ≡ length (loop_over (without_witnesses self.old.tables.basis.bank) (sources self.old.tables) over (command_at (naming_in self.old.tables) first)) }
         requires witnesses { HasWitnesses (sources self.old.tables) over }
-        requires signed { IsSigned over (command_at (names_in self.old.tables) first) }
-        ensures state { OnOk result (the_state self.new.tables self.new.plan ≡ pushed (the_mode self.old.plan.rule.mode) (loop_over (declared_scope self.old.tables.basis.bank) (sources self.old.tables) over (command_at (names_in self.old.tables) first)) (the_state self.old.tables self.old.plan)) }
-        ensures right { OnOk result (IsRight self.new.tables self.new.plan) }
+        requires signed { IsSigned over (command_at (naming_in self.old.tables) first) }
+        ensures state { OnOk result (the_state self.new.tables self.new.plan ≡ with_commands (the_mode self.old.plan.rule.mode) (loop_over (without_witnesses self.old.tables.basis.bank) (sources self.old.tables) over (command_at (naming_in self.old.tables) first)) (the_state self.old.tables self.old.plan)) }
+        ensures right { OnOk result (IsRightState self.new.tables self.new.plan) }
         ensures tables { self.new.tables ≡ self.old.tables }
         ensures rule { OnOk result (self.new.plan.rule ≡ self.old.plan.rule) }
     {
@@ -68,10 +68,10 @@ impl<W: Weigher<Waiting>> Core<W> {
 
     /// A literal is to be processed, unless it was seen before.
     pub fn see(&mut self, lit: SatLit) -> Result<(), AllocError>
-        requires right { IsRight self.old.tables self.old.plan }
-        requires number { IsNumber self.old.tables.basis.lits lit }
-        ensures state { OnOk result (the_state self.new.tables self.new.plan ≡ with_literal (the_mode self.old.plan.rule.mode) (literal_at self.old.tables.basis.bank.terms self.old.tables.basis.lits lit) (the_state self.old.tables self.old.plan)) }
-        ensures right { OnOk result (IsRight self.new.tables self.new.plan) }
+        requires right { IsRightState self.old.tables self.old.plan }
+        requires number { IsNumberIn self.old.tables.basis.lits lit }
+        ensures state { OnOk result (the_state self.new.tables self.new.plan ≡ with_literal (the_mode self.old.plan.rule.mode) (bank_literal self.old.tables.basis.bank.terms self.old.tables.basis.lits lit) (the_state self.old.tables self.old.plan)) }
+        ensures right { OnOk result (IsRightState self.new.tables self.new.plan) }
         ensures tables { OnOk result (self.new.tables ≡ record self.old.tables { seen = self.new.tables.seen }) }
         ensures rule { OnOk result (self.new.plan.rule ≡ self.old.plan.rule) }
     {
@@ -86,10 +86,10 @@ impl<W: Weigher<Waiting>> Core<W> {
 
     /// Sees literals one after the other.
     pub fn see_all(&mut self, lits: &[SatLit]) -> Result<(), AllocError>
-        requires right { IsRight self.old.tables self.old.plan }
-        requires numbers { Each (IsNumber self.old.tables.basis.lits) lits.now }
-        ensures state { OnOk result (the_state self.new.tables self.new.plan ≡ with_literals (the_mode self.old.plan.rule.mode) (map (literal_at self.old.tables.basis.bank.terms self.old.tables.basis.lits) lits.now) (the_state self.old.tables self.old.plan)) }
-        ensures right { OnOk result (IsRight self.new.tables self.new.plan) }
+        requires right { IsRightState self.old.tables self.old.plan }
+        requires numbers { Each (IsNumberIn self.old.tables.basis.lits) lits.now }
+        ensures state { OnOk result (the_state self.new.tables self.new.plan ≡ with_literals (the_mode self.old.plan.rule.mode) (map (bank_literal self.old.tables.basis.bank.terms self.old.tables.basis.lits) lits.now) (the_state self.old.tables self.old.plan)) }
+        ensures right { OnOk result (IsRightState self.new.tables self.new.plan) }
         ensures tables { OnOk result (self.new.tables ≡ record self.old.tables { seen = self.new.tables.seen }) }
         ensures rule { OnOk result (self.new.plan.rule ≡ self.old.plan.rule) }
     {

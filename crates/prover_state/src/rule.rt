@@ -3,15 +3,15 @@ ghost use Rattle.std.specs.Prelude.{◌≡◌, ◌≢◌, ◌<◌, ◌-◌, ◌^
 ghost use Rattle.search_spec.specs.Each.{Each};
 ghost use Rattle.std.specs.Option.{ForSome};
 ghost use Rattle.tableau_calculus.specs.Literals.{Literal};
-ghost use Rattle.literal_map.specs.Atoms.{literal_at};
+ghost use Rattle.literal_map.specs.Atoms.{bank_literal};
 ghost use Rattle.literal_map.specs.declared.instance.RuleKind.TheVariants.{AllNeg as MakesWitness};
 ghost use Rattle.tableau_rules.specs.Uses.{principals_of, IsInstanceBy};
 ghost use Rattle.search_spec.specs.Instances.{with_instance};
 ghost use Rattle.prover_state.specs.Delays.{the_mode};
 ghost use Rattle.prover_state.specs.Internal.Growing.{BasisGrows};
-ghost use Rattle.prover_state.specs.Internal.Names.{IsNumber, IsPlace};
-ghost use Rattle.prover_state.specs.Internal.Standing.{rows_in, the_state, IsBasis, IsRight};
-ghost use Rattle.prover_state.specs.Internal.Steps.{IsMade, StepsGrow};
+ghost use Rattle.prover_state.specs.Internal.Names.{IsNumberIn, IsPlace};
+ghost use Rattle.prover_state.specs.Internal.Standing.{rows_in, the_state, IsBasis, IsRightState};
+ghost use Rattle.prover_state.specs.Internal.Steps.{IsMadeInstance, StepsGrow};
 
 use crate::tables::{Basis, Core};
 use crate::waiting::Waiting;
@@ -28,16 +28,16 @@ impl Basis {
         by: &BankUse,
     ) -> Result<Instance, AllocError>
         requires good { IsBasis self.old }
-        requires first { ForSome by.now.first (IsNumber self.old.lits) }
-        requires second { ForSome by.now.second (IsNumber self.old.lits) }
+        requires first { ForSome by.now.first (IsNumberIn self.old.lits) }
+        requires second { ForSome by.now.second (IsNumberIn self.old.lits) }
         requires term { ForSome by.now.term (IsPlace self.old.bank.terms) }
         requires few { length self.old.witnesses < 2 ^ 32 - 1 }
         requires kind { by.now.kind ≢ MakesWitness }
         requires fits { (alternatives : List (List Literal)) × IsInstanceBy self.old.bank self.old.lits (rows_in self.old) by.now alternatives }
         ensures by { IfOk result (λ i. i.by ≡ by.now) }
         ensures principals { IfOk result (λ i. i.principals ≡ principals_of by.now) }
-        ensures numbers { IfOk result (λ i. Each (Each (IsNumber self.new.lits)) i.alternatives) }
-        ensures instance { IfOk result (λ i. IsInstanceBy self.new.bank self.new.lits (rows_in self.new) by.now (map (map (literal_at self.new.bank.terms self.new.lits)) i.alternatives)) }
+        ensures numbers { IfOk result (λ i. Each (Each (IsNumberIn self.new.lits)) i.alternatives) }
+        ensures instance { IfOk result (λ i. IsInstanceBy self.new.bank self.new.lits (rows_in self.new) by.now (map (map (bank_literal self.new.bank.terms self.new.lits)) i.alternatives)) }
         ensures good { OnOk result (IsBasis self.new) }
         ensures grows { OnOk result (BasisGrows self.old self.new) }
     {
@@ -62,18 +62,18 @@ impl Basis {
 impl<W: Weigher<Waiting>> Core<W> {
     /// Adds the instance of a rule that makes no witness.
     pub fn apply_rule(&mut self, by: BankUse) -> Result<(), AllocError>
-        requires right { IsRight self.old.tables self.old.plan }
-        requires first { ForSome by.first (IsNumber self.old.tables.basis.lits) }
-        requires second { ForSome by.second (IsNumber self.old.tables.basis.lits) }
+        requires right { IsRightState self.old.tables self.old.plan }
+        requires first { ForSome by.first (IsNumberIn self.old.tables.basis.lits) }
+        requires second { ForSome by.second (IsNumberIn self.old.tables.basis.lits) }
         requires term { ForSome by.term (IsPlace self.old.tables.basis.bank.terms) }
         requires few { length self.old.tables.basis.witnesses < 2 ^ 32 - 1 }
         requires kind { by.kind ≢ MakesWitness }
         requires fits { (alternatives : List (List Literal)) × IsInstanceBy self.old.tables.basis.bank self.old.tables.basis.lits (rows_in self.old.tables.basis) by alternatives }
         ensures state { OnOk result ((alternatives : List (List Literal)) → IsInstanceBy self.old.tables.basis.bank self.old.tables.basis.lits (rows_in self.old.tables.basis) by alternatives
-            → the_state self.new.tables self.new.plan ≡ with_instance (the_mode self.old.plan.rule.mode) (map (literal_at self.old.tables.basis.bank.terms self.old.tables.basis.lits) (principals_of by)) alternatives (the_state self.old.tables self.old.plan)) }
-        ensures right { OnOk result (IsRight self.new.tables self.new.plan) }
+            → the_state self.new.tables self.new.plan ≡ with_instance (the_mode self.old.plan.rule.mode) (map (bank_literal self.old.tables.basis.bank.terms self.old.tables.basis.lits) (principals_of by)) alternatives (the_state self.old.tables self.old.plan)) }
+        ensures right { OnOk result (IsRightState self.new.tables self.new.plan) }
         ensures basis { OnOk result (BasisGrows self.old.tables.basis self.new.tables.basis) }
-        ensures steps { OnOk result (StepsGrow (IsMade self.new.tables.basis) self.old.tables.steps self.new.tables.steps) }
+        ensures steps { OnOk result (StepsGrow (IsMadeInstance self.new.tables.basis) self.old.tables.steps self.new.tables.steps) }
         ensures tables { OnOk result (self.new.tables ≡ record self.old.tables { basis = self.new.tables.basis; seen = self.new.tables.seen; steps = self.new.tables.steps; solver = self.new.tables.solver }) }
         ensures rule { OnOk result (self.new.plan.rule ≡ self.old.plan.rule) }
     {

@@ -5,7 +5,7 @@ ghost use Rattle.stt_core.specs.View.{the_head};
 ghost use Rattle.term_bank.specs.Terms.{term_at};
 ghost use Rattle.search_spec.specs.Closed.{is_closed};
 ghost use Rattle.search_spec.specs.Selections.{selection_by};
-ghost use Rattle.prover_state.specs.Internal.Selecting.{parts, head_selection, IsSelected};
+ghost use Rattle.prover_state.specs.Internal.Selecting.{term_parts, head_selection, IsSelectedIn};
 
 use stt_core::Head;
 use term_bank::{Bank, Id, Node};
@@ -20,7 +20,7 @@ pub(crate) enum Selected {
 
 /// What a head does with a closed predicate.
 fn selected_by(head: &Head, f: Id) -> Selected
-    ensures { (terms : List Lambda) → f < length terms → is_closed (term_at terms f) ≡ true → IsSelected terms (selection_by (the_head head.now) (term_at terms f)) result }
+    ensures { (terms : List Lambda) → f < length terms → is_closed (term_at terms f) ≡ true → IsSelectedIn terms (selection_by (the_head head.now) (term_at terms f)) result }
 {
     match head {
         Head::Bound(_) => Selected::Nothing,
@@ -39,7 +39,7 @@ fn selected_by(head: &Head, f: Id) -> Selected
 /// The predicate by which a term chooses or describes at its head, where it is closed.
 pub(crate) fn selection_of(bank: &Bank, id: Id) -> Selected
     requires { id < length bank.now.terms }
-    ensures { IsSelected bank.now.terms (head_selection (term_at bank.now.terms id)) result }
+    ensures { IsSelectedIn bank.now.terms (head_selection (term_at bank.now.terms id)) result }
 {
     match bank.node(id) {
         Node::App { head, args } => {
@@ -59,7 +59,7 @@ pub(crate) fn selection_of(bank: &Bank, id: Id) -> Selected
 /// How many parts a term has.
 pub(crate) fn count_parts(bank: &Bank, id: Id) -> usize
     requires { id < length bank.now.terms }
-    ensures { result ≡ length (parts (term_at bank.now.terms id)) }
+    ensures { result ≡ length (term_parts (term_at bank.now.terms id)) }
 {
     match bank.node(id) {
         Node::App { head: _, args } => args.len(),
@@ -70,9 +70,9 @@ pub(crate) fn count_parts(bank: &Bank, id: Id) -> usize
 /// A part of a term. It has a smaller number.
 pub fn part_of(bank: &Bank, id: Id, i: usize) -> Id
     requires number { id < length bank.now.terms }
-    requires within { i < length (parts (term_at bank.now.terms id)) }
+    requires within { i < length (term_parts (term_at bank.now.terms id)) }
     ensures smaller { result < id }
-    ensures part { slice_get (parts (term_at bank.now.terms id)) i ≡ Some (term_at bank.now.terms result) }
+    ensures part { slice_get (term_parts (term_at bank.now.terms id)) i ≡ Some (term_at bank.now.terms result) }
 {
     match bank.node(id) {
         Node::App { head: _, args } => args.at(i),

@@ -1,12 +1,12 @@
 //! The choices and the descriptions in a formula.
 ghost use Rattle.std.specs.Prelude.{◌≡◌, OnOk};
 ghost use Rattle.term_bank.specs.Terms.{term_at};
-ghost use Rattle.literal_map.specs.Atoms.{atom_at};
+ghost use Rattle.literal_map.specs.Atoms.{bank_atom};
 ghost use Rattle.search_spec.specs.Selections.{selections_in, with_selections};
 ghost use Rattle.prover_state.specs.Delays.{the_mode};
-ghost use Rattle.prover_state.specs.Internal.Names.{IsNumber, IsPlace};
+ghost use Rattle.prover_state.specs.Internal.Names.{IsNumberIn, IsPlace};
 ghost use Rattle.prover_state.specs.Internal.Selecting.{head_selection, AreTaken};
-ghost use Rattle.prover_state.specs.Internal.Standing.{the_state, IsRight};
+ghost use Rattle.prover_state.specs.Internal.Standing.{the_state, IsRightState};
 
 use crate::clauses::DEPTH;
 use crate::selected::{Selected, count_parts, part_of, selection_of};
@@ -21,10 +21,10 @@ use term_bank::Id;
 impl<W: Weigher<Waiting>> Core<W> {
     /// The predicate by which a term chooses or describes at its head is chosen by or described, unless it was before.
     fn select_head(&mut self, id: Id) -> Result<(), AllocError>
-        requires right { IsRight self.old.tables self.old.plan }
+        requires right { IsRightState self.old.tables self.old.plan }
         requires place { IsPlace self.old.tables.basis.bank.terms id }
         ensures state { OnOk result (the_state self.new.tables self.new.plan ≡ with_selections (the_mode self.old.plan.rule.mode) (head_selection (term_at self.old.tables.basis.bank.terms id)) (the_state self.old.tables self.old.plan)) }
-        ensures right { OnOk result (IsRight self.new.tables self.new.plan) }
+        ensures right { OnOk result (IsRightState self.new.tables self.new.plan) }
         ensures tables { OnOk result (self.new.tables ≡ record self.old.tables { chosen = self.new.tables.chosen; described = self.new.tables.described }) }
         ensures rule { OnOk result (self.new.plan.rule ≡ self.old.plan.rule) }
     {
@@ -39,12 +39,12 @@ impl<W: Weigher<Waiting>> Core<W> {
 
     /// Takes up what a term chooses or describes by, unless the term was walked before.
     fn walk(&mut self, walked: &mut IdSet, id: Id) -> Result<(), AllocError>
-        requires right { IsRight self.old.tables self.old.plan }
+        requires right { IsRightState self.old.tables self.old.plan }
         requires place { IsPlace self.old.tables.basis.bank.terms id }
         requires taken { AreTaken (the_state self.old.tables self.old.plan) self.old.tables.basis.bank.terms walked.old }
         ensures state { OnOk result (the_state self.new.tables self.new.plan ≡ with_selections (the_mode self.old.plan.rule.mode) (selections_in (term_at self.old.tables.basis.bank.terms id)) (the_state self.old.tables self.old.plan)) }
         ensures taken { OnOk result (AreTaken (the_state self.new.tables self.new.plan) self.old.tables.basis.bank.terms walked.new) }
-        ensures right { OnOk result (IsRight self.new.tables self.new.plan) }
+        ensures right { OnOk result (IsRightState self.new.tables self.new.plan) }
         ensures tables { OnOk result (self.new.tables ≡ record self.old.tables { chosen = self.new.tables.chosen; described = self.new.tables.described }) }
         ensures rule { OnOk result (self.new.plan.rule ≡ self.old.plan.rule) }
     {
@@ -66,10 +66,10 @@ impl<W: Weigher<Waiting>> Core<W> {
     /// they were before. The walk takes room for each level of the atom, and below the depth at which literals enter the clauses there
     /// is none.
     pub fn select(&mut self, lit: SatLit) -> Result<(), AllocError>
-        requires right { IsRight self.old.tables self.old.plan }
-        requires number { IsNumber self.old.tables.basis.lits lit }
-        ensures state { OnOk result (the_state self.new.tables self.new.plan ≡ with_selections (the_mode self.old.plan.rule.mode) (selections_in (atom_at self.old.tables.basis.bank.terms self.old.tables.basis.lits lit.var.0)) (the_state self.old.tables self.old.plan)) }
-        ensures right { OnOk result (IsRight self.new.tables self.new.plan) }
+        requires right { IsRightState self.old.tables self.old.plan }
+        requires number { IsNumberIn self.old.tables.basis.lits lit }
+        ensures state { OnOk result (the_state self.new.tables self.new.plan ≡ with_selections (the_mode self.old.plan.rule.mode) (selections_in (bank_atom self.old.tables.basis.bank.terms self.old.tables.basis.lits lit.var.0)) (the_state self.old.tables self.old.plan)) }
+        ensures right { OnOk result (IsRightState self.new.tables self.new.plan) }
         ensures tables { OnOk result (self.new.tables ≡ record self.old.tables { chosen = self.new.tables.chosen; described = self.new.tables.described }) }
         ensures rule { OnOk result (self.new.plan.rule ≡ self.old.plan.rule) }
     {

@@ -3,9 +3,9 @@ ghost use Rattle.std.specs.Prelude.{◌≡◌, ◌≢◌, ◌≤◌, ◌^◌, �
 ghost use Rattle.sat_base.specs.declared.literal.Var.{Var};
 ghost use Rattle.sat_base.specs.declared.literal.SatLit.{SatLit};
 ghost use Rattle.sat_log.specs.Propagation.{AreFailingDecisions, ReachesFalse};
-ghost use Rattle.sat_core.specs.Solver.{learned, AreAmong, Grows};
+ghost use Rattle.sat_core.specs.Solver.{learned, AreAmong, SolverGrows};
 ghost use Rattle.search_spec.specs.Unsatisfiable.{Unsatisfiable};
-ghost use Rattle.prover_state.specs.Internal.Standing.{the_state, IsRight};
+ghost use Rattle.prover_state.specs.Internal.Standing.{the_state, IsRightState};
 
 use crate::tables::Core;
 use crate::waiting::Waiting;
@@ -18,7 +18,7 @@ use term_bank::equal_ids_for_equal_terms;
 impl<W: Weigher<Waiting>> Core<W> {
     /// Whether the clauses are satisfiable, unless the conflicts of the mode, which are given, are spent first.
     pub fn solve(&mut self, conflicts: u64) -> Result<Answer, AllocError>
-        requires right { IsRight self.old.tables self.old.plan }
+        requires right { IsRightState self.old.tables self.old.plan }
         requires budget { conflicts ≡ self.old.plan.rule.mode.conflicts }
         ensures unsat { IfOk result (λ answer. answer ≡ Answer.Unsat → Unsatisfiable (the_state self.old.tables self.old.plan).clauses) }
         ensures sat { IfOk result (λ answer. answer ≡ Answer.Sat → Unsatisfiable (the_state self.old.tables self.old.plan).clauses → ⊥) }
@@ -28,8 +28,8 @@ impl<W: Weigher<Waiting>> Core<W> {
         ensures counted { IfOk result (λ answer. (spent : ℕ) → answer ≡ Answer.Spent spent → length (learned self.new.tables.solver) ≡ conflicts) }
         ensures failing { IfOk result (λ answer. (spent : ℕ) → answer ≡ Answer.Spent spent → (decisions : List SatLit) × AreFailingDecisions (self.new.tables.solver.clauses ++ learned self.new.tables.solver) decisions) }
         ensures enough { IfOk result (λ answer. (spent : ℕ) (variables : List Var) → AreAmong variables self.new.tables.solver.clauses → 3 ^ length variables ≤ conflicts → answer ≢ Answer.Spent spent) }
-        ensures grows { OnOk result (Grows self.old.tables.solver self.new.tables.solver) }
-        ensures right { IsRight self.new.tables self.new.plan }
+        ensures grows { OnOk result (SolverGrows self.old.tables.solver self.new.tables.solver) }
+        ensures right { IsRightState self.new.tables self.new.plan }
         ensures tables { self.new.tables ≡ record self.old.tables { solver = self.new.tables.solver } }
         ensures plan { self.new.plan ≡ self.old.plan }
     {

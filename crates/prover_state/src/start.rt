@@ -6,7 +6,7 @@ ghost use Rattle.search_spec.specs.After.{nothing_yet};
 ghost use Rattle.search_spec.specs.Heads.{places_to};
 ghost use Rattle.prover_state.specs.Delays.{delay_by};
 ghost use Rattle.prover_state.specs.Internal.Empty.{AreEmpty};
-ghost use Rattle.prover_state.specs.Internal.Standing.{the_state, IsBasis, IsRight};
+ghost use Rattle.prover_state.specs.Internal.Standing.{the_state, IsBasis, IsRightState};
 
 use crate::by_base::ByBase;
 use crate::fitting::small;
@@ -75,7 +75,7 @@ impl<W: Weigher<Waiting>> Core<W> {
         requires callable { W.is_callable weigher }
         requires answers { W.answers weigher (λ waiting now. now + delay_by mode waiting.first) }
         ensures state { IfOk result (λ core. the_state core.tables core.plan ≡ nothing_yet) }
-        ensures right { IfOk result (λ core. IsRight core.tables core.plan) }
+        ensures right { IfOk result (λ core. IsRightState core.tables core.plan) }
         ensures basis { IfOk result (λ core. core.tables.basis ≡ basis) }
         ensures mode { IfOk result (λ core. core.plan.rule.mode ≡ mode) }
         ensures steps { IfOk result (λ core. core.tables.steps ≡ ([], [])) }

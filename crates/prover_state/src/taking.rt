@@ -1,6 +1,6 @@
 //! The next command.
 ghost use Rattle.std.specs.Prelude.{◌≡◌, ◌≢◌, ◌<◌, [], IfOk, OnOk};
-ghost use Rattle.prover_state.specs.Internal.Standing.{IsRight};
+ghost use Rattle.prover_state.specs.Internal.Standing.{IsRightState};
 ghost use Rattle.prover_state.specs.Internal.Taking.{TakesNext, rest_behind};
 
 use crate::command::{Command, Planned, Rest};
@@ -24,10 +24,10 @@ fn behind(rest: Rest) -> Rest
 impl<W: Weigher<Waiting>> Core<W> {
     /// Takes the next command, where one waits. The next one of its loop waits in its place.
     pub fn take_next(&mut self) -> Result<Command, AllocError>
-        requires right { IsRight self.old.tables self.old.plan }
+        requires right { IsRightState self.old.tables self.old.plan }
         requires some { self.old.plan.entries ≢ [] }
         ensures takes { IfOk result (TakesNext self.old.tables self.old.plan self.new.plan) }
-        ensures right { OnOk result (IsRight self.new.tables self.new.plan) }
+        ensures right { OnOk result (IsRightState self.new.tables self.new.plan) }
         ensures tables { self.new.tables ≡ self.old.tables }
         ensures rule { OnOk result (self.new.plan.rule ≡ self.old.plan.rule) }
     {

@@ -5,7 +5,7 @@ ghost use Rattle.term_bank.specs.Terms.{term_at};
 ghost use Rattle.search_spec.specs.Terms.{with_term};
 ghost use Rattle.prover_state.specs.Delays.{the_mode};
 ghost use Rattle.prover_state.specs.Internal.Names.{IsPlace};
-ghost use Rattle.prover_state.specs.Internal.Standing.{the_state, IsRight};
+ghost use Rattle.prover_state.specs.Internal.Standing.{the_state, IsRightState};
 
 use crate::clauses::literal_of;
 use crate::command::{Command, Over};
@@ -20,10 +20,10 @@ use term_bank::{Id, equal_ids_for_equal_terms};
 impl<W: Weigher<Waiting>> Core<W> {
     /// A term of a type is for instances: where it is new, each universal literal over the type is to be instantiated with it.
     pub fn add_term(&mut self, ty: &Ty, id: Id) -> Result<(), AllocError>
-        requires right { IsRight self.old.tables self.old.plan }
+        requires right { IsRightState self.old.tables self.old.plan }
         requires place { IsPlace self.old.tables.basis.bank.terms id }
         ensures state { OnOk result (the_state self.new.tables self.new.plan ≡ with_term (the_mode self.old.plan.rule.mode) (the_type ty.now) (term_at self.old.tables.basis.bank.terms id) (the_state self.old.tables self.old.plan)) }
-        ensures right { OnOk result (IsRight self.new.tables self.new.plan) }
+        ensures right { OnOk result (IsRightState self.new.tables self.new.plan) }
         ensures tables { OnOk result (self.new.tables ≡ record self.old.tables { terms = self.new.tables.terms }) }
         ensures rule { OnOk result (self.new.plan.rule ≡ self.old.plan.rule) }
     {

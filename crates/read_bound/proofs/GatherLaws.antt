@@ -4,7 +4,7 @@ use Rattle.std.specs.List.{find}
 use Rattle.thf_grammar.specs.Trees.{StatementTree, SelectedTree}
 use Rattle.thf_parse.specs.Parsing.{depth_limit}
 use Rattle.thf_include.specs.View.{PlacedTree}
-use Rattle.thf_include.specs.Gathering.{Ending, done, stopped, behind, IsFileText, is_selected, is_missing, select_by, select, FileEnds, unread, long, refused, followed, StatementEnds, stays, in_cycle, past_limit, stops, selects, StatementsEnd, no_more, ends, goes_on}
+use Rattle.thf_include.specs.Gathering.{Ending, done, stopped, behind_statements, IsFileText, is_selected, is_missing, select_by, select, FileEnds, unread, long, refused, followed, StatementEnds, stays, in_cycle, past_limit, stops, selects, StatementsEnd, no_more, ends, goes_on}
 use Rattle.search_spec.specs.Each.{Each}
 use Rattle.search_spec.proofs.NamingLaws.{each-joined}
 use Rattle.search_spec.proofs.TypedPushes.{each_filtered}
@@ -18,7 +18,7 @@ abbrev pub EndsShallow : Ending → Type 0
 EndsShallow (done ss) = Each IsShallowPlaced ss
 EndsShallow (stopped why) = Unit {0}
 
-behind_shallow : (front : List PlacedTree) (e : Ending) → Each IsShallowPlaced front → EndsShallow e → EndsShallow (behind front e)
+behind_shallow : (front : List PlacedTree) (e : Ending) → Each IsShallowPlaced front → EndsShallow e → EndsShallow (behind_statements front e)
 behind_shallow front (done ss) h k = each-joined IsShallowPlaced front ss h k
 behind_shallow front (stopped why) h k = tt
 

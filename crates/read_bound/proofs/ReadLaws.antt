@@ -22,8 +22,8 @@ use Rattle.type_check.specs.Outcome.{IllPlace, ◌>>=◌}
 use Rattle.type_check.specs.Types.{base_named, read_type}
 use Rattle.type_check.specs.Typed.{TypedTerm, typed, of_type, where_typed, domain}
 use Rattle.type_check.specs.Rows.{signed, truth_value, join, operator_term, quantify}
-use Rattle.type_check.specs.Terms.{TermReading, known, constant_named, variable_named, negated, joined, equated, applied, quantified_over, quantified_by, bind, read_binder, read_term}
-use Rattle.type_check.specs.Statements.{is_role, is_conjecture, is_definition, own_place, where_formula, read_formula, where_new, with_base, with_const, with_formula, with_assumed, with_conjecture, read_body, read_known, read_statement, IllInFile, in_file, read_statements, nothing}
+use Rattle.type_check.specs.Terms.{TermReading, known_term, constant_named, variable_named, typed_negation, typed_connection, typed_equation, typed_application, quantified_over, typed_quantifier, bind, read_binder, read_term}
+use Rattle.type_check.specs.Statements.{is_role, is_conjecture, is_definition, own_place, where_formula, read_formula, where_new, with_base, with_const, with_formula, with_assumed, with_conjecture, read_body, read_known, read_statement, IllInFile, in_file, read_statements, empty_problem}
 use Rattle.search_spec.specs.Each.{Each}
 use Rattle.search_spec.proofs.NamingLaws.{each-joined, pick_good}
 use Rattle.type_bound.specs.Types.{nesting}
@@ -63,7 +63,7 @@ IsTerm n x = (nesting x.type ≤ n) × IsModest M x.term
 abbrev AreTyped : List TypedName → Type 0
 AreTyped xs = Each (λ (x : TypedName). nesting x.type ≤ L) xs
 
-if_term : (at : ℕ) (n : ℕ) (o : Option TypedTerm) → ((x : TypedTerm) → o ≡ Some x → IsTerm n x) → IfOk (known at o) (IsTerm n)
+if_term : (at : ℕ) (n : ℕ) (o : Option TypedTerm) → ((x : TypedTerm) → o ≡ Some x → IsTerm n x) → IfOk (known_term at o) (IsTerm n)
 if_term at n (Some x) h = h x refl
 if_term at n None h = tt
 
@@ -71,7 +71,7 @@ abbrev IfTerm : ℕ → Option TypedTerm → Type 0
 IfTerm n None = Unit {0}
 IfTerm n (Some x) = IsTerm n x
 
-known_term : (at n : ℕ) (o : Option TypedTerm) → IfTerm n o → IfOk (known at o) (IsTerm n)
+known_term : (at n : ℕ) (o : Option TypedTerm) → IfTerm n o → IfOk (known_term at o) (IsTerm n)
 known_term at n (Some x) h = h
 known_term at n None h = tt
 
@@ -104,7 +104,7 @@ of_type_modest at a x h = pick_good (λ (r : Result Lambda IllPlace). IfOk r (Is
 formula_small : (n : ℕ) → nesting formula ≤ n
 formula_small n = omega arith
 
-negated_term : (at n : ℕ) (x : TypedTerm) → IsTerm n x → IfOk (negated at x) (IsTerm n)
+negated_term : (at n : ℕ) (x : TypedTerm) → IsTerm n x → IfOk (typed_negation at x) (IsTerm n)
 negated_term at n x h = then_ok (IsModest M) (IsTerm n) (of_type at formula x) (λ s. Ok (typed (neg s) formula)) (of_type_modest at formula x h.1) (λ s k. (formula_small n, (tt, k)))
 
 join_modest : (c : Conn) (s t : Lambda) → IsModest M s → IsModest M t → IsModest M (join c s t)
@@ -118,7 +118,7 @@ join_modest conn.Xor s t h k = (tt, ((omega arith, h), k))
 join_modest conn.Nor s t h k = (tt, ((tt, (tt, h)), k))
 join_modest conn.Nand s t h k = ((tt, h), (tt, k))
 
-joined_term : (at n : ℕ) (c : Conn) (x y : TypedTerm) → IsTerm n x → IsTerm n y → IfOk (joined at c x y) (IsTerm n)
+joined_term : (at n : ℕ) (c : Conn) (x y : TypedTerm) → IsTerm n x → IsTerm n y → IfOk (typed_connection at c x y) (IsTerm n)
 joined_term at n c x y h k =
     then_ok (IsModest M) (IsTerm n) (of_type at formula x) (λ s. of_type at formula y >>= λ t. Ok (typed (join c s t) formula)) (of_type_modest at formula x h.1)
     (λ s hs. then_ok (IsModest M) (IsTerm n) (of_type at formula y) (λ t. Ok (typed (join c s t) formula)) (of_type_modest at formula y k.1) (λ t ht. (formula_small n, join_modest c s t hs ht)))
@@ -127,7 +127,7 @@ signed_modest : (positive : Bool) (s : Lambda) → IsModest M s → IsModest M (
 signed_modest true s h = h
 signed_modest false s h = (tt, h)
 
-equated_term : (at n : ℕ) (positive : Bool) (x y : TypedTerm) → n ≤ M → IsTerm n x → IsTerm n y → IfOk (equated at positive x y) (IsTerm n)
+equated_term : (at n : ℕ) (positive : Bool) (x y : TypedTerm) → n ≤ M → IsTerm n x → IsTerm n y → IfOk (typed_equation at positive x y) (IsTerm n)
 equated_term at n positive x y le h k =
     then_ok (IsModest M) (IsTerm n) (of_type at x.type y) (λ t. Ok (typed (signed positive (eq x.type x.term t)) formula)) (of_type_modest at x.type y k.1)
     (λ t ht. let index : nesting x.type ≤ M = omega (arith, le, h.0) in (formula_small n, signed_modest positive (eq x.type x.term t) ((index, h.1), ht)))
@@ -214,18 +214,18 @@ module _ (d : Declarations) (consts : AreTyped d.consts) where
   term_modest n scope (tree.variable at name) few le h are = known_term at n (variable_named zero scope name) (variable_term n zero scope name (omega (arith, few)) are)
   term_modest n scope (tree.truth at value) few le h are = (formula_small n, truth_modest value)
   term_modest n scope (tree.operator at c) few le h are = operator_modest n c (omega (arith, few))
-  term_modest n scope (tree.negation at s) few le h are = then_ok (IsTerm n) (IsTerm n) (read_term d scope s) (λ x. negated at x) (term_modest n scope s few le h are) (λ x k. negated_term at n x k)
+  term_modest n scope (tree.negation at s) few le h are = then_ok (IsTerm n) (IsTerm n) (read_term d scope s) (λ x. typed_negation at x) (term_modest n scope s few le h are) (λ x k. negated_term at n x k)
   term_modest n scope (tree.binary at c s t) few le h are =
-      then_ok (IsTerm n) (IsTerm n) (read_term d scope s) (λ x. read_term d scope t >>= λ y. joined at c x y) (term_modest n scope s (omega (arith, few)) le h.0 are)
-      (λ x hx. then_ok (IsTerm n) (IsTerm n) (read_term d scope t) (λ y. joined at c x y) (term_modest n scope t (omega (arith, few)) le h.1 are) (λ y hy. joined_term at n c x y hx hy))
+      then_ok (IsTerm n) (IsTerm n) (read_term d scope s) (λ x. read_term d scope t >>= λ y. typed_connection at c x y) (term_modest n scope s (omega (arith, few)) le h.0 are)
+      (λ x hx. then_ok (IsTerm n) (IsTerm n) (read_term d scope t) (λ y. typed_connection at c x y) (term_modest n scope t (omega (arith, few)) le h.1 are) (λ y hy. joined_term at n c x y hx hy))
   term_modest n scope (tree.equation at positive s t) few le h are =
-      then_ok (IsTerm n) (IsTerm n) (read_term d scope s) (λ x. read_term d scope t >>= λ y. equated at positive x y) (term_modest n scope s (omega (arith, few)) le h.0 are)
-      (λ x hx. then_ok (IsTerm n) (IsTerm n) (read_term d scope t) (λ y. equated at positive x y) (term_modest n scope t (omega (arith, few)) le h.1 are) (λ y hy. equated_term at n positive x y le hx hy))
+      then_ok (IsTerm n) (IsTerm n) (read_term d scope s) (λ x. read_term d scope t >>= λ y. typed_equation at positive x y) (term_modest n scope s (omega (arith, few)) le h.0 are)
+      (λ x hx. then_ok (IsTerm n) (IsTerm n) (read_term d scope t) (λ y. typed_equation at positive x y) (term_modest n scope t (omega (arith, few)) le h.1 are) (λ y hy. equated_term at n positive x y le hx hy))
   term_modest n scope (tree.application at s t) few le h are =
-      then_ok (IsTerm n) (IsTerm n) (read_term d scope s) (λ x. read_term d scope t >>= λ y. applied at x y) (term_modest n scope s (omega (arith, few)) le h.0 are)
-      (λ x hx. then_ok (IsTerm n) (IsTerm n) (read_term d scope t) (λ y. applied at x y) (term_modest n scope t (omega (arith, few)) le h.1 are) (λ y hy. applied_term at n x.term x.type y hx.0 hx.1 hy))
+      then_ok (IsTerm n) (IsTerm n) (read_term d scope s) (λ x. read_term d scope t >>= λ y. typed_application at x y) (term_modest n scope s (omega (arith, few)) le h.0 are)
+      (λ x hx. then_ok (IsTerm n) (IsTerm n) (read_term d scope t) (λ y. typed_application at x y) (term_modest n scope t (omega (arith, few)) le h.1 are) (λ y hy. applied_term at n x.term x.type y hx.0 hx.1 hy))
   term_modest n scope (tree.quantified at all s) few le h are =
-      then_ok (IsTerm n) (IsTerm n) (read_term d scope s) (λ x. quantified_by at all x) (term_modest n scope s few le h are) (λ x hx. quantified_term at n all x.term x.type le hx.0 hx.1)
+      then_ok (IsTerm n) (IsTerm n) (read_term d scope s) (λ x. typed_quantifier at all x) (term_modest n scope s few le h are) (λ x hx. quantified_term at n all x.term x.type le hx.0 hx.1)
   term_modest n scope (tree.binding at b vars s) few le h are =
       let inner : ℕ = L + binders s in
       wider_ok (length vars + inner) n (read_binder d at b vars scope (λ more. read_term d more s)) (omega (arith, few))
@@ -281,6 +281,6 @@ const_types (x ∷ xs) h = (omega (arith, h.0), const_types xs h.1)
 
 pub readings_modest : ReadingsAreModest
 readings_modest texts name names ss p gathers e =
-    let ok = statements_ok nothing ss (file_shallow texts gathers) (record { consts = tt; assumed = tt; conjecture = tt }) in
+    let ok = statements_ok empty_problem ss (file_shallow texts gathers) (record { consts = tt; assumed = tt; conjecture = tt }) in
     let s : IsSoFar p = subst (λ (r : Result PlainProblem IllInFile). IfOk r IsSoFar) e ok in
     record { some = omega arith; names = const_types p.declared.consts s.consts; assumed = s.assumed; conjecture = s.conjecture }

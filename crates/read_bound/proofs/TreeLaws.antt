@@ -9,13 +9,13 @@ use Rattle.thf_grammar.specs.Types.{IsType, simple_type, arrow_type, IsSimpleTyp
 use Rattle.thf_grammar.specs.Formulas.{AreVars, last_var, more_vars, IsFormulaText, unit_formula, pair_formula, chain_formula, apply_formula, quantified_formula, AreLinks, no_links, more_links, AreArguments, no_arguments, more_arguments, IsUnit, unitary_unit, negation_unit, equation_unit, IsOperand, unitary_operand, negation_operand, IsNegation, negated, IsUnitary, primary_unitary, binder_unitary, IsPrimary, constant_primary, variable_primary, truth_primary, group_primary, operator_primary, IsBinder, bound}
 use Rattle.thf_grammar.specs.Notes.{IsGeneral, data_general, pair_general, empty_general, list_general, AreGenerals, last_general, more_generals, IsData, name_data, call_data, upper_data, integer_data, distinct_data, AreNotes, no_notes, one_note, two_notes}
 use Rattle.thf_grammar.specs.Statements.{IsTyping, base_typing, constant_typing, group_typing, IsBody, typing_body, formula_body, AreLabels, last_label, more_labels, IsSelection, everything, only, IsEnd, ends, IsStatement, annotated_statement, include_statement, IsFile, no_statement, more_statements}
-use Rattle.thf_parse.specs.Parsing.{AreWithin}
+use Rattle.thf_parse.specs.Parsing.{AreWithinDepth}
 use Rattle.search_spec.specs.Each.{Each}
 use Rattle.read_bound.specs.Read.{nest, binders, AreShallowVars, HasShallowVars, IsShallowBody, IsShallowStatement}
 
 module _ (limit : ℕ) where
   abbrev W : List Word → Type 0
-  W ws = AreWithin limit ws
+  W ws = AreWithinDepth limit ws
 
   mutual
     type_within : {d : ℕ} {ws : List Word} {t : TypeTree} {rest : List Word} → IsType d ws t rest → W ws → (nest t + d ≤ max limit d) × W rest

@@ -6,13 +6,13 @@ use Rattle.delta_defs.specs.Unfolding.{unfolded_problem}
 use Rattle.tableau_calculus.specs.Start.{start}
 use Rattle.search_spec.specs.Mode.{Mode}
 use Rattle.search_spec.specs.State.{State}
-use Rattle.search_spec.specs.After.{after}
+use Rattle.search_spec.specs.After.{state_after}
 use Rattle.thf_grammar.specs.Trees.{TypeTree, form, indiv, named, arrow, VarTree, FormulaTree, constant, variable, truth, operator, negation, binary, equation, application, quantified, binding, BodyTree, base, typing, formula, StatementTree, annotated, include}
 use Rattle.thf_include.specs.View.{PlacedTree}
 use Rattle.thf_include.specs.Gathering.{done, IsGathering}
 use Rattle.type_check.specs.Statements.{problem_of}
 use Rattle.type_bound.specs.Modest.{IsModestProblem}
-use Rattle.type_bound.specs.Small.{HasSmallTerms}
+use Rattle.type_bound.specs.Small.{StateHasSmallTerms}
 
 -- how many arrows stand one inside the other
 abbrev pub nest : TypeTree → ℕ
@@ -72,4 +72,4 @@ UnfoldingKeepsTypes = (limit : ℕ) (p : PlainProblem) → IsModestProblem limit
 abbrev pub RunsOfFilesStaySmall : Type 0
 RunsOfFilesStaySmall =
     (texts : List (List ℕ)) (name : List ℕ) (names : List (List ℕ)) (ss : List PlacedTree) (p : PlainProblem) → IsGathering texts name names (done ss) → problem_of ss ≡ Ok p
-    → (mode : Mode) (n : ℕ) (s : State) → after (record { scope = scope_of p.declared; mode = mode }) (start (unfolded_problem p)) n ≡ Some s → HasSmallTerms s
+    → (mode : Mode) (n : ℕ) (s : State) → state_after (record { scope = scope_of p.declared; mode = mode }) (start (unfolded_problem p)) n ≡ Some s → StateHasSmallTerms s

@@ -7,7 +7,7 @@ use Rattle.sat_log.specs.declared.chain.Premise.TheVariants.{Clause, Result}
 use Rattle.rebuild_spec.specs.Trees.{at_clause, at_step, at_result, Tree, leaf, cut}
 use Rattle.rebuild_spec.specs.Stands.{start, line, Stands, of_start, of_instance, of_first, of_next, of_result}
 use Rattle.rebuild_spec.specs.Rebuilt.{IsRebuilt}
-use Rattle.rebuild_spec.specs.Examples.{yes, no, on, individual, named, all_p_e0, all_p_i3, all_p_input, all_p_refutation, chosen_e0, chosen_i1, chosen_input, chosen_refutation, clash_e0, clash_input, clash_refutation, demorgan_e0, demorgan_e1, demorgan_e2, demorgan_i0, demorgan_i1, demorgan_i2, demorgan_i3, demorgan_i4, demorgan_i5, demorgan_i6, demorgan_input, demorgan_refutation, eta_equal_e0, eta_equal_input, eta_equal_refutation, k_p_e0, k_p_e1, k_p_i0, k_p_i1, k_p_i2, k_p_i3, k_p_input, k_p_refutation, pointwise_e0, pointwise_i0, pointwise_input, pointwise_refutation, quoted_e0, quoted_input, quoted_refutation, the_p_e0, the_p_i0, the_p_input, the_p_predicate, the_p_refutation, true_conjecture_e0, true_conjecture_i0, true_conjecture_input, true_conjecture_refutation, unnamed_e0, unnamed_i0, unnamed_i1, unnamed_input, unnamed_refutation, ExamplesAreRebuilt}
+use Rattle.rebuild_spec.specs.Examples.{yes, no, on, individual_type, example_name, all_p_e0, all_p_i3, all_p_input, all_p_refutation, chosen_e0, chosen_i1, chosen_input, chosen_refutation, clash_e0, clash_input, clash_refutation, demorgan_e0, demorgan_e1, demorgan_e2, demorgan_i0, demorgan_i1, demorgan_i2, demorgan_i3, demorgan_i4, demorgan_i5, demorgan_i6, demorgan_input, demorgan_refutation, eta_equal_e0, eta_equal_input, eta_equal_refutation, k_p_e0, k_p_e1, k_p_i0, k_p_i1, k_p_i2, k_p_i3, k_p_input, k_p_refutation, pointwise_e0, pointwise_i0, pointwise_input, pointwise_refutation, quoted_e0, quoted_input, quoted_refutation, the_p_e0, the_p_i0, the_p_input, the_p_predicate, the_p_refutation, true_conjecture_e0, true_conjecture_i0, true_conjecture_input, true_conjecture_refutation, unnamed_e0, unnamed_i0, unnamed_i1, unnamed_input, unnamed_refutation, ExamplesAreRebuilt}
 
 abbrev true_conjecture_t_c1 : Tree
 true_conjecture_t_c1 = leaf (at_clause 1) ((yes 0) ∷ []) (False 0) []
@@ -52,7 +52,7 @@ pub clash_rebuilt : IsRebuilt clash_input clash_refutation
 clash_rebuilt = record { number = 0; is_last = refl; last = clash_t_0_1; stands = clash_r_0; lines = refl; rows = refl }
 
 abbrev all_p_t_c5 : Tree
-all_p_t_c5 = leaf (at_clause 5) ((yes 0) ∷ (no 1) ∷ []) (AllPos 0 (named 1)) (Closed ∷ [])
+all_p_t_c5 = leaf (at_clause 5) ((yes 0) ∷ (no 1) ∷ []) (AllPos 0 (example_name 1)) (Closed ∷ [])
 
 all_p_c_5 : Stands all_p_input (at_clause 5) ((no 0) ∷ (yes 1) ∷ []) (line all_p_t_c5)
 all_p_c_5 = of_instance 5 ((no 0) ∷ (yes 1) ∷ []) all_p_i3 refl
@@ -127,7 +127,7 @@ pub pointwise_rebuilt : IsRebuilt pointwise_input pointwise_refutation
 pointwise_rebuilt = record { number = 0; is_last = refl; last = pointwise_t_c2; stands = pointwise_r_0; lines = refl; rows = refl }
 
 abbrev chosen_t_c3 : Tree
-chosen_t_c3 = leaf (at_clause 3) ((no 0) ∷ (no 1) ∷ []) (Cho (lam individual (app (named 0) (bound 0)))) (Closed ∷ Closed ∷ [])
+chosen_t_c3 = leaf (at_clause 3) ((no 0) ∷ (no 1) ∷ []) (Cho (lam individual_type (app (example_name 0) (bound 0)))) (Closed ∷ Closed ∷ [])
 
 chosen_c_3 : Stands chosen_input (at_clause 3) ((yes 0) ∷ (yes 1) ∷ []) (line chosen_t_c3)
 chosen_c_3 = of_instance 3 ((yes 0) ∷ (yes 1) ∷ []) chosen_i1 refl

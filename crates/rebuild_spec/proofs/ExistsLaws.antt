@@ -12,7 +12,7 @@ use Rattle.sat_log.specs.Resolution.{resolved}
 use Rattle.sat_log.specs.Chains.{premise_clause, after_step, after_steps, results, IsLogOver}
 use Rattle.rebuild_spec.specs.Input.{Sourced, start_unit, clause_by, Input, clause_in}
 use Rattle.rebuild_spec.specs.Trees.{Place, at_clause, at_step, at_result, Tree}
-use Rattle.rebuild_spec.specs.Stands.{Standing, start, line, instance_line, joined, stepped, place_of, Stands, of_start, of_instance, of_first, of_next, of_result}
+use Rattle.rebuild_spec.specs.Stands.{Standing, start, line, instance_line, joined_standing, standing_after_step, premise_place, Stands, of_start, of_instance, of_first, of_next, of_result}
 use Rattle.rebuild_spec.proofs.WalkLaws.{get-middle}
 
 and_then_some : {A B : Type 0} (f : A → Option B) (o : Option A) (r : B) → option_and_then f o ≡ Some r → (x : A) × (o ≡ Some x) × (f x ≡ Some r)
@@ -40,7 +40,7 @@ module _ (input : Input) where
   clause_stands m (clause_by c i) e = record { standing = line (instance_line m c i); stands = of_instance m c i e }
 
   -- what stands for the premises of a chain
-  premise_stands : (n : ℕ) → ((m : ℕ) (entry : LogEntry) → m < n → slice_get input.log m ≡ Some entry → HasStanding (at_result m) entry.result) → (p : Premise) (c : List SatLit) → premise_clause (map clause_in input.clauses) (results (take n input.log)) p ≡ Some c → HasStanding (place_of p) c
+  premise_stands : (n : ℕ) → ((m : ℕ) (entry : LogEntry) → m < n → slice_get input.log m ≡ Some entry → HasStanding (at_result m) entry.result) → (p : Premise) (c : List SatLit) → premise_clause (map clause_in input.clauses) (results (take n input.log)) p ≡ Some c → HasStanding (premise_place p) c
   premise_stands n before (Clause m) c h =
       let found = map_some clause_in (slice_get input.clauses m) c (sym (slice_get-map clause_in input.clauses m) ∙ h) in
       subst (HasStanding (at_clause m)) found.2 (clause_stands m found.0 found.1)
@@ -50,7 +50,7 @@ module _ (input : Input) where
       subst (HasStanding (at_result m)) found.2 (before m found.0 there.0 there.1)
 
   -- what stands after all steps of a chain, from what stands after the first ones
-  steps_stand : (n : ℕ) (entry : LogEntry) → slice_get input.log n ≡ Some entry → ((p : Premise) (c : List SatLit) → premise_clause (map clause_in input.clauses) (results (take n input.log)) p ≡ Some c → HasStanding (place_of p) c) → (rest done : List ChainStep) → entry.chain.steps ≡ done ++ rest → (a r : List SatLit) → HasStanding (at_step n (length done)) a → after_steps (map clause_in input.clauses) (results (take n input.log)) a rest ≡ Some r → HasStanding (at_step n (length entry.chain.steps)) r
+  steps_stand : (n : ℕ) (entry : LogEntry) → slice_get input.log n ≡ Some entry → ((p : Premise) (c : List SatLit) → premise_clause (map clause_in input.clauses) (results (take n input.log)) p ≡ Some c → HasStanding (premise_place p) c) → (rest done : List ChainStep) → entry.chain.steps ≡ done ++ rest → (a r : List SatLit) → HasStanding (at_step n (length done)) a → after_steps (map clause_in input.clauses) (results (take n input.log)) a rest ≡ Some r → HasStanding (at_step n (length entry.chain.steps)) r
   steps_stand n entry e premises [] done are a r h is =
       let same : a ≡ r = cc in
       let whole : entry.chain.steps ≡ done = are ∙ append-nil done in
@@ -61,7 +61,7 @@ module _ (input : Input) where
       let other = premises step.premise premise.0 premise.1 in
       let at : slice_get entry.chain.steps (length done) ≡ Some step = ap (λ k. slice_get k (length done)) are ∙ get-middle done rest step in
       let here : HasStanding (at_step n (suc (length done))) next.0 = record {
-        standing = stepped (at_step n (suc (length done))) step.var a h.standing premise.0 other.standing;
+        standing = standing_after_step (at_step n (suc (length done))) step.var a h.standing premise.0 other.standing;
         stands = of_next n (length done) entry step a premise.0 next.0 h.standing other.standing e at h.stands other.stands premise.2;
       } in
       let longer : suc (length done) ≡ length (done ++ step ∷ []) = pushed done step in
@@ -86,16 +86,16 @@ module _ (input : Input) where
     pub result_stands : (n : ℕ) (entry : LogEntry) → slice_get input.log n ≡ Some entry → HasStanding (at_result n) entry.result
     result_stands n entry e = results_below (suc n) n entry (omega arith) e
 
-  joined_line : (p : Place) (v : Var) (s t : Standing) (n : ℕ) (l : SatLit) → joined p v s t ≡ start n l → ⊥
+  joined_line : (p : Place) (v : Var) (s t : Standing) (n : ℕ) (l : SatLit) → joined_standing p v s t ≡ start n l → ⊥
   joined_line p v (start m k) (start j i) n l e = cc
   joined_line p v (start m k) (line t) n l e = cc
   joined_line p v (line t) (start m k) n l e = cc
   joined_line p v (line t) (line u) n l e = cc
 
-  stepped_line : (p : Place) (v : Var) (a b : List SatLit) (s t : Standing) (n : ℕ) (l : SatLit) → stepped p v a s b t ≡ start n l → ⊥
+  stepped_line : (p : Place) (v : Var) (a b : List SatLit) (s t : Standing) (n : ℕ) (l : SatLit) → standing_after_step p v a s b t ≡ start n l → ⊥
   stepped_line p v a b s t n l = go (holds a (positive v) && holds b (negative v))
     where
-      go : (x : Bool) → (if x then joined p v s t else joined p v t s) ≡ start n l → ⊥
+      go : (x : Bool) → (if x then joined_standing p v s t else joined_standing p v t s) ≡ start n l → ⊥
       go true e = joined_line p v s t n l e
       go false e = joined_line p v t s n l e
 
@@ -103,7 +103,7 @@ module _ (input : Input) where
   start_clause : (p : Place) (n : ℕ) (l : SatLit) (c : List SatLit) (s : Standing) → Stands input p c s → s ≡ start n l → c ≡ l ∷ []
   start_clause p n l c s (of_start m k e) j = let same : k ≡ l = cc in ap (λ x. x ∷ []) same
   start_clause p n l c s (of_instance m d i e) j = cc
-  start_clause p n l c s (of_first m entry d t e g) j = start_clause (place_of entry.chain.first) n l d t g j
+  start_clause p n l c s (of_first m entry d t e g) j = start_clause (premise_place entry.chain.first) n l d t g j
   start_clause p n l c s (of_next m k entry step a b d x y e f g i r) j = absurd (stepped_line (at_step m (suc k)) step.var a b x y n l j)
   start_clause p n l c s (of_result m entry d t e g) j = start_clause (at_step m (length entry.chain.steps)) n l d t g j
 

@@ -16,12 +16,12 @@ use Rattle.sat_base.specs.declared.literal.Var.{Var}
 use Rattle.sat_base.specs.declared.literal.SatLit.{SatLit}
 use Rattle.sat_base.specs.Literal.{positive, negative, same_literal, holds}
 use Rattle.sat_base.proofs.LiteralLaws.{same_literal-true, holds-append}
-use Rattle.sat_log.specs.Resolution.{without, without_repeats}
+use Rattle.sat_log.specs.Resolution.{without_literal, each_once}
 use Rattle.sat_log.proofs.ResolutionLaws.{holds-without_repeats}
 use Rattle.search_spec.specs.Numbered.{literal_at}
 use Rattle.rebuild_spec.specs.Input.{literals_of}
 use Rattle.rebuild_spec.specs.Trees.{Tree, leaf, cut, branch}
-use Rattle.rebuild_spec.specs.Lines.{number_in, line_of}
+use Rattle.rebuild_spec.specs.Lines.{line_number_in, line_of}
 use Rattle.rebuild_spec.proofs.BackedLaws.{without-held}
 use Rattle.rebuild_spec.proofs.LiteralLaws.{contains_literal, each_literal}
 use Rattle.rebuild_spec.proofs.SoundLaws.{IsRightLeaf}
@@ -33,17 +33,17 @@ IsRightAlone scope rows atoms (leaf p ls rule children) = IsRightLeaf scope rows
 IsRightAlone scope rows atoms (cut p v t u) = Unit {0}
 
 -- what a child's branch holds is the cut's literal, or the cut's branch holds it
-first_within : (v : Var) (t u : List SatLit) (m : SatLit) → holds t m ≡ true → same_literal (positive v) m ≡ false → holds (without_repeats (without (positive v) t ++ without (negative v) u)) m ≡ true
+first_within : (v : Var) (t u : List SatLit) (m : SatLit) → holds t m ≡ true → same_literal (positive v) m ≡ false → holds (each_once (without_literal (positive v) t ++ without_literal (negative v) u)) m ≡ true
 first_within v t u m h other =
-    holds-without_repeats (without (positive v) t ++ without (negative v) u) m
-    ∙ holds-append (without (positive v) t) (without (negative v) u) m
-    ∙ or_left (holds (without (positive v) t) m) (holds (without (negative v) u) m) (without-held (positive v) t m h other)
+    holds-without_repeats (without_literal (positive v) t ++ without_literal (negative v) u) m
+    ∙ holds-append (without_literal (positive v) t) (without_literal (negative v) u) m
+    ∙ or_left (holds (without_literal (positive v) t) m) (holds (without_literal (negative v) u) m) (without-held (positive v) t m h other)
 
-second_within : (v : Var) (t u : List SatLit) (m : SatLit) → holds u m ≡ true → same_literal (negative v) m ≡ false → holds (without_repeats (without (positive v) t ++ without (negative v) u)) m ≡ true
+second_within : (v : Var) (t u : List SatLit) (m : SatLit) → holds u m ≡ true → same_literal (negative v) m ≡ false → holds (each_once (without_literal (positive v) t ++ without_literal (negative v) u)) m ≡ true
 second_within v t u m h other =
-    holds-without_repeats (without (positive v) t ++ without (negative v) u) m
-    ∙ holds-append (without (positive v) t) (without (negative v) u) m
-    ∙ or_right (holds (without (positive v) t) m) (holds (without (negative v) u) m) (without-held (negative v) u m h other)
+    holds-without_repeats (without_literal (positive v) t ++ without_literal (negative v) u) m
+    ∙ holds-append (without_literal (positive v) t) (without_literal (negative v) u) m
+    ∙ or_right (holds (without_literal (positive v) t) m) (holds (without_literal (negative v) u) m) (without-held (negative v) u m h other)
 
 module _ (scope : Scope) (rows : List Row) (atoms : List Lambda) (formulas : (t : Lambda) → Contains atoms t → IsLiteral scope (plus t)) where
   -- what a literal of the clauses stands for is a literal
@@ -74,10 +74,10 @@ module _ (scope : Scope) (rows : List Row) (atoms : List Lambda) (formulas : (t 
 
   module _ (Is : Tree → Type 0) (alone : (t : Tree) → Is t → IsRightAlone scope rows atoms t) (lines : List Tree) (ordered : IsOrdered Is lines) where
     -- a child that was listed before closes the branch that its own branch is within
-    child_closes : (front back : List Tree) (t : Tree) (ls : List Literal) → lines ≡ front ++ back → IsListed lines t → number_in lines t < length front → Within (literals_of atoms (branch t)) ls → ClosesBy (map (line_of atoms lines) front) ls (child.Line (number_in lines t))
+    child_closes : (front back : List Tree) (t : Tree) (ls : List Literal) → lines ≡ front ++ back → IsListed lines t → line_number_in lines t < length front → Within (literals_of atoms (branch t)) ls → ClosesBy (map (line_of atoms lines) front) ls (child.Line (line_number_in lines t))
     child_closes front back t ls e listed below within =
-        let at : slice_get front (number_in lines t) ≡ Some t = get-front front back (number_in lines t) t below (ap (λ k. slice_get k (number_in lines t)) (sym e) ∙ listed) in
-        (line_of atoms lines t, slice_get-map (line_of atoms lines) front (number_in lines t) ∙ ap (option_map (line_of atoms lines)) at, subst (λ k. Within k ls) (sym (branch_of-line lines t)) within)
+        let at : slice_get front (line_number_in lines t) ≡ Some t = get-front front back (line_number_in lines t) t below (ap (λ k. slice_get k (line_number_in lines t)) (sym e) ∙ listed) in
+        (line_of atoms lines t, slice_get-map (line_of atoms lines) front (line_number_in lines t) ∙ ap (option_map (line_of atoms lines)) at, subst (λ k. Within k ls) (sym (branch_of-line lines t)) within)
 
     line_right : (front back : List Tree) (t : Tree) → lines ≡ front ++ back → Is t → HasEarlierChildren lines (length front) t → IsRightLine scope rows (map (line_of atoms lines) front) (line_of atoms lines t)
     line_right front back (leaf p ls rule children) e is earlier =

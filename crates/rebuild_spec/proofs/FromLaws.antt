@@ -9,15 +9,15 @@ use Rattle.sat_base.specs.declared.literal.Var.{Var}
 use Rattle.sat_base.specs.declared.literal.SatLit.{SatLit}
 use Rattle.sat_base.specs.Literal.{positive, negative, negated, holds}
 use Rattle.sat_base.proofs.LiteralLaws.{holds-append, mentions-held}
-use Rattle.sat_log.specs.Resolution.{without, resolvent, resolved}
+use Rattle.sat_log.specs.Resolution.{without_literal, resolvent, resolved}
 use Rattle.sat_log.proofs.ResolutionLaws.{holds-without_repeats}
 use Rattle.search_spec.specs.Numbered.{literal_at}
 use Rattle.rebuild_spec.specs.Input.{Instance, start_unit, clause_by, Input, literals_of}
 use Rattle.rebuild_spec.specs.Given.{IsGiven}
 use Rattle.rebuild_spec.specs.Trees.{Place, at_step, Tree, leaf, cut}
-use Rattle.rebuild_spec.specs.Stands.{Standing, start, line, joined, stepped, place_of, Stands, of_start, of_instance, of_first, of_next, of_result}
+use Rattle.rebuild_spec.specs.Stands.{Standing, start, line, joined_standing, standing_after_step, premise_place, Stands, of_start, of_instance, of_first, of_next, of_result}
 use Rattle.rebuild_spec.specs.Lines.{line_of}
-use Rattle.rebuild_spec.specs.Trimmed.{Occurs, IsFromSearch}
+use Rattle.rebuild_spec.specs.Trimmed.{OccursInInput, IsFromSearch}
 use Rattle.rebuild_spec.proofs.BackedLaws.{held-without}
 use Rattle.rebuild_spec.proofs.SoundLaws.{IsStart, IsRightThere, stands_right}
 use Rattle.rebuild_spec.proofs.WalkLaws.{IsEach}
@@ -25,7 +25,7 @@ use Rattle.rebuild_spec.proofs.WalkLaws.{IsEach}
 -- what a step holds, one of its clauses holds
 resolvent_held : (v : Var) (a b : List SatLit) (m : SatLit) → holds (resolvent v a b) m ≡ true → (holds a m ≡ true) ⊎ (holds b m ≡ true)
 resolvent_held v a b m h =
-    elim (or_cases (holds (without (positive v) a) m) (holds (without (negative v) b) m) (sym (holds-append (without (positive v) a) (without (negative v) b) m) ∙ sym (holds-without_repeats (without (positive v) a ++ without (negative v) b) m) ∙ h)) [
+    elim (or_cases (holds (without_literal (positive v) a) m) (holds (without_literal (negative v) b) m) (sym (holds-append (without_literal (positive v) a) (without_literal (negative v) b) m) ∙ sym (holds-without_repeats (without_literal (positive v) a ++ without_literal (negative v) b) m) ∙ h)) [
       | inl e ↦ inl (held-without (positive v) a m e).0
       | inr e ↦ inr (held-without (negative v) b m e).0
     ]
@@ -53,14 +53,14 @@ steps v a b c e = go (holds a (positive v) && holds b (negative v)) (holds a (ne
 
 module _ (input : Input) where
   -- the variables of what is derived occur in the clauses
-  pub variables_occur : (p : Place) (c : List SatLit) (s : Standing) → Stands input p c s → (m : SatLit) → holds c m ≡ true → Occurs input m.var
+  pub variables_occur : (p : Place) (c : List SatLit) (s : Standing) → Stands input p c s → (m : SatLit) → holds c m ≡ true → OccursInInput input m.var
   variables_occur p c s (of_start n l e) m h = record { number = n; clause = start_unit l; there = e; mentioned = mentions-held (l ∷ []) m h }
   variables_occur p c s (of_instance n d i e) m h = record { number = n; clause = clause_by d i; there = e; mentioned = mentions-held d m h }
-  variables_occur p c s (of_first n entry d t e j) m h = variables_occur (place_of entry.chain.first) d t j m h
+  variables_occur p c s (of_first n entry d t e j) m h = variables_occur (premise_place entry.chain.first) d t j m h
   variables_occur p c s (of_next n k entry step a b d x y e f h j r) m g =
       elim ((steps step.var a b d r).held m g) [
         | inl held ↦ variables_occur (at_step n k) a x h m held
-        | inr held ↦ variables_occur (place_of step.premise) b y j m held
+        | inr held ↦ variables_occur (premise_place step.premise) b y j m held
       ]
   variables_occur p c s (of_result n entry d t e j) m h = variables_occur (at_step n (length entry.chain.steps)) d t j m h
 
@@ -83,7 +83,7 @@ module _ (input : Input) where
 
   abbrev pub IsFrom : (SatLit → Type 0) → Tree → Type 0
   IsFrom Start (leaf p ls rule children) = AreUnits Start ls rule ⊎ IsNegated ls
-  IsFrom Start (cut p v t u) = Occurs input v
+  IsFrom Start (cut p v t u) = OccursInInput input v
 
 module _ (scope : Scope) (begin : List Literal) (input : Input) (given : IsGiven scope begin input) where
   abbrev Start : SatLit → Type 0
@@ -104,7 +104,7 @@ module _ (scope : Scope) (begin : List Literal) (input : Input) (given : IsGiven
   starts_right c (start n l) h = h.1
   starts_right c (line t) h = tt
 
-  joined_from : (p : Place) (v : Var) (s t : Standing) → Occurs input v → StartsRight s → StartsRight t → AreFrom s → AreFrom t → AreFrom (joined p v s t)
+  joined_from : (p : Place) (v : Var) (s t : Standing) → OccursInInput input v → StartsRight s → StartsRight t → AreFrom s → AreFrom t → AreFrom (joined_standing p v s t)
   joined_from p v (start m l) (start n k) occurs given also first second = go (nat_lt m n)
     where
       go : (b : Bool) → AreUnits input Start (if b then l ∷ k ∷ [] else k ∷ l ∷ []) (Close 0 1) ⊎ IsNegated input (if b then l ∷ k ∷ [] else k ∷ l ∷ [])
@@ -114,25 +114,25 @@ module _ (scope : Scope) (begin : List Literal) (input : Input) (given : IsGiven
   joined_from p v (line t) (start n k) occurs given also first second = first
   joined_from p v (line t) (line u) occurs given also first second = (occurs, second, first)
 
-  stepped_from : (p : Place) (v : Var) (a b : List SatLit) (s t : Standing) → Occurs input v → StartsRight s → StartsRight t → AreFrom s → AreFrom t → AreFrom (stepped p v a s b t)
+  stepped_from : (p : Place) (v : Var) (a b : List SatLit) (s t : Standing) → OccursInInput input v → StartsRight s → StartsRight t → AreFrom s → AreFrom t → AreFrom (standing_after_step p v a s b t)
   stepped_from p v a b s t occurs given also first second = go (holds a (positive v) && holds b (negative v))
     where
-      go : (x : Bool) → AreFrom (if x then joined p v s t else joined p v t s)
+      go : (x : Bool) → AreFrom (if x then joined_standing p v s t else joined_standing p v t s)
       go true = joined_from p v s t occurs given also first second
       go false = joined_from p v t s occurs also given second first
 
-  variable_of : (v : Var) (a : List SatLit) (p : Place) (s : Standing) → Stands input p a s → (holds a (positive v) ≡ true) ⊎ (holds a (negative v) ≡ true) → Occurs input v
+  variable_of : (v : Var) (a : List SatLit) (p : Place) (s : Standing) → Stands input p a s → (holds a (positive v) ≡ true) ⊎ (holds a (negative v) ≡ true) → OccursInInput input v
   variable_of v a p s h (inl e) = variables_occur input p a s h (positive v) e
   variable_of v a p s h (inr e) = variables_occur input p a s h (negative v) e
 
   are_from : (p : Place) (c : List SatLit) (s : Standing) → Stands input p c s → AreFrom s
   are_from p c s (of_start n l e) = tt
   are_from p c s (of_instance n d i e) = inr (record { number = n; clause = d; instance = i; there = e; are = refl })
-  are_from p c s (of_first n entry d t e h) = are_from (place_of entry.chain.first) d t h
+  are_from p c s (of_first n entry d t e h) = are_from (premise_place entry.chain.first) d t h
   are_from p c s (of_next n k entry step a b d x y e f h j r) =
       stepped_from (at_step n (suc k)) step.var a b x y (variable_of step.var a (at_step n k) x h (steps step.var a b d r).sign)
-      (starts_right a x (stands_right scope begin input given (at_step n k) a x h)) (starts_right b y (stands_right scope begin input given (place_of step.premise) b y j))
-      (are_from (at_step n k) a x h) (are_from (place_of step.premise) b y j)
+      (starts_right a x (stands_right scope begin input given (at_step n k) a x h)) (starts_right b y (stands_right scope begin input given (premise_place step.premise) b y j))
+      (are_from (at_step n k) a x h) (are_from (premise_place step.premise) b y j)
   are_from p c s (of_result n entry d t e h) = are_from (at_step n (length entry.chain.steps)) d t h
 
   pub lines_from_search : (p : Place) (c : List SatLit) (t : Tree) → Stands input p c (line t) → IsEach IsFromThere t

@@ -2,7 +2,7 @@
 use Rattle.std.proofs.Common.{◌≡◌, ◌<◌, ◌≤◌, ◌+◌, if◌then◌else◌, ℕ, suc, Bool, true, false, List, [], ◌∷◌, ◌++◌, Some, slice_get, refl, sym, subst, arith}
 use Rattle.std.specs.List.{list_any}
 use Rattle.rebuild_spec.specs.Trees.{Tree, leaf, cut, same_line}
-use Rattle.rebuild_spec.specs.Lines.{with_line, walked, number_in}
+use Rattle.rebuild_spec.specs.Lines.{with_line, walked, line_number_in}
 use Rattle.rebuild_spec.proofs.WalkLaws.{get-push, found_there, IsEach, IsOrdered, walk_lists}
 
 abbrev size : Tree → ℕ
@@ -49,8 +49,8 @@ module _ (Is : Tree → Type 0) (one : (t u : Tree) → Is t → Is u → same_l
       go : (b : Bool) → list_any (same_line t) lines ≡ b → EndsWith (if b then lines else lines ++ t ∷ []) t
       go true e =
           let found = found_there lines t e in
-          let same : t ≡ found.0 = one t found.0 is (ordered.each (number_in lines t) found.0 found.1) found.2 in
-          let less : size t ≤ n = subst (λ u. size u ≤ n) (sym same) (small (number_in lines t) found.0 found.1) in
+          let same : t ≡ found.0 = one t found.0 is (ordered.each (line_number_in lines t) found.0 found.1) found.2 in
+          let less : size t ≤ n = subst (λ u. size u ≤ n) (sym same) (small (line_number_in lines t) found.0 found.1) in
           absurd (omega (arith, less, l))
       go false e = record { front = lines; are = refl }
 

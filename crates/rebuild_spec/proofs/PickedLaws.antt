@@ -5,28 +5,28 @@ use Rattle.std.proofs.lemmas.List.Elements.{Contains-append_cases}
 use Rattle.tableau_calculus.proofs.ListLaws.{contains-first, contains-later, contains_cases}
 use Rattle.sat_base.specs.declared.literal.SatLit.{SatLit}
 use Rattle.sat_base.specs.Literal.{negated, holds}
-use Rattle.sat_log.specs.Resolution.{without_repeats, HasNoRepeats}
+use Rattle.sat_log.specs.Resolution.{each_once, HasNoRepeats}
 use Rattle.sat_log.proofs.ResolutionLaws.{without_repeats-append_left, without_repeats-push_held, without_repeats-push_new}
 use Rattle.search_spec.specs.Clauses.{added, choices, is_tautology, clause_of, instance_clauses}
 use Rattle.search_spec.specs.Numbered.{numbers}
 
-pub added-without_repeats : (ks ls : List SatLit) → HasNoRepeats ls → added numbers ls ks ≡ without_repeats (ls ++ ks)
-added-without_repeats [] ls once = sym once ∙ ap without_repeats (sym (append-nil ls))
+pub added-without_repeats : (ks ls : List SatLit) → HasNoRepeats ls → added numbers ls ks ≡ each_once (ls ++ ks)
+added-without_repeats [] ls once = sym once ∙ ap each_once (sym (append-nil ls))
 added-without_repeats (k ∷ ks) ls once = go (holds ls k) refl (λ next h. added-without_repeats ks next h)
   where
-    whole : without_repeats (without_repeats (ls ++ k ∷ []) ++ ks) ≡ without_repeats (ls ++ k ∷ ks)
-    whole = without_repeats-append_left (ls ++ k ∷ []) ks ∙ ap without_repeats (append_assoc ls (k ∷ []) ks)
+    whole : each_once (each_once (ls ++ k ∷ []) ++ ks) ≡ each_once (ls ++ k ∷ ks)
+    whole = without_repeats-append_left (ls ++ k ∷ []) ks ∙ ap each_once (append_assoc ls (k ∷ []) ks)
 
-    go : (b : Bool) → holds ls k ≡ b → ((next : List SatLit) → HasNoRepeats next → added numbers next ks ≡ without_repeats (next ++ ks)) → added numbers (if b then ls else ls ++ k ∷ []) ks ≡ without_repeats (ls ++ k ∷ ks)
+    go : (b : Bool) → holds ls k ≡ b → ((next : List SatLit) → HasNoRepeats next → added numbers next ks ≡ each_once (next ++ ks)) → added numbers (if b then ls else ls ++ k ∷ []) ks ≡ each_once (ls ++ k ∷ ks)
     go true e rest =
-        let same : without_repeats (ls ++ k ∷ []) ≡ ls = without_repeats-push_held ls k e ∙ once in
-        rest ls once ∙ ap (λ x. without_repeats (x ++ ks)) (sym same) ∙ whole
+        let same : each_once (ls ++ k ∷ []) ≡ ls = without_repeats-push_held ls k e ∙ once in
+        rest ls once ∙ ap (λ x. each_once (x ++ ks)) (sym same) ∙ whole
     go false e rest =
-        let same : without_repeats (ls ++ k ∷ []) ≡ ls ++ k ∷ [] = without_repeats-push_new ls k e ∙ ap (λ x. x ++ k ∷ []) once in
-        rest (ls ++ k ∷ []) same ∙ ap (λ x. without_repeats (x ++ ks)) (sym same) ∙ whole
+        let same : each_once (ls ++ k ∷ []) ≡ ls ++ k ∷ [] = without_repeats-push_new ls k e ∙ ap (λ x. x ++ k ∷ []) once in
+        rest (ls ++ k ∷ []) same ∙ ap (λ x. each_once (x ++ ks)) (sym same) ∙ whole
 
 -- the clause of a choice
-pub clause_of-without_repeats : (principals picked : List SatLit) → clause_of numbers principals picked ≡ without_repeats (map negated principals ++ picked)
+pub clause_of-without_repeats : (principals picked : List SatLit) → clause_of numbers principals picked ≡ each_once (map negated principals ++ picked)
 clause_of-without_repeats principals picked = added-without_repeats (map negated principals ++ picked) [] refl
 
 -- one literal from each alternative
@@ -58,7 +58,7 @@ choice_picks (a ∷ as') picked h = by_literal a as' (choices as') picked (λ x 
 pub record IsPicked (principals : List SatLit) (alternatives : List (List SatLit)) (clause : List SatLit) : Type 0 where
   pub picked : List SatLit
   pub picks : Picks picked alternatives
-  pub is : clause ≡ without_repeats (map negated principals ++ picked)
+  pub is : clause ≡ each_once (map negated principals ++ picked)
 
 pub clause_picked : (principals : List SatLit) (alternatives : List (List SatLit)) (clause : List SatLit) → Contains (instance_clauses numbers principals alternatives) clause → IsPicked principals alternatives clause
 clause_picked principals alternatives clause h = go (choices alternatives) (λ x c. choice_picks alternatives x c) h

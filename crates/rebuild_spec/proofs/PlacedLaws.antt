@@ -14,7 +14,7 @@ use Rattle.sat_base.specs.Literal.{same_literal, holds}
 use Rattle.sat_base.proofs.LiteralLaws.{same_literal-refl}
 use Rattle.search_spec.specs.Numbered.{literal_at}
 use Rattle.rebuild_spec.specs.Input.{literals_of}
-use Rattle.rebuild_spec.specs.Stands.{placed, place_in}
+use Rattle.rebuild_spec.specs.Stands.{rule_at_places, place_in}
 use Rattle.rebuild_spec.proofs.LiteralLaws.{place_found}
 
 module _ (scope : Scope) (rows : List Row) (atoms : List Lambda) (at : SatLit → ℕ) where
@@ -35,7 +35,7 @@ module _ (scope : Scope) (rows : List Row) (atoms : List Lambda) (at : SatLit �
 
   -- the rule fits at these places
   abbrev IsPlacedRule : RuleUse → List Literal → List (List Literal) → List SatLit → Type 0
-  IsPlacedRule rule ls alternatives ps = (places (placed rule (map at ps)) ≡ map at ps) × Rule scope rows (placed rule (map at ps)) ls alternatives
+  IsPlacedRule rule ls alternatives ps = (places (rule_at_places rule (map at ps)) ≡ map at ps) × Rule scope rows (rule_at_places rule (map at ps)) ls alternatives
 
   -- a rule fits at whichever places of its principals
   pub placed_fits : (rule : RuleUse) (ls : List Literal) (alternatives : List (List Literal)) → Rule scope rows rule ls alternatives → (ps : List SatLit) → literals_of atoms ps ≡ ls → IsPlacedRule rule ls alternatives ps
@@ -88,7 +88,7 @@ module _ (scope : Scope) (rows : List Row) where
     )
 
     -- the rule with the places that are found for its principals has an instance in the branch
-    pub instance_placed : (branch principals : List SatLit) (rule : RuleUse) (alternatives : List (List Literal)) → Rule scope rows rule (literals_of atoms principals) alternatives → ((l : SatLit) → holds principals l ≡ true → holds branch l ≡ true) → IsInstance scope rows (literals_of atoms branch) (placed rule (map (place_in branch) principals)) alternatives
+    pub instance_placed : (branch principals : List SatLit) (rule : RuleUse) (alternatives : List (List Literal)) → Rule scope rows rule (literals_of atoms principals) alternatives → ((l : SatLit) → holds principals l ≡ true → holds branch l ≡ true) → IsInstance scope rows (literals_of atoms branch) (rule_at_places rule (map (place_in branch) principals)) alternatives
     instance_placed branch principals rule alternatives fits within =
         let found = placed_fits scope rows atoms (place_in branch) rule (literals_of atoms principals) alternatives fits principals refl in
         record {

@@ -8,7 +8,7 @@ use Rattle.tableau_calculus.specs.declared.refutation.Child.TheVariants as child
 use Rattle.tableau_calculus.specs.declared.refutation.Line.{Line}
 use Rattle.tableau_calculus.proofs.ListLaws.{contains-first, contains-later}
 use Rattle.rebuild_spec.specs.Trees.{Tree, leaf, cut, same_line}
-use Rattle.rebuild_spec.specs.Lines.{with_line, walked, number_in, line_of, lines_from}
+use Rattle.rebuild_spec.specs.Lines.{with_line, walked, line_number_in, line_of, lines_from}
 use Rattle.rebuild_spec.specs.Trimmed.{IsReached, last, child_of, IsEachReached}
 use Rattle.rebuild_spec.proofs.WalkLaws.{get-push, get-middle, IsListed, IsEach, IsOrdered}
 use Rattle.rebuild_spec.proofs.LastLaws.{walk_ordered, walk_ends}
@@ -40,19 +40,19 @@ module _ (Is : Tree → Type 0) (atoms : List Lambda) (trees : List Tree) (order
 
   pub record IsReachedLine (t : Tree) : Type 0 where
     pub listed : IsListed trees t
-    pub reached : IsReached lines (number_in trees t)
+    pub reached : IsReached lines (line_number_in trees t)
 
-  child_reached : (t u : Tree) → IsReachedLine t → IsListed trees u → Contains (line_of atoms trees t).children (child.Line (number_in trees u)) → IsReachedLine u
+  child_reached : (t u : Tree) → IsReachedLine t → IsListed trees u → Contains (line_of atoms trees t).children (child.Line (line_number_in trees u)) → IsReachedLine u
   child_reached t u h there is =
-      let at = slice_get-map (line_of atoms trees) trees (number_in trees t) ∙ ap (option_map (line_of atoms trees)) h.listed in
-      record { listed = there; reached = child_of (number_in trees t) (number_in trees u) (line_of atoms trees t) h.reached at is }
+      let at = slice_get-map (line_of atoms trees) trees (line_number_in trees t) ∙ ap (option_map (line_of atoms trees)) h.listed in
+      record { listed = there; reached = child_of (line_number_in trees t) (line_number_in trees u) (line_of atoms trees t) h.reached at is }
 
   pub each_reached : (t : Tree) → IsReachedLine t → IsEach IsReachedLine t
   each_reached (leaf p ls rule children) h = h
   each_reached (cut p v t u) h =
-      let children = ordered.earlier (number_in trees (cut p v t u)) (cut p v t u) h.listed in
-      let first = child.Line (number_in trees t) in
-      let second = child.Line (number_in trees u) in (
+      let children = ordered.earlier (line_number_in trees (cut p v t u)) (cut p v t u) h.listed in
+      let first = child.Line (line_number_in trees t) in
+      let second = child.Line (line_number_in trees u) in (
         h,
         each_reached t (child_reached (cut p v t u) t h children.0.0 (contains-first first (second ∷ []))),
         each_reached u (child_reached (cut p v t u) u h children.1.0 (contains-later second first (second ∷ []) (contains-first second []))),
@@ -66,7 +66,7 @@ module _ (Is : Tree → Type 0) (one : (t u : Tree) → Is t → Is u → same_l
       let count : length (map (line_of atoms trees) trees) ≡ suc (length front) = ap (λ k. length (map (line_of atoms trees) k)) e ∙ pushed front in
       record {
         listed = subst (λ n. slice_get trees n ≡ Some t) (sym number) at;
-        reached = last (number_in trees t) (subst (λ n. length (map (line_of atoms trees) trees) ≡ suc n) (sym number) count);
+        reached = last (line_number_in trees t) (subst (λ n. length (map (line_of atoms trees) trees) ≡ suc n) (sym number) count);
       }
     where
       pushed : (front : List Tree) → length (map (line_of atoms trees) (front ++ t ∷ [])) ≡ suc (length front)

@@ -5,7 +5,7 @@ use Rattle.std.proofs.lemmas.Bool.{or_left, or_right}
 use Rattle.std.proofs.lemmas.Option.{slice_get_within}
 use Rattle.sat_base.specs.declared.literal.Var.{Var}
 use Rattle.rebuild_spec.specs.Trees.{Place, Tree, leaf, cut, made_at, same_line}
-use Rattle.rebuild_spec.specs.Lines.{with_line, walked, number_in}
+use Rattle.rebuild_spec.specs.Lines.{with_line, walked, line_number_in}
 use Rattle.rebuild_spec.proofs.WalkLaws.{same_place-refl, found_there, number-append, get-append, get-front, IsListed, HasEarlierChildren, IsEach, IsOrdered}
 
 any_at : (lines : List Tree) (i : ℕ) (t : Tree) → slice_get lines i ≡ Some t → list_any (same_line t) lines ≡ true
@@ -22,11 +22,11 @@ module _ (Is : Tree → Type 0) (one : (t u : Tree) → Is t → Is u → same_l
   walked_there (cut p v t u) done is ordered e =
       let whole = cut p v t u in
       let found = found_there done whole e in
-      let same : whole ≡ found.0 = one whole found.0 is.0 (ordered.each (number_in done whole) found.0 found.1) found.2 in
+      let same : whole ≡ found.0 = one whole found.0 is.0 (ordered.each (line_number_in done whole) found.0 found.1) found.2 in
       let listed : IsListed done whole = found.1 ∙ ap Some (sym same) in
-      let children = ordered.earlier (number_in done whole) whole listed in
-      let first = walked_there t done is.1 ordered (any_at done (number_in done t) t children.0.0) in
-      let second = walked_there u done is.2 ordered (any_at done (number_in done u) u children.1.0) in
+      let children = ordered.earlier (line_number_in done whole) whole listed in
+      let first = walked_there t done is.1 ordered (any_at done (line_number_in done t) t children.0.0) in
+      let second = walked_there u done is.2 ordered (any_at done (line_number_in done u) u children.1.0) in
       ap (λ k. with_line (walked k u) whole) first ∙ ap (λ k. with_line k whole) second ∙ with_line_there done whole e
 
 -- what is left to do in a walk: to walk from a line, or to list it
@@ -70,7 +70,7 @@ run_grows (list t ∷ tasks) done =
     (first.0 ++ rest.0, rest.1 ∙ ap (λ k. k ++ rest.0) first.1 ∙ append_assoc done first.0 rest.0)
 
 -- a line that stands in the front has its number there
-front_number : (front back : List Tree) (i : ℕ) (t : Tree) → slice_get front i ≡ Some t → number_in (front ++ back) t ≡ number_in front t
+front_number : (front back : List Tree) (i : ℕ) (t : Tree) → slice_get front i ≡ Some t → line_number_in (front ++ back) t ≡ line_number_in front t
 front_number front back i t h =
     let found = found_there front t (any_at front i t h) in
     number-append front back t found.0 found.1
@@ -83,9 +83,9 @@ module _ (Is : Tree → Type 0) where
     numbered = λ i t h. sym (front_number front back i t h) ∙ ordered.numbered i t (get-append front back i t h);
   }
     where
-      child : (i : ℕ) (t : Tree) → i < length front → IsListed (front ++ back) t × (number_in (front ++ back) t < i) → IsListed front t × (number_in front t < i)
+      child : (i : ℕ) (t : Tree) → i < length front → IsListed (front ++ back) t × (line_number_in (front ++ back) t < i) → IsListed front t × (line_number_in front t < i)
       child i t l h =
-          let k = number_in (front ++ back) t in
+          let k = line_number_in (front ++ back) t in
           let below : k < length front = omega (arith, l, h.1) in
           let at : slice_get front k ≡ Some t = get-front front back k t below h.0 in
           let same = front_number front back k t at in

@@ -18,13 +18,13 @@ use Rattle.sat_base.specs.declared.literal.Var.{Var}
 use Rattle.sat_base.specs.declared.literal.SatLit.{SatLit}
 use Rattle.sat_base.specs.Literal.{positive, negative, negated, same_literal, holds}
 use Rattle.sat_base.proofs.LiteralLaws.{same_literal-true, negated-negated, holds-append}
-use Rattle.sat_log.specs.Resolution.{without_repeats, resolvent, resolved}
+use Rattle.sat_log.specs.Resolution.{each_once, resolvent, resolved}
 use Rattle.sat_log.proofs.ResolutionLaws.{holds-without_repeats}
 use Rattle.search_spec.specs.Numbered.{literal_at}
 use Rattle.rebuild_spec.specs.Input.{Instance, start_unit, clause_by, Input, literals_of}
 use Rattle.rebuild_spec.specs.Given.{IsClauseOf, IsGiven}
 use Rattle.rebuild_spec.specs.Trees.{Place, Tree, leaf, cut, branch}
-use Rattle.rebuild_spec.specs.Stands.{Standing, start, line, placed, place_in, instance_line, joined, stepped, Stands, of_start, of_instance, of_first, of_next, of_result}
+use Rattle.rebuild_spec.specs.Stands.{Standing, start, line, rule_at_places, place_in, instance_line, joined_standing, standing_after_step, Stands, of_start, of_instance, of_first, of_next, of_result}
 use Rattle.rebuild_spec.proofs.BackedLaws.{Backed, cut_backed, unit_first, unit_second, only_literal}
 use Rattle.rebuild_spec.proofs.LiteralLaws.{contains_literal, held_in, held-negated, negated-held}
 use Rattle.rebuild_spec.proofs.PickedLaws.{Picks, clause_picked}
@@ -58,13 +58,13 @@ module _ (scope : Scope) (rows : List Row) (atoms : List Lambda) where
   )
 
   -- what is in a clause of an instance: the negations of the principals, and what was picked
-  principal_denied : (principals picked : List SatLit) (m : SatLit) → holds principals m ≡ true → holds (without_repeats (map negated principals ++ picked)) (negated m) ≡ true
+  principal_denied : (principals picked : List SatLit) (m : SatLit) → holds principals m ≡ true → holds (each_once (map negated principals ++ picked)) (negated m) ≡ true
   principal_denied principals picked m h =
       holds-without_repeats (map negated principals ++ picked) (negated m)
       ∙ holds-append (map negated principals) picked (negated m)
       ∙ or_left (holds (map negated principals) (negated m)) (holds picked (negated m)) (held-negated principals m h)
 
-  picked_held : (principals picked : List SatLit) (m : SatLit) → holds picked m ≡ true → holds (without_repeats (map negated principals ++ picked)) m ≡ true
+  picked_held : (principals picked : List SatLit) (m : SatLit) → holds picked m ≡ true → holds (each_once (map negated principals ++ picked)) m ≡ true
   picked_held principals picked m h =
       holds-without_repeats (map negated principals ++ picked) m
       ∙ holds-append (map negated principals) picked m
@@ -83,7 +83,7 @@ module _ (scope : Scope) (rows : List Row) (atoms : List Lambda) where
       let within = λ (m : SatLit) (held : holds i.principals m ≡ true). in_negations c m (subst (λ k. holds k (negated m) ≡ true) (sym by.is) (principal_denied i.principals by.picked m held)) in
       let instance = instance_placed scope rows atoms ls i.principals i.rule alternatives h.fits within in
       record {
-        typed = fits_typed scope rows (placed i.rule (map (place_in ls) i.principals)) instance.principals alternatives instance.fits;
+        typed = fits_typed scope rows (rule_at_places i.rule (map (place_in ls) i.principals)) instance.principals alternatives instance.fits;
         alternatives = alternatives;
         instance = instance;
         closed = λ earlier. all_closed earlier ls by.picked i.alternatives by.picks (λ m held. held-negated c m (subst (λ k. holds k m ≡ true) (sym by.is) (picked_held i.principals by.picked m (held_in by.picked m held))));
@@ -109,7 +109,7 @@ module _ (scope : Scope) (rows : List Row) (atoms : List Lambda) where
       },
     )
 
-    joined_right : (p : Place) (v : Var) (a b : List SatLit) (s t : Standing) → holds a (positive v) ≡ true → holds b (negative v) ≡ true → IsRight a s → IsRight b t → IsRight (resolvent v a b) (joined p v s t)
+    joined_right : (p : Place) (v : Var) (a b : List SatLit) (s t : Standing) → holds a (positive v) ≡ true → holds b (negative v) ≡ true → IsRight a s → IsRight b t → IsRight (resolvent v a b) (joined_standing p v s t)
     joined_right p v a b (start m l) (start n k) h j given also =
         let first : positive v ≡ l = only_literal l (positive v) (subst (λ c. holds c (positive v) ≡ true) given.0 h) in
         let second : negative v ≡ k = only_literal k (negative v) (subst (λ c. holds c (negative v) ≡ true) also.0 j) in
@@ -128,18 +128,18 @@ module _ (scope : Scope) (rows : List Row) (atoms : List Lambda) where
     joined_right p v a b (line t) (line u) h j given also =
         (cut_backed Start v a b (branch u) (branch t) given.0 also.0, (also.1, given.1))
 
-    pub stepped_right : (p : Place) (v : Var) (a b c : List SatLit) (s t : Standing) → resolved v a b ≡ Some c → IsRight a s → IsRight b t → IsRight c (stepped p v a s b t)
+    pub stepped_right : (p : Place) (v : Var) (a b c : List SatLit) (s t : Standing) → resolved v a b ≡ Some c → IsRight a s → IsRight b t → IsRight c (standing_after_step p v a s b t)
     stepped_right p v a b c s t e given also = go (holds a (positive v) && holds b (negative v)) (holds a (negative v) && holds b (positive v)) refl refl e
       where
-        go : (x y : Bool) → (holds a (positive v) && holds b (negative v)) ≡ x → (holds a (negative v) && holds b (positive v)) ≡ y → (if x then Some (resolvent v a b) else (if y then Some (resolvent v b a) else None)) ≡ Some c → IsRight c (if x then joined p v s t else joined p v t s)
+        go : (x y : Bool) → (holds a (positive v) && holds b (negative v)) ≡ x → (holds a (negative v) && holds b (positive v)) ≡ y → (if x then Some (resolvent v a b) else (if y then Some (resolvent v b a) else None)) ≡ Some c → IsRight c (if x then joined_standing p v s t else joined_standing p v t s)
         go true y is isnt e =
             let parts = and_parts (holds a (positive v)) (holds b (negative v)) is in
             let same : resolvent v a b ≡ c = cc in
-            subst (λ k. IsRight k (joined p v s t)) same (joined_right p v a b s t parts.0 parts.1 given also)
+            subst (λ k. IsRight k (joined_standing p v s t)) same (joined_right p v a b s t parts.0 parts.1 given also)
         go false true is isnt e =
             let parts = and_parts (holds a (negative v)) (holds b (positive v)) isnt in
             let same : resolvent v b a ≡ c = cc in
-            subst (λ k. IsRight k (joined p v t s)) same (joined_right p v b a t s parts.1 parts.0 also given)
+            subst (λ k. IsRight k (joined_standing p v t s)) same (joined_right p v b a t s parts.1 parts.0 also given)
         go false false is isnt e = cc
 
 module _ (scope : Scope) (begin : List Literal) (input : Input) (given : IsGiven scope begin input) where

@@ -15,8 +15,8 @@ use Rattle.sat_log.specs.declared.chain.ChainStep.{ChainStep}
 use Rattle.sat_log.specs.declared.log.LogEntry.{LogEntry}
 use Rattle.rebuild_spec.specs.Input.{Input}
 use Rattle.rebuild_spec.specs.Trees.{Place, at_clause, at_step, at_result, same_place, Tree, made_at, same_line}
-use Rattle.rebuild_spec.specs.Stands.{Standing, start, line, joined, stepped, place_of, Stands, of_start, of_instance, of_first, of_next, of_result}
-use Rattle.rebuild_spec.specs.Lines.{walked, number_in, line_of, lines_from}
+use Rattle.rebuild_spec.specs.Stands.{Standing, start, line, joined_standing, standing_after_step, premise_place, Stands, of_start, of_instance, of_first, of_next, of_result}
+use Rattle.rebuild_spec.specs.Lines.{walked, line_number_in, line_of, lines_from}
 use Rattle.rebuild_spec.specs.Used.{IsUsed, last_result, first_of, step_of, steps_in, steps_of, AreDistinct, AreFew}
 use Rattle.rebuild_spec.proofs.WalkLaws.{same_place-refl, IsEach, IsOrdered, get-middle}
 use Rattle.rebuild_spec.proofs.ReachedLaws.{walked_all}
@@ -221,7 +221,7 @@ module _ (log : List LogEntry) where
   IsUsedAt (at_step n k) = IsUsed log (at_result n)
   IsUsedAt (at_result n) = IsUsed log (at_result n)
 
-  used_at : (p : Premise) → IsUsed log (place_of p) → IsUsedAt (place_of p)
+  used_at : (p : Premise) → IsUsed log (premise_place p) → IsUsedAt (premise_place p)
   used_at (Clause n) h = h
   used_at (Result n) h = h
 
@@ -229,16 +229,16 @@ module _ (log : List LogEntry) where
   AreCounted (start n l) = Unit {0}
   AreCounted (line t) = IsEach IsCountedLine t
 
-  joined_counted : (p : Place) (v : Var) (s t : Standing) → IsCounted p → AreCounted s → AreCounted t → AreCounted (joined p v s t)
+  joined_counted : (p : Place) (v : Var) (s t : Standing) → IsCounted p → AreCounted s → AreCounted t → AreCounted (joined_standing p v s t)
   joined_counted p v (start m l) (start n k) here first second = here
   joined_counted p v (start m l) (line t) here first second = second
   joined_counted p v (line t) (start n k) here first second = first
   joined_counted p v (line t) (line u) here first second = (here, second, first)
 
-  stepped_counted : (p : Place) (v : Var) (a b : List SatLit) (s t : Standing) → IsCounted p → AreCounted s → AreCounted t → AreCounted (stepped p v a s b t)
+  stepped_counted : (p : Place) (v : Var) (a b : List SatLit) (s t : Standing) → IsCounted p → AreCounted s → AreCounted t → AreCounted (standing_after_step p v a s b t)
   stepped_counted p v a b s t here first second = go (holds a (positive v) && holds b (negative v))
     where
-      go : (x : Bool) → AreCounted (if x then joined p v s t else joined p v t s)
+      go : (x : Bool) → AreCounted (if x then joined_standing p v s t else joined_standing p v t s)
       go true = joined_counted p v s t here first second
       go false = joined_counted p v t s here second first
 
@@ -247,24 +247,24 @@ module _ (input : Input) where
   are_counted p c s (of_start n l e) used = tt
   are_counted p c s (of_instance n d i e) used = used
   are_counted p c s (of_first n entry d t e h) used =
-      are_counted (place_of entry.chain.first) d t h (used_at input.log entry.chain.first (first_of n entry e used))
+      are_counted (premise_place entry.chain.first) d t h (used_at input.log entry.chain.first (first_of n entry e used))
   are_counted p c s (of_next n k entry step a b d x y e f h j r) used =
       let premise = used_at input.log step.premise (step_of n entry step e used (contains-get entry.chain.steps k step f)) in
-      stepped_counted input.log (at_step n (suc k)) step.var a b x y (used, (entry, e, slice_get_within entry.chain.steps k step f)) (are_counted (at_step n k) a x h used) (are_counted (place_of step.premise) b y j premise)
+      stepped_counted input.log (at_step n (suc k)) step.var a b x y (used, (entry, e, slice_get_within entry.chain.steps k step f)) (are_counted (at_step n k) a x h used) (are_counted (premise_place step.premise) b y j premise)
   are_counted p c s (of_result n entry d t e h) used = are_counted (at_step n (length entry.chain.steps)) d t h used
 
 -- a line stands at no later place than one that is made where it is
-number_bound : (lines : List Tree) (i : ℕ) (t u : Tree) → slice_get lines i ≡ Some t → same_line u t ≡ true → number_in lines u ≤ i
+number_bound : (lines : List Tree) (i : ℕ) (t u : Tree) → slice_get lines i ≡ Some t → same_line u t ≡ true → line_number_in lines u ≤ i
 number_bound [] i t u h e = cc
 number_bound (x ∷ lines) zero t u h e =
     let same : x ≡ t = cc in
-    let first : number_in (x ∷ lines) u ≡ 0 = ap (λ b. cond (not b) (1 + number_in lines u) 0) (subst (λ y. same_line u y ≡ true) (sym same) e) in
+    let first : line_number_in (x ∷ lines) u ≡ 0 = ap (λ b. cond (not b) (1 + line_number_in lines u) 0) (subst (λ y. same_line u y ≡ true) (sym same) e) in
     omega (arith, first)
 number_bound (x ∷ lines) (suc i) t u h e = go (same_line u x) refl (number_bound lines i t u h e)
   where
-    go : (b : Bool) → same_line u x ≡ b → number_in lines u ≤ i → number_in (x ∷ lines) u ≤ suc i
-    go true is rest = let first : number_in (x ∷ lines) u ≡ 0 = ap (λ b. cond (not b) (1 + number_in lines u) 0) is in omega (arith, first)
-    go false is rest = let first : number_in (x ∷ lines) u ≡ 1 + number_in lines u = ap (λ b. cond (not b) (1 + number_in lines u) 0) is in omega (arith, first, rest)
+    go : (b : Bool) → same_line u x ≡ b → line_number_in lines u ≤ i → line_number_in (x ∷ lines) u ≤ suc i
+    go true is rest = let first : line_number_in (x ∷ lines) u ≡ 0 = ap (λ b. cond (not b) (1 + line_number_in lines u) 0) is in omega (arith, first)
+    go false is rest = let first : line_number_in (x ∷ lines) u ≡ 1 + line_number_in lines u = ap (λ b. cond (not b) (1 + line_number_in lines u) 0) is in omega (arith, first, rest)
 
 module _ (Is : Tree → Type 0) (trees : List Tree) (ordered : IsOrdered Is trees) where
   -- no two lines are made at one place

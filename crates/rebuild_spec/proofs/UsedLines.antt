@@ -10,7 +10,7 @@ use Rattle.sat_log.specs.declared.chain.ChainStep.{ChainStep}
 use Rattle.sat_log.specs.declared.log.LogEntry.{LogEntry}
 use Rattle.rebuild_spec.specs.Input.{Instance, clause_by, Input}
 use Rattle.rebuild_spec.specs.Trees.{Place, at_clause, at_step, at_result, Tree}
-use Rattle.rebuild_spec.specs.Stands.{Standing, start, line, instance_line, joined, stepped, place_of, Stands, of_start, of_instance, of_first, of_next, of_result}
+use Rattle.rebuild_spec.specs.Stands.{Standing, start, line, instance_line, joined_standing, standing_after_step, premise_place, Stands, of_start, of_instance, of_first, of_next, of_result}
 use Rattle.rebuild_spec.specs.Used.{IsUsed, last_result, first_of, step_of}
 use Rattle.rebuild_spec.proofs.WalkLaws.{IsEach}
 use Rattle.rebuild_spec.proofs.StandsLaws.{one_stands}
@@ -31,23 +31,23 @@ module _ (input : Input) (P : Tree → Type 0) where
     pub stands : Stands input p clause standing
     pub all : AreAllIn standing
 
-  joined_in : (p : Place) (v : Var) (s t : Standing) → AreAllIn (joined p v s t) → AreAllIn s × AreAllIn t
+  joined_in : (p : Place) (v : Var) (s t : Standing) → AreAllIn (joined_standing p v s t) → AreAllIn s × AreAllIn t
   joined_in p v (start m l) (start n k) h = (tt, tt)
   joined_in p v (start m l) (line t) h = (tt, h)
   joined_in p v (line t) (start n k) h = (h, tt)
   joined_in p v (line t) (line u) h = (h.2, h.1)
 
-  stepped_in : (p : Place) (v : Var) (a b : List SatLit) (s t : Standing) → AreAllIn (stepped p v a s b t) → AreAllIn s × AreAllIn t
+  stepped_in : (p : Place) (v : Var) (a b : List SatLit) (s t : Standing) → AreAllIn (standing_after_step p v a s b t) → AreAllIn s × AreAllIn t
   stepped_in p v a b s t h = go (holds a (positive v) && holds b (negative v)) h
     where
-      go : (x : Bool) → AreAllIn (if x then joined p v s t else joined p v t s) → AreAllIn s × AreAllIn t
+      go : (x : Bool) → AreAllIn (if x then joined_standing p v s t else joined_standing p v t s) → AreAllIn s × AreAllIn t
       go true h = joined_in p v s t h
       go false h = let r = joined_in p v t s h in (r.1, r.0)
 
   -- what stands for the premises of the first steps of a chain
   pub record ArePremisesIn (entry : LogEntry) (k : ℕ) : Type 0 where
-    pub first : IsIn (place_of entry.chain.first)
-    pub others : (j : ℕ) (step : ChainStep) → j < k → slice_get entry.chain.steps j ≡ Some step → IsIn (place_of step.premise)
+    pub first : IsIn (premise_place entry.chain.first)
+    pub others : (j : ℕ) (step : ChainStep) → j < k → slice_get entry.chain.steps j ≡ Some step → IsIn (premise_place step.premise)
 
   chain_in : (p : Place) (c : List SatLit) (s : Standing) → Stands input p c s → AreAllIn s → (n k : ℕ) (entry : LogEntry) → p ≡ at_step n k → slice_get input.log n ≡ Some entry → ArePremisesIn entry k
   chain_in p c s (of_start m l e) all n k entry place at = cc
@@ -58,7 +58,7 @@ module _ (input : Input) (P : Tree → Type 0) where
       let none : zero ≡ k = cc in
       let same : other ≡ entry = cc in
       record {
-        first = subst (λ x. IsIn (place_of x.chain.first)) same (record { clause = d; standing = t; stands = h; all = all });
+        first = subst (λ x. IsIn (premise_place x.chain.first)) same (record { clause = d; standing = t; stands = h; all = all });
         others = λ j step l f. absurd (omega (arith, none, l));
       }
   chain_in p c s (of_next m q other step a b d x y e f h g r) all n k entry place at =
@@ -67,17 +67,17 @@ module _ (input : Input) (P : Tree → Type 0) where
       let same : other ≡ entry = cc in
       let parts = stepped_in (at_step m (suc q)) step.var a b x y all in
       let rest = chain_in (at_step m q) a x h parts.0 n q entry (ap (λ z. at_step z q) number) at in
-      let premise : IsIn (place_of step.premise) = record { clause = b; standing = y; stands = g; all = parts.1 } in
+      let premise : IsIn (premise_place step.premise) = record { clause = b; standing = y; stands = g; all = parts.1 } in
       record {
         first = rest.first;
         others = λ j also l is. go j also (nat_eq j q) refl (omega (arith, l, last)) is rest (ap (λ z. slice_get z.chain.steps q) (sym same) ∙ f) premise;
       }
     where
-      go : (j : ℕ) (also : ChainStep) (b : Bool) → nat_eq j q ≡ b → j < suc q → slice_get entry.chain.steps j ≡ Some also → ArePremisesIn entry q → slice_get entry.chain.steps q ≡ Some step → IsIn (place_of step.premise) → IsIn (place_of also.premise)
+      go : (j : ℕ) (also : ChainStep) (b : Bool) → nat_eq j q ≡ b → j < suc q → slice_get entry.chain.steps j ≡ Some also → ArePremisesIn entry q → slice_get entry.chain.steps q ≡ Some step → IsIn (premise_place step.premise) → IsIn (premise_place also.premise)
       go j also true e l is rest here premise =
           let number : j ≡ q = eqb-true j q e in
           let same : step ≡ also = cc in
-          subst (λ z. IsIn (place_of z.premise)) same premise
+          subst (λ z. IsIn (premise_place z.premise)) same premise
       go j also false e l is rest here premise =
           let other = λ (same : j ≡ q). false≢true (sym e ∙ eq-eqb j q same) in
           rest.others j also (omega (arith, l, other)) is

@@ -28,11 +28,11 @@ no n = negative (record { 0 = n })
 abbrev pub on : ℕ → Premise → ChainStep
 on n premise = record { var = record { 0 = n }; premise = premise }
 
-abbrev pub individual : SimpleType
-individual = base 1
+abbrev pub individual_type : SimpleType
+individual_type = base 1
 
-abbrev pub named : ℕ → Lambda
-named k = constant (name k)
+abbrev pub example_name : ℕ → Lambda
+example_name k = constant (name k)
 
 -- `t.p`: the conjecture $true. One line, by falsity.
 abbrev pub true_conjecture_a0 : Lambda
@@ -55,7 +55,7 @@ true_conjecture_refutation = record { witnesses = []; lines = true_conjecture_li
 
 -- `u.p`: p and ~ p. Two literals of the start close each other.
 abbrev pub clash_a0 : Lambda
-clash_a0 = named 0
+clash_a0 = example_name 0
 
 abbrev pub clash_e0 : LogEntry
 clash_e0 = record { chain = record { first = (Clause 1); steps = (on 0 (Clause 0) ∷ []) }; result = [] }
@@ -71,34 +71,34 @@ clash_refutation = record { witnesses = []; lines = clash_lines }
 
 -- `all.p`: a: $i > $o and c: $i, with ! [X] : a X and the conjecture a c. One line, by the term c.
 abbrev pub all_p_a0 : Lambda
-all_p_a0 = every individual (lam individual (app (named 0) (bound 0)))
+all_p_a0 = every individual_type (lam individual_type (app (example_name 0) (bound 0)))
 
 abbrev pub all_p_a1 : Lambda
-all_p_a1 = app (named 0) (named 1)
+all_p_a1 = app (example_name 0) (example_name 1)
 
 abbrev pub all_p_a2 : Lambda
-all_p_a2 = app (named 0) (app (constant (choice individual)) (lam individual (constant falsity)))
+all_p_a2 = app (example_name 0) (app (constant (choice individual_type)) (lam individual_type (constant falsity)))
 
 abbrev pub all_p_a3 : Lambda
-all_p_a3 = app (app (constant (equality individual)) (app (constant (choice individual)) (lam individual (constant falsity)))) (named 1)
+all_p_a3 = app (app (constant (equality individual_type)) (app (constant (choice individual_type)) (lam individual_type (constant falsity)))) (example_name 1)
 
 abbrev pub all_p_a4 : Lambda
-all_p_a4 = every individual (lam individual (neg (constant falsity)))
+all_p_a4 = every individual_type (lam individual_type (neg (constant falsity)))
 
 abbrev pub all_p_a5 : Lambda
 all_p_a5 = constant falsity
 
 abbrev pub all_p_i0 : Instance
-all_p_i0 = record { rule = (AllPos 0 (app (constant (choice individual)) (lam individual (constant falsity)))); principals = ((yes 0) ∷ []); alternatives = (((yes 2) ∷ []) ∷ []) }
+all_p_i0 = record { rule = (AllPos 0 (app (constant (choice individual_type)) (lam individual_type (constant falsity)))); principals = ((yes 0) ∷ []); alternatives = (((yes 2) ∷ []) ∷ []) }
 
 abbrev pub all_p_i1 : Instance
 all_p_i1 = record { rule = (Mat 0 1); principals = ((yes 2) ∷ (no 1) ∷ []); alternatives = (((no 3) ∷ []) ∷ []) }
 
 abbrev pub all_p_i2 : Instance
-all_p_i2 = record { rule = (Cho (lam individual (constant falsity))); principals = []; alternatives = (((yes 4) ∷ []) ∷ ((yes 5) ∷ []) ∷ []) }
+all_p_i2 = record { rule = (Cho (lam individual_type (constant falsity))); principals = []; alternatives = (((yes 4) ∷ []) ∷ ((yes 5) ∷ []) ∷ []) }
 
 abbrev pub all_p_i3 : Instance
-all_p_i3 = record { rule = (AllPos 0 (named 1)); principals = ((yes 0) ∷ []); alternatives = (((yes 1) ∷ []) ∷ []) }
+all_p_i3 = record { rule = (AllPos 0 (example_name 1)); principals = ((yes 0) ∷ []); alternatives = (((yes 1) ∷ []) ∷ []) }
 
 abbrev pub all_p_e0 : LogEntry
 all_p_e0 = record { chain = record { first = (Clause 5); steps = (on 1 (Clause 1) ∷ on 0 (Clause 0) ∷ []) }; result = [] }
@@ -107,14 +107,14 @@ abbrev pub all_p_input : Input
 all_p_input = record { atoms = (all_p_a0 ∷ all_p_a1 ∷ all_p_a2 ∷ all_p_a3 ∷ all_p_a4 ∷ all_p_a5 ∷ []); rows = []; clauses = (start_unit (yes 0) ∷ start_unit (no 1) ∷ clause_by ((no 0) ∷ (yes 2) ∷ []) all_p_i0 ∷ clause_by ((no 2) ∷ (yes 1) ∷ (no 3) ∷ []) all_p_i1 ∷ clause_by ((yes 4) ∷ (yes 5) ∷ []) all_p_i2 ∷ clause_by ((no 0) ∷ (yes 1) ∷ []) all_p_i3 ∷ []); log = (all_p_e0 ∷ []) }
 
 abbrev pub all_p_lines : List Line
-all_p_lines = record { branch = (plus all_p_a0 ∷ minus all_p_a1 ∷ []); rule = (AllPos 0 (named 1)); children = (Closed ∷ []) } ∷ []
+all_p_lines = record { branch = (plus all_p_a0 ∷ minus all_p_a1 ∷ []); rule = (AllPos 0 (example_name 1)); children = (Closed ∷ []) } ∷ []
 
 abbrev pub all_p_refutation : Refutation
 all_p_refutation = record { witnesses = []; lines = all_p_lines }
 
 -- p: ($i > $i) > $o and f: $i > $i, with p f and the conjecture p (^ [X] : f X)
 abbrev pub eta_equal_a0 : Lambda
-eta_equal_a0 = app (named 0) (lam individual (app (named 1) (bound 0)))
+eta_equal_a0 = app (example_name 0) (lam individual_type (app (example_name 1) (bound 0)))
 
 abbrev pub eta_equal_e0 : LogEntry
 eta_equal_e0 = record { chain = record { first = (Clause 1); steps = (on 0 (Clause 0) ∷ []) }; result = [] }
@@ -130,10 +130,10 @@ eta_equal_refutation = record { witnesses = []; lines = eta_equal_lines }
 
 -- f, g: $i > $i, with ! [X] : f X = g X and the conjecture f = g
 abbrev pub pointwise_a0 : Lambda
-pointwise_a0 = every individual (lam individual (app (app (constant (equality individual)) (app (named 0) (bound 0))) (app (named 1) (bound 0))))
+pointwise_a0 = every individual_type (lam individual_type (app (app (constant (equality individual_type)) (app (example_name 0) (bound 0))) (app (example_name 1) (bound 0))))
 
 abbrev pub pointwise_a1 : Lambda
-pointwise_a1 = app (app (constant (equality (arrow individual individual))) (lam individual (app (named 0) (bound 0)))) (lam individual (app (named 1) (bound 0)))
+pointwise_a1 = app (app (constant (equality (arrow individual_type individual_type))) (lam individual_type (app (example_name 0) (bound 0)))) (lam individual_type (app (example_name 1) (bound 0)))
 
 abbrev pub pointwise_i0 : Instance
 pointwise_i0 = record { rule = (FunNeg 0); principals = ((no 1) ∷ []); alternatives = (((no 0) ∷ []) ∷ []) }
@@ -152,35 +152,35 @@ pointwise_refutation = record { witnesses = []; lines = pointwise_lines }
 
 -- p: $i > $o, with ? [X] : p X and the conjecture p (@+ [X] : p X). One line, and no row, though the search made a witness.
 abbrev pub chosen_a0 : Lambda
-chosen_a0 = every individual (lam individual (neg (app (named 0) (bound 0))))
+chosen_a0 = every individual_type (lam individual_type (neg (app (example_name 0) (bound 0))))
 
 abbrev pub chosen_a1 : Lambda
-chosen_a1 = app (named 0) (app (constant (choice individual)) (lam individual (app (named 0) (bound 0))))
+chosen_a1 = app (example_name 0) (app (constant (choice individual_type)) (lam individual_type (app (example_name 0) (bound 0))))
 
 abbrev pub chosen_a2 : Lambda
-chosen_a2 = app (named 0) (constant (witness 0))
+chosen_a2 = app (example_name 0) (constant (witness 0))
 
 abbrev pub chosen_i0 : Instance
 chosen_i0 = record { rule = (AllNeg 0); principals = ((no 0) ∷ []); alternatives = (((yes 2) ∷ []) ∷ []) }
 
 abbrev pub chosen_i1 : Instance
-chosen_i1 = record { rule = (Cho (lam individual (app (named 0) (bound 0)))); principals = []; alternatives = (((yes 0) ∷ []) ∷ ((yes 1) ∷ []) ∷ []) }
+chosen_i1 = record { rule = (Cho (lam individual_type (app (example_name 0) (bound 0)))); principals = []; alternatives = (((yes 0) ∷ []) ∷ ((yes 1) ∷ []) ∷ []) }
 
 abbrev pub chosen_e0 : LogEntry
 chosen_e0 = record { chain = record { first = (Clause 3); steps = (on 1 (Clause 1) ∷ on 0 (Clause 0) ∷ []) }; result = [] }
 
 abbrev pub chosen_input : Input
-chosen_input = record { atoms = (chosen_a0 ∷ chosen_a1 ∷ chosen_a2 ∷ []); rows = (record { type = individual; predicate = (lam individual (neg (app (named 0) (bound 0)))) } ∷ []); clauses = (start_unit (no 0) ∷ start_unit (no 1) ∷ clause_by ((yes 0) ∷ (yes 2) ∷ []) chosen_i0 ∷ clause_by ((yes 0) ∷ (yes 1) ∷ []) chosen_i1 ∷ []); log = (chosen_e0 ∷ []) }
+chosen_input = record { atoms = (chosen_a0 ∷ chosen_a1 ∷ chosen_a2 ∷ []); rows = (record { type = individual_type; predicate = (lam individual_type (neg (app (example_name 0) (bound 0)))) } ∷ []); clauses = (start_unit (no 0) ∷ start_unit (no 1) ∷ clause_by ((yes 0) ∷ (yes 2) ∷ []) chosen_i0 ∷ clause_by ((yes 0) ∷ (yes 1) ∷ []) chosen_i1 ∷ []); log = (chosen_e0 ∷ []) }
 
 abbrev pub chosen_lines : List Line
-chosen_lines = record { branch = (minus chosen_a0 ∷ minus chosen_a1 ∷ []); rule = (Cho (lam individual (app (named 0) (bound 0)))); children = (Closed ∷ Closed ∷ []) } ∷ []
+chosen_lines = record { branch = (minus chosen_a0 ∷ minus chosen_a1 ∷ []); rule = (Cho (lam individual_type (app (example_name 0) (bound 0)))); children = (Closed ∷ Closed ∷ []) } ∷ []
 
 abbrev pub chosen_refutation : Refutation
 chosen_refutation = record { witnesses = []; lines = chosen_lines }
 
 -- 'q': $o, with q and the conjecture 'q'
 abbrev pub quoted_a0 : Lambda
-quoted_a0 = named 0
+quoted_a0 = example_name 0
 
 abbrev pub quoted_e0 : LogEntry
 quoted_e0 = record { chain = record { first = (Clause 1); steps = (on 0 (Clause 0) ∷ []) }; result = [] }
@@ -196,7 +196,7 @@ quoted_refutation = record { witnesses = []; lines = quoted_lines }
 
 -- The conjecture ! [X: $i] : $true. No literal names the witness, and its row is there all the same.
 abbrev pub unnamed_a0 : Lambda
-unnamed_a0 = every individual (lam individual (neg (constant falsity)))
+unnamed_a0 = every individual_type (lam individual_type (neg (constant falsity)))
 
 abbrev pub unnamed_a1 : Lambda
 unnamed_a1 = constant falsity
@@ -211,26 +211,26 @@ abbrev pub unnamed_e0 : LogEntry
 unnamed_e0 = record { chain = record { first = (Clause 1); steps = (on 1 (Clause 2) ∷ on 0 (Clause 0) ∷ []) }; result = [] }
 
 abbrev pub unnamed_input : Input
-unnamed_input = record { atoms = (unnamed_a0 ∷ unnamed_a1 ∷ []); rows = (record { type = individual; predicate = (lam individual (neg (constant falsity))) } ∷ []); clauses = (start_unit (no 0) ∷ clause_by ((yes 0) ∷ (yes 1) ∷ []) unnamed_i0 ∷ clause_by ((no 1) ∷ []) unnamed_i1 ∷ []); log = (unnamed_e0 ∷ []) }
+unnamed_input = record { atoms = (unnamed_a0 ∷ unnamed_a1 ∷ []); rows = (record { type = individual_type; predicate = (lam individual_type (neg (constant falsity))) } ∷ []); clauses = (start_unit (no 0) ∷ clause_by ((yes 0) ∷ (yes 1) ∷ []) unnamed_i0 ∷ clause_by ((no 1) ∷ []) unnamed_i1 ∷ []); log = (unnamed_e0 ∷ []) }
 
 abbrev pub unnamed_lines : List Line
 unnamed_lines = record { branch = (plus unnamed_a1 ∷ []); rule = (False 0); children = [] } ∷ record { branch = (minus unnamed_a0 ∷ minus unnamed_a1 ∷ []); rule = (AllNeg 0); children = (Closed ∷ []) } ∷ record { branch = (minus unnamed_a0 ∷ []); rule = (Cut (plus unnamed_a1)); children = (child.Line 0 ∷ child.Line 1 ∷ []) } ∷ []
 
 abbrev pub unnamed_refutation : Refutation
-unnamed_refutation = record { witnesses = (record { type = individual; predicate = (lam individual (neg (constant falsity))) } ∷ []); lines = unnamed_lines }
+unnamed_refutation = record { witnesses = (record { type = individual_type; predicate = (lam individual_type (neg (constant falsity))) } ∷ []); lines = unnamed_lines }
 
 -- `the.p`: p: $i > $o, with ? [X] : p X, that p holds of one value at most, and the conjecture p (@- [X] : p X)
 abbrev pub the_p_predicate : Lambda
-the_p_predicate = lam individual (app (named 0) (bound 0))
+the_p_predicate = lam individual_type (app (example_name 0) (bound 0))
 
 abbrev pub the_p_a0 : Lambda
-the_p_a0 = every individual (lam individual (neg (app (named 0) (bound 0))))
+the_p_a0 = every individual_type (lam individual_type (neg (app (example_name 0) (bound 0))))
 
 abbrev pub the_p_a1 : Lambda
-the_p_a1 = every individual (lam individual (every individual (lam individual (imp (app (named 0) (bound 1)) (imp (app (named 0) (bound 0)) (eq individual (bound 1) (bound 0)))))))
+the_p_a1 = every individual_type (lam individual_type (every individual_type (lam individual_type (imp (app (example_name 0) (bound 1)) (imp (app (example_name 0) (bound 0)) (eq individual_type (bound 1) (bound 0)))))))
 
 abbrev pub the_p_a2 : Lambda
-the_p_a2 = app (named 0) (app (constant (description individual)) the_p_predicate)
+the_p_a2 = app (example_name 0) (app (constant (description individual_type)) the_p_predicate)
 
 abbrev pub the_p_i0 : Instance
 the_p_i0 = record { rule = Des the_p_predicate; principals = []; alternatives = (yes 0 ∷ []) ∷ (no 1 ∷ []) ∷ (yes 2 ∷ []) ∷ [] }
@@ -249,22 +249,22 @@ the_p_refutation = record { witnesses = []; lines = the_p_lines }
 
 -- `k.p`: a | b, a | ~ b, ~ a | b and ~ a | ~ b. Two results, of which the second rests on the first.
 abbrev pub k_p_a0 : Lambda
-k_p_a0 = app (app (constant implication) (neg (named 0))) (named 1)
+k_p_a0 = app (app (constant implication) (neg (example_name 0))) (example_name 1)
 
 abbrev pub k_p_a1 : Lambda
-k_p_a1 = app (app (constant implication) (neg (named 0))) (neg (named 1))
+k_p_a1 = app (app (constant implication) (neg (example_name 0))) (neg (example_name 1))
 
 abbrev pub k_p_a2 : Lambda
-k_p_a2 = app (app (constant implication) (neg (neg (named 0)))) (named 1)
+k_p_a2 = app (app (constant implication) (neg (neg (example_name 0)))) (example_name 1)
 
 abbrev pub k_p_a3 : Lambda
-k_p_a3 = app (app (constant implication) (neg (neg (named 0)))) (neg (named 1))
+k_p_a3 = app (app (constant implication) (neg (neg (example_name 0)))) (neg (example_name 1))
 
 abbrev pub k_p_a4 : Lambda
-k_p_a4 = named 0
+k_p_a4 = example_name 0
 
 abbrev pub k_p_a5 : Lambda
-k_p_a5 = named 1
+k_p_a5 = example_name 1
 
 abbrev pub k_p_i0 : Instance
 k_p_i0 = record { rule = (ImpPos 0); principals = ((yes 0) ∷ []); alternatives = (((yes 4) ∷ []) ∷ ((yes 5) ∷ []) ∷ []) }

@@ -21,22 +21,22 @@ pub data Standing : Type 0 where
   line : Tree → Standing
 
 -- a rule at these places of its principals
-abbrev pub placed : RuleUse → List ℕ → RuleUse
-placed (False k) (i ∷ is) = False i
-placed (Close k m) (i ∷ j ∷ is) = Close i j
-placed (Refl k) (i ∷ is) = Refl i
-placed (ImpPos k) (i ∷ is) = ImpPos i
-placed (ImpNeg k) (i ∷ is) = ImpNeg i
-placed (BoolPos k) (i ∷ is) = BoolPos i
-placed (BoolNeg k) (i ∷ is) = BoolNeg i
-placed (FunPos k) (i ∷ is) = FunPos i
-placed (FunNeg k) (i ∷ is) = FunNeg i
-placed (AllPos k u) (i ∷ is) = AllPos i u
-placed (AllNeg k) (i ∷ is) = AllNeg i
-placed (Mat k m) (i ∷ j ∷ is) = Mat i j
-placed (Dec k) (i ∷ is) = Dec i
-placed (Con k m) (i ∷ j ∷ is) = Con i j
-placed rule is = rule
+abbrev pub rule_at_places : RuleUse → List ℕ → RuleUse
+rule_at_places (False k) (i ∷ is) = False i
+rule_at_places (Close k m) (i ∷ j ∷ is) = Close i j
+rule_at_places (Refl k) (i ∷ is) = Refl i
+rule_at_places (ImpPos k) (i ∷ is) = ImpPos i
+rule_at_places (ImpNeg k) (i ∷ is) = ImpNeg i
+rule_at_places (BoolPos k) (i ∷ is) = BoolPos i
+rule_at_places (BoolNeg k) (i ∷ is) = BoolNeg i
+rule_at_places (FunPos k) (i ∷ is) = FunPos i
+rule_at_places (FunNeg k) (i ∷ is) = FunNeg i
+rule_at_places (AllPos k u) (i ∷ is) = AllPos i u
+rule_at_places (AllNeg k) (i ∷ is) = AllNeg i
+rule_at_places (Mat k m) (i ∷ j ∷ is) = Mat i j
+rule_at_places (Dec k) (i ∷ is) = Dec i
+rule_at_places (Con k m) (i ∷ j ∷ is) = Con i j
+rule_at_places rule is = rule
 
 -- the place of a literal in a branch
 abbrev pub place_in : List SatLit → SatLit → ℕ
@@ -47,32 +47,32 @@ place_in branch l = position_or_len (same_literal l) branch
 abbrev pub instance_line : ℕ → List SatLit → Instance → Tree
 instance_line n clause i =
     let branch = map negated clause in
-    leaf (at_clause n) branch (placed i.rule (map (place_in branch) i.principals)) (map (λ _. Closed) i.alternatives)
+    leaf (at_clause n) branch (rule_at_places i.rule (map (place_in branch) i.principals)) (map (λ _. Closed) i.alternatives)
 
 -- two start units in the order of their numbers
-abbrev pub in_order : ℕ → SatLit → ℕ → SatLit → List SatLit
-in_order m l n k = if nat_lt m n then l ∷ k ∷ [] else k ∷ l ∷ []
+abbrev pub literals_in_order : ℕ → SatLit → ℕ → SatLit → List SatLit
+literals_in_order m l n k = if nat_lt m n then l ∷ k ∷ [] else k ∷ l ∷ []
 
 -- What a step gives at its place, on a variable, of what stands for the clause with the variable and for the one with its negation: two
 -- start units close each other, one start unit leaves the other line as it is, and two lines give a cut.
-abbrev pub joined : Place → Var → Standing → Standing → Standing
-joined p v (start m l) (start n k) = line (leaf p (in_order m l n k) (Close 0 1) [])
-joined p v (start m l) (line t) = line t
-joined p v (line t) (start n k) = line t
-joined p v (line t) (line u) = line (cut p v u t)
+abbrev pub joined_standing : Place → Var → Standing → Standing → Standing
+joined_standing p v (start m l) (start n k) = line (leaf p (literals_in_order m l n k) (Close 0 1) [])
+joined_standing p v (start m l) (line t) = line t
+joined_standing p v (line t) (start n k) = line t
+joined_standing p v (line t) (line u) = line (cut p v u t)
 
 -- what a step gives of what a chain has so far and of its premise
-abbrev pub stepped : Place → Var → List SatLit → Standing → List SatLit → Standing → Standing
-stepped p v a s b t = if holds a (positive v) && holds b (negative v) then joined p v s t else joined p v t s
+abbrev pub standing_after_step : Place → Var → List SatLit → Standing → List SatLit → Standing → Standing
+standing_after_step p v a s b t = if holds a (positive v) && holds b (negative v) then joined_standing p v s t else joined_standing p v t s
 
-abbrev pub place_of : Premise → Place
-place_of (Clause n) = at_clause n
-place_of (Result n) = at_result n
+abbrev pub premise_place : Premise → Place
+premise_place (Clause n) = at_clause n
+premise_place (Result n) = at_result n
 
 -- At a place there is this clause, and this stands for it.
 pub data Stands (input : Input) : Place → List SatLit → Standing → Type 0 where
   of_start : (n : ℕ) (l : SatLit) → slice_get input.clauses n ≡ Some (start_unit l) → Stands input (at_clause n) (l ∷ []) (start n l)
   of_instance : (n : ℕ) (c : List SatLit) (i : Instance) → slice_get input.clauses n ≡ Some (clause_by c i) → Stands input (at_clause n) c (line (instance_line n c i))
-  of_first : (n : ℕ) (entry : LogEntry) (c : List SatLit) (s : Standing) → slice_get input.log n ≡ Some entry → Stands input (place_of entry.chain.first) c s → Stands input (at_step n zero) c s
-  of_next : (n k : ℕ) (entry : LogEntry) (step : ChainStep) (a b c : List SatLit) (s t : Standing) → slice_get input.log n ≡ Some entry → slice_get entry.chain.steps k ≡ Some step → Stands input (at_step n k) a s → Stands input (place_of step.premise) b t → resolved step.var a b ≡ Some c → Stands input (at_step n (suc k)) c (stepped (at_step n (suc k)) step.var a s b t)
+  of_first : (n : ℕ) (entry : LogEntry) (c : List SatLit) (s : Standing) → slice_get input.log n ≡ Some entry → Stands input (premise_place entry.chain.first) c s → Stands input (at_step n zero) c s
+  of_next : (n k : ℕ) (entry : LogEntry) (step : ChainStep) (a b c : List SatLit) (s t : Standing) → slice_get input.log n ≡ Some entry → slice_get entry.chain.steps k ≡ Some step → Stands input (at_step n k) a s → Stands input (premise_place step.premise) b t → resolved step.var a b ≡ Some c → Stands input (at_step n (suc k)) c (standing_after_step (at_step n (suc k)) step.var a s b t)
   of_result : (n : ℕ) (entry : LogEntry) (c : List SatLit) (s : Standing) → slice_get input.log n ≡ Some entry → Stands input (at_step n (length entry.chain.steps)) c s → Stands input (at_result n) c s

@@ -6,7 +6,7 @@ use Rattle.tableau_calculus.specs.declared.refutation.Child.TheVariants as child
 use Rattle.tableau_calculus.specs.declared.refutation.Line.{Line}
 use Rattle.sat_base.specs.declared.literal.Var.{Var}
 use Rattle.sat_base.specs.declared.literal.SatLit.{SatLit}
-use Rattle.sat_base.specs.Literal.{positive, negated, mentions}
+use Rattle.sat_base.specs.Literal.{positive, negated, mentions_variable}
 use Rattle.search_spec.specs.Numbered.{literal_at}
 use Rattle.rebuild_spec.specs.Input.{Instance, Sourced, clause_by, clause_in, Input, literals_of}
 
@@ -19,17 +19,17 @@ abbrev pub IsEachReached : List Line → Type 0
 IsEachReached lines = (n : ℕ) → n < length lines → IsReached lines n
 
 -- the variable occurs in a clause
-pub record Occurs (input : Input) (v : Var) : Type 0 where
+pub record OccursInInput (input : Input) (v : Var) : Type 0 where
   pub number : ℕ
   pub clause : Sourced
   pub there : slice_get input.clauses number ≡ Some clause
-  pub mentioned : mentions (clause_in clause) v ≡ true
+  pub mentioned : mentions_variable (clause_in clause) v ≡ true
 
 -- a cut on the atom of a variable that occurs in a clause
 pub record IsCutOnAtom (input : Input) (l : Line) : Type 0 where
   pub variable : Var
   pub rule : l.rule ≡ Cut (literal_at input.atoms (positive variable))
-  pub occurs : Occurs input variable
+  pub occurs : OccursInInput input variable
 
 -- two literals of the start close each other
 pub record IsClosedByStart (start : List Literal) (l : Line) : Type 0 where

@@ -7,13 +7,13 @@ use Rattle.sat_log.specs.declared.chain.ChainStep.{ChainStep}
 use Rattle.sat_log.specs.declared.log.LogEntry.{LogEntry}
 use Rattle.rebuild_spec.specs.Input.{Instance, clause_by, Input, literals_of}
 use Rattle.rebuild_spec.specs.Trees.{Place, at_clause, at_result}
-use Rattle.rebuild_spec.specs.Stands.{place_of}
+use Rattle.rebuild_spec.specs.Stands.{premise_place}
 
 -- A clause or a result is used: it is the last result, or a premise of the chain of one that is used.
 pub data IsUsed (log : List LogEntry) : Place → Type 0 where
   last_result : (n : ℕ) → length log ≡ n + 1 → IsUsed log (at_result n)
-  first_of : (n : ℕ) (entry : LogEntry) → slice_get log n ≡ Some entry → IsUsed log (at_result n) → IsUsed log (place_of entry.chain.first)
-  step_of : (n : ℕ) (entry : LogEntry) (step : ChainStep) → slice_get log n ≡ Some entry → IsUsed log (at_result n) → Contains entry.chain.steps step → IsUsed log (place_of step.premise)
+  first_of : (n : ℕ) (entry : LogEntry) → slice_get log n ≡ Some entry → IsUsed log (at_result n) → IsUsed log (premise_place entry.chain.first)
+  step_of : (n : ℕ) (entry : LogEntry) (step : ChainStep) → slice_get log n ≡ Some entry → IsUsed log (at_result n) → Contains entry.chain.steps step → IsUsed log (premise_place step.premise)
 
 -- how many steps the chains of these results of a log have
 abbrev pub steps_in : Option LogEntry → ℕ

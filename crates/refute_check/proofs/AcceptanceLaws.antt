@@ -17,11 +17,11 @@ use Rattle.tableau_calculus.proofs.StartMeets.{start_unnamed, start_met}
 use Rattle.tableau_calculus.proofs.FirstFailureLaws.{accepted_no_failure, one_first_failure}
 use Rattle.delta_defs.specs.Definitions.{Definition}
 use Rattle.delta_defs.specs.Unfolding.{definitions_of, taken_names, unfolded_problem}
-use Rattle.delta_defs.specs.Laws.{AreDeclared}
+use Rattle.delta_defs.specs.Laws.{AreDeclaredNames}
 use Rattle.delta_defs.proofs.KeptModels.{keeps_models, keeps_types}
 use Rattle.delta_defs.proofs.UnfoldedOnce.{nothing_unfolded, unfold_twice}
 use Rattle.refute_print.specs.Trees.{RefutationTree}
-use Rattle.refute_print.specs.Named.{names_of, name_at, named_refutation, ArePlaces}
+use Rattle.refute_print.specs.Named.{names_of, name_numbered, named_refutation, ArePlaces}
 use Rattle.refute_check.specs.Numbered.{numbered_refutation}
 use Rattle.refute_check.specs.Refusal.{IfLine, FailsAt}
 use Rattle.refute_check.specs.Acceptance.{taken_texts, NamesDefinitions, refuted_problem, IsAcceptedFor, DifferFirst, TextFailsAt, at_definition, behind_definitions}
@@ -128,7 +128,7 @@ module _ (p : PlainProblem) where
       go [] e = tt
       go (w ∷ names) e = e
 
-  none_taken : (ds : List Definition) → definitions_of p ≡ ds → map (name_at (names_of p.declared.bases p.declared.consts).constants) (map (λ d. d.place) ds) ≡ [] → definitions_of p ≡ []
+  none_taken : (ds : List Definition) → definitions_of p ≡ ds → map (name_numbered (names_of p.declared.bases p.declared.consts).constants) (map (λ d. d.place) ds) ≡ [] → definitions_of p ≡ []
   none_taken [] e h = e
   none_taken (d ∷ ds) e h = cc
 
@@ -147,7 +147,7 @@ module _ (p : PlainProblem) where
   }
 
   -- declared places are those of names
-  pub places_named : (ks : List ℕ) → AreDeclared p ks → ArePlaces (names_of p.declared.bases p.declared.consts) ks
+  pub places_named : (ks : List ℕ) → AreDeclaredNames p ks → ArePlaces (names_of p.declared.bases p.declared.consts) ks
   places_named ks h = subst (λ n. AllByRecursion (λ k. k < n) ks) (sym (length-map p.declared.consts (λ c. c.name))) h
 
   pub start_once : start (unfolded_problem (unfolded_problem p)) ≡ start (unfolded_problem p)

@@ -10,7 +10,7 @@ use Rattle.tableau_calculus.specs.declared.refutation.Line.{Line}
 use Rattle.tableau_calculus.proofs.ListLaws.{untrue}
 use Rattle.tableau_calculus.proofs.AddedLaws.{same_sign-true}
 use Rattle.refute_check.specs.Internal.Numbers.{number_in}
-use Rattle.refute_check.specs.Internal.Branches.{has, IsLiteralOf, Represents, AreNumbered, Grow, AreBranches}
+use Rattle.refute_check.specs.Internal.Branches.{branch_has, IsLiteralOf, Represents, AreNumberedBranch, Grow, AreBranches}
 use Rattle.refute_check.specs.declared.branch.Branch.{Branch}
 use Rattle.refute_check.proofs.NumberLaws.{number_in-at}
 use Rattle.refute_check.proofs.SetLaws.{or_split}
@@ -36,7 +36,7 @@ pub grow-more : (a b c : List Lambda) → Grow a b → Grow b c → Grow a c
 grow-more a b c h g = (h.0 ++ g.0, g.1 ∙ ap (λ l. l ++ g.0) h.1 ∙ append_assoc a h.0 g.0)
 
 module _ (terms : List Lambda) where
-  pub represents-none : (b : Branch) → ((sign : Bool) (k : ℕ) → has b sign k ≡ false) → Represents terms [] b
+  pub represents-none : (b : Branch) → ((sign : Bool) (k : ℕ) → branch_has b sign k ≡ false) → Represents terms [] b
   represents-none b h = record {
     sound = λ sign k e. absurd (untrue e (h sign k));
     whole = λ sign k l. absurd (omega (arith, l.among.1));
@@ -50,30 +50,30 @@ module _ (terms : List Lambda) where
   sign-itself false = refl
 
   -- one literal more, whose atom has a number
-  pub represents-more : (ls : List Literal) (b new : Branch) (l : Literal) (n : ℕ) → Represents terms ls b → number_in terms l.atom ≡ Some n → ((sign : Bool) (k : ℕ) → has new sign k ≡ (has b sign k || (same_sign l.positive sign && n == k))) → Represents terms (ls ++ l ∷ []) new
+  pub represents-more : (ls : List Literal) (b new : Branch) (l : Literal) (n : ℕ) → Represents terms ls b → number_in terms l.atom ≡ Some n → ((sign : Bool) (k : ℕ) → branch_has new sign k ≡ (branch_has b sign k || (same_sign l.positive sign && n == k))) → Represents terms (ls ++ l ∷ []) new
   represents-more ls b new l n h g e = record {
-    sound = λ sign k i. or_split (has b sign k) (same_sign l.positive sign && n == k) (sym (e sign k) ∙ i)
+    sound = λ sign k i. or_split (branch_has b sign k) (same_sign l.positive sign && n == k) (sym (e sign k) ∙ i)
         (λ j. literal_in-more ls l sign k (h.sound sign k j))
         (λ j.
         let parts = and_parts (same_sign l.positive sign) (n == k) j in
         let same : l ≡ record { positive = sign; atom = l.atom } = ap (λ s. record { positive = s; atom = l.atom }) (same_sign-true l.positive sign parts.0) in
         record { atom = l.atom; numbered = g ∙ ap Some (eqb-true n k parts.1); among = subst (Contains (ls ++ l ∷ [])) same (Contains-push ls l) });
     whole = λ sign k i. e sign k ∙ ⊎_elim
-        (λ c. or_left (has b sign k) (same_sign l.positive sign && n == k) (h.whole sign k (record { atom = i.atom; numbered = i.numbered; among = c })))
+        (λ c. or_left (branch_has b sign k) (same_sign l.positive sign && n == k) (h.whole sign k (record { atom = i.atom; numbered = i.numbered; among = c })))
         (λ same.
         let sides : l.positive ≡ sign = ap (λ x. x.positive) same in
         let atoms : l.atom ≡ i.atom = ap (λ x. x.atom) same in
         let numbers : Some n ≡ Some k = sym g ∙ ap (number_in terms) atoms ∙ i.numbered in
         let equal : n ≡ k = cc in
-        or_right (has b sign k) (same_sign l.positive sign && n == k) (and_from (same_sign l.positive sign) (n == k) (ap (same_sign l.positive) (sym sides) ∙ sign-itself l.positive) (eq-eqb n k equal)))
+        or_right (branch_has b sign k) (same_sign l.positive sign && n == k) (and_from (same_sign l.positive sign) (n == k) (ap (same_sign l.positive) (sym sides) ∙ sign-itself l.positive) (eq-eqb n k equal)))
         (Contains-push_cases ls l (record { positive = sign; atom = i.atom }) i.among);
   }
 
 -- more terms
-pub numbered-grown : (ts us : List Lambda) (ls : List Literal) → AreNumbered ts ls → AreNumbered (ts ++ us) ls
+pub numbered-grown : (ts us : List Lambda) (ls : List Literal) → AreNumberedBranch ts ls → AreNumberedBranch (ts ++ us) ls
 numbered-grown ts us ls h l c = let n = h l c in (n.0, number_in-grown ts us l.atom n.0 n.1)
 
-pub represents-grown : (ts us : List Lambda) (ls : List Literal) (b : Branch) → AreNumbered ts ls → Represents ts ls b → Represents (ts ++ us) ls b
+pub represents-grown : (ts us : List Lambda) (ls : List Literal) (b : Branch) → AreNumberedBranch ts ls → Represents ts ls b → Represents (ts ++ us) ls b
 represents-grown ts us ls b n h = record {
   sound = λ sign k e. let l = h.sound sign k e in record { atom = l.atom; numbered = number_in-grown ts us l.atom k l.numbered; among = l.among };
   whole = λ sign k l.
@@ -90,7 +90,7 @@ branches-grown ts us (line ∷ lines) [] h = absurd h
 branches-grown ts us (line ∷ lines) (b ∷ bs) h =
     (numbered-grown ts us line.branch h.0, represents-grown ts us line.branch b h.0 h.1, branches-grown ts us lines bs h.2)
 
-pub branches-append : (ts : List Lambda) (lines : List Line) (bs : List Branch) (line : Line) (b : Branch) → AreBranches ts lines bs → AreNumbered ts line.branch → Represents ts line.branch b → AreBranches ts (lines ++ line ∷ []) (bs ++ b ∷ [])
+pub branches-append : (ts : List Lambda) (lines : List Line) (bs : List Branch) (line : Line) (b : Branch) → AreBranches ts lines bs → AreNumberedBranch ts line.branch → Represents ts line.branch b → AreBranches ts (lines ++ line ∷ []) (bs ++ b ∷ [])
 branches-append ts [] [] line b h n r = (n, r, tt)
 branches-append ts [] (c ∷ bs) line b h n r = absurd h
 branches-append ts (l ∷ lines) [] line b h n r = absurd h
@@ -99,8 +99,8 @@ branches-append ts (l ∷ lines) (c ∷ bs) line b h n r = (h.0, h.1, branches-a
 pub branches-grow : (ts us : List Lambda) (lines : List Line) (bs : List Branch) → Grow ts us → AreBranches ts lines bs → AreBranches us lines bs
 branches-grow ts us lines bs g h = subst (λ vs. AreBranches vs lines bs) (sym g.1) (branches-grown ts g.0 lines bs h)
 
-pub numbered-grow : (ts us : List Lambda) (ls : List Literal) → Grow ts us → AreNumbered ts ls → AreNumbered us ls
-numbered-grow ts us ls g h = subst (λ vs. AreNumbered vs ls) (sym g.1) (numbered-grown ts g.0 ls h)
+pub numbered-grow : (ts us : List Lambda) (ls : List Literal) → Grow ts us → AreNumberedBranch ts ls → AreNumberedBranch us ls
+numbered-grow ts us ls g h = subst (λ vs. AreNumberedBranch vs ls) (sym g.1) (numbered-grown ts g.0 ls h)
 
-pub represents-grow : (ts us : List Lambda) (ls : List Literal) (b : Branch) → Grow ts us → AreNumbered ts ls → Represents ts ls b → Represents us ls b
+pub represents-grow : (ts us : List Lambda) (ls : List Literal) (b : Branch) → Grow ts us → AreNumberedBranch ts ls → Represents ts ls b → Represents us ls b
 represents-grow ts us ls b g n h = subst (λ vs. Represents vs ls b) (sym g.1) (represents-grown ts g.0 ls b n h)

@@ -12,11 +12,11 @@ use Rattle.tableau_calculus.specs.declared.refused.PlainRefused.{PlainRefused}
 use Rattle.tableau_calculus.specs.declared.refused.PlainRefused.TheVariants.{Refused, Memory}
 use Rattle.tableau_calculus.specs.Refused.{IfRefused}
 use Rattle.refute_check.specs.declared.shared.Shared.{Shared}
-use Rattle.refute_check.specs.Internal.Shared.{scope_in, declared_in, the_rows, IsGood}
+use Rattle.refute_check.specs.Internal.Shared.{shared_scope, declared_in, the_rows, IsGoodShared}
 use Rattle.refute_check.proofs.SharedLaws.{scope_rows}
 
 -- a line's answer over the witnesses of the table
-pub answer_over : (s : Shared) → IsGood s → (scope : Scope) → declared_in s ≡ scope → (rows : List Row) → the_rows s ≡ rows → (earlier : List Line) (line : Line) (why : Option Why) → LineAnswer (scope_in s) (the_rows s) earlier line why → LineAnswer (with_rows scope rows) rows earlier line why
+pub answer_over : (s : Shared) → IsGoodShared s → (scope : Scope) → declared_in s ≡ scope → (rows : List Row) → the_rows s ≡ rows → (earlier : List Line) (line : Line) (why : Option Why) → LineAnswer (shared_scope s) (the_rows s) earlier line why → LineAnswer (with_rows scope rows) rows earlier line why
 answer_over s good scope declared rows are earlier line why h =
     subst (λ x. LineAnswer (with_rows x rows) rows earlier line why) declared
     (subst (λ rs. LineAnswer (with_rows (declared_in s) rs) rs earlier line why) are

@@ -8,7 +8,7 @@ use Rattle.tableau_calculus.specs.Accepted.{Within, IsClosedBranch}
 use Rattle.tableau_calculus.specs.declared.refutation.Line.{Line}
 use Rattle.tableau_calculus.proofs.ListLaws.{contains-within, within-each}
 use Rattle.refute_check.specs.Internal.Numbers.{number_in}
-use Rattle.refute_check.specs.Internal.Branches.{has, IsLiteralOf, Represents, AreNumbered, AreBranches}
+use Rattle.refute_check.specs.Internal.Branches.{branch_has, IsLiteralOf, Represents, AreNumberedBranch, AreBranches}
 use Rattle.refute_check.specs.declared.branch.Branch.{Branch}
 use Rattle.refute_check.proofs.BranchLaws.{same_number}
 use Rattle.refute_check.proofs.SetLaws.{or_split}
@@ -17,7 +17,7 @@ use Rattle.refute_check.proofs.SetLaws.{or_split}
 pub record LineAt (terms : List Lambda) (lines : List Line) (j : ℕ) (b : Branch) : Type 0 where
   pub line : Line
   pub at : slice_get lines j ≡ Some line
-  pub numbered : AreNumbered terms line.branch
+  pub numbered : AreNumberedBranch terms line.branch
   pub represents : Represents terms line.branch b
 
 pub line_at : (terms : List Lambda) (lines : List Line) (bs : List Branch) (j : ℕ) (b : Branch) → AreBranches terms lines bs → slice_get bs j ≡ Some b → LineAt terms lines j b
@@ -40,29 +40,29 @@ module _ (terms : List Lambda) where
   literal_is ls sign k t h g = subst (λ u. Contains ls (record { positive = sign; atom = u })) (same_number terms h.atom t k h.numbered g) h.among
 
   module _ (alternative branch : List Literal) (known own : Branch) (a : Represents terms alternative known) (o : Represents terms branch own) where
-    in_either : (sign : Bool) (k : ℕ) (t : Lambda) → number_in terms t ≡ Some k → Contains (alternative ++ branch) (record { positive = sign; atom = t }) → IsTrue (has known sign k || has own sign k)
+    in_either : (sign : Bool) (k : ℕ) (t : Lambda) → number_in terms t ≡ Some k → Contains (alternative ++ branch) (record { positive = sign; atom = t }) → IsTrue (branch_has known sign k || branch_has own sign k)
     in_either sign k t n c = ⊎_elim
-        (λ h. or_left (has known sign k) (has own sign k) (a.whole sign k (record { atom = t; numbered = n; among = h })))
-        (λ h. or_right (has known sign k) (has own sign k) (o.whole sign k (record { atom = t; numbered = n; among = h })))
+        (λ h. or_left (branch_has known sign k) (branch_has own sign k) (a.whole sign k (record { atom = t; numbered = n; among = h })))
+        (λ h. or_right (branch_has known sign k) (branch_has own sign k) (o.whole sign k (record { atom = t; numbered = n; among = h })))
         (Contains-append_cases alternative branch (record { positive = sign; atom = t }) c)
 
-    either_in : (sign : Bool) (k : ℕ) (t : Lambda) → number_in terms t ≡ Some k → IsTrue (has known sign k || has own sign k) → Contains (alternative ++ branch) (record { positive = sign; atom = t })
-    either_in sign k t n h = or_split (has known sign k) (has own sign k) h
+    either_in : (sign : Bool) (k : ℕ) (t : Lambda) → number_in terms t ≡ Some k → IsTrue (branch_has known sign k || branch_has own sign k) → Contains (alternative ++ branch) (record { positive = sign; atom = t })
+    either_in sign k t n h = or_split (branch_has known sign k) (branch_has own sign k) h
         (λ e. Contains-append_left alternative branch (record { positive = sign; atom = t }) (literal_is alternative sign k t (a.sound sign k e) n))
         (λ e. Contains-append_right alternative branch (record { positive = sign; atom = t }) (literal_is branch sign k t (o.sound sign k e) n))
 
-    pub within-numbers : (ls : List Literal) (b : Branch) → Represents terms ls b → Within ls (alternative ++ branch) → (sign : Bool) (k : ℕ) → IsTrue (has b sign k) → IsTrue (has known sign k || has own sign k)
+    pub within-numbers : (ls : List Literal) (b : Branch) → Represents terms ls b → Within ls (alternative ++ branch) → (sign : Bool) (k : ℕ) → IsTrue (branch_has b sign k) → IsTrue (branch_has known sign k || branch_has own sign k)
     within-numbers ls b r w sign k e =
         let l = r.sound sign k e in
         in_either sign k l.atom l.numbered (contains-within (record { positive = sign; atom = l.atom }) ls (alternative ++ branch) l.among w)
 
-    pub numbers-within : (ls : List Literal) (b : Branch) → AreNumbered terms ls → Represents terms ls b → ((sign : Bool) (k : ℕ) → IsTrue (has b sign k) → IsTrue (has known sign k || has own sign k)) → Within ls (alternative ++ branch)
+    pub numbers-within : (ls : List Literal) (b : Branch) → AreNumberedBranch terms ls → Represents terms ls b → ((sign : Bool) (k : ℕ) → IsTrue (branch_has b sign k) → IsTrue (branch_has known sign k || branch_has own sign k)) → Within ls (alternative ++ branch)
     numbers-within ls b n r h = within-each ls (alternative ++ branch) (λ l c.
         let k = n l c in
         either_in l.positive k.0 l.atom k.1 (h l.positive k.0 (r.whole l.positive k.0 (record { atom = l.atom; numbered = k.1; among = c }))))
 
     -- a literal of the alternative whose negation is in the branch
-    pub clash-closed : (sign : Bool) (k : ℕ) → IsTrue (has known sign k) → IsTrue (has own (not sign) k) → IsClosedBranch (alternative ++ branch)
+    pub clash-closed : (sign : Bool) (k : ℕ) → IsTrue (branch_has known sign k) → IsTrue (branch_has own (not sign) k) → IsClosedBranch (alternative ++ branch)
     clash-closed sign k e g =
         let l = a.sound sign k e in
         record {
@@ -72,7 +72,7 @@ module _ (terms : List Lambda) where
         }
 
   -- a literal of the branch whose negation is in it
-  pub itself-closed : (branch : List Literal) (own : Branch) → Represents terms branch own → (sign : Bool) (k : ℕ) → IsTrue (has own sign k) → IsTrue (has own (not sign) k) → IsClosedBranch branch
+  pub itself-closed : (branch : List Literal) (own : Branch) → Represents terms branch own → (sign : Bool) (k : ℕ) → IsTrue (branch_has own sign k) → IsTrue (branch_has own (not sign) k) → IsClosedBranch branch
   itself-closed branch own o sign k e g =
       let l = o.sound sign k e in
       record {
@@ -82,7 +82,7 @@ module _ (terms : List Lambda) where
       }
 
   -- whether a branch is closed, by numbers
-  pub clashes_closed : (branch : List Literal) (own : Branch) (answer : Bool) → AreNumbered terms branch → Represents terms branch own → (IsTrue answer ↔ ((k : ℕ) × (sign : Bool) × IsTrue (has own sign k) × IsTrue (has own (not sign) k))) → IsTrue answer ↔ IsClosedBranch branch
+  pub clashes_closed : (branch : List Literal) (own : Branch) (answer : Bool) → AreNumberedBranch terms branch → Represents terms branch own → (IsTrue answer ↔ ((k : ℕ) × (sign : Bool) × IsTrue (branch_has own sign k) × IsTrue (branch_has own (not sign) k))) → IsTrue answer ↔ IsClosedBranch branch
   clashes_closed branch own answer n o h = (
     λ e. let c = h.0 e in itself-closed branch own o c.1 c.0 c.2 c.3,
     λ c.
@@ -94,11 +94,11 @@ module _ (terms : List Lambda) where
   not_not true = refl
   not_not false = refl
 
-  module _ {P : Type 0} (alternative branch : List Literal) (known own : Branch) (n : AreNumbered terms branch) (a : Represents terms alternative known) (o : Represents terms branch own) where
+  module _ {P : Type 0} (alternative branch : List Literal) (known own : Branch) (n : AreNumberedBranch terms branch) (a : Represents terms alternative known) (o : Represents terms branch own) where
     -- where a branch with an alternative is closed
     pub closed-cases : IsClosedBranch (alternative ++ branch)
-        → ((sign : Bool) (k : ℕ) → IsTrue (has own sign k) → IsTrue (has own (not sign) k) → P)
-        → ((sign : Bool) (k : ℕ) → IsTrue (has known sign k) → IsTrue (has own (not sign) k) → P)
+        → ((sign : Bool) (k : ℕ) → IsTrue (branch_has own sign k) → IsTrue (branch_has own (not sign) k) → P)
+        → ((sign : Bool) (k : ℕ) → IsTrue (branch_has known sign k) → IsTrue (branch_has own (not sign) k) → P)
         → (IsClosedBranch alternative → P) → P
     closed-cases c own_closed clash alone =
         let l = c.literal in
@@ -111,7 +111,7 @@ module _ (terms : List Lambda) where
         (λ h. ⊎_elim
         (λ g. let k = n l h in
         clash (not l.positive) k.0 (a.whole (not l.positive) k.0 (record { atom = l.atom; numbered = k.1; among = g }))
-        (subst (λ s. IsTrue (has own s k.0)) (sym (not_not l.positive)) (o.whole l.positive k.0 (record { atom = l.atom; numbered = k.1; among = h }))))
+        (subst (λ s. IsTrue (branch_has own s k.0)) (sym (not_not l.positive)) (o.whole l.positive k.0 (record { atom = l.atom; numbered = k.1; among = h }))))
         (λ g. let k = n l h in
         own_closed l.positive k.0 (o.whole l.positive k.0 (record { atom = l.atom; numbered = k.1; among = h })) (o.whole (not l.positive) k.0 (record { atom = l.atom; numbered = k.1; among = g })))
         (Contains-append_cases alternative branch (opposite l) c.holds_opposite))

@@ -4,7 +4,7 @@ use Rattle.std.specs.List.{AllByRecursion}
 use Rattle.std.proofs.lemmas.Bool.{cases_lt}
 use Rattle.stt_core.specs.TypedName.{TypedName}
 use Rattle.stt_core.proofs.ListLaws.{take_got, mapped_get}
-use Rattle.refute_print.specs.Named.{name_at}
+use Rattle.refute_print.specs.Named.{name_numbered}
 use Rattle.refute_check.specs.Acceptance.{DifferFirst}
 
 pub declared_at : (limit : ℕ) (ks : List ℕ) (i k : ℕ) → AllByRecursion (λ j. j < limit) ks → slice_get ks i ≡ Some k → k < limit
@@ -18,9 +18,9 @@ mapped_name (c ∷ consts) zero = refl
 mapped_name (c ∷ consts) (suc k) = mapped_name consts k
 
 -- the name of the constant at a place of a list
-pub name_there : (consts : List TypedName) (ks : List ℕ) (i k : ℕ) (name : List ℕ) → slice_get ks i ≡ Some k → option_map (λ c. c.name) (slice_get consts k) ≡ Some name → slice_get (map (name_at (map (λ c. c.name) consts)) ks) i ≡ Some name
+pub name_there : (consts : List TypedName) (ks : List ℕ) (i k : ℕ) (name : List ℕ) → slice_get ks i ≡ Some k → option_map (λ c. c.name) (slice_get consts k) ≡ Some name → slice_get (map (name_numbered (map (λ c. c.name) consts)) ks) i ≡ Some name
 name_there consts ks i k name at e =
-    mapped_get (name_at (map (λ c. c.name) consts)) ks i k at ∙ ap (λ o. Some (unwrap_or o [])) (mapped_name consts k ∙ e)
+    mapped_get (name_numbered (map (λ c. c.name) consts)) ks i k at ∙ ap (λ o. Some (unwrap_or o [])) (mapped_name consts k ∙ e)
 
 pub nothing_there : {A : Type 0} (xs : List A) (i : ℕ) (x : A) → length xs ≤ i → slice_get xs i ≡ Some x → ⊥
 nothing_there [] i x h e = cc

@@ -27,7 +27,7 @@ use Rattle.tableau_rules.specs.Changes.{Widens, HasWitness, AreWitnessesAfter, A
 use Rattle.tableau_rules.proofs.WideLaws.{wide_at}
 use Rattle.tableau_rules.proofs.MadeLaws.{principals_within}
 use Rattle.refute_check.specs.declared.shared.Shared.{Shared}
-use Rattle.refute_check.specs.Internal.Shared.{scope_in, the_rows, literal_in, IsNumber, IsGood, Extends}
+use Rattle.refute_check.specs.Internal.Shared.{shared_scope, the_rows, literal_in, IsSharedNumber, IsGoodShared, ExtendsShared}
 use Rattle.refute_check.specs.Internal.Taking.{IsTaken}
 use Rattle.refute_check.proofs.NumberLaws.{mapped_at}
 use Rattle.refute_check.proofs.SharedLaws.{map_each, extends_scope, extends_rows, extends_literal}
@@ -86,9 +86,9 @@ rows_wide : (b c : Content) (ids : List ℕ) → Widens b c → AreRows b ids �
 rows_wide b c ids w rows =
     map-same (λ i. i < length b.terms) (λ i. row_of (term_at c.terms i)) (λ i. row_of (term_at b.terms i)) (λ i k. ap row_of (wide_at b c w i k)) ids rows.within
 
-module _ (old new : Shared) (good : IsGood old) (w : Widens old.bank new.bank) (begins : Begins old.lits new.lits) where
+module _ (old new : Shared) (good : IsGoodShared old) (w : Widens old.bank new.bank) (begins : Begins old.lits new.lits) where
   -- where no witness has come, there are further terms alone
-  pub widened_extends : map (λ (r : Row). r.type) (the_rows new) ≡ new.bank.witnesses → new.witnesses ≡ old.witnesses → Extends old new
+  pub widened_extends : map (λ (r : Row). r.type) (the_rows new) ≡ new.bank.witnesses → new.witnesses ≡ old.witnesses → ExtendsShared old new
   widened_extends types same = record {
     bank = record {
       bases = w.bases;
@@ -107,8 +107,8 @@ module _ (old new : Shared) (good : IsGood old) (w : Widens old.bank new.bank) (
 
 -- THE INSTANCE
 
-module _ (old new : Shared) (good : IsGood old) (e : Extends old new) (ls : List Literal) (r : RuleUse) (by : BankUse) (taken : IsTaken old ls r by) where
-  option_same : (o : Option SatLit) → ForSome o (IsNumber old) → option_map (literal_in new) o ≡ option_map (literal_in old) o
+module _ (old new : Shared) (good : IsGoodShared old) (e : ExtendsShared old new) (ls : List Literal) (r : RuleUse) (by : BankUse) (taken : IsTaken old ls r by) where
+  option_same : (o : Option SatLit) → ForSome o (IsSharedNumber old) → option_map (literal_in new) o ≡ option_map (literal_in old) o
   option_same None h = refl
   option_same (Some n) h = ap Some (extends_literal old new e good n (h n refl))
 
@@ -120,19 +120,19 @@ module _ (old new : Shared) (good : IsGood old) (e : Extends old new) (ls : List
   use_same = λ i. rule_of by.kind (option_same by.first taken.first i) (option_same by.second taken.second i) (term_same by.term taken.term i)
 
   principals_same : map (literal_in new) (principals_of by) ≡ map (literal_in old) (principals_of by)
-  principals_same = map_each (IsNumber old) (literal_in new) (literal_in old) (extends_literal old new e good) (principals_of by) (principals_within (length old.lits) by taken.first taken.second)
+  principals_same = map_each (IsSharedNumber old) (literal_in new) (literal_in old) (extends_literal old new e good) (principals_of by) (principals_within (length old.lits) by taken.first taken.second)
 
-  pub instance_found : (as' : List (List Literal)) → IsInstanceBy new.bank new.lits (the_rows new) by as' → IsInstance (scope_in old) (the_rows old) ls r as'
+  pub instance_found : (as' : List (List Literal)) → IsInstanceBy new.bank new.lits (the_rows new) by as' → IsInstance (shared_scope old) (the_rows old) ls r as'
   instance_found as' h =
       let same : h.rule ≡ taken.taken = same_Some h.rule taken.taken (sym h.is_rule ∙ use_same ∙ taken.is) in
-      taken.to (scope_in old) (the_rows old) as'
-      (subst (λ x. IsInstance (scope_in old) (the_rows old) (map (literal_in old) (principals_of by)) x as') same
-      (subst (λ ps. IsInstance (scope_in old) (the_rows old) ps h.rule as') principals_same
-      (subst (λ rs. IsInstance (scope_in old) rs (map (literal_in new) (principals_of by)) h.rule as') (extends_rows old new e good)
+      taken.to (shared_scope old) (the_rows old) as'
+      (subst (λ x. IsInstance (shared_scope old) (the_rows old) (map (literal_in old) (principals_of by)) x as') same
+      (subst (λ ps. IsInstance (shared_scope old) (the_rows old) ps h.rule as') principals_same
+      (subst (λ rs. IsInstance (shared_scope old) rs (map (literal_in new) (principals_of by)) h.rule as') (extends_rows old new e good)
       (subst (λ s. IsInstance s (the_rows new) (map (literal_in new) (principals_of by)) h.rule as') (extends_scope old new e) h.is_instance))))
 
-pub instance_none : (s : Shared) (ls : List Literal) (r : RuleUse) (by : BankUse) → IsTaken s ls r by → ((rows : List Row) (as' : List (List Literal)) → IsInstanceBy s.bank s.lits rows by as' → ⊥) → (as' : List (List Literal)) → IsInstance (scope_in s) (the_rows s) ls r as' → ⊥
-instance_none s ls r by taken none as' h = none (the_rows s) as' (record { rule = taken.taken; is_rule = taken.is; is_instance = taken.back (scope_in s) (the_rows s) as' h })
+pub instance_none : (s : Shared) (ls : List Literal) (r : RuleUse) (by : BankUse) → IsTaken s ls r by → ((rows : List Row) (as' : List (List Literal)) → IsInstanceBy s.bank s.lits rows by as' → ⊥) → (as' : List (List Literal)) → IsInstance (shared_scope s) (the_rows s) ls r as' → ⊥
+instance_none s ls r by taken none as' h = none (the_rows s) as' (record { rule = taken.taken; is_rule = taken.is; is_instance = taken.back (shared_scope s) (the_rows s) as' h })
 
 -- WHERE A WITNESS WOULD HAVE TO COME
 
@@ -165,30 +165,30 @@ first_of s by n k e =
     subst (λ x. slice_get (map (literal_in s) (principals_of (record { kind = x; first = by.first; second = by.second; term = by.term }))) 0 ≡ Some (literal_in s n)) (sym k)
     (subst (λ o. slice_get (map (literal_in s) (principals_of (record { kind = kind.AllNeg; first = o; second = by.second; term = by.term }))) 0 ≡ Some (literal_in s n)) (sym e) refl)
 
-module _ (old new : Shared) (good : IsGood old) (w : Widens old.bank new.bank) (begins : Begins old.lits new.lits) (equal : EqualIdsForEqualTerms new.bank) (ls : List Literal) (r : RuleUse) (by : BankUse) (taken : IsTaken old ls r by) where
-  literal_wide : (n : SatLit) → IsNumber old n → literal_in new n ≡ literal_in old n
+module _ (old new : Shared) (good : IsGoodShared old) (w : Widens old.bank new.bank) (begins : Begins old.lits new.lits) (equal : EqualIdsForEqualTerms new.bank) (ls : List Literal) (r : RuleUse) (by : BankUse) (taken : IsTaken old ls r by) where
+  literal_wide : (n : SatLit) → IsSharedNumber old n → literal_in new n ≡ literal_in old n
   literal_wide n k =
       let place : get_or new.lits n.var.0 0 ≡ get_or old.lits n.var.0 0 = ap (λ xs. get_or xs n.var.0 0) begins.is ∙ get_or-front old.lits begins.further n.var.0 0 k in
       let L : Lambda → Literal = λ t. record { positive = n.positive; atom = t } in
       ap L (ap (term_at new.bank.terms) place ∙ wide_at old.bank new.bank w (get_or old.lits n.var.0 0) (good.atoms n.var.0 0 k).within)
 
-  pub instance_made : AreWitnessesBy new.bank new.lits by old.witnesses new.witnesses → (length new.witnesses ≡ length old.witnesses → ⊥) → (as' : List (List Literal)) → IsInstance (scope_in old) (the_rows old) ls r as' → ⊥
+  pub instance_made : AreWitnessesBy new.bank new.lits by old.witnesses new.witnesses → (length new.witnesses ≡ length old.witnesses → ⊥) → (as' : List (List Literal)) → IsInstance (shared_scope old) (the_rows old) ls r as' → ⊥
   instance_made ws more as' h = more (ap length (made.1.added ∙ ap (λ t. if t then old.witnesses else old.witnesses ++ made.1.predicate ∷ []) there))
     where
       made : (by.kind ≡ kind.AllNeg) × HasWitness new.bank new.lits by.first old.witnesses new.witnesses
       made = after_more new.bank new.lits by.first old.witnesses new.witnesses by.kind ws more
 
-      alone : IsInstance (scope_in old) (the_rows old) (map (literal_in old) (principals_of by)) taken.taken as'
-      alone = taken.back (scope_in old) (the_rows old) as' h
+      alone : IsInstance (shared_scope old) (the_rows old) (map (literal_in old) (principals_of by)) taken.taken as'
+      alone = taken.back (shared_scope old) (the_rows old) as' h
 
       is : taken.taken ≡ rule.AllNeg 0
       is = no_use (option_map (literal_in old) by.first) (option_map (literal_in old) by.second) (option_map (term_at old.bank.terms) by.term) taken.taken
           (ap (λ k. rule_of k (option_map (literal_in old) by.first) (option_map (literal_in old) by.second) (option_map (term_at old.bank.terms) by.term)) (sym made.0) ∙ taken.is)
 
       d : IsDenied (the_rows old) (map (literal_in old) (principals_of by))
-      d = denied_of (scope_in old) (the_rows old) (map (literal_in old) (principals_of by)) as' (subst (λ x. IsInstance (scope_in old) (the_rows old) (map (literal_in old) (principals_of by)) x as') is alone)
+      d = denied_of (shared_scope old) (the_rows old) (map (literal_in old) (principals_of by)) as' (subst (λ x. IsInstance (shared_scope old) (the_rows old) (map (literal_in old) (principals_of by)) x as') is alone)
 
-      number : IsNumber old made.1.literal
+      number : IsSharedNumber old made.1.literal
       number = taken.first made.1.literal made.1.is_principal
 
       same : minus (every d.type d.predicate) ≡ minus (every made.1.type (term_at new.bank.terms made.1.predicate))

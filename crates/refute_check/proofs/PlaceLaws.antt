@@ -12,8 +12,8 @@ use Rattle.std.specs.Ordering.{nat_cmp}
 use Rattle.std.specs.Str.{bytes_eq}
 use Rattle.stt_core.proofs.ListLaws.{take_got}
 use Rattle.tableau_calculus.proofs.FailureLaws.{length-front}
-use Rattle.refute_check.specs.Numbered.{place_of}
-use Rattle.refute_check.specs.Internal.Places.{noted, first_place, noted_next, HasPlaces}
+use Rattle.refute_check.specs.Numbered.{name_place}
+use Rattle.refute_check.specs.Internal.Places.{noted, first_place, noted_next, MapsToPlaces}
 
 position_push-kept : {X : Type 0} (p : X → Bool) (xs : List X) (y : X) (k : ℕ) → position p xs ≡ Some k → position p (xs ++ y ∷ []) ≡ Some k
 position_push-kept p xs y k h = grind (arith, common_steps, position_or_len_push p xs y, prefix_len-le-length (λ x. not (p x)) xs)
@@ -29,7 +29,7 @@ first_place-push names name other = go (first_place names other) refl
     go (Some k) h = position_push-kept (λ n. bytes_eq n other) names name k h
     go None h = position_push-new (λ n. bytes_eq n other) names name h
 
-place_found : (names : List (List ℕ)) (name : List ℕ) → unwrap_or (first_place names name) (length names) ≡ place_of names name
+place_found : (names : List (List ℕ)) (name : List ℕ) → unwrap_or (first_place names name) (length names) ≡ name_place names name
 place_found names name = grind (arith, common_steps, prefix_len-le-length (λ n. not (bytes_eq n name)) names)
 
 pub none_is : (o : Option ℕ) → is_some o ≡ false → o ≡ None
@@ -56,8 +56,8 @@ module _ (old new : BTreeMap (Bor (List ℕ)) ℕ) (key : Bor (List ℕ)) (place
       elsewhere b (Some j) h e = ap (λ c. cond c (Some place) (Some j)) h
 
 -- one name more has its place
-pub places_more : (old new : BTreeMap (Bor (List ℕ)) ℕ) (names : List (List ℕ)) (i : ℕ) (name : List ℕ) → slice_get names i ≡ Some name → HasPlaces old (take i names)
-    → ((other : List ℕ) → noted new other ≡ noted_next (noted old other) name i other) → HasPlaces new (take (i + 1) names)
+pub places_more : (old new : BTreeMap (Bor (List ℕ)) ℕ) (names : List (List ℕ)) (i : ℕ) (name : List ℕ) → slice_get names i ≡ Some name → MapsToPlaces old (take i names)
+    → ((other : List ℕ) → noted new other ≡ noted_next (noted old other) name i other) → MapsToPlaces new (take (i + 1) names)
 places_more old new names i name at before next other =
     next other
     ∙ ap (λ o. noted_next o name i other) (before other)
@@ -65,10 +65,10 @@ places_more old new names i name at before next other =
     ∙ sym (ap (λ ns. first_place ns other) (take_got names i name at) ∙ first_place-push (take i names) name other)
 
 -- what is found in the map is the place in the list
-pub found_place : (places : BTreeMap (Bor (List ℕ)) ℕ) (names all : List (List ℕ)) (name : List ℕ) (count r : ℕ) → r ≡ unwrap_or (noted places name) count → count ≡ length names → HasPlaces places names → names ≡ all
-    → r ≡ place_of all name
+pub found_place : (places : BTreeMap (Bor (List ℕ)) ℕ) (names all : List (List ℕ)) (name : List ℕ) (count r : ℕ) → r ≡ unwrap_or (noted places name) count → count ≡ length names → MapsToPlaces places names → names ≡ all
+    → r ≡ name_place all name
 found_place places names all name count r h len places_are same =
     h
     ∙ ap₂ unwrap_or (places_are name) len
     ∙ place_found names name
-    ∙ ap (λ ns. place_of ns name) same
+    ∙ ap (λ ns. name_place ns name) same

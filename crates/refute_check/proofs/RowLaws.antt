@@ -20,14 +20,14 @@ use Rattle.literal_map.proofs.TableLaws.{found_at}
 use Rattle.witness_names.proofs.StayLaws.{rows_same}
 use Rattle.std.proofs.lemmas.List.Quantifiers.{position-Some}
 use Rattle.std.proofs.lemmas.Option.{slice_get-get_or}
-use Rattle.bank_normal.specs.Right.{IsRight}
+use Rattle.bank_normal.specs.Right.{IsRightNormaliser}
 use Rattle.literal_map.specs.Atoms.{IsAtom}
 use Rattle.witness_names.specs.Rows.{binder_of, row_of, rows_of, AreRows, with_predicate}
 use Rattle.tableau_rules.specs.Changes.{Widens}
 use Rattle.tableau_rules.proofs.WideLaws.{wide_atoms, right_by}
 use Rattle.tableau_rules.proofs.DeclareLaws.{table_by}
 use Rattle.refute_check.specs.declared.shared.Shared.{Shared}
-use Rattle.refute_check.specs.Internal.Shared.{declared_in, the_atoms, the_rows, IsGood}
+use Rattle.refute_check.specs.Internal.Shared.{declared_in, shared_atoms, the_rows, IsGoodShared}
 use Rattle.refute_check.specs.Numbered.{argument_type}
 
 binder_is : (t : Lambda) → argument_type t ≡ binder_of t
@@ -63,7 +63,7 @@ is_twice b ids id k t has at r is =
 pub row_of_place : (b : Content) (id : ℕ) (t : Lambda) → HasTerm b id t → row_of (term_at b.terms id) ≡ record { type = argument_type t; predicate = t }
 row_of_place b id t has = ap row_of (has_at b id t has) ∙ ap (λ a. record { type = a; predicate = t }) (sym (binder_is t))
 
-module _ (s : Shared) (good : IsGood s) (b : Content) (g : Grows s.bank b) (id : ℕ) (r : Row) (has : HasTerm b id r.predicate) where
+module _ (s : Shared) (good : IsGoodShared s) (b : Content) (g : Grows s.bank b) (id : ℕ) (r : Row) (has : HasTerm b id r.predicate) where
   pub found_twice : (k : ℕ) → position (nat_eq id) s.witnesses ≡ Some k → IsTwice (the_rows s) r
   found_twice k h =
       let p = position-Some (nat_eq id) s.witnesses k 0 h in
@@ -75,7 +75,7 @@ module _ (s : Shared) (good : IsGood s) (b : Content) (g : Grows s.bank b) (id :
       not_twice b s.witnesses id r.predicate equal (grown_all s.bank b s.witnesses g good.rows.within) has (position_any (nat_eq id) s.witnesses h) r refl
       (subst (λ rs. IsTwice rs r) (sym (rows_same s.bank b g s.witnesses good.rows)) twice)
 
-module _ (s : Shared) (good : IsGood s) (id : ℕ) (none : list_any (nat_eq id) s.witnesses ≡ false) where
+module _ (s : Shared) (good : IsGoodShared s) (id : ℕ) (none : list_any (nat_eq id) s.witnesses ≡ false) where
   abbrev the_row : Row
   the_row = row_of (term_at s.bank.terms id)
 
@@ -98,7 +98,7 @@ module _ (s : Shared) (good : IsGood s) (id : ℕ) (none : list_any (nat_eq id) 
     pub row_added : the_rows new ≡ the_rows s ++ the_row ∷ []
     row_added = ap (λ ts. rows_of ts new.witnesses) terms ∙ ap (rows_of s.bank.terms) added ∙ map-append (λ i. row_of (term_at s.bank.terms i)) s.witnesses (id ∷ [])
 
-    pub row_atoms : the_atoms new ≡ the_atoms s
+    pub row_atoms : shared_atoms new ≡ shared_atoms s
     row_atoms = ap (λ ts. map (term_at ts) new.lits) terms ∙ ap (map (term_at s.bank.terms)) lits
 
     pub row_declared : declared_in new ≡ declared_in s
@@ -123,9 +123,9 @@ module _ (s : Shared) (good : IsGood s) (id : ℕ) (none : list_any (nat_eq id) 
       wider : Widens s.bank (with_type a)
       wider = record { bases = refl; consts = refl; types = a ∷ []; witnesses = refl; further = []; terms = sym (append-nil s.bank.terms) }
 
-      pub row_good : IsGood new
+      pub row_good : IsGoodShared new
       row_good = record {
-        normal = subst (λ n. IsRight n new.bank) (sym normal) (right_by s.normal s.bank new.bank (ap (λ (b : Content). b.consts) bank) terms good.normal);
+        normal = subst (λ n. IsRightNormaliser n new.bank) (sym normal) (right_by s.normal s.bank new.bank (ap (λ (b : Content). b.consts) bank) terms good.normal);
         atoms = subst (λ xs. All (IsAtom new.bank) xs) (sym lits) (subst (λ b. All (IsAtom b) s.lits) (sym bank) (wide_atoms s.bank (with_type a) wider s.lits good.atoms));
         rows = subst (λ b. AreRows b new.witnesses) (sym bank) rows_with;
         declared = ap (λ ts. map (λ (r : Row). r.type) (rows_of ts new.witnesses)) terms ∙ all_types ∙ sym (ap (λ (b : Content). b.witnesses) bank);

@@ -4,7 +4,7 @@ use Rattle.std.proofs.lemmas.Bool.{and_from, and_parts, or_cases, or_left, or_ri
 use Rattle.std.specs.List.{list_all, list_any}
 use Rattle.indexmap.specs.IndexSet.{IndexSet, contains}
 use Rattle.tableau_calculus.proofs.ListLaws.{untrue}
-use Rattle.refute_check.specs.Internal.Branches.{has}
+use Rattle.refute_check.specs.Internal.Branches.{branch_has}
 use Rattle.refute_check.specs.declared.branch.Branch.{Branch}
 
 pub or_split : {P : Type 0} (a b : Bool) → (a || b) ≡ true → (a ≡ true → P) → (b ≡ true → P) → P
@@ -61,23 +61,23 @@ list_any-contains p s k h g = any_found p s.keys k h g
 
 -- the two sides of a branch
 module _ (b left right : Branch) where
-  pub within_sides : IsTrue (list_all (λ k. contains nat_eq left.positive k || contains nat_eq right.positive k) b.positive.keys) → IsTrue (list_all (λ k. contains nat_eq left.negative k || contains nat_eq right.negative k) b.negative.keys) → (sign : Bool) (k : ℕ) → IsTrue (has b sign k) → IsTrue (has left sign k || has right sign k)
+  pub within_sides : IsTrue (list_all (λ k. contains nat_eq left.positive k || contains nat_eq right.positive k) b.positive.keys) → IsTrue (list_all (λ k. contains nat_eq left.negative k || contains nat_eq right.negative k) b.negative.keys) → (sign : Bool) (k : ℕ) → IsTrue (branch_has b sign k) → IsTrue (branch_has left sign k || branch_has right sign k)
   within_sides h g true k e = list_all-keys (λ k. contains nat_eq left.positive k || contains nat_eq right.positive k) b.positive h k e
   within_sides h g false k e = list_all-keys (λ k. contains nat_eq left.negative k || contains nat_eq right.negative k) b.negative g k e
 
-  pub positive_within : ((sign : Bool) (k : ℕ) → IsTrue (has b sign k) → IsTrue (has left sign k || has right sign k)) → IsTrue (list_all (λ k. contains nat_eq left.positive k || contains nat_eq right.positive k) b.positive.keys)
+  pub positive_within : ((sign : Bool) (k : ℕ) → IsTrue (branch_has b sign k) → IsTrue (branch_has left sign k || branch_has right sign k)) → IsTrue (list_all (λ k. contains nat_eq left.positive k || contains nat_eq right.positive k) b.positive.keys)
   positive_within h = list_all-contains (λ k. contains nat_eq left.positive k || contains nat_eq right.positive k) b.positive (h true)
 
-  pub negative_within : ((sign : Bool) (k : ℕ) → IsTrue (has b sign k) → IsTrue (has left sign k || has right sign k)) → IsTrue (list_all (λ k. contains nat_eq left.negative k || contains nat_eq right.negative k) b.negative.keys)
+  pub negative_within : ((sign : Bool) (k : ℕ) → IsTrue (branch_has b sign k) → IsTrue (branch_has left sign k || branch_has right sign k)) → IsTrue (list_all (λ k. contains nat_eq left.negative k || contains nat_eq right.negative k) b.negative.keys)
   negative_within h = list_all-contains (λ k. contains nat_eq left.negative k || contains nat_eq right.negative k) b.negative (h false)
 
 module _ (b other : Branch) where
-  pub positive_clash : IsTrue (list_any (contains nat_eq other.negative) b.positive.keys) → (k : ℕ) × (sign : Bool) × IsTrue (has b sign k) × IsTrue (has other (not sign) k)
+  pub positive_clash : IsTrue (list_any (contains nat_eq other.negative) b.positive.keys) → (k : ℕ) × (sign : Bool) × IsTrue (branch_has b sign k) × IsTrue (branch_has other (not sign) k)
   positive_clash h = let r = list_any-keys (contains nat_eq other.negative) b.positive h in (r.0, true, r.1, r.2)
 
-  pub negative_clash : IsTrue (list_any (contains nat_eq other.positive) b.negative.keys) → (k : ℕ) × (sign : Bool) × IsTrue (has b sign k) × IsTrue (has other (not sign) k)
+  pub negative_clash : IsTrue (list_any (contains nat_eq other.positive) b.negative.keys) → (k : ℕ) × (sign : Bool) × IsTrue (branch_has b sign k) × IsTrue (branch_has other (not sign) k)
   negative_clash h = let r = list_any-keys (contains nat_eq other.positive) b.negative h in (r.0, false, r.1, r.2)
 
-  pub clash_sides : list_any (contains nat_eq other.negative) b.positive.keys ≡ false → (sign : Bool) (k : ℕ) → IsTrue (has b sign k) → IsTrue (has other (not sign) k) → IsTrue (list_any (contains nat_eq other.positive) b.negative.keys)
+  pub clash_sides : list_any (contains nat_eq other.negative) b.positive.keys ≡ false → (sign : Bool) (k : ℕ) → IsTrue (branch_has b sign k) → IsTrue (branch_has other (not sign) k) → IsTrue (list_any (contains nat_eq other.positive) b.negative.keys)
   clash_sides h true k e g = absurd (untrue (list_any-contains (contains nat_eq other.negative) b.positive k e g) h)
   clash_sides h false k e g = list_any-contains (contains nat_eq other.positive) b.negative k e g

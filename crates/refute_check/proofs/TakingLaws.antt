@@ -20,7 +20,7 @@ use Rattle.tableau_rules.specs.Uses.{use_of, principals_of}
 use Rattle.refute_check.specs.Numbered.{numbered_one_place, numbered_two_places, numbered_of_predicate}
 use Rattle.refute_check.specs.declared.shared.Shared.{Shared}
 use Rattle.refute_check.specs.declared.taking.Taking.TheVariants.{Missing, By}
-use Rattle.refute_check.specs.Internal.Shared.{literal_in, IsNumber, AreNumbersOf, HasPredicate}
+use Rattle.refute_check.specs.Internal.Shared.{literal_in, IsSharedNumber, AreNumbersOf, HasPredicate}
 use Rattle.refute_check.specs.Internal.Taking.{kind_of_one, kind_of_two, kind_of_predicate, HasNoInstance, IsTaken, Takes}
 use Rattle.refute_check.proofs.SharedLaws.{each_at}
 
@@ -116,12 +116,12 @@ this_first P y h = λ x e. subst P (same_Some y x e) h
 module _ (s : Shared) (branch : List Literal) where
   -- A RULE WITH ONE PRINCIPAL
 
-  module _ (i : ℕ) (n : SatLit) (number : IsNumber s n) (at : slice_get branch i ≡ Some (literal_in s n)) where
+  module _ (i : ℕ) (n : SatLit) (number : IsSharedNumber s n) (at : slice_get branch i ≡ Some (literal_in s n)) where
     one_taken : (r : RuleUse) (by : BankUse) (alone : RuleUse) → by.first ≡ Some n → by.second ≡ None → ForSome by.term (λ id. id < length s.bank.terms) → use_of s.bank.terms s.lits by ≡ Some alone
         → principals_of by ≡ n ∷ [] → places r ≡ i ∷ [] → places alone ≡ 0 ∷ [] → moved i 0 alone ≡ r → moved 0 0 r ≡ alone → IsTaken s branch r by
     one_taken r by alone first second term is principals at_r at_alone there back = record {
-      first = subst (λ o. ForSome o (IsNumber s)) (sym first) (this_first (IsNumber s) n number);
-      second = subst (λ o. ForSome o (IsNumber s)) (sym second) (no_first (IsNumber s));
+      first = subst (λ o. ForSome o (IsSharedNumber s)) (sym first) (this_first (IsSharedNumber s) n number);
+      second = subst (λ o. ForSome o (IsSharedNumber s)) (sym second) (no_first (IsSharedNumber s));
       term = term;
       taken = alone;
       is = is;
@@ -179,15 +179,15 @@ module _ (s : Shared) (branch : List Literal) where
 
   -- A RULE WITH TWO PRINCIPALS
 
-  module _ (i j : ℕ) (n m : SatLit) (number : IsNumber s n) (second : IsNumber s m) (at : slice_get branch i ≡ Some (literal_in s n)) (there : slice_get branch j ≡ Some (literal_in s m)) where
+  module _ (i j : ℕ) (n m : SatLit) (number : IsSharedNumber s n) (second : IsSharedNumber s m) (at : slice_get branch i ≡ Some (literal_in s n)) (there : slice_get branch j ≡ Some (literal_in s m)) where
     abbrev by_two : RuleKind → BankUse
     by_two k = record { kind = k; first = Some n; second = Some m; term = None }
 
     two_taken : (k : RuleKind) (r alone : RuleUse) → use_of s.bank.terms s.lits (by_two k) ≡ Some alone
         → principals_of (by_two k) ≡ n ∷ m ∷ [] → places r ≡ i ∷ j ∷ [] → places alone ≡ 0 ∷ 1 ∷ [] → moved i j alone ≡ r → moved 0 1 r ≡ alone → IsTaken s branch r (by_two k)
     two_taken k r alone is principals at_r at_alone to back = record {
-      first = this_first (IsNumber s) n number;
-      second = this_first (IsNumber s) m second;
+      first = this_first (IsSharedNumber s) n number;
+      second = this_first (IsSharedNumber s) m second;
       term = no_first (λ id. id < length s.bank.terms);
       taken = alone;
       is = is;
@@ -236,8 +236,8 @@ module _ (s : Shared) (branch : List Literal) where
 
   predicate_taken : (r : OfPredicate) (id : ℕ) (f : Lambda) → HasTerm s.bank id f → IsTaken s branch (numbered_of_predicate r f) (record { kind = kind_of_predicate r; first = None; second = None; term = Some id })
   predicate_taken Cho id f h = record {
-    first = no_first (IsNumber s);
-    second = no_first (IsNumber s);
+    first = no_first (IsSharedNumber s);
+    second = no_first (IsSharedNumber s);
     term = this_first (λ x. x < length s.bank.terms) id (has_within s.bank id f h);
     taken = rule.Cho f;
     is = ap (λ x. Some (rule.Cho x)) (has_at s.bank id f h);
@@ -245,8 +245,8 @@ module _ (s : Shared) (branch : List Literal) where
     back = λ scope rows as'. (unplaced (rule.Cho f) scope rows as' refl).1;
   }
   predicate_taken Des id f h = record {
-    first = no_first (IsNumber s);
-    second = no_first (IsNumber s);
+    first = no_first (IsSharedNumber s);
+    second = no_first (IsSharedNumber s);
     term = this_first (λ x. x < length s.bank.terms) id (has_within s.bank id f h);
     taken = rule.Des f;
     is = ap (λ x. Some (rule.Des x)) (has_at s.bank id f h);
@@ -258,10 +258,10 @@ module _ (s : Shared) (branch : List Literal) where
   predicate_takes Cho id f h = (h.0, predicate_taken Cho id f h.1)
   predicate_takes Des id f h = (h.0, predicate_taken Des id f h.1)
 
-  pub cut_taken : (n : SatLit) (l : Literal) → IsNumber s n → literal_in s n ≡ l → IsTaken s branch (rule.Cut l) (record { kind = kind.Cut; first = Some n; second = None; term = None })
+  pub cut_taken : (n : SatLit) (l : Literal) → IsSharedNumber s n → literal_in s n ≡ l → IsTaken s branch (rule.Cut l) (record { kind = kind.Cut; first = Some n; second = None; term = None })
   cut_taken n l number is = record {
-    first = this_first (IsNumber s) n number;
-    second = no_first (IsNumber s);
+    first = this_first (IsSharedNumber s) n number;
+    second = no_first (IsSharedNumber s);
     term = no_first (λ id. id < length s.bank.terms);
     taken = rule.Cut l;
     is = ap (λ x. Some (rule.Cut x)) is;
@@ -270,9 +270,9 @@ module _ (s : Shared) (branch : List Literal) where
   }
 
 -- the literal of a number at a place
-pub number_at : (s : Shared) (ls : List Literal) (ns : List SatLit) (i : ℕ) (n : SatLit) → AreNumbersOf s ls ns → slice_get ns i ≡ Some n → IsNumber s n × (slice_get ls i ≡ Some (literal_in s n))
+pub number_at : (s : Shared) (ls : List Literal) (ns : List SatLit) (i : ℕ) (n : SatLit) → AreNumbersOf s ls ns → slice_get ns i ≡ Some n → IsSharedNumber s n × (slice_get ls i ≡ Some (literal_in s n))
 number_at s ls ns i n h e = (
-  each_at (IsNumber s) ns i n h.numbers e,
+  each_at (IsSharedNumber s) ns i n h.numbers e,
   ap (λ x. slice_get x i) (sym h.literals) ∙ slice_get-map (literal_in s) ns i ∙ ap (option_map (literal_in s)) e,
 )
 

@@ -6,13 +6,13 @@ use Rattle.stt_core.specs.Lambda as lambda
 use Rattle.stt_core.specs.View.{the_head}
 use Rattle.stt_core.specs.declared.nf.Head.{Head}
 use Rattle.stt_core.specs.declared.nf.Head.TheVariants as head
-use Rattle.refute_print.specs.Trees.{TypeTree, TermTree, app}
+use Rattle.refute_print.specs.Trees.{TextTypeTree, TermTree, app}
 use Rattle.refute_print.specs.Trees as tree
-use Rattle.refute_print.specs.Internal.TreeSizes.{applied, node_count, counts}
+use Rattle.refute_print.specs.Internal.TreeSizes.{applied_tree, tree_node_count, tree_node_counts}
 use Rattle.refute_print.specs.Named.{Names}
 use Rattle.refute_check.specs.Numbered.{numbered_type, numbered_term, argument_type}
 
-pub numbered_term-applied : (names : Names) (h : TermTree) (us : List TermTree) → numbered_term names (applied h us) ≡ lambda.applied (numbered_term names h) (map (numbered_term names) us)
+pub numbered_term-applied : (names : Names) (h : TermTree) (us : List TermTree) → numbered_term names (applied_tree h us) ≡ lambda.applied (numbered_term names h) (map (numbered_term names) us)
 numbered_term-applied names h [] = refl
 numbered_term-applied names h (u ∷ us) = numbered_term-applied names (app h u) us
 
@@ -21,13 +21,13 @@ pub lambdas-push : (as' : List SimpleType) (a : SimpleType) (t : Lambda) → lam
 lambdas-push [] a t = refl
 lambdas-push (b ∷ as') a t = ap (lam b) (lambdas-push as' a t)
 
-pub node_count-at : (us : List TermTree) (i : ℕ) (u : TermTree) → slice_get us i ≡ Some u → node_count u < counts us
+pub node_count-at : (us : List TermTree) (i : ℕ) (u : TermTree) → slice_get us i ≡ Some u → tree_node_count u < tree_node_counts us
 node_count-at [] i u h = cc
-node_count-at (v ∷ us) zero u h = let e : v ≡ u = cc in omega (arith, ap node_count e)
+node_count-at (v ∷ us) zero u h = let e : v ≡ u = cc in omega (arith, ap tree_node_count e)
 node_count-at (v ∷ us) (suc i) u h = omega (arith, node_count-at us i u h)
 
 -- a function under binders is its body under one binder more
-pub under_more : (names : Names) (bs more : List SimpleType) (a : SimpleType) (ty : TypeTree) (body whole : TermTree) (t : Lambda) → t ≡ lambdas more (numbered_term names body) → more ≡ bs ++ a ∷ [] → a ≡ numbered_type names ty → tree.lam ty body ≡ whole
+pub under_more : (names : Names) (bs more : List SimpleType) (a : SimpleType) (ty : TextTypeTree) (body whole : TermTree) (t : Lambda) → t ≡ lambdas more (numbered_term names body) → more ≡ bs ++ a ∷ [] → a ≡ numbered_type names ty → tree.lam ty body ≡ whole
     → t ≡ lambdas bs (numbered_term names whole)
 under_more names bs more a ty body whole t h m e w =
     h
@@ -37,7 +37,7 @@ under_more names bs more a ty body whole t h m e w =
     ∙ ap (λ u. lambdas bs (numbered_term names u)) w
 
 -- a head with its arguments under binders
-pub under_applied : (names : Names) (bs : List SimpleType) (h : Lambda) (args : List Lambda) (head : TermTree) (us : List TermTree) (whole : TermTree) → h ≡ numbered_term names head → args ≡ map (numbered_term names) us → applied head us ≡ whole
+pub under_applied : (names : Names) (bs : List SimpleType) (h : Lambda) (args : List Lambda) (head : TermTree) (us : List TermTree) (whole : TermTree) → h ≡ numbered_term names head → args ≡ map (numbered_term names) us → applied_tree head us ≡ whole
     → lambdas bs (lambda.applied h args) ≡ lambdas bs (numbered_term names whole)
 under_applied names bs h args head us whole e as' w =
     ap (lambdas bs)

@@ -8,13 +8,13 @@ use Rattle.tableau_calculus.specs.declared.refutation.Why.{Why}
 use Rattle.tableau_calculus.specs.declared.refutation.Why.TheVariants.{Defs}
 use Rattle.delta_defs.specs.Unfolding.{taken_names, unfolded_problem}
 use Rattle.refute_print.specs.Trees.{RefutationTree}
-use Rattle.refute_print.specs.Named.{names_of, name_at}
+use Rattle.refute_print.specs.Named.{names_of, name_numbered}
 use Rattle.refute_check.specs.Numbered.{numbered_refutation}
 use Rattle.refute_check.specs.Refusal.{FailsAt}
 
 -- the names whose definitions are taken from a problem, in order
 abbrev pub taken_texts : PlainProblem → List (List ℕ)
-taken_texts p = map (name_at (names_of p.declared.bases p.declared.consts).constants) (taken_names p)
+taken_texts p = map (name_numbered (names_of p.declared.bases p.declared.consts).constants) (taken_names p)
 
 -- A text of version 2 names the definitions that are taken, in order; one of version 1 names none.
 abbrev pub NamesDefinitions : PlainProblem → List (List ℕ) → Type 0

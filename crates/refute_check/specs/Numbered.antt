@@ -10,24 +10,24 @@ use Rattle.tableau_calculus.specs.declared.refutation.RuleUse.{RuleUse}
 use Rattle.tableau_calculus.specs.declared.refutation.RuleUse.TheVariants as rule
 use Rattle.tableau_calculus.specs.declared.refutation.Line.{Line}
 use Rattle.tableau_calculus.specs.declared.refutation.Refutation.{Refutation}
-use Rattle.refute_print.specs.Trees.{TypeTree, ConstantTree, TermTree, LiteralTree, OnePlace, False, Refl, ImpPos, ImpNeg, BoolPos, BoolNeg, FunPos, FunNeg, AllNeg, Dec, TwoPlaces, Close, Mat, Con, OfPredicate, Cho, Des, RuleTree, at_one, at_two, with_instance, with_predicate, with_cut, LineTree, RefutationTree}
+use Rattle.refute_print.specs.Trees.{TextTypeTree, ConstantTree, TermTree, LiteralTree, OnePlace, False, Refl, ImpPos, ImpNeg, BoolPos, BoolNeg, FunPos, FunNeg, AllNeg, Dec, TwoPlaces, Close, Mat, Con, OfPredicate, Cho, Des, RuleTree, at_one, at_two, with_instance, with_predicate, with_cut, LineTree, RefutationTree}
 use Rattle.refute_print.specs.Trees as tree
 use Rattle.refute_print.specs.Named.{Names}
 
 -- The first place of the name in the list. A name that isn't there gets the length of the list, a place at which nothing stands.
-abbrev pub place_of : List (List ℕ) → List ℕ → ℕ
-place_of names w = position_or_len (λ n. bytes_eq n w) names
+abbrev pub name_place : List (List ℕ) → List ℕ → ℕ
+name_place names w = position_or_len (λ n. bytes_eq n w) names
 
 -- A base type that isn't declared gets the least number that isn't declared.
-abbrev pub numbered_type : Names → TypeTree → SimpleType
+abbrev pub numbered_type : Names → TextTypeTree → SimpleType
 numbered_type names tree.formula = base 0
 numbered_type names tree.individual = base 1
-numbered_type names (tree.named w) = base (place_of names.bases w + 2)
+numbered_type names (tree.named w) = base (name_place names.bases w + 2)
 numbered_type names (tree.arrow a b) = arrow (numbered_type names a) (numbered_type names b)
 
 -- The same holds of a constant.
 abbrev pub numbered_constant : Names → ConstantTree → Constant
-numbered_constant names (tree.name w) = name (place_of names.constants w)
+numbered_constant names (tree.name w) = name (name_place names.constants w)
 numbered_constant names (tree.witness k) = witness k
 numbered_constant names tree.falsity = falsity
 numbered_constant names tree.negation = negation

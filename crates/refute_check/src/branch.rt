@@ -4,7 +4,7 @@ ghost use Rattle.std.specs.Prelude.{◌≡◌, ℕ, Bool, false, ◌&&◌, ◌||
 ghost use Rattle.std.specs.List.{list_all, list_any};
 ghost use Rattle.indexmap.specs.IndexSet.{contains};
 ghost use Rattle.tableau_calculus.specs.Start.{same_sign};
-ghost use Rattle.refute_check.specs.Internal.Branches.{has};
+ghost use Rattle.refute_check.specs.Internal.Branches.{branch_has};
 
 use indexmap::IndexSet;
 use std::alloc::{AllocError, Global};
@@ -32,7 +32,7 @@ fn meet(few: &IndexSet<usize>, many: &IndexSet<usize>) -> bool
 
 impl Branch {
     pub(crate) fn new(alloc: Global) -> Self
-        ensures { (sign : Bool) (k : ℕ) → has result sign k ≡ false }
+        ensures { (sign : Bool) (k : ℕ) → branch_has result sign k ≡ false }
     {
         Branch {
             positive: IndexSet::new(alloc),
@@ -42,7 +42,7 @@ impl Branch {
 
     /// Adds the literal of this sign whose atom has this number.
     pub(crate) fn insert(&mut self, positive: bool, number: usize) -> Result<(), AllocError>
-        ensures { OnOk result ((sign : Bool) (k : ℕ) → has self.new sign k ≡ (has self.old sign k || (same_sign positive sign && number == k))) }
+        ensures { OnOk result ((sign : Bool) (k : ℕ) → branch_has self.new sign k ≡ (branch_has self.old sign k || (same_sign positive sign && number == k))) }
     {
         if positive {
             self.positive.insert(number)?;
@@ -54,7 +54,7 @@ impl Branch {
 
     /// Whether each literal is one of the two other branches.
     pub(crate) fn is_within(&self, left: &Branch, right: &Branch) -> bool
-        ensures { IsTrue result ↔ ((sign : Bool) (k : ℕ) → IsTrue (has self.now sign k) → IsTrue (has left.now sign k || has right.now sign k)) }
+        ensures { IsTrue result ↔ ((sign : Bool) (k : ℕ) → IsTrue (branch_has self.now sign k) → IsTrue (branch_has left.now sign k || branch_has right.now sign k)) }
     {
         is_among(&self.positive, &left.positive, &right.positive)
             && is_among(&self.negative, &left.negative, &right.negative)
@@ -62,7 +62,7 @@ impl Branch {
 
     /// Whether a literal's negation is in the other branch. It takes the time of this one's literals.
     pub(crate) fn clashes(&self, other: &Branch) -> bool
-        ensures { IsTrue result ↔ ((k : ℕ) × (sign : Bool) × IsTrue (has self.now sign k) × IsTrue (has other.now (not sign) k)) }
+        ensures { IsTrue result ↔ ((k : ℕ) × (sign : Bool) × IsTrue (branch_has self.now sign k) × IsTrue (branch_has other.now (not sign) k)) }
     {
         meet(&self.positive, &other.negative) || meet(&self.negative, &other.positive)
     }

@@ -11,13 +11,13 @@ ghost use Rattle.tableau_calculus.specs.Witnesses.{IsTable};
 ghost use Rattle.tableau_calculus.specs.Start.{start};
 ghost use Rattle.tableau_calculus.specs.Accepted.{EndsWithin, IsAccepted, FirstFailure};
 ghost use Rattle.tableau_calculus.specs.Refused.{IfRefused};
-ghost use Rattle.refute_print.specs.TextView.{the_text, IsNumbered};
+ghost use Rattle.refute_print.specs.TextView.{the_text, IsNumberedText};
 ghost use Rattle.refute_print.specs.Named.{names_of};
 ghost use Rattle.refute_check.specs.Numbered.{numbered_refutation};
 ghost use Rattle.refute_check.specs.Refusal.{IfLine, FailsAt};
 ghost use Rattle.refute_check.specs.Acceptance.{IsAcceptedFor, TextFailsAt};
-ghost use Rattle.refute_check.specs.Internal.Shared.{scope_in, declared_in, the_atoms, the_rows, IsGood};
-ghost use Rattle.refute_check.specs.Internal.Branches.{Represents, AreNumbered, Grow, AreBranches};
+ghost use Rattle.refute_check.specs.Internal.Shared.{shared_scope, declared_in, shared_atoms, the_rows, IsGoodShared};
+ghost use Rattle.refute_check.specs.Internal.Branches.{Represents, AreNumberedBranch, Grow, AreBranches};
 ghost use Rattle.refute_check.specs.Internal.Lines.{AreRightIn};
 
 use crate::branch::Branch;
@@ -40,13 +40,13 @@ fn check_rows(
     numbering: &Numbering<'_>,
     text: &RefutationText,
 ) -> Result<(), PlainRefused>
-    requires good { IsGood shared.old }
+    requires good { IsGoodShared shared.old }
     requires none { the_rows shared.old ≡ [] }
     ensures rows { OnOk result (the_rows shared.new ≡ (numbered_refutation numbering.now (the_text text.now)).witnesses) }
     ensures table { OnOk result (IsTable (declared_in shared.old) (numbered_refutation numbering.now (the_text text.now)).witnesses) }
-    ensures atoms { OnOk result (Grow (the_atoms shared.old) (the_atoms shared.new)) }
+    ensures atoms { OnOk result (Grow (shared_atoms shared.old) (shared_atoms shared.new)) }
     ensures declared { OnOk result (declared_in shared.new ≡ declared_in shared.old) }
-    ensures good { OnOk result (IsGood shared.new) }
+    ensures good { OnOk result (IsGoodShared shared.new) }
     ensures refused { IfErr result (λ e. IfRefused e (λ place why. (start : List Literal) → FirstFailure (declared_in shared.old) start (numbered_refutation numbering.now (the_text text.now)) place why)) }
 {
     for i in 0..text.witnesses.len() {
@@ -64,13 +64,13 @@ fn check_lines(
     numbering: &Numbering<'_>,
     text: &RefutationText,
 ) -> Result<RightLines, PlainRefused>
-    requires good { IsGood shared.old }
+    requires good { IsGoodShared shared.old }
     requires rows { the_rows shared.old ≡ (numbered_refutation numbering.now (the_text text.now)).witnesses }
     requires table { IsTable (declared_in shared.old) (numbered_refutation numbering.now (the_text text.now)).witnesses }
     requires room { length text.now.witnesses + length text.now.lines < 2 ^ 64 }
     ensures right { OnOk result (AreRightIn (declared_in shared.old) (numbered_refutation numbering.now (the_text text.now))) }
-    ensures branches { IfOk result (λ ls. AreBranches (the_atoms shared.new) (numbered_refutation numbering.now (the_text text.now)).lines ls.branches.items) }
-    ensures atoms { OnOk result (Grow (the_atoms shared.old) (the_atoms shared.new)) }
+    ensures branches { IfOk result (λ ls. AreBranches (shared_atoms shared.new) (numbered_refutation numbering.now (the_text text.now)).lines ls.branches.items) }
+    ensures atoms { OnOk result (Grow (shared_atoms shared.old) (shared_atoms shared.new)) }
     ensures refused { IfErr result (λ e. IfRefused e (λ place why. (start : List Literal) → FirstFailure (declared_in shared.old) start (numbered_refutation numbering.now (the_text text.now)) place why)) }
 {
     let rows = text.witnesses.len();
@@ -130,12 +130,12 @@ fn check_from(
     start: &Branch,
     text: &RefutationText,
 ) -> Result<(), PlainRefused>
-    requires good { IsGood shared.old }
+    requires good { IsGoodShared shared.old }
     requires none { the_rows shared.old ≡ [] }
     requires room { length text.now.witnesses + length text.now.lines < 2 ^ 64 }
-    ensures accepted { OnOk result ((ls : List Literal) → Represents (the_atoms shared.old) ls start.now → AreNumbered (the_atoms shared.old) ls
+    ensures accepted { OnOk result ((ls : List Literal) → Represents (shared_atoms shared.old) ls start.now → AreNumberedBranch (shared_atoms shared.old) ls
         → IsAccepted (declared_in shared.old) ls (numbered_refutation numbering.now (the_text text.now))) }
-    ensures refused { IfErr result (λ e. IfRefused e (λ place why. (ls : List Literal) → Represents (the_atoms shared.old) ls start.now → AreNumbered (the_atoms shared.old) ls
+    ensures refused { IfErr result (λ e. IfRefused e (λ place why. (ls : List Literal) → Represents (shared_atoms shared.old) ls start.now → AreNumberedBranch (shared_atoms shared.old) ls
         → FirstFailure (declared_in shared.old) ls (numbered_refutation numbering.now (the_text text.now)) place why)) }
 {
     check_rows(alloc, shared, numbering, text)?;
@@ -151,9 +151,9 @@ fn check_with(
     problem: &Problem,
     text: &RefutationText,
 ) -> Result<(), PlainRefused>
-    requires good { IsGood shared.old }
+    requires good { IsGoodShared shared.old }
     requires none { the_rows shared.old ≡ [] }
-    requires scope { scope_in shared.old ≡ scope_of problem.now.declared }
+    requires scope { shared_scope shared.old ≡ scope_of problem.now.declared }
     requires problem { IsTyped problem.now }
     requires room { length text.now.witnesses + length text.now.lines < 2 ^ 64 }
     ensures accepted { OnOk result (IsAccepted (declared_in shared.old) (start problem.now) (numbered_refutation numbering.now (the_text text.now))) }
@@ -224,7 +224,7 @@ fn check_unfolded(
     text: &RefutationText,
 ) -> Result<(), CheckRefused>
     requires problem { IsTyped problem.now }
-    requires numbered { IsNumbered text.now }
+    requires numbered { IsNumberedText text.now }
     requires named { 0 < length text.now.names }
     requires lines { text.now.first + length text.now.witnesses + length text.now.lines < 2 ^ 64 }
     ensures accepted { OnOk result (IsAcceptedFor problem.now (the_text text.now)) }
@@ -243,7 +243,7 @@ pub fn check_refutation(
     text: &RefutationText,
 ) -> Result<(), CheckRefused>
     requires problem { IsTyped problem.now }
-    requires numbered { IsNumbered text.now }
+    requires numbered { IsNumberedText text.now }
     requires lines { text.now.first + length text.now.witnesses + length text.now.lines < 2 ^ 64 }
     ensures accepted { OnOk result (IsAcceptedFor problem.now (the_text text.now)) }
     ensures refused { IfErr result (λ e. IfLine e (TextFailsAt problem.now (the_text text.now) text.now.first)) }

@@ -6,8 +6,8 @@ ghost use Rattle.stt_core.specs.Lambda.{Lambda};
 ghost use Rattle.tableau_calculus.specs.Accepted.{IsClosedBranch, ClosesBy, AreChildren};
 ghost use Rattle.tableau_calculus.specs.declared.refutation.Line.{Line};
 ghost use Rattle.search_spec.specs.Each.{Each};
-ghost use Rattle.refute_check.specs.Internal.Branches.{Represents, AreNumbered, AreBranches};
-ghost use Rattle.refute_check.specs.Internal.Shared.{the_atoms, literal_in, IsGood, IsNumber};
+ghost use Rattle.refute_check.specs.Internal.Branches.{Represents, AreNumberedBranch, AreBranches};
+ghost use Rattle.refute_check.specs.Internal.Shared.{shared_atoms, literal_in, IsGoodShared, IsSharedNumber};
 
 use crate::branch::Branch;
 use crate::shared::Shared;
@@ -48,7 +48,7 @@ fn closes_by(
 /// Whether the branch with the alternative has a literal and its negation.
 fn is_closed_with(own_is_closed: bool, own: &Branch, known: &Branch) -> bool
     ensures { (terms : List Lambda) (alternative branch : List Literal)
-        → AreNumbered terms branch → Represents terms branch own.now → AreNumbered terms alternative → Represents terms alternative known.now
+        → AreNumberedBranch terms branch → Represents terms branch own.now → AreNumberedBranch terms alternative → Represents terms alternative known.now
         → (IsTrue own_is_closed ↔ IsClosedBranch branch)
         → IsTrue result ↔ IsClosedBranch (alternative ++ branch) }
 {
@@ -70,10 +70,10 @@ pub(crate) fn are_children(
     alternatives: &LitLists,
     children: &Children,
 ) -> Result<bool, AllocError>
-    requires good { IsGood shared.now }
-    requires numbers { Each (Each (IsNumber shared.now)) alternatives.now }
+    requires good { IsGoodShared shared.now }
+    requires numbers { Each (Each (IsSharedNumber shared.now)) alternatives.now }
     ensures { IfOk result (λ b. (lines : List Line) (branch : List Literal)
-        → AreBranches (the_atoms shared.now) lines earlier.now → AreNumbered (the_atoms shared.now) branch → Represents (the_atoms shared.now) branch own.now
+        → AreBranches (shared_atoms shared.now) lines earlier.now → AreNumberedBranch (shared_atoms shared.now) branch → Represents (shared_atoms shared.now) branch own.now
         → IsTrue b ↔ AreChildren lines branch (map (map (literal_in shared.now)) alternatives.now) children.now) }
 {
     if alternatives.len() != children.len() {

@@ -3,8 +3,8 @@
 ghost use Rattle.std.specs.Prelude.{◌≡◌, ◌<◌, ◌^◌, List, length, None, OnOk, IfOk, IfSome};
 ghost use Rattle.tableau_calculus.specs.Literals.{Literal};
 ghost use Rattle.tableau_calculus.specs.declared.refutation.RuleUse.{RuleUse};
-ghost use Rattle.refute_check.specs.Internal.Shared.{IsGood, Extends};
-ghost use Rattle.refute_check.specs.Internal.Taking.{IsTaken, Finds};
+ghost use Rattle.refute_check.specs.Internal.Shared.{IsGoodShared, ExtendsShared};
+ghost use Rattle.refute_check.specs.Internal.Taking.{IsTaken, FindsUse};
 
 use crate::shared::Shared;
 use literal_map::{BankUse, Instance};
@@ -19,11 +19,11 @@ impl Shared {
         alloc: Global,
         by: &BankUse,
     ) -> Result<Option<Instance>, AllocError>
-        requires good { IsGood self.old }
+        requires good { IsGoodShared self.old }
         requires taken { (ls : List Literal) × (rule : RuleUse) × IsTaken self.old ls rule by.now }
-        ensures finds { IfOk result (λ o. (ls : List Literal) (rule : RuleUse) → IsTaken self.old ls rule by.now → Finds self.old self.new ls rule o) }
-        ensures extends { IfOk result (λ o. IfSome o (λ _. Extends self.old self.new)) }
-        ensures good { IfOk result (λ o. IfSome o (λ _. IsGood self.new)) }
+        ensures finds { IfOk result (λ o. (ls : List Literal) (rule : RuleUse) → IsTaken self.old ls rule by.now → FindsUse self.old self.new ls rule o) }
+        ensures extends { IfOk result (λ o. IfSome o (λ _. ExtendsShared self.old self.new)) }
+        ensures good { IfOk result (λ o. IfSome o (λ _. IsGoodShared self.new)) }
     {
         let count = self.witnesses.len();
         if count == u32::MAX {

@@ -3,9 +3,9 @@
 ghost use Rattle.std.specs.Prelude.{◌≡◌, map, OnOk, IfOk, slice_get};
 ghost use Rattle.search_spec.specs.Each.{Each};
 ghost use Rattle.refute_check.specs.Numbered.{numbered_literal};
-ghost use Rattle.refute_check.specs.Internal.Branches.{Represents, AreNumbered};
+ghost use Rattle.refute_check.specs.Internal.Branches.{Represents, AreNumberedBranch};
 ghost use Rattle.refute_check.specs.Internal.Seen.{IsSeen};
-ghost use Rattle.refute_check.specs.Internal.Shared.{the_atoms, literal_in, IsGood, IsNumber, Extends, NumbersBranch};
+ghost use Rattle.refute_check.specs.Internal.Shared.{shared_atoms, literal_in, IsGoodShared, IsSharedNumber, ExtendsShared, NumbersBranch};
 
 use crate::branch::Branch;
 use crate::numbering::Numbering;
@@ -33,11 +33,11 @@ impl Shared {
         seen: &mut Seen<'t>,
         lits: &'t TextLits,
     ) -> Result<Option<LitList>, AllocError>
-        requires good { IsGood self.old }
+        requires good { IsGoodShared self.old }
         requires seen { IsSeen numbering.now self.old seen.old }
         ensures branch { IfOk result (NumbersBranch self.new (map (numbered_literal numbering.now) lits.now)) }
-        ensures extends { OnOk result (Extends self.old self.new) }
-        ensures good { OnOk result (IsGood self.new) }
+        ensures extends { OnOk result (ExtendsShared self.old self.new) }
+        ensures good { OnOk result (IsGoodShared self.new) }
         ensures seen { OnOk result (IsSeen numbering.now self.new seen.new) }
     {
         let mut list = LitList::new(alloc);
@@ -53,10 +53,10 @@ impl Shared {
 
     /// The numbered literals as a set.
     pub(crate) fn set_of(&self, alloc: Global, list: &LitList) -> Result<Branch, AllocError>
-        requires good { IsGood self.now }
-        requires numbers { Each (IsNumber self.now) list.now }
-        ensures set { IfOk result (Represents (the_atoms self.now) (map (literal_in self.now) list.now)) }
-        ensures numbered { OnOk result (AreNumbered (the_atoms self.now) (map (literal_in self.now) list.now)) }
+        requires good { IsGoodShared self.now }
+        requires numbers { Each (IsSharedNumber self.now) list.now }
+        ensures set { IfOk result (Represents (shared_atoms self.now) (map (literal_in self.now) list.now)) }
+        ensures numbered { OnOk result (AreNumberedBranch (shared_atoms self.now) (map (literal_in self.now) list.now)) }
     {
         equal_ids_for_equal_terms(&self.bank);
         self.lits.atoms_differ();

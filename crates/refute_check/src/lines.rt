@@ -8,9 +8,9 @@ ghost use Rattle.tableau_calculus.specs.Internal.Answers.{LineAnswer};
 ghost use Rattle.tableau_calculus.specs.declared.refutation.Line.{Line as TheLine};
 ghost use Rattle.refute_print.specs.TextView.{the_line};
 ghost use Rattle.refute_check.specs.Numbered.{numbered_line};
-ghost use Rattle.refute_check.specs.Internal.Branches.{Represents, AreNumbered, AreBranches};
+ghost use Rattle.refute_check.specs.Internal.Branches.{Represents, AreNumberedBranch, AreBranches};
 ghost use Rattle.refute_check.specs.Internal.Seen.{IsSeen};
-ghost use Rattle.refute_check.specs.Internal.Shared.{scope_in, the_atoms, the_rows, IsGood, Extends};
+ghost use Rattle.refute_check.specs.Internal.Shared.{shared_scope, shared_atoms, the_rows, IsGoodShared, ExtendsShared};
 
 use crate::branch::Branch;
 use crate::children::{are_children, branch_at};
@@ -46,14 +46,14 @@ impl RightLines {
         seen: &mut Seen<'t>,
         line: &'t TextLine,
     ) -> Result<Option<Why>, AllocError>
-        requires good { IsGood shared.old }
+        requires good { IsGoodShared shared.old }
         requires seen { IsSeen numbering.now shared.old seen.old }
-        ensures answer { IfOk result (λ why. (earlier : List TheLine) → AreBranches (the_atoms shared.old) earlier self.old.branches.items
-            → LineAnswer (scope_in shared.old) (the_rows shared.old) earlier (numbered_line numbering.now (the_line line.now)) why) }
-        ensures added { IfOk result (λ why. why ≡ None → (earlier : List TheLine) → AreBranches (the_atoms shared.old) earlier self.old.branches.items
-            → AreBranches (the_atoms shared.new) (earlier ++ numbered_line numbering.now (the_line line.now) ∷ []) self.new.branches.items) }
-        ensures extends { IfOk result (λ why. why ≡ None → Extends shared.old shared.new) }
-        ensures good { IfOk result (λ why. why ≡ None → IsGood shared.new) }
+        ensures answer { IfOk result (λ why. (earlier : List TheLine) → AreBranches (shared_atoms shared.old) earlier self.old.branches.items
+            → LineAnswer (shared_scope shared.old) (the_rows shared.old) earlier (numbered_line numbering.now (the_line line.now)) why) }
+        ensures added { IfOk result (λ why. why ≡ None → (earlier : List TheLine) → AreBranches (shared_atoms shared.old) earlier self.old.branches.items
+            → AreBranches (shared_atoms shared.new) (earlier ++ numbered_line numbering.now (the_line line.now) ∷ []) self.new.branches.items) }
+        ensures extends { IfOk result (λ why. why ≡ None → ExtendsShared shared.old shared.new) }
+        ensures good { IfOk result (λ why. why ≡ None → IsGoodShared shared.new) }
         ensures seen { IfOk result (λ why. why ≡ None → IsSeen numbering.now shared.new seen.new) }
     {
         let Some(branch) = shared.branch(alloc, numbering, seen, &line.branch)? else {

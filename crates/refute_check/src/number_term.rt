@@ -3,8 +3,8 @@
 ghost use Rattle.std.specs.Prelude.{◌≡◌, ◌+◌, IfOk, map};
 ghost use Rattle.stt_core.specs.Lambda.{lambdas};
 ghost use Rattle.stt_core.specs.View.{the_type as plain_type, the_head as plain_head};
-ghost use Rattle.refute_print.specs.View.{the_type};
-ghost use Rattle.refute_print.specs.TreeView.{the_head};
+ghost use Rattle.refute_print.specs.View.{the_text_type};
+ghost use Rattle.refute_print.specs.TreeView.{the_text_head};
 ghost use Rattle.refute_check.specs.Numbered.{numbered_type, numbered_term};
 
 use crate::numbering::Numbering;
@@ -38,7 +38,7 @@ pub(crate) fn number_type(
     numbering: &Numbering<'_>,
     ty: &TextTy,
 ) -> Result<Ty, AllocError>
-    ensures { IfOk result (λ a. plain_type a ≡ numbered_type numbering.now (the_type ty.now)) }
+    ensures { IfOk result (λ a. plain_type a ≡ numbered_type numbering.now (the_text_type ty.now)) }
 {
     match ty {
         TextTy::Form => Ok(Ty::Base(0)),
@@ -58,7 +58,7 @@ fn number_head(
     numbering: &Numbering<'_>,
     head: &TextHead,
 ) -> Result<Head, AllocError>
-    ensures { IfOk result (λ h. plain_head h ≡ numbered_term numbering.now (the_head head.now)) }
+    ensures { IfOk result (λ h. plain_head h ≡ numbered_term numbering.now (the_text_head head.now)) }
 {
     match head {
         TextHead::Bound(k) => Ok(Head::Bound(*k)),

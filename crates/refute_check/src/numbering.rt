@@ -2,8 +2,8 @@
 
 ghost use Rattle.std.specs.Prelude.{◌≡◌, List, ℕ, IfOk, OnOk, unwrap_or, map};
 ghost use Rattle.refute_print.specs.Named.{names_of};
-ghost use Rattle.refute_check.specs.Numbered.{place_of};
-ghost use Rattle.refute_check.specs.Internal.Places.{noted, noted_next, HasPlaces};
+ghost use Rattle.refute_check.specs.Numbered.{name_place};
+ghost use Rattle.refute_check.specs.Internal.Places.{noted, noted_next, MapsToPlaces};
 
 use std::alloc::{AllocError, Global};
 use std::collections::BTreeMap;
@@ -33,7 +33,7 @@ fn find(places: &BTreeMap<&[u8], usize>, name: &[u8], other: usize) -> usize
 
 /// The first places of base types.
 fn base_places(alloc: Global, bases: &Names) -> Result<BTreeMap<&[u8], usize>, AllocError>
-    ensures { IfOk result (λ places. HasPlaces places bases.now) }
+    ensures { IfOk result (λ places. MapsToPlaces places bases.now) }
 {
     let mut places = BTreeMap::new(alloc);
     for i in 0..bases.len() {
@@ -44,7 +44,7 @@ fn base_places(alloc: Global, bases: &Names) -> Result<BTreeMap<&[u8], usize>, A
 
 /// The first places of constants.
 fn const_places(alloc: Global, consts: &Consts) -> Result<BTreeMap<&[u8], usize>, AllocError>
-    ensures { IfOk result (λ places. HasPlaces places (map (λ c. c.name) consts.now)) }
+    ensures { IfOk result (λ places. MapsToPlaces places (map (λ c. c.name) consts.now)) }
 {
     let mut places = BTreeMap::new(alloc);
     for i in 0..consts.len() {
@@ -64,13 +64,13 @@ pub(crate) struct Numbering<'a> {
 impl<'a> Model for Numbering<'a> {
     ghost use Rattle.std.specs.Prelude.{map};
     ghost use Rattle.refute_print.specs.Named.{Names, names_of};
-    ghost use Rattle.refute_check.specs.Internal.Places.{HasPlaces};
+    ghost use Rattle.refute_check.specs.Internal.Places.{MapsToPlaces};
 
     ghost Value = { Names };
 
     ghost view = { λ n. names_of n.signature.now.bases n.signature.now.consts };
 
-    ghost invariant = { λ n. HasPlaces n.bases n.signature.now.bases × HasPlaces n.consts (map (λ c. c.name) n.signature.now.consts) };
+    ghost invariant = { λ n. MapsToPlaces n.bases n.signature.now.bases × MapsToPlaces n.consts (map (λ c. c.name) n.signature.now.consts) };
 }
 
 impl<'a> Numbering<'a> {
@@ -87,14 +87,14 @@ impl<'a> Numbering<'a> {
 
     /// The first place of the name among the base types, or else their number.
     pub(crate) fn base(&self, name: &[u8]) -> usize
-        ensures { result ≡ place_of self.now.bases name.now }
+        ensures { result ≡ name_place self.now.bases name.now }
     {
         find(&self.bases, name, self.signature.bases.len())
     }
 
     /// The first place of the name among the constants, or else their number.
     pub(crate) fn constant(&self, name: &[u8]) -> usize
-        ensures { result ≡ place_of self.now.constants name.now }
+        ensures { result ≡ name_place self.now.constants name.now }
     {
         find(&self.consts, name, self.signature.consts.len())
     }

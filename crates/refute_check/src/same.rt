@@ -1,13 +1,13 @@
 //! Literals of a text that are the same.
 
 ghost use Rattle.std.specs.Prelude.{◌≡◌, IsTrue};
-ghost use Rattle.refute_print.specs.View.{the_type};
-ghost use Rattle.refute_print.specs.TreeView.{the_head, the_node};
+ghost use Rattle.refute_print.specs.View.{the_text_type};
+ghost use Rattle.refute_print.specs.TreeView.{the_text_head, the_text_node};
 
 use refute_print::{TextHead, TextLit, TextNode, TextTerm, TextTerms, TextTy};
 
 fn same_type(left: &TextTy, right: &TextTy) -> bool
-    ensures { IsTrue result → the_type left.now ≡ the_type right.now }
+    ensures { IsTrue result → the_text_type left.now ≡ the_text_type right.now }
 {
     match (left, right) {
         (TextTy::Form, TextTy::Form) => true,
@@ -19,7 +19,7 @@ fn same_type(left: &TextTy, right: &TextTy) -> bool
 }
 
 fn same_head(left: &TextHead, right: &TextHead) -> bool
-    ensures { IsTrue result → the_head left.now ≡ the_head right.now }
+    ensures { IsTrue result → the_text_head left.now ≡ the_text_head right.now }
 {
     match (left, right) {
         (TextHead::Bound(a), TextHead::Bound(b)) => *a == *b,

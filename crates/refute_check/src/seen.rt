@@ -2,7 +2,7 @@
 
 ghost use Rattle.std.specs.Prelude.{◌≡◌, Some, IfOk, OnOk, IfSome, option_copied, slice_get};
 ghost use Rattle.refute_check.specs.Numbered.{numbered_literal};
-ghost use Rattle.refute_check.specs.Internal.Shared.{IsGood, Extends, NumbersLiteral};
+ghost use Rattle.refute_check.specs.Internal.Shared.{IsGoodShared, ExtendsShared, NumbersLiteral};
 ghost use Rattle.refute_check.specs.Internal.Seen.{IsSeen, IsNoted};
 ghost use Rattle.refute_check.specs.declared.shared.Shared.{Shared as TheShared};
 ghost use Rattle.refute_print.specs.Named.{Names};
@@ -80,11 +80,11 @@ impl Shared {
         place: usize,
         lit: &'t TextLit,
     ) -> Result<Option<SatLit>, AllocError>
-        requires good { IsGood self.old }
+        requires good { IsGoodShared self.old }
         requires seen { IsSeen numbering.now self.old seen.old }
         ensures number { IfOk result (NumbersLiteral self.new (numbered_literal numbering.now lit.now)) }
-        ensures extends { OnOk result (Extends self.old self.new) }
-        ensures good { OnOk result (IsGood self.new) }
+        ensures extends { OnOk result (ExtendsShared self.old self.new) }
+        ensures good { OnOk result (IsGoodShared self.new) }
         ensures seen { OnOk result (IsSeen numbering.now self.new seen.new) }
     {
         if let Some(number) = seen.find(place, lit) {

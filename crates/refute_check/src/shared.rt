@@ -8,7 +8,7 @@ ghost use Rattle.stt_core.specs.View.{the_type};
 ghost use Rattle.stt_core.specs.Canonical.{IsCanonical};
 ghost use Rattle.tableau_calculus.specs.Literals.{IsLiteral};
 ghost use Rattle.refute_check.specs.Numbered.{numbered_term, numbered_literal};
-ghost use Rattle.refute_check.specs.Internal.Shared.{scope_in, declared_in, the_atoms, the_rows, IsGood, Extends, NumbersLiteral, HasPlace, HasPredicate};
+ghost use Rattle.refute_check.specs.Internal.Shared.{shared_scope, declared_in, shared_atoms, the_rows, IsGoodShared, ExtendsShared, NumbersLiteral, HasPlace, HasPredicate};
 
 use crate::number_line::number_literal;
 use crate::number_term::number_term;
@@ -47,11 +47,11 @@ impl Shared {
     /// No terms, over a signature.
     pub(crate) fn new(alloc: Global, sig: &Signature) -> Result<Self, AllocError>
         requires declared { IsScope (the_scope sig.now []) }
-        ensures good { IfOk result IsGood }
-        ensures scope { IfOk result (λ s. scope_in s ≡ the_scope sig.now []) }
+        ensures good { IfOk result IsGoodShared }
+        ensures scope { IfOk result (λ s. shared_scope s ≡ the_scope sig.now []) }
         ensures declared { IfOk result (λ s. declared_in s ≡ the_scope sig.now []) }
         ensures rows { IfOk result (λ s. the_rows s ≡ []) }
-        ensures atoms { IfOk result (λ s. the_atoms s ≡ []) }
+        ensures atoms { IfOk result (λ s. shared_atoms s ≡ []) }
     {
         let sig = sig.try_clone(alloc)?;
         Ok(Shared {
@@ -65,25 +65,25 @@ impl Shared {
 
     /// The type of a closed term, where it is canonical.
     fn type_of(&self, alloc: Global, nf: &Nf) -> Result<Option<Ty>, AllocError>
-        requires good { IsGood self.now }
-        ensures { IfOk result (λ found. (a : SimpleType) → (option_map the_type found ≡ Some a) ↔ IsCanonical (scope_in self.now) [] a nf.now) }
+        requires good { IsGoodShared self.now }
+        ensures { IfOk result (λ found. (a : SimpleType) → (option_map the_type found ≡ Some a) ↔ IsCanonical (shared_scope self.now) [] a nf.now) }
     {
         Ok(type_of_closed(alloc, self.bank.sig(), &self.types, nf)?)
     }
 
     fn is_literal(&self, alloc: Global, lit: &Lit) -> Result<bool, AllocError>
-        requires good { IsGood self.now }
-        ensures { IfOk result (λ b. IsTrue b ↔ IsLiteral (scope_in self.now) lit.now) }
+        requires good { IsGoodShared self.now }
+        ensures { IfOk result (λ b. IsTrue b ↔ IsLiteral (shared_scope self.now) lit.now) }
     {
         Ok(is_typed_literal(alloc, self.bank.sig(), &self.types, lit)?)
     }
 
     /// The number of a literal, or none where it is none over what is declared.
     fn number(&mut self, alloc: Global, lit: &Lit) -> Result<Option<SatLit>, AllocError>
-        requires good { IsGood self.old }
+        requires good { IsGoodShared self.old }
         ensures number { IfOk result (NumbersLiteral self.new lit.now) }
-        ensures extends { OnOk result (Extends self.old self.new) }
-        ensures good { OnOk result (IsGood self.new) }
+        ensures extends { OnOk result (ExtendsShared self.old self.new) }
+        ensures good { OnOk result (IsGoodShared self.new) }
     {
         if !self.is_literal(alloc, lit)? {
             return Ok(None);
@@ -103,10 +103,10 @@ impl Shared {
         numbering: &Numbering<'_>,
         lit: &TextLit,
     ) -> Result<Option<SatLit>, AllocError>
-        requires good { IsGood self.old }
+        requires good { IsGoodShared self.old }
         ensures number { IfOk result (NumbersLiteral self.new (numbered_literal numbering.now lit.now)) }
-        ensures extends { OnOk result (Extends self.old self.new) }
-        ensures good { OnOk result (IsGood self.new) }
+        ensures extends { OnOk result (ExtendsShared self.old self.new) }
+        ensures good { OnOk result (IsGoodShared self.new) }
     {
         match number_literal(alloc, numbering, lit)? {
             Some(lit) => Ok(self.number(alloc, &lit)?),
@@ -116,10 +116,10 @@ impl Shared {
 
     /// The place of a term, or none where it isn't closed and canonical over what is declared.
     fn place_of(&mut self, alloc: Global, nf: &Nf) -> Result<Option<Id>, AllocError>
-        requires good { IsGood self.old }
+        requires good { IsGoodShared self.old }
         ensures place { IfOk result (HasPlace self.new nf.now) }
-        ensures extends { OnOk result (Extends self.old self.new) }
-        ensures good { OnOk result (IsGood self.new) }
+        ensures extends { OnOk result (ExtendsShared self.old self.new) }
+        ensures good { OnOk result (IsGoodShared self.new) }
     {
         if self.type_of(alloc, nf)?.is_none() {
             return Ok(None);
@@ -135,10 +135,10 @@ impl Shared {
         numbering: &Numbering<'_>,
         term: &TextTerm,
     ) -> Result<Option<Id>, AllocError>
-        requires good { IsGood self.old }
+        requires good { IsGoodShared self.old }
         ensures place { IfOk result (HasPlace self.new (numbered_term numbering.now term.now)) }
-        ensures extends { OnOk result (Extends self.old self.new) }
-        ensures good { OnOk result (IsGood self.new) }
+        ensures extends { OnOk result (ExtendsShared self.old self.new) }
+        ensures good { OnOk result (IsGoodShared self.new) }
     {
         let nf = number_term(alloc, numbering, term)?;
         let place = self.place_of(alloc, &nf);
@@ -148,10 +148,10 @@ impl Shared {
 
     /// The place of a predicate, or none where the term is none.
     fn predicate_place(&mut self, alloc: Global, nf: &Nf) -> Result<Option<Id>, AllocError>
-        requires good { IsGood self.old }
+        requires good { IsGoodShared self.old }
         ensures place { IfOk result (HasPredicate self.new nf.now) }
-        ensures extends { OnOk result (Extends self.old self.new) }
-        ensures good { OnOk result (IsGood self.new) }
+        ensures extends { OnOk result (ExtendsShared self.old self.new) }
+        ensures good { OnOk result (IsGoodShared self.new) }
     {
         let found = self.type_of(alloc, nf)?;
         if !is_predicate(found) {
@@ -168,10 +168,10 @@ impl Shared {
         numbering: &Numbering<'_>,
         term: &TextTerm,
     ) -> Result<Option<Id>, AllocError>
-        requires good { IsGood self.old }
+        requires good { IsGoodShared self.old }
         ensures place { IfOk result (HasPredicate self.new (numbered_term numbering.now term.now)) }
-        ensures extends { OnOk result (Extends self.old self.new) }
-        ensures good { OnOk result (IsGood self.new) }
+        ensures extends { OnOk result (ExtendsShared self.old self.new) }
+        ensures good { OnOk result (IsGoodShared self.new) }
     {
         let nf = number_term(alloc, numbering, term)?;
         let place = self.predicate_place(alloc, &nf);

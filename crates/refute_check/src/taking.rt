@@ -5,7 +5,7 @@ ghost use Rattle.tableau_calculus.specs.Literals.{Literal};
 ghost use Rattle.refute_print.specs.LineView.{the_rule};
 ghost use Rattle.refute_print.specs.Trees.{OnePlace, TwoPlaces, OfPredicate};
 ghost use Rattle.refute_check.specs.Numbered.{numbered_rule, numbered_one_place, numbered_two_places, numbered_of_predicate, numbered_term, numbered_literal};
-ghost use Rattle.refute_check.specs.Internal.Shared.{AreNumbersOf, IsGood, Extends};
+ghost use Rattle.refute_check.specs.Internal.Shared.{AreNumbersOf, IsGoodShared, ExtendsShared};
 ghost use Rattle.refute_check.specs.Internal.Taking.{kind_of_one, kind_of_two, kind_of_predicate, Takes};
 ghost use Rattle.refute_check.specs.declared.shared.Shared.{Shared as TheShared};
 ghost use Rattle.tableau_calculus.specs.declared.refutation.RuleUse.TheVariants.{AllPos as AllPosOf, Cut as CutOf};
@@ -68,10 +68,10 @@ impl Shared {
         i: usize,
         term: &TextTerm,
     ) -> Result<Taking, AllocError>
-        requires good { IsGood self.old }
+        requires good { IsGoodShared self.old }
         ensures takes { IfOk result (λ taking. (ls : List Literal) → AreNumbersOf self.old ls branch.now → Takes self.new ls (AllPosOf i (numbered_term numbering.now term.now)) taking) }
-        ensures extends { OnOk result (Extends self.old self.new) }
-        ensures good { OnOk result (IsGood self.new) }
+        ensures extends { OnOk result (ExtendsShared self.old self.new) }
+        ensures good { OnOk result (IsGoodShared self.new) }
     {
         let Some(id) = self.term(alloc, numbering, term)? else {
             return Ok(Taking::Untyped);
@@ -95,10 +95,10 @@ impl Shared {
         kind: RuleKind,
         predicate: &TextTerm,
     ) -> Result<Taking, AllocError>
-        requires good { IsGood self.old }
+        requires good { IsGoodShared self.old }
         ensures takes { IfOk result (λ taking. (ls : List Literal) (r : OfPredicate) → kind ≡ kind_of_predicate r → Takes self.new ls (numbered_of_predicate r (numbered_term numbering.now predicate.now)) taking) }
-        ensures extends { OnOk result (Extends self.old self.new) }
-        ensures good { OnOk result (IsGood self.new) }
+        ensures extends { OnOk result (ExtendsShared self.old self.new) }
+        ensures good { OnOk result (IsGoodShared self.new) }
     {
         match self.predicate(alloc, numbering, predicate)? {
             Some(id) => Ok(Taking::By(BankUse {
@@ -118,10 +118,10 @@ impl Shared {
         numbering: &Numbering<'_>,
         lit: &TextLit,
     ) -> Result<Taking, AllocError>
-        requires good { IsGood self.old }
+        requires good { IsGoodShared self.old }
         ensures takes { IfOk result (λ taking. (ls : List Literal) → Takes self.new ls (CutOf (numbered_literal numbering.now lit.now)) taking) }
-        ensures extends { OnOk result (Extends self.old self.new) }
-        ensures good { OnOk result (IsGood self.new) }
+        ensures extends { OnOk result (ExtendsShared self.old self.new) }
+        ensures good { OnOk result (IsGoodShared self.new) }
     {
         match self.literal(alloc, numbering, lit)? {
             Some(lit) => Ok(Taking::By(BankUse {
@@ -142,10 +142,10 @@ impl Shared {
         branch: &LitList,
         rule: &TextRule,
     ) -> Result<Taking, AllocError>
-        requires good { IsGood self.old }
+        requires good { IsGoodShared self.old }
         ensures takes { IfOk result (λ taking. (ls : List Literal) → AreNumbersOf self.old ls branch.now → Takes self.new ls (numbered_rule numbering.now (the_rule rule.now)) taking) }
-        ensures extends { OnOk result (Extends self.old self.new) }
-        ensures good { OnOk result (IsGood self.new) }
+        ensures extends { OnOk result (ExtendsShared self.old self.new) }
+        ensures good { OnOk result (IsGoodShared self.new) }
     {
         match rule {
             TextRule::False(i) => Ok(at_one(branch, RuleKind::False, *i)),

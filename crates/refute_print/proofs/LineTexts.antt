@@ -6,9 +6,9 @@ use Rattle.tableau_calculus.specs.declared.refutation.Child.{Child}
 use Rattle.tableau_calculus.specs.declared.refutation.Line.{Line}
 use Rattle.thf_names.specs.Names.{name_text}
 use Rattle.refute_print.specs.Trees.{RefutationTree}
-use Rattle.refute_print.specs.Text.{version_text, definition_text, text_lines, term_text, literal_text, child_text, rule_text, after_commas, separated, branch_text, children_text, row_texts, line_texts, as_bytes}
-use Rattle.refute_print.specs.Named.{Names, name_at, ArePlaces, named_term, named_literal, named_rule, named_line, HasNames, HaveNames, HasLineNames, RowsHaveNames, LinesHaveNames}
-use Rattle.refute_print.specs.Internal.Pieces.{version_line, definition_line, comma_before, literal_at, child_at, row_line, line_line}
+use Rattle.refute_print.specs.Text.{version_text, definition_text, text_lines, term_text, literal_text, child_text, rule_text, after_commas, comma_separated, branch_text, children_text, row_texts, line_texts, as_bytes}
+use Rattle.refute_print.specs.Named.{Names, name_numbered, ArePlaces, named_term, named_literal, named_rule, named_line, HasNames, HaveNames, HasLineNames, RowsHaveNames, LinesHaveNames}
+use Rattle.refute_print.specs.Internal.Pieces.{version_line, definition_line, comma_before, literal_piece, child_piece, row_line, line_line}
 use Rattle.refute_print.proofs.Lists.{all_texts}
 
 -- a text that ends with a number, and what follows it
@@ -21,7 +21,7 @@ later_members f k (x ∷ xs) =
     append_assoc (codes ",") (f x) (all_texts (λ i y. comma_before i ++ f y) (suc (suc k)) xs)
     ∙ ap (λ t. codes "," ++ (f x ++ t)) (later_members f (suc k) xs)
 
-members : {X : Type 0} (f : X → List ℕ) (xs : List X) → all_texts (λ i x. comma_before i ++ f x) 0 xs ≡ separated (map f xs)
+members : {X : Type 0} (f : X → List ℕ) (xs : List X) → all_texts (λ i x. comma_before i ++ f x) 0 xs ≡ comma_separated (map f xs)
 members f [] = refl
 members f (x ∷ xs) = ap (λ t. f x ++ t) (later_members f 0 xs)
 
@@ -29,11 +29,11 @@ map-map : {X Y Z : Type 0} (f : Y → Z) (g : X → Y) (xs : List X) → map (λ
 map-map f g [] = refl
 map-map f g (x ∷ xs) = ap (λ ys. f (g x) ∷ ys) (map-map f g xs)
 
-pub branch_members : (names : Names) (branch : List Literal) → all_texts (λ i l. literal_at names i l) 0 branch ≡ branch_text (map (named_literal names) branch)
+pub branch_members : (names : Names) (branch : List Literal) → all_texts (λ i l. literal_piece names i l) 0 branch ≡ branch_text (map (named_literal names) branch)
 branch_members names branch =
-    members (λ l. literal_text (named_literal names l)) branch ∙ ap separated (map-map literal_text (named_literal names) branch)
+    members (λ l. literal_text (named_literal names l)) branch ∙ ap comma_separated (map-map literal_text (named_literal names) branch)
 
-pub children_members : (children : List Child) → all_texts (λ i c. child_at i c) 0 children ≡ children_text children
+pub children_members : (children : List Child) → all_texts (λ i c. child_piece i c) 0 children ≡ children_text children
 children_members children = members child_text children
 
 pub row_members : (names : Names) (k : ℕ) (rows : List Row) → all_texts (λ i row. row_line names i row) k rows ≡ as_bytes (row_texts k (map (λ row. named_term names row.predicate) rows))
@@ -60,11 +60,11 @@ pub as_bytes-append : (xs ys : List (List ℕ)) → as_bytes (xs ++ ys) ≡ as_b
 as_bytes-append [] ys = refl
 as_bytes-append (x ∷ xs) ys = ap (λ t. x ++ (10 ∷ t)) (as_bytes-append xs ys) ∙ sym (append_assoc x (10 ∷ as_bytes xs) (as_bytes ys))
 
-pub definition_members : (names : Names) (n : ℕ) (taken : List ℕ) → all_texts (λ i k. definition_line names k) n taken ≡ as_bytes (map definition_text (map (name_at names.constants) taken))
+pub definition_members : (names : Names) (n : ℕ) (taken : List ℕ) → all_texts (λ i k. definition_line names k) n taken ≡ as_bytes (map definition_text (map (name_numbered names.constants) taken))
 definition_members names n [] = refl
 definition_members names n (k ∷ taken) =
-    let w = name_text (name_at names.constants k) in
-    let more = as_bytes (map definition_text (map (name_at names.constants) taken)) in
+    let w = name_text (name_numbered names.constants k) in
+    let more = as_bytes (map definition_text (map (name_numbered names.constants) taken)) in
     ap (λ t. definition_line names k ++ t) (definition_members names (suc n) taken) ∙ regroup w more
   where
     regroup : (w more : List ℕ) → (codes "d " ++ (w ++ codes "\n")) ++ more ≡ (codes "d " ++ w) ++ (10 ∷ more)

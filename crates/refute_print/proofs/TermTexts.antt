@@ -6,12 +6,12 @@ use Rattle.stt_core.specs.View.{the_head}
 use Rattle.stt_core.specs.declared.nf.Head.{Head}
 use Rattle.stt_core.specs.declared.nf.Head.TheVariants as head
 use Rattle.thf_names.specs.Names.{name_text}
-use Rattle.refute_print.specs.Text.{type_text, term_text, spine_text}
+use Rattle.refute_print.specs.Text.{text_of_type, term_text, spine_text}
 use Rattle.refute_print.specs.Named.{Names, named_type, named_term, HasTypeNames, HasNames}
-use Rattle.refute_print.specs.Internal.Pieces.{binder_text, binders_text, argument_text, arguments_text, applied_text, BindersHaveNames, ArgumentsHaveNames}
+use Rattle.refute_print.specs.Internal.Pieces.{lambda_piece, binders_text, argument_text, arguments_text, applied_text, BindersHaveNames, ArgumentsHaveNames}
 
 -- the text of a declared base type is its name's
-pub base_text : (names : Names) (n : ℕ) (w : List ℕ) → n ≢ 0 → n ≢ 1 → slice_get names.bases (n - 2) ≡ Some w → name_text w ≡ type_text (named_type names (base n))
+pub base_text : (names : Names) (n : ℕ) (w : List ℕ) → n ≢ 0 → n ≢ 1 → slice_get names.bases (n - 2) ≡ Some w → name_text w ≡ text_of_type (named_type names (base n))
 base_text names zero w h k e = absurd (h refl)
 base_text names (suc zero) w h k e = absurd (k refl)
 base_text names (suc (suc m)) w h k e =
@@ -47,9 +47,9 @@ term_text-applied names h (u ∷ us) l =
 pub term_text-lambdas : (names : Names) (bs : List SimpleType) (t : Lambda) → term_text (named_term names (lambdas bs t)) ≡ binders_text names bs ++ term_text (named_term names t)
 term_text-lambdas names [] t = refl
 term_text-lambdas names (a ∷ bs) t =
-    ap (λ x. codes "^" ++ (type_text (named_type names a) ++ (codes "." ++ x))) (term_text-lambdas names bs t)
-    ∙ ap (λ x. codes "^" ++ x) (sym (append_assoc (type_text (named_type names a)) (codes ".") (binders_text names bs ++ term_text (named_term names t))))
-    ∙ sym (append_assoc (binder_text names a) (binders_text names bs) (term_text (named_term names t)))
+    ap (λ x. codes "^" ++ (text_of_type (named_type names a) ++ (codes "." ++ x))) (term_text-lambdas names bs t)
+    ∙ ap (λ x. codes "^" ++ x) (sym (append_assoc (text_of_type (named_type names a)) (codes ".") (binders_text names bs ++ term_text (named_term names t))))
+    ∙ sym (append_assoc (lambda_piece names a) (binders_text names bs) (term_text (named_term names t)))
 
 -- the pieces of a term
 pub whole_text : (names : Names) (bs : List SimpleType) (h : Lambda) (us : List Lambda) (t : Lambda) → IsLeaf h → lambdas bs (applied h us) ≡ t → binders_text names bs ++ applied_text names h us ≡ term_text (named_term names t)

@@ -10,7 +10,7 @@ use Rattle.stt_core.specs.declared.nf.Head.{Head}
 use Rattle.stt_core.proofs.SpineLaws.{IsAtom}
 use Rattle.stt_core.proofs.HeadLaws.{atom_head}
 use Rattle.refute_print.specs.Sizes.{nesting, type_depth, type_limit}
-use Rattle.refute_print.specs.Internal.Within.{IsWithin, IsArgument, AreWithin}
+use Rattle.refute_print.specs.Internal.Within.{NestsWithin, IsArgument, AreSmallParts}
 
 depth-lambdas : (bs : List SimpleType) (t : Lambda) → depth (lambdas bs t) ≡ length bs + depth t
 depth-lambdas [] t = omega arith
@@ -50,18 +50,18 @@ depth-atom (app s u) o = absurd o
 
 module _ (n : ℕ) (bs : List SimpleType) (h : Head) (us : List Lambda) (whole : Lambda) (is : lambdas bs (applied (the_head h) us) ≡ whole) where
   -- a term by its parts
-  pub within-parts : IsWithin n whole → AreWithin n bs (the_head h) us
+  pub within-parts : NestsWithin n whole → AreSmallParts n bs (the_head h) us
   within-parts w =
-      let v = subst (IsWithin n) (sym is) w in
+      let v = subst (NestsWithin n) (sym is) w in
       let types = types-lambdas bs (applied (the_head h) us) v.1 in
       let parts = within-applied n (length bs) (the_head h) us (omega (arith, v.0, depth-lambdas bs (applied (the_head h) us))) types.1 in
       record { few = omega (arith, parts.0); types = types.0; head = parts.1.0; arguments = parts.1.1 }
 
-  pub parts-within : AreWithin n bs (the_head h) us → IsWithin n whole
+  pub parts-within : AreSmallParts n bs (the_head h) us → NestsWithin n whole
   parts-within p =
       let head = depth-atom (the_head h) (atom_head h) in
       let k = applied-within n (length bs) (the_head h) us (omega (arith, p.few, head)) p.head p.arguments in
-      subst (IsWithin n) is (omega (arith, k.0, depth-lambdas bs (applied (the_head h) us)), lambdas-types bs (applied (the_head h) us) p.types k.1)
+      subst (NestsWithin n) is (omega (arith, k.0, depth-lambdas bs (applied (the_head h) us)), lambdas-types bs (applied (the_head h) us) p.types k.1)
 
 -- no argument fits under as many binders as there may be
 pub none-fit : (n k : ℕ) (us : List Lambda) → k ≡ n → 0 < length us → AllByRecursion (IsArgument n k) us → ⊥

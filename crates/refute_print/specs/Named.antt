@@ -10,7 +10,7 @@ use Rattle.tableau_calculus.specs.declared.refutation.RuleUse.{RuleUse}
 use Rattle.tableau_calculus.specs.declared.refutation.RuleUse.TheVariants as rule
 use Rattle.tableau_calculus.specs.declared.refutation.Line.{Line}
 use Rattle.tableau_calculus.specs.declared.refutation.Refutation.{Refutation}
-use Rattle.refute_print.specs.Trees.{TypeTree, ConstantTree, TermTree, LiteralTree, RuleTree, LineTree, RefutationTree}
+use Rattle.refute_print.specs.Trees.{TextTypeTree, ConstantTree, TermTree, LiteralTree, RuleTree, LineTree, RefutationTree}
 use Rattle.refute_print.specs.Trees as tree
 
 -- the names that a signature declares: those of its own base types, of which the first is number 2, and those of its constants
@@ -21,17 +21,17 @@ pub record Names : Type 0 where
 abbrev pub names_of : List (List ℕ) → List TypedName → Names
 names_of bases consts = record { bases = bases; constants = map (λ c. c.name) consts }
 
-abbrev pub name_at : List (List ℕ) → ℕ → List ℕ
-name_at names k = unwrap_or (slice_get names k) []
+abbrev pub name_numbered : List (List ℕ) → ℕ → List ℕ
+name_numbered names k = unwrap_or (slice_get names k) []
 
-abbrev pub named_type : Names → SimpleType → TypeTree
+abbrev pub named_type : Names → SimpleType → TextTypeTree
 named_type names (base zero) = tree.formula
 named_type names (base (suc zero)) = tree.individual
-named_type names (base (suc (suc k))) = tree.named (name_at names.bases k)
+named_type names (base (suc (suc k))) = tree.named (name_numbered names.bases k)
 named_type names (arrow a b) = tree.arrow (named_type names a) (named_type names b)
 
 abbrev pub named_constant : Names → Constant → ConstantTree
-named_constant names (name k) = tree.name (name_at names.constants k)
+named_constant names (name k) = tree.name (name_numbered names.constants k)
 named_constant names (witness k) = tree.witness k
 named_constant names falsity = tree.falsity
 named_constant names negation = tree.negation
@@ -79,7 +79,7 @@ named_line names line = record {
 -- with the constants whose definitions are unfolded, by their places
 abbrev pub named_refutation : Names → List ℕ → Refutation → RefutationTree
 named_refutation names taken r = record {
-  names = map (name_at names.constants) taken;
+  names = map (name_numbered names.constants) taken;
   rows = map (λ row. named_term names row.predicate) r.witnesses;
   lines = map (named_line names) r.lines;
 }

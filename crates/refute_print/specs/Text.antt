@@ -3,13 +3,13 @@ use Rattle.std.specs.Prelude.{ℕ, suc, Bool, true, false, List, [], ◌∷◌, 
 use Rattle.tableau_calculus.specs.declared.refutation.Child.{Child}
 use Rattle.tableau_calculus.specs.declared.refutation.Child.TheVariants.{Closed, Line as Numbered}
 use Rattle.thf_names.specs.Names.{name_text}
-use Rattle.refute_print.specs.Trees.{TypeTree, formula, individual, named, arrow, ConstantTree, name, witness, falsity, negation, implication, all, equality, choice, description, TermTree, bound, constant, lam, app, LiteralTree, OnePlace, False, Refl, ImpPos, ImpNeg, BoolPos, BoolNeg, FunPos, FunNeg, AllNeg, Dec, TwoPlaces, Close, Mat, Con, OfPredicate, Cho, Des, RuleTree, at_one, at_two, with_instance, with_predicate, with_cut, LineTree, RefutationTree}
+use Rattle.refute_print.specs.Trees.{TextTypeTree, formula, individual, named, arrow, ConstantTree, name, witness, falsity, negation, implication, all, equality, choice, description, TermTree, bound, constant, lam, app, LiteralTree, OnePlace, False, Refl, ImpPos, ImpNeg, BoolPos, BoolNeg, FunPos, FunNeg, AllNeg, Dec, TwoPlaces, Close, Mat, Con, OfPredicate, Cho, Des, RuleTree, at_one, at_two, with_instance, with_predicate, with_cut, LineTree, RefutationTree}
 
-abbrev pub type_text : TypeTree → List ℕ
-type_text formula = codes "$o"
-type_text individual = codes "$i"
-type_text (named w) = name_text w
-type_text (arrow a b) = codes "(" ++ (type_text a ++ (codes ">" ++ (type_text b ++ codes ")")))
+abbrev pub text_of_type : TextTypeTree → List ℕ
+text_of_type formula = codes "$o"
+text_of_type individual = codes "$i"
+text_of_type (named w) = name_text w
+text_of_type (arrow a b) = codes "(" ++ (text_of_type a ++ (codes ">" ++ (text_of_type b ++ codes ")")))
 
 abbrev pub constant_text : ConstantTree → List ℕ
 constant_text (name w) = name_text w
@@ -17,23 +17,23 @@ constant_text (witness k) = codes "$w" ++ decimal k
 constant_text falsity = codes "$f"
 constant_text negation = codes "$not"
 constant_text implication = codes "$imp"
-constant_text (all a) = codes "$all[" ++ (type_text a ++ codes "]")
-constant_text (equality a) = codes "$eq[" ++ (type_text a ++ codes "]")
-constant_text (choice a) = codes "$eps[" ++ (type_text a ++ codes "]")
-constant_text (description a) = codes "$the[" ++ (type_text a ++ codes "]")
+constant_text (all a) = codes "$all[" ++ (text_of_type a ++ codes "]")
+constant_text (equality a) = codes "$eq[" ++ (text_of_type a ++ codes "]")
+constant_text (choice a) = codes "$eps[" ++ (text_of_type a ++ codes "]")
+constant_text (description a) = codes "$the[" ++ (text_of_type a ++ codes "]")
 
 abbrev mutual
   pub term_text : TermTree → List ℕ
   term_text (bound k) = codes "#" ++ decimal k
   term_text (constant c) = constant_text c
-  term_text (lam a s) = codes "^" ++ (type_text a ++ (codes "." ++ term_text s))
+  term_text (lam a s) = codes "^" ++ (text_of_type a ++ (codes "." ++ term_text s))
   term_text (app s u) = codes "(" ++ (spine_text s ++ (codes " " ++ (term_text u ++ codes ")")))
 
   -- a head with its arguments, without parentheses
   pub spine_text : TermTree → List ℕ
   spine_text (bound k) = codes "#" ++ decimal k
   spine_text (constant c) = constant_text c
-  spine_text (lam a s) = codes "^" ++ (type_text a ++ (codes "." ++ term_text s))
+  spine_text (lam a s) = codes "^" ++ (text_of_type a ++ (codes "." ++ term_text s))
   spine_text (app s u) = spine_text s ++ (codes " " ++ term_text u)
 
 abbrev pub sign_text : Bool → List ℕ
@@ -49,9 +49,9 @@ after_commas [] = []
 after_commas (t ∷ ts) = codes "," ++ (t ++ after_commas ts)
 
 -- texts with commas between them
-abbrev pub separated : List (List ℕ) → List ℕ
-separated [] = []
-separated (t ∷ ts) = t ++ after_commas ts
+abbrev pub comma_separated : List (List ℕ) → List ℕ
+comma_separated [] = []
+comma_separated (t ∷ ts) = t ++ after_commas ts
 
 abbrev pub child_text : Child → List ℕ
 child_text Closed = codes "x"
@@ -90,10 +90,10 @@ abbrev pub row_text : ℕ → TermTree → List ℕ
 row_text k f = codes "w" ++ (decimal k ++ (codes " " ++ term_text f))
 
 abbrev pub branch_text : List LiteralTree → List ℕ
-branch_text branch = separated (map literal_text branch)
+branch_text branch = comma_separated (map literal_text branch)
 
 abbrev pub children_text : List Child → List ℕ
-children_text children = separated (map child_text children)
+children_text children = comma_separated (map child_text children)
 
 -- the line of a line, by its number
 abbrev pub line_text : ℕ → LineTree → List ℕ

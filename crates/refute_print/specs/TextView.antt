@@ -13,7 +13,7 @@ version_number [] = 1
 version_number (w ∷ names) = 2
 
 -- the version is that of its names, whose lines stand before the first row, or else the first line, or else the end line
-pub record IsNumbered (t : RefutationText) : Type 0 where
+pub record IsNumberedText (t : RefutationText) : Type 0 where
   pub version_is : t.version ≡ version_number t.names
   pub first_is : t.first ≡ t.names_at + length t.names
 

@@ -3,11 +3,11 @@ use Rattle.std.specs.Prelude.{ℕ, Bool, List}
 use Rattle.tableau_calculus.specs.declared.refutation.Child.{Child}
 
 -- `$o`, `$i`, a base type by its name, or the functions from the first type to the second
-pub data TypeTree : Type 0 where
-  formula : TypeTree
-  individual : TypeTree
-  named : List ℕ → TypeTree
-  arrow : TypeTree → TypeTree → TypeTree
+pub data TextTypeTree : Type 0 where
+  formula : TextTypeTree
+  individual : TextTypeTree
+  named : List ℕ → TextTypeTree
+  arrow : TextTypeTree → TextTypeTree → TextTypeTree
 
 -- a constant by its name, a witness by its number, falsity, negation, implication, and for each type the quantifier over it, the
 -- equality on it, the choice from it and the description of its values
@@ -17,17 +17,17 @@ pub data ConstantTree : Type 0 where
   falsity : ConstantTree
   negation : ConstantTree
   implication : ConstantTree
-  all : TypeTree → ConstantTree
-  equality : TypeTree → ConstantTree
-  choice : TypeTree → ConstantTree
-  description : TypeTree → ConstantTree
+  all : TextTypeTree → ConstantTree
+  equality : TextTypeTree → ConstantTree
+  choice : TextTypeTree → ConstantTree
+  description : TextTypeTree → ConstantTree
 
 -- a bound variable, which counts the binders between it and its own, a constant, a function, whose argument has the given type, or an
 -- application
 pub data TermTree : Type 0 where
   bound : ℕ → TermTree
   constant : ConstantTree → TermTree
-  lam : TypeTree → TermTree → TermTree
+  lam : TextTypeTree → TermTree → TermTree
   app : TermTree → TermTree → TermTree
 
 -- a formula with a sign

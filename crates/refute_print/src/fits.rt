@@ -3,7 +3,7 @@ ghost use Rattle.std.specs.Prelude.{◌≤◌, IsTrue, ◌↔◌, ◌<◌, ◌^�
 ghost use Rattle.std.specs.List.{AllByRecursion};
 ghost use Rattle.stt_core.specs.View.{the_type, the_head};
 ghost use Rattle.refute_print.specs.Sizes.{nesting, type_depth, type_limit, IsSmallTerm, AreSmallLiterals, IsSmallRule, IsSmallLine};
-ghost use Rattle.refute_print.specs.Internal.Within.{IsWithin};
+ghost use Rattle.refute_print.specs.Internal.Within.{NestsWithin};
 ghost use Rattle.refute_print.specs.Limits.{IsChild};
 ghost use Rattle.refute_print.specs.SmallRows.{AreSmallRows};
 
@@ -54,7 +54,7 @@ const TERM_LIMIT: usize = 4_096;
 
 /// Whether a term nests no deeper than so much, and its types no deeper than they may.
 fn is_within(nf: &Nf, limit: usize) -> bool
-    ensures { IsTrue result ↔ IsWithin limit nf.now }
+    ensures { IsTrue result ↔ NestsWithin limit nf.now }
 {
     let binders = nf.binders.len();
     if binders == 0 && nf.args.len() == 0 {

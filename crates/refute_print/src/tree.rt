@@ -60,17 +60,17 @@ impl Model for TextTerm {
 
     ghost coded = { term_tree_code };
 
-    ghost use Rattle.refute_print.specs.Internal.TreeSizes.{node_count};
-    ghost use Rattle.refute_print.specs.TreeView.{the_node};
+    ghost use Rattle.refute_print.specs.Internal.TreeSizes.{tree_node_count};
+    ghost use Rattle.refute_print.specs.TreeView.{the_text_node};
 
-    ghost view = { λ a. the_node a.node };
+    ghost view = { λ a. the_text_node a.node };
 
-    ghost size = { node_count };
+    ghost size = { tree_node_count };
 
     ghost use Rattle.std.proofs.Common.{arith};
-    ghost use Rattle.refute_print.specs.Internal.TreeFalls.{node_falls};
+    ghost use Rattle.refute_print.specs.Internal.TreeFalls.{text_node_falls};
 
-    ghost size_decreases = { λ a h. omega (arith, node_falls a.node) };
+    ghost size_decreases = { λ a h. omega (arith, text_node_falls a.node) };
 }
 
 impl Model for TextTerms {
@@ -86,9 +86,9 @@ impl Model for TextTerms {
     ghost view = { λ a. a.items.items };
 
     ghost use Rattle.std.proofs.Common.{arith};
-    ghost use Rattle.refute_print.specs.Internal.TreeSizes.{counts, terms_fall};
+    ghost use Rattle.refute_print.specs.Internal.TreeSizes.{tree_node_counts, terms_fall};
 
-    ghost size = { counts };
+    ghost size = { tree_node_counts };
 
     ghost size_decreases = { λ a h. omega (arith, terms_fall a.items.items) };
 }

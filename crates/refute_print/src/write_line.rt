@@ -3,7 +3,7 @@
 ghost use Rattle.std.specs.Prelude.{◌≡◌, ◌++◌, map, OnOk, OnErr};
 ghost use Rattle.refute_print.specs.Text.{sign_text, child_text, branch_text, children_text, row_texts, line_texts, as_bytes};
 ghost use Rattle.refute_print.specs.Named.{names_of, named_term, named_literal, named_line, HasNames, HaveNames, HasLineNames, RowsHaveNames, LinesHaveNames};
-ghost use Rattle.refute_print.specs.Internal.Pieces.{comma_before, literal_at, child_at, row_line, line_end, line_line};
+ghost use Rattle.refute_print.specs.Internal.Pieces.{comma_before, literal_piece, child_piece, row_line, line_end, line_line};
 ghost use Rattle.outside.specs.Writing.{Took, Stopped};
 
 use crate::write_bytes::{write, write_numbered};
@@ -44,9 +44,9 @@ fn write_literal_at<S: Sink>(
 ) -> Result<(), Failed>
     requires { HasNames (names_of sig.now.bases sig.now.consts) lit.now.atom }
     ensures took { OnOk result (Took S.tells S.written S.faults sink.old sink.new
-        (literal_at (names_of sig.now.bases sig.now.consts) place lit.now)) }
+        (literal_piece (names_of sig.now.bases sig.now.consts) place lit.now)) }
     ensures stopped { OnErr result (Stopped S.tells S.written S.faults sink.old sink.new
-        (literal_at (names_of sig.now.bases sig.now.consts) place lit.now)) }
+        (literal_piece (names_of sig.now.bases sig.now.consts) place lit.now)) }
 {
     write(sink, before_atom(place, lit.positive))?;
     write_term(sink, sig, &lit.atom)?;
@@ -78,8 +78,8 @@ fn write_child_text<S: Sink>(sink: &mut S, child: Child) -> Result<(), Failed>
 }
 
 fn write_child<S: Sink>(sink: &mut S, place: usize, child: Child) -> Result<(), Failed>
-    ensures took { OnOk result (Took S.tells S.written S.faults sink.old sink.new (child_at place child)) }
-    ensures stopped { OnErr result (Stopped S.tells S.written S.faults sink.old sink.new (child_at place child)) }
+    ensures took { OnOk result (Took S.tells S.written S.faults sink.old sink.new (child_piece place child)) }
+    ensures stopped { OnErr result (Stopped S.tells S.written S.faults sink.old sink.new (child_piece place child)) }
 {
     write_comma(sink, place)?;
     write_child_text(sink, child)?;

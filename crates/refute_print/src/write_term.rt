@@ -3,7 +3,7 @@
 ghost use Rattle.std.specs.Prelude.{◌≡◌, ◌++◌, codes, decimal, OnOk, OnErr};
 ghost use Rattle.stt_core.specs.SimpleType.{base};
 ghost use Rattle.stt_core.specs.View.{the_type, the_head};
-ghost use Rattle.refute_print.specs.Text.{type_text, term_text};
+ghost use Rattle.refute_print.specs.Text.{text_of_type, term_text};
 ghost use Rattle.refute_print.specs.Named.{names_of, named_type, named_term, HasTypeNames, HasNames};
 ghost use Rattle.refute_print.specs.Internal.Pieces.{binders_text, argument_text, arguments_text, applied_text, BindersHaveNames, ArgumentsHaveNames};
 ghost use Rattle.outside.specs.Writing.{Took, Stopped};
@@ -17,9 +17,9 @@ use thf_names::write_name;
 fn write_base<S: Sink>(sink: &mut S, sig: &Signature, number: u32) -> Result<(), Failed>
     requires { HasTypeNames (names_of sig.now.bases sig.now.consts) (base number) }
     ensures took { OnOk result (Took S.tells S.written S.faults sink.old sink.new
-        (type_text (named_type (names_of sig.now.bases sig.now.consts) (base number)))) }
+        (text_of_type (named_type (names_of sig.now.bases sig.now.consts) (base number)))) }
     ensures stopped { OnErr result (Stopped S.tells S.written S.faults sink.old sink.new
-        (type_text (named_type (names_of sig.now.bases sig.now.consts) (base number)))) }
+        (text_of_type (named_type (names_of sig.now.bases sig.now.consts) (base number)))) }
 {
     if number == 0 {
         write(sink, b"$o")?;
@@ -35,9 +35,9 @@ fn write_base<S: Sink>(sink: &mut S, sig: &Signature, number: u32) -> Result<(),
 pub(crate) fn write_type<S: Sink>(sink: &mut S, sig: &Signature, ty: &Ty) -> Result<(), Failed>
     requires { HasTypeNames (names_of sig.now.bases sig.now.consts) (the_type ty.now) }
     ensures took { OnOk result (Took S.tells S.written S.faults sink.old sink.new
-        (type_text (named_type (names_of sig.now.bases sig.now.consts) (the_type ty.now)))) }
+        (text_of_type (named_type (names_of sig.now.bases sig.now.consts) (the_type ty.now)))) }
     ensures stopped { OnErr result (Stopped S.tells S.written S.faults sink.old sink.new
-        (type_text (named_type (names_of sig.now.bases sig.now.consts) (the_type ty.now)))) }
+        (text_of_type (named_type (names_of sig.now.bases sig.now.consts) (the_type ty.now)))) }
 {
     match ty {
         Ty::Base(n) => write_base(sink, sig, *n)?,
@@ -62,9 +62,9 @@ fn write_around_type<S: Sink>(
 ) -> Result<(), Failed>
     requires { HasTypeNames (names_of sig.now.bases sig.now.consts) (the_type ty.now) }
     ensures took { OnOk result (Took S.tells S.written S.faults sink.old sink.new
-        (before.now ++ (type_text (named_type (names_of sig.now.bases sig.now.consts) (the_type ty.now)) ++ after.now))) }
+        (before.now ++ (text_of_type (named_type (names_of sig.now.bases sig.now.consts) (the_type ty.now)) ++ after.now))) }
     ensures stopped { OnErr result (Stopped S.tells S.written S.faults sink.old sink.new
-        (before.now ++ (type_text (named_type (names_of sig.now.bases sig.now.consts) (the_type ty.now)) ++ after.now))) }
+        (before.now ++ (text_of_type (named_type (names_of sig.now.bases sig.now.consts) (the_type ty.now)) ++ after.now))) }
 {
     write(sink, before)?;
     write_type(sink, sig, ty)?;

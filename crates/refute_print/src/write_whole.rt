@@ -6,7 +6,7 @@ ghost use Rattle.outside.specs.Prefix.{AppendsProperly};
 ghost use Rattle.outside.specs.Writing.{Took, Stopped};
 ghost use Rattle.thf_names.specs.Names.{name_text};
 ghost use Rattle.refute_print.specs.Text.{definition_text, text_lines, as_bytes};
-ghost use Rattle.refute_print.specs.Named.{names_of, name_at, named_refutation, ArePlaces, IsNamed};
+ghost use Rattle.refute_print.specs.Named.{names_of, name_numbered, named_refutation, ArePlaces, IsNamed};
 ghost use Rattle.refute_print.specs.Internal.Pieces.{version_line, definition_line};
 
 use crate::write_bytes::write;
@@ -19,9 +19,9 @@ use thf_names::write_name;
 /// Writes the line of the version.
 fn write_version<S: Sink>(sink: &mut S, sig: &Signature, taken: &[u32]) -> Result<(), Failed>
     ensures took { OnOk result (Took S.tells S.written S.faults sink.old sink.new
-        (version_line (map (name_at (names_of sig.now.bases sig.now.consts).constants) taken.now))) }
+        (version_line (map (name_numbered (names_of sig.now.bases sig.now.consts).constants) taken.now))) }
     ensures stopped { OnErr result (Stopped S.tells S.written S.faults sink.old sink.new
-        (version_line (map (name_at (names_of sig.now.bases sig.now.consts).constants) taken.now))) }
+        (version_line (map (name_numbered (names_of sig.now.bases sig.now.consts).constants) taken.now))) }
 {
     match taken {
         [] => write(sink, b"version 1\n")?,
@@ -34,9 +34,9 @@ fn write_version<S: Sink>(sink: &mut S, sig: &Signature, taken: &[u32]) -> Resul
 fn write_constant<S: Sink>(sink: &mut S, sig: &Signature, place: u32) -> Result<(), Failed>
     requires { place < length sig.now.consts }
     ensures took { OnOk result (Took S.tells S.written S.faults sink.old sink.new
-        (name_text (name_at (names_of sig.now.bases sig.now.consts).constants place))) }
+        (name_text (name_numbered (names_of sig.now.bases sig.now.consts).constants place))) }
     ensures stopped { OnErr result (Stopped S.tells S.written S.faults sink.old sink.new
-        (name_text (name_at (names_of sig.now.bases sig.now.consts).constants place))) }
+        (name_text (name_numbered (names_of sig.now.bases sig.now.consts).constants place))) }
 {
     write_name(sink, sig.consts.name_at(place as usize))?;
     Ok(())
@@ -59,9 +59,9 @@ fn write_definition<S: Sink>(sink: &mut S, sig: &Signature, place: u32) -> Resul
 fn write_definitions<S: Sink>(sink: &mut S, sig: &Signature, taken: &[u32]) -> Result<(), Failed>
     requires { ArePlaces (names_of sig.now.bases sig.now.consts) taken.now }
     ensures took { OnOk result (Took S.tells S.written S.faults sink.old sink.new
-        (as_bytes (map definition_text (map (name_at (names_of sig.now.bases sig.now.consts).constants) taken.now)))) }
+        (as_bytes (map definition_text (map (name_numbered (names_of sig.now.bases sig.now.consts).constants) taken.now)))) }
     ensures stopped { OnErr result (Stopped S.tells S.written S.faults sink.old sink.new
-        (as_bytes (map definition_text (map (name_at (names_of sig.now.bases sig.now.consts).constants) taken.now)))) }
+        (as_bytes (map definition_text (map (name_numbered (names_of sig.now.bases sig.now.consts).constants) taken.now)))) }
 {
     for i in 0..taken.len() {
         write_definition(sink, sig, taken[i])?;

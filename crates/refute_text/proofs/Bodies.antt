@@ -4,12 +4,12 @@ use Rattle.std.specs.List.{AllByRecursion}
 use Rattle.std.proofs.lemmas.List.{length-map}
 use Rattle.refute_print.specs.Trees.{TermTree, LineTree, RefutationTree}
 use Rattle.refute_print.specs.Text.{version_text, definition_text, row_texts, line_texts, text_lines}
-use Rattle.refute_print.specs.TextView.{the_line, the_text, IsNumbered}
+use Rattle.refute_print.specs.TextView.{the_line, the_text, IsNumberedText}
 use Rattle.refute_print.specs.declared.line.RefutationText.{RefutationText}
 use Rattle.outside.specs.Lines.{lines_of}
-use Rattle.refute_text.specs.Reading.{is_end, IsName, HasText, IsFront, IsText, HoldsText, TextReading, read, bad_line, no_start, no_end, ReadsText}
+use Rattle.refute_text.specs.Reading.{is_end_mark, IsTextName, HasText, IsFront, IsText, HoldsText, TextReading, read, bad_line, no_start, no_end, ReadsText}
 use Rattle.refute_text.specs.Answered.{reading_of}
-use Rattle.refute_text.specs.Internal.Places.{BehindStart, RefusesBehind, nothing}
+use Rattle.refute_text.specs.Internal.Places.{BehindStart, RefusesBehind, nothing_placed}
 use Rattle.refute_text.specs.declared.refusal.TextRefused.{TextRefused}
 use Rattle.refute_text.specs.declared.refusal.TextRefused.TheVariants.{BadLine, NoStart, NoEnd, Memory}
 use Rattle.refute_text.specs.Internal.LineReader.{definition_at}
@@ -21,7 +21,7 @@ use Rattle.refute_text.proofs.ReadingLaws.{reading-same}
 pub record TextSoFar (lines : List (List ℕ)) (names_at : ℕ) (text : RefutationText) (line : ℕ) (rest : List ℕ) : Type 0 where
   pub are_lines : lines ≡ text_lines (the_text text) ++ lines_of rest
   pub has_text : HasText (the_text text)
-  pub numbered : IsNumbered text
+  pub numbered : IsNumberedText text
   pub place_is : text.names_at ≡ names_at
   pub line_is : line + 1 ≡ names_at + length (text_lines (the_text text))
 
@@ -39,20 +39,20 @@ length-text_lines r =
     (length-append (map definition_text r.names) (row_texts 0 r.rows ++ line_texts 0 r.lines)
     ∙ ap₂ (λ m n. m + n) (length-map r.names definition_text) (length-append (row_texts 0 r.rows) (line_texts 0 r.lines) ∙ ap₂ (λ m n. m + n) (length-row_texts 0 r.rows) (length-line_texts 0 r.lines)))
 
-nothing_has_text : (names : List (List ℕ)) → AllByRecursion IsName names → HasText (nothing names)
+nothing_has_text : (names : List (List ℕ)) → AllByRecursion IsTextName names → HasText (nothing_placed names)
 nothing_has_text names h = record { names = h; rows = tt; row_numbers = omega arith; lines = tt; line_numbers = omega arith }
 
-pub version_1_has_text : HasText (nothing [])
+pub version_1_has_text : HasText (nothing_placed [])
 version_1_has_text = nothing_has_text [] tt
 
 pub front-none : IsFront []
-front-none = record { refutation = nothing []; more = codes "version 1" ∷ []; has_text = version_1_has_text; whole = refl }
+front-none = record { refutation = nothing_placed []; more = codes "version 1" ∷ []; has_text = version_1_has_text; whole = refl }
 
 -- some definition comes behind version 2
 pub front-version_2 : IsFront (codes "version 2" ∷ [])
-front-version_2 = record { refutation = nothing (codes "a" ∷ []); more = codes "d a" ∷ []; has_text = nothing_has_text (codes "a" ∷ []) (refl, tt); whole = refl }
+front-version_2 = record { refutation = nothing_placed (codes "a" ∷ []); more = codes "d a" ∷ []; has_text = nothing_has_text (codes "a" ∷ []) (refl, tt); whole = refl }
 
-pub text_bad : (lines : List (List ℕ)) (names_at : ℕ) (text : RefutationText) (n : ℕ) (rest line more : List ℕ) → 1 ≤ names_at → TextSoFar lines names_at text n rest → lines_of rest ≡ line ∷ lines_of more → is_end line ≡ false → (IsFront (text_lines (the_text text) ++ line ∷ []) → ⊥) → RefusesBehind lines (names_at - 1) (BadLine n)
+pub text_bad : (lines : List (List ℕ)) (names_at : ℕ) (text : RefutationText) (n : ℕ) (rest line more : List ℕ) → 1 ≤ names_at → TextSoFar lines names_at text n rest → lines_of rest ≡ line ∷ lines_of more → is_end_mark line ≡ false → (IsFront (text_lines (the_text text) ++ line ∷ []) → ⊥) → RefusesBehind lines (names_at - 1) (BadLine n)
 text_bad lines names_at text n rest line more counted s e h wrong = (
   length (text_lines (the_text text)),
   (
@@ -115,7 +115,7 @@ no_text-version_2 : (names : List (List ℕ)) (more : List (List ℕ)) → codes
 no_text-version_2 [] more e = versions_differ (sym (first-same (codes "version 2") (codes "version 1") [] more e))
 no_text-version_2 (w ∷ names) more e = cc
 
-first_definition : (names : List (List ℕ)) (line : List ℕ) (more others : List (List ℕ)) → AllByRecursion IsName names → codes "version 2" ∷ (line ∷ more) ≡ version_text names ∷ (map definition_text names ++ others) → definition_at line ≡ None → ⊥
+first_definition : (names : List (List ℕ)) (line : List ℕ) (more others : List (List ℕ)) → AllByRecursion IsTextName names → codes "version 2" ∷ (line ∷ more) ≡ version_text names ∷ (map definition_text names ++ others) → definition_at line ≡ None → ⊥
 first_definition [] line more others h e none = versions_differ (sym (first-same (codes "version 2") (codes "version 1") (line ∷ more) others e))
 first_definition (w ∷ names) line more others h e none =
     let rest = rest-same (codes "version 2") (codes "version 2") (line ∷ more) (definition_text w ∷ (map definition_text names ++ others)) e in
@@ -142,7 +142,7 @@ definition_bad line lines bad more counted e none = (
 )
 
 -- the text of version 2 with its first definition
-pub definition_begins : (line w : List ℕ) → definition_at line ≡ Some w → HasText (nothing (w ∷ [])) × (text_lines (nothing (w ∷ [])) ≡ codes "version 2" ∷ line ∷ [])
+pub definition_begins : (line w : List ℕ) → definition_at line ≡ Some w → HasText (nothing_placed (w ∷ [])) × (text_lines (nothing_placed (w ∷ [])) ≡ codes "version 2" ∷ line ∷ [])
 definition_begins line w at =
     let s = definition_reads line w at in
     (nothing_has_text (w ∷ []) (s.is_name, tt), ap (λ x. codes "version 2" ∷ x ∷ []) (sym s.text))
@@ -151,7 +151,7 @@ some-same : {A : Type 0} (a b : A) → Some a ≡ Some b → a ≡ b
 some-same a b e = cc
 
 abbrev begun_with : List ℕ → RefutationTree
-begun_with w = nothing (w ∷ [])
+begun_with w = nothing_placed (w ∷ [])
 
 pub version_2_begins : (t : RefutationTree) (line : List ℕ) → option_map begun_with (definition_at line) ≡ Some t → HasText t × (text_lines t ≡ codes "version 2" ∷ line ∷ [])
 version_2_begins t line h = go (definition_at line) refl h
@@ -169,7 +169,7 @@ no_definition line h = go (definition_at line) refl h
     go (Some w) e k = cc
 
 -- whole texts
-pub read_from : (lines : List (List ℕ)) (n : ℕ) (behind : List (List ℕ)) (r : Result RefutationText TextRefused) → BehindStart lines n behind → IfOk r (λ t. HoldsText behind (the_text t)) → IfOk r (λ t. t.names_at ≡ n + 1) → IfOk r IsNumbered → IfErr r (RefusesBehind behind n) → IfSome (reading_of r) (ReadsText lines)
+pub read_from : (lines : List (List ℕ)) (n : ℕ) (behind : List (List ℕ)) (r : Result RefutationText TextRefused) → BehindStart lines n behind → IfOk r (λ t. HoldsText behind (the_text t)) → IfOk r (λ t. t.names_at ≡ n + 1) → IfOk r IsNumberedText → IfErr r (RefusesBehind behind n) → IfSome (reading_of r) (ReadsText lines)
 read_from lines n behind (Ok t) s h e i f = record { before = s.before; behind = behind; starts = s.starts; holds = h; first_is = let k = s.line_is in let p = i.first_is in omega (arith, k, e, p) }
 read_from lines n behind (Err (BadLine line)) s h e i f = record { before = s.before; behind = behind; place = f.0; starts = s.starts; bad = f.1.0; line_is = let k = s.line_is in let q = f.1.1 in omega (arith, k, q) }
 read_from lines n behind (Err (NoStart line)) s h e i f = absurd f

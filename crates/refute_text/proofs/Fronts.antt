@@ -1,11 +1,11 @@
 -- The lines with which a text begins.
 use Rattle.std.proofs.Common.{◌≡◌, ℕ, suc, ◌+◌, ◌^◌, ◌<◌, ◌≤◌, ◌||◌, ◌⊎◌, inl, inr, nat_eq, Bool, true, false, List, [], ◌∷◌, ◌++◌, length, map, get_or, codes, refl, sym, ap, ap₂, subst, ◌∙◌, append_assoc, append-nil, arith}
 use Rattle.std.specs.List.{AllByRecursion, list_any, starts_with}
-use Rattle.refute_print.specs.Letters.{is_name}
+use Rattle.refute_print.specs.Letters.{is_printable_name}
 use Rattle.refute_print.specs.Trees.{TermTree, LineTree, RefutationTree}
 use Rattle.refute_print.specs.Text.{version_text, definition_text, rule_text, branch_text, children_text, row_text, line_text, row_texts, line_texts, text_lines}
-use Rattle.refute_print.specs.Limits.{IsWithin, IsLine}
-use Rattle.refute_text.specs.Reading.{is_end, IsName, HasText, IsFront}
+use Rattle.refute_print.specs.Limits.{IsWithinLimits, IsLine}
+use Rattle.refute_text.specs.Reading.{is_end_mark, IsTextName, HasText, IsFront}
 use Rattle.refute_text.proofs.LineReads.{IsRowText, IsLineText}
 use Rattle.refute_text.proofs.DefinitionLines.{IsDefinitionText}
 use Rattle.refute_text.proofs.LiteralBack.{starts_with-decimal}
@@ -32,11 +32,11 @@ row-no_line : (k n : ℕ) (t : TermTree) (l : LineTree) → n < 2 ^ 64 → row_t
 row-no_line k n t l small e = let same : true ≡ false = ap is_row e ∙ line-no_row n l small in cc
 
 -- no row and no line begins like an end line
-rows_without_end : (k : ℕ) (rows : List TermTree) → list_any is_end (row_texts k rows) ≡ false
+rows_without_end : (k : ℕ) (rows : List TermTree) → list_any is_end_mark (row_texts k rows) ≡ false
 rows_without_end k [] = refl
 rows_without_end k (t ∷ rows) = rows_without_end (suc k) rows
 
-lines_without_end : (k : ℕ) (lines : List LineTree) → k + length lines ≤ 2 ^ 64 → list_any is_end (line_texts k lines) ≡ false
+lines_without_end : (k : ℕ) (lines : List LineTree) → k + length lines ≤ 2 ^ 64 → list_any is_end_mark (line_texts k lines) ≡ false
 lines_without_end k [] h = refl
 lines_without_end k (l ∷ lines) h =
     ap₂ (λ a b. a || b) (starts_with-decimal 37 (codes " SZS output end Refutation for ") k (numbered_rest l) refl (omega (arith, h))) (lines_without_end (suc k) lines (omega (arith, h)))
@@ -49,21 +49,21 @@ list_any-append p (x ∷ xs) ys = go (p x) (list_any-append p xs ys)
     go true h = refl
     go false h = h
 
-version_without_end : (names : List (List ℕ)) → is_end (version_text names) ≡ false
+version_without_end : (names : List (List ℕ)) → is_end_mark (version_text names) ≡ false
 version_without_end [] = refl
 version_without_end (w ∷ names) = refl
 
-definitions_without_end : (names : List (List ℕ)) → list_any is_end (map definition_text names) ≡ false
+definitions_without_end : (names : List (List ℕ)) → list_any is_end_mark (map definition_text names) ≡ false
 definitions_without_end [] = refl
 definitions_without_end (w ∷ names) = definitions_without_end names
 
-text-without_end : (r : RefutationTree) → HasText r → list_any is_end (text_lines r) ≡ false
+text-without_end : (r : RefutationTree) → HasText r → list_any is_end_mark (text_lines r) ≡ false
 text-without_end r h =
     let body = row_texts 0 r.rows ++ line_texts 0 r.lines in
     ap₂ (λ a b. a || b) (version_without_end r.names)
-    (list_any-append is_end (map definition_text r.names) body
+    (list_any-append is_end_mark (map definition_text r.names) body
     ∙ ap₂ (λ a b. a || b) (definitions_without_end r.names)
-    (list_any-append is_end (row_texts 0 r.rows) (line_texts 0 r.lines)
+    (list_any-append is_end_mark (row_texts 0 r.rows) (line_texts 0 r.lines)
     ∙ ap₂ (λ a b. a || b) (rows_without_end 0 r.rows) (lines_without_end 0 r.lines (let n = h.line_numbers in omega (arith, n)))))
 
 pub any_inside : {X : Type 0} (p : X → Bool) (xs : List X) (x : X) (ys : List X) → p x ≡ true → list_any p (xs ++ (x ∷ ys)) ≡ true
@@ -75,10 +75,10 @@ any_inside p (z ∷ xs) x ys h = go (p z) (any_inside p xs x ys h)
     go false e = e
 
 -- a front of a text holds no end line
-pub front-without_end : (xs : List (List ℕ)) (last : List ℕ) (ys : List (List ℕ)) → is_end last ≡ true → IsFront (xs ++ (last ∷ ys)) → ⊥
+pub front-without_end : (xs : List (List ℕ)) (last : List ℕ) (ys : List (List ℕ)) → is_end_mark last ≡ true → IsFront (xs ++ (last ∷ ys)) → ⊥
 front-without_end xs last ys ends f =
-    let inside : list_any is_end ((xs ++ (last ∷ ys)) ++ f.more) ≡ true = ap (list_any is_end) (append_assoc xs (last ∷ ys) f.more) ∙ any_inside is_end xs last (ys ++ f.more) ends in
-    let outside : list_any is_end ((xs ++ (last ∷ ys)) ++ f.more) ≡ false = ap (list_any is_end) f.whole ∙ text-without_end f.refutation f.has_text in
+    let inside : list_any is_end_mark ((xs ++ (last ∷ ys)) ++ f.more) ≡ true = ap (list_any is_end_mark) (append_assoc xs (last ∷ ys) f.more) ∙ any_inside is_end_mark xs last (ys ++ f.more) ends in
+    let outside : list_any is_end_mark ((xs ++ (last ∷ ys)) ++ f.more) ≡ false = ap (list_any is_end_mark) f.whole ∙ text-without_end f.refutation f.has_text in
     cc
 
 pub front-append : (xs ys : List (List ℕ)) → IsFront (xs ++ ys) → IsFront xs
@@ -126,7 +126,7 @@ pub row-then_line : (k : ℕ) (t : TermTree) (others : List (List ℕ)) (ms : Li
 row-then_line k t others [] h = cc
 row-then_line k t others (m ∷ ms) h = row-no_line k 0 t m (omega arith) (first-same (row_text k t) (line_text 0 m) others (line_texts 1 ms) h)
 
-next_row : (k : ℕ) (rows others : List TermTree) (ls ms : List LineTree) (line : List ℕ) (more : List (List ℕ)) → AllByRecursion IsWithin others → k + length others ≤ 2 ^ 32 → AllByRecursion IsLine ms → length ms ≤ 2 ^ 64 → length ls ≤ 2 ^ 64 → row_texts k rows ++ (line_texts 0 ls ++ (line ∷ more)) ≡ row_texts k others ++ line_texts 0 ms → ((ls ≡ []) × ((t : TermTree) × IsRowText (k + length rows) line t)) ⊎ ((l : LineTree) × IsLineText (length ls) line l)
+next_row : (k : ℕ) (rows others : List TermTree) (ls ms : List LineTree) (line : List ℕ) (more : List (List ℕ)) → AllByRecursion IsWithinLimits others → k + length others ≤ 2 ^ 32 → AllByRecursion IsLine ms → length ms ≤ 2 ^ 64 → length ls ≤ 2 ^ 64 → row_texts k rows ++ (line_texts 0 ls ++ (line ∷ more)) ≡ row_texts k others ++ line_texts 0 ms → ((ls ≡ []) × ((t : TermTree) × IsRowText (k + length rows) line t)) ⊎ ((l : LineTree) × IsLineText (length ls) line l)
 next_row k [] [] ls ms line more are small lines_are lines_small ls_small h =
     let r = next_line 0 ls ms line more lines_are (omega (arith, lines_small)) h in
     let n : 0 + length ls ≡ length ls = omega arith in
@@ -156,7 +156,7 @@ definition-then_below w others (t ∷ rows) ls h =
     let same : true ≡ false = ap is_definition (first-same (definition_text w) (row_text 0 t) others (row_texts 1 rows ++ line_texts 0 ls) h) in
     cc
 
-below-then_definition : (rows : List TermTree) (ls : List LineTree) (line : List ℕ) (more : List (List ℕ)) (w : List ℕ) (others : List (List ℕ)) → is_name w ≡ true → row_texts 0 rows ++ (line_texts 0 ls ++ (line ∷ more)) ≡ definition_text w ∷ others → IsNextDefinition rows ls line
+below-then_definition : (rows : List TermTree) (ls : List LineTree) (line : List ℕ) (more : List (List ℕ)) (w : List ℕ) (others : List (List ℕ)) → is_printable_name w ≡ true → row_texts 0 rows ++ (line_texts 0 ls ++ (line ∷ more)) ≡ definition_text w ∷ others → IsNextDefinition rows ls line
 below-then_definition [] [] line more w others is h = (refl, refl, (w, record { text = first-same line (definition_text w) more others h; is_name = is }))
 below-then_definition [] (l ∷ ls) line more w others is h =
     let same : true ≡ false = ap is_definition (sym (first-same (line_text 0 l) (definition_text w) (line_texts 1 ls ++ (line ∷ more)) others h)) ∙ line-no_definition 0 l (omega arith) in
@@ -173,7 +173,7 @@ module _ (r s : RefutationTree) (line : List ℕ) (more : List (List ℕ)) (h : 
       subst (λ i. ((r.lines ≡ []) × ((t : TermTree) × IsRowText i line t)) ⊎ ((l : LineTree) × IsLineText (length r.lines) line l)) n
       (next_row 0 r.rows s.rows r.lines s.lines line more k.rows (let m = k.row_numbers in omega (arith, m)) k.lines k.line_numbers h.line_numbers e)
 
-  next_after : (ns ms : List (List ℕ)) → AllByRecursion IsName ms → map definition_text ns ++ (row_texts 0 r.rows ++ (line_texts 0 r.lines ++ (line ∷ more))) ≡ map definition_text ms ++ (row_texts 0 s.rows ++ line_texts 0 s.lines) → IsNextDefinition r.rows r.lines line ⊎ IsNextBelow r.rows r.lines line
+  next_after : (ns ms : List (List ℕ)) → AllByRecursion IsTextName ms → map definition_text ns ++ (row_texts 0 r.rows ++ (line_texts 0 r.lines ++ (line ∷ more))) ≡ map definition_text ms ++ (row_texts 0 s.rows ++ line_texts 0 s.lines) → IsNextDefinition r.rows r.lines line ⊎ IsNextBelow r.rows r.lines line
   next_after [] [] are e = inr (next_below e)
   next_after [] (m ∷ ms) are e = inl (below-then_definition r.rows r.lines line more m (map definition_text ms ++ (row_texts 0 s.rows ++ line_texts 0 s.lines)) are.0 e)
   next_after (n ∷ ns) [] are e =
@@ -181,7 +181,7 @@ module _ (r s : RefutationTree) (line : List ℕ) (more : List (List ℕ)) (h : 
   next_after (n ∷ ns) (m ∷ ms) are e =
       next_after ns ms are.1 (rest-same (definition_text n) (definition_text m) (map definition_text ns ++ (row_texts 0 r.rows ++ (line_texts 0 r.lines ++ (line ∷ more)))) (map definition_text ms ++ (row_texts 0 s.rows ++ line_texts 0 s.lines)) e)
 
-  next_behind : (ns ms : List (List ℕ)) → AllByRecursion IsName ms → version_text ns ≡ version_text ms → map definition_text ns ++ (row_texts 0 r.rows ++ (line_texts 0 r.lines ++ (line ∷ more))) ≡ map definition_text ms ++ (row_texts 0 s.rows ++ line_texts 0 s.lines) → ((0 < length ns) × IsNextDefinition r.rows r.lines line) ⊎ IsNextBelow r.rows r.lines line
+  next_behind : (ns ms : List (List ℕ)) → AllByRecursion IsTextName ms → version_text ns ≡ version_text ms → map definition_text ns ++ (row_texts 0 r.rows ++ (line_texts 0 r.lines ++ (line ∷ more))) ≡ map definition_text ms ++ (row_texts 0 s.rows ++ line_texts 0 s.lines) → ((0 < length ns) × IsNextDefinition r.rows r.lines line) ⊎ IsNextBelow r.rows r.lines line
   next_behind [] [] are v e = inr (next_below e)
   next_behind [] (m ∷ ms) are v e = absurd (versions_differ v)
   next_behind (n ∷ ns) ms are v e = go (next_after (n ∷ ns) ms are e)

@@ -4,13 +4,13 @@ use Rattle.std.specs.List.{AllByRecursion}
 use Rattle.std.proofs.lemmas.List.{length-map, map_push}
 use Rattle.refute_print.specs.Trees.{TermTree, LineTree, RefutationTree}
 use Rattle.refute_print.specs.Text.{version_text, definition_text, row_text, line_text, row_texts, line_texts, text_lines}
-use Rattle.refute_print.specs.Limits.{IsWithin, IsLine}
+use Rattle.refute_print.specs.Limits.{IsWithinLimits, IsLine}
 use Rattle.refute_print.specs.TextView.{the_line, the_text}
 use Rattle.refute_print.specs.declared.line.TextLine.{TextLine}
 use Rattle.refute_print.specs.declared.line.RefutationText.{RefutationText}
 use Rattle.refute_text.specs.Internal.LineReader.{definition_at, row_at, line_at}
-use Rattle.refute_text.specs.Reading.{IsName, HasText, IsFront}
-use Rattle.refute_text.specs.Internal.Refusals.{IsRefusal}
+use Rattle.refute_text.specs.Reading.{IsTextName, HasText, IsFront}
+use Rattle.refute_text.specs.Internal.Refusals.{IsReaderRefusal}
 use Rattle.refute_text.specs.Internal.Places.{IfForm, MayDefine}
 use Rattle.refute_text.specs.declared.refusal.Refusal.{Refusal}
 use Rattle.refute_text.specs.declared.refusal.Refusal.TheVariants.{Form, Memory}
@@ -57,7 +57,7 @@ name_more r line w h some none no_lines at =
     let empty : row_texts 0 r.rows ++ line_texts 0 r.lines ≡ [] = ap₂ (λ rows ls. row_texts 0 rows ++ line_texts 0 ls) none no_lines in
     let definitions = map definition_text r.names in (
       record {
-        names = all-push IsName r.names w h.names s.is_name;
+        names = all-push IsTextName r.names w h.names s.is_name;
         rows = h.rows;
         row_numbers = h.row_numbers;
         lines = h.lines;
@@ -77,7 +77,7 @@ row_more r line t h none at =
     let n = s.number in (
       record {
         names = h.names;
-        rows = all-push IsWithin r.rows t h.rows s.within;
+        rows = all-push IsWithinLimits r.rows t h.rows s.within;
         row_numbers = omega (arith, n, length-append r.rows (t ∷ []));
         lines = h.lines;
         line_numbers = h.line_numbers;
@@ -182,15 +182,15 @@ line_added t line l h at =
     let same = map_push the_line t.lines l in
     (subst (λ ls. HasText (of_lines t.names t.witnesses ls)) (sym same) more.0, ap (λ ls. text_lines (of_lines t.names t.witnesses ls)) same ∙ more.1)
 
-pub definition_refused : (t : RefutationText) (line : List ℕ) (e : Refusal) → HasText (the_text t) → is_definition line ≡ true → IsRefusal e (definition_at line) → IfForm e (IsFront (text_lines (the_text t) ++ line ∷ []) → ⊥)
+pub definition_refused : (t : RefutationText) (line : List ℕ) (e : Refusal) → HasText (the_text t) → is_definition line ≡ true → IsReaderRefusal e (definition_at line) → IfForm e (IsFront (text_lines (the_text t) ++ line ∷ []) → ⊥)
 definition_refused t line Form h definition none = no_definition-no_front (the_text t) line h definition none
 definition_refused t line Memory h definition none = tt
 
-pub row_refused : (t : RefutationText) (line : List ℕ) (e : Refusal) → HasText (the_text t) → is_row line ≡ true → IsRefusal e (row_at (length t.witnesses) line) → IfForm e (IsFront (text_lines (the_text t) ++ line ∷ []) → ⊥)
+pub row_refused : (t : RefutationText) (line : List ℕ) (e : Refusal) → HasText (the_text t) → is_row line ≡ true → IsReaderRefusal e (row_at (length t.witnesses) line) → IfForm e (IsFront (text_lines (the_text t) ++ line ∷ []) → ⊥)
 row_refused t line Form h row none = no_row-no_front (the_text t) line h row none
 row_refused t line Memory h row none = tt
 
-pub line_refused : (t : RefutationText) (line : List ℕ) (e : Refusal) → HasText (the_text t) → (MayDefine t → is_definition line ≡ false) → (length t.lines ≡ 0 → is_row line ≡ false) → IsRefusal e (line_at (length t.lines) line) → IfForm e (IsFront (text_lines (the_text t) ++ line ∷ []) → ⊥)
+pub line_refused : (t : RefutationText) (line : List ℕ) (e : Refusal) → HasText (the_text t) → (MayDefine t → is_definition line ≡ false) → (length t.lines ≡ 0 → is_row line ≡ false) → IsReaderRefusal e (line_at (length t.lines) line) → IfForm e (IsFront (text_lines (the_text t) ++ line ∷ []) → ⊥)
 line_refused t line Form h no_definition no_row none =
     let n : length (map the_line t.lines) ≡ length t.lines = length-map t.lines the_line in
     no_line-no_front (the_text t) line h (λ some rows lines. no_definition (some, ap length rows, sym n ∙ ap length lines)) (λ e. no_row (sym n ∙ ap length e)) (ap (λ k. line_at k line) n ∙ none)

@@ -2,7 +2,7 @@
 use Rattle.std.proofs.Common.{◌≡◌, ℕ, nat_eq, Bool, true, false, List, [], ◌∷◌, ◌++◌, Option, Some, None, length, drop, refl, sym, ap, ap₂, ◌∙◌, if◌then◌else◌}
 use Rattle.std.specs.List.{starts_with}
 use Rattle.std.proofs.lemmas.Bool.{and_parts, eqb-true}
-use Rattle.refute_text.specs.Internal.Reader.{◌>>=◌, behind, by_front, front, after}
+use Rattle.refute_text.specs.Internal.Reader.{◌>>=◌, behind_text, by_front, front, after}
 
 -- a value and what follows it
 abbrev pub found : {A B : Type 0} → A → B → Option (A × B)
@@ -37,7 +37,7 @@ matches (x ∷ t) (c ∷ cs) h =
     let p = and_parts (nat_eq x c) (starts_with nat_eq cs t) h in
     ap₂ (λ a l. a ∷ l) (sym (eqb-true x c p.0)) (matches t cs p.1)
 
-pub behind_some : (t bs r : List ℕ) → behind t bs ≡ Some r → bs ≡ t ++ r
+pub behind_some : (t bs r : List ℕ) → behind_text t bs ≡ Some r → bs ≡ t ++ r
 behind_some t bs r h = go (starts_with nat_eq bs t) refl h
   where
     go : (b : Bool) → starts_with nat_eq bs t ≡ b → (if b then Some (drop (length t) bs) else None) ≡ Some r → bs ≡ t ++ r

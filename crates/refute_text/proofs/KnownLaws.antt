@@ -13,10 +13,10 @@ use Rattle.std.proofs.lemmas.List.{map-append}
 use Rattle.std.proofs.lemmas.List.Quantifiers.{position-Some}
 use Rattle.refute_print.specs.Trees.{LiteralTree}
 use Rattle.thf_grammar.specs.Bytes.{is_word_byte}
-use Rattle.refute_print.specs.Limits.{IsLiteral}
+use Rattle.refute_print.specs.Limits.{IsLiteralText}
 use Rattle.refute_print.specs.Text.{literal_text}
 use Rattle.refute_text.specs.Internal.Known.{ends_literal, AreTexts}
-use Rattle.refute_text.specs.Internal.LineReader.{literal_at}
+use Rattle.refute_text.specs.Internal.LineReader.{literal_text_at}
 use Rattle.refute_text.proofs.NameBack.{stops}
 use Rattle.refute_text.proofs.LiteralBack.{literal_at-text}
 
@@ -25,9 +25,9 @@ pub record IsTextAt (literals : List LiteralTree) (place : ℕ) (text : List ℕ
   pub literal : LiteralTree
   pub there : slice_get literals place ≡ Some literal
   pub text_is : literal_text literal ≡ text
-  pub is_literal : IsLiteral literal
+  pub is_literal : IsLiteralText literal
 
-text_at : (ls : List LiteralTree) (i : ℕ) (t : List ℕ) → AllByRecursion IsLiteral ls → slice_get (map literal_text ls) i ≡ Some t → IsTextAt ls i t
+text_at : (ls : List LiteralTree) (i : ℕ) (t : List ℕ) → AllByRecursion IsLiteralText ls → slice_get (map literal_text ls) i ≡ Some t → IsTextAt ls i t
 text_at [] i t all h = cc
 text_at (l ∷ ls) zero t all h = record { literal = l; there = refl; text_is = same_Some (literal_text l) t h; is_literal = all.0 }
 text_at (l ∷ ls) (suc i) t all h =
@@ -39,22 +39,22 @@ found ls ts i t are h =
     text_at ls i t.now are.0 (ap (λ xs. slice_get xs i) are.1 ∙ slice_get-map (λ (x : Bor (List ℕ)). x.now) ts i ∙ ap (option_map (λ (x : Bor (List ℕ)). x.now)) h)
 
 -- no two literals have the same text
-one_text : (l m : LiteralTree) → IsLiteral l → IsLiteral m → literal_text l ≡ literal_text m → l ≡ m
+one_text : (l m : LiteralTree) → IsLiteralText l → IsLiteralText m → literal_text l ≡ literal_text m → l ≡ m
 one_text l m h g e =
-    let same : Some (l, []) ≡ Some (m, []) = sym (literal_at-text l [] h refl) ∙ ap (λ t. literal_at (t ++ [])) e ∙ literal_at-text m [] g refl in
+    let same : Some (l, []) ≡ Some (m, []) = sym (literal_at-text l [] h refl) ∙ ap (λ t. literal_text_at (t ++ [])) e ∙ literal_at-text m [] g refl in
     ap (λ (p : LiteralTree × List ℕ). p.0) (same_Some (l, []) (m, []) same)
 
-pub found_literal : (ls : List LiteralTree) (ts : List (Bor (List ℕ))) (i : ℕ) (t : Bor (List ℕ)) (l : LiteralTree) → AreTexts ls ts → slice_get ts i ≡ Some t → t.now ≡ literal_text l → IsLiteral l → slice_get ls i ≡ Some l
+pub found_literal : (ls : List LiteralTree) (ts : List (Bor (List ℕ))) (i : ℕ) (t : Bor (List ℕ)) (l : LiteralTree) → AreTexts ls ts → slice_get ts i ≡ Some t → t.now ≡ literal_text l → IsLiteralText l → slice_get ls i ≡ Some l
 found_literal ls ts i t l are h e is =
     let f = found ls ts i t are h in
     f.there ∙ ap Some (one_text f.literal l f.is_literal is (f.text_is ∙ e))
 
-all-more : (ls : List LiteralTree) (l : LiteralTree) → AllByRecursion IsLiteral ls → IsLiteral l → AllByRecursion IsLiteral (ls ++ l ∷ [])
+all-more : (ls : List LiteralTree) (l : LiteralTree) → AllByRecursion IsLiteralText ls → IsLiteralText l → AllByRecursion IsLiteralText (ls ++ l ∷ [])
 all-more [] l h g = (g, tt)
 all-more (k ∷ ls) l h g = (h.0, all-more ls l h.1 g)
 
 -- one literal more with its text
-pub texts-more : (ls : List LiteralTree) (ts : List (Bor (List ℕ))) (l : LiteralTree) (t : Bor (List ℕ)) → AreTexts ls ts → t.now ≡ literal_text l → IsLiteral l → AreTexts (ls ++ l ∷ []) (ts ++ t ∷ [])
+pub texts-more : (ls : List LiteralTree) (ts : List (Bor (List ℕ))) (l : LiteralTree) (t : Bor (List ℕ)) → AreTexts ls ts → t.now ≡ literal_text l → IsLiteralText l → AreTexts (ls ++ l ∷ []) (ts ++ t ∷ [])
 texts-more ls ts l t are e is = (
   all-more ls l are.0 is,
   map-append literal_text ls (l ∷ []) ∙ ap₂ (λ xs x. xs ++ x ∷ []) are.1 (sym e) ∙ sym (map-append (λ (x : Bor (List ℕ)). x.now) ts (t ∷ [])),
@@ -65,7 +65,7 @@ same_text a b = bytes_eq a.now b.now
 
 -- what is found is the place of a literal that has the text
 abbrev pub IsFoundAt : List LiteralTree → List ℕ → Option ℕ → Type 0
-IsFoundAt ls text o = IfSome o (λ place. (l : LiteralTree) × (slice_get ls place ≡ Some l) × (literal_text l ≡ text) × IsLiteral l)
+IsFoundAt ls text o = IfSome o (λ place. (l : LiteralTree) × (slice_get ls place ≡ Some l) × (literal_text l ≡ text) × IsLiteralText l)
 
 pub found_place : (ls : List LiteralTree) (ts : List (Bor (List ℕ))) (text : Bor (List ℕ)) (o : Option ℕ) → AreTexts ls ts → o ≡ position (same_text text) ts → IsFoundAt ls text.now o
 found_place ls ts text None are h = tt
@@ -91,7 +91,7 @@ text_kept ts t b h e = go (list_any (same_text t) ts) (sym h ∙ e)
     go false k = cc
 
 -- the place of a text that is stored
-pub stored_literal : (ls : List LiteralTree) (ts : List (Bor (List ℕ))) (text : Bor (List ℕ)) (l : LiteralTree) (i : ℕ) → AreTexts ls ts → text.now ≡ literal_text l → IsLiteral l → ((k : Bor (List ℕ)) × (slice_get ts i ≡ Some k) × (same_text text k ≡ true)) → slice_get ls i ≡ Some l
+pub stored_literal : (ls : List LiteralTree) (ts : List (Bor (List ℕ))) (text : Bor (List ℕ)) (l : LiteralTree) (i : ℕ) → AreTexts ls ts → text.now ≡ literal_text l → IsLiteralText l → ((k : Bor (List ℕ)) × (slice_get ts i ≡ Some k) × (same_text text k ≡ true)) → slice_get ls i ≡ Some l
 stored_literal ls ts text l i are e is s =
     found_literal ls ts i s.0 l are s.1 (sym ((bytes_decides text.now s.0.now).0 s.2) ∙ e) is
 
@@ -101,9 +101,9 @@ ends_stops (c ∷ cs) h =
     ⊎_elim (λ e. ap (λ x. not (is_word_byte x)) (eqb-true c 44 e)) (λ e. ap (λ x. not (is_word_byte x)) (eqb-true c 93 e)) (or_cases (c == 44) (c == 93) h)
 
 -- what is read where a literal's text stands before its end
-pub known_reads : (l : LiteralTree) (front rest bytes : List ℕ) → literal_text l ≡ front → IsLiteral l → front ++ rest ≡ bytes → ends_literal rest ≡ true → literal_at bytes ≡ Some (l, rest)
+pub known_reads : (l : LiteralTree) (front rest bytes : List ℕ) → literal_text l ≡ front → IsLiteralText l → front ++ rest ≡ bytes → ends_literal rest ≡ true → literal_text_at bytes ≡ Some (l, rest)
 known_reads l front rest bytes e is whole ends =
-    ap literal_at (sym whole ∙ ap (λ t. t ++ rest) (sym e)) ∙ literal_at-text l rest is (ends_stops rest ends)
+    ap literal_text_at (sym whole ∙ ap (λ t. t ++ rest) (sym e)) ∙ literal_at-text l rest is (ends_stops rest ends)
 
 -- the front before what follows
 pub front_of : (front rest bytes : List ℕ) → bytes ≡ front ++ rest → take (length bytes - length rest) bytes ≡ front

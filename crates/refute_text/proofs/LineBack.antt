@@ -4,25 +4,25 @@ use Rattle.std.proofs.lemmas.Bool.{eq-eqb}
 use Rattle.tableau_calculus.specs.declared.refutation.Child.{Child}
 use Rattle.refute_print.specs.Trees.{TermTree, LiteralTree, OnePlace, False, Refl, ImpPos, ImpNeg, BoolPos, BoolNeg, FunPos, FunNeg, AllNeg, Dec, TwoPlaces, Close, Mat, Con, OfPredicate, Cho, Des, RuleTree, at_one, at_two, with_instance, with_predicate, with_cut, LineTree}
 use Rattle.refute_print.specs.Text.{term_text, literal_text, rule_text, row_text, branch_text, children_text, line_text}
-use Rattle.refute_print.specs.Limits.{greatest_depth, IsWithin, IsLiteral, IsRule, IsLine}
+use Rattle.refute_print.specs.Limits.{greatest_depth, IsWithinLimits, IsLiteralText, IsRule, IsLine}
 use Rattle.refute_text.specs.Internal.Reader.{number_at}
-use Rattle.refute_text.specs.Internal.TermReader.{term_at}
-use Rattle.refute_text.specs.Internal.LineReader.{literal_at, child_at, items_at, place_at, one_place_at, places_at, two_places_at, instance_at, predicate_at, cut_at, one_place_rule_at, rule_at, where_number, row_at, children_at, behind_rule_at, lists_at, line_at}
+use Rattle.refute_text.specs.Internal.TermReader.{term_text_at}
+use Rattle.refute_text.specs.Internal.LineReader.{literal_text_at, child_at, items_at, place_text_at, one_place_at, places_at, two_places_at, instance_at, predicate_at, cut_at, one_place_rule_at, rule_at, where_number, row_at, children_at, behind_rule_at, lists_at, line_at}
 use Rattle.refute_text.proofs.Inversions.{found}
 use Rattle.refute_text.proofs.Answers.{bind_gives}
 use Rattle.refute_text.proofs.NameBack.{number_at-decimal}
 use Rattle.refute_text.proofs.LiteralBack.{within_back, literal_at-text, items_at-branch, items_at-children}
 
-place_back : (i : ℕ) (rest : List ℕ) → i < 2 ^ 64 → place_at ((decimal i ++ codes ")") ++ rest) ≡ found i rest
-unfolding place_at
+place_back : (i : ℕ) (rest : List ℕ) → i < 2 ^ 64 → place_text_at ((decimal i ++ codes ")") ++ rest) ≡ found i rest
+unfolding place_text_at
 place_back i rest small =
     let end = codes ")" ++ rest in
-    ap place_at (append_assoc (decimal i) (codes ")") rest)
+    ap place_text_at (append_assoc (decimal i) (codes ")") rest)
     ∙ bind_gives (number_at (2 ^ 64) (decimal i ++ end)) _ (i, end) (i, rest) (number_at-decimal (2 ^ 64) i end small (omega arith) refl) refl
 
 one_place_back : (rule : OnePlace) (i : ℕ) (rest : List ℕ) → i < 2 ^ 64 → one_place_at rule ((decimal i ++ codes ")") ++ rest) ≡ found (at_one rule i) rest
 one_place_back rule i rest small =
-    bind_gives (place_at ((decimal i ++ codes ")") ++ rest)) (λ p. found (at_one rule p.0) p.1) (i, rest) (at_one rule i, rest) (place_back i rest small) refl
+    bind_gives (place_text_at ((decimal i ++ codes ")") ++ rest)) (λ p. found (at_one rule p.0) p.1) (i, rest) (at_one rule i, rest) (place_back i rest small) refl
 
 two_places_back : (rule : TwoPlaces) (i j : ℕ) (rest : List ℕ) → i < 2 ^ 64 → j < 2 ^ 64 → two_places_at rule ((decimal i ++ (codes "," ++ (decimal j ++ codes ")"))) ++ rest) ≡ found (at_two rule i j) rest
 two_places_back rule i j rest small small' =
@@ -30,30 +30,30 @@ two_places_back rule i j rest small small' =
     ap (two_places_at rule) (append_assoc (decimal i) (codes "," ++ (decimal j ++ codes ")")) rest)
     ∙ bind_gives (places_at (decimal i ++ (codes "," ++ second))) (λ p. found (at_two rule p.0.0 p.0.1) p.1) ((i, j), rest) (at_two rule i j, rest)
     (bind_gives (number_at (2 ^ 64) (decimal i ++ (codes "," ++ second))) _ (i, codes "," ++ second) ((i, j), rest) (number_at-decimal (2 ^ 64) i (codes "," ++ second) small (omega arith) refl)
-    (bind_gives (place_at second) (λ p. found (i, p.0) p.1) (j, rest) ((i, j), rest) (place_back j rest small') refl)) refl
+    (bind_gives (place_text_at second) (λ p. found (i, p.0) p.1) (j, rest) ((i, j), rest) (place_back j rest small') refl)) refl
 
-instance_back : (i : ℕ) (u : TermTree) (rest : List ℕ) → i < 2 ^ 64 → IsWithin u → instance_at ((decimal i ++ (codes ";" ++ (term_text u ++ codes ")"))) ++ rest) ≡ found (with_instance i u) rest
+instance_back : (i : ℕ) (u : TermTree) (rest : List ℕ) → i < 2 ^ 64 → IsWithinLimits u → instance_at ((decimal i ++ (codes ";" ++ (term_text u ++ codes ")"))) ++ rest) ≡ found (with_instance i u) rest
 instance_back i u rest small within =
     let end = codes ")" ++ rest in
     let second = codes ";" ++ (term_text u ++ end) in
     ap instance_at (regroup (decimal i) (term_text u) rest)
     ∙ bind_gives (number_at (2 ^ 64) (decimal i ++ second)) _ (i, second) (with_instance i u, rest) (number_at-decimal (2 ^ 64) i second small (omega arith) refl)
-    (bind_gives (term_at greatest_depth (term_text u ++ end)) _ (u, end) (with_instance i u, rest) (within_back u end within refl) refl)
+    (bind_gives (term_text_at greatest_depth (term_text u ++ end)) _ (u, end) (with_instance i u, rest) (within_back u end within refl) refl)
   where
     regroup : (i u r : List ℕ) → (i ++ (codes ";" ++ (u ++ codes ")"))) ++ r ≡ i ++ (codes ";" ++ (u ++ (codes ")" ++ r)))
     regroup i u r = simp append_assoc
 
-predicate_back : (name : OfPredicate) (f : TermTree) (rest : List ℕ) → IsWithin f → predicate_at name ((term_text f ++ codes ")") ++ rest) ≡ found (with_predicate name f) rest
+predicate_back : (name : OfPredicate) (f : TermTree) (rest : List ℕ) → IsWithinLimits f → predicate_at name ((term_text f ++ codes ")") ++ rest) ≡ found (with_predicate name f) rest
 predicate_back name f rest within =
     let end = codes ")" ++ rest in
     ap (predicate_at name) (append_assoc (term_text f) (codes ")") rest)
-    ∙ bind_gives (term_at greatest_depth (term_text f ++ end)) _ (f, end) (with_predicate name f, rest) (within_back f end within refl) refl
+    ∙ bind_gives (term_text_at greatest_depth (term_text f ++ end)) _ (f, end) (with_predicate name f, rest) (within_back f end within refl) refl
 
-cut_back : (l : LiteralTree) (rest : List ℕ) → IsLiteral l → cut_at ((literal_text l ++ codes ")") ++ rest) ≡ found (with_cut l) rest
+cut_back : (l : LiteralTree) (rest : List ℕ) → IsLiteralText l → cut_at ((literal_text l ++ codes ")") ++ rest) ≡ found (with_cut l) rest
 cut_back l rest is =
     let end = codes ")" ++ rest in
     ap cut_at (append_assoc (literal_text l) (codes ")") rest)
-    ∙ bind_gives (literal_at (literal_text l ++ end)) _ (l, end) (with_cut l, rest) (literal_at-text l end is refl) refl
+    ∙ bind_gives (literal_text_at (literal_text l ++ end)) _ (l, end) (with_cut l, rest) (literal_at-text l end is refl) refl
 
 pub rule_at-text : (r : RuleTree) (rest : List ℕ) → IsRule r → rule_at (rule_text r ++ rest) ≡ Some (r, rest)
 unfolding rule_at one_place_rule_at
@@ -78,19 +78,19 @@ rule_at-text (with_cut l) rest h = cut_back l rest h
 number_back : (k : ℕ) (rest : List ℕ) (o : Option (ℕ × List ℕ)) → o ≡ found k rest → where_number k o ≡ Some rest
 number_back k rest o e = ap (where_number k) e ∙ ap (λ b. if b then Some rest else None) (eq-eqb k k refl)
 
-pub row_at-text : (k : ℕ) (t : TermTree) → k < 2 ^ 32 → IsWithin t → row_at k (row_text k t) ≡ Some t
+pub row_at-text : (k : ℕ) (t : TermTree) → k < 2 ^ 32 → IsWithinLimits t → row_at k (row_text k t) ≡ Some t
 unfolding row_at
 row_at-text k t small within =
     let end = codes " " ++ term_text t in
     bind_gives (where_number k (number_at (2 ^ 32) (decimal k ++ end))) _ end t (number_back k end (number_at (2 ^ 32) (decimal k ++ end)) (number_at-decimal (2 ^ 32) k end small (omega arith) refl))
-    (bind_gives (term_at greatest_depth (term_text t)) _ (t, []) t (ap (term_at greatest_depth) (sym (append-nil (term_text t))) ∙ within_back t [] within refl) refl)
+    (bind_gives (term_text_at greatest_depth (term_text t)) _ (t, []) t (ap (term_text_at greatest_depth) (sym (append-nil (term_text t))) ∙ within_back t [] within refl) refl)
 
 behind_rule_back : (line : LineTree) → IsLine line → behind_rule_at (codes " [" ++ (branch_text line.branch ++ (codes "] [" ++ (children_text line.children ++ codes "]")))) ≡ Some (line.branch, line.children)
 unfolding behind_rule_at
 behind_rule_back line is =
     let end = codes " [" ++ (children_text line.children ++ codes "]") in
     let both : List LiteralTree × List Child = (line.branch, line.children) in
-    bind_gives (items_at literal_at (branch_text line.branch ++ (codes "]" ++ end))) _ (line.branch, end) both (items_at-branch line.branch end is.branch)
+    bind_gives (items_at literal_text_at (branch_text line.branch ++ (codes "]" ++ end))) _ (line.branch, end) both (items_at-branch line.branch end is.branch)
     (bind_gives (children_at end) _ line.children both
     (bind_gives (items_at child_at (children_text line.children ++ codes "]")) _ (line.children, []) line.children (items_at-children line.children [] is.children) refl) refl)
 

@@ -4,11 +4,11 @@ use Rattle.std.specs.List.{AllByRecursion}
 use Rattle.std.proofs.lemmas.Bool.{eqb-true}
 use Rattle.tableau_calculus.specs.declared.refutation.Child.{Child}
 use Rattle.refute_print.specs.Trees.{TermTree, LiteralTree, RuleTree, LineTree}
-use Rattle.refute_print.specs.Text.{term_text, literal_text, child_text, after_commas, separated, branch_text, children_text, rule_text, row_text, line_text}
-use Rattle.refute_print.specs.Limits.{greatest_depth, IsWithin, IsLiteral, IsRule, IsChild, IsLine}
-use Rattle.refute_text.specs.Internal.Reader.{behind, number_at, with_items, repeated_at}
-use Rattle.refute_text.specs.Internal.TermReader.{term_at}
-use Rattle.refute_text.specs.Internal.LineReader.{literal_at, child_at, some_items_at, items_at, rule_at, where_number, end_at, row_at, branch_at, children_at, behind_rule_at, with_lists, lists_at, line_at}
+use Rattle.refute_print.specs.Text.{term_text, literal_text, child_text, after_commas, comma_separated, branch_text, children_text, rule_text, row_text, line_text}
+use Rattle.refute_print.specs.Limits.{greatest_depth, IsWithinLimits, IsLiteralText, IsRule, IsChild, IsLine}
+use Rattle.refute_text.specs.Internal.Reader.{behind_text, number_at, with_items, repeated_at}
+use Rattle.refute_text.specs.Internal.TermReader.{term_text_at}
+use Rattle.refute_text.specs.Internal.LineReader.{literal_text_at, child_at, some_items_at, items_at, rule_at, where_number, end_at, row_at, branch_at, children_at, behind_rule_at, with_lists, lists_at, line_at}
 use Rattle.refute_text.proofs.Inversions.{found, found_first, found_second, bind_sound, front_sound, behind_some}
 use Rattle.refute_text.proofs.NameReads.{number_reads}
 use Rattle.refute_text.proofs.TermReads.{with_sound, term_reads}
@@ -35,7 +35,7 @@ unfolding repeated_at
 more_read item text P reads zero bs xs r h = none_more text P bs xs r h
 more_read {X = X} item text P reads (suc n) bs xs r h =
     let more = λ (cs : List ℕ) (ys : List X) (s : List ℕ) (k : repeated_at (codes ",") item n cs ≡ Some (ys, s)). more_read item text P reads n cs ys s k in
-    front_sound (behind (codes ",") bs) _ _ (xs, r) h
+    front_sound (behind_text (codes ",") bs) _ _ (xs, r) h
     (λ rest at k. bind_sound (item rest) _ (xs, r) k (λ x at1 e.
     with_sound x.0 (repeated_at (codes ",") item n x.1) xs r e (λ ys at2 same.
     let p = reads rest x.0 x.1 at1 in
@@ -50,12 +50,12 @@ more_read {X = X} item text P reads (suc n) bs xs r h =
 
 -- items with commas between them, and the bracket behind them
 record ItemsStand {X : Type 0} (text : X → List ℕ) (P : X → Type 0) (bs : List ℕ) (xs : List X) (r : List ℕ) : Type 0 where
-  text_is : bs ≡ separated (map text xs) ++ (codes "]" ++ r)
+  text_is : bs ≡ comma_separated (map text xs) ++ (codes "]" ++ r)
   all : AllByRecursion P xs
 
-items_stand : {X : Type 0} (text : X → List ℕ) (P : X → Type 0) (bs : List ℕ) (xs ys : List X) (r s : List ℕ) → bs ≡ separated (map text xs) ++ (codes "]" ++ r) → AllByRecursion P xs → found xs r ≡ found ys s → ItemsStand text P bs ys s
+items_stand : {X : Type 0} (text : X → List ℕ) (P : X → Type 0) (bs : List ℕ) (xs ys : List X) (r s : List ℕ) → bs ≡ comma_separated (map text xs) ++ (codes "]" ++ r) → AllByRecursion P xs → found xs r ≡ found ys s → ItemsStand text P bs ys s
 items_stand text P bs xs ys r s e all h = record {
-  text_is = e ∙ ap₂ (λ x y. separated (map text x) ++ (codes "]" ++ y)) (found_first xs ys r s h) (found_second xs ys r s h);
+  text_is = e ∙ ap₂ (λ x y. comma_separated (map text x) ++ (codes "]" ++ y)) (found_first xs ys r s h) (found_second xs ys r s h);
   all = subst (AllByRecursion P) (found_first xs ys r s h) all;
 }
 
@@ -66,11 +66,11 @@ first_sound x (Some (xs, r)) p h k = k xs r refl h
 
 items_read : {X : Type 0} (item : List ℕ → Option (X × List ℕ)) (text : X → List ℕ) (P : X → Type 0) → ReadsItems item text P → (bs : List ℕ) (xs : List X) (r : List ℕ) → items_at item bs ≡ Some (xs, r) → ItemsStand text P bs xs r
 items_read item text P reads bs xs r h =
-    front_sound (behind (codes "]") bs) (λ rest. found [] rest) (some_items_at item bs) (xs, r) h
+    front_sound (behind_text (codes "]") bs) (λ rest. found [] rest) (some_items_at item bs) (xs, r) h
     (λ rest at k. items_stand text P bs [] xs rest r (behind_some (codes "]") bs rest at) tt k)
     (λ h1. bind_sound (item bs) _ (xs, r) h1 (λ x at h2.
     bind_sound (with_items (x.0 ∷ []) (repeated_at (codes ",") item (length x.1) x.1)) _ (xs, r) h2 (λ ys at1 h3.
-    bind_sound (behind (codes "]") ys.1) (λ rest. found ys.0 rest) (xs, r) h3 (λ rest at2 h4.
+    bind_sound (behind_text (codes "]") ys.1) (λ rest. found ys.0 rest) (xs, r) h3 (λ rest at2 h4.
     first_sound x.0 (repeated_at (codes ",") item (length x.1) x.1) ys at1 (λ zs s at3 same.
     let p = reads bs x.0 x.1 at in
     let q = more_read item text P reads (length x.1) x.1 zs s at3 in
@@ -79,7 +79,7 @@ items_read item text P reads bs xs r h =
     (p.0 ∙ ap (λ t. text x.0 ++ t) (q.text_is ∙ closed) ∙ sym (append_assoc (text x.0) (after_commas (map text zs)) (codes "]" ++ rest)))
     (p.1, q.all) (ap (λ y. found y rest) (found_first (x.0 ∷ zs) ys.0 s ys.1 same) ∙ h4))))))
 
-literals_read : ReadsItems literal_at literal_text IsLiteral
+literals_read : ReadsItems literal_text_at literal_text IsLiteralText
 literals_read bs l r h = let s = literal_reads bs l r h in (s.text, s.is_literal)
 
 children_read : ReadsItems child_at child_text IsChild
@@ -109,15 +109,15 @@ ended (c ∷ cs) end h k = cc
 pub record IsRowText (k : ℕ) (line : List ℕ) (t : TermTree) : Type 0 where
   pub text : line ≡ row_text k t
   pub number : k < 2 ^ 32
-  pub within : IsWithin t
+  pub within : IsWithinLimits t
 
 pub row_reads : (k : ℕ) (line : List ℕ) (t : TermTree) → row_at k line ≡ Some t → IsRowText k line t
 unfolding row_at
 row_reads k line t h =
-    bind_sound (behind (codes "w") line) _ t h (λ rest at h1.
+    bind_sound (behind_text (codes "w") line) _ t h (λ rest at h1.
     bind_sound (where_number k (number_at (2 ^ 32) rest)) _ t h1 (λ rest1 at1 h2.
-    bind_sound (behind (codes " ") rest1) _ t h2 (λ rest2 at2 h3.
-    bind_sound (term_at greatest_depth rest2) _ t h3 (λ u at3 h4.
+    bind_sound (behind_text (codes " ") rest1) _ t h2 (λ rest2 at2 h3.
+    bind_sound (term_text_at greatest_depth rest2) _ t h3 (λ u at3 h4.
     bind_sound (end_at u.1) (λ end. Some u.0) t h4 (λ end at4 h5.
     ended u.1 end at4 (λ none.
     let n = number_is k (2 ^ 32) rest rest1 (omega arith) at1 in
@@ -128,7 +128,7 @@ row_reads k line t h =
           behind_some (codes "w") line rest at
           ∙ ap (λ x. codes "w" ++ x) (n.0 ∙ ap (λ x. decimal k ++ x) (behind_some (codes " ") rest1 rest2 at2 ∙ ap (λ x. codes " " ++ x) (s.text ∙ ap (λ x. term_text u.0 ++ x) none ∙ append-nil (term_text u.0) ∙ ap term_text same)));
       number = n.1;
-      within = subst IsWithin same (record { is_term = s.is_term; within = s.within });
+      within = subst IsWithinLimits same (record { is_term = s.is_term; within = s.within });
     }))))))
 
 -- the line's text
@@ -141,7 +141,7 @@ pub record IsLineText (k : ℕ) (line : List ℕ) (l : LineTree) : Type 0 where
 record ListsStand (bs : List ℕ) (rule : RuleTree) (l : LineTree) : Type 0 where
   text : bs ≡ codes " [" ++ (branch_text l.branch ++ (codes "] [" ++ (children_text l.children ++ codes "]")))
   rule_is : l.rule ≡ rule
-  branch : AllByRecursion IsLiteral l.branch
+  branch : AllByRecursion IsLiteralText l.branch
   children : AllByRecursion IsChild l.children
 
 line_is : (a b : LineTree) → Some a ≡ Some b → a ≡ b
@@ -152,13 +152,13 @@ unfolding lists_at behind_rule_at
 lists_read rule bs l h =
     bind_sound (behind_rule_at bs) (λ lists. Some (with_lists rule lists)) l h (λ lists at0 h2.
     bind_sound (branch_at bs) _ lists at0 (λ branch at h1.
-    bind_sound (behind (codes " [") bs) (λ rest. items_at literal_at rest) branch at (λ rest at1 at2.
+    bind_sound (behind_text (codes " [") bs) (λ rest. items_at literal_text_at rest) branch at (λ rest at1 at2.
     bind_sound (children_at branch.1) (λ children. Some (branch.0, children)) lists h1 (λ children at3 h6.
-    bind_sound (behind (codes " [") branch.1) _ children at3 (λ rest1 at4 h3.
+    bind_sound (behind_text (codes " [") branch.1) _ children at3 (λ rest1 at4 h3.
     bind_sound (items_at child_at rest1) _ children h3 (λ read at5 h4.
     bind_sound (end_at read.1) (λ end. Some read.0) children h4 (λ end at6 h5.
     ended read.1 end at6 (λ none.
-    let p = items_read literal_at literal_text IsLiteral literals_read rest branch.0 branch.1 at2 in
+    let p = items_read literal_text_at literal_text IsLiteralText literals_read rest branch.0 branch.1 at2 in
     let q = items_read child_at child_text IsChild children_read rest1 read.0 read.1 at5 in
     let same : read.0 ≡ children = cc in
     let both : (branch.0, children) ≡ lists = cc in
@@ -175,7 +175,7 @@ pub line_reads : (k : ℕ) (line : List ℕ) (l : LineTree) → line_at k line �
 unfolding line_at
 line_reads k line l h =
     bind_sound (where_number k (number_at (2 ^ 64) line)) _ l h (λ rest at h1.
-    bind_sound (behind (codes ": ") rest) _ l h1 (λ rest1 at1 h2.
+    bind_sound (behind_text (codes ": ") rest) _ l h1 (λ rest1 at1 h2.
     bind_sound (rule_at rest1) (λ rule. lists_at rule.0 rule.1) l h2 (λ rule at2 h3.
     let n = number_is k (2 ^ 64) line rest (omega arith) at in
     let r = rule_reads rest1 rule.0 rule.1 at2 in

@@ -8,8 +8,8 @@ use Rattle.std.proofs.lemmas.Fmt.{decimal_digit, decimal_nonempty, first_decimal
 use Rattle.thf_grammar.specs.Bytes.{is_word_byte}
 use Rattle.thf_grammar.specs.Printable.{is_printable}
 use Rattle.thf_names.specs.Names.{is_lower_word, escaped, quoted, name_text}
-use Rattle.refute_print.specs.Letters.{is_name}
-use Rattle.refute_text.specs.Internal.Reader.{behind, front, after, is_digit, is_decimal, number_of, number_at, with_first, characters_at, escaped_at, where_quoted, plain_at, name_at}
+use Rattle.refute_print.specs.Letters.{is_printable_name}
+use Rattle.refute_text.specs.Internal.Reader.{behind_text, front, after, is_digit, has_no_leading_zero, number_below, number_at, with_first, characters_at, escaped_at, where_quoted, plain_at, name_at}
 use Rattle.refute_text.proofs.Numbers.{own}
 use Rattle.refute_text.proofs.LowerWords.{lower_word-bytes}
 use Rattle.refute_text.proofs.Inversions.{found}
@@ -51,7 +51,7 @@ digits_end : (rest : List ℕ) → stops rest ≡ true → (front is_digit rest 
 digits_end [] h = (refl, refl)
 digits_end (c ∷ cs) h = ends_at is_digit c cs (no_word_byte-no_digit c (not-true (is_word_byte c) h))
 
-leading_digit : (ds : List ℕ) → 0 < length ds → 48 < get_or ds 0 0 → is_decimal ds ≡ true
+leading_digit : (ds : List ℕ) → 0 < length ds → 48 < get_or ds 0 0 → has_no_leading_zero ds ≡ true
 leading_digit [] h k = absurd (omega arith)
 leading_digit (c ∷ []) h k = refl
 leading_digit (c ∷ d ∷ ds) h k = go (c == 48) refl
@@ -60,8 +60,8 @@ leading_digit (c ∷ d ∷ ds) h k = go (c == 48) refl
     go true e = absurd (grind (arith, nat_tests))
     go false e = refl
 
-is_decimal-decimal : (n : ℕ) → n < 2 ^ 64 → is_decimal (decimal n) ≡ true
-is_decimal-decimal zero h = ap is_decimal (decimal_digit 0 (omega arith))
+is_decimal-decimal : (n : ℕ) → n < 2 ^ 64 → has_no_leading_zero (decimal n) ≡ true
+is_decimal-decimal zero h = ap has_no_leading_zero (decimal_digit 0 (omega arith))
 is_decimal-decimal (suc n) h = leading_digit (decimal (suc n)) (decimal_nonempty (suc n) h) (first_decimal (suc n) (omega arith) h)
 
 pub number_at-decimal : (limit n : ℕ) (rest : List ℕ) → n < limit → limit ≤ 2 ^ 64 → stops rest ≡ true → number_at limit (decimal n ++ rest) ≡ Some (n, rest)
@@ -72,7 +72,7 @@ number_at-decimal limit n rest below small stop =
     let e = digits_end rest stop in
     let f : front is_digit (decimal n ++ rest) ≡ decimal n = front-append is_digit (decimal n) rest digits ∙ ap (λ x. decimal n ++ x) e.0 ∙ append-nil (decimal n) in
     let a : after is_digit (decimal n ++ rest) ≡ rest = after-append is_digit (decimal n) rest digits ∙ e.1 in
-    ap₂ (number_of limit) f a
+    ap₂ (number_below limit) f a
     ∙ ap₂ (λ b m. if b && nat_lt m limit then found m rest else None) (is_decimal-decimal n s) (digits_value-decimal own n s)
     ∙ ap (λ b. if b then found n rest else None) (lt-ltb n limit below)
 
@@ -117,11 +117,11 @@ below_letters x c h k = go (nat_eq x c) refl
     go true e = absurd (grind (arith, nat_tests, e, h, k))
     go false e = e
 
-pub behind-name : (x : ℕ) (t w rest : List ℕ) → nat_eq x 39 ≡ false → nat_lt x 97 ≡ true → is_name w ≡ true → behind (x ∷ t) (name_text w ++ rest) ≡ None
+pub behind-name : (x : ℕ) (t w rest : List ℕ) → nat_eq x 39 ≡ false → nat_lt x 97 ≡ true → is_printable_name w ≡ true → behind_text (x ∷ t) (name_text w ++ rest) ≡ None
 behind-name x t [] rest h k n = cc
 behind-name x t (c ∷ cs) rest h k n = go (is_lower_word (c ∷ cs)) refl
   where
-    go : (b : Bool) → is_lower_word (c ∷ cs) ≡ b → behind (x ∷ t) ((if b then c ∷ cs else quoted (c ∷ cs)) ++ rest) ≡ None
+    go : (b : Bool) → is_lower_word (c ∷ cs) ≡ b → behind_text (x ∷ t) ((if b then c ∷ cs else quoted (c ∷ cs)) ++ rest) ≡ None
     go true e = behind_other x t c (cs ++ rest) (below_letters x c k (and_parts (is_ascii_lowercase c) (list_all is_word_byte cs) e).0)
     go false e = behind_other x t 39 ((flat_map escaped (c ∷ cs) ++ codes "'") ++ rest) h
 
@@ -129,7 +129,7 @@ plain_back : (c : ℕ) (cs rest : List ℕ) → is_lower_word (c ∷ cs) ≡ tru
 unfolding name_at
 plain_back c cs rest e stop =
     let p = and_parts (is_ascii_lowercase c) (list_all is_word_byte cs) e in
-    front_skips (behind (codes "'") (c ∷ (cs ++ rest))) (λ r. where_quoted (characters_at r)) (plain_at (c ∷ (cs ++ rest))) (c ∷ cs, rest)
+    front_skips (behind_text (codes "'") (c ∷ (cs ++ rest))) (λ r. where_quoted (characters_at r)) (plain_at (c ∷ (cs ++ rest))) (c ∷ cs, rest)
     (behind_other 39 [] c (cs ++ rest) (below_letters 39 c refl p.0)) (plain_at-append (c ∷ cs) rest e stop)
 
 quoted_back : (c : ℕ) (cs rest : List ℕ) → is_lower_word (c ∷ cs) ≡ false → list_all is_printable (c ∷ cs) ≡ true → name_at (quoted (c ∷ cs) ++ rest) ≡ found (c ∷ cs) rest
@@ -139,7 +139,7 @@ quoted_back c cs rest e p =
     ∙ ap where_quoted (characters_at-escaped (c ∷ cs) rest p)
     ∙ ap (λ b. if not b then found (c ∷ cs) rest else None) e
 
-pub name_at-text : (w rest : List ℕ) → is_name w ≡ true → stops rest ≡ true → name_at (name_text w ++ rest) ≡ Some (w, rest)
+pub name_at-text : (w rest : List ℕ) → is_printable_name w ≡ true → stops rest ≡ true → name_at (name_text w ++ rest) ≡ Some (w, rest)
 name_at-text [] rest h stop = cc
 name_at-text (c ∷ cs) rest h stop = go (is_lower_word (c ∷ cs)) refl
   where

@@ -7,14 +7,14 @@ use Rattle.std.proofs.lemmas.Fmt.{decimal-digits_value}
 use Rattle.thf_grammar.specs.Bytes.{is_word_byte}
 use Rattle.thf_grammar.specs.Printable.{is_printable}
 use Rattle.thf_names.specs.Names.{is_lower_word, escaped, quoted, name_text}
-use Rattle.refute_print.specs.Letters.{is_name}
-use Rattle.refute_text.specs.Internal.Reader.{behind, front, after, is_digit, is_decimal, number_from, number_of, number_at, with_first, characters_at, escaped_at, needs_quotes, where_quoted, plain_at, name_at}
+use Rattle.refute_print.specs.Letters.{is_printable_name}
+use Rattle.refute_text.specs.Internal.Reader.{behind_text, front, after, is_digit, has_no_leading_zero, number_from, number_below, number_at, with_first, characters_at, escaped_at, needs_quotes, where_quoted, plain_at, name_at}
 use Rattle.refute_text.proofs.Numbers.{own}
 use Rattle.refute_text.proofs.Readers.{list_all-front}
 use Rattle.refute_text.proofs.LowerWords.{lower_word-bytes}
 use Rattle.refute_text.proofs.Inversions.{found, found_first, found_second, front_sound, behind_some, front-after}
 
-decimal-shape : (ds : List ℕ) → is_decimal ds ≡ true → (0 < length ds) × (get_or ds 0 0 ≡ 48 → length ds ≡ 1)
+decimal-shape : (ds : List ℕ) → has_no_leading_zero ds ≡ true → (0 < length ds) × (get_or ds 0 0 ≡ 48 → length ds ≡ 1)
 decimal-shape [] h = cc
 decimal-shape (c ∷ []) h = (omega arith, λ e. refl)
 decimal-shape (c ∷ d ∷ ds) h = (omega arith, λ e. go (c == 48) refl h e)
@@ -23,10 +23,10 @@ decimal-shape (c ∷ d ∷ ds) h = (omega arith, λ e. go (c == 48) refl h e)
     go true q k e = cc
     go false q k e = absurd (grind (arith, nat_tests))
 
-number_of_reads : (limit n : ℕ) (ds rest r : List ℕ) → limit ≤ 2 ^ 64 → list_all is_digit ds ≡ true → number_of limit ds rest ≡ Some (n, r) → (ds ++ rest ≡ decimal n ++ r) × (n < limit)
-number_of_reads limit n ds rest r small digits h = go (is_decimal ds) (nat_lt (number_from 0 ds) limit) refl refl h
+number_of_reads : (limit n : ℕ) (ds rest r : List ℕ) → limit ≤ 2 ^ 64 → list_all is_digit ds ≡ true → number_below limit ds rest ≡ Some (n, r) → (ds ++ rest ≡ decimal n ++ r) × (n < limit)
+number_of_reads limit n ds rest r small digits h = go (has_no_leading_zero ds) (nat_lt (number_from 0 ds) limit) refl refl h
   where
-    go : (p q : Bool) → is_decimal ds ≡ p → nat_lt (number_from 0 ds) limit ≡ q → (if p && q then found (number_from 0 ds) rest else None) ≡ Some (n, r) → (ds ++ rest ≡ decimal n ++ r) × (n < limit)
+    go : (p q : Bool) → has_no_leading_zero ds ≡ p → nat_lt (number_from 0 ds) limit ≡ q → (if p && q then found (number_from 0 ds) rest else None) ≡ Some (n, r) → (ds ++ rest ≡ decimal n ++ r) × (n < limit)
     go true true e f k =
         let below : number_from 0 ds < limit = grind (arith, nat_tests) in
         let shape = decimal-shape ds e in
@@ -113,14 +113,14 @@ word-printable (c ∷ cs) h =
     let p = and_parts (is_word_byte c) (list_all is_word_byte cs) h in
     ap₂ (λ x y. x && y) (word_byte-printable c p.0) (word-printable cs p.1)
 
-lower_word-is_name : (w : List ℕ) → is_lower_word w ≡ true → is_name w ≡ true
+lower_word-is_name : (w : List ℕ) → is_lower_word w ≡ true → is_printable_name w ≡ true
 lower_word-is_name [] h = cc
 lower_word-is_name (c ∷ cs) h = word-printable (c ∷ cs) (lower_word-bytes (c ∷ cs) h)
 
-plain_reads : (bs w r : List ℕ) → plain_at bs ≡ Some (w, r) → (bs ≡ name_text w ++ r) × (is_name w ≡ true)
+plain_reads : (bs w r : List ℕ) → plain_at bs ≡ Some (w, r) → (bs ≡ name_text w ++ r) × (is_printable_name w ≡ true)
 plain_reads bs w r h = go (is_lower_word (front is_word_byte bs)) refl h
   where
-    go : (b : Bool) → is_lower_word (front is_word_byte bs) ≡ b → (if b then found (front is_word_byte bs) (after is_word_byte bs) else None) ≡ Some (w, r) → (bs ≡ name_text w ++ r) × (is_name w ≡ true)
+    go : (b : Bool) → is_lower_word (front is_word_byte bs) ≡ b → (if b then found (front is_word_byte bs) (after is_word_byte bs) else None) ≡ Some (w, r) → (bs ≡ name_text w ++ r) × (is_printable_name w ≡ true)
     go true e k =
         let name : front is_word_byte bs ≡ w = found_first (front is_word_byte bs) w (after is_word_byte bs) r k in
         let rest : after is_word_byte bs ≡ r = found_second (front is_word_byte bs) w (after is_word_byte bs) r k in
@@ -136,7 +136,7 @@ quoted_sound {P = P} (Some s) w r h k = go (needs_quotes s.0) refl h
     go true e j = let first : s.0 ≡ w = cc in k j (ap needs_quotes (sym first) ∙ e)
     go false e j = cc
 
-quotes_needed : (w : List ℕ) → needs_quotes w ≡ true → list_all is_printable w ≡ true → (name_text w ≡ quoted w) × (is_name w ≡ true)
+quotes_needed : (w : List ℕ) → needs_quotes w ≡ true → list_all is_printable w ≡ true → (name_text w ≡ quoted w) × (is_printable_name w ≡ true)
 quotes_needed [] h k = cc
 quotes_needed (c ∷ cs) h k = (go (is_lower_word (c ∷ cs)) refl h, k)
   where
@@ -144,10 +144,10 @@ quotes_needed (c ∷ cs) h k = (go (is_lower_word (c ∷ cs)) refl h, k)
     go true e j = cc
     go false e j = ap (λ b. if b then c ∷ cs else quoted (c ∷ cs)) e
 
-pub name_reads : (bs w r : List ℕ) → name_at bs ≡ Some (w, r) → (bs ≡ name_text w ++ r) × (is_name w ≡ true)
+pub name_reads : (bs w r : List ℕ) → name_at bs ≡ Some (w, r) → (bs ≡ name_text w ++ r) × (is_printable_name w ≡ true)
 unfolding name_at
 name_reads bs w r h =
-    front_sound (behind (codes "'") bs) (λ rest. where_quoted (characters_at rest)) (plain_at bs) (w, r) h
+    front_sound (behind_text (codes "'") bs) (λ rest. where_quoted (characters_at rest)) (plain_at bs) (w, r) h
     (λ rest at k. quoted_sound (characters_at rest) w r k (λ found needs.
     let p = characters_read rest w r found in
     let q = quotes_needed w needs p.1 in

@@ -8,12 +8,12 @@ use Rattle.tableau_calculus.specs.declared.refutation.Child.{Child}
 use Rattle.tableau_calculus.specs.declared.refutation.Child.TheVariants.{Closed, Line as Numbered}
 use Rattle.thf_grammar.specs.Printable.{is_printable}
 use Rattle.thf_names.specs.Names.{is_lower_word, escaped, quoted, name_text}
-use Rattle.refute_print.specs.Letters.{is_name}
-use Rattle.refute_print.specs.Trees.{TypeTree, formula, individual, named, arrow, ConstantTree, name, witness, falsity, negation, implication, all, equality, choice, description, TermTree, bound, constant, lam, app, LiteralTree, OnePlace, False, Refl, ImpPos, ImpNeg, BoolPos, BoolNeg, FunPos, FunNeg, AllNeg, Dec, TwoPlaces, Close, Mat, Con, OfPredicate, Cho, Des, RuleTree, at_one, at_two, with_instance, with_predicate, with_cut, LineTree, RefutationTree}
-use Rattle.refute_print.specs.Text.{version_text, definition_text, type_text, constant_text, term_text, spine_text, sign_text, literal_text, after_commas, separated, branch_text, child_text, children_text, one_place_name, two_places_name, predicate_name, rule_text, row_text, line_text, row_texts, line_texts, text_lines}
-use Rattle.refute_print.specs.Limits.{IsType, IsConstant, IsTerm, IsSpine, IsWithin, IsLiteral, IsRule, IsChild, IsLine}
+use Rattle.refute_print.specs.Letters.{is_printable_name}
+use Rattle.refute_print.specs.Trees.{TextTypeTree, formula, individual, named, arrow, ConstantTree, name, witness, falsity, negation, implication, all, equality, choice, description, TermTree, bound, constant, lam, app, LiteralTree, OnePlace, False, Refl, ImpPos, ImpNeg, BoolPos, BoolNeg, FunPos, FunNeg, AllNeg, Dec, TwoPlaces, Close, Mat, Con, OfPredicate, Cho, Des, RuleTree, at_one, at_two, with_instance, with_predicate, with_cut, LineTree, RefutationTree}
+use Rattle.refute_print.specs.Text.{version_text, definition_text, text_of_type, constant_text, term_text, spine_text, sign_text, literal_text, after_commas, comma_separated, branch_text, child_text, children_text, one_place_name, two_places_name, predicate_name, rule_text, row_text, line_text, row_texts, line_texts, text_lines}
+use Rattle.refute_print.specs.Limits.{IsType, IsConstant, IsTerm, IsSpine, IsWithinLimits, IsLiteralText, IsRule, IsChild, IsLine}
 use Rattle.refute_text.specs.Internal.Reader.{is_digit}
-use Rattle.refute_text.specs.Reading.{IsName, HasText, is_one_line, AreLines}
+use Rattle.refute_text.specs.Reading.{IsTextName, HasText, is_one_line, AreLines}
 use Rattle.refute_text.proofs.Numbers.{own}
 
 abbrev IsPrintable : List ℕ → Type 0
@@ -52,7 +52,7 @@ characters_printable [] h = refl
 characters_printable (c ∷ w) h =
     let p = and_parts (is_printable c) (list_all is_printable w) h in both (escaped c) (flat_map escaped w) (escaped_printable c p.0) (characters_printable w p.1)
 
-name_printable : (w : List ℕ) → is_name w ≡ true → IsPrintable (name_text w)
+name_printable : (w : List ℕ) → is_printable_name w ≡ true → IsPrintable (name_text w)
 name_printable [] h = cc
 name_printable (c ∷ cs) h = go (is_lower_word (c ∷ cs))
   where
@@ -60,12 +60,12 @@ name_printable (c ∷ cs) h = go (is_lower_word (c ∷ cs))
     go true = h
     go false = both (flat_map escaped (c ∷ cs)) (codes "'") (characters_printable (c ∷ cs) h) refl
 
-type_printable : (a : TypeTree) → IsType a → IsPrintable (type_text a)
+type_printable : (a : TextTypeTree) → IsType a → IsPrintable (text_of_type a)
 type_printable formula h = refl
 type_printable individual h = refl
 type_printable (named w) h = name_printable w h
 type_printable (arrow a b) h =
-    both (type_text a) (codes ">" ++ (type_text b ++ codes ")")) (type_printable a h.0) (both (type_text b) (codes ")") (type_printable b h.1) refl)
+    both (text_of_type a) (codes ">" ++ (text_of_type b ++ codes ")")) (type_printable a h.0) (both (text_of_type b) (codes ")") (type_printable b h.1) refl)
 
 constant_printable : (c : ConstantTree) → IsConstant c → IsPrintable (constant_text c)
 constant_printable (name w) h = name_printable w h
@@ -73,16 +73,16 @@ constant_printable (witness k) h = decimal_printable k (omega (arith, h))
 constant_printable falsity h = refl
 constant_printable negation h = refl
 constant_printable implication h = refl
-constant_printable (all a) h = both (type_text a) (codes "]") (type_printable a h) refl
-constant_printable (equality a) h = both (type_text a) (codes "]") (type_printable a h) refl
-constant_printable (choice a) h = both (type_text a) (codes "]") (type_printable a h) refl
-constant_printable (description a) h = both (type_text a) (codes "]") (type_printable a h) refl
+constant_printable (all a) h = both (text_of_type a) (codes "]") (type_printable a h) refl
+constant_printable (equality a) h = both (text_of_type a) (codes "]") (type_printable a h) refl
+constant_printable (choice a) h = both (text_of_type a) (codes "]") (type_printable a h) refl
+constant_printable (description a) h = both (text_of_type a) (codes "]") (type_printable a h) refl
 
 mutual
   term_printable : (t : TermTree) → IsTerm t → IsPrintable (term_text t)
   term_printable (bound k) h = decimal_printable k (omega (arith, h))
   term_printable (constant c) h = constant_printable c h
-  term_printable (lam a s) h = both (type_text a) (codes "." ++ term_text s) (type_printable a h.0) (term_printable s h.1)
+  term_printable (lam a s) h = both (text_of_type a) (codes "." ++ term_text s) (type_printable a h.0) (term_printable s h.1)
   term_printable (app s u) h =
       both (spine_text s) (codes " " ++ (term_text u ++ codes ")")) (spine_printable s h.0) (both (term_text u) (codes ")") (term_printable u h.1) refl)
 
@@ -92,7 +92,7 @@ mutual
   spine_printable (lam a s) h = absurd h
   spine_printable (app s u) h = both (spine_text s) (codes " " ++ term_text u) (spine_printable s h.0) (term_printable u h.1)
 
-literal_printable : (l : LiteralTree) → IsLiteral l → IsPrintable (literal_text l)
+literal_printable : (l : LiteralTree) → IsLiteralText l → IsPrintable (literal_text l)
 literal_printable l h = go l.positive (term_printable l.atom h.atom.is_term)
   where
     go : (b : Bool) → IsPrintable (term_text l.atom) → IsPrintable (sign_text b ++ term_text l.atom)
@@ -103,7 +103,7 @@ later_printable : {X : Type 0} (text : X → List ℕ) (P : X → Type 0) (xs : 
 later_printable text P [] each h = refl
 later_printable text P (x ∷ xs) each h = both (text x) (after_commas (map text xs)) (each x h.0) (later_printable text P xs each h.1)
 
-items_printable : {X : Type 0} (text : X → List ℕ) (P : X → Type 0) (xs : List X) → ((x : X) → P x → IsPrintable (text x)) → AllByRecursion P xs → IsPrintable (separated (map text xs))
+items_printable : {X : Type 0} (text : X → List ℕ) (P : X → Type 0) (xs : List X) → ((x : X) → P x → IsPrintable (text x)) → AllByRecursion P xs → IsPrintable (comma_separated (map text xs))
 items_printable text P [] each h = refl
 items_printable text P (x ∷ xs) each h = both (text x) (after_commas (map text xs)) (each x h.0) (later_printable text P xs each h.1)
 
@@ -144,7 +144,7 @@ rule_printable (with_predicate r f) h =
     both (predicate_name r) (codes "(" ++ (term_text f ++ codes ")")) (predicate_printable r) (both (term_text f) (codes ")") (term_printable f h.is_term) refl)
 rule_printable (with_cut l) h = both (literal_text l) (codes ")") (literal_printable l h) refl
 
-row_printable : (k : ℕ) (t : TermTree) → k < 2 ^ 64 → IsWithin t → IsPrintable (row_text k t)
+row_printable : (k : ℕ) (t : TermTree) → k < 2 ^ 64 → IsWithinLimits t → IsPrintable (row_text k t)
 row_printable k t small h = both (decimal k) (codes " " ++ term_text t) (decimal_printable k small) (term_printable t h.is_term)
 
 line_printable : (k : ℕ) (l : LineTree) → k < 2 ^ 64 → IsLine l → IsPrintable (line_text k l)
@@ -153,7 +153,7 @@ line_printable k l small h =
     let branch = codes " [" ++ (branch_text l.branch ++ children) in
     both (decimal k) (codes ": " ++ (rule_text l.rule ++ branch)) (decimal_printable k small)
     (both (rule_text l.rule) branch (rule_printable l.rule h.rule)
-    (both (branch_text l.branch) children (items_printable literal_text IsLiteral l.branch literal_printable h.branch)
+    (both (branch_text l.branch) children (items_printable literal_text IsLiteralText l.branch literal_printable h.branch)
     (both (children_text l.children) (codes "]") (items_printable child_text IsChild l.children child_printable h.children) refl)))
 
 -- no character is a line feed
@@ -167,7 +167,7 @@ printable_one_line (c ∷ cs) h =
     go true e k = absurd (grind (arith, nat_tests, e, k))
     go false e k = e
 
-rows_are_lines : (k : ℕ) (rows : List TermTree) → k + length rows ≤ 2 ^ 32 → AllByRecursion IsWithin rows → AreLines (row_texts k rows)
+rows_are_lines : (k : ℕ) (rows : List TermTree) → k + length rows ≤ 2 ^ 32 → AllByRecursion IsWithinLimits rows → AreLines (row_texts k rows)
 rows_are_lines k [] small h = tt
 rows_are_lines k (t ∷ rows) small h =
     (printable_one_line (row_text k t) (row_printable k t (omega (arith, small)) h.0), rows_are_lines (suc k) rows (omega (arith, small)) h.1)
@@ -185,7 +185,7 @@ version_is_line : (names : List (List ℕ)) → is_one_line (version_text names)
 version_is_line [] = refl
 version_is_line (w ∷ names) = refl
 
-definitions_are_lines : (names : List (List ℕ)) → AllByRecursion IsName names → AreLines (map definition_text names)
+definitions_are_lines : (names : List (List ℕ)) → AllByRecursion IsTextName names → AreLines (map definition_text names)
 definitions_are_lines [] h = tt
 definitions_are_lines (w ∷ names) h = (printable_one_line (definition_text w) (name_printable w h.0), definitions_are_lines names h.1)
 

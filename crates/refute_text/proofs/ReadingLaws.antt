@@ -3,7 +3,7 @@ use Rattle.std.proofs.Common.{◌≡◌, ℕ, ◌+◌, Bool, true, false, List, 
 use Rattle.std.specs.List.{list_any}
 use Rattle.refute_print.specs.Trees.{RefutationTree}
 use Rattle.refute_print.specs.Text.{text_lines}
-use Rattle.refute_text.specs.Reading.{is_start, is_end, IsFront, Starts, HoldsText, IsBadAt, TextReading, read, bad_line, no_start, no_end, ReadsAs, HasBadLine, HasNoEnd, ReadsText}
+use Rattle.refute_text.specs.Reading.{is_start, is_end_mark, IsFront, Starts, HoldsText, IsBadAt, TextReading, read, bad_line, no_start, no_end, ReadsAs, HasBadLine, HasNoEnd, ReadsText}
 use Rattle.refute_text.proofs.Fronts.{any_inside, front-append, front-text, front-without_end}
 use Rattle.refute_text.proofs.TextLaws.{text_lines-same}
 
@@ -61,7 +61,7 @@ bad-held : (behind : List (List ℕ)) (place : ℕ) (r : RefutationTree) → IsB
 bad-held behind place r b h = go (cut b.before b.bad b.after (text_lines r) h.last h.after (sym b.are_lines ∙ h.are_lines))
   where
     go : Cut b.before b.bad b.after (text_lines r) h.last h.after → ⊥
-    go (equal e q t) = b.no_end (ap is_end q ∙ h.ends) (record { refutation = r; has_text = h.has_text; whole = e })
+    go (equal e q t) = b.no_end (ap is_end_mark q ∙ h.ends) (record { refutation = r; has_text = h.has_text; whole = e })
     go (shorter c e) = bad-outside behind place b c (subst IsFront e (front-text r h.has_text))
     go (longer c e) = front-without_end (text_lines r) h.last c h.ends (subst IsFront e b.is_front)
 

@@ -1,7 +1,7 @@
 -- The texts of repeated items are read back.
 use Rattle.std.proofs.Common.{◌≡◌, ℕ, zero, suc, ◌≤◌, true, List, [], ◌∷◌, ◌++◌, Option, Some, None, length, refl, ap, ◌∙◌, append_assoc, arith, length-append}
 use Rattle.std.specs.List.{flat_map}
-use Rattle.refute_text.specs.Internal.Reader.{◌>>=◌, behind, with_item, repeated_at}
+use Rattle.refute_text.specs.Internal.Reader.{◌>>=◌, behind_text, with_item, repeated_at}
 use Rattle.refute_text.proofs.Inversions.{found}
 use Rattle.refute_text.proofs.Answers.{bind_gives, front_gives, front_skips, behind-append}
 use Rattle.refute_text.proofs.NameBack.{stops}
@@ -28,16 +28,16 @@ pub more_stop : {X : Type 0} (m : ℕ) (mark : List ℕ) (text : X → List ℕ)
 more_stop m mark text [] rest h k = k
 more_stop m mark text (x ∷ xs) rest h k = h
 
-pub repeated_at-texts : {X : Type 0} (m : ℕ) (mark : List ℕ) (item : List ℕ → Option (X × List ℕ)) (text : X → List ℕ) (n : ℕ) (xs : List X) (rest : List ℕ) → stops (m ∷ []) ≡ true → AreReadBack item text xs → length xs ≤ n → stops rest ≡ true → behind (m ∷ mark) rest ≡ None → repeated_at (m ∷ mark) item n (marked (m ∷ mark) text xs ++ rest) ≡ Some (xs, rest)
+pub repeated_at-texts : {X : Type 0} (m : ℕ) (mark : List ℕ) (item : List ℕ → Option (X × List ℕ)) (text : X → List ℕ) (n : ℕ) (xs : List X) (rest : List ℕ) → stops (m ∷ []) ≡ true → AreReadBack item text xs → length xs ≤ n → stops rest ≡ true → behind_text (m ∷ mark) rest ≡ None → repeated_at (m ∷ mark) item n (marked (m ∷ mark) text xs ++ rest) ≡ Some (xs, rest)
 unfolding repeated_at
 repeated_at-texts m mark item text zero [] rest stop back l s none = refl
 repeated_at-texts m mark item text zero (x ∷ xs) rest stop back l s none = absurd (omega (arith, l))
 repeated_at-texts m mark item text (suc n) [] rest stop back l s none =
-    front_skips (behind (m ∷ mark) rest) _ (found [] rest) ([], rest) none refl
+    front_skips (behind_text (m ∷ mark) rest) _ (found [] rest) ([], rest) none refl
 repeated_at-texts m mark item text (suc n) (x ∷ xs) rest stop back l s none =
     let more = marked (m ∷ mark) text xs ++ rest in
     ap (repeated_at (m ∷ mark) item (suc n)) (regroup (m ∷ mark) (text x) (marked (m ∷ mark) text xs) rest)
-    ∙ front_gives (behind (m ∷ mark) ((m ∷ mark) ++ (text x ++ more))) (λ r. item r >>= (λ y. with_item y.0 (repeated_at (m ∷ mark) item n y.1))) (found [] ((m ∷ mark) ++ (text x ++ more))) (text x ++ more) (x ∷ xs, rest) (behind-append (m ∷ mark) (text x ++ more))
+    ∙ front_gives (behind_text (m ∷ mark) ((m ∷ mark) ++ (text x ++ more))) (λ r. item r >>= (λ y. with_item y.0 (repeated_at (m ∷ mark) item n y.1))) (found [] ((m ∷ mark) ++ (text x ++ more))) (text x ++ more) (x ∷ xs, rest) (behind-append (m ∷ mark) (text x ++ more))
     (bind_gives (item (text x ++ more)) (λ y. with_item y.0 (repeated_at (m ∷ mark) item n y.1)) (x, more) (x ∷ xs, rest) (back.0 more (more_stop m mark text xs rest stop s))
     (ap (with_item x) (repeated_at-texts m mark item text n xs rest stop back.1 (omega (arith, l)) s none)))
   where

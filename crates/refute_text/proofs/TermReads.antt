@@ -1,11 +1,11 @@
 -- The terms that are read stand at the front of the bytes.
 use Rattle.std.proofs.Common.{◌≡◌, ℕ, zero, suc, ◌^◌, ◌<◌, ◌≤◌, List, [], ◌∷◌, ◌++◌, Option, Some, None, length, codes, decimal, refl, sym, ap, ap₂, subst, ◌∙◌, append_assoc, arith, length-append}
-use Rattle.refute_print.specs.Trees.{TypeTree, ConstantTree, name, witness, falsity, negation, implication, all, equality, choice, description, TermTree, bound, constant, lam}
-use Rattle.refute_print.specs.Text.{type_text, constant_text, term_text}
-use Rattle.refute_print.specs.Limits.{IsType, type_depth, IsConstant, constant_depth, IsTerm, term_depth}
-use Rattle.refute_print.specs.Internal.TreeSizes.{applied}
-use Rattle.refute_text.specs.Internal.Reader.{behind, number_at, name_at, type_at, with_item, repeated_at}
-use Rattle.refute_text.specs.Internal.TermReader.{TermAt, counted_at, named_head_at, opened_type_at, bracketed_type_at, bracketed_at, dollar_head_at, head_at, arguments_at, applied_to, application_at, lambda_at, no_term, term_at}
+use Rattle.refute_print.specs.Trees.{TextTypeTree, ConstantTree, name, witness, falsity, negation, implication, all, equality, choice, description, TermTree, bound, constant, lam}
+use Rattle.refute_print.specs.Text.{text_of_type, constant_text, term_text}
+use Rattle.refute_print.specs.Limits.{IsType, type_tree_depth, IsConstant, constant_depth, IsTerm, term_depth}
+use Rattle.refute_print.specs.Internal.TreeSizes.{applied_tree}
+use Rattle.refute_text.specs.Internal.Reader.{behind_text, number_at, name_at, type_at, with_item, repeated_at}
+use Rattle.refute_text.specs.Internal.TermReader.{TermAt, counted_at, named_head_at, opened_type_at, bracketed_type_at, bracketed_at, dollar_head_at, head_text_at, arguments_at, applied_to, application_at, lambda_at, no_term, term_text_at}
 use Rattle.refute_text.proofs.Inversions.{found, found_first, found_second, bind_sound, front_sound, behind_some}
 use Rattle.refute_text.proofs.NameReads.{name_reads, number_reads}
 use Rattle.refute_text.proofs.TypeReads.{TypeStands, type_reads}
@@ -55,24 +55,24 @@ named_head_reads depth bs t r h =
     let p = name_reads bs w.0 w.1 at in
     head_stands depth bs (constant (name w.0)) t w.1 r tt p.0 p.1 (omega arith) e)
 
-opened_reads : (depth : ℕ) (bs : List ℕ) (a : TypeTree) (r : List ℕ) → opened_type_at depth bs ≡ Some (a, r) → TypeStands (depth) bs a r × (suc (type_depth a) ≤ depth)
+opened_reads : (depth : ℕ) (bs : List ℕ) (a : TextTypeTree) (r : List ℕ) → opened_type_at depth bs ≡ Some (a, r) → TypeStands (depth) bs a r × (suc (type_tree_depth a) ≤ depth)
 opened_reads zero bs a r h = cc
 opened_reads (suc depth) bs a r h =
     let s = type_reads depth bs a r h in
     let w = s.within in
     (record { text = s.text; is_type = s.is_type; within = omega (arith, w) }, omega (arith, w))
 
-bracketed_reads : (depth : ℕ) (make : TypeTree → ConstantTree) (mark bs : List ℕ) (t : TermTree) (r : List ℕ) → ((a : TypeTree) → (constant_text (make a) ≡ mark ++ (type_text a ++ codes "]")) × ((IsType a → IsConstant (make a)) × (constant_depth (make a) ≡ suc (type_depth a)))) → bracketed_at make depth bs ≡ Some (t, r) → HeadStands depth (mark ++ bs) t r
+bracketed_reads : (depth : ℕ) (make : TextTypeTree → ConstantTree) (mark bs : List ℕ) (t : TermTree) (r : List ℕ) → ((a : TextTypeTree) → (constant_text (make a) ≡ mark ++ (text_of_type a ++ codes "]")) × ((IsType a → IsConstant (make a)) × (constant_depth (make a) ≡ suc (type_tree_depth a)))) → bracketed_at make depth bs ≡ Some (t, r) → HeadStands depth (mark ++ bs) t r
 bracketed_reads depth make mark bs t r made h =
     bind_sound (bracketed_type_at depth bs) (λ a. found (constant (make a.0)) a.1) (t, r) h (λ b at0 e0.
     bind_sound (opened_type_at depth bs) _ b at0 (λ a at e1.
-    bind_sound (behind (codes "]") a.1) (λ rest. found a.0 rest) b e1 (λ rest at1 e2.
+    bind_sound (behind_text (codes "]") a.1) (λ rest. found a.0 rest) b e1 (λ rest at1 e2.
     let p = opened_reads depth bs a.0 a.1 at in
     let m = made a.0 in
     let w = p.1 in
     let z = m.1.1 in
     head_stands depth (mark ++ bs) (constant (make a.0)) t rest r tt
-    (ap (λ x. mark ++ x) (p.0.text ∙ ap (λ x. type_text a.0 ++ x) (behind_some (codes "]") a.1 rest at1)) ∙ regroup mark (type_text a.0) rest ∙ ap (λ x. x ++ rest) (sym m.0))
+    (ap (λ x. mark ++ x) (p.0.text ∙ ap (λ x. text_of_type a.0 ++ x) (behind_some (codes "]") a.1 rest at1)) ∙ regroup mark (text_of_type a.0) rest ∙ ap (λ x. x ++ rest) (sym m.0))
     (m.1.0 p.0.is_type) (omega (arith, w, z))
     (ap₂ (λ x y. found (constant (make x)) y) (found_first a.0 b.0 rest b.1 e2) (found_second a.0 b.0 rest b.1 e2) ∙ e0))))
   where
@@ -87,30 +87,30 @@ dollar_reads : (depth : ℕ) (bs : List ℕ) (t : TermTree) (r : List ℕ) → d
 unfolding dollar_head_at
 dollar_reads depth bs t r h =
     let P = λ (x : List ℕ). HeadStands depth (codes "$" ++ x) t r in
-    front_sound (behind (codes "f") bs) _ _ (t, r) h
+    front_sound (behind_text (codes "f") bs) _ _ (t, r) h
     (λ rest at k. subst P (sym (behind_some (codes "f") bs rest at)) (word_reads depth falsity (codes "$f") rest t r refl tt refl k))
-    (λ h1. front_sound (behind (codes "not") bs) _ _ (t, r) h1
+    (λ h1. front_sound (behind_text (codes "not") bs) _ _ (t, r) h1
     (λ rest at k. subst P (sym (behind_some (codes "not") bs rest at)) (word_reads depth negation (codes "$not") rest t r refl tt refl k))
-    (λ h2. front_sound (behind (codes "imp") bs) _ _ (t, r) h2
+    (λ h2. front_sound (behind_text (codes "imp") bs) _ _ (t, r) h2
     (λ rest at k. subst P (sym (behind_some (codes "imp") bs rest at)) (word_reads depth implication (codes "$imp") rest t r refl tt refl k))
-    (λ h3. front_sound (behind (codes "w") bs) _ _ (t, r) h3
+    (λ h3. front_sound (behind_text (codes "w") bs) _ _ (t, r) h3
     (λ rest at k. subst P (sym (behind_some (codes "w") bs rest at)) (counted_reads depth (λ i. constant (witness i)) (codes "$w") rest t r (λ i. (tt, (refl, (λ l. l, refl)))) k))
-    (λ h4. front_sound (behind (codes "all[") bs) _ _ (t, r) h4
+    (λ h4. front_sound (behind_text (codes "all[") bs) _ _ (t, r) h4
     (λ rest at k. subst P (sym (behind_some (codes "all[") bs rest at)) (bracketed_reads depth all (codes "$all[") rest t r (λ a. (refl, (λ i. i, refl))) k))
-    (λ h5. front_sound (behind (codes "eq[") bs) _ _ (t, r) h5
+    (λ h5. front_sound (behind_text (codes "eq[") bs) _ _ (t, r) h5
     (λ rest at k. subst P (sym (behind_some (codes "eq[") bs rest at)) (bracketed_reads depth equality (codes "$eq[") rest t r (λ a. (refl, (λ i. i, refl))) k))
-    (λ h6. front_sound (behind (codes "eps[") bs) _ _ (t, r) h6
+    (λ h6. front_sound (behind_text (codes "eps[") bs) _ _ (t, r) h6
     (λ rest at k. subst P (sym (behind_some (codes "eps[") bs rest at)) (bracketed_reads depth choice (codes "$eps[") rest t r (λ a. (refl, (λ i. i, refl))) k))
-    (λ h7. front_sound (behind (codes "the[") bs) _ _ (t, r) h7
+    (λ h7. front_sound (behind_text (codes "the[") bs) _ _ (t, r) h7
     (λ rest at k. subst P (sym (behind_some (codes "the[") bs rest at)) (bracketed_reads depth description (codes "$the[") rest t r (λ a. (refl, (λ i. i, refl))) k))
     (λ h8. cc))))))))
 
-pub head_reads : (depth : ℕ) (bs : List ℕ) (t : TermTree) (r : List ℕ) → head_at depth bs ≡ Some (t, r) → HeadStands depth bs t r
-unfolding head_at
+pub head_reads : (depth : ℕ) (bs : List ℕ) (t : TermTree) (r : List ℕ) → head_text_at depth bs ≡ Some (t, r) → HeadStands depth bs t r
+unfolding head_text_at
 head_reads depth bs t r h =
-    front_sound (behind (codes "$") bs) (dollar_head_at depth) _ (t, r) h
+    front_sound (behind_text (codes "$") bs) (dollar_head_at depth) _ (t, r) h
     (λ rest at k. subst (λ x. HeadStands depth x t r) (sym (behind_some (codes "$") bs rest at)) (dollar_reads depth rest t r k))
-    (λ h1. front_sound (behind (codes "#") bs) (counted_at bound) (named_head_at bs) (t, r) h1
+    (λ h1. front_sound (behind_text (codes "#") bs) (counted_at bound) (named_head_at bs) (t, r) h1
     (λ rest at k. subst (λ x. HeadStands depth x t r) (sym (behind_some (codes "#") bs rest at)) (counted_reads depth bound (codes "#") rest t r (λ i. (tt, (refl, (λ l. l, refl)))) k))
     (λ k. named_head_reads depth bs t r k))
 
@@ -135,7 +135,7 @@ unfolding repeated_at
 arguments_read depth term reads zero bs us r h = none_stand depth bs us r h
 arguments_read depth term reads (suc n) bs us r h =
     let more = λ (cs : List ℕ) (vs : List TermTree) (s : List ℕ) (k : arguments_at term n cs ≡ Some (vs, s)). arguments_read depth term reads n cs vs s k in
-    front_sound (behind (codes " ") bs) _ _ (us, r) h
+    front_sound (behind_text (codes " ") bs) _ _ (us, r) h
     (λ rest at k. bind_sound (term rest) _ (us, r) k (λ u at1 e.
     with_sound u.0 (arguments_at term n u.1) us r e (λ vs at2 same.
     let p = reads rest u.0 u.1 at1 in
@@ -152,7 +152,7 @@ applied_reads : (depth : ℕ) (bs : List ℕ) (h : TermTree) (hr : List ℕ) (us
 applied_reads depth bs h hr [] ur rest t r hs as' e k = cc
 applied_reads depth bs h hr (u ∷ us) ur rest t r hs as' e k =
     let is = applied-is_term depth h u us hs.head hs.is_term hs.within as'.are_terms in
-    term_stands (suc depth) (codes "(" ++ bs) (applied h (u ∷ us)) t rest r
+    term_stands (suc depth) (codes "(" ++ bs) (applied_tree h (u ∷ us)) t rest r
     (ap (λ x. codes "(" ++ x) (hs.text ∙ ap (λ x. term_text h ++ x) (as'.text ∙ ap (λ x. arguments_text (u ∷ us) ++ x) e)) ∙ regroup (term_text h) (arguments_text (u ∷ us)) rest ∙ ap (λ x. x ++ rest) (sym (term_text-applied h u us hs.head)))
     is.0 is.1 k
   where
@@ -161,42 +161,42 @@ applied_reads depth bs h hr (u ∷ us) ur rest t r hs as' e k =
 
 application_reads : (depth : ℕ) (term : List ℕ → TermAt) (bs : List ℕ) (t : TermTree) (r : List ℕ) → ((cs : List ℕ) (u : TermTree) (s : List ℕ) → term cs ≡ Some (u, s) → TermStands depth cs u s) → application_at depth term bs ≡ Some (t, r) → TermStands (suc depth) (codes "(" ++ bs) t r
 application_reads depth term bs t r reads k =
-    bind_sound (head_at depth bs) _ (t, r) k (λ h at k1.
+    bind_sound (head_text_at depth bs) _ (t, r) k (λ h at k1.
     bind_sound (arguments_at term (length h.1) h.1) _ (t, r) k1 (λ us at1 k2.
-    bind_sound (behind (codes ")") us.1) _ (t, r) k2 (λ rest at2 k3.
+    bind_sound (behind_text (codes ")") us.1) _ (t, r) k2 (λ rest at2 k3.
     applied_reads depth bs h.0 h.1 us.0 us.1 rest t r (head_reads depth bs h.0 h.1 at) (arguments_read depth term reads (length h.1) h.1 us.0 us.1 at1) (behind_some (codes ")") us.1 rest at2) k3)))
 
 lambda_reads : (depth : ℕ) (term : List ℕ → TermAt) (bs : List ℕ) (t : TermTree) (r : List ℕ) → ((cs : List ℕ) (u : TermTree) (s : List ℕ) → term cs ≡ Some (u, s) → TermStands depth cs u s) → lambda_at depth term bs ≡ Some (t, r) → TermStands (suc depth) (codes "^" ++ bs) t r
 lambda_reads depth term bs t r reads k =
     bind_sound (type_at depth bs) _ (t, r) k (λ a at k1.
-    bind_sound (behind (codes ".") a.1) _ (t, r) k1 (λ rest at1 k2.
+    bind_sound (behind_text (codes ".") a.1) _ (t, r) k1 (λ rest at1 k2.
     bind_sound (term rest) (λ s. found (lam a.0 s.0) s.1) (t, r) k2 (λ s at2 k3.
     let p = type_reads depth bs a.0 a.1 at in
     let q = reads rest s.0 s.1 at2 in
     term_stands (suc depth) (codes "^" ++ bs) (lam a.0 s.0) t s.1 r
-    (ap (λ x. codes "^" ++ x) (p.text ∙ ap (λ x. type_text a.0 ++ x) (behind_some (codes ".") a.1 rest at1 ∙ ap (λ x. codes "." ++ x) q.text)) ∙ regroup (type_text a.0) (term_text s.0) s.1)
+    (ap (λ x. codes "^" ++ x) (p.text ∙ ap (λ x. text_of_type a.0 ++ x) (behind_some (codes ".") a.1 rest at1 ∙ ap (λ x. codes "." ++ x) q.text)) ∙ regroup (text_of_type a.0) (term_text s.0) s.1)
     (p.is_type, q.is_term) (let m = p.within in let n = q.within in omega (arith, m, n)) k3)))
   where
     regroup : (a s r : List ℕ) → codes "^" ++ (a ++ (codes "." ++ (s ++ r))) ≡ (codes "^" ++ (a ++ (codes "." ++ s))) ++ r
     regroup a s r = simp append_assoc
 
-leaf_reads : (depth : ℕ) (bs : List ℕ) (t : TermTree) (r : List ℕ) → head_at depth bs ≡ Some (t, r) → TermStands depth bs t r
+leaf_reads : (depth : ℕ) (bs : List ℕ) (t : TermTree) (r : List ℕ) → head_text_at depth bs ≡ Some (t, r) → TermStands depth bs t r
 leaf_reads depth bs t r h = let s = head_reads depth bs t r h in record { text = s.text; is_term = s.is_term; within = s.within }
 
-pub term_reads : (depth : ℕ) (bs : List ℕ) (t : TermTree) (r : List ℕ) → term_at depth bs ≡ Some (t, r) → TermStands depth bs t r
-unfolding term_at
+pub term_reads : (depth : ℕ) (bs : List ℕ) (t : TermTree) (r : List ℕ) → term_text_at depth bs ≡ Some (t, r) → TermStands depth bs t r
+unfolding term_text_at
 term_reads zero bs t r h =
-    front_sound (behind (codes "^") bs) no_term _ (t, r) h (λ rest at k. cc)
-    (λ h1. front_sound (behind (codes "(") bs) no_term _ (t, r) h1 (λ rest at k. cc) (λ k. leaf_reads zero bs t r k))
+    front_sound (behind_text (codes "^") bs) no_term _ (t, r) h (λ rest at k. cc)
+    (λ h1. front_sound (behind_text (codes "(") bs) no_term _ (t, r) h1 (λ rest at k. cc) (λ k. leaf_reads zero bs t r k))
 term_reads (suc depth) bs t r h =
-    let inside = λ (cs : List ℕ) (u : TermTree) (s : List ℕ) (k : term_at depth cs ≡ Some (u, s)). term_reads depth cs u s k in
-    front_sound (behind (codes "^") bs) (lambda_at depth (term_at depth)) _ (t, r) h
-    (λ rest at k. subst (λ x. TermStands (suc depth) x t r) (sym (behind_some (codes "^") bs rest at)) (lambda_reads depth (term_at depth) rest t r inside k))
-    (λ h1. front_sound (behind (codes "(") bs) (application_at depth (term_at depth)) _ (t, r) h1
-    (λ rest at k. subst (λ x. TermStands (suc depth) x t r) (sym (behind_some (codes "(") bs rest at)) (application_reads depth (term_at depth) rest t r inside k))
+    let inside = λ (cs : List ℕ) (u : TermTree) (s : List ℕ) (k : term_text_at depth cs ≡ Some (u, s)). term_reads depth cs u s k in
+    front_sound (behind_text (codes "^") bs) (lambda_at depth (term_text_at depth)) _ (t, r) h
+    (λ rest at k. subst (λ x. TermStands (suc depth) x t r) (sym (behind_some (codes "^") bs rest at)) (lambda_reads depth (term_text_at depth) rest t r inside k))
+    (λ h1. front_sound (behind_text (codes "(") bs) (application_at depth (term_text_at depth)) _ (t, r) h1
+    (λ rest at k. subst (λ x. TermStands (suc depth) x t r) (sym (behind_some (codes "(") bs rest at)) (application_reads depth (term_text_at depth) rest t r inside k))
     (λ k. leaf_reads (suc depth) bs t r k))
 
-pub term_shorter : (depth : ℕ) (bs : List ℕ) (t : TermTree) (r : List ℕ) → term_at depth bs ≡ Some (t, r) → length r ≤ length bs
+pub term_shorter : (depth : ℕ) (bs : List ℕ) (t : TermTree) (r : List ℕ) → term_text_at depth bs ≡ Some (t, r) → length r ≤ length bs
 term_shorter depth bs t r h =
     let whole = ap length (term_reads depth bs t r h).text ∙ length-append (term_text t) r in
     omega (arith, whole)

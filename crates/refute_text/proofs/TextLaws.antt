@@ -3,9 +3,9 @@ use Rattle.std.proofs.Common.{◌≡◌, ℕ, suc, ◌+◌, ◌^◌, ◌<◌, �
 use Rattle.std.specs.List.{AllByRecursion}
 use Rattle.refute_print.specs.Trees.{TermTree, LineTree, RefutationTree}
 use Rattle.refute_print.specs.Text.{version_text, definition_text, row_text, line_text, row_texts, line_texts, text_lines}
-use Rattle.refute_print.specs.Limits.{IsWithin, IsLine}
+use Rattle.refute_print.specs.Limits.{IsWithinLimits, IsLine}
 use Rattle.refute_text.specs.Internal.LineReader.{row_at, line_at}
-use Rattle.refute_text.specs.Reading.{IsName, HasText}
+use Rattle.refute_text.specs.Reading.{IsTextName, HasText}
 use Rattle.refute_text.proofs.LineBack.{row_at-text, line_at-text}
 use Rattle.refute_text.proofs.DefinitionLines.{definition_text-same}
 use Rattle.refute_text.proofs.Fronts.{first-same, rest-same, row-then_line, definition-then_below}
@@ -13,7 +13,7 @@ use Rattle.refute_text.proofs.Fronts.{first-same, rest-same, row-then_line, defi
 some-same : {A : Type 0} (a b : A) → Some a ≡ Some b → a ≡ b
 some-same a b e = cc
 
-row_text-same : (k : ℕ) (t u : TermTree) → k < 2 ^ 32 → IsWithin t → IsWithin u → row_text k t ≡ row_text k u → t ≡ u
+row_text-same : (k : ℕ) (t u : TermTree) → k < 2 ^ 32 → IsWithinLimits t → IsWithinLimits u → row_text k t ≡ row_text k u → t ≡ u
 row_text-same k t u small h g e = some-same t u (sym (row_at-text k t small h) ∙ ap (row_at k) e ∙ row_at-text k u small g)
 
 line_text-same : (k : ℕ) (l m : LineTree) → k < 2 ^ 64 → IsLine l → IsLine m → line_text k l ≡ line_text k m → l ≡ m
@@ -27,7 +27,7 @@ line_texts-same k (l ∷ ls) (m ∷ ms) h g small e =
     ap₂ (λ x y. x ∷ y) (line_text-same k l m (omega (arith, small)) h.0 g.0 (first-same (line_text k l) (line_text k m) (line_texts (suc k) ls) (line_texts (suc k) ms) e))
     (line_texts-same (suc k) ls ms h.1 g.1 (omega (arith, small)) (rest-same (line_text k l) (line_text k m) (line_texts (suc k) ls) (line_texts (suc k) ms) e))
 
-texts-same : (k : ℕ) (rows others : List TermTree) (ls ms : List LineTree) → AllByRecursion IsWithin rows → AllByRecursion IsWithin others → k + length rows ≤ 2 ^ 32 → AllByRecursion IsLine ls → AllByRecursion IsLine ms → length ls ≤ 2 ^ 64 → row_texts k rows ++ line_texts 0 ls ≡ row_texts k others ++ line_texts 0 ms → (rows ≡ others) × (ls ≡ ms)
+texts-same : (k : ℕ) (rows others : List TermTree) (ls ms : List LineTree) → AllByRecursion IsWithinLimits rows → AllByRecursion IsWithinLimits others → k + length rows ≤ 2 ^ 32 → AllByRecursion IsLine ls → AllByRecursion IsLine ms → length ls ≤ 2 ^ 64 → row_texts k rows ++ line_texts 0 ls ≡ row_texts k others ++ line_texts 0 ms → (rows ≡ others) × (ls ≡ ms)
 texts-same k [] [] ls ms h g small are others_are lines_small e = (refl, line_texts-same 0 ls ms are others_are (omega (arith, lines_small)) e)
 texts-same k [] (u ∷ others) ls ms h g small are others_are lines_small e = absurd (row-then_line k u (row_texts (suc k) others ++ line_texts 0 ms) ls (sym e))
 texts-same k (t ∷ rows) [] ls ms h g small are others_are lines_small e = absurd (row-then_line k t (row_texts (suc k) rows ++ line_texts 0 ls) ms e)
@@ -37,7 +37,7 @@ texts-same k (t ∷ rows) (u ∷ others) ls ms h g small are others_are lines_sm
     let more = texts-same (suc k) rows others ls ms h.1 g.1 (omega (arith, small)) are others_are lines_small rest in
     (ap₂ (λ x y. x ∷ y) (row_text-same k t u (omega (arith, small)) h.0 g.0 first) more.0, more.1)
 
-definitions-same : (ns ms : List (List ℕ)) (rows others : List TermTree) (ls os : List LineTree) → AllByRecursion IsName ns → AllByRecursion IsName ms → map definition_text ns ++ (row_texts 0 rows ++ line_texts 0 ls) ≡ map definition_text ms ++ (row_texts 0 others ++ line_texts 0 os) → (ns ≡ ms) × (row_texts 0 rows ++ line_texts 0 ls ≡ row_texts 0 others ++ line_texts 0 os)
+definitions-same : (ns ms : List (List ℕ)) (rows others : List TermTree) (ls os : List LineTree) → AllByRecursion IsTextName ns → AllByRecursion IsTextName ms → map definition_text ns ++ (row_texts 0 rows ++ line_texts 0 ls) ≡ map definition_text ms ++ (row_texts 0 others ++ line_texts 0 os) → (ns ≡ ms) × (row_texts 0 rows ++ line_texts 0 ls ≡ row_texts 0 others ++ line_texts 0 os)
 definitions-same [] [] rows others ls os h g e = (refl, e)
 definitions-same [] (m ∷ ms) rows others ls os h g e =
     absurd (definition-then_below m (map definition_text ms ++ (row_texts 0 others ++ line_texts 0 os)) rows ls (sym e))

@@ -1,38 +1,38 @@
 -- The texts of types are read back.
 use Rattle.std.proofs.Common.{◌≡◌, ℕ, zero, suc, ◌≤◌, true, List, [], ◌∷◌, ◌++◌, Option, Some, codes, refl, ap, ◌∙◌, append_assoc, arith}
 use Rattle.thf_names.specs.Names.{name_text}
-use Rattle.refute_print.specs.Letters.{is_name}
-use Rattle.refute_print.specs.Trees.{TypeTree, formula, individual, named, arrow}
-use Rattle.refute_print.specs.Text.{type_text}
-use Rattle.refute_print.specs.Limits.{IsType, type_depth}
-use Rattle.refute_text.specs.Internal.Reader.{behind, name_at, named_at, arrow_at, no_type, type_from, type_at}
+use Rattle.refute_print.specs.Letters.{is_printable_name}
+use Rattle.refute_print.specs.Trees.{TextTypeTree, formula, individual, named, arrow}
+use Rattle.refute_print.specs.Text.{text_of_type}
+use Rattle.refute_print.specs.Limits.{IsType, type_tree_depth}
+use Rattle.refute_text.specs.Internal.Reader.{behind_text, name_at, named_at, arrow_at, no_type, type_from, type_at}
 use Rattle.refute_text.proofs.Inversions.{found}
 use Rattle.refute_text.proofs.Answers.{bind_gives, front_skips}
 use Rattle.refute_text.proofs.NameBack.{stops, behind-name, name_at-text}
 
-named_back : (grouped : List ℕ → Option (TypeTree × List ℕ)) (w rest : List ℕ) → is_name w ≡ true → stops rest ≡ true → type_from grouped (name_text w ++ rest) ≡ found (named w) rest
+named_back : (grouped : List ℕ → Option (TextTypeTree × List ℕ)) (w rest : List ℕ) → is_printable_name w ≡ true → stops rest ≡ true → type_from grouped (name_text w ++ rest) ≡ found (named w) rest
 named_back grouped w rest h stop =
     let bytes = name_text w ++ rest in
-    front_skips (behind (codes "$o") bytes) _ _ (named w, rest) (behind-name 36 (111 ∷ []) w rest refl refl h)
-    (front_skips (behind (codes "$i") bytes) _ _ (named w, rest) (behind-name 36 (105 ∷ []) w rest refl refl h)
-    (front_skips (behind (codes "(") bytes) grouped (named_at bytes) (named w, rest) (behind-name 40 [] w rest refl refl h)
+    front_skips (behind_text (codes "$o") bytes) _ _ (named w, rest) (behind-name 36 (111 ∷ []) w rest refl refl h)
+    (front_skips (behind_text (codes "$i") bytes) _ _ (named w, rest) (behind-name 36 (105 ∷ []) w rest refl refl h)
+    (front_skips (behind_text (codes "(") bytes) grouped (named_at bytes) (named w, rest) (behind-name 40 [] w rest refl refl h)
     (bind_gives (name_at bytes) (λ name. found (named name.0) name.1) (w, rest) (named w, rest) (name_at-text w rest h stop) refl)))
 
 -- a reader that reads a type's text
-abbrev ReadsBack : (List ℕ → Option (TypeTree × List ℕ)) → TypeTree → Type 0
-ReadsBack inside a = (rest : List ℕ) → stops rest ≡ true → inside (type_text a ++ rest) ≡ found a rest
+abbrev ReadsBack : (List ℕ → Option (TextTypeTree × List ℕ)) → TextTypeTree → Type 0
+ReadsBack inside a = (rest : List ℕ) → stops rest ≡ true → inside (text_of_type a ++ rest) ≡ found a rest
 
-arrow_back : (inside : List ℕ → Option (TypeTree × List ℕ)) (a b : TypeTree) (rest : List ℕ) → ReadsBack inside a → ReadsBack inside b → arrow_at inside ((type_text a ++ (codes ">" ++ (type_text b ++ codes ")"))) ++ rest) ≡ found (arrow a b) rest
+arrow_back : (inside : List ℕ → Option (TextTypeTree × List ℕ)) (a b : TextTypeTree) (rest : List ℕ) → ReadsBack inside a → ReadsBack inside b → arrow_at inside ((text_of_type a ++ (codes ">" ++ (text_of_type b ++ codes ")"))) ++ rest) ≡ found (arrow a b) rest
 arrow_back inside a b rest from to =
-    let behind_from = codes ">" ++ (type_text b ++ (codes ")" ++ rest)) in
-    ap (arrow_at inside) (regroup (type_text a) (type_text b) rest)
-    ∙ bind_gives (inside (type_text a ++ behind_from)) _ (a, behind_from) (arrow a b, rest) (from behind_from refl)
-    (bind_gives (inside (type_text b ++ (codes ")" ++ rest))) _ (b, codes ")" ++ rest) (arrow a b, rest) (to (codes ")" ++ rest) refl) refl)
+    let behind_from = codes ">" ++ (text_of_type b ++ (codes ")" ++ rest)) in
+    ap (arrow_at inside) (regroup (text_of_type a) (text_of_type b) rest)
+    ∙ bind_gives (inside (text_of_type a ++ behind_from)) _ (a, behind_from) (arrow a b, rest) (from behind_from refl)
+    (bind_gives (inside (text_of_type b ++ (codes ")" ++ rest))) _ (b, codes ")" ++ rest) (arrow a b, rest) (to (codes ")" ++ rest) refl) refl)
   where
     regroup : (a b r : List ℕ) → (a ++ (codes ">" ++ (b ++ codes ")"))) ++ r ≡ a ++ (codes ">" ++ (b ++ (codes ")" ++ r)))
     regroup a b r = simp append_assoc
 
-pub type_at-text : (depth : ℕ) (a : TypeTree) (rest : List ℕ) → IsType a → type_depth a ≤ depth → stops rest ≡ true → type_at depth (type_text a ++ rest) ≡ Some (a, rest)
+pub type_at-text : (depth : ℕ) (a : TextTypeTree) (rest : List ℕ) → IsType a → type_tree_depth a ≤ depth → stops rest ≡ true → type_at depth (text_of_type a ++ rest) ≡ Some (a, rest)
 unfolding type_at
 type_at-text zero formula rest is within stop = refl
 type_at-text zero individual rest is within stop = refl

@@ -3,8 +3,8 @@ use Rattle.std.specs.Prelude.{◌≡◌, ℕ, ◌+◌, ◌^◌, ◌≤◌, ◌==
 use Rattle.std.specs.List.{AllByRecursion, list_all, list_any, starts_with}
 use Rattle.refute_print.specs.Trees.{RefutationTree}
 use Rattle.refute_print.specs.Text.{text_lines, as_bytes}
-use Rattle.refute_print.specs.Letters.{is_name}
-use Rattle.refute_print.specs.Limits.{IsWithin, IsLine}
+use Rattle.refute_print.specs.Letters.{is_printable_name}
+use Rattle.refute_print.specs.Limits.{IsWithinLimits, IsLine}
 
 -- how the start line and the end line begin
 abbrev pub start_mark : List ℕ
@@ -16,16 +16,16 @@ end_mark = codes "% SZS output end Refutation for "
 abbrev pub is_start : List ℕ → Bool
 is_start line = starts_with nat_eq line start_mark
 
-abbrev pub is_end : List ℕ → Bool
-is_end line = starts_with nat_eq line end_mark
+abbrev pub is_end_mark : List ℕ → Bool
+is_end_mark line = starts_with nat_eq line end_mark
 
-abbrev pub IsName : List ℕ → Type 0
-IsName w = is_name w ≡ true
+abbrev pub IsTextName : List ℕ → Type 0
+IsTextName w = is_printable_name w ≡ true
 
 -- a refutation that has a text
 pub record HasText (r : RefutationTree) : Type 0 where
-  pub names : AllByRecursion IsName r.names
-  pub rows : AllByRecursion IsWithin r.rows
+  pub names : AllByRecursion IsTextName r.names
+  pub rows : AllByRecursion IsWithinLimits r.rows
   pub row_numbers : length r.rows ≤ 2 ^ 32
   pub lines : AllByRecursion IsLine r.lines
   pub line_numbers : length r.lines ≤ 2 ^ 64
@@ -50,7 +50,7 @@ pub record HoldsText (behind : List (List ℕ)) (r : RefutationTree) : Type 0 wh
   pub after : List (List ℕ)
   pub are_lines : behind ≡ text_lines r ++ (last ∷ after)
   pub has_text : HasText r
-  pub ends : is_end last ≡ true
+  pub ends : is_end_mark last ≡ true
 
 -- lines that are the whole text of some refutation
 pub record IsText (lines : List (List ℕ)) : Type 0 where
@@ -68,7 +68,7 @@ pub record IsBadAt (behind : List (List ℕ)) (place : ℕ) : Type 0 where
   pub place_is : place ≡ length before
   pub is_front : IsFront before
   pub no_front : ¬ IsFront (before ++ (bad ∷ []))
-  pub no_end : is_end bad ≡ true → ¬ IsText before
+  pub no_end : is_end_mark bad ≡ true → ¬ IsText before
 
 -- a refutation, with the line of its first row, or else of its first line, or else the end line; or the line at which none is read
 pub data TextReading : Type 0 where
@@ -130,5 +130,5 @@ pub record TextStands (bytes : List ℕ) (r : RefutationTree) (first : ℕ) : Ty
   pub last_line : is_one_line last ≡ true
   pub none_before : list_any is_start before ≡ false
   pub starts : is_start start ≡ true
-  pub ends : is_end last ≡ true
+  pub ends : is_end_mark last ≡ true
   pub first_is : first ≡ length before + 3 + length r.names

@@ -2,11 +2,11 @@
 
 ghost use Rattle.std.specs.Prelude.{◌≡◌, ◌<◌, ◌++◌, ◌∷◌, [], true, Some, length, slice_get, OnOk, IfOk, IfErr, IfSome, IsTrue};
 ghost use Rattle.refute_print.specs.Trees.{LiteralTree};
-ghost use Rattle.refute_print.specs.Limits.{IsLiteral};
+ghost use Rattle.refute_print.specs.Limits.{IsLiteralText};
 ghost use Rattle.refute_print.specs.Text.{literal_text};
 ghost use Rattle.refute_text.specs.Internal.Known.{ends_literal};
-ghost use Rattle.refute_text.specs.Internal.LineReader.{literal_at};
-ghost use Rattle.refute_text.specs.Internal.Refusals.{IsRefusal, AppendsRead};
+ghost use Rattle.refute_text.specs.Internal.LineReader.{literal_text_at};
+ghost use Rattle.refute_text.specs.Internal.Refusals.{IsReaderRefusal, AppendsRead};
 
 use crate::read_rule::read_literal;
 use crate::refusal::Refusal;
@@ -82,7 +82,7 @@ impl<'a> Known<'a> {
     /// The place of a literal, which is kept where it isn't there yet.
     fn place_of(&mut self, text: &'a [u8], lit: TextLit) -> Result<usize, AllocError>
         requires text { text.now ≡ literal_text lit }
-        requires literal { IsLiteral lit }
+        requires literal { IsLiteralText lit }
         ensures { IfOk result (λ place. slice_get self.new place ≡ Some lit) }
     {
         let (place, is_new) = self.texts.insert_full(text)?;
@@ -108,7 +108,7 @@ impl<'a> Known<'a> {
 
     /// The place of the literal with this text, where it was read before.
     fn find(&self, text: &[u8]) -> Option<usize>
-        ensures { IfSome result (λ place. (lit : LiteralTree) × (slice_get self.now place ≡ Some lit) × (literal_text lit ≡ text.now) × IsLiteral lit) }
+        ensures { IfSome result (λ place. (lit : LiteralTree) × (slice_get self.now place ≡ Some lit) × (literal_text lit ≡ text.now) × IsLiteralText lit) }
     {
         self.texts.get_index_of(&text)
     }
@@ -120,8 +120,8 @@ impl<'a> Known<'a> {
         literals: &mut TextLits,
         bytes: &'a [u8],
     ) -> Result<&'a [u8], Refusal>
-        ensures read { IfOk result (λ rest. AppendsRead literals.old literals.new (literal_at bytes.now) rest.now) }
-        ensures refused { IfErr result (λ e. IsRefusal e (literal_at bytes.now)) }
+        ensures read { IfOk result (λ rest. AppendsRead literals.old literals.new (literal_text_at bytes.now) rest.now) }
+        ensures refused { IfErr result (λ e. IsReaderRefusal e (literal_text_at bytes.now)) }
     {
         let read = read_literal(alloc, bytes)?;
         let text = &bytes[..bytes.len() - read.rest.len()];
@@ -138,8 +138,8 @@ impl<'a> Known<'a> {
         literals: &mut TextLits,
         bytes: &'a [u8],
     ) -> Result<&'a [u8], Refusal>
-        ensures read { IfOk result (λ rest. AppendsRead literals.old literals.new (literal_at bytes.now) rest.now) }
-        ensures refused { IfErr result (λ e. IsRefusal e (literal_at bytes.now)) }
+        ensures read { IfOk result (λ rest. AppendsRead literals.old literals.new (literal_text_at bytes.now) rest.now) }
+        ensures refused { IfErr result (λ e. IsReaderRefusal e (literal_text_at bytes.now)) }
     {
         let split = until_end(bytes);
         match self.find(split.front) {

@@ -3,7 +3,7 @@
 ghost use Rattle.std.specs.Prelude.{◌≡◌, ◌+◌, ◌<◌, ◌≤◌, ◌^◌, ◌∷◌, [], length, IfOk, IfErr, IfSome, IfNone, drop};
 ghost use Rattle.refute_text.specs.Internal.Reader.{front, after, is_no_feed};
 ghost use Rattle.outside.specs.Lines.{lines_of};
-ghost use Rattle.refute_text.specs.Reading.{is_start, is_end, HasNoStart};
+ghost use Rattle.refute_text.specs.Reading.{is_start, is_end_mark, HasNoStart};
 ghost use Rattle.refute_text.specs.Internal.Places.{BehindStart};
 
 /// Bytes of a text, and the number of the line that begins with them.
@@ -62,7 +62,7 @@ fn is_start(line: &[u8]) -> bool
 }
 
 pub(crate) fn is_end(line: &[u8]) -> bool
-    ensures { result ≡ is_end line.now }
+    ensures { result ≡ is_end_mark line.now }
 {
     line.starts_with(b"% SZS output end Refutation for ")
 }

@@ -2,8 +2,8 @@
 
 ghost use Rattle.std.specs.Prelude.{◌≡◌, ◌^◌, length, codes};
 ghost use Rattle.refute_text.specs.Internal.Reader.{number_at, repeated_at, with_items};
-ghost use Rattle.refute_text.specs.Internal.LineReader.{literal_at, child_at, items_at, where_number, end_at, definition_at, row_at, branch_at, children_at, behind_rule_at, lists_at, line_at};
-ghost use Rattle.refute_text.specs.Internal.Refusals.{Answers};
+ghost use Rattle.refute_text.specs.Internal.LineReader.{literal_text_at, child_at, items_at, where_number, end_at, definition_at, row_at, branch_at, children_at, behind_rule_at, lists_at, line_at};
+ghost use Rattle.refute_text.specs.Internal.Refusals.{AnswersReader};
 ghost use Rattle.refute_print.specs.LineView.{the_rule};
 ghost use Rattle.refute_print.specs.TextView.{the_line};
 
@@ -32,7 +32,7 @@ fn more_literals<'a>(
     first: TextLits,
     bytes: &'a [u8],
 ) -> Result<LiteralsRead<'a>, Refusal>
-    ensures { Answers (λ r. (r.literals, r.rest.now)) result (with_items first (repeated_at (codes ",") literal_at (length bytes.now) bytes.now)) }
+    ensures { AnswersReader (λ r. (r.literals, r.rest.now)) result (with_items first (repeated_at (codes ",") literal_text_at (length bytes.now) bytes.now)) }
 {
     let mut literals = first;
     let mut rest = bytes;
@@ -51,7 +51,7 @@ fn literals<'a>(
     known: &mut Known<'a>,
     bytes: &'a [u8],
 ) -> Result<LiteralsRead<'a>, Refusal>
-    ensures { Answers (λ r. (r.literals, r.rest.now)) result (items_at literal_at bytes.now) }
+    ensures { AnswersReader (λ r. (r.literals, r.rest.now)) result (items_at literal_text_at bytes.now) }
 {
     let mut literals = TextLits::new(alloc);
     if let Some(rest) = behind(b"]", bytes) {
@@ -75,7 +75,7 @@ struct ChildRead<'a> {
 
 #[tactic(auto, unfolding(crate::specs::Internal::LineReader::child_at))]
 fn child(bytes: &[u8]) -> Result<ChildRead<'_>, Refusal>
-    ensures { Answers (λ r. (r.child, r.rest.now)) result (child_at bytes.now) }
+    ensures { AnswersReader (λ r. (r.child, r.rest.now)) result (child_at bytes.now) }
 {
     if let Some(rest) = behind(b"x", bytes) {
         return Ok(ChildRead {
@@ -99,7 +99,7 @@ struct ChildrenRead<'a> {
 
 /// More children behind the first ones, each after a comma.
 fn more_children(first: Children, bytes: &[u8]) -> Result<ChildrenRead<'_>, Refusal>
-    ensures { Answers (λ r. (r.children, r.rest.now)) result (with_items first (repeated_at (codes ",") child_at (length bytes.now) bytes.now)) }
+    ensures { AnswersReader (λ r. (r.children, r.rest.now)) result (with_items first (repeated_at (codes ",") child_at (length bytes.now) bytes.now)) }
 {
     let mut children = first;
     let mut rest = bytes;
@@ -117,7 +117,7 @@ fn more_children(first: Children, bytes: &[u8]) -> Result<ChildrenRead<'_>, Refu
 
 /// The children of a line, and the bracket that closes them.
 fn children(alloc: Global, bytes: &[u8]) -> Result<ChildrenRead<'_>, Refusal>
-    ensures { Answers (λ r. (r.children, r.rest.now)) result (items_at child_at bytes.now) }
+    ensures { AnswersReader (λ r. (r.children, r.rest.now)) result (items_at child_at bytes.now) }
 {
     let mut children = Children::new(alloc);
     if let Some(rest) = behind(b"]", bytes) {
@@ -135,7 +135,7 @@ fn children(alloc: Global, bytes: &[u8]) -> Result<ChildrenRead<'_>, Refusal>
 
 /// The end of a line.
 fn ended(bytes: &[u8]) -> Result<&[u8], Refusal>
-    ensures { Answers (λ rest. rest.now) result (end_at bytes.now) }
+    ensures { AnswersReader (λ rest. rest.now) result (end_at bytes.now) }
 {
     match bytes {
         [] => Ok(bytes),
@@ -145,7 +145,7 @@ fn ended(bytes: &[u8]) -> Result<&[u8], Refusal>
 
 /// What follows the number of a row.
 fn row_number(number: usize, bytes: &[u8]) -> Result<&[u8], Refusal>
-    ensures { Answers (λ rest. rest.now) result (where_number number (number_at (2 ^ 32) bytes.now)) }
+    ensures { AnswersReader (λ rest. rest.now) result (where_number number (number_at (2 ^ 32) bytes.now)) }
 {
     let read = index(bytes)?;
     if read.index as usize == number {
@@ -157,7 +157,7 @@ fn row_number(number: usize, bytes: &[u8]) -> Result<&[u8], Refusal>
 
 /// What follows the number of a line.
 fn line_number(number: usize, bytes: &[u8]) -> Result<&[u8], Refusal>
-    ensures { Answers (λ rest. rest.now) result (where_number number (number_at (2 ^ 64) bytes.now)) }
+    ensures { AnswersReader (λ rest. rest.now) result (where_number number (number_at (2 ^ 64) bytes.now)) }
 {
     let read = read_number(bytes)?;
     if read.place == number {
@@ -170,7 +170,7 @@ fn line_number(number: usize, bytes: &[u8]) -> Result<&[u8], Refusal>
 /// The name on the line of a definition.
 #[tactic(auto, unfolding(crate::specs::Internal::LineReader::definition_at))]
 pub(crate) fn read_definition(alloc: Global, line: &[u8]) -> Result<Bytes, Refusal>
-    ensures { Answers (λ w. w) result (definition_at line.now) }
+    ensures { AnswersReader (λ w. w) result (definition_at line.now) }
 {
     let rest = expect(b"d ", line)?;
     let read = name(alloc, rest)?;
@@ -181,7 +181,7 @@ pub(crate) fn read_definition(alloc: Global, line: &[u8]) -> Result<Bytes, Refus
 /// The predicate of the witness row of this number.
 #[tactic(auto, unfolding(crate::specs::Internal::LineReader::row_at))]
 pub(crate) fn read_row(alloc: Global, number: usize, line: &[u8]) -> Result<TextTerm, Refusal>
-    ensures { Answers (λ t. t) result (row_at number line.now) }
+    ensures { AnswersReader (λ t. t) result (row_at number line.now) }
 {
     let rest = expect(b"w", line)?;
     let rest = row_number(number, rest)?;
@@ -197,7 +197,7 @@ fn branch<'a>(
     known: &mut Known<'a>,
     bytes: &'a [u8],
 ) -> Result<LiteralsRead<'a>, Refusal>
-    ensures { Answers (λ r. (r.literals, r.rest.now)) result (branch_at bytes.now) }
+    ensures { AnswersReader (λ r. (r.literals, r.rest.now)) result (branch_at bytes.now) }
 {
     let rest = expect(b" [", bytes)?;
     literals(alloc, known, rest)
@@ -205,7 +205,7 @@ fn branch<'a>(
 
 /// The children behind a branch, which end the line.
 fn line_children(alloc: Global, bytes: &[u8]) -> Result<Children, Refusal>
-    ensures { Answers (λ children. children) result (children_at bytes.now) }
+    ensures { AnswersReader (λ children. children) result (children_at bytes.now) }
 {
     let rest = expect(b" [", bytes)?;
     let read = children(alloc, rest)?;
@@ -227,7 +227,7 @@ fn behind_rule<'a>(
     known: &mut Known<'a>,
     bytes: &'a [u8],
 ) -> Result<ListsRead, Refusal>
-    ensures { Answers (λ lists. (lists.branch, lists.children)) result (behind_rule_at bytes.now) }
+    ensures { AnswersReader (λ lists. (lists.branch, lists.children)) result (behind_rule_at bytes.now) }
 {
     let read = branch(alloc, known, bytes)?;
     let children = line_children(alloc, read.rest)?;
@@ -245,7 +245,7 @@ fn lists<'a>(
     rule: TextRule,
     bytes: &'a [u8],
 ) -> Result<TextLine, Refusal>
-    ensures { Answers (λ l. the_line l) result (lists_at (the_rule rule) bytes.now) }
+    ensures { AnswersReader (λ l. the_line l) result (lists_at (the_rule rule) bytes.now) }
 {
     match behind_rule(alloc, known, bytes) {
         Ok(lists) => Ok(TextLine {
@@ -268,7 +268,7 @@ pub(crate) fn read_line<'a>(
     number: usize,
     line: &'a [u8],
 ) -> Result<TextLine, Refusal>
-    ensures { Answers (λ l. the_line l) result (line_at number line.now) }
+    ensures { AnswersReader (λ l. the_line l) result (line_at number line.now) }
 {
     let rest = line_number(number, line)?;
     let rest = expect(b": ", rest)?;

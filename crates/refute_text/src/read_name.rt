@@ -4,8 +4,8 @@ ghost use Rattle.std.specs.Prelude.{◌≡◌, ◌++◌, ◌≤◌, ◌<◌, ◌
 ghost use Rattle.std.specs.List.{list_all};
 ghost use Rattle.thf_grammar.specs.Bytes.{is_word_byte};
 ghost use Rattle.thf_grammar.specs.Printable.{is_printable};
-ghost use Rattle.refute_text.specs.Internal.Reader.{front, after, behind, is_digit, is_decimal, number_from, number_at, escaped_character, character_at, characters_at, needs_quotes, plain_at, name_at};
-ghost use Rattle.refute_text.specs.Internal.Refusals.{Answers};
+ghost use Rattle.refute_text.specs.Internal.Reader.{front, after, behind_text, is_digit, has_no_leading_zero, number_from, number_at, escaped_character, character_at, characters_at, needs_quotes, plain_at, name_at};
+ghost use Rattle.refute_text.specs.Internal.Refusals.{AnswersReader};
 
 use crate::refusal::Refusal;
 use outside::Bytes;
@@ -15,7 +15,7 @@ use thf_names::{is_lower_word, is_word_byte};
 
 /// What follows the text, where the bytes begin with it.
 pub(crate) fn behind<'a>(text: &[u8], bytes: &'a [u8]) -> Option<&'a [u8]>
-    ensures { option_map (λ rest. rest.now) result ≡ behind text.now bytes.now }
+    ensures { option_map (λ rest. rest.now) result ≡ behind_text text.now bytes.now }
 {
     if bytes.starts_with(text) {
         Some(&bytes[text.len()..])
@@ -69,7 +69,7 @@ fn word(bytes: &[u8]) -> Split<'_>
 
 /// Whether the digits are a number without leading zeros.
 fn is_decimal(digits: &[u8]) -> bool
-    ensures { result ≡ is_decimal digits.now }
+    ensures { result ≡ has_no_leading_zero digits.now }
 {
     match digits {
         [] => false,
@@ -179,7 +179,7 @@ pub(crate) struct NameRead<'a> {
 
 /// The characters up to the closing quote.
 fn characters(alloc: Global, bytes: &[u8]) -> Result<NameRead<'_>, Refusal>
-    ensures { Answers (λ r. (r.name, r.rest.now)) result (characters_at bytes.now) }
+    ensures { AnswersReader (λ r. (r.name, r.rest.now)) result (characters_at bytes.now) }
 {
     let mut name = Bytes::new(alloc);
     let mut rest = bytes;
@@ -203,7 +203,7 @@ fn needs_quotes(name: &[u8]) -> bool
 
 /// A name that is a lower word.
 fn plain(alloc: Global, bytes: &[u8]) -> Result<NameRead<'_>, Refusal>
-    ensures { Answers (λ r. (r.name, r.rest.now)) result (plain_at bytes.now) }
+    ensures { AnswersReader (λ r. (r.name, r.rest.now)) result (plain_at bytes.now) }
 {
     let split = word(bytes);
     if !is_lower_word(split.front) {
@@ -218,7 +218,7 @@ fn plain(alloc: Global, bytes: &[u8]) -> Result<NameRead<'_>, Refusal>
 /// A name.
 #[tactic(auto, unfolding(crate::specs::Internal::Reader::name_at))]
 pub(crate) fn name(alloc: Global, bytes: &[u8]) -> Result<NameRead<'_>, Refusal>
-    ensures { Answers (λ r. (r.name, r.rest.now)) result (name_at bytes.now) }
+    ensures { AnswersReader (λ r. (r.name, r.rest.now)) result (name_at bytes.now) }
 {
     let Some(rest) = behind(b"'", bytes) else {
         return plain(alloc, bytes);

@@ -1,13 +1,13 @@
 //! Reads literals and rules.
 
 ghost use Rattle.std.specs.Prelude.{◌≡◌, ◌^◌};
-ghost use Rattle.refute_print.specs.Limits.{is_negated};
+ghost use Rattle.refute_print.specs.Limits.{is_negated_text};
 ghost use Rattle.refute_print.specs.Trees.{Cho, Des};
 ghost use Rattle.refute_text.specs.Internal.Reader.{number_at};
-ghost use Rattle.refute_text.specs.Internal.LineReader.{signed_at, literal_at, place_at, places_at, instance_at, predicate_at, cut_at, one_place_rule_at, rule_at};
-ghost use Rattle.refute_text.specs.Internal.Refusals.{Answers};
+ghost use Rattle.refute_text.specs.Internal.LineReader.{signed_text_at, literal_text_at, place_text_at, places_at, instance_at, predicate_at, cut_at, one_place_rule_at, rule_at};
+ghost use Rattle.refute_text.specs.Internal.Refusals.{AnswersReader};
 ghost use Rattle.refute_print.specs.LineView.{the_rule};
-ghost use Rattle.refute_print.specs.TreeView.{the_head};
+ghost use Rattle.refute_print.specs.TreeView.{the_text_head};
 
 use crate::read_name::{behind, number};
 use crate::read_term::read_term;
@@ -27,7 +27,7 @@ pub(crate) struct LiteralRead<'a> {
 }
 
 fn is_negation(head: &TextHead) -> bool
-    ensures { result ≡ is_negated (the_head head.now) }
+    ensures { result ≡ is_negated_text (the_text_head head.now) }
 {
     match head {
         TextHead::Not => true,
@@ -37,7 +37,7 @@ fn is_negation(head: &TextHead) -> bool
 
 /// Whether the term's head is negation.
 fn is_negated(term: &TextTerm) -> bool
-    ensures { result ≡ is_negated term.now }
+    ensures { result ≡ is_negated_text term.now }
 {
     match &term.node {
         TextNode::Lam(_, _) => false,
@@ -46,7 +46,7 @@ fn is_negated(term: &TextTerm) -> bool
 }
 
 fn signed(alloc: Global, positive: bool, bytes: &[u8]) -> Result<LiteralRead<'_>, Refusal>
-    ensures { Answers (λ r. (r.literal, r.rest.now)) result (signed_at positive bytes.now) }
+    ensures { AnswersReader (λ r. (r.literal, r.rest.now)) result (signed_text_at positive bytes.now) }
 {
     let read = read_term(alloc, DEPTH, bytes)?;
     if is_negated(&read.term) {
@@ -62,9 +62,9 @@ fn signed(alloc: Global, positive: bool, bytes: &[u8]) -> Result<LiteralRead<'_>
 }
 
 /// A literal.
-#[tactic(auto, unfolding(crate::specs::Internal::LineReader::literal_at))]
+#[tactic(auto, unfolding(crate::specs::Internal::LineReader::literal_text_at))]
 pub(crate) fn read_literal(alloc: Global, bytes: &[u8]) -> Result<LiteralRead<'_>, Refusal>
-    ensures { Answers (λ r. (r.literal, r.rest.now)) result (literal_at bytes.now) }
+    ensures { AnswersReader (λ r. (r.literal, r.rest.now)) result (literal_text_at bytes.now) }
 {
     if let Some(rest) = behind(b"+", bytes) {
         return signed(alloc, true, rest);
@@ -82,7 +82,7 @@ pub(crate) struct PlaceRead<'a> {
 
 /// A number below 2^64.
 pub(crate) fn read_number(bytes: &[u8]) -> Result<PlaceRead<'_>, Refusal>
-    ensures { Answers (λ r. (r.place, r.rest.now)) result (number_at (2 ^ 64) bytes.now) }
+    ensures { AnswersReader (λ r. (r.place, r.rest.now)) result (number_at (2 ^ 64) bytes.now) }
 {
     match number(0xffff_ffff_ffff_ffff, bytes) {
         Some(read) => Ok(PlaceRead {
@@ -94,9 +94,9 @@ pub(crate) fn read_number(bytes: &[u8]) -> Result<PlaceRead<'_>, Refusal>
 }
 
 /// A place, and the parenthesis behind it.
-#[tactic(auto, unfolding(crate::specs::Internal::LineReader::place_at))]
+#[tactic(auto, unfolding(crate::specs::Internal::LineReader::place_text_at))]
 fn place(bytes: &[u8]) -> Result<PlaceRead<'_>, Refusal>
-    ensures { Answers (λ r. (r.place, r.rest.now)) result (place_at bytes.now) }
+    ensures { AnswersReader (λ r. (r.place, r.rest.now)) result (place_text_at bytes.now) }
 {
     let read = read_number(bytes)?;
     let rest = expect(b")", read.rest)?;
@@ -116,7 +116,7 @@ pub(crate) struct RuleRead<'a> {
 /// A rule of one place.
 #[tactic(auto, unfolding(crate::specs::Internal::LineReader::one_place_rule_at))]
 fn one_place_rule(bytes: &[u8]) -> Result<RuleRead<'_>, Refusal>
-    ensures { Answers (λ r. (the_rule r.rule, r.rest.now)) result (one_place_rule_at bytes.now) }
+    ensures { AnswersReader (λ r. (the_rule r.rule, r.rest.now)) result (one_place_rule_at bytes.now) }
 {
     let (rule, rest) = if let Some(rest) = behind(b"False(", bytes) {
         let read = place(rest)?;
@@ -162,7 +162,7 @@ struct PlacesRead<'a> {
 }
 
 fn places(bytes: &[u8]) -> Result<PlacesRead<'_>, Refusal>
-    ensures { Answers (λ r. ((r.first, r.second), r.rest.now)) result (places_at bytes.now) }
+    ensures { AnswersReader (λ r. ((r.first, r.second), r.rest.now)) result (places_at bytes.now) }
 {
     let first = read_number(bytes)?;
     let rest = expect(b",", first.rest)?;
@@ -176,7 +176,7 @@ fn places(bytes: &[u8]) -> Result<PlacesRead<'_>, Refusal>
 
 /// The place and the term of an instance.
 fn instance(alloc: Global, bytes: &[u8]) -> Result<RuleRead<'_>, Refusal>
-    ensures { Answers (λ r. (the_rule r.rule, r.rest.now)) result (instance_at bytes.now) }
+    ensures { AnswersReader (λ r. (the_rule r.rule, r.rest.now)) result (instance_at bytes.now) }
 {
     let place = read_number(bytes)?;
     let rest = expect(b";", place.rest)?;
@@ -189,7 +189,7 @@ fn instance(alloc: Global, bytes: &[u8]) -> Result<RuleRead<'_>, Refusal>
 }
 
 fn choice(alloc: Global, bytes: &[u8]) -> Result<RuleRead<'_>, Refusal>
-    ensures { Answers (λ r. (the_rule r.rule, r.rest.now)) result (predicate_at Cho bytes.now) }
+    ensures { AnswersReader (λ r. (the_rule r.rule, r.rest.now)) result (predicate_at Cho bytes.now) }
 {
     let term = read_term(alloc, DEPTH, bytes)?;
     let rest = expect(b")", term.rest)?;
@@ -200,7 +200,7 @@ fn choice(alloc: Global, bytes: &[u8]) -> Result<RuleRead<'_>, Refusal>
 }
 
 fn description(alloc: Global, bytes: &[u8]) -> Result<RuleRead<'_>, Refusal>
-    ensures { Answers (λ r. (the_rule r.rule, r.rest.now)) result (predicate_at Des bytes.now) }
+    ensures { AnswersReader (λ r. (the_rule r.rule, r.rest.now)) result (predicate_at Des bytes.now) }
 {
     let term = read_term(alloc, DEPTH, bytes)?;
     let rest = expect(b")", term.rest)?;
@@ -211,7 +211,7 @@ fn description(alloc: Global, bytes: &[u8]) -> Result<RuleRead<'_>, Refusal>
 }
 
 fn cut(alloc: Global, bytes: &[u8]) -> Result<RuleRead<'_>, Refusal>
-    ensures { Answers (λ r. (the_rule r.rule, r.rest.now)) result (cut_at bytes.now) }
+    ensures { AnswersReader (λ r. (the_rule r.rule, r.rest.now)) result (cut_at bytes.now) }
 {
     let read = read_literal(alloc, bytes)?;
     let rest = expect(b")", read.rest)?;
@@ -224,7 +224,7 @@ fn cut(alloc: Global, bytes: &[u8]) -> Result<RuleRead<'_>, Refusal>
 /// A rule.
 #[tactic(auto, unfolding(crate::specs::Internal::LineReader::rule_at))]
 pub(crate) fn read_rule(alloc: Global, bytes: &[u8]) -> Result<RuleRead<'_>, Refusal>
-    ensures { Answers (λ r. (the_rule r.rule, r.rest.now)) result (rule_at bytes.now) }
+    ensures { AnswersReader (λ r. (the_rule r.rule, r.rest.now)) result (rule_at bytes.now) }
 {
     let (rule, rest) = if let Some(rest) = behind(b"Close(", bytes) {
         let read = places(rest)?;

@@ -3,10 +3,10 @@
 ghost use Rattle.std.specs.Prelude.{◌≡◌, ◌<◌, ◌^◌, option_map, IfSome, length};
 ghost use Rattle.refute_print.specs.Trees.{bound, constant, witness, all, equality, choice, description};
 ghost use Rattle.refute_text.specs.Internal.Reader.{number_at, type_at};
-ghost use Rattle.refute_text.specs.Internal.TermReader.{named_head_at, bracketed_at, bracketed_type_at, dollar_head_at, head_at, arguments_at, application_at, lambda_at, term_at};
-ghost use Rattle.refute_text.specs.Internal.Refusals.{Answers};
-ghost use Rattle.refute_print.specs.View.{the_type};
-ghost use Rattle.refute_print.specs.TreeView.{the_head};
+ghost use Rattle.refute_text.specs.Internal.TermReader.{named_head_at, bracketed_at, bracketed_type_at, dollar_head_at, head_text_at, arguments_at, application_at, lambda_at, term_text_at};
+ghost use Rattle.refute_text.specs.Internal.Refusals.{AnswersReader};
+ghost use Rattle.refute_print.specs.View.{the_text_type};
+ghost use Rattle.refute_print.specs.TreeView.{the_text_head};
 
 use crate::read_name::{behind, name, number};
 use crate::read_type::{TypeRead, expect, read_type};
@@ -22,7 +22,7 @@ pub(crate) struct IndexRead<'a> {
 }
 
 pub(crate) fn index(bytes: &[u8]) -> Result<IndexRead<'_>, Refusal>
-    ensures { Answers (λ r. (r.index, r.rest.now)) result (number_at (2 ^ 32) bytes.now) }
+    ensures { AnswersReader (λ r. (r.index, r.rest.now)) result (number_at (2 ^ 32) bytes.now) }
 {
     match number(0xffff_ffff, bytes) {
         Some(read) => Ok(IndexRead {
@@ -41,7 +41,7 @@ struct HeadRead<'a> {
 }
 
 fn named_head(alloc: Global, bytes: &[u8]) -> Result<HeadRead<'_>, Refusal>
-    ensures { Answers (λ r. (the_head r.head, r.rest.now)) result (named_head_at bytes.now) }
+    ensures { AnswersReader (λ r. (the_text_head r.head, r.rest.now)) result (named_head_at bytes.now) }
 {
     let read = name(alloc, bytes)?;
     Ok(HeadRead {
@@ -52,7 +52,7 @@ fn named_head(alloc: Global, bytes: &[u8]) -> Result<HeadRead<'_>, Refusal>
 
 /// A type, and what follows the bracket that closes it.
 fn bracketed(alloc: Global, depth: u32, bytes: &[u8]) -> Result<TypeRead<'_>, Refusal>
-    ensures { Answers (λ r. (the_type r.ty, r.rest.now)) result (bracketed_type_at depth bytes.now) }
+    ensures { AnswersReader (λ r. (the_text_type r.ty, r.rest.now)) result (bracketed_type_at depth bytes.now) }
 {
     if depth == 0 {
         return Err(Refusal::Form);
@@ -65,7 +65,7 @@ fn bracketed(alloc: Global, depth: u32, bytes: &[u8]) -> Result<TypeRead<'_>, Re
 /// A head behind its `$`.
 #[tactic(auto, unfolding(crate::specs::Internal::TermReader::dollar_head_at))]
 fn dollar_head(alloc: Global, depth: u32, bytes: &[u8]) -> Result<HeadRead<'_>, Refusal>
-    ensures { Answers (λ r. (the_head r.head, r.rest.now)) result (dollar_head_at depth bytes.now) }
+    ensures { AnswersReader (λ r. (the_text_head r.head, r.rest.now)) result (dollar_head_at depth bytes.now) }
 {
     let (head, rest) = if let Some(rest) = behind(b"f", bytes) {
         (TextHead::False, rest)
@@ -95,9 +95,9 @@ fn dollar_head(alloc: Global, depth: u32, bytes: &[u8]) -> Result<HeadRead<'_>, 
 }
 
 /// The head of a term.
-#[tactic(auto, unfolding(crate::specs::Internal::TermReader::head_at))]
+#[tactic(auto, unfolding(crate::specs::Internal::TermReader::head_text_at))]
 fn read_head(alloc: Global, depth: u32, bytes: &[u8]) -> Result<HeadRead<'_>, Refusal>
-    ensures { Answers (λ r. (the_head r.head, r.rest.now)) result (head_at depth bytes.now) }
+    ensures { AnswersReader (λ r. (the_text_head r.head, r.rest.now)) result (head_text_at depth bytes.now) }
 {
     if let Some(rest) = behind(b"$", bytes) {
         return dollar_head(alloc, depth, rest);
@@ -129,7 +129,7 @@ struct TermsRead<'a> {
 /// Arguments, each behind a space.
 #[cycle(read_term)]
 fn arguments(alloc: Global, depth: u32, bytes: &[u8]) -> Result<TermsRead<'_>, Refusal>
-    ensures { Answers (λ r. (r.terms, r.rest.now)) result (arguments_at (term_at depth) (length bytes.now) bytes.now) }
+    ensures { AnswersReader (λ r. (r.terms, r.rest.now)) result (arguments_at (term_text_at depth) (length bytes.now) bytes.now) }
 {
     let mut terms = TextTerms::new(alloc);
     let mut rest = bytes;
@@ -148,7 +148,7 @@ fn arguments(alloc: Global, depth: u32, bytes: &[u8]) -> Result<TermsRead<'_>, R
 /// A head with arguments, and the parenthesis that closes them.
 #[cycle(read_term)]
 fn application(alloc: Global, depth: u32, bytes: &[u8]) -> Result<TermRead<'_>, Refusal>
-    ensures { Answers (λ r. (r.term, r.rest.now)) result (application_at depth (term_at depth) bytes.now) }
+    ensures { AnswersReader (λ r. (r.term, r.rest.now)) result (application_at depth (term_text_at depth) bytes.now) }
 {
     let head = read_head(alloc, depth, bytes)?;
     let args = arguments(alloc, depth, head.rest)?;
@@ -166,7 +166,7 @@ fn application(alloc: Global, depth: u32, bytes: &[u8]) -> Result<TermRead<'_>, 
 /// The type and the body of a function.
 #[cycle(read_term)]
 fn function(alloc: Global, depth: u32, bytes: &[u8]) -> Result<TermRead<'_>, Refusal>
-    ensures { Answers (λ r. (r.term, r.rest.now)) result (lambda_at depth (term_at depth) bytes.now) }
+    ensures { AnswersReader (λ r. (r.term, r.rest.now)) result (lambda_at depth (term_text_at depth) bytes.now) }
 {
     let ty = read_type(alloc, depth, bytes)?;
     let rest = expect(b".", ty.rest)?;
@@ -180,9 +180,9 @@ fn function(alloc: Global, depth: u32, bytes: &[u8]) -> Result<TermRead<'_>, Ref
 
 /// A term in which at most so many parentheses, brackets and functions are open at once.
 #[cycle(read_term)]
-#[tactic(auto, unfolding(crate::specs::Internal::TermReader::term_at))]
+#[tactic(auto, unfolding(crate::specs::Internal::TermReader::term_text_at))]
 pub(crate) fn read_term(alloc: Global, depth: u32, bytes: &[u8]) -> Result<TermRead<'_>, Refusal>
-    ensures { Answers (λ r. (r.term, r.rest.now)) result (term_at depth bytes.now) }
+    ensures { AnswersReader (λ r. (r.term, r.rest.now)) result (term_text_at depth bytes.now) }
 {
     if let Some(rest) = behind(b"^", bytes) {
         if depth == 0 {

@@ -1,9 +1,9 @@
 //! Reads types.
 
 ghost use Rattle.std.specs.Prelude.{◌≡◌};
-ghost use Rattle.refute_text.specs.Internal.Reader.{behind, named_at, type_at};
-ghost use Rattle.refute_text.specs.Internal.Refusals.{Answers};
-ghost use Rattle.refute_print.specs.View.{the_type};
+ghost use Rattle.refute_text.specs.Internal.Reader.{behind_text, named_at, type_at};
+ghost use Rattle.refute_text.specs.Internal.Refusals.{AnswersReader};
+ghost use Rattle.refute_print.specs.View.{the_text_type};
 
 use crate::read_name::{behind, name};
 use crate::refusal::Refusal;
@@ -19,7 +19,7 @@ pub(crate) struct TypeRead<'a> {
 
 /// What follows the text, with which the bytes are to begin.
 pub(crate) fn expect<'a>(text: &[u8], bytes: &'a [u8]) -> Result<&'a [u8], Refusal>
-    ensures { Answers (λ rest. rest.now) result (behind text.now bytes.now) }
+    ensures { AnswersReader (λ rest. rest.now) result (behind_text text.now bytes.now) }
 {
     match behind(text, bytes) {
         Some(rest) => Ok(rest),
@@ -28,7 +28,7 @@ pub(crate) fn expect<'a>(text: &[u8], bytes: &'a [u8]) -> Result<&'a [u8], Refus
 }
 
 fn named(alloc: Global, bytes: &[u8]) -> Result<TypeRead<'_>, Refusal>
-    ensures { Answers (λ r. (the_type r.ty, r.rest.now)) result (named_at bytes.now) }
+    ensures { AnswersReader (λ r. (the_text_type r.ty, r.rest.now)) result (named_at bytes.now) }
 {
     let read = name(alloc, bytes)?;
     Ok(TypeRead {
@@ -40,7 +40,7 @@ fn named(alloc: Global, bytes: &[u8]) -> Result<TypeRead<'_>, Refusal>
 /// A type in which at most so many parentheses are open at once.
 #[tactic(auto, unfolding(crate::specs::Internal::Reader::type_at))]
 pub(crate) fn read_type(alloc: Global, depth: u32, bytes: &[u8]) -> Result<TypeRead<'_>, Refusal>
-    ensures { Answers (λ r. (the_type r.ty, r.rest.now)) result (type_at depth bytes.now) }
+    ensures { AnswersReader (λ r. (the_text_type r.ty, r.rest.now)) result (type_at depth bytes.now) }
 {
     if let Some(rest) = behind(b"$o", bytes) {
         return Ok(TypeRead {

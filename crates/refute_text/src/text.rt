@@ -3,12 +3,12 @@
 ghost use Rattle.std.specs.Prelude.{◌≡◌, ℕ, ◌+◌, ◌-◌, ◌^◌, ◌<◌, ◌≤◌, ◌++◌, [], ◌∷◌, true, false, length, codes, nat_eq, option_map, IsTrue, OnOk, IfOk, IfErr, IfSome, ◌↔◌};
 ghost use Rattle.std.specs.List.{starts_with};
 ghost use Rattle.refute_print.specs.Text.{text_lines};
-ghost use Rattle.refute_print.specs.TextView.{the_text, IsNumbered};
+ghost use Rattle.refute_print.specs.TextView.{the_text, IsNumberedText};
 ghost use Rattle.outside.specs.Lines.{lines_of};
 ghost use Rattle.refute_text.specs.Reading.{HasText, IsFront, HoldsText, TextReading, ReadsText};
 ghost use Rattle.refute_text.specs.Internal.LineReader.{definition_at};
-ghost use Rattle.refute_text.specs.Internal.Refusals.{Answers};
-ghost use Rattle.refute_text.specs.Internal.Places.{RefusesBehind, IfForm, MayDefine, nothing};
+ghost use Rattle.refute_text.specs.Internal.Refusals.{AnswersReader};
+ghost use Rattle.refute_text.specs.Internal.Places.{RefusesBehind, IfForm, MayDefine, nothing_placed};
 ghost use Rattle.refute_text.specs.Answered.{reading_of};
 
 use crate::known::Known;
@@ -21,7 +21,7 @@ use refute_print::{RefutationText, TextLines, TextNames, TextTerms};
 /// Adds the name whose definition the line is.
 fn add_definition(alloc: Global, text: &mut RefutationText, line: &[u8]) -> Result<(), Refusal>
     requires has_text { HasText (the_text text.old) }
-    requires numbered { IsNumbered text.old }
+    requires numbered { IsNumberedText text.old }
     requires room { text.old.first + 1 < 2 ^ 64 }
     requires version_2 { 0 < length text.old.names }
     requires no_rows { length text.old.witnesses ≡ 0 }
@@ -30,7 +30,7 @@ fn add_definition(alloc: Global, text: &mut RefutationText, line: &[u8]) -> Resu
     ensures has_text { OnOk result (HasText (the_text text.new)) }
     ensures added { OnOk result (text_lines (the_text text.new) ≡ text_lines (the_text text.old) ++ line.now ∷ []) }
     ensures refused { IfErr result (λ e. IfForm e (¬ IsFront (text_lines (the_text text.old) ++ line.now ∷ []))) }
-    ensures numbered { OnOk result (IsNumbered text.new) }
+    ensures numbered { OnOk result (IsNumberedText text.new) }
     ensures place { text.new.names_at ≡ text.old.names_at }
 {
     let name = read_definition(alloc, line)?;
@@ -42,13 +42,13 @@ fn add_definition(alloc: Global, text: &mut RefutationText, line: &[u8]) -> Resu
 /// Adds the witness row that the line is.
 fn add_row(alloc: Global, text: &mut RefutationText, line: &[u8]) -> Result<(), Refusal>
     requires has_text { HasText (the_text text.old) }
-    requires numbered { IsNumbered text.old }
+    requires numbered { IsNumberedText text.old }
     requires no_lines { length text.old.lines ≡ 0 }
     requires row { starts_with nat_eq line.now (codes "w") ≡ true }
     ensures has_text { OnOk result (HasText (the_text text.new)) }
     ensures added { OnOk result (text_lines (the_text text.new) ≡ text_lines (the_text text.old) ++ line.now ∷ []) }
     ensures refused { IfErr result (λ e. IfForm e (¬ IsFront (text_lines (the_text text.old) ++ line.now ∷ []))) }
-    ensures numbered { OnOk result (IsNumbered text.new) }
+    ensures numbered { OnOk result (IsNumberedText text.new) }
     ensures place { text.new.names_at ≡ text.old.names_at }
 {
     let row = read_row(alloc, text.witnesses.len(), line)?;
@@ -64,13 +64,13 @@ fn add_numbered<'a>(
     line: &'a [u8],
 ) -> Result<(), Refusal>
     requires has_text { HasText (the_text text.old) }
-    requires numbered { IsNumbered text.old }
+    requires numbered { IsNumberedText text.old }
     requires no_definition { MayDefine text.old → starts_with nat_eq line.now (codes "d") ≡ false }
     requires no_row { length text.old.lines ≡ 0 → starts_with nat_eq line.now (codes "w") ≡ false }
     ensures has_text { OnOk result (HasText (the_text text.new)) }
     ensures added { OnOk result (text_lines (the_text text.new) ≡ text_lines (the_text text.old) ++ line.now ∷ []) }
     ensures refused { IfErr result (λ e. IfForm e (¬ IsFront (text_lines (the_text text.old) ++ line.now ∷ []))) }
-    ensures numbered { OnOk result (IsNumbered text.new) }
+    ensures numbered { OnOk result (IsNumberedText text.new) }
     ensures place { text.new.names_at ≡ text.old.names_at }
 {
     let numbered = read_line(alloc, known, text.lines.len(), line)?;
@@ -93,12 +93,12 @@ fn add_line<'a>(
     line: &'a [u8],
 ) -> Result<(), Refusal>
     requires has_text { HasText (the_text text.old) }
-    requires numbered { IsNumbered text.old }
+    requires numbered { IsNumberedText text.old }
     requires room { text.old.first + 1 < 2 ^ 64 }
     ensures has_text { OnOk result (HasText (the_text text.new)) }
     ensures added { OnOk result (text_lines (the_text text.new) ≡ text_lines (the_text text.old) ++ line.now ∷ []) }
     ensures refused { IfErr result (λ e. IfForm e (¬ IsFront (text_lines (the_text text.old) ++ line.now ∷ []))) }
-    ensures numbered { OnOk result (IsNumbered text.new) }
+    ensures numbered { OnOk result (IsNumberedText text.new) }
     ensures place { text.new.names_at ≡ text.old.names_at }
 {
     if line.starts_with(b"d") && may_define(text) {
@@ -118,12 +118,12 @@ fn read_on(
     bytes: &[u8],
 ) -> Result<RefutationText, TextRefused>
     requires has_text { HasText (the_text begun) }
-    requires numbered { IsNumbered begun }
+    requires numbered { IsNumberedText begun }
     requires behind { 1 ≤ begun.names_at }
     requires counted { first + 1 ≡ begun.names_at + length (text_lines (the_text begun)) }
     requires room { first + length bytes.now < 2 ^ 64 }
     ensures held { IfOk result (λ t. HoldsText (text_lines (the_text begun) ++ lines_of bytes.now) (the_text t)) }
-    ensures numbered { IfOk result IsNumbered }
+    ensures numbered { IfOk result IsNumberedText }
     ensures place { IfOk result (λ t. t.names_at ≡ begun.names_at) }
     ensures room { IfOk result (λ t. t.first + length t.witnesses + length t.lines < 2 ^ 64) }
     ensures refused { IfErr result (RefusesBehind (text_lines (the_text begun) ++ lines_of bytes.now) (begun.names_at - 1)) }
@@ -149,8 +149,8 @@ fn read_on(
 
 /// A text of version 1 behind whose version nothing is read yet.
 fn version_1(alloc: Global, names_at: usize) -> RefutationText
-    ensures text { the_text result ≡ nothing [] }
-    ensures numbered { IsNumbered result }
+    ensures text { the_text result ≡ nothing_placed [] }
+    ensures numbered { IsNumberedText result }
     ensures place { result.names_at ≡ names_at }
 {
     RefutationText {
@@ -166,8 +166,8 @@ fn version_1(alloc: Global, names_at: usize) -> RefutationText
 /// A text of version 2 behind whose version one line is read, which is that of a definition.
 fn version_2(alloc: Global, names_at: usize, line: &[u8]) -> Result<RefutationText, Refusal>
     requires { names_at + 1 < 2 ^ 64 }
-    ensures text { Answers the_text result (option_map (λ w. nothing (w ∷ [])) (definition_at line.now)) }
-    ensures numbered { IfOk result IsNumbered }
+    ensures text { AnswersReader the_text result (option_map (λ w. nothing_placed (w ∷ [])) (definition_at line.now)) }
+    ensures numbered { IfOk result IsNumberedText }
     ensures place { IfOk result (λ t. t.names_at ≡ names_at) }
 {
     let name = read_definition(alloc, line)?;
@@ -188,7 +188,7 @@ fn read_version_2(alloc: Global, line: usize, bytes: &[u8]) -> Result<Refutation
     requires counted { 1 ≤ line }
     requires room { line + length bytes.now < 2 ^ 64 }
     ensures held { IfOk result (λ t. HoldsText (codes "version 2" ∷ lines_of bytes.now) (the_text t)) }
-    ensures numbered { IfOk result IsNumbered }
+    ensures numbered { IfOk result IsNumberedText }
     ensures place { IfOk result (λ t. t.names_at ≡ line) }
     ensures room { IfOk result (λ t. t.first + length t.witnesses + length t.lines < 2 ^ 64) }
     ensures refused { IfErr result (RefusesBehind (codes "version 2" ∷ lines_of bytes.now) (line - 1)) }
@@ -213,7 +213,7 @@ fn is_same(line: &[u8], text: &[u8]) -> bool
 fn read_behind(alloc: Global, line: usize, bytes: &[u8]) -> Result<RefutationText, TextRefused>
     requires { line + length bytes.now < 2 ^ 64 }
     ensures held { IfOk result (λ t. HoldsText (lines_of bytes.now) (the_text t)) }
-    ensures numbered { IfOk result IsNumbered }
+    ensures numbered { IfOk result IsNumberedText }
     ensures place { IfOk result (λ t. t.names_at ≡ line + 1) }
     ensures room { IfOk result (λ t. t.first + length t.witnesses + length t.lines < 2 ^ 64) }
     ensures refused { IfErr result (RefusesBehind (lines_of bytes.now) line) }
@@ -235,7 +235,7 @@ fn read_behind(alloc: Global, line: usize, bytes: &[u8]) -> Result<RefutationTex
 pub fn read_text(alloc: Global, bytes: &[u8]) -> Result<RefutationText, TextRefused>
     ensures reads { IfSome (reading_of result) (ReadsText (lines_of bytes.now)) }
     ensures only { IfSome (reading_of result) (λ o. (p : TextReading) → ReadsText (lines_of bytes.now) p → p ≡ o) }
-    ensures numbered { IfOk result IsNumbered }
+    ensures numbered { IfOk result IsNumberedText }
     ensures room { IfOk result (λ t. t.first + length t.witnesses + length t.lines < 2 ^ 64) }
 {
     match behind_start(bytes) {

@@ -6,7 +6,7 @@ use Rattle.thf_include.specs.Answer.{AreContents}
 use Rattle.thf_include.specs.Gathering.{Ending, done, stopped, Stop, wants, too_long, no_tree, cycle, too_many, no_name}
 use Rattle.type_check.specs.Statements.{IllInFile, problem_of}
 use Rattle.mode_file.specs.declared.Mode.{Mode}
-use Rattle.mode_file.specs.Given.{nothing, mode_of}
+use Rattle.mode_file.specs.Given.{nothing_given, mode_of}
 use Rattle.cli_words.specs.Requests.{Request, prove, refutation, generated}
 use Rattle.problem_gen.specs.Chain.{text}
 use Rattle.szs_report.specs.Outcomes.{outcome_of}
@@ -83,10 +83,10 @@ same_contents one other same [] (t ∷ ts) h = h
 same_contents one other same (n ∷ names) (t ∷ ts) h = (sym (same n) ∙ h.0, same_contents one other same names ts h.1)
 
 -- a generated problem is answered as its request is
-pub demo_request : (n : ℕ) (held : Bool) (one : List ℕ → Option (List ℕ)) → IsTrue held → ((f : List ℕ) → one f ≡ Some (text n)) → (a : Answer) → IsFilesAnswer (IsDemoed (mode_of nothing)) (problem_name (generated n)) held one a → (told : Bool) (contents : List ℕ → Option (List ℕ)) → AnswersRequest (generated n) told contents a
-demo_request n held one is same a h told contents = files_request (generated n) told contents (mode_of nothing) refl a (moved a h)
+pub demo_request : (n : ℕ) (held : Bool) (one : List ℕ → Option (List ℕ)) → IsTrue held → ((f : List ℕ) → one f ≡ Some (text n)) → (a : Answer) → IsFilesAnswer (IsDemoed (mode_of nothing_given)) (problem_name (generated n)) held one a → (told : Bool) (contents : List ℕ → Option (List ℕ)) → AnswersRequest (generated n) told contents a
+demo_request n held one is same a h told contents = files_request (generated n) told contents (mode_of nothing_given) refl a (moved a h)
   where
-    moved : (a : Answer) → IsFilesAnswer (IsDemoed (mode_of nothing)) (problem_name (generated n)) held one a → IsFilesAnswer (AnswersProblem told contents (generated n) (mode_of nothing)) (problem_name (generated n)) true (λ f. Some (text n)) a
+    moved : (a : Answer) → IsFilesAnswer (IsDemoed (mode_of nothing_given)) (problem_name (generated n)) held one a → IsFilesAnswer (AnswersProblem told contents (generated n) (mode_of nothing_given)) (problem_name (generated n)) true (λ f. Some (text n)) a
     moved Memory h = tt
     moved a h = (
       h.0,

@@ -19,12 +19,12 @@ use Rattle.tableau_calculus.specs.declared.refutation.RuleUse.{RuleUse}
 use Rattle.tableau_calculus.specs.declared.refutation.RuleUse.TheVariants as rule
 use Rattle.tableau_calculus.specs.declared.refutation.Line.{Line}
 use Rattle.tableau_calculus.specs.declared.refutation.Refutation.{Refutation}
-use Rattle.refute_print.specs.Named.{Names, names_of, name_at, named_type, named_constant, named_term, named_literal, named_rule, named_line, named_refutation, HasTypeNames, HasConstantNames, HasNames, HaveNames, HasRuleNames, LinesHaveNames, RowsHaveNames, IsNamed}
-use Rattle.refute_check.specs.Numbered.{place_of, numbered_type, numbered_constant, numbered_term, numbered_literal, numbered_rule, numbered_line, argument_type, numbered_row, numbered_refutation}
+use Rattle.refute_print.specs.Named.{Names, names_of, name_numbered, named_type, named_constant, named_term, named_literal, named_rule, named_line, named_refutation, HasTypeNames, HasConstantNames, HasNames, HaveNames, HasRuleNames, LinesHaveNames, RowsHaveNames, IsNamed}
+use Rattle.refute_check.specs.Numbered.{name_place, numbered_type, numbered_constant, numbered_term, numbered_literal, numbered_rule, numbered_line, argument_type, numbered_row, numbered_refutation}
 
 -- each name stands at its own place only
 abbrev pub ArePlaced : List (List ℕ) → Type 0
-ArePlaced names = (k : ℕ) → k < length names → place_of names (name_at names k) ≡ k
+ArePlaced names = (k : ℕ) → k < length names → name_place names (name_numbered names k) ≡ k
 
 apart : (x y : List ℕ) → x ≢ y → bytes_eq x y ≡ false
 apart x y other = go (bytes_eq x y) refl
@@ -36,8 +36,8 @@ apart x y other = go (bytes_eq x y) refl
 -- names of which no two are the same
 pub different_placed : (names : List (List ℕ)) → AllPairs (λ a b. a ≢ b) names → ArePlaced names
 different_placed names d k within =
-    let own : name_at names k ≡ get_or names k [] = unwrap_or-slice_get names k [] in
-    ap (place_of names) own
+    let own : name_numbered names k ≡ get_or names k [] = unwrap_or-slice_get names k [] in
+    ap (name_place names) own
     ∙ position_or_len_is (λ n. bytes_eq n (get_or names k [])) names k [] (omega arith)
     (λ i before. apart (get_or names i []) (get_or names k []) (d i k [] before within))
     (λ h. (bytes_decides (get_or names k []) (get_or names k [])).1 refl)

@@ -7,7 +7,7 @@ use Rattle.thf_grammar.specs.Printable.{IsPrintable, BodyDeclaresPrintable, Decl
 use Rattle.thf_parse.specs.Parsing.{depth_limit}
 use Rattle.thf_parse.proofs.PrintableLaws.{declared-printable}
 use Rattle.thf_include.specs.View.{PlacedTree}
-use Rattle.thf_include.specs.Gathering.{Ending, done, stopped, behind, is_selected, is_missing, select_by, select, FileEnds, unread, long, refused, followed, StatementEnds, stays, in_cycle, past_limit, stops, selects, StatementsEnd, no_more, ends, goes_on, IsGathering}
+use Rattle.thf_include.specs.Gathering.{Ending, done, stopped, behind_statements, is_selected, is_missing, select_by, select, FileEnds, unread, long, refused, followed, StatementEnds, stays, in_cycle, past_limit, stops, selects, StatementsEnd, no_more, ends, goes_on, IsGathering}
 use Rattle.type_check.specs.Internal.ProblemNames.{IsDeclaredWith, AllDeclared}
 
 -- each name that a statement declares is printable
@@ -28,7 +28,7 @@ append_printable : (ss ts : List PlacedTree) → DeclarePrintable ss → Declare
 append_printable [] ts h k = k
 append_printable (s ∷ ss) ts h k = (h.0, append_printable ss ts h.1 k)
 
-behind_printable : (ss : List PlacedTree) (ending : Ending) → DeclarePrintable ss → EndsPrintable ending → EndsPrintable (behind ss ending)
+behind_printable : (ss : List PlacedTree) (ending : Ending) → DeclarePrintable ss → EndsPrintable ending → EndsPrintable (behind_statements ss ending)
 behind_printable ss (done ts) h k = append_printable ss ts h k
 behind_printable ss (stopped why) h k = tt
 

@@ -4,7 +4,7 @@ use Rattle.stt_core.specs.PlainProblem.{PlainProblem}
 use Rattle.delta_defs.specs.Unfolding.{taken_names}
 use Rattle.mode_file.specs.declared.Mode.{Mode}
 use Rattle.refute_print.specs.Text.{text_lines, as_bytes}
-use Rattle.refute_print.specs.Named.{name_at, named_refutation}
+use Rattle.refute_print.specs.Named.{name_numbered, named_refutation}
 use Rattle.outside.specs.Lines.{lines_of}
 use Rattle.refute_text.specs.Reading.{start_mark, end_mark, is_start, is_one_line, read, ReadsText, TextStands}
 use Rattle.refute_text.proofs.ReadingLaws.{reading-same}
@@ -23,7 +23,7 @@ or_false : (a b : Bool) → a ≡ false → b ≡ false → a || b ≡ false
 or_false a b h k = ap₂ (λ x y. x || y) h k
 
 -- the text of a refutation stands in the report of its proof
-stands_in_report : (status name : List ℕ) (m : Mode) (p : PlainProblem) (n : ℕ) (text : List ℕ) (proof : IsProofOf m p n text) → is_one_line name ≡ true → is_one_line status ≡ true → is_start (status ++ name) ≡ false → TextStands (proof_report status name n text) (named_refutation (names_in p) (taken_names p) proof.refutation) (5 + length (map (name_at (names_in p).constants) (taken_names p)))
+stands_in_report : (status name : List ℕ) (m : Mode) (p : PlainProblem) (n : ℕ) (text : List ℕ) (proof : IsProofOf m p n text) → is_one_line name ≡ true → is_one_line status ≡ true → is_start (status ++ name) ≡ false → TextStands (proof_report status name n text) (named_refutation (names_in p) (taken_names p) proof.refutation) (5 + length (map (name_numbered (names_in p).constants) (taken_names p)))
 stands_in_report status name m p n text proof clean plain_status other =
     let lines = text_lines (named_refutation (names_in p) (taken_names p) proof.refutation) in
     let before : List (List ℕ) = (status ++ name) ∷ (codes "% commands " ++ decimal n) ∷ [] in
@@ -53,7 +53,7 @@ holds_only : (status name : List ℕ) (m : Mode) (p : PlainProblem) (n : ℕ) (t
 holds_only status name m p n text proof clean plain_status other =
     let bytes = proof_report status name n text in
     let tree = named_refutation (names_in p) (taken_names p) proof.refutation in
-    let first = 5 + length (map (name_at (names_in p).constants) (taken_names p)) in
+    let first = 5 + length (map (name_numbered (names_in p).constants) (taken_names p)) in
     let reads : ReadsText (lines_of bytes) (read tree first) = reads_back bytes tree first proof.has_text (stands_in_report status name m p n text proof clean plain_status other) in
     record { first = first; reads = reads; only = λ reading h. reading-same (lines_of bytes) reading (read tree first) h reads; numbered = proof.numbered }
 

@@ -11,7 +11,7 @@ use Rattle.refute_print.specs.Text.{text_lines, as_bytes}
 use Rattle.refute_print.specs.Named.{named_refutation, IsNamed}
 use Rattle.mode_file.specs.declared.Mode.{Mode}
 use Rattle.delta_defs.specs.Unfolding.{taken_names, unfolded_problem}
-use Rattle.delta_defs.specs.Laws.{AreDeclared}
+use Rattle.delta_defs.specs.Laws.{AreDeclaredNames}
 use Rattle.refute_check.specs.Acceptance.{IsAcceptedFor}
 use Rattle.refute_check.proofs.AcceptanceLaws.{named_accepted, places_named}
 use Rattle.prover_run.specs.Ended.{IsRefuted}
@@ -19,7 +19,7 @@ use Rattle.request_answers.specs.Names.{ArePrintable, names_in}
 use Rattle.request_answers.specs.Internal.Texts.{HasTexts}
 use Rattle.request_answers.specs.Solved.{IsProofOf}
 use Rattle.thf_grammar.specs.Printable.{is_printable, IsPrintable}
-use Rattle.refute_print.specs.Letters.{is_name}
+use Rattle.refute_print.specs.Letters.{is_printable_name}
 use Rattle.request_answers.proofs.NameLaws.{NamesAll, accepted_named}
 use Rattle.request_answers.proofs.Numbering.{declared_placed, refutation-same}
 use Rattle.request_answers.proofs.Written.{AreWords, has_text}
@@ -28,11 +28,11 @@ same_length : (cs : List TypedName) → length (map (λ c. c.type) cs) ≡ lengt
 same_length [] = refl
 same_length (c ∷ cs) = ap suc (same_length cs)
 
-word : (w : List ℕ) → IsPrintable w → is_name w ≡ true
+word : (w : List ℕ) → IsPrintable w → is_printable_name w ≡ true
 word [] h = absurd (omega (arith, h.0))
 word (c ∷ cs) h = list_all-from_AllPass is_printable (c ∷ cs) h.1
 
-words : (ws : List (List ℕ)) → AllByRecursion IsPrintable ws → AllByRecursion (λ w. is_name w ≡ true) ws
+words : (ws : List (List ℕ)) → AllByRecursion IsPrintable ws → AllByRecursion (λ w. is_printable_name w ≡ true) ws
 words [] h = tt
 words (w ∷ ws) h = (word w h.0, words ws h.1)
 
@@ -46,7 +46,7 @@ module _ (m : Mode) (p : PlainProblem) (n : ℕ) (refutation : Refutation) (text
   pub run_named : IsNamed (names_in p) refutation
   run_named = accepted_named (names_in p) (scope_of p.declared) (named_all p) (start (unfolded_problem p)) refutation r.accepted
 
-  pub proof_of_run : AreDeclared p (taken_names p) → (text : List ℕ) → text ≡ as_bytes (text_lines (named_refutation (names_in p) (taken_names p) refutation)) → IsProofOf m p n text
+  pub proof_of_run : AreDeclaredNames p (taken_names p) → (text : List ℕ) → text ≡ as_bytes (text_lines (named_refutation (names_in p) (taken_names p) refutation)) → IsProofOf m p n text
   proof_of_run declared text t = record {
     refutation = refutation;
     refuted = r;

@@ -18,20 +18,20 @@ use Rattle.tableau_calculus.specs.declared.refutation.RuleUse.{RuleUse}
 use Rattle.tableau_calculus.specs.declared.refutation.RuleUse.TheVariants as rule
 use Rattle.tableau_calculus.specs.declared.refutation.Line.{Line}
 use Rattle.tableau_calculus.specs.declared.refutation.Refutation.{Refutation}
-use Rattle.refute_print.specs.Letters.{is_name}
+use Rattle.refute_print.specs.Letters.{is_printable_name}
 use Rattle.refute_print.specs.Limits as text
-use Rattle.refute_print.specs.Limits.{constant_depth, term_depth, spine_depth, IsType, IsConstant, IsTerm, IsSpine, IsWithin, IsLiteral, IsRule, IsLine}
+use Rattle.refute_print.specs.Limits.{constant_depth, term_depth, spine_depth, IsType, IsConstant, IsTerm, IsSpine, IsWithinLimits, IsLiteralText, IsRule, IsLine}
 use Rattle.refute_print.specs.Sizes.{term_limit, nesting, nesting_in, type_depth, IsSmallTerm, AreSmallLiterals, IsSmallRule, IsSmallLine, IsSmall}
-use Rattle.refute_print.specs.Named.{Names, name_at, named_type, named_constant, named_term, named_literal, named_rule, named_line, named_refutation, HasTypeNames, HasConstantNames, ArePlaces}
-use Rattle.refute_text.specs.Reading.{IsName, HasText}
+use Rattle.refute_print.specs.Named.{Names, name_numbered, named_type, named_constant, named_term, named_literal, named_rule, named_line, named_refutation, HasTypeNames, HasConstantNames, ArePlaces}
+use Rattle.refute_text.specs.Reading.{IsTextName, HasText}
 use Rattle.request_answers.proofs.NameLaws.{NamesAll, type_named, constant_named}
 
 -- the names are THF's
 pub record AreWords (names : Names) : Type 0 where
-  pub bases : AllByRecursion (λ w. is_name w ≡ true) names.bases
-  pub constants : AllByRecursion (λ w. is_name w ≡ true) names.constants
+  pub bases : AllByRecursion (λ w. is_printable_name w ≡ true) names.bases
+  pub constants : AllByRecursion (λ w. is_printable_name w ≡ true) names.constants
 
-word_at : (names : List (List ℕ)) (k : ℕ) → AllByRecursion (λ w. is_name w ≡ true) names → k < length names → is_name (name_at names k) ≡ true
+word_at : (names : List (List ℕ)) (k : ℕ) → AllByRecursion (λ w. is_printable_name w ≡ true) names → k < length names → is_printable_name (name_numbered names k) ≡ true
 word_at [] k h within = absurd (omega arith)
 word_at (w ∷ names) zero h within = h.0
 word_at (w ∷ names) (suc k) h within = word_at names k h.1 (omega arith)
@@ -60,7 +60,7 @@ module _ (names : Names) (words : AreWords names) where
   constant_word scope (description b) a few t h = type_word b h
 
 -- names change no depth
-type_nests : (names : Names) (a : SimpleType) → text.type_depth (named_type names a) ≡ nesting a
+type_nests : (names : Names) (a : SimpleType) → text.type_tree_depth (named_type names a) ≡ nesting a
 type_nests names (base zero) = refl
 type_nests names (base (suc zero)) = refl
 type_nests names (base (suc (suc k))) = refl
@@ -100,8 +100,8 @@ mutual
       let own = term_nests names scope (c ∷ ctx) b s h.1.1 in
       let one = max_first (nesting c) (type_depth s) in
       let two = max_second (nesting c) (type_depth s) in
-      let both = max_bound (text.type_depth (named_type names c)) (term_depth (named_term names s)) (depth s + max (nesting c) (type_depth s) + 1) (omega (arith, e, one)) (omega (arith, own, two)) in
-      let g : suc (max (text.type_depth (named_type names c)) (term_depth (named_term names s))) ≤ suc (depth s) + max (nesting c) (type_depth s) + 1 = omega (arith, both) in
+      let both = max_bound (text.type_tree_depth (named_type names c)) (term_depth (named_term names s)) (depth s + max (nesting c) (type_depth s) + 1) (omega (arith, e, one)) (omega (arith, own, two)) in
+      let g : suc (max (text.type_tree_depth (named_type names c)) (term_depth (named_term names s))) ≤ suc (depth s) + max (nesting c) (type_depth s) + 1 = omega (arith, both) in
       g
   term_nests names scope ctx a (app s u) h =
       let head = spine_nests names scope ctx (arrow h.1.0 a) s h.1.1 in
@@ -139,7 +139,7 @@ mutual
 abbrev IsNegation : SimpleType → Lambda → Type 0
 IsNegation a t = ((a ≡ arrow formula formula) × (t ≡ constant negation)) ⊎ ((a ≡ formula) × (plain.is_negated t ≡ true))
 
-neutral_negated : (names : Names) (scope : Scope) (ctx : List SimpleType) (a : SimpleType) (t : Lambda) → IsNeutral scope ctx a t → text.is_negated (named_term names t) ≡ true → IsNegation a t
+neutral_negated : (names : Names) (scope : Scope) (ctx : List SimpleType) (a : SimpleType) (t : Lambda) → IsNeutral scope ctx a t → text.is_negated_text (named_term names t) ≡ true → IsNegation a t
 neutral_negated names scope ctx a (bound k) h e = cc
 neutral_negated names scope ctx a (constant (name k)) h e = cc
 neutral_negated names scope ctx a (constant (witness k)) h e = cc
@@ -158,11 +158,11 @@ neutral_negated names scope ctx a (app s u) h e = go (neutral_negated names scop
     go (inr q) = let r = q.0 in cc
 
 -- the head of a literal's atom isn't negation
-unsigned : (names : Names) (scope : Scope) (t : Lambda) → IsCanonical scope [] formula t → plain.is_negated t ≡ false → text.is_negated (named_term names t) ≡ false
+unsigned : (names : Names) (scope : Scope) (t : Lambda) → IsCanonical scope [] formula t → plain.is_negated t ≡ false → text.is_negated_text (named_term names t) ≡ false
 unsigned names scope (bound k) h e = refl
 unsigned names scope (constant c) h e = constant_unsigned c h.1
   where
-    constant_unsigned : (c : Constant) → constant_type scope c ≡ Some formula → text.is_negated (named_term names (constant c)) ≡ false
+    constant_unsigned : (c : Constant) → constant_type scope c ≡ Some formula → text.is_negated_text (named_term names (constant c)) ≡ false
     constant_unsigned (name k) t = refl
     constant_unsigned (witness k) t = refl
     constant_unsigned falsity t = refl
@@ -173,13 +173,13 @@ unsigned names scope (constant c) h e = constant_unsigned c h.1
     constant_unsigned (choice b) t = refl
     constant_unsigned (description b) t = refl
 unsigned names scope (lam c s) h e = refl
-unsigned names scope (app s u) h e = go (text.is_negated (named_term names s)) refl
+unsigned names scope (app s u) h e = go (text.is_negated_text (named_term names s)) refl
   where
-    go : (b : Bool) → text.is_negated (named_term names s) ≡ b → text.is_negated (named_term names s) ≡ false
+    go : (b : Bool) → text.is_negated_text (named_term names s) ≡ b → text.is_negated_text (named_term names s) ≡ false
     go false k = k
     go true k = by (neutral_negated names scope [] (arrow h.1.0 formula) s h.1.1 k)
       where
-        by : IsNegation (arrow h.1.0 formula) s → text.is_negated (named_term names s) ≡ false
+        by : IsNegation (arrow h.1.0 formula) s → text.is_negated_text (named_term names s) ≡ false
         by (inl q) = let bad : plain.is_negated (app s u) ≡ true = subst (λ x. plain.is_negated (app x u) ≡ true) (sym q.1) refl in cc
         by (inr q) = let r = q.0 in cc
 
@@ -204,16 +204,16 @@ module _ (names : Names) (words : AreWords names) (scope : Scope) (all_named : N
         let second = max_second (depth s) (suc (depth u)) in
         (neutral_text ctx (arrow h.0 a) s (omega (arith, small, first)) h.1, canonical_text ctx h.0 u (omega (arith, small, second)) h.2)
 
-  term_written : (a : SimpleType) (t : Lambda) → IsCanonical scope [] a t → IsSmallTerm t → IsWithin (named_term names t)
+  term_written : (a : SimpleType) (t : Lambda) → IsCanonical scope [] a t → IsSmallTerm t → IsWithinLimits (named_term names t)
   term_written a t h small = record {
     is_term = canonical_text [] a t (let d = small.terms in omega (arith, d)) h;
     within = let n = term_nests names scope [] a t h in let d = small.terms in let e = small.types in omega (arith, n, d, e);
   }
 
-  literal_written : (l : Literal) → plain.IsLiteral scope l → IsSmallTerm l.atom → IsLiteral (named_literal names l)
+  literal_written : (l : Literal) → plain.IsLiteral scope l → IsSmallTerm l.atom → IsLiteralText (named_literal names l)
   literal_written l h small = record { atom = term_written formula l.atom h.formula small; unsigned = unsigned names scope l.atom h.formula h.unsigned }
 
-  branch_written : (ls : List Literal) → IsBranch scope ls → AreSmallLiterals ls → AllByRecursion IsLiteral (map (named_literal names) ls)
+  branch_written : (ls : List Literal) → IsBranch scope ls → AreSmallLiterals ls → AllByRecursion IsLiteralText (map (named_literal names) ls)
   branch_written [] h small = tt
   branch_written (l ∷ ls) h small = (literal_written l h.0 small.0, branch_written ls h.1 small.1)
 
@@ -243,7 +243,7 @@ module _ (names : Names) (words : AreWords names) (scope : Scope) (all_named : N
     lines_written rows (earlier ++ l ∷ []) lines h.1 small.1,
   )
 
-rows_written : (names : Names) (words : AreWords names) (scope : Scope) (n : NamesAll names scope) (earlier rows : List Row) → length earlier + length rows ≤ 2 ^ 32 → IsTableAfter scope earlier rows → AllByRecursion (λ (row : Row). IsSmallTerm row.predicate) rows → AllByRecursion IsWithin (map (λ (row : Row). named_term names row.predicate) rows)
+rows_written : (names : Names) (words : AreWords names) (scope : Scope) (n : NamesAll names scope) (earlier rows : List Row) → length earlier + length rows ≤ 2 ^ 32 → IsTableAfter scope earlier rows → AllByRecursion (λ (row : Row). IsSmallTerm row.predicate) rows → AllByRecursion IsWithinLimits (map (λ (row : Row). named_term names row.predicate) rows)
 rows_written names words scope n earlier [] few h small = tt
 rows_written names words scope n earlier (r ∷ rows) few h small =
     let own = length-map earlier (λ (q : Row). q.type) in
@@ -253,7 +253,7 @@ rows_written names words scope n earlier (r ∷ rows) few h small =
     )
 
 -- the names at places of the list
-taken_words : (names : Names) → AreWords names → (taken : List ℕ) → ArePlaces names taken → AllByRecursion IsName (map (name_at names.constants) taken)
+taken_words : (names : Names) → AreWords names → (taken : List ℕ) → ArePlaces names taken → AllByRecursion IsTextName (map (name_numbered names.constants) taken)
 taken_words names words [] h = tt
 taken_words names words (k ∷ taken) h = (word_at names.constants k words.constants h.0, taken_words names words taken h.1)
 

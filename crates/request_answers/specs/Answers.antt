@@ -15,7 +15,7 @@ use Rattle.szs_report.specs.declared.outcome.Outcome.{Outcome}
 use Rattle.szs_report.specs.declared.outcome.Outcome.TheVariants as ended
 use Rattle.request_answers.specs.Requested.{problem_name, mode_file, told_of, contents_of}
 use Rattle.request_answers.specs.Files.{OfFiles}
-use Rattle.request_answers.specs.Modes.{IsLong, IsModeBy, IsBadMode}
+use Rattle.request_answers.specs.Modes.{IsLongFile, IsModeBy, IsBadMode}
 use Rattle.request_answers.specs.Checked.{AnswersText}
 use Rattle.request_answers.specs.Solved.{IsSolved, IsDemoed}
 
@@ -56,7 +56,7 @@ pub record AnswersFiles (r : Request) (told : Bool) (contents : List ℕ → Opt
 abbrev pub AnswersRequest : Request → Bool → (List ℕ → Option (List ℕ)) → Answer → Type 0
 AnswersRequest r told contents Memory = Unit {0}
 AnswersRequest r told contents (ReadFault (named.Mode file)) = mode_file r ≡ Some file
-AnswersRequest r told contents (TooLong (named.Mode file)) = (mode_file r ≡ Some file) × IsLong told contents file
+AnswersRequest r told contents (TooLong (named.Mode file)) = (mode_file r ≡ Some file) × IsLongFile told contents file
 AnswersRequest r told contents (ModeAt line why) = IsBadMode told contents (mode_file r) line why
 AnswersRequest r told contents answer = AnswersFiles r told contents answer
 

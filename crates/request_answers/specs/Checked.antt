@@ -12,7 +12,7 @@ use Rattle.refute_text.specs.Reading.{TextReading, read, bad_line, no_start, no_
 use Rattle.refute_check.specs.Numbered.{numbered_refutation}
 use Rattle.refute_check.specs.Acceptance.{IsAcceptedFor, TextFailsAt}
 use Rattle.request_answers.specs.Names.{names_in}
-use Rattle.request_answers.specs.Modes.{OfFile, IsLong}
+use Rattle.request_answers.specs.Modes.{OfFile, IsLongFile}
 use Rattle.szs_report.specs.declared.answer.NamedFile.TheVariants.{Check}
 use Rattle.szs_report.specs.declared.answer.Answer.{Answer}
 use Rattle.szs_report.specs.declared.answer.Answer.TheVariants.{Accepted, Refused, TooLong, ReadFault, Memory}
@@ -48,7 +48,7 @@ AnswersBytes p bytes answer = ⊥
 abbrev pub AnswersText : Bool → (List ℕ → Option (List ℕ)) → List ℕ → PlainProblem → Answer → Type 0
 AnswersText told contents file p Memory = Unit {0}
 AnswersText told contents file p (ReadFault (Check name)) = name ≡ file
-AnswersText told contents file p (TooLong (Check name)) = (name ≡ file) × IsLong told contents file
+AnswersText told contents file p (TooLong (Check name)) = (name ≡ file) × IsLongFile told contents file
 AnswersText told contents file p answer = OfFile told contents file (λ bytes. AnswersBytes p bytes answer)
 
 -- The bytes hold one refutation, which is this one, with the names of the definitions that are taken: so they are read, and in no other way.

@@ -3,7 +3,7 @@ use Rattle.std.specs.Prelude.{◌≡◌, ◌<◌, ◌≤◌, ℕ, Bool, IsTrue, 
 use Rattle.mode_file.specs.declared.Mode.{Mode}
 use Rattle.mode_file.specs.declared.refused.ModeRefused.{ModeRefused}
 use Rattle.mode_file.specs.declared.refused.ModeRefused.TheVariants as refusal
-use Rattle.mode_file.specs.Given.{nothing, mode_of}
+use Rattle.mode_file.specs.Given.{nothing_given, mode_of}
 use Rattle.outside.specs.Lines.{lines_of}
 use Rattle.mode_file.specs.Grammar.{States}
 use Rattle.mode_file.specs.Refusals.{Refuses}
@@ -22,12 +22,12 @@ pub record OfFile (told : Bool) (contents : List ℕ → Option (List ℕ)) (fil
   pub holds : P bytes
 
 -- a file holds more bytes than it may have
-abbrev pub IsLong : Bool → (List ℕ → Option (List ℕ)) → List ℕ → Type 0
-IsLong told contents file = IsTrue told → (bytes : List ℕ) × (contents file ≡ Some bytes) × (byte_limit < length bytes)
+abbrev pub IsLongFile : Bool → (List ℕ → Option (List ℕ)) → List ℕ → Type 0
+IsLongFile told contents file = IsTrue told → (bytes : List ℕ) × (contents file ≡ Some bytes) × (byte_limit < length bytes)
 
 -- the mode that a file states, or the standard one where no file is named
 abbrev pub IsModeBy : Bool → (List ℕ → Option (List ℕ)) → Option (List ℕ) → Mode → Type 0
-IsModeBy told contents None mode = mode ≡ mode_of nothing
+IsModeBy told contents None mode = mode ≡ mode_of nothing_given
 IsModeBy told contents (Some file) mode = OfFile told contents file (λ bytes. States (lines_of bytes) mode)
 
 -- the refusal of a line, for a cause

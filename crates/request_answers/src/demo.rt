@@ -4,7 +4,7 @@ ghost use Rattle.std.specs.Prelude.{◌≡◌, ◌≤◌, ◌<◌, ◌++◌, ℕ
 ghost use Rattle.refute_text.specs.Reading.{is_one_line};
 ghost use Rattle.problem_gen.specs.Chain.{text};
 ghost use Rattle.cli_words.specs.Requests.{generated};
-ghost use Rattle.mode_file.specs.Given.{nothing, mode_of};
+ghost use Rattle.mode_file.specs.Given.{nothing_given, mode_of};
 ghost use Rattle.request_answers.specs.Internal.Texts.{HasTexts};
 ghost use Rattle.request_answers.specs.Checked.{IsAcceptedText};
 ghost use Rattle.request_answers.specs.Internal.Unread.{verdict_of};
@@ -92,8 +92,8 @@ fn checked(
 ) -> Result<Answer, AllocError>
     requires texts { HasTexts problem.now }
     requires named { is_one_line name.now ≡ true }
-    requires solved { IsSolved (mode_of nothing) problem.now answer }
-    ensures { IfOk result (IsDemoed (mode_of nothing) problem.now) }
+    requires solved { IsSolved (mode_of nothing_given) problem.now answer }
+    ensures { IfOk result (IsDemoed (mode_of nothing_given) problem.now) }
 {
     let Answer::Proved {
         claim,
@@ -118,7 +118,7 @@ fn checked(
 fn demo_answer(alloc: Global, problem: &Problem, name: &str) -> Answer
     requires texts { HasTexts problem.now }
     requires named { is_one_line name.now ≡ true }
-    ensures { IsDemoed (mode_of nothing) problem.now result }
+    ensures { IsDemoed (mode_of nothing_given) problem.now result }
 {
     let answer = solve(alloc, problem, &Mode::standard());
     checked(alloc, problem, name, answer).unwrap_or(Answer::Memory)

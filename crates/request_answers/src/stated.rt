@@ -10,7 +10,7 @@ ghost use Rattle.request_answers.specs.Internal.Texts.{HasTexts};
 ghost use Rattle.request_answers.specs.Internal.RefusedFiles.{refused_answer};
 ghost use Rattle.request_answers.specs.Causes.{IsFaultIn};
 ghost use Rattle.request_answers.specs.Internal.ReadFaults.{IsNoReadFault};
-ghost use Rattle.request_answers.specs.Internal.Unread.{IsIll, IsUnread};
+ghost use Rattle.request_answers.specs.Internal.Unread.{IsIllProblem, IsUnread};
 ghost use Rattle.szs_report.specs.declared.answer.Answer.TheVariants as answer;
 ghost use Rattle.szs_report.specs.declared.answer.NamedFile.TheVariants.{Part};
 
@@ -61,7 +61,7 @@ fn check_problem(alloc: Global, gathered: &Gathered, names: FileNames) -> Result
     requires printable { AllDeclared IsPrintable (the_statements gathered.now) }
     ensures stated { IfOk result (λ p. problem_of (the_statements gathered.now) ≡ Ok p) }
     ensures texts { IfOk result (λ p. HasTexts p) }
-    ensures ill { IfErr result (IsIll names (the_statements gathered.now)) }
+    ensures ill { IfErr result (IsIllProblem names (the_statements gathered.now)) }
 {
     match check(alloc, gathered) {
         Ok(problem) => Ok(problem),

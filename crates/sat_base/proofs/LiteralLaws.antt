@@ -7,7 +7,7 @@ use Rattle.std.specs.Bool.{beq}
 use Rattle.std.specs.List.{All}
 use Rattle.sat_base.specs.declared.literal.Var.{Var}
 use Rattle.sat_base.specs.declared.literal.SatLit.{SatLit}
-use Rattle.sat_base.specs.Literal.{literal, positive, negative, negated, same_var, same_literal, holds, mentions, HoldsNoVariableTwice}
+use Rattle.sat_base.specs.Literal.{literal, positive, negative, negated, same_var, same_literal, holds, mentions_variable, HoldsNoVariableTwice}
 
 -- the tests for equality tell the truth
 pub same_var-refl : (v : Var) → same_var v v ≡ true
@@ -70,7 +70,7 @@ pub holds-append : (xs ys : List SatLit) (l : SatLit) → holds (xs ++ ys) l ≡
 holds-append xs ys l = list_any-append (same_literal l) xs ys
 
 -- a variable of a literal that is held is mentioned
-pub mentions-held : (literals : List SatLit) (l : SatLit) → holds literals l ≡ true → mentions literals l.var ≡ true
+pub mentions-held : (literals : List SatLit) (l : SatLit) → holds literals l ≡ true → mentions_variable literals l.var ≡ true
 mentions-held [] l h = absurd (false≢true h)
 mentions-held (m ∷ literals) l h =
     elim (or_cases (same_literal l m) (holds literals l) h) [
@@ -85,10 +85,10 @@ not_both (l ∷ literals) v apart p n =
     elim (or_cases (same_literal (positive v) l) (holds literals (positive v)) p) [
       | inl here ↦ elim (or_cases (same_literal (negative v) l) (holds literals (negative v)) n) [
         | inl also ↦ let same : positive v ≡ negative v = same_literal-true (positive v) l here ∙ sym (same_literal-true (negative v) l also) in cc
-        | inr later ↦ false≢true (sym apart.0 ∙ subst (λ (w : Var). mentions literals w ≡ true) (ap (λ (k : SatLit). k.var) (same_literal-true (positive v) l here)) (mentions-held literals (negative v) later))
+        | inr later ↦ false≢true (sym apart.0 ∙ subst (λ (w : Var). mentions_variable literals w ≡ true) (ap (λ (k : SatLit). k.var) (same_literal-true (positive v) l here)) (mentions-held literals (negative v) later))
       ]
       | inr later ↦ elim (or_cases (same_literal (negative v) l) (holds literals (negative v)) n) [
-        | inl here ↦ false≢true (sym apart.0 ∙ subst (λ (w : Var). mentions literals w ≡ true) (ap (λ (k : SatLit). k.var) (same_literal-true (negative v) l here)) (mentions-held literals (positive v) later))
+        | inl here ↦ false≢true (sym apart.0 ∙ subst (λ (w : Var). mentions_variable literals w ≡ true) (ap (λ (k : SatLit). k.var) (same_literal-true (negative v) l here)) (mentions-held literals (positive v) later))
         | inr also ↦ not_both literals v apart.1 later also
       ]
     ]

@@ -33,13 +33,13 @@ abbrev pub holds : List SatLit → SatLit → Bool
 holds literals l = list_any (same_literal l) literals
 
 -- whether the variable stands in the list, with either sign
-abbrev pub mentions : List SatLit → Var → Bool
-mentions literals v = list_any (λ l. same_var v l.var) literals
+abbrev pub mentions_variable : List SatLit → Var → Bool
+mentions_variable literals v = list_any (λ l. same_var v l.var) literals
 
 -- no variable stands in the list twice, with one sign or with both
 abbrev pub HoldsNoVariableTwice : List SatLit → Type 0
 HoldsNoVariableTwice [] = Unit {0}
-HoldsNoVariableTwice (l ∷ literals) = (mentions literals l.var ≡ false) × HoldsNoVariableTwice literals
+HoldsNoVariableTwice (l ∷ literals) = (mentions_variable literals l.var ≡ false) × HoldsNoVariableTwice literals
 
 -- two clauses are alike as sets: they hold the same literals
 abbrev pub IsAlike : List SatLit → List SatLit → Type 0

@@ -8,11 +8,11 @@ use Rattle.std.proofs.lemmas.List.Elements.{All-weaker}
 use Rattle.std.proofs.lemmas.Option.{slice_get_within, slice_get-map, same_Some, get_or_from_slice_get}
 use Rattle.sat_base.specs.declared.literal.Var.{Var}
 use Rattle.sat_base.specs.declared.literal.SatLit.{SatLit}
-use Rattle.sat_base.specs.Literal.{positive, negative, negated, same_var, same_literal, holds, mentions, HoldsNoVariableTwice, IsOver}
+use Rattle.sat_base.specs.Literal.{positive, negative, negated, same_var, same_literal, holds, mentions_variable, HoldsNoVariableTwice, IsOver}
 use Rattle.sat_base.proofs.LiteralLaws.{same_literal-refl, same_literal-true, same_literal-negated, negated-negated, mentions-held, All-held, All-from_held}
 use Rattle.sat_log.specs.declared.chain.Premise.{Premise}
 use Rattle.sat_log.specs.declared.chain.ChainStep.{ChainStep}
-use Rattle.sat_log.specs.Resolution.{without, resolved, resolvent}
+use Rattle.sat_log.specs.Resolution.{without_literal, resolved, resolvent}
 use Rattle.sat_log.proofs.VariableLaws.{twice_from_false, mentioned_as}
 use Rattle.std.specs.Prelude.{if◌then◌else◌}
 use Rattle.sat_log.specs.Chains.{premise_clause, after_step, after_steps, chain_result}
@@ -27,22 +27,22 @@ use Rattle.sat_laws.proofs.AnalysisLaws.{IsOutcome, step_resolves, outcome_false
 use Rattle.sat_propagate.specs.Internal.Trail.{TrailState, literals, IsTrail}
 use Rattle.sat_propagate.specs.Internal.Propagator.{texts}
 use Rattle.sat_core.specs.Internal.Marks.{is_marked, marks_literal, others}
-use Rattle.sat_core.specs.Internal.Learned.{AreNamed, IsLearned, IsAnalysed, IsRefuting}
+use Rattle.sat_core.specs.Internal.Learned.{AreNamedPremises, IsLearned, IsAnalysed, IsRefuting}
 use Rattle.sat_propagate.specs.declared.trail.Step.{Step}
 use Rattle.sat_propagate.specs.Internal.ClauseTable.{Watched}
 use Rattle.sat_propagate.proofs.PlaceLaws.{literal_at, once_place}
 use Rattle.sat_propagate.proofs.TableLaws.{get_or-any}
 
 -- a literal whose negation is true has a variable with a value
-pub valued_by_negation : (some : List SatLit) (l : SatLit) → holds some (negated l) ≡ true → mentions some l.var ≡ true
+pub valued_by_negation : (some : List SatLit) (l : SatLit) → holds some (negated l) ≡ true → mentions_variable some l.var ≡ true
 valued_by_negation some l h = mentions-held some (negated l) h
 
 -- the literals of a reason have values
 pub reason_valued : (trail : TrailState) (i : ℕ) (step : Step) (reason : List SatLit) → slice_get trail.steps i ≡ Some step → IsUnit (take i (literals trail.steps)) reason step.literal
-    → (l : SatLit) → holds reason l ≡ true → mentions (literals trail.steps) l.var ≡ true
+    → (l : SatLit) → holds reason l ≡ true → mentions_variable (literals trail.steps) l.var ≡ true
 reason_valued trail i step reason at unit l h =
     elim (cases_Bool (same_literal l step.literal)) [
-      | inl same ↦ ap (λ (k : SatLit). mentions (literals trail.steps) k.var) (same_literal-true l step.literal same)
+      | inl same ↦ ap (λ (k : SatLit). mentions_variable (literals trail.steps) k.var) (same_literal-true l step.literal same)
           ∙ mentions-held (literals trail.steps) step.literal (held_at (literals trail.steps) i step.literal (literal_at trail.steps i step at))
       | inr other ↦ valued_by_negation (literals trail.steps) l (held-take i (literals trail.steps) (negated l)
           (unit.others l h (λ e. false≢true (sym other ∙ subst (λ (k : SatLit). same_literal l k ≡ true) e (same_literal-refl l)))))
@@ -114,14 +114,14 @@ once_resolved trail v a b outcome place consistent e below =
 pub analysed_next : (clauses : List Watched) (trail : TrailState) (names : List Premise) (conflict start : ℕ) (marks after : List Bool) (steps : List ChainStep) (late more place n : ℕ) (step : Step) (watched : Watched) (name : Premise)
     → IsAnalysed clauses trail names conflict start marks steps late place → IsTrail trail → 0 < place → slice_get trail.steps (place - 1) ≡ Some step → is_marked marks step.literal.var ≡ true
     → slice_get clauses n ≡ Some watched → IsUnit (take (place - 1) (literals trail.steps)) watched.clause step.literal → slice_get names n ≡ Some name
-    → ((v : Var) → is_marked after v ≡ ((is_marked marks v && not (same_var v step.literal.var)) || mentions (others (Some step.literal) watched.clause) v))
+    → ((v : Var) → is_marked after v ≡ ((is_marked marks v && not (same_var v step.literal.var)) || mentions_variable (others (Some step.literal) watched.clause) v))
     → more ≡ how_many (marks_literal after) (drop start (literals trail.steps)) → late ≤ more + 1 → late ≢ 1
     → IsAnalysed clauses trail names conflict start after (steps ++ record { var = step.literal.var; premise = name } ∷ []) more (place - 1)
 analysed_next clauses trail names conflict start marks after steps late more place n step watched name a right positive at marked there unit named marks_after counted late_le late_ne = record {
   so_far = made.0;
   below = below_next;
   marked = λ v. marks_after v
-      ∙ ap (λ (b : Bool). (b && not (same_var v step.literal.var)) || mentions (without step.literal watched.clause) v) (a.marked v)
+      ∙ ap (λ (b : Bool). (b && not (same_var v step.literal.var)) || mentions_variable (without_literal step.literal watched.clause) v) (a.marked v)
       ∙ sym (outcome_mentions step.literal a.so_far watched.clause made.0 made.2 denied.1 (reason_undenied trail (place - 1) step watched.clause right at unit) v);
   counted = counted;
   some = let once_at_least = a.some in omega arith;
@@ -272,7 +272,7 @@ contains_text clauses n watched at =
 -- the analysis begins with the clause that is false
 pub analysed_start : (clauses : List Watched) (trail : TrailState) (names : List Premise) (conflict start : ℕ) (cleared marks : List Bool) (late place : ℕ) (watched : Watched)
     → IsTrail trail → IsComplete (texts clauses) (take start (literals trail.steps)) → slice_get clauses conflict ≡ Some watched → IsFalseIn (literals trail.steps) watched.clause
-    → ((v : Var) → is_marked cleared v ≡ false) → ((v : Var) → is_marked marks v ≡ (is_marked cleared v || mentions (others None watched.clause) v))
+    → ((v : Var) → is_marked cleared v ≡ false) → ((v : Var) → is_marked marks v ≡ (is_marked cleared v || mentions_variable (others None watched.clause) v))
     → late + how_many (marks_literal cleared) (drop start (literals trail.steps)) ≡ how_many (marks_literal marks) (drop start (literals trail.steps)) → place ≡ length trail.steps
     → IsAnalysed clauses trail names conflict start marks [] late place
 analysed_start clauses trail names conflict start cleared marks late place watched right complete there each clear marks_are counted place_is = record {
@@ -299,8 +299,8 @@ analysed_start clauses trail names conflict start cleared marks late place watch
     filter_all [] = refl
     filter_all (l ∷ some) = ap (λ (rest : List SatLit). l ∷ rest) (filter_all some)
 
-    marked_is : (v : Var) → is_marked marks v ≡ mentions watched.clause v
-    marked_is v = marks_are v ∙ ap (λ (b : Bool). b || mentions (others None watched.clause) v) (clear v) ∙ ap (λ (some : List SatLit). mentions some v) (filter_all watched.clause)
+    marked_is : (v : Var) → is_marked marks v ≡ mentions_variable watched.clause v
+    marked_is v = marks_are v ∙ ap (λ (b : Bool). b || mentions_variable (others None watched.clause) v) (clear v) ∙ ap (λ (some : List SatLit). mentions_variable some v) (filter_all watched.clause)
 
     none_counted : (xs : List SatLit) → how_many (marks_literal cleared) xs ≡ 0
     none_counted [] = refl
@@ -335,13 +335,13 @@ pub contains_at : {X : Type 0} (xs : List X) (i : ℕ) (x : X) → slice_get xs 
 contains_at xs i x at = (i, slice_get_within xs i x at, get_or_from_slice_get xs i x x at)
 
 -- the clause that is false has literals with values
-pub conflict_valued : (trail : TrailState) (clause read : List SatLit) → IsFalseIn (literals trail.steps) clause → read ≡ clause → (l : SatLit) → holds read l ≡ true → mentions (literals trail.steps) l.var ≡ true
+pub conflict_valued : (trail : TrailState) (clause read : List SatLit) → IsFalseIn (literals trail.steps) clause → read ≡ clause → (l : SatLit) → holds read l ≡ true → mentions_variable (literals trail.steps) l.var ≡ true
 conflict_valued trail clause read each is l h =
     valued_by_negation (literals trail.steps) l (All-held (λ m. IsTrue (holds (literals trail.steps) (negated m))) clause l each (ap (λ (some : List SatLit). holds some l) (sym is) ∙ h))
 
 -- The steps of `refuted_chain`.
 
-refuting_denied : (trail : TrailState) (so_far : List SatLit) (marks : List Bool) (place : ℕ) (step : Step) → IsFalseBefore place (literals trail.steps) so_far → ((v : Var) → is_marked marks v ≡ mentions so_far v)
+refuting_denied : (trail : TrailState) (so_far : List SatLit) (marks : List Bool) (place : ℕ) (step : Step) → IsFalseBefore place (literals trail.steps) so_far → ((v : Var) → is_marked marks v ≡ mentions_variable so_far v)
     → IsTrail trail → slice_get trail.steps (place - 1) ≡ Some step → is_marked marks step.literal.var ≡ true
     → (holds so_far (negated step.literal) ≡ true) × (holds so_far step.literal ≡ false)
 refuting_denied trail so_far marks place step below marked right at there = (
@@ -359,14 +359,14 @@ refuting_denied trail so_far marks place step below marked right at there = (
 pub refuting_next : (clauses : List Watched) (trail : TrailState) (names : List Premise) (first : Premise) (clause : List SatLit) (marks after : List Bool) (steps : List ChainStep) (place n : ℕ) (step : Step) (watched : Watched) (name : Premise)
     → IsRefuting clauses trail names first clause marks steps place → IsTrail trail → 0 < place → slice_get trail.steps (place - 1) ≡ Some step → is_marked marks step.literal.var ≡ true
     → slice_get clauses n ≡ Some watched → IsUnit (take (place - 1) (literals trail.steps)) watched.clause step.literal → slice_get names n ≡ Some name
-    → ((v : Var) → is_marked after v ≡ ((is_marked marks v && not (same_var v step.literal.var)) || mentions (others (Some step.literal) watched.clause) v))
+    → ((v : Var) → is_marked after v ≡ ((is_marked marks v && not (same_var v step.literal.var)) || mentions_variable (others (Some step.literal) watched.clause) v))
     → IsRefuting clauses trail names first clause after (steps ++ record { var = step.literal.var; premise = name } ∷ []) (place - 1)
 refuting_next clauses trail names first clause marks after steps place n step watched name a right positive at marked there unit named marks_after = record {
   so_far = made.0;
   below = outcome_false (literals trail.steps) a.so_far watched.clause made.0 (place - 1) step.literal (literal_at trail.steps (place - 1) step at)
       (subst (λ (k : ℕ). IsFalseBefore k (literals trail.steps) a.so_far) place_is a.below) unit made.2;
   marked = λ v. marks_after v
-      ∙ ap (λ (b : Bool). (b && not (same_var v step.literal.var)) || mentions (without step.literal watched.clause) v) (a.marked v)
+      ∙ ap (λ (b : Bool). (b && not (same_var v step.literal.var)) || mentions_variable (without_literal step.literal watched.clause) v) (a.marked v)
       ∙ sym (outcome_mentions step.literal a.so_far watched.clause made.0 made.2 denied.1 (reason_undenied trail (place - 1) step watched.clause right at unit) v);
   derived = λ store results are_named is.
       chain_result-push store results first steps (record { var = step.literal.var; premise = name }) a.so_far made.0 (a.derived store results are_named is)
@@ -406,12 +406,12 @@ refuting_skip clauses trail names first clause marks steps place step a at unmar
         ]
 
 pub refuting_start : (clauses : List Watched) (trail : TrailState) (names : List Premise) (first : Premise) (clause : List SatLit) (cleared marks : List Bool) (place : ℕ)
-    → IsFalseIn (literals trail.steps) clause → ((v : Var) → is_marked cleared v ≡ false) → ((v : Var) → is_marked marks v ≡ (is_marked cleared v || mentions (others None clause) v)) → place ≡ length trail.steps
+    → IsFalseIn (literals trail.steps) clause → ((v : Var) → is_marked cleared v ≡ false) → ((v : Var) → is_marked marks v ≡ (is_marked cleared v || mentions_variable (others None clause) v)) → place ≡ length trail.steps
     → IsRefuting clauses trail names first clause marks [] place
 refuting_start clauses trail names first clause cleared marks place each clear marks_are place_is = record {
   so_far = clause;
   below = λ l h. ap (λ (some : List SatLit). holds some (negated l)) whole ∙ All-held (λ m. IsTrue (holds (literals trail.steps) (negated m))) clause l each h;
-  marked = λ v. marks_are v ∙ ap (λ (b : Bool). b || mentions (others None clause) v) (clear v) ∙ ap (λ (some : List SatLit). mentions some v) (filter_all clause);
+  marked = λ v. marks_are v ∙ ap (λ (b : Bool). b || mentions_variable (others None clause) v) (clear v) ∙ ap (λ (some : List SatLit). mentions_variable some v) (filter_all clause);
   derived = λ store results are_named is. ap (option_and_then (λ c. Some c)) is;
 }
   where
@@ -428,7 +428,7 @@ none_held [] none = refl
 none_held (l ∷ some) none = absurd (none l (or_left _ _ (same_literal-refl l)))
 
 pub refuting_end : (clauses : List Watched) (trail : TrailState) (names : List Premise) (first : Premise) (clause : List SatLit) (marks : List Bool) (steps : List ChainStep) (place : ℕ)
-    → IsRefuting clauses trail names first clause marks steps place → place ≤ 0 → (store results : List (List SatLit)) → AreNamed store results names clauses → premise_clause store results first ≡ Some clause
+    → IsRefuting clauses trail names first clause marks steps place → place ≤ 0 → (store results : List (List SatLit)) → AreNamedPremises store results names clauses → premise_clause store results first ≡ Some clause
     → chain_result store results (record { first = first; steps = steps }) ≡ Some []
 refuting_end clauses trail names first clause marks steps place a end store results are_named is =
     let zero_is : place ≡ 0 = omega arith in

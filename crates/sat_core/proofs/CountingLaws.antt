@@ -6,7 +6,7 @@ use Rattle.std.proofs.lemmas.Bool.{false≢true, cases_Bool, or_cases, or_left, 
 use Rattle.std.proofs.lemmas.Option.{same_Some}
 use Rattle.sat_base.specs.declared.literal.Var.{Var}
 use Rattle.sat_base.specs.declared.literal.SatLit.{SatLit}
-use Rattle.sat_base.specs.Literal.{same_var, same_literal, holds, mentions, HoldsNoVariableTwice}
+use Rattle.sat_base.specs.Literal.{same_var, same_literal, holds, mentions_variable, HoldsNoVariableTwice}
 use Rattle.sat_base.proofs.LiteralLaws.{same_var-refl, same_var-true, same_literal-refl, mentions-held}
 use Rattle.sat_laws.specs.Internal.Analysis.{one_if, how_many}
 use Rattle.sat_laws.proofs.AnalysisLaws.{how_many-same, how_many-more}
@@ -16,10 +16,10 @@ use Rattle.sat_core.specs.Internal.Marks.{is_marked, marks_literal}
 use Rattle.sat_propagate.specs.declared.trail.Step.{Step}
 
 -- a variable that is mentioned stands at some place
-pub place_of : (steps : List Step) (v : Var) → mentions (literals steps) v ≡ true → (i : ℕ) × (step : Step) × (slice_get steps i ≡ Some step) × (step.literal.var ≡ v)
+pub place_of : (steps : List Step) (v : Var) → mentions_variable (literals steps) v ≡ true → (i : ℕ) × (step : Step) × (slice_get steps i ≡ Some step) × (step.literal.var ≡ v)
 place_of [] v h = absurd (false≢true h)
 place_of (s ∷ steps) v h =
-    elim (or_cases (same_var v s.literal.var) (mentions (literals steps) v) h) [
+    elim (or_cases (same_var v s.literal.var) (mentions_variable (literals steps) v) h) [
       | inl here ↦ (zero, s, refl, sym (same_var-true v s.literal.var here))
       | inr later ↦ let some = place_of steps v later in (suc some.0, some.1, some.2, some.3)
     ]
@@ -63,7 +63,7 @@ counted_early trail before after var i start step right at same_var_is early mor
     let gone = not_after trail.steps i start step right.once at early in
     let none = how_many-same (marks_literal before) (marks_literal after) (drop start (literals trail.steps))
     (λ l h. more l.var ∙ ap (λ (b : Bool). is_marked before l.var || b)
-    (false_from_ne_true (same_var l.var var) (λ t. false≢true (sym gone ∙ ap (mentions (drop start (literals trail.steps))) (same_var_is ∙ sym (same_var-true l.var var t)) ∙ mentions-held (drop start (literals trail.steps)) l h)))
+    (false_from_ne_true (same_var l.var var) (λ t. false≢true (sym gone ∙ ap (mentions_variable (drop start (literals trail.steps))) (same_var_is ∙ sym (same_var-true l.var var t)) ∙ mentions-held (drop start (literals trail.steps)) l h)))
     ∙ or_false (is_marked before l.var)) in
     omega arith
 

@@ -12,7 +12,7 @@ use Rattle.sat_log.specs.declared.chain.Premise.{Premise}
 use Rattle.sat_log.specs.declared.chain.Premise.TheVariants.{Clause, Result}
 use Rattle.sat_log.specs.Chains.{premise_clause}
 use Rattle.sat_log.specs.Propagation.{IsUnit, IsFalseIn, Includes, ReachesFalse, AreFailingDecisions}
-use Rattle.sat_laws.specs.Internal.Complete.{IsComplete, IsWithin}
+use Rattle.sat_laws.specs.Internal.Complete.{IsComplete, IsClausePart}
 use Rattle.sat_laws.specs.Internal.Trail.{IsForced}
 use Rattle.sat_laws.proofs.CompleteLaws.{consistent_once}
 use Rattle.sat_laws.proofs.WatchLaws.{held-take}
@@ -157,7 +157,7 @@ decisions_fail clauses some propagator names marks n ready whole included confli
     complete = complete_fewer (clauses ++ some) (texts propagator.clauses.items) prefix included
         (complete_at propagator.trail propagator.processed propagator.clauses.items propagator.lists s ready.right whole s_start)
 
-    earlier_within : IsWithin before prefix
+    earlier_within : IsClausePart before prefix
     earlier_within l h =
         let found = decided_from trail (take m starts) l h in
         let below = start_below propagator.trail m found.0 whole m_inside found.1 in
@@ -192,7 +192,7 @@ decisions_fail clauses some propagator names marks n ready whole included confli
               (or_left _ _ (ap (λ (k : ℕ). same_literal (get_or trail i no_literal) (get_or trail k no_literal)) late ∙ same_literal-refl (get_or trail i no_literal)))
         ])
 
-    all_within : IsWithin (before ++ last ∷ []) trail
+    all_within : IsClausePart (before ++ last ∷ []) trail
     all_within l h = elim (or_cases (holds before l) (holds (last ∷ []) l) (sym (holds-append before (last ∷ []) l) ∙ h)) [
       | inl early ↦ held-take s trail l (earlier_within l early)
       | inr late ↦ elim (or_cases (same_literal l last) false late) [

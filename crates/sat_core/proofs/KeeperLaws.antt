@@ -8,7 +8,7 @@ use Rattle.std.proofs.lemmas.List.Elements.{Contains-append_left, Contains-push,
 use Rattle.std.proofs.lemmas.Option.{slice_get-get_or}
 use Rattle.sat_base.specs.declared.literal.Var.{Var}
 use Rattle.sat_base.specs.declared.literal.SatLit.{SatLit}
-use Rattle.sat_base.specs.Literal.{same_var, holds, mentions}
+use Rattle.sat_base.specs.Literal.{same_var, holds, mentions_variable}
 use Rattle.sat_base.specs.Truth.{AllTrue, assigned, literal_value, clause_value}
 use Rattle.sat_base.proofs.LiteralLaws.{same_var-refl}
 use Rattle.sat_base.proofs.TruthLaws.{clause_value-held}
@@ -44,11 +44,11 @@ turned_literal values l inside = go l.positive (assigned (slice_set values l.var
     go false x e = ap not e
 
 -- a clause keeps its value in which the variable does not stand
-unturned : (values : List Bool) (v : Var) (b : Bool) (clause : List SatLit) → mentions clause v ≡ false → clause_value (assigned (slice_set values v.0 b)) clause ≡ clause_value (assigned values) clause
+unturned : (values : List Bool) (v : Var) (b : Bool) (clause : List SatLit) → mentions_variable clause v ≡ false → clause_value (assigned (slice_set values v.0 b)) clause ≡ clause_value (assigned values) clause
 unturned values v b [] h = refl
 unturned values v b (l ∷ clause) h =
     let first : same_var v l.var ≡ false = false_from_ne_true (same_var v l.var) (λ t. false≢true (sym h ∙ or_left _ _ t)) in
-    let rest : mentions clause v ≡ false = false_from_ne_true (mentions clause v) (λ t. false≢true (sym h ∙ or_right (same_var v l.var) _ t)) in
+    let rest : mentions_variable clause v ≡ false = false_from_ne_true (mentions_variable clause v) (λ t. false≢true (sym h ∙ or_right (same_var v l.var) _ t)) in
     let apart : l.var.0 ≢ v.0 = λ e. false≢true (sym first ∙ subst (λ (n : ℕ). same_var v (record { 0 = n }) ≡ true) (sym e) (same_var-refl v)) in
     let value : assigned (slice_set values v.0 b) l.var ≡ assigned values l.var = get_or-set_other values v.0 l.var.0 b false apart in
     ap₂ (λ (x y : Bool). x || y) (ap (λ (x : Bool). if l.positive then x else not x) value) (unturned values v b clause rest)
@@ -66,7 +66,7 @@ turned_true values uses clauses l n bound next inside used member but others k c
   where
     unlike : k ≢ n → IsTrue (clause_value (assigned (slice_set values l.var.0 l.positive)) clause)
     unlike apart_n =
-        elim (cases_Bool (mentions clause l.var)) [
+        elim (cases_Bool (mentions_variable clause l.var)) [
           | inl there ↦
               let m = mentioned_by clause l.var there in
               others k clause (subst (λ (w : Var). Contains (uses_of uses w) k) m.2 (used k clause below at m.0 m.1)) below apart apart_n at

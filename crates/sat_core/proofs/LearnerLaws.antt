@@ -26,8 +26,8 @@ use Rattle.sat_propagate.proofs.ListLaws.{get-take}
 use Rattle.sat_propagate.proofs.TableLaws.{get_or-any}
 use Rattle.sat_core.specs.declared.learner.Learner.{Learner}
 use Rattle.sat_core.specs.Solver.{learned_from, AreAmong, IsLearnedFrom, WereLearned}
-use Rattle.sat_core.specs.Internal.Learned.{Occurs}
-use Rattle.sat_core.specs.Internal.Learner.{IsNamedPropagator, AreInserted, AreLearned, Grew}
+use Rattle.sat_core.specs.Internal.Learned.{OccursInClauses}
+use Rattle.sat_core.specs.Internal.Learner.{IsNamedPropagator, AreInserted, AreLearned, GrewLearner}
 use Rattle.sat_core.proofs.AnalysisSteps.{contains_at}
 
 -- 1. Which clauses are inserted
@@ -176,7 +176,7 @@ premise_occurring clauses learned (Result n) clause l known e h = known.occurrin
 -- what one more conflict gives is learned, whether it is pushed or not
 pub learned_more : (clauses learned : List (List SatLit)) (propagator : Propagator) (names : List Premise) (marks : List Bool) (outcome : List SatLit) → IsNamedPropagator clauses learned propagator names marks
     → AreLearned clauses learned → Includes (clauses ++ learned) (texts propagator.clauses.items) → IsNew (texts propagator.clauses.items) outcome → HoldsNoVariableTwice outcome
-    → ((l : SatLit) → holds outcome l ≡ true → Occurs propagator.clauses.items l) → AreLearned clauses (learned ++ outcome ∷ [])
+    → ((l : SatLit) → holds outcome l ≡ true → OccursInClauses propagator.clauses.items l) → AreLearned clauses (learned ++ outcome ∷ [])
 learned_more clauses learned propagator names marks outcome ready known included new once occurring =
     AreLearned-push clauses learned outcome known (IsNew-fewer (clauses ++ learned) (texts propagator.clauses.items) outcome included new) once
     (λ l h. let occurs = occurring l h in
@@ -227,7 +227,7 @@ learned_at true some k clause at =
 
 -- 5. Growth
 
-pub Grew-same : (before after : Learner) → after.clauses ≡ before.clauses → length after.propagator.trail.phases ≡ length before.propagator.trail.phases → after.log ≡ before.log → Grew before after
+pub Grew-same : (before after : Learner) → after.clauses ≡ before.clauses → length after.propagator.trail.phases ≡ length before.propagator.trail.phases → after.log ≡ before.log → GrewLearner before after
 Grew-same before after clauses made log = record {
   clauses_same = clauses;
   made_same = made;
@@ -238,7 +238,7 @@ Grew-same before after clauses made log = record {
       absurd (omega (arith, from, inside, length-map after.log (λ (entry : LogEntry). entry.result), ap (λ (list : List LogEntry). length list) log));
 }
 
-pub Grew-trans : (a b c : Learner) → Grew a b → Grew b c → Grew a c
+pub Grew-trans : (a b c : Learner) → GrewLearner a b → GrewLearner b c → GrewLearner a c
 Grew-trans a b c first second = record {
   clauses_same = second.clauses_same ∙ first.clauses_same;
   made_same = second.made_same ∙ first.made_same;
@@ -271,7 +271,7 @@ Grew-trans a b c first second = record {
 
 -- the log has one result more, which is new or the empty clause
 pub Grew-pushed : (before after : Learner) (entry : LogEntry) → after.clauses ≡ before.clauses → length after.propagator.trail.phases ≡ length before.propagator.trail.phases
-    → after.log ≡ before.log ++ entry ∷ [] → (entry.result ≢ [] → IsNew (before.clauses ++ results before.log) entry.result) → Grew before after
+    → after.log ≡ before.log ++ entry ∷ [] → (entry.result ≢ [] → IsNew (before.clauses ++ results before.log) entry.result) → GrewLearner before after
 Grew-pushed before after entry clauses made log new = record {
   clauses_same = clauses;
   made_same = made;

@@ -15,7 +15,7 @@ use Rattle.sat_log.specs.declared.log.LogEntry.{LogEntry}
 use Rattle.sat_log.specs.declared.chain.Premise.TheVariants.{Clause, Result}
 use Rattle.std.specs.Prelude.{IsSome, Option}
 use Rattle.sat_base.proofs.LiteralLaws.{All-held, All-from_held}
-use Rattle.sat_core.specs.Internal.Learned.{AreNamed, Learns}
+use Rattle.sat_core.specs.Internal.Learned.{AreNamedPremises, Learns}
 use Rattle.sat_propagate.specs.Internal.Trail.{TrailState}
 use Rattle.sat_propagate.specs.Internal.WatchLists.{WatchPair}
 use Rattle.sat_propagate.specs.Internal.Propagator.{IsPropagator, texts}
@@ -37,7 +37,7 @@ of_text clauses n text inside at =
     ]
 
 -- names go by the texts
-pub named_same : (store results : List (List SatLit)) (names : List Premise) (before after : List Watched) → texts after ≡ texts before → AreNamed store results names before → AreNamed store results names after
+pub named_same : (store results : List (List SatLit)) (names : List Premise) (before after : List Watched) → texts after ≡ texts before → AreNamedPremises store results names before → AreNamedPremises store results names after
 named_same store results names before after same named n watched at =
     let text : slice_get (texts before) n ≡ Some watched.clause = ap (λ (list : List (List SatLit)). slice_get list n) (sym same) ∙ text_of after n watched at in
     elim ((slice_get_cases before n).1) [
@@ -55,7 +55,7 @@ named_same store results names before after same named n watched at =
     slice_get_inside xs k x h = slice_get_within xs k x h
 
 pub named_pushed : (store results : List (List SatLit)) (names : List Premise) (before after : List Watched) (premise : Premise) (clause : List SatLit) → length names ≡ length before
-    → texts after ≡ texts before ++ clause ∷ [] → premise_clause store results premise ≡ Some clause → AreNamed store results names before → AreNamed store results (names ++ premise ∷ []) after
+    → texts after ≡ texts before ++ clause ∷ [] → premise_clause store results premise ≡ Some clause → AreNamedPremises store results names before → AreNamedPremises store results (names ++ premise ∷ []) after
 named_pushed store results names before after premise clause made pushed is named n watched at =
     elim (cases_order n (length before)) [
       | inl end ↦

@@ -7,11 +7,11 @@ use Rattle.std.proofs.lemmas.List.{take_all}
 use Rattle.std.proofs.lemmas.Option.{same_Some}
 use Rattle.sat_base.specs.declared.literal.Var.{Var}
 use Rattle.sat_base.specs.declared.literal.SatLit.{SatLit}
-use Rattle.sat_base.specs.Literal.{negated, same_var, same_literal, holds, mentions}
+use Rattle.sat_base.specs.Literal.{negated, same_var, same_literal, holds, mentions_variable}
 use Rattle.sat_base.proofs.LiteralLaws.{same_literal-refl, same_literal-true, same_var-true, negated-negated, mentions-held}
 use Rattle.sat_log.specs.declared.chain.Premise.{Premise}
 use Rattle.sat_log.specs.declared.chain.Chain.{Chain}
-use Rattle.sat_log.specs.Resolution.{without, resolved}
+use Rattle.sat_log.specs.Resolution.{without_literal, resolved}
 use Rattle.sat_log.proofs.ResolutionLaws.{holds-without}
 use Rattle.sat_log.proofs.VariableLaws.{mentioned_as}
 use Rattle.sat_log.specs.Chains.{premise_clause}
@@ -43,7 +43,7 @@ learned_false trail start clause learned l h =
 pub shortening_next : (clauses : List Watched) (trail : TrailState) (names : List Premise) (marks after : List Bool) (start place n : ℕ) (chain : Chain) (step : Step) (watched : Watched) (name : Premise)
     → IsShortening clauses trail names marks start chain → IsTrail trail → place < start → slice_get trail.steps place ≡ Some step → is_marked marks step.literal.var ≡ true
     → slice_get clauses n ≡ Some watched → IsUnit (take place (literals trail.steps)) watched.clause step.literal → slice_get names n ≡ Some name
-    → ((v : Var) → is_marked after v ≡ ((is_marked marks v && not (same_var v step.literal.var)) || mentions (others (Some step.literal) watched.clause) v))
+    → ((v : Var) → is_marked after v ≡ ((is_marked marks v && not (same_var v step.literal.var)) || mentions_variable (others (Some step.literal) watched.clause) v))
     → IsShortening clauses trail names after start (record { first = chain.first; steps = chain.steps ++ record { var = step.literal.var; premise = name } ∷ [] })
 shortening_next clauses trail names marks after start place n chain step watched name a right early at marked there unit named marks_after = record {
   so_far = made.0;
@@ -59,7 +59,7 @@ shortening_next clauses trail names marks after start place n chain step watched
     ];
   };
   marked = λ v. marks_after v
-      ∙ ap (λ (b : Bool). (b && not (same_var v t.var)) || mentions (without t watched.clause) v) (a.marked v)
+      ∙ ap (λ (b : Bool). (b && not (same_var v t.var)) || mentions_variable (without_literal t watched.clause) v) (a.marked v)
       ∙ sym (outcome_mentions t a.so_far watched.clause made.0 made.2 untrue (reason_undenied trail place step watched.clause right at unit) v);
   occurring = λ l h. elim (made.2.from_either l h) [
     | inl first ↦ a.occurring l first.0

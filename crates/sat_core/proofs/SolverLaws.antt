@@ -12,8 +12,8 @@ use Rattle.sat_log.specs.Chains.{results}
 use Rattle.sat_log.specs.Propagation.{IsNew, ReachesFalse}
 use Rattle.sat_log.proofs.Implied.{results_implied}
 use Rattle.sat_core.specs.declared.learner.Learner.{Learner}
-use Rattle.sat_core.specs.Solver.{SolverState, learned_from, learned, Grows, IsSound}
-use Rattle.sat_core.specs.Internal.Learner.{IsLearner, Grew, seen, shown}
+use Rattle.sat_core.specs.Solver.{SolverState, learned_from, learned, SolverGrows, IsSound}
+use Rattle.sat_core.specs.Internal.Learner.{IsLearner, GrewLearner, seen, shown}
 use Rattle.sat_core.proofs.AnalysisSteps.{contains_at}
 use Rattle.sat_core.proofs.LearnerLaws.{learned_open, learned_at}
 
@@ -39,7 +39,7 @@ unsat_of s l e =
 pub reached_of : (s : Learner) → IsLearner s → s.is_refuted ≡ true → ReachesFalse (s.clauses ++ learned (seen s)) []
 reached_of s l e = subst (λ (b : Bool). ReachesFalse (s.clauses ++ learned_from b (results s.log)) []) (sym e) (l.refuted e).propagated
 
-pub grows_of : (before after : Learner) → before.is_refuted ≡ false → IsLearner after → Grew before after → Grows (seen before) (seen after)
+pub grows_of : (before after : Learner) → before.is_refuted ≡ false → IsLearner after → GrewLearner before after → SolverGrows (seen before) (seen after)
 grows_of before after still_open l grew = record {
   clauses_same = grew.clauses_same;
   made_same = grew.made_same;
@@ -54,7 +54,7 @@ grows_of before after still_open l grew = record {
 }
 
 -- nothing changed
-pub grows_same : (solver : SolverState) → Grows solver solver
+pub grows_same : (solver : SolverState) → SolverGrows solver solver
 grows_same solver = record {
   clauses_same = refl;
   made_same = refl;
@@ -64,7 +64,7 @@ grows_same solver = record {
 }
 
 -- with other values, as many
-pub grows_shown : (before after : Learner) (values values_after : List Bool) → length values_after ≡ length values → Grows (seen before) (seen after) → Grows (shown values before) (shown values_after after)
+pub grows_shown : (before after : Learner) (values values_after : List Bool) → length values_after ≡ length values → SolverGrows (seen before) (seen after) → SolverGrows (shown values before) (shown values_after after)
 grows_shown before after values values_after made grew = record {
   clauses_same = grew.clauses_same;
   made_same = made;

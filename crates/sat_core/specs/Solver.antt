@@ -61,7 +61,7 @@ pub record IsSound (solver : SolverState) : Type 0 where
   pub ends : solver.is_refuted ≡ true → results solver.log ≡ learned solver ++ [] ∷ []
 
 -- the log grew by new clauses, and the clauses and the number of variables stayed
-pub record Grows (before after : SolverState) : Type 0 where
+pub record SolverGrows (before after : SolverState) : Type 0 where
   pub clauses_same : after.clauses ≡ before.clauses
   pub made_same : length after.values ≡ length before.values
   pub more : List LogEntry

@@ -2,11 +2,11 @@
 ghost use Rattle.std.specs.Prelude.{◌≡◌, ◌<◌, ◌≤◌, ◌≢◌, ◌⊎◌, ◌+◌, ◌-◌, ◌&&◌, ◌||◌, ℕ, List, [], not, Some, None, IsTrue, length, drop, slice_get, IfOk, OnOk, IfSome, IfNone};
 ghost use Rattle.sat_base.specs.declared.literal.Var.{Var};
 ghost use Rattle.sat_base.specs.declared.literal.SatLit.{SatLit};
-ghost use Rattle.sat_base.specs.Literal.{holds, mentions, same_var, IsOver};
+ghost use Rattle.sat_base.specs.Literal.{holds, mentions_variable, same_var, IsOver};
 ghost use Rattle.sat_laws.specs.Internal.Analysis.{how_many};
 ghost use Rattle.sat_propagate.specs.Internal.Trail.{literals, IsTrail};
 ghost use Rattle.sat_propagate.specs.Internal.Propagator.{IsPropagator, IsConflict};
-ghost use Rattle.sat_core.specs.Internal.Learned.{IsShortening, AreNamed};
+ghost use Rattle.sat_core.specs.Internal.Learned.{IsShortening, AreNamedPremises};
 ghost use Rattle.sat_log.specs.Chains.{premise_clause, chain_result};
 ghost use Rattle.sat_log.specs.Propagation.{IsFalseIn};
 ghost use Rattle.sat_core.specs.Internal.Marks.{is_marked, marks_literal, others};
@@ -19,7 +19,7 @@ use std::alloc::{AllocError, Global};
 
 /// Marks a variable that has a value. How many more marked ones have a place from `start` on: one or none.
 fn mark_one(trail: &Trail, marks: &mut Marks, var: Var, start: usize) -> Result<usize, AllocError>
-    requires valued { IsTrue (mentions (literals trail.now.steps) var) }
+    requires valued { IsTrue (mentions_variable (literals trail.now.steps) var) }
     requires made { var.0 < length marks.old }
     ensures marks { OnOk result ((v : Var) → is_marked marks.new v ≡ (is_marked marks.old v || same_var v var)) }
     ensures made { length marks.new ≡ length marks.old }
@@ -45,9 +45,9 @@ pub fn mark_others(
     own: Option<SatLit>,
     start: usize,
 ) -> Result<usize, AllocError>
-    requires valued { (l : SatLit) → IsTrue (holds among.now l) → IsTrue (mentions (literals trail.now.steps) l.var) }
+    requires valued { (l : SatLit) → IsTrue (holds among.now l) → IsTrue (mentions_variable (literals trail.now.steps) l.var) }
     requires made { IsOver (length marks.old) among.now }
-    ensures marks { OnOk result ((v : Var) → is_marked marks.new v ≡ (is_marked marks.old v || mentions (others own among.now) v)) }
+    ensures marks { OnOk result ((v : Var) → is_marked marks.new v ≡ (is_marked marks.old v || mentions_variable (others own among.now) v)) }
     ensures made { length marks.new ≡ length marks.old }
     ensures counted { IfOk result (λ late. late + how_many (marks_literal marks.old) (drop start (literals trail.now.steps)) ≡ how_many (marks_literal marks.new) (drop start (literals trail.now.steps))) }
 {
@@ -63,9 +63,9 @@ pub fn mark_others(
 
 /// Marks the variables of some literals, each of which has a value.
 fn mark_all(trail: &Trail, marks: &mut Marks, among: &[SatLit]) -> Result<(), AllocError>
-    requires valued { (l : SatLit) → IsTrue (holds among.now l) → IsTrue (mentions (literals trail.now.steps) l.var) }
+    requires valued { (l : SatLit) → IsTrue (holds among.now l) → IsTrue (mentions_variable (literals trail.now.steps) l.var) }
     requires made { IsOver (length marks.old) among.now }
-    ensures marks { OnOk result ((v : Var) → is_marked marks.new v ≡ (is_marked marks.old v || mentions (others None among.now) v)) }
+    ensures marks { OnOk result ((v : Var) → is_marked marks.new v ≡ (is_marked marks.old v || mentions_variable (others None among.now) v)) }
     ensures made { length marks.new ≡ length marks.old }
 {
     for literal in among {
@@ -84,13 +84,13 @@ fn resolve_marks(
     start: usize,
     late: usize,
 ) -> Result<usize, AllocError>
-    requires valued { (l : SatLit) → IsTrue (holds reason.now l) → IsTrue (mentions (literals trail.now.steps) l.var) }
+    requires valued { (l : SatLit) → IsTrue (holds reason.now l) → IsTrue (mentions_variable (literals trail.now.steps) l.var) }
     requires made { IsOver (length marks.old) reason.now }
     requires own_made { own.var.0 < length marks.old }
     requires own_marked { IsTrue (is_marked marks.old own.var) }
     requires own_late { IsTrue (holds (drop start (literals trail.now.steps)) own) }
     requires counted { late ≡ how_many (marks_literal marks.old) (drop start (literals trail.now.steps)) }
-    ensures marks { OnOk result ((v : Var) → is_marked marks.new v ≡ ((is_marked marks.old v && not (same_var v own.var)) || mentions (others (Some own) reason.now) v)) }
+    ensures marks { OnOk result ((v : Var) → is_marked marks.new v ≡ ((is_marked marks.old v && not (same_var v own.var)) || mentions_variable (others (Some own) reason.now) v)) }
     ensures made { length marks.new ≡ length marks.old }
     ensures counted { IfOk result (λ n. (n ≡ how_many (marks_literal marks.new) (drop start (literals trail.now.steps))) × (late ≤ n + 1)) }
 {
@@ -172,7 +172,7 @@ pub fn refuted_chain(
     requires over { IsOver (length propagator.now.trail.phases) among.now }
     requires named { length names.now ≡ length propagator.now.clauses.items }
     requires made { length propagator.now.trail.phases ≤ length marks.old }
-    ensures refuted { IfOk result (λ chain. (store results : List (List SatLit)) → AreNamed store results names.now propagator.now.clauses.items → premise_clause store results first ≡ Some among.now → chain_result store results chain ≡ Some []) }
+    ensures refuted { IfOk result (λ chain. (store results : List (List SatLit)) → AreNamedPremises store results names.now propagator.now.clauses.items → premise_clause store results first ≡ Some among.now → chain_result store results chain ≡ Some []) }
     ensures trail { OnOk result (IsTrail propagator.now.trail) }
     ensures made { length marks.new ≡ length marks.old }
 {

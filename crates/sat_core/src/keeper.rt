@@ -5,7 +5,7 @@ ghost use Rattle.sat_base.specs.declared.literal.Var.{Var};
 ghost use Rattle.sat_base.specs.declared.literal.SatLit.{SatLit};
 ghost use Rattle.sat_base.specs.Literal.{holds, IsOver};
 ghost use Rattle.sat_base.specs.Truth.{AllTrue, assigned, clause_value};
-ghost use Rattle.sat_core.specs.Internal.Keeper.{uses_of, IsUsed, AreUsed, AreOver, AreTrue, AreTrueBut, IsKeeper};
+ghost use Rattle.sat_core.specs.Internal.Keeper.{uses_of, IsUsedIn, AreUsed, AreOver, AreTrue, AreTrueBut, IsKeeper};
 
 use crate::uses::Uses;
 use sat_base::{ClauseStore, SatLit, Var};
@@ -106,7 +106,7 @@ fn list(uses: &mut Uses, among: &[SatLit], n: usize) -> Result<(), AllocError>
     requires over { IsOver (length uses.old) among.now }
     ensures made { length uses.new ≡ length uses.old }
     ensures before { (v : Var) (k : ℕ) → Contains (uses_of uses.old v) k → Contains (uses_of uses.new v) k }
-    ensures listed { OnOk result (IsUsed uses.new n among.now) }
+    ensures listed { OnOk result (IsUsedIn uses.new n among.now) }
 {
     for literal in among {
         uses.push(literal.var, n)?;

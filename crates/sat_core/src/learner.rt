@@ -7,7 +7,7 @@ ghost use Rattle.sat_log.specs.declared.chain.Premise.{Premise};
 ghost use Rattle.sat_propagate.specs.Internal.Trail.{literals};
 ghost use Rattle.sat_propagate.specs.Internal.Propagator.{texts, IsConflict};
 ghost use Rattle.sat_core.specs.Internal.Learned.{Learns};
-ghost use Rattle.sat_core.specs.Internal.Learner.{IsNamedPropagator, IsLearner, IsUnlearned, Grew, Answers, seen};
+ghost use Rattle.sat_core.specs.Internal.Learner.{IsNamedPropagator, IsLearner, IsUnlearned, GrewLearner, AnswersSolve, seen};
 ghost use Rattle.sat_core.specs.Solver.{learned_from};
 ghost use Rattle.sat_log.specs.Chains.{premise_clause, results, IsLogOver, AppendsChain};
 
@@ -117,9 +117,9 @@ impl Learner {
         requires open { self.old.is_refuted ≡ false }
         requires budget { length self.old.log ≤ budget }
         ensures learner { IsLearner self.new }
-        ensures grew { Grew self.old self.new }
+        ensures grew { GrewLearner self.old self.new }
         ensures within { length (learned_from self.new.is_refuted (results self.new.log)) ≤ budget }
-        ensures answer { IfOk result (λ answer. Answers budget (seen self.new) answer) }
+        ensures answer { IfOk result (λ answer. AnswersSolve budget (seen self.new) answer) }
     {
         let mut restarts = Restarts::new();
         loop {
@@ -138,11 +138,11 @@ impl Learner {
         requires open { self.old.is_refuted ≡ false }
         requires budget { length self.old.log ≤ budget }
         ensures learner { IsLearner self.new }
-        ensures grew { Grew self.old self.new }
+        ensures grew { GrewLearner self.old self.new }
         ensures within { length (learned_from self.new.is_refuted (results self.new.log)) ≤ budget }
         ensures open { IfOk result (λ r. r ≡ None → self.new.is_refuted ≡ false) }
         ensures longer { IfOk result (λ r. r ≡ None → length self.new.log ≡ length self.old.log + 1) }
-        ensures answer { IfOk result (λ r. (answer : Answer) → r ≡ Some answer → Answers budget (seen self.new) answer) }
+        ensures answer { IfOk result (λ r. (answer : Answer) → r ≡ Some answer → AnswersSolve budget (seen self.new) answer) }
     {
         if let Some(premise) = self.insert_all()? {
             self.refute(premise)?;
@@ -166,11 +166,11 @@ impl Learner {
         requires included { Includes (self.old.clauses ++ results self.old.log) (texts self.old.propagator.clauses.items) }
         requires conflict { IsConflict self.old.propagator.trail self.old.propagator.clauses.items conflict }
         ensures learner { IsLearner self.new }
-        ensures grew { Grew self.old self.new }
+        ensures grew { GrewLearner self.old self.new }
         ensures within { length (learned_from self.new.is_refuted (results self.new.log)) ≤ budget }
         ensures open { IfOk result (λ r. r ≡ None → self.new.is_refuted ≡ false) }
         ensures longer { IfOk result (λ r. r ≡ None → length self.new.log ≡ length self.old.log + 1) }
-        ensures answer { IfOk result (λ r. (answer : Answer) → r ≡ Some answer → Answers budget (seen self.new) answer) }
+        ensures answer { IfOk result (λ r. (answer : Answer) → r ≡ Some answer → AnswersSolve budget (seen self.new) answer) }
     {
         if self.propagator.trail.levels() == 0 {
             let premise = self.names[conflict];
@@ -263,7 +263,7 @@ impl Learner {
         requires included { Includes (self.old.clauses ++ results self.old.log) (texts self.old.propagator.clauses.items) }
         requires learns { Learns self.old.propagator.clauses.items self.old.propagator.trail self.old.names.items chain }
         ensures learner { IsLearner self.new }
-        ensures grew { Grew self.old self.new }
+        ensures grew { GrewLearner self.old self.new }
         ensures refuted { self.new.is_refuted ≡ self.old.is_refuted }
         ensures longer { OnOk result (length self.new.log ≡ length self.old.log + 1) }
         ensures err { OnErr result (self.new.log ≡ self.old.log) }
@@ -287,7 +287,7 @@ impl Learner {
         ensures last { OnOk result (results self.new.log ≡ results self.old.log ++ [] ∷ []) }
         ensures err { OnErr result (self.new.log ≡ self.old.log) }
         ensures open { OnErr result (self.new.is_refuted ≡ false) }
-        ensures grew { Grew self.old self.new }
+        ensures grew { GrewLearner self.old self.new }
     {
         let chain = refuted_chain(
             self.alloc,

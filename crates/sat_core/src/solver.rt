@@ -36,7 +36,7 @@ impl Model for Solver {
 }
 
 impl Solver {
-    ghost use Rattle.sat_core.specs.Solver.{learned, AreAmong, Grows, IsSound};
+    ghost use Rattle.sat_core.specs.Solver.{learned, AreAmong, SolverGrows, IsSound};
 
     /// A solver with no clause and no variable.
     pub fn new(alloc: Global) -> Self
@@ -94,7 +94,7 @@ impl Solver {
         ensures counted { IfOk result (λ answer. (conflicts : ℕ) → answer ≡ Answer.Spent conflicts → length (learned self.new) ≡ budget) }
         ensures failing { IfOk result (λ answer. (conflicts : ℕ) → answer ≡ Answer.Spent conflicts → (decisions : List SatLit) × AreFailingDecisions (self.new.clauses ++ learned self.new) decisions) }
         ensures enough { IfOk result (λ answer. (conflicts : ℕ) (variables : List Var) → AreAmong variables self.new.clauses → 3 ^ length variables ≤ budget → answer ≢ Answer.Spent conflicts) }
-        ensures grows { Grows self.old self.new }
+        ensures grows { SolverGrows self.old self.new }
         ensures within { length (learned self.new) ≤ budget }
     {
         if self.learner.is_refuted {

@@ -7,9 +7,9 @@ use Rattle.std.proofs.lemmas.List.{take_more}
 use Rattle.std.proofs.lemmas.Option.{slice_get_within, get_or_from_slice_get, same_Some}
 use Rattle.sat_base.specs.declared.literal.Var.{Var}
 use Rattle.sat_base.specs.declared.literal.SatLit.{SatLit}
-use Rattle.sat_base.specs.Literal.{literal, positive, negative, negated, same_var, same_literal, holds, mentions, HoldsNoVariableTwice}
+use Rattle.sat_base.specs.Literal.{literal, positive, negative, negated, same_var, same_literal, holds, mentions_variable, HoldsNoVariableTwice}
 use Rattle.sat_base.proofs.LiteralLaws.{same_var-refl, same_var-true, mentions-held, same_literal-true, same_literal-refl, sign_cases, holds-append, negated-negated}
-use Rattle.sat_log.specs.Resolution.{without, resolvent, resolved}
+use Rattle.sat_log.specs.Resolution.{without_literal, resolvent, resolved}
 use Rattle.sat_log.specs.Propagation.{IsUnit, IsConsistent, IsNew}
 use Rattle.sat_log.proofs.ResolutionLaws.{holds-without, holds-without_repeats}
 use Rattle.sat_laws.specs.Internal.Analysis.{IsFalseBefore, one_if, how_many}
@@ -21,9 +21,9 @@ use Rattle.sat_laws.proofs.WatchLaws.{held-take}
 held_resolvent : (v : Var) (a b : List SatLit) (l : SatLit)
     → holds (resolvent v a b) l ≡ ((holds a l && not (same_literal (positive v) l)) || (holds b l && not (same_literal (negative v) l)))
 held_resolvent v a b l =
-    holds-without_repeats (without (positive v) a ++ without (negative v) b) l
-    ∙ holds-append (without (positive v) a) (without (negative v) b) l
-    ∙ ap (λ (x : Bool). x || holds (without (negative v) b) l) (holds-without (positive v) a l)
+    holds-without_repeats (without_literal (positive v) a ++ without_literal (negative v) b) l
+    ∙ holds-append (without_literal (positive v) a) (without_literal (negative v) b) l
+    ∙ ap (λ (x : Bool). x || holds (without_literal (negative v) b) l) (holds-without (positive v) a l)
     ∙ ap (λ (x : Bool). (holds a l && not (same_literal (positive v) l)) || x) (holds-without (negative v) b l)
 
 -- the outcome of a step on the literal t, which the reason holds and whose negation the clause so far holds: what each holds besides
@@ -167,7 +167,7 @@ how_many-more p q (x ∷ xs) m once there p_m q_m same =
           omega arith
       | inr later ↦
           let apart : same_var x.var m.var ≡ false = false_from_ne_true (same_var x.var m.var) (λ t.
-          false≢true (sym once.0 ∙ ap (mentions xs) (same_var-true x.var m.var t) ∙ mentions-held xs m later)) in
+          false≢true (sym once.0 ∙ ap (mentions_variable xs) (same_var-true x.var m.var t) ∙ mentions-held xs m later)) in
           let first : one_if (q x) ≡ one_if (p x) = ap one_if (same x apart) in
           let rest = how_many-more p q xs m once.1 later p_m q_m same in
           omega arith
@@ -175,7 +175,7 @@ how_many-more p q (x ∷ xs) m once there p_m q_m same =
   where
     var_apart : (l : SatLit) → m ≡ x → holds xs l ≡ true → same_var l.var m.var ≡ false
     var_apart l is h = false_from_ne_true (same_var l.var m.var) (λ t.
-        false≢true (sym once.0 ∙ ap (mentions xs) (ap (λ (k : SatLit). k.var) (sym is) ∙ sym (same_var-true l.var m.var t)) ∙ mentions-held xs l h))
+        false≢true (sym once.0 ∙ ap (mentions_variable xs) (ap (λ (k : SatLit). k.var) (sym is) ∙ sym (same_var-true l.var m.var t)) ∙ mentions-held xs l h))
 
 -- tests that pass together are the same
 same_tests : (a b : Bool) → (a ≡ true → b ≡ true) → (b ≡ true → a ≡ true) → a ≡ b
@@ -183,16 +183,16 @@ same_tests true b f g = sym (f refl)
 same_tests false true f g = absurd (false≢true (g refl))
 same_tests false false f g = refl
 
-pub mentioned_by : (some : List SatLit) (v : Var) → mentions some v ≡ true → (l : SatLit) × (holds some l ≡ true) × (l.var ≡ v)
+pub mentioned_by : (some : List SatLit) (v : Var) → mentions_variable some v ≡ true → (l : SatLit) × (holds some l ≡ true) × (l.var ≡ v)
 mentioned_by [] v h = absurd (false≢true h)
 mentioned_by (m ∷ some) v h =
-    elim (or_cases (same_var v m.var) (mentions some v) h) [
+    elim (or_cases (same_var v m.var) (mentions_variable some v) h) [
       | inl here ↦ (m, or_left _ _ (same_literal-refl m), sym (same_var-true v m.var here))
       | inr later ↦ let found = mentioned_by some v later in (found.0, or_right (same_literal found.0 m) _ found.1, found.2)
     ]
 
-mentions_of : (some : List SatLit) (v : Var) (l : SatLit) → holds some l ≡ true → l.var ≡ v → mentions some v ≡ true
-mentions_of some v l h e = ap (mentions some) (sym e) ∙ mentions-held some l h
+mentions_of : (some : List SatLit) (v : Var) (l : SatLit) → holds some l ≡ true → l.var ≡ v → mentions_variable some v ≡ true
+mentions_of some v l h e = ap (mentions_variable some) (sym e) ∙ mentions-held some l h
 
 other_literal : (a b : SatLit) → same_var a.var b.var ≡ true → same_literal b a ≡ false → a ≡ negated b
 other_literal a b same apart = go a.positive b.positive refl refl
@@ -205,9 +205,9 @@ other_literal a b same apart = go a.positive b.positive refl refl
 
 -- the variables of the outcome: those of the clause so far other than that of t, and those of the reason without t
 pub outcome_mentions : (t : SatLit) (so_far reason outcome : List SatLit) → IsOutcome t so_far reason outcome → holds so_far t ≡ false → holds reason (negated t) ≡ false
-    → (v : Var) → mentions outcome v ≡ ((mentions so_far v && not (same_var v t.var)) || mentions (without t reason) v)
+    → (v : Var) → mentions_variable outcome v ≡ ((mentions_variable so_far v && not (same_var v t.var)) || mentions_variable (without_literal t reason) v)
 outcome_mentions t so_far reason outcome made untrue undenied v =
-    same_tests (mentions outcome v) ((mentions so_far v && not (same_var v t.var)) || mentions (without t reason) v)
+    same_tests (mentions_variable outcome v) ((mentions_variable so_far v && not (same_var v t.var)) || mentions_variable (without_literal t reason) v)
     (λ h.
     let l = mentioned_by outcome v h in
     elim (made.from_either l.0 l.1) [
@@ -217,17 +217,17 @@ outcome_mentions t so_far reason outcome made untrue undenied v =
             | inl is ↦ false≢true (sym untrue ∙ ap (holds so_far) (same_literal-true t l.0 is) ∙ first.0)
             | inr is_not ↦ false≢true (sym first.1 ∙ ap (same_literal (negated t)) (other_literal l.0 t var_same is_not) ∙ same_literal-refl (negated t))
           ]))))
-      | inr second ↦ or_right (mentions so_far v && not (same_var v t.var)) _
-          (mentions_of (without t reason) v l.0 (holds-without t reason l.0 ∙ and_from _ _ second.0 (not_from_false _ second.1)) l.2)
+      | inr second ↦ or_right (mentions_variable so_far v && not (same_var v t.var)) _
+          (mentions_of (without_literal t reason) v l.0 (holds-without t reason l.0 ∙ and_from _ _ second.0 (not_from_false _ second.1)) l.2)
     ])
-    (λ h. elim (or_cases (mentions so_far v && not (same_var v t.var)) (mentions (without t reason) v) h) [
+    (λ h. elim (or_cases (mentions_variable so_far v && not (same_var v t.var)) (mentions_variable (without_literal t reason) v) h) [
       | inl first ↦
-          let parts = and_parts (mentions so_far v) (not (same_var v t.var)) first in
+          let parts = and_parts (mentions_variable so_far v) (not (same_var v t.var)) first in
           let l = mentioned_by so_far v parts.0 in
           mentions_of outcome v l.0 (made.from_first l.0 l.1 (false_from_ne_true (same_literal (negated t) l.0) (λ is.
           false≢true (sym (not-true _ parts.1) ∙ ap (λ (w : Var). same_var w t.var) (sym l.2 ∙ ap (λ (k : SatLit). k.var) (sym (same_literal-true (negated t) l.0 is))) ∙ same_var-refl t.var)))) l.2
       | inr second ↦
-          let l = mentioned_by (without t reason) v second in
+          let l = mentioned_by (without_literal t reason) v second in
           let parts = and_parts (holds reason l.0) (not (same_literal t l.0)) (sym (holds-without t reason l.0) ∙ l.1) in
           mentions_of outcome v l.0 (made.from_second l.0 parts.0 (not-true _ parts.1)) l.2
     ])

@@ -6,10 +6,10 @@ use Rattle.sat_base.specs.declared.literal.SatLit.{SatLit}
 use Rattle.sat_base.specs.Literal.{negated, same_literal, holds, HoldsNoVariableTwice}
 use Rattle.sat_base.proofs.LiteralLaws.{same_literal-refl, same_literal-true, holds-append, negated-negated, All-held, All-from_held}
 use Rattle.sat_log.proofs.ResolutionLaws.{holds-without}
-use Rattle.sat_log.specs.Resolution.{without}
+use Rattle.sat_log.specs.Resolution.{without_literal}
 use Rattle.sat_log.specs.Propagation.{IsUnit, IsFalseIn, IsConsistent, Propagates, IsPropagation, Reaches, ReachesFalse, IsNew}
 use Rattle.sat_log.proofs.VariableLaws.{no_clash}
-use Rattle.sat_laws.specs.Internal.Complete.{satisfies, IsWithin, IsComplete}
+use Rattle.sat_laws.specs.Internal.Complete.{satisfies, IsClausePart, IsComplete}
 
 -- a list that holds no variable twice is consistent
 pub consistent_once : (literals : List SatLit) → HoldsNoVariableTwice literals → IsConsistent literals
@@ -80,7 +80,7 @@ satisfied_complete_unit literals clause consistent h l unit = satisfied_unit lit
 pub satisfied_complete : (literals clause : List SatLit) → IsConsistent literals → satisfies literals clause ≡ true → IsFalseIn literals clause → ⊥
 satisfied_complete literals clause consistent h each = satisfied_not_false literals clause consistent h each
 
-pub IsWithin-push : (some literals : List SatLit) (m : SatLit) → IsWithin some literals → holds literals m ≡ true → IsWithin (some ++ m ∷ []) literals
+pub IsWithin-push : (some literals : List SatLit) (m : SatLit) → IsClausePart some literals → holds literals m ≡ true → IsClausePart (some ++ m ∷ []) literals
 IsWithin-push some literals m within m_in l t =
     elim (or_cases (holds some l) (same_literal l m || false) (sym (holds-append some (m ∷ []) l) ∙ t)) [
       | inl before ↦ within l before
@@ -91,7 +91,7 @@ IsWithin-push some literals m within m_in l t =
     ]
 
 -- a literal that is propagated from literals of a complete list is in it
-held_unit : (clauses : List (List SatLit)) (literals earlier clause : List SatLit) (l : SatLit) → IsComplete clauses literals → IsWithin earlier literals
+held_unit : (clauses : List (List SatLit)) (literals earlier clause : List SatLit) (l : SatLit) → IsComplete clauses literals → IsClausePart earlier literals
     → Contains clauses clause → IsUnit earlier clause l → holds literals l ≡ true
 held_unit clauses literals earlier clause l complete within there unit =
     elim (cases_Bool (holds literals (negated l))) [
@@ -109,28 +109,28 @@ held_unit clauses literals earlier clause l complete within there unit =
 
 -- what is propagated from literals of a complete list is in it
 pub propagated_within : (clauses : List (List SatLit)) (literals earlier later : List SatLit) → IsComplete clauses literals
-    → IsWithin earlier literals → Propagates clauses earlier later → IsWithin (earlier ++ later) literals
+    → IsClausePart earlier literals → Propagates clauses earlier later → IsClausePart (earlier ++ later) literals
 propagated_within clauses literals earlier [] complete within p =
-    subst (λ (some : List SatLit). IsWithin some literals) (sym (append-nil earlier)) within
+    subst (λ (some : List SatLit). IsClausePart some literals) (sym (append-nil earlier)) within
 propagated_within clauses literals earlier (m ∷ later) complete within p =
     let some = p.0 in
     let m_in : holds literals m ≡ true = held_unit clauses literals earlier some.1 m complete within (some.0, some.2, some.3) some.4 in
-    subst (λ (some : List SatLit). IsWithin some literals) (append_assoc earlier (m ∷ []) later)
+    subst (λ (some : List SatLit). IsClausePart some literals) (append_assoc earlier (m ∷ []) later)
     (propagated_within clauses literals (earlier ++ m ∷ []) later complete (IsWithin-push earlier literals m within m_in) p.1)
 
 pub propagation_within : (clauses : List (List SatLit)) (literals given reached : List SatLit) → IsComplete clauses literals
-    → IsWithin given literals → IsPropagation clauses given reached → IsWithin reached literals
+    → IsClausePart given literals → IsPropagation clauses given reached → IsClausePart reached literals
 propagation_within clauses literals given reached complete within p =
-    subst (λ (some : List SatLit). IsWithin some literals) (sym p.begins)
+    subst (λ (some : List SatLit). IsClausePart some literals) (sym p.begins)
     (propagated_within clauses literals given p.later complete within p.propagated)
 
 pub reached_within : (clauses : List (List SatLit)) (literals given : List SatLit) (l : SatLit) → IsComplete clauses literals
-    → IsWithin given literals → Reaches clauses given l → holds literals l ≡ true
+    → IsClausePart given literals → Reaches clauses given l → holds literals l ≡ true
 reached_within clauses literals given l complete within r =
     propagation_within clauses literals given r.literals complete within r.propagation l r.reached
 
 pub none_reached_false : (clauses : List (List SatLit)) (literals given : List SatLit) → IsComplete clauses literals
-    → IsWithin given literals → ReachesFalse clauses given → ⊥
+    → IsClausePart given literals → ReachesFalse clauses given → ⊥
 none_reached_false clauses literals given complete within r =
     let some = r.falsified in
     let all = propagation_within clauses literals given r.literals complete within r.propagation in
@@ -154,12 +154,12 @@ pub new_by_complete : (clauses : List (List SatLit)) (literals clause : List Sat
 new_by_complete clauses literals clause l complete member absent others = record {
   literal = l;
   member = member;
-  unreached = λ r. false≢true (sym absent ∙ reached_within clauses literals (map negated (without l clause)) l complete given r);
-  consistent = λ r. none_reached_false clauses literals (map negated (without l clause)) complete given r;
+  unreached = λ r. false≢true (sym absent ∙ reached_within clauses literals (map negated (without_literal l clause)) l complete given r);
+  consistent = λ r. none_reached_false clauses literals (map negated (without_literal l clause)) complete given r;
 }
   where
-    given : (m : SatLit) → holds (map negated (without l clause)) m ≡ true → holds literals m ≡ true
+    given : (m : SatLit) → holds (map negated (without_literal l clause)) m ≡ true → holds literals m ≡ true
     given m h =
-        let there : holds (without l clause) (negated m) ≡ true = holds-negated (without l clause) m h in
+        let there : holds (without_literal l clause) (negated m) ≡ true = holds-negated (without_literal l clause) m h in
         let parts = and_parts (holds clause (negated m)) (not (same_literal l (negated m))) (sym (holds-without l clause (negated m)) ∙ there) in
         ap (holds literals) (sym (negated-negated m)) ∙ others (negated m) parts.0 (not-true _ parts.1)

@@ -8,7 +8,7 @@ use Rattle.sat_base.specs.declared.literal.SatLit.{SatLit}
 use Rattle.sat_base.specs.Literal.{negated, same_literal, holds}
 use Rattle.sat_base.proofs.LiteralLaws.{same_literal-refl, holds-append, All-held, All-from_held}
 use Rattle.sat_log.specs.Propagation.{IsUnit, IsFalseIn, IsConsistent, Propagates, ReachesFalse, AreFailingDecisions}
-use Rattle.sat_laws.specs.Internal.Complete.{IsWithin, IsComplete}
+use Rattle.sat_laws.specs.Internal.Complete.{IsClausePart, IsComplete}
 use Rattle.sat_laws.specs.Internal.Trail.{IsForced}
 use Rattle.sat_laws.proofs.CompleteLaws.{IsWithin-push, reached_within, none_reached_false}
 
@@ -32,11 +32,11 @@ Propagates-push clauses earlier (m ∷ later) l p some = (
 pub record Covers (clauses : List (List SatLit)) (given trail some : List SatLit) : Type 0 where
   pub later : List SatLit
   pub propagated : Propagates clauses given later
-  pub covered : IsWithin some (given ++ later)
-  pub inside : IsWithin (given ++ later) trail
+  pub covered : IsClausePart some (given ++ later)
+  pub inside : IsClausePart (given ++ later) trail
 
 -- a literal that is the only open one stays so among other literals of the trail
-unit_among : (trail before among clause : List SatLit) (l : SatLit) → IsConsistent trail → holds trail l ≡ true → IsWithin before among → IsWithin among trail
+unit_among : (trail before among clause : List SatLit) (l : SatLit) → IsConsistent trail → holds trail l ≡ true → IsClausePart before among → IsClausePart among trail
     → IsUnit before clause l → IsUnit among clause l
 unit_among trail before among clause l consistent there covered inside unit = record {
   member = unit.member;
@@ -61,16 +61,16 @@ more_covered clauses given trail some l consistent there (inr unit) c = record {
       (holds-append (given ++ c.later) (l ∷ []) m ∙ or_left _ _ (c.covered m h)))
       (subst (λ (list : List SatLit). holds list l ≡ true) (append_assoc given c.later (l ∷ []))
       (holds-append (given ++ c.later) (l ∷ []) l ∙ or_right (holds (given ++ c.later) l) _ (or_left _ _ (same_literal-refl l))));
-  inside = subst (λ (list : List SatLit). IsWithin list trail) (append_assoc given c.later (l ∷ [])) (IsWithin-push (given ++ c.later) trail l c.inside there);
+  inside = subst (λ (list : List SatLit). IsClausePart list trail) (append_assoc given c.later (l ∷ [])) (IsWithin-push (given ++ c.later) trail l c.inside there);
 }
 
-covers_prefix : (clauses : List (List SatLit)) (given trail : List SatLit) → IsForced clauses given trail → IsConsistent trail → IsWithin given trail
+covers_prefix : (clauses : List (List SatLit)) (given trail : List SatLit) → IsForced clauses given trail → IsConsistent trail → IsClausePart given trail
     → (n : ℕ) → n ≤ length trail → Covers clauses given trail (take n trail)
 covers_prefix clauses given trail forced consistent within zero h = record {
   later = [];
   propagated = tt;
   covered = λ l t. absurd (false≢true t);
-  inside = subst (λ (list : List SatLit). IsWithin list trail) (sym (append-nil given)) within;
+  inside = subst (λ (list : List SatLit). IsClausePart list trail) (sym (append-nil given)) within;
 }
 covers_prefix clauses given trail forced consistent within (suc n) h =
     let before = covers_prefix clauses given trail forced consistent within n (omega arith) in
@@ -86,14 +86,14 @@ covers_prefix clauses given trail forced consistent within (suc n) h =
     ]
 
 -- unit propagation from the given literals reaches each literal of the trail
-pub trail_covered : (clauses : List (List SatLit)) (given trail : List SatLit) → IsForced clauses given trail → IsConsistent trail → IsWithin given trail
+pub trail_covered : (clauses : List (List SatLit)) (given trail : List SatLit) → IsForced clauses given trail → IsConsistent trail → IsClausePart given trail
     → Covers clauses given trail trail
 trail_covered clauses given trail forced consistent within =
     subst (Covers clauses given trail) (take_all (length trail) trail (omega arith))
     (covers_prefix clauses given trail forced consistent within (length trail) (omega arith))
 
 -- so it reaches a clause that is false in the trail
-pub trail_reaches_false : (clauses : List (List SatLit)) (given trail clause : List SatLit) → IsForced clauses given trail → IsConsistent trail → IsWithin given trail
+pub trail_reaches_false : (clauses : List (List SatLit)) (given trail clause : List SatLit) → IsForced clauses given trail → IsConsistent trail → IsClausePart given trail
     → Contains clauses clause → IsFalseIn trail clause → ReachesFalse clauses given
 trail_reaches_false clauses given trail clause forced consistent within there each =
     let c = trail_covered clauses given trail forced consistent within in record {
@@ -111,8 +111,8 @@ trail_reaches_false clauses given trail clause forced consistent within there ea
 
 -- the decisions of a trail fail where a clause is false in it, and the part of it before the last one was complete
 pub failing_decisions : (clauses : List (List SatLit)) (before : List SatLit) (last : SatLit) (prefix trail clause : List SatLit)
-    → IsComplete clauses prefix → IsWithin before prefix → holds prefix last ≡ false → holds prefix (negated last) ≡ false
-    → IsForced clauses (before ++ last ∷ []) trail → IsConsistent trail → IsWithin (before ++ last ∷ []) trail
+    → IsComplete clauses prefix → IsClausePart before prefix → holds prefix last ≡ false → holds prefix (negated last) ≡ false
+    → IsForced clauses (before ++ last ∷ []) trail → IsConsistent trail → IsClausePart (before ++ last ∷ []) trail
     → Contains clauses clause → IsFalseIn trail clause → AreFailingDecisions clauses (before ++ last ∷ [])
 failing_decisions clauses before last prefix trail clause complete within no_last no_negation forced consistent given there each = record {
   before = before;

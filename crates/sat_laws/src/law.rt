@@ -5,7 +5,7 @@ ghost use Rattle.sat_base.specs.declared.literal.Var.{Var};
 ghost use Rattle.sat_base.specs.declared.literal.SatLit.{SatLit};
 ghost use Rattle.sat_base.specs.Literal.{holds, negated, same_literal, HoldsNoVariableTwice, IsAlike};
 ghost use Rattle.sat_log.specs.Propagation.{Reaches, ReachesFalse, IsConsistent, IsFalseIn, IsUnit, AreFailingDecisions, IsNew};
-ghost use Rattle.sat_laws.specs.Internal.Complete.{IsComplete, IsWithin};
+ghost use Rattle.sat_laws.specs.Internal.Complete.{IsComplete, IsClausePart};
 ghost use Rattle.sat_laws.specs.Internal.Counting.{IsAmong};
 ghost use Rattle.sat_laws.specs.Internal.Trail.{IsForced};
 ghost use Rattle.sat_laws.specs.Internal.Watching.{IsKept};
@@ -13,9 +13,9 @@ ghost use Rattle.sat_laws.specs.Internal.Watching.{IsKept};
 /// What unit propagation reaches from literals of a complete list is in the list, and it reaches no false clause.
 pub fn complete_law()
     ensures reached { (clauses : List (List SatLit)) (literals given : List SatLit) (l : SatLit) → IsComplete clauses literals
-        → IsWithin given literals → Reaches clauses given l → IsTrue (holds literals l) }
+        → IsClausePart given literals → Reaches clauses given l → IsTrue (holds literals l) }
     ensures not_false { (clauses : List (List SatLit)) (literals given : List SatLit) → IsComplete clauses literals
-        → IsWithin given literals → ¬ ReachesFalse clauses given }
+        → IsClausePart given literals → ¬ ReachesFalse clauses given }
 {}
 
 /// A clause is new to unit propagation where one of its literals is not in some complete list and the negations of all
@@ -31,10 +31,10 @@ pub fn new_clause_law()
 /// false in it, and so that decisions fail, where it was complete before the last of them.
 pub fn forced_trail_law()
     ensures falsified { (clauses : List (List SatLit)) (given trail clause : List SatLit) → IsForced clauses given trail
-        → IsConsistent trail → IsWithin given trail → Contains clauses clause → IsFalseIn trail clause → ReachesFalse clauses given }
+        → IsConsistent trail → IsClausePart given trail → Contains clauses clause → IsFalseIn trail clause → ReachesFalse clauses given }
     ensures fails { (clauses : List (List SatLit)) (before : List SatLit) (last : SatLit) (prefix trail clause : List SatLit)
-        → IsComplete clauses prefix → IsWithin before prefix → holds prefix last ≡ false → holds prefix (negated last) ≡ false
-        → IsForced clauses (before ++ last ∷ []) trail → IsConsistent trail → IsWithin (before ++ last ∷ []) trail
+        → IsComplete clauses prefix → IsClausePart before prefix → holds prefix last ≡ false → holds prefix (negated last) ≡ false
+        → IsForced clauses (before ++ last ∷ []) trail → IsConsistent trail → IsClausePart (before ++ last ∷ []) trail
         → Contains clauses clause → IsFalseIn trail clause → AreFailingDecisions clauses (before ++ last ∷ []) }
 {}
 

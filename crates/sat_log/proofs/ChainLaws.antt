@@ -14,7 +14,7 @@ use Rattle.sat_log.specs.declared.chain.Premise.TheVariants.{Clause, Result}
 use Rattle.sat_log.specs.declared.chain.ChainStep.{ChainStep}
 use Rattle.sat_log.specs.declared.chain.Chain.{Chain}
 use Rattle.sat_log.specs.declared.log.LogEntry.{LogEntry}
-use Rattle.sat_log.specs.Resolution.{without, without_repeats, HasNoRepeats, resolvent, resolved}
+use Rattle.sat_log.specs.Resolution.{without_literal, each_once, HasNoRepeats, resolvent, resolved}
 use Rattle.sat_log.specs.Chains.{premise_clause, after_step, after_steps, chain_result, results, IsLogOver}
 use Rattle.sat_log.proofs.ResolutionLaws.{HasNoRepeats-made, resolved-without_repeats}
 
@@ -53,8 +53,8 @@ resolved_cases v a b outcome e =
 pub HasNoRepeats-resolved : (v : Var) (a b outcome : List SatLit) → resolved v a b ≡ Some outcome → HasNoRepeats outcome
 HasNoRepeats-resolved v a b outcome e =
     elim (resolved_cases v a b outcome e) [
-      | inl own ↦ HasNoRepeats-made outcome (without (positive v) a ++ without (negative v) b) own.2
-      | inr other ↦ HasNoRepeats-made outcome (without (positive v) b ++ without (negative v) a) other.2
+      | inl own ↦ HasNoRepeats-made outcome (without_literal (positive v) a ++ without_literal (negative v) b) own.2
+      | inr other ↦ HasNoRepeats-made outcome (without_literal (positive v) b ++ without_literal (negative v) a) other.2
     ]
 
 -- one step more
@@ -69,12 +69,12 @@ after_steps_more clauses outcomes so_far next steps i d h e =
 
 -- repeats in the first clause do not change what some steps make of it
 pub after_steps-without_repeats : (clauses outcomes : List (List SatLit)) (clause : List SatLit) (steps : List ChainStep) → 0 < length steps
-    → after_steps clauses outcomes (without_repeats clause) steps ≡ after_steps clauses outcomes clause steps
+    → after_steps clauses outcomes (each_once clause) steps ≡ after_steps clauses outcomes clause steps
 after_steps-without_repeats clauses outcomes clause [] h = absurd (omega arith)
 after_steps-without_repeats clauses outcomes clause (step ∷ steps) h =
     ap (λ (o : Option (List SatLit)). option_and_then (λ c. after_steps clauses outcomes c steps) o) (go (premise_clause clauses outcomes step.premise))
   where
-    go : (o : Option (List SatLit)) → option_and_then (resolved step.var (without_repeats clause)) o ≡ option_and_then (resolved step.var clause) o
+    go : (o : Option (List SatLit)) → option_and_then (resolved step.var (each_once clause)) o ≡ option_and_then (resolved step.var clause) o
     go None = refl
     go (Some premise) = resolved-without_repeats step.var clause premise
 
@@ -123,9 +123,9 @@ after_step_is clauses outcomes so_far next premise literals step there same reso
 
 -- the same from a copy of the first clause
 pub after_steps-started : (clauses outcomes : List (List SatLit)) (clause literals started : List SatLit) (steps : List ChainStep) → 0 < length steps → literals ≡ clause
-    → started ≡ without_repeats literals → after_steps clauses outcomes started steps ≡ after_steps clauses outcomes clause steps
+    → started ≡ each_once literals → after_steps clauses outcomes started steps ≡ after_steps clauses outcomes clause steps
 after_steps-started clauses outcomes clause literals started steps some same starts =
-    ap (λ (c : List SatLit). after_steps clauses outcomes c steps) (starts ∙ ap without_repeats same)
+    ap (λ (c : List SatLit). after_steps clauses outcomes c steps) (starts ∙ ap each_once same)
     ∙ after_steps-without_repeats clauses outcomes clause steps some
 
 -- a premise names the same clause where clauses are appended

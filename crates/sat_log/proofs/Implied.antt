@@ -16,7 +16,7 @@ use Rattle.sat_log.specs.declared.chain.Premise.TheVariants.{Clause, Result}
 use Rattle.sat_log.specs.declared.chain.ChainStep.{ChainStep}
 use Rattle.sat_log.specs.declared.chain.Chain.{Chain}
 use Rattle.sat_log.specs.declared.log.LogEntry.{LogEntry}
-use Rattle.sat_log.specs.Resolution.{without, resolvent, resolved}
+use Rattle.sat_log.specs.Resolution.{without_literal, resolvent, resolved}
 use Rattle.sat_log.specs.Chains.{premise_clause, after_step, after_steps, chain_result, results, IsLogOver}
 use Rattle.sat_log.proofs.ResolutionLaws.{holds-without, holds-without_repeats}
 use Rattle.sat_log.proofs.ChainLaws.{Some-same, resolved_cases, and_then-Some}
@@ -30,8 +30,8 @@ true_other value l m l_false m_true =
 resolvent_by_first : (value : Var → Bool) (v : Var) (a b : List SatLit) → value v ≡ false → clause_value value a ≡ true → clause_value value (resolvent v a b) ≡ true
 resolvent_by_first value v a b v_false =
     clause_value-within value a (resolvent v a b) (λ l h t.
-    holds-without_repeats (without (positive v) a ++ without (negative v) b) l
-    ∙ holds-append (without (positive v) a) (without (negative v) b) l
+    holds-without_repeats (without_literal (positive v) a ++ without_literal (negative v) b) l
+    ∙ holds-append (without_literal (positive v) a) (without_literal (negative v) b) l
     ∙ or_left _ _ (holds-without (positive v) a l
     ∙ and_from _ _ h (not_from_false _ (true_other value (positive v) l v_false t))))
 
@@ -39,9 +39,9 @@ resolvent_by_first value v a b v_false =
 resolvent_by_second : (value : Var → Bool) (v : Var) (a b : List SatLit) → value v ≡ true → clause_value value b ≡ true → clause_value value (resolvent v a b) ≡ true
 resolvent_by_second value v a b v_true =
     clause_value-within value b (resolvent v a b) (λ l h t.
-    holds-without_repeats (without (positive v) a ++ without (negative v) b) l
-    ∙ holds-append (without (positive v) a) (without (negative v) b) l
-    ∙ or_right (holds (without (positive v) a) l) _ (holds-without (negative v) b l
+    holds-without_repeats (without_literal (positive v) a ++ without_literal (negative v) b) l
+    ∙ holds-append (without_literal (positive v) a) (without_literal (negative v) b) l
+    ∙ or_right (holds (without_literal (positive v) a) l) _ (holds-without (negative v) b l
     ∙ and_from _ _ h (not_from_false _ (true_other value (negative v) l (not_from_true _ v_true) t))))
 
 pub resolvent_true : (value : Var → Bool) (v : Var) (a b : List SatLit) → clause_value value a ≡ true → clause_value value b ≡ true → clause_value value (resolvent v a b) ≡ true

@@ -8,7 +8,7 @@ use Rattle.sat_base.specs.Literal.{negated, same_literal, holds, IsAlike}
 use Rattle.sat_base.specs.Truth.{literal_value, clause_value, AllTrue, only, Unsat, Implies}
 use Rattle.sat_base.proofs.LiteralLaws.{same_literal-true, same_literal-refl, holds-append, All-held, All-from_held}
 use Rattle.sat_base.proofs.TruthLaws.{literal_value-negated, clause_value-false, true_or_false}
-use Rattle.sat_log.specs.Resolution.{without}
+use Rattle.sat_log.specs.Resolution.{without_literal}
 use Rattle.sat_log.proofs.ResolutionLaws.{holds-without}
 use Rattle.sat_log.specs.Propagation.{IsNew, IsUnit, IsFalseIn, Propagates, IsPropagation, Reaches, ReachesFalse, Includes}
 
@@ -119,9 +119,9 @@ holds-map_negated (m ∷ literals) l h =
     ]
 
 -- the negation of another literal of a clause is among those of its literals without one
-other_negated : (clause : List SatLit) (l m : SatLit) → holds clause m ≡ true → m ≢ l → holds (map negated (without l clause)) (negated m) ≡ true
+other_negated : (clause : List SatLit) (l m : SatLit) → holds clause m ≡ true → m ≢ l → holds (map negated (without_literal l clause)) (negated m) ≡ true
 other_negated clause l m h other =
-    holds-map_negated (without l clause) m
+    holds-map_negated (without_literal l clause) m
     (holds-without l clause m ∙ and_from _ _ h (not_from_false _ (false_from_ne_true (same_literal l m) (λ e. other (sym (same_literal-true l m e))))))
 
 -- a new clause is like none of the clauses
@@ -171,7 +171,7 @@ IsNew-apart clauses clause other new there alike =
     l = new.literal
 
     given : List SatLit
-    given = map negated (without new.literal clause)
+    given = map negated (without_literal new.literal clause)
 
-    rest : (m : SatLit) → holds other m ≡ true → same_literal m new.literal ≡ false → holds (map negated (without new.literal clause)) (negated m) ≡ true
+    rest : (m : SatLit) → holds other m ≡ true → same_literal m new.literal ≡ false → holds (map negated (without_literal new.literal clause)) (negated m) ≡ true
     rest m h apart = other_negated clause new.literal m (sym (alike m) ∙ h) (λ e. false≢true (sym apart ∙ subst (λ (k : SatLit). same_literal m k ≡ true) e (same_literal-refl m)))

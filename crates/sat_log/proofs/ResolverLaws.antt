@@ -12,8 +12,8 @@ use Rattle.sat_base.proofs.LiteralLaws.{same_literal-comm, same_literal-refl, ho
 use Rattle.sat_log.specs.declared.resolver.Placed.{Placed}
 use Rattle.sat_log.specs.declared.stamps.Stamps.{Stamps}
 use Rattle.sat_log.specs.Internal.Stamps.{stamp_of, Updates}
-use Rattle.sat_log.specs.Resolution.{without}
-use Rattle.sat_log.specs.Internal.Resolver.{is_stamp, is_live, live, in_order, IsMarked}
+use Rattle.sat_log.specs.Resolution.{without_literal}
+use Rattle.sat_log.specs.Internal.Resolver.{is_stamp, is_live, live, placed_in_order, IsStamped}
 use Rattle.sat_log.proofs.ResolutionLaws.{holds-without, without-cons_same, without-cons_other}
 
 pub live-append : (table : List Stamps) (xs ys : List Placed) → live table (xs ++ ys) ≡ live table xs ++ live table ys
@@ -26,12 +26,12 @@ live-append table (placed ∷ xs) ys = go (is_live table placed) refl (live-appe
 
 -- a literal whose number in the table is none of those placed no longer counts
 pub live-updated : (old new : List Stamps) (l : SatLit) (stamp : Option ℕ) → Updates old new l stamp
-    → (placed : List Placed) → All (λ p. is_stamp stamp p.stamp ≡ false) placed → live new placed ≡ without l (live old placed)
+    → (placed : List Placed) → All (λ p. is_stamp stamp p.stamp ≡ false) placed → live new placed ≡ without_literal l (live old placed)
 live-updated old new l stamp updates [] apart = refl
 live-updated old new l stamp updates (p ∷ placed) apart =
     go (same_literal l p.literal) (is_live old p) refl refl (live-updated old new l stamp updates placed (All-tail (λ p. is_stamp stamp p.stamp ≡ false) p placed apart))
   where
-    go : (a b : Bool) → same_literal l p.literal ≡ a → is_live old p ≡ b → live new placed ≡ without l (live old placed) → live new (p ∷ placed) ≡ without l (live old (p ∷ placed))
+    go : (a b : Bool) → same_literal l p.literal ≡ a → is_live old p ≡ b → live new placed ≡ without_literal l (live old placed) → live new (p ∷ placed) ≡ without_literal l (live old (p ∷ placed))
     go true true e f rest =
         let dead : is_live new p ≡ false =
         ap (λ s. is_stamp s p.stamp) (updates p.literal ∙ rw e refl) ∙ All-head (λ q. is_stamp stamp q.stamp ≡ false) p placed apart in
@@ -48,7 +48,7 @@ live-updated old new l stamp updates (p ∷ placed) apart =
         simp (still, f) rest
 
 -- which literals the table has a number for after an update
-marked-updated : (placed : List Placed) (old new : List Stamps) (l : SatLit) (stamp : Option ℕ) → IsMarked placed old → Updates old new l stamp
+marked-updated : (placed : List Placed) (old new : List Stamps) (l : SatLit) (stamp : Option ℕ) → IsStamped placed old → Updates old new l stamp
     → (m : SatLit) → is_some (stamp_of new m) ≡ cond (same_literal l m) (is_some stamp) (holds (live old placed) m)
 marked-updated placed old new l stamp marks updates m =
     ap is_some (updates m) ∙ by_case (same_literal l m) ∙ ap (λ (b : Bool). cond (same_literal l m) (is_some stamp) b) (marks.marked m)
@@ -76,10 +76,10 @@ at_back_test false true = refl
 at_back_test false false = refl
 
 -- a literal whose number is taken from the table is taken out of the clause
-pub removed : (placed : List Placed) (old new : List Stamps) (l : SatLit) → IsMarked placed old → Updates old new l None
-    → IsMarked placed new × (live new placed ≡ without l (live old placed))
+pub removed : (placed : List Placed) (old new : List Stamps) (l : SatLit) → IsStamped placed old → Updates old new l None
+    → IsStamped placed new × (live new placed ≡ without_literal l (live old placed))
 removed placed old new l marks updates =
-    let rest : live new placed ≡ without l (live old placed) = live-updated old new l None updates placed (λ _ _ _. refl) in (
+    let rest : live new placed ≡ without_literal l (live old placed) = live-updated old new l None updates placed (λ _ _ _. refl) in (
       record {
         stamps = marks.stamps;
         marked = λ m.
@@ -91,7 +91,7 @@ removed placed old new l marks updates =
     )
 
 -- a number that none has is none of those placed
-fresh : (placed : List Placed) (table : List Stamps) (n : ℕ) → n ≡ length placed → IsMarked placed table → All (λ p. is_stamp (Some n) p.stamp ≡ false) placed
+fresh : (placed : List Placed) (table : List Stamps) (n : ℕ) → n ≡ length placed → IsStamped placed table → All (λ p. is_stamp (Some n) p.stamp ≡ false) placed
 fresh placed table n e marks =
     All-weaker (λ p. p.stamp < length placed) (λ p. is_stamp (Some n) p.stamp ≡ false) (λ p h. ne_eqb n p.stamp (λ same. omega arith)) placed marks.stamps
 
@@ -102,13 +102,13 @@ counts old new l n updates =
     ap (λ s. is_stamp s n) is ∙ eq-eqb n n refl
 
 -- a literal that is placed in front, with a new number, moves there
-pub moved_to_front : (placed : List Placed) (old new : List Stamps) (l : SatLit) (n : ℕ) → n ≡ length placed → IsMarked placed old → Updates old new l (Some n)
-    → IsMarked (record { literal = l; stamp = n } ∷ placed) new × (live new (record { literal = l; stamp = n } ∷ placed) ≡ l ∷ without l (live old placed))
+pub moved_to_front : (placed : List Placed) (old new : List Stamps) (l : SatLit) (n : ℕ) → n ≡ length placed → IsStamped placed old → Updates old new l (Some n)
+    → IsStamped (record { literal = l; stamp = n } ∷ placed) new × (live new (record { literal = l; stamp = n } ∷ placed) ≡ l ∷ without_literal l (live old placed))
 moved_to_front placed old new l n e marks updates =
     let p : Placed = record { literal = l; stamp = n } in
     let rest = live-updated old new l (Some n) updates placed (fresh placed old n e marks) in
     let here : is_live new p ≡ true = counts old new l n updates in
-    let whole : live new (p ∷ placed) ≡ l ∷ without l (live old placed) = simp here (ap (λ (r : List SatLit). l ∷ r) rest) in (
+    let whole : live new (p ∷ placed) ≡ l ∷ without_literal l (live old placed) = simp here (ap (λ (r : List SatLit). l ∷ r) rest) in (
       record {
         stamps = All-cons (λ q. q.stamp < length (p ∷ placed)) p placed (omega arith)
             (All-weaker (λ q. q.stamp < length placed) (λ q. q.stamp < length (p ∷ placed)) (λ q h. omega arith) placed marks.stamps);
@@ -121,14 +121,14 @@ moved_to_front placed old new l n e marks updates =
     )
 
 -- a literal that is placed at the back, with a new number, moves there
-pub moved_to_back : (placed : List Placed) (old new : List Stamps) (l : SatLit) (n : ℕ) → n ≡ length placed → IsMarked placed old → Updates old new l (Some n)
-    → IsMarked (placed ++ record { literal = l; stamp = n } ∷ []) new × (live new (placed ++ record { literal = l; stamp = n } ∷ []) ≡ without l (live old placed) ++ l ∷ [])
+pub moved_to_back : (placed : List Placed) (old new : List Stamps) (l : SatLit) (n : ℕ) → n ≡ length placed → IsStamped placed old → Updates old new l (Some n)
+    → IsStamped (placed ++ record { literal = l; stamp = n } ∷ []) new × (live new (placed ++ record { literal = l; stamp = n } ∷ []) ≡ without_literal l (live old placed) ++ l ∷ [])
 moved_to_back placed old new l n e marks updates =
     let p : Placed = record { literal = l; stamp = n } in
     let rest = live-updated old new l (Some n) updates placed (fresh placed old n e marks) in
     let here : is_live new p ≡ true = counts old new l n updates in
     let last : live new (p ∷ []) ≡ l ∷ [] = simp here refl in
-    let whole : live new (placed ++ p ∷ []) ≡ without l (live old placed) ++ l ∷ [] = live-append new placed (p ∷ []) ∙ ap₂ ◌++◌ rest last in
+    let whole : live new (placed ++ p ∷ []) ≡ without_literal l (live old placed) ++ l ∷ [] = live-append new placed (p ∷ []) ∙ ap₂ ◌++◌ rest last in
     let longer : length (placed ++ p ∷ []) ≡ suc (length placed) = length-append placed (p ∷ []) ∙ omega arith in (
       record {
         stamps = All-push (λ q. q.stamp < length (placed ++ p ∷ [])) placed p
@@ -137,33 +137,33 @@ moved_to_back placed old new l n e marks updates =
         marked = λ m.
             marked-updated placed old new l (Some n) marks updates m
             ∙ sym (at_back_test (holds (live old placed) m) (same_literal l m))
-            ∙ sym (ap (λ (r : List SatLit). holds r m) whole ∙ holds-append (without l (live old placed)) (l ∷ []) m
+            ∙ sym (ap (λ (r : List SatLit). holds r m) whole ∙ holds-append (without_literal l (live old placed)) (l ∷ []) m
             ∙ ap₂ ◌||◌ (holds-without l (live old placed) m) (ap (λ (b : Bool). b || false) (same_literal-comm m l)));
       },
       whole,
     )
 
-length-in_order : (front back : List Placed) → length (in_order front back) ≡ length front + length back
+length-in_order : (front back : List Placed) → length (placed_in_order front back) ≡ length front + length back
 length-in_order front back = length-append (reverse front) back ∙ ap (λ (n : ℕ). n + length back) (length-reverse front)
 
 -- the same for the two lists in which the literals stand
 pub pushed_to_front : (front back longer : List Placed) (old new : List Stamps) (l : SatLit) (n : ℕ) → longer ≡ front ++ record { literal = l; stamp = n } ∷ []
-    → n ≡ length front + length back → IsMarked (in_order front back) old → Updates old new l (Some n)
-    → IsMarked (in_order longer back) new × (live new (in_order longer back) ≡ l ∷ without l (live old (in_order front back)))
+    → n ≡ length front + length back → IsStamped (placed_in_order front back) old → Updates old new l (Some n)
+    → IsStamped (placed_in_order longer back) new × (live new (placed_in_order longer back) ≡ l ∷ without_literal l (live old (placed_in_order front back)))
 pushed_to_front front back longer old new l n pushed e marks updates =
     let p : Placed = record { literal = l; stamp = n } in
-    let Moves : List Placed → Type 0 = λ placed. IsMarked placed new × (live new placed ≡ l ∷ without l (live old (in_order front back))) in
-    let order : p ∷ in_order front back ≡ in_order longer back = sym (ap (λ (f : List Placed). reverse f ++ back) pushed ∙ ap (λ (r : List Placed). r ++ back) (reverse-append front (p ∷ []))) in
-    subst Moves order (moved_to_front (in_order front back) old new l n (e ∙ sym (length-in_order front back)) marks updates)
+    let Moves : List Placed → Type 0 = λ placed. IsStamped placed new × (live new placed ≡ l ∷ without_literal l (live old (placed_in_order front back))) in
+    let order : p ∷ placed_in_order front back ≡ placed_in_order longer back = sym (ap (λ (f : List Placed). reverse f ++ back) pushed ∙ ap (λ (r : List Placed). r ++ back) (reverse-append front (p ∷ []))) in
+    subst Moves order (moved_to_front (placed_in_order front back) old new l n (e ∙ sym (length-in_order front back)) marks updates)
 
 pub pushed_to_back : (front back longer : List Placed) (old new : List Stamps) (l : SatLit) (n : ℕ) → longer ≡ back ++ record { literal = l; stamp = n } ∷ []
-    → n ≡ length front + length back → IsMarked (in_order front back) old → Updates old new l (Some n)
-    → IsMarked (in_order front longer) new × (live new (in_order front longer) ≡ without l (live old (in_order front back)) ++ l ∷ [])
+    → n ≡ length front + length back → IsStamped (placed_in_order front back) old → Updates old new l (Some n)
+    → IsStamped (placed_in_order front longer) new × (live new (placed_in_order front longer) ≡ without_literal l (live old (placed_in_order front back)) ++ l ∷ [])
 pushed_to_back front back longer old new l n pushed e marks updates =
     let p : Placed = record { literal = l; stamp = n } in
-    let Moves : List Placed → Type 0 = λ placed. IsMarked placed new × (live new placed ≡ without l (live old (in_order front back)) ++ l ∷ []) in
-    let order : in_order front back ++ p ∷ [] ≡ in_order front longer = append_assoc (reverse front) back (p ∷ []) ∙ ap (λ (b : List Placed). reverse front ++ b) (sym pushed) in
-    subst Moves order (moved_to_back (in_order front back) old new l n (e ∙ sym (length-in_order front back)) marks updates)
+    let Moves : List Placed → Type 0 = λ placed. IsStamped placed new × (live new placed ≡ without_literal l (live old (placed_in_order front back)) ++ l ∷ []) in
+    let order : placed_in_order front back ++ p ∷ [] ≡ placed_in_order front longer = append_assoc (reverse front) back (p ∷ []) ∙ ap (λ (b : List Placed). reverse front ++ b) (sym pushed) in
+    subst Moves order (moved_to_back (placed_in_order front back) old new l n (e ∙ sym (length-in_order front back)) marks updates)
 
 -- whether a literal was placed, however it is now
 abbrev is_named : List Placed → SatLit → Bool
@@ -239,10 +239,10 @@ is_named-reverse (p ∷ placed) l =
     turned false false = refl
 
 -- a table from which all placed literals are taken fits the clause of no literal
-pub IsMarked-forgotten : (front back : List Placed) (old between new : List Stamps) → IsMarked (in_order front back) old
+pub IsMarked-forgotten : (front back : List Placed) (old between new : List Stamps) → IsStamped (placed_in_order front back) old
     → ((l : SatLit) → stamp_of between l ≡ cond (is_named front l) None (stamp_of old l))
     → ((l : SatLit) → stamp_of new l ≡ cond (is_named back l) None (stamp_of between l))
-    → IsMarked [] new
+    → IsStamped [] new
 IsMarked-forgotten front back old between new marks first second = record {
   stamps = All-nil (λ p. p.stamp < 0);
   marked = λ l. ap is_some (second l ∙ ap (λ (s : Option ℕ). cond (is_named back l) None s) (first l)) ∙ go l (is_named front l) (is_named back l) refl refl;
@@ -253,12 +253,12 @@ IsMarked-forgotten front back old between new marks first second = record {
     go l true false e f = refl
     go l false false e f =
         marks.marked l
-        ∙ live_unnamed old (in_order front back) l
+        ∙ live_unnamed old (placed_in_order front back) l
         (list_any-append (λ p. same_literal p.literal l) (reverse front) back ∙ or_from _ _ (is_named-reverse front l ∙ e) f)
 
 -- the clause, collected from the two lists
 pub collected : (table : List Stamps) (front back f b : List Placed) (empty first whole : List SatLit) → f ≡ front → b ≡ back
-    → empty ≡ [] → first ≡ empty ++ live table (reverse f) → whole ≡ first ++ live table b → whole ≡ live table (in_order front back)
+    → empty ≡ [] → first ≡ empty ++ live table (reverse f) → whole ≡ first ++ live table b → whole ≡ live table (placed_in_order front back)
 collected table front back f b empty first whole f_is b_is empty_is first_is whole_is =
     let joined = live-append table (reverse front) back in
     let started : first ≡ live table (reverse front) =

@@ -4,9 +4,9 @@ use Rattle.std.specs.Bool.{beq}
 use Rattle.std.proofs.lemmas.Bool.{false≢true, cases_Bool, and_parts, and_from, and_right, and_cases, or_cases, or_left, or_right, false_from_ne_true, not-true, not_from_true, not_from_false}
 use Rattle.sat_base.specs.declared.literal.Var.{Var}
 use Rattle.sat_base.specs.declared.literal.SatLit.{SatLit}
-use Rattle.sat_base.specs.Literal.{positive, negative, negated, same_var, same_literal, holds, mentions, HoldsNoVariableTwice}
+use Rattle.sat_base.specs.Literal.{positive, negative, negated, same_var, same_literal, holds, mentions_variable, HoldsNoVariableTwice}
 use Rattle.sat_base.proofs.LiteralLaws.{same_literal-refl, same_literal-true, sign_cases, holds-append, negated-negated, not_both, All-held}
-use Rattle.sat_log.specs.Resolution.{without, without_repeats, HasNoRepeats, resolvent, ClashesOnlyOn}
+use Rattle.sat_log.specs.Resolution.{without_literal, each_once, HasNoRepeats, resolvent, ClashesOnlyOn}
 use Rattle.sat_log.specs.Propagation.{IsFalseIn, IsConsistent}
 use Rattle.sat_log.proofs.ResolutionLaws.{holds-without, holds-without_repeats, without_repeats-without_repeats, HasNoRepeats-made, without-without_repeats}
 
@@ -25,10 +25,10 @@ beq_not false true e = refl
 beq_not false false e = absurd (false≢true (sym e))
 
 -- a variable that is mentioned is that of one of two literals
-pub mentioned_as : (literals : List SatLit) (l : SatLit) → mentions literals l.var ≡ true → (holds literals l ≡ true) ⊎ (holds literals (negated l) ≡ true)
+pub mentioned_as : (literals : List SatLit) (l : SatLit) → mentions_variable literals l.var ≡ true → (holds literals l ≡ true) ⊎ (holds literals (negated l) ≡ true)
 mentioned_as [] l h = absurd (false≢true h)
 mentioned_as (m ∷ literals) l h =
-    elim (or_cases (same_var l.var m.var) (mentions literals l.var) h) [
+    elim (or_cases (same_var l.var m.var) (mentions_variable literals l.var) h) [
       | inl here ↦ elim (cases_Bool (same_literal l m)) [
         | inl same ↦ inl (or_left _ _ same)
         | inr other ↦ inr (or_left _ _ (and_from _ _ here (beq_not l.positive m.positive (elim (and_cases (same_var l.var m.var) (beq l.positive m.positive) other) [
@@ -49,13 +49,13 @@ tail_of x xs ys e = cc
 pub HoldsNoVariableTwice-from : (literals : List SatLit) → HasNoRepeats literals → IsConsistent literals → HoldsNoVariableTwice literals
 HoldsNoVariableTwice-from [] once apart = tt
 HoldsNoVariableTwice-from (l ∷ literals) once apart =
-    let rest : without l (without_repeats literals) ≡ literals = tail_of l (without l (without_repeats literals)) literals once in
+    let rest : without_literal l (each_once literals) ≡ literals = tail_of l (without_literal l (each_once literals)) literals once in
     let not_again : holds literals l ≡ false =
     ap (λ (ls : List SatLit). holds ls l) (sym rest)
-    ∙ holds-without l (without_repeats literals) l
-    ∙ and_right (holds (without_repeats literals) l) _ (not_from_true _ (same_literal-refl l)) in
-    let once_rest = HasNoRepeats-made literals (without l literals) (sym rest ∙ without-without_repeats l literals) in (
-      false_from_ne_true (mentions literals l.var) (λ t. elim (mentioned_as literals l t) [
+    ∙ holds-without l (each_once literals) l
+    ∙ and_right (holds (each_once literals) l) _ (not_from_true _ (same_literal-refl l)) in
+    let once_rest = HasNoRepeats-made literals (without_literal l literals) (sym rest ∙ without-without_repeats l literals) in (
+      false_from_ne_true (mentions_variable literals l.var) (λ t. elim (mentioned_as literals l t) [
         | inl again ↦ false≢true (sym not_again ∙ again)
         | inr denied ↦ apart l (or_left _ _ (same_literal-refl l)) (or_right (same_literal (negated l) l) _ denied)
       ]),
@@ -63,29 +63,29 @@ HoldsNoVariableTwice-from (l ∷ literals) once apart =
     )
 
 resolvent-HasNoRepeats : (v : Var) (a b : List SatLit) → HasNoRepeats (resolvent v a b)
-resolvent-HasNoRepeats v a b = without_repeats-without_repeats (without (positive v) a ++ without (negative v) b)
+resolvent-HasNoRepeats v a b = without_repeats-without_repeats (without_literal (positive v) a ++ without_literal (negative v) b)
 
 -- where a literal of a resolvent comes from
 holds-resolvent : (v : Var) (a b : List SatLit) (l : SatLit) → holds (resolvent v a b) l ≡ true
     → ((holds a l ≡ true) × (same_literal (positive v) l ≡ false)) ⊎ ((holds b l ≡ true) × (same_literal (negative v) l ≡ false))
 holds-resolvent v a b l h =
-    let in_parts = sym (holds-without_repeats (without (positive v) a ++ without (negative v) b) l ∙ holds-append (without (positive v) a) (without (negative v) b) l) ∙ h in
-    elim (or_cases (holds (without (positive v) a) l) (holds (without (negative v) b) l) in_parts) [
+    let in_parts = sym (holds-without_repeats (without_literal (positive v) a ++ without_literal (negative v) b) l ∙ holds-append (without_literal (positive v) a) (without_literal (negative v) b) l) ∙ h in
+    elim (or_cases (holds (without_literal (positive v) a) l) (holds (without_literal (negative v) b) l) in_parts) [
       | inl first ↦ let parts = and_parts (holds a l) _ (sym (holds-without (positive v) a l) ∙ first) in inl (parts.0, not-true _ parts.1)
       | inr second ↦ let parts = and_parts (holds b l) _ (sym (holds-without (negative v) b l) ∙ second) in inr (parts.0, not-true _ parts.1)
     ]
 
 holds-resolvent_first : (v : Var) (a b : List SatLit) (l : SatLit) → holds a l ≡ true → same_literal (positive v) l ≡ false → holds (resolvent v a b) l ≡ true
 holds-resolvent_first v a b l h other =
-    holds-without_repeats (without (positive v) a ++ without (negative v) b) l
-    ∙ holds-append (without (positive v) a) (without (negative v) b) l
+    holds-without_repeats (without_literal (positive v) a ++ without_literal (negative v) b) l
+    ∙ holds-append (without_literal (positive v) a) (without_literal (negative v) b) l
     ∙ or_left _ _ (holds-without (positive v) a l ∙ and_from _ _ h (not_from_false _ other))
 
 holds-resolvent_second : (v : Var) (a b : List SatLit) (l : SatLit) → holds b l ≡ true → same_literal (negative v) l ≡ false → holds (resolvent v a b) l ≡ true
 holds-resolvent_second v a b l h other =
-    holds-without_repeats (without (positive v) a ++ without (negative v) b) l
-    ∙ holds-append (without (positive v) a) (without (negative v) b) l
-    ∙ or_right (holds (without (positive v) a) l) _ (holds-without (negative v) b l ∙ and_from _ _ h (not_from_false _ other))
+    holds-without_repeats (without_literal (positive v) a ++ without_literal (negative v) b) l
+    ∙ holds-append (without_literal (positive v) a) (without_literal (negative v) b) l
+    ∙ or_right (holds (without_literal (positive v) a) l) _ (holds-without (negative v) b l ∙ and_from _ _ h (not_from_false _ other))
 
 -- a literal that is the one on v is not another one
 not_other : (k l : SatLit) → l ≡ k → same_literal k l ≡ false → ⊥

@@ -3,7 +3,7 @@ use Rattle.std.specs.Prelude.{◌≡◌, ◌≢◌, false, IsTrue, List, [], ◌
 use Rattle.std.specs.List.{All, Any, Contains}
 use Rattle.sat_base.specs.declared.literal.SatLit.{SatLit}
 use Rattle.sat_base.specs.Literal.{negated, holds}
-use Rattle.sat_log.specs.Resolution.{without}
+use Rattle.sat_log.specs.Resolution.{without_literal}
 
 -- a literal is the only one of a clause whose negation is not in the list
 pub record IsUnit (literals clause : List SatLit) (l : SatLit) : Type 0 where
@@ -58,8 +58,8 @@ pub record AreFailingDecisions (clauses : List (List SatLit)) (decisions : List 
 pub record IsNew (clauses : List (List SatLit)) (clause : List SatLit) : Type 0 where
   pub literal : SatLit
   pub member : IsTrue (holds clause literal)
-  pub unreached : ¬ Reaches clauses (map negated (without literal clause)) literal
-  pub consistent : ¬ ReachesFalse clauses (map negated (without literal clause))
+  pub unreached : ¬ Reaches clauses (map negated (without_literal literal clause)) literal
+  pub consistent : ¬ ReachesFalse clauses (map negated (without_literal literal clause))
 
 -- all clauses of one list are in another
 abbrev pub Includes : List (List SatLit) → List (List SatLit) → Type 0

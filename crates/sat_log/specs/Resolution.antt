@@ -5,21 +5,21 @@ use Rattle.sat_base.specs.declared.literal.SatLit.{SatLit}
 use Rattle.sat_base.specs.Literal.{positive, negative, negated, same_literal, holds}
 
 -- the list without this literal
-abbrev pub without : SatLit → List SatLit → List SatLit
-without l literals = filter (λ m. not (same_literal l m)) literals
+abbrev pub without_literal : SatLit → List SatLit → List SatLit
+without_literal l literals = filter (λ m. not (same_literal l m)) literals
 
 -- each literal once, at its first place
-abbrev pub without_repeats : List SatLit → List SatLit
-without_repeats [] = []
-without_repeats (l ∷ literals) = l ∷ without l (without_repeats literals)
+abbrev pub each_once : List SatLit → List SatLit
+each_once [] = []
+each_once (l ∷ literals) = l ∷ without_literal l (each_once literals)
 
 -- no literal stands in the list twice
 abbrev pub HasNoRepeats : List SatLit → Type 0
-HasNoRepeats literals = without_repeats literals ≡ literals
+HasNoRepeats literals = each_once literals ≡ literals
 
 -- the resolvent on v of a, which holds v, and b, which holds its negation: a without v and b without its negation, without repeats
 abbrev pub resolvent : Var → List SatLit → List SatLit → List SatLit
-resolvent v a b = without_repeats (without (positive v) a ++ without (negative v) b)
+resolvent v a b = each_once (without_literal (positive v) a ++ without_literal (negative v) b)
 
 -- the resolvent on v of two clauses, where one holds v and the other its negation. Where both hold both, the first one gives v
 abbrev pub resolved : Var → List SatLit → List SatLit → Option (List SatLit)

@@ -3,7 +3,7 @@ ghost use Rattle.std.specs.Prelude.{◌≡◌, ◌&&◌, [], ◌∷◌, ◌++◌
 ghost use Rattle.std.specs.List.{list_any};
 ghost use Rattle.sat_base.specs.declared.literal.SatLit.{SatLit};
 ghost use Rattle.sat_base.specs.Literal.{holds, same_literal};
-ghost use Rattle.sat_log.specs.Resolution.{without, without_repeats, HasNoRepeats, resolved, resolvent};
+ghost use Rattle.sat_log.specs.Resolution.{without_literal, each_once, HasNoRepeats, resolved, resolvent};
 ghost use Rattle.sat_log.specs.Internal.Stamps.{stamp_of};
 ghost use Rattle.sat_log.specs.Internal.Resolver.{is_live as is_live_in, live};
 
@@ -32,13 +32,13 @@ pub struct Resolver {
 impl Model for Resolver {
     ghost use Rattle.std.specs.Prelude.{List};
     ghost use Rattle.sat_base.specs.declared.literal.SatLit.{SatLit};
-    ghost use Rattle.sat_log.specs.Internal.Resolver.{live, in_order, IsMarked};
+    ghost use Rattle.sat_log.specs.Internal.Resolver.{live, placed_in_order, IsStamped};
 
     ghost Value = { List SatLit };
 
-    ghost view = { λ r. live r.table (in_order r.front.items r.back.items) };
+    ghost view = { λ r. live r.table (placed_in_order r.front.items r.back.items) };
 
-    ghost invariant = { λ r. IsMarked (in_order r.front.items r.back.items) r.table };
+    ghost invariant = { λ r. IsStamped (placed_in_order r.front.items r.back.items) r.table };
 }
 
 impl Resolver {
@@ -63,14 +63,14 @@ impl Resolver {
 
     /// Takes the literal out of the clause.
     pub fn remove(&mut self, literal: SatLit)
-        ensures { self.new ≡ without literal self.old }
+        ensures { self.new ≡ without_literal literal self.old }
     {
         self.table.forget(literal);
     }
 
     /// Puts the literal at the front, from wherever it was.
     pub fn move_to_front(&mut self, literal: SatLit) -> Result<(), AllocError>
-        ensures { OnOk result (self.new ≡ literal ∷ without literal self.old) }
+        ensures { OnOk result (self.new ≡ literal ∷ without_literal literal self.old) }
     {
         let stamp = self.front.len() + self.back.len();
         self.front.reserve(1)?;
@@ -81,7 +81,7 @@ impl Resolver {
 
     /// Puts the literal at the back, from wherever it was.
     pub fn move_to_back(&mut self, literal: SatLit) -> Result<(), AllocError>
-        ensures { OnOk result (self.new ≡ without literal self.old ++ literal ∷ []) }
+        ensures { OnOk result (self.new ≡ without_literal literal self.old ++ literal ∷ []) }
     {
         let stamp = self.front.len() + self.back.len();
         self.back.reserve(1)?;
@@ -93,7 +93,7 @@ impl Resolver {
     /// Puts the literal at the back where it is not in the clause yet.
     fn add(&mut self, literal: SatLit) -> Result<(), AllocError>
         requires { HasNoRepeats self.old }
-        ensures { OnOk result (self.new ≡ without_repeats (self.old ++ literal ∷ [])) }
+        ensures { OnOk result (self.new ≡ each_once (self.old ++ literal ∷ [])) }
     {
         if !self.contains(literal) {
             self.move_to_back(literal)?;
@@ -104,7 +104,7 @@ impl Resolver {
     /// Takes the literals of a clause, where there are none yet.
     pub fn start(&mut self, literals: &[SatLit]) -> Result<(), AllocError>
         requires { self.old ≡ [] }
-        ensures { OnOk result (self.new ≡ without_repeats literals.now) }
+        ensures { OnOk result (self.new ≡ each_once literals.now) }
     {
         for literal in literals {
             self.add(*literal)?;
@@ -115,7 +115,7 @@ impl Resolver {
     /// Adds the other literals of a clause at the back.
     fn append_others(&mut self, literals: &[SatLit], dropped: SatLit) -> Result<(), AllocError>
         requires { HasNoRepeats self.old }
-        ensures { OnOk result (self.new ≡ without_repeats (self.old ++ without dropped literals.now)) }
+        ensures { OnOk result (self.new ≡ each_once (self.old ++ without_literal dropped literals.now)) }
     {
         for literal in literals {
             if dropped != *literal {
@@ -128,7 +128,7 @@ impl Resolver {
     /// Moves the other literals of a clause to the front, in their order.
     fn prepend_others(&mut self, literals: &[SatLit], dropped: SatLit) -> Result<(), AllocError>
         requires { HasNoRepeats self.old }
-        ensures { OnOk result (self.new ≡ without_repeats (without dropped literals.now ++ self.old)) }
+        ensures { OnOk result (self.new ≡ each_once (without_literal dropped literals.now ++ self.old)) }
     {
         for i in (0..literals.len()).rev() {
             let literal = literals[i];

@@ -8,18 +8,18 @@ use Rattle.std.proofs.lemmas.List.Elements.{All-weaker, All-head, All-tail, All-
 use Rattle.std.proofs.lemmas.Option.{slice_get-map, slice_get-get_or, slice_get_within, same_Some}
 use Rattle.std.proofs.lemmas.Bool.{ltb-true}
 use Rattle.sat_base.specs.declared.literal.SatLit.{SatLit}
-use Rattle.sat_propagate.specs.Internal.ClauseTable.{Watched, Clauses, headed, all_headed, AreHeads}
+use Rattle.sat_propagate.specs.Internal.ClauseTable.{Watched, Clauses, with_head, all_headed, AreHeads}
 use Rattle.sat_propagate.specs.declared.clause_table.Head.{Head}
 
-pub all_headed-get : (literals : List SatLit) (heads : List Head) (n : ℕ) (head : Head) → slice_get heads n ≡ Some head → slice_get (all_headed literals heads) n ≡ Some (headed literals head)
-all_headed-get literals heads n head at = slice_get-map (headed literals) heads n ∙ ap (option_map (headed literals)) at
+pub all_headed-get : (literals : List SatLit) (heads : List Head) (n : ℕ) (head : Head) → slice_get heads n ≡ Some head → slice_get (all_headed literals heads) n ≡ Some (with_head literals head)
+all_headed-get literals heads n head at = slice_get-map (with_head literals) heads n ∙ ap (option_map (with_head literals)) at
 
 -- a head's literals are within a list
 abbrev IsInside : List SatLit → Head → Type 0
 IsInside literals head = head.start + head.len ≤ length literals
 
 -- a clause is as it was where literals are appended
-headed-append : (literals more : List SatLit) (head : Head) → head.start + head.len ≤ length literals → headed (literals ++ more) head ≡ headed literals head
+headed-append : (literals more : List SatLit) (head : Head) → head.start + head.len ≤ length literals → with_head (literals ++ more) head ≡ with_head literals head
 headed-append literals more head within =
     ap (λ (clause : List SatLit). let w : Watched = record { clause = clause; first = head.first; second = head.second } in w)
     (ap (take head.len) (drop-append-le head.start literals more (omega (arith, within)))
@@ -35,10 +35,10 @@ all_headed-append literals more (head ∷ heads) within =
 pub all_headed-push : (literals clause : List SatLit) (heads : List Head) (head : Head) → AreHeads literals heads → head.start ≡ length literals → head.len ≡ length clause
     → all_headed (literals ++ clause) (heads ++ head ∷ []) ≡ all_headed literals heads ++ record { clause = clause; first = head.first; second = head.second } ∷ []
 all_headed-push literals clause heads head within start len =
-    map-append (headed (literals ++ clause)) heads (head ∷ [])
+    map-append (with_head (literals ++ clause)) heads (head ∷ [])
     ∙ ap₂ (λ (all : List Watched) (w : Watched). all ++ w ∷ []) (all_headed-append literals clause heads within) last
   where
-    last : headed (literals ++ clause) head ≡ record { clause = clause; first = head.first; second = head.second }
+    last : with_head (literals ++ clause) head ≡ record { clause = clause; first = head.first; second = head.second }
     last =
         ap (λ (some : List SatLit). let w : Watched = record { clause = some; first = head.first; second = head.second } in w)
         (ap₂ (λ (n s : ℕ). take n (drop s (literals ++ clause))) len start
@@ -54,7 +54,7 @@ heads-push literals heads head within inside = All-push (IsInside literals) head
 
 -- a head that was found gives the clause
 pub headed-found : (now : Clauses) (literals : List SatLit) (heads some : List Head) (n : ℕ) (head : Head) → record { items = all_headed literals heads } ≡ now → some ≡ heads
-    → true ≡ ltb n (length some) → head ≡ get_or some n head → slice_get now.items n ≡ Some (headed literals head)
+    → true ≡ ltb n (length some) → head ≡ get_or some n head → slice_get now.items n ≡ Some (with_head literals head)
 headed-found now literals heads some n head viewed same inside is =
     ap (λ (t : Clauses). slice_get t.items n) (sym viewed)
     ∙ all_headed-get literals heads n head
@@ -62,7 +62,7 @@ headed-found now literals heads some n head viewed same inside is =
 
 -- the clause of a head that stands in the table
 pub headed-there : (now : Clauses) (literals : List SatLit) (heads : List Head) (n : ℕ) (head : Head) (old : Watched) → record { items = all_headed literals heads } ≡ now
-    → head ≡ get_or heads n head → slice_get now.items n ≡ Some old → headed literals head ≡ old
+    → head ≡ get_or heads n head → slice_get now.items n ≡ Some old → with_head literals head ≡ old
 headed-there now literals heads n head old viewed is at =
     same_Some _ _ (sym (all_headed-get literals heads n head (slice_get-get_or heads n head within ∙ ap (λ (h : Head). Some h) (sym is))) ∙ viewed_at)
   where
@@ -70,7 +70,7 @@ headed-there now literals heads n head old viewed is at =
     viewed_at = ap (λ (t : Clauses). slice_get t.items n) viewed ∙ at
 
     within : n < length heads
-    within = omega (arith, slice_get_within (all_headed literals heads) n old viewed_at, length-map heads (headed literals))
+    within = omega (arith, slice_get_within (all_headed literals heads) n old viewed_at, length-map heads (with_head literals))
 
 pub same_watched : (clause : List SatLit) (a b first second : SatLit) → a ≡ first → b ≡ second
     → record { clause = clause; first = a; second = b } ≡ (let w : Watched = record { clause = clause; first = first; second = second } in w)

@@ -8,7 +8,7 @@ use Rattle.std.proofs.lemmas.List.Elements.{All-weaker}
 use Rattle.std.proofs.lemmas.Option.{slice_get_cases, same_Some, slice_get_within, get_or_from_slice_get}
 use Rattle.sat_base.specs.declared.literal.Var.{Var}
 use Rattle.sat_base.specs.declared.literal.SatLit.{SatLit}
-use Rattle.sat_base.specs.Literal.{negated, same_literal, holds, mentions, IsOver}
+use Rattle.sat_base.specs.Literal.{negated, same_literal, holds, mentions_variable, IsOver}
 use Rattle.sat_base.proofs.LiteralLaws.{holds-append, same_literal-true, same_literal-refl, mentions-held, All-held, All-from_held}
 use Rattle.sat_log.specs.Propagation.{IsUnit, IsFalseIn}
 use Rattle.sat_log.proofs.ChainLaws.{slice_get-append, slice_get-before, slice_get-seam}
@@ -17,7 +17,7 @@ use Rattle.sat_laws.proofs.CompleteLaws.{satisfied_by}
 use Rattle.sat_laws.proofs.WatchLaws.{held-take, kept_push}
 use Rattle.sat_laws.proofs.AnalysisLaws.{place_below, held_below}
 use Rattle.sat_propagate.specs.Internal.Trail.{TrailState, literals, IsTrail}
-use Rattle.sat_propagate.specs.Internal.WatchLists.{WatchPair, Names, watchers, no_watches}
+use Rattle.sat_propagate.specs.Internal.WatchLists.{WatchPair, NamesWatches, watchers, no_watches}
 use Rattle.sat_propagate.specs.Internal.Propagator.{IsPropagator, Watches, Enlists, texts}
 use Rattle.sat_propagate.specs.Internal.Insertion.{IsSooner, IsRank, IsBest, IsUnseen}
 use Rattle.sat_propagate.specs.declared.trail.Step.{Step}
@@ -66,7 +66,7 @@ rank_of_end steps l rank undenied is = record {
   after = λ inside s h. absurd (omega (arith, inside, is, length-map steps (λ (s : Step). s.literal)));
 }
 
-pub denied_mentioned : (some : List SatLit) (l : SatLit) → holds some (negated l) ≡ true → mentions some l.var ≡ true
+pub denied_mentioned : (some : List SatLit) (l : SatLit) → holds some (negated l) ≡ true → mentions_variable some l.var ≡ true
 denied_mentioned some l h = mentions-held some (negated l) h
 
 pub sooner_by_rank : (trail : List SatLit) (m l : SatLit) (a b : ℕ) → IsRank trail m a → IsRank trail l b → a ≤ b → IsSooner trail m l
@@ -305,7 +305,7 @@ pub record IsFit (trail : TrailState) (processed : ℕ) (lists : List WatchPair)
   pub kept : IsKept trail.starts (literals trail.steps) processed watched.clause watched.first watched.second
   pub members : (holds watched.clause watched.first ≡ true) × (holds watched.clause watched.second ≡ true)
   pub alone : (l : SatLit) → watched.first ≡ watched.second → holds watched.clause l ≡ true → l ≡ watched.first
-  pub listed : (l : SatLit) → watched.first ≢ watched.second → Watches watched l → Names (watchers lists l) n watched.clause
+  pub listed : (l : SatLit) → watched.first ≢ watched.second → Watches watched l → NamesWatches (watchers lists l) n watched.clause
   pub over : IsOver (length trail.phases) watched.clause
 
 pub right_inserted : (trail : TrailState) (processed : ℕ) (clauses : List Watched) (lists : List WatchPair) (new : Watched) → IsFit trail processed lists (length clauses) new
@@ -335,8 +335,8 @@ right_inserted trail processed clauses lists new fit right = record {
   ];
   listed = λ n watched l at. elim (clause_cases clauses new n watched at) [
     | inl old ↦ right.listed n watched l old
-    | inr last ↦ subst (λ (k : ℕ). watched.first ≢ watched.second → Watches watched l → Names (watchers lists l) k watched.clause) (sym last.0)
-        (subst (λ (w : Watched). w.first ≢ w.second → Watches w l → Names (watchers lists l) (length clauses) w.clause) last.1 (fit.listed l))
+    | inr last ↦ subst (λ (k : ℕ). watched.first ≢ watched.second → Watches watched l → NamesWatches (watchers lists l) k watched.clause) (sym last.0)
+        (subst (λ (w : Watched). w.first ≢ w.second → Watches w l → NamesWatches (watchers lists l) (length clauses) w.clause) last.1 (fit.listed l))
   ];
   over = λ n watched at. elim (clause_cases clauses new n watched at) [
     | inl old ↦ right.over n watched old
@@ -374,9 +374,9 @@ right_watched trail processed n clauses lists more most clause first second n_is
       members = (first_in, second_in);
       alone = λ l e h. absurd (apart e);
       listed = λ l e watches. elim watches [
-        | inl is_first ↦ subst (λ (m : SatLit). Names (watchers most m) n clause) is_first
+        | inl is_first ↦ subst (λ (m : SatLit). NamesWatches (watchers most m) n clause) is_first
             (names_longer more most second first (record { clause = n; blocker = first }) n clause enlists_next (names_new lists more first second n clause enlists second_in))
-        | inr is_second ↦ subst (λ (m : SatLit). Names (watchers most m) n clause) is_second (names_new more most second first n clause enlists_next first_in)
+        | inr is_second ↦ subst (λ (m : SatLit). NamesWatches (watchers most m) n clause) is_second (names_new more most second first n clause enlists_next first_in)
       ];
       over = over;
     }
@@ -478,7 +478,7 @@ right_unit_assigned trail after processed n clauses lists clause l n_is steps st
       ];
       listed = λ k watched m at. elim (clause_cases clauses new k watched at) [
         | inl old ↦ right.listed k watched m old
-        | inr end ↦ subst (λ (w : Watched). w.first ≢ w.second → Watches w m → Names (watchers lists m) k w.clause) end.1 (λ apart watches. absurd (apart refl))
+        | inr end ↦ subst (λ (w : Watched). w.first ≢ w.second → Watches w m → NamesWatches (watchers lists m) k w.clause) end.1 (λ apart watches. absurd (apart refl))
       ];
       over = λ k watched at. subst (λ (count : ℕ). IsOver count watched.clause) (sym made) (elim (clause_cases clauses new k watched at) [
         | inl old ↦ right.over k watched old
@@ -493,7 +493,7 @@ alone_false trail clause l denied alone =
     All-from_held (λ (m : SatLit). holds trail (negated m) ≡ true) clause (λ m h. ap (λ (k : SatLit). holds trail (negated k)) (alone m h) ∙ denied)
 
 -- a literal whose two signs are not true is open
-pub unit_open : (trail : List SatLit) (l : SatLit) → holds trail (negated l) ≡ false → holds trail l ≡ false → mentions trail l.var ≡ false
+pub unit_open : (trail : List SatLit) (l : SatLit) → holds trail (negated l) ≡ false → holds trail l ≡ false → mentions_variable trail l.var ≡ false
 unit_open trail l undenied untrue = unmentioned trail l untrue undenied
 
 -- a clause without literals is false
@@ -531,7 +531,7 @@ right_more_lists trail processed clauses lists right = record {
   kept = right.kept;
   members = right.members;
   alone = right.alone;
-  listed = λ n watched l at apart watches. subst (λ (entries : List Watch). Names entries n watched.clause) (sym (watchers_more lists l)) (right.listed n watched l at apart watches);
+  listed = λ n watched l at apart watches. subst (λ (entries : List Watch). NamesWatches entries n watched.clause) (sym (watchers_more lists l)) (right.listed n watched l at apart watches);
   over = right.over;
   lists_made = omega (arith, right.lists_made, length-append lists (no_watches ∷ []));
 }

@@ -13,7 +13,7 @@ use Rattle.std.specs.Option.{option_map}
 use Rattle.std.proofs.lemmas.List.{length-map}
 use Rattle.std.proofs.lemmas.Option.{slice_get_cases, slice_get-map, get_or_from_slice_get}
 use Rattle.sat_base.specs.declared.literal.SatLit.{SatLit}
-use Rattle.sat_base.specs.Literal.{negated, holds, mentions, HoldsNoVariableTwice, IsOver}
+use Rattle.sat_base.specs.Literal.{negated, holds, mentions_variable, HoldsNoVariableTwice, IsOver}
 use Rattle.sat_log.specs.Propagation.{IsUnit, IsFalseIn, IsConsistent}
 use Rattle.sat_laws.specs.Internal.Complete.{IsComplete}
 use Rattle.sat_laws.specs.Internal.Watching.{IsKept}
@@ -78,7 +78,7 @@ value_of false false e = refl
 
 -- where each variable has a value and nothing is left to process, the phases make every clause true
 pub values_true : (trail : TrailState) (processed : ℕ) (clauses : List Watched) (lists : List WatchPair) → IsPropagator trail processed clauses lists → IsTrail trail → IsPhased trail
-    → processed ≡ length trail.steps → ((v : Var) → v.0 < length trail.phases → mentions (literals trail.steps) v ≢ false) → AllTrue (assigned trail.phases) (texts clauses)
+    → processed ≡ length trail.steps → ((v : Var) → v.0 < length trail.phases → mentions_variable (literals trail.steps) v ≢ false) → AllTrue (assigned trail.phases) (texts clauses)
 values_true trail processed clauses lists right whole phased all full =
     All-weaker (Contains (texts clauses)) (λ clause. IsTrue (clause_value (assigned trail.phases) clause)) holds_each (texts clauses) (All-contains_itself (texts clauses))
   where
@@ -90,7 +90,7 @@ values_true trail processed clauses lists right whole phased all full =
         let w = text_at clauses clause there in
         let made : l.var.0 < length trail.phases =
         All-held (λ (m : SatLit). m.var.0 < length trail.phases) clause l (subst (IsOver (length trail.phases)) w.3 (right.over w.0 w.1 w.2)) h in
-        elim (mentioned_as (literals trail.steps) l (true_from_ne_false (mentions (literals trail.steps) l.var) (full l.var made))) [
+        elim (mentioned_as (literals trail.steps) l (true_from_ne_false (mentions_variable (literals trail.steps) l.var) (full l.var made))) [
           | inl held ↦ absurd (false≢true (sym not_true ∙ clause_value-held (assigned trail.phases) clause l h (value_of (assigned trail.phases l.var) l.positive (phased l held))))
           | inr negation ↦ negation
         ]

@@ -5,7 +5,7 @@ use Rattle.std.proofs.lemmas.Option.{slice_get_within, get_or_from_slice_get}
 use Rattle.std.proofs.lemmas.Bool.{false≢true, or_cases, false_from_ne_true, cases_order}
 use Rattle.std.proofs.lemmas.List.{take_more, length-take-le}
 use Rattle.sat_base.specs.declared.literal.SatLit.{SatLit}
-use Rattle.sat_base.specs.Literal.{negated, same_literal, holds, mentions}
+use Rattle.sat_base.specs.Literal.{negated, same_literal, holds, mentions_variable}
 use Rattle.sat_base.proofs.LiteralLaws.{holds-append, same_literal-true}
 use Rattle.sat_log.proofs.VariableLaws.{mentioned_as}
 
@@ -84,9 +84,9 @@ map-set_same {Y = Y} f (z ∷ xs) zero x y at e = let same : z ≡ x = cc in ap 
 map-set_same {Y = Y} f (z ∷ xs) (suc i) x y at e = ap (λ (ks : List Y). f z ∷ ks) (map-set_same f xs i x y at e)
 
 -- a variable is not mentioned whose two literals are not held
-pub unmentioned : (some : List SatLit) (l : SatLit) → holds some l ≡ false → holds some (negated l) ≡ false → mentions some l.var ≡ false
+pub unmentioned : (some : List SatLit) (l : SatLit) → holds some l ≡ false → holds some (negated l) ≡ false → mentions_variable some l.var ≡ false
 unmentioned some l untrue undenied =
-    false_from_ne_true (mentions some l.var) (λ t. elim (mentioned_as some l t) [
+    false_from_ne_true (mentions_variable some l.var) (λ t. elim (mentioned_as some l t) [
       | inl h ↦ false≢true (sym untrue ∙ h)
       | inr h ↦ false≢true (sym undenied ∙ h)
     ])

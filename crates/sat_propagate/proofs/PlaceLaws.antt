@@ -6,7 +6,7 @@ use Rattle.std.proofs.lemmas.Bool.{false≢true, or_right, false_from_ne_true}
 use Rattle.std.proofs.lemmas.Option.{slice_get-map, same_Some}
 use Rattle.sat_base.specs.declared.literal.Var.{Var}
 use Rattle.sat_base.specs.declared.literal.SatLit.{SatLit}
-use Rattle.sat_base.specs.Literal.{same_var, mentions, HoldsNoVariableTwice}
+use Rattle.sat_base.specs.Literal.{same_var, mentions_variable, HoldsNoVariableTwice}
 use Rattle.sat_base.proofs.LiteralLaws.{mentions-held}
 use Rattle.sat_laws.proofs.TrailLaws.{held_at}
 use Rattle.sat_propagate.specs.Internal.Trail.{literals}
@@ -20,21 +20,21 @@ pub once_place : (some : List SatLit) (i j : ℕ) (a b : SatLit) → HoldsNoVari
 once_place [] i j a b once at_i at_j same = absurd (cc)
 once_place (x ∷ some) zero zero a b once at_i at_j same = refl
 once_place (x ∷ some) zero (suc j) a b once at_i at_j same =
-    absurd (false≢true (sym once.0 ∙ ap (mentions some) (ap (λ (k : SatLit). k.var) (same_Some x a at_i) ∙ same) ∙ mentions-held some b (held_at some j b at_j)))
+    absurd (false≢true (sym once.0 ∙ ap (mentions_variable some) (ap (λ (k : SatLit). k.var) (same_Some x a at_i) ∙ same) ∙ mentions-held some b (held_at some j b at_j)))
 once_place (x ∷ some) (suc i) zero a b once at_i at_j same =
-    absurd (false≢true (sym once.0 ∙ ap (mentions some) (ap (λ (k : SatLit). k.var) (same_Some x b at_j) ∙ sym same) ∙ mentions-held some a (held_at some i a at_i)))
+    absurd (false≢true (sym once.0 ∙ ap (mentions_variable some) (ap (λ (k : SatLit). k.var) (same_Some x b at_j) ∙ sym same) ∙ mentions-held some a (held_at some i a at_i)))
 once_place (x ∷ some) (suc i) (suc j) a b once at_i at_j same = ap suc (once_place some i j a b once.1 at_i at_j same)
 
-mentions_drop : (some : List SatLit) (n : ℕ) (v : Var) → mentions (drop n some) v ≡ true → mentions some v ≡ true
+mentions_drop : (some : List SatLit) (n : ℕ) (v : Var) → mentions_variable (drop n some) v ≡ true → mentions_variable some v ≡ true
 mentions_drop some zero v h = h
 mentions_drop [] (suc n) v h = h
 mentions_drop (l ∷ some) (suc n) v h = or_right (same_var v l.var) _ (mentions_drop some n v h)
 
-pub not_after : (steps : List Step) (i start : ℕ) (step : Step) → HoldsNoVariableTwice (literals steps) → slice_get steps i ≡ Some step → i < start → mentions (drop start (literals steps)) step.literal.var ≡ false
+pub not_after : (steps : List Step) (i start : ℕ) (step : Step) → HoldsNoVariableTwice (literals steps) → slice_get steps i ≡ Some step → i < start → mentions_variable (drop start (literals steps)) step.literal.var ≡ false
 not_after [] i start step once at h = absurd (cc)
 not_after (s ∷ steps) i zero step once at h = absurd (omega arith)
 not_after (s ∷ steps) zero (suc start) step once at h =
     let same : s ≡ step = same_Some s step at in
-    false_from_ne_true (mentions (drop start (literals steps)) step.literal.var)
-    (λ t. false≢true (sym once.0 ∙ ap (λ (k : Step). mentions (literals steps) k.literal.var) same ∙ mentions_drop (literals steps) start step.literal.var t))
+    false_from_ne_true (mentions_variable (drop start (literals steps)) step.literal.var)
+    (λ t. false≢true (sym once.0 ∙ ap (λ (k : Step). mentions_variable (literals steps) k.literal.var) same ∙ mentions_drop (literals steps) start step.literal.var t))
 not_after (s ∷ steps) (suc i) (suc start) step once at h = not_after steps i start step once.1 at (omega arith)

@@ -11,7 +11,7 @@ use Rattle.std.specs.Option.{option_map}
 use Rattle.std.proofs.lemmas.List.Elements.{All-contains, All-head, All-tail, All-push, Contains-append_left, Contains-push, Contains-push_cases}
 use Rattle.std.proofs.lemmas.Option.{slice_get_within, same_Some, get_or_from_slice_get, slice_get-map}
 use Rattle.sat_base.specs.declared.literal.SatLit.{SatLit}
-use Rattle.sat_base.specs.Literal.{negated, same_var, same_literal, holds, mentions, HoldsNoVariableTwice, IsOver}
+use Rattle.sat_base.specs.Literal.{negated, same_var, same_literal, holds, mentions_variable, HoldsNoVariableTwice, IsOver}
 use Rattle.sat_base.proofs.LiteralLaws.{same_literal-true, same_literal-refl, holds-append, negated-negated, All-held}
 use Rattle.sat_log.specs.Propagation.{IsUnit}
 use Rattle.sat_log.proofs.ChainLaws.{slice_get-append, slice_get-before, slice_get-seam}
@@ -21,8 +21,8 @@ use Rattle.sat_laws.proofs.CompleteLaws.{satisfied_by, satisfies-more}
 use Rattle.sat_laws.proofs.WatchLaws.{AreWithin, kept_push, kept_start, kept_next, kept_rewatched, kept_from_pair, kept_to_pair}
 use Rattle.sat_laws.proofs.TrailLaws.{held_at}
 use Rattle.sat_propagate.specs.Internal.Trail.{TrailState, literals, IsTrail}
-use Rattle.sat_propagate.specs.Internal.WatchLists.{WatchPair, Names, watchers}
-use Rattle.sat_propagate.specs.Internal.Propagator.{IsReasoned, IsPair, Watches, IsPropagator, IsDone, AreDone, Rewatched, Enlists, Grew, texts}
+use Rattle.sat_propagate.specs.Internal.WatchLists.{WatchPair, NamesWatches, watchers}
+use Rattle.sat_propagate.specs.Internal.Propagator.{IsReasoned, IsPair, Watches, IsPropagator, IsWatchDone, AreDone, Rewatched, Enlists, Grew, texts}
 use Rattle.sat_propagate.specs.declared.trail.Step.{Step}
 use Rattle.sat_propagate.specs.declared.watch_lists.Watch.{Watch}
 use Rattle.sat_propagate.specs.Internal.ClauseTable.{Watched}
@@ -51,11 +51,11 @@ removed_here before after l i entry r = r l ∙ if_true (same_literal l l) _ _ (
 
 names_after_removal : (clauses : List Watched) (before after : List WatchPair) (from : SatLit) (i : ℕ) (entry : Watch) → i < length (watchers before from) → slice_get (watchers before from) i ≡ Some entry
     → ((watched : Watched) → slice_get clauses entry.clause ≡ Some watched → Watches watched from → ⊥) → Removes before after from i entry
-    → (n : ℕ) (watched : Watched) (l : SatLit) → slice_get clauses n ≡ Some watched → Watches watched l → Names (watchers before l) n watched.clause → Names (watchers after l) n watched.clause
+    → (n : ℕ) (watched : Watched) (l : SatLit) → slice_get clauses n ≡ Some watched → Watches watched l → NamesWatches (watchers before l) n watched.clause → NamesWatches (watchers after l) n watched.clause
 names_after_removal clauses before after from i entry inside there idle removes n watched l at watches names =
     elim (cases_Bool (same_literal from l)) [
       | inl same ↦ here (same_literal-true from l same)
-      | inr other ↦ subst (λ (entries : List Watch). Names entries n watched.clause) (sym (removes l ∙ if_false (same_literal from l) _ _ other)) names
+      | inr other ↦ subst (λ (entries : List Watch). NamesWatches entries n watched.clause) (sym (removes l ∙ if_false (same_literal from l) _ _ other)) names
     ]
   where
     gone : from ≡ l → names.at ≡ i → ⊥
@@ -64,7 +64,7 @@ names_after_removal clauses before after from i entry inside there idle removes 
         let clause_is : entry.clause ≡ n = ap (λ (w : Watch). w.clause) (sym (same_Some _ _ found)) ∙ names.named in
         idle watched (ap (slice_get clauses) clause_is ∙ at) (subst (Watches watched) (sym e) watches)
 
-    here : from ≡ l → Names (watchers after l) n watched.clause
+    here : from ≡ l → NamesWatches (watchers after l) n watched.clause
     here e =
         let inside_l : i < length (watchers before l) = subst (λ (m : SatLit). i < length (watchers before m)) e inside in
         let kept = kept-swap_remove (watchers before l) i names.at entry names.entry inside_l (gone e) names.there in
@@ -97,17 +97,17 @@ done_removed trail clauses before after from i entry inside removes done k other
 
 names_after_write : (clauses : List Watched) (before after : List WatchPair) (from : SatLit) (i : ℕ) (old entry : Watch) → i < length (watchers before from) → slice_get (watchers before from) i ≡ Some old
     → old.clause ≡ entry.clause → ((watched : Watched) → slice_get clauses entry.clause ≡ Some watched → holds watched.clause entry.blocker ≡ true) → Replaces before after from i entry
-    → (n : ℕ) (watched : Watched) (l : SatLit) → slice_get clauses n ≡ Some watched → Names (watchers before l) n watched.clause → Names (watchers after l) n watched.clause
+    → (n : ℕ) (watched : Watched) (l : SatLit) → slice_get clauses n ≡ Some watched → NamesWatches (watchers before l) n watched.clause → NamesWatches (watchers after l) n watched.clause
 names_after_write clauses before after from i old entry inside there same_clause blocks replaces n watched l at names =
     elim (cases_Bool (same_literal from l)) [
       | inl same ↦ here (same_literal-true from l same) (cases_order names.at i)
-      | inr other ↦ subst (λ (entries : List Watch). Names entries n watched.clause) (sym (replaces l ∙ if_false (same_literal from l) _ _ other)) names
+      | inr other ↦ subst (λ (entries : List Watch). NamesWatches entries n watched.clause) (sym (replaces l ∙ if_false (same_literal from l) _ _ other)) names
     ]
   where
     list : from ≡ l → watchers after l ≡ set (watchers before l) i entry
     list e = replaces l ∙ if_true (same_literal from l) _ _ (subst (λ (m : SatLit). same_literal from m ≡ true) e (same_literal-refl from))
 
-    elsewhere : from ≡ l → names.at ≢ i → Names (watchers after l) n watched.clause
+    elsewhere : from ≡ l → names.at ≢ i → NamesWatches (watchers after l) n watched.clause
     elsewhere e apart = record {
       at = names.at;
       entry = names.entry;
@@ -116,7 +116,7 @@ names_after_write clauses before after from i old entry inside there same_clause
       blocks = names.blocks;
     }
 
-    here : from ≡ l → (names.at ≡ i) ⊎ ((names.at < i) ⊎ (i < names.at)) → Names (watchers after l) n watched.clause
+    here : from ≡ l → (names.at ≡ i) ⊎ ((names.at < i) ⊎ (i < names.at)) → NamesWatches (watchers after l) n watched.clause
     here e (inl same_place) =
         let inside_l : i < length (watchers before l) = subst (λ (m : SatLit). i < length (watchers before m)) e inside in
         let found : Some names.entry ≡ Some old = sym names.there ∙ ap (slice_get (watchers before l)) same_place ∙ ap (λ (m : SatLit). slice_get (watchers before m) i) (sym e) ∙ there in
@@ -149,10 +149,10 @@ right_written trail processed clauses before after from i old entry inside there
 
 -- one more entry is done, where its clause is true if it is its clause's
 pub done_more : (trail : TrailState) (clauses : List Watched) (lists : List WatchPair) (from : SatLit) (i : ℕ) (entry : Watch) → slice_get (watchers lists from) i ≡ Some entry
-    → IsDone trail clauses from entry → AreDone trail clauses lists from i → AreDone trail clauses lists from (i + 1)
+    → IsWatchDone trail clauses from entry → AreDone trail clauses lists from i → AreDone trail clauses lists from (i + 1)
 done_more trail clauses lists from i entry there done before k other below at =
     elim (cases_order k i) [
-      | inl same ↦ subst (IsDone trail clauses from) (same_Some _ _ (sym there ∙ ap (slice_get (watchers lists from)) (sym same) ∙ at)) done
+      | inl same ↦ subst (IsWatchDone trail clauses from) (same_Some _ _ (sym there ∙ ap (slice_get (watchers lists from)) (sym same) ∙ at)) done
       | inr apart ↦ elim apart [
         | inl less ↦ before k other less at
         | inr more ↦ absurd (omega arith)
@@ -160,7 +160,7 @@ done_more trail clauses lists from i entry there done before k other below at =
     ]
 
 -- an entry with a true blocker is done
-pub done_by_blocker : (trail : TrailState) (clauses : List Watched) (from : SatLit) (entry : Watch) → holds (literals trail.steps) entry.blocker ≡ true → IsDone trail clauses from entry
+pub done_by_blocker : (trail : TrailState) (clauses : List Watched) (from : SatLit) (entry : Watch) → holds (literals trail.steps) entry.blocker ≡ true → IsWatchDone trail clauses from entry
 done_by_blocker trail clauses from entry blocked watched at watches member = satisfied_by (literals trail.steps) watched.clause entry.blocker member blocked
 
 pub done_written : (trail : TrailState) (clauses : List Watched) (before after : List WatchPair) (from : SatLit) (i : ℕ) (entry : Watch) → Replaces before after from i entry
@@ -281,7 +281,7 @@ done_longer trail more after clauses lists from i steps done k entry below at wa
 
 -- the names in a list are still there in a longer one
 pub names_longer : (lists more : List WatchPair) (to l : SatLit) (entry : Watch) (n : ℕ) (clause : List SatLit) → Enlists lists more to entry
-    → Names (watchers lists l) n clause → Names (watchers more l) n clause
+    → NamesWatches (watchers lists l) n clause → NamesWatches (watchers more l) n clause
 names_longer lists more to l entry n clause enlists names =
     elim (cases_Bool (same_literal to l)) [
       | inl same ↦ record {
@@ -292,11 +292,11 @@ names_longer lists more to l entry n clause enlists names =
         named = names.named;
         blocks = names.blocks;
       }
-      | inr other ↦ subst (λ (entries : List Watch). Names entries n clause) (sym (enlists l ∙ if_false (same_literal to l) _ _ other)) names
+      | inr other ↦ subst (λ (entries : List Watch). NamesWatches entries n clause) (sym (enlists l ∙ if_false (same_literal to l) _ _ other)) names
     ]
 
 pub names_new : (lists more : List WatchPair) (to blocker : SatLit) (n : ℕ) (clause : List SatLit) → Enlists lists more to (record { clause = n; blocker = blocker })
-    → holds clause blocker ≡ true → Names (watchers more to) n clause
+    → holds clause blocker ≡ true → NamesWatches (watchers more to) n clause
 names_new lists more to blocker n clause enlists member = record {
   at = length (watchers lists to);
   entry = record { clause = n; blocker = blocker };
@@ -431,14 +431,14 @@ right_rewatched trail processed before after lists more n from to other changed 
           ]
         ]
 
-    listed_new : (k : ℕ) (watched : Watched) (l : SatLit) → k ≡ n → changed.new ≡ watched → Watches watched l → Names (watchers more l) k watched.clause
+    listed_new : (k : ℕ) (watched : Watched) (l : SatLit) → k ≡ n → changed.new ≡ watched → Watches watched l → NamesWatches (watchers more l) k watched.clause
     listed_new k watched l same_number same watches =
-        subst (λ (m : ℕ). Names (watchers more l) m watched.clause) (sym same_number)
-        (subst (λ (w : Watched). Names (watchers more l) n w.clause) same
+        subst (λ (m : ℕ). NamesWatches (watchers more l) m watched.clause) (sym same_number)
+        (subst (λ (w : Watched). NamesWatches (watchers more l) n w.clause) same
         (elim (watches_pair changed.new to other l changed.pair_after (subst (λ (w : Watched). Watches w l) (sym same) watches)) [
-          | inl is_to ↦ subst (λ (m : SatLit). Names (watchers more m) n changed.new.clause) (sym is_to) (names_new lists more to other n changed.new.clause enlists other_in)
-          | inr is_other ↦ subst (λ (m : SatLit). Names (watchers more m) n changed.new.clause) (sym is_other)
-              (subst (λ (c : List SatLit). Names (watchers more other) n c) (sym changed.text)
+          | inl is_to ↦ subst (λ (m : SatLit). NamesWatches (watchers more m) n changed.new.clause) (sym is_to) (names_new lists more to other n changed.new.clause enlists other_in)
+          | inr is_other ↦ subst (λ (m : SatLit). NamesWatches (watchers more m) n changed.new.clause) (sym is_other)
+              (subst (λ (c : List SatLit). NamesWatches (watchers more other) n c) (sym changed.text)
               (names_longer lists more to other (record { clause = n; blocker = other }) n changed.old.clause enlists
               (right.listed n changed.old other changed.was
               (distinct_pair changed.old from to other changed.pair_before fresh.new (λ m e h. right.alone n changed.old m changed.was e h) fresh.member)
@@ -526,10 +526,10 @@ right_next trail processed clauses lists step falsified right at is done = recor
 
 -- 6. There are at most as many true literals as variables
 
-apart_numbers : (v : Var) (some : List SatLit) → mentions some v ≡ false → AllByRecursion (λ y. eqb v.0 y ≡ false) (map (λ (l : SatLit). l.var.0) some)
+apart_numbers : (v : Var) (some : List SatLit) → mentions_variable some v ≡ false → AllByRecursion (λ y. eqb v.0 y ≡ false) (map (λ (l : SatLit). l.var.0) some)
 apart_numbers v [] h = tt
 apart_numbers v (l ∷ some) h =
-    let parts = or_parts (same_var v l.var) (mentions some v) h in
+    let parts = or_parts (same_var v l.var) (mentions_variable some v) h in
     (parts.0, apart_numbers v some parts.1)
 
 numbers_distinct : (some : List SatLit) → HoldsNoVariableTwice some → IsDistinct eqb (map (λ (l : SatLit). l.var.0) some)

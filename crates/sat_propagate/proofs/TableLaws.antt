@@ -11,7 +11,7 @@ use Rattle.std.proofs.lemmas.Option.{slice_get_within, slice_get-map, slice_get-
 use Rattle.std.proofs.Math.ListN.{get_or-map}
 use Rattle.sat_base.specs.declared.literal.Var.{Var}
 use Rattle.sat_base.specs.declared.literal.SatLit.{SatLit}
-use Rattle.sat_base.specs.Literal.{literal, same_var, same_literal, holds, mentions, HoldsNoVariableTwice, IsOver}
+use Rattle.sat_base.specs.Literal.{literal, same_var, same_literal, holds, mentions_variable, HoldsNoVariableTwice, IsOver}
 use Rattle.sat_base.proofs.LiteralLaws.{same_var-refl, same_var-true, holds-append, mentions-held, All-held, All-from_held}
 use Rattle.sat_laws.proofs.TrailLaws.{held_at}
 use Rattle.sat_propagate.specs.Internal.Trail.{TrailState, literals, open_cell, cell_of, is_true_in, IsTabled, IsTrail, IsTrailInside}
@@ -51,10 +51,10 @@ phase_held cells steps tabled l h =
     let parts = and_parts (cell_of cells l.var).assigned (beq (cell_of cells l.var).positive l.positive) (tabled.values l ∙ h) in
     get_or-map (λ (cell : Cell). cell.positive) cells l.var.0 open_cell ∙ beq_same (cell_of cells l.var).positive l.positive parts.1
 
-pub once_push : (some : List SatLit) (l : SatLit) → HoldsNoVariableTwice some → mentions some l.var ≡ false → HoldsNoVariableTwice (some ++ l ∷ [])
+pub once_push : (some : List SatLit) (l : SatLit) → HoldsNoVariableTwice some → mentions_variable some l.var ≡ false → HoldsNoVariableTwice (some ++ l ∷ [])
 once_push [] l once absent = (refl, tt)
 once_push (m ∷ some) l once absent =
-    let parts = or_parts (same_var l.var m.var) (mentions some l.var) absent in (
+    let parts = or_parts (same_var l.var m.var) (mentions_variable some l.var) absent in (
       list_any-append (λ (k : SatLit). same_var m.var k.var) some (l ∷ []) ∙ or_from _ _ once.0 (or_from _ _ (apart_comm l.var m.var parts.0) refl),
       once_push some l once.1 parts.1,
     )
@@ -70,7 +70,7 @@ cell_other cells v w cell apart =
 is_true_of : Cell → Bool → Bool
 is_true_of cell sign = cell.assigned && beq cell.positive sign
 
-unheld_by_var : (some : List SatLit) (m : SatLit) → mentions some m.var ≡ false → holds some m ≡ false
+unheld_by_var : (some : List SatLit) (m : SatLit) → mentions_variable some m.var ≡ false → holds some m ≡ false
 unheld_by_var some m absent = false_from_ne_true (holds some m) (λ t. false≢true (sym absent ∙ mentions-held some m t))
 
 same_literal_apart : (m l : SatLit) → same_var m.var l.var ≡ false → same_literal m l ≡ false
@@ -84,7 +84,7 @@ or_false true = refl
 or_false false = refl
 
 -- a literal becomes true
-pub tabled_assigned : (cells : List Cell) (steps : List Step) (l : SatLit) (reason : Option ℕ) → IsTabled cells steps → l.var.0 < length cells → mentions (literals steps) l.var ≡ false
+pub tabled_assigned : (cells : List Cell) (steps : List Step) (l : SatLit) (reason : Option ℕ) → IsTabled cells steps → l.var.0 < length cells → mentions_variable (literals steps) l.var ≡ false
     → IsTabled (set cells l.var.0 (record { assigned = true; positive = l.positive; place = length steps })) (steps ++ record { literal = l; reason = reason } ∷ [])
 tabled_assigned cells steps l reason tabled inside absent = record {
   values = λ m. elim (cases_Bool (same_var m.var l.var)) [
@@ -95,7 +95,7 @@ tabled_assigned cells steps l reason tabled inside absent = record {
         ∙ beq-comm l.positive m.positive
         ∙ sym (same_literal_here m l same)
         ∙ sym (or_false (same_literal m l))
-        ∙ ap (λ (b : Bool). b || (same_literal m l || false)) (sym (unheld_by_var (literals steps) m (ap (mentions (literals steps)) var_is ∙ absent)))
+        ∙ ap (λ (b : Bool). b || (same_literal m l || false)) (sym (unheld_by_var (literals steps) m (ap (mentions_variable (literals steps)) var_is ∙ absent)))
         ∙ sym (holds_push m)
     | inr apart ↦
         ap (λ (cell : Cell). cell.assigned && beq cell.positive m.positive) (cell_other cells l.var m.var new apart)
@@ -108,7 +108,7 @@ tabled_assigned cells steps l reason tabled inside absent = record {
     | inl before ↦
         let held = held_at (literals steps) i step.literal (slice_get-map (λ (s : Step). s.literal) steps i ∙ ap (option_map (λ (s : Step). s.literal)) before.1) in
         let apart : same_var step.literal.var l.var ≡ false = false_from_ne_true (same_var step.literal.var l.var)
-        (λ t. false≢true (sym absent ∙ ap (mentions (literals steps)) (sym (same_var-true step.literal.var l.var t)) ∙ mentions-held (literals steps) step.literal held)) in
+        (λ t. false≢true (sym absent ∙ ap (mentions_variable (literals steps)) (sym (same_var-true step.literal.var l.var t)) ∙ mentions-held (literals steps) step.literal held)) in
         ap (λ (cell : Cell). cell.place) (cell_other cells l.var step.literal.var new apart) ∙ tabled.places i step before.1
     | inr end ↦
         ap (λ (s : Step). (cell_of after s.literal.var).place) (sym end.1)
@@ -130,7 +130,7 @@ tabled_assigned cells steps l reason tabled inside absent = record {
     holds_push m = ap (λ (some : List SatLit). holds some m) (literals-push steps (record { literal = l; reason = reason })) ∙ holds-append (literals steps) (l ∷ []) m
 
 pub inside_assigned : (cells : List Cell) (steps : List Step) (starts : List ℕ) (l : SatLit) (reason : Option ℕ)
-    → IsTrailInside cells (record { steps = steps; starts = starts; phases = map (λ (cell : Cell). cell.positive) cells }) → l.var.0 < length cells → mentions (literals steps) l.var ≡ false
+    → IsTrailInside cells (record { steps = steps; starts = starts; phases = map (λ (cell : Cell). cell.positive) cells }) → l.var.0 < length cells → mentions_variable (literals steps) l.var ≡ false
     → IsTrailInside (set cells l.var.0 (record { assigned = true; positive = l.positive; place = length steps }))
     (record { steps = steps ++ record { literal = l; reason = reason } ∷ []; starts = starts; phases = map (λ (cell : Cell). cell.positive) (set cells l.var.0 (record { assigned = true; positive = l.positive; place = length steps })) })
 inside_assigned cells steps starts l reason inside made absent = record {
@@ -150,7 +150,7 @@ inside_assigned cells steps starts l reason inside made absent = record {
         ∙ length-set cells l.var.0 (record { assigned = true; positive = l.positive; place = length steps })
 
 -- whether a variable is open
-pub open_iff : (cells : List Cell) (steps : List Step) (v : Var) → IsTabled cells steps → (IsTrue (not (cell_of cells v).assigned)) ↔ (mentions (literals steps) v ≡ false)
+pub open_iff : (cells : List Cell) (steps : List Step) (v : Var) → IsTabled cells steps → (IsTrue (not (cell_of cells v).assigned)) ↔ (mentions_variable (literals steps) v ≡ false)
 open_iff cells steps v tabled = (
   λ open_now.
       let closed : (cell_of cells v).assigned ≡ false = not-true _ open_now in
@@ -247,7 +247,7 @@ inside_variable cells steps starts inside = record {
 }
 
 -- a variable is open where neither of its literals is true
-pub open_by_literals : (some : List SatLit) (v : Var) (a b : Bool) → a ≡ holds some (literal v true) → b ≡ holds some (literal v false) → IsTrue (not a && not b) ↔ (mentions some v ≡ false)
+pub open_by_literals : (some : List SatLit) (v : Var) (a b : Bool) → a ≡ holds some (literal v true) → b ≡ holds some (literal v false) → IsTrue (not a && not b) ↔ (mentions_variable some v ≡ false)
 open_by_literals some v a b a_is b_is = (
   λ both.
       let parts = and_parts (not a) (not b) both in
@@ -256,7 +256,7 @@ open_by_literals some v a b a_is b_is = (
 )
 
 -- a variable that is mentioned is made
-pub made_if_mentioned : (cells : List Cell) (steps : List Step) (v : Var) → IsTabled cells steps → mentions (literals steps) v ≡ true → v.0 < length cells
+pub made_if_mentioned : (cells : List Cell) (steps : List Step) (v : Var) → IsTabled cells steps → mentions_variable (literals steps) v ≡ true → v.0 < length cells
 made_if_mentioned cells steps v tabled there =
     elim (cases_lt_le v.0 (length cells)) [
       | inl inside ↦ inside
@@ -272,12 +272,12 @@ made_if_mentioned cells steps v tabled there =
       | inr other ↦ elim other [ inl less ↦ inl less | inr more ↦ inr (omega arith) ]
     ]
 
-pub open_then : (some : List SatLit) (v : Var) (a b : Bool) → a ≡ holds some (literal v true) → b ≡ holds some (literal v false) → not a ≡ true → IsTrue (not b) ↔ (mentions some v ≡ false)
+pub open_then : (some : List SatLit) (v : Var) (a b : Bool) → a ≡ holds some (literal v true) → b ≡ holds some (literal v false) → not a ≡ true → IsTrue (not b) ↔ (mentions_variable some v ≡ false)
 open_then some v a b a_is b_is first =
     let both = open_by_literals some v a b a_is b_is in
     (λ second. both.0 (and_from _ _ first second), λ absent. (and_parts (not a) (not b) (both.1 absent)).1)
 
-pub open_else : (some : List SatLit) (v : Var) (a : Bool) → a ≡ holds some (literal v true) → not a ≡ false → IsTrue false ↔ (mentions some v ≡ false)
+pub open_else : (some : List SatLit) (v : Var) (a : Bool) → a ≡ holds some (literal v true) → not a ≡ false → IsTrue false ↔ (mentions_variable some v ≡ false)
 open_else some v a a_is first = (
   λ never. absurd (false≢true never),
   λ absent. absurd (false≢true (sym first ∙ not_from_false a (a_is ∙ unheld_by_var some (literal v true) absent))),
@@ -322,7 +322,7 @@ undone_next before cells steps start i step old undone once from at inside old_i
     | inl same ↦
         let var_is : m.var ≡ step.literal.var = same_var-true m.var step.literal.var same in
         ap (λ (cell : Cell). cell.assigned && beq cell.positive m.positive) (ap (cell_of (set cells step.literal.var.0 new)) var_is ∙ cell_written cells step.literal.var new inside)
-        ∙ sym (or_from _ _ (not_before m var_is) (unheld_by_var (drop (i + 1) (literals steps)) m (ap (mentions (drop (i + 1) (literals steps))) var_is ∙ not_after steps i (i + 1) step once at (omega arith))))
+        ∙ sym (or_from _ _ (not_before m var_is) (unheld_by_var (drop (i + 1) (literals steps)) m (ap (mentions_variable (drop (i + 1) (literals steps))) var_is ∙ not_after steps i (i + 1) step once at (omega arith))))
     | inr apart ↦
         ap (λ (cell : Cell). cell.assigned && beq cell.positive m.positive) (cell_other cells step.literal.var m.var new apart)
         ∙ undone.values m
@@ -357,13 +357,13 @@ take_literals_is (s ∷ steps) (suc n) = ap (λ (rest : List SatLit). s.literal 
 once_take : (some : List SatLit) (n : ℕ) → HoldsNoVariableTwice some → HoldsNoVariableTwice (take n some)
 once_take some zero once = tt
 once_take [] (suc n) once = tt
-once_take (l ∷ some) (suc n) once = (false_from_ne_true (mentions (take n some) l.var) (λ t. false≢true (sym once.0 ∙ mentions_take some n l.var t)), once_take some n once.1)
+once_take (l ∷ some) (suc n) once = (false_from_ne_true (mentions_variable (take n some) l.var) (λ t. false≢true (sym once.0 ∙ mentions_take some n l.var t)), once_take some n once.1)
   where
-    mentions_take : (some : List SatLit) (n : ℕ) (v : Var) → mentions (take n some) v ≡ true → mentions some v ≡ true
+    mentions_take : (some : List SatLit) (n : ℕ) (v : Var) → mentions_variable (take n some) v ≡ true → mentions_variable some v ≡ true
     mentions_take some zero v h = absurd (false≢true h)
     mentions_take [] (suc n) v h = h
     mentions_take (m ∷ some) (suc n) v h =
-        elim (or_cases (same_var v m.var) (mentions (take n some) v) h) [
+        elim (or_cases (same_var v m.var) (mentions_variable (take n some) v) h) [
           | inl here ↦ or_left _ _ here
           | inr later ↦ or_right (same_var v m.var) _ (mentions_take some n v later)
         ]
@@ -421,13 +421,13 @@ var_in_table before cells steps i step over same at =
     let below : step.literal.var.0 < length (map (λ (cell : Cell). cell.positive) before) = All-held (λ (m : SatLit). m.var.0 < length (map (λ (cell : Cell). cell.positive) before)) (literals steps) step.literal over held in
     omega (arith, ap (λ (list : List Bool). length list) same, length-map cells (λ (cell : Cell). cell.positive))
 
-pub open_else_true : (some : List SatLit) (v : Var) (a : Bool) → a ≡ holds some (literal v true) → a ≡ true → IsTrue (not a) ↔ (mentions some v ≡ false)
+pub open_else_true : (some : List SatLit) (v : Var) (a : Bool) → a ≡ holds some (literal v true) → a ≡ true → IsTrue (not a) ↔ (mentions_variable some v ≡ false)
 open_else_true some v a a_is first =
     let closed = open_else some v a a_is (ap not first) in
     (λ open_now. closed.0 (sym (ap not first) ∙ open_now), λ absent. ap not first ∙ closed.1 absent)
 
 -- where a variable is open, there are fewer true literals than variables
-pub trail_room : (trail : TrailState) (v : Var) → IsTrail trail → v.0 < length trail.phases → mentions (literals trail.steps) v ≡ false → length trail.steps < length trail.phases
+pub trail_room : (trail : TrailState) (v : Var) → IsTrail trail → v.0 < length trail.phases → mentions_variable (literals trail.steps) v ≡ false → length trail.steps < length trail.phases
 trail_room trail v right made absent =
     let longer = trail_short (length trail.phases) (literals trail.steps ++ literal v true ∷ []) (once_push (literals trail.steps) (literal v true) right.once absent)
     (All-push (λ (m : SatLit). m.var.0 < length trail.phases) (literals trail.steps) (literal v true) right.over made) in

@@ -18,13 +18,13 @@ pub struct Head {
 }
 
 impl Head {
-    ghost use Rattle.sat_propagate.specs.Internal.ClauseTable.{headed};
+    ghost use Rattle.sat_propagate.specs.Internal.ClauseTable.{with_head};
     ghost use Rattle.sat_propagate.specs.Internal.Propagator.{IsPair};
 
     /// Watches a literal in place of another one.
     fn replace(&mut self, from: SatLit, to: Packed)
         ensures place { (self.new.start ≡ self.old.start) × (self.new.len ≡ self.old.len) }
-        ensures pair { (literals : List SatLit) (other : SatLit) → IsPair (headed literals self.old) from other → IsPair (headed literals self.new) to other }
+        ensures pair { (literals : List SatLit) (other : SatLit) → IsPair (with_head literals self.old) from other → IsPair (with_head literals self.new) to other }
     {
         if self.first.literal() == from {
             self.first = to;

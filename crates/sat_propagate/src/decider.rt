@@ -1,6 +1,6 @@
 //! The order in which variables are proposed for decisions.
 ghost use Rattle.std.specs.Prelude.{◌≡◌, ◌<◌, false, length, IfSome};
-ghost use Rattle.sat_base.specs.Literal.{mentions};
+ghost use Rattle.sat_base.specs.Literal.{mentions_variable};
 ghost use Rattle.sat_propagate.specs.Internal.Trail.{literals};
 
 use crate::trail::Trail;
@@ -101,7 +101,7 @@ impl Decider {
 
     /// The next proposal of a variable without a value.
     pub fn next(&mut self, trail: &Trail) -> Option<Var>
-        ensures { IfSome result (λ v. (v.0 < length trail.now.phases) × (mentions (literals trail.now.steps) v ≡ false)) }
+        ensures { IfSome result (λ v. (v.0 < length trail.now.phases) × (mentions_variable (literals trail.now.steps) v ≡ false)) }
     {
         while let Some(proposal) = self.heap.pop() {
             let var = Var(proposal.var);

@@ -2,14 +2,14 @@
 ghost use Rattle.std.specs.Prelude.{◌≡◌, ◌≢◌, ◌⊎◌, ◌<◌, ◌≤◌, [], ◌∷◌, ◌++◌, ◌+◌, ℕ, Some, None, Option, IsTrue, true, false, length, map, take, slice_get, slice_index_or, IfOk, IfSome, IfNone, OnOk, OnErr, MatchOption};
 ghost use Rattle.std.specs.List.{All, Contains};
 ghost use Rattle.sat_base.specs.declared.literal.SatLit.{SatLit};
-ghost use Rattle.sat_base.specs.Literal.{holds, negated, mentions, IsOver};
+ghost use Rattle.sat_base.specs.Literal.{holds, negated, mentions_variable, IsOver};
 ghost use Rattle.sat_base.specs.Truth.{AllTrue, assigned};
 ghost use Rattle.sat_laws.specs.Internal.Complete.{satisfies};
 ghost use Rattle.sat_log.specs.Propagation.{IsFalseIn};
 ghost use Rattle.sat_propagate.specs.Internal.Insertion.{IsSooner, IsRank, IsBest, IsUnseen};
 ghost use Rattle.sat_propagate.specs.Internal.Trail.{literals, IsTrail};
 ghost use Rattle.sat_propagate.specs.Internal.WatchLists.{watchers};
-ghost use Rattle.sat_propagate.specs.Internal.Propagator.{IsPropagator, AreDone, IsDone, Grew, IsConflict, Watches, Moves, texts};
+ghost use Rattle.sat_propagate.specs.Internal.Propagator.{IsPropagator, AreDone, IsWatchDone, Grew, IsConflict, Watches, Moves, texts};
 ghost use Rattle.sat_base.specs.declared.literal.Var.{Var};
 ghost use Rattle.sat_propagate.specs.Internal.Finding.{Finds, FindsOther};
 ghost use Rattle.sat_propagate.specs.Internal.ClauseTable.{Watched};
@@ -251,8 +251,8 @@ impl Propagator {
 
     /// A variable without a value, if there is one.
     fn pick(&mut self) -> Option<Var>
-        ensures some { IfSome result (λ v. (v.0 < length self.old.trail.phases) × (mentions (literals self.old.trail.steps) v ≡ false)) }
-        ensures none { IfNone result ((v : Var) → v.0 < length self.old.trail.phases → mentions (literals self.old.trail.steps) v ≢ false) }
+        ensures some { IfSome result (λ v. (v.0 < length self.old.trail.phases) × (mentions_variable (literals self.old.trail.steps) v ≡ false)) }
+        ensures none { IfNone result ((v : Var) → v.0 < length self.old.trail.phases → mentions_variable (literals self.old.trail.steps) v ≢ false) }
         ensures trail { self.new.trail ≡ self.old.trail }
         ensures processed { self.new.processed ≡ self.old.processed }
         ensures clauses { self.new.clauses.items ≡ self.old.clauses.items }
@@ -272,7 +272,7 @@ impl Propagator {
         requires right { IsPropagator self.old.trail self.old.processed self.old.clauses.items self.old.lists }
         requires whole { self.old.processed ≡ length self.old.trail.steps }
         requires made { var.0 < length self.old.trail.phases }
-        requires undecided { mentions (literals self.old.trail.steps) var ≡ false }
+        requires undecided { mentions_variable (literals self.old.trail.steps) var ≡ false }
         ensures right { IsPropagator self.new.trail self.new.processed self.new.clauses.items self.new.lists }
         ensures clauses { self.new.clauses.items ≡ self.old.clauses.items }
         ensures made { length self.new.trail.phases ≡ length self.old.trail.phases }

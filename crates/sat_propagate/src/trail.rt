@@ -1,7 +1,7 @@
 //! The literals that are taken as true, in the order in which they became so.
 ghost use Rattle.std.specs.Prelude.{◌≡◌, ◌≢◌, ◌<◌, ◌↔◌, [], ◌∷◌, ◌++◌, ℕ, Bool, true, false, Some, None, IsTrue, length, map, take, slice_get, slice_index_or, IfOk, IfSome, IfNone, OnOk, OnErr};
 ghost use Rattle.sat_base.specs.declared.literal.Var.{Var};
-ghost use Rattle.sat_base.specs.Literal.{holds, mentions, negated};
+ghost use Rattle.sat_base.specs.Literal.{holds, mentions_variable, negated};
 
 use sat_base::{SatLit, Var};
 use std::alloc::{AllocError, Global};
@@ -127,7 +127,7 @@ impl Trail {
     }
 
     pub fn is_open(&self, var: Var) -> bool
-        ensures { IsTrue result ↔ (mentions (literals self.now.steps) var ≡ false) }
+        ensures { IsTrue result ↔ (mentions_variable (literals self.now.steps) var ≡ false) }
     {
         let positive = SatLit {
             var,
@@ -142,8 +142,8 @@ impl Trail {
 
     /// The first variable without a value, if there is one.
     pub fn first_open(&self) -> Option<Var>
-        ensures some { IfSome result (λ v. (v.0 < length self.now.phases) × (mentions (literals self.now.steps) v ≡ false)) }
-        ensures none { IfNone result ((v : Var) → v.0 < length self.now.phases → mentions (literals self.now.steps) v ≢ false) }
+        ensures some { IfSome result (λ v. (v.0 < length self.now.phases) × (mentions_variable (literals self.now.steps) v ≡ false)) }
+        ensures none { IfNone result ((v : Var) → v.0 < length self.now.phases → mentions_variable (literals self.now.steps) v ≢ false) }
     {
         for v in 0..self.variables() {
             if self.is_open(Var(v)) {
@@ -155,7 +155,7 @@ impl Trail {
 
     /// The place of the literal on a variable that has a value.
     pub fn place(&self, var: Var) -> usize
-        requires { IsTrue (mentions (literals self.now.steps) var) }
+        requires { IsTrue (mentions_variable (literals self.now.steps) var) }
         ensures place { (i : ℕ) (step : Step) → slice_get self.now.steps i ≡ Some step → step.literal.var ≡ var → result ≡ i }
         ensures right { IsTrail self.now }
     {
@@ -173,7 +173,7 @@ impl Trail {
     /// Makes a literal true.
     pub fn assign(&mut self, literal: SatLit, reason: Option<usize>) -> Result<(), AllocError>
         requires made { literal.var.0 < length self.old.phases }
-        requires undecided { mentions (literals self.old.steps) literal.var ≡ false }
+        requires undecided { mentions_variable (literals self.old.steps) literal.var ≡ false }
         ensures steps { OnOk result (self.new.steps ≡ self.old.steps ++ record { literal = literal; reason = reason } ∷ []) }
         ensures starts { self.new.starts ≡ self.old.starts }
         ensures made { length self.new.phases ≡ length self.old.phases }
@@ -192,7 +192,7 @@ impl Trail {
     /// Makes a literal true by decision.
     pub fn decide(&mut self, literal: SatLit) -> Result<(), AllocError>
         requires made { literal.var.0 < length self.old.phases }
-        requires undecided { mentions (literals self.old.steps) literal.var ≡ false }
+        requires undecided { mentions_variable (literals self.old.steps) literal.var ≡ false }
         ensures steps { OnOk result (self.new.steps ≡ self.old.steps ++ record { literal = literal; reason = None } ∷ []) }
         ensures starts { OnOk result (self.new.starts ≡ self.old.starts ++ length self.old.steps ∷ []) }
         ensures made { length self.new.phases ≡ length self.old.phases }

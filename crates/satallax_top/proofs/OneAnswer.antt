@@ -17,7 +17,7 @@ use Rattle.szs_report.specs.declared.answer.NamedFile.TheVariants.{Mode, Check}
 use Rattle.szs_report.specs.declared.outcome.ModeWhy.{ModeWhy}
 use Rattle.szs_report.specs.declared.outcome.ModeWhy.TheVariants.{UnknownKey, Twice, BadNumber, OutOfRange}
 use Rattle.request_answers.specs.Requested.{problem_name, mode_file, told_of, contents_of}
-use Rattle.request_answers.specs.Modes.{byte_limit, OfFile, IsLong, IsModeBy, refused_at, IsBadMode}
+use Rattle.request_answers.specs.Modes.{byte_limit, OfFile, IsLongFile, IsModeBy, refused_at, IsBadMode}
 use Rattle.request_answers.specs.Internal.RefusedModes.{mode_answer}
 use Rattle.request_answers.specs.Checked.{IsAcceptedText, IsRefusedText, AnswersBytes, AnswersText}
 use Rattle.request_answers.specs.Answers.{AnswersProblem, AnswersStated, AnswersEnding, AnswersFiles, AnswersAsked, IsSettled, Defined}
@@ -104,7 +104,7 @@ bytes_of : (contents : List ℕ → Option (List ℕ)) (file : List ℕ) (P Q : 
 bytes_of contents file P Q h k = let both : Some h.bytes ≡ Some k.bytes = sym (h.told_bytes refl) ∙ k.told_bytes refl in cc
 
 -- no file is both read whole and too long
-not_long : (contents : List ℕ → Option (List ℕ)) (file : List ℕ) (P : List ℕ → Type 0) → OfFile true contents file P → IsLong true contents file → ⊥
+not_long : (contents : List ℕ → Option (List ℕ)) (file : List ℕ) (P : List ℕ → Type 0) → OfFile true contents file P → IsLongFile true contents file → ⊥
 not_long contents file P h l =
     let q = l refl in
     let both : Some h.bytes ≡ Some q.0 = sym (h.told_bytes refl) ∙ q.1 in
@@ -136,10 +136,10 @@ one_bad_mode contents (Some file) line other why cause h k =
     sym (mode_answered why line) ∙ ap mode_answer same ∙ mode_answered cause other
 
 -- a mode's file that is read isn't too long
-no_long_mode : (contents : List ℕ → Option (List ℕ)) (o : Option (List ℕ)) (file : List ℕ) (m : SearchMode) → o ≡ Some file → IsModeBy true contents o m → IsLong true contents file → ⊥
+no_long_mode : (contents : List ℕ → Option (List ℕ)) (o : Option (List ℕ)) (file : List ℕ) (m : SearchMode) → o ≡ Some file → IsModeBy true contents o m → IsLongFile true contents file → ⊥
 no_long_mode contents o file m e h l = not_long contents file _ (subst (λ f. IsModeBy true contents f m) e h) l
 
-no_long_bad : (contents : List ℕ → Option (List ℕ)) (o : Option (List ℕ)) (file : List ℕ) (line : ℕ) (why : ModeWhy) → o ≡ Some file → IsBadMode true contents o line why → IsLong true contents file → ⊥
+no_long_bad : (contents : List ℕ → Option (List ℕ)) (o : Option (List ℕ)) (file : List ℕ) (line : ℕ) (why : ModeWhy) → o ≡ Some file → IsBadMode true contents o line why → IsLongFile true contents file → ⊥
 no_long_bad contents o file line why e h l = not_long contents file _ (subst (λ f. IsBadMode true contents f line why) e h) l
 
 -- what is told of a request is told
@@ -166,7 +166,7 @@ files_same r contents a b w v h k =
 data DefinedBy (o : Option Request) (contents : List ℕ → Option (List ℕ)) (a : Answer) : Type 0 where
   no_request : o ≡ None → a ≡ Words → DefinedBy o contents a
   bad_mode : (r : Request) (line : ℕ) (why : ModeWhy) → o ≡ Some r → a ≡ ModeAt line why → IsBadMode true contents (mode_file r) line why → DefinedBy o contents a
-  long_mode : (r : Request) (file : List ℕ) → o ≡ Some r → a ≡ TooLong (Mode file) → mode_file r ≡ Some file → IsLong true contents file → DefinedBy o contents a
+  long_mode : (r : Request) (file : List ℕ) → o ≡ Some r → a ≡ TooLong (Mode file) → mode_file r ≡ Some file → IsLongFile true contents file → DefinedBy o contents a
   by_files : (r : Request) → o ≡ Some r → AnswersFiles r true contents a → DefinedBy o contents a
 
 defined_by : (o : Option Request) (contents : List ℕ → Option (List ℕ)) (a : Answer) → IsSettled a → AnswersAsked o true contents a → DefinedBy o contents a

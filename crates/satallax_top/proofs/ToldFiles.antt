@@ -5,7 +5,7 @@ use Rattle.std.proofs.lemmas.List.{take-take, length-take}
 use Rattle.std.proofs.lemmas.Option.{slice_get_within}
 use Rattle.std.proofs.Math.Seq.{take-append-add}
 use Rattle.thf_grammar.specs.Trees.{StatementTree}
-use Rattle.thf_include.specs.Gathering.{Ending, done, stopped, wants, too_long, no_tree, cycle, too_many, no_name, behind, FileEnds, unread, long, refused, followed, StatementEnds, stays, in_cycle, past_limit, stops, selects, StatementsEnd, no_more, ends, goes_on, IsGathering}
+use Rattle.thf_include.specs.Gathering.{Ending, done, stopped, wants, too_long, no_tree, cycle, too_many, no_name, behind_statements, FileEnds, unread, long, refused, followed, StatementEnds, stays, in_cycle, past_limit, stops, selects, StatementsEnd, no_more, ends, goes_on, IsGathering}
 use Rattle.thf_include.specs.View.{PlacedTree}
 use Rattle.thf_include.specs.Answer.{AreContents}
 use Rattle.thf_include.proofs.Texts.{same-get, same-bytes, take-append}
@@ -22,7 +22,7 @@ IsFinal (stopped (cycle file at)) = Unit {0}
 IsFinal (stopped (too_many file at)) = Unit {0}
 IsFinal (stopped (no_name file at)) = Unit {0}
 
-final-behind : (front : List PlacedTree) (e : Ending) → IsFinal (behind front e) → IsFinal e
+final-behind : (front : List PlacedTree) (e : Ending) → IsFinal (behind_statements front e) → IsFinal e
 final-behind front (done ss) h = tt
 final-behind front (stopped why) h = h
 

@@ -4,8 +4,8 @@ use Rattle.std.proofs.Common.{sym, ap, ◌∙◌, inl, inr, arith}
 use Rattle.std.proofs.lemmas.Bool.{ne_eqb, eq-eqb, ltb-false, le-ltb}
 use Rattle.std.proofs.lemmas.List.Elements.{filter-append}
 use Rattle.std.proofs.lemmas.Grind.{flat_map-append}
-use Rattle.search_spec.specs.Queue.{Waiting, waiting, is_before, first_of, next_command, without}
-use Rattle.search_spec.specs.Internal.Loops.{Loop, entries, first_entry, queue_of, loop_left, advanced, IsFirstOrNone}
+use Rattle.search_spec.specs.Queue.{Waiting, new_entries, is_before, first_waiting, next_command, without_number}
+use Rattle.search_spec.specs.Internal.Loops.{Loop, entries, first_entry, queue_of, loop_left, loops_after, IsFirstOrNone}
 use Rattle.search_spec.specs.Each.{Each}
 use Rattle.search_spec.proofs.NamingLaws.{pick}
 
@@ -28,10 +28,10 @@ not_before_itself : {C : Type 0} (q : Waiting C) → is_before q q ≡ false
 not_before_itself q = neither (nat_lt q.due q.due) (q.due == q.due) (nat_lt q.number q.number) (le-ltb q.due q.due (omega arith)) (le-ltb q.number q.number (omega arith))
 
 -- commands that aren't before the first so far are passed over
-passed_over : {C : Type 0} (d k : ℕ) (b : C) (q : Waiting C) → is_before (record { due = d; number = k; command = b }) q ≡ false → (j : ℕ) → k ≤ j → (cs : List C) (rest : List (Waiting C)) → first_of q (waiting (λ c. d) j cs ++ rest) ≡ first_of q rest
+passed_over : {C : Type 0} (d k : ℕ) (b : C) (q : Waiting C) → is_before (record { due = d; number = k; command = b }) q ≡ false → (j : ℕ) → k ≤ j → (cs : List C) (rest : List (Waiting C)) → first_waiting q (new_entries (λ c. d) j cs ++ rest) ≡ first_waiting q rest
 passed_over d k b q e j h [] rest = refl
 passed_over d k b q e j h (c ∷ cs) rest =
-    ap (λ t. first_of (if t then record { due = d; number = j; command = c } else q) (waiting (λ _. d) (suc j) cs ++ rest)) (later_not_before d k j b c q h e)
+    ap (λ t. first_waiting (if t then record { due = d; number = j; command = c } else q) (new_entries (λ _. d) (suc j) cs ++ rest)) (later_not_before d k j b c q h e)
     ∙ passed_over d k b q e (suc j) (omega (arith, h)) cs rest
 
 -- the better of two isn't after either
@@ -39,7 +39,7 @@ kept : {C : Type 0} (p q : Waiting C) (b : Bool) → is_before p q ≡ b → is_
 kept p q true e = not_before_itself p
 kept p q false e = e
 
-first_of_loops : {C : Type 0} (q : Waiting C) (loops : List (Loop C)) → first_of q (queue_of loops) ≡ first_of q (map first_entry loops)
+first_of_loops : {C : Type 0} (q : Waiting C) (loops : List (Loop C)) → first_waiting q (queue_of loops) ≡ first_waiting q (map first_entry loops)
 first_of_loops q [] = refl
 first_of_loops q (l ∷ loops) =
     passed_over l.due l.number l.first (if is_before (first_entry l) q then first_entry l else q) (kept (first_entry l) q (is_before (first_entry l) q) refl) (suc l.number) (omega arith) l.later (queue_of loops)
@@ -68,29 +68,29 @@ narrower n j m (inl h) = inl (omega (arith, h))
 narrower n j m (inr h) = inr (omega (arith, h))
 
 -- the first is dropped where it has the number
-dropped : {C : Type 0} (n : ℕ) (q : Waiting C) (qs : List (Waiting C)) → q.number ≡ n → without n (q ∷ qs) ≡ without n qs
-dropped n q qs e = ap (λ b. pick (not b) (q ∷ without n qs) (without n qs)) (eq-eqb q.number n e)
+dropped : {C : Type 0} (n : ℕ) (q : Waiting C) (qs : List (Waiting C)) → q.number ≡ n → without_number n (q ∷ qs) ≡ without_number n qs
+dropped n q qs e = ap (λ b. pick (not b) (q ∷ without_number n qs) (without_number n qs)) (eq-eqb q.number n e)
 
-left_there : {C : Type 0} (n : ℕ) (q : Waiting C) (qs : List (Waiting C)) → (q.number ≡ n → ⊥) → without n (q ∷ qs) ≡ q ∷ without n qs
-left_there n q qs h = ap (λ b. pick (not b) (q ∷ without n qs) (without n qs)) (ne_eqb q.number n h)
+left_there : {C : Type 0} (n : ℕ) (q : Waiting C) (qs : List (Waiting C)) → (q.number ≡ n → ⊥) → without_number n (q ∷ qs) ≡ q ∷ without_number n qs
+left_there n q qs h = ap (λ b. pick (not b) (q ∷ without_number n qs) (without_number n qs)) (ne_eqb q.number n h)
 
-none_dropped : {C : Type 0} (n d j : ℕ) (cs : List C) → Outside n j (length cs) → without n (waiting (λ c. d) j cs) ≡ waiting (λ c. d) j cs
+none_dropped : {C : Type 0} (n d j : ℕ) (cs : List C) → Outside n j (length cs) → without_number n (new_entries (λ c. d) j cs) ≡ new_entries (λ c. d) j cs
 none_dropped n d j [] h = refl
 none_dropped n d j (c ∷ cs) h =
-    left_there n (record { due = d; number = j; command = c }) (waiting (λ c. d) (suc j) cs) (differs n j (length cs) h)
+    left_there n (record { due = d; number = j; command = c }) (new_entries (λ c. d) (suc j) cs) (differs n j (length cs) h)
     ∙ ap (λ qs. record { due = d; number = j; command = c } ∷ qs) (none_dropped n d (suc j) cs (narrower n j (length cs) h))
 
-left_entries : {C : Type 0} (d j : ℕ) (cs : List C) → waiting (λ c. d) (suc j) cs ≡ queue_of (loop_left d j cs)
+left_entries : {C : Type 0} (d j : ℕ) (cs : List C) → new_entries (λ c. d) (suc j) cs ≡ queue_of (loop_left d j cs)
 left_entries d j [] = refl
-left_entries d j (c ∷ cs) = sym (joined_nil (waiting (λ c. d) (suc j) (c ∷ cs)))
+left_entries d j (c ∷ cs) = sym (joined_nil (new_entries (λ c. d) (suc j) (c ∷ cs)))
 
 outside : {C : Type 0} (n : ℕ) (l : Loop C) → (n < l.number) ⊎ (l.number + length l.later < n) → Outside n l.number (suc (length l.later))
 outside n l (inl h) = inl h
 outside n l (inr h) = inr (omega (arith, h))
 
-one_advanced : {C : Type 0} (n : ℕ) (l : Loop C) → IsFirstOrNone n l → without n (entries l) ≡ queue_of (if l.number == n then loop_left l.due l.number l.later else l ∷ [])
+one_advanced : {C : Type 0} (n : ℕ) (l : Loop C) → IsFirstOrNone n l → without_number n (entries l) ≡ queue_of (if l.number == n then loop_left l.due l.number l.later else l ∷ [])
 one_advanced n l (inl e) =
-    dropped n (first_entry l) (waiting (λ c. l.due) (suc l.number) l.later) e
+    dropped n (first_entry l) (new_entries (λ c. l.due) (suc l.number) l.later) e
     ∙ none_dropped n l.due (suc l.number) l.later (inl (omega (arith, e)))
     ∙ left_entries l.due l.number l.later
     ∙ sym (ap (λ b. queue_of (if b then loop_left l.due l.number l.later else l ∷ [])) (eq-eqb l.number n e))
@@ -100,13 +100,13 @@ one_advanced n l (inr h) =
     ∙ sym (ap (λ b. queue_of (if b then loop_left l.due l.number l.later else l ∷ [])) (ne_eqb l.number n (differs n l.number (length l.later) (outside n l h))))
 
 -- The queue without the command of a number is that of the loops without it, where it is the first of its loop.
-pub without_from_loops : {C : Type 0} (n : ℕ) (loops : List (Loop C)) → Each (IsFirstOrNone n) loops → without n (queue_of loops) ≡ queue_of (advanced n loops)
+pub without_from_loops : {C : Type 0} (n : ℕ) (loops : List (Loop C)) → Each (IsFirstOrNone n) loops → without_number n (queue_of loops) ≡ queue_of (loops_after n loops)
 without_from_loops n [] h = refl
 without_from_loops {C} n (l ∷ loops) h =
     filter-append (λ q. not (q.number == n)) (entries l) (queue_of loops)
-    ∙ ap (λ qs. qs ++ without n (queue_of loops)) (one_advanced n l h.0)
+    ∙ ap (λ qs. qs ++ without_number n (queue_of loops)) (one_advanced n l h.0)
     ∙ ap (λ qs. queue_of one ++ qs) (without_from_loops n loops h.1)
-    ∙ sym (flat_map-append entries one (advanced n loops))
+    ∙ sym (flat_map-append entries one (loops_after n loops))
   where
     one : List (Loop C)
     one = if l.number == n then loop_left l.due l.number l.later else l ∷ []
@@ -115,9 +115,9 @@ without_from_loops {C} n (l ∷ loops) h =
 abbrev pub renamed : {C D : Type 0} → (C → D) → Waiting C → Waiting D
 renamed d q = record { due = q.due; number = q.number; command = d q.command }
 
-first_of-renamed : {C D : Type 0} (d : C → D) (q : Waiting C) (qs : List (Waiting C)) → first_of (renamed d q) (map (renamed d) qs) ≡ renamed d (first_of q qs)
+first_of-renamed : {C D : Type 0} (d : C → D) (q : Waiting C) (qs : List (Waiting C)) → first_waiting (renamed d q) (map (renamed d) qs) ≡ renamed d (first_waiting q qs)
 first_of-renamed d q [] = refl
-first_of-renamed d q (p ∷ ps) = ap (λ r. first_of r (map (renamed d) ps)) (sym (renamed_choice (is_before p q))) ∙ first_of-renamed d (if is_before p q then p else q) ps
+first_of-renamed d q (p ∷ ps) = ap (λ r. first_waiting r (map (renamed d) ps)) (sym (renamed_choice (is_before p q))) ∙ first_of-renamed d (if is_before p q then p else q) ps
   where
     renamed_choice : (b : Bool) → renamed d (if b then p else q) ≡ (if b then renamed d p else renamed d q)
     renamed_choice true = refl

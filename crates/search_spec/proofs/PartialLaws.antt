@@ -7,7 +7,7 @@ use Rattle.stt_core.specs.Lambda.{Lambda, bound, constant, lam, app, IsLeaf}
 use Rattle.stt_core.specs.Typing.{Scope}
 use Rattle.stt_core.specs.Canonical.{IsBase, IsFrom, IsCanonical, IsNeutral}
 use Rattle.search_spec.specs.Heads.{target}
-use Rattle.search_spec.specs.Partial.{Partial, hole, head, function, application, Hole, or_else, first_hole, in_first, filled, whole, blank, with_holes}
+use Rattle.search_spec.specs.Partial.{Partial, hole, head, function, application, Hole, or_else, first_hole, in_first, with_filling, whole_term, blank_partial, with_holes}
 use Rattle.search_spec.specs.TypedPartial.{IsPartial, IsPartialSpine}
 
 -- what is typed under a binder in one way is typed in another, where each body is
@@ -33,7 +33,7 @@ module _ (scope : Scope) where
   leaf_canonical ctx a (app s u) b l n = absurd l
 
   -- one hole under the binders of a type
-  pub blank_typed : (ctx : List SimpleType) (a : SimpleType) → is_declared scope.bases a ≡ true → IsPartial scope ctx a (blank a)
+  pub blank_typed : (ctx : List SimpleType) (a : SimpleType) → is_declared scope.bases a ≡ true → IsPartial scope ctx a (blank_partial a)
   blank_typed ctx (base n) d = refl
   blank_typed ctx (arrow a b) d = let p = and_parts _ _ d in (p.0, (refl, blank_typed (a ∷ ctx) b p.1))
 
@@ -48,28 +48,28 @@ module _ (scope : Scope) where
   with_holes_typed ctx (base n) p d h = spine_partial ctx (base n) p tt h
   with_holes_typed ctx (arrow a b) p d h =
       let q = and_parts _ _ d in
-      with_holes_typed ctx b (application p (blank a)) q.1 (a, h, blank_typed ctx a q.0)
+      with_holes_typed ctx b (application p (blank_partial a)) q.1 (a, h, blank_typed ctx a q.0)
 
-  none_filled : (r : Partial) (ctx : List SimpleType) (p : Partial) → first_hole ctx p ≡ None → filled r p ≡ None
+  none_filled : (r : Partial) (ctx : List SimpleType) (p : Partial) → first_hole ctx p ≡ None → with_filling r p ≡ None
   none_filled r ctx (hole n) e = cc
   none_filled r ctx (head h) e = refl
   none_filled r ctx (function a p) e = ap (option_map (function a)) (none_filled r (a ∷ ctx) p e)
   none_filled r ctx (application p q) e =
       let both = neither (first_hole ctx p) (first_hole ctx q) e in
-      ap (λ o. in_first o p (filled r q) q) (none_filled r ctx p both.0) ∙ ap (λ o. in_first None p o q) (none_filled r ctx q both.1)
+      ap (λ o. in_first o p (with_filling r q) q) (none_filled r ctx p both.0) ∙ ap (λ o. in_first None p o q) (none_filled r ctx q both.1)
 
   -- the first hole was filled with a partial term, and what came of it is typed as wanted
   abbrev pub Fills : (Partial → Type 0) → Partial → Partial → Type 0
-  Fills Typed r p = (q : Partial) × (filled r p ≡ Some q) × Typed q
+  Fills Typed r p = (q : Partial) × (with_filling r p ≡ Some q) × Typed q
 
   -- the hole is in the first of two, or in the second
   in_either : (P Q R : Partial → Type 0) (r : Partial) (ctx : List SimpleType) (p q : Partial) (h : Hole) → P p → Q q → ((p' q' : Partial) → P p' → Q q' → R (application p' q')) → (o : Option Hole) → first_hole ctx p ≡ o → or_else o (first_hole ctx q) ≡ Some h → (first_hole ctx p ≡ Some h → Fills P r p) → (first_hole ctx q ≡ Some h → Fills Q r q) → Fills R r (application p q)
   in_either P Q R r ctx p q h tp tq make (Some g) f e left right =
       let l = left (f ∙ e) in
-      (application l.0 q, ap (λ o. in_first o p (filled r q) q) l.1, make l.0 q l.2 tq)
+      (application l.0 q, ap (λ o. in_first o p (with_filling r q) q) l.1, make l.0 q l.2 tq)
   in_either P Q R r ctx p q h tp tq make None f e left right =
       let l = right e in
-      (application p l.0, ap (λ o. in_first o p (filled r q) q) (none_filled r ctx p f) ∙ ap (λ o. in_first None p o q) l.1, make p l.0 tp l.2)
+      (application p l.0, ap (λ o. in_first o p (with_filling r q) q) (none_filled r ctx p f) ∙ ap (λ o. in_first None p o q) l.1, make p l.0 tp l.2)
 
   under_binder : (ctx : List SimpleType) (a c : SimpleType) (r p : Partial) → IsTrue (is_declared scope.bases c) → IsFrom c a (λ b. Fills (IsPartial scope (c ∷ ctx) b) r p) → Fills (IsPartial scope ctx a) r (function c p)
   under_binder ctx (base n) c r p d f = absurd f
@@ -99,24 +99,24 @@ module _ (scope : Scope) where
         (λ f. fills_spine r h k ctx (arrow t.0 a) p t.1 f)
         (λ f. fills r h k ctx t.0 q t.2 f)
 
-  whole_app : (p q : Partial) (t : Lambda) → option_and_then (λ s. option_map (app s) (whole q)) (whole p) ≡ Some t → (s : Lambda) × (u : Lambda) × (whole p ≡ Some s) × (whole q ≡ Some u) × (t ≡ app s u)
-  whole_app p q t e = parts (whole p) (whole q) refl refl e
+  whole_app : (p q : Partial) (t : Lambda) → option_and_then (λ s. option_map (app s) (whole_term q)) (whole_term p) ≡ Some t → (s : Lambda) × (u : Lambda) × (whole_term p ≡ Some s) × (whole_term q ≡ Some u) × (t ≡ app s u)
+  whole_app p q t e = parts (whole_term p) (whole_term q) refl refl e
     where
-      parts : (x y : Option Lambda) → whole p ≡ x → whole q ≡ y → option_and_then (λ s. option_map (app s) y) x ≡ Some t → (s : Lambda) × (u : Lambda) × (whole p ≡ Some s) × (whole q ≡ Some u) × (t ≡ app s u)
+      parts : (x y : Option Lambda) → whole_term p ≡ x → whole_term q ≡ y → option_and_then (λ s. option_map (app s) y) x ≡ Some t → (s : Lambda) × (u : Lambda) × (whole_term p ≡ Some s) × (whole_term q ≡ Some u) × (t ≡ app s u)
       parts (Some s) (Some u) f g e = (s, u, f, g, sym (some_same _ _ e))
       parts (Some s) None f g e = absurd (none_some t e)
       parts None y f g e = absurd (none_some t e)
 
-  whole_lam : (c : SimpleType) (p : Partial) (t : Lambda) → option_map (lam c) (whole p) ≡ Some t → (s : Lambda) × (whole p ≡ Some s) × (t ≡ lam c s)
-  whole_lam c p t e = part (whole p) refl e
+  whole_lam : (c : SimpleType) (p : Partial) (t : Lambda) → option_map (lam c) (whole_term p) ≡ Some t → (s : Lambda) × (whole_term p ≡ Some s) × (t ≡ lam c s)
+  whole_lam c p t e = part (whole_term p) refl e
     where
-      part : (x : Option Lambda) → whole p ≡ x → option_map (lam c) x ≡ Some t → (s : Lambda) × (whole p ≡ Some s) × (t ≡ lam c s)
+      part : (x : Option Lambda) → whole_term p ≡ x → option_map (lam c) x ≡ Some t → (s : Lambda) × (whole_term p ≡ Some s) × (t ≡ lam c s)
       part (Some s) f e = (s, f, sym (some_same _ _ e))
       part None f e = absurd (none_some t e)
 
   mutual
     -- a typed partial term without holes is a canonical term
-    pub whole_canonical : (ctx : List SimpleType) (a : SimpleType) (p : Partial) (t : Lambda) → IsPartial scope ctx a p → whole p ≡ Some t → IsCanonical scope ctx a t
+    pub whole_canonical : (ctx : List SimpleType) (a : SimpleType) (p : Partial) (t : Lambda) → IsPartial scope ctx a p → whole_term p ≡ Some t → IsCanonical scope ctx a t
     whole_canonical ctx a (hole n) t h e = absurd (none_some t e)
     whole_canonical ctx a (head l) t h e =
         let P : Lambda → Type 0 = λ s. IsCanonical scope ctx a s in
@@ -130,7 +130,7 @@ module _ (scope : Scope) where
         let P : Lambda → Type 0 = λ s. IsCanonical scope ctx a s in
         subst P (sym w.4) (h.0, (h.1.0, whole_neutral ctx (arrow h.1.0 a) p w.0 h.1.1 w.2, whole_canonical ctx h.1.0 q w.1 h.1.2 w.3))
 
-    whole_neutral : (ctx : List SimpleType) (a : SimpleType) (p : Partial) (t : Lambda) → IsPartialSpine scope ctx a p → whole p ≡ Some t → IsNeutral scope ctx a t
+    whole_neutral : (ctx : List SimpleType) (a : SimpleType) (p : Partial) (t : Lambda) → IsPartialSpine scope ctx a p → whole_term p ≡ Some t → IsNeutral scope ctx a t
     whole_neutral ctx a (hole n) t h e = absurd h
     whole_neutral ctx a (head l) t h e =
         let P : Lambda → Type 0 = λ s. IsNeutral scope ctx a s in

@@ -12,13 +12,13 @@ use Rattle.tableau_calculus.specs.declared.refutation.RuleUse.TheVariants.{AllPo
 use Rattle.search_spec.specs.Each.{Each}
 use Rattle.search_spec.specs.Shallow.{is_shallow, is_shallow_literal}
 use Rattle.search_spec.specs.Spine.{head_of, arguments}
-use Rattle.search_spec.specs.Queue.{Waiting, is_before, first_of, next_command, without}
+use Rattle.search_spec.specs.Queue.{Waiting, is_before, first_waiting, next_command, without_number}
 use Rattle.search_spec.specs.State.{State, Setting, Command, process, mate, confront, inst, choose, describe, grow}
 use Rattle.search_spec.specs.Alternatives.{Alternatives, all_pos, differ, con, cho, des}
 use Rattle.search_spec.specs.Instances.{with_instance}
-use Rattle.search_spec.specs.Commands.{mated_pair, confronted_pair, instantiated, carried_out}
-use Rattle.search_spec.specs.After.{nothing_yet, started, after_command, stepped, after}
-use Rattle.search_spec.specs.TypedState.{Mates, Confronts, Instantiates, IsTypedCommand, IsTypedWith, IsTypedState}
+use Rattle.search_spec.specs.Commands.{with_mating, with_confrontation, with_instantiation, with_command}
+use Rattle.search_spec.specs.After.{nothing_yet, starting_state, after_command, next_state, state_after}
+use Rattle.search_spec.specs.TypedState.{Mates, Confronts, Instantiates, IsTypedCommand, IsTypedStateWith, IsTypedState}
 use Rattle.search_spec.proofs.NamingLaws.{pick_good}
 use Rattle.search_spec.proofs.TypedAlternatives.{alternatives_typed}
 use Rattle.search_spec.proofs.TypedPushes.{each_mapped, each_filtered, pushed-typed, with_instance-typed}
@@ -40,7 +40,7 @@ arguments-applied : (t : Lambda) (us : List Lambda) → arguments (applied t us)
 arguments-applied t [] = joined_nil (arguments t)
 arguments-applied t (u ∷ us) = arguments-applied (app t u) us ∙ append_assoc (arguments t) (u ∷ []) us
 
-first_good : (P : Waiting Command → Type 0) (q : Waiting Command) (qs : List (Waiting Command)) → P q → Each P qs → P (first_of q qs)
+first_good : (P : Waiting Command → Type 0) (q : Waiting Command) (qs : List (Waiting Command)) → P q → Each P qs → P (first_waiting q qs)
 first_good P q [] h k = h
 first_good P q (p ∷ ps) h k = first_good P (if is_before p q then p else q) ps (pick_good P (is_before p q) p q k.0 h) k.1
 
@@ -51,10 +51,10 @@ module _ (setting : Setting) (over : IsScope setting.scope) (s : State) (state :
   good : IsScope here
   good = table_scope setting.scope s.rows over state.table
 
-  whole : (t : State) → IsTypedWith setting s.rows t → IsTypedState setting t
+  whole : (t : State) → IsTypedStateWith setting s.rows t → IsTypedState setting t
   whole t g = whole_state setting over s.rows t state.table g
 
-  mate-typed : (l m : Literal) → Mates here l m → IsTypedWith setting s.rows (mated_pair setting l m s)
+  mate-typed : (l m : Literal) → Mates here l m → IsTypedStateWith setting s.rows (with_mating setting l m s)
   mate-typed l m h =
       let c = h.head in
       let lits : l.atom ≡ applied (constant c) (h.s ∷ h.ss) = ap (λ x. x.atom) h.is_positive in
@@ -70,25 +70,25 @@ module _ (setting : Setting) (over : IsScope setting.scope) (s : State) (state :
       let D : Alternatives → Type 0 = λ as'. Each (IsBranch here) as' in
       with_instance-typed setting s.rows (l ∷ m ∷ []) (differ (type_of here [] (head_of l.atom)) (arguments l.atom) (arguments m.atom)) s (subst D (sym same) typed) state.typed
 
-  confront-typed : (l m : Literal) → Confronts here l m → IsTypedWith setting s.rows (confronted_pair setting l m l.atom m.atom s)
+  confront-typed : (l m : Literal) → Confronts here l m → IsTypedStateWith setting s.rows (with_confrontation setting l m l.atom m.atom s)
   confront-typed l m h =
       let b = base (suc h.n) in
-      let P : Lambda → Type 0 = λ x. IsTypedWith setting s.rows (confronted_pair setting l m x m.atom s) in
-      let Q : Lambda → Type 0 = λ y. IsTypedWith setting s.rows (confronted_pair setting l m (eq b h.s h.t) y s) in
+      let P : Lambda → Type 0 = λ x. IsTypedStateWith setting s.rows (with_confrontation setting l m x m.atom s) in
+      let Q : Lambda → Type 0 = λ y. IsTypedStateWith setting s.rows (with_confrontation setting l m (eq b h.s h.t) y s) in
       let L : Literal → Type 0 = λ x. IsLiteral here x in
       let typed = alternatives_typed here good s.rows refl (Con 0 1) _ _ (con_rule 0 1 h.n h.s h.t h.u h.v) (subst L h.is_positive h.positive, (subst L h.is_negative h.negative, tt)) in
       subst P (sym (ap (λ x. x.atom) h.is_positive)) (subst Q (sym (ap (λ x. x.atom) h.is_negative)) (with_instance-typed setting s.rows (l ∷ m ∷ []) (con b h.s h.t h.u h.v) s typed state.typed))
 
-  inst-typed : (l : Literal) (u : Lambda) → Instantiates here l u → IsTypedWith setting s.rows (instantiated setting l l.atom u s)
+  inst-typed : (l : Literal) (u : Lambda) → Instantiates here l u → IsTypedStateWith setting s.rows (with_instantiation setting l l.atom u s)
   inst-typed l u h =
-      let P : Lambda → Type 0 = λ x. IsTypedWith setting s.rows (instantiated setting l x u s) in
+      let P : Lambda → Type 0 = λ x. IsTypedStateWith setting s.rows (with_instantiation setting l x u s) in
       let L : Literal → Type 0 = λ x. IsLiteral here x in
       let typed = alternatives_typed here good s.rows refl (AllPos 0 u) _ _ (all_pos_rule 0 h.type h.predicate u h.argument) (subst L h.is_universal h.literal, tt) in
       subst P (sym (ap (λ x. x.atom) h.is_universal))
-      (pick_good (IsTypedWith setting s.rows) (is_shallow u) (with_instance setting.mode (l ∷ []) (all_pos h.predicate u) s) s
+      (pick_good (IsTypedStateWith setting s.rows) (is_shallow u) (with_instance setting.mode (l ∷ []) (all_pos h.predicate u) s) s
       (with_instance-typed setting s.rows (l ∷ []) (all_pos h.predicate u) s typed state.typed) state.typed)
 
-  carried_out-typed : (c : Command) → IsTypedCommand here c → IsTypedState setting (carried_out setting c s)
+  carried_out-typed : (c : Command) → IsTypedCommand here c → IsTypedState setting (with_command setting c s)
   carried_out-typed (process l) h = processed-typed setting over l s state h
   carried_out-typed (mate l m) h = whole _ (mate-typed l m h)
   carried_out-typed (confront l m) h = whole _ (confront-typed l m h)
@@ -98,7 +98,7 @@ module _ (setting : Setting) (over : IsScope setting.scope) (s : State) (state :
   carried_out-typed (grow p t) h = whole _ (grow-typed setting s.rows good p t s h state.typed)
 
 module _ (setting : Setting) (over : IsScope setting.scope) where
-  taken-typed : (n : ℕ) (s : State) → IsTypedState setting s → IsTypedState setting (record s { queue = without n s.queue; done = suc s.done })
+  taken-typed : (n : ℕ) (s : State) → IsTypedState setting s → IsTypedState setting (record s { queue = without_number n s.queue; done = suc s.done })
   taken-typed n s state =
       let g = state.typed in
       record {
@@ -115,14 +115,14 @@ module _ (setting : Setting) (over : IsScope setting.scope) where
   next-typed : (s t : State) → IsTypedState setting s → (qs : List (Waiting Command)) → Each (λ q. IsTypedCommand (with_rows setting.scope s.rows) q.command) qs → after_command setting (next_command qs) s ≡ Some t → IsTypedState setting t
   next-typed s t state [] h e = cc
   next-typed s t state (q ∷ qs) h e =
-      let first = first_of q qs in
+      let first = first_waiting q qs in
       let typed = first_good (λ p. IsTypedCommand (with_rows setting.scope s.rows) p.command) q qs h.0 h.1 in
-      let taken = record s { queue = without first.number s.queue; done = suc s.done } in
+      let taken = record s { queue = without_number first.number s.queue; done = suc s.done } in
       let P : State → Type 0 = λ x. IsTypedState setting x in
-      let same : carried_out setting first.command taken ≡ t = cc in
+      let same : with_command setting first.command taken ≡ t = cc in
       subst P same (carried_out-typed setting over taken (taken-typed first.number s state) first.command typed)
 
-  step-typed : (o : Option State) (t : State) → ((s : State) → o ≡ Some s → IsTypedState setting s) → stepped setting o ≡ Some t → IsTypedState setting t
+  step-typed : (o : Option State) (t : State) → ((s : State) → o ≡ Some s → IsTypedState setting s) → next_state setting o ≡ Some t → IsTypedState setting t
   step-typed None t h e = cc
   step-typed (Some s) t h e = let state = h s refl in next-typed s t state s.queue state.typed.queue e
 
@@ -130,7 +130,7 @@ module _ (setting : Setting) (over : IsScope setting.scope) where
   shallow_each [] h = tt
   shallow_each (l ∷ ls) h = (h.0, shallow_each ls h.1)
 
-  started-typed : (start : List Literal) → IsBranch (with_rows setting.scope []) start → IsTypedState setting (started setting start)
+  started-typed : (start : List Literal) → IsBranch (with_rows setting.scope []) start → IsTypedState setting (starting_state setting start)
   started-typed start h =
       let ls = filter is_shallow_literal start in
       let cs = map process ls in
@@ -140,9 +140,9 @@ module _ (setting : Setting) (over : IsScope setting.scope) where
       record { table = tt; typed = pushed-typed setting [] cs first typed (record { are_rows = refl; noted = tt; terms = tt; parked = tt; queue = tt }) }
 
   -- every state of a run is typed
-  pub after-typed : (start : List Literal) → IsBranch (with_rows setting.scope []) start → (n : ℕ) (s : State) → after setting start n ≡ Some s → IsTypedState setting s
+  pub after-typed : (start : List Literal) → IsBranch (with_rows setting.scope []) start → (n : ℕ) (s : State) → state_after setting start n ≡ Some s → IsTypedState setting s
   after-typed start h zero s e =
       let P : State → Type 0 = λ x. IsTypedState setting x in
-      let same : started setting start ≡ s = cc in
+      let same : starting_state setting start ≡ s = cc in
       subst P same (started-typed start h)
-  after-typed start h (suc n) s e = step-typed (after setting start n) s (λ t f. after-typed start h n t f) e
+  after-typed start h (suc n) s e = step-typed (state_after setting start n) s (λ t f. after-typed start h n t f) e

@@ -9,13 +9,13 @@ use Rattle.stt_core.specs.Canonical.{IsNeutral}
 use Rattle.stt_core.proofs.TypeLaws.{type_of-neutral}
 use Rattle.tableau_calculus.specs.Witnesses.{Row, with_rows}
 use Rattle.search_spec.specs.Each.{Each}
-use Rattle.search_spec.specs.Partial.{Partial, head, Hole, first_hole, filled, whole, blank, with_holes}
+use Rattle.search_spec.specs.Partial.{Partial, head, Hole, first_hole, with_filling, whole_term, blank_partial, with_holes}
 use Rattle.search_spec.specs.TypedPartial.{IsPartial, IsPartialSpine}
 use Rattle.search_spec.specs.Heads.{target, fitting_heads, heads_for}
 use Rattle.search_spec.specs.State.{State, Setting, Sketch, grow, scope_in}
-use Rattle.search_spec.specs.Terms.{with_terms, opened, prepared, first_terms}
-use Rattle.search_spec.specs.Commands.{grown, filled_at, grown_by}
-use Rattle.search_spec.specs.TypedState.{FitsHole, Grows, IsTypedSketch, IsTypedCommand, IsTypedWith}
+use Rattle.search_spec.specs.Terms.{with_terms, with_opening, with_preparation, first_terms}
+use Rattle.search_spec.specs.Commands.{with_growth, filling_at, growth_by}
+use Rattle.search_spec.specs.TypedState.{FitsHole, GrowsSketch, IsTypedSketch, IsTypedCommand, IsTypedStateWith}
 use Rattle.search_spec.proofs.NamingLaws.{each-joined, pick_good}
 use Rattle.search_spec.proofs.PartialLaws.{blank_typed, with_holes_typed, fills, whole_canonical}
 use Rattle.search_spec.proofs.TypedHeads.{heads_fit, declared_at}
@@ -26,7 +26,7 @@ module _ (setting : Setting) (rows : List Row) (good : IsScope (with_rows settin
   over = with_rows setting.scope rows
 
   abbrev Good : State → Type 0
-  Good s = IsTypedWith setting rows s
+  Good s = IsTypedStateWith setting rows s
 
   growing : (p : Sketch) → IsTypedSketch over p → (o : Option Hole) → first_hole [] p.partial ≡ o → Each (IsTypedCommand over) (map (grow p) (heads_for over o))
   growing p t None e = tt
@@ -35,27 +35,27 @@ module _ (setting : Setting) (rows : List Row) (good : IsScope (with_rows settin
       each_mapped (FitsHole over h) (IsTypedCommand over) (grow p) (λ x f. record { sketch = t; hole = h; is_first = e; fits = f })
       (fitting_heads over h) (heads_fit over good h.context h.base d.context d.type)
 
-  pub opened-typed : (p : Sketch) (s : State) → IsTypedSketch over p → Good s → Good (opened setting p s)
+  pub opened-typed : (p : Sketch) (s : State) → IsTypedSketch over p → Good s → Good (with_opening setting p s)
   opened-typed p s t g =
       let P : List Row → Type 0 = λ r. Each (IsTypedCommand over) (map (grow p) (heads_for (with_rows setting.scope r) (first_hole [] p.partial))) in
       pushed-typed setting rows (map (grow p) (heads_for (scope_in setting s) (first_hole [] p.partial))) (record s { parked = s.parked ++ p ∷ [] })
       (subst P (sym g.are_rows) (growing p t (first_hole [] p.partial) refl))
       (record { are_rows = g.are_rows; noted = g.noted; terms = g.terms; parked = each-joined (IsTypedSketch over) s.parked (p ∷ []) g.parked (t, tt); queue = g.queue })
 
-  pub prepared-typed : (a : SimpleType) (s : State) → is_declared setting.scope.bases a ≡ true → Good s → Good (prepared setting a s)
+  pub prepared-typed : (a : SimpleType) (s : State) → is_declared setting.scope.bases a ≡ true → Good s → Good (with_preparation setting a s)
   prepared-typed (base n) s d g =
       pick_good Good (list_any (λ u. same_type (base n) u.type) s.terms) s (with_terms setting.mode (base n) (first_terms (base n)) s) g
       (with_terms-typed setting rows (base n) (first_terms (base n)) s (first_terms-typed setting rows n d) g)
   prepared-typed (arrow a b) s d g =
-      let p : Sketch = record { type = arrow a b; partial = blank (arrow a b) } in
-      pick_good Good (list_any (λ q. same_type (arrow a b) q.type) s.parked) s (opened setting p s) g
+      let p : Sketch = record { type = arrow a b; partial = blank_partial (arrow a b) } in
+      pick_good Good (list_any (λ q. same_type (arrow a b) q.type) s.parked) s (with_opening setting p s) g
       (opened-typed p s (record { declared = d; typed = blank_typed over [] (arrow a b) d }) g)
 
   leaf_spine : (ctx : List SimpleType) (a : SimpleType) (t : Lambda) → IsLeaf t → IsNeutral over ctx a t → IsPartialSpine over ctx a (head t)
   leaf_spine ctx a t l n = (l, n)
 
   -- the partial term that has grown
-  pub grown_by-typed : (p : Sketch) (t : Lambda) → Grows over p t → IsTypedSketch over (grown_by over t p)
+  pub grown_by-typed : (p : Sketch) (t : Lambda) → GrowsSketch over p t → IsTypedSketch over (growth_by over t p)
   grown_by-typed p t g =
       let h = g.hole in
       let f = g.fits in
@@ -64,18 +64,18 @@ module _ (setting : Setting) (rows : List Row) (good : IsScope (with_rows settin
       let Q : ℕ → Type 0 = λ n. IsPartial over h.context (base n) r in
       let typed = subst Q f.gives (with_holes_typed over h.context f.type (head t) f.declared (leaf_spine h.context f.type t f.leaf f.has_type)) in
       let done = fills over r h typed [] p.type p.partial g.sketch.typed g.is_first in
-      let is : filled_at over t p.partial (first_hole [] p.partial) ≡ Some done.0 =
-      ap (filled_at over t p.partial) g.is_first ∙ ap (λ o. filled (with_holes (unwrap_or o formula) (head t)) p.partial) (type_of-neutral over h.context f.type t f.has_type) ∙ done.1 in
+      let is : filling_at over t p.partial (first_hole [] p.partial) ≡ Some done.0 =
+      ap (filling_at over t p.partial) g.is_first ∙ ap (λ o. with_filling (with_holes (unwrap_or o formula) (head t)) p.partial) (type_of-neutral over h.context f.type t f.has_type) ∙ done.1 in
       let R : Partial → Type 0 = λ q. IsPartial over [] p.type q in
       record { declared = g.sketch.declared; typed = subst R (sym (ap (λ o. unwrap_or o p.partial) is)) done.2 }
 
   -- a grown partial term is a term, or is opened
-  grown_is : (q : Sketch) (s : State) → IsTypedSketch over q → Good s → (o : Option Lambda) → whole q.partial ≡ o → Good (grown setting q o s)
+  grown_is : (q : Sketch) (s : State) → IsTypedSketch over q → Good s → (o : Option Lambda) → whole_term q.partial ≡ o → Good (with_growth setting q o s)
   grown_is q s t g (Some u) e = with_term-typed setting rows q.type u s (whole_canonical over [] q.type q.partial u t.typed e) g
   grown_is q s t g None e = opened-typed q s t g
 
-  pub grow-typed : (p : Sketch) (t : Lambda) (s : State) → Grows over p t → Good s → Good (grown setting (grown_by (scope_in setting s) t p) (whole (grown_by (scope_in setting s) t p).partial) s)
+  pub grow-typed : (p : Sketch) (t : Lambda) (s : State) → GrowsSketch over p t → Good s → Good (with_growth setting (growth_by (scope_in setting s) t p) (whole_term (growth_by (scope_in setting s) t p).partial) s)
   grow-typed p t s h g =
-      let P : List Row → Type 0 = λ r. Good (grown setting (grown_by (with_rows setting.scope r) t p) (whole (grown_by (with_rows setting.scope r) t p).partial) s) in
-      let q = grown_by over t p in
-      subst P (sym g.are_rows) (grown_is q s (grown_by-typed p t h) g (whole q.partial) refl)
+      let P : List Row → Type 0 = λ r. Good (with_growth setting (growth_by (with_rows setting.scope r) t p) (whole_term (growth_by (with_rows setting.scope r) t p).partial) s) in
+      let q = growth_by over t p in
+      subst P (sym g.are_rows) (grown_is q s (grown_by-typed p t h) g (whole_term q.partial) refl)

@@ -15,13 +15,13 @@ use Rattle.tableau_calculus.proofs.EquationLaws.{eq_canonical}
 use Rattle.tableau_calculus.proofs.FunctionLaws.{every_canonical}
 use Rattle.search_spec.specs.Each.{Each}
 use Rattle.search_spec.specs.Spine.{head_of, arguments, is_spine, same_head}
-use Rattle.search_spec.specs.State.{State, Setting, Typed, inst, pushed}
+use Rattle.search_spec.specs.State.{State, Setting, Typed, inst, with_commands}
 use Rattle.search_spec.specs.Alternatives.{Alternatives, bool_pos, bool_neg, fun_pos, fun_neg, differ}
 use Rattle.search_spec.specs.Instances.{with_instance}
-use Rattle.search_spec.specs.Terms.{terms_of, with_term, prepared}
+use Rattle.search_spec.specs.Terms.{terms_of, with_term, with_preparation}
 use Rattle.search_spec.specs.Partners.{matings, confrontations}
-use Rattle.search_spec.specs.Processing.{decomposed, confronted, equated, quantified, mated}
-use Rattle.search_spec.specs.TypedState.{IsTypedCommand, IsTypedWith}
+use Rattle.search_spec.specs.Processing.{with_decomposition, with_confrontations, with_equation, with_universal, with_matings}
+use Rattle.search_spec.specs.TypedState.{IsTypedCommand, IsTypedStateWith}
 use Rattle.search_spec.proofs.TypedAlternatives.{alternatives_typed}
 use Rattle.search_spec.proofs.SpineLaws.{spine_is, same_head_is, applied_whole}
 use Rattle.search_spec.proofs.TypedPushes.{each_mapped, each_filtered, pushed-typed, with_instance-typed, with_term-typed, noted-each}
@@ -33,16 +33,16 @@ module _ (setting : Setting) (rows : List Row) (good : IsScope (with_rows settin
   over = with_rows setting.scope rows
 
   abbrev Good : State → Type 0
-  Good s = IsTypedWith setting rows s
+  Good s = IsTypedStateWith setting rows s
 
-  pub mated-typed : (l : Literal) (s : State) → IsLiteral over l → Good s → Good (mated setting l s)
+  pub mated-typed : (l : Literal) (s : State) → IsLiteral over l → Good s → Good (with_matings setting l s)
   mated-typed l s h g = by_test (is_spine l.atom) refl
     where
-      by_test : (b : Bool) → is_spine l.atom ≡ b → Good (if b then pushed setting.mode (matings l s.noted) s else s)
+      by_test : (b : Bool) → is_spine l.atom ≡ b → Good (if b then with_commands setting.mode (matings l s.noted) s else s)
       by_test true e = pushed-typed setting rows (matings l s.noted) s (matings-typed over l s.noted h e (noted-each setting rows s g)) g
       by_test false e = g
 
-  confronted-typed : (n : ℕ) (sign : Bool) (s t : Lambda) (st : State) → IsLiteral over (record { positive = sign; atom = eq (base (suc n)) s t }) → Good st → Good (confronted setting (base (suc n)) (record { positive = sign; atom = eq (base (suc n)) s t }) st)
+  confronted-typed : (n : ℕ) (sign : Bool) (s t : Lambda) (st : State) → IsLiteral over (record { positive = sign; atom = eq (base (suc n)) s t }) → Good st → Good (with_confrontations setting (base (suc n)) (record { positive = sign; atom = eq (base (suc n)) s t }) st)
   confronted-typed n sign s t st h g =
       let l : Literal = record { positive = sign; atom = eq (base (suc n)) s t } in
       pushed-typed setting rows (confrontations (base (suc n)) l st.noted) st (confrontations-typed over n sign s t st.noted h (noted-each setting rows st g)) g
@@ -64,7 +64,7 @@ module _ (setting : Setting) (rows : List Row) (good : IsScope (with_rows settin
       absurd (no_base b x y k.0 (sym k.1 ∙ g))
   other_arguments c t b x y e h g (s ∷ ss) f = (s, ss, f)
 
-  pub decomposed-typed : (n : ℕ) (s t : Lambda) (st : State) → IsLiteral over (minus (eq (base (suc n)) s t)) → Good st → Good (decomposed setting (base (suc n)) s t st)
+  pub decomposed-typed : (n : ℕ) (s t : Lambda) (st : State) → IsLiteral over (minus (eq (base (suc n)) s t)) → Good st → Good (with_decomposition setting (base (suc n)) s t st)
   decomposed-typed n s t st h g = by_test (is_spine s && same_head s t) refl
     where
       b : SimpleType
@@ -95,7 +95,7 @@ module _ (setting : Setting) (rows : List Row) (good : IsScope (with_rows settin
           let A : List Row → Type 0 = λ r. Each (IsBranch over) (alternatives r) in
           with_instance-typed setting rows (minus (eq b s t) ∷ []) (alternatives st.rows) st (subst A (sym g.are_rows) (typed e)) g
 
-  pub equated-typed : (a : SimpleType) (sign : Bool) (s t : Lambda) (st : State) → IsLiteral over (record { positive = sign; atom = eq a s t }) → Good st → Good (equated setting a sign s t st)
+  pub equated-typed : (a : SimpleType) (sign : Bool) (s t : Lambda) (st : State) → IsLiteral over (record { positive = sign; atom = eq a s t }) → Good st → Good (with_equation setting a sign s t st)
   equated-typed (base zero) true s t st h g = with_instance-typed setting rows (plus (eq formula s t) ∷ []) (bool_pos s t) st (alternatives_typed over good rows refl (BoolPos 0) _ _ (bool_pos_rule 0 s t) (h, tt)) g
   equated-typed (base zero) false s t st h g = with_instance-typed setting rows (minus (eq formula s t) ∷ []) (bool_neg s t) st (alternatives_typed over good rows refl (BoolNeg 0) _ _ (bool_neg_rule 0 s t) (h, tt)) g
   equated-typed (arrow a b) true s t st h g = with_instance-typed setting rows (plus (eq (arrow a b) s t) ∷ []) (fun_pos a b s t) st (alternatives_typed over good rows refl (FunPos 0) _ _ (fun_pos_rule 0 a b s t) (h, tt)) g
@@ -106,7 +106,7 @@ module _ (setting : Setting) (rows : List Row) (good : IsScope (with_rows settin
       let sides = eq_canonical over b s t h.formula in
       let first = with_term setting.mode b s st in
       let second = with_term setting.mode b t first in
-      confronted-typed n false s t (decomposed setting b s t second) h
+      confronted-typed n false s t (with_decomposition setting b s t second) h
       (decomposed-typed n s t second h
       (with_term-typed setting rows b t first sides.right
       (with_term-typed setting rows b s st sides.left g)))
@@ -121,8 +121,8 @@ module _ (setting : Setting) (rows : List Row) (good : IsScope (with_rows settin
   instances-typed a f st h g =
       each_mapped (IsCanonical over [] a) (IsTypedCommand over) (inst (plus (every a f))) (λ u k. record { literal = h; type = a; predicate = f; is_universal = refl; argument = k }) (terms_of a st) (each_of_type a st.terms g.terms)
 
-  pub quantified-typed : (a : SimpleType) (f : Lambda) (st : State) → IsLiteral over (plus (every a f)) → Good st → Good (quantified setting a f st)
+  pub quantified-typed : (a : SimpleType) (f : Lambda) (st : State) → IsLiteral over (plus (every a f)) → Good st → Good (with_universal setting a f st)
   quantified-typed a f st h g =
-      let ready = prepared setting a st in
+      let ready = with_preparation setting a st in
       let k = prepared-typed setting rows good a st (every_canonical over a f h.formula).0 g in
       pushed-typed setting rows (map (inst (plus (every a f))) (terms_of a ready)) ready (instances-typed a f ready h k) k

@@ -15,17 +15,17 @@ use Rattle.tableau_calculus.specs.Witnesses.{Row, with_rows}
 use Rattle.search_spec.specs.Shallow.{is_shallow_literal}
 use Rattle.search_spec.specs.Clauses.{instance_clauses, with_clauses}
 use Rattle.search_spec.specs.Unsatisfiable.{formulas, Clause}
-use Rattle.search_spec.specs.Queue.{waiting}
-use Rattle.search_spec.specs.State.{State, Setting, Typed, Command, process, inst, due, pushed}
+use Rattle.search_spec.specs.Queue.{new_entries}
+use Rattle.search_spec.specs.State.{State, Setting, Typed, Command, process, inst, due, with_commands}
 use Rattle.search_spec.specs.Alternatives.{Alternatives}
 use Rattle.search_spec.specs.Instances.{with_literal, with_literals, with_instance}
 use Rattle.search_spec.specs.Terms.{terms_of, ranges_over, universals, with_term, with_terms, first_terms}
-use Rattle.search_spec.specs.TypedState.{IsTypedCommand, IsTypedWith}
+use Rattle.search_spec.specs.TypedState.{IsTypedCommand, IsTypedStateWith}
 use Rattle.search_spec.specs.Each.{Each}
 use Rattle.search_spec.proofs.NamingLaws.{each-joined, pick_good}
 
 -- what holds of each command holds of each waiting one
-each_waiting : (P : Command → Type 0) (d : Command → ℕ) (n : ℕ) (cs : List Command) → Each P cs → Each (λ q. P q.command) (waiting d n cs)
+each_waiting : (P : Command → Type 0) (d : Command → ℕ) (n : ℕ) (cs : List Command) → Each P cs → Each (λ q. P q.command) (new_entries d n cs)
 each_waiting P d n [] h = tt
 each_waiting P d n (c ∷ cs) h = (h.0, each_waiting P d (suc n) cs h.1)
 
@@ -75,15 +75,15 @@ module _ (setting : Setting) (rows : List Row) where
   over = with_rows setting.scope rows
 
   abbrev Good : State → Type 0
-  Good s = IsTypedWith setting rows s
+  Good s = IsTypedStateWith setting rows s
 
-  pub pushed-typed : (cs : List Command) (s : State) → Each (IsTypedCommand over) cs → Good s → Good (pushed setting.mode cs s)
+  pub pushed-typed : (cs : List Command) (s : State) → Each (IsTypedCommand over) cs → Good s → Good (with_commands setting.mode cs s)
   pushed-typed cs s h g = record {
     are_rows = g.are_rows;
     noted = g.noted;
     terms = g.terms;
     parked = g.parked;
-    queue = each-joined _ s.queue (waiting (due setting.mode s.done) s.pushes cs) g.queue (each_waiting (IsTypedCommand over) (due setting.mode s.done) s.pushes cs h);
+    queue = each-joined _ s.queue (new_entries (due setting.mode s.done) s.pushes cs) g.queue (each_waiting (IsTypedCommand over) (due setting.mode s.done) s.pushes cs h);
   }
 
   pub seen-typed : (ls : List Literal) (s : State) → Good s → Good (record s { seen = ls })
@@ -94,7 +94,7 @@ module _ (setting : Setting) (rows : List Row) where
 
   pub with_literal-typed : (l : Literal) (s : State) → IsLiteral over l → Good s → Good (with_literal setting.mode l s)
   with_literal-typed l s h g =
-      pick_good Good (has s.seen l) s (pushed setting.mode (process l ∷ []) (record s { seen = s.seen ++ l ∷ [] })) g
+      pick_good Good (has s.seen l) s (with_commands setting.mode (process l ∷ []) (record s { seen = s.seen ++ l ∷ [] })) g
       (pushed-typed (process l ∷ []) (record s { seen = s.seen ++ l ∷ [] }) (h, tt) (seen-typed (s.seen ++ l ∷ []) s g))
 
   pub with_literals-typed : (ls : List Literal) (s : State) → IsBranch over ls → Good s → Good (with_literals setting.mode ls s)
@@ -132,7 +132,7 @@ module _ (setting : Setting) (rows : List Row) where
   pub with_term-typed : (a : SimpleType) (u : Lambda) (s : State) → IsCanonical over [] a u → Good s → Good (with_term setting.mode a u s)
   with_term-typed a u s h g =
       let more : List Typed = s.terms ++ record { type = a; term = u } ∷ [] in
-      pick_good Good (list_any (same_term u) (terms_of a s)) s (pushed setting.mode (map (λ l. inst l u) (universals a s)) (record s { terms = more })) g
+      pick_good Good (list_any (same_term u) (terms_of a s)) s (with_commands setting.mode (map (λ l. inst l u) (universals a s)) (record s { terms = more })) g
       (pushed-typed (map (λ l. inst l u) (universals a s)) (record s { terms = more }) (instances-typed a u s h g)
       (record { are_rows = g.are_rows; noted = g.noted; terms = each-joined _ s.terms (record { type = a; term = u } ∷ []) g.terms (h, tt); parked = g.parked; queue = g.queue }))
 

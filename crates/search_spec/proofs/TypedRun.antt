@@ -20,9 +20,9 @@ use Rattle.search_spec.specs.State.{State, Setting, grow, scope_in}
 use Rattle.search_spec.specs.Alternatives.{imp_pos, imp_neg, all_neg}
 use Rattle.search_spec.specs.Instances.{with_instance}
 use Rattle.search_spec.specs.Selections.{selections_in, with_selections}
-use Rattle.search_spec.specs.Witness.{same_row, witness_of, is_hole_of, has_hole_of, with_new_witness, witnessed}
-use Rattle.search_spec.specs.Processing.{equated, worked, processed}
-use Rattle.search_spec.specs.TypedState.{Grows, IsTypedSketch, IsTypedCommand, IsTypedWith, IsTypedState}
+use Rattle.search_spec.specs.Witness.{same_row, witness_of, is_hole_of, has_hole_of, with_new_witness, with_witness}
+use Rattle.search_spec.specs.Processing.{with_equation, with_rules, with_processing}
+use Rattle.search_spec.specs.TypedState.{GrowsSketch, IsTypedSketch, IsTypedCommand, IsTypedStateWith, IsTypedState}
 use Rattle.search_spec.proofs.NamingLaws.{pick_good}
 use Rattle.search_spec.proofs.TypedAlternatives.{alternatives_typed}
 use Rattle.search_spec.proofs.TypedPushes.{each_mapped, each_filtered, pushed-typed, with_instance-typed}
@@ -36,7 +36,7 @@ pub record Worked (setting : Setting) (l : Literal) (s : State) : Type 0 where
   pub rows : List Row
   pub table : IsTable setting.scope rows
   pub literal : IsLiteral (with_rows setting.scope rows) l
-  pub typed : IsTypedWith setting rows s
+  pub typed : IsTypedStateWith setting rows s
 
 hole_is : (n : ℕ) (o : Option Hole) → is_hole_of n o ≡ true → (h : Hole) × (o ≡ Some h) × (h.base ≡ n)
 hole_is n None e = cc
@@ -47,21 +47,21 @@ module _ (setting : Setting) (over : IsScope setting.scope) where
     good : IsScope (scope_in setting s)
     good = table_scope setting.scope s.rows over state.table
 
-    same_rows : (l : Literal) (t : State) → IsLiteral (scope_in setting s) l → IsTypedWith setting s.rows t → Worked setting l t
+    same_rows : (l : Literal) (t : State) → IsLiteral (scope_in setting s) l → IsTypedStateWith setting s.rows t → Worked setting l t
     same_rows l t h g = record { rows = s.rows; table = state.table; literal = h; typed = g }
 
-    known_witness : (a : SimpleType) (f : Lambda) → IsLiteral (scope_in setting s) (minus (every a f)) → list_any (same_row (record { type = a; predicate = f })) s.rows ≡ true → IsTypedWith setting s.rows (with_instance setting.mode (minus (every a f) ∷ []) (all_neg a f (witness_of s.rows (record { type = a; predicate = f }))) s)
+    known_witness : (a : SimpleType) (f : Lambda) → IsLiteral (scope_in setting s) (minus (every a f)) → list_any (same_row (record { type = a; predicate = f })) s.rows ≡ true → IsTypedStateWith setting s.rows (with_instance setting.mode (minus (every a f) ∷ []) (all_neg a f (witness_of s.rows (record { type = a; predicate = f }))) s)
     known_witness a f h e =
         let r : Row = record { type = a; predicate = f } in
         with_instance-typed setting s.rows (minus (every a f) ∷ []) (all_neg a f (witness_of s.rows r)) s
         (alternatives_typed (scope_in setting s) good s.rows refl (AllNeg 0) _ _ (all_neg_rule 0 (position_or_len (same_row r) s.rows) a f (row_at s.rows r e)) (h, tt)) state.typed
 
   -- the partial terms that a new witness fits
-  growths : (rows : List Row) (k : ℕ) (r : Row) → slice_get rows k ≡ Some r → IsScope (with_rows setting.scope rows) → (s : State) → IsTypedWith setting rows s → Each (IsTypedCommand (with_rows setting.scope rows)) (map (λ p. grow p (constant (witness k))) (filter (has_hole_of (target r.type)) s.parked))
+  growths : (rows : List Row) (k : ℕ) (r : Row) → slice_get rows k ≡ Some r → IsScope (with_rows setting.scope rows) → (s : State) → IsTypedStateWith setting rows s → Each (IsTypedCommand (with_rows setting.scope rows)) (map (λ p. grow p (constant (witness k))) (filter (has_hole_of (target r.type)) s.parked))
   growths rows k r e good s g =
       let scope = with_rows setting.scope rows in
-      each_mapped (λ p. Grows scope p (constant (witness k))) (IsTypedCommand scope) (λ p. grow p (constant (witness k))) (λ p h. h) (filter (has_hole_of (target r.type)) s.parked)
-      (each_filtered (IsTypedSketch scope) (λ p. Grows scope p (constant (witness k))) (has_hole_of (target r.type))
+      each_mapped (λ p. GrowsSketch scope p (constant (witness k))) (IsTypedCommand scope) (λ p. grow p (constant (witness k))) (λ p h. h) (filter (has_hole_of (target r.type)) s.parked)
+      (each_filtered (IsTypedSketch scope) (λ p. GrowsSketch scope p (constant (witness k))) (has_hole_of (target r.type))
       (λ p h t.
       let found = hole_is (target r.type) (first_hole [] p.partial) t in
       let type_is : constant_type scope (witness k) ≡ Some r.type = mapped_get (λ (q : Row). q.type) rows k r e in
@@ -94,7 +94,7 @@ module _ (setting : Setting) (over : IsScope setting.scope) where
           typed = pushed-typed setting more (map (λ p. grow p (constant (witness k))) (filter (has_hole_of (target a)) added.parked)) added (growths more k r at good added g) g;
         }
 
-    witnessed-typed : (a : SimpleType) (f : Lambda) → IsLiteral (scope_in setting s) (minus (every a f)) → Worked setting (minus (every a f)) (witnessed setting a f s)
+    witnessed-typed : (a : SimpleType) (f : Lambda) → IsLiteral (scope_in setting s) (minus (every a f)) → Worked setting (minus (every a f)) (with_witness setting a f s)
     witnessed-typed a f h = by_test (list_any (same_row r) s.rows) refl
       where
         r : Row
@@ -107,7 +107,7 @@ module _ (setting : Setting) (over : IsScope setting.scope) where
         by_test true e = same_rows s state (minus (every a f)) (added s) h (known_witness s state a f h e)
         by_test false e = new_witness a f h e
 
-  worked-typed : (sign : Bool) (t : Lambda) (s : State) → IsTypedState setting s → IsLiteral (scope_in setting s) (record { positive = sign; atom = t }) → Worked setting (record { positive = sign; atom = t }) (worked setting sign t s)
+  worked-typed : (sign : Bool) (t : Lambda) (s : State) → IsTypedState setting s → IsLiteral (scope_in setting s) (record { positive = sign; atom = t }) → Worked setting (record { positive = sign; atom = t }) (with_rules setting sign t s)
   worked-typed true (constant falsity) s state h = same_rows s state (plus (constant falsity)) _ h (with_instance-typed setting s.rows (plus (constant falsity) ∷ []) [] s tt state.typed)
   worked-typed true (app (app (constant implication) u) v) s state h =
       same_rows s state (plus (imp u v)) _ h (with_instance-typed setting s.rows (plus (imp u v) ∷ []) (imp_pos u v) s (alternatives_typed (scope_in setting s) (good s state) s.rows refl (ImpPos 0) _ _ (imp_pos_rule 0 u v) (h, tt)) state.typed)
@@ -116,7 +116,7 @@ module _ (setting : Setting) (over : IsScope setting.scope) where
   worked-typed true (app (app (constant (equality a)) u) v) s state h = same_rows s state (plus (eq a u v)) _ h (equated-typed setting s.rows (good s state) a true u v s h state.typed)
   worked-typed false (app (app (constant (equality a)) u) v) s state h =
       same_rows s state (minus (eq a u v)) _ h
-      (pick_good (IsTypedWith setting s.rows) (same_term u v) (with_instance setting.mode (minus (eq a u v) ∷ []) [] s) (equated setting a false u v s)
+      (pick_good (IsTypedStateWith setting s.rows) (same_term u v) (with_instance setting.mode (minus (eq a u v) ∷ []) [] s) (with_equation setting a false u v s)
       (with_instance-typed setting s.rows (minus (eq a u v) ∷ []) [] s tt state.typed)
       (equated-typed setting s.rows (good s state) a false u v s h state.typed))
   worked-typed true (app (constant (all a)) f) s state h = same_rows s state (plus (every a f)) _ h (quantified-typed setting s.rows (good s state) a f s h state.typed)
@@ -128,16 +128,16 @@ module _ (setting : Setting) (over : IsScope setting.scope) where
   branch_last scope (x ∷ ls) l h k = (h.0, branch_last scope ls l h.1 k)
 
   -- a state that is typed with a witness table
-  pub whole_state : (rows : List Row) (s : State) → IsTable setting.scope rows → IsTypedWith setting rows s → IsTypedState setting s
+  pub whole_state : (rows : List Row) (s : State) → IsTable setting.scope rows → IsTypedStateWith setting rows s → IsTypedState setting s
   whole_state rows s t g =
       let P : List Row → Type 0 = λ r. IsTable setting.scope r in
-      let Q : List Row → Type 0 = λ r. IsTypedWith setting r s in
+      let Q : List Row → Type 0 = λ r. IsTypedStateWith setting r s in
       record { table = subst P (sym g.are_rows) t; typed = subst Q (sym g.are_rows) g }
 
-  pub processed-typed : (l : Literal) (s : State) → IsTypedState setting s → IsLiteral (scope_in setting s) l → IsTypedState setting (processed setting l s)
+  pub processed-typed : (l : Literal) (s : State) → IsTypedState setting s → IsLiteral (scope_in setting s) l → IsTypedState setting (with_processing setting l s)
   processed-typed l s state h =
       let w = worked-typed l.positive l.atom s state h in
-      let done = worked setting l.positive l.atom s in
+      let done = with_rules setting l.positive l.atom s in
       let g = w.typed in
       let noted = record done { noted = done.noted ++ l ∷ [] } in
       whole_state w.rows (with_selections setting.mode (selections_in l.atom) noted) w.table

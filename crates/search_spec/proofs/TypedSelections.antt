@@ -13,8 +13,8 @@ use Rattle.tableau_calculus.specs.Witnesses.{Row, with_rows}
 use Rattle.search_spec.specs.Each.{Each}
 use Rattle.search_spec.specs.Closed.{is_bound_by, is_closed}
 use Rattle.search_spec.specs.Selections.{Selection, by_choice, by_description, selection_by, selections_in, with_selection, with_selections}
-use Rattle.search_spec.specs.State.{State, Setting, choose, describe, pushed}
-use Rattle.search_spec.specs.TypedState.{IsTypedWith}
+use Rattle.search_spec.specs.State.{State, Setting, choose, describe, with_commands}
+use Rattle.search_spec.specs.TypedState.{IsTypedStateWith}
 use Rattle.search_spec.proofs.NamingLaws.{each-joined, pick_good}
 use Rattle.search_spec.proofs.PartialLaws.{from_map}
 use Rattle.search_spec.proofs.TypedPushes.{pushed-typed}
@@ -99,17 +99,17 @@ module _ (setting : Setting) (rows : List Row) where
   over = with_rows setting.scope rows
 
   abbrev Good : State → Type 0
-  Good s = IsTypedWith setting rows s
+  Good s = IsTypedStateWith setting rows s
 
   with_selection-typed : (p : Selection) (s : State) → IsPredicate over p → Good s → Good (with_selection setting.mode p s)
   with_selection-typed (by_choice a f) s h g =
       let more = s.chosen ++ f ∷ [] in
-      pick_good Good (list_any (same_term f) s.chosen) s (pushed setting.mode (choose a f ∷ []) (record s { chosen = more })) g
+      pick_good Good (list_any (same_term f) s.chosen) s (with_commands setting.mode (choose a f ∷ []) (record s { chosen = more })) g
       (pushed-typed setting rows (choose a f ∷ []) (record s { chosen = more }) (h, tt)
       (record { are_rows = g.are_rows; noted = g.noted; terms = g.terms; parked = g.parked; queue = g.queue }))
   with_selection-typed (by_description a f) s h g =
       let more = s.described ++ f ∷ [] in
-      pick_good Good (list_any (same_term f) s.described) s (pushed setting.mode (describe a f ∷ []) (record s { described = more })) g
+      pick_good Good (list_any (same_term f) s.described) s (with_commands setting.mode (describe a f ∷ []) (record s { described = more })) g
       (pushed-typed setting rows (describe a f ∷ []) (record s { described = more }) (h, tt)
       (record { are_rows = g.are_rows; noted = g.noted; terms = g.terms; parked = g.parked; queue = g.queue }))
 

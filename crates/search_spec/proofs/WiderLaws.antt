@@ -13,7 +13,7 @@ use Rattle.search_spec.specs.Partial.{Partial, hole, head, function, application
 use Rattle.search_spec.specs.TypedPartial.{IsPartial, IsPartialSpine}
 use Rattle.search_spec.specs.Queue.{Waiting}
 use Rattle.search_spec.specs.State.{State, Setting, Sketch, Typed, Command, process, mate, confront, inst, choose, describe, grow}
-use Rattle.search_spec.specs.TypedState.{IsTypedSketch, IsTypedCommand, IsTypedWith}
+use Rattle.search_spec.specs.TypedState.{IsTypedSketch, IsTypedCommand, IsTypedStateWith}
 use Rattle.search_spec.proofs.PartialLaws.{from_map}
 
 each_weaker : {X : Type 0} (P Q : X → Type 0) → ((x : X) → P x → Q x) → (xs : List X) → Each P xs → Each Q xs
@@ -86,7 +86,7 @@ module _ (scope : Scope) (more : List Row) (rows : List Row) where
       record { sketch = sketch_wider p h.sketch; hole = h.hole; is_first = h.is_first; fits = record { leaf = f.leaf; type = f.type; has_type = neutral_wider h.hole.context f.type t f.has_type; declared = f.declared; gives = f.gives } }
 
 module _ (setting : Setting) (rows more : List Row) where
-  pub state_wider : (s : State) → IsTypedWith setting rows s → IsTypedWith setting (rows ++ more) (record s { rows = rows ++ more })
+  pub state_wider : (s : State) → IsTypedStateWith setting rows s → IsTypedStateWith setting (rows ++ more) (record s { rows = rows ++ more })
   state_wider s g = record {
     are_rows = refl;
     noted = branch_wider setting.scope more rows s.noted g.noted;

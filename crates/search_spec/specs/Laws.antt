@@ -13,7 +13,7 @@ use Rattle.search_spec.specs.Unsatisfiable.{formulas, Unsatisfiable}
 use Rattle.search_spec.specs.Numbered.{numbers, literal_at, IsNumber, AreApart}
 use Rattle.search_spec.specs.Closed.{is_closed}
 use Rattle.search_spec.specs.State.{State, Setting}
-use Rattle.search_spec.specs.After.{after}
+use Rattle.search_spec.specs.After.{state_after}
 use Rattle.search_spec.specs.TypedState.{IsTypedState}
 use Rattle.search_spec.specs.Result.{Result, IsResult}
 use Rattle.search_spec.specs.Rows.{AllRuns, AgreeRuns, ChosenRuns, DescribedRuns, SymRuns, SomeRuns}
@@ -56,4 +56,4 @@ ExamplesRun = AllRuns × AgreeRuns × ChosenRuns × DescribedRuns × SymRuns × 
 abbrev pub StatesAreTyped : Type 0
 StatesAreTyped =
     (setting : Setting) → IsScope setting.scope → (start : List Literal) → IsBranch (with_rows setting.scope []) start
-    → (n : ℕ) (s : State) → after setting start n ≡ Some s → IsTypedState setting s
+    → (n : ℕ) (s : State) → state_after setting start n ≡ Some s → IsTypedState setting s

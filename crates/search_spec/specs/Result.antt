@@ -3,11 +3,11 @@ use Rattle.std.specs.Prelude.{◌≡◌, ◌≢◌, ◌<◌, ℕ, List, [], Some
 use Rattle.tableau_calculus.specs.Literals.{Literal}
 use Rattle.search_spec.specs.Unsatisfiable.{Unsatisfiable}
 use Rattle.search_spec.specs.State.{State, Setting}
-use Rattle.search_spec.specs.After.{after}
+use Rattle.search_spec.specs.After.{state_after}
 
 -- the search comes to the state after n commands, and its clauses are satisfiable
 pub record IsOpen (setting : Setting) (start : List Literal) (n : ℕ) (s : State) : Type 0 where
-  pub comes_to : after setting start n ≡ Some s
+  pub comes_to : state_after setting start n ≡ Some s
   pub satisfiable : Unsatisfiable s.clauses → ⊥
 
 -- the search goes on after n commands: its clauses are satisfiable, commands are left, and the limit isn't reached
@@ -24,7 +24,7 @@ GoesOnUntil setting start n = (m : ℕ) → m < n → GoesOn setting start m
 pub record IsProved (setting : Setting) (start : List Literal) (n : ℕ) : Type 0 where
   pub until : GoesOnUntil setting start n
   pub state : State
-  pub comes_to : after setting start n ≡ Some state
+  pub comes_to : state_after setting start n ≡ Some state
   pub unsatisfiable : Unsatisfiable state.clauses
 
 -- after n commands none is left, and the clauses are satisfiable

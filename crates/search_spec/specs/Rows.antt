@@ -6,7 +6,7 @@ use Rattle.tableau_calculus.specs.Literals.{Literal, plus, minus, opposite}
 use Rattle.search_spec.specs.Mode.{standard}
 use Rattle.search_spec.specs.Queue.{Waiting}
 use Rattle.search_spec.specs.State.{Setting, Command, process, mate, confront, inst, choose, describe}
-use Rattle.search_spec.specs.After.{started, after}
+use Rattle.search_spec.specs.After.{starting_state, state_after}
 use Rattle.search_spec.specs.Trace.{trace}
 
 abbrev pub i : SimpleType
@@ -107,32 +107,32 @@ none_holds = plus (every (predicate i) (lam (predicate i) (neg (app (bound 0) (n
 
 abbrev pub AllRuns : Type 0
 AllRuns =
-    (commands (trace all_setting 8 (Some (started all_setting all_start))) ≡ all_commands)
-    × (dues (trace all_setting 8 (Some (started all_setting all_start))) ≡ (0, 0) ∷ (0, 1) ∷ (2, 2) ∷ (3, 3) ∷ (5, 4) ∷ (5, 6) ∷ (6, 5) ∷ (7, 7) ∷ [])
+    (commands (trace all_setting 8 (Some (starting_state all_setting all_start))) ≡ all_commands)
+    × (dues (trace all_setting 8 (Some (starting_state all_setting all_start))) ≡ (0, 0) ∷ (0, 1) ∷ (2, 2) ∷ (3, 3) ∷ (5, 4) ∷ (5, 6) ∷ (6, 5) ∷ (7, 7) ∷ [])
 
 -- the second command's clause denies what the first literal says, so that the clauses are unsatisfiable
 abbrev pub AgreeRuns : Type 0
 AgreeRuns =
-    (commands (trace agree_setting 2 (Some (started agree_setting (agree_everywhere ∷ agree_goal ∷ [])))) ≡ process agree_everywhere ∷ process agree_goal ∷ [])
-    × (option_map (λ s. s.clauses) (after agree_setting (agree_everywhere ∷ agree_goal ∷ []) 2) ≡ Some ((agree_everywhere ∷ []) ∷ (agree_goal ∷ []) ∷ (opposite agree_goal ∷ opposite agree_everywhere ∷ []) ∷ []))
+    (commands (trace agree_setting 2 (Some (starting_state agree_setting (agree_everywhere ∷ agree_goal ∷ [])))) ≡ process agree_everywhere ∷ process agree_goal ∷ [])
+    × (option_map (λ s. s.clauses) (state_after agree_setting (agree_everywhere ∷ agree_goal ∷ []) 2) ≡ Some ((agree_everywhere ∷ []) ∷ (agree_goal ∷ []) ∷ (opposite agree_goal ∷ opposite agree_everywhere ∷ []) ∷ []))
 
 abbrev pub ChosenRuns : Type 0
 ChosenRuns =
-    commands (trace chosen_setting 4 (Some (started chosen_setting (some_p ∷ p_of_chosen ∷ []))))
+    commands (trace chosen_setting 4 (Some (starting_state chosen_setting (some_p ∷ p_of_chosen ∷ []))))
     ≡ process some_p ∷ process p_of_chosen ∷ process (plus (app (named 0) (constant (witness 0)))) ∷ choose i p_of ∷ []
 
 -- the sixth command's clause denies what the three literals say, so that the clauses are unsatisfiable
 abbrev pub DescribedRuns : Type 0
 DescribedRuns =
-    (commands (trace chosen_setting 6 (Some (started chosen_setting described_start))) ≡ process some_p ∷ process only_p ∷ process p_of_described ∷ process (plus (p_at (constant (witness 0)))) ∷ inst only_p default ∷ describe i p_of ∷ [])
-    × (option_map (λ s. drop 5 s.clauses) (after chosen_setting described_start 6) ≡ Some ((opposite some_p ∷ opposite only_p ∷ opposite p_of_described ∷ []) ∷ []))
+    (commands (trace chosen_setting 6 (Some (starting_state chosen_setting described_start))) ≡ process some_p ∷ process only_p ∷ process p_of_described ∷ process (plus (p_at (constant (witness 0)))) ∷ inst only_p default ∷ describe i p_of ∷ [])
+    × (option_map (λ s. drop 5 s.clauses) (state_after chosen_setting described_start 6) ≡ Some ((opposite some_p ∷ opposite only_p ∷ opposite p_of_described ∷ []) ∷ []))
 
 abbrev pub SymRuns : Type 0
 SymRuns =
-    commands (trace sym_setting 6 (Some (started sym_setting (a_is_b ∷ b_is_not_a ∷ []))))
+    commands (trace sym_setting 6 (Some (starting_state sym_setting (a_is_b ∷ b_is_not_a ∷ []))))
     ≡ process a_is_b ∷ process b_is_not_a ∷ confront a_is_b b_is_not_a ∷ process (minus (eq i (named 0) (named 1))) ∷ process (minus (eq i (named 1) (named 1))) ∷ process (minus (eq i (named 0) (named 0))) ∷ []
 
 abbrev pub SomeRuns : Type 0
 SomeRuns =
-    (dues (trace some_setting 28 (Some (started some_setting (none_holds ∷ [])))) ≡ (0, 0) ∷ (5, 1) ∷ (3, 7) ∷ (3, 8) ∷ (5, 2) ∷ (5, 3) ∷ (5, 4) ∷ (5, 5) ∷ (5, 6) ∷ (9, 9) ∷ (9, 10) ∷ (9, 11) ∷ (9, 12) ∷ (9, 13) ∷ (9, 14) ∷ (10, 15) ∷ (10, 16) ∷ (10, 17) ∷ (10, 18) ∷ (10, 19) ∷ (10, 20) ∷ (11, 21) ∷ (11, 22) ∷ (11, 23) ∷ (11, 24) ∷ (11, 25) ∷ (11, 26) ∷ (11, 36) ∷ [])
-    × (option_map (λ s. s.clauses) (after some_setting (none_holds ∷ []) 28) ≡ Some ((none_holds ∷ []) ∷ (opposite none_holds ∷ minus (constant falsity) ∷ []) ∷ (opposite none_holds ∷ plus (constant falsity) ∷ []) ∷ []))
+    (dues (trace some_setting 28 (Some (starting_state some_setting (none_holds ∷ [])))) ≡ (0, 0) ∷ (5, 1) ∷ (3, 7) ∷ (3, 8) ∷ (5, 2) ∷ (5, 3) ∷ (5, 4) ∷ (5, 5) ∷ (5, 6) ∷ (9, 9) ∷ (9, 10) ∷ (9, 11) ∷ (9, 12) ∷ (9, 13) ∷ (9, 14) ∷ (10, 15) ∷ (10, 16) ∷ (10, 17) ∷ (10, 18) ∷ (10, 19) ∷ (10, 20) ∷ (11, 21) ∷ (11, 22) ∷ (11, 23) ∷ (11, 24) ∷ (11, 25) ∷ (11, 26) ∷ (11, 36) ∷ [])
+    × (option_map (λ s. s.clauses) (state_after some_setting (none_holds ∷ []) 28) ≡ Some ((none_holds ∷ []) ∷ (opposite none_holds ∷ minus (constant falsity) ∷ []) ∷ (opposite none_holds ∷ plus (constant falsity) ∷ []) ∷ []))

@@ -6,7 +6,7 @@ use Rattle.stt_core.specs.Lambda.{choice, description, Lambda, bound, constant, 
 use Rattle.stt_core.specs.SameTerm.{same_term}
 use Rattle.search_spec.specs.Closed.{is_closed}
 use Rattle.search_spec.specs.Mode.{Mode}
-use Rattle.search_spec.specs.State.{State, choose, describe, pushed}
+use Rattle.search_spec.specs.State.{State, choose, describe, with_commands}
 
 -- a predicate on a type, by which a term chooses or describes a value of the type
 pub data Selection : Type 0 where
@@ -29,9 +29,9 @@ selections_in (app s u) = selection_by s u ++ selections_in s ++ selections_in u
 -- the predicate is chosen by, or described, unless it was before
 abbrev pub with_selection : Mode → Selection → State → State
 with_selection mode (by_choice a f) s =
-    if list_any (same_term f) s.chosen then s else pushed mode (choose a f ∷ []) (record s { chosen = s.chosen ++ f ∷ [] })
+    if list_any (same_term f) s.chosen then s else with_commands mode (choose a f ∷ []) (record s { chosen = s.chosen ++ f ∷ [] })
 with_selection mode (by_description a f) s =
-    if list_any (same_term f) s.described then s else pushed mode (describe a f ∷ []) (record s { described = s.described ++ f ∷ [] })
+    if list_any (same_term f) s.described then s else with_commands mode (describe a f ∷ []) (record s { described = s.described ++ f ∷ [] })
 
 abbrev pub with_selections : Mode → List Selection → State → State
 with_selections mode [] s = s

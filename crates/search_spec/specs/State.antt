@@ -8,7 +8,7 @@ use Rattle.tableau_calculus.specs.Witnesses.{Row, with_rows}
 use Rattle.search_spec.specs.Unsatisfiable.{Clause}
 use Rattle.search_spec.specs.Mode.{Mode}
 use Rattle.search_spec.specs.Partial.{Partial}
-use Rattle.search_spec.specs.Queue.{Waiting, waiting}
+use Rattle.search_spec.specs.Queue.{Waiting, new_entries}
 
 -- what a run is given: what is declared, and how long commands wait
 pub record Setting : Type 0 where
@@ -66,8 +66,8 @@ abbrev pub due : Mode → ℕ → Command → ℕ
 due mode now c = now + delay mode c
 
 -- the state with commands pushed
-abbrev pub pushed : Mode → List Command → State → State
-pushed mode cs s = record s { queue = s.queue ++ waiting (due mode s.done) s.pushes cs; pushes = s.pushes + length cs }
+abbrev pub with_commands : Mode → List Command → State → State
+with_commands mode cs s = record s { queue = s.queue ++ new_entries (due mode s.done) s.pushes cs; pushes = s.pushes + length cs }
 
 -- what is declared, with the witnesses so far
 abbrev pub scope_in : Setting → State → Scope

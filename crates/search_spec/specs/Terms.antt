@@ -6,9 +6,9 @@ use Rattle.stt_core.specs.Lambda.{falsity, all, choice, Lambda, constant, lam, a
 use Rattle.stt_core.specs.SameTerm.{same_term}
 use Rattle.tableau_calculus.specs.Literals.{Literal}
 use Rattle.search_spec.specs.Mode.{Mode}
-use Rattle.search_spec.specs.Partial.{first_hole, blank}
+use Rattle.search_spec.specs.Partial.{first_hole, blank_partial}
 use Rattle.search_spec.specs.Heads.{heads_for}
-use Rattle.search_spec.specs.State.{State, Setting, Sketch, inst, grow, pushed, scope_in}
+use Rattle.search_spec.specs.State.{State, Setting, Sketch, inst, grow, with_commands, scope_in}
 
 -- the terms of a type, in the order in which they came
 abbrev pub terms_of : SimpleType → State → List Lambda
@@ -27,16 +27,16 @@ universals a s = filter (λ l. l.positive && ranges_over a l.atom) s.noted
 abbrev pub with_term : Mode → SimpleType → Lambda → State → State
 with_term mode a u s =
     if list_any (same_term u) (terms_of a s) then s
-    else pushed mode (map (λ l. inst l u) (universals a s)) (record s { terms = s.terms ++ record { type = a; term = u } ∷ [] })
+    else with_commands mode (map (λ l. inst l u) (universals a s)) (record s { terms = s.terms ++ record { type = a; term = u } ∷ [] })
 
 abbrev pub with_terms : Mode → SimpleType → List Lambda → State → State
 with_terms mode a [] s = s
 with_terms mode a (u ∷ us) s = with_terms mode a us (with_term mode a u s)
 
 -- A partial term is opened: it is parked, and its first hole is to be filled with each head that fits.
-abbrev pub opened : Setting → Sketch → State → State
-opened setting p s =
-    pushed setting.mode (map (grow p) (heads_for (scope_in setting s) (first_hole [] p.partial))) (record s { parked = s.parked ++ p ∷ [] })
+abbrev pub with_opening : Setting → Sketch → State → State
+with_opening setting p s =
+    with_commands setting.mode (map (grow p) (heads_for (scope_in setting s) (first_hole [] p.partial))) (record s { parked = s.parked ++ p ∷ [] })
 
 -- the first terms of a base type: falsity and its negation for formulas, and else what the empty predicate chooses
 abbrev pub first_terms : SimpleType → List Lambda
@@ -46,8 +46,8 @@ first_terms (arrow a b) = []
 
 -- A type is prepared: a base type gets its first terms, where it has none, and for a function type one hole under its binders is opened,
 -- where none of its partial terms is parked.
-abbrev pub prepared : Setting → SimpleType → State → State
-prepared setting (base n) s = if list_any (λ u. same_type (base n) u.type) s.terms then s else with_terms setting.mode (base n) (first_terms (base n)) s
-prepared setting (arrow a b) s =
+abbrev pub with_preparation : Setting → SimpleType → State → State
+with_preparation setting (base n) s = if list_any (λ u. same_type (base n) u.type) s.terms then s else with_terms setting.mode (base n) (first_terms (base n)) s
+with_preparation setting (arrow a b) s =
     if list_any (λ p. same_type (arrow a b) p.type) s.parked then s
-    else opened setting (record { type = arrow a b; partial = blank (arrow a b) }) s
+    else with_opening setting (record { type = arrow a b; partial = blank_partial (arrow a b) }) s

@@ -27,7 +27,7 @@ pub record FitsHole (scope : Scope) (h : Hole) (t : Lambda) : Type 0 where
   pub gives : target type ≡ h.base
 
 -- the partial term has a hole, and the head fits it
-pub record Grows (scope : Scope) (p : Sketch) (t : Lambda) : Type 0 where
+pub record GrowsSketch (scope : Scope) (p : Sketch) (t : Lambda) : Type 0 where
   pub sketch : IsTypedSketch scope p
   pub hole : Hole
   pub is_first : first_hole [] p.partial ≡ Some hole
@@ -74,10 +74,10 @@ IsTypedCommand scope (confront l m) = Confronts scope l m
 IsTypedCommand scope (inst l u) = Instantiates scope l u
 IsTypedCommand scope (choose a f) = IsCanonical scope [] (predicate a) f
 IsTypedCommand scope (describe a f) = IsCanonical scope [] (predicate a) f
-IsTypedCommand scope (grow p h) = Grows scope p h
+IsTypedCommand scope (grow p h) = GrowsSketch scope p h
 
 -- the state has these witness rows, and what is in it has its type over what is declared, with these witnesses
-pub record IsTypedWith (setting : Setting) (rows : List Row) (s : State) : Type 0 where
+pub record IsTypedStateWith (setting : Setting) (rows : List Row) (s : State) : Type 0 where
   pub are_rows : s.rows ≡ rows
   pub noted : IsBranch (with_rows setting.scope rows) s.noted
   pub terms : Each (λ u. IsCanonical (with_rows setting.scope rows) [] u.type u.term) s.terms
@@ -87,4 +87,4 @@ pub record IsTypedWith (setting : Setting) (rows : List Row) (s : State) : Type 
 -- the rows are a witness table, and the state is typed with them
 pub record IsTypedState (setting : Setting) (s : State) : Type 0 where
   pub table : IsTable setting.scope s.rows
-  pub typed : IsTypedWith setting s.rows s
+  pub typed : IsTypedStateWith setting s.rows s

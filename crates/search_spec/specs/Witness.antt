@@ -8,7 +8,7 @@ use Rattle.tableau_calculus.specs.Literals.{minus}
 use Rattle.tableau_calculus.specs.Witnesses.{Row}
 use Rattle.search_spec.specs.Heads.{target}
 use Rattle.search_spec.specs.Partial.{Hole, first_hole}
-use Rattle.search_spec.specs.State.{State, Setting, Sketch, grow, pushed}
+use Rattle.search_spec.specs.State.{State, Setting, Sketch, grow, with_commands}
 use Rattle.search_spec.specs.Alternatives.{all_neg}
 use Rattle.search_spec.specs.Instances.{with_instance}
 
@@ -29,12 +29,12 @@ has_hole_of n p = is_hole_of n (first_hole [] p.partial)
 
 -- each parked partial term whose first hole takes a witness of this type is to be filled with it
 abbrev pub with_new_witness : Setting → SimpleType → Lambda → State → State
-with_new_witness setting a w s = pushed setting.mode (map (λ p. grow p w) (filter (has_hole_of (target a)) s.parked)) s
+with_new_witness setting a w s = with_commands setting.mode (map (λ p. grow p w) (filter (has_hole_of (target a)) s.parked)) s
 
 -- The rule for a predicate that doesn't hold everywhere, with the witness w: the one of the table, or a new one, with which the partial
 -- terms grow afterwards.
-abbrev pub witnessed : Setting → SimpleType → Lambda → State → State
-witnessed setting a f s =
+abbrev pub with_witness : Setting → SimpleType → Lambda → State → State
+with_witness setting a f s =
     let r : Row = record { type = a; predicate = f } in
     let w = witness_of s.rows r in
     let added = with_instance setting.mode (minus (every a f) ∷ []) (all_neg a f w) in

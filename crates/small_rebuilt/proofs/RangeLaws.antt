@@ -9,7 +9,7 @@ use Rattle.tableau_calculus.specs.declared.refutation.RuleUse.TheVariants as rul
 use Rattle.tableau_calculus.specs.declared.refutation.Line.{Line}
 use Rattle.sat_base.specs.declared.literal.SatLit.{SatLit}
 use Rattle.term_bank.specs.Terms.{term_at}
-use Rattle.literal_map.specs.Atoms.{literal_at as literal_of}
+use Rattle.literal_map.specs.Atoms.{bank_literal as literal_of}
 use Rattle.literal_map.specs.declared.instance.RuleKind.{RuleKind}
 use Rattle.literal_map.specs.declared.instance.RuleKind.TheVariants as kind
 use Rattle.tableau_rules.specs.Uses.{rule_of}

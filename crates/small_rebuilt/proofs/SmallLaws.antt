@@ -9,21 +9,21 @@ use Rattle.sat_base.specs.declared.literal.Var.{Var}
 use Rattle.sat_base.specs.declared.literal.SatLit.{SatLit}
 use Rattle.sat_base.specs.Literal.{positive, negative, negated, same_literal, holds}
 use Rattle.sat_base.proofs.LiteralLaws.{same_literal-true}
-use Rattle.sat_log.specs.Resolution.{without, without_repeats, resolvent, resolved}
+use Rattle.sat_log.specs.Resolution.{without_literal, each_once, resolvent, resolved}
 use Rattle.sat_log.proofs.ChainLaws.{resolved_cases}
 use Rattle.search_spec.specs.Each.{Each}
 use Rattle.search_spec.proofs.NamingLaws.{each-joined, pick_good}
 use Rattle.search_spec.proofs.TypedPushes.{each_filtered}
 use Rattle.rebuild_spec.specs.Input.{clause_by, Input, literals_of}
 use Rattle.rebuild_spec.specs.Trees.{Place, at_result, Tree, leaf, cut, branch}
-use Rattle.rebuild_spec.specs.Stands.{Standing, start, line, placed, joined, stepped, place_of, Stands, of_start, of_instance, of_first, of_next, of_result}
+use Rattle.rebuild_spec.specs.Stands.{Standing, start, line, rule_at_places, joined_standing, standing_after_step, premise_place, Stands, of_start, of_instance, of_first, of_next, of_result}
 use Rattle.rebuild_spec.specs.Lines.{walked, line_of}
 use Rattle.rebuild_spec.proofs.WalkLaws.{IsEach}
 use Rattle.rebuild_spec.proofs.ReachedLaws.{walked_all}
 use Rattle.refute_print.specs.Sizes.{IsSmallTerm, AreSmallLiterals}
-use Rattle.small_rebuilt.specs.Small.{TakesSmall, IsSmallNumber, HasSmallTerms, HasSmallParts, RebuiltTermsAreSmall}
+use Rattle.small_rebuilt.specs.Small.{TakesSmall, IsSmallNumber, InputHasSmallTerms, HasSmallParts, RebuiltTermsAreSmall}
 
-placed_takes : (r : RuleUse) (is : List ℕ) → TakesSmall r → TakesSmall (placed r is)
+placed_takes : (r : RuleUse) (is : List ℕ) → TakesSmall r → TakesSmall (rule_at_places r is)
 placed_takes (rule.False k) (i ∷ is) h = tt
 placed_takes (rule.Close k m) (i ∷ j ∷ is) h = tt
 placed_takes (rule.Refl k) (i ∷ is) h = tt
@@ -48,17 +48,17 @@ module _ (input : Input) where
   negations_small [] h = tt
   negations_small (l ∷ c) h = (h.0, negations_small c h.1)
 
-  without_small : (l : SatLit) (c : List SatLit) → Each Small c → Each Small (without l c)
+  without_small : (l : SatLit) (c : List SatLit) → Each Small c → Each Small (without_literal l c)
   without_small l c h = each_filtered Small Small (λ m. not (same_literal l m)) (λ m k e. k) c h
 
-  once_small : (c : List SatLit) → Each Small c → Each Small (without_repeats c)
+  once_small : (c : List SatLit) → Each Small c → Each Small (each_once c)
   once_small [] h = tt
-  once_small (l ∷ c) h = (h.0, without_small l (without_repeats c) (once_small c h.1))
+  once_small (l ∷ c) h = (h.0, without_small l (each_once c) (once_small c h.1))
 
   resolvent_small : (v : Var) (a b : List SatLit) → Each Small a → Each Small b → Each Small (resolvent v a b)
   resolvent_small v a b h k =
-      once_small (without (positive v) a ++ without (negative v) b)
-      (each-joined Small (without (positive v) a) (without (negative v) b) (without_small (positive v) a h) (without_small (negative v) b k))
+      once_small (without_literal (positive v) a ++ without_literal (negative v) b)
+      (each-joined Small (without_literal (positive v) a) (without_literal (negative v) b) (without_small (positive v) a h) (without_small (negative v) b k))
 
   held_small : (c : List SatLit) (l : SatLit) → holds c l ≡ true → Each Small c → Small l
   held_small [] l e h = absurd (false≢true e)
@@ -89,24 +89,24 @@ module _ (input : Input) where
   StandsSmall (start n l) = Small l
   StandsSmall (line t) = IsEach IsSmallTree t
 
-  joined_small : (p : Place) (v : Var) (s t : Standing) → Small (positive v) → StandsSmall s → StandsSmall t → StandsSmall (joined p v s t)
+  joined_small : (p : Place) (v : Var) (s t : Standing) → Small (positive v) → StandsSmall s → StandsSmall t → StandsSmall (joined_standing p v s t)
   joined_small p v (start m l) (start n k) here first second = (pick_good (Each Small) _ (l ∷ k ∷ []) (k ∷ l ∷ []) (first, (second, tt)) (second, (first, tt)), tt)
   joined_small p v (start m l) (line t) here first second = second
   joined_small p v (line t) (start n k) here first second = first
   joined_small p v (line t) (line u) here first second = ((resolvent_small v (branch u) (branch t) (whole_branch u second) (whole_branch t first), here), second, first)
 
-  stepped_small : (p : Place) (v : Var) (a b : List SatLit) (s t : Standing) → Small (positive v) → StandsSmall s → StandsSmall t → StandsSmall (stepped p v a s b t)
+  stepped_small : (p : Place) (v : Var) (a b : List SatLit) (s t : Standing) → Small (positive v) → StandsSmall s → StandsSmall t → StandsSmall (standing_after_step p v a s b t)
   stepped_small p v a b s t here first second =
-      pick_good StandsSmall (holds a (positive v) && holds b (negative v)) (joined p v s t) (joined p v t s) (joined_small p v s t here first second) (joined_small p v t s here second first)
+      pick_good StandsSmall (holds a (positive v) && holds b (negative v)) (joined_standing p v s t) (joined_standing p v t s) (joined_small p v s t here first second) (joined_small p v t s here second first)
 
-  module _ (given : HasSmallTerms input) where
+  module _ (given : InputHasSmallTerms input) where
     stands_small : (p : Place) (c : List SatLit) (s : Standing) → Stands input p c s → Each Small c × StandsSmall s
     stands_small p c s (of_start n l e) = let h = given.clauses n _ e in ((h, tt), h)
     stands_small p c s (of_instance n d i e) = let h = given.clauses n (clause_by d i) e in (h.0, (negations_small d h.0, placed_takes i.rule _ h.1))
-    stands_small p c s (of_first n entry d t e h) = stands_small (place_of entry.chain.first) d t h
+    stands_small p c s (of_first n entry d t e h) = stands_small (premise_place entry.chain.first) d t h
     stands_small p c s (of_next n k entry step a b d x y e f h j r) =
         let first = stands_small _ a x h in
-        let second = stands_small (place_of step.premise) b y j in
+        let second = stands_small (premise_place step.premise) b y j in
         let both = resolved_small step.var a b d r first.0 second.0 in
         (both.1, stepped_small _ step.var a b x y both.0 first.1 second.1)
     stands_small p c s (of_result n entry d t e h) = stands_small _ d t h

@@ -14,7 +14,7 @@ use Rattle.search_spec.specs.Numbered.{literal_at}
 use Rattle.rebuild_spec.specs.Input.{Sourced, start_unit, clause_by, Input}
 use Rattle.rebuild_spec.specs.Rebuilt.{IsRebuilt}
 use Rattle.term_bank.specs.Terms.{term_at}
-use Rattle.literal_map.specs.Atoms.{literal_at as literal_of}
+use Rattle.literal_map.specs.Atoms.{bank_literal as literal_of}
 use Rattle.literal_map.specs.declared.instance.BankUse.{BankUse}
 use Rattle.tableau_rules.specs.Uses.{use_of}
 use Rattle.refute_print.specs.Limits.{IsChild}
@@ -48,7 +48,7 @@ abbrev pub IsSmallSource : Input → Sourced → Type 0
 IsSmallSource input (start_unit l) = IsSmallNumber input l
 IsSmallSource input (clause_by c i) = Each (IsSmallNumber input) c × TakesSmall i.rule
 
-pub record HasSmallTerms (input : Input) : Type 0 where
+pub record InputHasSmallTerms (input : Input) : Type 0 where
   pub clauses : (n : ℕ) (c : Sourced) → slice_get input.clauses n ≡ Some c → IsSmallSource input c
   pub rows : AllByRecursion (λ (row : Row). IsSmallTerm row.predicate) input.rows
 
@@ -63,7 +63,7 @@ pub record AreTermsSmall (r : Refutation) : Type 0 where
   pub lines : AllByRecursion HasSmallParts r.lines
 
 abbrev pub RebuiltTermsAreSmall : Type 0
-RebuiltTermsAreSmall = (input : Input) (refutation : Refutation) → HasSmallTerms input → IsRebuilt input refutation → AreTermsSmall refutation
+RebuiltTermsAreSmall = (input : Input) (refutation : Refutation) → InputHasSmallTerms input → IsRebuilt input refutation → AreTermsSmall refutation
 
 -- the places that a rule is used at are numbers of the machine
 abbrev pub HasPlaces : RuleUse → Type 0

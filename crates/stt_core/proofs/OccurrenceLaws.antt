@@ -3,7 +3,7 @@ use Rattle.std.proofs.Common.{◌≡◌, ℕ, zero, suc, ◌+◌, ◌-◌, ◌<�
 use Rattle.std.proofs.Math.Nat.{max-le}
 use Rattle.stt_core.specs.SimpleType.{SimpleType}
 use Rattle.stt_core.specs.Lambda.{Constant, Lambda, bound, constant, lam, app, lambdas, applied, node_count}
-use Rattle.stt_core.specs.Sizes.{counts, node_count-applied}
+use Rattle.stt_core.specs.Sizes.{node_counts, node_count-applied}
 use Rattle.stt_core.specs.Occurrence.{Occurs, IsFree, IsClosed}
 use Rattle.stt_core.specs.Internal.Missing.{missing_binders}
 use Rattle.stt_core.proofs.CanonicalTypes.{applied-more}
@@ -12,10 +12,10 @@ use Rattle.stt_core.proofs.SpineLaws.{IsAtom}
 
 -- HOW MANY NODES
 
-counts-more : (us : List Lambda) (i : ℕ) (u : Lambda) → slice_get us i ≡ Some u → counts (take (i + 1) us) ≡ counts (take i us) + suc (node_count u)
-counts-more us i u g = ap counts (take_got us i u g) ∙ go (take i us) u
+counts-more : (us : List Lambda) (i : ℕ) (u : Lambda) → slice_get us i ≡ Some u → node_counts (take (i + 1) us) ≡ node_counts (take i us) + suc (node_count u)
+counts-more us i u g = ap node_counts (take_got us i u g) ∙ go (take i us) u
   where
-    go : (vs : List Lambda) (v : Lambda) → counts (vs ++ v ∷ []) ≡ counts vs + suc (node_count v)
+    go : (vs : List Lambda) (v : Lambda) → node_counts (vs ++ v ∷ []) ≡ node_counts vs + suc (node_count v)
     go [] v = omega arith
     go (w ∷ vs) v = omega (arith, go vs v)
 
@@ -30,13 +30,13 @@ node_count-lambdas [] t = omega arith
 node_count-lambdas (b ∷ bs) t = omega (arith, node_count-lambdas bs t)
 
 -- one argument more is counted, up to a greatest number
-pub counted_more : (us : List Lambda) (i n greatest : ℕ) (u : Lambda) (sum size more : ℕ) → slice_get us i ≡ Some u → sum ≡ min (n + counts (take i us)) greatest → size ≡ min (node_count u) greatest → more ≡ min (min (sum + 1) greatest + size) greatest → more ≡ min (n + counts (take (i + 1) us)) greatest
+pub counted_more : (us : List Lambda) (i n greatest : ℕ) (u : Lambda) (sum size more : ℕ) → slice_get us i ≡ Some u → sum ≡ min (n + node_counts (take i us)) greatest → size ≡ min (node_count u) greatest → more ≡ min (min (sum + 1) greatest + size) greatest → more ≡ min (n + node_counts (take (i + 1) us)) greatest
 counted_more us i n greatest u sum size more g e s m = omega (arith, counts-more us i u g, e, s, m)
 
-pub counted_whole : (bs : List SimpleType) (h : Lambda) (us vs : List Lambda) (whole : Lambda) (greatest sum : ℕ) → IsAtom h → sum ≡ min (length bs + 1 + counts vs) greatest → vs ≡ us → lambdas bs (applied h us) ≡ whole → sum ≡ min (node_count whole) greatest
+pub counted_whole : (bs : List SimpleType) (h : Lambda) (us vs : List Lambda) (whole : Lambda) (greatest sum : ℕ) → IsAtom h → sum ≡ min (length bs + 1 + node_counts vs) greatest → vs ≡ us → lambdas bs (applied h us) ≡ whole → sum ≡ min (node_count whole) greatest
 counted_whole bs h us vs whole greatest sum o e v w =
     e
-    ∙ ap (λ xs. min (length bs + 1 + counts xs) greatest) v
+    ∙ ap (λ xs. min (length bs + 1 + node_counts xs) greatest) v
     ∙ ap (λ n. min n greatest) (omega (arith, ap node_count w, node_count-lambdas bs (applied h us), node_count-applied h us, node_count-atom h o))
 
 -- HOW MANY BINDERS ARE MISSING

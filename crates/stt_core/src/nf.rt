@@ -71,9 +71,9 @@ impl Model for Nfs {
     ghost view = { λ a. a.items.items };
 
     ghost use Rattle.std.proofs.Common.{arith};
-    ghost use Rattle.stt_core.specs.Sizes.{counts, nfs_falls};
+    ghost use Rattle.stt_core.specs.Sizes.{node_counts, nfs_falls};
 
-    ghost size = { counts };
+    ghost size = { node_counts };
 
     ghost size_decreases = { λ a h. omega (arith, nfs_falls a.items.items) };
 }

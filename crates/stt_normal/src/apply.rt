@@ -4,7 +4,7 @@ ghost use Rattle.std.specs.Prelude.{◌≡◌, ◌+◌, ◌≤◌, IfOk, drop, l
 ghost use Rattle.stt_core.specs.View.{the_head, the_type};
 ghost use Rattle.normal_forms.specs.Normal.{ways, ways_of, replace, apply};
 ghost use Rattle.normal_forms.specs.Ready.{CanApply, Replaces, AppliesAll, HeadReplaces};
-ghost use Rattle.normal_forms.specs.Internal.Applying.{apply_ways, body};
+ghost use Rattle.normal_forms.specs.Internal.Applying.{apply_ways, body_under};
 
 use crate::lift::{deeper, lift_nf};
 use crate::part::{bind_all, spine};
@@ -21,8 +21,8 @@ fn replace_nf(
     nf: &Nf,
     skip: usize,
 ) -> Result<Nf, AllocError>
-    requires { Replaces (the_type ty.now) k r.now (body skip nf.now) }
-    ensures { IfOk result (λ t. t ≡ replace (ways (the_type ty.now)) k r.now (body skip nf.now)) }
+    requires { Replaces (the_type ty.now) k r.now (body_under skip nf.now) }
+    ensures { IfOk result (λ t. t ≡ replace (ways (the_type ty.now)) k r.now (body_under skip nf.now)) }
 {
     let inner = deeper(k, nf.binders.len().saturating_sub(skip))?;
     let mut args = Nfs::new(alloc);

@@ -2,21 +2,21 @@
 use Rattle.std.proofs.Common.{◌≡◌, ℕ, List, [], ◌∷◌, ◌++◌, codes, ap, ◌∙◌, append_assoc}
 use Rattle.refute_print.specs.Text.{as_bytes}
 use Rattle.refute_text.specs.Reading.{start_mark}
-use Rattle.szs_report.specs.Report.{headed, demo_report, refused_report}
+use Rattle.szs_report.specs.Report.{headed_report, demo_report, refused_report}
 
 pub proof_start-pieces : (status name count : List ℕ) → as_bytes ((status ++ name) ∷ (codes "% commands " ++ count) ∷ (start_mark ++ name) ∷ []) ≡ status ++ (name ++ (codes "\n% commands " ++ (count ++ (codes "\n% SZS output start Refutation for " ++ (name ++ (codes "\n" ++ []))))))
 proof_start-pieces status name count = append_assoc status name _
 
-headed-pieces : (status name word what : List ℕ) → headed status name word what ≡ status ++ (name ++ (codes "\n" ++ (word ++ (what ++ codes "\n"))))
+headed-pieces : (status name word what : List ℕ) → headed_report status name word what ≡ status ++ (name ++ (codes "\n" ++ (word ++ (what ++ codes "\n"))))
 headed-pieces status name word what =
     append_assoc status name (10 ∷ ((word ++ what) ++ codes "\n")) ∙ ap (λ x. status ++ (name ++ (10 ∷ x))) (append_assoc word what (codes "\n"))
 
-pub place-pieces : (status name word file count : List ℕ) → headed status name word (file ++ (codes " " ++ count)) ≡ status ++ (name ++ (codes "\n" ++ (word ++ (file ++ (codes " " ++ (count ++ (codes "\n" ++ [])))))))
+pub place-pieces : (status name word file count : List ℕ) → headed_report status name word (file ++ (codes " " ++ count)) ≡ status ++ (name ++ (codes "\n" ++ (word ++ (file ++ (codes " " ++ (count ++ (codes "\n" ++ [])))))))
 place-pieces status name word file count =
     headed-pieces status name word (file ++ (codes " " ++ count))
     ∙ ap (λ x. status ++ (name ++ (codes "\n" ++ (word ++ x)))) (append_assoc file (codes " " ++ count) (codes "\n"))
 
-pub place_why-pieces : (status name word file count why : List ℕ) → headed status name word ((file ++ (codes " " ++ count)) ++ (codes " " ++ why)) ≡ status ++ (name ++ (codes "\n" ++ (word ++ (file ++ (codes " " ++ (count ++ (codes " " ++ (why ++ (codes "\n" ++ [])))))))))
+pub place_why-pieces : (status name word file count why : List ℕ) → headed_report status name word ((file ++ (codes " " ++ count)) ++ (codes " " ++ why)) ≡ status ++ (name ++ (codes "\n" ++ (word ++ (file ++ (codes " " ++ (count ++ (codes " " ++ (why ++ (codes "\n" ++ [])))))))))
 place_why-pieces status name word file count why =
     headed-pieces status name word ((file ++ (codes " " ++ count)) ++ (codes " " ++ why))
     ∙ ap (λ x. status ++ (name ++ (codes "\n" ++ (word ++ x))))

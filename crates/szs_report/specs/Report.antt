@@ -18,8 +18,8 @@ use Rattle.szs_report.specs.declared.outcome.ModeWhy.{ModeWhy}
 use Rattle.szs_report.specs.declared.outcome.ModeWhy.TheVariants as line
 
 -- the two lines at the head of most reports
-abbrev pub headed : List ℕ → List ℕ → List ℕ → List ℕ → List ℕ
-headed status name word what = as_bytes ((status ++ name) ∷ (word ++ what) ∷ [])
+abbrev pub headed_report : List ℕ → List ℕ → List ℕ → List ℕ → List ℕ
+headed_report status name word what = as_bytes ((status ++ name) ∷ (word ++ what) ∷ [])
 
 -- the report of a proof: its head, and the text of the refutation between its marks
 abbrev pub counted_report : List ℕ → List ℕ → List ℕ → List ℕ → List ℕ
@@ -41,8 +41,8 @@ file_name (Mode name) = name
 file_name (Check name) = name
 
 -- a place of a file
-abbrev pub place_in : List ℕ → ℕ → List ℕ
-place_in file at = file ++ (codes " " ++ decimal at)
+abbrev pub place_report : List ℕ → ℕ → List ℕ
+place_report file at = file ++ (codes " " ++ decimal at)
 
 abbrev pub ill_word : IllWhy → List ℕ
 ill_word Unknown = codes "unknown"
@@ -89,23 +89,23 @@ line_why line word = line ++ (codes " " ++ word)
 
 -- a place of a file, and why it is refused
 abbrev pub refused_in : List ℕ → ℕ → List ℕ → List ℕ
-refused_in file at why = place_in file at ++ (codes " " ++ why)
+refused_in file at why = place_report file at ++ (codes " " ++ why)
 
 -- the report of an answer, for the problem's name
 abbrev pub report_of : List ℕ → Answer → List ℕ
 report_of name (Proved claim n text) = proof_report (claim_status claim) name n text
-report_of name (GaveUp n) = headed (codes "% SZS status GaveUp for ") name (codes "% commands ") (decimal n)
-report_of name (CommandLimit n) = headed (codes "% SZS status ResourceOut for ") name (codes "% command limit ") (decimal n)
-report_of name (ConflictLimit c) = headed (codes "% SZS status ResourceOut for ") name (codes "% conflict limit ") (decimal c)
+report_of name (GaveUp n) = headed_report (codes "% SZS status GaveUp for ") name (codes "% commands ") (decimal n)
+report_of name (CommandLimit n) = headed_report (codes "% SZS status ResourceOut for ") name (codes "% command limit ") (decimal n)
+report_of name (ConflictLimit c) = headed_report (codes "% SZS status ResourceOut for ") name (codes "% conflict limit ") (decimal c)
 report_of name (DemoDone claim n) = demo_report (claim_status claim) name (decimal n)
 report_of name Accepted = as_bytes ((codes "% refutation accepted for " ++ name) ∷ [])
 report_of name (Refused line why) = refused_report name (decimal line) (why_word why)
-report_of name (SyntaxAt file at) = headed (codes "% SZS status SyntaxError for ") name (codes "% syntax ") (place_in (file_name file) at)
-report_of name (TypeAt file at why) = headed (codes "% SZS status InputError for ") name (codes "% type ") (refused_in (file_name file) at (ill_word why))
-report_of name (IncludeAt file at why) = headed (codes "% SZS status InputError for ") name (codes "% include ") (refused_in (file_name file) at (include_word why))
-report_of name (ModeAt line why) = headed (codes "% SZS status InputError for ") name (codes "% mode ") (line_why (decimal line) (mode_word why))
+report_of name (SyntaxAt file at) = headed_report (codes "% SZS status SyntaxError for ") name (codes "% syntax ") (place_report (file_name file) at)
+report_of name (TypeAt file at why) = headed_report (codes "% SZS status InputError for ") name (codes "% type ") (refused_in (file_name file) at (ill_word why))
+report_of name (IncludeAt file at why) = headed_report (codes "% SZS status InputError for ") name (codes "% include ") (refused_in (file_name file) at (include_word why))
+report_of name (ModeAt line why) = headed_report (codes "% SZS status InputError for ") name (codes "% mode ") (line_why (decimal line) (mode_word why))
 report_of name Words = codes "% usage: satallax [--mode FILE] [--check FILE] [--demo N] PROBLEM\n"
-report_of name (TooLong file) = headed (codes "% SZS status InputError for ") name (codes "% too long ") (file_name file)
-report_of name (ReadFault file) = headed (codes "% SZS status InputError for ") name (codes "% read fault ") (file_name file)
-report_of name Memory = headed (codes "% SZS status ResourceOut for ") name (codes "% memory") []
+report_of name (TooLong file) = headed_report (codes "% SZS status InputError for ") name (codes "% too long ") (file_name file)
+report_of name (ReadFault file) = headed_report (codes "% SZS status InputError for ") name (codes "% read fault ") (file_name file)
+report_of name Memory = headed_report (codes "% SZS status ResourceOut for ") name (codes "% memory") []
 report_of name UnreadWords = as_bytes (codes "% memory" ∷ [])

@@ -6,7 +6,7 @@ ghost use Rattle.outside.specs.Prefix.{AppendsProperly};
 ghost use Rattle.outside.specs.Writing.{Took, Stopped};
 ghost use Rattle.refute_print.specs.Text.{as_bytes};
 ghost use Rattle.refute_text.specs.Reading.{start_mark, end_mark};
-ghost use Rattle.szs_report.specs.Report.{headed, counted_report, proof_report, claim_status, file_name, place_in, ill_word, include_word, mode_word, why_word, refused_report, refused_in, demo_report, line_why, report_of};
+ghost use Rattle.szs_report.specs.Report.{headed_report, counted_report, proof_report, claim_status, file_name, place_report, ill_word, include_word, mode_word, why_word, refused_report, refused_in, demo_report, line_why, report_of};
 
 use crate::answer::{Answer, Claim, NamedFile};
 use crate::causes::{ill_word, include_word, mode_word, why_word};
@@ -36,9 +36,9 @@ fn write_headed<S: Sink>(
     what: &[u8],
 ) -> Result<(), Failed>
     ensures appended { OnOk result (IsTrue (S.tells out.old)
-        → S.written out.new ≡ S.written out.old ++ headed status.now name.now word.now what.now) }
+        → S.written out.new ≡ S.written out.old ++ headed_report status.now name.now word.now what.now) }
     ensures failed { OnErr result (IsTrue (S.tells out.old)
-        → AppendsProperly (S.written out.old) (S.written out.new) (headed status.now name.now word.now what.now)) }
+        → AppendsProperly (S.written out.old) (S.written out.new) (headed_report status.now name.now word.now what.now)) }
     ensures quiet { OnOk result (S.faults out.new ≡ S.faults out.old) }
     ensures cause { OnErr result (Rose (S.faults out.old) (S.faults out.new)) }
     ensures later { S.faults out.old ≤ S.faults out.new }
@@ -152,9 +152,9 @@ fn write_numbered<S: Sink>(
     number: u32,
 ) -> Result<(), Failed>
     ensures appended { OnOk result (IsTrue (S.tells out.old)
-        → S.written out.new ≡ S.written out.old ++ headed status.now name.now word.now (decimal number)) }
+        → S.written out.new ≡ S.written out.old ++ headed_report status.now name.now word.now (decimal number)) }
     ensures failed { OnErr result (IsTrue (S.tells out.old)
-        → AppendsProperly (S.written out.old) (S.written out.new) (headed status.now name.now word.now (decimal number))) }
+        → AppendsProperly (S.written out.old) (S.written out.new) (headed_report status.now name.now word.now (decimal number))) }
     ensures quiet { OnOk result (S.faults out.new ≡ S.faults out.old) }
     ensures cause { OnErr result (Rose (S.faults out.old) (S.faults out.new)) }
     ensures later { S.faults out.old ≤ S.faults out.new }
@@ -175,9 +175,9 @@ fn write_place<S: Sink>(
     digits: &[u8],
 ) -> Result<(), Failed>
     ensures appended { OnOk result (IsTrue (S.tells out.old)
-        → S.written out.new ≡ S.written out.old ++ headed status.now name.now word.now (file.now ++ (codes " " ++ digits.now))) }
+        → S.written out.new ≡ S.written out.old ++ headed_report status.now name.now word.now (file.now ++ (codes " " ++ digits.now))) }
     ensures failed { OnErr result (IsTrue (S.tells out.old)
-        → AppendsProperly (S.written out.old) (S.written out.new) (headed status.now name.now word.now (file.now ++ (codes " " ++ digits.now)))) }
+        → AppendsProperly (S.written out.old) (S.written out.new) (headed_report status.now name.now word.now (file.now ++ (codes " " ++ digits.now)))) }
     ensures quiet { OnOk result (S.faults out.new ≡ S.faults out.old) }
     ensures cause { OnErr result (Rose (S.faults out.old) (S.faults out.new)) }
     ensures later { S.faults out.old ≤ S.faults out.new }
@@ -189,9 +189,9 @@ fn write_place<S: Sink>(
 /// Writes the report of a wrong token of a file.
 fn write_syntax<S: Sink>(out: &mut S, name: &[u8], file: &NamedFile, at: u32) -> Result<(), Failed>
     ensures appended { OnOk result (IsTrue (S.tells out.old)
-        → S.written out.new ≡ S.written out.old ++ headed (codes "% SZS status SyntaxError for ") name.now (codes "% syntax ") (place_in (file_name file.now) at)) }
+        → S.written out.new ≡ S.written out.old ++ headed_report (codes "% SZS status SyntaxError for ") name.now (codes "% syntax ") (place_report (file_name file.now) at)) }
     ensures failed { OnErr result (IsTrue (S.tells out.old)
-        → AppendsProperly (S.written out.old) (S.written out.new) (headed (codes "% SZS status SyntaxError for ") name.now (codes "% syntax ") (place_in (file_name file.now) at))) }
+        → AppendsProperly (S.written out.old) (S.written out.new) (headed_report (codes "% SZS status SyntaxError for ") name.now (codes "% syntax ") (place_report (file_name file.now) at))) }
     ensures quiet { OnOk result (S.faults out.new ≡ S.faults out.old) }
     ensures cause { OnErr result (Rose (S.faults out.old) (S.faults out.new)) }
     ensures later { S.faults out.old ≤ S.faults out.new }
@@ -213,9 +213,9 @@ fn write_place_why<S: Sink>(
     why: &[u8],
 ) -> Result<(), Failed>
     ensures appended { OnOk result (IsTrue (S.tells out.old)
-        → S.written out.new ≡ S.written out.old ++ headed (codes "% SZS status InputError for ") name.now word.now ((file.now ++ (codes " " ++ digits.now)) ++ (codes " " ++ why.now))) }
+        → S.written out.new ≡ S.written out.old ++ headed_report (codes "% SZS status InputError for ") name.now word.now ((file.now ++ (codes " " ++ digits.now)) ++ (codes " " ++ why.now))) }
     ensures failed { OnErr result (IsTrue (S.tells out.old)
-        → AppendsProperly (S.written out.old) (S.written out.new) (headed (codes "% SZS status InputError for ") name.now word.now ((file.now ++ (codes " " ++ digits.now)) ++ (codes " " ++ why.now)))) }
+        → AppendsProperly (S.written out.old) (S.written out.new) (headed_report (codes "% SZS status InputError for ") name.now word.now ((file.now ++ (codes " " ++ digits.now)) ++ (codes " " ++ why.now)))) }
     ensures quiet { OnOk result (S.faults out.new ≡ S.faults out.old) }
     ensures cause { OnErr result (Rose (S.faults out.old) (S.faults out.new)) }
     ensures later { S.faults out.old ≤ S.faults out.new }
@@ -248,9 +248,9 @@ fn write_refused<S: Sink>(
     why: &[u8],
 ) -> Result<(), Failed>
     ensures appended { OnOk result (IsTrue (S.tells out.old)
-        → S.written out.new ≡ S.written out.old ++ headed (codes "% SZS status InputError for ") name.now word.now (refused_in file.now at why.now)) }
+        → S.written out.new ≡ S.written out.old ++ headed_report (codes "% SZS status InputError for ") name.now word.now (refused_in file.now at why.now)) }
     ensures failed { OnErr result (IsTrue (S.tells out.old)
-        → AppendsProperly (S.written out.old) (S.written out.new) (headed (codes "% SZS status InputError for ") name.now word.now (refused_in file.now at why.now))) }
+        → AppendsProperly (S.written out.old) (S.written out.new) (headed_report (codes "% SZS status InputError for ") name.now word.now (refused_in file.now at why.now))) }
     ensures quiet { OnOk result (S.faults out.new ≡ S.faults out.old) }
     ensures cause { OnErr result (Rose (S.faults out.old) (S.faults out.new)) }
     ensures later { S.faults out.old ≤ S.faults out.new }
@@ -270,9 +270,9 @@ fn write_ill<S: Sink>(
     why: IllWhy,
 ) -> Result<(), Failed>
     ensures appended { OnOk result (IsTrue (S.tells out.old)
-        → S.written out.new ≡ S.written out.old ++ headed (codes "% SZS status InputError for ") name.now (codes "% type ") (refused_in (file_name file.now) at (ill_word why))) }
+        → S.written out.new ≡ S.written out.old ++ headed_report (codes "% SZS status InputError for ") name.now (codes "% type ") (refused_in (file_name file.now) at (ill_word why))) }
     ensures failed { OnErr result (IsTrue (S.tells out.old)
-        → AppendsProperly (S.written out.old) (S.written out.new) (headed (codes "% SZS status InputError for ") name.now (codes "% type ") (refused_in (file_name file.now) at (ill_word why)))) }
+        → AppendsProperly (S.written out.old) (S.written out.new) (headed_report (codes "% SZS status InputError for ") name.now (codes "% type ") (refused_in (file_name file.now) at (ill_word why)))) }
     ensures quiet { OnOk result (S.faults out.new ≡ S.faults out.old) }
     ensures cause { OnErr result (Rose (S.faults out.old) (S.faults out.new)) }
     ensures later { S.faults out.old ≤ S.faults out.new }
@@ -291,9 +291,9 @@ fn write_include<S: Sink>(
     why: IncludeWhy,
 ) -> Result<(), Failed>
     ensures appended { OnOk result (IsTrue (S.tells out.old)
-        → S.written out.new ≡ S.written out.old ++ headed (codes "% SZS status InputError for ") name.now (codes "% include ") (refused_in (file_name file.now) at (include_word why))) }
+        → S.written out.new ≡ S.written out.old ++ headed_report (codes "% SZS status InputError for ") name.now (codes "% include ") (refused_in (file_name file.now) at (include_word why))) }
     ensures failed { OnErr result (IsTrue (S.tells out.old)
-        → AppendsProperly (S.written out.old) (S.written out.new) (headed (codes "% SZS status InputError for ") name.now (codes "% include ") (refused_in (file_name file.now) at (include_word why)))) }
+        → AppendsProperly (S.written out.old) (S.written out.new) (headed_report (codes "% SZS status InputError for ") name.now (codes "% include ") (refused_in (file_name file.now) at (include_word why)))) }
     ensures quiet { OnOk result (S.faults out.new ≡ S.faults out.old) }
     ensures cause { OnErr result (Rose (S.faults out.old) (S.faults out.new)) }
     ensures later { S.faults out.old ≤ S.faults out.new }
@@ -311,9 +311,9 @@ fn write_file<S: Sink>(
     file: &NamedFile,
 ) -> Result<(), Failed>
     ensures appended { OnOk result (IsTrue (S.tells out.old)
-        → S.written out.new ≡ S.written out.old ++ headed (codes "% SZS status InputError for ") name.now word.now (file_name file.now)) }
+        → S.written out.new ≡ S.written out.old ++ headed_report (codes "% SZS status InputError for ") name.now word.now (file_name file.now)) }
     ensures failed { OnErr result (IsTrue (S.tells out.old)
-        → AppendsProperly (S.written out.old) (S.written out.new) (headed (codes "% SZS status InputError for ") name.now word.now (file_name file.now))) }
+        → AppendsProperly (S.written out.old) (S.written out.new) (headed_report (codes "% SZS status InputError for ") name.now word.now (file_name file.now))) }
     ensures quiet { OnOk result (S.faults out.new ≡ S.faults out.old) }
     ensures cause { OnErr result (Rose (S.faults out.old) (S.faults out.new)) }
     ensures later { S.faults out.old ≤ S.faults out.new }
@@ -385,9 +385,9 @@ fn write_refusal<S: Sink>(out: &mut S, name: &[u8], line: usize, why: Why) -> Re
 /// Writes the report of spent conflicts.
 fn write_spent<S: Sink>(out: &mut S, name: &[u8], conflicts: u64) -> Result<(), Failed>
     ensures appended { OnOk result (IsTrue (S.tells out.old)
-        → S.written out.new ≡ S.written out.old ++ headed (codes "% SZS status ResourceOut for ") name.now (codes "% conflict limit ") (decimal conflicts)) }
+        → S.written out.new ≡ S.written out.old ++ headed_report (codes "% SZS status ResourceOut for ") name.now (codes "% conflict limit ") (decimal conflicts)) }
     ensures failed { OnErr result (IsTrue (S.tells out.old)
-        → AppendsProperly (S.written out.old) (S.written out.new) (headed (codes "% SZS status ResourceOut for ") name.now (codes "% conflict limit ") (decimal conflicts))) }
+        → AppendsProperly (S.written out.old) (S.written out.new) (headed_report (codes "% SZS status ResourceOut for ") name.now (codes "% conflict limit ") (decimal conflicts))) }
     ensures quiet { OnOk result (S.faults out.new ≡ S.faults out.old) }
     ensures cause { OnErr result (Rose (S.faults out.old) (S.faults out.new)) }
     ensures later { S.faults out.old ≤ S.faults out.new }
@@ -453,9 +453,9 @@ fn write_mode_pieces<S: Sink>(
     word: &[u8],
 ) -> Result<(), Failed>
     ensures appended { OnOk result (IsTrue (S.tells out.old)
-        → S.written out.new ≡ S.written out.old ++ headed (codes "% SZS status InputError for ") name.now (codes "% mode ") (line_why line.now word.now)) }
+        → S.written out.new ≡ S.written out.old ++ headed_report (codes "% SZS status InputError for ") name.now (codes "% mode ") (line_why line.now word.now)) }
     ensures failed { OnErr result (IsTrue (S.tells out.old)
-        → AppendsProperly (S.written out.old) (S.written out.new) (headed (codes "% SZS status InputError for ") name.now (codes "% mode ") (line_why line.now word.now))) }
+        → AppendsProperly (S.written out.old) (S.written out.new) (headed_report (codes "% SZS status InputError for ") name.now (codes "% mode ") (line_why line.now word.now))) }
     ensures quiet { OnOk result (S.faults out.new ≡ S.faults out.old) }
     ensures cause { OnErr result (Rose (S.faults out.old) (S.faults out.new)) }
     ensures later { S.faults out.old ≤ S.faults out.new }
@@ -470,9 +470,9 @@ fn write_mode_pieces<S: Sink>(
 /// Writes the report of a line of a mode's file.
 fn write_mode<S: Sink>(out: &mut S, name: &[u8], line: u32, why: ModeWhy) -> Result<(), Failed>
     ensures appended { OnOk result (IsTrue (S.tells out.old)
-        → S.written out.new ≡ S.written out.old ++ headed (codes "% SZS status InputError for ") name.now (codes "% mode ") (line_why (decimal line) (mode_word why))) }
+        → S.written out.new ≡ S.written out.old ++ headed_report (codes "% SZS status InputError for ") name.now (codes "% mode ") (line_why (decimal line) (mode_word why))) }
     ensures failed { OnErr result (IsTrue (S.tells out.old)
-        → AppendsProperly (S.written out.old) (S.written out.new) (headed (codes "% SZS status InputError for ") name.now (codes "% mode ") (line_why (decimal line) (mode_word why)))) }
+        → AppendsProperly (S.written out.old) (S.written out.new) (headed_report (codes "% SZS status InputError for ") name.now (codes "% mode ") (line_why (decimal line) (mode_word why)))) }
     ensures quiet { OnOk result (S.faults out.new ≡ S.faults out.old) }
     ensures cause { OnErr result (Rose (S.faults out.old) (S.faults out.new)) }
     ensures later { S.faults out.old ≤ S.faults out.new }

@@ -5,7 +5,7 @@ use Rattle.std.proofs.lemmas.List.Elements.{Contains-push, Contains-append_left,
 use Rattle.stt_core.specs.SameTerm.{same_term}
 use Rattle.stt_core.proofs.SameTerms.{same_term-refl, same_term-true}
 use Rattle.tableau_calculus.specs.Literals.{Literal}
-use Rattle.tableau_calculus.specs.Start.{same_sign, same_literal, has, added}
+use Rattle.tableau_calculus.specs.Start.{same_sign, same_signed, has, added}
 use Rattle.tableau_calculus.proofs.ListLaws.{contains-first, contains-later, contains_cases}
 
 pub same_sign-true : (a b : Bool) → same_sign a b ≡ true → a ≡ b
@@ -14,24 +14,24 @@ same_sign-true true false h = cc
 same_sign-true false true h = cc
 same_sign-true false false h = refl
 
-pub same_literal-true : (l k : Literal) → same_literal l k ≡ true → l ≡ k
+pub same_literal-true : (l k : Literal) → same_signed l k ≡ true → l ≡ k
 same_literal-true l k h =
     let p = and_parts (same_sign l.positive k.positive) (same_term l.atom k.atom) h in
     ap₂ (λ b t. record { positive = b; atom = t }) (same_sign-true l.positive k.positive p.0) (same_term-true l.atom k.atom p.1)
 
-pub same_literal-refl : (l : Literal) → same_literal l l ≡ true
+pub same_literal-refl : (l : Literal) → same_signed l l ≡ true
 same_literal-refl l = go l.positive
   where
-    go : (p : Bool) → same_literal (record { positive = p; atom = l.atom }) (record { positive = p; atom = l.atom }) ≡ true
+    go : (p : Bool) → same_signed (record { positive = p; atom = l.atom }) (record { positive = p; atom = l.atom }) ≡ true
     go true = same_term-refl l.atom
     go false = same_term-refl l.atom
 
 -- the test whether a literal is in a list tells whether it is
 pub has-true : (ls : List Literal) (l : Literal) → has ls l ≡ true → Contains ls l
 has-true [] l h = cc
-has-true (k ∷ ls) l h = go (same_literal l k) refl h (has-true ls l)
+has-true (k ∷ ls) l h = go (same_signed l k) refl h (has-true ls l)
   where
-    go : (b : Bool) → same_literal l k ≡ b → b || has ls l ≡ true → (has ls l ≡ true → Contains ls l) → Contains (k ∷ ls) l
+    go : (b : Bool) → same_signed l k ≡ b → b || has ls l ≡ true → (has ls l ≡ true → Contains ls l) → Contains (k ∷ ls) l
     go true e t rest = subst (Contains (k ∷ ls)) (sym (same_literal-true l k e)) (contains-first k ls)
     go false e t rest = contains-later l k ls (rest t)
 
@@ -39,8 +39,8 @@ pub has-of : (ls : List Literal) (l : Literal) → Contains ls l → has ls l �
 has-of [] l h = absurd (omega (arith, h.1))
 has-of (k ∷ ls) l h =
     contains_cases (has (k ∷ ls) l ≡ true) l k ls h
-    (λ e. ap (λ b. b || has ls l) (ap (same_literal l) e ∙ same_literal-refl l))
-    (λ c. go (same_literal l k) (has-of ls l c))
+    (λ e. ap (λ b. b || has ls l) (ap (same_signed l) e ∙ same_literal-refl l))
+    (λ c. go (same_signed l k) (has-of ls l c))
   where
     go : (b : Bool) → has ls l ≡ true → b || has ls l ≡ true
     go true e = refl

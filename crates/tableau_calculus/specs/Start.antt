@@ -14,12 +14,12 @@ same_sign true b = b
 same_sign false b = not b
 
 -- whether two literals are the same
-abbrev pub same_literal : Literal → Literal → Bool
-same_literal l k = same_sign l.positive k.positive && same_term l.atom k.atom
+abbrev pub same_signed : Literal → Literal → Bool
+same_signed l k = same_sign l.positive k.positive && same_term l.atom k.atom
 
 -- whether the literal is one of the list
 abbrev pub has : List Literal → Literal → Bool
-has ls l = list_any (same_literal l) ls
+has ls l = list_any (same_signed l) ls
 
 -- the list with each of the further literals, in order, that isn't in it yet
 abbrev pub added : List Literal → List Literal → List Literal

@@ -9,7 +9,7 @@ use Rattle.search_spec.specs.Clauses.{same_clause, instance_clauses}
 use Rattle.search_spec.specs.Numbered.{numbers}
 use Rattle.tableau_clauses.specs.declared.origin.Origin.{Origin}
 use Rattle.tableau_clauses.specs.declared.origin.Origin.TheVariants.{Start, Instance as From}
-use Rattle.tableau_clauses.specs.Table.{Step, clauses_in, Table, ComesFrom, EachComes}
+use Rattle.tableau_clauses.specs.Table.{Step, clauses_in, Table, ComesFromOrigin, EachComes}
 use Rattle.tableau_clauses.specs.Internal.Stepping.{with_steps}
 
 pub none_come : EachComes ([], [])
@@ -31,7 +31,7 @@ each_with P o es (c ∷ cs) old new n s h =
     go true m t k = old m t k
     go false m t k = get-push (P t) es (c, o) t m k (λ j. old m t j) (λ e. subst P e (new c (contains-first c cs)))
 
-kept : (instances : List Instance) (i : Instance) (c : List SatLit) (o : Origin) → ComesFrom instances c o → ComesFrom (instances ++ i ∷ []) c o
+kept : (instances : List Instance) (i : Instance) (c : List SatLit) (o : Origin) → ComesFromOrigin instances c o → ComesFromOrigin (instances ++ i ∷ []) c o
 kept instances i c Start h = h
 kept instances i c (From k) h = (h.0, slice_get-append instances (i ∷ []) k h.0 h.1, h.2)
 
@@ -41,13 +41,13 @@ get-last (y ∷ xs) x = let e : length (y ∷ xs) ≡ suc (length xs) = omega ar
 
 pub start_comes : (old new : Table) (l : SatLit) → EachComes old → new.0 ≡ with_steps Start old.0 ((l ∷ []) ∷ []) → new.1 ≡ old.1 → EachComes new
 start_comes old new l each steps same n s h =
-    subst (λ is. ComesFrom is s.0 s.1) (sym same)
-    (each_with (λ t. ComesFrom old.1 t.0 t.1) Start old.0 ((l ∷ []) ∷ []) each only n s (ap (λ es. slice_get es n) (sym steps) ∙ h))
+    subst (λ is. ComesFromOrigin is s.0 s.1) (sym same)
+    (each_with (λ t. ComesFromOrigin old.1 t.0 t.1) Start old.0 ((l ∷ []) ∷ []) each only n s (ap (λ es. slice_get es n) (sym steps) ∙ h))
   where
-    only : (c : List SatLit) → Contains ((l ∷ []) ∷ []) c → ComesFrom old.1 c Start
-    only c k = contains_cases (ComesFrom old.1 c Start) c (l ∷ []) [] k (λ e. (l, sym e)) (λ later. absurd (omega (arith, later.1)))
+    only : (c : List SatLit) → Contains ((l ∷ []) ∷ []) c → ComesFromOrigin old.1 c Start
+    only c k = contains_cases (ComesFromOrigin old.1 c Start) c (l ∷ []) [] k (λ e. (l, sym e)) (λ later. absurd (omega (arith, later.1)))
 
 pub instance_comes : (old new : Table) (i : Instance) (cs : List (List SatLit)) → EachComes old → cs ≡ instance_clauses numbers i.principals i.alternatives → new.0 ≡ with_steps (From (length old.1)) old.0 cs → new.1 ≡ old.1 ++ i ∷ [] → EachComes new
 instance_comes old new i cs each are steps grown n s h =
-    subst (λ is. ComesFrom is s.0 s.1) (sym grown)
-    (each_with (λ t. ComesFrom (old.1 ++ i ∷ []) t.0 t.1) (From (length old.1)) old.0 cs (λ m t k. kept old.1 i t.0 t.1 (each m t k)) (λ c k. (i, get-last old.1 i, subst (λ xs. Contains xs c) are k)) n s (ap (λ es. slice_get es n) (sym steps) ∙ h))
+    subst (λ is. ComesFromOrigin is s.0 s.1) (sym grown)
+    (each_with (λ t. ComesFromOrigin (old.1 ++ i ∷ []) t.0 t.1) (From (length old.1)) old.0 cs (λ m t k. kept old.1 i t.0 t.1 (each m t k)) (λ c k. (i, get-last old.1 i, subst (λ xs. Contains xs c) are k)) n s (ap (λ es. slice_get es n) (sym steps) ∙ h))

@@ -5,7 +5,7 @@ use Rattle.std.specs.List.{list_any}
 use Rattle.std.proofs.Common.{ap₂, ◌∙◌, true≢false}
 use Rattle.std.proofs.lemmas.List.Folds.{list_any-append}
 use Rattle.sat_base.specs.declared.literal.SatLit.{SatLit}
-use Rattle.sat_base.specs.Literal.{negated, same_literal, same_var, holds, mentions, HoldsNoVariableTwice}
+use Rattle.sat_base.specs.Literal.{negated, same_literal, same_var, holds, mentions_variable, HoldsNoVariableTwice}
 use Rattle.sat_base.proofs.LiteralLaws.{same_literal-comm}
 use Rattle.search_spec.specs.Clauses.{added, choices, is_tautology, clause_of, instance_clauses}
 use Rattle.search_spec.specs.Numbered.{numbers}
@@ -55,7 +55,7 @@ either_sign l k = go (same_var l.var k.var) l.positive k.positive
     go true false false = refl
     go false s t = refl
 
-mentions-either : (ls : List SatLit) (l : SatLit) → mentions ls l.var ≡ (holds ls l || holds ls (negated l))
+mentions-either : (ls : List SatLit) (l : SatLit) → mentions_variable ls l.var ≡ (holds ls l || holds ls (negated l))
 mentions-either [] l = refl
 mentions-either (k ∷ ls) l = ap₂ (λ x y. x || y) (either_sign l k) (mentions-either ls l) ∙ shuffle (same_literal l k) (same_literal (negated l) k) (holds ls l) (holds ls (negated l))
   where

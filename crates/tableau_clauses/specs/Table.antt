@@ -30,10 +30,10 @@ abbrev pub the_instances : Table → List Instance
 the_instances t = t.1
 
 -- the clause comes from there: a start unit is one literal, and another clause is one of its instance's
-abbrev pub ComesFrom : List Instance → List SatLit → Origin → Type 0
-ComesFrom instances clause Start = (l : SatLit) × (clause ≡ l ∷ [])
-ComesFrom instances clause (From k) = (i : Instance) × (slice_get instances k ≡ Some i) × Contains (instance_clauses numbers i.principals i.alternatives) clause
+abbrev pub ComesFromOrigin : List Instance → List SatLit → Origin → Type 0
+ComesFromOrigin instances clause Start = (l : SatLit) × (clause ≡ l ∷ [])
+ComesFromOrigin instances clause (From k) = (i : Instance) × (slice_get instances k ≡ Some i) × Contains (instance_clauses numbers i.principals i.alternatives) clause
 
 -- each clause comes from where it is said to come from
 abbrev pub EachComes : Table → Type 0
-EachComes t = (n : ℕ) (s : Step) → slice_get t.0 n ≡ Some s → ComesFrom t.1 s.0 s.1
+EachComes t = (n : ℕ) (s : Step) → slice_get t.0 n ≡ Some s → ComesFromOrigin t.1 s.0 s.1

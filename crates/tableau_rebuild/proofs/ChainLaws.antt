@@ -9,19 +9,19 @@ use Rattle.sat_log.specs.declared.chain.Premise.TheVariants.{Clause, Result}
 use Rattle.sat_log.specs.declared.chain.ChainStep.{ChainStep}
 use Rattle.sat_log.specs.declared.chain.Chain.{Chain}
 use Rattle.sat_log.specs.declared.log.LogEntry.{LogEntry}
-use Rattle.sat_log.specs.Resolution.{without_repeats, HasNoRepeats, resolved}
+use Rattle.sat_log.specs.Resolution.{each_once, HasNoRepeats, resolved}
 use Rattle.sat_log.specs.Chains.{premise_clause, after_step, after_steps, results, IsLogOver}
 use Rattle.sat_log.proofs.ResolutionLaws.{holds-without_repeats, without_repeats-without_repeats, resolved-without_repeats}
 use Rattle.sat_log.proofs.ChainLaws.{and_then-Some, HasNoRepeats-resolved}
 use Rattle.term_bank.specs.Content.{Content}
 use Rattle.tableau_clauses.specs.Table.{Table, the_clauses}
 use Rattle.rebuild_spec.specs.Trees.{at_step, at_result}
-use Rattle.rebuild_spec.specs.Stands.{joined, stepped, place_of, Stands, of_first, of_next, of_result}
+use Rattle.rebuild_spec.specs.Stands.{joined_standing, standing_after_step, premise_place, Stands, of_first, of_next, of_result}
 use Rattle.rebuild_spec.proofs.ExistsLaws.{map_some, got_of-take}
 use Rattle.tableau_rebuild.specs.Tables.{the_sources, the_input}
 use Rattle.tableau_rebuild.specs.declared.draft.Draft.{Draft}
 use Rattle.tableau_rebuild.specs.declared.arena.Standing.{Standing}
-use Rattle.tableau_rebuild.specs.Internal.Arenas.{the_standing, IsWithin, Extends, StandsFor, AreResults, IsJoined, IsThere, IsChained, HasStep}
+use Rattle.tableau_rebuild.specs.Internal.Arenas.{the_standing, IsStandingWithin, ExtendsDrafts, StandsFor, AreResults, IsJoined, IsThere, IsChained, HasStep}
 use Rattle.tableau_rebuild.proofs.ArenaLaws.{standing_later}
 
 pub got : {A : Type 0} (xs : List A) (n : ℕ) (x : A) → n < length xs → x ≡ slice_index_or xs n x → slice_get xs n ≡ Some x
@@ -102,8 +102,8 @@ module _ (t : Table) (log : List LogEntry) where
       subst IsSome (sym resolved_there) refl
 
   -- a step more of a chain
-  pub chained_more : (ds with_premise new : List Draft) (n k : ℕ) (literals premise made : List SatLit) (s other r : Standing) (step : ChainStep) → IsChained t log ds n k literals s → HasStep log n k step → Extends ds with_premise
-      → premise_clause (the_clauses t) (results log) step.premise ≡ Some premise → StandsFor t log with_premise (place_of step.premise) premise other → resolved step.var literals premise ≡ Some made
+  pub chained_more : (ds with_premise new : List Draft) (n k : ℕ) (literals premise made : List SatLit) (s other r : Standing) (step : ChainStep) → IsChained t log ds n k literals s → HasStep log n k step → ExtendsDrafts ds with_premise
+      → premise_clause (the_clauses t) (results log) step.premise ≡ Some premise → StandsFor t log with_premise (premise_place step.premise) premise other → resolved step.var literals premise ≡ Some made
       → (is_first : Bool) → is_first ≡ (holds literals (positive step.var) && holds premise (negative step.var)) → IsJoinedBy t with_premise new n k step.var s other r is_first
       → IsChained t log new n (suc k) made r
   chained_more ds with_premise new n k literals premise made s other r step h has extends at stands is first side joins =
@@ -119,7 +119,7 @@ module _ (t : Table) (log : List LogEntry) where
         ahead = λ entry there. subst (λ c. after_steps (the_clauses t) (results (take n log)) c (drop (suc k) entry.chain.steps) ≡ Some entry.result) same_next (facts.ahead entry there);
       }
     where
-      within : (b : Bool) → IsJoinedBy t with_premise new n k step.var s other r b → IsWithin t new r
+      within : (b : Bool) → IsJoinedBy t with_premise new n k step.var s other r b → IsStandingWithin t new r
       within true j = j.within
       within false j = j.within
 
@@ -127,17 +127,17 @@ module _ (t : Table) (log : List LogEntry) where
       side_same = side ∙ ap (λ x. holds x (positive step.var) && holds premise (negative step.var)) h.same ∙ ap (λ x. x && holds premise (negative step.var)) (holds-without_repeats h.clause (positive step.var))
 
       is_stepped : (b : Content) (atoms witnesses : List ℕ) → (x : Bool) → x ≡ (holds h.clause (positive step.var) && holds premise (negative step.var)) → IsJoinedBy t with_premise new n k step.var s other r x
-          → the_standing (the_sources b.terms atoms t) new r ≡ stepped (at_step n (suc k)) step.var h.clause (the_standing (the_sources b.terms atoms t) ds s) premise (the_standing (the_sources b.terms atoms t) with_premise other)
+          → the_standing (the_sources b.terms atoms t) new r ≡ standing_after_step (at_step n (suc k)) step.var h.clause (the_standing (the_sources b.terms atoms t) ds s) premise (the_standing (the_sources b.terms atoms t) with_premise other)
       is_stepped b atoms witnesses true e j =
           let before = the_standing (the_sources b.terms atoms t) ds s in
           let beside = the_standing (the_sources b.terms atoms t) with_premise other in
-          j.is b.terms atoms ∙ ap (λ x. joined (at_step n (suc k)) step.var x beside) (standing_later (the_sources b.terms atoms t) t ds with_premise s extends h.stands.within)
-          ∙ ap (λ (x : Bool). if x then joined (at_step n (suc k)) step.var before beside else joined (at_step n (suc k)) step.var beside before) e
+          j.is b.terms atoms ∙ ap (λ x. joined_standing (at_step n (suc k)) step.var x beside) (standing_later (the_sources b.terms atoms t) t ds with_premise s extends h.stands.within)
+          ∙ ap (λ (x : Bool). if x then joined_standing (at_step n (suc k)) step.var before beside else joined_standing (at_step n (suc k)) step.var beside before) e
       is_stepped b atoms witnesses false e j =
           let before = the_standing (the_sources b.terms atoms t) ds s in
           let beside = the_standing (the_sources b.terms atoms t) with_premise other in
-          j.is b.terms atoms ∙ ap (λ x. joined (at_step n (suc k)) step.var beside x) (standing_later (the_sources b.terms atoms t) t ds with_premise s extends h.stands.within)
-          ∙ ap (λ (x : Bool). if x then joined (at_step n (suc k)) step.var before beside else joined (at_step n (suc k)) step.var beside before) e
+          j.is b.terms atoms ∙ ap (λ x. joined_standing (at_step n (suc k)) step.var beside x) (standing_later (the_sources b.terms atoms t) t ds with_premise s extends h.stands.within)
+          ∙ ap (λ (x : Bool). if x then joined_standing (at_step n (suc k)) step.var before beside else joined_standing (at_step n (suc k)) step.var beside before) e
 
       one : (b : Content) (atoms witnesses : List ℕ) → resolved step.var h.clause premise ≡ Some made → Stands (the_input b atoms t log witnesses) (at_step n (suc k)) made (the_standing (the_sources b.terms atoms t) new r)
       one b atoms witnesses whole =
@@ -172,7 +172,7 @@ module _ (t : Table) (log : List LogEntry) where
             subst (λ (x : LogEntry). after_steps (the_clauses t) (results (take n log)) c x.chain.steps ≡ Some x.result) same e
 
     -- a chain that begins
-    pub chained_first : (ds : List Draft) (n : ℕ) (chain : Chain) (premise literals : List SatLit) (s : Standing) → option_map (λ (e : LogEntry). e.chain) (slice_get log n) ≡ Some chain → premise_clause (the_clauses t) (results log) chain.first ≡ Some premise → literals ≡ without_repeats premise → StandsFor t log ds (place_of chain.first) premise s → IsChained t log ds n zero literals s
+    pub chained_first : (ds : List Draft) (n : ℕ) (chain : Chain) (premise literals : List SatLit) (s : Standing) → option_map (λ (e : LogEntry). e.chain) (slice_get log n) ≡ Some chain → premise_clause (the_clauses t) (results log) chain.first ≡ Some premise → literals ≡ each_once premise → StandsFor t log ds (premise_place chain.first) premise s → IsChained t log ds n zero literals s
     chained_first ds n chain premise literals s h is made stands =
         let found = chain_entry n chain h in
         let facts = first_facts n chain h in
@@ -184,7 +184,7 @@ module _ (t : Table) (log : List LogEntry) where
             within = stands.within;
             stands = λ b atoms witnesses.
                 of_first n found.0 premise (the_standing (the_sources b.terms atoms t) ds s) found.1
-                (subst (λ (x : Chain). Stands (the_input b atoms t log witnesses) (place_of x.first) premise (the_standing (the_sources b.terms atoms t) ds s)) (sym found.2) (stands.stands b atoms witnesses));
+                (subst (λ (x : Chain). Stands (the_input b atoms t log witnesses) (premise_place x.first) premise (the_standing (the_sources b.terms atoms t) ds s)) (sym found.2) (stands.stands b atoms witnesses));
           };
           ahead = λ entry at. subst (λ c. after_steps (the_clauses t) (results (take n log)) c entry.chain.steps ≡ Some entry.result) same (facts.ahead entry at);
         }

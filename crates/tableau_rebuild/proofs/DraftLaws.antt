@@ -9,7 +9,7 @@ use Rattle.rebuild_spec.proofs.WalkLaws.{IsEach}
 use Rattle.tableau_rebuild.specs.declared.draft.At.{At}
 use Rattle.tableau_rebuild.specs.declared.draft.Draft.{Draft}
 use Rattle.tableau_rebuild.specs.declared.draft.Draft.TheVariants.{Clause, Close, Cut}
-use Rattle.tableau_rebuild.specs.Internal.Drafts.{after_step, tree_at, tree_of, trees_after, trees, AreDrafts}
+use Rattle.tableau_rebuild.specs.Internal.Drafts.{place_after_step, tree_at, tree_of, trees_after, trees, AreDrafts}
 
 at_middle : (front back : List Tree) (x : Tree) → tree_at (front ++ x ∷ back) (length front) ≡ x
 at_middle [] back x = refl
@@ -69,8 +69,8 @@ module _ (drafts : List Draft) where
   pub clause_tree : (i n : ℕ) → slice_get drafts i ≡ Some (Clause n) → tree_at ts i ≡ leaf (at_clause n) [] (False 0) []
   clause_tree i n h = leaf_tree i (Clause n) (leaf (at_clause n) [] (False 0) []) (λ earlier. refl) h
 
-  pub close_tree : (i : ℕ) (at : At) (l m : SatLit) → slice_get drafts i ≡ Some (Close at l m) → tree_at ts i ≡ leaf (after_step at) (l ∷ m ∷ []) (CloseRule 0 1) []
-  close_tree i at l m h = leaf_tree i (Close at l m) (leaf (after_step at) (l ∷ m ∷ []) (CloseRule 0 1) []) (λ earlier. refl) h
+  pub close_tree : (i : ℕ) (at : At) (l m : SatLit) → slice_get drafts i ≡ Some (Close at l m) → tree_at ts i ≡ leaf (place_after_step at) (l ∷ m ∷ []) (CloseRule 0 1) []
+  close_tree i at l m h = leaf_tree i (Close at l m) (leaf (place_after_step at) (l ∷ m ∷ []) (CloseRule 0 1) []) (λ earlier. refl) h
 
   earlier_tree : (i a : ℕ) (d : Draft) (s : Split [] drafts i d) → a < i → tree_at s.before a ≡ tree_at ts a
   earlier_tree i a d s l =
@@ -78,13 +78,13 @@ module _ (drafts : List Draft) where
       let below : a < length s.before = omega (arith, counted, l) in
       sym (ap (λ k. tree_at k a) s.are ∙ at_front s.before (tree_of s.before d ∷ s.behind) a below)
 
-  pub cut_tree : (i : ℕ) (at : At) (v : Var) (a b : ℕ) → slice_get drafts i ≡ Some (Cut at v a b) → a < i → b < i → tree_at ts i ≡ cut (after_step at) v (tree_at ts a) (tree_at ts b)
+  pub cut_tree : (i : ℕ) (at : At) (v : Var) (a b : ℕ) → slice_get drafts i ≡ Some (Cut at v a b) → a < i → b < i → tree_at ts i ≡ cut (place_after_step at) v (tree_at ts a) (tree_at ts b)
   cut_tree i at v a b h l m =
       let d = Cut at v a b in
       let s = split [] drafts i d h in
       let counted = s.count in
       let place : i ≡ length s.before = omega (arith, counted) in
-      ap₂ tree_at s.are place ∙ at_middle s.before s.behind (tree_of s.before d) ∙ ap₂ (λ t u. cut (after_step at) v t u) (earlier_tree i a d s l) (earlier_tree i b d s m)
+      ap₂ tree_at s.are place ∙ at_middle s.before s.behind (tree_of s.before d) ∙ ap₂ (λ t u. cut (place_after_step at) v t u) (earlier_tree i a d s l) (earlier_tree i b d s m)
 
   -- a tree that is a draft's
   abbrev pub IsDrafted : Tree → Type 0

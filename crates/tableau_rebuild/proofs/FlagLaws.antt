@@ -18,7 +18,7 @@ use Rattle.sat_log.specs.Chains.{premise_clause, after_step, after_steps, result
 use Rattle.sat_log.proofs.ChainLaws.{and_then-Some}
 use Rattle.tableau_clauses.specs.Table.{Table, the_clauses}
 use Rattle.rebuild_spec.specs.Trees.{Place, at_clause, at_step, at_result, same_place}
-use Rattle.rebuild_spec.specs.Stands.{place_of}
+use Rattle.rebuild_spec.specs.Stands.{premise_place}
 use Rattle.rebuild_spec.specs.Used.{IsUsed, last_result, first_of, step_of}
 use Rattle.rebuild_spec.proofs.WalkLaws.{same_place-refl}
 use Rattle.rebuild_spec.proofs.StandsLaws.{same_place-true}
@@ -62,12 +62,12 @@ module _ (old new : Reached) where
 -- CHAINS
 
 abbrev pub any_premise : List ChainStep → Place → Bool
-any_premise steps p = list_any (λ step. same_place (place_of step.premise) p) steps
+any_premise steps p = list_any (λ step. same_place (premise_place step.premise) p) steps
 
 -- a step more of a chain is marked
-pub marked_more : (steps : List ChainStep) (k : ℕ) (step : ChainStep) (p : Place) (a b now new : Bool) → slice_get steps k ≡ Some step → now ≡ (a || (b || any_premise (take k steps) p)) → new ≡ (now || same_place (place_of step.premise) p) → new ≡ (a || (b || any_premise (take (k + 1) steps) p))
+pub marked_more : (steps : List ChainStep) (k : ℕ) (step : ChainStep) (p : Place) (a b now new : Bool) → slice_get steps k ≡ Some step → now ≡ (a || (b || any_premise (take k steps) p)) → new ≡ (now || same_place (premise_place step.premise) p) → new ≡ (a || (b || any_premise (take (k + 1) steps) p))
 marked_more steps k step p a b now new at e f =
-    let T : ChainStep → Bool = λ (s : ChainStep). same_place (place_of s.premise) p in
+    let T : ChainStep → Bool = λ (s : ChainStep). same_place (premise_place s.premise) p in
     let more : any_premise (take (k + 1) steps) p ≡ (any_premise (take k steps) p || T step) =
     ap (list_any T) (take_got steps k step at) ∙ list_any-append T (take k steps) (step ∷ []) ∙ ap (λ x. any_premise (take k steps) p || x) (sym (or_false (T step))) in
     f ∙ ap (λ x. x || T step) e ∙ or_or a (b || any_premise (take k steps) p) (T step) ∙ ap (λ x. a || x) (or_or b (any_premise (take k steps) p) (T step) ∙ ap (λ x. b || x) (sym more))
@@ -108,16 +108,16 @@ module _ (t : Table) (log : List LogEntry) where
   premises_later m n chain l h = record { first = there_later t log m n chain.first l h.first; steps = λ k d inside. there_later t log m n (slice_index_or chain.steps k d).premise l (h.steps k d inside) }
 
   -- a premise at a place of its own
-  premise_of_chain : (P : Type 0) (chain : Chain) (p : Place) → is_premise chain p ≡ true → (p ≡ place_of chain.first → P) → ((step : ChainStep) → Contains chain.steps step → p ≡ place_of step.premise → P) → P
+  premise_of_chain : (P : Type 0) (chain : Chain) (p : Place) → is_premise chain p ≡ true → (p ≡ premise_place chain.first → P) → ((step : ChainStep) → Contains chain.steps step → p ≡ premise_place step.premise → P) → P
   premise_of_chain P chain p h first step =
-      elim (or_cases (same_place (place_of chain.first) p) (any_premise chain.steps p) h) [
-        | inl e ↦ first (sym (same_place-true (place_of chain.first) p e))
+      elim (or_cases (same_place (premise_place chain.first) p) (any_premise chain.steps p) h) [
+        | inl e ↦ first (sym (same_place-true (premise_place chain.first) p e))
         | inr e ↦
-            let found = any_found (λ (s : ChainStep). same_place (place_of s.premise) p) chain.steps e in
-            step found.0 found.1 (sym (same_place-true (place_of found.0.premise) p found.2))
+            let found = any_found (λ (s : ChainStep). same_place (premise_place s.premise) p) chain.steps e in
+            step found.0 found.1 (sym (same_place-true (premise_place found.0.premise) p found.2))
       ]
 
-  result_below : (m n : ℕ) (p : Premise) → at_result m ≡ place_of p → IsThere (length (the_clauses t)) n p → m < n
+  result_below : (m n : ℕ) (p : Premise) → at_result m ≡ premise_place p → IsThere (length (the_clauses t)) n p → m < n
   result_below m n (Clause k) e h = cc
   result_below m n (Result k) e h = let same : m ≡ k = cc in omega (arith, same, h)
 
@@ -212,13 +212,13 @@ module _ (t : Table) (log : List LogEntry) where
   pub used_flagged : (r : Reached) → AreFlagsOf t log 0 r → (p : Place) → IsUsed log p → flagged r p ≡ true
   used_flagged r h p (last_result n e) = h.last n e
   used_flagged r h p (first_of n entry at used) =
-      let q = place_of entry.chain.first in
+      let q = premise_place entry.chain.first in
       h.closed n q (omega arith) (used_flagged r h (at_result n) used)
       (ap (λ o. is_premise_of o q) at ∙ or_left (same_place q q) (any_premise entry.chain.steps q) (same_place-refl q))
   used_flagged r h p (step_of n entry step at used there) =
-      let q = place_of step.premise in
+      let q = premise_place step.premise in
       h.closed n q (omega arith) (used_flagged r h (at_result n) used)
-      (ap (λ o. is_premise_of o q) at ∙ or_right (same_place (place_of entry.chain.first) q) (any_premise entry.chain.steps q) (any_there (λ (s : ChainStep). same_place (place_of s.premise) q) entry.chain.steps step there (same_place-refl q)))
+      (ap (λ o. is_premise_of o q) at ∙ or_right (same_place (premise_place entry.chain.first) q) (any_premise entry.chain.steps q) (any_there (λ (s : ChainStep). same_place (premise_place s.premise) q) entry.chain.steps step there (same_place-refl q)))
 
   -- the instances of the clauses whose flags are set are those that are used
   pub origin_used : (r : Reached) → AreFlagsOf t log 0 r → (count k : ℕ) → HasFlaggedOrigin t r.clauses.items count k → IsUsedInstance t log k

@@ -7,7 +7,7 @@ use Rattle.tableau_calculus.specs.declared.refutation.Child.{Child}
 use Rattle.sat_base.specs.declared.literal.SatLit.{SatLit}
 use Rattle.rebuild_spec.specs.Input.{Sourced, start_unit, clause_by}
 use Rattle.rebuild_spec.specs.Trees.{at_clause, at_step, at_result, same_place, Tree, leaf, cut, made_at, same_line}
-use Rattle.rebuild_spec.specs.Lines.{with_line, walked, number_in}
+use Rattle.rebuild_spec.specs.Lines.{with_line, walked, line_number_in}
 use Rattle.tableau_rebuild.specs.Internal.Arenas.{clause_line, fleshed}
 
 module _ (sources : List Sourced) where
@@ -55,6 +55,6 @@ module _ (sources : List Sourced) where
       with_line-fleshed (walked (walked done t) u) (cut p v t u)
       ∙ ap (λ k. with_line k (cut p v (fleshed sources t) (fleshed sources u))) (walked-fleshed u (walked done t) ∙ ap (λ k. walked k (fleshed sources u)) (walked-fleshed t done))
 
-  pub number_in-fleshed : (lines : List Tree) (t : Tree) → number_in (map (fleshed sources) lines) (fleshed sources t) ≡ number_in lines t
+  pub number_in-fleshed : (lines : List Tree) (t : Tree) → line_number_in (map (fleshed sources) lines) (fleshed sources t) ≡ line_number_in lines t
   number_in-fleshed [] t = refl
   number_in-fleshed (u ∷ lines) t = ap₂ (λ b n. cond (not b) (1 + n) 0) (same_line-fleshed t u) (number_in-fleshed lines t)

@@ -21,7 +21,7 @@ use Rattle.witness_names.specs.Rows.{rows_of, AreRows}
 use Rattle.tableau_clauses.specs.Table.{Table, EachComes}
 use Rattle.rebuild_spec.specs.Input.{Instance, Sourced, start_unit, clause_by, literals_of}
 use Rattle.rebuild_spec.specs.Given.{IsClauseOf, IsRightClause, IsGiven}
-use Rattle.tableau_rebuild.specs.Tables.{the_atoms, the_sources, the_input, unit_literals}
+use Rattle.tableau_rebuild.specs.Tables.{atoms_at, the_sources, the_input, unit_literals}
 use Rattle.tableau_rebuild.specs.Conditions.{IsInstanceOver}
 use Rattle.tableau_rebuild.proofs.SourceLaws.{IsInstanceClause, instance_clause, unit_clause, unit_there}
 
@@ -48,25 +48,25 @@ contains-map f (x ∷ xs) y h =
     (λ later. let r = contains-map f xs y later in (r.0, contains-later r.0 x xs r.1, r.2))
 
 module _ (b : Content) (atoms : List ℕ) (t : Table) (log : List LogEntry) (witnesses : List ℕ) (rows : AreRows b witnesses) (are_atoms : All (IsAtom b) atoms) (comes : EachComes t) (instances : All (IsInstanceOver b atoms (rows_of b.terms witnesses)) t.1) where
-  atom_literal : (x : Lambda) → Contains (the_atoms b.terms atoms) x → IsLiteral (with_rows (content_scope b) (rows_of b.terms witnesses)) (plus x)
+  atom_literal : (x : Lambda) → Contains (atoms_at b.terms atoms) x → IsLiteral (with_rows (content_scope b) (rows_of b.terms witnesses)) (plus x)
   atom_literal x h =
       let found = contains-map (term_at b.terms) atoms x h in
       let atom = All-contains (IsAtom b) atoms found.0 are_atoms found.1 in
       subst (λ y. IsLiteral (with_rows (content_scope b) (rows_of b.terms witnesses)) (plus y)) found.2
       (record { formula = formula_wider b witnesses rows (term_at b.terms found.0) atom.is_formula; unsigned = atom.unsigned })
 
-  instance_right : (n : ℕ) (c : List SatLit) (i : Instance) → IsInstanceClause b atoms t witnesses comes instances n c i → IsClauseOf (with_rows (content_scope b) (rows_of b.terms witnesses)) (rows_of b.terms witnesses) (the_atoms b.terms atoms) c i
+  instance_right : (n : ℕ) (c : List SatLit) (i : Instance) → IsInstanceClause b atoms t witnesses comes instances n c i → IsClauseOf (with_rows (content_scope b) (rows_of b.terms witnesses)) (rows_of b.terms witnesses) (atoms_at b.terms atoms) c i
   instance_right n c i h =
-      let A = the_atoms b.terms atoms in
+      let A = atoms_at b.terms atoms in
       let R = rows_of b.terms witnesses in
       let S = with_rows (content_scope b) R in
       let rule = ap (λ o. unwrap_or o (False 0)) (sym h.over.is_rule) in
       subst (IsClauseOf S R A c) h.same
       (record { fits = subst (λ r. Rule S R r (literals_of A h.kept.principals) (map (literals_of A) h.kept.alternatives)) rule h.over.fits; is_one = h.is_one })
 
-  clause_right : (n : ℕ) (x : Sourced) → slice_get (the_sources b.terms atoms t) n ≡ Some x → IsRightClause (content_scope b) (unit_literals (the_atoms b.terms atoms) t.0) (the_input b atoms t log witnesses) x
-  clause_right n (start_unit l) h = unit_there (the_atoms b.terms atoms) t.0 n l (unit_clause b atoms t witnesses comes instances n l h)
+  clause_right : (n : ℕ) (x : Sourced) → slice_get (the_sources b.terms atoms t) n ≡ Some x → IsRightClause (content_scope b) (unit_literals (atoms_at b.terms atoms) t.0) (the_input b atoms t log witnesses) x
+  clause_right n (start_unit l) h = unit_there (atoms_at b.terms atoms) t.0 n l (unit_clause b atoms t witnesses comes instances n l h)
   clause_right n (clause_by c i) h = instance_right n c i (instance_clause b atoms t witnesses comes instances n c i h)
 
-  pub given : IsGiven (content_scope b) (unit_literals (the_atoms b.terms atoms) t.0) (the_input b atoms t log witnesses)
+  pub given : IsGiven (content_scope b) (unit_literals (atoms_at b.terms atoms) t.0) (the_input b atoms t log witnesses)
   given = record { table = rows.table; atoms = atom_literal; clauses = clause_right }

@@ -15,14 +15,14 @@ use Rattle.rebuild_spec.specs.Lines.{walked, line_of, lines_from}
 use Rattle.rebuild_spec.proofs.ReachedLaws.{walked_all}
 use Rattle.rebuild_spec.proofs.StandsLaws.{one_stands}
 use Rattle.rebuild_spec.proofs.ExistsLaws.{empty_line}
-use Rattle.tableau_rebuild.specs.Tables.{the_atoms, the_sources, the_input}
+use Rattle.tableau_rebuild.specs.Tables.{atoms_at, the_sources, the_input}
 use Rattle.tableau_rebuild.specs.Conditions.{EndsEmpty}
 use Rattle.tableau_rebuild.specs.declared.arena.Standing.{Standing}
 use Rattle.tableau_rebuild.specs.declared.arena.Standing.TheVariants.{Start}
 use Rattle.tableau_rebuild.specs.declared.draft.Draft.{Draft}
 use Rattle.tableau_rebuild.specs.declared.draft.Draft.TheVariants.{Clause, Close, Cut}
 use Rattle.tableau_rebuild.specs.Internal.Drafts.{tree_at, trees, AreDrafts}
-use Rattle.tableau_rebuild.specs.Internal.Arenas.{clause_line, fleshed, unit_in, StandsFor, AreResults}
+use Rattle.tableau_rebuild.specs.Internal.Arenas.{clause_line, fleshed, unit_of_start, StandsFor, AreResults}
 use Rattle.tableau_rebuild.specs.Internal.LineParts.{IsClauseFrom, IsMakeable}
 use Rattle.tableau_rebuild.specs.Internal.Needed.{HasParts}
 use Rattle.tableau_rebuild.specs.Internal.Written.{the_tree, IsFoundedLine, IsFounded}
@@ -49,9 +49,9 @@ module _ (b : Content) (atoms : List ℕ) (t : Table) (drafts : List Draft) (rig
       ∙ ap (map (fleshed (the_sources b.terms atoms t))) (sym walks)
       ∙ map_map (fleshed (the_sources b.terms atoms t)) (tree_at (trees drafts)) order
 
-  pub all_lines : map (λ i. line_of (the_atoms b.terms atoms) (map (the_tree b.terms atoms t drafts) order) (the_tree b.terms atoms t drafts i)) order ≡ lines_from (the_atoms b.terms atoms) (the_tree b.terms atoms t drafts last)
+  pub all_lines : map (λ i. line_of (atoms_at b.terms atoms) (map (the_tree b.terms atoms t drafts) order) (the_tree b.terms atoms t drafts i)) order ≡ lines_from (atoms_at b.terms atoms) (the_tree b.terms atoms t drafts last)
   all_lines =
-      let A = the_atoms b.terms atoms in
+      let A = atoms_at b.terms atoms in
       sym (map_map (line_of A (map (the_tree b.terms atoms t drafts) order)) (the_tree b.terms atoms t drafts) order) ∙ ap (λ ls. map (line_of A ls) ls) (sym lines_are)
 
   module _ (founded : IsFounded b atoms t drafts last) where
@@ -100,4 +100,4 @@ module _ (t : Table) (log : List LogEntry) (ds : List Draft) where
 
   -- it is no start unit
   pub last_start : (b : Content) (n m : ℕ) → StandsFor t log ds (at_result n) [] (Start m) → ⊥
-  last_start b n m h = no_start (the_input b [] t log []) (at_result n) m (unit_in (slice_get (the_sources b.terms [] t) m)) (h.stands b [] [])
+  last_start b n m h = no_start (the_input b [] t log []) (at_result n) m (unit_of_start (slice_get (the_sources b.terms [] t) m)) (h.stands b [] [])

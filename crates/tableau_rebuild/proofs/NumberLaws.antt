@@ -5,14 +5,14 @@ use Rattle.std.proofs.lemmas.List.{get_or-set_same, get_or-set_other}
 use Rattle.std.proofs.lemmas.Option.{slice_get_within, slice_get-map}
 use Rattle.sat_base.specs.declared.literal.Var.{Var}
 use Rattle.rebuild_spec.specs.Trees.{Tree, cut, made_at, same_line}
-use Rattle.rebuild_spec.specs.Lines.{walked, number_in}
+use Rattle.rebuild_spec.specs.Lines.{walked, line_number_in}
 use Rattle.rebuild_spec.proofs.WalkLaws.{same_place-refl, IsListed, IsOrdered}
 use Rattle.rebuild_spec.proofs.LastLaws.{walk_ordered}
 use Rattle.rebuild_spec.proofs.ExistsLaws.{map_some}
 use Rattle.tableau_rebuild.specs.declared.draft.At.{At}
 use Rattle.tableau_rebuild.specs.declared.draft.Draft.{Draft}
 use Rattle.tableau_rebuild.specs.declared.draft.Draft.TheVariants.{Cut}
-use Rattle.tableau_rebuild.specs.Internal.Drafts.{after_step, tree_at, trees, AreDrafts}
+use Rattle.tableau_rebuild.specs.Internal.Drafts.{place_after_step, tree_at, trees, AreDrafts}
 use Rattle.tableau_rebuild.proofs.DraftLaws.{cut_tree, IsDrafted, one_drafted, each_drafted}
 
 module _ (drafts : List Draft) (right : AreDrafts drafts) (last : ℕ) (below : last < length drafts) (order : List ℕ) (walks : map (tree_at (trees drafts)) order ≡ walked [] (tree_at (trees drafts) last)) where
@@ -23,7 +23,7 @@ module _ (drafts : List Draft) (right : AreDrafts drafts) (last : ℕ) (below : 
   line_at k i h = slice_get-map (tree_at (trees drafts)) order k ∙ ap (option_map (tree_at (trees drafts))) h
 
   -- a line has its number
-  pub numbered : (k i : ℕ) → slice_get order k ≡ Some i → number_in (map (tree_at (trees drafts)) order) (tree_at (trees drafts) i) ≡ k
+  pub numbered : (k i : ℕ) → slice_get order k ≡ Some i → line_number_in (map (tree_at (trees drafts)) order) (tree_at (trees drafts) i) ≡ k
   numbered k i h = ordered.numbered k (tree_at (trees drafts) i) (line_at k i h)
 
   -- a draft is listed once
@@ -38,12 +38,12 @@ module _ (drafts : List Draft) (right : AreDrafts drafts) (last : ℕ) (below : 
     pub number : ℕ
     pub before : number < k
     pub there : slice_get order number ≡ Some i
-    pub is : number_in (map (tree_at (trees drafts)) order) (tree_at (trees drafts) i) ≡ number
+    pub is : line_number_in (map (tree_at (trees drafts)) order) (tree_at (trees drafts) i) ≡ number
 
   module _ (inside : (k i : ℕ) → slice_get order k ≡ Some i → i < length drafts) where
-    child : (k a : ℕ) → a < length drafts → IsListed (map (tree_at (trees drafts)) order) (tree_at (trees drafts) a) × (number_in (map (tree_at (trees drafts)) order) (tree_at (trees drafts) a) < k) → IsEarlier k a
+    child : (k a : ℕ) → a < length drafts → IsListed (map (tree_at (trees drafts)) order) (tree_at (trees drafts) a) × (line_number_in (map (tree_at (trees drafts)) order) (tree_at (trees drafts) a) < k) → IsEarlier k a
     child k a l h =
-        let n = number_in (map (tree_at (trees drafts)) order) (tree_at (trees drafts) a) in
+        let n = line_number_in (map (tree_at (trees drafts)) order) (tree_at (trees drafts) a) in
         let found = listed_drafts n (tree_at (trees drafts) a) h.0 in
         let same_place : same_line (tree_at (trees drafts) found.0) (tree_at (trees drafts) a) ≡ true = ap (λ t. same_line t (tree_at (trees drafts) a)) found.2 ∙ same_place-refl (made_at (tree_at (trees drafts) a)) in
         let same = right.apart found.0 a (inside n found.0 found.1) l same_place in
@@ -55,8 +55,8 @@ module _ (drafts : List Draft) (right : AreDrafts drafts) (last : ℕ) (below : 
         let low = right.below i at v a b drafted in
         let l = slice_get_within drafts i (Cut at v a b) drafted in
         let tree = cut_tree drafts i at v a b drafted low.0 low.1 in
-        let line : slice_get (map (tree_at (trees drafts)) order) k ≡ Some (cut (after_step at) v (tree_at (trees drafts) a) (tree_at (trees drafts) b)) = line_at k i listed ∙ ap Some tree in
-        let both = ordered.earlier k (cut (after_step at) v (tree_at (trees drafts) a) (tree_at (trees drafts) b)) line in
+        let line : slice_get (map (tree_at (trees drafts)) order) k ≡ Some (cut (place_after_step at) v (tree_at (trees drafts) a) (tree_at (trees drafts) b)) = line_at k i listed ∙ ap Some tree in
+        let both = ordered.earlier k (cut (place_after_step at) v (tree_at (trees drafts) a) (tree_at (trees drafts) b)) line in
         (child k a (omega (arith, low.0, l)) both.0, child k b (omega (arith, low.1, l)) both.1)
 
 -- the numbers of the first lines

@@ -7,7 +7,7 @@ use Rattle.sat_base.specs.declared.literal.Var.{Var}
 use Rattle.sat_base.specs.declared.literal.SatLit.{SatLit}
 use Rattle.sat_base.specs.Literal.{positive, negative, negated, same_literal, holds, IsOver}
 use Rattle.sat_base.proofs.LiteralLaws.{same_literal-refl, same_literal-true, holds-append}
-use Rattle.sat_log.specs.Resolution.{without, without_repeats, resolvent, resolved}
+use Rattle.sat_log.specs.Resolution.{without_literal, each_once, resolvent, resolved}
 use Rattle.sat_log.proofs.ResolutionLaws.{holds-without_repeats}
 use Rattle.sat_log.specs.declared.log.LogEntry.{LogEntry}
 use Rattle.term_bank.specs.Content.{Content}
@@ -15,7 +15,7 @@ use Rattle.witness_names.specs.Rows.{rows_of}
 use Rattle.tableau_clauses.specs.Table.{Table, EachComes}
 use Rattle.rebuild_spec.specs.Input.{Instance}
 use Rattle.rebuild_spec.specs.Trees.{Place, at_clause, at_step, at_result, Tree, leaf, cut, branch}
-use Rattle.rebuild_spec.specs.Stands.{Standing, start, line, in_order, joined, stepped, Stands, of_start, of_instance, of_first, of_next, of_result}
+use Rattle.rebuild_spec.specs.Stands.{Standing, start, line, literals_in_order, joined_standing, standing_after_step, Stands, of_start, of_instance, of_first, of_next, of_result}
 use Rattle.rebuild_spec.proofs.WalkLaws.{IsEach}
 use Rattle.rebuild_spec.proofs.BackedLaws.{held-without}
 use Rattle.rebuild_spec.proofs.LiteralLaws.{negated-held}
@@ -47,19 +47,19 @@ held_over n (l ∷ ls) h =
 negated_over : (n : ℕ) (ls : List SatLit) → IsOver n ls → IsOver n (map negated ls)
 negated_over n ls over = held_over n (map negated ls) (λ m h. over_held n ls (negated m) over (negated-held ls m h))
 
-repeats_over : (n : ℕ) (ks ls : List SatLit) → IsOver n ks → IsOver n ls → IsOver n (without_repeats (ks ++ ls))
+repeats_over : (n : ℕ) (ks ls : List SatLit) → IsOver n ks → IsOver n ls → IsOver n (each_once (ks ++ ls))
 repeats_over n ks ls first second =
-    held_over n (without_repeats (ks ++ ls)) (λ m h.
+    held_over n (each_once (ks ++ ls)) (λ m h.
     elim (or_cases (holds ks m) (holds ls m) (sym (holds-append ks ls m) ∙ sym (holds-without_repeats (ks ++ ls) m) ∙ h)) [
       | inl e ↦ over_held n ks m first e
       | inr e ↦ over_held n ls m second e
     ])
 
-without_over : (n : ℕ) (l : SatLit) (ls : List SatLit) → IsOver n ls → IsOver n (without l ls)
-without_over n l ls over = held_over n (without l ls) (λ m h. over_held n ls m over (held-without l ls m h).0)
+without_over : (n : ℕ) (l : SatLit) (ls : List SatLit) → IsOver n ls → IsOver n (without_literal l ls)
+without_over n l ls over = held_over n (without_literal l ls) (λ m h. over_held n ls m over (held-without l ls m h).0)
 
 resolvent_over : (n : ℕ) (v : Var) (a b : List SatLit) → IsOver n a → IsOver n b → IsOver n (resolvent v a b)
-resolvent_over n v a b first second = repeats_over n (without (positive v) a) (without (negative v) b) (without_over n (positive v) a first) (without_over n (negative v) b second)
+resolvent_over n v a b first second = repeats_over n (without_literal (positive v) a) (without_literal (negative v) b) (without_over n (positive v) a first) (without_over n (negative v) b second)
 
 picked_over : (n : ℕ) (picked : List SatLit) (alternatives : List (List SatLit)) → Picks picked alternatives → All (IsOver n) alternatives → IsOver n picked
 picked_over n [] alternatives picks over = All-nil (λ (k : SatLit). k.var.0 < n)
@@ -96,14 +96,14 @@ module _ (b : Content) (atoms : List ℕ) (t : Table) where
   whole_over : (x : Tree) → IsEach (IsFoundedLine b atoms t) x → IsOver (length atoms) (branch x)
   whole_over x h = branch_over x (root x h)
 
-  order_over : (m : ℕ) (l : SatLit) (n : ℕ) (k : SatLit) → l.var.0 < length atoms → k.var.0 < length atoms → IsOver (length atoms) (in_order m l n k)
+  order_over : (m : ℕ) (l : SatLit) (n : ℕ) (k : SatLit) → l.var.0 < length atoms → k.var.0 < length atoms → IsOver (length atoms) (literals_in_order m l n k)
   order_over m l n k first second = go (nat_lt m n)
     where
       go : (x : Bool) → IsOver (length atoms) (if x then l ∷ k ∷ [] else k ∷ l ∷ [])
       go true = pair_over (length atoms) l k first second
       go false = pair_over (length atoms) k l second first
 
-  joined_founded : (n k : ℕ) (v : Var) (s u : Standing) → v.0 < length atoms → AreFounded s → AreFounded u → AreFounded (joined (at_step n k) v s u)
+  joined_founded : (n k : ℕ) (v : Var) (s u : Standing) → v.0 < length atoms → AreFounded s → AreFounded u → AreFounded (joined_standing (at_step n k) v s u)
   joined_founded n k v (start m l) (start j i) number first second = order_over m l j i first second
   joined_founded n k v (start m l) (line x) number first second = second
   joined_founded n k v (line x) (start j i) number first second = first
@@ -111,11 +111,11 @@ module _ (b : Content) (atoms : List ℕ) (t : Table) where
       ((number, resolvent_over (length atoms) v (branch y) (branch x) (whole_over y second) (whole_over x first)), second, first)
 
   -- what a step gives, and its clause
-  stepped_founded : (n k : ℕ) (v : Var) (a c d : List SatLit) (s u : Standing) → resolved v a c ≡ Some d → IsOver (length atoms) a → IsOver (length atoms) c → AreFounded s → AreFounded u → IsOver (length atoms) d × AreFounded (stepped (at_step n k) v a s c u)
+  stepped_founded : (n k : ℕ) (v : Var) (a c d : List SatLit) (s u : Standing) → resolved v a c ≡ Some d → IsOver (length atoms) a → IsOver (length atoms) c → AreFounded s → AreFounded u → IsOver (length atoms) d × AreFounded (standing_after_step (at_step n k) v a s c u)
   stepped_founded n k v a c d s u e one two first second = go (holds a (positive v) && holds c (negative v)) (holds a (negative v) && holds c (positive v)) refl refl e
     where
       go : (x y : Bool) → (holds a (positive v) && holds c (negative v)) ≡ x → (holds a (negative v) && holds c (positive v)) ≡ y → (if x then Some (resolvent v a c) else (if y then Some (resolvent v c a) else None)) ≡ Some d
-          → IsOver (length atoms) d × AreFounded (if x then joined (at_step n k) v s u else joined (at_step n k) v u s)
+          → IsOver (length atoms) d × AreFounded (if x then joined_standing (at_step n k) v s u else joined_standing (at_step n k) v u s)
       go true y is isnt e =
           let parts = and_parts (holds a (positive v)) (holds c (negative v)) is in
           let same : resolvent v a c ≡ d = cc in

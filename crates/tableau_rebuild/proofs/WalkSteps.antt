@@ -21,7 +21,7 @@ use Rattle.tableau_rebuild.specs.declared.draft.Draft.TheVariants.{Clause, Close
 use Rattle.tableau_rebuild.specs.declared.walk.Task.{Task}
 use Rattle.tableau_rebuild.specs.declared.walk.Task.TheVariants.{Visit, Enter}
 use Rattle.tableau_rebuild.specs.Internal.Drafts.{tree_at, trees, AreDrafts}
-use Rattle.tableau_rebuild.specs.Internal.Walks.{number_of, size, weight, run, IsUnderWay}
+use Rattle.tableau_rebuild.specs.Internal.Walks.{task_number, tree_size, weight, run, IsWalkUnderWay}
 use Rattle.tableau_rebuild.proofs.DraftLaws.{clause_tree, close_tree, cut_tree, IsDrafted, one_drafted, each_drafted}
 
 pub any_default : {A : Type 0} (xs : List A) (i : ℕ) (d e : A) → i < length xs → get_or xs i d ≡ get_or xs i e
@@ -44,13 +44,13 @@ module _ (drafts : List Draft) (right : AreDrafts drafts) (last : ℕ) where
   ts = trees drafts
 
   -- a line that is there already
-  pub enter_there : (listed : List Bool) (order : List ℕ) (tasks : List Task) (i : ℕ) → IsUnderWay drafts last listed order (Enter i ∷ tasks) → slice_index_or listed i false ≡ true → IsUnderWay drafts last listed order tasks
+  pub enter_there : (listed : List Bool) (order : List ℕ) (tasks : List Task) (i : ℕ) → IsWalkUnderWay drafts last listed order (Enter i ∷ tasks) → slice_index_or listed i false ≡ true → IsWalkUnderWay drafts last listed order tasks
   enter_there listed order tasks i way is =
-      let inside = All-head (λ t. number_of t < length drafts) (Enter i) tasks way.in_range in
+      let inside = All-head (λ t. task_number t < length drafts) (Enter i) tasks way.in_range in
       let done = map (tree_at ts) order in
       let there : list_any (same_line (tree_at ts i)) done ≡ true = sym (way.marks i inside) ∙ is in
       let same : with_line done (tree_at ts i) ≡ done = ap (λ (b : Bool). if b then done else done ++ tree_at ts i ∷ []) there in
-      record { flags = way.flags; marks = way.marks; in_range = All-tail (λ t. number_of t < length drafts) (Enter i) tasks way.in_range; inside = way.inside; lines = ap (λ k. run ts k tasks) (sym same) ∙ way.lines }
+      record { flags = way.flags; marks = way.marks; in_range = All-tail (λ t. task_number t < length drafts) (Enter i) tasks way.in_range; inside = way.inside; lines = ap (λ k. run ts k tasks) (sym same) ∙ way.lines }
 
   new_mark : (order : List ℕ) (listed : List Bool) (i j : ℕ) → i < length drafts → j < length drafts → length listed ≡ length drafts → slice_index_or listed j false ≡ list_any (same_line (tree_at ts j)) (map (tree_at ts) order) → slice_index_or (slice_set listed i true) j false ≡ list_any (same_line (tree_at ts j)) (map (tree_at ts) (order ++ i ∷ []))
   new_mark order listed i j li lj count before = go (nat_eq j i) refl
@@ -79,32 +79,32 @@ module _ (drafts : List Draft) (right : AreDrafts drafts) (last : ℕ) where
           get_or-set_other listed i j true false (λ same. false≢true (sym e ∙ eq-eqb j i same)) ∙ before ∙ sym (pushed ∙ other (differ (same_line (tree_at ts j) (tree_at ts i)) refl e))
 
   -- a line that is new
-  pub enter_new : (listed : List Bool) (order : List ℕ) (tasks : List Task) (i : ℕ) → IsUnderWay drafts last listed order (Enter i ∷ tasks) → slice_index_or listed i false ≡ false → IsUnderWay drafts last (slice_set listed i true) (order ++ i ∷ []) tasks
+  pub enter_new : (listed : List Bool) (order : List ℕ) (tasks : List Task) (i : ℕ) → IsWalkUnderWay drafts last listed order (Enter i ∷ tasks) → slice_index_or listed i false ≡ false → IsWalkUnderWay drafts last (slice_set listed i true) (order ++ i ∷ []) tasks
   enter_new listed order tasks i way is =
-      let inside = All-head (λ t. number_of t < length drafts) (Enter i) tasks way.in_range in
+      let inside = All-head (λ t. task_number t < length drafts) (Enter i) tasks way.in_range in
       let done = map (tree_at ts) order in
       let there : list_any (same_line (tree_at ts i)) done ≡ false = sym (way.marks i inside) ∙ is in
       let same : with_line done (tree_at ts i) ≡ done ++ tree_at ts i ∷ [] = ap (λ (b : Bool). if b then done else done ++ tree_at ts i ∷ []) there in
       record {
         flags = length-set listed i true ∙ way.flags;
         marks = λ j l. new_mark order listed i j inside l way.flags (way.marks j l);
-        in_range = All-tail (λ t. number_of t < length drafts) (Enter i) tasks way.in_range;
+        in_range = All-tail (λ t. task_number t < length drafts) (Enter i) tasks way.in_range;
         inside = λ k j h. get-push (j < length drafts) order i j k h (λ old. way.inside k j old) (λ e same. subst (λ n. n < length drafts) same inside);
         lines = ap (λ k. run ts k tasks) (map-append (tree_at ts) order (i ∷ []) ∙ sym same) ∙ way.lines;
       }
 
-  size_some : (t : Tree) → 0 < size t
+  size_some : (t : Tree) → 0 < tree_size t
   size_some (leaf p ls rule children) = omega arith
   size_some (cut p v t u) = omega arith
 
   -- what a visit leaves to do: less than before
   pub record Leaves (listed : List Bool) (order : List ℕ) (i : ℕ) (tasks new : List Task) : Type 0 where
-    pub way : IsUnderWay drafts last listed order new
+    pub way : IsWalkUnderWay drafts last listed order new
     pub less : weight ts new < weight ts (Visit i ∷ tasks)
 
-  pub visit_there : (listed : List Bool) (order : List ℕ) (tasks : List Task) (i : ℕ) → last < length drafts → IsUnderWay drafts last listed order (Visit i ∷ tasks) → slice_index_or listed i false ≡ true → Leaves listed order i tasks tasks
+  pub visit_there : (listed : List Bool) (order : List ℕ) (tasks : List Task) (i : ℕ) → last < length drafts → IsWalkUnderWay drafts last listed order (Visit i ∷ tasks) → slice_index_or listed i false ≡ true → Leaves listed order i tasks tasks
   visit_there listed order tasks i below way is =
-      let inside = All-head (λ t. number_of t < length drafts) (Visit i) tasks way.in_range in
+      let inside = All-head (λ t. task_number t < length drafts) (Visit i) tasks way.in_range in
       let done = map (tree_at ts) order in
       let t = tree_at ts i in
       let there : list_any (same_line t) done ≡ true = sym (way.marks i inside) ∙ is in
@@ -115,38 +115,38 @@ module _ (drafts : List Draft) (right : AreDrafts drafts) (last : ℕ) where
       let lines = run_passes Is one done whole t (map (step_of ts) tasks) ordered (each_drafted drafts right i inside) (sym (run_is ts (walked done t) tasks) ∙ way.lines) there in
       let some = size_some t in
       record {
-        way = record { flags = way.flags; marks = way.marks; in_range = All-tail (λ t. number_of t < length drafts) (Visit i) tasks way.in_range; inside = way.inside; lines = run_is ts done tasks ∙ lines };
+        way = record { flags = way.flags; marks = way.marks; in_range = All-tail (λ t. task_number t < length drafts) (Visit i) tasks way.in_range; inside = way.inside; lines = run_is ts done tasks ∙ lines };
         less = omega (arith, some);
       }
 
-  visit_alone : (listed : List Bool) (order : List ℕ) (tasks : List Task) (i : ℕ) (p : Place) (ls : List SatLit) (rule : RuleUse) (children : List Child) → IsUnderWay drafts last listed order (Visit i ∷ tasks) → tree_at ts i ≡ leaf p ls rule children → Leaves listed order i tasks (Enter i ∷ tasks)
+  visit_alone : (listed : List Bool) (order : List ℕ) (tasks : List Task) (i : ℕ) (p : Place) (ls : List SatLit) (rule : RuleUse) (children : List Child) → IsWalkUnderWay drafts last listed order (Visit i ∷ tasks) → tree_at ts i ≡ leaf p ls rule children → Leaves listed order i tasks (Enter i ∷ tasks)
   visit_alone listed order tasks i p ls rule children way tree =
-      let inside = All-head (λ t. number_of t < length drafts) (Visit i) tasks way.in_range in
-      let rest = All-tail (λ t. number_of t < length drafts) (Visit i) tasks way.in_range in
+      let inside = All-head (λ t. task_number t < length drafts) (Visit i) tasks way.in_range in
+      let rest = All-tail (λ t. task_number t < length drafts) (Visit i) tasks way.in_range in
       let done = map (tree_at ts) order in
       let same = subst (λ t. with_line done t ≡ walked done t) (sym tree) refl in
       let some = size_some (tree_at ts i) in
       record {
-        way = record { flags = way.flags; marks = way.marks; in_range = All-cons (λ t. number_of t < length drafts) (Enter i) tasks inside rest; inside = way.inside; lines = ap (λ k. run ts k tasks) same ∙ way.lines };
+        way = record { flags = way.flags; marks = way.marks; in_range = All-cons (λ t. task_number t < length drafts) (Enter i) tasks inside rest; inside = way.inside; lines = ap (λ k. run ts k tasks) same ∙ way.lines };
         less = omega (arith, some);
       }
 
-  pub visit_clause : (listed : List Bool) (order : List ℕ) (tasks : List Task) (i n : ℕ) → IsUnderWay drafts last listed order (Visit i ∷ tasks) → slice_get drafts i ≡ Some (Clause n) → Leaves listed order i tasks (Enter i ∷ tasks)
+  pub visit_clause : (listed : List Bool) (order : List ℕ) (tasks : List Task) (i n : ℕ) → IsWalkUnderWay drafts last listed order (Visit i ∷ tasks) → slice_get drafts i ≡ Some (Clause n) → Leaves listed order i tasks (Enter i ∷ tasks)
   visit_clause listed order tasks i n way at = visit_alone listed order tasks i _ _ _ _ way (clause_tree drafts i n at)
 
-  pub visit_close : (listed : List Bool) (order : List ℕ) (tasks : List Task) (i : ℕ) (p : At) (l m : SatLit) → IsUnderWay drafts last listed order (Visit i ∷ tasks) → slice_get drafts i ≡ Some (Close p l m) → Leaves listed order i tasks (Enter i ∷ tasks)
+  pub visit_close : (listed : List Bool) (order : List ℕ) (tasks : List Task) (i : ℕ) (p : At) (l m : SatLit) → IsWalkUnderWay drafts last listed order (Visit i ∷ tasks) → slice_get drafts i ≡ Some (Close p l m) → Leaves listed order i tasks (Enter i ∷ tasks)
   visit_close listed order tasks i p l m way at = visit_alone listed order tasks i _ _ _ _ way (close_tree drafts i p l m at)
 
-  pub visit_cut : (listed : List Bool) (order : List ℕ) (tasks : List Task) (i : ℕ) (p : At) (v : Var) (a b : ℕ) → IsUnderWay drafts last listed order (Visit i ∷ tasks) → slice_get drafts i ≡ Some (Cut p v a b) → Leaves listed order i tasks (Visit a ∷ Visit b ∷ Enter i ∷ tasks)
+  pub visit_cut : (listed : List Bool) (order : List ℕ) (tasks : List Task) (i : ℕ) (p : At) (v : Var) (a b : ℕ) → IsWalkUnderWay drafts last listed order (Visit i ∷ tasks) → slice_get drafts i ≡ Some (Cut p v a b) → Leaves listed order i tasks (Visit a ∷ Visit b ∷ Enter i ∷ tasks)
   visit_cut listed order tasks i p v a b way at =
-      let P : Task → Type 0 = λ t. number_of t < length drafts in
+      let P : Task → Type 0 = λ t. task_number t < length drafts in
       let inside = All-head P (Visit i) tasks way.in_range in
       let rest = All-tail P (Visit i) tasks way.in_range in
       let below = right.below i p v a b at in
       let done = map (tree_at ts) order in
       let tree = cut_tree drafts i p v a b at below.0 below.1 in
       let same = subst (λ t. with_line (walked (walked done (tree_at ts a)) (tree_at ts b)) t ≡ walked done t) (sym tree) refl in
-      let sizes : size (tree_at ts i) ≡ suc (size (tree_at ts a) + size (tree_at ts b)) = ap size tree in
+      let sizes : tree_size (tree_at ts i) ≡ suc (tree_size (tree_at ts a) + tree_size (tree_at ts b)) = ap tree_size tree in
       record {
         way = record {
           flags = way.flags;
@@ -162,14 +162,14 @@ pub reverse_push : (xs new : List Task) (x : Task) → new ≡ xs ++ x ∷ [] �
 reverse_push xs new x e = ap reverse e ∙ reverse-append xs (x ∷ [])
 
 -- a walk that begins: no line is listed, and the last one is to be walked from
-pub walk_begins : (drafts : List Draft) (last : ℕ) (flags : List Bool) (order : List ℕ) (none tasks : List Task) → last < length drafts → flags ≡ map (λ _. false) drafts → order ≡ [] → none ≡ [] → tasks ≡ none ++ Visit last ∷ [] → IsUnderWay drafts last flags order (reverse tasks)
+pub walk_begins : (drafts : List Draft) (last : ℕ) (flags : List Bool) (order : List ℕ) (none tasks : List Task) → last < length drafts → flags ≡ map (λ _. false) drafts → order ≡ [] → none ≡ [] → tasks ≡ none ++ Visit last ∷ [] → IsWalkUnderWay drafts last flags order (reverse tasks)
 walk_begins drafts last flags order none tasks below e f g h =
     let one : tasks ≡ Visit last ∷ [] = h ∙ ap (λ k. k ++ Visit last ∷ []) g in
-    let P : Task → Type 0 = λ t. number_of t < length drafts in
-    let begun : IsUnderWay drafts last (map (λ _. false) drafts) [] (Visit last ∷ []) = record { flags = length-map drafts (λ _. false); marks = λ i l. no_mark drafts i; in_range = All-cons P (Visit last) [] below (All-nil P); inside = λ k i h. cc; lines = refl } in
-    subst (λ k. IsUnderWay drafts last k order (reverse tasks)) (sym e)
-    (subst (λ k. IsUnderWay drafts last (map (λ _. false) drafts) k (reverse tasks)) (sym f)
-    (subst (λ k. IsUnderWay drafts last (map (λ _. false) drafts) [] (reverse k)) (sym one) begun))
+    let P : Task → Type 0 = λ t. task_number t < length drafts in
+    let begun : IsWalkUnderWay drafts last (map (λ _. false) drafts) [] (Visit last ∷ []) = record { flags = length-map drafts (λ _. false); marks = λ i l. no_mark drafts i; in_range = All-cons P (Visit last) [] below (All-nil P); inside = λ k i h. cc; lines = refl } in
+    subst (λ k. IsWalkUnderWay drafts last k order (reverse tasks)) (sym e)
+    (subst (λ k. IsWalkUnderWay drafts last (map (λ _. false) drafts) k (reverse tasks)) (sym f)
+    (subst (λ k. IsWalkUnderWay drafts last (map (λ _. false) drafts) [] (reverse k)) (sym one) begun))
   where
     no_mark : (ds : List Draft) (i : ℕ) → slice_index_or (map (λ _. false) ds) i false ≡ false
     no_mark [] i = refl

@@ -15,12 +15,12 @@ use Rattle.tableau_clauses.specs.Table.{Step, Table, the_clauses}
 use Rattle.rebuild_spec.specs.Input.{clause_by}
 use Rattle.rebuild_spec.specs.Trees.{at_clause, leaf, cut, branch}
 use Rattle.rebuild_spec.specs.Stands.{instance_line}
-use Rattle.rebuild_spec.specs.Lines.{walked, number_in, line_of}
-use Rattle.tableau_rebuild.specs.Tables.{no_instance, the_atoms, the_instance, sourced, the_sources}
+use Rattle.rebuild_spec.specs.Lines.{walked, line_number_in, line_of}
+use Rattle.tableau_rebuild.specs.Tables.{no_instance, atoms_at, the_instance, sourced, the_sources}
 use Rattle.tableau_rebuild.specs.declared.draft.At.{At}
 use Rattle.tableau_rebuild.specs.declared.draft.Draft.{Draft}
 use Rattle.tableau_rebuild.specs.declared.draft.Draft.TheVariants.{Clause, Close, Cut}
-use Rattle.tableau_rebuild.specs.Internal.Drafts.{after_step, tree_at, trees, AreDrafts}
+use Rattle.tableau_rebuild.specs.Internal.Drafts.{place_after_step, tree_at, trees, AreDrafts}
 use Rattle.tableau_rebuild.specs.Internal.Arenas.{clause_line, fleshed}
 use Rattle.tableau_rebuild.specs.Internal.Numbers.{AreNumbers}
 use Rattle.tableau_rebuild.specs.Internal.Branches.{branch_at, branch_by, IsReady}
@@ -68,13 +68,13 @@ module _ (b : Content) (atoms : List ℕ) (t : Table) (drafts : List Draft) wher
         ∙ got_default (map (λ j. branch (the_tree b.terms atoms t drafts j)) (take k order)) h.number [] (branch (the_tree b.terms atoms t drafts i))
         (slice_get-map (λ j. branch (the_tree b.terms atoms t drafts j)) (take k order) h.number ∙ ap (option_map (λ j. branch (the_tree b.terms atoms t drafts j))) (got_front k order h.number i h.before h.there))
 
-    number_there : (k i : ℕ) → IsEarlier drafts right last below order walks k i → slice_index_or numbers i 0 ≡ number_in (map (the_tree b.terms atoms t drafts) order) (the_tree b.terms atoms t drafts i)
+    number_there : (k i : ℕ) → IsEarlier drafts right last below order walks k i → slice_index_or numbers i 0 ≡ line_number_in (map (the_tree b.terms atoms t drafts) order) (the_tree b.terms atoms t drafts i)
     number_there k i h =
         are h.number i h.there ∙ sym h.is
         ∙ sym (number_in-fleshed (the_sources b.terms atoms t) (map (tree_at (trees drafts)) order) (tree_at (trees drafts) i))
-        ∙ ap (λ xs. number_in xs (the_tree b.terms atoms t drafts i)) (map_map (fleshed (the_sources b.terms atoms t)) (tree_at (trees drafts)) order)
+        ∙ ap (λ xs. line_number_in xs (the_tree b.terms atoms t drafts i)) (map_map (fleshed (the_sources b.terms atoms t)) (tree_at (trees drafts)) order)
 
-    cut_here : (i : ℕ) (at : At) (v : Var) (on off : ℕ) → slice_get drafts i ≡ Some (Cut at v on off) → the_tree b.terms atoms t drafts i ≡ cut (after_step at) v (the_tree b.terms atoms t drafts on) (the_tree b.terms atoms t drafts off)
+    cut_here : (i : ℕ) (at : At) (v : Var) (on off : ℕ) → slice_get drafts i ≡ Some (Cut at v on off) → the_tree b.terms atoms t drafts i ≡ cut (place_after_step at) v (the_tree b.terms atoms t drafts on) (the_tree b.terms atoms t drafts off)
     cut_here i at v on off h = let low = right.below i at v on off h in ap (fleshed (the_sources b.terms atoms t)) (cut_tree drafts i at v on off h low.0 low.1)
 
     -- the branch of a line is made of those before
@@ -89,23 +89,23 @@ module _ (b : Content) (atoms : List ℕ) (t : Table) (drafts : List Draft) wher
 
     -- the line is the one of the walk
     pub line_made : (k i : ℕ) (d : Draft) (l : Line) → slice_get order k ≡ Some i → slice_get drafts i ≡ Some d → IsMakeable b atoms t numbers d → IsLineBy b atoms t numbers (branch (the_tree b.terms atoms t drafts i)) d l
-        → l ≡ line_of (the_atoms b.terms atoms) (map (the_tree b.terms atoms t drafts) order) (the_tree b.terms atoms t drafts i)
+        → l ≡ line_of (atoms_at b.terms atoms) (map (the_tree b.terms atoms t drafts) order) (the_tree b.terms atoms t drafts i)
     line_made k i (Clause n) l listed drafted can is =
         let here = clause_here n i can.0 can.1 drafted in
-        let A = the_atoms b.terms atoms in
+        let A = atoms_at b.terms atoms in
         let lines = map (the_tree b.terms atoms t drafts) order in
         is can.0 can.1 ∙ ap (λ ls. instance_by A ls (the_instance b.terms atoms can.0)) (ap branch here) ∙ sym (ap (line_of A lines) here)
     line_made k i (Close at x y) l listed drafted can is =
         let here = ap (fleshed (the_sources b.terms atoms t)) (close_tree drafts i at x y drafted) in
-        let A = the_atoms b.terms atoms in
+        let A = atoms_at b.terms atoms in
         is ∙ ap (close_by A) (ap branch here) ∙ sym (ap (line_of A (map (the_tree b.terms atoms t drafts) order)) here)
     line_made k i (Cut at v on off) l listed drafted can is =
         let here = cut_here i at v on off drafted in
         let both = cut_children drafts right last below order walks inside k i at v on off listed drafted in
-        let A = the_atoms b.terms atoms in
+        let A = atoms_at b.terms atoms in
         is
         ∙ ap (λ ls. cut_by A ls v (slice_index_or numbers on 0) (slice_index_or numbers off 0)) (ap branch here)
-        ∙ ap₂ (λ m n. cut_by A (branch (cut (after_step at) v (the_tree b.terms atoms t drafts on) (the_tree b.terms atoms t drafts off))) v m n) (number_there k on both.0) (number_there k off both.1)
+        ∙ ap₂ (λ m n. cut_by A (branch (cut (place_after_step at) v (the_tree b.terms atoms t drafts on) (the_tree b.terms atoms t drafts off))) v m n) (number_there k on both.0) (number_there k off both.1)
         ∙ sym (ap (line_of A (map (the_tree b.terms atoms t drafts) order)) here)
 
     pub ready : (k i : ℕ) (d : Draft) (count : ℕ) → count ≡ k → slice_get order k ≡ Some i → slice_get drafts i ≡ Some d → IsMakeable b atoms t numbers d → IsReady (length (the_clauses t)) numbers count d

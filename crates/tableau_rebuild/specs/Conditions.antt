@@ -11,7 +11,7 @@ use Rattle.tableau_clauses.specs.declared.origin.Origin.TheVariants.{Start}
 use Rattle.tableau_clauses.specs.Table.{Table}
 use Rattle.rebuild_spec.specs.Input.{literals_of}
 use Rattle.tableau_rules.specs.Uses.{use_of}
-use Rattle.tableau_rebuild.specs.Tables.{the_atoms}
+use Rattle.tableau_rebuild.specs.Tables.{atoms_at}
 
 -- the literal of each start unit has a number
 abbrev pub AreUnitsNumbered : List ℕ → Table → Type 0
@@ -25,7 +25,7 @@ pub record IsInstanceOver (b : Content) (atoms : List ℕ) (rows : List Row) (i 
   pub term : IfSome i.by.term (λ u. u < length b.terms)
   pub principals : IsOver (length atoms) i.principals
   pub alternatives : All (IsOver (length atoms)) i.alternatives
-  pub fits : Rule (with_rows (content_scope b) rows) rows rule (literals_of (the_atoms b.terms atoms) i.principals) (map (literals_of (the_atoms b.terms atoms)) i.alternatives)
+  pub fits : Rule (with_rows (content_scope b) rows) rows rule (literals_of (atoms_at b.terms atoms) i.principals) (map (literals_of (atoms_at b.terms atoms)) i.alternatives)
 
 -- the last result of the log is the empty clause
 pub record EndsEmpty (log : List LogEntry) : Type 0 where

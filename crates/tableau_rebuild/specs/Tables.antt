@@ -16,8 +16,8 @@ use Rattle.rebuild_spec.specs.Input.{Instance, Sourced, start_unit, clause_by, I
 use Rattle.tableau_rules.specs.Uses.{use_of}
 
 -- the atoms at these places of the bank
-abbrev pub the_atoms : List Lambda → List ℕ → List Lambda
-the_atoms terms atoms = map (term_at terms) atoms
+abbrev pub atoms_at : List Lambda → List ℕ → List Lambda
+atoms_at terms atoms = map (term_at terms) atoms
 
 abbrev pub the_instance : List Lambda → List ℕ → BankInstance → Instance
 the_instance terms atoms i = record { rule = unwrap_or (use_of terms atoms i.by) (False 0); principals = i.principals; alternatives = i.alternatives }
@@ -37,7 +37,7 @@ abbrev pub the_sources : List Lambda → List ℕ → Table → List Sourced
 the_sources terms atoms t = map (λ s. sourced terms atoms t.1 s.0 s.1) t.0
 
 abbrev pub the_input : Content → List ℕ → Table → List LogEntry → List ℕ → Input
-the_input b atoms t log witnesses = record { atoms = the_atoms b.terms atoms; rows = rows_of b.terms witnesses; clauses = the_sources b.terms atoms t; log = log }
+the_input b atoms t log witnesses = record { atoms = atoms_at b.terms atoms; rows = rows_of b.terms witnesses; clauses = the_sources b.terms atoms t; log = log }
 
 -- the literals of a clause of the start, and of another one none
 abbrev pub start_literals_in : List Lambda → List SatLit → Origin → List Literal

@@ -5,13 +5,13 @@ ghost use Rattle.sat_base.specs.declared.literal.SatLit.{SatLit};
 ghost use Rattle.sat_log.specs.declared.log.LogEntry.{LogEntry};
 ghost use Rattle.sat_log.specs.Chains.{premise_clause, results, IsLogOver};
 ghost use Rattle.tableau_clauses.specs.Table.{the_clauses};
-ghost use Rattle.rebuild_spec.specs.Stands.{place_of};
+ghost use Rattle.rebuild_spec.specs.Stands.{premise_place};
 ghost use Rattle.rebuild_spec.specs.Trees.{at_clause, at_result};
 ghost use Rattle.tableau_rebuild.specs.Tables.{the_sources};
 ghost use Rattle.tableau_rebuild.specs.declared.draft.Draft.TheVariants.{Clause as ClauseDraft, Close as CloseDraft};
 ghost use Rattle.tableau_rebuild.specs.declared.arena.Standing.TheVariants.{Line};
-ghost use Rattle.tableau_rebuild.specs.Internal.Drafts.{after_step};
-ghost use Rattle.tableau_rebuild.specs.Internal.Arenas.{unit_in, IsUnit, IsWithin, place_at, IsDrawn, IsBefore, Extends, StandsFor, AreResults, IsJoined, IsThere, IsChained, HasStep};
+ghost use Rattle.tableau_rebuild.specs.Internal.Drafts.{place_after_step};
+ghost use Rattle.tableau_rebuild.specs.Internal.Arenas.{unit_of_start, IsUnitNumber, IsStandingWithin, draft_place, IsDrawn, IsEarlierDraft, ExtendsDrafts, StandsFor, AreResults, IsJoined, IsThere, IsChained, HasStep};
 
 use crate::draft::{At, Draft};
 use sat_base::{Clause, SatLit, Var};
@@ -47,8 +47,8 @@ fn clause_of<'a>(steps: &'a StepTable, log: &'a Log, premise: Premise) -> &'a Cl
 
 /// The literal of a start unit.
 fn unit(steps: &StepTable, n: usize) -> SatLit
-    requires { IsUnit steps.now n }
-    ensures { (terms : List Lambda) (atoms : List ℕ) → result ≡ unit_in (slice_get (the_sources terms atoms steps.now) n) }
+    requires { IsUnitNumber steps.now n }
+    ensures { (terms : List Lambda) (atoms : List ℕ) → result ≡ unit_of_start (slice_get (the_sources terms atoms steps.now) n) }
 {
     steps.clause(n).as_slice()[0]
 }
@@ -71,8 +71,8 @@ impl Arena {
         requires drawn { IsDrawn self.old.drafts.items self.old.of_clause.items }
         requires within { n < length self.old.of_clause.items }
         ensures drawn { OnOk result (IsDrawn self.new.drafts.items self.new.of_clause.items) }
-        ensures before { OnOk result ((m k : ℕ) → IsBefore self.old.drafts.items m k → IsBefore self.new.drafts.items m k) }
-        ensures extends { OnOk result (Extends self.old.drafts.items self.new.drafts.items) }
+        ensures before { OnOk result ((m k : ℕ) → IsEarlierDraft self.old.drafts.items m k → IsEarlierDraft self.new.drafts.items m k) }
+        ensures extends { OnOk result (ExtendsDrafts self.old.drafts.items self.new.drafts.items) }
         ensures clauses { OnOk result (length self.new.of_clause.items ≡ length self.old.of_clause.items) }
         ensures results { OnOk result (self.new.of_result.items ≡ self.old.of_result.items) }
         ensures line { IfOk result (λ s. (i : ℕ) × (s ≡ Line i) × (slice_get self.new.drafts.items i ≡ Some (ClauseDraft n))) }
@@ -97,11 +97,11 @@ impl Arena {
         requires results { AreResults steps.now log.now self.old.drafts.items self.old.of_result.items }
         requires there { IsThere (length (the_clauses steps.now)) (length self.old.of_result.items) premise }
         ensures drawn { OnOk result (IsDrawn self.new.drafts.items self.new.of_clause.items) }
-        ensures before { OnOk result ((m k : ℕ) → IsBefore self.old.drafts.items m k → IsBefore self.new.drafts.items m k) }
-        ensures extends { OnOk result (Extends self.old.drafts.items self.new.drafts.items) }
+        ensures before { OnOk result ((m k : ℕ) → IsEarlierDraft self.old.drafts.items m k → IsEarlierDraft self.new.drafts.items m k) }
+        ensures extends { OnOk result (ExtendsDrafts self.old.drafts.items self.new.drafts.items) }
         ensures clauses { OnOk result (length self.new.of_clause.items ≡ length self.old.of_clause.items) }
         ensures results { OnOk result (self.new.of_result.items ≡ self.old.of_result.items) }
-        ensures stands { IfOk result (λ s. (c : List SatLit) → premise_clause (the_clauses steps.now) (results log.now) premise ≡ Some c → StandsFor steps.now log.now self.new.drafts.items (place_of premise) c s) }
+        ensures stands { IfOk result (λ s. (c : List SatLit) → premise_clause (the_clauses steps.now) (results log.now) premise ≡ Some c → StandsFor steps.now log.now self.new.drafts.items (premise_place premise) c s) }
     {
         match premise {
             Premise::Result(n) => Ok(self.of_result[n]),
@@ -123,9 +123,9 @@ impl Arena {
         first: usize,
         second: usize,
     ) -> Result<Standing, AllocError>
-        requires first { IsUnit steps.now first }
-        requires second { IsUnit steps.now second }
-        ensures drafts { IfOk result (λ s. (l m : SatLit) × (self.new.drafts.items ≡ self.old.drafts.items ++ CloseDraft at l m ∷ []) × ((terms : List Lambda) (atoms : List ℕ) → (l ≡ unit_in (slice_get (the_sources terms atoms steps.now) first)) × (m ≡ unit_in (slice_get (the_sources terms atoms steps.now) second)))) }
+        requires first { IsUnitNumber steps.now first }
+        requires second { IsUnitNumber steps.now second }
+        ensures drafts { IfOk result (λ s. (l m : SatLit) × (self.new.drafts.items ≡ self.old.drafts.items ++ CloseDraft at l m ∷ []) × ((terms : List Lambda) (atoms : List ℕ) → (l ≡ unit_of_start (slice_get (the_sources terms atoms steps.now) first)) × (m ≡ unit_of_start (slice_get (the_sources terms atoms steps.now) second)))) }
         ensures of_clause { self.new.of_clause.items ≡ self.old.of_clause.items }
         ensures of_result { self.new.of_result.items ≡ self.old.of_result.items }
         ensures last { IfOk result (λ s. s ≡ Line (length self.old.drafts.items)) }
@@ -144,15 +144,15 @@ impl Arena {
         negative: Standing,
     ) -> Result<Standing, AllocError>
         requires drawn { IsDrawn self.old.drafts.items self.old.of_clause.items }
-        requires before { IsBefore self.old.drafts.items at.result at.step }
-        requires positive { IsWithin steps.now self.old.drafts.items positive }
-        requires negative { IsWithin steps.now self.old.drafts.items negative }
+        requires before { IsEarlierDraft self.old.drafts.items at.result at.step }
+        requires positive { IsStandingWithin steps.now self.old.drafts.items positive }
+        requires negative { IsStandingWithin steps.now self.old.drafts.items negative }
         ensures drawn { OnOk result (IsDrawn self.new.drafts.items self.new.of_clause.items) }
-        ensures before { OnOk result (IsBefore self.new.drafts.items at.result (suc at.step)) }
-        ensures extends { OnOk result (Extends self.old.drafts.items self.new.drafts.items) }
+        ensures before { OnOk result (IsEarlierDraft self.new.drafts.items at.result (suc at.step)) }
+        ensures extends { OnOk result (ExtendsDrafts self.old.drafts.items self.new.drafts.items) }
         ensures of_clause { OnOk result (self.new.of_clause.items ≡ self.old.of_clause.items) }
         ensures of_result { OnOk result (self.new.of_result.items ≡ self.old.of_result.items) }
-        ensures joined { IfOk result (λ s. IsJoined steps.now self.old.drafts.items self.new.drafts.items (after_step at) var positive negative s) }
+        ensures joined { IfOk result (λ s. IsJoined steps.now self.old.drafts.items self.new.drafts.items (place_after_step at) var positive negative s) }
     {
         match (positive, negative) {
             (Standing::Start(m), Standing::Start(n)) => {
@@ -185,12 +185,12 @@ impl Arena {
         requires clauses { length self.old.of_clause.items ≡ length (the_clauses steps.now) }
         requires results { AreResults steps.now log.now self.old.drafts.items self.old.of_result.items }
         requires next { length self.old.of_result.items ≡ at.result }
-        requires before { IsBefore self.old.drafts.items at.result at.step }
+        requires before { IsEarlierDraft self.old.drafts.items at.result at.step }
         requires has { HasStep log.now at.result at.step step }
         requires chained { IsChained steps.now log.now self.old.drafts.items at.result at.step resolver.old standing }
         ensures drawn { OnOk result (IsDrawn self.new.drafts.items self.new.of_clause.items) }
-        ensures before { OnOk result (IsBefore self.new.drafts.items at.result (suc at.step)) }
-        ensures extends { OnOk result (Extends self.old.drafts.items self.new.drafts.items) }
+        ensures before { OnOk result (IsEarlierDraft self.new.drafts.items at.result (suc at.step)) }
+        ensures extends { OnOk result (ExtendsDrafts self.old.drafts.items self.new.drafts.items) }
         ensures clauses { OnOk result (length self.new.of_clause.items ≡ length self.old.of_clause.items) }
         ensures results { OnOk result (self.new.of_result.items ≡ self.old.of_result.items) }
         ensures chained { IfOk result (λ s. IsChained steps.now log.now self.new.drafts.items at.result (suc at.step) resolver.new s) }
@@ -224,11 +224,11 @@ impl Arena {
         requires right { IsLogOver (the_clauses steps.now) log.now }
         requires within { n < length log.now }
         requires next { length self.old.of_result.items ≡ n }
-        requires before { IsBefore self.old.drafts.items n 0 }
+        requires before { IsEarlierDraft self.old.drafts.items n 0 }
         requires empty { resolver.old ≡ [] }
         ensures drawn { OnOk result (IsDrawn self.new.drafts.items self.new.of_clause.items) }
-        ensures before { OnOk result (IsBefore self.new.drafts.items (suc n) 0) }
-        ensures extends { OnOk result (Extends self.old.drafts.items self.new.drafts.items) }
+        ensures before { OnOk result (IsEarlierDraft self.new.drafts.items (suc n) 0) }
+        ensures extends { OnOk result (ExtendsDrafts self.old.drafts.items self.new.drafts.items) }
         ensures clauses { OnOk result (length self.new.of_clause.items ≡ length self.old.of_clause.items) }
         ensures results { OnOk result (self.new.of_result.items ≡ self.old.of_result.items) }
         ensures empty { OnOk result (resolver.new ≡ []) }

@@ -5,7 +5,7 @@ ghost use Rattle.literal_map.specs.Atoms.{IsAtom};
 ghost use Rattle.witness_names.specs.Rows.{rows_of, AreRows};
 ghost use Rattle.tableau_clauses.specs.Table.{the_instances};
 ghost use Rattle.rebuild_spec.specs.Given.{IsGiven};
-ghost use Rattle.tableau_rebuild.specs.Tables.{the_atoms, the_input, unit_literals};
+ghost use Rattle.tableau_rebuild.specs.Tables.{atoms_at, the_input, unit_literals};
 ghost use Rattle.tableau_rebuild.specs.Conditions.{IsInstanceOver};
 
 use literal_map::LitTable;
@@ -25,7 +25,7 @@ pub fn tables_are_given(
     requires rows { AreRows bank.now witnesses.now }
     requires atoms { All (IsAtom bank.now) lits.now }
     requires instances { All (IsInstanceOver bank.now lits.now (rows_of bank.now.terms witnesses.now)) (the_instances steps.now) }
-    ensures { IsGiven (content_scope bank.now) (unit_literals (the_atoms bank.now.terms lits.now) steps.now.0) (the_input bank.now lits.now steps.now log.now witnesses.now) }
+    ensures { IsGiven (content_scope bank.now) (unit_literals (atoms_at bank.now.terms lits.now) steps.now.0) (the_input bank.now lits.now steps.now log.now witnesses.now) }
 {
     steps.clauses_come_from_origins();
 }

@@ -8,11 +8,11 @@ ghost use Rattle.term_bank.specs.Terms.{term_at};
 ghost use Rattle.literal_map.specs.Atoms.{IsAtom};
 ghost use Rattle.refute_print.specs.Sizes.{AreSmallLiterals};
 ghost use Rattle.rebuild_spec.specs.Input.{literals_of};
-ghost use Rattle.rebuild_spec.specs.Stands.{placed, place_in};
+ghost use Rattle.rebuild_spec.specs.Stands.{rule_at_places, place_in};
 ghost use Rattle.tableau_rules.specs.Uses.{use_of};
-ghost use Rattle.tableau_rebuild.specs.Tables.{no_literal, the_atoms, the_instance};
+ghost use Rattle.tableau_rebuild.specs.Tables.{no_literal, atoms_at, the_instance};
 ghost use Rattle.tableau_rebuild.specs.Internal.LineParts.{first_in, left_in, right_in, instance_by, IsGoodUse, IsMakeable, IsLineBy};
-ghost use Rattle.tableau_rebuild.specs.Internal.Pools.{IsMade};
+ghost use Rattle.tableau_rebuild.specs.Internal.Pools.{IsMadePool};
 
 use crate::draft::Draft;
 use crate::literals::{lit_of, lits_of, position};
@@ -63,7 +63,7 @@ fn cut_literal(bank: &Bank, atoms: &LitTable, by: &BankUse) -> Result<Lit, Alloc
     requires atoms { All (IsAtom bank.now) atoms.now }
     requires some { IsSome by.now.first }
     requires within { IfSome by.now.first (λ l. l.var.0 < length atoms.now) }
-    ensures { IfOk result (λ l. l ≡ literal_at (the_atoms bank.now.terms atoms.now) (unwrap_or by.now.first no_literal)) }
+    ensures { IfOk result (λ l. l ≡ literal_at (atoms_at bank.now.terms atoms.now) (unwrap_or by.now.first no_literal)) }
 {
     match by.first {
         Some(literal) => Ok(lit_of(bank, atoms, literal)?),
@@ -80,7 +80,7 @@ fn rule_of(
 ) -> Result<RuleUse, AllocError>
     requires atoms { All (IsAtom bank.now) atoms.now }
     requires good { IsGoodUse bank.now atoms.now by.now }
-    ensures { IfOk result (λ rule. (use' : RuleUse) → use_of bank.now.terms atoms.now by.now ≡ Some use' → rule ≡ placed use' places.now) }
+    ensures { IfOk result (λ rule. (use' : RuleUse) → use_of bank.now.terms atoms.now by.now ≡ Some use' → rule ≡ rule_at_places use' places.now) }
 {
     let first = first_of(places);
     let left = left_of(places);
@@ -161,8 +161,8 @@ fn instance_line(
 ) -> Result<Line, AllocError>
     requires atoms { All (IsAtom bank.now) atoms.now }
     requires good { IsGoodUse bank.now atoms.now instance.now.by }
-    requires literals { literals ≡ literals_of (the_atoms bank.now.terms atoms.now) branch.now }
-    ensures line { IfOk result (λ line. line ≡ instance_by (the_atoms bank.now.terms atoms.now) branch.now (the_instance bank.now.terms atoms.now instance.now)) }
+    requires literals { literals ≡ literals_of (atoms_at bank.now.terms atoms.now) branch.now }
+    ensures line { IfOk result (λ line. line ≡ instance_by (atoms_at bank.now.terms atoms.now) branch.now (the_instance bank.now.terms atoms.now instance.now)) }
     ensures branch { IfOk result (λ line. line.branch ≡ literals) }
 {
     let places = places_of(alloc, branch, &instance.principals)?;
@@ -189,9 +189,9 @@ pub(crate) fn line_of(
     requires atoms { All (IsAtom bank.now) atoms.now }
     requires numbered { IsOver (length atoms.now) branch.now }
     requires makeable { IsMakeable bank.now atoms.now steps.now numbers.now draft }
-    requires made { IsMade (the_atoms bank.now.terms atoms.now) pool.old }
+    requires made { IsMadePool (atoms_at bank.now.terms atoms.now) pool.old }
     requires small { AreSmallLiterals pool.old.lits }
-    ensures made { OnOk result (IsMade (the_atoms bank.now.terms atoms.now) pool.new) }
+    ensures made { OnOk result (IsMadePool (atoms_at bank.now.terms atoms.now) pool.new) }
     ensures small { OnOk result (AreSmallLiterals pool.new.lits) }
     ensures line { IfOk result (λ line. IsLineBy bank.now atoms.now steps.now numbers.now branch.now draft line) }
     ensures small_branch { IfOk result (λ line. AreSmallLiterals line.branch) }

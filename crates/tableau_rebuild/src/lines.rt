@@ -9,10 +9,10 @@ ghost use Rattle.rebuild_spec.specs.NeededRows.{rows_for_lines};
 ghost use Rattle.rebuild_spec.specs.Lines.{walked, line_of as line_in};
 ghost use Rattle.rebuild_spec.specs.Trees.{branch};
 ghost use Rattle.tableau_rebuild.specs.declared.draft.Draft.{Draft};
-ghost use Rattle.tableau_rebuild.specs.Tables.{the_atoms};
+ghost use Rattle.tableau_rebuild.specs.Tables.{atoms_at};
 ghost use Rattle.tableau_rebuild.specs.Internal.Drafts.{trees, tree_at, AreDrafts};
 ghost use Rattle.tableau_rebuild.specs.Internal.Numbers.{AreNumbers};
-ghost use Rattle.tableau_rebuild.specs.Internal.Pools.{IsMade};
+ghost use Rattle.tableau_rebuild.specs.Internal.Pools.{IsMadePool};
 ghost use Rattle.tableau_rebuild.specs.Internal.LineParts.{IsMakeable};
 ghost use Rattle.tableau_rebuild.specs.Internal.Written.{the_tree};
 
@@ -53,7 +53,7 @@ impl Writing {
         ensures rows { result.written.rows ≡ 0 }
         ensures branches { result.branches.items ≡ [] }
         ensures empty { result.resolver.resolver ≡ [] }
-        ensures made { (terms : List Lambda) → IsMade terms result.pool }
+        ensures made { (terms : List Lambda) → IsMadePool terms result.pool }
         ensures small { AreSmallLiterals result.pool.lits }
     {
         Writing {
@@ -84,7 +84,7 @@ impl Writing {
         requires none { self.old.written.rows ≡ 0 }
         requires branches { self.old.branches.items ≡ [] }
         requires empty { self.old.resolver.resolver ≡ [] }
-        requires made { IsMade (the_atoms bank.now.terms atoms.now) self.old.pool }
+        requires made { IsMadePool (atoms_at bank.now.terms atoms.now) self.old.pool }
         requires small { AreSmallLiterals self.old.pool.lits }
         requires atoms { All (IsAtom bank.now) atoms.now }
         requires rows { AreRows bank.now witnesses.now }
@@ -95,7 +95,7 @@ impl Writing {
         requires numbers { AreNumbers order.now numbers.now }
         requires makeable { (k i : ℕ) (d : Draft) → slice_get order.now k ≡ Some i → slice_get drafts.now i ≡ Some d → IsMakeable bank.now atoms.now steps.now numbers.now d }
         requires numbered { (k i : ℕ) → slice_get order.now k ≡ Some i → IsOver (length atoms.now) (branch (the_tree bank.now.terms atoms.now steps.now drafts.now i)) }
-        ensures lines { OnOk result (self.new.written.lines ≡ map (λ i. line_in (the_atoms bank.now.terms atoms.now) (map (the_tree bank.now.terms atoms.now steps.now drafts.now) order.now) (the_tree bank.now.terms atoms.now steps.now drafts.now i)) order.now) }
+        ensures lines { OnOk result (self.new.written.lines ≡ map (λ i. line_in (atoms_at bank.now.terms atoms.now) (map (the_tree bank.now.terms atoms.now steps.now drafts.now) order.now) (the_tree bank.now.terms atoms.now steps.now drafts.now i)) order.now) }
         ensures small { OnOk result (AreSmallLines self.new.written.lines) }
         ensures rows { OnOk result (self.new.written.rows ≡ rows_for_lines (rows_of bank.now.terms witnesses.now) self.new.written.lines) }
     {
@@ -153,7 +153,7 @@ pub(crate) fn write_lines(
     requires numbers { AreNumbers order.now numbers.now }
     requires makeable { (k i : ℕ) (d : Draft) → slice_get order.now k ≡ Some i → slice_get drafts.now i ≡ Some d → IsMakeable bank.now atoms.now steps.now numbers.now d }
     requires numbered { (k i : ℕ) → slice_get order.now k ≡ Some i → IsOver (length atoms.now) (branch (the_tree bank.now.terms atoms.now steps.now drafts.now i)) }
-    ensures lines { IfOk result (λ written. written.lines ≡ map (λ i. line_in (the_atoms bank.now.terms atoms.now) (map (the_tree bank.now.terms atoms.now steps.now drafts.now) order.now) (the_tree bank.now.terms atoms.now steps.now drafts.now i)) order.now) }
+    ensures lines { IfOk result (λ written. written.lines ≡ map (λ i. line_in (atoms_at bank.now.terms atoms.now) (map (the_tree bank.now.terms atoms.now steps.now drafts.now) order.now) (the_tree bank.now.terms atoms.now steps.now drafts.now i)) order.now) }
     ensures small { IfOk result (λ written. AreSmallLines written.lines) }
     ensures rows { IfOk result (λ written. written.rows ≡ rows_for_lines (rows_of bank.now.terms witnesses.now) written.lines) }
 {

@@ -6,8 +6,8 @@ ghost use Rattle.literal_map.specs.Atoms.{IsAtom};
 ghost use Rattle.refute_print.specs.Sizes.{IsSmallTerm, AreSmallLiterals};
 ghost use Rattle.rebuild_spec.specs.Input.{literals_of};
 ghost use Rattle.rebuild_spec.specs.Stands.{place_in};
-ghost use Rattle.tableau_rebuild.specs.Tables.{the_atoms};
-ghost use Rattle.tableau_rebuild.specs.Internal.Pools.{IsMade};
+ghost use Rattle.tableau_rebuild.specs.Tables.{atoms_at};
+ghost use Rattle.tableau_rebuild.specs.Internal.Pools.{IsMadePool};
 
 use crate::pool::Pool;
 use literal_map::LitTable;
@@ -44,7 +44,7 @@ pub(crate) fn negations(alloc: Global, literals: &[SatLit]) -> Result<Clause, Al
 pub(crate) fn lit_of(bank: &Bank, atoms: &LitTable, literal: SatLit) -> Result<Lit, AllocError>
     requires atoms { All (IsAtom bank.now) atoms.now }
     requires within { literal.var.0 < length atoms.now }
-    ensures { IfOk result (λ l. l ≡ literal_at (the_atoms bank.now.terms atoms.now) literal) }
+    ensures { IfOk result (λ l. l ≡ literal_at (atoms_at bank.now.terms atoms.now) literal) }
 {
     let atom = bank.export(atoms.formula_of(literal))?;
     Ok(Lit {
@@ -61,7 +61,7 @@ pub(crate) fn small_lit_of(
 ) -> Result<Lit, AllocError>
     requires atoms { All (IsAtom bank.now) atoms.now }
     requires within { literal.var.0 < length atoms.now }
-    ensures literal { IfOk result (λ l. l ≡ literal_at (the_atoms bank.now.terms atoms.now) literal) }
+    ensures literal { IfOk result (λ l. l ≡ literal_at (atoms_at bank.now.terms atoms.now) literal) }
     ensures small { IfOk result (λ l. IsSmallTerm l.atom) }
 {
     let lit = lit_of(bank, atoms, literal)?;
@@ -81,11 +81,11 @@ pub(crate) fn lits_of(
 ) -> Result<Lits, AllocError>
     requires atoms { All (IsAtom bank.now) atoms.now }
     requires within { IsOver (length atoms.now) branch.now }
-    requires made { IsMade (the_atoms bank.now.terms atoms.now) pool.old }
+    requires made { IsMadePool (atoms_at bank.now.terms atoms.now) pool.old }
     requires small { AreSmallLiterals pool.old.lits }
-    ensures made { OnOk result (IsMade (the_atoms bank.now.terms atoms.now) pool.new) }
+    ensures made { OnOk result (IsMadePool (atoms_at bank.now.terms atoms.now) pool.new) }
     ensures small { OnOk result (AreSmallLiterals pool.new.lits) }
-    ensures literals { IfOk result (λ ls. ls ≡ literals_of (the_atoms bank.now.terms atoms.now) branch.now) }
+    ensures literals { IfOk result (λ ls. ls ≡ literals_of (atoms_at bank.now.terms atoms.now) branch.now) }
     ensures small_literals { IfOk result (λ ls. AreSmallLiterals ls) }
 {
     let mut lits = Lits::new(alloc);

@@ -12,9 +12,9 @@ ghost use Rattle.witness_names.specs.Rows.{rows_of, AreRows};
 ghost use Rattle.literal_map.specs.Atoms.{IsAtom};
 ghost use Rattle.rebuild_spec.specs.Input.{literals_of};
 ghost use Rattle.rebuild_spec.specs.NeededRows.{rows_for, rows_for_all, rows_for_rule, rows_up_to, rows_up_to_principal};
-ghost use Rattle.rebuild_spec.specs.Stands.{placed, place_in};
+ghost use Rattle.rebuild_spec.specs.Stands.{rule_at_places, place_in};
 ghost use Rattle.tableau_rules.specs.Uses.{use_of};
-ghost use Rattle.tableau_rebuild.specs.Tables.{no_literal, the_atoms, the_instance};
+ghost use Rattle.tableau_rebuild.specs.Tables.{no_literal, atoms_at, the_instance};
 ghost use Rattle.tableau_rebuild.specs.Internal.LineParts.{first_in, instance_by, IsGoodUse, IsLineBy};
 ghost use Rattle.tableau_rebuild.specs.Internal.Needed.{is_quantifier, HasParts};
 
@@ -42,7 +42,7 @@ fn rows_for_term(bank: &Bank, id: Id) -> usize
 fn rows_for_literal(bank: &Bank, atoms: &LitTable, literal: SatLit) -> usize
     requires atoms { All (IsAtom bank.now) atoms.now }
     requires within { literal.var.0 < length atoms.now }
-    ensures { result ≡ rows_for (literal_at (the_atoms bank.now.terms atoms.now) literal).atom }
+    ensures { result ≡ rows_for (literal_at (atoms_at bank.now.terms atoms.now) literal).atom }
 {
     rows_for_term(bank, atoms.formula_of(literal))
 }
@@ -51,7 +51,7 @@ fn rows_for_literal(bank: &Bank, atoms: &LitTable, literal: SatLit) -> usize
 fn rows_for_branch(bank: &Bank, atoms: &LitTable, branch: &[SatLit]) -> usize
     requires atoms { All (IsAtom bank.now) atoms.now }
     requires numbered { IsOver (length atoms.now) branch.now }
-    ensures { result ≡ rows_for_all (literals_of (the_atoms bank.now.terms atoms.now) branch.now) }
+    ensures { result ≡ rows_for_all (literals_of (atoms_at bank.now.terms atoms.now) branch.now) }
 {
     let mut rows: usize = 0;
     for i in 0..branch.len() {
@@ -124,7 +124,7 @@ fn rows_up_to_principal(
     requires atoms { All (IsAtom bank.now) atoms.now }
     requires numbered { IsOver (length atoms.now) branch.now }
     requires rows { AreRows bank.now witnesses.now }
-    ensures { result ≡ rows_up_to_principal (rows_of bank.now.terms witnesses.now) (slice_get (literals_of (the_atoms bank.now.terms atoms.now) branch.now) place) }
+    ensures { result ≡ rows_up_to_principal (rows_of bank.now.terms witnesses.now) (slice_get (literals_of (atoms_at bank.now.terms atoms.now) branch.now) place) }
 {
     if place < branch.len() {
         rows_up_to(bank, witnesses, atoms.formula_of(branch[place]))
@@ -150,7 +150,7 @@ fn rows_for_cut(bank: &Bank, atoms: &LitTable, literal: Option<SatLit>) -> usize
     requires atoms { All (IsAtom bank.now) atoms.now }
     requires some { IsSome literal }
     requires within { IfSome literal (λ l. l.var.0 < length atoms.now) }
-    ensures { result ≡ rows_for (literal_at (the_atoms bank.now.terms atoms.now) (unwrap_or literal no_literal)).atom }
+    ensures { result ≡ rows_for (literal_at (atoms_at bank.now.terms atoms.now) (unwrap_or literal no_literal)).atom }
 {
     match literal {
         Some(literal) => rows_for_literal(bank, atoms, literal),
@@ -171,7 +171,7 @@ fn rows_for_use(
     requires numbered { IsOver (length atoms.now) branch.now }
     requires rows { AreRows bank.now witnesses.now }
     requires good { IsGoodUse bank.now atoms.now by.now }
-    ensures { (use' : RuleUse) (places : List ℕ) → use_of bank.now.terms atoms.now by.now ≡ Some use' → first_in places ≡ place → result ≡ rows_for_rule (rows_of bank.now.terms witnesses.now) (literals_of (the_atoms bank.now.terms atoms.now) branch.now) (placed use' places) }
+    ensures { (use' : RuleUse) (places : List ℕ) → use_of bank.now.terms atoms.now by.now ≡ Some use' → first_in places ≡ place → result ≡ rows_for_rule (rows_of bank.now.terms witnesses.now) (literals_of (atoms_at bank.now.terms atoms.now) branch.now) (rule_at_places use' places) }
 {
     match by.kind {
         RuleKind::False => 0,
@@ -217,7 +217,7 @@ fn rows_for_instance(
     requires numbered { IsOver (length atoms.now) branch.now }
     requires rows { AreRows bank.now witnesses.now }
     requires good { IsGoodUse bank.now atoms.now instance.now.by }
-    ensures { result ≡ rows_for_rule (rows_of bank.now.terms witnesses.now) (literals_of (the_atoms bank.now.terms atoms.now) branch.now) (instance_by (the_atoms bank.now.terms atoms.now) branch.now (the_instance bank.now.terms atoms.now instance.now)).rule }
+    ensures { result ≡ rows_for_rule (rows_of bank.now.terms witnesses.now) (literals_of (atoms_at bank.now.terms atoms.now) branch.now) (instance_by (atoms_at bank.now.terms atoms.now) branch.now (the_instance bank.now.terms atoms.now instance.now)).rule }
 {
     let place = first_place(branch, &instance.principals);
     rows_for_use(bank, atoms, witnesses, &instance.by, branch, place)

@@ -4,8 +4,8 @@ ghost use Rattle.stt_core.specs.Lambda.{Lambda};
 ghost use Rattle.search_spec.specs.Numbered.{literal_at};
 ghost use Rattle.literal_map.specs.Atoms.{IsAtom};
 ghost use Rattle.refute_print.specs.Sizes.{IsSmallTerm, AreSmallLiterals};
-ghost use Rattle.tableau_rebuild.specs.Tables.{the_atoms};
-ghost use Rattle.tableau_rebuild.specs.Internal.Pools.{IsMade};
+ghost use Rattle.tableau_rebuild.specs.Tables.{atoms_at};
+ghost use Rattle.tableau_rebuild.specs.Internal.Pools.{IsMadePool};
 
 use crate::literals::small_lit_of;
 use indexmap::IndexSet;
@@ -25,7 +25,7 @@ pub(crate) struct Pool {
 impl Pool {
     /// A pool without literals.
     pub(crate) fn new(alloc: Global) -> Pool
-        ensures made { (atoms : List Lambda) → IsMade atoms result }
+        ensures made { (atoms : List Lambda) → IsMadePool atoms result }
         ensures small { AreSmallLiterals result.lits }
     {
         Pool {
@@ -43,11 +43,11 @@ impl Pool {
     ) -> Result<usize, AllocError>
         requires atoms { All (IsAtom bank.now) atoms.now }
         requires within { literal.var.0 < length atoms.now }
-        requires made { IsMade (the_atoms bank.now.terms atoms.now) self.old }
+        requires made { IsMadePool (atoms_at bank.now.terms atoms.now) self.old }
         requires small { AreSmallLiterals self.old.lits }
-        ensures made { OnOk result (IsMade (the_atoms bank.now.terms atoms.now) self.new) }
+        ensures made { OnOk result (IsMadePool (atoms_at bank.now.terms atoms.now) self.new) }
         ensures small { OnOk result (AreSmallLiterals self.new.lits) }
-        ensures place { IfOk result (λ place. slice_get self.new.lits place ≡ Some (literal_at (the_atoms bank.now.terms atoms.now) literal)) }
+        ensures place { IfOk result (λ place. slice_get self.new.lits place ≡ Some (literal_at (atoms_at bank.now.terms atoms.now) literal)) }
     {
         let (place, is_new) = self.numbers.insert_full(literal)?;
         if is_new {
@@ -68,12 +68,12 @@ impl Pool {
     ) -> Result<(), AllocError>
         requires atoms { All (IsAtom bank.now) atoms.now }
         requires within { literal.var.0 < length atoms.now }
-        requires made { IsMade (the_atoms bank.now.terms atoms.now) self.old }
+        requires made { IsMadePool (atoms_at bank.now.terms atoms.now) self.old }
         requires small { AreSmallLiterals self.old.lits }
-        ensures made { OnOk result (IsMade (the_atoms bank.now.terms atoms.now) self.new) }
+        ensures made { OnOk result (IsMadePool (atoms_at bank.now.terms atoms.now) self.new) }
         ensures small { OnOk result (AreSmallLiterals self.new.lits) }
-        ensures pushed { OnOk result (lits.new ≡ lits.old ++ literal_at (the_atoms bank.now.terms atoms.now) literal ∷ []) }
-        ensures small_literal { OnOk result (IsSmallTerm (literal_at (the_atoms bank.now.terms atoms.now) literal).atom) }
+        ensures pushed { OnOk result (lits.new ≡ lits.old ++ literal_at (atoms_at bank.now.terms atoms.now) literal ∷ []) }
+        ensures small_literal { OnOk result (IsSmallTerm (literal_at (atoms_at bank.now.terms atoms.now) literal).atom) }
     {
         let place = self.place_of(bank, atoms, literal)?;
         lits.share(&self.lits, place)?;

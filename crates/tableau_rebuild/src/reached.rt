@@ -3,7 +3,7 @@ ghost use Rattle.std.specs.Prelude.{◌≡◌, ◌<◌, ◌||◌, ◌&&◌, ◌�
 ghost use Rattle.std.specs.List.Sorted.{IsStrictlyIncreasing};
 ghost use Rattle.sat_log.specs.Chains.{IsLogOver};
 ghost use Rattle.tableau_clauses.specs.Table.{the_clauses};
-ghost use Rattle.rebuild_spec.specs.Stands.{place_of};
+ghost use Rattle.rebuild_spec.specs.Stands.{premise_place};
 ghost use Rattle.rebuild_spec.specs.Trees.{Place, at_result, same_place};
 ghost use Rattle.tableau_rebuild.specs.Conditions.{EndsEmpty};
 ghost use Rattle.tableau_rebuild.specs.UsedInstances.{IsUsedInstance};
@@ -71,7 +71,7 @@ impl Reached {
     /// Sets the flag of a premise.
     fn mark(&mut self, premise: Premise)
         requires { IsThere (length self.old.clauses.items) (length self.old.results.items) premise }
-        ensures marks { (p : Place) → flagged self.new p ≡ (flagged self.old p || same_place (place_of premise) p) }
+        ensures marks { (p : Place) → flagged self.new p ≡ (flagged self.old p || same_place (premise_place premise) p) }
         ensures clauses { length self.new.clauses.items ≡ length self.old.clauses.items }
         ensures results { length self.new.results.items ≡ length self.old.results.items }
     {

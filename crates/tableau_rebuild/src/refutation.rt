@@ -15,7 +15,7 @@ ghost use Rattle.rebuild_spec.specs.NeededRows.{rows_for_lines};
 ghost use Rattle.rebuild_spec.specs.Rebuilt.{IsRebuilt};
 ghost use Rattle.rebuild_spec.specs.Trimmed.{IsEachReached, IsFromSearch};
 ghost use Rattle.rebuild_spec.specs.Used.{AreFew};
-ghost use Rattle.tableau_rebuild.specs.Tables.{the_atoms, the_input, unit_literals};
+ghost use Rattle.tableau_rebuild.specs.Tables.{atoms_at, the_input, unit_literals};
 ghost use Rattle.tableau_rebuild.specs.Conditions.{AreUnitsNumbered, IsInstanceOver, EndsEmpty};
 ghost use Rattle.tableau_rebuild.specs.Internal.Drafts.{AreDrafts};
 ghost use Rattle.tableau_rebuild.specs.Internal.Written.{the_tree, IsFounded};
@@ -52,7 +52,7 @@ fn refutation_of(
     requires right { AreDrafts drafts.now }
     requires last { last < length drafts.now }
     requires founded { IsFounded bank.now atoms.now steps.now drafts.now last }
-    ensures lines { IfOk result (λ refutation. refutation.lines ≡ lines_from (the_atoms bank.now.terms atoms.now) (the_tree bank.now.terms atoms.now steps.now drafts.now last)) }
+    ensures lines { IfOk result (λ refutation. refutation.lines ≡ lines_from (atoms_at bank.now.terms atoms.now) (the_tree bank.now.terms atoms.now steps.now drafts.now last)) }
     ensures rows { IfOk result (λ refutation. refutation.witnesses ≡ take (rows_for_lines (rows_of bank.now.terms witnesses.now) refutation.lines) (rows_of bank.now.terms witnesses.now)) }
     ensures small { IfOk result IsSmall }
 {
@@ -121,10 +121,10 @@ pub fn rebuild(
     requires log { IsLogOver (the_clauses steps.now) log.now }
     requires closed { EndsEmpty log.now }
     ensures rebuilt { IfOk result (λ refutation. IsRebuilt (the_input bank.now lits.now steps.now log.now witnesses.now) refutation) }
-    ensures accepted { IfOk result (λ refutation. IsAccepted (content_scope bank.now) (unit_literals (the_atoms bank.now.terms lits.now) steps.now.0) refutation) }
-    ensures closed { IfOk result (λ refutation. Closes (with_rows (content_scope bank.now) refutation.witnesses) refutation.witnesses (tableau_of refutation) (unit_literals (the_atoms bank.now.terms lits.now) steps.now.0)) }
+    ensures accepted { IfOk result (λ refutation. IsAccepted (content_scope bank.now) (unit_literals (atoms_at bank.now.terms lits.now) steps.now.0) refutation) }
+    ensures closed { IfOk result (λ refutation. Closes (with_rows (content_scope bank.now) refutation.witnesses) refutation.witnesses (tableau_of refutation) (unit_literals (atoms_at bank.now.terms lits.now) steps.now.0)) }
     ensures reached { IfOk result (λ refutation. IsEachReached refutation.lines) }
-    ensures from_search { IfOk result (λ refutation. (l : Line) → Contains refutation.lines l → IsFromSearch (unit_literals (the_atoms bank.now.terms lits.now) steps.now.0) (the_input bank.now lits.now steps.now log.now witnesses.now) l) }
+    ensures from_search { IfOk result (λ refutation. (l : Line) → Contains refutation.lines l → IsFromSearch (unit_literals (atoms_at bank.now.terms lits.now) steps.now.0) (the_input bank.now lits.now steps.now log.now witnesses.now) l) }
     ensures few { IfOk result (λ refutation. AreFew log.now refutation.lines) }
     ensures small { IfOk result IsSmall }
 {

@@ -3,7 +3,7 @@ ghost use Rattle.std.specs.Prelude.{◌≡◌, ◌<◌, ℕ, false, [], ◌∷�
 ghost use Rattle.rebuild_spec.specs.Lines.{walked};
 ghost use Rattle.tableau_rebuild.specs.declared.walk.Task.TheVariants.{Enter, Visit};
 ghost use Rattle.tableau_rebuild.specs.Internal.Drafts.{trees, tree_at, AreDrafts};
-ghost use Rattle.tableau_rebuild.specs.Internal.Walks.{IsUnderWay, weight};
+ghost use Rattle.tableau_rebuild.specs.Internal.Walks.{IsWalkUnderWay, weight};
 
 use crate::draft::Draft;
 use std::alloc::{AllocError, Global};
@@ -25,8 +25,8 @@ fn enter(
     tasks: &[Task],
 ) -> Result<(), AllocError>
     requires right { AreDrafts drafts.now }
-    requires way { IsUnderWay drafts.now last listed.old.items order.old.items (Enter i ∷ reverse tasks.now) }
-    ensures { OnOk result (IsUnderWay drafts.now last listed.new.items order.new.items (reverse tasks.now)) }
+    requires way { IsWalkUnderWay drafts.now last listed.old.items order.old.items (Enter i ∷ reverse tasks.now) }
+    ensures { OnOk result (IsWalkUnderWay drafts.now last listed.new.items order.new.items (reverse tasks.now)) }
 {
     if !listed[i] {
         order.push(i)?;
@@ -46,8 +46,8 @@ fn visit(
 ) -> Result<(), AllocError>
     requires right { AreDrafts drafts.now }
     requires last { last < length drafts.now }
-    requires way { IsUnderWay drafts.now last listed.now order.now (Visit i ∷ reverse tasks.old.items) }
-    ensures way { OnOk result (IsUnderWay drafts.now last listed.now order.now (reverse tasks.new.items)) }
+    requires way { IsWalkUnderWay drafts.now last listed.now order.now (Visit i ∷ reverse tasks.old.items) }
+    ensures way { OnOk result (IsWalkUnderWay drafts.now last listed.now order.now (reverse tasks.new.items)) }
     ensures less { OnOk result (weight (trees drafts.now) (reverse tasks.new.items) < weight (trees drafts.now) (Visit i ∷ reverse tasks.old.items)) }
 {
     if !listed[i] {

@@ -21,7 +21,7 @@ use Rattle.tableau_calculus.proofs.InstanceLaws.{all_pos_is, fun_pos_is, fun_neg
 use Rattle.term_bank.specs.Content.{Content, content_scope, HasTerm, Grows}
 use Rattle.term_bank.specs.Terms.{term_at}
 use Rattle.term_bank.proofs.GrowLaws.{grown_scope, grown_at, has_at, has_within}
-use Rattle.tableau_rules.specs.Internal.Drafted.{principal_at, alternatives_at, IsPrincipal, AreWithin, Drafted}
+use Rattle.tableau_rules.specs.Internal.Drafted.{principal_at, alternatives_at, IsPrincipal, AreDraftedWithin, Drafted}
 use Rattle.tableau_rules.specs.Internal.Parts.{IsQuantifiedOf}
 use Rattle.tableau_rules.specs.declared.draft.Principal.{Principal}
 use Rattle.tableau_rules.specs.declared.draft.Signed.{Signed}
@@ -31,7 +31,7 @@ use Rattle.tableau_rules.proofs.DraftLaws.{stands, yes, nay}
 pub principal_grown : (b c : Content) (p : Principal) → Grows b c → IsPrincipal b p → principal_at c p ≡ principal_at b p
 principal_grown b c p g h = ap (λ t. record { positive = p.positive; atom = t }) (grown_at b c p.atom g h.within)
 
-pub drafted_grown : (b c : Content) (rows : List Row) (p : Principal) (rule : RuleUse) (ds : List (List Signed)) → Grows b c → IsPrincipal b p → AreWithin c ds → IsInstance (content_scope b) rows (principal_at b p ∷ []) rule (alternatives_at c ds) → Drafted c rows (p ∷ []) rule (Some ds)
+pub drafted_grown : (b c : Content) (rows : List Row) (p : Principal) (rule : RuleUse) (ds : List (List Signed)) → Grows b c → IsPrincipal b p → AreDraftedWithin c ds → IsInstance (content_scope b) rows (principal_at b p ∷ []) rule (alternatives_at c ds) → Drafted c rows (p ∷ []) rule (Some ds)
 drafted_grown b c rows p rule ds g h w i =
     (w, subst₂ (λ s l. IsInstance s rows (l ∷ []) rule (alternatives_at c ds)) (sym (grown_scope b c g)) (sym (principal_grown b c p g h)) i)
 

@@ -17,14 +17,14 @@ use Rattle.tableau_calculus.proofs.ListLaws.{contains-get}
 use Rattle.term_bank.specs.Content.{Content, content_scope}
 use Rattle.term_bank.specs.Terms.{term_at}
 use Rattle.term_bank.proofs.ListLaws.{get_or-front}
-use Rattle.literal_map.specs.Atoms.{literal_at, IsAtom, Begins}
+use Rattle.literal_map.specs.Atoms.{bank_literal, IsAtom, Begins}
 use Rattle.literal_map.specs.declared.instance.BankUse.{BankUse}
 use Rattle.search_spec.specs.Each.{Each}
 use Rattle.search_spec.proofs.TypedAlternatives.{alternatives_typed}
 use Rattle.tableau_rules.specs.Uses.{rule_of, use_of, is_cut, principals_of, IsInstanceBy}
 use Rattle.tableau_rules.specs.Changes.{Widens}
-use Rattle.tableau_rules.specs.Internal.Drafted.{signed_at, alternatives_at, IsWithin, AreWithin}
-use Rattle.tableau_rules.specs.Internal.Numbered.{AreFormulas, AllFormulas, AreNumbered, AllNumbered}
+use Rattle.tableau_rules.specs.Internal.Drafted.{signed_at, alternatives_at, IsDraftedWithin, AreDraftedWithin}
+use Rattle.tableau_rules.specs.Internal.Numbered.{AreFormulasIn, AllFormulas, AreNumberedLiterals, AllNumbered}
 use Rattle.tableau_rules.specs.Internal.Made.{AreDraftsOf}
 use Rattle.tableau_rules.specs.declared.draft.Signed.{Signed}
 use Rattle.tableau_rules.proofs.WideLaws.{wide_at, wide_instance}
@@ -43,11 +43,11 @@ signed_typed b s h = literal_typed (content_scope b) (term_at b.terms s.formula)
     go true h = h
     go false h = record { formula = h.formula; unsigned = h.unsigned }
 
-are_formulas : (b : Content) (d : List Signed) → IsWithin b d → IsBranch (content_scope b) (map (signed_at b) d) → AreFormulas b d
+are_formulas : (b : Content) (d : List Signed) → IsDraftedWithin b d → IsBranch (content_scope b) (map (signed_at b) d) → AreFormulasIn b d
 are_formulas b [] w h = tt
 are_formulas b (s ∷ d) w h = (record { within = w.0; typed = signed_typed b s h.0 }, are_formulas b d w.1 h.1)
 
-all_formulas : (b : Content) (ds : List (List Signed)) → AreWithin b ds → Each (IsBranch (content_scope b)) (alternatives_at b ds) → AllFormulas b ds
+all_formulas : (b : Content) (ds : List (List Signed)) → AreDraftedWithin b ds → Each (IsBranch (content_scope b)) (alternatives_at b ds) → AllFormulas b ds
 all_formulas b [] w h = tt
 all_formulas b (d ∷ ds) w h = (are_formulas b d w.0 h.0, all_formulas b ds w.1 h.1)
 
@@ -74,7 +74,7 @@ principals_within n by f g = go (is_cut by.kind)
     go true = tt
     go false = each_append (λ (l : SatLit). l.var.0 < n) (option_to_list by.first) (option_to_list by.second) (listed_each n by.first f) (listed_each n by.second g)
 
-branch_typed : (b : Content) (atoms : List ℕ) → All (IsAtom b) atoms → (ls : List SatLit) → Each (λ (l : SatLit). l.var.0 < length atoms) ls → IsBranch (content_scope b) (map (literal_at b.terms atoms) ls)
+branch_typed : (b : Content) (atoms : List ℕ) → All (IsAtom b) atoms → (ls : List SatLit) → Each (λ (l : SatLit). l.var.0 < length atoms) ls → IsBranch (content_scope b) (map (bank_literal b.terms atoms) ls)
 branch_typed b atoms are [] h = tt
 branch_typed b atoms are (l ∷ ls) h =
     let a = are l.var.0 0 h.0 in
@@ -86,11 +86,11 @@ formulas_of b atoms by ds over are f g h =
     let typed = branch_typed b atoms are (principals_of by) (principals_within (length atoms) by f g) in
     all_formulas b ds h.within
     (alternatives_typed (content_scope b) over h.rows h.types h.instance.rule i.principals (alternatives_at b ds) i.fits
-    (at_typed (content_scope b) (map (literal_at b.terms atoms) (principals_of by)) (places h.instance.rule) i.principals typed i.at_places))
+    (at_typed (content_scope b) (map (bank_literal b.terms atoms) (principals_of by)) (places h.instance.rule) i.principals typed i.at_places))
 
 -- NUMBERS
 
-numbers_of : (b : Content) (atoms : List ℕ) (d : List Signed) (ls : List SatLit) → AreNumbered b atoms d ls → Each (λ (l : SatLit). l.var.0 < length atoms) ls
+numbers_of : (b : Content) (atoms : List ℕ) (d : List Signed) (ls : List SatLit) → AreNumberedLiterals b atoms d ls → Each (λ (l : SatLit). l.var.0 < length atoms) ls
 numbers_of b atoms [] [] h = tt
 numbers_of b atoms [] (l ∷ ls) h = absurd h
 numbers_of b atoms (s ∷ d) [] h = absurd h
@@ -102,13 +102,13 @@ all_numbers b atoms [] (l ∷ ls) h = absurd h
 all_numbers b atoms (s ∷ d) [] h = absurd h
 all_numbers b atoms (s ∷ d) (l ∷ ls) h = (numbers_of b atoms s l h.0, all_numbers b atoms d ls h.1)
 
-literals_of : (b : Content) (atoms : List ℕ) (d : List Signed) (ls : List SatLit) → AreNumbered b atoms d ls → map (literal_at b.terms atoms) ls ≡ map (signed_at b) d
+literals_of : (b : Content) (atoms : List ℕ) (d : List Signed) (ls : List SatLit) → AreNumberedLiterals b atoms d ls → map (bank_literal b.terms atoms) ls ≡ map (signed_at b) d
 literals_of b atoms [] [] h = refl
 literals_of b atoms [] (l ∷ ls) h = absurd h
 literals_of b atoms (s ∷ d) [] h = absurd h
 literals_of b atoms (s ∷ d) (l ∷ ls) h = ap₂ (λ x xs. x ∷ xs) h.0.is (literals_of b atoms d ls h.1)
 
-pub all_literals : (b : Content) (atoms : List ℕ) (ds : List (List Signed)) (lists : List (List SatLit)) → AllNumbered b atoms ds lists → map (map (literal_at b.terms atoms)) lists ≡ alternatives_at b ds
+pub all_literals : (b : Content) (atoms : List ℕ) (ds : List (List Signed)) (lists : List (List SatLit)) → AllNumbered b atoms ds lists → map (map (bank_literal b.terms atoms)) lists ≡ alternatives_at b ds
 all_literals b atoms [] [] h = refl
 all_literals b atoms [] (l ∷ ls) h = absurd h
 all_literals b atoms (s ∷ d) [] h = absurd h
@@ -123,22 +123,22 @@ taken_back xs ys zs n e g h = h ∙ ap₂ take e g.is ∙ take_front xs g.furthe
 
 -- THE SAME INSTANCE OVER ANOTHER BANK AND MORE ATOMS
 
-module _ (b c : Content) (atoms more : List ℕ) (by : BankUse) (same : (l : SatLit) → l.var.0 < length atoms → literal_at c.terms more l ≡ literal_at b.terms atoms l) (first : ForSome by.first (λ l. l.var.0 < length atoms)) (second : ForSome by.second (λ l. l.var.0 < length atoms)) where
-  option_same : (o : Option SatLit) → ForSome o (λ l. l.var.0 < length atoms) → option_map (literal_at c.terms more) o ≡ option_map (literal_at b.terms atoms) o
+module _ (b c : Content) (atoms more : List ℕ) (by : BankUse) (same : (l : SatLit) → l.var.0 < length atoms → bank_literal c.terms more l ≡ bank_literal b.terms atoms l) (first : ForSome by.first (λ l. l.var.0 < length atoms)) (second : ForSome by.second (λ l. l.var.0 < length atoms)) where
+  option_same : (o : Option SatLit) → ForSome o (λ l. l.var.0 < length atoms) → option_map (bank_literal c.terms more) o ≡ option_map (bank_literal b.terms atoms) o
   option_same None h = refl
   option_same (Some l) h = ap Some (same l (h l refl))
 
-  list_same : (ls : List SatLit) → Each (λ (l : SatLit). l.var.0 < length atoms) ls → map (literal_at c.terms more) ls ≡ map (literal_at b.terms atoms) ls
+  list_same : (ls : List SatLit) → Each (λ (l : SatLit). l.var.0 < length atoms) ls → map (bank_literal c.terms more) ls ≡ map (bank_literal b.terms atoms) ls
   list_same [] h = refl
   list_same (l ∷ ls) h = ap₂ (λ x xs. x ∷ xs) (same l h.0) (list_same ls h.1)
 
   use_same : option_map (term_at c.terms) by.term ≡ option_map (term_at b.terms) by.term → use_of c.terms more by ≡ use_of b.terms atoms by
   use_same t = λ i. rule_of by.kind (option_same by.first first i) (option_same by.second second i) (t i)
 
-  principals_same : map (literal_at c.terms more) (principals_of by) ≡ map (literal_at b.terms atoms) (principals_of by)
+  principals_same : map (bank_literal c.terms more) (principals_of by) ≡ map (bank_literal b.terms atoms) (principals_of by)
   principals_same = list_same (principals_of by) (principals_within (length atoms) by first second)
 
-  pub instance_moved : option_map (term_at c.terms) by.term ≡ option_map (term_at b.terms) by.term → (rows : List Row) (as' : List (List Literal)) → ((rule : RuleUse) → IsInstance (content_scope b) rows (map (literal_at b.terms atoms) (principals_of by)) rule as' → IsInstance (content_scope c) rows (map (literal_at b.terms atoms) (principals_of by)) rule as') → IsInstanceBy b atoms rows by as' → IsInstanceBy c more rows by as'
+  pub instance_moved : option_map (term_at c.terms) by.term ≡ option_map (term_at b.terms) by.term → (rows : List Row) (as' : List (List Literal)) → ((rule : RuleUse) → IsInstance (content_scope b) rows (map (bank_literal b.terms atoms) (principals_of by)) rule as' → IsInstance (content_scope c) rows (map (bank_literal b.terms atoms) (principals_of by)) rule as') → IsInstanceBy b atoms rows by as' → IsInstanceBy c more rows by as'
   instance_moved t rows as' scope h = record {
     rule = h.rule;
     is_rule = use_same t ∙ h.is_rule;
@@ -161,4 +161,4 @@ pub instance_wider : (b c : Content) (atoms : List ℕ) (by : BankUse) → Widen
 instance_wider b c atoms by w are first second term rows as' h =
     instance_moved b c atoms atoms by
     (λ l k. ap (λ t. record { positive = l.positive; atom = t }) (wide_at b c w (get_or atoms l.var.0 0) (are l.var.0 0 k).within))
-    first second (term_same b c w by.term term) rows as' (λ rule i. wide_instance b c w rows (map (literal_at b.terms atoms) (principals_of by)) rule as' i) h
+    first second (term_same b c w by.term term) rows as' (λ rule i. wide_instance b c w rows (map (bank_literal b.terms atoms) (principals_of by)) rule as' i) h

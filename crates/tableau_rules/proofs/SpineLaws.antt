@@ -23,7 +23,7 @@ use Rattle.term_bank.specs.Content.{Content, content_scope, HasTerm, Grows}
 use Rattle.term_bank.specs.Terms.{term_at}
 use Rattle.term_bank.proofs.GrowLaws.{grows_on, has_at, has_within}
 use Rattle.tableau_rules.specs.Internal.Compared.{AreNotCompared, HaveArguments, TakesBoth, DiffersAt, DifferEach, IsComparison}
-use Rattle.tableau_rules.specs.Internal.Drafted.{signed_at, alternatives_at, AreWithin, IsDifference}
+use Rattle.tableau_rules.specs.Internal.Drafted.{signed_at, alternatives_at, AreDraftedWithin, IsDifference}
 use Rattle.tableau_rules.specs.Internal.Parts.{IsSpineOf}
 use Rattle.tableau_rules.specs.Internal.Typed.{AreSides}
 use Rattle.tableau_rules.specs.declared.draft.Signed.{Signed}
@@ -179,14 +179,14 @@ difference_is b d a s t x h =
     ∙ ap (λ u. opposite (as_literal u)) (has_at d x.formula (eq a (term_at b.terms s) (term_at b.terms t)) h.has)
 
 module _ (b d : Content) where
-  each_within : (a : SimpleType) (ss ts : List ℕ) (ds : List (List Signed)) → TakesBoth b a ss ts → DifferEach b d ss ts ds → AreWithin d ds
-  each_within (base n) [] [] ds h k = subst (AreWithin d) (sym k) tt
+  each_within : (a : SimpleType) (ss ts : List ℕ) (ds : List (List Signed)) → TakesBoth b a ss ts → DifferEach b d ss ts ds → AreDraftedWithin d ds
+  each_within (base n) [] [] ds h k = subst (AreDraftedWithin d) (sym k) tt
   each_within (base n) [] (t ∷ ts) ds h k = absurd h
   each_within (base n) (s ∷ ss) ts ds h k = absurd h
   each_within (arrow c a) [] ts ds h k = absurd h
   each_within (arrow c a) (s ∷ ss) [] ds h k = absurd h
   each_within (arrow c a) (s ∷ ss) (t ∷ ts) ds h k =
-      subst (AreWithin d) (sym k.2)
+      subst (AreDraftedWithin d) (sym k.2)
       ((has_within d k.0.formula (eq c (term_at b.terms s) (term_at b.terms t)) (k.3 c h.0).has, tt), each_within a ss ts k.1 h.1 k.4)
 
   each_is : (a : SimpleType) (ss ts : List ℕ) (ds : List (List Signed)) → TakesBoth b a ss ts → DifferEach b d ss ts ds → alternatives_at d ds ≡ differ_each a (map (term_at b.terms) ss) (map (term_at b.terms) ts)

@@ -17,7 +17,7 @@ use Rattle.term_bank.specs.Terms.{term_at}
 use Rattle.term_bank.proofs.ListLaws.{get_or-front}
 use Rattle.stt_core.specs.Lift.{lift_by}
 use Rattle.normal_forms.specs.Normal.{replace, apply, eta}
-use Rattle.bank_normal.specs.Right.{IsRight, term_ways}
+use Rattle.bank_normal.specs.Right.{IsRightNormaliser, term_ways}
 use Rattle.bank_normal.specs.declared.normaliser.Normaliser.{Normaliser}
 use Rattle.literal_map.specs.Atoms.{IsAtom}
 use Rattle.search_spec.proofs.WiderLaws.{canonical_wider, neutral_wider}
@@ -124,7 +124,7 @@ module _ (b c : Content) (w : Widens b c) where
   wide_atoms atoms h = All-weaker (IsAtom b) (IsAtom c) wide_atom atoms h
 
 -- a memo that is right over a bank is right over one with the same constants and terms
-pub right_by : (n : Normaliser) (b c : Content) → c.consts ≡ b.consts → c.terms ≡ b.terms → IsRight n b → IsRight n c
+pub right_by : (n : Normaliser) (b c : Content) → c.consts ≡ b.consts → c.terms ≡ b.terms → IsRightNormaliser n b → IsRightNormaliser n c
 right_by n b c d e h = record {
   lifted = λ k i.
       let x = h.lifted k i in

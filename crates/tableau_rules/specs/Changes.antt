@@ -6,7 +6,7 @@ use Rattle.stt_core.specs.Lambda.{Lambda, every}
 use Rattle.tableau_calculus.specs.Literals.{minus}
 use Rattle.term_bank.specs.Content.{Content}
 use Rattle.term_bank.specs.Terms.{term_at}
-use Rattle.literal_map.specs.Atoms.{literal_at}
+use Rattle.literal_map.specs.Atoms.{bank_literal}
 use Rattle.literal_map.specs.declared.instance.BankUse.{BankUse}
 use Rattle.literal_map.specs.declared.instance.RuleKind.{RuleKind}
 use Rattle.literal_map.specs.declared.instance.RuleKind.TheVariants.{AllNeg}
@@ -30,7 +30,7 @@ pub record HasWitness (b : Content) (atoms : List ℕ) (principal : Option SatLi
   pub type : SimpleType
   pub predicate : ℕ
   pub within : predicate < length b.terms
-  pub denies : literal_at b.terms atoms literal ≡ minus (every type (term_at b.terms predicate))
+  pub denies : bank_literal b.terms atoms literal ≡ minus (every type (term_at b.terms predicate))
   pub added : new ≡ with_predicate old predicate
 
 -- the witnesses after a rule: those before, and for a predicate that doesn't hold everywhere its own

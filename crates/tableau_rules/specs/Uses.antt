@@ -9,7 +9,7 @@ use Rattle.tableau_calculus.specs.declared.refutation.RuleUse.{RuleUse}
 use Rattle.tableau_calculus.specs.declared.refutation.RuleUse.TheVariants.{False, Close, Refl, ImpPos, ImpNeg, BoolPos, BoolNeg, FunPos, FunNeg, AllPos, AllNeg, Mat, Dec, Con, Cho, Des, Cut}
 use Rattle.term_bank.specs.Content.{Content, content_scope}
 use Rattle.term_bank.specs.Terms.{term_at}
-use Rattle.literal_map.specs.Atoms.{literal_at}
+use Rattle.literal_map.specs.Atoms.{bank_literal}
 use Rattle.literal_map.specs.declared.instance.BankUse.{BankUse}
 use Rattle.literal_map.specs.declared.instance.RuleKind.{RuleKind}
 use Rattle.literal_map.specs.declared.instance.RuleKind.TheVariants as kind
@@ -39,7 +39,7 @@ rule_of rule first second term = None
 -- the rule with what it takes, over a bank and the places of the atoms in it
 abbrev pub use_of : List Lambda → List ℕ → BankUse → Option RuleUse
 use_of terms atoms by =
-    rule_of by.kind (option_map (literal_at terms atoms) by.first) (option_map (literal_at terms atoms) by.second) (option_map (term_at terms) by.term)
+    rule_of by.kind (option_map (bank_literal terms atoms) by.first) (option_map (bank_literal terms atoms) by.second) (option_map (term_at terms) by.term)
 
 -- a cut has no principals: what it takes first is the literal that it cuts with
 abbrev pub is_cut : RuleKind → Bool
@@ -54,4 +54,4 @@ principals_of by = if is_cut by.kind then [] else option_to_list by.first ++ opt
 pub record IsInstanceBy (b : Content) (atoms : List ℕ) (rows : List Row) (by : BankUse) (alternatives : List (List Literal)) : Type 0 where
   pub rule : RuleUse
   pub is_rule : use_of b.terms atoms by ≡ Some rule
-  pub is_instance : IsInstance (content_scope b) rows (map (literal_at b.terms atoms) (principals_of by)) rule alternatives
+  pub is_instance : IsInstance (content_scope b) rows (map (bank_literal b.terms atoms) (principals_of by)) rule alternatives

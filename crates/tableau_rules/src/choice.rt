@@ -9,7 +9,7 @@ ghost use Rattle.tableau_calculus.specs.Witnesses.{Row};
 ghost use Rattle.tableau_calculus.specs.declared.refutation.RuleUse.TheVariants.{Cho, Des};
 ghost use Rattle.term_bank.specs.Content.{content_scope, Grows, HasTerm};
 ghost use Rattle.term_bank.specs.Terms.{term_at};
-ghost use Rattle.bank_normal.specs.Right.{IsRight};
+ghost use Rattle.bank_normal.specs.Right.{IsRightNormaliser};
 ghost use Rattle.tableau_rules.specs.Internal.Drafted.{Drafted};
 ghost use Rattle.tableau_rules.specs.Internal.Typed.{IsPredicate, IsPredicateType, IsOperator};
 
@@ -50,10 +50,10 @@ fn holds_of_picked(
 ) -> Result<Id, AllocError>
     requires operator { IsOperator (the_type ty.now) (the_head operator.now) }
     requires predicate { IsPredicate bank.old (the_type ty.now) f }
-    requires right { IsRight normal.old bank.old }
+    requires right { IsRightNormaliser normal.old bank.old }
     ensures term { IfOk result (λ id. HasTerm bank.new id (apply (term_at bank.old.terms f) (eta (the_type ty.now) (app (the_head operator.now) (term_at bank.old.terms f))))) }
     ensures grows { Grows bank.old bank.new }
-    ensures right { IsRight normal.new bank.new }
+    ensures right { IsRightNormaliser normal.new bank.new }
 {
     match bank.head_type(&Context::Empty, operator)? {
         Some(operator_type) => {
@@ -72,10 +72,10 @@ pub(crate) fn cho_drafts(
     f: Id,
 ) -> Result<Option<Drafts>, AllocError>
     requires term { f < length bank.old.terms }
-    requires right { IsRight normal.old bank.old }
+    requires right { IsRightNormaliser normal.old bank.old }
     ensures drafted { IfOk result (λ o. (rows : List Row) → Drafted bank.new rows [] (Cho (term_at bank.old.terms f)) o) }
     ensures grows { Grows bank.old bank.new }
-    ensures right { IsRight normal.new bank.new }
+    ensures right { IsRightNormaliser normal.new bank.new }
 {
     match predicate_type(alloc, &*bank, f)? {
         Some(ty) => {
@@ -96,10 +96,10 @@ fn at_outer_variable(
     f: Id,
 ) -> Result<Id, AllocError>
     requires predicate { IsPredicate bank.old (the_type ty.now) f }
-    requires right { IsRight normal.old bank.old }
+    requires right { IsRightNormaliser normal.old bank.old }
     ensures term { IfOk result (λ id. HasTerm bank.new id (at_outer (the_type ty.now) (term_at bank.old.terms f))) }
     ensures grows { Grows bank.old bank.new }
-    ensures right { IsRight normal.new bank.new }
+    ensures right { IsRightNormaliser normal.new bank.new }
 {
     let variable = normal.eta(bank, &Head::Bound(1), ty)?;
     Ok(normal.instantiate(bank, f, variable)?)
@@ -113,10 +113,10 @@ fn same_variables(
     ty: &Ty,
 ) -> Result<Id, AllocError>
     requires declared { is_declared (content_scope bank.old).bases (the_type ty.now) ≡ true }
-    requires right { IsRight normal.old bank.old }
+    requires right { IsRightNormaliser normal.old bank.old }
     ensures term { IfOk result (λ id. HasTerm bank.new id (eq (the_type ty.now) (eta (the_type ty.now) (bound 1)) (eta (the_type ty.now) (bound 0)))) }
     ensures grows { Grows bank.old bank.new }
-    ensures right { IsRight normal.new bank.new }
+    ensures right { IsRightNormaliser normal.new bank.new }
 {
     let head = Head::Eq(ty.try_clone(alloc)?);
     let outer = normal.eta(bank, &Head::Bound(1), ty)?;
@@ -133,10 +133,10 @@ fn both_same(
     f: Id,
 ) -> Result<Id, AllocError>
     requires predicate { IsPredicate bank.old (the_type ty.now) f }
-    requires right { IsRight normal.old bank.old }
+    requires right { IsRightNormaliser normal.old bank.old }
     ensures term { IfOk result (λ id. HasTerm bank.new id (imp (at_outer (the_type ty.now) (term_at bank.old.terms f)) (imp (at_inner (the_type ty.now) (term_at bank.old.terms f)) (eq (the_type ty.now) (eta (the_type ty.now) (bound 1)) (eta (the_type ty.now) (bound 0)))))) }
     ensures grows { Grows bank.old bank.new }
-    ensures right { IsRight normal.new bank.new }
+    ensures right { IsRightNormaliser normal.new bank.new }
 {
     let outer = at_outer_variable(bank, normal, ty, f)?;
     let inner = at_new_variable(bank, normal, ty, f)?;
@@ -154,10 +154,10 @@ fn at_most_once_of(
     f: Id,
 ) -> Result<Id, AllocError>
     requires predicate { IsPredicate bank.old (the_type ty.now) f }
-    requires right { IsRight normal.old bank.old }
+    requires right { IsRightNormaliser normal.old bank.old }
     ensures term { IfOk result (λ id. HasTerm bank.new id (at_most_once (the_type ty.now) (term_at bank.old.terms f))) }
     ensures grows { Grows bank.old bank.new }
-    ensures right { IsRight normal.new bank.new }
+    ensures right { IsRightNormaliser normal.new bank.new }
 {
     let both = both_same(alloc, bank, normal, ty, f)?;
     let of_inner = everywhere(alloc, bank, ty, both)?;
@@ -171,10 +171,10 @@ pub(crate) fn des_drafts(
     f: Id,
 ) -> Result<Option<Drafts>, AllocError>
     requires term { f < length bank.old.terms }
-    requires right { IsRight normal.old bank.old }
+    requires right { IsRightNormaliser normal.old bank.old }
     ensures drafted { IfOk result (λ o. (rows : List Row) → Drafted bank.new rows [] (Des (term_at bank.old.terms f)) o) }
     ensures grows { Grows bank.old bank.new }
-    ensures right { IsRight normal.new bank.new }
+    ensures right { IsRightNormaliser normal.new bank.new }
 {
     match predicate_type(alloc, &*bank, f)? {
         Some(ty) => {

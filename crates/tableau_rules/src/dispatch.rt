@@ -3,7 +3,7 @@ ghost use Rattle.std.specs.Prelude.{◌≡◌, ◌<◌, ◌-◌, ◌^◌, ℕ, L
 ghost use Rattle.std.specs.Option.{ForSome};
 ghost use Rattle.tableau_calculus.specs.Witnesses.{Row};
 ghost use Rattle.term_bank.specs.Content.{Grows};
-ghost use Rattle.bank_normal.specs.Right.{IsRight};
+ghost use Rattle.bank_normal.specs.Right.{IsRightNormaliser};
 ghost use Rattle.literal_map.specs.Atoms.{IsAtom};
 ghost use Rattle.literal_map.specs.declared.instance.RuleKind.TheVariants.{AllNeg};
 ghost use Rattle.witness_names.specs.Rows.{rows_of, AreRows};
@@ -40,10 +40,10 @@ fn by_one(
     requires kind { kind ≡ AllNeg → ⊥ }
     requires number { lit.var.0 < length lits.now }
     requires atoms { All (IsAtom bank.old) lits.now }
-    requires right { IsRight normal.old bank.old }
+    requires right { IsRightNormaliser normal.old bank.old }
     ensures drafted { IfOk result (λ o. (rows : List Row) → DraftedBy bank.new lits.now rows (record { kind = kind; first = Some lit; second = None; term = None }) o) }
     ensures grows { Grows bank.old bank.new }
-    ensures right { IsRight normal.new bank.new }
+    ensures right { IsRightNormaliser normal.new bank.new }
 {
     let p = principal_of(&*bank, lits, lit);
     match kind {
@@ -98,10 +98,10 @@ fn by_one_and_term(
     requires number { lit.var.0 < length lits.now }
     requires term { term < length bank.old.terms }
     requires atoms { All (IsAtom bank.old) lits.now }
-    requires right { IsRight normal.old bank.old }
+    requires right { IsRightNormaliser normal.old bank.old }
     ensures drafted { IfOk result (λ o. (rows : List Row) → DraftedBy bank.new lits.now rows (record { kind = kind; first = Some lit; second = None; term = Some term }) o) }
     ensures grows { Grows bank.old bank.new }
-    ensures right { IsRight normal.new bank.new }
+    ensures right { IsRightNormaliser normal.new bank.new }
 {
     match kind {
         RuleKind::AllPos => {
@@ -120,10 +120,10 @@ fn by_term(
     term: Id,
 ) -> Result<Option<Drafts>, AllocError>
     requires term { term < length bank.old.terms }
-    requires right { IsRight normal.old bank.old }
+    requires right { IsRightNormaliser normal.old bank.old }
     ensures drafted { IfOk result (λ o. (atoms : List ℕ) (rows : List Row) → DraftedBy bank.new atoms rows (record { kind = kind; first = None; second = None; term = Some term }) o) }
     ensures grows { Grows bank.old bank.new }
-    ensures right { IsRight normal.new bank.new }
+    ensures right { IsRightNormaliser normal.new bank.new }
 {
     match kind {
         RuleKind::Cho => Ok(cho_drafts(alloc, bank, normal, term)?),
@@ -145,10 +145,10 @@ fn unwitnessed_drafts(
     requires second { ForSome by.now.second (λ l. l.var.0 < length lits.now) }
     requires term { ForSome by.now.term (λ id. id < length bank.old.terms) }
     requires atoms { All (IsAtom bank.old) lits.now }
-    requires right { IsRight normal.old bank.old }
+    requires right { IsRightNormaliser normal.old bank.old }
     ensures drafted { IfOk result (λ o. (rows : List Row) → DraftedBy bank.new lits.now rows by.now o) }
     ensures grows { Grows bank.old bank.new }
-    ensures right { IsRight normal.new bank.new }
+    ensures right { IsRightNormaliser normal.new bank.new }
 {
     match by.first {
         Some(first) => match by.second {
@@ -196,7 +196,7 @@ fn witnessed_drafts(
     requires kind { by.now.kind ≡ AllNeg }
     requires first { ForSome by.now.first (λ l. l.var.0 < length lits.now) }
     requires atoms { All (IsAtom bank.old) lits.now }
-    requires right { IsRight normal.old bank.old }
+    requires right { IsRightNormaliser normal.old bank.old }
     requires few { length witnesses.old < 2 ^ 32 - 1 }
     requires rows { AreRows bank.old witnesses.old }
     requires all { AreDeclaredIn bank.old witnesses.old }
@@ -204,7 +204,7 @@ fn witnessed_drafts(
     ensures witnesses { IfOk result (WitnessesWhere bank.new lits.now by.now witnesses.old witnesses.new) }
     ensures err { OnErr result ((witnesses.new ≡ witnesses.old) ⊎ AreWitnessesBy bank.new lits.now by.now witnesses.old witnesses.new) }
     ensures widens { Widens bank.old bank.new }
-    ensures right { IsRight normal.new bank.new }
+    ensures right { IsRightNormaliser normal.new bank.new }
     ensures rows { AreRows bank.new witnesses.new }
     ensures all { OnOk result (AreDeclaredIn bank.new witnesses.new) }
 {
@@ -230,7 +230,7 @@ pub(crate) fn drafts_of(
     requires second { ForSome by.now.second (λ l. l.var.0 < length lits.now) }
     requires term { ForSome by.now.term (λ id. id < length bank.old.terms) }
     requires atoms { All (IsAtom bank.old) lits.now }
-    requires right { IsRight normal.old bank.old }
+    requires right { IsRightNormaliser normal.old bank.old }
     requires few { length witnesses.old < 2 ^ 32 - 1 }
     requires rows { AreRows bank.old witnesses.old }
     requires all { AreDeclaredIn bank.old witnesses.old }
@@ -238,7 +238,7 @@ pub(crate) fn drafts_of(
     ensures witnesses { IfOk result (WitnessesWhere bank.new lits.now by.now witnesses.old witnesses.new) }
     ensures err { OnErr result ((witnesses.new ≡ witnesses.old) ⊎ AreWitnessesBy bank.new lits.now by.now witnesses.old witnesses.new) }
     ensures widens { Widens bank.old bank.new }
-    ensures right { IsRight normal.new bank.new }
+    ensures right { IsRightNormaliser normal.new bank.new }
     ensures rows { AreRows bank.new witnesses.new }
     ensures all { OnOk result (AreDeclaredIn bank.new witnesses.new) }
 {

@@ -7,7 +7,7 @@ ghost use Rattle.tableau_calculus.specs.Witnesses.{Row};
 ghost use Rattle.tableau_calculus.specs.declared.refutation.RuleUse.TheVariants.{FunPos, FunNeg};
 ghost use Rattle.term_bank.specs.Content.{Grows, HasTerm};
 ghost use Rattle.term_bank.specs.Terms.{term_at};
-ghost use Rattle.bank_normal.specs.Right.{IsRight};
+ghost use Rattle.bank_normal.specs.Right.{IsRightNormaliser};
 ghost use Rattle.tableau_rules.specs.Internal.Drafted.{IsPrincipal, Drafted};
 ghost use Rattle.tableau_rules.specs.Internal.Typed.{AreSides, IsFunction, IsOpenFormula, IsPredicate};
 ghost use Rattle.tableau_rules.specs.Internal.Functions.{AreFunctionsOf};
@@ -28,10 +28,10 @@ pub(crate) fn at_new_variable(
     f: Id,
 ) -> Result<Id, AllocError>
     requires function { IsFunction bank.old (the_type ty.now) f }
-    requires right { IsRight normal.old bank.old }
+    requires right { IsRightNormaliser normal.old bank.old }
     ensures term { IfOk result (λ id. HasTerm bank.new id (at_new (the_type ty.now) (term_at bank.old.terms f))) }
     ensures grows { Grows bank.old bank.new }
-    ensures right { IsRight normal.new bank.new }
+    ensures right { IsRightNormaliser normal.new bank.new }
 {
     let variable = normal.eta(bank, &Head::Bound(0), ty)?;
     Ok(normal.instantiate(bank, f, variable)?)
@@ -70,10 +70,10 @@ fn agreement_of(
     f: &Functions,
 ) -> Result<Id, AllocError>
     requires functions { AreSides bank.old (arrow (the_type f.now.argument) (the_type f.now.outcome)) f.now.left f.now.right }
-    requires right { IsRight normal.old bank.old }
+    requires right { IsRightNormaliser normal.old bank.old }
     ensures term { IfOk result (λ id. HasTerm bank.new id (agreement (the_type f.now.argument) (the_type f.now.outcome) (term_at bank.old.terms f.now.left) (term_at bank.old.terms f.now.right))) }
     ensures grows { Grows bank.old bank.new }
-    ensures right { IsRight normal.new bank.new }
+    ensures right { IsRightNormaliser normal.new bank.new }
 {
     let left = at_new_variable(bank, normal, &f.argument, f.left)?;
     let right = at_new_variable(bank, normal, &f.argument, f.right)?;
@@ -91,10 +91,10 @@ pub(crate) fn nowhere_of(
     f: Id,
 ) -> Result<Id, AllocError>
     requires predicate { IsPredicate bank.old (the_type ty.now) f }
-    requires right { IsRight normal.old bank.old }
+    requires right { IsRightNormaliser normal.old bank.old }
     ensures term { IfOk result (λ id. HasTerm bank.new id (nowhere (the_type ty.now) (term_at bank.old.terms f))) }
     ensures grows { Grows bank.old bank.new }
-    ensures right { IsRight normal.new bank.new }
+    ensures right { IsRightNormaliser normal.new bank.new }
 {
     let value = at_new_variable(bank, normal, ty, f)?;
     let denied = bank.intern_app(&Head::Not, &[value])?;
@@ -127,10 +127,10 @@ pub(crate) fn fun_pos_drafts(
     p: Principal,
 ) -> Result<Option<Drafts>, AllocError>
     requires principal { IsPrincipal bank.old p }
-    requires right { IsRight normal.old bank.old }
+    requires right { IsRightNormaliser normal.old bank.old }
     ensures drafted { IfOk result (λ o. (rows : List Row) → Drafted bank.new rows (p ∷ []) (FunPos 0) o) }
     ensures grows { Grows bank.old bank.new }
-    ensures right { IsRight normal.new bank.new }
+    ensures right { IsRightNormaliser normal.new bank.new }
 {
     if !p.positive {
         return Ok(None);
@@ -151,10 +151,10 @@ pub(crate) fn fun_neg_drafts(
     p: Principal,
 ) -> Result<Option<Drafts>, AllocError>
     requires principal { IsPrincipal bank.old p }
-    requires right { IsRight normal.old bank.old }
+    requires right { IsRightNormaliser normal.old bank.old }
     ensures drafted { IfOk result (λ o. (rows : List Row) → Drafted bank.new rows (p ∷ []) (FunNeg 0) o) }
     ensures grows { Grows bank.old bank.new }
-    ensures right { IsRight normal.new bank.new }
+    ensures right { IsRightNormaliser normal.new bank.new }
 {
     if p.positive {
         return Ok(None);

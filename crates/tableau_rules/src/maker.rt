@@ -3,8 +3,8 @@ ghost use Rattle.std.specs.Prelude.{◌≡◌, ◌<◌, ◌-◌, ◌^◌, ◌++�
 ghost use Rattle.std.specs.Option.{ForSome};
 ghost use Rattle.tableau_calculus.specs.Literals.{Literal};
 ghost use Rattle.tableau_calculus.specs.Witnesses.{Row};
-ghost use Rattle.bank_normal.specs.Right.{IsRight};
-ghost use Rattle.literal_map.specs.Atoms.{literal_at, IsAtom, Begins};
+ghost use Rattle.bank_normal.specs.Right.{IsRightNormaliser};
+ghost use Rattle.literal_map.specs.Atoms.{bank_literal, IsAtom, Begins};
 ghost use Rattle.witness_names.specs.Rows.{rows_of, AreRows};
 ghost use Rattle.search_spec.specs.Each.{Each};
 ghost use Rattle.tableau_rules.specs.Uses.{principals_of, IsInstanceBy};
@@ -89,7 +89,7 @@ fn instance_of(
     ensures by { IfOk result (λ i. i.by ≡ by.now) }
     ensures principals { IfOk result (λ i. i.principals ≡ principals_of by.now) }
     ensures numbers { IfOk result (λ i. Each (Each (λ l. l.var.0 < length lits.new)) i.alternatives) }
-    ensures alternatives { IfOk result (λ i. map (map (literal_at bank.now.terms lits.new)) i.alternatives ≡ alternatives_at bank.now drafts.now) }
+    ensures alternatives { IfOk result (λ i. map (map (bank_literal bank.now.terms lits.new)) i.alternatives ≡ alternatives_at bank.now drafts.now) }
     ensures begins { Begins lits.old lits.new }
     ensures atoms { All (IsAtom bank.now) lits.new }
     ensures err { OnErr result (lits.new ≡ lits.old) }
@@ -118,16 +118,16 @@ pub fn make(
     requires second { ForSome by.now.second (λ l. l.var.0 < length lits.old) }
     requires term { ForSome by.now.term (λ id. id < length bank.old.terms) }
     requires atoms { All (IsAtom bank.old) lits.old }
-    requires right { IsRight normal.old bank.old }
+    requires right { IsRightNormaliser normal.old bank.old }
     requires rows { AreRows bank.old witnesses.old }
     requires few { length witnesses.old < 2 ^ 32 - 1 }
     ensures by { IfOk result (λ i. i.by ≡ by.now) }
     ensures principals { IfOk result (λ i. i.principals ≡ principals_of by.now) }
     ensures numbers { IfOk result (λ i. Each (Each (λ l. l.var.0 < length lits.new)) i.alternatives) }
-    ensures instance { IfOk result (λ i. IsInstanceBy bank.new lits.new (rows_of bank.new.terms witnesses.new) by.now (map (map (literal_at bank.new.terms lits.new)) i.alternatives)) }
+    ensures instance { IfOk result (λ i. IsInstanceBy bank.new lits.new (rows_of bank.new.terms witnesses.new) by.now (map (map (bank_literal bank.new.terms lits.new)) i.alternatives)) }
     ensures not_this_rule { result ≡ Err NotThisRule → (rows : List Row) (alternatives : List (List Literal)) → IsInstanceBy bank.old lits.old rows by.now alternatives → ⊥ }
     ensures widens { Widens bank.old bank.new }
-    ensures right { IsRight normal.new bank.new }
+    ensures right { IsRightNormaliser normal.new bank.new }
     ensures begins { Begins lits.old lits.new }
     ensures atoms { All (IsAtom bank.new) lits.new }
     ensures rows { AreRows bank.new witnesses.new }

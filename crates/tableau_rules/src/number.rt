@@ -1,9 +1,9 @@
 //! Numbers for the formulas of drafts.
 ghost use Rattle.std.specs.Prelude.{◌≡◌, ◌<◌, length, map, IfOk, OnErr, All};
 ghost use Rattle.term_bank.specs.Terms.{term_at};
-ghost use Rattle.literal_map.specs.Atoms.{literal_at, IsAtom, Begins};
+ghost use Rattle.literal_map.specs.Atoms.{bank_literal, IsAtom, Begins};
 ghost use Rattle.tableau_rules.specs.Internal.Drafted.{principal_at, signed_at, alternatives_at, IsPrincipal};
-ghost use Rattle.tableau_rules.specs.Internal.Numbered.{IsSignedFormula, AreFormulas, AllFormulas, IsNumbered, AreNumbered, AllNumbered};
+ghost use Rattle.tableau_rules.specs.Internal.Numbered.{IsSignedFormula, AreFormulasIn, AllFormulas, IsNumbered, AreNumberedLiterals, AllNumbered};
 
 use crate::draft::{Draft, Drafts, Principal, Signed};
 use literal_map::{LitList, LitLists, LitTable};
@@ -15,7 +15,7 @@ use term_bank::Bank;
 pub(crate) fn principal_of(bank: &Bank, lits: &LitTable, lit: SatLit) -> Principal
     requires number { lit.var.0 < length lits.now }
     requires atoms { All (IsAtom bank.now) lits.now }
-    ensures is { principal_at bank.now result ≡ literal_at bank.now.terms lits.now lit }
+    ensures is { principal_at bank.now result ≡ bank_literal bank.now.terms lits.now lit }
     ensures principal { IsPrincipal bank.now result }
 {
     Principal {
@@ -45,9 +45,9 @@ fn number_draft(
     lits: &mut LitTable,
     draft: &Draft,
 ) -> Result<LitList, AllocError>
-    requires formulas { AreFormulas bank.now draft.now }
+    requires formulas { AreFormulasIn bank.now draft.now }
     requires atoms { All (IsAtom bank.now) lits.old }
-    ensures numbered { IfOk result (AreNumbered bank.now lits.new draft.now) }
+    ensures numbered { IfOk result (AreNumberedLiterals bank.now lits.new draft.now) }
     ensures begins { Begins lits.old lits.new }
     ensures atoms { All (IsAtom bank.now) lits.new }
 {

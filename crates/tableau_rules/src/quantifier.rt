@@ -6,7 +6,7 @@ ghost use Rattle.tableau_calculus.specs.Witnesses.{Row};
 ghost use Rattle.tableau_calculus.specs.declared.refutation.RuleUse.TheVariants.{AllPos};
 ghost use Rattle.term_bank.specs.Content.{content_scope, Grows};
 ghost use Rattle.term_bank.specs.Terms.{term_at};
-ghost use Rattle.bank_normal.specs.Right.{IsRight};
+ghost use Rattle.bank_normal.specs.Right.{IsRightNormaliser};
 ghost use Rattle.tableau_rules.specs.Internal.Drafted.{IsPrincipal, Drafted};
 
 use crate::draft::{Drafts, Principal, holds, one};
@@ -37,10 +37,10 @@ pub(crate) fn all_pos_drafts(
 ) -> Result<Option<Drafts>, AllocError>
     requires principal { IsPrincipal bank.old p }
     requires term { u < length bank.old.terms }
-    requires right { IsRight normal.old bank.old }
+    requires right { IsRightNormaliser normal.old bank.old }
     ensures drafted { IfOk result (λ o. (rows : List Row) → Drafted bank.new rows (p ∷ []) (AllPos 0 (term_at bank.old.terms u)) o) }
     ensures grows { Grows bank.old bank.new }
-    ensures right { IsRight normal.new bank.new }
+    ensures right { IsRightNormaliser normal.new bank.new }
 {
     if !p.positive {
         return Ok(None);

@@ -2,7 +2,7 @@
 ghost use Rattle.std.specs.Prelude.{◌≡◌, ◌<◌, ◌-◌, ◌+◌, ◌^◌, [], ◌∷◌, length, Some, slice_get, IfOk, OnOk, OnErr, ◌⊎◌};
 ghost use Rattle.stt_core.specs.View.{the_type};
 ghost use Rattle.tableau_calculus.specs.declared.refutation.RuleUse.TheVariants.{AllNeg};
-ghost use Rattle.bank_normal.specs.Right.{IsRight};
+ghost use Rattle.bank_normal.specs.Right.{IsRightNormaliser};
 ghost use Rattle.witness_names.specs.Rows.{rows_of, AreRows, with_predicate};
 ghost use Rattle.tableau_rules.specs.Changes.{Widens};
 ghost use Rattle.tableau_rules.specs.Internal.Declaring.{Declares, AreDeclaredIn, DraftedOver, WitnessedWhere, MayBeWitnessed};
@@ -87,7 +87,7 @@ pub(crate) fn all_neg_drafts(
     p: Principal,
 ) -> Result<Option<Drafts>, AllocError>
     requires principal { IsPrincipal bank.old p }
-    requires right { IsRight normal.old bank.old }
+    requires right { IsRightNormaliser normal.old bank.old }
     requires few { length witnesses.old < 2 ^ 32 - 1 }
     requires rows { AreRows bank.old witnesses.old }
     requires all { AreDeclaredIn bank.old witnesses.old }
@@ -95,7 +95,7 @@ pub(crate) fn all_neg_drafts(
     ensures witnesses { IfOk result (WitnessedWhere bank.new p witnesses.old witnesses.new) }
     ensures err { OnErr result (MayBeWitnessed bank.new p witnesses.old witnesses.new) }
     ensures widens { Widens bank.old bank.new }
-    ensures right { IsRight normal.new bank.new }
+    ensures right { IsRightNormaliser normal.new bank.new }
     ensures rows { AreRows bank.new witnesses.new }
     ensures all { OnOk result (AreDeclaredIn bank.new witnesses.new) }
 {

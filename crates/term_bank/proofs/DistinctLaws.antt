@@ -12,7 +12,7 @@ use Rattle.term_bank.specs.Shape.{Shape, abstraction, spine}
 use Rattle.term_bank.specs.Internal.ShapeLaws.{shape_decides}
 use Rattle.term_bank.specs.Terms.{term_at, shape_term, IsBelow}
 use Rattle.term_bank.specs.NodeView.{the_shape}
-use Rattle.term_bank.specs.Internal.Sound.{Entry, terms_of, AreSound}
+use Rattle.term_bank.specs.Internal.Sound.{ShapeEntry, entry_terms, AreSound}
 use Rattle.term_bank.specs.declared.node.Node.{Node}
 use Rattle.term_bank.specs.declared.node.Node.TheVariants.{Lam, App}
 use Rattle.term_bank.proofs.SoundLaws.{entry_shape, node_is}
@@ -62,14 +62,14 @@ shapes_same ts n d (spine h is) (abstraction b j) o p l m e = absurd (no_functio
 
 -- KEYS THAT DIFFER
 
-none_later : (eq : Node → Node → Bool) (x y : Node) (es : List Entry) (i : ℕ) (e : Entry) → AllByRecursion (λ y. eq x y ≡ false) (map (λ e. e.0) es) → slice_get es i ≡ Some e → eq x e.0 ≡ true → ⊥
+none_later : (eq : Node → Node → Bool) (x y : Node) (es : List ShapeEntry) (i : ℕ) (e : ShapeEntry) → AllByRecursion (λ y. eq x y ≡ false) (map (λ e. e.0) es) → slice_get es i ≡ Some e → eq x e.0 ≡ true → ⊥
 none_later eq x y [] i e all g h = cc
 none_later eq x y (d ∷ es) zero e all g h =
     let s : d ≡ e = same_Some d e g in
     true≢false (sym h ∙ ap (λ z. eq x z.0) (sym s) ∙ all.0)
 none_later eq x y (d ∷ es) (suc i) e all g h = none_later eq x y es i e all.1 g h
 
-one_place : (es : List Entry) → IsDistinct is_node (map (λ e. e.0) es) → (i j : ℕ) (e f : Entry) → slice_get es i ≡ Some e → slice_get es j ≡ Some f → entry_shape e ≡ entry_shape f → i ≡ j
+one_place : (es : List ShapeEntry) → IsDistinct is_node (map (λ e. e.0) es) → (i j : ℕ) (e f : ShapeEntry) → slice_get es i ≡ Some e → slice_get es j ≡ Some f → entry_shape e ≡ entry_shape f → i ≡ j
 unfolding IsDistinct
 one_place [] d i j e f g h s = cc
 one_place (x ∷ es) d zero zero e f g h s = refl
@@ -81,11 +81,11 @@ one_place (x ∷ es) d (suc i) zero e f g h s =
     absurd (none_later is_node x.0 x.0 es i e d.0 g ((shape_decides (entry_shape x) (entry_shape e)).1 (ap entry_shape q ∙ sym s)))
 one_place (x ∷ es) d (suc i) (suc j) e f g h s = ap suc (one_place es d.1 i j e f g h s)
 
-module _ (scope : Scope) (es : List Entry) (sound : AreSound scope es) (distinct : IsDistinct is_node (map (λ e. e.0) es)) where
-  entry_at : (k : ℕ) → k < length es → (e : Entry) × (slice_get es k ≡ Some e)
+module _ (scope : Scope) (es : List ShapeEntry) (sound : AreSound scope es) (distinct : IsDistinct is_node (map (λ e. e.0) es)) where
+  entry_at : (k : ℕ) → k < length es → (e : ShapeEntry) × (slice_get es k ≡ Some e)
   entry_at k h = go es k h
     where
-      go : (xs : List Entry) (k : ℕ) → k < length xs → (e : Entry) × (slice_get xs k ≡ Some e)
+      go : (xs : List ShapeEntry) (k : ℕ) → k < length xs → (e : ShapeEntry) × (slice_get xs k ≡ Some e)
       go [] k h = absurd (omega arith)
       go (x ∷ xs) zero h = (x, refl)
       go (x ∷ xs) (suc k) h = go xs k (omega arith)
@@ -94,17 +94,17 @@ module _ (scope : Scope) (es : List Entry) (sound : AreSound scope es) (distinct
   below_more n (abstraction a i) k l h = omega arith
   below_more n (spine h is) k l b = λ i d m. omega (arith, b i d m)
 
-  differ_below : (n : ℕ) → n ≤ length es → DifferBelow (terms_of es) n
+  differ_below : (n : ℕ) → n ≤ length es → DifferBelow (entry_terms es) n
   differ_below zero l i j a b e = absurd (omega arith)
   differ_below (suc n) l i j a b e =
       let x = entry_at i (omega arith) in
       let y = entry_at j (omega arith) in
-      let same : shape_term (terms_of es) (entry_shape x.0) ≡ shape_term (terms_of es) (entry_shape y.0) =
-      sym (node_is scope es sound (terms_of es) i x.0 refl x.1) ∙ e ∙ node_is scope es sound (terms_of es) j y.0 refl y.1 in
-      let shapes = shapes_same (terms_of es) n (differ_below n (omega arith)) (entry_shape x.0) (entry_shape y.0) (node_atom x.0.0) (node_atom y.0.0)
+      let same : shape_term (entry_terms es) (entry_shape x.0) ≡ shape_term (entry_terms es) (entry_shape y.0) =
+      sym (node_is scope es sound (entry_terms es) i x.0 refl x.1) ∙ e ∙ node_is scope es sound (entry_terms es) j y.0 refl y.1 in
+      let shapes = shapes_same (entry_terms es) n (differ_below n (omega arith)) (entry_shape x.0) (entry_shape y.0) (node_atom x.0.0) (node_atom y.0.0)
       (below_more n (entry_shape x.0) i (omega arith) (sound.below i x.0 x.1)) (below_more n (entry_shape y.0) j (omega arith) (sound.below j y.0 y.1)) same in
       one_place es distinct i j x.0 y.0 x.1 y.1 shapes
 
-  pub one_term : (ts : List Lambda) (i j : ℕ) → terms_of es ≡ ts → i < length es → j < length es → term_at ts i ≡ term_at ts j → i ≡ j
+  pub one_term : (ts : List Lambda) (i j : ℕ) → entry_terms es ≡ ts → i < length es → j < length es → term_at ts i ≡ term_at ts j → i ≡ j
   one_term ts i j same a b e =
       differ_below (length es) (omega arith) i j a b (ap (λ l. term_at l i) same ∙ e ∙ ap (λ l. term_at l j) (sym same))

@@ -6,7 +6,7 @@ use Rattle.stt_core.specs.Typing.{Scope, IsScope, AreDeclared, constant_type}
 use Rattle.stt_core.specs.Canonical.{IsFrom, IsCanonical, IsNeutral}
 use Rattle.term_bank.specs.Terms.{term_at}
 use Rattle.term_bank.specs.Internal.MarksView.{IsMarked}
-use Rattle.term_bank.specs.Internal.Sound.{Entry, terms_of, AreSound}
+use Rattle.term_bank.specs.Internal.Sound.{ShapeEntry, entry_terms, AreSound}
 use Rattle.term_bank.specs.declared.marks.Marks.{Marks}
 use Rattle.stt_core.proofs.ListLaws.{slice_get-append}
 
@@ -55,8 +55,8 @@ module _ (bases : ℕ) (names wits : List SimpleType) (more : SimpleType) where
     typed = record { ctx = h.typed.ctx; type = h.typed.type; canonical = canonical_after h.typed.ctx h.typed.type t h.typed.canonical };
   }
 
-  pub sound_more : (es : List Entry) → AreSound before es → AreSound after es
-  sound_more es h = record { below = h.below; marked = λ k e g. marked_after (term_at (terms_of es) k) e.1 (h.marked k e g) }
+  pub sound_more : (es : List ShapeEntry) → AreSound before es → AreSound after es
+  sound_more es h = record { below = h.below; marked = λ k e g. marked_after (term_at (entry_terms es) k) e.1 (h.marked k e g) }
 
   pub scope_more : IsScope before → is_declared bases more ≡ true → IsScope after
   scope_more h d = record { names_declared = h.names_declared; witnesses_declared = declared-end bases wits more h.witnesses_declared d }

@@ -5,7 +5,7 @@ use Rattle.std.proofs.lemmas.Bool.{leb-true, leb-false}
 use Rattle.std.proofs.lemmas.Option.{same_Some}
 use Rattle.stt_core.specs.Lambda.{Constant, name, witness, falsity, negation, implication, all, equality, choice, description, Lambda, bound, constant, lam, app}
 use Rattle.stt_core.specs.Occurrence.{Occurs}
-use Rattle.term_bank.specs.Internal.Marks.{greater, witness_of, greatest_witness}
+use Rattle.term_bank.specs.Internal.Marks.{greater, witness_number, greatest_witness}
 
 -- a number that is there, and another one that is no greater
 pub record UpTo (o : Option ℕ) (w : ℕ) : Type 0 where
@@ -21,8 +21,8 @@ right_up : (o p : Option ℕ) (w : ℕ) → UpTo p w → UpTo (greater o p) w
 right_up None p w h = h
 right_up (Some m) p w h = record { greatest = max m h.greatest; is = ap (greater (Some m)) h.is; at_most = omega (arith, h.at_most) }
 
-constant_up : (c : Constant) (w : ℕ) → c ≡ witness w → UpTo (witness_of c) w
-constant_up c w e = record { greatest = w; is = ap witness_of e; at_most = omega arith }
+constant_up : (c : Constant) (w : ℕ) → c ≡ witness w → UpTo (witness_number c) w
+constant_up c w e = record { greatest = w; is = ap witness_number e; at_most = omega arith }
 
 up_to : (t : Lambda) (w : ℕ) → Occurs (witness w) t → UpTo (greatest_witness t) w
 up_to (bound k) w o = absurd o
@@ -35,7 +35,7 @@ pub greatest_is : (t : Lambda) (result : Option ℕ) → result ≡ greatest_wit
 greatest_is t result e w o = let u = up_to t w o in (u.greatest, e ∙ u.is, u.at_most)
 
 -- a witness that is found occurs
-constant_found : (c : Constant) (w : ℕ) → witness_of c ≡ Some w → c ≡ witness w
+constant_found : (c : Constant) (w : ℕ) → witness_number c ≡ Some w → c ≡ witness w
 constant_found (name k) w e = cc
 constant_found (witness k) w e = ap witness (same_Some k w e)
 constant_found falsity w e = cc

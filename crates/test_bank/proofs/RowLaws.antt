@@ -11,7 +11,7 @@ use Rattle.stt_core.proofs.CanonicalTypes.{canonical-is}
 use Rattle.term_bank.specs.Content.{Content, content_scope, HasTerm, Grows}
 use Rattle.term_bank.specs.Terms.{term_at, IsTypedTerm}
 use Rattle.term_bank.proofs.GrowLaws.{grown_scope, grown_at, grown_within, has_within, has_at}
-use Rattle.test_bank.specs.Individuals.{HasNames, HasNoWitness, IsOf}
+use Rattle.test_bank.specs.Individuals.{NamesIndividuals, HasNoWitness, IsOf}
 
 -- the term that stands at the place is of its type
 pub is_of : (b : Content) (ctx : List SimpleType) (a : SimpleType) (id : ℕ) (t : Lambda) → IsCanonical (content_scope b) ctx a t → HasTerm b id t → IsOf b ctx a id
@@ -31,23 +31,23 @@ stays a b ctx ty id g o = record {
   canonical = subst (IsCanonical (content_scope b) ctx ty) (sym (grown_at a b id g o.within)) (grown_canonical a b ctx ty (term_at a.terms id) g o.canonical);
 }
 
-pub names_stay : (a b : Content) → Grows a b → HasNames a → HasNames b
+pub names_stay : (a b : Content) → Grows a b → NamesIndividuals a → NamesIndividuals b
 names_stay a b g h = ap (λ cs. map (λ c. c.type) cs) g.consts ∙ h
 
 pub witnesses_stay : (a b : Content) → Grows a b → HasNoWitness a → HasNoWitness b
 witnesses_stay a b g h = g.witnesses ∙ h
 
-pub constant-canonical : (b : Content) → HasNames b → IsCanonical (content_scope b) [] (base 1) (constant (name 0))
+pub constant-canonical : (b : Content) → NamesIndividuals b → IsCanonical (content_scope b) [] (base 1) (constant (name 0))
 constant-canonical b h = (tt, ap (λ ns. slice_get ns 0) h)
 
 pub variable-canonical : (b : Content) → IsCanonical (content_scope b) (base 1 ∷ []) (base 1) (bound 0)
 variable-canonical b = (tt, refl)
 
-pub paired-canonical : (b : Content) → HasNames b → (ctx : List SimpleType) (t u : Lambda) → IsCanonical (content_scope b) ctx (base 1) t → IsCanonical (content_scope b) ctx (base 1) u
+pub paired-canonical : (b : Content) → NamesIndividuals b → (ctx : List SimpleType) (t u : Lambda) → IsCanonical (content_scope b) ctx (base 1) t → IsCanonical (content_scope b) ctx (base 1) u
     → IsCanonical (content_scope b) ctx (base 1) (app (app (constant (name 2)) t) u)
 paired-canonical b h ctx t u c d = (tt, (base 1, (base 1, ap (λ ns. slice_get ns 2) h, c), d))
 
-pub doubled-canonical : (b : Content) → HasNames b → (ctx : List SimpleType) (t : Lambda) → IsCanonical (content_scope b) ctx (base 1) t
+pub doubled-canonical : (b : Content) → NamesIndividuals b → (ctx : List SimpleType) (t : Lambda) → IsCanonical (content_scope b) ctx (base 1) t
     → IsCanonical (content_scope b) ctx (base 1) (app (app (constant (name 2)) t) t)
 doubled-canonical b h ctx t c = paired-canonical b h ctx t t c c
 

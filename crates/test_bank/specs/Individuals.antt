@@ -9,8 +9,8 @@ use Rattle.term_bank.specs.Terms.{term_at}
 abbrev pub types : List SimpleType
 types = base 1 ∷ arrow (base 1) (base 1) ∷ arrow (base 1) (arrow (base 1) (base 1)) ∷ arrow (arrow (base 1) (base 1)) (base 1) ∷ []
 
-abbrev pub HasNames : Content → Type 0
-HasNames b = map (λ c. c.type) b.consts ≡ types
+abbrev pub NamesIndividuals : Content → Type 0
+NamesIndividuals b = map (λ c. c.type) b.consts ≡ types
 
 abbrev pub HasNoWitness : Content → Type 0
 HasNoWitness b = b.witnesses ≡ []

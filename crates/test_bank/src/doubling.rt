@@ -3,7 +3,7 @@
 ghost use Rattle.std.specs.Prelude.{◌≡◌, [], ◌∷◌, ◌<◌, length, List, IfOk, OnOk};
 ghost use Rattle.stt_core.specs.SimpleType.{SimpleType, base, arrow};
 ghost use Rattle.term_bank.specs.Content.{Grows};
-ghost use Rattle.test_bank.specs.Individuals.{HasNames, IsOf, IsIndividual};
+ghost use Rattle.test_bank.specs.Individuals.{NamesIndividuals, IsOf, IsIndividual};
 
 use crate::found::Found;
 use crate::refused::RowRefused;
@@ -15,7 +15,7 @@ use term_bank::{Bank, Id};
 
 /// `(f t t)` for an individual `t`.
 fn double(bank: &mut Bank, term: Id) -> Result<Id, AllocError>
-    requires names { HasNames bank.old }
+    requires names { NamesIndividuals bank.old }
     requires individual { IsIndividual bank.old term }
     ensures individual { IfOk result (λ id. (ctx : List SimpleType) → IsOf bank.old ctx (base 1) term → IsOf bank.new ctx (base 1) id) }
     ensures grows { Grows bank.old bank.new }
@@ -26,7 +26,7 @@ fn double(bank: &mut Bank, term: Id) -> Result<Id, AllocError>
 
 /// An individual that is doubled forty times.
 fn double_often(bank: &mut Bank, term: Id) -> Result<Id, AllocError>
-    requires names { HasNames bank.old }
+    requires names { NamesIndividuals bank.old }
     requires individual { IsIndividual bank.old term }
     ensures individual { IfOk result (λ id. (ctx : List SimpleType) → IsOf bank.old ctx (base 1) term → IsOf bank.new ctx (base 1) id) }
     ensures grows { OnOk result (Grows bank.old bank.new) }
@@ -40,7 +40,7 @@ fn double_often(bank: &mut Bank, term: Id) -> Result<Id, AllocError>
 
 /// The constant `c`.
 fn constant(bank: &mut Bank) -> Result<Id, AllocError>
-    requires names { HasNames bank.old }
+    requires names { NamesIndividuals bank.old }
     ensures individual { IfOk result (IsOf bank.new [] (base 1)) }
     ensures grows { Grows bank.old bank.new }
 {
@@ -69,7 +69,7 @@ fn function(bank: &mut Bank, body: Id) -> Result<Id, AllocError>
 
 /// A function of an individual, whose argument stands forty times doubled.
 fn doubling(bank: &mut Bank) -> Result<Id, AllocError>
-    requires names { HasNames bank.old }
+    requires names { NamesIndividuals bank.old }
     ensures function { IfOk result (IsOf bank.new [] (arrow (base 1) (base 1))) }
     ensures grows { OnOk result (Grows bank.old bank.new) }
 {
@@ -81,7 +81,7 @@ fn doubling(bank: &mut Bank) -> Result<Id, AllocError>
 
 /// How many terms a bank has after a constant was doubled forty times.
 pub fn doubled(bank: &mut Bank) -> Result<Found, RowRefused>
-    requires { HasNames bank.old }
+    requires { NamesIndividuals bank.old }
 {
     let c = constant(bank)?;
     let _last = double_often(bank, c)?;
@@ -90,7 +90,7 @@ pub fn doubled(bank: &mut Bank) -> Result<Found, RowRefused>
 
 /// `(f s t)` for individuals `s` and `t`.
 fn paired(bank: &mut Bank, first: Id, second: Id) -> Result<Id, AllocError>
-    requires names { HasNames bank.old }
+    requires names { NamesIndividuals bank.old }
     requires first { IsOf bank.old [] (base 1) first }
     requires second { IsOf bank.old [] (base 1) second }
     ensures individual { IfOk result (IsOf bank.new [] (base 1)) }
@@ -103,7 +103,7 @@ fn paired(bank: &mut Bank, first: Id, second: Id) -> Result<Id, AllocError>
 /// How many terms a bank has after a constant and so many pairs, each of the two terms before it.
 #[tactic(auto, using(crate::proofs::RowLaws::stays, crate::proofs::RowLaws::names_stay))]
 pub fn interned(bank: &mut Bank, count: u64) -> Result<Found, RowRefused>
-    requires { HasNames bank.old }
+    requires { NamesIndividuals bank.old }
 {
     let mut first = constant(bank)?;
     let mut second = first;
@@ -127,7 +127,7 @@ fn instance(alloc: Global, bank: &mut Bank, function: Id, argument: Id) -> Resul
 
 /// How many terms a bank has after the function that doubles its argument forty times was applied to a constant.
 pub fn doubled_at_constant(alloc: Global, bank: &mut Bank) -> Result<Found, RowRefused>
-    requires { HasNames bank.old }
+    requires { NamesIndividuals bank.old }
 {
     let function = doubling(bank)?;
     let c = constant(bank)?;

@@ -1,6 +1,6 @@
 //! What is found for a row.
 
-ghost use Rattle.test_bank.specs.Individuals.{HasNames, HasNoWitness};
+ghost use Rattle.test_bank.specs.Individuals.{NamesIndividuals, HasNoWitness};
 
 use crate::canonical::{function_is_long, outcome_is_constant};
 use crate::doubling::{doubled, doubled_at_constant, interned};
@@ -35,7 +35,7 @@ impl Found {
 }
 
 fn answer_over(alloc: Global, bank: &mut Bank, row: Row) -> Result<Found, RowRefused>
-    requires names { HasNames bank.old }
+    requires names { NamesIndividuals bank.old }
     requires witnesses { HasNoWitness bank.old }
 {
     match row {

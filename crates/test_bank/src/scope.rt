@@ -3,7 +3,7 @@
 ghost use Rattle.std.specs.Prelude.{◌≡◌, IfOk};
 ghost use Rattle.stt_core.specs.SimpleType.{base, arrow};
 ghost use Rattle.stt_core.specs.View.{the_type};
-ghost use Rattle.test_bank.specs.Individuals.{HasNames, HasNoWitness};
+ghost use Rattle.test_bank.specs.Individuals.{NamesIndividuals, HasNoWitness};
 
 use std::alloc::{AllocError, Global};
 use stt_core::{Signature, Ty};
@@ -27,7 +27,7 @@ pub fn endo(alloc: Global) -> Result<Ty, AllocError>
 
 /// A bank without terms over the constants.
 pub fn empty_bank(alloc: Global) -> Result<Bank, AllocError>
-    ensures names { IfOk result HasNames }
+    ensures names { IfOk result NamesIndividuals }
     ensures witnesses { IfOk result HasNoWitness }
 {
     let mut sig = Signature::new(alloc);

@@ -1,5 +1,5 @@
 //! What is written for a line.
-ghost use Rattle.test_tables.specs.Sound.{IsSound};
+ghost use Rattle.test_tables.specs.Sound.{AreSoundTables};
 
 use crate::bulk::{clauses_of, partners_of};
 use crate::clauses::write_clauses;
@@ -23,8 +23,8 @@ fn write_made(tables: &Tables, instance: &Instance, out: &mut String) -> Result<
 
 /// Adds the instance of a rule, or that it has none.
 fn write_instance(tables: &mut Tables, by: &BankUse, out: &mut String) -> Result<(), RowRefused>
-    requires { IsSound tables.old }
-    ensures { IsSound tables.new }
+    requires { AreSoundTables tables.old }
+    ensures { AreSoundTables tables.new }
 {
     match tables.instance(by)? {
         Some(instance) => Ok(write_made(tables, &instance, out)?),
@@ -34,8 +34,8 @@ fn write_instance(tables: &mut Tables, by: &BankUse, out: &mut String) -> Result
 
 /// The uses of rules that a line stands for.
 fn uses_of(alloc: Global, tables: &mut Tables, line: &str) -> Result<Vec<BankUse>, RowRefused>
-    requires { IsSound tables.old }
-    ensures { IsSound tables.new }
+    requires { AreSoundTables tables.old }
+    ensures { AreSoundTables tables.new }
 {
     let mut uses = Vec::new(alloc);
     for text in line.split(';') {
@@ -47,7 +47,7 @@ fn uses_of(alloc: Global, tables: &mut Tables, line: &str) -> Result<Vec<BankUse
 
 /// Adds the instances of the rules, which are used one after the other, and the witnesses.
 fn write_each(tables: &mut Tables, uses: &[BankUse], out: &mut String) -> Result<(), RowRefused>
-    requires { IsSound tables.old }
+    requires { AreSoundTables tables.old }
 {
     for i in 0..uses.len() {
         out.push_str(if i == 0 { " = " } else { "; " })?;
@@ -62,7 +62,7 @@ fn write_instances(
     line: &str,
     out: &mut String,
 ) -> Result<(), RowRefused>
-    requires { IsSound tables.old }
+    requires { AreSoundTables tables.old }
 {
     let uses = uses_of(alloc, tables, line)?;
     write_each(tables, uses.as_slice(), out)
@@ -75,7 +75,7 @@ fn write_numbers(
     words: &str,
     out: &mut String,
 ) -> Result<(), RowRefused>
-    requires { IsSound tables.old }
+    requires { AreSoundTables tables.old }
 {
     out.push_str(" =")?;
     for word in words.split(' ') {
@@ -93,8 +93,8 @@ fn write_number(alloc: Global, number: usize, out: &mut String) -> Result<(), Al
 
 /// The literals that words stand for.
 fn literals_of(alloc: Global, tables: &mut Tables, words: &str) -> Result<LitList, RowRefused>
-    requires { IsSound tables.old }
-    ensures { IsSound tables.new }
+    requires { AreSoundTables tables.old }
+    ensures { AreSoundTables tables.new }
 {
     let mut lits = LitList::new(alloc);
     for word in words.split(' ') {
@@ -111,7 +111,7 @@ fn write_partners(
     words: &str,
     out: &mut String,
 ) -> Result<(), RowRefused>
-    requires { IsSound tables.old }
+    requires { AreSoundTables tables.old }
 {
     out.push_str(" =")?;
     let noted = literals_of(alloc, tables, words)?;
@@ -136,7 +136,7 @@ fn write_noted(
     words: &str,
     out: &mut String,
 ) -> Result<(), RowRefused>
-    requires { IsSound tables.old }
+    requires { AreSoundTables tables.old }
 {
     let (others, rounds) = words.split_once(' ').ok_or(RowRefused::Unread)?;
     let count = partners_of(alloc, tables, number_of(others)?, number_of(rounds)?)?;
@@ -161,7 +161,7 @@ fn write_answer(
     line: &str,
     out: &mut String,
 ) -> Result<(), RowRefused>
-    requires { IsSound tables.old }
+    requires { AreSoundTables tables.old }
 {
     let (word, words) = line.split_once(' ').ok_or(RowRefused::Unread)?;
     match word {

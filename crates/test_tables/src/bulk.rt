@@ -1,5 +1,5 @@
 //! Rows of many instances and of many notes, so that their time can be taken.
-ghost use Rattle.test_tables.specs.Sound.{IsSound};
+ghost use Rattle.test_tables.specs.Sound.{AreSoundTables};
 
 use crate::clauses::{confronted, list};
 use crate::refusal::RowRefused;
@@ -89,8 +89,8 @@ fn numbered(
     number: usize,
     end: &str,
 ) -> Result<SatLit, RowRefused>
-    requires { IsSound tables.old }
-    ensures { IsSound tables.new }
+    requires { AreSoundTables tables.old }
+    ensures { AreSoundTables tables.new }
 {
     let text = text_of(alloc, front, number, end)?;
     tables.signed(text.as_str())
@@ -105,8 +105,8 @@ fn add_numbered(
     end: &str,
     count: usize,
 ) -> Result<(), RowRefused>
-    requires { IsSound tables.old }
-    ensures { IsSound tables.new }
+    requires { AreSoundTables tables.old }
+    ensures { AreSoundTables tables.new }
 {
     for k in 0..count {
         let lit = numbered(alloc, tables, front, k, end)?;
@@ -123,7 +123,7 @@ pub fn partners_of(
     others: usize,
     rounds: usize,
 ) -> Result<usize, RowRefused>
-    requires { IsSound tables.old }
+    requires { AreSoundTables tables.old }
 {
     let mut before = LitList::new(alloc);
     add_numbered(alloc, tables, &mut before, "+@@h", "c", others)?;

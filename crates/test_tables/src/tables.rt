@@ -6,8 +6,8 @@ ghost use Rattle.stt_core.specs.SimpleType.{formula};
 ghost use Rattle.stt_core.specs.Typing.{AreDeclared};
 ghost use Rattle.term_bank.specs.Content.{content_scope};
 ghost use Rattle.term_bank.specs.Terms.{term_at};
-ghost use Rattle.mating_rules.specs.Noted.{IsRight};
-ghost use Rattle.test_tables.specs.Sound.{IsSound};
+ghost use Rattle.mating_rules.specs.Noted.{IsRightIndex};
+ghost use Rattle.test_tables.specs.Sound.{AreSoundTables};
 
 use crate::notation::{WITNESSES, term_of, write_nf};
 use crate::refusal::RowRefused;
@@ -35,7 +35,7 @@ impl Tables {
     /// Tables over these declarations, with nothing in them.
     pub fn new(alloc: Global, sig: Signature) -> Tables
         requires { AreDeclared (length sig.bases) (map (λ c. c.type) sig.consts) }
-        ensures { IsSound result }
+        ensures { AreSoundTables result }
     {
         Tables {
             bank: Bank::new(alloc, sig),
@@ -48,8 +48,8 @@ impl Tables {
 
     /// The normal form of a closed term, where no witness has a type yet.
     fn normal_form(&mut self, term: &Term) -> Result<Id, RowRefused>
-        requires { IsSound self.old }
-        ensures { IsSound self.new }
+        requires { AreSoundTables self.old }
+        ensures { AreSoundTables self.new }
     {
         if self.bank.witness_types() > 0 {
             return Err(RowRefused::Unread);
@@ -63,8 +63,8 @@ impl Tables {
 
     /// The normal form of the closed term that a text stands for.
     pub fn term(&mut self, text: &str) -> Result<Id, RowRefused>
-        requires { IsSound self.old }
-        ensures { IsSound self.new }
+        requires { AreSoundTables self.old }
+        ensures { AreSoundTables self.new }
     {
         let term = term_of(self.alloc, text)?;
         self.normal_form(&term)
@@ -86,8 +86,8 @@ impl Tables {
 
     /// The literal of the formula that a text stands for.
     pub fn literal(&mut self, text: &str) -> Result<SatLit, RowRefused>
-        requires { IsSound self.old }
-        ensures { IsSound self.new }
+        requires { AreSoundTables self.old }
+        ensures { AreSoundTables self.new }
     {
         let id = self.term(text)?;
         if self.is_formula(id)? {
@@ -99,8 +99,8 @@ impl Tables {
 
     /// The literal that a sign and the text of a formula stand for.
     pub fn signed(&mut self, word: &str) -> Result<SatLit, RowRefused>
-        requires { IsSound self.old }
-        ensures { IsSound self.new }
+        requires { AreSoundTables self.old }
+        ensures { AreSoundTables self.new }
     {
         match word.strip_prefix('-') {
             Some(text) => Ok(self.literal(text)?.negated()),
@@ -131,8 +131,8 @@ impl Tables {
 
     /// The instance of a rule, where it has one.
     pub fn instance(&mut self, by: &BankUse) -> Result<Option<Instance>, RowRefused>
-        requires { IsSound self.old }
-        ensures { IsSound self.new }
+        requires { AreSoundTables self.old }
+        ensures { AreSoundTables self.new }
     {
         if !self.is_number(by.first) || !self.is_number(by.second) || !self.is_place(by.term) {
             return Err(RowRefused::Unread);
@@ -162,8 +162,8 @@ impl Tables {
         noted: &LitList,
         out: &mut String,
     ) -> Result<(), RowRefused>
-        requires sound { IsSound self.now }
-        requires right { IsRight self.now.bank.terms self.now.lits index.old }
+        requires sound { AreSoundTables self.now }
+        requires right { IsRightIndex self.now.bank.terms self.now.lits index.old }
     {
         for lit in noted.as_slice() {
             if !self.is_number(Some(*lit)) {
@@ -178,7 +178,7 @@ impl Tables {
 
     /// Notes the literals where none is noted yet, and adds the text of each one's partners.
     pub fn write_partners(&self, noted: &LitList, out: &mut String) -> Result<(), RowRefused>
-        requires { IsSound self.now }
+        requires { AreSoundTables self.now }
     {
         let mut index = Index::new(self.alloc);
         self.write_noted(&mut index, noted, out)
@@ -192,8 +192,8 @@ impl Tables {
         later: &LitList,
         rounds: usize,
     ) -> Result<usize, RowRefused>
-        requires sound { IsSound self.now }
-        requires right { IsRight self.now.bank.terms self.now.lits index.old }
+        requires sound { AreSoundTables self.now }
+        requires right { IsRightIndex self.now.bank.terms self.now.lits index.old }
     {
         self.note_all(index, earlier)?;
         let mut count: usize = 0;
@@ -210,7 +210,7 @@ impl Tables {
         later: &LitList,
         rounds: usize,
     ) -> Result<usize, RowRefused>
-        requires { IsSound self.now }
+        requires { AreSoundTables self.now }
     {
         let mut index = Index::new(self.alloc);
         self.count_noted(&mut index, earlier, later, rounds)
@@ -218,9 +218,9 @@ impl Tables {
 
     /// Notes the literals. The answer is the number of all their partners.
     fn note_all(&self, index: &mut Index, lits: &LitList) -> Result<usize, RowRefused>
-        requires sound { IsSound self.now }
-        requires right { IsRight self.now.bank.terms self.now.lits index.old }
-        ensures { IsRight self.now.bank.terms self.now.lits index.new }
+        requires sound { AreSoundTables self.now }
+        requires right { IsRightIndex self.now.bank.terms self.now.lits index.old }
+        ensures { IsRightIndex self.now.bank.terms self.now.lits index.new }
     {
         let mut count: usize = 0;
         for lit in lits.as_slice() {

@@ -1,5 +1,5 @@
 //! Uses of rules, as texts: the rule, its principals or the literal of a cut, and the term that it takes.
-ghost use Rattle.test_tables.specs.Sound.{IsSound};
+ghost use Rattle.test_tables.specs.Sound.{AreSoundTables};
 
 use crate::refusal::RowRefused;
 use crate::tables::Tables;
@@ -36,8 +36,8 @@ fn kind_of(name: &str) -> Result<RuleKind, RowRefused> {
 
 /// The use with one word more.
 fn with_word(tables: &mut Tables, by: BankUse, word: &str) -> Result<BankUse, RowRefused>
-    requires { IsSound tables.old }
-    ensures { IsSound tables.new }
+    requires { AreSoundTables tables.old }
+    ensures { AreSoundTables tables.new }
 {
     if !word.starts_with('+') && !word.starts_with('-') {
         let term = Some(tables.term(word)?);
@@ -53,8 +53,8 @@ fn with_word(tables: &mut Tables, by: BankUse, word: &str) -> Result<BankUse, Ro
 
 /// The use that a text stands for.
 pub fn use_of(tables: &mut Tables, text: &str) -> Result<BankUse, RowRefused>
-    requires { IsSound tables.old }
-    ensures { IsSound tables.new }
+    requires { AreSoundTables tables.old }
+    ensures { AreSoundTables tables.new }
 {
     let (name, words) = text.split_once(' ').ok_or(RowRefused::Unread)?;
     let mut by = BankUse {

@@ -20,11 +20,11 @@ single_quote = 39
 abbrev pub star : ℕ
 star = 42
 
-abbrev pub plus : ℕ
-plus = 43
+abbrev pub plus_sign : ℕ
+plus_sign = 43
 
-abbrev pub minus : ℕ
-minus = 45
+abbrev pub minus_sign : ℕ
+minus_sign = 45
 
 abbrev pub slash : ℕ
 slash = 47
@@ -48,7 +48,7 @@ abbrev pub is_in_line : ℕ → Bool
 is_in_line c = not (c == line_feed)
 
 abbrev pub is_sign : ℕ → Bool
-is_sign c = c == plus || c == minus
+is_sign c = c == plus_sign || c == minus_sign
 
 -- a byte that stands for itself between these quotes
 abbrev pub is_plain : ℕ → ℕ → Bool

@@ -13,14 +13,14 @@ use Rattle.thf_grammar.specs.declared.statement.Selected.{Selected}
 use Rattle.thf_grammar.specs.declared.statement.Statement.{Statement}
 use Rattle.thf_grammar.specs.declared.statement.Statement.TheVariants as statement
 
-abbrev pub the_type : SurfaceTy → TypeTree
-the_type (Form at) = form at
-the_type (Indiv at) = indiv at
-the_type (Named at name) = named at name
-the_type (Arrow' at p from q to) = arrow at (the_type from) (the_type to)
+abbrev pub the_surface_type : SurfaceTy → TypeTree
+the_surface_type (Form at) = form at
+the_surface_type (Indiv at) = indiv at
+the_surface_type (Named at name) = named at name
+the_surface_type (Arrow' at p from q to) = arrow at (the_surface_type from) (the_surface_type to)
 
 abbrev pub the_var : SurfaceVar → VarTree
-the_var v = record { at = v.at; name = v.name; ty = the_type v.ty }
+the_var v = record { at = v.at; name = v.name; ty = the_surface_type v.ty }
 
 abbrev pub the_vars : List SurfaceVar → List VarTree
 the_vars vs = map the_var vs
@@ -39,7 +39,7 @@ the_formula (Bind' binder at vars p body) = binding at binder (the_vars vars) (t
 
 abbrev pub the_body : Body → BodyTree
 the_body (body.Base at name) = base at name
-the_body (body.Typing at name ty) = typing at name (the_type ty)
+the_body (body.Typing at name ty) = typing at name (the_surface_type ty)
 the_body (body.Formula tree) = formula (the_formula tree)
 
 abbrev pub the_annotated : Annotated → AnnotatedTree

@@ -30,11 +30,11 @@ pub enum SurfaceTy {
 impl SurfaceTy {
     ghost use Rattle.std.specs.Prelude.{IfOk};
     ghost use Rattle.thf_grammar.specs.Trees.{arrow};
-    ghost use Rattle.thf_grammar.specs.View.{the_type};
+    ghost use Rattle.thf_grammar.specs.View.{the_surface_type};
 
     /// The arrow from one type to another.
     pub fn arrow(alloc: Global, at: u32, from: SurfaceTy, to: SurfaceTy) -> Result<Self, AllocError>
-        ensures { IfOk result (λ ty. the_type ty ≡ arrow at (the_type from) (the_type to)) }
+        ensures { IfOk result (λ ty. the_surface_type ty ≡ arrow at (the_surface_type from) (the_surface_type to)) }
     {
         Ok(SurfaceTy::Arrow {
             at,

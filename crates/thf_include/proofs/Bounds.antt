@@ -5,7 +5,7 @@ use Rattle.std.specs.List.{AllByRecursion}
 use Rattle.thf_grammar.specs.Trees.{SelectedTree, StatementTree}
 use Rattle.thf_include.specs.Gathering.{byte_limit}
 use Rattle.thf_include.specs.View.{PlacedTree}
-use Rattle.thf_include.specs.Gathering.{Ending, done, stopped, bytes_of, placed, select, select_by, is_selected, is_missing, FileEnds, unread, long, refused, followed, StatementEnds, stays, in_cycle, past_limit, stops, selects, StatementsEnd, no_more, ends, goes_on}
+use Rattle.thf_include.specs.Gathering.{Ending, done, stopped, bytes_of, placed_statement, select, select_by, is_selected, is_missing, FileEnds, unread, long, refused, followed, StatementEnds, stays, in_cycle, past_limit, stops, selects, StatementsEnd, no_more, ends, goes_on}
 use Rattle.thf_include.proofs.Texts.{bytes_of-more}
 use Rattle.thf_include.proofs.Trees.{tree-short}
 
@@ -65,7 +65,7 @@ module _ (texts : List (List ℕ)) where
 
     statement-bounded : (chain : List (List ℕ)) (file next : ℕ) (s : StatementTree) (opened : List (List ℕ)) (ending : Ending) → StatementEnds texts chain file next s opened ending → (ps : List PlacedTree) → ending ≡ done ps → file < next → bytes_of texts next ≤ byte_limit → AreBounded texts next (next + length opened) 1 ps
     statement-bounded _ _ _ _ _ _ (stays chain file next a) ps e earlier fits =
-        let k : placed file a ∷ [] ≡ ps = cc in
+        let k : placed_statement file a ∷ [] ≡ ps = cc in
         let same : next + 0 ≡ next = omega arith in
         record {
           counted = omega (arith, ap length k, ap (bytes_of texts) same);

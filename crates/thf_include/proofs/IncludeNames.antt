@@ -22,9 +22,9 @@ use Rattle.thf_grammar.specs.declared.terminal.Terminal.TheVariants as terminal
 use Rattle.thf_grammar.specs.Terminals.{single, pair, triple, symbol, dollar_word, of_kind}
 use Rattle.thf_grammar.specs.Words.{Lexeme, lexeme, lexemes, Word, plain, terminal_of, name_of, name_in, unescaped, name}
 use Rattle.thf_grammar.specs.Statements.{IsStatement, annotated_statement, include_statement, IsFile, no_statement, more_statements}
-use Rattle.thf_parse.specs.Parsing.{depth_limit, AreWithin}
+use Rattle.thf_parse.specs.Parsing.{depth_limit, AreWithinDepth}
 use Rattle.thf_include.specs.Gathering.{IsFileText}
-use Rattle.thf_include.specs.Internal.Names.{IsNamed, AreNamed}
+use Rattle.thf_include.specs.Internal.Names.{IsNamedStatement, AreNamedStatements}
 use Rattle.thf_include.proofs.Trees.{follows, behind-all}
 
 -- the terminal isn't a quoted name
@@ -174,19 +174,19 @@ lexeme-ascii t h e =
     let k : t.kind ≡ kind.Quoted = kind-quoted t.kind t.text e in
     subst (λ c. AreAscii (name_in c t.text)) (sym k) (quoted-ascii t.text (h k))
 
-statement-named : (ws rest : List Word) (s : StatementTree) → IsStatement ws s rest → AllByRecursion (λ (w : Word). IsProperly w.lexeme) ws → IsNamed s
+statement-named : (ws rest : List Word) (s : StatementTree) → IsStatement ws s rest → AllByRecursion (λ (w : Word). IsProperly w.lexeme) ws → IsNamedStatement s
 statement-named _ _ _ (annotated_statement k o l c r e ws mid after rest b kw p q u v w x y z) h = tt
 statement-named _ _ _ (include_statement k o f ws after rest labels kw p q u e) h =
     IsUtf8-from_ascii (name f) (ascii (name f) (lexeme-ascii f.lexeme h.1.1.0 q.terminal))
 
-file-named : (limit : ℕ) (ws : List Word) (tree : List StatementTree) → IsFile ws tree → AreWithin limit ws → AllByRecursion (λ (w : Word). IsProperly w.lexeme) ws → AreNamed tree
+file-named : (limit : ℕ) (ws : List Word) (tree : List StatementTree) → IsFile ws tree → AreWithinDepth limit ws → AllByRecursion (λ (w : Word). IsProperly w.lexeme) ws → AreNamedStatements tree
 file-named limit _ _ (no_statement w k) within h = tt
 file-named limit ws _ (more_statements _ rest s ss first later) within h =
     let f = follows limit ws rest s first within in
     (statement-named ws rest s first h, file-named limit rest ss later (behind-all (λ w. w.depth ≤ limit) limit ws rest f.passed within) (behind-all (λ w. IsProperly w.lexeme) limit ws rest f.passed h))
 
 -- the includes of a text have names that are text
-pub tree-named : (text : List ℕ) (tree : List StatementTree) → IsFileText text tree → AreNamed tree
+pub tree-named : (text : List ℕ) (tree : List StatementTree) → IsFileText text tree → AreNamedStatements tree
 tree-named text tree h =
     file-named depth_limit h.parsed.words tree h.parsed.file h.parsed.within
     (all-plain h.parsed.words (subst (AllByRecursion IsProperly) (sym h.parsed.tokens) (properly text 0 text h.tokens h.read refl)))

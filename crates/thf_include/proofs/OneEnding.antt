@@ -3,7 +3,7 @@ use Rattle.std.proofs.Common.{◌≡◌, ℕ, ◌+◌, List, ◌∷◌, ◌++◌
 use Rattle.std.specs.Prelude.{slice_get}
 use Rattle.std.proofs.lemmas.Option.{slice_get_within}
 use Rattle.thf_grammar.specs.Trees.{StatementTree}
-use Rattle.thf_include.specs.Gathering.{no_tree, Ending, done, stopped, behind, select, IsFileText, IsWrongText, FileEnds, unread, long, refused, followed, StatementEnds, stays, in_cycle, past_limit, stops, selects, StatementsEnd, no_more, ends, goes_on}
+use Rattle.thf_include.specs.Gathering.{no_tree, Ending, done, stopped, behind_statements, select, IsFileText, IsWrongText, FileEnds, unread, long, refused, followed, StatementEnds, stays, in_cycle, past_limit, stops, selects, StatementsEnd, no_more, ends, goes_on}
 use Rattle.thf_include.proofs.FileTexts.{not-refused, same-place, same-tree}
 
 pub record SameEnds (opened others : List (List ℕ)) (one other : Ending) : Type 0 where
@@ -78,5 +78,5 @@ module _ (texts : List (List ℕ)) where
         let after = one-statements chain file (next + length opened) later more ending rest most last (subst (λ ns. StatementsEnd texts chain file (next + length ns) later most last) (sym same.names) end) in
         record {
           names = ap₂ (λ xs ys. xs ++ ys) same.names after.names;
-          endings = ap₂ behind e after.endings;
+          endings = ap₂ behind_statements e after.endings;
         }

@@ -8,7 +8,7 @@ use Rattle.thf_include.specs.declared.opened.Opened.{Opened}
 use Rattle.thf_include.specs.declared.refused.GatherRefused.{GatherRefused}
 use Rattle.thf_include.specs.declared.refused.GatherRefused.TheVariants.{Fault, TooLong, Syntax, Cycle, NoSuchName, TooMany, Memory}
 use Rattle.thf_include.specs.View.{PlacedTree}
-use Rattle.thf_include.specs.Gathering.{Stop, Ending, done, stopped, wants, no_name, behind, placed, select, FileEnds, unread, long, refused, followed, StatementEnds, stays, in_cycle, past_limit, stops, selects, StatementsEnd, no_more, ends, goes_on}
+use Rattle.thf_include.specs.Gathering.{Stop, Ending, done, stopped, wants, no_name, behind_statements, placed_statement, select, FileEnds, unread, long, refused, followed, StatementEnds, stays, in_cycle, past_limit, stops, selects, StatementsEnd, no_more, ends, goes_on}
 use Rattle.thf_include.specs.Answer.{AreContents, StopsAs}
 use Rattle.thf_include.specs.Internal.Steps.{AreRead, IsStep, FileSteps, StatementSteps, StatementsStep, SelectsAs}
 use Rattle.thf_include.proofs.Texts.{take-append}
@@ -17,21 +17,21 @@ use Rattle.thf_include.proofs.Cuts.{file-cut, statements-cut}
 use Rattle.thf_include.proofs.Stops.{StopsAs-map, StopsAs-cases, AreContents-append}
 use Rattle.thf_include.proofs.FileSteps.{still-step, cut-step}
 
-behind-behind : (front back : List PlacedTree) (e : Ending) → behind front (behind back e) ≡ behind (front ++ back) e
+behind-behind : (front back : List PlacedTree) (e : Ending) → behind_statements front (behind_statements back e) ≡ behind_statements (front ++ back) e
 behind-behind front back (done statements) = ap done (sym (append_assoc front back statements))
 behind-behind front back (stopped why) = refl
 
-behind-nil : (e : Ending) → behind [] e ≡ e
+behind-nil : (e : Ending) → behind_statements [] e ≡ e
 behind-nil (done statements) = refl
 behind-nil (stopped why) = refl
 
 module _ (texts chain : List (List ℕ)) (file : ℕ) where
   -- statements behind others
-  statements-append : (next : ℕ) (front : List StatementTree) (opened : List (List ℕ)) (e : Ending) → StatementsEnd texts chain file next front opened e → (ps : List PlacedTree) → e ≡ done ps → (rest : List StatementTree) (others : List (List ℕ)) (ending : Ending) → StatementsEnd texts chain file (next + length opened) rest others ending → StatementsEnd texts chain file next (front ++ rest) (opened ++ others) (behind ps ending)
+  statements-append : (next : ℕ) (front : List StatementTree) (opened : List (List ℕ)) (e : Ending) → StatementsEnd texts chain file next front opened e → (ps : List PlacedTree) → e ≡ done ps → (rest : List StatementTree) (others : List (List ℕ)) (ending : Ending) → StatementsEnd texts chain file (next + length opened) rest others ending → StatementsEnd texts chain file next (front ++ rest) (opened ++ others) (behind_statements ps ending)
   statements-append _ _ _ _ (no_more _ _ next) ps e rest others ending h =
       let none : [] ≡ ps = cc in
       let same : next + 0 ≡ next = omega arith in
-      subst (λ qs. StatementsEnd texts chain file next rest others (behind qs ending)) none
+      subst (λ qs. StatementsEnd texts chain file next rest others (behind_statements qs ending)) none
       (subst (λ end. StatementsEnd texts chain file next rest others end) (sym (behind-nil ending))
       (subst (λ n. StatementsEnd texts chain file n rest others ending) same h))
   statements-append _ _ _ _ (ends _ opened _ next s later why inside) ps e rest others ending h = cc
@@ -40,10 +40,10 @@ module _ (texts chain : List (List ℕ)) (file : ℕ) where
       let whole : front ++ back ≡ ps = cc in
       let places : next + length (opened ++ more) ≡ (next + length opened) + length more = omega (arith, length-append opened more) in
       let tail = statements-append (next + length opened) later more (done back) after back refl rest others ending (subst (λ n. StatementsEnd texts chain file n rest others ending) places h) in
-      subst (λ qs. StatementsEnd texts chain file next (s ∷ (later ++ rest)) ((opened ++ more) ++ others) (behind qs ending)) whole
+      subst (λ qs. StatementsEnd texts chain file next (s ∷ (later ++ rest)) ((opened ++ more) ++ others) (behind_statements qs ending)) whole
       (subst (λ end. StatementsEnd texts chain file next (s ∷ (later ++ rest)) ((opened ++ more) ++ others) end) (behind-behind front back ending)
-      (subst (λ ns. StatementsEnd texts chain file next (s ∷ (later ++ rest)) ns (behind front (behind back ending))) (sym (append_assoc opened more others))
-      (goes_on chain opened (more ++ others) file next s (later ++ rest) front (behind back ending) first tail)))
+      (subst (λ ns. StatementsEnd texts chain file next (s ∷ (later ++ rest)) ns (behind_statements front (behind_statements back ending))) (sym (append_assoc opened more others))
+      (goes_on chain opened (more ++ others) file next s (later ++ rest) front (behind_statements back ending) first tail)))
 
   -- what stops before other statements
   statements-stop : (next : ℕ) (front : List StatementTree) (opened : List (List ℕ)) (e : Ending) → StatementsEnd texts chain file next front opened e → (why : Stop) → e ≡ stopped why → (rest : List StatementTree) → StatementsEnd texts chain file next (front ++ rest) opened (stopped why)
@@ -94,9 +94,9 @@ module _ (tells : Bool) (contents : List ℕ → Option (List ℕ)) (chain : Lis
           chain file (length old.names) front p.names (done p.ends.statements) (omega (arith, p.ends.read.each, next)) p.ends.ended
 
       -- this statement behind those in front
-      together : (rest : List StatementTree) (ending : Ending) → StatementsEnd ((texts ++ p.more) ++ more) chain file (length mid.names) rest names ending → StatementsEnd (texts ++ (p.more ++ more)) chain file (length old.names) (front ++ rest) (p.names ++ names) (behind p.ends.statements ending)
+      together : (rest : List StatementTree) (ending : Ending) → StatementsEnd ((texts ++ p.more) ++ more) chain file (length mid.names) rest names ending → StatementsEnd (texts ++ (p.more ++ more)) chain file (length old.names) (front ++ rest) (p.names ++ names) (behind_statements p.ends.statements ending)
       together rest ending h =
-          subst (λ all. StatementsEnd all chain file (length old.names) (front ++ rest) (p.names ++ names) (behind p.ends.statements ending)) whole
+          subst (λ all. StatementsEnd all chain file (length old.names) (front ++ rest) (p.names ++ names) (behind_statements p.ends.statements ending)) whole
           (statements-append ((texts ++ p.more) ++ more) chain file (length old.names) front p.names (done p.ends.statements) first p.ends.statements refl rest names ending
           (subst (λ n. StatementsEnd ((texts ++ p.more) ++ more) chain file n rest names ending) next h))
 
@@ -262,10 +262,10 @@ module _ (tells : Bool) (contents : List ℕ → Option (List ℕ)) (chain : Lis
   pub memory-step : {T : Type 0} (s : StatementTree) (after : List PlacedTree) → StatementSteps {T = T} tells contents chain file s opened opened before after (Err Memory)
   memory-step s after texts r = still-step tells contents (λ all ns ending. StatementEnds all chain file (length opened.names) s ns ending) texts opened before after (Err Memory) (inl refl)
 
-  pub stays-step : {T : Type 0} (u : T) (a : AnnotatedTree) (after : List PlacedTree) → after ≡ before ++ placed file a ∷ [] → StatementSteps tells contents chain file (annotated a) opened opened before after (Ok u)
+  pub stays-step : {T : Type 0} (u : T) (a : AnnotatedTree) (after : List PlacedTree) → after ≡ before ++ placed_statement file a ∷ [] → StatementSteps tells contents chain file (annotated a) opened opened before after (Ok u)
   stays-step u a after e texts r =
       still-step tells contents (λ all ns ending. StatementEnds all chain file (length opened.names) (annotated a) ns ending) texts opened before after (Ok u)
-      (record { statements = placed file a ∷ []; ended = stays chain file (length opened.names) a; gathered = e; read = r })
+      (record { statements = placed_statement file a ∷ []; ended = stays chain file (length opened.names) a; gathered = e; read = r })
 
   pub none-step : StatementsStep tells contents chain file [] opened opened before before (Ok (tt {0}))
   none-step texts r =

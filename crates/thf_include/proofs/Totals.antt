@@ -8,12 +8,12 @@ use Rattle.thf_include.specs.Gathering.{byte_limit}
 use Rattle.thf_include.specs.declared.opened.Opened.{Opened}
 use Rattle.thf_include.specs.View.{the_placed, the_statements}
 use Rattle.thf_include.specs.Gathering.{done}
-use Rattle.thf_include.specs.Internal.Names.{IsNamed, AreNamed}
+use Rattle.thf_include.specs.Internal.Names.{IsNamedStatement, AreNamedStatements}
 use Rattle.thf_include.specs.Internal.Steps.{AreRead, FileSteps}
 use Rattle.thf_include.proofs.Bounds.{AreBelow, AreBounded, file-bounded}
 
 -- one of the statements
-pub one-named : (front rest : List Statement) (s : Statement) → AreNamed (the_file (front ++ s ∷ rest)) → IsNamed (the_statement s)
+pub one-named : (front rest : List Statement) (s : Statement) → AreNamedStatements (the_file (front ++ s ∷ rest)) → IsNamedStatement (the_statement s)
 one-named [] rest s h = h.0
 one-named (f ∷ fs) rest s h = one-named fs rest s h.1
 

@@ -8,7 +8,7 @@ use Rattle.thf_grammar.proofs.Pieces.{token_front}
 use Rattle.thf_grammar.specs.Trees.{StatementTree}
 use Rattle.thf_grammar.specs.Words.{lexeme, Word, plain}
 use Rattle.thf_grammar.specs.Statements.{IsStatement, IsFile, no_statement, more_statements}
-use Rattle.thf_parse.specs.Parsing.{depth_limit, AreWithin}
+use Rattle.thf_parse.specs.Parsing.{depth_limit, AreWithinDepth}
 use Rattle.thf_parse.specs.Internal.StatementReader.{statement}
 use Rattle.thf_parse.proofs.Goes.{IsShallow, here, there, Goes}
 use Rattle.thf_parse.proofs.StatementGoes.{goes-statement}
@@ -25,7 +25,7 @@ pub record Follows (limit : ℕ) (ws rest : List Word) : Type 0 where
   pub passed : IsShallow limit ws rest
   pub shorter : length rest < length ws
 
-pub follows : (limit : ℕ) (ws rest : List Word) (s : StatementTree) → IsStatement ws s rest → AreWithin limit ws → Follows limit ws rest
+pub follows : (limit : ℕ) (ws rest : List Word) (s : StatementTree) → IsStatement ws s rest → AreWithinDepth limit ws → Follows limit ws rest
 follows limit ws rest s h within = go (goes-statement limit ws rest s h)
   where
     go : Goes limit ws rest s (statement limit (plain ws)) → Follows limit ws rest
@@ -36,7 +36,7 @@ follows limit ws rest s h within = go (goes-statement limit ws rest s h)
     go (inr k) = absurd (let d = (behind-all (λ w. w.depth ≤ limit) limit ws (k.first ∷ k.back) k.before within).0 in omega (arith, k.sunk, d))
 
 -- a file has more words than statements
-file-longer : (limit : ℕ) (ws : List Word) (tree : List StatementTree) → IsFile ws tree → AreWithin limit ws → length tree < length ws
+file-longer : (limit : ℕ) (ws : List Word) (tree : List StatementTree) → IsFile ws tree → AreWithinDepth limit ws → length tree < length ws
 file-longer limit _ _ (no_statement w k) within = omega arith
 file-longer limit ws _ (more_statements _ rest s ss first later) within =
     let f = follows limit ws rest s first within in

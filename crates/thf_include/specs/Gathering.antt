@@ -30,9 +30,9 @@ pub data Ending : Type 0 where
   stopped : (why : Stop) → Ending
 
 -- what ends with these statements in front
-abbrev pub behind : List PlacedTree → Ending → Ending
-behind front (done statements) = done (front ++ statements)
-behind front (stopped why) = stopped why
+abbrev pub behind_statements : List PlacedTree → Ending → Ending
+behind_statements front (done statements) = done (front ++ statements)
+behind_statements front (stopped why) = stopped why
 
 -- how many bytes the first n texts have together
 abbrev pub bytes_of : List (List ℕ) → ℕ → ℕ
@@ -50,8 +50,8 @@ pub record IsWrongText (text : List ℕ) (at : ℕ) : Type 0 where
   pub read : AreTokens text tokens
   pub refused : IsWrongAt depth_limit (lexemes text tokens) at ⊎ IsTooDeepAt depth_limit (lexemes text tokens) at
 
-abbrev pub placed : ℕ → AnnotatedTree → PlacedTree
-placed file statement = record { file = file; statement = statement }
+abbrev pub placed_statement : ℕ → AnnotatedTree → PlacedTree
+placed_statement file statement = record { file = file; statement = statement }
 
 -- the statement has a selected name
 abbrev pub is_selected : List SelectedTree → PlacedTree → Bool
@@ -83,7 +83,7 @@ mutual
 
   -- from a statement of the file with the first number, where the next file that is opened has the second
   pub data StatementEnds (texts : List (List ℕ)) : List (List ℕ) → ℕ → ℕ → StatementTree → List (List ℕ) → Ending → Type 0 where
-    stays : (chain : List (List ℕ)) (file next : ℕ) (a : AnnotatedTree) → StatementEnds texts chain file next (annotated a) [] (done (placed file a ∷ []))
+    stays : (chain : List (List ℕ)) (file next : ℕ) (a : AnnotatedTree) → StatementEnds texts chain file next (annotated a) [] (done (placed_statement file a ∷ []))
     in_cycle : (chain : List (List ℕ)) (file next at : ℕ) (name : List ℕ) (only : Option (List SelectedTree)) → Contains chain name → StatementEnds texts chain file next (include at name only) [] (stopped (cycle file at))
     past_limit : (chain : List (List ℕ)) (file next at : ℕ) (name : List ℕ) (only : Option (List SelectedTree)) → (Contains chain name → ⊥) → file_limit ≤ next → StatementEnds texts chain file next (include at name only) [] (stopped (too_many file at))
     stops : (chain opened : List (List ℕ)) (file next at : ℕ) (name : List ℕ) (only : Option (List SelectedTree)) (why : Stop) → (Contains chain name → ⊥) → next < file_limit → FileEnds texts chain next name opened (stopped why) → StatementEnds texts chain file next (include at name only) opened (stopped why)
@@ -93,7 +93,7 @@ mutual
   pub data StatementsEnd (texts : List (List ℕ)) : List (List ℕ) → ℕ → ℕ → List StatementTree → List (List ℕ) → Ending → Type 0 where
     no_more : (chain : List (List ℕ)) (file next : ℕ) → StatementsEnd texts chain file next [] [] (done [])
     ends : (chain opened : List (List ℕ)) (file next : ℕ) (s : StatementTree) (later : List StatementTree) (why : Stop) → StatementEnds texts chain file next s opened (stopped why) → StatementsEnd texts chain file next (s ∷ later) opened (stopped why)
-    goes_on : (chain opened others : List (List ℕ)) (file next : ℕ) (s : StatementTree) (later : List StatementTree) (front : List PlacedTree) (ending : Ending) → StatementEnds texts chain file next s opened (done front) → StatementsEnd texts chain file (next + length opened) later others ending → StatementsEnd texts chain file next (s ∷ later) (opened ++ others) (behind front ending)
+    goes_on : (chain opened others : List (List ℕ)) (file next : ℕ) (s : StatementTree) (later : List StatementTree) (front : List PlacedTree) (ending : Ending) → StatementEnds texts chain file next s opened (done front) → StatementsEnd texts chain file (next + length opened) later others ending → StatementsEnd texts chain file next (s ∷ later) (opened ++ others) (behind_statements front ending)
 
 -- the gathering from the file of this name opens the files of these names, in their order, and ends so
 abbrev pub IsGathering : List (List ℕ) → List ℕ → List (List ℕ) → Ending → Type 0

@@ -6,7 +6,7 @@ ghost use Rattle.thf_grammar.specs.Trees.{include};
 ghost use Rattle.thf_grammar.specs.View.{the_file, the_statement, the_selection};
 ghost use Rattle.thf_include.specs.Answer.{Gathers, OfFault, IsNoFault};
 ghost use Rattle.thf_include.specs.Internal.Chain.{the_chain};
-ghost use Rattle.thf_include.specs.Internal.Names.{IsNamed, AreNamed};
+ghost use Rattle.thf_include.specs.Internal.Names.{IsNamedStatement, AreNamedStatements};
 ghost use Rattle.thf_include.specs.Internal.Steps.{FileSteps, StatementSteps, StatementsStep};
 ghost use Rattle.thf_include.specs.View.{the_statements};
 ghost use Rattle.thf_include.specs.Gathering.{file_limit};
@@ -108,7 +108,7 @@ fn gather_statements<F: Files>(
     statements: Vec<Statement>,
     gathered: &mut Gathered,
 ) -> Result<(), GatherRefused>
-    requires { AreNamed (the_file statements.items) }
+    requires { AreNamedStatements (the_file statements.items) }
     ensures steps { StatementsStep (F.tells files.old) (F.contents files.old) (the_chain chain.now) file (the_file statements.items)
         opened.old opened.new (the_statements gathered.old) (the_statements gathered.new) result }
     ensures fault { IfErr result (OfFault (λ file. IsSomeAnd (slice_get opened.new.names file) (λ n.
@@ -136,7 +136,7 @@ fn gather_statement<F: Files>(
     statement: Statement,
     gathered: &mut Gathered,
 ) -> Result<(), GatherRefused>
-    requires { IsNamed (the_statement statement) }
+    requires { IsNamedStatement (the_statement statement) }
     ensures steps { StatementSteps (F.tells files.old) (F.contents files.old) (the_chain chain.now) file (the_statement statement)
         opened.old opened.new (the_statements gathered.old) (the_statements gathered.new) result }
     ensures fault { IfErr result (OfFault (λ file. IsSomeAnd (slice_get opened.new.names file) (λ n.

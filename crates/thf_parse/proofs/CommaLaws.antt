@@ -4,7 +4,7 @@ use Rattle.thf_grammar.specs.declared.terminal.Mark.TheVariants.{Comma}
 use Rattle.thf_grammar.specs.declared.terminal.Terminal.{Terminal}
 use Rattle.thf_grammar.specs.declared.terminal.Terminal.TheVariants as terminal
 use Rattle.thf_grammar.specs.Words.{Lexeme, Word, plain, terminal_of, Is}
-use Rattle.thf_parse.specs.Internal.Outcome.{Outcome, found, wrong, deep, Reader, ◌>>=◌, first_terminal, behind}
+use Rattle.thf_parse.specs.Internal.Outcome.{Outcome, found, wrong, deep, Reader, ◌>>=◌, first_terminal, lexemes_behind}
 use Rattle.thf_grammar.specs.Internal.Marks.{is_mark}
 use Rattle.thf_parse.specs.Internal.NoteReader.{comma_by, commas, all_commas}
 use Rattle.thf_parse.proofs.Locals.{IsLocal, IsLocalAt, rest_of, at, local-found, local-wrong, local-behind, local-bind, local-terminal, rest-length, local-counted}
@@ -12,8 +12,8 @@ use Rattle.thf_parse.proofs.Finds.{word, Ending, Finds, stopped-here, ending-as,
 use Rattle.thf_parse.proofs.Goes.{Goes, sinks-bind, goes-bind, goes-token, goes-found}
 
 -- a comma is a token
-pub comma-shorter : (rest : List Lexeme) → is_mark Comma (first_terminal rest) ≡ true → length (behind rest) < length rest
-unfolding first_terminal behind
+pub comma-shorter : (rest : List Lexeme) → is_mark Comma (first_terminal rest) ≡ true → length (lexemes_behind rest) < length rest
+unfolding first_terminal lexemes_behind
 comma-shorter [] c = cc
 comma-shorter (t ∷ more) c = omega arith
 
@@ -29,7 +29,7 @@ module _ {S : Type 0} (item : S → Reader S) (l : (s : S) → IsLocal (item s))
 
   -- more room for things makes no difference
   pub commas-more : (n m : ℕ) (s : S) (ts : List Lexeme) → length ts < n → length ts < m → commas item n s ts ≡ commas item m s ts
-  unfolding commas first_terminal behind
+  unfolding commas first_terminal lexemes_behind
   commas-more zero m s ts h k = absurd (omega arith)
   commas-more (suc n) zero s ts h k = absurd (omega arith)
   commas-more (suc n) (suc m) s ts h k = go (λ x us p q. commas-more n m x us p q) (item s ts) (rest-length (item s) (l s) ts)
@@ -51,8 +51,8 @@ module _ {S : Type 0} (item : S → Reader S) (l : (s : S) → IsLocal (item s))
   local-all s = local-counted (λ n. commas item n s) (λ n. local-commas n s) (λ n m ts h k. commas-more n m s ts h k)
 
   -- a step of the loop over what stands between commas
-  pub all-more : (s x : S) (ts rest : List Lexeme) → item s ts ≡ found x rest → first_terminal rest ≡ terminal.Mark Comma → all_commas item s ts ≡ all_commas item x (behind rest)
-  unfolding commas first_terminal behind
+  pub all-more : (s x : S) (ts rest : List Lexeme) → item s ts ≡ found x rest → first_terminal rest ≡ terminal.Mark Comma → all_commas item s ts ≡ all_commas item x (lexemes_behind rest)
+  unfolding commas first_terminal lexemes_behind
   all-more s x ts [] e c = cc
   all-more s x ts (t ∷ us) e c =
       let q : length (t ∷ us) ≤ length ts = omega (arith, rest-length (item s) (l s) ts, ap (λ o. length (rest_of o)) e) in
@@ -90,7 +90,7 @@ module _ {S : Type 0} (item : S → Reader S) (N : S → S → List Word → Lis
   separated-ends s e = ending-as (N s) (λ y ws rest. Separated N d s y ws rest) e (λ y ws rest p. last s y ws rest p)
 
   pub finds-commas : ((s : S) → Ending (N s)) → ((s : S) (ts : List Lexeme) → Finds (N s) ts (item s ts)) → (n : ℕ) (s : S) (ts : List Lexeme) → Finds (λ y ws rest. Separated N d s y ws rest) ts (commas item n s ts)
-  unfolding commas first_terminal behind
+  unfolding commas first_terminal lexemes_behind
   finds-commas close h zero s ts = stopped-here (λ y ws rest. Separated N d s y ws rest) ts (separated-ends s (close s))
   finds-commas close h (suc n) s ts =
       finds-bind (N s) (FollowIs s) (λ y ws rest. Separated N d s y ws rest) ts (item s ts) _ (h s ts)
@@ -116,7 +116,7 @@ module _ {S : Type 0} (item : S → Reader S) (l : (s : S) → IsLocal (item s))
   Follows rest = may_follow (first_terminal (plain rest)) ≡ true
 
   pub goes-commas : ((s x : S) (ws rest : List Word) → N s x ws rest → Follows rest → Goes limit ws rest x (item s (plain ws))) → (n : ℕ) (s y : S) (ws rest : List Word) → Separated N d s y ws rest → length (plain ws) < n → Follows rest → is_mark Comma (first_terminal (plain rest)) ≡ false → Goes limit ws rest y (commas item n s (plain ws))
-  unfolding commas first_terminal behind
+  unfolding commas first_terminal lexemes_behind
   goes-commas h zero s y ws rest p k f c = absurd (omega arith)
   goes-commas h (suc n) s y ws rest (last _ _ _ _ p) k f c =
       goes-bind limit ws rest rest y y (item s (plain ws)) _ (h s y ws rest p f)

@@ -1,7 +1,7 @@
 -- What readers find is in the grammar, and what stands before a token that they refuse begins something that is.
 use Rattle.std.proofs.Common.{◌≡◌, ℕ, List, [], ◌∷◌, ◌++◌, Option, Some, None, refl, sym, ap, subst, ◌∙◌, append_assoc}
 use Rattle.thf_grammar.specs.Words.{Lexeme, Word, plain}
-use Rattle.thf_parse.specs.Internal.Outcome.{Outcome, found, wrong, deep, ◌>>=◌, Reader, behind, enter}
+use Rattle.thf_parse.specs.Internal.Outcome.{Outcome, found, wrong, deep, ◌>>=◌, Reader, lexemes_behind, enter}
 
 abbrev pub word : Lexeme → ℕ → Word
 word t depth = record { lexeme = t; depth = depth }
@@ -28,7 +28,7 @@ pub record Stopped {A : Type 0} (N : A → List Word → List Word → Type 0) (
 abbrev pub Finds : {A : Type 0} → (A → List Word → List Word → Type 0) → List Lexeme → Outcome A → Type 0
 Finds N ts (found x rest) = Reading N x ts rest
 Finds N ts (wrong rest) = Stopped N ts rest
-Finds N ts (deep rest) = Stopped N ts (behind rest)
+Finds N ts (deep rest) = Stopped N ts (lexemes_behind rest)
 
 pub plain-append : (xs ys : List Word) → plain (xs ++ ys) ≡ plain xs ++ plain ys
 plain-append [] ys = refl
@@ -98,12 +98,12 @@ first-stops N K M join ts left h close = record {
 -- something, and then something else, which ends with some words
 pub finds-bind : {A B : Type 0} (N : A → List Word → List Word → Type 0) (K : A → B → List Word → List Word → Type 0) (M : B → List Word → List Word → Type 0) (ts : List Lexeme) (o : Outcome A) (f : A → Reader B) → Finds N ts o → ((x : A) → Ending (K x)) → ((x : A) (mid : List Lexeme) → Finds (K x) mid (f x mid)) → ((x : A) (y : B) (ws mid rest : List Word) → N x ws mid → K x y mid rest → M y ws rest) → Finds M ts (o >>= f)
 finds-bind N K M ts (wrong rest) f h close k join = first-stops N K M join ts rest h close
-finds-bind N K M ts (deep rest) f h close k join = first-stops N K M join ts (behind rest) h close
+finds-bind N K M ts (deep rest) f h close k join = first-stops N K M join ts (lexemes_behind rest) h close
 finds-bind {A} {B} N K M ts (found x mid) f h close k join = go (f x mid) (k x mid)
   where
     go : (o : Outcome B) → Finds (K x) mid o → Finds M ts o
     go (wrong rest) s = second-stops N K M join ts mid rest x h s
-    go (deep rest) s = second-stops N K M join ts mid (behind rest) x h s
+    go (deep rest) s = second-stops N K M join ts mid (lexemes_behind rest) x h s
     go (found y rest) s = both-found N K M join ts mid rest x y h s
 
 -- the words of one thing are those of another
@@ -128,19 +128,19 @@ module _ {A B : Type 0} (N : A → List Word → List Word → Type 0) (M : B �
 -- what is made of something that is found
 pub finds-map : {A B : Type 0} (N : A → List Word → List Word → Type 0) (M : B → List Word → List Word → Type 0) (g : A → B) (ts : List Lexeme) (o : Outcome A) → Finds N ts o → ((x : A) (ws rest : List Word) → N x ws rest → M (g x) ws rest) → Finds M ts (o >>= λ x rest. found (g x) rest)
 finds-map N M g ts (wrong rest) h join = stopped-map N M g join ts rest h
-finds-map N M g ts (deep rest) h join = stopped-map N M g join ts (behind rest) h
+finds-map N M g ts (deep rest) h join = stopped-map N M g join ts (lexemes_behind rest) h
 finds-map N M g ts (found x rest) h join = reading-map N M g join x ts rest h
 
 -- the same thing, in another relation
 pub finds-as : {A : Type 0} (N M : A → List Word → List Word → Type 0) (ts : List Lexeme) (o : Outcome A) → Finds N ts o → ((x : A) (ws rest : List Word) → N x ws rest → M x ws rest) → Finds M ts o
 finds-as N M ts (wrong rest) h join = stopped-map N M (λ x. x) join ts rest h
-finds-as N M ts (deep rest) h join = stopped-map N M (λ x. x) join ts (behind rest) h
+finds-as N M ts (deep rest) h join = stopped-map N M (λ x. x) join ts (lexemes_behind rest) h
 finds-as N M ts (found x rest) h join = reading-map N M (λ x. x) join x ts rest h
 
 -- a token, and then something, where the token stands in the relation
 pub finds-behind : {A : Type 0} (M : A → List Word → List Word → Type 0) (t : Lexeme) (depth : ℕ) (ts : List Lexeme) (o : Outcome A) → Finds (λ x ws rest. M x (word t depth ∷ ws) rest) ts o → Finds M (t ∷ ts) o
 finds-behind M t depth ts (wrong rest) h = stopped-token M t depth ts rest h
-finds-behind M t depth ts (deep rest) h = stopped-token M t depth ts (behind rest) h
+finds-behind M t depth ts (deep rest) h = stopped-token M t depth ts (lexemes_behind rest) h
 finds-behind M t depth ts (found x rest) h = record { front = word t depth ∷ h.front; whole = ap (λ us. t ∷ us) h.whole; read = h.read }
 
 -- a token, and then something
@@ -159,12 +159,12 @@ FindIn F None = Unit {0}
 FindIn F (Some r) = F r
 
 -- what stands one level deeper, from a token on that begins something, whether there is room or not
-pub finds-enter : {A R : Type 0} (N : A → List Word → List Word → Type 0) (F : R → Type 0) (inside : Option R) (ts us : List Lexeme) (f : R → Outcome A) → FindIn F inside → Stopped N ts (behind us) → ((r : R) → F r → Finds N ts (f r)) → Finds N ts (enter inside us f)
+pub finds-enter : {A R : Type 0} (N : A → List Word → List Word → Type 0) (F : R → Type 0) (inside : Option R) (ts us : List Lexeme) (f : R → Outcome A) → FindIn F inside → Stopped N ts (lexemes_behind us) → ((r : R) → F r → Finds N ts (f r)) → Finds N ts (enter inside us f)
 finds-enter N F None ts us f h s k = s
 finds-enter N F (Some r) ts us f h s k = k r h
 
 -- the same, where what is read needs to know that there is room
-pub finds-entered : {A R : Type 0} (N : A → List Word → List Word → Type 0) (F : R → Type 0) (inside : Option R) (ts us : List Lexeme) (f : R → Outcome A) → FindIn F inside → Stopped N ts (behind us) → ((r : R) → F r → inside ≡ Some r → Finds N ts (f r)) → Finds N ts (enter inside us f)
+pub finds-entered : {A R : Type 0} (N : A → List Word → List Word → Type 0) (F : R → Type 0) (inside : Option R) (ts us : List Lexeme) (f : R → Outcome A) → FindIn F inside → Stopped N ts (lexemes_behind us) → ((r : R) → F r → inside ≡ Some r → Finds N ts (f r)) → Finds N ts (enter inside us f)
 finds-entered N F None ts us f h s k = s
 finds-entered N F (Some r) ts us f h s k = k r h refl
 

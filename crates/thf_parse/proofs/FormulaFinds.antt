@@ -11,9 +11,9 @@ use Rattle.thf_grammar.specs.Words.{Lexeme, Word, terminal_of, name_of, name, Is
 use Rattle.thf_grammar.specs.Types.{IsVar, plain_var, typed_var}
 use Rattle.thf_grammar.specs.Formulas as is
 use Rattle.thf_grammar.specs.Formulas.{binds_many, is_chained, is_nonassoc, lone_depth, AreVars, IsFormulaText, AreLinks, AreArguments, IsUnit, IsOperand, IsNegation, IsUnitary, IsPrimary, IsBinder}
-use Rattle.thf_parse.specs.Internal.Outcome.{found, wrong, Reader, ◌>>=◌, first_terminal, first_place, first_name, behind, enter}
+use Rattle.thf_parse.specs.Internal.Outcome.{found, wrong, Reader, ◌>>=◌, first_terminal, place_of_first, first_name, lexemes_behind, enter}
 use Rattle.thf_parse.specs.Internal.Reader.{type_with, inner_type}
-use Rattle.thf_parse.specs.Internal.FormulaReader.{Readers, Inside, var, typed_by, variable_at, negation_at, primary_by, primary, next_variable_by, next_variable, bracket_by, binder_at, unitary_by, unitary, operand_by, operand, right_side, equated_by, unit_by, unit, next_link, is_link, links_by, links, arguments_by, arguments, quantified_by, quantified_at, second, tail_by, tail, applied_by, applied, behind_primary_by, behind_primary, formula_by, formula, closed, lone, negated_operand, negated_by, negated_at, grouped_by, grouped, body, bound_by, behind_variable, bound, readers, inner}
+use Rattle.thf_parse.specs.Internal.FormulaReader.{Readers, Inside, var, typed_by, variable_at, negation_at, primary_by, primary, next_variable_by, next_variable, bracket_by, binder_at, unitary_by, unitary, operand_by, operand, right_side, equated_by, unit_by, unit, next_link, is_link, links_by, links, arguments_by, arguments_behind, quantified_reader, quantified_at, second, tail_by, tail, applied_by, applied_behind, behind_primary_by, behind_primary, formula_by, formula_reader, closed, lone, negated_operand, negated_by, negated_at, grouped_by, grouped, body, bound_by, behind_variable, bound, readers, inner}
 use Rattle.thf_parse.proofs.Finds.{word, Ending, Stopped, Finds, stopped-here, stopped-token, stopped-behind, ending-map, ending-as, finds-bind, finds-token, finds-as, finds-behind, finds-map, finds-one, finds-none, FindIn, finds-enter, finds-entered}
 use Rattle.thf_parse.proofs.Endings.{mark_word, mark-is, truth_word, truth-is, upper_word, upper-is}
 use Rattle.thf_parse.proofs.MarkLaws.{Closed, closed-ends, finds-closed, finds-past}
@@ -82,7 +82,7 @@ pub here : (t : Lexeme) (x : Terminal) (depth : ℕ) → terminal_of t ≡ x →
 here t x depth e = record { terminal = e; deep = refl }
 
 finds-variable : (d : ℕ) (type : Reader TypeTree) → ((ts : List Lexeme) → Finds (TypeIs d) ts (type ts)) → (t : Lexeme) (ts : List Lexeme) → terminal_of t ≡ terminal.Upper → Finds (VarIs d) (t ∷ ts) (variable_at type (t ∷ ts))
-unfolding variable_at first_place first_name behind first_terminal
+unfolding variable_at place_of_first first_name lexemes_behind first_terminal
 finds-variable d type h t [] e = finds-one (VarIs d) t d [] (var t.at (name_of t) (indiv t.at)) (λ after. plain_var d (word t d) after (here t terminal.Upper d e))
 finds-variable d type h t (s ∷ ts) e = go (terminal_of s) refl
   where
@@ -99,11 +99,11 @@ finds-variable d type h t (s ∷ ts) e = go (terminal_of s) refl
 
 links-formula : (c : Conn) (d : ℕ) (t u : FormulaTree) (front ws rest : List Word) → is_chained c ≡ true → IsUnit d front t ws → AreLinks c d t ws u rest → IsFormulaText d front u rest
 links-formula c d t u front ws rest e p (is.no_links _ _ _ _) = is.unit_formula d front rest t p
-links-formula c d t u front ws rest e p (is.more_links _ _ _ v _ w right behind _ q k m) = is.chain_formula d front right behind rest w c t v u p q e k m
+links-formula c d t u front ws rest e p (is.more_links _ _ _ v _ w right lexemes_behind _ q k m) = is.chain_formula d front right lexemes_behind rest w c t v u p q e k m
 
 arguments-formula : (d : ℕ) (t u : FormulaTree) (front ws rest : List Word) → IsUnitary d front t ws → AreArguments d t ws u rest → IsFormulaText d front u rest
 arguments-formula d t u front ws rest p (is.no_arguments _ _ _) = is.unit_formula d front rest t (is.unitary_unit d front rest t p)
-arguments-formula d t u front ws rest p (is.more_arguments _ _ v _ w right behind _ q k m) = is.apply_formula d front right behind rest w t v u p q k m
+arguments-formula d t u front ws rest p (is.more_arguments _ _ v _ w right lexemes_behind _ q k m) = is.apply_formula d front right lexemes_behind rest w t v u p q k m
 
 is_link-is : (c : Conn) (x : Terminal) → is_link c x ≡ true → x ≡ terminal.Conn c
 is_link-is And (terminal.Conn And) e = refl
@@ -183,7 +183,7 @@ module _ (d : ℕ) (inside : Inside) (h : FindIn (FindReaders d) inside) where
   negate t e u ws rest p = is.negated d (word t (suc d)) ws rest u (here t (terminal.Conn Not) (suc d) e) p
 
   finds-negation : (t : Lexeme) (ts : List Lexeme) → terminal_of t ≡ terminal.Conn Not → Finds (NegationIs d) (t ∷ ts) (negation_at inside (t ∷ ts))
-  unfolding behind first_place
+  unfolding lexemes_behind place_of_first
   finds-negation t ts e =
       finds-enter (NegationIs d) (FindReaders d) inside (t ∷ ts) (t ∷ ts) _ h
       (stopped-behind (NegationIs d) t (suc d) ts (ending-map (OperandIs (suc d)) (λ u ws rest. IsNegation d (word t (suc d) ∷ ws) u rest) (negation t.at) (operand-ends (suc d)) (negate t e)))
@@ -192,7 +192,7 @@ module _ (d : ℕ) (inside : Inside) (h : FindIn (FindReaders d) inside) where
       (negate t e)))
 
   finds-primary : (ts : List Lexeme) → Finds (PrimaryIs d) ts (primary inside ts)
-  unfolding primary first_terminal first_place first_name behind
+  unfolding primary first_terminal place_of_first first_name lexemes_behind
   finds-primary [] = stopped-here (PrimaryIs d) [] (primary-ends d)
   finds-primary (t ∷ ts) = go (terminal_of t) refl
     where
@@ -208,7 +208,7 @@ module _ (d : ℕ) (inside : Inside) (h : FindIn (FindReaders d) inside) where
       go _ e = stopped-here (PrimaryIs d) (t ∷ ts) (primary-ends d)
 
   finds-next_variable : (b : Binder) (n : ℕ) (vs : List VarTree) (ts : List Lexeme) → Finds (BoundIs d b n vs) ts (next_variable inside b n vs ts)
-  unfolding next_variable first_terminal behind
+  unfolding next_variable first_terminal lexemes_behind
   finds-next_variable b n vs [] = stopped-here (BoundIs d b n vs) [] (bound-ends d b n vs)
   finds-next_variable b n vs (t ∷ ts) = go (terminal_of t) refl
     where
@@ -231,7 +231,7 @@ module _ (d : ℕ) (inside : Inside) (h : FindIn (FindReaders d) inside) where
       record { value = more.value; words = mark_word OpenList (suc d) ∷ more.words; read = more.read }
 
   finds-binder : (b : Binder) (t : Lexeme) (ts : List Lexeme) → terminal_of t ≡ terminal.Binder b → Finds (BinderIs d) (t ∷ ts) (binder_at inside b (t ∷ ts))
-  unfolding binder_at first_terminal first_place behind
+  unfolding binder_at first_terminal place_of_first lexemes_behind
   finds-binder b t [] e = stopped-behind (BinderIs d) t d [] (binder-behind b t e)
   finds-binder b t (s ∷ ts) e = go (terminal_of s) refl
     where
@@ -279,7 +279,7 @@ module _ (d : ℕ) (inside : Inside) (h : FindIn (FindReaders d) inside) where
   RightIs t u ws rest = (front : List Word) → IsPrimary d front t ws → IsUnit d front u rest
 
   finds-right_side : (b : Bool) (t : FormulaTree) (s : Lexeme) (ts : List Lexeme) → terminal_of s ≡ terminal.Equality b → Finds (RightIs t) (s ∷ ts) (right_side inside b t (s ∷ ts))
-  unfolding right_side first_place behind
+  unfolding right_side place_of_first lexemes_behind
   finds-right_side b t s ts e =
       finds-behind (RightIs t) s d ts _
       (finds-map (UnitaryIs d) (λ u ws rest. RightIs t u (word s d ∷ ws) rest) (equation s.at b t) ts (unitary inside ts) (finds-unitary ts)
@@ -319,7 +319,7 @@ module _ (d : ℕ) (inside : Inside) (h : FindIn (FindReaders d) inside) where
       cases (t ∷ us) = go t us (terminal_of t) refl
 
   finds-links : (c : Conn) (t : FormulaTree) (ts : List Lexeme) → Finds (LinksAre c d t) ts (links inside c t ts)
-  unfolding links first_terminal first_place behind
+  unfolding links first_terminal place_of_first lexemes_behind
   finds-links c t ts = cases ts
     where
       none : (us : List Lexeme) → Finds (LinksAre c d t) us (found t us)
@@ -343,8 +343,8 @@ module _ (d : ℕ) (inside : Inside) (h : FindIn (FindReaders d) inside) where
       cases [] = empty (is_link c terminal.Other) refl
       cases (s ∷ us) = go s us (is_link c (terminal_of s)) refl
 
-  finds-arguments : (t : FormulaTree) (ts : List Lexeme) → Finds (ArgumentsAre d t) ts (arguments inside t ts)
-  unfolding arguments first_terminal first_place behind
+  finds-arguments : (t : FormulaTree) (ts : List Lexeme) → Finds (ArgumentsAre d t) ts (arguments_behind inside t ts)
+  unfolding arguments_behind first_terminal place_of_first lexemes_behind
   finds-arguments t ts = cases ts
     where
       none : (us : List Lexeme) → Finds (ArgumentsAre d t) us (found t us)
@@ -377,11 +377,11 @@ module _ (d : ℕ) (inside : Inside) (h : FindIn (FindReaders d) inside) where
       record { value = more.value; words = mark_word At (suc d) ∷ more.words; read = more.read }
 
   finds-quantified : (all : Bool) (t : Lexeme) (ts : List Lexeme) → terminal_of t ≡ terminal.Quant all → Finds (FormulaIs d) (t ∷ ts) (quantified_at inside all ts)
-  unfolding quantified_at first_terminal first_place behind
+  unfolding quantified_at first_terminal place_of_first lexemes_behind
   finds-quantified all t [] e = stopped-behind (FormulaIs d) t d [] (quantified-behind all t e)
   finds-quantified all t (s ∷ ts) e = go (terminal_of s) refl
     where
-      go : (x : Terminal) → terminal_of s ≡ x → Finds (FormulaIs d) (t ∷ s ∷ ts) (quantified_by inside all x (s ∷ ts))
+      go : (x : Terminal) → terminal_of s ≡ x → Finds (FormulaIs d) (t ∷ s ∷ ts) (quantified_reader inside all x (s ∷ ts))
       go (terminal.Mark At) f =
           finds-enter (FormulaIs d) (FindReaders d) inside (t ∷ s ∷ ts) (s ∷ ts) _ h
           (stopped-token (FormulaIs d) t d (s ∷ ts) ts (stopped-behind (λ u ws rest. IsFormulaText d (word t d ∷ ws) u rest) s (suc d) ts (at-behind all t e (word s (suc d)) (here s (terminal.Mark At) (suc d) f))))
@@ -399,7 +399,7 @@ module _ (d : ℕ) (inside : Inside) (h : FindIn (FindReaders d) inside) where
   tail-ends t = record { value = t; words = []; read = λ after front p. is.unit_formula d front after t p }
 
   finds-second : (c : Conn) (t : FormulaTree) (s : Lexeme) (ts : List Lexeme) → is_nonassoc c ≡ true → terminal_of s ≡ terminal.Conn c → Finds (TailIs t) (s ∷ ts) (second inside c t (s ∷ ts))
-  unfolding second first_place behind
+  unfolding second place_of_first lexemes_behind
   finds-second c t s ts n e =
       finds-behind (TailIs t) s d ts _
       (finds-map (UnitIs d) (λ u ws rest. TailIs t u (word s d ∷ ws) rest) (binary s.at c t) ts (unit inside ts) (finds-unit ts)
@@ -433,15 +433,15 @@ module _ (d : ℕ) (inside : Inside) (h : FindIn (FindReaders d) inside) where
   applied-ends : (t : FormulaTree) → Ending (AppliedIs t)
   applied-ends t = ending-as (TailIs t) (AppliedIs t) (tail-ends t) (λ u ws rest p front q. p front (is.unitary_unit d front ws t q))
 
-  finds-applied : (t : FormulaTree) (ts : List Lexeme) → Finds (AppliedIs t) ts (applied inside t ts)
-  unfolding applied first_terminal
+  finds-applied : (t : FormulaTree) (ts : List Lexeme) → Finds (AppliedIs t) ts (applied_behind inside t ts)
+  unfolding applied_behind first_terminal
   finds-applied t ts = cases ts
     where
       none : (us : List Lexeme) → Finds (AppliedIs t) us (tail inside t us)
       none us = finds-as (TailIs t) (AppliedIs t) us (tail inside t us) (finds-tail t us) (λ u ws rest p front q. p front (is.unitary_unit d front ws t q))
 
       go : (s : Lexeme) (us : List Lexeme) (x : Terminal) → terminal_of s ≡ x → Finds (AppliedIs t) (s ∷ us) (applied_by inside t x (s ∷ us))
-      go s us (terminal.Mark At) e = finds-as (ArgumentsAre d t) (AppliedIs t) (s ∷ us) (arguments inside t (s ∷ us)) (finds-arguments t (s ∷ us)) (λ u ws rest p front q. arguments-formula d t u front ws rest q p)
+      go s us (terminal.Mark At) e = finds-as (ArgumentsAre d t) (AppliedIs t) (s ∷ us) (arguments_behind inside t (s ∷ us)) (finds-arguments t (s ∷ us)) (λ u ws rest p front q. arguments-formula d t u front ws rest q p)
       go s us _ e = none (s ∷ us)
 
       cases : (us : List Lexeme) → Finds (AppliedIs t) us (applied_by inside t (first_terminal us) us)
@@ -459,8 +459,8 @@ module _ (d : ℕ) (inside : Inside) (h : FindIn (FindReaders d) inside) where
   unfolding behind_primary first_terminal
   finds-behind_primary t ts = cases ts
     where
-      none : (us : List Lexeme) → Finds (BehindPrimaryIs t) us (applied inside t us)
-      none us = finds-as (AppliedIs t) (BehindPrimaryIs t) us (applied inside t us) (finds-applied t us) (λ u ws rest p front q. p front (is.primary_unitary d front ws t q))
+      none : (us : List Lexeme) → Finds (BehindPrimaryIs t) us (applied_behind inside t us)
+      none us = finds-as (AppliedIs t) (BehindPrimaryIs t) us (applied_behind inside t us) (finds-applied t us) (λ u ws rest p front q. p front (is.primary_unitary d front ws t q))
 
       go : (s : Lexeme) (us : List Lexeme) (x : Terminal) → terminal_of s ≡ x → Finds (BehindPrimaryIs t) (s ∷ us) (behind_primary_by inside t x (s ∷ us))
       go s us (terminal.Equality b) e =
@@ -471,8 +471,8 @@ module _ (d : ℕ) (inside : Inside) (h : FindIn (FindReaders d) inside) where
       cases [] = none []
       cases (s ∷ us) = go s us (terminal_of s) refl
 
-  pub finds-formula : (ts : List Lexeme) → Finds (FormulaIs d) ts (formula inside ts)
-  unfolding formula first_terminal behind
+  pub finds-formula : (ts : List Lexeme) → Finds (FormulaIs d) ts (formula_reader inside ts)
+  unfolding formula_reader first_terminal lexemes_behind
   finds-formula ts = cases ts
     where
       plainly : (us : List Lexeme) → Finds (FormulaIs d) us (primary inside us >>= λ t rest. behind_primary inside t rest)
@@ -490,7 +490,7 @@ module _ (d : ℕ) (inside : Inside) (h : FindIn (FindReaders d) inside) where
 
 module _ (d : ℕ) (inside : Inside) (h : FindIn (FindReaders (suc d)) inside) where
   finds-lone : (c : Conn) (t : Lexeme) (ts : List Lexeme) → lone_depth c (suc d) ≡ suc d → terminal_of t ≡ terminal.Conn c → Finds (GroupedIs d) (t ∷ ts) (lone c (t ∷ ts))
-  unfolding lone first_place behind
+  unfolding lone place_of_first lexemes_behind
   finds-lone c t ts n e =
       finds-behind (GroupedIs d) t (suc d) ts _
       (finds-past (λ u ws rest. (u ≡ operator t.at c) × (ws ≡ rest)) (λ u ws rest. GroupedIs d u (word t (suc d) ∷ ws) rest) Close (suc d) ts (λ after. found (operator t.at c) after)
@@ -500,7 +500,7 @@ module _ (d : ℕ) (inside : Inside) (h : FindIn (FindReaders (suc d)) inside) w
       (is.operator_primary d w (word t (suc d)) v rest c o (record { terminal = e; deep = sym n }) q))))
 
   finds-negated : (t : Lexeme) (ts : List Lexeme) → terminal_of t ≡ terminal.Conn Not → Finds (GroupedIs d) (t ∷ ts) (negated_at inside (t ∷ ts))
-  unfolding first_terminal first_place behind
+  unfolding first_terminal place_of_first lexemes_behind
   finds-negated t ts e = finds-entered (GroupedIs d) (FindReaders (suc d)) inside (t ∷ ts) (t ∷ ts) _ h (stopped-behind (GroupedIs d) t (suc (suc d)) ts alone) (λ r k room. cases r k room ts)
     where
       alone : Ending (λ u ws rest. GroupedIs d u (word t (suc (suc d)) ∷ ws) rest)
@@ -538,8 +538,8 @@ module _ (d : ℕ) (inside : Inside) (h : FindIn (FindReaders (suc d)) inside) w
   unfolding grouped first_terminal
   finds-grouped ts = cases ts
     where
-      plainly : (us : List Lexeme) → Finds (GroupedIs d) us (formula inside us >>= λ t rest. closed t rest)
-      plainly us = finds-as (Closed (FormulaIs (suc d)) Close (suc d)) (GroupedIs d) us _ (finds-closed (FormulaIs (suc d)) Close (suc d) us (formula inside us) (finds-formula (suc d) inside h us)) (group-closed d)
+      plainly : (us : List Lexeme) → Finds (GroupedIs d) us (formula_reader inside us >>= λ t rest. closed t rest)
+      plainly us = finds-as (Closed (FormulaIs (suc d)) Close (suc d)) (GroupedIs d) us _ (finds-closed (FormulaIs (suc d)) Close (suc d) us (formula_reader inside us) (finds-formula (suc d) inside h us)) (group-closed d)
 
       go : (t : Lexeme) (us : List Lexeme) (x : Terminal) → terminal_of t ≡ x → Finds (GroupedIs d) (t ∷ us) (grouped_by inside x (t ∷ us))
       go t us (terminal.Conn Not) e = finds-negated t us e
@@ -590,7 +590,7 @@ module _ (d : ℕ) (inside : Inside) (h : FindIn (FindReaders (suc d)) inside) w
       })
 
   finds-behind_variable : (b : Binder) (n : ℕ) (vs : List VarTree) (v : VarTree) (ts : List Lexeme) → Finds (BehindIs d b n vs v) ts (behind_variable inside b n (vs ++ v ∷ []) ts)
-  unfolding behind_variable first_terminal behind
+  unfolding behind_variable first_terminal lexemes_behind
   finds-behind_variable b n vs v [] = stopped-here (BehindIs d b n vs v) [] (behind-ends d b n vs v)
   finds-behind_variable b n vs v (s ∷ ts) = go (terminal_of s) refl
     where
@@ -600,7 +600,7 @@ module _ (d : ℕ) (inside : Inside) (h : FindIn (FindReaders (suc d)) inside) w
       go _ e = stopped-here (BehindIs d b n vs v) (s ∷ ts) (behind-ends d b n vs v)
 
   finds-bound : (b : Binder) (n : ℕ) (vs : List VarTree) (t : Lexeme) (ts : List Lexeme) → terminal_of t ≡ terminal.Upper → Finds (BoundIs d b n vs) (t ∷ ts) (bound inside b n vs (t ∷ ts))
-  unfolding bound behind
+  unfolding bound lexemes_behind
   finds-bound b n vs t ts e =
       finds-enter (BoundIs d b n vs) (FindReaders (suc d)) inside (t ∷ ts) (t ∷ ts) _ h
       (variable-stops d b n vs t ts e)

@@ -11,10 +11,10 @@ use Rattle.thf_grammar.specs.Words.{Lexeme, Word, plain, name_of, Is, lower, quo
 use Rattle.thf_grammar.specs.Types.{IsVar, plain_var, typed_var}
 use Rattle.thf_grammar.specs.Formulas as is
 use Rattle.thf_grammar.specs.Formulas.{binds_many, is_chained, is_nonassoc, lone_depth, AreVars, IsFormulaText, AreLinks, AreArguments, IsUnit, IsOperand, IsNegation, IsUnitary, IsPrimary, IsBinder}
-use Rattle.thf_parse.specs.Internal.Outcome.{found, wrong, Reader, ◌>>=◌, first_terminal, first_place, first_name, behind, enter}
+use Rattle.thf_parse.specs.Internal.Outcome.{found, wrong, Reader, ◌>>=◌, first_terminal, place_of_first, first_name, lexemes_behind, enter}
 use Rattle.thf_grammar.specs.Internal.Marks.{is_mark}
 use Rattle.thf_parse.specs.Internal.Reader.{type_with, inner_type}
-use Rattle.thf_parse.specs.Internal.FormulaReader.{Readers, Inside, var, typed_by, variable_at, negation_at, primary_by, primary, next_variable_by, next_variable, bracket_by, binder_at, unitary_by, unitary, operand_by, operand, right_side, equated_by, unit_by, unit, next_link, is_link, links, arguments_by, arguments, quantified_by, quantified_at, second, tail_by, tail, applied_by, applied, behind_primary_by, behind_primary, formula_by, formula, closed, lone, negated_operand, negated_by, negated_at, grouped_by, grouped, body, bound_by, behind_variable, bound, readers, inner}
+use Rattle.thf_parse.specs.Internal.FormulaReader.{Readers, Inside, var, typed_by, variable_at, negation_at, primary_by, primary, next_variable_by, next_variable, bracket_by, binder_at, unitary_by, unitary, operand_by, operand, right_side, equated_by, unit_by, unit, next_link, is_link, links, arguments_by, arguments_behind, quantified_reader, quantified_at, second, tail_by, tail, applied_by, applied_behind, behind_primary_by, behind_primary, formula_by, formula_reader, closed, lone, negated_operand, negated_by, negated_at, grouped_by, grouped, body, bound_by, behind_variable, bound, readers, inner}
 use Rattle.thf_parse.proofs.Goes.{Goes, GoIn, goes-bind, goes-token, goes-found, goes-enter, goes-into}
 use Rattle.thf_parse.proofs.MarkLaws.{goes-closed, goes-past}
 use Rattle.thf_parse.proofs.TypeLaws.{NoArrow, GoesTypes, goes-type_with, goes-inner_type}
@@ -88,7 +88,7 @@ no_equality-equated : (inside : Inside) (t : FormulaTree) (x : Terminal) (ts : L
 no_equality-equated inside t (terminal.Equality b) ts e = cc
 no_equality-equated inside t _ ts e = refl
 
-no_equality-behind : (inside : Inside) (t : FormulaTree) (x : Terminal) (ts : List Lexeme) → is_equality x ≡ false → behind_primary_by inside t x ts ≡ applied inside t ts
+no_equality-behind : (inside : Inside) (t : FormulaTree) (x : Terminal) (ts : List Lexeme) → is_equality x ≡ false → behind_primary_by inside t x ts ≡ applied_behind inside t ts
 no_equality-behind inside t (terminal.Equality b) ts e = cc
 no_equality-behind inside t _ ts e = refl
 
@@ -121,7 +121,7 @@ module _ (inside : Inside) (ts : List Lexeme) where
   primary-formula (terminal.Binder b) e = cc
   primary-formula _ e = refl
 
-  primary-grouped : (x : Terminal) → begins_primary x ≡ true → grouped_by inside x ts ≡ (formula inside ts >>= λ t rest. closed t rest)
+  primary-grouped : (x : Terminal) → begins_primary x ≡ true → grouped_by inside x ts ≡ (formula_reader inside ts >>= λ t rest. closed t rest)
   primary-grouped (terminal.Conn Not) e = cc
   primary-grouped (terminal.Conn And) e = cc
   primary-grouped (terminal.Conn Or) e = cc
@@ -228,7 +228,7 @@ module _ (limit : ℕ) where
     pub bound : (b : Binder) (n : ℕ) (vs more : List VarTree) (e : ℕ) (ws body rest : List Word) (closing colon : Word) (t : FormulaTree) → AreVars b d ws more e (closing ∷ colon ∷ body) → Is (terminal.Mark CloseList) (suc e) closing → Is (terminal.Mark Colon) e colon → IsUnit e body t rest → NoEquality rest → Goes limit ws rest (binding n b (vs ++ more) t) (r.bound b n vs (plain ws))
 
   goes-variable : (d : ℕ) (type : Reader TypeTree) → d ≤ limit → GoesTypes limit d type → (ws rest : List Word) (v : VarTree) → IsVar d ws v rest → NoArrow rest → is_mark Colon (first_of rest) ≡ false → Goes limit ws rest v (variable_at type (plain ws))
-  unfolding variable_at first_terminal first_place first_name behind
+  unfolding variable_at first_terminal place_of_first first_name lexemes_behind
   goes-variable d type within h ws rest v (plain_var _ w _ k) stop end =
       subst (λ o. Goes limit (w ∷ rest) rest v o) (sym (untyped (first_of rest) end))
       (goes-token limit w rest rest v (found v (plain rest)) (let q = k.deep in omega arith) (goes-found limit rest v))
@@ -250,7 +250,7 @@ module _ (limit : ℕ) where
         (goes-token limit w rest rest t (found t (plain rest)) (let q = k.deep in omega arith) (goes-found limit rest t))
 
     goes-primary : (ws rest : List Word) (t : FormulaTree) → IsPrimary d ws t rest → Goes limit ws rest t (primary inside (plain ws))
-    unfolding primary first_terminal first_place first_name behind
+    unfolding primary first_terminal place_of_first first_name lexemes_behind
     goes-primary ws rest t (is.constant_primary _ w _ (lower k)) = one w rest terminal.Lower t k refl
     goes-primary ws rest t (is.constant_primary _ w _ (quoted k)) = one w rest terminal.Quoted t k refl
     goes-primary ws rest t (is.variable_primary _ w _ k) = one w rest terminal.Upper t k refl
@@ -280,7 +280,7 @@ module _ (limit : ℕ) where
       pub goes : Goes limit ws rest t (binder_at inside binder (plain ws))
 
     goes-binder : (ws rest : List Word) (t : FormulaTree) → IsBinder d ws t rest → NoEquality rest → GoesBinder ws rest t
-    unfolding binder_at first_terminal first_place behind
+    unfolding binder_at first_terminal place_of_first lexemes_behind
     goes-binder _ rest _ (is.bound _ e w opening closing colon ws body _ b vs t k o vars c m u) stop = record {
       binder = b;
       begins = k.terminal;
@@ -299,7 +299,7 @@ module _ (limit : ℕ) where
         subst (λ x. Goes limit ws rest t (unitary_by inside x (plain ws))) (sym g.begins) g.goes
 
     goes-negation : (ws rest : List Word) (t : FormulaTree) → IsNegation d ws t rest → NoEquality rest → Goes limit ws rest t (negation_at inside (plain ws))
-    unfolding first_place behind
+    unfolding place_of_first lexemes_behind
     goes-negation _ rest _ (is.negated _ w ins _ t k p) stop =
         goes-enter limit (GoReaders d) d inside w ins rest (negation w.lexeme.at t) _ h k.deep
         (λ r m deeper. goes-bind limit ins rest rest t (negation w.lexeme.at t) (r.operand (plain ins)) _ (m.operand ins rest t p stop) (goes-found limit rest (negation w.lexeme.at t)))
@@ -310,7 +310,7 @@ module _ (limit : ℕ) where
     goes-operand ws rest t (is.negation_operand _ _ _ _ p) stop = subst (λ x. Goes limit ws rest t (operand_by inside x (plain ws))) (sym (negation-begins d ws rest t p)) (goes-negation ws rest t p stop)
 
     goes-right_side : (w : Word) (right rest : List Word) (b : Bool) (t u : FormulaTree) → Is (terminal.Equality b) d w → IsUnitary d right u rest → NoEquality rest → Goes limit (w ∷ right) rest (equation w.lexeme.at b t u) (right_side inside b t (plain (w ∷ right)))
-    unfolding right_side first_place behind
+    unfolding right_side place_of_first lexemes_behind
     goes-right_side w right rest b t u k p stop =
         goes-token limit w right rest (equation w.lexeme.at b t u) _ (let q = k.deep in omega arith)
         (goes-bind limit right rest rest u (equation w.lexeme.at b t u) (unitary inside (plain right)) _ (goes-unitary right rest u p stop) (goes-found limit rest (equation w.lexeme.at b t u)))
@@ -331,7 +331,7 @@ module _ (limit : ℕ) where
         (subst (λ x. Goes limit (w ∷ right) rest (equation w.lexeme.at b t u) (equated_by inside t x (plain (w ∷ right)))) (sym k.terminal) (goes-right_side w right rest b t u k q stop)))
 
     goes-links : (c : Conn) (t u : FormulaTree) (ws rest : List Word) → is_chained c ≡ true → AreLinks c d t ws u rest → Ends rest → Goes limit ws rest u (links inside c t (plain ws))
-    unfolding links first_terminal first_place behind
+    unfolding links first_terminal place_of_first lexemes_behind
     goes-links c t u ws rest e (is.no_links _ _ _ _) end =
         subst (λ b. Goes limit rest rest t (if b then next_link inside c t (plain rest) else found t (plain rest))) (sym (end-link c (first_of rest) end)) (goes-found limit rest t)
     goes-links c t u ws rest e (is.more_links _ _ _ v _ w right mid _ k p m) end =
@@ -339,8 +339,8 @@ module _ (limit : ℕ) where
         (goes-enter limit (GoReaders d) d inside w right rest u _ h k.deep
         (λ r n deeper. goes-bind limit right mid rest v u (r.unit (plain right)) _ (n.unit right mid v p (links-stop c (suc d) (binary w.lexeme.at c t v) u mid rest m end)) (n.links c (binary w.lexeme.at c t v) u mid rest e m end)))
 
-    goes-arguments : (t u : FormulaTree) (ws rest : List Word) → AreArguments d t ws u rest → Ends rest → Goes limit ws rest u (arguments inside t (plain ws))
-    unfolding arguments first_terminal first_place behind
+    goes-arguments : (t u : FormulaTree) (ws rest : List Word) → AreArguments d t ws u rest → Ends rest → Goes limit ws rest u (arguments_behind inside t (plain ws))
+    unfolding arguments_behind first_terminal place_of_first lexemes_behind
     goes-arguments t u ws rest (is.no_arguments _ _ _) end = subst (λ o. Goes limit rest rest t o) (sym (end-arguments inside t (first_of rest) (plain rest) (end-no_at (first_of rest) end))) (goes-found limit rest t)
     goes-arguments t u ws rest (is.more_arguments _ _ v _ w right mid _ k p m) end =
         subst (λ x. Goes limit (w ∷ right) rest u (arguments_by inside t x (plain (w ∷ right)))) (sym k.terminal)
@@ -348,14 +348,14 @@ module _ (limit : ℕ) where
         (λ r n deeper. goes-bind limit right mid rest v u (r.operand (plain right)) _ (n.operand right mid v p (arguments-stop (suc d) (application w.lexeme.at t v) u mid rest m end)) (n.arguments (application w.lexeme.at t v) u mid rest m end)))
 
     goes-quantified : (w : Word) (right mid rest : List Word) (all : Bool) (u v : FormulaTree) → Is (terminal.Mark At) (suc d) w → IsOperand (suc d) right u mid → AreArguments (suc d) (quantified w.lexeme.at all u) mid v rest → Ends rest → Goes limit (w ∷ right) rest v (quantified_at inside all (plain (w ∷ right)))
-    unfolding quantified_at first_terminal first_place behind
+    unfolding quantified_at first_terminal place_of_first lexemes_behind
     goes-quantified w right mid rest all u v k p m end =
-        subst (λ x. Goes limit (w ∷ right) rest v (quantified_by inside all x (plain (w ∷ right)))) (sym k.terminal)
+        subst (λ x. Goes limit (w ∷ right) rest v (quantified_reader inside all x (plain (w ∷ right)))) (sym k.terminal)
         (goes-enter limit (GoReaders d) d inside w right rest v _ h k.deep
         (λ r n deeper. goes-bind limit right mid rest u v (r.operand (plain right)) _ (n.operand right mid u p (arguments-stop (suc d) (quantified w.lexeme.at all u) v mid rest m end)) (n.arguments (quantified w.lexeme.at all u) v mid rest m end)))
 
     goes-second : (c : Conn) (t u : FormulaTree) (w : Word) (right rest : List Word) → Is (terminal.Conn c) d w → IsUnit d right u rest → NoEquality rest → Goes limit (w ∷ right) rest (binary w.lexeme.at c t u) (second inside c t (plain (w ∷ right)))
-    unfolding second first_place behind
+    unfolding second place_of_first lexemes_behind
     goes-second c t u w right rest k p stop =
         goes-token limit w right rest (binary w.lexeme.at c t u) _ (let q = k.deep in omega arith)
         (goes-bind limit right rest rest u (binary w.lexeme.at c t u) (unit inside (plain right)) _ (goes-unit right rest u p stop) (goes-found limit rest (binary w.lexeme.at c t u)))
@@ -375,29 +375,29 @@ module _ (limit : ℕ) where
             (subst (λ o. Goes limit (l.token ∷ l.right) rest u o) (sym (chained-tail inside t c (plain (l.token ∷ l.right)) e))
             (subst (λ us. Goes limit us rest u (links inside c t (plain us))) l.whole (goes-links c t u ws rest e l.links end))))
 
-    goes-applied : (t u : FormulaTree) (ws rest : List Word) → NoAt ws → Goes limit ws rest u (tail inside t (plain ws)) → Goes limit ws rest u (applied inside t (plain ws))
-    unfolding applied
+    goes-applied : (t u : FormulaTree) (ws rest : List Word) → NoAt ws → Goes limit ws rest u (tail inside t (plain ws)) → Goes limit ws rest u (applied_behind inside t (plain ws))
+    unfolding applied_behind
     goes-applied t u ws rest stop g = subst (λ o. Goes limit ws rest u o) (sym (no_at-applied inside t (first_of ws) (plain ws) stop)) g
 
-    goes-behind : (t u : FormulaTree) (ws rest : List Word) → NoEquality ws → Goes limit ws rest u (applied inside t (plain ws)) → Goes limit ws rest u (behind_primary inside t (plain ws))
+    goes-behind : (t u : FormulaTree) (ws rest : List Word) → NoEquality ws → Goes limit ws rest u (applied_behind inside t (plain ws)) → Goes limit ws rest u (behind_primary inside t (plain ws))
     unfolding behind_primary
     goes-behind t u ws rest stop g = subst (λ o. Goes limit ws rest u o) (sym (no_equality-behind inside t (first_of ws) (plain ws) stop)) g
 
-    goes-from_primary : (ws mid rest : List Word) (t u : FormulaTree) → IsPrimary d ws t mid → Goes limit mid rest u (behind_primary inside t (plain mid)) → Goes limit ws rest u (formula inside (plain ws))
-    unfolding formula
+    goes-from_primary : (ws mid rest : List Word) (t u : FormulaTree) → IsPrimary d ws t mid → Goes limit mid rest u (behind_primary inside t (plain mid)) → Goes limit ws rest u (formula_reader inside (plain ws))
+    unfolding formula_reader
     goes-from_primary ws mid rest t u p g =
         subst (λ o. Goes limit ws rest u o) (sym (primary-formula inside (plain ws) (first_of ws) (primary-begins d ws mid t p)))
         (goes-bind limit ws mid rest t u (primary inside (plain ws)) _ (goes-primary ws mid t p) g)
 
-    goes-from_binder : (ws mid rest : List Word) (t u : FormulaTree) → IsBinder d ws t mid → NoEquality mid → Goes limit mid rest u (applied inside t (plain mid)) → Goes limit ws rest u (formula inside (plain ws))
-    unfolding formula
+    goes-from_binder : (ws mid rest : List Word) (t u : FormulaTree) → IsBinder d ws t mid → NoEquality mid → Goes limit mid rest u (applied_behind inside t (plain mid)) → Goes limit ws rest u (formula_reader inside (plain ws))
+    unfolding formula_reader
     goes-from_binder ws mid rest t u p stop g =
         let b = goes-binder ws mid t p stop in
         subst (λ x. Goes limit ws rest u (formula_by inside x (plain ws))) (sym b.begins) (goes-bind limit ws mid rest t u (binder_at inside b.binder (plain ws)) _ b.goes g)
 
     -- a formula by its first unit and what follows it
-    goes-by_unit : (ws mid rest : List Word) (t u : FormulaTree) → IsUnit d ws t mid → Follows d t mid u rest → Ends rest → Goes limit ws rest u (formula inside (plain ws))
-    unfolding formula behind_primary first_terminal
+    goes-by_unit : (ws mid rest : List Word) (t u : FormulaTree) → IsUnit d ws t mid → Follows d t mid u rest → Ends rest → Goes limit ws rest u (formula_reader inside (plain ws))
+    unfolding formula_reader behind_primary first_terminal
     goes-by_unit ws mid rest t u (is.unitary_unit _ _ _ _ (is.primary_unitary _ _ _ _ p)) f end =
         let stop = follows-stop d t u mid rest f end in
         goes-from_primary ws mid rest t u p (goes-behind t u mid rest stop.0 (goes-applied t u mid rest stop.1 (goes-tail t u mid rest f end)))
@@ -417,22 +417,22 @@ module _ (limit : ℕ) where
             (goes-bind limit (w ∷ right) mid rest (equation w.lexeme.at b s v) u (right_side inside b s (plain (w ∷ right))) _ (goes-right_side w right mid b s v k q stop) (goes-tail (equation w.lexeme.at b s v) u mid rest f end))
 
     -- an application by what is applied and its arguments
-    goes-by_unitary : (ws right mid rest : List Word) (w : Word) (t u v : FormulaTree) → IsUnitary d ws t (w ∷ right) → Is (terminal.Mark At) (suc d) w → IsOperand (suc d) right u mid → AreArguments (suc d) (application w.lexeme.at t u) mid v rest → Ends rest → Goes limit ws rest v (formula inside (plain ws))
-    unfolding applied first_terminal
+    goes-by_unitary : (ws right mid rest : List Word) (w : Word) (t u v : FormulaTree) → IsUnitary d ws t (w ∷ right) → Is (terminal.Mark At) (suc d) w → IsOperand (suc d) right u mid → AreArguments (suc d) (application w.lexeme.at t u) mid v rest → Ends rest → Goes limit ws rest v (formula_reader inside (plain ws))
+    unfolding applied_behind first_terminal
     goes-by_unitary ws right mid rest w t u v p k q m end = go p
       where
-        args : Goes limit (w ∷ right) rest v (arguments inside t (plain (w ∷ right)))
+        args : Goes limit (w ∷ right) rest v (arguments_behind inside t (plain (w ∷ right)))
         args = goes-arguments t v (w ∷ right) rest (is.more_arguments d t u v w right mid rest k q m) end
 
-        apply : Goes limit (w ∷ right) rest v (applied inside t (plain (w ∷ right)))
+        apply : Goes limit (w ∷ right) rest v (applied_behind inside t (plain (w ∷ right)))
         apply = subst (λ x. Goes limit (w ∷ right) rest v (applied_by inside t x (plain (w ∷ right)))) (sym k.terminal) args
 
-        go : IsUnitary d ws t (w ∷ right) → Goes limit ws rest v (formula inside (plain ws))
+        go : IsUnitary d ws t (w ∷ right) → Goes limit ws rest v (formula_reader inside (plain ws))
         go (is.primary_unitary _ _ _ _ r) = goes-from_primary ws (w ∷ right) rest t v r (goes-behind t v (w ∷ right) rest (ap is_equality k.terminal) apply)
         go (is.binder_unitary _ _ _ _ r) = goes-from_binder ws (w ∷ right) rest t v r (ap is_equality k.terminal) apply
 
-    goes-by_quantifier : (q w : Word) (right mid rest : List Word) (all : Bool) (u v : FormulaTree) → Is (terminal.Quant all) d q → Is (terminal.Mark At) (suc d) w → IsOperand (suc d) right u mid → AreArguments (suc d) (quantified w.lexeme.at all u) mid v rest → Ends rest → Goes limit (q ∷ w ∷ right) rest v (formula inside (plain (q ∷ w ∷ right)))
-    unfolding formula first_terminal behind
+    goes-by_quantifier : (q w : Word) (right mid rest : List Word) (all : Bool) (u v : FormulaTree) → Is (terminal.Quant all) d q → Is (terminal.Mark At) (suc d) w → IsOperand (suc d) right u mid → AreArguments (suc d) (quantified w.lexeme.at all u) mid v rest → Ends rest → Goes limit (q ∷ w ∷ right) rest v (formula_reader inside (plain (q ∷ w ∷ right)))
+    unfolding formula_reader first_terminal lexemes_behind
     goes-by_quantifier q w right mid rest all u v k m p r end =
         subst (λ x. Goes limit (q ∷ w ∷ right) rest v (formula_by inside x (plain (q ∷ w ∷ right)))) (sym k.terminal)
         (goes-token limit q (w ∷ right) rest v _ (let e = k.deep in omega arith) (goes-quantified w right mid rest all u v m p r end))
@@ -440,7 +440,7 @@ module _ (limit : ℕ) where
     linked : (c : Conn) (t u v : FormulaTree) (w : Word) (right mid rest : List Word) → Is (terminal.Conn c) (suc d) w → IsUnit (suc d) right u mid → AreLinks c (suc d) (binary w.lexeme.at c t u) mid v rest → Linked c d t (w ∷ right) v rest
     linked c t u v w right mid rest k q m = record { token = w; right = right; whole = refl; is = k; links = is.more_links c d t u v w right mid rest k q m }
 
-    pub goes-formula : (ws rest : List Word) (t : FormulaTree) → IsFormulaText d ws t rest → Ends rest → Goes limit ws rest t (formula inside (plain ws))
+    pub goes-formula : (ws rest : List Word) (t : FormulaTree) → IsFormulaText d ws t rest → Ends rest → Goes limit ws rest t (formula_reader inside (plain ws))
     goes-formula ws rest t (is.unit_formula _ _ _ _ p) end = goes-by_unit ws rest rest t t p (ends d t rest) end
     goes-formula ws rest _ (is.pair_formula _ _ right _ w c t u p k e q) end = goes-by_unit ws (w ∷ right) rest t (binary w.lexeme.at c t u) p (pairs d t u w right rest c k e q) end
     goes-formula ws rest v (is.chain_formula _ _ right mid _ w c t u _ p k e q m) end = goes-by_unit ws (w ∷ right) rest t v p (chains d t v c e (linked c t u v w right mid rest k q m)) end
@@ -473,7 +473,7 @@ module _ (limit : ℕ) where
 
   -- what stands behind `(` `~`
   goes-negated : (d : ℕ) → suc d ≤ limit → (inside : Inside) → GoIn limit (GoReaders (suc d)) (suc d) inside → (w v : Word) (ins mid rest : List Word) (t u : FormulaTree) → Is (terminal.Conn Not) (suc (suc d)) w → IsOperand (suc (suc d)) ins t mid → Follows (suc d) (negation w.lexeme.at t) mid u (v ∷ rest) → Is (terminal.Mark Close) (suc d) v → Goes limit (w ∷ ins) rest u (negated_at inside (plain (w ∷ ins)))
-  unfolding first_place behind
+  unfolding place_of_first lexemes_behind
   goes-negated d within None h w v ins mid rest t u k p f c = goes-enter limit (λ (r : Readers). ⊥) (suc d) None w ins rest u (λ r. found u []) h k.deep (λ r m deeper. absurd m)
   goes-negated d within (Some r) h w v ins mid rest t u k p f c =
       goes-token limit w ins rest u _ (let q = k.deep in let z = h.0 in omega arith)
@@ -486,13 +486,13 @@ module _ (limit : ℕ) where
 
   module _ (d : ℕ) (within : suc d ≤ limit) (inside : Inside) (h : GoIn limit (GoReaders (suc d)) (suc d) inside) where
     -- a formula behind `(` that doesn't begin with a connective
-    goes-plainly : (ws rest : List Word) (v : Word) (t : FormulaTree) → grouped_by inside (first_of ws) (plain ws) ≡ (formula inside (plain ws) >>= λ u mid. closed u mid) → IsFormulaText (suc d) ws t (v ∷ rest) → Is (terminal.Mark Close) (suc d) v → Goes limit ws rest t (grouped inside (plain ws))
+    goes-plainly : (ws rest : List Word) (v : Word) (t : FormulaTree) → grouped_by inside (first_of ws) (plain ws) ≡ (formula_reader inside (plain ws) >>= λ u mid. closed u mid) → IsFormulaText (suc d) ws t (v ∷ rest) → Is (terminal.Mark Close) (suc d) v → Goes limit ws rest t (grouped inside (plain ws))
     unfolding grouped
     goes-plainly ws rest v t e p c =
         subst (λ o. Goes limit ws rest t o) (sym e)
-        (goes-closed limit Close (suc d) ws v rest t (formula inside (plain ws)) within c (goes-formula (suc d) within inside h ws (v ∷ rest) t p (close-ends (suc d) v rest c)))
+        (goes-closed limit Close (suc d) ws v rest t (formula_reader inside (plain ws)) within c (goes-formula (suc d) within inside h ws (v ∷ rest) t p (close-ends (suc d) v rest c)))
 
-    unitary-plainly : (ws mid : List Word) (t : FormulaTree) → IsUnitary (suc d) ws t mid → grouped_by inside (first_of ws) (plain ws) ≡ (formula inside (plain ws) >>= λ u rest. closed u rest)
+    unitary-plainly : (ws mid : List Word) (t : FormulaTree) → IsUnitary (suc d) ws t mid → grouped_by inside (first_of ws) (plain ws) ≡ (formula_reader inside (plain ws) >>= λ u rest. closed u rest)
     unitary-plainly ws mid t (is.primary_unitary _ _ _ _ p) = primary-grouped inside (plain ws) (first_of ws) (primary-begins (suc d) ws mid t p)
     unitary-plainly ws mid t (is.binder_unitary _ _ _ _ p) = ap (λ x. grouped_by inside x (plain ws)) (binder-begins (suc d) ws mid t p).1
 
@@ -513,13 +513,13 @@ module _ (limit : ℕ) where
     goes-grouped _ rest v s (is.quantified_formula _ q w right mid _ all u _ k m p r) c = goes-plainly (q ∷ w ∷ right) rest v s (ap (λ x. grouped_by inside x (plain (q ∷ w ∷ right))) k.terminal) (is.quantified_formula (suc d) q w right mid (v ∷ rest) all u s k m p r) c
 
     goes-lone : (o v : Word) (rest : List Word) (c : Conn) → lone_depth c (suc d) ≡ suc d → Is (terminal.Conn c) (lone_depth c (suc d)) o → Is (terminal.Mark Close) (suc d) v → Goes limit (o ∷ v ∷ rest) rest (operator o.lexeme.at c) (lone c (plain (o ∷ v ∷ rest)))
-    unfolding lone first_place behind
+    unfolding lone place_of_first lexemes_behind
     goes-lone o v rest c e k m =
         goes-token limit o (v ∷ rest) rest (operator o.lexeme.at c) _ (let q = k.deep in omega arith)
         (goes-past limit Close (suc d) v rest rest (operator o.lexeme.at c) (λ after. found (operator o.lexeme.at c) after) within m (goes-found limit rest (operator o.lexeme.at c)))
 
     goes-lone_not : (o v : Word) (rest : List Word) → Is (terminal.Conn Not) (suc (suc d)) o → Is (terminal.Mark Close) (suc d) v → Goes limit (o ∷ v ∷ rest) rest (operator o.lexeme.at Not) (negated_at inside (plain (o ∷ v ∷ rest)))
-    unfolding first_terminal first_place behind
+    unfolding first_terminal place_of_first lexemes_behind
     goes-lone_not o v rest k m =
         goes-enter limit (GoReaders (suc d)) (suc d) inside o (v ∷ rest) rest (operator o.lexeme.at Not) _ h k.deep
         (λ r n deeper. subst (λ x. Goes limit (v ∷ rest) rest (operator o.lexeme.at Not) (negated_by inside o.lexeme.at x (plain (v ∷ rest)))) (sym m.terminal)
@@ -534,7 +534,7 @@ module _ (limit : ℕ) where
         go c k = goes-lone o v rest c refl k m
 
     goes-body : (b : Binder) (n : ℕ) (vs : List VarTree) (body_words rest : List Word) (closing colon : Word) (t : FormulaTree) → Is (terminal.Mark CloseList) (suc (suc d)) closing → suc (suc d) ≤ limit → Is (terminal.Mark Colon) (suc d) colon → IsUnit (suc d) body_words t rest → NoEquality rest → Goes limit (closing ∷ colon ∷ body_words) rest (binding n b vs t) (behind_variable inside b n vs (plain (closing ∷ colon ∷ body_words)))
-    unfolding behind_variable body first_terminal behind
+    unfolding behind_variable body first_terminal lexemes_behind
     goes-body b n vs ws rest closing colon t c deeper k u stop =
         subst (λ x. Goes limit (closing ∷ colon ∷ ws) rest (binding n b vs t) (bound_by inside b n vs x (plain (closing ∷ colon ∷ ws)))) (sym c.terminal)
         (goes-token limit closing (colon ∷ ws) rest (binding n b vs t) _ (let q = c.deep in omega arith)
@@ -542,7 +542,7 @@ module _ (limit : ℕ) where
         (goes-bind limit ws rest rest t (binding n b vs t) (unit inside (plain ws)) _ (goes-unit (suc d) within inside h ws rest t u stop) (goes-found limit rest (binding n b vs t)))))
 
     goes-comma : (b : Binder) (n : ℕ) (vs more : List VarTree) (e : ℕ) (w : Word) (ws body_words rest : List Word) (closing colon : Word) (t : FormulaTree) → Is (terminal.Mark Comma) (suc (suc d)) w → suc (suc d) ≤ limit → binds_many b ≡ true → AreVars b (suc d) ws more e (closing ∷ colon ∷ body_words) → Is (terminal.Mark CloseList) (suc e) closing → Is (terminal.Mark Colon) e colon → IsUnit e body_words t rest → NoEquality rest → Goes limit (w ∷ ws) rest (binding n b (vs ++ more) t) (behind_variable inside b n vs (plain (w ∷ ws)))
-    unfolding behind_variable first_terminal behind
+    unfolding behind_variable first_terminal lexemes_behind
     goes-comma b n vs more e w ws bs rest closing colon t m deeper many vars c k u stop =
         subst (λ x. Goes limit (w ∷ ws) rest (binding n b (vs ++ more) t) (bound_by inside b n vs x (plain (w ∷ ws)))) (sym m.terminal)
         (subst (λ y. Goes limit (w ∷ ws) rest (binding n b (vs ++ more) t) (if y then next_variable inside b n vs (plain ws) else wrong (plain (w ∷ ws)))) (sym many)

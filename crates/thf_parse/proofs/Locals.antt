@@ -5,7 +5,7 @@ use Rattle.std.proofs.lemmas.List.{append_cancel_right}
 use Rattle.thf_grammar.specs.declared.terminal.Terminal.{Terminal}
 use Rattle.thf_grammar.specs.declared.terminal.Terminal.TheVariants as terminal
 use Rattle.thf_grammar.specs.Words.{Lexeme, terminal_of}
-use Rattle.thf_parse.specs.Internal.Outcome.{Outcome, found, wrong, deep, Reader, ◌>>=◌, first_terminal, first_place, first_name, behind, enter}
+use Rattle.thf_parse.specs.Internal.Outcome.{Outcome, found, wrong, deep, Reader, ◌>>=◌, first_terminal, place_of_first, first_name, lexemes_behind, enter}
 
 -- the tokens from which the outcome goes on
 abbrev pub rest_of : {A : Type 0} → Outcome A → List Lexeme
@@ -59,8 +59,8 @@ module _ {A : Type 0} where
   pub at : (x : Terminal) (r : Reader A) → IsLocal r → IsLocalAt x r
   at x r l ts e = l ts
 
-  pub local-behind : (x : Terminal) (r : Reader A) → is_proper x ≡ true → IsLocal r → IsLocalAt x (λ ts. r (behind ts))
-  unfolding behind first_terminal
+  pub local-behind : (x : Terminal) (r : Reader A) → is_proper x ≡ true → IsLocal r → IsLocalAt x (λ ts. r (lexemes_behind ts))
+  unfolding lexemes_behind first_terminal
   local-behind x r p l [] e = let q : is_proper terminal.Other ≡ true = ap is_proper e ∙ p in cc
   local-behind x r p l (s ∷ ts) e =
       let d = l ts in
@@ -128,9 +128,9 @@ pub local-terminal : {A : Type 0} (g : Terminal → Reader A) → ((x : Terminal
 unfolding first_terminal
 local-terminal g l ts = decided-head first_terminal g (λ t ts us. refl) ts (l (first_terminal ts) ts refl)
 
-pub place-at : {A : Type 0} (y : Terminal) (g : ℕ → Reader A) → ((x : ℕ) → IsLocalAt y (g x)) → IsLocalAt y (λ ts. g (first_place ts) ts)
-unfolding first_place
-place-at y g l ts e = decided-head first_place g (λ t ts us. refl) ts (l (first_place ts) ts e)
+pub place-at : {A : Type 0} (y : Terminal) (g : ℕ → Reader A) → ((x : ℕ) → IsLocalAt y (g x)) → IsLocalAt y (λ ts. g (place_of_first ts) ts)
+unfolding place_of_first
+place-at y g l ts e = decided-head place_of_first g (λ t ts us. refl) ts (l (place_of_first ts) ts e)
 
 pub name-at : {A : Type 0} (y : Terminal) (g : List ℕ → Reader A) → ((x : List ℕ) → IsLocalAt y (g x)) → IsLocalAt y (λ ts. g (first_name ts) ts)
 unfolding first_name

@@ -6,7 +6,7 @@ use Rattle.thf_grammar.specs.declared.terminal.Terminal.{Terminal}
 use Rattle.thf_grammar.specs.declared.terminal.Terminal.TheVariants as terminal
 use Rattle.thf_grammar.specs.Internal.Marks.{same_mark, is_mark}
 use Rattle.thf_grammar.specs.Words.{Lexeme, Word, plain, terminal_of, Is}
-use Rattle.thf_parse.specs.Internal.Outcome.{Outcome, found, wrong, Reader, ◌>>=◌, first_terminal, behind, expect, expect_by}
+use Rattle.thf_parse.specs.Internal.Outcome.{Outcome, found, wrong, Reader, ◌>>=◌, first_terminal, lexemes_behind, expect, expect_by}
 use Rattle.thf_parse.proofs.Locals.{IsLocal, IsLocalAt, is_proper, at, local-found, local-wrong, local-behind, local-bind, local-terminal}
 use Rattle.thf_parse.proofs.Finds.{word, Ending, ending-then, Finds, stopped-here, finds-bind, finds-token, Nothing, nothing-ends, finds-nothing}
 use Rattle.thf_parse.proofs.Endings.{mark_word, mark-is}
@@ -42,7 +42,7 @@ pub is_mark-is : (m : Mark) (x : Terminal) → is_mark m x ≡ true → x ≡ te
 is_mark-is m (terminal.Mark n) h = ap (λ k. terminal.Mark k) (same_mark-is m n h)
 is_mark-is m _ h = cc
 
-local-expect_by : (m : Mark) (x : Terminal) (b : Bool) → is_mark m x ≡ b → IsLocalAt {A = Unit {0}} x (λ ts. if b then found unit (behind ts) else wrong ts)
+local-expect_by : (m : Mark) (x : Terminal) (b : Bool) → is_mark m x ≡ b → IsLocalAt {A = Unit {0}} x (λ ts. if b then found unit (lexemes_behind ts) else wrong ts)
 local-expect_by m x true e = local-behind x (λ ts. found unit ts) (ap is_proper (is_mark-is m x e)) (local-found unit)
 local-expect_by m x false e = at x (λ ts. wrong ts) local-wrong
 
@@ -67,7 +67,7 @@ past-ends K M m depth e join = record {
 
 -- a mark, and then something, which ends with some words
 pub finds-past : {A : Type 0} (K M : A → List Word → List Word → Type 0) (m : Mark) (depth : ℕ) (ts : List Lexeme) (f : Reader A) → Ending K → ((mid : List Lexeme) → Finds K mid (f mid)) → ((x : A) (w : Word) (ws rest : List Word) → Is (terminal.Mark m) depth w → K x ws rest → M x (w ∷ ws) rest) → Finds M ts (expect m ts >>= λ _ after. f after)
-unfolding expect first_terminal behind
+unfolding expect first_terminal lexemes_behind
 finds-past {A} K M m depth ts f close h join = cases ts
   where
     ending : Ending M
@@ -95,7 +95,7 @@ pub expected-ends : (m : Mark) (depth : ℕ) → Ending (Expected m depth)
 expected-ends m depth = record { value = unit; words = mark_word m depth ∷ []; read = λ after. record { token = mark_word m depth; whole = refl; is = mark-is m depth } }
 
 pub finds-expect : (m : Mark) (depth : ℕ) (ts : List Lexeme) → Finds (Expected m depth) ts (expect m ts)
-unfolding expect first_terminal behind
+unfolding expect first_terminal lexemes_behind
 finds-expect m depth [] = go (is_mark m terminal.Other) refl
   where
     go : (b : Bool) → is_mark m terminal.Other ≡ b → Finds (Expected m depth) [] (if b then found unit [] else wrong [])
@@ -138,7 +138,7 @@ finds-closed {A} N m depth ts o h =
     (closed-of N m depth)
 
 pub goes-expect : (limit : ℕ) (m : Mark) (depth : ℕ) (w : Word) (rest : List Word) → depth ≤ limit → Is (terminal.Mark m) depth w → Goes limit (w ∷ rest) rest unit (expect m (plain (w ∷ rest)))
-unfolding expect first_terminal behind
+unfolding expect first_terminal lexemes_behind
 goes-expect limit m depth w rest d is =
     subst (λ o. Goes limit (w ∷ rest) rest unit o) (sym e)
     (goes-token limit w rest rest unit (found unit (plain rest)) (let q = is.deep in omega arith) (goes-found limit rest unit))

@@ -7,9 +7,9 @@ use Rattle.thf_grammar.specs.declared.terminal.Terminal.TheVariants as terminal
 use Rattle.thf_grammar.specs.Words.{Lexeme, Word, plain, terminal_of, Is, IsName, lower, quoted}
 use Rattle.thf_grammar.specs.Notes as is
 use Rattle.thf_grammar.specs.Notes.{IsGeneral, AreGenerals, IsData, AreNotes}
-use Rattle.thf_parse.specs.Internal.Outcome.{found, wrong, Reader, ◌>>=◌, first_terminal, behind, expect}
+use Rattle.thf_parse.specs.Internal.Outcome.{found, wrong, Reader, ◌>>=◌, first_terminal, lexemes_behind, expect}
 use Rattle.thf_grammar.specs.Internal.Marks.{is_mark}
-use Rattle.thf_parse.specs.Internal.NoteReader.{passed, NoteReaders, called_by, called, data_by, data_at, listed_by, listed, paired_by, paired, general_by, general, generals, inner_notes, second_note, notes_by, notes}
+use Rattle.thf_parse.specs.Internal.NoteReader.{passed, NoteReaders, called_by, called, data_by, data_at, listed_by, list_reader, paired_by, paired, general_by, general, generals, inner_notes, second_note, notes_by, notes}
 use Rattle.thf_parse.proofs.Locals.{IsLocal, IsLocalAt, AreLocal, at, local-found, local-wrong, local-behind, local-bind, local-terminal, enter-at}
 use Rattle.thf_parse.proofs.Finds.{word, Ending, ending-then, Finds, stopped-here, stopped-behind, ending-as, finds-bind, finds-token, finds-as, finds-one, finds-none, FindIn, finds-enter}
 use Rattle.thf_parse.proofs.Endings.{mark_word, mark-is, upper_word, upper-is}
@@ -24,7 +24,7 @@ pub record LocalNotes (r : NoteReaders) : Type 0 where
 module _ (inside : Option NoteReaders) (l : AreLocal LocalNotes inside) where
   called_by-at : (x : Terminal) → IsLocalAt x (called_by inside x)
   called_by-at (terminal.Mark Open) =
-      enter-at (terminal.Mark Open) LocalNotes inside (λ r ts. r.generals (behind ts) >>= λ _ rest. expect Close rest) l
+      enter-at (terminal.Mark Open) LocalNotes inside (λ r ts. r.generals (lexemes_behind ts) >>= λ _ rest. expect Close rest) l
       (λ r k. local-behind (terminal.Mark Open) (λ ts. r.generals ts >>= λ _ rest. expect Close rest) refl (local-bind r.generals (λ _ rest. expect Close rest) k.generals (λ _. local-expect Close)))
   called_by-at _ = at _ (λ ts. found passed ts) (local-found passed)
 
@@ -44,7 +44,7 @@ module _ (inside : Option NoteReaders) (l : AreLocal LocalNotes inside) where
   unfolding data_at
   local-data = local-terminal (data_by inside) data_by-at
 
-  local-listed : (generals : Reader (Unit {0})) → IsLocal generals → IsLocal (listed generals)
+  local-listed : (generals : Reader (Unit {0})) → IsLocal generals → IsLocal (list_reader generals)
   local-listed generals k = local-terminal (listed_by generals) go
     where
       go : (x : Terminal) → IsLocalAt x (listed_by generals x)
@@ -52,7 +52,7 @@ module _ (inside : Option NoteReaders) (l : AreLocal LocalNotes inside) where
       go _ = at _ (λ ts. generals ts >>= λ _ rest. expect CloseList rest) (local-bind generals (λ _ rest. expect CloseList rest) k (λ _. local-expect CloseList))
 
   paired_by-at : (x : Terminal) → IsLocalAt x (paired_by inside x)
-  paired_by-at (terminal.Mark Colon) = enter-at (terminal.Mark Colon) LocalNotes inside (λ r ts. r.general (behind ts)) l (λ r k. local-behind (terminal.Mark Colon) r.general refl k.general)
+  paired_by-at (terminal.Mark Colon) = enter-at (terminal.Mark Colon) LocalNotes inside (λ r ts. r.general (lexemes_behind ts)) l (λ r k. local-behind (terminal.Mark Colon) r.general refl k.general)
   paired_by-at _ = at _ (λ ts. found passed ts) (local-found passed)
 
   local-paired : IsLocal (paired inside)
@@ -60,7 +60,7 @@ module _ (inside : Option NoteReaders) (l : AreLocal LocalNotes inside) where
   local-paired = local-terminal (paired_by inside) paired_by-at
 
   general_by-at : (x : Terminal) → IsLocalAt x (general_by inside x)
-  general_by-at (terminal.Mark OpenList) = enter-at (terminal.Mark OpenList) LocalNotes inside (λ r ts. listed r.generals (behind ts)) l (λ r k. local-behind (terminal.Mark OpenList) (listed r.generals) refl (local-listed r.generals k.generals))
+  general_by-at (terminal.Mark OpenList) = enter-at (terminal.Mark OpenList) LocalNotes inside (λ r ts. list_reader r.generals (lexemes_behind ts)) l (λ r k. local-behind (terminal.Mark OpenList) (list_reader r.generals) refl (local-listed r.generals k.generals))
   general_by-at _ = at _ (λ ts. data_at inside ts >>= λ _ rest. paired inside rest) (local-bind (data_at inside) (λ _ rest. paired inside rest) local-data (λ _. local-paired))
 
   pub local-general : IsLocal (general inside)
@@ -139,7 +139,7 @@ module _ (d : ℕ) (inside : Option NoteReaders) (h : FindIn (FindNotes (suc d))
   finds-list_end generals k ts = finds-bind (GeneralsAre (suc d)) (λ _. Expected CloseList (suc d)) (ListIs (terminal.Mark CloseList) (suc d)) ts (generals ts) _ (k ts) (λ _. expected-ends CloseList (suc d)) (λ _ mid. finds-expect CloseList (suc d) mid) (list-of CloseList (suc d))
 
   finds-called : (ts : List Lexeme) → Finds CalledIs ts (called inside ts)
-  unfolding called first_terminal behind
+  unfolding called first_terminal lexemes_behind
   finds-called ts = cases ts
     where
       none : (us : List Lexeme) → Finds CalledIs us (found passed us)
@@ -163,7 +163,7 @@ module _ (d : ℕ) (inside : Option NoteReaders) (h : FindIn (FindNotes (suc d))
   DataIs _ ws rest = IsData d ws rest
 
   finds-data : (ts : List Lexeme) → Finds DataIs ts (data_at inside ts)
-  unfolding data_at first_terminal behind
+  unfolding data_at first_terminal lexemes_behind
   finds-data [] = stopped-here DataIs [] (data-ends d)
   finds-data (t ∷ ts) = go (terminal_of t) refl
     where
@@ -185,8 +185,8 @@ module _ (d : ℕ) (inside : Option NoteReaders) (h : FindIn (FindNotes (suc d))
   listed-ends : Ending ListedIs
   listed-ends = record { value = passed; words = mark_word CloseList (suc d) ∷ []; read = λ after w o. is.empty_general d w (mark_word CloseList (suc d)) after o (mark-is CloseList (suc d)) }
 
-  finds-listed : (generals : Reader (Unit {0})) → ((ts : List Lexeme) → Finds (GeneralsAre (suc d)) ts (generals ts)) → (ts : List Lexeme) → Finds ListedIs ts (listed generals ts)
-  unfolding first_terminal behind
+  finds-listed : (generals : Reader (Unit {0})) → ((ts : List Lexeme) → Finds (GeneralsAre (suc d)) ts (generals ts)) → (ts : List Lexeme) → Finds ListedIs ts (list_reader generals ts)
+  unfolding first_terminal lexemes_behind
   finds-listed generals k ts = cases ts
     where
       some : (us : List Lexeme) → Finds ListedIs us (generals us >>= λ _ rest. expect CloseList rest)
@@ -205,7 +205,7 @@ module _ (d : ℕ) (inside : Option NoteReaders) (h : FindIn (FindNotes (suc d))
   PairedIs _ ws rest = (front : List Word) → IsData d front ws → IsGeneral d front rest
 
   finds-paired : (ts : List Lexeme) → Finds PairedIs ts (paired inside ts)
-  unfolding paired first_terminal behind
+  unfolding paired first_terminal lexemes_behind
   finds-paired ts = cases ts
     where
       none : (us : List Lexeme) → Finds PairedIs us (found passed us)
@@ -226,7 +226,7 @@ module _ (d : ℕ) (inside : Option NoteReaders) (h : FindIn (FindNotes (suc d))
       cases (t ∷ us) = go t us (terminal_of t) refl
 
   pub finds-general : (ts : List Lexeme) → Finds (GeneralIs d) ts (general inside ts)
-  unfolding general first_terminal behind
+  unfolding general first_terminal lexemes_behind
   finds-general ts = cases ts
     where
       plainly : (us : List Lexeme) → Finds (GeneralIs d) us (data_at inside us >>= λ _ rest. paired inside rest)
@@ -236,7 +236,7 @@ module _ (d : ℕ) (inside : Option NoteReaders) (h : FindIn (FindNotes (suc d))
       go t us (terminal.Mark OpenList) e =
           finds-enter (GeneralIs d) (FindNotes (suc d)) inside (t ∷ us) (t ∷ us) _ h
           (stopped-behind (GeneralIs d) t (suc d) us (ending-as ListedIs (λ _ ws rest. IsGeneral d (word t (suc d) ∷ ws) rest) listed-ends (λ x ws rest p. p (word t (suc d)) (record { terminal = e; deep = refl }))))
-          (λ r k. finds-token ListedIs (GeneralIs d) t (suc d) us (listed r.generals us) (finds-listed r.generals k.generals us) (λ x ws rest p. p (word t (suc d)) (record { terminal = e; deep = refl })))
+          (λ r k. finds-token ListedIs (GeneralIs d) t (suc d) us (list_reader r.generals us) (finds-listed r.generals k.generals us) (λ x ws rest p. p (word t (suc d)) (record { terminal = e; deep = refl })))
       go t us _ e = plainly (t ∷ us)
 
       cases : (us : List Lexeme) → Finds (GeneralIs d) us (general_by inside (first_terminal us) us)
@@ -279,14 +279,14 @@ module _ (limit : ℕ) where
     goes-uncalled rest e = subst (λ o. Goes limit rest rest passed o) (sym (uncalled (first_terminal (plain rest)) (plain rest) e)) (goes-found limit rest passed)
 
     goes-called : (o v : Word) (ins rest : List Word) → Is (terminal.Mark Open) (suc d) o → AreGenerals (suc d) ins (v ∷ rest) → Is (terminal.Mark Close) (suc d) v → Goes limit (o ∷ ins) rest passed (called inside (plain (o ∷ ins)))
-    unfolding called first_terminal behind
+    unfolding called first_terminal lexemes_behind
     goes-called o v ins rest k p m =
         subst (λ x. Goes limit (o ∷ ins) rest passed (called_by inside x (plain (o ∷ ins)))) (sym k.terminal)
         (goes-enter limit (GoNotes (suc d)) d inside o ins rest passed _ h k.deep
         (λ r n deeper. goes-bind limit ins (v ∷ rest) rest passed passed (r.generals (plain ins)) (λ _ us. expect Close us) (n.generals ins (v ∷ rest) p (ap ends_note m.terminal) (ap (is_mark Comma) m.terminal)) (goes-expect limit Close (suc d) v rest deeper m)))
 
     goes-name : (w : Word) (ws rest : List Word) → IsName d w → Goes limit ws rest passed (called inside (plain ws)) → Goes limit (w ∷ ws) rest passed (data_at inside (plain (w ∷ ws)))
-    unfolding data_at first_terminal behind
+    unfolding data_at first_terminal lexemes_behind
     goes-name w ws rest (lower k) g = subst (λ x. Goes limit (w ∷ ws) rest passed (data_by inside x (plain (w ∷ ws)))) (sym k.terminal) (goes-token limit w ws rest passed _ (let q = k.deep in omega arith) g)
     goes-name w ws rest (quoted k) g = subst (λ x. Goes limit (w ∷ ws) rest passed (data_by inside x (plain (w ∷ ws)))) (sym k.terminal) (goes-token limit w ws rest passed _ (let q = k.deep in omega arith) g)
 
@@ -298,7 +298,7 @@ module _ (limit : ℕ) where
 
     -- data is found where no `(` follows it
     goes-data : (ws rest : List Word) → IsData d ws rest → is_mark Open (first_terminal (plain rest)) ≡ false → Goes limit ws rest passed (data_at inside (plain ws))
-    unfolding behind
+    unfolding lexemes_behind
     goes-data ws rest (is.name_data _ w _ n) e = goes-name w rest rest n (goes-uncalled rest e)
     goes-data ws rest (is.call_data _ w o v ins _ n k p m) e = goes-name w (o ∷ ins) rest n (goes-called o v ins rest k p m)
     goes-data ws rest (is.upper_data _ w _ k) e = goes-single w rest terminal.Upper k refl
@@ -374,7 +374,7 @@ module _ (limit : ℕ) where
     unlisted generals _ ts e = refl
 
     goes-empty : (w v : Word) (rest : List Word) → Is (terminal.Mark OpenList) (suc d) w → Is (terminal.Mark CloseList) (suc d) v → Goes limit (w ∷ v ∷ rest) rest passed (general inside (plain (w ∷ v ∷ rest)))
-    unfolding general first_terminal behind
+    unfolding general first_terminal lexemes_behind
     goes-empty w v rest k m =
         subst (λ x. Goes limit (w ∷ v ∷ rest) rest passed (general_by inside x (plain (w ∷ v ∷ rest)))) (sym k.terminal)
         (goes-enter limit (GoNotes (suc d)) d inside w (v ∷ rest) rest passed _ h k.deep
@@ -382,7 +382,7 @@ module _ (limit : ℕ) where
         (goes-token limit v rest rest passed (found passed (plain rest)) (let q = m.deep in omega arith) (goes-found limit rest passed))))
 
     goes-list : (w v : Word) (ins rest : List Word) → Is (terminal.Mark OpenList) (suc d) w → AreGenerals (suc d) ins (v ∷ rest) → Is (terminal.Mark CloseList) (suc d) v → Goes limit (w ∷ ins) rest passed (general inside (plain (w ∷ ins)))
-    unfolding general first_terminal behind
+    unfolding general first_terminal lexemes_behind
     goes-list w v ins rest k p m =
         subst (λ x. Goes limit (w ∷ ins) rest passed (general_by inside x (plain (w ∷ ins)))) (sym k.terminal)
         (goes-enter limit (GoNotes (suc d)) d inside w ins rest passed _ h k.deep
@@ -390,7 +390,7 @@ module _ (limit : ℕ) where
         (goes-bind limit ins (v ∷ rest) rest passed passed (r.generals (plain ins)) (λ _ us. expect CloseList us) (n.generals ins (v ∷ rest) p (ap ends_note m.terminal) (ap (is_mark Comma) m.terminal)) (goes-expect limit CloseList (suc d) v rest deeper m))))
 
     pub goes-general : (ws rest : List Word) → IsGeneral d ws rest → EndsNote rest → Goes limit ws rest passed (general inside (plain ws))
-    unfolding paired first_terminal behind
+    unfolding paired first_terminal lexemes_behind
     goes-general ws rest (is.data_general _ _ _ p) end =
         goes-paired ws rest rest p (end-open (first_terminal (plain rest)) end)
         (subst (λ o. Goes limit rest rest passed o) (sym (end-paired (first_terminal (plain rest)) (plain rest) end)) (goes-found limit rest passed))

@@ -4,23 +4,23 @@ use Rattle.thf_parse.specs.declared.refusal.Refusal.{Refusal}
 use Rattle.thf_parse.specs.declared.refusal.Refusal.TheVariants.{Wrong, TooDeep, Memory}
 use Rattle.thf_grammar.specs.declared.terminal.Mark.TheVariants.{Comma}
 use Rattle.thf_grammar.specs.Words.{Lexeme}
-use Rattle.thf_parse.specs.Internal.Outcome.{found, Reader, first_terminal, behind}
+use Rattle.thf_parse.specs.Internal.Outcome.{found, Reader, first_terminal, lexemes_behind}
 use Rattle.thf_grammar.specs.Internal.Marks.{is_mark}
 use Rattle.thf_parse.specs.Internal.Passes.{IsRefusal, Passes}
-use Rattle.thf_parse.specs.Internal.NoteReader.{passed, all_commas, general, generals, listed, list_at, inner_notes}
+use Rattle.thf_parse.specs.Internal.NoteReader.{passed, all_commas, general, generals, list_reader, list_at, inner_notes}
 use Rattle.thf_parse.proofs.Locals.{IsLocal, rest_of, rest-length}
 use Rattle.thf_parse.proofs.MarkLaws.{is_mark-is}
 use Rattle.thf_parse.proofs.CommaLaws.{all-more, all-last, all-wrong, all-deep, comma-shorter}
 use Rattle.thf_parse.proofs.NoteLaws.{local-general, local-inner_notes}
 
 -- what stands behind a `[` is read with room for one level less
-pub list-entered : (room : ℕ) (ts us left : List Lexeme) (result : Result (Unit {0}) Refusal) → room ≢ 0 → us ≡ behind ts → Passes left result (listed (generals (inner_notes (room - 1))) us) → Passes left result (list_at (inner_notes room) ts)
+pub list-entered : (room : ℕ) (ts us left : List Lexeme) (result : Result (Unit {0}) Refusal) → room ≢ 0 → us ≡ lexemes_behind ts → Passes left result (list_reader (generals (inner_notes (room - 1))) us) → Passes left result (list_at (inner_notes room) ts)
 unfolding inner_notes
 list-entered zero ts us left result some e h = absurd (some refl)
 list-entered (suc room) ts us left result some e h =
     let less : suc room - 1 ≡ room = omega arith in
-    subst (λ vs. Passes left result (listed (generals (inner_notes room)) vs)) e
-    (subst (λ n. Passes left result (listed (generals (inner_notes n)) us)) less h)
+    subst (λ vs. Passes left result (list_reader (generals (inner_notes room)) vs)) e
+    (subst (λ n. Passes left result (list_reader (generals (inner_notes n)) us)) less h)
 
 module _ (room : ℕ) (us ts : List Lexeme) where
   abbrev item : Unit {0} → Reader (Unit {0})
@@ -39,8 +39,8 @@ module _ (room : ℕ) (us ts : List Lexeme) where
   unfolding generals
   generals-ended rest e h c = sym e ∙ all-last item local-item passed passed us rest h c
 
-  pub generals-more : (rest : List Lexeme) → all_commas item passed us ≡ all_commas item passed ts → general (inner_notes room) us ≡ found passed rest → is_mark Comma (first_terminal rest) ≡ true → all_commas item passed (behind rest) ≡ all_commas item passed ts
+  pub generals-more : (rest : List Lexeme) → all_commas item passed us ≡ all_commas item passed ts → general (inner_notes room) us ≡ found passed rest → is_mark Comma (first_terminal rest) ≡ true → all_commas item passed (lexemes_behind rest) ≡ all_commas item passed ts
   generals-more rest e h c = sym (all-more item local-item passed passed us rest h (is_mark-is Comma (first_terminal rest) c)) ∙ e
 
-  pub generals-shorter : (rest : List Lexeme) → general (inner_notes room) us ≡ found passed rest → is_mark Comma (first_terminal rest) ≡ true → length (behind rest) < length us
+  pub generals-shorter : (rest : List Lexeme) → general (inner_notes room) us ≡ found passed rest → is_mark Comma (first_terminal rest) ≡ true → length (lexemes_behind rest) < length us
   generals-shorter rest h c = omega (arith, rest-length (item passed) (local-item passed) us, ap (λ o. length (rest_of o)) h, comma-shorter rest c)

@@ -6,9 +6,9 @@ use Rattle.thf_grammar.specs.declared.terminal.Terminal.{Terminal}
 use Rattle.thf_grammar.specs.declared.terminal.Terminal.TheVariants as terminal
 use Rattle.thf_grammar.specs.Words.{Lexeme, Word, plain, terminal_of, Is}
 use Rattle.thf_grammar.specs.Statements.{IsFile, no_statement}
-use Rattle.thf_parse.specs.Internal.Outcome.{Outcome, found, wrong, deep, Reader, first_terminal, first_place, behind}
+use Rattle.thf_parse.specs.Internal.Outcome.{Outcome, found, wrong, deep, Reader, first_terminal, place_of_first, lexemes_behind}
 use Rattle.thf_parse.specs.Internal.StatementReader.{is_end, statements, file}
-use Rattle.thf_parse.specs.Parsing.{AreWithin, HasTree, BeginsFile, IsWrongAt, IsTooDeepAt}
+use Rattle.thf_parse.specs.Parsing.{AreWithinDepth, HasTree, BeginsFile, IsWrongAt, IsTooDeepAt}
 use Rattle.thf_parse.proofs.Locals.{Decided, ArePassed, none, more, is_proper, rest_of, with_rest}
 use Rattle.thf_parse.proofs.Finds.{Reading, Stopped, Finds, word, plain-append}
 use Rattle.thf_parse.proofs.Endings.{end_word, end-is}
@@ -38,7 +38,7 @@ ended-passed _ h (more t (u ∷ us) p k) = ended-passed (u ∷ us) h.1 k
 record Passed (limit : ℕ) (ws rest : List Word) : Type 0 where
   before : List Word
   whole : ws ≡ before ++ rest
-  within : AreWithin limit before
+  within : AreWithinDepth limit before
 
 passed : (limit : ℕ) (ws rest : List Word) → IsShallow limit ws rest → Passed limit ws rest
 passed limit ws rest (here _) = record { before = []; whole = refl; within = tt }
@@ -46,11 +46,11 @@ passed limit ws rest (there w us _ d s) =
     let p = passed limit us rest s in
     record { before = w ∷ p.before; whole = ap (λ xs. w ∷ xs) p.whole; within = (d, p.within) }
 
-within-append : (limit : ℕ) (xs ys : List Word) → AreWithin limit xs → AreWithin limit ys → AreWithin limit (xs ++ ys)
+within-append : (limit : ℕ) (xs ys : List Word) → AreWithinDepth limit xs → AreWithinDepth limit ys → AreWithinDepth limit (xs ++ ys)
 within-append limit [] ys h k = k
 within-append limit (x ∷ xs) ys h k = (h.0, within-append limit xs ys h.1 k)
 
-within-front : (limit : ℕ) (xs ys : List Word) → AreWithin limit (xs ++ ys) → AreWithin limit xs
+within-front : (limit : ℕ) (xs ys : List Word) → AreWithinDepth limit (xs ++ ys) → AreWithinDepth limit xs
 within-front limit [] ys h = tt
 within-front limit (x ∷ xs) ys h = (h.0, within-front limit xs ys h.1)
 
@@ -98,23 +98,23 @@ module _ (room : ℕ) where
       ap (λ k. file room [] (k ++ x.lexeme ∷ rest)) (sym fronts) ∙ d.same x.lexeme (plain back) rest left ∙ ap (λ o. with_rest o (x.lexeme ∷ rest)) h
 
   -- a file that is found has no token that is too deep
-  found-within : (ws : List Word) (e : Word) (tree : List StatementTree) (o : Outcome (List StatementTree)) → Is terminal.End 0 e → Arrives room ws (e ∷ []) tree o → AreWithin room ws
+  found-within : (ws : List Word) (e : Word) (tree : List StatementTree) (o : Outcome (List StatementTree)) → Is terminal.End 0 e → Arrives room ws (e ∷ []) tree o → AreWithinDepth room ws
   found-within ws e tree o k a =
       let p = passed room ws (e ∷ []) a.passed in
-      subst (λ us. AreWithin room us) (sym p.whole) (within-append room p.before (e ∷ []) p.within (let q = k.deep in omega arith, tt))
+      subst (λ us. AreWithinDepth room us) (sym p.whole) (within-append room p.before (e ∷ []) p.within (let q = k.deep in omega arith, tt))
 
   -- no token before the one that is refused is too deep
-  earlier-within : (ts front rest : List Lexeme) → ts ≡ front ++ rest → ((x : Lexeme) (us : List Lexeme) → file room [] ts ≡ deep (x ∷ us ++ rest) → ⊥) → (before after : List Word) (tree : List StatementTree) → plain before ≡ front → IsFile (before ++ after) tree → AreWithin room before
+  earlier-within : (ts front rest : List Lexeme) → ts ≡ front ++ rest → ((x : Lexeme) (us : List Lexeme) → file room [] ts ≡ deep (x ∷ us ++ rest) → ⊥) → (before after : List Word) (tree : List StatementTree) → plain before ≡ front → IsFile (before ++ after) tree → AreWithinDepth room before
   earlier-within ts front rest whole never before after tree e f = let g = file-goes (before ++ after) tree f in go g.0 g.1 g.2
     where
-      of_cut : (s : Sinks room (before ++ after) (file room [] (plain (before ++ after)))) (p : Passed room (before ++ after) (s.first ∷ s.back)) → Cuts before p.before s.first after s.back → AreWithin room before
-      of_cut s p (later m q) = within-front room before m (subst (λ us. AreWithin room us) q p.within)
+      of_cut : (s : Sinks room (before ++ after) (file room [] (plain (before ++ after)))) (p : Passed room (before ++ after) (s.first ∷ s.back)) → Cuts before p.before s.first after s.back → AreWithinDepth room before
+      of_cut s p (later m q) = within-front room before m (subst (λ us. AreWithinDepth room us) q p.within)
       of_cut s p (sooner m q) =
           let told : file room [] (plain p.before ++ s.first.lexeme ∷ (plain m ++ rest)) ≡ deep (s.first.lexeme ∷ (plain m ++ rest)) = deep-front (before ++ after) p.before s.back after s.first (plain m ++ rest) p.whole s.is in
           let same : ts ≡ plain p.before ++ s.first.lexeme ∷ (plain m ++ rest) = whole ∙ ap (λ k. k ++ rest) (sym e ∙ ap plain q ∙ plain-append p.before (s.first ∷ m)) ∙ append_assoc (plain p.before) (plain (s.first ∷ m)) rest in
           absurd (never s.first.lexeme (plain m) (ap (file room []) same ∙ told))
 
-      go : (x : Word) → Is terminal.End 0 x → Goes room (before ++ after) (x ∷ []) tree (file room [] (plain (before ++ after))) → AreWithin room before
+      go : (x : Word) → Is terminal.End 0 x → Goes room (before ++ after) (x ∷ []) tree (file room [] (plain (before ++ after))) → AreWithinDepth room before
       go x k (inl a) = within-front room before after (found-within (before ++ after) x tree _ k a)
       go x k (inr s) =
           let p = passed room (before ++ after) (s.first ∷ s.back) s.before in
@@ -155,10 +155,10 @@ module _ (room : ℕ) where
         subst (λ k. IsFile words k) (append-nil read.new ∙ sym read.whole) (read.file [] last),
       )
 
-  file-within : (ts us : List Lexeme) (ws : List Word) (tree : List StatementTree) → file room [] ts ≡ found tree us → plain ws ≡ ts → IsFile ws tree → AreWithin room ws
+  file-within : (ts us : List Lexeme) (ws : List Word) (tree : List StatementTree) → file room [] ts ≡ found tree us → plain ws ≡ ts → IsFile ws tree → AreWithinDepth room ws
   file-within ts us ws tree e p f = let g = file-goes ws tree f in go g.0 g.1 g.2
     where
-      go : (x : Word) → Is terminal.End 0 x → Goes room ws (x ∷ []) tree (file room [] (plain ws)) → AreWithin room ws
+      go : (x : Word) → Is terminal.End 0 x → Goes room ws (x ∷ []) tree (file room [] (plain ws)) → AreWithinDepth room ws
       go x k (inl a) = found-within ws x tree (file room [] (plain ws)) k a
       go x k (inr s) = let q : deep (plain (s.first ∷ s.back)) ≡ found tree us = sym s.is ∙ ap (file room []) p ∙ e in cc
 
@@ -188,8 +188,8 @@ module _ (room : ℕ) where
   begun-are : (front : List Lexeme) (token : Lexeme) (words after : List Word) → plain words ≡ front ++ token ∷ [] → plain (words ++ after) ≡ front ++ token ∷ plain after
   begun-are front token words after p = plain-append words after ∙ ap (λ k. k ++ plain after) p ∙ append_assoc front (token ∷ []) (plain after)
 
-  pub refused-wrong : (ts rest : List Lexeme) → IsEnded ts → file room [] ts ≡ wrong rest → IsWrongAt room ts (first_place rest)
-  unfolding first_place
+  pub refused-wrong : (ts rest : List Lexeme) → IsEnded ts → file room [] ts ≡ wrong rest → IsWrongAt room ts (place_of_first rest)
+  unfolding place_of_first
   refused-wrong ts [] h e = absurd (some-left (file room []) ts h (local-file room [] ts) (ap rest_of e))
   refused-wrong ts (token ∷ back) h e = record {
     front = d.front;
@@ -218,8 +218,8 @@ module _ (room : ℕ) where
           go (inl a) = let z = sym a.is ∙ told in cc
           go (inr s) = let z = sym s.is ∙ told in cc
 
-  pub refused-deep : (ts rest : List Lexeme) → IsEnded ts → file room [] ts ≡ deep rest → IsTooDeepAt room ts (first_place rest)
-  unfolding first_place behind
+  pub refused-deep : (ts rest : List Lexeme) → IsEnded ts → file room [] ts ≡ deep rest → IsTooDeepAt room ts (place_of_first rest)
+  unfolding place_of_first lexemes_behind
   refused-deep ts [] h e = absurd (some-left (file room []) ts h (local-file room [] ts) (ap rest_of e))
   refused-deep ts (token ∷ back) h e = record {
     front = d.front;
@@ -266,8 +266,8 @@ module _ (room : ℕ) where
     where
       go : (o : Outcome (List StatementTree)) → file room [] ts ≡ o → Answered ts
       go (found tree rest) e = inl (tree, parsed ts rest tree h e)
-      go (wrong rest) e = inr (first_place rest, inl (refused-wrong ts rest h e))
-      go (deep rest) e = inr (first_place rest, inr (refused-deep ts rest h e))
+      go (wrong rest) e = inr (place_of_first rest, inl (refused-wrong ts rest h e))
+      go (deep rest) e = inr (place_of_first rest, inr (refused-deep ts rest h e))
 
 -- the depths of tokens in sum
 total : List Word → ℕ

@@ -4,7 +4,7 @@ use Rattle.std.proofs.lemmas.List.{append-nil}
 use Rattle.thf_grammar.specs.Trees.{StatementTree}
 use Rattle.thf_grammar.specs.Words.{Lexeme, Word, plain}
 use Rattle.thf_grammar.specs.Statements.{IsFile}
-use Rattle.thf_parse.specs.Parsing.{AreWithin, HasTree, BeginsFile, GoesBeyond, IsWrongAt, IsTooDeepAt}
+use Rattle.thf_parse.specs.Parsing.{AreWithinDepth, HasTree, BeginsFile, GoesBeyond, IsWrongAt, IsTooDeepAt}
 
 -- the words of the tokens in front, and those behind
 record Parts (words : List Word) (front back : List Lexeme) : Type 0 where
@@ -44,12 +44,12 @@ begins-front front back b =
 begins-to : (front back : List Lexeme) (token : Lexeme) → BeginsFile (front ++ token ∷ back) → BeginsFile (front ++ token ∷ [])
 begins-to front back token b = begins-front (front ++ token ∷ []) back (subst BeginsFile (sym (append_assoc front (token ∷ []) back)) b)
 
-within-at : (limit : ℕ) (before after : List Word) (w : Word) → AreWithin limit (before ++ w ∷ after) → w.depth ≤ limit
+within-at : (limit : ℕ) (before after : List Word) (w : Word) → AreWithinDepth limit (before ++ w ∷ after) → w.depth ≤ limit
 within-at limit [] after w h = h.0
 within-at limit (v ∷ vs) after w h = within-at limit vs after w h.1
 
 -- a token that is too deep stands in no tokens that are within the limit
-not-within : (limit : ℕ) (front back : List Lexeme) (token : Lexeme) (words more : List Word) (tree : List StatementTree) → GoesBeyond limit front token → plain words ≡ front ++ token ∷ back → IsFile (words ++ more) tree → AreWithin limit words → ⊥
+not-within : (limit : ℕ) (front back : List Lexeme) (token : Lexeme) (words more : List Word) (tree : List StatementTree) → GoesBeyond limit front token → plain words ≡ front ++ token ∷ back → IsFile (words ++ more) tree → AreWithinDepth limit words → ⊥
 not-within limit front back token words more tree deeper tokens file within = go (parts words front (token ∷ back) tokens)
   where
     go : Parts words front (token ∷ back) → ⊥
@@ -60,7 +60,7 @@ not-within limit front back token words more tree deeper tokens file within = go
         at (w ∷ after) whole e =
             let first : w.lexeme ≡ token = cc in
             let f : IsFile (p.before ++ w ∷ (after ++ more)) tree = subst (λ ws. IsFile ws tree) (ap (λ ws. ws ++ more) whole ∙ append_assoc p.before (w ∷ after) more) file in
-            omega (arith, deeper p.before (after ++ more) w tree p.front_is first f, within-at limit p.before after w (subst (AreWithin limit) whole within))
+            omega (arith, deeper p.before (after ++ more) w tree p.front_is first f, within-at limit p.before after w (subst (AreWithinDepth limit) whole within))
 
 -- two places in a list
 data Places (front other : List Lexeme) (token another : Lexeme) : Type 0 where
@@ -97,7 +97,7 @@ module _ (limit : ℕ) (ts : List Lexeme) where
   stops-at at r front m e b = r.wrong (begins-to r.front m r.token (subst BeginsFile e b))
 
   -- no later token is the first that is too deep
-  sinks-at : (at : ℕ) (r : IsTooDeepAt limit ts at) (front m : List Lexeme) → front ≡ r.front ++ r.token ∷ m → (b : BeginsFile front) → AreWithin limit b.words → ⊥
+  sinks-at : (at : ℕ) (r : IsTooDeepAt limit ts at) (front m : List Lexeme) → front ≡ r.front ++ r.token ∷ m → (b : BeginsFile front) → AreWithinDepth limit b.words → ⊥
   sinks-at at r front m e b within = not-within limit r.front m r.token b.words b.more b.tree r.deeper (b.tokens ∙ e) b.file within
 
   pub one-wrong : (at other : ℕ) → IsWrongAt limit ts at → IsWrongAt limit ts other → at ≡ other

@@ -15,11 +15,11 @@ use Rattle.thf_grammar.specs.Statements as is
 use Rattle.thf_grammar.specs.Statements.{selected as labelled, IsLabel, IsKeyword, IsTyping, IsBody, AreLabels, IsSelection, IsEnd, IsStatement, IsFile}
 use Rattle.thf_grammar.specs.Notes as notes_are
 use Rattle.thf_grammar.specs.Notes.{AreNotes}
-use Rattle.thf_parse.specs.Internal.Outcome.{Outcome, found, wrong, deep, Reader, ◌>>=◌, first_terminal, first_place, first_name, first_text, behind, expect}
+use Rattle.thf_parse.specs.Internal.Outcome.{Outcome, found, wrong, deep, Reader, ◌>>=◌, first_terminal, place_of_first, first_name, first_text, lexemes_behind, expect}
 use Rattle.thf_parse.specs.Internal.Reader.{type_with, inner_type}
-use Rattle.thf_parse.specs.Internal.FormulaReader.{formula, inner}
+use Rattle.thf_parse.specs.Internal.FormulaReader.{formula_reader, inner}
 use Rattle.thf_parse.specs.Internal.NoteReader.{passed, general, second_note, notes_by, notes, inner_notes}
-use Rattle.thf_parse.specs.Internal.StatementReader.{selected, named_at, label_by, label, role_by, role, quoted_by, quoted as quoted_reader, declared_by, declared, typing_by, typing_with, inner_typing, body, Head, head_of, head, finish, annotated_of, annotated, more_label, labels, names, selection_by, selection, include, keyword_in, keyword_by, keyword, statement_by, statement, is_end, statements_by, statements, file}
+use Rattle.thf_parse.specs.Internal.StatementReader.{selected_at, selected_name_reader, label_by, label, role_by, role, quoted_by, quoted_reader, declared_by, declared, typing_by, typing_with, inner_typing, body_reader, Head, statement_head, head, finish, annotated_of, annotated, more_label, labels, names, selection_reader, selection, include, keyword_in, keyword_by, keyword, statement_by, statement, is_end, statements_by, statements, file}
 use Rattle.thf_parse.proofs.Finds.{word, Ending, ending-then, ending-map, ending-as, Finds, stopped-here, stopped-behind, finds-bind, finds-token, finds-as, finds-behind, finds-map, finds-one, finds-none, FindIn, finds-enter}
 use Rattle.thf_parse.proofs.Endings.{lower_word, lower-is, quoted_word, quoted-is, include_word, include-is}
 use Rattle.thf_parse.proofs.MarkLaws.{Closed, closed-ends, finds-closed, past-ends, finds-past, Expected, expected-ends, finds-expect}
@@ -39,9 +39,9 @@ pub record OneName (K : Word → Type 0) (n : SelectedTree) (ws rest : List Word
   pub is : K token
   pub named : n ≡ labelled token
 
-finds-named : (K : Word → Type 0) (t : Lexeme) (ts : List Lexeme) (d : ℕ) → K (word t d) → Finds (OneName K) (t ∷ ts) (named_at (t ∷ ts))
-unfolding first_place first_name behind
-finds-named K t ts d k = finds-one (OneName K) t d ts (selected t.at (name_of t)) (λ after. record { token = word t d; whole = refl; is = k; named = refl })
+finds-named : (K : Word → Type 0) (t : Lexeme) (ts : List Lexeme) (d : ℕ) → K (word t d) → Finds (OneName K) (t ∷ ts) (selected_name_reader (t ∷ ts))
+unfolding place_of_first first_name lexemes_behind
+finds-named K t ts d k = finds-one (OneName K) t d ts (selected_at t.at (name_of t)) (λ after. record { token = word t d; whole = refl; is = k; named = refl })
 
 name-ends : (K : Word → Type 0) (w : Word) → K w → Ending (OneName K)
 name-ends K w k = record { value = labelled w; words = w ∷ []; read = λ after. record { token = w; whole = refl; is = k; named = refl } }
@@ -121,7 +121,7 @@ module _ (d : ℕ) where
 
 module _ (d : ℕ) (type : Reader TypeTree) (h : (ts : List Lexeme) → Finds (TypeIs d) ts (type ts)) where
   finds-declared_by : (n : SelectedTree) (ts : List Lexeme) → Finds (BehindColon d n) ts (declared_by type n (first_terminal ts) ts)
-  unfolding first_terminal behind
+  unfolding first_terminal lexemes_behind
   finds-declared_by n ts = cases ts
     where
       of_type : (us : List Lexeme) → Finds (BehindColon d n) us (type us >>= λ t rest. found (typing n.at n.name t) rest)
@@ -141,15 +141,15 @@ module _ (d : ℕ) (type : Reader TypeTree) (h : (ts : List Lexeme) → Finds (T
   finds-declared n ts = finds-past (BehindColon d n) (DeclaredIs d n) Colon d ts (λ mid. declared_by type n (first_terminal mid) mid) (colon-ends d n) (λ mid. finds-declared_by n mid) (behind-colon d n)
 
   finds-typing : (inside : Option (Reader BodyTree)) → FindIn (λ r. (ts : List Lexeme) → Finds (TypingIs (suc d)) ts (r ts)) inside → (ts : List Lexeme) → Finds (TypingIs d) ts (typing_with type inside ts)
-  unfolding typing_with first_terminal behind
+  unfolding typing_with first_terminal lexemes_behind
   finds-typing inside k [] = stopped-here (TypingIs d) [] (typing-ends d)
   finds-typing inside k (t ∷ ts) = go (terminal_of t) refl
     where
       group : (s : Lexeme) → terminal_of s ≡ terminal.Mark Open → (b : BodyTree) (ws rest : List Word) → Closed (TypingIs (suc d)) Close (suc d) b ws rest → IsTyping d (word s (suc d) ∷ ws) b rest
       group s e b ws rest p = is.group_typing d (word s (suc d)) p.closing ws rest b (here s (terminal.Mark Open) (suc d) e) p.read p.closes
 
-      of_name : IsName d (word t d) → Finds (TypingIs d) (t ∷ ts) (named_at (t ∷ ts) >>= λ n rest. declared type n rest)
-      of_name m = finds-after (IsName d) (DeclaredIs d) (TypingIs d) (t ∷ ts) (named_at (t ∷ ts)) (λ n rest. declared type n rest) (finds-named (IsName d) t ts d m) (declared-ends d) finds-declared (λ w b ws rest q p. p w q refl)
+      of_name : IsName d (word t d) → Finds (TypingIs d) (t ∷ ts) (selected_name_reader (t ∷ ts) >>= λ n rest. declared type n rest)
+      of_name m = finds-after (IsName d) (DeclaredIs d) (TypingIs d) (t ∷ ts) (selected_name_reader (t ∷ ts)) (λ n rest. declared type n rest) (finds-named (IsName d) t ts d m) (declared-ends d) finds-declared (λ w b ws rest q p. p w q refl)
 
       go : (x : Terminal) → terminal_of t ≡ x → Finds (TypingIs d) (t ∷ ts) (typing_by type inside x (t ∷ ts))
       go terminal.Lower e = of_name (lower (here t terminal.Lower d e))
@@ -176,13 +176,13 @@ body-ends role = go (bytes_eq role (codes "type")) refl
     go true e = ending-as (TypingIs 0) (BodyIs role) (typing-ends 0) (λ b ws rest p. is.typing_body ws rest b ((bytes_eq-Decides role (codes "type")).0 e) p)
     go false e = ending-map (FormulaIs 0) (BodyIs role) formula_body (formula-ends 0) (λ t ws rest p. is.formula_body ws rest t (λ q. let z : bytes_eq role (codes "type") ≡ true = (bytes_eq-Decides role (codes "type")).1 q in cc) p)
 
-finds-body : (room : ℕ) (role : List ℕ) (ts : List Lexeme) → Finds (BodyIs role) ts (body room role ts)
-unfolding body
+finds-body : (room : ℕ) (role : List ℕ) (ts : List Lexeme) → Finds (BodyIs role) ts (body_reader room role ts)
+unfolding body_reader
 finds-body room role ts = go (bytes_eq role (codes "type")) refl
   where
-    go : (b : Bool) → bytes_eq role (codes "type") ≡ b → Finds (BodyIs role) ts (if b then typing_with (type_with (inner_type room)) (inner_typing room) ts else (formula (inner room) ts >>= λ t rest. found (formula_body t) rest))
+    go : (b : Bool) → bytes_eq role (codes "type") ≡ b → Finds (BodyIs role) ts (if b then typing_with (type_with (inner_type room)) (inner_typing room) ts else (formula_reader (inner room) ts >>= λ t rest. found (formula_body t) rest))
     go true e = finds-as (TypingIs 0) (BodyIs role) ts _ (finds-typing 0 (type_with (inner_type room)) (finds-type_with 0 (inner_type room) (finds-inner_type 0 room)) (inner_typing room) (finds-inner_typing 0 room) ts) (λ b ws rest p. is.typing_body ws rest b ((bytes_eq-Decides role (codes "type")).0 e) p)
-    go false e = finds-map (FormulaIs 0) (BodyIs role) formula_body ts (formula (inner room) ts) (finds-formula 0 (inner room) (finds-inner 0 room) ts) (λ t ws rest p. is.formula_body ws rest t (λ q. let z : bytes_eq role (codes "type") ≡ true = (bytes_eq-Decides role (codes "type")).1 q in cc) p)
+    go false e = finds-map (FormulaIs 0) (BodyIs role) formula_body ts (formula_reader (inner room) ts) (finds-formula 0 (inner room) (finds-inner 0 room) ts) (λ t ws rest p. is.formula_body ws rest t (λ q. let z : bytes_eq role (codes "type") ≡ true = (bytes_eq-Decides role (codes "type")).1 q in cc) p)
 
 abbrev NotesAre : Unit {0} → List Word → List Word → Type 0
 NotesAre _ ws rest = AreNotes ws rest
@@ -198,7 +198,7 @@ second-ends : Ending SecondIs
 second-ends = record { value = passed; words = []; read = λ after w front m p. notes_are.one_note w front after m p }
 
 finds-second : (room : ℕ) (ts : List Lexeme) → Finds SecondIs ts (second_note (inner_notes room) (first_terminal ts) ts)
-unfolding first_terminal behind
+unfolding first_terminal lexemes_behind
 finds-second room ts = cases ts
   where
     none : (us : List Lexeme) → Finds SecondIs us (found passed us)
@@ -215,7 +215,7 @@ finds-second room ts = cases ts
     cases (t ∷ us) = go t us (terminal_of t) refl
 
 finds-notes : (room : ℕ) (ts : List Lexeme) → Finds NotesAre ts (notes (inner_notes room) ts)
-unfolding notes first_terminal behind
+unfolding notes first_terminal lexemes_behind
 finds-notes room ts = cases ts
   where
     none : (us : List Lexeme) → Finds NotesAre us (found passed us)
@@ -245,7 +245,7 @@ record HeadIs (h : Head) (ws rest : List Word) : Type 0 where
   comma : Is (terminal.Mark Comma) 0 c
   role : Is terminal.Lower 0 r
   second_comma : Is (terminal.Mark Comma) 0 e
-  is : h ≡ head_of (name l) (labelled r)
+  is : h ≡ statement_head (name l) (labelled r)
 
 abbrev Head1 : Head → List Word → List Word → Type 0
 Head1 h ws rest = (o : Word) → Is (terminal.Mark Open) 0 o → HeadIs h (o ∷ ws) rest
@@ -281,9 +281,9 @@ open-head h w ws rest p k = k w p
 -- a head ends at each of its places
 head5-ends : (n m : SelectedTree) → Ending (Head5 n m)
 head5-ends n m = record {
-  value = head_of n.name m;
+  value = statement_head n.name m;
   words = [];
-  read = λ after o l c r e p q k u v w z. record { o = o; l = l; c = c; r = r; e = e; whole = refl; opens = p; label = q; comma = u; role = v; second_comma = z; is = ap (λ (a : SelectedTree). head_of a.name m) k ∙ ap (head_of (name l)) w };
+  read = λ after o l c r e p q k u v w z. record { o = o; l = l; c = c; r = r; e = e; whole = refl; opens = p; label = q; comma = u; role = v; second_comma = z; is = ap (λ (a : SelectedTree). statement_head a.name m) k ∙ ap (statement_head (name l)) w };
 }
 
 head4-ends : (n m : SelectedTree) → Ending (Head4 n m)
@@ -305,9 +305,9 @@ finds-head ts =
     (λ t1. finds-after IsLabel Head2 Head1 t1 (label t1) _ (finds-label t1) head2-ends
     (λ n t2. finds-past (Head3 n) (Head2 n) Comma 0 t2 _ (head3-ends n)
     (λ t3. finds-after (Is terminal.Lower 0) (Head4 n) (Head3 n) t3 (role t3) _ (finds-role t3) (head4-ends n)
-    (λ m t4. finds-past (Head5 n m) (Head4 n m) Comma 0 t4 (λ t5. found (head_of n.name m) t5) (head5-ends n m)
-    (λ t5. finds-none (Head5 n m) t5 (head_of n.name m)
-    (λ after o l c r e p q k u v w z. record { o = o; l = l; c = c; r = r; e = e; whole = refl; opens = p; label = q; comma = u; role = v; second_comma = z; is = ap (λ (a : SelectedTree). head_of a.name m) k ∙ ap (head_of (name l)) w }))
+    (λ m t4. finds-past (Head5 n m) (Head4 n m) Comma 0 t4 (λ t5. found (statement_head n.name m) t5) (head5-ends n m)
+    (λ t5. finds-none (Head5 n m) t5 (statement_head n.name m)
+    (λ after o l c r e p q k u v w z. record { o = o; l = l; c = c; r = r; e = e; whole = refl; opens = p; label = q; comma = u; role = v; second_comma = z; is = ap (λ (a : SelectedTree). statement_head a.name m) k ∙ ap (statement_head (name l)) w }))
     (comma-role n m))
     (role-behind n))
     (comma-label n))
@@ -373,7 +373,7 @@ finds-annotated : (room : ℕ) (ts : List Lexeme) → Finds AnnotatedIs ts (anno
 unfolding annotated
 finds-annotated room ts =
     finds-bind HeadIs Annotated1 AnnotatedIs ts (head ts) _ (finds-head ts) annotated1-ends
-    (λ h t1. finds-bind (BodyIs h.role.name) (Annotated2 h) (Annotated1 h) t1 (body room h.role.name t1) _ (finds-body room h.role.name t1) (annotated2-ends h)
+    (λ h t1. finds-bind (BodyIs h.role.name) (Annotated2 h) (Annotated1 h) t1 (body_reader room h.role.name t1) _ (finds-body room h.role.name t1) (annotated2-ends h)
     (λ b t2. finds-bind NotesAre (λ _. Annotated3 h b) (Annotated2 h b) t2 (notes (inner_notes room) t2) _ (finds-notes room t2) (λ _. annotated3-ends h b)
     (λ _ t3. finds-map EndIs (Annotated3 h b) (λ _. annotated_of h b) t3 (finish t3) (finds-finish t3) (λ x ws rest p. (refl, p)))
     (notes-behind h b))
@@ -470,17 +470,17 @@ selection-ends : Ending SelectionIs
 selection-ends = record { value = None; words = []; read = λ after. is.everything after }
 
 finds-selection : (ts : List Lexeme) → Finds SelectionIs ts (selection ts)
-unfolding selection first_terminal behind
+unfolding selection first_terminal lexemes_behind
 finds-selection ts = cases ts
   where
     none : (us : List Lexeme) → Finds SelectionIs us (found None us)
     none us = finds-none SelectionIs us None (λ after. is.everything after)
 
-    go : (t : Lexeme) (us : List Lexeme) (x : Terminal) → terminal_of t ≡ x → Finds SelectionIs (t ∷ us) (selection_by x (t ∷ us))
+    go : (t : Lexeme) (us : List Lexeme) (x : Terminal) → terminal_of t ≡ x → Finds SelectionIs (t ∷ us) (selection_reader x (t ∷ us))
     go t us (terminal.Mark Comma) e = finds-token NamesAre SelectionIs t 0 us (names us) (finds-names us) (λ only ws rest p. p (word t 0) (here t (terminal.Mark Comma) 0 e))
     go t us _ e = none (t ∷ us)
 
-    cases : (us : List Lexeme) → Finds SelectionIs us (selection_by (first_terminal us) us)
+    cases : (us : List Lexeme) → Finds SelectionIs us (selection_reader (first_terminal us) us)
     cases [] = none []
     cases (t ∷ us) = go t us (terminal_of t) refl
 
@@ -540,7 +540,7 @@ statement-ends : Ending StatementIs
 statement-ends = record { value = include-ends.value; words = include_word ∷ include-ends.words; read = λ after. include-ends.read after include_word (record { lower = include-is; spelled = refl }) }
 
 pub finds-statement : (room : ℕ) (ts : List Lexeme) → Finds StatementIs ts (statement room ts)
-unfolding statement keyword first_terminal first_text behind
+unfolding statement keyword first_terminal first_text lexemes_behind
 finds-statement room [] = stopped-here StatementIs [] statement-ends
 finds-statement room (t ∷ ts) = go (keyword (t ∷ ts)) refl
   where

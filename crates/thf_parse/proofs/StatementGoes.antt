@@ -13,12 +13,12 @@ use Rattle.thf_grammar.specs.Statements as is
 use Rattle.thf_grammar.specs.Statements.{selected as labelled, IsLabel, IsKeyword, IsTyping, IsBody, AreLabels, IsSelection, IsEnd, IsStatement, IsFile}
 use Rattle.thf_grammar.specs.Notes as notes_are
 use Rattle.thf_grammar.specs.Notes.{AreNotes}
-use Rattle.thf_parse.specs.Internal.Outcome.{found, Reader, ◌>>=◌, first_terminal, first_place, first_name, first_text, behind, expect}
+use Rattle.thf_parse.specs.Internal.Outcome.{found, Reader, ◌>>=◌, first_terminal, place_of_first, first_name, first_text, lexemes_behind, expect}
 use Rattle.thf_grammar.specs.Internal.Marks.{is_mark}
 use Rattle.thf_parse.specs.Internal.Reader.{type_with, inner_type}
-use Rattle.thf_parse.specs.Internal.FormulaReader.{formula, inner}
+use Rattle.thf_parse.specs.Internal.FormulaReader.{formula_reader, inner}
 use Rattle.thf_parse.specs.Internal.NoteReader.{passed, general, second_note, notes_by, notes, inner_notes}
-use Rattle.thf_parse.specs.Internal.StatementReader.{named_at, label_by, label, role_by, role, quoted_by, quoted as quoted_reader, declared_by, declared, typing_by, typing_with, inner_typing, body, head_of, head, finish, annotated_of, annotated, more_label, labels, names, selection_by, selection, include, keyword_in, keyword_by, keyword, statement_by, statement, is_end, statements_by, statements}
+use Rattle.thf_parse.specs.Internal.StatementReader.{selected_name_reader, label_by, label, role_by, role, quoted_by, quoted_reader, declared_by, declared, typing_by, typing_with, inner_typing, body_reader, statement_head, head, finish, annotated_of, annotated, more_label, labels, names, selection_reader, selection, include, keyword_in, keyword_by, keyword, statement_by, statement, is_end, statements_by, statements}
 use Rattle.thf_parse.proofs.Goes.{Goes, GoIn, sinks-bind, goes-bind, goes-token, goes-found, goes-enter}
 use Rattle.thf_parse.proofs.MarkLaws.{goes-expect, goes-past, goes-closed}
 use Rattle.thf_parse.proofs.TypeLaws.{GoesTypes, goes-type_with, goes-inner_type}
@@ -54,8 +54,8 @@ type-begins d ws rest t (simple_type _ _ _ _ p) = simple-begins d ws rest t p
 type-begins d ws rest t (arrow_type _ _ right _ w u v p _ _) = simple-begins d ws (w ∷ right) u p
 
 module _ (limit : ℕ) where
-  goes-named : (d : ℕ) (w : Word) (rest : List Word) → d ≤ limit → w.depth ≡ d → Goes limit (w ∷ rest) rest (labelled w) (named_at (plain (w ∷ rest)))
-  unfolding first_place first_name behind
+  goes-named : (d : ℕ) (w : Word) (rest : List Word) → d ≤ limit → w.depth ≡ d → Goes limit (w ∷ rest) rest (labelled w) (selected_name_reader (plain (w ∷ rest)))
+  unfolding place_of_first first_name lexemes_behind
   goes-named d w rest within e = goes-token limit w rest rest (labelled w) (found (labelled w) (plain rest)) (omega arith) (goes-found limit rest (labelled w))
 
   goes-label : (w : Word) (rest : List Word) → IsLabel w → Goes limit (w ∷ rest) rest (labelled w) (label (plain (w ∷ rest)))
@@ -82,7 +82,7 @@ module _ (limit : ℕ) where
 
     -- a typing that begins with its name
     goes-declared : (w v : Word) (ws rest : List Word) (b : BodyTree) → IsName d w → Is (terminal.Mark Colon) d v → Goes limit ws rest b (declared_by type (labelled w) (first_terminal (plain ws)) (plain ws)) → Goes limit (w ∷ v ∷ ws) rest b (typing_with type inside (plain (w ∷ v ∷ ws)))
-    unfolding typing_with declared first_terminal first_place first_name behind
+    unfolding typing_with declared first_terminal place_of_first first_name lexemes_behind
     goes-declared w v ws rest b (lower m) c g =
         subst (λ x. Goes limit (w ∷ v ∷ ws) rest b (typing_by type inside x (plain (w ∷ v ∷ ws)))) (sym m.terminal)
         (goes-token limit w (v ∷ ws) rest b _ (let q = m.deep in omega arith)
@@ -93,7 +93,7 @@ module _ (limit : ℕ) where
         (goes-past limit Colon d v ws rest b (λ mid. declared_by type (labelled w) (first_terminal mid) mid) within c g))
 
     goes-typing : GoesTypings d (typing_with type inside)
-    unfolding typing_with first_terminal behind
+    unfolding typing_with first_terminal lexemes_behind
     goes-typing _ rest _ (is.base_typing _ w v u _ m c t) end =
         goes-declared w v (u ∷ rest) rest (base (place w) (name w)) m c
         (subst (λ x. Goes limit (u ∷ rest) rest (base (place w) (name w)) (declared_by type (labelled w) x (plain (u ∷ rest)))) (sym t.terminal)
@@ -112,14 +112,14 @@ module _ (limit : ℕ) where
   goes-inner_typing d zero e = omega arith
   goes-inner_typing d (suc room) e = (omega arith, goes-typing (suc d) (omega arith) (type_with (inner_type room)) (goes-type_with limit (suc d) (omega arith) (inner_type room) (goes-inner_type limit (suc d) room (omega arith))) (inner_typing room) (goes-inner_typing (suc d) room (omega arith)))
 
-  goes-body : (role : List ℕ) (ws rest : List Word) (b : BodyTree) → IsBody role ws b rest → Ends rest → Goes limit ws rest b (body limit role (plain ws))
-  unfolding body
+  goes-body : (role : List ℕ) (ws rest : List Word) (b : BodyTree) → IsBody role ws b rest → Ends rest → Goes limit ws rest b (body_reader limit role (plain ws))
+  unfolding body_reader
   goes-body role ws rest b (is.typing_body _ _ _ e p) end =
-      subst (λ v. Goes limit ws rest b (if v then typing_with (type_with (inner_type limit)) (inner_typing limit) (plain ws) else (formula (inner limit) (plain ws) >>= λ t us. found (formula_body t) us))) (sym ((bytes_eq-Decides role (codes "type")).1 e))
+      subst (λ v. Goes limit ws rest b (if v then typing_with (type_with (inner_type limit)) (inner_typing limit) (plain ws) else (formula_reader (inner limit) (plain ws) >>= λ t us. found (formula_body t) us))) (sym ((bytes_eq-Decides role (codes "type")).1 e))
       (goes-typing 0 (omega arith) (type_with (inner_type limit)) (goes-type_with limit 0 (omega arith) (inner_type limit) (goes-inner_type limit 0 limit (zero-add limit))) (inner_typing limit) (goes-inner_typing 0 limit (zero-add limit)) ws rest b p end)
   goes-body role ws rest _ (is.formula_body _ _ t n p) end =
-      subst (λ v. Goes limit ws rest (formula_body t) (if v then typing_with (type_with (inner_type limit)) (inner_typing limit) (plain ws) else (formula (inner limit) (plain ws) >>= λ u us. found (formula_body u) us))) (sym (differs (bytes_eq role (codes "type")) refl))
-      (goes-bind limit ws rest rest t (formula_body t) (formula (inner limit) (plain ws)) _ (goes-formula limit 0 (omega arith) (inner limit) (goes-inner limit 0 limit (zero-add limit)) ws rest t p end) (goes-found limit rest (formula_body t)))
+      subst (λ v. Goes limit ws rest (formula_body t) (if v then typing_with (type_with (inner_type limit)) (inner_typing limit) (plain ws) else (formula_reader (inner limit) (plain ws) >>= λ u us. found (formula_body u) us))) (sym (differs (bytes_eq role (codes "type")) refl))
+      (goes-bind limit ws rest rest t (formula_body t) (formula_reader (inner limit) (plain ws)) _ (goes-formula limit 0 (omega arith) (inner limit) (goes-inner limit 0 limit (zero-add limit)) ws rest t p end) (goes-found limit rest (formula_body t)))
     where
       differs : (v : Bool) → bytes_eq role (codes "type") ≡ v → bytes_eq role (codes "type") ≡ false
       differs true e = absurd (n ((bytes_eq-Decides role (codes "type")).0 e))
@@ -133,7 +133,7 @@ module _ (limit : ℕ) where
   goes-one_general ws rest p end = goes-general limit 0 (omega arith) (inner_notes limit) (goes-inner_notes limit 0 limit (zero-add limit)) ws rest p end
 
   goes-notes : (ws rest : List Word) → AreNotes ws rest → first_terminal (plain rest) ≡ terminal.Mark Close → Goes limit ws rest passed (notes (inner_notes limit) (plain ws))
-  unfolding notes first_terminal behind
+  unfolding notes first_terminal lexemes_behind
   goes-notes ws rest (notes_are.no_notes _) c = subst (λ x. Goes limit rest rest passed (notes_by (inner_notes limit) x (plain rest))) (sym c) (goes-found limit rest passed)
   goes-notes _ rest (notes_are.one_note w ws _ m p) c =
       subst (λ x. Goes limit (w ∷ ws) rest passed (notes_by (inner_notes limit) x (plain (w ∷ ws)))) (sym m.terminal)
@@ -161,24 +161,24 @@ module _ (limit : ℕ) where
   unfolding finish
   goes-finish _ rest (is.ends w v _ k m) = goes-past limit Close 0 w (v ∷ rest) rest passed (λ mid. expect Stop mid) (omega arith) k (goes-expect limit Stop 0 v rest (omega arith) m)
 
-  goes-head : (o l c r e : Word) (ws : List Word) → Is (terminal.Mark Open) 0 o → IsLabel l → Is (terminal.Mark Comma) 0 c → Is terminal.Lower 0 r → Is (terminal.Mark Comma) 0 e → Goes limit (o ∷ l ∷ c ∷ r ∷ e ∷ ws) ws (head_of (name l) (labelled r)) (head (plain (o ∷ l ∷ c ∷ r ∷ e ∷ ws)))
+  goes-head : (o l c r e : Word) (ws : List Word) → Is (terminal.Mark Open) 0 o → IsLabel l → Is (terminal.Mark Comma) 0 c → Is terminal.Lower 0 r → Is (terminal.Mark Comma) 0 e → Goes limit (o ∷ l ∷ c ∷ r ∷ e ∷ ws) ws (statement_head (name l) (labelled r)) (head (plain (o ∷ l ∷ c ∷ r ∷ e ∷ ws)))
   unfolding head
   goes-head o l c r e ws p q u v w =
-      let h = head_of (name l) (labelled r) in
+      let h = statement_head (name l) (labelled r) in
       goes-past limit Open 0 o (l ∷ c ∷ r ∷ e ∷ ws) ws h _ (omega arith) p
       (goes-bind limit (l ∷ c ∷ r ∷ e ∷ ws) (c ∷ r ∷ e ∷ ws) ws (labelled l) h (label (plain (l ∷ c ∷ r ∷ e ∷ ws))) _ (goes-label l (c ∷ r ∷ e ∷ ws) q)
       (goes-past limit Comma 0 c (r ∷ e ∷ ws) ws h _ (omega arith) u
       (goes-bind limit (r ∷ e ∷ ws) (e ∷ ws) ws (labelled r) h (role (plain (r ∷ e ∷ ws))) _ (goes-role r (e ∷ ws) v)
       (goes-past limit Comma 0 e ws ws h (λ t. found h t) (omega arith) w (goes-found limit ws h)))))
 
-  goes-annotated : (o l c r e : Word) (ws mid behind_notes rest : List Word) (b : BodyTree) → Is (terminal.Mark Open) 0 o → IsLabel l → Is (terminal.Mark Comma) 0 c → Is terminal.Lower 0 r → Is (terminal.Mark Comma) 0 e → IsBody (name r) ws b mid → AreNotes mid behind_notes → IsEnd behind_notes rest → Goes limit (o ∷ l ∷ c ∷ r ∷ e ∷ ws) rest (annotated_of (head_of (name l) (labelled r)) b) (annotated limit (plain (o ∷ l ∷ c ∷ r ∷ e ∷ ws)))
+  goes-annotated : (o l c r e : Word) (ws mid behind_notes rest : List Word) (b : BodyTree) → Is (terminal.Mark Open) 0 o → IsLabel l → Is (terminal.Mark Comma) 0 c → Is terminal.Lower 0 r → Is (terminal.Mark Comma) 0 e → IsBody (name r) ws b mid → AreNotes mid behind_notes → IsEnd behind_notes rest → Goes limit (o ∷ l ∷ c ∷ r ∷ e ∷ ws) rest (annotated_of (statement_head (name l) (labelled r)) b) (annotated limit (plain (o ∷ l ∷ c ∷ r ∷ e ∷ ws)))
   unfolding annotated
   goes-annotated o l c r e ws mid after rest b p q u v w body_is notes_is end_is =
-      let h = head_of (name l) (labelled r) in
+      let h = statement_head (name l) (labelled r) in
       let s = annotated_of h b in
       let closing = end-begins after rest end_is in
       goes-bind limit (o ∷ l ∷ c ∷ r ∷ e ∷ ws) ws rest h s (head (plain (o ∷ l ∷ c ∷ r ∷ e ∷ ws))) _ (goes-head o l c r e ws p q u v w)
-      (goes-bind limit ws mid rest b s (body limit (name r) (plain ws)) _ (goes-body (name r) ws mid b body_is (notes-end mid after notes_is closing))
+      (goes-bind limit ws mid rest b s (body_reader limit (name r) (plain ws)) _ (goes-body (name r) ws mid b body_is (notes-end mid after notes_is closing))
       (goes-bind limit mid after rest passed s (notes (inner_notes limit) (plain mid)) _ (goes-notes mid after notes_is closing)
       (goes-bind limit after rest rest passed s (finish (plain after)) (λ _ t. found s t) (goes-finish after rest end_is) (goes-found limit rest s))))
 
@@ -199,10 +199,10 @@ module _ (limit : ℕ) where
   goes-labels ws rest ns p stop = goes-commas more_label local-more_label LabelsAre limit 0 (omega arith) (λ _. true) refl (λ s x us after k f. goes-more_label s x us after k) (suc (length (plain ws))) [] ns ws rest (labels-are [] ns ws rest p) (omega arith) refl stop
 
   goes-selection : (ws rest : List Word) (only : Option (List SelectedTree)) → IsSelection ws only rest → first_terminal (plain rest) ≡ terminal.Mark Close → Goes limit ws rest only (selection (plain ws))
-  unfolding selection names first_terminal behind
-  goes-selection ws rest only (is.everything _) c = subst (λ x. Goes limit rest rest None (selection_by x (plain rest))) (sym c) (goes-found limit rest None)
+  unfolding selection names first_terminal lexemes_behind
+  goes-selection ws rest only (is.everything _) c = subst (λ x. Goes limit rest rest None (selection_reader x (plain rest))) (sym c) (goes-found limit rest None)
   goes-selection _ rest _ (is.only w v u ws _ ns m o p k) c =
-      subst (λ x. Goes limit (w ∷ v ∷ ws) rest (Some ns) (selection_by x (plain (w ∷ v ∷ ws)))) (sym m.terminal)
+      subst (λ x. Goes limit (w ∷ v ∷ ws) rest (Some ns) (selection_reader x (plain (w ∷ v ∷ ws)))) (sym m.terminal)
       (goes-token limit w (v ∷ ws) rest (Some ns) _ (let q = m.deep in omega arith)
       (goes-past limit OpenList 0 v ws rest (Some ns) _ (omega arith) o
       (goes-bind limit ws (u ∷ rest) rest ns (Some ns) (labels (plain ws)) _ (goes-labels ws (u ∷ rest) ns p (ap (is_mark Comma) k.terminal))
@@ -222,7 +222,7 @@ module _ (limit : ℕ) where
   keyword-at text w ws k = ap (λ x. keyword_by x w.lexeme.text) k.lower.terminal ∙ ap keyword_in k.spelled
 
   pub goes-statement : (ws rest : List Word) (s : StatementTree) → IsStatement ws s rest → Goes limit ws rest s (statement limit (plain ws))
-  unfolding statement behind
+  unfolding statement lexemes_behind
   goes-statement _ rest s (is.annotated_statement k o l c r e ws mid after _ b kw p q u v w x y z) =
       subst (λ kind. Goes limit (k ∷ o ∷ l ∷ c ∷ r ∷ e ∷ ws) rest s (statement_by limit kind (plain (k ∷ o ∷ l ∷ c ∷ r ∷ e ∷ ws)))) (sym (keyword-at (codes "thf") k (o ∷ l ∷ c ∷ r ∷ e ∷ ws) kw))
       (goes-token limit k (o ∷ l ∷ c ∷ r ∷ e ∷ ws) rest s _ (let a = kw.lower.deep in omega arith) (goes-annotated o l c r e ws mid after rest b p q u v w x y z))

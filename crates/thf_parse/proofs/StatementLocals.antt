@@ -8,11 +8,11 @@ use Rattle.thf_grammar.specs.declared.terminal.Mark.TheVariants.{Open, Close, Op
 use Rattle.thf_grammar.specs.declared.terminal.Terminal.{Terminal}
 use Rattle.thf_grammar.specs.declared.terminal.Terminal.TheVariants as terminal
 use Rattle.thf_grammar.specs.Words.{Lexeme}
-use Rattle.thf_parse.specs.Internal.Outcome.{Outcome, found, wrong, deep, Reader, ◌>>=◌, first_terminal, first_name, first_text, behind, expect}
+use Rattle.thf_parse.specs.Internal.Outcome.{Outcome, found, wrong, deep, Reader, ◌>>=◌, first_terminal, first_name, first_text, lexemes_behind, expect}
 use Rattle.thf_parse.specs.Internal.Reader.{type_with, inner_type}
-use Rattle.thf_parse.specs.Internal.FormulaReader.{formula, inner}
+use Rattle.thf_parse.specs.Internal.FormulaReader.{formula_reader, inner}
 use Rattle.thf_parse.specs.Internal.NoteReader.{notes, inner_notes}
-use Rattle.thf_parse.specs.Internal.StatementReader.{selected, named_at, label_by, label, role_by, role, quoted_by, quoted, declared_by, declared, typing_by, typing_with, inner_typing, body, head_of, head, finish, annotated_of, annotated, more_label, labels, names, selection_by, selection, include, keyword_by, keyword, statement_by, statement, is_end, statements_by, statements, file}
+use Rattle.thf_parse.specs.Internal.StatementReader.{selected_at, selected_name_reader, label_by, label, role_by, role, quoted_by, quoted_reader, declared_by, declared, typing_by, typing_with, inner_typing, body_reader, statement_head, head, finish, annotated_of, annotated, more_label, labels, names, selection_reader, selection, include, keyword_by, keyword, statement_by, statement, is_end, statements_by, statements, file}
 use Rattle.thf_parse.proofs.Locals.{IsLocal, IsLocalAt, AreLocal, Decided, is_proper, rest_of, at, local-found, local-wrong, local-behind, local-bind, bind-at, local-terminal, place-at, name-at, enter-at, decided-head, rest-length, local-counted}
 use Rattle.thf_parse.proofs.MarkLaws.{local-past, local-expect, local-closed}
 use Rattle.thf_parse.proofs.TypeLaws.{local-type_with, local-inner_type}
@@ -20,10 +20,10 @@ use Rattle.thf_parse.proofs.FormulaLocals.{local-formula, local-inner}
 use Rattle.thf_parse.proofs.CommaLaws.{local-all}
 use Rattle.thf_parse.proofs.NoteLaws.{local-notes, local-inner_notes}
 
-named-at : (x : Terminal) → is_proper x ≡ true → IsLocalAt x named_at
+named-at : (x : Terminal) → is_proper x ≡ true → IsLocalAt x selected_name_reader
 named-at x p =
-    place-at x (λ q ts. found (selected q (first_name ts)) (behind ts))
-    (λ q. name-at x (λ n ts. found (selected q n) (behind ts)) (λ n. local-behind x (λ ts. found (selected q n) ts) p (local-found (selected q n))))
+    place-at x (λ q ts. found (selected_at q (first_name ts)) (lexemes_behind ts))
+    (λ q. name-at x (λ n ts. found (selected_at q n) (lexemes_behind ts)) (λ n. local-behind x (λ ts. found (selected_at q n) ts) p (local-found (selected_at q n))))
 
 label_by-at : (x : Terminal) → IsLocalAt x (label_by x)
 label_by-at terminal.Lower = named-at terminal.Lower refl
@@ -47,8 +47,8 @@ quoted_by-at : (x : Terminal) → IsLocalAt x (quoted_by x)
 quoted_by-at terminal.Quoted = named-at terminal.Quoted refl
 quoted_by-at _ = at _ (λ ts. wrong ts) local-wrong
 
-local-quoted : IsLocal quoted
-unfolding quoted
+local-quoted : IsLocal quoted_reader
+unfolding quoted_reader
 local-quoted = local-terminal quoted_by quoted_by-at
 
 module _ (type : Reader TypeTree) (k : IsLocal type) where
@@ -61,10 +61,10 @@ module _ (type : Reader TypeTree) (k : IsLocal type) where
   local-declared n = local-past Colon (λ mid. declared_by type n (first_terminal mid) mid) (local-terminal (declared_by type n) (declared_by-at n))
 
   typing_by-at : (inside : Option (Reader BodyTree)) → AreLocal IsLocal inside → (x : Terminal) → IsLocalAt x (typing_by type inside x)
-  typing_by-at inside l terminal.Lower = bind-at terminal.Lower named_at (λ n rest. declared type n rest) (named-at terminal.Lower refl) local-declared
-  typing_by-at inside l terminal.Quoted = bind-at terminal.Quoted named_at (λ n rest. declared type n rest) (named-at terminal.Quoted refl) local-declared
+  typing_by-at inside l terminal.Lower = bind-at terminal.Lower selected_name_reader (λ n rest. declared type n rest) (named-at terminal.Lower refl) local-declared
+  typing_by-at inside l terminal.Quoted = bind-at terminal.Quoted selected_name_reader (λ n rest. declared type n rest) (named-at terminal.Quoted refl) local-declared
   typing_by-at inside l (terminal.Mark Open) =
-      enter-at (terminal.Mark Open) IsLocal inside (λ r ts. r (behind ts) >>= λ b rest. expect Close rest >>= λ _ after. found b after) l
+      enter-at (terminal.Mark Open) IsLocal inside (λ r ts. r (lexemes_behind ts) >>= λ b rest. expect Close rest >>= λ _ after. found b after) l
       (λ r m. local-behind (terminal.Mark Open) (λ ts. r ts >>= λ b rest. expect Close rest >>= λ _ after. found b after) refl (local-closed Close r m))
   typing_by-at inside l _ = at _ (λ ts. wrong ts) local-wrong
 
@@ -77,22 +77,22 @@ unfolding inner_typing
 local-inner_typing zero = tt
 local-inner_typing (suc room) = local-typing (type_with (inner_type room)) (local-type_with (inner_type room) (local-inner_type room)) (inner_typing room) (local-inner_typing room)
 
-local-body : (room : ℕ) (role : List ℕ) → IsLocal (body room role)
-unfolding body
+local-body : (room : ℕ) (role : List ℕ) → IsLocal (body_reader room role)
+unfolding body_reader
 local-body room role = go (bytes_eq role (codes "type"))
   where
-    go : (b : Bool) → IsLocal (λ ts. if b then typing_with (type_with (inner_type room)) (inner_typing room) ts else (formula (inner room) ts >>= λ t rest. found (formula_body t) rest))
+    go : (b : Bool) → IsLocal (λ ts. if b then typing_with (type_with (inner_type room)) (inner_typing room) ts else (formula_reader (inner room) ts >>= λ t rest. found (formula_body t) rest))
     go true = local-typing (type_with (inner_type room)) (local-type_with (inner_type room) (local-inner_type room)) (inner_typing room) (local-inner_typing room)
-    go false = local-bind (formula (inner room)) (λ t rest. found (formula_body t) rest) (local-formula (inner room) (local-inner room)) (λ t. local-found (formula_body t))
+    go false = local-bind (formula_reader (inner room)) (λ t rest. found (formula_body t) rest) (local-formula (inner room) (local-inner room)) (λ t. local-found (formula_body t))
 
 local-head : IsLocal head
 unfolding head
 local-head =
-    local-past Open (λ t1. label t1 >>= λ n t2. expect Comma t2 >>= λ _ t3. role t3 >>= λ r t4. expect Comma t4 >>= λ _ t5. found (head_of n.name r) t5)
-    (local-bind label (λ n t2. expect Comma t2 >>= λ _ t3. role t3 >>= λ r t4. expect Comma t4 >>= λ _ t5. found (head_of n.name r) t5) local-label
-    (λ n. local-past Comma (λ t3. role t3 >>= λ r t4. expect Comma t4 >>= λ _ t5. found (head_of n.name r) t5)
-    (local-bind role (λ r t4. expect Comma t4 >>= λ _ t5. found (head_of n.name r) t5) local-role
-    (λ r. local-past Comma (λ t5. found (head_of n.name r) t5) (local-found (head_of n.name r))))))
+    local-past Open (λ t1. label t1 >>= λ n t2. expect Comma t2 >>= λ _ t3. role t3 >>= λ r t4. expect Comma t4 >>= λ _ t5. found (statement_head n.name r) t5)
+    (local-bind label (λ n t2. expect Comma t2 >>= λ _ t3. role t3 >>= λ r t4. expect Comma t4 >>= λ _ t5. found (statement_head n.name r) t5) local-label
+    (λ n. local-past Comma (λ t3. role t3 >>= λ r t4. expect Comma t4 >>= λ _ t5. found (statement_head n.name r) t5)
+    (local-bind role (λ r t4. expect Comma t4 >>= λ _ t5. found (statement_head n.name r) t5) local-role
+    (λ r. local-past Comma (λ t5. found (statement_head n.name r) t5) (local-found (statement_head n.name r))))))
 
 local-finish : IsLocal finish
 unfolding finish
@@ -101,8 +101,8 @@ local-finish = local-past Close (λ mid. expect Stop mid) (local-expect Stop)
 local-annotated : (room : ℕ) → IsLocal (annotated room)
 unfolding annotated
 local-annotated room =
-    local-bind head (λ h t1. body room h.role.name t1 >>= λ b t2. notes (inner_notes room) t2 >>= λ _ t3. finish t3 >>= λ _ t4. found (annotated_of h b) t4) local-head
-    (λ h. local-bind (body room h.role.name) (λ b t2. notes (inner_notes room) t2 >>= λ _ t3. finish t3 >>= λ _ t4. found (annotated_of h b) t4) (local-body room h.role.name)
+    local-bind head (λ h t1. body_reader room h.role.name t1 >>= λ b t2. notes (inner_notes room) t2 >>= λ _ t3. finish t3 >>= λ _ t4. found (annotated_of h b) t4) local-head
+    (λ h. local-bind (body_reader room h.role.name) (λ b t2. notes (inner_notes room) t2 >>= λ _ t3. finish t3 >>= λ _ t4. found (annotated_of h b) t4) (local-body room h.role.name)
     (λ b. local-bind (notes (inner_notes room)) (λ _ t3. finish t3 >>= λ _ t4. found (annotated_of h b) t4) (local-notes (inner_notes room) (local-inner_notes room))
     (λ _. local-bind finish (λ _ t4. found (annotated_of h b) t4) local-finish (λ _. local-found (annotated_of h b)))))
 
@@ -119,19 +119,19 @@ local-names =
     local-past OpenList (λ t1. labels t1 >>= λ ns t2. expect CloseList t2 >>= λ _ t3. found (Some ns) t3)
     (local-bind labels (λ ns t2. expect CloseList t2 >>= λ _ t3. found (Some ns) t3) local-labels (λ ns. local-past CloseList (λ t3. found (Some ns) t3) (local-found (Some ns))))
 
-selection_by-at : (x : Terminal) → IsLocalAt x (selection_by x)
+selection_by-at : (x : Terminal) → IsLocalAt x (selection_reader x)
 selection_by-at (terminal.Mark Comma) = local-behind (terminal.Mark Comma) names refl local-names
 selection_by-at _ = at _ (λ ts. found None ts) (local-found None)
 
 local-selection : IsLocal selection
 unfolding selection
-local-selection = local-terminal selection_by selection_by-at
+local-selection = local-terminal selection_reader selection_by-at
 
 local-include : IsLocal include
 unfolding include
 local-include =
-    local-past Open (λ t1. quoted t1 >>= λ f t2. selection t2 >>= λ only t3. finish t3 >>= λ _ t4. found (include_tree f.at f.name only) t4)
-    (local-bind quoted (λ f t2. selection t2 >>= λ only t3. finish t3 >>= λ _ t4. found (include_tree f.at f.name only) t4) local-quoted
+    local-past Open (λ t1. quoted_reader t1 >>= λ f t2. selection t2 >>= λ only t3. finish t3 >>= λ _ t4. found (include_tree f.at f.name only) t4)
+    (local-bind quoted_reader (λ f t2. selection t2 >>= λ only t3. finish t3 >>= λ _ t4. found (include_tree f.at f.name only) t4) local-quoted
     (λ f. local-bind selection (λ only t3. finish t3 >>= λ _ t4. found (include_tree f.at f.name only) t4) local-selection
     (λ only. local-bind finish (λ _ t4. found (include_tree f.at f.name only) t4) local-finish (λ _. local-found (include_tree f.at f.name only)))))
 
@@ -155,7 +155,7 @@ local-statement room ts = decided-head keyword (λ k us. statement_by room k us)
 
 -- a statement has a token at least
 pub statement-shorter : (room : ℕ) (ts rest : List Lexeme) (s : StatementTree) → statement room ts ≡ found s rest → length rest < length ts
-unfolding statement keyword first_terminal first_text behind
+unfolding statement keyword first_terminal first_text lexemes_behind
 statement-shorter room [] rest s e = cc
 statement-shorter room (t ∷ ts) rest s e = go (keyword (t ∷ ts)) e
   where

@@ -6,9 +6,9 @@ use Rattle.thf_grammar.specs.declared.terminal.Terminal.{Terminal}
 use Rattle.thf_grammar.specs.declared.terminal.Terminal.TheVariants as terminal
 use Rattle.thf_grammar.specs.Words.{Lexeme, Word, plain, terminal_of, name_of, Is, lower, quoted}
 use Rattle.thf_grammar.specs.Types.{IsType, simple_type as simple_is, arrow_type as arrow_is, IsSimpleType, indiv_type as indiv_is, form_type as form_is, named_type as named_is, group_type as group_is}
-use Rattle.thf_parse.specs.Internal.Outcome.{found, wrong, Reader, ◌>>=◌, first_terminal, first_place, first_name, behind, expect}
+use Rattle.thf_parse.specs.Internal.Outcome.{found, wrong, Reader, ◌>>=◌, first_terminal, place_of_first, first_name, lexemes_behind, expect}
 use Rattle.thf_grammar.specs.Internal.Marks.{is_mark}
-use Rattle.thf_parse.specs.Internal.Reader.{group_type, named_type, simple_type_by, simple_type, right_type, arrow_by, type_with, inner_type}
+use Rattle.thf_parse.specs.Internal.Reader.{group_type, named_type_reader, simple_type_by, simple_type, right_type, arrow_by, type_with, inner_type}
 use Rattle.thf_parse.proofs.Locals.{IsLocal, IsLocalAt, AreLocal, is_proper, at, local-found, local-wrong, local-behind, local-bind, local-terminal, place-at, name-at, enter-at}
 use Rattle.thf_parse.proofs.Finds.{word, Ending, Finds, stopped-here, stopped-behind, ending-as, ending-map, finds-bind, finds-token, finds-behind, finds-map, finds-one, finds-none, FindIn, finds-enter}
 use Rattle.thf_parse.proofs.Endings.{indiv_word, indiv-is}
@@ -17,20 +17,20 @@ use Rattle.thf_parse.proofs.MarkLaws.{local-closed, Closed, closed-ends, finds-c
 
 -- what is read is decided by the tokens up to the first that is left
 
-named-at : (x : Terminal) → is_proper x ≡ true → IsLocalAt x named_type
+named-at : (x : Terminal) → is_proper x ≡ true → IsLocalAt x named_type_reader
 named-at x p =
-    place-at x (λ q ts. found (named q (first_name ts)) (behind ts))
-    (λ q. name-at x (λ n ts. found (named q n) (behind ts))
+    place-at x (λ q ts. found (named q (first_name ts)) (lexemes_behind ts))
+    (λ q. name-at x (λ n ts. found (named q n) (lexemes_behind ts))
     (λ n. local-behind x (λ ts. found (named q n) ts) p (local-found (named q n))))
 
 module _ (inside : Option (Reader TypeTree)) (l : AreLocal IsLocal inside) where
   group-at : IsLocalAt (terminal.Mark mark.Open) (group_type inside)
   group-at =
-      enter-at (terminal.Mark mark.Open) IsLocal inside (λ type ts. type (behind ts) >>= λ t rest. expect mark.Close rest >>= λ _ after. found t after) l
+      enter-at (terminal.Mark mark.Open) IsLocal inside (λ type ts. type (lexemes_behind ts) >>= λ t rest. expect mark.Close rest >>= λ _ after. found t after) l
       (λ type k. local-behind (terminal.Mark mark.Open) (λ ts. type ts >>= λ t rest. expect mark.Close rest >>= λ _ after. found t after) refl (local-closed mark.Close type k))
 
-  one-at : (x : Terminal) (f : ℕ → TypeTree) → is_proper x ≡ true → IsLocalAt x (λ ts. found (f (first_place ts)) (behind ts))
-  one-at x f p = place-at x (λ q ts. found (f q) (behind ts)) (λ q. local-behind x (λ ts. found (f q) ts) p (local-found (f q)))
+  one-at : (x : Terminal) (f : ℕ → TypeTree) → is_proper x ≡ true → IsLocalAt x (λ ts. found (f (place_of_first ts)) (lexemes_behind ts))
+  one-at x f p = place-at x (λ q ts. found (f q) (lexemes_behind ts)) (λ q. local-behind x (λ ts. found (f q) ts) p (local-found (f q)))
 
   simple_by-at : (x : Terminal) → IsLocalAt x (simple_type_by inside x)
   simple_by-at terminal.Indiv = one-at terminal.Indiv indiv refl
@@ -46,8 +46,8 @@ module _ (inside : Option (Reader TypeTree)) (l : AreLocal IsLocal inside) where
 
   right-at : (t : TypeTree) → IsLocalAt (terminal.Mark mark.Arrow) (right_type inside t)
   right-at t =
-      enter-at (terminal.Mark mark.Arrow) IsLocal inside (λ type ts. type (behind ts) >>= λ u rest. found (arrow (first_place ts) t u) rest) l
-      (λ type k. place-at (terminal.Mark mark.Arrow) (λ p ts. type (behind ts) >>= λ u rest. found (arrow p t u) rest)
+      enter-at (terminal.Mark mark.Arrow) IsLocal inside (λ type ts. type (lexemes_behind ts) >>= λ u rest. found (arrow (place_of_first ts) t u) rest) l
+      (λ type k. place-at (terminal.Mark mark.Arrow) (λ p ts. type (lexemes_behind ts) >>= λ u rest. found (arrow p t u) rest)
       (λ p. local-behind (terminal.Mark mark.Arrow) (λ ts. type ts >>= λ u rest. found (arrow p t u) rest) refl (local-bind type (λ u rest. found (arrow p t u) rest) k (λ u. local-found (arrow p t u)))))
 
   arrow_by-at : (t : TypeTree) (x : Terminal) → IsLocalAt x (arrow_by inside t x)
@@ -86,7 +86,7 @@ module _ (d : ℕ) (inside : Option (Reader TypeTree)) (h : FindIn (FindsTypes (
   group-of t e u ws rest c = group_is d (word t (suc d)) c.closing ws rest u (record { terminal = e; deep = refl }) c.read c.closes
 
   finds-group : (t : Lexeme) (ts : List Lexeme) → terminal_of t ≡ terminal.Mark mark.Open → Finds (SimpleIs d) (t ∷ ts) (group_type inside (t ∷ ts))
-  unfolding behind
+  unfolding lexemes_behind
   finds-group t ts e =
       finds-enter (SimpleIs d) (FindsTypes (suc d)) inside (t ∷ ts) (t ∷ ts) _ h
       (stopped-behind (SimpleIs d) t (suc d) ts (ending-as (Closed (TypeIs (suc d)) mark.Close (suc d)) (λ u ws rest. IsSimpleType d (word t (suc d) ∷ ws) u rest) (closed-ends (TypeIs (suc d)) mark.Close (suc d) (type-ends (suc d))) (group-of t e)))
@@ -95,7 +95,7 @@ module _ (d : ℕ) (inside : Option (Reader TypeTree)) (h : FindIn (FindsTypes (
       (group-of t e))
 
   finds-simple : (ts : List Lexeme) → Finds (SimpleIs d) ts (simple_type inside ts)
-  unfolding simple_type first_terminal first_place first_name behind
+  unfolding simple_type first_terminal place_of_first first_name lexemes_behind
   finds-simple [] = stopped-here (SimpleIs d) [] (simple-ends d)
   finds-simple (t ∷ ts) = go (terminal_of t) refl
     where
@@ -124,7 +124,7 @@ module _ (d : ℕ) (inside : Option (Reader TypeTree)) (h : FindIn (FindsTypes (
   right-ends t = record { value = t; words = []; read = λ after ws k. simple_is d ws after t k }
 
   finds-arrow : (t : TypeTree) (ts : List Lexeme) → Finds (RightOf t) ts (arrow_by inside t (first_terminal ts) ts)
-  unfolding first_terminal first_place behind
+  unfolding first_terminal place_of_first lexemes_behind
   finds-arrow t [] = finds-none (RightOf t) [] t (λ after ws k. simple_is d ws after t k)
   finds-arrow t (s ∷ ts) = go (terminal_of s) refl
     where
@@ -165,7 +165,7 @@ module _ (limit : ℕ) where
         (goes-token limit w rest rest t (found t (plain rest)) (let q = is.deep in omega arith) (goes-found limit rest t))
 
     goes-simple : (ws rest : List Word) (t : TypeTree) → IsSimpleType d ws t rest → Goes limit ws rest t (simple_type inside (plain ws))
-    unfolding simple_type first_terminal first_place first_name behind
+    unfolding simple_type first_terminal place_of_first first_name lexemes_behind
     goes-simple ws rest t (indiv_is _ w _ is) = one w rest terminal.Indiv t is refl
     goes-simple ws rest t (form_is _ w _ is) = one w rest terminal.Form t is refl
     goes-simple ws rest t (named_is _ w _ (lower is)) = one w rest terminal.Lower t is refl
@@ -180,7 +180,7 @@ module _ (limit : ℕ) where
     no_arrow t _ ts e = refl
 
     pub goes-type_with : GoesTypes d (type_with inside)
-    unfolding type_with first_terminal first_place behind
+    unfolding type_with first_terminal place_of_first lexemes_behind
     goes-type_with ws rest t (simple_is _ _ _ _ is) stop =
         goes-bind limit ws rest rest t t (simple_type inside (plain ws)) _ (goes-simple ws rest t is)
         (subst (λ o. Goes limit rest rest t o) (sym (no_arrow t (first_terminal (plain rest)) (plain rest) stop)) (goes-found limit rest t))

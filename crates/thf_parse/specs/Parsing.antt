@@ -12,15 +12,15 @@ abbrev pub depth_limit : ℕ
 depth_limit = 512
 
 -- no token is deeper than the limit
-abbrev pub AreWithin : ℕ → List Word → Type 0
-AreWithin limit ws = AllByRecursion (λ (w : Word). w.depth ≤ limit) ws
+abbrev pub AreWithinDepth : ℕ → List Word → Type 0
+AreWithinDepth limit ws = AllByRecursion (λ (w : Word). w.depth ≤ limit) ws
 
 -- the tokens have the tree, with no depth beyond the limit
 pub record HasTree (limit : ℕ) (ts : List Lexeme) (tree : List StatementTree) : Type 0 where
   pub words : List Word
   pub tokens : plain words ≡ ts
   pub file : IsFile words tree
-  pub within : AreWithin limit words
+  pub within : AreWithinDepth limit words
 
 -- a file begins with the tokens: with some more behind them they have a tree
 pub record BeginsFile (ts : List Lexeme) : Type 0 where
@@ -32,7 +32,7 @@ pub record BeginsFile (ts : List Lexeme) : Type 0 where
 
 -- in every file that begins with the tokens, none of them is deeper than the limit
 abbrev pub StayWithin : ℕ → List Lexeme → Type 0
-StayWithin limit ts = (words more : List Word) (tree : List StatementTree) → plain words ≡ ts → IsFile (words ++ more) tree → AreWithin limit words
+StayWithin limit ts = (words more : List Word) (tree : List StatementTree) → plain words ≡ ts → IsFile (words ++ more) tree → AreWithinDepth limit words
 
 -- in every file that begins with the tokens in front and this one, it is deeper than the limit
 abbrev pub GoesBeyond : ℕ → List Lexeme → Lexeme → Type 0

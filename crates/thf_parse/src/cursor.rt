@@ -52,7 +52,7 @@ impl<'a> Cursor<'a> {
 
     /// The place of the first token.
     pub fn place(&self) -> u32
-        ensures { result ≡ spec.first_place self.now }
+        ensures { result ≡ spec.place_of_first self.now }
     {
         first_place(self.tokens)
     }
@@ -72,9 +72,9 @@ impl<'a> Cursor<'a> {
     }
 
     /// Passes the first token.
-    #[tactic(auto, unfolding(crate::specs::Internal::Outcome::behind))]
+    #[tactic(auto, unfolding(crate::specs::Internal::Outcome::lexemes_behind))]
     pub fn advance(&mut self)
-        ensures { self.new ≡ spec.behind self.old }
+        ensures { self.new ≡ spec.lexemes_behind self.old }
     {
         if let [_, rest @ ..] = self.tokens {
             self.found = first_terminal(self.bytes, rest);

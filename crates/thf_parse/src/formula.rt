@@ -38,7 +38,7 @@ fn is_link(conn: Conn, found: Terminal) -> bool
 }
 
 fn constant(alloc: Global, cursor: &mut Cursor) -> Result<Box<Surface>, Refusal>
-    ensures { ReadsFormula cursor.new result (reader.constant_at cursor.old) }
+    ensures { ReadsFormula cursor.new result (reader.constant_reader cursor.old) }
 {
     let at = cursor.place();
     let name = cursor.name(alloc)?;
@@ -337,14 +337,14 @@ fn next_link(
 
 /// What is applied to further arguments, from their `@` on, where `left` is the tree of what stands before.
 #[cycle(formulas)]
-#[tactic(auto, unfolding(crate::specs::Internal::FormulaReader::arguments))]
+#[tactic(auto, unfolding(crate::specs::Internal::FormulaReader::arguments_behind))]
 fn arguments(
     alloc: Global,
     room: u32,
     left: Box<Surface>,
     cursor: &mut Cursor,
 ) -> Result<Box<Surface>, Refusal>
-    ensures { ReadsFormula cursor.new result (reader.arguments (reader.inner room) (the_formula left.value) cursor.old) }
+    ensures { ReadsFormula cursor.new result (reader.arguments_behind (reader.inner room) (the_formula left.value) cursor.old) }
 {
     match cursor.found() {
         Terminal::Mark(Mark::At) => next_argument(alloc, room, left, cursor),
@@ -445,14 +445,14 @@ fn tail(
 
 /// The formula that begins with the unitary formula `left`, which isn't a side of an equation.
 #[cycle(formulas)]
-#[tactic(auto, unfolding(crate::specs::Internal::FormulaReader::applied))]
+#[tactic(auto, unfolding(crate::specs::Internal::FormulaReader::applied_behind))]
 fn applied(
     alloc: Global,
     room: u32,
     left: Box<Surface>,
     cursor: &mut Cursor,
 ) -> Result<Box<Surface>, Refusal>
-    ensures { ReadsFormula cursor.new result (reader.applied (reader.inner room) (the_formula left.value) cursor.old) }
+    ensures { ReadsFormula cursor.new result (reader.applied_behind (reader.inner room) (the_formula left.value) cursor.old) }
 {
     match cursor.found() {
         Terminal::Mark(Mark::At) => arguments(alloc, room, left, cursor),
@@ -481,9 +481,9 @@ fn behind_primary(
 }
 
 #[cycle(formulas)]
-#[tactic(auto, unfolding(crate::specs::Internal::FormulaReader::formula))]
+#[tactic(auto, unfolding(crate::specs::Internal::FormulaReader::formula_reader))]
 pub fn formula(alloc: Global, room: u32, cursor: &mut Cursor) -> Result<Box<Surface>, Refusal>
-    ensures { ReadsFormula cursor.new result (reader.formula (reader.inner room) cursor.old) }
+    ensures { ReadsFormula cursor.new result (reader.formula_reader (reader.inner room) cursor.old) }
 {
     match cursor.found() {
         Terminal::Conn(Conn::Not) => {

@@ -12,7 +12,7 @@ use thf_grammar::{Mark, Selected, Selection, Statement, Terminal};
 
 /// The first token as a name with its place.
 pub fn named(alloc: Global, cursor: &mut Cursor) -> Result<Selected, Refusal>
-    ensures { ReadsLabel cursor.new result (reader.named_at cursor.old) }
+    ensures { ReadsLabel cursor.new result (reader.selected_name_reader cursor.old) }
 {
     let at = cursor.place();
     let name = cursor.name(alloc)?;
@@ -30,9 +30,9 @@ pub fn label(alloc: Global, cursor: &mut Cursor) -> Result<Selected, Refusal>
     }
 }
 
-#[tactic(auto, unfolding(crate::specs::Internal::StatementReader::quoted))]
+#[tactic(auto, unfolding(crate::specs::Internal::StatementReader::quoted_reader))]
 fn quoted(alloc: Global, cursor: &mut Cursor) -> Result<Selected, Refusal>
-    ensures { ReadsLabel cursor.new result (reader.quoted cursor.old) }
+    ensures { ReadsLabel cursor.new result (reader.quoted_reader cursor.old) }
 {
     match cursor.found() {
         Terminal::Quoted => named(alloc, cursor),

@@ -60,7 +60,7 @@ fn list(room: u32, cursor: &mut Cursor) -> Result<(), Refusal>
 /// A list, from what stands behind its `[` on.
 #[cycle(notes)]
 fn listed(room: u32, cursor: &mut Cursor) -> Result<(), Refusal>
-    ensures { Passes cursor.new result (reader.listed (reader.generals (reader.inner_notes room)) cursor.old) }
+    ensures { Passes cursor.new result (reader.list_reader (reader.generals (reader.inner_notes room)) cursor.old) }
 {
     match cursor.found() {
         Terminal::Mark(Mark::CloseList) => {

@@ -1,7 +1,7 @@
 //! Types. In each reader, `room` is how many more things may be open at once.
 ghost use Rattle.thf_parse.specs.Internal.Reader as reader;
 ghost use Rattle.thf_parse.specs.Internal.Reads.{ReadsType};
-ghost use Rattle.thf_grammar.specs.View.{the_type};
+ghost use Rattle.thf_grammar.specs.View.{the_surface_type};
 
 use crate::cursor::Cursor;
 use crate::refusal::Refusal;
@@ -30,7 +30,7 @@ fn right_type(
     left: SurfaceTy,
     cursor: &mut Cursor,
 ) -> Result<SurfaceTy, Refusal>
-    ensures { ReadsType cursor.new result (reader.right_type (reader.inner_type room) (the_type left) cursor.old) }
+    ensures { ReadsType cursor.new result (reader.right_type (reader.inner_type room) (the_surface_type left) cursor.old) }
 {
     if room == 0 {
         return Err(Refusal::TooDeep);
@@ -63,7 +63,7 @@ fn simple_type(alloc: Global, room: u32, cursor: &mut Cursor) -> Result<SurfaceT
 }
 
 fn named_type(alloc: Global, cursor: &mut Cursor) -> Result<SurfaceTy, Refusal>
-    ensures { ReadsType cursor.new result (reader.named_type cursor.old) }
+    ensures { ReadsType cursor.new result (reader.named_type_reader cursor.old) }
 {
     let at = cursor.place();
     let name = cursor.name(alloc)?;

@@ -63,9 +63,9 @@ fn group_typing(alloc: Global, room: u32, cursor: &mut Cursor) -> Result<Body, R
 }
 
 /// The body of an annotated formula with this role.
-#[tactic(auto, unfolding(crate::specs::Internal::StatementReader::body))]
+#[tactic(auto, unfolding(crate::specs::Internal::StatementReader::body_reader))]
 pub fn body(alloc: Global, room: u32, role: &[u8], cursor: &mut Cursor) -> Result<Body, Refusal>
-    ensures { ReadsBody cursor.new result (reader.body room role.now cursor.old) }
+    ensures { ReadsBody cursor.new result (reader.body_reader room role.now cursor.old) }
 {
     if role == b"type".as_slice() {
         return typing(alloc, room, cursor);

@@ -60,9 +60,9 @@ pub fn first_text<'b>(bytes: &'b [u8], tokens: &[Token]) -> &'b [u8]
 }
 
 /// The place of the first token.
-#[tactic(auto, unfolding(crate::specs::Internal::Outcome::first_place))]
+#[tactic(auto, unfolding(crate::specs::Internal::Outcome::place_of_first))]
 pub fn first_place(tokens: &[Token]) -> u32
-    ensures { (bytes : List ℕ) → result ≡ spec.first_place (lexemes bytes tokens.now) }
+    ensures { (bytes : List ℕ) → result ≡ spec.place_of_first (lexemes bytes tokens.now) }
 {
     match tokens {
         [token, ..] => token.from,

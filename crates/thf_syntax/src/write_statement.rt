@@ -3,7 +3,7 @@ ghost use Rattle.std.specs.Prelude.{◌≡◌, ◌≤◌, ◌++◌, codes, map, 
 ghost use Rattle.std.specs.List.{flat_map};
 ghost use Rattle.outside.specs.Causes.{Rose};
 ghost use Rattle.outside.specs.Prefix.{AppendsProperly};
-ghost use Rattle.thf_grammar.specs.View.{the_type, the_body, the_annotated, the_selected, the_selection, the_statement, the_file};
+ghost use Rattle.thf_grammar.specs.View.{the_surface_type, the_body, the_annotated, the_selected, the_selection, the_statement, the_file};
 ghost use Rattle.thf_syntax.specs.Law.{HasTokens, AppendsTextOf};
 ghost use Rattle.thf_names.specs.Names.{name_text};
 ghost use Rattle.thf_syntax.specs.Texts as spec;
@@ -19,9 +19,9 @@ use thf_grammar::{Annotated, Body, FileTree, Selected, Selection, Statement, Sur
 /// Writes what declares a constant.
 fn write_typing<S: Sink>(sink: &mut S, name: &[u8], ty: &SurfaceTy) -> Result<(), Failed>
     ensures took { OnOk result (Took S.tells S.written S.faults sink.old sink.new
-        (name_text name.now ++ (codes ": " ++ spec.type_text (the_type ty.now)))) }
+        (name_text name.now ++ (codes ": " ++ spec.type_text (the_surface_type ty.now)))) }
     ensures stopped { OnErr result (Stopped S.tells S.written S.faults sink.old sink.new
-        (name_text name.now ++ (codes ": " ++ spec.type_text (the_type ty.now)))) }
+        (name_text name.now ++ (codes ": " ++ spec.type_text (the_surface_type ty.now)))) }
 {
     write_name(sink, name)?;
     write(sink, b": ")?;

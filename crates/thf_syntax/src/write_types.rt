@@ -1,7 +1,7 @@
 //! Writes types and variables.
 ghost use Rattle.std.specs.Prelude.{◌≡◌, ◌++◌, codes, map, OnOk, OnErr};
 ghost use Rattle.std.specs.List.{flat_map};
-ghost use Rattle.thf_grammar.specs.View.{the_type, the_var, the_vars};
+ghost use Rattle.thf_grammar.specs.View.{the_surface_type, the_var, the_vars};
 ghost use Rattle.thf_syntax.specs.Slots.{is_simple};
 ghost use Rattle.thf_syntax.specs.Texts.{type_text, var_text, separated, grouped_unless};
 ghost use Rattle.outside.specs.Writing.{Took, Stopped};
@@ -12,7 +12,7 @@ use outside::{Failed, Sink};
 use thf_grammar::{SurfaceTy, SurfaceVar};
 
 fn is_simple(ty: &SurfaceTy) -> bool
-    ensures { result ≡ is_simple (the_type ty.now) }
+    ensures { result ≡ is_simple (the_surface_type ty.now) }
 {
     !matches!(ty, SurfaceTy::Arrow { .. })
 }
@@ -20,8 +20,8 @@ fn is_simple(ty: &SurfaceTy) -> bool
 /// Writes a type.
 #[cycle(types)]
 pub fn write_type<S: Sink>(sink: &mut S, ty: &SurfaceTy) -> Result<(), Failed>
-    ensures took { OnOk result (Took S.tells S.written S.faults sink.old sink.new (type_text (the_type ty.now))) }
-    ensures stopped { OnErr result (Stopped S.tells S.written S.faults sink.old sink.new (type_text (the_type ty.now))) }
+    ensures took { OnOk result (Took S.tells S.written S.faults sink.old sink.new (type_text (the_surface_type ty.now))) }
+    ensures stopped { OnErr result (Stopped S.tells S.written S.faults sink.old sink.new (type_text (the_surface_type ty.now))) }
 {
     match ty {
         SurfaceTy::Form { .. } => write(sink, b"$o"),
@@ -39,9 +39,9 @@ pub fn write_type<S: Sink>(sink: &mut S, ty: &SurfaceTy) -> Result<(), Failed>
 #[cycle(types)]
 fn write_argument_type<S: Sink>(sink: &mut S, ty: &SurfaceTy) -> Result<(), Failed>
     ensures took { OnOk result (Took S.tells S.written S.faults sink.old sink.new
-        (grouped_unless (is_simple (the_type ty.now)) (type_text (the_type ty.now)))) }
+        (grouped_unless (is_simple (the_surface_type ty.now)) (type_text (the_surface_type ty.now)))) }
     ensures stopped { OnErr result (Stopped S.tells S.written S.faults sink.old sink.new
-        (grouped_unless (is_simple (the_type ty.now)) (type_text (the_type ty.now)))) }
+        (grouped_unless (is_simple (the_surface_type ty.now)) (type_text (the_surface_type ty.now)))) }
 {
     if is_simple(ty) {
         write_type(sink, ty)

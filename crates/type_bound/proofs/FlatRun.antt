@@ -14,26 +14,26 @@ use Rattle.search_spec.specs.Each.{Each}
 use Rattle.search_spec.specs.Clauses.{instance_clauses, with_clauses}
 use Rattle.search_spec.specs.Unsatisfiable.{formulas}
 use Rattle.search_spec.specs.Heads.{target, heads_for}
-use Rattle.search_spec.specs.Partial.{first_hole, whole, blank}
+use Rattle.search_spec.specs.Partial.{first_hole, whole_term, blank_partial}
 use Rattle.search_spec.specs.Shallow.{is_shallow, is_shallow_literal}
-use Rattle.search_spec.specs.Queue.{Waiting, waiting, is_before, first_of, next_command, without}
+use Rattle.search_spec.specs.Queue.{Waiting, new_entries, is_before, first_waiting, next_command, without_number}
 use Rattle.search_spec.specs.Closed.{is_closed}
-use Rattle.search_spec.specs.State.{State, Setting, Typed, Sketch, Command, process, mate, confront, inst, choose, describe, grow, due, pushed, scope_in}
+use Rattle.search_spec.specs.State.{State, Setting, Typed, Sketch, Command, process, mate, confront, inst, choose, describe, grow, due, with_commands, scope_in}
 use Rattle.search_spec.specs.Spine.{head_of, arguments, is_spine, same_head}
 use Rattle.search_spec.specs.Alternatives.{Alternatives, imp_pos, imp_neg, bool_pos, bool_neg, fun_pos, fun_neg, all_pos, all_neg, differ, con, cho, des}
 use Rattle.search_spec.specs.Instances.{with_literal, with_literals, with_instance}
-use Rattle.search_spec.specs.Terms.{terms_of, ranges_over, universals, with_term, with_terms, first_terms, opened, prepared}
+use Rattle.search_spec.specs.Terms.{terms_of, ranges_over, universals, with_term, with_terms, first_terms, with_opening, with_preparation}
 use Rattle.search_spec.specs.Partners.{partners, positive_first, matings, confrontations}
 use Rattle.search_spec.specs.Selections.{Selection, by_choice, by_description, selection_by, selections_in, with_selection, with_selections}
-use Rattle.search_spec.specs.Witness.{same_row, witness_of, has_hole_of, with_new_witness, witnessed}
-use Rattle.search_spec.specs.Processing.{decomposed, confronted, equated, quantified, mated, worked, processed}
-use Rattle.search_spec.specs.Commands.{confronted_pair, instantiated, grown, grown_by, carried_out}
-use Rattle.search_spec.specs.After.{nothing_yet, started, after_command, stepped, after}
+use Rattle.search_spec.specs.Witness.{same_row, witness_of, has_hole_of, with_new_witness, with_witness}
+use Rattle.search_spec.specs.Processing.{with_decomposition, with_confrontations, with_equation, with_universal, with_matings, with_rules, with_processing}
+use Rattle.search_spec.specs.Commands.{with_confrontation, with_instantiation, with_growth, growth_by, with_command}
+use Rattle.search_spec.specs.After.{nothing_yet, starting_state, after_command, next_state, state_after}
 use Rattle.search_spec.proofs.NamingLaws.{StandFor, each-joined, pick_good, instance_clauses_good, with_clauses_good}
 use Rattle.search_spec.proofs.TypedPushes.{each_filtered, each_mapped}
 use Rattle.type_bound.specs.Deep.{IsFlat, IsFlatCommand, IsFlatState}
 
-each_waiting : (P : Command → Type 0) (d : Command → ℕ) (n : ℕ) (cs : List Command) → Each P cs → Each (λ q. P q.command) (waiting d n cs)
+each_waiting : (P : Command → Type 0) (d : Command → ℕ) (n : ℕ) (cs : List Command) → Each P cs → Each (λ q. P q.command) (new_entries d n cs)
 each_waiting P d n [] h = tt
 each_waiting P d n (c ∷ cs) h = (h.0, each_waiting P d (suc n) cs h.1)
 
@@ -45,7 +45,7 @@ all_mapped : {X Y : Type 0} (Q : Y → Type 0) (f : X → Y) → ((x : X) → Q 
 all_mapped Q f g [] = tt
 all_mapped Q f g (x ∷ xs) = (g x, all_mapped Q f g xs)
 
-first_good : (P : Waiting Command → Type 0) (q : Waiting Command) (qs : List (Waiting Command)) → P q → Each P qs → P (first_of q qs)
+first_good : (P : Waiting Command → Type 0) (q : Waiting Command) (qs : List (Waiting Command)) → P q → Each P qs → P (first_waiting q qs)
 first_good P q [] h k = h
 first_good P q (p ∷ ps) h k = first_good P (if is_before p q then p else q) ps (pick_good P (is_before p q) p q k.0 h) k.1
 
@@ -99,17 +99,17 @@ module _ (setting : Setting) where
 
   -- PUSHES
 
-  pushed-flat : (cs : List Command) (s : State) → Each IsFlatCommand cs → Is s → Is (pushed setting.mode cs s)
+  pushed-flat : (cs : List Command) (s : State) → Each IsFlatCommand cs → Is s → Is (with_commands setting.mode cs s)
   pushed-flat cs s h g = record {
     clauses = g.clauses;
     noted = g.noted;
     rows = g.rows;
-    queue = each-joined _ s.queue (waiting (due setting.mode s.done) s.pushes cs) g.queue (each_waiting IsFlatCommand (due setting.mode s.done) s.pushes cs h);
+    queue = each-joined _ s.queue (new_entries (due setting.mode s.done) s.pushes cs) g.queue (each_waiting IsFlatCommand (due setting.mode s.done) s.pushes cs h);
   }
 
   with_literal-flat : (l : Literal) (s : State) → IsFlat l → Is s → Is (with_literal setting.mode l s)
   with_literal-flat l s h g =
-      pick_good Is (has s.seen l) s (pushed setting.mode (process l ∷ []) (record s { seen = s.seen ++ l ∷ [] })) g
+      pick_good Is (has s.seen l) s (with_commands setting.mode (process l ∷ []) (record s { seen = s.seen ++ l ∷ [] })) g
       (pushed-flat (process l ∷ []) (record s { seen = s.seen ++ l ∷ [] }) (h, tt) (record { clauses = g.clauses; noted = g.noted; rows = g.rows; queue = g.queue }))
 
   with_literals-flat : (ls : List Literal) (s : State) → Each IsFlat ls → Is s → Is (with_literals setting.mode ls s)
@@ -137,7 +137,7 @@ module _ (setting : Setting) where
   with_term-flat : (a : SimpleType) (u : Lambda) (s : State) → Is s → Is (with_term setting.mode a u s)
   with_term-flat a u s g =
       let more : List Typed = s.terms ++ record { type = a; term = u } ∷ [] in
-      pick_good Is (list_any (same_term u) (terms_of a s)) s (pushed setting.mode (map (λ l. inst l u) (universals a s)) (record s { terms = more })) g
+      pick_good Is (list_any (same_term u) (terms_of a s)) s (with_commands setting.mode (map (λ l. inst l u) (universals a s)) (record s { terms = more })) g
       (pushed-flat (map (λ l. inst l u) (universals a s)) (record s { terms = more })
       (each_mapped IsFlat IsFlatCommand (λ l. inst l u) (λ l k. k) (universals a s) (each_filtered IsFlat IsFlat (λ l. l.positive && ranges_over a l.atom) (λ l k e. k) s.noted g.noted))
       (record { clauses = g.clauses; noted = g.noted; rows = g.rows; queue = g.queue }))
@@ -146,30 +146,30 @@ module _ (setting : Setting) where
   with_terms-flat a [] s g = g
   with_terms-flat a (u ∷ us) s g = with_terms-flat a us (with_term setting.mode a u s) (with_term-flat a u s g)
 
-  opened-flat : (p : Sketch) (s : State) → Is s → Is (opened setting p s)
+  opened-flat : (p : Sketch) (s : State) → Is s → Is (with_opening setting p s)
   opened-flat p s g =
       let heads = heads_for (scope_in setting s) (first_hole [] p.partial) in
       pushed-flat (map (grow p) heads) (record s { parked = s.parked ++ p ∷ [] }) (all_mapped IsFlatCommand (grow p) (λ h. tt) heads) (record { clauses = g.clauses; noted = g.noted; rows = g.rows; queue = g.queue })
 
-  prepared-flat : (a : SimpleType) (s : State) → Is s → Is (prepared setting a s)
+  prepared-flat : (a : SimpleType) (s : State) → Is s → Is (with_preparation setting a s)
   prepared-flat (base n) s g =
       pick_good Is (list_any (λ u. same_type (base n) u.type) s.terms) s (with_terms setting.mode (base n) (first_terms (base n)) s) g (with_terms-flat (base n) (first_terms (base n)) s g)
   prepared-flat (arrow a b) s g =
-      let p : Sketch = record { type = arrow a b; partial = blank (arrow a b) } in
-      pick_good Is (list_any (λ q. same_type (arrow a b) q.type) s.parked) s (opened setting p s) g (opened-flat p s g)
+      let p : Sketch = record { type = arrow a b; partial = blank_partial (arrow a b) } in
+      pick_good Is (list_any (λ q. same_type (arrow a b) q.type) s.parked) s (with_opening setting p s) g (opened-flat p s g)
 
-  grown-flat : (q : Sketch) (o : Option Lambda) (s : State) → Is s → Is (grown setting q o s)
+  grown-flat : (q : Sketch) (o : Option Lambda) (s : State) → Is s → Is (with_growth setting q o s)
   grown-flat q (Some u) s g = with_term-flat q.type u s g
   grown-flat q None s g = opened-flat q s g
 
   with_selection-flat : (p : Selection) (s : State) → IsFlatSelection 4096 p → Is s → Is (with_selection setting.mode p s)
   with_selection-flat (by_choice a f) s h g =
       let more = s.chosen ++ f ∷ [] in
-      pick_good Is (list_any (same_term f) s.chosen) s (pushed setting.mode (choose a f ∷ []) (record s { chosen = more })) g
+      pick_good Is (list_any (same_term f) s.chosen) s (with_commands setting.mode (choose a f ∷ []) (record s { chosen = more })) g
       (pushed-flat (choose a f ∷ []) (record s { chosen = more }) (h, tt) (record { clauses = g.clauses; noted = g.noted; rows = g.rows; queue = g.queue }))
   with_selection-flat (by_description a f) s h g =
       let more = s.described ++ f ∷ [] in
-      pick_good Is (list_any (same_term f) s.described) s (pushed setting.mode (describe a f ∷ []) (record s { described = more })) g
+      pick_good Is (list_any (same_term f) s.described) s (with_commands setting.mode (describe a f ∷ []) (record s { described = more })) g
       (pushed-flat (describe a f ∷ []) (record s { described = more }) (h, tt) (record { clauses = g.clauses; noted = g.noted; rows = g.rows; queue = g.queue }))
 
   with_selections-flat : (ps : List Selection) (s : State) → Each (IsFlatSelection 4096) ps → Is s → Is (with_selections setting.mode ps s)
@@ -178,17 +178,17 @@ module _ (setting : Setting) where
 
   -- PROCESSING
 
-  confronted-flat : (a : SimpleType) (l : Literal) (st : State) → IsFlat l → Is st → Is (confronted setting a l st)
+  confronted-flat : (a : SimpleType) (l : Literal) (st : State) → IsFlat l → Is st → Is (with_confrontations setting a l st)
   confronted-flat a l st h g =
       pushed-flat (confrontations a l st.noted) st
       (each_mapped IsFlat IsFlatCommand (positive_first confront l) (λ m n. pick_good IsFlatCommand l.positive (confront l m) (confront m l) (h, n) (n, h)) _ (each_filtered IsFlat IsFlat _ (λ m n e. n) st.noted g.noted)) g
 
-  decomposed-flat : (a : SimpleType) (s t : Lambda) (st : State) → IsFlat (minus (eq a s t)) → Is st → Is (decomposed setting a s t st)
+  decomposed-flat : (a : SimpleType) (s t : Lambda) (st : State) → IsFlat (minus (eq a s t)) → Is st → Is (with_decomposition setting a s t st)
   decomposed-flat a s t st h g =
       pick_good Is (is_spine s && same_head s t) (with_instance setting.mode (minus (eq a s t) ∷ []) (differ (type_of (scope_in setting st) [] (head_of s)) (arguments s) (arguments t)) st) st
       (with_instance-flat (minus (eq a s t) ∷ []) (differ (type_of (scope_in setting st) [] (head_of s)) (arguments s) (arguments t)) st (h, tt) g) g
 
-  equated-flat : (a : SimpleType) (sign : Bool) (s t : Lambda) (st : State) → depth (eq a s t) ≤ 4096 → Is st → Is (equated setting a sign s t st)
+  equated-flat : (a : SimpleType) (sign : Bool) (s t : Lambda) (st : State) → depth (eq a s t) ≤ 4096 → Is st → Is (with_equation setting a sign s t st)
   equated-flat (base zero) true s t st h g = with_instance-flat (plus (eq formula s t) ∷ []) (bool_pos s t) st (h, tt) g
   equated-flat (base zero) false s t st h g = with_instance-flat (minus (eq formula s t) ∷ []) (bool_neg s t) st (h, tt) g
   equated-flat (arrow a b) true s t st h g = with_instance-flat (plus (eq (arrow a b) s t) ∷ []) (fun_pos a b s t) st (h, tt) g
@@ -198,20 +198,20 @@ module _ (setting : Setting) where
       let b = base (suc n) in
       let first = with_term setting.mode b s st in
       let second = with_term setting.mode b t first in
-      confronted-flat b (minus (eq b s t)) (decomposed setting b s t second) h (decomposed-flat b s t second h (with_term-flat b t first (with_term-flat b s st g)))
+      confronted-flat b (minus (eq b s t)) (with_decomposition setting b s t second) h (decomposed-flat b s t second h (with_term-flat b t first (with_term-flat b s st g)))
 
-  quantified-flat : (a : SimpleType) (f : Lambda) (st : State) → IsFlat (plus (every a f)) → Is st → Is (quantified setting a f st)
+  quantified-flat : (a : SimpleType) (f : Lambda) (st : State) → IsFlat (plus (every a f)) → Is st → Is (with_universal setting a f st)
   quantified-flat a f st h g =
-      let ready = prepared setting a st in
+      let ready = with_preparation setting a st in
       pushed-flat (map (inst (plus (every a f))) (terms_of a ready)) ready (all_mapped IsFlatCommand (inst (plus (every a f))) (λ u. h) (terms_of a ready)) (prepared-flat a st g)
 
-  mated-flat : (l : Literal) (st : State) → IsFlat l → Is st → Is (mated setting l st)
+  mated-flat : (l : Literal) (st : State) → IsFlat l → Is st → Is (with_matings setting l st)
   mated-flat l st h g =
-      pick_good Is (is_spine l.atom) (pushed setting.mode (matings l st.noted) st) st
+      pick_good Is (is_spine l.atom) (with_commands setting.mode (matings l st.noted) st) st
       (pushed-flat (matings l st.noted) st
       (each_mapped IsFlat IsFlatCommand (positive_first mate l) (λ m n. pick_good IsFlatCommand l.positive (mate l m) (mate m l) (h, n) (n, h)) (partners (same_head l.atom) l st.noted) (each_filtered IsFlat IsFlat _ (λ m n e. n) st.noted g.noted)) g) g
 
-  witnessed-flat : (a : SimpleType) (f : Lambda) (s : State) → IsFlat (minus (every a f)) → Is s → Is (witnessed setting a f s)
+  witnessed-flat : (a : SimpleType) (f : Lambda) (s : State) → IsFlat (minus (every a f)) → Is s → Is (with_witness setting a f s)
   witnessed-flat a f s h g = pick_good Is (list_any (same_row r) s.rows) (added s) (with_new_witness setting a (witness_of s.rows r) (added more)) (add s g) (grow_all (added more) (add more wide))
     where
       r : Row
@@ -237,46 +237,46 @@ module _ (setting : Setting) where
           pushed-flat (map (λ p. grow p (witness_of s.rows r)) (filter (has_hole_of (target a)) st.parked)) st
           (all_mapped IsFlatCommand (λ p. grow p (witness_of s.rows r)) (λ p. tt) (filter (has_hole_of (target a)) st.parked)) k
 
-  worked-flat : (sign : Bool) (t : Lambda) (s : State) → depth t ≤ 4096 → Is s → Is (worked setting sign t s)
+  worked-flat : (sign : Bool) (t : Lambda) (s : State) → depth t ≤ 4096 → Is s → Is (with_rules setting sign t s)
   worked-flat true (constant falsity) s h g = with_instance-flat (plus (constant falsity) ∷ []) [] s (h, tt) g
   worked-flat true (app (app (constant implication) u) v) s h g = with_instance-flat (plus (imp u v) ∷ []) (imp_pos u v) s (h, tt) g
   worked-flat false (app (app (constant implication) u) v) s h g = with_instance-flat (minus (imp u v) ∷ []) (imp_neg u v) s (h, tt) g
   worked-flat true (app (app (constant (equality a)) u) v) s h g = equated-flat a true u v s h g
   worked-flat false (app (app (constant (equality a)) u) v) s h g =
-      pick_good Is (same_term u v) (with_instance setting.mode (minus (eq a u v) ∷ []) [] s) (equated setting a false u v s) (with_instance-flat (minus (eq a u v) ∷ []) [] s (h, tt) g) (equated-flat a false u v s h g)
+      pick_good Is (same_term u v) (with_instance setting.mode (minus (eq a u v) ∷ []) [] s) (with_equation setting a false u v s) (with_instance-flat (minus (eq a u v) ∷ []) [] s (h, tt) g) (equated-flat a false u v s h g)
   worked-flat true (app (constant (all a)) f) s h g = quantified-flat a f s h g
   worked-flat false (app (constant (all a)) f) s h g = witnessed-flat a f s h g
   worked-flat sign t s h g = mated-flat (record { positive = sign; atom = t }) s h g
 
-  processed-flat : (l : Literal) (s : State) → IsFlat l → Is s → Is (processed setting l s)
+  processed-flat : (l : Literal) (s : State) → IsFlat l → Is s → Is (with_processing setting l s)
   processed-flat l s h g =
-      let done = worked setting l.positive l.atom s in
+      let done = with_rules setting l.positive l.atom s in
       let k = worked-flat l.positive l.atom s h g in
       with_selections-flat (selections_in l.atom) (record done { noted = done.noted ++ l ∷ [] }) (selections-flat 4096 l.atom h)
       (record { clauses = k.clauses; noted = each-joined IsFlat done.noted (l ∷ []) k.noted (h, tt); rows = k.rows; queue = k.queue })
 
   -- COMMANDS
 
-  confront-flat : (l m : Literal) (x y : Lambda) (s : State) → IsFlat l → IsFlat m → Is s → Is (confronted_pair setting l m x y s)
+  confront-flat : (l m : Literal) (x y : Lambda) (s : State) → IsFlat l → IsFlat m → Is s → Is (with_confrontation setting l m x y s)
   confront-flat l m (app (app (constant (equality a)) u) v) (app (app c w) z) s h k g = with_instance-flat (l ∷ m ∷ []) (con a u v w z) s (h, (k, tt)) g
   confront-flat l m x y s h k g = g
 
-  inst-flat : (l : Literal) (t u : Lambda) (s : State) → IsFlat l → Is s → Is (instantiated setting l t u s)
+  inst-flat : (l : Literal) (t u : Lambda) (s : State) → IsFlat l → Is s → Is (with_instantiation setting l t u s)
   inst-flat l (app (constant (all a)) f) u s h g = pick_good Is (is_shallow u) (with_instance setting.mode (l ∷ []) (all_pos f u) s) s (with_instance-flat (l ∷ []) (all_pos f u) s (h, tt) g) g
   inst-flat l t u s h g = g
 
-  carried_out-flat : (c : Command) (s : State) → IsFlatCommand c → Is s → Is (carried_out setting c s)
+  carried_out-flat : (c : Command) (s : State) → IsFlatCommand c → Is s → Is (with_command setting c s)
   carried_out-flat (process l) s h g = processed-flat l s h g
   carried_out-flat (mate l m) s h g = with_instance-flat (l ∷ m ∷ []) (differ (type_of (scope_in setting s) [] (head_of l.atom)) (arguments l.atom) (arguments m.atom)) s (h.0, (h.1, tt)) g
   carried_out-flat (confront l m) s h g = confront-flat l m l.atom m.atom s h.0 h.1 g
   carried_out-flat (inst l u) s h g = inst-flat l l.atom u s h g
   carried_out-flat (choose a f) s h g = with_instance-flat [] (cho a f) s tt g
   carried_out-flat (describe a f) s h g = with_instance-flat [] (des a f) s tt g
-  carried_out-flat (grow p t) s h g = let q = grown_by (scope_in setting s) t p in grown-flat q (whole q.partial) s g
+  carried_out-flat (grow p t) s h g = let q = growth_by (scope_in setting s) t p in grown-flat q (whole_term q.partial) s g
 
   -- RUNS
 
-  taken-flat : (n : ℕ) (s : State) → Is s → Is (record s { queue = without n s.queue; done = suc s.done })
+  taken-flat : (n : ℕ) (s : State) → Is s → Is (record s { queue = without_number n s.queue; done = suc s.done })
   taken-flat n s g = record {
     clauses = g.clauses;
     noted = g.noted;
@@ -287,13 +287,13 @@ module _ (setting : Setting) where
   next-flat : (s t : State) → Is s → (qs : List (Waiting Command)) → Each (λ q. IsFlatCommand q.command) qs → after_command setting (next_command qs) s ≡ Some t → Is t
   next-flat s t g [] h e = cc
   next-flat s t g (q ∷ qs) h e =
-      let first = first_of q qs in
+      let first = first_waiting q qs in
       let flat = first_good (λ p. IsFlatCommand p.command) q qs h.0 h.1 in
-      let taken = record s { queue = without first.number s.queue; done = suc s.done } in
-      let same : carried_out setting first.command taken ≡ t = cc in
+      let taken = record s { queue = without_number first.number s.queue; done = suc s.done } in
+      let same : with_command setting first.command taken ≡ t = cc in
       subst Is same (carried_out-flat first.command taken flat (taken-flat first.number s g))
 
-  step-flat : (o : Option State) (t : State) → ((s : State) → o ≡ Some s → Is s) → stepped setting o ≡ Some t → Is t
+  step-flat : (o : Option State) (t : State) → ((s : State) → o ≡ Some s → Is s) → next_state setting o ≡ Some t → Is t
   step-flat None t h e = cc
   step-flat (Some s) t h e = let g = h s refl in next-flat s t g s.queue g.queue e
 
@@ -305,15 +305,15 @@ module _ (setting : Setting) where
       go true e rest = (shallow_flat l e, rest)
       go false e rest = rest
 
-  started-flat : (start : List Literal) → Is (started setting start)
+  started-flat : (start : List Literal) → Is (starting_state setting start)
   started-flat start =
       let ls = filter is_shallow_literal start in
       let some = passed start in
       pushed-flat (map process ls) (record nothing_yet { clauses = map (λ l. l ∷ []) ls; seen = ls }) (each_mapped IsFlat IsFlatCommand process (λ l k. k) ls some)
       (record { clauses = each_mapped IsFlat (Each IsFlat) (λ l. l ∷ []) (λ l k. (k, tt)) ls some; noted = tt; rows = tt; queue = tt })
 
-  pub after-flat : (start : List Literal) (n : ℕ) (s : State) → after setting start n ≡ Some s → Is s
+  pub after-flat : (start : List Literal) (n : ℕ) (s : State) → state_after setting start n ≡ Some s → Is s
   after-flat start zero s e =
-      let same : started setting start ≡ s = cc in
+      let same : starting_state setting start ≡ s = cc in
       subst Is same (started-flat start)
-  after-flat start (suc n) s e = step-flat (after setting start n) s (λ t f. after-flat start n t f) e
+  after-flat start (suc n) s e = step-flat (state_after setting start n) s (λ t f. after-flat start n t f) e

@@ -11,18 +11,18 @@ use Rattle.tableau_calculus.specs.Witnesses.{Row}
 use Rattle.search_spec.specs.Each.{Each}
 use Rattle.search_spec.specs.Heads.{target}
 use Rattle.search_spec.specs.Shallow.{is_shallow, is_shallow_literal}
-use Rattle.search_spec.specs.Queue.{Waiting, is_before, first_of, next_command, without}
-use Rattle.search_spec.specs.State.{State, Setting, Sketch, Command, process, mate, confront, inst, choose, describe, grow, pushed, scope_in}
+use Rattle.search_spec.specs.Queue.{Waiting, is_before, first_waiting, next_command, without_number}
+use Rattle.search_spec.specs.State.{State, Setting, Sketch, Command, process, mate, confront, inst, choose, describe, grow, with_commands, scope_in}
 use Rattle.search_spec.specs.Spine.{head_of, arguments, is_spine, same_head}
 use Rattle.search_spec.specs.Alternatives.{imp_pos, imp_neg, bool_pos, bool_neg, fun_pos, fun_neg, all_pos, all_neg, differ, con, cho, des}
 use Rattle.search_spec.specs.Instances.{with_instance}
-use Rattle.search_spec.specs.Terms.{terms_of, with_term, prepared}
+use Rattle.search_spec.specs.Terms.{terms_of, with_term, with_preparation}
 use Rattle.search_spec.specs.Partners.{matings, confrontations}
 use Rattle.search_spec.specs.Selections.{selections_in}
-use Rattle.search_spec.specs.Witness.{same_row, witness_of, has_hole_of, with_new_witness, witnessed}
-use Rattle.search_spec.specs.Processing.{decomposed, confronted, equated, quantified, mated, worked, processed}
-use Rattle.search_spec.specs.Commands.{mated_pair, confronted_pair, instantiated, carried_out}
-use Rattle.search_spec.specs.After.{nothing_yet, started, after_command, stepped, after}
+use Rattle.search_spec.specs.Witness.{same_row, witness_of, has_hole_of, with_new_witness, with_witness}
+use Rattle.search_spec.specs.Processing.{with_decomposition, with_confrontations, with_equation, with_universal, with_matings, with_rules, with_processing}
+use Rattle.search_spec.specs.Commands.{with_mating, with_confrontation, with_instantiation, with_command}
+use Rattle.search_spec.specs.After.{nothing_yet, starting_state, after_command, next_state, state_after}
 use Rattle.search_spec.proofs.NamingLaws.{each-joined, pick_good}
 use Rattle.search_spec.proofs.TypedPushes.{each_filtered, each_mapped}
 use Rattle.type_bound.specs.Types.{nesting}
@@ -30,7 +30,7 @@ use Rattle.type_bound.specs.Modest.{IsModest, IsModestLiteral, IsModestPartial, 
 use Rattle.type_bound.proofs.ModestTerms.{head_of_keeps, arguments_keep, head_shallow, imp_pos_keeps, imp_neg_keeps, bool_pos_keeps, bool_neg_keeps, fun_pos_keeps, fun_neg_keeps, all_pos_keeps, all_neg_keeps, differ_keeps, con_keeps, cho_keeps, des_keeps}
 use Rattle.type_bound.proofs.ModestSteps.{pushed-modest, with_instance-modest, with_term-modest, terms_of-modest, prepared-modest, witnesses-modest, grow-modest, matings-modest, confrontations-modest, selections-modest, with_selections-modest}
 
-first_good : (P : Waiting Command → Type 0) (q : Waiting Command) (qs : List (Waiting Command)) → P q → Each P qs → P (first_of q qs)
+first_good : (P : Waiting Command → Type 0) (q : Waiting Command) (qs : List (Waiting Command)) → P q → Each P qs → P (first_waiting q qs)
 first_good P q [] h k = h
 first_good P q (p ∷ ps) h k = first_good P (if is_before p q then p else q) ps (pick_good P (is_before p q) p q k.0 h) k.1
 
@@ -50,7 +50,7 @@ module _ (limit : ℕ) (setting : Setting) (good : IsModestSetting limit setting
       (head_shallow limit (scope_in setting st) good.names (witnesses-modest limit setting good st g) (head_of s) (and_parts _ _ e).1 (head_of_keeps limit s h))
       (arguments_keep limit s h) (arguments_keep limit t k)
 
-  decomposed-modest : (a : SimpleType) (s t : Lambda) (st : State) → nesting a ≤ limit → IsModest limit s → IsModest limit t → Is st → Is (decomposed setting a s t st)
+  decomposed-modest : (a : SimpleType) (s t : Lambda) (st : State) → nesting a ≤ limit → IsModest limit s → IsModest limit t → Is st → Is (with_decomposition setting a s t st)
   decomposed-modest a s t st within h k g = by_test (is_spine s && same_head s t) refl
     where
       by_test : (x : Bool) → (is_spine s && same_head s t) ≡ x
@@ -60,10 +60,10 @@ module _ (limit : ℕ) (setting : Setting) (good : IsModestSetting limit setting
           with_instance-modest limit setting (minus (eq a s t) ∷ []) (differ (type_of (scope_in setting st) [] (head_of s)) (arguments s) (arguments t)) st
           (((within, h), k), tt) (differ-modest s t st (and_parts _ _ e).0 h k g) g
 
-  confronted-modest : (a : SimpleType) (l : Literal) (st : State) → Lit l → Is st → Is (confronted setting a l st)
+  confronted-modest : (a : SimpleType) (l : Literal) (st : State) → Lit l → Is st → Is (with_confrontations setting a l st)
   confronted-modest a l st h g = pushed-modest limit setting (confrontations a l st.noted) st (confrontations-modest limit setting a l st.noted h g.noted) g
 
-  equated-modest : (a : SimpleType) (sign : Bool) (s t : Lambda) (st : State) → nesting a ≤ limit → IsModest limit s → IsModest limit t → Is st → Is (equated setting a sign s t st)
+  equated-modest : (a : SimpleType) (sign : Bool) (s t : Lambda) (st : State) → nesting a ≤ limit → IsModest limit s → IsModest limit t → Is st → Is (with_equation setting a sign s t st)
   equated-modest (base zero) true s t st w h k g = with_instance-modest limit setting (plus (eq formula s t) ∷ []) (bool_pos s t) st (((w, h), k), tt) (bool_pos_keeps limit s t h k) g
   equated-modest (base zero) false s t st w h k g = with_instance-modest limit setting (minus (eq formula s t) ∷ []) (bool_neg s t) st (((w, h), k), tt) (bool_neg_keeps limit s t h k) g
   equated-modest (arrow a b) true s t st w h k g = with_instance-modest limit setting (plus (eq (arrow a b) s t) ∷ []) (fun_pos a b s t) st (((w, h), k), tt) (fun_pos_keeps limit a b s t w h k) g
@@ -73,26 +73,26 @@ module _ (limit : ℕ) (setting : Setting) (good : IsModestSetting limit setting
       let b = base (suc n) in
       let first = with_term setting.mode b s st in
       let second = with_term setting.mode b t first in
-      confronted-modest b (minus (eq b s t)) (decomposed setting b s t second) ((w, h), k)
+      confronted-modest b (minus (eq b s t)) (with_decomposition setting b s t second) ((w, h), k)
       (decomposed-modest b s t second w h k
       (with_term-modest limit setting b t first k
       (with_term-modest limit setting b s st h g)))
 
-  quantified-modest : (a : SimpleType) (f : Lambda) (st : State) → nesting a ≤ limit → IsModest limit f → Is st → Is (quantified setting a f st)
+  quantified-modest : (a : SimpleType) (f : Lambda) (st : State) → nesting a ≤ limit → IsModest limit f → Is st → Is (with_universal setting a f st)
   quantified-modest a f st w h g =
-      let ready = prepared setting a st in
+      let ready = with_preparation setting a st in
       let k = prepared-modest limit setting good a st w g in
       pushed-modest limit setting (map (inst (plus (every a f))) (terms_of a ready)) ready
       (each_mapped (IsModest limit) (IsModestCommand limit) (inst (plus (every a f))) (λ u m. ((w, h), m)) (terms_of a ready) (terms_of-modest limit setting a ready k)) k
 
-  mated-modest : (l : Literal) (st : State) → Lit l → Is st → Is (mated setting l st)
+  mated-modest : (l : Literal) (st : State) → Lit l → Is st → Is (with_matings setting l st)
   mated-modest l st h g = by_test (is_spine l.atom) refl
     where
-      by_test : (x : Bool) → is_spine l.atom ≡ x → Is (if x then pushed setting.mode (matings l st.noted) st else st)
+      by_test : (x : Bool) → is_spine l.atom ≡ x → Is (if x then with_commands setting.mode (matings l st.noted) st else st)
       by_test false e = g
       by_test true e = pushed-modest limit setting (matings l st.noted) st (matings-modest limit setting l st.noted (and_parts _ _ e).1 h g.noted) g
 
-  witnessed-modest : (a : SimpleType) (f : Lambda) (s : State) → nesting a ≤ limit → IsModest limit f → Is s → Is (witnessed setting a f s)
+  witnessed-modest : (a : SimpleType) (f : Lambda) (s : State) → nesting a ≤ limit → IsModest limit f → Is s → Is (with_witness setting a f s)
   witnessed-modest a f s w h g = pick_good Is (list_any (same_row r) s.rows) (added s) (with_new_witness setting a (witness_of s.rows r) (added more)) (add s g) (grow_all (added more) (add more wide))
     where
       r : Row
@@ -116,7 +116,7 @@ module _ (limit : ℕ) (setting : Setting) (good : IsModestSetting limit setting
           (each_mapped (λ (p : Sketch). IsModestPartial limit p.partial) (IsModestCommand limit) (λ p. grow p (witness_of s.rows r)) (λ p m. (m, (tt, tt))) (filter (has_hole_of (target a)) st.parked)
           (each_filtered (λ (p : Sketch). IsModestPartial limit p.partial) (λ p. IsModestPartial limit p.partial) (has_hole_of (target a)) (λ p m e. m) st.parked k.parked)) k
 
-  worked-modest : (sign : Bool) (t : Lambda) (s : State) → IsModest limit t → Is s → Is (worked setting sign t s)
+  worked-modest : (sign : Bool) (t : Lambda) (s : State) → IsModest limit t → Is s → Is (with_rules setting sign t s)
   worked-modest true (constant falsity) s h g = with_instance-modest limit setting (plus (constant falsity) ∷ []) [] s (tt, tt) tt g
   worked-modest true (app (app (constant implication) u) v) s h g =
       with_instance-modest limit setting (plus (imp u v) ∷ []) (imp_pos u v) s (h, tt) (imp_pos_keeps limit u v h.0.1 h.1) g
@@ -124,40 +124,40 @@ module _ (limit : ℕ) (setting : Setting) (good : IsModestSetting limit setting
       with_instance-modest limit setting (minus (imp u v) ∷ []) (imp_neg u v) s (h, tt) (imp_neg_keeps limit u v h.0.1 h.1) g
   worked-modest true (app (app (constant (equality a)) u) v) s h g = equated-modest a true u v s h.0.0 h.0.1 h.1 g
   worked-modest false (app (app (constant (equality a)) u) v) s h g =
-      pick_good Is (same_term u v) (with_instance setting.mode (minus (eq a u v) ∷ []) [] s) (equated setting a false u v s)
+      pick_good Is (same_term u v) (with_instance setting.mode (minus (eq a u v) ∷ []) [] s) (with_equation setting a false u v s)
       (with_instance-modest limit setting (minus (eq a u v) ∷ []) [] s (h, tt) tt g) (equated-modest a false u v s h.0.0 h.0.1 h.1 g)
   worked-modest true (app (constant (all a)) f) s h g = quantified-modest a f s h.0 h.1 g
   worked-modest false (app (constant (all a)) f) s h g = witnessed-modest a f s h.0 h.1 g
   worked-modest sign t s h g = mated-modest (record { positive = sign; atom = t }) s h g
 
-  processed-modest : (l : Literal) (s : State) → Lit l → Is s → Is (processed setting l s)
+  processed-modest : (l : Literal) (s : State) → Lit l → Is s → Is (with_processing setting l s)
   processed-modest l s h g =
-      let done = worked setting l.positive l.atom s in
+      let done = with_rules setting l.positive l.atom s in
       let k = worked-modest l.positive l.atom s h g in
       with_selections-modest limit setting (selections_in l.atom) (record done { noted = done.noted ++ l ∷ [] }) (selections-modest limit setting l.atom h)
       (record { clauses = k.clauses; noted = each-joined Lit done.noted (l ∷ []) k.noted (h, tt); terms = k.terms; rows = k.rows; parked = k.parked; queue = k.queue })
 
   -- COMMANDS
 
-  confront-modest : (l m : Literal) (x y : Lambda) (s : State) → Lit l → Lit m → IsModest limit x → IsModest limit y → Is s → Is (confronted_pair setting l m x y s)
+  confront-modest : (l m : Literal) (x y : Lambda) (s : State) → Lit l → Lit m → IsModest limit x → IsModest limit y → Is s → Is (with_confrontation setting l m x y s)
   confront-modest l m (app (app (constant (equality a)) u) v) (app (app c w) z) s h k hx hy g =
       with_instance-modest limit setting (l ∷ m ∷ []) (con a u v w z) s (h, (k, tt)) (con_keeps limit a u v w z hx.0.0 hx.0.1 hx.1 hy.0.1 hy.1) g
   confront-modest l m x y s h k hx hy g = g
 
-  inst-modest : (l : Literal) (t u : Lambda) (s : State) → Lit l → IsModest limit t → IsModest limit u → Is s → Is (instantiated setting l t u s)
+  inst-modest : (l : Literal) (t u : Lambda) (s : State) → Lit l → IsModest limit t → IsModest limit u → Is s → Is (with_instantiation setting l t u s)
   inst-modest l (app (constant (all a)) f) u s h ht hu g =
       pick_good Is (is_shallow u) (with_instance setting.mode (l ∷ []) (all_pos f u) s) s
       (with_instance-modest limit setting (l ∷ []) (all_pos f u) s (h, tt) (all_pos_keeps limit f u ht.1 hu) g) g
   inst-modest l t u s h ht hu g = g
 
-  mate-modest : (l m : Literal) (s : State) → IsModestCommand limit (mate l m) → Is s → Is (mated_pair setting l m s)
+  mate-modest : (l m : Literal) (s : State) → IsModestCommand limit (mate l m) → Is s → Is (with_mating setting l m s)
   mate-modest l m s h g =
       with_instance-modest limit setting (l ∷ m ∷ []) (differ (type_of (scope_in setting s) [] (head_of l.atom)) (arguments l.atom) (arguments m.atom)) s (h.1.0, (h.1.1, tt))
       (differ_keeps limit (type_of (scope_in setting s) [] (head_of l.atom)) (arguments l.atom) (arguments m.atom)
       (head_shallow limit (scope_in setting s) good.names (witnesses-modest limit setting good s g) (head_of l.atom) h.0 (head_of_keeps limit l.atom h.1.0))
       (arguments_keep limit l.atom h.1.0) (arguments_keep limit m.atom h.1.1)) g
 
-  carried_out-modest : (c : Command) (s : State) → IsModestCommand limit c → Is s → Is (carried_out setting c s)
+  carried_out-modest : (c : Command) (s : State) → IsModestCommand limit c → Is s → Is (with_command setting c s)
   carried_out-modest (process l) s h g = processed-modest l s h g
   carried_out-modest (mate l m) s h g = mate-modest l m s h g
   carried_out-modest (confront l m) s h g = confront-modest l m l.atom m.atom s h.0 h.1 h.0 h.1 g
@@ -168,7 +168,7 @@ module _ (limit : ℕ) (setting : Setting) (good : IsModestSetting limit setting
 
   -- RUNS
 
-  taken-modest : (n : ℕ) (s : State) → Is s → Is (record s { queue = without n s.queue; done = suc s.done })
+  taken-modest : (n : ℕ) (s : State) → Is s → Is (record s { queue = without_number n s.queue; done = suc s.done })
   taken-modest n s g = record {
     clauses = g.clauses;
     noted = g.noted;
@@ -181,17 +181,17 @@ module _ (limit : ℕ) (setting : Setting) (good : IsModestSetting limit setting
   next-modest : (s t : State) → Is s → (qs : List (Waiting Command)) → Each (λ q. IsModestCommand limit q.command) qs → after_command setting (next_command qs) s ≡ Some t → Is t
   next-modest s t g [] h e = cc
   next-modest s t g (q ∷ qs) h e =
-      let first = first_of q qs in
+      let first = first_waiting q qs in
       let modest = first_good (λ p. IsModestCommand limit p.command) q qs h.0 h.1 in
-      let taken = record s { queue = without first.number s.queue; done = suc s.done } in
-      let same : carried_out setting first.command taken ≡ t = cc in
+      let taken = record s { queue = without_number first.number s.queue; done = suc s.done } in
+      let same : with_command setting first.command taken ≡ t = cc in
       subst Is same (carried_out-modest first.command taken modest (taken-modest first.number s g))
 
-  step-modest : (o : Option State) (t : State) → ((s : State) → o ≡ Some s → Is s) → stepped setting o ≡ Some t → Is t
+  step-modest : (o : Option State) (t : State) → ((s : State) → o ≡ Some s → Is s) → next_state setting o ≡ Some t → Is t
   step-modest None t h e = cc
   step-modest (Some s) t h e = let g = h s refl in next-modest s t g s.queue g.queue e
 
-  started-modest : (start : List Literal) → Each Lit start → Is (started setting start)
+  started-modest : (start : List Literal) → Each Lit start → Is (starting_state setting start)
   started-modest start h =
       let ls = filter is_shallow_literal start in
       let some = each_filtered Lit Lit is_shallow_literal (λ l k e. k) start h in
@@ -199,8 +199,8 @@ module _ (limit : ℕ) (setting : Setting) (good : IsModestSetting limit setting
       pushed-modest limit setting (map process ls) first (each_mapped Lit (IsModestCommand limit) process (λ l k. k) ls some)
       (record { clauses = each_mapped Lit (Each Lit) (λ l. l ∷ []) (λ l k. (k, tt)) ls some; noted = tt; terms = tt; rows = tt; parked = tt; queue = tt })
 
-  pub after-modest : (start : List Literal) → Each Lit start → (n : ℕ) (s : State) → after setting start n ≡ Some s → Is s
+  pub after-modest : (start : List Literal) → Each Lit start → (n : ℕ) (s : State) → state_after setting start n ≡ Some s → Is s
   after-modest start h zero s e =
-      let same : started setting start ≡ s = cc in
+      let same : starting_state setting start ≡ s = cc in
       subst Is same (started-modest start h)
-  after-modest start h (suc n) s e = step-modest (after setting start n) s (λ t f. after-modest start h n t f) e
+  after-modest start h (suc n) s e = step-modest (state_after setting start n) s (λ t f. after-modest start h n t f) e

@@ -16,24 +16,24 @@ use Rattle.search_spec.specs.Each.{Each}
 use Rattle.search_spec.specs.Shallow.{is_shallow_literal}
 use Rattle.search_spec.specs.Clauses.{instance_clauses, with_clauses}
 use Rattle.search_spec.specs.Unsatisfiable.{formulas}
-use Rattle.search_spec.specs.Queue.{waiting}
-use Rattle.search_spec.specs.State.{State, Setting, Typed, Sketch, Command, process, mate, confront, inst, choose, describe, grow, due, pushed, scope_in}
+use Rattle.search_spec.specs.Queue.{new_entries}
+use Rattle.search_spec.specs.State.{State, Setting, Typed, Sketch, Command, process, mate, confront, inst, choose, describe, grow, due, with_commands, scope_in}
 use Rattle.search_spec.specs.Spine.{head_of, has_compared_head, same_head}
 use Rattle.search_spec.specs.Alternatives.{Alternatives}
 use Rattle.search_spec.specs.Instances.{with_literal, with_literals, with_instance}
 use Rattle.search_spec.specs.Heads.{places_to, bases_from, logical_heads, heads_for}
-use Rattle.search_spec.specs.Partial.{Partial, hole, head, function, application, Hole, or_else, first_hole, in_first, filled, whole, blank, with_holes}
-use Rattle.search_spec.specs.Terms.{terms_of, ranges_over, universals, with_term, with_terms, first_terms, opened, prepared}
+use Rattle.search_spec.specs.Partial.{Partial, hole, head, function, application, Hole, or_else, first_hole, in_first, with_filling, whole_term, blank_partial, with_holes}
+use Rattle.search_spec.specs.Terms.{terms_of, ranges_over, universals, with_term, with_terms, first_terms, with_opening, with_preparation}
 use Rattle.search_spec.specs.Partners.{partners, positive_first, matings, confrontations}
 use Rattle.search_spec.specs.Selections.{Selection, by_choice, by_description, selection_by, selections_in, with_selection, with_selections}
-use Rattle.search_spec.specs.Commands.{grown, filled_at, grown_by}
+use Rattle.search_spec.specs.Commands.{with_growth, filling_at, growth_by}
 use Rattle.search_spec.proofs.NamingLaws.{StandFor, each-joined, pick_good, instance_clauses_good, with_clauses_good}
 use Rattle.search_spec.proofs.TypedPushes.{each_filtered, each_mapped}
 use Rattle.type_bound.specs.Types.{nesting, IsShallowType}
 use Rattle.type_bound.specs.Modest.{IsModest, IsModestLiteral, IsModestPartial, IsModestRow, IsModestCommand, IsModestState, IsModestSetting}
 use Rattle.type_bound.proofs.ModestTerms.{leaf_shallow}
 
-each_waiting : (P : Command → Type 0) (d : Command → ℕ) (n : ℕ) (cs : List Command) → Each P cs → Each (λ q. P q.command) (waiting d n cs)
+each_waiting : (P : Command → Type 0) (d : Command → ℕ) (n : ℕ) (cs : List Command) → Each P cs → Each (λ q. P q.command) (new_entries d n cs)
 each_waiting P d n [] h = tt
 each_waiting P d n (c ∷ cs) h = (h.0, each_waiting P d (suc n) cs h.1)
 
@@ -48,19 +48,19 @@ module _ (limit : ℕ) (setting : Setting) where
   abbrev Lit : Literal → Type 0
   Lit l = IsModestLiteral limit l
 
-  pub pushed-modest : (cs : List Command) (s : State) → Each (IsModestCommand limit) cs → Good s → Good (pushed setting.mode cs s)
+  pub pushed-modest : (cs : List Command) (s : State) → Each (IsModestCommand limit) cs → Good s → Good (with_commands setting.mode cs s)
   pushed-modest cs s h g = record {
     clauses = g.clauses;
     noted = g.noted;
     terms = g.terms;
     rows = g.rows;
     parked = g.parked;
-    queue = each-joined _ s.queue (waiting (due setting.mode s.done) s.pushes cs) g.queue (each_waiting (IsModestCommand limit) (due setting.mode s.done) s.pushes cs h);
+    queue = each-joined _ s.queue (new_entries (due setting.mode s.done) s.pushes cs) g.queue (each_waiting (IsModestCommand limit) (due setting.mode s.done) s.pushes cs h);
   }
 
   with_literal-modest : (l : Literal) (s : State) → Lit l → Good s → Good (with_literal setting.mode l s)
   with_literal-modest l s h g =
-      pick_good Good (has s.seen l) s (pushed setting.mode (process l ∷ []) (record s { seen = s.seen ++ l ∷ [] })) g
+      pick_good Good (has s.seen l) s (with_commands setting.mode (process l ∷ []) (record s { seen = s.seen ++ l ∷ [] })) g
       (pushed-modest (process l ∷ []) (record s { seen = s.seen ++ l ∷ [] }) (h, tt)
       (record { clauses = g.clauses; noted = g.noted; terms = g.terms; rows = g.rows; parked = g.parked; queue = g.queue }))
 
@@ -98,7 +98,7 @@ module _ (limit : ℕ) (setting : Setting) where
   pub with_term-modest : (a : SimpleType) (u : Lambda) (s : State) → IsModest limit u → Good s → Good (with_term setting.mode a u s)
   with_term-modest a u s h g =
       let more : List Typed = s.terms ++ record { type = a; term = u } ∷ [] in
-      pick_good Good (list_any (same_term u) (terms_of a s)) s (pushed setting.mode (map (λ l. inst l u) (universals a s)) (record s { terms = more })) g
+      pick_good Good (list_any (same_term u) (terms_of a s)) s (with_commands setting.mode (map (λ l. inst l u) (universals a s)) (record s { terms = more })) g
       (pushed-modest (map (λ l. inst l u) (universals a s)) (record s { terms = more }) (instances-modest a u s h g)
       (record { clauses = g.clauses; noted = g.noted; terms = each-joined _ s.terms (record { type = a; term = u } ∷ []) g.terms (h, tt); rows = g.rows; parked = g.parked; queue = g.queue }))
 
@@ -155,7 +155,7 @@ module _ (limit : ℕ) (setting : Setting) where
 
     -- PARTIAL TERMS
 
-    blank-modest : (a : SimpleType) → nesting a ≤ suc (suc limit) → IsModestPartial limit (blank a)
+    blank-modest : (a : SimpleType) → nesting a ≤ suc (suc limit) → IsModestPartial limit (blank_partial a)
     blank-modest (base n) h = tt
     blank-modest (arrow a b) h =
         let first : nesting a ≤ suc limit = omega (arith, h) in
@@ -167,7 +167,7 @@ module _ (limit : ℕ) (setting : Setting) where
     with_holes-modest (arrow a b) p h k =
         let first : nesting a ≤ suc (suc limit) = omega (arith, h) in
         let second : nesting b ≤ suc (suc limit) = omega (arith, h) in
-        with_holes-modest b (application p (blank a)) second (k, blank-modest a first)
+        with_holes-modest b (application p (blank_partial a)) second (k, blank-modest a first)
 
     abbrev IsModestHole : Option Hole → Type 0
     IsModestHole None = Unit {0}
@@ -196,11 +196,11 @@ module _ (limit : ℕ) (setting : Setting) where
     in_first-modest None p (Some q') q ho hp hr hq = (hp, hr)
     in_first-modest None p None q ho hp hr hq = tt
 
-    filled-modest : (r p : Partial) → IsModestPartial limit r → IsModestPartial limit p → IsModestFilled (filled r p)
+    filled-modest : (r p : Partial) → IsModestPartial limit r → IsModestPartial limit p → IsModestFilled (with_filling r p)
     filled-modest r (hole n) k h = k
     filled-modest r (head t) k h = tt
-    filled-modest r (function a p) k h = under_modest a (filled r p) h.0 (filled-modest r p k h.1)
-    filled-modest r (application p q) k h = in_first-modest (filled r p) p (filled r q) q (filled-modest r p k h.0) h.0 (filled-modest r q k h.1) h.1
+    filled-modest r (function a p) k h = under_modest a (with_filling r p) h.0 (filled-modest r p k h.1)
+    filled-modest r (application p q) k h = in_first-modest (with_filling r p) p (with_filling r q) q (filled-modest r p k h.0) h.0 (filled-modest r q k h.1) h.1
 
     abbrev IsModestWhole : Option Lambda → Type 0
     IsModestWhole None = Unit {0}
@@ -215,27 +215,27 @@ module _ (limit : ℕ) (setting : Setting) where
     app_modest (Some s) None h k = tt
     app_modest (Some s) (Some u) h k = (h, k)
 
-    whole-modest : (p : Partial) → IsModestPartial limit p → IsModestWhole (whole p)
+    whole-modest : (p : Partial) → IsModestPartial limit p → IsModestWhole (whole_term p)
     whole-modest (hole n) h = tt
     whole-modest (head t) h = h
-    whole-modest (function a p) h = lam_modest a (whole p) h.0 (whole-modest p h.1)
-    whole-modest (application p q) h = app_modest (whole p) (whole q) (whole-modest p h.0) (whole-modest q h.1)
+    whole-modest (function a p) h = lam_modest a (whole_term p) h.0 (whole-modest p h.1)
+    whole-modest (application p q) h = app_modest (whole_term p) (whole_term q) (whole-modest p h.0) (whole-modest q h.1)
 
-    pub opened-modest : (p : Sketch) (s : State) → IsModestPartial limit p.partial → Good s → Good (opened setting p s)
+    pub opened-modest : (p : Sketch) (s : State) → IsModestPartial limit p.partial → Good s → Good (with_opening setting p s)
     opened-modest p s h g =
         let heads = heads_for (scope_in setting s) (first_hole [] p.partial) in
         pushed-modest (map (grow p) heads) (record s { parked = s.parked ++ p ∷ [] })
         (each_mapped IsHead (IsModestCommand limit) (grow p) (λ t k. (h, k)) heads (heads-modest (scope_in setting s) (first_hole [] p.partial)))
         (record { clauses = g.clauses; noted = g.noted; terms = g.terms; rows = g.rows; parked = each-joined _ s.parked (p ∷ []) g.parked (h, tt); queue = g.queue })
 
-    pub prepared-modest : (a : SimpleType) (s : State) → nesting a ≤ limit → Good s → Good (prepared setting a s)
+    pub prepared-modest : (a : SimpleType) (s : State) → nesting a ≤ limit → Good s → Good (with_preparation setting a s)
     prepared-modest (base n) s h g =
         pick_good Good (list_any (λ u. same_type (base n) u.type) s.terms) s (with_terms setting.mode (base n) (first_terms (base n)) s) g
         (with_terms-modest (base n) (first_terms (base n)) s (first_terms-modest (base n)) g)
     prepared-modest (arrow a b) s h g =
-        let p : Sketch = record { type = arrow a b; partial = blank (arrow a b) } in
+        let p : Sketch = record { type = arrow a b; partial = blank_partial (arrow a b) } in
         let wide : nesting (arrow a b) ≤ suc (suc limit) = omega (arith, h) in
-        pick_good Good (list_any (λ q. same_type (arrow a b) q.type) s.parked) s (opened setting p s) g
+        pick_good Good (list_any (λ q. same_type (arrow a b) q.type) s.parked) s (with_opening setting p s) g
         (opened-modest p s (blank-modest (arrow a b) wide) g)
 
     row_types : (rows : List Row) → Each (IsModestRow limit) rows → Each (λ a. nesting a ≤ limit) (map (λ (r : Row). r.type) rows)
@@ -249,7 +249,7 @@ module _ (limit : ℕ) (setting : Setting) where
     or_formula None h = omega arith
     or_formula (Some a) h = h
 
-    filled_at-modest : (s : State) (t : Lambda) (p : Partial) (o : Option Hole) → Good s → IsLeaf t → IsModest limit t → IsModestPartial limit p → IsModestHole o → IsModestFilled (filled_at (scope_in setting s) t p o)
+    filled_at-modest : (s : State) (t : Lambda) (p : Partial) (o : Option Hole) → Good s → IsLeaf t → IsModest limit t → IsModestPartial limit p → IsModestHole o → IsModestFilled (filling_at (scope_in setting s) t p o)
     filled_at-modest s t p None g leaf h k are = tt
     filled_at-modest s t p (Some at) g leaf h k are =
         let type_is = leaf_shallow limit (scope_in setting s) good.names (witnesses-modest s g) at.context t are leaf h in
@@ -260,21 +260,21 @@ module _ (limit : ℕ) (setting : Setting) where
     or_same None p h k = k
     or_same (Some q) p h k = h
 
-    grown_by-modest : (s : State) (t : Lambda) (p : Sketch) → Good s → IsLeaf t → IsModest limit t → IsModestPartial limit p.partial → IsModestPartial limit (grown_by (scope_in setting s) t p).partial
+    grown_by-modest : (s : State) (t : Lambda) (p : Sketch) → Good s → IsLeaf t → IsModest limit t → IsModestPartial limit p.partial → IsModestPartial limit (growth_by (scope_in setting s) t p).partial
     grown_by-modest s t p g leaf h k =
-        or_same (filled_at (scope_in setting s) t p.partial (first_hole [] p.partial)) p.partial
+        or_same (filling_at (scope_in setting s) t p.partial (first_hole [] p.partial)) p.partial
         (filled_at-modest s t p.partial (first_hole [] p.partial) g leaf h k (hole-modest [] p.partial tt k)) k
 
-    grown-modest : (q : Sketch) (o : Option Lambda) (s : State) → IsModestPartial limit q.partial → IsModestWhole o → Good s → Good (grown setting q o s)
+    grown-modest : (q : Sketch) (o : Option Lambda) (s : State) → IsModestPartial limit q.partial → IsModestWhole o → Good s → Good (with_growth setting q o s)
     grown-modest q (Some u) s k h g = with_term-modest q.type u s h g
     grown-modest q None s k h g = opened-modest q s k g
 
     pub grow-modest : (p : Sketch) (t : Lambda) (s : State) → IsModestPartial limit p.partial → IsLeaf t → IsModest limit t → Good s
-        → Good (grown setting (grown_by (scope_in setting s) t p) (whole (grown_by (scope_in setting s) t p).partial) s)
+        → Good (with_growth setting (growth_by (scope_in setting s) t p) (whole_term (growth_by (scope_in setting s) t p).partial) s)
     grow-modest p t s k leaf h g =
-        let q = grown_by (scope_in setting s) t p in
+        let q = growth_by (scope_in setting s) t p in
         let m = grown_by-modest s t p g leaf h k in
-        grown-modest q (whole q.partial) s m (whole-modest q.partial m) g
+        grown-modest q (whole_term q.partial) s m (whole-modest q.partial m) g
 
   -- PARTNERS
 
@@ -330,12 +330,12 @@ module _ (limit : ℕ) (setting : Setting) where
   with_selection-modest : (p : Selection) (s : State) → IsModestSelection p → Good s → Good (with_selection setting.mode p s)
   with_selection-modest (by_choice a f) s h g =
       let more = s.chosen ++ f ∷ [] in
-      pick_good Good (list_any (same_term f) s.chosen) s (pushed setting.mode (choose a f ∷ []) (record s { chosen = more })) g
+      pick_good Good (list_any (same_term f) s.chosen) s (with_commands setting.mode (choose a f ∷ []) (record s { chosen = more })) g
       (pushed-modest (choose a f ∷ []) (record s { chosen = more }) (h, tt)
       (record { clauses = g.clauses; noted = g.noted; terms = g.terms; rows = g.rows; parked = g.parked; queue = g.queue }))
   with_selection-modest (by_description a f) s h g =
       let more = s.described ++ f ∷ [] in
-      pick_good Good (list_any (same_term f) s.described) s (pushed setting.mode (describe a f ∷ []) (record s { described = more })) g
+      pick_good Good (list_any (same_term f) s.described) s (with_commands setting.mode (describe a f ∷ []) (record s { described = more })) g
       (pushed-modest (describe a f ∷ []) (record s { described = more }) (h, tt)
       (record { clauses = g.clauses; noted = g.noted; terms = g.terms; rows = g.rows; parked = g.parked; queue = g.queue }))
 

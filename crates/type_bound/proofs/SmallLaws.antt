@@ -15,7 +15,7 @@ use Rattle.type_bound.specs.Modest.{IsModestConstant, IsModest, IsModestLiteral,
 use Rattle.type_bound.specs.Deep.{IsFlat, IsFlatCommand, IsFlatState}
 use Rattle.type_bound.proofs.ModestRun.{after-modest}
 use Rattle.type_bound.proofs.FlatRun.{after-flat}
-use Rattle.type_bound.specs.Small.{IsSmallLiteral, IsSmallCommand, HasSmallTerms, RunsStaySmall}
+use Rattle.type_bound.specs.Small.{IsSmallLiteral, IsSmallCommand, StateHasSmallTerms, RunsStaySmall}
 
 same_nesting : (a : SimpleType) → sizes.nesting a ≡ nesting a
 same_nesting (base n) = refl
@@ -60,7 +60,7 @@ command_small (choose a f) h k = small f h.1 k
 command_small (describe a f) h k = small f h.1 k
 command_small (grow p t) h k = tt
 
-pub state_small : (s : State) → IsModestState 1024 s → IsFlatState s → HasSmallTerms s
+pub state_small : (s : State) → IsModestState 1024 s → IsFlatState s → StateHasSmallTerms s
 state_small s h k = record {
   clauses = each_both (Each (IsModestLiteral 1024)) (Each IsFlat) (Each IsSmallLiteral) (each_both (IsModestLiteral 1024) IsFlat IsSmallLiteral literal_small) s.clauses h.clauses k.clauses;
   rows = each_both (IsModestRow 1024) (λ (r : Row). depth r.predicate ≤ 4096) (λ (r : Row). IsSmallTerm r.predicate) (λ r x y. small r.predicate x.1 y) s.rows h.rows k.rows;

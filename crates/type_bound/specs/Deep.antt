@@ -4,7 +4,7 @@ use Rattle.stt_core.specs.Depth.{depth}
 use Rattle.tableau_calculus.specs.Literals.{Literal}
 use Rattle.search_spec.specs.Each.{Each}
 use Rattle.search_spec.specs.State.{State, Setting, Command, process, mate, confront, inst, choose, describe, grow}
-use Rattle.search_spec.specs.After.{after}
+use Rattle.search_spec.specs.After.{state_after}
 
 abbrev pub IsFlat : Literal → Type 0
 IsFlat l = depth l.atom ≤ 4096
@@ -27,4 +27,4 @@ pub record IsFlatState (s : State) : Type 0 where
 
 -- every literal and every witness's predicate of every state of a run is no deeper than a text's terms may be
 abbrev pub RunsStayFlat : Type 0
-RunsStayFlat = (setting : Setting) (start : List Literal) (n : ℕ) (s : State) → after setting start n ≡ Some s → IsFlatState s
+RunsStayFlat = (setting : Setting) (start : List Literal) (n : ℕ) (s : State) → state_after setting start n ≡ Some s → IsFlatState s

@@ -10,7 +10,7 @@ use Rattle.search_spec.specs.Each.{Each}
 use Rattle.search_spec.specs.Spine.{head_of, has_compared_head}
 use Rattle.search_spec.specs.Partial.{Partial, hole, head, function, application}
 use Rattle.search_spec.specs.State.{State, Setting, Command, process, mate, confront, inst, choose, describe, grow}
-use Rattle.search_spec.specs.After.{after}
+use Rattle.search_spec.specs.After.{state_after}
 use Rattle.type_bound.specs.Types.{nesting}
 
 -- A constant's own type nests no deeper than so much, one less for a choice or a description: its predicate's type may be one of an equation.
@@ -68,7 +68,7 @@ pub record IsModestSetting (limit : ℕ) (setting : Setting) : Type 0 where
 -- the types of every state of a run nest no deeper than those of the start and of the names
 abbrev pub RunsKeepTypes : Type 0
 RunsKeepTypes =
-    (limit : ℕ) (setting : Setting) (start : List Literal) → IsModestSetting limit setting → Each (IsModestLiteral limit) start → (n : ℕ) (s : State) → after setting start n ≡ Some s → IsModestState limit s
+    (limit : ℕ) (setting : Setting) (start : List Literal) → IsModestSetting limit setting → Each (IsModestLiteral limit) start → (n : ℕ) (s : State) → state_after setting start n ≡ Some s → IsModestState limit s
 
 -- a problem's names, and the types in its formulas
 abbrev pub IsModestIfAny : ℕ → Option Lambda → Type 0

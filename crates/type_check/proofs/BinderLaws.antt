@@ -6,14 +6,14 @@ use Rattle.stt_core.specs.Declarations.{Declarations}
 use Rattle.thf_grammar.specs.Trees.{VarTree}
 use Rattle.thf_grammar.specs.declared.connective.Binder.{Binder}
 use Rattle.type_check.specs.Outcome.{IllPlace, ◌>>=◌}
-use Rattle.type_check.specs.Internal.Answers.{Refuses}
+use Rattle.type_check.specs.Internal.Answers.{RefusesAt}
 use Rattle.type_check.specs.Types.{read_type}
 use Rattle.type_check.specs.Terms.{TermReading, bind, read_binder}
 use Rattle.type_check.specs.declared.refusal.Refusal.{Refusal}
 use Rattle.type_check.specs.declared.refusal.Refusal.TheVariants.{At, Memory}
 
 -- what a reading refuses is refused
-pub refuses-then : {A B : Type 0} (e : Refusal) (r : Result A IllPlace) (f : A → Result B IllPlace) → Refuses e r → Refuses e (r >>= f)
+pub refuses-then : {A B : Type 0} (e : Refusal) (r : Result A IllPlace) (f : A → Result B IllPlace) → RefusesAt e r → RefusesAt e (r >>= f)
 refuses-then (At at why) r f h = ap (λ r. r >>= f) h
 refuses-then Memory r f h = tt
 

@@ -9,7 +9,7 @@ use Rattle.thf_include.specs.View.{PlacedTree}
 use Rattle.type_check.specs.Outcome.{IllPlace, ◌>>=◌}
 use Rattle.type_check.specs.declared.refusal.IllWhy.TheVariants.{Twice, SecondConjecture, RoleUnknown}
 use Rattle.type_check.specs.Types.{read_type}
-use Rattle.type_check.specs.Statements.{read_formula, with_base, with_const, with_assumed, with_conjecture, with_formula, where_new, read_body, read_known, read_statement, is_role, is_conjecture, is_definition, in_file, read_statements, nothing, problem_of}
+use Rattle.type_check.specs.Statements.{read_formula, with_base, with_const, with_assumed, with_conjecture, with_formula, where_new, read_body, read_known, read_statement, is_role, is_conjecture, is_definition, in_file, read_statements, empty_problem, problem_of}
 use Rattle.type_check.proofs.OutcomeLaws.{if_ok-then, if_ok-unless, if_ok-where}
 
 none-is : {A : Type 0} (o : Option A) → is_some o ≡ false → o ≡ None
@@ -30,7 +30,7 @@ with_formula-cases P role t p h k = go (is_conjecture role)
 
 -- what is kept, where the bodies of the statements are of this kind
 pub record Keeps (IsKind : BodyTree → Type 0) (Kept : PlainProblem → Type 0) : Type 0 where
-  pub at_nothing : Kept nothing
+  pub at_nothing : Kept empty_problem
   pub at_base : (p : PlainProblem) (at : ℕ) (name : List ℕ) → Kept p → IsKind (base at name) → symbol_named p.declared.bases p.declared.consts name ≡ None → Kept (with_base name p)
   pub at_const : (p : PlainProblem) (at : ℕ) (name : List ℕ) (ty : TypeTree) → Kept p → IsKind (typing at name ty) → symbol_named p.declared.bases p.declared.consts name ≡ None
       → IfOk (read_type p.declared ty) (λ a. Kept (with_const name a p))
@@ -65,4 +65,4 @@ module _ (IsKind : BodyTree → Type 0) (Kept : PlainProblem → Type 0) (keeps 
       (λ q g. read_statements-keeps q statements g (All-tail Fits s statements k))
 
   pub problem_of-keeps : (statements : List PlacedTree) → All (λ s. IsKind s.statement.body) statements → IfOk (problem_of statements) Kept
-  problem_of-keeps statements k = read_statements-keeps nothing statements keeps.at_nothing k
+  problem_of-keeps statements k = read_statements-keeps empty_problem statements keeps.at_nothing k

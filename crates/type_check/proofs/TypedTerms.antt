@@ -19,7 +19,7 @@ use Rattle.thf_grammar.specs.declared.connective.Binder.TheVariants as binder
 use Rattle.type_check.specs.Outcome.{◌>>=◌}
 use Rattle.type_check.specs.Types.{read_type}
 use Rattle.type_check.specs.Typed.{TypedTerm, typed, of_type, where_typed, domain}
-use Rattle.type_check.specs.Terms.{TermReading, known, constant_at, constant_named, variable_named, negated, joined, equated, applied, quantified_over, quantified_by, chosen, described, bind, read_binder, read_term}
+use Rattle.type_check.specs.Terms.{TermReading, known_term, constant_at, constant_named, variable_named, typed_negation, typed_connection, typed_equation, typed_application, quantified_over, typed_quantifier, typed_choice, typed_description, bind, read_binder, read_term}
 use Rattle.type_check.specs.Rows.{signed, join, for_all, for_some}
 use Rattle.type_check.specs.declared.refusal.IllWhy.TheVariants.{Mismatch}
 use Rattle.type_check.proofs.OutcomeLaws.{if_ok-then, if_ok-where}
@@ -77,7 +77,7 @@ constant_named-typed d ctx (Some (Const k)) x h = constant_at-typed d ctx k x h
 constant_named-typed d ctx (Some (Base n)) x h = cc
 constant_named-typed d ctx None x h = cc
 
-known-where : (P : TypedTerm → Type 0) (at : ℕ) (o : Option TypedTerm) → ((x : TypedTerm) → o ≡ Some x → P x) → IfOk (known at o) P
+known-where : (P : TypedTerm → Type 0) (at : ℕ) (o : Option TypedTerm) → ((x : TypedTerm) → o ≡ Some x → P x) → IfOk (known_term at o) P
 known-where P at (Some x) h = h x refl
 known-where P at None h = tt
 
@@ -97,17 +97,17 @@ module _ (scope : Scope) (over : IsScope scope) (ctx : List SimpleType) (declare
   of_type-typed at a x h =
       if_ok-where (Gives a) (same_type x.type a) at Mismatch (Ok x.term) (λ e. h ∙ ap Some (same_type-true x.type a e))
 
-  negated-typed : (at : ℕ) (x : TypedTerm) → HasItsType scope ctx x → GivesTyped (negated at x)
+  negated-typed : (at : ℕ) (x : TypedTerm) → HasItsType scope ctx x → GivesTyped (typed_negation at x)
   negated-typed at x h =
       if_ok-then (Gives formula) (HasItsType scope ctx) (of_type at formula x) (λ s. Ok (typed (neg s) formula)) (of_type-typed at formula x h) (λ s k. neg-type scope ctx s k)
 
-  joined-typed : (at : ℕ) (conn : Conn) (x y : TypedTerm) → HasItsType scope ctx x → HasItsType scope ctx y → GivesTyped (joined at conn x y)
+  joined-typed : (at : ℕ) (conn : Conn) (x y : TypedTerm) → HasItsType scope ctx x → HasItsType scope ctx y → GivesTyped (typed_connection at conn x y)
   joined-typed at conn x y h k =
       if_ok-then (Gives formula) (HasItsType scope ctx) (of_type at formula x) (λ s. of_type at formula y >>= λ t. Ok (typed (join conn s t) formula)) (of_type-typed at formula x h)
       (λ s f. if_ok-then (Gives formula) (HasItsType scope ctx) (of_type at formula y) (λ t. Ok (typed (join conn s t) formula)) (of_type-typed at formula y k)
       (λ t g. join-type scope over ctx conn s t f g))
 
-  equated-typed : (at : ℕ) (positive : Bool) (x y : TypedTerm) → HasItsType scope ctx x → HasItsType scope ctx y → GivesTyped (equated at positive x y)
+  equated-typed : (at : ℕ) (positive : Bool) (x y : TypedTerm) → HasItsType scope ctx x → HasItsType scope ctx y → GivesTyped (typed_equation at positive x y)
   equated-typed at positive x y h k =
       if_ok-then (Gives x.type) (HasItsType scope ctx) (of_type at x.type y) (λ t. Ok (typed (signed positive (eq x.type x.term t)) formula)) (of_type-typed at x.type y k)
       (λ t g. signed-type scope ctx positive (eq x.type x.term t) (eq-type scope ctx x.type x.term t (type-declared x h) h g))
@@ -116,7 +116,7 @@ module _ (scope : Scope) (over : IsScope scope) (ctx : List SimpleType) (declare
   where_typed-typed at t (Some a) h = h
   where_typed-typed at t None h = tt
 
-  applied-typed : (at : ℕ) (x y : TypedTerm) → HasItsType scope ctx x → HasItsType scope ctx y → GivesTyped (applied at x y)
+  applied-typed : (at : ℕ) (x y : TypedTerm) → HasItsType scope ctx x → HasItsType scope ctx y → GivesTyped (typed_application at x y)
   applied-typed at x y h k = where_typed-typed at (app x.term y.term) (applied_type (Some x.type) (Some y.type)) (ap₂ applied_type h k)
 
   domain-is : (a b : SimpleType) → domain a ≡ Some b → a ≡ predicate b
@@ -127,7 +127,7 @@ module _ (scope : Scope) (over : IsScope scope) (ctx : List SimpleType) (declare
       go true e k = let same : a ≡ b = cc in ap₂ arrow same (same_type-true c formula e)
       go false e k = cc
 
-  quantified_by-typed : (at : ℕ) (all : Bool) (x : TypedTerm) → HasItsType scope ctx x → GivesTyped (quantified_by at all x)
+  quantified_by-typed : (at : ℕ) (all : Bool) (x : TypedTerm) → HasItsType scope ctx x → GivesTyped (typed_quantifier at all x)
   quantified_by-typed at all x h = go (domain x.type) refl
     where
       go : (o : Option SimpleType) → domain x.type ≡ o → GivesTyped (quantified_over at all x.term o)
@@ -153,9 +153,9 @@ module _ (scope : Scope) (over : IsScope scope) (ctx : List SimpleType) (declare
         if_ok-then GivesBody (HasItsType scope ctx) (of_type at formula x) (λ s. Ok (typed (for_some a s) formula)) (body-typed at) (λ s k. for_some-type scope ctx a s a_declared k)
     bind-typed at binder.Lam = lam-type scope ctx a x.type x.term a_declared h
     bind-typed at binder.Choice =
-        if_ok-then GivesBody (HasItsType scope ctx) (of_type at formula x) (chosen a) (body-typed at) (λ s k. choice-type scope ctx a s a_declared k)
+        if_ok-then GivesBody (HasItsType scope ctx) (of_type at formula x) (typed_choice a) (body-typed at) (λ s k. choice-type scope ctx a s a_declared k)
     bind-typed at binder.Desc =
-        if_ok-then GivesBody (HasItsType scope ctx) (of_type at formula x) (described a) (body-typed at) (λ s k. description-type scope ctx a s a_declared k)
+        if_ok-then GivesBody (HasItsType scope ctx) (of_type at formula x) (typed_description a) (body-typed at) (λ s k. description-type scope ctx a s a_declared k)
 
 module _ (d : Declarations) (over : IsScope (scope_of d)) where
   abbrev IsTypedUnder : List TypedName → TermReading → Type 0
@@ -188,15 +188,15 @@ module _ (d : Declarations) (over : IsScope (scope_of d)) where
   read_term-typed vars declared (operator at conn) = operator_term-type (scope_of d) over (types_of vars) conn
   read_term-typed vars declared (negation at s) =
       let Typed : TypedTerm → Type 0 = HasItsType (scope_of d) (types_of vars) in
-      if_ok-then Typed Typed (read_term d vars s) (negated at) (read_term-typed vars declared s) (λ x h. negated-typed (scope_of d) over (types_of vars) declared at x h)
+      if_ok-then Typed Typed (read_term d vars s) (typed_negation at) (read_term-typed vars declared s) (λ x h. negated-typed (scope_of d) over (types_of vars) declared at x h)
   read_term-typed vars declared (binary at conn s t) =
-      both vars s t (joined at conn) (read_term-typed vars declared s) (read_term-typed vars declared t) (λ x y h k. joined-typed (scope_of d) over (types_of vars) declared at conn x y h k)
+      both vars s t (typed_connection at conn) (read_term-typed vars declared s) (read_term-typed vars declared t) (λ x y h k. joined-typed (scope_of d) over (types_of vars) declared at conn x y h k)
   read_term-typed vars declared (equation at positive s t) =
-      both vars s t (equated at positive) (read_term-typed vars declared s) (read_term-typed vars declared t) (λ x y h k. equated-typed (scope_of d) over (types_of vars) declared at positive x y h k)
+      both vars s t (typed_equation at positive) (read_term-typed vars declared s) (read_term-typed vars declared t) (λ x y h k. equated-typed (scope_of d) over (types_of vars) declared at positive x y h k)
   read_term-typed vars declared (application at s t) =
-      both vars s t (applied at) (read_term-typed vars declared s) (read_term-typed vars declared t) (λ x y h k. applied-typed (scope_of d) over (types_of vars) declared at x y h k)
+      both vars s t (typed_application at) (read_term-typed vars declared s) (read_term-typed vars declared t) (λ x y h k. applied-typed (scope_of d) over (types_of vars) declared at x y h k)
   read_term-typed vars declared (quantified at all s) =
       let Typed : TypedTerm → Type 0 = HasItsType (scope_of d) (types_of vars) in
-      if_ok-then Typed Typed (read_term d vars s) (quantified_by at all) (read_term-typed vars declared s) (λ x h. quantified_by-typed (scope_of d) over (types_of vars) declared at all x h)
+      if_ok-then Typed Typed (read_term d vars s) (typed_quantifier at all) (read_term-typed vars declared s) (λ x h. quantified_by-typed (scope_of d) over (types_of vars) declared at all x h)
   read_term-typed vars declared (binding at b vs body) =
       read_binder-typed at b vs vars declared (λ inner. read_term d inner body) (λ inner k. read_term-typed inner k body)

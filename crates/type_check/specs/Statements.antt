@@ -112,9 +112,9 @@ read_statements p [] = Ok p
 read_statements p (s ∷ statements) = in_file s.file (read_statement p s.statement) >>= λ q. read_statements q statements
 
 -- nothing is declared or stated
-abbrev pub nothing : PlainProblem
-nothing = record { declared = record { bases = []; consts = [] }; assumed = []; marked = []; conjecture = None }
+abbrev pub empty_problem : PlainProblem
+empty_problem = record { declared = record { bases = []; consts = [] }; assumed = []; marked = []; conjecture = None }
 
 -- What the statements of a problem say together, or the first ill place.
 abbrev pub problem_of : List PlacedTree → Result PlainProblem IllInFile
-problem_of statements = read_statements nothing statements
+problem_of statements = read_statements empty_problem statements

@@ -24,9 +24,9 @@ abbrev pub TermReading : Type 0
 TermReading = Result TypedTerm IllPlace
 
 -- a typed term that a name stands for, where it stands for one
-abbrev pub known : ℕ → Option TypedTerm → TermReading
-known at (Some x) = Ok x
-known at None = ill at Unknown
+abbrev pub known_term : ℕ → Option TypedTerm → TermReading
+known_term at (Some x) = Ok x
+known_term at None = ill at Unknown
 
 -- the constant at that place of the signature
 abbrev pub constant_at : List TypedName → ℕ → Option TypedTerm
@@ -44,47 +44,47 @@ variable_named k [] name = None
 variable_named k (v ∷ scope) name = if bytes_eq v.name name then Some (typed (bound k) v.type) else variable_named (suc k) scope name
 
 -- `~`
-abbrev pub negated : ℕ → TypedTerm → TermReading
-negated at x = do
+abbrev pub typed_negation : ℕ → TypedTerm → TermReading
+typed_negation at x = do
   s ← of_type at formula x
   Ok (typed (neg s) formula)
 
 -- the binary connectives; `~` is none
-abbrev pub joined : ℕ → Conn → TypedTerm → TypedTerm → TermReading
-joined at conn x y = do
+abbrev pub typed_connection : ℕ → Conn → TypedTerm → TypedTerm → TermReading
+typed_connection at conn x y = do
   s ← of_type at formula x
   t ← of_type at formula y
   Ok (typed (join conn s t) formula)
 
 -- `=`, or `!=` where it isn't positive
-abbrev pub equated : ℕ → Bool → TypedTerm → TypedTerm → TermReading
-equated at positive x y = do
+abbrev pub typed_equation : ℕ → Bool → TypedTerm → TypedTerm → TermReading
+typed_equation at positive x y = do
   t ← of_type at x.type y
   Ok (typed (signed positive (eq x.type x.term t)) formula)
 
 -- `@`
-abbrev pub applied : ℕ → TypedTerm → TypedTerm → TermReading
-applied at x y = where_typed at (app x.term y.term) (applied_type (Some x.type) (Some y.type))
+abbrev pub typed_application : ℕ → TypedTerm → TypedTerm → TermReading
+typed_application at x y = where_typed at (app x.term y.term) (applied_type (Some x.type) (Some y.type))
 
 -- `!! @` and `?? @`, of a predicate on the type
 abbrev pub quantified_over : ℕ → Bool → Lambda → Option SimpleType → TermReading
 quantified_over at all s (Some a) = Ok (typed (quantify all a s) formula)
 quantified_over at all s None = ill at Mismatch
 
-abbrev pub quantified_by : ℕ → Bool → TypedTerm → TermReading
-quantified_by at all x = quantified_over at all x.term (domain x.type)
+abbrev pub typed_quantifier : ℕ → Bool → TypedTerm → TermReading
+typed_quantifier at all x = quantified_over at all x.term (domain x.type)
 
 -- `^`, of a variable of type a
 abbrev pub abstracted : SimpleType → TypedTerm → TermReading
 abstracted a x = Ok (typed (lam a x.term) (arrow a x.type))
 
 -- `@+`, of a variable of type a, over a formula
-abbrev pub chosen : SimpleType → Lambda → TermReading
-chosen a s = Ok (typed (app (constant (choice a)) (lam a s)) a)
+abbrev pub typed_choice : SimpleType → Lambda → TermReading
+typed_choice a s = Ok (typed (app (constant (choice a)) (lam a s)) a)
 
 -- `@-`, of a variable of type a, over a formula
-abbrev pub described : SimpleType → Lambda → TermReading
-described a s = Ok (typed (app (constant (description a)) (lam a s)) a)
+abbrev pub typed_description : SimpleType → Lambda → TermReading
+typed_description a s = Ok (typed (app (constant (description a)) (lam a s)) a)
 
 -- a binder of one variable, of type a, over a body
 abbrev pub bind : ℕ → Binder → SimpleType → TypedTerm → TermReading
@@ -97,10 +97,10 @@ bind at binder.Exists a x = do
 bind at binder.Lam a x = abstracted a x
 bind at binder.Choice a x = do
   s ← of_type at formula x
-  chosen a s
+  typed_choice a s
 bind at binder.Desc a x = do
   s ← of_type at formula x
-  described a s
+  typed_description a s
 
 -- A binder of several variables is one of the first over one of the others. `body` reads what is bound, under the variables in scope.
 abbrev pub read_binder : Declarations → ℕ → Binder → List VarTree → List TypedName → (List TypedName → TermReading) → TermReading
@@ -112,26 +112,26 @@ read_binder d at binder (v ∷ vars) scope body = do
 
 -- A term under the variables in scope, innermost first.
 abbrev pub read_term : Declarations → List TypedName → FormulaTree → TermReading
-read_term d scope (name_tree at name) = known at (constant_named d.consts (symbol_named d.bases d.consts name))
-read_term d scope (variable at name) = known at (variable_named zero scope name)
+read_term d scope (name_tree at name) = known_term at (constant_named d.consts (symbol_named d.bases d.consts name))
+read_term d scope (variable at name) = known_term at (variable_named zero scope name)
 read_term d scope (truth at value) = Ok (typed (truth_value value) formula)
 read_term d scope (operator at conn) = Ok (operator_term conn)
 read_term d scope (negation at s) = do
   x ← read_term d scope s
-  negated at x
+  typed_negation at x
 read_term d scope (binary at conn s t) = do
   x ← read_term d scope s
   y ← read_term d scope t
-  joined at conn x y
+  typed_connection at conn x y
 read_term d scope (equation at positive s t) = do
   x ← read_term d scope s
   y ← read_term d scope t
-  equated at positive x y
+  typed_equation at positive x y
 read_term d scope (application at s t) = do
   x ← read_term d scope s
   y ← read_term d scope t
-  applied at x y
+  typed_application at x y
 read_term d scope (quantified at all s) = do
   x ← read_term d scope s
-  quantified_by at all x
+  typed_quantifier at all x
 read_term d scope (binding at binder vars body) = read_binder d at binder vars scope (λ inner. read_term d inner body)

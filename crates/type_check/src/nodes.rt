@@ -1,7 +1,7 @@
 //! Nodes of formulas over parts that are read.
 
 ghost use Rattle.stt_core.specs.View.{the_type, the_term};
-ghost use Rattle.type_check.specs.Internal.Answers.{Answers};
+ghost use Rattle.type_check.specs.Internal.Answers.{AnswersCheck};
 ghost use Rattle.type_check.specs.Internal.Infixes as infixes;
 ghost use Rattle.type_check.specs.Terms as defined;
 ghost use Rattle.type_check.specs.Internal.TypedView.{the_typed};
@@ -16,7 +16,7 @@ use thf_grammar::{Binder, Conn};
 
 /// `~`.
 pub(crate) fn negated(alloc: Global, at: u32, x: Typed) -> Result<Typed<'static>, Refusal>
-    ensures { Answers the_typed result (defined.negated at (the_typed x.entry)) }
+    ensures { AnswersCheck the_typed result (defined.typed_negation at (the_typed x.entry)) }
 {
     let s = x.of_type(at, &Ty::Base(0))?;
     Ok(Typed {
@@ -33,7 +33,7 @@ pub(crate) fn joined(
     x: Typed,
     y: Typed,
 ) -> Result<Typed<'static>, Refusal>
-    ensures { Answers the_typed result (defined.joined at conn (the_typed x.entry) (the_typed y.entry)) }
+    ensures { AnswersCheck the_typed result (defined.typed_connection at conn (the_typed x.entry) (the_typed y.entry)) }
 {
     let s = x.of_type(at, &Ty::Base(0))?;
     let t = y.of_type(at, &Ty::Base(0))?;
@@ -51,7 +51,7 @@ pub(crate) fn equated(
     x: Typed,
     y: Typed,
 ) -> Result<Typed<'static>, Refusal>
-    ensures { Answers the_typed result (defined.equated at positive (the_typed x.entry) (the_typed y.entry)) }
+    ensures { AnswersCheck the_typed result (defined.typed_equation at positive (the_typed x.entry) (the_typed y.entry)) }
 {
     let t = y.of_type(at, x.ty.get())?;
     let a = x.ty.into_made(alloc)?;
@@ -69,7 +69,7 @@ pub(crate) fn applied<'a>(
     x: Typed<'a>,
     y: Typed,
 ) -> Result<Typed<'a>, Refusal>
-    ensures { Answers the_typed result (defined.applied at (the_typed x.entry) (the_typed y.entry)) }
+    ensures { AnswersCheck the_typed result (defined.typed_application at (the_typed x.entry) (the_typed y.entry)) }
 {
     match x.ty.applied_to(alloc, y.ty.get())? {
         Some(ty) => Ok(Typed {
@@ -102,7 +102,7 @@ pub(crate) fn combined<'a>(
     x: Typed<'a>,
     y: Typed,
 ) -> Result<Typed<'a>, Refusal>
-    ensures { Answers the_typed result (infixes.combined at between (the_typed x.entry) (the_typed y.entry)) }
+    ensures { AnswersCheck the_typed result (infixes.combined at between (the_typed x.entry) (the_typed y.entry)) }
 {
     match between {
         Infix::Join(conn) => joined(alloc, at, conn, x, y),
@@ -118,7 +118,7 @@ pub(crate) fn quantified(
     all: bool,
     x: Typed,
 ) -> Result<Typed<'static>, Refusal>
-    ensures { Answers the_typed result (defined.quantified_by at all (the_typed x.entry)) }
+    ensures { AnswersCheck the_typed result (defined.typed_quantifier at all (the_typed x.entry)) }
 {
     match x.ty.into_domain(alloc)? {
         Some(a) => Ok(Typed {
@@ -134,7 +134,7 @@ pub(crate) fn quantified(
 
 /// The choice of a value of type `a` at which the formula `s` holds.
 fn chosen(alloc: Global, a: Ty, s: Term) -> Result<Typed<'static>, Refusal>
-    ensures { Answers the_typed result (defined.chosen (the_type a) (the_term s)) }
+    ensures { AnswersCheck the_typed result (defined.typed_choice (the_type a) (the_term s)) }
 {
     let predicate = lam(alloc, a.try_clone(alloc)?, s)?;
     let choice = Term::Choice(a.try_clone(alloc)?);
@@ -146,7 +146,7 @@ fn chosen(alloc: Global, a: Ty, s: Term) -> Result<Typed<'static>, Refusal>
 
 /// The description of the one value of type `a` at which the formula `s` holds.
 fn described(alloc: Global, a: Ty, s: Term) -> Result<Typed<'static>, Refusal>
-    ensures { Answers the_typed result (defined.described (the_type a) (the_term s)) }
+    ensures { AnswersCheck the_typed result (defined.typed_description (the_type a) (the_term s)) }
 {
     let predicate = lam(alloc, a.try_clone(alloc)?, s)?;
     let description = Term::Desc(a.try_clone(alloc)?);
@@ -158,7 +158,7 @@ fn described(alloc: Global, a: Ty, s: Term) -> Result<Typed<'static>, Refusal>
 
 /// The function of a variable of type `a` with these values.
 fn abstracted(alloc: Global, a: Ty, x: Typed) -> Result<Typed<'static>, Refusal>
-    ensures { Answers the_typed result (defined.abstracted (the_type a) (the_typed x.entry)) }
+    ensures { AnswersCheck the_typed result (defined.abstracted (the_type a) (the_typed x.entry)) }
 {
     let outcome = x.ty.into_made(alloc)?;
     let term = lam(alloc, a.try_clone(alloc)?, x.term)?;
@@ -177,7 +177,7 @@ pub(crate) fn bind(
     a: Ty,
     x: Typed,
 ) -> Result<Typed<'static>, Refusal>
-    ensures { Answers the_typed result (defined.bind at binder (the_type a) (the_typed x.entry)) }
+    ensures { AnswersCheck the_typed result (defined.bind at binder (the_type a) (the_typed x.entry)) }
 {
     match binder {
         Binder::All => {

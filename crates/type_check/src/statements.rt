@@ -2,8 +2,8 @@
 
 ghost use Rattle.std.specs.Prelude.{◌≡◌, ◌+◌, ◌-◌, ◌<◌, ◌≤◌, ◌^◌, length, IfOk};
 ghost use Rattle.stt_core.specs.View.{the_term};
-ghost use Rattle.thf_grammar.specs.View.{the_annotated, the_body, the_formula, the_type};
-ghost use Rattle.type_check.specs.Internal.Answers.{Answers};
+ghost use Rattle.thf_grammar.specs.View.{the_annotated, the_body, the_formula, the_surface_type};
+ghost use Rattle.type_check.specs.Internal.Answers.{AnswersCheck};
 ghost use Rattle.type_check.specs.Statements as defined;
 ghost use Rattle.type_check.specs.Internal.ReadingView.{the_reading};
 
@@ -75,7 +75,7 @@ fn own_place(tree: &Surface) -> u32
 
 /// Reads a formula.
 fn read_formula(alloc: Global, declared: &Declared, tree: &Surface) -> Result<Term, Refusal>
-    ensures { Answers the_term result (defined.read_formula declared.now (the_formula tree.now)) }
+    ensures { AnswersCheck the_term result (defined.read_formula declared.now (the_formula tree.now)) }
 {
     let x = read_term(alloc, declared, &Scope::Empty, tree)?;
     if x.ty.get().same(&Ty::Base(0)) {
@@ -90,7 +90,7 @@ fn read_formula(alloc: Global, declared: &Declared, tree: &Surface) -> Result<Te
 
 impl Reading {
     pub(crate) fn new(alloc: Global) -> Reading
-        ensures { the_reading result ≡ defined.nothing }
+        ensures { the_reading result ≡ defined.empty_problem }
     {
         Reading {
             declared: Declared::new(alloc),
@@ -103,7 +103,7 @@ impl Reading {
     /// Declares a base type.
     fn read_base(self, at: u32, name: &Bytes) -> Result<Reading, Refusal>
         requires { length self.declared.bases < 2 ^ 32 - 2 }
-        ensures answer { Answers the_reading result (defined.read_base (the_reading self) at name.now) }
+        ensures answer { AnswersCheck the_reading result (defined.read_base (the_reading self) at name.now) }
         ensures grows { IfOk result (λ r. length r.declared.bases + length r.declared.consts ≤ length self.declared.bases + length self.declared.consts + 1) }
     {
         if self.declared.find(name).is_some() {
@@ -127,7 +127,7 @@ impl Reading {
         ty: &SurfaceTy,
     ) -> Result<Reading, Refusal>
         requires { length self.declared.consts < 2 ^ 32 }
-        ensures answer { Answers the_reading result (defined.read_const (the_reading self) at name.now (the_type ty.now)) }
+        ensures answer { AnswersCheck the_reading result (defined.read_const (the_reading self) at name.now (the_surface_type ty.now)) }
         ensures grows { IfOk result (λ r. length r.declared.bases + length r.declared.consts ≤ length self.declared.bases + length self.declared.consts + 1) }
     {
         if self.declared.find(name).is_some() {
@@ -161,7 +161,7 @@ impl Reading {
     fn read_body(self, alloc: Global, role: &[u8], body: &Body) -> Result<Reading, Refusal>
         requires bases { length self.declared.bases < 2 ^ 32 - 2 }
         requires consts { length self.declared.consts < 2 ^ 32 }
-        ensures answer { Answers the_reading result (defined.read_body (the_reading self) role.now (the_body body.now)) }
+        ensures answer { AnswersCheck the_reading result (defined.read_body (the_reading self) role.now (the_body body.now)) }
         ensures grows { IfOk result (λ r. length r.declared.bases + length r.declared.consts ≤ length self.declared.bases + length self.declared.consts + 1) }
     {
         match body {
@@ -182,7 +182,7 @@ impl Reading {
     ) -> Result<Reading, Refusal>
         requires bases { length self.declared.bases < 2 ^ 32 - 2 }
         requires consts { length self.declared.consts < 2 ^ 32 }
-        ensures answer { Answers the_reading result (defined.read_statement (the_reading self) (the_annotated statement.now)) }
+        ensures answer { AnswersCheck the_reading result (defined.read_statement (the_reading self) (the_annotated statement.now)) }
         ensures grows { IfOk result (λ r. length r.declared.bases + length r.declared.consts ≤ length self.declared.bases + length self.declared.consts + 1) }
     {
         let role = statement.role.as_slice();

@@ -4,7 +4,7 @@ ghost use Rattle.std.specs.Prelude.{◌≡◌, IfOk, option_map};
 ghost use Rattle.stt_core.specs.SimpleType.{arrow, formula};
 ghost use Rattle.stt_core.specs.View.{the_type};
 ghost use Rattle.thf_grammar.specs.View.{the_formula, the_vars};
-ghost use Rattle.type_check.specs.Internal.Answers.{Answers};
+ghost use Rattle.type_check.specs.Internal.Answers.{AnswersCheck};
 ghost use Rattle.type_check.specs.Internal.Infixes as infixes;
 ghost use Rattle.type_check.specs.Rows as rows;
 ghost use Rattle.type_check.specs.Typed.{typed};
@@ -27,7 +27,7 @@ use thf_grammar::{Binder, Conn, Surface, SurfaceVar};
 
 /// What a name stands for, where it stands for a term.
 fn known(at: u32, x: Option<Typed>) -> Result<Typed, Refusal>
-    ensures { Answers the_typed result (defined.known at (option_map the_typed x.entry)) }
+    ensures { AnswersCheck the_typed result (defined.known_term at (option_map the_typed x.entry)) }
 {
     match x {
         Some(x) => Ok(x),
@@ -104,7 +104,7 @@ pub(crate) fn read_term<'a>(
     scope: &Scope<'a>,
     tree: &Surface,
 ) -> Result<Typed<'a>, Refusal>
-    ensures { Answers the_typed result (defined.read_term declared.now (the_variables scope.now) (the_formula tree.now)) }
+    ensures { AnswersCheck the_typed result (defined.read_term declared.now (the_variables scope.now) (the_formula tree.now)) }
 {
     match tree {
         Surface::Name { at, name } => known(*at, declared.constant(name)),
@@ -157,7 +157,7 @@ fn read_infix<'a>(
     left: &Surface,
     right: &Surface,
 ) -> Result<Typed<'a>, Refusal>
-    ensures { Answers the_typed result (infixes.read_infix declared.now at between (the_variables scope.now) (the_formula left.now) (the_formula right.now)) }
+    ensures { AnswersCheck the_typed result (infixes.read_infix declared.now at between (the_variables scope.now) (the_formula left.now) (the_formula right.now)) }
 {
     let x = read_term(alloc, declared, scope, left)?;
     let y = read_term(alloc, declared, scope, right)?;
@@ -175,7 +175,7 @@ fn read_binder<'a>(
     vars: &[SurfaceVar],
     body: &Surface,
 ) -> Result<Typed<'a>, Refusal>
-    ensures { Answers the_typed result (defined.read_binder declared.now at binder (the_vars vars.now) (the_variables scope.now) (λ inner. defined.read_term declared.now inner (the_formula body.now))) }
+    ensures { AnswersCheck the_typed result (defined.read_binder declared.now at binder (the_vars vars.now) (the_variables scope.now) (λ inner. defined.read_term declared.now inner (the_formula body.now))) }
 {
     let Some((var, rest)) = vars.split_first() else {
         return read_term(alloc, declared, scope, body);

@@ -3,7 +3,7 @@
 ghost use Rattle.std.specs.Prelude.{◌≡◌, Some, IfOk, option_map};
 ghost use Rattle.stt_core.specs.Typing.{applied_type};
 ghost use Rattle.stt_core.specs.View.{the_type, the_term};
-ghost use Rattle.type_check.specs.Internal.Answers.{Answers};
+ghost use Rattle.type_check.specs.Internal.Answers.{AnswersCheck};
 ghost use Rattle.type_check.specs.Typed as defined;
 ghost use Rattle.type_check.specs.Internal.TypedView.{the_type_of, the_typed};
 
@@ -101,7 +101,7 @@ impl<'a> TypeOf<'a> {
 impl Typed<'_> {
     /// The term, where it has the type that the node at `at` wants of it.
     pub(crate) fn of_type(self, at: u32, ty: &Ty) -> Result<Term, Refusal>
-        ensures { Answers the_term result (defined.of_type at (the_type ty.now) (the_typed self.entry)) }
+        ensures { AnswersCheck the_term result (defined.of_type at (the_type ty.now) (the_typed self.entry)) }
     {
         if self.ty.get().same(ty) {
             Ok(self.term)

@@ -3,7 +3,7 @@
 ghost use Rattle.thf_grammar.specs.View as surface;
 ghost use Rattle.stt_core.specs.View as core;
 ghost use Rattle.type_check.specs.Types as defined;
-ghost use Rattle.type_check.specs.Internal.Answers.{Answers};
+ghost use Rattle.type_check.specs.Internal.Answers.{AnswersCheck};
 
 use crate::declared::Declared;
 use crate::refusal::{IllWhy, Refusal};
@@ -13,7 +13,7 @@ use thf_grammar::SurfaceTy;
 
 /// The type that a name stands for.
 fn base_named(at: u32, symbol: Option<Symbol>) -> Result<Ty, Refusal>
-    ensures { Answers core.the_type result (defined.base_named at symbol) }
+    ensures { AnswersCheck core.the_type result (defined.base_named at symbol) }
 {
     match symbol {
         Some(Symbol::Base(n)) => Ok(Ty::Base(n)),
@@ -26,7 +26,7 @@ fn base_named(at: u32, symbol: Option<Symbol>) -> Result<Ty, Refusal>
 
 /// Reads a type.
 pub(crate) fn read_type(alloc: Global, declared: &Declared, ty: &SurfaceTy) -> Result<Ty, Refusal>
-    ensures { Answers core.the_type result (defined.read_type declared.now (surface.the_type ty.now)) }
+    ensures { AnswersCheck core.the_type result (defined.read_type declared.now (surface.the_surface_type ty.now)) }
 {
     match ty {
         SurfaceTy::Form { .. } => Ok(Ty::Base(0)),

@@ -10,8 +10,8 @@ use Rattle.bank_normal.specs.Known.{Known, KnownVariable, IsKnown}
 use Rattle.bank_normal.specs.declared.memo.Key.{Key}
 
 -- what an entry says
-abbrev pub known : Key × ℕ → Known
-known e = record { by = e.0.by; depth = e.0.depth; term = e.0.term; result = e.1 }
+abbrev pub known_result : Key × ℕ → Known
+known_result e = record { by = e.0.by; depth = e.0.depth; term = e.0.term; result = e.1 }
 
 -- the type of a binder (no head stands as key)
 abbrev pub binder_type : Shape → SimpleType

@@ -7,14 +7,14 @@ use Rattle.std.specs.declared.cmp.Ordering.{Ordering}
 use Rattle.command_queue.specs.declared.entry.Entry.{Entry}
 
 -- the entries with this one in front of the first that has a greater number
-abbrev pub placed : {C : Type 0} → Entry C → List (Entry C) → List (Entry C)
-placed e [] = e ∷ []
-placed e (x ∷ xs) = if nat_lt e.number x.number then e ∷ x ∷ xs else x ∷ placed e xs
+abbrev pub placed_entry : {C : Type 0} → Entry C → List (Entry C) → List (Entry C)
+placed_entry e [] = e ∷ []
+placed_entry e (x ∷ xs) = if nat_lt e.number x.number then e ∷ x ∷ xs else x ∷ placed_entry e xs
 
 -- the entries by their numbers
-abbrev pub in_order : {C : Type 0} → List (Entry C) → List (Entry C)
-in_order [] = []
-in_order (x ∷ xs) = placed x (in_order xs)
+abbrev pub entries_in_order : {C : Type 0} → List (Entry C) → List (Entry C)
+entries_in_order [] = []
+entries_in_order (x ∷ xs) = placed_entry x (entries_in_order xs)
 
 -- a heap has its greatest entry on top, so the one that leaves first is greater
 abbrev pub heap_order : {C : Type 0} → Entry C → Entry C → Ordering

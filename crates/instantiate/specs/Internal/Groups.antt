@@ -13,10 +13,10 @@ first_group a [] = []
 first_group a (g ∷ gs) = if same_type a g.0 then g.1 else first_group a gs
 
 -- the place of the first group of the type, or the end
-abbrev pub place_in : SimpleType → List Group → ℕ
-place_in a [] = 0
-place_in a (g ∷ gs) = if same_type a g.0 then 0 else suc (place_in a gs)
+abbrev pub group_place : SimpleType → List Group → ℕ
+group_place a [] = 0
+group_place a (g ∷ gs) = if same_type a g.0 then 0 else suc (group_place a gs)
 
 -- each type's first group has its terms
-abbrev pub AreRight : List Group → List Listing → Type 0
-AreRight groups all = (a : SimpleType) → first_group a groups ≡ ids_of a all
+abbrev pub AreRightGroups : List Group → List Listing → Type 0
+AreRightGroups groups all = (a : SimpleType) → first_group a groups ≡ ids_of a all

@@ -1,7 +1,7 @@
 -- Holes among partial terms.
 use Rattle.std.specs.Prelude.{ℕ, List, [], ◌∷◌, Option, Some, None, option_map}
 use Rattle.stt_core.specs.SimpleType.{SimpleType}
-use Rattle.search_spec.specs.Partial.{Partial, Hole, first_hole, filled, or_else}
+use Rattle.search_spec.specs.Partial.{Partial, Hole, first_hole, with_filling, or_else}
 
 -- the base type of the first hole of a partial term, and of several
 abbrev pub base_in : Partial → Option ℕ
@@ -17,12 +17,12 @@ first_among ctx [] = None
 first_among ctx (p ∷ ps) = or_else (first_hole ctx p) (first_among ctx ps)
 
 -- a partial term after its first hole is filled, where there is a filler, with what is left of the filler
-abbrev pub placed : Partial → Partial → Option Partial → Partial × Option Partial
-placed r p (Some q) = (q, None)
-placed r p None = (p, Some r)
+abbrev pub placed_partial : Partial → Partial → Option Partial → Partial × Option Partial
+placed_partial r p (Some q) = (q, None)
+placed_partial r p None = (p, Some r)
 
 abbrev pub filling : Option Partial → Partial → Partial × Option Partial
-filling (Some r) p = placed r p (filled r p)
+filling (Some r) p = placed_partial r p (with_filling r p)
 filling None p = (p, None)
 
 -- the same of several partial terms

@@ -10,6 +10,6 @@ abbrev pub AreTyped : Scope → List Lambda → Type 0
 AreTyped scope us = (i : ℕ) (u : Lambda) → slice_get us i ≡ Some u → IsTypedTerm scope u
 
 -- these are the numbers of the terms
-pub record HaveTerms (b : Content) (ids : List ℕ) (terms : List Lambda) : Type 0 where
+pub record HaveInternedTerms (b : Content) (ids : List ℕ) (terms : List Lambda) : Type 0 where
   pub within : All (λ i. i < length b.terms) ids
   pub are : map (term_at b.terms) ids ≡ terms

@@ -6,10 +6,10 @@ use Rattle.stt_core.specs.View.{the_head}
 use Rattle.instantiate.specs.declared.partial.PartialNode.{PartialNode}
 use Rattle.instantiate.specs.declared.partial.PartialNode.TheVariants.{Hole, Lam, App}
 use Rattle.instantiate.specs.declared.partial.Partial.TheDeep.{deep-PartialNode}
-use Rattle.instantiate.specs.Internal.PartialSizes.{node_count, applications_fall}
-use Rattle.instantiate.specs.PartialView.{the_node}
+use Rattle.instantiate.specs.Internal.PartialSizes.{partial_node_count, applications_fall}
+use Rattle.instantiate.specs.PartialView.{the_partial_node}
 
-pub node_falls : (n : PartialNode) → max (deep-PartialNode n) 0 ≤ node_count (the_node n)
-node_falls (Hole n) = omega arith
-node_falls (Lam a p) = omega arith
-node_falls (App h ps) = omega (arith, applications_fall (head (the_head h)) ps)
+pub partial_node_falls : (n : PartialNode) → max (deep-PartialNode n) 0 ≤ partial_node_count (the_partial_node n)
+partial_node_falls (Hole n) = omega arith
+partial_node_falls (Lam a p) = omega arith
+partial_node_falls (App h ps) = omega (arith, applications_fall (head (the_head h)) ps)

@@ -4,9 +4,9 @@ use Rattle.mode_file.specs.Lines.{is_digit, front}
 use Rattle.mode_file.specs.Internal.Fronts.{is_space, after}
 use Rattle.mode_file.specs.Grammar.{is_decimal}
 
-abbrev pub is_nil : List ℕ → Bool
-is_nil [] = true
-is_nil (c ∷ cs) = false
+abbrev pub has_no_bytes : List ℕ → Bool
+has_no_bytes [] = true
+has_no_bytes (c ∷ cs) = false
 
 -- nothing, or one carriage return
 abbrev pub is_ending : List ℕ → Bool
@@ -21,5 +21,5 @@ behind_spaces bytes = after is_space bytes
 -- the digits of a number, behind some spaces and before any spaces and an ending
 abbrev pub digits_in : List ℕ → Option (List ℕ)
 digits_in bytes =
-    if not (is_nil (front is_space bytes)) && is_decimal (front is_digit (behind_spaces bytes)) && is_ending (behind_spaces (after is_digit (behind_spaces bytes)))
+    if not (has_no_bytes (front is_space bytes)) && is_decimal (front is_digit (behind_spaces bytes)) && is_ending (behind_spaces (after is_digit (behind_spaces bytes)))
     then Some (front is_digit (behind_spaces bytes)) else None

@@ -18,12 +18,12 @@ result_after (suc n) (base m) = base m
 result_after (suc n) (arrow a b) = result_after n b
 
 -- a term without its first n binders
-abbrev pub body : ℕ → Lambda → Lambda
-body zero t = t
-body (suc n) (lam a s) = body n s
-body (suc n) (bound k) = bound k
-body (suc n) (constant c) = constant c
-body (suc n) (app s u) = app s u
+abbrev pub body_under : ℕ → Lambda → Lambda
+body_under zero t = t
+body_under (suc n) (lam a s) = body_under n s
+body_under (suc n) (bound k) = bound k
+body_under (suc n) (constant c) = constant c
+body_under (suc n) (app s u) = app s u
 
 -- applied to one argument after the other, by the ways
 abbrev pub apply_ways : List Way → Lambda → List Lambda → Lambda

@@ -15,10 +15,10 @@ use Rattle.command_queue.specs.Queue.{Queue}
 use Rattle.prover_state.specs.declared.command.Planned.{Planned}
 use Rattle.prover_state.specs.declared.command.Delays.{Delays}
 use Rattle.prover_state.specs.declared.tables.Tables.{Tables}
-use Rattle.literal_map.specs.Atoms.{literal_at}
+use Rattle.literal_map.specs.Atoms.{bank_literal}
 use Rattle.tableau_clauses.specs.Table.{the_clauses}
-use Rattle.prover_state.specs.Internal.Standing.{setting_by, IsRight}
-use Rattle.prover_state.specs.Internal.Steps.{IsMade}
+use Rattle.prover_state.specs.Internal.Standing.{setting_by, IsRightState}
+use Rattle.prover_state.specs.Internal.Steps.{IsMadeInstance}
 use Rattle.prover_search.specs.Internal.Running.{start_in}
 use Rattle.prover_run.specs.Origin.{EachComesFrom, AreRefutedShortly, AreRefutedWithin}
 use Rattle.prover_run.specs.Ended.{IsSpent}
@@ -26,14 +26,14 @@ use Rattle.prover_run.specs.declared.ended.Ended.{Ended}
 use Rattle.prover_run.specs.declared.ended.Ended.TheVariants.{Proved, GaveUp, CommandLimit, ConflictLimit}
 
 -- the tables are right, whatever waits, and each instance is one of its rule
-pub record AreRight (t : Tables) : Type 0 where
+pub record AreRightTables (t : Tables) : Type 0 where
   pub plan : Queue Planned Delays
-  pub right : IsRight t plan
-  pub made : Each (IsMade t.basis) t.steps.1
+  pub right : IsRightState t plan
+  pub made : Each (IsMadeInstance t.basis) t.steps.1
 
 -- the clauses of formulas that the tables stand for
 abbrev pub clauses_of : Tables → List Clause
-clauses_of t = map (map (literal_at t.basis.bank.terms t.basis.lits)) (the_clauses t.steps)
+clauses_of t = map (map (bank_literal t.basis.bank.terms t.basis.lits)) (the_clauses t.steps)
 
 -- The refutation is accepted for the start and small enough for a text. Each of its lines is reached and comes from the clauses, which a log
 -- refutes with these learned clauses.

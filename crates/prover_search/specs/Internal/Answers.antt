@@ -6,7 +6,7 @@ use Rattle.sat_log.specs.Chains.{results}
 use Rattle.sat_log.specs.Propagation.{ReachesFalse, AreFailingDecisions}
 use Rattle.sat_core.specs.Solver.{learned, AreAmong}
 use Rattle.search_spec.specs.Unsatisfiable.{Unsatisfiable}
-use Rattle.search_spec.specs.After.{stepped}
+use Rattle.search_spec.specs.After.{next_state}
 use Rattle.prover_search.specs.Internal.Progress.{Progress, setting_of, state_of}
 use Rattle.prover_search.specs.declared.stepped.Stepped.{Stepped}
 use Rattle.prover_search.specs.declared.stepped.Stepped.TheVariants.{Closed, Empty, Limit, Spent, Went}
@@ -47,16 +47,16 @@ pub record StepSpends (old new : Progress) (conflicts : ℕ) : Type 0 where
   pub stays : Stays old new
 
 -- the clauses are satisfiable, commands are left, the limit isn't reached, and the next command was carried out
-pub record GoesOn (old new : Progress) : Type 0 where
+pub record StepGoesOn (old new : Progress) : Type 0 where
   pub satisfiable : Unsatisfiable (state_of old).clauses → ⊥
   pub some_left : (state_of old).queue ≢ []
   pub below : old.tables.done ≢ old.plan.rule.mode.commands
-  pub next : stepped (setting_of old) (Some (state_of old)) ≡ Some (state_of new)
+  pub next : next_state (setting_of old) (Some (state_of old)) ≡ Some (state_of new)
   pub done : new.tables.done ≡ old.tables.done + 1
 
-abbrev pub Answers : Progress → Progress → Stepped → Type 0
-Answers old new Closed = StepCloses old new
-Answers old new Empty = IsEmpty old new
-Answers old new Limit = IsAtLimit old new
-Answers old new (Spent conflicts) = StepSpends old new conflicts
-Answers old new Went = GoesOn old new
+abbrev pub AnswersStep : Progress → Progress → Stepped → Type 0
+AnswersStep old new Closed = StepCloses old new
+AnswersStep old new Empty = IsEmpty old new
+AnswersStep old new Limit = IsAtLimit old new
+AnswersStep old new (Spent conflicts) = StepSpends old new conflicts
+AnswersStep old new Went = StepGoesOn old new

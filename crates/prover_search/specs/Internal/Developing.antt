@@ -5,7 +5,7 @@ use Rattle.tableau_rules.specs.Changes.{Widens}
 use Rattle.prover_state.specs.declared.tables.Basis.{Basis}
 use Rattle.prover_state.specs.declared.tables.Tables.{Tables}
 use Rattle.prover_state.specs.Internal.Growing.{Longer}
-use Rattle.prover_state.specs.Internal.Steps.{IsMade, StepsGrow}
+use Rattle.prover_state.specs.Internal.Steps.{IsMadeInstance, StepsGrow}
 
 -- further terms, atoms and witnesses stand behind the earlier ones
 pub record IsWider (old new : Basis) : Type 0 where
@@ -17,5 +17,5 @@ pub record IsWider (old new : Basis) : Type 0 where
 -- number of commands is the same.
 pub record Develops (old new : Tables) : Type 0 where
   pub basis : IsWider old.basis new.basis
-  pub steps : StepsGrow (IsMade new.basis) old.steps new.steps
+  pub steps : StepsGrow (IsMadeInstance new.basis) old.steps new.steps
   pub done : new.done ≡ old.done

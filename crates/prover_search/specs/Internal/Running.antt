@@ -7,42 +7,42 @@ use Rattle.sat_base.specs.declared.literal.SatLit.{SatLit}
 use Rattle.mode_file.specs.declared.Mode.{Mode}
 use Rattle.command_queue.specs.Queue.{Queue}
 use Rattle.search_spec.specs.Each.{Each}
-use Rattle.search_spec.specs.After.{after}
-use Rattle.literal_map.specs.Atoms.{literal_at}
+use Rattle.search_spec.specs.After.{state_after}
+use Rattle.literal_map.specs.Atoms.{bank_literal}
 use Rattle.tableau_clauses.specs.declared.origin.Origin.{Origin}
 use Rattle.tableau_clauses.specs.declared.origin.Origin.TheVariants.{Start, Instance as From}
 use Rattle.tableau_clauses.specs.Table.{Step}
 use Rattle.prover_state.specs.declared.command.Planned.{Planned}
 use Rattle.prover_state.specs.declared.command.Delays.{Delays}
 use Rattle.prover_state.specs.declared.tables.Tables.{Tables}
-use Rattle.prover_state.specs.Internal.Standing.{declared_scope, setting_by, the_state, IsRight}
-use Rattle.prover_state.specs.Internal.Steps.{IsMade}
+use Rattle.prover_state.specs.Internal.Standing.{without_witnesses, setting_by, the_state, IsRightState}
+use Rattle.prover_state.specs.Internal.Steps.{IsMadeInstance}
 
 -- the literals of a clause of the start, and of another one none
-abbrev pub unit_in : List SatLit → Origin → List SatLit
-unit_in clause Start = clause
-unit_in clause (From k) = []
+abbrev pub unit_of_origin : List SatLit → Origin → List SatLit
+unit_of_origin clause Start = clause
+unit_of_origin clause (From k) = []
 
 -- the start units, in order
 abbrev pub units : List Step → List SatLit
 units [] = []
-units (s ∷ steps) = unit_in s.0 s.1 ++ units steps
+units (s ∷ steps) = unit_of_origin s.0 s.1 ++ units steps
 
 -- the literals of the start units, in order
 abbrev pub start_in : Tables → List Literal
-start_in t = map (literal_at t.basis.bank.terms t.basis.lits) (units t.steps.0)
+start_in t = map (bank_literal t.basis.bank.terms t.basis.lits) (units t.steps.0)
 
 -- The tables and the commands that wait are right, and they stand for the state of the run from their start units after as many commands
 -- as were carried out. These are at most as many as the mode allows, and at most one witness is made by each. The start is typed without
 -- witnesses, and each instance is one of its rule.
 pub record IsRunning (t : Tables) (q : Queue Planned Delays) : Type 0 where
-  pub right : IsRight t q
-  pub comes_to : after (setting_by t q) (start_in t) t.done ≡ Some (the_state t q)
+  pub right : IsRightState t q
+  pub comes_to : state_after (setting_by t q) (start_in t) t.done ≡ Some (the_state t q)
   pub within : t.done ≤ q.rule.mode.commands
   pub few : length t.basis.witnesses ≤ t.done
-  pub declared : IsScope (declared_scope t.basis.bank)
-  pub start : IsBranch (with_rows (declared_scope t.basis.bank) []) (start_in t)
-  pub made : Each (IsMade t.basis) t.steps.1
+  pub declared : IsScope (without_witnesses t.basis.bank)
+  pub start : IsBranch (with_rows (without_witnesses t.basis.bank) []) (start_in t)
+  pub made : Each (IsMadeInstance t.basis) t.steps.1
 
 -- tables of a run by this mode
 pub record IsUnderWay (t : Tables) (q : Queue Planned Delays) (m : Mode) : Type 0 where

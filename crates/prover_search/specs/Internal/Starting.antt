@@ -4,18 +4,18 @@ use Rattle.std.specs.List.{list_any}
 use Rattle.tableau_calculus.specs.Literals.{Literal}
 use Rattle.sat_base.specs.declared.literal.SatLit.{SatLit}
 use Rattle.command_queue.specs.Queue.{Queue}
-use Rattle.search_spec.specs.After.{started}
+use Rattle.search_spec.specs.After.{starting_state}
 use Rattle.search_spec.specs.Clauses.{same_clause}
 use Rattle.search_spec.specs.Numbered.{numbers}
 use Rattle.search_spec.specs.Shallow.{is_shallow_literal}
-use Rattle.literal_map.specs.Atoms.{literal_at}
+use Rattle.literal_map.specs.Atoms.{bank_literal}
 use Rattle.tableau_clauses.specs.declared.origin.Origin.TheVariants.{Start}
 use Rattle.tableau_clauses.specs.Table.{Table, the_clauses}
 use Rattle.prover_state.specs.declared.command.Planned.{Planned}
 use Rattle.prover_state.specs.declared.command.Delays.{Delays}
 use Rattle.prover_state.specs.declared.tables.Tables.{Tables}
 use Rattle.prover_state.specs.Internal.Growing.{BasisGrows}
-use Rattle.prover_state.specs.Internal.Standing.{setting_by, the_state, IsRight}
+use Rattle.prover_state.specs.Internal.Standing.{setting_by, the_state, IsRightState}
 use Rattle.prover_search.specs.Internal.Running.{start_in}
 
 -- the literal's clause stands behind the earlier ones as a start unit, unless it is one of them
@@ -25,8 +25,8 @@ pub record AddsUnit (lit : SatLit) (old new : Table) : Type 0 where
 
 -- tables that began as the first ones, to which these literals of the start were added
 pub record IsStarting (t0 : Tables) (q0 : Queue Planned Delays) (t : Tables) (q : Queue Planned Delays) (ls : List Literal) : Type 0 where
-  pub state : the_state t q ≡ started (setting_by t0 q0) ls
-  pub right : IsRight t q
+  pub state : the_state t q ≡ starting_state (setting_by t0 q0) ls
+  pub right : IsRightState t q
   pub basis : BasisGrows t0.basis t.basis
   pub units : start_in t ≡ filter is_shallow_literal ls
   pub instances : t.steps.1 ≡ []
@@ -34,5 +34,5 @@ pub record IsStarting (t0 : Tables) (q0 : Queue Planned Delays) (t : Tables) (q 
 
 -- what a literal of the start adds to the steps, unless it is too deep
 pub record AddsStart (lit : SatLit) (t u : Tables) : Type 0 where
-  pub deep : is_shallow_literal (literal_at t.basis.bank.terms t.basis.lits lit) ≡ false → u.steps ≡ t.steps
-  pub unit : is_shallow_literal (literal_at t.basis.bank.terms t.basis.lits lit) ≡ true → AddsUnit lit t.steps u.steps
+  pub deep : is_shallow_literal (bank_literal t.basis.bank.terms t.basis.lits lit) ≡ false → u.steps ≡ t.steps
+  pub unit : is_shallow_literal (bank_literal t.basis.bank.terms t.basis.lits lit) ≡ true → AddsUnit lit t.steps u.steps

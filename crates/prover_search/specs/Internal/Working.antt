@@ -28,5 +28,5 @@ abbrev pub denies_itself : Literal → Bool
 denies_itself l = not l.positive && has_equal_sides l.atom
 
 -- a rule with one literal and nothing else
-abbrev pub alone : RuleKind → SatLit → BankUse
-alone rule lit = record { kind = rule; first = Some lit; second = None; term = None }
+abbrev pub lone_use : RuleKind → SatLit → BankUse
+lone_use rule lit = record { kind = rule; first = Some lit; second = None; term = None }

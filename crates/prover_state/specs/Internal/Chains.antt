@@ -17,6 +17,6 @@ AreLinked [] = Unit {0}
 AreLinked (c ∷ older) = (c.1 ≤ length older) × AreLinked older
 
 -- with further cells the lists that were there stay
-pub record Extends (old new : List Cell) : Type 0 where
+pub record ExtendsCells (old new : List Cell) : Type 0 where
   pub longer : length old ≤ length new
   pub kept : (k : ℕ) → k ≤ length old → chain new k ≡ chain old k

@@ -2,7 +2,7 @@
 use Rattle.std.specs.Prelude.{◌≡◌, ℕ, false, List, []}
 use Rattle.stt_core.specs.Lambda.{Lambda}
 use Rattle.instantiate.specs.Listing.{Listing}
-use Rattle.mating_rules.specs.Noted.{IsRight as IsRightIndex}
+use Rattle.mating_rules.specs.Noted.{IsRightIndex}
 use Rattle.prover_state.specs.declared.tables.Basis.{Basis}
 use Rattle.prover_state.specs.declared.tables.Tables.{Tables}
 

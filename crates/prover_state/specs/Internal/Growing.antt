@@ -6,14 +6,14 @@ use Rattle.term_bank.specs.Content.{Grows}
 use Rattle.literal_map.specs.Atoms.{Begins}
 use Rattle.tableau_rules.specs.Changes.{Widens}
 use Rattle.prover_state.specs.declared.tables.Basis.{Basis}
-use Rattle.prover_state.specs.Internal.Names.{Names, IsPlace}
+use Rattle.prover_state.specs.Internal.Names.{Naming, IsPlace}
 
 -- the second list is the first one with further elements behind it
 abbrev pub Longer : {X : Type 0} → List X → List X → Type 0
 Longer {X} xs ys = (more : List X) × (ys ≡ xs ++ more)
 
 -- each number of the first names has what it stands for in the second ones
-pub record Continues (old new : Names) : Type 0 where
+pub record Continues (old new : Naming) : Type 0 where
   pub within : All (IsPlace old.terms) old.atoms
   pub terms : Longer old.terms new.terms
   pub atoms : Longer old.atoms new.atoms
@@ -33,7 +33,7 @@ pub record BasisWidens (old new : Basis) : Type 0 where
   pub few : length new.witnesses ≤ suc (length old.witnesses)
 
 -- what loops go over has become longer
-pub record Extends (old new : State) : Type 0 where
+pub record ExtendsState (old new : State) : Type 0 where
   pub noted : Longer old.noted new.noted
   pub terms : Longer old.terms new.terms
   pub rows : Longer old.rows new.rows

@@ -16,8 +16,8 @@ head_of_kind (suc (suc (suc (suc (suc (suc (suc zero))))))) k = constant negatio
 head_of_kind (suc (suc (suc (suc (suc (suc (suc (suc n)))))))) k = constant implication
 
 -- In the list of all heads the nine kinds take turns.
-abbrev pub head_at : ℕ → Lambda
-head_at h = head_of_kind (h % 9) (h / 9)
+abbrev pub head_numbered : ℕ → Lambda
+head_numbered h = head_of_kind (h % 9) (h / 9)
 
 -- the number is that of a head
 abbrev pub IsHeadNumber : ℕ → Type 0

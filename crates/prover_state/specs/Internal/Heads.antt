@@ -4,9 +4,9 @@ use Rattle.stt_core.specs.SimpleType.{base}
 use Rattle.stt_core.specs.Lambda.{Lambda, bound, constant, name, witness, falsity, negation, implication, all, equality, choice}
 use Rattle.stt_core.specs.Typing.{Scope}
 use Rattle.stt_core.specs.View.{the_type}
-use Rattle.search_spec.specs.Partial.{blank}
+use Rattle.search_spec.specs.Partial.{blank_partial}
 use Rattle.search_spec.specs.State.{Sketch}
-use Rattle.search_spec.specs.Commands.{grown_by}
+use Rattle.search_spec.specs.Commands.{growth_by}
 use Rattle.instantiate.specs.Growing.{TakesHead}
 use Rattle.prover_state.specs.Internal.Names.{sketch_at}
 use Rattle.prover_state.specs.declared.head.HoleHead.{HoleHead}
@@ -27,8 +27,8 @@ the_hole_head (Choice b) = constant (choice (base b))
 
 -- the partial term of a stem, where the earlier ones are known
 abbrev pub sketch_of : Scope → List Sketch → Stem → Sketch
-sketch_of scope earlier (Blank a) = record { type = the_type a.value; partial = blank (the_type a.value) }
-sketch_of scope earlier (Grown p h) = grown_by scope (the_hole_head h) (sketch_at earlier p)
+sketch_of scope earlier (Blank a) = record { type = the_type a.value; partial = blank_partial (the_type a.value) }
+sketch_of scope earlier (Grown p h) = growth_by scope (the_hole_head h) (sketch_at earlier p)
 
 -- partial terms, with those of further stems
 abbrev pub sketches_after : Scope → List Sketch → List Stem → List Sketch

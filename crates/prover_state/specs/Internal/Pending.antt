@@ -18,7 +18,7 @@ use Rattle.prover_state.specs.declared.command.Planned.{Planned}
 use Rattle.prover_state.specs.declared.command.Rest.{Rest}
 use Rattle.prover_state.specs.declared.command.Over.{Over}
 use Rattle.prover_state.specs.declared.command.Over.TheVariants.{Terms, Universals, Negatives, Positives, Heads, Parked}
-use Rattle.prover_state.specs.Internal.Names.{Names, command_at, AreNumbers}
+use Rattle.prover_state.specs.Internal.Names.{Naming, command_at, IsNumberedCommand}
 
 -- the type over which a quantified formula ranges
 abbrev pub range_of : Lambda → SimpleType
@@ -118,7 +118,7 @@ IsSigned (Heads n) c = Unit {0}
 IsSigned Parked c = Unit {0}
 
 -- the later commands are there
-pub record IsWithin (scope : Scope) (s : State) (c : Meant) (r : Rest) : Type 0 where
+pub record IsWithinScope (scope : Scope) (s : State) (c : Meant) (r : Rest) : Type 0 where
   pub ascends : r.next ≤ r.end
   pub within : r.end ≤ length (loop_over scope s r.over c)
   pub witnesses : HasWitnesses s r.over
@@ -126,7 +126,7 @@ pub record IsWithin (scope : Scope) (s : State) (c : Meant) (r : Rest) : Type 0 
 
 abbrev pub AreThere : Scope → State → Meant → Option Rest → Type 0
 AreThere scope s c None = Unit {0}
-AreThere scope s c (Some r) = IsWithin scope s c r
+AreThere scope s c (Some r) = IsWithinScope scope s c r
 
 -- what comes after the first one of so many commands
 abbrev pub rest_after : Over → ℕ → Option Rest
@@ -137,7 +137,7 @@ abbrev pub BeginsWith : {X : Type 0} → X → List X → Type 0
 BeginsWith {X} x xs = (more : List X) × (xs ≡ x ∷ more)
 
 -- the loop of an entry of the agenda
-abbrev pub loop_at : Scope → Names → State → Entry Planned → Loop Meant
+abbrev pub loop_at : Scope → Naming → State → Entry Planned → Loop Meant
 loop_at scope names s e = record {
   due = e.due;
   number = e.number;
@@ -146,8 +146,8 @@ loop_at scope names s e = record {
 }
 
 -- an entry's numbers are numbers, and its later commands are there
-pub record IsEntry (scope : Scope) (names : Names) (s : State) (p : Planned) : Type 0 where
-  pub numbers : AreNumbers names p.first
+pub record IsEntry (scope : Scope) (names : Naming) (s : State) (p : Planned) : Type 0 where
+  pub numbers : IsNumberedCommand names p.first
   pub later : AreThere scope s (command_at names p.first) p.rest
 
 -- how many commands come after the first one

@@ -13,11 +13,11 @@ use Rattle.prover_state.specs.declared.selected.Selected.{Selected}
 use Rattle.prover_state.specs.declared.selected.Selected.TheVariants.{Chosen, Described, Nothing}
 
 -- a function's body, and the arguments of a head
-abbrev pub parts : Lambda → List Lambda
-parts (bound k) = []
-parts (constant c) = []
-parts (lam a s) = s ∷ []
-parts (app s u) = arguments (app s u)
+abbrev pub term_parts : Lambda → List Lambda
+term_parts (bound k) = []
+term_parts (constant c) = []
+term_parts (lam a s) = s ∷ []
+term_parts (app s u) = arguments (app s u)
 
 -- the predicate by which the head chooses or describes, with the first argument
 abbrev pub selection_at : Lambda → List Lambda → List Selection
@@ -28,16 +28,16 @@ abbrev pub head_selection : Lambda → List Selection
 head_selection t = selection_at (head_of t) (arguments t)
 
 -- this is the predicate, by its place
-abbrev pub IsSelected : List Lambda → List Selection → Selected → Type 0
-IsSelected terms ps (Chosen f) = (f < length terms) × ((a : SimpleType) × (ps ≡ by_choice a (term_at terms f) ∷ []))
-IsSelected terms ps (Described f) = (f < length terms) × ((a : SimpleType) × (ps ≡ by_description a (term_at terms f) ∷ []))
-IsSelected terms ps Nothing = ps ≡ []
+abbrev pub IsSelectedIn : List Lambda → List Selection → Selected → Type 0
+IsSelectedIn terms ps (Chosen f) = (f < length terms) × ((a : SimpleType) × (ps ≡ by_choice a (term_at terms f) ∷ []))
+IsSelectedIn terms ps (Described f) = (f < length terms) × ((a : SimpleType) × (ps ≡ by_description a (term_at terms f) ∷ []))
+IsSelectedIn terms ps Nothing = ps ≡ []
 
 -- the predicate was chosen by, or described, before
-abbrev pub IsTaken : State → Selection → Type 0
-IsTaken s (by_choice a f) = list_any (same_term f) s.chosen ≡ true
-IsTaken s (by_description a f) = list_any (same_term f) s.described ≡ true
+abbrev pub IsTakenSelection : State → Selection → Type 0
+IsTakenSelection s (by_choice a f) = list_any (same_term f) s.chosen ≡ true
+IsTakenSelection s (by_description a f) = list_any (same_term f) s.described ≡ true
 
 -- all choices and descriptions in the terms at these places were taken up before
 abbrev pub AreTaken : State → List Lambda → List ℕ → Type 0
-AreTaken s terms ids = Each (λ id. Each (IsTaken s) (selections_in (term_at terms id))) ids
+AreTaken s terms ids = Each (λ id. Each (IsTakenSelection s) (selections_in (term_at terms id))) ids

@@ -4,7 +4,7 @@ use Rattle.stt_core.specs.SimpleType.{SimpleType, base}
 use Rattle.stt_core.specs.Lambda.{all, Lambda, constant, app, eq, every}
 
 -- the formula says of a predicate on a type that it holds everywhere
-pub record IsQuantified (t : Lambda) : Type 0 where
+pub record IsQuantifiedFormula (t : Lambda) : Type 0 where
   pub type : SimpleType
   pub predicate : Lambda
   pub is : t ≡ every type predicate

@@ -2,23 +2,23 @@
 use Rattle.std.specs.Prelude.{◌≡◌, ◌≢◌, List, ◌++◌, map}
 use Rattle.std.specs.Option.{ForSome}
 use Rattle.search_spec.specs.Each.{Each}
-use Rattle.literal_map.specs.Atoms.{literal_at}
+use Rattle.literal_map.specs.Atoms.{bank_literal}
 use Rattle.literal_map.specs.declared.instance.Instance.{Instance}
 use Rattle.tableau_rules.specs.Uses.{principals_of, IsInstanceBy}
 use Rattle.tableau_clauses.specs.declared.origin.Origin.TheVariants.{Start}
 use Rattle.tableau_clauses.specs.Table.{Step, Table}
 use Rattle.prover_state.specs.declared.tables.Basis.{Basis}
-use Rattle.prover_state.specs.Internal.Names.{IsNumber, IsPlace}
+use Rattle.prover_state.specs.Internal.Names.{IsNumberIn, IsPlace}
 use Rattle.prover_state.specs.Internal.Standing.{rows_in}
 
 -- an instance of its rule with what that takes, over what has a number
-pub record IsMade (g : Basis) (i : Instance) : Type 0 where
+pub record IsMadeInstance (g : Basis) (i : Instance) : Type 0 where
   pub principals : i.principals ≡ principals_of i.by
-  pub first : ForSome i.by.first (IsNumber g.lits)
-  pub second : ForSome i.by.second (IsNumber g.lits)
+  pub first : ForSome i.by.first (IsNumberIn g.lits)
+  pub second : ForSome i.by.second (IsNumberIn g.lits)
   pub term : ForSome i.by.term (IsPlace g.bank.terms)
-  pub numbers : Each (Each (IsNumber g.lits)) i.alternatives
-  pub fits : IsInstanceBy g.bank g.lits (rows_in g) i.by (map (map (literal_at g.bank.terms g.lits)) i.alternatives)
+  pub numbers : Each (Each (IsNumberIn g.lits)) i.alternatives
+  pub fits : IsInstanceBy g.bank g.lits (rows_in g) i.by (map (map (bank_literal g.bank.terms g.lits)) i.alternatives)
 
 -- further clauses, none of which is a start unit, stand behind the earlier ones, and further instances, each of which is good
 pub record StepsGrow (Good : Instance → Type 0) (old new : Table) : Type 0 where

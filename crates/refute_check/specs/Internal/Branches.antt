@@ -8,9 +8,9 @@ use Rattle.refute_check.specs.Internal.Numbers.{number_in}
 use Rattle.refute_check.specs.declared.branch.Branch.{Branch}
 
 -- whether the set has the literal of this sign whose atom has this number
-abbrev pub has : Branch → Bool → ℕ → Bool
-has b true k = contains nat_eq b.positive k
-has b false k = contains nat_eq b.negative k
+abbrev pub branch_has : Branch → Bool → ℕ → Bool
+branch_has b true k = contains nat_eq b.positive k
+branch_has b false k = contains nat_eq b.negative k
 
 -- one of the literals has this sign, and its atom this number
 pub record IsLiteralOf (terms : List Lambda) (ls : List Literal) (sign : Bool) (k : ℕ) : Type 0 where
@@ -20,12 +20,12 @@ pub record IsLiteralOf (terms : List Lambda) (ls : List Literal) (sign : Bool) (
 
 -- the set has the literals, as far as their atoms have numbers
 pub record Represents (terms : List Lambda) (ls : List Literal) (b : Branch) : Type 0 where
-  pub sound : (sign : Bool) (k : ℕ) → IsTrue (has b sign k) → IsLiteralOf terms ls sign k
-  pub whole : (sign : Bool) (k : ℕ) → IsLiteralOf terms ls sign k → IsTrue (has b sign k)
+  pub sound : (sign : Bool) (k : ℕ) → IsTrue (branch_has b sign k) → IsLiteralOf terms ls sign k
+  pub whole : (sign : Bool) (k : ℕ) → IsLiteralOf terms ls sign k → IsTrue (branch_has b sign k)
 
 -- the atom of each literal has a number
-abbrev pub AreNumbered : List Lambda → List Literal → Type 0
-AreNumbered terms ls = (l : Literal) → Contains ls l → (k : ℕ) × (number_in terms l.atom ≡ Some k)
+abbrev pub AreNumberedBranch : List Lambda → List Literal → Type 0
+AreNumberedBranch terms ls = (l : Literal) → Contains ls l → (k : ℕ) × (number_in terms l.atom ≡ Some k)
 
 -- the terms after are those before and some more
 abbrev pub Grow : List Lambda → List Lambda → Type 0
@@ -36,4 +36,4 @@ abbrev pub AreBranches : List Lambda → List Line → List Branch → Type 0
 AreBranches terms [] [] = Unit {0}
 AreBranches terms [] (b ∷ bs) = ⊥
 AreBranches terms (line ∷ lines) [] = ⊥
-AreBranches terms (line ∷ lines) (b ∷ bs) = AreNumbered terms line.branch × Represents terms line.branch b × AreBranches terms lines bs
+AreBranches terms (line ∷ lines) (b ∷ bs) = AreNumberedBranch terms line.branch × Represents terms line.branch b × AreBranches terms lines bs

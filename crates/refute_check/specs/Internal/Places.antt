@@ -20,5 +20,5 @@ noted_next (Some k) name place other = Some k
 noted_next None name place other = cond (bytes_eq name other) (Some place) None
 
 -- of each name its first place is noted, and of others none
-abbrev pub HasPlaces : BTreeMap (Bor (List ℕ)) ℕ → List (List ℕ) → Type 0
-HasPlaces places names = (name : List ℕ) → noted places name ≡ first_place names name
+abbrev pub MapsToPlaces : BTreeMap (Bor (List ℕ)) ℕ → List (List ℕ) → Type 0
+MapsToPlaces places names = (name : List ℕ) → noted places name ≡ first_place names name

@@ -18,7 +18,7 @@ use Rattle.tableau_rules.specs.Uses.{use_of, principals_of}
 use Rattle.refute_check.specs.declared.shared.Shared.{Shared}
 use Rattle.refute_check.specs.declared.taking.Taking.{Taking}
 use Rattle.refute_check.specs.declared.taking.Taking.TheVariants.{Untyped, Missing, By}
-use Rattle.refute_check.specs.Internal.Shared.{scope_in, the_rows, literal_in, IsNumber}
+use Rattle.refute_check.specs.Internal.Shared.{shared_scope, the_rows, literal_in, IsSharedNumber}
 
 abbrev pub kind_of_one : OnePlace → RuleKind
 kind_of_one False = kind.False
@@ -47,8 +47,8 @@ HasNoInstance branch rule = (scope : Scope) (rows : List Row) (alternatives : Li
 
 -- The rule has the same instances in the branch as with its principals alone, which these numbers are.
 pub record IsTaken (s : Shared) (branch : List Literal) (rule : RuleUse) (by : BankUse) : Type 0 where
-  pub first : ForSome by.first (IsNumber s)
-  pub second : ForSome by.second (IsNumber s)
+  pub first : ForSome by.first (IsSharedNumber s)
+  pub second : ForSome by.second (IsSharedNumber s)
   pub term : ForSome by.term (λ id. id < length s.bank.terms)
   pub taken : RuleUse
   pub is : use_of s.bank.terms s.lits by ≡ Some taken
@@ -57,15 +57,15 @@ pub record IsTaken (s : Shared) (branch : List Literal) (rule : RuleUse) (by : B
 
 -- what the rule takes is not what is wanted, or its principals aren't there, or it takes this
 abbrev pub Takes : Shared → List Literal → RuleUse → Taking → Type 0
-Takes s branch rule Untyped = IsTypedUse (scope_in s) rule → ⊥
-Takes s branch rule Missing = IsTypedUse (scope_in s) rule × HasNoInstance branch rule
-Takes s branch rule (By by) = IsTypedUse (scope_in s) rule × IsTaken s branch rule by
+Takes s branch rule Untyped = IsTypedUse (shared_scope s) rule → ⊥
+Takes s branch rule Missing = IsTypedUse (shared_scope s) rule × HasNoInstance branch rule
+Takes s branch rule (By by) = IsTypedUse (shared_scope s) rule × IsTaken s branch rule by
 
 -- the literals of an instance's alternatives
 abbrev pub alternatives_in : Shared → Instance → List (List Literal)
 alternatives_in s i = map (map (literal_in s)) i.alternatives
 
 -- the instance of a rule in a branch, or that it has none
-abbrev pub Finds : Shared → Shared → List Literal → RuleUse → Option Instance → Type 0
-Finds old new branch rule (Some i) = FindsInstance (scope_in old) (the_rows old) branch rule (Some (alternatives_in new i)) × Each (Each (IsNumber new)) i.alternatives
-Finds old new branch rule None = FindsInstance (scope_in old) (the_rows old) branch rule None
+abbrev pub FindsUse : Shared → Shared → List Literal → RuleUse → Option Instance → Type 0
+FindsUse old new branch rule (Some i) = FindsInstance (shared_scope old) (the_rows old) branch rule (Some (alternatives_in new i)) × Each (Each (IsSharedNumber new)) i.alternatives
+FindsUse old new branch rule None = FindsInstance (shared_scope old) (the_rows old) branch rule None

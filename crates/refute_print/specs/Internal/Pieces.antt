@@ -8,14 +8,14 @@ use Rattle.tableau_calculus.specs.Witnesses.{Row}
 use Rattle.tableau_calculus.specs.declared.refutation.Child.{Child}
 use Rattle.tableau_calculus.specs.declared.refutation.Line.{Line}
 use Rattle.thf_names.specs.Names.{name_text}
-use Rattle.refute_print.specs.Text.{version_text, type_text, term_text, literal_text, branch_text, children_text, child_text, rule_text}
-use Rattle.refute_print.specs.Named.{Names, name_at, named_type, named_term, named_literal, named_rule, HasTypeNames, HasNames}
+use Rattle.refute_print.specs.Text.{version_text, text_of_type, term_text, literal_text, branch_text, children_text, child_text, rule_text}
+use Rattle.refute_print.specs.Named.{Names, name_numbered, named_type, named_term, named_literal, named_rule, HasTypeNames, HasNames}
 
-abbrev pub binder_text : Names → SimpleType → List ℕ
-binder_text names a = codes "^" ++ (type_text (named_type names a) ++ codes ".")
+abbrev pub lambda_piece : Names → SimpleType → List ℕ
+lambda_piece names a = codes "^" ++ (text_of_type (named_type names a) ++ codes ".")
 
 abbrev pub binders_text : Names → List SimpleType → List ℕ
-binders_text names as' = flat_map (binder_text names) as'
+binders_text names as' = flat_map (lambda_piece names) as'
 
 abbrev pub argument_text : Names → Lambda → List ℕ
 argument_text names u = codes " " ++ term_text (named_term names u)
@@ -42,18 +42,18 @@ comma_before zero = []
 comma_before (suc i) = codes ","
 
 -- a literal or a child at this place of a list
-abbrev pub literal_at : Names → ℕ → Literal → List ℕ
-literal_at names i l = comma_before i ++ literal_text (named_literal names l)
+abbrev pub literal_piece : Names → ℕ → Literal → List ℕ
+literal_piece names i l = comma_before i ++ literal_text (named_literal names l)
 
-abbrev pub child_at : ℕ → Child → List ℕ
-child_at i c = comma_before i ++ child_text c
+abbrev pub child_piece : ℕ → Child → List ℕ
+child_piece i c = comma_before i ++ child_text c
 
 -- the lines of the version and of a definition, with their line feeds
 abbrev pub version_line : List (List ℕ) → List ℕ
 version_line names = version_text names ++ codes "\n"
 
 abbrev pub definition_line : Names → ℕ → List ℕ
-definition_line names k = codes "d " ++ (name_text (name_at names.constants k) ++ codes "\n")
+definition_line names k = codes "d " ++ (name_text (name_numbered names.constants k) ++ codes "\n")
 
 -- the lines of a row and of a line, with their line feeds
 abbrev pub row_line : Names → ℕ → Row → List ℕ

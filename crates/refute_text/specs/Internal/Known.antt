@@ -3,7 +3,7 @@ use Rattle.std.specs.Prelude.{◌≡◌, ◌==◌, ◌||◌, ℕ, Bool, true, Li
 use Rattle.std.specs.Borrow.{Bor}
 use Rattle.std.specs.List.{AllByRecursion}
 use Rattle.refute_print.specs.Trees.{LiteralTree}
-use Rattle.refute_print.specs.Limits.{IsLiteral}
+use Rattle.refute_print.specs.Limits.{IsLiteralText}
 use Rattle.refute_print.specs.Text.{literal_text}
 
 -- whether nothing follows, or a comma or a bracket
@@ -13,4 +13,4 @@ ends_literal (c ∷ cs) = (c == 44) || (c == 93)
 
 -- the literals have texts, which are these
 abbrev pub AreTexts : List LiteralTree → List (Bor (List ℕ)) → Type 0
-AreTexts literals texts = AllByRecursion IsLiteral literals × (map literal_text literals ≡ map (λ t. t.now) texts)
+AreTexts literals texts = AllByRecursion IsLiteralText literals × (map literal_text literals ≡ map (λ t. t.now) texts)

@@ -3,44 +3,44 @@ use Rattle.std.specs.Prelude.{ℕ, ◌==◌, ◌^◌, length, Bool, true, false,
 use Rattle.tableau_calculus.specs.declared.refutation.Child.{Child}
 use Rattle.tableau_calculus.specs.declared.refutation.Child.TheVariants.{Closed, Line as Numbered}
 use Rattle.refute_print.specs.Trees.{TermTree, LiteralTree, OnePlace, False, Refl, ImpPos, ImpNeg, BoolPos, BoolNeg, FunPos, FunNeg, AllNeg, Dec, TwoPlaces, Close, Mat, Con, OfPredicate, Cho, Des, RuleTree, at_one, at_two, with_instance, with_predicate, with_cut, LineTree}
-use Rattle.refute_print.specs.Limits.{is_negated, greatest_depth}
-use Rattle.refute_text.specs.Internal.Reader.{◌>>=◌, behind, by_front, number_at, name_at, repeated_at, with_items}
-use Rattle.refute_text.specs.Internal.TermReader.{term_at}
+use Rattle.refute_print.specs.Limits.{is_negated_text, greatest_depth}
+use Rattle.refute_text.specs.Internal.Reader.{◌>>=◌, behind_text, by_front, number_at, name_at, repeated_at, with_items}
+use Rattle.refute_text.specs.Internal.TermReader.{term_text_at}
 
 abbrev pub read_literal : Bool → TermTree → LiteralTree
 read_literal positive t = record { positive = positive; atom = t }
 
 abbrev pub unsigned_at : Bool → TermTree → List ℕ → Option (LiteralTree × List ℕ)
-unsigned_at positive t rest = if is_negated t then None else Some (read_literal positive t, rest)
+unsigned_at positive t rest = if is_negated_text t then None else Some (read_literal positive t, rest)
 
-abbrev pub signed_at : Bool → List ℕ → Option (LiteralTree × List ℕ)
-signed_at positive bytes = do
-  t ← term_at greatest_depth bytes
+abbrev pub signed_text_at : Bool → List ℕ → Option (LiteralTree × List ℕ)
+signed_text_at positive bytes = do
+  t ← term_text_at greatest_depth bytes
   unsigned_at positive t.0 t.1
 
-unfoldable pub literal_at : List ℕ → Option (LiteralTree × List ℕ)
-literal_at bytes = by_front (behind (codes "+") bytes) (signed_at true) (by_front (behind (codes "-") bytes) (signed_at false) None)
+unfoldable pub literal_text_at : List ℕ → Option (LiteralTree × List ℕ)
+literal_text_at bytes = by_front (behind_text (codes "+") bytes) (signed_text_at true) (by_front (behind_text (codes "-") bytes) (signed_text_at false) None)
 
 unfoldable pub child_at : List ℕ → Option (Child × List ℕ)
 child_at bytes =
-    by_front (behind (codes "x") bytes) (λ rest. Some (Closed, rest)) (number_at (2 ^ 64) bytes >>= (λ k. Some (Numbered k.0, k.1)))
+    by_front (behind_text (codes "x") bytes) (λ rest. Some (Closed, rest)) (number_at (2 ^ 64) bytes >>= (λ k. Some (Numbered k.0, k.1)))
 
 -- items with commas between them, and the bracket that closes them
 abbrev pub some_items_at : {X : Type 0} → (List ℕ → Option (X × List ℕ)) → List ℕ → Option (List X × List ℕ)
 some_items_at item bytes = do
   x ← item bytes
   xs ← with_items (x.0 ∷ []) (repeated_at (codes ",") item (length x.1) x.1)
-  rest ← behind (codes "]") xs.1
+  rest ← behind_text (codes "]") xs.1
   Some (xs.0, rest)
 
 abbrev pub items_at : {X : Type 0} → (List ℕ → Option (X × List ℕ)) → List ℕ → Option (List X × List ℕ)
-items_at item bytes = by_front (behind (codes "]") bytes) (λ rest. Some ([], rest)) (some_items_at item bytes)
+items_at item bytes = by_front (behind_text (codes "]") bytes) (λ rest. Some ([], rest)) (some_items_at item bytes)
 
 -- a place and the parenthesis behind it
-unfoldable pub place_at : List ℕ → Option (ℕ × List ℕ)
-place_at bytes = do
+unfoldable pub place_text_at : List ℕ → Option (ℕ × List ℕ)
+place_text_at bytes = do
   i ← number_at (2 ^ 64) bytes
-  rest ← behind (codes ")") i.1
+  rest ← behind_text (codes ")") i.1
   Some (i.0, rest)
 
 abbrev pub RuleAt : Type 0
@@ -48,15 +48,15 @@ RuleAt = Option (RuleTree × List ℕ)
 
 abbrev pub one_place_at : OnePlace → List ℕ → RuleAt
 one_place_at rule bytes = do
-  i ← place_at bytes
+  i ← place_text_at bytes
   Some (at_one rule i.0, i.1)
 
 -- two places with a comma between them, and the parenthesis behind them
 abbrev pub places_at : List ℕ → Option ((ℕ × ℕ) × List ℕ)
 places_at bytes = do
   i ← number_at (2 ^ 64) bytes
-  rest ← behind (codes ",") i.1
-  j ← place_at rest
+  rest ← behind_text (codes ",") i.1
+  j ← place_text_at rest
   Some ((i.0, j.0), j.1)
 
 abbrev pub two_places_at : TwoPlaces → List ℕ → RuleAt
@@ -67,45 +67,45 @@ two_places_at rule bytes = do
 abbrev pub instance_at : List ℕ → RuleAt
 instance_at bytes = do
   i ← number_at (2 ^ 64) bytes
-  rest ← behind (codes ";") i.1
-  u ← term_at greatest_depth rest
-  rest ← behind (codes ")") u.1
+  rest ← behind_text (codes ";") i.1
+  u ← term_text_at greatest_depth rest
+  rest ← behind_text (codes ")") u.1
   Some (with_instance i.0 u.0, rest)
 
 abbrev pub predicate_at : OfPredicate → List ℕ → RuleAt
 predicate_at rule bytes = do
-  f ← term_at greatest_depth bytes
-  rest ← behind (codes ")") f.1
+  f ← term_text_at greatest_depth bytes
+  rest ← behind_text (codes ")") f.1
   Some (with_predicate rule f.0, rest)
 
 abbrev pub cut_at : List ℕ → RuleAt
 cut_at bytes = do
-  l ← literal_at bytes
-  rest ← behind (codes ")") l.1
+  l ← literal_text_at bytes
+  rest ← behind_text (codes ")") l.1
   Some (with_cut l.0, rest)
 
 unfoldable pub one_place_rule_at : List ℕ → RuleAt
 one_place_rule_at bytes =
-    by_front (behind (codes "False(") bytes) (one_place_at False)
-    (by_front (behind (codes "Refl(") bytes) (one_place_at Refl)
-    (by_front (behind (codes "Imp+(") bytes) (one_place_at ImpPos)
-    (by_front (behind (codes "Imp-(") bytes) (one_place_at ImpNeg)
-    (by_front (behind (codes "Bool+(") bytes) (one_place_at BoolPos)
-    (by_front (behind (codes "Bool-(") bytes) (one_place_at BoolNeg)
-    (by_front (behind (codes "Fun+(") bytes) (one_place_at FunPos)
-    (by_front (behind (codes "Fun-(") bytes) (one_place_at FunNeg)
-    (by_front (behind (codes "All-(") bytes) (one_place_at AllNeg)
-    (by_front (behind (codes "Dec(") bytes) (one_place_at Dec) None)))))))))
+    by_front (behind_text (codes "False(") bytes) (one_place_at False)
+    (by_front (behind_text (codes "Refl(") bytes) (one_place_at Refl)
+    (by_front (behind_text (codes "Imp+(") bytes) (one_place_at ImpPos)
+    (by_front (behind_text (codes "Imp-(") bytes) (one_place_at ImpNeg)
+    (by_front (behind_text (codes "Bool+(") bytes) (one_place_at BoolPos)
+    (by_front (behind_text (codes "Bool-(") bytes) (one_place_at BoolNeg)
+    (by_front (behind_text (codes "Fun+(") bytes) (one_place_at FunPos)
+    (by_front (behind_text (codes "Fun-(") bytes) (one_place_at FunNeg)
+    (by_front (behind_text (codes "All-(") bytes) (one_place_at AllNeg)
+    (by_front (behind_text (codes "Dec(") bytes) (one_place_at Dec) None)))))))))
 
 unfoldable pub rule_at : List ℕ → RuleAt
 rule_at bytes =
-    by_front (behind (codes "Close(") bytes) (two_places_at Close)
-    (by_front (behind (codes "Mat(") bytes) (two_places_at Mat)
-    (by_front (behind (codes "Con(") bytes) (two_places_at Con)
-    (by_front (behind (codes "All+(") bytes) instance_at
-    (by_front (behind (codes "Cho(") bytes) (predicate_at Cho)
-    (by_front (behind (codes "Des(") bytes) (predicate_at Des)
-    (by_front (behind (codes "Cut(") bytes) cut_at (one_place_rule_at bytes)))))))
+    by_front (behind_text (codes "Close(") bytes) (two_places_at Close)
+    (by_front (behind_text (codes "Mat(") bytes) (two_places_at Mat)
+    (by_front (behind_text (codes "Con(") bytes) (two_places_at Con)
+    (by_front (behind_text (codes "All+(") bytes) instance_at
+    (by_front (behind_text (codes "Cho(") bytes) (predicate_at Cho)
+    (by_front (behind_text (codes "Des(") bytes) (predicate_at Des)
+    (by_front (behind_text (codes "Cut(") bytes) cut_at (one_place_rule_at bytes)))))))
 
 -- a number that is the wanted one
 abbrev pub where_number : ℕ → Option (ℕ × List ℕ) → Option (List ℕ)
@@ -120,29 +120,29 @@ end_at (c ∷ cs) = None
 -- the name on the line of a definition
 unfoldable pub definition_at : List ℕ → Option (List ℕ)
 definition_at line = do
-  rest ← behind (codes "d ") line
+  rest ← behind_text (codes "d ") line
   w ← name_at rest
   end ← end_at w.1
   Some w.0
 
 unfoldable pub row_at : ℕ → List ℕ → Option TermTree
 row_at k line = do
-  rest ← behind (codes "w") line
+  rest ← behind_text (codes "w") line
   rest ← where_number k (number_at (2 ^ 32) rest)
-  rest ← behind (codes " ") rest
-  t ← term_at greatest_depth rest
+  rest ← behind_text (codes " ") rest
+  t ← term_text_at greatest_depth rest
   end ← end_at t.1
   Some t.0
 
 -- the branch of a line, and its children up to the end
 abbrev pub branch_at : List ℕ → Option (List LiteralTree × List ℕ)
 branch_at bytes = do
-  rest ← behind (codes " [") bytes
-  items_at literal_at rest
+  rest ← behind_text (codes " [") bytes
+  items_at literal_text_at rest
 
 abbrev pub children_at : List ℕ → Option (List Child)
 children_at bytes = do
-  rest ← behind (codes " [") bytes
+  rest ← behind_text (codes " [") bytes
   children ← items_at child_at rest
   end ← end_at children.1
   Some children.0
@@ -165,6 +165,6 @@ lists_at rule bytes = do
 unfoldable pub line_at : ℕ → List ℕ → Option LineTree
 line_at k line = do
   rest ← where_number k (number_at (2 ^ 64) line)
-  rest ← behind (codes ": ") rest
+  rest ← behind_text (codes ": ") rest
   rule ← rule_at rest
   lists_at rule.0 rule.1

@@ -22,8 +22,8 @@ RefusesBehind behind first (refused.NoEnd line) = IsFront behind × (line ≡ fi
 RefusesBehind behind first refused.Memory = Unit {0}
 
 -- a refutation of which nothing stands yet but the names
-abbrev pub nothing : List (List ℕ) → RefutationTree
-nothing names = record { names = names; rows = []; lines = [] }
+abbrev pub nothing_placed : List (List ℕ) → RefutationTree
+nothing_placed names = record { names = names; rows = []; lines = [] }
 
 -- the line of a definition may come next
 abbrev pub MayDefine : RefutationText → Type 0

@@ -4,7 +4,7 @@ use Rattle.std.specs.List.{starts_with}
 use Rattle.thf_grammar.specs.Bytes.{is_word_byte}
 use Rattle.thf_grammar.specs.Printable.{is_printable}
 use Rattle.thf_names.specs.Names.{is_lower_word}
-use Rattle.refute_print.specs.Trees.{TypeTree, formula, individual, named, arrow}
+use Rattle.refute_print.specs.Trees.{TextTypeTree, formula, individual, named, arrow}
 
 infixl 10 ◌>>=◌
 abbrev pub ◌>>=◌ : {A B : Type 0} → Option A → (A → Option B) → Option B
@@ -24,8 +24,8 @@ abbrev pub is_no_feed : ℕ → Bool
 is_no_feed c = not (c == 10)
 
 -- what follows the text, where the bytes begin with it
-abbrev pub behind : List ℕ → List ℕ → Option (List ℕ)
-behind text bytes = if starts_with nat_eq bytes text then Some (drop (length text) bytes) else None
+abbrev pub behind_text : List ℕ → List ℕ → Option (List ℕ)
+behind_text text bytes = if starts_with nat_eq bytes text then Some (drop (length text) bytes) else None
 
 -- what is read behind a text, or else without it
 abbrev pub by_front : {A : Type 0} → Option (List ℕ) → (List ℕ → Option A) → Option A → Option A
@@ -40,7 +40,7 @@ with_item x (Some r) = Some (x ∷ r.0, r.1)
 unfoldable pub repeated_at : {X : Type 0} → List ℕ → (List ℕ → Option (X × List ℕ)) → ℕ → List ℕ → Option (List X × List ℕ)
 repeated_at mark item zero bytes = Some ([], bytes)
 repeated_at mark item (suc n) bytes =
-    by_front (behind mark bytes) (λ rest. item rest >>= (λ x. with_item x.0 (repeated_at mark item n x.1))) (Some ([], bytes))
+    by_front (behind_text mark bytes) (λ rest. item rest >>= (λ x. with_item x.0 (repeated_at mark item n x.1))) (Some ([], bytes))
 
 -- items before those that are read
 abbrev pub with_items : {X : Type 0} → List X → Option (List X × List ℕ) → Option (List X × List ℕ)
@@ -56,17 +56,17 @@ number_from n [] = n
 number_from n (c ∷ cs) = number_from (10 * n + (c - 48)) cs
 
 -- whether digits are some, and don't begin with a zero unless it is alone
-abbrev pub is_decimal : List ℕ → Bool
-is_decimal [] = false
-is_decimal (c ∷ []) = true
-is_decimal (c ∷ d ∷ ds) = not (c == 48)
+abbrev pub has_no_leading_zero : List ℕ → Bool
+has_no_leading_zero [] = false
+has_no_leading_zero (c ∷ []) = true
+has_no_leading_zero (c ∷ d ∷ ds) = not (c == 48)
 
-abbrev pub number_of : ℕ → List ℕ → List ℕ → Option (ℕ × List ℕ)
-number_of limit ds rest = if is_decimal ds && nat_lt (number_from 0 ds) limit then Some (number_from 0 ds, rest) else None
+abbrev pub number_below : ℕ → List ℕ → List ℕ → Option (ℕ × List ℕ)
+number_below limit ds rest = if has_no_leading_zero ds && nat_lt (number_from 0 ds) limit then Some (number_from 0 ds, rest) else None
 
 -- a number below the limit
 unfoldable pub number_at : ℕ → List ℕ → Option (ℕ × List ℕ)
-number_at limit bytes = number_of limit (front is_digit bytes) (after is_digit bytes)
+number_at limit bytes = number_below limit (front is_digit bytes) (after is_digit bytes)
 
 abbrev pub with_first : ℕ → Option (List ℕ × List ℕ) → Option (List ℕ × List ℕ)
 with_first c None = None
@@ -106,30 +106,30 @@ abbrev pub plain_at : List ℕ → Option (List ℕ × List ℕ)
 plain_at bytes = if is_lower_word (front is_word_byte bytes) then Some (front is_word_byte bytes, after is_word_byte bytes) else None
 
 unfoldable pub name_at : List ℕ → Option (List ℕ × List ℕ)
-name_at bytes = by_front (behind (codes "'") bytes) (λ rest. where_quoted (characters_at rest)) (plain_at bytes)
+name_at bytes = by_front (behind_text (codes "'") bytes) (λ rest. where_quoted (characters_at rest)) (plain_at bytes)
 
 -- a type in which at most so many parentheses are open at once
-abbrev pub named_at : List ℕ → Option (TypeTree × List ℕ)
+abbrev pub named_at : List ℕ → Option (TextTypeTree × List ℕ)
 named_at bytes = do
   name ← name_at bytes
   Some (named name.0, name.1)
 
-abbrev pub arrow_at : (List ℕ → Option (TypeTree × List ℕ)) → List ℕ → Option (TypeTree × List ℕ)
+abbrev pub arrow_at : (List ℕ → Option (TextTypeTree × List ℕ)) → List ℕ → Option (TextTypeTree × List ℕ)
 arrow_at inside bytes = do
   from ← inside bytes
-  rest ← behind (codes ">") from.1
+  rest ← behind_text (codes ">") from.1
   to ← inside rest
-  rest ← behind (codes ")") to.1
+  rest ← behind_text (codes ")") to.1
   Some (arrow from.0 to.0, rest)
 
-abbrev pub no_type : List ℕ → Option (TypeTree × List ℕ)
+abbrev pub no_type : List ℕ → Option (TextTypeTree × List ℕ)
 no_type bytes = None
 
-abbrev pub type_from : (List ℕ → Option (TypeTree × List ℕ)) → List ℕ → Option (TypeTree × List ℕ)
+abbrev pub type_from : (List ℕ → Option (TextTypeTree × List ℕ)) → List ℕ → Option (TextTypeTree × List ℕ)
 type_from grouped bytes =
-    by_front (behind (codes "$o") bytes) (λ rest. Some (formula, rest))
-    (by_front (behind (codes "$i") bytes) (λ rest. Some (individual, rest)) (by_front (behind (codes "(") bytes) grouped (named_at bytes)))
+    by_front (behind_text (codes "$o") bytes) (λ rest. Some (formula, rest))
+    (by_front (behind_text (codes "$i") bytes) (λ rest. Some (individual, rest)) (by_front (behind_text (codes "(") bytes) grouped (named_at bytes)))
 
-unfoldable pub type_at : ℕ → List ℕ → Option (TypeTree × List ℕ)
+unfoldable pub type_at : ℕ → List ℕ → Option (TextTypeTree × List ℕ)
 type_at zero bytes = type_from no_type bytes
 type_at (suc depth) bytes = type_from (arrow_at (type_at depth)) bytes

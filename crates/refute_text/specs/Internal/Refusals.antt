@@ -4,14 +4,14 @@ use Rattle.refute_text.specs.declared.refusal.Refusal.{Refusal}
 use Rattle.refute_text.specs.declared.refusal.Refusal.TheVariants.{Form, Memory}
 
 -- nothing was to be read, or memory ran out first
-abbrev pub IsRefusal : {X : Type 0} → Refusal → Option X → Type 0
-IsRefusal Form read = read ≡ None
-IsRefusal Memory read = Unit {0}
+abbrev pub IsReaderRefusal : {X : Type 0} → Refusal → Option X → Type 0
+IsReaderRefusal Form read = read ≡ None
+IsReaderRefusal Memory read = Unit {0}
 
 -- what was answered is what was to be read, or a refusal
-abbrev pub Answers : {R X : Type 0} → (R → X) → Result R Refusal → Option X → Type 0
-Answers view (Ok r) read = read ≡ Some (view r)
-Answers view (Err e) read = IsRefusal e read
+abbrev pub AnswersReader : {R X : Type 0} → (R → X) → Result R Refusal → Option X → Type 0
+AnswersReader view (Ok r) read = read ≡ Some (view r)
+AnswersReader view (Err e) read = IsReaderRefusal e read
 
 -- what was read was appended to the list, and this follows it
 abbrev pub AppendsRead : {X : Type 0} → List X → List X → Option (X × List ℕ) → List ℕ → Type 0

@@ -1,8 +1,8 @@
 -- How the reader of terms goes.
 use Rattle.std.specs.Prelude.{ℕ, zero, suc, ◌^◌, length, List, [], ◌∷◌, codes, Option, Some, None}
-use Rattle.refute_print.specs.Trees.{TypeTree, ConstantTree, name, witness, falsity, negation, implication, all, equality, choice, description, TermTree, bound, constant, lam}
-use Rattle.refute_print.specs.Internal.TreeSizes.{applied}
-use Rattle.refute_text.specs.Internal.Reader.{◌>>=◌, behind, by_front, number_at, name_at, type_at, repeated_at}
+use Rattle.refute_print.specs.Trees.{TextTypeTree, ConstantTree, name, witness, falsity, negation, implication, all, equality, choice, description, TermTree, bound, constant, lam}
+use Rattle.refute_print.specs.Internal.TreeSizes.{applied_tree}
+use Rattle.refute_text.specs.Internal.Reader.{◌>>=◌, behind_text, by_front, number_at, name_at, type_at, repeated_at}
 
 -- a term and what follows it
 abbrev pub TermAt : Type 0
@@ -19,17 +19,17 @@ named_head_at bytes = do
   Some (constant (name w.0), w.1)
 
 -- a type in brackets, where one more may be open
-abbrev pub opened_type_at : ℕ → List ℕ → Option (TypeTree × List ℕ)
+abbrev pub opened_type_at : ℕ → List ℕ → Option (TextTypeTree × List ℕ)
 opened_type_at zero bytes = None
 opened_type_at (suc depth) bytes = type_at depth bytes
 
-abbrev pub bracketed_type_at : ℕ → List ℕ → Option (TypeTree × List ℕ)
+abbrev pub bracketed_type_at : ℕ → List ℕ → Option (TextTypeTree × List ℕ)
 bracketed_type_at depth bytes = do
   a ← opened_type_at depth bytes
-  rest ← behind (codes "]") a.1
+  rest ← behind_text (codes "]") a.1
   Some (a.0, rest)
 
-abbrev pub bracketed_at : (TypeTree → ConstantTree) → ℕ → List ℕ → TermAt
+abbrev pub bracketed_at : (TextTypeTree → ConstantTree) → ℕ → List ℕ → TermAt
 bracketed_at make depth bytes = do
   a ← bracketed_type_at depth bytes
   Some (constant (make a.0), a.1)
@@ -37,19 +37,19 @@ bracketed_at make depth bytes = do
 -- a head behind its `$`
 unfoldable pub dollar_head_at : ℕ → List ℕ → TermAt
 dollar_head_at depth bytes =
-    by_front (behind (codes "f") bytes) (λ rest. Some (constant falsity, rest))
-    (by_front (behind (codes "not") bytes) (λ rest. Some (constant negation, rest))
-    (by_front (behind (codes "imp") bytes) (λ rest. Some (constant implication, rest))
-    (by_front (behind (codes "w") bytes) (counted_at (λ k. constant (witness k)))
-    (by_front (behind (codes "all[") bytes) (bracketed_at all depth)
-    (by_front (behind (codes "eq[") bytes) (bracketed_at equality depth)
-    (by_front (behind (codes "eps[") bytes) (bracketed_at choice depth)
-    (by_front (behind (codes "the[") bytes) (bracketed_at description depth) None)))))))
+    by_front (behind_text (codes "f") bytes) (λ rest. Some (constant falsity, rest))
+    (by_front (behind_text (codes "not") bytes) (λ rest. Some (constant negation, rest))
+    (by_front (behind_text (codes "imp") bytes) (λ rest. Some (constant implication, rest))
+    (by_front (behind_text (codes "w") bytes) (counted_at (λ k. constant (witness k)))
+    (by_front (behind_text (codes "all[") bytes) (bracketed_at all depth)
+    (by_front (behind_text (codes "eq[") bytes) (bracketed_at equality depth)
+    (by_front (behind_text (codes "eps[") bytes) (bracketed_at choice depth)
+    (by_front (behind_text (codes "the[") bytes) (bracketed_at description depth) None)))))))
 
-unfoldable pub head_at : ℕ → List ℕ → TermAt
-head_at depth bytes =
-    by_front (behind (codes "$") bytes) (dollar_head_at depth)
-    (by_front (behind (codes "#") bytes) (counted_at bound) (named_head_at bytes))
+unfoldable pub head_text_at : ℕ → List ℕ → TermAt
+head_text_at depth bytes =
+    by_front (behind_text (codes "$") bytes) (dollar_head_at depth)
+    (by_front (behind_text (codes "#") bytes) (counted_at bound) (named_head_at bytes))
 
 -- arguments, each behind a space, at most so many
 abbrev pub arguments_at : (List ℕ → TermAt) → ℕ → List ℕ → Option (List TermTree × List ℕ)
@@ -58,19 +58,19 @@ arguments_at term n bytes = repeated_at (codes " ") term n bytes
 -- a head with some arguments
 abbrev pub applied_to : TermTree → List TermTree → List ℕ → TermAt
 applied_to h [] rest = None
-applied_to h (u ∷ us) rest = Some (applied h (u ∷ us), rest)
+applied_to h (u ∷ us) rest = Some (applied_tree h (u ∷ us), rest)
 
 abbrev pub application_at : ℕ → (List ℕ → TermAt) → List ℕ → TermAt
 application_at depth term bytes = do
-  h ← head_at depth bytes
+  h ← head_text_at depth bytes
   us ← arguments_at term (length h.1) h.1
-  rest ← behind (codes ")") us.1
+  rest ← behind_text (codes ")") us.1
   applied_to h.0 us.0 rest
 
 abbrev pub lambda_at : ℕ → (List ℕ → TermAt) → List ℕ → TermAt
 lambda_at depth term bytes = do
   a ← type_at depth bytes
-  rest ← behind (codes ".") a.1
+  rest ← behind_text (codes ".") a.1
   s ← term rest
   Some (lam a.0 s.0, s.1)
 
@@ -78,8 +78,8 @@ abbrev pub no_term : List ℕ → TermAt
 no_term bytes = None
 
 -- a term in which at most so many parentheses, brackets and functions are open at once
-unfoldable pub term_at : ℕ → List ℕ → TermAt
-term_at zero bytes = by_front (behind (codes "^") bytes) no_term (by_front (behind (codes "(") bytes) no_term (head_at zero bytes))
-term_at (suc depth) bytes =
-    by_front (behind (codes "^") bytes) (lambda_at depth (term_at depth))
-    (by_front (behind (codes "(") bytes) (application_at depth (term_at depth)) (head_at (suc depth) bytes))
+unfoldable pub term_text_at : ℕ → List ℕ → TermAt
+term_text_at zero bytes = by_front (behind_text (codes "^") bytes) no_term (by_front (behind_text (codes "(") bytes) no_term (head_text_at zero bytes))
+term_text_at (suc depth) bytes =
+    by_front (behind_text (codes "^") bytes) (lambda_at depth (term_text_at depth))
+    (by_front (behind_text (codes "(") bytes) (application_at depth (term_text_at depth)) (head_text_at (suc depth) bytes))

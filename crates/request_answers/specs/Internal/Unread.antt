@@ -10,7 +10,7 @@ use Rattle.szs_report.specs.declared.answer.Answer.{Answer}
 use Rattle.szs_report.specs.declared.answer.Answer.TheVariants.{Accepted, TypeAt, ModeAt, TooLong, ReadFault, Memory}
 use Rattle.szs_report.specs.declared.answer.NamedFile.TheVariants.{Part, Mode}
 use Rattle.request_answers.specs.Files.{OfFiles}
-use Rattle.request_answers.specs.Modes.{OfFile, IsLong, refused_at}
+use Rattle.request_answers.specs.Modes.{OfFile, IsLongFile, refused_at}
 use Rattle.request_answers.specs.Answers.{stop_answer, AnswersEnding}
 
 -- the statements have no meaning, and are answered so
@@ -19,9 +19,9 @@ pub record IsIllAt (names : List (List ℕ)) (ss : List PlacedTree) (answer : An
   pub is : problem_of ss ≡ Err ill
   pub answered : answer ≡ TypeAt (Part ill.file names) ill.at ill.why
 
-abbrev pub IsIll : List (List ℕ) → List PlacedTree → Answer → Type 0
-IsIll names ss Memory = Unit {0}
-IsIll names ss answer = IsIllAt names ss answer
+abbrev pub IsIllProblem : List (List ℕ) → List PlacedTree → Answer → Type 0
+IsIllProblem names ss Memory = Unit {0}
+IsIllProblem names ss answer = IsIllAt names ss answer
 
 -- the ending of a gathering states no problem, and is answered so
 abbrev pub IsUnstated : List (List ℕ) → Answer → Ending → Type 0
@@ -37,7 +37,7 @@ IsUnread name told contents answer = (names : List (List ℕ)) × OfFiles name t
 abbrev pub IsUnreadMode : Bool → (List ℕ → Option (List ℕ)) → List ℕ → Answer → Type 0
 IsUnreadMode told contents file Memory = Unit {0}
 IsUnreadMode told contents file (ReadFault (Mode own)) = own ≡ file
-IsUnreadMode told contents file (TooLong (Mode own)) = (own ≡ file) × IsLong told contents file
+IsUnreadMode told contents file (TooLong (Mode own)) = (own ≡ file) × IsLongFile told contents file
 IsUnreadMode told contents file (ModeAt line why) = OfFile told contents file (λ bytes. Refuses (lines_of bytes) (refused_at why line))
 IsUnreadMode told contents file answer = ⊥
 

@@ -14,12 +14,12 @@ abbrev pub uses_of : List (List ℕ) → Var → List ℕ
 uses_of uses v = slice_index_or uses v.0 []
 
 -- the table has a clause's number for each variable of the clause
-abbrev pub IsUsed : List (List ℕ) → ℕ → List SatLit → Type 0
-IsUsed uses n clause = (l : SatLit) → IsTrue (holds clause l) → Contains (uses_of uses l.var) n
+abbrev pub IsUsedIn : List (List ℕ) → ℕ → List SatLit → Type 0
+IsUsedIn uses n clause = (l : SatLit) → IsTrue (holds clause l) → Contains (uses_of uses l.var) n
 
 -- the table has the numbers of the first clauses, up to a number
 abbrev pub AreUsed : List (List ℕ) → ℕ → List (List SatLit) → Type 0
-AreUsed uses bound clauses = (k : ℕ) (clause : List SatLit) → k < bound → slice_get clauses k ≡ Some clause → IsUsed uses k clause
+AreUsed uses bound clauses = (k : ℕ) (clause : List SatLit) → k < bound → slice_get clauses k ≡ Some clause → IsUsedIn uses k clause
 
 -- the variables of the clauses have numbers below n
 abbrev pub AreOver : ℕ → List (List SatLit) → Type 0

@@ -9,7 +9,7 @@ use Rattle.sat_log.specs.declared.chain.Premise.{Premise}
 use Rattle.sat_log.specs.declared.log.LogEntry.{LogEntry}
 use Rattle.sat_log.specs.Chains.{premise_clause, results, IsLogOver}
 use Rattle.sat_log.specs.Propagation.{IsNew, ReachesFalse, AreFailingDecisions}
-use Rattle.sat_core.specs.Internal.Learned.{AreNamed}
+use Rattle.sat_core.specs.Internal.Learned.{AreNamedPremises}
 use Rattle.sat_core.specs.Solver.{SolverState, learned_from, AreAmong, OccurIn, WereLearned}
 use Rattle.sat_core.specs.declared.learner.Learner.{Learner}
 use Rattle.sat_core.specs.declared.learner.Answer.{Answer}
@@ -20,7 +20,7 @@ use Rattle.sat_propagate.specs.declared.propagator.Propagator.{Propagator}
 -- each clause of the propagator has the name of a clause or result that it is; the variables of clauses and results are made, and have marks
 pub record IsNamedPropagator (clauses results : List (List SatLit)) (propagator : Propagator) (names : List Premise) (marks : List Bool) : Type 0 where
   pub right : IsPropagator propagator.trail propagator.processed propagator.clauses.items propagator.lists
-  pub named : AreNamed clauses results names propagator.clauses.items
+  pub named : AreNamedPremises clauses results names propagator.clauses.items
   pub names_made : length names ≡ length propagator.clauses.items
   pub marks_made : length propagator.trail.phases ≤ length marks
   pub over : (premise : Premise) (clause : List SatLit) → premise_clause clauses results premise ≡ Some clause → IsOver (length propagator.trail.phases) clause
@@ -38,7 +38,7 @@ pub record AreLearned (clauses learned : List (List SatLit)) : Type 0 where
   pub occurring : OccurIn clauses learned
 
 -- the empty clause is the last result, and unit propagation shows why
-pub record IsRefuted (clauses results : List (List SatLit)) : Type 0 where
+pub record AreRefutedClauses (clauses results : List (List SatLit)) : Type 0 where
   pub ends : results ≡ learned_from true results ++ [] ∷ []
   pub propagated : ReachesFalse (clauses ++ learned_from true results) []
 
@@ -51,14 +51,14 @@ pub record IsLearnerOf (clauses : List (List SatLit)) (log : List LogEntry) (is_
   pub results_in : AreInserted inserted_results (results log) (texts propagator.clauses.items)
   pub of_learned : AreLearned clauses (learned_from is_refuted (results log))
   pub in_turn : WereLearned clauses (learned_from is_refuted (results log))
-  pub refuted : is_refuted ≡ true → IsRefuted clauses (results log)
+  pub refuted : is_refuted ≡ true → AreRefutedClauses clauses (results log)
 
 -- the facts that hold of a learner between any two calls
 abbrev pub IsLearner : Learner → Type 0
 IsLearner s = IsLearnerOf s.clauses s.log s.is_refuted s.propagator s.names.items s.marks s.inserted_clauses s.inserted_results
 
 -- the log grew by new clauses and the empty one, and the clauses and the number of variables stayed
-pub record Grew (before after : Learner) : Type 0 where
+pub record GrewLearner (before after : Learner) : Type 0 where
   pub clauses_same : after.clauses ≡ before.clauses
   pub made_same : length after.propagator.trail.phases ≡ length before.propagator.trail.phases
   pub more : List LogEntry
@@ -73,7 +73,7 @@ pub record IsUnlearned (before after : Learner) : Type 0 where
   pub refuted_same : after.is_refuted ≡ before.is_refuted
 
 -- so many clauses were learned as the budget says, some decisions fail, and one more clause could have been learned
-pub record IsSpent (clauses learned : List (List SatLit)) (budget conflicts : ℕ) : Type 0 where
+pub record AreSpentConflicts (clauses learned : List (List SatLit)) (budget conflicts : ℕ) : Type 0 where
   pub reported : conflicts ≡ budget
   pub counted : length learned ≡ budget
   pub decisions : List SatLit
@@ -89,7 +89,7 @@ abbrev pub seen : Learner → SolverState
 seen s = shown s.propagator.trail.phases s
 
 -- what an answer says of the solver
-abbrev pub Answers : ℕ → SolverState → Answer → Type 0
-Answers budget s Sat = (s.is_refuted ≡ false) × AllTrue (assigned s.values) s.clauses
-Answers budget s Unsat = s.is_refuted ≡ true
-Answers budget s (Spent conflicts) = (s.is_refuted ≡ false) × IsSpent s.clauses (results s.log) budget conflicts
+abbrev pub AnswersSolve : ℕ → SolverState → Answer → Type 0
+AnswersSolve budget s Sat = (s.is_refuted ≡ false) × AllTrue (assigned s.values) s.clauses
+AnswersSolve budget s Unsat = s.is_refuted ≡ true
+AnswersSolve budget s (Spent conflicts) = (s.is_refuted ≡ false) × AreSpentConflicts s.clauses (results s.log) budget conflicts

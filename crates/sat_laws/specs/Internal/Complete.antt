@@ -10,8 +10,8 @@ abbrev pub satisfies : List SatLit → List SatLit → Bool
 satisfies literals clause = list_any (holds literals) clause
 
 -- all literals of one list are in another
-abbrev pub IsWithin : List SatLit → List SatLit → Type 0
-IsWithin some literals = (l : SatLit) → IsTrue (holds some l) → IsTrue (holds literals l)
+abbrev pub IsClausePart : List SatLit → List SatLit → Type 0
+IsClausePart some literals = (l : SatLit) → IsTrue (holds some l) → IsTrue (holds literals l)
 
 -- no clause is false in the list, and a literal that is the only one of a clause whose negation is not in the list is in the list
 pub record IsComplete (clauses : List (List SatLit)) (literals : List SatLit) : Type 0 where

@@ -22,10 +22,10 @@ live table [] = []
 live table (placed ∷ rest) = if is_live table placed then placed.literal ∷ live table rest else live table rest
 
 -- what was placed, in the clause's order: the front from its newest literal on, and then the back
-abbrev pub in_order : List Placed → List Placed → List Placed
-in_order front back = reverse front ++ back
+abbrev pub placed_in_order : List Placed → List Placed → List Placed
+placed_in_order front back = reverse front ++ back
 
 -- each stamp is below the number of placed literals, and the table has a number for exactly the literals that are in the clause
-pub record IsMarked (placed : List Placed) (table : List Stamps) : Type 0 where
+pub record IsStamped (placed : List Placed) (table : List Stamps) : Type 0 where
   pub stamps : All (λ p. p.stamp < length placed) placed
   pub marked : (l : SatLit) → is_some (stamp_of table l) ≡ holds (live table placed) l

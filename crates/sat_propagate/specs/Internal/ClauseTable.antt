@@ -15,12 +15,12 @@ pub record Clauses : Type 0 where
   pub items : List Watched
 
 -- the clause with this head
-abbrev pub headed : List SatLit → Head → Watched
-headed literals head = record { clause = take head.len (drop head.start literals); first = head.first; second = head.second }
+abbrev pub with_head : List SatLit → Head → Watched
+with_head literals head = record { clause = take head.len (drop head.start literals); first = head.first; second = head.second }
 
 -- the clauses with these heads
 abbrev pub all_headed : List SatLit → List Head → List Watched
-all_headed literals heads = map (headed literals) heads
+all_headed literals heads = map (with_head literals) heads
 
 -- each head's literals are within the list
 abbrev pub AreHeads : List SatLit → List Head → Type 0

@@ -7,7 +7,7 @@ use Rattle.sat_log.specs.Propagation.{IsUnit, IsFalseIn}
 use Rattle.sat_laws.specs.Internal.Complete.{satisfies}
 use Rattle.sat_laws.specs.Internal.Watching.{IsKept}
 use Rattle.sat_propagate.specs.Internal.Trail.{TrailState, literals}
-use Rattle.sat_propagate.specs.Internal.WatchLists.{WatchPair, Names, watchers}
+use Rattle.sat_propagate.specs.Internal.WatchLists.{WatchPair, NamesWatches, watchers}
 use Rattle.sat_propagate.specs.declared.trail.Step.{Step}
 use Rattle.sat_propagate.specs.declared.watch_lists.Watch.{Watch}
 use Rattle.sat_propagate.specs.Internal.ClauseTable.{Watched}
@@ -33,7 +33,7 @@ pub record IsPropagator (trail : TrailState) (processed : ℕ) (clauses : List W
   pub kept : (n : ℕ) (watched : Watched) → slice_get clauses n ≡ Some watched → IsKept trail.starts (literals trail.steps) processed watched.clause watched.first watched.second
   pub members : (n : ℕ) (watched : Watched) → slice_get clauses n ≡ Some watched → IsTrue (holds watched.clause watched.first) × IsTrue (holds watched.clause watched.second)
   pub alone : (n : ℕ) (watched : Watched) (l : SatLit) → slice_get clauses n ≡ Some watched → watched.first ≡ watched.second → IsTrue (holds watched.clause l) → l ≡ watched.first
-  pub listed : (n : ℕ) (watched : Watched) (l : SatLit) → slice_get clauses n ≡ Some watched → watched.first ≢ watched.second → Watches watched l → Names (watchers lists l) n watched.clause
+  pub listed : (n : ℕ) (watched : Watched) (l : SatLit) → slice_get clauses n ≡ Some watched → watched.first ≢ watched.second → Watches watched l → NamesWatches (watchers lists l) n watched.clause
   pub over : (n : ℕ) (watched : Watched) → slice_get clauses n ≡ Some watched → IsOver (length trail.phases) watched.clause
   pub lists_made : length trail.phases ≤ length lists
 
@@ -42,13 +42,13 @@ abbrev pub texts : List Watched → List (List SatLit)
 texts clauses = map (λ watched. watched.clause) clauses
 
 -- an entry of a literal's list is done: a clause that it names, with a blocker of that clause, and that watches the literal, is true
-abbrev pub IsDone : TrailState → List Watched → SatLit → Watch → Type 0
-IsDone trail clauses l entry =
+abbrev pub IsWatchDone : TrailState → List Watched → SatLit → Watch → Type 0
+IsWatchDone trail clauses l entry =
     (watched : Watched) → slice_get clauses entry.clause ≡ Some watched → Watches watched l → IsTrue (holds watched.clause entry.blocker) → IsTrue (satisfies (literals trail.steps) watched.clause)
 
 -- the first entries of a literal's list are done
 abbrev pub AreDone : TrailState → List Watched → List WatchPair → SatLit → ℕ → Type 0
-AreDone trail clauses lists l i = (k : ℕ) (entry : Watch) → k < i → slice_get (watchers lists l) k ≡ Some entry → IsDone trail clauses l entry
+AreDone trail clauses lists l i = (k : ℕ) (entry : Watch) → k < i → slice_get (watchers lists l) k ≡ Some entry → IsWatchDone trail clauses l entry
 
 -- the trail only grew, at its end and with no decision, and the clauses are the same
 pub record Grew (trail : TrailState) (clauses : List Watched) (after : TrailState) (clauses_after : List Watched) : Type 0 where

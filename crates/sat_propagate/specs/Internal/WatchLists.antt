@@ -18,7 +18,7 @@ watchers lists l =
     if l.positive then (slice_index_or lists l.var.0 no_watches).positive else (slice_index_or lists l.var.0 no_watches).negative
 
 -- a list of entries names a clause, with a blocker that is in it
-pub record Names (entries : List Watch) (n : ℕ) (clause : List SatLit) : Type 0 where
+pub record NamesWatches (entries : List Watch) (n : ℕ) (clause : List SatLit) : Type 0 where
   pub at : ℕ
   pub entry : Watch
   pub there : slice_get entries at ≡ Some entry

@@ -1,7 +1,7 @@
 -- Queues in which commands that were pushed one after the other, and are due at one moment, stand as one entry.
 use Rattle.std.specs.Prelude.{ℕ, suc, ◌==◌, ◌≡◌, ◌<◌, ◌+◌, ◌⊎◌, length, List, [], ◌∷◌, if◌then◌else◌}
 use Rattle.std.specs.List.{flat_map}
-use Rattle.search_spec.specs.Queue.{Waiting, waiting}
+use Rattle.search_spec.specs.Queue.{Waiting, new_entries}
 
 -- commands that are left of such pushes: the moment at which they are due, the number of the first, the first, and the later ones
 pub record Loop (C : Type 0) : Type 0 where
@@ -12,7 +12,7 @@ pub record Loop (C : Type 0) : Type 0 where
 
 -- the commands of a loop, each by itself
 abbrev pub entries : {C : Type 0} → Loop C → List (Waiting C)
-entries l = waiting (λ c. l.due) l.number (l.first ∷ l.later)
+entries l = new_entries (λ c. l.due) l.number (l.first ∷ l.later)
 
 -- the first command of a loop
 abbrev pub first_entry : {C : Type 0} → Loop C → Waiting C
@@ -28,8 +28,8 @@ loop_left due number [] = []
 loop_left due number (c ∷ cs) = record { due = due; number = suc number; first = c; later = cs } ∷ []
 
 -- the loops without the first command of the one of this number
-abbrev pub advanced : {C : Type 0} → ℕ → List (Loop C) → List (Loop C)
-advanced number loops = flat_map (λ l. if l.number == number then loop_left l.due l.number l.later else l ∷ []) loops
+abbrev pub loops_after : {C : Type 0} → ℕ → List (Loop C) → List (Loop C)
+loops_after number loops = flat_map (λ l. if l.number == number then loop_left l.due l.number l.later else l ∷ []) loops
 
 -- the number is that of the loop's first command, or of none of them
 abbrev pub IsFirstOrNone : {C : Type 0} → ℕ → Loop C → Type 0

@@ -7,21 +7,21 @@ use Rattle.tableau_rebuild.specs.declared.draft.At.{At}
 use Rattle.tableau_rebuild.specs.declared.draft.Draft.{Draft}
 use Rattle.tableau_rebuild.specs.declared.draft.Draft.TheVariants.{Clause, Close, Cut}
 
-abbrev pub nothing : Tree
-nothing = leaf (at_clause 0) [] (False 0) []
+abbrev pub no_tree : Tree
+no_tree = leaf (at_clause 0) [] (False 0) []
 
 abbrev pub tree_at : List Tree → ℕ → Tree
-tree_at ts i = slice_index_or ts i nothing
+tree_at ts i = slice_index_or ts i no_tree
 
 -- the place after a step
-abbrev pub after_step : At → Place
-after_step at = at_step at.result (suc at.step)
+abbrev pub place_after_step : At → Place
+place_after_step at = at_step at.result (suc at.step)
 
 -- the tree of a draft over those of the earlier ones
 abbrev pub tree_of : List Tree → Draft → Tree
 tree_of earlier (Clause n) = leaf (at_clause n) [] (False 0) []
-tree_of earlier (Close at l m) = leaf (after_step at) (l ∷ m ∷ []) (CloseRule 0 1) []
-tree_of earlier (Cut at v a b) = cut (after_step at) v (tree_at earlier a) (tree_at earlier b)
+tree_of earlier (Close at l m) = leaf (place_after_step at) (l ∷ m ∷ []) (CloseRule 0 1) []
+tree_of earlier (Cut at v a b) = cut (place_after_step at) v (tree_at earlier a) (tree_at earlier b)
 
 abbrev pub trees_after : List Tree → List Draft → List Tree
 trees_after earlier [] = earlier

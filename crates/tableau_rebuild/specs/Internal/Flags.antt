@@ -6,7 +6,7 @@ use Rattle.sat_log.specs.declared.log.LogEntry.{LogEntry}
 use Rattle.tableau_clauses.specs.declared.origin.Origin.TheVariants.{Instance as From}
 use Rattle.tableau_clauses.specs.Table.{Table, the_clauses, the_origins}
 use Rattle.rebuild_spec.specs.Trees.{Place, at_clause, at_step, at_result, same_place}
-use Rattle.rebuild_spec.specs.Stands.{place_of}
+use Rattle.rebuild_spec.specs.Stands.{premise_place}
 use Rattle.rebuild_spec.specs.Used.{IsUsed}
 use Rattle.tableau_rebuild.specs.declared.reached.Reached.{Reached}
 use Rattle.tableau_rebuild.specs.Internal.Arenas.{IsThere}
@@ -19,7 +19,7 @@ flagged r (at_step n k) = false
 
 -- whether the clause or the result at the place is a premise of the chain
 abbrev pub is_premise : Chain → Place → Bool
-is_premise chain p = same_place (place_of chain.first) p || list_any (λ step. same_place (place_of step.premise) p) chain.steps
+is_premise chain p = same_place (premise_place chain.first) p || list_any (λ step. same_place (premise_place step.premise) p) chain.steps
 
 abbrev pub is_premise_of : Option LogEntry → Place → Bool
 is_premise_of (Some entry) p = is_premise entry.chain p

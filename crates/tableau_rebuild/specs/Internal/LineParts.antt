@@ -15,9 +15,9 @@ use Rattle.literal_map.specs.declared.instance.Instance.{Instance as BankInstanc
 use Rattle.tableau_clauses.specs.declared.origin.Origin.TheVariants.{Instance as From}
 use Rattle.tableau_clauses.specs.Table.{Table}
 use Rattle.rebuild_spec.specs.Input.{Instance, literals_of}
-use Rattle.rebuild_spec.specs.Stands.{placed, place_in}
+use Rattle.rebuild_spec.specs.Stands.{rule_at_places, place_in}
 use Rattle.tableau_rules.specs.Uses.{use_of}
-use Rattle.tableau_rebuild.specs.Tables.{the_atoms, the_instance}
+use Rattle.tableau_rebuild.specs.Tables.{atoms_at, the_instance}
 use Rattle.tableau_rebuild.specs.declared.draft.Draft.{Draft}
 use Rattle.tableau_rebuild.specs.declared.draft.Draft.TheVariants.{Clause, Close, Cut}
 
@@ -39,7 +39,7 @@ right_in (i ∷ j ∷ is) = j
 -- the line of an instance, with the places of its principals in the branch
 abbrev pub instance_by : List Lambda → List SatLit → Instance → Line
 instance_by atoms branch i =
-    record { branch = literals_of atoms branch; rule = placed i.rule (map (place_in branch) i.principals); children = map (λ _. Closed) i.alternatives }
+    record { branch = literals_of atoms branch; rule = rule_at_places i.rule (map (place_in branch) i.principals); children = map (λ _. Closed) i.alternatives }
 
 abbrev pub close_by : List Lambda → List SatLit → Line
 close_by atoms branch = record { branch = literals_of atoms branch; rule = CloseRule 0 1; children = [] }
@@ -70,6 +70,6 @@ IsMakeable b atoms t numbers (Cut at v on off) = (v.0 < length atoms) × (on < l
 
 -- the line is that of the draft
 abbrev pub IsLineBy : Content → List ℕ → Table → List ℕ → List SatLit → Draft → Line → Type 0
-IsLineBy b atoms t numbers branch (Clause n) line = (i : BankInstance) → IsClauseFrom b atoms t n i → line ≡ instance_by (the_atoms b.terms atoms) branch (the_instance b.terms atoms i)
-IsLineBy b atoms t numbers branch (Close at l m) line = line ≡ close_by (the_atoms b.terms atoms) branch
-IsLineBy b atoms t numbers branch (Cut at v on off) line = line ≡ cut_by (the_atoms b.terms atoms) branch v (slice_index_or numbers on 0) (slice_index_or numbers off 0)
+IsLineBy b atoms t numbers branch (Clause n) line = (i : BankInstance) → IsClauseFrom b atoms t n i → line ≡ instance_by (atoms_at b.terms atoms) branch (the_instance b.terms atoms i)
+IsLineBy b atoms t numbers branch (Close at l m) line = line ≡ close_by (atoms_at b.terms atoms) branch
+IsLineBy b atoms t numbers branch (Cut at v on off) line = line ≡ cut_by (atoms_at b.terms atoms) branch v (slice_index_or numbers on 0) (slice_index_or numbers off 0)

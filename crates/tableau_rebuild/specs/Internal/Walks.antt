@@ -8,18 +8,18 @@ use Rattle.tableau_rebuild.specs.declared.walk.Task.{Task}
 use Rattle.tableau_rebuild.specs.declared.walk.Task.TheVariants.{Visit, Enter}
 use Rattle.tableau_rebuild.specs.Internal.Drafts.{tree_at, trees}
 
-abbrev pub number_of : Task → ℕ
-number_of (Visit i) = i
-number_of (Enter i) = i
+abbrev pub task_number : Task → ℕ
+task_number (Visit i) = i
+task_number (Enter i) = i
 
-abbrev pub size : Tree → ℕ
-size (leaf p ls rule children) = 1
-size (cut p v t u) = suc (size t + size u)
+abbrev pub tree_size : Tree → ℕ
+tree_size (leaf p ls rule children) = 1
+tree_size (cut p v t u) = suc (tree_size t + tree_size u)
 
 -- more than what is left to do
 abbrev pub weight : List Tree → List Task → ℕ
 weight ts [] = 0
-weight ts (Visit i ∷ tasks) = 2 * size (tree_at ts i) + weight ts tasks
+weight ts (Visit i ∷ tasks) = 2 * tree_size (tree_at ts i) + weight ts tasks
 weight ts (Enter i ∷ tasks) = 1 + weight ts tasks
 
 -- the lines after the tasks, the next of which is the last
@@ -29,9 +29,9 @@ run ts done (Visit i ∷ tasks) = run ts (walked done (tree_at ts i)) tasks
 run ts done (Enter i ∷ tasks) = run ts (with_line done (tree_at ts i)) tasks
 
 -- the flags tell which lines are listed, and what is left to do makes of these all lines of the walk from the last one
-pub record IsUnderWay (drafts : List Draft) (last : ℕ) (listed : List Bool) (order : List ℕ) (tasks : List Task) : Type 0 where
+pub record IsWalkUnderWay (drafts : List Draft) (last : ℕ) (listed : List Bool) (order : List ℕ) (tasks : List Task) : Type 0 where
   pub flags : length listed ≡ length drafts
   pub marks : (i : ℕ) → i < length drafts → slice_index_or listed i false ≡ list_any (same_line (tree_at (trees drafts) i)) (map (tree_at (trees drafts)) order)
-  pub in_range : All (λ t. number_of t < length drafts) tasks
+  pub in_range : All (λ t. task_number t < length drafts) tasks
   pub inside : (k i : ℕ) → slice_get order k ≡ Some i → i < length drafts
   pub lines : run (trees drafts) (map (tree_at (trees drafts)) order) tasks ≡ walked [] (tree_at (trees drafts) last)

@@ -6,7 +6,7 @@ use Rattle.stt_core.specs.Typing.{constant_type}
 use Rattle.tableau_calculus.specs.Rules.{IsDecomposed, differ_each}
 use Rattle.term_bank.specs.Content.{Content, content_scope}
 use Rattle.term_bank.specs.Terms.{term_at}
-use Rattle.tableau_rules.specs.Internal.Drafted.{alternatives_at, AreWithin, IsDifference}
+use Rattle.tableau_rules.specs.Internal.Drafted.{alternatives_at, AreDraftedWithin, IsDifference}
 use Rattle.tableau_rules.specs.Internal.Typed.{AreSides}
 use Rattle.tableau_rules.specs.declared.draft.Signed.{Signed}
 use Rattle.tableau_rules.specs.declared.spine.Arguments.{Arguments}
@@ -69,7 +69,7 @@ pub record IsComparison (old new : Content) (s t : Lambda) (ds : List (List Sign
   pub right_first : Lambda
   pub right_rest : List Lambda
   pub right_is : t ≡ applied (constant head) (right_first ∷ right_rest)
-  pub within : AreWithin new ds
+  pub within : AreDraftedWithin new ds
   pub alternatives : alternatives_at new ds ≡ differ_each type (left_first ∷ left_rest) (right_first ∷ right_rest)
 
 -- the drafts for two terms, or these aren't compared

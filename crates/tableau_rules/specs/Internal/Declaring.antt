@@ -10,7 +10,7 @@ use Rattle.term_bank.specs.Content.{Content, content_scope}
 use Rattle.term_bank.specs.Terms.{term_at}
 use Rattle.witness_names.specs.Rows.{rows_of, AreRows, with_predicate}
 use Rattle.tableau_rules.specs.Changes.{Widens}
-use Rattle.tableau_rules.specs.Internal.Drafted.{principal_at, alternatives_at, AreWithin}
+use Rattle.tableau_rules.specs.Internal.Drafted.{principal_at, alternatives_at, AreDraftedWithin}
 use Rattle.tableau_rules.specs.declared.draft.Principal.{Principal}
 use Rattle.tableau_rules.specs.declared.draft.Signed.{Signed}
 
@@ -34,7 +34,7 @@ pub record IsWitnessed (b : Content) (p : Principal) (old new : List ℕ) : Type
 
 -- the drafts are the alternatives of the rule's instance over these rows, or it has none over any rows
 abbrev pub DraftedOver : Content → List Row → List Principal → RuleUse → Option (List (List Signed)) → Type 0
-DraftedOver b rows ps rule (Some ds) = AreWithin b ds × IsInstance (content_scope b) rows (map (principal_at b) ps) rule (alternatives_at b ds)
+DraftedOver b rows ps rule (Some ds) = AreDraftedWithin b ds × IsInstance (content_scope b) rows (map (principal_at b) ps) rule (alternatives_at b ds)
 DraftedOver b rows ps rule None = (others : List Row) (as' : List (List Literal)) → IsInstance (content_scope b) others (map (principal_at b) ps) rule as' → ⊥
 
 -- the witnesses where the rule has an instance, and where it has none

@@ -28,17 +28,17 @@ pub record IsPrincipal (b : Content) (p : Principal) : Type 0 where
   pub typed : IsLiteral (content_scope b) (principal_at b p)
 
 -- the formulas are terms of the bank
-abbrev pub IsWithin : Content → List Signed → Type 0
-IsWithin b [] = Unit {0}
-IsWithin b (s ∷ draft) = (s.formula < length b.terms) × IsWithin b draft
+abbrev pub IsDraftedWithin : Content → List Signed → Type 0
+IsDraftedWithin b [] = Unit {0}
+IsDraftedWithin b (s ∷ draft) = (s.formula < length b.terms) × IsDraftedWithin b draft
 
-abbrev pub AreWithin : Content → List (List Signed) → Type 0
-AreWithin b [] = Unit {0}
-AreWithin b (draft ∷ drafts) = IsWithin b draft × AreWithin b drafts
+abbrev pub AreDraftedWithin : Content → List (List Signed) → Type 0
+AreDraftedWithin b [] = Unit {0}
+AreDraftedWithin b (draft ∷ drafts) = IsDraftedWithin b draft × AreDraftedWithin b drafts
 
 -- the drafts are the alternatives of the rule's instance with these principals, or it has none
 abbrev pub Drafted : Content → List Row → List Principal → RuleUse → Option (List (List Signed)) → Type 0
-Drafted b rows ps rule (Some ds) = AreWithin b ds × IsInstance (content_scope b) rows (map (principal_at b) ps) rule (alternatives_at b ds)
+Drafted b rows ps rule (Some ds) = AreDraftedWithin b ds × IsInstance (content_scope b) rows (map (principal_at b) ps) rule (alternatives_at b ds)
 Drafted b rows ps rule None = (as' : List (List Literal)) → IsInstance (content_scope b) rows (map (principal_at b) ps) rule as' → ⊥
 
 -- the signed formula denies that the terms at two places of an earlier bank are equal

@@ -8,12 +8,12 @@ use Rattle.literal_map.specs.declared.instance.BankUse.{BankUse}
 use Rattle.literal_map.specs.declared.instance.RuleKind.TheVariants.{AllNeg}
 use Rattle.tableau_rules.specs.Uses.{IsInstanceBy}
 use Rattle.tableau_rules.specs.Changes.{AreWitnessesBy}
-use Rattle.tableau_rules.specs.Internal.Drafted.{alternatives_at, AreWithin}
+use Rattle.tableau_rules.specs.Internal.Drafted.{alternatives_at, AreDraftedWithin}
 use Rattle.tableau_rules.specs.declared.draft.Signed.{Signed}
 
 -- the drafts are the alternatives of the rule's instance over these rows, or it has none over any rows
 abbrev pub DraftedBy : Content → List ℕ → List Row → BankUse → Option (List (List Signed)) → Type 0
-DraftedBy b atoms rows by (Some ds) = AreWithin b ds × IsInstanceBy b atoms rows by (alternatives_at b ds)
+DraftedBy b atoms rows by (Some ds) = AreDraftedWithin b ds × IsInstanceBy b atoms rows by (alternatives_at b ds)
 DraftedBy b atoms rows by None = (others : List Row) (as' : List (List Literal)) → IsInstanceBy b atoms others by as' → ⊥
 
 -- the witnesses where the rule has an instance, and where it has none

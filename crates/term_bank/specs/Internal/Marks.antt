@@ -8,20 +8,20 @@ greater None n = n
 greater (Some m) None = Some m
 greater (Some m) (Some n) = Some (max m n)
 
-abbrev pub witness_of : Constant → Option ℕ
-witness_of (name k) = None
-witness_of (witness k) = Some k
-witness_of falsity = None
-witness_of negation = None
-witness_of implication = None
-witness_of (all a) = None
-witness_of (equality a) = None
-witness_of (choice a) = None
-witness_of (description a) = None
+abbrev pub witness_number : Constant → Option ℕ
+witness_number (name k) = None
+witness_number (witness k) = Some k
+witness_number falsity = None
+witness_number negation = None
+witness_number implication = None
+witness_number (all a) = None
+witness_number (equality a) = None
+witness_number (choice a) = None
+witness_number (description a) = None
 
 -- the greatest witness that occurs in a term, where one does
 abbrev pub greatest_witness : Lambda → Option ℕ
 greatest_witness (bound k) = None
-greatest_witness (constant c) = witness_of c
+greatest_witness (constant c) = witness_number c
 greatest_witness (lam a s) = greatest_witness s
 greatest_witness (app s u) = greater (greatest_witness s) (greatest_witness u)

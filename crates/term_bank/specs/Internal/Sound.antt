@@ -15,14 +15,14 @@ terms_after terms [] = terms
 terms_after terms (s ∷ shapes) = terms_after (terms ++ shape_term terms s ∷ []) shapes
 
 -- a node with its marks
-abbrev pub Entry : Type 0
-Entry = Node × Marks
+abbrev pub ShapeEntry : Type 0
+ShapeEntry = Node × Marks
 
 -- the terms of the entries, in their order
-abbrev pub terms_of : List Entry → List Lambda
-terms_of entries = terms_after [] (map (λ e. the_shape e.0) entries)
+abbrev pub entry_terms : List ShapeEntry → List Lambda
+entry_terms entries = terms_after [] (map (λ e. the_shape e.0) entries)
 
 -- Each node stands on earlier ones, and its marks are right.
-pub record AreSound (scope : Scope) (entries : List Entry) : Type 0 where
-  pub below : (k : ℕ) (e : Entry) → slice_get entries k ≡ Some e → IsBelow k (the_shape e.0)
-  pub marked : (k : ℕ) (e : Entry) → slice_get entries k ≡ Some e → IsMarked scope (term_at (terms_of entries) k) e.1
+pub record AreSound (scope : Scope) (entries : List ShapeEntry) : Type 0 where
+  pub below : (k : ℕ) (e : ShapeEntry) → slice_get entries k ≡ Some e → IsBelow k (the_shape e.0)
+  pub marked : (k : ℕ) (e : ShapeEntry) → slice_get entries k ≡ Some e → IsMarked scope (term_at (entry_terms entries) k) e.1

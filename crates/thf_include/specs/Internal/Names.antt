@@ -4,9 +4,9 @@ use Rattle.std.specs.List.{AllByRecursion}
 use Rattle.thf_grammar.specs.Trees.{StatementTree, annotated, include}
 
 -- an include has a name that is text
-abbrev pub IsNamed : StatementTree → Type 0
-IsNamed (annotated a) = Unit {0}
-IsNamed (include at name only) = IsUtf8 name
+abbrev pub IsNamedStatement : StatementTree → Type 0
+IsNamedStatement (annotated a) = Unit {0}
+IsNamedStatement (include at name only) = IsUtf8 name
 
-abbrev pub AreNamed : List StatementTree → Type 0
-AreNamed tree = AllByRecursion IsNamed tree
+abbrev pub AreNamedStatements : List StatementTree → Type 0
+AreNamedStatements tree = AllByRecursion IsNamedStatement tree

@@ -25,9 +25,9 @@ unfoldable pub first_terminal : List Lexeme → Terminal
 first_terminal [] = terminal.Other
 first_terminal (t ∷ ts) = terminal_of t
 
-unfoldable pub first_place : List Lexeme → ℕ
-first_place [] = 0
-first_place (t ∷ ts) = t.at
+unfoldable pub place_of_first : List Lexeme → ℕ
+place_of_first [] = 0
+place_of_first (t ∷ ts) = t.at
 
 unfoldable pub first_name : List Lexeme → List ℕ
 first_name [] = []
@@ -37,13 +37,13 @@ unfoldable pub first_text : List Lexeme → List ℕ
 first_text [] = []
 first_text (t ∷ ts) = t.text
 
-unfoldable pub behind : List Lexeme → List Lexeme
-behind [] = []
-behind (t ∷ ts) = ts
+unfoldable pub lexemes_behind : List Lexeme → List Lexeme
+lexemes_behind [] = []
+lexemes_behind (t ∷ ts) = ts
 
 -- a mark, and nothing of it
 abbrev pub expect_by : Mark → Terminal → List Lexeme → Outcome (Unit {0})
-expect_by mark t ts = if is_mark mark t then found tt (behind ts) else wrong ts
+expect_by mark t ts = if is_mark mark t then found tt (lexemes_behind ts) else wrong ts
 
 unfoldable pub expect : Mark → List Lexeme → Outcome (Unit {0})
 expect mark ts = expect_by mark (first_terminal ts) ts

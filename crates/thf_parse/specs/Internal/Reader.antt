@@ -4,19 +4,19 @@ use Rattle.thf_grammar.specs.Trees.{TypeTree, form, indiv, named, arrow}
 use Rattle.thf_grammar.specs.declared.terminal.Mark.TheVariants.{Open, Close, Arrow}
 use Rattle.thf_grammar.specs.declared.terminal.Terminal.{Terminal}
 use Rattle.thf_grammar.specs.declared.terminal.Terminal.TheVariants as terminal
-use Rattle.thf_parse.specs.Internal.Outcome.{found, wrong, Reader, ◌>>=◌, first_terminal, first_place, first_name, behind, expect, enter}
+use Rattle.thf_parse.specs.Internal.Outcome.{found, wrong, Reader, ◌>>=◌, first_terminal, place_of_first, first_name, lexemes_behind, expect, enter}
 
 abbrev pub group_type : Option (Reader TypeTree) → Reader TypeTree
-group_type inside ts = enter inside ts (λ type. type (behind ts) >>= λ t rest. expect Close rest >>= λ _ after. found t after)
+group_type inside ts = enter inside ts (λ type. type (lexemes_behind ts) >>= λ t rest. expect Close rest >>= λ _ after. found t after)
 
-abbrev pub named_type : Reader TypeTree
-named_type ts = found (named (first_place ts) (first_name ts)) (behind ts)
+abbrev pub named_type_reader : Reader TypeTree
+named_type_reader ts = found (named (place_of_first ts) (first_name ts)) (lexemes_behind ts)
 
 abbrev pub simple_type_by : Option (Reader TypeTree) → Terminal → Reader TypeTree
-simple_type_by inside terminal.Indiv ts = found (indiv (first_place ts)) (behind ts)
-simple_type_by inside terminal.Form ts = found (form (first_place ts)) (behind ts)
-simple_type_by inside terminal.Lower ts = named_type ts
-simple_type_by inside terminal.Quoted ts = named_type ts
+simple_type_by inside terminal.Indiv ts = found (indiv (place_of_first ts)) (lexemes_behind ts)
+simple_type_by inside terminal.Form ts = found (form (place_of_first ts)) (lexemes_behind ts)
+simple_type_by inside terminal.Lower ts = named_type_reader ts
+simple_type_by inside terminal.Quoted ts = named_type_reader ts
 simple_type_by inside (terminal.Mark Open) ts = group_type inside ts
 simple_type_by inside _ ts = wrong ts
 
@@ -24,7 +24,7 @@ unfoldable pub simple_type : Option (Reader TypeTree) → Reader TypeTree
 simple_type inside ts = simple_type_by inside (first_terminal ts) ts
 
 abbrev pub right_type : Option (Reader TypeTree) → TypeTree → Reader TypeTree
-right_type inside t ts = enter inside ts (λ type. type (behind ts) >>= λ u rest. found (arrow (first_place ts) t u) rest)
+right_type inside t ts = enter inside ts (λ type. type (lexemes_behind ts) >>= λ u rest. found (arrow (place_of_first ts) t u) rest)
 
 abbrev pub arrow_by : Option (Reader TypeTree) → TypeTree → Terminal → Reader TypeTree
 arrow_by inside t (terminal.Mark Arrow) ts = right_type inside t ts

@@ -2,7 +2,7 @@
 use Rattle.std.specs.Prelude.{◌≡◌, List, Result, Ok, Err, Option, map}
 use Rattle.std.specs.Global.{Box}
 use Rattle.thf_grammar.specs.Trees.{TypeTree, VarTree, FormulaTree, BodyTree, SelectedTree, StatementTree}
-use Rattle.thf_grammar.specs.View.{the_type, the_var, the_formula, the_body, the_selected, the_selection, the_statement, the_file}
+use Rattle.thf_grammar.specs.View.{the_surface_type, the_var, the_formula, the_body, the_selected, the_selection, the_statement, the_file}
 use Rattle.thf_grammar.specs.declared.types.SurfaceTy.{SurfaceTy}
 use Rattle.thf_grammar.specs.declared.types.SurfaceVar.{SurfaceVar}
 use Rattle.thf_grammar.specs.declared.formula.Surface.{Surface}
@@ -14,10 +14,10 @@ use Rattle.thf_parse.specs.declared.statement.Heading.{Heading}
 use Rattle.thf_grammar.specs.Words.{Lexeme}
 use Rattle.thf_parse.specs.Internal.Outcome.{Outcome, found}
 use Rattle.thf_parse.specs.Internal.Passes.{IsRefusal}
-use Rattle.thf_parse.specs.Internal.StatementReader.{Head, head_of}
+use Rattle.thf_parse.specs.Internal.StatementReader.{Head, statement_head}
 
 abbrev pub ReadsType : List Lexeme → Result SurfaceTy Refusal → Outcome TypeTree → Type 0
-ReadsType left (Ok ty) o = o ≡ found (the_type ty) left
+ReadsType left (Ok ty) o = o ≡ found (the_surface_type ty) left
 ReadsType left (Err e) o = IsRefusal left e o
 
 abbrev pub ReadsVar : List Lexeme → Result SurfaceVar Refusal → Outcome VarTree → Type 0
@@ -45,7 +45,7 @@ ReadsSelection left (Ok only) o = o ≡ found (the_selection only) left
 ReadsSelection left (Err e) o = IsRefusal left e o
 
 abbrev pub ReadsHead : List Lexeme → Result Heading Refusal → Outcome Head → Type 0
-ReadsHead left (Ok head) o = o ≡ found (head_of head.name (the_selected head.role)) left
+ReadsHead left (Ok head) o = o ≡ found (statement_head head.name (the_selected head.role)) left
 ReadsHead left (Err e) o = IsRefusal left e o
 
 abbrev pub ReadsStatement : List Lexeme → Result Statement Refusal → Outcome StatementTree → Type 0

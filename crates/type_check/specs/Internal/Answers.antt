@@ -5,11 +5,11 @@ use Rattle.type_check.specs.declared.refusal.Refusal.{Refusal}
 use Rattle.type_check.specs.declared.refusal.Refusal.TheVariants.{At, Memory}
 
 -- The refusal is the one that is defined, or want of memory, which may come anywhere.
-abbrev pub Refuses : {B : Type 0} → Refusal → Result B IllPlace → Type 0
-Refuses (At at why) defined = defined ≡ Err (record { at = at; why = why })
-Refuses Memory defined = Unit {0}
+abbrev pub RefusesAt : {B : Type 0} → Refusal → Result B IllPlace → Type 0
+RefusesAt (At at why) defined = defined ≡ Err (record { at = at; why = why })
+RefusesAt Memory defined = Unit {0}
 
 -- The answer is what is defined, as the plain value that the view makes of it.
-abbrev pub Answers : {A B : Type 0} → (A → B) → Result A Refusal → Result B IllPlace → Type 0
-Answers view (Ok a) defined = defined ≡ Ok (view a)
-Answers view (Err e) defined = Refuses e defined
+abbrev pub AnswersCheck : {A B : Type 0} → (A → B) → Result A Refusal → Result B IllPlace → Type 0
+AnswersCheck view (Ok a) defined = defined ≡ Ok (view a)
+AnswersCheck view (Err e) defined = RefusesAt e defined

@@ -5,14 +5,14 @@ use Rattle.stt_core.specs.Declarations.{Declarations}
 use Rattle.thf_grammar.specs.Trees.{FormulaTree}
 use Rattle.type_check.specs.Outcome.{◌>>=◌}
 use Rattle.type_check.specs.Typed.{TypedTerm}
-use Rattle.type_check.specs.Terms.{TermReading, joined, equated, applied, read_term}
+use Rattle.type_check.specs.Terms.{TermReading, typed_connection, typed_equation, typed_application, read_term}
 use Rattle.type_check.specs.declared.nodes.Infix.{Infix}
 use Rattle.type_check.specs.declared.nodes.Infix.TheVariants.{Join, Equality, Application}
 
 abbrev pub combined : ℕ → Infix → TypedTerm → TypedTerm → TermReading
-combined at (Join conn) x y = joined at conn x y
-combined at (Equality positive) x y = equated at positive x y
-combined at Application x y = applied at x y
+combined at (Join conn) x y = typed_connection at conn x y
+combined at (Equality positive) x y = typed_equation at positive x y
+combined at Application x y = typed_application at x y
 
 abbrev pub read_infix : Declarations → ℕ → Infix → List TypedName → FormulaTree → FormulaTree → TermReading
 read_infix d at between scope s t = do

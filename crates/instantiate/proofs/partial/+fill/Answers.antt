@@ -3,8 +3,8 @@ use Rattle.std.proofs.lemmas.List.{length-set}
 use Rattle.std.proofs.lemmas.Option.{slice_get_read}
 use Rattle.stt_core.specs.View.{the_head}
 use Rattle.search_spec.specs.Partial.{Partial, head as the_leaf}
-use Rattle.instantiate.specs.PartialView.{the_node}
-use Rattle.instantiate.specs.Internal.PartialSizes.{applications, counts}
+use Rattle.instantiate.specs.PartialView.{the_partial_node}
+use Rattle.instantiate.specs.Internal.PartialSizes.{applications, partial_node_counts}
 use Rattle.instantiate.specs.Internal.Holes.{filling, filling_all}
 use Rattle.instantiate.proofs.HoleLaws.{node_count-at}
 use Rattle.instantiate.proofs.FillLaws.{filling-spine, at-later, drop-later, filled-later, filler-later, filled-whole, filler-whole}
@@ -13,14 +13,14 @@ use Rattle.instantiate.proofs.partial.+fill.Goals as goal
 pub Partial::fill-returns-in-App-clause-filled : goal.Partial::fill-returns-in-App-clause-filled
 Partial::fill-returns-in-App-clause-filled t c =
     let leaf = the_leaf (the_head c.in-App.field-0) in
-    let whole : applications leaf c.in-App.args ≡ c.args.self.now = ap the_node (sym c.in-App.is) ∙ c.self.view_is in
+    let whole : applications leaf c.in-App.args ≡ c.args.self.now = ap the_partial_node (sym c.in-App.is) ∙ c.self.view_is in
     ap (applications leaf) c.fill-in-App.ensures.filled
     ∙ ap (λ (x : Partial × Option Partial). x.0) (sym (filling-spine c.args.filler.now (the_head c.in-App.field-0) c.in-App.args) ∙ ap (filling c.args.filler.now) whole)
 
 pub Partial::fill-returns-in-App-clause-left : goal.Partial::fill-returns-in-App-clause-left
 Partial::fill-returns-in-App-clause-left t c =
     let leaf = the_leaf (the_head c.in-App.field-0) in
-    let whole : applications leaf c.in-App.args ≡ c.args.self.now = ap the_node (sym c.in-App.is) ∙ c.self.view_is in
+    let whole : applications leaf c.in-App.args ≡ c.args.self.now = ap the_partial_node (sym c.in-App.is) ∙ c.self.view_is in
     c.fill-in-App.ensures.left
     ∙ ap (λ (x : Partial × Option Partial). x.1) (sym (filling-spine c.args.filler.now (the_head c.in-App.field-0) c.in-App.args) ∙ ap (filling c.args.filler.now) whole)
 
@@ -31,7 +31,7 @@ Partials::fill-fill-requires t c =
     let p = c.index_mut-partial.result.now in
     let at = slice_get_read xs (length xs) c.loop-i.i p refl (omega (arith, c.loop-i-test.true, c.len-i-end.ensures, c.loop-i.invariant.count, c.self.inside.items.ok.0)) c.index_mut-partial.ensures.value in
     let here = at-later c.loop-i.filler (filling c.loop-i.filler p).1 xs ys c.loop-i.i p (filling c.loop-i.filler p).0 c.loop-i.invariant.later at refl refl in
-    let size = ap counts c.self.view_is in
+    let size = ap partial_node_counts c.self.view_is in
     (omega (arith, node_count-at ys c.loop-i.i p here, size), tt)
 
 pub Partials::fill-loop-i-preserved : goal.Partials::fill-loop-i-preserved

@@ -1,13 +1,13 @@
 use Rattle.std.proofs.Common.{◌≡◌, ◌++◌, take, drop, length}
-use Rattle.instantiate.specs.Internal.PartialSizes.{node_count, counts}
+use Rattle.instantiate.specs.Internal.PartialSizes.{partial_node_count, partial_node_counts}
 use Rattle.instantiate.specs.Internal.Holes.{filling_all}
 use Rattle.instantiate.proofs.partial.+fill.Given as goal
 
 abbrev pub decreases-Partial::fill : goal.decreases-Partial::fill
-decreases-Partial::fill l = node_count l.self.now
+decreases-Partial::fill l = partial_node_count l.self.now
 
 abbrev pub decreases-Partials::fill : goal.decreases-Partials::fill
-decreases-Partials::fill l = counts l.self.now
+decreases-Partials::fill l = partial_node_counts l.self.now
 
 abbrev pub invariant-Partials::fill-loop-i : goal.invariant-Partials::fill-loop-i
 invariant-Partials::fill-loop-i l = record {

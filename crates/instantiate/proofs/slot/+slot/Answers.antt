@@ -2,7 +2,7 @@ use Rattle.std.proofs.Common.{ap, sym, ◌∙◌, option_map, arith}
 use Rattle.stt_core.specs.View.{the_head}
 use Rattle.stt_core.specs.ContextView.{the_context}
 use Rattle.term_bank.specs.Content.{content_scope}
-use Rattle.instantiate.specs.PartialView.{the_node}
+use Rattle.instantiate.specs.PartialView.{the_partial_node}
 use Rattle.instantiate.specs.Internal.Slots.{the_slot, slot_of}
 use Rattle.instantiate.proofs.HoleLaws.{node_count-at, slots-spine, first_among-found, first_among-later}
 use Rattle.instantiate.proofs.slot.+slot.Goals as goal
@@ -23,4 +23,4 @@ slot_among-loop-i-preserved t c =
 pub slot_in-returns-in_ok-slot_among-in-App : goal.slot_in-returns-in_ok-slot_among-in-App
 slot_in-returns-in_ok-slot_among-in-App t c =
     slots-spine (slot_of (content_scope c.args.bank.now) (the_head c.args.head.now)) (the_context c.args.ctx.now) (the_head c.in-App.field-0) c.in-App.args c.args.partial.now (option_map the_slot c.in_ok-slot_among-in-App.field-0)
-    (ap the_node (sym c.in-App.is) ∙ c.partial.view_is) c.in_ok-slot_among-in-App.ensures
+    (ap the_partial_node (sym c.in-App.is) ∙ c.partial.view_is) c.in_ok-slot_among-in-App.ensures

@@ -7,8 +7,8 @@ use Rattle.term_bank.specs.Content.{content_scope, HasTerm}
 use Rattle.term_bank.specs.Terms.{IsTypedTerm}
 use Rattle.term_bank.proofs.GrowLaws.{has_within, has_at}
 use Rattle.term_bank.proofs.TreeLaws.{one_imported}
-use Rattle.instantiate.specs.PartialView.{the_node}
-use Rattle.instantiate.specs.Internal.PartialSizes.{node_count, applications, applications_fall}
+use Rattle.instantiate.specs.PartialView.{the_partial_node}
+use Rattle.instantiate.specs.Internal.PartialSizes.{partial_node_count, applications, applications_fall}
 use Rattle.instantiate.specs.Internal.Holes.{base_in}
 use Rattle.instantiate.specs.Internal.Blanks.{term_of}
 use Rattle.instantiate.proofs.HoleLaws.{node_count-at, base_in-function, base_in-spine}
@@ -21,9 +21,9 @@ pub intern-intern-requires : goal.intern-intern-requires
 intern-intern-requires t c =
     let a = the_type c.in-Lam.ty in
     let p = c.deref.result.now in
-    let it : function a p ≡ c.args.partial.now = ap (function a) c.deref.ensures ∙ ap the_node (sym c.in-Lam.is) ∙ c.partial.view_is in
+    let it : function a p ≡ c.args.partial.now = ap (function a) c.deref.ensures ∙ ap the_partial_node (sym c.in-Lam.is) ∙ c.partial.view_is in
     let Typed : Lambda → Type 0 = λ u. IsTypedTerm (content_scope c.args.bank.now) u in (
-      omega (arith, ap node_count it),
+      omega (arith, ap partial_node_count it),
       (sym (base_in-function a p) ∙ ap base_in it ∙ c.requires.whole, body_typed (content_scope c.args.bank.now) a (term_of p) (subst Typed (ap term_of (sym it)) c.requires.typed)),
     )
 
@@ -34,14 +34,14 @@ pub intern-intern_lam-requires-clause-typed : goal.intern-intern_lam-requires-cl
 intern-intern_lam-requires-clause-typed t c =
     let a = the_type c.in-Lam.ty in
     let p = c.deref.result.now in
-    let it : function a p ≡ c.args.partial.now = ap (function a) c.deref.ensures ∙ ap the_node (sym c.in-Lam.is) ∙ c.partial.view_is in
+    let it : function a p ≡ c.args.partial.now = ap (function a) c.deref.ensures ∙ ap the_partial_node (sym c.in-Lam.is) ∙ c.partial.view_is in
     lam_ready c.args.bank.now c.intern.new.bank a p c.in_ok-body-in-Lam.body (term_of c.args.partial.now) c.in_ok-body-in-Lam.ensures.grows (ap term_of (sym it)) c.requires.typed c.in_ok-body-in-Lam.ensures.term
 
 pub intern-returns-in_ok-intern_lam-in-Lam-clause-term : goal.intern-returns-in_ok-intern_lam-in-Lam-clause-term
 intern-returns-in_ok-intern_lam-in-Lam-clause-term t c =
     let a = the_type c.in-Lam.ty in
     let p = c.deref.result.now in
-    let it : function a p ≡ c.args.partial.now = ap (function a) c.deref.ensures ∙ ap the_node (sym c.in-Lam.is) ∙ c.partial.view_is in
+    let it : function a p ≡ c.args.partial.now = ap (function a) c.deref.ensures ∙ ap the_partial_node (sym c.in-Lam.is) ∙ c.partial.view_is in
     subst (HasTerm c.intern_lam.new.self c.in_ok-intern_lam-in-Lam.field-0) (ap (lam a) (has_at c.intern.new.bank c.in_ok-body-in-Lam.body (term_of p) c.in_ok-body-in-Lam.ensures.term) ∙ ap term_of it) c.in_ok-intern_lam-in-Lam.ensures.term
 
 -- A HEAD WITH ITS ARGUMENTS
@@ -50,9 +50,9 @@ pub intern-intern_all-requires : goal.intern-intern_all-requires
 intern-intern_all-requires t c =
     let h = the_head c.in-App.head in
     let qs = c.in-App.args in
-    let it : applications (the_leaf h) qs ≡ c.args.partial.now = ap the_node (sym c.in-App.is) ∙ c.partial.view_is in
+    let it : applications (the_leaf h) qs ≡ c.args.partial.now = ap the_partial_node (sym c.in-App.is) ∙ c.partial.view_is in
     let Typed : Lambda → Type 0 = λ u. IsTypedTerm (content_scope c.args.bank.now) u in (
-      omega (arith, ap node_count it, applications_fall (the_leaf h) qs),
+      omega (arith, ap partial_node_count it, applications_fall (the_leaf h) qs),
       (sym (base_in-spine h qs) ∙ ap base_in it ∙ c.requires.whole, arguments_typed c.args.bank.now h qs (atom_head c.in-App.head) (subst Typed (ap term_of (sym it) ∙ term_of-spine h qs) c.requires.typed)),
     )
 
@@ -60,14 +60,14 @@ pub intern-intern_app-requires-clause-typed : goal.intern-intern_app-requires-cl
 intern-intern_app-requires-clause-typed t c =
     let h = the_head c.in-App.head in
     let qs = c.in-App.args in
-    let it : applications (the_leaf h) qs ≡ c.args.partial.now = ap the_node (sym c.in-App.is) ∙ c.partial.view_is in
+    let it : applications (the_leaf h) qs ≡ c.args.partial.now = ap the_partial_node (sym c.in-App.is) ∙ c.partial.view_is in
     app_ready c.args.bank.now c.intern_all.new.bank h qs c.in_ok-args-in-App.args c.as_slice.result.now (term_of c.args.partial.now) c.in_ok-args-in-App.ensures.grows (ap term_of (sym it) ∙ term_of-spine h qs) c.requires.typed c.in_ok-args-in-App.ensures.terms c.as_slice.ensures
 
 pub intern-returns-in_ok-intern_app-in-App-clause-term : goal.intern-returns-in_ok-intern_app-in-App-clause-term
 intern-returns-in_ok-intern_app-in-App-clause-term t c =
     let h = the_head c.in-App.head in
     let qs = c.in-App.args in
-    let it : applications (the_leaf h) qs ≡ c.args.partial.now = ap the_node (sym c.in-App.is) ∙ c.partial.view_is in
+    let it : applications (the_leaf h) qs ≡ c.args.partial.now = ap the_partial_node (sym c.in-App.is) ∙ c.partial.view_is in
     subst (HasTerm c.intern_app.new.self c.in_ok-intern_app-in-App.field-0)
     (spine_same c.intern_all.new.bank h c.in_ok-args-in-App.args c.as_slice.result.now (map term_of qs) c.in_ok-args-in-App.ensures.terms c.as_slice.ensures ∙ sym (term_of-spine h qs) ∙ ap term_of it)
     c.in_ok-intern_app-in-App.ensures.term

@@ -1,5 +1,5 @@
 use Rattle.std.proofs.Common.{ℕ, ◌+◌, ◌++◌, List, codes}
-use Rattle.problem_gen.specs.Chain.{predicate, implication, goal, lines_below}
+use Rattle.problem_gen.specs.Chain.{predicate_letter, implication, goal, lines_below}
 use Rattle.outside.proofs.Writes.{on_err, took_both, stopped_first, stopped_later}
 use Rattle.problem_gen.proofs.write.write_problem.Goals as proved
 
@@ -10,7 +10,7 @@ abbrev start : List ℕ
 start = codes "thf(a0,axiom,( p0 @ c )).\n"
 
 abbrev declared : ℕ → List ℕ
-declared n = lines_below predicate (n + 1)
+declared n = lines_below predicate_letter (n + 1)
 
 abbrev implied : ℕ → List ℕ
 implied n = lines_below implication n

@@ -1,5 +1,5 @@
 use Rattle.std.proofs.Common.{Err, map, ap, ◌∙◌}
-use Rattle.literal_map.specs.Atoms.{literal_at}
+use Rattle.literal_map.specs.Atoms.{bank_literal}
 use Rattle.prover_state.specs.declared.tables.Basis.{Basis}
 use Rattle.prover_growth.proofs.DenialLaws.{denial-fits, denial-made, denial-widens, denied-rows, denied-alternatives, taken-first}
 use Rattle.prover_growth.proofs.denial.make_denial.Goals as goal
@@ -40,4 +40,4 @@ returns-in-Ok-clause-alternatives c = λ a f denies.
     let rows = denied-rows old new w c.requires.good c.args.lit c.requires.number a f denies c.equal_ids_for_equal_terms.ensures c.in-Ok.ensures.witnesses in
     denied-alternatives old new w c.requires.good c.args.lit c.requires.number a f denies
     (record { atoms = c.make-made.ensures.atoms; rows = c.make-made.ensures.rows; typed = c.in-Ok.ensures.types; memo = c.make-made.ensures.right }) rows
-    (map (map (literal_at new.bank.terms new.lits)) c.in-Ok.instance.alternatives) c.in-Ok.ensures.instance
+    (map (map (bank_literal new.bank.terms new.lits)) c.in-Ok.instance.alternatives) c.in-Ok.ensures.instance

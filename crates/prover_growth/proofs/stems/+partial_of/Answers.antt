@@ -1,6 +1,6 @@
 use Rattle.std.proofs.Common.{length, slice_get, Some, sym, ap, ◌∙◌, arith}
 use Rattle.stt_core.specs.View.{the_type}
-use Rattle.search_spec.specs.Partial.{blank}
+use Rattle.search_spec.specs.Partial.{blank_partial}
 use Rattle.search_spec.specs.State.{Sketch}
 use Rattle.prover_state.proofs.SketchLaws.{stems-length, sketch-blank, parent-before, parent-takes, sketch-grown}
 use Rattle.prover_growth.proofs.stems.+partial_of.Goals as goal
@@ -29,7 +29,7 @@ returns-in_ok-of_type-in-Blank d c =
     let q = c.requires.right.0 in
     let r = c.requires.right.1 in
     let at = ap (λ xs. slice_get xs c.args.p) (sym c.as_slice.ensures.value) ∙ c.stem_at.ensures ∙ ap Some c.in-Blank.is in
-    c.in_ok-of_type-in-Blank.ensures ∙ ap (λ a. blank (the_type a)) c.deref.ensures ∙ ap (λ (s : Sketch). s.partial) (sym (sketch-blank t q r c.args.p c.in-Blank.ty at))
+    c.in_ok-of_type-in-Blank.ensures ∙ ap (λ a. blank_partial (the_type a)) c.deref.ensures ∙ ap (λ (s : Sketch). s.partial) (sym (sketch-blank t q r c.args.p c.in-Blank.ty at))
 
 pub grown_from-requires-clause-number : goal.grown_from-requires-clause-number
 grown_from-requires-clause-number d c =

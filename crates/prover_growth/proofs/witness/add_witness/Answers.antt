@@ -2,9 +2,9 @@ use Rattle.std.proofs.Common.{◌≡◌, ◌∷◌, [], map, filter, length, ref
 use Rattle.stt_core.specs.Lambda.{witness, constant, every}
 use Rattle.tableau_calculus.specs.Literals.{Literal, minus}
 use Rattle.sat_base.specs.declared.literal.SatLit.{SatLit}
-use Rattle.literal_map.specs.Atoms.{literal_at}
+use Rattle.literal_map.specs.Atoms.{bank_literal}
 use Rattle.search_spec.specs.Each.{Each}
-use Rattle.search_spec.specs.State.{Sketch, grow, pushed}
+use Rattle.search_spec.specs.State.{Sketch, grow, with_commands}
 use Rattle.search_spec.specs.Witness.{has_hole_of}
 use Rattle.command_queue.specs.Queue.{Queue}
 use Rattle.tableau_clauses.specs.Table.{Table}
@@ -14,9 +14,9 @@ use Rattle.prover_state.specs.declared.tables.Basis.{Basis}
 use Rattle.prover_state.specs.declared.tables.Tables.{Tables}
 use Rattle.prover_state.specs.Delays.{the_mode}
 use Rattle.prover_state.specs.Internal.Growing.{BasisWidens}
-use Rattle.prover_state.specs.Internal.Names.{IsNumber}
+use Rattle.prover_state.specs.Internal.Names.{IsNumberIn}
 use Rattle.prover_state.specs.Internal.Standing.{rows_in, setting_by, sketches_in, the_state}
-use Rattle.prover_state.specs.Internal.Steps.{IsMade, StepsGrow}
+use Rattle.prover_state.specs.Internal.Steps.{IsMadeInstance, StepsGrow}
 use Rattle.prover_state.proofs.StepLaws.{steps-weaker}
 use Rattle.prover_growth.specs.Internal.Denials.{with_row}
 use Rattle.prover_growth.proofs.DenialLaws.{denied_row, denies-on, rows-length}
@@ -28,7 +28,7 @@ pub add_instance-requires-clause-principals : goal.add_instance-requires-clause-
 add_instance-requires-clause-principals g c =
     let old = c.args.core.now.tables.basis in
     let new = c.deny.new.core.tables.basis in
-    subst (Each (IsNumber new.lits)) (sym c.in_ok-instance.ensures.principals)
+    subst (Each (IsNumberIn new.lits)) (sym c.in_ok-instance.ensures.principals)
     (more-numbers old new c.in_ok-instance.ensures.widens (c.args.lit ∷ []) (c.requires.number, tt))
 
 pub add_instance-requires-clause-alternatives : goal.add_instance-requires-clause-alternatives
@@ -46,7 +46,7 @@ returns-then-len-before-clause-state g c = λ a f denies.
     let q2 = c.add_instance.new.self.plan in
     let told = c.in_ok-instance.ensures in
     let i = c.in_ok-instance.instance in
-    let d : SatLit → Literal = literal_at t1.basis.bank.terms t1.basis.lits in
+    let d : SatLit → Literal = bank_literal t1.basis.bank.terms t1.basis.lits in
     let on : d c.args.lit ≡ minus (every a f) = denies-on t.basis t1.basis told.widens c.requires.right.basis c.args.lit c.requires.number a f denies in
     let added : the_state t2 q2 ≡ with_denial (setting_by t q) a f s (record s { rows = with_row s.rows r }) =
     denial-added (setting_by t q) a f s (the_state t2 q2) (the_state t1 q1) (the_mode q1.rule.mode) (map d i.principals) (map (map d) i.alternatives) (with_row s.rows r) c.in_ok-add_instance.ensures.state
@@ -67,7 +67,7 @@ returns-clause-state g c = λ a f denies.
     let q2 = c.add_instance.new.self.plan in
     let told = c.in_ok-instance.ensures in
     let i = c.in_ok-instance.instance in
-    let d : SatLit → Literal = literal_at t1.basis.bank.terms t1.basis.lits in
+    let d : SatLit → Literal = bank_literal t1.basis.bank.terms t1.basis.lits in
     let on : d c.args.lit ≡ minus (every a f) = denies-on t.basis t1.basis told.widens c.requires.right.basis c.args.lit c.requires.number a f denies in
     let added : the_state t2 q2 ≡ with_denial (setting_by t q) a f s (record s { rows = with_row s.rows r }) =
     denial-added (setting_by t q) a f s (the_state t2 q2) (the_state t1 q1) (the_mode q1.rule.mode) (map d i.principals) (map (map d) i.alternatives) (with_row s.rows r) c.in_ok-add_instance.ensures.state
@@ -77,7 +77,7 @@ returns-clause-state g c = λ a f denies.
     let rule : q2.rule ≡ q.rule = c.in_ok-add_instance.ensures.rule ∙ ap (λ (p : Queue Planned Delays). p.rule) told.plan in
     let more : length (with_row (rows_in t.basis) r) ≡ length (rows_in t.basis) → ⊥ = λ e. c.if-len-before.false (c.len.ensures ∙ sym size ∙ e ∙ rows-length t.basis ∙ sym c.len-before.ensures) in
     c.in_ok-grow_with.ensures.state
-    ∙ ap (λ (x : Delays). pushed (the_mode x.mode) (map (λ (p : Sketch). grow p (constant (witness c.len-before.result))) (filter (has_hole_of c.denied_target-output.result) (sketches_in t2))) (the_state t2 q2)) rule
+    ∙ ap (λ (x : Delays). with_commands (the_mode x.mode) (map (λ (p : Sketch). grow p (constant (witness c.len-before.result))) (filter (has_hole_of c.denied_target-output.result) (sketches_in t2))) (the_state t2 q2)) rule
     ∙ witnessed-now (setting_by t q) a f s (came (rows_in t.basis) r more) (the_state t2 q2) added c.denied_target-output.result c.len-before.result (c.denied_target-output.ensures a f denies) (c.len-before.ensures ∙ sym (rows-length t.basis)) (sketches_in t2) refl
 
 pub returns-then-len-before-clause-basis : goal.returns-then-len-before-clause-basis
@@ -95,10 +95,10 @@ returns-then-len-before-clause-steps g c =
     let t2 = c.add_instance.new.self.tables in
     let told = c.in_ok-instance.ensures in
     let i = c.in_ok-instance.instance in
-    let made = steps-weaker (λ j. j ≡ i) (IsMade t1.basis) (λ j e. subst (IsMade t1.basis) (sym e) told.made) t1.steps t2.steps c.in_ok-add_instance.ensures.steps in
+    let made = steps-weaker (λ j. j ≡ i) (IsMadeInstance t1.basis) (λ j e. subst (IsMadeInstance t1.basis) (sym e) told.made) t1.steps t2.steps c.in_ok-add_instance.ensures.steps in
     let from : t1.steps ≡ t.steps = ap (λ (x : Tables). x.steps) told.tables in
-    let S : Table → Type 0 = λ x. StepsGrow (IsMade t1.basis) x t2.steps in
-    subst (λ (h : Basis). StepsGrow (IsMade h) t.steps t2.steps) (sym (ap (λ (x : Tables). x.basis) c.in_ok-add_instance.ensures.tables)) (subst S from made)
+    let S : Table → Type 0 = λ x. StepsGrow (IsMadeInstance t1.basis) x t2.steps in
+    subst (λ (h : Basis). StepsGrow (IsMadeInstance h) t.steps t2.steps) (sym (ap (λ (x : Tables). x.basis) c.in_ok-add_instance.ensures.tables)) (subst S from made)
 
 pub returns-clause-steps : goal.returns-clause-steps
 returns-clause-steps g c =
@@ -107,8 +107,8 @@ returns-clause-steps g c =
     let t2 = c.add_instance.new.self.tables in
     let told = c.in_ok-instance.ensures in
     let i = c.in_ok-instance.instance in
-    let made = steps-weaker (λ j. j ≡ i) (IsMade t1.basis) (λ j e. subst (IsMade t1.basis) (sym e) told.made) t1.steps t2.steps c.in_ok-add_instance.ensures.steps in
+    let made = steps-weaker (λ j. j ≡ i) (IsMadeInstance t1.basis) (λ j e. subst (IsMadeInstance t1.basis) (sym e) told.made) t1.steps t2.steps c.in_ok-add_instance.ensures.steps in
     let from : t1.steps ≡ t.steps = ap (λ (x : Tables). x.steps) told.tables in
-    let S : Table → Type 0 = λ x. StepsGrow (IsMade t1.basis) x t2.steps in
-    subst (λ (x : Tables). StepsGrow (IsMade x.basis) t.steps x.steps) (sym c.grow_with.ensures.tables)
-    (subst (λ (h : Basis). StepsGrow (IsMade h) t.steps t2.steps) (sym (ap (λ (x : Tables). x.basis) c.in_ok-add_instance.ensures.tables)) (subst S from made))
+    let S : Table → Type 0 = λ x. StepsGrow (IsMadeInstance t1.basis) x t2.steps in
+    subst (λ (x : Tables). StepsGrow (IsMadeInstance x.basis) t.steps x.steps) (sym c.grow_with.ensures.tables)
+    (subst (λ (h : Basis). StepsGrow (IsMadeInstance h) t.steps t2.steps) (sym (ap (λ (x : Tables). x.basis) c.in_ok-add_instance.ensures.tables)) (subst S from made))

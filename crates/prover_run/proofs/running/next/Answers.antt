@@ -8,7 +8,7 @@ use Rattle.search_spec.specs.Result.{IsExhausted, IsStopped}
 use Rattle.sat_core.specs.Solver.{learned}
 use Rattle.prover_state.specs.Internal.Standing.{setting_by, the_state}
 use Rattle.prover_search.specs.Internal.Running.{start_in}
-use Rattle.prover_search.specs.Internal.Answers.{Answers}
+use Rattle.prover_search.specs.Internal.Answers.{AnswersStep}
 use Rattle.prover_search.specs.declared.stepped.Stepped.{Stepped}
 use Rattle.prover_run.specs.Internal.Ends.{RefutesFrom, IsProvedBy}
 use Rattle.prover_run.proofs.RunLaws.{is-proved, is-exhausted, is-stopped, is-spent}
@@ -21,7 +21,7 @@ returns-in_ok-refutation-in-Closed-clause-ended g c = λ until.
     let u = c.step.new.self.core.tables in
     let p = c.step.new.self.core.plan in
     let refutation = c.in_ok-refutation-in-Closed.refutation in
-    let A : Stepped → Type 0 = λ s. Answers (record { tables = t; plan = q }) (record { tables = u; plan = p }) s in
+    let A : Stepped → Type 0 = λ s. AnswersStep (record { tables = t; plan = q }) (record { tables = u; plan = p }) s in
     let P : ℕ → Type 0 = λ n. IsProvedBy (setting_by t q) (start_in t) n refutation in
     let R : Scope → List Literal → Type 0 = λ scope ls. RefutesFrom scope ls (the_state t q).clauses (learned u.solver) refutation in
     let F : List Clause → Type 0 = λ cs. RefutesFrom (setting_by u p).scope (start_in u) cs (learned u.solver) refutation in
@@ -37,7 +37,7 @@ returns-in-Empty-clause-ended g c = λ until.
     let q = c.args.search.now.core.plan in
     let u = c.step.new.self.core.tables in
     let p = c.step.new.self.core.plan in
-    let A : Stepped → Type 0 = λ s. Answers (record { tables = t; plan = q }) (record { tables = u; plan = p }) s in
+    let A : Stepped → Type 0 = λ s. AnswersStep (record { tables = t; plan = q }) (record { tables = u; plan = p }) s in
     let P : ℕ → Type 0 = λ n. IsExhausted (setting_by t q) (start_in t) n in
     subst P (sym c.commands-in-Empty.ensures) (is-exhausted t q c.requires.under_way.running u p (subst A c.in-Empty.is c.in_ok-step.ensures.answers) until)
 
@@ -47,7 +47,7 @@ returns-in-Limit-clause-ended g c = λ until.
     let q = c.args.search.now.core.plan in
     let u = c.step.new.self.core.tables in
     let p = c.step.new.self.core.plan in
-    let A : Stepped → Type 0 = λ s. Answers (record { tables = t; plan = q }) (record { tables = u; plan = p }) s in
+    let A : Stepped → Type 0 = λ s. AnswersStep (record { tables = t; plan = q }) (record { tables = u; plan = p }) s in
     let P : ℕ → Type 0 = λ n. IsStopped (setting_by t q) (start_in t) n in
     subst P (sym c.commands-in-Limit.ensures) (is-stopped t q c.requires.under_way.running u p (subst A c.in-Limit.is c.in_ok-step.ensures.answers) until)
 
@@ -57,6 +57,6 @@ returns-in-Spent-clause-ended g c = λ until.
     let q = c.args.search.now.core.plan in
     let u = c.step.new.self.core.tables in
     let p = c.step.new.self.core.plan in
-    let A : Stepped → Type 0 = λ s. Answers (record { tables = t; plan = q }) (record { tables = u; plan = p }) s in
+    let A : Stepped → Type 0 = λ s. AnswersStep (record { tables = t; plan = q }) (record { tables = u; plan = p }) s in
     let under_way = c.in_ok-step.ensures.under_way c.in_ok-step.ensures.ready in
     is-spent t q c.requires.under_way.running u p c.in-Spent.conflicts (subst A c.in-Spent.is c.in_ok-step.ensures.answers) under_way.running.right c.equal_ids_for_equal_terms.ensures c.atoms_differ.ensures c.log-log-in-Spent.ensures.sound c.log-log-in-Spent.ensures.implied until

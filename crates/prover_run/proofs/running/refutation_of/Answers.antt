@@ -3,7 +3,7 @@ use Rattle.tableau_calculus.specs.Literals.{Literal}
 use Rattle.sat_log.specs.declared.log.LogEntry.{LogEntry}
 use Rattle.sat_core.specs.Solver.{learned}
 use Rattle.tableau_rebuild.specs.Conditions.{EndsEmpty}
-use Rattle.tableau_rebuild.specs.Tables.{the_atoms, the_input, unit_literals}
+use Rattle.tableau_rebuild.specs.Tables.{atoms_at, the_input, unit_literals}
 use Rattle.tableau_clauses.specs.Table.{the_clauses}
 use Rattle.prover_state.proofs.NumberLaws.{apart, clauses_number}
 use Rattle.prover_search.specs.Internal.Running.{start_in}
@@ -36,7 +36,7 @@ returns c =
     let t = c.args.tables.now in
     let r = c.requires.right.right in
     let lines = c.in_ok-refutation.refutation.lines in
-    let units = unit_literals (the_atoms t.basis.bank.terms t.basis.lits) t.steps.0 in
+    let units = unit_literals (atoms_at t.basis.bank.terms t.basis.lits) t.steps.0 in
     let S : List Literal → Type 0 = λ ls. EachComesFrom ls (clauses_of t) lines in
     let refutation = c.in_ok-refutation.refutation in
     let F : List LogEntry → Type 0 = λ log. AreFew log lines in

@@ -1,7 +1,7 @@
 use Rattle.std.proofs.Common.{ap}
 use Rattle.prover_state.specs.declared.tables.Tables.{Tables}
 use Rattle.prover_search.proofs.DevelopLaws.{grows-wider, steps-same}
-use Rattle.prover_state.specs.Internal.Steps.{IsMade}
+use Rattle.prover_state.specs.Internal.Steps.{IsMadeInstance}
 use Rattle.prover_search.proofs.carry.carry_out.Goals as goal
 
 pub returns-in_ok-fill-in-Grow-clause-develops : goal.returns-in_ok-fill-in-Grow-clause-develops
@@ -11,6 +11,6 @@ returns-in_ok-fill-in-Grow-clause-develops g c =
     let e = c.in_ok-fill-in-Grow.ensures.tables in
     record {
       basis = grows-wider t.basis u.basis (c.in_ok-fill-in-Grow.ensures.basis);
-      steps = steps-same (IsMade u.basis) t.steps u.steps (ap (λ (x : Tables). x.steps) e);
+      steps = steps-same (IsMadeInstance u.basis) t.steps u.steps (ap (λ (x : Tables). x.steps) e);
       done = ap (λ (x : Tables). x.done) e;
     }

@@ -3,10 +3,10 @@ use Rattle.stt_core.specs.SimpleType.{base}
 use Rattle.stt_core.specs.Lambda.{eq}
 use Rattle.tableau_calculus.specs.Literals.{Literal, minus}
 use Rattle.term_bank.specs.Terms.{term_at}
-use Rattle.literal_map.specs.Atoms.{literal_at}
+use Rattle.literal_map.specs.Atoms.{bank_literal}
 use Rattle.prover_state.specs.declared.tables.Basis.{Basis}
 use Rattle.prover_state.specs.declared.tables.Tables.{Tables}
-use Rattle.prover_state.specs.Internal.Names.{IsNumber, IsPlace}
+use Rattle.prover_state.specs.Internal.Names.{IsNumberIn, IsPlace}
 use Rattle.prover_search.proofs.DevelopLaws.{develops-same, develops-then}
 use Rattle.prover_search.proofs.MadeStays.{number-wider}
 use Rattle.prover_search.proofs.ShapedLaws.{base-equation, base-sides}
@@ -14,7 +14,7 @@ use Rattle.prover_search.proofs.WorkLaws.{literal-is, difference-is, difference-
 use Rattle.prover_search.proofs.equation.work_on_difference.Goals as goal
 
 pub sides_of-sides-requires-clause-equation : goal.sides_of-sides-requires-clause-equation
-sides_of-sides-requires-clause-equation g c = let basis = c.args.core.now.tables.basis in base-equation (literal_at basis.bank.terms basis.lits c.args.lit).atom c.args.n c.requires.shape
+sides_of-sides-requires-clause-equation g c = let basis = c.args.core.now.tables.basis in base-equation (bank_literal basis.bank.terms basis.lits c.args.lit).atom c.args.n c.requires.shape
 
 pub decompose-requires-clause-number : goal.decompose-requires-clause-number
 decompose-requires-clause-number g c =
@@ -22,7 +22,7 @@ decompose-requires-clause-number g c =
     let t = core.tables in
     let one = c.add_terms.new.core in
     let basis : one.tables.basis ≡ t.basis = ap (λ (x : Tables). x.basis) c.in_ok-add_terms.ensures.tables in
-    let P : Basis → Type 0 = λ x. IsNumber x.lits c.args.lit in
+    let P : Basis → Type 0 = λ x. IsNumberIn x.lits c.args.lit in
     subst P (sym basis) c.requires.number
 
 pub decompose-requires-clause-few : goal.decompose-requires-clause-few
@@ -58,11 +58,11 @@ decompose-requires-clause-denies g c =
     let t = core.tables in
     let one = c.add_terms.new.core in
     let basis : one.tables.basis ≡ t.basis = ap (λ (x : Tables). x.basis) c.in_ok-add_terms.ensures.tables in
-    let l : Literal = literal_at t.basis.bank.terms t.basis.lits c.args.lit in
+    let l : Literal = bank_literal t.basis.bank.terms t.basis.lits c.args.lit in
     let i = c.sides_of-sides.result.left in
     let j = c.sides_of-sides.result.right in
     let k = base-sides l.atom c.args.n (term_at t.basis.bank.terms i) (term_at t.basis.bank.terms j) c.requires.shape c.sides_of-sides.ensures.equation in
-    let D : Basis → Type 0 = λ x. literal_at x.bank.terms x.lits c.args.lit ≡ minus (eq (base (suc k.0)) (term_at x.bank.terms i) (term_at x.bank.terms j)) in
+    let D : Basis → Type 0 = λ x. bank_literal x.bank.terms x.lits c.args.lit ≡ minus (eq (base (suc k.0)) (term_at x.bank.terms i) (term_at x.bank.terms j)) in
     (k.0, subst D (sym basis) (literal-is l false (eq (base (suc k.0)) (term_at t.basis.bank.terms i) (term_at t.basis.bank.terms j)) c.requires.negative k.2))
 
 pub push_confrontations-requires-clause-number : goal.push_confrontations-requires-clause-number
@@ -72,7 +72,7 @@ push_confrontations-requires-clause-number g c =
     let one = c.add_terms.new.core in
     let two = c.decompose.new.core in
     let basis : one.tables.basis ≡ t.basis = ap (λ (x : Tables). x.basis) c.in_ok-add_terms.ensures.tables in
-    let P : Basis → Type 0 = λ x. IsNumber x.lits c.args.lit in
+    let P : Basis → Type 0 = λ x. IsNumberIn x.lits c.args.lit in
     number-wider one.tables.basis two.tables.basis c.in_ok-add_terms.ensures.right.basis c.in_ok-decompose.ensures.develops.basis c.args.lit (subst P (sym basis) c.requires.number)
 
 pub push_confrontations-requires-clause-equation : goal.push_confrontations-requires-clause-equation
@@ -82,7 +82,7 @@ push_confrontations-requires-clause-equation g c =
     let one = c.add_terms.new.core in
     let two = c.decompose.new.core in
     let basis : one.tables.basis ≡ t.basis = ap (λ (x : Tables). x.basis) c.in_ok-add_terms.ensures.tables in
-    difference-equation t.basis one.tables.basis two.tables.basis c.args.lit c.requires.right.basis c.requires.number basis c.in_ok-decompose.ensures.develops.basis (base-equation (literal_at t.basis.bank.terms t.basis.lits c.args.lit).atom c.args.n c.requires.shape)
+    difference-equation t.basis one.tables.basis two.tables.basis c.args.lit c.requires.right.basis c.requires.number basis c.in_ok-decompose.ensures.develops.basis (base-equation (bank_literal t.basis.bank.terms t.basis.lits c.args.lit).atom c.args.n c.requires.shape)
 
 pub returns-clause-state : goal.returns-clause-state
 returns-clause-state g c =
@@ -92,7 +92,7 @@ returns-clause-state g c =
     let two = c.decompose.new.core in
     let basis : one.tables.basis ≡ t.basis = ap (λ (x : Tables). x.basis) c.in_ok-add_terms.ensures.tables in
     let three = c.push_confrontations.new.self in
-    let l : Literal = literal_at t.basis.bank.terms t.basis.lits c.args.lit in
+    let l : Literal = bank_literal t.basis.bank.terms t.basis.lits c.args.lit in
     let i = c.sides_of-sides.result.left in
     let j = c.sides_of-sides.result.right in
     let x = term_at t.basis.bank.terms i in

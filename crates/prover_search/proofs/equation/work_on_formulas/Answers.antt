@@ -2,7 +2,7 @@ use Rattle.std.proofs.Common.{true, false, ◌∙◌}
 use Rattle.stt_core.specs.SimpleType.{formula}
 use Rattle.stt_core.specs.Lambda.{eq}
 use Rattle.tableau_calculus.specs.Literals.{Literal, plus, minus}
-use Rattle.literal_map.specs.Atoms.{literal_at}
+use Rattle.literal_map.specs.Atoms.{bank_literal}
 use Rattle.prover_state.specs.Internal.Standing.{setting_by, the_state}
 use Rattle.search_spec.specs.Alternatives.{bool_pos, bool_neg}
 use Rattle.prover_search.specs.declared.shape.Shape.TheVariants.{FormulaEquation}
@@ -16,7 +16,7 @@ apply_alone-requires-clause-fits g c =
     let core = c.args.core.now in
     let basis = core.tables.basis in
     let lit = c.args.lit in
-    let l : Literal = literal_at basis.bank.terms basis.lits lit in
+    let l : Literal = bank_literal basis.bank.terms basis.lits lit in
     let k = shaped-as l.atom FormulaEquation c.requires.shape in
     (_, bool_pos-takes basis lit k.0 k.1 (literal-is l true (eq formula k.0 k.1) c.if-lit.true k.2))
 
@@ -25,7 +25,7 @@ returns-then-lit-clause-state g c =
     let core = c.args.core.now in
     let basis = core.tables.basis in
     let lit = c.args.lit in
-    let l : Literal = literal_at basis.bank.terms basis.lits lit in
+    let l : Literal = bank_literal basis.bank.terms basis.lits lit in
     let setting = setting_by core.tables core.plan in
     let s = the_state core.tables core.plan in
     let k = shaped-as l.atom FormulaEquation c.requires.shape in
@@ -37,7 +37,7 @@ apply_alone-requires-2-clause-fits g c =
     let core = c.args.core.now in
     let basis = core.tables.basis in
     let lit = c.args.lit in
-    let l : Literal = literal_at basis.bank.terms basis.lits lit in
+    let l : Literal = bank_literal basis.bank.terms basis.lits lit in
     let k = shaped-as l.atom FormulaEquation c.requires.shape in
     (_, bool_neg-takes basis lit k.0 k.1 (literal-is l false (eq formula k.0 k.1) c.if-lit.false k.2))
 
@@ -46,7 +46,7 @@ returns-clause-state g c =
     let core = c.args.core.now in
     let basis = core.tables.basis in
     let lit = c.args.lit in
-    let l : Literal = literal_at basis.bank.terms basis.lits lit in
+    let l : Literal = bank_literal basis.bank.terms basis.lits lit in
     let setting = setting_by core.tables core.plan in
     let s = the_state core.tables core.plan in
     let k = shaped-as l.atom FormulaEquation c.requires.shape in

@@ -2,7 +2,7 @@ use Rattle.std.proofs.Common.{true, false, ◌∙◌}
 use Rattle.stt_core.specs.SimpleType.{arrow}
 use Rattle.stt_core.specs.Lambda.{eq}
 use Rattle.tableau_calculus.specs.Literals.{Literal, plus, minus}
-use Rattle.literal_map.specs.Atoms.{literal_at}
+use Rattle.literal_map.specs.Atoms.{bank_literal}
 use Rattle.prover_state.specs.Internal.Standing.{setting_by, the_state}
 use Rattle.search_spec.specs.Alternatives.{fun_pos, fun_neg}
 use Rattle.prover_search.specs.declared.shape.Shape.TheVariants.{FunctionEquation}
@@ -16,7 +16,7 @@ apply_alone-requires-clause-fits g c =
     let core = c.args.core.now in
     let basis = core.tables.basis in
     let lit = c.args.lit in
-    let l : Literal = literal_at basis.bank.terms basis.lits lit in
+    let l : Literal = bank_literal basis.bank.terms basis.lits lit in
     let k = shaped-as l.atom FunctionEquation c.requires.shape in
     (_, fun_pos-takes basis lit k.0 k.1 k.2 k.3 (literal-is l true (eq (arrow k.0 k.1) k.2 k.3) c.if-lit.true k.4))
 
@@ -25,7 +25,7 @@ returns-then-lit-clause-state g c =
     let core = c.args.core.now in
     let basis = core.tables.basis in
     let lit = c.args.lit in
-    let l : Literal = literal_at basis.bank.terms basis.lits lit in
+    let l : Literal = bank_literal basis.bank.terms basis.lits lit in
     let setting = setting_by core.tables core.plan in
     let s = the_state core.tables core.plan in
     let k = shaped-as l.atom FunctionEquation c.requires.shape in
@@ -37,7 +37,7 @@ apply_alone-requires-2-clause-fits g c =
     let core = c.args.core.now in
     let basis = core.tables.basis in
     let lit = c.args.lit in
-    let l : Literal = literal_at basis.bank.terms basis.lits lit in
+    let l : Literal = bank_literal basis.bank.terms basis.lits lit in
     let k = shaped-as l.atom FunctionEquation c.requires.shape in
     (_, fun_neg-takes basis lit k.0 k.1 k.2 k.3 (literal-is l false (eq (arrow k.0 k.1) k.2 k.3) c.if-lit.false k.4))
 
@@ -46,7 +46,7 @@ returns-clause-state g c =
     let core = c.args.core.now in
     let basis = core.tables.basis in
     let lit = c.args.lit in
-    let l : Literal = literal_at basis.bank.terms basis.lits lit in
+    let l : Literal = bank_literal basis.bank.terms basis.lits lit in
     let setting = setting_by core.tables core.plan in
     let s = the_state core.tables core.plan in
     let k = shaped-as l.atom FunctionEquation c.requires.shape in

@@ -3,9 +3,9 @@ use Rattle.std.proofs.lemmas.Bool.{not-true, not-false}
 use Rattle.stt_core.specs.SimpleType.{base}
 use Rattle.stt_core.specs.Lambda.{eq}
 use Rattle.tableau_calculus.specs.Literals.{Literal, plus}
-use Rattle.literal_map.specs.Atoms.{literal_at}
+use Rattle.literal_map.specs.Atoms.{bank_literal}
 use Rattle.search_spec.specs.Partners.{confrontations}
-use Rattle.search_spec.specs.State.{pushed}
+use Rattle.search_spec.specs.State.{with_commands}
 use Rattle.prover_state.specs.declared.tables.Tables.{Tables}
 use Rattle.prover_state.specs.Delays.{the_mode}
 use Rattle.prover_state.specs.Internal.Pending.{equation_type}
@@ -20,20 +20,20 @@ pub work_on_difference-requires-clause-negative : goal.work_on_difference-requir
 work_on_difference-requires-clause-negative g c = not-true c.args.lit.positive c.if-not-lit.true
 
 pub push_confrontations-requires-clause-equation : goal.push_confrontations-requires-clause-equation
-push_confrontations-requires-clause-equation g c = let basis = c.args.core.now.tables.basis in base-equation (literal_at basis.bank.terms basis.lits c.args.lit).atom c.args.n c.requires.shape
+push_confrontations-requires-clause-equation g c = let basis = c.args.core.now.tables.basis in base-equation (bank_literal basis.bank.terms basis.lits c.args.lit).atom c.args.n c.requires.shape
 
 pub returns-clause-state : goal.returns-clause-state
 returns-clause-state g c =
     let core = c.args.core.now in
     let basis = core.tables.basis in
     let new = c.push_confrontations.new.self in
-    let l : Literal = literal_at basis.bank.terms basis.lits c.args.lit in
+    let l : Literal = bank_literal basis.bank.terms basis.lits c.args.lit in
     let s = the_state core.tables core.plan in
     let mode = the_mode core.plan.rule.mode in
     let k = shaped-as l.atom (BaseEquation c.args.n) c.requires.shape in
     let e = literal-is l true (eq (base (suc k.0)) k.1 k.2) (not-false c.args.lit.positive c.if-not-lit.false) k.4 in
     worked-as (setting_by core.tables core.plan) s l (plus (eq (base (suc k.0)) k.1 k.2)) (the_state new.tables new.plan) e
-    (c.in_ok-push_confrontations.ensures.state ∙ ap (λ (m : Literal). pushed mode (confrontations (equation_type m.atom) m s.noted) s) e)
+    (c.in_ok-push_confrontations.ensures.state ∙ ap (λ (m : Literal). with_commands mode (confrontations (equation_type m.atom) m s.noted) s) e)
 
 pub returns-clause-develops : goal.returns-clause-develops
 returns-clause-develops g c =

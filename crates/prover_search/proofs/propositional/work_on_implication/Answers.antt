@@ -1,7 +1,7 @@
 use Rattle.std.proofs.Common.{true, false, refl, ◌∙◌}
 use Rattle.stt_core.specs.Lambda.{imp}
 use Rattle.tableau_calculus.specs.Literals.{Literal, plus, minus}
-use Rattle.literal_map.specs.Atoms.{literal_at}
+use Rattle.literal_map.specs.Atoms.{bank_literal}
 use Rattle.prover_state.specs.Internal.Standing.{setting_by, the_state}
 use Rattle.search_spec.specs.Alternatives.{imp_pos, imp_neg}
 use Rattle.prover_search.specs.declared.shape.Shape.TheVariants.{Implication}
@@ -15,7 +15,7 @@ apply_alone-requires-clause-fits g c =
     let core = c.args.core.now in
     let basis = core.tables.basis in
     let lit = c.args.lit in
-    let l : Literal = literal_at basis.bank.terms basis.lits lit in
+    let l : Literal = bank_literal basis.bank.terms basis.lits lit in
     let k = shaped-as l.atom Implication c.requires.shape in
     (_, imp_pos-takes basis lit k.0 k.1 (literal-is l true (imp k.0 k.1) c.if-lit.true k.2))
 
@@ -24,7 +24,7 @@ returns-then-lit-clause-state g c =
     let core = c.args.core.now in
     let basis = core.tables.basis in
     let lit = c.args.lit in
-    let l : Literal = literal_at basis.bank.terms basis.lits lit in
+    let l : Literal = bank_literal basis.bank.terms basis.lits lit in
     let setting = setting_by core.tables core.plan in
     let s = the_state core.tables core.plan in
     let k = shaped-as l.atom Implication c.requires.shape in
@@ -36,7 +36,7 @@ apply_alone-requires-2-clause-fits g c =
     let core = c.args.core.now in
     let basis = core.tables.basis in
     let lit = c.args.lit in
-    let l : Literal = literal_at basis.bank.terms basis.lits lit in
+    let l : Literal = bank_literal basis.bank.terms basis.lits lit in
     let k = shaped-as l.atom Implication c.requires.shape in
     (_, imp_neg-takes basis lit k.0 k.1 (literal-is l false (imp k.0 k.1) c.if-lit.false k.2))
 
@@ -45,7 +45,7 @@ returns-clause-state g c =
     let core = c.args.core.now in
     let basis = core.tables.basis in
     let lit = c.args.lit in
-    let l : Literal = literal_at basis.bank.terms basis.lits lit in
+    let l : Literal = bank_literal basis.bank.terms basis.lits lit in
     let setting = setting_by core.tables core.plan in
     let s = the_state core.tables core.plan in
     let k = shaped-as l.atom Implication c.requires.shape in

@@ -2,7 +2,7 @@ use Rattle.std.proofs.Common.{false, ap}
 use Rattle.std.proofs.lemmas.Bool.{not-true, not-false}
 use Rattle.stt_core.specs.Lambda.{every}
 use Rattle.tableau_calculus.specs.Literals.{Literal, minus}
-use Rattle.literal_map.specs.Atoms.{literal_at}
+use Rattle.literal_map.specs.Atoms.{bank_literal}
 use Rattle.prover_state.specs.declared.tables.Tables.{Tables}
 use Rattle.prover_state.specs.Internal.Standing.{setting_by, the_state}
 use Rattle.prover_search.specs.declared.shape.Shape.TheVariants.{Quantified}
@@ -15,7 +15,7 @@ add_witness-requires-clause-denies g c =
     let core = c.args.core.now in
     let basis = core.tables.basis in
     let lit = c.args.lit in
-    let l : Literal = literal_at basis.bank.terms basis.lits lit in
+    let l : Literal = bank_literal basis.bank.terms basis.lits lit in
     let k = shaped-as l.atom Quantified c.requires.shape in
     (k.0, (k.1, literal-is l false (every k.0 k.1) (not-true c.args.lit.positive c.if-not-lit.true) k.2))
 
@@ -24,7 +24,7 @@ returns-then-not-lit-clause-state g c =
     let core = c.args.core.now in
     let basis = core.tables.basis in
     let lit = c.args.lit in
-    let l : Literal = literal_at basis.bank.terms basis.lits lit in
+    let l : Literal = bank_literal basis.bank.terms basis.lits lit in
     let setting = setting_by core.tables core.plan in
     let s = the_state core.tables core.plan in
     let new = c.add_witness.new.core in

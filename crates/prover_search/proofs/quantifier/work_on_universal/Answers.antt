@@ -5,8 +5,8 @@ use Rattle.stt_core.specs.View.{the_type}
 use Rattle.stt_core.specs.Canonical.{IsCanonical}
 use Rattle.tableau_calculus.specs.Literals.{Literal}
 use Rattle.tableau_calculus.proofs.FunctionLaws.{every_canonical}
-use Rattle.literal_map.specs.Atoms.{literal_at}
-use Rattle.search_spec.specs.Terms.{prepared}
+use Rattle.literal_map.specs.Atoms.{bank_literal}
+use Rattle.search_spec.specs.Terms.{with_preparation}
 use Rattle.prover_state.specs.declared.tables.Tables.{Tables}
 use Rattle.prover_state.specs.Internal.Pending.{range_of}
 use Rattle.prover_state.specs.Internal.Standing.{scope_by, setting_by, the_state}
@@ -21,7 +21,7 @@ use Rattle.prover_search.proofs.quantifier.work_on_universal.Goals as goal
 pub prepare-requires-clause-declared : goal.prepare-requires-clause-declared
 prepare-requires-clause-declared g c =
     let basis = c.args.core.now.tables.basis in
-    let l : Literal = literal_at basis.bank.terms basis.lits c.args.lit in
+    let l : Literal = bank_literal basis.bank.terms basis.lits c.args.lit in
     let k = shaped-as l.atom Quantified c.requires.shape in
     let C : Lambda → Type 0 = λ x. IsCanonical (scope_by basis) [] formula x in
     let D : SimpleType → Type 0 = λ a. is_declared (scope_by basis).bases a ≡ true in
@@ -33,7 +33,7 @@ push_instances-requires-clause-number g c =
     let t = core.tables in
     let u = c.prepare.new.core.tables in
     let lit = c.args.lit in
-    let l : Literal = literal_at t.basis.bank.terms t.basis.lits lit in
+    let l : Literal = bank_literal t.basis.bank.terms t.basis.lits lit in
     let k = shaped-as l.atom Quantified c.requires.shape in
     let wider = grows-wider t.basis u.basis c.in_ok-prepare.ensures.basis in
     number-wider t.basis u.basis c.requires.right.basis wider lit c.requires.number
@@ -44,7 +44,7 @@ push_instances-requires-clause-quantified g c =
     let t = core.tables in
     let u = c.prepare.new.core.tables in
     let lit = c.args.lit in
-    let l : Literal = literal_at t.basis.bank.terms t.basis.lits lit in
+    let l : Literal = bank_literal t.basis.bank.terms t.basis.lits lit in
     let k = shaped-as l.atom Quantified c.requires.shape in
     let wider = grows-wider t.basis u.basis c.in_ok-prepare.ensures.basis in
     record { type = k.0; predicate = k.1; is = ap (λ (x : Literal). x.atom) (literal-wider t.basis u.basis c.requires.right.basis wider lit c.requires.number) ∙ k.2 }
@@ -55,7 +55,7 @@ returns-clause-state g c =
     let t = core.tables in
     let u = c.prepare.new.core.tables in
     let lit = c.args.lit in
-    let l : Literal = literal_at t.basis.bank.terms t.basis.lits lit in
+    let l : Literal = bank_literal t.basis.bank.terms t.basis.lits lit in
     let k = shaped-as l.atom Quantified c.requires.shape in
     let wider = grows-wider t.basis u.basis c.in_ok-prepare.ensures.basis in
     let one = c.prepare.new.core in
@@ -63,7 +63,7 @@ returns-clause-state g c =
     let a : the_type c.in_ok-ty.ty ≡ k.0 = c.in_ok-ty.ensures ∙ ap range_of k.2 in
     universal-is t one.tables two.tables two.tables core.plan one.plan two.plan two.plan lit c.requires.right.basis c.requires.number wider c.in_ok-prepare.ensures.rule k.0 k.1
     (literal-is l true (every k.0 k.1) c.requires.positive k.2)
-    (c.in_ok-prepare.ensures.state ∙ ap (λ (x : SimpleType). prepared (setting_by t core.plan) x (the_state t core.plan)) a)
+    (c.in_ok-prepare.ensures.state ∙ ap (λ (x : SimpleType). with_preparation (setting_by t core.plan) x (the_state t core.plan)) a)
     c.in_ok-push_instances.ensures.state
 
 pub returns-clause-develops : goal.returns-clause-develops
@@ -72,7 +72,7 @@ returns-clause-develops g c =
     let t = core.tables in
     let u = c.prepare.new.core.tables in
     let lit = c.args.lit in
-    let l : Literal = literal_at t.basis.bank.terms t.basis.lits lit in
+    let l : Literal = bank_literal t.basis.bank.terms t.basis.lits lit in
     let k = shaped-as l.atom Quantified c.requires.shape in
     let wider = grows-wider t.basis u.basis c.in_ok-prepare.ensures.basis in
     let v = c.push_instances.new.self.tables in

@@ -8,15 +8,15 @@ use Rattle.stt_core.specs.TypedProblem.{IsFormula, AreFormulas, IsFormulaIfThere
 use Rattle.tableau_calculus.specs.Literals.{Literal, opposite}
 use Rattle.tableau_calculus.specs.Start.{added, without_repeats, normal_literal, start}
 use Rattle.tableau_calculus.proofs.StartLaws.{start-assumed, start-denied}
-use Rattle.literal_map.specs.Atoms.{literal_at}
-use Rattle.prover_state.specs.Internal.Standing.{declared_scope}
+use Rattle.literal_map.specs.Atoms.{bank_literal}
+use Rattle.prover_state.specs.Internal.Standing.{without_witnesses}
 use Rattle.prover_search.specs.Internal.Starting.{IsStarting}
 use Rattle.prover_search.proofs.StartingLaws.{starting-grown, starting-literal, scope-now}
 use Rattle.prover_search.proofs.start.start_all.Goals as goal
 
 pub start_assumed-requires-clause-typed : goal.start_assumed-requires-clause-typed
 start_assumed-requires-clause-typed g c =
-    let scope = declared_scope c.args.core.now.tables.basis.bank in
+    let scope = without_witnesses c.args.core.now.tables.basis.bank in
     let F : Scope → Type 0 = λ x. AreFormulas x c.args.problem.now.assumed in
     let P : PlainProblem → Type 0 = λ p. AreFormulas scope p.assumed in
     subst P (sym c.problem.view_is) (subst F (sym c.requires.declared) c.requires.typed.assumed)
@@ -40,7 +40,7 @@ pub number_of-requires-clause-formula : goal.number_of-requires-clause-formula
 number_of-requires-clause-formula g c =
     let core = c.args.core.now in
     let new = c.start_assumed.new.core in
-    let scope = declared_scope core.tables.basis.bank in
+    let scope = without_witnesses core.tables.basis.bank in
     let t = the_term c.in-Some.conjecture in
     let D : Scope → Type 0 = λ x. IsFormulaIfThere x c.args.problem.now.conjecture in
     let P : PlainProblem → Type 0 = λ p. IsFormulaIfThere scope p.conjecture in
@@ -63,14 +63,14 @@ returns-in_ok-start_with-in-Some g c =
     let i = c.problem.inside in
     let p : PlainProblem = record { declared = record { bases = i.signature.bases; consts = i.signature.consts }; assumed = i.assumed; marked = i.marked; conjecture = option_map the_term i.conjecture } in
     let t = the_term c.in-Some.conjecture in
-    let scope = declared_scope core.tables.basis.bank in
+    let scope = without_witnesses core.tables.basis.bank in
     let before = without_repeats (map (normal_literal scope) i.assumed) in
     let denied = opposite (normal_literal scope t) in
     let basis = c.number_of.new.basis in
     let S : List Literal → Type 0 = λ ls. IsStarting core.tables core.plan new.tables new.plan ls in
     let same = c.requires.declared ∙ sym (ap (λ (x : PlainProblem). scope_of x.declared) c.problem.view_is) in
     let now = ap (λ x. normal_literal x t) (scope-now core.tables core.plan mid.tables mid.plan before c.in_ok-start_assumed.ensures c.requires.unwitnessed) in
-    let named = ap (literal_at basis.bank.terms basis.lits) c.negated.ensures ∙ ap opposite (c.in_ok-lit-in-Some.ensures.literal ∙ now) in
+    let named = ap (bank_literal basis.bank.terms basis.lits) c.negated.ensures ∙ ap opposite (c.in_ok-lit-in-Some.ensures.literal ∙ now) in
     subst S
     (start-denied p t denied before (added before (denied ∷ [])) (ap (option_map the_term) c.in-Some.is) (ap (λ x. opposite (normal_literal x t)) same) (ap (λ x. without_repeats (map (normal_literal x) i.assumed)) same) refl
     ∙ ap start c.problem.view_is)

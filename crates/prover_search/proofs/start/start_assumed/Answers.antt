@@ -6,7 +6,7 @@ use Rattle.stt_core.specs.TypedProblem.{IsFormula}
 use Rattle.tableau_calculus.specs.Literals.{Literal}
 use Rattle.tableau_calculus.specs.Start.{added, without_repeats, normal_literal}
 use Rattle.tableau_calculus.proofs.StartLaws.{formula_at, added-more}
-use Rattle.prover_state.specs.Internal.Standing.{declared_scope}
+use Rattle.prover_state.specs.Internal.Standing.{without_witnesses}
 use Rattle.prover_search.specs.Internal.Starting.{IsStarting}
 use Rattle.prover_search.proofs.StartingLaws.{starting-none, starting-grown, starting-literal, scope-now}
 use Rattle.prover_search.proofs.start.start_assumed.Goals as goal
@@ -23,7 +23,7 @@ number_of-requires-clause-formula g c =
     let now = c.loop-i.core in
     let F : Scope → Type 0 = λ x. IsFormula x (the_term c.at.result.now) in
     subst F (sym (scope-now core.tables core.plan now.tables now.plan _ c.loop-i.invariant c.requires.unwitnessed))
-    (formula_at (declared_scope core.tables.basis.bank) c.args.assumed.now c.loop-i.i (the_term c.at.result.now) c.at.ensures c.requires.typed)
+    (formula_at (without_witnesses core.tables.basis.bank) c.args.assumed.now c.loop-i.i (the_term c.at.result.now) c.at.ensures c.requires.typed)
 
 pub start_with-requires-clause-right : goal.start_with-requires-clause-right
 start_with-requires-clause-right g c =
@@ -36,7 +36,7 @@ loop-i-preserved g c =
     let core = c.args.core.now in
     let now = c.loop-i.core in
     let new = c.start_with.new.core in
-    let f : Lambda → Literal = normal_literal (declared_scope core.tables.basis.bank) in
+    let f : Lambda → Literal = normal_literal (without_witnesses core.tables.basis.bank) in
     let t = the_term c.at.result.now in
     let before = without_repeats (map f (take c.loop-i.i c.args.assumed.now)) in
     let S : List Literal → Type 0 = λ ls. IsStarting core.tables core.plan new.tables new.plan ls in
@@ -50,5 +50,5 @@ pub returns : goal.returns
 returns g c =
     let core = c.args.core.now in
     let now = c.loop-i.core in
-    let S : List Lambda → Type 0 = λ ts. IsStarting core.tables core.plan now.tables now.plan (without_repeats (map (normal_literal (declared_scope core.tables.basis.bank)) ts)) in
+    let S : List Lambda → Type 0 = λ ts. IsStarting core.tables core.plan now.tables now.plan (without_repeats (map (normal_literal (without_witnesses core.tables.basis.bank)) ts)) in
     subst S (take_all c.loop-i.i c.args.assumed.now (omega (arith, c.loop-i-test.false))) c.loop-i.invariant

@@ -1,6 +1,6 @@
 use Rattle.std.proofs.Common.{refl, sym, ap, ◌∙◌}
 use Rattle.tableau_calculus.specs.Literals.{Literal}
-use Rattle.literal_map.specs.Atoms.{literal_at}
+use Rattle.literal_map.specs.Atoms.{bank_literal}
 use Rattle.prover_state.specs.Internal.Standing.{setting_by, the_state}
 use Rattle.search_spec.specs.Spine.{is_spine}
 use Rattle.prover_state.specs.declared.tables.Tables.{Tables}
@@ -15,7 +15,7 @@ returns-then-not-is_spine-clause-state g c =
     let core = c.args.core.now in
     let basis = core.tables.basis in
     let lit = c.args.lit in
-    let l : Literal = literal_at basis.bank.terms basis.lits lit in
+    let l : Literal = bank_literal basis.bank.terms basis.lits lit in
     let setting = setting_by core.tables core.plan in
     let s = the_state core.tables core.plan in
     mated-not setting s l (sym (c.is_spine.ensures ∙ ap is_spine c.atom_of-atom.ensures.atom) ∙ c.if-not-is_spine.true)
@@ -34,7 +34,7 @@ returns-clause-state g c =
     let core = c.args.core.now in
     let basis = core.tables.basis in
     let lit = c.args.lit in
-    let l : Literal = literal_at basis.bank.terms basis.lits lit in
+    let l : Literal = bank_literal basis.bank.terms basis.lits lit in
     let setting = setting_by core.tables core.plan in
     let s = the_state core.tables core.plan in
     c.in_ok-push_matings.ensures.state

@@ -5,7 +5,7 @@ use Rattle.search_spec.specs.Selections.{Selection}
 use Rattle.term_bank.specs.Terms.{term_at, shape_term, IsBelow}
 use Rattle.term_bank.specs.NodeView.{the_shape}
 use Rattle.term_bank.specs.declared.node.Node.{Node}
-use Rattle.prover_state.specs.Internal.Selecting.{IsSelected}
+use Rattle.prover_state.specs.Internal.Selecting.{IsSelectedIn}
 use Rattle.prover_state.proofs.EachLaws.{each-at, each-from_All}
 use Rattle.prover_state.proofs.SelectingLaws.{head-app, open-none}
 use Rattle.prover_state.proofs.selected.selection_of.Goals as goal
@@ -27,6 +27,6 @@ returns-else-not-is_closed c =
     let e = c.node.ensures.term ∙ ap (λ n. shape_term ts (the_shape n)) c.in-App.is in
     let below = subst (λ (n : Node). IsBelow c.args.id (the_shape n)) c.in-App.is c.node.ensures.below in
     let smaller = each-at (λ i. i < c.args.id) is 0 c.at-f.result (each-from_All (λ i. i < c.args.id) is below) c.at-f.ensures in
-    let S : List Selection → Type 0 = λ ps. IsSelected ts ps c.selected_by.result in
+    let S : List Selection → Type 0 = λ ps. IsSelectedIn ts ps c.selected_by.result in
     subst S (sym (head-app ts c.in-App.head is (term_at ts c.args.id) e c.at-f.result c.at-f.ensures))
     (c.selected_by.ensures ts (omega (arith, smaller, c.requires)) (is_closed-of (term_at ts c.at-f.result) (c.is_closed.ensures.0 c.if-not-is_closed.false)))

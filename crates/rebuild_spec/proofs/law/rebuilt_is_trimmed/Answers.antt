@@ -7,7 +7,7 @@ use Rattle.std.proofs.lemmas.Option.{slice_get-map}
 use Rattle.rebuild_spec.specs.Stands.{line, instance_line}
 use Rattle.rebuild_spec.specs.Trees.{at_result}
 use Rattle.tableau_calculus.proofs.ListLaws.{contains_cases, contains-get}
-use Rattle.rebuild_spec.specs.Lines.{walked, number_in, line_of, lines_from}
+use Rattle.rebuild_spec.specs.Lines.{walked, line_number_in, line_of, lines_from}
 use Rattle.rebuild_spec.specs.Trimmed.{IsEachReached, IsFromSearch}
 use Rattle.rebuild_spec.proofs.StandsLaws.{IsMade, one_made, lines_made}
 use Rattle.rebuild_spec.proofs.ReachedLaws.{IsReachedLine, lines_reached, all_reached, walked_all}
@@ -45,9 +45,9 @@ returns-clause-used c = λ scope start input refutation given is n clause i used
     let whole : IsIn input Reached (at_result is.number) = record { clause = []; standing = line is.last; stands = is.stands; all = lines_reached Is one input.atoms is.last made } in
     let reached = used_line input Reached is.number is.is_last whole n clause i used there in
     let t = instance_line n clause i in
-    let at = slice_get-map (line_of input.atoms trees) trees (number_in trees t) ∙ ap (option_map (line_of input.atoms trees)) reached.listed in
+    let at = slice_get-map (line_of input.atoms trees) trees (line_number_in trees t) ∙ ap (option_map (line_of input.atoms trees)) reached.listed in
     record {
       line = line_of input.atoms trees t;
-      there = subst (λ k. Contains k (line_of input.atoms trees t)) (sym is.lines) (contains-get (lines_from input.atoms is.last) (number_in trees t) (line_of input.atoms trees t) at);
+      there = subst (λ k. Contains k (line_of input.atoms trees t)) (sym is.lines) (contains-get (lines_from input.atoms is.last) (line_number_in trees t) (line_of input.atoms trees t) at);
       branch = refl;
     }

@@ -4,9 +4,9 @@ use Rattle.tableau_calculus.specs.Literals.{Literal}
 use Rattle.tableau_calculus.specs.Accepted.{FirstFailure}
 use Rattle.refute_print.specs.TextView.{the_text}
 use Rattle.refute_check.specs.Numbered.{numbered_refutation}
-use Rattle.refute_check.specs.Internal.Branches.{Represents, AreNumbered}
+use Rattle.refute_check.specs.Internal.Branches.{Represents, AreNumberedBranch}
 use Rattle.refute_check.specs.Internal.Lines.{AreRightIn}
-use Rattle.refute_check.specs.Internal.Shared.{declared_in, the_atoms}
+use Rattle.refute_check.specs.Internal.Shared.{declared_in, shared_atoms}
 use Rattle.refute_check.proofs.BranchLaws.{grow-more, represents-grow}
 use Rattle.refute_check.proofs.CheckLaws.{at_place, if_place, if_ok}
 use Rattle.refute_check.proofs.check.check_from.Goals as goal
@@ -15,7 +15,7 @@ pub returns-in_err-check_rows-clause-refused : goal.returns-in_err-check_rows-cl
 returns-in_err-check_rows-clause-refused c =
     let s = c.args.shared.now in
     let r = numbered_refutation c.args.numbering.now (the_text c.args.text.now) in
-    let refused = at_place c.in_err-check_rows.field-0.0 _ (λ place why. (ls : List Literal) → Represents (the_atoms s) ls c.args.start.now → AreNumbered (the_atoms s) ls → FirstFailure (declared_in s) ls r place why)
+    let refused = at_place c.in_err-check_rows.field-0.0 _ (λ place why. (ls : List Literal) → Represents (shared_atoms s) ls c.args.start.now → AreNumberedBranch (shared_atoms s) ls → FirstFailure (declared_in s) ls r place why)
     (λ place why h ls _ _. h ls) c.in_err-check_rows.ensures.refused in
     search (rules, refused)
 
@@ -23,7 +23,7 @@ pub returns-in_err-lines-clause-refused : goal.returns-in_err-lines-clause-refus
 returns-in_err-lines-clause-refused c =
     let s = c.args.shared.now in
     let r = numbered_refutation c.args.numbering.now (the_text c.args.text.now) in
-    let refused = at_place c.in_err-lines.field-0.0 _ (λ place why. (ls : List Literal) → Represents (the_atoms s) ls c.args.start.now → AreNumbered (the_atoms s) ls → FirstFailure (declared_in s) ls r place why)
+    let refused = at_place c.in_err-lines.field-0.0 _ (λ place why. (ls : List Literal) → Represents (shared_atoms s) ls c.args.start.now → AreNumberedBranch (shared_atoms s) ls → FirstFailure (declared_in s) ls r place why)
     (λ place why h ls _ _. subst (λ (x : Scope). FirstFailure x ls r place why) c.in_ok-check_rows.ensures.declared (h ls)) c.in_err-lines.ensures.refused in
     search (rules, refused)
 
@@ -37,7 +37,7 @@ returns-clause-accepted c =
     (λ h ls represents numbered. record {
       table = c.in_ok-check_rows.ensures.table;
       lines = subst (λ (x : Scope). AreRightIn x r) c.in_ok-check_rows.ensures.declared c.in_ok-lines.ensures.right;
-      last = h (the_atoms new) ls c.in_ok-lines.ensures.branches (represents-grow (the_atoms s) (the_atoms new) ls c.args.start.now (grow-more (the_atoms s) (the_atoms now) (the_atoms new) c.in_ok-check_rows.ensures.atoms c.in_ok-lines.ensures.atoms) numbered represents);
+      last = h (shared_atoms new) ls c.in_ok-lines.ensures.branches (represents-grow (shared_atoms s) (shared_atoms new) ls c.args.start.now (grow-more (shared_atoms s) (shared_atoms now) (shared_atoms new) c.in_ok-check_rows.ensures.atoms c.in_ok-lines.ensures.atoms) numbered represents);
     })
     c.check_last.ensures.last
 
@@ -47,8 +47,8 @@ returns-clause-refused c =
     let now = c.check_rows.new.shared in
     let new = c.check_lines.new.shared in
     let r = numbered_refutation c.args.numbering.now (the_text c.args.text.now) in
-    if_place c.check_last.result _ (λ place why. (ls : List Literal) → Represents (the_atoms s) ls c.args.start.now → AreNumbered (the_atoms s) ls → FirstFailure (declared_in s) ls r place why)
+    if_place c.check_last.result _ (λ place why. (ls : List Literal) → Represents (shared_atoms s) ls c.args.start.now → AreNumberedBranch (shared_atoms s) ls → FirstFailure (declared_in s) ls r place why)
     (λ place why h ls represents numbered.
-    h (the_atoms new) ls c.in_ok-lines.ensures.branches (represents-grow (the_atoms s) (the_atoms new) ls c.args.start.now (grow-more (the_atoms s) (the_atoms now) (the_atoms new) c.in_ok-check_rows.ensures.atoms c.in_ok-lines.ensures.atoms) numbered represents)
+    h (shared_atoms new) ls c.in_ok-lines.ensures.branches (represents-grow (shared_atoms s) (shared_atoms new) ls c.args.start.now (grow-more (shared_atoms s) (shared_atoms now) (shared_atoms new) c.in_ok-check_rows.ensures.atoms c.in_ok-lines.ensures.atoms) numbered represents)
     (declared_in s) c.in_ok-check_rows.ensures.table (subst (λ (x : Scope). AreRightIn x r) c.in_ok-check_rows.ensures.declared c.in_ok-lines.ensures.right))
     c.check_last.ensures.refused

@@ -7,7 +7,7 @@ use Rattle.tableau_calculus.proofs.FailureLaws.{line_refused, lines-more}
 use Rattle.refute_print.specs.TextView.{the_line, the_text}
 use Rattle.refute_check.specs.Numbered.{numbered_row, numbered_line, numbered_refutation}
 use Rattle.refute_check.specs.Internal.Branches.{AreBranches}
-use Rattle.refute_check.specs.Internal.Shared.{declared_in, the_atoms}
+use Rattle.refute_check.specs.Internal.Shared.{declared_in, shared_atoms}
 use Rattle.refute_check.proofs.BranchLaws.{grow-itself, grow-more}
 use Rattle.refute_check.proofs.SharedLaws.{extends_declared, extends_rows, extends_atoms}
 use Rattle.refute_check.proofs.CheckLaws.{answer_over}
@@ -16,7 +16,7 @@ use Rattle.refute_check.proofs.check.check_lines.Goals as goal
 pub loop-i-init : goal.loop-i-init
 loop-i-init c =
     let s = c.args.shared.now in
-    (c.requires.good, c.requires.rows, refl, grow-itself (the_atoms s), c.new-lines.ensures (the_atoms s), tt, c.new-seen.ensures c.args.numbering.now s)
+    (c.requires.good, c.requires.rows, refl, grow-itself (shared_atoms s), c.new-lines.ensures (shared_atoms s), tt, c.new-seen.ensures c.args.numbering.now s)
 
 pub add-requires : goal.add-requires
 add-requires c = record { good = c.loop-i.invariant.0; seen = c.loop-i.invariant.6 }
@@ -53,8 +53,8 @@ loop-i-preserved c =
       c.in_ok-why.ensures.good c.in_default.is,
       extends_rows now new e c.loop-i.invariant.0 ∙ c.loop-i.invariant.1,
       extends_declared now new e ∙ c.loop-i.invariant.2,
-      grow-more (the_atoms old) (the_atoms now) (the_atoms new) c.loop-i.invariant.3 (extends_atoms now new e c.loop-i.invariant.0),
-      subst (λ ls. AreBranches (the_atoms new) ls c.add.new.self.branches.items) (sym (take_got lines i line at)) (c.in_ok-why.ensures.added c.in_default.is (take i lines) c.loop-i.invariant.4),
+      grow-more (shared_atoms old) (shared_atoms now) (shared_atoms new) c.loop-i.invariant.3 (extends_atoms now new e c.loop-i.invariant.0),
+      subst (λ ls. AreBranches (shared_atoms new) ls c.add.new.self.branches.items) (sym (take_got lines i line at)) (c.in_ok-why.ensures.added c.in_default.is (take i lines) c.loop-i.invariant.4),
       lines-more (with_rows scope rows) rows lines i line at c.loop-i.invariant.5 (subst (LineAnswer (with_rows scope rows) rows (take i lines) line) c.in_default.is answer),
       c.in_ok-why.ensures.seen c.in_default.is,
     )

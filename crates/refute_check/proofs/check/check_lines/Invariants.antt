@@ -4,7 +4,7 @@ use Rattle.tableau_calculus.specs.Accepted.{AreRightLines}
 use Rattle.refute_print.specs.TextView.{the_line}
 use Rattle.refute_check.specs.Numbered.{numbered_row, numbered_line}
 use Rattle.refute_check.specs.Internal.Branches.{Grow, AreBranches}
-use Rattle.refute_check.specs.Internal.Shared.{declared_in, the_atoms, the_rows, IsGood}
+use Rattle.refute_check.specs.Internal.Shared.{declared_in, shared_atoms, the_rows, IsGoodShared}
 use Rattle.refute_check.specs.Internal.Seen.{IsSeen}
 use Rattle.refute_check.proofs.check.check_lines.Given as goal
 
@@ -12,7 +12,7 @@ abbrev pub invariant-loop-i : goal.invariant-loop-i
 invariant-loop-i l =
     let rows = map (numbered_row l.numbering) l.text.witnesses in
     let lines = take l.i (map (numbered_line l.numbering) (map the_line l.text.lines)) in
-    IsGood l.shared × (the_rows l.shared ≡ rows) × (declared_in l.shared ≡ declared_in l.fn.shared) × Grow (the_atoms l.fn.shared) (the_atoms l.shared)
-    × AreBranches (the_atoms l.shared) lines l.lines.branches.items
+    IsGoodShared l.shared × (the_rows l.shared ≡ rows) × (declared_in l.shared ≡ declared_in l.fn.shared) × Grow (shared_atoms l.fn.shared) (shared_atoms l.shared)
+    × AreBranches (shared_atoms l.shared) lines l.lines.branches.items
     × AreRightLines (with_rows (declared_in l.fn.shared) rows) rows [] lines
     × IsSeen l.numbering l.shared l.seen

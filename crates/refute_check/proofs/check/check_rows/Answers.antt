@@ -4,12 +4,12 @@ use Rattle.tableau_calculus.specs.Internal.Answers.{RowAnswer}
 use Rattle.tableau_calculus.proofs.FailureLaws.{row_refused, table-more}
 use Rattle.refute_print.specs.TextView.{the_text}
 use Rattle.refute_check.specs.Numbered.{numbered_row, numbered_refutation}
-use Rattle.refute_check.specs.Internal.Shared.{declared_in, the_atoms}
+use Rattle.refute_check.specs.Internal.Shared.{declared_in, shared_atoms}
 use Rattle.refute_check.proofs.BranchLaws.{grow-itself, grow-more}
 use Rattle.refute_check.proofs.check.check_rows.Goals as goal
 
 pub loop-i-init : goal.loop-i-init
-loop-i-init c = (c.requires.good, c.requires.none, tt, grow-itself (the_atoms c.args.shared.now), refl)
+loop-i-init c = (c.requires.good, c.requires.none, tt, grow-itself (shared_atoms c.args.shared.now), refl)
 
 pub add_row-requires : goal.add_row-requires
 add_row-requires c = record { good = c.loop-i.invariant.0 }
@@ -39,6 +39,6 @@ loop-i-preserved c =
       c.in_ok-why.ensures.good c.in_default.is,
       c.in_ok-why.ensures.rows c.in_default.is ∙ ap (λ rs. rs ++ row ∷ []) c.loop-i.invariant.1 ∙ sym (take_got rows i row at),
       table-more scope rows i row at c.loop-i.invariant.2 right.0 right.1,
-      grow-more (the_atoms c.args.shared.now) (the_atoms c.loop-i.shared) (the_atoms c.add_row.new.self) c.loop-i.invariant.3 (c.in_ok-why.ensures.atoms c.in_default.is),
+      grow-more (shared_atoms c.args.shared.now) (shared_atoms c.loop-i.shared) (shared_atoms c.add_row.new.self) c.loop-i.invariant.3 (c.in_ok-why.ensures.atoms c.in_default.is),
       c.in_ok-why.ensures.declared c.in_default.is ∙ c.loop-i.invariant.4,
     )

@@ -5,7 +5,7 @@ use Rattle.tableau_calculus.specs.Accepted.{AreChildren}
 use Rattle.tableau_calculus.proofs.ListLaws.{untrue}
 use Rattle.tableau_calculus.proofs.ChildLaws.{children_length, children_at, children-more}
 use Rattle.search_spec.specs.Each.{Each}
-use Rattle.refute_check.specs.Internal.Shared.{the_atoms, literal_in, IsNumber}
+use Rattle.refute_check.specs.Internal.Shared.{shared_atoms, literal_in, IsSharedNumber}
 use Rattle.refute_check.proofs.ChildLaws.{clashes_closed}
 use Rattle.refute_check.proofs.SharedLaws.{each_at}
 use Rattle.refute_check.proofs.children.are_children.Goals as goal
@@ -17,12 +17,12 @@ returns-then-len c = λ lines branch are n r.
 
 pub set_of-requires-clause-numbers : goal.set_of-requires-clause-numbers
 set_of-requires-clause-numbers c =
-    each_at (Each (IsNumber c.args.shared.now)) c.args.alternatives.now c.loop-i.i c.at.result.now c.requires.numbers c.at.ensures
+    each_at (Each (IsSharedNumber c.args.shared.now)) c.args.alternatives.now c.loop-i.i c.at.result.now c.requires.numbers c.at.ensures
 
 pub returns-then-not-closes_by : goal.returns-then-not-closes_by
 returns-then-not-closes_by c = λ lines branch are n r.
     let s = c.args.shared.now in
-    let terms = the_atoms s in
+    let terms = shared_atoms s in
     let as' = map (map (literal_in s)) c.args.alternatives.now in
     let front = map (literal_in s) c.at.result.now in
     let at = mapped_get (map (literal_in s)) c.args.alternatives.now c.loop-i.i c.at.result.now c.at.ensures in
@@ -34,7 +34,7 @@ returns-then-not-closes_by c = λ lines branch are n r.
 pub loop-i-preserved : goal.loop-i-preserved
 loop-i-preserved c = λ lines branch are n r.
     let s = c.args.shared.now in
-    let terms = the_atoms s in
+    let terms = shared_atoms s in
     let as' = map (map (literal_in s)) c.args.alternatives.now in
     let front = map (literal_in s) c.at.result.now in
     let at = mapped_get (map (literal_in s)) c.args.alternatives.now c.loop-i.i c.at.result.now c.at.ensures in

@@ -1,5 +1,5 @@
 use Rattle.std.proofs.Common.{take}
-use Rattle.refute_print.specs.Internal.Pieces.{child_at}
+use Rattle.refute_print.specs.Internal.Pieces.{child_piece}
 use Rattle.outside.specs.Writing.{Took}
 use Rattle.refute_print.proofs.Lists.{all_texts}
 use Rattle.refute_print.proofs.write_line.write_children.Given as goal
@@ -7,4 +7,4 @@ use Rattle.refute_print.proofs.write_line.write_children.Given as goal
 abbrev pub invariant-loop-i : goal.invariant-loop-i
 invariant-loop-i g l =
     let sink = g.S.Sink in
-    Took sink.tells sink.written sink.faults l.fn.sink l.sink (all_texts (λ i x. child_at i x) 0 (take l.i l.children))
+    Took sink.tells sink.written sink.faults l.fn.sink l.sink (all_texts (λ i x. child_piece i x) 0 (take l.i l.children))

@@ -1,6 +1,6 @@
 use Rattle.std.proofs.Common.{◌+◌, ◌*◌, take}
 use Rattle.stt_core.specs.Lambda.{node_count}
-use Rattle.stt_core.specs.Sizes.{counts}
+use Rattle.stt_core.specs.Sizes.{node_counts}
 use Rattle.refute_print.specs.Named.{names_of}
 use Rattle.refute_print.specs.Internal.Pieces.{argument_text}
 use Rattle.outside.specs.Writing.{Took}
@@ -11,10 +11,10 @@ abbrev pub decreases-write_term : goal.decreases-write_term
 decreases-write_term g l = node_count l.nf.now * 4
 
 abbrev pub decreases-write_applied : goal.decreases-write_applied
-decreases-write_applied g l = counts l.args.now * 4 + 3
+decreases-write_applied g l = node_counts l.args.now * 4 + 3
 
 abbrev pub decreases-write_arguments : goal.decreases-write_arguments
-decreases-write_arguments g l = counts l.args.now * 4 + 2
+decreases-write_arguments g l = node_counts l.args.now * 4 + 2
 
 abbrev pub decreases-write_argument : goal.decreases-write_argument
 decreases-write_argument g l = node_count l.arg.now * 4 + 1

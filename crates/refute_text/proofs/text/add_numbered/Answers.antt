@@ -3,13 +3,13 @@ use Rattle.refute_print.specs.Text.{text_lines}
 use Rattle.refute_print.specs.TextView.{the_text}
 use Rattle.refute_text.specs.Internal.LineReader.{line_at}
 use Rattle.refute_text.specs.Reading.{HasText}
-use Rattle.refute_text.specs.Internal.Refusals.{IsRefusal}
+use Rattle.refute_text.specs.Internal.Refusals.{IsReaderRefusal}
 use Rattle.refute_text.proofs.Grows.{line_added, line_refused}
 use Rattle.refute_text.proofs.text.add_numbered.Goals as goal
 
 pub returns-in_err-numbered-clause-refused : goal.returns-in_err-numbered-clause-refused
 returns-in_err-numbered-clause-refused c =
-    let refused = line_refused c.args.text.now c.args.line.now c.in_err-numbered.field-0.0 c.requires.has_text c.requires.no_definition c.requires.no_row (subst (λ n. IsRefusal c.in_err-numbered.field-0.0 (line_at n c.args.line.now)) c.len.ensures c.in_err-numbered.ensures) in
+    let refused = line_refused c.args.text.now c.args.line.now c.in_err-numbered.field-0.0 c.requires.has_text c.requires.no_definition c.requires.no_row (subst (λ n. IsReaderRefusal c.in_err-numbered.field-0.0 (line_at n c.args.line.now)) c.len.ensures c.in_err-numbered.ensures) in
     search (rules, refused)
 
 pub returns-clause-has_text : goal.returns-clause-has_text

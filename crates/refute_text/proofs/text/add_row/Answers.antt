@@ -3,13 +3,13 @@ use Rattle.refute_print.specs.Text.{text_lines}
 use Rattle.refute_print.specs.TextView.{the_text}
 use Rattle.refute_text.specs.Internal.LineReader.{row_at}
 use Rattle.refute_text.specs.Reading.{HasText}
-use Rattle.refute_text.specs.Internal.Refusals.{IsRefusal}
+use Rattle.refute_text.specs.Internal.Refusals.{IsReaderRefusal}
 use Rattle.refute_text.proofs.Grows.{row_added, row_refused}
 use Rattle.refute_text.proofs.text.add_row.Goals as goal
 
 pub returns-in_err-row-clause-refused : goal.returns-in_err-row-clause-refused
 returns-in_err-row-clause-refused c =
-    let refused = row_refused c.args.text.now c.args.line.now c.in_err-row.field-0.0 c.requires.has_text c.requires.row (subst (λ n. IsRefusal c.in_err-row.field-0.0 (row_at n c.args.line.now)) c.len.ensures c.in_err-row.ensures) in
+    let refused = row_refused c.args.text.now c.args.line.now c.in_err-row.field-0.0 c.requires.has_text c.requires.row (subst (λ n. IsReaderRefusal c.in_err-row.field-0.0 (row_at n c.args.line.now)) c.len.ensures c.in_err-row.ensures) in
     search (rules, refused)
 
 pub returns-clause-has_text : goal.returns-clause-has_text

@@ -1,5 +1,5 @@
 use Rattle.std.proofs.Common.{subst, sym, ap, ◌∙◌}
-use Rattle.mode_file.specs.Given.{nothing, mode_of}
+use Rattle.mode_file.specs.Given.{nothing_given, mode_of}
 use Rattle.szs_report.specs.Report.{report_of}
 use Rattle.request_answers.specs.Checked.{IsAcceptedText}
 use Rattle.request_answers.specs.Solved.{IsSolved}
@@ -10,7 +10,7 @@ pub unreachable-requires : goal.unreachable-requires
 unreachable-requires c =
     let p = c.args.problem.now in
     let name = c.args.name.now in
-    let m = mode_of nothing in
+    let m = mode_of nothing_given in
     c.in_ok-is_accepted.ensures.refused c.if-branch.false
     (subst (IsAcceptedText p) (sym (c.as_slice.ensures ∙ c.in_ok-bytes.ensures ∙ ap (report_of name) c.in-Proved.is))
     (report_accepted m p c.in-Proved.claim c.in-Proved.commands c.in-Proved.text name c.requires.named (subst (IsSolved m p) c.in-Proved.is c.requires.solved)))

@@ -1,5 +1,5 @@
 use Rattle.std.proofs.Common.{ℕ, List, Option, Some, Err, true, ◌≡◌, refl, sym, ap, subst, ◌∙◌, arith}
-use Rattle.mode_file.specs.Given.{nothing, mode_of}
+use Rattle.mode_file.specs.Given.{nothing_given, mode_of}
 use Rattle.cli_words.specs.Requests.{generated}
 use Rattle.refute_text.specs.Reading.{is_one_line}
 use Rattle.request_answers.specs.Requested.{problem_name}
@@ -20,14 +20,14 @@ returns-in-Ok-read_problem-clause-answers c =
     let p = c.in-Ok-read_problem.problem in
     let stated = subst (λ x. (names : List (List ℕ)) × OfFiles x true one names (Statements p)) c.requires.named c.in-Ok-read_problem.ensures.stated in
     demo_request c.args.n true one refl (λ f. c.new-files.ensures.contents f ∙ ap Some c.in-Ok.ensures) c.demo_answer.result
-    (stated_answers (IsDemoed (mode_of nothing)) (problem_name (generated c.args.n)) true one p c.demo_answer.result stated.0 stated.1 c.demo_answer.ensures)
+    (stated_answers (IsDemoed (mode_of nothing_given)) (problem_name (generated c.args.n)) true one p c.demo_answer.result stated.0 stated.1 c.demo_answer.ensures)
 
 pub returns-clause-answers : goal.returns-clause-answers
 returns-clause-answers c =
     let one : List ℕ → Option (List ℕ) = λ f. Some c.new-files.result.bytes in
     let unread = subst (λ x. IsUnread x true one c.in-Err.answer) c.requires.named c.in-Err.ensures.unread in
     demo_request c.args.n true one refl (λ f. c.new-files.ensures.contents f ∙ ap Some c.in-Ok.ensures) c.in-Err.answer
-    (unread_answers (IsDemoed (mode_of nothing)) (problem_name (generated c.args.n)) true one c.in-Err.answer unread)
+    (unread_answers (IsDemoed (mode_of nothing_given)) (problem_name (generated c.args.n)) true one c.in-Err.answer unread)
 
 pub returns-clause-quiet : goal.returns-clause-quiet
 returns-clause-quiet c =

@@ -1,5 +1,5 @@
 use Rattle.std.proofs.Common.{refl, sym, subst}
-use Rattle.mode_file.specs.Given.{nothing, mode_of}
+use Rattle.mode_file.specs.Given.{nothing_given, mode_of}
 use Rattle.std.specs.Prelude.{option_map}
 use Rattle.cli_words.specs.Requests.{prove, refutation}
 use Rattle.cli_words.specs.View.{the_request}
@@ -29,7 +29,7 @@ returns-in-Check-clause-answers g c =
     let told = g.F.Files.tells c.args.files.now in
     let contents = g.F.Files.contents c.args.files.now in
     subst (λ a. AnswersRequest (the_request a) told contents c.check.result) (sym c.in-Check.is)
-    (files_request (refutation c.in-Check.text.now c.in-Check.problem.now) told contents (mode_of nothing) refl c.check.result c.check.ensures.answers)
+    (files_request (refutation c.in-Check.text.now c.in-Check.problem.now) told contents (mode_of nothing_given) refl c.check.result c.check.ensures.answers)
 
 pub returns-in-Demo-clause-answers : goal.returns-in-Demo-clause-answers
 returns-in-Demo-clause-answers g c =

@@ -2,7 +2,7 @@ use Rattle.std.proofs.Common.{◌≡◌, ◌≤◌, ◌-◌, ◌&&◌, ◌||◌,
 use Rattle.std.proofs.lemmas.Option.{slice_get_within}
 use Rattle.sat_base.specs.declared.literal.Var.{Var}
 use Rattle.sat_base.specs.declared.literal.SatLit.{SatLit}
-use Rattle.sat_base.specs.Literal.{mentions, same_var, IsOver, holds}
+use Rattle.sat_base.specs.Literal.{mentions_variable, same_var, IsOver, holds}
 use Rattle.sat_log.specs.declared.chain.ChainStep.{ChainStep}
 use Rattle.sat_propagate.specs.Internal.Trail.{literals}
 use Rattle.sat_core.specs.Internal.Marks.{is_marked, others}
@@ -31,7 +31,7 @@ loop-place-init c =
           (analysed_start clauses trail c.args.names.now c.args.conflict start c.clear.new.self c.mark_others.new.marks c.in_ok-late.late c.len-place.result conflict.watched c.len-place.ensures.right
           (complete_at trail c.args.propagator.now.processed clauses c.args.propagator.now.lists start c.requires.right c.len-place.ensures.right (contains_at trail.starts (length trail.starts - 1) start c.requires.last))
           conflict.there conflict.falsified c.in_ok-clear.ensures.ok
-          (subst (λ (some : List SatLit). (v : Var) → is_marked c.mark_others.new.marks v ≡ (is_marked c.clear.new.self v || mentions (others None some) v)) read c.in_ok-late.ensures.marks)
+          (subst (λ (some : List SatLit). (v : Var) → is_marked c.mark_others.new.marks v ≡ (is_marked c.clear.new.self v || mentions_variable (others None some) v)) read c.in_ok-late.ensures.marks)
           c.in_ok-late.ensures.counted c.len-place.ensures.number);
       made = c.mark_others.ensures.made ∙ c.clear.ensures.made;
     }
@@ -106,7 +106,7 @@ loop-place-preserved-in-Continue-branch-4 c =
           (analysed_next clauses trail c.args.names.now c.args.conflict c.args.start c.loop-place.marks c.resolve_marks.new.marks c.loop-place.steps c.loop-place.late c.in_ok-late-2.late c.loop-place.place c.in-Some.reason
           c.step-step.result reason.0 c.name_of.result c.loop-place.invariant.analysed c.len-place.ensures.right (omega (arith, c.loop-place-test.true)) c.step-step.ensures (sym c.contains.ensures ∙ c.if-contains.true)
           reason.1 reason.2 c.name_of.ensures
-          (λ v. c.in_ok-late-2.ensures.marks v ∙ ap (λ (some : List SatLit). (is_marked c.loop-place.marks v && not (same_var v c.step-step.result.literal.var)) || mentions (others (Some c.step-step.result.literal) some) v) read)
+          (λ v. c.in_ok-late-2.ensures.marks v ∙ ap (λ (some : List SatLit). (is_marked c.loop-place.marks v && not (same_var v c.step-step.result.literal.var)) || mentions_variable (others (Some c.step-step.result.literal) some) v) read)
           counts.0 counts.1 why.1);
       made = c.resolve_marks.ensures.made ∙ c.loop-place.invariant.made;
     }

@@ -1,7 +1,7 @@
 use Rattle.std.proofs.Common.{◌≡◌, ◌-◌, ◌&&◌, ◌||◌, not, Bool, List, Some, length, refl, sym, ap, subst, ◌∙◌, arith}
 use Rattle.std.proofs.lemmas.Option.{slice_get_within}
 use Rattle.sat_base.specs.declared.literal.SatLit.{SatLit}
-use Rattle.sat_base.specs.Literal.{mentions, same_var, IsOver, holds}
+use Rattle.sat_base.specs.Literal.{mentions_variable, same_var, IsOver, holds}
 use Rattle.sat_log.specs.declared.chain.ChainStep.{ChainStep}
 use Rattle.sat_core.specs.Internal.Marks.{is_marked, others}
 use Rattle.sat_core.specs.Internal.Learned.{IsRefuting}
@@ -62,8 +62,8 @@ loop-place-preserved-in-Continue-branch-4 c =
           c.step-step.result reason.0 c.name_of.result c.loop-place.invariant.refuting c.len-place.ensures.right (omega (arith, c.loop-place-test.true)) c.step-step.ensures (sym c.contains.ensures ∙ c.if-contains.true)
           reason.1 reason.2 c.name_of.ensures
           (λ v. c.in_ok-_more.ensures.marks v
-          ∙ ap (λ (b : Bool). b || mentions (others (Some t) c.literals-literals.result.now) v) (c.unmark.ensures.marks v)
-          ∙ ap (λ (some : List SatLit). (is_marked c.loop-place.marks v && not (same_var v t.var)) || mentions (others (Some t) some) v) read));
+          ∙ ap (λ (b : Bool). b || mentions_variable (others (Some t) c.literals-literals.result.now) v) (c.unmark.ensures.marks v)
+          ∙ ap (λ (some : List SatLit). (is_marked c.loop-place.marks v && not (same_var v t.var)) || mentions_variable (others (Some t) some) v) read));
       made = c.mark_others.ensures.made ∙ c.unmark.ensures.made ∙ c.loop-place.invariant.made;
     }
 

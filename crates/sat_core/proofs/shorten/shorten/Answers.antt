@@ -1,7 +1,7 @@
 use Rattle.std.proofs.Common.{◌≡◌, ◌&&◌, ◌||◌, not, Bool, List, Some, length, sym, ap, subst, ◌∙◌, arith}
 use Rattle.std.proofs.lemmas.Option.{slice_get_within}
 use Rattle.sat_base.specs.declared.literal.SatLit.{SatLit}
-use Rattle.sat_base.specs.Literal.{holds, mentions, same_var, IsOver}
+use Rattle.sat_base.specs.Literal.{holds, mentions_variable, same_var, IsOver}
 use Rattle.sat_log.specs.declared.chain.ChainStep.{ChainStep}
 use Rattle.sat_core.specs.Internal.Marks.{is_marked, others}
 use Rattle.sat_core.specs.Internal.Learned.{IsShortening}
@@ -45,5 +45,5 @@ returns-in_ok-push-clause-shortening c =
     c.requires.shortening c.len.ensures.right (omega (arith, c.if-start-place.false)) c.step-step.ensures (sym c.contains.ensures ∙ c.if-contains.true)
     reason.1 reason.2 c.name_of.ensures
     (λ v. c.in_ok-_late.ensures.marks v
-    ∙ ap (λ (b : Bool). b || mentions (others (Some t) c.literals-literals.result.now) v) (c.unmark.ensures.marks v)
-    ∙ ap (λ (some : List SatLit). (is_marked c.args.marks.now v && not (same_var v t.var)) || mentions (others (Some t) some) v) read))
+    ∙ ap (λ (b : Bool). b || mentions_variable (others (Some t) c.literals-literals.result.now) v) (c.unmark.ensures.marks v)
+    ∙ ap (λ (some : List SatLit). (is_marked c.args.marks.now v && not (same_var v t.var)) || mentions_variable (others (Some t) some) v) read))

@@ -5,7 +5,7 @@ use Rattle.stt_core.specs.View.{the_head, the_type}
 use Rattle.stt_core.proofs.HeadLaws.{constant_head}
 use Rattle.stt_core.proofs.ListLaws.{map_more}
 use Rattle.normal_forms.specs.Normal.{ways, replace}
-use Rattle.normal_forms.specs.Internal.Applying.{body}
+use Rattle.normal_forms.specs.Internal.Applying.{body_under}
 use Rattle.normal_forms.proofs.ReplaceLaws.{body_view, replaced_whole}
 use Rattle.normal_forms.proofs.CycleLaws.{not_function_head, one_ready, one_returns, all_ready, all_returns, no_argument, head_ready, head_returns, below_returns, above_returns, constant_returns, argument_ready, head_of_ready}
 use Rattle.stt_normal.proofs.apply.+apply.Goals as goal
@@ -65,7 +65,7 @@ pub replace_nf-replace_nf-requires : goal.replace_nf-replace_nf-requires
 replace_nf-replace_nf-requires t c =
     let i = c.nf.inside in
     let n : c.in_ok-inner.inner ≡ c.args.k + length (drop c.args.skip i.binders) = c.in_ok-inner.ensures ∙ ap (λ n. c.args.k + n) (c.saturating_sub.ensures ∙ ap (λ n. n - c.args.skip) c.len.ensures ∙ sym (length-drop c.args.skip i.binders)) in
-    let h = argument_ready (the_type c.args.ty.now) c.args.k c.in_ok-inner.inner c.args.r.now (drop c.args.skip i.binders) (the_head i.head) i.args (body c.args.skip c.args.nf.now) (not_function_head i.head) n (body_view c.args.skip i.binders (the_head i.head) i.args c.args.nf.now (not_function_head i.head) c.nf.view_is) c.requires c.loop-i.i c.at.result.now c.at.ensures in
+    let h = argument_ready (the_type c.args.ty.now) c.args.k c.in_ok-inner.inner c.args.r.now (drop c.args.skip i.binders) (the_head i.head) i.args (body_under c.args.skip c.args.nf.now) (not_function_head i.head) n (body_view c.args.skip i.binders (the_head i.head) i.args c.args.nf.now (not_function_head i.head) c.nf.view_is) c.requires c.loop-i.i c.at.result.now c.at.ensures in
     (omega (arith, c.decreases, h.1), h.0)
 
 pub replace_nf-loop-i-preserved : goal.replace_nf-loop-i-preserved
@@ -76,7 +76,7 @@ pub replace_nf-replace_head-requires : goal.replace_nf-replace_head-requires
 replace_nf-replace_head-requires t c =
     let i = c.nf.inside in
     let n : c.in_ok-inner.inner ≡ c.args.k + length (drop c.args.skip i.binders) = c.in_ok-inner.ensures ∙ ap (λ n. c.args.k + n) (c.saturating_sub.ensures ∙ ap (λ n. n - c.args.skip) c.len.ensures ∙ sym (length-drop c.args.skip i.binders)) in
-    let h = head_of_ready (the_type c.args.ty.now) c.args.k c.in_ok-inner.inner c.args.r.now (drop c.args.skip i.binders) (the_head i.head) i.args c.loop-i.args (body c.args.skip c.args.nf.now) (not_function_head i.head) n (body_view c.args.skip i.binders (the_head i.head) i.args c.args.nf.now (not_function_head i.head) c.nf.view_is) c.requires (c.loop-i.invariant ∙ ap (map (replace (ways (the_type c.args.ty.now)) c.in_ok-inner.inner c.args.r.now)) (take_all c.loop-i.i i.args (omega (arith, c.len-i-end.ensures)))) in
+    let h = head_of_ready (the_type c.args.ty.now) c.args.k c.in_ok-inner.inner c.args.r.now (drop c.args.skip i.binders) (the_head i.head) i.args c.loop-i.args (body_under c.args.skip c.args.nf.now) (not_function_head i.head) n (body_view c.args.skip i.binders (the_head i.head) i.args c.args.nf.now (not_function_head i.head) c.nf.view_is) c.requires (c.loop-i.invariant ∙ ap (map (replace (ways (the_type c.args.ty.now)) c.in_ok-inner.inner c.args.r.now)) (take_all c.loop-i.i i.args (omega (arith, c.len-i-end.ensures)))) in
     (omega (arith, c.decreases, h.1), h.0)
 
 pub replace_nf-returns : goal.replace_nf-returns
@@ -85,4 +85,4 @@ replace_nf-returns t c =
     let bs = drop c.args.skip i.binders in
     let n : c.in_ok-inner.inner ≡ c.args.k + length (drop c.args.skip i.binders) = c.in_ok-inner.ensures ∙ ap (λ n. c.args.k + n) (c.saturating_sub.ensures ∙ ap (λ n. n - c.args.skip) c.len.ensures ∙ sym (length-drop c.args.skip i.binders)) in
     c.in_ok-bind_all.ensures
-    ∙ replaced_whole (ways (the_type c.args.ty.now)) c.args.k c.in_ok-inner.inner c.args.r.now bs bs (the_head i.head) i.args c.loop-i.args (take c.loop-i.i i.args) c.in_ok-inside.inside (body c.args.skip c.args.nf.now) n refl c.loop-i.invariant (take_all c.loop-i.i i.args (omega (arith, c.len-i-end.ensures))) c.in_ok-inside.ensures (body_view c.args.skip i.binders (the_head i.head) i.args c.args.nf.now (not_function_head i.head) c.nf.view_is)
+    ∙ replaced_whole (ways (the_type c.args.ty.now)) c.args.k c.in_ok-inner.inner c.args.r.now bs bs (the_head i.head) i.args c.loop-i.args (take c.loop-i.i i.args) c.in_ok-inside.inside (body_under c.args.skip c.args.nf.now) n refl c.loop-i.invariant (take_all c.loop-i.i i.args (omega (arith, c.len-i-end.ensures))) c.in_ok-inside.ensures (body_view c.args.skip i.binders (the_head i.head) i.args c.args.nf.now (not_function_head i.head) c.nf.view_is)

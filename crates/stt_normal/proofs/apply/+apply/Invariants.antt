@@ -1,13 +1,13 @@
 use Rattle.std.proofs.Common.{◌≡◌, ◌+◌, map, take, drop}
 use Rattle.stt_core.specs.View.{the_type, the_head}
 use Rattle.normal_forms.specs.Normal.{ways, ways_of, replace}
-use Rattle.normal_forms.specs.Internal.Applying.{body}
+use Rattle.normal_forms.specs.Internal.Applying.{body_under}
 use Rattle.normal_forms.proofs.Prices.{price, price_all, prices}
 use Rattle.stt_normal.proofs.apply.+apply.Given as goal
 
 abbrev pub decreases-replace_nf : goal.decreases-replace_nf
 decreases-replace_nf l =
-    2 + price (ways (the_type l.ty.now)) (prices (the_type l.ty.now)) l.k l.r.now (body l.skip l.nf.now)
+    2 + price (ways (the_type l.ty.now)) (prices (the_type l.ty.now)) l.k l.r.now (body_under l.skip l.nf.now)
 
 abbrev pub decreases-replace_head : goal.decreases-replace_head
 decreases-replace_head l =

@@ -1,5 +1,5 @@
 use Rattle.std.proofs.Common.{◌≡◌, ◌+◌, ◌-◌, ◌++◌, ℕ, zero, List, [], ◌∷◌, suc, length, take, replicate, Option, None, slice_index_or, ap₂, refl, sym, ap, subst, ◌∙◌, length-append, arith}
-use Rattle.tableau_rebuild.specs.Internal.Arenas.{IsDrawn, IsBefore, AreResults}
+use Rattle.tableau_rebuild.specs.Internal.Arenas.{IsDrawn, IsEarlierDraft, AreResults}
 use Rattle.tableau_rebuild.proofs.ArenaLaws.{none_drawn, none_before, results_more}
 use Rattle.tableau_rebuild.proofs.arena.draw.Goals as goal
 
@@ -27,7 +27,7 @@ loop-n-init c =
     record {
       done = record {
         drawn = subst (λ ds. IsDrawn ds c.resize.new.self.items) (sym c.new.ensures.items) (subst (IsDrawn []) (sym is) (none_drawn (replicate k None) (all_none k)));
-        before = subst (λ ds. IsBefore ds 0 0) (sym c.new.ensures.items) (none_before 0 0);
+        before = subst (λ ds. IsEarlierDraft ds 0 0) (sym c.new.ensures.items) (none_before 0 0);
         clauses = ap length is ∙ count k ∙ c.len.ensures;
         count = ap length c.new-2.ensures.items;
         results = subst (AreResults t log c.new.result.items) (sym c.new-2.ensures.items) (λ m s entry h at. cc);
@@ -66,7 +66,7 @@ loop-n-preserved c =
     record {
       done = record {
         drawn = made.drawn;
-        before = subst (λ k. IsBefore new.drafts.items k 0) next made.before;
+        before = subst (λ k. IsEarlierDraft new.drafts.items k 0) next made.before;
         clauses = made.clauses ∙ known.clauses;
         count = ap length (c.in_ok-push.ensures.items ∙ ap (λ xs. xs ++ c.in_ok-standing.standing ∷ []) made.results) ∙ length-append old.of_result.items (c.in_ok-standing.standing ∷ []) ∙ ap (λ k. k + 1) known.count;
         results = results_more t log old.drafts.items new.drafts.items old.of_result.items c.push.new.self.items n c.in_ok-standing.standing made.extends known.results known.count (c.in_ok-push.ensures.items ∙ ap (λ xs. xs ++ c.in_ok-standing.standing ∷ []) made.results) made.stands;

@@ -1,5 +1,5 @@
-use Rattle.test_tables.specs.Sound.{IsSound}
+use Rattle.test_tables.specs.Sound.{AreSoundTables}
 use Rattle.test_tables.proofs.answer.write_each.Given as goal
 
 abbrev pub invariant-loop-i : goal.invariant-loop-i
-invariant-loop-i l = IsSound l.tables
+invariant-loop-i l = AreSoundTables l.tables

@@ -1,5 +1,5 @@
-use Rattle.test_tables.specs.Sound.{IsSound}
+use Rattle.test_tables.specs.Sound.{AreSoundTables}
 use Rattle.test_tables.proofs.bulk.add_numbered.Given as goal
 
 abbrev pub invariant-loop-k : goal.invariant-loop-k
-invariant-loop-k l = IsSound l.tables
+invariant-loop-k l = AreSoundTables l.tables

@@ -6,7 +6,7 @@ use Rattle.thf_grammar.specs.Trees.{include}
 use Rattle.thf_grammar.specs.View.{the_annotated, the_file, the_statement, the_selected, the_selection}
 use Rattle.thf_include.specs.Internal.Chain.{the_chain}
 use Rattle.thf_include.specs.Internal.Steps.{FileSteps, StatementSteps, StatementsStep}
-use Rattle.thf_include.specs.Internal.Names.{AreNamed}
+use Rattle.thf_include.specs.Internal.Names.{AreNamedStatements}
 use Rattle.thf_include.specs.View.{the_placed, the_statements}
 use Rattle.thf_include.proofs.FileSteps.{read-refused, text-refused, file-follows}
 use Rattle.thf_include.proofs.IncludeNames.{tree-named}
@@ -149,7 +149,7 @@ pub gather_statements-gather_statement-requires : goal.gather_statements-gather_
 gather_statements-gather_statement-requires g t c κs within =
     let all : c.args.statements.items ≡ c.loop-statement.yielded ++ c.in-Some.statement ∷ into_iter_items c.next.new.self = c.loop-statement.invariant.seen ∙ ap (λ xs. c.loop-statement.yielded ++ xs) c.in-Some.ensures.steps.0 in (
       omega (arith, c.loop-statement.invariant.grows),
-      (within, one-named c.loop-statement.yielded (into_iter_items c.next.new.self) c.in-Some.statement (subst (λ xs. AreNamed (the_file xs)) all c.requires)),
+      (within, one-named c.loop-statement.yielded (into_iter_items c.next.new.self) c.in-Some.statement (subst (λ xs. AreNamedStatements (the_file xs)) all c.requires)),
     )
 
 pub gather_statements-loop-statement-preserved : goal.gather_statements-loop-statement-preserved

@@ -2,7 +2,7 @@ use Rattle.std.proofs.Common.{◌≡◌, ◌<◌, [], ◌∷◌, ◌++◌, map, 
 use Rattle.std.proofs.lemmas.Bool.Decides.{nat_tests}
 use Rattle.thf_grammar.specs.View.{the_selected}
 use Rattle.thf_grammar.specs.declared.terminal.Mark.TheVariants.{Comma}
-use Rattle.thf_parse.specs.Internal.Outcome.{found, first_terminal, behind}
+use Rattle.thf_parse.specs.Internal.Outcome.{found, first_terminal, lexemes_behind}
 use Rattle.thf_grammar.specs.Internal.Marks.{is_mark}
 use Rattle.thf_parse.specs.Internal.NoteReader.{all_commas}
 use Rattle.thf_parse.specs.Internal.StatementReader.{more_label}
@@ -22,7 +22,7 @@ returns-then-not-is_mark c =
 pub labels-smaller : goal.labels-smaller
 labels-smaller c =
     let some : is_mark Comma (first_terminal c.label.new.cursor) ≡ true = grind (arith, nat_tests) in
-    let shorter : length (behind c.label.new.cursor) < length c.labels.cursor = labels-shorter c.labels.cursor c.label.new.cursor (the_selected c.in-Ok.read) c.in-Ok.ensures some in
+    let shorter : length (lexemes_behind c.label.new.cursor) < length c.labels.cursor = labels-shorter c.labels.cursor c.label.new.cursor (the_selected c.in-Ok.read) c.in-Ok.ensures some in
     omega (arith, shorter, ap length c.advance.ensures)
 
 pub labels-preserved : goal.labels-preserved
@@ -30,5 +30,5 @@ labels-preserved c =
     let some : is_mark Comma (first_terminal c.label.new.cursor) ≡ true = grind (arith, nat_tests) in
     let grown : map the_selected c.in_ok-labels.labels ≡ map the_selected c.labels.labels ++ the_selected c.in-Ok.read ∷ [] = c.in_ok-labels.ensures in
     ap (λ us. all_commas more_label (map the_selected c.in_ok-labels.labels) us) c.advance.ensures
-    ∙ ap (λ ns. all_commas more_label ns (behind c.label.new.cursor)) grown
+    ∙ ap (λ ns. all_commas more_label ns (lexemes_behind c.label.new.cursor)) grown
     ∙ labels-more (map the_selected c.labels.labels) c.labels.cursor c.args.cursor.now c.labels.invariant (the_selected c.in-Ok.read) c.label.new.cursor c.in-Ok.ensures some

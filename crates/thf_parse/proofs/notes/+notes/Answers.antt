@@ -1,7 +1,7 @@
 use Rattle.std.proofs.Common.{◌≡◌, ◌<◌, length, true, false, ap, ◌∙◌, arith}
 use Rattle.std.proofs.lemmas.Bool.Decides.{nat_tests}
 use Rattle.thf_grammar.specs.declared.terminal.Mark.TheVariants.{Comma}
-use Rattle.thf_parse.specs.Internal.Outcome.{first_terminal, behind}
+use Rattle.thf_parse.specs.Internal.Outcome.{first_terminal, lexemes_behind}
 use Rattle.thf_grammar.specs.Internal.Marks.{is_mark}
 use Rattle.thf_parse.specs.Internal.NoteReader.{passed, all_commas, general, inner_notes}
 use Rattle.thf_parse.proofs.NoteSteps.{list-entered, generals-refused, generals-ended, generals-more, generals-shorter}
@@ -18,7 +18,7 @@ generals-returns-then-not-is_mark t c =
 pub generals-items-smaller : goal.generals-items-smaller
 generals-items-smaller t c =
     let some : is_mark Comma (first_terminal c.general.new.cursor) ≡ true = grind (arith, nat_tests) in
-    let shorter : length (behind c.general.new.cursor) < length c.items.cursor = generals-shorter c.args.room c.items.cursor c.args.cursor.now c.general.new.cursor c.in-Ok.ensures some in
+    let shorter : length (lexemes_behind c.general.new.cursor) < length c.items.cursor = generals-shorter c.args.room c.items.cursor c.args.cursor.now c.general.new.cursor c.in-Ok.ensures some in
     omega (arith, shorter, ap length c.advance.ensures)
 
 pub generals-items-preserved : goal.generals-items-preserved

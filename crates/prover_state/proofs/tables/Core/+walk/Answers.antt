@@ -9,7 +9,7 @@ use Rattle.search_spec.specs.Selections.{selections_in, with_selections}
 use Rattle.search_spec.specs.State.{State}
 use Rattle.prover_state.specs.declared.tables.Tables.{Tables}
 use Rattle.prover_state.specs.Delays.{the_mode}
-use Rattle.prover_state.specs.Internal.Selecting.{parts, head_selection, IsTaken, AreTaken}
+use Rattle.prover_state.specs.Internal.Selecting.{term_parts, head_selection, IsTakenSelection, AreTaken}
 use Rattle.prover_state.specs.Internal.Standing.{the_state}
 use Rattle.prover_state.proofs.SelectingLaws.{all_in, selections-split, are-kept, all-taken, taken-leaves, selections-append, any-member, one-more}
 use Rattle.prover_state.proofs.tables.Core.+walk.Goals as goal
@@ -21,7 +21,7 @@ returns-then-contains-clause-state g t c =
     let u = term_at terms c.args.id in
     let mode = the_mode self.plan.rule.mode in
     let s = the_state self.tables self.plan in
-    sym (taken-leaves mode (selections_in u) s (any-member (λ i. Each (IsTaken s) (selections_in (term_at terms i))) c.args.id c.args.walked.now (sym c.contains.ensures ∙ c.if-contains.true) c.requires.taken))
+    sym (taken-leaves mode (selections_in u) s (any-member (λ i. Each (IsTakenSelection s) (selections_in (term_at terms i))) c.args.id c.args.walked.now (sym c.contains.ensures ∙ c.if-contains.true) c.requires.taken))
 
 pub loop-i-init : goal.loop-i-init
 loop-i-init g t c =
@@ -37,8 +37,8 @@ loop-i-init g t c =
       rule = e.rule;
       taken = subst (λ (x : State). AreTaken x terms c.args.walked.now) (sym e.state) (are-kept mode (head_selection u) s terms c.args.walked.now c.requires.taken);
       state =
-          ap (with_selections mode (all_in (parts u))) e.state
-          ∙ sym (selections-append mode (head_selection u) (all_in (parts u)) s)
+          ap (with_selections mode (all_in (term_parts u))) e.state
+          ∙ sym (selections-append mode (head_selection u) (all_in (term_parts u)) s)
           ∙ sym (ap (λ ps. with_selections mode ps s) (selections-split terms c.node-node.result.now u c.node-node.ensures.term));
     }
 
@@ -53,9 +53,9 @@ loop-i-preserved g t c =
     let e = c.in_ok-walk.ensures in
     let now = the_state c.loop-i.self.tables c.loop-i.self.plan in
     let same : c.loop-i.self.tables.basis.bank.terms ≡ terms = ap (λ (x : Tables). x.basis.bank.terms) inv.tables in
-    let part = subst (λ (ts : List Lambda). slice_get (parts (term_at ts c.args.id)) c.loop-i.i ≡ Some (term_at ts c.part_of-part.result)) same c.part_of-part.ensures.part in
+    let part = subst (λ (ts : List Lambda). slice_get (term_parts (term_at ts c.args.id)) c.loop-i.i ≡ Some (term_at ts c.part_of-part.result)) same c.part_of-part.ensures.part in
     let v = term_at terms c.part_of-part.result in
-    let rest = all_in (drop (c.loop-i.i + 1) (parts u)) in
+    let rest = all_in (drop (c.loop-i.i + 1) (term_parts u)) in
     record {
       right = e.right;
       tables = e.tables ∙ ap (λ (x : Tables). record x { chosen = c.walk.new.self.tables.chosen; described = c.walk.new.self.tables.described }) inv.tables;
@@ -64,7 +64,7 @@ loop-i-preserved g t c =
       state =
           ap (with_selections mode rest) (e.state ∙ ap₂ (λ (m : Mode) (ts : List Lambda). with_selections m (selections_in (term_at ts c.part_of-part.result)) now) (ap (λ r. the_mode r.mode) inv.rule) same)
           ∙ sym (selections-append mode (selections_in v) rest now)
-          ∙ sym (ap (λ us. with_selections mode (all_in us) now) (drop_got (parts u) c.loop-i.i v part))
+          ∙ sym (ap (λ us. with_selections mode (all_in us) now) (drop_got (term_parts u) c.loop-i.i v part))
           ∙ inv.state;
     }
 
@@ -76,8 +76,8 @@ returns-clause-state g t c =
     let mode = the_mode self.plan.rule.mode in
     let s = the_state self.tables self.plan in
     let now = the_state c.loop-i.self.tables c.loop-i.self.plan in
-    let n = c.count_parts-i-end.ensures ∙ ap (λ (x : Tables). length (parts (term_at x.basis.bank.terms c.args.id))) c.in_ok-select_head.ensures.tables in
-    sym (ap (λ us. with_selections mode (all_in us) now) (drop_of_length-le (parts u) (omega (arith, c.loop-i-test.false, n)))) ∙ c.loop-i.invariant.state
+    let n = c.count_parts-i-end.ensures ∙ ap (λ (x : Tables). length (term_parts (term_at x.basis.bank.terms c.args.id))) c.in_ok-select_head.ensures.tables in
+    sym (ap (λ us. with_selections mode (all_in us) now) (drop_of_length-le (term_parts u) (omega (arith, c.loop-i-test.false, n)))) ∙ c.loop-i.invariant.state
 
 pub returns-clause-taken : goal.returns-clause-taken
 returns-clause-taken g t c =
@@ -87,8 +87,8 @@ returns-clause-taken g t c =
     let mode = the_mode self.plan.rule.mode in
     let s = the_state self.tables self.plan in
     let now = the_state c.loop-i.self.tables c.loop-i.self.plan in
-    let T : ℕ → Type 0 = λ i. Each (IsTaken now) (selections_in (term_at terms i)) in
-    let n = c.count_parts-i-end.ensures ∙ ap (λ (x : Tables). length (parts (term_at x.basis.bank.terms c.args.id))) c.in_ok-select_head.ensures.tables in
-    let done : now ≡ with_selections mode (selections_in u) s = sym (ap (λ us. with_selections mode (all_in us) now) (drop_of_length-le (parts u) (omega (arith, c.loop-i-test.false, n)))) ∙ c.loop-i.invariant.state in
+    let T : ℕ → Type 0 = λ i. Each (IsTakenSelection now) (selections_in (term_at terms i)) in
+    let n = c.count_parts-i-end.ensures ∙ ap (λ (x : Tables). length (term_parts (term_at x.basis.bank.terms c.args.id))) c.in_ok-select_head.ensures.tables in
+    let done : now ≡ with_selections mode (selections_in u) s = sym (ap (λ us. with_selections mode (all_in us) now) (drop_of_length-le (term_parts u) (omega (arith, c.loop-i-test.false, n)))) ∙ c.loop-i.invariant.state in
     one-more T c.loop-i.walked c.insert.new.self c.args.id c.in_ok-insert.ensures.list c.loop-i.invariant.taken
-    (subst (λ (x : State). Each (IsTaken x) (selections_in u)) (sym done) (all-taken mode (selections_in u) s))
+    (subst (λ (x : State). Each (IsTakenSelection x) (selections_in u)) (sym done) (all-taken mode (selections_in u) s))

@@ -2,7 +2,7 @@ use Rattle.std.proofs.Common.{◌≡◌, ◌<◌, ℕ, List, map, sym, ap, subst
 use Rattle.std.specs.List.{flat_map}
 use Rattle.sat_base.specs.declared.literal.SatLit.{SatLit}
 use Rattle.tableau_calculus.specs.Literals.{Literal}
-use Rattle.literal_map.specs.Atoms.{literal_at}
+use Rattle.literal_map.specs.Atoms.{bank_literal}
 use Rattle.search_spec.specs.Each.{Each}
 use Rattle.search_spec.specs.Clauses.{instance_clauses, with_clauses}
 use Rattle.search_spec.specs.Numbered.{numbers}
@@ -10,7 +10,7 @@ use Rattle.tableau_clauses.specs.Table.{the_clauses}
 use Rattle.search_spec.specs.Instances.{with_literals}
 use Rattle.prover_state.specs.declared.command.Delays.{Delays}
 use Rattle.prover_state.specs.Delays.{the_mode}
-use Rattle.prover_state.specs.Internal.Names.{IsNumber}
+use Rattle.prover_state.specs.Internal.Names.{IsNumberIn}
 use Rattle.prover_state.specs.Internal.Standing.{the_state}
 use Rattle.prover_state.specs.Internal.Steps.{StepsGrow}
 use Rattle.prover_state.specs.declared.tables.Tables.{Tables}
@@ -44,14 +44,14 @@ see_all-requires-clause-right g c =
 
 pub see_all-requires-clause-numbers : goal.see_all-requires-clause-numbers
 see_all-requires-clause-numbers g c =
-    subst (Each (IsNumber c.args.self.now.tables.basis.lits)) (sym (c.as_slice.ensures.value ∙ c.in_ok-lits.ensures))
-    (each-flat (IsNumber c.args.self.now.tables.basis.lits) c.args.instance.alternatives c.requires.alternatives)
+    subst (Each (IsNumberIn c.args.self.now.tables.basis.lits)) (sym (c.as_slice.ensures.value ∙ c.in_ok-lits.ensures))
+    (each-flat (IsNumberIn c.args.self.now.tables.basis.lits) c.args.instance.alternatives c.requires.alternatives)
 
 pub returns-clause-state : goal.returns-clause-state
 returns-clause-state g c =
     let self = c.args.self.now in
     let i = c.args.instance in
-    let d : SatLit → Literal = literal_at self.tables.basis.bank.terms self.tables.basis.lits in
+    let d : SatLit → Literal = bank_literal self.tables.basis.bank.terms self.tables.basis.lits in
     let t = record self.tables { steps = c.add_clauses.new.steps; solver = c.add_clauses.new.solver } in
     let all : List SatLit = flat_map (λ (a : List SatLit). a) i.alternatives in
     c.in_ok-see_all.ensures.state

@@ -2,12 +2,12 @@ use Rattle.std.proofs.Common.{◌&&◌, not, Bool, List, map, length, drop, slic
 use Rattle.stt_core.proofs.ListLaws.{drop_got}
 use Rattle.tableau_calculus.specs.Literals.{Literal}
 use Rattle.sat_base.specs.declared.literal.SatLit.{SatLit}
-use Rattle.literal_map.specs.Atoms.{literal_at}
+use Rattle.literal_map.specs.Atoms.{bank_literal}
 use Rattle.mating_rules.specs.Noted.{partners_of}
 use Rattle.search_spec.specs.Partners.{confrontations}
-use Rattle.search_spec.specs.State.{Command as Meant, confront, pushed}
+use Rattle.search_spec.specs.State.{Command as Meant, confront, with_commands}
 use Rattle.prover_state.specs.Delays.{the_mode}
-use Rattle.prover_state.specs.Internal.Names.{IsNumber}
+use Rattle.prover_state.specs.Internal.Names.{IsNumberIn}
 use Rattle.prover_state.specs.Internal.Pending.{equation_type, is_base_equation}
 use Rattle.prover_state.specs.Internal.Standing.{the_state}
 use Rattle.prover_state.proofs.EachLaws.{each-at}
@@ -25,7 +25,7 @@ returns-then-count-eq0-clause-state g c =
     let mode = the_mode q.rule.mode in
     let s = the_state t q in
     sym (pushed-nothing mode s)
-    ∙ ap (λ (cs : List Meant). pushed mode cs s) (sym (none-confronted t q r l (ap is_base_equation c.requires.equation.is) (sym c.in_ok-partners.ensures ∙ no-items c.in_ok-partners.partners.now (omega (arith, c.if-count-eq0.true)))))
+    ∙ ap (λ (cs : List Meant). with_commands mode cs s) (sym (none-confronted t q r l (ap is_base_equation c.requires.equation.is) (sym c.in_ok-partners.ensures ∙ no-items c.in_ok-partners.partners.now (omega (arith, c.if-count-eq0.true)))))
 
 pub push_whole-requires-clause-numbers : goal.push_whole-requires-clause-numbers
 push_whole-requires-clause-numbers g c =
@@ -35,7 +35,7 @@ push_whole-requires-clause-numbers g c =
     let l = c.args.lit in
     let found = partners_of t.basis.bank.terms t.basis.lits l t.index.noted in
     let at = ap (λ (ls : List SatLit). slice_get ls 0) (sym c.in_ok-partners.ensures) ∙ c.literal_of-partner.ensures in
-    (c.requires.number, each-at (IsNumber t.basis.lits) found 0 c.literal_of-partner.result (partner-numbers t q r l) at)
+    (c.requires.number, each-at (IsNumberIn t.basis.lits) found 0 c.literal_of-partner.result (partner-numbers t q r l) at)
 
 pub push_whole-requires-clause-begins : goal.push_whole-requires-clause-begins
 push_whole-requires-clause-begins g c =
@@ -43,7 +43,7 @@ push_whole-requires-clause-begins g c =
     let q = c.args.self.now.plan in
     let r = c.requires.right in
     let l = c.args.lit in
-    let d : SatLit → Literal = literal_at t.basis.bank.terms t.basis.lits in
+    let d : SatLit → Literal = bank_literal t.basis.bank.terms t.basis.lits in
     let found = partners_of t.basis.bank.terms t.basis.lits l t.index.noted in
     let at = ap (λ (ls : List SatLit). slice_get ls 0) (sym c.in_ok-partners.ensures) ∙ c.literal_of-partner.ensures in
     begins-mapped (confrontations (equation_type (d l).atom) (d l) (map d t.noted.items)) (λ m. confront (d l) (d m)) found (positive-confronted t q r l (ap₂ (λ (a b : Bool). a && b) c.if-lit.true (ap is_base_equation c.requires.equation.is))) c.literal_of-partner.result (drop 1 found) (drop_got found 0 c.literal_of-partner.result at)
@@ -54,7 +54,7 @@ push_whole-requires-clause-count g c =
     let q = c.args.self.now.plan in
     let r = c.requires.right in
     let l = c.args.lit in
-    let d : SatLit → Literal = literal_at t.basis.bank.terms t.basis.lits in
+    let d : SatLit → Literal = bank_literal t.basis.bank.terms t.basis.lits in
     let found = partners_of t.basis.bank.terms t.basis.lits l t.index.noted in
     ap length c.in_ok-partners.ensures ∙ sym (length-mapped (confrontations (equation_type (d l).atom) (d l) (map d t.noted.items)) (λ m. confront (d l) (d m)) found (positive-confronted t q r l (ap₂ (λ (a b : Bool). a && b) c.if-lit.true (ap is_base_equation c.requires.equation.is))))
 
@@ -66,7 +66,7 @@ push_whole-requires-2-clause-numbers g c =
     let l = c.args.lit in
     let found = partners_of t.basis.bank.terms t.basis.lits l t.index.noted in
     let at = ap (λ (ls : List SatLit). slice_get ls 0) (sym c.in_ok-partners.ensures) ∙ c.literal_of-partner.ensures in
-    (each-at (IsNumber t.basis.lits) found 0 c.literal_of-partner.result (partner-numbers t q r l) at, c.requires.number)
+    (each-at (IsNumberIn t.basis.lits) found 0 c.literal_of-partner.result (partner-numbers t q r l) at, c.requires.number)
 
 pub push_whole-requires-2-clause-begins : goal.push_whole-requires-2-clause-begins
 push_whole-requires-2-clause-begins g c =
@@ -74,7 +74,7 @@ push_whole-requires-2-clause-begins g c =
     let q = c.args.self.now.plan in
     let r = c.requires.right in
     let l = c.args.lit in
-    let d : SatLit → Literal = literal_at t.basis.bank.terms t.basis.lits in
+    let d : SatLit → Literal = bank_literal t.basis.bank.terms t.basis.lits in
     let found = partners_of t.basis.bank.terms t.basis.lits l t.index.noted in
     let at = ap (λ (ls : List SatLit). slice_get ls 0) (sym c.in_ok-partners.ensures) ∙ c.literal_of-partner.ensures in
     begins-mapped (confrontations (equation_type (d l).atom) (d l) (map d t.noted.items)) (λ m. confront (d m) (d l)) found (negative-confronted t q r l (ap₂ (λ (a b : Bool). not a && b) c.if-lit.false (ap is_base_equation c.requires.equation.is))) c.literal_of-partner.result (drop 1 found) (drop_got found 0 c.literal_of-partner.result at)
@@ -85,6 +85,6 @@ push_whole-requires-2-clause-count g c =
     let q = c.args.self.now.plan in
     let r = c.requires.right in
     let l = c.args.lit in
-    let d : SatLit → Literal = literal_at t.basis.bank.terms t.basis.lits in
+    let d : SatLit → Literal = bank_literal t.basis.bank.terms t.basis.lits in
     let found = partners_of t.basis.bank.terms t.basis.lits l t.index.noted in
     ap length c.in_ok-partners.ensures ∙ sym (length-mapped (confrontations (equation_type (d l).atom) (d l) (map d t.noted.items)) (λ m. confront (d m) (d l)) found (negative-confronted t q r l (ap₂ (λ (a b : Bool). not a && b) c.if-lit.false (ap is_base_equation c.requires.equation.is))))

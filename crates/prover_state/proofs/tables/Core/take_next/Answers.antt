@@ -4,7 +4,7 @@ use Rattle.search_spec.specs.Each.{Each}
 use Rattle.prover_state.specs.declared.command.Rest.{Rest}
 use Rattle.prover_state.specs.Internal.Names.{command_at}
 use Rattle.prover_state.specs.Internal.Pending.{later_of, AreThere, EndsBelow, IsApart}
-use Rattle.prover_state.specs.Internal.Standing.{declared_scope, names_in, sources}
+use Rattle.prover_state.specs.Internal.Standing.{without_witnesses, naming_in, sources}
 use Rattle.prover_state.proofs.TakeLaws.{entry-good, ends-below, is-apart, takes-alone, right-alone, none-left, takes-more, right-more}
 use Rattle.prover_state.proofs.tables.Core.take_next.Goals as goal
 
@@ -17,7 +17,7 @@ returns-in-None-rest-clause-takes g c =
     let e = c.in-Some.entry in
     let t = self.tables in
     takes-alone t self.plan c.pop.new.self e c.in-Some.ensures.first c.pop.ensures.spaced c.requires.right
-    (ap (later_of (declared_scope t.basis.bank) (sources t) (command_at (names_in t) e.command.first)) c.in-None-rest.is)
+    (ap (later_of (without_witnesses t.basis.bank) (sources t) (command_at (naming_in t) e.command.first)) c.in-None-rest.is)
 
 pub returns-in-None-rest-clause-right : goal.returns-in-None-rest-clause-right
 returns-in-None-rest-clause-right g c =
@@ -41,22 +41,22 @@ pub command_of-requires-clause-numbers : goal.command_of-requires-clause-numbers
 command_of-requires-clause-numbers g c =
     let self = c.args.self.now in
     let t = self.tables in
-    (entry-good (declared_scope t.basis.bank) (names_in t) (sources t) self.plan c.pop.new.self c.in-Some.entry c.in-Some.ensures.first c.pop.ensures.spaced c.requires.right.queue).numbers
+    (entry-good (without_witnesses t.basis.bank) (naming_in t) (sources t) self.plan c.pop.new.self c.in-Some.entry c.in-Some.ensures.first c.pop.ensures.spaced c.requires.right.queue).numbers
 
 pub command_of-requires-clause-witnesses : goal.command_of-requires-clause-witnesses
 command_of-requires-clause-witnesses g c =
     let self = c.args.self.now in
     let t = self.tables in
-    let T : Option Rest → Type 0 = λ o. AreThere (declared_scope t.basis.bank) (sources t) (command_at (names_in t) c.in-Some.entry.command.first) o in
-    let w = subst T c.in-Some-rest.is (entry-good (declared_scope t.basis.bank) (names_in t) (sources t) self.plan c.pop.new.self c.in-Some.entry c.in-Some.ensures.first c.pop.ensures.spaced c.requires.right.queue).later in
+    let T : Option Rest → Type 0 = λ o. AreThere (without_witnesses t.basis.bank) (sources t) (command_at (naming_in t) c.in-Some.entry.command.first) o in
+    let w = subst T c.in-Some-rest.is (entry-good (without_witnesses t.basis.bank) (naming_in t) (sources t) self.plan c.pop.new.self c.in-Some.entry c.in-Some.ensures.first c.pop.ensures.spaced c.requires.right.queue).later in
     w.witnesses
 
 pub command_of-requires-clause-within : goal.command_of-requires-clause-within
 command_of-requires-clause-within g c =
     let self = c.args.self.now in
     let t = self.tables in
-    let T : Option Rest → Type 0 = λ o. AreThere (declared_scope t.basis.bank) (sources t) (command_at (names_in t) c.in-Some.entry.command.first) o in
-    let w = subst T c.in-Some-rest.is (entry-good (declared_scope t.basis.bank) (names_in t) (sources t) self.plan c.pop.new.self c.in-Some.entry c.in-Some.ensures.first c.pop.ensures.spaced c.requires.right.queue).later in
+    let T : Option Rest → Type 0 = λ o. AreThere (without_witnesses t.basis.bank) (sources t) (command_at (naming_in t) c.in-Some.entry.command.first) o in
+    let w = subst T c.in-Some-rest.is (entry-good (without_witnesses t.basis.bank) (naming_in t) (sources t) self.plan c.pop.new.self c.in-Some.entry c.in-Some.ensures.first c.pop.ensures.spaced c.requires.right.queue).later in
     omega (arith, w.within, c.if-rest.false)
 
 pub overflow_add-entry : goal.overflow_add-entry
@@ -68,7 +68,7 @@ put_back-requires-clause-taken g c =
     let t = self.tables in
     let E : Rest → Type 0 = λ x. EndsBelow c.pop.new.self.pushes (record { due = c.in-Some.entry.due; number = c.in-Some.entry.number + 1; command = record { first = c.in_ok-next.next; rest = Some x } }) in
     subst E (sym c.behind.ensures)
-    (ends-below (declared_scope t.basis.bank) (names_in t) (sources t) self.plan c.pop.new.self c.in-Some.entry c.in-Some.ensures.first c.pop.ensures.spaced c.requires.right.queue
+    (ends-below (without_witnesses t.basis.bank) (naming_in t) (sources t) self.plan c.pop.new.self c.in-Some.entry c.in-Some.ensures.first c.pop.ensures.spaced c.requires.right.queue
     c.in-Some-rest.rest c.in-Some-rest.is c.if-rest.false c.in_ok-next.next c.in_ok-next.ensures.command c.in_ok-next.ensures.numbers)
 
 pub put_back-requires-clause-apart : goal.put_back-requires-clause-apart
@@ -77,7 +77,7 @@ put_back-requires-clause-apart g c =
     let t = self.tables in
     let A : Rest → Type 0 = λ x. Each (IsApart (record { due = c.in-Some.entry.due; number = c.in-Some.entry.number + 1; command = record { first = c.in_ok-next.next; rest = Some x } })) c.pop.new.self.entries in
     subst A (sym c.behind.ensures)
-    (is-apart (declared_scope t.basis.bank) (names_in t) (sources t) self.plan c.pop.new.self c.in-Some.entry c.in-Some.ensures.first c.pop.ensures.spaced c.requires.right.queue
+    (is-apart (without_witnesses t.basis.bank) (naming_in t) (sources t) self.plan c.pop.new.self c.in-Some.entry c.in-Some.ensures.first c.pop.ensures.spaced c.requires.right.queue
     c.in-Some-rest.rest c.in-Some-rest.is c.if-rest.false c.in_ok-next.next c.in_ok-next.ensures.command c.in_ok-next.ensures.numbers)
 
 pub returns-clause-takes : goal.returns-clause-takes
@@ -103,6 +103,6 @@ pub command_of-requires-clause-signed : goal.command_of-requires-clause-signed
 command_of-requires-clause-signed g c =
     let self = c.args.self.now in
     let t = self.tables in
-    let T : Option Rest → Type 0 = λ o. AreThere (declared_scope t.basis.bank) (sources t) (command_at (names_in t) c.in-Some.entry.command.first) o in
-    let w = subst T c.in-Some-rest.is (entry-good (declared_scope t.basis.bank) (names_in t) (sources t) self.plan c.pop.new.self c.in-Some.entry c.in-Some.ensures.first c.pop.ensures.spaced c.requires.right.queue).later in
+    let T : Option Rest → Type 0 = λ o. AreThere (without_witnesses t.basis.bank) (sources t) (command_at (naming_in t) c.in-Some.entry.command.first) o in
+    let w = subst T c.in-Some-rest.is (entry-good (without_witnesses t.basis.bank) (naming_in t) (sources t) self.plan c.pop.new.self c.in-Some.entry c.in-Some.ensures.first c.pop.ensures.spaced c.requires.right.queue).later in
     w.signed

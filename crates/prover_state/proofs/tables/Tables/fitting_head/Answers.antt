@@ -9,7 +9,7 @@ use Rattle.prover_state.specs.Internal.Heads.{the_hole_head}
 use Rattle.prover_state.specs.Internal.Holes.{holes_in}
 use Rattle.prover_state.specs.Internal.Names.{sketch_at}
 use Rattle.prover_state.specs.Internal.Pending.{base_of}
-use Rattle.prover_state.specs.Internal.Standing.{declared_scope, rows_in, sketches_in}
+use Rattle.prover_state.specs.Internal.Standing.{without_witnesses, rows_in, sketches_in}
 use Rattle.prover_state.proofs.HoleLaws.{leftmost-first, holes-at, base-at}
 use Rattle.prover_state.proofs.FittingLaws.{heads-list, variable-at, name-at, later-within, later-at}
 use Rattle.prover_state.proofs.tables.Tables.fitting_head.Goals as goal
@@ -20,7 +20,7 @@ returns-then-place-len c =
     let q = c.requires.right.0 in
     let r = c.requires.right.1 in
     let o = first_hole [] (sketch_at (sketches_in t) c.args.p).partial in
-    let scope = with_rows (declared_scope t.basis.bank) (take c.args.witnesses (rows_in t.basis)) in
+    let scope = with_rows (without_witnesses t.basis.bank) (take c.args.witnesses (rows_in t.basis)) in
     let vs = variables_for o in
     let ns = places_to (base_of o) 0 scope.names in
     let variables : c.in_ok-variables.variables.items ≡ vs = c.in_ok-variables.ensures (holes_in [] (sketch_at (sketches_in t) c.args.p).partial) (holes-at t q r c.args.p c.requires.number) ∙ ap variables_for (leftmost-first [] (sketch_at (sketches_in t) c.args.p).partial) in
@@ -37,7 +37,7 @@ returns-then-behind-names c =
     let q = c.requires.right.0 in
     let r = c.requires.right.1 in
     let o = first_hole [] (sketch_at (sketches_in t) c.args.p).partial in
-    let scope = with_rows (declared_scope t.basis.bank) (take c.args.witnesses (rows_in t.basis)) in
+    let scope = with_rows (without_witnesses t.basis.bank) (take c.args.witnesses (rows_in t.basis)) in
     let vs = variables_for o in
     let ns = places_to (base_of o) 0 scope.names in
     let variables : c.in_ok-variables.variables.items ≡ vs = c.in_ok-variables.ensures (holes_in [] (sketch_at (sketches_in t) c.args.p).partial) (holes-at t q r c.args.p c.requires.number) ∙ ap variables_for (leftmost-first [] (sketch_at (sketches_in t) c.args.p).partial) in
@@ -56,7 +56,7 @@ later_head-requires-clause-within c =
     let q = c.requires.right.0 in
     let r = c.requires.right.1 in
     let o = first_hole [] (sketch_at (sketches_in t) c.args.p).partial in
-    let scope = with_rows (declared_scope t.basis.bank) (take c.args.witnesses (rows_in t.basis)) in
+    let scope = with_rows (without_witnesses t.basis.bank) (take c.args.witnesses (rows_in t.basis)) in
     let vs = variables_for o in
     let ns = places_to (base_of o) 0 scope.names in
     let variables : c.in_ok-variables.variables.items ≡ vs = c.in_ok-variables.ensures (holes_in [] (sketch_at (sketches_in t) c.args.p).partial) (holes-at t q r c.args.p c.requires.number) ∙ ap variables_for (leftmost-first [] (sketch_at (sketches_in t) c.args.p).partial) in
@@ -76,7 +76,7 @@ returns c =
     let q = c.requires.right.0 in
     let r = c.requires.right.1 in
     let o = first_hole [] (sketch_at (sketches_in t) c.args.p).partial in
-    let scope = with_rows (declared_scope t.basis.bank) (take c.args.witnesses (rows_in t.basis)) in
+    let scope = with_rows (without_witnesses t.basis.bank) (take c.args.witnesses (rows_in t.basis)) in
     let vs = variables_for o in
     let ns = places_to (base_of o) 0 scope.names in
     let variables : c.in_ok-variables.variables.items ≡ vs = c.in_ok-variables.ensures (holes_in [] (sketch_at (sketches_in t) c.args.p).partial) (holes-at t q r c.args.p c.requires.number) ∙ ap variables_for (leftmost-first [] (sketch_at (sketches_in t) c.args.p).partial) in

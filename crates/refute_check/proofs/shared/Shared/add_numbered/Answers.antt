@@ -3,7 +3,7 @@ use Rattle.tableau_calculus.specs.Witnesses.{Row, IsTypedRow}
 use Rattle.term_bank.specs.Content.{HasTerm}
 use Rattle.term_bank.proofs.GrowLaws.{has_within}
 use Rattle.refute_check.specs.Internal.Branches.{Grow}
-use Rattle.refute_check.specs.Internal.Shared.{declared_in, the_atoms, the_rows}
+use Rattle.refute_check.specs.Internal.Shared.{declared_in, shared_atoms, the_rows}
 use Rattle.refute_check.proofs.SharedLaws.{with_bank, imported_extends, imported_good, extends_declared, extends_rows, extends_atoms, some_of, none_of}
 use Rattle.refute_check.proofs.RowLaws.{row_of_place, position_any, found_twice, found_once}
 use Rattle.refute_check.proofs.shared.Shared.add_numbered.Goals as goal
@@ -70,4 +70,4 @@ pub returns-clause-atoms : goal.returns-clause-atoms
 returns-clause-atoms c = λ _.
     let s = c.args.self.now in
     let b = c.import.new.self in
-    subst (Grow (the_atoms s)) (sym c.in_ok-push_row.ensures.atoms) (extends_atoms s (with_bank s b c.in_ok-id.ensures.grows) (imported_extends s b c.in_ok-id.ensures.grows) c.requires.good)
+    subst (Grow (shared_atoms s)) (sym c.in_ok-push_row.ensures.atoms) (extends_atoms s (with_bank s b c.in_ok-id.ensures.grows) (imported_extends s b c.in_ok-id.ensures.grows) c.requires.good)

@@ -4,7 +4,7 @@ use Rattle.tableau_calculus.specs.Literals.{IsBranch}
 use Rattle.tableau_calculus.proofs.ListLaws.{contains-get}
 use Rattle.tableau_calculus.proofs.ClosedLaws.{literal_in}
 use Rattle.refute_check.specs.Numbered.{numbered_literal}
-use Rattle.refute_check.specs.Internal.Shared.{scope_in, AreNumbersOf, NumbersLiteral}
+use Rattle.refute_check.specs.Internal.Shared.{shared_scope, AreNumbersOf, NumbersLiteral}
 use Rattle.refute_check.proofs.SharedLaws.{extends_itself, extends_on, branch-more}
 use Rattle.refute_check.proofs.shared.Shared.branch.Goals as goal
 
@@ -23,7 +23,7 @@ returns-in-None-clause-branch c = λ h.
     let branch = map f c.args.lits.now in
     let at = mapped_get f c.args.lits.now c.loop-i.i c.at.result.now c.at.ensures in
     subst (NumbersLiteral c.seen_literal.new.self l) c.in-None.is c.in_ok-lit.ensures.number
-    (literal_in (scope_in c.seen_literal.new.self) l branch (contains-get branch c.loop-i.i l at) h)
+    (literal_in (shared_scope c.seen_literal.new.self) l branch (contains-get branch c.loop-i.i l at) h)
 
 pub returns-in-None-clause-extends : goal.returns-in-None-clause-extends
 returns-in-None-clause-extends c = extends_on c.args.self.now c.loop-i.self c.seen_literal.new.self c.loop-i.invariant.1 c.in_ok-lit.ensures.extends
@@ -40,7 +40,7 @@ loop-i-preserved c =
     let all = ap (map f) (take_got c.args.lits.now i c.at.result.now c.at.ensures) ∙ map-append f done (c.at.result.now ∷ []) in (
       c.in_ok-lit.ensures.good,
       extends_on c.args.self.now c.loop-i.self new c.loop-i.invariant.1 c.in_ok-lit.ensures.extends,
-      subst (IsBranch (scope_in new)) (sym all) more.0,
+      subst (IsBranch (shared_scope new)) (sym all) more.0,
       subst (λ ls. AreNumbersOf new ls c.push.new.self) (sym all) more.1,
       c.in_ok-lit.ensures.seen,
     )

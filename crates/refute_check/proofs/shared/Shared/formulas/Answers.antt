@@ -4,7 +4,7 @@ use Rattle.stt_core.specs.Typing.{Scope, IsScope}
 use Rattle.stt_core.specs.TypedProblem.{IsFormula}
 use Rattle.tableau_calculus.specs.Start.{normal_literal}
 use Rattle.tableau_calculus.proofs.StartLaws.{formula_at, literals-more}
-use Rattle.refute_check.specs.Internal.Shared.{scope_in, AreNumbersOf}
+use Rattle.refute_check.specs.Internal.Shared.{shared_scope, AreNumbersOf}
 use Rattle.refute_check.proofs.SharedLaws.{extends_itself, extends_on, extends_scope, extends_numbers, numbers-more}
 use Rattle.refute_check.proofs.shared.Shared.formulas.Goals as goal
 
@@ -23,7 +23,7 @@ pub formula-requires-clause-formula : goal.formula-requires-clause-formula
 formula-requires-clause-formula c =
     let t = the_term c.at.result.now in
     subst (λ s. IsFormula s t) (sym (extends_scope c.args.self.now c.loop-i.self c.loop-i.invariant.1))
-    (formula_at (scope_in c.args.self.now) c.args.formulas.now c.loop-i.i t c.at.ensures c.requires.formulas)
+    (formula_at (shared_scope c.args.self.now) c.args.formulas.now c.loop-i.i t c.at.ensures c.requires.formulas)
 
 pub loop-i-preserved : goal.loop-i-preserved
 loop-i-preserved c =
@@ -31,7 +31,7 @@ loop-i-preserved c =
     let now = c.loop-i.self in
     let new = c.formula.new.self in
     let t = the_term c.at.result.now in
-    let f = normal_literal (scope_in old) in
+    let f = normal_literal (shared_scope old) in
     let done = take c.loop-i.i c.args.formulas.now in
     let more =
     numbers-more new (map f done) c.loop-i.list (f t) c.in_ok-lit.lit (extends_numbers now new c.in_ok-lit.ensures.extends c.loop-i.invariant.0 (map f done) c.loop-i.list c.loop-i.invariant.2) c.in_ok-lit.ensures.number

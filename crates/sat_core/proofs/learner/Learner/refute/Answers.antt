@@ -7,7 +7,7 @@ use Rattle.sat_log.specs.declared.chain.Premise.{Premise}
 use Rattle.sat_log.specs.declared.log.LogEntry.{LogEntry}
 use Rattle.sat_log.specs.Chains.{chain_result, results}
 use Rattle.sat_propagate.specs.Internal.Propagator.{texts}
-use Rattle.sat_core.specs.Internal.Learned.{AreNamed}
+use Rattle.sat_core.specs.Internal.Learned.{AreNamedPremises}
 use Rattle.sat_core.specs.Internal.Learner.{IsNamedPropagator, IsLearnerOf}
 use Rattle.sat_core.proofs.NameLaws.{appended_results, ready_learned, ready_marks}
 use Rattle.sat_core.proofs.LearnerLaws.{Grew-same, Grew-pushed}
@@ -37,8 +37,8 @@ returns-in_err-push-clause-grew c = Grew-same c.args.self.now _ refl refl c.in_e
 pub returns-clause-last : goal.returns-clause-last
 returns-clause-last c =
     let s = c.args.self.now in
-    let named : AreNamed s.clauses (results s.log) c.as_slice.result.now s.propagator.clauses.items =
-    subst (λ (names : List Premise). AreNamed s.clauses (results s.log) names s.propagator.clauses.items) (sym c.as_slice.ensures.value) c.requires.learner.ready.named in
+    let named : AreNamedPremises s.clauses (results s.log) c.as_slice.result.now s.propagator.clauses.items =
+    subst (λ (names : List Premise). AreNamedPremises s.clauses (results s.log) names s.propagator.clauses.items) (sym c.as_slice.ensures.value) c.requires.learner.ready.named in
     appended_results s.clauses s.log c.push.new.self c.in_ok-chain.chain []
     (c.in_ok-chain.ensures.refuted s.clauses (results s.log) named (c.named.ensures ∙ ap Some (sym c.as_slice-2.ensures))) c.in_ok-push.ensures.ok
 
@@ -48,8 +48,8 @@ returns-clause-learner c =
     let marks = c.refuted_chain.new.marks in
     let after = c.push.new.self in
     let clause = c.named.result.now in
-    let named : AreNamed s.clauses (results s.log) c.as_slice.result.now s.propagator.clauses.items =
-    subst (λ (names : List Premise). AreNamed s.clauses (results s.log) names s.propagator.clauses.items) (sym c.as_slice.ensures.value) c.requires.learner.ready.named in
+    let named : AreNamedPremises s.clauses (results s.log) c.as_slice.result.now s.propagator.clauses.items =
+    subst (λ (names : List Premise). AreNamedPremises s.clauses (results s.log) names s.propagator.clauses.items) (sym c.as_slice.ensures.value) c.requires.learner.ready.named in
     let are : results after ≡ results s.log ++ [] ∷ [] =
     appended_results s.clauses s.log after c.in_ok-chain.chain []
     (c.in_ok-chain.ensures.refuted s.clauses (results s.log) named (c.named.ensures ∙ ap Some (sym c.as_slice-2.ensures))) c.in_ok-push.ensures.ok in
@@ -68,8 +68,8 @@ pub returns-clause-grew : goal.returns-clause-grew
 returns-clause-grew c =
     let s = c.args.self.now in
     let appends = c.in_ok-push.ensures.ok in
-    let named : AreNamed s.clauses (results s.log) c.as_slice.result.now s.propagator.clauses.items =
-    subst (λ (names : List Premise). AreNamed s.clauses (results s.log) names s.propagator.clauses.items) (sym c.as_slice.ensures.value) c.requires.learner.ready.named in
+    let named : AreNamedPremises s.clauses (results s.log) c.as_slice.result.now s.propagator.clauses.items =
+    subst (λ (names : List Premise). AreNamedPremises s.clauses (results s.log) names s.propagator.clauses.items) (sym c.as_slice.ensures.value) c.requires.learner.ready.named in
     let derived : chain_result s.clauses (results s.log) c.in_ok-chain.chain ≡ Some [] =
     c.in_ok-chain.ensures.refuted s.clauses (results s.log) named (c.named.ensures ∙ ap Some (sym c.as_slice-2.ensures)) in
     let empty : appends.outcome ≡ [] = same_Some _ _ (sym appends.derived ∙ derived) in

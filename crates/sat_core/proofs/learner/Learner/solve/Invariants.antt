@@ -1,5 +1,5 @@
 use Rattle.std.proofs.Common.{◌≡◌, ◌≤◌, ◌-◌, false, length}
-use Rattle.sat_core.specs.Internal.Learner.{IsLearner, Grew}
+use Rattle.sat_core.specs.Internal.Learner.{IsLearner, GrewLearner}
 use Rattle.sat_core.proofs.learner.Learner.solve.Given as goal
 
 abbrev pub invariant-loop-answer : goal.invariant-loop-answer
@@ -7,7 +7,7 @@ invariant-loop-answer l = record {
   learner : IsLearner l.self;
   still_open : l.self.is_refuted ≡ false;
   within : length l.self.log ≤ l.fn.budget;
-  grew : Grew l.fn.self l.self;
+  grew : GrewLearner l.fn.self l.self;
 }
 
 abbrev pub decreases-loop-answer : goal.decreases-loop-answer

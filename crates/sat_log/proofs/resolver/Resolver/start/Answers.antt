@@ -1,6 +1,6 @@
 use Rattle.std.proofs.Common.{[], take, sym, ap, ◌∙◌}
 use Rattle.std.proofs.lemmas.List.{take_more}
-use Rattle.sat_log.specs.Resolution.{without_repeats}
+use Rattle.sat_log.specs.Resolution.{each_once}
 use Rattle.sat_log.proofs.ResolutionLaws.{HasNoRepeats-made, added_more}
 use Rattle.sat_log.proofs.resolver.Resolver.start.Goals as goal
 
@@ -12,4 +12,4 @@ loop-literal-preserved c =
     let literals = c.args.literals.now in
     let i = c.loop-literal.literal-index in
     added_more [] (take i literals) _ c.loop-literal.self c.add.new.self c.loop-literal.invariant c.in_ok-add.ensures
-    ∙ ap without_repeats (sym (take_more literals i _ c.loop-literal-test.true))
+    ∙ ap each_once (sym (take_more literals i _ c.loop-literal-test.true))

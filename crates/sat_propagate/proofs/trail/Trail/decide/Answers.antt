@@ -1,6 +1,6 @@
 use Rattle.std.proofs.Common.{◌≡◌, ◌<◌, ◌++◌, ◌∷◌, [], ℕ, List, None, true, false, length, map, set, refl, sym, ap, subst, ◌∙◌, arith}
 use Rattle.std.proofs.lemmas.List.{length-map}
-use Rattle.sat_base.specs.Literal.{mentions}
+use Rattle.sat_base.specs.Literal.{mentions_variable}
 use Rattle.sat_propagate.specs.Internal.Trail.{TrailState, literals, IsTrailInside}
 use Rattle.sat_propagate.specs.declared.trail.Step.{Step}
 use Rattle.sat_propagate.specs.declared.trail.Cell.{Cell}
@@ -14,7 +14,7 @@ invariant_of-self-2 c =
     let last : Step = record { literal = c.args.literal; reason = None } in
     let place_is : c.len-place.result ≡ length steps = omega arith in
     let made : c.args.literal.var.0 < length inside.cells.items = subst (λ n. c.args.literal.var.0 < n) (ap (λ (t : TrailState). length t.phases) (sym c.self.view_is) ∙ length-map inside.cells.items (λ (cell : Cell). cell.positive)) c.requires.made in
-    let absent : mentions (literals steps) c.args.literal.var ≡ false = ap (λ (t : TrailState). mentions (literals t.steps) c.args.literal.var) c.self.view_is ∙ c.requires.undecided in
+    let absent : mentions_variable (literals steps) c.args.literal.var ≡ false = ap (λ (t : TrailState). mentions_variable (literals t.steps) c.args.literal.var) c.self.view_is ∙ c.requires.undecided in
     let cells : List Cell = set inside.cells.items c.args.literal.var.0 (record { assigned = true; positive = c.args.literal.positive; place = c.len-place.result }) in
     let started_read : c.push_reserved.new.self.items ≡ inside.starts.items ++ c.len-place.result ∷ [] = cc in
     let started_is : c.push_reserved.new.self.items ≡ inside.starts.items ++ length steps ∷ [] = started_read ∙ ap (λ (n : ℕ). inside.starts.items ++ n ∷ []) place_is in

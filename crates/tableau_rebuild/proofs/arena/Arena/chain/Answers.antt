@@ -2,9 +2,9 @@ use Rattle.std.proofs.Common.{◌≡◌, ◌+◌, suc, length, slice_get, sym, a
 use Rattle.std.proofs.lemmas.Option.{slice_get-get_or}
 use Rattle.sat_log.specs.declared.chain.Chain.{Chain}
 use Rattle.sat_log.specs.declared.log.LogEntry.{LogEntry}
-use Rattle.sat_log.specs.Resolution.{without_repeats}
+use Rattle.sat_log.specs.Resolution.{each_once}
 use Rattle.tableau_clauses.specs.Table.{the_clauses}
-use Rattle.tableau_rebuild.specs.Internal.Arenas.{AreResults, IsBefore, IsThere, IsChained}
+use Rattle.tableau_rebuild.specs.Internal.Arenas.{AreResults, IsEarlierDraft, IsThere, IsChained}
 use Rattle.tableau_rebuild.proofs.ArenaLaws.{before_next, extends-more, results_later}
 use Rattle.tableau_rebuild.proofs.ChainLaws.{there_later, first_facts, chain_entry, chained_first, chained_last}
 use Rattle.tableau_rebuild.proofs.arena.Arena.chain.Goals as goal
@@ -37,7 +37,7 @@ loop-k-init c =
       clauses = c.in_ok-standing.ensures.clauses;
       results = c.in_ok-standing.ensures.results;
       chained =
-          chained_first t log c.requires.right c.premise.new.self.drafts.items c.args.n chain first c.start.new.self c.in_ok-standing.standing c.chain-chain.ensures c.clause_of.ensures (c.in_ok-start.ensures ∙ ap without_repeats c.as_slice.ensures) (c.in_ok-standing.ensures.stands first c.clause_of.ensures);
+          chained_first t log c.requires.right c.premise.new.self.drafts.items c.args.n chain first c.start.new.self c.in_ok-standing.standing c.chain-chain.ensures c.clause_of.ensures (c.in_ok-start.ensures ∙ ap each_once c.as_slice.ensures) (c.in_ok-standing.ensures.stands first c.clause_of.ensures);
     }
 
 pub step-requires-clause-drawn : goal.step-requires-clause-drawn
@@ -86,7 +86,7 @@ loop-k-preserved c =
     let made = c.in_ok-standing-2.ensures in
     record {
       drawn = made.drawn;
-      before = subst (IsBefore new.drafts.items c.args.n) e made.before;
+      before = subst (IsEarlierDraft new.drafts.items c.args.n) e made.before;
       extends = extends-more c.args.self.now.drafts.items c.loop-k.self.drafts.items new.drafts.items c.loop-k.invariant.extends made.extends;
       clauses = made.clauses ∙ c.loop-k.invariant.clauses;
       results = made.results ∙ c.loop-k.invariant.results;

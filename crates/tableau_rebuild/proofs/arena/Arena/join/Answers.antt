@@ -1,7 +1,7 @@
 use Rattle.std.proofs.Common.{refl, ap, subst}
 use Rattle.tableau_rebuild.specs.declared.draft.Draft.TheVariants.{Close, Cut}
 use Rattle.tableau_rebuild.specs.declared.arena.Standing.TheVariants.{Line}
-use Rattle.tableau_rebuild.specs.Internal.Arenas.{IsWithin}
+use Rattle.tableau_rebuild.specs.Internal.Arenas.{IsStandingWithin}
 use Rattle.tableau_rebuild.proofs.JoinLaws.{closed_in_order, closed_turned, cut_joined, step_drawn, step_before, close_children, cut_children}
 use Rattle.tableau_rebuild.proofs.arena.Arena.join.Goals as goal
 
@@ -49,8 +49,8 @@ returns-in_ok-number-in-Line-Line-clause-drawn c =
     let new = c.push.new.self in
     let on = c.in-Line-Line.on in
     let off = c.in-Line-Line.off in
-    let below = subst (IsWithin t old.drafts.items) c.in-Line-Line.is-0 c.requires.positive in
-    let above = subst (IsWithin t old.drafts.items) c.in-Line-Line.is-1 c.requires.negative in
+    let below = subst (IsStandingWithin t old.drafts.items) c.in-Line-Line.is-0 c.requires.positive in
+    let above = subst (IsStandingWithin t old.drafts.items) c.in-Line-Line.is-1 c.requires.negative in
     step_drawn t old.drafts.items new.drafts.items c.args.at new.of_clause.items old.of_clause.items (Cut c.args.at c.args.var on off) c.requires.drawn c.in_ok-number-in-Line-Line.ensures.of_clause c.in_ok-number-in-Line-Line.ensures.drafts refl c.requires.before
     (cut_children t old.drafts.items new.drafts.items c.args.at c.args.var on off above below)
 
@@ -62,6 +62,6 @@ pub returns-in_ok-number-in-Line-Line-clause-joined : goal.returns-in_ok-number-
 returns-in_ok-number-in-Line-Line-clause-joined c =
     let t = c.args.steps.now in
     let old = c.args.self.now.drafts.items in
-    let below = subst (IsWithin t old) c.in-Line-Line.is-0 c.requires.positive in
-    let above = subst (IsWithin t old) c.in-Line-Line.is-1 c.requires.negative in
+    let below = subst (IsStandingWithin t old) c.in-Line-Line.is-0 c.requires.positive in
+    let above = subst (IsStandingWithin t old) c.in-Line-Line.is-1 c.requires.negative in
     cut_joined t old c.push.new.self.drafts.items c.args.at c.args.var c.in-Line-Line.off c.in-Line-Line.on (Line c.in_ok-number-in-Line-Line.number) c.args.positive c.args.negative c.in-Line-Line.is-0 c.in-Line-Line.is-1 below above c.in_ok-number-in-Line-Line.ensures.drafts (ap Line c.in_ok-number-in-Line-Line.ensures.last)

@@ -1,7 +1,7 @@
 use Rattle.std.proofs.Common.{◌≡◌, ◌++◌, ℕ, [], ◌∷◌, List, Option, Some, None, slice_get, slice_index_or, slice_set, refl, sym, ap, subst, ◌∙◌}
 use Rattle.rebuild_spec.proofs.WalkLaws.{get-middle}
 use Rattle.tableau_rebuild.specs.declared.draft.Draft.TheVariants.{Clause as ClauseDraft}
-use Rattle.tableau_rebuild.specs.Internal.Arenas.{IsDrawn, IsBefore}
+use Rattle.tableau_rebuild.specs.Internal.Arenas.{IsDrawn, IsEarlierDraft}
 use Rattle.tableau_rebuild.proofs.ArenaLaws.{drawn_clause, before_clause}
 use Rattle.tableau_rebuild.proofs.arena.Arena.line_of.Goals as goal
 
@@ -21,7 +21,7 @@ returns-clause-drawn c =
     (drawn_clause old of_clause c.requires.drawn n c.requires.within (unknown of_clause n c.index.result.now c.index.ensures c.in_default.not-Some))))
 
 pub returns-clause-before : goal.returns-clause-before
-returns-clause-before c = λ m k before. subst (λ ds. IsBefore ds m k) (sym c.in_ok-number.ensures.drafts) (before_clause c.args.self.now.drafts.items c.args.n m k before)
+returns-clause-before c = λ m k before. subst (λ ds. IsEarlierDraft ds m k) (sym c.in_ok-number.ensures.drafts) (before_clause c.args.self.now.drafts.items c.args.n m k before)
 
 pub returns-clause-line : goal.returns-clause-line
 returns-clause-line c =

@@ -9,7 +9,7 @@ use Rattle.refute_print.proofs.AllLaws.{all-last}
 use Rattle.rebuild_spec.specs.Lines.{line_of}
 use Rattle.rebuild_spec.specs.Trees.{branch}
 use Rattle.tableau_rebuild.specs.declared.draft.Draft.TheVariants.{Clause}
-use Rattle.tableau_rebuild.specs.Tables.{the_atoms}
+use Rattle.tableau_rebuild.specs.Tables.{atoms_at}
 use Rattle.tableau_rebuild.specs.Internal.LineParts.{IsLineBy}
 use Rattle.tableau_rebuild.specs.Internal.Written.{the_tree}
 use Rattle.witness_names.specs.Rows.{rows_of}
@@ -32,7 +32,7 @@ pub returns-clause-small : goal.returns-clause-small
 returns-clause-small c =
     let order = c.args.order.now in
     let k = c.loop-k.k in
-    let A = the_atoms c.args.bank.now.terms c.args.atoms.now in
+    let A = atoms_at c.args.bank.now.terms c.args.atoms.now in
     let tree = the_tree c.args.bank.now.terms c.args.atoms.now c.args.steps.now c.args.drafts.now in
     let count = ap length c.loop-k.invariant.lines ∙ length-map (take k order) (λ i. line_of A (map tree order) (tree i)) in
     let most = take_most k order in
@@ -122,7 +122,7 @@ loop-k-preserved c =
     let right = line_made b atoms t ds c.requires.right c.args.last c.requires.last order c.requires.walked c.requires.inside numbers c.requires.numbers k i d c.in_ok-line.line listed drafted can line in
     record {
       branches = map_more (λ j. branch (the_tree b.terms atoms t ds j)) order k i c.loop-k.self.branches.items c.push-in-loop-k.new.self.items c.in_ok-packed.packed listed c.loop-k.invariant.branches (c.in_ok-packed.ensures ∙ c.as_slice-in-loop-k-2.ensures ∙ is) c.in_ok-push-2.ensures.items;
-      lines = map_more (λ j. line_of (the_atoms b.terms atoms) (map (the_tree b.terms atoms t ds) order) (the_tree b.terms atoms t ds j)) order k i c.loop-k.self.written.lines c.push.new.self c.in_ok-line.line listed c.loop-k.invariant.lines right c.in_ok-push.ensures.ok;
+      lines = map_more (λ j. line_of (atoms_at b.terms atoms) (map (the_tree b.terms atoms t ds) order) (the_tree b.terms atoms t ds j)) order k i c.loop-k.self.written.lines c.push.new.self c.in_ok-line.line listed c.loop-k.invariant.lines right c.in_ok-push.ensures.ok;
       rows = lines_more (rows_of b.terms c.args.witnesses.now) c.loop-k.self.written.lines c.push.new.self c.in_ok-line.line c.loop-k.self.written.rows c.rows_for_line-rows.result c.max-self.result c.in_ok-push.ensures.ok c.loop-k.invariant.rows (c.rows_for_line-rows.ensures numbers c.in_ok-line.line (subst (λ ls. IsLineBy b atoms t numbers ls d c.in_ok-line.line) (c.as_slice.ensures ∙ sym c.as_slice-in-loop-k.ensures) c.in_ok-line.ensures.line)) c.max-self.ensures;
       empty = c.in_ok-branch.ensures.empty;
       made = c.in_ok-line.ensures.made;

@@ -1,5 +1,5 @@
-use Rattle.mating_rules.specs.Noted.{IsRight}
+use Rattle.mating_rules.specs.Noted.{IsRightIndex}
 use Rattle.test_tables.proofs.tables.Tables.write_noted.Given as goal
 
 abbrev pub invariant-loop-lit : goal.invariant-loop-lit
-invariant-loop-lit l = IsRight l.self.bank.terms l.self.lits l.index
+invariant-loop-lit l = IsRightIndex l.self.bank.terms l.self.lits l.index
