@@ -1,7 +1,6 @@
 -- Means of proof: what private contracts and proofs speak of.
 pub mod SameKey
 pub mod Memos
-pub mod Places
 pub mod Replacing
 pub mod Body
 pub mod Parts

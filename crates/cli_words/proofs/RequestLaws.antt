@@ -3,7 +3,8 @@ use Rattle.std.proofs.Common.{◌≡◌, ◌<◌, ◌≤◌, ◌+◌, ◌-◌, �
 use Rattle.std.specs.List.{list_all}
 use Rattle.std.proofs.lemmas.Bool.{and_parts}
 use Rattle.std.proofs.lemmas.Bool.Decides.{nat_tests}
-use Rattle.cli_words.specs.Names.{is_file_name, is_digit, is_positive_decimal, number_from, number_to}
+use Rattle.cli_words.specs.Names.{is_file_name, is_positive_decimal, number_to}
+use Rattle.outside.specs.Decimal.{is_digit, number_from}
 use Rattle.cli_words.specs.declared.options.OptionName.TheVariants.{Mode, Check, Demo}
 use Rattle.cli_words.specs.Line.{is_taken}
 use Rattle.cli_words.specs.Requests.{WordEntry, value, problem, Request, prove, refutation, generated, naming, asked, entries_in, asked_by}

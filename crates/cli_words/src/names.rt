@@ -1,7 +1,8 @@
 //! Names of files, and numbers.
 ghost use Rattle.std.specs.Prelude.{◌≡◌};
 ghost use Rattle.std.specs.List.{list_any, list_all};
-ghost use Rattle.cli_words.specs.Names.{is_control, is_file_name, is_digit, is_positive_decimal, number_to};
+ghost use Rattle.cli_words.specs.Names.{is_control, is_file_name, is_positive_decimal, number_to};
+ghost use Rattle.outside.specs.Decimal.{is_digit};
 
 fn has_control(bytes: &[u8]) -> bool
     ensures { result ≡ list_any is_control bytes.now }

@@ -6,7 +6,7 @@ use Rattle.std.proofs.lemmas.Option.{slice_get_within}
 use Rattle.stt_core.specs.SimpleType.{SimpleType, base, arrow}
 use Rattle.stt_core.specs.Lambda.{Lambda}
 use Rattle.search_spec.specs.Partial.{Partial, head, application, in_first, with_filling, blank_partial, with_holes}
-use Rattle.instantiate.specs.Internal.PartialSizes.{applications}
+use Rattle.instantiate.specs.PartialView.{applications}
 use Rattle.instantiate.specs.Internal.Holes.{placed_partial, filling, filling_all}
 use Rattle.instantiate.specs.Internal.Blanks.{blanks}
 use Rattle.instantiate.proofs.HoleLaws.{drop-at}

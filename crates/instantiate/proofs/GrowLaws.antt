@@ -3,7 +3,7 @@ use Rattle.std.specs.Prelude.{◌≡◌, ℕ, nat_eq, Bool, true, false, List, [
 use Rattle.std.proofs.Common.{ap, sym, ◌∙◌, subst}
 use Rattle.std.proofs.lemmas.Option.{same_Some}
 use Rattle.std.proofs.lemmas.Bool.{eqb-true}
-use Rattle.stt_core.specs.SimpleType.{SimpleType, base, formula, is_declared}
+use Rattle.stt_core.specs.SimpleType.{SimpleType, base, formula, is_declared, target}
 use Rattle.stt_core.specs.Lambda.{Lambda, bound, constant, lam, app, IsLeaf}
 use Rattle.stt_core.specs.Typing.{Scope, IsScope, AreDeclared, type_of}
 use Rattle.stt_core.specs.Canonical.{IsNeutral}
@@ -15,7 +15,6 @@ use Rattle.term_bank.specs.Content.{Content, HasTerm}
 use Rattle.term_bank.specs.Terms.{IsTypedTerm}
 use Rattle.search_spec.specs.Partial.{Partial, head, Hole, first_hole, with_filling, with_holes}
 use Rattle.search_spec.specs.TypedPartial.{IsPartial}
-use Rattle.search_spec.specs.Heads.{target}
 use Rattle.search_spec.specs.Commands.{filling_at}
 use Rattle.search_spec.specs.TypedState.{IsTypedSketch}
 use Rattle.search_spec.proofs.PartialLaws.{Fills, with_holes_typed, fills, whole_canonical}

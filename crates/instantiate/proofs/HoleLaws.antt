@@ -5,7 +5,8 @@ use Rattle.std.proofs.lemmas.Option.{same_Some}
 use Rattle.stt_core.specs.SimpleType.{SimpleType}
 use Rattle.stt_core.specs.Lambda.{Lambda}
 use Rattle.search_spec.specs.Partial.{Partial, hole, head, function, application, Hole, first_hole, or_else}
-use Rattle.instantiate.specs.Internal.PartialSizes.{applications, partial_node_count, partial_node_counts}
+use Rattle.instantiate.specs.Internal.PartialSizes.{partial_node_count, partial_node_counts}
+use Rattle.instantiate.specs.PartialView.{applications}
 use Rattle.instantiate.specs.Internal.Holes.{base_in, base_among, first_among}
 
 option_map-or_else : {A B : Type 0} (f : A → B) (x y : Option A) → option_map f (or_else x y) ≡ or_else (option_map f x) (option_map f y)

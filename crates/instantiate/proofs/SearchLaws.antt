@@ -1,12 +1,11 @@
 -- The words of the search on growing partial terms.
 use Rattle.std.specs.Prelude.{◌≡◌, true, List, [], Some, unwrap_or}
 use Rattle.std.proofs.Common.{ap, ◌∙◌, eq-eqb}
-use Rattle.stt_core.specs.SimpleType.{SimpleType}
+use Rattle.stt_core.specs.SimpleType.{SimpleType, target}
 use Rattle.stt_core.specs.Lambda.{Lambda, bound, constant, lam, app, IsLeaf}
 use Rattle.stt_core.specs.Typing.{Scope, type_of}
 use Rattle.stt_core.specs.Canonical.{IsNeutral}
 use Rattle.search_spec.specs.Partial.{Partial, first_hole}
-use Rattle.search_spec.specs.Heads.{target}
 use Rattle.search_spec.specs.State.{Sketch}
 use Rattle.search_spec.specs.TypedState.{GrowsSketch}
 use Rattle.search_spec.specs.Commands.{filling_at, growth_by}

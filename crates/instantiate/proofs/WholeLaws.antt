@@ -12,10 +12,11 @@ use Rattle.term_bank.specs.Terms.{term_at, IsTypedTerm}
 use Rattle.term_bank.proofs.GrowLaws.{grows_itself, grown_scope, has_at}
 use Rattle.term_bank.proofs.TypeLaws.{body_of}
 use Rattle.term_bank.proofs.TreeLaws.{AreImported, argument_ready}
-use Rattle.instantiate.specs.Internal.PartialSizes.{applications}
+use Rattle.instantiate.specs.PartialView.{applications}
 use Rattle.instantiate.specs.Internal.Holes.{base_in, base_among}
 use Rattle.instantiate.specs.Internal.Blanks.{term_of}
-use Rattle.instantiate.specs.Internal.Interned.{AreTyped, HaveInternedTerms}
+use Rattle.instantiate.specs.Internal.Interned.{AreTyped}
+use Rattle.term_bank.specs.Internal.Places.{HaveTerms}
 use Rattle.instantiate.proofs.HoleLaws.{base_in-function, base_in-application}
 
 term_of-applications : (p : Partial) (qs : List Partial) → term_of (applications p qs) ≡ applied (term_of p) (map term_of qs)
@@ -70,10 +71,10 @@ at_typed old new ps i p g typed at =
 pub map-at : (ps : List Partial) (i : ℕ) (p : Partial) → slice_get ps i ≡ Some p → slice_get (map term_of ps) i ≡ Some (term_of p)
 map-at ps i p at = slice_get-map term_of ps i ∙ ap (option_map term_of) at
 
-pub all_have : (old new : Content) (us : List Lambda) (ids : List ℕ) (i : ℕ) → AreImported old new (take i us) ids → length us ≤ i → HaveInternedTerms new ids us
+pub all_have : (old new : Content) (us : List Lambda) (ids : List ℕ) (i : ℕ) → AreImported old new (take i us) ids → length us ≤ i → HaveTerms new ids us
 all_have old new us ids i r past = record { within = r.within; are = r.are ∙ take_all i us past }
 
-pub spine_same : (b : Content) (h : Lambda) (ids slice : List ℕ) (us : List Lambda) → HaveInternedTerms b ids us → slice ≡ ids → applied h (map (term_at b.terms) slice) ≡ applied h us
+pub spine_same : (b : Content) (h : Lambda) (ids slice : List ℕ) (us : List Lambda) → HaveTerms b ids us → slice ≡ ids → applied h (map (term_at b.terms) slice) ≡ applied h us
 spine_same b h ids slice us r e = ap (applied h) (ap (map (term_at b.terms)) e ∙ r.are)
 
 pub lam_ready : (old new : Content) (a : SimpleType) (p : Partial) (id : ℕ) (t : Lambda) → Grows old new → t ≡ lam a (term_of p) → IsTypedTerm (content_scope old) t → HasTerm new id (term_of p) → IsTypedTerm (content_scope new) (lam a (term_at new.terms id))
@@ -82,7 +83,7 @@ lam_ready old new a p id t g e typed has =
     let Q : Lambda → Type 0 = λ u. IsTypedTerm (content_scope old) u in
     subst P (sym (grown_scope old new g)) (subst Q (e ∙ ap (lam a) (sym (has_at new id (term_of p) has))) typed)
 
-pub app_ready : (old new : Content) (h : Lambda) (qs : List Partial) (ids slice : List ℕ) (t : Lambda) → Grows old new → t ≡ applied h (map term_of qs) → IsTypedTerm (content_scope old) t → HaveInternedTerms new ids (map term_of qs) → slice ≡ ids → IsTypedTerm (content_scope new) (applied h (map (term_at new.terms) slice))
+pub app_ready : (old new : Content) (h : Lambda) (qs : List Partial) (ids slice : List ℕ) (t : Lambda) → Grows old new → t ≡ applied h (map term_of qs) → IsTypedTerm (content_scope old) t → HaveTerms new ids (map term_of qs) → slice ≡ ids → IsTypedTerm (content_scope new) (applied h (map (term_at new.terms) slice))
 app_ready old new h qs ids slice t g e typed have same =
     let P : Scope → Type 0 = λ s. IsTypedTerm s (applied h (map (term_at new.terms) slice)) in
     let Q : Lambda → Type 0 = λ u. IsTypedTerm (content_scope old) u in

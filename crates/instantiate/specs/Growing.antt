@@ -1,10 +1,9 @@
 -- What a partial term grows to.
 use Rattle.std.specs.Prelude.{◌≡◌, ℕ, nat_eq, Bool, false, [], Option, Some, None}
-use Rattle.stt_core.specs.SimpleType.{SimpleType}
+use Rattle.stt_core.specs.SimpleType.{SimpleType, target}
 use Rattle.stt_core.specs.Lambda.{Lambda}
 use Rattle.stt_core.specs.Typing.{Scope, type_of}
 use Rattle.search_spec.specs.Partial.{Partial, Hole, first_hole, whole_term}
-use Rattle.search_spec.specs.Heads.{target}
 use Rattle.search_spec.specs.Commands.{filling_at}
 use Rattle.search_spec.specs.TypedState.{IsTypedSketch}
 use Rattle.term_bank.specs.Content.{Content, HasTerm}

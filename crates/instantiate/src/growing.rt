@@ -1,7 +1,7 @@
 //! How partial terms grow.
 ghost use Rattle.std.specs.Prelude.{◌≡◌, [], IfOk, IfSome, is_some, option_map};
 ghost use Rattle.stt_core.specs.View.{the_type, the_head};
-ghost use Rattle.search_spec.specs.Heads.{target};
+ghost use Rattle.stt_core.specs.SimpleType.{target};
 ghost use Rattle.search_spec.specs.Partial.{first_hole};
 ghost use Rattle.term_bank.specs.Content.{content_scope, Grows};
 ghost use Rattle.instantiate.specs.Growing.{IsTypedPartialTerm, TakesHead, fits, IsGrown};

@@ -4,7 +4,8 @@ ghost use Rattle.term_bank.specs.Content.{content_scope, HasTerm, Grows};
 ghost use Rattle.term_bank.specs.Terms.{IsTypedTerm};
 ghost use Rattle.instantiate.specs.Internal.Blanks.{term_of};
 ghost use Rattle.instantiate.specs.Internal.Holes.{base_in, base_among};
-ghost use Rattle.instantiate.specs.Internal.Interned.{AreTyped, HaveInternedTerms};
+ghost use Rattle.instantiate.specs.Internal.Interned.{AreTyped};
+ghost use Rattle.term_bank.specs.Internal.Places.{HaveTerms};
 
 use crate::partial::{Partial, PartialNode, Partials};
 use std::alloc::{AllocError, Global};
@@ -36,7 +37,7 @@ pub(crate) fn intern(alloc: Global, bank: &mut Bank, partial: &Partial) -> Resul
 fn intern_all(alloc: Global, bank: &mut Bank, partials: &Partials) -> Result<Ids, AllocError>
     requires whole { base_among partials.now ≡ None }
     requires typed { AreTyped (content_scope bank.old) (map term_of partials.now) }
-    ensures terms { IfOk result (λ ids. HaveInternedTerms bank.new ids (map term_of partials.now)) }
+    ensures terms { IfOk result (λ ids. HaveTerms bank.new ids (map term_of partials.now)) }
     ensures grows { Grows bank.old bank.new }
 {
     let mut ids = Ids::new(alloc);

@@ -4,7 +4,7 @@ use Rattle.std.proofs.Common.{sym, ap, ◌∙◌, subst}
 use Rattle.std.proofs.lemmas.List.Elements.{All-head}
 use Rattle.stt_core.specs.Lambda.{Lambda, neg}
 use Rattle.tableau_calculus.specs.Literals.{Literal, opposite, as_literal, is_negated}
-use Rattle.tableau_calculus.specs.Start.{same_sign}
+use Rattle.tableau_calculus.specs.Kinds.{same_sign}
 use Rattle.tableau_calculus.proofs.LiteralLaws.{opposite_twice}
 use Rattle.term_bank.specs.Shape.{Shape}
 use Rattle.term_bank.specs.Terms.{term_at, shape_term, IsBelow}

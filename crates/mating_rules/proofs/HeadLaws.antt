@@ -8,7 +8,7 @@ use Rattle.std.proofs.lemmas.Bool.{ltb-false}
 use Rattle.stt_core.specs.Lambda.{Lambda}
 use Rattle.stt_core.specs.SameTerm.{same_term}
 use Rattle.stt_core.proofs.SameTerms.{same_term-true, same_term-of}
-use Rattle.tableau_calculus.specs.Start.{same_sign}
+use Rattle.tableau_calculus.specs.Kinds.{same_sign}
 use Rattle.sat_base.specs.declared.literal.SatLit.{SatLit}
 use Rattle.indexmap.specs.IndexMap.{insert_entry, set_value_at}
 use Rattle.mating_rules.specs.Noted.{Signed, of_sign, kept_under}

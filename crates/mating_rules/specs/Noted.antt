@@ -3,7 +3,7 @@ use Rattle.std.specs.Prelude.{◌≡◌, ◌<◌, ◌&&◌, not, ℕ, suc, Bool,
 use Rattle.stt_core.specs.SimpleType.{base}
 use Rattle.stt_core.specs.Lambda.{Constant, equality, Lambda, constant, app}
 use Rattle.stt_core.specs.SameTerm.{same_term}
-use Rattle.tableau_calculus.specs.Start.{same_sign}
+use Rattle.tableau_calculus.specs.Kinds.{same_sign}
 use Rattle.sat_base.specs.declared.literal.SatLit.{SatLit}
 use Rattle.search_spec.specs.Spine.{head_of, is_compared, is_application, is_spine, same_head}
 use Rattle.search_spec.specs.Partners.{equates_on}

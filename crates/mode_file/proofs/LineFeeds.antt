@@ -3,10 +3,10 @@ use Rattle.std.proofs.Common.{◌≡◌, ℕ, ◌==◌, not, Bool, true, false, 
 use Rattle.std.specs.List.{onto_first}
 use Rattle.mode_file.specs.declared.bytes.ByteClass.TheVariants.{InLine}
 use Rattle.outside.specs.Lines.{lines_of}
-use Rattle.mode_file.specs.Lines.{front}
-use Rattle.mode_file.specs.Internal.Fronts.{is_in, after}
+use Rattle.outside.specs.Fronts.{front, behind_front}
+use Rattle.mode_file.specs.Internal.Fronts.{is_in}
 
-lines_of-front : (c : ℕ) (cs : List ℕ) → lines_of (c ∷ cs) ≡ front (is_in InLine) (c ∷ cs) ∷ lines_of (drop 1 (after (is_in InLine) (c ∷ cs)))
+lines_of-front : (c : ℕ) (cs : List ℕ) → lines_of (c ∷ cs) ≡ front (is_in InLine) (c ∷ cs) ∷ lines_of (drop 1 (behind_front (is_in InLine) (c ∷ cs)))
 lines_of-front c [] = go (c == 10)
   where
     go : (b : Bool) → (if b then [] ∷ [] else (c ∷ []) ∷ []) ≡ (if not b then c ∷ [] else []) ∷ lines_of (drop 1 (if not b then [] else c ∷ []))
@@ -14,12 +14,12 @@ lines_of-front c [] = go (c == 10)
     go false = refl
 lines_of-front c (d ∷ ds) = go (c == 10) (lines_of-front d ds)
   where
-    go : (b : Bool) → lines_of (d ∷ ds) ≡ front (is_in InLine) (d ∷ ds) ∷ lines_of (drop 1 (after (is_in InLine) (d ∷ ds))) → (if b then [] ∷ lines_of (d ∷ ds) else onto_first c (lines_of (d ∷ ds))) ≡ (if not b then c ∷ front (is_in InLine) (d ∷ ds) else []) ∷ lines_of (drop 1 (if not b then after (is_in InLine) (d ∷ ds) else c ∷ d ∷ ds))
+    go : (b : Bool) → lines_of (d ∷ ds) ≡ front (is_in InLine) (d ∷ ds) ∷ lines_of (drop 1 (behind_front (is_in InLine) (d ∷ ds))) → (if b then [] ∷ lines_of (d ∷ ds) else onto_first c (lines_of (d ∷ ds))) ≡ (if not b then c ∷ front (is_in InLine) (d ∷ ds) else []) ∷ lines_of (drop 1 (if not b then behind_front (is_in InLine) (d ∷ ds) else c ∷ d ∷ ds))
     go true h = refl
     go false h = ap (onto_first c) h
 
 -- the first line, and what follows it
-pub first_line : (bs line rest : List ℕ) → (length bs == 0) ≡ false → line ≡ front (is_in InLine) bs → rest ≡ after (is_in InLine) bs → lines_of bs ≡ line ∷ lines_of (drop 1 rest)
+pub first_line : (bs line rest : List ℕ) → (length bs == 0) ≡ false → line ≡ front (is_in InLine) bs → rest ≡ behind_front (is_in InLine) bs → lines_of bs ≡ line ∷ lines_of (drop 1 rest)
 first_line [] line rest h e f = cc
 first_line (c ∷ cs) line rest h e f = lines_of-front c cs ∙ ap₂ (λ x y. x ∷ lines_of (drop 1 y)) (sym e) (sym f)
 

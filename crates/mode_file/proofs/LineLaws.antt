@@ -6,16 +6,18 @@ use Rattle.std.proofs.lemmas.Slice.Eq.{bytes_eq-Decides}
 use Rattle.mode_file.specs.declared.keys.Key.{Key}
 use Rattle.mode_file.specs.declared.keys.Key.TheVariants.{Process, Mate, Confront, Inst, Choose, Grow, Commands, Conflicts}
 use Rattle.mode_file.specs.Keys.{keys, key_name, greatest, key_of}
-use Rattle.mode_file.specs.Internal.Fronts.{after, is_in}
+use Rattle.mode_file.specs.Internal.Fronts.{is_in}
+use Rattle.outside.specs.Fronts.{behind_front}
 use Rattle.mode_file.specs.declared.bytes.ByteClass.TheVariants.{InWord}
-use Rattle.mode_file.specs.Grammar.{says_nothing, first_word, number_from, Sets}
+use Rattle.mode_file.specs.Grammar.{says_nothing, first_word, Sets}
+use Rattle.outside.specs.Decimal.{number_from}
 use Rattle.mode_file.specs.Internal.Reader.{digits_in}
 use Rattle.mode_file.proofs.NumeralLaws.{front-after, number_stands, number_found}
 
 -- a key's name at the front of a line
 pub record Begins (key : Key) (rest : List ℕ) : Type 0 where
   pub word : first_word (key_name key ++ (32 ∷ rest)) ≡ key_name key
-  pub behind : after (is_in InWord) (key_name key ++ (32 ∷ rest)) ≡ 32 ∷ rest
+  pub behind : behind_front (is_in InWord) (key_name key ++ (32 ∷ rest)) ≡ 32 ∷ rest
   pub says : says_nothing (key_name key ++ (32 ∷ rest)) ≡ false
   pub named : key_of (key_name key) ≡ Some key
 
@@ -64,16 +66,16 @@ module _ (line : List ℕ) (key : Key) (n : ℕ) (s : Sets line key n) where
   unfolding rest
   Sets-key = ap (λ (l : List ℕ). key_of (first_word l)) s.line_is ∙ ap key_of (begins key rest).word ∙ (begins key rest).named
 
-  pub Sets-digits : digits_in (after (is_in InWord) line) ≡ Some s.digits
+  pub Sets-digits : digits_in (behind_front (is_in InWord) line) ≡ Some s.digits
   unfolding rest
   Sets-digits =
-      ap (λ (l : List ℕ). digits_in (after (is_in InWord) l)) s.line_is
+      ap (λ (l : List ℕ). digits_in (behind_front (is_in InWord) l)) s.line_is
       ∙ ap digits_in (begins key rest).behind
       ∙ number_found (32 ∷ rest) s.digits (record { gap = s.gap; spaces = s.spaces; ending = s.ending; bytes_are = refl; decimal = s.decimal; ends = s.ends })
 
-pub sets : (line : List ℕ) (key : Key) (digits : List ℕ) → key_of (first_word line) ≡ Some key → digits_in (after (is_in InWord) line) ≡ Some digits → Sets line key (number_from 0 digits)
+pub sets : (line : List ℕ) (key : Key) (digits : List ℕ) → key_of (first_word line) ≡ Some key → digits_in (behind_front (is_in InWord) line) ≡ Some digits → Sets line key (number_from 0 digits)
 sets line key digits named h =
-    let stands = number_stands (after (is_in InWord) line) digits h in
+    let stands = number_stands (behind_front (is_in InWord) line) digits h in
     record {
       gap = stands.gap;
       digits = digits;
@@ -81,7 +83,7 @@ sets line key digits named h =
       ending = stands.ending;
       line_is =
           sym (front-after (is_in InWord) line)
-          ∙ ap (λ (w : List ℕ). w ++ after (is_in InWord) line) (name_is (first_word line) key named)
+          ∙ ap (λ (w : List ℕ). w ++ behind_front (is_in InWord) line) (name_is (first_word line) key named)
           ∙ ap (λ (r : List ℕ). key_name key ++ r) stands.bytes_are;
       decimal = stands.decimal;
       number_is = refl;

@@ -5,8 +5,7 @@ use Rattle.std.proofs.lemmas.Bool.{and_parts}
 use Rattle.std.proofs.lemmas.Bool.Decides.{nat_tests}
 use Rattle.std.proofs.lemmas.Str.Parse.{IsNumeralModel, numerals_by_fold, parse_digits}
 use Rattle.std.specs.Str.Parse.{ParsesUnsigned}
-use Rattle.mode_file.specs.Lines.{is_digit}
-use Rattle.mode_file.specs.Grammar.{is_decimal, number_from}
+use Rattle.outside.specs.Decimal.{is_digit, is_decimal, number_from}
 
 pub own : IsNumeralModel (λ ds. list_all is_digit ds ≡ true) (number_from 0)
 own = numerals_by_fold _ (search rules) number_from (search rules)

@@ -3,17 +3,17 @@ use Rattle.std.proofs.Common.{◌≡◌, ◌⊎◌, inl, inr, ℕ, zero, suc, �
 use Rattle.std.specs.List.{list_all}
 use Rattle.std.proofs.lemmas.Bool.{and_parts}
 use Rattle.std.proofs.lemmas.Bool.Decides.{nat_tests}
-use Rattle.mode_file.specs.Lines.{is_digit, front}
-use Rattle.mode_file.specs.Internal.Fronts.{is_space, after}
-use Rattle.mode_file.specs.Grammar.{is_decimal}
+use Rattle.outside.specs.Fronts.{front, behind_front}
+use Rattle.outside.specs.Decimal.{is_digit, is_decimal}
+use Rattle.mode_file.specs.Internal.Fronts.{is_space}
 use Rattle.mode_file.specs.Internal.Reader.{has_no_bytes, is_ending, behind_spaces, digits_in}
 use Rattle.mode_file.proofs.Numbers.{digits_of}
 
-pub front-after : (p : ℕ → Bool) (xs : List ℕ) → front p xs ++ after p xs ≡ xs
+pub front-after : (p : ℕ → Bool) (xs : List ℕ) → front p xs ++ behind_front p xs ≡ xs
 front-after p [] = refl
 front-after p (x ∷ xs) = go (p x) (front-after p xs)
   where
-    go : (b : Bool) → front p xs ++ after p xs ≡ xs → (if b then x ∷ front p xs else []) ++ (if b then after p xs else x ∷ xs) ≡ x ∷ xs
+    go : (b : Bool) → front p xs ++ behind_front p xs ≡ xs → (if b then x ∷ front p xs else []) ++ (if b then behind_front p xs else x ∷ xs) ≡ x ∷ xs
     go true h = ap (λ (ys : List ℕ). x ∷ ys) h
     go false h = refl
 
@@ -55,31 +55,31 @@ some_spaces : (xs : List ℕ) → not (has_no_bytes xs) ≡ true → list_all is
 some_spaces [] h k = absurd (cc)
 some_spaces (c ∷ cs) h k = (length cs, spaces_are (c ∷ cs) k)
 
-parted : (bytes : List ℕ) → not (has_no_bytes (front is_space bytes)) ≡ true → is_decimal (front is_digit (behind_spaces bytes)) ≡ true → is_ending (behind_spaces (after is_digit (behind_spaces bytes))) ≡ true → NumberStands bytes (front is_digit (behind_spaces bytes))
+parted : (bytes : List ℕ) → not (has_no_bytes (front is_space bytes)) ≡ true → is_decimal (front is_digit (behind_spaces bytes)) ≡ true → is_ending (behind_spaces (behind_front is_digit (behind_spaces bytes))) ≡ true → NumberStands bytes (front is_digit (behind_spaces bytes))
 parted bytes some decimal ending =
     let gap = some_spaces (front is_space bytes) some (list_all-front is_space bytes) in
     let rest = behind_spaces bytes in
-    let tail = after is_digit rest in
+    let tail = behind_front is_digit rest in
     record {
       gap = gap.0;
       spaces = length (front is_space tail);
-      ending = after is_space tail;
+      ending = behind_front is_space tail;
       bytes_are =
           sym (front-after is_space bytes)
           ∙ ap (λ (xs : List ℕ). xs ++ rest) gap.1
           ∙ ap (λ (xs : List ℕ). replicate (suc gap.0) 32 ++ xs)
           (sym (front-after is_digit rest)
           ∙ ap (λ (xs : List ℕ). front is_digit rest ++ xs)
-          (sym (front-after is_space tail) ∙ ap (λ (xs : List ℕ). xs ++ after is_space tail) (spaces_are (front is_space tail) (list_all-front is_space tail))));
+          (sym (front-after is_space tail) ∙ ap (λ (xs : List ℕ). xs ++ behind_front is_space tail) (spaces_are (front is_space tail) (list_all-front is_space tail))));
       decimal = decimal;
-      ends = ending_is (after is_space tail) ending;
+      ends = ending_is (behind_front is_space tail) ending;
     }
 
 pub number_stands : (bytes digits : List ℕ) → digits_in bytes ≡ Some digits → NumberStands bytes digits
 number_stands bytes digits h =
-    go (not (has_no_bytes (front is_space bytes))) (is_decimal (front is_digit (behind_spaces bytes))) (is_ending (behind_spaces (after is_digit (behind_spaces bytes)))) refl refl refl h
+    go (not (has_no_bytes (front is_space bytes))) (is_decimal (front is_digit (behind_spaces bytes))) (is_ending (behind_spaces (behind_front is_digit (behind_spaces bytes)))) refl refl refl h
   where
-    go : (a b c : Bool) → not (has_no_bytes (front is_space bytes)) ≡ a → is_decimal (front is_digit (behind_spaces bytes)) ≡ b → is_ending (behind_spaces (after is_digit (behind_spaces bytes))) ≡ c → (if a && b && c then Some (front is_digit (behind_spaces bytes)) else None) ≡ Some digits → NumberStands bytes digits
+    go : (a b c : Bool) → not (has_no_bytes (front is_space bytes)) ≡ a → is_decimal (front is_digit (behind_spaces bytes)) ≡ b → is_ending (behind_spaces (behind_front is_digit (behind_spaces bytes))) ≡ c → (if a && b && c then Some (front is_digit (behind_spaces bytes)) else None) ≡ Some digits → NumberStands bytes digits
     go true true true some decimal ending e =
         let same : front is_digit (behind_spaces bytes) ≡ digits = cc in
         subst (NumberStands bytes) same (parted bytes some decimal ending)
@@ -88,18 +88,18 @@ number_stands bytes digits h =
     go false b c some decimal ending e = absurd (cc)
 
 -- and what stands there is read
-after-spaces : (n : ℕ) (xs : List ℕ) → after is_space (replicate n 32 ++ xs) ≡ after is_space xs
+after-spaces : (n : ℕ) (xs : List ℕ) → behind_front is_space (replicate n 32 ++ xs) ≡ behind_front is_space xs
 after-spaces zero xs = refl
 after-spaces (suc n) xs = after-spaces n xs
 
 other_than_space : (c : ℕ) → is_digit c ≡ true → (c == 32) ≡ false
 other_than_space c h = grind (arith, nat_tests, h)
 
-digits_stay : (digits xs : List ℕ) → list_all is_digit digits ≡ true → is_decimal digits ≡ true → after is_space (digits ++ xs) ≡ digits ++ xs
+digits_stay : (digits xs : List ℕ) → list_all is_digit digits ≡ true → is_decimal digits ≡ true → behind_front is_space (digits ++ xs) ≡ digits ++ xs
 digits_stay [] xs h k = absurd (cc)
 digits_stay (c ∷ cs) xs h k =
     let parts = and_parts (is_digit c) (list_all is_digit cs) h in
-    ap (λ b. if b then after is_space (cs ++ xs) else c ∷ (cs ++ xs)) (other_than_space c parts.0)
+    ap (λ b. if b then behind_front is_space (cs ++ xs) else c ∷ (cs ++ xs)) (other_than_space c parts.0)
 
 digits_front : (digits xs : List ℕ) → list_all is_digit digits ≡ true → front is_digit xs ≡ [] → front is_digit (digits ++ xs) ≡ digits
 digits_front [] xs h k = k
@@ -107,17 +107,17 @@ digits_front (c ∷ cs) xs h k =
     let parts = and_parts (is_digit c) (list_all is_digit cs) h in
     ap (λ b. if b then c ∷ front is_digit (cs ++ xs) else []) parts.0 ∙ ap (λ (ys : List ℕ). c ∷ ys) (digits_front cs xs parts.1 k)
 
-digits_after : (digits xs : List ℕ) → list_all is_digit digits ≡ true → after is_digit xs ≡ xs → after is_digit (digits ++ xs) ≡ xs
+digits_after : (digits xs : List ℕ) → list_all is_digit digits ≡ true → behind_front is_digit xs ≡ xs → behind_front is_digit (digits ++ xs) ≡ xs
 digits_after [] xs h k = k
 digits_after (c ∷ cs) xs h k =
     let parts = and_parts (is_digit c) (list_all is_digit cs) h in
-    ap (λ b. if b then after is_digit (cs ++ xs) else c ∷ (cs ++ xs)) parts.0 ∙ digits_after cs xs parts.1 k
+    ap (λ b. if b then behind_front is_digit (cs ++ xs) else c ∷ (cs ++ xs)) parts.0 ∙ digits_after cs xs parts.1 k
 
 -- what follows the digits
 record IsTail (tail ending : List ℕ) : Type 0 where
   no_digit : front is_digit tail ≡ []
-  stays : after is_digit tail ≡ tail
-  leaves : is_ending (after is_space tail) ≡ true
+  stays : behind_front is_digit tail ≡ tail
+  leaves : is_ending (behind_front is_space tail) ≡ true
 
 ending_tail : (ending : List ℕ) → (ending ≡ []) ⊎ (ending ≡ 13 ∷ []) → IsTail ending ending
 ending_tail ending (inl e) = subst (λ (x : List ℕ). IsTail x x) (sym e) (record { no_digit = refl; stays = refl; leaves = refl })
@@ -136,9 +136,9 @@ number_found bytes digits s =
     let is_tail = tail_is s.spaces s.ending s.ends in
     let behind : behind_spaces (replicate (suc s.gap) 32 ++ (digits ++ tail)) ≡ digits ++ tail = after-spaces (suc s.gap) (digits ++ tail) ∙ digits_stay digits tail all s.decimal in
     let digits_are = ap (front is_digit) behind ∙ digits_front digits tail all is_tail.no_digit in
-    let tail_are = ap (after is_digit) behind ∙ digits_after digits tail all is_tail.stays in
+    let tail_are = ap (behind_front is_digit) behind ∙ digits_after digits tail all is_tail.stays in
     ap digits_in s.bytes_are
-    ∙ ap (λ (xs : List ℕ). if is_decimal xs && is_ending (behind_spaces (after is_digit (behind_spaces (replicate (suc s.gap) 32 ++ (digits ++ tail))))) then Some xs else None) digits_are
+    ∙ ap (λ (xs : List ℕ). if is_decimal xs && is_ending (behind_spaces (behind_front is_digit (behind_spaces (replicate (suc s.gap) 32 ++ (digits ++ tail))))) then Some xs else None) digits_are
     ∙ ap (λ (xs : List ℕ). if is_decimal digits && is_ending (behind_spaces xs) then Some digits else None) tail_are
     ∙ ap (λ b. if b && is_ending (behind_spaces tail) then Some digits else None) s.decimal
     ∙ ap (λ b. if b then Some digits else None) is_tail.leaves
@@ -146,20 +146,20 @@ number_found bytes digits s =
 -- the parts into which bytes are split, one front after the other
 pub record IsSplit (bytes gap rest digits tail ending : List ℕ) : Type 0 where
   pub gap_is : gap ≡ front is_space bytes
-  pub rest_is : rest ≡ after is_space bytes
+  pub rest_is : rest ≡ behind_front is_space bytes
   pub digits_are : digits ≡ front is_digit rest
-  pub tail_is : tail ≡ after is_digit rest
-  pub ending_is : ending ≡ after is_space tail
+  pub tail_is : tail ≡ behind_front is_digit rest
+  pub ending_is : ending ≡ behind_front is_space tail
 
 digits_by : (bytes gap rest digits tail ending : List ℕ) → IsSplit bytes gap rest digits tail ending → (if not (has_no_bytes gap) && is_decimal digits && is_ending ending then Some digits else None) ≡ digits_in bytes
 digits_by bytes gap rest digits tail ending s =
     let rest_is = s.rest_is in
     let gap_is = s.gap_is in
-    let digits_are : digits ≡ front is_digit (after is_space bytes) = s.digits_are ∙ ap (front is_digit) s.rest_is in
-    let ending_is : ending ≡ after is_space (after is_digit (after is_space bytes)) = s.ending_is ∙ ap (after is_space) (s.tail_is ∙ ap (after is_digit) s.rest_is) in
+    let digits_are : digits ≡ front is_digit (behind_front is_space bytes) = s.digits_are ∙ ap (front is_digit) s.rest_is in
+    let ending_is : ending ≡ behind_front is_space (behind_front is_digit (behind_front is_space bytes)) = s.ending_is ∙ ap (behind_front is_space) (s.tail_is ∙ ap (behind_front is_digit) s.rest_is) in
     ap (λ (xs : List ℕ). if not (has_no_bytes xs) && is_decimal digits && is_ending ending then Some digits else None) gap_is
     ∙ ap (λ (xs : List ℕ). if not (has_no_bytes (front is_space bytes)) && is_decimal xs && is_ending ending then Some xs else None) digits_are
-    ∙ ap (λ (xs : List ℕ). if not (has_no_bytes (front is_space bytes)) && is_decimal (front is_digit (after is_space bytes)) && is_ending xs then Some (front is_digit (after is_space bytes)) else None) ending_is
+    ∙ ap (λ (xs : List ℕ). if not (has_no_bytes (front is_space bytes)) && is_decimal (front is_digit (behind_front is_space bytes)) && is_ending xs then Some (front is_digit (behind_front is_space bytes)) else None) ending_is
 
 is_nil-length : (xs : List ℕ) → has_no_bytes xs ≡ (length xs == 0)
 is_nil-length [] = refl

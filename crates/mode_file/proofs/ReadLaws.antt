@@ -7,8 +7,10 @@ use Rattle.mode_file.specs.declared.keys.Key.{Key}
 use Rattle.mode_file.specs.declared.bytes.ByteClass.TheVariants.{InWord}
 use Rattle.mode_file.specs.Keys.{greatest, key_of}
 use Rattle.mode_file.specs.Given.{number_given}
-use Rattle.mode_file.specs.Internal.Fronts.{after, is_in}
-use Rattle.mode_file.specs.Grammar.{first_word, is_decimal, number_from, Sets, HasBadNumber, IsOutOfRange}
+use Rattle.mode_file.specs.Internal.Fronts.{is_in}
+use Rattle.outside.specs.Fronts.{behind_front}
+use Rattle.mode_file.specs.Grammar.{first_word, Sets, HasBadNumber, IsOutOfRange}
+use Rattle.outside.specs.Decimal.{is_decimal, number_from}
 use Rattle.mode_file.specs.Internal.Reader.{digits_in}
 use Rattle.mode_file.proofs.NumeralLaws.{number_stands}
 use Rattle.mode_file.proofs.LineLaws.{Sets-digits, sets, greatest_fits}
@@ -20,7 +22,7 @@ has_none (Some n) h = absurd (cc)
 pub decimal : (bytes digits : List ℕ) → digits_in bytes ≡ Some digits → is_decimal digits ≡ true
 decimal bytes digits h = (number_stands bytes digits h).decimal
 
-pub bad_number : (given : Given) (line : List ℕ) (key : Key) → key_of (first_word line) ≡ Some key → is_some (number_given given key) ≡ false → digits_in (after (is_in InWord) line) ≡ None → HasBadNumber given line
+pub bad_number : (given : Given) (line : List ℕ) (key : Key) → key_of (first_word line) ≡ Some key → is_some (number_given given key) ≡ false → digits_in (behind_front (is_in InWord) line) ≡ None → HasBadNumber given line
 bad_number given line key named new none = record {
   key = key;
   named = named;
@@ -43,7 +45,7 @@ beyond m h = go (nat_lt m (2 ^ 64)) refl h
     go true t e = absurd (cc)
     go false t e = grind (arith, nat_tests, t)
 
-module _ (line : List ℕ) (key : Key) (digits : List ℕ) (named : key_of (first_word line) ≡ Some key) (there : digits_in (after (is_in InWord) line) ≡ Some digits) where
+module _ (line : List ℕ) (key : Key) (digits : List ℕ) (named : key_of (first_word line) ≡ Some key) (there : digits_in (behind_front (is_in InWord) line) ≡ Some digits) where
   pub sets_read : (n : ℕ) → Some n ≡ (if nat_lt (number_from 0 digits) (2 ^ 64) then Some (number_from 0 digits) else None) → Sets line key n
   sets_read n h = rw (within n (number_from 0 digits) h) (sets line key digits named there)
 

@@ -1,5 +1,5 @@
 -- The grammar of mode files, line by line.
-use Rattle.std.specs.Prelude.{◌≡◌, ◌⊎◌, ℕ, suc, ◌+◌, ◌*◌, ◌-◌, ◌<◌, ◌≤◌, ◌==◌, ◌||◌, ◌&&◌, not, nat_eq, Bool, true, false, List, [], ◌∷◌, ◌++◌, length, replicate, codes, Some, None, IsSome}
+use Rattle.std.specs.Prelude.{◌≡◌, ◌⊎◌, ℕ, suc, ◌+◌, ◌-◌, ◌<◌, ◌≤◌, ◌||◌, not, nat_eq, Bool, true, false, List, [], ◌∷◌, ◌++◌, length, replicate, codes, Some, None, IsSome}
 use Rattle.std.specs.List.{list_all, starts_with}
 use Rattle.mode_file.specs.declared.Mode.{Mode}
 use Rattle.mode_file.specs.declared.given.Given.{Given}
@@ -8,7 +8,9 @@ use Rattle.mode_file.specs.declared.refused.Cause.{Cause}
 use Rattle.mode_file.specs.declared.refused.Cause.TheVariants.{UnknownKey, Twice, BadNumber, OutOfRange}
 use Rattle.mode_file.specs.Keys.{key_name, greatest, key_of}
 use Rattle.mode_file.specs.Given.{nothing_given, number_given, with_number, mode_of}
-use Rattle.mode_file.specs.Lines.{is_blank, is_digit, front}
+use Rattle.mode_file.specs.Lines.{is_blank}
+use Rattle.outside.specs.Fronts.{front}
+use Rattle.outside.specs.Decimal.{is_decimal, number_from}
 
 -- whether a line says nothing: it is blank, or a comment
 abbrev pub says_nothing : List ℕ → Bool
@@ -17,17 +19,6 @@ says_nothing line = list_all is_blank line || starts_with nat_eq line (codes "%"
 -- what stands before the first blank byte
 abbrev pub first_word : List ℕ → List ℕ
 first_word line = front (λ c. not (is_blank c)) line
-
--- digits, of which the first isn't 0 where there are several
-abbrev pub is_decimal : List ℕ → Bool
-is_decimal [] = false
-is_decimal (c ∷ []) = is_digit c
-is_decimal (c ∷ d ∷ ds) = not (c == 48) && list_all is_digit (c ∷ d ∷ ds)
-
--- the number that these digits write behind the digits of another number
-abbrev pub number_from : ℕ → List ℕ → ℕ
-number_from n [] = n
-number_from n (c ∷ cs) = number_from (10 * n + (c - 48)) cs
 
 -- a line of a key, some spaces, a number, any spaces, and at most one carriage return
 pub record Sets (line : List ℕ) (key : Key) (n : ℕ) : Type 0 where

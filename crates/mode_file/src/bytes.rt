@@ -1,8 +1,8 @@
 //! Bytes by lines and by fronts.
 ghost use Rattle.std.specs.Prelude.{◌≡◌, ◌<◌, ◌≤◌, [], ◌∷◌, length, IfSome, IfNone};
 ghost use Rattle.outside.specs.Lines.{lines_of};
-ghost use Rattle.mode_file.specs.Lines.{front};
-ghost use Rattle.mode_file.specs.Internal.Fronts.{is_in, after};
+ghost use Rattle.outside.specs.Fronts.{front, behind_front};
+ghost use Rattle.mode_file.specs.Internal.Fronts.{is_in};
 
 /// A kind of bytes.
 #[derive(Clone, Copy, Debug)]
@@ -38,7 +38,7 @@ pub(crate) struct Split<'a> {
 /// The longest front of bytes of a kind.
 pub(crate) fn split_front(class: ByteClass, bytes: &[u8]) -> Split<'_>
     ensures front { result.front.now ≡ front (is_in class) bytes.now }
-    ensures rest { result.rest.now ≡ after (is_in class) bytes.now }
+    ensures rest { result.rest.now ≡ behind_front (is_in class) bytes.now }
     ensures length { length result.rest.now ≤ length bytes.now }
 {
     let mut end = 0;

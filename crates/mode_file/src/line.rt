@@ -1,10 +1,11 @@
 //! A line of a mode file.
 ghost use Rattle.std.specs.Prelude.{◌≡◌, ◌≤◌, ◌^◌, ◌<◌, ◌⊎◌, ◌&&◌, option_map, MatchResult, true, false, None, Some, nat_lt, IfSome, if◌then◌else◌};
 ghost use Rattle.std.specs.List.{list_all};
-ghost use Rattle.mode_file.specs.Lines.{is_blank, is_digit};
+ghost use Rattle.mode_file.specs.Lines.{is_blank};
+ghost use Rattle.outside.specs.Decimal.{is_digit, is_decimal, number_from};
 ghost use Rattle.mode_file.specs.Keys.{greatest};
 ghost use Rattle.mode_file.specs.Given.{number_given};
-ghost use Rattle.mode_file.specs.Grammar.{says_nothing, is_decimal, number_from, Sets, IsBadFor};
+ghost use Rattle.mode_file.specs.Grammar.{says_nothing, Sets, IsBadFor};
 ghost use Rattle.mode_file.specs.Internal.Reader.{is_ending, digits_in};
 
 use crate::bytes::{ByteClass, split_front};

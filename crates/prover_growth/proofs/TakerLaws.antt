@@ -4,12 +4,12 @@ use Rattle.std.specs.List.{list_any}
 use Rattle.std.proofs.Common.{sym, ap, subst, ◌∙◌, arith, append-nil, length-append}
 use Rattle.std.proofs.lemmas.Bool.{eqb-true, eqb-false, eq-eqb, ne_eqb, lt-ltb, le-ltb}
 use Rattle.std.proofs.lemmas.List.{length-map}
-use Rattle.stt_core.specs.SimpleType.{SimpleType, base}
+use Rattle.stt_core.specs.SimpleType.{SimpleType, base, target}
 use Rattle.stt_core.proofs.ListLaws.{map-append}
 use Rattle.tableau_calculus.specs.Witnesses.{Row}
 use Rattle.instantiate.specs.Listing.{Listing, ids_of, with_listed}
 use Rattle.search_spec.specs.Each.{Each}
-use Rattle.search_spec.specs.Heads.{target, places_to}
+use Rattle.search_spec.specs.Heads.{places_to}
 use Rattle.search_spec.specs.Witness.{same_row}
 use Rattle.prover_growth.specs.Internal.Denials.{with_row}
 use Rattle.prover_state.proofs.EachLaws.{each-weaker}

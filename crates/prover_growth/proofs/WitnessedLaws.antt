@@ -2,12 +2,11 @@
 use Rattle.std.specs.Prelude.{◌≡◌, ℕ, Bool, true, false, List, [], ◌∷◌, ◌++◌, map, filter, length, refl, if◌then◌else◌}
 use Rattle.std.specs.List.{list_any}
 use Rattle.std.proofs.Common.{sym, ap, ◌∙◌, arith, length-append}
-use Rattle.stt_core.specs.SimpleType.{SimpleType}
+use Rattle.stt_core.specs.SimpleType.{SimpleType, target}
 use Rattle.stt_core.specs.Lambda.{witness, Lambda, constant, every}
 use Rattle.tableau_calculus.specs.Literals.{Literal, minus}
 use Rattle.tableau_calculus.specs.Witnesses.{Row}
 use Rattle.search_spec.specs.Alternatives.{Alternatives, all_neg}
-use Rattle.search_spec.specs.Heads.{target}
 use Rattle.search_spec.specs.Instances.{with_instance}
 use Rattle.search_spec.specs.Mode.{Mode}
 use Rattle.search_spec.specs.State.{State, Setting, Sketch, grow, with_commands}

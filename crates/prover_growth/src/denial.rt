@@ -1,11 +1,10 @@
 //! Literals that say of a predicate that it doesn't hold everywhere.
 ghost use Rattle.std.specs.Prelude.{◌≡◌, ◌<◌, ◌-◌, ◌^◌, nat_lt, [], ◌∷◌, length, map, if◌then◌else◌, IfOk, OnOk};
-ghost use Rattle.stt_core.specs.SimpleType.{SimpleType, base};
+ghost use Rattle.stt_core.specs.SimpleType.{SimpleType, base, target};
 ghost use Rattle.stt_core.specs.Lambda.{Lambda};
 ghost use Rattle.literal_map.specs.Atoms.{bank_literal};
 ghost use Rattle.instantiate.specs.Listing.{with_listed};
 ghost use Rattle.search_spec.specs.Alternatives.{all_neg};
-ghost use Rattle.search_spec.specs.Heads.{target};
 ghost use Rattle.search_spec.specs.Witness.{witness_of};
 ghost use Rattle.prover_growth.specs.Internal.Denials.{Denies, with_row};
 ghost use Rattle.prover_state.specs.Internal.Growing.{BasisWidens};

@@ -6,12 +6,12 @@ use Rattle.std.proofs.lemmas.List.Elements.{filter-append}
 use Rattle.stt_core.proofs.ListLaws.{map-append}
 use Rattle.stt_core.specs.SameTerm.{same_term}
 use Rattle.tableau_calculus.specs.Literals.{Literal, opposite}
-use Rattle.tableau_calculus.specs.Start.{has, same_sign, same_signed}
+use Rattle.tableau_calculus.specs.Kinds.{has, same_sign, same_signed, formulas, Kind}
 use Rattle.tableau_calculus.proofs.AddedLaws.{same_literal-true}
 use Rattle.search_spec.specs.Mode.{Mode}
 use Rattle.search_spec.specs.Shallow.{is_shallow_literal}
-use Rattle.search_spec.specs.Clauses.{Kind, same_clause, with_clauses, instance_clauses}
-use Rattle.search_spec.specs.Unsatisfiable.{formulas, Clause}
+use Rattle.search_spec.specs.Clauses.{same_clause, with_clauses, instance_clauses}
+use Rattle.search_spec.specs.Unsatisfiable.{Clause}
 use Rattle.search_spec.specs.Queue.{Waiting, new_entries}
 use Rattle.search_spec.specs.State.{State, Setting, Command, process, due, with_commands}
 use Rattle.search_spec.specs.Instances.{with_literals, with_instance}
@@ -36,7 +36,7 @@ same_unit : (b c : Bool) → (if b then true else false) || c ≡ b || c
 same_unit true c = refl
 same_unit false c = refl
 
-units_have : (l : Literal) (ls : List Literal) → list_any (same_clause formulas (unit l)) (map unit ls) ≡ has ls l
+units_have : (l : Literal) (ls : List Literal) → list_any (same_clause formulas (unit l)) (map unit ls) ≡ has formulas ls l
 units_have l [] = refl
 units_have l (k ∷ ks) = same_unit (same_signed l k) (list_any (same_clause formulas (unit l)) (map unit ks)) ∙ ap (λ b. same_signed l k || b) (units_have l ks)
 
@@ -45,14 +45,14 @@ none_of true c e = cc
 none_of false c e = (refl, e)
 
 -- a further unit clause
-with_unit : (ls : List Literal) (l : Literal) → has ls l ≡ false → with_clauses formulas (map unit ls) (instance_clauses formulas [] ((l ∷ []) ∷ [])) ≡ map unit (ls ++ l ∷ [])
+with_unit : (ls : List Literal) (l : Literal) → has formulas ls l ≡ false → with_clauses formulas (map unit ls) (instance_clauses formulas [] ((l ∷ []) ∷ [])) ≡ map unit (ls ++ l ∷ [])
 with_unit ls l e =
     ap (with_clauses formulas (map unit ls)) (alone-clauses formulas l (opposite_differs l))
     ∙ ap (λ (b : Bool). if b then map unit ls else map unit ls ++ unit l ∷ []) (units_have l ls ∙ e)
     ∙ sym (map-append unit ls (l ∷ []))
 
 -- a unit clause that is there already
-with_unit_again : (ls : List Literal) (l : Literal) → has ls l ≡ true → with_clauses formulas (map unit ls) (instance_clauses formulas [] ((l ∷ []) ∷ [])) ≡ map unit ls
+with_unit_again : (ls : List Literal) (l : Literal) → has formulas ls l ≡ true → with_clauses formulas (map unit ls) (instance_clauses formulas [] ((l ∷ []) ∷ [])) ≡ map unit ls
 with_unit_again ls l e =
     ap (with_clauses formulas (map unit ls)) (alone-clauses formulas l (opposite_differs l))
     ∙ ap (λ (b : Bool). if b then map unit ls else map unit ls ++ unit l ∷ []) (units_have l ls ∙ e)
@@ -73,31 +73,31 @@ pushed_last mode cs c s =
     (ap (λ w. s.queue ++ w) (waiting_last d s.pushes cs c) ∙ sym (append_assoc s.queue (new_entries d s.pushes cs) (new_entries d (s.pushes + length cs) (c ∷ []))))
     lengths
 
-none_filtered : (l : Literal) (ls : List Literal) → has ls l ≡ false → has (filter is_shallow_literal ls) l ≡ false
+none_filtered : (l : Literal) (ls : List Literal) → has formulas ls l ≡ false → has formulas (filter is_shallow_literal ls) l ≡ false
 none_filtered l [] e = refl
-none_filtered l (k ∷ ks) e = by_test (is_shallow_literal k) (none_filtered l ks (none_of (same_signed l k) (has ks l) e).1)
+none_filtered l (k ∷ ks) e = by_test (is_shallow_literal k) (none_filtered l ks (none_of (same_signed l k) (has formulas ks l) e).1)
   where
-    by_test : (b : Bool) → has (filter is_shallow_literal ks) l ≡ false → has (if b then k ∷ filter is_shallow_literal ks else filter is_shallow_literal ks) l ≡ false
-    by_test true rest = ap₂ (λ x y. x || y) (none_of (same_signed l k) (has ks l) e).0 rest
+    by_test : (b : Bool) → has formulas (filter is_shallow_literal ks) l ≡ false → has formulas (if b then k ∷ filter is_shallow_literal ks else filter is_shallow_literal ks) l ≡ false
+    by_test true rest = ap₂ (λ x y. x || y) (none_of (same_signed l k) (has formulas ks l) e).0 rest
     by_test false rest = rest
 
 later : (b c : Bool) → c ≡ true → b || c ≡ true
 later true c e = refl
 later false c e = e
 
-has-filter : (l : Literal) (ls : List Literal) → is_shallow_literal l ≡ true → has ls l ≡ true → has (filter is_shallow_literal ls) l ≡ true
+has-filter : (l : Literal) (ls : List Literal) → is_shallow_literal l ≡ true → has formulas ls l ≡ true → has formulas (filter is_shallow_literal ls) l ≡ true
 has-filter l [] shallow e = cc
 has-filter l (k ∷ ks) shallow e = by_test (same_signed l k) refl e (λ h. has-filter l ks shallow h)
   where
-    with_depth : (b : Bool) → has (filter is_shallow_literal ks) l ≡ true → has (if b then k ∷ filter is_shallow_literal ks else filter is_shallow_literal ks) l ≡ true
-    with_depth true h = later (same_signed l k) (has (filter is_shallow_literal ks) l) h
+    with_depth : (b : Bool) → has formulas (filter is_shallow_literal ks) l ≡ true → has formulas (if b then k ∷ filter is_shallow_literal ks else filter is_shallow_literal ks) l ≡ true
+    with_depth true h = later (same_signed l k) (has formulas (filter is_shallow_literal ks) l) h
     with_depth false h = h
 
-    by_test : (b : Bool) → same_signed l k ≡ b → b || has ks l ≡ true → (has ks l ≡ true → has (filter is_shallow_literal ks) l ≡ true) → has (filter is_shallow_literal (k ∷ ks)) l ≡ true
+    by_test : (b : Bool) → same_signed l k ≡ b → b || has formulas ks l ≡ true → (has formulas ks l ≡ true → has formulas (filter is_shallow_literal ks) l ≡ true) → has formulas (filter is_shallow_literal (k ∷ ks)) l ≡ true
     by_test true same h rest =
         let first : is_shallow_literal k ≡ true = ap is_shallow_literal (sym (same_literal-true l k same)) ∙ shallow in
-        ap (λ (b : Bool). has (if b then k ∷ filter is_shallow_literal ks else filter is_shallow_literal ks) l) first
-        ∙ ap (λ (b : Bool). b || has (filter is_shallow_literal ks) l) same
+        ap (λ (b : Bool). has formulas (if b then k ∷ filter is_shallow_literal ks else filter is_shallow_literal ks) l) first
+        ∙ ap (λ (b : Bool). b || has formulas (filter is_shallow_literal ks) l) same
     by_test false same h rest = with_depth (is_shallow_literal k) (rest h)
 
 module _ (setting : Setting) where
@@ -111,7 +111,7 @@ module _ (setting : Setting) where
   abbrev with_clause : List Literal → Literal → State
   with_clause ls l = record (begun ls) { clauses = with_clauses formulas (begun ls).clauses (instance_clauses formulas [] ((l ∷ []) ∷ [])) }
 
-  begun_last : (ls : List Literal) (l : Literal) → has ls l ≡ false → begun (ls ++ l ∷ []) ≡ with_literals setting.mode (l ∷ []) (with_clause ls l)
+  begun_last : (ls : List Literal) (l : Literal) → has formulas ls l ≡ false → begun (ls ++ l ∷ []) ≡ with_literals setting.mode (l ∷ []) (with_clause ls l)
   begun_last ls l e =
       let after = with_commands setting.mode (process l ∷ []) (record (with_clause ls l) { seen = ls ++ l ∷ [] }) in
       ap (λ cs. with_commands setting.mode cs (blank (ls ++ l ∷ []))) (map-append process ls (l ∷ []))
@@ -119,7 +119,7 @@ module _ (setting : Setting) where
       ∙ ap (λ (cs : List Clause). with_commands setting.mode (process l ∷ []) (record (begun ls) { clauses = cs; seen = ls ++ l ∷ [] })) (sym (with_unit ls l e))
       ∙ sym (ap (λ (b : Bool). if b then with_clause ls l else after) e)
 
-  begun_again : (ls : List Literal) (l : Literal) → has ls l ≡ true → with_literals setting.mode (l ∷ []) (with_clause ls l) ≡ begun ls
+  begun_again : (ls : List Literal) (l : Literal) → has formulas ls l ≡ true → with_literals setting.mode (l ∷ []) (with_clause ls l) ≡ begun ls
   begun_again ls l e =
       ap (λ (b : Bool). if b then with_clause ls l else with_commands setting.mode (process l ∷ []) (record (with_clause ls l) { seen = ls ++ l ∷ [] })) e
       ∙ ap (λ (cs : List Clause). record (begun ls) { clauses = cs }) (with_unit_again ls l e)
@@ -134,7 +134,7 @@ module _ (setting : Setting) where
   with_test xs l b e = sym (ap (λ (c : Bool). if (c && true) && true then with_all xs l else begun (shallow xs)) e)
 
   -- a start with one literal more
-  pub started-last : (xs : List Literal) (l : Literal) → has xs l ≡ false → starting_state setting (xs ++ l ∷ []) ≡ with_instance setting.mode [] ((l ∷ []) ∷ []) (starting_state setting xs)
+  pub started-last : (xs : List Literal) (l : Literal) → has formulas xs l ≡ false → starting_state setting (xs ++ l ∷ []) ≡ with_instance setting.mode [] ((l ∷ []) ∷ []) (starting_state setting xs)
   started-last xs l fresh = by_depth (is_shallow_literal l) refl
     where
       filtered : (b : Bool) → is_shallow_literal l ≡ b → shallow (xs ++ l ∷ []) ≡ shallow xs ++ (if b then l ∷ [] else [])
@@ -145,7 +145,7 @@ module _ (setting : Setting) where
       by_depth false e = ap begun (filtered false e ∙ append-nil (shallow xs)) ∙ with_test xs l false e
 
   -- a literal that is there already changes nothing
-  pub started-again : (xs : List Literal) (l : Literal) → has xs l ≡ true → with_instance setting.mode [] ((l ∷ []) ∷ []) (starting_state setting xs) ≡ starting_state setting xs
+  pub started-again : (xs : List Literal) (l : Literal) → has formulas xs l ≡ true → with_instance setting.mode [] ((l ∷ []) ∷ []) (starting_state setting xs) ≡ starting_state setting xs
   started-again xs l there = by_depth (is_shallow_literal l) refl
     where
       by_depth : (b : Bool) → is_shallow_literal l ≡ b → with_instance setting.mode [] ((l ∷ []) ∷ []) (starting_state setting xs) ≡ starting_state setting xs

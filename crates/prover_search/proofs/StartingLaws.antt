@@ -6,7 +6,7 @@ use Rattle.std.proofs.lemmas.List.Elements.{filter-append}
 use Rattle.stt_core.specs.Typing.{Scope, IsScope}
 use Rattle.stt_core.proofs.ListLaws.{map-append}
 use Rattle.tableau_calculus.specs.Literals.{Literal, IsBranch}
-use Rattle.tableau_calculus.specs.Start.{has, added}
+use Rattle.tableau_calculus.specs.Kinds.{has, added, formulas}
 use Rattle.tableau_calculus.specs.Witnesses.{Row, with_rows}
 use Rattle.sat_base.specs.declared.literal.SatLit.{SatLit}
 use Rattle.command_queue.specs.Queue.{Queue}
@@ -15,7 +15,6 @@ use Rattle.search_spec.specs.Mode.{Mode}
 use Rattle.search_spec.specs.Shallow.{is_shallow_literal}
 use Rattle.sat_base.specs.Literal.{same_var}
 use Rattle.std.specs.Bool.{beq}
-use Rattle.search_spec.specs.Unsatisfiable.{formulas}
 use Rattle.search_spec.specs.Clauses.{same_clause, with_clauses, instance_clauses}
 use Rattle.search_spec.specs.Numbered.{numbers}
 use Rattle.search_spec.specs.State.{State, Setting, process, with_commands}
@@ -190,7 +189,7 @@ module _ (t0 : Tables) (q0 : Queue Planned Delays) where
     steps_before : length t.steps.0 ≡ length (shallow ls)
     steps_before = sym (clauses_length t q) ∙ ap (λ (x : State). length x.clauses) s.state ∙ mapped_length unit (shallow ls)
 
-    module _ (there : has ls l ≡ true) where
+    module _ (there : has formulas ls l ≡ true) where
       state_again : the_state u p ≡ starting_state setting ls
       state_again = from_start ∙ started-again setting ls l there
 
@@ -213,7 +212,7 @@ module _ (t0 : Tables) (q0 : Queue Planned Delays) where
             rule = rule ∙ s.rule;
           }
 
-    module _ (fresh : has ls l ≡ false) where
+    module _ (fresh : has formulas ls l ≡ false) where
       state_more : the_state u p ≡ starting_state setting (ls ++ l ∷ [])
       state_more = from_start ∙ sym (started-last setting ls l fresh)
 
@@ -244,17 +243,17 @@ module _ (t0 : Tables) (q0 : Queue Planned Delays) where
           record { state = state_more; right = right; basis = basis_grows; units = m.0; instances = m.1; rule = rule ∙ s.rule }
 
     -- one literal more was added, unless it is there already
-    pub starting-added : IsStarting t0 q0 u p (added ls (l ∷ []))
-    starting-added = by_test (has ls l) refl
+    pub starting-added : IsStarting t0 q0 u p (added formulas ls (l ∷ []))
+    starting-added = by_test (has formulas ls l) refl
       where
-        by_test : (b : Bool) → has ls l ≡ b → IsStarting t0 q0 u p (if b then ls else ls ++ l ∷ [])
+        by_test : (b : Bool) → has formulas ls l ≡ b → IsStarting t0 q0 u p (if b then ls else ls ++ l ∷ [])
         by_test true e = starting_again e
         by_test false e = starting_more e
 
   -- the literal of a formula was added
-  pub starting-literal : (t : Tables) (q : Queue Planned Delays) (ls : List Literal) → IsStarting t0 q0 t q ls → (g : Basis) → BasisGrows t.basis g → IsBasis g → (u : Tables) (p : Queue Planned Delays) (lit : SatLit) (l : Literal) → bank_literal g.bank.terms g.lits lit ≡ l → the_state u p ≡ with_instance (the_mode q.rule.mode) [] ((bank_literal g.bank.terms g.lits lit ∷ []) ∷ []) (the_state (record t { basis = g }) q) → IsRightState u p → u.basis ≡ g → AddsStart lit (record t { basis = g }) u → p.rule ≡ q.rule → IsStarting t0 q0 u p (added ls (l ∷ []))
+  pub starting-literal : (t : Tables) (q : Queue Planned Delays) (ls : List Literal) → IsStarting t0 q0 t q ls → (g : Basis) → BasisGrows t.basis g → IsBasis g → (u : Tables) (p : Queue Planned Delays) (lit : SatLit) (l : Literal) → bank_literal g.bank.terms g.lits lit ≡ l → the_state u p ≡ with_instance (the_mode q.rule.mode) [] ((bank_literal g.bank.terms g.lits lit ∷ []) ∷ []) (the_state (record t { basis = g }) q) → IsRightState u p → u.basis ≡ g → AddsStart lit (record t { basis = g }) u → p.rule ≡ q.rule → IsStarting t0 q0 u p (added formulas ls (l ∷ []))
   starting-literal t q ls s g grows good u p lit l named is right same adds rule =
-      let S : Literal → Type 0 = λ k. IsStarting t0 q0 u p (added ls (k ∷ [])) in
+      let S : Literal → Type 0 = λ k. IsStarting t0 q0 u p (added formulas ls (k ∷ [])) in
       subst S named (starting-added (record t { basis = g }) u q p ls lit (starting-grown t q ls s g grows good) is right same adds rule)
 
   -- what is declared now is what was declared

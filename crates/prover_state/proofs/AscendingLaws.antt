@@ -2,9 +2,9 @@
 use Rattle.std.specs.Prelude.{◌≡◌, ◌<◌, ◌≤◌, ◌+◌, nat_eq, ℕ, zero, suc, Bool, true, false, List, [], ◌∷◌, drop, get_or, length, if◌then◌else◌}
 use Rattle.std.specs.List.Sorted.{IsNonDecreasingBy, IsPartitionPoint}
 use Rattle.std.proofs.Common.{ltb, ltb-true, ltb-false, arith}
-use Rattle.stt_core.specs.SimpleType.{SimpleType}
+use Rattle.stt_core.specs.SimpleType.{SimpleType, target}
 use Rattle.search_spec.specs.Each.{Each}
-use Rattle.search_spec.specs.Heads.{target, places_to}
+use Rattle.search_spec.specs.Heads.{places_to}
 use Rattle.prover_state.specs.Internal.Fitting.{SplitsAt}
 use Rattle.prover_state.proofs.FittingLaws.{places-range}
 

@@ -3,7 +3,7 @@ use Rattle.std.specs.Prelude.{◌≡◌, ◌<◌, ◌≤◌, ◌+◌, nat_eq, �
 use Rattle.std.specs.List.{list_any}
 use Rattle.std.proofs.Common.{sym, ap, subst, ◌∙◌, arith}
 use Rattle.std.proofs.lemmas.Bool.{eqb-true, eq-eqb, ne_eqb}
-use Rattle.stt_core.specs.SimpleType.{SimpleType, base, same_type}
+use Rattle.stt_core.specs.SimpleType.{SimpleType, base, same_type, target}
 use Rattle.stt_core.specs.TypedName.{TypedName}
 use Rattle.tableau_calculus.specs.Witnesses.{Row}
 use Rattle.sat_core.specs.Solver.{SolverState, learned}
@@ -16,7 +16,7 @@ use Rattle.tableau_clauses.specs.Table.{Table, the_clauses}
 use Rattle.instantiate.specs.Listing.{Listing, ids_of, with_listed}
 use Rattle.search_spec.specs.After.{nothing_yet}
 use Rattle.search_spec.specs.Each.{Each}
-use Rattle.search_spec.specs.Heads.{target, places_to}
+use Rattle.search_spec.specs.Heads.{places_to}
 use Rattle.search_spec.specs.State.{Sketch}
 use Rattle.search_spec.specs.Witness.{has_hole_of}
 use Rattle.search_spec.specs.Internal.Loops.{queue_of}

@@ -2,12 +2,12 @@
 use Rattle.std.specs.Prelude.{◌≡◌, ◌<◌, ◌≤◌, ◌+◌, ◌-◌, nat_eq, ℕ, zero, suc, Bool, true, false, List, [], ◌∷◌, ◌++◌, map, take, drop, get_or, length, slice_get, Option, Some, None, refl, if◌then◌else◌}
 use Rattle.std.proofs.Common.{sym, ap, subst, ◌∙◌, arith, append-nil, append_assoc, length-append, take-append-drop, length-take-le}
 use Rattle.std.proofs.lemmas.List.{length-map}
-use Rattle.stt_core.specs.SimpleType.{SimpleType, base}
+use Rattle.stt_core.specs.SimpleType.{SimpleType, base, target}
 use Rattle.stt_core.specs.Lambda.{Lambda, bound, constant, name, witness, all, equality}
 use Rattle.stt_core.specs.Typing.{Scope}
 use Rattle.stt_core.proofs.ListLaws.{mapped_get, drop_got, slice_get-append}
 use Rattle.search_spec.specs.Each.{Each}
-use Rattle.search_spec.specs.Heads.{target, places_to, bases_from, logical_heads, fitting_heads, heads_for}
+use Rattle.search_spec.specs.Heads.{places_to, bases_from, logical_heads, fitting_heads, heads_for}
 use Rattle.search_spec.specs.Partial.{Hole}
 use Rattle.prover_state.specs.Internal.Fitting.{variables_for, logical_for, later_heads, SplitsAt}
 use Rattle.prover_state.specs.Internal.Pending.{base_of}

@@ -10,7 +10,8 @@ use Rattle.search_spec.specs.Each.{Each}
 use Rattle.search_spec.specs.Mode.{Mode}
 use Rattle.search_spec.specs.Shallow.{is_shallow_literal}
 use Rattle.search_spec.specs.Clauses.{instance_clauses, with_clauses}
-use Rattle.search_spec.specs.Unsatisfiable.{formulas, Clause}
+use Rattle.search_spec.specs.Unsatisfiable.{Clause}
+use Rattle.tableau_calculus.specs.Kinds.{formulas}
 use Rattle.search_spec.specs.Numbered.{numbers}
 use Rattle.search_spec.specs.State.{State}
 use Rattle.search_spec.specs.Instances.{with_literals, with_instance}

@@ -6,13 +6,13 @@ use Rattle.std.proofs.lemmas.List.{get_or-map, length-map}
 use Rattle.std.proofs.lemmas.Option.{slice_get-get_or}
 use Rattle.stt_core.specs.Lambda.{Lambda, constant, falsity}
 use Rattle.tableau_calculus.specs.Literals.{Literal}
-use Rattle.tableau_calculus.specs.Start.{same_signed}
+use Rattle.tableau_calculus.specs.Kinds.{same_signed, formulas}
 use Rattle.sat_base.specs.declared.literal.SatLit.{SatLit}
 use Rattle.sat_base.specs.Truth.{Unsat}
 use Rattle.search_spec.specs.Each.{Each}
 use Rattle.search_spec.specs.Numbered as by_atoms
 use Rattle.search_spec.specs.Numbered.{numbers, AreApart}
-use Rattle.search_spec.specs.Unsatisfiable.{formulas, Unsatisfiable}
+use Rattle.search_spec.specs.Unsatisfiable.{Unsatisfiable}
 use Rattle.search_spec.proofs.NamingLaws.{StandFor}
 use Rattle.search_spec.proofs.UnsatLaws.{numbers_stand, unsatisfiable_formulas, unsatisfiable_numbers}
 use Rattle.term_bank.specs.Content.{Content}

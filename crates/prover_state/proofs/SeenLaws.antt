@@ -4,13 +4,11 @@ use Rattle.std.proofs.Common.{sym, ap, subst, ◌∙◌}
 use Rattle.std.proofs.Math.ListN.{drop_of_length-le}
 use Rattle.stt_core.proofs.ListLaws.{map-append, drop_got}
 use Rattle.tableau_calculus.specs.Literals.{Literal}
-use Rattle.tableau_calculus.specs.Start.{has as holds}
+use Rattle.tableau_calculus.specs.Kinds.{has, formulas, added}
 use Rattle.sat_base.specs.declared.literal.SatLit.{SatLit}
 use Rattle.command_queue.specs.Queue.{Queue}
 use Rattle.search_spec.specs.Each.{Each}
 use Rattle.search_spec.specs.Mode.{Mode}
-use Rattle.search_spec.specs.Clauses.{has, added}
-use Rattle.search_spec.specs.Unsatisfiable.{formulas}
 use Rattle.search_spec.specs.Numbered.{numbers}
 use Rattle.search_spec.specs.State.{State, process, with_commands}
 use Rattle.search_spec.specs.Instances.{with_literal, with_literals}
@@ -32,10 +30,10 @@ module _ (t : Tables) (q : Queue Planned Delays) (equal : EqualIdsForEqualTerms 
   abbrev before : State
   before = the_state t q
 
-  test_is : holds before.seen meant ≡ has numbers t.seen l
+  test_is : has formulas before.seen meant ≡ has numbers t.seen l
   test_is = has-mapped numbers formulas (IsNumberIn t.basis.lits) (bank_literal t.basis.bank.terms t.basis.lits) (stand t.basis.bank t.basis.lits r.basis.atoms equal differ) t.seen l r.seen number
 
-  by_test : (b : Bool) → holds before.seen meant ≡ b → (if b then before else with_commands mode (process meant ∷ []) (record before { seen = before.seen ++ meant ∷ [] })) ≡ with_literal mode meant before
+  by_test : (b : Bool) → has formulas before.seen meant ≡ b → (if b then before else with_commands mode (process meant ∷ []) (record before { seen = before.seen ++ meant ∷ [] })) ≡ with_literal mode meant before
   by_test b e = sym (ap (λ x. if x then before else with_commands mode (process meant ∷ []) (record before { seen = before.seen ++ meant ∷ [] })) e)
 
   pub seen_before : (x : List SatLit) → x ≡ added numbers t.seen (l ∷ []) → has numbers t.seen l ≡ true → the_state (record t { seen = x }) q ≡ with_literal mode meant before

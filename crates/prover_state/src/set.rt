@@ -1,7 +1,7 @@
 //! Lists without repeats.
 ghost use Rattle.std.specs.Prelude.{◌≡◌, ◌++◌, [], ◌∷◌, not, nat_eq, if◌then◌else◌, IfOk, OnOk};
 ghost use Rattle.std.specs.List.{list_any};
-ghost use Rattle.search_spec.specs.Clauses.{has, added};
+ghost use Rattle.tableau_calculus.specs.Kinds.{has, added};
 ghost use Rattle.search_spec.specs.Numbered.{numbers};
 
 use indexmap::IndexSet;

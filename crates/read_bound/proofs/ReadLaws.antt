@@ -26,7 +26,7 @@ use Rattle.type_check.specs.Terms.{TermReading, known_term, constant_named, vari
 use Rattle.type_check.specs.Statements.{is_role, is_conjecture, is_definition, own_place, where_formula, read_formula, where_new, with_base, with_const, with_formula, with_assumed, with_conjecture, read_body, read_known, read_statement, IllInFile, in_file, read_statements, empty_problem}
 use Rattle.search_spec.specs.Each.{Each}
 use Rattle.search_spec.proofs.NamingLaws.{each-joined, pick_good}
-use Rattle.type_bound.specs.Types.{nesting}
+use Rattle.refute_print.specs.Sizes.{nesting}
 use Rattle.type_bound.specs.Modest.{IsModest, IsModestIfAny}
 use Rattle.type_bound.proofs.ModestTerms.{lift_keeps}
 use Rattle.read_bound.specs.Read.{nest, binders, AreShallowVars, HasShallowVars, IsShallowBody, ReadingsAreModest}

@@ -5,7 +5,8 @@ use Rattle.sat_base.specs.declared.literal.SatLit.{SatLit}
 use Rattle.sat_base.specs.Literal.{negated, same_literal}
 use Rattle.sat_base.proofs.LiteralLaws.{same_literal-refl, same_literal-true, negated-negated}
 use Rattle.sat_log.specs.Resolution.{without_literal, each_once}
-use Rattle.search_spec.specs.Clauses.{added, clause_of}
+use Rattle.search_spec.specs.Clauses.{clause_of}
+use Rattle.tableau_calculus.specs.Kinds.{added}
 use Rattle.search_spec.specs.Numbered.{numbers}
 use Rattle.rebuild_spec.proofs.PickedLaws.{added-without_repeats, clause_of-without_repeats}
 use Rattle.rebuild_spec.proofs.BackedLaws.{other_negated}

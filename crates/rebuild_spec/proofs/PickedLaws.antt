@@ -7,7 +7,8 @@ use Rattle.sat_base.specs.declared.literal.SatLit.{SatLit}
 use Rattle.sat_base.specs.Literal.{negated, holds}
 use Rattle.sat_log.specs.Resolution.{each_once, HasNoRepeats}
 use Rattle.sat_log.proofs.ResolutionLaws.{without_repeats-append_left, without_repeats-push_held, without_repeats-push_new}
-use Rattle.search_spec.specs.Clauses.{added, choices, is_tautology, clause_of, instance_clauses}
+use Rattle.search_spec.specs.Clauses.{choices, is_tautology, clause_of, instance_clauses}
+use Rattle.tableau_calculus.specs.Kinds.{added}
 use Rattle.search_spec.specs.Numbered.{numbers}
 
 pub added-without_repeats : (ks ls : List SatLit) → HasNoRepeats ls → added numbers ls ks ≡ each_once (ls ++ ks)

@@ -28,9 +28,8 @@ use Rattle.tableau_rules.proofs.WideLaws.{wide_atoms, right_by}
 use Rattle.tableau_rules.proofs.DeclareLaws.{table_by}
 use Rattle.refute_check.specs.declared.shared.Shared.{Shared}
 use Rattle.refute_check.specs.Internal.Shared.{declared_in, shared_atoms, the_rows, IsGoodShared}
-use Rattle.refute_check.specs.Numbered.{argument_type}
 
-binder_is : (t : Lambda) → argument_type t ≡ binder_of t
+binder_is : (t : Lambda) → binder_of t ≡ binder_of t
 binder_is (bound k) = refl
 binder_is (constant c) = refl
 binder_is (lam a s) = refl
@@ -60,7 +59,7 @@ is_twice b ids id k t has at r is =
     contains-get (map (λ q. q.predicate) (rows_of b.terms ids)) k r.predicate
     (mapped_get (λ (q : Row). q.predicate) (rows_of b.terms ids) k (row_of (term_at b.terms id)) (mapped_get (λ i. row_of (term_at b.terms i)) ids k id at) ∙ ap Some (has_at b id t has ∙ sym is))
 
-pub row_of_place : (b : Content) (id : ℕ) (t : Lambda) → HasTerm b id t → row_of (term_at b.terms id) ≡ record { type = argument_type t; predicate = t }
+pub row_of_place : (b : Content) (id : ℕ) (t : Lambda) → HasTerm b id t → row_of (term_at b.terms id) ≡ record { type = binder_of t; predicate = t }
 row_of_place b id t has = ap row_of (has_at b id t has) ∙ ap (λ a. record { type = a; predicate = t }) (sym (binder_is t))
 
 module _ (s : Shared) (good : IsGoodShared s) (b : Content) (g : Grows s.bank b) (id : ℕ) (r : Row) (has : HasTerm b id r.predicate) where

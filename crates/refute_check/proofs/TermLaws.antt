@@ -6,11 +6,12 @@ use Rattle.stt_core.specs.Lambda as lambda
 use Rattle.stt_core.specs.View.{the_head}
 use Rattle.stt_core.specs.declared.nf.Head.{Head}
 use Rattle.stt_core.specs.declared.nf.Head.TheVariants as head
-use Rattle.refute_print.specs.Trees.{TextTypeTree, TermTree, app}
+use Rattle.refute_print.specs.Trees.{TextTypeTree, TermTree, app, applied_tree}
 use Rattle.refute_print.specs.Trees as tree
-use Rattle.refute_print.specs.Internal.TreeSizes.{applied_tree, tree_node_count, tree_node_counts}
+use Rattle.refute_print.specs.Internal.TreeSizes.{tree_node_count, tree_node_counts}
 use Rattle.refute_print.specs.Named.{Names}
-use Rattle.refute_check.specs.Numbered.{numbered_type, numbered_term, argument_type}
+use Rattle.refute_check.specs.Numbered.{numbered_type, numbered_term}
+use Rattle.witness_names.specs.Rows.{binder_of}
 
 pub numbered_term-applied : (names : Names) (h : TermTree) (us : List TermTree) → numbered_term names (applied_tree h us) ≡ lambda.applied (numbered_term names h) (map (numbered_term names) us)
 numbered_term-applied names h [] = refl
@@ -43,11 +44,11 @@ under_applied names bs h args head us whole e as' w =
     ap (lambdas bs)
     (ap₂ lambda.applied e as' ∙ sym (numbered_term-applied names head us) ∙ ap (numbered_term names) w)
 
-argument_type-applied : (t : Lambda) (us : List Lambda) → argument_type t ≡ base 0 → argument_type (lambda.applied t us) ≡ base 0
+argument_type-applied : (t : Lambda) (us : List Lambda) → binder_of t ≡ base 0 → binder_of (lambda.applied t us) ≡ base 0
 argument_type-applied t [] h = h
 argument_type-applied t (u ∷ us) h = argument_type-applied (lambda.app t u) us refl
 
-no_function : (h : Head) → argument_type (the_head h) ≡ base 0
+no_function : (h : Head) → binder_of (the_head h) ≡ base 0
 no_function (head.Bound k) = refl
 no_function (head.Name k) = refl
 no_function (head.Wit k) = refl
@@ -60,10 +61,10 @@ no_function (head.Choice a) = refl
 no_function (head.Desc a) = refl
 
 -- the first binder's type is the argument's
-pub argument_type-first : (bs : List SimpleType) (b : SimpleType) (t whole : Lambda) → slice_get bs 0 ≡ Some b → lambdas bs t ≡ whole → b ≡ argument_type whole
+pub argument_type-first : (bs : List SimpleType) (b : SimpleType) (t whole : Lambda) → slice_get bs 0 ≡ Some b → lambdas bs t ≡ whole → b ≡ binder_of whole
 argument_type-first [] b t whole h w = cc
-argument_type-first (c ∷ bs) b t whole h w = let e : c ≡ b = cc in sym e ∙ ap argument_type w
+argument_type-first (c ∷ bs) b t whole h w = let e : c ≡ b = cc in sym e ∙ ap binder_of w
 
-pub argument_type-none : (bs : List SimpleType) (h : Head) (us : List Lambda) (whole : Lambda) → slice_get bs 0 ≡ None → lambdas bs (lambda.applied (the_head h) us) ≡ whole → base 0 ≡ argument_type whole
-argument_type-none [] h us whole n w = sym (argument_type-applied (the_head h) us (no_function h)) ∙ ap argument_type w
+pub argument_type-none : (bs : List SimpleType) (h : Head) (us : List Lambda) (whole : Lambda) → slice_get bs 0 ≡ None → lambdas bs (lambda.applied (the_head h) us) ≡ whole → base 0 ≡ binder_of whole
+argument_type-none [] h us whole n w = sym (argument_type-applied (the_head h) us (no_function h)) ∙ ap binder_of w
 argument_type-none (b ∷ bs) h us whole n w = cc

@@ -13,6 +13,7 @@ use Rattle.tableau_calculus.specs.declared.refutation.Refutation.{Refutation}
 use Rattle.refute_print.specs.Trees.{TextTypeTree, ConstantTree, TermTree, LiteralTree, OnePlace, False, Refl, ImpPos, ImpNeg, BoolPos, BoolNeg, FunPos, FunNeg, AllNeg, Dec, TwoPlaces, Close, Mat, Con, OfPredicate, Cho, Des, RuleTree, at_one, at_two, with_instance, with_predicate, with_cut, LineTree, RefutationTree}
 use Rattle.refute_print.specs.Trees as tree
 use Rattle.refute_print.specs.Named.{Names}
+use Rattle.witness_names.specs.Rows.{binder_of}
 
 -- The first place of the name in the list. A name that isn't there gets the length of the list, a place at which nothing stands.
 abbrev pub name_place : List (List ℕ) → List ℕ → ℕ
@@ -81,14 +82,9 @@ numbered_line names line = record {
   children = line.children;
 }
 
--- the type of a function's argument; what is no function is no predicate either, whatever the type
-abbrev pub argument_type : Lambda → SimpleType
-argument_type (lam a s) = a
-argument_type t = base 0
-
 -- The witness of a row has the type that the row's predicate takes.
 abbrev pub numbered_row : Names → TermTree → Row
-numbered_row names f = record { type = argument_type (numbered_term names f); predicate = numbered_term names f }
+numbered_row names f = record { type = binder_of (numbered_term names f); predicate = numbered_term names f }
 
 abbrev pub numbered_refutation : Names → RefutationTree → Refutation
 numbered_refutation names r = record {

@@ -3,7 +3,7 @@
 ghost use Rattle.std.specs.Prelude.{◌≡◌, ℕ, Bool, false, ◌&&◌, ◌||◌, not, ◌==◌, OnOk, IfOk, IsTrue, ◌↔◌, List, nat_eq};
 ghost use Rattle.std.specs.List.{list_all, list_any};
 ghost use Rattle.indexmap.specs.IndexSet.{contains};
-ghost use Rattle.tableau_calculus.specs.Start.{same_sign};
+ghost use Rattle.tableau_calculus.specs.Kinds.{same_sign};
 ghost use Rattle.refute_check.specs.Internal.Branches.{branch_has};
 
 use indexmap::IndexSet;

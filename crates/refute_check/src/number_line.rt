@@ -4,7 +4,7 @@ ghost use Rattle.std.specs.Prelude.{◌≡◌, IfOk, IfSome, IfNone, true};
 ghost use Rattle.stt_core.specs.View.{the_type};
 ghost use Rattle.tableau_calculus.specs.Literals.{is_negated};
 ghost use Rattle.refute_check.specs.Numbered.{numbered_term, numbered_row, numbered_literal};
-ghost use Rattle.refute_check.specs.Numbered.{argument_type as type_of_argument};
+ghost use Rattle.witness_names.specs.Rows.{binder_of as type_of_argument};
 
 use crate::number_term::number_term;
 use crate::numbering::Numbering;

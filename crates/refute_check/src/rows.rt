@@ -7,7 +7,7 @@ ghost use Rattle.tableau_calculus.specs.Witnesses.{IsTypedRow};
 ghost use Rattle.term_bank.specs.Terms.{term_at};
 ghost use Rattle.witness_names.specs.Rows.{binder_of, row_of};
 ghost use Rattle.tableau_calculus.specs.Internal.Answers.{RowAnswer};
-ghost use Rattle.refute_check.specs.Numbered.{argument_type, numbered_row};
+ghost use Rattle.refute_check.specs.Numbered.{numbered_row};
 ghost use Rattle.refute_check.specs.Internal.Branches.{Grow};
 ghost use Rattle.refute_check.specs.Internal.Shared.{declared_in, shared_atoms, the_rows, IsGoodShared};
 
@@ -52,7 +52,7 @@ impl Shared {
     /// Adds the witness of a row, whose type is that which its predicate takes, or answers why the row fails.
     fn add_numbered(&mut self, alloc: Global, row: &WitnessRow) -> Result<Option<Why>, AllocError>
         requires good { IsGoodShared self.old }
-        requires formed { row.now.type ≡ argument_type row.now.predicate }
+        requires formed { row.now.type ≡ binder_of row.now.predicate }
         ensures answer { IfOk result (RowAnswer (declared_in self.old) (the_rows self.old) row.now) }
         ensures rows { IfOk result (λ why. why ≡ None → the_rows self.new ≡ the_rows self.old ++ row.now ∷ []) }
         ensures atoms { IfOk result (λ why. why ≡ None → Grow (shared_atoms self.old) (shared_atoms self.new)) }

@@ -1,6 +1,5 @@
 -- The terms of the code as plain trees.
-use Rattle.refute_print.specs.Trees.{TermTree, bound, constant, lam, name, witness, falsity, negation, implication, all, equality, choice, description}
-use Rattle.refute_print.specs.Internal.TreeSizes.{applied_tree}
+use Rattle.refute_print.specs.Trees.{TermTree, bound, constant, lam, name, witness, falsity, negation, implication, all, equality, choice, description, applied_tree}
 use Rattle.refute_print.specs.View.{the_text_type}
 use Rattle.refute_print.specs.declared.tree.TextHead.{TextHead}
 use Rattle.refute_print.specs.declared.tree.TextHead.TheVariants.{Bound, Name, Wit, False, Not, Imp, All, Eq, Choice, Desc}

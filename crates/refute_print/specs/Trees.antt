@@ -30,6 +30,11 @@ pub data TermTree : Type 0 where
   lam : TextTypeTree → TermTree → TermTree
   app : TermTree → TermTree → TermTree
 
+-- a term applied to arguments, first one first
+abbrev pub applied_tree : TermTree → List TermTree → TermTree
+applied_tree t [] = t
+applied_tree t (u ∷ us) = applied_tree (app t u) us
+
 -- a formula with a sign
 pub record LiteralTree : Type 0 where
   pub positive : Bool

@@ -2,7 +2,8 @@
 use Rattle.std.proofs.Common.{◌≡◌, ℕ, nat_eq, Bool, true, false, List, [], ◌∷◌, ◌++◌, Option, Some, None, length, drop, refl, sym, ap, ap₂, ◌∙◌, if◌then◌else◌}
 use Rattle.std.specs.List.{starts_with}
 use Rattle.std.proofs.lemmas.Bool.{and_parts, eqb-true}
-use Rattle.refute_text.specs.Internal.Reader.{◌>>=◌, behind_text, by_front, front, after}
+use Rattle.refute_text.specs.Internal.Reader.{◌>>=◌, behind_text, by_front}
+use Rattle.outside.specs.Fronts.{front, behind_front}
 
 -- a value and what follows it
 abbrev pub found : {A B : Type 0} → A → B → Option (A × B)
@@ -44,10 +45,10 @@ behind_some t bs r h = go (starts_with nat_eq bs t) refl h
     go true e k = let q : drop (length t) bs ≡ r = cc in matches t bs e ∙ ap (λ x. t ++ x) q
     go false e k = cc
 
-pub front-after : (p : ℕ → Bool) (cs : List ℕ) → front p cs ++ after p cs ≡ cs
+pub front-after : (p : ℕ → Bool) (cs : List ℕ) → front p cs ++ behind_front p cs ≡ cs
 front-after p [] = refl
 front-after p (c ∷ cs) = go (p c) (front-after p cs)
   where
-    go : (b : Bool) → front p cs ++ after p cs ≡ cs → (if b then c ∷ front p cs else []) ++ (if b then after p cs else c ∷ cs) ≡ c ∷ cs
+    go : (b : Bool) → front p cs ++ behind_front p cs ≡ cs → (if b then c ∷ front p cs else []) ++ (if b then behind_front p cs else c ∷ cs) ≡ c ∷ cs
     go true e = ap (λ l. c ∷ l) e
     go false e = refl

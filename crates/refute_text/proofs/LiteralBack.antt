@@ -9,7 +9,8 @@ use Rattle.tableau_calculus.specs.declared.refutation.Child.TheVariants.{Closed,
 use Rattle.refute_print.specs.Trees.{TermTree, LiteralTree}
 use Rattle.refute_print.specs.Text.{term_text, sign_text, literal_text, child_text, after_commas, branch_text, children_text}
 use Rattle.refute_print.specs.Limits.{is_negated_text, greatest_depth, IsWithinLimits, IsLiteralText, IsChild}
-use Rattle.refute_text.specs.Internal.Reader.{behind_text, is_digit, number_at, with_items, repeated_at}
+use Rattle.refute_text.specs.Internal.Reader.{behind_text, number_at, with_items, repeated_at}
+use Rattle.outside.specs.Decimal.{is_digit}
 use Rattle.refute_text.specs.Internal.TermReader.{term_text_at}
 use Rattle.refute_text.specs.Internal.LineReader.{read_literal, unsigned_at, signed_text_at, literal_text_at, child_at, some_items_at, items_at}
 use Rattle.refute_text.proofs.Numbers.{own}

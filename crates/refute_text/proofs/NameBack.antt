@@ -9,7 +9,9 @@ use Rattle.thf_grammar.specs.Bytes.{is_word_byte}
 use Rattle.thf_grammar.specs.Printable.{is_printable}
 use Rattle.thf_names.specs.Names.{is_lower_word, escaped, quoted, name_text}
 use Rattle.refute_print.specs.Letters.{is_printable_name}
-use Rattle.refute_text.specs.Internal.Reader.{behind_text, front, after, is_digit, has_no_leading_zero, number_below, number_at, with_first, characters_at, escaped_at, where_quoted, plain_at, name_at}
+use Rattle.refute_text.specs.Internal.Reader.{behind_text, has_no_leading_zero, number_below, number_at, with_first, characters_at, escaped_at, where_quoted, plain_at, name_at}
+use Rattle.outside.specs.Fronts.{front, behind_front}
+use Rattle.outside.specs.Decimal.{is_digit}
 use Rattle.refute_text.proofs.Numbers.{own}
 use Rattle.refute_text.proofs.LowerWords.{lower_word-bytes}
 use Rattle.refute_text.proofs.Inversions.{found}
@@ -26,17 +28,17 @@ front-append p (c ∷ w) rest h =
     let e = and_parts (p c) (list_all p w) h in
     ap₂ (λ b l. if b then c ∷ l else []) e.0 (front-append p w rest e.1)
 
-after-append : (p : ℕ → Bool) (w rest : List ℕ) → list_all p w ≡ true → after p (w ++ rest) ≡ after p rest
+after-append : (p : ℕ → Bool) (w rest : List ℕ) → list_all p w ≡ true → behind_front p (w ++ rest) ≡ behind_front p rest
 after-append p [] rest h = refl
 after-append p (c ∷ w) rest h =
     let e = and_parts (p c) (list_all p w) h in
     ap₂ (λ b l. if b then l else c ∷ (w ++ rest)) e.0 (after-append p w rest e.1)
 
 -- bytes of which the first one doesn't pass the test
-ends_at : (p : ℕ → Bool) (c : ℕ) (cs : List ℕ) → p c ≡ false → (front p (c ∷ cs) ≡ []) × (after p (c ∷ cs) ≡ c ∷ cs)
-ends_at p c cs h = (ap (λ b. if b then c ∷ front p cs else []) h, ap (λ b. if b then after p cs else c ∷ cs) h)
+ends_at : (p : ℕ → Bool) (c : ℕ) (cs : List ℕ) → p c ≡ false → (front p (c ∷ cs) ≡ []) × (behind_front p (c ∷ cs) ≡ c ∷ cs)
+ends_at p c cs h = (ap (λ b. if b then c ∷ front p cs else []) h, ap (λ b. if b then behind_front p cs else c ∷ cs) h)
 
-word_ends : (rest : List ℕ) → stops rest ≡ true → (front is_word_byte rest ≡ []) × (after is_word_byte rest ≡ rest)
+word_ends : (rest : List ℕ) → stops rest ≡ true → (front is_word_byte rest ≡ []) × (behind_front is_word_byte rest ≡ rest)
 word_ends [] h = (refl, refl)
 word_ends (c ∷ cs) h = ends_at is_word_byte c cs (not-true (is_word_byte c) h)
 
@@ -47,7 +49,7 @@ no_word_byte-no_digit c h = go (is_digit c) refl
     go true e = absurd (grind (arith, nat_tests, h, e))
     go false e = e
 
-digits_end : (rest : List ℕ) → stops rest ≡ true → (front is_digit rest ≡ []) × (after is_digit rest ≡ rest)
+digits_end : (rest : List ℕ) → stops rest ≡ true → (front is_digit rest ≡ []) × (behind_front is_digit rest ≡ rest)
 digits_end [] h = (refl, refl)
 digits_end (c ∷ cs) h = ends_at is_digit c cs (no_word_byte-no_digit c (not-true (is_word_byte c) h))
 
@@ -71,7 +73,7 @@ number_at-decimal limit n rest below small stop =
     let digits = digits_decimal own n s in
     let e = digits_end rest stop in
     let f : front is_digit (decimal n ++ rest) ≡ decimal n = front-append is_digit (decimal n) rest digits ∙ ap (λ x. decimal n ++ x) e.0 ∙ append-nil (decimal n) in
-    let a : after is_digit (decimal n ++ rest) ≡ rest = after-append is_digit (decimal n) rest digits ∙ e.1 in
+    let a : behind_front is_digit (decimal n ++ rest) ≡ rest = after-append is_digit (decimal n) rest digits ∙ e.1 in
     ap₂ (number_below limit) f a
     ∙ ap₂ (λ b m. if b && nat_lt m limit then found m rest else None) (is_decimal-decimal n s) (digits_value-decimal own n s)
     ∙ ap (λ b. if b then found n rest else None) (lt-ltb n limit below)
@@ -106,7 +108,7 @@ plain_at-append w rest h stop =
     let words = lower_word-bytes w h in
     let e = word_ends rest stop in
     let f : front is_word_byte (w ++ rest) ≡ w = front-append is_word_byte w rest words ∙ ap (λ x. w ++ x) e.0 ∙ append-nil w in
-    let a : after is_word_byte (w ++ rest) ≡ rest = after-append is_word_byte w rest words ∙ e.1 in
+    let a : behind_front is_word_byte (w ++ rest) ≡ rest = after-append is_word_byte w rest words ∙ e.1 in
     ap₂ (λ x y. if is_lower_word x then found x y else None) f a ∙ ap (λ b. if b then found w rest else None) h
 
 -- a byte below the letters

@@ -8,7 +8,9 @@ use Rattle.thf_grammar.specs.Bytes.{is_word_byte}
 use Rattle.thf_grammar.specs.Printable.{is_printable}
 use Rattle.thf_names.specs.Names.{is_lower_word, escaped, quoted, name_text}
 use Rattle.refute_print.specs.Letters.{is_printable_name}
-use Rattle.refute_text.specs.Internal.Reader.{behind_text, front, after, is_digit, has_no_leading_zero, number_from, number_below, number_at, with_first, characters_at, escaped_at, needs_quotes, where_quoted, plain_at, name_at}
+use Rattle.refute_text.specs.Internal.Reader.{behind_text, has_no_leading_zero, number_below, number_at, with_first, characters_at, escaped_at, needs_quotes, where_quoted, plain_at, name_at}
+use Rattle.outside.specs.Fronts.{front, behind_front}
+use Rattle.outside.specs.Decimal.{is_digit, number_from}
 use Rattle.refute_text.proofs.Numbers.{own}
 use Rattle.refute_text.proofs.Readers.{list_all-front}
 use Rattle.refute_text.proofs.LowerWords.{lower_word-bytes}
@@ -40,7 +42,7 @@ number_of_reads limit n ds rest r small digits h = go (has_no_leading_zero ds) (
 pub number_reads : (limit n : ℕ) (bs r : List ℕ) → limit ≤ 2 ^ 64 → number_at limit bs ≡ Some (n, r) → (bs ≡ decimal n ++ r) × (n < limit)
 unfolding number_at
 number_reads limit n bs r small h =
-    let p = number_of_reads limit n (front is_digit bs) (after is_digit bs) r small (list_all-front is_digit bs) h in
+    let p = number_of_reads limit n (front is_digit bs) (behind_front is_digit bs) r small (list_all-front is_digit bs) h in
     (sym (front-after is_digit bs) ∙ p.0, p.1)
 
 -- a character of a name in quotes, and more of them
@@ -120,10 +122,10 @@ lower_word-is_name (c ∷ cs) h = word-printable (c ∷ cs) (lower_word-bytes (c
 plain_reads : (bs w r : List ℕ) → plain_at bs ≡ Some (w, r) → (bs ≡ name_text w ++ r) × (is_printable_name w ≡ true)
 plain_reads bs w r h = go (is_lower_word (front is_word_byte bs)) refl h
   where
-    go : (b : Bool) → is_lower_word (front is_word_byte bs) ≡ b → (if b then found (front is_word_byte bs) (after is_word_byte bs) else None) ≡ Some (w, r) → (bs ≡ name_text w ++ r) × (is_printable_name w ≡ true)
+    go : (b : Bool) → is_lower_word (front is_word_byte bs) ≡ b → (if b then found (front is_word_byte bs) (behind_front is_word_byte bs) else None) ≡ Some (w, r) → (bs ≡ name_text w ++ r) × (is_printable_name w ≡ true)
     go true e k =
-        let name : front is_word_byte bs ≡ w = found_first (front is_word_byte bs) w (after is_word_byte bs) r k in
-        let rest : after is_word_byte bs ≡ r = found_second (front is_word_byte bs) w (after is_word_byte bs) r k in
+        let name : front is_word_byte bs ≡ w = found_first (front is_word_byte bs) w (behind_front is_word_byte bs) r k in
+        let rest : behind_front is_word_byte bs ≡ r = found_second (front is_word_byte bs) w (behind_front is_word_byte bs) r k in
         let plain : is_lower_word w ≡ true = ap is_lower_word (sym name) ∙ e in
         (sym (front-after is_word_byte bs) ∙ ap₂ (λ x y. x ++ y) name rest ∙ ap (λ x. x ++ r) (sym (ap (λ b. if b then w else quoted w) plain)), lower_word-is_name w plain)
     go false e k = cc

@@ -1,7 +1,7 @@
 -- How the readers go on.
 use Rattle.std.proofs.Common.{◌≡◌, ℕ, ◌&&◌, Bool, true, false, List, [], ◌∷◌, ◌++◌, Option, Some, None, refl, ap₂, if◌then◌else◌}
 use Rattle.std.specs.List.{list_all}
-use Rattle.refute_text.specs.Internal.Reader.{front}
+use Rattle.outside.specs.Fronts.{front}
 
 -- more before the name that is read
 abbrev pub with_front : List ℕ → Option (List ℕ × List ℕ) → Option (List ℕ × List ℕ)

@@ -1,7 +1,6 @@
 -- The texts of terms are read back.
 use Rattle.std.proofs.Common.{◌≡◌, ℕ, zero, suc, ◌^◌, ◌<◌, ◌≤◌, true, List, [], ◌∷◌, ◌++◌, Some, length, codes, decimal, refl, sym, ap, subst, ◌∙◌, append_assoc, arith}
-use Rattle.refute_print.specs.Trees.{TextTypeTree, ConstantTree, name, witness, falsity, negation, implication, all, equality, choice, description, TermTree, bound, constant, lam, app}
-use Rattle.refute_print.specs.Internal.TreeSizes.{applied_tree}
+use Rattle.refute_print.specs.Trees.{TextTypeTree, ConstantTree, name, witness, falsity, negation, implication, all, equality, choice, description, TermTree, bound, constant, lam, app, applied_tree}
 use Rattle.refute_print.specs.Text.{text_of_type, term_text}
 use Rattle.refute_print.specs.Limits.{IsType, type_tree_depth, IsTerm, IsSpine, term_depth, spine_depth}
 use Rattle.refute_text.specs.Internal.Reader.{behind_text, by_front, number_at, name_at, type_at}

@@ -1,9 +1,8 @@
 -- The terms that are read stand at the front of the bytes.
 use Rattle.std.proofs.Common.{◌≡◌, ℕ, zero, suc, ◌^◌, ◌<◌, ◌≤◌, List, [], ◌∷◌, ◌++◌, Option, Some, None, length, codes, decimal, refl, sym, ap, ap₂, subst, ◌∙◌, append_assoc, arith, length-append}
-use Rattle.refute_print.specs.Trees.{TextTypeTree, ConstantTree, name, witness, falsity, negation, implication, all, equality, choice, description, TermTree, bound, constant, lam}
+use Rattle.refute_print.specs.Trees.{TextTypeTree, ConstantTree, name, witness, falsity, negation, implication, all, equality, choice, description, TermTree, bound, constant, lam, applied_tree}
 use Rattle.refute_print.specs.Text.{text_of_type, constant_text, term_text}
 use Rattle.refute_print.specs.Limits.{IsType, type_tree_depth, IsConstant, constant_depth, IsTerm, term_depth}
-use Rattle.refute_print.specs.Internal.TreeSizes.{applied_tree}
 use Rattle.refute_text.specs.Internal.Reader.{behind_text, number_at, name_at, type_at, with_item, repeated_at}
 use Rattle.refute_text.specs.Internal.TermReader.{TermAt, counted_at, named_head_at, opened_type_at, bracketed_type_at, bracketed_at, dollar_head_at, head_text_at, arguments_at, applied_to, application_at, lambda_at, no_term, term_text_at}
 use Rattle.refute_text.proofs.Inversions.{found, found_first, found_second, bind_sound, front_sound, behind_some}

@@ -1,10 +1,9 @@
 -- The text of a term that is given by its head and arguments.
 use Rattle.std.proofs.Common.{◌≡◌, ℕ, suc, ◌≤◌, List, [], ◌∷◌, ◌++◌, codes, refl, sym, ap, ◌∙◌, append_assoc, append-nil, arith}
 use Rattle.std.specs.List.{flat_map}
-use Rattle.refute_print.specs.Trees.{TermTree, bound, constant, lam, app}
+use Rattle.refute_print.specs.Trees.{TermTree, bound, constant, lam, app, applied_tree}
 use Rattle.refute_print.specs.Text.{term_text, spine_text}
 use Rattle.refute_print.specs.Limits.{IsTerm, IsSpine, term_depth, spine_depth}
-use Rattle.refute_print.specs.Internal.TreeSizes.{applied_tree}
 
 abbrev pub IsHead : TermTree → Type 0
 IsHead (bound k) = Unit {0}

@@ -1,7 +1,8 @@
 //! The lines of a text.
 
 ghost use Rattle.std.specs.Prelude.{◌≡◌, ◌+◌, ◌<◌, ◌≤◌, ◌^◌, ◌∷◌, [], length, IfOk, IfErr, IfSome, IfNone, drop};
-ghost use Rattle.refute_text.specs.Internal.Reader.{front, after, is_no_feed};
+ghost use Rattle.refute_text.specs.Internal.Reader.{is_no_feed};
+ghost use Rattle.outside.specs.Fronts.{front, behind_front};
 ghost use Rattle.outside.specs.Lines.{lines_of};
 ghost use Rattle.refute_text.specs.Reading.{is_start, is_end_mark, HasNoStart};
 ghost use Rattle.refute_text.specs.Internal.Places.{BehindStart};
@@ -23,7 +24,7 @@ pub(crate) struct Cut<'a> {
 /// The bytes before the first line feed, and those from it on.
 fn until_feed(bytes: &[u8]) -> Cut<'_>
     ensures line { result.line.now ≡ front is_no_feed bytes.now }
-    ensures rest { result.rest.now ≡ after is_no_feed bytes.now }
+    ensures rest { result.rest.now ≡ behind_front is_no_feed bytes.now }
     ensures length { length result.rest.now ≤ length bytes.now }
 {
     let mut end = 0;

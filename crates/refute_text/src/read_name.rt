@@ -4,7 +4,9 @@ ghost use Rattle.std.specs.Prelude.{◌≡◌, ◌++◌, ◌≤◌, ◌<◌, ◌
 ghost use Rattle.std.specs.List.{list_all};
 ghost use Rattle.thf_grammar.specs.Bytes.{is_word_byte};
 ghost use Rattle.thf_grammar.specs.Printable.{is_printable};
-ghost use Rattle.refute_text.specs.Internal.Reader.{front, after, behind_text, is_digit, has_no_leading_zero, number_from, number_at, escaped_character, character_at, characters_at, needs_quotes, plain_at, name_at};
+ghost use Rattle.refute_text.specs.Internal.Reader.{behind_text, has_no_leading_zero, number_at, escaped_character, character_at, characters_at, needs_quotes, plain_at, name_at};
+ghost use Rattle.outside.specs.Fronts.{front, behind_front};
+ghost use Rattle.outside.specs.Decimal.{is_digit, number_from};
 ghost use Rattle.refute_text.specs.Internal.Refusals.{AnswersReader};
 
 use crate::refusal::Refusal;
@@ -40,7 +42,7 @@ fn is_digit(byte: u8) -> bool
 /// The digits at the front.
 fn digits(bytes: &[u8]) -> Split<'_>
     ensures front { result.front.now ≡ front is_digit bytes.now }
-    ensures rest { result.rest.now ≡ after is_digit bytes.now }
+    ensures rest { result.rest.now ≡ behind_front is_digit bytes.now }
 {
     let mut end = 0;
     while end < bytes.len() && is_digit(bytes[end]) {
@@ -55,7 +57,7 @@ fn digits(bytes: &[u8]) -> Split<'_>
 /// The letters, digits and `_` at the front.
 fn word(bytes: &[u8]) -> Split<'_>
     ensures front { result.front.now ≡ front is_word_byte bytes.now }
-    ensures rest { result.rest.now ≡ after is_word_byte bytes.now }
+    ensures rest { result.rest.now ≡ behind_front is_word_byte bytes.now }
 {
     let mut end = 0;
     while end < bytes.len() && is_word_byte(bytes[end]) {

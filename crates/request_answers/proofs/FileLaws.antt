@@ -17,7 +17,8 @@ use Rattle.szs_report.specs.declared.answer.NamedFile.TheVariants.{Part, Check}
 use Rattle.szs_report.specs.declared.answer.NamedFile.TheVariants as named
 use Rattle.request_answers.specs.Requested.{problem_name, told_of, contents_of, mode_file}
 use Rattle.request_answers.specs.Files.{OfFiles}
-use Rattle.request_answers.specs.Modes.{byte_limit, IsModeBy}
+use Rattle.request_answers.specs.Modes.{IsModeBy}
+use Rattle.outside.specs.Limits.{byte_limit}
 use Rattle.request_answers.specs.Solved.{IsDemoed}
 use Rattle.request_answers.specs.Answers.{stop_answer, AnswersProblem, AnswersStated, AnswersEnding, AnswersRequest}
 use Rattle.request_answers.specs.Causes.{IsFaultIn, IsFaultOf, IsModeFault, IsTextFault, HasCauseOf}

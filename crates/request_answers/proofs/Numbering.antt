@@ -20,7 +20,8 @@ use Rattle.tableau_calculus.specs.declared.refutation.RuleUse.TheVariants as rul
 use Rattle.tableau_calculus.specs.declared.refutation.Line.{Line}
 use Rattle.tableau_calculus.specs.declared.refutation.Refutation.{Refutation}
 use Rattle.refute_print.specs.Named.{Names, names_of, name_numbered, named_type, named_constant, named_term, named_literal, named_rule, named_line, named_refutation, HasTypeNames, HasConstantNames, HasNames, HaveNames, HasRuleNames, LinesHaveNames, RowsHaveNames, IsNamed}
-use Rattle.refute_check.specs.Numbered.{name_place, numbered_type, numbered_constant, numbered_term, numbered_literal, numbered_rule, numbered_line, argument_type, numbered_row, numbered_refutation}
+use Rattle.refute_check.specs.Numbered.{name_place, numbered_type, numbered_constant, numbered_term, numbered_literal, numbered_rule, numbered_line, numbered_row, numbered_refutation}
+use Rattle.witness_names.specs.Rows.{binder_of}
 
 -- each name stands at its own place only
 abbrev pub ArePlaced : List (List ℕ) → Type 0
@@ -126,7 +127,7 @@ module _ (names : Names) (p : AllPlaced names) where
       ap₂ (λ x xs. x ∷ xs) (ap₂ (λ (b : List Literal) (r : RuleUse). record { branch = b; rule = r; children = l.children }) (branch-same l.branch h.0.branch_named) (rule-same l.rule h.0.rule_named)) (lines-same lines h.1)
 
   -- the predicate of a row tells its type
-  row_type : (scope : Scope) (a : SimpleType) (t : Lambda) → IsCanonical scope [] (predicate a) t → argument_type t ≡ a
+  row_type : (scope : Scope) (a : SimpleType) (t : Lambda) → IsCanonical scope [] (predicate a) t → binder_of t ≡ a
   row_type scope a (bound k) h = absurd h.0
   row_type scope a (constant c) h = absurd h.0
   row_type scope a (app s u) h = absurd h.0
@@ -137,7 +138,7 @@ module _ (names : Names) (p : AllPlaced names) where
   rows-same scope earlier (r ∷ rows) t h =
       let same = term-same r.predicate h.0 in
       ap₂ (λ x xs. x ∷ xs)
-      (ap₂ (λ (a : SimpleType) (f : Lambda). record { type = a; predicate = f }) (ap argument_type same ∙ row_type (with_rows scope earlier) r.type r.predicate t.0) same)
+      (ap₂ (λ (a : SimpleType) (f : Lambda). record { type = a; predicate = f }) (ap binder_of same ∙ row_type (with_rows scope earlier) r.type r.predicate t.0) same)
       (rows-same scope (earlier ++ r ∷ []) rows t.2 h.1)
 
   pub refutation-same : (scope : Scope) (taken : List ℕ) (r : Refutation) → IsTableAfter scope [] r.witnesses → IsNamed names r → numbered_refutation names (named_refutation names taken r) ≡ r

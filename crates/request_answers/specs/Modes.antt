@@ -9,10 +9,7 @@ use Rattle.mode_file.specs.Grammar.{States}
 use Rattle.mode_file.specs.Refusals.{Refuses}
 use Rattle.szs_report.specs.declared.outcome.ModeWhy.{ModeWhy}
 use Rattle.szs_report.specs.declared.outcome.ModeWhy.TheVariants.{UnknownKey, Twice, BadNumber, OutOfRange}
-
--- how many bytes a mode's file, and the text of a refutation, may have
-abbrev pub byte_limit : ℕ
-byte_limit = 16777216
+use Rattle.outside.specs.Limits.{byte_limit}
 
 -- A file holds bytes with this property, and no more of them than it may have. They are those that are told, where they are told.
 pub record OfFile (told : Bool) (contents : List ℕ → Option (List ℕ)) (file : List ℕ) (P : List ℕ → Type 0) : Type 0 where

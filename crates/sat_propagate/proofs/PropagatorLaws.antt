@@ -1,10 +1,9 @@
 -- What keeps a propagator right.
 use Rattle.std.proofs.Common.{◌≡◌, ◌≢◌, ◌⊎◌, inl, inr, ◌<◌, ◌≤◌, ◌+◌, ℕ, Bool, true, false, List, [], ◌∷◌, ◌++◌, Some, None, map, length, take, get_or, eqb, set, refl, sym, ap, ◌∙◌, subst, arith, length-append, append_assoc}
 use Rattle.std.specs.Prelude.{if◌then◌else◌}
-use Rattle.std.specs.List.{All, Contains, slice_get, swap_remove}
+use Rattle.std.specs.List.{All, Contains, slice_get, swap_remove, IsDistinct, AllByRecursion, list_any}
 use Rattle.std.proofs.lemmas.Bool.{false≢true, cases_Bool, cases_order, or_left, or_parts, or_cases, eqb-true, false_from_ne_true}
 use Rattle.std.proofs.lemmas.List.{take-append-le, take_all, map-append, length-map}
-use Rattle.std.specs.List.{IsDistinct, AllByRecursion, list_any}
 use Rattle.std.proofs.lemmas.Map.Steps.{length-le_from_distinct_below}
 use Rattle.sat_base.specs.declared.literal.Var.{Var}
 use Rattle.std.specs.Option.{option_map}

@@ -17,7 +17,8 @@ use Rattle.szs_report.specs.declared.answer.NamedFile.TheVariants.{Mode, Check}
 use Rattle.szs_report.specs.declared.outcome.ModeWhy.{ModeWhy}
 use Rattle.szs_report.specs.declared.outcome.ModeWhy.TheVariants.{UnknownKey, Twice, BadNumber, OutOfRange}
 use Rattle.request_answers.specs.Requested.{problem_name, mode_file, told_of, contents_of}
-use Rattle.request_answers.specs.Modes.{byte_limit, OfFile, IsLongFile, IsModeBy, refused_at, IsBadMode}
+use Rattle.request_answers.specs.Modes.{OfFile, IsLongFile, IsModeBy, refused_at, IsBadMode}
+use Rattle.outside.specs.Limits.{byte_limit}
 use Rattle.request_answers.specs.Internal.RefusedModes.{mode_answer}
 use Rattle.request_answers.specs.Checked.{IsAcceptedText, IsRefusedText, AnswersBytes, AnswersText}
 use Rattle.request_answers.specs.Answers.{AnswersProblem, AnswersStated, AnswersEnding, AnswersFiles, AnswersAsked, IsSettled, Defined}

@@ -4,7 +4,8 @@ use Rattle.std.specs.List.{list_any, flat_map}
 use Rattle.std.proofs.Common.{sym, ap, ◌∙◌}
 use Rattle.stt_core.proofs.ListLaws.{map-append}
 use Rattle.search_spec.specs.Each.{Each}
-use Rattle.search_spec.specs.Clauses.{Kind, has, added, choices, is_tautology, clause_of, instance_clauses, same_clause, with_clauses}
+use Rattle.search_spec.specs.Clauses.{choices, is_tautology, clause_of, instance_clauses, same_clause, with_clauses}
+use Rattle.tableau_calculus.specs.Kinds.{Kind, has, added}
 
 -- Good literals of one kind stand for literals of another: the negations stand for the negations, and two are the same where they stand
 -- for the same.

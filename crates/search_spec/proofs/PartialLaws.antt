@@ -2,11 +2,10 @@
 use Rattle.std.specs.Prelude.{◌≡◌, true, IsTrue, List, ◌∷◌, Option, Some, None, option_map, option_and_then, refl}
 use Rattle.std.proofs.Common.{sym, ap, ◌∙◌, subst}
 use Rattle.std.proofs.lemmas.Bool.{and_parts}
-use Rattle.stt_core.specs.SimpleType.{SimpleType, base, arrow, is_declared}
+use Rattle.stt_core.specs.SimpleType.{SimpleType, base, arrow, is_declared, target}
 use Rattle.stt_core.specs.Lambda.{Lambda, bound, constant, lam, app, IsLeaf}
 use Rattle.stt_core.specs.Typing.{Scope}
 use Rattle.stt_core.specs.Canonical.{IsBase, IsFrom, IsCanonical, IsNeutral}
-use Rattle.search_spec.specs.Heads.{target}
 use Rattle.search_spec.specs.Partial.{Partial, hole, head, function, application, Hole, or_else, first_hole, in_first, with_filling, whole_term, blank_partial, with_holes}
 use Rattle.search_spec.specs.TypedPartial.{IsPartial, IsPartialSpine}
 

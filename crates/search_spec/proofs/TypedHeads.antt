@@ -2,7 +2,7 @@
 use Rattle.std.specs.Prelude.{◌≡◌, ◌+◌, ◌<◌, ◌≤◌, ℕ, zero, suc, nat_eq, Bool, true, false, List, [], ◌∷◌, ◌++◌, map, Option, Some, None, slice_get, refl, if◌then◌else◌}
 use Rattle.std.proofs.Common.{ap, ◌∙◌, subst, arith, eqb-true}
 use Rattle.std.proofs.lemmas.Bool.{and_parts, lt-ltb}
-use Rattle.stt_core.specs.SimpleType.{SimpleType, base, arrow, formula, predicate, is_declared}
+use Rattle.stt_core.specs.SimpleType.{SimpleType, base, arrow, formula, predicate, is_declared, target}
 use Rattle.stt_core.specs.Lambda.{name, witness, falsity, negation, implication, all, equality, Lambda, bound, constant, lam, app}
 use Rattle.stt_core.specs.Typing.{Scope, IsScope, AreDeclared}
 use Rattle.stt_core.specs.Canonical.{IsFrom}
@@ -10,7 +10,7 @@ use Rattle.stt_core.proofs.TypeLaws.{get_declared, constant_declared}
 use Rattle.search_spec.specs.Each.{Each}
 use Rattle.search_spec.specs.Partial.{Partial, hole, head, function, application, Hole, or_else, first_hole}
 use Rattle.search_spec.specs.TypedPartial.{IsPartial, IsPartialSpine}
-use Rattle.search_spec.specs.Heads.{target, places_to, bases_from, logical_heads, fitting_heads}
+use Rattle.search_spec.specs.Heads.{places_to, bases_from, logical_heads, fitting_heads}
 use Rattle.search_spec.specs.TypedState.{FitsHole}
 use Rattle.search_spec.proofs.ClosedLaws.{both_true}
 use Rattle.search_spec.proofs.NamingLaws.{each-joined}

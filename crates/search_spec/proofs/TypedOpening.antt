@@ -2,7 +2,7 @@
 use Rattle.std.specs.Prelude.{◌≡◌, ℕ, true, List, [], ◌∷◌, ◌++◌, map, Option, Some, None, unwrap_or, refl}
 use Rattle.std.specs.List.{list_any}
 use Rattle.std.proofs.Common.{sym, ap, ◌∙◌, subst}
-use Rattle.stt_core.specs.SimpleType.{SimpleType, base, arrow, formula, is_declared, same_type}
+use Rattle.stt_core.specs.SimpleType.{SimpleType, base, arrow, formula, is_declared, same_type, target}
 use Rattle.stt_core.specs.Lambda.{Lambda, IsLeaf}
 use Rattle.stt_core.specs.Typing.{Scope, IsScope}
 use Rattle.stt_core.specs.Canonical.{IsNeutral}
@@ -11,7 +11,7 @@ use Rattle.tableau_calculus.specs.Witnesses.{Row, with_rows}
 use Rattle.search_spec.specs.Each.{Each}
 use Rattle.search_spec.specs.Partial.{Partial, head, Hole, first_hole, with_filling, whole_term, blank_partial, with_holes}
 use Rattle.search_spec.specs.TypedPartial.{IsPartial, IsPartialSpine}
-use Rattle.search_spec.specs.Heads.{target, fitting_heads, heads_for}
+use Rattle.search_spec.specs.Heads.{fitting_heads, heads_for}
 use Rattle.search_spec.specs.State.{State, Setting, Sketch, grow, scope_in}
 use Rattle.search_spec.specs.Terms.{with_terms, with_opening, with_preparation, first_terms}
 use Rattle.search_spec.specs.Commands.{with_growth, filling_at, growth_by}

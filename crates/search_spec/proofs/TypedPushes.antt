@@ -10,11 +10,11 @@ use Rattle.stt_core.specs.Canonical.{IsCanonical}
 use Rattle.stt_core.specs.SameTerm.{same_term}
 use Rattle.stt_core.proofs.TypeLaws.{same_type-true}
 use Rattle.tableau_calculus.specs.Literals.{Literal, plus, IsLiteral, IsBranch}
-use Rattle.tableau_calculus.specs.Start.{has}
+use Rattle.tableau_calculus.specs.Kinds.{has, formulas}
 use Rattle.tableau_calculus.specs.Witnesses.{Row, with_rows}
 use Rattle.search_spec.specs.Shallow.{is_shallow_literal}
 use Rattle.search_spec.specs.Clauses.{instance_clauses, with_clauses}
-use Rattle.search_spec.specs.Unsatisfiable.{formulas, Clause}
+use Rattle.search_spec.specs.Unsatisfiable.{Clause}
 use Rattle.search_spec.specs.Queue.{new_entries}
 use Rattle.search_spec.specs.State.{State, Setting, Typed, Command, process, inst, due, with_commands}
 use Rattle.search_spec.specs.Alternatives.{Alternatives}
@@ -94,7 +94,7 @@ module _ (setting : Setting) (rows : List Row) where
 
   pub with_literal-typed : (l : Literal) (s : State) → IsLiteral over l → Good s → Good (with_literal setting.mode l s)
   with_literal-typed l s h g =
-      pick_good Good (has s.seen l) s (with_commands setting.mode (process l ∷ []) (record s { seen = s.seen ++ l ∷ [] })) g
+      pick_good Good (has formulas s.seen l) s (with_commands setting.mode (process l ∷ []) (record s { seen = s.seen ++ l ∷ [] })) g
       (pushed-typed (process l ∷ []) (record s { seen = s.seen ++ l ∷ [] }) (h, tt) (seen-typed (s.seen ++ l ∷ []) s g))
 
   pub with_literals-typed : (ls : List Literal) (s : State) → IsBranch over ls → Good s → Good (with_literals setting.mode ls s)

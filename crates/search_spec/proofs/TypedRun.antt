@@ -2,7 +2,7 @@
 use Rattle.std.specs.Prelude.{◌≡◌, ℕ, Bool, true, false, List, [], ◌∷◌, ◌++◌, map, filter, Option, Some, None, slice_get, refl, if◌then◌else◌}
 use Rattle.std.specs.List.{list_any, position_or_len}
 use Rattle.std.proofs.Common.{sym, ap, ◌∙◌, subst, eqb-true}
-use Rattle.stt_core.specs.SimpleType.{SimpleType, formula}
+use Rattle.stt_core.specs.SimpleType.{SimpleType, formula, target}
 use Rattle.stt_core.specs.Lambda.{witness, falsity, implication, all, equality, Lambda, constant, app, imp, eq, every}
 use Rattle.stt_core.specs.Typing.{Scope, IsScope, constant_type}
 use Rattle.stt_core.specs.SameTerm.{same_term}
@@ -13,7 +13,6 @@ use Rattle.tableau_calculus.specs.Witnesses.{Row, with_rows, IsTable}
 use Rattle.tableau_calculus.specs.Rules.{imp_pos_rule, imp_neg_rule, all_neg_rule}
 use Rattle.tableau_calculus.specs.declared.refutation.RuleUse.TheVariants.{ImpPos, ImpNeg, AllNeg}
 use Rattle.tableau_calculus.proofs.FunctionLaws.{every_canonical}
-use Rattle.search_spec.specs.Heads.{target}
 use Rattle.search_spec.specs.Each.{Each}
 use Rattle.search_spec.specs.Partial.{Hole, first_hole}
 use Rattle.search_spec.specs.State.{State, Setting, grow, scope_in}

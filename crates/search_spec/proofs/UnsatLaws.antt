@@ -8,11 +8,11 @@ use Rattle.std.proofs.lemmas.List.Folds.{Any-from_list_any, list_any-from_Any}
 use Rattle.stt_core.specs.Lambda.{Lambda}
 use Rattle.stt_core.specs.SameTerm.{same_term}
 use Rattle.stt_core.proofs.SameTerms.{same_term-true, same_term-of}
-use Rattle.tableau_calculus.specs.Start.{same_sign}
+use Rattle.tableau_calculus.specs.Kinds.{same_sign, formulas}
 use Rattle.sat_base.specs.declared.literal.Var.{Var}
 use Rattle.sat_base.specs.declared.literal.SatLit.{SatLit}
 use Rattle.sat_base.specs.Truth.{literal_value, clause_value, only, Unsat}
-use Rattle.search_spec.specs.Unsatisfiable.{formulas, is_true_where, is_false, Unsatisfiable}
+use Rattle.search_spec.specs.Unsatisfiable.{is_true_where, is_false, Unsatisfiable}
 use Rattle.search_spec.specs.Numbered.{numbers, atom_at, literal_at, IsNumber, AreApart}
 use Rattle.search_spec.specs.Each.{Each}
 use Rattle.search_spec.proofs.NamingLaws.{StandFor, either, pick}

@@ -1,14 +1,9 @@
 -- The heads that fit a hole.
 use Rattle.std.specs.Prelude.{ℕ, zero, suc, ◌+◌, ◌++◌, nat_eq, List, [], ◌∷◌, map, Option, Some, None, if◌then◌else◌}
-use Rattle.stt_core.specs.SimpleType.{SimpleType, base, arrow}
+use Rattle.stt_core.specs.SimpleType.{SimpleType, base, target}
 use Rattle.stt_core.specs.Lambda.{Lambda, bound, constant, name, witness, falsity, negation, implication, all, equality, choice}
 use Rattle.stt_core.specs.Typing.{Scope}
 use Rattle.search_spec.specs.Partial.{Hole}
-
--- the number of the base type that a function of this type gives once it has all its arguments
-abbrev pub target : SimpleType → ℕ
-target (base n) = n
-target (arrow a b) = target b
 
 -- the places of the types whose target is this base type; the first of them has this place
 abbrev pub places_to : ℕ → ℕ → List SimpleType → List ℕ

@@ -2,17 +2,16 @@
 use Rattle.std.specs.Prelude.{◌++◌, List, [], ◌∷◌, if◌then◌else◌}
 use Rattle.std.specs.List.{list_all, flat_map}
 use Rattle.tableau_calculus.specs.Literals.{Literal}
-use Rattle.tableau_calculus.specs.Start.{has}
+use Rattle.tableau_calculus.specs.Kinds.{has, formulas}
 use Rattle.search_spec.specs.Shallow.{is_shallow_literal}
 use Rattle.search_spec.specs.Clauses.{instance_clauses, with_clauses}
-use Rattle.search_spec.specs.Unsatisfiable.{formulas}
 use Rattle.search_spec.specs.Mode.{Mode}
 use Rattle.search_spec.specs.State.{State, process, with_commands}
 use Rattle.search_spec.specs.Alternatives.{Alternatives}
 
 -- the literal is seen and is to be processed, unless it was seen before
 abbrev pub with_literal : Mode → Literal → State → State
-with_literal mode l s = if has s.seen l then s else with_commands mode (process l ∷ []) (record s { seen = s.seen ++ l ∷ [] })
+with_literal mode l s = if has formulas s.seen l then s else with_commands mode (process l ∷ []) (record s { seen = s.seen ++ l ∷ [] })
 
 abbrev pub with_literals : Mode → List Literal → State → State
 with_literals mode [] s = s

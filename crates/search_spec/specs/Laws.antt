@@ -9,7 +9,8 @@ use Rattle.sat_base.specs.declared.literal.SatLit.{SatLit}
 use Rattle.sat_base.specs.Truth.{Unsat}
 use Rattle.search_spec.specs.Each.{Each}
 use Rattle.search_spec.specs.Clauses.{instance_clauses, with_clauses}
-use Rattle.search_spec.specs.Unsatisfiable.{formulas, Unsatisfiable}
+use Rattle.search_spec.specs.Unsatisfiable.{Unsatisfiable}
+use Rattle.tableau_calculus.specs.Kinds.{formulas}
 use Rattle.search_spec.specs.Numbered.{numbers, literal_at, IsNumber, AreApart}
 use Rattle.search_spec.specs.Closed.{is_closed}
 use Rattle.search_spec.specs.State.{State, Setting}

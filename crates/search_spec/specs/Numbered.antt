@@ -4,7 +4,7 @@ use Rattle.stt_core.specs.Lambda.{Lambda, constant, falsity}
 use Rattle.tableau_calculus.specs.Literals.{Literal}
 use Rattle.sat_base.specs.declared.literal.SatLit.{SatLit}
 use Rattle.sat_base.specs.Literal.{negated, same_literal}
-use Rattle.search_spec.specs.Clauses.{Kind}
+use Rattle.tableau_calculus.specs.Kinds.{Kind}
 
 -- propositional literals
 abbrev pub numbers : Kind SatLit

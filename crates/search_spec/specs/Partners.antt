@@ -4,7 +4,7 @@ use Rattle.stt_core.specs.SimpleType.{SimpleType, same_type}
 use Rattle.stt_core.specs.Lambda.{equality, Lambda, constant, app}
 use Rattle.stt_core.specs.SameTerm.{same_term}
 use Rattle.tableau_calculus.specs.Literals.{Literal}
-use Rattle.tableau_calculus.specs.Start.{same_sign}
+use Rattle.tableau_calculus.specs.Kinds.{same_sign}
 use Rattle.search_spec.specs.Spine.{same_head}
 use Rattle.search_spec.specs.State.{Command, mate, confront}
 

@@ -1,13 +1,12 @@
 -- States whose literals, terms and commands have their types.
 use Rattle.std.specs.Prelude.{◌≡◌, ℕ, suc, true, List, [], ◌∷◌, Some}
-use Rattle.stt_core.specs.SimpleType.{SimpleType, base, predicate, is_declared}
+use Rattle.stt_core.specs.SimpleType.{SimpleType, base, predicate, is_declared, target}
 use Rattle.stt_core.specs.Lambda.{Constant, Lambda, constant, eq, every, applied, IsLeaf}
 use Rattle.stt_core.specs.Typing.{Scope}
 use Rattle.stt_core.specs.Canonical.{IsCanonical, IsNeutral}
 use Rattle.tableau_calculus.specs.Literals.{Literal, plus, minus, IsLiteral, IsBranch}
 use Rattle.tableau_calculus.specs.Witnesses.{Row, with_rows, IsTable}
 use Rattle.tableau_calculus.specs.Rules.{IsDecomposed}
-use Rattle.search_spec.specs.Heads.{target}
 use Rattle.search_spec.specs.Partial.{Hole, first_hole}
 use Rattle.search_spec.specs.TypedPartial.{IsPartial}
 use Rattle.search_spec.specs.State.{State, Setting, Sketch, Command, process, mate, confront, inst, choose, describe, grow}

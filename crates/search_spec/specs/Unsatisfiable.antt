@@ -3,13 +3,7 @@ use Rattle.std.specs.Prelude.{◌≡◌, Bool, true, not, List, if◌then◌else
 use Rattle.std.specs.List.{list_any}
 use Rattle.stt_core.specs.Lambda.{Lambda}
 use Rattle.stt_core.specs.SameTerm.{same_term}
-use Rattle.tableau_calculus.specs.Literals.{Literal, opposite}
-use Rattle.tableau_calculus.specs.Start.{same_signed}
-use Rattle.search_spec.specs.Clauses.{Kind}
-
--- the literals of the calculus
-abbrev pub formulas : Kind Literal
-formulas = record { opposite = opposite; same = same_signed }
+use Rattle.tableau_calculus.specs.Literals.{Literal}
 
 -- A clause is a list of literals, of which one has to be true.
 abbrev pub Clause : Type 0

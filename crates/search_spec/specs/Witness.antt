@@ -1,12 +1,11 @@
 -- The witness of a predicate that doesn't hold everywhere.
 use Rattle.std.specs.Prelude.{ℕ, ◌++◌, ◌&&◌, nat_eq, Bool, false, List, [], ◌∷◌, map, filter, Option, Some, None, if◌then◌else◌}
 use Rattle.std.specs.List.{list_any, position_or_len}
-use Rattle.stt_core.specs.SimpleType.{SimpleType, same_type}
+use Rattle.stt_core.specs.SimpleType.{SimpleType, same_type, target}
 use Rattle.stt_core.specs.Lambda.{Lambda, constant, witness, every}
 use Rattle.stt_core.specs.SameTerm.{same_term}
 use Rattle.tableau_calculus.specs.Literals.{minus}
 use Rattle.tableau_calculus.specs.Witnesses.{Row}
-use Rattle.search_spec.specs.Heads.{target}
 use Rattle.search_spec.specs.Partial.{Hole, first_hole}
 use Rattle.search_spec.specs.State.{State, Setting, Sketch, grow, with_commands}
 use Rattle.search_spec.specs.Alternatives.{all_neg}

@@ -3,3 +3,4 @@ pub mod CanonicalType
 pub mod TypeCode
 pub mod LambdaCode
 pub mod Missing
+pub mod ProblemCode

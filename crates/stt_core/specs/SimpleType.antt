@@ -26,3 +26,8 @@ same_type (base m) (base n) = nat_eq m n
 same_type (base m) (arrow c d) = false
 same_type (arrow a b) (base n) = false
 same_type (arrow a b) (arrow c d) = same_type a c && same_type b d
+
+-- the number of the base type that a function of this type gives once it has all its arguments
+abbrev pub target : SimpleType → ℕ
+target (base n) = n
+target (arrow a b) = target b

@@ -79,7 +79,8 @@ pub struct Problem {
 
 impl Model for Problem {
     ghost use Rattle.std.specs.Prelude.{option_map};
-    ghost use Rattle.stt_core.specs.PlainProblem.{PlainProblem, problem_code};
+    ghost use Rattle.stt_core.specs.PlainProblem.{PlainProblem};
+    ghost use Rattle.stt_core.specs.Internal.ProblemCode.{problem_code};
     ghost use Rattle.stt_core.specs.View.{the_term};
 
     ghost Value = { PlainProblem };

@@ -88,7 +88,8 @@ pub struct Consts {
 impl Model for Consts {
     ghost use Rattle.std.specs.Prelude.{List, ℕ, map};
     ghost use Rattle.std.specs.Coded.{coded_list};
-    ghost use Rattle.stt_core.specs.TypedName.{TypedName, typed_name_code};
+    ghost use Rattle.stt_core.specs.TypedName.{TypedName};
+    ghost use Rattle.stt_core.specs.Internal.ProblemCode.{typed_name_code};
 
     ghost Value = { List TypedName };
 

@@ -15,7 +15,8 @@ pub struct Alternatives {
 impl Model for Alternatives {
     ghost use Rattle.std.specs.Prelude.{List};
     ghost use Rattle.std.specs.Coded.{coded_list};
-    ghost use Rattle.tableau_calculus.specs.Literals.{Literal, literal_code};
+    ghost use Rattle.tableau_calculus.specs.Literals.{Literal};
+    ghost use Rattle.tableau_calculus.specs.Internal.Codes.{literal_code};
 
     ghost Value = { List (List Literal) };
 

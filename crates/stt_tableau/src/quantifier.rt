@@ -15,8 +15,7 @@ ghost use Rattle.tableau_calculus.specs.Internal.Heads.{quantified_by};
 ghost use Rattle.stt_tableau.specs.Internal.Parts.{IsQuantified};
 ghost use Rattle.tableau_calculus.specs.Rules.{at_new, agreement, nowhere, chosen};
 ghost use Rattle.tableau_calculus.specs.Checks.{FindsInstance, IsTypedWith};
-ghost use Rattle.stt_tableau.specs.Internal.Instances.{IsQuantifiedAt};
-ghost use Rattle.stt_tableau.specs.Internal.Instances.{IsRowOf, IsFunctionFrom, AreFunctionsFrom, IsPredicateOn, IsTypedSomewhere};
+ghost use Rattle.stt_tableau.specs.Internal.Instances.{IsQuantifiedAt, IsRowOf, IsFunctionFrom, AreFunctionsFrom, IsPredicateOn, IsTypedSomewhere};
 ghost use Rattle.tableau_calculus.specs.declared.refutation.RuleUse.TheVariants.{FunPos, FunNeg, AllPos, AllNeg, Cho};
 
 use crate::alternatives::{Alternatives, either, one};

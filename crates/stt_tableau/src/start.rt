@@ -5,7 +5,8 @@ ghost use Rattle.stt_core.specs.View.{the_term};
 ghost use Rattle.stt_core.specs.ScopeView.{the_scope};
 ghost use Rattle.stt_core.specs.Typing.{IsScope};
 ghost use Rattle.stt_core.specs.TypedProblem.{IsFormula, AreFormulas, IsTyped};
-ghost use Rattle.tableau_calculus.specs.Start.{added, without_repeats, normal_literal, start};
+ghost use Rattle.tableau_calculus.specs.Start.{without_repeats, normal_literal, start};
+ghost use Rattle.tableau_calculus.specs.Kinds.{added, formulas};
 
 use crate::formula::literal_of;
 use tableau_calculus::{Lit, Lits};
@@ -16,7 +17,7 @@ use stt_normal::normalise;
 impl Lits {
     /// Adds the literal where the list doesn't have it.
     pub fn add(&mut self, lit: Lit) -> Result<(), AllocError>
-        ensures { OnOk result (self.new ≡ added self.old (lit ∷ [])) }
+        ensures { OnOk result (self.new ≡ added formulas self.old (lit ∷ [])) }
     {
         if !self.contains(&lit) {
             self.push(lit)?;

@@ -7,7 +7,8 @@ use Rattle.stt_core.specs.PlainProblem.{PlainProblem}
 use Rattle.stt_core.specs.TypedProblem.{IsFormula, AreFormulas}
 use Rattle.stt_core.proofs.ListLaws.{take_got, map-append}
 use Rattle.tableau_calculus.specs.Literals.{Literal, opposite}
-use Rattle.tableau_calculus.specs.Start.{added, without_repeats, normal_literal, denied, start}
+use Rattle.tableau_calculus.specs.Start.{without_repeats, normal_literal, denied, start}
+use Rattle.tableau_calculus.specs.Kinds.{added, formulas}
 use Rattle.tableau_calculus.proofs.AddedLaws.{added-append}
 
 pub formula_at : (scope : Scope) (ts : List Lambda) (i : ℕ) (t : Lambda) → slice_get ts i ≡ Some t → AreFormulas scope ts → IsFormula scope t
@@ -19,11 +20,11 @@ formula_at scope (u ∷ ts) (suc i) t g h = formula_at scope ts i t g h.1
 pub literals-more : (f : Lambda → Literal) (ts : List Lambda) (i : ℕ) (t : Lambda) → slice_get ts i ≡ Some t → map f (take (i + 1) ts) ≡ map f (take i ts) ++ f t ∷ []
 literals-more f ts i t g = ap (map f) (take_got ts i t g) ∙ map-append f (take i ts) (t ∷ [])
 
-pub added-more : (f : Lambda → Literal) (ts : List Lambda) (i : ℕ) (t : Lambda) (before after : List Literal) → slice_get ts i ≡ Some t → before ≡ added [] (map f (take i ts)) → after ≡ added before (f t ∷ []) → after ≡ added [] (map f (take (i + 1) ts))
+pub added-more : (f : Lambda → Literal) (ts : List Lambda) (i : ℕ) (t : Lambda) (before after : List Literal) → slice_get ts i ≡ Some t → before ≡ added formulas [] (map f (take i ts)) → after ≡ added formulas before (f t ∷ []) → after ≡ added formulas [] (map f (take (i + 1) ts))
 added-more f ts i t before after g h k =
     k
-    ∙ ap (λ ls. added ls (f t ∷ [])) h
-    ∙ sym (ap (added []) (literals-more f ts i t g) ∙ added-append [] (map f (take i ts)) (f t ∷ []))
+    ∙ ap (λ ls. added formulas ls (f t ∷ [])) h
+    ∙ sym (ap (added formulas []) (literals-more f ts i t g) ∙ added-append [] (map f (take i ts)) (f t ∷ []))
 
 -- the start of a problem without a conjecture, and with one
 pub start-assumed : (p : PlainProblem) (ls : List Literal) → p.conjecture ≡ None → ls ≡ without_repeats (map (normal_literal (scope_of p.declared)) p.assumed) → ls ≡ start p
@@ -32,12 +33,12 @@ start-assumed p ls c h =
     let assumed = map (normal_literal scope) p.assumed in
     h ∙ sym (ap (λ o. without_repeats (assumed ++ denied scope o)) c ∙ added-append [] assumed [])
 
-pub start-denied : (p : PlainProblem) (t : Lambda) (d : Literal) (ls after : List Literal) → p.conjecture ≡ Some t → d ≡ opposite (normal_literal (scope_of p.declared) t) → ls ≡ without_repeats (map (normal_literal (scope_of p.declared)) p.assumed) → after ≡ added ls (d ∷ []) → after ≡ start p
+pub start-denied : (p : PlainProblem) (t : Lambda) (d : Literal) (ls after : List Literal) → p.conjecture ≡ Some t → d ≡ opposite (normal_literal (scope_of p.declared) t) → ls ≡ without_repeats (map (normal_literal (scope_of p.declared)) p.assumed) → after ≡ added formulas ls (d ∷ []) → after ≡ start p
 start-denied p t d ls after c e h k =
     let scope = scope_of p.declared in
     let assumed = map (normal_literal scope) p.assumed in
     let last = opposite (normal_literal scope t) ∷ [] in
     k
-    ∙ ap (λ x. added ls (x ∷ [])) e
-    ∙ ap (λ xs. added xs last) h
+    ∙ ap (λ x. added formulas ls (x ∷ [])) e
+    ∙ ap (λ xs. added formulas xs last) h
     ∙ sym (ap (λ o. without_repeats (assumed ++ denied scope o)) c ∙ added-append [] assumed last)

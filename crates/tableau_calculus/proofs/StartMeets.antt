@@ -15,7 +15,8 @@ use Rattle.normal_forms.proofs.NormalValues.{canonical-normal_form, value-normal
 use Rattle.tableau_calculus.specs.Literals.{Literal, opposite, as_literal, IsLiteral, IsBranch}
 use Rattle.tableau_calculus.specs.Witnesses.{IsNoWitness, NamesNoWitness, NoneNamesWitness}
 use Rattle.tableau_calculus.specs.Meets.{MeetsLiteral, MeetsBranch}
-use Rattle.tableau_calculus.specs.Start.{added, normal_literal, denied, start}
+use Rattle.tableau_calculus.specs.Start.{normal_literal, denied, start}
+use Rattle.tableau_calculus.specs.Kinds.{added, formulas}
 use Rattle.tableau_calculus.proofs.AddedLaws.{contains_cases-added}
 use Rattle.tableau_calculus.proofs.ListLaws.{contains-first, contains-later, contains_cases, Each}
 use Rattle.tableau_calculus.proofs.LiteralLaws.{as_literal-is_literal, opposite-is_literal, as_literal-says, value-bit}
@@ -24,8 +25,8 @@ every_each : {A : Type 0} (P : A → Type 0) (xs : List A) → Each P xs → Eve
 every_each P [] h = tt
 every_each P (x ∷ xs) h = (h x (contains-first x xs), every_each P xs (λ y k. h y (contains-later y x xs k)))
 
-added_each : (P : Literal → Type 0) (ks : List Literal) → Every P ks → Every P (added [] ks)
-added_each P ks h = every_each P (added [] ks) (λ l c. ⊎_elim (λ d. absurd (omega (arith, d.1))) (λ d. at_of ks h l d) (contains_cases-added [] ks l c))
+added_each : (P : Literal → Type 0) (ks : List Literal) → Every P ks → Every P (added formulas [] ks)
+added_each P ks h = every_each P (added formulas [] ks) (λ l c. ⊎_elim (λ d. absurd (omega (arith, d.1))) (λ d. at_of ks h l d) (contains_cases-added [] ks l c))
   where
     at_of : (ls : List Literal) → Every P ls → (l : Literal) → Contains ls l → P l
     at_of [] e l d = absurd (omega (arith, d.1))

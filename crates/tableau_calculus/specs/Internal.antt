@@ -1,3 +1,4 @@
 -- Means of proof: what private contracts and proofs speak of.
 pub mod Answers
 pub mod Heads
+pub mod Codes

@@ -1,4 +1,5 @@
 pub mod Literals
+pub mod Kinds
 pub mod Witnesses
 pub mod Rules
 pub mod Along

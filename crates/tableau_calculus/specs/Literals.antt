@@ -1,10 +1,8 @@
 -- Literals: formulas with a sign (Brown and Smolka, Analytic tableaux for simple type theory and its first-order fragment, 2010,
 -- section 3).
-use Rattle.std.specs.Prelude.{◌≡◌, Bool, true, false, not, List, [], ◌∷◌, refl}
-use Rattle.std.specs.Coded.{Coded, code_by, coded_bool, coded×}
+use Rattle.std.specs.Prelude.{◌≡◌, Bool, true, false, not, List, [], ◌∷◌}
 use Rattle.stt_core.specs.SimpleType.{formula}
 use Rattle.stt_core.specs.Lambda.{Lambda, constant, app, negation}
-use Rattle.stt_core.specs.Internal.LambdaCode.{lambda_code}
 use Rattle.stt_core.specs.Typing.{Scope}
 use Rattle.stt_core.specs.Canonical.{IsCanonical}
 
@@ -41,6 +39,3 @@ pub record IsLiteral (scope : Scope) (l : Literal) : Type 0 where
 abbrev pub IsBranch : Scope → List Literal → Type 0
 IsBranch scope [] = Unit {0}
 IsBranch scope (l ∷ branch) = IsLiteral scope l × IsBranch scope branch
-
-abbrev pub literal_code : Coded Literal
-literal_code = code_by (Bool × Lambda) (coded× coded_bool lambda_code) (λ l. (l.positive, l.atom)) (λ p. record { positive = p.0; atom = p.1 }) (λ _. refl)

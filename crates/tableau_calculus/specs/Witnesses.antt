@@ -1,10 +1,7 @@
 -- Witness tables, in place of the fresh names of a tableau branch.
-use Rattle.std.specs.Prelude.{List, [], ◌∷◌, ◌++◌, map, refl, Contains}
-use Rattle.std.specs.Coded.{Coded, code_by, coded×}
+use Rattle.std.specs.Prelude.{List, [], ◌∷◌, ◌++◌, map, Contains}
 use Rattle.stt_core.specs.SimpleType.{SimpleType, predicate}
-use Rattle.stt_core.specs.Internal.TypeCode.{type_code}
 use Rattle.stt_core.specs.Lambda.{Constant, name, witness, falsity, negation, implication, all, equality, choice, description, Lambda, bound, constant, lam, app}
-use Rattle.stt_core.specs.Internal.LambdaCode.{lambda_code}
 use Rattle.stt_core.specs.Typing.{Scope}
 use Rattle.stt_core.specs.Canonical.{IsCanonical}
 use Rattle.tableau_calculus.specs.Literals.{Literal}
@@ -13,9 +10,6 @@ use Rattle.tableau_calculus.specs.Literals.{Literal}
 pub record Row : Type 0 where
   pub type : SimpleType
   pub predicate : Lambda
-
-abbrev pub row_code : Coded Row
-row_code = code_by (SimpleType × Lambda) (coded× type_code lambda_code) (λ r. (r.type, r.predicate)) (λ p. record { type = p.0; predicate = p.1 }) (λ _. refl)
 
 -- what is declared, with the witnesses of these rows
 abbrev pub with_rows : Scope → List Row → Scope

@@ -18,7 +18,8 @@ pub struct Lit {
 
 impl Model for Lit {
     ghost use Rattle.std.specs.Prelude.{◌≡◌, false};
-    ghost use Rattle.tableau_calculus.specs.Literals.{Literal, literal_code, is_negated};
+    ghost use Rattle.tableau_calculus.specs.Literals.{Literal, is_negated};
+    ghost use Rattle.tableau_calculus.specs.Internal.Codes.{literal_code};
 
     ghost Value = { Literal };
 
@@ -77,7 +78,8 @@ pub struct Lits {
 impl Model for Lits {
     ghost use Rattle.std.specs.Prelude.{List, map};
     ghost use Rattle.std.specs.Coded.{coded_list};
-    ghost use Rattle.tableau_calculus.specs.Literals.{Literal, literal_code};
+    ghost use Rattle.tableau_calculus.specs.Literals.{Literal};
+    ghost use Rattle.tableau_calculus.specs.Internal.Codes.{literal_code};
 
     ghost Value = { List Literal };
 

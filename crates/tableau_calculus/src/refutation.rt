@@ -103,7 +103,7 @@ impl Model for Lines {
     ghost use Rattle.tableau_calculus.specs.declared.refutation.Line.{Line};
     ghost use Rattle.std.specs.Coded.{codes};
     ghost use Rattle.stt_core.specs.Internal.LambdaCode.{lambda_code};
-    ghost use Rattle.tableau_calculus.specs.Literals.{literal_code};
+    ghost use Rattle.tableau_calculus.specs.Internal.Codes.{literal_code};
 
     ghost Value = { List Line };
 
@@ -161,7 +161,8 @@ pub struct WitnessRow {
 
 impl Model for WitnessRow {
     ghost use Rattle.stt_core.specs.View.{the_type};
-    ghost use Rattle.tableau_calculus.specs.Witnesses.{Row, row_code};
+    ghost use Rattle.tableau_calculus.specs.Witnesses.{Row};
+    ghost use Rattle.tableau_calculus.specs.Internal.Codes.{row_code};
 
     ghost Value = { Row };
 
@@ -179,7 +180,8 @@ pub struct Rows {
 impl Model for Rows {
     ghost use Rattle.std.specs.Prelude.{List};
     ghost use Rattle.std.specs.Coded.{coded_list};
-    ghost use Rattle.tableau_calculus.specs.Witnesses.{Row, row_code};
+    ghost use Rattle.tableau_calculus.specs.Witnesses.{Row};
+    ghost use Rattle.tableau_calculus.specs.Internal.Codes.{row_code};
 
     ghost Value = { List Row };
 

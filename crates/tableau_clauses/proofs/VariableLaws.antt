@@ -7,7 +7,8 @@ use Rattle.std.proofs.lemmas.List.Folds.{list_any-append}
 use Rattle.sat_base.specs.declared.literal.SatLit.{SatLit}
 use Rattle.sat_base.specs.Literal.{negated, same_literal, same_var, holds, mentions_variable, HoldsNoVariableTwice}
 use Rattle.sat_base.proofs.LiteralLaws.{same_literal-comm}
-use Rattle.search_spec.specs.Clauses.{added, choices, is_tautology, clause_of, instance_clauses}
+use Rattle.search_spec.specs.Clauses.{choices, is_tautology, clause_of, instance_clauses}
+use Rattle.tableau_calculus.specs.Kinds.{added}
 use Rattle.search_spec.specs.Numbered.{numbers}
 use Rattle.search_spec.specs.Each.{Each}
 

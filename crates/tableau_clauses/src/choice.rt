@@ -1,7 +1,8 @@
 //! The clauses of an instance.
 ghost use Rattle.std.specs.Prelude.{◌≡◌, ◌++◌, [], ◌∷◌, OnOk, IfOk};
 ghost use Rattle.std.specs.List.{flat_map};
-ghost use Rattle.search_spec.specs.Clauses.{has, added, is_tautology, clause_of, instance_clauses};
+ghost use Rattle.search_spec.specs.Clauses.{is_tautology, clause_of, instance_clauses};
+ghost use Rattle.tableau_calculus.specs.Kinds.{has, added};
 ghost use Rattle.search_spec.specs.Numbered.{numbers};
 ghost use Rattle.tableau_clauses.specs.Internal.Chosen.{clauses_from, choices_after};
 

@@ -1,18 +1,15 @@
 -- Drafts over a bank that has grown.
 use Rattle.std.proofs.Common.{◌≡◌, ℕ, true, false, List, [], ◌∷◌, Some, refl, sym, ap, subst, subst₂, ◌∙◌}
-use Rattle.stt_core.specs.Lambda.{every}
+use Rattle.stt_core.specs.Lambda.{every, eq}
 use Rattle.stt_core.specs.Canonical.{IsCanonical}
 use Rattle.stt_core.specs.View.{the_type}
 use Rattle.normal_forms.specs.Normal.{apply}
-use Rattle.tableau_calculus.specs.Literals.{as_literal}
+use Rattle.tableau_calculus.specs.Literals.{as_literal, opposite}
 use Rattle.tableau_calculus.specs.Witnesses.{Row}
-use Rattle.tableau_calculus.specs.Rules.{IsInstance}
+use Rattle.tableau_calculus.specs.Rules.{IsInstance, agreement}
 use Rattle.tableau_calculus.specs.declared.refutation.RuleUse.{RuleUse}
 use Rattle.tableau_calculus.specs.declared.refutation.RuleUse.TheVariants.{AllPos, FunPos, FunNeg}
 use Rattle.stt_core.specs.SimpleType.{arrow, formula}
-use Rattle.stt_core.specs.Lambda.{eq}
-use Rattle.tableau_calculus.specs.Literals.{opposite}
-use Rattle.tableau_calculus.specs.Rules.{agreement}
 use Rattle.tableau_calculus.proofs.EquationLaws.{eq_canonical}
 use Rattle.tableau_rules.specs.Internal.Typed.{AreSides}
 use Rattle.tableau_rules.specs.Internal.Functions.{AreFunctionsOf}

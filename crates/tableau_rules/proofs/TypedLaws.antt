@@ -1,5 +1,5 @@
 -- Terms that fit together, and formulas made of them.
-use Rattle.std.proofs.Common.{◌≡◌, ◌<◌, ℕ, true, List, [], ◌∷◌, Some, length, refl, sym, ap, ap₂, subst, ◌∙◌}
+use Rattle.std.proofs.Common.{◌≡◌, ◌<◌, ℕ, true, List, [], ◌∷◌, Some, length, refl, sym, ap, ap₂, subst, ◌∙◌, subst₂, zero, suc, get_or, arith}
 use Rattle.std.specs.Prelude.{All}
 use Rattle.stt_core.specs.SimpleType.{SimpleType, formula, arrow, predicate, is_declared}
 use Rattle.stt_core.specs.Lambda.{Lambda, bound, lam, eq, every}
@@ -7,18 +7,15 @@ use Rattle.stt_core.specs.Canonical.{IsCanonical}
 use Rattle.stt_core.specs.Lift.{lift}
 use Rattle.normal_forms.specs.Normal.{eta, apply}
 use Rattle.normal_forms.proofs.NormalValues.{canonical-eta}
-use Rattle.tableau_calculus.specs.Rules.{at_new}
+use Rattle.tableau_calculus.specs.Rules.{at_new, agreement}
 use Rattle.tableau_calculus.proofs.EquationLaws.{canonical-eq}
-use Rattle.term_bank.specs.Content.{Content, content_scope}
+use Rattle.term_bank.specs.Content.{Content, content_scope, HasTerm, Grows}
 use Rattle.term_bank.specs.Terms.{term_at, IsTypedTerm}
 use Rattle.bank_normal.specs.Fits.{IsNeutralOf, AppliesIn}
 use Rattle.std.proofs.lemmas.Bool.{and_parts}
-use Rattle.tableau_calculus.specs.Rules.{agreement}
-use Rattle.std.proofs.Common.{subst₂, zero, suc, get_or, arith}
 use Rattle.bank_normal.proofs.LiftLaws.{lift_by_none}
 use Rattle.normal_forms.proofs.CanonicalLaws.{canonical-lift}
 use Rattle.tableau_calculus.proofs.FunctionLaws.{canonical-every, canonical-at_new}
-use Rattle.term_bank.specs.Content.{HasTerm, Grows}
 use Rattle.term_bank.proofs.GrowLaws.{grown_scope, grown_at, grown_within, grown_term, has_at, has_within}
 use Rattle.tableau_rules.proofs.ClosedLaws.{missing_none}
 use Rattle.tableau_rules.specs.Internal.Typed.{AreSides, IsFunction, IsOpenFormula}

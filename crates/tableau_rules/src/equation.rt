@@ -7,9 +7,8 @@ ghost use Rattle.tableau_calculus.specs.Witnesses.{Row};
 ghost use Rattle.tableau_calculus.specs.declared.refutation.RuleUse.TheVariants.{Refl, BoolPos, BoolNeg, Con};
 ghost use Rattle.term_bank.specs.Content.{Grows, HasTerm};
 ghost use Rattle.term_bank.specs.Terms.{term_at};
-ghost use Rattle.tableau_rules.specs.Internal.Drafted.{IsPrincipal, Drafted};
+ghost use Rattle.tableau_rules.specs.Internal.Drafted.{IsPrincipal, Drafted, DifferFromBoth};
 ghost use Rattle.tableau_rules.specs.Internal.Typed.{AreSides};
-ghost use Rattle.tableau_rules.specs.Internal.Drafted.{DifferFromBoth};
 
 use crate::draft::{Drafts, Principal, Signed, either_both, fails, holds};
 use crate::part::{Equation, equation_of};

@@ -9,11 +9,10 @@ use Rattle.stt_core.specs.Typing.{Scope}
 use Rattle.stt_core.specs.Lambda.{Lambda, bound}
 use Rattle.term_bank.specs.Shape.{Shape, same_shape}
 use Rattle.term_bank.specs.Internal.ShapeLaws.{shape_decides}
-use Rattle.term_bank.specs.Internal.Sound.{terms_after}
+use Rattle.term_bank.specs.Internal.Sound.{terms_after, ShapeEntry, entry_terms, AreSound}
 use Rattle.term_bank.specs.Terms.{term_at, shape_term, IsBelow}
 use Rattle.term_bank.specs.NodeView.{the_shape}
 use Rattle.term_bank.specs.Internal.MarksView.{IsMarked}
-use Rattle.term_bank.specs.Internal.Sound.{ShapeEntry, entry_terms, AreSound}
 use Rattle.term_bank.specs.declared.node.Node.{Node}
 use Rattle.term_bank.specs.declared.marks.Marks.{Marks}
 use Rattle.stt_core.proofs.ListLaws.{slice_get-end, map-append}

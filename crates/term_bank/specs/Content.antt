@@ -1,11 +1,8 @@
 -- What a bank of terms holds.
-use Rattle.std.specs.Prelude.{◌≡◌, ℕ, List, ◌++◌, map, length, slice_get, Some, refl}
-use Rattle.std.specs.Coded.{Coded, code_by, coded×, coded_ℕ, coded_list}
+use Rattle.std.specs.Prelude.{◌≡◌, ℕ, List, ◌++◌, map, length, slice_get, Some}
 use Rattle.stt_core.specs.SimpleType.{SimpleType}
-use Rattle.stt_core.specs.Internal.TypeCode.{type_code}
-use Rattle.stt_core.specs.TypedName.{TypedName, typed_name_code}
+use Rattle.stt_core.specs.TypedName.{TypedName}
 use Rattle.stt_core.specs.Lambda.{Lambda}
-use Rattle.stt_core.specs.Internal.LambdaCode.{lambda_code}
 use Rattle.stt_core.specs.Typing.{Scope}
 
 -- The names of the base types and the constants that are declared, the types of the witnesses, and the terms. A term is known by its
@@ -15,14 +12,6 @@ pub record Content : Type 0 where
   pub consts : List TypedName
   pub witnesses : List SimpleType
   pub terms : List Lambda
-
-abbrev pub content_code : Coded Content
-content_code =
-    code_by (List (List ℕ) × (List TypedName × (List SimpleType × List Lambda)))
-    (coded× (coded_list (coded_list coded_ℕ)) (coded× (coded_list typed_name_code) (coded× (coded_list type_code) (coded_list lambda_code))))
-    (λ b. (b.bases, (b.consts, (b.witnesses, b.terms))))
-    (λ p. record { bases = p.0; consts = p.1.0; witnesses = p.1.1.0; terms = p.1.1.1 })
-    (λ _. refl)
 
 -- what is declared
 abbrev pub content_scope : Content → Scope

@@ -2,7 +2,8 @@
 pub mod ShapeHash
 pub mod ShapeLaws
 pub mod Marks
-pub mod Target
 pub mod MarksView
 pub mod Sound
 pub mod Inside
+pub mod ContentCode
+pub mod Places

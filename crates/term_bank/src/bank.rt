@@ -21,7 +21,8 @@ pub struct Bank {
 }
 
 impl Model for Bank {
-    ghost use Rattle.term_bank.specs.Content.{Content, content_code};
+    ghost use Rattle.term_bank.specs.Content.{Content};
+    ghost use Rattle.term_bank.specs.Internal.ContentCode.{content_code};
 
     ghost Value = { Content };
 

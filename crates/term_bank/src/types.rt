@@ -4,12 +4,11 @@ ghost use Rattle.std.specs.Prelude.{◌≡◌, ◌<◌, [], length, Some, IfOk, 
 ghost use Rattle.stt_core.specs.Canonical.{IsCanonical};
 ghost use Rattle.stt_core.specs.ContextView.{the_context};
 ghost use Rattle.stt_core.specs.Occurrence.{IsClosed};
-ghost use Rattle.stt_core.specs.SimpleType.{base};
+ghost use Rattle.stt_core.specs.SimpleType.{base, target};
 ghost use Rattle.stt_core.specs.Typing.{type_of};
 ghost use Rattle.stt_core.specs.View.{the_head, the_type};
 ghost use Rattle.term_bank.specs.Content.{content_scope};
 ghost use Rattle.term_bank.specs.Internal.MarksView.{HasTypeIn};
-ghost use Rattle.term_bank.specs.Internal.Target.{target};
 ghost use Rattle.term_bank.specs.Terms.{term_at};
 
 use crate::bank::Bank;

@@ -3,7 +3,7 @@ use Rattle.std.proofs.Common.{◌≡◌, ℕ, suc, ◌+◌, ◌<◌, ◌≤◌, 
 use Rattle.std.specs.Prelude.{cond, filter, find}
 use Rattle.std.specs.List.{AllByRecursion}
 use Rattle.thf_grammar.specs.Trees.{SelectedTree, StatementTree}
-use Rattle.thf_include.specs.Gathering.{byte_limit}
+use Rattle.outside.specs.Limits.{byte_limit}
 use Rattle.thf_include.specs.View.{PlacedTree}
 use Rattle.thf_include.specs.Gathering.{Ending, done, stopped, bytes_of, placed_statement, select, select_by, is_selected, is_missing, FileEnds, unread, long, refused, followed, StatementEnds, stays, in_cycle, past_limit, stops, selects, StatementsEnd, no_more, ends, goes_on}
 use Rattle.thf_include.proofs.Texts.{bytes_of-more}

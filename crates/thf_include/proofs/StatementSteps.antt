@@ -3,12 +3,11 @@ use Rattle.std.proofs.Common.{◌≡◌, ℕ, ◌+◌, ◌<◌, ◌≤◌, Bool,
 use Rattle.std.specs.Prelude.{Contains}
 use Rattle.std.proofs.lemmas.List.{append-nil}
 use Rattle.thf_grammar.specs.Trees.{AnnotatedTree, SelectedTree, StatementTree, annotated, include}
-use Rattle.thf_include.specs.Gathering.{file_limit}
+use Rattle.thf_include.specs.Gathering.{file_limit, Stop, Ending, done, stopped, wants, no_name, behind_statements, placed_statement, select, FileEnds, unread, long, refused, followed, StatementEnds, stays, in_cycle, past_limit, stops, selects, StatementsEnd, no_more, ends, goes_on}
 use Rattle.thf_include.specs.declared.opened.Opened.{Opened}
 use Rattle.thf_include.specs.declared.refused.GatherRefused.{GatherRefused}
 use Rattle.thf_include.specs.declared.refused.GatherRefused.TheVariants.{Fault, TooLong, Syntax, Cycle, NoSuchName, TooMany, Memory}
 use Rattle.thf_include.specs.View.{PlacedTree}
-use Rattle.thf_include.specs.Gathering.{Stop, Ending, done, stopped, wants, no_name, behind_statements, placed_statement, select, FileEnds, unread, long, refused, followed, StatementEnds, stays, in_cycle, past_limit, stops, selects, StatementsEnd, no_more, ends, goes_on}
 use Rattle.thf_include.specs.Answer.{AreContents, StopsAs}
 use Rattle.thf_include.specs.Internal.Steps.{AreRead, IsStep, FileSteps, StatementSteps, StatementsStep, SelectsAs}
 use Rattle.thf_include.proofs.Texts.{take-append}

@@ -4,7 +4,7 @@ use Rattle.std.proofs.lemmas.List.{length-map}
 use Rattle.thf_grammar.specs.View.{the_statement, the_file}
 use Rattle.thf_grammar.specs.declared.statement.Statement.{Statement}
 use Rattle.thf_include.specs.declared.gathered.Placed.{Placed}
-use Rattle.thf_include.specs.Gathering.{byte_limit}
+use Rattle.outside.specs.Limits.{byte_limit}
 use Rattle.thf_include.specs.declared.opened.Opened.{Opened}
 use Rattle.thf_include.specs.View.{the_placed, the_statements}
 use Rattle.thf_include.specs.Gathering.{done}

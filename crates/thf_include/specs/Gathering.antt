@@ -8,10 +8,7 @@ use Rattle.thf_grammar.specs.Trees.{AnnotatedTree, SelectedTree, StatementTree, 
 use Rattle.thf_grammar.specs.Words.{lexemes}
 use Rattle.thf_parse.specs.Parsing.{depth_limit, HasTree, IsWrongAt, IsTooDeepAt}
 use Rattle.thf_include.specs.View.{PlacedTree}
-
--- how many bytes the files of a problem may have together, and how many files may be opened; a file that is included twice counts twice
-abbrev pub byte_limit : ℕ
-byte_limit = 16777216
+use Rattle.outside.specs.Limits.{byte_limit}
 
 abbrev pub file_limit : ℕ
 file_limit = 256

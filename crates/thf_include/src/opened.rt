@@ -2,7 +2,8 @@
 
 ghost use Rattle.std.specs.Prelude.{◌≡◌, ◌+◌, ◌∷◌, [], ◌++◌, ◌≤◌, ◌<◌, List, ℕ, Some, length, slice_get, IsSomeAnd, IfOk, IfErr, OnOk, IsTrue};
 ghost use Rattle.outside.specs.Causes.{Rose};
-ghost use Rattle.thf_include.specs.Gathering.{byte_limit, file_limit};
+ghost use Rattle.thf_include.specs.Gathering.{file_limit};
+ghost use Rattle.outside.specs.Limits.{byte_limit};
 ghost use Rattle.thf_include.specs.Answer.{OfFault, IsNoFault};
 ghost use Rattle.thf_include.specs.Internal.Opening.{IsReadRefusal};
 

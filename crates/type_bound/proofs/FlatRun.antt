@@ -2,18 +2,17 @@
 use Rattle.std.proofs.Common.{◌≡◌, ◌≤◌, ◌&&◌, ℕ, zero, suc, Bool, true, false, List, [], ◌∷◌, ◌++◌, map, filter, Option, Some, None, refl, subst, if◌then◌else◌, arith}
 use Rattle.std.specs.List.{list_any, list_all, flat_map}
 use Rattle.std.proofs.lemmas.Bool.{and_parts, leb-true}
-use Rattle.stt_core.specs.SimpleType.{SimpleType, base, arrow, formula, same_type}
+use Rattle.stt_core.specs.SimpleType.{SimpleType, base, arrow, formula, same_type, target}
 use Rattle.stt_core.specs.Lambda.{name, witness, falsity, negation, implication, all, equality, choice, description, Lambda, bound, constant, lam, app, imp, eq, every}
 use Rattle.stt_core.specs.Depth.{depth}
 use Rattle.stt_core.specs.Typing.{type_of}
 use Rattle.stt_core.specs.SameTerm.{same_term}
 use Rattle.tableau_calculus.specs.Literals.{Literal, plus, minus}
-use Rattle.tableau_calculus.specs.Start.{has}
+use Rattle.tableau_calculus.specs.Kinds.{has, formulas}
 use Rattle.tableau_calculus.specs.Witnesses.{Row}
 use Rattle.search_spec.specs.Each.{Each}
 use Rattle.search_spec.specs.Clauses.{instance_clauses, with_clauses}
-use Rattle.search_spec.specs.Unsatisfiable.{formulas}
-use Rattle.search_spec.specs.Heads.{target, heads_for}
+use Rattle.search_spec.specs.Heads.{heads_for}
 use Rattle.search_spec.specs.Partial.{first_hole, whole_term, blank_partial}
 use Rattle.search_spec.specs.Shallow.{is_shallow, is_shallow_literal}
 use Rattle.search_spec.specs.Queue.{Waiting, new_entries, is_before, first_waiting, next_command, without_number}
@@ -109,7 +108,7 @@ module _ (setting : Setting) where
 
   with_literal-flat : (l : Literal) (s : State) → IsFlat l → Is s → Is (with_literal setting.mode l s)
   with_literal-flat l s h g =
-      pick_good Is (has s.seen l) s (with_commands setting.mode (process l ∷ []) (record s { seen = s.seen ++ l ∷ [] })) g
+      pick_good Is (has formulas s.seen l) s (with_commands setting.mode (process l ∷ []) (record s { seen = s.seen ++ l ∷ [] })) g
       (pushed-flat (process l ∷ []) (record s { seen = s.seen ++ l ∷ [] }) (h, tt) (record { clauses = g.clauses; noted = g.noted; rows = g.rows; queue = g.queue }))
 
   with_literals-flat : (ls : List Literal) (s : State) → Each IsFlat ls → Is s → Is (with_literals setting.mode ls s)

@@ -2,14 +2,13 @@
 use Rattle.std.proofs.Common.{◌≡◌, ◌≤◌, ◌&&◌, ℕ, zero, suc, Bool, true, false, List, [], ◌∷◌, ◌++◌, map, filter, Option, Some, None, refl, subst, if◌then◌else◌}
 use Rattle.std.specs.List.{list_any}
 use Rattle.std.proofs.lemmas.Bool.{and_parts}
-use Rattle.stt_core.specs.SimpleType.{SimpleType, base, arrow, formula}
+use Rattle.stt_core.specs.SimpleType.{SimpleType, base, arrow, formula, target}
 use Rattle.stt_core.specs.Lambda.{falsity, implication, all, equality, Lambda, constant, app, imp, eq, every}
 use Rattle.stt_core.specs.Typing.{type_of}
 use Rattle.stt_core.specs.SameTerm.{same_term}
 use Rattle.tableau_calculus.specs.Literals.{Literal, plus, minus}
 use Rattle.tableau_calculus.specs.Witnesses.{Row}
 use Rattle.search_spec.specs.Each.{Each}
-use Rattle.search_spec.specs.Heads.{target}
 use Rattle.search_spec.specs.Shallow.{is_shallow, is_shallow_literal}
 use Rattle.search_spec.specs.Queue.{Waiting, is_before, first_waiting, next_command, without_number}
 use Rattle.search_spec.specs.State.{State, Setting, Sketch, Command, process, mate, confront, inst, choose, describe, grow, with_commands, scope_in}
@@ -25,7 +24,7 @@ use Rattle.search_spec.specs.Commands.{with_mating, with_confrontation, with_ins
 use Rattle.search_spec.specs.After.{nothing_yet, starting_state, after_command, next_state, state_after}
 use Rattle.search_spec.proofs.NamingLaws.{each-joined, pick_good}
 use Rattle.search_spec.proofs.TypedPushes.{each_filtered, each_mapped}
-use Rattle.type_bound.specs.Types.{nesting}
+use Rattle.refute_print.specs.Sizes.{nesting}
 use Rattle.type_bound.specs.Modest.{IsModest, IsModestLiteral, IsModestPartial, IsModestRow, IsModestCommand, IsModestState, IsModestSetting}
 use Rattle.type_bound.proofs.ModestTerms.{head_of_keeps, arguments_keep, head_shallow, imp_pos_keeps, imp_neg_keeps, bool_pos_keeps, bool_neg_keeps, fun_pos_keeps, fun_neg_keeps, all_pos_keeps, all_neg_keeps, differ_keeps, con_keeps, cho_keeps, des_keeps}
 use Rattle.type_bound.proofs.ModestSteps.{pushed-modest, with_instance-modest, with_term-modest, terms_of-modest, prepared-modest, witnesses-modest, grow-modest, matings-modest, confrontations-modest, selections-modest, with_selections-modest}

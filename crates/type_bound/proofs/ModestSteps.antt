@@ -10,12 +10,11 @@ use Rattle.stt_core.specs.SameTerm.{same_term}
 use Rattle.search_spec.specs.Closed.{is_closed}
 use Rattle.stt_core.proofs.SameTerms.{same_term-true}
 use Rattle.tableau_calculus.specs.Literals.{Literal}
-use Rattle.tableau_calculus.specs.Start.{has}
+use Rattle.tableau_calculus.specs.Kinds.{has, formulas}
 use Rattle.tableau_calculus.specs.Witnesses.{Row}
 use Rattle.search_spec.specs.Each.{Each}
 use Rattle.search_spec.specs.Shallow.{is_shallow_literal}
 use Rattle.search_spec.specs.Clauses.{instance_clauses, with_clauses}
-use Rattle.search_spec.specs.Unsatisfiable.{formulas}
 use Rattle.search_spec.specs.Queue.{new_entries}
 use Rattle.search_spec.specs.State.{State, Setting, Typed, Sketch, Command, process, mate, confront, inst, choose, describe, grow, due, with_commands, scope_in}
 use Rattle.search_spec.specs.Spine.{head_of, has_compared_head, same_head}
@@ -29,7 +28,8 @@ use Rattle.search_spec.specs.Selections.{Selection, by_choice, by_description, s
 use Rattle.search_spec.specs.Commands.{with_growth, filling_at, growth_by}
 use Rattle.search_spec.proofs.NamingLaws.{StandFor, each-joined, pick_good, instance_clauses_good, with_clauses_good}
 use Rattle.search_spec.proofs.TypedPushes.{each_filtered, each_mapped}
-use Rattle.type_bound.specs.Types.{nesting, IsShallowType}
+use Rattle.type_bound.specs.Types.{IsShallowType}
+use Rattle.refute_print.specs.Sizes.{nesting}
 use Rattle.type_bound.specs.Modest.{IsModest, IsModestLiteral, IsModestPartial, IsModestRow, IsModestCommand, IsModestState, IsModestSetting}
 use Rattle.type_bound.proofs.ModestTerms.{leaf_shallow}
 
@@ -60,7 +60,7 @@ module _ (limit : ℕ) (setting : Setting) where
 
   with_literal-modest : (l : Literal) (s : State) → Lit l → Good s → Good (with_literal setting.mode l s)
   with_literal-modest l s h g =
-      pick_good Good (has s.seen l) s (with_commands setting.mode (process l ∷ []) (record s { seen = s.seen ++ l ∷ [] })) g
+      pick_good Good (has formulas s.seen l) s (with_commands setting.mode (process l ∷ []) (record s { seen = s.seen ++ l ∷ [] })) g
       (pushed-modest (process l ∷ []) (record s { seen = s.seen ++ l ∷ [] }) (h, tt)
       (record { clauses = g.clauses; noted = g.noted; terms = g.terms; rows = g.rows; parked = g.parked; queue = g.queue }))
 

@@ -11,7 +11,8 @@ use Rattle.search_spec.specs.Each.{Each}
 use Rattle.search_spec.specs.Spine.{head_of, arguments, is_compared, has_compared_head}
 use Rattle.search_spec.specs.Alternatives.{Alternatives, imp_pos, imp_neg, bool_pos, bool_neg, fun_pos, fun_neg, all_pos, all_neg, differ, con, cho, des}
 use Rattle.search_spec.proofs.NamingLaws.{each-joined}
-use Rattle.type_bound.specs.Types.{nesting, IsShallowType}
+use Rattle.type_bound.specs.Types.{IsShallowType}
+use Rattle.refute_print.specs.Sizes.{nesting}
 use Rattle.type_bound.specs.Modest.{IsModestConstant, IsModest, IsModestLiteral}
 
 module _ (limit : ℕ) where

@@ -5,7 +5,8 @@ use Rattle.stt_core.specs.Lambda.{Lambda, bound, constant, lam, app}
 use Rattle.stt_core.specs.Typing.{Scope, constant_type}
 use Rattle.stt_core.specs.Lift.{lift}
 use Rattle.normal_forms.specs.Normal.{Way, eta, later, by_first, ways_at, ways_of, put, replace, apply_by, ways, apply, eta_if, normal_form}
-use Rattle.type_bound.specs.Types.{nesting, IsShallowType, HasShallowTypes, AreShallowTypes, NormalFormsKeepTypes}
+use Rattle.type_bound.specs.Types.{IsShallowType, HasShallowTypes, AreShallowTypes, NormalFormsKeepTypes}
+use Rattle.refute_print.specs.Sizes.{nesting}
 
 module _ (limit : ℕ) (scope : Scope) where
   abbrev Keeps : Lambda → Type 0

@@ -8,9 +8,8 @@ use Rattle.tableau_calculus.specs.Witnesses.{Row}
 use Rattle.search_spec.specs.Each.{Each}
 use Rattle.search_spec.specs.Queue.{Waiting}
 use Rattle.search_spec.specs.State.{State, Command, process, mate, confront, inst, choose, describe, grow}
-use Rattle.refute_print.specs.Sizes.{IsSmallTerm, type_depth, nesting_in}
+use Rattle.refute_print.specs.Sizes.{IsSmallTerm, type_depth, nesting_in, nesting}
 use Rattle.refute_print.specs.Sizes as sizes
-use Rattle.type_bound.specs.Types.{nesting}
 use Rattle.type_bound.specs.Modest.{IsModestConstant, IsModest, IsModestLiteral, IsModestRow, IsModestCommand, IsModestState}
 use Rattle.type_bound.specs.Deep.{IsFlat, IsFlatCommand, IsFlatState}
 use Rattle.type_bound.proofs.ModestRun.{after-modest}

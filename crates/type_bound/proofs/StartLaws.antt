@@ -6,11 +6,13 @@ use Rattle.stt_core.specs.Typing.{Scope, constant_type}
 use Rattle.stt_core.specs.Declarations.{scope_of}
 use Rattle.normal_forms.specs.Normal.{eta_if, normal_form}
 use Rattle.tableau_calculus.specs.Literals.{Literal}
-use Rattle.tableau_calculus.specs.Start.{has, added, normal_literal, denied}
+use Rattle.tableau_calculus.specs.Start.{normal_literal, denied}
+use Rattle.tableau_calculus.specs.Kinds.{has, added, formulas}
 use Rattle.search_spec.specs.Each.{Each}
 use Rattle.search_spec.proofs.NamingLaws.{each-joined, pick_good}
 use Rattle.search_spec.proofs.TypedPushes.{each_mapped}
-use Rattle.type_bound.specs.Types.{nesting, IsShallowType}
+use Rattle.type_bound.specs.Types.{IsShallowType}
+use Rattle.refute_print.specs.Sizes.{nesting}
 use Rattle.type_bound.specs.Modest.{IsModest, IsModestLiteral, IsModestIfAny, StartsKeepTypes}
 use Rattle.type_bound.proofs.ModestTerms.{apply_keeps, eta_keeps, as_literal_keeps, at_shallow, constant_shallow}
 
@@ -38,10 +40,10 @@ module _ (limit : ℕ) (scope : Scope) (names : Each (λ a. nesting a ≤ limit)
   denied-modest None h = tt
   denied-modest (Some t) h = (literal-modest t h, tt)
 
-added-modest : (P : Literal → Type 0) (ls ks : List Literal) → Each P ls → Each P ks → Each P (added ls ks)
+added-modest : (P : Literal → Type 0) (ls ks : List Literal) → Each P ls → Each P ks → Each P (added formulas ls ks)
 added-modest P ls [] g h = g
 added-modest P ls (k ∷ ks) g h =
-    added-modest P (if has ls k then ls else ls ++ k ∷ []) ks (pick_good (Each P) (has ls k) ls (ls ++ k ∷ []) g (each-joined P ls (k ∷ []) g (h.0, tt))) h.1
+    added-modest P (if has formulas ls k then ls else ls ++ k ∷ []) ks (pick_good (Each P) (has formulas ls k) ls (ls ++ k ∷ []) g (each-joined P ls (k ∷ []) g (h.0, tt))) h.1
 
 pub start-keeps : StartsKeepTypes
 start-keeps limit p h =

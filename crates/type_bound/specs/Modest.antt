@@ -11,7 +11,7 @@ use Rattle.search_spec.specs.Spine.{head_of, has_compared_head}
 use Rattle.search_spec.specs.Partial.{Partial, hole, head, function, application}
 use Rattle.search_spec.specs.State.{State, Setting, Command, process, mate, confront, inst, choose, describe, grow}
 use Rattle.search_spec.specs.After.{state_after}
-use Rattle.type_bound.specs.Types.{nesting}
+use Rattle.refute_print.specs.Sizes.{nesting}
 
 -- A constant's own type nests no deeper than so much, one less for a choice or a description: its predicate's type may be one of an equation.
 abbrev pub IsModestConstant : ℕ → Constant → Type 0

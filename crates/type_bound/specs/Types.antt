@@ -1,14 +1,10 @@
 -- How deep the types of a term nest.
-use Rattle.std.specs.Prelude.{ℕ, suc, max, ◌≤◌, List, [], ◌∷◌, Option, Some, None}
-use Rattle.stt_core.specs.SimpleType.{SimpleType, base, arrow}
+use Rattle.std.specs.Prelude.{ℕ, ◌≤◌, List, [], ◌∷◌, Option, Some, None}
+use Rattle.stt_core.specs.SimpleType.{SimpleType}
 use Rattle.stt_core.specs.Lambda.{Lambda, bound, constant, lam, app}
 use Rattle.stt_core.specs.Typing.{Scope, constant_type}
 use Rattle.normal_forms.specs.Normal.{normal_form}
-
--- how many types of functions stand one inside the other
-abbrev pub nesting : SimpleType → ℕ
-nesting (base n) = 0
-nesting (arrow a b) = suc (max (nesting a) (nesting b))
+use Rattle.refute_print.specs.Sizes.{nesting}
 
 -- the type, where there is one, nests no deeper than so much
 abbrev pub IsShallowType : ℕ → Option SimpleType → Type 0

@@ -29,7 +29,8 @@ impl Model for Declared {
     ghost use Rattle.std.specs.HashMap.{get_by};
     ghost use Rattle.std.specs.Str.{bytes_eq};
     ghost use Rattle.stt_core.specs.Signature.{symbol_named};
-    ghost use Rattle.stt_core.specs.Declarations.{Declarations, declarations_code};
+    ghost use Rattle.stt_core.specs.Declarations.{Declarations};
+    ghost use Rattle.stt_core.specs.Internal.ProblemCode.{declarations_code};
 
     ghost Value = { Declarations };
 

@@ -1,10 +1,9 @@
 -- The type of a head that fits a hole.
 use Rattle.std.specs.Prelude.{ℕ, nat_eq, Option, Some, None, if◌then◌else◌}
-use Rattle.stt_core.specs.SimpleType.{SimpleType}
+use Rattle.stt_core.specs.SimpleType.{SimpleType, target}
 use Rattle.stt_core.specs.Lambda.{Lambda}
 use Rattle.stt_core.specs.Typing.{Scope, type_of}
 use Rattle.search_spec.specs.Partial.{Hole}
-use Rattle.search_spec.specs.Heads.{target}
 
 -- the type, where its target is this base type
 abbrev pub to_base : ℕ → Option SimpleType → Option SimpleType

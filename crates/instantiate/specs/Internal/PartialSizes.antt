@@ -3,11 +3,7 @@ use Rattle.std.specs.Prelude.{◌≡◌, ℕ, suc, ◌+◌, ◌≤◌, List, [],
 use Rattle.std.proofs.Common.{arith}
 use denote.Param.Weighed.{most}
 use Rattle.search_spec.specs.Partial.{Partial, hole, head, function, application}
-
--- a partial term applied to arguments, first one first
-abbrev pub applications : Partial → List Partial → Partial
-applications p [] = p
-applications p (q ∷ qs) = applications (application p q) qs
+use Rattle.instantiate.specs.PartialView.{applications}
 
 -- how many nodes a partial term has, and a list of them, with their number
 abbrev pub partial_node_count : Partial → ℕ

@@ -1,9 +1,8 @@
 -- The holes of a partial term.
 use Rattle.std.specs.Prelude.{ℕ, List, [], ◌∷◌, ◌++◌, Option, Some, None, refl}
 use Rattle.std.specs.Coded.{Coded, code_by, coded×, coded_ℕ, coded_list}
-use Rattle.stt_core.specs.SimpleType.{SimpleType, base, arrow}
+use Rattle.stt_core.specs.SimpleType.{SimpleType, base, arrow, target}
 use Rattle.stt_core.specs.Internal.TypeCode.{type_code}
-use Rattle.search_spec.specs.Heads.{target}
 use Rattle.search_spec.specs.Partial.{Hole, Partial, hole, head, function, application}
 
 -- the holes, from left to right. `context` has the types of the variables in scope, innermost first.

@@ -2,12 +2,7 @@
 use Rattle.std.specs.Prelude.{◌≡◌, ℕ, suc, ◌+◌, ◌≤◌, List, [], ◌∷◌}
 use Rattle.std.proofs.Common.{arith}
 use denote.Param.Weighed.{most}
-use Rattle.refute_print.specs.Trees.{TermTree, bound, constant, lam, app}
-
--- a term applied to arguments, first one first
-abbrev pub applied_tree : TermTree → List TermTree → TermTree
-applied_tree t [] = t
-applied_tree t (u ∷ us) = applied_tree (app t u) us
+use Rattle.refute_print.specs.Trees.{TermTree, bound, constant, lam, app, applied_tree}
 
 -- how many nodes a term has, and a list of terms, with the number of the terms
 abbrev pub tree_node_count : TermTree → ℕ

@@ -1,24 +1,17 @@
 -- How the reader goes: what stands at the front of bytes, and what follows it.
-use Rattle.std.specs.Prelude.{ℕ, zero, suc, ◌+◌, ◌-◌, ◌*◌, ◌==◌, ◌||◌, ◌&&◌, not, nat_eq, nat_le, nat_lt, drop, length, Bool, true, false, List, [], ◌∷◌, ◌++◌, codes, Option, Some, None, if◌then◌else◌}
+use Rattle.std.specs.Prelude.{ℕ, zero, suc, ◌+◌, ◌-◌, ◌==◌, ◌||◌, ◌&&◌, not, nat_eq, nat_lt, drop, length, Bool, true, false, List, [], ◌∷◌, ◌++◌, codes, Option, Some, None, if◌then◌else◌}
 use Rattle.std.specs.List.{starts_with}
 use Rattle.thf_grammar.specs.Bytes.{is_word_byte}
 use Rattle.thf_grammar.specs.Printable.{is_printable}
 use Rattle.thf_names.specs.Names.{is_lower_word}
 use Rattle.refute_print.specs.Trees.{TextTypeTree, formula, individual, named, arrow}
+use Rattle.outside.specs.Decimal.{is_digit, number_from}
+use Rattle.outside.specs.Fronts.{front, behind_front}
 
 infixl 10 ◌>>=◌
 abbrev pub ◌>>=◌ : {A B : Type 0} → Option A → (A → Option B) → Option B
 (Some x) >>= f = f x
 None >>= f = None
-
--- the longest front whose bytes all meet a test, and what follows it
-abbrev pub front : (ℕ → Bool) → List ℕ → List ℕ
-front p [] = []
-front p (c ∷ cs) = if p c then c ∷ front p cs else []
-
-abbrev pub after : (ℕ → Bool) → List ℕ → List ℕ
-after p [] = []
-after p (c ∷ cs) = if p c then after p cs else c ∷ cs
 
 abbrev pub is_no_feed : ℕ → Bool
 is_no_feed c = not (c == 10)
@@ -47,14 +40,6 @@ abbrev pub with_items : {X : Type 0} → List X → Option (List X × List ℕ) 
 with_items xs None = None
 with_items xs (Some r) = Some (xs ++ r.0, r.1)
 
-abbrev pub is_digit : ℕ → Bool
-is_digit c = nat_le 48 c && nat_le c 57
-
--- the number of digits, the first one first
-abbrev pub number_from : ℕ → List ℕ → ℕ
-number_from n [] = n
-number_from n (c ∷ cs) = number_from (10 * n + (c - 48)) cs
-
 -- whether digits are some, and don't begin with a zero unless it is alone
 abbrev pub has_no_leading_zero : List ℕ → Bool
 has_no_leading_zero [] = false
@@ -66,7 +51,7 @@ number_below limit ds rest = if has_no_leading_zero ds && nat_lt (number_from 0 
 
 -- a number below the limit
 unfoldable pub number_at : ℕ → List ℕ → Option (ℕ × List ℕ)
-number_at limit bytes = number_below limit (front is_digit bytes) (after is_digit bytes)
+number_at limit bytes = number_below limit (front is_digit bytes) (behind_front is_digit bytes)
 
 abbrev pub with_first : ℕ → Option (List ℕ × List ℕ) → Option (List ℕ × List ℕ)
 with_first c None = None
@@ -103,7 +88,7 @@ where_quoted None = None
 where_quoted (Some r) = if needs_quotes r.0 then Some r else None
 
 abbrev pub plain_at : List ℕ → Option (List ℕ × List ℕ)
-plain_at bytes = if is_lower_word (front is_word_byte bytes) then Some (front is_word_byte bytes, after is_word_byte bytes) else None
+plain_at bytes = if is_lower_word (front is_word_byte bytes) then Some (front is_word_byte bytes, behind_front is_word_byte bytes) else None
 
 unfoldable pub name_at : List ℕ → Option (List ℕ × List ℕ)
 name_at bytes = by_front (behind_text (codes "'") bytes) (λ rest. where_quoted (characters_at rest)) (plain_at bytes)

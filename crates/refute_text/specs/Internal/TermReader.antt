@@ -1,7 +1,6 @@
 -- How the reader of terms goes.
 use Rattle.std.specs.Prelude.{ℕ, zero, suc, ◌^◌, length, List, [], ◌∷◌, codes, Option, Some, None}
-use Rattle.refute_print.specs.Trees.{TextTypeTree, ConstantTree, name, witness, falsity, negation, implication, all, equality, choice, description, TermTree, bound, constant, lam}
-use Rattle.refute_print.specs.Internal.TreeSizes.{applied_tree}
+use Rattle.refute_print.specs.Trees.{TextTypeTree, ConstantTree, name, witness, falsity, negation, implication, all, equality, choice, description, TermTree, bound, constant, lam, applied_tree}
 use Rattle.refute_text.specs.Internal.Reader.{◌>>=◌, behind_text, by_front, number_at, name_at, type_at, repeated_at}
 
 -- a term and what follows it

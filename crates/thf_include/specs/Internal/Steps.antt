@@ -1,7 +1,7 @@
 -- Steps of a gathering, from one state of what was opened to another.
 use Rattle.std.specs.Prelude.{◌≡◌, ℕ, ◌+◌, Bool, IsTrue, List, [], ◌++◌, length, Option, Result, Ok, Err}
 use Rattle.thf_grammar.specs.Trees.{StatementTree}
-use Rattle.thf_include.specs.Gathering.{byte_limit}
+use Rattle.outside.specs.Limits.{byte_limit}
 use Rattle.thf_include.specs.declared.opened.Opened.{Opened}
 use Rattle.thf_include.specs.declared.refused.GatherRefused.{GatherRefused}
 use Rattle.thf_include.specs.declared.refused.GatherRefused.TheVariants.{Fault, TooLong, Syntax, Cycle, NoSuchName, TooMany, Memory}

@@ -3,8 +3,8 @@ use Rattle.std.proofs.lemmas.List.{length-set}
 use Rattle.std.proofs.lemmas.Option.{slice_get_read}
 use Rattle.stt_core.specs.View.{the_head}
 use Rattle.search_spec.specs.Partial.{Partial, head as the_leaf}
-use Rattle.instantiate.specs.PartialView.{the_partial_node}
-use Rattle.instantiate.specs.Internal.PartialSizes.{applications, partial_node_counts}
+use Rattle.instantiate.specs.PartialView.{the_partial_node, applications}
+use Rattle.instantiate.specs.Internal.PartialSizes.{partial_node_counts}
 use Rattle.instantiate.specs.Internal.Holes.{filling, filling_all}
 use Rattle.instantiate.proofs.HoleLaws.{node_count-at}
 use Rattle.instantiate.proofs.FillLaws.{filling-spine, at-later, drop-later, filled-later, filler-later, filled-whole, filler-whole}

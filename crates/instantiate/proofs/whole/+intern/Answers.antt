@@ -7,8 +7,8 @@ use Rattle.term_bank.specs.Content.{content_scope, HasTerm}
 use Rattle.term_bank.specs.Terms.{IsTypedTerm}
 use Rattle.term_bank.proofs.GrowLaws.{has_within, has_at}
 use Rattle.term_bank.proofs.TreeLaws.{one_imported}
-use Rattle.instantiate.specs.PartialView.{the_partial_node}
-use Rattle.instantiate.specs.Internal.PartialSizes.{partial_node_count, applications, applications_fall}
+use Rattle.instantiate.specs.PartialView.{the_partial_node, applications}
+use Rattle.instantiate.specs.Internal.PartialSizes.{partial_node_count, applications_fall}
 use Rattle.instantiate.specs.Internal.Holes.{base_in}
 use Rattle.instantiate.specs.Internal.Blanks.{term_of}
 use Rattle.instantiate.proofs.HoleLaws.{node_count-at, base_in-function, base_in-spine}

@@ -1,10 +1,9 @@
 use Rattle.std.proofs.Common.{◌≡◌, ◌<◌, length, Some, None, sym, ap, subst, ◌∙◌}
 use Rattle.std.proofs.lemmas.Option.{get_or_from_slice_get}
-use Rattle.stt_core.specs.SimpleType.{SimpleType}
+use Rattle.stt_core.specs.SimpleType.{SimpleType, target}
 use Rattle.stt_core.specs.View.{the_type}
 use Rattle.tableau_calculus.specs.Literals.{Literal}
 use Rattle.term_bank.specs.Terms.{term_at}
-use Rattle.search_spec.specs.Heads.{target}
 use Rattle.prover_state.specs.Internal.Shapes.{quantified_type}
 use Rattle.prover_growth.proofs.denial.denied_target.Goals as goal
 

@@ -6,7 +6,8 @@ use Rattle.stt_core.specs.Declarations.{scope_of}
 use Rattle.stt_core.specs.PlainProblem.{PlainProblem}
 use Rattle.stt_core.specs.TypedProblem.{IsFormula, AreFormulas, IsFormulaIfThere}
 use Rattle.tableau_calculus.specs.Literals.{Literal, opposite}
-use Rattle.tableau_calculus.specs.Start.{added, without_repeats, normal_literal, start}
+use Rattle.tableau_calculus.specs.Start.{without_repeats, normal_literal, start}
+use Rattle.tableau_calculus.specs.Kinds.{added, formulas}
 use Rattle.tableau_calculus.proofs.StartLaws.{start-assumed, start-denied}
 use Rattle.literal_map.specs.Atoms.{bank_literal}
 use Rattle.prover_state.specs.Internal.Standing.{without_witnesses}
@@ -72,7 +73,7 @@ returns-in_ok-start_with-in-Some g c =
     let now = ap (λ x. normal_literal x t) (scope-now core.tables core.plan mid.tables mid.plan before c.in_ok-start_assumed.ensures c.requires.unwitnessed) in
     let named = ap (bank_literal basis.bank.terms basis.lits) c.negated.ensures ∙ ap opposite (c.in_ok-lit-in-Some.ensures.literal ∙ now) in
     subst S
-    (start-denied p t denied before (added before (denied ∷ [])) (ap (option_map the_term) c.in-Some.is) (ap (λ x. opposite (normal_literal x t)) same) (ap (λ x. without_repeats (map (normal_literal x) i.assumed)) same) refl
+    (start-denied p t denied before (added formulas before (denied ∷ [])) (ap (option_map the_term) c.in-Some.is) (ap (λ x. opposite (normal_literal x t)) same) (ap (λ x. without_repeats (map (normal_literal x) i.assumed)) same) refl
     ∙ ap start c.problem.view_is)
     (starting-literal core.tables core.plan mid.tables mid.plan before c.in_ok-start_assumed.ensures basis c.in_ok-lit-in-Some.ensures.grows c.in_ok-lit-in-Some.ensures.good
     new.tables new.plan c.negated.result denied named

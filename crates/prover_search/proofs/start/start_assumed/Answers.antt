@@ -4,7 +4,8 @@ use Rattle.stt_core.specs.View.{the_term}
 use Rattle.stt_core.specs.Typing.{Scope}
 use Rattle.stt_core.specs.TypedProblem.{IsFormula}
 use Rattle.tableau_calculus.specs.Literals.{Literal}
-use Rattle.tableau_calculus.specs.Start.{added, without_repeats, normal_literal}
+use Rattle.tableau_calculus.specs.Start.{without_repeats, normal_literal}
+use Rattle.tableau_calculus.specs.Kinds.{added, formulas}
 use Rattle.tableau_calculus.proofs.StartLaws.{formula_at, added-more}
 use Rattle.prover_state.specs.Internal.Standing.{without_witnesses}
 use Rattle.prover_search.specs.Internal.Starting.{IsStarting}
@@ -41,7 +42,7 @@ loop-i-preserved g c =
     let before = without_repeats (map f (take c.loop-i.i c.args.assumed.now)) in
     let S : List Literal → Type 0 = λ ls. IsStarting core.tables core.plan new.tables new.plan ls in
     let same = ap (λ x. normal_literal x t) (scope-now core.tables core.plan now.tables now.plan before c.loop-i.invariant c.requires.unwitnessed) in
-    subst S (added-more f c.args.assumed.now c.loop-i.i t before (added before (f t ∷ [])) c.at.ensures refl refl)
+    subst S (added-more f c.args.assumed.now c.loop-i.i t before (added formulas before (f t ∷ [])) c.at.ensures refl refl)
     (starting-literal core.tables core.plan now.tables now.plan before c.loop-i.invariant c.number_of.new.basis c.in_ok-lit.ensures.grows c.in_ok-lit.ensures.good
     new.tables new.plan c.in_ok-lit.lit (f t) (c.in_ok-lit.ensures.literal ∙ same)
     c.in_ok-start_with.ensures.state c.in_ok-start_with.ensures.right c.in_ok-start_with.ensures.basis c.in_ok-start_with.ensures.steps c.in_ok-start_with.ensures.rule)

@@ -1,6 +1,6 @@
 use Rattle.std.proofs.Common.{ap, ◌∙◌}
 use Rattle.std.specs.List.{list_all}
-use Rattle.refute_text.specs.Internal.Reader.{is_digit}
+use Rattle.outside.specs.Decimal.{is_digit}
 use Rattle.refute_text.proofs.Readers.{list_all-front}
 use Rattle.refute_text.proofs.read_name.number.Goals as goal
 

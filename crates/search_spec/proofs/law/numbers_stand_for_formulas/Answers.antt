@@ -1,4 +1,4 @@
-use Rattle.search_spec.specs.Unsatisfiable.{formulas}
+use Rattle.tableau_calculus.specs.Kinds.{formulas}
 use Rattle.search_spec.specs.Numbered.{numbers, literal_at, IsNumber}
 use Rattle.search_spec.proofs.NamingLaws.{instance_clauses-mapped, with_clauses-mapped}
 use Rattle.search_spec.proofs.UnsatLaws.{numbers_stand, unsatisfiable_formulas, unsatisfiable_numbers}

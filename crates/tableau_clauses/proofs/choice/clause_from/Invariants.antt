@@ -1,6 +1,7 @@
 use Rattle.std.proofs.Common.{◌≡◌, ◌++◌, map, drop}
 use Rattle.sat_base.specs.Literal.{negated}
-use Rattle.search_spec.specs.Clauses.{added, clause_of}
+use Rattle.search_spec.specs.Clauses.{clause_of}
+use Rattle.tableau_calculus.specs.Kinds.{added}
 use Rattle.search_spec.specs.Numbered.{numbers}
 use Rattle.tableau_clauses.proofs.choice.clause_from.Given as goal
 

@@ -1,5 +1,5 @@
 use Rattle.std.proofs.Common.{◌≡◌, false, take}
-use Rattle.search_spec.specs.Clauses.{has}
+use Rattle.tableau_calculus.specs.Kinds.{has}
 use Rattle.search_spec.specs.Numbered.{numbers}
 use Rattle.tableau_clauses.proofs.choice.holds.Given as goal
 

@@ -1,7 +1,7 @@
 use Rattle.std.proofs.Common.{◌≡◌, false, take}
 use Rattle.std.specs.List.{list_any}
 use Rattle.sat_base.specs.Literal.{negated}
-use Rattle.search_spec.specs.Clauses.{has}
+use Rattle.tableau_calculus.specs.Kinds.{has}
 use Rattle.search_spec.specs.Numbered.{numbers}
 use Rattle.tableau_clauses.proofs.choice.is_tautology.Given as goal
 

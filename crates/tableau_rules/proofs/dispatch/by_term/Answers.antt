@@ -1,11 +1,10 @@
-use Rattle.std.proofs.Common.{refl, List, subst}
+use Rattle.std.proofs.Common.{refl, List, subst, [], sym}
 use Rattle.tableau_calculus.specs.Witnesses.{Row}
 use Rattle.tableau_calculus.specs.declared.refutation.RuleUse.TheVariants as table
 use Rattle.literal_map.specs.declared.instance.RuleKind.TheVariants as kind
 use Rattle.term_bank.specs.Terms.{term_at}
 use Rattle.term_bank.proofs.GrowLaws.{grown_at}
 use Rattle.tableau_rules.specs.Internal.Drafted.{Drafted}
-use Rattle.std.proofs.Common.{[], sym}
 use Rattle.tableau_rules.proofs.UseLaws.{term_by}
 use Rattle.tableau_rules.proofs.dispatch.by_term.Goals as goal
 

@@ -1,7 +1,7 @@
 use Rattle.std.proofs.Common.{ap, ap₂, sym, ◌∙◌, ◌++◌}
 use Rattle.stt_core.specs.View.{the_type, the_head}
 use Rattle.search_spec.specs.Partial.{head as the_leaf}
-use Rattle.instantiate.specs.Internal.PartialSizes.{applications}
+use Rattle.instantiate.specs.PartialView.{applications}
 use Rattle.instantiate.specs.Internal.Blanks.{blanks}
 use Rattle.instantiate.proofs.FillLaws.{with_holes-blanks}
 use Rattle.instantiate.proofs.partial.Partial.with_holes.Goals as goal

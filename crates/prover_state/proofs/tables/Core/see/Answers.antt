@@ -1,5 +1,5 @@
 use Rattle.std.proofs.Common.{◌≡◌, not, true, false, Bool, refl, sym, ◌∙◌}
-use Rattle.search_spec.specs.Clauses.{has}
+use Rattle.tableau_calculus.specs.Kinds.{has}
 use Rattle.search_spec.specs.Numbered.{numbers}
 use Rattle.prover_state.specs.Delays.{the_mode}
 use Rattle.prover_state.proofs.SeenLaws.{seen_before, seen_now, right-seen}

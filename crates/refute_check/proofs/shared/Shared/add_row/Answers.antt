@@ -1,12 +1,12 @@
 use Rattle.std.proofs.Common.{◌≡◌, ◌++◌, ◌∷◌, [], None, IfOk, refl, sym, subst}
 use Rattle.tableau_calculus.specs.Witnesses.{Row}
 use Rattle.tableau_calculus.specs.Internal.Answers.{RowAnswer}
-use Rattle.refute_check.specs.Numbered.{argument_type}
+use Rattle.witness_names.specs.Rows.{binder_of}
 use Rattle.refute_check.specs.Internal.Shared.{declared_in, the_rows}
 use Rattle.refute_check.proofs.shared.Shared.add_row.Goals as goal
 
 pub add_numbered-answer-requires-clause-formed : goal.add_numbered-answer-requires-clause-formed
-add_numbered-answer-requires-clause-formed c = subst (λ (r : Row). r.type ≡ argument_type r.predicate) (sym c.in_ok-row.ensures) refl
+add_numbered-answer-requires-clause-formed c = subst (λ (r : Row). r.type ≡ binder_of r.predicate) (sym c.in_ok-row.ensures) refl
 
 pub returns-clause-answer : goal.returns-clause-answer
 returns-clause-answer c =

@@ -1,5 +1,4 @@
-use Rattle.std.proofs.Common.{◌≡◌, ◌++◌, [], ◌∷◌, List, length, refl, ap, ap₂, ◌∙◌, arith}
-use Rattle.std.proofs.Common.{Result, Ok, Err}
+use Rattle.std.proofs.Common.{◌≡◌, ◌++◌, [], ◌∷◌, List, length, refl, ap, ap₂, ◌∙◌, arith, Result, Ok, Err}
 use Rattle.std.specs.Result.{OnErr}
 use Rattle.sat_base.specs.declared.literal.SatLit.{SatLit}
 use Rattle.sat_propagate.specs.Internal.ClauseTable.{Watched, Clauses, all_headed, AreHeads}

@@ -2,8 +2,7 @@ use Rattle.std.proofs.Common.{ap₂, List}
 use Rattle.stt_core.specs.SimpleType.{SimpleType}
 use Rattle.stt_core.specs.declared.signature.Signature.{Signature}
 use Rattle.term_bank.specs.Content.{Content}
-use Rattle.term_bank.specs.Internal.Sound.{terms_after}
-use Rattle.term_bank.specs.Internal.Sound.{ShapeEntry, entry_terms}
+use Rattle.term_bank.specs.Internal.Sound.{terms_after, ShapeEntry, entry_terms}
 use Rattle.term_bank.proofs.bank.Bank.new.Goals as goal
 
 abbrev content_of : Signature → List SimpleType → List ShapeEntry → Content
