@@ -1,3 +1,16 @@
+pub use Rattle.normal_forms.specs.Normal
+pub use Rattle.normal_forms.specs.Ready
+pub use Rattle.stt_core.specs.Canonical
+pub use Rattle.stt_core.specs.ContextView
+pub use Rattle.stt_core.specs.Lambda
+pub use Rattle.stt_core.specs.Lift
+pub use Rattle.stt_core.specs.SimpleType
+pub use Rattle.stt_core.specs.Typing
+pub use Rattle.stt_core.specs.View
+pub use Rattle.term_bank.specs.Content
+pub use Rattle.term_bank.specs.NodeView
+pub use Rattle.term_bank.specs.Shape
+pub use Rattle.term_bank.specs.Terms
 pub mod Known
 pub mod Right
 pub mod Fits

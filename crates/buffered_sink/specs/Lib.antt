@@ -1,1 +1,3 @@
+pub use Rattle.outside.specs.Causes
+pub use Rattle.outside.specs.Prefix
 pub mod Buffered

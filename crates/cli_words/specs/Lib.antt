@@ -1,3 +1,4 @@
+pub use Rattle.outside.specs.Decimal
 pub mod Options
 pub mod Line
 pub mod Names

@@ -1,3 +1,12 @@
+pub use Rattle.stt_core.specs.Declarations
+pub use Rattle.stt_core.specs.Lambda
+pub use Rattle.stt_core.specs.Meaning
+pub use Rattle.stt_core.specs.Meets
+pub use Rattle.stt_core.specs.PlainProblem
+pub use Rattle.stt_core.specs.SameTerm
+pub use Rattle.stt_core.specs.TypedProblem
+pub use Rattle.stt_core.specs.Typing
+pub use Rattle.stt_core.specs.View
 pub mod Definitions
 pub mod Unfolding
 pub mod Laws

@@ -1,3 +1,13 @@
+pub use Rattle.search_spec.specs.Commands
+pub use Rattle.search_spec.specs.Partial
+pub use Rattle.search_spec.specs.TypedState
+pub use Rattle.stt_core.specs.ContextView
+pub use Rattle.stt_core.specs.Lambda
+pub use Rattle.stt_core.specs.SimpleType
+pub use Rattle.stt_core.specs.Typing
+pub use Rattle.stt_core.specs.View
+pub use Rattle.term_bank.specs.Content
+pub use Rattle.term_bank.specs.Terms
 pub mod Listing
 pub mod PartialView
 pub mod Growing

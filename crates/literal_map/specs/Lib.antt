@@ -1,3 +1,11 @@
+pub use Rattle.stt_core.specs.Canonical
+pub use Rattle.stt_core.specs.Lambda
+pub use Rattle.stt_core.specs.SimpleType
+pub use Rattle.stt_core.specs.View
+pub use Rattle.tableau_calculus.specs.Literals
+pub use Rattle.term_bank.specs.Content
+pub use Rattle.term_bank.specs.NodeView
+pub use Rattle.term_bank.specs.Terms
 pub mod Atoms
 pub mod Laws
 pub mod Internal

@@ -1,3 +1,13 @@
+pub use Rattle.literal_map.specs.Atoms
+pub use Rattle.search_spec.specs.Partners
+pub use Rattle.search_spec.specs.Spine
+pub use Rattle.stt_core.specs.Lambda
+pub use Rattle.stt_core.specs.SameTerm
+pub use Rattle.stt_core.specs.SimpleType
+pub use Rattle.stt_core.specs.View
+pub use Rattle.tableau_calculus.specs.Kinds
+pub use Rattle.term_bank.specs.Content
+pub use Rattle.term_bank.specs.NodeView
 pub mod Noted
 pub mod Laws
 pub mod Internal

@@ -1,3 +1,9 @@
+pub use Rattle.stt_core.specs.Canonical
+pub use Rattle.stt_core.specs.Lambda
+pub use Rattle.stt_core.specs.Lift
+pub use Rattle.stt_core.specs.Meaning
+pub use Rattle.stt_core.specs.SimpleType
+pub use Rattle.stt_core.specs.Typing
 pub mod Normal
 pub mod Ready
 pub mod Laws

@@ -12,7 +12,7 @@ use Rattle.term_bank.specs.Terms.{term_at, IsTypedTerm}
 use Rattle.term_bank.proofs.GrowLaws.{grown_term, has_at, has_within}
 use Rattle.instantiate.specs.Listing.{Listing, ids_of}
 use Rattle.search_spec.specs.Each.{Each}
-use Rattle.search_spec.specs.Mode.{Mode}
+use Rattle.mode_file.specs.declared.Mode.{Mode}
 use Rattle.search_spec.specs.State.{State, Setting, Typed}
 use Rattle.search_spec.specs.Terms.{first_terms, with_preparation, with_term, with_terms}
 use Rattle.prover_state.specs.Internal.Names.{typed_at, IsPlace}

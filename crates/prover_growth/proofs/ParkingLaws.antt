@@ -20,7 +20,6 @@ use Rattle.prover_state.specs.declared.command.Delays.{Delays}
 use Rattle.prover_state.specs.declared.stem.Stem.{Stem}
 use Rattle.prover_state.specs.declared.tables.Basis.{Basis}
 use Rattle.prover_state.specs.declared.tables.Tables.{Tables}
-use Rattle.prover_state.specs.Delays.{the_mode}
 use Rattle.prover_state.specs.Internal.Growing.{Longer, Continues, ExtendsState}
 use Rattle.prover_state.specs.Internal.Heads.{sketch_of, sketches_of, IsStem, AreStems}
 use Rattle.prover_state.specs.Internal.Holes.{holes_in, leftmost}
@@ -190,10 +189,10 @@ module _ (t : Tables) (q : Queue Planned Delays) (r : IsRightState t q) (stem : 
 
   -- with the heads that fit it is opened
   pub opened-newest : (t1 : Tables) (q1 : Queue Planned Delays) (p : ℕ) (are : sketches_in t1 ≡ sketches_in t ++ newest ∷ []) (same : t1.basis ≡ t.basis) (plan : q1 ≡ q) (place : p ≡ length t.stems.items) → the_state t1 q1 ≡ record (the_state t q) { parked = (the_state t q).parked ++ newest ∷ [] }
-      → with_commands (the_mode q1.rule.mode) (map (grow (sketch_at (sketches_in t1) p)) (heads_for (scope_by t1.basis) (first_hole [] (sketch_at (sketches_in t1) p).partial))) (the_state t1 q1) ≡ with_opening (setting_by t q) newest (the_state t q)
+      → with_commands q1.rule.mode (map (grow (sketch_at (sketches_in t1) p)) (heads_for (scope_by t1.basis) (first_hole [] (sketch_at (sketches_in t1) p).partial))) (the_state t1 q1) ≡ with_opening (setting_by t q) newest (the_state t q)
   opened-newest t1 q1 p are same plan place state =
       let x = newest-at (sketches_in t1) p are place in
-      λ i. with_commands (the_mode (plan i).rule.mode) (map (grow (x i)) (heads_for (scope_by (same i)) (first_hole [] (x i).partial))) (state i)
+      λ i. with_commands (plan i).rule.mode (map (grow (x i)) (heads_for (scope_by (same i)) (first_hole [] (x i).partial))) (state i)
 
   -- the same after the writes, one after the other
   module _ (t1 t2 t3 : Tables) (e1 : t1 ≡ record t { open_holes = t1.open_holes }) (e2 : t2 ≡ record t1 { roots = t2.roots }) (e3 : t3 ≡ record t2 { holes = t3.holes }) (p : ℕ) (place : p ≡ length t.stems.items) (holes : t1.open_holes ≡ t.open_holes ++ holes_in [] newest.partial ∷ []) where

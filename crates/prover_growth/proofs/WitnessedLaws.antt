@@ -8,7 +8,7 @@ use Rattle.tableau_calculus.specs.Literals.{Literal, minus}
 use Rattle.tableau_calculus.specs.Witnesses.{Row}
 use Rattle.search_spec.specs.Alternatives.{Alternatives, all_neg}
 use Rattle.search_spec.specs.Instances.{with_instance}
-use Rattle.search_spec.specs.Mode.{Mode}
+use Rattle.mode_file.specs.declared.Mode.{Mode}
 use Rattle.search_spec.specs.State.{State, Setting, Sketch, grow, with_commands}
 use Rattle.search_spec.specs.Witness.{same_row, witness_of, has_hole_of, with_new_witness, with_witness}
 use Rattle.search_spec.proofs.RowLaws.{no_row}

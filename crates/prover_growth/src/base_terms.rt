@@ -7,7 +7,6 @@ ghost use Rattle.term_bank.specs.Content.{HasTerm};
 ghost use Rattle.term_bank.specs.Terms.{term_at};
 ghost use Rattle.search_spec.specs.Each.{Each};
 ghost use Rattle.search_spec.specs.Terms.{first_terms, with_preparation, with_terms};
-ghost use Rattle.prover_state.specs.Delays.{the_mode};
 ghost use Rattle.prover_state.specs.Internal.Growing.{BasisGrows};
 ghost use Rattle.prover_state.specs.Internal.Names.{IsPlace};
 ghost use Rattle.prover_state.specs.Internal.Standing.{setting_by, the_state, IsBasis, IsRightState};
@@ -114,7 +113,7 @@ fn first_terms_of(alloc: Global, basis: &mut Basis, n: u32) -> Result<Ids, Alloc
 fn add_terms<W: Weigher<Waiting>>(core: &mut Core<W>, ty: &Ty, ids: &Ids) -> Result<(), AllocError>
     requires right { IsRightState core.old.tables core.old.plan }
     requires places { Each (IsPlace core.old.tables.basis.bank.terms) ids.now }
-    ensures state { OnOk result (the_state core.new.tables core.new.plan ≡ with_terms (the_mode core.old.plan.rule.mode) (the_type ty.now) (map (term_at core.old.tables.basis.bank.terms) ids.now) (the_state core.old.tables core.old.plan)) }
+    ensures state { OnOk result (the_state core.new.tables core.new.plan ≡ with_terms core.old.plan.rule.mode (the_type ty.now) (map (term_at core.old.tables.basis.bank.terms) ids.now) (the_state core.old.tables core.old.plan)) }
     ensures right { OnOk result (IsRightState core.new.tables core.new.plan) }
     ensures tables { OnOk result (core.new.tables ≡ record core.old.tables { terms = core.new.tables.terms }) }
     ensures rule { OnOk result (core.new.plan.rule ≡ core.old.plan.rule) }

@@ -12,7 +12,6 @@ ghost use Rattle.search_spec.specs.TypedState.{GrowsSketch, IsTypedSketch};
 ghost use Rattle.term_bank.specs.Content.{HasTerm};
 ghost use Rattle.prover_state.specs.declared.command.Planned.{Planned};
 ghost use Rattle.prover_state.specs.declared.command.Delays.{Delays};
-ghost use Rattle.prover_state.specs.Delays.{the_mode};
 ghost use Rattle.prover_state.specs.Internal.Growing.{BasisGrows};
 ghost use Rattle.prover_state.specs.Internal.HeadNumbers.{head_numbered};
 ghost use Rattle.prover_state.specs.Internal.Heads.{the_hole_head};
@@ -70,7 +69,7 @@ fn fill_last<W: Weigher<Waiting>>(
     requires number { parent < length (sketches_in core.old.tables) }
     requires grows { GrowsSketch (scope_by core.old.tables.basis) (sketch_at (sketches_in core.old.tables) parent) (the_hole_head head) }
     requires last { first_hole [] (growth_by (scope_by core.old.tables.basis) (the_hole_head head) (sketch_at (sketches_in core.old.tables) parent)).partial ≡ None }
-    ensures state { OnOk result (let p = sketch_at (sketches_in core.old.tables) parent in the_state core.new.tables core.new.plan ≡ with_term (the_mode core.old.plan.rule.mode) p.type (term_of (growth_by (scope_by core.old.tables.basis) (the_hole_head head) p).partial) (the_state core.old.tables core.old.plan)) }
+    ensures state { OnOk result (let p = sketch_at (sketches_in core.old.tables) parent in the_state core.new.tables core.new.plan ≡ with_term core.old.plan.rule.mode p.type (term_of (growth_by (scope_by core.old.tables.basis) (the_hole_head head) p).partial) (the_state core.old.tables core.old.plan)) }
     ensures right { OnOk result (IsRightState core.new.tables core.new.plan) }
     ensures basis { OnOk result (BasisGrows core.old.tables.basis core.new.tables.basis) }
     ensures tables { OnOk result (core.new.tables ≡ record core.old.tables { basis = core.new.tables.basis; terms = core.new.tables.terms }) }

@@ -6,7 +6,6 @@ ghost use Rattle.search_spec.specs.Partial.{first_hole};
 ghost use Rattle.search_spec.specs.State.{grow, with_commands};
 ghost use Rattle.prover_state.specs.declared.command.Planned.{Planned};
 ghost use Rattle.prover_state.specs.declared.command.Delays.{Delays};
-ghost use Rattle.prover_state.specs.Delays.{the_mode};
 ghost use Rattle.prover_state.specs.Internal.Fitting.{logical_for, later_heads};
 ghost use Rattle.prover_state.specs.Internal.Names.{sketch_at};
 ghost use Rattle.prover_state.specs.Internal.Standing.{scope_by, sketches_in, the_state, IsRightState};
@@ -81,7 +80,7 @@ pub(crate) fn push_heads<W: Weigher<Waiting>>(
 ) -> Result<(), AllocError>
     requires right { IsRightState core.old.tables core.old.plan }
     requires number { p < length (sketches_in core.old.tables) }
-    ensures state { OnOk result (let q = sketch_at (sketches_in core.old.tables) p in the_state core.new.tables core.new.plan ≡ with_commands (the_mode core.old.plan.rule.mode) (map (grow q) (heads_for (scope_by core.old.tables.basis) (first_hole [] q.partial))) (the_state core.old.tables core.old.plan)) }
+    ensures state { OnOk result (let q = sketch_at (sketches_in core.old.tables) p in the_state core.new.tables core.new.plan ≡ with_commands core.old.plan.rule.mode (map (grow q) (heads_for (scope_by core.old.tables.basis) (first_hole [] q.partial))) (the_state core.old.tables core.old.plan)) }
     ensures right { OnOk result (IsRightState core.new.tables core.new.plan) }
     ensures tables { core.new.tables ≡ core.old.tables }
     ensures rule { OnOk result (core.new.plan.rule ≡ core.old.plan.rule) }

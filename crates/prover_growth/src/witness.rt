@@ -6,7 +6,6 @@ ghost use Rattle.tableau_calculus.specs.Literals.{minus};
 ghost use Rattle.literal_map.specs.Atoms.{bank_literal};
 ghost use Rattle.search_spec.specs.State.{grow, with_commands};
 ghost use Rattle.search_spec.specs.Witness.{has_hole_of, with_witness};
-ghost use Rattle.prover_state.specs.Delays.{the_mode};
 ghost use Rattle.prover_state.specs.Internal.Growing.{BasisWidens};
 ghost use Rattle.prover_state.specs.Internal.Names.{IsNumberIn};
 ghost use Rattle.prover_state.specs.Internal.Standing.{setting_by, sketches_in, the_state, IsRightState};
@@ -14,14 +13,14 @@ ghost use Rattle.prover_state.specs.Internal.Steps.{IsMadeInstance, StepsGrow};
 
 use crate::denial::{denied_target, deny};
 use command_queue::Weigher;
-use sat_base::SatLit;
 use prover_state::{Command, Core, HoleHead, Over, Waiting, number_of};
+use sat_base::SatLit;
 use std::alloc::AllocError;
 
 /// Each parked partial term whose first hole has a base type is to be filled with a witness.
 fn grow_with<W: Weigher<Waiting>>(core: &mut Core<W>, output: u32, w: u32) -> Result<(), AllocError>
     requires right { IsRightState core.old.tables core.old.plan }
-    ensures state { OnOk result (the_state core.new.tables core.new.plan ≡ with_commands (the_mode core.old.plan.rule.mode) (map (λ p. grow p (constant (witness w))) (filter (has_hole_of output) (sketches_in core.old.tables))) (the_state core.old.tables core.old.plan)) }
+    ensures state { OnOk result (the_state core.new.tables core.new.plan ≡ with_commands core.old.plan.rule.mode (map (λ p. grow p (constant (witness w))) (filter (has_hole_of output) (sketches_in core.old.tables))) (the_state core.old.tables core.old.plan)) }
     ensures right { OnOk result (IsRightState core.new.tables core.new.plan) }
     ensures tables { core.new.tables ≡ core.old.tables }
     ensures rule { OnOk result (core.new.plan.rule ≡ core.old.plan.rule) }

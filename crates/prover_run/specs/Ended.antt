@@ -23,14 +23,13 @@ use Rattle.search_spec.specs.Result.{GoesOnUntil, IsProved, IsExhausted, IsStopp
 use Rattle.rebuild_spec.specs.Trimmed.{IsEachReached}
 use Rattle.refute_print.specs.Sizes.{IsSmall}
 use Rattle.mode_file.specs.declared.Mode.{Mode}
-use Rattle.prover_state.specs.Delays.{the_mode}
 use Rattle.prover_run.specs.Origin.{EachComesFrom, AreRefutedShortly, AreRefutedWithin, PropagatesToFalse}
 use Rattle.prover_run.specs.declared.ended.Ended.{Ended}
 use Rattle.prover_run.specs.declared.ended.Ended.TheVariants.{Proved, GaveUp, CommandLimit, ConflictLimit}
 
 -- what a problem declares, and a mode
 abbrev pub setting_for : PlainProblem → Mode → Setting
-setting_for p m = record { scope = scope_of p.declared; mode = the_mode m }
+setting_for p m = record { scope = scope_of p.declared; mode = m }
 
 -- The run is proved after n commands, and the refutation is accepted for the start and small enough for a text. Each of its lines is reached
 -- from the last one and comes from the clauses of the state after these commands. It is rebuilt from a log that refutes these, with enough

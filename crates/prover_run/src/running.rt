@@ -14,12 +14,12 @@ use crate::delays::delay;
 use crate::ended::Ended;
 use command_queue::Weigher;
 use mode_file::Mode;
+use prover_search::{Command, Search, Stepped, Waiting};
 use prover_state::Tables;
 use std::alloc::{AllocError, Global};
 use stt_core::Problem;
 use tableau_calculus::Refutation;
 use tableau_rebuild::rebuild;
-use prover_search::{Command, Search, Stepped, Waiting};
 use term_bank::equal_ids_for_equal_terms;
 
 /// The refutation from the log of a run whose clauses are unsatisfiable. There is no memory for one that is too large for a text.

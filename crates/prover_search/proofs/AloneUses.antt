@@ -11,7 +11,7 @@ use Rattle.tableau_calculus.specs.Rules.{false_rule, refl_rule, imp_pos_rule, im
 use Rattle.tableau_calculus.specs.declared.refutation.RuleUse.TheVariants.{False, Refl, ImpPos, ImpNeg, BoolPos, BoolNeg, FunPos, FunNeg, Dec}
 use Rattle.tableau_calculus.proofs.EquationLaws.{eq_canonical}
 use Rattle.sat_base.specs.declared.literal.SatLit.{SatLit}
-use Rattle.search_spec.specs.Mode.{standard}
+use Rattle.search_spec.specs.Mode.{standard_mode}
 use Rattle.search_spec.specs.Spine.{head_of, arguments, is_spine, same_head}
 use Rattle.search_spec.specs.State.{Setting}
 use Rattle.search_spec.specs.Alternatives.{Alternatives, imp_pos, imp_neg, bool_pos, bool_neg, fun_pos, fun_neg, differ}
@@ -70,7 +70,7 @@ module _ (g : Basis) (lit : SatLit) where
     pub dec-takes : (n : ℕ) (s t : Lambda) → l_at ≡ minus (eq (base (suc n)) s t) → (is_spine s && same_head s t) ≡ true → Takes kind.Dec (differ (type_of (scope_by g) [] (head_of s)) (arguments s) (arguments t))
     dec-takes n s t e h =
         let b : SimpleType = base (suc n) in
-        let setting : Setting = record { scope = without_witnesses g.bank; mode = standard } in
+        let setting : Setting = record { scope = without_witnesses g.bank; mode = standard_mode } in
         let C : Lambda → Type 0 = λ u. IsCanonical (scope_by g) [] formula u in
         let P : Lambda → Type 0 = λ u. IsCanonical (scope_by g) [] b u in
         let p = and_parts (is_spine s) (same_head s t) h in

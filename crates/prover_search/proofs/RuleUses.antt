@@ -10,7 +10,7 @@ use Rattle.tableau_calculus.specs.Rules.{all_pos_rule, mat_rule, con_rule, cho_r
 use Rattle.tableau_calculus.specs.declared.refutation.RuleUse.TheVariants.{AllPos, Mat, Con, Cho, Des}
 use Rattle.sat_base.specs.declared.literal.SatLit.{SatLit}
 use Rattle.search_spec.specs.Spine.{head_of, arguments}
-use Rattle.search_spec.specs.Mode.{standard}
+use Rattle.search_spec.specs.Mode.{standard_mode}
 use Rattle.search_spec.specs.Shallow.{is_shallow}
 use Rattle.search_spec.specs.State.{State, Setting}
 use Rattle.search_spec.specs.Alternatives.{Alternatives, all_pos, con, cho, des, differ}
@@ -111,7 +111,7 @@ module _ (g : Basis) (good : IsBasis g) where
         let mits : (l_at m).atom ≡ applied (constant c) (h.t ∷ h.ts) = ap (λ (x : Literal). x.atom) h.is_negative in
         let P : Lambda → Type 0 = λ u. IsCanonical (scope_by g) [] formula u in
         let f = head_function (scope_by g) (constant c) h.s h.ss formula (subst P lits h.positive.formula) in
-        let setting : Setting = record { scope = without_witnesses g.bank; mode = standard } in
+        let setting : Setting = record { scope = without_witnesses g.bank; mode = standard_mode } in
         let same = spines_differ setting (rows_in g) over (l_at l).atom (l_at m).atom c (arrow f.0 f.1) h.s h.ss h.t h.ts
         (ap head_of lits ∙ head_of-applied (constant c) (h.s ∷ h.ss))
         (ap arguments lits ∙ arguments-applied (constant c) (h.s ∷ h.ss))

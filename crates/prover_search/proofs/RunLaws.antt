@@ -6,10 +6,10 @@ use Rattle.stt_core.specs.Typing.{Scope, IsScope}
 use Rattle.tableau_calculus.specs.Literals.{Literal, IsBranch}
 use Rattle.tableau_calculus.specs.Witnesses.{with_rows}
 use Rattle.command_queue.specs.declared.entry.Entry.{Entry}
-use Rattle.command_queue.specs.Queue.{Queue}
+use Rattle.command_queue.specs.Queue.{Queue, comes_before}
 use Rattle.search_spec.specs.Each.{Each}
 use Rattle.search_spec.specs.Unsatisfiable.{Unsatisfiable}
-use Rattle.search_spec.specs.Queue.{Waiting, is_before, first_waiting, next_command, without_number}
+use Rattle.search_spec.specs.Queue.{first_waiting, next_command, without_number}
 use Rattle.search_spec.specs.State.{State, Setting, Command as Meant}
 use Rattle.search_spec.specs.Commands.{with_command}
 use Rattle.search_spec.specs.After.{after_command, next_state, state_after}
@@ -22,7 +22,6 @@ use Rattle.prover_state.specs.declared.command.Planned.{Planned}
 use Rattle.prover_state.specs.declared.command.Delays.{Delays}
 use Rattle.prover_state.specs.declared.tables.Basis.{Basis}
 use Rattle.prover_state.specs.declared.tables.Tables.{Tables}
-use Rattle.prover_state.specs.Delays.{the_mode}
 use Rattle.prover_state.specs.Internal.Names.{command_at}
 use Rattle.prover_state.specs.Internal.Standing.{without_witnesses, scope_by, sketches_in, naming_in, setting_by, loops_in, the_state, IsRightState}
 use Rattle.prover_state.specs.Internal.Taking.{TakesNext}
@@ -34,16 +33,16 @@ use Rattle.prover_search.specs.Internal.Answers.{StepGoesOn}
 use Rattle.prover_search.proofs.MadeStays.{made-wider}
 use Rattle.prover_search.proofs.UnitLaws.{units-grow, start-stays}
 
-first_good : (P : Waiting Meant → Type 0) (q : Waiting Meant) (qs : List (Waiting Meant)) → P q → Each P qs → P (first_waiting q qs)
+first_good : (P : Entry Meant → Type 0) (q : Entry Meant) (qs : List (Entry Meant)) → P q → Each P qs → P (first_waiting q qs)
 first_good P q [] h k = h
-first_good P q (p ∷ ps) h k = first_good P (if is_before p q then p else q) ps (pick_good P (is_before p q) p q k.0 h) k.1
+first_good P q (p ∷ ps) h k = first_good P (if comes_before p q then p else q) ps (pick_good P (comes_before p q) p q k.0 h) k.1
 
 -- what holds of all commands that wait holds of the next one
-pub next-good : (P : Waiting Meant → Type 0) (qs : List (Waiting Meant)) (q : Waiting Meant) → Each P qs → next_command qs ≡ Some q → P q
+pub next-good : (P : Entry Meant → Type 0) (qs : List (Entry Meant)) (q : Entry Meant) → Each P qs → next_command qs ≡ Some q → P q
 next-good P [] q h e = cc
 next-good P (p ∷ ps) q h e = subst P (same_Some (first_waiting p ps) q e) (first_good P p ps h.0 h.1)
 
-some_next : (qs : List (Waiting Meant)) (q : Waiting Meant) → next_command qs ≡ Some q → qs ≢ []
+some_next : (qs : List (Entry Meant)) (q : Entry Meant) → next_command qs ≡ Some q → qs ≢ []
 some_next [] q e = cc
 some_next (p ∷ ps) q e = λ f. cc
 
@@ -117,7 +116,7 @@ module _ (t : Tables) (q q1 : Queue Planned Delays) (r : IsRunning t q) (c : Com
   taken_state = ap (λ (x : State). record x { done = t.done + 1 }) takes.leaves ∙ ap (λ n. record s { queue = without_number takes.number s.queue; done = n }) (add-one t.done)
 
   taken_setting : setting_by t1 q1 ≡ setting
-  taken_setting = ap (λ (d : Delays). record { scope = without_witnesses t.basis.bank; mode = the_mode d.mode }) rule
+  taken_setting = ap (λ (d : Delays). record { scope = without_witnesses t.basis.bank; mode = d.mode }) rule
 
   module _ (t2 : Tables) (q2 : Queue Planned Delays) (k : Carried t q1 c t2 q2) (right : IsRightState t2 q2) (rule2 : q2.rule ≡ q1.rule) where
     abbrev develops : Develops t1 t2
@@ -129,7 +128,7 @@ module _ (t : Tables) (q q1 : Queue Planned Delays) (r : IsRunning t q) (c : Com
         ∙ ap Some (sym (k.is ∙ ap₂ (λ (x : Setting) (y : State). with_command x (command_at (naming_in t) c) y) taken_setting taken_state))
 
     pub setting-next : setting_by t2 q2 ≡ setting
-    setting-next = ap₂ (λ (x : Scope) (d : Delays). record { scope = x; mode = the_mode d.mode }) (scope-wider t.basis t2.basis develops.basis) (rule2 ∙ rule)
+    setting-next = ap₂ (λ (x : Scope) (d : Delays). record { scope = x; mode = d.mode }) (scope-wider t.basis t2.basis develops.basis) (rule2 ∙ rule)
 
     pub start-next : start_in t2 ≡ start_in t
     start-next = start-stays t t2 r.right.basis develops.basis r.right.clauses (units-grow (IsMadeInstance t2.basis) t.steps t2.steps develops.steps)

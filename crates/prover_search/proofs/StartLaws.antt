@@ -8,11 +8,12 @@ use Rattle.stt_core.specs.SameTerm.{same_term}
 use Rattle.tableau_calculus.specs.Literals.{Literal, opposite}
 use Rattle.tableau_calculus.specs.Kinds.{has, same_sign, same_signed, formulas, Kind}
 use Rattle.tableau_calculus.proofs.AddedLaws.{same_literal-true}
-use Rattle.search_spec.specs.Mode.{Mode}
+use Rattle.mode_file.specs.declared.Mode.{Mode}
 use Rattle.search_spec.specs.Shallow.{is_shallow_literal}
 use Rattle.search_spec.specs.Clauses.{same_clause, with_clauses, instance_clauses}
 use Rattle.search_spec.specs.Unsatisfiable.{Clause}
-use Rattle.search_spec.specs.Queue.{Waiting, new_entries}
+use Rattle.search_spec.specs.Queue.{new_entries}
+use Rattle.command_queue.specs.declared.entry.Entry.{Entry}
 use Rattle.search_spec.specs.State.{State, Setting, Command, process, due, with_commands}
 use Rattle.search_spec.specs.Instances.{with_literals, with_instance}
 use Rattle.search_spec.specs.After.{nothing_yet, starting_state}
@@ -63,13 +64,13 @@ waiting_last : (d : Command → ℕ) (n : ℕ) (cs : List Command) (c : Command)
 waiting_last d n [] c = let e : n ≡ n + 0 = omega arith in ap (λ k. new_entries d k (c ∷ [])) e
 waiting_last d n (x ∷ cs) c =
     let e : suc n + length cs ≡ n + suc (length cs) = omega arith in
-    ap (λ (qs : List (Waiting Command)). record { due = d x; number = n; command = x } ∷ qs) (waiting_last d (suc n) cs c ∙ ap (λ k. new_entries d (suc n) cs ++ new_entries d k (c ∷ [])) e)
+    ap (λ (qs : List (Entry Command)). record { due = d x; number = n; command = x } ∷ qs) (waiting_last d (suc n) cs c ∙ ap (λ k. new_entries d (suc n) cs ++ new_entries d k (c ∷ [])) e)
 
 pushed_last : (mode : Mode) (cs : List Command) (c : Command) (s : State) → with_commands mode (cs ++ c ∷ []) s ≡ with_commands mode (c ∷ []) (with_commands mode cs s)
 pushed_last mode cs c s =
     let d = due mode s.done in
     let lengths : s.pushes + length (cs ++ c ∷ []) ≡ s.pushes + length cs + length (c ∷ []) = omega (arith, length-append cs (c ∷ [])) in
-    ap₂ (λ (q : List (Waiting Command)) (n : ℕ). record s { queue = q; pushes = n })
+    ap₂ (λ (q : List (Entry Command)) (n : ℕ). record s { queue = q; pushes = n })
     (ap (λ w. s.queue ++ w) (waiting_last d s.pushes cs c) ∙ sym (append_assoc s.queue (new_entries d s.pushes cs) (new_entries d (s.pushes + length cs) (c ∷ []))))
     lengths
 

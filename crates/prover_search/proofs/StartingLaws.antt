@@ -11,7 +11,7 @@ use Rattle.tableau_calculus.specs.Witnesses.{Row, with_rows}
 use Rattle.sat_base.specs.declared.literal.SatLit.{SatLit}
 use Rattle.command_queue.specs.Queue.{Queue}
 use Rattle.search_spec.specs.Each.{Each}
-use Rattle.search_spec.specs.Mode.{Mode}
+use Rattle.mode_file.specs.declared.Mode.{Mode}
 use Rattle.search_spec.specs.Shallow.{is_shallow_literal}
 use Rattle.sat_base.specs.Literal.{same_var}
 use Rattle.std.specs.Bool.{beq}
@@ -29,7 +29,6 @@ use Rattle.prover_state.specs.declared.command.Planned.{Planned}
 use Rattle.prover_state.specs.declared.command.Delays.{Delays}
 use Rattle.prover_state.specs.declared.tables.Basis.{Basis}
 use Rattle.prover_state.specs.declared.tables.Tables.{Tables}
-use Rattle.prover_state.specs.Delays.{the_mode}
 use Rattle.prover_state.specs.Internal.Growing.{BasisGrows}
 use Rattle.prover_state.specs.Internal.Standing.{without_witnesses, setting_by, the_state, IsBasis, IsRightState}
 use Rattle.prover_state.specs.Internal.Steps.{IsMadeInstance}
@@ -169,7 +168,7 @@ module _ (t0 : Tables) (q0 : Queue Planned Delays) where
     rule = s.rule;
   }
 
-  module _ (t u : Tables) (q p : Queue Planned Delays) (ls : List Literal) (lit : SatLit) (s : IsStarting t0 q0 t q ls) (is : the_state u p ≡ with_instance (the_mode q.rule.mode) [] ((bank_literal t.basis.bank.terms t.basis.lits lit ∷ []) ∷ []) (the_state t q)) (right : IsRightState u p) (same : u.basis ≡ t.basis) (adds : AddsStart lit t u) (rule : p.rule ≡ q.rule) where
+  module _ (t u : Tables) (q p : Queue Planned Delays) (ls : List Literal) (lit : SatLit) (s : IsStarting t0 q0 t q ls) (is : the_state u p ≡ with_instance q.rule.mode [] ((bank_literal t.basis.bank.terms t.basis.lits lit ∷ []) ∷ []) (the_state t q)) (right : IsRightState u p) (same : u.basis ≡ t.basis) (adds : AddsStart lit t u) (rule : p.rule ≡ q.rule) where
     abbrev l : Literal
     l = bank_literal t.basis.bank.terms t.basis.lits lit
 
@@ -177,7 +176,7 @@ module _ (t0 : Tables) (q0 : Queue Planned Delays) where
     shallow xs = filter is_shallow_literal xs
 
     from_start : the_state u p ≡ with_instance setting.mode [] ((l ∷ []) ∷ []) (starting_state setting ls)
-    from_start = is ∙ ap₂ (λ (d : Delays) (x : State). with_instance (the_mode d.mode) [] ((l ∷ []) ∷ []) x) s.rule s.state
+    from_start = is ∙ ap₂ (λ (d : Delays) (x : State). with_instance d.mode [] ((l ∷ []) ∷ []) x) s.rule s.state
 
     basis_grows : BasisGrows t0.basis u.basis
     basis_grows = subst (BasisGrows t0.basis) (sym same) s.basis
@@ -251,7 +250,7 @@ module _ (t0 : Tables) (q0 : Queue Planned Delays) where
         by_test false e = starting_more e
 
   -- the literal of a formula was added
-  pub starting-literal : (t : Tables) (q : Queue Planned Delays) (ls : List Literal) → IsStarting t0 q0 t q ls → (g : Basis) → BasisGrows t.basis g → IsBasis g → (u : Tables) (p : Queue Planned Delays) (lit : SatLit) (l : Literal) → bank_literal g.bank.terms g.lits lit ≡ l → the_state u p ≡ with_instance (the_mode q.rule.mode) [] ((bank_literal g.bank.terms g.lits lit ∷ []) ∷ []) (the_state (record t { basis = g }) q) → IsRightState u p → u.basis ≡ g → AddsStart lit (record t { basis = g }) u → p.rule ≡ q.rule → IsStarting t0 q0 u p (added formulas ls (l ∷ []))
+  pub starting-literal : (t : Tables) (q : Queue Planned Delays) (ls : List Literal) → IsStarting t0 q0 t q ls → (g : Basis) → BasisGrows t.basis g → IsBasis g → (u : Tables) (p : Queue Planned Delays) (lit : SatLit) (l : Literal) → bank_literal g.bank.terms g.lits lit ≡ l → the_state u p ≡ with_instance q.rule.mode [] ((bank_literal g.bank.terms g.lits lit ∷ []) ∷ []) (the_state (record t { basis = g }) q) → IsRightState u p → u.basis ≡ g → AddsStart lit (record t { basis = g }) u → p.rule ≡ q.rule → IsStarting t0 q0 u p (added formulas ls (l ∷ []))
   starting-literal t q ls s g grows good u p lit l named is right same adds rule =
       let S : Literal → Type 0 = λ k. IsStarting t0 q0 u p (added formulas ls (k ∷ [])) in
       subst S named (starting-added (record t { basis = g }) u q p ls lit (starting-grown t q ls s g grows good) is right same adds rule)
@@ -269,7 +268,7 @@ module _ (t0 : Tables) (q0 : Queue Planned Delays) where
   -- a start is the start of a run
   module _ (t : Tables) (q : Queue Planned Delays) (ls : List Literal) (s : IsStarting t0 q0 t q ls) (declared : IsScope (without_witnesses t0.basis.bank)) (typed : IsBranch (without_witnesses t0.basis.bank) ls) (unwitnessed : t0.basis.witnesses ≡ []) where
     setting_same : setting_by t q ≡ setting
-    setting_same = ap₂ (λ (x : Scope) (d : Delays). record { scope = x; mode = the_mode d.mode }) (scope-grows t0.basis t.basis s.basis) s.rule
+    setting_same = ap₂ (λ (x : Scope) (d : Delays). record { scope = x; mode = d.mode }) (scope-grows t0.basis t.basis s.basis) s.rule
 
     state_is : starting_state (setting_by t q) (start_in t) ≡ the_state t q
     state_is =

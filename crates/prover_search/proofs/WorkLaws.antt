@@ -8,7 +8,7 @@ use Rattle.stt_core.specs.Typing.{Scope, type_of}
 use Rattle.tableau_calculus.specs.Literals.{Literal, plus, minus}
 use Rattle.sat_base.specs.declared.literal.SatLit.{SatLit}
 use Rattle.command_queue.specs.Queue.{Queue}
-use Rattle.search_spec.specs.Mode.{Mode}
+use Rattle.mode_file.specs.declared.Mode.{Mode}
 use Rattle.search_spec.specs.Spine.{head_of, arguments, is_spine, same_head}
 use Rattle.search_spec.specs.State.{State, Setting, inst, with_commands, scope_in}
 use Rattle.search_spec.specs.Alternatives.{Alternatives, differ}
@@ -23,7 +23,6 @@ use Rattle.prover_state.specs.declared.command.Planned.{Planned}
 use Rattle.prover_state.specs.declared.command.Delays.{Delays}
 use Rattle.prover_state.specs.declared.tables.Basis.{Basis}
 use Rattle.prover_state.specs.declared.tables.Tables.{Tables}
-use Rattle.prover_state.specs.Delays.{the_mode}
 use Rattle.prover_state.specs.Internal.Growing.{BasisGrows, BasisWidens}
 use Rattle.prover_state.specs.Internal.Names.{IsNumberIn}
 use Rattle.prover_state.specs.Internal.Pending.{equation_type, range_of}
@@ -97,11 +96,11 @@ pub develops-widened : (t u : Tables) → BasisWidens t.basis u.basis → StepsG
 develops-widened t u g s d = record { basis = widens-wider t.basis u.basis g; steps = s; done = d }
 
 module _ (t u : Tables) (q p : Queue Planned Delays) (rule : p.rule ≡ q.rule) where
-  pub mode-same : the_mode p.rule.mode ≡ the_mode q.rule.mode
-  mode-same = ap (λ (d : Delays). the_mode d.mode) rule
+  pub mode-same : p.rule.mode ≡ q.rule.mode
+  mode-same = ap (λ (d : Delays). d.mode) rule
 
   pub setting-wider : IsWider t.basis u.basis → setting_by u p ≡ setting_by t q
-  setting-wider w = ap₂ (λ (x : Scope) (d : Delays). record { scope = x; mode = the_mode d.mode }) (scope-wider t.basis u.basis w) rule
+  setting-wider w = ap₂ (λ (x : Scope) (d : Delays). record { scope = x; mode = d.mode }) (scope-wider t.basis u.basis w) rule
 
 pub literal-same : (g h : Basis) (lit : SatLit) → h ≡ g → bank_literal h.bank.terms h.lits lit ≡ bank_literal g.bank.terms g.lits lit
 literal-same g h lit e = ap (λ (x : Basis). bank_literal x.bank.terms x.lits lit) e
@@ -131,20 +130,20 @@ module _ (t t1 t2 t3 : Tables) (q q1 q2 q3 : Queue Planned Delays) (lit : SatLit
   pub processed-is : IsBasis t.basis → IsNumberIn t.basis.lits lit → Develops t t1 → q1.rule ≡ q.rule → t2.basis ≡ t1.basis → q2 ≡ q1
       → the_state t1 q1 ≡ with_rules setting l.positive l.atom s
       → the_state t2 q2 ≡ record (the_state t1 q1) { noted = (the_state t1 q1).noted ++ bank_literal t1.basis.bank.terms t1.basis.lits lit ∷ [] }
-      → the_state t3 q3 ≡ with_selections (the_mode q2.rule.mode) (selections_in (bank_literal t2.basis.bank.terms t2.basis.lits lit).atom) (the_state t2 q2)
+      → the_state t3 q3 ≡ with_selections q2.rule.mode (selections_in (bank_literal t2.basis.bank.terms t2.basis.lits lit).atom) (the_state t2 q2)
       → the_state t3 q3 ≡ with_processing setting l s
   processed-is good number develops rule basis plan working noting selecting =
       let same : bank_literal t1.basis.bank.terms t1.basis.lits lit ≡ l = literal-wider t.basis t1.basis good develops.basis lit number in
       let later : bank_literal t2.basis.bank.terms t2.basis.lits lit ≡ l = literal-same t1.basis t2.basis lit basis ∙ same in
-      let mode : the_mode q2.rule.mode ≡ the_mode q.rule.mode = ap (λ (x : Queue Planned Delays). the_mode x.rule.mode) plan ∙ mode-same t t1 q q1 rule in
+      let mode : q2.rule.mode ≡ q.rule.mode = ap (λ (x : Queue Planned Delays). x.rule.mode) plan ∙ mode-same t t1 q q1 rule in
       selecting
       ∙ ap₂ (λ (m : Mode) (k : Literal). with_selections m (selections_in k.atom) (the_state t2 q2)) mode later
-      ∙ ap (with_selections (the_mode q.rule.mode) (selections_in l.atom)) (noting ∙ ap₂ (λ (x : State) (k : Literal). record x { noted = x.noted ++ k ∷ [] }) working same)
+      ∙ ap (with_selections q.rule.mode (selections_in l.atom)) (noting ∙ ap₂ (λ (x : State) (k : Literal). record x { noted = x.noted ++ k ∷ [] }) working same)
 
   -- the type is prepared, and the instances are pushed
   pub universal-is : IsBasis t.basis → IsNumberIn t.basis.lits lit → IsWider t.basis t1.basis → q1.rule ≡ q.rule → (a : SimpleType) (f : Lambda) → l ≡ plus (every a f)
       → the_state t1 q1 ≡ with_preparation setting a s
-      → the_state t2 q2 ≡ (let k = bank_literal t1.basis.bank.terms t1.basis.lits lit in with_commands (the_mode q1.rule.mode) (map (inst k) (terms_of (range_of k.atom) (the_state t1 q1))) (the_state t1 q1))
+      → the_state t2 q2 ≡ (let k = bank_literal t1.basis.bank.terms t1.basis.lits lit in with_commands q1.rule.mode (map (inst k) (terms_of (range_of k.atom) (the_state t1 q1))) (the_state t1 q1))
       → the_state t2 q2 ≡ with_rules setting l.positive l.atom s
   universal-is good number wider rule a f e preparing pushing =
       let same : bank_literal t1.basis.bank.terms t1.basis.lits lit ≡ plus (every a f) = literal-wider t.basis t1.basis good wider lit number ∙ e in
@@ -152,21 +151,21 @@ module _ (t t1 t2 t3 : Tables) (q q1 q2 q3 : Queue Planned Delays) (lit : SatLit
       worked-as setting s l (plus (every a f)) (the_state t2 q2) e
       (pushing
       ∙ ap₂ (λ (m : Mode) (k : Literal). with_commands m (map (inst k) (terms_of (range_of k.atom) ready)) ready) (mode-same t t1 q q1 rule) same
-      ∙ ap (λ (x : State). with_commands (the_mode q.rule.mode) (map (inst (plus (every a f))) (terms_of a x)) x) preparing)
+      ∙ ap (λ (x : State). with_commands q.rule.mode (map (inst (plus (every a f))) (terms_of a x)) x) preparing)
 
   -- the sides are for instances, the negated equation is decomposed, and its confrontations are pushed
   pub difference-is : IsBasis t.basis → IsNumberIn t.basis.lits lit → t1.basis ≡ t.basis → IsWider t1.basis t2.basis → q1.rule ≡ q.rule → q2.rule ≡ q1.rule
       → (n m : ℕ) (i j : ℕ) → n ≡ suc m → l ≡ minus (eq (base (suc m)) (term_at t.basis.bank.terms i) (term_at t.basis.bank.terms j)) → denies_itself l ≡ false
-      → the_state t1 q1 ≡ with_term (the_mode q.rule.mode) (base n) (term_at t.basis.bank.terms j) (with_term (the_mode q.rule.mode) (base n) (term_at t.basis.bank.terms i) s)
+      → the_state t1 q1 ≡ with_term q.rule.mode (base n) (term_at t.basis.bank.terms j) (with_term q.rule.mode (base n) (term_at t.basis.bank.terms i) s)
       → ((k : ℕ) → bank_literal t1.basis.bank.terms t1.basis.lits lit ≡ minus (eq (base (suc k)) (term_at t1.basis.bank.terms i) (term_at t1.basis.bank.terms j))
       → the_state t2 q2 ≡ with_decomposition (setting_by t1 q1) (base (suc k)) (term_at t1.basis.bank.terms i) (term_at t1.basis.bank.terms j) (the_state t1 q1))
-      → the_state t3 q3 ≡ (let k = bank_literal t2.basis.bank.terms t2.basis.lits lit in with_commands (the_mode q2.rule.mode) (confrontations (equation_type k.atom) k (the_state t2 q2).noted) (the_state t2 q2))
+      → the_state t3 q3 ≡ (let k = bank_literal t2.basis.bank.terms t2.basis.lits lit in with_commands q2.rule.mode (confrontations (equation_type k.atom) k (the_state t2 q2).noted) (the_state t2 q2))
       → the_state t3 q3 ≡ with_rules setting l.positive l.atom s
   difference-is good number basis wider rule rule2 n m i j is e differs adding decomposing pushing =
       let b : SimpleType = base (suc m) in
       let x : Lambda = term_at t.basis.bank.terms i in
       let y : Lambda = term_at t.basis.bank.terms j in
-      let mode : Mode = the_mode q.rule.mode in
+      let mode : Mode = q.rule.mode in
       let W : Basis → Type 0 = λ g. IsWider g t2.basis in
       let D : Basis → Type 0 = λ g. (k : ℕ) → bank_literal g.bank.terms g.lits lit ≡ minus (eq (base (suc k)) (term_at g.bank.terms i) (term_at g.bank.terms j)) → the_state t2 q2 ≡ with_decomposition (setting_by t1 q1) (base (suc k)) (term_at g.bank.terms i) (term_at g.bank.terms j) (the_state t1 q1) in
       let same : bank_literal t2.basis.bank.terms t2.basis.lits lit ≡ minus (eq b x y) = literal-wider t.basis t2.basis good (subst W basis wider) lit number ∙ e in

@@ -1,1 +1,32 @@
+pub use Rattle.literal_map.specs.Atoms
+pub use Rattle.prover_state.specs.Delays
+pub use Rattle.sat_base.specs.Truth
+pub use Rattle.sat_core.specs.Solver
+pub use Rattle.sat_log.specs.Chains
+pub use Rattle.search_spec.specs.After
+pub use Rattle.search_spec.specs.Alternatives
+pub use Rattle.search_spec.specs.Commands
+pub use Rattle.search_spec.specs.Each
+pub use Rattle.search_spec.specs.Instances
+pub use Rattle.search_spec.specs.Processing
+pub use Rattle.search_spec.specs.Shallow
+pub use Rattle.search_spec.specs.Spine
+pub use Rattle.search_spec.specs.Terms as SearchSpecTerms
+pub use Rattle.search_spec.specs.TypedState
+pub use Rattle.search_spec.specs.Unsatisfiable
+pub use Rattle.stt_core.specs.Canonical
+pub use Rattle.stt_core.specs.Declarations
+pub use Rattle.stt_core.specs.Lambda
+pub use Rattle.stt_core.specs.ScopeView
+pub use Rattle.stt_core.specs.SimpleType
+pub use Rattle.stt_core.specs.TypedProblem
+pub use Rattle.stt_core.specs.Typing
+pub use Rattle.stt_core.specs.View
+pub use Rattle.tableau_calculus.specs.Literals
+pub use Rattle.tableau_calculus.specs.Start
+pub use Rattle.tableau_clauses.specs.Table
+pub use Rattle.tableau_rules.specs.Uses
+pub use Rattle.term_bank.specs.Content
+pub use Rattle.term_bank.specs.Terms as TermBankTerms
+pub use Rattle.witness_names.specs.Rows
 pub mod Internal

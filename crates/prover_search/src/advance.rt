@@ -9,8 +9,8 @@ use crate::carry::carry_out;
 use crate::stepped::Stepped;
 use command_queue::Weigher;
 use mode_file::Mode;
-use sat_core::Answer;
 use prover_state::{Core, Waiting};
+use sat_core::Answer;
 use std::alloc::AllocError;
 
 /// The next command is carried out.

@@ -5,7 +5,6 @@ ghost use Rattle.literal_map.specs.Atoms.{bank_literal};
 ghost use Rattle.literal_map.specs.declared.instance.RuleKind.TheVariants.{AllNeg as MakesWitness};
 ghost use Rattle.tableau_rules.specs.Uses.{principals_of, IsInstanceBy};
 ghost use Rattle.search_spec.specs.Instances.{with_instance};
-ghost use Rattle.prover_state.specs.Delays.{the_mode};
 ghost use Rattle.prover_state.specs.Internal.Names.{IsNumberIn};
 ghost use Rattle.prover_state.specs.Internal.Standing.{rows_in, the_state, IsRightState};
 ghost use Rattle.prover_search.specs.Internal.Developing.{Develops};
@@ -13,8 +12,8 @@ ghost use Rattle.prover_search.specs.Internal.Working.{lone_use};
 
 use command_queue::Weigher;
 use literal_map::{BankUse, RuleKind};
-use sat_base::SatLit;
 use prover_state::{Core, Waiting};
+use sat_base::SatLit;
 use std::alloc::AllocError;
 
 /// Adds the instance of a rule that takes one literal and makes no witness.
@@ -29,7 +28,7 @@ pub(crate) fn apply_alone<W: Weigher<Waiting>>(
     requires unwitnessed { rule ≢ MakesWitness }
     requires fits { (alternatives : List (List Literal)) × IsInstanceBy core.old.tables.basis.bank core.old.tables.basis.lits (rows_in core.old.tables.basis) (lone_use rule lit) alternatives }
     ensures state { OnOk result ((alternatives : List (List Literal)) → IsInstanceBy core.old.tables.basis.bank core.old.tables.basis.lits (rows_in core.old.tables.basis) (lone_use rule lit) alternatives
-        → the_state core.new.tables core.new.plan ≡ with_instance (the_mode core.old.plan.rule.mode) (map (bank_literal core.old.tables.basis.bank.terms core.old.tables.basis.lits) (principals_of (lone_use rule lit))) alternatives (the_state core.old.tables core.old.plan)) }
+        → the_state core.new.tables core.new.plan ≡ with_instance core.old.plan.rule.mode (map (bank_literal core.old.tables.basis.bank.terms core.old.tables.basis.lits) (principals_of (lone_use rule lit))) alternatives (the_state core.old.tables core.old.plan)) }
     ensures right { OnOk result (IsRightState core.new.tables core.new.plan) }
     ensures develops { OnOk result (Develops core.old.tables core.new.tables) }
     ensures witnesses { OnOk result (core.new.tables.basis.witnesses ≡ core.old.tables.basis.witnesses) }

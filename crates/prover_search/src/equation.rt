@@ -7,7 +7,6 @@ ghost use Rattle.term_bank.specs.Terms.{term_at};
 ghost use Rattle.literal_map.specs.Atoms.{bank_atom, bank_literal};
 ghost use Rattle.search_spec.specs.Processing.{with_decomposition, with_rules};
 ghost use Rattle.search_spec.specs.Terms.{with_term};
-ghost use Rattle.prover_state.specs.Delays.{the_mode};
 ghost use Rattle.prover_state.specs.Internal.Names.{IsNumberIn, IsPlace};
 ghost use Rattle.prover_state.specs.Internal.Pending.{equation_type};
 ghost use Rattle.prover_state.specs.Internal.Shapes.{IsBaseEquation};
@@ -21,8 +20,8 @@ use crate::shape::atom_of;
 use crate::spine::share_spine;
 use command_queue::Weigher;
 use literal_map::RuleKind;
-use sat_base::SatLit;
 use prover_state::{Basis, Core, Waiting, part_of};
+use sat_base::SatLit;
 use std::alloc::AllocError;
 use stt_core::Ty;
 use term_bank::Id;
@@ -107,7 +106,7 @@ fn add_terms<W: Weigher<Waiting>>(
     requires right { IsRightState core.old.tables core.old.plan }
     requires left_place { IsPlace core.old.tables.basis.bank.terms sides.left }
     requires right_place { IsPlace core.old.tables.basis.bank.terms sides.right }
-    ensures state { OnOk result (let mode = the_mode core.old.plan.rule.mode in the_state core.new.tables core.new.plan ≡ with_term mode (base n) (term_at core.old.tables.basis.bank.terms sides.right) (with_term mode (base n) (term_at core.old.tables.basis.bank.terms sides.left) (the_state core.old.tables core.old.plan))) }
+    ensures state { OnOk result (let mode = core.old.plan.rule.mode in the_state core.new.tables core.new.plan ≡ with_term mode (base n) (term_at core.old.tables.basis.bank.terms sides.right) (with_term mode (base n) (term_at core.old.tables.basis.bank.terms sides.left) (the_state core.old.tables core.old.plan))) }
     ensures right { OnOk result (IsRightState core.new.tables core.new.plan) }
     ensures tables { OnOk result (core.new.tables ≡ record core.old.tables { terms = core.new.tables.terms }) }
     ensures rule { OnOk result (core.new.plan.rule ≡ core.old.plan.rule) }

@@ -9,15 +9,14 @@ ghost use Rattle.search_spec.specs.Alternatives.{cho, des};
 ghost use Rattle.search_spec.specs.Commands.{with_mating, with_confrontation, with_instantiation};
 ghost use Rattle.search_spec.specs.Instances.{with_instance};
 ghost use Rattle.search_spec.specs.TypedState.{Mates, Confronts, Instantiates};
-ghost use Rattle.prover_state.specs.Delays.{the_mode};
 ghost use Rattle.prover_state.specs.Internal.Names.{IsNumberIn, IsPlace};
 ghost use Rattle.prover_state.specs.Internal.Standing.{scope_by, setting_by, the_state, IsRightState};
 ghost use Rattle.prover_search.specs.Internal.Developing.{Develops};
 
 use command_queue::Weigher;
 use literal_map::{BankUse, RuleKind};
-use sat_base::SatLit;
 use prover_state::{Core, DEPTH, Waiting};
+use sat_base::SatLit;
 use std::alloc::AllocError;
 use term_bank::Id;
 
@@ -109,7 +108,7 @@ pub(crate) fn choose<W: Weigher<Waiting>>(core: &mut Core<W>, id: Id) -> Result<
     requires place { IsPlace core.old.tables.basis.bank.terms id }
     requires few { length core.old.tables.basis.witnesses < 2 ^ 32 - 1 }
     requires typed { let f = term_at core.old.tables.basis.bank.terms id in IsCanonical (scope_by core.old.tables.basis) [] (predicate (binder_of f)) f }
-    ensures state { OnOk result (let f = term_at core.old.tables.basis.bank.terms id in the_state core.new.tables core.new.plan ≡ with_instance (the_mode core.old.plan.rule.mode) [] (cho (binder_of f) f) (the_state core.old.tables core.old.plan)) }
+    ensures state { OnOk result (let f = term_at core.old.tables.basis.bank.terms id in the_state core.new.tables core.new.plan ≡ with_instance core.old.plan.rule.mode [] (cho (binder_of f) f) (the_state core.old.tables core.old.plan)) }
     ensures right { OnOk result (IsRightState core.new.tables core.new.plan) }
     ensures develops { OnOk result (Develops core.old.tables core.new.tables) }
     ensures witnesses { OnOk result (core.new.tables.basis.witnesses ≡ core.old.tables.basis.witnesses) }
@@ -130,7 +129,7 @@ pub(crate) fn describe<W: Weigher<Waiting>>(core: &mut Core<W>, id: Id) -> Resul
     requires place { IsPlace core.old.tables.basis.bank.terms id }
     requires few { length core.old.tables.basis.witnesses < 2 ^ 32 - 1 }
     requires typed { let f = term_at core.old.tables.basis.bank.terms id in IsCanonical (scope_by core.old.tables.basis) [] (predicate (binder_of f)) f }
-    ensures state { OnOk result (let f = term_at core.old.tables.basis.bank.terms id in the_state core.new.tables core.new.plan ≡ with_instance (the_mode core.old.plan.rule.mode) [] (des (binder_of f) f) (the_state core.old.tables core.old.plan)) }
+    ensures state { OnOk result (let f = term_at core.old.tables.basis.bank.terms id in the_state core.new.tables core.new.plan ≡ with_instance core.old.plan.rule.mode [] (des (binder_of f) f) (the_state core.old.tables core.old.plan)) }
     ensures right { OnOk result (IsRightState core.new.tables core.new.plan) }
     ensures develops { OnOk result (Develops core.old.tables core.new.tables) }
     ensures witnesses { OnOk result (core.new.tables.basis.witnesses ≡ core.old.tables.basis.witnesses) }

@@ -17,6 +17,6 @@ mod start;
 mod stepped;
 mod work;
 
-pub use search::Search;
 pub use prover_state::{Command, Waiting};
+pub use search::Search;
 pub use stepped::Stepped;

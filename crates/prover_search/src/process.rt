@@ -8,8 +8,8 @@ ghost use Rattle.prover_search.specs.Internal.Developing.{Develops};
 
 use crate::work::work;
 use command_queue::Weigher;
-use sat_base::SatLit;
 use prover_state::{Core, Waiting};
+use sat_base::SatLit;
 use std::alloc::AllocError;
 
 /// A literal is processed: what its shape asks for is done, it is noted, and the choices and the descriptions in its atom are taken up.

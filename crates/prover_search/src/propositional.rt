@@ -11,8 +11,8 @@ ghost use Rattle.prover_search.specs.declared.shape.Shape.TheVariants.{Falsity, 
 use crate::alone::apply_alone;
 use command_queue::Weigher;
 use literal_map::RuleKind;
-use sat_base::SatLit;
 use prover_state::{Core, Waiting};
+use sat_base::SatLit;
 use std::alloc::AllocError;
 
 /// Falsity is refuted, and for its negation there is nothing to do.

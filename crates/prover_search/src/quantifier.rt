@@ -12,9 +12,9 @@ ghost use Rattle.prover_search.specs.declared.shape.Shape.TheVariants.{Quantifie
 
 use crate::shape::atom_of;
 use command_queue::Weigher;
-use sat_base::SatLit;
 use prover_growth::{add_witness, prepare};
 use prover_state::{Basis, Core, Waiting, quantified_type};
+use sat_base::SatLit;
 use std::alloc::{AllocError, Global};
 use stt_core::Ty;
 

@@ -8,8 +8,8 @@ ghost use Rattle.prover_state.specs.Internal.Names.{IsNumberIn, IsPlace};
 ghost use Rattle.prover_state.specs.Internal.Standing.{IsBasis};
 ghost use Rattle.prover_search.specs.Internal.Working.{denies_itself, equation_shape, shape_of};
 
-use sat_base::SatLit;
 use prover_state::{Basis, has_equal_sides};
+use sat_base::SatLit;
 use stt_core::{Head, Ty};
 use term_bank::{Bank, Id, Node};
 

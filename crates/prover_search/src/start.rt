@@ -11,7 +11,7 @@ ghost use Rattle.sat_core.specs.Solver.{learned};
 ghost use Rattle.search_spec.specs.After.{nothing_yet};
 ghost use Rattle.search_spec.specs.Instances.{with_instance};
 ghost use Rattle.term_bank.specs.Content.{content_scope};
-ghost use Rattle.prover_state.specs.Delays.{the_mode, delay_by};
+ghost use Rattle.prover_state.specs.Delays.{delay_by};
 ghost use Rattle.prover_state.specs.Internal.Growing.{BasisGrows};
 ghost use Rattle.literal_map.specs.Atoms.{bank_literal};
 ghost use Rattle.tableau_clauses.specs.Table.{the_clauses};
@@ -24,9 +24,9 @@ use command_queue::Weigher;
 use literal_map::LitTable;
 use mode_file::Mode;
 use problem_start::formula_literal;
+use prover_state::{Basis, Core, DEPTH, Waiting, make_variables};
 use sat_base::{Clause, SatLit};
 use sat_core::Solver;
-use prover_state::{Basis, Core, DEPTH, Waiting, make_variables};
 use std::alloc::{AllocError, Global};
 use stt_core::{Problem, Signature, Term, Terms};
 use tableau_clauses::StepTable;
@@ -118,7 +118,7 @@ fn add_unit(
 fn start_with<W: Weigher<Waiting>>(core: &mut Core<W>, lit: SatLit) -> Result<(), AllocError>
     requires right { IsRightState core.old.tables core.old.plan }
     requires number { IsNumberIn core.old.tables.basis.lits lit }
-    ensures state { OnOk result (the_state core.new.tables core.new.plan ≡ with_instance (the_mode core.old.plan.rule.mode) [] ((bank_literal core.old.tables.basis.bank.terms core.old.tables.basis.lits lit ∷ []) ∷ []) (the_state core.old.tables core.old.plan)) }
+    ensures state { OnOk result (the_state core.new.tables core.new.plan ≡ with_instance core.old.plan.rule.mode [] ((bank_literal core.old.tables.basis.bank.terms core.old.tables.basis.lits lit ∷ []) ∷ []) (the_state core.old.tables core.old.plan)) }
     ensures right { OnOk result (IsRightState core.new.tables core.new.plan) }
     ensures basis { OnOk result (core.new.tables.basis ≡ core.old.tables.basis) }
     ensures steps { OnOk result (AddsStart lit core.old.tables core.new.tables) }

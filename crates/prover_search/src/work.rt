@@ -16,8 +16,8 @@ use crate::shape::{Shape, atom_of, denies_itself, shape_of};
 use crate::spine::is_spine;
 use command_queue::Weigher;
 use literal_map::RuleKind;
-use sat_base::SatLit;
 use prover_state::{Core, Waiting};
+use sat_base::SatLit;
 use std::alloc::AllocError;
 
 /// A literal of another shape is to be mated, where its atom is a compared head with arguments.

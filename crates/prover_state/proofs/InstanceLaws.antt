@@ -7,7 +7,7 @@ use Rattle.tableau_calculus.specs.Literals.{Literal}
 use Rattle.sat_base.specs.declared.literal.SatLit.{SatLit}
 use Rattle.command_queue.specs.Queue.{Queue}
 use Rattle.search_spec.specs.Each.{Each}
-use Rattle.search_spec.specs.Mode.{Mode}
+use Rattle.mode_file.specs.declared.Mode.{Mode}
 use Rattle.search_spec.specs.Shallow.{is_shallow_literal}
 use Rattle.search_spec.specs.Clauses.{instance_clauses, with_clauses}
 use Rattle.search_spec.specs.Unsatisfiable.{Clause}

@@ -9,7 +9,6 @@ use Rattle.sat_core.specs.Solver.{learned}
 use Rattle.command_queue.specs.declared.entry.Entry.{Entry}
 use Rattle.command_queue.specs.Queue.{Queue, AddsEntry}
 use Rattle.search_spec.specs.Each.{Each}
-use Rattle.search_spec.specs.Mode.{Mode as Delaying}
 use Rattle.search_spec.specs.Queue.{new_entries}
 use Rattle.search_spec.specs.Partners.{positive_first}
 use Rattle.search_spec.specs.State.{State, Command as Meant, process, mate, confront, inst, grow, choose, describe, delay, due, with_commands}
@@ -22,7 +21,7 @@ use Rattle.prover_state.specs.declared.command.Planned.{Planned}
 use Rattle.prover_state.specs.declared.command.Rest.{Rest}
 use Rattle.prover_state.specs.declared.command.Delays.{Delays}
 use Rattle.prover_state.specs.declared.tables.Tables.{Tables}
-use Rattle.prover_state.specs.Delays.{the_mode, delay_by}
+use Rattle.prover_state.specs.Delays.{delay_by}
 use Rattle.prover_state.specs.Internal.Names.{Naming, command_at}
 use Rattle.prover_state.specs.Internal.Pending.{over_terms, over_universals, over_negatives, over_positives, over_heads, over_parked, loop_over, between, later_of, AreThere, IsEntry, span, span_of, loop_at}
 use Rattle.prover_state.specs.Internal.Standing.{without_witnesses, naming_in, sources, state_parts, loops_in, the_state, IsRightState}
@@ -50,7 +49,7 @@ each-drop P zero xs h = h
 each-drop P (suc n) [] h = tt
 each-drop P (suc n) (x ∷ xs) h = each-drop P n xs h.1
 
-module _ (mode : Delaying) where
+module _ (mode : Mode) where
   mated_delay : (l m : Literal) (b : Bool) → delay mode (if b then mate l m else mate m l) ≡ mode.mate
   mated_delay l m true = refl
   mated_delay l m false = refl
@@ -134,7 +133,7 @@ pub length-later : (scope : Scope) (s : State) (c : Meant) (r : Option Rest) →
 length-later scope s c None w = refl
 length-later scope s c (Some r) w = length-between r.next r.end (loop_over scope s r.over c) w.ascends w.within
 
-pub delay-numbered : (m : Mode) (names : Naming) (c : Command) → delay (the_mode m) (command_at names c) ≡ delay_by m c
+pub delay-numbered : (m : Mode) (names : Naming) (c : Command) → delay m (command_at names c) ≡ delay_by m c
 delay-numbered m names (Process l) = refl
 delay-numbered m names (Mate l k) = refl
 delay-numbered m names (Confront l k) = refl
@@ -156,26 +155,26 @@ module _ (t : Tables) (old new : Queue Planned Delays) (p : Planned) (entry : Is
   abbrev added : Entry Planned
   added = record { due = t.done + delay_by old.rule.mode p.first; number = old.pushes; command = p }
 
-  delays_are : Each (λ c. due (the_mode old.rule.mode) t.done c ≡ t.done + delay_by old.rule.mode p.first) commands
+  delays_are : Each (λ c. due old.rule.mode t.done c ≡ t.done + delay_by old.rule.mode p.first) commands
   delays_are = (
     ap (λ d. t.done + d) (delay-numbered old.rule.mode (naming_in t) p.first),
     each_due (later_of scope (sources t) first p.rest)
-        (later_waits (the_mode old.rule.mode) scope (sources t) first p.rest),
+        (later_waits old.rule.mode scope (sources t) first p.rest),
   )
     where
-      each_due : (cs : List Meant) → Each (WaitsLike (the_mode old.rule.mode) first) cs → Each (λ c. due (the_mode old.rule.mode) t.done c ≡ t.done + delay_by old.rule.mode p.first) cs
+      each_due : (cs : List Meant) → Each (WaitsLike old.rule.mode first) cs → Each (λ c. due old.rule.mode t.done c ≡ t.done + delay_by old.rule.mode p.first) cs
       each_due [] h = tt
       each_due (c ∷ cs) h = (ap (λ d. t.done + d) (h.0 ∙ delay-numbered old.rule.mode (naming_in t) p.first), each_due cs h.1)
 
   -- The state with the commands of a loop pushed.
-  pub pushed-loop : the_state t new ≡ with_commands (the_mode old.rule.mode) commands (the_state t old)
+  pub pushed-loop : the_state t new ≡ with_commands old.rule.mode commands (the_state t old)
   pushed-loop = ap₂ (λ qs n. record (state_parts t) { queue = qs; pushes = n }) queue_is pushes_is
     where
-      queue_is : queue_of (loops_in t new.entries) ≡ queue_of (loops_in t old.entries) ++ new_entries (due (the_mode old.rule.mode) t.done) old.pushes commands
+      queue_is : queue_of (loops_in t new.entries) ≡ queue_of (loops_in t old.entries) ++ new_entries (due old.rule.mode t.done) old.pushes commands
       queue_is =
           ap (λ es. queue_of (loops_in t es)) adds.entries
           ∙ queue-last (loop_at scope (naming_in t) (sources t)) (λ e. refl) (λ e. refl) old.entries added
-          ∙ ap (λ qs. queue_of (loops_in t old.entries) ++ qs) (sym (waiting-same (due (the_mode old.rule.mode) t.done) (t.done + delay_by old.rule.mode p.first) old.pushes commands delays_are))
+          ∙ ap (λ qs. queue_of (loops_in t old.entries) ++ qs) (sym (waiting-same (due old.rule.mode t.done) (t.done + delay_by old.rule.mode p.first) old.pushes commands delays_are))
 
       pushes_is : new.pushes ≡ old.pushes + length commands
       pushes_is = adds.pushes ∙ ap (λ n. old.pushes + suc n) (sym (length-later scope (sources t) first p.rest entry.later))

@@ -5,9 +5,9 @@ use Rattle.std.proofs.lemmas.Bool.{ne_eqb, eq-eqb, le-ltb, ltb-true, eqb-true}
 use Rattle.std.proofs.lemmas.Grind.{flat_map-append}
 use Rattle.stt_core.proofs.ListLaws.{map-append}
 use Rattle.command_queue.specs.declared.entry.Entry.{Entry}
-use Rattle.command_queue.specs.Queue.{Queue, IsBefore, TakesEntry, AddsEntryAt}
+use Rattle.command_queue.specs.Queue.{Queue, IsBefore, TakesEntry, AddsEntryAt, comes_before}
 use Rattle.search_spec.specs.Each.{Each}
-use Rattle.search_spec.specs.Queue.{Waiting, is_before, first_waiting, next_command, without_number}
+use Rattle.search_spec.specs.Queue.{first_waiting, next_command, without_number}
 use Rattle.search_spec.specs.Internal.Loops.{Loop, entries, first_entry, queue_of, loop_left, loops_after, IsFirstOrNone}
 use Rattle.search_spec.proofs.LoopLaws.{next_of_loops, without_from_loops}
 use Rattle.prover_state.specs.declared.command.Planned.{Planned}
@@ -24,7 +24,7 @@ after_none a false c e f h = absurd (no (sym e ∙ h))
     no g = cc
 
 module _ {D : Type 0} where
-  not_after : (p q : Waiting D) → is_before p q ≡ true → is_before q p ≡ false
+  not_after : (p q : Entry D) → comes_before p q ≡ true → comes_before q p ≡ false
   not_after p q h = go (nat_lt p.due q.due) refl (p.due == q.due) refl (nat_lt p.number q.number) refl h
     where
       second : (b : Bool) → p.due ≡ q.due → p.number < q.number → (q.due == p.due) ≡ b → (nat_lt q.due p.due || (b && nat_lt q.number p.number)) ≡ false
@@ -46,27 +46,27 @@ module _ {D : Type 0} where
               no k = cc
           both false false z e g = refl
 
-      go : (a : Bool) → nat_lt p.due q.due ≡ a → (b : Bool) → (p.due == q.due) ≡ b → (c : Bool) → nat_lt p.number q.number ≡ c → (a || (b && c)) ≡ true → is_before q p ≡ false
+      go : (a : Bool) → nat_lt p.due q.due ≡ a → (b : Bool) → (p.due == q.due) ≡ b → (c : Bool) → nat_lt p.number q.number ≡ c → (a || (b && c)) ≡ true → comes_before q p ≡ false
       go true e b f c g k = first (ltb-true p.due q.due e)
       go false e true f true g k = second (q.due == p.due) (eqb-true p.due q.due f) (ltb-true p.number q.number g) refl
       go false e true f false g k = cc
       go false e false f c g k = cc
 
   -- nothing is before the first
-  stays_first : (q : Waiting D) (ps : List (Waiting D)) → Each (λ p. is_before q p ≡ true) ps → first_waiting q ps ≡ q
+  stays_first : (q : Entry D) (ps : List (Entry D)) → Each (λ p. comes_before q p ≡ true) ps → first_waiting q ps ≡ q
   stays_first q [] h = refl
   stays_first q (p ∷ ps) h = ap (λ b. first_waiting (if b then p else q) ps) (not_after q p h.0) ∙ stays_first q ps h.1
 
   -- what is before all others is taken for the first
-  comes_first : (e q : Waiting D) (ps qs : List (Waiting D)) → is_before e q ≡ true → Each (λ p. is_before e p ≡ true) ps → Each (λ p. is_before e p ≡ true) qs → first_waiting q (ps ++ e ∷ qs) ≡ e
+  comes_first : (e q : Entry D) (ps qs : List (Entry D)) → comes_before e q ≡ true → Each (λ p. comes_before e p ≡ true) ps → Each (λ p. comes_before e p ≡ true) qs → first_waiting q (ps ++ e ∷ qs) ≡ e
   comes_first e q [] qs h k l = ap (λ b. first_waiting (if b then e else q) qs) h ∙ stays_first e qs l
-  comes_first e q (p ∷ ps) qs h k l = comes_first e (if is_before p q then p else q) ps qs (one (is_before p q)) k.1 l
+  comes_first e q (p ∷ ps) qs h k l = comes_first e (if comes_before p q then p else q) ps qs (one (comes_before p q)) k.1 l
     where
-      one : (b : Bool) → is_before e (if b then p else q) ≡ true
+      one : (b : Bool) → comes_before e (if b then p else q) ≡ true
       one true = k.0
       one false = h
 
-  next-is : (e : Waiting D) (ps qs : List (Waiting D)) → Each (λ p. is_before e p ≡ true) ps → Each (λ p. is_before e p ≡ true) qs → next_command (ps ++ e ∷ qs) ≡ Some e
+  next-is : (e : Entry D) (ps qs : List (Entry D)) → Each (λ p. comes_before e p ≡ true) ps → Each (λ p. comes_before e p ≡ true) qs → next_command (ps ++ e ∷ qs) ≡ Some e
   next-is e [] qs k l = ap Some (stays_first e qs l)
   next-is e (p ∷ ps) qs k l = ap Some (comes_first e p ps qs k.0 k.1 l)
 
@@ -117,11 +117,11 @@ module _ {D : Type 0} (f : Entry Planned → Loop D) (due_is : (e : Entry Planne
   queue-last es e =
       ap queue_of (map-append f es (e ∷ [])) ∙ flat_map-append entries (map f es) (f e ∷ []) ∙ ap (λ qs. queue_of (map f es) ++ qs) (append-nil (entries (f e)))
 
-  earlier : (e : Entry Planned) (xs : List (Entry Planned)) → Each (IsBefore e) xs → Each (λ p. is_before (first_entry (f e)) p ≡ true) (map first_entry (map f xs))
+  earlier : (e : Entry Planned) (xs : List (Entry Planned)) → Each (IsBefore e) xs → Each (λ p. comes_before (first_entry (f e)) p ≡ true) (map first_entry (map f xs))
   earlier e [] h = tt
   earlier e (x ∷ xs) h = (one, earlier e xs h.1)
     where
-      one : is_before (first_entry (f e)) (first_entry (f x)) ≡ true
+      one : comes_before (first_entry (f e)) (first_entry (f x)) ≡ true
       one =
           ap₂ (λ d n. nat_lt d (f x).due || ((d == (f x).due) && nat_lt n (f x).number)) (due_is e) (number_is e)
           ∙ ap₂ (λ d n. nat_lt e.due d || ((e.due == d) && nat_lt e.number n)) (due_is x) (number_is x)

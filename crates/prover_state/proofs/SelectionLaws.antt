@@ -6,7 +6,7 @@ use Rattle.stt_core.specs.Lambda.{Lambda}
 use Rattle.stt_core.proofs.ListLaws.{map-append}
 use Rattle.command_queue.specs.Queue.{Queue}
 use Rattle.search_spec.specs.Each.{Each}
-use Rattle.search_spec.specs.Mode.{Mode}
+use Rattle.mode_file.specs.declared.Mode.{Mode}
 use Rattle.search_spec.specs.Selections.{by_choice, by_description, with_selection}
 use Rattle.search_spec.specs.State.{State, choose, describe, with_commands}
 use Rattle.term_bank.specs.Laws.{EqualIdsForEqualTerms}

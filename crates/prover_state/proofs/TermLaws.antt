@@ -12,7 +12,7 @@ use Rattle.tableau_calculus.specs.Literals.{Literal}
 use Rattle.sat_base.specs.declared.literal.SatLit.{SatLit}
 use Rattle.command_queue.specs.Queue.{Queue}
 use Rattle.search_spec.specs.Each.{Each}
-use Rattle.search_spec.specs.Mode.{Mode}
+use Rattle.mode_file.specs.declared.Mode.{Mode}
 use Rattle.search_spec.specs.Terms.{terms_of, ranges_over, universals, with_term}
 use Rattle.search_spec.specs.State.{State, Typed, inst, with_commands}
 use Rattle.search_spec.specs.Internal.Loops.{queue_of}

@@ -1,22 +1,8 @@
 -- How long commands wait.
 use Rattle.std.specs.Prelude.{ℕ}
 use Rattle.mode_file.specs.declared.Mode.{Mode}
-use Rattle.search_spec.specs.Mode.{Mode as Delays}
 use Rattle.prover_state.specs.declared.command.Command.{Command}
 use Rattle.prover_state.specs.declared.command.Command.TheVariants.{Process, Mate, Confront, Inst, Grow, Choose, Describe}
-
--- the mode of the definitions
-abbrev pub the_mode : Mode → Delays
-the_mode m = record {
-  process = m.process;
-  mate = m.mate;
-  confront = m.confront;
-  inst = m.inst;
-  choose = m.choose;
-  grow = m.grow;
-  commands = m.commands;
-  conflicts = m.conflicts;
-}
 
 abbrev pub delay_by : Mode → Command → ℕ
 delay_by mode (Process l) = mode.process

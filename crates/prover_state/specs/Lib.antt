@@ -1,2 +1,35 @@
+pub use Rattle.command_queue.specs.Queue
+pub use Rattle.instantiate.specs.Listing
+pub use Rattle.literal_map.specs.Atoms
+pub use Rattle.mating_rules.specs.Noted
+pub use Rattle.sat_core.specs.Solver
+pub use Rattle.sat_log.specs.Propagation
+pub use Rattle.search_spec.specs.After
+pub use Rattle.search_spec.specs.Clauses
+pub use Rattle.search_spec.specs.Closed
+pub use Rattle.search_spec.specs.Each
+pub use Rattle.search_spec.specs.Heads
+pub use Rattle.search_spec.specs.Instances
+pub use Rattle.search_spec.specs.Numbered
+pub use Rattle.search_spec.specs.Partial
+pub use Rattle.search_spec.specs.Partners
+pub use Rattle.search_spec.specs.Selections
+pub use Rattle.search_spec.specs.Shallow
+pub use Rattle.search_spec.specs.Spine
+pub use Rattle.search_spec.specs.State
+pub use Rattle.search_spec.specs.Terms as SearchSpecTerms
+pub use Rattle.search_spec.specs.Unsatisfiable
+pub use Rattle.stt_core.specs.Lambda
+pub use Rattle.stt_core.specs.SimpleType
+pub use Rattle.stt_core.specs.Typing
+pub use Rattle.stt_core.specs.View
+pub use Rattle.tableau_calculus.specs.Kinds
+pub use Rattle.tableau_calculus.specs.Literals
+pub use Rattle.tableau_calculus.specs.Witnesses
+pub use Rattle.tableau_clauses.specs.Table
+pub use Rattle.tableau_rules.specs.Uses
+pub use Rattle.term_bank.specs.Content
+pub use Rattle.term_bank.specs.Terms as TermBankTerms
+pub use Rattle.witness_names.specs.Rows
 pub mod Delays
 pub mod Internal

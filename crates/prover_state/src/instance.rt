@@ -3,7 +3,6 @@ ghost use Rattle.std.specs.Prelude.{◌≡◌, map, OnOk};
 ghost use Rattle.literal_map.specs.Atoms.{bank_literal};
 ghost use Rattle.search_spec.specs.Each.{Each};
 ghost use Rattle.search_spec.specs.Instances.{with_instance};
-ghost use Rattle.prover_state.specs.Delays.{the_mode};
 ghost use Rattle.prover_state.specs.Internal.Names.{IsNumberIn};
 ghost use Rattle.prover_state.specs.Internal.Standing.{the_state, IsRightState};
 ghost use Rattle.prover_state.specs.Internal.Steps.{StepsGrow};
@@ -23,7 +22,7 @@ impl<W: Weigher<Waiting>> Core<W> {
         requires right { IsRightState self.old.tables self.old.plan }
         requires principals { Each (IsNumberIn self.old.tables.basis.lits) instance.principals }
         requires alternatives { Each (Each (IsNumberIn self.old.tables.basis.lits)) instance.alternatives }
-        ensures state { OnOk result (let d = bank_literal self.old.tables.basis.bank.terms self.old.tables.basis.lits in the_state self.new.tables self.new.plan ≡ with_instance (the_mode self.old.plan.rule.mode) (map d instance.principals) (map (map d) instance.alternatives) (the_state self.old.tables self.old.plan)) }
+        ensures state { OnOk result (let d = bank_literal self.old.tables.basis.bank.terms self.old.tables.basis.lits in the_state self.new.tables self.new.plan ≡ with_instance self.old.plan.rule.mode (map d instance.principals) (map (map d) instance.alternatives) (the_state self.old.tables self.old.plan)) }
         ensures right { OnOk result (IsRightState self.new.tables self.new.plan) }
         ensures tables { OnOk result (self.new.tables ≡ record self.old.tables { seen = self.new.tables.seen; steps = self.new.tables.steps; solver = self.new.tables.solver }) }
         ensures steps { OnOk result (StepsGrow (λ i. i ≡ instance) self.old.tables.steps self.new.tables.steps) }

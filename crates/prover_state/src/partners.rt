@@ -5,7 +5,6 @@ ghost use Rattle.search_spec.specs.Partners.{matings, confrontations};
 ghost use Rattle.search_spec.specs.Spine.{is_spine};
 ghost use Rattle.search_spec.specs.State.{inst, with_commands};
 ghost use Rattle.search_spec.specs.Terms.{terms_of};
-ghost use Rattle.prover_state.specs.Delays.{the_mode};
 ghost use Rattle.prover_state.specs.Internal.Names.{IsNumberIn};
 ghost use Rattle.prover_state.specs.Internal.Pending.{equation_type, range_of};
 ghost use Rattle.prover_state.specs.Internal.Shapes.{IsBaseEquation, IsQuantifiedFormula};
@@ -27,7 +26,7 @@ impl<W: Weigher<Waiting>> Core<W> {
         requires right { IsRightState self.old.tables self.old.plan }
         requires number { IsNumberIn self.old.tables.basis.lits lit }
         requires spine { is_spine (bank_atom self.old.tables.basis.bank.terms self.old.tables.basis.lits lit.var.0) ≡ true }
-        ensures state { OnOk result (let s = the_state self.old.tables self.old.plan in the_state self.new.tables self.new.plan ≡ with_commands (the_mode self.old.plan.rule.mode) (matings (bank_literal self.old.tables.basis.bank.terms self.old.tables.basis.lits lit) s.noted) s) }
+        ensures state { OnOk result (let s = the_state self.old.tables self.old.plan in the_state self.new.tables self.new.plan ≡ with_commands self.old.plan.rule.mode (matings (bank_literal self.old.tables.basis.bank.terms self.old.tables.basis.lits lit) s.noted) s) }
         ensures right { OnOk result (IsRightState self.new.tables self.new.plan) }
         ensures tables { self.new.tables ≡ self.old.tables }
         ensures rule { OnOk result (self.new.plan.rule ≡ self.old.plan.rule) }
@@ -50,7 +49,7 @@ impl<W: Weigher<Waiting>> Core<W> {
         requires right { IsRightState self.old.tables self.old.plan }
         requires number { IsNumberIn self.old.tables.basis.lits lit }
         requires equation { IsBaseEquation (bank_atom self.old.tables.basis.bank.terms self.old.tables.basis.lits lit.var.0) }
-        ensures state { OnOk result (let s = the_state self.old.tables self.old.plan in let l = bank_literal self.old.tables.basis.bank.terms self.old.tables.basis.lits lit in the_state self.new.tables self.new.plan ≡ with_commands (the_mode self.old.plan.rule.mode) (confrontations (equation_type l.atom) l s.noted) s) }
+        ensures state { OnOk result (let s = the_state self.old.tables self.old.plan in let l = bank_literal self.old.tables.basis.bank.terms self.old.tables.basis.lits lit in the_state self.new.tables self.new.plan ≡ with_commands self.old.plan.rule.mode (confrontations (equation_type l.atom) l s.noted) s) }
         ensures right { OnOk result (IsRightState self.new.tables self.new.plan) }
         ensures tables { self.new.tables ≡ self.old.tables }
         ensures rule { OnOk result (self.new.plan.rule ≡ self.old.plan.rule) }
@@ -72,7 +71,7 @@ impl<W: Weigher<Waiting>> Core<W> {
         requires right { IsRightState self.old.tables self.old.plan }
         requires number { IsNumberIn self.old.tables.basis.lits lit }
         requires quantified { IsQuantifiedFormula (bank_atom self.old.tables.basis.bank.terms self.old.tables.basis.lits lit.var.0) }
-        ensures state { OnOk result (let s = the_state self.old.tables self.old.plan in let l = bank_literal self.old.tables.basis.bank.terms self.old.tables.basis.lits lit in the_state self.new.tables self.new.plan ≡ with_commands (the_mode self.old.plan.rule.mode) (map (inst l) (terms_of (range_of l.atom) s)) s) }
+        ensures state { OnOk result (let s = the_state self.old.tables self.old.plan in let l = bank_literal self.old.tables.basis.bank.terms self.old.tables.basis.lits lit in the_state self.new.tables self.new.plan ≡ with_commands self.old.plan.rule.mode (map (inst l) (terms_of (range_of l.atom) s)) s) }
         ensures right { OnOk result (IsRightState self.new.tables self.new.plan) }
         ensures tables { self.new.tables ≡ self.old.tables }
         ensures rule { OnOk result (self.new.plan.rule ≡ self.old.plan.rule) }

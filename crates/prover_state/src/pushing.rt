@@ -4,7 +4,6 @@ ghost use Rattle.literal_map.specs.Atoms.{bank_literal};
 ghost use Rattle.search_spec.specs.Each.{Each};
 ghost use Rattle.search_spec.specs.Instances.{with_literal, with_literals};
 ghost use Rattle.search_spec.specs.State.{with_commands};
-ghost use Rattle.prover_state.specs.Delays.{the_mode};
 ghost use Rattle.prover_state.specs.Internal.Names.{command_at, IsNumberedCommand, IsNumberIn};
 ghost use Rattle.prover_state.specs.Internal.Pending.{loop_over, later_of, BeginsWith, HasWitnesses, IsSigned, IsEntry};
 ghost use Rattle.prover_state.specs.Internal.Standing.{without_witnesses, naming_in, sources, the_state, IsRightState};
@@ -23,7 +22,7 @@ impl<W: Weigher<Waiting>> Core<W> {
     pub fn push_loop(&mut self, planned: Planned) -> Result<(), AllocError>
         requires right { IsRightState self.old.tables self.old.plan }
         requires entry { IsEntry (without_witnesses self.old.tables.basis.bank) (naming_in self.old.tables) (sources self.old.tables) planned }
-        ensures state { OnOk result (let first = command_at (naming_in self.old.tables) planned.first in the_state self.new.tables self.new.plan ≡ with_commands (the_mode self.old.plan.rule.mode) (first ∷ later_of (without_witnesses self.old.tables.basis.bank) (sources self.old.tables) first planned.rest) (the_state self.old.tables self.old.plan)) }
+        ensures state { OnOk result (let first = command_at (naming_in self.old.tables) planned.first in the_state self.new.tables self.new.plan ≡ with_commands self.old.plan.rule.mode (first ∷ later_of (without_witnesses self.old.tables.basis.bank) (sources self.old.tables) first planned.rest) (the_state self.old.tables self.old.plan)) }
         ensures right { OnOk result (IsRightState self.new.tables self.new.plan) }
         ensures tables { self.new.tables ≡ self.old.tables }
         ensures rule { OnOk result (self.new.plan.rule ≡ self.old.plan.rule) }
@@ -36,7 +35,7 @@ impl<W: Weigher<Waiting>> Core<W> {
     pub fn push_alone(&mut self, command: Command) -> Result<(), AllocError>
         requires right { IsRightState self.old.tables self.old.plan }
         requires numbers { IsNumberedCommand (naming_in self.old.tables) command }
-        ensures state { OnOk result (the_state self.new.tables self.new.plan ≡ with_commands (the_mode self.old.plan.rule.mode) (command_at (naming_in self.old.tables) command ∷ []) (the_state self.old.tables self.old.plan)) }
+        ensures state { OnOk result (the_state self.new.tables self.new.plan ≡ with_commands self.old.plan.rule.mode (command_at (naming_in self.old.tables) command ∷ []) (the_state self.old.tables self.old.plan)) }
         ensures right { OnOk result (IsRightState self.new.tables self.new.plan) }
         ensures tables { self.new.tables ≡ self.old.tables }
         ensures rule { OnOk result (self.new.plan.rule ≡ self.old.plan.rule) }
@@ -56,7 +55,7 @@ impl<W: Weigher<Waiting>> Core<W> {
         requires count { count ≡ length (loop_over (without_witnesses self.old.tables.basis.bank) (sources self.old.tables) over (command_at (naming_in self.old.tables) first)) }
         requires witnesses { HasWitnesses (sources self.old.tables) over }
         requires signed { IsSigned over (command_at (naming_in self.old.tables) first) }
-        ensures state { OnOk result (the_state self.new.tables self.new.plan ≡ with_commands (the_mode self.old.plan.rule.mode) (loop_over (without_witnesses self.old.tables.basis.bank) (sources self.old.tables) over (command_at (naming_in self.old.tables) first)) (the_state self.old.tables self.old.plan)) }
+        ensures state { OnOk result (the_state self.new.tables self.new.plan ≡ with_commands self.old.plan.rule.mode (loop_over (without_witnesses self.old.tables.basis.bank) (sources self.old.tables) over (command_at (naming_in self.old.tables) first)) (the_state self.old.tables self.old.plan)) }
         ensures right { OnOk result (IsRightState self.new.tables self.new.plan) }
         ensures tables { self.new.tables ≡ self.old.tables }
         ensures rule { OnOk result (self.new.plan.rule ≡ self.old.plan.rule) }
@@ -70,7 +69,7 @@ impl<W: Weigher<Waiting>> Core<W> {
     pub fn see(&mut self, lit: SatLit) -> Result<(), AllocError>
         requires right { IsRightState self.old.tables self.old.plan }
         requires number { IsNumberIn self.old.tables.basis.lits lit }
-        ensures state { OnOk result (the_state self.new.tables self.new.plan ≡ with_literal (the_mode self.old.plan.rule.mode) (bank_literal self.old.tables.basis.bank.terms self.old.tables.basis.lits lit) (the_state self.old.tables self.old.plan)) }
+        ensures state { OnOk result (the_state self.new.tables self.new.plan ≡ with_literal self.old.plan.rule.mode (bank_literal self.old.tables.basis.bank.terms self.old.tables.basis.lits lit) (the_state self.old.tables self.old.plan)) }
         ensures right { OnOk result (IsRightState self.new.tables self.new.plan) }
         ensures tables { OnOk result (self.new.tables ≡ record self.old.tables { seen = self.new.tables.seen }) }
         ensures rule { OnOk result (self.new.plan.rule ≡ self.old.plan.rule) }
@@ -88,7 +87,7 @@ impl<W: Weigher<Waiting>> Core<W> {
     pub fn see_all(&mut self, lits: &[SatLit]) -> Result<(), AllocError>
         requires right { IsRightState self.old.tables self.old.plan }
         requires numbers { Each (IsNumberIn self.old.tables.basis.lits) lits.now }
-        ensures state { OnOk result (the_state self.new.tables self.new.plan ≡ with_literals (the_mode self.old.plan.rule.mode) (map (bank_literal self.old.tables.basis.bank.terms self.old.tables.basis.lits) lits.now) (the_state self.old.tables self.old.plan)) }
+        ensures state { OnOk result (the_state self.new.tables self.new.plan ≡ with_literals self.old.plan.rule.mode (map (bank_literal self.old.tables.basis.bank.terms self.old.tables.basis.lits) lits.now) (the_state self.old.tables self.old.plan)) }
         ensures right { OnOk result (IsRightState self.new.tables self.new.plan) }
         ensures tables { OnOk result (self.new.tables ≡ record self.old.tables { seen = self.new.tables.seen }) }
         ensures rule { OnOk result (self.new.plan.rule ≡ self.old.plan.rule) }

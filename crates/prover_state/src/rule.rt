@@ -7,7 +7,6 @@ ghost use Rattle.literal_map.specs.Atoms.{bank_literal};
 ghost use Rattle.literal_map.specs.declared.instance.RuleKind.TheVariants.{AllNeg as MakesWitness};
 ghost use Rattle.tableau_rules.specs.Uses.{principals_of, IsInstanceBy};
 ghost use Rattle.search_spec.specs.Instances.{with_instance};
-ghost use Rattle.prover_state.specs.Delays.{the_mode};
 ghost use Rattle.prover_state.specs.Internal.Growing.{BasisGrows};
 ghost use Rattle.prover_state.specs.Internal.Names.{IsNumberIn, IsPlace};
 ghost use Rattle.prover_state.specs.Internal.Standing.{rows_in, the_state, IsBasis, IsRightState};
@@ -70,7 +69,7 @@ impl<W: Weigher<Waiting>> Core<W> {
         requires kind { by.kind ≢ MakesWitness }
         requires fits { (alternatives : List (List Literal)) × IsInstanceBy self.old.tables.basis.bank self.old.tables.basis.lits (rows_in self.old.tables.basis) by alternatives }
         ensures state { OnOk result ((alternatives : List (List Literal)) → IsInstanceBy self.old.tables.basis.bank self.old.tables.basis.lits (rows_in self.old.tables.basis) by alternatives
-            → the_state self.new.tables self.new.plan ≡ with_instance (the_mode self.old.plan.rule.mode) (map (bank_literal self.old.tables.basis.bank.terms self.old.tables.basis.lits) (principals_of by)) alternatives (the_state self.old.tables self.old.plan)) }
+            → the_state self.new.tables self.new.plan ≡ with_instance self.old.plan.rule.mode (map (bank_literal self.old.tables.basis.bank.terms self.old.tables.basis.lits) (principals_of by)) alternatives (the_state self.old.tables self.old.plan)) }
         ensures right { OnOk result (IsRightState self.new.tables self.new.plan) }
         ensures basis { OnOk result (BasisGrows self.old.tables.basis self.new.tables.basis) }
         ensures steps { OnOk result (StepsGrow (IsMadeInstance self.new.tables.basis) self.old.tables.steps self.new.tables.steps) }

@@ -3,7 +3,6 @@ ghost use Rattle.std.specs.Prelude.{◌≡◌, OnOk};
 ghost use Rattle.term_bank.specs.Terms.{term_at};
 ghost use Rattle.literal_map.specs.Atoms.{bank_atom};
 ghost use Rattle.search_spec.specs.Selections.{selections_in, with_selections};
-ghost use Rattle.prover_state.specs.Delays.{the_mode};
 ghost use Rattle.prover_state.specs.Internal.Names.{IsNumberIn, IsPlace};
 ghost use Rattle.prover_state.specs.Internal.Selecting.{head_selection, AreTaken};
 ghost use Rattle.prover_state.specs.Internal.Standing.{the_state, IsRightState};
@@ -23,7 +22,7 @@ impl<W: Weigher<Waiting>> Core<W> {
     fn select_head(&mut self, id: Id) -> Result<(), AllocError>
         requires right { IsRightState self.old.tables self.old.plan }
         requires place { IsPlace self.old.tables.basis.bank.terms id }
-        ensures state { OnOk result (the_state self.new.tables self.new.plan ≡ with_selections (the_mode self.old.plan.rule.mode) (head_selection (term_at self.old.tables.basis.bank.terms id)) (the_state self.old.tables self.old.plan)) }
+        ensures state { OnOk result (the_state self.new.tables self.new.plan ≡ with_selections self.old.plan.rule.mode (head_selection (term_at self.old.tables.basis.bank.terms id)) (the_state self.old.tables self.old.plan)) }
         ensures right { OnOk result (IsRightState self.new.tables self.new.plan) }
         ensures tables { OnOk result (self.new.tables ≡ record self.old.tables { chosen = self.new.tables.chosen; described = self.new.tables.described }) }
         ensures rule { OnOk result (self.new.plan.rule ≡ self.old.plan.rule) }
@@ -42,7 +41,7 @@ impl<W: Weigher<Waiting>> Core<W> {
         requires right { IsRightState self.old.tables self.old.plan }
         requires place { IsPlace self.old.tables.basis.bank.terms id }
         requires taken { AreTaken (the_state self.old.tables self.old.plan) self.old.tables.basis.bank.terms walked.old }
-        ensures state { OnOk result (the_state self.new.tables self.new.plan ≡ with_selections (the_mode self.old.plan.rule.mode) (selections_in (term_at self.old.tables.basis.bank.terms id)) (the_state self.old.tables self.old.plan)) }
+        ensures state { OnOk result (the_state self.new.tables self.new.plan ≡ with_selections self.old.plan.rule.mode (selections_in (term_at self.old.tables.basis.bank.terms id)) (the_state self.old.tables self.old.plan)) }
         ensures taken { OnOk result (AreTaken (the_state self.new.tables self.new.plan) self.old.tables.basis.bank.terms walked.new) }
         ensures right { OnOk result (IsRightState self.new.tables self.new.plan) }
         ensures tables { OnOk result (self.new.tables ≡ record self.old.tables { chosen = self.new.tables.chosen; described = self.new.tables.described }) }
@@ -68,7 +67,7 @@ impl<W: Weigher<Waiting>> Core<W> {
     pub fn select(&mut self, lit: SatLit) -> Result<(), AllocError>
         requires right { IsRightState self.old.tables self.old.plan }
         requires number { IsNumberIn self.old.tables.basis.lits lit }
-        ensures state { OnOk result (the_state self.new.tables self.new.plan ≡ with_selections (the_mode self.old.plan.rule.mode) (selections_in (bank_atom self.old.tables.basis.bank.terms self.old.tables.basis.lits lit.var.0)) (the_state self.old.tables self.old.plan)) }
+        ensures state { OnOk result (the_state self.new.tables self.new.plan ≡ with_selections self.old.plan.rule.mode (selections_in (bank_atom self.old.tables.basis.bank.terms self.old.tables.basis.lits lit.var.0)) (the_state self.old.tables self.old.plan)) }
         ensures right { OnOk result (IsRightState self.new.tables self.new.plan) }
         ensures tables { OnOk result (self.new.tables ≡ record self.old.tables { chosen = self.new.tables.chosen; described = self.new.tables.described }) }
         ensures rule { OnOk result (self.new.plan.rule ≡ self.old.plan.rule) }

@@ -3,7 +3,6 @@ ghost use Rattle.std.specs.Prelude.{◌≡◌, OnOk};
 ghost use Rattle.term_bank.specs.Terms.{term_at};
 ghost use Rattle.witness_names.specs.Rows.{binder_of};
 ghost use Rattle.search_spec.specs.Selections.{with_selection, by_choice, by_description};
-ghost use Rattle.prover_state.specs.Delays.{the_mode};
 ghost use Rattle.prover_state.specs.Internal.Names.{IsPlace};
 ghost use Rattle.prover_state.specs.Internal.Standing.{the_state, IsRightState};
 
@@ -19,7 +18,7 @@ impl<W: Weigher<Waiting>> Core<W> {
     pub fn choose(&mut self, predicate: Id) -> Result<(), AllocError>
         requires right { IsRightState self.old.tables self.old.plan }
         requires place { IsPlace self.old.tables.basis.bank.terms predicate }
-        ensures state { OnOk result (let f = term_at self.old.tables.basis.bank.terms predicate in the_state self.new.tables self.new.plan ≡ with_selection (the_mode self.old.plan.rule.mode) (by_choice (binder_of f) f) (the_state self.old.tables self.old.plan)) }
+        ensures state { OnOk result (let f = term_at self.old.tables.basis.bank.terms predicate in the_state self.new.tables self.new.plan ≡ with_selection self.old.plan.rule.mode (by_choice (binder_of f) f) (the_state self.old.tables self.old.plan)) }
         ensures right { OnOk result (IsRightState self.new.tables self.new.plan) }
         ensures tables { OnOk result (self.new.tables ≡ record self.old.tables { chosen = self.new.tables.chosen }) }
         ensures rule { OnOk result (self.new.plan.rule ≡ self.old.plan.rule) }
@@ -36,7 +35,7 @@ impl<W: Weigher<Waiting>> Core<W> {
     pub fn describe(&mut self, predicate: Id) -> Result<(), AllocError>
         requires right { IsRightState self.old.tables self.old.plan }
         requires place { IsPlace self.old.tables.basis.bank.terms predicate }
-        ensures state { OnOk result (let f = term_at self.old.tables.basis.bank.terms predicate in the_state self.new.tables self.new.plan ≡ with_selection (the_mode self.old.plan.rule.mode) (by_description (binder_of f) f) (the_state self.old.tables self.old.plan)) }
+        ensures state { OnOk result (let f = term_at self.old.tables.basis.bank.terms predicate in the_state self.new.tables self.new.plan ≡ with_selection self.old.plan.rule.mode (by_description (binder_of f) f) (the_state self.old.tables self.old.plan)) }
         ensures right { OnOk result (IsRightState self.new.tables self.new.plan) }
         ensures tables { OnOk result (self.new.tables ≡ record self.old.tables { described = self.new.tables.described }) }
         ensures rule { OnOk result (self.new.plan.rule ≡ self.old.plan.rule) }

@@ -3,7 +3,6 @@ ghost use Rattle.std.specs.Prelude.{◌≡◌, OnOk};
 ghost use Rattle.stt_core.specs.View.{the_type};
 ghost use Rattle.term_bank.specs.Terms.{term_at};
 ghost use Rattle.search_spec.specs.Terms.{with_term};
-ghost use Rattle.prover_state.specs.Delays.{the_mode};
 ghost use Rattle.prover_state.specs.Internal.Names.{IsPlace};
 ghost use Rattle.prover_state.specs.Internal.Standing.{the_state, IsRightState};
 
@@ -22,7 +21,7 @@ impl<W: Weigher<Waiting>> Core<W> {
     pub fn add_term(&mut self, ty: &Ty, id: Id) -> Result<(), AllocError>
         requires right { IsRightState self.old.tables self.old.plan }
         requires place { IsPlace self.old.tables.basis.bank.terms id }
-        ensures state { OnOk result (the_state self.new.tables self.new.plan ≡ with_term (the_mode self.old.plan.rule.mode) (the_type ty.now) (term_at self.old.tables.basis.bank.terms id) (the_state self.old.tables self.old.plan)) }
+        ensures state { OnOk result (the_state self.new.tables self.new.plan ≡ with_term self.old.plan.rule.mode (the_type ty.now) (term_at self.old.tables.basis.bank.terms id) (the_state self.old.tables self.old.plan)) }
         ensures right { OnOk result (IsRightState self.new.tables self.new.plan) }
         ensures tables { OnOk result (self.new.tables ≡ record self.old.tables { terms = self.new.tables.terms }) }
         ensures rule { OnOk result (self.new.plan.rule ≡ self.old.plan.rule) }

@@ -1,1 +1,13 @@
+pub use Rattle.delta_defs.specs.Unfolding
+pub use Rattle.search_spec.specs.After
+pub use Rattle.search_spec.specs.State
+pub use Rattle.stt_core.specs.Declarations
+pub use Rattle.stt_core.specs.PlainProblem
+pub use Rattle.tableau_calculus.specs.Start
+pub use Rattle.thf_grammar.specs.Trees
+pub use Rattle.thf_include.specs.Gathering
+pub use Rattle.thf_include.specs.View
+pub use Rattle.type_bound.specs.Modest
+pub use Rattle.type_bound.specs.Small
+pub use Rattle.type_check.specs.Statements
 pub mod Read

@@ -4,7 +4,7 @@ use Rattle.stt_core.specs.PlainProblem.{PlainProblem}
 use Rattle.stt_core.specs.Declarations.{scope_of}
 use Rattle.delta_defs.specs.Unfolding.{unfolded_problem}
 use Rattle.tableau_calculus.specs.Start.{start}
-use Rattle.search_spec.specs.Mode.{Mode}
+use Rattle.mode_file.specs.declared.Mode.{Mode}
 use Rattle.search_spec.specs.State.{State}
 use Rattle.search_spec.specs.After.{state_after}
 use Rattle.thf_grammar.specs.Trees.{TypeTree, form, indiv, named, arrow, VarTree, FormulaTree, constant, variable, truth, operator, negation, binary, equation, application, quantified, binding, BodyTree, base, typing, formula, StatementTree, annotated, include}

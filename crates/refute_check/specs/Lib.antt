@@ -1,3 +1,30 @@
+pub use Rattle.delta_defs.specs.Unfolding
+pub use Rattle.refute_print.specs.LineView
+pub use Rattle.refute_print.specs.Named
+pub use Rattle.refute_print.specs.TextView
+pub use Rattle.refute_print.specs.TreeView
+pub use Rattle.refute_print.specs.Trees
+pub use Rattle.refute_print.specs.View as RefutePrintView
+pub use Rattle.search_spec.specs.Each
+pub use Rattle.stt_core.specs.Canonical
+pub use Rattle.stt_core.specs.Declarations
+pub use Rattle.stt_core.specs.Lambda
+pub use Rattle.stt_core.specs.Meaning
+pub use Rattle.stt_core.specs.Meets
+pub use Rattle.stt_core.specs.PlainProblem
+pub use Rattle.stt_core.specs.ScopeView
+pub use Rattle.stt_core.specs.SimpleType
+pub use Rattle.stt_core.specs.TypedProblem
+pub use Rattle.stt_core.specs.Typing
+pub use Rattle.stt_core.specs.View as SttCoreView
+pub use Rattle.tableau_calculus.specs.Accepted
+pub use Rattle.tableau_calculus.specs.Kinds
+pub use Rattle.tableau_calculus.specs.Literals
+pub use Rattle.tableau_calculus.specs.Refused
+pub use Rattle.tableau_calculus.specs.Start
+pub use Rattle.tableau_calculus.specs.Witnesses
+pub use Rattle.term_bank.specs.Terms
+pub use Rattle.witness_names.specs.Rows
 pub mod Numbered
 pub mod Refusal
 pub mod Acceptance

@@ -28,10 +28,10 @@ use crate::refusal::CheckRefused;
 use crate::seen::Seen;
 use crate::shared::Shared;
 use delta_defs::unfold_problem;
+use refute_print::RefutationText;
 use std::alloc::{AllocError, Global};
 use stt_core::{Problem, Signature};
 use tableau_calculus::{PlainRefused, Why};
-use refute_print::RefutationText;
 
 /// Declares the witnesses of the text's rows, where these are a witness table.
 fn check_rows(

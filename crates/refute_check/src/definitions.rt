@@ -11,10 +11,10 @@ ghost use Rattle.refute_check.specs.Refusal.{IfLine};
 
 use crate::refusal::CheckRefused;
 use delta_defs::{NameIds, taken};
+use refute_print::{RefutationText, TextNames};
 use std::alloc::Global;
 use stt_core::{Problem, Signature};
 use tableau_calculus::Why;
-use refute_print::{RefutationText, TextNames};
 
 /// The name of the constant at a place of the list.
 fn taken_name<'a>(sig: &'a Signature, taken: &NameIds, i: usize) -> &'a [u8]

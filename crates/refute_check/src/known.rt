@@ -12,10 +12,10 @@ use crate::numbering::Numbering;
 use crate::seen::Seen;
 use crate::shared::Shared;
 use literal_map::LitList;
+use refute_print::TextLits;
 use sat_base::SatLit;
 use std::alloc::{AllocError, Global};
 use term_bank::equal_ids_for_equal_terms;
-use refute_print::TextLits;
 
 /// The literal at a place of the list.
 pub(crate) fn literal_at(list: &LitList, i: usize) -> Option<SatLit>

@@ -18,9 +18,9 @@ use crate::numbering::Numbering;
 use crate::seen::Seen;
 use crate::shared::Shared;
 use crate::taking::Taking;
+use refute_print::TextLine;
 use std::alloc::{AllocError, Global};
 use tableau_calculus::Why;
-use refute_print::TextLine;
 
 /// The branches of the lines that are right.
 #[derive(Drop)]

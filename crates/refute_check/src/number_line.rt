@@ -8,10 +8,10 @@ ghost use Rattle.witness_names.specs.Rows.{binder_of as type_of_argument};
 
 use crate::number_term::number_term;
 use crate::numbering::Numbering;
+use refute_print::{TextLit, TextTerm};
 use std::alloc::{AllocError, Global};
 use stt_core::{Nf, Ty};
 use tableau_calculus::{Lit, Shape, WitnessRow, shape_of};
-use refute_print::{TextLit, TextTerm};
 
 /// The type of a function's argument, or else that of formulas.
 fn argument_type(alloc: Global, nf: &Nf) -> Result<Ty, AllocError>

@@ -8,9 +8,9 @@ ghost use Rattle.refute_print.specs.TreeView.{the_text_head};
 ghost use Rattle.refute_check.specs.Numbered.{numbered_type, numbered_term};
 
 use crate::numbering::Numbering;
+use refute_print::{TextHead, TextNode, TextTerm, TextTerms, TextTy};
 use std::alloc::{AllocError, Global};
 use stt_core::{Head, Nf, Nfs, Ty, Types};
-use refute_print::{TextHead, TextNode, TextTerm, TextTerms, TextTy};
 
 /// The number in 32 bits. A list of more names than these can count is taken as one that doesn't fit in memory.
 fn fitting(n: usize) -> Result<u32, AllocError>

@@ -14,11 +14,11 @@ ghost use Rattle.refute_check.specs.Internal.Shared.{declared_in, shared_atoms, 
 use crate::number_line::number_row;
 use crate::numbering::Numbering;
 use crate::shared::Shared;
+use refute_print::TextTerm;
 use std::alloc::{AllocError, Global};
 use stt_core::Ty;
 use tableau_calculus::{Why, WitnessRow, is_typed_row};
 use term_bank::{Id, equal_ids_for_equal_terms};
-use refute_print::TextTerm;
 
 impl Shared {
     fn is_row(&self, alloc: Global, row: &WitnessRow) -> Result<bool, AllocError>

@@ -10,9 +10,9 @@ ghost use Rattle.refute_print.specs.Named.{Names};
 use crate::numbering::Numbering;
 use crate::same::same_literal;
 use crate::shared::Shared;
+use refute_print::TextLit;
 use sat_base::SatLit;
 use std::alloc::{AllocError, Global};
-use refute_print::TextLit;
 
 /// A literal with its number.
 #[derive(Clone, Copy, Drop)]

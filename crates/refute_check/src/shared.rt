@@ -15,13 +15,13 @@ use crate::number_term::number_term;
 use crate::numbering::Numbering;
 use bank_normal::Normaliser;
 use literal_map::LitTable;
+use refute_print::{TextLit, TextTerm};
 use sat_base::SatLit;
 use std::alloc::{AllocError, Global};
 use stt_core::{Nf, Signature, Ty, Types, type_of_closed};
 use tableau_calculus::{Lit, is_typed_literal};
 use term_bank::{Bank, Id};
 use witness_names::Witnesses;
-use refute_print::{TextLit, TextTerm};
 
 /// A bank, with numbers for atoms and for the predicates of witnesses. The types of the witnesses stand in a list of their own too.
 #[derive(Drop)]

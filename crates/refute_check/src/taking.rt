@@ -14,8 +14,8 @@ use crate::known::literal_at;
 use crate::numbering::Numbering;
 use crate::shared::Shared;
 use literal_map::{BankUse, LitList, RuleKind};
-use std::alloc::{AllocError, Global};
 use refute_print::{TextLit, TextRule, TextTerm};
+use std::alloc::{AllocError, Global};
 
 /// What a rule takes, where that is typed and its principals stand at its places.
 #[derive(Clone, Copy)]

@@ -1,3 +1,15 @@
+pub use Rattle.outside.specs.Causes
+pub use Rattle.outside.specs.Prefix
+pub use Rattle.outside.specs.Writing
+pub use Rattle.stt_core.specs.Depth
+pub use Rattle.stt_core.specs.Lambda
+pub use Rattle.stt_core.specs.SimpleType
+pub use Rattle.stt_core.specs.TypedName
+pub use Rattle.stt_core.specs.View as SttCoreView
+pub use Rattle.tableau_calculus.specs.Literals
+pub use Rattle.tableau_calculus.specs.Witnesses
+pub use Rattle.thf_grammar.specs.Printable
+pub use Rattle.thf_names.specs.Names
 pub mod Letters
 pub mod Trees
 pub mod Text

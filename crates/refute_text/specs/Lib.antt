@@ -1,3 +1,16 @@
+pub use Rattle.outside.specs.Decimal
+pub use Rattle.outside.specs.Fronts
+pub use Rattle.outside.specs.Lines
+pub use Rattle.refute_print.specs.Letters
+pub use Rattle.refute_print.specs.Limits
+pub use Rattle.refute_print.specs.LineView
+pub use Rattle.refute_print.specs.Text
+pub use Rattle.refute_print.specs.TextView
+pub use Rattle.refute_print.specs.TreeView
+pub use Rattle.refute_print.specs.Trees
+pub use Rattle.refute_print.specs.View
+pub use Rattle.thf_grammar.specs.Bytes
+pub use Rattle.thf_grammar.specs.Printable
 pub mod Reading
 pub mod Answered
 pub mod Internal

@@ -11,9 +11,9 @@ ghost use Rattle.refute_text.specs.Internal.Refusals.{IsReaderRefusal, AppendsRe
 use crate::read_rule::read_literal;
 use crate::refusal::Refusal;
 use indexmap::IndexSet;
+use refute_print::{TextLit, TextLits};
 use std::alloc::{AllocError, Global};
 use std::marker::Model;
-use refute_print::{TextLit, TextLits};
 
 /// A front of bytes, and what follows it.
 #[derive(Drop)]

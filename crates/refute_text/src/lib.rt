@@ -14,8 +14,8 @@ mod text;
 
 pub use law::{one_reading, one_refutation, texts_read_back};
 pub use refusal::TextRefused;
-pub use text::read_text;
 pub use refute_print::{
     RefutationText, TextHead, TextLine, TextLines, TextLit, TextLits, TextNames, TextNode,
     TextRule, TextTerm, TextTerms, TextTy, write_text,
 };
+pub use text::read_text;

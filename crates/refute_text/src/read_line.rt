@@ -14,9 +14,9 @@ use crate::read_term::{index, read_term};
 use crate::read_type::expect;
 use crate::refusal::Refusal;
 use outside::Bytes;
+use refute_print::{TextLine, TextLits, TextRule, TextTerm};
 use std::alloc::Global;
 use tableau_calculus::{Child, Children};
-use refute_print::{TextLine, TextLits, TextRule, TextTerm};
 
 /// Literals, and what follows them.
 #[derive(Drop)]

@@ -13,8 +13,8 @@ use crate::read_name::{behind, number};
 use crate::read_term::read_term;
 use crate::read_type::expect;
 use crate::refusal::Refusal;
-use std::alloc::Global;
 use refute_print::{TextHead, TextLit, TextNode, TextRule, TextTerm};
+use std::alloc::Global;
 
 /// How many parentheses, brackets and functions of types and terms may be open at once.
 pub(crate) const DEPTH: u32 = 8192;

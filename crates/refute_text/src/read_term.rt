@@ -11,8 +11,8 @@ ghost use Rattle.refute_print.specs.TreeView.{the_text_head};
 use crate::read_name::{behind, name, number};
 use crate::read_type::{TypeRead, expect, read_type};
 use crate::refusal::Refusal;
-use std::alloc::Global;
 use refute_print::{TextHead, TextNode, TextTerm, TextTerms};
+use std::alloc::Global;
 
 /// A number below 2^32, and what follows it.
 #[derive(Drop)]

@@ -7,8 +7,8 @@ ghost use Rattle.refute_print.specs.View.{the_text_type};
 
 use crate::read_name::{behind, name};
 use crate::refusal::Refusal;
-use std::alloc::Global;
 use refute_print::TextTy;
+use std::alloc::Global;
 
 /// A type, and what follows it.
 #[derive(Drop)]

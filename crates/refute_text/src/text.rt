@@ -15,8 +15,8 @@ use crate::known::Known;
 use crate::lines::{behind_start, is_end, next_line};
 use crate::read_line::{read_definition, read_line, read_row};
 use crate::refusal::{Refusal, TextRefused};
-use std::alloc::Global;
 use refute_print::{RefutationText, TextLines, TextNames, TextTerms};
+use std::alloc::Global;
 
 /// Adds the name whose definition the line is.
 fn add_definition(alloc: Global, text: &mut RefutationText, line: &[u8]) -> Result<(), Refusal>

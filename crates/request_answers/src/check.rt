@@ -14,8 +14,8 @@ use refute_check::{CheckRefused, check_refutation};
 use refute_text::{TextRefused, read_text};
 use std::alloc::Global;
 use stt_core::Problem;
-use tableau_calculus::Why;
 use szs_report::{Answer, NamedFile};
+use tableau_calculus::Why;
 
 /// The answer where a text isn't read.
 fn unread_answer(refused: TextRefused) -> Answer

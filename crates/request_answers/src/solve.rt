@@ -8,10 +8,10 @@ ghost use Rattle.request_answers.specs.Solved.{claim_of, IsSolved};
 
 use delta_defs::{taken, unfold_problem};
 use mode_file::Mode;
+use prover_run::{Ended, run};
 use std::alloc::{AllocError, Global};
 use stt_core::Problem;
 use szs_report::{Answer, Claim, ProofText};
-use prover_run::{Ended, run};
 
 /// What a refutation of the problem's start shows.
 fn claim_of(problem: &Problem) -> Claim

@@ -1,1 +1,4 @@
+pub use Rattle.sat_base.specs.Literal
+pub use Rattle.sat_base.specs.Truth
+pub use Rattle.sat_log.specs.Propagation
 pub mod Internal

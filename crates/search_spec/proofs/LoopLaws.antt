@@ -4,7 +4,9 @@ use Rattle.std.proofs.Common.{sym, ap, ◌∙◌, inl, inr, arith}
 use Rattle.std.proofs.lemmas.Bool.{ne_eqb, eq-eqb, ltb-false, le-ltb}
 use Rattle.std.proofs.lemmas.List.Elements.{filter-append}
 use Rattle.std.proofs.lemmas.Grind.{flat_map-append}
-use Rattle.search_spec.specs.Queue.{Waiting, new_entries, is_before, first_waiting, next_command, without_number}
+use Rattle.search_spec.specs.Queue.{new_entries, first_waiting, next_command, without_number}
+use Rattle.command_queue.specs.declared.entry.Entry.{Entry}
+use Rattle.command_queue.specs.Queue.{comes_before}
 use Rattle.search_spec.specs.Internal.Loops.{Loop, entries, first_entry, queue_of, loop_left, loops_after, IsFirstOrNone}
 use Rattle.search_spec.specs.Each.{Each}
 use Rattle.search_spec.proofs.NamingLaws.{pick}
@@ -20,30 +22,30 @@ neither false true x e f = f
 neither false false x e f = refl
 
 -- a command that was pushed after another one, and is due with it, isn't before what the other isn't before
-later_not_before : {C : Type 0} (d k j : ℕ) (b c : C) (q : Waiting C) → k ≤ j → is_before (record { due = d; number = k; command = b }) q ≡ false → is_before (record { due = d; number = j; command = c }) q ≡ false
+later_not_before : {C : Type 0} (d k j : ℕ) (b c : C) (q : Entry C) → k ≤ j → comes_before (record { due = d; number = k; command = b }) q ≡ false → comes_before (record { due = d; number = j; command = c }) q ≡ false
 later_not_before d k j b c q h e =
     weaker (nat_lt d q.due) (d == q.due) (nat_lt k q.number) (nat_lt j q.number) (λ f. le-ltb j q.number (omega (arith, h, ltb-false k q.number f))) e
 
-not_before_itself : {C : Type 0} (q : Waiting C) → is_before q q ≡ false
+not_before_itself : {C : Type 0} (q : Entry C) → comes_before q q ≡ false
 not_before_itself q = neither (nat_lt q.due q.due) (q.due == q.due) (nat_lt q.number q.number) (le-ltb q.due q.due (omega arith)) (le-ltb q.number q.number (omega arith))
 
 -- commands that aren't before the first so far are passed over
-passed_over : {C : Type 0} (d k : ℕ) (b : C) (q : Waiting C) → is_before (record { due = d; number = k; command = b }) q ≡ false → (j : ℕ) → k ≤ j → (cs : List C) (rest : List (Waiting C)) → first_waiting q (new_entries (λ c. d) j cs ++ rest) ≡ first_waiting q rest
+passed_over : {C : Type 0} (d k : ℕ) (b : C) (q : Entry C) → comes_before (record { due = d; number = k; command = b }) q ≡ false → (j : ℕ) → k ≤ j → (cs : List C) (rest : List (Entry C)) → first_waiting q (new_entries (λ c. d) j cs ++ rest) ≡ first_waiting q rest
 passed_over d k b q e j h [] rest = refl
 passed_over d k b q e j h (c ∷ cs) rest =
     ap (λ t. first_waiting (if t then record { due = d; number = j; command = c } else q) (new_entries (λ _. d) (suc j) cs ++ rest)) (later_not_before d k j b c q h e)
     ∙ passed_over d k b q e (suc j) (omega (arith, h)) cs rest
 
 -- the better of two isn't after either
-kept : {C : Type 0} (p q : Waiting C) (b : Bool) → is_before p q ≡ b → is_before p (if b then p else q) ≡ false
+kept : {C : Type 0} (p q : Entry C) (b : Bool) → comes_before p q ≡ b → comes_before p (if b then p else q) ≡ false
 kept p q true e = not_before_itself p
 kept p q false e = e
 
-first_of_loops : {C : Type 0} (q : Waiting C) (loops : List (Loop C)) → first_waiting q (queue_of loops) ≡ first_waiting q (map first_entry loops)
+first_of_loops : {C : Type 0} (q : Entry C) (loops : List (Loop C)) → first_waiting q (queue_of loops) ≡ first_waiting q (map first_entry loops)
 first_of_loops q [] = refl
 first_of_loops q (l ∷ loops) =
-    passed_over l.due l.number l.first (if is_before (first_entry l) q then first_entry l else q) (kept (first_entry l) q (is_before (first_entry l) q) refl) (suc l.number) (omega arith) l.later (queue_of loops)
-    ∙ first_of_loops (if is_before (first_entry l) q then first_entry l else q) loops
+    passed_over l.due l.number l.first (if comes_before (first_entry l) q then first_entry l else q) (kept (first_entry l) q (comes_before (first_entry l) q) refl) (suc l.number) (omega arith) l.later (queue_of loops)
+    ∙ first_of_loops (if comes_before (first_entry l) q then first_entry l else q) loops
 
 -- The next command of a queue of loops is the next of their first ones.
 pub next_of_loops : {C : Type 0} (loops : List (Loop C)) → next_command (queue_of loops) ≡ next_command (map first_entry loops)
@@ -68,10 +70,10 @@ narrower n j m (inl h) = inl (omega (arith, h))
 narrower n j m (inr h) = inr (omega (arith, h))
 
 -- the first is dropped where it has the number
-dropped : {C : Type 0} (n : ℕ) (q : Waiting C) (qs : List (Waiting C)) → q.number ≡ n → without_number n (q ∷ qs) ≡ without_number n qs
+dropped : {C : Type 0} (n : ℕ) (q : Entry C) (qs : List (Entry C)) → q.number ≡ n → without_number n (q ∷ qs) ≡ without_number n qs
 dropped n q qs e = ap (λ b. pick (not b) (q ∷ without_number n qs) (without_number n qs)) (eq-eqb q.number n e)
 
-left_there : {C : Type 0} (n : ℕ) (q : Waiting C) (qs : List (Waiting C)) → (q.number ≡ n → ⊥) → without_number n (q ∷ qs) ≡ q ∷ without_number n qs
+left_there : {C : Type 0} (n : ℕ) (q : Entry C) (qs : List (Entry C)) → (q.number ≡ n → ⊥) → without_number n (q ∷ qs) ≡ q ∷ without_number n qs
 left_there n q qs h = ap (λ b. pick (not b) (q ∷ without_number n qs) (without_number n qs)) (ne_eqb q.number n h)
 
 none_dropped : {C : Type 0} (n d j : ℕ) (cs : List C) → Outside n j (length cs) → without_number n (new_entries (λ c. d) j cs) ≡ new_entries (λ c. d) j cs
@@ -112,18 +114,18 @@ without_from_loops {C} n (l ∷ loops) h =
     one = if l.number == n then loop_left l.due l.number l.later else l ∷ []
 
 -- a waiting command by another name
-abbrev pub renamed : {C D : Type 0} → (C → D) → Waiting C → Waiting D
+abbrev pub renamed : {C D : Type 0} → (C → D) → Entry C → Entry D
 renamed d q = record { due = q.due; number = q.number; command = d q.command }
 
-first_of-renamed : {C D : Type 0} (d : C → D) (q : Waiting C) (qs : List (Waiting C)) → first_waiting (renamed d q) (map (renamed d) qs) ≡ renamed d (first_waiting q qs)
+first_of-renamed : {C D : Type 0} (d : C → D) (q : Entry C) (qs : List (Entry C)) → first_waiting (renamed d q) (map (renamed d) qs) ≡ renamed d (first_waiting q qs)
 first_of-renamed d q [] = refl
-first_of-renamed d q (p ∷ ps) = ap (λ r. first_waiting r (map (renamed d) ps)) (sym (renamed_choice (is_before p q))) ∙ first_of-renamed d (if is_before p q then p else q) ps
+first_of-renamed d q (p ∷ ps) = ap (λ r. first_waiting r (map (renamed d) ps)) (sym (renamed_choice (comes_before p q))) ∙ first_of-renamed d (if comes_before p q then p else q) ps
   where
     renamed_choice : (b : Bool) → renamed d (if b then p else q) ≡ (if b then renamed d p else renamed d q)
     renamed_choice true = refl
     renamed_choice false = refl
 
 -- The next command of a renamed queue is the next one, renamed.
-pub next_command-renamed : {C D : Type 0} (d : C → D) (queue : List (Waiting C)) → next_command (map (renamed d) queue) ≡ option_map (renamed d) (next_command queue)
+pub next_command-renamed : {C D : Type 0} (d : C → D) (queue : List (Entry C)) → next_command (map (renamed d) queue) ≡ option_map (renamed d) (next_command queue)
 next_command-renamed d [] = refl
 next_command-renamed d (q ∷ qs) = ap Some (first_of-renamed d q qs)

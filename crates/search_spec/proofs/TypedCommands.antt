@@ -12,7 +12,9 @@ use Rattle.tableau_calculus.specs.declared.refutation.RuleUse.TheVariants.{AllPo
 use Rattle.search_spec.specs.Each.{Each}
 use Rattle.search_spec.specs.Shallow.{is_shallow, is_shallow_literal}
 use Rattle.search_spec.specs.Spine.{head_of, arguments}
-use Rattle.search_spec.specs.Queue.{Waiting, is_before, first_waiting, next_command, without_number}
+use Rattle.search_spec.specs.Queue.{first_waiting, next_command, without_number}
+use Rattle.command_queue.specs.declared.entry.Entry.{Entry}
+use Rattle.command_queue.specs.Queue.{comes_before}
 use Rattle.search_spec.specs.State.{State, Setting, Command, process, mate, confront, inst, choose, describe, grow}
 use Rattle.search_spec.specs.Alternatives.{Alternatives, all_pos, differ, con, cho, des}
 use Rattle.search_spec.specs.Instances.{with_instance}
@@ -40,9 +42,9 @@ arguments-applied : (t : Lambda) (us : List Lambda) → arguments (applied t us)
 arguments-applied t [] = joined_nil (arguments t)
 arguments-applied t (u ∷ us) = arguments-applied (app t u) us ∙ append_assoc (arguments t) (u ∷ []) us
 
-first_good : (P : Waiting Command → Type 0) (q : Waiting Command) (qs : List (Waiting Command)) → P q → Each P qs → P (first_waiting q qs)
+first_good : (P : Entry Command → Type 0) (q : Entry Command) (qs : List (Entry Command)) → P q → Each P qs → P (first_waiting q qs)
 first_good P q [] h k = h
-first_good P q (p ∷ ps) h k = first_good P (if is_before p q then p else q) ps (pick_good P (is_before p q) p q k.0 h) k.1
+first_good P q (p ∷ ps) h k = first_good P (if comes_before p q then p else q) ps (pick_good P (comes_before p q) p q k.0 h) k.1
 
 module _ (setting : Setting) (over : IsScope setting.scope) (s : State) (state : IsTypedState setting s) where
   abbrev here : Scope
@@ -108,11 +110,11 @@ module _ (setting : Setting) (over : IsScope setting.scope) where
           noted = g.noted;
           terms = g.terms;
           parked = g.parked;
-          queue = each_filtered (λ (q : Waiting Command). IsTypedCommand (with_rows setting.scope s.rows) q.command) (λ q. IsTypedCommand (with_rows setting.scope s.rows) q.command) (λ q. not (q.number == n)) (λ q h e. h) s.queue g.queue;
+          queue = each_filtered (λ (q : Entry Command). IsTypedCommand (with_rows setting.scope s.rows) q.command) (λ q. IsTypedCommand (with_rows setting.scope s.rows) q.command) (λ q. not (q.number == n)) (λ q h e. h) s.queue g.queue;
         };
       }
 
-  next-typed : (s t : State) → IsTypedState setting s → (qs : List (Waiting Command)) → Each (λ q. IsTypedCommand (with_rows setting.scope s.rows) q.command) qs → after_command setting (next_command qs) s ≡ Some t → IsTypedState setting t
+  next-typed : (s t : State) → IsTypedState setting s → (qs : List (Entry Command)) → Each (λ q. IsTypedCommand (with_rows setting.scope s.rows) q.command) qs → after_command setting (next_command qs) s ≡ Some t → IsTypedState setting t
   next-typed s t state [] h e = cc
   next-typed s t state (q ∷ qs) h e =
       let first = first_waiting q qs in

@@ -11,7 +11,7 @@ use Rattle.tableau_calculus.specs.Witnesses.{Row, with_rows}
 use Rattle.search_spec.specs.Each.{Each}
 use Rattle.search_spec.specs.Partial.{Partial, hole, head, function, application}
 use Rattle.search_spec.specs.TypedPartial.{IsPartial, IsPartialSpine}
-use Rattle.search_spec.specs.Queue.{Waiting}
+use Rattle.command_queue.specs.declared.entry.Entry.{Entry}
 use Rattle.search_spec.specs.State.{State, Setting, Sketch, Typed, Command, process, mate, confront, inst, choose, describe, grow}
 use Rattle.search_spec.specs.TypedState.{IsTypedSketch, IsTypedCommand, IsTypedStateWith}
 use Rattle.search_spec.proofs.PartialLaws.{from_map}
@@ -92,5 +92,5 @@ module _ (setting : Setting) (rows more : List Row) where
     noted = branch_wider setting.scope more rows s.noted g.noted;
     terms = each_weaker _ _ (λ (u : Typed) h. canonical_wider setting.scope more rows [] u.type u.term h) s.terms g.terms;
     parked = each_weaker _ _ (λ (p : Sketch) h. sketch_wider setting.scope more rows p h) s.parked g.parked;
-    queue = each_weaker _ _ (λ (q : Waiting Command) h. command_wider setting.scope more rows q.command h) s.queue g.queue;
+    queue = each_weaker _ _ (λ (q : Entry Command) h. command_wider setting.scope more rows q.command h) s.queue g.queue;
   }

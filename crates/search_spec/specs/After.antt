@@ -4,7 +4,8 @@ use Rattle.tableau_calculus.specs.Literals.{Literal}
 use Rattle.search_spec.specs.Shallow.{is_shallow_literal}
 use Rattle.search_spec.specs.State.{State, Setting, Command, process, with_commands}
 use Rattle.search_spec.specs.Commands.{with_command}
-use Rattle.search_spec.specs.Queue.{Waiting, next_command, without_number}
+use Rattle.search_spec.specs.Queue.{next_command, without_number}
+use Rattle.command_queue.specs.declared.entry.Entry.{Entry}
 
 abbrev pub nothing_yet : State
 nothing_yet = record { clauses = []; seen = []; noted = []; terms = []; chosen = []; described = []; rows = []; parked = []; queue = []; pushes = 0; done = 0 }
@@ -16,7 +17,7 @@ starting_state setting start =
     with_commands setting.mode (map process literals) (record nothing_yet { clauses = map (λ l. l ∷ []) literals; seen = literals })
 
 -- the state in which this command was taken from the queue and carried out
-abbrev pub after_command : Setting → Option (Waiting Command) → State → Option State
+abbrev pub after_command : Setting → Option (Entry Command) → State → Option State
 after_command setting None s = None
 after_command setting (Some q) s = Some (with_command setting q.command (record s { queue = without_number q.number s.queue; done = suc s.done }))
 

@@ -1,3 +1,19 @@
+pub use Rattle.command_queue.specs.Queue as CommandQueueQueue
+pub use Rattle.mode_file.specs.Given
+pub use Rattle.normal_forms.specs.Normal
+pub use Rattle.sat_base.specs.Literal
+pub use Rattle.sat_base.specs.Truth
+pub use Rattle.stt_core.specs.Canonical
+pub use Rattle.stt_core.specs.Depth
+pub use Rattle.stt_core.specs.Lambda
+pub use Rattle.stt_core.specs.Occurrence
+pub use Rattle.stt_core.specs.SameTerm
+pub use Rattle.stt_core.specs.SimpleType
+pub use Rattle.stt_core.specs.Typing
+pub use Rattle.tableau_calculus.specs.Kinds
+pub use Rattle.tableau_calculus.specs.Literals
+pub use Rattle.tableau_calculus.specs.Rules
+pub use Rattle.tableau_calculus.specs.Witnesses
 pub mod Each
 pub mod Shallow
 pub mod Closed

@@ -3,8 +3,8 @@ use Rattle.std.specs.Prelude.{◌≡◌, ℕ, List, [], ◌∷◌, drop, map, So
 use Rattle.stt_core.specs.SimpleType.{SimpleType, base, arrow, predicate}
 use Rattle.stt_core.specs.Lambda.{name, witness, falsity, choice, description, Lambda, bound, constant, lam, app, neg, imp, eq, every}
 use Rattle.tableau_calculus.specs.Literals.{Literal, plus, minus, opposite}
-use Rattle.search_spec.specs.Mode.{standard}
-use Rattle.search_spec.specs.Queue.{Waiting}
+use Rattle.search_spec.specs.Mode.{standard_mode}
+use Rattle.command_queue.specs.declared.entry.Entry.{Entry}
 use Rattle.search_spec.specs.State.{Setting, Command, process, mate, confront, inst, choose, describe}
 use Rattle.search_spec.specs.After.{starting_state, state_after}
 use Rattle.search_spec.specs.Trace.{trace}
@@ -16,12 +16,12 @@ abbrev pub named : ℕ → Lambda
 named k = constant (name k)
 
 abbrev pub one_setting : List SimpleType → Setting
-one_setting names = record { scope = record { bases = 0; names = names; witnesses = [] }; mode = standard }
+one_setting names = record { scope = record { bases = 0; names = names; witnesses = [] }; mode = standard_mode }
 
-abbrev pub commands : List (Waiting Command) → List Command
+abbrev pub commands : List (Entry Command) → List Command
 commands queue = map (λ q. q.command) queue
 
-abbrev pub dues : List (Waiting Command) → List (ℕ × ℕ)
+abbrev pub dues : List (Entry Command) → List (ℕ × ℕ)
 dues queue = map (λ q. (q.due, q.number)) queue
 
 -- `all.p`: a: $i > $o and c: $i, with ! [X] : a X and the conjecture a c

@@ -5,7 +5,7 @@ use Rattle.stt_core.specs.SimpleType.{SimpleType}
 use Rattle.stt_core.specs.Lambda.{choice, description, Lambda, bound, constant, lam, app}
 use Rattle.stt_core.specs.SameTerm.{same_term}
 use Rattle.search_spec.specs.Closed.{is_closed}
-use Rattle.search_spec.specs.Mode.{Mode}
+use Rattle.mode_file.specs.declared.Mode.{Mode}
 use Rattle.search_spec.specs.State.{State, choose, describe, with_commands}
 
 -- a predicate on a type, by which a term chooses or describes a value of the type

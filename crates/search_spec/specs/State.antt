@@ -6,9 +6,10 @@ use Rattle.stt_core.specs.Typing.{Scope}
 use Rattle.tableau_calculus.specs.Literals.{Literal}
 use Rattle.tableau_calculus.specs.Witnesses.{Row, with_rows}
 use Rattle.search_spec.specs.Unsatisfiable.{Clause}
-use Rattle.search_spec.specs.Mode.{Mode}
+use Rattle.mode_file.specs.declared.Mode.{Mode}
 use Rattle.search_spec.specs.Partial.{Partial}
-use Rattle.search_spec.specs.Queue.{Waiting, new_entries}
+use Rattle.search_spec.specs.Queue.{new_entries}
+use Rattle.command_queue.specs.declared.entry.Entry.{Entry}
 
 -- what a run is given: what is declared, and how long commands wait
 pub record Setting : Type 0 where
@@ -47,7 +48,7 @@ pub record State : Type 0 where
   pub described : List Lambda
   pub rows : List Row
   pub parked : List Sketch
-  pub queue : List (Waiting Command)
+  pub queue : List (Entry Command)
   pub pushes : ℕ
   pub done : ℕ
 

@@ -5,7 +5,7 @@ use Rattle.stt_core.specs.SimpleType.{SimpleType, base, arrow, same_type}
 use Rattle.stt_core.specs.Lambda.{falsity, all, choice, Lambda, constant, lam, app, neg}
 use Rattle.stt_core.specs.SameTerm.{same_term}
 use Rattle.tableau_calculus.specs.Literals.{Literal}
-use Rattle.search_spec.specs.Mode.{Mode}
+use Rattle.mode_file.specs.declared.Mode.{Mode}
 use Rattle.search_spec.specs.Partial.{first_hole, blank_partial}
 use Rattle.search_spec.specs.Heads.{heads_for}
 use Rattle.search_spec.specs.State.{State, Setting, Sketch, inst, grow, with_commands, scope_in}

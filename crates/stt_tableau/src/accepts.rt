@@ -12,11 +12,11 @@ ghost use Rattle.tableau_calculus.specs.declared.refutation.Line.{Line as TheLin
 
 use crate::children::are_children;
 use crate::instance::find_instance;
-use tableau_calculus::Lits;
-use tableau_calculus::{Line, Refutation, Rows, Why, WitnessRow};
-use tableau_calculus::{is_typed_branch, is_typed_row, is_typed_use};
 use std::alloc::{AllocError, Global};
 use stt_core::{Signature, Types, same_nf};
+use tableau_calculus::{
+    Line, Lits, Refutation, Rows, Why, WitnessRow, is_typed_branch, is_typed_row, is_typed_use,
+};
 
 /// Whether one of the first `count` rows has the row's predicate.
 fn is_twice(rows: &Rows, count: usize, row: &WitnessRow) -> bool

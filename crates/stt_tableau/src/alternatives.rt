@@ -2,9 +2,9 @@
 
 ghost use Rattle.std.specs.Prelude.{◌≡◌, ◌<◌, ◌++◌, [], ◌∷◌, length, OnOk, OnErr, IfOk, slice_get};
 
-use tableau_calculus::{Lit, Lits};
 use std::alloc::{AllocError, Global};
 use std::marker::Model;
+use tableau_calculus::{Lit, Lits};
 
 /// The alternatives of a rule, each of which is a list of literals.
 #[derive(Drop)]

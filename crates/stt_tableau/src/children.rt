@@ -4,9 +4,8 @@ ghost use Rattle.std.specs.Prelude.{◌≡◌, ◌≤◌, ◌↔◌, ◌++◌, I
 ghost use Rattle.tableau_calculus.specs.Accepted.{ClosesBy, AreChildren};
 
 use crate::alternatives::Alternatives;
-use tableau_calculus::Lits;
-use tableau_calculus::{Child, Children, Lines};
 use std::alloc::{AllocError, Global};
+use tableau_calculus::{Child, Children, Lines, Lits};
 
 /// The literals of both lists.
 fn joined(alloc: Global, front: &Lits, back: &Lits) -> Result<Lits, AllocError>

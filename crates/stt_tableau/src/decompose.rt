@@ -13,9 +13,9 @@ ghost use Rattle.tableau_calculus.specs.declared.refutation.RuleUse.TheVariants.
 
 use crate::alternatives::{Alternatives, alone};
 use crate::equation::{differ, equation_at, is_plain_base};
-use tableau_calculus::Lits;
 use std::alloc::{AllocError, Global};
 use stt_core::{Context, Declared, Head, Nf, Nfs, Signature, Ty, Types, head_type};
+use tableau_calculus::Lits;
 
 /// A name, a witness, a choice or a description, with its arguments, of which there is one at least.
 #[derive(Drop)]

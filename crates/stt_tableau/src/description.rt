@@ -17,13 +17,13 @@ ghost use Rattle.tableau_calculus.specs.declared.refutation.RuleUse.TheVariants.
 
 use crate::alternatives::{Alternatives, any_of_three};
 use crate::formula::literal_of;
-use tableau_calculus::{Lit, Lits};
 use crate::quantifier::{
     applied_literal, at_new_variable, everywhere, nowhere_literal, of_new_variable,
 };
 use std::alloc::{AllocError, Global};
 use stt_core::{Head, Nf, Nfs, Signature, Ty, Types, type_of_closed};
 use stt_normal::{eta_long, lift_nf};
+use tableau_calculus::{Lit, Lits};
 
 /// What a predicate gives at the outer one of two new variables.
 fn at_outer_variable(alloc: Global, ty: &Ty, f: &Nf) -> Result<Nf, AllocError>

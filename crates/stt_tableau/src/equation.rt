@@ -15,9 +15,9 @@ ghost use Rattle.tableau_calculus.specs.declared.refutation.RuleUse.TheVariants.
 
 use crate::alternatives::{Alternatives, either_both};
 use crate::formula::literal_of;
-use tableau_calculus::{Lit, Lits};
 use std::alloc::{AllocError, Global};
 use stt_core::{Head, Nf, Nfs, Ty, Types, same_nf};
+use tableau_calculus::{Lit, Lits};
 
 /// An equation: the type of its sides, and the sides.
 #[derive(Drop)]

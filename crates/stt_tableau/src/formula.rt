@@ -3,10 +3,9 @@
 ghost use Rattle.std.specs.Prelude.{◌≡◌, IfOk, false};
 ghost use Rattle.tableau_calculus.specs.Literals.{plus, as_literal, is_negated};
 
-use tableau_calculus::Lit;
-use tableau_calculus::{Shape, shape_of};
 use std::alloc::{AllocError, Global};
 use stt_core::Nf;
+use tableau_calculus::{Lit, Shape, shape_of};
 
 fn positive(alloc: Global, nf: &Nf) -> Result<Lit, AllocError>
     requires { is_negated nf.now ≡ false }

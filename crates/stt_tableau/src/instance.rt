@@ -10,16 +10,15 @@ use crate::alternatives::Alternatives;
 use crate::decompose::{dec_instance, mat_instance};
 use crate::description::des_instance;
 use crate::equation::{bool_neg_instance, bool_pos_instance, con_instance, refl_instance};
-use tableau_calculus::Lits;
 use crate::propositional::{
     close_instance, cut_instance, false_instance, imp_neg_instance, imp_pos_instance,
 };
 use crate::quantifier::{
     all_neg_instance, all_pos_instance, cho_instance, fun_neg_instance, fun_pos_instance,
 };
-use tableau_calculus::{Rows, RuleUse};
 use std::alloc::{AllocError, Global};
 use stt_core::{Signature, Types};
+use tableau_calculus::{Lits, Rows, RuleUse};
 
 /// The alternatives of a rule whose principals stand at its places in the branch, or none where it doesn't fit.
 pub fn find_instance(

@@ -10,9 +10,8 @@ ghost use Rattle.tableau_calculus.specs.declared.refutation.RuleUse.TheVariants.
 
 use crate::alternatives::{Alternatives, both, either};
 use crate::formula::literal_of;
-use tableau_calculus::{Lit, Lits};
-use tableau_calculus::{Shape, shape_of};
 use std::alloc::{AllocError, Global};
+use tableau_calculus::{Lit, Lits, Shape, shape_of};
 
 /// The shape of the atom of the literal of this sign at a place; `Other` where none stands there.
 fn shape_at(branch: &Lits, i: usize, positive: bool) -> Shape<'_>

@@ -21,12 +21,10 @@ ghost use Rattle.tableau_calculus.specs.declared.refutation.RuleUse.TheVariants.
 use crate::alternatives::{Alternatives, either, one};
 use crate::equation::equation_at;
 use crate::formula::literal_of;
-use tableau_calculus::{Lit, Lits};
-use tableau_calculus::{Rows, WitnessRow};
-use tableau_calculus::is_typed_at;
 use std::alloc::{AllocError, Global};
 use stt_core::{Head, Nf, Nfs, Signature, Ty, Types, same_nf, type_of_closed};
 use stt_normal::{apply_nf, eta_long, lift_nf};
+use tableau_calculus::{Lit, Lits, Rows, WitnessRow, is_typed_at};
 
 /// The type that a quantifier ranges over, and the predicate that it holds of.
 #[derive(Drop)]

@@ -9,10 +9,10 @@ ghost use Rattle.tableau_calculus.specs.Start.{without_repeats, normal_literal, 
 ghost use Rattle.tableau_calculus.specs.Kinds.{added, formulas};
 
 use crate::formula::literal_of;
-use tableau_calculus::{Lit, Lits};
 use std::alloc::{AllocError, Global};
 use stt_core::{Problem, Signature, Term, Terms, Types};
 use stt_normal::normalise;
+use tableau_calculus::{Lit, Lits};
 
 impl Lits {
     /// Adds the literal where the list doesn't have it.

@@ -1,3 +1,9 @@
+pub use Rattle.outside.specs.Causes
+pub use Rattle.outside.specs.Prefix
+pub use Rattle.outside.specs.Writing
+pub use Rattle.refute_print.specs.Named
+pub use Rattle.refute_print.specs.Text
+pub use Rattle.refute_text.specs.Reading
 pub mod Status
 pub mod Outcomes
 pub mod Report

@@ -7,11 +7,11 @@ ghost use Rattle.refute_print.specs.Text.{text_lines, as_bytes};
 ghost use Rattle.refute_print.specs.Named.{names_of, named_refutation, IsNamed, ArePlaces};
 
 use outside::{Failed, Sink};
+use refute_print::write_text;
 use std::alloc::{AllocError, Global};
 use std::marker::Model;
 use stt_core::Signature;
 use tableau_calculus::Refutation;
-use refute_print::write_text;
 
 /// The lines between the marks of a refutation, as the refutation and what its names come from. The bytes are made as they are written.
 #[derive(Drop)]

@@ -1,3 +1,18 @@
+pub use Rattle.normal_forms.specs.Normal
+pub use Rattle.stt_core.specs.Canonical
+pub use Rattle.stt_core.specs.Declarations
+pub use Rattle.stt_core.specs.Digits
+pub use Rattle.stt_core.specs.Lambda
+pub use Rattle.stt_core.specs.Lift
+pub use Rattle.stt_core.specs.Meaning
+pub use Rattle.stt_core.specs.Meets as SttCoreMeets
+pub use Rattle.stt_core.specs.PlainProblem
+pub use Rattle.stt_core.specs.SameTerm
+pub use Rattle.stt_core.specs.ScopeView
+pub use Rattle.stt_core.specs.SimpleType
+pub use Rattle.stt_core.specs.TypedProblem
+pub use Rattle.stt_core.specs.Typing
+pub use Rattle.stt_core.specs.View
 pub mod Literals
 pub mod Kinds
 pub mod Witnesses

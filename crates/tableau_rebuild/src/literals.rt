@@ -11,8 +11,8 @@ ghost use Rattle.tableau_rebuild.specs.Internal.Pools.{IsMadePool};
 
 use crate::pool::Pool;
 use literal_map::LitTable;
-use sat_base::{Clause, SatLit};
 use refute_print::is_small_term;
+use sat_base::{Clause, SatLit};
 use std::alloc::{AllocError, Global};
 use tableau_calculus::{Lit, Lits};
 use term_bank::Bank;

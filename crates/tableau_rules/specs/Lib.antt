@@ -1,3 +1,17 @@
+pub use Rattle.bank_normal.specs.Right
+pub use Rattle.literal_map.specs.Atoms
+pub use Rattle.normal_forms.specs.Normal
+pub use Rattle.search_spec.specs.Each
+pub use Rattle.stt_core.specs.Canonical
+pub use Rattle.stt_core.specs.Lambda
+pub use Rattle.stt_core.specs.SimpleType
+pub use Rattle.stt_core.specs.View
+pub use Rattle.tableau_calculus.specs.Literals
+pub use Rattle.tableau_calculus.specs.Rules
+pub use Rattle.tableau_calculus.specs.Witnesses
+pub use Rattle.term_bank.specs.Content
+pub use Rattle.term_bank.specs.Terms
+pub use Rattle.witness_names.specs.Rows
 pub mod Uses
 pub mod Changes
 pub mod Internal

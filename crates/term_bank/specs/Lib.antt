@@ -1,3 +1,13 @@
+pub use Rattle.stt_core.specs.Canonical
+pub use Rattle.stt_core.specs.ContextView
+pub use Rattle.stt_core.specs.Depth
+pub use Rattle.stt_core.specs.Lambda
+pub use Rattle.stt_core.specs.Occurrence
+pub use Rattle.stt_core.specs.SameTerm
+pub use Rattle.stt_core.specs.SimpleType
+pub use Rattle.stt_core.specs.TypedName
+pub use Rattle.stt_core.specs.Typing
+pub use Rattle.stt_core.specs.View
 pub mod Shape
 pub mod NodeView
 pub mod Terms

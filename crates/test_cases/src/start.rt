@@ -5,15 +5,14 @@ ghost use Rattle.stt_core.specs.TypedProblem.{IsTyped};
 
 use anyhow::{Context, bail};
 use outside::{Failed, Files, GrowSink};
+use refute_print::write_text;
 use std::alloc::{AllocError, Global};
 use std::str;
 use stt_core::{Head, Nf, Nfs, Problem, Signature, Types};
-use tableau_calculus::{Children, Line, Lines, Lit, Lits, Refutation, Rows, RuleUse};
-
 use stt_tableau::{accepts_plain, start_literals};
+use tableau_calculus::{Children, Line, Lines, Lit, Lits, Refutation, Rows, RuleUse};
 use thf_include::{FileNames, gather};
 use type_check::check;
-use refute_print::write_text;
 
 /// What stands before the literals of a branch that begins with falsity, where that closes it.
 const BEFORE: &str = "version 1\n0: False(0) [+$f";

@@ -5,14 +5,13 @@ ghost use Rattle.stt_core.specs.TypedProblem.{IsTyped};
 use anyhow::bail;
 use mode_file::Mode;
 use outside::{Failed, GrowSink};
+use prover_run::{Ended, run};
+use refute_print::write_text;
 use std::alloc::{AllocError, Global};
 use std::str;
 use stt_core::{Problem, Signature};
-use tableau_calculus::{Lits, Refutation};
-
 use stt_tableau::{accepts_plain, start_literals};
-use prover_run::{Ended, run};
-use refute_print::write_text;
+use tableau_calculus::{Lits, Refutation};
 
 /// Writes a refutation that the plain checker accepts for the start.
 fn write(

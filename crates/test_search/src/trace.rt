@@ -7,10 +7,10 @@ ghost use Rattle.prover_search.specs.Internal.Running.{IsUnderWay};
 
 use command_queue::Weigher;
 use mode_file::Mode;
-use std::alloc::Global;
-use stt_core::Problem;
 use prover_run::delay;
 use prover_search::{Command, Search, Stepped, Waiting};
+use std::alloc::Global;
+use stt_core::Problem;
 
 /// How many commands are told at most.
 const MAX_COMMANDS: u32 = 1_000;

@@ -3,9 +3,8 @@
 use std::alloc::{AllocError, Global};
 use std::test::Fail;
 use stt_core::{Head, Nf, Nfs, Signature, Ty, Types};
-use tableau_calculus::{Lines, Lits, PlainRefused, Refutation, Rows, Why, WitnessRow};
-
 use stt_tableau::accepts_plain;
+use tableau_calculus::{Lines, Lits, PlainRefused, Refutation, Rows, Why, WitnessRow};
 
 /// What an individual is compared with.
 #[derive(Clone, Copy, Debug)]

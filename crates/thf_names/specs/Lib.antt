@@ -1,1 +1,3 @@
+pub use Rattle.outside.specs.Writing
+pub use Rattle.thf_grammar.specs.Bytes
 pub mod Names

@@ -1,2 +1,10 @@
+pub use Rattle.thf_grammar.specs.Formulas
+pub use Rattle.thf_grammar.specs.Printable
+pub use Rattle.thf_grammar.specs.Reading
+pub use Rattle.thf_grammar.specs.Statements
+pub use Rattle.thf_grammar.specs.Terminals
+pub use Rattle.thf_grammar.specs.Trees
+pub use Rattle.thf_grammar.specs.View
+pub use Rattle.thf_grammar.specs.Words
 pub mod Parsing
 pub mod Internal

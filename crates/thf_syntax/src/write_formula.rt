@@ -6,12 +6,11 @@ ghost use Rattle.thf_syntax.specs.Slots.{takes};
 ghost use Rattle.thf_syntax.specs.Texts as spec;
 ghost use Rattle.outside.specs.Writing.{Took, Stopped};
 
-use thf_names::write_name;
 use crate::slot::Slot;
-use thf_names::{write, write_between};
 use crate::write_types::write_vars;
 use outside::{Failed, Sink};
 use thf_grammar::{Binder, Conn, Surface, SurfaceVar};
+use thf_names::{write, write_between, write_name};
 
 fn conn_text(conn: Conn) -> &'static [u8]
     ensures { result.now ≡ spec.conn_text conn }

@@ -9,12 +9,11 @@ ghost use Rattle.thf_names.specs.Names.{name_text};
 ghost use Rattle.thf_syntax.specs.Texts as spec;
 ghost use Rattle.outside.specs.Writing.{Took, Stopped};
 
-use thf_names::{write_label, write_name, write_quoted};
-use thf_names::{write, write_between};
 use crate::write_formula::write_formula;
 use crate::write_types::write_type;
 use outside::{Failed, Sink};
 use thf_grammar::{Annotated, Body, FileTree, Selected, Selection, Statement, SurfaceTy};
+use thf_names::{write, write_between, write_label, write_name, write_quoted};
 
 /// Writes what declares a constant.
 fn write_typing<S: Sink>(sink: &mut S, name: &[u8], ty: &SurfaceTy) -> Result<(), Failed>

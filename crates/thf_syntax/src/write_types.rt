@@ -6,10 +6,9 @@ ghost use Rattle.thf_syntax.specs.Slots.{is_simple};
 ghost use Rattle.thf_syntax.specs.Texts.{type_text, var_text, separated, grouped_unless};
 ghost use Rattle.outside.specs.Writing.{Took, Stopped};
 
-use thf_names::write_name;
-use thf_names::write;
 use outside::{Failed, Sink};
 use thf_grammar::{SurfaceTy, SurfaceVar};
+use thf_names::{write, write_name};
 
 fn is_simple(ty: &SurfaceTy) -> bool
     ensures { result ≡ is_simple (the_surface_type ty.now) }

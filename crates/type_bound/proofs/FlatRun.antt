@@ -15,7 +15,9 @@ use Rattle.search_spec.specs.Clauses.{instance_clauses, with_clauses}
 use Rattle.search_spec.specs.Heads.{heads_for}
 use Rattle.search_spec.specs.Partial.{first_hole, whole_term, blank_partial}
 use Rattle.search_spec.specs.Shallow.{is_shallow, is_shallow_literal}
-use Rattle.search_spec.specs.Queue.{Waiting, new_entries, is_before, first_waiting, next_command, without_number}
+use Rattle.search_spec.specs.Queue.{new_entries, first_waiting, next_command, without_number}
+use Rattle.command_queue.specs.declared.entry.Entry.{Entry}
+use Rattle.command_queue.specs.Queue.{comes_before}
 use Rattle.search_spec.specs.Closed.{is_closed}
 use Rattle.search_spec.specs.State.{State, Setting, Typed, Sketch, Command, process, mate, confront, inst, choose, describe, grow, due, with_commands, scope_in}
 use Rattle.search_spec.specs.Spine.{head_of, arguments, is_spine, same_head}
@@ -44,9 +46,9 @@ all_mapped : {X Y : Type 0} (Q : Y → Type 0) (f : X → Y) → ((x : X) → Q 
 all_mapped Q f g [] = tt
 all_mapped Q f g (x ∷ xs) = (g x, all_mapped Q f g xs)
 
-first_good : (P : Waiting Command → Type 0) (q : Waiting Command) (qs : List (Waiting Command)) → P q → Each P qs → P (first_waiting q qs)
+first_good : (P : Entry Command → Type 0) (q : Entry Command) (qs : List (Entry Command)) → P q → Each P qs → P (first_waiting q qs)
 first_good P q [] h k = h
-first_good P q (p ∷ ps) h k = first_good P (if is_before p q then p else q) ps (pick_good P (is_before p q) p q k.0 h) k.1
+first_good P q (p ∷ ps) h k = first_good P (if comes_before p q then p else q) ps (pick_good P (comes_before p q) p q k.0 h) k.1
 
 flattened : (as' : Alternatives) → Each (Each IsFlat) as' → Each IsFlat (flat_map (λ (a : List Literal). a) as')
 flattened [] h = tt
@@ -280,10 +282,10 @@ module _ (setting : Setting) where
     clauses = g.clauses;
     noted = g.noted;
     rows = g.rows;
-    queue = each_filtered (λ (q : Waiting Command). IsFlatCommand q.command) (λ q. IsFlatCommand q.command) _ (λ q h e. h) s.queue g.queue;
+    queue = each_filtered (λ (q : Entry Command). IsFlatCommand q.command) (λ q. IsFlatCommand q.command) _ (λ q h e. h) s.queue g.queue;
   }
 
-  next-flat : (s t : State) → Is s → (qs : List (Waiting Command)) → Each (λ q. IsFlatCommand q.command) qs → after_command setting (next_command qs) s ≡ Some t → Is t
+  next-flat : (s t : State) → Is s → (qs : List (Entry Command)) → Each (λ q. IsFlatCommand q.command) qs → after_command setting (next_command qs) s ≡ Some t → Is t
   next-flat s t g [] h e = cc
   next-flat s t g (q ∷ qs) h e =
       let first = first_waiting q qs in

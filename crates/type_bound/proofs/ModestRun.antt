@@ -10,7 +10,9 @@ use Rattle.tableau_calculus.specs.Literals.{Literal, plus, minus}
 use Rattle.tableau_calculus.specs.Witnesses.{Row}
 use Rattle.search_spec.specs.Each.{Each}
 use Rattle.search_spec.specs.Shallow.{is_shallow, is_shallow_literal}
-use Rattle.search_spec.specs.Queue.{Waiting, is_before, first_waiting, next_command, without_number}
+use Rattle.search_spec.specs.Queue.{first_waiting, next_command, without_number}
+use Rattle.command_queue.specs.declared.entry.Entry.{Entry}
+use Rattle.command_queue.specs.Queue.{comes_before}
 use Rattle.search_spec.specs.State.{State, Setting, Sketch, Command, process, mate, confront, inst, choose, describe, grow, with_commands, scope_in}
 use Rattle.search_spec.specs.Spine.{head_of, arguments, is_spine, same_head}
 use Rattle.search_spec.specs.Alternatives.{imp_pos, imp_neg, bool_pos, bool_neg, fun_pos, fun_neg, all_pos, all_neg, differ, con, cho, des}
@@ -29,9 +31,9 @@ use Rattle.type_bound.specs.Modest.{IsModest, IsModestLiteral, IsModestPartial, 
 use Rattle.type_bound.proofs.ModestTerms.{head_of_keeps, arguments_keep, head_shallow, imp_pos_keeps, imp_neg_keeps, bool_pos_keeps, bool_neg_keeps, fun_pos_keeps, fun_neg_keeps, all_pos_keeps, all_neg_keeps, differ_keeps, con_keeps, cho_keeps, des_keeps}
 use Rattle.type_bound.proofs.ModestSteps.{pushed-modest, with_instance-modest, with_term-modest, terms_of-modest, prepared-modest, witnesses-modest, grow-modest, matings-modest, confrontations-modest, selections-modest, with_selections-modest}
 
-first_good : (P : Waiting Command → Type 0) (q : Waiting Command) (qs : List (Waiting Command)) → P q → Each P qs → P (first_waiting q qs)
+first_good : (P : Entry Command → Type 0) (q : Entry Command) (qs : List (Entry Command)) → P q → Each P qs → P (first_waiting q qs)
 first_good P q [] h k = h
-first_good P q (p ∷ ps) h k = first_good P (if is_before p q then p else q) ps (pick_good P (is_before p q) p q k.0 h) k.1
+first_good P q (p ∷ ps) h k = first_good P (if comes_before p q then p else q) ps (pick_good P (comes_before p q) p q k.0 h) k.1
 
 module _ (limit : ℕ) (setting : Setting) (good : IsModestSetting limit setting) where
   abbrev Is : State → Type 0
@@ -174,10 +176,10 @@ module _ (limit : ℕ) (setting : Setting) (good : IsModestSetting limit setting
     terms = g.terms;
     rows = g.rows;
     parked = g.parked;
-    queue = each_filtered (λ (q : Waiting Command). IsModestCommand limit q.command) (λ q. IsModestCommand limit q.command) _ (λ q h e. h) s.queue g.queue;
+    queue = each_filtered (λ (q : Entry Command). IsModestCommand limit q.command) (λ q. IsModestCommand limit q.command) _ (λ q h e. h) s.queue g.queue;
   }
 
-  next-modest : (s t : State) → Is s → (qs : List (Waiting Command)) → Each (λ q. IsModestCommand limit q.command) qs → after_command setting (next_command qs) s ≡ Some t → Is t
+  next-modest : (s t : State) → Is s → (qs : List (Entry Command)) → Each (λ q. IsModestCommand limit q.command) qs → after_command setting (next_command qs) s ≡ Some t → Is t
   next-modest s t g [] h e = cc
   next-modest s t g (q ∷ qs) h e =
       let first = first_waiting q qs in

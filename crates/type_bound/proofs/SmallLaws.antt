@@ -6,7 +6,7 @@ use Rattle.stt_core.specs.Depth.{depth}
 use Rattle.tableau_calculus.specs.Literals.{Literal}
 use Rattle.tableau_calculus.specs.Witnesses.{Row}
 use Rattle.search_spec.specs.Each.{Each}
-use Rattle.search_spec.specs.Queue.{Waiting}
+use Rattle.command_queue.specs.declared.entry.Entry.{Entry}
 use Rattle.search_spec.specs.State.{State, Command, process, mate, confront, inst, choose, describe, grow}
 use Rattle.refute_print.specs.Sizes.{IsSmallTerm, type_depth, nesting_in, nesting}
 use Rattle.refute_print.specs.Sizes as sizes
@@ -63,7 +63,7 @@ pub state_small : (s : State) → IsModestState 1024 s → IsFlatState s → Sta
 state_small s h k = record {
   clauses = each_both (Each (IsModestLiteral 1024)) (Each IsFlat) (Each IsSmallLiteral) (each_both (IsModestLiteral 1024) IsFlat IsSmallLiteral literal_small) s.clauses h.clauses k.clauses;
   rows = each_both (IsModestRow 1024) (λ (r : Row). depth r.predicate ≤ 4096) (λ (r : Row). IsSmallTerm r.predicate) (λ r x y. small r.predicate x.1 y) s.rows h.rows k.rows;
-  queue = each_both (λ (q : Waiting Command). IsModestCommand 1024 q.command) (λ (q : Waiting Command). IsFlatCommand q.command) (λ (q : Waiting Command). IsSmallCommand q.command) (λ q x y. command_small q.command x y) s.queue h.queue k.queue;
+  queue = each_both (λ (q : Entry Command). IsModestCommand 1024 q.command) (λ (q : Entry Command). IsFlatCommand q.command) (λ (q : Entry Command). IsSmallCommand q.command) (λ q x y. command_small q.command x y) s.queue h.queue k.queue;
 }
 
 pub stay_small : RunsStaySmall

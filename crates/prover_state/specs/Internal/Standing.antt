@@ -29,7 +29,6 @@ use Rattle.prover_state.specs.declared.command.Planned.{Planned}
 use Rattle.prover_state.specs.declared.command.Delays.{Delays}
 use Rattle.prover_state.specs.declared.tables.Basis.{Basis}
 use Rattle.prover_state.specs.declared.tables.Tables.{Tables}
-use Rattle.prover_state.specs.Delays.{the_mode}
 use Rattle.prover_state.specs.Internal.Names.{Naming, typed_at, IsNumberIn, IsPlace}
 use Rattle.prover_state.specs.Internal.Heads.{sketches_of, AreStems}
 use Rattle.prover_state.specs.Internal.Holes.{holes_in}
@@ -47,7 +46,7 @@ abbrev pub scope_by : Basis → Scope
 scope_by g = with_rows (without_witnesses g.bank) (rows_in g)
 
 abbrev pub setting_by : Tables → Queue Planned Delays → Setting
-setting_by t q = record { scope = without_witnesses t.basis.bank; mode = the_mode q.rule.mode }
+setting_by t q = record { scope = without_witnesses t.basis.bank; mode = q.rule.mode }
 
 abbrev pub sketches_in : Tables → List Sketch
 sketches_in t = sketches_of (scope_by t.basis) t.stems.items

@@ -3,7 +3,6 @@ use Rattle.stt_core.specs.SimpleType.{base}
 use Rattle.stt_core.specs.Lambda.{Lambda}
 use Rattle.search_spec.specs.Terms.{first_terms, with_terms}
 use Rattle.prover_state.specs.declared.tables.Tables.{Tables}
-use Rattle.prover_state.specs.Delays.{the_mode}
 use Rattle.prover_state.specs.Internal.Growing.{BasisGrows}
 use Rattle.prover_state.specs.Internal.Standing.{setting_by, the_state}
 use Rattle.prover_state.proofs.StateStays.{state-stays, right-stays}
@@ -33,7 +32,7 @@ returns-clause-state g c =
     let q = c.args.core.now.plan in
     let basis = c.first_terms_of.new.basis in
     let mid = record t { basis = basis } in
-    let mode = the_mode q.rule.mode in
+    let mode = q.rule.mode in
     let a = base c.args.n in
     let n = ap length c.terms_of.ensures in
     c.in_ok-add_terms.ensures.state

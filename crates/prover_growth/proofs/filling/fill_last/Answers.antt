@@ -7,7 +7,6 @@ use Rattle.instantiate.specs.Internal.Blanks.{term_of}
 use Rattle.search_spec.specs.Commands.{growth_by}
 use Rattle.prover_state.specs.declared.tables.Basis.{Basis}
 use Rattle.prover_state.specs.declared.tables.Tables.{Tables}
-use Rattle.prover_state.specs.Delays.{the_mode}
 use Rattle.prover_state.specs.Internal.Growing.{BasisGrows}
 use Rattle.prover_state.specs.Internal.Heads.{the_hole_head}
 use Rattle.prover_state.specs.Internal.Names.{sketch_at}
@@ -35,7 +34,7 @@ returns-clause-state g c =
     let t = c.args.core.now.tables in
     let q = c.args.core.now.plan in
     let t1 = c.make_term.new.tables in
-    let mode = the_mode q.rule.mode in
+    let mode = q.rule.mode in
     let u = term_of (growth_by (scope_by t.basis) (the_hole_head c.args.head) (sketch_at (sketches_in t) c.args.parent)).partial in
     let type = c.in_ok-ty.ensures ∙ c.root_of.ensures in
     let term = get_or_from_slice_get t1.basis.bank.terms c.in_ok-id.id u (bound 0) c.in_ok-id.ensures.term in

@@ -6,7 +6,6 @@ use Rattle.term_bank.specs.Terms.{term_at}
 use Rattle.search_spec.specs.Heads.{heads_for}
 use Rattle.search_spec.specs.Partial.{first_hole}
 use Rattle.search_spec.specs.State.{Command as Meant, grow, with_commands}
-use Rattle.prover_state.specs.Delays.{the_mode}
 use Rattle.prover_state.specs.Internal.Heads.{the_hole_head}
 use Rattle.prover_state.specs.Internal.Names.{sketch_at}
 use Rattle.prover_state.specs.Internal.Standing.{rows_in, scope_by, sketches_in, the_state}
@@ -19,7 +18,7 @@ returns-then-count-eq0-clause-state g c =
     let t = c.args.core.now.tables in
     let q = c.args.core.now.plan in
     let x = sketch_at (sketches_in t) c.args.p in
-    let mode = the_mode q.rule.mode in
+    let mode = q.rule.mode in
     let s = the_state t q in
     let none : heads_for (scope_by t.basis) (first_hole [] x.partial) ≡ [] = no-heads (heads_for (scope_by t.basis) (first_hole [] x.partial)) (omega (arith, c.in_ok-count.ensures, c.if-count-eq0.true)) in
     sym (pushed-nothing mode s) ∙ ap (λ (hs : List Lambda). with_commands mode (map (grow x) hs) s) (sym none)
@@ -63,4 +62,4 @@ returns-clause-state g c =
     let n = length-map t.basis.witnesses (λ id. row_of (term_at t.basis.bank.terms id)) in
     let all : c.len-known.result ≡ length (rows_in t.basis) = omega (arith, n, c.len-known.ensures) in
     c.in_ok-push_whole.ensures.state
-    ∙ ap (λ (cs : List Meant). with_commands (the_mode q.rule.mode) cs (the_state t q)) (heads-loop t q c.requires.right c.args.p c.len-known.result c.number_of.result all)
+    ∙ ap (λ (cs : List Meant). with_commands q.rule.mode cs (the_state t q)) (heads-loop t q c.requires.right c.args.p c.len-known.result c.number_of.result all)

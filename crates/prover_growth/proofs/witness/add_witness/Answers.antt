@@ -12,7 +12,6 @@ use Rattle.prover_state.specs.declared.command.Planned.{Planned}
 use Rattle.prover_state.specs.declared.command.Delays.{Delays}
 use Rattle.prover_state.specs.declared.tables.Basis.{Basis}
 use Rattle.prover_state.specs.declared.tables.Tables.{Tables}
-use Rattle.prover_state.specs.Delays.{the_mode}
 use Rattle.prover_state.specs.Internal.Growing.{BasisWidens}
 use Rattle.prover_state.specs.Internal.Names.{IsNumberIn}
 use Rattle.prover_state.specs.Internal.Standing.{rows_in, setting_by, sketches_in, the_state}
@@ -49,8 +48,8 @@ returns-then-len-before-clause-state g c = λ a f denies.
     let d : SatLit → Literal = bank_literal t1.basis.bank.terms t1.basis.lits in
     let on : d c.args.lit ≡ minus (every a f) = denies-on t.basis t1.basis told.widens c.requires.right.basis c.args.lit c.requires.number a f denies in
     let added : the_state t2 q2 ≡ with_denial (setting_by t q) a f s (record s { rows = with_row s.rows r }) =
-    denial-added (setting_by t q) a f s (the_state t2 q2) (the_state t1 q1) (the_mode q1.rule.mode) (map d i.principals) (map (map d) i.alternatives) (with_row s.rows r) c.in_ok-add_instance.ensures.state
-    (ap (λ (p : Queue Planned Delays). the_mode p.rule.mode) told.plan) (ap (map d) told.principals ∙ ap (λ (l : Literal). l ∷ []) on) (told.alternatives a f denies) (told.state a f denies) in
+    denial-added (setting_by t q) a f s (the_state t2 q2) (the_state t1 q1) q1.rule.mode (map d i.principals) (map (map d) i.alternatives) (with_row s.rows r) c.in_ok-add_instance.ensures.state
+    (ap (λ (p : Queue Planned Delays). p.rule.mode) told.plan) (ap (map d) told.principals ∙ ap (λ (l : Literal). l ∷ []) on) (told.alternatives a f denies) (told.state a f denies) in
     let basis : t2.basis ≡ t1.basis = ap (λ (x : Tables). x.basis) c.in_ok-add_instance.ensures.tables in
     let size : length (with_row (rows_in t.basis) r) ≡ length t2.basis.witnesses = ap length (sym (told.rows a f denies)) ∙ rows-length t1.basis ∙ ap (λ (h : Basis). length h.witnesses) (sym basis) in
     added ∙ witnessed-before (setting_by t q) a f s (came-not (rows_in t.basis) r (size ∙ sym c.len.ensures ∙ c.if-len-before.true ∙ c.len-before.ensures ∙ sym (rows-length t.basis)))
@@ -70,14 +69,14 @@ returns-clause-state g c = λ a f denies.
     let d : SatLit → Literal = bank_literal t1.basis.bank.terms t1.basis.lits in
     let on : d c.args.lit ≡ minus (every a f) = denies-on t.basis t1.basis told.widens c.requires.right.basis c.args.lit c.requires.number a f denies in
     let added : the_state t2 q2 ≡ with_denial (setting_by t q) a f s (record s { rows = with_row s.rows r }) =
-    denial-added (setting_by t q) a f s (the_state t2 q2) (the_state t1 q1) (the_mode q1.rule.mode) (map d i.principals) (map (map d) i.alternatives) (with_row s.rows r) c.in_ok-add_instance.ensures.state
-    (ap (λ (p : Queue Planned Delays). the_mode p.rule.mode) told.plan) (ap (map d) told.principals ∙ ap (λ (l : Literal). l ∷ []) on) (told.alternatives a f denies) (told.state a f denies) in
+    denial-added (setting_by t q) a f s (the_state t2 q2) (the_state t1 q1) q1.rule.mode (map d i.principals) (map (map d) i.alternatives) (with_row s.rows r) c.in_ok-add_instance.ensures.state
+    (ap (λ (p : Queue Planned Delays). p.rule.mode) told.plan) (ap (map d) told.principals ∙ ap (λ (l : Literal). l ∷ []) on) (told.alternatives a f denies) (told.state a f denies) in
     let basis : t2.basis ≡ t1.basis = ap (λ (x : Tables). x.basis) c.in_ok-add_instance.ensures.tables in
     let size : length (with_row (rows_in t.basis) r) ≡ length t2.basis.witnesses = ap length (sym (told.rows a f denies)) ∙ rows-length t1.basis ∙ ap (λ (h : Basis). length h.witnesses) (sym basis) in
     let rule : q2.rule ≡ q.rule = c.in_ok-add_instance.ensures.rule ∙ ap (λ (p : Queue Planned Delays). p.rule) told.plan in
     let more : length (with_row (rows_in t.basis) r) ≡ length (rows_in t.basis) → ⊥ = λ e. c.if-len-before.false (c.len.ensures ∙ sym size ∙ e ∙ rows-length t.basis ∙ sym c.len-before.ensures) in
     c.in_ok-grow_with.ensures.state
-    ∙ ap (λ (x : Delays). with_commands (the_mode x.mode) (map (λ (p : Sketch). grow p (constant (witness c.len-before.result))) (filter (has_hole_of c.denied_target-output.result) (sketches_in t2))) (the_state t2 q2)) rule
+    ∙ ap (λ (x : Delays). with_commands x.mode (map (λ (p : Sketch). grow p (constant (witness c.len-before.result))) (filter (has_hole_of c.denied_target-output.result) (sketches_in t2))) (the_state t2 q2)) rule
     ∙ witnessed-now (setting_by t q) a f s (came (rows_in t.basis) r more) (the_state t2 q2) added c.denied_target-output.result c.len-before.result (c.denied_target-output.ensures a f denies) (c.len-before.ensures ∙ sym (rows-length t.basis)) (sketches_in t2) refl
 
 pub returns-then-len-before-clause-basis : goal.returns-then-len-before-clause-basis

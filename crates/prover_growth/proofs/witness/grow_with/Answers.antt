@@ -5,7 +5,6 @@ use Rattle.stt_core.specs.Lambda.{witness, constant}
 use Rattle.instantiate.specs.Listing.{ids_of}
 use Rattle.search_spec.specs.State.{Sketch, Command as Meant, grow, with_commands}
 use Rattle.prover_state.specs.declared.command.Command.TheVariants.{Grow}
-use Rattle.prover_state.specs.Delays.{the_mode}
 use Rattle.prover_state.specs.Internal.Names.{sketch_at, command_at}
 use Rattle.prover_state.specs.Internal.Pending.{over_parked}
 use Rattle.prover_state.specs.Internal.Standing.{naming_in, sketches_in, sources, the_state}
@@ -20,7 +19,7 @@ pub returns-then-count-eq0-clause-state : goal.returns-then-count-eq0-clause-sta
 returns-then-count-eq0-clause-state g c =
     let t = c.args.core.now.tables in
     let q = c.args.core.now.plan in
-    let mode = the_mode q.rule.mode in
+    let mode = q.rule.mode in
     let s = the_state t q in
     let none : ids_of (base c.args.output) t.holes ≡ [] = sym c.under-parked.ensures ∙ no-items c.under-parked.result.now (omega (arith, c.if-count-eq0.true)) in
     sym (pushed-nothing mode s)
@@ -71,5 +70,5 @@ returns-clause-state g c =
     let w = constant (witness c.args.w) in
     let at = ap (λ (xs : List ℕ). slice_get xs 0) (sym c.under-parked.ensures) ∙ there-is vs 0 0 (omega (arith, c.if-count-eq0.false)) in
     c.in_ok-push_whole.ensures.state
-    ∙ ap (λ (cs : List Meant). with_commands (the_mode q.rule.mode) cs (the_state t q))
+    ∙ ap (λ (cs : List Meant). with_commands q.rule.mode cs (the_state t q))
     (parked-are t q c.requires.right c.args.output h w c.number_of.ensures.head i at ∙ sym (parked-commands t q c.requires.right c.args.output h w c.number_of.ensures.head))

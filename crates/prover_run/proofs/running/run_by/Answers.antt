@@ -1,6 +1,5 @@
 use Rattle.std.proofs.Common.{◌≡◌, ◌∙◌}
 use Rattle.std.proofs.lemmas.Result.{IfOk-weaker}
-use Rattle.prover_state.specs.Delays.{the_mode}
 use Rattle.prover_state.specs.Internal.Standing.{setting_by}
 use Rattle.prover_search.specs.Internal.Running.{start_in}
 use Rattle.prover_search.proofs.SearchLaws.{scope-same}
@@ -18,5 +17,5 @@ returns g c =
     let q = c.in_ok-search.search.core.plan in
     let scope = scope-same p c.requires.typed t.basis.bank made.bases made.consts in
     let mode = made.under_way.mode ∙ made.mode in
-    let setting : setting_by t q ≡ setting_for p m = λ i. record { scope = scope i; mode = the_mode (mode i) } in
+    let setting : setting_by t q ≡ setting_for p m = λ i. record { scope = scope i; mode = mode i } in
     IfOk-weaker c.run_on-ended.result (EndsFrom (setting_by t q) (start_in t)) (EndsAs p m) (ends-as p m (setting_by t q) (start_in t) setting made.start) c.run_on-ended.ensures

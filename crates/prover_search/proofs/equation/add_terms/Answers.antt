@@ -2,10 +2,9 @@ use Rattle.std.proofs.Common.{sym, ap, ap₂, ◌∙◌, subst}
 use Rattle.stt_core.specs.SimpleType.{base}
 use Rattle.stt_core.specs.Lambda.{Lambda}
 use Rattle.term_bank.specs.Terms.{term_at}
-use Rattle.search_spec.specs.Mode.{Mode}
+use Rattle.mode_file.specs.declared.Mode.{Mode}
 use Rattle.search_spec.specs.Terms.{with_term}
 use Rattle.prover_state.specs.declared.tables.Tables.{Tables}
-use Rattle.prover_state.specs.Delays.{the_mode}
 use Rattle.prover_state.specs.Internal.Names.{IsPlace}
 use Rattle.prover_state.specs.Internal.Standing.{the_state}
 use Rattle.prover_search.proofs.WorkLaws.{mode-same}
@@ -24,7 +23,7 @@ returns-clause-state g c =
     c.in_ok-add_term-2.ensures.state
     ∙ ap₂ (λ (m : Mode) (y : Lambda). with_term m b y (the_state one.tables one.plan)) (mode-same core.tables one.tables core.plan one.plan c.in_ok-add_term.ensures.rule)
     (ap (λ (x : Tables). term_at x.basis.bank.terms c.args.sides.right) c.in_ok-add_term.ensures.tables)
-    ∙ ap (with_term (the_mode core.plan.rule.mode) b (term_at core.tables.basis.bank.terms c.args.sides.right)) c.in_ok-add_term.ensures.state
+    ∙ ap (with_term core.plan.rule.mode b (term_at core.tables.basis.bank.terms c.args.sides.right)) c.in_ok-add_term.ensures.state
 
 pub returns-clause-tables : goal.returns-clause-tables
 returns-clause-tables g c =

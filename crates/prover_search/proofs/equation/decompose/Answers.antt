@@ -6,7 +6,6 @@ use Rattle.search_spec.specs.Alternatives.{Alternatives, differ}
 use Rattle.search_spec.specs.Instances.{with_instance}
 use Rattle.search_spec.specs.Spine.{head_of, arguments}
 use Rattle.term_bank.specs.Terms.{term_at}
-use Rattle.prover_state.specs.Delays.{the_mode}
 use Rattle.prover_state.specs.Internal.Standing.{scope_by, setting_by, the_state}
 use Rattle.prover_search.proofs.DevelopLaws.{develops-same}
 use Rattle.prover_search.proofs.RuleUses.{scope-is}
@@ -46,5 +45,5 @@ returns-clause-state g c = λ n e.
     let over = subst IsScope (sym (scope-is basis good)) c.sig-declared.ensures.declared in
     let as' : Alternatives = differ (type_of (scope_by basis) [] (head_of x)) (arguments x) (arguments y) in
     c.in_ok-apply_alone.ensures.state as' (dec-takes basis c.args.lit good c.requires.number over n x y e both)
-    ∙ ap (λ (k : Literal). with_instance (the_mode core.plan.rule.mode) (k ∷ []) as' s) e
+    ∙ ap (λ (k : Literal). with_instance core.plan.rule.mode (k ∷ []) as' s) e
     ∙ decomposed-is setting s (base (suc n)) x y both

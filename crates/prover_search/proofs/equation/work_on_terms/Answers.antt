@@ -7,7 +7,6 @@ use Rattle.literal_map.specs.Atoms.{bank_literal}
 use Rattle.search_spec.specs.Partners.{confrontations}
 use Rattle.search_spec.specs.State.{with_commands}
 use Rattle.prover_state.specs.declared.tables.Tables.{Tables}
-use Rattle.prover_state.specs.Delays.{the_mode}
 use Rattle.prover_state.specs.Internal.Pending.{equation_type}
 use Rattle.prover_state.specs.Internal.Standing.{setting_by, the_state}
 use Rattle.prover_search.specs.declared.shape.Shape.TheVariants.{BaseEquation}
@@ -29,7 +28,7 @@ returns-clause-state g c =
     let new = c.push_confrontations.new.self in
     let l : Literal = bank_literal basis.bank.terms basis.lits c.args.lit in
     let s = the_state core.tables core.plan in
-    let mode = the_mode core.plan.rule.mode in
+    let mode = core.plan.rule.mode in
     let k = shaped-as l.atom (BaseEquation c.args.n) c.requires.shape in
     let e = literal-is l true (eq (base (suc k.0)) k.1 k.2) (not-false c.args.lit.positive c.if-not-lit.false) k.4 in
     worked-as (setting_by core.tables core.plan) s l (plus (eq (base (suc k.0)) k.1 k.2)) (the_state new.tables new.plan) e

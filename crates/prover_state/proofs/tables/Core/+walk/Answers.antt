@@ -4,11 +4,10 @@ use Rattle.stt_core.specs.Lambda.{Lambda}
 use Rattle.stt_core.proofs.ListLaws.{drop_got}
 use Rattle.term_bank.specs.Terms.{term_at}
 use Rattle.search_spec.specs.Each.{Each}
-use Rattle.search_spec.specs.Mode.{Mode}
+use Rattle.mode_file.specs.declared.Mode.{Mode}
 use Rattle.search_spec.specs.Selections.{selections_in, with_selections}
 use Rattle.search_spec.specs.State.{State}
 use Rattle.prover_state.specs.declared.tables.Tables.{Tables}
-use Rattle.prover_state.specs.Delays.{the_mode}
 use Rattle.prover_state.specs.Internal.Selecting.{term_parts, head_selection, IsTakenSelection, AreTaken}
 use Rattle.prover_state.specs.Internal.Standing.{the_state}
 use Rattle.prover_state.proofs.SelectingLaws.{all_in, selections-split, are-kept, all-taken, taken-leaves, selections-append, any-member, one-more}
@@ -19,7 +18,7 @@ returns-then-contains-clause-state g t c =
     let self = c.args.self.now in
     let terms = self.tables.basis.bank.terms in
     let u = term_at terms c.args.id in
-    let mode = the_mode self.plan.rule.mode in
+    let mode = self.plan.rule.mode in
     let s = the_state self.tables self.plan in
     sym (taken-leaves mode (selections_in u) s (any-member (λ i. Each (IsTakenSelection s) (selections_in (term_at terms i))) c.args.id c.args.walked.now (sym c.contains.ensures ∙ c.if-contains.true) c.requires.taken))
 
@@ -28,7 +27,7 @@ loop-i-init g t c =
     let self = c.args.self.now in
     let terms = self.tables.basis.bank.terms in
     let u = term_at terms c.args.id in
-    let mode = the_mode self.plan.rule.mode in
+    let mode = self.plan.rule.mode in
     let s = the_state self.tables self.plan in
     let e = c.in_ok-select_head.ensures in
     record {
@@ -47,7 +46,7 @@ loop-i-preserved g t c =
     let self = c.args.self.now in
     let terms = self.tables.basis.bank.terms in
     let u = term_at terms c.args.id in
-    let mode = the_mode self.plan.rule.mode in
+    let mode = self.plan.rule.mode in
     let s = the_state self.tables self.plan in
     let inv = c.loop-i.invariant in
     let e = c.in_ok-walk.ensures in
@@ -62,7 +61,7 @@ loop-i-preserved g t c =
       rule = e.rule ∙ inv.rule;
       taken = subst (λ (ts : List Lambda). AreTaken (the_state c.walk.new.self.tables c.walk.new.self.plan) ts c.walk.new.walked) same e.taken;
       state =
-          ap (with_selections mode rest) (e.state ∙ ap₂ (λ (m : Mode) (ts : List Lambda). with_selections m (selections_in (term_at ts c.part_of-part.result)) now) (ap (λ r. the_mode r.mode) inv.rule) same)
+          ap (with_selections mode rest) (e.state ∙ ap₂ (λ (m : Mode) (ts : List Lambda). with_selections m (selections_in (term_at ts c.part_of-part.result)) now) (ap (λ r. r.mode) inv.rule) same)
           ∙ sym (selections-append mode (selections_in v) rest now)
           ∙ sym (ap (λ us. with_selections mode (all_in us) now) (drop_got (term_parts u) c.loop-i.i v part))
           ∙ inv.state;
@@ -73,7 +72,7 @@ returns-clause-state g t c =
     let self = c.args.self.now in
     let terms = self.tables.basis.bank.terms in
     let u = term_at terms c.args.id in
-    let mode = the_mode self.plan.rule.mode in
+    let mode = self.plan.rule.mode in
     let s = the_state self.tables self.plan in
     let now = the_state c.loop-i.self.tables c.loop-i.self.plan in
     let n = c.count_parts-i-end.ensures ∙ ap (λ (x : Tables). length (term_parts (term_at x.basis.bank.terms c.args.id))) c.in_ok-select_head.ensures.tables in
@@ -84,7 +83,7 @@ returns-clause-taken g t c =
     let self = c.args.self.now in
     let terms = self.tables.basis.bank.terms in
     let u = term_at terms c.args.id in
-    let mode = the_mode self.plan.rule.mode in
+    let mode = self.plan.rule.mode in
     let s = the_state self.tables self.plan in
     let now = the_state c.loop-i.self.tables c.loop-i.self.plan in
     let T : ℕ → Type 0 = λ i. Each (IsTakenSelection now) (selections_in (term_at terms i)) in

@@ -9,7 +9,6 @@ use Rattle.search_spec.specs.Numbered.{numbers}
 use Rattle.tableau_clauses.specs.Table.{the_clauses}
 use Rattle.search_spec.specs.Instances.{with_literals}
 use Rattle.prover_state.specs.declared.command.Delays.{Delays}
-use Rattle.prover_state.specs.Delays.{the_mode}
 use Rattle.prover_state.specs.Internal.Names.{IsNumberIn}
 use Rattle.prover_state.specs.Internal.Standing.{the_state}
 use Rattle.prover_state.specs.Internal.Steps.{StepsGrow}
@@ -23,7 +22,7 @@ pub returns-then-not-all_shallow-clause-state : goal.returns-then-not-all_shallo
 returns-then-not-all_shallow-clause-state g c =
     let self = c.args.self.now in
     let i = c.args.instance in
-    too_deep self.tables self.plan c.equal_ids_for_equal_terms.ensures c.atoms_differ.ensures c.requires.right (the_mode self.plan.rule.mode) i.principals i.alternatives c.requires.principals c.requires.alternatives
+    too_deep self.tables self.plan c.equal_ids_for_equal_terms.ensures c.atoms_differ.ensures c.requires.right self.plan.rule.mode i.principals i.alternatives c.requires.principals c.requires.alternatives
     (sym c.all_shallow.ensures ∙ c.if-not-all_shallow.true)
 
 pub add_clauses-requires-clause-numbers : goal.add_clauses-requires-clause-numbers
@@ -32,14 +31,14 @@ add_clauses-requires-clause-numbers g c =
     let i = c.args.instance in
     let N : ℕ → Type 0 = λ n. Each (Each (λ (l : SatLit). l.var.0 < n)) (with_clauses numbers (the_clauses self.tables.steps) (instance_clauses numbers i.principals i.alternatives)) in
     subst N (sym c.len-atoms.ensures)
-    (clauses_are_numbers self.tables self.plan c.equal_ids_for_equal_terms.ensures c.atoms_differ.ensures c.requires.right (the_mode self.plan.rule.mode) i.principals i.alternatives c.requires.principals c.requires.alternatives)
+    (clauses_are_numbers self.tables self.plan c.equal_ids_for_equal_terms.ensures c.atoms_differ.ensures c.requires.right self.plan.rule.mode i.principals i.alternatives c.requires.principals c.requires.alternatives)
 
 pub see_all-requires-clause-right : goal.see_all-requires-clause-right
 see_all-requires-clause-right g c =
     let self = c.args.self.now in
     let i = c.args.instance in
     right-room _ self.plan c.reserve.new.self c.reserve.ensures.same
-    (right-added self.tables self.plan c.equal_ids_for_equal_terms.ensures c.atoms_differ.ensures c.requires.right (the_mode self.plan.rule.mode) i.principals i.alternatives c.requires.principals c.requires.alternatives
+    (right-added self.tables self.plan c.equal_ids_for_equal_terms.ensures c.atoms_differ.ensures c.requires.right self.plan.rule.mode i.principals i.alternatives c.requires.principals c.requires.alternatives
     c.add_clauses.new.steps c.add_clauses.new.solver c.in_ok-add_clauses.ensures.clauses c.in_ok-add_clauses.ensures.same c.add_clauses.ensures.learned)
 
 pub see_all-requires-clause-numbers : goal.see_all-requires-clause-numbers
@@ -55,10 +54,10 @@ returns-clause-state g c =
     let t = record self.tables { steps = c.add_clauses.new.steps; solver = c.add_clauses.new.solver } in
     let all : List SatLit = flat_map (λ (a : List SatLit). a) i.alternatives in
     c.in_ok-see_all.ensures.state
-    ∙ ap (λ (ls : List SatLit). with_literals (the_mode c.reserve.new.self.rule.mode) (map d ls) (the_state t c.reserve.new.self)) (c.as_slice.ensures.value ∙ c.in_ok-lits.ensures)
-    ∙ ap (λ (r : Delays). with_literals (the_mode r.mode) (map d all) (the_state t c.reserve.new.self)) c.reserve.ensures.same.rule
-    ∙ ap (with_literals (the_mode self.plan.rule.mode) (map d all)) (state-room t self.plan c.reserve.new.self c.reserve.ensures.same)
-    ∙ shallow_added self.tables self.plan c.equal_ids_for_equal_terms.ensures c.atoms_differ.ensures c.requires.right (the_mode self.plan.rule.mode) i.principals i.alternatives c.requires.principals c.requires.alternatives
+    ∙ ap (λ (ls : List SatLit). with_literals c.reserve.new.self.rule.mode (map d ls) (the_state t c.reserve.new.self)) (c.as_slice.ensures.value ∙ c.in_ok-lits.ensures)
+    ∙ ap (λ (r : Delays). with_literals r.mode (map d all) (the_state t c.reserve.new.self)) c.reserve.ensures.same.rule
+    ∙ ap (with_literals self.plan.rule.mode (map d all)) (state-room t self.plan c.reserve.new.self c.reserve.ensures.same)
+    ∙ shallow_added self.tables self.plan c.equal_ids_for_equal_terms.ensures c.atoms_differ.ensures c.requires.right self.plan.rule.mode i.principals i.alternatives c.requires.principals c.requires.alternatives
     c.add_clauses.new.steps c.add_clauses.new.solver c.in_ok-add_clauses.ensures.clauses (sym c.all_shallow.ensures ∙ c.if-not-all_shallow.false)
 
 pub returns-then-not-all_shallow-clause-steps : goal.returns-then-not-all_shallow-clause-steps

@@ -8,7 +8,6 @@ use Rattle.literal_map.specs.Atoms.{bank_literal}
 use Rattle.instantiate.specs.Listing.{ids_of}
 use Rattle.prover_state.specs.declared.command.Command.TheVariants.{Inst}
 use Rattle.prover_state.specs.declared.command.Over.TheVariants.{Universals}
-use Rattle.prover_state.specs.Delays.{the_mode}
 use Rattle.prover_state.specs.Internal.Names.{command_at}
 use Rattle.prover_state.specs.Internal.Pending.{loop_over, BeginsWith}
 use Rattle.prover_state.specs.Internal.Standing.{without_witnesses, naming_in, sources, the_state}
@@ -28,7 +27,7 @@ pub returns-then-not-branch-clause-state : goal.returns-then-not-branch-clause-s
 returns-then-not-branch-clause-state g c =
     let self = c.args.self.now in
     let a = the_type c.args.ty.now in
-    was-there self.tables self.plan c.requires.right a c.args.id c.requires.place c.equal_ids_for_equal_terms.ensures (the_mode self.plan.rule.mode) c.add_term.new.self c.in_ok-add_term.ensures.ok
+    was-there self.tables self.plan c.requires.right a c.args.id c.requires.place c.equal_ids_for_equal_terms.ensures self.plan.rule.mode c.add_term.new.self c.in_ok-add_term.ensures.ok
     (was_there (list_any (nat_eq c.args.id) (ids_of a self.tables.terms)) (sym c.in_ok-add_term.ensures.fresh ∙ c.if-not-branch.true))
 
 pub returns-then-not-branch-clause-right : goal.returns-then-not-branch-clause-right
@@ -47,7 +46,7 @@ returns-then-count-eq0-clause-state g c =
     let a = the_type c.args.ty.now in
     let u = term_at self.tables.basis.bank.terms c.args.id in
     let after = the_state (record self.tables { terms = c.add_term.new.self }) self.plan in
-    let mode = the_mode self.plan.rule.mode in
+    let mode = self.plan.rule.mode in
     let none : ids_of a self.tables.universals ≡ [] = sym c.terms_of-universals.ensures ∙ no-head c.terms_of-universals.result.now (omega (arith, c.if-count-eq0.true)) in
     sym (pushed-nothing mode after)
     ∙ ap (λ (vs : List ℕ). with_commands mode (map (λ l. inst l u) (map (bank_literal self.tables.basis.bank.terms self.tables.basis.lits) (map (noted_at self.tables self.plan c.requires.right a) vs))) after) (sym none)
@@ -98,7 +97,7 @@ returns-clause-state g c =
     let self = c.args.self.now in
     let t = record self.tables { terms = c.add_term.new.self } in
     let after = the_state t self.plan in
-    let mode = the_mode self.plan.rule.mode in
+    let mode = self.plan.rule.mode in
     let a = the_type c.args.ty.now in
     let vs = c.terms_of-universals.result.now in
     let ids : ids_of a self.tables.universals ≡ get_or vs 0 0 ∷ drop 1 vs = sym c.terms_of-universals.ensures ∙ head-is vs (omega (arith, c.if-count-eq0.false)) in

@@ -6,7 +6,6 @@ use Rattle.tableau_rules.specs.Uses.{principals_of}
 use Rattle.search_spec.specs.Each.{Each}
 use Rattle.search_spec.specs.Instances.{with_instance}
 use Rattle.search_spec.specs.State.{State}
-use Rattle.prover_state.specs.Delays.{the_mode}
 use Rattle.prover_state.specs.Internal.Names.{IsNumberIn}
 use Rattle.prover_state.specs.Internal.Standing.{the_state}
 use Rattle.prover_state.specs.Internal.Steps.{IsMadeInstance, StepsGrow}
@@ -37,7 +36,7 @@ returns-clause-state g c = λ alternatives h.
     let new = c.make_instance.new.self in
     let grows = c.in_ok-instance.ensures.grows in
     let t = record self.tables { basis = new } in
-    let mode = the_mode self.plan.rule.mode in
+    let mode = self.plan.rule.mode in
     let d : SatLit → Literal = bank_literal new.bank.terms new.lits in
     let made = map (map d) c.in_ok-instance.instance.alternatives in
     c.in_ok-add_instance.ensures.state

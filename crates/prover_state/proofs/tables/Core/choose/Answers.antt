@@ -1,6 +1,5 @@
 use Rattle.std.proofs.Common.{◌≡◌, not, nat_eq, Bool, true, false, refl, sym, ◌∙◌}
 use Rattle.std.specs.List.{list_any}
-use Rattle.prover_state.specs.Delays.{the_mode}
 use Rattle.prover_state.proofs.SelectionLaws.{chosen-before, chosen-now, right-chosen}
 use Rattle.prover_state.proofs.tables.Core.choose.Goals as goal
 
@@ -15,22 +14,22 @@ was_new false e = refl
 pub returns-then-not-branch-clause-state : goal.returns-then-not-branch-clause-state
 returns-then-not-branch-clause-state g c =
     let self = c.args.self.now in
-    chosen-before self.tables self.plan c.equal_ids_for_equal_terms.ensures c.requires.right (the_mode self.plan.rule.mode) c.args.predicate c.requires.place c.insert.new.self c.in_ok-insert.ensures.list
+    chosen-before self.tables self.plan c.equal_ids_for_equal_terms.ensures c.requires.right self.plan.rule.mode c.args.predicate c.requires.place c.insert.new.self c.in_ok-insert.ensures.list
     (was_there (list_any (nat_eq c.args.predicate) self.tables.chosen) (sym c.in_ok-insert.ensures.new ∙ c.if-not-branch.true))
 
 pub returns-then-not-branch-clause-right : goal.returns-then-not-branch-clause-right
 returns-then-not-branch-clause-right g c =
     let self = c.args.self.now in
-    right-chosen self.tables self.plan c.equal_ids_for_equal_terms.ensures c.requires.right (the_mode self.plan.rule.mode) c.args.predicate c.requires.place c.insert.new.self c.in_ok-insert.ensures.list
+    right-chosen self.tables self.plan c.equal_ids_for_equal_terms.ensures c.requires.right self.plan.rule.mode c.args.predicate c.requires.place c.insert.new.self c.in_ok-insert.ensures.list
 
 pub push_alone-requires-clause-right : goal.push_alone-requires-clause-right
 push_alone-requires-clause-right g c =
     let self = c.args.self.now in
-    right-chosen self.tables self.plan c.equal_ids_for_equal_terms.ensures c.requires.right (the_mode self.plan.rule.mode) c.args.predicate c.requires.place c.insert.new.self c.in_ok-insert.ensures.list
+    right-chosen self.tables self.plan c.equal_ids_for_equal_terms.ensures c.requires.right self.plan.rule.mode c.args.predicate c.requires.place c.insert.new.self c.in_ok-insert.ensures.list
 
 pub returns-clause-state : goal.returns-clause-state
 returns-clause-state g c =
     let self = c.args.self.now in
     c.in_ok-push_alone.ensures.state
-    ∙ chosen-now self.tables self.plan c.equal_ids_for_equal_terms.ensures c.requires.right (the_mode self.plan.rule.mode) c.args.predicate c.requires.place c.insert.new.self c.in_ok-insert.ensures.list
+    ∙ chosen-now self.tables self.plan c.equal_ids_for_equal_terms.ensures c.requires.right self.plan.rule.mode c.args.predicate c.requires.place c.insert.new.self c.in_ok-insert.ensures.list
     (was_new (list_any (nat_eq c.args.predicate) self.tables.chosen) (sym c.in_ok-insert.ensures.new ∙ c.if-not-branch.false))

@@ -6,7 +6,6 @@ use Rattle.literal_map.specs.Atoms.{bank_literal}
 use Rattle.mating_rules.specs.Noted.{partners_of}
 use Rattle.search_spec.specs.Partners.{confrontations}
 use Rattle.search_spec.specs.State.{Command as Meant, confront, with_commands}
-use Rattle.prover_state.specs.Delays.{the_mode}
 use Rattle.prover_state.specs.Internal.Names.{IsNumberIn}
 use Rattle.prover_state.specs.Internal.Pending.{equation_type, is_base_equation}
 use Rattle.prover_state.specs.Internal.Standing.{the_state}
@@ -22,7 +21,7 @@ returns-then-count-eq0-clause-state g c =
     let q = c.args.self.now.plan in
     let r = c.requires.right in
     let l = c.args.lit in
-    let mode = the_mode q.rule.mode in
+    let mode = q.rule.mode in
     let s = the_state t q in
     sym (pushed-nothing mode s)
     ∙ ap (λ (cs : List Meant). with_commands mode cs s) (sym (none-confronted t q r l (ap is_base_equation c.requires.equation.is) (sym c.in_ok-partners.ensures ∙ no-items c.in_ok-partners.partners.now (omega (arith, c.if-count-eq0.true)))))

@@ -6,7 +6,6 @@ use Rattle.literal_map.specs.Atoms.{bank_literal}
 use Rattle.instantiate.specs.Listing.{ids_of}
 use Rattle.search_spec.specs.State.{Command as Meant, with_commands}
 use Rattle.prover_state.specs.declared.command.Command.TheVariants.{Inst}
-use Rattle.prover_state.specs.Delays.{the_mode}
 use Rattle.prover_state.specs.Internal.Names.{command_at, IsPlace}
 use Rattle.prover_state.specs.Internal.Pending.{range_of, over_terms}
 use Rattle.prover_state.specs.Internal.Standing.{naming_in, sources, the_state}
@@ -24,7 +23,7 @@ returns-then-count-eq0-clause-state g c =
     let l = c.args.lit in
     let d : SatLit → Literal = bank_literal t.basis.bank.terms t.basis.lits in
     let ids = ids_of (range_of (d l).atom) t.terms in
-    let mode = the_mode q.rule.mode in
+    let mode = q.rule.mode in
     let s = the_state t q in
     let none : ids ≡ [] = sym c.listed_under-ids.ensures ∙ no-items c.listed_under-ids.result.now (omega (arith, c.if-count-eq0.true)) in
     sym (pushed-nothing mode s) ∙ ap (λ (cs : List Meant). with_commands mode cs s) (sym (terms-loop t q r l 0 ∙ ap (map (λ i. command_at (naming_in t) (Inst l i))) none))

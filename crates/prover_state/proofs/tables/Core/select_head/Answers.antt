@@ -5,7 +5,6 @@ use Rattle.term_bank.specs.Terms.{term_at}
 use Rattle.search_spec.specs.Each.{Each}
 use Rattle.search_spec.specs.Selections.{by_choice, by_description, with_selection, with_selections}
 use Rattle.search_spec.proofs.TypedSelections.{IsPredicate}
-use Rattle.prover_state.specs.Delays.{the_mode}
 use Rattle.prover_state.specs.Internal.Standing.{the_state}
 use Rattle.prover_state.proofs.SelectingLaws.{head-typed, binder-is, on-ok}
 use Rattle.prover_state.proofs.tables.Core.select_head.Goals as goal
@@ -16,7 +15,7 @@ returns-in-Chosen-clause-state g c =
     let b = t.basis.bank in
     let u = term_at b.terms c.args.id in
     let f = term_at b.terms c.in-Chosen.predicate in
-    let mode = the_mode c.args.self.now.plan.rule.mode in
+    let mode = c.args.self.now.plan.rule.mode in
     let s = the_state t c.args.self.now.plan in
     let a = c.in-Chosen.ensures.1.0 in
     let is = c.in-Chosen.ensures.1.1 in
@@ -31,7 +30,7 @@ returns-in-Described-clause-state g c =
     let b = t.basis.bank in
     let u = term_at b.terms c.args.id in
     let f = term_at b.terms c.in-Described.predicate in
-    let mode = the_mode c.args.self.now.plan.rule.mode in
+    let mode = c.args.self.now.plan.rule.mode in
     let s = the_state t c.args.self.now.plan in
     let a = c.in-Described.ensures.1.0 in
     let is = c.in-Described.ensures.1.1 in
