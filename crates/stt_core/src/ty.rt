@@ -1,6 +1,6 @@
 //! Types.
 
-ghost use Rattle.std.specs.Prelude.{◌≡◌, ◌<◌, ◌++◌, [], ◌∷◌, length, OnOk, OnErr, IfOk, slice_get, drop, reverse, option_map};
+ghost use Rattle.std.specs.Prelude.{◌≡◌, ◌<◌, ◌++◌, [], ◌∷◌, length, OnOk, OnErr, IfOk, slice_get, reverse, option_map};
 ghost use Rattle.stt_core.specs.SimpleType.{arrow, same_type};
 ghost use Rattle.stt_core.specs.View.{the_type};
 
@@ -124,21 +124,5 @@ impl Types {
         } else {
             None
         }
-    }
-
-    /// Adds copies of the other list's types, from place `start` on.
-    pub fn append_from(
-        &mut self,
-        alloc: Global,
-        other: &Types,
-        start: usize,
-    ) -> Result<(), AllocError>
-        ensures { OnOk result (self.new ≡ self.old ++ drop start other.now) }
-    {
-        for i in start..other.len() {
-            let ty = other.at(i).try_clone(alloc)?;
-            self.push(ty)?;
-        }
-        Ok(())
     }
 }

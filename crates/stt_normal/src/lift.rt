@@ -4,6 +4,7 @@ ghost use Rattle.std.specs.Prelude.{◌≡◌, ◌+◌, IfOk};
 ghost use Rattle.stt_core.specs.View.{the_head};
 ghost use Rattle.stt_core.specs.Lift.{lift_by};
 
+use crate::part::append;
 use std::alloc::{AllocError, Global};
 use stt_core::{Head, Nf, Nfs, Types};
 
@@ -44,7 +45,7 @@ pub fn lift_nf(alloc: Global, by: u32, from: u32, nf: &Nf) -> Result<Nf, AllocEr
         args.push(arg)?;
     }
     let mut binders = Types::new(alloc);
-    binders.append_from(alloc, &nf.binders, 0)?;
+    append(alloc, &mut binders, &nf.binders, 0)?;
     let head = lift_head(alloc, by, inner, &nf.head)?;
     Ok(Nf {
         binders,

@@ -1,6 +1,6 @@
 //! Canonical terms from parts.
 
-ghost use Rattle.std.specs.Prelude.{◌≡◌, [], ◌∷◌, ◌++◌, IfOk, drop};
+ghost use Rattle.std.specs.Prelude.{◌≡◌, [], ◌∷◌, ◌++◌, IfOk, OnOk, drop};
 ghost use Rattle.stt_core.specs.Lambda.{lam, lambdas, applied};
 ghost use Rattle.stt_core.specs.View.{the_head, the_type};
 
@@ -35,6 +35,22 @@ pub fn bind(alloc: Global, ty: &Ty, body: Nf) -> Result<Nf, AllocError>
     })
 }
 
+/// Adds copies of the other list's types, from place `start` on.
+pub fn append(
+    alloc: Global,
+    types: &mut Types,
+    other: &Types,
+    start: usize,
+) -> Result<(), AllocError>
+    ensures { OnOk result (types.new ≡ types.old ++ drop start other.now) }
+{
+    for i in start..other.len() {
+        let ty = other.at(i).try_clone(alloc)?;
+        types.push(ty)?;
+    }
+    Ok(())
+}
+
 /// The term under all but the first `skip` of these binders.
 pub fn bind_all(alloc: Global, outer: &Types, skip: usize, body: Nf) -> Result<Nf, AllocError>
     ensures { IfOk result (λ nf. nf ≡ lambdas (drop skip outer.now) body) }
@@ -45,8 +61,8 @@ pub fn bind_all(alloc: Global, outer: &Types, skip: usize, body: Nf) -> Result<N
         args,
     } = body;
     let mut binders = Types::new(alloc);
-    binders.append_from(alloc, outer, skip)?;
-    binders.append_from(alloc, &inner, 0)?;
+    append(alloc, &mut binders, outer, skip)?;
+    append(alloc, &mut binders, &inner, 0)?;
     Ok(Nf {
         binders,
         head,

@@ -14,16 +14,14 @@ use stt_core::{Problem, Signature, Term, Terms, Types};
 use stt_normal::normalise;
 use tableau_calculus::{Lit, Lits};
 
-impl Lits {
-    /// Adds the literal where the list doesn't have it.
-    pub fn add(&mut self, lit: Lit) -> Result<(), AllocError>
-        ensures { OnOk result (self.new ≡ added formulas self.old (lit ∷ [])) }
-    {
-        if !self.contains(&lit) {
-            self.push(lit)?;
-        }
-        Ok(())
+/// Adds the literal where the list doesn't have it.
+fn add(lits: &mut Lits, lit: Lit) -> Result<(), AllocError>
+    ensures { OnOk result (lits.new ≡ added formulas lits.old (lit ∷ [])) }
+{
+    if !lits.contains(&lit) {
+        lits.push(lit)?;
     }
+    Ok(())
 }
 
 /// The literal of a formula's normal form.
@@ -46,7 +44,7 @@ fn assumed_literals(alloc: Global, sig: &Signature, assumed: &Terms) -> Result<L
     let mut lits = Lits::new(alloc);
     for i in 0..assumed.len() {
         let lit = formula_literal(alloc, sig, assumed.at(i))?;
-        lits.add(lit)?;
+        add(&mut lits, lit)?;
     }
     Ok(lits)
 }
@@ -62,7 +60,7 @@ pub fn start_literals(alloc: Global, problem: &Problem) -> Result<Lits, AllocErr
         None => Ok(lits),
         Some(conjecture) => {
             let denied = formula_literal(alloc, sig, conjecture)?.opposite();
-            lits.add(denied)?;
+            add(&mut lits, denied)?;
             Ok(lits)
         }
     }

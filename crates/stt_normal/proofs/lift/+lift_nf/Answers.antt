@@ -20,9 +20,9 @@ loop-i-preserved t c =
 pub returns : goal.returns
 returns t c =
     let i = c.nf.inside in
-    lifted_whole c.args.by c.args.from c.in_ok-inner.inner i.binders c.append_from.new.self (the_head i.head) (the_head c.in_ok-head.head) i.args c.loop-i.args (take c.loop-i.i i.args) c.args.nf.now
+    lifted_whole c.args.by c.args.from c.in_ok-inner.inner i.binders c.append.new.types (the_head i.head) (the_head c.in_ok-head.head) i.args c.loop-i.args (take c.loop-i.i i.args) c.args.nf.now
     (c.in_ok-inner.ensures ∙ ap (λ n. c.args.from + n) c.len.ensures)
-    (c.in_ok-append_from.ensures ∙ ap (λ l. l ++ i.binders) c.new-binders.ensures)
+    (c.in_ok-append.ensures ∙ ap (λ l. l ++ i.binders) c.new-binders.ensures)
     c.in_ok-head.ensures
     c.loop-i.invariant
     (take_all c.loop-i.i i.args (omega (arith, c.len-i-end.ensures)))

@@ -8,6 +8,6 @@ pub returns : goal.returns
 returns c =
     let i = c.body.inside in
     let outer = drop c.args.skip c.args.outer.now in
-    ap (λ bs. lambdas bs (applied (the_head i.head) i.args)) (c.in_ok-append_from-2.ensures ∙ ap (λ bs. bs ++ i.binders) (c.in_ok-append_from.ensures ∙ ap (λ bs. bs ++ outer) c.new-binders.ensures))
+    ap (λ bs. lambdas bs (applied (the_head i.head) i.args)) (c.in_ok-append-2.ensures ∙ ap (λ bs. bs ++ i.binders) (c.in_ok-append.ensures ∙ ap (λ bs. bs ++ outer) c.new-binders.ensures))
     ∙ lambdas-append outer i.binders (applied (the_head i.head) i.args)
     ∙ ap (lambdas outer) c.body.view_is

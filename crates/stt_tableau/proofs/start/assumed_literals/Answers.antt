@@ -14,5 +14,5 @@ formula_literal-requires c = record {
 
 pub loop-i-preserved : goal.loop-i-preserved
 loop-i-preserved c =
-    added-more (normal_literal (the_scope c.args.sig.now [])) c.args.assumed.now c.loop-i.i (the_term c.at.result.now) c.loop-i.lits c.add.new.self c.at.ensures c.loop-i.invariant
+    added-more (normal_literal (the_scope c.args.sig.now [])) c.args.assumed.now c.loop-i.i (the_term c.at.result.now) c.loop-i.lits c.add.new.lits c.at.ensures c.loop-i.invariant
     (c.in_ok-add.ensures ∙ ap (λ l. added formulas c.loop-i.lits (l ∷ [])) c.in_ok-lit.ensures)
