@@ -17,8 +17,9 @@ use Rattle.search_spec.proofs.UnsatLaws.{same_atom}
 use Rattle.search_spec.specs.State.{Setting}
 use Rattle.search_spec.specs.Unsatisfiable.{Clause}
 use Rattle.prover_state.proofs.EachLaws.{each-weaker, All-from_each}
-use Rattle.prover_run.specs.Ended.{AreSpent, IsSpent, HaveAtomsIn, AreEnough, HasEnoughConflicts}
-use Rattle.prover_run.proofs.OriginLaws.{contains-mapped}
+use Rattle.prover_run.specs.Learning.{AreSpent, HaveAtomsIn, AreEnough}
+use Rattle.prover_run.specs.Ended.{IsSpent, HasEnoughConflicts}
+use Rattle.prover_run.proofs.ContainsLaws.{contains-mapped}
 
 module _ (atoms : List Lambda) (apart : AreApart atoms) where
   -- the number of an atom
@@ -51,11 +52,12 @@ all_each P xss h = All-from_each (All P) xss (each-weaker (Each P) (All P) (All-
 
 pub never-spent : (clauses : List Clause) (conflicts : ℕ) → AreEnough conflicts clauses → AreSpent clauses conflicts → ⊥
 never-spent clauses conflicts are spent =
-    let variables : List Var = map (number_of spent.atoms spent.apart) are.atoms in
-    let among : AreAmong variables spent.numbered =
-    all_each (λ (l : SatLit). Contains variables l.var) spent.numbered
-    (clauses_among spent.atoms spent.apart are.atoms spent.numbered spent.numbers (subst (HaveAtomsIn are.atoms) (sym spent.stand) are.there)) in
-    spent.few variables among (subst (λ (n : ℕ). 3 ^ n ≤ conflicts) (sym (length-map are.atoms (number_of spent.atoms spent.apart))) are.enough)
+    let l = spent.learning in
+    let variables : List Var = map (number_of l.atoms l.apart) are.atoms in
+    let among : AreAmong variables l.numbered =
+    all_each (λ (k : SatLit). Contains variables k.var) l.numbered (clauses_among l.atoms l.apart are.atoms l.numbered l.numbers (subst (HaveAtomsIn are.atoms) (sym l.stand) are.there))
+    in
+    spent.few variables among (subst (λ (n : ℕ). 3 ^ n ≤ conflicts) (sym (length-map are.atoms (number_of l.atoms l.apart))) are.enough)
 
 pub never-ends : (setting : Setting) (literals : List Literal) (conflicts : ℕ) → HasEnoughConflicts setting literals → IsSpent setting literals conflicts → ⊥
 never-ends setting literals conflicts has h =

@@ -1,9 +1,10 @@
 -- The tables of a run are what a refutation is rebuilt from.
-use Rattle.std.specs.Prelude.{◌≡◌, ◌<◌, ◌++◌, ℕ, suc, get_or, List, [], ◌∷◌, map, length, Option, Some, None, option_map, IfSome, slice_get, Contains, refl}
+use Rattle.std.specs.Prelude.{◌≡◌, ◌<◌, ◌-◌, ◌++◌, ℕ, suc, Bool, true, false, get_or, List, [], ◌∷◌, map, length, Option, Some, None, option_map, IfSome, slice_get, Contains, refl}
 use Rattle.std.specs.List.{All}
 use Rattle.std.specs.Option.{ForSome}
-use Rattle.std.proofs.Common.{sym, ap, subst, ◌∙◌, length-append}
+use Rattle.std.proofs.Common.{sym, ap, subst, ◌∙◌, arith, length-append}
 use Rattle.std.proofs.lemmas.List.{map-append, length-map}
+use Rattle.std.proofs.lemmas.List.Elements.{All-take}
 use Rattle.std.proofs.lemmas.Option.{same_Some, slice_get-map}
 use Rattle.stt_core.specs.Typing.{Scope}
 use Rattle.stt_core.specs.Lambda.{Lambda}
@@ -16,8 +17,10 @@ use Rattle.tableau_calculus.proofs.AcceptedLaws.{literals_at-are}
 use Rattle.sat_base.specs.declared.literal.SatLit.{SatLit}
 use Rattle.sat_base.specs.Literal.{IsOver}
 use Rattle.sat_log.specs.declared.log.LogEntry.{LogEntry}
+use Rattle.sat_base.specs.Truth.{Implies}
 use Rattle.sat_log.specs.Chains.{results, IsLogOver}
-use Rattle.sat_core.specs.Solver.{SolverState, learned, OccurIn, WereLearned, IsSound}
+use Rattle.sat_log.specs.Propagation.{ReachesFalse}
+use Rattle.sat_core.specs.Solver.{SolverState, learned_from, learned, OccurIn, WereLearned, IsSound}
 use Rattle.term_bank.specs.Content.{content_scope}
 use Rattle.search_spec.specs.Each.{Each}
 use Rattle.literal_map.specs.Atoms.{bank_literal}
@@ -43,9 +46,16 @@ use Rattle.prover_state.specs.Internal.Steps.{IsMadeInstance}
 use Rattle.prover_state.proofs.EachLaws.{each-weaker, each-unmapped, map-same, All-from_each}
 use Rattle.prover_state.proofs.NumberLaws.{literal_named}
 use Rattle.prover_search.specs.Internal.Running.{unit_of_origin, units}
+use Rattle.prover_run.specs.Learning.{HasLearned, AreRefutedWithin}
 use Rattle.prover_run.specs.Origin.{ComesFrom as ComesFromClauses, EachComesFrom, AreRefutedShortly}
+use Rattle.prover_run.proofs.LearningLaws.{propagates-from_reaches}
 use Rattle.prover_run.proofs.OriginLaws.{comes-from}
 use Rattle.prover_run.proofs.PrincipalLaws.{principals-at}
+
+-- what holds of all results holds of the learned ones
+learned-among : (P : List SatLit → Type 0) (refuted : Bool) (rs : List (List SatLit)) → All P rs → All P (learned_from refuted rs)
+learned-among P true rs h = All-take P (length rs - 1) rs h
+learned-among P false rs h = h
 
 some_for : {X : Type 0} (P : X → Type 0) (o : Option X) → ForSome o P → IfSome o P
 some_for P None h = tt
@@ -150,31 +160,49 @@ module _ (g : Basis) (good : IsBasis g) where
         in
         subst C same (comes-from (the_input g.bank g.lits t log g.witnesses) ls l (from l there))
 
-    -- the log of a solver over the clauses, from which a refutation is rebuilt, refutes the clauses of formulas
-    pub shortly-named : (y : SolverState) (refutation : Refutation) → EachComes t → AreApart named → Each (Each (by_atoms.IsNumber named)) (the_clauses t) → y.clauses ≡ the_clauses t → IsSound y
-        → results y.log ≡ learned y ++ [] ∷ [] → IsRebuilt (the_input g.bank g.lits t y.log g.witnesses) refutation → AreFew y.log refutation.lines
-        → AreRefutedShortly (map (map by_number) (the_clauses t)) (learned y) refutation
-    shortly-named y refutation comes apart over_atoms is sound ends rebuilt few =
-        let sourced : map clause_in (the_sources g.bank.terms g.lits t) ≡ the_clauses t = sources-clauses g.bank.terms g.lits t comes in
-        let same : y.clauses ≡ map clause_in (the_sources g.bank.terms g.lits t) = is ∙ sym sourced in
-        let N : List (List SatLit) → Type 0 = λ cs. Each (Each (by_atoms.IsNumber named)) cs in
-        let L : List (List SatLit) → Type 0 = λ cs. IsLogOver cs y.log in
-        let O : List (List SatLit) → Type 0 = λ cs. OccurIn cs (learned y) in
-        let W : List (List SatLit) → Type 0 = λ cs. WereLearned cs (learned y) in
-        record {
-          input = the_input g.bank g.lits t y.log g.witnesses;
-          apart = apart;
-          numbers = subst N (sym sourced) over_atoms;
-          stand = ap (map (literals_of named)) sourced ∙ sym (lists-named (the_clauses t) numbers);
-          logged = subst L same sound.logged;
-          ends = ends;
-          once = sound.once;
-          differ = sound.apart;
-          occurring = subst O same sound.occurring;
-          in_turn = subst W same sound.in_turn;
-          rebuilt = rebuilt;
-          few = few;
-        }
+    abbrev formulas : List Clause
+    formulas = map (map by_number) (the_clauses t)
+
+    module _ (y : SolverState) (apart : AreApart named) (over_atoms : Each (Each (by_atoms.IsNumber named)) (the_clauses t)) (is : y.clauses ≡ the_clauses t) (sound : IsSound y) (implied : All (Implies y.clauses) (results y.log)) where
+      -- what a solver over the clauses learned, over the clauses of formulas
+      pub learning-named : HasLearned formulas
+      learning-named =
+          let O : List (List SatLit) → Type 0 = λ cs. OccurIn cs (learned y) in
+          let I : List (List SatLit) → Type 0 = λ cs. All (Implies cs) (learned y) in
+          let W : List (List SatLit) → Type 0 = λ cs. WereLearned cs (learned y) in
+          record {
+            atoms = named;
+            apart = apart;
+            numbered = the_clauses t;
+            numbers = over_atoms;
+            stand = sym (lists-named (the_clauses t) numbers);
+            learned = learned y;
+            once = sound.once;
+            differ = sound.apart;
+            occurring = subst O is sound.occurring;
+            implied = subst I is (learned-among (Implies y.clauses) y.is_refuted (results y.log) implied);
+            in_turn = subst W is sound.in_turn;
+          }
+
+      pub within-named : ReachesFalse (y.clauses ++ learned y) [] → AreRefutedWithin (length (learned y)) formulas
+      within-named reaches =
+          let R : List (List SatLit) → Type 0 = λ cs. ReachesFalse (cs ++ learned y) [] in
+          let over = subst R is reaches in
+          record { learning = learning-named; counted = omega arith; reaches = over; propagates = propagates-from_reaches formulas learning-named over }
+
+      -- the log of the solver, from which a refutation is rebuilt
+      pub shortly-named : (refutation : Refutation) → EachComes t → results y.log ≡ learned y ++ [] ∷ [] → IsRebuilt (the_input g.bank g.lits t y.log g.witnesses) refutation → AreFew y.log refutation.lines → AreRefutedShortly formulas learning-named refutation
+      shortly-named refutation comes ends rebuilt few =
+          let L : List (List SatLit) → Type 0 = λ cs. IsLogOver cs y.log in
+          record {
+            input = the_input g.bank g.lits t y.log g.witnesses;
+            atoms = refl;
+            numbered = sources-clauses g.bank.terms g.lits t comes;
+            logged = subst L is sound.logged;
+            ends = ends;
+            rebuilt = rebuilt;
+            few = few;
+          }
 
 last_at : {X : Type 0} (xs : List X) (x : X) → slice_get (xs ++ x ∷ []) (length xs) ≡ Some x
 last_at [] x = refl

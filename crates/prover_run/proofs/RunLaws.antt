@@ -1,9 +1,8 @@
 -- Runs from their start to their end.
-use Rattle.std.specs.Prelude.{◌≡◌, ◌≤◌, ◌+◌, ◌-◌, ◌^◌, ◌∷◌, ◌++◌, ℕ, zero, suc, Bool, true, false, List, [], map, filter, length, Some, slice_get, Contains, refl}
+use Rattle.std.specs.Prelude.{◌≡◌, ◌≤◌, ◌+◌, ◌^◌, ◌∷◌, ◌++◌, ℕ, zero, suc, Bool, true, false, List, [], map, filter, length, Some, slice_get, Contains, refl}
 use Rattle.std.specs.List.{All}
 use Rattle.std.proofs.Common.{sym, ap, ap₂, subst, ◌∙◌, arith, inl, inr, cond}
 use Rattle.std.proofs.lemmas.Bool.{cases_lt}
-use Rattle.std.proofs.lemmas.List.Elements.{All-take}
 use Rattle.stt_core.specs.Typing.{Scope}
 use Rattle.stt_core.specs.PlainProblem.{PlainProblem}
 use Rattle.stt_core.specs.Declarations.{scope_of}
@@ -11,6 +10,8 @@ use Rattle.tableau_calculus.specs.Literals.{Literal}
 use Rattle.tableau_calculus.specs.Start.{start}
 use Rattle.tableau_calculus.specs.Witnesses.{Row, IsTableAfter}
 use Rattle.tableau_calculus.specs.Accepted.{Within, EndsWithin, IsAccepted}
+use Rattle.tableau_calculus.specs.declared.refutation.RuleUse.{RuleUse}
+use Rattle.tableau_calculus.specs.declared.refutation.RuleUse.TheVariants.{Cut}
 use Rattle.tableau_calculus.specs.declared.refutation.Line.{Line}
 use Rattle.tableau_calculus.specs.declared.refutation.Refutation.{Refutation}
 use Rattle.tableau_calculus.proofs.ListLaws.{contains-first, contains-later, contains_cases}
@@ -18,10 +19,9 @@ use Rattle.sat_base.specs.declared.literal.Var.{Var}
 use Rattle.sat_base.specs.declared.literal.SatLit.{SatLit}
 use Rattle.sat_base.specs.Truth.{Implies}
 use Rattle.sat_log.specs.Chains.{results}
-use Rattle.sat_log.specs.Propagation.{AreFailingDecisions, ReachesFalse as NumbersReachFalse}
-use Rattle.sat_core.specs.Solver.{learned_from, learned, AreAmong, OccurIn, WereLearned, IsSound}
+use Rattle.sat_log.specs.Propagation.{AreFailingDecisions}
+use Rattle.sat_core.specs.Solver.{learned, AreAmong, IsSound}
 use Rattle.tableau_clauses.specs.Table.{the_clauses}
-use Rattle.tableau_rebuild.specs.Tables.{atoms_at}
 use Rattle.search_spec.specs.Shallow.{is_shallow_literal}
 use Rattle.search_spec.specs.Unsatisfiable.{Clause}
 use Rattle.search_spec.specs.State.{State, Setting, process, with_commands}
@@ -42,15 +42,10 @@ use Rattle.prover_search.specs.Internal.Answers.{StepCloses, IsEmpty, IsAtLimit,
 use Rattle.prover_run.specs.declared.ended.Ended.{Ended}
 use Rattle.prover_run.specs.declared.ended.Ended.TheVariants.{Proved, GaveUp, CommandLimit, ConflictLimit}
 use Rattle.prover_run.specs.Ended.{setting_for, IsSpent, EndsAs}
-use Rattle.prover_run.specs.Origin.{ComesFrom, AreRefutedWithin}
+use Rattle.prover_run.specs.Learning.{AreSpent}
+use Rattle.prover_run.specs.Origin.{ComesFromBy}
 use Rattle.prover_run.specs.Internal.Ends.{RefutesFrom, IsProvedBy, EndsFrom}
-use Rattle.prover_run.proofs.OriginLaws.{refuted-within, refuted-at_once}
-use Rattle.prover_run.proofs.RebuildUses.{lists-named}
-
--- what holds of all results holds of the learned ones
-learned-among : (P : List SatLit → Type 0) (refuted : Bool) (rs : List (List SatLit)) → All P rs → All P (learned_from refuted rs)
-learned-among P true rs h = All-take P (length rs - 1) rs h
-learned-among P false rs h = h
+use Rattle.prover_run.proofs.RebuildUses.{learning-named}
 
 -- A STEP
 
@@ -68,31 +63,23 @@ module _ (t : Tables) (q : Queue Planned Delays) (r : IsRunning t q) (t2 : Table
   budget_kept : IsRightState t2 q2 → setting_by t2 q2 ≡ setting_by t q → length (learned t2.solver) ≤ q.rule.mode.conflicts
   budget_kept right same = subst (λ n. length (learned t2.solver) ≤ n) (ap (λ (s : Setting). s.mode.conflicts) same) right.budget
 
-  -- the clauses are refuted within the conflicts of the mode
-  within_budget : StepCloses old new → IsRightState t2 q2 → setting_by t2 q2 ≡ setting_by t q → All (Implies t2.solver.clauses) (results t2.solver.log) → AreRefutedWithin q.rule.mode.conflicts (the_state t q).clauses
-  within_budget k right same implied =
-      let C : List (List SatLit) → Type 0 = λ cs. All (Implies cs) (learned t2.solver) in
-      let R : List (List SatLit) → Type 0 = λ cs. NumbersReachFalse (cs ++ learned t2.solver) [] in
-      let A : List Clause → Type 0 = λ cs. AreRefutedWithin q.rule.mode.conflicts cs in
-      subst A (sym (lists-named t2.basis right.basis (the_clauses t2.steps) right.clauses) ∙ ap (λ (s : State). s.clauses) k.stays.state)
-      (
-      refuted-within (atoms_at t2.basis.bank.terms t2.basis.lits) q.rule.mode.conflicts (the_clauses t2.steps) (learned t2.solver) (budget_kept right same)
-      (subst C right.solver (learned-among (Implies t2.solver.clauses) t2.solver.is_refuted (results t2.solver.log) implied))
-      (subst R right.solver k.propagated)
-      )
-
-  pub is-proved : (refutation : Refutation) → StepCloses old new → IsRightState t2 q2 → setting_by t2 q2 ≡ setting_by t q → All (Implies t2.solver.clauses) (results t2.solver.log)
-      → RefutesFrom (setting_by t q).scope (start_in t) (the_state t q).clauses (learned t2.solver) refutation → GoesOnUntil (setting_by t q) (start_in t) t.done → IsProvedBy (setting_by t q) (start_in t) t2.done refutation
-  is-proved refutation k right same implied refutes until =
+  pub is-proved : (refutation : Refutation) → StepCloses old new → IsRightState t2 q2 → setting_by t2 q2 ≡ setting_by t q → RefutesFrom (setting_by t q).scope (start_in t) (the_state t q).clauses (length (learned t2.solver)) refutation
+      → GoesOnUntil (setting_by t q) (start_in t) t.done → IsProvedBy (setting_by t q) (start_in t) t2.done refutation
+  is-proved refutation k right same refutes until =
       let P : ℕ → Type 0 = λ n. IsProvedBy (setting_by t q) (start_in t) n refutation in
+      let within = refutes.within in
       subst P (sym k.stays.done)
       (
       record {
         proved = record { until = until; state = the_state t q; comes_to = r.comes_to; unsatisfiable = k.unsatisfiable };
-        learned = learned t2.solver;
-        refutes = refutes;
-        counted = budget_kept right same;
-        within = within_budget k right same implied;
+        refutes = record {
+          accepted = refutes.accepted;
+          reached = refutes.reached;
+          small = refutes.small;
+          origin = refutes.origin;
+          within = record { learning = within.learning; counted = omega (arith, within.counted, budget_kept right same); reaches = within.reaches; propagates = within.propagates };
+          shortly = refutes.shortly;
+        };
       }
       )
 
@@ -111,34 +98,25 @@ module _ (t : Tables) (q : Queue Planned Delays) (r : IsRunning t q) (t2 : Table
       → ((v w id : ℕ) → slice_get t2.basis.lits v ≡ Some id → slice_get t2.basis.lits w ≡ Some id → v ≡ w) → IsSound t2.solver → All (Implies t2.solver.clauses) (results t2.solver.log)
       → GoesOnUntil (setting_by t q) (start_in t) t.done → IsSpent (setting_by t q) (start_in t) conflicts
   is-spent conflicts k right equal differ sound implied until =
-      let C : List (List SatLit) → Type 0 = λ cs. All (Implies cs) (learned t2.solver) in
       let F : List (List SatLit) → Type 0 = λ cs. AreFailingDecisions (cs ++ learned t2.solver) k.decisions in
       let A : List (List SatLit) → Type 0 = λ cs. (variables : List Var) → AreAmong variables cs → 3 ^ length variables ≤ conflicts → ⊥ in
-      let O : List (List SatLit) → Type 0 = λ cs. OccurIn cs (learned t2.solver) in
-      let W : List (List SatLit) → Type 0 = λ cs. WereLearned cs (learned t2.solver) in
+      let S : List Clause → Type 0 = λ cs. AreSpent cs conflicts in
+      let over = clauses_number t2.basis.bank t2.basis.lits right.basis.atoms equal differ (the_clauses t2.steps) right.clauses in
+      let apart_here = apart t2.basis.bank t2.basis.lits right.basis.atoms equal differ in
       record {
         is_budget = k.reported;
         commands = t.done;
         until = until;
         state = the_state t q;
         comes_to = r.comes_to;
-        spent = record {
-          atoms = atoms_at t2.basis.bank.terms t2.basis.lits;
-          apart = apart t2.basis.bank t2.basis.lits right.basis.atoms equal differ;
-          numbered = the_clauses t2.steps;
-          numbers = clauses_number t2.basis.bank t2.basis.lits right.basis.atoms equal differ (the_clauses t2.steps) right.clauses;
-          stand = sym (lists-named t2.basis right.basis (the_clauses t2.steps) right.clauses) ∙ ap (λ (s : State). s.clauses) k.stays.state;
-          learned = learned t2.solver;
-          counted = k.counted;
-          once = sound.once;
-          differ = sound.apart;
-          occurring = subst O right.solver sound.occurring;
-          in_turn = subst W right.solver sound.in_turn;
-          implied = subst C right.solver (learned-among (Implies t2.solver.clauses) t2.solver.is_refuted (results t2.solver.log) implied);
-          decisions = k.decisions;
-          failing = subst F right.solver k.failing;
-          few = subst A right.solver k.few;
-        };
+        spent = subst S (ap (λ (s : State). s.clauses) k.stays.state)
+            (record {
+              learning = learning-named t2.basis right.basis t2.steps right.clauses t2.solver apart_here over right.solver sound implied;
+              counted = k.counted;
+              decisions = k.decisions;
+              failing = subst F right.solver k.failing;
+              few = subst A right.solver k.few;
+            });
       }
 
 -- MANY STEPS
@@ -222,18 +200,18 @@ accepted_whole scope ls refutation a = record {
   last = record { front = a.last.front; last = a.last.last; are = a.last.are; within = within_whole a.last.last.branch ls a.last.within };
 }
 
-comes_whole : (ls : List Literal) (clauses : List Clause) (l : Line) → ComesFrom (filter is_shallow_literal ls) clauses l → ComesFrom ls clauses l
-comes_whole ls clauses l (inl cut) = inl cut
-comes_whole ls clauses l (inr (inr from)) = inr (inr from)
-comes_whole ls clauses l (inr (inl h)) =
-    inr (inl (record {
+comes_whole : (rule : RuleUse) (ls : List Literal) (clauses : List Clause) (l : Line) → ComesFromBy rule (filter is_shallow_literal ls) clauses l → ComesFromBy rule ls clauses l
+comes_whole (Cut literal) ls clauses l h = h
+comes_whole rule ls clauses l (inr from) = inr from
+comes_whole rule ls clauses l (inl h) =
+    inl (record {
       first = h.first;
       second = h.second;
       rule = h.rule;
       branch = h.branch;
       first_in = held_whole is_shallow_literal ls h.first h.first_in;
       second_in = held_whole is_shallow_literal ls h.second h.second_in;
-    }))
+    })
 
 -- what ends from the literals of a problem that aren't too deep, ends from the problem's start
 module _ (p : PlainProblem) (m : Mode) (setting : Setting) (ls : List Literal) (is_setting : setting ≡ setting_for p m) (is_start : ls ≡ filter is_shallow_literal (start p)) where
@@ -243,12 +221,9 @@ module _ (p : PlainProblem) (m : Mode) (setting : Setting) (ls : List Literal) (
     accepted = accepted_whole (scope_of p.declared) (start p) refutation k.refutes.accepted;
     reached = k.refutes.reached;
     small = k.refutes.small;
-    origin = λ l there. comes_whole (start p) k.proved.state.clauses l (k.refutes.origin l there);
-    learned = k.learned;
+    origin = λ l there. comes_whole l.rule (start p) k.proved.state.clauses l (k.refutes.origin l there);
+    within = k.refutes.within;
     shortly = k.refutes.shortly;
-    counted = k.counted;
-    within = k.within;
-    at_once = λ e. refuted-at_once k.proved.state.clauses (subst (λ n. AreRefutedWithin n k.proved.state.clauses) e k.within);
   }
   ends_here (GaveUp n) k = exhausted-whole (setting_for p m) (start p) n k
   ends_here (CommandLimit n) k = stopped-whole (setting_for p m) (start p) n k

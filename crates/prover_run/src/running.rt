@@ -1,7 +1,8 @@
 //! Runs to their end.
-ghost use Rattle.std.specs.Prelude.{◌≡◌, ◌+◌, ◌++◌, [], ◌∷◌, false, IfOk, IfSome, IfNone, OnOk};
+ghost use Rattle.std.specs.Prelude.{◌≡◌, ◌+◌, ◌++◌, [], ◌∷◌, false, length, IfOk, IfSome, IfNone, OnOk};
 ghost use Rattle.stt_core.specs.TypedProblem.{IsTyped};
 ghost use Rattle.sat_log.specs.Chains.{results};
+ghost use Rattle.sat_log.specs.Propagation.{ReachesFalse};
 ghost use Rattle.sat_core.specs.Solver.{learned};
 ghost use Rattle.search_spec.specs.Result.{GoesOnUntil};
 ghost use Rattle.prover_state.specs.Delays.{delay_by};
@@ -26,7 +27,8 @@ use term_bank::equal_ids_for_equal_terms;
 fn refutation_of(alloc: Global, tables: &Tables) -> Result<Refutation, AllocError>
     requires right { AreRightTables tables.now }
     requires ends { results tables.now.solver.log ≡ learned tables.now.solver ++ [] ∷ [] }
-    ensures { IfOk result (RefutesFrom (without_witnesses tables.now.basis.bank) (start_in tables.now) (clauses_of tables.now) (learned tables.now.solver)) }
+    requires propagated { ReachesFalse (tables.now.solver.clauses ++ learned tables.now.solver) [] }
+    ensures { IfOk result (RefutesFrom (without_witnesses tables.now.basis.bank) (start_in tables.now) (clauses_of tables.now) (length (learned tables.now.solver))) }
 {
     tables.steps.clauses_come_from_origins();
     equal_ids_for_equal_terms(&tables.basis.bank);
@@ -60,8 +62,6 @@ fn next<W: Weigher<Waiting>>(
 {
     match search.step()? {
         Stepped::Closed => {
-            // The log is asked for its clause that what was learned follows.
-            let _log = search.log();
             let refutation = refutation_of(alloc, &search.core.tables)?;
             Ok(Some(Ended::Proved {
                 commands: search.commands(),

@@ -1,10 +1,15 @@
 -- Where the lines of a rebuilt refutation come from.
-use Rattle.std.proofs.Common.{◌≡◌, ◌⊎◌, ◌&&◌, nat_lt, if◌then◌else◌, ℕ, suc, Bool, true, false, List, [], ◌∷◌, ◌++◌, map, length, Some, None, slice_get, refl, sym, ap, ◌∙◌, inl, inr}
+use Rattle.std.proofs.Common.{◌≡◌, ◌⊎◌, ◌&&◌, nat_lt, if◌then◌else◌, ℕ, suc, Bool, true, false, List, [], ◌∷◌, ◌++◌, map, length, Some, None, slice_get, Contains, refl, sym, ap, ◌∙◌, subst, inl, inr, arith}
 use Rattle.std.proofs.lemmas.Bool.{and_parts, or_cases}
 use Rattle.stt_core.specs.Typing.{Scope}
-use Rattle.tableau_calculus.specs.Literals.{Literal}
+use Rattle.stt_core.specs.Lambda.{Lambda}
+use Rattle.tableau_calculus.specs.Literals.{Literal, opposite}
+use Rattle.tableau_calculus.specs.Rules.{Rule, cut_rule}
+use Rattle.tableau_calculus.specs.Witnesses.{Row, with_rows}
 use Rattle.tableau_calculus.specs.declared.refutation.RuleUse.{RuleUse}
-use Rattle.tableau_calculus.specs.declared.refutation.RuleUse.TheVariants.{Close}
+use Rattle.tableau_calculus.specs.declared.refutation.RuleUse.TheVariants.{Close, Cut}
+use Rattle.tableau_calculus.specs.declared.refutation.Child.{Child}
+use Rattle.tableau_calculus.proofs.ListLaws.{contains-first, contains_cases}
 use Rattle.sat_base.specs.declared.literal.Var.{Var}
 use Rattle.sat_base.specs.declared.literal.SatLit.{SatLit}
 use Rattle.sat_base.specs.Literal.{positive, negative, negated, holds}
@@ -13,13 +18,15 @@ use Rattle.sat_log.specs.Resolution.{without_literal, resolvent, resolved}
 use Rattle.sat_log.proofs.ResolutionLaws.{holds-without_repeats}
 use Rattle.search_spec.specs.Numbered.{literal_at}
 use Rattle.rebuild_spec.specs.Input.{Instance, start_unit, clause_by, Input, literals_of}
-use Rattle.rebuild_spec.specs.Given.{IsGiven}
+use Rattle.rebuild_spec.specs.Given.{IsClauseOf, IsGiven}
 use Rattle.rebuild_spec.specs.Trees.{Place, at_step, Tree, leaf, cut}
-use Rattle.rebuild_spec.specs.Stands.{Standing, start, line, joined_standing, standing_after_step, premise_place, Stands, of_start, of_instance, of_first, of_next, of_result}
+use Rattle.rebuild_spec.specs.Stands.{Standing, start, line, rule_at_places, place_in, joined_standing, standing_after_step, premise_place, Stands, of_start, of_instance, of_first, of_next, of_result}
 use Rattle.rebuild_spec.specs.Lines.{line_of}
-use Rattle.rebuild_spec.specs.Trimmed.{OccursInInput, IsFromSearch}
+use Rattle.rebuild_spec.specs.Trimmed.{OccursInInput, IsAtomOfInput, IsFromSearch}
 use Rattle.rebuild_spec.proofs.BackedLaws.{held-without}
-use Rattle.rebuild_spec.proofs.SoundLaws.{IsStart, IsRightThere, stands_right}
+use Rattle.rebuild_spec.proofs.LiteralLaws.{contains_literal, held_in}
+use Rattle.rebuild_spec.proofs.PickedLaws.{Picks, clause_picked}
+use Rattle.rebuild_spec.proofs.SoundLaws.{picked_held, IsStart, IsRightThere, stands_right}
 use Rattle.rebuild_spec.proofs.WalkLaws.{IsEach}
 
 -- what a step holds, one of its clauses holds
@@ -81,9 +88,53 @@ module _ (input : Input) where
     pub there : slice_get input.clauses number ≡ Some (clause_by clause instance)
     pub are : ls ≡ map negated clause
 
+  -- where a line of this rule comes from that rests on no other
+  abbrev pub IsLeafBy : RuleUse → (SatLit → Type 0) → List SatLit → Type 0
+  IsLeafBy (Cut l) Start ls = IsAtomOfInput input l.atom
+  IsLeafBy rule Start ls = AreUnits Start ls rule ⊎ IsNegated ls
+
   abbrev pub IsFrom : (SatLit → Type 0) → Tree → Type 0
-  IsFrom Start (leaf p ls rule children) = AreUnits Start ls rule ⊎ IsNegated ls
+  IsFrom Start (leaf p ls rule children) = IsLeafBy rule Start ls
   IsFrom Start (cut p v t u) = OccursInInput input v
+
+  leaf_by : (Start : SatLit → Type 0) (ls : List SatLit) (rule : RuleUse) → ((l : Literal) → rule ≡ Cut l → IsAtomOfInput input l.atom) → IsNegated ls → IsLeafBy rule Start ls
+  leaf_by Start ls (Cut l) atom negated = atom l refl
+  leaf_by Start ls rule atom negated = inr negated
+
+-- A CLAUSE OF A CUT
+
+-- a rule at other places is a cut only where it is one
+placed_cut : (rule : RuleUse) (is : List ℕ) (l : Literal) → rule_at_places rule is ≡ Cut l → rule ≡ Cut l
+placed_cut (Cut k) is l e = e
+placed_cut rule [] l e = cc
+placed_cut rule (i ∷ []) l e = cc
+placed_cut rule (i ∷ j ∷ is) l e = cc
+
+cut_alternatives : (scope : Scope) (rows : List Row) (rule : RuleUse) (principals : List Literal) (alternatives : List (List Literal)) (l : Literal) → Rule scope rows rule principals alternatives → rule ≡ Cut l → alternatives ≡ (l ∷ []) ∷ (opposite l ∷ []) ∷ []
+cut_alternatives scope rows rule principals alternatives l (cut_rule k h) e = let same : k ≡ l = cc in ap (λ x. (x ∷ []) ∷ (opposite x ∷ []) ∷ []) same
+cut_alternatives scope rows rule principals alternatives l fits e = cc
+
+-- what is picked from the first alternative, where that is one literal
+first_picked : (atoms : List Lambda) (l : Literal) (rest : List (List Literal)) (alternatives : List (List SatLit)) (picked : List SatLit) → Picks picked alternatives → map (literals_of atoms) alternatives ≡ (l ∷ []) ∷ rest
+    → (k : SatLit) × (holds picked k ≡ true) × (literal_at atoms k ≡ l)
+first_picked atoms l rest [] picked picks e = cc
+first_picked atoms l rest (a ∷ as') [] picks e = absurd picks
+first_picked atoms l rest (a ∷ as') (k ∷ picked) picks e =
+    let only : literals_of atoms a ≡ l ∷ [] = cc in
+    let there = subst (λ ls. Contains ls (literal_at atoms k)) only (contains_literal atoms a k (held_in a k picks.0)) in
+    (k, held_in (k ∷ picked) k (contains-first k picked), contains_cases (literal_at atoms k ≡ l) (literal_at atoms k) l [] there (λ same. sym same) (λ none. absurd (omega (arith, none.1))))
+
+-- the atom of a cut is that of a variable of each clause of its instance
+cut_occurs : (scope : Scope) (rows : List Row) (input : Input) (n : ℕ) (clause : List SatLit) (i : Instance) (l : Literal) → slice_get input.clauses n ≡ Some (clause_by clause i) → IsClauseOf scope rows input.atoms clause i → i.rule ≡ Cut l → IsAtomOfInput input l.atom
+cut_occurs scope rows input n clause i l there right e =
+    let p = clause_picked i.principals i.alternatives clause right.is_one in
+    let first = first_picked input.atoms l ((opposite l ∷ []) ∷ []) i.alternatives p.picked p.picks (cut_alternatives scope rows i.rule (literals_of input.atoms i.principals) (map (literals_of input.atoms) i.alternatives) l right.fits e) in
+    let held = subst (λ c. holds c first.0 ≡ true) (sym p.is) (picked_held scope rows input.atoms i.principals p.picked first.0 first.1) in
+    record {
+      variable = first.0.var;
+      same = ap (λ (k : Literal). k.atom) (sym first.2);
+      occurs = record { number = n; clause = clause_by clause i; there = there; mentioned = mentions-held clause first.0 held };
+    }
 
 module _ (scope : Scope) (begin : List Literal) (input : Input) (given : IsGiven scope begin input) where
   abbrev Start : SatLit → Type 0
@@ -127,7 +178,10 @@ module _ (scope : Scope) (begin : List Literal) (input : Input) (given : IsGiven
 
   are_from : (p : Place) (c : List SatLit) (s : Standing) → Stands input p c s → AreFrom s
   are_from p c s (of_start n l e) = tt
-  are_from p c s (of_instance n d i e) = inr (record { number = n; clause = d; instance = i; there = e; are = refl })
+  are_from p c s (of_instance n d i e) =
+      leaf_by input Start (map negated d) (rule_at_places i.rule (map (place_in (map negated d)) i.principals))
+      (λ l is. cut_occurs (with_rows scope input.rows) input.rows input n d i l e (given.clauses n (clause_by d i) e) (placed_cut i.rule (map (place_in (map negated d)) i.principals) l is))
+      (record { number = n; clause = d; instance = i; there = e; are = refl })
   are_from p c s (of_first n entry d t e h) = are_from (premise_place entry.chain.first) d t h
   are_from p c s (of_next n k entry step a b d x y e f h j r) =
       stepped_from (at_step n (suc k)) step.var a b x y (variable_of step.var a (at_step n k) x h (steps step.var a b d r).sign)
@@ -138,10 +192,13 @@ module _ (scope : Scope) (begin : List Literal) (input : Input) (given : IsGiven
   pub lines_from_search : (p : Place) (c : List SatLit) (t : Tree) → Stands input p c (line t) → IsEach IsFromThere t
   lines_from_search p c t h = are_from p c (line t) h
 
+  leaf_from : (trees : List Tree) (p : Place) (ls : List SatLit) (rule : RuleUse) (children : List Child) → IsLeafBy input rule Start ls → IsFromSearch begin input (line_of input.atoms trees (leaf p ls rule children))
+  leaf_from trees p ls (Cut l) children h = h
+  leaf_from trees p ls rule children (inl h) =
+      inl (record { first = literal_at input.atoms h.first; second = literal_at input.atoms h.second; rule = h.is_rule; branch = ap (literals_of input.atoms) h.are; first_in = h.first_start; second_in = h.second_start })
+  leaf_from trees p ls rule children (inr h) = inr (record { number = h.number; clause = h.clause; instance = h.instance; there = h.there; branch = ap (literals_of input.atoms) h.are })
+
   -- what is known of a tree's line, as a line of the refutation
   pub from_search : (trees : List Tree) (t : Tree) → IsFromThere t → IsFromSearch begin input (line_of input.atoms trees t)
-  from_search trees (leaf p ls rule children) (inl h) =
-      inr (inl (record { first = literal_at input.atoms h.first; second = literal_at input.atoms h.second; rule = h.is_rule; branch = ap (literals_of input.atoms) h.are; first_in = h.first_start; second_in = h.second_start }))
-  from_search trees (leaf p ls rule children) (inr h) =
-      inr (inr (record { number = h.number; clause = h.clause; instance = h.instance; there = h.there; branch = ap (literals_of input.atoms) h.are }))
-  from_search trees (cut p v t u) h = inl (record { variable = v; rule = refl; occurs = h })
+  from_search trees (leaf p ls rule children) h = leaf_from trees p ls rule children h
+  from_search trees (cut p v t u) h = record { variable = v; same = refl; occurs = h }

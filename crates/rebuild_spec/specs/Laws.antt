@@ -43,7 +43,7 @@ OneIsRebuilt = (input : Input) (r q : Refutation) → IsRebuilt input r → IsRe
 abbrev pub RebuiltIsReached : Type 0
 RebuiltIsReached = (scope : Scope) (start : List Literal) (input : Input) (refutation : Refutation) → IsGiven scope start input → IsRebuilt input refutation → IsEachReached refutation.lines
 
--- each line is a cut on an atom of the clauses, closes two start literals, or comes from a clause
+-- each cut is on an atom of the clauses, and each other line closes two start literals or is that of a clause
 abbrev pub RebuiltIsFromSearch : Type 0
 RebuiltIsFromSearch =
     (scope : Scope) (start : List Literal) (input : Input) (refutation : Refutation) → IsGiven scope start input → IsRebuilt input refutation → (l : Line) → Contains refutation.lines l → IsFromSearch start input l

@@ -1,13 +1,15 @@
 -- What the lines of a rebuilt refutation are about, and how many they are.
 use Rattle.std.specs.Prelude.{◌≡◌, ◌<◌, ◌⊎◌, ℕ, suc, true, List, [], ◌∷◌, length, map, Some, slice_get, Contains}
+use Rattle.stt_core.specs.Lambda.{Lambda}
 use Rattle.tableau_calculus.specs.Literals.{Literal}
+use Rattle.tableau_calculus.specs.declared.refutation.RuleUse.{RuleUse}
 use Rattle.tableau_calculus.specs.declared.refutation.RuleUse.TheVariants.{Close, Cut}
 use Rattle.tableau_calculus.specs.declared.refutation.Child.TheVariants as child
 use Rattle.tableau_calculus.specs.declared.refutation.Line.{Line}
 use Rattle.sat_base.specs.declared.literal.Var.{Var}
 use Rattle.sat_base.specs.declared.literal.SatLit.{SatLit}
-use Rattle.sat_base.specs.Literal.{positive, negated, mentions_variable}
-use Rattle.search_spec.specs.Numbered.{literal_at}
+use Rattle.sat_base.specs.Literal.{negated, mentions_variable}
+use Rattle.search_spec.specs.Numbered.{atom_at}
 use Rattle.rebuild_spec.specs.Input.{Instance, Sourced, clause_by, clause_in, Input, literals_of}
 
 -- a line is reached from the last one: it is that, or a child of one that is reached
@@ -25,10 +27,10 @@ pub record OccursInInput (input : Input) (v : Var) : Type 0 where
   pub there : slice_get input.clauses number ≡ Some clause
   pub mentioned : mentions_variable (clause_in clause) v ≡ true
 
--- a cut on the atom of a variable that occurs in a clause
-pub record IsCutOnAtom (input : Input) (l : Line) : Type 0 where
+-- the atom is that of a variable that occurs in a clause
+pub record IsAtomOfInput (input : Input) (atom : Lambda) : Type 0 where
   pub variable : Var
-  pub rule : l.rule ≡ Cut (literal_at input.atoms (positive variable))
+  pub same : atom ≡ atom_at input.atoms variable.0
   pub occurs : OccursInInput input variable
 
 -- two literals of the start close each other
@@ -48,5 +50,12 @@ pub record IsFromClause (input : Input) (l : Line) : Type 0 where
   pub there : slice_get input.clauses number ≡ Some (clause_by clause instance)
   pub branch : l.branch ≡ literals_of input.atoms (map negated clause)
 
+-- Where a line of this rule comes from. A cut's atom is one of the clauses'. Any other line closes two literals of the start, or is that of a
+-- clause.
+abbrev pub IsFromSearchBy : RuleUse → List Literal → Input → Line → Type 0
+IsFromSearchBy (Cut literal) start input l = IsAtomOfInput input literal.atom
+IsFromSearchBy rule start input l = IsClosedByStart start l ⊎ IsFromClause input l
+
+-- a line comes from the search, by its rule
 abbrev pub IsFromSearch : List Literal → Input → Line → Type 0
-IsFromSearch start input l = IsCutOnAtom input l ⊎ (IsClosedByStart start l ⊎ IsFromClause input l)
+IsFromSearch start input l = IsFromSearchBy l.rule start input l

@@ -1,10 +1,9 @@
 -- How a run from literals ends.
-use Rattle.std.specs.Prelude.{◌≡◌, ◌≤◌, ◌+◌, ℕ, List, map, length}
+use Rattle.std.specs.Prelude.{◌≡◌, ◌+◌, ℕ, List, map}
 use Rattle.stt_core.specs.Typing.{Scope}
 use Rattle.tableau_calculus.specs.Literals.{Literal}
 use Rattle.tableau_calculus.specs.Accepted.{IsAccepted}
 use Rattle.tableau_calculus.specs.declared.refutation.Refutation.{Refutation}
-use Rattle.sat_base.specs.declared.literal.SatLit.{SatLit}
 use Rattle.search_spec.specs.Each.{Each}
 use Rattle.search_spec.specs.State.{Setting}
 use Rattle.search_spec.specs.Unsatisfiable.{Clause}
@@ -20,7 +19,8 @@ use Rattle.tableau_clauses.specs.Table.{the_clauses}
 use Rattle.prover_state.specs.Internal.Standing.{setting_by, IsRightState}
 use Rattle.prover_state.specs.Internal.Steps.{IsMadeInstance}
 use Rattle.prover_search.specs.Internal.Running.{start_in}
-use Rattle.prover_run.specs.Origin.{EachComesFrom, AreRefutedShortly, AreRefutedWithin}
+use Rattle.prover_run.specs.Learning.{AreRefutedWithin}
+use Rattle.prover_run.specs.Origin.{EachComesFrom, AreRefutedShortly}
 use Rattle.prover_run.specs.Ended.{IsSpent}
 use Rattle.prover_run.specs.declared.ended.Ended.{Ended}
 use Rattle.prover_run.specs.declared.ended.Ended.TheVariants.{Proved, GaveUp, CommandLimit, ConflictLimit}
@@ -35,22 +35,20 @@ pub record AreRightTables (t : Tables) : Type 0 where
 abbrev pub clauses_of : Tables → List Clause
 clauses_of t = map (map (bank_literal t.basis.bank.terms t.basis.lits)) (the_clauses t.steps)
 
--- The refutation is accepted for the start and small enough for a text. Each of its lines is reached and comes from the clauses, which a log
--- refutes with these learned clauses.
-pub record RefutesFrom (scope : Scope) (start : List Literal) (clauses : List Clause) (learned : List (List SatLit)) (refutation : Refutation) : Type 0 where
+-- The refutation is accepted for the start and small enough for a text. Each of its lines is reached and comes from the clauses. These are
+-- refuted within so many conflicts, and from the log of what was learned the refutation is rebuilt.
+pub record RefutesFrom (scope : Scope) (start : List Literal) (clauses : List Clause) (conflicts : ℕ) (refutation : Refutation) : Type 0 where
   pub accepted : IsAccepted scope start refutation
   pub reached : IsEachReached refutation.lines
   pub small : IsSmall refutation
   pub origin : EachComesFrom start clauses refutation.lines
-  pub shortly : AreRefutedShortly clauses learned refutation
+  pub within : AreRefutedWithin conflicts clauses
+  pub shortly : AreRefutedShortly clauses within.learning refutation
 
 -- the run from literals is proved after so many commands, with a refutation
 pub record IsProvedBy (setting : Setting) (start : List Literal) (n : ℕ) (refutation : Refutation) : Type 0 where
   pub proved : IsProved setting start n
-  pub learned : List (List SatLit)
-  pub refutes : RefutesFrom setting.scope start proved.state.clauses learned refutation
-  pub counted : length learned ≤ setting.mode.conflicts
-  pub within : AreRefutedWithin setting.mode.conflicts proved.state.clauses
+  pub refutes : RefutesFrom setting.scope start proved.state.clauses setting.mode.conflicts refutation
 
 abbrev pub EndsFrom : Setting → List Literal → Ended → Type 0
 EndsFrom setting start (Proved n refutation) = IsProvedBy setting start n refutation

@@ -1,5 +1,5 @@
 use Rattle.std.proofs.Common.{sym, ap, subst, subst₂}
-use Rattle.std.specs.Prelude.{ℕ, List}
+use Rattle.std.specs.Prelude.{ℕ, List, length}
 use Rattle.stt_core.specs.Typing.{Scope}
 use Rattle.tableau_calculus.specs.Literals.{Literal}
 use Rattle.search_spec.specs.State.{State, Setting}
@@ -23,13 +23,13 @@ returns-in_ok-refutation-in-Closed-clause-ended g c = λ until.
     let refutation = c.in_ok-refutation-in-Closed.refutation in
     let A : Stepped → Type 0 = λ s. AnswersStep (record { tables = t; plan = q }) (record { tables = u; plan = p }) s in
     let P : ℕ → Type 0 = λ n. IsProvedBy (setting_by t q) (start_in t) n refutation in
-    let R : Scope → List Literal → Type 0 = λ scope ls. RefutesFrom scope ls (the_state t q).clauses (learned u.solver) refutation in
-    let F : List Clause → Type 0 = λ cs. RefutesFrom (setting_by u p).scope (start_in u) cs (learned u.solver) refutation in
+    let R : Scope → List Literal → Type 0 = λ scope ls. RefutesFrom scope ls (the_state t q).clauses (length (learned u.solver)) refutation in
+    let F : List Clause → Type 0 = λ cs. RefutesFrom (setting_by u p).scope (start_in u) cs (length (learned u.solver)) refutation in
     let closed = subst A c.in-Closed.is c.in_ok-step.ensures.answers in
     let under_way = c.in_ok-step.ensures.under_way c.in_ok-step.ensures.ready in
     let over = subst F (ap (λ (s : State). s.clauses) closed.stays.state) c.in_ok-refutation-in-Closed.ensures in
     let refutes = subst₂ R (ap (λ (s : Setting). s.scope) c.in_ok-step.ensures.setting) c.in_ok-step.ensures.start over in
-    subst P (sym c.commands.ensures) (is-proved t q c.requires.under_way.running u p refutation closed under_way.running.right c.in_ok-step.ensures.setting c.log-log.ensures.implied refutes until)
+    subst P (sym c.commands.ensures) (is-proved t q c.requires.under_way.running u p refutation closed under_way.running.right c.in_ok-step.ensures.setting refutes until)
 
 pub returns-in-Empty-clause-ended : goal.returns-in-Empty-clause-ended
 returns-in-Empty-clause-ended g c = λ until.
@@ -59,4 +59,4 @@ returns-in-Spent-clause-ended g c = λ until.
     let p = c.step.new.self.core.plan in
     let A : Stepped → Type 0 = λ s. AnswersStep (record { tables = t; plan = q }) (record { tables = u; plan = p }) s in
     let under_way = c.in_ok-step.ensures.under_way c.in_ok-step.ensures.ready in
-    is-spent t q c.requires.under_way.running u p c.in-Spent.conflicts (subst A c.in-Spent.is c.in_ok-step.ensures.answers) under_way.running.right c.equal_ids_for_equal_terms.ensures c.atoms_differ.ensures c.log-log-in-Spent.ensures.sound c.log-log-in-Spent.ensures.implied until
+    is-spent t q c.requires.under_way.running u p c.in-Spent.conflicts (subst A c.in-Spent.is c.in_ok-step.ensures.answers) under_way.running.right c.equal_ids_for_equal_terms.ensures c.atoms_differ.ensures c.log-log.ensures.sound c.log-log.ensures.implied until

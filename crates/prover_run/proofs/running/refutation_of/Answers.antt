@@ -11,7 +11,7 @@ use Rattle.rebuild_spec.specs.Rebuilt.{IsRebuilt}
 use Rattle.rebuild_spec.specs.Used.{AreFew}
 use Rattle.prover_run.specs.Origin.{EachComesFrom}
 use Rattle.prover_run.specs.Internal.Ends.{clauses_of}
-use Rattle.prover_run.proofs.RebuildUses.{instances-over, units-numbered, units-named, origin-named, shortly-named, ends-empty}
+use Rattle.prover_run.proofs.RebuildUses.{instances-over, units-numbered, units-named, origin-named, within-named, shortly-named, ends-empty}
 use Rattle.prover_run.proofs.RunLaws.{accepted-declared}
 use Rattle.prover_run.proofs.running.refutation_of.Goals as goal
 
@@ -41,14 +41,15 @@ returns c =
     let refutation = c.in_ok-refutation.refutation in
     let F : List LogEntry → Type 0 = λ log. AreFew log lines in
     let I : List LogEntry → Type 0 = λ log. IsRebuilt (the_input t.basis.bank t.basis.lits t.steps log t.basis.witnesses) refutation in
-    let equal = c.equal_ids_for_equal_terms.ensures in
-    let differ = c.atoms_differ.ensures in
+    let apart_here = apart t.basis.bank t.basis.lits r.basis.atoms c.equal_ids_for_equal_terms.ensures c.atoms_differ.ensures in
+    let over = clauses_number t.basis.bank t.basis.lits r.basis.atoms c.equal_ids_for_equal_terms.ensures c.atoms_differ.ensures (the_clauses t.steps) r.clauses in
+    let log = c.log-log.ensures in
     record {
       accepted = accepted-declared t.basis.bank (start_in t) units c.in_ok-refutation.refutation (sym (units-named t.basis r.basis t.steps.0 r.clauses)) c.in_ok-refutation.ensures.accepted;
       reached = c.in_ok-refutation.ensures.reached;
       small = c.in_ok-refutation.ensures.small;
       origin = subst S (sym (units-named t.basis r.basis t.steps.0 r.clauses)) (origin-named t.basis r.basis t.steps r.clauses c.log-log.result.now units lines c.clauses_come_from_origins.ensures c.in_ok-refutation.ensures.from_search);
-      shortly = shortly-named t.basis r.basis t.steps r.clauses t.solver refutation c.clauses_come_from_origins.ensures (apart t.basis.bank t.basis.lits r.basis.atoms equal differ)
-          (clauses_number t.basis.bank t.basis.lits r.basis.atoms equal differ (the_clauses t.steps) r.clauses) r.solver c.log-log.ensures.sound c.requires.ends
-          (subst I c.log-log.ensures.log c.in_ok-refutation.ensures.rebuilt) (subst F c.log-log.ensures.log c.in_ok-refutation.ensures.few);
+      within = within-named t.basis r.basis t.steps r.clauses t.solver apart_here over r.solver log.sound log.implied c.requires.propagated;
+      shortly = shortly-named t.basis r.basis t.steps r.clauses t.solver apart_here over r.solver log.sound log.implied refutation c.clauses_come_from_origins.ensures c.requires.ends
+          (subst I log.log c.in_ok-refutation.ensures.rebuilt) (subst F log.log c.in_ok-refutation.ensures.few);
     }
