@@ -64,7 +64,7 @@ module _ (scope : Scope) (rows : List Row) (atoms : List Lambda) where
       ∙ holds-append (map negated principals) picked (negated m)
       ∙ or_left (holds (map negated principals) (negated m)) (holds picked (negated m)) (held-negated principals m h)
 
-  picked_held : (principals picked : List SatLit) (m : SatLit) → holds picked m ≡ true → holds (each_once (map negated principals ++ picked)) m ≡ true
+  pub picked_held : (principals picked : List SatLit) (m : SatLit) → holds picked m ≡ true → holds (each_once (map negated principals ++ picked)) m ≡ true
   picked_held principals picked m h =
       holds-without_repeats (map negated principals ++ picked) m
       ∙ holds-append (map negated principals) picked m
