@@ -14,6 +14,7 @@ use Rattle.sat_log.specs.Propagation.{ReachesFalse}
 use Rattle.search_spec.specs.Each.{Each}
 use Rattle.search_spec.specs.Numbered.{IsNumber}
 use Rattle.search_spec.specs.State.{State}
+use Rattle.search_spec.specs.After.{state_after}
 use Rattle.search_spec.specs.Unsatisfiable.{Clause, Unsatisfiable}
 use Rattle.rebuild_spec.specs.Input.{literals_of}
 use Rattle.rebuild_spec.proofs.LiteralLaws.{held_in, contains_held}
@@ -50,14 +51,14 @@ module _ (clauses : List Clause) (learning : HasLearned clauses) where
             | inr later ↦ each-contains (Each (IsNumber learning.atoms)) learning.learned c learned-numbers later
           ])
 
-  all-stand : map (literals_of learning.atoms) (learning.numbered ++ learning.learned) ≡ clauses ++ learned_clauses clauses learning
-  all-stand = map-append (literals_of learning.atoms) learning.numbered learning.learned ∙ ap (λ (cs : List Clause). cs ++ learned_clauses clauses learning) learning.stand
+  all-stand : map (literals_of learning.atoms) (learning.numbered ++ learning.learned) ≡ clauses ++ learned_clauses learning
+  all-stand = map-append (literals_of learning.atoms) learning.numbered learning.learned ∙ ap (λ (cs : List Clause). cs ++ learned_clauses learning) learning.stand
 
   -- unit propagation over the numbered clauses, and over the clauses of formulas
-  pub propagates-from_reaches : ReachesFalse (learning.numbered ++ learning.learned) [] → PropagatesToFalse (clauses ++ learned_clauses clauses learning)
+  pub propagates-from_reaches : ReachesFalse (learning.numbered ++ learning.learned) [] → PropagatesToFalse (clauses ++ learned_clauses learning)
   propagates-from_reaches h = subst PropagatesToFalse all-stand (reaches-false learning.atoms (learning.numbered ++ learning.learned) h)
 
-  pub reaches-from_propagates : (given : List SatLit) → PropagatesToFalse (clauses ++ learned_clauses clauses learning) → ReachesFalse (learning.numbered ++ learning.learned) given
+  pub reaches-from_propagates : (given : List SatLit) → PropagatesToFalse (clauses ++ learned_clauses learning) → ReachesFalse (learning.numbered ++ learning.learned) given
   reaches-from_propagates given h = reaches-numbered learning.atoms learning.apart (learning.numbered ++ learning.learned) all-numbers given (subst PropagatesToFalse (sym all-stand) h)
 
 -- WITHOUT A CONFLICT
@@ -78,29 +79,41 @@ propagates-without_budget p m n refutation none refuted = propagates-at_once ref
 -- SPENT OR REFUTED
 
 -- what was learned where the conflicts are spent doesn't refute the clauses
-spent-open : (clauses : List Clause) (conflicts : ℕ) (spent : AreSpent clauses conflicts) → PropagatesToFalse (clauses ++ learned_clauses clauses spent.learning) → ⊥
+spent-open : (clauses : List Clause) (conflicts : ℕ) (spent : AreSpent clauses conflicts) → PropagatesToFalse (clauses ++ learned_clauses spent.learning) → ⊥
 spent-open clauses conflicts spent h = spent.failing.consistent (reaches-from_propagates clauses spent.learning spent.failing.before h)
 
-pub spent-unrefuted : (clauses : List Clause) (conflicts budget : ℕ) (spent : AreSpent clauses conflicts) (refuted : AreRefutedWithin budget clauses) → IsLearnedAmong clauses refuted.learning spent.learning → ⊥
-spent-unrefuted clauses conflicts budget spent refuted among =
-    let few = learned_clauses clauses refuted.learning in
-    let many = learned_clauses clauses spent.learning in
+pub spent-unrefuted : (clauses others : List Clause) (conflicts budget : ℕ) (spent : AreSpent clauses conflicts) (refuted : AreRefutedWithin budget others) → others ≡ clauses → IsLearnedAmong refuted.learning spent.learning → ⊥
+spent-unrefuted clauses others conflicts budget spent refuted same among =
+    let few = learned_clauses refuted.learning in
+    let many = learned_clauses spent.learning in
     spent-open clauses conflicts spent
-    (PropagatesToFalse-included (clauses ++ few) (clauses ++ many)
+    (PropagatesToFalse-included (others ++ few) (clauses ++ many)
         (λ c there.
-            elim (Contains-append_cases clauses few c there) [
-              | inl before ↦ Contains-append_left clauses many c before
+            elim (Contains-append_cases others few c there) [
+              | inl before ↦ Contains-append_left clauses many c (subst (λ (cs : List Clause). Contains cs c) same before)
               | inr later ↦ Contains-append_right clauses many c (among c later)
             ])
         refuted.propagates)
 
--- a run that is proved goes on at least as long as one whose conflicts are spent
-pub spent-first : (p : PlainProblem) (m : Mode) (n conflicts : ℕ) (refutation : Refutation) (spent : IsSpent (setting_for p m) (start p) conflicts) → IsRefuted p m n refutation → spent.commands ≤ n
-spent-first p m n conflicts refutation spent refuted =
-    elim (cases_lt n spent.commands) [
-      | inl before ↦ (
-        let goes_on = spent.until n before in
-        let same : goes_on.state ≡ refuted.proved.state = same_Some goes_on.state refuted.proved.state (sym goes_on.open_state.comes_to ∙ refuted.proved.comes_to) in
-        absurd (goes_on.open_state.satisfiable (subst (λ (s : State). Unsatisfiable s.clauses) (sym same) refuted.proved.unsatisfiable)))
-      | inr later ↦ later
-    ]
+module _ (p : PlainProblem) (m : Mode) (n conflicts : ℕ) (refutation : Refutation) (spent : IsSpent (setting_for p m) (start p) conflicts) (refuted : IsRefuted p m n refutation) where
+  -- a run that is proved goes on at least as long as one whose conflicts are spent
+  pub spent-first : spent.commands ≤ n
+  spent-first =
+      elim (cases_lt n spent.commands) [
+        | inl before ↦ (
+          let goes_on = spent.until n before in
+          let same : goes_on.state ≡ refuted.proved.state = same_Some goes_on.state refuted.proved.state (sym goes_on.open_state.comes_to ∙ refuted.proved.comes_to) in
+          absurd (goes_on.open_state.satisfiable (subst (λ (s : State). Unsatisfiable s.clauses) (sym same) refuted.proved.unsatisfiable)))
+        | inr later ↦ later
+      ]
+
+  -- and longer where it learned nothing else
+  pub spent-before : IsLearnedAmong refuted.within.learning spent.spent.learning → spent.commands < n
+  spent-before among =
+      elim (cases_lt spent.commands n) [
+        | inl before ↦ before
+        | inr later ↦ (
+          let one : n ≡ spent.commands = omega (arith, later, spent-first) in
+          let same : refuted.proved.state ≡ spent.state = same_Some refuted.proved.state spent.state (sym refuted.proved.comes_to ∙ ap (state_after (setting_for p m) (start p)) one ∙ spent.comes_to) in
+          absurd (spent-unrefuted spent.state.clauses refuted.proved.state.clauses conflicts m.conflicts spent.spent refuted.within (ap (λ (s : State). s.clauses) same) among))
+      ]

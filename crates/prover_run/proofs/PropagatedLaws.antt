@@ -1,5 +1,5 @@
 -- Unit propagation over numbered clauses, and over those that they stand for.
-use Rattle.std.specs.Prelude.{◌≡◌, ◌≢◌, ◌++◌, ◌||◌, Bool, true, false, IsTrue, List, [], ◌∷◌, map, Contains, refl}
+use Rattle.std.specs.Prelude.{◌≡◌, ◌≢◌, ◌++◌, ◌||◌, ◌⊎◌, Bool, true, false, IsTrue, List, [], ◌∷◌, map, Contains, refl}
 use Rattle.std.specs.List.{All, Any}
 use Rattle.std.proofs.Common.{sym, ap, subst, ◌∙◌, inl, inr, arith, append_assoc, append-nil}
 use Rattle.std.proofs.lemmas.Bool.{false≢true, cases_Bool, or_cases, or_left, or_right}
@@ -106,20 +106,20 @@ module _ (atoms : List Lambda) (apart : AreApart atoms) (clauses : List (List Sa
   CanDeny m = (ls : List SatLit) → IsPropagation clauses given ls → Comes ls (λ r. holds r (negated m) ≡ true)
 
   deny_first : (skips : SatLit → Bool) (m : SatLit) (ms ls : List SatLit) → Denies skips ms ls → (skips m ≡ false → holds ls (negated m) ≡ true) → Denies skips (m ∷ ms) ls
-  deny_first skips m ms ls rest first k h open =
+  deny_first skips m ms ls rest first k h kept =
       elim (or_cases (same_literal k m) (holds ms k) h) [
-        | inl e ↦ (let same = same_literal-true k m e in subst (λ j. holds ls (negated j) ≡ true) (sym same) (first (subst (λ j. skips j ≡ false) same open)))
-        | inr later ↦ rest k later open
+        | inl e ↦ (let same = same_literal-true k m e in subst (λ j. holds ls (negated j) ≡ true) (sym same) (first (subst (λ j. skips j ≡ false) same kept)))
+        | inr later ↦ rest k later kept
       ]
 
   deny_all : (skips : SatLit → Bool) (ms : List SatLit) → ((m : SatLit) → Contains ms m → skips m ≡ false → CanDeny m) → (ls : List SatLit) → IsPropagation clauses given ls → Comes ls (Denies skips ms)
-  deny_all skips [] each ls p = inl (record { literals = ls; grown = λ m h. h; propagation = p; is = λ m h open. absurd (false≢true h) })
+  deny_all skips [] each ls p = inl (record { literals = ls; grown = λ m h. h; propagation = p; is = λ m h kept. absurd (false≢true h) })
   deny_all skips (m ∷ ms) each ls p = after (deny_all skips ms (λ k there. each k (contains-later k m ms there)) ls p)
     where
       first : Reaching ls (Denies skips ms) → (b : Bool) → skips m ≡ b → Comes ls (Denies skips (m ∷ ms))
-      first r true skip = inl (record { literals = r.literals; grown = r.grown; propagation = r.propagation; is = deny_first skips m ms r.literals r.is (λ open. absurd (false≢true (sym open ∙ skip))) })
-      first r false open =
-          elim (each m (contains-first m ms) open r.literals r.propagation) [
+      first r true skip = inl (record { literals = r.literals; grown = r.grown; propagation = r.propagation; is = deny_first skips m ms r.literals r.is (λ kept. absurd (false≢true (sym kept ∙ skip))) })
+      first r false kept =
+          elim (each m (contains-first m ms) kept r.literals r.propagation) [
             | inl s ↦ inl (record {
               literals = s.literals;
               grown = λ k h. s.grown k (r.grown k h);

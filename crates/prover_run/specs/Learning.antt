@@ -32,8 +32,8 @@ pub record HasLearned (clauses : List Clause) : Type 0 where
   pub in_turn : WereLearned numbered learned
 
 -- what was learned, as clauses of formulas
-abbrev pub learned_clauses : (clauses : List Clause) → HasLearned clauses → List Clause
-learned_clauses clauses learning = map (map (literal_at learning.atoms)) learning.learned
+abbrev pub learned_clauses : {clauses : List Clause} → HasLearned clauses → List Clause
+learned_clauses learning = map (map (literal_at learning.atoms)) learning.learned
 
 -- So many conflicts are spent: as many clauses were learned, and some decisions lead to one conflict more. That isn't so where there are
 -- conflicts for all clauses over the variables.
@@ -61,11 +61,11 @@ pub record AreRefutedWithin (conflicts : ℕ) (clauses : List Clause) : Type 0 w
   pub learning : HasLearned clauses
   pub counted : length learning.learned ≤ conflicts
   pub reaches : ReachesFalse (learning.numbered ++ learning.learned) []
-  pub propagates : PropagatesToFalse (clauses ++ learned_clauses clauses learning)
+  pub propagates : PropagatesToFalse (clauses ++ learned_clauses learning)
 
--- what was learned in one way was learned in the other too
-abbrev pub IsLearnedAmong : (clauses : List Clause) → HasLearned clauses → HasLearned clauses → Type 0
-IsLearnedAmong clauses few many = (clause : Clause) → Contains (learned_clauses clauses few) clause → Contains (learned_clauses clauses many) clause
+-- what was learned here was learned there too
+abbrev pub IsLearnedAmong : {clauses others : List Clause} → HasLearned clauses → HasLearned others → Type 0
+IsLearnedAmong here there = (clause : Clause) → Contains (learned_clauses here) clause → Contains (learned_clauses there) clause
 
 -- the atoms of the clauses are in the list
 abbrev pub HaveAtomsIn : List Lambda → List Clause → Type 0
