@@ -73,8 +73,8 @@ propagates-at_once clauses h =
     let none = none-learned h.learning.learned h.counted in
     subst PropagatesToFalse (ap (λ (ls : List (List SatLit)). clauses ++ map (literals_of h.learning.atoms) ls) none ∙ append-nil clauses) h.propagates
 
-pub propagates-without_budget : (p : PlainProblem) (m : Mode) (n : ℕ) (refutation : Refutation) → m.conflicts ≡ 0 → (refuted : IsRefuted p m n refutation) → PropagatesToFalse refuted.proved.state.clauses
-propagates-without_budget p m n refutation none refuted = propagates-at_once refuted.proved.state.clauses (subst (λ c. AreRefutedWithin c refuted.proved.state.clauses) none refuted.within)
+pub propagates-without_budget : (p : PlainProblem) (m : Mode) (n : ℕ) (refutation : Refutation) (refuted : IsRefuted p m n refutation) → m.conflicts ≡ 0 → PropagatesToFalse refuted.proved.state.clauses
+propagates-without_budget p m n refutation refuted none = propagates-at_once refuted.proved.state.clauses (subst (λ c. AreRefutedWithin c refuted.proved.state.clauses) none refuted.within)
 
 -- SPENT OR REFUTED
 

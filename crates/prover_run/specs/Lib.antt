@@ -25,4 +25,5 @@ pub use Rattle.tableau_calculus.specs.Start
 pub mod Learning
 pub mod Origin
 pub mod Ended
+pub mod Laws
 pub mod Internal

@@ -8,5 +8,5 @@ mod running;
 
 pub use delays::delay;
 pub use ended::Ended;
-pub use law::{enough_conflicts, refuted_by_propagation, spent_is_not_refuted};
+pub use law::{enough_conflicts, no_conflicts, spent_is_not_refuted};
 pub use running::run;

@@ -3,6 +3,7 @@ pub use Rattle.delta_defs.specs.Unfolding
 pub use Rattle.outside.specs.Causes as OutsideCauses
 pub use Rattle.outside.specs.Prefix
 pub use Rattle.prover_run.specs.Ended
+pub use Rattle.prover_run.specs.Learning
 pub use Rattle.refute_print.specs.Named
 pub use Rattle.refute_print.specs.Text
 pub use Rattle.request_answers.specs.Answers
@@ -23,3 +24,4 @@ pub use Rattle.tableau_calculus.specs.Closed
 pub use Rattle.tableau_calculus.specs.Start
 pub use Rattle.tableau_calculus.specs.Witnesses
 pub mod Headline
+pub mod Laws

@@ -9,6 +9,7 @@ ghost use Rattle.szs_report.specs.declared.answer.Answer.TheVariants.{ConflictLi
 ghost use Rattle.request_answers.specs.Solved.{IsSolved};
 ghost use Rattle.request_answers.specs.Answers.{IsSettled, Defined, IsAnswer};
 ghost use Rattle.satallax_top.specs.Headline.{AreConflictsEnough};
+ghost use Rattle.satallax_top.specs.Laws.{ProofPropagatesWithoutConflict, SpentEndsBeforeProof, SpentEndsNoLaterThanProof};
 
 /// Over told contents there is one defined answer, but for the refutation of a proof: any that is accepted will do. So there is one outcome.
 /// A run ends in one way, after one number of commands, where its conflicts aren't spent.
@@ -25,4 +26,12 @@ pub fn one_answer()
 pub fn enough_is_never_spent()
     ensures { (words : List (List ℕ)) (told : Bool) (contents : List ℕ → Option (List ℕ)) (conflicts : ℕ) → AreConflictsEnough words told contents
         → IsAnswer words told contents (ConflictLimit conflicts) → ⊥ }
+{}
+
+/// Where a proof is reported by a mode that has no conflicts, unit propagation over the clauses of the search reaches a false clause. A run over
+/// the same problem by the same mode whose conflicts are spent ends no later, and earlier where the proof learned nothing else.
+pub fn conflicts_of_a_proof()
+    ensures propagated { ProofPropagatesWithoutConflict }
+    ensures no_later { SpentEndsNoLaterThanProof }
+    ensures earlier { SpentEndsBeforeProof }
 {}
