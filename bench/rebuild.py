@@ -12,10 +12,10 @@ SOURCES = {
     "sat_log": ["stamps", "resolver", "chain", "log"],
     "sat_propagate": ["packed"],
     "stt_core": ["ty", "nf"],
-    "stt_tableau": ["lit", "refutation"],
+    "tableau_calculus": ["lit", "refutation"],
     "literal_map": ["instance"],
     "tableau_clauses": ["origin"],
-    "small_refutation": ["types", "terms", "lines"],
+    "refute_print": ["fits"],
     "tableau_rebuild": [
         "draft", "arena", "packed_branch", "branch", "literals", "line", "needed", "lines", "numbering", "pool", "reached", "rows", "walk",
         "refutation",
@@ -23,7 +23,7 @@ SOURCES = {
 }
 
 # What is left out of a file, from this text on.
-ENDS = {"stt_core/ty": "    /// Adds copies of the other list's types", "stt_tableau/lit": "    /// A list of the same literals"}
+ENDS = {"tableau_calculus/lit": "    /// A list of the same literals"}
 
 STANDS_IN = """
 pub mod rt {

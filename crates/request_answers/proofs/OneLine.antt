@@ -9,7 +9,7 @@ use Rattle.refute_text.specs.Reading.{is_one_line}
 use Rattle.cli_words.specs.Names.{is_control, is_file_name}
 use Rattle.cli_words.specs.Requests.{Request, prove, refutation, generated, asked_by}
 use Rattle.cli_words.proofs.RequestLaws.{IsNamed, asked_by-named}
-use Rattle.request_answers.specs.Requested.{problem_name, first_name, IsGenerable}
+use Rattle.request_answers.specs.Requested.{problem_name, asked_name, IsGenerable}
 
 pub one_line-append : (xs ys : List ℕ) → is_one_line xs ≡ true → is_one_line ys ≡ true → is_one_line (xs ++ ys) ≡ true
 one_line-append [] ys h k = k
@@ -72,7 +72,7 @@ request_one_line (refutation text p) h = file_name-one_line p h
 request_one_line (generated n) h = demo_one_line n
 
 -- the name by which a report calls the problem is one line
-pub name_one_line : (words : List (List ℕ)) (r : Request) → asked_by words ≡ Some r → is_one_line (first_name words) ≡ true
+pub name_one_line : (words : List (List ℕ)) (r : Request) → asked_by words ≡ Some r → is_one_line (asked_name words) ≡ true
 name_one_line words r h = subst (λ o. is_one_line (option_map_or problem_name o []) ≡ true) (sym h) (request_one_line r (asked_by-named words r h))
 
 pub asked_generable : (words : List (List ℕ)) (r : Request) → asked_by words ≡ Some r → IsGenerable r

@@ -29,8 +29,8 @@ contents_of contents (refutation text p) = contents
 contents_of contents (generated n) = λ file. Some (text n)
 
 -- the name by which a report calls the problem, or none where the words ask for nothing
-abbrev pub first_name : List (List ℕ) → List ℕ
-first_name words = option_map_or problem_name (asked_by words) []
+abbrev pub asked_name : List (List ℕ) → List ℕ
+asked_name words = option_map_or problem_name (asked_by words) []
 
 -- where a problem is to be generated, its number is one of the generator's
 abbrev pub IsGenerable : Request → Type 0

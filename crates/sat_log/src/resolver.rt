@@ -1,5 +1,5 @@
 //! The clause of a chain while it is built.
-ghost use Rattle.std.specs.Prelude.{◌≡◌, ◌&&◌, [], ◌∷◌, ◌++◌, Some, None, if◌then◌else◌, reverse, IsSome, IfOk, OnOk};
+ghost use Rattle.std.specs.Prelude.{◌≡◌, ◌&&◌, [], ◌∷◌, ◌++◌, Some, None, if◌then◌else◌, reverse, IsSome, IfOk, OnOk, OnErr};
 ghost use Rattle.std.specs.List.{list_any};
 ghost use Rattle.sat_base.specs.declared.literal.SatLit.{SatLit};
 ghost use Rattle.sat_base.specs.Literal.{holds, same_literal};
@@ -70,7 +70,8 @@ impl Resolver {
 
     /// Puts the literal at the front, from wherever it was.
     pub fn move_to_front(&mut self, literal: SatLit) -> Result<(), AllocError>
-        ensures { OnOk result (self.new ≡ literal ∷ without_literal literal self.old) }
+        ensures ok { OnOk result (self.new ≡ literal ∷ without_literal literal self.old) }
+        ensures err { OnErr result (self.new ≡ self.old) }
     {
         let stamp = self.front.len() + self.back.len();
         self.front.reserve(1)?;
@@ -81,7 +82,8 @@ impl Resolver {
 
     /// Puts the literal at the back, from wherever it was.
     pub fn move_to_back(&mut self, literal: SatLit) -> Result<(), AllocError>
-        ensures { OnOk result (self.new ≡ without_literal literal self.old ++ literal ∷ []) }
+        ensures ok { OnOk result (self.new ≡ without_literal literal self.old ++ literal ∷ []) }
+        ensures err { OnErr result (self.new ≡ self.old) }
     {
         let stamp = self.front.len() + self.back.len();
         self.back.reserve(1)?;
@@ -93,7 +95,8 @@ impl Resolver {
     /// Puts the literal at the back where it is not in the clause yet.
     fn add(&mut self, literal: SatLit) -> Result<(), AllocError>
         requires { HasNoRepeats self.old }
-        ensures { OnOk result (self.new ≡ each_once (self.old ++ literal ∷ [])) }
+        ensures ok { OnOk result (self.new ≡ each_once (self.old ++ literal ∷ [])) }
+        ensures err { OnErr result (self.new ≡ self.old) }
     {
         if !self.contains(literal) {
             self.move_to_back(literal)?;
@@ -104,7 +107,8 @@ impl Resolver {
     /// Takes the literals of a clause, where there are none yet.
     pub fn start(&mut self, literals: &[SatLit]) -> Result<(), AllocError>
         requires { self.old ≡ [] }
-        ensures { OnOk result (self.new ≡ each_once literals.now) }
+        ensures ok { OnOk result (self.new ≡ each_once literals.now) }
+        ensures once { HasNoRepeats self.new }
     {
         for literal in literals {
             self.add(*literal)?;
@@ -115,7 +119,8 @@ impl Resolver {
     /// Adds the other literals of a clause at the back.
     fn append_others(&mut self, literals: &[SatLit], dropped: SatLit) -> Result<(), AllocError>
         requires { HasNoRepeats self.old }
-        ensures { OnOk result (self.new ≡ each_once (self.old ++ without_literal dropped literals.now)) }
+        ensures ok { OnOk result (self.new ≡ each_once (self.old ++ without_literal dropped literals.now)) }
+        ensures once { HasNoRepeats self.new }
     {
         for literal in literals {
             if dropped != *literal {
@@ -128,7 +133,8 @@ impl Resolver {
     /// Moves the other literals of a clause to the front, in their order.
     fn prepend_others(&mut self, literals: &[SatLit], dropped: SatLit) -> Result<(), AllocError>
         requires { HasNoRepeats self.old }
-        ensures { OnOk result (self.new ≡ each_once (without_literal dropped literals.now ++ self.old)) }
+        ensures ok { OnOk result (self.new ≡ each_once (without_literal dropped literals.now ++ self.old)) }
+        ensures once { HasNoRepeats self.new }
     {
         for i in (0..literals.len()).rev() {
             let literal = literals[i];
@@ -150,7 +156,8 @@ impl Resolver {
     pub fn resolve(&mut self, var: Var, literals: &[SatLit]) -> Result<(), AllocError>
         requires once { HasNoRepeats self.old }
         requires resolves { IsSome (resolved var self.old literals.now) }
-        ensures { OnOk result (resolved var self.old literals.now ≡ Some self.new) }
+        ensures ok { OnOk result (resolved var self.old literals.now ≡ Some self.new) }
+        ensures once { HasNoRepeats self.new }
     {
         let positive = SatLit {
             var,
@@ -177,6 +184,7 @@ impl Resolver {
         requires { self.old ≡ [] }
         ensures resolvent { IfOk result (λ clause. clause ≡ resolvent var first.now second.now) }
         ensures empty { OnOk result (self.new ≡ []) }
+        ensures once { HasNoRepeats self.new }
     {
         let positive = SatLit {
             var,

@@ -27,7 +27,7 @@ use Rattle.szs_report.specs.declared.answer.NamedFile.TheVariants.{Part, Check}
 use Rattle.szs_report.specs.declared.answer.NamedFile.TheVariants as named
 use Rattle.szs_report.specs.declared.outcome.Outcome.{Outcome}
 use Rattle.szs_report.specs.declared.outcome.Outcome.TheVariants as ended
-use Rattle.request_answers.specs.Requested.{first_name, problem_name, told_of, contents_of, mode_file}
+use Rattle.request_answers.specs.Requested.{asked_name, problem_name, told_of, contents_of, mode_file}
 use Rattle.request_answers.specs.Files.{OfFiles, OfAsked, Statements}
 use Rattle.request_answers.specs.Modes.{IsModeBy}
 use Rattle.request_answers.specs.Names.{names_in}
@@ -198,12 +198,12 @@ no_model_answer words told contents o a answer is h =
     record { names = q.names; problem = q.problem; stated = q.stated; no_model = q.no_model }
 
 -- the report of an answer that is a proof
-proof_reported : (words : List (List ℕ)) (told : Bool) (contents : List ℕ → Option (List ℕ)) (o : Outcome) (a : Answer) (written : List ℕ) → IsAnswer words told contents a → o ≡ outcome_of a → IsProvedOutcome o → written ≡ report_of (first_name words) a → IsProofReport words told contents o written
+proof_reported : (words : List (List ℕ)) (told : Bool) (contents : List ℕ → Option (List ℕ)) (o : Outcome) (a : Answer) (written : List ℕ) → IsAnswer words told contents a → o ≡ outcome_of a → IsProvedOutcome o → written ≡ report_of (asked_name words) a → IsProofReport words told contents o written
 proof_reported words told contents o a written answer is h w =
     let q = proved_answer (asked_by words) told contents a answer (subst IsProvedOutcome is h) in
     let p = q.problem in
-    let reported : written ≡ report_of (first_name words) (Proved (claim_of p) q.commands q.text) = w ∙ ap (report_of (first_name words)) q.is in
-    let holds = subst (λ x. HoldsOnly p x q.proof.refutation) (sym reported) (holds_report (claim_of p) (first_name words) q.mode p q.commands q.text q.proof (name_one_line words (prove q.name q.file) q.asked)) in
+    let reported : written ≡ report_of (asked_name words) (Proved (claim_of p) q.commands q.text) = w ∙ ap (report_of (asked_name words)) q.is in
+    let holds = subst (λ x. HoldsOnly p x q.proof.refutation) (sym reported) (holds_report (claim_of p) (asked_name words) q.mode p q.commands q.text q.proof (name_one_line words (prove q.name q.file) q.asked)) in
     record {
       mode = q.mode;
       asked = record { problem = q.name; file = q.file; asked = q.asked; is_mode = q.is_mode };
@@ -214,7 +214,7 @@ proof_reported words told contents o a written answer is h w =
       commands = q.commands;
       refutation = q.proof.refutation;
       refuted = q.proof.refuted;
-      is_report = reported ∙ ap (λ t. report_of (first_name words) (Proved (claim_of p) q.commands t)) q.proof.is_text;
+      is_report = reported ∙ ap (λ t. report_of (asked_name words) (Proved (claim_of p) q.commands t)) q.proof.is_text;
       holds = holds;
       accepted_text = accepted_report q.mode p q.commands q.text written q.proof holds;
       closed = accepted_closes_start (scope_of p.declared) (start (unfolded_problem p)) q.proof.refutation q.proof.refuted.accepted;
@@ -222,9 +222,9 @@ proof_reported words told contents o a written answer is h w =
     }
 
 -- the bytes that are appended for an answer that is a proof
-pub proof_appended : (words : List (List ℕ)) (told : Bool) (contents : List ℕ → Option (List ℕ)) (o : Outcome) (a : Answer) (old new : List ℕ) → IsAnswer words told contents a → o ≡ outcome_of a → new ≡ old ++ report_of (first_name words) a → IsProvedOutcome o → Appends old new (IsProofReport words told contents o)
+pub proof_appended : (words : List (List ℕ)) (told : Bool) (contents : List ℕ → Option (List ℕ)) (o : Outcome) (a : Answer) (old new : List ℕ) → IsAnswer words told contents a → o ≡ outcome_of a → new ≡ old ++ report_of (asked_name words) a → IsProvedOutcome o → Appends old new (IsProofReport words told contents o)
 proof_appended words told contents o a old new answer is w h =
-    record { written = report_of (first_name words) a; appended = w; is_report = proof_reported words told contents o a (report_of (first_name words) a) answer is h refl }
+    record { written = report_of (asked_name words) a; appended = w; is_report = proof_reported words told contents o a (report_of (asked_name words) a) answer is h refl }
 
 -- no answer's outcome is that a write failed
 pub no_write_fault : (a : Answer) → outcome_of a ≡ ended.WriteFault → ⊥
@@ -233,10 +233,10 @@ no_write_fault (Proved Unsatisfiable n text) e = cc
 no_write_fault a e = cc
 
 -- what is written for an answer
-pub written_whole : (words : List (List ℕ)) (told : Bool) (contents : List ℕ → Option (List ℕ)) (before now : List ℕ → ℕ) (o : Outcome) (a : Answer) (old new : List ℕ) → IsAnswer words told contents a → o ≡ outcome_of a → new ≡ old ++ report_of (first_name words) a → IsWritten words told contents before now old new o
+pub written_whole : (words : List (List ℕ)) (told : Bool) (contents : List ℕ → Option (List ℕ)) (before now : List ℕ → ℕ) (o : Outcome) (a : Answer) (old new : List ℕ) → IsAnswer words told contents a → o ≡ outcome_of a → new ≡ old ++ report_of (asked_name words) a → IsWritten words told contents before now old new o
 written_whole words told contents before now ended.WriteFault a old new answer is w = absurd (no_write_fault a (sym is))
 written_whole words told contents before now o a old new answer is w =
-    record { written = report_of (first_name words) a; appended = w; is_report = record { answer = a; is_answer = answer; is_outcome = is; is_report = refl } }
+    record { written = report_of (asked_name words) a; appended = w; is_report = record { answer = a; is_answer = answer; is_outcome = is; is_report = refl } }
 
 -- an answer whose outcome is that the words ask for nothing
 words_form : (a : Answer) → outcome_of a ≡ ended.Words → a ≡ Words

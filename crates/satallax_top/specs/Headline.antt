@@ -21,7 +21,7 @@ use Rattle.szs_report.specs.declared.answer.Answer.{Answer}
 use Rattle.szs_report.specs.declared.answer.Answer.TheVariants.{Proved}
 use Rattle.szs_report.specs.declared.outcome.Outcome.{Outcome}
 use Rattle.szs_report.specs.declared.outcome.Outcome.TheVariants.{Theorem, Unsatisfiable, DemoDone, Accepted, WriteFault}
-use Rattle.request_answers.specs.Requested.{first_name, problem_name, mode_file, told_of, contents_of}
+use Rattle.request_answers.specs.Requested.{asked_name, problem_name, mode_file, told_of, contents_of}
 use Rattle.request_answers.specs.Files.{OfFiles, Statements, StatesProblem}
 use Rattle.request_answers.specs.Modes.{IsModeBy}
 use Rattle.request_answers.specs.Names.{names_in}
@@ -88,7 +88,7 @@ pub record IsProofReport (words : List (List ℕ)) (told : Bool) (contents : Lis
   pub commands : ℕ
   pub refutation : Refutation
   pub refuted : IsRefuted (unfolded_problem problem) mode commands refutation
-  pub is_report : written ≡ report_of (first_name words) (Proved (claim_of problem) commands (as_bytes (text_lines (named_refutation (names_in problem) (taken_names problem) refutation))))
+  pub is_report : written ≡ report_of (asked_name words) (Proved (claim_of problem) commands (as_bytes (text_lines (named_refutation (names_in problem) (taken_names problem) refutation))))
   pub holds : HoldsOnly problem written refutation
   pub accepted_text : IsAcceptedText problem written
   pub closed : Closes (with_rows (scope_of problem.declared) refutation.witnesses) refutation.witnesses (tableau_of refutation) (start (unfolded_problem problem))
@@ -105,14 +105,14 @@ pub record IsReported (words : List (List ℕ)) (told : Bool) (contents : List �
   pub answer : Answer
   pub is_answer : IsAnswer words told contents answer
   pub is_outcome : outcome ≡ outcome_of answer
-  pub is_report : written ≡ report_of (first_name words) answer
+  pub is_report : written ≡ report_of (asked_name words) answer
 
 -- a write failed: a proper front of the report of an answer was written, and the answer's cause is there
 pub record IsCutShort (words : List (List ℕ)) (told : Bool) (contents : List ℕ → Option (List ℕ)) (before now : List ℕ → ℕ) (old new : List ℕ) : Type 0 where
   pub answer : Answer
   pub is_answer : IsAnswer words told contents answer
   pub cause : HasCause words told contents before now (outcome_of answer)
-  pub appended : AppendsProperly old new (report_of (first_name words) answer)
+  pub appended : AppendsProperly old new (report_of (asked_name words) answer)
 
 -- what the call has written
 abbrev pub IsWritten : List (List ℕ) → Bool → (List ℕ → Option (List ℕ)) → (List ℕ → ℕ) → (List ℕ → ℕ) → List ℕ → List ℕ → Outcome → Type 0

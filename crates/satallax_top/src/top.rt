@@ -3,7 +3,7 @@
 ghost use Rattle.std.specs.Prelude.{◌≡◌, ◌≤◌, ℕ, List, IsTrue, None, string_bytes};
 ghost use Rattle.outside.specs.Causes.{Rose};
 ghost use Rattle.cli_words.specs.Requests.{asked_by};
-ghost use Rattle.request_answers.specs.Requested.{first_name};
+ghost use Rattle.request_answers.specs.Requested.{asked_name};
 ghost use Rattle.request_answers.specs.Answers.{IsAnswer, IsDefined};
 ghost use Rattle.request_answers.specs.Causes.{IsNoWriteFault, HasCause};
 ghost use Rattle.satallax_top.specs.Headline.{IsProvedOutcome, ShowsNoModel, HasNoModel, IsProofReport, Appends, IsWritten, IsOutcome};
@@ -26,7 +26,7 @@ struct Called {
 /// The answer to the words.
 fn call<F: Files>(alloc: Global, words: &Words, files: &mut F) -> Called
     ensures answers { IsAnswer words.now (F.tells files.old) (F.contents files.old) result.answer }
-    ensures reported { report_of (string_bytes result.name) result.answer ≡ report_of (first_name words.now) result.answer }
+    ensures reported { report_of (string_bytes result.name) result.answer ≡ report_of (asked_name words.now) result.answer }
     ensures cause { HasCause words.now (F.tells files.old) (F.contents files.old) (F.faults files.old) (F.faults files.new) (outcome_of result.answer) }
 
     ensures later { (other : List ℕ) → F.faults files.old other ≤ F.faults files.new other }

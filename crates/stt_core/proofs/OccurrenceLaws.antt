@@ -3,7 +3,7 @@ use Rattle.std.proofs.Common.{◌≡◌, ℕ, zero, suc, ◌+◌, ◌-◌, ◌<�
 use Rattle.std.proofs.Math.Nat.{max-le}
 use Rattle.stt_core.specs.SimpleType.{SimpleType}
 use Rattle.stt_core.specs.Lambda.{Constant, Lambda, bound, constant, lam, app, lambdas, applied, node_count}
-use Rattle.stt_core.specs.Sizes.{node_counts, node_count-applied}
+use Rattle.stt_core.specs.Internal.Sizes.{node_counts, node_count-applied}
 use Rattle.stt_core.specs.Occurrence.{Occurs, IsFree, IsClosed}
 use Rattle.stt_core.specs.Internal.Missing.{missing_binders}
 use Rattle.stt_core.proofs.CanonicalTypes.{applied-more}

@@ -2,7 +2,7 @@
 use Rattle.std.proofs.Common.{◌≡◌, ℕ, zero, suc, ◌+◌, ◌<◌, ◌≤◌, length, List, [], ◌∷◌, Some, slice_get, arith, ap}
 use Rattle.stt_core.specs.SimpleType.{SimpleType}
 use Rattle.stt_core.specs.Lambda.{Lambda, bound, constant, lam, app, lambdas, applied, node_count}
-use Rattle.stt_core.specs.Sizes.{node_counts, node_count-applied, nf_falls}
+use Rattle.stt_core.specs.Internal.Sizes.{node_counts, node_count-applied, nf_falls}
 
 pub node_count-at : (us : List Lambda) (i : ℕ) (u : Lambda) → slice_get us i ≡ Some u → node_count u < node_counts us
 node_count-at [] i u h = cc

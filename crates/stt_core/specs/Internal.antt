@@ -4,3 +4,4 @@ pub mod TypeCode
 pub mod LambdaCode
 pub mod Missing
 pub mod ProblemCode
+pub mod Sizes

@@ -18,6 +18,5 @@ pub mod Declarations
 pub mod PlainProblem
 pub mod Meets
 pub mod TypedProblem
-pub mod Sizes
 pub mod Depth
 pub mod Internal

@@ -53,7 +53,7 @@ impl Model for Nf {
     ghost size = { node_count };
 
     ghost use Rattle.std.proofs.Common.{arith};
-    ghost use Rattle.stt_core.specs.Sizes.{nf_falls};
+    ghost use Rattle.stt_core.specs.Internal.Sizes.{nf_falls};
 
     ghost size_decreases = { λ a h. omega (arith, nf_falls a.binders (the_head a.head) a.args) };
 }
@@ -71,7 +71,7 @@ impl Model for Nfs {
     ghost view = { λ a. a.items.items };
 
     ghost use Rattle.std.proofs.Common.{arith};
-    ghost use Rattle.stt_core.specs.Sizes.{node_counts, nfs_falls};
+    ghost use Rattle.stt_core.specs.Internal.Sizes.{node_counts, nfs_falls};
 
     ghost size = { node_counts };
 

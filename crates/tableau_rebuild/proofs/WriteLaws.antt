@@ -23,7 +23,7 @@ use Rattle.tableau_rebuild.specs.declared.draft.Draft.TheVariants.{Clause, Close
 use Rattle.tableau_rebuild.specs.Internal.Drafts.{place_after_step, tree_at, trees, AreDrafts}
 use Rattle.tableau_rebuild.specs.Internal.Arenas.{clause_line, fleshed}
 use Rattle.tableau_rebuild.specs.Internal.Numbers.{AreNumbers}
-use Rattle.tableau_rebuild.specs.Internal.Branches.{branch_at, branch_by, IsReady}
+use Rattle.tableau_rebuild.specs.Internal.Branches.{number_branch_at, branch_by, IsReady}
 use Rattle.tableau_rebuild.specs.Internal.LineParts.{instance_by, close_by, cut_by, IsClauseFrom, IsMakeable, IsLineBy}
 use Rattle.tableau_rebuild.specs.Internal.Written.{the_tree}
 use Rattle.tableau_rebuild.proofs.DraftLaws.{clause_tree, close_tree, cut_tree}
@@ -61,7 +61,7 @@ module _ (b : Content) (atoms : List ℕ) (t : Table) (drafts : List Draft) wher
 
   module _ (right : AreDrafts drafts) (last : ℕ) (below : last < length drafts) (order : List ℕ) (walks : map (tree_at (trees drafts)) order ≡ walked [] (tree_at (trees drafts) last)) (inside : (k i : ℕ) → slice_get order k ≡ Some i → i < length drafts) (numbers : List ℕ) (are : AreNumbers order numbers) where
     -- a child that is listed before has its branch and its number
-    branch_there : (k i : ℕ) (branches : List (List SatLit)) → branches ≡ map (λ j. branch (the_tree b.terms atoms t drafts j)) (take k order) → IsEarlier drafts right last below order walks k i → branch_at numbers branches i ≡ branch (the_tree b.terms atoms t drafts i)
+    branch_there : (k i : ℕ) (branches : List (List SatLit)) → branches ≡ map (λ j. branch (the_tree b.terms atoms t drafts j)) (take k order) → IsEarlier drafts right last below order walks k i → number_branch_at numbers branches i ≡ branch (the_tree b.terms atoms t drafts i)
     branch_there k i branches e h =
         ap (λ n. slice_index_or branches n []) (are h.number i h.there)
         ∙ ap (λ xs. slice_index_or xs h.number []) e

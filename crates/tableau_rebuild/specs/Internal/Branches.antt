@@ -7,13 +7,13 @@ use Rattle.tableau_rebuild.specs.declared.draft.Draft.{Draft}
 use Rattle.tableau_rebuild.specs.declared.draft.Draft.TheVariants.{Clause, Close, Cut}
 
 -- the branch of the line with a draft's number
-abbrev pub branch_at : List ℕ → List (List SatLit) → ℕ → List SatLit
-branch_at numbers branches i = slice_index_or branches (slice_index_or numbers i 0) []
+abbrev pub number_branch_at : List ℕ → List (List SatLit) → ℕ → List SatLit
+number_branch_at numbers branches i = slice_index_or branches (slice_index_or numbers i 0) []
 
 abbrev pub branch_by : List (List SatLit) → List ℕ → List (List SatLit) → Draft → List SatLit
 branch_by clauses numbers branches (Clause n) = map negated (slice_index_or clauses n [])
 branch_by clauses numbers branches (Close at l m) = l ∷ m ∷ []
-branch_by clauses numbers branches (Cut at v on off) = resolvent v (branch_at numbers branches on) (branch_at numbers branches off)
+branch_by clauses numbers branches (Cut at v on off) = resolvent v (number_branch_at numbers branches on) (number_branch_at numbers branches off)
 
 -- the branches of the children are there
 abbrev pub IsReady : ℕ → List ℕ → ℕ → Draft → Type 0

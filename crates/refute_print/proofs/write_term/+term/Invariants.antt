@@ -1,6 +1,6 @@
 use Rattle.std.proofs.Common.{◌+◌, ◌*◌, take}
 use Rattle.stt_core.specs.Lambda.{node_count}
-use Rattle.stt_core.specs.Sizes.{node_counts}
+use Rattle.stt_core.specs.Internal.Sizes.{node_counts}
 use Rattle.refute_print.specs.Named.{names_of}
 use Rattle.refute_print.specs.Internal.Pieces.{argument_text}
 use Rattle.outside.specs.Writing.{Took}

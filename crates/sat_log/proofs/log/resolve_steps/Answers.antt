@@ -12,9 +12,9 @@ loop-step-preserved c =
     let so_far = c.loop-step.resolver in
     let next = c.resolve.new.self in
     record {
-      once = HasNoRepeats-resolved _ so_far _ next c.in_ok-resolve.ensures;
+      once = HasNoRepeats-resolved _ so_far _ next c.in_ok-resolve.ensures.ok;
       ahead =
           sym (after_steps_more clauses outcomes so_far next steps i _ c.loop-step-test.true
-          (after_step_is clauses outcomes so_far next _ _ (get_or steps i _) c.premise_clause-premise.ensures c.as_slice.ensures c.in_ok-resolve.ensures))
+          (after_step_is clauses outcomes so_far next _ _ (get_or steps i _) c.premise_clause-premise.ensures c.as_slice.ensures c.in_ok-resolve.ensures.ok))
           ∙ c.loop-step.invariant.ahead;
     }

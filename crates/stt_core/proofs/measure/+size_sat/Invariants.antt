@@ -1,6 +1,6 @@
 use Rattle.std.proofs.Common.{◌≡◌, ◌+◌, ◌-◌, ◌^◌, min, length, take}
 use Rattle.stt_core.specs.Lambda.{node_count}
-use Rattle.stt_core.specs.Sizes.{node_counts}
+use Rattle.stt_core.specs.Internal.Sizes.{node_counts}
 use Rattle.stt_core.proofs.measure.+size_sat.Given as goal
 
 abbrev pub decreases-size_sat : goal.decreases-size_sat

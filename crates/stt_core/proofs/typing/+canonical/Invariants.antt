@@ -1,6 +1,6 @@
 use Rattle.std.proofs.Common.{◌≡◌, ◌+◌, ◌*◌, ◌-◌, length, take, option_map}
 use Rattle.stt_core.specs.Lambda.{node_count, applied}
-use Rattle.stt_core.specs.Sizes.{node_counts}
+use Rattle.stt_core.specs.Internal.Sizes.{node_counts}
 use Rattle.stt_core.specs.Internal.CanonicalType.{neutral_type}
 use Rattle.stt_core.specs.View.{the_type, the_head}
 use Rattle.stt_core.specs.ContextView.{the_context, declared_scope}

@@ -18,10 +18,16 @@ loop-literal-preserved c =
     elim c.if-ne.branch [
       | then-ne+in_ok-add w ↦
           w.self-is
-          ∙ added_more c.args.self.now (without_literal c.args.dropped (take i literals)) _ c.loop-literal.self w.add.new.self c.loop-literal.invariant w.in_ok-add.ensures
+          ∙ added_more c.args.self.now (without_literal c.args.dropped (take i literals)) _ c.loop-literal.self w.add.new.self c.loop-literal.invariant w.in_ok-add.ensures.ok
           ∙ ap clause (sym (others_more_kept c.args.dropped literals i _ c.loop-literal-test.true (not-true _ (sym c.ne.ensures ∙ w.if-ne.true))))
       | else-ne w ↦
           w.self-is
           ∙ c.loop-literal.invariant
           ∙ ap clause (sym (others_more_left c.args.dropped literals i _ c.loop-literal-test.true (not-false _ (sym c.ne.ensures ∙ w.if-ne.false))))
     ]
+
+pub returns-in_err-add-clause-once : goal.returns-in_err-add-clause-once
+returns-in_err-add-clause-once c = HasNoRepeats-made c.add.new.self _ (c.in_err-add.ensures.err ∙ c.loop-literal.invariant)
+
+pub returns-clause-once : goal.returns-clause-once
+returns-clause-once c = HasNoRepeats-made c.loop-literal.self _ c.loop-literal.invariant

@@ -11,8 +11,8 @@ invariant_of-self-2 c =
     let pushed : c.push_reserved.new.self.items ≡ inside.back.items ++ record { literal = c.args.literal; stamp = stamp } ∷ [] = cc in
     (pushed_to_back inside.front.items inside.back.items _ inside.table _ _ stamp pushed (omega arith) c.self.invariant c.in_ok-set.ensures.ok).0
 
-pub returns : goal.returns
-returns c =
+pub returns-clause-ok : goal.returns-clause-ok
+returns-clause-ok c =
     let inside = c.self.inside in
     let stamp = c.len.result + c.len-2.result in
     let pushed : c.push_reserved.new.self.items ≡ inside.back.items ++ record { literal = c.args.literal; stamp = stamp } ∷ [] = cc in

@@ -37,7 +37,7 @@ loop-k-init c =
       clauses = c.in_ok-standing.ensures.clauses;
       results = c.in_ok-standing.ensures.results;
       chained =
-          chained_first t log c.requires.right c.premise.new.self.drafts.items c.args.n chain first c.start.new.self c.in_ok-standing.standing c.chain-chain.ensures c.clause_of.ensures (c.in_ok-start.ensures ∙ ap each_once c.as_slice.ensures) (c.in_ok-standing.ensures.stands first c.clause_of.ensures);
+          chained_first t log c.requires.right c.premise.new.self.drafts.items c.args.n chain first c.start.new.self c.in_ok-standing.standing c.chain-chain.ensures c.clause_of.ensures (c.in_ok-start.ensures.ok ∙ ap each_once c.as_slice.ensures) (c.in_ok-standing.ensures.stands first c.clause_of.ensures);
     }
 
 pub step-requires-clause-drawn : goal.step-requires-clause-drawn

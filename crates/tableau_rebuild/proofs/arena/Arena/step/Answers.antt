@@ -42,7 +42,7 @@ returns-in_ok-join-clause-chained c =
     let v = c.args.step.var in
     let premise = c.clause_of.result.now in
     chained_more c.args.steps.now c.args.log.now c.args.self.now.drafts.items c.premise.new.self.drafts.items c.join.new.self.drafts.items c.args.at.result c.args.at.step old premise c.resolve.new.self c.args.standing c.in_ok-other.other c.in_ok-join.field-0 c.args.step c.requires.chained c.requires.has
-    c.in_ok-other.ensures.extends c.clause_of.ensures (c.in_ok-other.ensures.stands premise c.clause_of.ensures) (ap (resolved v old) (sym c.as_slice-literals.ensures) ∙ c.in_ok-resolve.ensures) true
+    c.in_ok-other.ensures.extends c.clause_of.ensures (c.in_ok-other.ensures.stands premise c.clause_of.ensures) (ap (resolved v old) (sym c.as_slice-literals.ensures) ∙ c.in_ok-resolve.ensures.ok) true
     (c.if-is_first.ensures ∙ ap (λ x. holds old (positive v) && holds x c.negated.result) c.as_slice-literals.ensures ∙ ap (λ l. holds old (positive v) && holds premise l) c.negated.ensures)
     c.in_ok-join.ensures.joined
 
@@ -52,6 +52,6 @@ returns-in_ok-join-2-clause-chained c =
     let v = c.args.step.var in
     let premise = c.clause_of.result.now in
     chained_more c.args.steps.now c.args.log.now c.args.self.now.drafts.items c.premise.new.self.drafts.items c.join-else-is_first.new.self.drafts.items c.args.at.result c.args.at.step old premise c.resolve.new.self c.args.standing c.in_ok-other.other c.in_ok-join-2.field-0 c.args.step c.requires.chained c.requires.has
-    c.in_ok-other.ensures.extends c.clause_of.ensures (c.in_ok-other.ensures.stands premise c.clause_of.ensures) (ap (resolved v old) (sym c.as_slice-literals.ensures) ∙ c.in_ok-resolve.ensures) false
+    c.in_ok-other.ensures.extends c.clause_of.ensures (c.in_ok-other.ensures.stands premise c.clause_of.ensures) (ap (resolved v old) (sym c.as_slice-literals.ensures) ∙ c.in_ok-resolve.ensures.ok) false
     (c.if-is_first.ensures ∙ ap (λ x. holds old (positive v) && holds x c.negated.result) c.as_slice-literals.ensures ∙ ap (λ l. holds old (positive v) && holds premise l) c.negated.ensures)
     c.in_ok-join-2.ensures.joined
