@@ -1,5 +1,5 @@
 -- Refutations as they are written: trees whose names are bytes.
-use Rattle.std.specs.Prelude.{ℕ, Bool, List}
+use Rattle.std.specs.Prelude.{ℕ, Bool, List, [], ◌∷◌}
 use Rattle.tableau_calculus.specs.declared.refutation.Child.{Child}
 
 -- `$o`, `$i`, a base type by its name, or the functions from the first type to the second
