@@ -2,6 +2,7 @@ pub use Rattle.command_queue.specs.Queue
 pub use Rattle.instantiate.specs.Growing
 pub use Rattle.instantiate.specs.Listing
 pub use Rattle.literal_map.specs.Atoms
+pub use Rattle.prover_state.specs.Lasting
 pub use Rattle.search_spec.specs.Alternatives
 pub use Rattle.search_spec.specs.Commands
 pub use Rattle.search_spec.specs.Each

@@ -7,6 +7,7 @@ ghost use Rattle.term_bank.specs.Content.{HasTerm};
 ghost use Rattle.term_bank.specs.Terms.{term_at};
 ghost use Rattle.search_spec.specs.Each.{Each};
 ghost use Rattle.search_spec.specs.Terms.{first_terms, with_preparation, with_terms};
+ghost use Rattle.prover_state.specs.Lasting.{declared_by, lasting};
 ghost use Rattle.prover_state.specs.Internal.Growing.{BasisGrows};
 ghost use Rattle.prover_state.specs.Internal.Names.{IsPlace};
 ghost use Rattle.prover_state.specs.Internal.Standing.{setting_by, the_state, IsBasis, IsRightState};
@@ -23,6 +24,7 @@ fn falsity_in(basis: &mut Basis) -> Result<Id, AllocError>
     ensures term { IfOk result (λ id. HasTerm basis.new.bank id (constant falsity)) }
     ensures good { OnOk result (IsBasis basis.new) }
     ensures grows { OnOk result (BasisGrows basis.old basis.new) }
+    ensures declared { declared_by basis.new ≡ declared_by basis.old }
 {
     let none: [Id; 0] = [];
     Ok(basis.bank.intern_app(&Head::False, &none)?)
@@ -35,6 +37,7 @@ fn truth_in(basis: &mut Basis, bottom: Id) -> Result<Id, AllocError>
     ensures term { IfOk result (λ id. HasTerm basis.new.bank id (neg (constant falsity))) }
     ensures good { OnOk result (IsBasis basis.new) }
     ensures grows { OnOk result (BasisGrows basis.old basis.new) }
+    ensures declared { declared_by basis.new ≡ declared_by basis.old }
 {
     Ok(basis.bank.intern_app(&Head::Not, &[bottom])?)
 }
@@ -47,6 +50,7 @@ fn empty_predicate(basis: &mut Basis, bottom: Id, n: u32) -> Result<Id, AllocErr
     ensures term { IfOk result (λ id. HasTerm basis.new.bank id (lam (base n) (constant falsity))) }
     ensures good { OnOk result (IsBasis basis.new) }
     ensures grows { OnOk result (BasisGrows basis.old basis.new) }
+    ensures declared { declared_by basis.new ≡ declared_by basis.old }
 {
     Ok(basis.bank.intern_lam(&Ty::Base(n), bottom)?)
 }
@@ -59,6 +63,7 @@ fn chosen_by_empty(basis: &mut Basis, empty: Id, n: u32) -> Result<Id, AllocErro
     ensures term { IfOk result (λ id. HasTerm basis.new.bank id (app (constant (choice (base n))) (lam (base n) (constant falsity)))) }
     ensures good { OnOk result (IsBasis basis.new) }
     ensures grows { OnOk result (BasisGrows basis.old basis.new) }
+    ensures declared { declared_by basis.new ≡ declared_by basis.old }
 {
     Ok(basis.bank.intern_app(&Head::Choice(Ty::Base(n)), &[empty])?)
 }
@@ -70,6 +75,7 @@ fn first_formulas(alloc: Global, basis: &mut Basis) -> Result<Ids, AllocError>
     ensures places { IfOk result (λ ids. Each (IsPlace basis.new.bank.terms) ids) }
     ensures good { OnOk result (IsBasis basis.new) }
     ensures grows { OnOk result (BasisGrows basis.old basis.new) }
+    ensures declared { declared_by basis.new ≡ declared_by basis.old }
 {
     let bottom = falsity_in(basis)?;
     let truth = truth_in(basis, bottom)?;
@@ -86,6 +92,7 @@ fn first_values(alloc: Global, basis: &mut Basis, n: u32) -> Result<Ids, AllocEr
     ensures places { IfOk result (λ ids. Each (IsPlace basis.new.bank.terms) ids) }
     ensures good { OnOk result (IsBasis basis.new) }
     ensures grows { OnOk result (BasisGrows basis.old basis.new) }
+    ensures declared { declared_by basis.new ≡ declared_by basis.old }
 {
     let bottom = falsity_in(basis)?;
     let empty = empty_predicate(basis, bottom, n)?;
@@ -102,6 +109,7 @@ fn first_terms_of(alloc: Global, basis: &mut Basis, n: u32) -> Result<Ids, Alloc
     ensures places { IfOk result (λ ids. Each (IsPlace basis.new.bank.terms) ids) }
     ensures good { OnOk result (IsBasis basis.new) }
     ensures grows { OnOk result (BasisGrows basis.old basis.new) }
+    ensures declared { declared_by basis.new ≡ declared_by basis.old }
 {
     if n == 0 {
         return Ok(first_formulas(alloc, basis)?);
@@ -117,6 +125,7 @@ fn add_terms<W: Weigher<Waiting>>(core: &mut Core<W>, ty: &Ty, ids: &Ids) -> Res
     ensures right { OnOk result (IsRightState core.new.tables core.new.plan) }
     ensures tables { OnOk result (core.new.tables ≡ record core.old.tables { terms = core.new.tables.terms }) }
     ensures rule { OnOk result (core.new.plan.rule ≡ core.old.plan.rule) }
+    ensures lasts { lasting core.new.tables ≡ lasting core.old.tables }
 {
     for i in 0..ids.len() {
         core.add_term(ty, ids.at(i))?;
@@ -136,6 +145,7 @@ pub(crate) fn prepare_base<W: Weigher<Waiting>>(
     ensures basis { OnOk result (BasisGrows core.old.tables.basis core.new.tables.basis) }
     ensures tables { OnOk result (core.new.tables ≡ record core.old.tables { basis = core.new.tables.basis; terms = core.new.tables.terms }) }
     ensures rule { OnOk result (core.new.plan.rule ≡ core.old.plan.rule) }
+    ensures lasts { lasting core.new.tables ≡ lasting core.old.tables }
 {
     let ty = Ty::Base(n);
     if core.tables.terms.terms_of(&ty).len() > 0 {

@@ -10,6 +10,7 @@ ghost use Rattle.search_spec.specs.State.{grow};
 ghost use Rattle.search_spec.specs.Terms.{with_term};
 ghost use Rattle.search_spec.specs.TypedState.{GrowsSketch, IsTypedSketch};
 ghost use Rattle.term_bank.specs.Content.{HasTerm};
+ghost use Rattle.prover_state.specs.Lasting.{declared_by, lasting};
 ghost use Rattle.prover_state.specs.declared.command.Planned.{Planned};
 ghost use Rattle.prover_state.specs.declared.command.Delays.{Delays};
 ghost use Rattle.prover_state.specs.Internal.Growing.{BasisGrows};
@@ -49,6 +50,7 @@ fn make_term(tables: &mut Tables, parent: usize, head: HoleHead) -> Result<Id, A
     ensures good { OnOk result (IsBasis tables.new.basis) }
     ensures basis { OnOk result (BasisGrows tables.old.basis tables.new.basis) }
     ensures tables { tables.new ≡ record tables.old { basis = tables.new.basis } }
+    ensures declared { declared_by tables.new.basis ≡ declared_by tables.old.basis }
 {
     let partial = partial_of(tables, parent)?;
     let bank = &mut tables.basis.bank;
@@ -74,6 +76,7 @@ fn fill_last<W: Weigher<Waiting>>(
     ensures basis { OnOk result (BasisGrows core.old.tables.basis core.new.tables.basis) }
     ensures tables { OnOk result (core.new.tables ≡ record core.old.tables { basis = core.new.tables.basis; terms = core.new.tables.terms }) }
     ensures rule { OnOk result (core.new.plan.rule ≡ core.old.plan.rule) }
+    ensures lasts { lasting core.new.tables ≡ lasting core.old.tables }
 {
     let ty = root_of(&core.tables, parent).try_clone(core.tables.alloc)?;
     let id = make_term(&mut core.tables, parent, head)?;
@@ -97,6 +100,7 @@ pub fn fill<W: Weigher<Waiting>>(
     ensures basis { OnOk result (BasisGrows core.old.tables.basis core.new.tables.basis) }
     ensures tables { OnOk result (core.new.tables ≡ record core.old.tables { basis = core.new.tables.basis; terms = core.new.tables.terms; stems = core.new.tables.stems; open_holes = core.new.tables.open_holes; holes = core.new.tables.holes; roots = core.new.tables.roots }) }
     ensures rule { OnOk result (core.new.plan.rule ≡ core.old.plan.rule) }
+    ensures lasts { lasting core.new.tables ≡ lasting core.old.tables }
 {
     let filler = numbered_head(head);
     let ty = taken_type(&core.tables, parent, filler)?;

@@ -4,6 +4,7 @@ ghost use Rattle.std.specs.List.{list_any};
 ghost use Rattle.stt_core.specs.SimpleType.{SimpleType, arrow, is_declared, same_type};
 ghost use Rattle.stt_core.specs.View.{the_type};
 ghost use Rattle.search_spec.specs.Terms.{with_opening, with_preparation};
+ghost use Rattle.prover_state.specs.Lasting.{lasting};
 ghost use Rattle.prover_state.specs.Internal.Growing.{BasisGrows};
 ghost use Rattle.prover_state.specs.Internal.Heads.{sketch_of, IsStem};
 ghost use Rattle.prover_state.specs.Internal.Standing.{scope_by, setting_by, sketches_in, the_state, IsRightState};
@@ -37,6 +38,7 @@ pub fn open_stem<W: Weigher<Waiting>>(core: &mut Core<W>, stem: Stem) -> Result<
     ensures right { OnOk result (IsRightState core.new.tables core.new.plan) }
     ensures tables { OnOk result (core.new.tables ≡ record core.old.tables { stems = core.new.tables.stems; open_holes = core.new.tables.open_holes; holes = core.new.tables.holes; roots = core.new.tables.roots }) }
     ensures rule { OnOk result (core.new.plan.rule ≡ core.old.plan.rule) }
+    ensures lasts { lasting core.new.tables ≡ lasting core.old.tables }
 {
     let p = core.tables.stems.len();
     park(core, stem)?;
@@ -52,6 +54,7 @@ fn prepare_function<W: Weigher<Waiting>>(core: &mut Core<W>, ty: &Ty) -> Result<
     ensures right { OnOk result (IsRightState core.new.tables core.new.plan) }
     ensures tables { OnOk result (core.new.tables ≡ record core.old.tables { stems = core.new.tables.stems; open_holes = core.new.tables.open_holes; holes = core.new.tables.holes; roots = core.new.tables.roots }) }
     ensures rule { OnOk result (core.new.plan.rule ≡ core.old.plan.rule) }
+    ensures lasts { lasting core.new.tables ≡ lasting core.old.tables }
 {
     if has_type(&core.tables.roots, ty) {
         return Ok(());
@@ -72,6 +75,7 @@ pub fn prepare<W: Weigher<Waiting>>(core: &mut Core<W>, ty: &Ty) -> Result<(), A
     ensures basis { OnOk result (BasisGrows core.old.tables.basis core.new.tables.basis) }
     ensures tables { OnOk result (core.new.tables ≡ record core.old.tables { basis = core.new.tables.basis; terms = core.new.tables.terms; stems = core.new.tables.stems; open_holes = core.new.tables.open_holes; holes = core.new.tables.holes; roots = core.new.tables.roots }) }
     ensures rule { OnOk result (core.new.plan.rule ≡ core.old.plan.rule) }
+    ensures lasts { lasting core.new.tables ≡ lasting core.old.tables }
 {
     match ty {
         Ty::Base(n) => {

@@ -7,6 +7,7 @@ ghost use Rattle.instantiate.specs.Listing.{ids_of};
 ghost use Rattle.search_spec.specs.Each.{Each};
 ghost use Rattle.search_spec.specs.Partial.{Hole};
 ghost use Rattle.search_spec.specs.Witness.{is_hole_of};
+ghost use Rattle.prover_state.specs.Lasting.{lasting};
 ghost use Rattle.prover_state.specs.declared.command.Planned.{Planned};
 ghost use Rattle.prover_state.specs.declared.command.Delays.{Delays};
 ghost use Rattle.prover_state.specs.Internal.Heads.{sketch_of, IsStem};
@@ -81,6 +82,7 @@ pub(crate) fn park<W: Weigher<Waiting>>(core: &mut Core<W>, stem: Stem) -> Resul
     ensures sketches { OnOk result (sketches_in core.new.tables ≡ sketches_in core.old.tables ++ sketch_of (scope_by core.old.tables.basis) (sketches_in core.old.tables) stem ∷ []) }
     ensures tables { OnOk result (core.new.tables ≡ record core.old.tables { stems = core.new.tables.stems; open_holes = core.new.tables.open_holes; holes = core.new.tables.holes; roots = core.new.tables.roots }) }
     ensures plan { core.new.plan ≡ core.old.plan }
+    ensures lasts { lasting core.new.tables ≡ lasting core.old.tables }
 {
     let p = core.tables.stems.len();
     push_holes(&mut core.tables, &stem)?;

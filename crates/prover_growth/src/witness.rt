@@ -6,6 +6,7 @@ ghost use Rattle.tableau_calculus.specs.Literals.{minus};
 ghost use Rattle.literal_map.specs.Atoms.{bank_literal};
 ghost use Rattle.search_spec.specs.State.{grow, with_commands};
 ghost use Rattle.search_spec.specs.Witness.{has_hole_of, with_witness};
+ghost use Rattle.prover_state.specs.Lasting.{lasting};
 ghost use Rattle.prover_state.specs.Internal.Growing.{BasisWidens};
 ghost use Rattle.prover_state.specs.Internal.Names.{IsNumberIn};
 ghost use Rattle.prover_state.specs.Internal.Standing.{setting_by, sketches_in, the_state, IsRightState};
@@ -49,6 +50,7 @@ pub fn add_witness<W: Weigher<Waiting>>(core: &mut Core<W>, lit: SatLit) -> Resu
     ensures steps { OnOk result (StepsGrow (IsMadeInstance core.new.tables.basis) core.old.tables.steps core.new.tables.steps) }
     ensures tables { OnOk result (core.new.tables ≡ record core.old.tables { basis = core.new.tables.basis; seen = core.new.tables.seen; steps = core.new.tables.steps; solver = core.new.tables.solver; takers = core.new.tables.takers }) }
     ensures rule { OnOk result (core.new.plan.rule ≡ core.old.plan.rule) }
+    ensures lasts { lasting core.new.tables ≡ lasting core.old.tables }
 {
     let output = denied_target(&core.tables.basis, lit);
     let before = core.tables.basis.witnesses.len();

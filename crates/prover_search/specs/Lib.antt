@@ -1,5 +1,6 @@
 pub use Rattle.literal_map.specs.Atoms
 pub use Rattle.prover_state.specs.Delays
+pub use Rattle.prover_state.specs.Lasting
 pub use Rattle.sat_base.specs.Truth
 pub use Rattle.sat_core.specs.Solver
 pub use Rattle.sat_log.specs.Chains

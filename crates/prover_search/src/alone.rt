@@ -5,6 +5,7 @@ ghost use Rattle.literal_map.specs.Atoms.{bank_literal};
 ghost use Rattle.literal_map.specs.declared.instance.RuleKind.TheVariants.{AllNeg as MakesWitness};
 ghost use Rattle.tableau_rules.specs.Uses.{principals_of, IsInstanceBy};
 ghost use Rattle.search_spec.specs.Instances.{with_instance};
+ghost use Rattle.prover_state.specs.Lasting.{lasting};
 ghost use Rattle.prover_state.specs.Internal.Names.{IsNumberIn};
 ghost use Rattle.prover_state.specs.Internal.Standing.{rows_in, the_state, IsRightState};
 ghost use Rattle.prover_search.specs.Internal.Developing.{Develops};
@@ -33,6 +34,7 @@ pub(crate) fn apply_alone<W: Weigher<Waiting>>(
     ensures develops { OnOk result (Develops core.old.tables core.new.tables) }
     ensures witnesses { OnOk result (core.new.tables.basis.witnesses ≡ core.old.tables.basis.witnesses) }
     ensures rule { OnOk result (core.new.plan.rule ≡ core.old.plan.rule) }
+    ensures lasts { lasting core.new.tables ≡ lasting core.old.tables }
 {
     core.apply_rule(BankUse {
         kind: rule,

@@ -7,6 +7,7 @@ ghost use Rattle.term_bank.specs.Terms.{term_at};
 ghost use Rattle.literal_map.specs.Atoms.{bank_atom, bank_literal};
 ghost use Rattle.search_spec.specs.Processing.{with_decomposition, with_rules};
 ghost use Rattle.search_spec.specs.Terms.{with_term};
+ghost use Rattle.prover_state.specs.Lasting.{lasting};
 ghost use Rattle.prover_state.specs.Internal.Names.{IsNumberIn, IsPlace};
 ghost use Rattle.prover_state.specs.Internal.Pending.{equation_type};
 ghost use Rattle.prover_state.specs.Internal.Shapes.{IsBaseEquation};
@@ -41,6 +42,7 @@ pub(crate) fn work_on_formulas<W: Weigher<Waiting>>(
     ensures develops { OnOk result (Develops core.old.tables core.new.tables) }
     ensures witnesses { OnOk result (core.new.tables.basis.witnesses ≡ core.old.tables.basis.witnesses) }
     ensures rule { OnOk result (core.new.plan.rule ≡ core.old.plan.rule) }
+    ensures lasts { lasting core.new.tables ≡ lasting core.old.tables }
 {
     if lit.positive {
         apply_alone(core, RuleKind::BoolPos, lit)?;
@@ -65,6 +67,7 @@ pub(crate) fn work_on_functions<W: Weigher<Waiting>>(
     ensures develops { OnOk result (Develops core.old.tables core.new.tables) }
     ensures witnesses { OnOk result (core.new.tables.basis.witnesses ≡ core.old.tables.basis.witnesses) }
     ensures rule { OnOk result (core.new.plan.rule ≡ core.old.plan.rule) }
+    ensures lasts { lasting core.new.tables ≡ lasting core.old.tables }
 {
     if lit.positive {
         apply_alone(core, RuleKind::FunPos, lit)?;
@@ -110,6 +113,7 @@ fn add_terms<W: Weigher<Waiting>>(
     ensures right { OnOk result (IsRightState core.new.tables core.new.plan) }
     ensures tables { OnOk result (core.new.tables ≡ record core.old.tables { terms = core.new.tables.terms }) }
     ensures rule { OnOk result (core.new.plan.rule ≡ core.old.plan.rule) }
+    ensures lasts { lasting core.new.tables ≡ lasting core.old.tables }
 {
     let ty = Ty::Base(n);
     core.add_term(&ty, sides.left)?;
@@ -135,6 +139,7 @@ fn decompose<W: Weigher<Waiting>>(
     ensures develops { OnOk result (Develops core.old.tables core.new.tables) }
     ensures witnesses { OnOk result (core.new.tables.basis.witnesses ≡ core.old.tables.basis.witnesses) }
     ensures rule { OnOk result (core.new.plan.rule ≡ core.old.plan.rule) }
+    ensures lasts { lasting core.new.tables ≡ lasting core.old.tables }
 {
     let _declared = core.tables.basis.bank.sig();
     if !share_spine(&core.tables.basis.bank, sides.left, sides.right) {
@@ -162,6 +167,7 @@ fn work_on_difference<W: Weigher<Waiting>>(
     ensures develops { OnOk result (Develops core.old.tables core.new.tables) }
     ensures witnesses { OnOk result (core.new.tables.basis.witnesses ≡ core.old.tables.basis.witnesses) }
     ensures rule { OnOk result (core.new.plan.rule ≡ core.old.plan.rule) }
+    ensures lasts { lasting core.new.tables ≡ lasting core.old.tables }
 {
     let sides = sides_of(&core.tables.basis, lit);
     add_terms(core, n, sides)?;
@@ -186,6 +192,7 @@ pub(crate) fn work_on_terms<W: Weigher<Waiting>>(
     ensures develops { OnOk result (Develops core.old.tables core.new.tables) }
     ensures witnesses { OnOk result (core.new.tables.basis.witnesses ≡ core.old.tables.basis.witnesses) }
     ensures rule { OnOk result (core.new.plan.rule ≡ core.old.plan.rule) }
+    ensures lasts { lasting core.new.tables ≡ lasting core.old.tables }
 {
     if !lit.positive {
         return work_on_difference(core, lit, n);

@@ -9,6 +9,7 @@ ghost use Rattle.search_spec.specs.Alternatives.{cho, des};
 ghost use Rattle.search_spec.specs.Commands.{with_mating, with_confrontation, with_instantiation};
 ghost use Rattle.search_spec.specs.Instances.{with_instance};
 ghost use Rattle.search_spec.specs.TypedState.{Mates, Confronts, Instantiates};
+ghost use Rattle.prover_state.specs.Lasting.{lasting};
 ghost use Rattle.prover_state.specs.Internal.Names.{IsNumberIn, IsPlace};
 ghost use Rattle.prover_state.specs.Internal.Standing.{scope_by, setting_by, the_state, IsRightState};
 ghost use Rattle.prover_search.specs.Internal.Developing.{Develops};
@@ -36,6 +37,7 @@ pub(crate) fn mate<W: Weigher<Waiting>>(
     ensures develops { OnOk result (Develops core.old.tables core.new.tables) }
     ensures witnesses { OnOk result (core.new.tables.basis.witnesses ≡ core.old.tables.basis.witnesses) }
     ensures rule { OnOk result (core.new.plan.rule ≡ core.old.plan.rule) }
+    ensures lasts { lasting core.new.tables ≡ lasting core.old.tables }
 {
     let _declared = core.tables.basis.bank.sig();
     core.apply_rule(BankUse {
@@ -63,6 +65,7 @@ pub(crate) fn confront<W: Weigher<Waiting>>(
     ensures develops { OnOk result (Develops core.old.tables core.new.tables) }
     ensures witnesses { OnOk result (core.new.tables.basis.witnesses ≡ core.old.tables.basis.witnesses) }
     ensures rule { OnOk result (core.new.plan.rule ≡ core.old.plan.rule) }
+    ensures lasts { lasting core.new.tables ≡ lasting core.old.tables }
 {
     core.apply_rule(BankUse {
         kind: RuleKind::Con,
@@ -89,6 +92,7 @@ pub(crate) fn instantiate<W: Weigher<Waiting>>(
     ensures develops { OnOk result (Develops core.old.tables core.new.tables) }
     ensures witnesses { OnOk result (core.new.tables.basis.witnesses ≡ core.old.tables.basis.witnesses) }
     ensures rule { OnOk result (core.new.plan.rule ≡ core.old.plan.rule) }
+    ensures lasts { lasting core.new.tables ≡ lasting core.old.tables }
 {
     if core.tables.basis.bank.depth(id) > DEPTH {
         return Ok(());
@@ -113,6 +117,7 @@ pub(crate) fn choose<W: Weigher<Waiting>>(core: &mut Core<W>, id: Id) -> Result<
     ensures develops { OnOk result (Develops core.old.tables core.new.tables) }
     ensures witnesses { OnOk result (core.new.tables.basis.witnesses ≡ core.old.tables.basis.witnesses) }
     ensures rule { OnOk result (core.new.plan.rule ≡ core.old.plan.rule) }
+    ensures lasts { lasting core.new.tables ≡ lasting core.old.tables }
 {
     core.apply_rule(BankUse {
         kind: RuleKind::Cho,
@@ -134,6 +139,7 @@ pub(crate) fn describe<W: Weigher<Waiting>>(core: &mut Core<W>, id: Id) -> Resul
     ensures develops { OnOk result (Develops core.old.tables core.new.tables) }
     ensures witnesses { OnOk result (core.new.tables.basis.witnesses ≡ core.old.tables.basis.witnesses) }
     ensures rule { OnOk result (core.new.plan.rule ≡ core.old.plan.rule) }
+    ensures lasts { lasting core.new.tables ≡ lasting core.old.tables }
 {
     core.apply_rule(BankUse {
         kind: RuleKind::Des,

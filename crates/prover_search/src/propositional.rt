@@ -2,6 +2,7 @@
 ghost use Rattle.std.specs.Prelude.{◌≡◌, ◌<◌, ◌-◌, ◌^◌, length, OnOk};
 ghost use Rattle.literal_map.specs.Atoms.{bank_atom, bank_literal};
 ghost use Rattle.search_spec.specs.Processing.{with_rules};
+ghost use Rattle.prover_state.specs.Lasting.{lasting};
 ghost use Rattle.prover_state.specs.Internal.Names.{IsNumberIn};
 ghost use Rattle.prover_state.specs.Internal.Standing.{setting_by, the_state, IsRightState};
 ghost use Rattle.prover_search.specs.Internal.Developing.{Develops};
@@ -29,6 +30,7 @@ pub(crate) fn work_on_falsity<W: Weigher<Waiting>>(
     ensures develops { OnOk result (Develops core.old.tables core.new.tables) }
     ensures witnesses { OnOk result (core.new.tables.basis.witnesses ≡ core.old.tables.basis.witnesses) }
     ensures rule { OnOk result (core.new.plan.rule ≡ core.old.plan.rule) }
+    ensures lasts { lasting core.new.tables ≡ lasting core.old.tables }
 {
     if !lit.positive {
         return Ok(());
@@ -51,6 +53,7 @@ pub(crate) fn work_on_implication<W: Weigher<Waiting>>(
     ensures develops { OnOk result (Develops core.old.tables core.new.tables) }
     ensures witnesses { OnOk result (core.new.tables.basis.witnesses ≡ core.old.tables.basis.witnesses) }
     ensures rule { OnOk result (core.new.plan.rule ≡ core.old.plan.rule) }
+    ensures lasts { lasting core.new.tables ≡ lasting core.old.tables }
 {
     if lit.positive {
         apply_alone(core, RuleKind::ImpPos, lit)?;

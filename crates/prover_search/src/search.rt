@@ -1,10 +1,11 @@
 //! The search as callers see it.
-ghost use Rattle.std.specs.Prelude.{◌≡◌, ◌+◌, true, false, filter, IsErr, IfOk, OnOk, OnErr};
+ghost use Rattle.std.specs.Prelude.{◌≡◌, ◌+◌, ◌++◌, true, false, List, filter, IsErr, IfOk, OnOk, OnErr};
 ghost use Rattle.std.specs.List.{All};
 ghost use Rattle.stt_core.specs.TypedProblem.{IsTyped};
 ghost use Rattle.tableau_calculus.specs.Start.{start};
 ghost use Rattle.sat_base.specs.Truth.{Implies};
 ghost use Rattle.sat_log.specs.Chains.{results};
+ghost use Rattle.sat_log.specs.declared.log.LogEntry.{LogEntry};
 ghost use Rattle.sat_core.specs.Solver.{IsSound};
 ghost use Rattle.search_spec.specs.Shallow.{is_shallow_literal};
 ghost use Rattle.prover_state.specs.Delays.{delay_by};
@@ -78,6 +79,9 @@ impl<W: Weigher<Waiting>> Search<W> {
         ensures ready { OnOk result (self.new.is_refused ≡ false) }
         ensures refused { OnErr result (self.new.is_refused ≡ true) }
         ensures stays_refused { self.old.is_refused ≡ true → IsErr result }
+        ensures bases { self.new.core.tables.basis.bank.bases ≡ self.old.core.tables.basis.bank.bases }
+        ensures consts { self.new.core.tables.basis.bank.consts ≡ self.old.core.tables.basis.bank.consts }
+        ensures log { (more : List LogEntry) × (self.new.core.tables.solver.log ≡ self.old.core.tables.solver.log ++ more) }
     {
         if self.is_refused {
             return Err(AllocError);

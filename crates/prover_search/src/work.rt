@@ -2,6 +2,7 @@
 ghost use Rattle.std.specs.Prelude.{◌≡◌, ◌<◌, ◌≤◌, ◌-◌, ◌^◌, false, suc, length, OnOk};
 ghost use Rattle.literal_map.specs.Atoms.{bank_atom, bank_literal};
 ghost use Rattle.search_spec.specs.Processing.{with_rules};
+ghost use Rattle.prover_state.specs.Lasting.{lasting};
 ghost use Rattle.prover_state.specs.Internal.Names.{IsNumberIn};
 ghost use Rattle.prover_state.specs.Internal.Standing.{setting_by, the_state, IsRightState};
 ghost use Rattle.prover_search.specs.Internal.Developing.{Develops};
@@ -30,6 +31,7 @@ fn work_on_other<W: Weigher<Waiting>>(core: &mut Core<W>, lit: SatLit) -> Result
     ensures develops { OnOk result (Develops core.old.tables core.new.tables) }
     ensures witnesses { OnOk result (core.new.tables.basis.witnesses ≡ core.old.tables.basis.witnesses) }
     ensures rule { OnOk result (core.new.plan.rule ≡ core.old.plan.rule) }
+    ensures lasts { lasting core.new.tables ≡ lasting core.old.tables }
 {
     let atom = atom_of(&core.tables.basis, lit);
     if !is_spine(&core.tables.basis.bank, atom) {
@@ -50,6 +52,7 @@ fn work_by_shape<W: Weigher<Waiting>>(core: &mut Core<W>, lit: SatLit) -> Result
     ensures develops { OnOk result (Develops core.old.tables core.new.tables) }
     ensures witnesses { OnOk result (length core.new.tables.basis.witnesses ≤ suc (length core.old.tables.basis.witnesses)) }
     ensures rule { OnOk result (core.new.plan.rule ≡ core.old.plan.rule) }
+    ensures lasts { lasting core.new.tables ≡ lasting core.old.tables }
 {
     let atom = atom_of(&core.tables.basis, lit);
     match shape_of(&core.tables.basis.bank, atom) {
@@ -73,6 +76,7 @@ pub(crate) fn work<W: Weigher<Waiting>>(core: &mut Core<W>, lit: SatLit) -> Resu
     ensures develops { OnOk result (Develops core.old.tables core.new.tables) }
     ensures witnesses { OnOk result (length core.new.tables.basis.witnesses ≤ suc (length core.old.tables.basis.witnesses)) }
     ensures rule { OnOk result (core.new.plan.rule ≡ core.old.plan.rule) }
+    ensures lasts { lasting core.new.tables ≡ lasting core.old.tables }
 {
     if denies_itself(&core.tables.basis, lit) {
         apply_alone(core, RuleKind::Refl, lit)?;

@@ -32,4 +32,5 @@ pub use Rattle.term_bank.specs.Content
 pub use Rattle.term_bank.specs.Terms as TermBankTerms
 pub use Rattle.witness_names.specs.Rows
 pub mod Delays
+pub mod Lasting
 pub mod Internal

@@ -75,6 +75,7 @@ pub fn make_variables(solver: &mut Solver, atoms: usize) -> Result<(), AllocErro
     ensures clauses { solver.new.clauses ≡ solver.old.clauses }
     ensures learned { learned solver.new ≡ learned solver.old }
     ensures made { OnOk result (atoms ≤ length solver.new.values) }
+    ensures log { solver.new.log ≡ solver.old.log }
 {
     while solver.variables() < atoms {
         solver.new_var()?;
@@ -95,6 +96,7 @@ pub(crate) fn add_clauses(
     ensures same { OnOk result (solver.new.clauses ≡ the_clauses steps.new) }
     ensures steps { OnOk result (StepsGrow (λ i. i ≡ instance) steps.old steps.new) }
     ensures learned { learned solver.new ≡ learned solver.old }
+    ensures log { solver.new.log ≡ solver.old.log }
 {
     make_variables(solver, atoms)?;
     let new = steps.add(instance)?;

@@ -3,6 +3,7 @@ ghost use Rattle.std.specs.Prelude.{◌≡◌, map, OnOk};
 ghost use Rattle.literal_map.specs.Atoms.{bank_literal};
 ghost use Rattle.search_spec.specs.Each.{Each};
 ghost use Rattle.search_spec.specs.Instances.{with_instance};
+ghost use Rattle.prover_state.specs.Lasting.{lasting};
 ghost use Rattle.prover_state.specs.Internal.Names.{IsNumberIn};
 ghost use Rattle.prover_state.specs.Internal.Standing.{the_state, IsRightState};
 ghost use Rattle.prover_state.specs.Internal.Steps.{StepsGrow};
@@ -27,6 +28,7 @@ impl<W: Weigher<Waiting>> Core<W> {
         ensures tables { OnOk result (self.new.tables ≡ record self.old.tables { seen = self.new.tables.seen; steps = self.new.tables.steps; solver = self.new.tables.solver }) }
         ensures steps { OnOk result (StepsGrow (λ i. i ≡ instance) self.old.tables.steps self.new.tables.steps) }
         ensures rule { OnOk result (self.new.plan.rule ≡ self.old.plan.rule) }
+        ensures lasts { lasting self.new.tables ≡ lasting self.old.tables }
     {
         let basis = &self.tables.basis;
         equal_ids_for_equal_terms(&basis.bank);

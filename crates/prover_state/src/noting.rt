@@ -5,6 +5,7 @@ ghost use Rattle.literal_map.specs.Atoms.{bank_literal};
 ghost use Rattle.mating_rules.specs.Noted.{IsRightIndex};
 ghost use Rattle.instantiate.specs.Listing.{ids_of};
 ghost use Rattle.search_spec.specs.Each.{Each};
+ghost use Rattle.prover_state.specs.Lasting.{lasting};
 ghost use Rattle.prover_state.specs.Internal.Names.{IsNumberIn};
 ghost use Rattle.prover_state.specs.Internal.Standing.{can_pair, is_universal, the_state, IsBasis, IsRightState};
 
@@ -66,6 +67,7 @@ impl<W: Weigher<Waiting>> Core<W> {
         ensures right { OnOk result (IsRightState self.new.tables self.new.plan) }
         ensures tables { OnOk result (self.new.tables ≡ record self.old.tables { noted = self.new.tables.noted; index = self.new.tables.index; universals = self.new.tables.universals }) }
         ensures plan { self.new.plan ≡ self.old.plan }
+        ensures lasts { lasting self.new.tables ≡ lasting self.old.tables }
     {
         self.tables.list_universal(lit)?;
         self.tables.index_literal(lit)?;

@@ -1,5 +1,5 @@
 //! The commands that wait.
-ghost use Rattle.std.specs.Prelude.{◌≡◌, ◌<◌, ◌≤◌, ◌+◌, ◌^◌, [], suc, ◌↔◌, IsTrue, OnOk, IfOk, IsNone, IfNone, IfSome};
+ghost use Rattle.std.specs.Prelude.{◌≡◌, ◌<◌, ◌≤◌, ◌+◌, ◌^◌, [], suc, ◌↔◌, IsTrue, OnOk, OnErr, IfOk, IsNone, IfNone, IfSome};
 ghost use Rattle.command_queue.specs.Queue.{AddsEntry, AddsEntryAt, TakesEntry, GainsRoom};
 ghost use Rattle.search_spec.specs.Each.{Each};
 ghost use Rattle.prover_state.specs.Delays.{delay_by};
@@ -49,6 +49,7 @@ impl<W: Weigher<Waiting>> Plan<W> {
     pub fn push(&mut self, planned: Planned, now: u64) -> Result<(), AllocError>
         requires moment { now < 2 ^ 32 }
         ensures ok { OnOk result (AddsEntry self.old self.new (suc (span planned)) (now + delay_by self.old.rule.mode planned.first) planned) }
+        ensures err { OnErr result (self.new ≡ self.old) }
     {
         let numbers = one_more(planned.len(), self.agenda.pushes())?;
         let waiting = Waiting::of(planned)?;
@@ -75,7 +76,8 @@ impl<W: Weigher<Waiting>> Plan<W> {
     pub fn put_back(&mut self, entry: Entry<Planned>) -> Result<(), AllocError>
         requires taken { EndsBelow self.old.pushes entry }
         requires apart { Each (IsApart entry) self.old.entries }
-        ensures { OnOk result (AddsEntryAt self.old self.new entry) }
+        ensures ok { OnOk result (AddsEntryAt self.old self.new entry) }
+        ensures err { OnErr result (self.new ≡ self.old) }
     {
         let waiting = Waiting::of(entry.command)?;
         self.agenda.push_at(Entry {

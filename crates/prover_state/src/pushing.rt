@@ -4,6 +4,7 @@ ghost use Rattle.literal_map.specs.Atoms.{bank_literal};
 ghost use Rattle.search_spec.specs.Each.{Each};
 ghost use Rattle.search_spec.specs.Instances.{with_literal, with_literals};
 ghost use Rattle.search_spec.specs.State.{with_commands};
+ghost use Rattle.prover_state.specs.Lasting.{lasting};
 ghost use Rattle.prover_state.specs.Internal.Names.{command_at, IsNumberedCommand, IsNumberIn};
 ghost use Rattle.prover_state.specs.Internal.Pending.{loop_over, later_of, BeginsWith, HasWitnesses, IsSigned, IsEntry};
 ghost use Rattle.prover_state.specs.Internal.Standing.{without_witnesses, naming_in, sources, the_state, IsRightState};
@@ -73,6 +74,7 @@ impl<W: Weigher<Waiting>> Core<W> {
         ensures right { OnOk result (IsRightState self.new.tables self.new.plan) }
         ensures tables { OnOk result (self.new.tables ≡ record self.old.tables { seen = self.new.tables.seen }) }
         ensures rule { OnOk result (self.new.plan.rule ≡ self.old.plan.rule) }
+        ensures lasts { lasting self.new.tables ≡ lasting self.old.tables }
     {
         equal_ids_for_equal_terms(&self.tables.basis.bank);
         self.tables.basis.lits.atoms_differ();
@@ -91,6 +93,7 @@ impl<W: Weigher<Waiting>> Core<W> {
         ensures right { OnOk result (IsRightState self.new.tables self.new.plan) }
         ensures tables { OnOk result (self.new.tables ≡ record self.old.tables { seen = self.new.tables.seen }) }
         ensures rule { OnOk result (self.new.plan.rule ≡ self.old.plan.rule) }
+        ensures lasts { lasting self.new.tables ≡ lasting self.old.tables }
     {
         for i in 0..lits.len() {
             self.see(literal_of(lits, i))?;

@@ -7,6 +7,7 @@ ghost use Rattle.literal_map.specs.Atoms.{bank_literal};
 ghost use Rattle.literal_map.specs.declared.instance.RuleKind.TheVariants.{AllNeg as MakesWitness};
 ghost use Rattle.tableau_rules.specs.Uses.{principals_of, IsInstanceBy};
 ghost use Rattle.search_spec.specs.Instances.{with_instance};
+ghost use Rattle.prover_state.specs.Lasting.{declared_by, lasting};
 ghost use Rattle.prover_state.specs.Internal.Growing.{BasisGrows};
 ghost use Rattle.prover_state.specs.Internal.Names.{IsNumberIn, IsPlace};
 ghost use Rattle.prover_state.specs.Internal.Standing.{rows_in, the_state, IsBasis, IsRightState};
@@ -39,6 +40,7 @@ impl Basis {
         ensures instance { IfOk result (λ i. IsInstanceBy self.new.bank self.new.lits (rows_in self.new) by.now (map (map (bank_literal self.new.bank.terms self.new.lits)) i.alternatives)) }
         ensures good { OnOk result (IsBasis self.new) }
         ensures grows { OnOk result (BasisGrows self.old self.new) }
+        ensures declared { declared_by self.new ≡ declared_by self.old }
     {
         let made = make(
             alloc,
@@ -75,6 +77,7 @@ impl<W: Weigher<Waiting>> Core<W> {
         ensures steps { OnOk result (StepsGrow (IsMadeInstance self.new.tables.basis) self.old.tables.steps self.new.tables.steps) }
         ensures tables { OnOk result (self.new.tables ≡ record self.old.tables { basis = self.new.tables.basis; seen = self.new.tables.seen; steps = self.new.tables.steps; solver = self.new.tables.solver }) }
         ensures rule { OnOk result (self.new.plan.rule ≡ self.old.plan.rule) }
+        ensures lasts { lasting self.new.tables ≡ lasting self.old.tables }
     {
         let instance = self.tables.basis.make_instance(self.tables.alloc, &by)?;
         self.add_instance(instance)?;

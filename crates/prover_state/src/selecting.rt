@@ -3,6 +3,7 @@ ghost use Rattle.std.specs.Prelude.{◌≡◌, OnOk};
 ghost use Rattle.term_bank.specs.Terms.{term_at};
 ghost use Rattle.literal_map.specs.Atoms.{bank_atom};
 ghost use Rattle.search_spec.specs.Selections.{selections_in, with_selections};
+ghost use Rattle.prover_state.specs.Lasting.{lasting};
 ghost use Rattle.prover_state.specs.Internal.Names.{IsNumberIn, IsPlace};
 ghost use Rattle.prover_state.specs.Internal.Selecting.{head_selection, AreTaken};
 ghost use Rattle.prover_state.specs.Internal.Standing.{the_state, IsRightState};
@@ -26,6 +27,7 @@ impl<W: Weigher<Waiting>> Core<W> {
         ensures right { OnOk result (IsRightState self.new.tables self.new.plan) }
         ensures tables { OnOk result (self.new.tables ≡ record self.old.tables { chosen = self.new.tables.chosen; described = self.new.tables.described }) }
         ensures rule { OnOk result (self.new.plan.rule ≡ self.old.plan.rule) }
+        ensures lasts { lasting self.new.tables ≡ lasting self.old.tables }
     {
         // The node is asked for its clause that the term is typed.
         let _typed = self.tables.basis.bank.node(id);
@@ -46,6 +48,7 @@ impl<W: Weigher<Waiting>> Core<W> {
         ensures right { OnOk result (IsRightState self.new.tables self.new.plan) }
         ensures tables { OnOk result (self.new.tables ≡ record self.old.tables { chosen = self.new.tables.chosen; described = self.new.tables.described }) }
         ensures rule { OnOk result (self.new.plan.rule ≡ self.old.plan.rule) }
+        ensures lasts { lasting self.new.tables ≡ lasting self.old.tables }
     {
         if walked.contains(id) {
             return Ok(());
@@ -71,6 +74,7 @@ impl<W: Weigher<Waiting>> Core<W> {
         ensures right { OnOk result (IsRightState self.new.tables self.new.plan) }
         ensures tables { OnOk result (self.new.tables ≡ record self.old.tables { chosen = self.new.tables.chosen; described = self.new.tables.described }) }
         ensures rule { OnOk result (self.new.plan.rule ≡ self.old.plan.rule) }
+        ensures lasts { lasting self.new.tables ≡ lasting self.old.tables }
     {
         let atom = self.tables.basis.lits.formula_of(lit);
         if self.tables.basis.bank.depth(atom) > DEPTH {

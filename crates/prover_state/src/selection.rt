@@ -3,6 +3,7 @@ ghost use Rattle.std.specs.Prelude.{◌≡◌, OnOk};
 ghost use Rattle.term_bank.specs.Terms.{term_at};
 ghost use Rattle.witness_names.specs.Rows.{binder_of};
 ghost use Rattle.search_spec.specs.Selections.{with_selection, by_choice, by_description};
+ghost use Rattle.prover_state.specs.Lasting.{lasting};
 ghost use Rattle.prover_state.specs.Internal.Names.{IsPlace};
 ghost use Rattle.prover_state.specs.Internal.Standing.{the_state, IsRightState};
 
@@ -22,6 +23,7 @@ impl<W: Weigher<Waiting>> Core<W> {
         ensures right { OnOk result (IsRightState self.new.tables self.new.plan) }
         ensures tables { OnOk result (self.new.tables ≡ record self.old.tables { chosen = self.new.tables.chosen }) }
         ensures rule { OnOk result (self.new.plan.rule ≡ self.old.plan.rule) }
+        ensures lasts { lasting self.new.tables ≡ lasting self.old.tables }
     {
         equal_ids_for_equal_terms(&self.tables.basis.bank);
         if !self.tables.chosen.insert(predicate)? {
@@ -39,6 +41,7 @@ impl<W: Weigher<Waiting>> Core<W> {
         ensures right { OnOk result (IsRightState self.new.tables self.new.plan) }
         ensures tables { OnOk result (self.new.tables ≡ record self.old.tables { described = self.new.tables.described }) }
         ensures rule { OnOk result (self.new.plan.rule ≡ self.old.plan.rule) }
+        ensures lasts { lasting self.new.tables ≡ lasting self.old.tables }
     {
         equal_ids_for_equal_terms(&self.tables.basis.bank);
         if !self.tables.described.insert(predicate)? {

@@ -1,5 +1,5 @@
 //! Lists without repeats.
-ghost use Rattle.std.specs.Prelude.{◌≡◌, ◌++◌, [], ◌∷◌, not, nat_eq, if◌then◌else◌, IfOk, OnOk};
+ghost use Rattle.std.specs.Prelude.{◌≡◌, ◌++◌, [], ◌∷◌, not, nat_eq, if◌then◌else◌, IfOk, OnOk, OnErr};
 ghost use Rattle.std.specs.List.{list_any};
 ghost use Rattle.tableau_calculus.specs.Kinds.{has, added};
 ghost use Rattle.search_spec.specs.Numbered.{numbers};
@@ -38,6 +38,7 @@ impl LitSet {
     pub fn insert(&mut self, lit: SatLit) -> Result<bool, AllocError>
         ensures new { IfOk result (λ is_new. is_new ≡ not (has numbers self.old lit)) }
         ensures list { OnOk result (self.new ≡ added numbers self.old (lit ∷ [])) }
+        ensures err { OnErr result (self.new ≡ self.old) }
     {
         Ok(self.literals.insert(lit)?)
     }
@@ -76,6 +77,7 @@ impl IdSet {
     pub fn insert(&mut self, id: Id) -> Result<bool, AllocError>
         ensures new { IfOk result (λ is_new. is_new ≡ not (list_any (nat_eq id) self.old)) }
         ensures list { OnOk result (self.new ≡ (if list_any (nat_eq id) self.old then self.old else self.old ++ id ∷ [])) }
+        ensures err { OnErr result (self.new ≡ self.old) }
     {
         Ok(self.ids.insert(id)?)
     }

@@ -1,5 +1,5 @@
 //! The solver's answers.
-ghost use Rattle.std.specs.Prelude.{◌≡◌, ◌≢◌, ◌≤◌, ◌^◌, ◌++◌, [], true, ℕ, List, length, OnOk, IfOk};
+ghost use Rattle.std.specs.Prelude.{◌≡◌, ◌≢◌, ◌≤◌, ◌^◌, ◌++◌, [], true, ℕ, List, length, IfOk};
 ghost use Rattle.sat_base.specs.declared.literal.Var.{Var};
 ghost use Rattle.sat_base.specs.declared.literal.SatLit.{SatLit};
 ghost use Rattle.sat_log.specs.Propagation.{AreFailingDecisions, ReachesFalse};
@@ -28,7 +28,7 @@ impl<W: Weigher<Waiting>> Core<W> {
         ensures counted { IfOk result (λ answer. (spent : ℕ) → answer ≡ Answer.Spent spent → length (learned self.new.tables.solver) ≡ conflicts) }
         ensures failing { IfOk result (λ answer. (spent : ℕ) → answer ≡ Answer.Spent spent → (decisions : List SatLit) × AreFailingDecisions (self.new.tables.solver.clauses ++ learned self.new.tables.solver) decisions) }
         ensures enough { IfOk result (λ answer. (spent : ℕ) (variables : List Var) → AreAmong variables self.new.tables.solver.clauses → 3 ^ length variables ≤ conflicts → answer ≢ Answer.Spent spent) }
-        ensures grows { OnOk result (SolverGrows self.old.tables.solver self.new.tables.solver) }
+        ensures grows { SolverGrows self.old.tables.solver self.new.tables.solver }
         ensures right { IsRightState self.new.tables self.new.plan }
         ensures tables { self.new.tables ≡ record self.old.tables { solver = self.new.tables.solver } }
         ensures plan { self.new.plan ≡ self.old.plan }

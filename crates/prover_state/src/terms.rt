@@ -3,6 +3,7 @@ ghost use Rattle.std.specs.Prelude.{◌≡◌, OnOk};
 ghost use Rattle.stt_core.specs.View.{the_type};
 ghost use Rattle.term_bank.specs.Terms.{term_at};
 ghost use Rattle.search_spec.specs.Terms.{with_term};
+ghost use Rattle.prover_state.specs.Lasting.{lasting};
 ghost use Rattle.prover_state.specs.Internal.Names.{IsPlace};
 ghost use Rattle.prover_state.specs.Internal.Standing.{the_state, IsRightState};
 
@@ -25,6 +26,7 @@ impl<W: Weigher<Waiting>> Core<W> {
         ensures right { OnOk result (IsRightState self.new.tables self.new.plan) }
         ensures tables { OnOk result (self.new.tables ≡ record self.old.tables { terms = self.new.tables.terms }) }
         ensures rule { OnOk result (self.new.plan.rule ≡ self.old.plan.rule) }
+        ensures lasts { lasting self.new.tables ≡ lasting self.old.tables }
     {
         equal_ids_for_equal_terms(&self.tables.basis.bank);
         if !self.tables.terms.add_term(ty, id)? {

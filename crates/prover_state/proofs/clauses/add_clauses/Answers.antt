@@ -18,6 +18,7 @@ loop-n-init c = record {
       c.make_variables.ensures.clauses ∙ c.requires.same
       ∙ first_clauses numbers (the_clauses c.args.steps.now) (instance_clauses numbers c.args.instance.principals c.args.instance.alternatives) (the_clauses c.add.new.self) c.in_ok-new.new.start c.in_ok-new.ensures.start c.in_ok-new.ensures.clauses;
   learned = c.make_variables.ensures.learned;
+  log = c.make_variables.ensures.log;
 }
 
 pub add-requires-in-loop-n : goal.add-requires-in-loop-n
@@ -35,6 +36,7 @@ loop-n-preserved c = record {
       ∙ ap (λ cs. cs ++ c.clause.result.now ∷ []) c.loop-n.invariant.same
       ∙ sym (take_got (the_clauses c.add.new.self) c.loop-n.n c.clause.result.now c.clause.ensures);
   learned = ap (λ (s : SolverState). learned s) c.in_ok-add.ensures.ok ∙ c.loop-n.invariant.learned;
+  log = ap (λ (s : SolverState). s.log) c.in_ok-add.ensures.ok ∙ c.loop-n.invariant.log;
 }
 
 pub returns-clause-steps : goal.returns-clause-steps

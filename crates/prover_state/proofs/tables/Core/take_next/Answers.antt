@@ -86,7 +86,7 @@ returns-clause-takes g c =
     let P : Rest → Type 0 = λ x. AddsEntryAt c.pop.new.self c.put_back.new.self (record { due = c.in-Some.entry.due; number = c.in-Some.entry.number + 1; command = record { first = c.in_ok-next.next; rest = Some x } }) in
     takes-more self.tables self.plan c.pop.new.self c.in-Some.entry c.in-Some.ensures.first c.pop.ensures.spaced c.requires.right
     c.in-Some-rest.rest c.in-Some-rest.is c.if-rest.false c.in_ok-next.next c.in_ok-next.ensures.command c.in_ok-next.ensures.numbers
-    c.put_back.new.self (subst P c.behind.ensures c.in_ok-put_back.ensures)
+    c.put_back.new.self (subst P c.behind.ensures c.in_ok-put_back.ensures.ok)
 
 pub returns-clause-right : goal.returns-clause-right
 returns-clause-right g c =
@@ -94,7 +94,7 @@ returns-clause-right g c =
     let P : Rest → Type 0 = λ x. AddsEntryAt c.pop.new.self c.put_back.new.self (record { due = c.in-Some.entry.due; number = c.in-Some.entry.number + 1; command = record { first = c.in_ok-next.next; rest = Some x } }) in
     right-more self.tables self.plan c.pop.new.self c.in-Some.entry c.in-Some.ensures.first c.pop.ensures.spaced c.requires.right
     c.in-Some-rest.rest c.in-Some-rest.is c.if-rest.false c.in_ok-next.next c.in_ok-next.ensures.command c.in_ok-next.ensures.numbers
-    c.put_back.new.self (subst P c.behind.ensures c.in_ok-put_back.ensures)
+    c.put_back.new.self (subst P c.behind.ensures c.in_ok-put_back.ensures.ok)
 
 pub command_of-requires-clause-right : goal.command_of-requires-clause-right
 command_of-requires-clause-right g c = (c.args.self.now.plan, c.requires.right)
