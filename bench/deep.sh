@@ -4,7 +4,7 @@
 # that they name; without it the inputs of bench/deep.py are run. Ends with 1 where a status comes that isn't one of README's.
 set -eu
 here=$(dirname -- "$(readlink -f -- "$0")")
-program=$(readlink -f -- "$here/../crates/satallax_cli/out/satallax_cli")
+program=$(readlink -f -- "$here/../out/satallax")
 folder=${1:-}
 if [ -z "$folder" ]; then
   folder=$(mktemp -d)

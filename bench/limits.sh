@@ -4,7 +4,7 @@
 set -eu
 here=$(dirname -- "$(readlink -f -- "$0")")
 top=$here/..
-program=$top/crates/satallax_cli/out/satallax_cli
+program=$top/out/satallax
 folder=${1:?a folder with problems}
 runs=0
 wrong=0

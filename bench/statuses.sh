@@ -3,7 +3,7 @@
 # aren't text (18), and want of memory (30), by a limit that is set from outside. Ends with 1 where another status comes.
 set -eu
 here=$(dirname -- "$(readlink -f -- "$0")")
-program=$here/../crates/satallax_cli/out/satallax_cli
+program=$here/../out/satallax
 problem=$here/../examples/true.p
 wrong=0
 expect() { # the status, and what was done
