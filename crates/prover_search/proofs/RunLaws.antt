@@ -122,8 +122,8 @@ module _ (t : Tables) (q q1 : Queue Planned Delays) (r : IsRunning t q) (c : Com
     abbrev develops : Develops t1 t2
     develops = k.develops
 
-    next_state : next_state setting (Some s) ≡ Some (the_state t2 q2)
-    next_state =
+    carried_next : next_state setting (Some s) ≡ Some (the_state t2 q2)
+    carried_next =
         ap (λ o. after_command setting o s) takes.is_next
         ∙ ap Some (sym (k.is ∙ ap₂ (λ (x : Setting) (y : State). with_command x (command_at (naming_in t) c) y) taken_setting taken_state))
 
@@ -141,10 +141,10 @@ module _ (t : Tables) (q q1 : Queue Planned Delays) (r : IsRunning t q) (c : Com
         subst (λ x. Comes x (start_in t2) t2.done) (sym setting-next)
         (subst (λ ls. Comes setting ls t2.done) (sym start-next)
         (subst (λ n. Comes setting (start_in t) n) (sym (develops.done ∙ add-one t.done))
-        (ap (next_state setting) r.comes_to ∙ next_state)))
+        (ap (next_state setting) r.comes_to ∙ carried_next)))
 
     pub goes-on : (Unsatisfiable s.clauses → ⊥) → t.done ≢ q.rule.mode.commands → StepGoesOn (record { tables = t; plan = q }) (record { tables = t2; plan = q2 })
-    goes-on satisfiable below = record { satisfiable = satisfiable; some_left = some_next s.queue _ takes.is_next; below = below; next = next_state; done = develops.done }
+    goes-on satisfiable below = record { satisfiable = satisfiable; some_left = some_next s.queue _ takes.is_next; below = below; next = carried_next; done = develops.done }
 
     pub running-next : t.done ≢ q.rule.mode.commands → IsRunning t2 q2
     running-next below =

@@ -71,9 +71,9 @@ abbrev IfTerm : ℕ → Option TypedTerm → Type 0
 IfTerm n None = Unit {0}
 IfTerm n (Some x) = IsTerm n x
 
-known_term : (at n : ℕ) (o : Option TypedTerm) → IfTerm n o → IfOk (known_term at o) (IsTerm n)
-known_term at n (Some x) h = h
-known_term at n None h = tt
+known_modest : (at n : ℕ) (o : Option TypedTerm) → IfTerm n o → IfOk (known_term at o) (IsTerm n)
+known_modest at n (Some x) h = h
+known_modest at n None h = tt
 
 abbrev IfTyped : Option TypedName → Type 0
 IfTyped None = Unit {0}
@@ -210,8 +210,8 @@ module _ (d : Declarations) (consts : AreTyped d.consts) where
   wider_ok n m (Err e) le h = tt
 
   term_modest : (n : ℕ) (scope : List TypedName) (t : FormulaTree) → L + binders t ≤ n → n ≤ M → HasShallowVars L t → AreTyped scope → IfOk (read_term d scope t) (IsTerm n)
-  term_modest n scope (tree.constant at name) few le h are = known_term at n (constant_named d.consts (symbol_named d.bases d.consts name)) (constant_term n d.consts (symbol_named d.bases d.consts name) (omega (arith, few)) consts)
-  term_modest n scope (tree.variable at name) few le h are = known_term at n (variable_named zero scope name) (variable_term n zero scope name (omega (arith, few)) are)
+  term_modest n scope (tree.constant at name) few le h are = known_modest at n (constant_named d.consts (symbol_named d.bases d.consts name)) (constant_term n d.consts (symbol_named d.bases d.consts name) (omega (arith, few)) consts)
+  term_modest n scope (tree.variable at name) few le h are = known_modest at n (variable_named zero scope name) (variable_term n zero scope name (omega (arith, few)) are)
   term_modest n scope (tree.truth at value) few le h are = (formula_small n, truth_modest value)
   term_modest n scope (tree.operator at c) few le h are = operator_modest n c (omega (arith, few))
   term_modest n scope (tree.negation at s) few le h are = then_ok (IsTerm n) (IsTerm n) (read_term d scope s) (λ x. typed_negation at x) (term_modest n scope s few le h are) (λ x k. negated_term at n x k)

@@ -15,7 +15,8 @@ use crate::instance::find_instance;
 use std::alloc::{AllocError, Global};
 use stt_core::{Signature, Types, same_nf};
 use tableau_calculus::{
-    Line, Lits, Refutation, Rows, Why, WitnessRow, is_typed_branch, is_typed_row, is_typed_use,
+    Line, Lits, PlainRefused, Refutation, Rows, Why, WitnessRow, is_typed_branch, is_typed_row,
+    is_typed_use,
 };
 
 /// Whether one of the first `count` rows has the row's predicate.
