@@ -38,18 +38,18 @@ module _ (clauses : List Clause) (learning : HasLearned clauses) where
   learned-numbers =
       each-from_contains (Each (IsNumber learning.atoms)) learning.learned
       (λ c there. each-from_contains (IsNumber learning.atoms) c
-          (λ l held.
-              let some = some-in (λ d. IsTrue (holds d l)) learning.numbered (learning.occurring c l there (held_in c l held)) in
-              each-contains (IsNumber learning.atoms) some.0 l (each-contains (Each (IsNumber learning.atoms)) learning.numbered some.0 learning.numbers some.1) (contains_held some.0 l some.2)))
+      (λ l held.
+      let some = some-in (λ d. IsTrue (holds d l)) learning.numbered (learning.occurring c l there (held_in c l held)) in
+      each-contains (IsNumber learning.atoms) some.0 l (each-contains (Each (IsNumber learning.atoms)) learning.numbered some.0 learning.numbers some.1) (contains_held some.0 l some.2)))
 
   all-numbers : Each (Each (IsNumber learning.atoms)) (learning.numbered ++ learning.learned)
   all-numbers =
       each-from_contains (Each (IsNumber learning.atoms)) (learning.numbered ++ learning.learned)
       (λ c there.
-          elim (Contains-append_cases learning.numbered learning.learned c there) [
-            | inl before ↦ each-contains (Each (IsNumber learning.atoms)) learning.numbered c learning.numbers before
-            | inr later ↦ each-contains (Each (IsNumber learning.atoms)) learning.learned c learned-numbers later
-          ])
+      elim (Contains-append_cases learning.numbered learning.learned c there) [
+        | inl before ↦ each-contains (Each (IsNumber learning.atoms)) learning.numbered c learning.numbers before
+        | inr later ↦ each-contains (Each (IsNumber learning.atoms)) learning.learned c learned-numbers later
+      ])
 
   all-stand : map (literals_of learning.atoms) (learning.numbered ++ learning.learned) ≡ clauses ++ learned_clauses learning
   all-stand = map-append (literals_of learning.atoms) learning.numbered learning.learned ∙ ap (λ (cs : List Clause). cs ++ learned_clauses learning) learning.stand
@@ -88,12 +88,12 @@ spent-unrefuted clauses others conflicts budget spent refuted same among =
     let many = learned_clauses spent.learning in
     spent-open clauses conflicts spent
     (PropagatesToFalse-included (others ++ few) (clauses ++ many)
-        (λ c there.
-            elim (Contains-append_cases others few c there) [
-              | inl before ↦ Contains-append_left clauses many c (subst (λ (cs : List Clause). Contains cs c) same before)
-              | inr later ↦ Contains-append_right clauses many c (among c later)
-            ])
-        refuted.propagates)
+    (λ c there.
+    elim (Contains-append_cases others few c there) [
+      | inl before ↦ Contains-append_left clauses many c (subst (λ (cs : List Clause). Contains cs c) same before)
+      | inr later ↦ Contains-append_right clauses many c (among c later)
+    ])
+    refuted.propagates)
 
 module _ (p : PlainProblem) (m : Mode) (n conflicts : ℕ) (refutation : Refutation) (spent : IsSpent (setting_for p m) (start p) conflicts) (refuted : IsRefuted p m n refutation) where
   -- a run that is proved goes on at least as long as one whose conflicts are spent
@@ -101,9 +101,9 @@ module _ (p : PlainProblem) (m : Mode) (n conflicts : ℕ) (refutation : Refutat
   spent-first =
       elim (cases_lt n spent.commands) [
         | inl before ↦ (
-          let goes_on = spent.until n before in
-          let same : goes_on.state ≡ refuted.proved.state = same_Some goes_on.state refuted.proved.state (sym goes_on.open_state.comes_to ∙ refuted.proved.comes_to) in
-          absurd (goes_on.open_state.satisfiable (subst (λ (s : State). Unsatisfiable s.clauses) (sym same) refuted.proved.unsatisfiable)))
+            let goes_on = spent.until n before in
+            let same : goes_on.state ≡ refuted.proved.state = same_Some goes_on.state refuted.proved.state (sym goes_on.open_state.comes_to ∙ refuted.proved.comes_to) in
+            absurd (goes_on.open_state.satisfiable (subst (λ (s : State). Unsatisfiable s.clauses) (sym same) refuted.proved.unsatisfiable)))
         | inr later ↦ later
       ]
 
@@ -113,7 +113,7 @@ module _ (p : PlainProblem) (m : Mode) (n conflicts : ℕ) (refutation : Refutat
       elim (cases_lt spent.commands n) [
         | inl before ↦ before
         | inr later ↦ (
-          let one : n ≡ spent.commands = omega (arith, later, spent-first) in
-          let same : refuted.proved.state ≡ spent.state = same_Some refuted.proved.state spent.state (sym refuted.proved.comes_to ∙ ap (state_after (setting_for p m) (start p)) one ∙ spent.comes_to) in
-          absurd (spent-unrefuted spent.state.clauses refuted.proved.state.clauses conflicts m.conflicts spent.spent refuted.within (ap (λ (s : State). s.clauses) same) among))
+            let one : n ≡ spent.commands = omega (arith, later, spent-first) in
+            let same : refuted.proved.state ≡ spent.state = same_Some refuted.proved.state spent.state (sym refuted.proved.comes_to ∙ ap (state_after (setting_for p m) (start p)) one ∙ spent.comes_to) in
+            absurd (spent-unrefuted spent.state.clauses refuted.proved.state.clauses conflicts m.conflicts spent.spent refuted.within (ap (λ (s : State). s.clauses) same) among))
       ]

@@ -144,19 +144,19 @@ module _ (atoms : List Lambda) (apart : AreApart atoms) (clauses : List (List Sa
       by_cases : (b : Bool) → holds ls (negated k) ≡ b → Comes ls (λ r. holds r k ≡ true)
       by_cases true is =
           inr (false_there c there ls p (λ m h.
-              elim (cases_Bool (same_literal m k)) [
-                | inl e ↦ subst (λ j. holds ls (negated j) ≡ true) (sym (same_literal-true m k e)) is
-                | inr differs ↦ denied m h differs
-              ]))
+          elim (cases_Bool (same_literal m k)) [
+            | inl e ↦ subst (λ j. holds ls (negated j) ≡ true) (sym (same_literal-true m k e)) is
+            | inr differs ↦ denied m h differs
+          ]))
       by_cases false isnt =
           let unit : IsUnit ls c k = record {
             member = held;
             still_open = isnt;
             others = λ m h differs.
-            elim (cases_Bool (same_literal m k)) [
-              | inl e ↦ absurd (differs (same_literal-true m k e))
-              | inr other ↦ denied m h other
-            ];
+                elim (cases_Bool (same_literal m k)) [
+                  | inl e ↦ absurd (differs (same_literal-true m k e))
+                  | inr other ↦ denied m h other
+                ];
           } in
           let some : Any (λ clause. IsUnit (given ++ p.later) clause k) clauses = (there.0, c, there.1, there.2, subst (λ (before : List SatLit). IsUnit before c k) p.begins unit) in
           inl (record {
@@ -183,7 +183,7 @@ module _ (atoms : List Lambda) (apart : AreApart atoms) (clauses : List (List Sa
       let can : (n : SatLit) → Contains c.0 n → same_literal n k ≡ false → CanDeny n =
       λ n here differs.
       reach (opposite (literal_at atoms n)) (others (literal_at atoms n) (subst (λ ms. Contains ms (literal_at atoms n)) c.2 (contains-mapped (literal_at atoms) c.0 n here))
-          (λ e. false≢true (sym differs ∙ subst (λ j. same_literal n j ≡ true) (same_number n k (number_in c.0 c.1 n here) number (e ∙ sym is)) (same_literal-refl n))))
+      (λ e. false≢true (sym differs ∙ subst (λ j. same_literal n j ≡ true) (same_number n k (number_in c.0 c.1 n here) number (e ∙ sym is)) (same_literal-refl n))))
       (negated n) (number_in c.0 c.1 n here) refl in
       elim (deny_all (λ n. same_literal n k) c.0 can ls p) [
         | inl r ↦ (elim (one_more c.0 c.1 k held_k r.literals r.propagation r.is) [
