@@ -53,7 +53,7 @@ use Rattle.prover_run.proofs.OriginLaws.{comes-from}
 use Rattle.prover_run.proofs.PrincipalLaws.{principals-at}
 
 -- what holds of all results holds of the learned ones
-learned-among : (P : List SatLit → Type 0) (refuted : Bool) (rs : List (List SatLit)) → All P rs → All P (learned_from refuted rs)
+pub learned-among : (P : List SatLit → Type 0) (refuted : Bool) (rs : List (List SatLit)) → All P rs → All P (learned_from refuted rs)
 learned-among P true rs h = All-take P (length rs - 1) rs h
 learned-among P false rs h = h
 
@@ -165,7 +165,7 @@ module _ (g : Basis) (good : IsBasis g) where
 
     module _ (y : SolverState) (apart : AreApart named) (over_atoms : Each (Each (by_atoms.IsNumber named)) (the_clauses t)) (is : y.clauses ≡ the_clauses t) (sound : IsSound y) (implied : All (Implies y.clauses) (results y.log)) where
       -- what a solver over the clauses learned, over the clauses of formulas
-      pub learning-named : HasLearned formulas
+      abbrev pub learning-named : HasLearned formulas
       learning-named =
           let O : List (List SatLit) → Type 0 = λ cs. OccurIn cs (learned y) in
           let I : List (List SatLit) → Type 0 = λ cs. All (Implies cs) (learned y) in
@@ -184,7 +184,7 @@ module _ (g : Basis) (good : IsBasis g) where
             in_turn = subst W is sound.in_turn;
           }
 
-      pub within-named : ReachesFalse (y.clauses ++ learned y) [] → AreRefutedWithin (length (learned y)) formulas
+      abbrev pub within-named : ReachesFalse (y.clauses ++ learned y) [] → AreRefutedWithin (length (learned y)) formulas
       within-named reaches =
           let R : List (List SatLit) → Type 0 = λ cs. ReachesFalse (cs ++ learned y) [] in
           let over = subst R is reaches in
