@@ -128,6 +128,24 @@ pub record ProvedAnswer (o : Option Request) (told : Bool) (contents : List ℕ 
   pub proof : IsProofOf mode problem commands text
   pub is : a ≡ Proved (claim_of problem) commands text
 
+-- files that are answered with a proof show it
+proved_files : (p : List ℕ) (file : Option (List ℕ)) (told : Bool) (contents : List ℕ → Option (List ℕ)) (claim : Claim) (n : ℕ) (text : List ℕ) → FilesAnswered (prove p file) told contents (Proved claim n text) → ProvedAnswer (Some (prove p file)) told contents (Proved claim n text)
+proved_files p file told contents claim n text f = record {
+  name = p;
+  file = file;
+  asked = refl;
+  mode = f.mode;
+  is_mode = f.is_mode;
+  names = f.names;
+  problem = f.problem;
+  stated = f.stated;
+  typed = f.typed;
+  commands = n;
+  text = text;
+  proof = f.answered.1;
+  is = ap (λ c. Proved c n text) f.answered.0;
+}
+
 proved_asked : (o : Option Request) (told : Bool) (contents : List ℕ → Option (List ℕ)) (claim : Claim) (n : ℕ) (text : List ℕ) → AnswersAsked o told contents (Proved claim n text) → ProvedAnswer o told contents (Proved claim n text)
 proved_asked None told contents claim n text h = cc
 proved_asked (Some (refutation file p)) told contents claim n text h =
@@ -135,22 +153,7 @@ proved_asked (Some (refutation file p)) told contents claim n text h =
 proved_asked (Some (generated k)) told contents claim n text h =
     let f = files_answered (generated k) told contents (Proved claim n text) (λ x. x) h in absurd f.answered
 proved_asked (Some (prove p file)) told contents claim n text h =
-    let f = files_answered (prove p file) told contents (Proved claim n text) (λ x. x) h in
-    record {
-      name = p;
-      file = file;
-      asked = refl;
-      mode = f.mode;
-      is_mode = f.is_mode;
-      names = f.names;
-      problem = f.problem;
-      stated = f.stated;
-      typed = f.typed;
-      commands = n;
-      text = text;
-      proof = f.answered.1;
-      is = ap (λ c. Proved c n text) f.answered.0;
-    }
+    proved_files p file told contents claim n text (files_answered (prove p file) told contents (Proved claim n text) (λ x. x) h)
 
 proved_answer : (o : Option Request) (told : Bool) (contents : List ℕ → Option (List ℕ)) (a : Answer) → AnswersAsked o told contents a → IsProvedOutcome (outcome_of a) → ProvedAnswer o told contents a
 proved_answer o told contents a answer h =
