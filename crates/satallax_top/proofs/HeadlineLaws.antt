@@ -146,19 +146,25 @@ proved_files p file told contents claim n text f = record {
   is = ap (λ c. Proved c n text) f.answered.0;
 }
 
-proved_asked : (o : Option Request) (told : Bool) (contents : List ℕ → Option (List ℕ)) (claim : Claim) (n : ℕ) (text : List ℕ) → AnswersAsked o told contents (Proved claim n text) → ProvedAnswer o told contents (Proved claim n text)
-proved_asked None told contents claim n text h = cc
-proved_asked (Some (refutation file p)) told contents claim n text h =
+-- Where a proof is answered, a problem is to be proved, and files are answered so. The conclusion is a variable, so that no record is compared
+-- field by field.
+proved_asked : (R : Type 0) (o : Option Request) (told : Bool) (contents : List ℕ → Option (List ℕ)) (claim : Claim) (n : ℕ) (text : List ℕ) → AnswersAsked o told contents (Proved claim n text) → ((p : List ℕ) (file : Option (List ℕ)) → o ≡ Some (prove p file) → AnswersFiles (prove p file) told contents (Proved claim n text) → R) → R
+proved_asked R None told contents claim n text h k = cc
+proved_asked R (Some (refutation file p)) told contents claim n text h k =
     let f = files_answered (refutation file p) told contents (Proved claim n text) (λ x. x) h in absurd f.answered.holds
-proved_asked (Some (generated k)) told contents claim n text h =
-    let f = files_answered (generated k) told contents (Proved claim n text) (λ x. x) h in absurd f.answered
-proved_asked (Some (prove p file)) told contents claim n text h =
-    proved_files p file told contents claim n text (files_answered (prove p file) told contents (Proved claim n text) (λ x. x) h)
+proved_asked R (Some (generated i)) told contents claim n text h k =
+    let f = files_answered (generated i) told contents (Proved claim n text) (λ x. x) h in absurd f.answered
+proved_asked R (Some (prove p file)) told contents claim n text h k = k p file refl h
 
 proved_answer : (o : Option Request) (told : Bool) (contents : List ℕ → Option (List ℕ)) (a : Answer) → AnswersAsked o told contents a → IsProvedOutcome (outcome_of a) → ProvedAnswer o told contents a
 proved_answer o told contents a answer h =
     let q = proved_form a h in
-    subst (ProvedAnswer o told contents) (sym q.is) (proved_asked o told contents q.claim q.commands q.text (subst (AnswersAsked o told contents) q.is answer))
+    let proof : Answer = Proved q.claim q.commands q.text in
+    subst (ProvedAnswer o told contents) (sym q.is)
+    (proved_asked (ProvedAnswer o told contents proof) o told contents q.claim q.commands q.text (subst (AnswersAsked o told contents) q.is answer)
+    (λ (p : List ℕ) (file : Option (List ℕ)) (is : o ≡ Some (prove p file)) (k : AnswersFiles (prove p file) told contents (Proved q.claim q.commands q.text)).
+    subst (λ (x : Option Request). ProvedAnswer x told contents proof) (sym is)
+    (proved_files p file told contents q.claim q.commands q.text (files_answered (prove p file) told contents (Proved q.claim q.commands q.text) (λ x. x) k))))
 
 -- a problem that is stated has no model
 pub record Unmodelled (o : Option Request) (told : Bool) (contents : List ℕ → Option (List ℕ)) : Type 0 where
