@@ -1,0 +1,9 @@
+pub mod Swaps
+pub mod Renames
+pub mod Substitutes
+pub mod Steps
+pub mod Chains
+pub mod Conversions
+pub mod Exactly
+pub mod SharedForms
+pub mod SideLaws

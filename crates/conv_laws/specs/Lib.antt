@@ -1,0 +1,15 @@
+pub use Rattle.normal_forms.specs.Normal
+pub use Rattle.stt_core.specs.Canonical
+pub use Rattle.stt_core.specs.Declarations
+pub use Rattle.stt_core.specs.Lambda
+pub use Rattle.stt_core.specs.Lift
+pub use Rattle.stt_core.specs.PlainProblem
+pub use Rattle.stt_core.specs.ScopeView
+pub use Rattle.stt_core.specs.SimpleType
+pub use Rattle.stt_core.specs.TypedProblem
+pub use Rattle.stt_core.specs.Typing
+pub use Rattle.stt_core.specs.View
+pub mod Steps
+pub mod Laws
+pub mod Sides
+pub mod Internal
