@@ -7,7 +7,7 @@ ghost use Rattle.term_bank.specs.Content.{HasTerm};
 ghost use Rattle.term_bank.specs.Terms.{term_at};
 ghost use Rattle.search_spec.specs.Each.{Each};
 ghost use Rattle.search_spec.specs.Terms.{first_terms, with_preparation, with_terms};
-ghost use Rattle.prover_state.specs.Lasting.{declared_by, lasting};
+ghost use Rattle.prover_state.specs.Lasting.{declarations_of, lasting};
 ghost use Rattle.prover_state.specs.Internal.Growing.{BasisGrows};
 ghost use Rattle.prover_state.specs.Internal.Names.{IsPlace};
 ghost use Rattle.prover_state.specs.Internal.Standing.{setting_by, the_state, IsBasis, IsRightState};
@@ -24,7 +24,7 @@ fn falsity_in(basis: &mut Basis) -> Result<Id, AllocError>
     ensures term { IfOk result (λ id. HasTerm basis.new.bank id (constant falsity)) }
     ensures good { OnOk result (IsBasis basis.new) }
     ensures grows { OnOk result (BasisGrows basis.old basis.new) }
-    ensures declared { declared_by basis.new ≡ declared_by basis.old }
+    ensures declared { declarations_of basis.new ≡ declarations_of basis.old }
 {
     let none: [Id; 0] = [];
     Ok(basis.bank.intern_app(&Head::False, &none)?)
@@ -37,7 +37,7 @@ fn truth_in(basis: &mut Basis, bottom: Id) -> Result<Id, AllocError>
     ensures term { IfOk result (λ id. HasTerm basis.new.bank id (neg (constant falsity))) }
     ensures good { OnOk result (IsBasis basis.new) }
     ensures grows { OnOk result (BasisGrows basis.old basis.new) }
-    ensures declared { declared_by basis.new ≡ declared_by basis.old }
+    ensures declared { declarations_of basis.new ≡ declarations_of basis.old }
 {
     Ok(basis.bank.intern_app(&Head::Not, &[bottom])?)
 }
@@ -50,7 +50,7 @@ fn empty_predicate(basis: &mut Basis, bottom: Id, n: u32) -> Result<Id, AllocErr
     ensures term { IfOk result (λ id. HasTerm basis.new.bank id (lam (base n) (constant falsity))) }
     ensures good { OnOk result (IsBasis basis.new) }
     ensures grows { OnOk result (BasisGrows basis.old basis.new) }
-    ensures declared { declared_by basis.new ≡ declared_by basis.old }
+    ensures declared { declarations_of basis.new ≡ declarations_of basis.old }
 {
     Ok(basis.bank.intern_lam(&Ty::Base(n), bottom)?)
 }
@@ -63,7 +63,7 @@ fn chosen_by_empty(basis: &mut Basis, empty: Id, n: u32) -> Result<Id, AllocErro
     ensures term { IfOk result (λ id. HasTerm basis.new.bank id (app (constant (choice (base n))) (lam (base n) (constant falsity)))) }
     ensures good { OnOk result (IsBasis basis.new) }
     ensures grows { OnOk result (BasisGrows basis.old basis.new) }
-    ensures declared { declared_by basis.new ≡ declared_by basis.old }
+    ensures declared { declarations_of basis.new ≡ declarations_of basis.old }
 {
     Ok(basis.bank.intern_app(&Head::Choice(Ty::Base(n)), &[empty])?)
 }
@@ -75,7 +75,7 @@ fn first_formulas(alloc: Global, basis: &mut Basis) -> Result<Ids, AllocError>
     ensures places { IfOk result (λ ids. Each (IsPlace basis.new.bank.terms) ids) }
     ensures good { OnOk result (IsBasis basis.new) }
     ensures grows { OnOk result (BasisGrows basis.old basis.new) }
-    ensures declared { declared_by basis.new ≡ declared_by basis.old }
+    ensures declared { declarations_of basis.new ≡ declarations_of basis.old }
 {
     let bottom = falsity_in(basis)?;
     let truth = truth_in(basis, bottom)?;
@@ -92,7 +92,7 @@ fn first_values(alloc: Global, basis: &mut Basis, n: u32) -> Result<Ids, AllocEr
     ensures places { IfOk result (λ ids. Each (IsPlace basis.new.bank.terms) ids) }
     ensures good { OnOk result (IsBasis basis.new) }
     ensures grows { OnOk result (BasisGrows basis.old basis.new) }
-    ensures declared { declared_by basis.new ≡ declared_by basis.old }
+    ensures declared { declarations_of basis.new ≡ declarations_of basis.old }
 {
     let bottom = falsity_in(basis)?;
     let empty = empty_predicate(basis, bottom, n)?;
@@ -109,7 +109,7 @@ fn first_terms_of(alloc: Global, basis: &mut Basis, n: u32) -> Result<Ids, Alloc
     ensures places { IfOk result (λ ids. Each (IsPlace basis.new.bank.terms) ids) }
     ensures good { OnOk result (IsBasis basis.new) }
     ensures grows { OnOk result (BasisGrows basis.old basis.new) }
-    ensures declared { declared_by basis.new ≡ declared_by basis.old }
+    ensures declared { declarations_of basis.new ≡ declarations_of basis.old }
 {
     if n == 0 {
         return Ok(first_formulas(alloc, basis)?);

@@ -7,7 +7,7 @@ ghost use Rattle.instantiate.specs.Listing.{with_listed};
 ghost use Rattle.search_spec.specs.Alternatives.{all_neg};
 ghost use Rattle.search_spec.specs.Witness.{witness_of};
 ghost use Rattle.prover_growth.specs.Internal.Denials.{Denies, with_row};
-ghost use Rattle.prover_state.specs.Lasting.{declared_by, lasting};
+ghost use Rattle.prover_state.specs.Lasting.{declarations_of, lasting};
 ghost use Rattle.prover_state.specs.Internal.Growing.{BasisWidens};
 ghost use Rattle.prover_state.specs.Internal.Names.{IsNumberIn};
 ghost use Rattle.prover_state.specs.Internal.Standing.{rows_in, the_state, IsBasis, IsRightState};
@@ -48,7 +48,7 @@ fn make_denial(alloc: Global, basis: &mut Basis, lit: SatLit) -> Result<Instance
     ensures rows { OnOk result ((a : SimpleType) (f : Lambda) → Denies basis.old lit a f → rows_in basis.new ≡ with_row (rows_in basis.old) (record { type = a; predicate = f })) }
     ensures good { OnOk result (IsBasis basis.new) }
     ensures widens { OnOk result (BasisWidens basis.old basis.new) }
-    ensures declared { declared_by basis.new ≡ declared_by basis.old }
+    ensures declared { declarations_of basis.new ≡ declarations_of basis.old }
 {
     let by = BankUse {
         kind: RuleKind::AllNeg,

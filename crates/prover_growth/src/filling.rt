@@ -10,7 +10,7 @@ ghost use Rattle.search_spec.specs.State.{grow};
 ghost use Rattle.search_spec.specs.Terms.{with_term};
 ghost use Rattle.search_spec.specs.TypedState.{GrowsSketch, IsTypedSketch};
 ghost use Rattle.term_bank.specs.Content.{HasTerm};
-ghost use Rattle.prover_state.specs.Lasting.{declared_by, lasting};
+ghost use Rattle.prover_state.specs.Lasting.{declarations_of, lasting};
 ghost use Rattle.prover_state.specs.declared.command.Planned.{Planned};
 ghost use Rattle.prover_state.specs.declared.command.Delays.{Delays};
 ghost use Rattle.prover_state.specs.Internal.Growing.{BasisGrows};
@@ -50,7 +50,7 @@ fn make_term(tables: &mut Tables, parent: usize, head: HoleHead) -> Result<Id, A
     ensures good { OnOk result (IsBasis tables.new.basis) }
     ensures basis { OnOk result (BasisGrows tables.old.basis tables.new.basis) }
     ensures tables { tables.new ≡ record tables.old { basis = tables.new.basis } }
-    ensures declared { declared_by tables.new.basis ≡ declared_by tables.old.basis }
+    ensures declared { declarations_of tables.new.basis ≡ declarations_of tables.old.basis }
 {
     let partial = partial_of(tables, parent)?;
     let bank = &mut tables.basis.bank;

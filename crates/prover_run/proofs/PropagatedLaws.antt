@@ -11,6 +11,7 @@ use Rattle.sat_base.specs.declared.literal.SatLit.{SatLit}
 use Rattle.sat_base.specs.Literal.{negated, same_literal, holds}
 use Rattle.sat_base.proofs.LiteralLaws.{same_literal-refl, same_literal-true, holds-append, All-from_held}
 use Rattle.sat_log.specs.Propagation.{IsUnit, IsFalseIn, Propagates, IsPropagation, ReachesFalse as NumbersReachFalse}
+use Rattle.sat_laws.proofs.TrailLaws.{Propagates-push}
 use Rattle.search_spec.specs.Each.{Each}
 use Rattle.search_spec.specs.Numbered.{literal_at, IsNumber, AreApart}
 use Rattle.search_spec.specs.Unsatisfiable.{Clause}
@@ -70,11 +71,6 @@ module _ (atoms : List Lambda) (clauses : List (List SatLit)) where
       }
 
 -- FROM FORMULAS TO NUMBERS
-
-Propagates-further : (clauses : List (List SatLit)) (earlier later : List SatLit) (l : SatLit) → Propagates clauses earlier later → Any (λ clause. IsUnit (earlier ++ later) clause l) clauses → Propagates clauses earlier (later ++ l ∷ [])
-Propagates-further clauses earlier [] l p some = (subst (λ (before : List SatLit). Any (λ clause. IsUnit before clause l) clauses) (append-nil earlier) some, tt)
-Propagates-further clauses earlier (m ∷ later) l p some =
-    (p.0, Propagates-further clauses (earlier ++ m ∷ []) later l p.1 (subst (λ (before : List SatLit). Any (λ clause. IsUnit before clause l) clauses) (sym (append_assoc earlier (m ∷ []) later)) some))
 
 module _ (atoms : List Lambda) (apart : AreApart atoms) (clauses : List (List SatLit)) (numbers : Each (Each (IsNumber atoms)) clauses) (given : List SatLit) where
   abbrev formulas : List Clause
@@ -165,7 +161,7 @@ module _ (atoms : List Lambda) (apart : AreApart atoms) (clauses : List (List Sa
             propagation = record {
               later = p.later ++ k ∷ [];
               begins = ap (λ before. before ++ k ∷ []) p.begins ∙ append_assoc given p.later (k ∷ []);
-              propagated = Propagates-further clauses given p.later k p.propagated some;
+              propagated = Propagates-push clauses given p.later k p.propagated some;
             };
             is = holds-append ls (k ∷ []) k ∙ or_right (holds ls k) (holds (k ∷ []) k) (or_left (same_literal k k) false (same_literal-refl k));
           })

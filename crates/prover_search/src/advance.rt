@@ -2,7 +2,7 @@
 ghost use Rattle.std.specs.Prelude.{◌≡◌, ◌≢◌, ◌++◌, List, [], OnOk, IfOk, false};
 ghost use Rattle.sat_log.specs.declared.log.LogEntry.{LogEntry};
 ghost use Rattle.search_spec.specs.Unsatisfiable.{Unsatisfiable};
-ghost use Rattle.prover_state.specs.Lasting.{declared_by, lasting};
+ghost use Rattle.prover_state.specs.Lasting.{declarations_of, lasting};
 ghost use Rattle.prover_state.specs.Internal.Standing.{setting_by, the_state};
 ghost use Rattle.prover_search.specs.Internal.Running.{start_in, IsRunning};
 ghost use Rattle.prover_search.specs.Internal.Answers.{StepGoesOn, AnswersStep};
@@ -47,7 +47,7 @@ pub(crate) fn advance<W: Weigher<Waiting>>(
     ensures rule { OnOk result (core.new.plan.rule ≡ core.old.plan.rule) }
     ensures setting { OnOk result (setting_by core.new.tables core.new.plan ≡ setting_by core.old.tables core.old.plan) }
     ensures start { OnOk result (start_in core.new.tables ≡ start_in core.old.tables) }
-    ensures declared { declared_by core.new.tables.basis ≡ declared_by core.old.tables.basis }
+    ensures declared { declarations_of core.new.tables.basis ≡ declarations_of core.old.tables.basis }
     ensures log { (more : List LogEntry) × (core.new.tables.solver.log ≡ core.old.tables.solver.log ++ more) }
 {
     match core.solve(mode.conflicts)? {

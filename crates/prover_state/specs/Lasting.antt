@@ -10,9 +10,9 @@ pub record Lasting : Type 0 where
   pub log : List LogEntry
 
 -- the names that are declared
-abbrev pub declared_by : Basis → Declarations
-declared_by g = record { bases = g.bank.bases; consts = g.bank.consts }
+abbrev pub declarations_of : Basis → Declarations
+declarations_of g = record { bases = g.bank.bases; consts = g.bank.consts }
 
 -- the names that are declared, and the log of what was learned
 abbrev pub lasting : Tables → Lasting
-lasting t = record { declared = declared_by t.basis; log = t.solver.log }
+lasting t = record { declared = declarations_of t.basis; log = t.solver.log }

@@ -7,7 +7,7 @@ ghost use Rattle.literal_map.specs.Atoms.{bank_literal};
 ghost use Rattle.literal_map.specs.declared.instance.RuleKind.TheVariants.{AllNeg as MakesWitness};
 ghost use Rattle.tableau_rules.specs.Uses.{principals_of, IsInstanceBy};
 ghost use Rattle.search_spec.specs.Instances.{with_instance};
-ghost use Rattle.prover_state.specs.Lasting.{declared_by, lasting};
+ghost use Rattle.prover_state.specs.Lasting.{declarations_of, lasting};
 ghost use Rattle.prover_state.specs.Internal.Growing.{BasisGrows};
 ghost use Rattle.prover_state.specs.Internal.Names.{IsNumberIn, IsPlace};
 ghost use Rattle.prover_state.specs.Internal.Standing.{rows_in, the_state, IsBasis, IsRightState};
@@ -40,7 +40,7 @@ impl Basis {
         ensures instance { IfOk result (λ i. IsInstanceBy self.new.bank self.new.lits (rows_in self.new) by.now (map (map (bank_literal self.new.bank.terms self.new.lits)) i.alternatives)) }
         ensures good { OnOk result (IsBasis self.new) }
         ensures grows { OnOk result (BasisGrows self.old self.new) }
-        ensures declared { declared_by self.new ≡ declared_by self.old }
+        ensures declared { declarations_of self.new ≡ declarations_of self.old }
     {
         let made = make(
             alloc,

@@ -18,7 +18,7 @@ held_at (m ∷ literals) zero l e = let same : m ≡ l = cc in or_left _ _ (ap (
 held_at (m ∷ literals) (suc i) l e = or_right (same_literal l m) _ (held_at literals i l e)
 
 -- one literal more that is propagated
-Propagates-push : (clauses : List (List SatLit)) (earlier later : List SatLit) (l : SatLit) → Propagates clauses earlier later
+pub Propagates-push : (clauses : List (List SatLit)) (earlier later : List SatLit) (l : SatLit) → Propagates clauses earlier later
     → Any (λ clause. IsUnit (earlier ++ later) clause l) clauses → Propagates clauses earlier (later ++ l ∷ [])
 Propagates-push clauses earlier [] l p some =
     (subst (λ (before : List SatLit). Any (λ clause. IsUnit before clause l) clauses) (append-nil earlier) some, tt)
