@@ -1,5 +1,5 @@
 -- Small terms and numbers in range make a small refutation; what rules take is small.
-use Rattle.std.proofs.Common.{ℕ, List, [], ◌∷◌, Option, Some, None, option_map, refl, subst}
+use Rattle.std.proofs.Common.{◌≡◌, ℕ, List, [], ◌∷◌, Option, Some, None, option_map, refl, subst}
 use Rattle.std.specs.List.{AllByRecursion}
 use Rattle.std.specs.Option.{ForSome}
 use Rattle.stt_core.specs.Lambda.{Lambda}
@@ -55,7 +55,7 @@ abbrev IfTakes : Option RuleUse → Type 0
 IfTakes None = Unit {0}
 IfTakes (Some r) = TakesSmall r
 
-of_kind : (k : RuleKind) (first second : Option Literal) (term : Option Lambda) → IfSmallLiteral first → IfSmall term → IfTakes (rule_of k first second term)
+of_kind : (k : RuleKind) (first second : Option Literal) (term : Option Lambda) → (k ≡ kind.Cut → IfSmallLiteral first) → IfSmall term → IfTakes (rule_of k first second term)
 of_kind kind.False (Some l) None None h t = tt
 of_kind kind.Close (Some l) (Some k) None h t = tt
 of_kind kind.Refl (Some l) None None h t = tt
@@ -72,7 +72,7 @@ of_kind kind.Dec (Some l) None None h t = tt
 of_kind kind.Con (Some l) (Some k) None h t = tt
 of_kind kind.Cho None None (Some f) h t = t
 of_kind kind.Des None None (Some f) h t = t
-of_kind kind.Cut (Some l) None None h t = h
+of_kind kind.Cut (Some l) None None h t = h refl
 of_kind k first second term h t = tt
 
 some_small : (terms : List Lambda) (o : Option ℕ) → ForSome o (λ u. IsSmallTerm (term_at terms u)) → IfSmall (option_map (term_at terms) o)
@@ -86,4 +86,4 @@ some_literal terms atoms (Some l) h = h l refl
 pub uses_small : UsesTakeSmall
 uses_small terms atoms by rule e first term =
     subst IfTakes e
-    (of_kind by.kind (option_map (literal_of terms atoms) by.first) (option_map (literal_of terms atoms) by.second) (option_map (term_at terms) by.term) (some_literal terms atoms by.first first) (some_small terms by.term term))
+    (of_kind by.kind (option_map (literal_of terms atoms) by.first) (option_map (literal_of terms atoms) by.second) (option_map (term_at terms) by.term) (λ is_cut. some_literal terms atoms by.first (first is_cut)) (some_small terms by.term term))

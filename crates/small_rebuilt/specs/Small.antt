@@ -16,6 +16,7 @@ use Rattle.rebuild_spec.specs.Rebuilt.{IsRebuilt}
 use Rattle.term_bank.specs.Terms.{term_at}
 use Rattle.literal_map.specs.Atoms.{bank_literal as literal_of}
 use Rattle.literal_map.specs.declared.instance.BankUse.{BankUse}
+use Rattle.literal_map.specs.declared.instance.RuleKind.TheVariants as kind
 use Rattle.tableau_rules.specs.Uses.{use_of}
 use Rattle.refute_print.specs.Limits.{IsChild}
 use Rattle.refute_print.specs.Sizes.{IsSmallTerm, AreSmallLiterals, IsSmall}
@@ -102,5 +103,6 @@ SmallInRange = (refutation : Refutation) → AreNumbersInRange refutation → Ar
 -- a rule with what it takes by numbers takes a small term where that at the number is one, and the literal of a cut is
 abbrev pub UsesTakeSmall : Type 0
 UsesTakeSmall =
-    (terms : List Lambda) (atoms : List ℕ) (by : BankUse) (rule : RuleUse) → use_of terms atoms by ≡ Some rule → ForSome by.first (λ l. IsSmallTerm (literal_of terms atoms l).atom)
+    (terms : List Lambda) (atoms : List ℕ) (by : BankUse) (rule : RuleUse) → use_of terms atoms by ≡ Some rule
+    → (by.kind ≡ kind.Cut → ForSome by.first (λ l. IsSmallTerm (literal_of terms atoms l).atom))
     → ForSome by.term (λ u. IsSmallTerm (term_at terms u)) → TakesSmall rule

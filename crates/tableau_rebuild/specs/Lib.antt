@@ -8,11 +8,11 @@ pub use Rattle.rebuild_spec.specs.Stands
 pub use Rattle.rebuild_spec.specs.Trees
 pub use Rattle.rebuild_spec.specs.Trimmed
 pub use Rattle.rebuild_spec.specs.Used
-pub use Rattle.refute_print.specs.Sizes
 pub use Rattle.sat_base.specs.Literal
 pub use Rattle.sat_log.specs.Chains
 pub use Rattle.sat_log.specs.Resolution
 pub use Rattle.search_spec.specs.Numbered
+pub use Rattle.small_rebuilt.specs.Small
 pub use Rattle.stt_core.specs.Lambda
 pub use Rattle.stt_core.specs.SameTerm
 pub use Rattle.stt_core.specs.View

@@ -4,6 +4,7 @@
 mod arena;
 mod branch;
 mod draft;
+mod in_range;
 mod law;
 mod line;
 mod lines;

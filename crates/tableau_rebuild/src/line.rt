@@ -6,7 +6,6 @@ ghost use Rattle.tableau_calculus.specs.declared.refutation.Child.TheVariants.{C
 ghost use Rattle.search_spec.specs.Numbered.{literal_at};
 ghost use Rattle.term_bank.specs.Terms.{term_at};
 ghost use Rattle.literal_map.specs.Atoms.{IsAtom};
-ghost use Rattle.refute_print.specs.Sizes.{AreSmallLiterals};
 ghost use Rattle.rebuild_spec.specs.Input.{literals_of};
 ghost use Rattle.rebuild_spec.specs.Stands.{rule_at_places, place_in};
 ghost use Rattle.tableau_rules.specs.Uses.{use_of};
@@ -162,8 +161,7 @@ fn instance_line(
     requires atoms { All (IsAtom bank.now) atoms.now }
     requires good { IsGoodUse bank.now atoms.now instance.now.by }
     requires literals { literals ≡ literals_of (atoms_at bank.now.terms atoms.now) branch.now }
-    ensures line { IfOk result (λ line. line ≡ instance_by (atoms_at bank.now.terms atoms.now) branch.now (the_instance bank.now.terms atoms.now instance.now)) }
-    ensures branch { IfOk result (λ line. line.branch ≡ literals) }
+    ensures { IfOk result (λ line. line ≡ instance_by (atoms_at bank.now.terms atoms.now) branch.now (the_instance bank.now.terms atoms.now instance.now)) }
 {
     let places = places_of(alloc, branch, &instance.principals)?;
     let rule = rule_of(bank, atoms, &instance.by, &places)?;
@@ -190,11 +188,8 @@ pub(crate) fn line_of(
     requires numbered { IsOver (length atoms.now) branch.now }
     requires makeable { IsMakeable bank.now atoms.now steps.now numbers.now draft }
     requires made { IsMadePool (atoms_at bank.now.terms atoms.now) pool.old }
-    requires small { AreSmallLiterals pool.old.lits }
     ensures made { OnOk result (IsMadePool (atoms_at bank.now.terms atoms.now) pool.new) }
-    ensures small { OnOk result (AreSmallLiterals pool.new.lits) }
     ensures line { IfOk result (λ line. IsLineBy bank.now atoms.now steps.now numbers.now branch.now draft line) }
-    ensures small_branch { IfOk result (λ line. AreSmallLiterals line.branch) }
 {
     let literals = lits_of(alloc, bank, atoms, branch, pool)?;
     match draft {

@@ -1,13 +1,14 @@
 //! The lines of a refutation.
-ghost use Rattle.std.specs.Prelude.{◌≡◌, ◌<◌, ℕ, List, [], length, map, Some, slice_get, IfOk, OnOk, All};
+ghost use Rattle.std.specs.Prelude.{◌≡◌, ◌<◌, ◌≤◌, ◌^◌, ℕ, List, [], length, map, Some, slice_get, IfOk, OnOk, All};
+ghost use Rattle.std.specs.List.{AllByRecursion};
 ghost use Rattle.stt_core.specs.Lambda.{Lambda};
 ghost use Rattle.sat_base.specs.Literal.{IsOver};
 ghost use Rattle.literal_map.specs.Atoms.{IsAtom};
-ghost use Rattle.refute_print.specs.Sizes.{AreSmallLiterals, AreSmallLines};
 ghost use Rattle.witness_names.specs.Rows.{rows_of, AreRows};
 ghost use Rattle.rebuild_spec.specs.NeededRows.{rows_for_lines};
 ghost use Rattle.rebuild_spec.specs.Lines.{walked, line_of as line_in};
 ghost use Rattle.rebuild_spec.specs.Trees.{branch};
+ghost use Rattle.small_rebuilt.specs.Small.{HasNumbers};
 ghost use Rattle.tableau_rebuild.specs.declared.draft.Draft.{Draft};
 ghost use Rattle.tableau_rebuild.specs.Tables.{atoms_at};
 ghost use Rattle.tableau_rebuild.specs.Internal.Drafts.{trees, tree_at, AreDrafts};
@@ -18,12 +19,12 @@ ghost use Rattle.tableau_rebuild.specs.Internal.Written.{the_tree};
 
 use crate::branch::{BranchResolver, branch_of};
 use crate::draft::Draft;
+use crate::in_range::line_in_range;
 use crate::line::line_of;
 use crate::needed::rows_for_line;
 use crate::packed_branch::PackedBranch;
 use crate::pool::Pool;
 use literal_map::LitTable;
-use refute_print::is_small_line;
 use std::alloc::{AllocError, Global};
 use tableau_calculus::Lines;
 use tableau_clauses::StepTable;
@@ -54,7 +55,6 @@ impl Writing {
         ensures branches { result.branches.items ≡ [] }
         ensures empty { result.resolver.resolver ≡ [] }
         ensures made { (terms : List Lambda) → IsMadePool terms result.pool }
-        ensures small { AreSmallLiterals result.pool.lits }
     {
         Writing {
             written: Written {
@@ -85,7 +85,6 @@ impl Writing {
         requires branches { self.old.branches.items ≡ [] }
         requires empty { self.old.resolver.resolver ≡ [] }
         requires made { IsMadePool (atoms_at bank.now.terms atoms.now) self.old.pool }
-        requires small { AreSmallLiterals self.old.pool.lits }
         requires atoms { All (IsAtom bank.now) atoms.now }
         requires rows { AreRows bank.now witnesses.now }
         requires right { AreDrafts drafts.now }
@@ -96,7 +95,8 @@ impl Writing {
         requires makeable { (k i : ℕ) (d : Draft) → slice_get order.now k ≡ Some i → slice_get drafts.now i ≡ Some d → IsMakeable bank.now atoms.now steps.now numbers.now d }
         requires numbered { (k i : ℕ) → slice_get order.now k ≡ Some i → IsOver (length atoms.now) (branch (the_tree bank.now.terms atoms.now steps.now drafts.now i)) }
         ensures lines { OnOk result (self.new.written.lines ≡ map (λ i. line_in (atoms_at bank.now.terms atoms.now) (map (the_tree bank.now.terms atoms.now steps.now drafts.now) order.now) (the_tree bank.now.terms atoms.now steps.now drafts.now i)) order.now) }
-        ensures small { OnOk result (AreSmallLines self.new.written.lines) }
+        ensures in_range { OnOk result (AllByRecursion HasNumbers self.new.written.lines) }
+        ensures count { OnOk result (length self.new.written.lines ≤ 2 ^ 64) }
         ensures rows { OnOk result (self.new.written.rows ≡ rows_for_lines (rows_of bank.now.terms witnesses.now) self.new.written.lines) }
     {
         for k in 0..order.len() {
@@ -121,9 +121,7 @@ impl Writing {
             )?;
             let rows = rows_for_line(bank, atoms, witnesses, steps, draft, branch.as_slice());
             self.written.rows = self.written.rows.max(rows);
-            if !is_small_line(&line) {
-                return Err(AllocError);
-            }
+            line_in_range(&line);
             self.written.lines.push(line)?;
             let packed = PackedBranch::of(alloc, branch.as_slice())?;
             self.branches.push(packed)?;
@@ -132,7 +130,7 @@ impl Writing {
     }
 }
 
-/// The lines of the drafts in this order, of which each has its number. There is no memory for one that is too large for a text.
+/// The lines of the drafts in this order, of which each has its number.
 pub(crate) fn write_lines(
     alloc: Global,
     bank: &Bank,
@@ -154,7 +152,8 @@ pub(crate) fn write_lines(
     requires makeable { (k i : ℕ) (d : Draft) → slice_get order.now k ≡ Some i → slice_get drafts.now i ≡ Some d → IsMakeable bank.now atoms.now steps.now numbers.now d }
     requires numbered { (k i : ℕ) → slice_get order.now k ≡ Some i → IsOver (length atoms.now) (branch (the_tree bank.now.terms atoms.now steps.now drafts.now i)) }
     ensures lines { IfOk result (λ written. written.lines ≡ map (λ i. line_in (atoms_at bank.now.terms atoms.now) (map (the_tree bank.now.terms atoms.now steps.now drafts.now) order.now) (the_tree bank.now.terms atoms.now steps.now drafts.now i)) order.now) }
-    ensures small { IfOk result (λ written. AreSmallLines written.lines) }
+    ensures in_range { IfOk result (λ written. AllByRecursion HasNumbers written.lines) }
+    ensures count { IfOk result (λ written. length written.lines ≤ 2 ^ 64) }
     ensures rows { IfOk result (λ written. written.rows ≡ rows_for_lines (rows_of bank.now.terms witnesses.now) written.lines) }
 {
     let mut writing = Writing::new(alloc);

@@ -3,7 +3,6 @@ ghost use Rattle.std.specs.Prelude.{◌≡◌, ◌<◌, [], ◌∷◌, ◌++◌,
 ghost use Rattle.sat_base.specs.Literal.{negated, IsOver};
 ghost use Rattle.search_spec.specs.Numbered.{literal_at};
 ghost use Rattle.literal_map.specs.Atoms.{IsAtom};
-ghost use Rattle.refute_print.specs.Sizes.{IsSmallTerm, AreSmallLiterals};
 ghost use Rattle.rebuild_spec.specs.Input.{literals_of};
 ghost use Rattle.rebuild_spec.specs.Stands.{place_in};
 ghost use Rattle.tableau_rebuild.specs.Tables.{atoms_at};
@@ -11,7 +10,6 @@ ghost use Rattle.tableau_rebuild.specs.Internal.Pools.{IsMadePool};
 
 use crate::pool::Pool;
 use literal_map::LitTable;
-use refute_print::is_small_term;
 use sat_base::{Clause, SatLit};
 use std::alloc::{AllocError, Global};
 use tableau_calculus::{Lit, Lits};
@@ -53,24 +51,6 @@ pub(crate) fn lit_of(bank: &Bank, atoms: &LitTable, literal: SatLit) -> Result<L
     })
 }
 
-/// The literal that a number with a sign stands for, where it is small enough for a text. There is no memory for another one.
-pub(crate) fn small_lit_of(
-    bank: &Bank,
-    atoms: &LitTable,
-    literal: SatLit,
-) -> Result<Lit, AllocError>
-    requires atoms { All (IsAtom bank.now) atoms.now }
-    requires within { literal.var.0 < length atoms.now }
-    ensures literal { IfOk result (λ l. l ≡ literal_at (atoms_at bank.now.terms atoms.now) literal) }
-    ensures small { IfOk result (λ l. IsSmallTerm l.atom) }
-{
-    let lit = lit_of(bank, atoms, literal)?;
-    if !is_small_term(&lit.atom) {
-        return Err(AllocError);
-    }
-    Ok(lit)
-}
-
 /// The literals of a branch, each made once for all branches.
 pub(crate) fn lits_of(
     alloc: Global,
@@ -82,11 +62,8 @@ pub(crate) fn lits_of(
     requires atoms { All (IsAtom bank.now) atoms.now }
     requires within { IsOver (length atoms.now) branch.now }
     requires made { IsMadePool (atoms_at bank.now.terms atoms.now) pool.old }
-    requires small { AreSmallLiterals pool.old.lits }
     ensures made { OnOk result (IsMadePool (atoms_at bank.now.terms atoms.now) pool.new) }
-    ensures small { OnOk result (AreSmallLiterals pool.new.lits) }
     ensures literals { IfOk result (λ ls. ls ≡ literals_of (atoms_at bank.now.terms atoms.now) branch.now) }
-    ensures small_literals { IfOk result (λ ls. AreSmallLiterals ls) }
 {
     let mut lits = Lits::new(alloc);
     for i in 0..branch.len() {

@@ -9,12 +9,12 @@ ghost use Rattle.term_bank.specs.Content.{content_scope};
 ghost use Rattle.literal_map.specs.Atoms.{IsAtom};
 ghost use Rattle.witness_names.specs.Rows.{rows_of, AreRows};
 ghost use Rattle.tableau_clauses.specs.Table.{the_clauses, the_instances};
-ghost use Rattle.refute_print.specs.Sizes.{IsSmall};
 ghost use Rattle.rebuild_spec.specs.Lines.{lines_from};
 ghost use Rattle.rebuild_spec.specs.NeededRows.{rows_for_lines};
 ghost use Rattle.rebuild_spec.specs.Rebuilt.{IsRebuilt};
 ghost use Rattle.rebuild_spec.specs.Trimmed.{IsEachReached, IsFromSearch};
 ghost use Rattle.rebuild_spec.specs.Used.{AreFew};
+ghost use Rattle.small_rebuilt.specs.Small.{AreNumbersInRange};
 ghost use Rattle.tableau_rebuild.specs.Tables.{atoms_at, the_input, unit_literals};
 ghost use Rattle.tableau_rebuild.specs.Conditions.{AreUnitsNumbered, IsInstanceOver, EndsEmpty};
 ghost use Rattle.tableau_rebuild.specs.Internal.Drafts.{AreDrafts};
@@ -29,7 +29,6 @@ use crate::rows::write_rows;
 use crate::walk::walk_from;
 use literal_map::LitTable;
 use rebuild_spec::{rebuilt_is_accepted, rebuilt_is_trimmed};
-use refute_print::are_small_rows;
 use sat_log::Log;
 use std::alloc::{AllocError, Global};
 use tableau_calculus::Refutation;
@@ -54,7 +53,7 @@ fn refutation_of(
     requires founded { IsFounded bank.now atoms.now steps.now drafts.now last }
     ensures lines { IfOk result (λ refutation. refutation.lines ≡ lines_from (atoms_at bank.now.terms atoms.now) (the_tree bank.now.terms atoms.now steps.now drafts.now last)) }
     ensures rows { IfOk result (λ refutation. refutation.witnesses ≡ take (rows_for_lines (rows_of bank.now.terms witnesses.now) refutation.lines) (rows_of bank.now.terms witnesses.now)) }
-    ensures small { IfOk result IsSmall }
+    ensures in_range { IfOk result AreNumbersInRange }
 {
     let order = walk_from(alloc, drafts, last)?;
     let numbers = number_lines(alloc, drafts, last, &order)?;
@@ -62,9 +61,6 @@ fn refutation_of(
         alloc, bank, atoms, steps, witnesses, drafts, last, &order, &numbers,
     )?;
     let rows = write_rows(alloc, bank, witnesses, written.rows)?;
-    if !are_small_rows(&rows) {
-        return Err(AllocError);
-    }
     Ok(Refutation {
         witnesses: rows,
         lines: written.lines,
@@ -87,7 +83,7 @@ fn refutation_from(
     requires log { IsLogOver (the_clauses steps.now) log.now }
     requires closed { EndsEmpty log.now }
     ensures rebuilt { IfOk result (λ refutation. IsRebuilt (the_input bank.now lits.now steps.now log.now witnesses.now) refutation) }
-    ensures small { IfOk result IsSmall }
+    ensures in_range { IfOk result AreNumbersInRange }
 {
     steps.clauses_come_from_origins();
     let arena = draw(alloc, steps, log)?;
@@ -105,7 +101,7 @@ fn refutation_from(
     }
 }
 
-/// The refutation that a log gives, whose last result is the empty clause. There is no memory for one that is too large for a text.
+/// The refutation that a log gives, whose last result is the empty clause.
 pub fn rebuild(
     alloc: Global,
     bank: &Bank,
@@ -126,7 +122,7 @@ pub fn rebuild(
     ensures reached { IfOk result (λ refutation. IsEachReached refutation.lines) }
     ensures from_search { IfOk result (λ refutation. (l : Line) → Contains refutation.lines l → IsFromSearch (unit_literals (atoms_at bank.now.terms lits.now) steps.now.0) (the_input bank.now lits.now steps.now log.now witnesses.now) l) }
     ensures few { IfOk result (λ refutation. AreFew log.now refutation.lines) }
-    ensures small { IfOk result IsSmall }
+    ensures in_range { IfOk result AreNumbersInRange }
 {
     tables_are_given(bank, lits, steps, log, witnesses);
     rebuilt_is_accepted();

@@ -1,5 +1,5 @@
 //! The rows of a refutation.
-ghost use Rattle.std.specs.Prelude.{◌≡◌, ◌<◌, length, take, IfOk, All};
+ghost use Rattle.std.specs.Prelude.{◌≡◌, ◌<◌, ◌≤◌, ◌^◌, length, take, IfOk, All};
 ghost use Rattle.stt_core.specs.View.{the_type};
 ghost use Rattle.term_bank.specs.Terms.{term_at};
 ghost use Rattle.witness_names.specs.Rows.{binder_of, row_of, rows_of};
@@ -39,7 +39,8 @@ pub(crate) fn write_rows(
     count: usize,
 ) -> Result<Rows, AllocError>
     requires { All (λ id. id < length bank.now.terms) witnesses.now }
-    ensures { IfOk result (λ rows. rows ≡ take count (rows_of bank.now.terms witnesses.now)) }
+    ensures rows { IfOk result (λ rows. rows ≡ take count (rows_of bank.now.terms witnesses.now)) }
+    ensures few { IfOk result (λ rows. length rows ≤ 2 ^ 32) }
 {
     let mut rows = Rows::new(alloc);
     for w in 0..count.min(witnesses.len() as usize) {

@@ -1,7 +1,6 @@
 use Rattle.std.proofs.Common.{◌≡◌, take}
 use Rattle.rebuild_spec.specs.Input.{literals_of}
 use Rattle.tableau_rebuild.specs.Tables.{atoms_at}
-use Rattle.refute_print.specs.Sizes.{AreSmallLiterals}
 use Rattle.tableau_rebuild.specs.Internal.Pools.{IsMadePool}
 use Rattle.tableau_rebuild.proofs.literals.lits_of.Given as goal
 
@@ -9,6 +8,4 @@ abbrev pub invariant-loop-i : goal.invariant-loop-i
 invariant-loop-i l = record {
   lits : l.lits ≡ literals_of (atoms_at l.bank.terms l.atoms) (take l.i l.branch);
   made : IsMadePool (atoms_at l.bank.terms l.atoms) l.pool;
-  small : AreSmallLiterals l.pool.lits;
-  small_literals : AreSmallLiterals l.lits;
 }

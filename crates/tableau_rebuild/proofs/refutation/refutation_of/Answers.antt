@@ -12,10 +12,8 @@ pub write_lines-requires-clause-numbered : goal.write_lines-requires-clause-numb
 write_lines-requires-clause-numbered c = λ k i listed.
     listed_over c.args.bank.now c.args.atoms.now c.args.steps.now c.args.drafts.now c.requires.right c.args.last c.in_ok-order.order.items c.in_ok-order.ensures.walked c.requires.founded k i (ap (λ xs. slice_get xs k) (sym c.deref-2.ensures.value) ∙ listed)
 
-pub returns-clause-small : goal.returns-clause-small
-returns-clause-small c =
-    let rows = c.are_small_rows.ensures.0 c.if-not-are_small_rows.false in
-    record { rows = rows.0; row_numbers = rows.1; lines = c.in_ok-written.ensures.small }
+pub returns-clause-in_range : goal.returns-clause-in_range
+returns-clause-in_range c = record { rows = c.in_ok-rows.ensures.few; lines = c.in_ok-written.ensures.count; each = c.in_ok-written.ensures.in_range }
 
 pub returns-clause-lines : goal.returns-clause-lines
 returns-clause-lines c =

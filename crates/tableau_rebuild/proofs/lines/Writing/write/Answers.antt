@@ -4,10 +4,10 @@ use Rattle.std.proofs.lemmas.Option.{slice_get-get_or}
 use Rattle.stt_core.proofs.ListLaws.{map_more}
 use Rattle.sat_base.specs.Literal.{IsOver}
 use Rattle.std.specs.List.{AllByRecursion}
-use Rattle.refute_print.specs.Sizes.{IsSmallLine}
 use Rattle.refute_print.proofs.AllLaws.{all-last}
 use Rattle.rebuild_spec.specs.Lines.{line_of}
 use Rattle.rebuild_spec.specs.Trees.{branch}
+use Rattle.small_rebuilt.specs.Small.{HasNumbers}
 use Rattle.tableau_rebuild.specs.declared.draft.Draft.TheVariants.{Clause}
 use Rattle.tableau_rebuild.specs.Tables.{atoms_at}
 use Rattle.tableau_rebuild.specs.Internal.LineParts.{IsLineBy}
@@ -28,8 +28,8 @@ take_most zero xs = omega arith
 take_most (suc k) [] = omega arith
 take_most (suc k) (x ∷ xs) = let rest = take_most k xs in omega (arith, rest)
 
-pub returns-clause-small : goal.returns-clause-small
-returns-clause-small c =
+pub returns-clause-count : goal.returns-clause-count
+returns-clause-count c =
     let order = c.args.order.now in
     let k = c.loop-k.k in
     let A = atoms_at c.args.bank.now.terms c.args.atoms.now in
@@ -37,7 +37,7 @@ returns-clause-small c =
     let count = ap length c.loop-k.invariant.lines ∙ length-map (take k order) (λ i. line_of A (map tree order) (tree i)) in
     let most = take_most k order in
     let below : k < 2 ^ 64 = omega arith in
-    record { each = c.loop-k.invariant.small; numbers = omega (arith, count, most, below) }
+    omega (arith, count, most, below)
 
 pub branch_of-requires-clause-ready : goal.branch_of-requires-clause-ready
 branch_of-requires-clause-ready c =
@@ -126,6 +126,5 @@ loop-k-preserved c =
       rows = lines_more (rows_of b.terms c.args.witnesses.now) c.loop-k.self.written.lines c.push.new.self c.in_ok-line.line c.loop-k.self.written.rows c.rows_for_line-rows.result c.max-self.result c.in_ok-push.ensures.ok c.loop-k.invariant.rows (c.rows_for_line-rows.ensures numbers c.in_ok-line.line (subst (λ ls. IsLineBy b atoms t numbers ls d c.in_ok-line.line) (c.as_slice.ensures ∙ sym c.as_slice-in-loop-k.ensures) c.in_ok-line.ensures.line)) c.max-self.ensures;
       empty = c.in_ok-branch.ensures.empty;
       made = c.in_ok-line.ensures.made;
-      small_literals = c.in_ok-line.ensures.small;
-      small = subst (AllByRecursion IsSmallLine) (sym c.in_ok-push.ensures.ok) (all-last IsSmallLine c.loop-k.self.written.lines c.in_ok-line.line c.loop-k.invariant.small (c.is_small_line.ensures.0 c.if-not-is_small_line.false));
+      in_range = subst (AllByRecursion HasNumbers) (sym c.in_ok-push.ensures.ok) (all-last HasNumbers c.loop-k.self.written.lines c.in_ok-line.line c.loop-k.invariant.in_range c.line_in_range.ensures);
     }

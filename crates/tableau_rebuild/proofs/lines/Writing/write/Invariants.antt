@@ -1,10 +1,10 @@
 use Rattle.std.proofs.Common.{◌≡◌, [], map, take}
 use Rattle.std.specs.List.{AllByRecursion}
-use Rattle.refute_print.specs.Sizes.{AreSmallLiterals, IsSmallLine}
 use Rattle.witness_names.specs.Rows.{rows_of}
 use Rattle.rebuild_spec.specs.Lines.{line_of}
 use Rattle.rebuild_spec.specs.NeededRows.{rows_for_lines}
 use Rattle.rebuild_spec.specs.Trees.{branch}
+use Rattle.small_rebuilt.specs.Small.{HasNumbers}
 use Rattle.tableau_rebuild.specs.Tables.{atoms_at}
 use Rattle.tableau_rebuild.specs.Internal.Written.{the_tree}
 use Rattle.tableau_rebuild.specs.Internal.Pools.{IsMadePool}
@@ -17,6 +17,5 @@ invariant-loop-k l = record {
   rows : l.self.written.rows ≡ rows_for_lines (rows_of l.bank.terms l.witnesses) l.self.written.lines;
   empty : l.self.resolver.resolver ≡ [];
   made : IsMadePool (atoms_at l.bank.terms l.atoms) l.self.pool;
-  small_literals : AreSmallLiterals l.self.pool.lits;
-  small : AllByRecursion IsSmallLine l.self.written.lines;
+  in_range : AllByRecursion HasNumbers l.self.written.lines;
 }
