@@ -1,5 +1,5 @@
 -- The instance of the rule for a predicate that doesn't hold everywhere, and the row of its witness.
-use Rattle.std.specs.Prelude.{◌≡◌, ◌≤◌, ◌&&◌, nat_eq, ℕ, suc, Bool, true, false, List, [], ◌∷◌, ◌++◌, map, length, slice_get, Option, Some, None, refl, if◌then◌else◌}
+use Rattle.std.specs.Prelude.{◌≡◌, ◌≢◌, ◌≤◌, ◌&&◌, nat_eq, ℕ, suc, Bool, true, false, List, [], ◌∷◌, ◌++◌, map, length, slice_get, Option, Some, None, refl, if◌then◌else◌}
 use Rattle.std.specs.List.{list_any, position_or_len}
 use Rattle.std.specs.Option.{ForSome}
 use Rattle.std.proofs.Common.{sym, ap, ap₂, subst, ◌∙◌, arith, append-nil, length-append}
@@ -30,6 +30,7 @@ use Rattle.literal_map.specs.declared.instance.RuleKind.TheVariants as kind
 use Rattle.witness_names.specs.Rows.{binder_of, row_of, rows_of, with_predicate}
 use Rattle.tableau_rules.specs.Changes.{Widens, HasWitness}
 use Rattle.tableau_rules.specs.Uses.{principals_of, IsInstanceBy}
+use Rattle.refute_print.specs.Sizes.{IsSmallTerm}
 use Rattle.search_spec.specs.Alternatives.{all_neg}
 use Rattle.search_spec.specs.Each.{Each}
 use Rattle.search_spec.specs.Witness.{same_row, witness_of}
@@ -225,6 +226,8 @@ denial-made old new begins lit number i e principals numbered fits = record {
   first = subst (λ (b : BankUse). ForSome b.first (IsNumberIn new.lits)) (sym e) (λ l h. here l (one_of lit l h));
   second = subst (λ (b : BankUse). ForSome b.second (IsNumberIn new.lits)) (sym e) (λ l h. none l h);
   term = subst (λ (b : BankUse). ForSome b.term (IsPlace new.bank.terms)) (sym e) (λ u h. none u h);
+  small = subst (λ (b : BankUse). ForSome b.term (λ u. IsSmallTerm (term_at new.bank.terms u))) (sym e) (λ u h. none u h);
+  uncut = subst (λ (b : BankUse). b.kind ≢ kind.Cut) (sym e) (λ h. cc);
   numbers = numbered;
   fits = subst (λ (b : BankUse). IsInstanceBy new.bank new.lits (rows_in new) b (map (map (bank_literal new.bank.terms new.lits)) i.alternatives)) (sym e) fits;
 }

@@ -8,6 +8,7 @@ use Rattle.tableau_calculus.specs.Witnesses.{Row}
 use Rattle.tableau_calculus.specs.Rules.{Rule, false_rule, close_rule, refl_rule, imp_pos_rule, imp_neg_rule, bool_pos_rule, bool_neg_rule, fun_pos_rule, fun_neg_rule, all_pos_rule, all_neg_rule, mat_rule, dec_rule, con_rule, cho_rule, des_rule, cut_rule}
 use Rattle.tableau_calculus.specs.declared.refutation.RuleUse.{RuleUse}
 use Rattle.sat_base.specs.declared.literal.SatLit.{SatLit}
+use Rattle.refute_print.specs.Sizes.{IsSmallTerm}
 use Rattle.search_spec.specs.Each.{Each}
 use Rattle.term_bank.specs.Content.{Content}
 use Rattle.term_bank.specs.Terms.{term_at}
@@ -99,6 +100,8 @@ module _ (g h : Basis) (good : IsBasis g) (w : IsWider g h) where
         first = λ l q. number-wider l (m.first l q);
         second = λ l q. number-wider l (m.second l q);
         term = λ u q. wide_within g.bank h.bank w.bank u (m.term u q);
+        small = λ u q. subst IsSmallTerm (sym (term-wider u (m.term u q))) (m.small u q);
+        uncut = m.uncut;
         numbers = each-weaker (Each (IsNumberIn g.lits)) (Each (IsNumberIn h.lits)) (λ ls k. each-weaker (IsNumberIn g.lits) (IsNumberIn h.lits) number-wider ls k) i.alternatives m.numbers;
         fits =
             subst F (sym same)

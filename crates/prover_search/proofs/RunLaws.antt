@@ -17,6 +17,9 @@ use Rattle.search_spec.specs.TypedState.{IsTypedSketch, IsTypedCommand}
 use Rattle.search_spec.specs.Internal.Loops.{queue_of}
 use Rattle.search_spec.proofs.NamingLaws.{each-joined, pick_good}
 use Rattle.search_spec.proofs.TypedCommands.{after-typed}
+use Rattle.type_bound.specs.Modest.{IsModestLiteral, IsModestSetting}
+use Rattle.type_bound.specs.Small.{IsSmallCommand}
+use Rattle.type_bound.proofs.SmallLaws.{stay_small}
 use Rattle.prover_state.specs.declared.command.Command.{Command}
 use Rattle.prover_state.specs.declared.command.Planned.{Planned}
 use Rattle.prover_state.specs.declared.command.Delays.{Delays}
@@ -106,6 +109,11 @@ module _ (t : Tables) (q q1 : Queue Planned Delays) (r : IsRunning t q) (c : Com
       let typed = after-typed setting r.declared (start_in t) r.start t.done s r.comes_to in
       next-good (λ w. IsTypedCommand (scope_by t.basis) w.command) s.queue _ typed.typed.queue takes.is_next
 
+  pub taken-small : IsSmallCommand (command_at (naming_in t1) c)
+  taken-small =
+      let small = stay_small setting (start_in t) r.modest r.modest_start t.done s r.comes_to in
+      next-good (λ w. IsSmallCommand w.command) s.queue _ small.queue takes.is_next
+
   pub taken-sketches : Each (IsTypedSketch (scope_by t1.basis)) (sketches_in t1)
   taken-sketches = (after-typed setting r.declared (start_in t) r.start t.done s r.comes_to).typed.parked
 
@@ -161,6 +169,8 @@ module _ (t : Tables) (q q1 : Queue Planned Delays) (r : IsRunning t q) (c : Com
           start = let B : Scope → Type 0 = λ x. IsBranch (with_rows x []) (start_in t2) in
               let L : List Literal → Type 0 = λ ls. IsBranch (with_rows (without_witnesses old.bank) []) ls in
               subst B (sym (scope-wider old new w)) (subst L (sym start-next) r.start);
+          modest = subst (IsModestSetting 1024) (sym setting-next) r.modest;
+          modest_start = subst (Each (IsModestLiteral 1024)) (sym start-next) r.modest_start;
           made =
               subst (Each (IsMadeInstance new)) (sym develops.steps.instances)
               (each-joined (IsMadeInstance new) t.steps.1 develops.steps.more (each-weaker (IsMadeInstance old) (IsMadeInstance new) (made-wider old new r.right.basis w) t.steps.1 r.made) develops.steps.good);
@@ -188,7 +198,7 @@ module _ (t u : Tables) (q p : Queue Planned Delays) (tables : u ≡ record t { 
       let T : Tables → Type 0 = λ x. P x q in
       subst Q (sym plan)
       (subst T (sym tables)
-      (λ good. record { right = good; comes_to = r.comes_to; within = r.within; few = r.few; declared = r.declared; start = r.start; made = r.made })) right
+      (λ good. record { right = good; comes_to = r.comes_to; within = r.within; few = r.few; declared = r.declared; start = r.start; modest = r.modest; modest_start = r.modest_start; made = r.made })) right
 
   pub goes-on-solved : (t2 : Tables) (q2 : Queue Planned Delays) → StepGoesOn (record { tables = u; plan = p }) (record { tables = t2; plan = q2 }) → StepGoesOn (record { tables = t; plan = q }) (record { tables = t2; plan = q2 })
   goes-on-solved t2 q2 g =

@@ -1,5 +1,5 @@
 -- A start, as the tables have it.
-use Rattle.std.specs.Prelude.{◌≡◌, ◌+◌, ◌&&◌, ℕ, suc, Bool, true, false, not, List, [], ◌∷◌, ◌++◌, map, filter, length, Some, if◌then◌else◌, refl}
+use Rattle.std.specs.Prelude.{◌≡◌, ◌≤◌, ◌+◌, ◌&&◌, ℕ, suc, Bool, true, false, not, List, [], ◌∷◌, ◌++◌, map, filter, length, Some, if◌then◌else◌, refl}
 use Rattle.std.specs.List.{list_any, list_all}
 use Rattle.std.proofs.Common.{sym, ap, ap₂, ◌∙◌, subst, arith, append-nil, append_assoc, length-append}
 use Rattle.std.proofs.lemmas.List.Elements.{filter-append}
@@ -20,6 +20,9 @@ use Rattle.search_spec.specs.Numbered.{numbers}
 use Rattle.search_spec.specs.State.{State, Setting, process, with_commands}
 use Rattle.search_spec.specs.Instances.{with_literals, with_instance}
 use Rattle.search_spec.specs.After.{nothing_yet, starting_state, state_after}
+use Rattle.search_spec.proofs.TypedPushes.{each_filtered}
+use Rattle.refute_print.specs.Sizes.{nesting}
+use Rattle.type_bound.specs.Modest.{IsModestLiteral}
 use Rattle.term_bank.specs.Content.{content_scope}
 use Rattle.witness_names.specs.Rows.{rows_of}
 use Rattle.literal_map.specs.Atoms.{bank_literal}
@@ -266,7 +269,7 @@ module _ (t0 : Tables) (q0 : Queue Planned Delays) where
   done-none t q ls s = ap (λ (x : State). x.done) s.state
 
   -- a start is the start of a run
-  module _ (t : Tables) (q : Queue Planned Delays) (ls : List Literal) (s : IsStarting t0 q0 t q ls) (declared : IsScope (without_witnesses t0.basis.bank)) (typed : IsBranch (without_witnesses t0.basis.bank) ls) (unwitnessed : t0.basis.witnesses ≡ []) where
+  module _ (t : Tables) (q : Queue Planned Delays) (ls : List Literal) (s : IsStarting t0 q0 t q ls) (declared : IsScope (without_witnesses t0.basis.bank)) (typed : IsBranch (without_witnesses t0.basis.bank) ls) (names : Each (λ a. nesting a ≤ 1024) (without_witnesses t0.basis.bank).names) (modest : Each (IsModestLiteral 1024) ls) (unwitnessed : t0.basis.witnesses ≡ []) where
     setting_same : setting_by t q ≡ setting
     setting_same = ap₂ (λ (x : Scope) (d : Delays). record { scope = x; mode = d.mode }) (scope-grows t0.basis t.basis s.basis) s.rule
 
@@ -289,5 +292,7 @@ module _ (t0 : Tables) (q0 : Queue Planned Delays) where
           few = omega (arith, ap length s.basis.witnesses, ap length unwitnessed);
           declared = subst IsScope (sym same) declared;
           start = subst B (sym same) (subst L (sym s.units) (branch_filtered (without_witnesses t0.basis.bank) ls typed));
+          modest = record { some = omega arith; names = subst (λ (x : Scope). Each (λ a. nesting a ≤ 1024) x.names) (sym same) names };
+          modest_start = subst (Each (IsModestLiteral 1024)) (sym s.units) (each_filtered (IsModestLiteral 1024) (IsModestLiteral 1024) is_shallow_literal (λ l h e. h) ls modest);
           made = subst (Each (IsMadeInstance t.basis)) (sym s.instances) tt;
         }

@@ -1,6 +1,7 @@
 pub use Rattle.literal_map.specs.Atoms
 pub use Rattle.prover_state.specs.Delays
 pub use Rattle.prover_state.specs.Lasting
+pub use Rattle.refute_print.specs.Sizes
 pub use Rattle.sat_base.specs.Truth
 pub use Rattle.sat_core.specs.Solver
 pub use Rattle.sat_log.specs.Chains
@@ -29,5 +30,7 @@ pub use Rattle.tableau_clauses.specs.Table
 pub use Rattle.tableau_rules.specs.Uses
 pub use Rattle.term_bank.specs.Content
 pub use Rattle.term_bank.specs.Terms as TermBankTerms
+pub use Rattle.type_bound.specs.Modest
+pub use Rattle.type_bound.specs.Small
 pub use Rattle.witness_names.specs.Rows
 pub mod Internal

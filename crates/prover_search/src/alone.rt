@@ -2,7 +2,7 @@
 ghost use Rattle.std.specs.Prelude.{◌≡◌, ◌≢◌, ◌<◌, ◌-◌, ◌^◌, List, length, map, OnOk};
 ghost use Rattle.tableau_calculus.specs.Literals.{Literal};
 ghost use Rattle.literal_map.specs.Atoms.{bank_literal};
-ghost use Rattle.literal_map.specs.declared.instance.RuleKind.TheVariants.{AllNeg as MakesWitness};
+ghost use Rattle.literal_map.specs.declared.instance.RuleKind.TheVariants.{AllNeg as MakesWitness, Cut as MakesCut};
 ghost use Rattle.tableau_rules.specs.Uses.{principals_of, IsInstanceBy};
 ghost use Rattle.search_spec.specs.Instances.{with_instance};
 ghost use Rattle.prover_state.specs.Lasting.{lasting};
@@ -17,7 +17,7 @@ use prover_state::{Core, Waiting};
 use sat_base::SatLit;
 use std::alloc::AllocError;
 
-/// Adds the instance of a rule that takes one literal and makes no witness.
+/// Adds the instance of a rule that takes one literal, makes no witness and is no cut.
 pub(crate) fn apply_alone<W: Weigher<Waiting>>(
     core: &mut Core<W>,
     rule: RuleKind,
@@ -27,6 +27,7 @@ pub(crate) fn apply_alone<W: Weigher<Waiting>>(
     requires number { IsNumberIn core.old.tables.basis.lits lit }
     requires few { length core.old.tables.basis.witnesses < 2 ^ 32 - 1 }
     requires unwitnessed { rule ≢ MakesWitness }
+    requires uncut { rule ≢ MakesCut }
     requires fits { (alternatives : List (List Literal)) × IsInstanceBy core.old.tables.basis.bank core.old.tables.basis.lits (rows_in core.old.tables.basis) (lone_use rule lit) alternatives }
     ensures state { OnOk result ((alternatives : List (List Literal)) → IsInstanceBy core.old.tables.basis.bank core.old.tables.basis.lits (rows_in core.old.tables.basis) (lone_use rule lit) alternatives
         → the_state core.new.tables core.new.plan ≡ with_instance core.old.plan.rule.mode (map (bank_literal core.old.tables.basis.bank.terms core.old.tables.basis.lits) (principals_of (lone_use rule lit))) alternatives (the_state core.old.tables core.old.plan)) }

@@ -3,6 +3,7 @@ ghost use Rattle.std.specs.Prelude.{◌≡◌, ◌<◌, ◌≤◌, suc, length, 
 ghost use Rattle.search_spec.specs.Commands.{with_command};
 ghost use Rattle.search_spec.specs.Each.{Each};
 ghost use Rattle.search_spec.specs.TypedState.{IsTypedSketch, IsTypedCommand};
+ghost use Rattle.type_bound.specs.Small.{IsSmallCommand};
 ghost use Rattle.prover_state.specs.Lasting.{lasting};
 ghost use Rattle.prover_state.specs.Internal.Names.{command_at, IsNumberedCommand};
 ghost use Rattle.prover_state.specs.Internal.Standing.{scope_by, sketches_in, naming_in, setting_by, the_state, IsRightState};
@@ -23,6 +24,7 @@ pub(crate) fn carry_out<W: Weigher<Waiting>>(
     requires right { IsRightState core.old.tables core.old.plan }
     requires numbers { IsNumberedCommand (naming_in core.old.tables) command }
     requires typed { IsTypedCommand (scope_by core.old.tables.basis) (command_at (naming_in core.old.tables) command) }
+    requires small { IsSmallCommand (command_at (naming_in core.old.tables) command) }
     requires sketches { Each (IsTypedSketch (scope_by core.old.tables.basis)) (sketches_in core.old.tables) }
     requires few { length core.old.tables.basis.witnesses < core.old.tables.done }
     ensures state { OnOk result (the_state core.new.tables core.new.plan ≡ with_command (setting_by core.old.tables core.old.plan) (command_at (naming_in core.old.tables) command) (the_state core.old.tables core.old.plan)) }

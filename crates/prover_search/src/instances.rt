@@ -1,10 +1,11 @@
 //! The commands that add an instance of a rule.
-ghost use Rattle.std.specs.Prelude.{◌≡◌, ◌<◌, ◌-◌, ◌^◌, [], length, OnOk};
+ghost use Rattle.std.specs.Prelude.{◌≡◌, ◌<◌, ◌≤◌, ◌-◌, ◌^◌, [], length, OnOk};
 ghost use Rattle.term_bank.specs.Terms.{term_at};
 ghost use Rattle.literal_map.specs.Atoms.{bank_literal};
 ghost use Rattle.witness_names.specs.Rows.{binder_of};
 ghost use Rattle.stt_core.specs.SimpleType.{predicate};
 ghost use Rattle.stt_core.specs.Canonical.{IsCanonical};
+ghost use Rattle.refute_print.specs.Sizes.{type_limit, type_depth, IsSmallTerm};
 ghost use Rattle.search_spec.specs.Alternatives.{cho, des};
 ghost use Rattle.search_spec.specs.Commands.{with_mating, with_confrontation, with_instantiation};
 ghost use Rattle.search_spec.specs.Instances.{with_instance};
@@ -86,6 +87,7 @@ pub(crate) fn instantiate<W: Weigher<Waiting>>(
     requires number { IsNumberIn core.old.tables.basis.lits lit }
     requires place { IsPlace core.old.tables.basis.bank.terms id }
     requires few { length core.old.tables.basis.witnesses < 2 ^ 32 - 1 }
+    requires small { type_depth (term_at core.old.tables.basis.bank.terms id) ≤ type_limit }
     requires typed { Instantiates (scope_by core.old.tables.basis) (bank_literal core.old.tables.basis.bank.terms core.old.tables.basis.lits lit) (term_at core.old.tables.basis.bank.terms id) }
     ensures state { OnOk result (let l = bank_literal core.old.tables.basis.bank.terms core.old.tables.basis.lits lit in the_state core.new.tables core.new.plan ≡ with_instantiation (setting_by core.old.tables core.old.plan) l l.atom (term_at core.old.tables.basis.bank.terms id) (the_state core.old.tables core.old.plan)) }
     ensures right { OnOk result (IsRightState core.new.tables core.new.plan) }
@@ -111,6 +113,7 @@ pub(crate) fn choose<W: Weigher<Waiting>>(core: &mut Core<W>, id: Id) -> Result<
     requires right { IsRightState core.old.tables core.old.plan }
     requires place { IsPlace core.old.tables.basis.bank.terms id }
     requires few { length core.old.tables.basis.witnesses < 2 ^ 32 - 1 }
+    requires small { IsSmallTerm (term_at core.old.tables.basis.bank.terms id) }
     requires typed { let f = term_at core.old.tables.basis.bank.terms id in IsCanonical (scope_by core.old.tables.basis) [] (predicate (binder_of f)) f }
     ensures state { OnOk result (let f = term_at core.old.tables.basis.bank.terms id in the_state core.new.tables core.new.plan ≡ with_instance core.old.plan.rule.mode [] (cho (binder_of f) f) (the_state core.old.tables core.old.plan)) }
     ensures right { OnOk result (IsRightState core.new.tables core.new.plan) }
@@ -133,6 +136,7 @@ pub(crate) fn describe<W: Weigher<Waiting>>(core: &mut Core<W>, id: Id) -> Resul
     requires right { IsRightState core.old.tables core.old.plan }
     requires place { IsPlace core.old.tables.basis.bank.terms id }
     requires few { length core.old.tables.basis.witnesses < 2 ^ 32 - 1 }
+    requires small { IsSmallTerm (term_at core.old.tables.basis.bank.terms id) }
     requires typed { let f = term_at core.old.tables.basis.bank.terms id in IsCanonical (scope_by core.old.tables.basis) [] (predicate (binder_of f)) f }
     ensures state { OnOk result (let f = term_at core.old.tables.basis.bank.terms id in the_state core.new.tables core.new.plan ≡ with_instance core.old.plan.rule.mode [] (des (binder_of f) f) (the_state core.old.tables core.old.plan)) }
     ensures right { OnOk result (IsRightState core.new.tables core.new.plan) }

@@ -8,6 +8,7 @@ ghost use Rattle.sat_log.specs.Chains.{results};
 ghost use Rattle.sat_log.specs.declared.log.LogEntry.{LogEntry};
 ghost use Rattle.sat_core.specs.Solver.{IsSound};
 ghost use Rattle.search_spec.specs.Shallow.{is_shallow_literal};
+ghost use Rattle.type_bound.specs.Modest.{IsModestProblem};
 ghost use Rattle.prover_state.specs.Delays.{delay_by};
 ghost use Rattle.prover_state.specs.Internal.Standing.{setting_by};
 ghost use Rattle.prover_search.specs.Internal.Running.{start_in, IsUnderWay};
@@ -36,7 +37,8 @@ pub struct Search<W: Weigher<Waiting>> {
 }
 
 impl<W: Weigher<Waiting>> Search<W> {
-    /// A search by a mode. The start literals that are too deep are left out.
+    /// A search by a mode. The start literals that are too deep are left out. The problem's types nest so little that all terms of the
+    /// search are small enough for a text.
     pub fn new(
         alloc: Global,
         problem: &Problem,
@@ -44,6 +46,7 @@ impl<W: Weigher<Waiting>> Search<W> {
         weigher: W,
     ) -> Result<Self, AllocError>
         requires typed { IsTyped problem.now }
+        requires modest { IsModestProblem 1024 problem.now }
         requires callable { W.is_callable weigher }
         requires answers { W.answers weigher (λ waiting now. now + delay_by mode.now waiting.first) }
         ensures under_way { IfOk result (λ s. IsUnderWay s.core.tables s.core.plan s.mode) }

@@ -3,12 +3,16 @@ use Rattle.std.specs.Prelude.{◌≡◌, ◌≢◌, ℕ, zero, suc, List, [], �
 use Rattle.std.specs.Option.{ForSome}
 use Rattle.std.proofs.Common.{sym, ap, ap₂, ◌∙◌, subst, arith, append-nil, length-append}
 use Rattle.sat_base.specs.declared.literal.SatLit.{SatLit}
+use Rattle.refute_print.specs.Sizes.{IsSmallTerm}
+use Rattle.stt_core.specs.Lambda.{Lambda}
 use Rattle.search_spec.specs.Each.{Each}
 use Rattle.search_spec.specs.Clauses.{with_clauses}
 use Rattle.search_spec.specs.Numbered.{numbers}
 use Rattle.literal_map.specs.Atoms.{bank_literal}
 use Rattle.literal_map.specs.declared.instance.BankUse.{BankUse}
 use Rattle.literal_map.specs.declared.instance.Instance.{Instance}
+use Rattle.literal_map.specs.declared.instance.RuleKind.TheVariants.{Cut}
+use Rattle.term_bank.specs.Terms.{term_at}
 use Rattle.term_bank.proofs.GrowLaws.{grown_within}
 use Rattle.tableau_rules.specs.Uses.{principals_of, IsInstanceBy}
 use Rattle.tableau_clauses.specs.declared.origin.Origin.{Origin}
@@ -21,6 +25,7 @@ use Rattle.prover_state.specs.Internal.Standing.{rows_in}
 use Rattle.prover_state.specs.Internal.Steps.{IsMadeInstance, StepsGrow}
 use Rattle.prover_state.proofs.ClauseLaws.{with_clauses-longer}
 use Rattle.prover_state.proofs.EachLaws.{each-weaker}
+use Rattle.prover_state.proofs.NamesLaws.{term-stays}
 
 -- what stands behind the steps that were there
 pub record Behind (xs ys : List Step) (os : List Origin) : Type 0 where
@@ -62,18 +67,24 @@ steps-same Good t = record { further = []; clauses = sym (append-nil t.0); made 
 pub steps-weaker : (P Q : Instance → Type 0) → ((i : Instance) → P i → Q i) → (old new : Table) → StepsGrow P old new → StepsGrow Q old new
 steps-weaker P Q f old new s = record { further = s.further; clauses = s.clauses; made = s.made; more = s.more; instances = s.instances; good = each-weaker P Q f s.more s.good }
 
--- an instance by a use whose parts have numbers
+-- an instance by a use whose parts have numbers and whose term is small
 pub is-made : (old new : Basis) → BasisGrows old new → (by : BankUse) (i : Instance) → i.by ≡ by → i.principals ≡ principals_of by
-    → ForSome by.first (IsNumberIn old.lits) → ForSome by.second (IsNumberIn old.lits) → ForSome by.term (IsPlace old.bank.terms) → Each (Each (IsNumberIn new.lits)) i.alternatives
+    → ForSome by.first (IsNumberIn old.lits) → ForSome by.second (IsNumberIn old.lits) → ForSome by.term (IsPlace old.bank.terms) → ForSome by.term (λ u. IsSmallTerm (term_at old.bank.terms u)) → by.kind ≢ Cut
+    → Each (Each (IsNumberIn new.lits)) i.alternatives
     → IsInstanceBy new.bank new.lits (rows_in new) by (map (map (bank_literal new.bank.terms new.lits)) i.alternatives) → IsMadeInstance new i
-is-made old new grows by i e principals first second term numbered fits = record {
+is-made old new grows by i e principals first second term small uncut numbered fits = record {
   principals = principals ∙ ap principals_of (sym e);
   first = subst (λ (b : BankUse). ForSome b.first (IsNumberIn new.lits)) (sym e) (λ l h. number l (first l h));
   second = subst (λ (b : BankUse). ForSome b.second (IsNumberIn new.lits)) (sym e) (λ l h. number l (second l h));
   term = subst (λ (b : BankUse). ForSome b.term (IsPlace new.bank.terms)) (sym e) (λ u h. grown_within old.bank new.bank u grows.bank (term u h));
+  small = subst (λ (b : BankUse). ForSome b.term (λ u. IsSmallTerm (term_at new.bank.terms u))) (sym e) (λ u h. subst IsSmallTerm (sym (term_same u (term u h))) (small u h));
+  uncut = subst (λ (b : BankUse). b.kind ≢ Cut) (sym e) uncut;
   numbers = numbered;
   fits = subst (λ (b : BankUse). IsInstanceBy new.bank new.lits (rows_in new) b (map (map (bank_literal new.bank.terms new.lits)) i.alternatives)) (sym e) fits;
 }
   where
     number : (l : SatLit) → IsNumberIn old.lits l → IsNumberIn new.lits l
     number l k = omega (arith, k, ap length grows.lits.is, length-append old.lits grows.lits.further)
+
+    term_same : (u : ℕ) → IsPlace old.bank.terms u → term_at new.bank.terms u ≡ term_at old.bank.terms u
+    term_same u h = term-stays old.bank.terms new.bank.terms (grows.bank.further, grows.bank.terms) u h

@@ -4,6 +4,7 @@ pub use Rattle.literal_map.specs.Atoms
 pub use Rattle.mating_rules.specs.Noted
 pub use Rattle.sat_core.specs.Solver
 pub use Rattle.sat_log.specs.Propagation
+pub use Rattle.refute_print.specs.Sizes
 pub use Rattle.search_spec.specs.After
 pub use Rattle.search_spec.specs.Clauses
 pub use Rattle.search_spec.specs.Closed

@@ -3,9 +3,11 @@ ghost use Rattle.std.specs.Prelude.{◌≡◌, ◌≢◌, ◌<◌, ◌-◌, ◌^
 ghost use Rattle.search_spec.specs.Each.{Each};
 ghost use Rattle.std.specs.Option.{ForSome};
 ghost use Rattle.tableau_calculus.specs.Literals.{Literal};
+ghost use Rattle.term_bank.specs.Terms.{term_at};
 ghost use Rattle.literal_map.specs.Atoms.{bank_literal};
-ghost use Rattle.literal_map.specs.declared.instance.RuleKind.TheVariants.{AllNeg as MakesWitness};
+ghost use Rattle.literal_map.specs.declared.instance.RuleKind.TheVariants.{AllNeg as MakesWitness, Cut as MakesCut};
 ghost use Rattle.tableau_rules.specs.Uses.{principals_of, IsInstanceBy};
+ghost use Rattle.refute_print.specs.Sizes.{IsSmallTerm};
 ghost use Rattle.search_spec.specs.Instances.{with_instance};
 ghost use Rattle.prover_state.specs.Lasting.{declarations_of, lasting};
 ghost use Rattle.prover_state.specs.Internal.Growing.{BasisGrows};
@@ -61,14 +63,16 @@ impl Basis {
 }
 
 impl<W: Weigher<Waiting>> Core<W> {
-    /// Adds the instance of a rule that makes no witness.
+    /// Adds the instance of a rule that makes no witness and is no cut. Its term, where it takes one, is small enough for a text.
     pub fn apply_rule(&mut self, by: BankUse) -> Result<(), AllocError>
         requires right { IsRightState self.old.tables self.old.plan }
         requires first { ForSome by.first (IsNumberIn self.old.tables.basis.lits) }
         requires second { ForSome by.second (IsNumberIn self.old.tables.basis.lits) }
         requires term { ForSome by.term (IsPlace self.old.tables.basis.bank.terms) }
+        requires small { ForSome by.term (λ u. IsSmallTerm (term_at self.old.tables.basis.bank.terms u)) }
         requires few { length self.old.tables.basis.witnesses < 2 ^ 32 - 1 }
         requires kind { by.kind ≢ MakesWitness }
+        requires uncut { by.kind ≢ MakesCut }
         requires fits { (alternatives : List (List Literal)) × IsInstanceBy self.old.tables.basis.bank self.old.tables.basis.lits (rows_in self.old.tables.basis) by alternatives }
         ensures state { OnOk result ((alternatives : List (List Literal)) → IsInstanceBy self.old.tables.basis.bank self.old.tables.basis.lits (rows_in self.old.tables.basis) by alternatives
             → the_state self.new.tables self.new.plan ≡ with_instance self.old.plan.rule.mode (map (bank_literal self.old.tables.basis.bank.terms self.old.tables.basis.lits) (principals_of by)) alternatives (the_state self.old.tables self.old.plan)) }

@@ -12,6 +12,7 @@ use Rattle.literal_map.specs.Atoms.{bank_literal}
 use Rattle.tableau_clauses.specs.declared.origin.Origin.{Origin}
 use Rattle.tableau_clauses.specs.declared.origin.Origin.TheVariants.{Start, Instance as From}
 use Rattle.tableau_clauses.specs.Table.{Step}
+use Rattle.type_bound.specs.Modest.{IsModestLiteral, IsModestSetting}
 use Rattle.prover_state.specs.declared.command.Planned.{Planned}
 use Rattle.prover_state.specs.declared.command.Delays.{Delays}
 use Rattle.prover_state.specs.declared.tables.Tables.{Tables}
@@ -34,7 +35,7 @@ start_in t = map (bank_literal t.basis.bank.terms t.basis.lits) (units t.steps.0
 
 -- The tables and the commands that wait are right, and they stand for the state of the run from their start units after as many commands
 -- as were carried out. These are at most as many as the mode allows, and at most one witness is made by each. The start is typed without
--- witnesses, and each instance is one of its rule.
+-- witnesses, the types of the names and of the start nest at most 1,024 deep, and each instance is one of its rule.
 pub record IsRunning (t : Tables) (q : Queue Planned Delays) : Type 0 where
   pub right : IsRightState t q
   pub comes_to : state_after (setting_by t q) (start_in t) t.done ≡ Some (the_state t q)
@@ -42,6 +43,8 @@ pub record IsRunning (t : Tables) (q : Queue Planned Delays) : Type 0 where
   pub few : length t.basis.witnesses ≤ t.done
   pub declared : IsScope (without_witnesses t.basis.bank)
   pub start : IsBranch (with_rows (without_witnesses t.basis.bank) []) (start_in t)
+  pub modest : IsModestSetting 1024 (setting_by t q)
+  pub modest_start : Each (IsModestLiteral 1024) (start_in t)
   pub made : Each (IsMadeInstance t.basis) t.steps.1
 
 -- tables of a run by this mode

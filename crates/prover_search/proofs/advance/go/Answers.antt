@@ -1,10 +1,11 @@
 use Rattle.std.proofs.Common.{◌+◌, subst, sym, ◌∙◌}
 use Rattle.search_spec.specs.Each.{Each}
 use Rattle.search_spec.specs.TypedState.{IsTypedSketch, IsTypedCommand}
+use Rattle.type_bound.specs.Small.{IsSmallCommand}
 use Rattle.prover_state.specs.declared.tables.Tables.{Tables}
 use Rattle.prover_state.specs.Internal.Names.{command_at}
 use Rattle.prover_state.specs.Internal.Standing.{scope_by, sketches_in, naming_in}
-use Rattle.prover_search.proofs.RunLaws.{counted, Carried, right-done, taken-typed, taken-sketches, setting-next, start-next, goes-on, running-next}
+use Rattle.prover_search.proofs.RunLaws.{counted, Carried, right-done, taken-typed, taken-small, taken-sketches, setting-next, start-next, goes-on, running-next}
 use Rattle.prover_search.proofs.advance.go.Goals as goal
 
 pub carry_out-requires-clause-right : goal.carry_out-requires-clause-right
@@ -16,6 +17,13 @@ carry_out-requires-clause-typed g c =
     let u = c.take_next.new.self in
     let T : Tables → Type 0 = λ x. IsTypedCommand (scope_by (counted x).basis) (command_at (naming_in (counted x)) c.in_ok-command.command) in
     subst T (sym c.take_next.ensures.tables) (taken-typed core.tables core.plan u.plan c.requires.running c.in_ok-command.command c.in_ok-command.ensures.takes c.in_ok-command.ensures.rule)
+
+pub carry_out-requires-clause-small : goal.carry_out-requires-clause-small
+carry_out-requires-clause-small g c =
+    let core = c.args.core.now in
+    let u = c.take_next.new.self in
+    let T : Tables → Type 0 = λ x. IsSmallCommand (command_at (naming_in (counted x)) c.in_ok-command.command) in
+    subst T (sym c.take_next.ensures.tables) (taken-small core.tables core.plan u.plan c.requires.running c.in_ok-command.command c.in_ok-command.ensures.takes c.in_ok-command.ensures.rule)
 
 pub carry_out-requires-clause-sketches : goal.carry_out-requires-clause-sketches
 carry_out-requires-clause-sketches g c =

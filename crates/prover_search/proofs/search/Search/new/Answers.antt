@@ -4,7 +4,8 @@ use Rattle.stt_core.specs.Declarations.{scope_of}
 use Rattle.stt_core.specs.PlainProblem.{PlainProblem}
 use Rattle.tableau_calculus.specs.Start.{start}
 use Rattle.prover_state.specs.declared.command.Delays.{Delays}
-use Rattle.prover_search.proofs.SearchLaws.{scope-same, scope-declared, start-declared}
+use Rattle.type_bound.proofs.StartLaws.{start-keeps}
+use Rattle.prover_search.proofs.SearchLaws.{scope-same, scope-declared, start-declared, names-modest}
 use Rattle.prover_search.proofs.StartingLaws.{running-start, done-none}
 use Rattle.prover_search.proofs.search.Search.new.Goals as goal
 
@@ -30,6 +31,8 @@ returns-in-Ok-clause-under_way g c =
           running-start core.tables core.plan new.tables new.plan (start p) c.in-Ok.ensures
           (scope-declared p c.requires.typed core.tables.basis.bank bases consts)
           (start-declared p c.requires.typed core.tables.basis.bank bases consts)
+          (names-modest p c.requires.typed core.tables.basis.bank bases consts c.requires.modest)
+          (start-keeps 1024 p c.requires.modest)
           c.in_ok-core.ensures.unwitnessed;
     }
 

@@ -53,7 +53,8 @@ returns-clause-steps g c =
     let new = c.make_instance.new.self in
     let i = c.in_ok-instance.instance in
     let made : IsMadeInstance new i =
-    is-made old new c.in_ok-instance.ensures.grows c.args.by i c.in_ok-instance.ensures.by c.in_ok-instance.ensures.principals c.requires.first c.requires.second c.requires.term c.in_ok-instance.ensures.numbers
+    is-made old new c.in_ok-instance.ensures.grows c.args.by i c.in_ok-instance.ensures.by c.in_ok-instance.ensures.principals c.requires.first c.requires.second c.requires.term c.requires.small c.requires.uncut
+    c.in_ok-instance.ensures.numbers
     c.in_ok-instance.ensures.instance in
     subst (λ (g : Basis). StepsGrow (IsMadeInstance g) self.tables.steps c.add_instance.new.self.tables.steps) (sym (ap (λ (t : Tables). t.basis) c.in_ok-add_instance.ensures.tables))
     (steps-weaker (λ j. j ≡ i) (IsMadeInstance new) (λ j e. subst (IsMadeInstance new) (sym e) made) self.tables.steps c.add_instance.new.self.tables.steps c.in_ok-add_instance.ensures.steps)
