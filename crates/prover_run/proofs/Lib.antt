@@ -6,3 +6,4 @@ pub mod PrincipalLaws
 pub mod PropagatedLaws
 pub mod RebuildUses
 pub mod RunLaws
+pub mod SmallUses

@@ -37,16 +37,16 @@ mentioned-in (l ∷ c) v h =
 -- LINES
 
 module _ (input : Input) where
-  abbrev numbered : List (List SatLit)
+  abbrev pub numbered : List (List SatLit)
   numbered = map clause_in input.clauses
 
-  abbrev named : List Clause
+  abbrev pub named : List Clause
   named = map (literals_of input.atoms) numbered
 
   clause_there : (n : ℕ) (x : Sourced) → slice_get input.clauses n ≡ Some x → Contains numbered (clause_in x)
   clause_there n x h = contains-mapped clause_in input.clauses x (contains-get input.clauses n x h)
 
-  named_there : (n : ℕ) (x : Sourced) → slice_get input.clauses n ≡ Some x → Contains named (literals_of input.atoms (clause_in x))
+  pub named_there : (n : ℕ) (x : Sourced) → slice_get input.clauses n ≡ Some x → Contains named (literals_of input.atoms (clause_in x))
   named_there n x h = contains-mapped (literals_of input.atoms) numbered (clause_in x) (clause_there n x h)
 
   atom_there : (atom : Lambda) → IsAtomOfInput input atom → HasAtom named atom

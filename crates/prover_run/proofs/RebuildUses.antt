@@ -150,15 +150,16 @@ module _ (g : Basis) (good : IsBasis g) where
       ∙ ap (λ ls. start_literals_in named s.0 s.1 ++ ls) (units-named steps h.1)
 
   module _ (t : Table) (numbers : Each (Each (IsNumberIn g.lits)) (the_clauses t)) where
+    -- the clauses of the sources stand for the clauses of formulas
+    pub sources-named : EachComes t → map (literals_of named) (map clause_in (the_sources g.bank.terms g.lits t)) ≡ map (map by_number) (the_clauses t)
+    sources-named comes = ap (map (literals_of named)) (sources-clauses g.bank.terms g.lits t comes) ∙ sym (lists-named (the_clauses t) numbers)
+
     -- lines of what the tables give come from the clauses of formulas
     pub origin-named : (log : List LogEntry) (ls : List Literal) (lines : List Line) → EachComes t → ((l : Line) → Contains lines l → IsFromSearch ls (the_input g.bank g.lits t log g.witnesses) l)
         → EachComesFrom ls (map (map by_number) (the_clauses t)) lines
     origin-named log ls lines comes from l there =
         let C : List Clause → Type 0 = λ cs. ComesFromClauses ls cs l in
-        let same : map (literals_of named) (map clause_in (the_sources g.bank.terms g.lits t)) ≡ map (map by_number) (the_clauses t) =
-        ap (map (literals_of named)) (sources-clauses g.bank.terms g.lits t comes) ∙ sym (lists-named (the_clauses t) numbers)
-        in
-        subst C same (comes-from (the_input g.bank g.lits t log g.witnesses) ls l (from l there))
+        subst C (sources-named comes) (comes-from (the_input g.bank g.lits t log g.witnesses) ls l (from l there))
 
     abbrev formulas : List Clause
     formulas = map (map by_number) (the_clauses t)

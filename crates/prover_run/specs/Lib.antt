@@ -22,6 +22,7 @@ pub use Rattle.stt_core.specs.TypedProblem
 pub use Rattle.tableau_calculus.specs.Accepted
 pub use Rattle.tableau_calculus.specs.Literals
 pub use Rattle.tableau_calculus.specs.Start
+pub use Rattle.type_bound.specs.Modest
 pub mod Learning
 pub mod Origin
 pub mod Ended

@@ -5,11 +5,12 @@ ghost use Rattle.sat_log.specs.Chains.{results};
 ghost use Rattle.sat_log.specs.Propagation.{ReachesFalse};
 ghost use Rattle.sat_core.specs.Solver.{learned};
 ghost use Rattle.search_spec.specs.Result.{GoesOnUntil};
+ghost use Rattle.type_bound.specs.Modest.{IsModestProblem};
 ghost use Rattle.prover_state.specs.Delays.{delay_by};
 ghost use Rattle.prover_state.specs.Internal.Standing.{without_witnesses, setting_by};
 ghost use Rattle.prover_search.specs.Internal.Running.{start_in, IsUnderWay};
 ghost use Rattle.prover_run.specs.Ended.{EndsAs};
-ghost use Rattle.prover_run.specs.Internal.Ends.{AreRightTables, clauses_of, RefutesFrom, EndsFrom, GoesOnTo};
+ghost use Rattle.prover_run.specs.Internal.Ends.{AreRunTables, clauses_of, RefutesFrom, EndsFrom, GoesOnTo};
 
 use crate::delays::delay;
 use crate::ended::Ended;
@@ -23,9 +24,9 @@ use tableau_calculus::Refutation;
 use tableau_rebuild::rebuild;
 use term_bank::equal_ids_for_equal_terms;
 
-/// The refutation from the log of a run whose clauses are unsatisfiable. There is no memory for one that is too large for a text.
+/// The refutation from the log of a run whose clauses are unsatisfiable. It is small enough for a text, as all terms of a run are.
 fn refutation_of(alloc: Global, tables: &Tables) -> Result<Refutation, AllocError>
-    requires right { AreRightTables tables.now }
+    requires run { AreRunTables tables.now }
     requires ends { results tables.now.solver.log ≡ learned tables.now.solver ++ [] ∷ [] }
     requires propagated { ReachesFalse (tables.now.solver.clauses ++ learned tables.now.solver) [] }
     ensures { IfOk result (RefutesFrom (without_witnesses tables.now.basis.bank) (start_in tables.now) (clauses_of tables.now) (length (learned tables.now.solver))) }
@@ -113,6 +114,7 @@ fn run_by<W: Weigher<Waiting>>(
     weigher: W,
 ) -> Result<Ended, AllocError>
     requires typed { IsTyped problem.now }
+    requires modest { IsModestProblem 1024 problem.now }
     requires callable { W.is_callable weigher }
     requires answers { W.answers weigher (λ waiting now. now + delay_by mode.now waiting.first) }
     ensures { IfOk result (EndsAs problem.now mode.now) }
@@ -123,9 +125,10 @@ fn run_by<W: Weigher<Waiting>>(
     ended
 }
 
-/// Runs the search over a problem by a mode.
+/// Runs the search over a problem by a mode. The problem's types nest so little that each refutation is small enough for a text.
 pub fn run(alloc: Global, problem: &Problem, mode: &Mode) -> Result<Ended, AllocError>
-    requires { IsTyped problem.now }
+    requires typed { IsTyped problem.now }
+    requires modest { IsModestProblem 1024 problem.now }
     ensures { IfOk result (EndsAs problem.now mode.now) }
 {
     let by = *mode;

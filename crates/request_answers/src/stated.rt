@@ -1,10 +1,12 @@
 //! The problem that files state.
 
 ghost use Rattle.std.specs.Prelude.{◌≡◌, ◌≤◌, ◌<◌, ◌-◌, ◌^◌, ℕ, List, Ok, length, IfOk, IfErr, IsErrOf, OnOk};
+ghost use Rattle.stt_core.specs.PlainProblem.{PlainProblem};
 ghost use Rattle.thf_grammar.specs.Printable.{IsPrintable};
 ghost use Rattle.thf_include.specs.View.{the_statements};
 ghost use Rattle.type_check.specs.Statements.{problem_of};
 ghost use Rattle.type_check.specs.Internal.ProblemNames.{AllDeclared};
+ghost use Rattle.type_bound.specs.Modest.{IsModestProblem};
 ghost use Rattle.request_answers.specs.Files.{OfFiles, Statements};
 ghost use Rattle.request_answers.specs.Internal.Texts.{HasTexts};
 ghost use Rattle.request_answers.specs.Internal.RefusedFiles.{refused_answer};
@@ -59,6 +61,7 @@ fn refused_answer(names: FileNames, refused: GatherRefused) -> Answer
 fn check_problem(alloc: Global, gathered: &Gathered, names: FileNames) -> Result<Problem, Answer>
     requires few { length gathered.now < 2 ^ 32 - 2 }
     requires printable { AllDeclared IsPrintable (the_statements gathered.now) }
+    requires modest { (p : PlainProblem) → problem_of (the_statements gathered.now) ≡ Ok p → IsModestProblem 1024 p }
     ensures stated { IfOk result (λ p. problem_of (the_statements gathered.now) ≡ Ok p) }
     ensures texts { IfOk result (λ p. HasTexts p) }
     ensures ill { IfErr result (IsIllProblem names (the_statements gathered.now)) }

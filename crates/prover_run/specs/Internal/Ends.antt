@@ -4,7 +4,6 @@ use Rattle.stt_core.specs.Typing.{Scope}
 use Rattle.tableau_calculus.specs.Literals.{Literal}
 use Rattle.tableau_calculus.specs.Accepted.{IsAccepted}
 use Rattle.tableau_calculus.specs.declared.refutation.Refutation.{Refutation}
-use Rattle.search_spec.specs.Each.{Each}
 use Rattle.search_spec.specs.State.{Setting}
 use Rattle.search_spec.specs.Unsatisfiable.{Clause}
 use Rattle.search_spec.specs.Result.{GoesOn, IsProved, IsExhausted, IsStopped}
@@ -16,20 +15,18 @@ use Rattle.prover_state.specs.declared.command.Delays.{Delays}
 use Rattle.prover_state.specs.declared.tables.Tables.{Tables}
 use Rattle.literal_map.specs.Atoms.{bank_literal}
 use Rattle.tableau_clauses.specs.Table.{the_clauses}
-use Rattle.prover_state.specs.Internal.Standing.{setting_by, IsRightState}
-use Rattle.prover_state.specs.Internal.Steps.{IsMadeInstance}
-use Rattle.prover_search.specs.Internal.Running.{start_in}
+use Rattle.prover_state.specs.Internal.Standing.{setting_by}
+use Rattle.prover_search.specs.Internal.Running.{start_in, IsRunning}
 use Rattle.prover_run.specs.Learning.{AreRefutedWithin}
 use Rattle.prover_run.specs.Origin.{EachComesFrom, AreRefutedShortly}
 use Rattle.prover_run.specs.Ended.{IsSpent}
 use Rattle.prover_run.specs.declared.ended.Ended.{Ended}
 use Rattle.prover_run.specs.declared.ended.Ended.TheVariants.{Proved, GaveUp, CommandLimit, ConflictLimit}
 
--- the tables are right, whatever waits, and each instance is one of its rule
-pub record AreRightTables (t : Tables) : Type 0 where
+-- the tables are those of a run, whatever waits
+pub record AreRunTables (t : Tables) : Type 0 where
   pub plan : Queue Planned Delays
-  pub right : IsRightState t plan
-  pub made : Each (IsMadeInstance t.basis) t.steps.1
+  pub running : IsRunning t plan
 
 -- the clauses of formulas that the tables stand for
 abbrev pub clauses_of : Tables → List Clause

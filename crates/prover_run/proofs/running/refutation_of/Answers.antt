@@ -13,17 +13,18 @@ use Rattle.prover_run.specs.Origin.{EachComesFrom}
 use Rattle.prover_run.specs.Internal.Ends.{clauses_of}
 use Rattle.prover_run.proofs.RebuildUses.{instances-over, units-numbered, units-named, origin-named, within-named, shortly-named, ends-empty}
 use Rattle.prover_run.proofs.RunLaws.{accepted-declared}
+use Rattle.prover_run.proofs.SmallUses.{refutation-small}
 use Rattle.prover_run.proofs.running.refutation_of.Goals as goal
 
 pub rebuild-requires-clause-units : goal.rebuild-requires-clause-units
 rebuild-requires-clause-units c =
     let t = c.args.tables.now in
-    units-numbered t.basis c.requires.right.right.basis t.steps.0 c.requires.right.right.clauses
+    units-numbered t.basis c.requires.run.running.right.basis t.steps.0 c.requires.run.running.right.clauses
 
 pub rebuild-requires-clause-instances : goal.rebuild-requires-clause-instances
 rebuild-requires-clause-instances c =
     let t = c.args.tables.now in
-    instances-over t.basis c.requires.right.right.basis t.steps.1 c.requires.right.made
+    instances-over t.basis c.requires.run.running.right.basis t.steps.1 c.requires.run.running.made
 
 pub rebuild-requires-clause-closed : goal.rebuild-requires-clause-closed
 rebuild-requires-clause-closed c =
@@ -34,7 +35,7 @@ rebuild-requires-clause-closed c =
 pub returns : goal.returns
 returns c =
     let t = c.args.tables.now in
-    let r = c.requires.right.right in
+    let r = c.requires.run.running.right in
     let lines = c.in_ok-refutation.refutation.lines in
     let units = unit_literals (atoms_at t.basis.bank.terms t.basis.lits) t.steps.0 in
     let S : List Literal → Type 0 = λ ls. EachComesFrom ls (clauses_of t) lines in
@@ -47,7 +48,7 @@ returns c =
     record {
       accepted = accepted-declared t.basis.bank (start_in t) units c.in_ok-refutation.refutation (sym (units-named t.basis r.basis t.steps.0 r.clauses)) c.in_ok-refutation.ensures.accepted;
       reached = c.in_ok-refutation.ensures.reached;
-      small = c.in_ok-refutation.ensures.small;
+      small = refutation-small t c.requires.run.plan c.requires.run.running c.log-log.result.now c.clauses_come_from_origins.ensures refutation c.in_ok-refutation.ensures.in_range c.in_ok-refutation.ensures.rebuilt;
       origin = subst S (sym (units-named t.basis r.basis t.steps.0 r.clauses)) (origin-named t.basis r.basis t.steps r.clauses c.log-log.result.now units lines c.clauses_come_from_origins.ensures c.in_ok-refutation.ensures.from_search);
       within = within-named t.basis r.basis t.steps r.clauses t.solver apart_here over r.solver log.sound log.implied c.requires.propagated;
       shortly = shortly-named t.basis r.basis t.steps r.clauses t.solver apart_here over r.solver log.sound log.implied refutation c.clauses_come_from_origins.ensures c.requires.ends

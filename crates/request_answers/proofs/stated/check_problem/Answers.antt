@@ -3,4 +3,7 @@ use Rattle.request_answers.proofs.StatedLaws.{stated_has_texts}
 use Rattle.request_answers.proofs.stated.check_problem.Goals as goal
 
 pub returns-in-Ok-clause-texts : goal.returns-in-Ok-clause-texts
-returns-in-Ok-clause-texts c = stated_has_texts (the_statements c.args.gathered.now) c.in-Ok.problem c.in-Ok.ensures.read c.requires.printable
+returns-in-Ok-clause-texts c =
+    let p = c.in-Ok.problem in
+    let read = c.in-Ok.ensures.read in
+    stated_has_texts (the_statements c.args.gathered.now) p read (c.requires.modest p read) c.requires.printable

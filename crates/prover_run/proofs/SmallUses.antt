@@ -1,0 +1,73 @@
+-- The refutation of a run is small enough for a text, since the terms of a run are small.
+use Rattle.std.specs.Prelude.{◌≡◌, ℕ, List, map, Some, unwrap_or, slice_get}
+use Rattle.std.specs.Option.{ForSome}
+use Rattle.std.proofs.Common.{sym, ap, subst, ◌∙◌}
+use Rattle.std.proofs.lemmas.List.Elements.{recursion_from_All}
+use Rattle.tableau_calculus.specs.Witnesses.{Row}
+use Rattle.tableau_calculus.specs.declared.refutation.RuleUse.{RuleUse}
+use Rattle.tableau_calculus.specs.declared.refutation.RuleUse.TheVariants.{False}
+use Rattle.tableau_calculus.specs.declared.refutation.Refutation.{Refutation}
+use Rattle.sat_base.specs.declared.literal.SatLit.{SatLit}
+use Rattle.sat_log.specs.declared.log.LogEntry.{LogEntry}
+use Rattle.command_queue.specs.Queue.{Queue}
+use Rattle.search_spec.specs.Each.{Each}
+use Rattle.search_spec.specs.Numbered.{literal_at}
+use Rattle.search_spec.specs.Unsatisfiable.{Clause}
+use Rattle.tableau_clauses.specs.Table.{the_clauses, EachComes}
+use Rattle.refute_print.specs.Sizes.{IsSmallTerm, IsSmall}
+use Rattle.rebuild_spec.specs.Input.{Instance, Sourced, start_unit, clause_by, clause_in, Input, literals_of}
+use Rattle.rebuild_spec.specs.Rebuilt.{IsRebuilt}
+use Rattle.type_bound.specs.Small.{IsSmallLiteral, StateHasSmallTerms}
+use Rattle.type_bound.proofs.SmallLaws.{stay_small}
+use Rattle.small_rebuilt.specs.Small.{TakesSmall, IsSmallNumber, IsSmallSource, InputHasSmallTerms, AreNumbersInRange}
+use Rattle.small_rebuilt.proofs.SmallLaws.{rebuilt_small}
+use Rattle.small_rebuilt.proofs.RangeLaws.{in_range_small, uses_small}
+use Rattle.tableau_rebuild.specs.Tables.{atoms_at, the_sources, the_input}
+use Rattle.tableau_rebuild.proofs.SourceLaws.{instance_clause}
+use Rattle.prover_state.specs.declared.command.Planned.{Planned}
+use Rattle.prover_state.specs.declared.command.Delays.{Delays}
+use Rattle.prover_state.specs.declared.tables.Tables.{Tables}
+use Rattle.prover_state.specs.Internal.Standing.{setting_by, rows_in, the_state}
+use Rattle.prover_state.specs.Internal.Steps.{IsMadeInstance}
+use Rattle.prover_state.proofs.EachLaws.{each-unmapped, each-at, All-from_each}
+use Rattle.prover_search.specs.Internal.Running.{start_in, IsRunning}
+use Rattle.prover_run.specs.Internal.Ends.{clauses_of}
+use Rattle.prover_run.proofs.ContainsLaws.{each-contains}
+use Rattle.prover_run.proofs.OriginLaws.{named, named_there}
+use Rattle.prover_run.proofs.RebuildUses.{sources-named, instances-over}
+
+-- the literals of each clause of an input are small where the formulas that they stand for are
+numbers_small : (input : Input) → Each (Each IsSmallLiteral) (named input) → (n : ℕ) (x : Sourced) → slice_get input.clauses n ≡ Some x → Each (IsSmallNumber input) (clause_in x)
+numbers_small input small n x at =
+    each-unmapped IsSmallLiteral (literal_at input.atoms) (clause_in x) (each-contains (Each IsSmallLiteral) (named input) (literals_of input.atoms (clause_in x)) small (named_there input n x at))
+
+module _ (t : Tables) (q : Queue Planned Delays) (running : IsRunning t q) (log : List LogEntry) where
+  abbrev state_small : StateHasSmallTerms (the_state t q)
+  state_small = stay_small (setting_by t q) (start_in t) running.modest running.modest_start t.done (the_state t q) running.comes_to
+
+  abbrev input : Input
+  input = the_input t.basis.bank t.basis.lits t.steps log t.basis.witnesses
+
+  module _ (comes : EachComes t.steps) where
+    clauses_small : Each (Each IsSmallLiteral) (named input)
+    clauses_small = subst (Each (Each IsSmallLiteral)) (sym (sources-named t.basis running.right.basis t.steps running.right.clauses comes)) state_small.clauses
+
+    -- what the rule of an instance takes is small
+    rule_small : (n : ℕ) (clause : List SatLit) (i : Instance) → slice_get input.clauses n ≡ Some (clause_by clause i) → TakesSmall i.rule
+    rule_small n clause i at =
+        let b = t.basis.bank in
+        let from = instance_clause b t.basis.lits t.steps t.basis.witnesses comes (instances-over t.basis running.right.basis t.steps.1 running.made) n clause i at in
+        let made = each-at (IsMadeInstance t.basis) t.steps.1 from.number from.kept running.made from.there in
+        let same : from.over.rule ≡ i.rule = ap (λ o. unwrap_or o (False 0)) (sym from.over.is_rule) ∙ ap (λ (x : Instance). x.rule) from.same in
+        subst TakesSmall same (uses_small b.terms t.basis.lits from.kept.by from.over.rule from.over.is_rule (λ is_cut. absurd (made.uncut is_cut)) made.small)
+
+    source_small : (n : ℕ) (x : Sourced) → slice_get input.clauses n ≡ Some x → IsSmallSource input x
+    source_small n (start_unit l) at = (numbers_small input clauses_small n (start_unit l) at).0
+    source_small n (clause_by clause i) at = (numbers_small input clauses_small n (clause_by clause i) at, rule_small n clause i at)
+
+    -- what is rebuilt of a run's tables is small enough for a text
+    pub refutation-small : (refutation : Refutation) → AreNumbersInRange refutation → IsRebuilt input refutation → IsSmall refutation
+    refutation-small refutation in_range rebuilt =
+        let P : Row → Type 0 = λ r. IsSmallTerm r.predicate in
+        let given : InputHasSmallTerms input = record { clauses = source_small; rows = recursion_from_All P (rows_in t.basis) (All-from_each P (rows_in t.basis) state_small.rows) } in
+        in_range_small refutation in_range (rebuilt_small input refutation given rebuilt)
