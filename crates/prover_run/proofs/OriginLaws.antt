@@ -37,7 +37,7 @@ mentioned-in (l ∷ c) v h =
 -- LINES
 
 module _ (input : Input) where
-  abbrev pub numbered : List (List SatLit)
+  abbrev numbered : List (List SatLit)
   numbered = map clause_in input.clauses
 
   abbrev pub named : List Clause
