@@ -4,7 +4,6 @@ use Rattle.std.specs.Option.{ForSome}
 use Rattle.std.proofs.Common.{sym, ap, ap₂, ◌∙◌, subst, arith, append-nil, length-append}
 use Rattle.sat_base.specs.declared.literal.SatLit.{SatLit}
 use Rattle.refute_print.specs.Sizes.{IsSmallTerm}
-use Rattle.stt_core.specs.Lambda.{Lambda}
 use Rattle.search_spec.specs.Each.{Each}
 use Rattle.search_spec.specs.Clauses.{with_clauses}
 use Rattle.search_spec.specs.Numbered.{numbers}

@@ -1,6 +1,6 @@
 use Rattle.std.proofs.Common.{◌≡◌, ◌<◌, ◌≤◌, ◌-◌, ℕ, List, [], length, take, slice_get, Some, sym, ap, ap₂, ◌∙◌, arith}
 use Rattle.std.proofs.lemmas.Option.{slice_get-get_or}
-use Rattle.stt_core.specs.Lambda.{bound, constant, name}
+use Rattle.stt_core.specs.Lambda.{bound}
 use Rattle.tableau_calculus.specs.Witnesses.{with_rows}
 use Rattle.search_spec.specs.Heads.{places_to, heads_for}
 use Rattle.search_spec.specs.Partial.{first_hole}

@@ -1,7 +1,6 @@
-use Rattle.std.proofs.Common.{◌≡◌, ◌<◌, ◌-◌, ltb, rules, ℕ, List, length, map, slice_get, Some, sym, ap, subst, ◌∙◌, arith}
+use Rattle.std.proofs.Common.{◌≡◌, ◌<◌, ◌-◌, ltb, rules, ℕ, List, length, map, slice_get, sym, ap, subst, ◌∙◌, arith}
 use Rattle.std.specs.List.Sorted.{IsNonDecreasingBy}
 use Rattle.std.proofs.lemmas.List.Sorted.{IsPartitionedBy-ltb, IsPartitionPoint-from_clause}
-use Rattle.stt_core.specs.Lambda.{constant, witness}
 use Rattle.tableau_calculus.specs.Witnesses.{Row}
 use Rattle.prover_state.specs.Internal.Fitting.{logical_for, SplitsAt}
 use Rattle.prover_state.specs.Internal.Heads.{the_hole_head}
