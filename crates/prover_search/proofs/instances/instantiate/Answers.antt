@@ -1,8 +1,6 @@
-use Rattle.std.proofs.Common.{◌≤◌, refl, subst, ◌∙◌, arith}
+use Rattle.std.proofs.Common.{refl, ◌∙◌, arith}
 use Rattle.std.proofs.lemmas.Bool.{le-leb, lt-leb}
-use Rattle.std.proofs.lemmas.Option.{same_Some}
 use Rattle.stt_core.specs.Depth.{depth}
-use Rattle.refute_print.specs.Sizes.{IsSmallTerm}
 use Rattle.term_bank.specs.Terms.{term_at}
 use Rattle.prover_state.specs.Internal.Standing.{scope_by, setting_by, the_state}
 use Rattle.prover_search.proofs.DevelopLaws.{develops-same}
@@ -20,12 +18,6 @@ returns-then-depth-gt-DEPTH-clause-state g c =
 
 pub apply_rule-requires-clause-fits : goal.apply_rule-requires-clause-fits
 apply_rule-requires-clause-fits g c = (_, inst-fits c.args.core.now.tables.basis c.requires.right.basis c.args.lit c.args.id c.requires.typed)
-
-pub apply_rule-requires-clause-small : goal.apply_rule-requires-clause-small
-apply_rule-requires-clause-small g c =
-    let terms = c.args.core.now.tables.basis.bank.terms in
-    let deep : depth (term_at terms c.args.id) ≤ 4096 = omega (arith, c.depth.ensures, c.if-depth-gt-DEPTH.false) in
-    λ u e. subst (λ v. IsSmallTerm (term_at terms v)) (same_Some c.args.id u e) (record { terms = deep; types = c.requires.small })
 
 pub returns-clause-state : goal.returns-clause-state
 returns-clause-state g c =
