@@ -4,6 +4,7 @@
 #![tactic(auto)]
 
 ghost use Rattle.stt_core.specs.TypedProblem.{IsTyped};
+ghost use Rattle.type_bound.specs.Modest.{IsModestProblem};
 
 mod problem;
 mod row;
@@ -19,7 +20,8 @@ use stt_core::Problem;
 
 /// What is told of the run over a row's problem.
 fn told(alloc: Global, problem: &Problem, row: &Row) -> Result<String, Error>
-    requires { IsTyped problem.now }
+    requires typed { IsTyped problem.now }
+    requires modest { IsModestProblem 1024 problem.now }
 {
     match row.told {
         Told::Commands => trace::trace(alloc, problem, &row.mode),

@@ -1,6 +1,7 @@
 //! Runs to their end.
 
 ghost use Rattle.stt_core.specs.TypedProblem.{IsTyped};
+ghost use Rattle.type_bound.specs.Modest.{IsModestProblem};
 
 use anyhow::bail;
 use mode_file::Mode;
@@ -53,7 +54,8 @@ fn line_of(alloc: Global, ended: &Ended) -> anyhow::Result<String> {
 
 /// How the run over a problem ends, without a check of the refutation.
 pub fn alone(alloc: Global, problem: &Problem, mode: &Mode) -> anyhow::Result<String>
-    requires { IsTyped problem.now }
+    requires typed { IsTyped problem.now }
+    requires modest { IsModestProblem 1024 problem.now }
 {
     let ended = run(alloc, problem, mode)?;
     let line = line_of(alloc, &ended);
@@ -73,7 +75,8 @@ fn checked_line(alloc: Global, problem: &Problem, ended: &Ended) -> anyhow::Resu
 
 /// How the run over a problem ends.
 pub fn end(alloc: Global, problem: &Problem, mode: &Mode) -> anyhow::Result<String>
-    requires { IsTyped problem.now }
+    requires typed { IsTyped problem.now }
+    requires modest { IsModestProblem 1024 problem.now }
 {
     let ended = run(alloc, problem, mode)?;
     let line = checked_line(alloc, problem, &ended);
@@ -95,7 +98,8 @@ fn line_and_text(alloc: Global, problem: &Problem, ended: &Ended) -> anyhow::Res
 
 /// How the run over a problem ends, with the text of the refutation.
 pub fn text(alloc: Global, problem: &Problem, mode: &Mode) -> anyhow::Result<String>
-    requires { IsTyped problem.now }
+    requires typed { IsTyped problem.now }
+    requires modest { IsModestProblem 1024 problem.now }
 {
     let ended = run(alloc, problem, mode)?;
     let text = line_and_text(alloc, problem, &ended);

@@ -2,6 +2,7 @@
 
 ghost use Rattle.std.specs.Prelude.{◌≡◌, ◌+◌, false};
 ghost use Rattle.stt_core.specs.TypedProblem.{IsTyped};
+ghost use Rattle.type_bound.specs.Modest.{IsModestProblem};
 ghost use Rattle.prover_state.specs.Delays.{delay_by};
 ghost use Rattle.prover_search.specs.Internal.Running.{IsUnderWay};
 
@@ -54,6 +55,7 @@ fn trace_by<W: Weigher<Waiting>>(
     weigher: W,
 ) -> anyhow::Result<String>
     requires typed { IsTyped problem.now }
+    requires modest { IsModestProblem 1024 problem.now }
     requires callable { W.is_callable weigher }
     requires answers { W.answers weigher (λ waiting now. now + delay_by mode.now waiting.first) }
 {
@@ -65,7 +67,8 @@ fn trace_by<W: Weigher<Waiting>>(
 
 /// What there is after each command of the run over a problem, and how the run ends.
 pub fn trace(alloc: Global, problem: &Problem, mode: &Mode) -> anyhow::Result<String>
-    requires { IsTyped problem.now }
+    requires typed { IsTyped problem.now }
+    requires modest { IsModestProblem 1024 problem.now }
 {
     let by = *mode;
     trace_by(alloc, problem, mode, |waiting: &Waiting, now: u64| {
