@@ -7,12 +7,13 @@ use Rattle.cli_words.specs.Names.{is_file_name, is_positive_decimal, number_to}
 use Rattle.outside.specs.Decimal.{is_digit, number_from}
 use Rattle.cli_words.specs.declared.options.OptionName.TheVariants.{Mode, Check, Demo}
 use Rattle.cli_words.specs.Line.{is_taken}
-use Rattle.cli_words.specs.Requests.{WordEntry, value, problem, Request, prove, refutation, generated, naming, asked, entries_in, asked_by}
+use Rattle.cli_words.specs.Requests.{WordEntry, value, flag, problem, Request, prove, refutation, generated, sides, naming, asked, entries_in, asked_by}
 
 -- the problem's name is the name of a file, or its number is from 1 to 1000
 abbrev pub IsNamed : Request → Type 0
 IsNamed (prove p mode) = is_file_name p ≡ true
 IsNamed (refutation text p) = is_file_name p ≡ true
+IsNamed (sides p) = is_file_name p ≡ true
 IsNamed (generated n) = (0 < n) × (n ≤ 1000)
 
 -- a request is that of its names, each of which is the name of a file
@@ -25,6 +26,9 @@ naming-parts names r s h = go (list_all is_file_name names) refl h
 
 first_named : (p : List ℕ) (mode : Option (List ℕ)) (r : Request) → naming (p ∷ []) (prove p mode) ≡ Some r → IsNamed r
 first_named p mode r h = let q = naming-parts (p ∷ []) (prove p mode) r h in subst IsNamed q.1 (and_parts (is_file_name p) true q.0).0
+
+sides_named : (p : List ℕ) (r : Request) → naming (p ∷ []) (sides p) ≡ Some r → IsNamed r
+sides_named p r h = let q = naming-parts (p ∷ []) (sides p) r h in subst IsNamed q.1 (and_parts (is_file_name p) true q.0).0
 
 second_named : (first p : List ℕ) (s r : Request) → (is_file_name p ≡ true → IsNamed s) → naming (first ∷ p ∷ []) s ≡ Some r → IsNamed r
 second_named first p s r named h =
@@ -62,14 +66,21 @@ asked_named : (es : List WordEntry) (r : Request) → asked es ≡ Some r → Is
 asked_named [] r h = cc
 asked_named (problem p ∷ []) r h = first_named p None r h
 asked_named (problem p ∷ e ∷ es) r h = cc
+asked_named (flag ∷ []) r h = cc
+asked_named (flag ∷ problem p ∷ []) r h = sides_named p r h
+asked_named (flag ∷ problem p ∷ e ∷ es) r h = cc
+asked_named (flag ∷ flag ∷ es) r h = cc
+asked_named (flag ∷ value o v ∷ es) r h = cc
 asked_named (value Mode m ∷ []) r h = cc
 asked_named (value Mode m ∷ problem p ∷ []) r h = second_named m p (prove p (Some m)) r (λ x. x) h
 asked_named (value Mode m ∷ problem p ∷ e ∷ es) r h = cc
 asked_named (value Mode m ∷ value o v ∷ es) r h = cc
+asked_named (value Mode m ∷ flag ∷ es) r h = cc
 asked_named (value Check t ∷ []) r h = cc
 asked_named (value Check t ∷ problem p ∷ []) r h = second_named t p (refutation t p) r (λ x. x) h
 asked_named (value Check t ∷ problem p ∷ e ∷ es) r h = cc
 asked_named (value Check t ∷ value o v ∷ es) r h = cc
+asked_named (value Check t ∷ flag ∷ es) r h = cc
 asked_named (value Demo n ∷ []) r h = generated_named n r h
 asked_named (value Demo n ∷ e ∷ es) r h = cc
 

@@ -10,11 +10,11 @@ use Rattle.clap.specs.declared.builder.value_parser.Reading.TheVariants.{AsWritt
 use Rattle.clap.specs.declared.parser.matches.ValueSource.TheVariants.{CommandLine}
 use Rattle.cli_words.specs.declared.options.OptionName.{OptionName}
 use Rattle.cli_words.specs.declared.options.OptionName.TheVariants.{Mode, Check, Demo}
-use Rattle.cli_words.specs.Options.{options, option_name}
+use Rattle.cli_words.specs.Options.{options, option_name, same_name}
 use Rattle.cli_words.specs.Line.{line, is_nil, is_taken, value_in}
 use Rattle.cli_words.specs.Names.{number_to}
-use Rattle.cli_words.specs.Requests.{WordEntry, value, problem, asked, asked_by, given, entries_in, naming, prove, refutation, generated}
-use Rattle.cli_words.specs.Rows.{is_hyphened, AsksAlone, AsksBeside}
+use Rattle.cli_words.specs.Requests.{WordEntry, value, problem, asked, asked_by, given, given_flag, entries_in, naming, prove, refutation, generated, sides}
+use Rattle.cli_words.specs.Rows.{is_hyphened, AsksAlone, AsksBeside, AsksFlagged}
 
 abbrev top : Shape
 top = (built line).top
@@ -133,7 +133,7 @@ values_of rows [] = []
 values_of rows (o ∷ os) = given (value o) (first_of (option_name o) rows) ++ values_of rows os
 
 abbrev entries_of : List Row → List WordEntry
-entries_of rows = values_of rows options ++ given problem (first_of (codes "problem") rows)
+entries_of rows = values_of rows options ++ (given_flag (first_of same_name rows) ++ given problem (first_of (codes "problem") rows))
 
 -- the words lead to this state, without a fault
 record Leads (words : List Text) (end : Walk) : Type 0 where
@@ -232,4 +232,38 @@ unfolding state row
 demo_row n = record {
   next = λ h. asked_at _ _ (two_words _ _ _ _ (option_turn Demo) (value_turn Demo [] 1 n h)) (value_end Demo n);
   attached = asked_at _ _ (one_word _ _ (attached_turn Demo n)) (attached_end Demo n);
+}
+
+-- THE OPTION WITHOUT A VALUE
+
+-- what is held where it was read
+abbrev flag_row : Row
+flag_row = row same_name (codes "true")
+
+flag_turn : Turn (walk_from nothing_held) (codes "--" ++ same_name) (state (flag_row ∷ []) None idle 1)
+unfolding clap_on_literals state row
+flag_turn = record { goes = refl; faultless = refl }
+
+flag_turn_behind : (p : Text) → Turn (at_problem p) (codes "--" ++ same_name) (state (row (codes "problem") p ∷ flag_row ∷ []) None idle 2)
+unfolding clap_on_literals state row
+flag_turn_behind p = record { goes = refl; faultless = refl }
+
+last_turn_flagged : (p : Text) → is_hyphened p ≡ false → Turn (state (flag_row ∷ []) None idle 1) p (state (flag_row ∷ []) (Some (codes "problem", p ∷ [])) idle 2)
+unfolding clap_on_literals state row
+last_turn_flagged [] h = record { goes = refl; faultless = refl }
+last_turn_flagged (c ∷ cs) h = record { goes = simp h; faultless = simp h }
+
+flagged_end : (p : Text) → end_fault (state (flag_row ∷ []) (Some (codes "problem", p ∷ [])) idle 2) ≡ []
+unfolding clap_on_literals state row
+flagged_end p = refl
+
+flagged_end_behind : (p : Text) → end_fault (state (row (codes "problem") p ∷ flag_row ∷ []) None idle 2) ≡ []
+unfolding clap_on_literals state row
+flagged_end_behind p = refl
+
+pub same_row : (p : List ℕ) → is_hyphened p ≡ false → AsksFlagged (codes "same") p (naming (p ∷ []) (sides p))
+unfolding state row
+same_row p k = record {
+  before = asked_at _ _ (two_words _ _ _ _ flag_turn (last_turn_flagged p k)) (flagged_end p);
+  behind = asked_at _ _ (two_words _ _ _ _ (problem_turn p k) (flag_turn_behind p)) (flagged_end_behind p);
 }

@@ -34,11 +34,15 @@ pub enum Asked<'a> {
     Demo {
         n: u32,
     },
+    /// Ask whether the two sides of the problem's conjecture are convertible.
+    Same {
+        problem: &'a str,
+    },
 }
 
 #[derive(Clone, Copy, Debug, PartialEq, Eq, Error)]
 pub enum WordsRefused {
-    #[error("usage: satallax [--mode FILE] [--check FILE] [--demo N] PROBLEM")]
+    #[error("usage: satallax [--mode FILE] [--check FILE] [--demo N] [--same] PROBLEM")]
     Words,
     #[error("no memory for the words")]
     Memory,

@@ -13,6 +13,9 @@ pub(crate) enum OptionName {
 /// The options, in the order in which the usage line has them.
 pub(crate) const OPTIONS: [OptionName; 3] = [OptionName::Mode, OptionName::Check, OptionName::Demo];
 
+/// The option that takes no value.
+pub(crate) const SAME: &str = "same";
+
 impl OptionName {
     /// What stands behind the two hyphens.
     pub(crate) fn name(self) -> &'static str

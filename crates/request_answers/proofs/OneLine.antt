@@ -7,7 +7,7 @@ use Rattle.std.proofs.lemmas.Bool.{and_parts, eqb-true}
 use Rattle.std.proofs.lemmas.Bool.Decides.{nat_tests}
 use Rattle.refute_text.specs.Reading.{is_one_line}
 use Rattle.cli_words.specs.Names.{is_control, is_file_name}
-use Rattle.cli_words.specs.Requests.{Request, prove, refutation, generated, asked_by}
+use Rattle.cli_words.specs.Requests.{Request, prove, refutation, generated, sides, asked_by}
 use Rattle.cli_words.proofs.RequestLaws.{IsNamed, asked_by-named}
 use Rattle.request_answers.specs.Requested.{problem_name, asked_name, IsGenerable}
 
@@ -70,6 +70,7 @@ request_one_line : (r : Request) → IsNamed r → is_one_line (problem_name r) 
 request_one_line (prove p mode) h = file_name-one_line p h
 request_one_line (refutation text p) h = file_name-one_line p h
 request_one_line (generated n) h = demo_one_line n
+request_one_line (sides p) h = file_name-one_line p h
 
 -- the name by which a report calls the problem is one line
 pub name_one_line : (words : List (List ℕ)) (r : Request) → asked_by words ≡ Some r → is_one_line (asked_name words) ≡ true
@@ -82,3 +83,4 @@ asked_generable words r h = go r (asked_by-named words r h)
     go (prove p mode) k = tt
     go (refutation text p) k = tt
     go (generated n) k = k
+    go (sides p) k = tt

@@ -1,5 +1,6 @@
 pub use Rattle.cli_words.specs.Requests
 pub use Rattle.cli_words.specs.View as CliWordsView
+pub use Rattle.conv_laws.specs.Sides
 pub use Rattle.delta_defs.specs.Unfolding
 pub use Rattle.mode_file.specs.Given
 pub use Rattle.mode_file.specs.Grammar
@@ -32,6 +33,7 @@ pub mod Names
 pub mod Files
 pub mod Modes
 pub mod Checked
+pub mod Compared
 pub mod Solved
 pub mod Answers
 pub mod Causes

@@ -7,6 +7,7 @@ mod law;
 mod limits;
 mod mode;
 mod request;
+mod sides;
 mod solve;
 mod stated;
 

@@ -9,10 +9,10 @@ use Rattle.outside.specs.Lines.{lines_of}
 use Rattle.mode_file.specs.Grammar.{States}
 use Rattle.mode_file.specs.Refusals.{Refuses}
 use Rattle.mode_file.proofs.AnswerLaws.{one_mode, one_refusal as one_bad_line, not_both_answers}
-use Rattle.cli_words.specs.Requests.{Request, prove, refutation, generated, asked_by}
+use Rattle.cli_words.specs.Requests.{Request, prove, refutation, generated, sides, asked_by}
 use Rattle.szs_report.specs.Outcomes.{outcome_of, without_refutation}
 use Rattle.szs_report.specs.declared.answer.Answer.{Answer}
-use Rattle.szs_report.specs.declared.answer.Answer.TheVariants.{Proved, ConflictLimit, Accepted, Refused, ModeAt, Words, TooLong, ReadFault, Memory, UnreadWords}
+use Rattle.szs_report.specs.declared.answer.Answer.TheVariants.{Proved, ConflictLimit, Accepted, Refused, Same, Different, NoEquation, ModeAt, Words, TooLong, ReadFault, Memory, UnreadWords}
 use Rattle.szs_report.specs.declared.answer.NamedFile.TheVariants.{Mode, Check}
 use Rattle.szs_report.specs.declared.outcome.ModeWhy.{ModeWhy}
 use Rattle.szs_report.specs.declared.outcome.ModeWhy.TheVariants.{UnknownKey, Twice, BadNumber, OutOfRange}
@@ -22,6 +22,11 @@ use Rattle.outside.specs.Limits.{byte_limit}
 use Rattle.request_answers.specs.Internal.RefusedModes.{mode_answer}
 use Rattle.request_answers.specs.Checked.{IsAcceptedText, IsRefusedText, AnswersBytes, AnswersText}
 use Rattle.request_answers.specs.Answers.{AnswersProblem, AnswersStated, AnswersEnding, AnswersFiles, AnswersAsked, IsSettled, Defined}
+use Rattle.conv_laws.specs.Sides.{AreSidesOf}
+use Rattle.conv_laws.specs.declared.sides.Sides.{Sides}
+use Rattle.conv_laws.specs.declared.sides.Sides.TheVariants as compared
+use Rattle.conv_laws.proofs.SideLaws.{one_said}
+use Rattle.request_answers.specs.Compared.{AnswersSides}
 use Rattle.request_answers.proofs.CheckedLaws.{accepted_not_refused, one_refusal}
 use Rattle.request_answers.proofs.RunEnds.{solved-same, demoed-same}
 use Rattle.satallax_top.proofs.ToldFiles.{IsFinal, one_told}
@@ -72,12 +77,34 @@ text_same contents file p a b h k =
     go one (inr x) (inl y) = absurd (omega (arith, x.0, y.1, ap length one))
     go one (inr x) (inr y) = bytes_same p k.bytes a b (subst (λ bs. BytesAnswer p bs a) one x.1) y.1
 
+-- what the two sides of a conjecture are answered with
+abbrev compared_answer : Sides → Answer
+compared_answer compared.Same = Same
+compared_answer compared.Different = Different
+compared_answer compared.NoEquation = NoEquation
+
+record IsComparison (p : PlainProblem) (a : Answer) : Type 0 where
+  found : Sides
+  holds : AreSidesOf p sides
+  is : a ≡ compared_answer found
+
+comparison_of : (p : PlainProblem) (a : Answer) → IsSettled a → AnswersSides p a → IsComparison p a
+comparison_of p Memory w h = absurd w
+comparison_of p Same w h = record { found = compared.Same; holds = h; is = refl }
+comparison_of p Different w h = record { found = compared.Different; holds = h; is = refl }
+comparison_of p NoEquation w h = record { found = compared.NoEquation; holds = h; is = refl }
+comparison_of p a w h = absurd h
+
+compared_same : (p : PlainProblem) (a b : Answer) → IsComparison p a → IsComparison p b → a ≡ b
+compared_same p a b h k = h.is ∙ ap compared_answer (one_said p h.found k.found h.holds k.holds) ∙ sym k.is
+
 -- a problem that is read is answered in one way
 problem_same : (r : Request) (m : SearchMode) (contents : List ℕ → Option (List ℕ)) (p : PlainProblem) (a b : Answer) → IsSettled a → IsSettled b
     → AnswersProblem true contents r m p a → AnswersProblem true contents r m p b → without_refutation a ≡ without_refutation b
 problem_same (prove p file) m contents q a b w v h k = solved-same m q a b w v h k
 problem_same (refutation file p) m contents q a b w v h k = ap without_refutation (text_same contents file q a b (text_read contents file q a w h) (text_read contents file q b v k))
 problem_same (generated n) m contents q a b w v h k = demoed-same m q a b w v h k
+problem_same (sides p) m contents q a b w v h k = ap without_refutation (compared_same q a b (comparison_of q a w h) (comparison_of q b v k))
 
 stated_same : (r : Request) (m : SearchMode) (contents : List ℕ → Option (List ℕ)) (names : List (List ℕ)) (a b : Answer) (o : Result PlainProblem IllInFile) → IsSettled a → IsSettled b
     → AnswersStated (AnswersProblem true contents r m) names a o → AnswersStated (AnswersProblem true contents r m) names b o → without_refutation a ≡ without_refutation b
@@ -148,6 +175,7 @@ told_true : (r : Request) → told_of true r ≡ true
 told_true (prove p file) = refl
 told_true (refutation file p) = refl
 told_true (generated n) = refl
+told_true (sides p) = refl
 
 files_same : (r : Request) (contents : List ℕ → Option (List ℕ)) (a b : Answer) → IsSettled a → IsSettled b
     → AnswersFiles r true contents a → AnswersFiles r true contents b → without_refutation a ≡ without_refutation b

@@ -1,4 +1,5 @@
 pub use Rattle.cli_words.specs.Requests
+pub use Rattle.conv_laws.specs.Sides
 pub use Rattle.delta_defs.specs.Unfolding
 pub use Rattle.outside.specs.Causes as OutsideCauses
 pub use Rattle.outside.specs.Prefix
@@ -9,6 +10,7 @@ pub use Rattle.refute_print.specs.Text
 pub use Rattle.request_answers.specs.Answers
 pub use Rattle.request_answers.specs.Causes as RequestAnswersCauses
 pub use Rattle.request_answers.specs.Checked
+pub use Rattle.request_answers.specs.Compared
 pub use Rattle.request_answers.specs.Files
 pub use Rattle.request_answers.specs.Modes
 pub use Rattle.request_answers.specs.Names

@@ -65,6 +65,12 @@ pub enum Answer {
         line: usize,
         why: Why,
     },
+    /// The two sides of the conjecture are convertible.
+    Same,
+    /// The two sides of the conjecture aren't convertible.
+    Different,
+    /// There is no conjecture, or it is no equation.
+    NoEquation,
     /// The file's tokens are wrong at this one, or too much is open there.
     SyntaxAt {
         file: NamedFile,
@@ -199,6 +205,9 @@ impl Answer {
                 line: *line,
                 why: *why,
             },
+            Answer::Same => Outcome::Same,
+            Answer::Different => Outcome::Different,
+            Answer::NoEquation => Outcome::NoEquation,
             Answer::SyntaxAt { file, at } => syntax_outcome(file, *at),
             Answer::TypeAt { file, at, why } => type_outcome(file, *at, *why),
             Answer::IncludeAt { file, at, why } => include_outcome(file, *at, *why),

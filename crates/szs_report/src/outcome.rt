@@ -67,6 +67,12 @@ pub enum Outcome {
         line: usize,
         why: Why,
     },
+    /// The two sides of the conjecture are convertible.
+    Same,
+    /// The two sides of the conjecture aren't convertible.
+    Different,
+    /// There is no conjecture, or it is no equation.
+    NoEquation,
     /// The file's tokens are wrong at this one, or too much is open there.
     SyntaxAt {
         file: FileRef,
@@ -113,10 +119,13 @@ impl Outcome {
     {
         match self {
             Outcome::Theorem | Outcome::Unsatisfiable | Outcome::DemoDone | Outcome::Accepted => 0,
+            Outcome::Same => 0,
             Outcome::GaveUp => 1,
             Outcome::CommandLimit { .. } => 2,
             Outcome::ConflictLimit { .. } => 3,
             Outcome::Refused { .. } => 4,
+            Outcome::Different => 7,
+            Outcome::NoEquation => 8,
             Outcome::SyntaxAt { .. } => 10,
             Outcome::TypeAt { .. } => 11,
             Outcome::IncludeAt { .. } => 12,

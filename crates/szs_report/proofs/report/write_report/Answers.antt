@@ -10,7 +10,16 @@ pub returns-in-CommandLimit-clause-appended : goal.returns-in-CommandLimit-claus
 returns-in-CommandLimit-clause-appended g c = rw (c.in-CommandLimit.is) c.write_numbered-in-CommandLimit.ensures.appended
 
 pub returns-in-Accepted-clause-appended : goal.returns-in-Accepted-clause-appended
-returns-in-Accepted-clause-appended g c = rw (c.in-Accepted.is) c.write_accepted.ensures.appended
+returns-in-Accepted-clause-appended g c = rw (c.in-Accepted.is) c.write_line.ensures.appended
+
+pub returns-in-Same-clause-appended : goal.returns-in-Same-clause-appended
+returns-in-Same-clause-appended g c = rw (c.in-Same.is) c.write_line-in-Same.ensures.appended
+
+pub returns-in-Different-clause-appended : goal.returns-in-Different-clause-appended
+returns-in-Different-clause-appended g c = rw (c.in-Different.is) c.write_line-in-Different.ensures.appended
+
+pub returns-in-NoEquation-clause-appended : goal.returns-in-NoEquation-clause-appended
+returns-in-NoEquation-clause-appended g c = rw (c.in-NoEquation.is) c.write_line-in-NoEquation.ensures.appended
 
 pub returns-in-Refused-clause-appended : goal.returns-in-Refused-clause-appended
 returns-in-Refused-clause-appended g c = rw (c.in-Refused.is) c.write_refusal.ensures.appended
