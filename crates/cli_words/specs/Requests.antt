@@ -4,7 +4,7 @@ use Rattle.std.specs.List.{list_all}
 use Rattle.std.specs.Option.{option_to_list}
 use Rattle.std.specs.Str.{bytes_eq}
 use Rattle.cli_words.specs.declared.options.OptionName.{OptionName}
-use Rattle.cli_words.specs.declared.options.OptionName.TheVariants.{Mode, Check, Demo}
+use Rattle.cli_words.specs.declared.options.OptionName.TheVariants.{Mode, Check, Demo, Models}
 use Rattle.cli_words.specs.Options.{options, option_name, same_name}
 use Rattle.cli_words.specs.Line.{is_taken, value_in}
 use Rattle.cli_words.specs.Names.{is_file_name, number_to}
@@ -15,17 +15,23 @@ pub data WordEntry : Type 0 where
   flag : WordEntry
   problem : List ℕ → WordEntry
 
--- prove a problem, with a mode or the standard mode; check a refutation's text against a problem; make and prove a problem; ask
--- whether the two sides of a problem's conjecture are convertible
+-- prove a problem, with a mode or the standard mode; check a refutation's text against a problem; make and prove a problem; look for a
+-- model of at most so many values for each base type; ask whether the two sides of a problem's conjecture are convertible
 pub data Request : Type 0 where
   prove : List ℕ → Option (List ℕ) → Request
   refutation : List ℕ → List ℕ → Request
   generated : ℕ → Request
+  models : ℕ → List ℕ → Request
   sides : List ℕ → Request
 
 -- the request, where these are names of files
 abbrev pub naming : List (List ℕ) → Request → Option Request
 naming names r = if list_all is_file_name names then Some r else None
+
+-- a search for models within a bound, where there is one
+abbrev pub models_asked : Option ℕ → List ℕ → Option Request
+models_asked None p = None
+models_asked (Some upto) p = naming (p ∷ []) (models upto p)
 
 -- what is asked for by the entries that the words give
 abbrev pub asked : List WordEntry → Option Request
@@ -33,6 +39,7 @@ asked (problem p ∷ []) = naming (p ∷ []) (prove p None)
 asked (value Mode m ∷ problem p ∷ []) = naming (m ∷ p ∷ []) (prove p (Some m))
 asked (value Check text ∷ problem p ∷ []) = naming (text ∷ p ∷ []) (refutation text p)
 asked (value Demo number ∷ []) = option_map generated (number_to 1000 number)
+asked (value Models upto ∷ problem p ∷ []) = models_asked (number_to 8 upto) p
 asked (flag ∷ problem p ∷ []) = naming (p ∷ []) (sides p)
 asked _ = None
 

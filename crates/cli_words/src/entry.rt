@@ -1,6 +1,6 @@
 //! The table of what words may ask for.
 ghost use Rattle.std.specs.Prelude.{◌≡◌, [], ◌∷◌, map, option_map, Some, None, if◌then◌else◌};
-ghost use Rattle.cli_words.specs.Requests.{asked, naming, prove, refutation, generated, sides};
+ghost use Rattle.cli_words.specs.Requests.{asked, naming, models_asked, prove, refutation, generated, sides};
 ghost use Rattle.cli_words.specs.Names.{number_to};
 ghost use Rattle.cli_words.specs.View.{the_entry, the_request};
 
@@ -60,7 +60,7 @@ fn option_alone<'a>(option: OptionName, value: &'a str) -> Option<Asked<'a>>
 {
     match option {
         OptionName::Demo => demo(value),
-        OptionName::Mode | OptionName::Check => None,
+        OptionName::Mode | OptionName::Check | OptionName::Models => None,
     }
 }
 
@@ -75,6 +75,7 @@ fn option_with_problem<'a>(
     match option {
         OptionName::Mode => prove_with_mode(value, problem),
         OptionName::Check => check(value, problem),
+        OptionName::Models => models(value, problem),
         OptionName::Demo => None,
     }
 }
@@ -120,6 +121,17 @@ fn demo<'a>(number: &str) -> Option<Asked<'a>>
 {
     let n = number_to(1000, number)?;
     Some(Asked::Demo { n })
+}
+
+fn models<'a>(upto: &str, problem: &'a str) -> Option<Asked<'a>>
+    ensures { option_map the_request result ≡ models_asked (number_to 8 upto.now) problem.entry.now }
+{
+    let upto = number_to(8, upto)?;
+    if is_file_name(problem) {
+        Some(Asked::Models { upto, problem })
+    } else {
+        None
+    }
 }
 
 fn compare<'a>(problem: &'a str) -> Option<Asked<'a>>

@@ -8,10 +8,16 @@ pub(crate) enum OptionName {
     Mode,
     Check,
     Demo,
+    Models,
 }
 
 /// The options, in the order in which the usage line has them.
-pub(crate) const OPTIONS: [OptionName; 3] = [OptionName::Mode, OptionName::Check, OptionName::Demo];
+pub(crate) const OPTIONS: [OptionName; 4] = [
+    OptionName::Mode,
+    OptionName::Check,
+    OptionName::Demo,
+    OptionName::Models,
+];
 
 /// The option that takes no value.
 pub(crate) const SAME: &str = "same";
@@ -25,6 +31,7 @@ impl OptionName {
             OptionName::Mode => "mode",
             OptionName::Check => "check",
             OptionName::Demo => "demo",
+            OptionName::Models => "models",
         }
     }
 }

@@ -7,7 +7,7 @@ use Rattle.thf_include.specs.Gathering.{Ending, done, stopped, Stop, wants, too_
 use Rattle.type_check.specs.Statements.{IllInFile, problem_of}
 use Rattle.mode_file.specs.declared.Mode.{Mode}
 use Rattle.mode_file.specs.Given.{nothing_given, mode_of}
-use Rattle.cli_words.specs.Requests.{Request, prove, refutation, generated, sides}
+use Rattle.cli_words.specs.Requests.{Request, prove, refutation, generated, models, sides}
 use Rattle.problem_gen.specs.Chain.{text}
 use Rattle.szs_report.specs.Outcomes.{outcome_of}
 use Rattle.szs_report.specs.declared.answer.Answer.{Answer}
@@ -50,6 +50,9 @@ problem_not_mode told contents (refutation t q) m p (ModeAt line why) o h = h.ho
 problem_not_mode told contents (generated n) m p (ReadFault (named.Mode f)) o h = h
 problem_not_mode told contents (generated n) m p (TooLong (named.Mode f)) o h = h
 problem_not_mode told contents (generated n) m p (ModeAt line why) o h = h
+problem_not_mode told contents (models k q) m p (ReadFault (named.Mode f)) o h = h
+problem_not_mode told contents (models k q) m p (TooLong (named.Mode f)) o h = h
+problem_not_mode told contents (models k q) m p (ModeAt line why) o h = h
 problem_not_mode told contents (sides q) m p (ReadFault (named.Mode f)) o h = h
 problem_not_mode told contents (sides q) m p (TooLong (named.Mode f)) o h = h
 problem_not_mode told contents (sides q) m p (ModeAt line why) o h = h
@@ -148,6 +151,9 @@ no_text_read r told contents name none h = go h.files.ending h.files.holds
 
 pub no_text_asked : (p : List ℕ) (file : Option (List ℕ)) (told : Bool) (contents : List ℕ → Option (List ℕ)) (name : List ℕ) → AnswersRequest (prove p file) told contents (ReadFault (Check name)) → ⊥
 no_text_asked p file told contents name h = no_text_read (prove p file) told contents name (λ m q k. k) h
+
+pub no_text_modelled : (k : ℕ) (p : List ℕ) (told : Bool) (contents : List ℕ → Option (List ℕ)) (name : List ℕ) → AnswersRequest (models k p) told contents (ReadFault (Check name)) → ⊥
+no_text_modelled k p told contents name h = no_text_read (models k p) told contents name (λ m q k. k) h
 
 pub no_text_compared : (p : List ℕ) (told : Bool) (contents : List ℕ → Option (List ℕ)) (name : List ℕ) → AnswersRequest (sides p) told contents (ReadFault (Check name)) → ⊥
 no_text_compared p told contents name h = no_text_read (sides p) told contents name (λ m q k. k) h

@@ -6,6 +6,7 @@ mod demo;
 mod law;
 mod limits;
 mod mode;
+mod models;
 mod request;
 mod sides;
 mod solve;

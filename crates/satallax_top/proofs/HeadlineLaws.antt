@@ -11,7 +11,7 @@ use Rattle.thf_include.specs.Gathering.{Ending, done, stopped, Stop, wants, too_
 use Rattle.type_check.specs.Statements.{IllInFile, problem_of}
 use Rattle.type_check.proofs.TypedProblems.{problem_of-typed}
 use Rattle.mode_file.specs.declared.Mode.{Mode}
-use Rattle.cli_words.specs.Requests.{Request, prove, refutation, generated, sides, asked_by}
+use Rattle.cli_words.specs.Requests.{Request, prove, refutation, generated, models, sides, asked_by}
 use Rattle.refute_print.specs.Trees.{RefutationTree}
 use Rattle.refute_print.specs.Named.{named_refutation}
 use Rattle.refute_check.specs.Acceptance.{IsAcceptedFor}
@@ -154,6 +154,8 @@ proved_asked R (Some (refutation file p)) told contents claim n text h k =
     let f = files_answered (refutation file p) told contents (Proved claim n text) (λ x. x) h in absurd f.answered.holds
 proved_asked R (Some (generated i)) told contents claim n text h k =
     let f = files_answered (generated i) told contents (Proved claim n text) (λ x. x) h in absurd f.answered
+proved_asked R (Some (models i p)) told contents claim n text h k =
+    let f = files_answered (models i p) told contents (Proved claim n text) (λ x. x) h in absurd f.answered
 proved_asked R (Some (sides p)) told contents claim n text h k =
     let f = files_answered (sides p) told contents (Proved claim n text) (λ x. x) h in absurd f.answered
 proved_asked R (Some (prove p file)) told contents claim n text h k = k p file refl h
@@ -201,6 +203,12 @@ no_model_asked (Some (generated k)) told contents (DemoDone claim n) h s =
     record { names = f.names; problem = f.problem; stated = f.stated; no_model = no_model_of f.problem (named_refutation (names_in f.problem) (taken_names f.problem) proof.refutation) f.typed (proof_accepted f.mode f.problem n f.answered.0 proof) }
 no_model_asked (Some (generated k)) told contents Accepted h s =
     let f = files_answered (generated k) told contents Accepted (λ x. x) h in absurd f.answered
+no_model_asked (Some (models k p)) told contents (Proved claim n text) h s =
+    let f = files_answered (models k p) told contents (Proved claim n text) (λ x. x) h in absurd f.answered
+no_model_asked (Some (models k p)) told contents (DemoDone claim n) h s =
+    let f = files_answered (models k p) told contents (DemoDone claim n) (λ x. x) h in absurd f.answered
+no_model_asked (Some (models k p)) told contents Accepted h s =
+    let f = files_answered (models k p) told contents Accepted (λ x. x) h in absurd f.answered
 no_model_asked (Some (sides p)) told contents (Proved claim n text) h s =
     let f = files_answered (sides p) told contents (Proved claim n text) (λ x. x) h in absurd f.answered
 no_model_asked (Some (sides p)) told contents (DemoDone claim n) h s =
@@ -225,6 +233,9 @@ said_of_sides told contents (refutation file q) m p NoEquation s h = absurd h.ho
 said_of_sides told contents (generated n) m p Same s h = absurd h
 said_of_sides told contents (generated n) m p Different s h = absurd h
 said_of_sides told contents (generated n) m p NoEquation s h = absurd h
+said_of_sides told contents (models k q) m p Same s h = absurd h
+said_of_sides told contents (models k q) m p Different s h = absurd h
+said_of_sides told contents (models k q) m p NoEquation s h = absurd h
 said_of_sides told contents (sides q) m p Same s h = h
 said_of_sides told contents (sides q) m p Different s h = h
 said_of_sides told contents (sides q) m p NoEquation s h = h
@@ -321,6 +332,7 @@ words_asked None told contents h = refl
 words_asked (Some (prove p file)) told contents h = let f = files_answered (prove p file) told contents Words (λ x. x) h in absurd f.answered
 words_asked (Some (refutation file p)) told contents h = let f = files_answered (refutation file p) told contents Words (λ x. x) h in absurd f.answered.holds
 words_asked (Some (generated n)) told contents h = let f = files_answered (generated n) told contents Words (λ x. x) h in absurd f.answered
+words_asked (Some (models k p)) told contents h = let f = files_answered (models k p) told contents Words (λ x. x) h in absurd f.answered
 words_asked (Some (sides p)) told contents h = let f = files_answered (sides p) told contents Words (λ x. x) h in absurd f.answered
 
 pub words_answer : (words : List (List ℕ)) (told : Bool) (contents : List ℕ → Option (List ℕ)) (o : Outcome) (a : Answer) → IsAnswer words told contents a → o ≡ outcome_of a → o ≡ ended.Words → asked_by words ≡ None
@@ -337,6 +349,8 @@ never_spent (Some (refutation file p)) told contents conflicts enough h =
 never_spent (Some (generated n)) told contents conflicts enough h =
     let f = files_answered (generated n) told contents (ConflictLimit conflicts) (λ x. x) h in
     never-ends (setting_for f.problem f.mode) (start (unfolded_problem f.problem)) conflicts (enough f.mode f.names f.problem f.is_mode f.stated) f.answered
+never_spent (Some (models k p)) told contents conflicts enough h =
+    let f = files_answered (models k p) told contents (ConflictLimit conflicts) (λ x. x) h in f.answered
 never_spent (Some (sides p)) told contents conflicts enough h =
     let f = files_answered (sides p) told contents (ConflictLimit conflicts) (λ x. x) h in f.answered
 
@@ -350,6 +364,7 @@ rose_of : (r : Request) (told : Bool) (contents : List ℕ → Option (List ℕ)
 rose_of (prove p m) told contents before now (Part k names) h = (h.file, h.rose)
 rose_of (refutation t p) told contents before now (Part k names) h = (h.file, h.rose)
 rose_of (generated n) told contents before now (Part k names) h = absurd h
+rose_of (models k p) told contents before now (Part i names) h = (h.file, h.rose)
 rose_of (sides p) told contents before now (Part k names) h = (h.file, h.rose)
 rose_of r told contents before now (named.Mode name) h = (h.file, h.rose)
 rose_of r told contents before now (Check name) h = (h.file, h.rose)

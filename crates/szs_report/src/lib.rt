@@ -3,11 +3,13 @@
 
 mod answer;
 mod causes;
+mod model_text;
 mod outcome;
 mod proof_text;
 mod report;
 
 pub use answer::{Answer, Claim, NamedFile};
+pub use model_text::model_text;
 pub use outcome::{FileRef, IncludeWhy, ModeWhy, Outcome};
 pub use proof_text::ProofText;
 pub use report::write_report;
