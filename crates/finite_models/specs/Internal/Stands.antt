@@ -9,7 +9,7 @@ use Rattle.stt_core.specs.Meaning.{value, Fits}
 use Rattle.stt_core.specs.Occurrence.{Occurs}
 use Rattle.stt_core.specs.ScopeView.{the_scope}
 use Rattle.finite_models.specs.Sizes.{IsSmallType, NamesSmallTypes}
-use Rattle.finite_models.specs.Symbols.{Symbol, declared_symbols, EachIsSmall}
+use Rattle.finite_models.specs.Symbols.{Symbol, symbols_with, EachIsSmall}
 use Rattle.finite_models.specs.Candidates.{IsCandidate, model_of}
 use Rattle.finite_models.specs.Internal.Choosers.{IsFirstPlace}
 use Rattle.finite_models.specs.Internal.Worth.{worth, IsSafe}

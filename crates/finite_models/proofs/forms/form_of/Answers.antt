@@ -9,6 +9,6 @@ pub tree_of-requires : goal.tree_of-requires
 tree_of-requires c =
     has_within c.normalise.new.bank c.in_ok-id.id (normal_form (content_scope c.args.bank.now) [] (the_term c.args.formula.now)) c.in_ok-id.ensures.term
 
-pub returns-in_ok-tree_of-clause-form : goal.returns-in_ok-tree_of-clause-form
-returns-in_ok-tree_of-clause-form c =
+pub returns-clause-form : goal.returns-clause-form
+returns-clause-form c =
     c.in_ok-tree_of.ensures ∙ has_at c.normalise.new.bank c.in_ok-id.id (normal_form (content_scope c.args.bank.now) [] (the_term c.args.formula.now)) c.in_ok-id.ensures.term
