@@ -78,7 +78,8 @@ models_named text p r h = go (number_to 8 text) refl h
     go None e k = cc
     go (Some n) e k =
         let q = naming-parts (p ∷ []) (models n p) r k in
-        subst IsNamed q.1 ((and_parts (is_file_name p) true q.0).0, number_within 8 text n e)
+        let w = number_within 8 text n e in
+        subst IsNamed q.1 ((and_parts (is_file_name p) true q.0).0, w.0, w.1)
 
 asked_named : (es : List WordEntry) (r : Request) → asked es ≡ Some r → IsNamed r
 asked_named [] r h = cc
