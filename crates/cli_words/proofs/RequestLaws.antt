@@ -5,14 +5,16 @@ use Rattle.std.proofs.lemmas.Bool.{and_parts}
 use Rattle.std.proofs.lemmas.Bool.Decides.{nat_tests}
 use Rattle.cli_words.specs.Names.{is_file_name, is_positive_decimal, number_to}
 use Rattle.outside.specs.Decimal.{is_digit, number_from}
-use Rattle.cli_words.specs.declared.options.OptionName.TheVariants.{Mode, Check, Demo}
+use Rattle.cli_words.specs.declared.options.OptionName.TheVariants.{Mode, Check, Demo, Models}
 use Rattle.cli_words.specs.Line.{is_taken}
-use Rattle.cli_words.specs.Requests.{WordEntry, value, problem, Request, prove, refutation, generated, naming, asked, entries_in, asked_by}
+use Rattle.cli_words.specs.Requests.{WordEntry, value, flag, problem, Request, prove, refutation, generated, models, sides, naming, models_asked, asked, entries_in, asked_by}
 
--- the problem's name is the name of a file, or its number is from 1 to 1000
+-- the problem's name is the name of a file, or its number is from 1 to 1000; a bound on models is from 1 to 8
 abbrev pub IsNamed : Request → Type 0
 IsNamed (prove p mode) = is_file_name p ≡ true
 IsNamed (refutation text p) = is_file_name p ≡ true
+IsNamed (models upto p) = (is_file_name p ≡ true) × (0 < upto) × (upto ≤ 8)
+IsNamed (sides p) = is_file_name p ≡ true
 IsNamed (generated n) = (0 < n) × (n ≤ 1000)
 
 -- a request is that of its names, each of which is the name of a file
@@ -25,6 +27,9 @@ naming-parts names r s h = go (list_all is_file_name names) refl h
 
 first_named : (p : List ℕ) (mode : Option (List ℕ)) (r : Request) → naming (p ∷ []) (prove p mode) ≡ Some r → IsNamed r
 first_named p mode r h = let q = naming-parts (p ∷ []) (prove p mode) r h in subst IsNamed q.1 (and_parts (is_file_name p) true q.0).0
+
+sides_named : (p : List ℕ) (r : Request) → naming (p ∷ []) (sides p) ≡ Some r → IsNamed r
+sides_named p r h = let q = naming-parts (p ∷ []) (sides p) r h in subst IsNamed q.1 (and_parts (is_file_name p) true q.0).0
 
 second_named : (first p : List ℕ) (s r : Request) → (is_file_name p ≡ true → IsNamed s) → naming (first ∷ p ∷ []) s ≡ Some r → IsNamed r
 second_named first p s r named h =
@@ -48,28 +53,58 @@ decimal_above (c ∷ cs) h =
     not_zero : (c : ℕ) → not (c == 48) ≡ true → nat_le 48 c ≡ true → 48 < c
     not_zero c h k = grind (arith, nat_tests, h, k)
 
-generated_named : (text : List ℕ) (r : Request) → option_map generated (number_to 1000 text) ≡ Some r → IsNamed r
-generated_named text r h = go (is_positive_decimal text && nat_le (number_from 0 text) 1000) refl h
+-- a number that is read is in its range
+number_within : (greatest : ℕ) (text : List ℕ) (n : ℕ) → number_to greatest text ≡ Some n → (0 < n) × (n ≤ greatest)
+number_within greatest text n h = go (is_positive_decimal text && nat_le (number_from 0 text) greatest) refl h
   where
-    go : (b : Bool) → is_positive_decimal text && nat_le (number_from 0 text) 1000 ≡ b → option_map generated (if b then Some (number_from 0 text) else None) ≡ Some r → IsNamed r
+    go : (b : Bool) → is_positive_decimal text && nat_le (number_from 0 text) greatest ≡ b → (if b then Some (number_from 0 text) else None) ≡ Some n → (0 < n) × (n ≤ greatest)
     go false e k = cc
     go true e k =
-        let parts = and_parts (is_positive_decimal text) (nat_le (number_from 0 text) 1000) e in
-        let same : generated (number_from 0 text) ≡ r = cc in
-        subst IsNamed same (decimal_above text parts.0, grind (arith, nat_tests, parts.1))
+        let parts = and_parts (is_positive_decimal text) (nat_le (number_from 0 text) greatest) e in
+        let same : number_from 0 text ≡ n = cc in
+        subst (λ m. (0 < m) × (m ≤ greatest)) same (decimal_above text parts.0, grind (arith, nat_tests, parts.1))
+
+generated_named : (text : List ℕ) (r : Request) → option_map generated (number_to 1000 text) ≡ Some r → IsNamed r
+generated_named text r h = go (number_to 1000 text) refl h
+  where
+    go : (o : Option ℕ) → number_to 1000 text ≡ o → option_map generated o ≡ Some r → IsNamed r
+    go None e k = cc
+    go (Some n) e k = let same : generated n ≡ r = cc in subst IsNamed same (number_within 1000 text n e)
+
+models_named : (text p : List ℕ) (r : Request) → models_asked (number_to 8 text) p ≡ Some r → IsNamed r
+models_named text p r h = go (number_to 8 text) refl h
+  where
+    go : (o : Option ℕ) → number_to 8 text ≡ o → models_asked o p ≡ Some r → IsNamed r
+    go None e k = cc
+    go (Some n) e k =
+        let q = naming-parts (p ∷ []) (models n p) r k in
+        let w = number_within 8 text n e in
+        subst IsNamed q.1 ((and_parts (is_file_name p) true q.0).0, w.0, w.1)
 
 asked_named : (es : List WordEntry) (r : Request) → asked es ≡ Some r → IsNamed r
 asked_named [] r h = cc
 asked_named (problem p ∷ []) r h = first_named p None r h
 asked_named (problem p ∷ e ∷ es) r h = cc
+asked_named (flag ∷ []) r h = cc
+asked_named (flag ∷ problem p ∷ []) r h = sides_named p r h
+asked_named (flag ∷ problem p ∷ e ∷ es) r h = cc
+asked_named (flag ∷ flag ∷ es) r h = cc
+asked_named (flag ∷ value o v ∷ es) r h = cc
 asked_named (value Mode m ∷ []) r h = cc
 asked_named (value Mode m ∷ problem p ∷ []) r h = second_named m p (prove p (Some m)) r (λ x. x) h
 asked_named (value Mode m ∷ problem p ∷ e ∷ es) r h = cc
 asked_named (value Mode m ∷ value o v ∷ es) r h = cc
+asked_named (value Mode m ∷ flag ∷ es) r h = cc
 asked_named (value Check t ∷ []) r h = cc
 asked_named (value Check t ∷ problem p ∷ []) r h = second_named t p (refutation t p) r (λ x. x) h
 asked_named (value Check t ∷ problem p ∷ e ∷ es) r h = cc
 asked_named (value Check t ∷ value o v ∷ es) r h = cc
+asked_named (value Check t ∷ flag ∷ es) r h = cc
+asked_named (value Models n ∷ []) r h = cc
+asked_named (value Models n ∷ problem p ∷ []) r h = models_named n p r h
+asked_named (value Models n ∷ problem p ∷ e ∷ es) r h = cc
+asked_named (value Models n ∷ value o v ∷ es) r h = cc
+asked_named (value Models n ∷ flag ∷ es) r h = cc
 asked_named (value Demo n ∷ []) r h = generated_named n r h
 asked_named (value Demo n ∷ e ∷ es) r h = cc
 

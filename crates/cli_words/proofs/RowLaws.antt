@@ -9,12 +9,12 @@ use Rattle.clap.specs.Faults.{turn_fault, walk_fault, entered_fault, settle_faul
 use Rattle.clap.specs.declared.builder.value_parser.Reading.TheVariants.{AsWritten}
 use Rattle.clap.specs.declared.parser.matches.ValueSource.TheVariants.{CommandLine}
 use Rattle.cli_words.specs.declared.options.OptionName.{OptionName}
-use Rattle.cli_words.specs.declared.options.OptionName.TheVariants.{Mode, Check, Demo}
-use Rattle.cli_words.specs.Options.{options, option_name}
+use Rattle.cli_words.specs.declared.options.OptionName.TheVariants.{Mode, Check, Demo, Models}
+use Rattle.cli_words.specs.Options.{options, option_name, same_name}
 use Rattle.cli_words.specs.Line.{line, is_nil, is_taken, value_in}
 use Rattle.cli_words.specs.Names.{number_to}
-use Rattle.cli_words.specs.Requests.{WordEntry, value, problem, asked, asked_by, given, entries_in, naming, prove, refutation, generated}
-use Rattle.cli_words.specs.Rows.{is_hyphened, AsksAlone, AsksBeside}
+use Rattle.cli_words.specs.Requests.{WordEntry, value, problem, asked, asked_by, given, given_flag, entries_in, naming, models_asked, prove, refutation, generated, sides}
+use Rattle.cli_words.specs.Rows.{is_hyphened, AsksAlone, AsksBeside, AsksFlagged}
 
 abbrev top : Shape
 top = (built line).top
@@ -85,12 +85,14 @@ unfolding clap_on_literals state
 option_turn Mode = record { goes = refl; faultless = refl }
 option_turn Check = record { goes = refl; faultless = refl }
 option_turn Demo = record { goes = refl; faultless = refl }
+option_turn Models = record { goes = refl; faultless = refl }
 
 option_turn_behind : (o : OptionName) (p : Text) → Turn (at_problem p) (codes "--" ++ option_name o) (at_option o (row (codes "problem") p ∷ []) 2)
 unfolding clap_on_literals state row
 option_turn_behind Mode p = record { goes = refl; faultless = refl }
 option_turn_behind Check p = record { goes = refl; faultless = refl }
 option_turn_behind Demo p = record { goes = refl; faultless = refl }
+option_turn_behind Models p = record { goes = refl; faultless = refl }
 
 value_turn : (o : OptionName) (rows : List Row) (position : ℕ) (v : Text) → is_hyphened v ≡ false → Turn (at_option o rows position) v (at_value o rows position v)
 unfolding clap_on_literals state
@@ -100,6 +102,8 @@ value_turn Check rows position [] h = record { goes = refl; faultless = refl }
 value_turn Check rows position (c ∷ cs) h = record { goes = simp h; faultless = simp h }
 value_turn Demo rows position [] h = record { goes = refl; faultless = refl }
 value_turn Demo rows position (c ∷ cs) h = record { goes = simp h; faultless = simp h }
+value_turn Models rows position [] h = record { goes = refl; faultless = refl }
+value_turn Models rows position (c ∷ cs) h = record { goes = simp h; faultless = simp h }
 
 last_turn : (o : OptionName) (v p : Text) → is_hyphened p ≡ false → Turn (at_value o [] 1 v) p (at_both o v p)
 unfolding clap_on_literals state row
@@ -109,12 +113,15 @@ last_turn Check v [] h = record { goes = refl; faultless = refl }
 last_turn Check v (c ∷ cs) h = record { goes = simp h; faultless = simp h }
 last_turn Demo v [] h = record { goes = refl; faultless = refl }
 last_turn Demo v (c ∷ cs) h = record { goes = simp h; faultless = simp h }
+last_turn Models v [] h = record { goes = refl; faultless = refl }
+last_turn Models v (c ∷ cs) h = record { goes = simp h; faultless = simp h }
 
 attached_turn : (o : OptionName) (v : Text) → Turn (walk_from nothing_held) (codes "--" ++ option_name o ++ codes "=" ++ v) (state (row (option_name o) v ∷ []) None idle 1)
 unfolding clap_on_literals state row
 attached_turn Mode v = record { goes = refl; faultless = refl }
 attached_turn Check v = record { goes = refl; faultless = refl }
 attached_turn Demo v = record { goes = refl; faultless = refl }
+attached_turn Models v = record { goes = refl; faultless = refl }
 
 last_turn_attached : (o : OptionName) (v p : Text) → is_hyphened p ≡ false → Turn (state (row (option_name o) v ∷ []) None idle 1) p (at_both o v p)
 unfolding clap_on_literals state row
@@ -126,6 +133,7 @@ unfolding clap_on_literals state row
 attached_turn_behind Mode v p = record { goes = refl; faultless = refl }
 attached_turn_behind Check v p = record { goes = refl; faultless = refl }
 attached_turn_behind Demo v p = record { goes = refl; faultless = refl }
+attached_turn_behind Models v p = record { goes = refl; faultless = refl }
 
 -- what is asked for, by the last state
 abbrev values_of : List Row → List OptionName → List WordEntry
@@ -133,7 +141,7 @@ values_of rows [] = []
 values_of rows (o ∷ os) = given (value o) (first_of (option_name o) rows) ++ values_of rows os
 
 abbrev entries_of : List Row → List WordEntry
-entries_of rows = values_of rows options ++ given problem (first_of (codes "problem") rows)
+entries_of rows = values_of rows options ++ (given_flag (first_of same_name rows) ++ given problem (first_of (codes "problem") rows))
 
 -- the words lead to this state, without a fault
 record Leads (words : List Text) (end : Walk) : Type 0 where
@@ -173,6 +181,7 @@ unfolding clap_on_literals state
 value_end Mode v = refl
 value_end Check v = refl
 value_end Demo v = refl
+value_end Models v = refl
 
 pub problem_alone : (p : List ℕ) → is_hyphened p ≡ false → asked_by (p ∷ []) ≡ naming (p ∷ []) (prove p None)
 unfolding state
@@ -183,24 +192,28 @@ unfolding clap_on_literals state row
 value_end_behind Mode v p = refl
 value_end_behind Check v p = refl
 value_end_behind Demo v p = refl
+value_end_behind Models v p = refl
 
 both_end : (o : OptionName) (v p : Text) → end_fault (at_both o v p) ≡ []
 unfolding clap_on_literals state row
 both_end Mode v p = refl
 both_end Check v p = refl
 both_end Demo v p = refl
+both_end Models v p = refl
 
 attached_end : (o : OptionName) (v : Text) → end_fault (state (row (option_name o) v ∷ []) None idle 1) ≡ []
 unfolding clap_on_literals state row
 attached_end Mode v = refl
 attached_end Check v = refl
 attached_end Demo v = refl
+attached_end Models v = refl
 
 attached_end_behind : (o : OptionName) (v p : Text) → end_fault (state (row (codes "problem") p ∷ row (option_name o) v ∷ []) None idle 2) ≡ []
 unfolding clap_on_literals state row
 attached_end_behind Mode v p = refl
 attached_end_behind Check v p = refl
 attached_end_behind Demo v p = refl
+attached_end_behind Models v p = refl
 
 -- the words of an option with PROBLEM, and of an option alone
 before_leads : (o : OptionName) (v p : Text) → is_hyphened v ≡ false → is_hyphened p ≡ false → Leads ((codes "--" ++ option_name o) ∷ v ∷ p ∷ []) (at_both o v p)
@@ -232,4 +245,47 @@ unfolding state row
 demo_row n = record {
   next = λ h. asked_at _ _ (two_words _ _ _ _ (option_turn Demo) (value_turn Demo [] 1 n h)) (value_end Demo n);
   attached = asked_at _ _ (one_word _ _ (attached_turn Demo n)) (attached_end Demo n);
+}
+
+pub models_row : (k p : List ℕ) → is_hyphened p ≡ false → AsksBeside (codes "models") k p (models_asked (number_to 8 k) p)
+unfolding state row
+models_row k p h = record {
+  before = λ j. asked_at _ _ (before_leads Models k p j h) (both_end Models k p);
+  behind = λ j. asked_at _ _ (behind_leads Models k p j h) (value_end_behind Models k p);
+  attached_before = asked_at _ _ (two_words _ _ _ _ (attached_turn Models k) (last_turn_attached Models k p h)) (both_end Models k p);
+  attached_behind = asked_at _ _ (two_words _ _ _ _ (problem_turn p h) (attached_turn_behind Models k p)) (attached_end_behind Models k p);
+}
+
+-- THE OPTION WITHOUT A VALUE
+
+-- what is held where it was read
+abbrev flag_row : Row
+flag_row = row same_name (codes "true")
+
+flag_turn : Turn (walk_from nothing_held) (codes "--" ++ same_name) (state (flag_row ∷ []) None idle 1)
+unfolding clap_on_literals state row
+flag_turn = record { goes = refl; faultless = refl }
+
+flag_turn_behind : (p : Text) → Turn (at_problem p) (codes "--" ++ same_name) (state (row (codes "problem") p ∷ flag_row ∷ []) None idle 2)
+unfolding clap_on_literals state row
+flag_turn_behind p = record { goes = refl; faultless = refl }
+
+last_turn_flagged : (p : Text) → is_hyphened p ≡ false → Turn (state (flag_row ∷ []) None idle 1) p (state (flag_row ∷ []) (Some (codes "problem", p ∷ [])) idle 2)
+unfolding clap_on_literals state row
+last_turn_flagged [] h = record { goes = refl; faultless = refl }
+last_turn_flagged (c ∷ cs) h = record { goes = simp h; faultless = simp h }
+
+flagged_end : (p : Text) → end_fault (state (flag_row ∷ []) (Some (codes "problem", p ∷ [])) idle 2) ≡ []
+unfolding clap_on_literals state row
+flagged_end p = refl
+
+flagged_end_behind : (p : Text) → end_fault (state (row (codes "problem") p ∷ flag_row ∷ []) None idle 2) ≡ []
+unfolding clap_on_literals state row
+flagged_end_behind p = refl
+
+pub same_row : (p : List ℕ) → is_hyphened p ≡ false → AsksFlagged (codes "same") p (naming (p ∷ []) (sides p))
+unfolding state row
+same_row p k = record {
+  before = asked_at _ _ (two_words _ _ _ _ flag_turn (last_turn_flagged p k)) (flagged_end p);
+  behind = asked_at _ _ (two_words _ _ _ _ (problem_turn p k) (flag_turn_behind p)) (flagged_end_behind p);
 }

@@ -2,12 +2,17 @@
 use Rattle.std.specs.Prelude.{Bool, List, [], ◌∷◌, codes, Some, Option, true, false}
 use Rattle.clap.specs.Simple.{new_shape}
 use Rattle.clap.specs.Words.{App, Rule, Text, new_rule, with_rule, fault_of, matches_of, first_of}
+use Rattle.clap.specs.declared.builder.action.ArgAction.TheVariants.{SetTrue}
 use Rattle.cli_words.specs.declared.options.OptionName.{OptionName}
-use Rattle.cli_words.specs.Options.{options, option_name}
+use Rattle.cli_words.specs.Options.{options, option_name, same_name}
 
 -- an option that takes one value, by its long name
 abbrev pub option_rule : Text → Rule
 option_rule name = record (new_rule name) { long = Some name }
+
+-- an option that takes no value, by its long name: its value is `true` where it is there, and else `false`
+abbrev pub flag_rule : Text → Rule
+flag_rule name = record (new_rule name) { long = Some name; action = Some SetTrue }
 
 -- a command that reads the program's words alone, without the program's name
 abbrev pub bare : App
@@ -17,9 +22,9 @@ abbrev pub with_options : App → List OptionName → App
 with_options app [] = app
 with_options app (o ∷ os) = with_options (with_rule app (option_rule (option_name o))) os
 
--- The options of the table, and the positional PROBLEM. No rule ties one to another.
+-- The options of the table, the one without a value, and the positional PROBLEM. No rule ties one to another.
 abbrev pub line : App
-line = with_rule (with_options bare options) (new_rule (codes "problem"))
+line = with_rule (with_rule (with_options bare options) (flag_rule same_name)) (new_rule (codes "problem"))
 
 abbrev pub is_nil : {X : Type 0} → List X → Bool
 is_nil [] = true

@@ -1,13 +1,19 @@
--- The table of the program's options, in the order in which the usage line has them. Each takes one value.
+-- The table of the program's options, in the order in which the usage line has them. Each takes one value. Behind them stands one option that
+-- takes none.
 use Rattle.std.specs.Prelude.{ℕ, List, [], ◌∷◌, codes}
 use Rattle.cli_words.specs.declared.options.OptionName.{OptionName}
-use Rattle.cli_words.specs.declared.options.OptionName.TheVariants.{Mode, Check, Demo}
+use Rattle.cli_words.specs.declared.options.OptionName.TheVariants.{Mode, Check, Demo, Models}
 
 abbrev pub options : List OptionName
-options = Mode ∷ Check ∷ Demo ∷ []
+options = Mode ∷ Check ∷ Demo ∷ Models ∷ []
 
 -- an option's name, which stands behind two hyphens
 abbrev pub option_name : OptionName → List ℕ
 option_name Mode = codes "mode"
 option_name Check = codes "check"
 option_name Demo = codes "demo"
+option_name Models = codes "models"
+
+-- the option that takes no value
+abbrev pub same_name : List ℕ
+same_name = codes "same"

@@ -2,26 +2,36 @@
 use Rattle.std.specs.Prelude.{ℕ, List, [], ◌∷◌, ◌++◌, codes, Option, Some, None, option_map, if◌then◌else◌}
 use Rattle.std.specs.List.{list_all}
 use Rattle.std.specs.Option.{option_to_list}
+use Rattle.std.specs.Str.{bytes_eq}
 use Rattle.cli_words.specs.declared.options.OptionName.{OptionName}
-use Rattle.cli_words.specs.declared.options.OptionName.TheVariants.{Mode, Check, Demo}
-use Rattle.cli_words.specs.Options.{options, option_name}
+use Rattle.cli_words.specs.declared.options.OptionName.TheVariants.{Mode, Check, Demo, Models}
+use Rattle.cli_words.specs.Options.{options, option_name, same_name}
 use Rattle.cli_words.specs.Line.{is_taken, value_in}
 use Rattle.cli_words.specs.Names.{is_file_name, number_to}
 
--- a value that the words give: that of an option, or the problem
+-- what the words give: the value of an option, the option without a value, or the problem
 pub data WordEntry : Type 0 where
   value : OptionName → List ℕ → WordEntry
+  flag : WordEntry
   problem : List ℕ → WordEntry
 
--- prove a problem, with a mode or the standard mode; check a refutation's text against a problem; make and prove a problem
+-- prove a problem, with a mode or the standard mode; check a refutation's text against a problem; make and prove a problem; look for a
+-- model of at most so many values for each base type; ask whether the two sides of a problem's conjecture are convertible
 pub data Request : Type 0 where
   prove : List ℕ → Option (List ℕ) → Request
   refutation : List ℕ → List ℕ → Request
   generated : ℕ → Request
+  models : ℕ → List ℕ → Request
+  sides : List ℕ → Request
 
 -- the request, where these are names of files
 abbrev pub naming : List (List ℕ) → Request → Option Request
 naming names r = if list_all is_file_name names then Some r else None
+
+-- a search for models within a bound, where there is one
+abbrev pub models_asked : Option ℕ → List ℕ → Option Request
+models_asked None p = None
+models_asked (Some upto) p = naming (p ∷ []) (models upto p)
 
 -- what is asked for by the entries that the words give
 abbrev pub asked : List WordEntry → Option Request
@@ -29,11 +39,18 @@ asked (problem p ∷ []) = naming (p ∷ []) (prove p None)
 asked (value Mode m ∷ problem p ∷ []) = naming (m ∷ p ∷ []) (prove p (Some m))
 asked (value Check text ∷ problem p ∷ []) = naming (text ∷ p ∷ []) (refutation text p)
 asked (value Demo number ∷ []) = option_map generated (number_to 1000 number)
+asked (value Models upto ∷ problem p ∷ []) = models_asked (number_to 8 upto) p
+asked (flag ∷ problem p ∷ []) = naming (p ∷ []) (sides p)
 asked _ = None
 
 -- one entry, where its value is given
 abbrev pub given : (List ℕ → WordEntry) → Option (List ℕ) → List WordEntry
 given entry v = option_to_list (option_map entry v)
+
+-- the option without a value, where its value is `true`
+abbrev pub given_flag : Option (List ℕ) → List WordEntry
+given_flag None = []
+given_flag (Some v) = if bytes_eq v (codes "true") then flag ∷ [] else []
 
 -- the values of these options that the words give, in their order
 abbrev pub values_in : List (List ℕ) → List OptionName → List WordEntry
@@ -42,7 +59,7 @@ values_in words (o ∷ os) = given (value o) (value_in words (option_name o)) ++
 
 -- the entries that the words give, in the order of the table, and then the problem
 abbrev pub entries_in : List (List ℕ) → List WordEntry
-entries_in words = values_in words options ++ given problem (value_in words (codes "problem"))
+entries_in words = values_in words options ++ (given_flag (value_in words same_name) ++ given problem (value_in words (codes "problem")))
 
 -- what the words ask for: nothing where the command doesn't take them, or where no row of the table fits
 abbrev pub asked_by : List (List ℕ) → Option Request

@@ -3,7 +3,7 @@ use Rattle.std.specs.Prelude.{option_map}
 use Rattle.cli_words.specs.Requests as request
 use Rattle.cli_words.specs.Requests.{Request}
 use Rattle.cli_words.specs.declared.Asked.{Asked}
-use Rattle.cli_words.specs.declared.Asked.TheVariants.{Prove, Check, Demo}
+use Rattle.cli_words.specs.declared.Asked.TheVariants.{Prove, Check, Demo, Models, Same}
 use Rattle.cli_words.specs.declared.entry.Entry.{Entry}
 use Rattle.cli_words.specs.declared.entry.Entry.TheVariants as entry
 
@@ -11,7 +11,10 @@ abbrev pub the_request : Asked → Request
 the_request (Prove problem mode) = request.prove problem.now (option_map (λ m. m.now) mode)
 the_request (Check text problem) = request.refutation text.now problem.now
 the_request (Demo n) = request.generated n
+the_request (Models upto problem) = request.models upto problem.now
+the_request (Same problem) = request.sides problem.now
 
 abbrev pub the_entry : Entry → request.WordEntry
 the_entry (entry.Value o v) = request.value o v.now
+the_entry entry.Same = request.flag
 the_entry (entry.Problem p) = request.problem p.now

@@ -1,6 +1,6 @@
 //! The table of what words may ask for.
 ghost use Rattle.std.specs.Prelude.{◌≡◌, [], ◌∷◌, map, option_map, Some, None, if◌then◌else◌};
-ghost use Rattle.cli_words.specs.Requests.{asked, naming, prove, refutation, generated};
+ghost use Rattle.cli_words.specs.Requests.{asked, naming, models_asked, prove, refutation, generated, sides};
 ghost use Rattle.cli_words.specs.Names.{number_to};
 ghost use Rattle.cli_words.specs.View.{the_entry, the_request};
 
@@ -8,10 +8,11 @@ use crate::Asked;
 use crate::names::{is_file_name, number_to};
 use crate::options::OptionName;
 
-/// A value that the words give: that of an option, or the problem.
+/// What the words give: the value of an option, the option without a value, or the problem.
 #[derive(Clone, Copy, Debug)]
 pub(crate) enum Entry<'a> {
     Value(OptionName, &'a str),
+    Same,
     Problem(&'a str),
 }
 
@@ -33,6 +34,7 @@ fn alone<'a>(entry: Entry<'a>) -> Option<Asked<'a>>
     match entry {
         Entry::Problem(problem) => prove(problem),
         Entry::Value(option, value) => option_alone(option, value),
+        Entry::Same => None,
     }
 }
 
@@ -43,9 +45,12 @@ fn beside<'a>(first: Entry<'a>, last: Entry<'a>) -> Option<Asked<'a>>
         (Entry::Value(option, value), Entry::Problem(problem)) => {
             option_with_problem(option, value, problem)
         }
+        (Entry::Same, Entry::Problem(problem)) => compare(problem),
         (Entry::Problem(_), Entry::Problem(_)) => None,
         (Entry::Problem(_), Entry::Value(_, _)) => None,
         (Entry::Value(_, _), Entry::Value(_, _)) => None,
+        (_, Entry::Same) => None,
+        (Entry::Same, Entry::Value(_, _)) => None,
     }
 }
 
@@ -55,7 +60,7 @@ fn option_alone<'a>(option: OptionName, value: &'a str) -> Option<Asked<'a>>
 {
     match option {
         OptionName::Demo => demo(value),
-        OptionName::Mode | OptionName::Check => None,
+        OptionName::Mode | OptionName::Check | OptionName::Models => None,
     }
 }
 
@@ -70,6 +75,7 @@ fn option_with_problem<'a>(
     match option {
         OptionName::Mode => prove_with_mode(value, problem),
         OptionName::Check => check(value, problem),
+        OptionName::Models => models(value, problem),
         OptionName::Demo => None,
     }
 }
@@ -115,4 +121,25 @@ fn demo<'a>(number: &str) -> Option<Asked<'a>>
 {
     let n = number_to(1000, number)?;
     Some(Asked::Demo { n })
+}
+
+fn models<'a>(upto: &str, problem: &'a str) -> Option<Asked<'a>>
+    ensures { option_map the_request result ≡ models_asked (number_to 8 upto.now) problem.entry.now }
+{
+    let upto = number_to(8, upto)?;
+    if is_file_name(problem) {
+        Some(Asked::Models { upto, problem })
+    } else {
+        None
+    }
+}
+
+fn compare<'a>(problem: &'a str) -> Option<Asked<'a>>
+    ensures { option_map the_request result ≡ naming (problem.entry.now ∷ []) (sides problem.entry.now) }
+{
+    if is_file_name(problem) {
+        Some(Asked::Same { problem })
+    } else {
+        None
+    }
 }

@@ -34,11 +34,20 @@ pub enum Asked<'a> {
     Demo {
         n: u32,
     },
+    /// Look for a finite model of at most so many values for each base type.
+    Models {
+        upto: u32,
+        problem: &'a str,
+    },
+    /// Ask whether the two sides of the problem's conjecture are convertible.
+    Same {
+        problem: &'a str,
+    },
 }
 
 #[derive(Clone, Copy, Debug, PartialEq, Eq, Error)]
 pub enum WordsRefused {
-    #[error("usage: satallax [--mode FILE] [--check FILE] [--demo N] PROBLEM")]
+    #[error("usage: satallax [--mode FILE] [--check FILE] [--demo N] [--models K] [--same] PROBLEM")]
     Words,
     #[error("no memory for the words")]
     Memory,

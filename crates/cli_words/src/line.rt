@@ -2,16 +2,16 @@
 ghost use Rattle.std.specs.Prelude.{◌≡◌, ◌++◌, ℕ, List, map, option_map, string_bytes, codes, true, false, IfOk, IsErrOf, OnOk};
 ghost use Rattle.std.specs.Option.{option_to_list};
 ghost use Rattle.clap.specs.Words.{app_of, with_rule, first_value, found_of};
-ghost use Rattle.cli_words.specs.Line.{option_rule, with_options, bare, line, is_taken, value_in};
+ghost use Rattle.cli_words.specs.Line.{option_rule, flag_rule, with_options, bare, line, is_taken, value_in};
 ghost use Rattle.cli_words.specs.Options.{options, option_name};
-ghost use Rattle.cli_words.specs.Requests.{entries_in, values_in};
+ghost use Rattle.cli_words.specs.Requests.{entries_in, values_in, given_flag};
 ghost use Rattle.cli_words.specs.View.{the_entry};
 
 use crate::WordsRefused;
 use crate::entry::Entry;
-use crate::options::OPTIONS;
+use crate::options::{OPTIONS, SAME};
 use clap::error::ErrorKind;
-use clap::{Arg, ArgMatches, Command};
+use clap::{Arg, ArgAction, ArgMatches, Command};
 use std::alloc::{AllocError, Global};
 
 // The command with one more option, which takes one value.
@@ -41,6 +41,8 @@ fn command<'a>(alloc: Global) -> Result<Command<'a>, AllocError>
 {
     let command = Command::new(alloc, "satallax").no_binary_name(true);
     let command = with_options(alloc, command)?;
+    let same = Arg::new(alloc, SAME).long(SAME).action(ArgAction::SetTrue);
+    let command = command.arg(same)?;
     command.arg(Arg::new(alloc, "problem"))
 }
 
@@ -69,6 +71,17 @@ fn add<'a>(entries: &mut Vec<Entry<'a>>, entry: Option<Entry<'a>>) -> Result<(),
     Ok(())
 }
 
+// The option without a value, where its value is `true`.
+fn flag<'a>(value: Option<&str>) -> Option<Entry<'a>>
+    ensures { option_to_list (option_map the_entry result) ≡ given_flag (option_map (λ v. v.now) value.entry) }
+{
+    if value? == "true" {
+        Some(Entry::Same)
+    } else {
+        None
+    }
+}
+
 /// The entries that the words give, where the command takes the words.
 pub(crate) fn entries<'a>(
     alloc: Global,
@@ -84,6 +97,7 @@ pub(crate) fn entries<'a>(
         let value = matches.get_str(option.name());
         add(&mut entries, value.map(|value| Entry::Value(option, value)))?;
     }
+    add(&mut entries, flag(matches.get_str(SAME)))?;
     add(&mut entries, matches.get_str("problem").map(Entry::Problem))?;
     Ok(entries)
 }

@@ -8,10 +8,19 @@ pub(crate) enum OptionName {
     Mode,
     Check,
     Demo,
+    Models,
 }
 
 /// The options, in the order in which the usage line has them.
-pub(crate) const OPTIONS: [OptionName; 3] = [OptionName::Mode, OptionName::Check, OptionName::Demo];
+pub(crate) const OPTIONS: [OptionName; 4] = [
+    OptionName::Mode,
+    OptionName::Check,
+    OptionName::Demo,
+    OptionName::Models,
+];
+
+/// The option that takes no value.
+pub(crate) const SAME: &str = "same";
 
 impl OptionName {
     /// What stands behind the two hyphens.
@@ -22,6 +31,7 @@ impl OptionName {
             OptionName::Mode => "mode",
             OptionName::Check => "check",
             OptionName::Demo => "demo",
+            OptionName::Models => "models",
         }
     }
 }

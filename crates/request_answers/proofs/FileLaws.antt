@@ -7,7 +7,7 @@ use Rattle.thf_include.specs.Gathering.{Ending, done, stopped, Stop, wants, too_
 use Rattle.type_check.specs.Statements.{IllInFile, problem_of}
 use Rattle.mode_file.specs.declared.Mode.{Mode}
 use Rattle.mode_file.specs.Given.{nothing_given, mode_of}
-use Rattle.cli_words.specs.Requests.{Request, prove, refutation, generated}
+use Rattle.cli_words.specs.Requests.{Request, prove, refutation, generated, models, sides}
 use Rattle.problem_gen.specs.Chain.{text}
 use Rattle.szs_report.specs.Outcomes.{outcome_of}
 use Rattle.szs_report.specs.declared.answer.Answer.{Answer}
@@ -50,6 +50,12 @@ problem_not_mode told contents (refutation t q) m p (ModeAt line why) o h = h.ho
 problem_not_mode told contents (generated n) m p (ReadFault (named.Mode f)) o h = h
 problem_not_mode told contents (generated n) m p (TooLong (named.Mode f)) o h = h
 problem_not_mode told contents (generated n) m p (ModeAt line why) o h = h
+problem_not_mode told contents (models k q) m p (ReadFault (named.Mode f)) o h = h
+problem_not_mode told contents (models k q) m p (TooLong (named.Mode f)) o h = h
+problem_not_mode told contents (models k q) m p (ModeAt line why) o h = h
+problem_not_mode told contents (sides q) m p (ReadFault (named.Mode f)) o h = h
+problem_not_mode told contents (sides q) m p (TooLong (named.Mode f)) o h = h
+problem_not_mode told contents (sides q) m p (ModeAt line why) o h = h
 problem_not_mode told contents r m p a o h = absurd o
 
 ending_not_mode : (told : Bool) (contents : List ℕ → Option (List ℕ)) (r : Request) (m : Mode) (names : List (List ℕ)) (a : Answer) (e : Ending) → IsOfMode a → AnswersEnding (AnswersProblem told contents r m) names a e → ⊥
@@ -132,16 +138,25 @@ part_stop names name (cycle file at) e = cc
 part_stop names name (too_many file at) e = cc
 part_stop names name (no_name file at) e = cc
 
-pub no_text_asked : (p : List ℕ) (file : Option (List ℕ)) (told : Bool) (contents : List ℕ → Option (List ℕ)) (name : List ℕ) → AnswersRequest (prove p file) told contents (ReadFault (Check name)) → ⊥
-no_text_asked p file told contents name h = go h.files.ending h.files.holds
+no_text_read : (r : Request) (told : Bool) (contents : List ℕ → Option (List ℕ)) (name : List ℕ) → ((m : Mode) (q : PlainProblem) → AnswersProblem told contents r m q (ReadFault (Check name)) → ⊥) → AnswersRequest r told contents (ReadFault (Check name)) → ⊥
+no_text_read r told contents name none h = go h.files.ending h.files.holds
   where
-    stated : (r : Result PlainProblem IllInFile) → AnswersStated (AnswersProblem told contents (prove p file) h.mode) h.names (ReadFault (Check name)) r → ⊥
-    stated (Ok q) k = k
+    stated : (x : Result PlainProblem IllInFile) → AnswersStated (AnswersProblem told contents r h.mode) h.names (ReadFault (Check name)) x → ⊥
+    stated (Ok q) k = none h.mode q k
     stated (Err ill) k = cc
 
-    go : (e : Ending) → AnswersEnding (AnswersProblem told contents (prove p file) h.mode) h.names (ReadFault (Check name)) e → ⊥
+    go : (e : Ending) → AnswersEnding (AnswersProblem told contents r h.mode) h.names (ReadFault (Check name)) e → ⊥
     go (stopped s) k = part_stop h.names name s k
     go (done ss) k = stated (problem_of ss) k
+
+pub no_text_asked : (p : List ℕ) (file : Option (List ℕ)) (told : Bool) (contents : List ℕ → Option (List ℕ)) (name : List ℕ) → AnswersRequest (prove p file) told contents (ReadFault (Check name)) → ⊥
+no_text_asked p file told contents name h = no_text_read (prove p file) told contents name (λ m q k. k) h
+
+pub no_text_modelled : (k : ℕ) (p : List ℕ) (told : Bool) (contents : List ℕ → Option (List ℕ)) (name : List ℕ) → AnswersRequest (models k p) told contents (ReadFault (Check name)) → ⊥
+no_text_modelled k p told contents name h = no_text_read (models k p) told contents name (λ m q k. k) h
+
+pub no_text_compared : (p : List ℕ) (told : Bool) (contents : List ℕ → Option (List ℕ)) (name : List ℕ) → AnswersRequest (sides p) told contents (ReadFault (Check name)) → ⊥
+no_text_compared p told contents name h = no_text_read (sides p) told contents name (λ m q k. k) h
 
 -- the mode's file is the one that is asked for
 pub mode_fault : (r : Request) (told : Bool) (contents : List ℕ → Option (List ℕ)) (before now : List ℕ → ℕ) (name : List ℕ) → AnswersRequest r told contents (ReadFault (named.Mode name)) → Rose (before name) (now name) → IsModeFault r before now

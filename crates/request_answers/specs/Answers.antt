@@ -4,7 +4,7 @@ use Rattle.stt_core.specs.PlainProblem.{PlainProblem}
 use Rattle.thf_include.specs.Gathering.{Ending, done, stopped, Stop, wants, too_long, no_tree, cycle, too_many, no_name}
 use Rattle.type_check.specs.Statements.{IllInFile, problem_of}
 use Rattle.mode_file.specs.declared.Mode.{Mode}
-use Rattle.cli_words.specs.Requests.{Request, prove, refutation, generated, asked_by}
+use Rattle.cli_words.specs.Requests.{Request, prove, refutation, generated, models, sides, asked_by}
 use Rattle.szs_report.specs.Outcomes.{outcome_of}
 use Rattle.szs_report.specs.declared.answer.Answer.{Answer}
 use Rattle.szs_report.specs.declared.answer.Answer.TheVariants.{ConflictLimit, SyntaxAt, TypeAt, IncludeAt, ModeAt, Words, TooLong, ReadFault, Memory, UnreadWords}
@@ -17,6 +17,8 @@ use Rattle.request_answers.specs.Requested.{problem_name, mode_file, told_of, co
 use Rattle.request_answers.specs.Files.{OfFiles}
 use Rattle.request_answers.specs.Modes.{IsLongFile, IsModeBy, IsBadMode}
 use Rattle.request_answers.specs.Checked.{AnswersText}
+use Rattle.request_answers.specs.Compared.{AnswersSides}
+use Rattle.request_answers.specs.Modelled.{AnswersModels}
 use Rattle.request_answers.specs.Solved.{IsSolved, IsDemoed}
 
 -- what the stop of a gathering is answered with, where files of these names were opened
@@ -33,6 +35,8 @@ abbrev pub AnswersProblem : Bool → (List ℕ → Option (List ℕ)) → Reques
 AnswersProblem told contents (prove p mode) m = IsSolved m
 AnswersProblem told contents (refutation text p) m = AnswersText told contents text
 AnswersProblem told contents (generated n) m = IsDemoed m
+AnswersProblem told contents (models upto p) m = AnswersModels upto
+AnswersProblem told contents (sides p) m = AnswersSides
 
 -- what statements are answered with that state a problem, or have no meaning; problems are answered as Answers says
 abbrev pub AnswersStated : (PlainProblem → Answer → Type 0) → List (List ℕ) → Answer → Result PlainProblem IllInFile → Type 0

@@ -1,6 +1,10 @@
 pub use Rattle.cli_words.specs.Requests
 pub use Rattle.cli_words.specs.View as CliWordsView
+pub use Rattle.conv_laws.specs.Sides
 pub use Rattle.delta_defs.specs.Unfolding
+pub use Rattle.finite_models.specs.Laws as FiniteModelsLaws
+pub use Rattle.finite_models.specs.Small
+pub use Rattle.finite_models.specs.Symbols
 pub use Rattle.mode_file.specs.Given
 pub use Rattle.mode_file.specs.Grammar
 pub use Rattle.mode_file.specs.Refusals
@@ -19,6 +23,7 @@ pub use Rattle.search_spec.specs.Result
 pub use Rattle.stt_core.specs.Lambda
 pub use Rattle.stt_core.specs.PlainProblem
 pub use Rattle.stt_core.specs.TypedProblem
+pub use Rattle.szs_report.specs.ModelText
 pub use Rattle.szs_report.specs.Outcomes
 pub use Rattle.szs_report.specs.Report
 pub use Rattle.tableau_calculus.specs.Start
@@ -32,6 +37,8 @@ pub mod Names
 pub mod Files
 pub mod Modes
 pub mod Checked
+pub mod Compared
+pub mod Modelled
 pub mod Solved
 pub mod Answers
 pub mod Causes

@@ -6,7 +6,9 @@ mod demo;
 mod law;
 mod limits;
 mod mode;
+mod models;
 mod request;
+mod sides;
 mod solve;
 mod stated;
 

@@ -1,11 +1,13 @@
 //! What each request is answered with.
 
-ghost use Rattle.std.specs.Prelude.{◌≡◌, ◌≤◌, ℕ, List, option_map, string_bytes, IfOk};
+ghost use Rattle.std.specs.Prelude.{◌≡◌, ◌<◌, ◌≤◌, ℕ, List, option_map, string_bytes, IfOk};
 ghost use Rattle.outside.specs.Causes.{Rose};
-ghost use Rattle.cli_words.specs.Requests.{prove, refutation};
+ghost use Rattle.cli_words.specs.Requests.{prove, refutation, models, sides};
 ghost use Rattle.cli_words.specs.View.{the_request};
-ghost use Rattle.request_answers.specs.Requested.{problem_name, IsGenerable};
+ghost use Rattle.request_answers.specs.Requested.{problem_name, IsInRange};
 ghost use Rattle.request_answers.specs.Checked.{AnswersText};
+ghost use Rattle.request_answers.specs.Compared.{AnswersSides};
+ghost use Rattle.request_answers.specs.Modelled.{AnswersModels};
 ghost use Rattle.request_answers.specs.Solved.{IsSolved};
 ghost use Rattle.request_answers.specs.Answers.{AnswersRequest};
 ghost use Rattle.request_answers.specs.Causes.{IsFaultIn, IsTextFault, HasCauseOf};
@@ -18,6 +20,8 @@ ghost use Rattle.szs_report.specs.declared.answer.NamedFile.TheVariants as named
 use crate::check::check_file;
 use crate::demo::{demo, demo_name};
 use crate::mode::mode_by;
+use crate::models::look;
+use crate::sides::compare;
 use crate::solve::solve;
 use crate::stated::read_problem;
 use cli_words::Asked;
@@ -80,6 +84,42 @@ fn check<F: Files>(alloc: Global, files: &mut F, text: &str, problem: &str) -> A
     }
 }
 
+/// The answer where a finite model of the problem of a name is to be looked for.
+fn look_in<F: Files>(alloc: Global, files: &mut F, upto: u32, problem: &str) -> Answer
+    requires some { 0 < upto }
+    requires few { upto ≤ 8 }
+    ensures answers { IsFilesAnswer (AnswersModels upto) problem.now (F.tells files.old) (F.contents files.old) result }
+    ensures fault { (k : ℕ) (names : List (List ℕ)) → result ≡ Answer.ReadFault (Part k names)
+        → IsFaultIn problem.now (F.tells files.old) (F.contents files.old) (F.faults files.old) (F.faults files.new) k }
+    ensures quiet { IsNoReadFault result → (other : List ℕ) → F.faults files.new other ≡ F.faults files.old other }
+
+    ensures later { (other : List ℕ) → F.faults files.old other ≤ F.faults files.new other }
+    ensures same { F.contents files.new ≡ F.contents files.old }
+    ensures telling { F.tells files.new ≡ F.tells files.old }
+{
+    match read_problem(alloc, files, problem) {
+        Ok(stated) => look(alloc, &stated, upto),
+        Err(answer) => answer,
+    }
+}
+
+/// The answer where the two sides of the conjecture of the problem of a name are to be compared.
+fn compare_in<F: Files>(alloc: Global, files: &mut F, problem: &str) -> Answer
+    ensures answers { IsFilesAnswer AnswersSides problem.now (F.tells files.old) (F.contents files.old) result }
+    ensures fault { (k : ℕ) (names : List (List ℕ)) → result ≡ Answer.ReadFault (Part k names)
+        → IsFaultIn problem.now (F.tells files.old) (F.contents files.old) (F.faults files.old) (F.faults files.new) k }
+    ensures quiet { IsNoReadFault result → (other : List ℕ) → F.faults files.new other ≡ F.faults files.old other }
+
+    ensures later { (other : List ℕ) → F.faults files.old other ≤ F.faults files.new other }
+    ensures same { F.contents files.new ≡ F.contents files.old }
+    ensures telling { F.tells files.new ≡ F.tells files.old }
+{
+    match read_problem(alloc, files, problem) {
+        Ok(stated) => compare(alloc, &stated),
+        Err(answer) => answer,
+    }
+}
+
 /// The name by which a report calls the problem that is asked for.
 pub fn name_of(alloc: Global, asked: &Asked) -> Result<String, AllocError>
     ensures { IfOk result (λ name. string_bytes name ≡ problem_name (the_request asked.now)) }
@@ -89,13 +129,16 @@ pub fn name_of(alloc: Global, asked: &Asked) -> Result<String, AllocError>
             String::from_str(alloc, problem)
         }
         Asked::Demo { n } => demo_name(alloc, *n),
+        Asked::Models { problem, .. } | Asked::Same { problem } => {
+            String::from_str(alloc, problem)
+        }
     }
 }
 
 /// The answer to a request, which reports call by its name.
 pub fn answer<F: Files>(alloc: Global, files: &mut F, asked: &Asked, name: &str) -> Answer
     requires named { name.now ≡ problem_name (the_request asked.now) }
-    requires generable { IsGenerable (the_request asked.now) }
+    requires in_range { IsInRange (the_request asked.now) }
     ensures answers { AnswersRequest (the_request asked.now) (F.tells files.old) (F.contents files.old) result }
     ensures cause { HasCauseOf (the_request asked.now) (F.tells files.old) (F.contents files.old) (F.faults files.old) (F.faults files.new) (outcome_of result) }
 
@@ -107,5 +150,7 @@ pub fn answer<F: Files>(alloc: Global, files: &mut F, asked: &Asked, name: &str)
         Asked::Prove { problem, mode } => prove(alloc, files, problem, *mode),
         Asked::Check { text, problem } => check(alloc, files, text, problem),
         Asked::Demo { n } => demo(alloc, *n, name),
+        Asked::Models { upto, problem } => look_in(alloc, files, *upto, problem),
+        Asked::Same { problem } => compare_in(alloc, files, problem),
     }
 }

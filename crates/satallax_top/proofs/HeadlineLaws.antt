@@ -11,7 +11,7 @@ use Rattle.thf_include.specs.Gathering.{Ending, done, stopped, Stop, wants, too_
 use Rattle.type_check.specs.Statements.{IllInFile, problem_of}
 use Rattle.type_check.proofs.TypedProblems.{problem_of-typed}
 use Rattle.mode_file.specs.declared.Mode.{Mode}
-use Rattle.cli_words.specs.Requests.{Request, prove, refutation, generated, asked_by}
+use Rattle.cli_words.specs.Requests.{Request, prove, refutation, generated, models, sides, asked_by}
 use Rattle.refute_print.specs.Trees.{RefutationTree}
 use Rattle.refute_print.specs.Named.{named_refutation}
 use Rattle.refute_check.specs.Acceptance.{IsAcceptedFor}
@@ -19,7 +19,7 @@ use Rattle.refute_check.proofs.AcceptanceLaws.{accepted_refuted}
 use Rattle.szs_report.specs.Outcomes.{outcome_of}
 use Rattle.szs_report.specs.Report.{report_of}
 use Rattle.szs_report.specs.declared.answer.Answer.{Answer}
-use Rattle.szs_report.specs.declared.answer.Answer.TheVariants.{Proved, DemoDone, ConflictLimit, Accepted, SyntaxAt, TypeAt, IncludeAt, Words, TooLong, ReadFault, Memory, UnreadWords}
+use Rattle.szs_report.specs.declared.answer.Answer.TheVariants.{Proved, DemoDone, ConflictLimit, Accepted, Same, Different, NoEquation, SyntaxAt, TypeAt, IncludeAt, Words, TooLong, ReadFault, Memory, UnreadWords}
 use Rattle.szs_report.specs.declared.answer.Claim.{Claim}
 use Rattle.szs_report.specs.declared.answer.Claim.TheVariants.{Theorem, Unsatisfiable}
 use Rattle.szs_report.specs.declared.answer.NamedFile.{NamedFile}
@@ -37,7 +37,7 @@ use Rattle.request_answers.specs.Answers.{stop_answer, AnswersProblem, AnswersSt
 use Rattle.request_answers.specs.Causes.{HasCauseOf, HasCauseAsked, HasCause}
 use Rattle.prover_run.specs.Ended.{setting_for}
 use Rattle.prover_run.proofs.EnoughLaws.{never-ends}
-use Rattle.satallax_top.specs.Headline.{EnoughAsked, IsProvedOutcome, ShowsNoModel, IsWithoutModel, HasNoModel, IsProofReport, Appends, IsWritten, IsOutcome}
+use Rattle.satallax_top.specs.Headline.{EnoughAsked, IsProvedOutcome, ShowsNoModel, IsWithoutModel, HasNoModel, IsOfSides, SaysOfSides, HasSidesSo, IsProofReport, Appends, IsWritten, IsOutcome}
 use Rattle.request_answers.proofs.OneLine.{name_one_line}
 use Rattle.request_answers.proofs.ReportHolds.{holds_report, accepted_report}
 use Rattle.request_answers.proofs.SolvedLaws.{proof_accepted}
@@ -154,6 +154,10 @@ proved_asked R (Some (refutation file p)) told contents claim n text h k =
     let f = files_answered (refutation file p) told contents (Proved claim n text) (λ x. x) h in absurd f.answered.holds
 proved_asked R (Some (generated i)) told contents claim n text h k =
     let f = files_answered (generated i) told contents (Proved claim n text) (λ x. x) h in absurd f.answered
+proved_asked R (Some (models i p)) told contents claim n text h k =
+    let f = files_answered (models i p) told contents (Proved claim n text) (λ x. x) h in absurd f.answered
+proved_asked R (Some (sides p)) told contents claim n text h k =
+    let f = files_answered (sides p) told contents (Proved claim n text) (λ x. x) h in absurd f.answered
 proved_asked R (Some (prove p file)) told contents claim n text h k = k p file refl h
 
 proved_answer : (o : Option Request) (told : Bool) (contents : List ℕ → Option (List ℕ)) (a : Answer) → AnswersAsked o told contents a → IsProvedOutcome (outcome_of a) → ProvedAnswer o told contents a
@@ -199,12 +203,81 @@ no_model_asked (Some (generated k)) told contents (DemoDone claim n) h s =
     record { names = f.names; problem = f.problem; stated = f.stated; no_model = no_model_of f.problem (named_refutation (names_in f.problem) (taken_names f.problem) proof.refutation) f.typed (proof_accepted f.mode f.problem n f.answered.0 proof) }
 no_model_asked (Some (generated k)) told contents Accepted h s =
     let f = files_answered (generated k) told contents Accepted (λ x. x) h in absurd f.answered
+no_model_asked (Some (models k p)) told contents (Proved claim n text) h s =
+    let f = files_answered (models k p) told contents (Proved claim n text) (λ x. x) h in absurd f.answered
+no_model_asked (Some (models k p)) told contents (DemoDone claim n) h s =
+    let f = files_answered (models k p) told contents (DemoDone claim n) (λ x. x) h in absurd f.answered
+no_model_asked (Some (models k p)) told contents Accepted h s =
+    let f = files_answered (models k p) told contents Accepted (λ x. x) h in absurd f.answered
+no_model_asked (Some (sides p)) told contents (Proved claim n text) h s =
+    let f = files_answered (sides p) told contents (Proved claim n text) (λ x. x) h in absurd f.answered
+no_model_asked (Some (sides p)) told contents (DemoDone claim n) h s =
+    let f = files_answered (sides p) told contents (DemoDone claim n) (λ x. x) h in absurd f.answered
+no_model_asked (Some (sides p)) told contents Accepted h s =
+    let f = files_answered (sides p) told contents Accepted (λ x. x) h in absurd f.answered
 no_model_asked o told contents a h s = absurd s
 
 pub no_model_answer : (words : List (List ℕ)) (told : Bool) (contents : List ℕ → Option (List ℕ)) (o : Outcome) (a : Answer) → IsAnswer words told contents a → o ≡ outcome_of a → ShowsNoModel o → HasNoModel words told contents
 no_model_answer words told contents o a answer is h =
     let q = no_model_asked (asked_by words) told contents a answer (subst ShowsNoModel is h) in
     record { names = q.names; problem = q.problem; stated = q.stated; no_model = q.no_model }
+
+-- a problem that is answered with what its conjecture's sides are was to be answered so
+said_of_sides : (told : Bool) (contents : List ℕ → Option (List ℕ)) (r : Request) (m : Mode) (p : PlainProblem) (a : Answer) → IsOfSides (outcome_of a) → AnswersProblem told contents r m p a → SaysOfSides (outcome_of a) p
+said_of_sides told contents (prove q file) m p Same s h = absurd h
+said_of_sides told contents (prove q file) m p Different s h = absurd h
+said_of_sides told contents (prove q file) m p NoEquation s h = absurd h
+said_of_sides told contents (refutation file q) m p Same s h = absurd h.holds
+said_of_sides told contents (refutation file q) m p Different s h = absurd h.holds
+said_of_sides told contents (refutation file q) m p NoEquation s h = absurd h.holds
+said_of_sides told contents (generated n) m p Same s h = absurd h
+said_of_sides told contents (generated n) m p Different s h = absurd h
+said_of_sides told contents (generated n) m p NoEquation s h = absurd h
+said_of_sides told contents (models k q) m p Same s h = absurd h
+said_of_sides told contents (models k q) m p Different s h = absurd h
+said_of_sides told contents (models k q) m p NoEquation s h = absurd h
+said_of_sides told contents (sides q) m p Same s h = h
+said_of_sides told contents (sides q) m p Different s h = h
+said_of_sides told contents (sides q) m p NoEquation s h = h
+said_of_sides told contents r m p (Proved Theorem n text) s h = absurd s
+said_of_sides told contents r m p (Proved Unsatisfiable n text) s h = absurd s
+said_of_sides told contents r m p a s h = absurd s
+
+of_sides-no_refusal : (a : Answer) → IsOfSides (outcome_of a) → IsRefusal a → ⊥
+of_sides-no_refusal (ReadFault file) s x = s
+of_sides-no_refusal (TooLong file) s x = s
+of_sides-no_refusal (SyntaxAt file at) s x = s
+of_sides-no_refusal (IncludeAt file at why) s x = s
+of_sides-no_refusal (TypeAt file at why) s x = s
+of_sides-no_refusal a s x = x
+
+-- such an answer is given by files. The conclusion is a variable, so that no record is compared field by field.
+of_sides_asked : (R : Type 0) (o : Option Request) (told : Bool) (contents : List ℕ → Option (List ℕ)) (a : Answer) → IsOfSides (outcome_of a) → AnswersAsked o told contents a → ((r : Request) → o ≡ Some r → AnswersFiles r told contents a → R) → R
+of_sides_asked R None told contents Same s h k = cc
+of_sides_asked R None told contents Different s h k = cc
+of_sides_asked R None told contents NoEquation s h k = cc
+of_sides_asked R (Some r) told contents Same s h k = k r refl h
+of_sides_asked R (Some r) told contents Different s h k = k r refl h
+of_sides_asked R (Some r) told contents NoEquation s h k = k r refl h
+of_sides_asked R o told contents (Proved Theorem n text) s h k = absurd s
+of_sides_asked R o told contents (Proved Unsatisfiable n text) s h k = absurd s
+of_sides_asked R o told contents a s h k = absurd s
+
+files_sides : (words : List (List ℕ)) (told : Bool) (contents : List ℕ → Option (List ℕ)) (a : Answer) (r : Request) → asked_by words ≡ Some r → IsOfSides (outcome_of a) → FilesAnswered r told contents a → HasSidesSo words told contents (outcome_of a)
+files_sides words told contents a r asked s f = record {
+  names = f.names;
+  problem = f.problem;
+  stated = subst (λ x. OfAsked x told contents f.names (Statements f.problem)) (sym asked) f.stated;
+  says = said_of_sides told contents r f.mode f.problem a s f.answered;
+}
+
+pub sides_answer : (words : List (List ℕ)) (told : Bool) (contents : List ℕ → Option (List ℕ)) (o : Outcome) (a : Answer) → IsAnswer words told contents a → o ≡ outcome_of a → IsOfSides o → HasSidesSo words told contents o
+sides_answer words told contents o a answer is h =
+    let s : IsOfSides (outcome_of a) = subst IsOfSides is h in
+    subst (HasSidesSo words told contents) (sym is)
+    (of_sides_asked (HasSidesSo words told contents (outcome_of a)) (asked_by words) told contents a s answer
+    (λ (r : Request) (asked : asked_by words ≡ Some r) (files : AnswersFiles r told contents a).
+    files_sides words told contents a r asked s (files_answered r told contents a (of_sides-no_refusal a s) files)))
 
 -- the report of an answer that is a proof
 proof_reported : (words : List (List ℕ)) (told : Bool) (contents : List ℕ → Option (List ℕ)) (o : Outcome) (a : Answer) (written : List ℕ) → IsAnswer words told contents a → o ≡ outcome_of a → IsProvedOutcome o → written ≡ report_of (asked_name words) a → IsProofReport words told contents o written
@@ -259,6 +332,8 @@ words_asked None told contents h = refl
 words_asked (Some (prove p file)) told contents h = let f = files_answered (prove p file) told contents Words (λ x. x) h in absurd f.answered
 words_asked (Some (refutation file p)) told contents h = let f = files_answered (refutation file p) told contents Words (λ x. x) h in absurd f.answered.holds
 words_asked (Some (generated n)) told contents h = let f = files_answered (generated n) told contents Words (λ x. x) h in absurd f.answered
+words_asked (Some (models k p)) told contents h = let f = files_answered (models k p) told contents Words (λ x. x) h in absurd f.answered
+words_asked (Some (sides p)) told contents h = let f = files_answered (sides p) told contents Words (λ x. x) h in absurd f.answered
 
 pub words_answer : (words : List (List ℕ)) (told : Bool) (contents : List ℕ → Option (List ℕ)) (o : Outcome) (a : Answer) → IsAnswer words told contents a → o ≡ outcome_of a → o ≡ ended.Words → asked_by words ≡ None
 words_answer words told contents o a answer is e = words_asked (asked_by words) told contents (subst (IsAnswer words told contents) (words_form a (sym is ∙ e)) answer)
@@ -274,6 +349,10 @@ never_spent (Some (refutation file p)) told contents conflicts enough h =
 never_spent (Some (generated n)) told contents conflicts enough h =
     let f = files_answered (generated n) told contents (ConflictLimit conflicts) (λ x. x) h in
     never-ends (setting_for f.problem f.mode) (start (unfolded_problem f.problem)) conflicts (enough f.mode f.names f.problem f.is_mode f.stated) f.answered
+never_spent (Some (models k p)) told contents conflicts enough h =
+    let f = files_answered (models k p) told contents (ConflictLimit conflicts) (λ x. x) h in f.answered
+never_spent (Some (sides p)) told contents conflicts enough h =
+    let f = files_answered (sides p) told contents (ConflictLimit conflicts) (λ x. x) h in f.answered
 
 -- the outcome of an answer
 pub outcome_whole : (words : List (List ℕ)) (told : Bool) (contents : List ℕ → Option (List ℕ)) (o : Outcome) (a : Answer) → IsAnswer words told contents a → o ≡ outcome_of a → IsOutcome words told contents o
@@ -285,6 +364,8 @@ rose_of : (r : Request) (told : Bool) (contents : List ℕ → Option (List ℕ)
 rose_of (prove p m) told contents before now (Part k names) h = (h.file, h.rose)
 rose_of (refutation t p) told contents before now (Part k names) h = (h.file, h.rose)
 rose_of (generated n) told contents before now (Part k names) h = absurd h
+rose_of (models k p) told contents before now (Part i names) h = (h.file, h.rose)
+rose_of (sides p) told contents before now (Part k names) h = (h.file, h.rose)
 rose_of r told contents before now (named.Mode name) h = (h.file, h.rose)
 rose_of r told contents before now (Check name) h = (h.file, h.rose)
 

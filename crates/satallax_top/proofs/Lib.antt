@@ -1,3 +1,4 @@
 pub mod ToldFiles
 pub mod OneAnswer
 pub mod HeadlineLaws
+pub mod ModelLaws

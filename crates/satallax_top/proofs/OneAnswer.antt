@@ -9,10 +9,10 @@ use Rattle.outside.specs.Lines.{lines_of}
 use Rattle.mode_file.specs.Grammar.{States}
 use Rattle.mode_file.specs.Refusals.{Refuses}
 use Rattle.mode_file.proofs.AnswerLaws.{one_mode, one_refusal as one_bad_line, not_both_answers}
-use Rattle.cli_words.specs.Requests.{Request, prove, refutation, generated, asked_by}
+use Rattle.cli_words.specs.Requests.{Request, prove, refutation, generated, models, sides, asked_by}
 use Rattle.szs_report.specs.Outcomes.{outcome_of, without_refutation}
 use Rattle.szs_report.specs.declared.answer.Answer.{Answer}
-use Rattle.szs_report.specs.declared.answer.Answer.TheVariants.{Proved, ConflictLimit, Accepted, Refused, ModeAt, Words, TooLong, ReadFault, Memory, UnreadWords}
+use Rattle.szs_report.specs.declared.answer.Answer.TheVariants.{Proved, ConflictLimit, Accepted, Refused, CounterSatisfiable, Satisfiable, NoneSmall, ModelsTooMany, Same, Different, NoEquation, ModeAt, Words, TooLong, ReadFault, Memory, UnreadWords}
 use Rattle.szs_report.specs.declared.answer.NamedFile.TheVariants.{Mode, Check}
 use Rattle.szs_report.specs.declared.outcome.ModeWhy.{ModeWhy}
 use Rattle.szs_report.specs.declared.outcome.ModeWhy.TheVariants.{UnknownKey, Twice, BadNumber, OutOfRange}
@@ -22,6 +22,20 @@ use Rattle.outside.specs.Limits.{byte_limit}
 use Rattle.request_answers.specs.Internal.RefusedModes.{mode_answer}
 use Rattle.request_answers.specs.Checked.{IsAcceptedText, IsRefusedText, AnswersBytes, AnswersText}
 use Rattle.request_answers.specs.Answers.{AnswersProblem, AnswersStated, AnswersEnding, AnswersFiles, AnswersAsked, IsSettled, Defined}
+use Rattle.conv_laws.specs.Sides.{AreSidesOf}
+use Rattle.conv_laws.specs.declared.sides.Sides.{Sides}
+use Rattle.conv_laws.specs.declared.sides.Sides.TheVariants as compared
+use Rattle.conv_laws.proofs.SideLaws.{one_said}
+use Rattle.finite_models.specs.Symbols.{symbols}
+use Rattle.finite_models.specs.Small.{IsSmall}
+use Rattle.finite_models.specs.declared.found.Found.{Found}
+use Rattle.finite_models.specs.declared.found.Found.TheVariants as found
+use Rattle.finite_models.proofs.OneAnswer.{one_answer as one_finding}
+use Rattle.szs_report.specs.ModelText.{model_text}
+use Rattle.request_answers.specs.Names.{names_in}
+use Rattle.request_answers.specs.Compared.{AnswersSides}
+use Rattle.request_answers.specs.Modelled.{AnswersModels}
+use Rattle.satallax_top.specs.Models.{model_answer_by}
 use Rattle.request_answers.proofs.CheckedLaws.{accepted_not_refused, one_refusal}
 use Rattle.request_answers.proofs.RunEnds.{solved-same, demoed-same}
 use Rattle.satallax_top.proofs.ToldFiles.{IsFinal, one_told}
@@ -72,12 +86,61 @@ text_same contents file p a b h k =
     go one (inr x) (inl y) = absurd (omega (arith, x.0, y.1, ap length one))
     go one (inr x) (inr y) = bytes_same p k.bytes a b (subst (λ bs. BytesAnswer p bs a) one x.1) y.1
 
+-- what the two sides of a conjecture are answered with
+abbrev compared_answer : Sides → Answer
+compared_answer compared.Same = Same
+compared_answer compared.Different = Different
+compared_answer compared.NoEquation = NoEquation
+
+record IsComparison (p : PlainProblem) (a : Answer) : Type 0 where
+  found : Sides
+  holds : AreSidesOf p sides
+  is : a ≡ compared_answer found
+
+comparison_of : (p : PlainProblem) (a : Answer) → IsSettled a → AnswersSides p a → IsComparison p a
+comparison_of p Memory w h = absurd w
+comparison_of p Same w h = record { found = compared.Same; holds = h; is = refl }
+comparison_of p Different w h = record { found = compared.Different; holds = h; is = refl }
+comparison_of p NoEquation w h = record { found = compared.NoEquation; holds = h; is = refl }
+comparison_of p a w h = absurd h
+
+compared_same : (p : PlainProblem) (a b : Answer) → IsComparison p a → IsComparison p b → a ≡ b
+compared_same p a b h k = h.is ∙ ap compared_answer (one_said p h.found k.found h.holds k.holds) ∙ sym k.is
+
+-- what a search for models is answered with
+abbrev finding_answer : ℕ → PlainProblem → Found → Answer
+finding_answer upto p (found.Model s values) = model_answer_by p.conjecture s (model_text (names_in p) (symbols p) values)
+finding_answer upto p (found.TooMany s) = ModelsTooMany s
+finding_answer upto p found.None = NoneSmall upto
+
+record IsFinding (upto : ℕ) (p : PlainProblem) (a : Answer) : Type 0 where
+  what : Found
+  small : IsSmall p upto what
+  is : a ≡ finding_answer upto p what
+
+finding_of : (upto : ℕ) (p : PlainProblem) (a : Answer) → IsSettled a → AnswersModels upto p a → IsFinding upto p a
+finding_of upto p Memory w h = absurd w
+finding_of upto p (CounterSatisfiable n lines) w h =
+    let f = h.1 in
+    record { what = found.Model n f.values; small = f.found.small; is = ap (CounterSatisfiable n) f.lines_are ∙ ap (λ o. model_answer_by o n (model_text (names_in p) (symbols p) f.values)) (sym h.0.1) }
+finding_of upto p (Satisfiable n lines) w h =
+    let f = h.1 in
+    record { what = found.Model n f.values; small = f.found.small; is = ap (Satisfiable n) f.lines_are ∙ ap (λ o. model_answer_by o n (model_text (names_in p) (symbols p) f.values)) (sym h.0) }
+finding_of upto p (NoneSmall n) w h = record { what = found.None; small = h.1.small; is = ap NoneSmall h.0 }
+finding_of upto p (ModelsTooMany n) w h = record { what = found.TooMany n; small = h.small; is = refl }
+finding_of upto p a w h = absurd h
+
+finding_same : (upto : ℕ) (p : PlainProblem) (a b : Answer) → IsFinding upto p a → IsFinding upto p b → a ≡ b
+finding_same upto p a b h k = h.is ∙ ap (finding_answer upto p) (one_finding p upto h.what k.what h.small k.small) ∙ sym k.is
+
 -- a problem that is read is answered in one way
 problem_same : (r : Request) (m : SearchMode) (contents : List ℕ → Option (List ℕ)) (p : PlainProblem) (a b : Answer) → IsSettled a → IsSettled b
     → AnswersProblem true contents r m p a → AnswersProblem true contents r m p b → without_refutation a ≡ without_refutation b
 problem_same (prove p file) m contents q a b w v h k = solved-same m q a b w v h k
 problem_same (refutation file p) m contents q a b w v h k = ap without_refutation (text_same contents file q a b (text_read contents file q a w h) (text_read contents file q b v k))
 problem_same (generated n) m contents q a b w v h k = demoed-same m q a b w v h k
+problem_same (models upto p) m contents q a b w v h k = ap without_refutation (finding_same upto q a b (finding_of upto q a w h) (finding_of upto q b v k))
+problem_same (sides p) m contents q a b w v h k = ap without_refutation (compared_same q a b (comparison_of q a w h) (comparison_of q b v k))
 
 stated_same : (r : Request) (m : SearchMode) (contents : List ℕ → Option (List ℕ)) (names : List (List ℕ)) (a b : Answer) (o : Result PlainProblem IllInFile) → IsSettled a → IsSettled b
     → AnswersStated (AnswersProblem true contents r m) names a o → AnswersStated (AnswersProblem true contents r m) names b o → without_refutation a ≡ without_refutation b
@@ -148,6 +211,8 @@ told_true : (r : Request) → told_of true r ≡ true
 told_true (prove p file) = refl
 told_true (refutation file p) = refl
 told_true (generated n) = refl
+told_true (models upto p) = refl
+told_true (sides p) = refl
 
 files_same : (r : Request) (contents : List ℕ → Option (List ℕ)) (a b : Answer) → IsSettled a → IsSettled b
     → AnswersFiles r true contents a → AnswersFiles r true contents b → without_refutation a ≡ without_refutation b

@@ -10,6 +10,8 @@ use Rattle.tableau_calculus.specs.Closed.{Closes, tableau_of}
 use Rattle.tableau_calculus.specs.Start.{start}
 use Rattle.tableau_calculus.specs.declared.refutation.Refutation.{Refutation}
 use Rattle.mode_file.specs.declared.Mode.{Mode}
+use Rattle.conv_laws.specs.Sides.{AreSidesOf}
+use Rattle.conv_laws.specs.declared.sides.Sides.TheVariants as compared
 use Rattle.delta_defs.specs.Unfolding.{taken_names, unfolded_problem}
 use Rattle.cli_words.specs.Requests.{Request, prove, asked_by}
 use Rattle.prover_run.specs.Ended.{setting_for, IsRefuted, HasEnoughConflicts}
@@ -20,7 +22,7 @@ use Rattle.szs_report.specs.Report.{report_of}
 use Rattle.szs_report.specs.declared.answer.Answer.{Answer}
 use Rattle.szs_report.specs.declared.answer.Answer.TheVariants.{Proved}
 use Rattle.szs_report.specs.declared.outcome.Outcome.{Outcome}
-use Rattle.szs_report.specs.declared.outcome.Outcome.TheVariants.{Theorem, Unsatisfiable, DemoDone, Accepted, WriteFault}
+use Rattle.szs_report.specs.declared.outcome.Outcome.TheVariants.{Theorem, Unsatisfiable, DemoDone, Accepted, Same, Different, NoEquation, WriteFault}
 use Rattle.request_answers.specs.Requested.{asked_name, problem_name, mode_file, told_of, contents_of}
 use Rattle.request_answers.specs.Files.{OfFiles, Statements, StatesProblem}
 use Rattle.request_answers.specs.Modes.{IsModeBy}
@@ -54,6 +56,27 @@ pub record HasNoModel (words : List (List ℕ)) (told : Bool) (contents : List �
   pub problem : PlainProblem
   pub stated : StatesProblem words told contents names problem
   pub no_model : IsWithoutModel problem
+
+-- the outcome is of the two sides of a conjecture
+abbrev pub IsOfSides : Outcome → Type 0
+IsOfSides Same = Unit {0}
+IsOfSides Different = Unit {0}
+IsOfSides NoEquation = Unit {0}
+IsOfSides outcome = ⊥
+
+-- what such an outcome says of a problem's conjecture
+abbrev pub SaysOfSides : Outcome → PlainProblem → Type 0
+SaysOfSides Same p = AreSidesOf p compared.Same
+SaysOfSides Different p = AreSidesOf p compared.Different
+SaysOfSides NoEquation p = AreSidesOf p compared.NoEquation
+SaysOfSides outcome p = ⊥
+
+-- what the outcome says holds of the problem that the files state
+pub record HasSidesSo (words : List (List ℕ)) (told : Bool) (contents : List ℕ → Option (List ℕ)) (outcome : Outcome) : Type 0 where
+  pub names : List (List ℕ)
+  pub problem : PlainProblem
+  pub stated : StatesProblem words told contents names problem
+  pub says : SaysOfSides outcome problem
 
 -- Whatever problem the files state that a request is about, and by whatever mode it is run: the mode has enough conflicts for the clauses of
 -- each state of the run.

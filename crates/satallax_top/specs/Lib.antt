@@ -1,5 +1,10 @@
 pub use Rattle.cli_words.specs.Requests
+pub use Rattle.conv_laws.specs.Sides
 pub use Rattle.delta_defs.specs.Unfolding
+pub use Rattle.finite_models.specs.Candidates
+pub use Rattle.finite_models.specs.Laws as FiniteModelsLaws
+pub use Rattle.finite_models.specs.Small
+pub use Rattle.finite_models.specs.Symbols
 pub use Rattle.outside.specs.Causes as OutsideCauses
 pub use Rattle.outside.specs.Prefix
 pub use Rattle.prover_run.specs.Ended
@@ -9,6 +14,8 @@ pub use Rattle.refute_print.specs.Text
 pub use Rattle.request_answers.specs.Answers
 pub use Rattle.request_answers.specs.Causes as RequestAnswersCauses
 pub use Rattle.request_answers.specs.Checked
+pub use Rattle.request_answers.specs.Compared
+pub use Rattle.request_answers.specs.Modelled
 pub use Rattle.request_answers.specs.Files
 pub use Rattle.request_answers.specs.Modes
 pub use Rattle.request_answers.specs.Names
@@ -18,10 +25,12 @@ pub use Rattle.stt_core.specs.Declarations
 pub use Rattle.stt_core.specs.Meaning
 pub use Rattle.stt_core.specs.Meets
 pub use Rattle.stt_core.specs.PlainProblem
+pub use Rattle.szs_report.specs.ModelText
 pub use Rattle.szs_report.specs.Outcomes
 pub use Rattle.szs_report.specs.Report
 pub use Rattle.tableau_calculus.specs.Closed
 pub use Rattle.tableau_calculus.specs.Start
 pub use Rattle.tableau_calculus.specs.Witnesses
 pub mod Headline
+pub mod Models
 pub mod Laws

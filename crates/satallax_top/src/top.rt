@@ -6,7 +6,8 @@ ghost use Rattle.cli_words.specs.Requests.{asked_by};
 ghost use Rattle.request_answers.specs.Requested.{asked_name};
 ghost use Rattle.request_answers.specs.Answers.{IsAnswer, IsDefined};
 ghost use Rattle.request_answers.specs.Causes.{IsNoWriteFault, HasCause};
-ghost use Rattle.satallax_top.specs.Headline.{IsProvedOutcome, ShowsNoModel, HasNoModel, IsProofReport, Appends, IsWritten, IsOutcome};
+ghost use Rattle.satallax_top.specs.Headline.{IsProvedOutcome, ShowsNoModel, HasNoModel, IsOfSides, HasSidesSo, IsProofReport, Appends, IsWritten, IsOutcome};
+ghost use Rattle.satallax_top.specs.Models.{IsModelOutcome, IsOfModels, HasModelsSo, IsModelReport};
 ghost use Rattle.szs_report.specs.Outcomes.{outcome_of};
 ghost use Rattle.szs_report.specs.Report.{report_of};
 
@@ -56,8 +57,8 @@ fn call<F: Files>(alloc: Global, words: &Words, files: &mut F) -> Called
     }
 }
 
-/// Proves the problem that the words name, or checks the text of a refutation against it, or makes and proves one, and writes the report. The
-/// words are those behind the program's name. All is built before the first byte is written, and from then on no memory is taken.
+/// Proves the problem that the words name, or checks the text of a refutation against it, or makes and proves one, or looks for a
+/// finite model of it, or compares the two sides of its conjecture, and writes the report. The words are those behind the program's name. All is built before the first byte is written, and from then on no memory is taken.
 pub fn satallax<F: Files, S: Sink>(
     alloc: Global,
     words: &Words,
@@ -79,6 +80,16 @@ pub fn satallax<F: Files, S: Sink>(
 
     // Where a proof is reported, of the problem in a file or of a generated one, or a text is accepted, no model meets the problem.
     ensures no_model { ShowsNoModel result → HasNoModel words.now (F.tells files.old) (F.contents files.old) }
+
+    // Where a finite model is reported, what is written gives the values of the problem's symbols in a model that meets the problem.
+    ensures model { IsTrue (S.tells out.old) → IsModelOutcome result
+        → Appends (S.written out.old) (S.written out.new) (IsModelReport words.now (F.tells files.old) (F.contents files.old) result) }
+
+    // What is said of finite models holds: there is one, there is none within the bound, or there is too much to look at.
+    ensures models { IsOfModels result → HasModelsSo words.now (F.tells files.old) (F.contents files.old) result }
+
+    // What is said of the two sides of a conjecture holds: they are convertible, they aren't, or it is no equation.
+    ensures sides { IsOfSides result → HasSidesSo words.now (F.tells files.old) (F.contents files.old) result }
 
     // The causes of what doesn't hang on contents. A fault is answered exactly where a call of the files or of the sink counted one.
     ensures words { result ≡ Outcome.Words → asked_by words.now ≡ None }

@@ -2,7 +2,7 @@
 use Rattle.std.proofs.Common.{◌≡◌, ℕ, List, [], ◌∷◌, ◌++◌, codes, ap, ◌∙◌, append_assoc}
 use Rattle.refute_print.specs.Text.{as_bytes}
 use Rattle.refute_text.specs.Reading.{start_mark}
-use Rattle.szs_report.specs.Report.{headed_report, demo_report, refused_report}
+use Rattle.szs_report.specs.Report.{headed_report, model_report, line_report, demo_report, refused_report}
 
 pub proof_start-pieces : (status name count : List ℕ) → as_bytes ((status ++ name) ∷ (codes "% commands " ++ count) ∷ (start_mark ++ name) ∷ []) ≡ status ++ (name ++ (codes "\n% commands " ++ (count ++ (codes "\n% SZS output start Refutation for " ++ (name ++ (codes "\n" ++ []))))))
 proof_start-pieces status name count = append_assoc status name _
@@ -21,6 +21,19 @@ place_why-pieces status name word file count why =
     headed-pieces status name word ((file ++ (codes " " ++ count)) ++ (codes " " ++ why))
     ∙ ap (λ x. status ++ (name ++ (codes "\n" ++ (word ++ x))))
     (append_assoc (file ++ (codes " " ++ count)) (codes " " ++ why) (codes "\n") ∙ append_assoc file (codes " " ++ count) (codes " " ++ (why ++ codes "\n")))
+
+pub model-pieces : (status name size lines : List ℕ) → model_report status name size lines ≡ status ++ (name ++ (codes "\n% SZS output start FiniteModel for " ++ (name ++ (codes "\nsize " ++ (size ++ (codes "\n" ++ (lines ++ (codes "% SZS output end FiniteModel for " ++ (name ++ (codes "\n" ++ []))))))))))
+model-pieces status name size lines =
+    let end : List ℕ = lines ++ (codes "% SZS output end FiniteModel for " ++ (name ++ codes "\n")) in
+    let sized : List ℕ = size ++ codes "\n" in
+    let started : List ℕ = name ++ (codes "\nsize " ++ sized) in
+    append_assoc (status ++ name) (codes "\n% SZS output start FiniteModel for " ++ started) end
+    ∙ append_assoc status name ((codes "\n% SZS output start FiniteModel for " ++ started) ++ end)
+    ∙ ap (λ x. status ++ (name ++ (codes "\n% SZS output start FiniteModel for " ++ x)))
+    (append_assoc name (codes "\nsize " ++ sized) end ∙ ap (λ x. name ++ (codes "\nsize " ++ x)) (append_assoc size (codes "\n") end))
+
+pub line-pieces : (word name : List ℕ) → line_report word name ≡ word ++ (name ++ (codes "\n" ++ []))
+line-pieces word name = append_assoc word name (codes "\n")
 
 pub refused-pieces : (name line word : List ℕ) → refused_report name line word ≡ codes "% refutation refused for " ++ (name ++ (codes " line " ++ (line ++ (codes " " ++ (word ++ (codes "\n" ++ []))))))
 refused-pieces name line word =

@@ -1,9 +1,12 @@
+pub use Rattle.finite_models.specs.Symbols
 pub use Rattle.outside.specs.Causes
 pub use Rattle.outside.specs.Prefix
 pub use Rattle.outside.specs.Writing
 pub use Rattle.refute_print.specs.Named
 pub use Rattle.refute_print.specs.Text
 pub use Rattle.refute_text.specs.Reading
+pub use Rattle.stt_core.specs.ScopeView
 pub mod Status
 pub mod Outcomes
 pub mod Report
+pub mod ModelText

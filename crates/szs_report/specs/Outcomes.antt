@@ -1,7 +1,7 @@
 -- The outcome of an answer.
 use Rattle.std.specs.Prelude.{[]}
 use Rattle.szs_report.specs.declared.answer.Answer.{Answer}
-use Rattle.szs_report.specs.declared.answer.Answer.TheVariants.{Proved, GaveUp, CommandLimit, ConflictLimit, DemoDone, Accepted, Refused, SyntaxAt, TypeAt, IncludeAt, ModeAt, Words, TooLong, ReadFault, Memory, UnreadWords}
+use Rattle.szs_report.specs.declared.answer.Answer.TheVariants.{Proved, GaveUp, CommandLimit, ConflictLimit, DemoDone, Accepted, Refused, CounterSatisfiable, Satisfiable, NoneSmall, ModelsTooMany, Same, Different, NoEquation, SyntaxAt, TypeAt, IncludeAt, ModeAt, Words, TooLong, ReadFault, Memory, UnreadWords}
 use Rattle.szs_report.specs.declared.answer.Claim.{Claim}
 use Rattle.szs_report.specs.declared.answer.Claim.TheVariants.{Theorem, Unsatisfiable}
 use Rattle.szs_report.specs.declared.answer.NamedFile.{NamedFile}
@@ -30,6 +30,13 @@ outcome_of (ConflictLimit c) = outcome.ConflictLimit c
 outcome_of (DemoDone claim n) = outcome.DemoDone
 outcome_of Accepted = outcome.Accepted
 outcome_of (Refused line why) = outcome.Refused line why
+outcome_of (CounterSatisfiable s lines) = outcome.CounterSatisfiable s
+outcome_of (Satisfiable s lines) = outcome.Satisfiable s
+outcome_of (NoneSmall k) = outcome.NoneSmall k
+outcome_of (ModelsTooMany s) = outcome.ModelsTooMany s
+outcome_of Same = outcome.Same
+outcome_of Different = outcome.Different
+outcome_of NoEquation = outcome.NoEquation
 outcome_of (SyntaxAt file at) = outcome.SyntaxAt (file_ref file) at
 outcome_of (TypeAt file at why) = outcome.TypeAt (file_ref file) at why
 outcome_of (IncludeAt file at why) = outcome.IncludeAt (file_ref file) at why

@@ -7,7 +7,7 @@ use Rattle.type_check.specs.declared.refusal.IllWhy.{IllWhy}
 use Rattle.type_check.specs.declared.refusal.IllWhy.TheVariants.{Unknown, Twice, Mismatch, NotFormula, SecondConjecture, RoleUnknown}
 use Rattle.refute_text.specs.Reading.{start_mark, end_mark}
 use Rattle.szs_report.specs.declared.answer.Answer.{Answer}
-use Rattle.szs_report.specs.declared.answer.Answer.TheVariants.{Proved, GaveUp, CommandLimit, ConflictLimit, DemoDone, Accepted, Refused, SyntaxAt, TypeAt, IncludeAt, ModeAt, Words, TooLong, ReadFault, Memory, UnreadWords}
+use Rattle.szs_report.specs.declared.answer.Answer.TheVariants.{Proved, GaveUp, CommandLimit, ConflictLimit, DemoDone, Accepted, Refused, CounterSatisfiable, Satisfiable, NoneSmall, ModelsTooMany, Same, Different, NoEquation, SyntaxAt, TypeAt, IncludeAt, ModeAt, Words, TooLong, ReadFault, Memory, UnreadWords}
 use Rattle.szs_report.specs.declared.answer.Claim.{Claim}
 use Rattle.szs_report.specs.declared.answer.Claim.TheVariants.{Theorem, Unsatisfiable}
 use Rattle.szs_report.specs.declared.answer.NamedFile.{NamedFile}
@@ -21,6 +21,10 @@ use Rattle.szs_report.specs.declared.outcome.ModeWhy.TheVariants as line
 abbrev pub headed_report : List ℕ → List ℕ → List ℕ → List ℕ → List ℕ
 headed_report status name word what = as_bytes ((status ++ name) ∷ (word ++ what) ∷ [])
 
+-- a report of one line
+abbrev pub line_report : List ℕ → List ℕ → List ℕ
+line_report word name = as_bytes ((word ++ name) ∷ [])
+
 -- the report of a proof: its head, and the text of the refutation between its marks
 abbrev pub counted_report : List ℕ → List ℕ → List ℕ → List ℕ → List ℕ
 counted_report status name count text =
@@ -28,6 +32,12 @@ counted_report status name count text =
 
 abbrev pub proof_report : List ℕ → List ℕ → ℕ → List ℕ → List ℕ
 proof_report status name n text = counted_report status name (decimal n) text
+
+-- the report of a model: its head, its size, and the lines of its values between the marks
+abbrev pub model_report : List ℕ → List ℕ → List ℕ → List ℕ → List ℕ
+model_report status name size lines =
+    as_bytes ((status ++ name) ∷ (codes "% SZS output start FiniteModel for " ++ name) ∷ (codes "size " ++ size) ∷ [])
+    ++ (lines ++ as_bytes ((codes "% SZS output end FiniteModel for " ++ name) ∷ []))
 
 -- the head of the report of a proof
 abbrev pub claim_status : Claim → List ℕ
@@ -98,13 +108,20 @@ report_of name (GaveUp n) = headed_report (codes "% SZS status GaveUp for ") nam
 report_of name (CommandLimit n) = headed_report (codes "% SZS status ResourceOut for ") name (codes "% command limit ") (decimal n)
 report_of name (ConflictLimit c) = headed_report (codes "% SZS status ResourceOut for ") name (codes "% conflict limit ") (decimal c)
 report_of name (DemoDone claim n) = demo_report (claim_status claim) name (decimal n)
-report_of name Accepted = as_bytes ((codes "% refutation accepted for " ++ name) ∷ [])
+report_of name Accepted = line_report (codes "% refutation accepted for ") name
 report_of name (Refused line why) = refused_report name (decimal line) (why_word why)
+report_of name (CounterSatisfiable s lines) = model_report (codes "% SZS status CounterSatisfiable for ") name (decimal s) lines
+report_of name (Satisfiable s lines) = model_report (codes "% SZS status Satisfiable for ") name (decimal s) lines
+report_of name (NoneSmall k) = headed_report (codes "% SZS status GaveUp for ") name (codes "% no model up to ") (decimal k)
+report_of name (ModelsTooMany s) = headed_report (codes "% SZS status ResourceOut for ") name (codes "% models too many at size ") (decimal s)
+report_of name Same = line_report (codes "% sides convertible for ") name
+report_of name Different = line_report (codes "% sides not convertible for ") name
+report_of name NoEquation = line_report (codes "% no equation for ") name
 report_of name (SyntaxAt file at) = headed_report (codes "% SZS status SyntaxError for ") name (codes "% syntax ") (place_report (file_name file) at)
 report_of name (TypeAt file at why) = headed_report (codes "% SZS status InputError for ") name (codes "% type ") (refused_in (file_name file) at (ill_word why))
 report_of name (IncludeAt file at why) = headed_report (codes "% SZS status InputError for ") name (codes "% include ") (refused_in (file_name file) at (include_word why))
 report_of name (ModeAt line why) = headed_report (codes "% SZS status InputError for ") name (codes "% mode ") (line_why (decimal line) (mode_word why))
-report_of name Words = codes "% usage: satallax [--mode FILE] [--check FILE] [--demo N] PROBLEM\n"
+report_of name Words = codes "% usage: satallax [--mode FILE] [--check FILE] [--demo N] [--models K] [--same] PROBLEM\n"
 report_of name (TooLong file) = headed_report (codes "% SZS status InputError for ") name (codes "% too long ") (file_name file)
 report_of name (ReadFault file) = headed_report (codes "% SZS status InputError for ") name (codes "% read fault ") (file_name file)
 report_of name Memory = headed_report (codes "% SZS status ResourceOut for ") name (codes "% memory") []

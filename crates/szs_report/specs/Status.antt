@@ -1,7 +1,7 @@
 -- The exit status of an outcome.
 use Rattle.std.specs.Prelude.{ℕ}
 use Rattle.szs_report.specs.declared.outcome.Outcome.{Outcome}
-use Rattle.szs_report.specs.declared.outcome.Outcome.TheVariants.{Theorem, Unsatisfiable, GaveUp, CommandLimit, ConflictLimit, DemoDone, Accepted, Refused, SyntaxAt, TypeAt, IncludeAt, ModeAt, Words, TooLong, ReadFault, WriteFault, Memory}
+use Rattle.szs_report.specs.declared.outcome.Outcome.TheVariants.{Theorem, Unsatisfiable, GaveUp, CommandLimit, ConflictLimit, DemoDone, Accepted, Refused, CounterSatisfiable, Satisfiable, NoneSmall, ModelsTooMany, Same, Different, NoEquation, SyntaxAt, TypeAt, IncludeAt, ModeAt, Words, TooLong, ReadFault, WriteFault, Memory}
 
 abbrev pub status_of : Outcome → ℕ
 status_of Theorem = 0
@@ -12,6 +12,13 @@ status_of (ConflictLimit c) = 3
 status_of DemoDone = 0
 status_of Accepted = 0
 status_of (Refused line why) = 4
+status_of (CounterSatisfiable s) = 0
+status_of (Satisfiable s) = 0
+status_of (NoneSmall k) = 5
+status_of (ModelsTooMany s) = 6
+status_of Same = 0
+status_of Different = 7
+status_of NoEquation = 8
 status_of (SyntaxAt file at) = 10
 status_of (TypeAt file at why) = 11
 status_of (IncludeAt file at why) = 12

@@ -65,6 +65,31 @@ pub enum Answer {
         line: usize,
         why: Why,
     },
+    /// A finite model of the axioms, in which the conjecture fails: how many values each base type from `$i` on has, and the lines of the
+    /// symbols' values.
+    CounterSatisfiable {
+        size: u32,
+        lines: Bytes,
+    },
+    /// A finite model of the axioms, where there is no conjecture: the same.
+    Satisfiable {
+        size: u32,
+        lines: Bytes,
+    },
+    /// There is no such model of at most so many values.
+    NoneSmall {
+        upto: u32,
+    },
+    /// At this size there is too much to look at.
+    ModelsTooMany {
+        size: u32,
+    },
+    /// The two sides of the conjecture are convertible.
+    Same,
+    /// The two sides of the conjecture aren't convertible.
+    Different,
+    /// There is no conjecture, or it is no equation.
+    NoEquation,
     /// The file's tokens are wrong at this one, or too much is open there.
     SyntaxAt {
         file: NamedFile,
@@ -199,6 +224,13 @@ impl Answer {
                 line: *line,
                 why: *why,
             },
+            Answer::CounterSatisfiable { size, .. } => Outcome::CounterSatisfiable { size: *size },
+            Answer::Satisfiable { size, .. } => Outcome::Satisfiable { size: *size },
+            Answer::NoneSmall { upto } => Outcome::NoneSmall { upto: *upto },
+            Answer::ModelsTooMany { size } => Outcome::ModelsTooMany { size: *size },
+            Answer::Same => Outcome::Same,
+            Answer::Different => Outcome::Different,
+            Answer::NoEquation => Outcome::NoEquation,
             Answer::SyntaxAt { file, at } => syntax_outcome(file, *at),
             Answer::TypeAt { file, at, why } => type_outcome(file, *at, *why),
             Answer::IncludeAt { file, at, why } => include_outcome(file, *at, *why),

@@ -3,11 +3,13 @@
 
 mod answer;
 mod causes;
+mod model_lines;
 mod outcome;
 mod proof_text;
 mod report;
 
 pub use answer::{Answer, Claim, NamedFile};
+pub use model_lines::model_text;
 pub use outcome::{FileRef, IncludeWhy, ModeWhy, Outcome};
 pub use proof_text::ProofText;
 pub use report::write_report;

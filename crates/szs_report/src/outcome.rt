@@ -67,6 +67,28 @@ pub enum Outcome {
         line: usize,
         why: Why,
     },
+    /// A finite model of the axioms, in which the conjecture fails, has so many values for each base type from `$i` on.
+    CounterSatisfiable {
+        size: u32,
+    },
+    /// A finite model of the axioms has so many values, and there is no conjecture.
+    Satisfiable {
+        size: u32,
+    },
+    /// There is no such model of at most so many values.
+    NoneSmall {
+        upto: u32,
+    },
+    /// At this size there is too much to look at.
+    ModelsTooMany {
+        size: u32,
+    },
+    /// The two sides of the conjecture are convertible.
+    Same,
+    /// The two sides of the conjecture aren't convertible.
+    Different,
+    /// There is no conjecture, or it is no equation.
+    NoEquation,
     /// The file's tokens are wrong at this one, or too much is open there.
     SyntaxAt {
         file: FileRef,
@@ -113,10 +135,16 @@ impl Outcome {
     {
         match self {
             Outcome::Theorem | Outcome::Unsatisfiable | Outcome::DemoDone | Outcome::Accepted => 0,
+            Outcome::CounterSatisfiable { .. } | Outcome::Satisfiable { .. } => 0,
+            Outcome::Same => 0,
             Outcome::GaveUp => 1,
             Outcome::CommandLimit { .. } => 2,
             Outcome::ConflictLimit { .. } => 3,
             Outcome::Refused { .. } => 4,
+            Outcome::NoneSmall { .. } => 5,
+            Outcome::ModelsTooMany { .. } => 6,
+            Outcome::Different => 7,
+            Outcome::NoEquation => 8,
             Outcome::SyntaxAt { .. } => 10,
             Outcome::TypeAt { .. } => 11,
             Outcome::IncludeAt { .. } => 12,

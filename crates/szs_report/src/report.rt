@@ -6,16 +6,20 @@ ghost use Rattle.outside.specs.Prefix.{AppendsProperly};
 ghost use Rattle.outside.specs.Writing.{Took, Stopped};
 ghost use Rattle.refute_print.specs.Text.{as_bytes};
 ghost use Rattle.refute_text.specs.Reading.{start_mark, end_mark};
-ghost use Rattle.szs_report.specs.Report.{headed_report, counted_report, proof_report, claim_status, file_name, place_report, ill_word, include_word, mode_word, why_word, refused_report, refused_in, demo_report, line_why, report_of};
+ghost use Rattle.szs_report.specs.Report.{headed_report, line_report, counted_report, proof_report, model_report, claim_status, file_name, place_report, ill_word, include_word, mode_word, why_word, refused_report, refused_in, demo_report, line_why, report_of};
 
 use crate::answer::{Answer, Claim, NamedFile};
 use crate::causes::{ill_word, include_word, mode_word, why_word};
 use crate::outcome::{IncludeWhy, ModeWhy};
 use crate::proof_text::ProofText;
 use itoa::Buffer;
-use outside::{Failed, Sink, write_all_counted, write_pieces};
+use outside::{Bytes, Failed, Sink, write_all_counted, write_pieces};
 use tableau_calculus::Why;
 use type_check::IllWhy;
+
+const COUNTER_SATISFIABLE: &[u8] = b"% SZS status CounterSatisfiable for ";
+
+const SATISFIABLE: &[u8] = b"% SZS status Satisfiable for ";
 
 const GAVE_UP: &[u8] = b"% SZS status GaveUp for ";
 
@@ -25,7 +29,7 @@ const SYNTAX_ERROR: &[u8] = b"% SZS status SyntaxError for ";
 
 const INPUT_ERROR: &[u8] = b"% SZS status InputError for ";
 
-const USAGE: &[u8] = b"% usage: satallax [--mode FILE] [--check FILE] [--demo N] PROBLEM\n";
+const USAGE: &[u8] = b"% usage: satallax [--mode FILE] [--check FILE] [--demo N] [--models K] [--same] PROBLEM\n";
 
 /// Writes a report of two lines.
 fn write_headed<S: Sink>(
@@ -322,18 +326,75 @@ fn write_file<S: Sink>(
     write_headed(out, INPUT_ERROR, name, word, file.name())
 }
 
-/// Writes the report of a text that is accepted.
-fn write_accepted<S: Sink>(out: &mut S, name: &[u8]) -> Result<(), Failed>
+/// Writes the pieces of the report of a model, whose size stands in digits.
+fn write_model_pieces<S: Sink>(
+    out: &mut S,
+    status: &[u8],
+    name: &[u8],
+    size: &[u8],
+    lines: &[u8],
+) -> Result<(), Failed>
     ensures appended { OnOk result (IsTrue (S.tells out.old)
-        → S.written out.new ≡ S.written out.old ++ as_bytes ((codes "% refutation accepted for " ++ name.now) ∷ [])) }
+        → S.written out.new ≡ S.written out.old ++ model_report status.now name.now size.now lines.now) }
     ensures failed { OnErr result (IsTrue (S.tells out.old)
-        → AppendsProperly (S.written out.old) (S.written out.new) (as_bytes ((codes "% refutation accepted for " ++ name.now) ∷ []))) }
+        → AppendsProperly (S.written out.old) (S.written out.new) (model_report status.now name.now size.now lines.now)) }
     ensures quiet { OnOk result (S.faults out.new ≡ S.faults out.old) }
     ensures cause { OnErr result (Rose (S.faults out.old) (S.faults out.new)) }
     ensures later { S.faults out.old ≤ S.faults out.new }
     ensures telling { IsTrue (S.tells out.old) → IsTrue (S.tells out.new) }
 {
-    write_pieces(out, &[b"% refutation accepted for ", name, b"\n"])
+    write_pieces(
+        out,
+        &[
+            status,
+            name,
+            b"\n% SZS output start FiniteModel for ",
+            name,
+            b"\nsize ",
+            size,
+            b"\n",
+            lines,
+            b"% SZS output end FiniteModel for ",
+            name,
+            b"\n",
+        ],
+    )
+}
+
+/// Writes the report of a model.
+fn write_model<S: Sink>(
+    out: &mut S,
+    status: &[u8],
+    name: &[u8],
+    size: u32,
+    lines: &Bytes,
+) -> Result<(), Failed>
+    ensures appended { OnOk result (IsTrue (S.tells out.old)
+        → S.written out.new ≡ S.written out.old ++ model_report status.now name.now (decimal size) lines.now) }
+    ensures failed { OnErr result (IsTrue (S.tells out.old)
+        → AppendsProperly (S.written out.old) (S.written out.new) (model_report status.now name.now (decimal size) lines.now)) }
+    ensures quiet { OnOk result (S.faults out.new ≡ S.faults out.old) }
+    ensures cause { OnErr result (Rose (S.faults out.old) (S.faults out.new)) }
+    ensures later { S.faults out.old ≤ S.faults out.new }
+    ensures telling { IsTrue (S.tells out.old) → IsTrue (S.tells out.new) }
+{
+    let mut buffer = Buffer::new();
+    let digits = buffer.format(size).as_bytes();
+    write_model_pieces(out, status, name, digits, lines.as_slice())
+}
+
+/// Writes a report of one line.
+fn write_line<S: Sink>(out: &mut S, word: &[u8], name: &[u8]) -> Result<(), Failed>
+    ensures appended { OnOk result (IsTrue (S.tells out.old)
+        → S.written out.new ≡ S.written out.old ++ line_report word.now name.now) }
+    ensures failed { OnErr result (IsTrue (S.tells out.old)
+        → AppendsProperly (S.written out.old) (S.written out.new) (line_report word.now name.now)) }
+    ensures quiet { OnOk result (S.faults out.new ≡ S.faults out.old) }
+    ensures cause { OnErr result (Rose (S.faults out.old) (S.faults out.new)) }
+    ensures later { S.faults out.old ≤ S.faults out.new }
+    ensures telling { IsTrue (S.tells out.old) → IsTrue (S.tells out.new) }
+{
+    write_pieces(out, &[word, name, b"\n"])
 }
 
 /// Writes the pieces of the report of a text that is refused at a line, in digits.
@@ -508,8 +569,21 @@ pub fn write_report<S: Sink>(out: &mut S, name: &[u8], answer: &Answer) -> Resul
         }
         Answer::ConflictLimit { conflicts } => write_spent(out, name, *conflicts),
         Answer::DemoDone { claim, commands } => write_demo(out, name, *claim, *commands),
-        Answer::Accepted => write_accepted(out, name),
+        Answer::Accepted => write_line(out, b"% refutation accepted for ", name),
         Answer::Refused { line, why } => write_refusal(out, name, *line, *why),
+        Answer::CounterSatisfiable { size, lines } => {
+            write_model(out, COUNTER_SATISFIABLE, name, *size, lines)
+        }
+        Answer::Satisfiable { size, lines } => write_model(out, SATISFIABLE, name, *size, lines),
+        Answer::NoneSmall { upto } => {
+            write_numbered(out, GAVE_UP, name, b"% no model up to ", *upto)
+        }
+        Answer::ModelsTooMany { size } => {
+            write_numbered(out, RESOURCE_OUT, name, b"% models too many at size ", *size)
+        }
+        Answer::Same => write_line(out, b"% sides convertible for ", name),
+        Answer::Different => write_line(out, b"% sides not convertible for ", name),
+        Answer::NoEquation => write_line(out, b"% no equation for ", name),
         Answer::SyntaxAt { file, at } => write_syntax(out, name, file, *at),
         Answer::TypeAt { file, at, why } => write_ill(out, name, file, *at, *why),
         Answer::IncludeAt { file, at, why } => write_include(out, name, file, *at, *why),

@@ -1,12 +1,12 @@
-use Rattle.std.proofs.Common.{refl, sym, subst}
+use Rattle.std.proofs.Common.{◌≡◌, List, ℕ, Some, None, refl, sym, subst}
 use Rattle.mode_file.specs.Given.{nothing_given, mode_of}
 use Rattle.std.specs.Prelude.{option_map}
-use Rattle.cli_words.specs.Requests.{prove, refutation}
+use Rattle.cli_words.specs.Requests.{prove, refutation, models, sides}
 use Rattle.cli_words.specs.View.{the_request}
 use Rattle.szs_report.specs.Outcomes.{outcome_of}
 use Rattle.request_answers.specs.Answers.{AnswersRequest}
 use Rattle.request_answers.specs.Causes.{HasCauseOf}
-use Rattle.request_answers.proofs.FileLaws.{files_request, cause_of, mode_fault, no_text_asked}
+use Rattle.request_answers.proofs.FileLaws.{files_request, cause_of, mode_fault, no_text_asked, no_text_modelled, no_text_compared}
 use Rattle.request_answers.proofs.request.answer.Goals as goal
 
 pub returns-in-Prove-clause-cause : goal.returns-in-Prove-clause-cause
@@ -36,3 +36,51 @@ returns-in-Demo-clause-answers g c =
     let told = g.F.Files.tells c.args.files.now in
     let contents = g.F.Files.contents c.args.files.now in
     subst (λ a. AnswersRequest (the_request a) told contents c.demo.result) (sym c.in-Demo.is) (c.demo.ensures.answers told contents)
+
+-- no mode's file is named
+no_mode_file : {R : Type 0} (name : List ℕ) → None ≡ Some name → R
+no_mode_file name e = cc
+
+pub returns-in-Models-clause-answers : goal.returns-in-Models-clause-answers
+returns-in-Models-clause-answers g c =
+    let told = g.F.Files.tells c.args.files.now in
+    let contents = g.F.Files.contents c.args.files.now in
+    subst (λ a. AnswersRequest (the_request a) told contents c.look_in.result) (sym c.in-Models.is)
+    (files_request (models c.in-Models.upto c.in-Models.problem.now) told contents (mode_of nothing_given) refl c.look_in.result c.look_in.ensures.answers)
+
+pub returns-in-Models-clause-cause : goal.returns-in-Models-clause-cause
+returns-in-Models-clause-cause g c =
+    let told = g.F.Files.tells c.args.files.now in
+    let contents = g.F.Files.contents c.args.files.now in
+    let before = g.F.Files.faults c.args.files.now in
+    let now = g.F.Files.faults c.look_in.new.files in
+    let request = models c.in-Models.upto c.in-Models.problem.now in
+    let answer = c.look_in.result in
+    let answers : AnswersRequest request told contents answer = files_request request told contents (mode_of nothing_given) refl answer c.look_in.ensures.answers in
+    subst (λ a. HasCauseOf (the_request a) told contents before now (outcome_of answer)) (sym c.in-Models.is)
+    (cause_of request told contents before now answer c.look_in.ensures.fault
+    (λ name is. no_mode_file name (subst (AnswersRequest request told contents) is answers))
+    (λ name is. absurd (no_text_modelled c.in-Models.upto c.in-Models.problem.now told contents name (subst (AnswersRequest request told contents) is answers)))
+    c.look_in.ensures.quiet)
+
+pub returns-in-Same-clause-answers : goal.returns-in-Same-clause-answers
+returns-in-Same-clause-answers g c =
+    let told = g.F.Files.tells c.args.files.now in
+    let contents = g.F.Files.contents c.args.files.now in
+    subst (λ a. AnswersRequest (the_request a) told contents c.compare_in.result) (sym c.in-Same.is)
+    (files_request (sides c.in-Same.problem.now) told contents (mode_of nothing_given) refl c.compare_in.result c.compare_in.ensures.answers)
+
+pub returns-in-Same-clause-cause : goal.returns-in-Same-clause-cause
+returns-in-Same-clause-cause g c =
+    let told = g.F.Files.tells c.args.files.now in
+    let contents = g.F.Files.contents c.args.files.now in
+    let before = g.F.Files.faults c.args.files.now in
+    let now = g.F.Files.faults c.compare_in.new.files in
+    let request = sides c.in-Same.problem.now in
+    let answer = c.compare_in.result in
+    let answers : AnswersRequest request told contents answer = files_request request told contents (mode_of nothing_given) refl answer c.compare_in.ensures.answers in
+    subst (λ a. HasCauseOf (the_request a) told contents before now (outcome_of answer)) (sym c.in-Same.is)
+    (cause_of request told contents before now answer c.compare_in.ensures.fault
+    (λ name is. no_mode_file name (subst (AnswersRequest request told contents) is answers))
+    (λ name is. absurd (no_text_compared c.in-Same.problem.now told contents name (subst (AnswersRequest request told contents) is answers)))
+    c.compare_in.ensures.quiet)

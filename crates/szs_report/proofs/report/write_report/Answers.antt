@@ -10,7 +10,28 @@ pub returns-in-CommandLimit-clause-appended : goal.returns-in-CommandLimit-claus
 returns-in-CommandLimit-clause-appended g c = rw (c.in-CommandLimit.is) c.write_numbered-in-CommandLimit.ensures.appended
 
 pub returns-in-Accepted-clause-appended : goal.returns-in-Accepted-clause-appended
-returns-in-Accepted-clause-appended g c = rw (c.in-Accepted.is) c.write_accepted.ensures.appended
+returns-in-Accepted-clause-appended g c = rw (c.in-Accepted.is) c.write_line.ensures.appended
+
+pub returns-in-CounterSatisfiable-clause-appended : goal.returns-in-CounterSatisfiable-clause-appended
+returns-in-CounterSatisfiable-clause-appended g c = rw (c.in-CounterSatisfiable.is) c.write_model.ensures.appended
+
+pub returns-in-Satisfiable-clause-appended : goal.returns-in-Satisfiable-clause-appended
+returns-in-Satisfiable-clause-appended g c = rw (c.in-Satisfiable.is) c.write_model-in-Satisfiable.ensures.appended
+
+pub returns-in-NoneSmall-clause-appended : goal.returns-in-NoneSmall-clause-appended
+returns-in-NoneSmall-clause-appended g c = rw (c.in-NoneSmall.is) c.write_numbered-in-NoneSmall.ensures.appended
+
+pub returns-in-ModelsTooMany-clause-appended : goal.returns-in-ModelsTooMany-clause-appended
+returns-in-ModelsTooMany-clause-appended g c = rw (c.in-ModelsTooMany.is) c.write_numbered-in-ModelsTooMany.ensures.appended
+
+pub returns-in-Same-clause-appended : goal.returns-in-Same-clause-appended
+returns-in-Same-clause-appended g c = rw (c.in-Same.is) c.write_line-in-Same.ensures.appended
+
+pub returns-in-Different-clause-appended : goal.returns-in-Different-clause-appended
+returns-in-Different-clause-appended g c = rw (c.in-Different.is) c.write_line-in-Different.ensures.appended
+
+pub returns-in-NoEquation-clause-appended : goal.returns-in-NoEquation-clause-appended
+returns-in-NoEquation-clause-appended g c = rw (c.in-NoEquation.is) c.write_line-in-NoEquation.ensures.appended
 
 pub returns-in-Refused-clause-appended : goal.returns-in-Refused-clause-appended
 returns-in-Refused-clause-appended g c = rw (c.in-Refused.is) c.write_refusal.ensures.appended

@@ -1,0 +1,151 @@
+-- What is answered of finite models has the meaning that it claims.
+use Rattle.std.proofs.Common.{◌≡◌, ℕ, Bool, List, ◌++◌, Option, Some, None, refl, sym, ap, subst, ◌∙◌}
+use Rattle.stt_core.specs.PlainProblem.{PlainProblem}
+use Rattle.mode_file.specs.declared.Mode.{Mode}
+use Rattle.cli_words.specs.Requests.{Request, prove, refutation, generated, models, sides, asked_by}
+use Rattle.finite_models.specs.Symbols.{symbols}
+use Rattle.finite_models.specs.Candidates.{model_of}
+use Rattle.szs_report.specs.Outcomes.{outcome_of}
+use Rattle.szs_report.specs.Report.{report_of}
+use Rattle.szs_report.specs.ModelText.{model_text}
+use Rattle.szs_report.specs.declared.answer.Answer.{Answer}
+use Rattle.szs_report.specs.declared.answer.Answer.TheVariants.{Proved, CounterSatisfiable, Satisfiable, NoneSmall, ModelsTooMany, SyntaxAt, TypeAt, IncludeAt, TooLong, ReadFault}
+use Rattle.szs_report.specs.declared.answer.Claim.TheVariants.{Theorem, Unsatisfiable}
+use Rattle.szs_report.specs.declared.outcome.Outcome.{Outcome}
+use Rattle.request_answers.specs.Requested.{asked_name}
+use Rattle.request_answers.specs.Files.{OfAsked, Statements}
+use Rattle.request_answers.specs.Names.{names_in}
+use Rattle.request_answers.specs.Modelled.{IsModelFound, AnswersModels}
+use Rattle.request_answers.specs.Answers.{AnswersProblem, AnswersFiles, AnswersAsked, IsAnswer}
+use Rattle.satallax_top.specs.Headline.{Appends}
+use Rattle.satallax_top.specs.Models.{IsModelOutcome, IsOfModels, SaysOfModels, HasModelsSo, model_answer_by, IsModelReport}
+use Rattle.satallax_top.proofs.HeadlineLaws.{IsRefusal, FilesAnswered, files_answered}
+
+of_models-no_refusal : (a : Answer) → IsOfModels (outcome_of a) → IsRefusal a → ⊥
+of_models-no_refusal (ReadFault file) s x = s
+of_models-no_refusal (TooLong file) s x = s
+of_models-no_refusal (SyntaxAt file at) s x = s
+of_models-no_refusal (IncludeAt file at why) s x = s
+of_models-no_refusal (TypeAt file at why) s x = s
+of_models-no_refusal a s x = x
+
+-- Such an answer is given by files. The conclusion is a variable, so that no record is compared field by field.
+of_models_asked : (R : Type 0) (o : Option Request) (told : Bool) (contents : List ℕ → Option (List ℕ)) (a : Answer) → IsOfModels (outcome_of a) → AnswersAsked o told contents a → ((r : Request) → o ≡ Some r → AnswersFiles r told contents a → R) → R
+of_models_asked R None told contents (CounterSatisfiable n lines) s h k = cc
+of_models_asked R None told contents (Satisfiable n lines) s h k = cc
+of_models_asked R None told contents (NoneSmall n) s h k = cc
+of_models_asked R None told contents (ModelsTooMany n) s h k = cc
+of_models_asked R (Some r) told contents (CounterSatisfiable n lines) s h k = k r refl h
+of_models_asked R (Some r) told contents (Satisfiable n lines) s h k = k r refl h
+of_models_asked R (Some r) told contents (NoneSmall n) s h k = k r refl h
+of_models_asked R (Some r) told contents (ModelsTooMany n) s h k = k r refl h
+of_models_asked R o told contents (Proved Theorem n text) s h k = absurd s
+of_models_asked R o told contents (Proved Unsatisfiable n text) s h k = absurd s
+of_models_asked R o told contents a s h k = absurd s
+
+-- a problem that is answered so was one for which models were looked for
+of_models_problem : (R : Type 0) (told : Bool) (contents : List ℕ → Option (List ℕ)) (r : Request) (m : Mode) (p : PlainProblem) (a : Answer) → IsOfModels (outcome_of a) → AnswersProblem told contents r m p a → ((upto : ℕ) (file : List ℕ) → r ≡ models upto file → AnswersModels upto p a → R) → R
+of_models_problem R told contents (models upto file) m p a s h k = k upto file refl h
+of_models_problem R told contents (prove q file) m p (CounterSatisfiable n lines) s h k = absurd h
+of_models_problem R told contents (prove q file) m p (Satisfiable n lines) s h k = absurd h
+of_models_problem R told contents (prove q file) m p (NoneSmall n) s h k = absurd h
+of_models_problem R told contents (prove q file) m p (ModelsTooMany n) s h k = absurd h
+of_models_problem R told contents (refutation file q) m p (CounterSatisfiable n lines) s h k = absurd h.holds
+of_models_problem R told contents (refutation file q) m p (Satisfiable n lines) s h k = absurd h.holds
+of_models_problem R told contents (refutation file q) m p (NoneSmall n) s h k = absurd h.holds
+of_models_problem R told contents (refutation file q) m p (ModelsTooMany n) s h k = absurd h.holds
+of_models_problem R told contents (generated i) m p (CounterSatisfiable n lines) s h k = absurd h
+of_models_problem R told contents (generated i) m p (Satisfiable n lines) s h k = absurd h
+of_models_problem R told contents (generated i) m p (NoneSmall n) s h k = absurd h
+of_models_problem R told contents (generated i) m p (ModelsTooMany n) s h k = absurd h
+of_models_problem R told contents (sides q) m p (CounterSatisfiable n lines) s h k = absurd h
+of_models_problem R told contents (sides q) m p (Satisfiable n lines) s h k = absurd h
+of_models_problem R told contents (sides q) m p (NoneSmall n) s h k = absurd h
+of_models_problem R told contents (sides q) m p (ModelsTooMany n) s h k = absurd h
+of_models_problem R told contents r m p (Proved Theorem n text) s h k = absurd s
+of_models_problem R told contents r m p (Proved Unsatisfiable n text) s h k = absurd s
+of_models_problem R told contents r m p a s h k = absurd s
+
+-- what is answered holds
+said_of_models : (upto : ℕ) (p : PlainProblem) (a : Answer) → IsOfModels (outcome_of a) → AnswersModels upto p a → SaysOfModels (outcome_of a) upto p
+said_of_models upto p (CounterSatisfiable n lines) s h = let f = h.1 in (h.0, (model_of n (symbols p) f.values, f.found.shows))
+said_of_models upto p (Satisfiable n lines) s h = let f = h.1 in (h.0, (model_of n (symbols p) f.values, f.found.shows))
+said_of_models upto p (NoneSmall n) s h = (h.0, h.1.shows)
+said_of_models upto p (ModelsTooMany n) s h = (h.small, h.shows)
+said_of_models upto p (Proved Theorem n text) s h = absurd s
+said_of_models upto p (Proved Unsatisfiable n text) s h = absurd s
+said_of_models upto p a s h = absurd s
+
+-- files that are answered so, by the request that the words make
+of_models_answer : (R : Type 0) (words : List (List ℕ)) (told : Bool) (contents : List ℕ → Option (List ℕ)) (a : Answer) → IsOfModels (outcome_of a) → IsAnswer words told contents a
+    → ((upto : ℕ) (file : List ℕ) (names : List (List ℕ)) (p : PlainProblem) → asked_by words ≡ Some (models upto file) → OfAsked (asked_by words) told contents names (Statements p) → AnswersModels upto p a → R) → R
+of_models_answer R words told contents a s answer k =
+    of_models_asked R (asked_by words) told contents a s answer
+    (λ (r : Request) (asked : asked_by words ≡ Some r) (files : AnswersFiles r told contents a).
+    let f = files_answered r told contents a (of_models-no_refusal a s) files in
+    of_models_problem R told contents r f.mode f.problem a s f.answered
+    (λ (upto : ℕ) (file : List ℕ) (is : r ≡ models upto file) (h : AnswersModels upto f.problem a).
+    k upto file f.names f.problem (asked ∙ ap Some is) (subst (λ x. OfAsked x told contents f.names (Statements f.problem)) (sym asked) f.stated) h))
+
+pub models_answer : (words : List (List ℕ)) (told : Bool) (contents : List ℕ → Option (List ℕ)) (o : Outcome) (a : Answer) → IsAnswer words told contents a → o ≡ outcome_of a → IsOfModels o → HasModelsSo words told contents o
+models_answer words told contents o a answer is h =
+    let s : IsOfModels (outcome_of a) = subst IsOfModels is h in
+    subst (HasModelsSo words told contents) (sym is)
+    (of_models_answer (HasModelsSo words told contents (outcome_of a)) words told contents a s answer
+    (λ upto file names p asked stated h. record { upto = upto; file = file; asked = asked; names = names; problem = p; stated = stated; says = said_of_models upto p a s h }))
+
+-- A MODEL'S REPORT
+
+-- a model's answer, by the conjecture
+record IsModelAnswer (upto : ℕ) (p : PlainProblem) (a : Answer) : Type 0 where
+  size : ℕ
+  lines : List ℕ
+  found : IsModelFound upto p size lines
+  is : a ≡ model_answer_by p.conjecture size (model_text (names_in p) (symbols p) found.values)
+
+model_form : (upto : ℕ) (p : PlainProblem) (a : Answer) → IsModelOutcome (outcome_of a) → AnswersModels upto p a → IsModelAnswer upto p a
+model_form upto p (CounterSatisfiable n lines) s h =
+    let f = h.1 in
+    record { size = n; lines = lines; found = f; is = ap (CounterSatisfiable n) f.lines_are ∙ ap (λ o. model_answer_by o n (model_text (names_in p) (symbols p) f.values)) (sym h.0.1) }
+model_form upto p (Satisfiable n lines) s h =
+    let f = h.1 in
+    record { size = n; lines = lines; found = f; is = ap (Satisfiable n) f.lines_are ∙ ap (λ o. model_answer_by o n (model_text (names_in p) (symbols p) f.values)) (sym h.0) }
+model_form upto p (Proved Theorem n text) s h = absurd s
+model_form upto p (Proved Unsatisfiable n text) s h = absurd s
+model_form upto p a s h = absurd s
+
+of_models : (a : Answer) → IsModelOutcome (outcome_of a) → IsOfModels (outcome_of a)
+of_models (CounterSatisfiable n lines) s = tt
+of_models (Satisfiable n lines) s = tt
+of_models (Proved Theorem n text) s = absurd s
+of_models (Proved Unsatisfiable n text) s = absurd s
+of_models a s = absurd s
+
+model_reported : (words : List (List ℕ)) (told : Bool) (contents : List ℕ → Option (List ℕ)) (a : Answer) → IsAnswer words told contents a → IsModelOutcome (outcome_of a) → IsModelReport words told contents (outcome_of a) (report_of (asked_name words) a)
+model_reported words told contents a answer s =
+    of_models_answer (IsModelReport words told contents (outcome_of a) (report_of (asked_name words) a)) words told contents a (of_models a s) answer
+    (λ upto file names p asked stated h.
+    let m = model_form upto p a s h in
+    let shown = m.found.found.shows in
+    record {
+      names = names;
+      problem = p;
+      stated = stated;
+      size = m.size;
+      values = m.found.values;
+      is_model = shown.0;
+      has_size = shown.1;
+      meets = shown.2;
+      is_outcome = ap outcome_of m.is;
+      is_report = ap (report_of (asked_name words)) m.is;
+    })
+
+-- the bytes that are appended for an answer that is a model
+pub model_appended : (words : List (List ℕ)) (told : Bool) (contents : List ℕ → Option (List ℕ)) (o : Outcome) (a : Answer) (old new : List ℕ) → IsAnswer words told contents a → o ≡ outcome_of a → new ≡ old ++ report_of (asked_name words) a → IsModelOutcome o → Appends old new (IsModelReport words told contents o)
+model_appended words told contents o a old new answer is w h =
+    let s : IsModelOutcome (outcome_of a) = subst IsModelOutcome is h in
+    record {
+      written = report_of (asked_name words) a;
+      appended = w;
+      is_report = subst (λ x. IsModelReport words told contents x (report_of (asked_name words) a)) (sym is) (model_reported words told contents a answer s);
+    }
