@@ -1,5 +1,5 @@
 -- What lists contain.
-use Rattle.std.specs.Prelude.{◌≡◌, List, [], ◌∷◌, map, Contains, refl}
+use Rattle.std.specs.Prelude.{◌≡◌, List, [], ◌∷◌, map, Contains}
 use Rattle.std.specs.List.{Any}
 use Rattle.std.proofs.Common.{subst, arith}
 use Rattle.tableau_calculus.proofs.ListLaws.{contains-first, contains-later, contains_cases}

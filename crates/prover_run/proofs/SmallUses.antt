@@ -1,10 +1,8 @@
 -- The refutation of a run is small enough for a text, since the terms of a run are small.
-use Rattle.std.specs.Prelude.{◌≡◌, ℕ, List, map, Some, unwrap_or, slice_get}
-use Rattle.std.specs.Option.{ForSome}
+use Rattle.std.specs.Prelude.{◌≡◌, ℕ, List, Some, unwrap_or, slice_get}
 use Rattle.std.proofs.Common.{sym, ap, subst, ◌∙◌}
 use Rattle.std.proofs.lemmas.List.Elements.{recursion_from_All}
 use Rattle.tableau_calculus.specs.Witnesses.{Row}
-use Rattle.tableau_calculus.specs.declared.refutation.RuleUse.{RuleUse}
 use Rattle.tableau_calculus.specs.declared.refutation.RuleUse.TheVariants.{False}
 use Rattle.tableau_calculus.specs.declared.refutation.Refutation.{Refutation}
 use Rattle.sat_base.specs.declared.literal.SatLit.{SatLit}
@@ -12,8 +10,7 @@ use Rattle.sat_log.specs.declared.log.LogEntry.{LogEntry}
 use Rattle.command_queue.specs.Queue.{Queue}
 use Rattle.search_spec.specs.Each.{Each}
 use Rattle.search_spec.specs.Numbered.{literal_at}
-use Rattle.search_spec.specs.Unsatisfiable.{Clause}
-use Rattle.tableau_clauses.specs.Table.{the_clauses, EachComes}
+use Rattle.tableau_clauses.specs.Table.{EachComes}
 use Rattle.refute_print.specs.Sizes.{IsSmallTerm, IsSmall}
 use Rattle.rebuild_spec.specs.Input.{Instance, Sourced, start_unit, clause_by, clause_in, Input, literals_of}
 use Rattle.rebuild_spec.specs.Rebuilt.{IsRebuilt}
@@ -22,7 +19,7 @@ use Rattle.type_bound.proofs.SmallLaws.{stay_small}
 use Rattle.small_rebuilt.specs.Small.{TakesSmall, IsSmallNumber, IsSmallSource, InputHasSmallTerms, AreNumbersInRange}
 use Rattle.small_rebuilt.proofs.SmallLaws.{rebuilt_small}
 use Rattle.small_rebuilt.proofs.RangeLaws.{in_range_small, uses_small}
-use Rattle.tableau_rebuild.specs.Tables.{atoms_at, the_sources, the_input}
+use Rattle.tableau_rebuild.specs.Tables.{the_input}
 use Rattle.tableau_rebuild.proofs.SourceLaws.{instance_clause}
 use Rattle.prover_state.specs.declared.command.Planned.{Planned}
 use Rattle.prover_state.specs.declared.command.Delays.{Delays}
@@ -31,7 +28,6 @@ use Rattle.prover_state.specs.Internal.Standing.{setting_by, rows_in, the_state}
 use Rattle.prover_state.specs.Internal.Steps.{IsMadeInstance}
 use Rattle.prover_state.proofs.EachLaws.{each-unmapped, each-at, All-from_each}
 use Rattle.prover_search.specs.Internal.Running.{start_in, IsRunning}
-use Rattle.prover_run.specs.Internal.Ends.{clauses_of}
 use Rattle.prover_run.proofs.ContainsLaws.{each-contains}
 use Rattle.prover_run.proofs.OriginLaws.{named, named_there}
 use Rattle.prover_run.proofs.RebuildUses.{sources-named, instances-over}
