@@ -14,7 +14,7 @@ run() { # the words
     (ulimit -s 8192; ulimit -v "$space"; timeout 100 "$program" "$@") >/dev/null 2>&1 || status=$?
     runs=$((runs + 1))
     case $status in
-      0 | 1 | 2 | 3 | 4 | 1[0-5] | 18 | 20 | 21 | 30) ;;
+      [0-8] | 1[0-5] | 18 | 20 | 21 | 30) ;;
       *) wrong=$((wrong + 1)); echo "status $status with $space KB: $*" ;;
     esac
   done
@@ -22,6 +22,8 @@ run() { # the words
 for problem in "$top"/examples/*.p "$folder"/*.p; do
   run "$problem"
   run --mode "$top/modes/late_terms.mode" "$problem"
+  run --models 2 "$problem"
+  run --same "$problem"
 done
 run --mode "$top/modes/long.mode" "$top/examples/complement.p"
 run --demo 200
