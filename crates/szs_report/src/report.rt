@@ -29,7 +29,8 @@ const SYNTAX_ERROR: &[u8] = b"% SZS status SyntaxError for ";
 
 const INPUT_ERROR: &[u8] = b"% SZS status InputError for ";
 
-const USAGE: &[u8] = b"% usage: satallax [--mode FILE] [--check FILE] [--demo N] [--models K] [--same] PROBLEM\n";
+const USAGE: &[u8] =
+    b"% usage: satallax [--mode FILE] [--check FILE] [--demo N] [--models K] [--same] PROBLEM\n";
 
 /// Writes a report of two lines.
 fn write_headed<S: Sink>(
@@ -579,7 +580,13 @@ pub fn write_report<S: Sink>(out: &mut S, name: &[u8], answer: &Answer) -> Resul
             write_numbered(out, GAVE_UP, name, b"% no model up to ", *upto)
         }
         Answer::ModelsTooMany { size } => {
-            write_numbered(out, RESOURCE_OUT, name, b"% models too many at size ", *size)
+            write_numbered(
+                out,
+                RESOURCE_OUT,
+                name,
+                b"% models too many at size ",
+                *size,
+            )
         }
         Answer::Same => write_line(out, b"% sides convertible for ", name),
         Answer::Different => write_line(out, b"% sides not convertible for ", name),
