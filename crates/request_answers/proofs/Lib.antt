@@ -10,3 +10,4 @@ pub mod CheckedLaws
 pub mod FileLaws
 pub mod ReportHolds
 pub mod RunEnds
+pub mod ModelLaws
