@@ -1,11 +1,11 @@
 #!/usr/bin/env bash
 # Runs the built program over problems with a stack of 8 MB and address spaces of 1, 2 and 4 GB, and tells each exit status that isn't one
-# of README's: bench/limits.sh FOLDER, where FOLDER has further problems. Its last line counts the runs.
+# of README's: tests/limits.sh [FOLDER], where FOLDER has further problems. Its last line counts the runs. Ends with 1 where such a status came.
 set -eu
 here=$(dirname -- "$(readlink -f -- "$0")")
 top=$here/..
-program=$top/out/satallax
-folder=${1:?a folder with problems}
+program=$(readlink -f -- "${SATALLAX:-$top/out/satallax}")
+folder=${1:-}
 runs=0
 wrong=0
 run() { # the words
@@ -19,7 +19,7 @@ run() { # the words
     esac
   done
 }
-for problem in "$top"/examples/*.p "$folder"/*.p; do
+for problem in "$top"/examples/*.p ${folder:+"$folder"/*.p}; do
   run "$problem"
   run --mode "$top/modes/late_terms.mode" "$problem"
 done
@@ -27,3 +27,4 @@ run --mode "$top/modes/long.mode" "$top/examples/complement.p"
 run --demo 200
 run --demo 1000
 echo "$runs runs, $wrong with a status that isn't documented"
+[ "$wrong" = 0 ]
