@@ -1,5 +1,5 @@
 -- What a flush that fails leaves of a report.
-use Rattle.std.proofs.Common.{◌≡◌, ℕ, ◌+◌, ◌<◌, Bool, List, [], ◌++◌, Option, length, refl, sym, ap, subst, ◌∙◌, append_assoc, length-append, arith}
+use Rattle.std.proofs.Common.{◌≡◌, ℕ, Bool, List, [], ◌++◌, Option, refl, sym, ap, subst, ◌∙◌, append-nil, append_assoc, length-append, arith}
 use Rattle.outside.specs.Prefix.{AppendsProperly}
 use Rattle.request_answers.specs.Causes.{IsNoWriteFault, HasCause}
 use Rattle.szs_report.specs.Report.{report_of}

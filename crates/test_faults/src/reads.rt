@@ -13,7 +13,10 @@ const MANY: u64 = 1000;
 
 fn row(alloc: Global, number: u64, ended: &Ended) -> anyhow::Result<String> {
     let report = str::from_utf8(ended.bytes())?;
-    Ok(format!(in alloc; "m.p, call {number} of the files fails: {:?}, {report:?}\n", ended.outcome)?)
+    Ok(format!(in alloc;
+        "m.p, call {number} of the files fails: {:?}, {report:?}\n",
+        ended.outcome
+    )?)
 }
 
 /// The runs over a problem with a mode and an include, in which one call after the other fails, until there is no such call.
@@ -27,7 +30,12 @@ pub fn told(alloc: Global) -> anyhow::Result<String> {
         };
         let ended = call(alloc, WORDS, faults)?;
         if !matches!(ended.outcome, Outcome::ReadFault { .. }) {
-            writeln!(told, "m.p, {number} calls of the files: {:?}, as without a fault: {}", ended.outcome, ended.is_same(&whole))?;
+            writeln!(
+                told,
+                "m.p, {number} calls of the files: {:?}, as without a fault: {}",
+                ended.outcome,
+                ended.is_same(&whole)
+            )?;
             return Ok(told);
         }
         told.push_str(row(alloc, number, &ended)?.as_str())?;

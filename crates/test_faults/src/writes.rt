@@ -14,7 +14,9 @@ const MANY: usize = 1000;
 fn is_cut_short(whole: &Ended, ended: &Ended) -> bool {
     let wrote = ended.bytes();
     let report = whole.bytes();
-    matches!(ended.outcome, Outcome::WriteFault) && wrote.len() < report.len() && report.starts_with(wrote)
+    matches!(ended.outcome, Outcome::WriteFault)
+        && wrote.len() < report.len()
+        && report.starts_with(wrote)
 }
 
 /// The runs in which one call of the sink after the other fails, until there is no such call.
@@ -27,7 +29,11 @@ pub fn calls_told(alloc: Global) -> anyhow::Result<String> {
         };
         let ended = call(alloc, WORDS, faults)?;
         if !is_cut_short(&whole, &ended) {
-            return Ok(format!(in alloc; "all.p, each of {number} calls of the sink fails: cut short\nall.p, no call fails: {:?}, as without a fault: {}\n", ended.outcome, ended.is_same(&whole))?);
+            return Ok(format!(in alloc;
+                "all.p, each of {number} calls of the sink fails: cut short\nall.p, no call fails: {:?}, as without a fault: {}\n",
+                ended.outcome,
+                ended.is_same(&whole)
+            )?);
         }
     }
     bail!("the calls of the sink have no end")
@@ -39,7 +45,11 @@ pub fn rooms_told(alloc: Global) -> anyhow::Result<String> {
     for room in 0..MANY {
         let ended = call(alloc, WORDS, Faults { room, ..NO_FAULTS })?;
         if !is_cut_short(&whole, &ended) || ended.bytes().len() != room {
-            return Ok(format!(in alloc; "all.p, each room below {room} bytes: filled, and cut short\nall.p, room for {room} bytes: {:?}, as without a fault: {}\n", ended.outcome, ended.is_same(&whole))?);
+            return Ok(format!(in alloc;
+                "all.p, each room below {room} bytes: filled, and cut short\nall.p, room for {room} bytes: {:?}, as without a fault: {}\n",
+                ended.outcome,
+                ended.is_same(&whole)
+            )?);
         }
     }
     bail!("the report has no end")
