@@ -1,9 +1,10 @@
 #!/usr/bin/env bash
 # Runs the built program to the exit statuses to which no call over files in memory can be brought, so that no case has them: words that
-# aren't text (18), and want of memory (30), by a limit that is set from outside. Ends with 1 where another status comes.
+# aren't text (18), an output that takes nothing (21), and want of memory (30), by a limit that is set from outside. Ends with 1 where another
+# status comes.
 set -eu
 here=$(dirname -- "$(readlink -f -- "$0")")
-program=$here/../out/satallax
+program=$(readlink -f -- "${SATALLAX:-$here/../out/satallax}")
 problem=$here/../examples/true.p
 wrong=0
 expect() { # the status, and what was done
@@ -12,6 +13,9 @@ expect() { # the status, and what was done
 status=0
 "$program" $'\xff' >/dev/null 2>&1 || status=$?
 expect 18 'a word that is no text'
+status=0
+"$program" "$problem" >/dev/full 2>&1 || status=$?
+expect 21 'an output that is full'
 for space in $(seq 2000 20 20000); do
   status=0
   (ulimit -v "$space"; "$program" "$problem") >/dev/null 2>&1 || status=$?

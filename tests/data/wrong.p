@@ -1,0 +1,2 @@
+thf(p,type,p: $o).
+thf(c,conjecture,( p & )).
