@@ -84,5 +84,5 @@ asked_in_range words r h = go r (asked_by-named words r h)
     go (prove p mode) k = tt
     go (refutation text p) k = tt
     go (generated n) k = k
-    go (models upto p) k = k.1
+    go (models upto p) k = (k.1, k.2)
     go (sides p) k = tt

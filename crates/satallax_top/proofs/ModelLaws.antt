@@ -68,8 +68,8 @@ of_models_problem R told contents r m p a s h k = absurd s
 
 -- what is answered holds
 said_of_models : (upto : ℕ) (p : PlainProblem) (a : Answer) → IsOfModels (outcome_of a) → AnswersModels upto p a → SaysOfModels (outcome_of a) upto p
-said_of_models upto p (CounterSatisfiable n lines) s h = let f = h.1 in (h.0, (model_of n (symbols p) f.values, f.found.shows))
-said_of_models upto p (Satisfiable n lines) s h = let f = h.1 in (h.0, (model_of n (symbols p) f.values, f.found.shows))
+said_of_models upto p (CounterSatisfiable n lines) s h = let f = h.1 in let shown = f.found.shows in (h.0, (model_of n (symbols p) f.values, shown.0, shown.1, shown.2))
+said_of_models upto p (Satisfiable n lines) s h = let f = h.1 in let shown = f.found.shows in (h.0, (model_of n (symbols p) f.values, shown.0, shown.1, shown.2))
 said_of_models upto p (NoneSmall n) s h = (h.0, h.1.shows)
 said_of_models upto p (ModelsTooMany n) s h = (h.small, h.shows)
 said_of_models upto p (Proved Theorem n text) s h = absurd s

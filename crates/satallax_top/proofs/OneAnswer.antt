@@ -93,19 +93,19 @@ compared_answer compared.Different = Different
 compared_answer compared.NoEquation = NoEquation
 
 record IsComparison (p : PlainProblem) (a : Answer) : Type 0 where
-  found : Sides
-  holds : AreSidesOf p sides
-  is : a ≡ compared_answer found
+  said : Sides
+  holds : AreSidesOf p said
+  is : a ≡ compared_answer said
 
 comparison_of : (p : PlainProblem) (a : Answer) → IsSettled a → AnswersSides p a → IsComparison p a
 comparison_of p Memory w h = absurd w
-comparison_of p Same w h = record { found = compared.Same; holds = h; is = refl }
-comparison_of p Different w h = record { found = compared.Different; holds = h; is = refl }
-comparison_of p NoEquation w h = record { found = compared.NoEquation; holds = h; is = refl }
+comparison_of p Same w h = record { said = compared.Same; holds = h; is = refl }
+comparison_of p Different w h = record { said = compared.Different; holds = h; is = refl }
+comparison_of p NoEquation w h = record { said = compared.NoEquation; holds = h; is = refl }
 comparison_of p a w h = absurd h
 
 compared_same : (p : PlainProblem) (a b : Answer) → IsComparison p a → IsComparison p b → a ≡ b
-compared_same p a b h k = h.is ∙ ap compared_answer (one_said p h.found k.found h.holds k.holds) ∙ sym k.is
+compared_same p a b h k = h.is ∙ ap compared_answer (one_said p h.said k.said h.holds k.holds) ∙ sym k.is
 
 -- what a search for models is answered with
 abbrev finding_answer : ℕ → PlainProblem → Found → Answer

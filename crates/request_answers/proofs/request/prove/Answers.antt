@@ -1,5 +1,21 @@
-use Rattle.request_answers.proofs.FileLaws.{fault_before}
+use Rattle.std.proofs.Common.{subst}
+use Rattle.std.specs.Prelude.{option_map}
+use Rattle.cli_words.specs.Requests.{prove}
+use Rattle.request_answers.specs.Solved.{IsSolved}
+use Rattle.request_answers.specs.Internal.Unread.{IsFilesAnswer}
+use Rattle.request_answers.proofs.FileLaws.{fault_before, files_request}
 use Rattle.request_answers.proofs.request.prove.Goals as goal
+
+pub returns-in-Ok-clause-answers : goal.returns-in-Ok-clause-answers
+returns-in-Ok-clause-answers g c =
+    let told = g.F.Files.tells c.args.files.now in
+    let contents = g.F.Files.contents c.args.files.now in
+    let p = c.args.problem.now in
+    let m = c.in-Ok.mode in
+    let a = c.prove_by.result in
+    files_request (prove p (option_map (λ f. f.now) c.args.mode)) told contents m c.in-Ok.ensures.stated a
+    (subst (λ t. IsFilesAnswer (IsSolved m) p t contents a) c.mode_by.ensures.telling
+    (subst (λ x. IsFilesAnswer (IsSolved m) p (g.F.Files.tells c.mode_by.new.files) x a) c.mode_by.ensures.same c.prove_by.ensures.answers))
 
 pub returns-in-Ok-clause-fault : goal.returns-in-Ok-clause-fault
 returns-in-Ok-clause-fault g c = λ k names e.
