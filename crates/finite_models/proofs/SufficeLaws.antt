@@ -24,7 +24,7 @@ use Rattle.finite_models.specs.Symbols.{Symbol, declared_symbols, choosing_symbo
 use Rattle.finite_models.specs.Candidates.{IsChoice, IsDescription, IsLawful, IsCandidate, as_choice, as_description, listed_by, model_of}
 use Rattle.finite_models.specs.Small.{NoneMeets}
 use Rattle.finite_models.specs.Laws.{HasSize}
-use Rattle.finite_models.proofs.ChoiceLaws.{chooses, describes}
+use Rattle.stt_core.proofs.ChoiceLaws.{chooses, describes}
 use Rattle.finite_models.proofs.SizeLaws.{size_is}
 use Rattle.finite_models.proofs.SymbolLaws.{every_symbol, Has, Covers, symbols_cover}
 use Rattle.finite_models.proofs.CandidateLaws.{candidate_model}

@@ -39,6 +39,7 @@ pub(crate) fn why_word(why: Why) -> &'static [u8]
         Why::End => b"end",
         Why::Typing => b"type",
         Why::Twice => b"twice",
+        Why::Cut => b"cut",
         Why::Principal => b"principal",
         Why::Child => b"child",
         Why::Last => b"last",

@@ -7,7 +7,7 @@ use Rattle.tableau_calculus.specs.Accepted.{Within, AreChildren, IsRightLine, Ar
 use Rattle.tableau_calculus.specs.declared.refutation.Line.{Line}
 use Rattle.tableau_calculus.specs.declared.refutation.Refutation.{Refutation}
 use Rattle.tableau_calculus.specs.declared.refutation.Why.{Why}
-use Rattle.tableau_calculus.specs.declared.refutation.Why.TheVariants.{Form, Start, End, Typing, Twice, Principal, Child as ChildWrong, Last, Defs}
+use Rattle.tableau_calculus.specs.declared.refutation.Why.TheVariants.{Form, Start, End, Typing, Twice, Cut as CutThere, Principal, Child as ChildWrong, Last, Defs}
 use Rattle.tableau_calculus.specs.Refused.{IfRefused}
 use Rattle.tableau_calculus.specs.declared.refused.PlainRefused.{PlainRefused}
 use Rattle.tableau_calculus.specs.declared.refused.PlainRefused.TheVariants.{Refused, Memory}
@@ -45,6 +45,7 @@ module _ (scope : Scope) (earlier : List Row) (r : Row) where
   row_fails_not Form h right = h
   row_fails_not Start h right = h
   row_fails_not End h right = h
+  row_fails_not CutThere h right = h
   row_fails_not Principal h right = h
   row_fails_not ChildWrong h right = h
   row_fails_not Last h right = h
@@ -59,6 +60,7 @@ module _ (scope : Scope) (earlier : List Row) (r : Row) where
   one_row_why Typing Form h k = absurd k
   one_row_why Typing Start h k = absurd k
   one_row_why Typing End h k = absurd k
+  one_row_why Typing CutThere h k = absurd k
   one_row_why Typing Principal h k = absurd k
   one_row_why Typing ChildWrong h k = absurd k
   one_row_why Typing Last h k = absurd k
@@ -66,6 +68,7 @@ module _ (scope : Scope) (earlier : List Row) (r : Row) where
   one_row_why Twice Form h k = absurd k
   one_row_why Twice Start h k = absurd k
   one_row_why Twice End h k = absurd k
+  one_row_why Twice CutThere h k = absurd k
   one_row_why Twice Principal h k = absurd k
   one_row_why Twice ChildWrong h k = absurd k
   one_row_why Twice Last h k = absurd k
@@ -73,6 +76,7 @@ module _ (scope : Scope) (earlier : List Row) (r : Row) where
   one_row_why Form other h k = absurd h
   one_row_why Start other h k = absurd h
   one_row_why End other h k = absurd h
+  one_row_why CutThere other h k = absurd h
   one_row_why Principal other h k = absurd h
   one_row_why ChildWrong other h k = absurd h
   one_row_why Last other h k = absurd h
@@ -89,6 +93,7 @@ module _ (scope : Scope) (rows : List Row) (distinct : AreDistinct rows) (earlie
   line_fails_not Start h right = h
   line_fails_not End h right = h
   line_fails_not Twice h right = h
+  line_fails_not CutThere h right = h
   line_fails_not Last h right = h
   line_fails_not Defs h right = h
 
@@ -107,24 +112,28 @@ module _ (scope : Scope) (rows : List Row) (distinct : AreDistinct rows) (earlie
   one_line_why Typing Start h k = absurd k
   one_line_why Typing End h k = absurd k
   one_line_why Typing Twice h k = absurd k
+  one_line_why Typing CutThere h k = absurd k
   one_line_why Typing Last h k = absurd k
   one_line_why Typing Defs h k = absurd k
   one_line_why Principal Form h k = absurd k
   one_line_why Principal Start h k = absurd k
   one_line_why Principal End h k = absurd k
   one_line_why Principal Twice h k = absurd k
+  one_line_why Principal CutThere h k = absurd k
   one_line_why Principal Last h k = absurd k
   one_line_why Principal Defs h k = absurd k
   one_line_why ChildWrong Form h k = absurd k
   one_line_why ChildWrong Start h k = absurd k
   one_line_why ChildWrong End h k = absurd k
   one_line_why ChildWrong Twice h k = absurd k
+  one_line_why ChildWrong CutThere h k = absurd k
   one_line_why ChildWrong Last h k = absurd k
   one_line_why ChildWrong Defs h k = absurd k
   one_line_why Form other h k = absurd h
   one_line_why Start other h k = absurd h
   one_line_why End other h k = absurd h
   one_line_why Twice other h k = absurd h
+  one_line_why CutThere other h k = absurd h
   one_line_why Last other h k = absurd h
   one_line_why Defs other h k = absurd h
 

@@ -18,7 +18,7 @@ use Rattle.normal_forms.proofs.CanonicalLaws.{canonical-apply, canonical-lift}
 use Rattle.normal_forms.proofs.NormalValues.{canonical-eta, value-eta, value-apply}
 use Rattle.tableau_calculus.specs.Rules.{at_new, agreement, nowhere, chosen, at_outer, at_inner, at_most_once, described}
 use Rattle.tableau_calculus.proofs.EquationLaws.{Sides, canonical-eq, test, test_one}
-use Rattle.tableau_calculus.proofs.ChoiceLaws.{chooses, describes}
+use Rattle.stt_core.proofs.ChoiceLaws.{chooses, describes}
 
 -- the type of a canonical predicate's argument is declared
 pub predicate_declared : (scope : Scope) (a : SimpleType) (f : Lambda) → IsCanonical scope [] (predicate a) f → is_declared scope.bases a ≡ true

@@ -3,7 +3,6 @@ pub mod ShareLaws
 pub mod LiteralLaws
 pub mod EquationLaws
 pub mod FunctionLaws
-pub mod ChoiceLaws
 pub mod DecompositionLaws
 pub mod RuleLaws
 pub mod ClosedLaws

@@ -20,6 +20,7 @@ pub mod Rules
 pub mod Along
 pub mod Accepted
 pub mod Closed
+pub mod CutFree
 pub mod Meets
 pub mod Laws
 pub mod Start

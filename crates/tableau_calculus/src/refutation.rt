@@ -231,9 +231,9 @@ pub struct Refutation {
 }
 
 /// Why a refutation is refused. A text may fail in its form, lack its start or its end, or name other definitions than those that are
-/// taken; `Typing` is a term that isn't closed, canonical and of the wanted type, `Twice` a second row with a predicate, `Principal` a
-/// rule that doesn't fit its branch, `Child` a child that doesn't close its alternative, and `Last` a last line that isn't about the
-/// start, or no line.
+/// taken; `Typing` is a term that isn't closed, canonical and of the wanted type, `Twice` a second row with a predicate, `Cut` a cut
+/// where none may stand, `Principal` a rule that doesn't fit its branch, `Child` a child that doesn't close its alternative, and `Last`
+/// a last line that isn't about the start, or no line.
 #[derive(Clone, Copy, Debug, PartialEq, Eq, Error)]
 pub enum Why {
     #[error("a wrong form")]
@@ -246,6 +246,8 @@ pub enum Why {
     Typing,
     #[error("a second row with this predicate")]
     Twice,
+    #[error("a cut")]
+    Cut,
     #[error("a rule that doesn't fit")]
     Principal,
     #[error("a child that doesn't close its alternative")]
