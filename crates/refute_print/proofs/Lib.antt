@@ -4,4 +4,3 @@ mod TermTexts
 mod LineTexts
 mod SharedLists
 pub mod AllLaws
-mod WithinLaws

@@ -4,4 +4,3 @@ pub mod TreeCode
 pub mod LiteralCode
 pub mod TreeSizes
 pub mod TreeFalls
-pub mod Within

@@ -16,7 +16,6 @@ pub mod Text
 pub mod Named
 pub mod Limits
 pub mod Sizes
-pub mod SmallRows
 pub mod View
 pub mod TreeView
 pub mod LineView

@@ -1,7 +1,6 @@
 //! Refutations as they are written: their trees, and the text of one, written.
 #![tactic(auto)]
 
-mod fits;
 mod line;
 mod tree;
 mod write_bytes;
@@ -10,7 +9,6 @@ mod write_rule;
 mod write_term;
 mod write_whole;
 
-pub use fits::{are_small_rows, is_small_line, is_small_term};
 pub use line::{RefutationText, TextLine, TextLines, TextLit, TextLits, TextNames, TextRule};
 pub use tree::{TextHead, TextNode, TextTerm, TextTerms, TextTy};
 pub use write_whole::write_text;
