@@ -29,6 +29,11 @@ const SYNTAX_ERROR: &[u8] = b"% SZS status SyntaxError for ";
 
 const INPUT_ERROR: &[u8] = b"% SZS status InputError for ";
 
+/// What stands before the size up to which there is no model.
+const NO_MODEL: &[u8] = b"% no model up to ";
+/// What stands before a size that has too many candidates for a model.
+const TOO_MANY: &[u8] = b"% models too many at size ";
+
 const USAGE: &[u8] =
     b"% usage: satallax [--mode FILE] [--check FILE] [--demo N] [--models K] [--same] PROBLEM\n";
 
@@ -576,18 +581,8 @@ pub fn write_report<S: Sink>(out: &mut S, name: &[u8], answer: &Answer) -> Resul
             write_model(out, COUNTER_SATISFIABLE, name, *size, lines)
         }
         Answer::Satisfiable { size, lines } => write_model(out, SATISFIABLE, name, *size, lines),
-        Answer::NoneSmall { upto } => {
-            write_numbered(out, GAVE_UP, name, b"% no model up to ", *upto)
-        }
-        Answer::ModelsTooMany { size } => {
-            write_numbered(
-                out,
-                RESOURCE_OUT,
-                name,
-                b"% models too many at size ",
-                *size,
-            )
-        }
+        Answer::NoneSmall { upto } => write_numbered(out, GAVE_UP, name, NO_MODEL, *upto),
+        Answer::ModelsTooMany { size } => write_numbered(out, RESOURCE_OUT, name, TOO_MANY, *size),
         Answer::Same => write_line(out, b"% sides convertible for ", name),
         Answer::Different => write_line(out, b"% sides not convertible for ", name),
         Answer::NoEquation => write_line(out, b"% no equation for ", name),
