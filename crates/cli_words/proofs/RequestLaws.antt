@@ -1,18 +1,26 @@
 -- What is asked for has names of files, and numbers of generated problems.
-use Rattle.std.proofs.Common.{◌≡◌, ◌<◌, ◌≤◌, ◌+◌, ◌-◌, ◌*◌, ◌==◌, ℕ, nat_le, not, ◌&&◌, Bool, true, false, List, [], ◌∷◌, Option, Some, None, option_map, refl, subst, if◌then◌else◌, arith}
+use Rattle.std.proofs.Common.{◌≡◌, ◌<◌, ◌≤◌, ◌+◌, ◌-◌, ◌*◌, ◌==◌, ℕ, nat_le, not, ◌&&◌, Bool, true, false, List, [], ◌∷◌, ◌++◌, Option, Some, None, option_map, refl, subst, if◌then◌else◌, arith}
 use Rattle.std.specs.List.{list_all}
+use Rattle.std.specs.Option.{option_to_list}
 use Rattle.std.proofs.lemmas.Bool.{and_parts}
 use Rattle.std.proofs.lemmas.Bool.Decides.{nat_tests}
 use Rattle.cli_words.specs.Names.{is_file_name, is_positive_decimal, number_to}
 use Rattle.outside.specs.Decimal.{is_digit, number_from}
-use Rattle.cli_words.specs.declared.options.OptionName.TheVariants.{Mode, Check, Demo, Models}
+use Rattle.cli_words.specs.declared.options.OptionName.TheVariants.{Mode, Check, Demo, Models, Tree, Strict}
+use Rattle.cli_words.specs.declared.Cuts.{Cuts}
+use Rattle.cli_words.specs.declared.Cuts.TheVariants.{Taken, Refused}
 use Rattle.cli_words.specs.Line.{is_taken}
-use Rattle.cli_words.specs.Requests.{WordEntry, value, flag, problem, Request, prove, refutation, generated, models, sides, naming, models_asked, asked, entries_in, asked_by}
+use Rattle.cli_words.specs.Requests.{WordEntry, value, flag, problem, Request, prove, refutation, generated, models, sides, naming, models_asked, tree_asked, asked, entries_in, asked_by}
+
+-- a bound on a tree's nodes, where there is one, is from 1 to 10,000
+abbrev pub IsTreeBound : Option ℕ → Type 0
+IsTreeBound None = Unit {0}
+IsTreeBound (Some nodes) = (0 < nodes) × (nodes ≤ 10000)
 
 -- the problem's name is the name of a file, or its number is from 1 to 1000; a bound on models is from 1 to 8
 abbrev pub IsNamed : Request → Type 0
-IsNamed (prove p mode) = is_file_name p ≡ true
-IsNamed (refutation text p) = is_file_name p ≡ true
+IsNamed (prove p mode nodes) = (is_file_name p ≡ true) × IsTreeBound nodes
+IsNamed (refutation cuts text p) = is_file_name p ≡ true
 IsNamed (models upto p) = (is_file_name p ≡ true) × (0 < upto) × (upto ≤ 8)
 IsNamed (sides p) = is_file_name p ≡ true
 IsNamed (generated n) = (0 < n) × (n ≤ 1000)
@@ -25,8 +33,8 @@ naming-parts names r s h = go (list_all is_file_name names) refl h
     go false e k = cc
     go true e k = (e, cc)
 
-first_named : (p : List ℕ) (mode : Option (List ℕ)) (r : Request) → naming (p ∷ []) (prove p mode) ≡ Some r → IsNamed r
-first_named p mode r h = let q = naming-parts (p ∷ []) (prove p mode) r h in subst IsNamed q.1 (and_parts (is_file_name p) true q.0).0
+first_named : (p : List ℕ) (mode : Option (List ℕ)) (r : Request) → naming (p ∷ []) (prove p mode None) ≡ Some r → IsNamed r
+first_named p mode r h = let q = naming-parts (p ∷ []) (prove p mode None) r h in subst IsNamed q.1 ((and_parts (is_file_name p) true q.0).0, tt)
 
 sides_named : (p : List ℕ) (r : Request) → naming (p ∷ []) (sides p) ≡ Some r → IsNamed r
 sides_named p r h = let q = naming-parts (p ∷ []) (sides p) r h in subst IsNamed q.1 (and_parts (is_file_name p) true q.0).0
@@ -81,6 +89,20 @@ models_named text p r h = go (number_to 8 text) refl h
         let w = number_within 8 text n e in
         subst IsNamed q.1 ((and_parts (is_file_name p) true q.0).0, w.0, w.1)
 
+-- the last of some names of files
+last_named : (mode : Option (List ℕ)) (p : List ℕ) → list_all is_file_name (option_to_list mode ++ p ∷ []) ≡ true → is_file_name p ≡ true
+last_named None p h = (and_parts (is_file_name p) true h).0
+last_named (Some m) p h = (and_parts (is_file_name p) true (and_parts (is_file_name m) (list_all is_file_name (p ∷ [])) h).1).0
+
+tree_named : (text : List ℕ) (mode : Option (List ℕ)) (p : List ℕ) (r : Request) → tree_asked (number_to 10000 text) mode p ≡ Some r → IsNamed r
+tree_named text mode p r h = go (number_to 10000 text) refl h
+  where
+    go : (o : Option ℕ) → number_to 10000 text ≡ o → tree_asked o mode p ≡ Some r → IsNamed r
+    go None e k = cc
+    go (Some n) e k =
+        let q = naming-parts (option_to_list mode ++ p ∷ []) (prove p mode (Some n)) r k in
+        subst IsNamed q.1 (last_named mode p q.0, number_within 10000 text n e)
+
 asked_named : (es : List WordEntry) (r : Request) → asked es ≡ Some r → IsNamed r
 asked_named [] r h = cc
 asked_named (problem p ∷ []) r h = first_named p None r h
@@ -91,15 +113,34 @@ asked_named (flag ∷ problem p ∷ e ∷ es) r h = cc
 asked_named (flag ∷ flag ∷ es) r h = cc
 asked_named (flag ∷ value o v ∷ es) r h = cc
 asked_named (value Mode m ∷ []) r h = cc
-asked_named (value Mode m ∷ problem p ∷ []) r h = second_named m p (prove p (Some m)) r (λ x. x) h
+asked_named (value Mode m ∷ problem p ∷ []) r h = second_named m p (prove p (Some m) None) r (λ x. (x, tt)) h
 asked_named (value Mode m ∷ problem p ∷ e ∷ es) r h = cc
-asked_named (value Mode m ∷ value o v ∷ es) r h = cc
+asked_named (value Mode m ∷ value Tree n ∷ problem p ∷ []) r h = tree_named n (Some m) p r h
+asked_named (value Mode m ∷ value Tree n ∷ []) r h = cc
+asked_named (value Mode m ∷ value Tree n ∷ problem p ∷ e ∷ es) r h = cc
+asked_named (value Mode m ∷ value Tree n ∷ flag ∷ es) r h = cc
+asked_named (value Mode m ∷ value Tree n ∷ value o v ∷ es) r h = cc
+asked_named (value Mode m ∷ value Mode v ∷ es) r h = cc
+asked_named (value Mode m ∷ value Check v ∷ es) r h = cc
+asked_named (value Mode m ∷ value Demo v ∷ es) r h = cc
+asked_named (value Mode m ∷ value Models v ∷ es) r h = cc
+asked_named (value Mode m ∷ value Strict v ∷ es) r h = cc
 asked_named (value Mode m ∷ flag ∷ es) r h = cc
 asked_named (value Check t ∷ []) r h = cc
-asked_named (value Check t ∷ problem p ∷ []) r h = second_named t p (refutation t p) r (λ x. x) h
+asked_named (value Check t ∷ problem p ∷ []) r h = second_named t p (refutation Taken t p) r (λ x. x) h
 asked_named (value Check t ∷ problem p ∷ e ∷ es) r h = cc
 asked_named (value Check t ∷ value o v ∷ es) r h = cc
 asked_named (value Check t ∷ flag ∷ es) r h = cc
+asked_named (value Strict t ∷ []) r h = cc
+asked_named (value Strict t ∷ problem p ∷ []) r h = second_named t p (refutation Refused t p) r (λ x. x) h
+asked_named (value Strict t ∷ problem p ∷ e ∷ es) r h = cc
+asked_named (value Strict t ∷ value o v ∷ es) r h = cc
+asked_named (value Strict t ∷ flag ∷ es) r h = cc
+asked_named (value Tree n ∷ []) r h = cc
+asked_named (value Tree n ∷ problem p ∷ []) r h = tree_named n None p r h
+asked_named (value Tree n ∷ problem p ∷ e ∷ es) r h = cc
+asked_named (value Tree n ∷ value o v ∷ es) r h = cc
+asked_named (value Tree n ∷ flag ∷ es) r h = cc
 asked_named (value Models n ∷ []) r h = cc
 asked_named (value Models n ∷ problem p ∷ []) r h = models_named n p r h
 asked_named (value Models n ∷ problem p ∷ e ∷ es) r h = cc

@@ -4,7 +4,9 @@ use Rattle.std.specs.List.{list_all}
 use Rattle.std.specs.Option.{option_to_list}
 use Rattle.std.specs.Str.{bytes_eq}
 use Rattle.cli_words.specs.declared.options.OptionName.{OptionName}
-use Rattle.cli_words.specs.declared.options.OptionName.TheVariants.{Mode, Check, Demo, Models}
+use Rattle.cli_words.specs.declared.options.OptionName.TheVariants.{Mode, Check, Demo, Models, Tree, Strict}
+use Rattle.cli_words.specs.declared.Cuts.{Cuts}
+use Rattle.cli_words.specs.declared.Cuts.TheVariants.{Taken, Refused}
 use Rattle.cli_words.specs.Options.{options, option_name, same_name}
 use Rattle.cli_words.specs.Line.{is_taken, value_in}
 use Rattle.cli_words.specs.Names.{is_file_name, number_to}
@@ -15,11 +17,12 @@ pub data WordEntry : Type 0 where
   flag : WordEntry
   problem : List ℕ → WordEntry
 
--- prove a problem, with a mode or the standard mode; check a refutation's text against a problem; make and prove a problem; look for a
--- model of at most so many values for each base type; ask whether the two sides of a problem's conjecture are convertible
+-- prove a problem, with a mode or the standard mode, and with a tree without cut of at most so many nodes or with none; check a
+-- refutation's text against a problem, with cuts or without; make and prove a problem; look for a model of at most so many values for each
+-- base type; ask whether the two sides of a problem's conjecture are convertible
 pub data Request : Type 0 where
-  prove : List ℕ → Option (List ℕ) → Request
-  refutation : List ℕ → List ℕ → Request
+  prove : List ℕ → Option (List ℕ) → Option ℕ → Request
+  refutation : Cuts → List ℕ → List ℕ → Request
   generated : ℕ → Request
   models : ℕ → List ℕ → Request
   sides : List ℕ → Request
@@ -33,11 +36,19 @@ abbrev pub models_asked : Option ℕ → List ℕ → Option Request
 models_asked None p = None
 models_asked (Some upto) p = naming (p ∷ []) (models upto p)
 
+-- a proof with a tree within a bound, where there is one, and with this mode
+abbrev pub tree_asked : Option ℕ → Option (List ℕ) → List ℕ → Option Request
+tree_asked None mode p = None
+tree_asked (Some nodes) mode p = naming (option_to_list mode ++ p ∷ []) (prove p mode (Some nodes))
+
 -- what is asked for by the entries that the words give
 abbrev pub asked : List WordEntry → Option Request
-asked (problem p ∷ []) = naming (p ∷ []) (prove p None)
-asked (value Mode m ∷ problem p ∷ []) = naming (m ∷ p ∷ []) (prove p (Some m))
-asked (value Check text ∷ problem p ∷ []) = naming (text ∷ p ∷ []) (refutation text p)
+asked (problem p ∷ []) = naming (p ∷ []) (prove p None None)
+asked (value Mode m ∷ problem p ∷ []) = naming (m ∷ p ∷ []) (prove p (Some m) None)
+asked (value Mode m ∷ value Tree nodes ∷ problem p ∷ []) = tree_asked (number_to 10000 nodes) (Some m) p
+asked (value Tree nodes ∷ problem p ∷ []) = tree_asked (number_to 10000 nodes) None p
+asked (value Check text ∷ problem p ∷ []) = naming (text ∷ p ∷ []) (refutation Taken text p)
+asked (value Strict text ∷ problem p ∷ []) = naming (text ∷ p ∷ []) (refutation Refused text p)
 asked (value Demo number ∷ []) = option_map generated (number_to 1000 number)
 asked (value Models upto ∷ problem p ∷ []) = models_asked (number_to 8 upto) p
 asked (flag ∷ problem p ∷ []) = naming (p ∷ []) (sides p)

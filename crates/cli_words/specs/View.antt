@@ -8,8 +8,8 @@ use Rattle.cli_words.specs.declared.entry.Entry.{Entry}
 use Rattle.cli_words.specs.declared.entry.Entry.TheVariants as entry
 
 abbrev pub the_request : Asked → Request
-the_request (Prove problem mode) = request.prove problem.now (option_map (λ m. m.now) mode)
-the_request (Check text problem) = request.refutation text.now problem.now
+the_request (Prove problem mode nodes) = request.prove problem.now (option_map (λ m. m.now) mode) nodes
+the_request (Check text problem cuts) = request.refutation cuts text.now problem.now
 the_request (Demo n) = request.generated n
 the_request (Models upto problem) = request.models upto problem.now
 the_request (Same problem) = request.sides problem.now

@@ -1,12 +1,13 @@
 //! The table of what words may ask for.
-ghost use Rattle.std.specs.Prelude.{◌≡◌, [], ◌∷◌, map, option_map, Some, None, if◌then◌else◌};
-ghost use Rattle.cli_words.specs.Requests.{asked, naming, models_asked, prove, refutation, generated, sides};
+ghost use Rattle.std.specs.Prelude.{◌≡◌, [], ◌∷◌, ◌++◌, map, option_map, Some, None, if◌then◌else◌};
+ghost use Rattle.std.specs.Option.{option_to_list};
+ghost use Rattle.cli_words.specs.Requests.{asked, naming, models_asked, tree_asked, prove, refutation, generated, sides};
 ghost use Rattle.cli_words.specs.Names.{number_to};
 ghost use Rattle.cli_words.specs.View.{the_entry, the_request};
 
-use crate::Asked;
 use crate::names::{is_file_name, number_to};
 use crate::options::OptionName;
+use crate::{Asked, Cuts};
 
 /// What the words give: the value of an option, the option without a value, or the problem.
 #[derive(Clone, Copy, Debug)]
@@ -24,7 +25,8 @@ pub(crate) fn asked<'a>(entries: &[Entry<'a>]) -> Option<Asked<'a>>
         [] => None,
         [only] => alone(*only),
         [first, second] => beside(*first, *second),
-        [_, _, _, ..] => None,
+        [first, second, third] => both(*first, *second, *third),
+        [_, _, _, _, ..] => None,
     }
 }
 
@@ -54,13 +56,32 @@ fn beside<'a>(first: Entry<'a>, last: Entry<'a>) -> Option<Asked<'a>>
     }
 }
 
+fn both<'a>(first: Entry<'a>, second: Entry<'a>, last: Entry<'a>) -> Option<Asked<'a>>
+    ensures { option_map the_request result ≡ asked (the_entry first.entry ∷ the_entry second.entry ∷ the_entry last.entry ∷ []) }
+{
+    let Entry::Value(OptionName::Mode, mode) = first else {
+        return None;
+    };
+    let Entry::Value(OptionName::Tree, nodes) = second else {
+        return None;
+    };
+    match last {
+        Entry::Problem(problem) => prove_with_tree(nodes, Some(mode), problem),
+        _ => None,
+    }
+}
+
 // The rows of an option alone.
 fn option_alone<'a>(option: OptionName, value: &'a str) -> Option<Asked<'a>>
     ensures { option_map the_request result ≡ asked (the_entry (Entry.Value option value.entry) ∷ []) }
 {
     match option {
         OptionName::Demo => demo(value),
-        OptionName::Mode | OptionName::Check | OptionName::Models => None,
+        OptionName::Mode
+        | OptionName::Check
+        | OptionName::Models
+        | OptionName::Tree
+        | OptionName::Strict => None,
     }
 }
 
@@ -74,19 +95,22 @@ fn option_with_problem<'a>(
 {
     match option {
         OptionName::Mode => prove_with_mode(value, problem),
-        OptionName::Check => check(value, problem),
+        OptionName::Check => check(value, problem, Cuts::Taken),
+        OptionName::Strict => check(value, problem, Cuts::Refused),
         OptionName::Models => models(value, problem),
+        OptionName::Tree => prove_with_tree(value, None, problem),
         OptionName::Demo => None,
     }
 }
 
 fn prove<'a>(problem: &'a str) -> Option<Asked<'a>>
-    ensures { option_map the_request result ≡ naming (problem.entry.now ∷ []) (prove problem.entry.now None) }
+    ensures { option_map the_request result ≡ naming (problem.entry.now ∷ []) (prove problem.entry.now None None) }
 {
     if is_file_name(problem) {
         Some(Asked::Prove {
             problem,
             mode: None,
+            nodes: None,
         })
     } else {
         None
@@ -94,23 +118,49 @@ fn prove<'a>(problem: &'a str) -> Option<Asked<'a>>
 }
 
 fn prove_with_mode<'a>(mode: &'a str, problem: &'a str) -> Option<Asked<'a>>
-    ensures { option_map the_request result ≡ naming (mode.entry.now ∷ problem.entry.now ∷ []) (prove problem.entry.now (Some mode.entry.now)) }
+    ensures { option_map the_request result ≡ naming (mode.entry.now ∷ problem.entry.now ∷ []) (prove problem.entry.now (Some mode.entry.now) None) }
 {
     if is_file_name(mode) && is_file_name(problem) {
         Some(Asked::Prove {
             problem,
             mode: Some(mode),
+            nodes: None,
         })
     } else {
         None
     }
 }
 
-fn check<'a>(text: &'a str, problem: &'a str) -> Option<Asked<'a>>
-    ensures { option_map the_request result ≡ naming (text.entry.now ∷ problem.entry.now ∷ []) (refutation text.entry.now problem.entry.now) }
+fn prove_with_tree<'a>(nodes: &str, mode: Option<&'a str>, problem: &'a str) -> Option<Asked<'a>>
+    ensures { option_map the_request result
+        ≡ tree_asked (number_to 10000 nodes.now) (option_map (λ m. m.now) mode.entry) problem.entry.now }
+{
+    let nodes = number_to(10_000, nodes)?;
+    if !is_file_name(problem) {
+        return None;
+    }
+    if let Some(name) = mode {
+        if !is_file_name(name) {
+            return None;
+        }
+    }
+    Some(Asked::Prove {
+        problem,
+        mode,
+        nodes: Some(nodes),
+    })
+}
+
+fn check<'a>(text: &'a str, problem: &'a str, cuts: Cuts) -> Option<Asked<'a>>
+    ensures { option_map the_request result
+        ≡ naming (text.entry.now ∷ problem.entry.now ∷ []) (refutation cuts text.entry.now problem.entry.now) }
 {
     if is_file_name(text) && is_file_name(problem) {
-        Some(Asked::Check { text, problem })
+        Some(Asked::Check {
+            text,
+            problem,
+            cuts,
+        })
     } else {
         None
     }

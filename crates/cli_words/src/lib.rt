@@ -20,15 +20,18 @@ pub use words::Words;
 /// What the words ask for.
 #[derive(Clone, Copy, Debug, PartialEq, Eq)]
 pub enum Asked<'a> {
-    /// Prove the problem, with the mode of a file or with the standard mode.
+    /// Prove the problem, with the mode of a file or with the standard mode. Where a number of nodes is given, turn the proof into a tree
+    /// without cut of at most so many nodes.
     Prove {
         problem: &'a str,
         mode: Option<&'a str>,
+        nodes: Option<u32>,
     },
     /// Check a refutation's text against a problem.
     Check {
         text: &'a str,
         problem: &'a str,
+        cuts: Cuts,
     },
     /// Make a problem of this number, and prove it.
     Demo {
@@ -45,9 +48,16 @@ pub enum Asked<'a> {
     },
 }
 
+/// What the check of a text makes of cuts.
+#[derive(Clone, Copy, Debug, PartialEq, Eq)]
+pub enum Cuts {
+    Taken,
+    Refused,
+}
+
 #[derive(Clone, Copy, Debug, PartialEq, Eq, Error)]
 pub enum WordsRefused {
-    #[error("usage: satallax [--mode FILE] [--check FILE] [--demo N] [--models K] [--same] PROBLEM")]
+    #[error("usage: satallax [--mode FILE] [--check FILE] [--demo N] [--models K] [--tree N] [--strict FILE] [--same] PROBLEM")]
     Words,
     #[error("no memory for the words")]
     Memory,

@@ -9,14 +9,18 @@ pub(crate) enum OptionName {
     Check,
     Demo,
     Models,
+    Tree,
+    Strict,
 }
 
 /// The options, in the order in which the usage line has them.
-pub(crate) const OPTIONS: [OptionName; 4] = [
+pub(crate) const OPTIONS: [OptionName; 6] = [
     OptionName::Mode,
     OptionName::Check,
     OptionName::Demo,
     OptionName::Models,
+    OptionName::Tree,
+    OptionName::Strict,
 ];
 
 /// The option that takes no value.
@@ -32,6 +36,8 @@ impl OptionName {
             OptionName::Check => "check",
             OptionName::Demo => "demo",
             OptionName::Models => "models",
+            OptionName::Tree => "tree",
+            OptionName::Strict => "strict",
         }
     }
 }

@@ -1,6 +1,6 @@
 mod Lists
 mod Writes
 mod TermTexts
-mod LineTexts
+pub mod LineTexts
 mod SharedLists
 pub mod AllLaws

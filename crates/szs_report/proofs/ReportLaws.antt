@@ -1,11 +1,18 @@
 -- The pieces in which a report is written.
 use Rattle.std.proofs.Common.{◌≡◌, ℕ, List, [], ◌∷◌, ◌++◌, codes, ap, ◌∙◌, append_assoc}
 use Rattle.refute_print.specs.Text.{as_bytes}
-use Rattle.refute_text.specs.Reading.{start_mark}
+use Rattle.refute_print.proofs.LineTexts.{as_bytes-append}
 use Rattle.szs_report.specs.Report.{headed_report, model_report, line_report, demo_report, refused_report}
 
-pub proof_start-pieces : (status name count : List ℕ) → as_bytes ((status ++ name) ∷ (codes "% commands " ++ count) ∷ (start_mark ++ name) ∷ []) ≡ status ++ (name ++ (codes "\n% commands " ++ (count ++ (codes "\n% SZS output start Refutation for " ++ (name ++ (codes "\n" ++ []))))))
-proof_start-pieces status name count = append_assoc status name _
+pub proof_head-pieces : (status name count : List ℕ) → as_bytes ((status ++ name) ∷ (codes "% commands " ++ count) ∷ []) ≡ status ++ (name ++ (codes "\n% commands " ++ (count ++ (codes "\n" ++ []))))
+proof_head-pieces status name count = append_assoc status name _
+
+pub number_line-pieces : (word digits : List ℕ) → as_bytes ((word ++ digits) ∷ []) ≡ word ++ (digits ++ (codes "\n" ++ []))
+number_line-pieces word digits = append_assoc word digits (codes "\n")
+
+pub proof_start-parts : (first second last : List ℕ) (tree : List (List ℕ)) → as_bytes (first ∷ second ∷ (tree ++ last ∷ [])) ≡ as_bytes (first ∷ second ∷ []) ++ (as_bytes tree ++ as_bytes (last ∷ []))
+proof_start-parts first second last tree =
+    as_bytes-append (first ∷ second ∷ []) (tree ++ last ∷ []) ∙ ap (λ x. as_bytes (first ∷ second ∷ []) ++ x) (as_bytes-append tree (last ∷ []))
 
 headed-pieces : (status name word what : List ℕ) → headed_report status name word what ≡ status ++ (name ++ (codes "\n" ++ (word ++ (what ++ codes "\n"))))
 headed-pieces status name word what =

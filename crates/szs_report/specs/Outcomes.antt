@@ -4,6 +4,7 @@ use Rattle.szs_report.specs.declared.answer.Answer.{Answer}
 use Rattle.szs_report.specs.declared.answer.Answer.TheVariants.{Proved, GaveUp, CommandLimit, ConflictLimit, DemoDone, Accepted, Refused, CounterSatisfiable, Satisfiable, NoneSmall, ModelsTooMany, Same, Different, NoEquation, SyntaxAt, TypeAt, IncludeAt, ModeAt, Words, TooLong, ReadFault, Memory, UnreadWords}
 use Rattle.szs_report.specs.declared.answer.Claim.{Claim}
 use Rattle.szs_report.specs.declared.answer.Claim.TheVariants.{Theorem, Unsatisfiable}
+use Rattle.szs_report.specs.declared.answer.TreeReport.TheVariants.{Unasked}
 use Rattle.szs_report.specs.declared.answer.NamedFile.{NamedFile}
 use Rattle.szs_report.specs.declared.answer.NamedFile.TheVariants.{Part, Mode, Check}
 use Rattle.szs_report.specs.declared.outcome.FileRef.{FileRef}
@@ -23,7 +24,7 @@ file_ref (Check name) = reference.Check
 
 -- the outcome of a call that answers so and writes its report
 abbrev pub outcome_of : Answer → Outcome
-outcome_of (Proved claim n text) = claim_outcome claim
+outcome_of (Proved claim n tree text) = claim_outcome claim
 outcome_of (GaveUp n) = outcome.GaveUp
 outcome_of (CommandLimit n) = outcome.CommandLimit n
 outcome_of (ConflictLimit c) = outcome.ConflictLimit c
@@ -47,7 +48,7 @@ outcome_of (ReadFault file) = outcome.ReadFault (file_ref file)
 outcome_of Memory = outcome.Memory
 outcome_of UnreadWords = outcome.Memory
 
--- the answer with no text of a refutation in it
+-- the answer with no text of a refutation in it, and no word of a tree
 abbrev pub without_refutation : Answer → Answer
-without_refutation (Proved claim n text) = Proved claim n []
+without_refutation (Proved claim n tree text) = Proved claim n Unasked []
 without_refutation answer = answer

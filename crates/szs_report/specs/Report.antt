@@ -12,6 +12,8 @@ use Rattle.szs_report.specs.declared.answer.Claim.{Claim}
 use Rattle.szs_report.specs.declared.answer.Claim.TheVariants.{Theorem, Unsatisfiable}
 use Rattle.szs_report.specs.declared.answer.NamedFile.{NamedFile}
 use Rattle.szs_report.specs.declared.answer.NamedFile.TheVariants.{Part, Mode, Check}
+use Rattle.szs_report.specs.declared.answer.TreeReport.{TreeReport}
+use Rattle.szs_report.specs.declared.answer.TreeReport.TheVariants.{Unasked, Tree, Open, Over}
 use Rattle.szs_report.specs.declared.outcome.IncludeWhy.{IncludeWhy}
 use Rattle.szs_report.specs.declared.outcome.IncludeWhy.TheVariants.{Cycle, NoSuchName, TooMany}
 use Rattle.szs_report.specs.declared.outcome.ModeWhy.{ModeWhy}
@@ -25,13 +27,20 @@ headed_report status name word what = as_bytes ((status ++ name) ∷ (word ++ wh
 abbrev pub line_report : List ℕ → List ℕ → List ℕ
 line_report word name = as_bytes ((word ++ name) ∷ [])
 
--- the report of a proof: its head, and the text of the refutation between its marks
-abbrev pub counted_report : List ℕ → List ℕ → List ℕ → List ℕ → List ℕ
-counted_report status name count text =
-    as_bytes ((status ++ name) ∷ (codes "% commands " ++ count) ∷ (start_mark ++ name) ∷ []) ++ (text ++ as_bytes ((end_mark ++ name) ∷ []))
+-- what came of a tree, as a line or as none
+abbrev pub tree_lines : TreeReport → List (List ℕ)
+tree_lines Unasked = []
+tree_lines (Tree nodes) = (codes "% tree " ++ decimal nodes) ∷ []
+tree_lines Open = codes "% tree open" ∷ []
+tree_lines (Over nodes) = (codes "% tree over " ++ decimal nodes) ∷ []
 
-abbrev pub proof_report : List ℕ → List ℕ → ℕ → List ℕ → List ℕ
-proof_report status name n text = counted_report status name (decimal n) text
+-- the report of a proof: its head, what came of a tree, and the text of the refutation between its marks
+abbrev pub counted_report : List ℕ → List ℕ → List ℕ → List (List ℕ) → List ℕ → List ℕ
+counted_report status name count tree text =
+    as_bytes ((status ++ name) ∷ (codes "% commands " ++ count) ∷ (tree ++ (start_mark ++ name) ∷ [])) ++ (text ++ as_bytes ((end_mark ++ name) ∷ []))
+
+abbrev pub proof_report : List ℕ → List ℕ → ℕ → TreeReport → List ℕ → List ℕ
+proof_report status name n tree text = counted_report status name (decimal n) (tree_lines tree) text
 
 -- the report of a model: its head, its size, and the lines of its values between the marks
 abbrev pub model_report : List ℕ → List ℕ → List ℕ → List ℕ → List ℕ
@@ -104,7 +113,7 @@ refused_in file at why = place_report file at ++ (codes " " ++ why)
 
 -- the report of an answer, for the problem's name
 abbrev pub report_of : List ℕ → Answer → List ℕ
-report_of name (Proved claim n text) = proof_report (claim_status claim) name n text
+report_of name (Proved claim n tree text) = proof_report (claim_status claim) name n tree text
 report_of name (GaveUp n) = headed_report (codes "% SZS status GaveUp for ") name (codes "% commands ") (decimal n)
 report_of name (CommandLimit n) = headed_report (codes "% SZS status ResourceOut for ") name (codes "% command limit ") (decimal n)
 report_of name (ConflictLimit c) = headed_report (codes "% SZS status ResourceOut for ") name (codes "% conflict limit ") (decimal c)
@@ -122,7 +131,7 @@ report_of name (SyntaxAt file at) = headed_report (codes "% SZS status SyntaxErr
 report_of name (TypeAt file at why) = headed_report (codes "% SZS status InputError for ") name (codes "% type ") (refused_in (file_name file) at (ill_word why))
 report_of name (IncludeAt file at why) = headed_report (codes "% SZS status InputError for ") name (codes "% include ") (refused_in (file_name file) at (include_word why))
 report_of name (ModeAt line why) = headed_report (codes "% SZS status InputError for ") name (codes "% mode ") (line_why (decimal line) (mode_word why))
-report_of name Words = codes "% usage: satallax [--mode FILE] [--check FILE] [--demo N] [--models K] [--same] PROBLEM\n"
+report_of name Words = codes "% usage: satallax [--mode FILE] [--check FILE] [--demo N] [--models K] [--tree N] [--strict FILE] [--same] PROBLEM\n"
 report_of name (TooLong file) = headed_report (codes "% SZS status InputError for ") name (codes "% too long ") (file_name file)
 report_of name (ReadFault file) = headed_report (codes "% SZS status InputError for ") name (codes "% read fault ") (file_name file)
 report_of name Memory = headed_report (codes "% SZS status ResourceOut for ") name (codes "% memory") []

@@ -21,6 +21,19 @@ pub enum Claim {
     Unsatisfiable,
 }
 
+/// What came of a tree without cut. A tree that has been asked for is made of the instances that the refutation uses.
+#[derive(Clone, Copy, Debug, PartialEq, Eq)]
+pub enum TreeReport {
+    /// None was asked for.
+    Unasked,
+    /// The refutation that is written is that of a tree of so many nodes.
+    Tree { nodes: u32 },
+    /// A branch of it stays open.
+    Open,
+    /// It has more nodes than this.
+    Over { nodes: u32 },
+}
+
 /// A file that a call reads, with its name.
 #[derive(Drop)]
 pub enum NamedFile {
@@ -39,6 +52,7 @@ pub enum Answer {
     Proved {
         claim: Claim,
         commands: u32,
+        tree: TreeReport,
         text: ProofText,
     },
     /// No command is left after so many, and nothing is proved.

@@ -8,7 +8,7 @@ mod outcome;
 mod proof_text;
 mod report;
 
-pub use answer::{Answer, Claim, NamedFile};
+pub use answer::{Answer, Claim, NamedFile, TreeReport};
 pub use model_lines::model_text;
 pub use outcome::{FileRef, IncludeWhy, ModeWhy, Outcome};
 pub use proof_text::ProofText;

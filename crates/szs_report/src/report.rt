@@ -6,9 +6,9 @@ ghost use Rattle.outside.specs.Prefix.{AppendsProperly};
 ghost use Rattle.outside.specs.Writing.{Took, Stopped};
 ghost use Rattle.refute_print.specs.Text.{as_bytes};
 ghost use Rattle.refute_text.specs.Reading.{start_mark, end_mark};
-ghost use Rattle.szs_report.specs.Report.{headed_report, line_report, counted_report, proof_report, model_report, claim_status, file_name, place_report, ill_word, include_word, mode_word, why_word, refused_report, refused_in, demo_report, line_why, report_of};
+ghost use Rattle.szs_report.specs.Report.{headed_report, line_report, tree_lines, counted_report, proof_report, model_report, claim_status, file_name, place_report, ill_word, include_word, mode_word, why_word, refused_report, refused_in, demo_report, line_why, report_of};
 
-use crate::answer::{Answer, Claim, NamedFile};
+use crate::answer::{Answer, Claim, NamedFile, TreeReport};
 use crate::causes::{ill_word, include_word, mode_word, why_word};
 use crate::outcome::{IncludeWhy, ModeWhy};
 use crate::proof_text::ProofText;
@@ -35,7 +35,7 @@ const NO_MODEL: &[u8] = b"% no model up to ";
 const TOO_MANY: &[u8] = b"% models too many at size ";
 
 const USAGE: &[u8] =
-    b"% usage: satallax [--mode FILE] [--check FILE] [--demo N] [--models K] [--same] PROBLEM\n";
+    b"% usage: satallax [--mode FILE] [--check FILE] [--demo N] [--models K] [--tree N] [--strict FILE] [--same] PROBLEM\n";
 
 /// Writes a report of two lines.
 fn write_headed<S: Sink>(
@@ -57,30 +57,71 @@ fn write_headed<S: Sink>(
     write_pieces(out, &[status, name, b"\n", word, what, b"\n"])
 }
 
-/// Writes the lines above the text of a refutation that came after so many commands, in digits.
-fn write_proof_start<S: Sink>(
+/// Writes the two lines at the head of the report of a proof after so many commands, in digits.
+fn write_proof_head<S: Sink>(
     out: &mut S,
     status: &[u8],
     name: &[u8],
     commands: &[u8],
 ) -> Result<(), Failed>
     ensures took { OnOk result (Took S.tells S.written S.faults out.old out.new
-        (as_bytes ((status.now ++ name.now) ∷ (codes "% commands " ++ commands.now) ∷ (start_mark ++ name.now) ∷ []))) }
+        (as_bytes ((status.now ++ name.now) ∷ (codes "% commands " ++ commands.now) ∷ []))) }
     ensures stopped { OnErr result (Stopped S.tells S.written S.faults out.old out.new
-        (as_bytes ((status.now ++ name.now) ∷ (codes "% commands " ++ commands.now) ∷ (start_mark ++ name.now) ∷ []))) }
+        (as_bytes ((status.now ++ name.now) ∷ (codes "% commands " ++ commands.now) ∷ []))) }
 {
-    write_pieces(
-        out,
-        &[
-            status,
-            name,
-            b"\n% commands ",
-            commands,
-            b"\n% SZS output start Refutation for ",
-            name,
-            b"\n",
-        ],
-    )?;
+    write_pieces(out, &[status, name, b"\n% commands ", commands, b"\n"])?;
+    Ok(())
+}
+
+/// Writes a line that ends with a number.
+fn write_number_line<S: Sink>(out: &mut S, word: &[u8], number: u32) -> Result<(), Failed>
+    ensures took { OnOk result (Took S.tells S.written S.faults out.old out.new (as_bytes ((word.now ++ decimal number) ∷ []))) }
+    ensures stopped { OnErr result (Stopped S.tells S.written S.faults out.old out.new (as_bytes ((word.now ++ decimal number) ∷ []))) }
+{
+    let mut buffer = Buffer::new();
+    write_pieces(out, &[word, buffer.format(number).as_bytes(), b"\n"])?;
+    Ok(())
+}
+
+/// Writes what came of a tree.
+fn write_tree<S: Sink>(out: &mut S, tree: TreeReport) -> Result<(), Failed>
+    ensures took { OnOk result (Took S.tells S.written S.faults out.old out.new (as_bytes (tree_lines tree))) }
+    ensures stopped { OnErr result (Stopped S.tells S.written S.faults out.old out.new (as_bytes (tree_lines tree))) }
+{
+    match tree {
+        TreeReport::Unasked => {}
+        TreeReport::Tree { nodes } => write_number_line(out, b"% tree ", nodes)?,
+        TreeReport::Open => write_all_counted(out, b"% tree open\n")?,
+        TreeReport::Over { nodes } => write_number_line(out, b"% tree over ", nodes)?,
+    }
+    Ok(())
+}
+
+/// Writes the line above the text of a refutation.
+fn write_start_mark<S: Sink>(out: &mut S, name: &[u8]) -> Result<(), Failed>
+    ensures took { OnOk result (Took S.tells S.written S.faults out.old out.new (as_bytes ((start_mark ++ name.now) ∷ []))) }
+    ensures stopped { OnErr result (Stopped S.tells S.written S.faults out.old out.new (as_bytes ((start_mark ++ name.now) ∷ []))) }
+{
+    write_pieces(out, &[b"% SZS output start Refutation for ", name, b"\n"])?;
+    Ok(())
+}
+
+/// Writes the lines above the text of a refutation that came after so many commands, in digits.
+fn write_proof_start<S: Sink>(
+    out: &mut S,
+    status: &[u8],
+    name: &[u8],
+    commands: &[u8],
+    tree: TreeReport,
+) -> Result<(), Failed>
+    ensures took { OnOk result (Took S.tells S.written S.faults out.old out.new
+        (as_bytes ((status.now ++ name.now) ∷ (codes "% commands " ++ commands.now) ∷ (tree_lines tree ++ (start_mark ++ name.now) ∷ [])))) }
+    ensures stopped { OnErr result (Stopped S.tells S.written S.faults out.old out.new
+        (as_bytes ((status.now ++ name.now) ∷ (codes "% commands " ++ commands.now) ∷ (tree_lines tree ++ (start_mark ++ name.now) ∷ [])))) }
+{
+    write_proof_head(out, status, name, commands)?;
+    write_tree(out, tree)?;
+    write_start_mark(out, name)?;
     Ok(())
 }
 
@@ -108,12 +149,13 @@ fn write_proof_parts<S: Sink>(
     status: &[u8],
     name: &[u8],
     commands: &[u8],
+    tree: TreeReport,
     text: &ProofText,
 ) -> Result<(), Failed>
-    ensures took { OnOk result (Took S.tells S.written S.faults out.old out.new (counted_report status.now name.now commands.now text.now)) }
-    ensures stopped { OnErr result (Stopped S.tells S.written S.faults out.old out.new (counted_report status.now name.now commands.now text.now)) }
+    ensures took { OnOk result (Took S.tells S.written S.faults out.old out.new (counted_report status.now name.now commands.now (tree_lines tree) text.now)) }
+    ensures stopped { OnErr result (Stopped S.tells S.written S.faults out.old out.new (counted_report status.now name.now commands.now (tree_lines tree) text.now)) }
 {
-    write_proof_start(out, status, name, commands)?;
+    write_proof_start(out, status, name, commands, tree)?;
     write_text(out, text)?;
     write_proof_end(out, name)?;
     Ok(())
@@ -135,12 +177,13 @@ fn write_proof<S: Sink>(
     name: &[u8],
     claim: Claim,
     commands: u32,
+    tree: TreeReport,
     text: &ProofText,
 ) -> Result<(), Failed>
     ensures appended { OnOk result (IsTrue (S.tells out.old)
-        → S.written out.new ≡ S.written out.old ++ proof_report (claim_status claim) name.now commands text.now) }
+        → S.written out.new ≡ S.written out.old ++ proof_report (claim_status claim) name.now commands tree text.now) }
     ensures failed { OnErr result (IsTrue (S.tells out.old)
-        → AppendsProperly (S.written out.old) (S.written out.new) (proof_report (claim_status claim) name.now commands text.now)) }
+        → AppendsProperly (S.written out.old) (S.written out.new) (proof_report (claim_status claim) name.now commands tree text.now)) }
     ensures quiet { OnOk result (S.faults out.new ≡ S.faults out.old) }
     ensures cause { OnErr result (Rose (S.faults out.old) (S.faults out.new)) }
     ensures later { S.faults out.old ≤ S.faults out.new }
@@ -149,7 +192,7 @@ fn write_proof<S: Sink>(
     let mut buffer = Buffer::new();
     let digits = buffer.format(commands).as_bytes();
     let status = claim_status(claim);
-    write_proof_parts(out, status, name, digits, text)?;
+    write_proof_parts(out, status, name, digits, tree, text)?;
     Ok(())
 }
 
@@ -565,8 +608,9 @@ pub fn write_report<S: Sink>(out: &mut S, name: &[u8], answer: &Answer) -> Resul
         Answer::Proved {
             claim,
             commands,
+            tree,
             text,
-        } => write_proof(out, name, *claim, *commands, text),
+        } => write_proof(out, name, *claim, *commands, *tree, text),
         Answer::GaveUp { commands } => {
             write_numbered(out, GAVE_UP, name, b"% commands ", *commands)
         }

@@ -1,15 +1,26 @@
-use Rattle.outside.proofs.Writes.{on_err}
-use Rattle.szs_report.proofs.ReportLaws.{proof_start-pieces}
+use Rattle.outside.proofs.Writes.{on_err, took_both, stopped_first, stopped_later}
+use Rattle.szs_report.specs.Report.{tree_lines}
+use Rattle.szs_report.proofs.ReportLaws.{proof_start-parts}
 use Rattle.szs_report.proofs.report.write_proof_start.Goals as goal
 
-pub returns-in_err-write_pieces-clause-stopped : goal.returns-in_err-write_pieces-clause-stopped
-returns-in_err-write_pieces-clause-stopped g c =
-    let w = c.in_err-write_pieces.ensures in
-    rw (proof_start-pieces c.args.status.now c.args.name.now c.args.commands.now)
-    (on_err c.from_residual.result (record { cut = w.failed; cause = w.cause; later = w.later; telling = w.telling }))
+pub returns-in_err-write_proof_head-clause-stopped : goal.returns-in_err-write_proof_head-clause-stopped
+returns-in_err-write_proof_head-clause-stopped g c =
+    rw (proof_start-parts _ _ _ (tree_lines c.args.tree))
+    (on_err c.from_residual.result (stopped_first _ _ c.in_err-write_proof_head.ensures.stopped))
+
+pub returns-in_err-write_tree-clause-stopped : goal.returns-in_err-write_tree-clause-stopped
+returns-in_err-write_tree-clause-stopped g c =
+    rw (proof_start-parts _ _ _ (tree_lines c.args.tree))
+    (on_err c.from_residual-in_err-write_tree.result
+    (stopped_later _ _ c.in_ok-write_proof_head.ensures.took (stopped_first _ _ c.in_err-write_tree.ensures.stopped)))
+
+pub returns-in_err-write_start_mark-clause-stopped : goal.returns-in_err-write_start_mark-clause-stopped
+returns-in_err-write_start_mark-clause-stopped g c =
+    rw (proof_start-parts _ _ _ (tree_lines c.args.tree))
+    (on_err c.from_residual-in_err-write_start_mark.result
+    (stopped_later _ _ c.in_ok-write_proof_head.ensures.took (stopped_later _ _ c.in_ok-write_tree.ensures.took c.in_err-write_start_mark.ensures.stopped)))
 
 pub returns-clause-took : goal.returns-clause-took
 returns-clause-took g c =
-    let w = c.in_ok-write_pieces.ensures in
-    rw (proof_start-pieces c.args.status.now c.args.name.now c.args.commands.now)
-    (record { appended = w.appended; quiet = w.quiet; telling = w.telling })
+    rw (proof_start-parts _ _ _ (tree_lines c.args.tree))
+    (took_both _ _ c.in_ok-write_proof_head.ensures.took (took_both _ _ c.in_ok-write_tree.ensures.took c.in_ok-write_start_mark.ensures.took))
