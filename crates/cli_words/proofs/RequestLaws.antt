@@ -7,7 +7,6 @@ use Rattle.std.proofs.lemmas.Bool.Decides.{nat_tests}
 use Rattle.cli_words.specs.Names.{is_file_name, is_positive_decimal, number_to}
 use Rattle.outside.specs.Decimal.{is_digit, number_from}
 use Rattle.cli_words.specs.declared.options.OptionName.TheVariants.{Mode, Check, Demo, Models, Tree, Strict}
-use Rattle.cli_words.specs.declared.Cuts.{Cuts}
 use Rattle.cli_words.specs.declared.Cuts.TheVariants.{Taken, Refused}
 use Rattle.cli_words.specs.Line.{is_taken}
 use Rattle.cli_words.specs.Requests.{WordEntry, value, flag, problem, Request, prove, refutation, generated, models, sides, naming, models_asked, tree_asked, asked, entries_in, asked_by}
