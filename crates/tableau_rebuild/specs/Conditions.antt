@@ -6,6 +6,7 @@ use Rattle.tableau_calculus.specs.declared.refutation.RuleUse.{RuleUse}
 use Rattle.sat_base.specs.Literal.{IsOver}
 use Rattle.sat_log.specs.declared.log.LogEntry.{LogEntry}
 use Rattle.term_bank.specs.Content.{Content, content_scope}
+use Rattle.literal_map.specs.declared.instance.BankUse.{BankUse}
 use Rattle.literal_map.specs.declared.instance.Instance.{Instance}
 use Rattle.tableau_clauses.specs.declared.origin.Origin.TheVariants.{Start}
 use Rattle.tableau_clauses.specs.Table.{Table}
@@ -16,6 +17,13 @@ use Rattle.tableau_rebuild.specs.Tables.{atoms_at}
 -- the literal of each start unit has a number
 abbrev pub AreUnitsNumbered : List ℕ → Table → Type 0
 AreUnitsNumbered atoms t = All (λ s. s.1 ≡ Start → IsOver (length atoms) s.0) t.0
+
+-- the rule takes what there is
+pub record IsGoodUse (b : Content) (atoms : List ℕ) (by : BankUse) : Type 0 where
+  pub rule : RuleUse
+  pub is : use_of b.terms atoms by ≡ Some rule
+  pub term : IfSome by.term (λ u. u < length b.terms)
+  pub literal : IfSome by.first (λ l. l.var.0 < length atoms)
 
 -- the instance is one of its rule with what that takes, over the bank, the numbered atoms and the witness table
 pub record IsInstanceOver (b : Content) (atoms : List ℕ) (rows : List Row) (i : Instance) : Type 0 where

@@ -4,7 +4,6 @@ pub mod Walks
 pub mod Arenas
 pub mod Numbers
 pub mod Branches
-pub mod Pools
 pub mod LineParts
 pub mod Needed
 pub mod Written

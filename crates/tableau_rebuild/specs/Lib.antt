@@ -28,5 +28,6 @@ pub use Rattle.term_bank.specs.Terms
 pub use Rattle.witness_names.specs.Rows
 pub mod Tables
 pub mod Conditions
+pub mod Pools
 pub mod UsedInstances
 pub mod Internal

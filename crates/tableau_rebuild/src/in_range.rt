@@ -65,7 +65,7 @@ fn children_in_range(children: &Children)
 }
 
 /// The numbers in a line are in range.
-pub(crate) fn line_in_range(line: &Line)
+pub fn line_in_range(line: &Line)
     ensures { HasNumbers line.now }
 {
     rule_in_range(&line.rule);

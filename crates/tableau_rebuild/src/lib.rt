@@ -18,6 +18,12 @@ mod refutation;
 mod rows;
 mod walk;
 
+pub use in_range::line_in_range;
 pub use law::tables_are_given;
+pub use line::{places_of, rule_of};
+pub use literals::{lits_of, position};
+pub use needed::{rows_for_branch, rows_for_instance};
+pub use pool::Pool;
 pub use reached::{UsedList, used};
 pub use refutation::rebuild;
+pub use rows::write_rows;

@@ -10,8 +10,9 @@ ghost use Rattle.rebuild_spec.specs.Input.{literals_of};
 ghost use Rattle.rebuild_spec.specs.Stands.{rule_at_places, place_in};
 ghost use Rattle.tableau_rules.specs.Uses.{use_of};
 ghost use Rattle.tableau_rebuild.specs.Tables.{no_literal, atoms_at, the_instance};
-ghost use Rattle.tableau_rebuild.specs.Internal.LineParts.{first_in, left_in, right_in, instance_by, IsGoodUse, IsMakeable, IsLineBy};
-ghost use Rattle.tableau_rebuild.specs.Internal.Pools.{IsMadePool};
+ghost use Rattle.tableau_rebuild.specs.Conditions.{IsGoodUse};
+ghost use Rattle.tableau_rebuild.specs.Internal.LineParts.{first_in, left_in, right_in, instance_by, IsMakeable, IsLineBy};
+ghost use Rattle.tableau_rebuild.specs.Pools.{IsMadePool};
 
 use crate::draft::Draft;
 use crate::literals::{lit_of, lits_of, position};
@@ -71,7 +72,7 @@ fn cut_literal(bank: &Bank, atoms: &LitTable, by: &BankUse) -> Result<Lit, Alloc
 }
 
 /// The rule with the places of its principals.
-fn rule_of(
+pub fn rule_of(
     bank: &Bank,
     atoms: &LitTable,
     by: &BankUse,
@@ -118,7 +119,7 @@ fn rule_of(
 }
 
 /// The places of literals in a branch.
-fn places_of(alloc: Global, branch: &[SatLit], literals: &LitList) -> Result<Vec<usize>, AllocError>
+pub fn places_of(alloc: Global, branch: &[SatLit], literals: &LitList) -> Result<Vec<usize>, AllocError>
     ensures { IfOk result (λ places. places.items ≡ map (place_in branch.now) literals.now) }
 {
     let mut places = Vec::new(alloc);

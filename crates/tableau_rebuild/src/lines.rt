@@ -13,7 +13,7 @@ ghost use Rattle.tableau_rebuild.specs.declared.draft.Draft.{Draft};
 ghost use Rattle.tableau_rebuild.specs.Tables.{atoms_at};
 ghost use Rattle.tableau_rebuild.specs.Internal.Drafts.{trees, tree_at, AreDrafts};
 ghost use Rattle.tableau_rebuild.specs.Internal.Numbers.{AreNumbers};
-ghost use Rattle.tableau_rebuild.specs.Internal.Pools.{IsMadePool};
+ghost use Rattle.tableau_rebuild.specs.Pools.{IsMadePool};
 ghost use Rattle.tableau_rebuild.specs.Internal.LineParts.{IsMakeable};
 ghost use Rattle.tableau_rebuild.specs.Internal.Written.{the_tree};
 

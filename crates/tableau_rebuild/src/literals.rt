@@ -6,7 +6,7 @@ ghost use Rattle.literal_map.specs.Atoms.{IsAtom};
 ghost use Rattle.rebuild_spec.specs.Input.{literals_of};
 ghost use Rattle.rebuild_spec.specs.Stands.{place_in};
 ghost use Rattle.tableau_rebuild.specs.Tables.{atoms_at};
-ghost use Rattle.tableau_rebuild.specs.Internal.Pools.{IsMadePool};
+ghost use Rattle.tableau_rebuild.specs.Pools.{IsMadePool};
 
 use crate::pool::Pool;
 use literal_map::LitTable;
@@ -16,7 +16,7 @@ use tableau_calculus::{Lit, Lits};
 use term_bank::Bank;
 
 /// The place of a literal in a branch.
-pub(crate) fn position(branch: &[SatLit], literal: SatLit) -> usize
+pub fn position(branch: &[SatLit], literal: SatLit) -> usize
     ensures { result ≡ place_in branch.now literal }
 {
     for i in 0..branch.len() {
@@ -52,7 +52,7 @@ pub(crate) fn lit_of(bank: &Bank, atoms: &LitTable, literal: SatLit) -> Result<L
 }
 
 /// The literals of a branch, each made once for all branches.
-pub(crate) fn lits_of(
+pub fn lits_of(
     alloc: Global,
     bank: &Bank,
     atoms: &LitTable,

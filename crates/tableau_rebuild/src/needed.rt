@@ -15,7 +15,8 @@ ghost use Rattle.rebuild_spec.specs.NeededRows.{rows_for, rows_for_all, rows_for
 ghost use Rattle.rebuild_spec.specs.Stands.{rule_at_places, place_in};
 ghost use Rattle.tableau_rules.specs.Uses.{use_of};
 ghost use Rattle.tableau_rebuild.specs.Tables.{no_literal, atoms_at, the_instance};
-ghost use Rattle.tableau_rebuild.specs.Internal.LineParts.{first_in, instance_by, IsGoodUse, IsLineBy};
+ghost use Rattle.tableau_rebuild.specs.Conditions.{IsGoodUse};
+ghost use Rattle.tableau_rebuild.specs.Internal.LineParts.{first_in, IsLineBy};
 ghost use Rattle.tableau_rebuild.specs.Internal.Needed.{is_quantifier, HasParts};
 
 use crate::draft::Draft;
@@ -48,7 +49,7 @@ fn rows_for_literal(bank: &Bank, atoms: &LitTable, literal: SatLit) -> usize
 }
 
 /// How many rows have to be there for a branch.
-fn rows_for_branch(bank: &Bank, atoms: &LitTable, branch: &[SatLit]) -> usize
+pub fn rows_for_branch(bank: &Bank, atoms: &LitTable, branch: &[SatLit]) -> usize
     requires atoms { All (IsAtom bank.now) atoms.now }
     requires numbered { IsOver (length atoms.now) branch.now }
     ensures { result ≡ rows_for_all (literals_of (atoms_at bank.now.terms atoms.now) branch.now) }
@@ -206,7 +207,7 @@ fn first_place(branch: &[SatLit], principals: &LitList) -> usize
 }
 
 /// How many rows have to be there for the rule of an instance.
-fn rows_for_instance(
+pub fn rows_for_instance(
     bank: &Bank,
     atoms: &LitTable,
     witnesses: &Witnesses,
@@ -217,7 +218,7 @@ fn rows_for_instance(
     requires numbered { IsOver (length atoms.now) branch.now }
     requires rows { AreRows bank.now witnesses.now }
     requires good { IsGoodUse bank.now atoms.now instance.now.by }
-    ensures { result ≡ rows_for_rule (rows_of bank.now.terms witnesses.now) (literals_of (atoms_at bank.now.terms atoms.now) branch.now) (instance_by (atoms_at bank.now.terms atoms.now) branch.now (the_instance bank.now.terms atoms.now instance.now)).rule }
+    ensures { result ≡ rows_for_rule (rows_of bank.now.terms witnesses.now) (literals_of (atoms_at bank.now.terms atoms.now) branch.now) (rule_at_places (the_instance bank.now.terms atoms.now instance.now).rule (map (place_in branch.now) instance.now.principals)) }
 {
     let place = first_place(branch, &instance.principals);
     rows_for_use(bank, atoms, witnesses, &instance.by, branch, place)

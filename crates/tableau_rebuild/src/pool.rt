@@ -4,7 +4,7 @@ ghost use Rattle.stt_core.specs.Lambda.{Lambda};
 ghost use Rattle.search_spec.specs.Numbered.{literal_at};
 ghost use Rattle.literal_map.specs.Atoms.{IsAtom};
 ghost use Rattle.tableau_rebuild.specs.Tables.{atoms_at};
-ghost use Rattle.tableau_rebuild.specs.Internal.Pools.{IsMadePool};
+ghost use Rattle.tableau_rebuild.specs.Pools.{IsMadePool};
 
 use crate::literals::lit_of;
 use indexmap::IndexSet;
@@ -16,14 +16,14 @@ use term_bank::Bank;
 
 /// The literals that were made of their numbers so far. Lines share them.
 #[derive(Drop)]
-pub(crate) struct Pool {
+pub struct Pool {
     numbers: IndexSet<SatLit>,
     lits: Lits,
 }
 
 impl Pool {
     /// A pool without literals.
-    pub(crate) fn new(alloc: Global) -> Pool
+    pub fn new(alloc: Global) -> Pool
         ensures { (atoms : List Lambda) → IsMadePool atoms result }
     {
         Pool {

@@ -32,7 +32,7 @@ fn row(alloc: Global, bank: &Bank, id: Id) -> Result<WitnessRow, AllocError>
 }
 
 /// So many rows of a witness table, from its first one on, or all where there are fewer.
-pub(crate) fn write_rows(
+pub fn write_rows(
     alloc: Global,
     bank: &Bank,
     witnesses: &Witnesses,

@@ -1,7 +1,6 @@
 -- Lines by their drafts, their branches and the numbers of the lines before.
-use Rattle.std.specs.Prelude.{◌≡◌, ◌<◌, ℕ, List, [], ◌∷◌, map, length, Some, IfSome, slice_get, slice_index_or}
+use Rattle.std.specs.Prelude.{◌≡◌, ◌<◌, ℕ, List, [], ◌∷◌, map, length, Some, slice_get, slice_index_or}
 use Rattle.stt_core.specs.Lambda.{Lambda}
-use Rattle.tableau_calculus.specs.declared.refutation.RuleUse.{RuleUse}
 use Rattle.tableau_calculus.specs.declared.refutation.RuleUse.TheVariants.{Close as CloseRule, Cut as CutRule}
 use Rattle.tableau_calculus.specs.declared.refutation.Child.TheVariants.{Closed, Line as Numbered}
 use Rattle.tableau_calculus.specs.declared.refutation.Line.{Line}
@@ -10,14 +9,13 @@ use Rattle.sat_base.specs.declared.literal.SatLit.{SatLit}
 use Rattle.sat_base.specs.Literal.{positive}
 use Rattle.search_spec.specs.Numbered.{literal_at}
 use Rattle.term_bank.specs.Content.{Content}
-use Rattle.literal_map.specs.declared.instance.BankUse.{BankUse}
 use Rattle.literal_map.specs.declared.instance.Instance.{Instance as BankInstance}
 use Rattle.tableau_clauses.specs.declared.origin.Origin.TheVariants.{Instance as From}
 use Rattle.tableau_clauses.specs.Table.{Table}
 use Rattle.rebuild_spec.specs.Input.{Instance, literals_of}
 use Rattle.rebuild_spec.specs.Stands.{rule_at_places, place_in}
-use Rattle.tableau_rules.specs.Uses.{use_of}
 use Rattle.tableau_rebuild.specs.Tables.{atoms_at, the_instance}
+use Rattle.tableau_rebuild.specs.Conditions.{IsGoodUse}
 use Rattle.tableau_rebuild.specs.declared.draft.Draft.{Draft}
 use Rattle.tableau_rebuild.specs.declared.draft.Draft.TheVariants.{Clause, Close, Cut}
 
@@ -46,13 +44,6 @@ close_by atoms branch = record { branch = literals_of atoms branch; rule = Close
 
 abbrev pub cut_by : List Lambda → List SatLit → Var → ℕ → ℕ → Line
 cut_by atoms branch v m n = record { branch = literals_of atoms branch; rule = CutRule (literal_at atoms (positive v)); children = Numbered m ∷ Numbered n ∷ [] }
-
--- the rule takes what there is
-pub record IsGoodUse (b : Content) (atoms : List ℕ) (by : BankUse) : Type 0 where
-  pub rule : RuleUse
-  pub is : use_of b.terms atoms by ≡ Some rule
-  pub term : IfSome by.term (λ u. u < length b.terms)
-  pub literal : IfSome by.first (λ l. l.var.0 < length atoms)
 
 -- the clause with this number comes from the instance
 pub record IsClauseFrom (b : Content) (atoms : List ℕ) (t : Table) (n : ℕ) (i : BankInstance) : Type 0 where

@@ -1,7 +1,7 @@
 use Rattle.std.proofs.Common.{◌≡◌, take}
 use Rattle.rebuild_spec.specs.Input.{literals_of}
 use Rattle.tableau_rebuild.specs.Tables.{atoms_at}
-use Rattle.tableau_rebuild.specs.Internal.Pools.{IsMadePool}
+use Rattle.tableau_rebuild.specs.Pools.{IsMadePool}
 use Rattle.tableau_rebuild.proofs.literals.lits_of.Given as goal
 
 abbrev pub invariant-loop-i : goal.invariant-loop-i

@@ -7,7 +7,7 @@ use Rattle.rebuild_spec.specs.Trees.{branch}
 use Rattle.small_rebuilt.specs.Small.{HasNumbers}
 use Rattle.tableau_rebuild.specs.Tables.{atoms_at}
 use Rattle.tableau_rebuild.specs.Internal.Written.{the_tree}
-use Rattle.tableau_rebuild.specs.Internal.Pools.{IsMadePool}
+use Rattle.tableau_rebuild.specs.Pools.{IsMadePool}
 use Rattle.tableau_rebuild.proofs.lines.Writing.write.Given as goal
 
 abbrev pub invariant-loop-k : goal.invariant-loop-k
