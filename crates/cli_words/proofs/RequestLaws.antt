@@ -7,7 +7,7 @@ use Rattle.std.proofs.lemmas.Bool.Decides.{nat_tests}
 use Rattle.cli_words.specs.Names.{is_file_name, is_positive_decimal, number_to}
 use Rattle.outside.specs.Decimal.{is_digit, number_from}
 use Rattle.cli_words.specs.declared.options.OptionName.TheVariants.{Mode, Check, Demo, Models, Tree, Strict}
-use Rattle.cli_words.specs.declared.Cuts.TheVariants.{Taken, Refused}
+use Rattle.cli_words.specs.declared.Cuts.TheVariants.{Allowed, Forbidden}
 use Rattle.cli_words.specs.Line.{is_taken}
 use Rattle.cli_words.specs.Requests.{WordEntry, value, flag, problem, Request, prove, refutation, generated, models, sides, naming, models_asked, tree_asked, asked, entries_in, asked_by}
 
@@ -126,12 +126,12 @@ asked_named (value Mode m ∷ value Models v ∷ es) r h = cc
 asked_named (value Mode m ∷ value Strict v ∷ es) r h = cc
 asked_named (value Mode m ∷ flag ∷ es) r h = cc
 asked_named (value Check t ∷ []) r h = cc
-asked_named (value Check t ∷ problem p ∷ []) r h = second_named t p (refutation Taken t p) r (λ x. x) h
+asked_named (value Check t ∷ problem p ∷ []) r h = second_named t p (refutation Allowed t p) r (λ x. x) h
 asked_named (value Check t ∷ problem p ∷ e ∷ es) r h = cc
 asked_named (value Check t ∷ value o v ∷ es) r h = cc
 asked_named (value Check t ∷ flag ∷ es) r h = cc
 asked_named (value Strict t ∷ []) r h = cc
-asked_named (value Strict t ∷ problem p ∷ []) r h = second_named t p (refutation Refused t p) r (λ x. x) h
+asked_named (value Strict t ∷ problem p ∷ []) r h = second_named t p (refutation Forbidden t p) r (λ x. x) h
 asked_named (value Strict t ∷ problem p ∷ e ∷ es) r h = cc
 asked_named (value Strict t ∷ value o v ∷ es) r h = cc
 asked_named (value Strict t ∷ flag ∷ es) r h = cc

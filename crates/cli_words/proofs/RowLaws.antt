@@ -11,7 +11,7 @@ use Rattle.clap.specs.declared.builder.value_parser.Reading.TheVariants.{AsWritt
 use Rattle.clap.specs.declared.parser.matches.ValueSource.TheVariants.{CommandLine}
 use Rattle.cli_words.specs.declared.options.OptionName.{OptionName}
 use Rattle.cli_words.specs.declared.options.OptionName.TheVariants.{Mode, Check, Demo, Models, Tree, Strict}
-use Rattle.cli_words.specs.declared.Cuts.TheVariants.{Taken, Refused}
+use Rattle.cli_words.specs.declared.Cuts.TheVariants.{Allowed, Forbidden}
 use Rattle.cli_words.specs.Options.{options, option_name, same_name}
 use Rattle.cli_words.specs.Line.{line, is_nil, is_taken, value_in}
 use Rattle.cli_words.specs.Names.{number_to}
@@ -262,7 +262,7 @@ mode_row m p k = record {
   attached_behind = asked_at _ _ (two_words _ _ _ _ (problem_turn p k) (attached_turn_behind Mode m p)) (attached_end_behind Mode m p);
 }
 
-pub check_row : (t p : List ℕ) → is_hyphened p ≡ false → AsksBeside (codes "check") t p (naming (t ∷ p ∷ []) (refutation Taken t p))
+pub check_row : (t p : List ℕ) → is_hyphened p ≡ false → AsksBeside (codes "check") t p (naming (t ∷ p ∷ []) (refutation Allowed t p))
 unfolding state row
 check_row t p k = record {
   before = λ h. asked_at _ _ (before_leads Check t p h k) (both_end Check t p);
@@ -296,7 +296,7 @@ tree_row n p h = record {
   attached_behind = asked_at _ _ (two_words _ _ _ _ (problem_turn p h) (attached_turn_behind Tree n p)) (attached_end_behind Tree n p);
 }
 
-pub strict_row : (t p : List ℕ) → is_hyphened p ≡ false → AsksBeside (codes "strict") t p (naming (t ∷ p ∷ []) (refutation Refused t p))
+pub strict_row : (t p : List ℕ) → is_hyphened p ≡ false → AsksBeside (codes "strict") t p (naming (t ∷ p ∷ []) (refutation Forbidden t p))
 unfolding state row
 strict_row t p k = record {
   before = λ h. asked_at _ _ (before_leads Strict t p h k) (both_end Strict t p);

@@ -6,7 +6,7 @@ use Rattle.std.specs.Str.{bytes_eq}
 use Rattle.cli_words.specs.declared.options.OptionName.{OptionName}
 use Rattle.cli_words.specs.declared.options.OptionName.TheVariants.{Mode, Check, Demo, Models, Tree, Strict}
 use Rattle.cli_words.specs.declared.Cuts.{Cuts}
-use Rattle.cli_words.specs.declared.Cuts.TheVariants.{Taken, Refused}
+use Rattle.cli_words.specs.declared.Cuts.TheVariants.{Allowed, Forbidden}
 use Rattle.cli_words.specs.Options.{options, option_name, same_name}
 use Rattle.cli_words.specs.Line.{is_taken, value_in}
 use Rattle.cli_words.specs.Names.{is_file_name, number_to}
@@ -47,8 +47,8 @@ asked (problem p ∷ []) = naming (p ∷ []) (prove p None None)
 asked (value Mode m ∷ problem p ∷ []) = naming (m ∷ p ∷ []) (prove p (Some m) None)
 asked (value Mode m ∷ value Tree nodes ∷ problem p ∷ []) = tree_asked (number_to 10000 nodes) (Some m) p
 asked (value Tree nodes ∷ problem p ∷ []) = tree_asked (number_to 10000 nodes) None p
-asked (value Check text ∷ problem p ∷ []) = naming (text ∷ p ∷ []) (refutation Taken text p)
-asked (value Strict text ∷ problem p ∷ []) = naming (text ∷ p ∷ []) (refutation Refused text p)
+asked (value Check text ∷ problem p ∷ []) = naming (text ∷ p ∷ []) (refutation Allowed text p)
+asked (value Strict text ∷ problem p ∷ []) = naming (text ∷ p ∷ []) (refutation Forbidden text p)
 asked (value Demo number ∷ []) = option_map generated (number_to 1000 number)
 asked (value Models upto ∷ problem p ∷ []) = models_asked (number_to 8 upto) p
 asked (flag ∷ problem p ∷ []) = naming (p ∷ []) (sides p)

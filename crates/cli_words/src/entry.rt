@@ -95,8 +95,8 @@ fn option_with_problem<'a>(
 {
     match option {
         OptionName::Mode => prove_with_mode(value, problem),
-        OptionName::Check => check(value, problem, Cuts::Taken),
-        OptionName::Strict => check(value, problem, Cuts::Refused),
+        OptionName::Check => check(value, problem, Cuts::Allowed),
+        OptionName::Strict => check(value, problem, Cuts::Forbidden),
         OptionName::Models => models(value, problem),
         OptionName::Tree => prove_with_tree(value, None, problem),
         OptionName::Demo => None,

@@ -51,8 +51,8 @@ pub enum Asked<'a> {
 /// What the check of a text makes of cuts.
 #[derive(Clone, Copy, Debug, PartialEq, Eq)]
 pub enum Cuts {
-    Taken,
-    Refused,
+    Allowed,
+    Forbidden,
 }
 
 #[derive(Clone, Copy, Debug, PartialEq, Eq, Error)]
