@@ -1,6 +1,7 @@
 pub mod LineFeeds
 pub mod Numbers
 pub mod NumeralLaws
+pub mod AssignLaws
 pub mod LineLaws
 pub mod ReadLaws
 pub mod FileLaws

@@ -12,7 +12,7 @@ use Rattle.mode_file.specs.declared.bytes.ByteClass.TheVariants.{InWord}
 use Rattle.mode_file.specs.Grammar.{says_nothing, first_word, Sets}
 use Rattle.outside.specs.Decimal.{number_from}
 use Rattle.mode_file.specs.Internal.Reader.{digits_in}
-use Rattle.mode_file.proofs.NumeralLaws.{front-after, number_stands, number_found}
+use Rattle.mode_file.proofs.NumeralLaws.{number_found}
 
 -- a key's name at the front of a line
 pub record Begins (key : Key) (rest : List ℕ) : Type 0 where
@@ -72,23 +72,6 @@ module _ (line : List ℕ) (key : Key) (n : ℕ) (s : Sets line key n) where
       ap (λ (l : List ℕ). digits_in (behind_front (is_in InWord) l)) s.line_is
       ∙ ap digits_in (begins key rest).behind
       ∙ number_found (32 ∷ rest) s.digits (record { gap = s.gap; spaces = s.spaces; ending = s.ending; bytes_are = refl; decimal = s.decimal; ends = s.ends })
-
-pub sets : (line : List ℕ) (key : Key) (digits : List ℕ) → key_of (first_word line) ≡ Some key → digits_in (behind_front (is_in InWord) line) ≡ Some digits → Sets line key (number_from 0 digits)
-sets line key digits named h =
-    let stands = number_stands (behind_front (is_in InWord) line) digits h in
-    record {
-      gap = stands.gap;
-      digits = digits;
-      spaces = stands.spaces;
-      ending = stands.ending;
-      line_is =
-          sym (front-after (is_in InWord) line)
-          ∙ ap (λ (w : List ℕ). w ++ behind_front (is_in InWord) line) (name_is (first_word line) key named)
-          ∙ ap (λ (r : List ℕ). key_name key ++ r) stands.bytes_are;
-      decimal = stands.decimal;
-      number_is = refl;
-      ends = stands.ends;
-    }
 
 pub one_key : (line : List ℕ) (k l : Key) (m n : ℕ) → Sets line k m → Sets line l n → k ≡ l
 one_key line k l m n s t =

@@ -1,9 +1,11 @@
 -- The grammar of mode files, line by line.
-use Rattle.std.specs.Prelude.{◌≡◌, ◌⊎◌, ℕ, suc, ◌+◌, ◌-◌, ◌<◌, ◌≤◌, ◌||◌, not, nat_eq, Bool, true, false, List, [], ◌∷◌, ◌++◌, length, replicate, codes, Some, None, IsSome}
+use Rattle.std.specs.Prelude.{◌≡◌, ◌⊎◌, ℕ, suc, ◌+◌, ◌^◌, ◌<◌, ◌≤◌, ◌||◌, not, nat_eq, Bool, true, false, List, [], ◌∷◌, ◌++◌, length, replicate, codes, Some, None, IsSome}
 use Rattle.std.specs.List.{list_all, starts_with}
 use Rattle.mode_file.specs.declared.Mode.{Mode}
 use Rattle.mode_file.specs.declared.given.Given.{Given}
 use Rattle.mode_file.specs.declared.keys.Key.{Key}
+use Rattle.mode_file.specs.declared.number.NumberRefused.{NumberRefused}
+use Rattle.mode_file.specs.declared.number.NumberRefused.TheVariants.{Missing, TooGreat}
 use Rattle.mode_file.specs.declared.refused.Cause.{Cause}
 use Rattle.mode_file.specs.declared.refused.Cause.TheVariants.{UnknownKey, Twice, BadNumber, OutOfRange}
 use Rattle.mode_file.specs.Keys.{key_name, greatest, key_of}
@@ -20,16 +22,25 @@ says_nothing line = list_all is_blank line || starts_with nat_eq line (codes "%"
 abbrev pub first_word : List ℕ → List ℕ
 first_word line = front (λ c. not (is_blank c)) line
 
--- a line of a key, some spaces, a number, any spaces, and at most one carriage return
-pub record Sets (line : List ℕ) (key : Key) (n : ℕ) : Type 0 where
+-- a line of a name, some spaces, a number, any spaces, and at most one carriage return
+pub record Assigns (line name : List ℕ) (n : ℕ) : Type 0 where
   pub gap : ℕ
   pub digits : List ℕ
   pub spaces : ℕ
   pub ending : List ℕ
-  pub line_is : line ≡ key_name key ++ (replicate (suc gap) 32 ++ (digits ++ (replicate spaces 32 ++ ending)))
+  pub line_is : line ≡ name ++ (replicate (suc gap) 32 ++ (digits ++ (replicate spaces 32 ++ ending)))
   pub decimal : is_decimal digits ≡ true
   pub number_is : number_from 0 digits ≡ n
   pub ends : (ending ≡ []) ⊎ (ending ≡ 13 ∷ [])
+
+-- why no number is read that a line assigns to its first word: it assigns none, or one that is too great for 64 bits
+abbrev pub HasNoNumber : List ℕ → NumberRefused → Type 0
+HasNoNumber line Missing = (n : ℕ) → Assigns line (first_word line) n → ⊥
+HasNoNumber line TooGreat = (n : ℕ) × Assigns line (first_word line) n × (2 ^ 64 ≤ n)
+
+-- a line that assigns a number to a key
+abbrev pub Sets : List ℕ → Key → ℕ → Type 0
+Sets line key n = Assigns line (key_name key) n
 
 -- a line that gives a number within its range to a key that has none yet
 pub record Gives (before : Given) (line : List ℕ) (after : Given) : Type 0 where

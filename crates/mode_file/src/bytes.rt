@@ -2,6 +2,7 @@
 ghost use Rattle.std.specs.Prelude.{◌≡◌, ◌<◌, ◌≤◌, [], ◌∷◌, length, IfSome, IfNone};
 ghost use Rattle.outside.specs.Lines.{lines_of};
 ghost use Rattle.outside.specs.Fronts.{front, behind_front};
+ghost use Rattle.mode_file.specs.Lines.{IsCutBefore};
 ghost use Rattle.mode_file.specs.Internal.Fronts.{is_in};
 
 /// A kind of bytes.
@@ -30,7 +31,7 @@ impl ByteClass {
 
 /// A front of bytes, and what follows it.
 #[derive(Clone, Copy, Drop)]
-pub(crate) struct Split<'a> {
+pub struct Split<'a> {
     pub front: &'a [u8],
     pub rest: &'a [u8],
 }
@@ -52,8 +53,9 @@ pub(crate) fn split_front(class: ByteClass, bytes: &[u8]) -> Split<'_>
 }
 
 /// The first line, and what follows it.
-pub(crate) fn next_line(bytes: &[u8]) -> Option<Split<'_>>
+pub fn next_line(bytes: &[u8]) -> Option<Split<'_>>
     ensures line { IfSome result (λ r. lines_of bytes.now ≡ r.front.now ∷ lines_of r.rest.now) }
+    ensures cut { IfSome result (λ r. IsCutBefore bytes.now r.rest.now) }
     ensures shorter { IfSome result (λ r. length r.rest.now < length bytes.now) }
     ensures none { IfNone result (bytes.now ≡ []) }
 {

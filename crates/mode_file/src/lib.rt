@@ -12,11 +12,14 @@ mod given;
 mod keys;
 mod law;
 mod line;
+mod number;
 mod refused;
 
-use crate::bytes::next_line;
 use crate::given::Given;
+pub use bytes::{Split, next_line};
 pub use law::one_answer;
+pub use line::{begins_with_key, says_nothing};
+pub use number::{NumberRefused, first_word, read_number};
 pub use refused::ModeRefused;
 
 /// What the search is run by: how long each kind of command is put off, counted in commands; how many commands are
@@ -55,7 +58,7 @@ pub fn read_mode(bytes: &[u8]) -> Result<Mode, ModeRefused>
     while let Some(split) = next_line(rest) {
         line += 1;
         rest = split.rest;
-        if !line::says_nothing(split.front) {
+        if !says_nothing(split.front) {
             match line::read_line(split.front, &given) {
                 Ok(setting) => given.set(setting.key, setting.number),
                 Err(cause) => return Err(ModeRefused::at(line, cause)),

@@ -41,10 +41,10 @@ use Rattle.prover_search.specs.Internal.Progress.{Progress}
 use Rattle.prover_search.specs.Internal.Answers.{StepCloses, IsEmpty, IsAtLimit, StepSpends as IsSpentAt, StepGoesOn as GoesOnBy}
 use Rattle.prover_run.specs.declared.ended.Ended.{Ended}
 use Rattle.prover_run.specs.declared.ended.Ended.TheVariants.{Proved, GaveUp, CommandLimit, ConflictLimit}
-use Rattle.prover_run.specs.Ended.{setting_for, IsSpent, EndsAs}
+use Rattle.prover_run.specs.Ended.{setting_for, RefutesFrom, IsProvedBy, IsSpent, EndsAs}
 use Rattle.prover_run.specs.Learning.{AreSpent}
 use Rattle.prover_run.specs.Origin.{ComesFromBy}
-use Rattle.prover_run.specs.Internal.Ends.{RefutesFrom, IsProvedBy, EndsFrom}
+use Rattle.prover_run.specs.Internal.Ends.{EndsFrom}
 use Rattle.prover_run.proofs.RebuildUses.{learning-named}
 
 -- A STEP
@@ -142,7 +142,7 @@ filter_again test (x ∷ xs) = go (test x) refl (filter_again test xs)
     go false e rest = rest
 
 -- literals that are too deep don't count
-after_shallow : (setting : Setting) (ls : List Literal) (n : ℕ) → state_after setting (filter is_shallow_literal ls) n ≡ state_after setting ls n
+pub after_shallow : (setting : Setting) (ls : List Literal) (n : ℕ) → state_after setting (filter is_shallow_literal ls) n ≡ state_after setting ls n
 after_shallow setting ls zero = ap (λ ks. Some (with_commands setting.mode (map process ks) (record nothing_yet { clauses = map (λ l. l ∷ []) ks; seen = ks }))) (filter_again is_shallow_literal ls)
 after_shallow setting ls (suc n) = ap (next_state setting) (after_shallow setting ls n)
 
@@ -158,7 +158,7 @@ module _ (setting : Setting) (ls : List Literal) where
     below = g.below;
   }
 
-  until_whole : (n : ℕ) → GoesOnUntil setting few n → GoesOnUntil setting ls n
+  pub until_whole : (n : ℕ) → GoesOnUntil setting few n → GoesOnUntil setting ls n
   until_whole n until m h = goes_on_whole m (until m h)
 
   pub exhausted-whole : (n : ℕ) → IsExhausted setting few n → IsExhausted setting ls n

@@ -2,6 +2,7 @@
 use Rattle.std.specs.Prelude.{◌≡◌, ℕ, List, Some}
 use Rattle.stt_core.specs.PlainProblem.{PlainProblem}
 use Rattle.stt_core.specs.Declarations.{scope_of}
+use Rattle.stt_core.specs.Typing.{Scope}
 use Rattle.tableau_calculus.specs.Literals.{Literal}
 use Rattle.tableau_calculus.specs.Start.{start}
 use Rattle.tableau_calculus.specs.Accepted.{IsAccepted}
@@ -9,6 +10,7 @@ use Rattle.tableau_calculus.specs.declared.refutation.Refutation.{Refutation}
 use Rattle.search_spec.specs.State.{State, Setting}
 use Rattle.search_spec.specs.After.{state_after}
 use Rattle.search_spec.specs.Result.{GoesOnUntil, IsProved, IsExhausted, IsStopped}
+use Rattle.search_spec.specs.Unsatisfiable.{Clause}
 use Rattle.rebuild_spec.specs.Trimmed.{IsEachReached}
 use Rattle.refute_print.specs.Sizes.{IsSmall}
 use Rattle.mode_file.specs.declared.Mode.{Mode}
@@ -20,6 +22,21 @@ use Rattle.prover_run.specs.declared.ended.Ended.TheVariants.{Proved, GaveUp, Co
 -- what a problem declares, and a mode
 abbrev pub setting_for : PlainProblem → Mode → Setting
 setting_for p m = record { scope = scope_of p.declared; mode = m }
+
+-- The refutation is accepted for the start and small enough for a text. Each of its lines is reached and comes from the clauses. These are
+-- refuted within so many conflicts, and from the log of what was learned the refutation is rebuilt.
+pub record RefutesFrom (scope : Scope) (start : List Literal) (clauses : List Clause) (conflicts : ℕ) (refutation : Refutation) : Type 0 where
+  pub accepted : IsAccepted scope start refutation
+  pub reached : IsEachReached refutation.lines
+  pub small : IsSmall refutation
+  pub origin : EachComesFrom start clauses refutation.lines
+  pub within : AreRefutedWithin conflicts clauses
+  pub shortly : AreRefutedShortly clauses within.learning refutation
+
+-- the run from literals is proved after so many commands, with a refutation
+pub record IsProvedBy (setting : Setting) (start : List Literal) (n : ℕ) (refutation : Refutation) : Type 0 where
+  pub proved : IsProved setting start n
+  pub refutes : RefutesFrom setting.scope start proved.state.clauses setting.mode.conflicts refutation
 
 -- The run is proved after n commands, and the refutation is accepted for the start and small enough for a text. Each of its lines is reached
 -- from the last one and comes from the clauses of the state after these commands. These are refuted within the conflicts of the mode, and

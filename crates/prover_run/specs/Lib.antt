@@ -26,5 +26,6 @@ pub use Rattle.type_bound.specs.Modest
 pub mod Learning
 pub mod Origin
 pub mod Ended
+pub mod RunTables
 pub mod Laws
 pub mod Internal

@@ -9,4 +9,4 @@ mod running;
 pub use delays::delay;
 pub use ended::Ended;
 pub use law::{enough_conflicts, no_conflicts, spent_is_not_refuted};
-pub use running::run;
+pub use running::{refutation_of, run};

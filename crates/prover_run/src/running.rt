@@ -9,8 +9,9 @@ ghost use Rattle.type_bound.specs.Modest.{IsModestProblem};
 ghost use Rattle.prover_state.specs.Delays.{delay_by};
 ghost use Rattle.prover_state.specs.Internal.Standing.{without_witnesses, setting_by};
 ghost use Rattle.prover_search.specs.Internal.Running.{start_in, IsUnderWay};
-ghost use Rattle.prover_run.specs.Ended.{EndsAs};
-ghost use Rattle.prover_run.specs.Internal.Ends.{AreRunTables, clauses_of, RefutesFrom, EndsFrom, GoesOnTo};
+ghost use Rattle.prover_run.specs.Ended.{RefutesFrom, EndsAs};
+ghost use Rattle.prover_run.specs.RunTables.{AreRunTables, clauses_of};
+ghost use Rattle.prover_run.specs.Internal.Ends.{EndsFrom, GoesOnTo};
 
 use crate::delays::delay;
 use crate::ended::Ended;
@@ -25,7 +26,7 @@ use tableau_rebuild::rebuild;
 use term_bank::equal_ids_for_equal_terms;
 
 /// The refutation from the log of a run whose clauses are unsatisfiable. It is small enough for a text, as all terms of a run are.
-fn refutation_of(alloc: Global, tables: &Tables) -> Result<Refutation, AllocError>
+pub fn refutation_of(alloc: Global, tables: &Tables) -> Result<Refutation, AllocError>
     requires run { AreRunTables tables.now }
     requires ends { results tables.now.solver.log ≡ learned tables.now.solver ++ [] ∷ [] }
     requires propagated { ReachesFalse (tables.now.solver.clauses ++ learned tables.now.solver) [] }

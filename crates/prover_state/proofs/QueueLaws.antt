@@ -66,7 +66,7 @@ module _ {D : Type 0} where
       one true = k.0
       one false = h
 
-  next-is : (e : Entry D) (ps qs : List (Entry D)) → Each (λ p. comes_before e p ≡ true) ps → Each (λ p. comes_before e p ≡ true) qs → next_command (ps ++ e ∷ qs) ≡ Some e
+  pub next-is : (e : Entry D) (ps qs : List (Entry D)) → Each (λ p. comes_before e p ≡ true) ps → Each (λ p. comes_before e p ≡ true) qs → next_command (ps ++ e ∷ qs) ≡ Some e
   next-is e [] qs k l = ap Some (stays_first e qs l)
   next-is e (p ∷ ps) qs k l = ap Some (comes_first e p ps qs k.0 k.1 l)
 

@@ -1,38 +1,30 @@
-use Rattle.std.proofs.Common.{◌≡◌, ◌∙◌, ◌<◌, ◌≤◌, Some, None, sym, ap, arith}
-use Rattle.mode_file.specs.declared.bytes.ByteClass.TheVariants.{InWord}
+use Rattle.std.proofs.Common.{◌≡◌, ◌∙◌, ◌<◌, ◌≤◌, Some, sym, ap, subst, arith}
+use Rattle.mode_file.specs.declared.number.NumberRefused.{NumberRefused}
 use Rattle.mode_file.specs.Keys.{greatest, key_of}
-use Rattle.mode_file.specs.Internal.Fronts.{is_in}
-use Rattle.outside.specs.Fronts.{behind_front}
-use Rattle.mode_file.specs.Grammar.{first_word}
-use Rattle.mode_file.specs.Internal.Reader.{digits_in}
-use Rattle.mode_file.proofs.ReadLaws.{has_none, decimal, bad_number, sets_read, out_of_range, far_out_of_range}
+use Rattle.mode_file.specs.Grammar.{first_word, HasNoNumber}
+use Rattle.mode_file.proofs.ReadLaws.{has_none, bad_number, sets_read, out_of_range, far_out_of_range}
 use Rattle.mode_file.proofs.line.read_line.Goals as goal
 
-pub value-requires : goal.value-requires
-value-requires c = decimal c.split_front-word.result.rest.now _ (sym c.in-Some-digits_in.ensures)
+pub returns-in-Err-Missing : goal.returns-in-Err-Missing
+returns-in-Err-Missing c =
+    let named : key_of (first_word c.args.line.now) ≡ Some c.in-Some.key = ap key_of (sym c.first_word.ensures) ∙ sym c.in-Some.ensures in
+    let N : NumberRefused → Type 0 = λ r. HasNoNumber c.args.line.now r in
+    bad_number _ _ named _ (sym c.if-has.ensures) (subst N c.in-Err-Missing.field-0-is c.in-Err-Missing.ensures.refused)
 
-pub returns-in_default-digits_in : goal.returns-in_default-digits_in
-returns-in_default-digits_in c =
-    let named : key_of (first_word c.args.line.now) ≡ Some c.in-Some.key = ap key_of (sym c.split_front-word.ensures.front) ∙ sym c.in-Some.ensures in
-    let there : digits_in (behind_front (is_in InWord) c.args.line.now) ≡ None = ap digits_in (sym c.split_front-word.ensures.rest) ∙ sym c.in_default-digits_in.ensures in
-    bad_number _ _ _ named (sym c.if-has.ensures) there
-
-pub returns-in_default-value : goal.returns-in_default-value
-returns-in_default-value c =
-    let named : key_of (first_word c.args.line.now) ≡ Some c.in-Some.key = ap key_of (sym c.split_front-word.ensures.front) ∙ sym c.in-Some.ensures in
-    let there : digits_in (behind_front (is_in InWord) c.args.line.now) ≡ Some c.in-Some-digits_in.digits.now = ap digits_in (sym c.split_front-word.ensures.rest) ∙ sym c.in-Some-digits_in.ensures in
-    far_out_of_range _ _ _ named there _ (sym c.if-has.ensures) c.in_default-value.ensures
+pub returns-in-Err-TooGreat : goal.returns-in-Err-TooGreat
+returns-in-Err-TooGreat c =
+    let named : key_of (first_word c.args.line.now) ≡ Some c.in-Some.key = ap key_of (sym c.first_word.ensures) ∙ sym c.in-Some.ensures in
+    let N : NumberRefused → Type 0 = λ r. HasNoNumber c.args.line.now r in
+    far_out_of_range _ _ named _ (sym c.if-has.ensures) (subst N c.in-Err-TooGreat.field-0-is c.in-Err-TooGreat.ensures.refused)
 
 pub returns-then-number-greatest : goal.returns-then-number-greatest
 returns-then-number-greatest c =
-    let named : key_of (first_word c.args.line.now) ≡ Some c.in-Some.key = ap key_of (sym c.split_front-word.ensures.front) ∙ sym c.in-Some.ensures in
-    let there : digits_in (behind_front (is_in InWord) c.args.line.now) ≡ Some c.in-Some-digits_in.digits.now = ap digits_in (sym c.split_front-word.ensures.rest) ∙ sym c.in-Some-digits_in.ensures in
-    let above : greatest c.in-Some.key < c.in-Some-value.number = omega (arith, c.greatest.ensures, c.if-number-greatest.true) in
-    out_of_range _ _ _ named there _ _ (sym c.if-has.ensures) c.in-Some-value.ensures above
+    let named : key_of (first_word c.args.line.now) ≡ Some c.in-Some.key = ap key_of (sym c.first_word.ensures) ∙ sym c.in-Some.ensures in
+    let above : greatest c.in-Some.key < c.in-Ok.number = omega (arith, c.greatest.ensures, c.if-number-greatest.true) in
+    out_of_range _ _ named _ (sym c.if-has.ensures) _ c.in-Ok.ensures.number above
 
 pub returns : goal.returns
 returns c =
-    let named : key_of (first_word c.args.line.now) ≡ Some c.in-Some.key = ap key_of (sym c.split_front-word.ensures.front) ∙ sym c.in-Some.ensures in
-    let there : digits_in (behind_front (is_in InWord) c.args.line.now) ≡ Some c.in-Some-digits_in.digits.now = ap digits_in (sym c.split_front-word.ensures.rest) ∙ sym c.in-Some-digits_in.ensures in
-    let within : c.in-Some-value.number ≤ greatest c.in-Some.key = omega (arith, c.greatest.ensures, c.if-number-greatest.false) in
-    (sets_read _ _ _ named there _ c.in-Some-value.ensures, has_none _ (sym c.if-has.ensures), within)
+    let named : key_of (first_word c.args.line.now) ≡ Some c.in-Some.key = ap key_of (sym c.first_word.ensures) ∙ sym c.in-Some.ensures in
+    let within : c.in-Ok.number ≤ greatest c.in-Some.key = omega (arith, c.greatest.ensures, c.if-number-greatest.false) in
+    (sets_read _ _ named _ c.in-Ok.ensures.number, has_none _ (sym c.if-has.ensures), within)

@@ -10,7 +10,7 @@ use Rattle.prover_state.specs.Internal.Standing.{setting_by, the_state}
 use Rattle.prover_search.specs.Internal.Running.{start_in}
 use Rattle.prover_search.specs.Internal.Answers.{AnswersStep}
 use Rattle.prover_search.specs.declared.stepped.Stepped.{Stepped}
-use Rattle.prover_run.specs.Internal.Ends.{RefutesFrom, IsProvedBy}
+use Rattle.prover_run.specs.Ended.{RefutesFrom, IsProvedBy}
 use Rattle.prover_run.proofs.RunLaws.{is-proved, is-exhausted, is-stopped, is-spent}
 use Rattle.prover_run.proofs.running.next.Goals as goal
 

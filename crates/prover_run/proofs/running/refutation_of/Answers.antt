@@ -10,7 +10,7 @@ use Rattle.prover_search.specs.Internal.Running.{start_in}
 use Rattle.rebuild_spec.specs.Rebuilt.{IsRebuilt}
 use Rattle.rebuild_spec.specs.Used.{AreFew}
 use Rattle.prover_run.specs.Origin.{EachComesFrom}
-use Rattle.prover_run.specs.Internal.Ends.{clauses_of}
+use Rattle.prover_run.specs.RunTables.{clauses_of}
 use Rattle.prover_run.proofs.RebuildUses.{instances-over, units-numbered, units-named, origin-named, within-named, shortly-named, ends-empty}
 use Rattle.prover_run.proofs.RunLaws.{accepted-declared}
 use Rattle.prover_run.proofs.SmallUses.{refutation-small}

@@ -1,7 +1,7 @@
 use Rattle.std.proofs.Common.{◌∙◌, sym, inl, inr}
 use Rattle.mode_file.proofs.NumeralLaws.{IsSplit, digits_some, digits_none}
-use Rattle.mode_file.proofs.line.digits_in.Goals as goal
-use Rattle.mode_file.proofs.line.digits_in.Goals.{else-not-is_empty-via-then-not-is_empty+then-is_decimal+else-is_ending, else-not-is_empty-via-then-not-is_empty+else-is_decimal, else-not-is_empty-via-else-not-is_empty}
+use Rattle.mode_file.proofs.number.digits_in.Goals as goal
+use Rattle.mode_file.proofs.number.digits_in.Goals.{else-not-is_empty-via-then-not-is_empty+then-is_decimal+else-is_ending, else-not-is_empty-via-then-not-is_empty+else-is_decimal, else-not-is_empty-via-else-not-is_empty}
 
 pub returns-then-is_ending : goal.returns-then-is_ending
 returns-then-is_ending c =

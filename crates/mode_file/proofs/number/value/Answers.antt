@@ -1,7 +1,7 @@
 use Rattle.std.proofs.lemmas.Str.{IsUtf8-from_ascii}
 use Rattle.std.proofs.lemmas.Fmt.{IsAscii-from_digits}
 use Rattle.mode_file.proofs.Numbers.{own, digits_of, value_some, value_none}
-use Rattle.mode_file.proofs.line.value.Goals as goal
+use Rattle.mode_file.proofs.number.value.Goals as goal
 
 pub returns-in_default : goal.returns-in_default
 returns-in_default c = absurd (c.in_default.ensures.cases.0 (IsUtf8-from_ascii c.args.digits.now (IsAscii-from_digits c.args.digits.now (own.to c.args.digits.now (digits_of c.args.digits.now c.requires).0))))
