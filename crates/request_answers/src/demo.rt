@@ -6,6 +6,7 @@ ghost use Rattle.problem_gen.specs.Chain.{text};
 ghost use Rattle.cli_words.specs.Requests.{generated};
 ghost use Rattle.mode_file.specs.Given.{nothing_given, mode_of};
 ghost use Rattle.request_answers.specs.Internal.Texts.{HasTexts};
+ghost use Rattle.cli_words.specs.declared.Cuts.TheVariants.{Allowed};
 ghost use Rattle.request_answers.specs.Checked.{IsAcceptedText};
 ghost use Rattle.request_answers.specs.Internal.Unread.{verdict_of};
 ghost use Rattle.request_answers.specs.Solved.{IsSolved, IsDemoed};
@@ -16,6 +17,7 @@ ghost use Rattle.szs_report.specs.Report.{report_of};
 use crate::check::check_bytes;
 use crate::solve::solve;
 use crate::stated::read_problem;
+use cli_words::Cuts;
 use itoa::Buffer;
 use mode_file::Mode;
 use outside::{Bytes, Failed, GrowSink, OneFile};
@@ -73,10 +75,10 @@ fn verdict(answer: &Answer) -> Option<bool>
 #[tactic(auto, using(crate::proofs::CheckedLaws::verdict_accepts, crate::proofs::CheckedLaws::verdict_refuses))]
 fn is_accepted(alloc: Global, problem: &Problem, bytes: &[u8]) -> Result<bool, AllocError>
     requires { HasTexts problem.now }
-    ensures accepted { IfOk result (λ is. is ≡ true → IsAcceptedText problem.now bytes.now) }
-    ensures refused { IfOk result (λ is. is ≡ false → IsAcceptedText problem.now bytes.now → ⊥) }
+    ensures accepted { IfOk result (λ is. is ≡ true → IsAcceptedText Allowed problem.now bytes.now) }
+    ensures refused { IfOk result (λ is. is ≡ false → IsAcceptedText Allowed problem.now bytes.now → ⊥) }
 {
-    let answer = check_bytes(alloc, problem, bytes);
+    let answer = check_bytes(alloc, problem, bytes, Cuts::Allowed);
     match verdict(&answer) {
         Some(is) => Ok(is),
         None => Err(AllocError),

@@ -7,11 +7,11 @@ use Rattle.request_answers.proofs.check.check_bytes.Goals as goal
 pub returns-in-Ok : goal.returns-in-Ok
 returns-in-Ok c =
     let p = c.args.problem.now in
-    subst (AnswersBytes p c.args.bytes.now) (sym c.failed_answer.ensures)
-    (failed_answers p c.args.bytes.now (the_text c.in-Ok.text) c.in-Ok.text.first c.in-Err-check_refutation.refused c.in-Ok.ensures.reads c.in-Err-check_refutation.ensures.refused)
+    subst (AnswersBytes c.args.cuts p c.args.bytes.now) (sym c.failed_answer.ensures)
+    (failed_answers c.args.cuts p c.args.bytes.now (the_text c.in-Ok.text) c.in-Ok.text.first c.in-Err-check_by.refused c.in-Ok.ensures.reads c.in-Err-check_by.ensures.refused)
 
 pub returns : goal.returns
 returns c =
     let p = c.args.problem.now in
-    subst (AnswersBytes p c.args.bytes.now) (sym c.unread_answer.ensures)
-    (unread_answers p c.args.bytes.now c.in-Err.refused c.in-Err.ensures.reads)
+    subst (AnswersBytes c.args.cuts p c.args.bytes.now) (sym c.unread_answer.ensures)
+    (unread_answers c.args.cuts p c.args.bytes.now c.in-Err.refused c.in-Err.ensures.reads)
