@@ -43,15 +43,15 @@ if_line (Err e) P Q f h = at_its_line e P Q f h
 
 module _ (p : PlainProblem) where
   -- what a text refutes, by its names
-  plain : (names : List (List ℕ)) → length names ≡ 0 → (refuted_problem p names ≡ p) × NamesDefinitions p names
-  plain [] h = (refl, tt)
-  plain (w ∷ names) h = absurd (omega (arith, h))
+  pub plain_names : (names : List (List ℕ)) → length names ≡ 0 → (refuted_problem p names ≡ p) × NamesDefinitions p names
+  plain_names [] h = (refl, tt)
+  plain_names (w ∷ names) h = absurd (omega (arith, h))
 
-  with_names : (names : List (List ℕ)) → 0 < length names → names ≡ taken_texts p → (refuted_problem p names ≡ unfolded_problem p) × NamesDefinitions p names
+  pub with_names : (names : List (List ℕ)) → 0 < length names → names ≡ taken_texts p → (refuted_problem p names ≡ unfolded_problem p) × NamesDefinitions p names
   with_names [] some e = absurd (omega (arith, some))
   with_names (w ∷ names) some e = (refl, e)
 
-  named : (names : List (List ℕ)) → 0 < length names → NamesDefinitions p names → names ≡ taken_texts p
+  pub named : (names : List (List ℕ)) → 0 < length names → NamesDefinitions p names → names ≡ taken_texts p
   named [] some h = absurd (omega (arith, some))
   named (w ∷ names) some h = h
 
@@ -61,7 +61,7 @@ module _ (p : PlainProblem) where
 
     pub plain_accepted : length t.names ≡ 0 → IsAccepted (scope_of p.declared) (start p) the_refutation → IsAcceptedFor p t
     plain_accepted none h =
-        let q = plain t.names none in
+        let q = plain_names t.names none in
         record { definitions = q.1; refutation = subst (λ x. IsAccepted (scope_of p.declared) (start x) the_refutation) (sym q.0) h }
 
     pub unfolded_accepted : 0 < length t.names → t.names ≡ taken_texts p → IsAccepted (scope_of p.declared) (start (unfolded_problem p)) the_refutation → IsAcceptedFor p t
@@ -72,7 +72,7 @@ module _ (p : PlainProblem) where
     module _ (first line : ℕ) (why : Why) where
       pub plain_fails : length t.names ≡ 0 → FailsAt (scope_of p.declared) (start p) the_refutation first line why → TextFailsAt p t first line why
       plain_fails none h =
-          let q = plain t.names none in
+          let q = plain_names t.names none in
           behind_definitions line why q.1 (subst (λ x. FailsAt (scope_of p.declared) (start x) the_refutation first line why) (sym q.0) h)
 
       pub unfolded_fails : 0 < length t.names → t.names ≡ taken_texts p → FailsAt (scope_of p.declared) (start (unfolded_problem p)) the_refutation first line why → TextFailsAt p t first line why

@@ -15,3 +15,4 @@ mod DefinitionLaws
 pub mod AcceptanceLaws
 mod SeenLaws
 pub mod StrictLaws
+pub mod OneStrict

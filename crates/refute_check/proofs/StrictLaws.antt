@@ -29,7 +29,7 @@ use Rattle.refute_check.specs.Acceptance.{taken_texts, NamesDefinitions, refuted
 use Rattle.refute_check.specs.Acceptance as text
 use Rattle.refute_check.specs.Strict.{LineFailsStrictly, FirstStrictFailure, at_row, at_line, at_last, no_line, IsStrictlyAcceptedFor, FailsStrictlyAt, TextFailsStrictlyAt, at_definition, behind_definitions}
 use Rattle.refute_check.specs.Internal.Strictly.{cut_or, with_cut, IsAcceptedBy, FailsFirst, FailsFirstAt, IsTextAccepted, TextFailsFirst}
-use Rattle.refute_check.proofs.AcceptanceLaws.{plain_accepted, unfolded_accepted, definition_fails, fails_not_accepted}
+use Rattle.refute_check.proofs.AcceptanceLaws.{plain_names, with_names, plain_accepted, unfolded_accepted, definition_fails, fails_not_accepted}
 
 -- LINES
 
@@ -93,7 +93,7 @@ no_cut-more strict lines i line at before here e =
     let P : Line → Type 0 = λ l. is_cut_use l.rule ≡ false in
     subst HasNoCut (sym (take_got lines i line at)) (All-append P (take i lines) (line ∷ []) (before e) (All-cons P line [] (here e) (All-nil P)))
 
-front_none : (front more : List Line) (line : Line) → HasNoCut (front ++ line ∷ more) → is_cut_use line.rule ≡ false
+pub front_none : (front more : List Line) (line : Line) → HasNoCut (front ++ line ∷ more) → is_cut_use line.rule ≡ false
 front_none [] more line h = All-head (λ (k : Line). is_cut_use k.rule ≡ false) line more h
 front_none (l ∷ front) more line h = front_none front more line (All-tail (λ (k : Line). is_cut_use k.rule ≡ false) l (front ++ line ∷ more) h)
 
@@ -142,7 +142,7 @@ module _ (scope : Scope) (begin : List Literal) (r : Refutation) where
   last_by true none place why f = as_ever (none refl) place why f
 
   -- a line that fails strictly and is no cut fails
-  plain_line : (front : List Line) (line : Line) (why : Why) → is_cut_use line.rule ≡ false → LineFailsStrictly wide r.witnesses front line why → LineFails wide r.witnesses front line why
+  pub plain_line : (front : List Line) (line : Line) (why : Why) → is_cut_use line.rule ≡ false → LineFailsStrictly wide r.witnesses front line why → LineFails wide r.witnesses front line why
   plain_line front line Form e h = h.1
   plain_line front line Start e h = h.1
   plain_line front line End e h = h.1
@@ -176,15 +176,6 @@ module _ (p : PlainProblem) (t : RefutationTree) where
   unfolded_accepted_by false some e h = unfolded_accepted p t some e h.accepted
   unfolded_accepted_by true some e h = record { accepted = unfolded_accepted p t some e h.accepted; no_cut = h.no_cut refl }
 
-  -- what a text refutes, by its names
-  plain_names : (names : List (List ℕ)) → length names ≡ 0 → (refuted_problem p names ≡ p) × NamesDefinitions p names
-  plain_names [] h = (refl, tt)
-  plain_names (w ∷ names) h = absurd (omega (arith, h))
-
-  with_names : (names : List (List ℕ)) → 0 < length names → names ≡ taken_texts p → (refuted_problem p names ≡ unfolded_problem p) × NamesDefinitions p names
-  with_names [] some e = absurd (omega (arith, some))
-  with_names (w ∷ names) some e = (refl, e)
-
   module _ (first line : ℕ) (why : Why) where
     -- the first failure at a line, for the problem that the text refutes
     fails_by : (strict : Bool) (q : PlainProblem) → (refuted_problem p t.names ≡ q) × NamesDefinitions p t.names → FailsFirstAt strict (scope_of p.declared) (start q) the_refutation first line why → TextFailsFirst strict p t first line why
@@ -192,17 +183,17 @@ module _ (p : PlainProblem) (t : RefutationTree) where
     fails_by true q is h = behind_definitions line why is.1 (subst (λ x. FailsStrictlyAt (scope_of p.declared) (start x) the_refutation first line why) (sym is.0) (record { place = h.place; is_first = h.is_first; line_is = h.line_is }))
 
     pub plain_fails_by : (strict : Bool) → length t.names ≡ 0 → FailsFirstAt strict (scope_of p.declared) (start p) the_refutation first line why → TextFailsFirst strict p t first line why
-    plain_fails_by strict none h = fails_by strict p (plain_names t.names none) h
+    plain_fails_by strict none h = fails_by strict p (plain_names p t.names none) h
 
     pub unfolded_fails_by : (strict : Bool) → 0 < length t.names → t.names ≡ taken_texts p → FailsFirstAt strict (scope_of p.declared) (start (unfolded_problem p)) the_refutation first line why → TextFailsFirst strict p t first line why
-    unfolded_fails_by strict some e h = fails_by strict (unfolded_problem p) (with_names t.names some e) h
+    unfolded_fails_by strict some e h = fails_by strict (unfolded_problem p) (with_names p t.names some e) h
 
     pub definition_fails_by : (strict : Bool) → 0 < length t.names → (why ≡ Defs) × (place : ℕ) × DifferFirst t.names (taken_texts p) place × (line + length t.names ≡ first + place) → TextFailsFirst strict p t first line why
     definition_fails_by false some h = definition_fails p t first line why some h
     definition_fails_by true some h = subst (λ w. TextFailsStrictlyAt p t first line w) (sym h.0) (at_definition h.1 line some h.2 h.3)
 
   -- what fails strictly isn't strictly accepted
-  fails_not_strictly : (first line : ℕ) (why : Why) → TextFailsStrictlyAt p t first line why → IsStrictlyAcceptedFor p t → ⊥
+  pub fails_not_strictly : (first line : ℕ) (why : Why) → TextFailsStrictlyAt p t first line why → IsStrictlyAcceptedFor p t → ⊥
   fails_not_strictly first _ _ (at_definition place line some differ is) h = fails_not_accepted p t first line Defs (text.at_definition place line some differ is) h.accepted
   fails_not_strictly first line why (behind_definitions _ _ names fails) h =
       strict_no_failure (scope_of p.declared) (start (refuted_problem p t.names)) the_refutation fails.place why fails.is_first h.no_cut h.accepted.refutation

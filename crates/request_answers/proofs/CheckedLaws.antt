@@ -11,8 +11,9 @@ use Rattle.refute_text.specs.declared.refusal.TextRefused.{TextRefused}
 use Rattle.refute_text.specs.declared.refusal.TextRefused.TheVariants as unread
 use Rattle.refute_text.specs.declared.refusal.TextRefused.TheVariants.{BadLine, NoStart, NoEnd}
 use Rattle.refute_check.specs.Refusal.{IfLine}
-use Rattle.refute_check.specs.Acceptance.{IsAcceptedFor, TextFailsAt}
 use Rattle.refute_check.proofs.AcceptanceLaws.{one_text_failure, fails_not_accepted}
+use Rattle.refute_check.proofs.StrictLaws.{fails_not_strictly}
+use Rattle.refute_check.proofs.OneStrict.{one_strict_text_failure}
 use Rattle.refute_check.specs.declared.refusal.CheckRefused.{CheckRefused}
 use Rattle.refute_check.specs.declared.refusal.CheckRefused.TheVariants as failed
 use Rattle.refute_check.specs.declared.refusal.CheckRefused.TheVariants.{Line}
@@ -39,7 +40,7 @@ failed_answers cuts p bytes r first failed.Memory reads h = tt
 -- a check refuses nothing that it accepts, and refuses at one line, for one cause
 refuses_not_accepts : (cuts : Cuts) (p : PlainProblem) (r : RefutationTree) (first line : ℕ) (why : Why) → Refuses cuts p r first line why → Accepts cuts p r → ⊥
 refuses_not_accepts Allowed p r first line why f a = fails_not_accepted p r first line why f a
-refuses_not_accepts Forbidden p r first line why f a = strict_fails_not_accepted p r first line why f a
+refuses_not_accepts Forbidden p r first line why f a = fails_not_strictly p r first line why f a
 
 refuses_once : (cuts : Cuts) (p : PlainProblem) (r : RefutationTree) (first line other : ℕ) (why cause : Why) → Refuses cuts p r first line why → Refuses cuts p r first other cause → (line ≡ other) × (why ≡ cause)
 refuses_once Allowed p r first line other why cause f g = one_text_failure p r first line other why cause f g
