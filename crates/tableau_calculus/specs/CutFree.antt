@@ -1,6 +1,6 @@
 -- Refutations without cut.
 use Rattle.std.specs.Prelude.{◌≡◌, Bool, true, false, List, All}
-use Rattle.tableau_calculus.specs.Along.{Line}
+use Rattle.tableau_calculus.specs.declared.refutation.Line.{Line}
 use Rattle.tableau_calculus.specs.declared.refutation.RuleUse.{RuleUse}
 use Rattle.tableau_calculus.specs.declared.refutation.RuleUse.TheVariants.{Cut}
 
