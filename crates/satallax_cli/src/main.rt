@@ -1,8 +1,15 @@
 // Runs the prover on the words of the command line.
 #![tactic(auto)]
 
+ghost use Rattle.std.specs.Prelude.{◌≡◌, ◌⊎◌, [], map, drop, string_bytes, IfOk};
+ghost use Rattle.std.specs.Process.{exit_status};
+ghost use Rattle.std.specs.Vec.Iter.{into_iter_items};
+ghost use Rattle.outside.specs.Causes.{Rose};
+ghost use Rattle.szs_report.specs.Status.{status_of};
+ghost use Rattle.szs_report.specs.declared.outcome.Outcome.TheVariants as outcome;
+
 use buffered_sink::BufferedSink;
-use outside::{Failed, StdFiles, StdSink};
+use outside::{Failed, Sink, StdFiles, StdSink};
 use satallax_top::{Outcome, Words, satallax};
 use std::alloc::{AllocError, Global};
 use std::process::ExitCode;
@@ -14,9 +21,14 @@ const NO_TEXT: u8 = 18;
 /// Memory ran out before the call.
 const NO_MEMORY: u8 = 30;
 
-fn words(alloc: Global, args: env::Args) -> Result<Words, AllocError> {
+/// The words behind the program's own name.
+fn words_behind(alloc: Global, args: env::Args) -> Result<Words, AllocError>
+    ensures { IfOk result (λ words. words ≡ map string_bytes (drop 1 (into_iter_items args))) }
+{
+    let mut args = args;
     let mut words = Words::new(alloc);
-    for word in args.skip(1) {
+    let _program = args.next();
+    while let Some(word) = args.next() {
         words.push(word.as_str())?;
     }
     Ok(words)
@@ -29,21 +41,28 @@ fn unread(error: io::Error) -> ExitCode {
     }
 }
 
+/// The exit status of a call with this outcome, once its report is handed on.
+fn exit_code<S: Sink>(out: &mut BufferedSink<S>, outcome: &Outcome) -> ExitCode
+    ensures { ((exit_status result ≡ status_of outcome.now) × (out.new.held ≡ []))
+        ⊎ ((exit_status result ≡ status_of outcome.WriteFault) × Rose (S.faults out.old.sink) (S.faults out.new.sink)) }
+{
+    match out.flush() {
+        Ok(()) => ExitCode::from(outcome.status()),
+        Err(Failed) => ExitCode::from(Outcome::WriteFault.status()),
+    }
+}
+
 fn main(rt: HostRuntime) -> ExitCode {
     let args = match env::args(&rt) {
         Ok(args) => args,
         Err(error) => return unread(error),
     };
-    let Ok(words) = words(rt.alloc(), args) else {
+    let Ok(words) = words_behind(rt.alloc(), args) else {
         return ExitCode::from(NO_MEMORY);
     };
     let alloc = rt.alloc();
     let mut files = StdFiles::new(&rt);
     let mut out = BufferedSink::new(StdSink::new(io::writer(&rt)));
     let outcome = satallax(alloc, &words, &mut files, &mut out);
-    let outcome = match out.flush() {
-        Ok(()) => outcome,
-        Err(Failed) => Outcome::WriteFault,
-    };
-    ExitCode::from(outcome.status())
+    exit_code(&mut out, &outcome)
 }
