@@ -6,7 +6,7 @@ ghost use Rattle.std.specs.Process.{exit_status};
 ghost use Rattle.std.specs.Vec.Iter.{into_iter_items};
 ghost use Rattle.outside.specs.Causes.{Rose};
 ghost use Rattle.szs_report.specs.Status.{status_of};
-ghost use Rattle.szs_report.specs.declared.outcome.Outcome.TheVariants as outcome;
+ghost use Rattle.szs_report.specs.declared.outcome.Outcome.TheVariants.{WriteFault};
 
 use buffered_sink::BufferedSink;
 use outside::{Failed, Sink, StdFiles, StdSink};
@@ -44,7 +44,7 @@ fn unread(error: io::Error) -> ExitCode {
 /// The exit status of a call with this outcome, once its report is handed on.
 fn exit_code<S: Sink>(out: &mut BufferedSink<S>, outcome: &Outcome) -> ExitCode
     ensures { ((exit_status result ≡ status_of outcome.now) × (out.new.held ≡ []))
-        ⊎ ((exit_status result ≡ status_of outcome.WriteFault) × Rose (S.faults out.old.sink) (S.faults out.new.sink)) }
+        ⊎ ((exit_status result ≡ status_of WriteFault) × Rose (S.faults out.old.sink) (S.faults out.new.sink)) }
 {
     match out.flush() {
         Ok(()) => ExitCode::from(outcome.status()),
