@@ -4,6 +4,7 @@ ghost use Rattle.stt_core.specs.TypedProblem.{IsTyped};
 ghost use Rattle.sat_log.specs.Chains.{results};
 ghost use Rattle.sat_log.specs.Propagation.{ReachesFalse};
 ghost use Rattle.sat_core.specs.Solver.{learned};
+ghost use Rattle.mode_file.specs.Given.{IsInRange};
 ghost use Rattle.search_spec.specs.Result.{GoesOnUntil};
 ghost use Rattle.type_bound.specs.Modest.{IsModestProblem};
 ghost use Rattle.prover_state.specs.Delays.{delay_by};
@@ -116,6 +117,7 @@ fn run_by<W: Weigher<Waiting>>(
 ) -> Result<Ended, AllocError>
     requires typed { IsTyped problem.now }
     requires modest { IsModestProblem 1024 problem.now }
+    requires range { IsInRange mode.now }
     requires callable { W.is_callable weigher }
     requires answers { W.answers weigher (λ waiting now. now + delay_by mode.now waiting.first) }
     ensures { IfOk result (EndsAs problem.now mode.now) }
@@ -130,6 +132,7 @@ fn run_by<W: Weigher<Waiting>>(
 pub fn run(alloc: Global, problem: &Problem, mode: &Mode) -> Result<Ended, AllocError>
     requires typed { IsTyped problem.now }
     requires modest { IsModestProblem 1024 problem.now }
+    requires range { IsInRange mode.now }
     ensures { IfOk result (EndsAs problem.now mode.now) }
 {
     let by = *mode;

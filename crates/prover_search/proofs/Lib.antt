@@ -2,6 +2,7 @@ mod RuleUses
 mod MadeStays
 mod DevelopLaws
 mod UnitLaws
+mod PacedLaws
 mod RunLaws
 mod StartLaws
 mod StartingLaws

@@ -1,18 +1,20 @@
 -- A run goes on by a command.
-use Rattle.std.specs.Prelude.{◌≡◌, ◌≢◌, ◌≤◌, ◌<◌, ◌+◌, ℕ, suc, List, [], ◌∷◌, map, length, Some, refl, if◌then◌else◌}
+use Rattle.std.specs.Prelude.{◌≡◌, ◌≢◌, ◌≤◌, ◌<◌, ◌+◌, ◌*◌, ◌^◌, ℕ, suc, List, [], ◌∷◌, map, length, Some, refl, if◌then◌else◌}
 use Rattle.std.proofs.Common.{sym, ap, ap₂, ◌∙◌, subst, arith, add-one}
 use Rattle.std.proofs.lemmas.Option.{same_Some}
 use Rattle.stt_core.specs.Typing.{Scope, IsScope}
 use Rattle.tableau_calculus.specs.Literals.{Literal, IsBranch}
 use Rattle.tableau_calculus.specs.Witnesses.{with_rows}
+use Rattle.mode_file.specs.declared.Mode.{Mode}
+use Rattle.mode_file.specs.Given.{IsInRange}
 use Rattle.command_queue.specs.declared.entry.Entry.{Entry}
 use Rattle.command_queue.specs.Queue.{Queue, comes_before}
 use Rattle.search_spec.specs.Each.{Each}
 use Rattle.search_spec.specs.Unsatisfiable.{Unsatisfiable}
 use Rattle.search_spec.specs.Queue.{first_waiting, next_command, without_number}
-use Rattle.search_spec.specs.State.{State, Setting, Command as Meant}
+use Rattle.search_spec.specs.State.{State, Setting, Command as Meant, process, mate, confront, inst, choose, describe, grow, delay, moment_by}
 use Rattle.search_spec.specs.Commands.{with_command}
-use Rattle.search_spec.specs.After.{after_command, next_state, state_after}
+use Rattle.search_spec.specs.After.{with_taken, after_command, next_state, state_after}
 use Rattle.search_spec.specs.TypedState.{IsTypedSketch, IsTypedCommand}
 use Rattle.search_spec.specs.Internal.Loops.{queue_of}
 use Rattle.search_spec.proofs.NamingLaws.{each-joined, pick_good}
@@ -27,13 +29,14 @@ use Rattle.prover_state.specs.declared.tables.Basis.{Basis}
 use Rattle.prover_state.specs.declared.tables.Tables.{Tables}
 use Rattle.prover_state.specs.Internal.Names.{command_at}
 use Rattle.prover_state.specs.Internal.Standing.{without_witnesses, scope_by, sketches_in, naming_in, setting_by, loops_in, the_state, IsRightState}
-use Rattle.prover_state.specs.Internal.Taking.{TakesNext}
+use Rattle.prover_state.specs.Internal.Taking.{entry_at, TakesNext}
 use Rattle.prover_state.proofs.EachLaws.{each-weaker}
 use Rattle.prover_state.specs.Internal.Steps.{IsMadeInstance}
 use Rattle.prover_search.specs.Internal.Developing.{IsWider, Develops}
 use Rattle.prover_search.specs.Internal.Running.{start_in, IsRunning}
 use Rattle.prover_search.specs.Internal.Answers.{StepGoesOn}
 use Rattle.prover_search.proofs.MadeStays.{made-wider}
+use Rattle.prover_search.proofs.PacedLaws.{after-paced}
 use Rattle.prover_search.proofs.UnitLaws.{units-grow, start-stays}
 
 first_good : (P : Entry Meant → Type 0) (q : Entry Meant) (qs : List (Entry Meant)) → P q → Each P qs → P (first_waiting q qs)
@@ -57,9 +60,9 @@ some-wait t (e ∷ es) h = λ f. cc
 pub none-waits : (t : Tables) (q : Queue Planned Delays) → q.entries ≡ [] → (the_state t q).queue ≡ []
 none-waits t q e = ap (λ es. queue_of (loops_in t es)) e
 
--- the number of commands doesn't count for what is right
-pub right-done : (t : Tables) (q : Queue Planned Delays) (n : ℕ) → IsRightState t q → IsRightState (record t { done = n }) q
-right-done t q n r = record {
+-- the number of commands and the moment don't count for what is right
+pub right-done : (t : Tables) (q : Queue Planned Delays) (n m : ℕ) → IsRightState t q → IsRightState (record t { done = n; moment = m }) q
+right-done t q n m r = record {
   basis = r.basis;
   clauses = r.clauses;
   solver = r.solver;
@@ -84,17 +87,40 @@ right-done t q n r = record {
 pub scope-wider : (g h : Basis) → IsWider g h → without_witnesses h.bank ≡ without_witnesses g.bank
 scope-wider g h w = λ i. record { bases = length (w.bank.bases i); names = map (λ c. c.type) (w.bank.consts i); witnesses = [] }
 
--- the tables with one command more
-abbrev pub counted : Tables → Tables
-counted t = record t { done = t.done + 1 }
+-- the tables with one command more, at the moment at which it is carried out
+abbrev pub counted : ℕ → Tables → Tables
+counted m t = record t { done = t.done + 1; moment = m }
 
--- what the command did to the tables that count it
-pub record Carried (t : Tables) (q1 : Queue Planned Delays) (c : Command) (t2 : Tables) (q2 : Queue Planned Delays) : Type 0 where
-  pub is : the_state t2 q2 ≡ with_command (setting_by (counted t) q1) (command_at (naming_in (counted t)) c) (the_state (counted t) q1)
-  pub develops : Develops (counted t) t2
+-- what the command did to the tables that count it, at this moment
+pub record Carried (m : ℕ) (t : Tables) (q1 : Queue Planned Delays) (c : Command) (t2 : Tables) (q2 : Queue Planned Delays) : Type 0 where
+  pub is : the_state t2 q2 ≡ with_command (setting_by (counted m t) q1) (command_at (naming_in (counted m t)) c) (the_state (counted m t) q1)
+  pub develops : Develops (counted m t) t2
   pub few : length t2.basis.witnesses ≤ suc (length t.basis.witnesses)
 
-module _ (t : Tables) (q q1 : Queue Planned Delays) (r : IsRunning t q) (c : Command) (takes : TakesNext t q q1 c) (rule : q1.rule ≡ q.rule) where
+-- no delay of a mode within its ranges is above 1,000
+short-delays : (mode : Mode) → IsInRange mode → (c : Meant) → delay mode c ≤ 1000
+short-delays mode r (process l) = r.process
+short-delays mode r (mate l k) = r.mate
+short-delays mode r (confront l k) = r.confront
+short-delays mode r (inst l u) = r.inst
+short-delays mode r (choose a f) = r.choose
+short-delays mode r (describe a f) = r.choose
+short-delays mode r (grow p h) = r.grow
+
+-- the moment at which the next command is due is a number of 32 bits
+pub due-small : (t : Tables) (q q1 : Queue Planned Delays) → IsRunning t q → (e : Entry Command) → TakesNext t q q1 e → e.due < 2 ^ 32
+due-small t q q1 r e takes =
+    let s = the_state t q in
+    let paced = after-paced (setting_by t q) (short-delays q.rule.mode r.range) (start_in t) t.done s r.comes_to in
+    let due : e.due ≤ 1000 * t.done + 1000 = next-good (λ w. w.due ≤ 1000 * t.done + 1000) s.queue _ paced.2 takes.is_next in
+    let most : q.rule.mode.commands ≤ 1000000 = r.range.commands in
+    omega (arith, due, r.within, most)
+
+-- the moment over tables that are the same
+pub clock-same : (t u : Tables) (k l m due : ℕ) → k ≡ l → u ≡ t → m ≡ moment_by k (u.done + 1) due → m ≡ moment_by l (t.done + 1) due
+clock-same t u k l m due clock tables h = h ∙ ap₂ (λ x (y : Tables). moment_by x (y.done + 1) due) clock tables
+
+module _ (t : Tables) (q q1 : Queue Planned Delays) (r : IsRunning t q) (e : Entry Command) (takes : TakesNext t q q1 e) (rule : q1.rule ≡ q.rule) (m : ℕ) (clock : m ≡ moment_by q.rule.mode.clock (t.done + 1) e.due) where
   abbrev s : State
   s = the_state t q
 
@@ -102,14 +128,14 @@ module _ (t : Tables) (q q1 : Queue Planned Delays) (r : IsRunning t q) (c : Com
   setting = setting_by t q
 
   abbrev t1 : Tables
-  t1 = counted t
+  t1 = counted m t
 
-  pub taken-typed : IsTypedCommand (scope_by t1.basis) (command_at (naming_in t1) c)
+  pub taken-typed : IsTypedCommand (scope_by t1.basis) (command_at (naming_in t1) e.command)
   taken-typed =
       let typed = after-typed setting r.declared (start_in t) r.start t.done s r.comes_to in
       next-good (λ w. IsTypedCommand (scope_by t.basis) w.command) s.queue _ typed.typed.queue takes.is_next
 
-  pub taken-small : IsSmallCommand (command_at (naming_in t1) c)
+  pub taken-small : IsSmallCommand (command_at (naming_in t1) e.command)
   taken-small =
       let small = stay_small setting (start_in t) r.modest r.modest_start t.done s r.comes_to in
       next-good (λ w. IsSmallCommand w.command) s.queue _ small.queue takes.is_next
@@ -120,20 +146,23 @@ module _ (t : Tables) (q q1 : Queue Planned Delays) (r : IsRunning t q) (c : Com
   pub taken-few : length t1.basis.witnesses < t1.done
   taken-few = omega (arith, r.few)
 
-  taken_state : the_state t1 q1 ≡ record s { queue = without_number takes.number s.queue; done = suc s.done }
-  taken_state = ap (λ (x : State). record x { done = t.done + 1 }) takes.leaves ∙ ap (λ n. record s { queue = without_number takes.number s.queue; done = n }) (add-one t.done)
+  taken_state : the_state t1 q1 ≡ with_taken setting (entry_at (naming_in t) e) s
+  taken_state =
+      ap (λ (x : State). record x { done = t.done + 1; moment = m }) takes.leaves
+      ∙ ap (λ k. record s { queue = without_number e.number s.queue; done = t.done + 1; moment = k }) clock
+      ∙ ap (λ n. record s { queue = without_number e.number s.queue; done = n; moment = moment_by q.rule.mode.clock n e.due }) (add-one t.done)
 
   taken_setting : setting_by t1 q1 ≡ setting
   taken_setting = ap (λ (d : Delays). record { scope = without_witnesses t.basis.bank; mode = d.mode }) rule
 
-  module _ (t2 : Tables) (q2 : Queue Planned Delays) (k : Carried t q1 c t2 q2) (right : IsRightState t2 q2) (rule2 : q2.rule ≡ q1.rule) where
+  module _ (t2 : Tables) (q2 : Queue Planned Delays) (k : Carried m t q1 e.command t2 q2) (right : IsRightState t2 q2) (rule2 : q2.rule ≡ q1.rule) where
     abbrev develops : Develops t1 t2
     develops = k.develops
 
     carried_next : next_state setting (Some s) ≡ Some (the_state t2 q2)
     carried_next =
         ap (λ o. after_command setting o s) takes.is_next
-        ∙ ap Some (sym (k.is ∙ ap₂ (λ (x : Setting) (y : State). with_command x (command_at (naming_in t) c) y) taken_setting taken_state))
+        ∙ ap Some (sym (k.is ∙ ap₂ (λ (x : Setting) (y : State). with_command x (command_at (naming_in t) e.command) y) taken_setting taken_state))
 
     pub setting-next : setting_by t2 q2 ≡ setting
     setting-next = ap₂ (λ (x : Scope) (d : Delays). record { scope = x; mode = d.mode }) (scope-wider t.basis t2.basis develops.basis) (rule2 ∙ rule)
@@ -163,6 +192,7 @@ module _ (t : Tables) (q q1 : Queue Planned Delays) (r : IsRunning t q) (c : Com
         record {
           right = right;
           comes_to = comes_next;
+          range = let R : Delays → Type 0 = λ d. IsInRange d.mode in subst R (sym (rule2 ∙ rule)) r.range;
           within = omega (arith, r.within, below, develops.done, commands_same);
           few = omega (arith, r.few, k.few, develops.done);
           declared = subst IsScope (sym (scope-wider old new w)) r.declared;
@@ -198,7 +228,7 @@ module _ (t u : Tables) (q p : Queue Planned Delays) (tables : u ≡ record t { 
       let T : Tables → Type 0 = λ x. P x q in
       subst Q (sym plan)
       (subst T (sym tables)
-      (λ good. record { right = good; comes_to = r.comes_to; within = r.within; few = r.few; declared = r.declared; start = r.start; modest = r.modest; modest_start = r.modest_start; made = r.made })) right
+      (λ good. record { right = good; comes_to = r.comes_to; range = r.range; within = r.within; few = r.few; declared = r.declared; start = r.start; modest = r.modest; modest_start = r.modest_start; made = r.made })) right
 
   pub goes-on-solved : (t2 : Tables) (q2 : Queue Planned Delays) → StepGoesOn (record { tables = u; plan = p }) (record { tables = t2; plan = q2 }) → StepGoesOn (record { tables = t; plan = q }) (record { tables = t2; plan = q2 })
   goes-on-solved t2 q2 g =

@@ -68,7 +68,7 @@ waiting_last d n (x ∷ cs) c =
 
 pushed_last : (mode : Mode) (cs : List Command) (c : Command) (s : State) → with_commands mode (cs ++ c ∷ []) s ≡ with_commands mode (c ∷ []) (with_commands mode cs s)
 pushed_last mode cs c s =
-    let d = due mode s.done in
+    let d = due mode s.moment in
     let lengths : s.pushes + length (cs ++ c ∷ []) ≡ s.pushes + length cs + length (c ∷ []) = omega (arith, length-append cs (c ∷ [])) in
     ap₂ (λ (q : List (Entry Command)) (n : ℕ). record s { queue = q; pushes = n })
     (ap (λ w. s.queue ++ w) (waiting_last d s.pushes cs c) ∙ sym (append_assoc s.queue (new_entries d s.pushes cs) (new_entries d (s.pushes + length cs) (c ∷ []))))

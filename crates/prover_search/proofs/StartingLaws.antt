@@ -12,6 +12,7 @@ use Rattle.sat_base.specs.declared.literal.SatLit.{SatLit}
 use Rattle.command_queue.specs.Queue.{Queue}
 use Rattle.search_spec.specs.Each.{Each}
 use Rattle.mode_file.specs.declared.Mode.{Mode}
+use Rattle.mode_file.specs.Given.{IsInRange}
 use Rattle.search_spec.specs.Shallow.{is_shallow_literal}
 use Rattle.sat_base.specs.Literal.{same_var}
 use Rattle.std.specs.Bool.{beq}
@@ -269,7 +270,7 @@ module _ (t0 : Tables) (q0 : Queue Planned Delays) where
   done-none t q ls s = ap (λ (x : State). x.done) s.state
 
   -- a start is the start of a run
-  module _ (t : Tables) (q : Queue Planned Delays) (ls : List Literal) (s : IsStarting t0 q0 t q ls) (declared : IsScope (without_witnesses t0.basis.bank)) (typed : IsBranch (without_witnesses t0.basis.bank) ls) (names : Each (λ a. nesting a ≤ 1024) (without_witnesses t0.basis.bank).names) (modest : Each (IsModestLiteral 1024) ls) (unwitnessed : t0.basis.witnesses ≡ []) where
+  module _ (t : Tables) (q : Queue Planned Delays) (ls : List Literal) (s : IsStarting t0 q0 t q ls) (declared : IsScope (without_witnesses t0.basis.bank)) (typed : IsBranch (without_witnesses t0.basis.bank) ls) (names : Each (λ a. nesting a ≤ 1024) (without_witnesses t0.basis.bank).names) (modest : Each (IsModestLiteral 1024) ls) (unwitnessed : t0.basis.witnesses ≡ []) (range : IsInRange q0.rule.mode) where
     setting_same : setting_by t q ≡ setting
     setting_same = ap₂ (λ (x : Scope) (d : Delays). record { scope = x; mode = d.mode }) (scope-grows t0.basis t.basis s.basis) s.rule
 
@@ -288,6 +289,7 @@ module _ (t0 : Tables) (q0 : Queue Planned Delays) where
         record {
           right = s.right;
           comes_to = subst C (sym (done-none t q ls s)) (ap Some state_is);
+          range = let R : Delays → Type 0 = λ d. IsInRange d.mode in subst R (sym s.rule) range;
           within = omega (arith, done-none t q ls s);
           few = omega (arith, ap length s.basis.witnesses, ap length unwitnessed);
           declared = subst IsScope (sym same) declared;

@@ -1,6 +1,7 @@
 //! A step over right tables.
-ghost use Rattle.std.specs.Prelude.{◌≡◌, ◌≢◌, ◌++◌, List, [], OnOk, IfOk, false};
+ghost use Rattle.std.specs.Prelude.{◌≡◌, ◌≢◌, ◌<◌, ◌++◌, ◌^◌, List, [], OnOk, IfOk, false};
 ghost use Rattle.sat_log.specs.declared.log.LogEntry.{LogEntry};
+ghost use Rattle.search_spec.specs.State.{moment_by};
 ghost use Rattle.search_spec.specs.Unsatisfiable.{Unsatisfiable};
 ghost use Rattle.prover_state.specs.Lasting.{declarations_of, lasting};
 ghost use Rattle.prover_state.specs.Internal.Standing.{setting_by, the_state};
@@ -15,11 +16,20 @@ use prover_state::{Core, Waiting};
 use sat_core::Answer;
 use std::alloc::AllocError;
 
+/// The moment at which a command is carried out, by the clock, the command's number, and when it was due.
+fn moment_of(clock: u32, number: u32, due: u64) -> u32
+    requires { due < 2 ^ 32 }
+    ensures { result ≡ moment_by clock number due }
+{
+    if clock == 0 { number } else { due as u32 }
+}
+
 /// The next command is carried out.
-fn go<W: Weigher<Waiting>>(core: &mut Core<W>, limit: u32) -> Result<(), AllocError>
+fn go<W: Weigher<Waiting>>(core: &mut Core<W>, clock: u32, limit: u32) -> Result<(), AllocError>
     requires running { IsRunning core.old.tables core.old.plan }
     requires satisfiable { Unsatisfiable (the_state core.old.tables core.old.plan).clauses → ⊥ }
     requires some { core.old.plan.entries ≢ [] }
+    requires clock { clock ≡ core.old.plan.rule.mode.clock }
     requires limit { limit ≡ core.old.plan.rule.mode.commands }
     requires below { core.old.tables.done ≢ limit }
     ensures running { OnOk result (IsRunning core.new.tables core.new.plan) }
@@ -29,9 +39,10 @@ fn go<W: Weigher<Waiting>>(core: &mut Core<W>, limit: u32) -> Result<(), AllocEr
     ensures start { OnOk result (start_in core.new.tables ≡ start_in core.old.tables) }
     ensures lasts { lasting core.new.tables ≡ lasting core.old.tables }
 {
-    let command = core.take_next()?;
+    let taken = core.take_next()?;
     core.tables.done += 1;
-    carry_out(core, command)?;
+    core.tables.moment = moment_of(clock, core.tables.done, taken.due);
+    carry_out(core, taken.command)?;
     Ok(())
 }
 
@@ -64,6 +75,6 @@ pub(crate) fn advance<W: Weigher<Waiting>>(
     if core.tables.done == mode.commands {
         return Ok(Stepped::Limit);
     }
-    go(core, mode.commands)?;
+    go(core, mode.clock, mode.commands)?;
     Ok(Stepped::Went)
 }

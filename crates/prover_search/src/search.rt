@@ -7,6 +7,7 @@ ghost use Rattle.sat_base.specs.Truth.{Implies};
 ghost use Rattle.sat_log.specs.Chains.{results};
 ghost use Rattle.sat_log.specs.declared.log.LogEntry.{LogEntry};
 ghost use Rattle.sat_core.specs.Solver.{IsSound};
+ghost use Rattle.mode_file.specs.Given.{IsInRange};
 ghost use Rattle.search_spec.specs.Shallow.{is_shallow_literal};
 ghost use Rattle.type_bound.specs.Modest.{IsModestProblem};
 ghost use Rattle.prover_state.specs.Delays.{delay_by};
@@ -47,6 +48,7 @@ impl<W: Weigher<Waiting>> Search<W> {
     ) -> Result<Self, AllocError>
         requires typed { IsTyped problem.now }
         requires modest { IsModestProblem 1024 problem.now }
+        requires range { IsInRange mode.now }
         requires callable { W.is_callable weigher }
         requires answers { W.answers weigher (λ waiting now. now + delay_by mode.now waiting.first) }
         ensures under_way { IfOk result (λ s. IsUnderWay s.core.tables s.core.plan s.mode) }

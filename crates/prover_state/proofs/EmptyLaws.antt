@@ -58,6 +58,7 @@ module _ (g : Basis) (names : List Listing) (t : Tables) (e : AreEmpty g names t
     queue = queue_of (map (loop_at (without_witnesses t.basis.bank) (naming_in t) (sources t)) (entries i));
     pushes = pushes i;
     done = e.done i;
+    moment = e.moment i;
   }
 
   pub right-empty : IsBasis g → ((n : ℕ) → ids_of (base n) names ≡ places_to n 0 (without_witnesses g.bank).names) → IsRightState t q

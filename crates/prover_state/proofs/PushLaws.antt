@@ -142,7 +142,7 @@ delay-numbered m names (Grow p h) = refl
 delay-numbered m names (Choose f) = refl
 delay-numbered m names (Describe f) = refl
 
-module _ (t : Tables) (old new : Queue Planned Delays) (p : Planned) (entry : IsEntry (without_witnesses t.basis.bank) (naming_in t) (sources t) p) (adds : AddsEntry old new (suc (span p)) (t.done + delay_by old.rule.mode p.first) p) where
+module _ (t : Tables) (old new : Queue Planned Delays) (p : Planned) (entry : IsEntry (without_witnesses t.basis.bank) (naming_in t) (sources t) p) (adds : AddsEntry old new (suc (span p)) (t.moment + delay_by old.rule.mode p.first) p) where
   abbrev scope : Scope
   scope = without_witnesses t.basis.bank
 
@@ -153,28 +153,28 @@ module _ (t : Tables) (old new : Queue Planned Delays) (p : Planned) (entry : Is
   commands = first ∷ later_of scope (sources t) first p.rest
 
   abbrev added : Entry Planned
-  added = record { due = t.done + delay_by old.rule.mode p.first; number = old.pushes; command = p }
+  added = record { due = t.moment + delay_by old.rule.mode p.first; number = old.pushes; command = p }
 
-  delays_are : Each (λ c. due old.rule.mode t.done c ≡ t.done + delay_by old.rule.mode p.first) commands
+  delays_are : Each (λ c. due old.rule.mode t.moment c ≡ t.moment + delay_by old.rule.mode p.first) commands
   delays_are = (
-    ap (λ d. t.done + d) (delay-numbered old.rule.mode (naming_in t) p.first),
+    ap (λ d. t.moment + d) (delay-numbered old.rule.mode (naming_in t) p.first),
     each_due (later_of scope (sources t) first p.rest)
         (later_waits old.rule.mode scope (sources t) first p.rest),
   )
     where
-      each_due : (cs : List Meant) → Each (WaitsLike old.rule.mode first) cs → Each (λ c. due old.rule.mode t.done c ≡ t.done + delay_by old.rule.mode p.first) cs
+      each_due : (cs : List Meant) → Each (WaitsLike old.rule.mode first) cs → Each (λ c. due old.rule.mode t.moment c ≡ t.moment + delay_by old.rule.mode p.first) cs
       each_due [] h = tt
-      each_due (c ∷ cs) h = (ap (λ d. t.done + d) (h.0 ∙ delay-numbered old.rule.mode (naming_in t) p.first), each_due cs h.1)
+      each_due (c ∷ cs) h = (ap (λ d. t.moment + d) (h.0 ∙ delay-numbered old.rule.mode (naming_in t) p.first), each_due cs h.1)
 
   -- The state with the commands of a loop pushed.
   pub pushed-loop : the_state t new ≡ with_commands old.rule.mode commands (the_state t old)
   pushed-loop = ap₂ (λ qs n. record (state_parts t) { queue = qs; pushes = n }) queue_is pushes_is
     where
-      queue_is : queue_of (loops_in t new.entries) ≡ queue_of (loops_in t old.entries) ++ new_entries (due old.rule.mode t.done) old.pushes commands
+      queue_is : queue_of (loops_in t new.entries) ≡ queue_of (loops_in t old.entries) ++ new_entries (due old.rule.mode t.moment) old.pushes commands
       queue_is =
           ap (λ es. queue_of (loops_in t es)) adds.entries
           ∙ queue-last (loop_at scope (naming_in t) (sources t)) (λ e. refl) (λ e. refl) old.entries added
-          ∙ ap (λ qs. queue_of (loops_in t old.entries) ++ qs) (sym (waiting-same (due old.rule.mode t.done) (t.done + delay_by old.rule.mode p.first) old.pushes commands delays_are))
+          ∙ ap (λ qs. queue_of (loops_in t old.entries) ++ qs) (sym (waiting-same (due old.rule.mode t.moment) (t.moment + delay_by old.rule.mode p.first) old.pushes commands delays_are))
 
       pushes_is : new.pushes ≡ old.pushes + length commands
       pushes_is = adds.pushes ∙ ap (λ n. old.pushes + suc n) (sym (length-later scope (sources t) first p.rest entry.later))

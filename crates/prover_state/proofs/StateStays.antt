@@ -120,6 +120,7 @@ module _ (t : Tables) (q : Queue Planned Delays) (g : Basis) (grows : BasisGrows
     queue = queue_of (loops_same i);
     pushes = q.pushes;
     done = t.done;
+    moment = t.moment;
   }
 
   more_numbers : (ls : List SatLit) → Each (IsNumberIn t.basis.lits) ls → Each (IsNumberIn g.lits) ls

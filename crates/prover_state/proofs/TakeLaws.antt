@@ -132,6 +132,10 @@ module _ (t : Tables) (old mid : Queue Planned Delays) (e : Entry Planned) (take
   abbrev scope : Scope
   scope = without_witnesses t.basis.bank
 
+  -- the first command, with its number and when it is due
+  abbrev first_alone : Entry Command
+  first_alone = record { due = e.due; number = e.number; command = e.command.first }
+
   state_after : (new : Queue Planned Delays) → without_number e.number (queue_of (loops_in t old.entries)) ≡ queue_of (loops_in t new.entries) → new.pushes ≡ old.pushes → the_state t new ≡ record (the_state t old) { queue = without_number e.number (the_state t old).queue }
   state_after new h k = ap₂ (λ qs n. record (state_parts t) { queue = qs; pushes = n }) (sym h) k
 
@@ -160,10 +164,8 @@ module _ (t : Tables) (old mid : Queue Planned Delays) (e : Entry Planned) (take
         queue = h;
       }
 
-  pub takes-alone : later_of scope (sources t) (command_at (naming_in t) e.command.first) e.command.rest ≡ [] → TakesNext t old mid e.command.first
+  pub takes-alone : later_of scope (sources t) (command_at (naming_in t) e.command.first) e.command.rest ≡ [] → TakesNext t old mid first_alone
   takes-alone none = record {
-    due = e.due;
-    number = e.number;
     is_next = is-next scope (naming_in t) (sources t) old mid e takes spaced r.queue;
     leaves = state_after mid (leaves-alone scope (naming_in t) (sources t) old mid e takes spaced r.queue none) takes.pushes;
     numbers = (entry-good scope (naming_in t) (sources t) old mid e takes spaced r.queue).numbers;
@@ -178,10 +180,8 @@ module _ (t : Tables) (old mid : Queue Planned Delays) (e : Entry Planned) (take
       ∙ ap (λ n. take n (drop rest.next (loop_over scope (sources t) rest.over (command_at (naming_in t) e.command.first)))) (let z : rest.end - rest.next ≡ 0 = omega (arith, h) in z)
 
   module _ (rest : Rest) (is : e.command.rest ≡ Some rest) (some : rest.next < rest.end) (next : Command) (at : slice_get (loop_over scope (sources t) rest.over (command_at (naming_in t) e.command.first)) rest.next ≡ Some (command_at (naming_in t) next)) (numbers : IsNumberedCommand (naming_in t) next) (new : Queue Planned Delays) (adds : AddsEntryAt mid new (record { due = e.due; number = e.number + 1; command = record { first = next; rest = Some (rest_behind rest) } })) where
-    pub takes-more : TakesNext t old new e.command.first
+    pub takes-more : TakesNext t old new first_alone
     takes-more = record {
-      due = e.due;
-      number = e.number;
       is_next = is-next scope (naming_in t) (sources t) old mid e takes spaced r.queue;
       leaves = state_after new (leaves-more scope (naming_in t) (sources t) old mid e takes spaced r.queue rest is some next at numbers new adds) (adds.pushes ∙ takes.pushes);
       numbers = (entry-good scope (naming_in t) (sources t) old mid e takes spaced r.queue).numbers;

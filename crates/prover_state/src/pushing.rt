@@ -28,7 +28,7 @@ impl<W: Weigher<Waiting>> Core<W> {
         ensures tables { self.new.tables ≡ self.old.tables }
         ensures rule { OnOk result (self.new.plan.rule ≡ self.old.plan.rule) }
     {
-        self.plan.push(planned, u64::from(self.tables.done))?;
+        self.plan.push(planned, u64::from(self.tables.moment))?;
         Ok(())
     }
 

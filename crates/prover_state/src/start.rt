@@ -63,6 +63,7 @@ fn empty_tables(alloc: Global, basis: Basis, names: Enumerator) -> Tables
         holes: ByBase::new(alloc),
         roots: Types::new(alloc),
         done: 0,
+        moment: 0,
         alloc,
     }
 }

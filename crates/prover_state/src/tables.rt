@@ -32,7 +32,7 @@ pub struct Basis {
 /// processed, of these in an index those that can be partners, and the places of the universal ones by the types over which they range;
 /// the terms by type; the predicates that were chosen by and those that were described; the numbers of the names and of the witnesses
 /// by their target types; the partial terms by what they grew from, with their holes, their numbers by the base types of their first
-/// holes, and their types; and how many commands were carried out.
+/// holes, and their types; how many commands were carried out; and the moment from which delays count.
 #[derive(Drop)]
 pub struct Tables {
     pub basis: Basis,
@@ -52,6 +52,7 @@ pub struct Tables {
     pub holes: ByBase,
     pub roots: Types,
     pub done: u32,
+    pub moment: u32,
     pub alloc: Global,
 }
 

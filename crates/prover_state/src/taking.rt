@@ -22,8 +22,9 @@ fn behind(rest: Rest) -> Rest
 }
 
 impl<W: Weigher<Waiting>> Core<W> {
-    /// Takes the next command, where one waits. The next one of its loop waits in its place.
-    pub fn take_next(&mut self) -> Result<Command, AllocError>
+    /// Takes the next command, where one waits, with its number and when it is due. The next one of its loop waits in its
+    /// place.
+    pub fn take_next(&mut self) -> Result<Entry<Command>, AllocError>
         requires right { IsRightState self.old.tables self.old.plan }
         requires some { self.old.plan.entries ≢ [] }
         ensures takes { IfOk result (TakesNext self.old.tables self.old.plan self.new.plan) }
@@ -38,12 +39,17 @@ impl<W: Weigher<Waiting>> Core<W> {
             None => unreachable!(),
         };
         let first = entry.command.first;
+        let taken = Entry {
+            due: entry.due,
+            number: entry.number,
+            command: first,
+        };
         let rest = match entry.command.rest {
             Some(rest) => rest,
-            None => return Ok(first),
+            None => return Ok(taken),
         };
         if rest.next >= rest.end {
-            return Ok(first);
+            return Ok(taken);
         }
         let next = self.tables.command_of(first, rest.over, rest.next)?;
         self.plan.put_back(Entry {
@@ -54,6 +60,6 @@ impl<W: Weigher<Waiting>> Core<W> {
                 rest: Some(behind(rest)),
             },
         })?;
-        Ok(first)
+        Ok(taken)
     }
 }

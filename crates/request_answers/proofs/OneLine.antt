@@ -9,7 +9,7 @@ use Rattle.refute_text.specs.Reading.{is_one_line}
 use Rattle.cli_words.specs.Names.{is_control, is_file_name}
 use Rattle.cli_words.specs.Requests.{Request, prove, refutation, generated, models, sides, asked_by}
 use Rattle.cli_words.proofs.RequestLaws.{IsNamed, asked_by-named}
-use Rattle.request_answers.specs.Requested.{problem_name, asked_name, IsInRange}
+use Rattle.request_answers.specs.Requested.{problem_name, asked_name, IsRequestInRange}
 
 pub one_line-append : (xs ys : List ℕ) → is_one_line xs ≡ true → is_one_line ys ≡ true → is_one_line (xs ++ ys) ≡ true
 one_line-append [] ys h k = k
@@ -77,10 +77,10 @@ request_one_line (sides p) h = file_name-one_line p h
 pub name_one_line : (words : List (List ℕ)) (r : Request) → asked_by words ≡ Some r → is_one_line (asked_name words) ≡ true
 name_one_line words r h = subst (λ o. is_one_line (option_map_or problem_name o []) ≡ true) (sym h) (request_one_line r (asked_by-named words r h))
 
-pub asked_in_range : (words : List (List ℕ)) (r : Request) → asked_by words ≡ Some r → IsInRange r
+pub asked_in_range : (words : List (List ℕ)) (r : Request) → asked_by words ≡ Some r → IsRequestInRange r
 asked_in_range words r h = go r (asked_by-named words r h)
   where
-    go : (r : Request) → IsNamed r → IsInRange r
+    go : (r : Request) → IsNamed r → IsRequestInRange r
     go (prove p mode) k = tt
     go (refutation text p) k = tt
     go (generated n) k = k

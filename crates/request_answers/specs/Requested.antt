@@ -41,9 +41,9 @@ abbrev pub asked_name : List (List ℕ) → List ℕ
 asked_name words = option_map_or problem_name (asked_by words) []
 
 -- the number of a request is in its range: that of a problem that is to be generated, and the bound of a search for models
-abbrev pub IsInRange : Request → Type 0
-IsInRange (prove p mode) = Unit {0}
-IsInRange (refutation text p) = Unit {0}
-IsInRange (generated n) = (0 < n) × (n ≤ 1000)
-IsInRange (models upto p) = (0 < upto) × (upto ≤ 8)
-IsInRange (sides p) = Unit {0}
+abbrev pub IsRequestInRange : Request → Type 0
+IsRequestInRange (prove p mode) = Unit {0}
+IsRequestInRange (refutation text p) = Unit {0}
+IsRequestInRange (generated n) = (0 < n) × (n ≤ 1000)
+IsRequestInRange (models upto p) = (0 < upto) × (upto ≤ 8)
+IsRequestInRange (sides p) = Unit {0}

@@ -2,6 +2,7 @@
 
 ghost use Rattle.std.specs.Prelude.{◌≡◌, ◌≤◌, ℕ, List, Some, option_map, IfOk, IfErr, IsErrOf, OnOk};
 ghost use Rattle.outside.specs.Causes.{Rose};
+ghost use Rattle.mode_file.specs.Given.{IsInRange};
 ghost use Rattle.request_answers.specs.Modes.{IsModeBy};
 ghost use Rattle.request_answers.specs.Internal.RefusedModes.{mode_answer};
 ghost use Rattle.request_answers.specs.Internal.ReadFaults.{IsNoReadFault};
@@ -42,6 +43,7 @@ fn mode_answer(refused: ModeRefused) -> Answer
 /// The mode that the file of a name states, or what is answered in its place.
 fn read_mode_file<F: Files>(alloc: Global, files: &mut F, name: &str) -> Result<Mode, Answer>
     ensures stated { IfOk result (IsModeBy (F.tells files.old) (F.contents files.old) (Some name.now)) }
+    ensures in_range { IfOk result IsInRange }
     ensures unread { IfErr result (IsUnreadMode (F.tells files.old) (F.contents files.old) name.now) }
     ensures fault { (own : List ℕ) → IsErrOf result (answer.ReadFault (named.Mode own)) → Rose (F.faults files.old name.now) (F.faults files.new name.now) }
     ensures quiet { OnOk result ((other : List ℕ) → F.faults files.new other ≡ F.faults files.old other) }
@@ -74,6 +76,7 @@ pub(crate) fn mode_by<F: Files>(
     file: Option<&str>,
 ) -> Result<Mode, Answer>
     ensures stated { IfOk result (IsModeBy (F.tells files.old) (F.contents files.old) (option_map (λ f. f.now) file.entry)) }
+    ensures in_range { IfOk result IsInRange }
     ensures unread { IfErr result (IsUnaskedMode (F.tells files.old) (F.contents files.old) (option_map (λ f. f.now) file.entry)) }
     ensures fault { (own : List ℕ) → IsErrOf result (answer.ReadFault (named.Mode own)) → Rose (F.faults files.old own) (F.faults files.new own) }
     ensures quiet { OnOk result ((other : List ℕ) → F.faults files.new other ≡ F.faults files.old other) }

@@ -2,9 +2,10 @@
 
 ghost use Rattle.std.specs.Prelude.{◌≡◌, ◌<◌, ◌≤◌, ℕ, List, option_map, string_bytes, IfOk};
 ghost use Rattle.outside.specs.Causes.{Rose};
+ghost use Rattle.mode_file.specs.Given.{IsInRange};
 ghost use Rattle.cli_words.specs.Requests.{prove, refutation, models, sides};
 ghost use Rattle.cli_words.specs.View.{the_request};
-ghost use Rattle.request_answers.specs.Requested.{problem_name, IsInRange};
+ghost use Rattle.request_answers.specs.Requested.{problem_name, IsRequestInRange};
 ghost use Rattle.request_answers.specs.Checked.{AnswersText};
 ghost use Rattle.request_answers.specs.Compared.{AnswersSides};
 ghost use Rattle.request_answers.specs.Modelled.{AnswersModels};
@@ -32,6 +33,7 @@ use szs_report::Answer;
 
 /// The answer where the problem of a name is to be proved by a mode.
 fn prove_by<F: Files>(alloc: Global, files: &mut F, problem: &str, mode: &Mode) -> Answer
+    requires range { IsInRange mode.now }
     ensures answers { IsFilesAnswer (IsSolved mode.now) problem.now (F.tells files.old) (F.contents files.old) result }
     ensures fault { (k : ℕ) (names : List (List ℕ)) → result ≡ Answer.ReadFault (Part k names)
         → IsFaultIn problem.now (F.tells files.old) (F.contents files.old) (F.faults files.old) (F.faults files.new) k }
@@ -138,7 +140,7 @@ pub fn name_of(alloc: Global, asked: &Asked) -> Result<String, AllocError>
 /// The answer to a request, which reports call by its name.
 pub fn answer<F: Files>(alloc: Global, files: &mut F, asked: &Asked, name: &str) -> Answer
     requires named { name.now ≡ problem_name (the_request asked.now) }
-    requires in_range { IsInRange (the_request asked.now) }
+    requires in_range { IsRequestInRange (the_request asked.now) }
     ensures answers { AnswersRequest (the_request asked.now) (F.tells files.old) (F.contents files.old) result }
     ensures cause { HasCauseOf (the_request asked.now) (F.tells files.old) (F.contents files.old) (F.faults files.old) (F.faults files.new) (outcome_of result) }
 

@@ -2,6 +2,7 @@
 
 ghost use Rattle.std.specs.Prelude.{◌≡◌, IfOk};
 ghost use Rattle.delta_defs.specs.Unfolding.{unfolded_problem};
+ghost use Rattle.mode_file.specs.Given.{IsInRange};
 ghost use Rattle.prover_run.specs.Ended.{EndsAs};
 ghost use Rattle.request_answers.specs.Internal.Texts.{HasTexts};
 ghost use Rattle.request_answers.specs.Solved.{claim_of, IsSolved};
@@ -55,7 +56,8 @@ fn ended_answer(
 
 /// The answer for a problem, whose definitions are unfolded before the run.
 fn solve_unfolded(alloc: Global, problem: &Problem, mode: &Mode) -> Result<Answer, AllocError>
-    requires { HasTexts problem.now }
+    requires texts { HasTexts problem.now }
+    requires range { IsInRange mode.now }
     ensures { IfOk result (IsSolved mode.now problem.now) }
 {
     let unfolded = unfold_problem(alloc, problem)?;
@@ -65,7 +67,8 @@ fn solve_unfolded(alloc: Global, problem: &Problem, mode: &Mode) -> Result<Answe
 
 /// The answer for a problem that is to be proved.
 pub(crate) fn solve(alloc: Global, problem: &Problem, mode: &Mode) -> Answer
-    requires { HasTexts problem.now }
+    requires texts { HasTexts problem.now }
+    requires range { IsInRange mode.now }
     ensures { IsSolved mode.now problem.now result }
 {
     match solve_unfolded(alloc, problem, mode) {

@@ -3,6 +3,7 @@
 //! is checked, but behind the word `alone`.
 #![tactic(auto)]
 
+ghost use Rattle.mode_file.specs.Given.{IsInRange};
 ghost use Rattle.stt_core.specs.TypedProblem.{IsTyped};
 ghost use Rattle.type_bound.specs.Modest.{IsModestProblem};
 
@@ -22,6 +23,7 @@ use stt_core::Problem;
 fn told(alloc: Global, problem: &Problem, row: &Row) -> Result<String, Error>
     requires typed { IsTyped problem.now }
     requires modest { IsModestProblem 1024 problem.now }
+    requires range { IsInRange row.now.mode }
 {
     match row.told {
         Told::Commands => trace::trace(alloc, problem, &row.mode),
@@ -32,7 +34,9 @@ fn told(alloc: Global, problem: &Problem, row: &Row) -> Result<String, Error>
 }
 
 /// What is written for a row.
-fn answer<F: Files>(alloc: Global, files: &mut F, row: &Row) -> Result<String, Error> {
+fn answer<F: Files>(alloc: Global, files: &mut F, row: &Row) -> Result<String, Error>
+    requires { IsInRange row.now.mode }
+{
     let problem = problem_in(alloc, files, row.file.as_str())?;
     let answer = told(alloc, &problem, row);
     drop(problem);

@@ -1,5 +1,8 @@
 //! What a line asks for.
 
+ghost use Rattle.std.specs.Prelude.{IfOk};
+ghost use Rattle.mode_file.specs.Given.{IsInRange};
+
 use anyhow::bail;
 use mode_file::{Mode, read_mode};
 use std::alloc::Global;
@@ -34,7 +37,9 @@ fn mode_text(alloc: Global, settings: &str) -> anyhow::Result<String> {
     Ok(text)
 }
 
-fn mode_of(text: &str) -> anyhow::Result<Mode> {
+fn mode_of(text: &str) -> anyhow::Result<Mode>
+    ensures { IfOk result IsInRange }
+{
     if text.len() > MAX_BYTES {
         bail!("too many settings");
     }
@@ -55,7 +60,9 @@ fn told_of(line: &str) -> (Told, &str) {
 }
 
 /// The run that a line asks for.
-pub fn row_of(alloc: Global, line: &str) -> anyhow::Result<Row> {
+pub fn row_of(alloc: Global, line: &str) -> anyhow::Result<Row>
+    ensures { IfOk result (λ row. IsInRange row.mode) }
+{
     let (told, rest) = told_of(line);
     let (file, settings) = rest.split_once(' ').unwrap_or((rest, ""));
     let text = mode_text(alloc, settings)?;

@@ -1,5 +1,6 @@
 //! Runs to their end.
 
+ghost use Rattle.mode_file.specs.Given.{IsInRange};
 ghost use Rattle.stt_core.specs.TypedProblem.{IsTyped};
 ghost use Rattle.type_bound.specs.Modest.{IsModestProblem};
 
@@ -56,6 +57,7 @@ fn line_of(alloc: Global, ended: &Ended) -> anyhow::Result<String> {
 pub fn alone(alloc: Global, problem: &Problem, mode: &Mode) -> anyhow::Result<String>
     requires typed { IsTyped problem.now }
     requires modest { IsModestProblem 1024 problem.now }
+    requires range { IsInRange mode.now }
 {
     let ended = run(alloc, problem, mode)?;
     let line = line_of(alloc, &ended);
@@ -77,6 +79,7 @@ fn checked_line(alloc: Global, problem: &Problem, ended: &Ended) -> anyhow::Resu
 pub fn end(alloc: Global, problem: &Problem, mode: &Mode) -> anyhow::Result<String>
     requires typed { IsTyped problem.now }
     requires modest { IsModestProblem 1024 problem.now }
+    requires range { IsInRange mode.now }
 {
     let ended = run(alloc, problem, mode)?;
     let line = checked_line(alloc, problem, &ended);
@@ -100,6 +103,7 @@ fn line_and_text(alloc: Global, problem: &Problem, ended: &Ended) -> anyhow::Res
 pub fn text(alloc: Global, problem: &Problem, mode: &Mode) -> anyhow::Result<String>
     requires typed { IsTyped problem.now }
     requires modest { IsModestProblem 1024 problem.now }
+    requires range { IsInRange mode.now }
 {
     let ended = run(alloc, problem, mode)?;
     let text = line_and_text(alloc, problem, &ended);

@@ -1,6 +1,7 @@
 //! Runs, command by command.
 
 ghost use Rattle.std.specs.Prelude.{◌≡◌, ◌+◌, false};
+ghost use Rattle.mode_file.specs.Given.{IsInRange};
 ghost use Rattle.stt_core.specs.TypedProblem.{IsTyped};
 ghost use Rattle.type_bound.specs.Modest.{IsModestProblem};
 ghost use Rattle.prover_state.specs.Delays.{delay_by};
@@ -56,6 +57,7 @@ fn trace_by<W: Weigher<Waiting>>(
 ) -> anyhow::Result<String>
     requires typed { IsTyped problem.now }
     requires modest { IsModestProblem 1024 problem.now }
+    requires range { IsInRange mode.now }
     requires callable { W.is_callable weigher }
     requires answers { W.answers weigher (λ waiting now. now + delay_by mode.now waiting.first) }
 {
@@ -69,6 +71,7 @@ fn trace_by<W: Weigher<Waiting>>(
 pub fn trace(alloc: Global, problem: &Problem, mode: &Mode) -> anyhow::Result<String>
     requires typed { IsTyped problem.now }
     requires modest { IsModestProblem 1024 problem.now }
+    requires range { IsInRange mode.now }
 {
     let by = *mode;
     trace_by(alloc, problem, mode, |waiting: &Waiting, now: u64| {

@@ -15,7 +15,7 @@ use Rattle.search_spec.specs.Clauses.{instance_clauses, with_clauses}
 use Rattle.search_spec.specs.Heads.{heads_for}
 use Rattle.search_spec.specs.Partial.{first_hole, whole_term, blank_partial}
 use Rattle.search_spec.specs.Shallow.{is_shallow, is_shallow_literal}
-use Rattle.search_spec.specs.Queue.{new_entries, first_waiting, next_command, without_number}
+use Rattle.search_spec.specs.Queue.{new_entries, first_waiting, next_command}
 use Rattle.command_queue.specs.declared.entry.Entry.{Entry}
 use Rattle.command_queue.specs.Queue.{comes_before}
 use Rattle.search_spec.specs.Closed.{is_closed}
@@ -29,7 +29,7 @@ use Rattle.search_spec.specs.Selections.{Selection, by_choice, by_description, s
 use Rattle.search_spec.specs.Witness.{same_row, witness_of, has_hole_of, with_new_witness, with_witness}
 use Rattle.search_spec.specs.Processing.{with_decomposition, with_confrontations, with_equation, with_universal, with_matings, with_rules, with_processing}
 use Rattle.search_spec.specs.Commands.{with_confrontation, with_instantiation, with_growth, growth_by, with_command}
-use Rattle.search_spec.specs.After.{nothing_yet, starting_state, after_command, next_state, state_after}
+use Rattle.search_spec.specs.After.{nothing_yet, starting_state, with_taken, after_command, next_state, state_after}
 use Rattle.search_spec.proofs.NamingLaws.{StandFor, each-joined, pick_good, instance_clauses_good, with_clauses_good}
 use Rattle.search_spec.proofs.TypedPushes.{each_filtered, each_mapped}
 use Rattle.type_bound.specs.Deep.{IsFlat, IsFlatCommand, IsFlatState}
@@ -105,7 +105,7 @@ module _ (setting : Setting) where
     clauses = g.clauses;
     noted = g.noted;
     rows = g.rows;
-    queue = each-joined _ s.queue (new_entries (due setting.mode s.done) s.pushes cs) g.queue (each_waiting IsFlatCommand (due setting.mode s.done) s.pushes cs h);
+    queue = each-joined _ s.queue (new_entries (due setting.mode s.moment) s.pushes cs) g.queue (each_waiting IsFlatCommand (due setting.mode s.moment) s.pushes cs h);
   }
 
   with_literal-flat : (l : Literal) (s : State) → IsFlat l → Is s → Is (with_literal setting.mode l s)
@@ -277,8 +277,8 @@ module _ (setting : Setting) where
 
   -- RUNS
 
-  taken-flat : (n : ℕ) (s : State) → Is s → Is (record s { queue = without_number n s.queue; done = suc s.done })
-  taken-flat n s g = record {
+  taken-flat : (first : Entry Command) (s : State) → Is s → Is (with_taken setting first s)
+  taken-flat first s g = record {
     clauses = g.clauses;
     noted = g.noted;
     rows = g.rows;
@@ -290,9 +290,8 @@ module _ (setting : Setting) where
   next-flat s t g (q ∷ qs) h e =
       let first = first_waiting q qs in
       let flat = first_good (λ p. IsFlatCommand p.command) q qs h.0 h.1 in
-      let taken = record s { queue = without_number first.number s.queue; done = suc s.done } in
-      let same : with_command setting first.command taken ≡ t = cc in
-      subst Is same (carried_out-flat first.command taken flat (taken-flat first.number s g))
+      let same : with_command setting first.command (with_taken setting first s) ≡ t = cc in
+      subst Is same (carried_out-flat first.command (with_taken setting first s) flat (taken-flat first s g))
 
   step-flat : (o : Option State) (t : State) → ((s : State) → o ≡ Some s → Is s) → next_state setting o ≡ Some t → Is t
   step-flat None t h e = cc

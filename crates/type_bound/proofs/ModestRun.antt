@@ -10,7 +10,7 @@ use Rattle.tableau_calculus.specs.Literals.{Literal, plus, minus}
 use Rattle.tableau_calculus.specs.Witnesses.{Row}
 use Rattle.search_spec.specs.Each.{Each}
 use Rattle.search_spec.specs.Shallow.{is_shallow, is_shallow_literal}
-use Rattle.search_spec.specs.Queue.{first_waiting, next_command, without_number}
+use Rattle.search_spec.specs.Queue.{first_waiting, next_command}
 use Rattle.command_queue.specs.declared.entry.Entry.{Entry}
 use Rattle.command_queue.specs.Queue.{comes_before}
 use Rattle.search_spec.specs.State.{State, Setting, Sketch, Command, process, mate, confront, inst, choose, describe, grow, with_commands, scope_in}
@@ -23,7 +23,7 @@ use Rattle.search_spec.specs.Selections.{selections_in}
 use Rattle.search_spec.specs.Witness.{same_row, witness_of, has_hole_of, with_new_witness, with_witness}
 use Rattle.search_spec.specs.Processing.{with_decomposition, with_confrontations, with_equation, with_universal, with_matings, with_rules, with_processing}
 use Rattle.search_spec.specs.Commands.{with_mating, with_confrontation, with_instantiation, with_command}
-use Rattle.search_spec.specs.After.{nothing_yet, starting_state, after_command, next_state, state_after}
+use Rattle.search_spec.specs.After.{nothing_yet, starting_state, with_taken, after_command, next_state, state_after}
 use Rattle.search_spec.proofs.NamingLaws.{each-joined, pick_good}
 use Rattle.search_spec.proofs.TypedPushes.{each_filtered, each_mapped}
 use Rattle.refute_print.specs.Sizes.{nesting}
@@ -169,8 +169,8 @@ module _ (limit : ℕ) (setting : Setting) (good : IsModestSetting limit setting
 
   -- RUNS
 
-  taken-modest : (n : ℕ) (s : State) → Is s → Is (record s { queue = without_number n s.queue; done = suc s.done })
-  taken-modest n s g = record {
+  taken-modest : (first : Entry Command) (s : State) → Is s → Is (with_taken setting first s)
+  taken-modest first s g = record {
     clauses = g.clauses;
     noted = g.noted;
     terms = g.terms;
@@ -184,9 +184,8 @@ module _ (limit : ℕ) (setting : Setting) (good : IsModestSetting limit setting
   next-modest s t g (q ∷ qs) h e =
       let first = first_waiting q qs in
       let modest = first_good (λ p. IsModestCommand limit p.command) q qs h.0 h.1 in
-      let taken = record s { queue = without_number first.number s.queue; done = suc s.done } in
-      let same : with_command setting first.command taken ≡ t = cc in
-      subst Is same (carried_out-modest first.command taken modest (taken-modest first.number s g))
+      let same : with_command setting first.command (with_taken setting first s) ≡ t = cc in
+      subst Is same (carried_out-modest first.command (with_taken setting first s) modest (taken-modest first s g))
 
   step-modest : (o : Option State) (t : State) → ((s : State) → o ≡ Some s → Is s) → next_state setting o ≡ Some t → Is t
   step-modest None t h e = cc

@@ -55,7 +55,7 @@ module _ (limit : ℕ) (setting : Setting) where
     terms = g.terms;
     rows = g.rows;
     parked = g.parked;
-    queue = each-joined _ s.queue (new_entries (due setting.mode s.done) s.pushes cs) g.queue (each_waiting (IsModestCommand limit) (due setting.mode s.done) s.pushes cs h);
+    queue = each-joined _ s.queue (new_entries (due setting.mode s.moment) s.pushes cs) g.queue (each_waiting (IsModestCommand limit) (due setting.mode s.moment) s.pushes cs h);
   }
 
   with_literal-modest : (l : Literal) (s : State) → Lit l → Good s → Good (with_literal setting.mode l s)

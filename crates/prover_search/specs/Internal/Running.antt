@@ -5,6 +5,7 @@ use Rattle.tableau_calculus.specs.Literals.{Literal, IsBranch}
 use Rattle.tableau_calculus.specs.Witnesses.{with_rows}
 use Rattle.sat_base.specs.declared.literal.SatLit.{SatLit}
 use Rattle.mode_file.specs.declared.Mode.{Mode}
+use Rattle.mode_file.specs.Given.{IsInRange}
 use Rattle.command_queue.specs.Queue.{Queue}
 use Rattle.search_spec.specs.Each.{Each}
 use Rattle.search_spec.specs.After.{state_after}
@@ -34,11 +35,13 @@ abbrev pub start_in : Tables → List Literal
 start_in t = map (bank_literal t.basis.bank.terms t.basis.lits) (units t.steps.0)
 
 -- The tables and the commands that wait are right, and they stand for the state of the run from their start units after as many commands
--- as were carried out. These are at most as many as the mode allows, and at most one witness is made by each. The start is typed without
--- witnesses, the types of the names and of the start nest at most 1,024 deep, and each instance is one of its rule.
+-- as were carried out. The numbers of the mode are within their ranges, the commands are at most as many as it allows, and at most one
+-- witness is made by each. The start is typed without witnesses, the types of the names and of the start nest at most 1,024 deep, and each
+-- instance is one of its rule.
 pub record IsRunning (t : Tables) (q : Queue Planned Delays) : Type 0 where
   pub right : IsRightState t q
   pub comes_to : state_after (setting_by t q) (start_in t) t.done ≡ Some (the_state t q)
+  pub range : IsInRange q.rule.mode
   pub within : t.done ≤ q.rule.mode.commands
   pub few : length t.basis.witnesses ≤ t.done
   pub declared : IsScope (without_witnesses t.basis.bank)

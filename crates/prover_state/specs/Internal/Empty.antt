@@ -26,3 +26,4 @@ pub record AreEmpty (g : Basis) (listed : List Listing) (t : Tables) : Type 0 wh
   pub holes : t.holes ≡ []
   pub roots : t.roots ≡ []
   pub done : t.done ≡ 0
+  pub moment : t.moment ≡ 0

@@ -68,6 +68,7 @@ state_parts t = record {
   queue = [];
   pushes = 0;
   done = t.done;
+  moment = t.moment;
 }
 
 -- of the state, what loops of commands go over

@@ -3,6 +3,7 @@ use Rattle.stt_core.specs.Typing.{IsScope}
 use Rattle.stt_core.specs.Declarations.{scope_of}
 use Rattle.stt_core.specs.PlainProblem.{PlainProblem}
 use Rattle.tableau_calculus.specs.Start.{start}
+use Rattle.mode_file.specs.Given.{IsInRange}
 use Rattle.prover_state.specs.declared.command.Delays.{Delays}
 use Rattle.type_bound.proofs.StartLaws.{start-keeps}
 use Rattle.prover_search.proofs.SearchLaws.{scope-same, scope-declared, start-declared, names-modest}
@@ -33,7 +34,8 @@ returns-in-Ok-clause-under_way g c =
           (start-declared p c.requires.typed core.tables.basis.bank bases consts)
           (names-modest p c.requires.typed core.tables.basis.bank bases consts c.requires.modest)
           (start-keeps 1024 p c.requires.modest)
-          c.in_ok-core.ensures.unwitnessed;
+          c.in_ok-core.ensures.unwitnessed
+          (subst IsInRange (sym c.in_ok-core.ensures.mode) c.requires.range);
     }
 
 pub returns-in-Ok-clause-bases : goal.returns-in-Ok-clause-bases
