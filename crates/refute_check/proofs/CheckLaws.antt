@@ -41,3 +41,7 @@ if_place (Err e) P Q f h = at_place e P Q f h
 pub if_ok : {P Q : Type 0} (r : Result (Unit {0}) PlainRefused) → (P → Q) → OnOk r P → OnOk r Q
 if_ok (Ok u) f h = f h
 if_ok (Err e) f h = tt
+
+pub at_both : (e : PlainRefused) (P Q R : ℕ → Why → Type 0) → ((place : ℕ) (why : Why) → P place why → Q place why → R place why) → IfRefused e P → IfRefused e Q → IfRefused e R
+at_both (Refused place why) P Q R f h k = f place why h k
+at_both Memory P Q R f h k = tt

@@ -14,3 +14,4 @@ pub mod TermLaws
 mod DefinitionLaws
 pub mod AcceptanceLaws
 mod SeenLaws
+pub mod StrictLaws

@@ -6,3 +6,4 @@ pub mod Numbers
 pub mod Branches
 pub mod Lines
 pub mod Taking
+pub mod Strictly

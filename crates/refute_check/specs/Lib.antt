@@ -28,4 +28,5 @@ pub use Rattle.witness_names.specs.Rows
 pub mod Numbered
 pub mod Refusal
 pub mod Acceptance
+pub mod Strict
 pub mod Internal

@@ -1,6 +1,6 @@
 //! Whether the text of a refutation is accepted for a problem.
 
-ghost use Rattle.std.specs.Prelude.{◌≡◌, ◌+◌, ◌^◌, ◌<◌, [], List, length, OnOk, IfOk, IfErr};
+ghost use Rattle.std.specs.Prelude.{◌≡◌, ◌+◌, ◌^◌, ◌<◌, true, [], List, length, OnOk, IfOk, IfErr};
 ghost use Rattle.stt_core.specs.Typing.{Scope};
 ghost use Rattle.stt_core.specs.Lambda.{Lambda};
 ghost use Rattle.stt_core.specs.ScopeView.{the_scope};
@@ -9,16 +9,19 @@ ghost use Rattle.stt_core.specs.Declarations.{scope_of};
 ghost use Rattle.tableau_calculus.specs.Literals.{Literal};
 ghost use Rattle.tableau_calculus.specs.Witnesses.{IsTable};
 ghost use Rattle.tableau_calculus.specs.Start.{start};
-ghost use Rattle.tableau_calculus.specs.Accepted.{EndsWithin, IsAccepted, FirstFailure};
+ghost use Rattle.tableau_calculus.specs.Accepted.{EndsWithin, FirstFailure};
+ghost use Rattle.tableau_calculus.specs.CutFree.{HasNoCut};
 ghost use Rattle.tableau_calculus.specs.Refused.{IfRefused};
 ghost use Rattle.refute_print.specs.TextView.{the_text, IsNumberedText};
 ghost use Rattle.refute_print.specs.Named.{names_of};
 ghost use Rattle.refute_check.specs.Numbered.{numbered_refutation};
-ghost use Rattle.refute_check.specs.Refusal.{IfLine, FailsAt};
+ghost use Rattle.refute_check.specs.Refusal.{IfLine};
 ghost use Rattle.refute_check.specs.Acceptance.{IsAcceptedFor, TextFailsAt};
+ghost use Rattle.refute_check.specs.Strict.{IsStrictlyAcceptedFor, TextFailsStrictlyAt};
 ghost use Rattle.refute_check.specs.Internal.Shared.{shared_scope, declared_in, shared_atoms, the_rows, IsGoodShared};
 ghost use Rattle.refute_check.specs.Internal.Branches.{Represents, AreNumberedBranch, Grow, AreBranches};
 ghost use Rattle.refute_check.specs.Internal.Lines.{AreRightIn};
+ghost use Rattle.refute_check.specs.Internal.Strictly.{IsAcceptedBy, FailsFirst, FailsFirstAt, IsTextAccepted, TextFailsFirst};
 
 use crate::branch::Branch;
 use crate::definitions::check_definitions;
@@ -27,6 +30,7 @@ use crate::numbering::Numbering;
 use crate::refusal::CheckRefused;
 use crate::seen::Seen;
 use crate::shared::Shared;
+use crate::strict::{is_cut, with_cut};
 use delta_defs::unfold_problem;
 use refute_print::RefutationText;
 use std::alloc::{AllocError, Global};
@@ -47,6 +51,7 @@ fn check_rows(
     ensures atoms { OnOk result (Grow (shared_atoms shared.old) (shared_atoms shared.new)) }
     ensures declared { OnOk result (declared_in shared.new ≡ declared_in shared.old) }
     ensures good { OnOk result (IsGoodShared shared.new) }
+    ensures row { IfErr result (λ e. IfRefused e (λ place why. place < length (numbered_refutation numbering.now (the_text text.now)).witnesses)) }
     ensures refused { IfErr result (λ e. IfRefused e (λ place why. (start : List Literal) → FirstFailure (declared_in shared.old) start (numbered_refutation numbering.now (the_text text.now)) place why)) }
 {
     for i in 0..text.witnesses.len() {
@@ -57,27 +62,31 @@ fn check_rows(
     Ok(())
 }
 
-/// The branches of the text's lines by numbers, where the lines are right.
+/// The branches of the text's lines by numbers, where the lines are right. A strict check refuses cuts.
 fn check_lines(
     alloc: Global,
     shared: &mut Shared,
     numbering: &Numbering<'_>,
     text: &RefutationText,
+    strict: bool,
 ) -> Result<RightLines, PlainRefused>
     requires good { IsGoodShared shared.old }
     requires rows { the_rows shared.old ≡ (numbered_refutation numbering.now (the_text text.now)).witnesses }
     requires table { IsTable (declared_in shared.old) (numbered_refutation numbering.now (the_text text.now)).witnesses }
     requires room { length text.now.witnesses + length text.now.lines < 2 ^ 64 }
     ensures right { OnOk result (AreRightIn (declared_in shared.old) (numbered_refutation numbering.now (the_text text.now))) }
+    ensures no_cut { OnOk result (strict ≡ true → HasNoCut (numbered_refutation numbering.now (the_text text.now)).lines) }
     ensures branches { IfOk result (λ ls. AreBranches (shared_atoms shared.new) (numbered_refutation numbering.now (the_text text.now)).lines ls.branches.items) }
     ensures atoms { OnOk result (Grow (shared_atoms shared.old) (shared_atoms shared.new)) }
-    ensures refused { IfErr result (λ e. IfRefused e (λ place why. (start : List Literal) → FirstFailure (declared_in shared.old) start (numbered_refutation numbering.now (the_text text.now)) place why)) }
+    ensures refused { IfErr result (λ e. IfRefused e (λ place why. (start : List Literal) → FailsFirst strict (declared_in shared.old) start (numbered_refutation numbering.now (the_text text.now)) place why)) }
 {
     let rows = text.witnesses.len();
     let mut seen = Seen::new(alloc);
     let mut lines = RightLines::new(alloc);
     for i in 0..text.lines.len() {
-        if let Some(why) = lines.add(alloc, shared, numbering, &mut seen, text.lines.at(i))? {
+        let line = text.lines.at(i);
+        let found = lines.add(alloc, shared, numbering, &mut seen, line)?;
+        if let Some(why) = with_cut(strict, is_cut(&line.rule), found) {
             return Err(PlainRefused::Refused {
                 line: rows + i,
                 why,
@@ -129,17 +138,18 @@ fn check_from(
     numbering: &Numbering<'_>,
     start: &Branch,
     text: &RefutationText,
+    strict: bool,
 ) -> Result<(), PlainRefused>
     requires good { IsGoodShared shared.old }
     requires none { the_rows shared.old ≡ [] }
     requires room { length text.now.witnesses + length text.now.lines < 2 ^ 64 }
     ensures accepted { OnOk result ((ls : List Literal) → Represents (shared_atoms shared.old) ls start.now → AreNumberedBranch (shared_atoms shared.old) ls
-        → IsAccepted (declared_in shared.old) ls (numbered_refutation numbering.now (the_text text.now))) }
+        → IsAcceptedBy strict (declared_in shared.old) ls (numbered_refutation numbering.now (the_text text.now))) }
     ensures refused { IfErr result (λ e. IfRefused e (λ place why. (ls : List Literal) → Represents (shared_atoms shared.old) ls start.now → AreNumberedBranch (shared_atoms shared.old) ls
-        → FirstFailure (declared_in shared.old) ls (numbered_refutation numbering.now (the_text text.now)) place why)) }
+        → FailsFirst strict (declared_in shared.old) ls (numbered_refutation numbering.now (the_text text.now)) place why)) }
 {
     check_rows(alloc, shared, numbering, text)?;
-    let lines = check_lines(alloc, shared, numbering, text)?;
+    let lines = check_lines(alloc, shared, numbering, text, strict)?;
     check_last(numbering, &lines, start, text)
 }
 
@@ -150,17 +160,18 @@ fn check_with(
     numbering: &Numbering<'_>,
     problem: &Problem,
     text: &RefutationText,
+    strict: bool,
 ) -> Result<(), PlainRefused>
     requires good { IsGoodShared shared.old }
     requires none { the_rows shared.old ≡ [] }
     requires scope { shared_scope shared.old ≡ scope_of problem.now.declared }
     requires problem { IsTyped problem.now }
     requires room { length text.now.witnesses + length text.now.lines < 2 ^ 64 }
-    ensures accepted { OnOk result (IsAccepted (declared_in shared.old) (start problem.now) (numbered_refutation numbering.now (the_text text.now))) }
-    ensures refused { IfErr result (λ e. IfRefused e (FirstFailure (declared_in shared.old) (start problem.now) (numbered_refutation numbering.now (the_text text.now)))) }
+    ensures accepted { OnOk result (IsAcceptedBy strict (declared_in shared.old) (start problem.now) (numbered_refutation numbering.now (the_text text.now))) }
+    ensures refused { IfErr result (λ e. IfRefused e (FailsFirst strict (declared_in shared.old) (start problem.now) (numbered_refutation numbering.now (the_text text.now)))) }
 {
     let start = shared.start(alloc, problem)?;
-    check_from(alloc, shared, numbering, &start, text)
+    check_from(alloc, shared, numbering, &start, text, strict)
 }
 
 /// Whether the text is accepted for the start of the problem, over its signature.
@@ -169,45 +180,46 @@ fn check_over(
     sig: &Signature,
     problem: &Problem,
     text: &RefutationText,
+    strict: bool,
 ) -> Result<(), PlainRefused>
     requires problem { IsTyped problem.now }
     requires own { the_scope sig.now [] ≡ scope_of problem.now.declared }
     requires room { length text.now.witnesses + length text.now.lines < 2 ^ 64 }
-    ensures accepted { OnOk result (IsAccepted (the_scope sig.now []) (start problem.now)
+    ensures accepted { OnOk result (IsAcceptedBy strict (the_scope sig.now []) (start problem.now)
         (numbered_refutation (names_of sig.now.bases sig.now.consts) (the_text text.now))) }
-    ensures refused { IfErr result (λ e. IfRefused e (FirstFailure (the_scope sig.now []) (start problem.now)
+    ensures refused { IfErr result (λ e. IfRefused e (FailsFirst strict (the_scope sig.now []) (start problem.now)
         (numbered_refutation (names_of sig.now.bases sig.now.consts) (the_text text.now)))) }
 {
     let numbering = Numbering::new(alloc, sig)?;
     let mut shared = Shared::new(alloc, sig)?;
-    let checked = check_with(alloc, &mut shared, &numbering, problem, text);
+    let checked = check_with(alloc, &mut shared, &numbering, problem, text, strict);
     drop(shared);
     checked
 }
 
 /// Whether the text is accepted, or the place of its first failure: its rows count from 0, and then its lines.
-fn check_text(alloc: Global, problem: &Problem, text: &RefutationText) -> Result<(), PlainRefused>
+fn check_text(alloc: Global, problem: &Problem, text: &RefutationText, strict: bool) -> Result<(), PlainRefused>
     requires problem { IsTyped problem.now }
     requires room { length text.now.witnesses + length text.now.lines < 2 ^ 64 }
-    ensures accepted { OnOk result (IsAccepted (scope_of problem.now.declared) (start problem.now)
+    ensures accepted { OnOk result (IsAcceptedBy strict (scope_of problem.now.declared) (start problem.now)
         (numbered_refutation (names_of problem.now.declared.bases problem.now.declared.consts) (the_text text.now))) }
-    ensures refused { IfErr result (λ e. IfRefused e (FirstFailure (scope_of problem.now.declared) (start problem.now)
+    ensures refused { IfErr result (λ e. IfRefused e (FailsFirst strict (scope_of problem.now.declared) (start problem.now)
         (numbered_refutation (names_of problem.now.declared.bases problem.now.declared.consts) (the_text text.now)))) }
 {
-    check_over(alloc, &problem.signature, problem, text)
+    check_over(alloc, &problem.signature, problem, text, strict)
 }
 
 /// Whether the text's refutation is accepted for the start of the problem as it stands, whatever definitions the text names. Answers the
 /// first line that fails otherwise, by its number in the file of the text.
-fn check_plain(alloc: Global, problem: &Problem, text: &RefutationText) -> Result<(), CheckRefused>
+fn check_plain(alloc: Global, problem: &Problem, text: &RefutationText, strict: bool) -> Result<(), CheckRefused>
     requires problem { IsTyped problem.now }
     requires lines { text.now.first + length text.now.witnesses + length text.now.lines < 2 ^ 64 }
-    ensures accepted { OnOk result (IsAccepted (scope_of problem.now.declared) (start problem.now)
+    ensures accepted { OnOk result (IsAcceptedBy strict (scope_of problem.now.declared) (start problem.now)
         (numbered_refutation (names_of problem.now.declared.bases problem.now.declared.consts) (the_text text.now))) }
-    ensures refused { IfErr result (λ e. IfLine e (FailsAt (scope_of problem.now.declared) (start problem.now)
+    ensures refused { IfErr result (λ e. IfLine e (FailsFirstAt strict (scope_of problem.now.declared) (start problem.now)
         (numbered_refutation (names_of problem.now.declared.bases problem.now.declared.consts) (the_text text.now)) text.now.first)) }
 {
-    match check_text(alloc, problem, text) {
+    match check_text(alloc, problem, text, strict) {
         Ok(()) => Ok(()),
         Err(PlainRefused::Refused { line, why }) => Err(CheckRefused::Line {
             line: text.first + line,
@@ -222,17 +234,39 @@ fn check_unfolded(
     alloc: Global,
     problem: &Problem,
     text: &RefutationText,
+    strict: bool,
 ) -> Result<(), CheckRefused>
     requires problem { IsTyped problem.now }
     requires numbered { IsNumberedText text.now }
     requires named { 0 < length text.now.names }
     requires lines { text.now.first + length text.now.witnesses + length text.now.lines < 2 ^ 64 }
-    ensures accepted { OnOk result (IsAcceptedFor problem.now (the_text text.now)) }
-    ensures refused { IfErr result (λ e. IfLine e (TextFailsAt problem.now (the_text text.now) text.now.first)) }
+    ensures accepted { OnOk result (IsTextAccepted strict problem.now (the_text text.now)) }
+    ensures refused { IfErr result (λ e. IfLine e (TextFailsFirst strict problem.now (the_text text.now) text.now.first)) }
 {
     check_definitions(alloc, problem, text)?;
     let unfolded = unfold_problem(alloc, problem)?;
-    check_plain(alloc, &unfolded, text)
+    check_plain(alloc, &unfolded, text, strict)
+}
+
+/// Whether the text is accepted for the problem, or strictly accepted. Answers the first line that fails otherwise.
+fn check_by(
+    alloc: Global,
+    problem: &Problem,
+    text: &RefutationText,
+    strict: bool,
+) -> Result<(), CheckRefused>
+    requires problem { IsTyped problem.now }
+    requires numbered { IsNumberedText text.now }
+    requires lines { text.now.first + length text.now.witnesses + length text.now.lines < 2 ^ 64 }
+    ensures accepted { OnOk result (IsTextAccepted strict problem.now (the_text text.now)) }
+    ensures refused { IfErr result (λ e. IfLine e (TextFailsFirst strict problem.now (the_text text.now) text.now.first)) }
+    ensures refused_only { IfErr result (λ e. IfLine e (λ _ _. IsTextAccepted strict problem.now (the_text text.now) → ⊥)) }
+{
+    if text.names.len() == 0 {
+        check_plain(alloc, problem, text, strict)
+    } else {
+        check_unfolded(alloc, problem, text, strict)
+    }
 }
 
 /// Whether the text is an accepted refutation of the problem, over the names that it declares. Answers the first line that fails
@@ -249,9 +283,22 @@ pub fn check_refutation(
     ensures refused { IfErr result (λ e. IfLine e (TextFailsAt problem.now (the_text text.now) text.now.first)) }
     ensures refused_only { IfErr result (λ e. IfLine e (λ _ _. IsAcceptedFor problem.now (the_text text.now) → ⊥)) }
 {
-    if text.names.len() == 0 {
-        check_plain(alloc, problem, text)
-    } else {
-        check_unfolded(alloc, problem, text)
-    }
+    check_by(alloc, problem, text, false)
+}
+
+/// Whether the text is an accepted refutation of the problem without cuts. Answers the first line that fails otherwise, by its number in the
+/// file of the text.
+pub fn check_strict(
+    alloc: Global,
+    problem: &Problem,
+    text: &RefutationText,
+) -> Result<(), CheckRefused>
+    requires problem { IsTyped problem.now }
+    requires numbered { IsNumberedText text.now }
+    requires lines { text.now.first + length text.now.witnesses + length text.now.lines < 2 ^ 64 }
+    ensures accepted { OnOk result (IsStrictlyAcceptedFor problem.now (the_text text.now)) }
+    ensures refused { IfErr result (λ e. IfLine e (TextFailsStrictlyAt problem.now (the_text text.now) text.now.first)) }
+    ensures refused_only { IfErr result (λ e. IfLine e (λ _ _. IsStrictlyAcceptedFor problem.now (the_text text.now) → ⊥)) }
+{
+    check_by(alloc, problem, text, true)
 }

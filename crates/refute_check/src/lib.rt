@@ -18,8 +18,9 @@ mod same;
 mod seen;
 mod shared;
 mod start;
+mod strict;
 mod taking;
 
-pub use check::check_refutation;
+pub use check::{check_refutation, check_strict};
 pub use law::{accepted_texts_refute, one_refusal, unfolded_start};
 pub use refusal::CheckRefused;

@@ -1,6 +1,7 @@
-use Rattle.std.proofs.Common.{◌≡◌, [], map, take}
+use Rattle.std.proofs.Common.{◌≡◌, true, [], map, take}
 use Rattle.tableau_calculus.specs.Witnesses.{with_rows}
 use Rattle.tableau_calculus.specs.Accepted.{AreRightLines}
+use Rattle.tableau_calculus.specs.CutFree.{HasNoCut}
 use Rattle.refute_print.specs.TextView.{the_line}
 use Rattle.refute_check.specs.Numbered.{numbered_row, numbered_line}
 use Rattle.refute_check.specs.Internal.Branches.{Grow, AreBranches}
@@ -16,3 +17,4 @@ invariant-loop-i l =
     × AreBranches (shared_atoms l.shared) lines l.lines.branches.items
     × AreRightLines (with_rows (declared_in l.fn.shared) rows) rows [] lines
     × IsSeen l.numbering l.shared l.seen
+    × (l.strict ≡ true → HasNoCut lines)

@@ -2,10 +2,10 @@ use Rattle.std.proofs.Common.{[], subst}
 use Rattle.stt_core.specs.Typing.{Scope}
 use Rattle.stt_core.specs.ScopeView.{the_scope}
 use Rattle.tableau_calculus.specs.Start.{start}
-use Rattle.tableau_calculus.specs.Accepted.{IsAccepted, FirstFailure}
 use Rattle.refute_print.specs.TextView.{the_text}
 use Rattle.refute_print.specs.Named.{Names, names_of}
 use Rattle.refute_check.specs.Numbered.{numbered_refutation}
+use Rattle.refute_check.specs.Internal.Strictly.{IsAcceptedBy, FailsFirst}
 use Rattle.refute_check.proofs.CheckLaws.{if_place, if_ok}
 use Rattle.refute_check.proofs.check.check_over.Goals as goal
 
@@ -15,8 +15,8 @@ returns-clause-accepted c =
     let t = the_text c.args.text.now in
     let names = c.in_ok-numbering.numbering in
     if_ok c.check_with-checked.result
-    (λ h. subst (λ (n : Names). IsAccepted (the_scope c.args.sig.now []) begin (numbered_refutation n t)) c.in_ok-numbering.ensures
-    (subst (λ (x : Scope). IsAccepted x begin (numbered_refutation names t)) c.in_ok-shared.ensures.declared h))
+    (λ h. subst (λ (n : Names). IsAcceptedBy c.args.strict (the_scope c.args.sig.now []) begin (numbered_refutation n t)) c.in_ok-numbering.ensures
+    (subst (λ (x : Scope). IsAcceptedBy c.args.strict x begin (numbered_refutation names t)) c.in_ok-shared.ensures.declared h))
     c.check_with-checked.ensures.accepted
 
 pub returns-clause-refused : goal.returns-clause-refused
@@ -24,7 +24,7 @@ returns-clause-refused c =
     let begin = start c.args.problem.now in
     let t = the_text c.args.text.now in
     let names = c.in_ok-numbering.numbering in
-    if_place c.check_with-checked.result _ (FirstFailure (the_scope c.args.sig.now []) begin (numbered_refutation (names_of c.args.sig.now.bases c.args.sig.now.consts) t))
-    (λ place why h. subst (λ (n : Names). FirstFailure (the_scope c.args.sig.now []) begin (numbered_refutation n t) place why) c.in_ok-numbering.ensures
-    (subst (λ (x : Scope). FirstFailure x begin (numbered_refutation names t) place why) c.in_ok-shared.ensures.declared h))
+    if_place c.check_with-checked.result _ (FailsFirst c.args.strict (the_scope c.args.sig.now []) begin (numbered_refutation (names_of c.args.sig.now.bases c.args.sig.now.consts) t))
+    (λ place why h. subst (λ (n : Names). FailsFirst c.args.strict (the_scope c.args.sig.now []) begin (numbered_refutation n t) place why) c.in_ok-numbering.ensures
+    (subst (λ (x : Scope). FailsFirst c.args.strict x begin (numbered_refutation names t) place why) c.in_ok-shared.ensures.declared h))
     c.check_with-checked.ensures.refused

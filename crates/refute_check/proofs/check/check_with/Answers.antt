@@ -1,9 +1,9 @@
 use Rattle.std.proofs.Common.{subst, ◌∙◌}
 use Rattle.stt_core.specs.Typing.{Scope}
 use Rattle.tableau_calculus.specs.Start.{start}
-use Rattle.tableau_calculus.specs.Accepted.{IsAccepted, FirstFailure}
 use Rattle.refute_print.specs.TextView.{the_text}
 use Rattle.refute_check.specs.Numbered.{numbered_refutation}
+use Rattle.refute_check.specs.Internal.Strictly.{IsAcceptedBy, FailsFirst}
 use Rattle.refute_check.specs.Internal.Shared.{declared_in}
 use Rattle.refute_check.proofs.CheckLaws.{if_place, if_ok}
 use Rattle.refute_check.proofs.SharedLaws.{extends_declared, extends_rows}
@@ -18,7 +18,7 @@ returns-clause-accepted c =
     let r = numbered_refutation c.args.numbering.now (the_text c.args.text.now) in
     let same = extends_declared c.args.shared.now c.start.new.self c.in_ok-start.ensures.extends in
     if_ok c.check_from.result
-    (λ h. subst (λ (x : Scope). IsAccepted x begin r) same (h begin c.in_ok-start.ensures.set c.in_ok-start.ensures.numbered))
+    (λ h. subst (λ (x : Scope). IsAcceptedBy c.args.strict x begin r) same (h begin c.in_ok-start.ensures.set c.in_ok-start.ensures.numbered))
     c.check_from.ensures.accepted
 
 pub returns-clause-refused : goal.returns-clause-refused
@@ -26,6 +26,6 @@ returns-clause-refused c =
     let begin = start c.args.problem.now in
     let r = numbered_refutation c.args.numbering.now (the_text c.args.text.now) in
     let same = extends_declared c.args.shared.now c.start.new.self c.in_ok-start.ensures.extends in
-    if_place c.check_from.result _ (FirstFailure (declared_in c.args.shared.now) begin r)
-    (λ place why h. subst (λ (x : Scope). FirstFailure x begin r place why) same (h begin c.in_ok-start.ensures.set c.in_ok-start.ensures.numbered))
+    if_place c.check_from.result _ (FailsFirst c.args.strict (declared_in c.args.shared.now) begin r)
+    (λ place why h. subst (λ (x : Scope). FailsFirst c.args.strict x begin r place why) same (h begin c.in_ok-start.ensures.set c.in_ok-start.ensures.numbered))
     c.check_from.ensures.refused
