@@ -14,7 +14,7 @@ use Rattle.tableau_calculus.specs.Kinds.{formulas}
 use Rattle.search_spec.proofs.NamingLaws.{StandFor, each-joined, has-mapped, added-mapped}
 use Rattle.search_spec.proofs.UnsatLaws.{numbers_stand}
 use Rattle.rebuild_spec.specs.Input.{literals_of}
-use Rattle.plain_tableau.specs.Trees.{TreeInstance, PlainTree, closed, node, PlainTrees, none, more, node_count, node_count_all}
+use Rattle.plain_tableau.specs.Trees.{TreeInstance, PlainTree, closed, node, PlainTrees, none, more, nodes_in, nodes_in_all}
 use Rattle.plain_tableau.specs.Expansion.{is_closed_branch, has_all, is_due, next_due, Expanded, found, open_at, over, put_under, put_before, Expands, closes, stays_open, is_over, makes, ExpandEach, no_more, open_below, over_below, goes_on, first_clash, closing, Expansion, at_once, not_at_once, grows}
 use Rattle.plain_tableau.specs.Carried.{instance_in, tree_in, trees_in, result_in, IsNumberedInstance, NumbersExpandAsFormulas}
 
@@ -82,11 +82,11 @@ module _ (atoms : List Lambda) (apart : AreApart atoms) where
   added_same b ls gb gl = sym (added-mapped numbers formulas Good d (numbers_stand atoms apart) b ls gb gl)
 
   mutual
-    size_same : (t : PlainTree SatLit) → node_count (tree_in atoms t) ≡ node_count t
+    size_same : (t : PlainTree SatLit) → nodes_in (tree_in atoms t) ≡ nodes_in t
     size_same closed = refl
     size_same (node i b ts) = ap suc (sizes_same ts)
 
-    sizes_same : (ts : PlainTrees SatLit) → node_count_all (trees_in atoms ts) ≡ node_count_all ts
+    sizes_same : (ts : PlainTrees SatLit) → nodes_in_all (trees_in atoms ts) ≡ nodes_in_all ts
     sizes_same none = refl
     sizes_same (more t ts) = ap₂ (λ x y. x + y) (size_same t) (sizes_same ts)
 
@@ -122,7 +122,7 @@ module _ (atoms : List Lambda) (apart : AreApart atoms) where
           over_below made (map d b) (map d a) (map (map d) bs) (subst (λ c. Expands formulas used_in limit made c over) (added_same b a g ga.0) (carried made (added numbers b a) over (added_good b a g ga.0) e))
       carried_each made b as' r g ga (goes_on m c a bs t q e each) =
           let first = subst (λ c. Expands formulas used_in limit made c (found (tree_in atoms t))) (added_same b a g ga.0) (carried made (added numbers b a) (found t) (added_good b a g ga.0) e) in
-          let rest = subst (λ n. ExpandEach formulas used_in limit (made + n) (map d b) (map (map d) bs) (results_in atoms q)) (sym (size_same t)) (carried_each (made + node_count t) b bs q g ga.1 each) in
+          let rest = subst (λ n. ExpandEach formulas used_in limit (made + n) (map d b) (map (map d) bs) (results_in atoms q)) (sym (size_same t)) (carried_each (made + nodes_in t) b bs q g ga.1 each) in
           subst (ExpandEach formulas used_in limit made (map d b) (map (map d) (a ∷ bs))) (before_same t q) (goes_on made (map d b) (map d a) (map (map d) bs) (tree_in atoms t) (results_in atoms q) first rest)
 
     pub expansion_carried : (start : List SatLit) (r : Expanded SatLit (PlainTree SatLit)) → Each Good start → Expansion numbers used limit start r → Expansion formulas used_in limit (map d start) (result_in atoms r)

@@ -12,7 +12,7 @@ use Rattle.sat_base.specs.declared.literal.SatLit.{SatLit}
 use Rattle.tableau_calculus.specs.Kinds.{added}
 use Rattle.search_spec.specs.Numbered.{numbers}
 use Rattle.rebuild_spec.specs.Stands.{rule_at_places, place_in}
-use Rattle.plain_tableau.specs.Trees.{TreeInstance, PlainTree, closed, node, PlainTrees, none, more, node_count}
+use Rattle.plain_tableau.specs.Trees.{TreeInstance, PlainTree, closed, node, PlainTrees, none, more, nodes_in}
 use Rattle.plain_tableau.specs.Lines.{tree_children, node_line, tree_lines, tree_lines_all}
 use Rattle.tableau_calculus.specs.CutFree.{is_cut_use}
 use Rattle.tableau_calculus.specs.CutFree.{HasNoCut}
@@ -84,4 +84,4 @@ module _ (scope : Scope) (rows : List Row) (atoms : List Lambda) where
     none_cut : (n : ℕ) (ts : PlainTrees SatLit) (as' : List (List SatLit)) (b : List SatLit) → AreGrown scope rows atoms ts as' b → HasNoCut (tree_lines_all atoms n ts)
     none_cut n none as' b h = All-nil (λ (l : Line). is_cut_use l.rule ≡ false)
     none_cut n (more t ts) [] b h = absurd h
-    none_cut n (more t ts) (a ∷ as') b h = All-append (λ (l : Line). is_cut_use l.rule ≡ false) (tree_lines atoms n t) (tree_lines_all atoms (n + node_count t) ts) (no_cut n t (added numbers b a) h.0) (none_cut (n + node_count t) ts as' b h.1)
+    none_cut n (more t ts) (a ∷ as') b h = All-append (λ (l : Line). is_cut_use l.rule ≡ false) (tree_lines atoms n t) (tree_lines_all atoms (n + nodes_in t) ts) (no_cut n t (added numbers b a) h.0) (none_cut (n + nodes_in t) ts as' b h.1)

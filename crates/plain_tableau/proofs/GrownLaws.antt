@@ -13,19 +13,19 @@ use Rattle.sat_base.proofs.LiteralLaws.{same_literal-refl}
 use Rattle.tableau_calculus.specs.Kinds.{added}
 use Rattle.search_spec.specs.Numbered.{numbers, literal_at}
 use Rattle.rebuild_spec.proofs.LiteralLaws.{held_in}
-use Rattle.plain_tableau.specs.Trees.{TreeInstance, PlainTree, closed, node, PlainTrees, none, more, node_count, node_count_all}
+use Rattle.plain_tableau.specs.Trees.{TreeInstance, PlainTree, closed, node, PlainTrees, none, more, nodes_in, nodes_in_all}
 use Rattle.plain_tableau.specs.Expansion.{is_closed_branch, has_all, is_due, next_due, Expanded, found, open_at, over, put_under, put_before, Expands, closes, stays_open, is_over, makes, ExpandEach, no_more, open_below, over_below, goes_on, first_clash, closing, Expansion, at_once, not_at_once, grows}
 use Rattle.plain_tableau.specs.Given.{IsGivenInstance}
 use Rattle.plain_tableau.proofs.ListLaws.{first_passes, none_passes}
 
 module _ (limit : ℕ) where
   abbrev IsWithin : ℕ → Expanded SatLit (PlainTree SatLit) → Type 0
-  IsWithin made (found t) = made + node_count t ≤ limit
+  IsWithin made (found t) = made + nodes_in t ≤ limit
   IsWithin made (open_at b) = Unit {0}
   IsWithin made over = Unit {0}
 
   abbrev AreWithin : ℕ → Expanded SatLit (PlainTrees SatLit) → Type 0
-  AreWithin made (found ts) = made + node_count_all ts ≤ limit
+  AreWithin made (found ts) = made + nodes_in_all ts ≤ limit
   AreWithin made (open_at b) = Unit {0}
   AreWithin made over = Unit {0}
 
@@ -34,7 +34,7 @@ module _ (limit : ℕ) where
   node_within made i b (open_at c) h = tt
   node_within made i b over h = tt
 
-  first_within : (made : ℕ) (t : PlainTree SatLit) (r : Expanded SatLit (PlainTrees SatLit)) → AreWithin (made + node_count t) r → AreWithin made (put_before t r)
+  first_within : (made : ℕ) (t : PlainTree SatLit) (r : Expanded SatLit (PlainTrees SatLit)) → AreWithin (made + nodes_in t) r → AreWithin made (put_before t r)
   first_within made t (found ts) h = omega (arith, h)
   first_within made t (open_at c) h = tt
   first_within made t over h = tt
@@ -51,8 +51,8 @@ module _ (limit : ℕ) where
     each_within used made b as' r (open_below m c a bs d e) h = tt
     each_within used made b as' r (over_below m c a bs e) h = tt
     each_within used made b as' r (goes_on m c a bs t q e each) h =
-        let first : made + node_count t ≤ limit = expands_within used made (added numbers b a) (found t) e h in
-        first_within made t q (each_within used (made + node_count t) b bs q each first)
+        let first : made + nodes_in t ≤ limit = expands_within used made (added numbers b a) (found t) e h in
+        first_within made t q (each_within used (made + nodes_in t) b bs q each first)
 
   pub tree_within : (used : List (TreeInstance SatLit)) (start : List SatLit) (r : Expanded SatLit (PlainTree SatLit)) → Expansion numbers used limit start r → IsWithin 0 r
   tree_within used start r (at_once l e h) = omega (arith, h)
@@ -107,7 +107,7 @@ module _ (scope : Scope) (rows : List Row) (atoms : List Lambda) where
       each_grown made b as' r (no_more m c) = tt
       each_grown made b as' r (open_below m c a bs d e) = tt
       each_grown made b as' r (over_below m c a bs e) = tt
-      each_grown made b as' r (goes_on m c a bs t q e each) = first_grown b a bs t q (expands_grown made (added numbers b a) (found t) e) (each_grown (made + node_count t) b bs q each)
+      each_grown made b as' r (goes_on m c a bs t q e each) = first_grown b a bs t q (expands_grown made (added numbers b a) (found t) e) (each_grown (made + nodes_in t) b bs q each)
 
     -- a tree that an expansion comes to is a node, and closes the start
     pub record IsWhole (start : List SatLit) (t : PlainTree SatLit) : Type 0 where

@@ -17,7 +17,7 @@ use Rattle.rebuild_spec.specs.Input.{literals_of}
 use Rattle.rebuild_spec.specs.Stands.{rule_at_places, place_in}
 use Rattle.rebuild_spec.proofs.FlatLaws.{typed_branch}
 use Rattle.rebuild_spec.proofs.PlacedLaws.{fits_typed, instance_placed}
-use Rattle.plain_tableau.specs.Trees.{TreeInstance, PlainTree, closed, node, PlainTrees, none, more, node_count, node_count_all}
+use Rattle.plain_tableau.specs.Trees.{TreeInstance, PlainTree, closed, node, PlainTrees, none, more, nodes_in, nodes_in_all}
 use Rattle.plain_tableau.specs.Lines.{tree_child, tree_children, node_line, tree_lines, tree_lines_all}
 use Rattle.plain_tableau.specs.Given.{IsGivenInstance}
 use Rattle.plain_tableau.proofs.ListLaws.{get_middle}
@@ -27,18 +27,18 @@ use Rattle.plain_tableau.proofs.GrownLaws.{IsGrown, AreGrown}
 module _ (atoms : List Lambda) where
   mutual
     -- a tree has a line for each node
-    pub count : (n : ℕ) (t : PlainTree SatLit) → length (tree_lines atoms n t) ≡ node_count t
+    pub count : (n : ℕ) (t : PlainTree SatLit) → length (tree_lines atoms n t) ≡ nodes_in t
     count n closed = refl
     count n (node i b ts) =
         let rest = count_all n ts in
         length-append (tree_lines_all atoms n ts) (node_line atoms i b (tree_children n ts) ∷ []) ∙ omega (arith, rest)
 
-    pub count_all : (n : ℕ) (ts : PlainTrees SatLit) → length (tree_lines_all atoms n ts) ≡ node_count_all ts
+    pub count_all : (n : ℕ) (ts : PlainTrees SatLit) → length (tree_lines_all atoms n ts) ≡ nodes_in_all ts
     count_all n none = refl
     count_all n (more t ts) =
-        length-append (tree_lines atoms n t) (tree_lines_all atoms (n + node_count t) ts) ∙ ap₂ (λ x y. x + y) (count n t) (count_all (n + node_count t) ts)
+        length-append (tree_lines atoms n t) (tree_lines_all atoms (n + nodes_in t) ts) ∙ ap₂ (λ x y. x + y) (count n t) (count_all (n + nodes_in t) ts)
 
-  pub count_behind : (front : List Line) (n : ℕ) (t : PlainTree SatLit) → length front ≡ n → length (front ++ tree_lines atoms n t) ≡ n + node_count t
+  pub count_behind : (front : List Line) (n : ℕ) (t : PlainTree SatLit) → length front ≡ n → length (front ++ tree_lines atoms n t) ≡ n + nodes_in t
   count_behind front n t e = length-append front (tree_lines atoms n t) ∙ ap₂ (λ x y. x + y) e (count n t)
 
 -- right lines behind right lines
@@ -49,15 +49,15 @@ right-append scope rows earlier (l ∷ front) back h k =
 
 module _ (scope : Scope) (rows : List Row) (atoms : List Lambda) where
   -- the line of a node closes what its branch is within
-  node_closes : (front : List Line) (n : ℕ) → length front ≡ n → (i : TreeInstance SatLit) (b : List SatLit) (ts : PlainTrees SatLit) (back : List Line) (branch : List Literal) → Within (literals_of atoms b) branch → ClosesBy (front ++ (tree_lines atoms n (node i b ts) ++ back)) branch (Numbered (n + node_count_all ts))
+  node_closes : (front : List Line) (n : ℕ) → length front ≡ n → (i : TreeInstance SatLit) (b : List SatLit) (ts : PlainTrees SatLit) (back : List Line) (branch : List Literal) → Within (literals_of atoms b) branch → ClosesBy (front ++ (tree_lines atoms n (node i b ts) ++ back)) branch (Numbered (n + nodes_in_all ts))
   node_closes front n e i b ts back branch within =
       let before = front ++ tree_lines_all atoms n ts in
       let line = node_line atoms i b (tree_children n ts) in
-      let counted : length before ≡ n + node_count_all ts = length-append front (tree_lines_all atoms n ts) ∙ ap₂ (λ x y. x + y) e (count_all atoms n ts) in
-      let there : slice_get (before ++ line ∷ back) (n + node_count_all ts) ≡ Some line = get_middle before line back (n + node_count_all ts) counted in
+      let counted : length before ≡ n + nodes_in_all ts = length-append front (tree_lines_all atoms n ts) ∙ ap₂ (λ x y. x + y) e (count_all atoms n ts) in
+      let there : slice_get (before ++ line ∷ back) (n + nodes_in_all ts) ≡ Some line = get_middle before line back (n + nodes_in_all ts) counted in
       let same : before ++ line ∷ back ≡ front ++ (tree_lines atoms n (node i b ts) ++ back) =
       append_assoc front (tree_lines_all atoms n ts) (line ∷ back) ∙ ap (λ ls. front ++ ls) (sym (append_assoc (tree_lines_all atoms n ts) (line ∷ []) back)) in
-      (line, subst (λ ls. slice_get ls (n + node_count_all ts) ≡ Some line) same there, within)
+      (line, subst (λ ls. slice_get ls (n + nodes_in_all ts) ≡ Some line) same there, within)
 
   child_closes : (front : List Line) (n : ℕ) → length front ≡ n → (t : PlainTree SatLit) (back : List Line) (a b : List SatLit) → IsGrown scope rows atoms t (added numbers b a) → ClosesBy (front ++ (tree_lines atoms n t ++ back)) (literals_of atoms a ++ literals_of atoms b) (tree_child n t)
   child_closes front n e closed back a b h = added_closes atoms b a h
@@ -70,7 +70,7 @@ module _ (scope : Scope) (rows : List Row) (atoms : List Lambda) where
   children_close front n e none (a ∷ as') back b h = absurd h
   children_close front n e (more t ts) [] back b h = absurd h
   children_close front n e (more t ts) (a ∷ as') back b h =
-      let m = n + node_count t in
+      let m = n + nodes_in t in
       let first = tree_lines atoms n t in
       let rest = tree_lines_all atoms m ts in
       let all = front ++ ((first ++ rest) ++ back) in
@@ -103,4 +103,4 @@ module _ (scope : Scope) (rows : List Row) (atoms : List Lambda) where
       all_lines_right front n e none as' b h = tt
       all_lines_right front n e (more t ts) [] b h = absurd h
       all_lines_right front n e (more t ts) (a ∷ as') b h =
-          right-append scope rows front (tree_lines atoms n t) (tree_lines_all atoms (n + node_count t) ts) (lines_right front n e t (added numbers b a) h.0) (all_lines_right (front ++ tree_lines atoms n t) (n + node_count t) (count_behind atoms front n t e) ts as' b h.1)
+          right-append scope rows front (tree_lines atoms n t) (tree_lines_all atoms (n + nodes_in t) ts) (lines_right front n e t (added numbers b a) h.0) (all_lines_right (front ++ tree_lines atoms n t) (n + nodes_in t) (count_behind atoms front n t e) ts as' b h.1)

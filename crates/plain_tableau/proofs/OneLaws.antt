@@ -1,7 +1,7 @@
 -- An expansion comes to one thing at most.
 use Rattle.std.proofs.Common.{◌≡◌, ◌+◌, ◌<◌, ◌≤◌, ℕ, suc, Bool, true, false, List, [], ◌∷◌, Option, Some, None, refl, sym, ap, ap₂, ◌∙◌, subst, arith}
 use Rattle.tableau_calculus.specs.Kinds.{Kind, added}
-use Rattle.plain_tableau.specs.Trees.{TreeInstance, PlainTree, closed, node, PlainTrees, none, more, node_count}
+use Rattle.plain_tableau.specs.Trees.{TreeInstance, PlainTree, closed, node, PlainTrees, none, more, nodes_in}
 use Rattle.plain_tableau.specs.Expansion.{is_closed_branch, next_due, Expanded, found, open_at, over, put_under, put_before, Expands, closes, stays_open, is_over, makes, ExpandEach, no_more, open_below, over_below, goes_on, first_clash, closing, Expansion, at_once, not_at_once, grows}
 use Rattle.plain_tableau.specs.Laws.{OneExpansion}
 
@@ -50,7 +50,7 @@ module _ {L : Type 0} (kind : Kind L) (used : List (TreeInstance L)) (limit : �
     one_each made b as' r q (goes_on m c a cs u v e all) (goes_on n d k ds t s f each) =
         let whole = one made (added kind b a) (found u) (found t) e f in
         let same : t ≡ u = cc in
-        let rest : v ≡ s = one_each (made + node_count u) b cs v s all (subst (λ x. ExpandEach kind used limit (made + node_count x) b cs s) same each) in
+        let rest : v ≡ s = one_each (made + nodes_in u) b cs v s all (subst (λ x. ExpandEach kind used limit (made + nodes_in x) b cs s) same each) in
         ap₂ put_before (sym same) rest
 
 expansion_one : {L : Type 0} (kind : Kind L) (used : List (TreeInstance L)) (limit : ℕ) (start : List L) (r q : Expanded L (PlainTree L)) → Expansion kind used limit start r → Expansion kind used limit start q → r ≡ q

@@ -40,7 +40,7 @@ use Rattle.small_rebuilt.proofs.RangeLaws.{in_range_small}
 use Rattle.tableau_rebuild.specs.Tables.{no_literal, no_instance, atoms_at, the_instance, sourced, the_input}
 use Rattle.tableau_rebuild.specs.Conditions.{IsInstanceOver}
 use Rattle.tableau_rebuild.specs.UsedInstances.{IsUsedInstance}
-use Rattle.plain_tableau.specs.Trees.{TreeInstance, PlainTree, closed, node, PlainTrees, none, more, node_count}
+use Rattle.plain_tableau.specs.Trees.{TreeInstance, PlainTree, closed, node, PlainTrees, none, more, nodes_in}
 use Rattle.plain_tableau.specs.Expansion.{is_due, Expanded, found, open_at, over, put_under, put_before, Expands, closes, stays_open, is_over, makes, ExpandEach, no_more, open_below, over_below, goes_on, closing, Expansion, at_once, not_at_once, grows}
 use Rattle.plain_tableau.specs.Lines.{node_line, tree_children, tree_lines, tree_lines_all, IsOfTree}
 use Rattle.plain_tableau.specs.Small.{HasSmallAtom, AddsSmall, TreeTermsAreSmall}
@@ -263,7 +263,7 @@ module _ (atoms : List Lambda) where
       each_small made b as' r (open_below m c a bs d e) h k = tt
       each_small made b as' r (over_below m c a bs e) h k = tt
       each_small made b as' r (goes_on m c a bs t q e each) h k =
-          first_small t q (expands_small made (added numbers b a) (found t) e (added_each Small b a h k.0)) (each_small (made + node_count t) b bs q each h k.1)
+          first_small t q (expands_small made (added numbers b a) (found t) e (added_each Small b a h k.0)) (each_small (made + nodes_in t) b bs q each h k.1)
 
     expansion_small : (start : List SatLit) (r : Expanded SatLit (PlainTree SatLit)) → Expansion numbers used limit start r → Each Small start → SmallTo r
     expansion_small start r (at_once l e b) h = (h, tt, tt)
@@ -286,7 +286,7 @@ module _ (atoms : List Lambda) where
     lines_all_small : (n : ℕ) (ts : PlainTrees SatLit) → AreSmallTrees ts → AllByRecursion HasSmallParts (tree_lines_all atoms n ts)
     lines_all_small n none h = tt
     lines_all_small n (more t ts) h =
-        all_joined HasSmallParts (tree_lines atoms n t) (tree_lines_all atoms (n + node_count t) ts) (lines_small n t h.0) (lines_all_small (n + node_count t) ts h.1)
+        all_joined HasSmallParts (tree_lines atoms n t) (tree_lines_all atoms (n + nodes_in t) ts) (lines_small n t h.0) (lines_all_small (n + nodes_in t) ts h.1)
 
 pub tree_terms_small : TreeTermsAreSmall
 tree_terms_small rows atoms used limit start t refutation rows_small add start_small e is =

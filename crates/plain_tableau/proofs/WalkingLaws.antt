@@ -8,7 +8,7 @@ use Rattle.tableau_calculus.specs.declared.refutation.Line.{Line}
 use Rattle.sat_base.specs.declared.literal.SatLit.{SatLit}
 use Rattle.tableau_calculus.specs.Kinds.{added}
 use Rattle.search_spec.specs.Numbered.{numbers}
-use Rattle.plain_tableau.specs.Trees.{TreeInstance, PlainTree, closed, node, PlainTrees, none, more, node_count, node_count_all}
+use Rattle.plain_tableau.specs.Trees.{TreeInstance, PlainTree, closed, node, PlainTrees, none, more, nodes_in, nodes_in_all}
 use Rattle.plain_tableau.specs.Expansion.{is_closed_branch, next_due, Expanded, found, open_at, over, put_under, put_before, Expands, closes, stays_open, is_over, makes, ExpandEach, no_more, open_below, over_below, goes_on}
 use Rattle.plain_tableau.specs.Lines.{tree_child, tree_children, node_line, tree_lines, tree_lines_all}
 use Rattle.plain_tableau.specs.declared.walk.Frame.{Frame}
@@ -16,7 +16,7 @@ use Rattle.plain_tableau.specs.Internal.Walking.{with_last, joined, trees_behind
 use Rattle.plain_tableau.proofs.LineLaws.{count_all}
 
 -- one tree more
-pub size_last : (ts : PlainTrees SatLit) (t : PlainTree SatLit) → node_count_all (with_last ts t) ≡ node_count_all ts + node_count t
+pub size_last : (ts : PlainTrees SatLit) (t : PlainTree SatLit) → nodes_in_all (with_last ts t) ≡ nodes_in_all ts + nodes_in t
 size_last none t = omega arith
 size_last (more s ts) t = let rest = size_last ts t in omega (arith, rest)
 
@@ -45,24 +45,24 @@ behind_none over = refl
 moved : (n k : ℕ) (ts : PlainTrees SatLit) → n ≡ k → tree_children n ts ≡ tree_children k ts
 moved n k ts e = ap (λ m. tree_children m ts) e
 
-pub children_last : (n : ℕ) (ts : PlainTrees SatLit) (t : PlainTree SatLit) → tree_children n (with_last ts t) ≡ tree_children n ts ++ tree_child (n + node_count_all ts) t ∷ []
+pub children_last : (n : ℕ) (ts : PlainTrees SatLit) (t : PlainTree SatLit) → tree_children n (with_last ts t) ≡ tree_children n ts ++ tree_child (n + nodes_in_all ts) t ∷ []
 children_last n none t = let e : n ≡ n + 0 = omega arith in ap (λ m. tree_child m t ∷ []) e
 children_last n (more s ts) t =
-    let e : (n + node_count s) + node_count_all ts ≡ n + (node_count s + node_count_all ts) = omega arith in
-    ap (λ cs. tree_child n s ∷ cs) (children_last (n + node_count s) ts t ∙ ap (λ m. tree_children (n + node_count s) ts ++ tree_child m t ∷ []) e)
+    let e : (n + nodes_in s) + nodes_in_all ts ≡ n + (nodes_in s + nodes_in_all ts) = omega arith in
+    ap (λ cs. tree_child n s ∷ cs) (children_last (n + nodes_in s) ts t ∙ ap (λ m. tree_children (n + nodes_in s) ts ++ tree_child m t ∷ []) e)
 
 pub children_count : (n : ℕ) (ts : PlainTrees SatLit) → length (tree_children n ts) ≡ count ts
 children_count n none = refl
-children_count n (more t ts) = ap suc (children_count (n + node_count t) ts)
+children_count n (more t ts) = ap suc (children_count (n + nodes_in t) ts)
 
-pub lines_last : (atoms : List Lambda) (n : ℕ) (ts : PlainTrees SatLit) (t : PlainTree SatLit) → tree_lines_all atoms n (with_last ts t) ≡ tree_lines_all atoms n ts ++ tree_lines atoms (n + node_count_all ts) t
+pub lines_last : (atoms : List Lambda) (n : ℕ) (ts : PlainTrees SatLit) (t : PlainTree SatLit) → tree_lines_all atoms n (with_last ts t) ≡ tree_lines_all atoms n ts ++ tree_lines atoms (n + nodes_in_all ts) t
 lines_last atoms n none t =
     let e : n ≡ n + 0 = omega arith in
     append-nil (tree_lines atoms n t) ∙ ap (λ m. tree_lines atoms m t) e
 lines_last atoms n (more s ts) t =
-    let e : (n + node_count s) + node_count_all ts ≡ n + (node_count s + node_count_all ts) = omega arith in
-    ap (λ ls. tree_lines atoms n s ++ ls) (lines_last atoms (n + node_count s) ts t ∙ ap (λ m. tree_lines_all atoms (n + node_count s) ts ++ tree_lines atoms m t) e)
-    ∙ sym (append_assoc (tree_lines atoms n s) (tree_lines_all atoms (n + node_count s) ts) (tree_lines atoms ((n + (node_count s + node_count_all ts))) t))
+    let e : (n + nodes_in s) + nodes_in_all ts ≡ n + (nodes_in s + nodes_in_all ts) = omega arith in
+    ap (λ ls. tree_lines atoms n s ++ ls) (lines_last atoms (n + nodes_in s) ts t ∙ ap (λ m. tree_lines_all atoms (n + nodes_in s) ts ++ tree_lines atoms m t) e)
+    ∙ sym (append_assoc (tree_lines atoms n s) (tree_lines_all atoms (n + nodes_in s) ts) (tree_lines atoms ((n + (nodes_in s + nodes_in_all ts))) t))
 
 drop_one : (n : ℕ) (xs : List (List SatLit)) (a : List SatLit) (as' : List (List SatLit)) → drop n xs ≡ a ∷ as' → drop (suc n) xs ≡ as'
 drop_one zero [] a as' e = cc
@@ -95,8 +95,8 @@ module _ (used : List (TreeInstance SatLit)) (limit : ℕ) where
   enter gs g a as' e (found t) r h back =
       let os = back.0 in
       let left : left_of (with_tree g t) ≡ as' = ap (λ n. drop n g.instance.alternatives) (count_last g.done t) ∙ drop_one (count g.done) g.instance.alternatives a as' e in
-      let made : suc (made_in gs + node_count_all (with_last g.done t)) ≡ made_in (g ∷ gs) + node_count t = let s = size_last g.done t in omega (arith, s) in
-      let each = subst (λ n. Each n g.branch as' os) made (subst (λ ls. Each (suc (made_in gs + node_count_all (with_last g.done t))) g.branch ls os) left back.1) in (
+      let made : suc (made_in gs + nodes_in_all (with_last g.done t)) ≡ made_in (g ∷ gs) + nodes_in t = let s = size_last g.done t in omega (arith, s) in
+      let each = subst (λ n. Each n g.branch as' os) made (subst (λ ls. Each (suc (made_in gs + nodes_in_all (with_last g.done t))) g.branch ls os) left back.1) in (
         put_before t os,
         subst (λ ls. Each (made_in (g ∷ gs)) g.branch ls (put_before t os)) (sym e) (goes_on (made_in (g ∷ gs)) g.branch a as' t os h each),
         subst (λ x. Returns used limit gs (put_under g.instance g.branch x) r) (behind_last g.done t os) back.2,

@@ -4,7 +4,7 @@ use Rattle.std.specs.Prelude.{◌≡◌, ◌+◌, ◌<◌, ◌≤◌, ◌&&◌, 
 use Rattle.std.specs.List.{list_any, list_all, position_or_len}
 use Rattle.tableau_calculus.specs.declared.refutation.RuleUse.TheVariants.{Close}
 use Rattle.tableau_calculus.specs.Kinds.{Kind, has, added}
-use Rattle.plain_tableau.specs.Trees.{TreeInstance, PlainTree, closed, node, PlainTrees, none, more, node_count}
+use Rattle.plain_tableau.specs.Trees.{TreeInstance, PlainTree, closed, node, PlainTrees, none, more, nodes_in}
 
 -- whether the branch holds a literal and its negation
 abbrev pub is_closed_branch : {L : Type 0} → Kind L → List L → Bool
@@ -53,7 +53,7 @@ mutual
     no_more : (made : ℕ) (branch : List L) → ExpandEach kind used limit made branch [] (found none)
     open_below : (made : ℕ) (branch a : List L) (as' : List (List L)) (b : List L) → Expands kind used limit made (added kind branch a) (open_at b) → ExpandEach kind used limit made branch (a ∷ as') (open_at b)
     over_below : (made : ℕ) (branch a : List L) (as' : List (List L)) → Expands kind used limit made (added kind branch a) over → ExpandEach kind used limit made branch (a ∷ as') over
-    goes_on : (made : ℕ) (branch a : List L) (as' : List (List L)) (t : PlainTree L) (r : Expanded L (PlainTrees L)) → Expands kind used limit made (added kind branch a) (found t) → ExpandEach kind used limit (made + node_count t) branch as' r → ExpandEach kind used limit made branch (a ∷ as') (put_before t r)
+    goes_on : (made : ℕ) (branch a : List L) (as' : List (List L)) (t : PlainTree L) (r : Expanded L (PlainTrees L)) → Expands kind used limit made (added kind branch a) (found t) → ExpandEach kind used limit (made + nodes_in t) branch as' r → ExpandEach kind used limit made branch (a ∷ as') (put_before t r)
 
 -- the first literal of the branch whose negation the branch holds too
 abbrev pub first_clash : {L : Type 0} → Kind L → List L → Option L

@@ -12,7 +12,7 @@ use Rattle.tableau_calculus.specs.Kinds.{Kind}
 use Rattle.search_spec.specs.Numbered.{numbers}
 use Rattle.rebuild_spec.specs.Input.{literals_of}
 use Rattle.rebuild_spec.specs.Trimmed.{IsEachReached}
-use Rattle.plain_tableau.specs.Trees.{TreeInstance, PlainTree, node_count}
+use Rattle.plain_tableau.specs.Trees.{TreeInstance, PlainTree, nodes_in}
 use Rattle.plain_tableau.specs.Expansion.{Expanded, found, Expansion}
 use Rattle.plain_tableau.specs.Lines.{IsOfTree}
 use Rattle.plain_tableau.specs.Given.{AreInstancesGiven}
@@ -47,7 +47,7 @@ abbrev pub TreeIsWithin : Type 0
 TreeIsWithin =
     (rows : List Row) (atoms : List Lambda) (used : List (TreeInstance SatLit)) (limit : ℕ) (start : List SatLit) (t : PlainTree SatLit) (refutation : Refutation)
     → Expansion numbers used limit start (found t) → IsOfTree atoms rows t refutation
-    → (length refutation.lines ≡ node_count t) × (node_count t ≤ limit)
+    → (length refutation.lines ≡ nodes_in t) × (nodes_in t ≤ limit)
 
 -- each line is reached from the last one
 abbrev pub TreeIsReached : Type 0

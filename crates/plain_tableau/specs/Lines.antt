@@ -10,16 +10,16 @@ use Rattle.sat_base.specs.declared.literal.SatLit.{SatLit}
 use Rattle.rebuild_spec.specs.Input.{literals_of}
 use Rattle.rebuild_spec.specs.Stands.{rule_at_places, place_in}
 use Rattle.rebuild_spec.specs.NeededRows.{rows_for_lines}
-use Rattle.plain_tableau.specs.Trees.{TreeInstance, PlainTree, closed, node, PlainTrees, none, more, node_count, node_count_all}
+use Rattle.plain_tableau.specs.Trees.{TreeInstance, PlainTree, closed, node, PlainTrees, none, more, nodes_in, nodes_in_all}
 
 -- the child that a tree is, where so many lines stand before its own: the last of these
 abbrev pub tree_child : ℕ → PlainTree SatLit → Child
 tree_child n closed = Closed
-tree_child n (node i branch ts) = Numbered (n + node_count_all ts)
+tree_child n (node i branch ts) = Numbered (n + nodes_in_all ts)
 
 abbrev pub tree_children : ℕ → PlainTrees SatLit → List Child
 tree_children n none = []
-tree_children n (more t ts) = tree_child n t ∷ tree_children (n + node_count t) ts
+tree_children n (more t ts) = tree_child n t ∷ tree_children (n + nodes_in t) ts
 
 -- the line of a node: its branch, its rule at the places of the principals, and its children
 abbrev pub node_line : List Lambda → TreeInstance SatLit → List SatLit → List Child → Line
@@ -34,7 +34,7 @@ abbrev mutual
 
   pub tree_lines_all : List Lambda → ℕ → PlainTrees SatLit → List Line
   tree_lines_all atoms n none = []
-  tree_lines_all atoms n (more t ts) = tree_lines atoms n t ++ tree_lines_all atoms (n + node_count t) ts
+  tree_lines_all atoms n (more t ts) = tree_lines atoms n t ++ tree_lines_all atoms (n + nodes_in t) ts
 
 -- The refutation is that of the tree: its lines are the tree's, and its rows those that they need.
 pub record IsOfTree (atoms : List Lambda) (rows : List Row) (t : PlainTree SatLit) (refutation : Refutation) : Type 0 where

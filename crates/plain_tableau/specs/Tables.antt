@@ -15,7 +15,7 @@ use Rattle.tableau_rules.specs.Uses.{is_cut}
 use Rattle.rebuild_spec.specs.Input.{Instance as TermInstance, literals_of}
 use Rattle.tableau_rebuild.specs.Tables.{the_instance, no_instance}
 use Rattle.tableau_rebuild.specs.Conditions.{IsInstanceOver}
-use Rattle.plain_tableau.specs.Trees.{TreeInstance, PlainTree, node_count}
+use Rattle.plain_tableau.specs.Trees.{TreeInstance, PlainTree, nodes_in}
 use Rattle.plain_tableau.specs.Expansion.{found, open_at, over, Expansion}
 use Rattle.plain_tableau.specs.Lines.{IsOfTree}
 use Rattle.plain_tableau.specs.declared.stripped.Stripped.{Stripped}
@@ -55,7 +55,7 @@ pub record IsUsable (b : Content) (atoms : List ℕ) (rows : List Row) (t : Tabl
 -- The answer is what comes of the expansion: the refutation of its tree with how many nodes it has, its first open branch, or that there
 -- would be more nodes than these.
 abbrev pub IsStripped : List Lambda → List Row → List (TreeInstance SatLit) → ℕ → List SatLit → Stripped → Type 0
-IsStripped atoms rows used limit start (Whole refutation n) = (t : PlainTree SatLit) × Expansion numbers used limit start (found t) × (n ≡ node_count t) × IsOfTree atoms rows t refutation
+IsStripped atoms rows used limit start (Whole refutation n) = (t : PlainTree SatLit) × Expansion numbers used limit start (found t) × (n ≡ nodes_in t) × IsOfTree atoms rows t refutation
 IsStripped atoms rows used limit start (Open branch) = (b : List SatLit) × Expansion numbers used limit start (open_at b) × (branch ≡ literals_of atoms b)
 IsStripped atoms rows used limit start (Over n) = Expansion numbers used limit start over × (n ≡ limit)
 

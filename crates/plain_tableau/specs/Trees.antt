@@ -20,10 +20,10 @@ mutual
 
 -- how many nodes there are
 abbrev mutual
-  pub node_count : {L : Type 0} → PlainTree L → ℕ
-  node_count closed = 0
-  node_count (node i branch ts) = suc (node_count_all ts)
+  pub nodes_in : {L : Type 0} → PlainTree L → ℕ
+  nodes_in closed = 0
+  nodes_in (node i branch ts) = suc (nodes_in_all ts)
 
-  pub node_count_all : {L : Type 0} → PlainTrees L → ℕ
-  node_count_all none = 0
-  node_count_all (more t ts) = node_count t + node_count_all ts
+  pub nodes_in_all : {L : Type 0} → PlainTrees L → ℕ
+  nodes_in_all none = 0
+  nodes_in_all (more t ts) = nodes_in t + nodes_in_all ts

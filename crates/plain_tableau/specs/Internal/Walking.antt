@@ -4,7 +4,7 @@ use Rattle.stt_core.specs.Lambda.{Lambda}
 use Rattle.tableau_calculus.specs.declared.refutation.Line.{Line}
 use Rattle.sat_base.specs.declared.literal.SatLit.{SatLit}
 use Rattle.search_spec.specs.Numbered.{numbers}
-use Rattle.plain_tableau.specs.Trees.{TreeInstance, PlainTree, closed, node, PlainTrees, none, more, node_count, node_count_all}
+use Rattle.plain_tableau.specs.Trees.{TreeInstance, PlainTree, closed, node, PlainTrees, none, more, nodes_in, nodes_in_all}
 use Rattle.plain_tableau.specs.Expansion.{is_closed_branch, Expanded, found, open_at, over, put_under, Expands, ExpandEach}
 use Rattle.plain_tableau.specs.Lines.{tree_children, tree_lines, tree_lines_all}
 use Rattle.plain_tableau.specs.declared.walk.Frame.{Frame}
@@ -45,7 +45,7 @@ left_of g = drop (count g.done) g.instance.alternatives
 -- how many nodes were made
 abbrev pub made_in : List Below → ℕ
 made_in [] = 0
-made_in (g ∷ gs) = suc (made_in gs + node_count_all g.done)
+made_in (g ∷ gs) = suc (made_in gs + nodes_in_all g.done)
 
 -- the lines that are written
 abbrev pub written : List Lambda → List Below → List Line
@@ -56,13 +56,13 @@ module _ (used : List (TreeInstance SatLit)) (limit : ℕ) where
   -- what comes of the whole, where this comes of what the nodes wait for
   abbrev pub Returns : List Below → Expanded SatLit (PlainTree SatLit) → Expanded SatLit (PlainTree SatLit) → Type 0
   Returns [] o r = o ≡ r
-  Returns (g ∷ gs) (found t) r = (os : Expanded SatLit (PlainTrees SatLit)) × ExpandEach numbers used limit (suc (made_in gs + node_count_all (with_last g.done t))) g.branch (left_of (with_tree g t)) os × Returns gs (put_under g.instance g.branch (trees_behind (with_last g.done t) os)) r
+  Returns (g ∷ gs) (found t) r = (os : Expanded SatLit (PlainTrees SatLit)) × ExpandEach numbers used limit (suc (made_in gs + nodes_in_all (with_last g.done t))) g.branch (left_of (with_tree g t)) os × Returns gs (put_under g.instance g.branch (trees_behind (with_last g.done t) os)) r
   Returns (g ∷ gs) (open_at b) r = r ≡ open_at b
   Returns (g ∷ gs) over r = r ≡ over
 
   -- what comes of the whole, where the innermost node is to go on with its further alternatives
   abbrev pub GoesEach : List Below → Below → Expanded SatLit (PlainTree SatLit) → Type 0
-  GoesEach gs g r = (os : Expanded SatLit (PlainTrees SatLit)) × ExpandEach numbers used limit (suc (made_in gs + node_count_all g.done)) g.branch (left_of g) os × Returns gs (put_under g.instance g.branch (trees_behind g.done os)) r
+  GoesEach gs g r = (os : Expanded SatLit (PlainTrees SatLit)) × ExpandEach numbers used limit (suc (made_in gs + nodes_in_all g.done)) g.branch (left_of g) os × Returns gs (put_under g.instance g.branch (trees_behind g.done os)) r
 
   -- what comes of the whole, where the branch is to be expanded
   abbrev pub Goes : List Below → List SatLit → Expanded SatLit (PlainTree SatLit) → Type 0
@@ -107,7 +107,7 @@ pub record IsWalkDone (used : List (TreeInstance SatLit)) (limit : ℕ) (start :
   pub tree : PlainTree SatLit
   pub expands : Expands numbers used limit 0 start (found tree)
   pub are_lines : lines ≡ tree_lines atoms 0 tree
-  pub count : made ≡ node_count tree
+  pub count : made ≡ nodes_in tree
 
 -- the innermost node is to go on, or all is written
 abbrev pub WalkStands : List (TreeInstance SatLit) → ℕ → List SatLit → List Lambda → ℕ → List Frame → List SatLit → List Line → Type 0

@@ -2,7 +2,7 @@ use Rattle.std.proofs.Common.{[], ◌∷◌, refl, arith}
 use Rattle.rebuild_spec.specs.Examples.{yes, no}
 use Rattle.plain_tableau.specs.Trees.{closed, node, none, more}
 use Rattle.plain_tableau.specs.Expansion.{found, open_at, over, closes, stays_open, is_over, makes, no_more, open_below, over_below, goes_on, grows}
-use Rattle.plain_tableau.specs.Examples.{self_i0, self_i1, self_tree, SelfExpands, pointwise_i0, pointwise_tree, PointwiseExpands}
+use Rattle.plain_tableau.specs.Examples.{self_i0, self_i1, self_tree, SelfExpands, pointwise_instance, pointwise_tree, PointwiseExpands}
 use Rattle.plain_tableau.proofs.law.examples_are_expanded.Goals as goal
 
 self : SelfExpands
@@ -18,7 +18,7 @@ self =
 pointwise : PointwiseExpands
 pointwise =
     let b = yes 0 ∷ no 1 ∷ [] in (
-      grows (found pointwise_tree) refl (makes 0 b pointwise_i0 (found (more closed none)) refl refl (omega arith) (goes_on 1 b (no 0 ∷ []) [] closed (found none) (closes 1 (yes 0 ∷ no 1 ∷ no 0 ∷ []) refl) (no_more 1 b))),
+      grows (found pointwise_tree) refl (makes 0 b pointwise_instance (found (more closed none)) refl refl (omega arith) (goes_on 1 b (no 0 ∷ []) [] closed (found none) (closes 1 (yes 0 ∷ no 1 ∷ no 0 ∷ []) refl) (no_more 1 b))),
       record { lines = refl; needed = refl },
     )
 

@@ -7,7 +7,7 @@ use Rattle.rebuild_spec.specs.Input.{literals_of}
 use Rattle.rebuild_spec.specs.Trimmed.{IsEachReached}
 use Rattle.rebuild_spec.specs.NeededRows.{rows_for_lines}
 use Rattle.rebuild_spec.proofs.TrimLaws.{lines_kept, table_kept}
-use Rattle.plain_tableau.specs.Trees.{node_count}
+use Rattle.plain_tableau.specs.Trees.{nodes_in}
 use Rattle.plain_tableau.specs.Expansion.{found}
 use Rattle.plain_tableau.specs.Lines.{tree_children, node_line, tree_lines, tree_lines_all}
 use Rattle.plain_tableau.specs.Laws.{TreeIsAccepted, TreeHasNoCut}
