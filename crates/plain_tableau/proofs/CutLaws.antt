@@ -13,7 +13,7 @@ use Rattle.tableau_calculus.specs.Kinds.{added}
 use Rattle.search_spec.specs.Numbered.{numbers}
 use Rattle.rebuild_spec.specs.Stands.{rule_at_places, place_in}
 use Rattle.plain_tableau.specs.Trees.{TreeInstance, PlainTree, closed, node, PlainTrees, none, more, nodes_in}
-use Rattle.plain_tableau.specs.Lines.{tree_children, node_line, tree_lines, tree_lines_all}
+use Rattle.plain_tableau.specs.Lines.{tree_children, node_line, lines_for_tree, lines_for_trees}
 use Rattle.tableau_calculus.specs.CutFree.{is_cut_use}
 use Rattle.tableau_calculus.specs.CutFree.{HasNoCut}
 use Rattle.plain_tableau.proofs.GrownLaws.{IsGrown, AreGrown}
@@ -74,14 +74,14 @@ placed_cut (Cut l) (i ∷ j ∷ is) = refl
 
 module _ (scope : Scope) (rows : List Row) (atoms : List Lambda) where
   mutual
-    pub no_cut : (n : ℕ) (t : PlainTree SatLit) (b : List SatLit) → IsGrown scope rows atoms t b → HasNoCut (tree_lines atoms n t)
+    pub no_cut : (n : ℕ) (t : PlainTree SatLit) (b : List SatLit) → IsGrown scope rows atoms t b → HasNoCut (lines_for_tree atoms n t)
     no_cut n closed b h = All-nil (λ (l : Line). is_cut_use l.rule ≡ false)
     no_cut n (node i c ts) b h =
         let line = node_line atoms i c (tree_children n ts) in
         let Plain = λ (l : Line). is_cut_use l.rule ≡ false in
-        All-append Plain (tree_lines_all atoms n ts) (line ∷ []) (none_cut n ts i.alternatives b h.3) (All-cons Plain line [] (placed_cut i.rule (map (place_in c) i.principals) ∙ h.1.no_cut) (All-nil Plain))
+        All-append Plain (lines_for_trees atoms n ts) (line ∷ []) (none_cut n ts i.alternatives b h.3) (All-cons Plain line [] (placed_cut i.rule (map (place_in c) i.principals) ∙ h.1.no_cut) (All-nil Plain))
 
-    none_cut : (n : ℕ) (ts : PlainTrees SatLit) (as' : List (List SatLit)) (b : List SatLit) → AreGrown scope rows atoms ts as' b → HasNoCut (tree_lines_all atoms n ts)
+    none_cut : (n : ℕ) (ts : PlainTrees SatLit) (as' : List (List SatLit)) (b : List SatLit) → AreGrown scope rows atoms ts as' b → HasNoCut (lines_for_trees atoms n ts)
     none_cut n none as' b h = All-nil (λ (l : Line). is_cut_use l.rule ≡ false)
     none_cut n (more t ts) [] b h = absurd h
-    none_cut n (more t ts) (a ∷ as') b h = All-append (λ (l : Line). is_cut_use l.rule ≡ false) (tree_lines atoms n t) (tree_lines_all atoms (n + nodes_in t) ts) (no_cut n t (added numbers b a) h.0) (none_cut (n + nodes_in t) ts as' b h.1)
+    none_cut n (more t ts) (a ∷ as') b h = All-append (λ (l : Line). is_cut_use l.rule ≡ false) (lines_for_tree atoms n t) (lines_for_trees atoms (n + nodes_in t) ts) (no_cut n t (added numbers b a) h.0) (none_cut (n + nodes_in t) ts as' b h.1)

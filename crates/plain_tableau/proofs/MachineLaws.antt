@@ -20,7 +20,7 @@ use Rattle.tableau_rebuild.specs.Tables.{the_instance, no_instance}
 use Rattle.rebuild_spec.proofs.LiteralLaws.{contains_held, held_in}
 use Rattle.plain_tableau.specs.Trees.{TreeInstance, PlainTree, closed, node, PlainTrees, none, more, nodes_in, nodes_in_all}
 use Rattle.plain_tableau.specs.Expansion.{is_closed_branch, is_due, next_due, Expanded, found, open_at, over, Expands}
-use Rattle.plain_tableau.specs.Lines.{tree_child, tree_children, node_line, tree_lines, tree_lines_all}
+use Rattle.plain_tableau.specs.Lines.{tree_child, tree_children, node_line, lines_for_tree, lines_for_trees}
 use Rattle.plain_tableau.specs.Tables.{expanded, used_at, the_used}
 use Rattle.plain_tableau.specs.declared.walk.Frame.{Frame}
 use Rattle.plain_tableau.specs.Internal.Due.{without_rule, is_due_at, clashes}
@@ -160,7 +160,7 @@ module _ (used : List (TreeInstance SatLit)) (limit : ℕ) (start : List SatLit)
             };
             is_branch = h.is_branch;
             is_open = h.is_open;
-            are_lines = h.are_lines ∙ ap (λ ls. written atoms h.below ++ ls) (sym (lines_last atoms n ts closed ∙ append-nil (tree_lines_all atoms n ts)));
+            are_lines = h.are_lines ∙ ap (λ ls. written atoms h.below ++ ls) (sym (lines_last atoms n ts closed ∙ append-nil (lines_for_trees atoms n ts)));
             count = omega (arith, counted, s);
             whole = λ r g. h.whole r (close_child used limit h.below h.top a (drop (suc (length f.children)) h.top.instance.alternatives) (left_is h.top (length f.children) a (children_are (length f.children) refl) (alternative_there (length f.children) a there)) (shut a true clash) r g);
           }
@@ -218,10 +218,10 @@ module _ (used : List (TreeInstance SatLit)) (limit : ℕ) (start : List SatLit)
       let n = length before in
       let m = length (written atoms (g ∷ gs)) in
       let t : PlainTree SatLit = node top.instance top.branch top.done in
-      let m_is : m ≡ n + nodes_in_all g.done = length-append before (tree_lines_all atoms n g.done) ∙ ap (λ x. n + x) (count_all atoms n g.done) in
-      let lines_count : length lines ≡ (n + nodes_in_all g.done) + nodes_in_all top.done = ap length are ∙ length-append (written atoms (g ∷ gs)) (tree_lines_all atoms m top.done) ∙ ap₂ (λ x y. x + y) m_is (count_all atoms m top.done) in
+      let m_is : m ≡ n + nodes_in_all g.done = length-append before (lines_for_trees atoms n g.done) ∙ ap (λ x. n + x) (count_all atoms n g.done) in
+      let lines_count : length lines ≡ (n + nodes_in_all g.done) + nodes_in_all top.done = ap length are ∙ length-append (written atoms (g ∷ gs)) (lines_for_trees atoms m top.done) ∙ ap₂ (λ x y. x + y) m_is (count_all atoms m top.done) in
       let branch : c ≡ g.branch = is ∙ ap (λ x. take x b) nodes.0.len ∙ nodes.1 in
-      let own = λ (x : ℕ). tree_lines_all atoms x top.done ++ node_line atoms top.instance top.branch (tree_children x top.done) ∷ [] in
+      let own = λ (x : ℕ). lines_for_trees atoms x top.done ++ node_line atoms top.instance top.branch (tree_children x top.done) ∷ [] in
       let s = size_last g.done t in
       record {
         below = gs;
@@ -237,9 +237,9 @@ module _ (used : List (TreeInstance SatLit)) (limit : ℕ) (start : List SatLit)
         are_lines =
             is_new
             ∙ ap (λ ls. ls ++ node_line atoms top.instance top.branch (tree_children m top.done) ∷ []) are
-            ∙ append_assoc (written atoms (g ∷ gs)) (tree_lines_all atoms m top.done) (node_line atoms top.instance top.branch (tree_children m top.done) ∷ [])
+            ∙ append_assoc (written atoms (g ∷ gs)) (lines_for_trees atoms m top.done) (node_line atoms top.instance top.branch (tree_children m top.done) ∷ [])
             ∙ ap (λ x. written atoms (g ∷ gs) ++ own x) m_is
-            ∙ append_assoc before (tree_lines_all atoms n g.done) (own (n + nodes_in_all g.done))
+            ∙ append_assoc before (lines_for_trees atoms n g.done) (own (n + nodes_in_all g.done))
             ∙ ap (λ ls. before ++ ls) (sym (lines_last atoms n g.done t));
         count = omega (arith, counted, s);
         whole = finish_below used limit start g gs top empty whole;

@@ -42,7 +42,7 @@ use Rattle.tableau_rebuild.specs.Conditions.{IsInstanceOver}
 use Rattle.tableau_rebuild.specs.UsedInstances.{IsUsedInstance}
 use Rattle.plain_tableau.specs.Trees.{TreeInstance, PlainTree, closed, node, PlainTrees, none, more, nodes_in}
 use Rattle.plain_tableau.specs.Expansion.{is_due, Expanded, found, open_at, over, put_under, put_before, Expands, closes, stays_open, is_over, makes, ExpandEach, no_more, open_below, over_below, goes_on, closing, Expansion, at_once, not_at_once, grows}
-use Rattle.plain_tableau.specs.Lines.{node_line, tree_children, tree_lines, tree_lines_all, IsOfTree}
+use Rattle.plain_tableau.specs.Lines.{node_line, tree_children, lines_for_tree, lines_for_trees, IsOfTree}
 use Rattle.plain_tableau.specs.Small.{HasSmallAtom, AddsSmall, TreeTermsAreSmall}
 use Rattle.plain_tableau.specs.Tables.{expanded, used_at, the_used, units_in, start_units, start_branch, IsStripped, OfTree}
 use Rattle.plain_tableau.specs.declared.stripped.Stripped.{Stripped}
@@ -278,15 +278,15 @@ module _ (atoms : List Lambda) where
   line_small i b children h k = record { branch = literals_small b h; takes = placed_takes i.rule (map (place_in b) i.principals) k }
 
   mutual
-    lines_small : (n : ℕ) (t : PlainTree SatLit) → IsSmallTree t → AllByRecursion HasSmallParts (tree_lines atoms n t)
+    lines_small : (n : ℕ) (t : PlainTree SatLit) → IsSmallTree t → AllByRecursion HasSmallParts (lines_for_tree atoms n t)
     lines_small n closed h = tt
     lines_small n (node i b ts) h =
-        all_joined HasSmallParts (tree_lines_all atoms n ts) (node_line atoms i b (tree_children n ts) ∷ []) (lines_all_small n ts h.2) (line_small i b (tree_children n ts) h.0 h.1, tt)
+        all_joined HasSmallParts (lines_for_trees atoms n ts) (node_line atoms i b (tree_children n ts) ∷ []) (lines_all_small n ts h.2) (line_small i b (tree_children n ts) h.0 h.1, tt)
 
-    lines_all_small : (n : ℕ) (ts : PlainTrees SatLit) → AreSmallTrees ts → AllByRecursion HasSmallParts (tree_lines_all atoms n ts)
+    lines_all_small : (n : ℕ) (ts : PlainTrees SatLit) → AreSmallTrees ts → AllByRecursion HasSmallParts (lines_for_trees atoms n ts)
     lines_all_small n none h = tt
     lines_all_small n (more t ts) h =
-        all_joined HasSmallParts (tree_lines atoms n t) (tree_lines_all atoms (n + nodes_in t) ts) (lines_small n t h.0) (lines_all_small (n + nodes_in t) ts h.1)
+        all_joined HasSmallParts (lines_for_tree atoms n t) (lines_for_trees atoms (n + nodes_in t) ts) (lines_small n t h.0) (lines_all_small (n + nodes_in t) ts h.1)
 
 pub tree_terms_small : TreeTermsAreSmall
 tree_terms_small rows atoms used limit start t refutation rows_small add start_small e is =

@@ -10,7 +10,7 @@ use Rattle.tableau_calculus.specs.Kinds.{added}
 use Rattle.search_spec.specs.Numbered.{numbers}
 use Rattle.plain_tableau.specs.Trees.{TreeInstance, PlainTree, closed, node, PlainTrees, none, more, nodes_in, nodes_in_all}
 use Rattle.plain_tableau.specs.Expansion.{is_closed_branch, next_due, Expanded, found, open_at, over, put_under, put_before, Expands, closes, stays_open, is_over, makes, ExpandEach, no_more, open_below, over_below, goes_on}
-use Rattle.plain_tableau.specs.Lines.{tree_child, tree_children, node_line, tree_lines, tree_lines_all}
+use Rattle.plain_tableau.specs.Lines.{tree_child, tree_children, node_line, lines_for_tree, lines_for_trees}
 use Rattle.plain_tableau.specs.declared.walk.Frame.{Frame}
 use Rattle.plain_tableau.specs.Internal.Walking.{with_last, joined, trees_behind, count, Below, with_tree, left_of, made_in, written, Returns, GoesEach, Goes, IsFrame, AreFrames, IsAhead, IsBack, IsWalkDone, WalkStands, IsFull}
 use Rattle.plain_tableau.proofs.LineLaws.{count_all}
@@ -55,14 +55,14 @@ pub children_count : (n : ℕ) (ts : PlainTrees SatLit) → length (tree_childre
 children_count n none = refl
 children_count n (more t ts) = ap suc (children_count (n + nodes_in t) ts)
 
-pub lines_last : (atoms : List Lambda) (n : ℕ) (ts : PlainTrees SatLit) (t : PlainTree SatLit) → tree_lines_all atoms n (with_last ts t) ≡ tree_lines_all atoms n ts ++ tree_lines atoms (n + nodes_in_all ts) t
+pub lines_last : (atoms : List Lambda) (n : ℕ) (ts : PlainTrees SatLit) (t : PlainTree SatLit) → lines_for_trees atoms n (with_last ts t) ≡ lines_for_trees atoms n ts ++ lines_for_tree atoms (n + nodes_in_all ts) t
 lines_last atoms n none t =
     let e : n ≡ n + 0 = omega arith in
-    append-nil (tree_lines atoms n t) ∙ ap (λ m. tree_lines atoms m t) e
+    append-nil (lines_for_tree atoms n t) ∙ ap (λ m. lines_for_tree atoms m t) e
 lines_last atoms n (more s ts) t =
     let e : (n + nodes_in s) + nodes_in_all ts ≡ n + (nodes_in s + nodes_in_all ts) = omega arith in
-    ap (λ ls. tree_lines atoms n s ++ ls) (lines_last atoms (n + nodes_in s) ts t ∙ ap (λ m. tree_lines_all atoms (n + nodes_in s) ts ++ tree_lines atoms m t) e)
-    ∙ sym (append_assoc (tree_lines atoms n s) (tree_lines_all atoms (n + nodes_in s) ts) (tree_lines atoms ((n + (nodes_in s + nodes_in_all ts))) t))
+    ap (λ ls. lines_for_tree atoms n s ++ ls) (lines_last atoms (n + nodes_in s) ts t ∙ ap (λ m. lines_for_trees atoms (n + nodes_in s) ts ++ lines_for_tree atoms m t) e)
+    ∙ sym (append_assoc (lines_for_tree atoms n s) (lines_for_trees atoms (n + nodes_in s) ts) (lines_for_tree atoms ((n + (nodes_in s + nodes_in_all ts))) t))
 
 drop_one : (n : ℕ) (xs : List (List SatLit)) (a : List SatLit) (as' : List (List SatLit)) → drop n xs ≡ a ∷ as' → drop (suc n) xs ≡ as'
 drop_one zero [] a as' e = cc

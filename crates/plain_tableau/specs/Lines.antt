@@ -28,15 +28,15 @@ node_line atoms i branch children =
 
 -- the lines of a tree, where so many stand before
 abbrev mutual
-  pub tree_lines : List Lambda → ℕ → PlainTree SatLit → List Line
-  tree_lines atoms n closed = []
-  tree_lines atoms n (node i branch ts) = tree_lines_all atoms n ts ++ node_line atoms i branch (tree_children n ts) ∷ []
+  pub lines_for_tree : List Lambda → ℕ → PlainTree SatLit → List Line
+  lines_for_tree atoms n closed = []
+  lines_for_tree atoms n (node i branch ts) = lines_for_trees atoms n ts ++ node_line atoms i branch (tree_children n ts) ∷ []
 
-  pub tree_lines_all : List Lambda → ℕ → PlainTrees SatLit → List Line
-  tree_lines_all atoms n none = []
-  tree_lines_all atoms n (more t ts) = tree_lines atoms n t ++ tree_lines_all atoms (n + nodes_in t) ts
+  pub lines_for_trees : List Lambda → ℕ → PlainTrees SatLit → List Line
+  lines_for_trees atoms n none = []
+  lines_for_trees atoms n (more t ts) = lines_for_tree atoms n t ++ lines_for_trees atoms (n + nodes_in t) ts
 
 -- The refutation is that of the tree: its lines are the tree's, and its rows those that they need.
 pub record IsOfTree (atoms : List Lambda) (rows : List Row) (t : PlainTree SatLit) (refutation : Refutation) : Type 0 where
-  pub lines : refutation.lines ≡ tree_lines atoms 0 t
+  pub lines : refutation.lines ≡ lines_for_tree atoms 0 t
   pub needed : refutation.witnesses ≡ take (rows_for_lines rows refutation.lines) rows

@@ -57,7 +57,7 @@ pub fn alone(alloc: Global, problem: &Problem, mode: &Mode) -> anyhow::Result<St
     requires typed { IsTyped problem.now }
     requires modest { IsModestProblem 1024 problem.now }
 {
-    let ended = run(alloc, problem, mode)?;
+    let ended = run(alloc, problem, mode, None)?;
     let line = line_of(alloc, &ended);
     drop(ended);
     line
@@ -78,7 +78,7 @@ pub fn end(alloc: Global, problem: &Problem, mode: &Mode) -> anyhow::Result<Stri
     requires typed { IsTyped problem.now }
     requires modest { IsModestProblem 1024 problem.now }
 {
-    let ended = run(alloc, problem, mode)?;
+    let ended = run(alloc, problem, mode, None)?;
     let line = checked_line(alloc, problem, &ended);
     drop(ended);
     line
@@ -101,7 +101,7 @@ pub fn text(alloc: Global, problem: &Problem, mode: &Mode) -> anyhow::Result<Str
     requires typed { IsTyped problem.now }
     requires modest { IsModestProblem 1024 problem.now }
 {
-    let ended = run(alloc, problem, mode)?;
+    let ended = run(alloc, problem, mode, None)?;
     let text = line_and_text(alloc, problem, &ended);
     drop(ended);
     text

@@ -6,7 +6,7 @@ use Rattle.sat_base.specs.declared.literal.SatLit.{SatLit}
 use Rattle.search_spec.specs.Numbered.{numbers}
 use Rattle.plain_tableau.specs.Trees.{TreeInstance, PlainTree, closed, node, PlainTrees, none, more, nodes_in, nodes_in_all}
 use Rattle.plain_tableau.specs.Expansion.{is_closed_branch, Expanded, found, open_at, over, put_under, Expands, ExpandEach}
-use Rattle.plain_tableau.specs.Lines.{tree_children, tree_lines, tree_lines_all}
+use Rattle.plain_tableau.specs.Lines.{tree_children, lines_for_tree, lines_for_trees}
 use Rattle.plain_tableau.specs.declared.walk.Frame.{Frame}
 use Rattle.plain_tableau.specs.declared.walk.Grown.{Grown}
 use Rattle.plain_tableau.specs.declared.walk.Grown.TheVariants.{Whole, Open, Over}
@@ -50,7 +50,7 @@ made_in (g ∷ gs) = suc (made_in gs + nodes_in_all g.done)
 -- the lines that are written
 abbrev pub written : List Lambda → List Below → List Line
 written atoms [] = []
-written atoms (g ∷ gs) = written atoms gs ++ tree_lines_all atoms (length (written atoms gs)) g.done
+written atoms (g ∷ gs) = written atoms gs ++ lines_for_trees atoms (length (written atoms gs)) g.done
 
 module _ (used : List (TreeInstance SatLit)) (limit : ℕ) where
   -- what comes of the whole, where this comes of what the nodes wait for
@@ -106,7 +106,7 @@ pub record IsBack (used : List (TreeInstance SatLit)) (limit : ℕ) (start : Lis
 pub record IsWalkDone (used : List (TreeInstance SatLit)) (limit : ℕ) (start : List SatLit) (atoms : List Lambda) (made : ℕ) (lines : List Line) : Type 0 where
   pub tree : PlainTree SatLit
   pub expands : Expands numbers used limit 0 start (found tree)
-  pub are_lines : lines ≡ tree_lines atoms 0 tree
+  pub are_lines : lines ≡ lines_for_tree atoms 0 tree
   pub count : made ≡ nodes_in tree
 
 -- the innermost node is to go on, or all is written

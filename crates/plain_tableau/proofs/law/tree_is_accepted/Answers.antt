@@ -9,7 +9,7 @@ use Rattle.rebuild_spec.specs.NeededRows.{rows_for_lines}
 use Rattle.rebuild_spec.proofs.TrimLaws.{lines_kept, table_kept}
 use Rattle.plain_tableau.specs.Trees.{nodes_in}
 use Rattle.plain_tableau.specs.Expansion.{found}
-use Rattle.plain_tableau.specs.Lines.{tree_children, node_line, tree_lines, tree_lines_all}
+use Rattle.plain_tableau.specs.Lines.{tree_children, node_line, lines_for_tree, lines_for_trees}
 use Rattle.plain_tableau.specs.Laws.{TreeIsAccepted, TreeHasNoCut}
 use Rattle.tableau_calculus.specs.CutFree.{HasNoCut}
 use Rattle.plain_tableau.proofs.GrownLaws.{tree_within, expansion_whole}
@@ -29,9 +29,9 @@ accepted = λ scope rows atoms used limit start t refutation given expansion is.
       table = subst (IsTable scope) (sym is.needed) (table_kept scope rows n given.table);
       lines = subst (λ rs. AreRightLines (with_rows scope rs) rs [] refutation.lines) (sym is.needed) kept;
       last = record {
-        front = tree_lines_all atoms 0 whole.children;
+        front = lines_for_trees atoms 0 whole.children;
         last = node_line atoms whole.instance start (tree_children 0 whole.children);
-        are = is.lines ∙ ap (tree_lines atoms 0) whole.is;
+        are = is.lines ∙ ap (lines_for_tree atoms 0) whole.is;
         within = within-itself (literals_of atoms start);
       };
     }
