@@ -7,3 +7,4 @@ pub mod PropagatedLaws
 pub mod RebuildUses
 pub mod RunLaws
 pub mod SmallUses
+pub mod TreeUses

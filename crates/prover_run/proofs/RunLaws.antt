@@ -1,5 +1,5 @@
 -- Runs from their start to their end.
-use Rattle.std.specs.Prelude.{◌≡◌, ◌≤◌, ◌+◌, ◌^◌, ◌∷◌, ◌++◌, ℕ, zero, suc, Bool, true, false, List, [], map, filter, length, Some, slice_get, Contains, refl}
+use Rattle.std.specs.Prelude.{◌≡◌, ◌≤◌, ◌+◌, ◌^◌, ◌∷◌, ◌++◌, ℕ, zero, suc, Bool, true, false, List, [], map, filter, length, Some, slice_get, Contains, refl, Option, None}
 use Rattle.std.specs.List.{All}
 use Rattle.std.proofs.Common.{sym, ap, ap₂, subst, ◌∙◌, arith, inl, inr, cond}
 use Rattle.std.proofs.lemmas.Bool.{cases_lt}
@@ -44,7 +44,11 @@ use Rattle.prover_run.specs.declared.ended.Ended.TheVariants.{Proved, GaveUp, Co
 use Rattle.prover_run.specs.Ended.{setting_for, RefutesFrom, IsProvedBy, IsSpent, EndsAs}
 use Rattle.prover_run.specs.Learning.{AreSpent}
 use Rattle.prover_run.specs.Origin.{ComesFromBy}
-use Rattle.prover_run.specs.Internal.Ends.{EndsFrom}
+use Rattle.prover_run.specs.Tree.{IsTreeAsked}
+use Rattle.prover_run.specs.Internal.Ends.{RefutesWithTree, EndsFrom}
+use Rattle.rebuild_spec.specs.Input.{Input}
+use Rattle.plain_tableau.specs.declared.stripped.Stripped.{Stripped}
+use Rattle.prover_run.proofs.TreeUses.{of_tree}
 use Rattle.prover_run.proofs.RebuildUses.{learning-named}
 
 -- A STEP
@@ -63,10 +67,12 @@ module _ (t : Tables) (q : Queue Planned Delays) (r : IsRunning t q) (t2 : Table
   budget_kept : IsRightState t2 q2 → setting_by t2 q2 ≡ setting_by t q → length (learned t2.solver) ≤ q.rule.mode.conflicts
   budget_kept right same = subst (λ n. length (learned t2.solver) ≤ n) (ap (λ (s : Setting). s.mode.conflicts) same) right.budget
 
-  pub is-proved : (refutation : Refutation) → StepCloses old new → IsRightState t2 q2 → setting_by t2 q2 ≡ setting_by t q → RefutesFrom (setting_by t q).scope (start_in t) (the_state t q).clauses (length (learned t2.solver)) refutation
-      → GoesOnUntil (setting_by t q) (start_in t) t.done → IsProvedBy (setting_by t q) (start_in t) t2.done refutation
-  is-proved refutation k right same refutes until =
-      let P : ℕ → Type 0 = λ n. IsProvedBy (setting_by t q) (start_in t) n refutation in
+  pub is-proved : (refutation : Refutation) (nodes : Option ℕ) (tree : Option Stripped) → StepCloses old new → IsRightState t2 q2 → setting_by t2 q2 ≡ setting_by t q
+      → RefutesWithTree (setting_by t q).scope (start_in t) (the_state t q).clauses (length (learned t2.solver)) refutation nodes tree
+      → GoesOnUntil (setting_by t q) (start_in t) t.done → EndsFrom (setting_by t q) (start_in t) nodes (Proved t2.done refutation tree)
+  is-proved refutation nodes tree k right same whole until =
+      let P : ℕ → Type 0 = λ n. EndsFrom (setting_by t q) (start_in t) nodes (Proved n refutation tree) in
+      let refutes = whole.refutes in
       let within = refutes.within in
       subst P (sym k.stays.done)
       (
@@ -80,7 +86,8 @@ module _ (t : Tables) (q : Queue Planned Delays) (r : IsRunning t q) (t2 : Table
           within = record { learning = within.learning; counted = omega (arith, within.counted, budget_kept right same); reaches = within.reaches; propagates = within.propagates };
           shortly = refutes.shortly;
         };
-      }
+      },
+      whole.tree,
       )
 
   pub is-exhausted : IsEmpty old new → GoesOnUntil (setting_by t q) (start_in t) t.done → IsExhausted (setting_by t q) (start_in t) t2.done
@@ -213,10 +220,28 @@ comes_whole rule ls clauses l (inl h) =
       second_in = held_whole is_shallow_literal ls h.second h.second_in;
     })
 
+-- what comes of a tree, with a refutation that is accepted for the whole start
+tree_whole : (scope : Scope) (ls : List Literal) (input : Input) (nodes : Option ℕ) (tree : Option Stripped) → IsTreeAsked scope (filter is_shallow_literal ls) (filter is_shallow_literal ls) input nodes tree → IsTreeAsked scope ls (filter is_shallow_literal ls) input nodes tree
+tree_whole scope ls input None None h = tt
+tree_whole scope ls input None (Some s) h = h
+tree_whole scope ls input (Some n) None h = h
+tree_whole scope ls input (Some n) (Some s) h = record {
+  instances = h.instances;
+  used = h.used;
+  branch = h.branch;
+  begins = h.begins;
+  comes = h.comes;
+  accepted = of_tree (IsAccepted scope (filter is_shallow_literal ls)) (IsAccepted scope ls) (accepted_whole scope ls) s h.accepted;
+  no_cut = h.no_cut;
+  within = h.within;
+  reached = h.reached;
+  small = h.small;
+}
+
 -- what ends from the literals of a problem that aren't too deep, ends from the problem's start
 module _ (p : PlainProblem) (m : Mode) (setting : Setting) (ls : List Literal) (is_setting : setting ≡ setting_for p m) (is_start : ls ≡ filter is_shallow_literal (start p)) where
-  ends_here : (e : Ended) → EndsFrom (setting_for p m) (filter is_shallow_literal (start p)) e → EndsAs p m e
-  ends_here (Proved n refutation) k = record {
+  ends_here : (nodes : Option ℕ) (e : Ended) → EndsFrom (setting_for p m) (filter is_shallow_literal (start p)) nodes e → EndsAs p m nodes e
+  ends_here nodes (Proved n refutation tree) (k, asked) = (record {
     proved = record { until = until_whole (setting_for p m) (start p) n k.proved.until; state = k.proved.state; comes_to = sym (after_shallow (setting_for p m) (start p) n) ∙ k.proved.comes_to; unsatisfiable = k.proved.unsatisfiable };
     accepted = accepted_whole (scope_of p.declared) (start p) refutation k.refutes.accepted;
     reached = k.refutes.reached;
@@ -224,10 +249,10 @@ module _ (p : PlainProblem) (m : Mode) (setting : Setting) (ls : List Literal) (
     origin = λ l there. comes_whole l.rule (start p) k.proved.state.clauses l (k.refutes.origin l there);
     within = k.refutes.within;
     shortly = k.refutes.shortly;
-  }
-  ends_here (GaveUp n) k = exhausted-whole (setting_for p m) (start p) n k
-  ends_here (CommandLimit n) k = stopped-whole (setting_for p m) (start p) n k
-  ends_here (ConflictLimit c) k = record {
+  }, tree_whole (scope_of p.declared) (start p) k.refutes.shortly.input nodes tree asked)
+  ends_here nodes (GaveUp n) k = exhausted-whole (setting_for p m) (start p) n k
+  ends_here nodes (CommandLimit n) k = stopped-whole (setting_for p m) (start p) n k
+  ends_here nodes (ConflictLimit c) k = record {
     is_budget = k.is_budget;
     commands = k.commands;
     until = until_whole (setting_for p m) (start p) k.commands k.until;
@@ -236,11 +261,11 @@ module _ (p : PlainProblem) (m : Mode) (setting : Setting) (ls : List Literal) (
     spent = k.spent;
   }
 
-  pub ends-as : (e : Ended) → EndsFrom setting ls e → EndsAs p m e
-  ends-as e k =
-      let S : Setting → Type 0 = λ s. EndsFrom s (filter is_shallow_literal (start p)) e in
-      let L : List Literal → Type 0 = λ ks. EndsFrom setting ks e in
-      ends_here e (subst S is_setting (subst L is_start k))
+  pub ends-as : (nodes : Option ℕ) (e : Ended) → EndsFrom setting ls nodes e → EndsAs p m nodes e
+  ends-as nodes e k =
+      let S : Setting → Type 0 = λ s. EndsFrom s (filter is_shallow_literal (start p)) nodes e in
+      let L : List Literal → Type 0 = λ ks. EndsFrom setting ks nodes e in
+      ends_here nodes e (subst S is_setting (subst L is_start k))
 
 -- A REFUTATION OVER THE BANK
 

@@ -61,9 +61,12 @@ module _ (t : Tables) (q : Queue Planned Delays) (running : IsRunning t q) (log 
     source_small n (start_unit l) at = (numbers_small input clauses_small n (start_unit l) at).0
     source_small n (clause_by clause i) at = (numbers_small input clauses_small n (clause_by clause i) at, rule_small n clause i at)
 
-    -- what is rebuilt of a run's tables is small enough for a text
-    pub refutation-small : (refutation : Refutation) → AreNumbersInRange refutation → IsRebuilt input refutation → IsSmall refutation
-    refutation-small refutation in_range rebuilt =
+    -- the terms of a run's tables are small
+    pub input-small : InputHasSmallTerms input
+    input-small =
         let P : Row → Type 0 = λ r. IsSmallTerm r.predicate in
-        let given : InputHasSmallTerms input = record { clauses = source_small; rows = recursion_from_All P (rows_in t.basis) (All-from_each P (rows_in t.basis) state_small.rows) } in
-        in_range_small refutation in_range (rebuilt_small input refutation given rebuilt)
+        record { clauses = source_small; rows = recursion_from_All P (rows_in t.basis) (All-from_each P (rows_in t.basis) state_small.rows) }
+
+    -- what is rebuilt of them is small enough for a text
+    pub refutation-small : (refutation : Refutation) → AreNumbersInRange refutation → IsRebuilt input refutation → IsSmall refutation
+    refutation-small refutation in_range rebuilt = in_range_small refutation in_range (rebuilt_small input refutation input-small rebuilt)

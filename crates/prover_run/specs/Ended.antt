@@ -1,5 +1,5 @@
 -- How a run over a problem ends.
-use Rattle.std.specs.Prelude.{◌≡◌, ℕ, List, Some}
+use Rattle.std.specs.Prelude.{◌≡◌, ℕ, List, filter, Option, Some}
 use Rattle.stt_core.specs.PlainProblem.{PlainProblem}
 use Rattle.stt_core.specs.Declarations.{scope_of}
 use Rattle.stt_core.specs.Typing.{Scope}
@@ -7,6 +7,7 @@ use Rattle.tableau_calculus.specs.Literals.{Literal}
 use Rattle.tableau_calculus.specs.Start.{start}
 use Rattle.tableau_calculus.specs.Accepted.{IsAccepted}
 use Rattle.tableau_calculus.specs.declared.refutation.Refutation.{Refutation}
+use Rattle.search_spec.specs.Shallow.{is_shallow_literal}
 use Rattle.search_spec.specs.State.{State, Setting}
 use Rattle.search_spec.specs.After.{state_after}
 use Rattle.search_spec.specs.Result.{GoesOnUntil, IsProved, IsExhausted, IsStopped}
@@ -15,6 +16,7 @@ use Rattle.rebuild_spec.specs.Trimmed.{IsEachReached}
 use Rattle.refute_print.specs.Sizes.{IsSmall}
 use Rattle.mode_file.specs.declared.Mode.{Mode}
 use Rattle.prover_run.specs.Learning.{AreSpent, AreRefutedWithin, AreEnough}
+use Rattle.prover_run.specs.Tree.{IsTreeAsked}
 use Rattle.prover_run.specs.Origin.{EachComesFrom, AreRefutedShortly}
 use Rattle.prover_run.specs.declared.ended.Ended.{Ended}
 use Rattle.prover_run.specs.declared.ended.Ended.TheVariants.{Proved, GaveUp, CommandLimit, ConflictLimit}
@@ -63,9 +65,11 @@ pub record IsSpent (setting : Setting) (literals : List Literal) (conflicts : �
 abbrev pub HasEnoughConflicts : Setting → List Literal → Type 0
 HasEnoughConflicts setting literals = (n : ℕ) (state : State) → state_after setting literals n ≡ Some state → AreEnough setting.mode.conflicts state.clauses
 
--- how the run over the problem by the mode ends
-abbrev pub EndsAs : PlainProblem → Mode → Ended → Type 0
-EndsAs p m (Proved n refutation) = IsRefuted p m n refutation
-EndsAs p m (GaveUp n) = IsExhausted (setting_for p m) (start p) n
-EndsAs p m (CommandLimit n) = IsStopped (setting_for p m) (start p) n
-EndsAs p m (ConflictLimit conflicts) = IsSpent (setting_for p m) (start p) conflicts
+-- How the run over the problem by the mode ends, of which a tree of at most so many nodes may be asked for. A tree begins with the literals of
+-- the start that are shallow enough.
+abbrev pub EndsAs : PlainProblem → Mode → Option ℕ → Ended → Type 0
+EndsAs p m nodes (Proved n refutation tree) =
+    (refuted : IsRefuted p m n refutation) × IsTreeAsked (scope_of p.declared) (start p) (filter is_shallow_literal (start p)) refuted.shortly.input nodes tree
+EndsAs p m nodes (GaveUp n) = IsExhausted (setting_for p m) (start p) n
+EndsAs p m nodes (CommandLimit n) = IsStopped (setting_for p m) (start p) n
+EndsAs p m nodes (ConflictLimit conflicts) = IsSpent (setting_for p m) (start p) conflicts

@@ -27,5 +27,6 @@ pub mod Learning
 pub mod Origin
 pub mod Ended
 pub mod RunTables
+pub mod Tree
 pub mod Laws
 pub mod Internal

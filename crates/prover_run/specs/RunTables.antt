@@ -7,6 +7,8 @@ use Rattle.prover_state.specs.declared.command.Delays.{Delays}
 use Rattle.prover_state.specs.declared.tables.Tables.{Tables}
 use Rattle.literal_map.specs.Atoms.{bank_literal}
 use Rattle.tableau_clauses.specs.Table.{the_clauses}
+use Rattle.rebuild_spec.specs.Input.{Input}
+use Rattle.tableau_rebuild.specs.Tables.{the_input}
 use Rattle.prover_search.specs.Internal.Running.{IsRunning}
 
 -- the tables are those of a run, whatever waits
@@ -17,3 +19,7 @@ pub record AreRunTables (t : Tables) : Type 0 where
 -- the clauses of formulas that the tables stand for
 abbrev pub clauses_of : Tables → List Clause
 clauses_of t = map (map (bank_literal t.basis.bank.terms t.basis.lits)) (the_clauses t.steps)
+
+-- what a refutation is rebuilt from
+abbrev pub input_of : Tables → Input
+input_of t = the_input t.basis.bank t.basis.lits t.steps t.solver.log t.basis.witnesses

@@ -1,14 +1,17 @@
 //! How runs end.
 
+use plain_tableau::Stripped;
 use tableau_calculus::Refutation;
 
-/// How a run ends: after so many commands its clauses have no satisfying assignment, as a refutation shows; after so many no command is
-/// left; the limit of commands is reached; or the conflicts of the mode are spent, and how many they are.
+/// How a run ends: after so many commands its clauses have no satisfying assignment, as a refutation shows, with what comes of a tree without
+/// cut where one is asked for; after so many no command is left; the limit of commands is reached; or the conflicts of the mode are spent,
+/// and how many they are.
 #[derive(Drop)]
 pub enum Ended {
     Proved {
         commands: u32,
         refutation: Refutation,
+        tree: Option<Stripped>,
     },
     GaveUp {
         commands: u32,

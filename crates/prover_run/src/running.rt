@@ -12,10 +12,11 @@ ghost use Rattle.prover_state.specs.Internal.Standing.{without_witnesses, settin
 ghost use Rattle.prover_search.specs.Internal.Running.{start_in, IsUnderWay};
 ghost use Rattle.prover_run.specs.Ended.{RefutesFrom, EndsAs};
 ghost use Rattle.prover_run.specs.RunTables.{AreRunTables, clauses_of};
-ghost use Rattle.prover_run.specs.Internal.Ends.{EndsFrom, GoesOnTo};
+ghost use Rattle.prover_run.specs.Internal.Ends.{RefutesByTables, EndsFrom, GoesOnTo};
 
 use crate::delays::delay;
 use crate::ended::Ended;
+use crate::tree::tree_asked;
 use command_queue::Weigher;
 use mode_file::Mode;
 use prover_search::{Command, Search, Stepped, Waiting};
@@ -26,12 +27,12 @@ use tableau_calculus::Refutation;
 use tableau_rebuild::rebuild;
 use term_bank::equal_ids_for_equal_terms;
 
-/// The refutation from the log of a run whose clauses are unsatisfiable. It is small enough for a text, as all terms of a run are.
-pub fn refutation_of(alloc: Global, tables: &Tables) -> Result<Refutation, AllocError>
+/// The refutation that is rebuilt from the tables of a run whose clauses are unsatisfiable.
+fn refutation_by(alloc: Global, tables: &Tables) -> Result<Refutation, AllocError>
     requires run { AreRunTables tables.now }
     requires ends { results tables.now.solver.log ≡ learned tables.now.solver ++ [] ∷ [] }
     requires propagated { ReachesFalse (tables.now.solver.clauses ++ learned tables.now.solver) [] }
-    ensures { IfOk result (RefutesFrom (without_witnesses tables.now.basis.bank) (start_in tables.now) (clauses_of tables.now) (length (learned tables.now.solver))) }
+    ensures { IfOk result (RefutesByTables tables.now) }
 {
     tables.steps.clauses_come_from_origins();
     equal_ids_for_equal_terms(&tables.basis.bank);
@@ -49,15 +50,27 @@ pub fn refutation_of(alloc: Global, tables: &Tables) -> Result<Refutation, Alloc
     Ok(refutation)
 }
 
+/// The refutation from the log of a run whose clauses are unsatisfiable. It is small enough for a text, as all terms of a run are.
+pub fn refutation_of(alloc: Global, tables: &Tables) -> Result<Refutation, AllocError>
+    requires run { AreRunTables tables.now }
+    requires ends { results tables.now.solver.log ≡ learned tables.now.solver ++ [] ∷ [] }
+    requires propagated { ReachesFalse (tables.now.solver.clauses ++ learned tables.now.solver) [] }
+    ensures { IfOk result (RefutesFrom (without_witnesses tables.now.basis.bank) (start_in tables.now) (clauses_of tables.now) (length (learned tables.now.solver))) }
+{
+    let refutation = refutation_by(alloc, tables)?;
+    Ok(refutation)
+}
+
 /// Takes a step. The answer is how the run ends, where it ends there.
 fn next<W: Weigher<Waiting>>(
     alloc: Global,
     search: &mut Search<W>,
+    nodes: Option<u32>,
 ) -> Result<Option<Ended>, AllocError>
     requires under_way { IsUnderWay search.old.core.tables search.old.core.plan search.old.mode }
     requires ready { search.old.is_refused ≡ false }
     ensures ended { IfOk result (λ o. IfSome o (λ e. GoesOnUntil (setting_by search.old.core.tables search.old.core.plan) (start_in search.old.core.tables) search.old.core.tables.done
-        → EndsFrom (setting_by search.old.core.tables search.old.core.plan) (start_in search.old.core.tables) e)) }
+        → EndsFrom (setting_by search.old.core.tables search.old.core.plan) (start_in search.old.core.tables) nodes e)) }
     ensures goes_on { IfOk result (λ o. IfNone o (GoesOnTo search.old.core.tables search.old.core.plan search.new.core.tables search.new.core.plan)) }
     ensures under_way { OnOk result (IsUnderWay search.new.core.tables search.new.core.plan search.new.mode) }
     ensures mode { search.new.mode ≡ search.old.mode }
@@ -65,10 +78,12 @@ fn next<W: Weigher<Waiting>>(
 {
     match search.step()? {
         Stepped::Closed => {
-            let refutation = refutation_of(alloc, &search.core.tables)?;
+            let refutation = refutation_by(alloc, &search.core.tables)?;
+            let tree = tree_asked(alloc, &search.core.tables, nodes)?;
             Ok(Some(Ended::Proved {
                 commands: search.commands(),
                 refutation,
+                tree,
             }))
         }
         Stepped::Empty => Ok(Some(Ended::GaveUp {
@@ -93,15 +108,16 @@ fn run_on<W: Weigher<Waiting>>(
     alloc: Global,
     search: &mut Search<W>,
     limit: u32,
+    nodes: Option<u32>,
 ) -> Result<Ended, AllocError>
     requires under_way { IsUnderWay search.old.core.tables search.old.core.plan search.old.mode }
     requires ready { search.old.is_refused ≡ false }
     requires done { search.old.core.tables.done ≡ 0 }
     requires limit { limit ≡ search.old.mode.commands }
-    ensures { IfOk result (EndsFrom (setting_by search.old.core.tables search.old.core.plan) (start_in search.old.core.tables)) }
+    ensures { IfOk result (EndsFrom (setting_by search.old.core.tables search.old.core.plan) (start_in search.old.core.tables) nodes) }
 {
     for _commands in 0..limit as u64 + 1 {
-        if let Some(ended) = next(alloc, search)? {
+        if let Some(ended) = next(alloc, search, nodes)? {
             return Ok(ended);
         }
     }
@@ -113,6 +129,7 @@ fn run_by<W: Weigher<Waiting>>(
     alloc: Global,
     problem: &Problem,
     mode: &Mode,
+    nodes: Option<u32>,
     weigher: W,
 ) -> Result<Ended, AllocError>
     requires typed { IsTyped problem.now }
@@ -120,23 +137,29 @@ fn run_by<W: Weigher<Waiting>>(
     requires range { IsInRange mode.now }
     requires callable { W.is_callable weigher }
     requires answers { W.answers weigher (λ waiting now. now + delay_by mode.now waiting.first) }
-    ensures { IfOk result (EndsAs problem.now mode.now) }
+    ensures { IfOk result (EndsAs problem.now mode.now nodes) }
 {
     let mut search = Search::new(alloc, problem, mode, weigher)?;
-    let ended = run_on(alloc, &mut search, mode.commands);
+    let ended = run_on(alloc, &mut search, mode.commands, nodes);
     drop(search);
     ended
 }
 
-/// Runs the search over a problem by a mode. The problem's types nest so little that each refutation is small enough for a text.
-pub fn run(alloc: Global, problem: &Problem, mode: &Mode) -> Result<Ended, AllocError>
+/// Runs the search over a problem by a mode, and makes a tree without cut of at most so many nodes where one is asked for. The problem's types
+/// nest so little that each refutation is small enough for a text.
+pub fn run(
+    alloc: Global,
+    problem: &Problem,
+    mode: &Mode,
+    nodes: Option<u32>,
+) -> Result<Ended, AllocError>
     requires typed { IsTyped problem.now }
     requires modest { IsModestProblem 1024 problem.now }
     requires range { IsInRange mode.now }
-    ensures { IfOk result (EndsAs problem.now mode.now) }
+    ensures { IfOk result (EndsAs problem.now mode.now nodes) }
 {
     let by = *mode;
-    run_by(alloc, problem, mode, |waiting: &Waiting, now: u64| {
+    run_by(alloc, problem, mode, nodes, |waiting: &Waiting, now: u64| {
         now + delay(&by, &waiting.command()) as u64
     })
 }

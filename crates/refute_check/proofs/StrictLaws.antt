@@ -28,7 +28,7 @@ use Rattle.refute_check.specs.Refusal.{FailsAt}
 use Rattle.refute_check.specs.Acceptance.{taken_texts, NamesDefinitions, refuted_problem, IsAcceptedFor, DifferFirst, TextFailsAt}
 use Rattle.refute_check.specs.Acceptance as text
 use Rattle.refute_check.specs.Strict.{LineFailsStrictly, FirstStrictFailure, at_row, at_line, at_last, no_line, IsStrictlyAcceptedFor, FailsStrictlyAt, TextFailsStrictlyAt, at_definition, behind_definitions}
-use Rattle.refute_check.specs.Internal.Strictly.{cut_or, with_cut, IsAcceptedBy, FailsFirst, FailsFirstAt, IsTextAccepted, TextFailsFirst}
+use Rattle.refute_check.specs.Internal.Strictly.{cut_or, with_cut, IsAcceptedBy, FirstFailureBy, FailsAtBy, IsTextAcceptedBy, TextFailsBy}
 use Rattle.refute_check.proofs.AcceptanceLaws.{plain_names, with_names, plain_accepted, unfolded_accepted, definition_fails, fails_not_accepted}
 
 -- LINES
@@ -110,7 +110,7 @@ module _ (scope : Scope) (begin : List Literal) (r : Refutation) where
   wide = with_rows scope r.witnesses
 
   -- rows fail strictly as ever
-  pub row_by : (strict : Bool) (place : ℕ) (why : Why) → FirstFailure scope begin r place why → place < length r.witnesses → FailsFirst strict scope begin r place why
+  pub row_by : (strict : Bool) (place : ℕ) (why : Why) → FirstFailure scope begin r place why → place < length r.witnesses → FirstFailureBy strict scope begin r place why
   row_by false place why f below = f
   row_by true _ _ (plain.at_row front back row w e table fails) below = at_row front back row w e table fails
   row_by true _ _ (plain.at_line front back line w table e right fails) below = absurd (omega (arith, below))
@@ -124,7 +124,7 @@ module _ (scope : Scope) (begin : List Literal) (r : Refutation) where
       (at_line (take i lines) (drop (i + 1) lines) line why table (split_at lines i line at) h none fails)
 
   -- a line that fails
-  pub line_by : (strict : Bool) (n i : ℕ) (line : Line) (why : Why) → n ≡ length r.witnesses → slice_get r.lines i ≡ Some line → IsTable scope r.witnesses → AreRightLines wide r.witnesses [] (take i r.lines) → (strict ≡ true → HasNoCut (take i r.lines)) → AnswerBy wide r.witnesses (take i r.lines) line strict (Some why) → FailsFirst strict scope begin r (n + i) why
+  pub line_by : (strict : Bool) (n i : ℕ) (line : Line) (why : Why) → n ≡ length r.witnesses → slice_get r.lines i ≡ Some line → IsTable scope r.witnesses → AreRightLines wide r.witnesses [] (take i r.lines) → (strict ≡ true → HasNoCut (take i r.lines)) → AnswerBy wide r.witnesses (take i r.lines) line strict (Some why) → FirstFailureBy strict scope begin r (n + i) why
   line_by false n i line why count at table h none fails = line_refused scope begin r n i line why count at table h fails
   line_by true n i line why count at table h none fails = strict_refused n i line why count at table h (none refl) fails
 
@@ -137,7 +137,7 @@ module _ (scope : Scope) (begin : List Literal) (r : Refutation) where
   as_ever none _ _ (plain.at_last front line table e right outside) = at_last front line table e right none outside
   as_ever none _ _ (plain.no_line table e) = no_line table e
 
-  pub last_by : (strict : Bool) → (strict ≡ true → HasNoCut r.lines) → (place : ℕ) (why : Why) → FirstFailure scope begin r place why → FailsFirst strict scope begin r place why
+  pub last_by : (strict : Bool) → (strict ≡ true → HasNoCut r.lines) → (place : ℕ) (why : Why) → FirstFailure scope begin r place why → FirstFailureBy strict scope begin r place why
   last_by false none place why f = f
   last_by true none place why f = as_ever (none refl) place why f
 
@@ -168,27 +168,27 @@ module _ (p : PlainProblem) (t : RefutationTree) where
   abbrev the_refutation : Refutation
   the_refutation = numbered_refutation (names_of p.declared.bases p.declared.consts) t
 
-  pub plain_accepted_by : (strict : Bool) → length t.names ≡ 0 → IsAcceptedBy strict (scope_of p.declared) (start p) the_refutation → IsTextAccepted strict p t
+  pub plain_accepted_by : (strict : Bool) → length t.names ≡ 0 → IsAcceptedBy strict (scope_of p.declared) (start p) the_refutation → IsTextAcceptedBy strict p t
   plain_accepted_by false none h = plain_accepted p t none h.accepted
   plain_accepted_by true none h = record { accepted = plain_accepted p t none h.accepted; no_cut = h.no_cut refl }
 
-  pub unfolded_accepted_by : (strict : Bool) → 0 < length t.names → t.names ≡ taken_texts p → IsAcceptedBy strict (scope_of p.declared) (start (unfolded_problem p)) the_refutation → IsTextAccepted strict p t
+  pub unfolded_accepted_by : (strict : Bool) → 0 < length t.names → t.names ≡ taken_texts p → IsAcceptedBy strict (scope_of p.declared) (start (unfolded_problem p)) the_refutation → IsTextAcceptedBy strict p t
   unfolded_accepted_by false some e h = unfolded_accepted p t some e h.accepted
   unfolded_accepted_by true some e h = record { accepted = unfolded_accepted p t some e h.accepted; no_cut = h.no_cut refl }
 
   module _ (first line : ℕ) (why : Why) where
     -- the first failure at a line, for the problem that the text refutes
-    fails_by : (strict : Bool) (q : PlainProblem) → (refuted_problem p t.names ≡ q) × NamesDefinitions p t.names → FailsFirstAt strict (scope_of p.declared) (start q) the_refutation first line why → TextFailsFirst strict p t first line why
+    fails_by : (strict : Bool) (q : PlainProblem) → (refuted_problem p t.names ≡ q) × NamesDefinitions p t.names → FailsAtBy strict (scope_of p.declared) (start q) the_refutation first line why → TextFailsBy strict p t first line why
     fails_by false q is h = text.behind_definitions line why is.1 (subst (λ x. FailsAt (scope_of p.declared) (start x) the_refutation first line why) (sym is.0) (record { place = h.place; is_first = h.is_first; line_is = h.line_is }))
     fails_by true q is h = behind_definitions line why is.1 (subst (λ x. FailsStrictlyAt (scope_of p.declared) (start x) the_refutation first line why) (sym is.0) (record { place = h.place; is_first = h.is_first; line_is = h.line_is }))
 
-    pub plain_fails_by : (strict : Bool) → length t.names ≡ 0 → FailsFirstAt strict (scope_of p.declared) (start p) the_refutation first line why → TextFailsFirst strict p t first line why
+    pub plain_fails_by : (strict : Bool) → length t.names ≡ 0 → FailsAtBy strict (scope_of p.declared) (start p) the_refutation first line why → TextFailsBy strict p t first line why
     plain_fails_by strict none h = fails_by strict p (plain_names p t.names none) h
 
-    pub unfolded_fails_by : (strict : Bool) → 0 < length t.names → t.names ≡ taken_texts p → FailsFirstAt strict (scope_of p.declared) (start (unfolded_problem p)) the_refutation first line why → TextFailsFirst strict p t first line why
+    pub unfolded_fails_by : (strict : Bool) → 0 < length t.names → t.names ≡ taken_texts p → FailsAtBy strict (scope_of p.declared) (start (unfolded_problem p)) the_refutation first line why → TextFailsBy strict p t first line why
     unfolded_fails_by strict some e h = fails_by strict (unfolded_problem p) (with_names p t.names some e) h
 
-    pub definition_fails_by : (strict : Bool) → 0 < length t.names → (why ≡ Defs) × (place : ℕ) × DifferFirst t.names (taken_texts p) place × (line + length t.names ≡ first + place) → TextFailsFirst strict p t first line why
+    pub definition_fails_by : (strict : Bool) → 0 < length t.names → (why ≡ Defs) × (place : ℕ) × DifferFirst t.names (taken_texts p) place × (line + length t.names ≡ first + place) → TextFailsBy strict p t first line why
     definition_fails_by false some h = definition_fails p t first line why some h
     definition_fails_by true some h = subst (λ w. TextFailsStrictlyAt p t first line w) (sym h.0) (at_definition h.1 line some h.2 h.3)
 
@@ -198,6 +198,6 @@ module _ (p : PlainProblem) (t : RefutationTree) where
   fails_not_strictly first line why (behind_definitions _ _ names fails) h =
       strict_no_failure (scope_of p.declared) (start (refuted_problem p t.names)) the_refutation fails.place why fails.is_first h.no_cut h.accepted.refutation
 
-  pub fails_not_by : (strict : Bool) (first line : ℕ) (why : Why) → TextFailsFirst strict p t first line why → IsTextAccepted strict p t → ⊥
+  pub fails_not_by : (strict : Bool) (first line : ℕ) (why : Why) → TextFailsBy strict p t first line why → IsTextAcceptedBy strict p t → ⊥
   fails_not_by false first line why f h = fails_not_accepted p t first line why f h
   fails_not_by true first line why f h = fails_not_strictly first line why f h

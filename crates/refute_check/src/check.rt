@@ -21,7 +21,7 @@ ghost use Rattle.refute_check.specs.Strict.{IsStrictlyAcceptedFor, TextFailsStri
 ghost use Rattle.refute_check.specs.Internal.Shared.{shared_scope, declared_in, shared_atoms, the_rows, IsGoodShared};
 ghost use Rattle.refute_check.specs.Internal.Branches.{Represents, AreNumberedBranch, Grow, AreBranches};
 ghost use Rattle.refute_check.specs.Internal.Lines.{AreRightIn};
-ghost use Rattle.refute_check.specs.Internal.Strictly.{IsAcceptedBy, FailsFirst, FailsFirstAt, IsTextAccepted, TextFailsFirst};
+ghost use Rattle.refute_check.specs.Internal.Strictly.{IsAcceptedBy, FirstFailureBy, FailsAtBy, IsTextAcceptedBy, TextFailsBy};
 
 use crate::branch::Branch;
 use crate::definitions::check_definitions;
@@ -78,7 +78,7 @@ fn check_lines(
     ensures no_cut { OnOk result (strict ≡ true → HasNoCut (numbered_refutation numbering.now (the_text text.now)).lines) }
     ensures branches { IfOk result (λ ls. AreBranches (shared_atoms shared.new) (numbered_refutation numbering.now (the_text text.now)).lines ls.branches.items) }
     ensures atoms { OnOk result (Grow (shared_atoms shared.old) (shared_atoms shared.new)) }
-    ensures refused { IfErr result (λ e. IfRefused e (λ place why. (start : List Literal) → FailsFirst strict (declared_in shared.old) start (numbered_refutation numbering.now (the_text text.now)) place why)) }
+    ensures refused { IfErr result (λ e. IfRefused e (λ place why. (start : List Literal) → FirstFailureBy strict (declared_in shared.old) start (numbered_refutation numbering.now (the_text text.now)) place why)) }
 {
     let rows = text.witnesses.len();
     let mut seen = Seen::new(alloc);
@@ -146,7 +146,7 @@ fn check_from(
     ensures accepted { OnOk result ((ls : List Literal) → Represents (shared_atoms shared.old) ls start.now → AreNumberedBranch (shared_atoms shared.old) ls
         → IsAcceptedBy strict (declared_in shared.old) ls (numbered_refutation numbering.now (the_text text.now))) }
     ensures refused { IfErr result (λ e. IfRefused e (λ place why. (ls : List Literal) → Represents (shared_atoms shared.old) ls start.now → AreNumberedBranch (shared_atoms shared.old) ls
-        → FailsFirst strict (declared_in shared.old) ls (numbered_refutation numbering.now (the_text text.now)) place why)) }
+        → FirstFailureBy strict (declared_in shared.old) ls (numbered_refutation numbering.now (the_text text.now)) place why)) }
 {
     check_rows(alloc, shared, numbering, text)?;
     let lines = check_lines(alloc, shared, numbering, text, strict)?;
@@ -168,7 +168,7 @@ fn check_with(
     requires problem { IsTyped problem.now }
     requires room { length text.now.witnesses + length text.now.lines < 2 ^ 64 }
     ensures accepted { OnOk result (IsAcceptedBy strict (declared_in shared.old) (start problem.now) (numbered_refutation numbering.now (the_text text.now))) }
-    ensures refused { IfErr result (λ e. IfRefused e (FailsFirst strict (declared_in shared.old) (start problem.now) (numbered_refutation numbering.now (the_text text.now)))) }
+    ensures refused { IfErr result (λ e. IfRefused e (FirstFailureBy strict (declared_in shared.old) (start problem.now) (numbered_refutation numbering.now (the_text text.now)))) }
 {
     let start = shared.start(alloc, problem)?;
     check_from(alloc, shared, numbering, &start, text, strict)
@@ -187,7 +187,7 @@ fn check_over(
     requires room { length text.now.witnesses + length text.now.lines < 2 ^ 64 }
     ensures accepted { OnOk result (IsAcceptedBy strict (the_scope sig.now []) (start problem.now)
         (numbered_refutation (names_of sig.now.bases sig.now.consts) (the_text text.now))) }
-    ensures refused { IfErr result (λ e. IfRefused e (FailsFirst strict (the_scope sig.now []) (start problem.now)
+    ensures refused { IfErr result (λ e. IfRefused e (FirstFailureBy strict (the_scope sig.now []) (start problem.now)
         (numbered_refutation (names_of sig.now.bases sig.now.consts) (the_text text.now)))) }
 {
     let numbering = Numbering::new(alloc, sig)?;
@@ -203,7 +203,7 @@ fn check_text(alloc: Global, problem: &Problem, text: &RefutationText, strict: b
     requires room { length text.now.witnesses + length text.now.lines < 2 ^ 64 }
     ensures accepted { OnOk result (IsAcceptedBy strict (scope_of problem.now.declared) (start problem.now)
         (numbered_refutation (names_of problem.now.declared.bases problem.now.declared.consts) (the_text text.now))) }
-    ensures refused { IfErr result (λ e. IfRefused e (FailsFirst strict (scope_of problem.now.declared) (start problem.now)
+    ensures refused { IfErr result (λ e. IfRefused e (FirstFailureBy strict (scope_of problem.now.declared) (start problem.now)
         (numbered_refutation (names_of problem.now.declared.bases problem.now.declared.consts) (the_text text.now)))) }
 {
     check_over(alloc, &problem.signature, problem, text, strict)
@@ -216,7 +216,7 @@ fn check_plain(alloc: Global, problem: &Problem, text: &RefutationText, strict: 
     requires lines { text.now.first + length text.now.witnesses + length text.now.lines < 2 ^ 64 }
     ensures accepted { OnOk result (IsAcceptedBy strict (scope_of problem.now.declared) (start problem.now)
         (numbered_refutation (names_of problem.now.declared.bases problem.now.declared.consts) (the_text text.now))) }
-    ensures refused { IfErr result (λ e. IfLine e (FailsFirstAt strict (scope_of problem.now.declared) (start problem.now)
+    ensures refused { IfErr result (λ e. IfLine e (FailsAtBy strict (scope_of problem.now.declared) (start problem.now)
         (numbered_refutation (names_of problem.now.declared.bases problem.now.declared.consts) (the_text text.now)) text.now.first)) }
 {
     match check_text(alloc, problem, text, strict) {
@@ -240,8 +240,8 @@ fn check_unfolded(
     requires numbered { IsNumberedText text.now }
     requires named { 0 < length text.now.names }
     requires lines { text.now.first + length text.now.witnesses + length text.now.lines < 2 ^ 64 }
-    ensures accepted { OnOk result (IsTextAccepted strict problem.now (the_text text.now)) }
-    ensures refused { IfErr result (λ e. IfLine e (TextFailsFirst strict problem.now (the_text text.now) text.now.first)) }
+    ensures accepted { OnOk result (IsTextAcceptedBy strict problem.now (the_text text.now)) }
+    ensures refused { IfErr result (λ e. IfLine e (TextFailsBy strict problem.now (the_text text.now) text.now.first)) }
 {
     check_definitions(alloc, problem, text)?;
     let unfolded = unfold_problem(alloc, problem)?;
@@ -258,9 +258,9 @@ fn check_by(
     requires problem { IsTyped problem.now }
     requires numbered { IsNumberedText text.now }
     requires lines { text.now.first + length text.now.witnesses + length text.now.lines < 2 ^ 64 }
-    ensures accepted { OnOk result (IsTextAccepted strict problem.now (the_text text.now)) }
-    ensures refused { IfErr result (λ e. IfLine e (TextFailsFirst strict problem.now (the_text text.now) text.now.first)) }
-    ensures refused_only { IfErr result (λ e. IfLine e (λ _ _. IsTextAccepted strict problem.now (the_text text.now) → ⊥)) }
+    ensures accepted { OnOk result (IsTextAcceptedBy strict problem.now (the_text text.now)) }
+    ensures refused { IfErr result (λ e. IfLine e (TextFailsBy strict problem.now (the_text text.now) text.now.first)) }
+    ensures refused_only { IfErr result (λ e. IfLine e (λ _ _. IsTextAcceptedBy strict problem.now (the_text text.now) → ⊥)) }
 {
     if text.names.len() == 0 {
         check_plain(alloc, problem, text, strict)

@@ -23,7 +23,7 @@ use Rattle.rebuild_spec.proofs.ReachedLaws.{walked_all}
 use Rattle.refute_print.specs.Sizes.{IsSmallTerm, AreSmallLiterals}
 use Rattle.small_rebuilt.specs.Small.{TakesSmall, IsSmallNumber, InputHasSmallTerms, HasSmallParts, RebuiltTermsAreSmall}
 
-placed_takes : (r : RuleUse) (is : List ℕ) → TakesSmall r → TakesSmall (rule_at_places r is)
+pub placed_takes : (r : RuleUse) (is : List ℕ) → TakesSmall r → TakesSmall (rule_at_places r is)
 placed_takes (rule.False k) (i ∷ is) h = tt
 placed_takes (rule.Close k m) (i ∷ j ∷ is) h = tt
 placed_takes (rule.Refl k) (i ∷ is) h = tt
@@ -123,7 +123,7 @@ module _ (input : Input) where
   lines_small lines [] h = tt
   lines_small lines (t ∷ trees) h = (line_small lines t (h zero t refl), lines_small lines trees (λ i u e. h (suc i) u e))
 
-taken_small : (n : ℕ) (rows : List Row) → AllByRecursion (λ (row : Row). IsSmallTerm row.predicate) rows → AllByRecursion (λ (row : Row). IsSmallTerm row.predicate) (take n rows)
+pub taken_small : (n : ℕ) (rows : List Row) → AllByRecursion (λ (row : Row). IsSmallTerm row.predicate) rows → AllByRecursion (λ (row : Row). IsSmallTerm row.predicate) (take n rows)
 taken_small zero rows h = tt
 taken_small (suc n) [] h = tt
 taken_small (suc n) (r ∷ rows) h = (h.0, taken_small n rows h.1)

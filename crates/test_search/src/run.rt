@@ -59,7 +59,7 @@ pub fn alone(alloc: Global, problem: &Problem, mode: &Mode) -> anyhow::Result<St
     requires modest { IsModestProblem 1024 problem.now }
     requires range { IsInRange mode.now }
 {
-    let ended = run(alloc, problem, mode)?;
+    let ended = run(alloc, problem, mode, None)?;
     let line = line_of(alloc, &ended);
     drop(ended);
     line
@@ -81,7 +81,7 @@ pub fn end(alloc: Global, problem: &Problem, mode: &Mode) -> anyhow::Result<Stri
     requires modest { IsModestProblem 1024 problem.now }
     requires range { IsInRange mode.now }
 {
-    let ended = run(alloc, problem, mode)?;
+    let ended = run(alloc, problem, mode, None)?;
     let line = checked_line(alloc, problem, &ended);
     drop(ended);
     line
@@ -105,7 +105,7 @@ pub fn text(alloc: Global, problem: &Problem, mode: &Mode) -> anyhow::Result<Str
     requires modest { IsModestProblem 1024 problem.now }
     requires range { IsInRange mode.now }
 {
-    let ended = run(alloc, problem, mode)?;
+    let ended = run(alloc, problem, mode, None)?;
     let text = line_and_text(alloc, problem, &ended);
     drop(ended);
     text

@@ -37,20 +37,20 @@ pub record IsAcceptedBy (strict : Bool) (scope : Scope) (start : List Literal) (
   pub accepted : IsAccepted scope start refutation
   pub no_cut : strict ≡ true → HasNoCut refutation.lines
 
-abbrev pub FailsFirst : Bool → Scope → List Literal → Refutation → ℕ → Why → Type 0
-FailsFirst false scope start refutation place why = FirstFailure scope start refutation place why
-FailsFirst true scope start refutation place why = FirstStrictFailure scope start refutation place why
+abbrev pub FirstFailureBy : Bool → Scope → List Literal → Refutation → ℕ → Why → Type 0
+FirstFailureBy false scope start refutation place why = FirstFailure scope start refutation place why
+FirstFailureBy true scope start refutation place why = FirstStrictFailure scope start refutation place why
 
 -- the first failure stands at this line of a text, of which the first row or line is line `first`
-pub record FailsFirstAt (strict : Bool) (scope : Scope) (start : List Literal) (refutation : Refutation) (first line : ℕ) (why : Why) : Type 0 where
+pub record FailsAtBy (strict : Bool) (scope : Scope) (start : List Literal) (refutation : Refutation) (first line : ℕ) (why : Why) : Type 0 where
   pub place : ℕ
-  pub is_first : FailsFirst strict scope start refutation place why
+  pub is_first : FirstFailureBy strict scope start refutation place why
   pub line_is : line ≡ first + place
 
-abbrev pub IsTextAccepted : Bool → PlainProblem → RefutationTree → Type 0
-IsTextAccepted false p t = IsAcceptedFor p t
-IsTextAccepted true p t = IsStrictlyAcceptedFor p t
+abbrev pub IsTextAcceptedBy : Bool → PlainProblem → RefutationTree → Type 0
+IsTextAcceptedBy false p t = IsAcceptedFor p t
+IsTextAcceptedBy true p t = IsStrictlyAcceptedFor p t
 
-abbrev pub TextFailsFirst : Bool → PlainProblem → RefutationTree → ℕ → ℕ → Why → Type 0
-TextFailsFirst false p t first line why = TextFailsAt p t first line why
-TextFailsFirst true p t first line why = TextFailsStrictlyAt p t first line why
+abbrev pub TextFailsBy : Bool → PlainProblem → RefutationTree → ℕ → ℕ → Why → Type 0
+TextFailsBy false p t first line why = TextFailsAt p t first line why
+TextFailsBy true p t first line why = TextFailsStrictlyAt p t first line why

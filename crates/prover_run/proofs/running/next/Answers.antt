@@ -10,26 +10,37 @@ use Rattle.prover_state.specs.Internal.Standing.{setting_by, the_state}
 use Rattle.prover_search.specs.Internal.Running.{start_in}
 use Rattle.prover_search.specs.Internal.Answers.{AnswersStep}
 use Rattle.prover_search.specs.declared.stepped.Stepped.{Stepped}
-use Rattle.prover_run.specs.Ended.{RefutesFrom, IsProvedBy}
+use Rattle.rebuild_spec.specs.Input.{Input}
+use Rattle.prover_run.specs.RunTables.{clauses_of}
+use Rattle.prover_run.specs.Tree.{IsTreeAsked}
+use Rattle.prover_run.specs.Internal.Ends.{RefutesWithTree, EndsFrom}
+use Rattle.prover_run.specs.declared.ended.Ended.TheVariants.{Proved}
 use Rattle.prover_run.proofs.RunLaws.{is-proved, is-exhausted, is-stopped, is-spent}
 use Rattle.prover_run.proofs.running.next.Goals as goal
 
-pub returns-in_ok-refutation-in-Closed-clause-ended : goal.returns-in_ok-refutation-in-Closed-clause-ended
-returns-in_ok-refutation-in-Closed-clause-ended g c = λ until.
+pub returns-in_ok-tree-in-Closed-clause-ended : goal.returns-in_ok-tree-in-Closed-clause-ended
+returns-in_ok-tree-in-Closed-clause-ended g c = λ until.
     let t = c.args.search.now.core.tables in
     let q = c.args.search.now.core.plan in
     let u = c.step.new.self.core.tables in
     let p = c.step.new.self.core.plan in
     let refutation = c.in_ok-refutation-in-Closed.refutation in
+    let nodes = c.args.nodes in
+    let tree = c.in_ok-tree-in-Closed.tree in
+    let n = length (learned u.solver) in
     let A : Stepped → Type 0 = λ s. AnswersStep (record { tables = t; plan = q }) (record { tables = u; plan = p }) s in
-    let P : ℕ → Type 0 = λ n. IsProvedBy (setting_by t q) (start_in t) n refutation in
-    let R : Scope → List Literal → Type 0 = λ scope ls. RefutesFrom scope ls (the_state t q).clauses (length (learned u.solver)) refutation in
-    let F : List Clause → Type 0 = λ cs. RefutesFrom (setting_by u p).scope (start_in u) cs (length (learned u.solver)) refutation in
+    let P : ℕ → Type 0 = λ k. EndsFrom (setting_by t q) (start_in t) nodes (Proved k refutation tree) in
+    let I : Input → Type 0 = λ x. IsTreeAsked (setting_by u p).scope (start_in u) (start_in u) x nodes tree in
+    let R : Scope → List Literal → Type 0 = λ scope ls. RefutesWithTree scope ls (the_state t q).clauses n refutation nodes tree in
+    let F : List Clause → Type 0 = λ cs. RefutesWithTree (setting_by u p).scope (start_in u) cs n refutation nodes tree in
     let closed = subst A c.in-Closed.is c.in_ok-step.ensures.answers in
     let under_way = c.in_ok-step.ensures.under_way c.in_ok-step.ensures.ready in
-    let over = subst F (ap (λ (s : State). s.clauses) closed.stays.state) c.in_ok-refutation-in-Closed.ensures in
-    let refutes = subst₂ R (ap (λ (s : Setting). s.scope) c.in_ok-step.ensures.setting) c.in_ok-step.ensures.start over in
-    subst P (sym c.commands.ensures) (is-proved t q c.requires.under_way.running u p refutation closed under_way.running.right c.in_ok-step.ensures.setting refutes until)
+    let by_tables = c.in_ok-refutation-in-Closed.ensures in
+    let here : RefutesWithTree (setting_by u p).scope (start_in u) (clauses_of u) n refutation nodes tree =
+    record { refutes = by_tables.refutes; tree = subst I (sym by_tables.input) c.in_ok-tree-in-Closed.ensures } in
+    let over = subst F (ap (λ (s : State). s.clauses) closed.stays.state) here in
+    let whole = subst₂ R (ap (λ (s : Setting). s.scope) c.in_ok-step.ensures.setting) c.in_ok-step.ensures.start over in
+    subst P (sym c.commands.ensures) (is-proved t q c.requires.under_way.running u p refutation nodes tree closed under_way.running.right c.in_ok-step.ensures.setting whole until)
 
 pub returns-in-Empty-clause-ended : goal.returns-in-Empty-clause-ended
 returns-in-Empty-clause-ended g c = λ until.

@@ -18,4 +18,4 @@ returns g c =
     let scope = scope-same p c.requires.typed t.basis.bank made.bases made.consts in
     let mode = made.under_way.mode ∙ made.mode in
     let setting : setting_by t q ≡ setting_for p m = λ i. record { scope = scope i; mode = mode i } in
-    IfOk-weaker c.run_on-ended.result (EndsFrom (setting_by t q) (start_in t)) (EndsAs p m) (ends-as p m (setting_by t q) (start_in t) setting made.start) c.run_on-ended.ensures
+    IfOk-weaker c.run_on-ended.result (EndsFrom (setting_by t q) (start_in t) c.args.nodes) (EndsAs p m c.args.nodes) (ends-as p m (setting_by t q) (start_in t) setting made.start c.args.nodes) c.run_on-ended.ensures

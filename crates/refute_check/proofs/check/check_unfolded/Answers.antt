@@ -5,7 +5,7 @@ use Rattle.refute_print.specs.TextView.{the_text}
 use Rattle.refute_print.specs.Named.{names_of}
 use Rattle.refute_check.specs.Numbered.{numbered_refutation}
 use Rattle.refute_check.specs.Refusal.{IfLine}
-use Rattle.refute_check.specs.Internal.Strictly.{IsAcceptedBy, FailsFirstAt, TextFailsFirst}
+use Rattle.refute_check.specs.Internal.Strictly.{IsAcceptedBy, FailsAtBy, TextFailsBy}
 use Rattle.refute_check.proofs.AcceptanceLaws.{on_ok, at_its_line, if_line}
 use Rattle.refute_check.proofs.StrictLaws.{unfolded_accepted_by, unfolded_fails_by, definition_fails_by}
 use Rattle.refute_check.proofs.check.check_unfolded.Goals as goal
@@ -15,7 +15,7 @@ returns-in_err-check_definitions-clause-refused c =
     let p = c.args.problem.now in
     let t = the_text c.args.text.now in
     let first = c.args.text.now.first in
-    let refused = at_its_line c.in_err-check_definitions.field-0.0 _ (TextFailsFirst c.args.strict p t first) (λ line why. definition_fails_by p t first line why c.args.strict c.requires.named) c.in_err-check_definitions.ensures.refused in
+    let refused = at_its_line c.in_err-check_definitions.field-0.0 _ (TextFailsBy c.args.strict p t first) (λ line why. definition_fails_by p t first line why c.args.strict c.requires.named) c.in_err-check_definitions.ensures.refused in
     search (rules, refused)
 
 pub returns-clause-accepted : goal.returns-clause-accepted
@@ -30,5 +30,5 @@ returns-clause-refused c =
     let p = c.args.problem.now in
     let t = the_text c.args.text.now in
     let first = c.args.text.now.first in
-    if_line c.check_plain.result _ (TextFailsFirst c.args.strict p t first) (λ line why. unfolded_fails_by p t first line why c.args.strict c.requires.named c.in_ok-check_definitions.ensures.named)
-    (subst (λ q. IfErr c.check_plain.result (λ e. IfLine e (FailsFirstAt c.args.strict (scope_of q.declared) (start q) (numbered_refutation (names_of q.declared.bases q.declared.consts) t) first))) c.in_ok-unfolded.ensures.value c.check_plain.ensures.refused)
+    if_line c.check_plain.result _ (TextFailsBy c.args.strict p t first) (λ line why. unfolded_fails_by p t first line why c.args.strict c.requires.named c.in_ok-check_definitions.ensures.named)
+    (subst (λ q. IfErr c.check_plain.result (λ e. IfLine e (FailsAtBy c.args.strict (scope_of q.declared) (start q) (numbered_refutation (names_of q.declared.bases q.declared.consts) t) first))) c.in_ok-unfolded.ensures.value c.check_plain.ensures.refused)

@@ -3,7 +3,7 @@ use Rattle.stt_core.specs.Typing.{Scope}
 use Rattle.tableau_calculus.specs.Start.{start}
 use Rattle.refute_print.specs.TextView.{the_text}
 use Rattle.refute_check.specs.Numbered.{numbered_refutation}
-use Rattle.refute_check.specs.Internal.Strictly.{IsAcceptedBy, FailsFirst}
+use Rattle.refute_check.specs.Internal.Strictly.{IsAcceptedBy, FirstFailureBy}
 use Rattle.refute_check.specs.Internal.Shared.{declared_in}
 use Rattle.refute_check.proofs.CheckLaws.{if_place, if_ok}
 use Rattle.refute_check.proofs.SharedLaws.{extends_declared, extends_rows}
@@ -26,6 +26,6 @@ returns-clause-refused c =
     let begin = start c.args.problem.now in
     let r = numbered_refutation c.args.numbering.now (the_text c.args.text.now) in
     let same = extends_declared c.args.shared.now c.start.new.self c.in_ok-start.ensures.extends in
-    if_place c.check_from.result _ (FailsFirst c.args.strict (declared_in c.args.shared.now) begin r)
-    (λ place why h. subst (λ (x : Scope). FailsFirst c.args.strict x begin r place why) same (h begin c.in_ok-start.ensures.set c.in_ok-start.ensures.numbered))
+    if_place c.check_from.result _ (FirstFailureBy c.args.strict (declared_in c.args.shared.now) begin r)
+    (λ place why h. subst (λ (x : Scope). FirstFailureBy c.args.strict x begin r place why) same (h begin c.in_ok-start.ensures.set c.in_ok-start.ensures.numbered))
     c.check_from.ensures.refused

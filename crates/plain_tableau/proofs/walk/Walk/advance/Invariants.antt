@@ -1,0 +1,17 @@
+use Rattle.std.proofs.Common.{length, reverse}
+use Rattle.tableau_rebuild.specs.Tables.{atoms_at}
+use Rattle.plain_tableau.specs.Tables.{the_used}
+use Rattle.plain_tableau.specs.Internal.Due.{IsPath}
+use Rattle.plain_tableau.specs.Internal.Writing.{IsWriting}
+use Rattle.plain_tableau.specs.Internal.Walking.{WalkStands}
+use Rattle.plain_tableau.proofs.walk.Walk.advance.Given as goal
+
+abbrev pub invariant-loop-frame : goal.invariant-loop-frame
+invariant-loop-frame l = record {
+  path : IsPath (length l.atoms) l.steps l.used l.self.path;
+  writing : IsWriting l.bank l.atoms l.witnesses l.self.writing;
+  stands : WalkStands (the_used l.bank.terms l.atoms l.steps l.used) l.nodes l.start (atoms_at l.bank.terms l.atoms) l.made (reverse l.self.frames.items) l.self.path.literals.keys l.self.writing.lines;
+}
+
+abbrev pub decreases-loop-frame : goal.decreases-loop-frame
+decreases-loop-frame l = length l.self.frames.items

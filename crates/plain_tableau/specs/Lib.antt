@@ -1,0 +1,10 @@
+pub mod Trees
+pub mod Expansion
+pub mod Lines
+pub mod Given
+pub mod Laws
+pub mod Small
+pub mod Carried
+pub mod Examples
+pub mod Tables
+pub mod Internal

@@ -1,0 +1,173 @@
+//! Trees without cut.
+ghost use Rattle.std.specs.Prelude.{◌≡◌, ◌<◌, ◌≤◌, ◌++◌, [], length, Some, None, IfOk, All};
+ghost use Rattle.sat_base.specs.Literal.{IsOver};
+ghost use Rattle.tableau_calculus.specs.Witnesses.{with_rows};
+ghost use Rattle.tableau_calculus.specs.Accepted.{IsAccepted};
+ghost use Rattle.tableau_calculus.specs.Closed.{Closes, tableau_of};
+ghost use Rattle.search_spec.specs.Numbered.{numbers};
+ghost use Rattle.term_bank.specs.Content.{content_scope};
+ghost use Rattle.literal_map.specs.Atoms.{IsAtom};
+ghost use Rattle.witness_names.specs.Rows.{rows_of, AreRows};
+ghost use Rattle.rebuild_spec.specs.Trimmed.{IsEachReached};
+ghost use Rattle.small_rebuilt.specs.Small.{AreNumbersInRange};
+ghost use Rattle.tableau_rebuild.specs.Tables.{atoms_at, unit_literals};
+ghost use Rattle.tableau_rebuild.specs.Conditions.{AreUnitsNumbered};
+ghost use Rattle.plain_tableau.specs.Expansion.{first_clash};
+ghost use Rattle.tableau_calculus.specs.CutFree.{HasNoCut};
+ghost use Rattle.plain_tableau.specs.Tables.{the_used, start_units, start_branch, IsUsable, IsStripped, OfTree, IsWithinLimit};
+ghost use Rattle.plain_tableau.specs.Internal.Due.{IsPath};
+
+use crate::law::tree_is_accepted;
+use crate::path::Path;
+use crate::stripped::Stripped;
+use crate::walk::{Grown, Walk};
+use crate::writing::Writing;
+use literal_map::LitTable;
+use sat_base::SatLit;
+use std::alloc::{AllocError, Global};
+use tableau_clauses::{Origin, StepTable};
+use tableau_rebuild::UsedList;
+use term_bank::Bank;
+use witness_names::Witnesses;
+
+/// The literals of the start units, in order.
+fn start_literals(alloc: Global, steps: &StepTable) -> Result<Vec<SatLit>, AllocError>
+    ensures { IfOk result (λ units. units.items ≡ start_units steps.now.0) }
+{
+    steps.clauses_come_from_origins();
+    let mut units = Vec::new(alloc);
+    for n in 0..steps.len() {
+        match steps.origin(n) {
+            Origin::Start => units.push(steps.clause(n).as_slice()[0])?,
+            Origin::Instance(_) => {}
+        }
+    }
+    Ok(units)
+}
+
+/// The start as a branch.
+fn start_path(
+    alloc: Global,
+    bank: &Bank,
+    atoms: &LitTable,
+    steps: &StepTable,
+    witnesses: &Witnesses,
+    used: &[usize],
+) -> Result<Path, AllocError>
+    requires units { AreUnitsNumbered atoms.now steps.now }
+    requires used { All (IsUsable bank.now atoms.now (rows_of bank.now.terms witnesses.now) steps.now) used.now }
+    ensures path { IfOk result (IsPath (length atoms.now) steps.now used.now) }
+    ensures start { IfOk result (λ path. path.literals.keys ≡ start_branch steps.now) }
+{
+    let mut path = Path::new(alloc, atoms.len(), steps, used)?;
+    let units = start_literals(alloc, steps)?;
+    for i in 0..units.len() {
+        path.push(atoms.len(), steps, used, units[i])?;
+    }
+    Ok(path)
+}
+
+/// A start that is closed itself, as one node.
+fn at_once(
+    alloc: Global,
+    bank: &Bank,
+    atoms: &LitTable,
+    steps: &StepTable,
+    witnesses: &Witnesses,
+    used: &[usize],
+    nodes: u32,
+    lit: SatLit,
+    path: Path,
+) -> Result<Stripped, AllocError>
+    requires rows { AreRows bank.now witnesses.now }
+    requires atoms { All (IsAtom bank.now) atoms.now }
+    requires over { IsOver (length atoms.now) path.literals.keys }
+    requires clash { first_clash numbers path.literals.keys ≡ Some lit }
+    ensures exactly { IfOk result (IsStripped (atoms_at bank.now.terms atoms.now) (rows_of bank.now.terms witnesses.now) (the_used bank.now.terms atoms.now steps.now used.now) nodes path.literals.keys) }
+    ensures in_range { IfOk result (OfTree AreNumbersInRange) }
+{
+    let _steps = steps.len();
+    let _used = used.len();
+    if nodes == 0 {
+        return Ok(Stripped::Over { nodes });
+    }
+    let mut writing = Writing::new(alloc);
+    writing.write_closing(alloc, bank, atoms, witnesses, lit, path.as_slice())?;
+    let refutation = writing.finish(alloc, bank, atoms, witnesses)?;
+    Ok(Stripped::Tree {
+        refutation,
+        nodes: 1,
+    })
+}
+
+/// What a walk from an open start comes to.
+fn grown(
+    alloc: Global,
+    bank: &Bank,
+    atoms: &LitTable,
+    steps: &StepTable,
+    witnesses: &Witnesses,
+    used: &[usize],
+    nodes: u32,
+    path: Path,
+) -> Result<Stripped, AllocError>
+    requires rows { AreRows bank.now witnesses.now }
+    requires atoms { All (IsAtom bank.now) atoms.now }
+    requires used { All (IsUsable bank.now atoms.now (rows_of bank.now.terms witnesses.now) steps.now) used.now }
+    requires path { IsPath (length atoms.now) steps.now used.now path }
+    requires open { first_clash numbers path.literals.keys ≡ None }
+    ensures exactly { IfOk result (IsStripped (atoms_at bank.now.terms atoms.now) (rows_of bank.now.terms witnesses.now) (the_used bank.now.terms atoms.now steps.now used.now) nodes path.literals.keys) }
+    ensures in_range { IfOk result (OfTree AreNumbersInRange) }
+{
+    let start = path.as_slice().to_vec(alloc)?;
+    let mut walk = Walk::new(alloc, path);
+    match walk.grow(alloc, bank, atoms, steps, witnesses, used, &start, nodes)? {
+        Grown::Whole(made) => {
+            let Walk { writing, .. } = walk;
+            let refutation = writing.finish(alloc, bank, atoms, witnesses)?;
+            Ok(Stripped::Tree {
+                refutation,
+                nodes: made,
+            })
+        }
+        Grown::Open => {
+            let branch = walk
+                .writing
+                .literals(alloc, bank, atoms, witnesses, walk.path.as_slice())?;
+            Ok(Stripped::Open { branch })
+        }
+        Grown::Over => Ok(Stripped::Over { nodes }),
+    }
+}
+
+/// What comes of the expansion of the instances that a refutation uses: a tree without cut that has at most so many nodes, the first branch
+/// that stays open, or that a tree would have more.
+pub fn strip(
+    alloc: Global,
+    bank: &Bank,
+    lits: &LitTable,
+    steps: &StepTable,
+    witnesses: &Witnesses,
+    used: &UsedList,
+    nodes: u32,
+) -> Result<Stripped, AllocError>
+    requires rows { AreRows bank.now witnesses.now }
+    requires atoms { All (IsAtom bank.now) lits.now }
+    requires units { AreUnitsNumbered lits.now steps.now }
+    requires used { All (IsUsable bank.now lits.now (rows_of bank.now.terms witnesses.now) steps.now) used.now }
+    ensures exactly { IfOk result (IsStripped (atoms_at bank.now.terms lits.now) (rows_of bank.now.terms witnesses.now) (the_used bank.now.terms lits.now steps.now used.now) nodes (start_branch steps.now)) }
+    ensures accepted { IfOk result (OfTree (IsAccepted (content_scope bank.now) (unit_literals (atoms_at bank.now.terms lits.now) steps.now.0))) }
+    ensures closed { IfOk result (OfTree (λ refutation. Closes (with_rows (content_scope bank.now) refutation.witnesses) refutation.witnesses (tableau_of refutation) (unit_literals (atoms_at bank.now.terms lits.now) steps.now.0))) }
+    ensures no_cut { IfOk result (OfTree (λ refutation. HasNoCut refutation.lines)) }
+    ensures within { IfOk result (IsWithinLimit nodes) }
+    ensures reached { IfOk result (OfTree (λ refutation. IsEachReached refutation.lines)) }
+    ensures in_range { IfOk result (OfTree AreNumbersInRange) }
+{
+    tree_is_accepted();
+    let used = used.as_slice();
+    let path = start_path(alloc, bank, lits, steps, witnesses, used)?;
+    match path.first_clash() {
+        Some(lit) => Ok(at_once(alloc, bank, lits, steps, witnesses, used, nodes, lit, path)?),
+        None => Ok(grown(alloc, bank, lits, steps, witnesses, used, nodes, path)?),
+    }
+}
