@@ -41,12 +41,12 @@ stop_not_mode names (too_many file at) h = h
 stop_not_mode names (no_name file at) h = h
 
 problem_not_mode : (told : Bool) (contents : List ℕ → Option (List ℕ)) (r : Request) (m : Mode) (p : PlainProblem) (a : Answer) → IsOfMode a → AnswersProblem told contents r m p a → ⊥
-problem_not_mode told contents (prove q file) m p (ReadFault (named.Mode f)) o h = h
-problem_not_mode told contents (prove q file) m p (TooLong (named.Mode f)) o h = h
-problem_not_mode told contents (prove q file) m p (ModeAt line why) o h = h
-problem_not_mode told contents (refutation t q) m p (ReadFault (named.Mode f)) o h = h.holds
-problem_not_mode told contents (refutation t q) m p (TooLong (named.Mode f)) o h = h.holds
-problem_not_mode told contents (refutation t q) m p (ModeAt line why) o h = h.holds
+problem_not_mode told contents (prove q file nodes) m p (ReadFault (named.Mode f)) o h = h
+problem_not_mode told contents (prove q file nodes) m p (TooLong (named.Mode f)) o h = h
+problem_not_mode told contents (prove q file nodes) m p (ModeAt line why) o h = h
+problem_not_mode told contents (refutation cuts t q) m p (ReadFault (named.Mode f)) o h = h.holds
+problem_not_mode told contents (refutation cuts t q) m p (TooLong (named.Mode f)) o h = h.holds
+problem_not_mode told contents (refutation cuts t q) m p (ModeAt line why) o h = h.holds
 problem_not_mode told contents (generated n) m p (ReadFault (named.Mode f)) o h = h
 problem_not_mode told contents (generated n) m p (TooLong (named.Mode f)) o h = h
 problem_not_mode told contents (generated n) m p (ModeAt line why) o h = h
@@ -75,13 +75,13 @@ files_request r told contents m mode (ModeAt line why) h = absurd (ending_not_mo
 files_request r told contents m mode a h = record { mode = m; is_mode = mode; names = h.0; files = h.1 }
 
 -- a mode's file that isn't read
-pub mode_request : (p : List ℕ) (file : Option (List ℕ)) (told : Bool) (contents : List ℕ → Option (List ℕ)) (a : Answer) → IsUnaskedMode told contents file a → AnswersRequest (prove p file) told contents a
-mode_request p None told contents a h = absurd h
-mode_request p (Some file) told contents Memory h = tt
-mode_request p (Some file) told contents (ReadFault (named.Mode own)) h = ap Some (sym h)
-mode_request p (Some file) told contents (TooLong (named.Mode own)) h = (ap Some (sym h.0), subst (λ f. IsTrue told → (bytes : List ℕ) × (contents f ≡ Some bytes) × (byte_limit < length bytes)) (sym h.0) h.1)
-mode_request p (Some file) told contents (ModeAt line why) h = h
-mode_request p (Some file) told contents a h = absurd h
+pub mode_request : (p : List ℕ) (file : Option (List ℕ)) (nodes : Option ℕ) (told : Bool) (contents : List ℕ → Option (List ℕ)) (a : Answer) → IsUnaskedMode told contents file a → AnswersRequest (prove p file nodes) told contents a
+mode_request p None nodes told contents a h = absurd h
+mode_request p (Some file) nodes told contents Memory h = tt
+mode_request p (Some file) nodes told contents (ReadFault (named.Mode own)) h = ap Some (sym h)
+mode_request p (Some file) nodes told contents (TooLong (named.Mode own)) h = (ap Some (sym h.0), subst (λ f. IsTrue told → (bytes : List ℕ) × (contents f ≡ Some bytes) × (byte_limit < length bytes)) (sym h.0) h.1)
+mode_request p (Some file) nodes told contents (ModeAt line why) h = h
+mode_request p (Some file) nodes told contents a h = absurd h
 
 -- contents that are the same under each name
 same_contents : (one other : List ℕ → Option (List ℕ)) → ((f : List ℕ) → one f ≡ other f) → (names texts : List (List ℕ)) → AreContents one names texts → AreContents other names texts
@@ -125,8 +125,8 @@ pub cause_of : (r : Request) (told : Bool) (contents : List ℕ → Option (List
 cause_of r told contents before now (ReadFault (Part k names)) f g h q = f k names refl
 cause_of r told contents before now (ReadFault (named.Mode name)) f g h q = g name refl
 cause_of r told contents before now (ReadFault (Check name)) f g h q = h name refl
-cause_of r told contents before now (Proved Theorem n text) f g h q = q tt
-cause_of r told contents before now (Proved Unsatisfiable n text) f g h q = q tt
+cause_of r told contents before now (Proved Theorem n tree text) f g h q = q tt
+cause_of r told contents before now (Proved Unsatisfiable n tree text) f g h q = q tt
 cause_of r told contents before now a f g h q = q tt
 
 -- the text of a refutation is read only where one is to be checked
@@ -149,8 +149,8 @@ no_text_read r told contents name none h = go h.files.ending h.files.holds
     go (stopped s) k = part_stop h.names name s k
     go (done ss) k = stated (problem_of ss) k
 
-pub no_text_asked : (p : List ℕ) (file : Option (List ℕ)) (told : Bool) (contents : List ℕ → Option (List ℕ)) (name : List ℕ) → AnswersRequest (prove p file) told contents (ReadFault (Check name)) → ⊥
-no_text_asked p file told contents name h = no_text_read (prove p file) told contents name (λ m q k. k) h
+pub no_text_asked : (p : List ℕ) (file : Option (List ℕ)) (nodes : Option ℕ) (told : Bool) (contents : List ℕ → Option (List ℕ)) (name : List ℕ) → AnswersRequest (prove p file nodes) told contents (ReadFault (Check name)) → ⊥
+no_text_asked p file nodes told contents name h = no_text_read (prove p file nodes) told contents name (λ m q k. k) h
 
 pub no_text_modelled : (k : ℕ) (p : List ℕ) (told : Bool) (contents : List ℕ → Option (List ℕ)) (name : List ℕ) → AnswersRequest (models k p) told contents (ReadFault (Check name)) → ⊥
 no_text_modelled k p told contents name h = no_text_read (models k p) told contents name (λ m q k. k) h

@@ -67,8 +67,8 @@ pub demo_one_line : (n : ℕ) → is_one_line (codes "demo " ++ decimal n) ≡ t
 demo_one_line n = one_line-append (codes "demo ") (decimal n) refl (decimal_one_line n)
 
 request_one_line : (r : Request) → IsNamed r → is_one_line (problem_name r) ≡ true
-request_one_line (prove p mode) h = file_name-one_line p h
-request_one_line (refutation text p) h = file_name-one_line p h
+request_one_line (prove p mode nodes) h = file_name-one_line p h
+request_one_line (refutation cuts text p) h = file_name-one_line p h
 request_one_line (generated n) h = demo_one_line n
 request_one_line (models upto p) h = file_name-one_line p h.0
 request_one_line (sides p) h = file_name-one_line p h
@@ -81,8 +81,8 @@ pub asked_in_range : (words : List (List ℕ)) (r : Request) → asked_by words 
 asked_in_range words r h = go r (asked_by-named words r h)
   where
     go : (r : Request) → IsNamed r → IsRequestInRange r
-    go (prove p mode) k = tt
-    go (refutation text p) k = tt
+    go (prove p mode nodes) k = tt
+    go (refutation cuts text p) k = tt
     go (generated n) k = k
     go (models upto p) k = (k.1, k.2)
     go (sides p) k = tt

@@ -1,11 +1,12 @@
 -- A run that ended with a proof has its text.
-use Rattle.std.proofs.Common.{◌≡◌, ℕ, suc, true, List, [], ◌∷◌, map, length, refl, ap, arith}
+use Rattle.std.proofs.Common.{◌≡◌, ℕ, suc, true, List, [], ◌∷◌, map, filter, length, Option, Some, None, refl, sym, ap, subst, arith}
 use Rattle.std.specs.List.{AllByRecursion}
 use Rattle.std.proofs.lemmas.List.Sums.{list_all-from_AllPass}
 use Rattle.stt_core.specs.TypedName.{TypedName}
 use Rattle.stt_core.specs.PlainProblem.{PlainProblem}
 use Rattle.stt_core.specs.Declarations.{scope_of}
 use Rattle.tableau_calculus.specs.Start.{start}
+use Rattle.tableau_calculus.specs.Accepted.{IsAccepted}
 use Rattle.tableau_calculus.specs.declared.refutation.Refutation.{Refutation}
 use Rattle.refute_print.specs.Text.{text_lines, as_bytes}
 use Rattle.refute_print.specs.Named.{named_refutation, IsNamed}
@@ -17,7 +18,13 @@ use Rattle.refute_check.proofs.AcceptanceLaws.{named_accepted, places_named}
 use Rattle.prover_run.specs.Ended.{IsRefuted}
 use Rattle.request_answers.specs.Names.{ArePrintable, names_in}
 use Rattle.request_answers.specs.Internal.Texts.{HasTexts}
-use Rattle.request_answers.specs.Solved.{IsProofOf}
+use Rattle.search_spec.specs.Shallow.{is_shallow_literal}
+use Rattle.refute_print.specs.Sizes.{IsSmall}
+use Rattle.plain_tableau.specs.declared.stripped.Stripped.{Stripped}
+use Rattle.plain_tableau.specs.declared.stripped.Stripped.TheVariants as stripped
+use Rattle.prover_run.specs.Tree.{IsTreeAsked}
+use Rattle.szs_report.specs.declared.answer.TreeReport.{TreeReport}
+use Rattle.request_answers.specs.Solved.{written_refutation, tree_told, IsProofOf}
 use Rattle.thf_grammar.specs.Printable.{is_printable, IsPrintable}
 use Rattle.refute_print.specs.Letters.{is_printable_name}
 use Rattle.request_answers.proofs.NameLaws.{NamesAll, accepted_named}
@@ -42,19 +49,56 @@ are_words p h = record { bases = words (names_in p).bases h.bases; constants = w
 named_all : (p : PlainProblem) → NamesAll (names_in p) (scope_of p.declared)
 named_all p = record { bases = refl; constants = same_length p.declared.consts }
 
-module _ (m : Mode) (p : PlainProblem) (n : ℕ) (refutation : Refutation) (texts : HasTexts p) (r : IsRefuted (unfolded_problem p) m n refutation) where
-  pub run_named : IsNamed (names_in p) refutation
-  run_named = accepted_named (names_in p) (scope_of p.declared) (named_all p) (start (unfolded_problem p)) refutation r.accepted
+-- what is written is accepted for the start, and small enough for a text
+module _ (nodes : Option ℕ) (m : Mode) (p : PlainProblem) (n : ℕ) (rebuilt : Refutation) (r : IsRefuted (unfolded_problem p) m n rebuilt) where
+  abbrev pub Asked : Option Stripped → Type 0
+  Asked s = IsTreeAsked (scope_of p.declared) (start (unfolded_problem p)) (filter is_shallow_literal (start (unfolded_problem p))) r.shortly.input nodes s
 
-  pub proof_of_run : AreDeclaredNames p (taken_names p) → (text : List ℕ) → text ≡ as_bytes (text_lines (named_refutation (names_in p) (taken_names p) refutation)) → IsProofOf m p n text
+pub written_accepted : (nodes : Option ℕ) (m : Mode) (p : PlainProblem) (n : ℕ) (rebuilt : Refutation) (r : IsRefuted (unfolded_problem p) m n rebuilt) (s : Option Stripped) → Asked nodes m p n rebuilt r s → IsAccepted (scope_of p.declared) (start (unfolded_problem p)) (written_refutation rebuilt s)
+written_accepted None m p n rebuilt r None a = r.accepted
+written_accepted None m p n rebuilt r (Some s) a = absurd a
+written_accepted (Some k) m p n rebuilt r None a = absurd a
+written_accepted (Some k) m p n rebuilt r (Some (stripped.Tree tree i)) a = a.accepted
+written_accepted (Some k) m p n rebuilt r (Some (stripped.Open branch)) a = r.accepted
+written_accepted (Some k) m p n rebuilt r (Some (stripped.Over i)) a = r.accepted
+
+written_small : (nodes : Option ℕ) (m : Mode) (p : PlainProblem) (n : ℕ) (rebuilt : Refutation) (r : IsRefuted (unfolded_problem p) m n rebuilt) (s : Option Stripped) → Asked nodes m p n rebuilt r s → IsSmall (written_refutation rebuilt s)
+written_small None m p n rebuilt r None a = r.small
+written_small None m p n rebuilt r (Some s) a = absurd a
+written_small (Some k) m p n rebuilt r None a = absurd a
+written_small (Some k) m p n rebuilt r (Some (stripped.Tree tree i)) a = a.small
+written_small (Some k) m p n rebuilt r (Some (stripped.Open branch)) a = r.small
+written_small (Some k) m p n rebuilt r (Some (stripped.Over i)) a = r.small
+
+module _ (nodes : Option ℕ) (m : Mode) (p : PlainProblem) (n : ℕ) (rebuilt : Refutation) (texts : HasTexts p) (r : IsRefuted (unfolded_problem p) m n rebuilt) (s : Option Stripped) (a : Asked nodes m p n rebuilt r s) where
+  accepted : IsAccepted (scope_of p.declared) (start (unfolded_problem p)) (written_refutation rebuilt s)
+  accepted = written_accepted nodes m p n rebuilt r s a
+
+  pub run_named : IsNamed (names_in p) (written_refutation rebuilt s)
+  run_named = accepted_named (names_in p) (scope_of p.declared) (named_all p) (start (unfolded_problem p)) (written_refutation rebuilt s) accepted
+
+  pub proof_of_run : AreDeclaredNames p (taken_names p) → (text : List ℕ) → text ≡ as_bytes (text_lines (named_refutation (names_in p) (taken_names p) (written_refutation rebuilt s))) → IsProofOf nodes m p n (tree_told s) text
   proof_of_run declared text t = record {
-    refutation = refutation;
+    rebuilt = rebuilt;
     refuted = r;
+    stripped = s;
+    asked = a;
+    is_told = refl;
+    refutation = written_refutation rebuilt s;
+    is_written = refl;
     is_text = t;
-    has_text = has_text (names_in p) (scope_of p.declared) (named_all p) (are_words p texts.printable) (taken_names p) (places_named p (taken_names p) declared) (start (unfolded_problem p)) refutation r.accepted r.small;
-    numbered = refutation-same (names_in p) (declared_placed p.declared texts.apart) (scope_of p.declared) (taken_names p) refutation r.accepted.table run_named;
+    has_text =
+        has_text (names_in p) (scope_of p.declared) (named_all p) (are_words p texts.printable) (taken_names p) (places_named p (taken_names p) declared)
+        (start (unfolded_problem p)) (written_refutation rebuilt s) accepted (written_small nodes m p n rebuilt r s a);
+    numbered = refutation-same (names_in p) (declared_placed p.declared texts.apart) (scope_of p.declared) (taken_names p) (written_refutation rebuilt s) accepted.table run_named;
   }
 
+-- what a proof writes is accepted for the start
+pub proof_of_start : (nodes : Option ℕ) (m : Mode) (p : PlainProblem) (n : ℕ) (tree : TreeReport) (text : List ℕ) (proof : IsProofOf nodes m p n tree text) → IsAccepted (scope_of p.declared) (start (unfolded_problem p)) proof.refutation
+proof_of_start nodes m p n tree text proof =
+    subst (IsAccepted (scope_of p.declared) (start (unfolded_problem p))) (sym proof.is_written)
+    (written_accepted nodes m p n proof.rebuilt proof.refuted proof.stripped proof.asked)
+
 -- the text of a run's proof is accepted for the problem
-pub proof_accepted : (m : Mode) (p : PlainProblem) (n : ℕ) (text : List ℕ) (proof : IsProofOf m p n text) → IsAcceptedFor p (named_refutation (names_in p) (taken_names p) proof.refutation)
-proof_accepted m p n text proof = named_accepted p proof.refutation proof.numbered proof.refuted.accepted
+pub proof_accepted : (nodes : Option ℕ) (m : Mode) (p : PlainProblem) (n : ℕ) (tree : TreeReport) (text : List ℕ) (proof : IsProofOf nodes m p n tree text) → IsAcceptedFor p (named_refutation (names_in p) (taken_names p) proof.refutation)
+proof_accepted nodes m p n tree text proof = named_accepted p proof.refutation proof.numbered (proof_of_start nodes m p n tree text proof)

@@ -32,8 +32,8 @@ stop_answer names (no_name file at) = IncludeAt (Part file names) at NoSuchName
 
 -- what the problem that is asked for is answered with, once it is read and where this is the mode
 abbrev pub AnswersProblem : Bool → (List ℕ → Option (List ℕ)) → Request → Mode → PlainProblem → Answer → Type 0
-AnswersProblem told contents (prove p mode) m = IsSolved m
-AnswersProblem told contents (refutation text p) m = AnswersText told contents text
+AnswersProblem told contents (prove p mode nodes) m = IsSolved nodes m
+AnswersProblem told contents (refutation cuts text p) m = AnswersText cuts told contents text
 AnswersProblem told contents (generated n) m = IsDemoed m
 AnswersProblem told contents (models upto p) m = AnswersModels upto
 AnswersProblem told contents (sides p) m = AnswersSides

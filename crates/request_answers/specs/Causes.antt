@@ -4,6 +4,7 @@ use Rattle.stt_core.specs.PlainProblem.{PlainProblem}
 use Rattle.outside.specs.Causes.{Rose}
 use Rattle.thf_include.specs.Gathering.{stopped, wants}
 use Rattle.cli_words.specs.Requests.{Request, refutation, generated, asked_by}
+use Rattle.cli_words.specs.declared.Cuts.{Cuts}
 use Rattle.szs_report.specs.declared.outcome.FileRef.TheVariants as reference
 use Rattle.szs_report.specs.declared.outcome.Outcome.{Outcome}
 use Rattle.szs_report.specs.declared.outcome.Outcome.TheVariants as ended
@@ -36,7 +37,8 @@ pub record IsTextFault (r : Request) (told : Bool) (contents : List ℕ → Opti
   pub stated : OfFiles (problem_name r) (told_of told r) (contents_of contents r) names (Statements problem)
   pub file : List ℕ
   pub name : List ℕ
-  pub asked : r ≡ refutation file name
+  pub cuts : Cuts
+  pub asked : r ≡ refutation cuts file name
   pub rose : Rose (before file) (now file)
 
 abbrev pub IsNoWriteFault : Outcome → Type 0

@@ -6,32 +6,32 @@ use Rattle.problem_gen.specs.Chain.{text}
 
 -- the name by which a report calls the problem
 abbrev pub problem_name : Request → List ℕ
-problem_name (prove p mode) = p
-problem_name (refutation text p) = p
+problem_name (prove p mode nodes) = p
+problem_name (refutation cuts text p) = p
 problem_name (generated n) = codes "demo " ++ decimal n
 problem_name (models upto p) = p
 problem_name (sides p) = p
 
 -- the file of the mode, where one is named
 abbrev pub mode_file : Request → Option (List ℕ)
-mode_file (prove p mode) = mode
-mode_file (refutation text p) = None
+mode_file (prove p mode nodes) = mode
+mode_file (refutation cuts text p) = None
 mode_file (generated n) = None
 mode_file (models upto p) = None
 mode_file (sides p) = None
 
 -- whether the contents of the problem's files are told: those of a generated problem always are
 abbrev pub told_of : Bool → Request → Bool
-told_of told (prove p mode) = told
-told_of told (refutation text p) = told
+told_of told (prove p mode nodes) = told
+told_of told (refutation cuts text p) = told
 told_of told (generated n) = true
 told_of told (models upto p) = told
 told_of told (sides p) = told
 
 -- the contents of the problem's files: a generated problem is its text, under each name
 abbrev pub contents_of : (List ℕ → Option (List ℕ)) → Request → List ℕ → Option (List ℕ)
-contents_of contents (prove p mode) = contents
-contents_of contents (refutation text p) = contents
+contents_of contents (prove p mode nodes) = contents
+contents_of contents (refutation cuts text p) = contents
 contents_of contents (generated n) = λ file. Some (text n)
 contents_of contents (models upto p) = contents
 contents_of contents (sides p) = contents
@@ -42,8 +42,8 @@ asked_name words = option_map_or problem_name (asked_by words) []
 
 -- the number of a request is in its range: that of a problem that is to be generated, and the bound of a search for models
 abbrev pub IsRequestInRange : Request → Type 0
-IsRequestInRange (prove p mode) = Unit {0}
-IsRequestInRange (refutation text p) = Unit {0}
+IsRequestInRange (prove p mode nodes) = Unit {0}
+IsRequestInRange (refutation cuts text p) = Unit {0}
 IsRequestInRange (generated n) = (0 < n) × (n ≤ 1000)
 IsRequestInRange (models upto p) = (0 < upto) × (upto ≤ 8)
 IsRequestInRange (sides p) = Unit {0}

@@ -1,6 +1,6 @@
 //! Generated problems: each is made, proved, and its report read back and checked, all in memory.
 
-ghost use Rattle.std.specs.Prelude.{◌≡◌, ◌≤◌, ◌<◌, ◌++◌, ℕ, Bool, true, false, List, Option, codes, decimal, string_bytes, IfOk};
+ghost use Rattle.std.specs.Prelude.{◌≡◌, ◌≤◌, ◌<◌, ◌++◌, ℕ, Bool, true, false, List, Option, codes, decimal, string_bytes, IfOk, None};
 ghost use Rattle.refute_text.specs.Reading.{is_one_line};
 ghost use Rattle.problem_gen.specs.Chain.{text};
 ghost use Rattle.cli_words.specs.Requests.{generated};
@@ -94,7 +94,7 @@ fn checked(
 ) -> Result<Answer, AllocError>
     requires texts { HasTexts problem.now }
     requires named { is_one_line name.now ≡ true }
-    requires solved { IsSolved (mode_of nothing_given) problem.now answer }
+    requires solved { IsSolved None (mode_of nothing_given) problem.now answer }
     ensures { IfOk result (IsDemoed (mode_of nothing_given) problem.now) }
 {
     let Answer::Proved {
@@ -122,7 +122,7 @@ fn demo_answer(alloc: Global, problem: &Problem, name: &str) -> Answer
     requires named { is_one_line name.now ≡ true }
     ensures { IsDemoed (mode_of nothing_given) problem.now result }
 {
-    let answer = solve(alloc, problem, &Mode::standard());
+    let answer = solve(alloc, problem, &Mode::standard(), None);
     checked(alloc, problem, name, answer).unwrap_or(Answer::Memory)
 }
 

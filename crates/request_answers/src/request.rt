@@ -25,16 +25,22 @@ use crate::models::look;
 use crate::sides::compare;
 use crate::solve::solve;
 use crate::stated::read_problem;
-use cli_words::Asked;
+use cli_words::{Asked, Cuts};
 use mode_file::Mode;
 use outside::Files;
 use std::alloc::{AllocError, Global};
 use szs_report::Answer;
 
-/// The answer where the problem of a name is to be proved by a mode.
-fn prove_by<F: Files>(alloc: Global, files: &mut F, problem: &str, mode: &Mode) -> Answer
+/// The answer where the problem of a name is to be proved by a mode, with a tree where one is asked for.
+fn prove_by<F: Files>(
+    alloc: Global,
+    files: &mut F,
+    problem: &str,
+    mode: &Mode,
+    nodes: Option<u32>,
+) -> Answer
     requires range { IsInRange mode.now }
-    ensures answers { IsFilesAnswer (IsSolved mode.now) problem.now (F.tells files.old) (F.contents files.old) result }
+    ensures answers { IsFilesAnswer (IsSolved nodes mode.now) problem.now (F.tells files.old) (F.contents files.old) result }
     ensures fault { (k : ℕ) (names : List (List ℕ)) → result ≡ Answer.ReadFault (Part k names)
         → IsFaultIn problem.now (F.tells files.old) (F.contents files.old) (F.faults files.old) (F.faults files.new) k }
     ensures quiet { IsNoReadFault result → (other : List ℕ) → F.faults files.new other ≡ F.faults files.old other }
@@ -44,14 +50,20 @@ fn prove_by<F: Files>(alloc: Global, files: &mut F, problem: &str, mode: &Mode) 
     ensures telling { F.tells files.new ≡ F.tells files.old }
 {
     match read_problem(alloc, files, problem) {
-        Ok(stated) => solve(alloc, &stated, mode),
+        Ok(stated) => solve(alloc, &stated, mode, nodes),
         Err(answer) => answer,
     }
 }
 
 /// The answer where the problem of a name is to be proved, by the mode of a file or by the standard one.
-fn prove<F: Files>(alloc: Global, files: &mut F, problem: &str, mode: Option<&str>) -> Answer
-    ensures answers { AnswersRequest (prove problem.now (option_map (λ f. f.now) mode.entry)) (F.tells files.old) (F.contents files.old) result }
+fn prove<F: Files>(
+    alloc: Global,
+    files: &mut F,
+    problem: &str,
+    mode: Option<&str>,
+    nodes: Option<u32>,
+) -> Answer
+    ensures answers { AnswersRequest (prove problem.now (option_map (λ f. f.now) mode.entry) nodes) (F.tells files.old) (F.contents files.old) result }
     ensures fault { (k : ℕ) (names : List (List ℕ)) → result ≡ Answer.ReadFault (Part k names)
         → IsFaultIn problem.now (F.tells files.old) (F.contents files.old) (F.faults files.old) (F.faults files.new) k }
     ensures mode_fault { (own : List ℕ) → result ≡ Answer.ReadFault (named.Mode own) → Rose (F.faults files.old own) (F.faults files.new own) }
@@ -62,18 +74,18 @@ fn prove<F: Files>(alloc: Global, files: &mut F, problem: &str, mode: Option<&st
     ensures telling { F.tells files.new ≡ F.tells files.old }
 {
     match mode_by(alloc, files, mode) {
-        Ok(mode) => prove_by(alloc, files, problem, &mode),
+        Ok(mode) => prove_by(alloc, files, problem, &mode, nodes),
         Err(answer) => answer,
     }
 }
 
 /// The answer where the text in a file is to be checked against the problem of a name.
-fn check<F: Files>(alloc: Global, files: &mut F, text: &str, problem: &str) -> Answer
-    ensures answers { IsFilesAnswer (AnswersText (F.tells files.old) (F.contents files.old) text.now) problem.now (F.tells files.old) (F.contents files.old) result }
+fn check<F: Files>(alloc: Global, files: &mut F, text: &str, problem: &str, cuts: Cuts) -> Answer
+    ensures answers { IsFilesAnswer (AnswersText cuts (F.tells files.old) (F.contents files.old) text.now) problem.now (F.tells files.old) (F.contents files.old) result }
     ensures fault { (k : ℕ) (names : List (List ℕ)) → result ≡ Answer.ReadFault (Part k names)
         → IsFaultIn problem.now (F.tells files.old) (F.contents files.old) (F.faults files.old) (F.faults files.new) k }
     ensures text_fault { (own : List ℕ) → result ≡ Answer.ReadFault (Check own)
-        → IsTextFault (refutation text.now problem.now) (F.tells files.old) (F.contents files.old) (F.faults files.old) (F.faults files.new) }
+        → IsTextFault (refutation cuts text.now problem.now) (F.tells files.old) (F.contents files.old) (F.faults files.old) (F.faults files.new) }
     ensures quiet { IsNoReadFault result → (other : List ℕ) → F.faults files.new other ≡ F.faults files.old other }
 
     ensures later { (other : List ℕ) → F.faults files.old other ≤ F.faults files.new other }
@@ -81,7 +93,7 @@ fn check<F: Files>(alloc: Global, files: &mut F, text: &str, problem: &str) -> A
     ensures telling { F.tells files.new ≡ F.tells files.old }
 {
     match read_problem(alloc, files, problem) {
-        Ok(stated) => check_file(alloc, files, &stated, text),
+        Ok(stated) => check_file(alloc, files, &stated, text, cuts),
         Err(answer) => answer,
     }
 }
@@ -149,8 +161,16 @@ pub fn answer<F: Files>(alloc: Global, files: &mut F, asked: &Asked, name: &str)
     ensures telling { F.tells files.new ≡ F.tells files.old }
 {
     match asked {
-        Asked::Prove { problem, mode } => prove(alloc, files, problem, *mode),
-        Asked::Check { text, problem } => check(alloc, files, text, problem),
+        Asked::Prove {
+            problem,
+            mode,
+            nodes,
+        } => prove(alloc, files, problem, *mode, *nodes),
+        Asked::Check {
+            text,
+            problem,
+            cuts,
+        } => check(alloc, files, text, problem, *cuts),
         Asked::Demo { n } => demo(alloc, *n, name),
         Asked::Models { upto, problem } => look_in(alloc, files, *upto, problem),
         Asked::Same { problem } => compare_in(alloc, files, problem),

@@ -5,14 +5,16 @@ ghost use Rattle.delta_defs.specs.Unfolding.{unfolded_problem};
 ghost use Rattle.mode_file.specs.Given.{IsInRange};
 ghost use Rattle.prover_run.specs.Ended.{EndsAs};
 ghost use Rattle.request_answers.specs.Internal.Texts.{HasTexts};
-ghost use Rattle.request_answers.specs.Solved.{claim_of, IsSolved};
+ghost use Rattle.request_answers.specs.Solved.{claim_of, written_refutation, tree_told, IsSolved};
 
 use delta_defs::{taken, unfold_problem};
 use mode_file::Mode;
+use plain_tableau::Stripped;
 use prover_run::{Ended, run};
 use std::alloc::{AllocError, Global};
 use stt_core::Problem;
-use szs_report::{Answer, Claim, ProofText};
+use szs_report::{Answer, Claim, ProofText, TreeReport};
+use tableau_calculus::Refutation;
 
 /// What a refutation of the problem's start shows.
 fn claim_of(problem: &Problem) -> Claim
@@ -24,27 +26,44 @@ fn claim_of(problem: &Problem) -> Claim
     }
 }
 
+/// The refutation that is written, and what is told of a tree.
+fn written(rebuilt: Refutation, tree: Option<Stripped>) -> (Refutation, TreeReport)
+    ensures written { result.0 ≡ written_refutation rebuilt tree }
+    ensures told { result.1 ≡ tree_told tree }
+{
+    match tree {
+        None => (rebuilt, TreeReport::Unasked),
+        Some(Stripped::Tree { refutation, nodes }) => (refutation, TreeReport::Tree { nodes }),
+        Some(Stripped::Open { .. }) => (rebuilt, TreeReport::Open),
+        Some(Stripped::Over { nodes }) => (rebuilt, TreeReport::Over { nodes }),
+    }
+}
+
 /// The answer for a run over the unfolded problem that has ended.
 fn ended_answer(
     alloc: Global,
     problem: &Problem,
     mode: &Mode,
+    nodes: Option<u32>,
     ended: Ended,
 ) -> Result<Answer, AllocError>
     requires texts { HasTexts problem.now }
-    requires ended { EndsAs (unfolded_problem problem.now) mode.now ended }
-    ensures { IfOk result (IsSolved mode.now problem.now) }
+    requires ended { EndsAs (unfolded_problem problem.now) mode.now nodes ended }
+    ensures { IfOk result (IsSolved nodes mode.now problem.now) }
 {
     match ended {
         Ended::Proved {
             commands,
             refutation,
+            tree,
         } => {
             let names = taken(alloc, problem)?;
+            let (refutation, tree) = written(refutation, tree);
             let text = ProofText::new(alloc, &problem.signature, names.as_slice(), refutation)?;
             Ok(Answer::Proved {
                 claim: claim_of(problem),
                 commands,
+                tree,
                 text,
             })
         }
@@ -55,23 +74,28 @@ fn ended_answer(
 }
 
 /// The answer for a problem, whose definitions are unfolded before the run.
-fn solve_unfolded(alloc: Global, problem: &Problem, mode: &Mode) -> Result<Answer, AllocError>
+fn solve_unfolded(
+    alloc: Global,
+    problem: &Problem,
+    mode: &Mode,
+    nodes: Option<u32>,
+) -> Result<Answer, AllocError>
     requires texts { HasTexts problem.now }
     requires range { IsInRange mode.now }
-    ensures { IfOk result (IsSolved mode.now problem.now) }
+    ensures { IfOk result (IsSolved nodes mode.now problem.now) }
 {
     let unfolded = unfold_problem(alloc, problem)?;
-    let ended = run(alloc, &unfolded, mode)?;
-    ended_answer(alloc, problem, mode, ended)
+    let ended = run(alloc, &unfolded, mode, nodes)?;
+    ended_answer(alloc, problem, mode, nodes, ended)
 }
 
-/// The answer for a problem that is to be proved.
-pub(crate) fn solve(alloc: Global, problem: &Problem, mode: &Mode) -> Answer
+/// The answer for a problem that is to be proved, with a tree without cut of at most so many nodes where one is asked for.
+pub(crate) fn solve(alloc: Global, problem: &Problem, mode: &Mode, nodes: Option<u32>) -> Answer
     requires texts { HasTexts problem.now }
     requires range { IsInRange mode.now }
-    ensures { IsSolved mode.now problem.now result }
+    ensures { IsSolved nodes mode.now problem.now result }
 {
-    match solve_unfolded(alloc, problem, mode) {
+    match solve_unfolded(alloc, problem, mode, nodes) {
         Ok(answer) => answer,
         Err(AllocError) => Answer::Memory,
     }

@@ -109,14 +109,14 @@ record IsProofAnswer (a : Answer) : Type 0 where
   pub is : a ≡ Proved claim commands text
 
 proved_form : (a : Answer) → IsProvedOutcome (outcome_of a) → IsProofAnswer a
-proved_form (Proved claim n text) h = record { claim = claim; commands = n; text = text; is = refl }
+proved_form (Proved claim n tree text) h = record { claim = claim; commands = n; text = text; is = refl }
 proved_form a h = absurd h
 
 -- what such an answer shows
 pub record ProvedAnswer (o : Option Request) (told : Bool) (contents : List ℕ → Option (List ℕ)) (a : Answer) : Type 0 where
   pub name : List ℕ
   pub file : Option (List ℕ)
-  pub asked : o ≡ Some (prove name file)
+  pub asked : o ≡ Some (prove name file nodes)
   pub mode : Mode
   pub is_mode : IsModeBy told contents file mode
   pub names : List (List ℕ)
@@ -129,7 +129,7 @@ pub record ProvedAnswer (o : Option Request) (told : Bool) (contents : List ℕ 
   pub is : a ≡ Proved (claim_of problem) commands text
 
 -- files that are answered with a proof show it
-proved_files : (p : List ℕ) (file : Option (List ℕ)) (told : Bool) (contents : List ℕ → Option (List ℕ)) (claim : Claim) (n : ℕ) (text : List ℕ) → FilesAnswered (prove p file) told contents (Proved claim n text) → ProvedAnswer (Some (prove p file)) told contents (Proved claim n text)
+proved_files : (p : List ℕ) (file : Option (List ℕ)) (told : Bool) (contents : List ℕ → Option (List ℕ)) (claim : Claim) (n : ℕ) (text : List ℕ) → FilesAnswered (prove p file nodes) told contents (Proved claim n tree text) → ProvedAnswer (Some (prove p file nodes)) told contents (Proved claim n tree text)
 proved_files p file told contents claim n text f = record {
   name = p;
   file = file;
@@ -148,27 +148,27 @@ proved_files p file told contents claim n text f = record {
 
 -- Where a proof is answered, a problem is to be proved, and files are answered so. The conclusion is a variable, so that no record is compared
 -- field by field.
-proved_asked : (R : Type 0) (o : Option Request) (told : Bool) (contents : List ℕ → Option (List ℕ)) (claim : Claim) (n : ℕ) (text : List ℕ) → AnswersAsked o told contents (Proved claim n text) → ((p : List ℕ) (file : Option (List ℕ)) → o ≡ Some (prove p file) → AnswersFiles (prove p file) told contents (Proved claim n text) → R) → R
+proved_asked : (R : Type 0) (o : Option Request) (told : Bool) (contents : List ℕ → Option (List ℕ)) (claim : Claim) (n : ℕ) (text : List ℕ) → AnswersAsked o told contents (Proved claim n tree text) → ((p : List ℕ) (file : Option (List ℕ)) → o ≡ Some (prove p file nodes) → AnswersFiles (prove p file nodes) told contents (Proved claim n tree text) → R) → R
 proved_asked R None told contents claim n text h k = cc
-proved_asked R (Some (refutation file p)) told contents claim n text h k =
-    let f = files_answered (refutation file p) told contents (Proved claim n text) (λ x. x) h in absurd f.answered.holds
+proved_asked R (Some (refutation cuts file p)) told contents claim n text h k =
+    let f = files_answered (refutation cuts file p) told contents (Proved claim n tree text) (λ x. x) h in absurd f.answered.holds
 proved_asked R (Some (generated i)) told contents claim n text h k =
-    let f = files_answered (generated i) told contents (Proved claim n text) (λ x. x) h in absurd f.answered
+    let f = files_answered (generated i) told contents (Proved claim n tree text) (λ x. x) h in absurd f.answered
 proved_asked R (Some (models i p)) told contents claim n text h k =
-    let f = files_answered (models i p) told contents (Proved claim n text) (λ x. x) h in absurd f.answered
+    let f = files_answered (models i p) told contents (Proved claim n tree text) (λ x. x) h in absurd f.answered
 proved_asked R (Some (sides p)) told contents claim n text h k =
-    let f = files_answered (sides p) told contents (Proved claim n text) (λ x. x) h in absurd f.answered
-proved_asked R (Some (prove p file)) told contents claim n text h k = k p file refl h
+    let f = files_answered (sides p) told contents (Proved claim n tree text) (λ x. x) h in absurd f.answered
+proved_asked R (Some (prove p file nodes)) told contents claim n text h k = k p file refl h
 
 proved_answer : (o : Option Request) (told : Bool) (contents : List ℕ → Option (List ℕ)) (a : Answer) → AnswersAsked o told contents a → IsProvedOutcome (outcome_of a) → ProvedAnswer o told contents a
 proved_answer o told contents a answer h =
     let q = proved_form a h in
-    let proof : Answer = Proved q.claim q.commands q.text in
+    let proof : Answer = Proved q.claim q.commands q.tree q.text in
     subst (ProvedAnswer o told contents) (sym q.is)
     (proved_asked (ProvedAnswer o told contents proof) o told contents q.claim q.commands q.text (subst (AnswersAsked o told contents) q.is answer)
-    (λ (p : List ℕ) (file : Option (List ℕ)) (is : o ≡ Some (prove p file)) (k : AnswersFiles (prove p file) told contents (Proved q.claim q.commands q.text)).
+    (λ (p : List ℕ) (file : Option (List ℕ)) (is : o ≡ Some (prove p file nodes)) (k : AnswersFiles (prove p file nodes) told contents (Proved q.claim q.commands q.tree q.text)).
     subst (λ (x : Option Request). ProvedAnswer x told contents proof) (sym is)
-    (proved_files p file told contents q.claim q.commands q.text (files_answered (prove p file) told contents (Proved q.claim q.commands q.text) (λ x. x) k))))
+    (proved_files p file told contents q.claim q.commands q.text (files_answered (prove p file nodes) told contents (Proved q.claim q.commands q.tree q.text) (λ x. x) k))))
 
 -- a problem that is stated has no model
 pub record Unmodelled (o : Option Request) (told : Bool) (contents : List ℕ → Option (List ℕ)) : Type 0 where
@@ -178,39 +178,39 @@ pub record Unmodelled (o : Option Request) (told : Bool) (contents : List ℕ �
   pub no_model : IsWithoutModel problem
 
 no_model_asked : (o : Option Request) (told : Bool) (contents : List ℕ → Option (List ℕ)) (a : Answer) → AnswersAsked o told contents a → ShowsNoModel (outcome_of a) → Unmodelled o told contents
-no_model_asked None told contents (Proved claim n text) h s = cc
+no_model_asked None told contents (Proved claim n tree text) h s = cc
 no_model_asked None told contents (DemoDone claim n) h s = cc
 no_model_asked None told contents Accepted h s = cc
-no_model_asked (Some (prove p file)) told contents (Proved claim n text) h s =
-    let f = files_answered (prove p file) told contents (Proved claim n text) (λ x. x) h in
+no_model_asked (Some (prove p file nodes)) told contents (Proved claim n tree text) h s =
+    let f = files_answered (prove p file nodes) told contents (Proved claim n tree text) (λ x. x) h in
     record { names = f.names; problem = f.problem; stated = f.stated; no_model = no_model_of f.problem (named_refutation (names_in f.problem) (taken_names f.problem) f.answered.1.refutation) f.typed (proof_accepted f.mode f.problem n text f.answered.1) }
-no_model_asked (Some (prove p file)) told contents (DemoDone claim n) h s =
-    let f = files_answered (prove p file) told contents (DemoDone claim n) (λ x. x) h in absurd f.answered
-no_model_asked (Some (prove p file)) told contents Accepted h s =
-    let f = files_answered (prove p file) told contents Accepted (λ x. x) h in absurd f.answered
-no_model_asked (Some (refutation file p)) told contents (Proved claim n text) h s =
-    let f = files_answered (refutation file p) told contents (Proved claim n text) (λ x. x) h in absurd f.answered.holds
-no_model_asked (Some (refutation file p)) told contents (DemoDone claim n) h s =
-    let f = files_answered (refutation file p) told contents (DemoDone claim n) (λ x. x) h in absurd f.answered.holds
-no_model_asked (Some (refutation file p)) told contents Accepted h s =
-    let f = files_answered (refutation file p) told contents Accepted (λ x. x) h in
+no_model_asked (Some (prove p file nodes)) told contents (DemoDone claim n) h s =
+    let f = files_answered (prove p file nodes) told contents (DemoDone claim n) (λ x. x) h in absurd f.answered
+no_model_asked (Some (prove p file nodes)) told contents Accepted h s =
+    let f = files_answered (prove p file nodes) told contents Accepted (λ x. x) h in absurd f.answered
+no_model_asked (Some (refutation cuts file p)) told contents (Proved claim n tree text) h s =
+    let f = files_answered (refutation cuts file p) told contents (Proved claim n tree text) (λ x. x) h in absurd f.answered.holds
+no_model_asked (Some (refutation cuts file p)) told contents (DemoDone claim n) h s =
+    let f = files_answered (refutation cuts file p) told contents (DemoDone claim n) (λ x. x) h in absurd f.answered.holds
+no_model_asked (Some (refutation cuts file p)) told contents Accepted h s =
+    let f = files_answered (refutation cuts file p) told contents Accepted (λ x. x) h in
     record { names = f.names; problem = f.problem; stated = f.stated; no_model = no_model_of f.problem f.answered.holds.refutation f.typed f.answered.holds.accepted }
-no_model_asked (Some (generated k)) told contents (Proved claim n text) h s =
-    let f = files_answered (generated k) told contents (Proved claim n text) (λ x. x) h in absurd f.answered
+no_model_asked (Some (generated k)) told contents (Proved claim n tree text) h s =
+    let f = files_answered (generated k) told contents (Proved claim n tree text) (λ x. x) h in absurd f.answered
 no_model_asked (Some (generated k)) told contents (DemoDone claim n) h s =
     let f = files_answered (generated k) told contents (DemoDone claim n) (λ x. x) h in
     let proof = f.answered.1.1 in
     record { names = f.names; problem = f.problem; stated = f.stated; no_model = no_model_of f.problem (named_refutation (names_in f.problem) (taken_names f.problem) proof.refutation) f.typed (proof_accepted f.mode f.problem n f.answered.0 proof) }
 no_model_asked (Some (generated k)) told contents Accepted h s =
     let f = files_answered (generated k) told contents Accepted (λ x. x) h in absurd f.answered
-no_model_asked (Some (models k p)) told contents (Proved claim n text) h s =
-    let f = files_answered (models k p) told contents (Proved claim n text) (λ x. x) h in absurd f.answered
+no_model_asked (Some (models k p)) told contents (Proved claim n tree text) h s =
+    let f = files_answered (models k p) told contents (Proved claim n tree text) (λ x. x) h in absurd f.answered
 no_model_asked (Some (models k p)) told contents (DemoDone claim n) h s =
     let f = files_answered (models k p) told contents (DemoDone claim n) (λ x. x) h in absurd f.answered
 no_model_asked (Some (models k p)) told contents Accepted h s =
     let f = files_answered (models k p) told contents Accepted (λ x. x) h in absurd f.answered
-no_model_asked (Some (sides p)) told contents (Proved claim n text) h s =
-    let f = files_answered (sides p) told contents (Proved claim n text) (λ x. x) h in absurd f.answered
+no_model_asked (Some (sides p)) told contents (Proved claim n tree text) h s =
+    let f = files_answered (sides p) told contents (Proved claim n tree text) (λ x. x) h in absurd f.answered
 no_model_asked (Some (sides p)) told contents (DemoDone claim n) h s =
     let f = files_answered (sides p) told contents (DemoDone claim n) (λ x. x) h in absurd f.answered
 no_model_asked (Some (sides p)) told contents Accepted h s =
@@ -224,12 +224,12 @@ no_model_answer words told contents o a answer is h =
 
 -- a problem that is answered with what its conjecture's sides are was to be answered so
 said_of_sides : (told : Bool) (contents : List ℕ → Option (List ℕ)) (r : Request) (m : Mode) (p : PlainProblem) (a : Answer) → IsOfSides (outcome_of a) → AnswersProblem told contents r m p a → SaysOfSides (outcome_of a) p
-said_of_sides told contents (prove q file) m p Same s h = absurd h
-said_of_sides told contents (prove q file) m p Different s h = absurd h
-said_of_sides told contents (prove q file) m p NoEquation s h = absurd h
-said_of_sides told contents (refutation file q) m p Same s h = absurd h.holds
-said_of_sides told contents (refutation file q) m p Different s h = absurd h.holds
-said_of_sides told contents (refutation file q) m p NoEquation s h = absurd h.holds
+said_of_sides told contents (prove q file nodes) m p Same s h = absurd h
+said_of_sides told contents (prove q file nodes) m p Different s h = absurd h
+said_of_sides told contents (prove q file nodes) m p NoEquation s h = absurd h
+said_of_sides told contents (refutation cuts file q) m p Same s h = absurd h.holds
+said_of_sides told contents (refutation cuts file q) m p Different s h = absurd h.holds
+said_of_sides told contents (refutation cuts file q) m p NoEquation s h = absurd h.holds
 said_of_sides told contents (generated n) m p Same s h = absurd h
 said_of_sides told contents (generated n) m p Different s h = absurd h
 said_of_sides told contents (generated n) m p NoEquation s h = absurd h
@@ -239,8 +239,8 @@ said_of_sides told contents (models k q) m p NoEquation s h = absurd h
 said_of_sides told contents (sides q) m p Same s h = h
 said_of_sides told contents (sides q) m p Different s h = h
 said_of_sides told contents (sides q) m p NoEquation s h = h
-said_of_sides told contents r m p (Proved Theorem n text) s h = absurd s
-said_of_sides told contents r m p (Proved Unsatisfiable n text) s h = absurd s
+said_of_sides told contents r m p (Proved Theorem n tree text) s h = absurd s
+said_of_sides told contents r m p (Proved Unsatisfiable n tree text) s h = absurd s
 said_of_sides told contents r m p a s h = absurd s
 
 of_sides-no_refusal : (a : Answer) → IsOfSides (outcome_of a) → IsRefusal a → ⊥
@@ -259,8 +259,8 @@ of_sides_asked R None told contents NoEquation s h k = cc
 of_sides_asked R (Some r) told contents Same s h k = k r refl h
 of_sides_asked R (Some r) told contents Different s h k = k r refl h
 of_sides_asked R (Some r) told contents NoEquation s h k = k r refl h
-of_sides_asked R o told contents (Proved Theorem n text) s h k = absurd s
-of_sides_asked R o told contents (Proved Unsatisfiable n text) s h k = absurd s
+of_sides_asked R o told contents (Proved Theorem n tree text) s h k = absurd s
+of_sides_asked R o told contents (Proved Unsatisfiable n tree text) s h k = absurd s
 of_sides_asked R o told contents a s h k = absurd s
 
 files_sides : (words : List (List ℕ)) (told : Bool) (contents : List ℕ → Option (List ℕ)) (a : Answer) (r : Request) → asked_by words ≡ Some r → IsOfSides (outcome_of a) → FilesAnswered r told contents a → HasSidesSo words told contents (outcome_of a)
@@ -285,7 +285,7 @@ proof_reported words told contents o a written answer is h w =
     let q = proved_answer (asked_by words) told contents a answer (subst IsProvedOutcome is h) in
     let p = q.problem in
     let reported : written ≡ report_of (asked_name words) (Proved (claim_of p) q.commands q.text) = w ∙ ap (report_of (asked_name words)) q.is in
-    let holds = subst (λ x. HoldsOnly p x q.proof.refutation) (sym reported) (holds_report (claim_of p) (asked_name words) q.mode p q.commands q.text q.proof (name_one_line words (prove q.name q.file) q.asked)) in
+    let holds = subst (λ x. HoldsOnly p x q.proof.refutation) (sym reported) (holds_report (claim_of p) (asked_name words) q.mode p q.commands q.text q.proof (name_one_line words (prove q.name q.file q.nodes) q.asked)) in
     record {
       mode = q.mode;
       asked = record { problem = q.name; file = q.file; asked = q.asked; is_mode = q.is_mode };
@@ -310,8 +310,8 @@ proof_appended words told contents o a old new answer is w h =
 
 -- no answer's outcome is that a write failed
 pub no_write_fault : (a : Answer) → outcome_of a ≡ ended.WriteFault → ⊥
-no_write_fault (Proved Theorem n text) e = cc
-no_write_fault (Proved Unsatisfiable n text) e = cc
+no_write_fault (Proved Theorem n tree text) e = cc
+no_write_fault (Proved Unsatisfiable n tree text) e = cc
 no_write_fault a e = cc
 
 -- what is written for an answer
@@ -323,14 +323,14 @@ written_whole words told contents before now o a old new answer is w =
 -- an answer whose outcome is that the words ask for nothing
 words_form : (a : Answer) → outcome_of a ≡ ended.Words → a ≡ Words
 words_form Words e = refl
-words_form (Proved Theorem n text) e = cc
-words_form (Proved Unsatisfiable n text) e = cc
+words_form (Proved Theorem n tree text) e = cc
+words_form (Proved Unsatisfiable n tree text) e = cc
 words_form a e = cc
 
 words_asked : (o : Option Request) (told : Bool) (contents : List ℕ → Option (List ℕ)) → AnswersAsked o told contents Words → o ≡ None
 words_asked None told contents h = refl
-words_asked (Some (prove p file)) told contents h = let f = files_answered (prove p file) told contents Words (λ x. x) h in absurd f.answered
-words_asked (Some (refutation file p)) told contents h = let f = files_answered (refutation file p) told contents Words (λ x. x) h in absurd f.answered.holds
+words_asked (Some (prove p file nodes)) told contents h = let f = files_answered (prove p file nodes) told contents Words (λ x. x) h in absurd f.answered
+words_asked (Some (refutation cuts file p)) told contents h = let f = files_answered (refutation cuts file p) told contents Words (λ x. x) h in absurd f.answered.holds
 words_asked (Some (generated n)) told contents h = let f = files_answered (generated n) told contents Words (λ x. x) h in absurd f.answered
 words_asked (Some (models k p)) told contents h = let f = files_answered (models k p) told contents Words (λ x. x) h in absurd f.answered
 words_asked (Some (sides p)) told contents h = let f = files_answered (sides p) told contents Words (λ x. x) h in absurd f.answered
@@ -341,11 +341,11 @@ words_answer words told contents o a answer is e = words_asked (asked_by words) 
 -- conflicts that are enough aren't answered to be spent
 pub never_spent : (o : Option Request) (told : Bool) (contents : List ℕ → Option (List ℕ)) (conflicts : ℕ) → EnoughAsked o told contents → AnswersAsked o told contents (ConflictLimit conflicts) → ⊥
 never_spent None told contents conflicts enough h = cc
-never_spent (Some (prove p file)) told contents conflicts enough h =
-    let f = files_answered (prove p file) told contents (ConflictLimit conflicts) (λ x. x) h in
+never_spent (Some (prove p file nodes)) told contents conflicts enough h =
+    let f = files_answered (prove p file nodes) told contents (ConflictLimit conflicts) (λ x. x) h in
     never-ends (setting_for f.problem f.mode) (start (unfolded_problem f.problem)) conflicts (enough f.mode f.names f.problem f.is_mode f.stated) f.answered
-never_spent (Some (refutation file p)) told contents conflicts enough h =
-    let f = files_answered (refutation file p) told contents (ConflictLimit conflicts) (λ x. x) h in f.answered.holds
+never_spent (Some (refutation cuts file p)) told contents conflicts enough h =
+    let f = files_answered (refutation cuts file p) told contents (ConflictLimit conflicts) (λ x. x) h in f.answered.holds
 never_spent (Some (generated n)) told contents conflicts enough h =
     let f = files_answered (generated n) told contents (ConflictLimit conflicts) (λ x. x) h in
     never-ends (setting_for f.problem f.mode) (start (unfolded_problem f.problem)) conflicts (enough f.mode f.names f.problem f.is_mode f.stated) f.answered
@@ -361,8 +361,8 @@ outcome_whole words told contents o a answer is = (a, answer, is)
 
 -- a fault has its count
 rose_of : (r : Request) (told : Bool) (contents : List ℕ → Option (List ℕ)) (before now : List ℕ → ℕ) (f : NamedFile) → HasCauseOf r told contents before now (outcome_of (ReadFault f)) → (file : List ℕ) × Rose (before file) (now file)
-rose_of (prove p m) told contents before now (Part k names) h = (h.file, h.rose)
-rose_of (refutation t p) told contents before now (Part k names) h = (h.file, h.rose)
+rose_of (prove p m nodes) told contents before now (Part k names) h = (h.file, h.rose)
+rose_of (refutation cuts t p) told contents before now (Part k names) h = (h.file, h.rose)
 rose_of (generated n) told contents before now (Part k names) h = absurd h
 rose_of (models k p) told contents before now (Part i names) h = (h.file, h.rose)
 rose_of (sides p) told contents before now (Part k names) h = (h.file, h.rose)
@@ -383,6 +383,6 @@ defined_answer words told contents before now o a answer is t cause quiet = subs
     go UnreadWords answer cause = tt
     go (ConflictLimit c) answer cause = tt
     go (ReadFault f) answer cause = let r = rose_asked (asked_by words) true contents before now f answer cause in absurd (quiet r.0 r.1)
-    go (Proved Theorem n text) answer cause = (Proved Theorem n text, (tt, answer), refl)
-    go (Proved Unsatisfiable n text) answer cause = (Proved Unsatisfiable n text, (tt, answer), refl)
+    go (Proved Theorem n tree text) answer cause = (Proved Theorem n tree text, (tt, answer), refl)
+    go (Proved Unsatisfiable n tree text) answer cause = (Proved Unsatisfiable n tree text, (tt, answer), refl)
     go a answer cause = (a, (tt, answer), refl)

@@ -136,8 +136,8 @@ finding_same upto p a b h k = h.is ∙ ap (finding_answer upto p) (one_finding p
 -- a problem that is read is answered in one way
 problem_same : (r : Request) (m : SearchMode) (contents : List ℕ → Option (List ℕ)) (p : PlainProblem) (a b : Answer) → IsSettled a → IsSettled b
     → AnswersProblem true contents r m p a → AnswersProblem true contents r m p b → without_refutation a ≡ without_refutation b
-problem_same (prove p file) m contents q a b w v h k = solved-same m q a b w v h k
-problem_same (refutation file p) m contents q a b w v h k = ap without_refutation (text_same contents file q a b (text_read contents file q a w h) (text_read contents file q b v k))
+problem_same (prove p file nodes) m contents q a b w v h k = solved-same m q a b w v h k
+problem_same (refutation cuts file p) m contents q a b w v h k = ap without_refutation (text_same contents file q a b (text_read contents file q a w h) (text_read contents file q b v k))
 problem_same (generated n) m contents q a b w v h k = demoed-same m q a b w v h k
 problem_same (models upto p) m contents q a b w v h k = ap without_refutation (finding_same upto q a b (finding_of upto q a w h) (finding_of upto q b v k))
 problem_same (sides p) m contents q a b w v h k = ap without_refutation (compared_same q a b (comparison_of q a w h) (comparison_of q b v k))
@@ -208,8 +208,8 @@ no_long_bad contents o file line why e h l = not_long contents file _ (subst (λ
 
 -- what is told of a request is told
 told_true : (r : Request) → told_of true r ≡ true
-told_true (prove p file) = refl
-told_true (refutation file p) = refl
+told_true (prove p file nodes) = refl
+told_true (refutation cuts file p) = refl
 told_true (generated n) = refl
 told_true (models upto p) = refl
 told_true (sides p) = refl
@@ -283,7 +283,7 @@ pub answer-same : (words : List (List ℕ)) (contents : List ℕ → Option (Lis
 answer-same words contents a b h k = by_same (asked_by words) contents a b h.0 k.0 (defined_by (asked_by words) contents a h.0 h.1) (defined_by (asked_by words) contents b k.0 k.1)
 
 outcome-without : (a : Answer) → outcome_of (without_refutation a) ≡ outcome_of a
-outcome-without (Proved claim n text) = refl
+outcome-without (Proved claim n tree text) = refl
 outcome-without a = refl
 
 -- so there is one outcome

@@ -93,7 +93,7 @@ AreConflictsEnough words told contents = EnoughAsked (asked_by words) told conte
 pub record IsAskedBy (words : List (List ℕ)) (told : Bool) (contents : List ℕ → Option (List ℕ)) (mode : Mode) : Type 0 where
   pub problem : List ℕ
   pub file : Option (List ℕ)
-  pub asked : asked_by words ≡ Some (prove problem file)
+  pub asked : asked_by words ≡ Some (prove problem file nodes)
   pub is_mode : IsModeBy told contents file mode
 
 -- What is written where a proof is reported. The outcome is what the proof shows of the problem that the files state, and the bytes are its

@@ -1,4 +1,4 @@
-use Rattle.std.proofs.Common.{subst, sym, ap, ◌∙◌}
+use Rattle.std.proofs.Common.{None, subst, sym, ap, ◌∙◌}
 use Rattle.mode_file.specs.Given.{nothing_given, mode_of}
 use Rattle.szs_report.specs.Report.{report_of}
 use Rattle.cli_words.specs.declared.Cuts.TheVariants.{Allowed}
@@ -14,4 +14,4 @@ unreachable-requires c =
     let m = mode_of nothing_given in
     c.in_ok-is_accepted.ensures.refused c.if-branch.false
     (subst (IsAcceptedText Allowed p) (sym (c.as_slice.ensures ∙ c.in_ok-bytes.ensures ∙ ap (report_of name) c.in-Proved.is))
-    (report_accepted m p c.in-Proved.claim c.in-Proved.commands c.in-Proved.text name c.requires.named (subst (IsSolved m p) c.in-Proved.is c.requires.solved)))
+    (report_accepted None m p c.in-Proved.claim c.in-Proved.commands c.in-Proved.tree c.in-Proved.text name c.requires.named (subst (IsSolved None m p) c.in-Proved.is c.requires.solved)))

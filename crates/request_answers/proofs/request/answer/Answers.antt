@@ -16,12 +16,12 @@ returns-in-Prove-clause-cause g c =
     let before = g.F.Files.faults c.args.files.now in
     let now = g.F.Files.faults c.prove.new.files in
     let file = option_map (λ f. f.now) c.in-Prove.mode in
-    let request = prove c.in-Prove.problem.now file in
+    let request = prove c.in-Prove.problem.now file c.in-Prove.nodes in
     let answer = c.prove.result in
     subst (λ a. HasCauseOf (the_request a) told contents before now (outcome_of answer)) (sym c.in-Prove.is)
     (cause_of request told contents before now answer c.prove.ensures.fault
     (λ name is. mode_fault request told contents before now name (subst (AnswersRequest request told contents) is c.prove.ensures.answers) (c.prove.ensures.mode_fault name is))
-    (λ name is. absurd (no_text_asked c.in-Prove.problem.now file told contents name (subst (AnswersRequest request told contents) is c.prove.ensures.answers)))
+    (λ name is. absurd (no_text_asked c.in-Prove.problem.now file c.in-Prove.nodes told contents name (subst (AnswersRequest request told contents) is c.prove.ensures.answers)))
     c.prove.ensures.quiet)
 
 pub returns-in-Check-clause-answers : goal.returns-in-Check-clause-answers
@@ -29,7 +29,7 @@ returns-in-Check-clause-answers g c =
     let told = g.F.Files.tells c.args.files.now in
     let contents = g.F.Files.contents c.args.files.now in
     subst (λ a. AnswersRequest (the_request a) told contents c.check.result) (sym c.in-Check.is)
-    (files_request (refutation c.in-Check.text.now c.in-Check.problem.now) told contents (mode_of nothing_given) refl c.check.result c.check.ensures.answers)
+    (files_request (refutation c.in-Check.cuts c.in-Check.text.now c.in-Check.problem.now) told contents (mode_of nothing_given) refl c.check.result c.check.ensures.answers)
 
 pub returns-in-Demo-clause-answers : goal.returns-in-Demo-clause-answers
 returns-in-Demo-clause-answers g c =

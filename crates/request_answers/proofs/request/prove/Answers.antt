@@ -13,9 +13,9 @@ returns-in-Ok-clause-answers g c =
     let p = c.args.problem.now in
     let m = c.in-Ok.mode in
     let a = c.prove_by.result in
-    files_request (prove p (option_map (λ f. f.now) c.args.mode)) told contents m c.in-Ok.ensures.stated a
-    (subst (λ t. IsFilesAnswer (IsSolved m) p t contents a) c.mode_by.ensures.telling
-    (subst (λ x. IsFilesAnswer (IsSolved m) p (g.F.Files.tells c.mode_by.new.files) x a) c.mode_by.ensures.same c.prove_by.ensures.answers))
+    files_request (prove p (option_map (λ f. f.now) c.args.mode) c.args.nodes) told contents m c.in-Ok.ensures.stated a
+    (subst (λ t. IsFilesAnswer (IsSolved c.args.nodes m) p t contents a) c.mode_by.ensures.telling
+    (subst (λ x. IsFilesAnswer (IsSolved c.args.nodes m) p (g.F.Files.tells c.mode_by.new.files) x a) c.mode_by.ensures.same c.prove_by.ensures.answers))
 
 pub returns-in-Ok-clause-fault : goal.returns-in-Ok-clause-fault
 returns-in-Ok-clause-fault g c = λ k names e.
