@@ -1,10 +1,12 @@
 -- What a call answers and writes has the meaning that it claims.
-use Rattle.std.proofs.Common.{◌≡◌, ℕ, Bool, true, IsTrue, List, ◌++◌, Option, Some, None, Result, Ok, Err, refl, sym, ap, subst, ◌∙◌}
+use Rattle.std.proofs.Common.{◌≡◌, ℕ, Bool, true, IsTrue, List, ◌++◌, Option, Some, None, Result, Ok, Err, refl, sym, ap, ap₂, subst, ◌∙◌}
 use Rattle.outside.specs.Causes.{Rose}
 use Rattle.stt_core.specs.PlainProblem.{PlainProblem}
 use Rattle.stt_core.specs.TypedProblem.{IsTyped}
 use Rattle.stt_core.specs.Declarations.{scope_of}
 use Rattle.tableau_calculus.specs.Start.{start}
+use Rattle.tableau_calculus.specs.CutFree.{HasNoCut}
+use Rattle.tableau_calculus.specs.declared.refutation.Refutation.{Refutation}
 use Rattle.tableau_calculus.proofs.Soundness.{accepted_closes_start}
 use Rattle.delta_defs.specs.Unfolding.{taken_names, unfolded_problem}
 use Rattle.thf_include.specs.Gathering.{Ending, done, stopped, Stop, wants, too_long, no_tree, cycle, too_many, no_name}
@@ -12,6 +14,10 @@ use Rattle.type_check.specs.Statements.{IllInFile, problem_of}
 use Rattle.type_check.proofs.TypedProblems.{problem_of-typed}
 use Rattle.mode_file.specs.declared.Mode.{Mode}
 use Rattle.cli_words.specs.Requests.{Request, prove, refutation, generated, models, sides, asked_by}
+use Rattle.cli_words.specs.declared.Cuts.{Cuts}
+use Rattle.cli_words.specs.declared.Cuts.TheVariants.{Allowed, Forbidden}
+use Rattle.plain_tableau.specs.declared.stripped.Stripped.{Stripped}
+use Rattle.plain_tableau.specs.declared.stripped.Stripped.TheVariants as stripped
 use Rattle.refute_print.specs.Trees.{RefutationTree}
 use Rattle.refute_print.specs.Named.{named_refutation}
 use Rattle.refute_check.specs.Acceptance.{IsAcceptedFor}
@@ -22,6 +28,7 @@ use Rattle.szs_report.specs.declared.answer.Answer.{Answer}
 use Rattle.szs_report.specs.declared.answer.Answer.TheVariants.{Proved, DemoDone, ConflictLimit, Accepted, Same, Different, NoEquation, SyntaxAt, TypeAt, IncludeAt, Words, TooLong, ReadFault, Memory, UnreadWords}
 use Rattle.szs_report.specs.declared.answer.Claim.{Claim}
 use Rattle.szs_report.specs.declared.answer.Claim.TheVariants.{Theorem, Unsatisfiable}
+use Rattle.szs_report.specs.declared.answer.TreeReport.{TreeReport}
 use Rattle.szs_report.specs.declared.answer.NamedFile.{NamedFile}
 use Rattle.szs_report.specs.declared.answer.NamedFile.TheVariants.{Part, Check}
 use Rattle.szs_report.specs.declared.answer.NamedFile.TheVariants as named
@@ -31,16 +38,16 @@ use Rattle.request_answers.specs.Requested.{asked_name, problem_name, told_of, c
 use Rattle.request_answers.specs.Files.{OfFiles, OfAsked, Statements}
 use Rattle.request_answers.specs.Modes.{IsModeBy}
 use Rattle.request_answers.specs.Names.{names_in}
-use Rattle.request_answers.specs.Checked.{HoldsOnly}
-use Rattle.request_answers.specs.Solved.{IsProofOf, claim_of}
+use Rattle.request_answers.specs.Checked.{Accepts, IsAcceptedText, HoldsOnly}
+use Rattle.request_answers.specs.Solved.{written_refutation, IsProofOf, claim_of}
 use Rattle.request_answers.specs.Answers.{stop_answer, AnswersProblem, AnswersStated, AnswersEnding, AnswersFiles, AnswersAsked, IsAnswer, IsDefined}
 use Rattle.request_answers.specs.Causes.{HasCauseOf, HasCauseAsked, HasCause}
-use Rattle.prover_run.specs.Ended.{setting_for}
+use Rattle.prover_run.specs.Ended.{setting_for, IsRefuted}
 use Rattle.prover_run.proofs.EnoughLaws.{never-ends}
-use Rattle.satallax_top.specs.Headline.{EnoughAsked, IsProvedOutcome, ShowsNoModel, IsWithoutModel, HasNoModel, IsOfSides, SaysOfSides, HasSidesSo, IsProofReport, Appends, IsWritten, IsOutcome}
+use Rattle.satallax_top.specs.Headline.{EnoughAsked, IsTreeMade, IsProvedOutcome, ShowsNoModel, IsWithoutModel, HasNoModel, IsOfSides, SaysOfSides, HasSidesSo, IsProofReport, Appends, IsWritten, IsOutcome}
 use Rattle.request_answers.proofs.OneLine.{name_one_line}
 use Rattle.request_answers.proofs.ReportHolds.{holds_report, accepted_report}
-use Rattle.request_answers.proofs.SolvedLaws.{proof_accepted}
+use Rattle.request_answers.proofs.SolvedLaws.{Asked, proof_of_start, proof_accepted}
 
 -- no model meets a problem for which a text is accepted
 no_model_of : (p : PlainProblem) (t : RefutationTree) → IsTyped p → IsAcceptedFor p t → IsWithoutModel p
@@ -105,17 +112,19 @@ files_answered r told contents a other h =
 record IsProofAnswer (a : Answer) : Type 0 where
   pub claim : Claim
   pub commands : ℕ
+  pub tree : TreeReport
   pub text : List ℕ
-  pub is : a ≡ Proved claim commands text
+  pub is : a ≡ Proved claim commands tree text
 
 proved_form : (a : Answer) → IsProvedOutcome (outcome_of a) → IsProofAnswer a
-proved_form (Proved claim n tree text) h = record { claim = claim; commands = n; text = text; is = refl }
+proved_form (Proved claim n tree text) h = record { claim = claim; commands = n; tree = tree; text = text; is = refl }
 proved_form a h = absurd h
 
 -- what such an answer shows
 pub record ProvedAnswer (o : Option Request) (told : Bool) (contents : List ℕ → Option (List ℕ)) (a : Answer) : Type 0 where
   pub name : List ℕ
   pub file : Option (List ℕ)
+  pub nodes : Option ℕ
   pub asked : o ≡ Some (prove name file nodes)
   pub mode : Mode
   pub is_mode : IsModeBy told contents file mode
@@ -124,15 +133,17 @@ pub record ProvedAnswer (o : Option Request) (told : Bool) (contents : List ℕ 
   pub stated : OfAsked o told contents names (Statements problem)
   pub typed : IsTyped problem
   pub commands : ℕ
+  pub tree : TreeReport
   pub text : List ℕ
-  pub proof : IsProofOf mode problem commands text
-  pub is : a ≡ Proved (claim_of problem) commands text
+  pub proof : IsProofOf nodes mode problem commands tree text
+  pub is : a ≡ Proved (claim_of problem) commands tree text
 
 -- files that are answered with a proof show it
-proved_files : (p : List ℕ) (file : Option (List ℕ)) (told : Bool) (contents : List ℕ → Option (List ℕ)) (claim : Claim) (n : ℕ) (text : List ℕ) → FilesAnswered (prove p file nodes) told contents (Proved claim n tree text) → ProvedAnswer (Some (prove p file nodes)) told contents (Proved claim n tree text)
-proved_files p file told contents claim n text f = record {
+proved_files : (p : List ℕ) (file : Option (List ℕ)) (nodes : Option ℕ) (told : Bool) (contents : List ℕ → Option (List ℕ)) (claim : Claim) (n : ℕ) (tree : TreeReport) (text : List ℕ) → FilesAnswered (prove p file nodes) told contents (Proved claim n tree text) → ProvedAnswer (Some (prove p file nodes)) told contents (Proved claim n tree text)
+proved_files p file nodes told contents claim n tree text f = record {
   name = p;
   file = file;
+  nodes = nodes;
   asked = refl;
   mode = f.mode;
   is_mode = f.is_mode;
@@ -141,34 +152,40 @@ proved_files p file told contents claim n text f = record {
   stated = f.stated;
   typed = f.typed;
   commands = n;
+  tree = tree;
   text = text;
   proof = f.answered.1;
-  is = ap (λ c. Proved c n text) f.answered.0;
+  is = ap (λ c. Proved c n tree text) f.answered.0;
 }
 
 -- Where a proof is answered, a problem is to be proved, and files are answered so. The conclusion is a variable, so that no record is compared
 -- field by field.
-proved_asked : (R : Type 0) (o : Option Request) (told : Bool) (contents : List ℕ → Option (List ℕ)) (claim : Claim) (n : ℕ) (text : List ℕ) → AnswersAsked o told contents (Proved claim n tree text) → ((p : List ℕ) (file : Option (List ℕ)) → o ≡ Some (prove p file nodes) → AnswersFiles (prove p file nodes) told contents (Proved claim n tree text) → R) → R
-proved_asked R None told contents claim n text h k = cc
-proved_asked R (Some (refutation cuts file p)) told contents claim n text h k =
+proved_asked : (R : Type 0) (o : Option Request) (told : Bool) (contents : List ℕ → Option (List ℕ)) (claim : Claim) (n : ℕ) (tree : TreeReport) (text : List ℕ) → AnswersAsked o told contents (Proved claim n tree text) → ((p : List ℕ) (file : Option (List ℕ)) (nodes : Option ℕ) → o ≡ Some (prove p file nodes) → AnswersFiles (prove p file nodes) told contents (Proved claim n tree text) → R) → R
+proved_asked R None told contents claim n tree text h k = cc
+proved_asked R (Some (refutation cuts file p)) told contents claim n tree text h k =
     let f = files_answered (refutation cuts file p) told contents (Proved claim n tree text) (λ x. x) h in absurd f.answered.holds
-proved_asked R (Some (generated i)) told contents claim n text h k =
+proved_asked R (Some (generated i)) told contents claim n tree text h k =
     let f = files_answered (generated i) told contents (Proved claim n tree text) (λ x. x) h in absurd f.answered
-proved_asked R (Some (models i p)) told contents claim n text h k =
+proved_asked R (Some (models i p)) told contents claim n tree text h k =
     let f = files_answered (models i p) told contents (Proved claim n tree text) (λ x. x) h in absurd f.answered
-proved_asked R (Some (sides p)) told contents claim n text h k =
+proved_asked R (Some (sides p)) told contents claim n tree text h k =
     let f = files_answered (sides p) told contents (Proved claim n tree text) (λ x. x) h in absurd f.answered
-proved_asked R (Some (prove p file nodes)) told contents claim n text h k = k p file refl h
+proved_asked R (Some (prove p file nodes)) told contents claim n tree text h k = k p file nodes refl h
 
 proved_answer : (o : Option Request) (told : Bool) (contents : List ℕ → Option (List ℕ)) (a : Answer) → AnswersAsked o told contents a → IsProvedOutcome (outcome_of a) → ProvedAnswer o told contents a
 proved_answer o told contents a answer h =
     let q = proved_form a h in
     let proof : Answer = Proved q.claim q.commands q.tree q.text in
     subst (ProvedAnswer o told contents) (sym q.is)
-    (proved_asked (ProvedAnswer o told contents proof) o told contents q.claim q.commands q.text (subst (AnswersAsked o told contents) q.is answer)
-    (λ (p : List ℕ) (file : Option (List ℕ)) (is : o ≡ Some (prove p file nodes)) (k : AnswersFiles (prove p file nodes) told contents (Proved q.claim q.commands q.tree q.text)).
+    (proved_asked (ProvedAnswer o told contents proof) o told contents q.claim q.commands q.tree q.text (subst (AnswersAsked o told contents) q.is answer)
+    (λ (p : List ℕ) (file : Option (List ℕ)) (nodes : Option ℕ) (is : o ≡ Some (prove p file nodes)) (k : AnswersFiles (prove p file nodes) told contents (Proved q.claim q.commands q.tree q.text)).
     subst (λ (x : Option Request). ProvedAnswer x told contents proof) (sym is)
-    (proved_files p file told contents q.claim q.commands q.text (files_answered (prove p file nodes) told contents (Proved q.claim q.commands q.tree q.text) (λ x. x) k))))
+    (proved_files p file nodes told contents q.claim q.commands q.tree q.text (files_answered (prove p file nodes) told contents (Proved q.claim q.commands q.tree q.text) (λ x. x) k))))
+
+-- what a check accepts that forbids cuts, one accepts that allows them
+accepts_any : (cuts : Cuts) (p : PlainProblem) (t : RefutationTree) → Accepts cuts p t → IsAcceptedFor p t
+accepts_any Allowed p t h = h
+accepts_any Forbidden p t h = h.accepted
 
 -- a problem that is stated has no model
 pub record Unmodelled (o : Option Request) (told : Bool) (contents : List ℕ → Option (List ℕ)) : Type 0 where
@@ -183,7 +200,7 @@ no_model_asked None told contents (DemoDone claim n) h s = cc
 no_model_asked None told contents Accepted h s = cc
 no_model_asked (Some (prove p file nodes)) told contents (Proved claim n tree text) h s =
     let f = files_answered (prove p file nodes) told contents (Proved claim n tree text) (λ x. x) h in
-    record { names = f.names; problem = f.problem; stated = f.stated; no_model = no_model_of f.problem (named_refutation (names_in f.problem) (taken_names f.problem) f.answered.1.refutation) f.typed (proof_accepted f.mode f.problem n text f.answered.1) }
+    record { names = f.names; problem = f.problem; stated = f.stated; no_model = no_model_of f.problem (named_refutation (names_in f.problem) (taken_names f.problem) f.answered.1.refutation) f.typed (proof_accepted nodes f.mode f.problem n tree text f.answered.1) }
 no_model_asked (Some (prove p file nodes)) told contents (DemoDone claim n) h s =
     let f = files_answered (prove p file nodes) told contents (DemoDone claim n) (λ x. x) h in absurd f.answered
 no_model_asked (Some (prove p file nodes)) told contents Accepted h s =
@@ -194,13 +211,13 @@ no_model_asked (Some (refutation cuts file p)) told contents (DemoDone claim n) 
     let f = files_answered (refutation cuts file p) told contents (DemoDone claim n) (λ x. x) h in absurd f.answered.holds
 no_model_asked (Some (refutation cuts file p)) told contents Accepted h s =
     let f = files_answered (refutation cuts file p) told contents Accepted (λ x. x) h in
-    record { names = f.names; problem = f.problem; stated = f.stated; no_model = no_model_of f.problem f.answered.holds.refutation f.typed f.answered.holds.accepted }
+    record { names = f.names; problem = f.problem; stated = f.stated; no_model = no_model_of f.problem f.answered.holds.refutation f.typed (accepts_any cuts f.problem f.answered.holds.refutation f.answered.holds.accepted) }
 no_model_asked (Some (generated k)) told contents (Proved claim n tree text) h s =
     let f = files_answered (generated k) told contents (Proved claim n tree text) (λ x. x) h in absurd f.answered
 no_model_asked (Some (generated k)) told contents (DemoDone claim n) h s =
     let f = files_answered (generated k) told contents (DemoDone claim n) (λ x. x) h in
-    let proof = f.answered.1.1 in
-    record { names = f.names; problem = f.problem; stated = f.stated; no_model = no_model_of f.problem (named_refutation (names_in f.problem) (taken_names f.problem) proof.refutation) f.typed (proof_accepted f.mode f.problem n f.answered.0 proof) }
+    let proof = f.answered.2.1 in
+    record { names = f.names; problem = f.problem; stated = f.stated; no_model = no_model_of f.problem (named_refutation (names_in f.problem) (taken_names f.problem) proof.refutation) f.typed (proof_accepted None f.mode f.problem n f.answered.0 f.answered.1 proof) }
 no_model_asked (Some (generated k)) told contents Accepted h s =
     let f = files_answered (generated k) told contents Accepted (λ x. x) h in absurd f.answered
 no_model_asked (Some (models k p)) told contents (Proved claim n tree text) h s =
@@ -279,28 +296,55 @@ sides_answer words told contents o a answer is h =
     (λ (r : Request) (asked : asked_by words ≡ Some r) (files : AnswersFiles r told contents a).
     files_sides words told contents a r asked s (files_answered r told contents a (of_sides-no_refusal a s) files)))
 
+-- a tree that is made has no cut
+made_without_cut : (nodes : Option ℕ) (m : Mode) (p : PlainProblem) (n : ℕ) (rebuilt : Refutation) (r : IsRefuted (unfolded_problem p) m n rebuilt) (s : Option Stripped) → Asked nodes m p n rebuilt r s → IsTreeMade s → HasNoCut (written_refutation rebuilt s).lines
+made_without_cut nodes m p n rebuilt r None a made = absurd made
+made_without_cut nodes m p n rebuilt r (Some (stripped.Open branch)) a made = absurd made
+made_without_cut nodes m p n rebuilt r (Some (stripped.Over k)) a made = absurd made
+made_without_cut None m p n rebuilt r (Some (stripped.Tree tree k)) a made = absurd a
+made_without_cut (Some limit) m p n rebuilt r (Some (stripped.Tree tree k)) a made = a.no_cut
+
+-- a check that forbids cuts accepts the report of a tree
+strict_report : (nodes : Option ℕ) (m : Mode) (p : PlainProblem) (n : ℕ) (tree : TreeReport) (text bytes : List ℕ) (proof : IsProofOf nodes m p n tree text) → HoldsOnly p bytes proof.refutation → IsTreeMade proof.stripped → IsAcceptedText Forbidden p bytes
+strict_report nodes m p n tree text bytes proof h made =
+    let no_cut = subst (λ (r : Refutation). HasNoCut r.lines) (sym proof.is_written) (made_without_cut nodes m p n proof.rebuilt proof.refuted proof.stripped proof.asked made) in
+    record {
+      refutation = named_refutation (names_in p) (taken_names p) proof.refutation;
+      first = h.first;
+      reads = h.reads;
+      accepted = record { accepted = proof_accepted nodes m p n tree text proof; no_cut = subst (λ (r : Refutation). HasNoCut r.lines) (sym proof.numbered) no_cut };
+    }
+
 -- the report of an answer that is a proof
 proof_reported : (words : List (List ℕ)) (told : Bool) (contents : List ℕ → Option (List ℕ)) (o : Outcome) (a : Answer) (written : List ℕ) → IsAnswer words told contents a → o ≡ outcome_of a → IsProvedOutcome o → written ≡ report_of (asked_name words) a → IsProofReport words told contents o written
 proof_reported words told contents o a written answer is h w =
     let q = proved_answer (asked_by words) told contents a answer (subst IsProvedOutcome is h) in
     let p = q.problem in
-    let reported : written ≡ report_of (asked_name words) (Proved (claim_of p) q.commands q.text) = w ∙ ap (report_of (asked_name words)) q.is in
-    let holds = subst (λ x. HoldsOnly p x q.proof.refutation) (sym reported) (holds_report (claim_of p) (asked_name words) q.mode p q.commands q.text q.proof (name_one_line words (prove q.name q.file q.nodes) q.asked)) in
+    let reported : written ≡ report_of (asked_name words) (Proved (claim_of p) q.commands q.tree q.text) = w ∙ ap (report_of (asked_name words)) q.is in
+    let holds = subst (λ x. HoldsOnly p x q.proof.refutation) (sym reported) (holds_report (claim_of p) (asked_name words) q.nodes q.mode p q.commands q.tree q.text q.proof (name_one_line words (prove q.name q.file q.nodes) q.asked)) in
     record {
       mode = q.mode;
+      nodes = q.nodes;
       asked = record { problem = q.name; file = q.file; asked = q.asked; is_mode = q.is_mode };
       names = q.names;
       problem = p;
       stated = q.stated;
       is_outcome = is ∙ ap outcome_of q.is;
       commands = q.commands;
-      refutation = q.proof.refutation;
+      rebuilt = q.proof.rebuilt;
       refuted = q.proof.refuted;
-      is_report = reported ∙ ap (λ t. report_of (asked_name words) (Proved (claim_of p) q.commands t)) q.proof.is_text;
+      stripped = q.proof.stripped;
+      tree = q.proof.asked;
+      refutation = q.proof.refutation;
+      is_written = q.proof.is_written;
+      is_report =
+          reported
+          ∙ ap₂ (λ x t. report_of (asked_name words) (Proved (claim_of p) q.commands x t)) q.proof.is_told q.proof.is_text;
       holds = holds;
-      accepted_text = accepted_report q.mode p q.commands q.text written q.proof holds;
-      closed = accepted_closes_start (scope_of p.declared) (start (unfolded_problem p)) q.proof.refutation q.proof.refuted.accepted;
-      no_model = no_model_of p (named_refutation (names_in p) (taken_names p) q.proof.refutation) q.typed (proof_accepted q.mode p q.commands q.text q.proof);
+      accepted_text = accepted_report q.nodes q.mode p q.commands q.tree q.text written q.proof holds;
+      strict_text = strict_report q.nodes q.mode p q.commands q.tree q.text written q.proof holds;
+      closed = accepted_closes_start (scope_of p.declared) (start (unfolded_problem p)) q.proof.refutation (proof_of_start q.nodes q.mode p q.commands q.tree q.text q.proof);
+      no_model = no_model_of p (named_refutation (names_in p) (taken_names p) q.proof.refutation) q.typed (proof_accepted q.nodes q.mode p q.commands q.tree q.text q.proof);
     }
 
 -- the bytes that are appended for an answer that is a proof

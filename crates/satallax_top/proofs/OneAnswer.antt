@@ -20,6 +20,7 @@ use Rattle.request_answers.specs.Requested.{problem_name, mode_file, told_of, co
 use Rattle.request_answers.specs.Modes.{OfFile, IsLongFile, IsModeBy, refused_at, IsBadMode}
 use Rattle.outside.specs.Limits.{byte_limit}
 use Rattle.request_answers.specs.Internal.RefusedModes.{mode_answer}
+use Rattle.cli_words.specs.declared.Cuts.{Cuts}
 use Rattle.request_answers.specs.Checked.{IsAcceptedText, IsRefusedText, AnswersBytes, AnswersText}
 use Rattle.request_answers.specs.Answers.{AnswersProblem, AnswersStated, AnswersEnding, AnswersFiles, AnswersAsked, IsSettled, Defined}
 use Rattle.conv_laws.specs.Sides.{AreSidesOf}
@@ -41,50 +42,50 @@ use Rattle.request_answers.proofs.RunEnds.{solved-same, demoed-same}
 use Rattle.satallax_top.proofs.ToldFiles.{IsFinal, one_told}
 
 -- what the bytes of a text are answered with
-data BytesAnswer (p : PlainProblem) (bytes : List ℕ) (a : Answer) : Type 0 where
-  accepts : a ≡ Accepted → IsAcceptedText p bytes → BytesAnswer p bytes a
-  refuses : (line : ℕ) (why : Why) → a ≡ Refused line why → IsRefusedText p bytes line why → BytesAnswer p bytes a
+data BytesAnswer (cuts : Cuts) (p : PlainProblem) (bytes : List ℕ) (a : Answer) : Type 0 where
+  accepts : a ≡ Accepted → IsAcceptedText cuts p bytes → BytesAnswer cuts p bytes a
+  refuses : (line : ℕ) (why : Why) → a ≡ Refused line why → IsRefusedText cuts p bytes line why → BytesAnswer cuts p bytes a
 
-bytes_answer : (p : PlainProblem) (bytes : List ℕ) (a : Answer) → IsSettled a → AnswersBytes p bytes a → BytesAnswer p bytes a
-bytes_answer p bytes Memory w h = absurd w
-bytes_answer p bytes Accepted w h = accepts refl h
-bytes_answer p bytes (Refused line why) w h = refuses line why refl h
-bytes_answer p bytes a w h = absurd h
+bytes_answer : (cuts : Cuts) (p : PlainProblem) (bytes : List ℕ) (a : Answer) → IsSettled a → AnswersBytes cuts p bytes a → BytesAnswer cuts p bytes a
+bytes_answer cuts p bytes Memory w h = absurd w
+bytes_answer cuts p bytes Accepted w h = accepts refl h
+bytes_answer cuts p bytes (Refused line why) w h = refuses line why refl h
+bytes_answer cuts p bytes a w h = absurd h
 
-bytes_same : (p : PlainProblem) (bytes : List ℕ) (a b : Answer) → BytesAnswer p bytes a → BytesAnswer p bytes b → a ≡ b
-bytes_same p bytes a b (accepts e h) (accepts f k) = e ∙ sym f
-bytes_same p bytes a b (accepts e h) (refuses line why f k) = absurd (accepted_not_refused p bytes line why h k)
-bytes_same p bytes a b (refuses line why e h) (accepts f k) = absurd (accepted_not_refused p bytes line why k h)
-bytes_same p bytes a b (refuses line why e h) (refuses other cause f k) =
-    let q = one_refusal p bytes line other why cause h k in
+bytes_same : (cuts : Cuts) (p : PlainProblem) (bytes : List ℕ) (a b : Answer) → BytesAnswer cuts p bytes a → BytesAnswer cuts p bytes b → a ≡ b
+bytes_same cuts p bytes a b (accepts e h) (accepts f k) = e ∙ sym f
+bytes_same cuts p bytes a b (accepts e h) (refuses line why f k) = absurd (accepted_not_refused cuts p bytes line why h k)
+bytes_same cuts p bytes a b (refuses line why e h) (accepts f k) = absurd (accepted_not_refused cuts p bytes line why k h)
+bytes_same cuts p bytes a b (refuses line why e h) (refuses other cause f k) =
+    let q = one_refusal cuts p bytes line other why cause h k in
     e ∙ ap₂ (λ l w. Refused l w) q.0 q.1 ∙ sym f
 
 -- what a told text is answered with
-record IsTextRead (contents : List ℕ → Option (List ℕ)) (file : List ℕ) (p : PlainProblem) (a : Answer) : Type 0 where
+record IsTextRead (cuts : Cuts) (contents : List ℕ → Option (List ℕ)) (file : List ℕ) (p : PlainProblem) (a : Answer) : Type 0 where
   pub bytes : List ℕ
   pub told : contents file ≡ Some bytes
-  pub answer : ((a ≡ TooLong (Check file)) × (byte_limit < length bytes)) ⊎ ((length bytes ≤ byte_limit) × BytesAnswer p bytes a)
+  pub answer : ((a ≡ TooLong (Check file)) × (byte_limit < length bytes)) ⊎ ((length bytes ≤ byte_limit) × BytesAnswer cuts p bytes a)
 
-text_read : (contents : List ℕ → Option (List ℕ)) (file : List ℕ) (p : PlainProblem) (a : Answer) → IsSettled a → AnswersText true contents file p a → IsTextRead contents file p a
-text_read contents file p Memory w h = absurd w
-text_read contents file p (ReadFault named) w h = absurd w
-text_read contents file p (TooLong (Check own)) w h =
+text_read : (cuts : Cuts) (contents : List ℕ → Option (List ℕ)) (file : List ℕ) (p : PlainProblem) (a : Answer) → IsSettled a → AnswersText cuts true contents file p a → IsTextRead cuts contents file p a
+text_read cuts contents file p Memory w h = absurd w
+text_read cuts contents file p (ReadFault named) w h = absurd w
+text_read cuts contents file p (TooLong (Check own)) w h =
     let q = h.1 refl in
     record { bytes = q.0; told = q.1; answer = inl (ap (λ n. TooLong (Check n)) h.0, q.2) }
-text_read contents file p a w h = record { bytes = h.bytes; told = h.told_bytes refl; answer = inr (h.short, bytes_answer p h.bytes a w h.holds) }
+text_read cuts contents file p a w h = record { bytes = h.bytes; told = h.told_bytes refl; answer = inr (h.short, bytes_answer cuts p h.bytes a w h.holds) }
 
-text_same : (contents : List ℕ → Option (List ℕ)) (file : List ℕ) (p : PlainProblem) (a b : Answer) → IsTextRead contents file p a → IsTextRead contents file p b → a ≡ b
-text_same contents file p a b h k =
+text_same : (cuts : Cuts) (contents : List ℕ → Option (List ℕ)) (file : List ℕ) (p : PlainProblem) (a b : Answer) → IsTextRead cuts contents file p a → IsTextRead cuts contents file p b → a ≡ b
+text_same cuts contents file p a b h k =
     let both : Some h.bytes ≡ Some k.bytes = sym h.told ∙ k.told in
     let one : h.bytes ≡ k.bytes = cc in
     go one h.answer k.answer
   where
-    go : h.bytes ≡ k.bytes → ((a ≡ TooLong (Check file)) × (byte_limit < length h.bytes)) ⊎ ((length h.bytes ≤ byte_limit) × BytesAnswer p h.bytes a)
-        → ((b ≡ TooLong (Check file)) × (byte_limit < length k.bytes)) ⊎ ((length k.bytes ≤ byte_limit) × BytesAnswer p k.bytes b) → a ≡ b
+    go : h.bytes ≡ k.bytes → ((a ≡ TooLong (Check file)) × (byte_limit < length h.bytes)) ⊎ ((length h.bytes ≤ byte_limit) × BytesAnswer cuts p h.bytes a)
+        → ((b ≡ TooLong (Check file)) × (byte_limit < length k.bytes)) ⊎ ((length k.bytes ≤ byte_limit) × BytesAnswer cuts p k.bytes b) → a ≡ b
     go one (inl x) (inl y) = x.0 ∙ sym y.0
     go one (inl x) (inr y) = absurd (omega (arith, x.1, y.0, ap length one))
     go one (inr x) (inl y) = absurd (omega (arith, x.0, y.1, ap length one))
-    go one (inr x) (inr y) = bytes_same p k.bytes a b (subst (λ bs. BytesAnswer p bs a) one x.1) y.1
+    go one (inr x) (inr y) = bytes_same cuts p k.bytes a b (subst (λ bs. BytesAnswer cuts p bs a) one x.1) y.1
 
 -- what the two sides of a conjecture are answered with
 abbrev compared_answer : Sides → Answer
@@ -136,8 +137,8 @@ finding_same upto p a b h k = h.is ∙ ap (finding_answer upto p) (one_finding p
 -- a problem that is read is answered in one way
 problem_same : (r : Request) (m : SearchMode) (contents : List ℕ → Option (List ℕ)) (p : PlainProblem) (a b : Answer) → IsSettled a → IsSettled b
     → AnswersProblem true contents r m p a → AnswersProblem true contents r m p b → without_refutation a ≡ without_refutation b
-problem_same (prove p file nodes) m contents q a b w v h k = solved-same m q a b w v h k
-problem_same (refutation cuts file p) m contents q a b w v h k = ap without_refutation (text_same contents file q a b (text_read contents file q a w h) (text_read contents file q b v k))
+problem_same (prove p file nodes) m contents q a b w v h k = solved-same nodes m q a b w v h k
+problem_same (refutation cuts file p) m contents q a b w v h k = ap without_refutation (text_same cuts contents file q a b (text_read cuts contents file q a w h) (text_read cuts contents file q b v k))
 problem_same (generated n) m contents q a b w v h k = demoed-same m q a b w v h k
 problem_same (models upto p) m contents q a b w v h k = ap without_refutation (finding_same upto q a b (finding_of upto q a w h) (finding_of upto q b v k))
 problem_same (sides p) m contents q a b w v h k = ap without_refutation (compared_same q a b (comparison_of q a w h) (comparison_of q b v k))

@@ -1,5 +1,5 @@
 -- What a reported proof means.
-use Rattle.std.specs.Prelude.{◌≡◌, ℕ, Bool, List, ◌++◌, Option, Some, None}
+use Rattle.std.specs.Prelude.{◌≡◌, ℕ, Bool, List, ◌++◌, filter, Option, Some, None}
 use Rattle.outside.specs.Prefix.{AppendsProperly}
 use Rattle.stt_core.specs.Meaning.{Model, IsModel}
 use Rattle.stt_core.specs.Meets.{MeetsProblem}
@@ -13,7 +13,12 @@ use Rattle.mode_file.specs.declared.Mode.{Mode}
 use Rattle.conv_laws.specs.Sides.{AreSidesOf}
 use Rattle.conv_laws.specs.declared.sides.Sides.TheVariants as compared
 use Rattle.delta_defs.specs.Unfolding.{taken_names, unfolded_problem}
+use Rattle.search_spec.specs.Shallow.{is_shallow_literal}
 use Rattle.cli_words.specs.Requests.{Request, prove, asked_by}
+use Rattle.cli_words.specs.declared.Cuts.TheVariants.{Allowed, Forbidden}
+use Rattle.plain_tableau.specs.declared.stripped.Stripped.{Stripped}
+use Rattle.plain_tableau.specs.declared.stripped.Stripped.TheVariants as stripped
+use Rattle.prover_run.specs.Tree.{IsTreeAsked}
 use Rattle.prover_run.specs.Ended.{setting_for, IsRefuted, HasEnoughConflicts}
 use Rattle.refute_print.specs.Text.{text_lines, as_bytes}
 use Rattle.refute_print.specs.Named.{named_refutation}
@@ -28,7 +33,7 @@ use Rattle.request_answers.specs.Files.{OfFiles, Statements, StatesProblem}
 use Rattle.request_answers.specs.Modes.{IsModeBy}
 use Rattle.request_answers.specs.Names.{names_in}
 use Rattle.request_answers.specs.Checked.{IsAcceptedText, HoldsOnly}
-use Rattle.request_answers.specs.Solved.{claim_of}
+use Rattle.request_answers.specs.Solved.{claim_of, written_refutation, tree_told}
 use Rattle.request_answers.specs.Answers.{IsAnswer}
 use Rattle.request_answers.specs.Causes.{HasCause}
 
@@ -89,31 +94,45 @@ EnoughAsked (Some r) told contents =
 abbrev pub AreConflictsEnough : List (List ℕ) → Bool → (List ℕ → Option (List ℕ)) → Type 0
 AreConflictsEnough words told contents = EnoughAsked (asked_by words) told contents
 
--- the words ask for the proof of a problem, by this mode
-pub record IsAskedBy (words : List (List ℕ)) (told : Bool) (contents : List ℕ → Option (List ℕ)) (mode : Mode) : Type 0 where
+-- the words ask for the proof of a problem, by this mode, and for a tree without cut of at most so many nodes or for none
+pub record IsAskedBy (words : List (List ℕ)) (told : Bool) (contents : List ℕ → Option (List ℕ)) (mode : Mode) (nodes : Option ℕ) : Type 0 where
   pub problem : List ℕ
   pub file : Option (List ℕ)
   pub asked : asked_by words ≡ Some (prove problem file nodes)
   pub is_mode : IsModeBy told contents file mode
 
+-- a tree is made whole
+abbrev pub IsTreeMade : Option Stripped → Type 0
+IsTreeMade None = ⊥
+IsTreeMade (Some (stripped.Tree tree nodes)) = Unit {0}
+IsTreeMade (Some (stripped.Open branch)) = ⊥
+IsTreeMade (Some (stripped.Over nodes)) = ⊥
+
 -- What is written where a proof is reported. The outcome is what the proof shows of the problem that the files state, and the bytes are its
 -- report. They hold one refutation, with the names of the definitions that are taken, so that they are an accepted text for the problem. It
 -- is accepted for the start of the unfolded problem, and the tableau of its last line closes that start. After the number of commands that is
--- reported, and not before, the clauses of the search are unsatisfiable, and from these clauses the refutation comes. No standard model with
--- finite base types meets the problem.
+-- reported, and not before, the clauses of the search are unsatisfiable, and from these clauses a refutation is rebuilt. It is the one that is
+-- written, unless a tree without cut is asked for and comes of the instances that it uses: then that of the tree is, and a check that forbids
+-- cuts accepts the bytes too. No standard model with finite base types meets the problem.
 pub record IsProofReport (words : List (List ℕ)) (told : Bool) (contents : List ℕ → Option (List ℕ)) (outcome : Outcome) (written : List ℕ) : Type 0 where
   pub mode : Mode
-  pub asked : IsAskedBy words told contents mode
+  pub nodes : Option ℕ
+  pub asked : IsAskedBy words told contents mode nodes
   pub names : List (List ℕ)
   pub problem : PlainProblem
   pub stated : StatesProblem words told contents names problem
   pub is_outcome : outcome ≡ claim_outcome (claim_of problem)
   pub commands : ℕ
+  pub rebuilt : Refutation
+  pub refuted : IsRefuted (unfolded_problem problem) mode commands rebuilt
+  pub stripped : Option Stripped
+  pub tree : IsTreeAsked (scope_of problem.declared) (start (unfolded_problem problem)) (filter is_shallow_literal (start (unfolded_problem problem))) refuted.shortly.input nodes stripped
   pub refutation : Refutation
-  pub refuted : IsRefuted (unfolded_problem problem) mode commands refutation
-  pub is_report : written ≡ report_of (asked_name words) (Proved (claim_of problem) commands (as_bytes (text_lines (named_refutation (names_in problem) (taken_names problem) refutation))))
+  pub is_written : refutation ≡ written_refutation rebuilt stripped
+  pub is_report : written ≡ report_of (asked_name words) (Proved (claim_of problem) commands (tree_told stripped) (as_bytes (text_lines (named_refutation (names_in problem) (taken_names problem) refutation))))
   pub holds : HoldsOnly problem written refutation
-  pub accepted_text : IsAcceptedText problem written
+  pub accepted_text : IsAcceptedText Allowed problem written
+  pub strict_text : IsTreeMade stripped → IsAcceptedText Forbidden problem written
   pub closed : Closes (with_rows (scope_of problem.declared) refutation.witnesses) refutation.witnesses (tableau_of refutation) (start (unfolded_problem problem))
   pub no_model : IsWithoutModel problem
 

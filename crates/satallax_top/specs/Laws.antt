@@ -16,11 +16,11 @@ ProofPropagatesWithoutConflict =
 abbrev pub SpentEndsNoLaterThanProof : Type 0
 SpentEndsNoLaterThanProof =
     (words : List (List ℕ)) (told : Bool) (contents : List ℕ → Option (List ℕ)) (outcome : Outcome) (written : List ℕ) (conflicts : ℕ)
-    (report : IsProofReport words told contents outcome written) (spent : IsSolved report.mode report.problem (ConflictLimit conflicts)) → spent.commands ≤ report.commands
+    (report : IsProofReport words told contents outcome written) (spent : IsSolved report.nodes report.mode report.problem (ConflictLimit conflicts)) → spent.commands ≤ report.commands
 
 -- and earlier where all that the proof's run learned, it learned too
 abbrev pub SpentEndsBeforeProof : Type 0
 SpentEndsBeforeProof =
     (words : List (List ℕ)) (told : Bool) (contents : List ℕ → Option (List ℕ)) (outcome : Outcome) (written : List ℕ) (conflicts : ℕ)
-    (report : IsProofReport words told contents outcome written) (spent : IsSolved report.mode report.problem (ConflictLimit conflicts))
+    (report : IsProofReport words told contents outcome written) (spent : IsSolved report.nodes report.mode report.problem (ConflictLimit conflicts))
     → IsLearnedAmong report.refuted.within.learning spent.spent.learning → spent.commands < report.commands

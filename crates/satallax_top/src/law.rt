@@ -14,7 +14,7 @@ ghost use Rattle.satallax_top.specs.Laws.{ProofPropagatesWithoutConflict, SpentE
 /// Over told contents there is one defined answer, but for the refutation of a proof: any that is accepted will do. So there is one outcome.
 /// A run ends in one way, after one number of commands, where its conflicts aren't spent.
 pub fn one_answer()
-    ensures run { (m : Mode) (p : PlainProblem) (one other : Answer) → IsSettled one → IsSettled other → IsSolved m p one → IsSolved m p other
+    ensures run { (nodes : Option ℕ) (m : Mode) (p : PlainProblem) (one other : Answer) → IsSettled one → IsSettled other → IsSolved nodes m p one → IsSolved nodes m p other
         → without_refutation one ≡ without_refutation other }
     ensures answer { (words : List (List ℕ)) (contents : List ℕ → Option (List ℕ)) (one other : Answer) → Defined words contents one → Defined words contents other
         → without_refutation one ≡ without_refutation other }

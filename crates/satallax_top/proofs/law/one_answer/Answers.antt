@@ -3,7 +3,7 @@ use Rattle.satallax_top.proofs.OneAnswer.{answer-same, outcome-same}
 use Rattle.satallax_top.proofs.law.one_answer.Goals as goal
 
 pub returns-clause-run : goal.returns-clause-run
-returns-clause-run c = λ m p a b w v h k. solved-same m p a b w v h k
+returns-clause-run c = λ nodes m p a b w v h k. solved-same nodes m p a b w v h k
 
 pub returns-clause-answer : goal.returns-clause-answer
 returns-clause-answer c = answer-same
