@@ -3,7 +3,7 @@ use Rattle.std.specs.Prelude.{ℕ, ◌≤◌, Option, Some, None, unwrap_or}
 use Rattle.mode_file.specs.declared.Mode.{Mode}
 use Rattle.mode_file.specs.declared.given.Given.{Given}
 use Rattle.mode_file.specs.declared.keys.Key.{Key}
-use Rattle.mode_file.specs.declared.keys.Key.TheVariants.{Process, Mate, Confront, Inst, Choose, Grow, Commands, Conflicts}
+use Rattle.mode_file.specs.declared.keys.Key.TheVariants.{Process, Mate, Confront, Inst, Choose, Grow, Clock, Commands, Conflicts}
 use Rattle.mode_file.specs.Keys.{standard_number, greatest}
 
 abbrev pub nothing_given : Given
@@ -14,6 +14,7 @@ nothing_given = record {
   inst = None;
   choose = None;
   grow = None;
+  clock = None;
   commands = None;
   conflicts = None;
 }
@@ -25,6 +26,7 @@ number_given given Confront = given.confront
 number_given given Inst = given.inst
 number_given given Choose = given.choose
 number_given given Grow = given.grow
+number_given given Clock = given.clock
 number_given given Commands = given.commands
 number_given given Conflicts = given.conflicts
 
@@ -36,6 +38,7 @@ with_number given Confront n = record given { confront = Some n }
 with_number given Inst n = record given { inst = Some n }
 with_number given Choose n = record given { choose = Some n }
 with_number given Grow n = record given { grow = Some n }
+with_number given Clock n = record given { clock = Some n }
 with_number given Commands n = record given { commands = Some n }
 with_number given Conflicts n = record given { conflicts = Some n }
 
@@ -48,6 +51,7 @@ mode_of given = record {
   inst = unwrap_or given.inst (standard_number Inst);
   choose = unwrap_or given.choose (standard_number Choose);
   grow = unwrap_or given.grow (standard_number Grow);
+  clock = unwrap_or given.clock (standard_number Clock);
   commands = unwrap_or given.commands (standard_number Commands);
   conflicts = unwrap_or given.conflicts (standard_number Conflicts);
 }
@@ -60,5 +64,6 @@ pub record IsInRange (mode : Mode) : Type 0 where
   pub inst : mode.inst ≤ greatest Inst
   pub choose : mode.choose ≤ greatest Choose
   pub grow : mode.grow ≤ greatest Grow
+  pub clock : mode.clock ≤ greatest Clock
   pub commands : mode.commands ≤ greatest Commands
   pub conflicts : mode.conflicts ≤ greatest Conflicts

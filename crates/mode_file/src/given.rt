@@ -15,6 +15,7 @@ pub(crate) struct Given {
     inst: Option<u32>,
     choose: Option<u32>,
     grow: Option<u32>,
+    clock: Option<u32>,
     commands: Option<u32>,
     conflicts: Option<u64>,
 }
@@ -30,6 +31,7 @@ impl Given {
             inst: None,
             choose: None,
             grow: None,
+            clock: None,
             commands: None,
             conflicts: None,
         }
@@ -46,6 +48,7 @@ impl Given {
             Key::Inst => self.inst.is_some(),
             Key::Choose => self.choose.is_some(),
             Key::Grow => self.grow.is_some(),
+            Key::Clock => self.clock.is_some(),
             Key::Commands => self.commands.is_some(),
             Key::Conflicts => self.conflicts.is_some(),
         }
@@ -62,6 +65,7 @@ impl Given {
             Key::Inst => self.inst = Some(number as u32),
             Key::Choose => self.choose = Some(number as u32),
             Key::Grow => self.grow = Some(number as u32),
+            Key::Clock => self.clock = Some(number as u32),
             Key::Commands => self.commands = Some(number as u32),
             Key::Conflicts => self.conflicts = Some(number),
         }
@@ -78,6 +82,7 @@ impl Given {
             inst: self.inst.unwrap_or(1),
             choose: self.choose.unwrap_or(2),
             grow: self.grow.unwrap_or(4),
+            clock: self.clock.unwrap_or(0),
             commands: self.commands.unwrap_or(20_000),
             conflicts: self.conflicts.unwrap_or(1_000_000),
         }

@@ -11,17 +11,19 @@ pub(crate) enum Key {
     Inst,
     Choose,
     Grow,
+    Clock,
     Commands,
     Conflicts,
 }
 
-const KEYS: [Key; 8] = [
+const KEYS: [Key; 9] = [
     Key::Process,
     Key::Mate,
     Key::Confront,
     Key::Inst,
     Key::Choose,
     Key::Grow,
+    Key::Clock,
     Key::Commands,
     Key::Conflicts,
 ];
@@ -37,6 +39,7 @@ impl Key {
             Key::Inst => b"inst",
             Key::Choose => b"choose",
             Key::Grow => b"grow",
+            Key::Clock => b"clock",
             Key::Commands => b"commands",
             Key::Conflicts => b"conflicts",
         }
@@ -47,6 +50,7 @@ impl Key {
         ensures { result ≡ greatest self }
     {
         match self {
+            Key::Clock => 1,
             Key::Commands => 1_000_000,
             Key::Conflicts => 1_000_000_000_000,
             Key::Process | Key::Mate | Key::Confront | Key::Inst | Key::Choose | Key::Grow => 1_000,

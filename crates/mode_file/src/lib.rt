@@ -22,8 +22,9 @@ pub use line::{begins_with_key, says_nothing};
 pub use number::{NumberRefused, first_word, read_number};
 pub use refused::ModeRefused;
 
-/// What the search is run by: how long each kind of command is put off, counted in commands; how many commands are
-/// carried out at most; and how many conflicts the solver may meet.
+/// What the search is run by: how long each kind of command is put off, and from which moment on; how many commands are
+/// carried out at most; and how many conflicts the solver may meet. By clock 0 the moment is the number of the command that
+/// is carried out, by clock 1 the moment at which that command was due.
 #[derive(Clone, Copy, Debug, PartialEq, Eq)]
 pub struct Mode {
     pub process: u32,
@@ -32,6 +33,7 @@ pub struct Mode {
     pub inst: u32,
     pub choose: u32,
     pub grow: u32,
+    pub clock: u32,
     pub commands: u32,
     pub conflicts: u64,
 }

@@ -1,6 +1,6 @@
 -- The runs of the worked examples, by computation.
 use Rattle.std.specs.Prelude.{refl}
-use Rattle.search_spec.specs.Rows.{AllRuns, AgreeRuns, ChosenRuns, DescribedRuns, SymRuns, SomeRuns}
+use Rattle.search_spec.specs.Rows.{AllRuns, AgreeRuns, ChosenRuns, DescribedRuns, SymRuns, SomeRuns, DueRuns}
 
 pub all_runs : AllRuns
 all_runs = (refl, refl)
@@ -19,3 +19,6 @@ sym_runs = refl
 
 pub some_runs : SomeRuns
 some_runs = (refl, refl)
+
+pub due_runs : DueRuns
+due_runs = (refl, refl, refl, refl)

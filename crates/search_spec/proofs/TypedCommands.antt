@@ -12,14 +12,14 @@ use Rattle.tableau_calculus.specs.declared.refutation.RuleUse.TheVariants.{AllPo
 use Rattle.search_spec.specs.Each.{Each}
 use Rattle.search_spec.specs.Shallow.{is_shallow, is_shallow_literal}
 use Rattle.search_spec.specs.Spine.{head_of, arguments}
-use Rattle.search_spec.specs.Queue.{first_waiting, next_command, without_number}
+use Rattle.search_spec.specs.Queue.{first_waiting, next_command}
 use Rattle.command_queue.specs.declared.entry.Entry.{Entry}
 use Rattle.command_queue.specs.Queue.{comes_before}
 use Rattle.search_spec.specs.State.{State, Setting, Command, process, mate, confront, inst, choose, describe, grow}
 use Rattle.search_spec.specs.Alternatives.{Alternatives, all_pos, differ, con, cho, des}
 use Rattle.search_spec.specs.Instances.{with_instance}
 use Rattle.search_spec.specs.Commands.{with_mating, with_confrontation, with_instantiation, with_command}
-use Rattle.search_spec.specs.After.{nothing_yet, starting_state, after_command, next_state, state_after}
+use Rattle.search_spec.specs.After.{nothing_yet, starting_state, with_taken, after_command, next_state, state_after}
 use Rattle.search_spec.specs.TypedState.{Mates, Confronts, Instantiates, IsTypedCommand, IsTypedStateWith, IsTypedState}
 use Rattle.search_spec.proofs.NamingLaws.{pick_good}
 use Rattle.search_spec.proofs.TypedAlternatives.{alternatives_typed}
@@ -100,8 +100,8 @@ module _ (setting : Setting) (over : IsScope setting.scope) (s : State) (state :
   carried_out-typed (grow p t) h = whole _ (grow-typed setting s.rows good p t s h state.typed)
 
 module _ (setting : Setting) (over : IsScope setting.scope) where
-  taken-typed : (n : ℕ) (s : State) → IsTypedState setting s → IsTypedState setting (record s { queue = without_number n s.queue; done = suc s.done })
-  taken-typed n s state =
+  taken-typed : (first : Entry Command) (s : State) → IsTypedState setting s → IsTypedState setting (with_taken setting first s)
+  taken-typed first s state =
       let g = state.typed in
       record {
         table = state.table;
@@ -110,7 +110,7 @@ module _ (setting : Setting) (over : IsScope setting.scope) where
           noted = g.noted;
           terms = g.terms;
           parked = g.parked;
-          queue = each_filtered (λ (q : Entry Command). IsTypedCommand (with_rows setting.scope s.rows) q.command) (λ q. IsTypedCommand (with_rows setting.scope s.rows) q.command) (λ q. not (q.number == n)) (λ q h e. h) s.queue g.queue;
+          queue = each_filtered (λ (q : Entry Command). IsTypedCommand (with_rows setting.scope s.rows) q.command) (λ q. IsTypedCommand (with_rows setting.scope s.rows) q.command) (λ q. not (q.number == first.number)) (λ q h e. h) s.queue g.queue;
         };
       }
 
@@ -119,10 +119,9 @@ module _ (setting : Setting) (over : IsScope setting.scope) where
   next-typed s t state (q ∷ qs) h e =
       let first = first_waiting q qs in
       let typed = first_good (λ p. IsTypedCommand (with_rows setting.scope s.rows) p.command) q qs h.0 h.1 in
-      let taken = record s { queue = without_number first.number s.queue; done = suc s.done } in
       let P : State → Type 0 = λ x. IsTypedState setting x in
-      let same : with_command setting first.command taken ≡ t = cc in
-      subst P same (carried_out-typed setting over taken (taken-typed first.number s state) first.command typed)
+      let same : with_command setting first.command (with_taken setting first s) ≡ t = cc in
+      subst P same (carried_out-typed setting over (with_taken setting first s) (taken-typed first s state) first.command typed)
 
   step-typed : (o : Option State) (t : State) → ((s : State) → o ≡ Some s → IsTypedState setting s) → next_state setting o ≡ Some t → IsTypedState setting t
   step-typed None t h e = cc

@@ -83,7 +83,7 @@ module _ (setting : Setting) (rows : List Row) where
     noted = g.noted;
     terms = g.terms;
     parked = g.parked;
-    queue = each-joined _ s.queue (new_entries (due setting.mode s.done) s.pushes cs) g.queue (each_waiting (IsTypedCommand over) (due setting.mode s.done) s.pushes cs h);
+    queue = each-joined _ s.queue (new_entries (due setting.mode s.moment) s.pushes cs) g.queue (each_waiting (IsTypedCommand over) (due setting.mode s.moment) s.pushes cs h);
   }
 
   pub seen-typed : (ls : List Literal) (s : State) → Good s → Good (record s { seen = ls })

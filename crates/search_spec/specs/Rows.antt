@@ -18,6 +18,10 @@ named k = constant (name k)
 abbrev pub one_setting : List SimpleType → Setting
 one_setting names = record { scope = record { bases = 0; names = names; witnesses = [] }; mode = standard_mode }
 
+-- the same, where the moment is the one at which a command was due
+abbrev pub by_due : Setting → Setting
+by_due setting = record setting { mode = record standard_mode { clock = 1 } }
+
 abbrev pub commands : List (Entry Command) → List Command
 commands queue = map (λ q. q.command) queue
 
@@ -136,3 +140,12 @@ abbrev pub SomeRuns : Type 0
 SomeRuns =
     (dues (trace some_setting 28 (Some (starting_state some_setting (none_holds ∷ [])))) ≡ (0, 0) ∷ (5, 1) ∷ (3, 7) ∷ (3, 8) ∷ (5, 2) ∷ (5, 3) ∷ (5, 4) ∷ (5, 5) ∷ (5, 6) ∷ (9, 9) ∷ (9, 10) ∷ (9, 11) ∷ (9, 12) ∷ (9, 13) ∷ (9, 14) ∷ (10, 15) ∷ (10, 16) ∷ (10, 17) ∷ (10, 18) ∷ (10, 19) ∷ (10, 20) ∷ (11, 21) ∷ (11, 22) ∷ (11, 23) ∷ (11, 24) ∷ (11, 25) ∷ (11, 26) ∷ (11, 36) ∷ [])
     × (option_map (λ s. s.clauses) (state_after some_setting (none_holds ∷ []) 28) ≡ Some ((none_holds ∷ []) ∷ (opposite none_holds ∷ minus (constant falsity) ∷ []) ∷ (opposite none_holds ∷ plus (constant falsity) ∷ []) ∷ []))
+
+-- the first problem's commands are the same ones, and are due earlier; the last problem's come in another order: what the first term gives,
+-- which was pushed as number 35, goes before what was pushed as number 8
+abbrev pub DueRuns : Type 0
+DueRuns =
+    (commands (trace (by_due all_setting) 8 (Some (starting_state (by_due all_setting) all_start))) ≡ all_commands)
+    × (dues (trace (by_due all_setting) 8 (Some (starting_state (by_due all_setting) all_start))) ≡ (0, 0) ∷ (0, 1) ∷ (1, 2) ∷ (1, 3) ∷ (2, 4) ∷ (2, 6) ∷ (3, 5) ∷ (3, 7) ∷ [])
+    × (dues (trace (by_due some_setting) 37 (Some (starting_state (by_due some_setting) (none_holds ∷ [])))) ≡ (0, 0) ∷ (4, 1) ∷ (4, 2) ∷ (4, 3) ∷ (4, 4) ∷ (4, 5) ∷ (4, 6) ∷ (5, 7) ∷ (5, 35) ∷ (8, 8) ∷ (8, 9) ∷ (8, 10) ∷ (8, 11) ∷ (8, 12) ∷ (8, 13) ∷ (8, 14) ∷ (8, 15) ∷ (8, 16) ∷ (8, 17) ∷ (8, 18) ∷ (8, 19) ∷ (8, 20) ∷ (8, 21) ∷ (8, 22) ∷ (8, 23) ∷ (8, 24) ∷ (8, 25) ∷ (8, 26) ∷ (8, 27) ∷ (8, 28) ∷ (8, 29) ∷ (8, 30) ∷ (8, 31) ∷ (8, 32) ∷ (8, 33) ∷ (8, 34) ∷ (9, 36) ∷ [])
+    × (option_map (λ s. s.clauses) (state_after (by_due some_setting) (none_holds ∷ []) 37) ≡ Some ((none_holds ∷ []) ∷ (opposite none_holds ∷ minus (constant falsity) ∷ []) ∷ (opposite none_holds ∷ plus (constant falsity) ∷ []) ∷ []))

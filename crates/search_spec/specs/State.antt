@@ -1,5 +1,5 @@
 -- The state of the search (Brown, Reducing higher-order theorem proving to a sequence of SAT problems, 2013).
-use Rattle.std.specs.Prelude.{ℕ, ◌+◌, ◌++◌, length, List}
+use Rattle.std.specs.Prelude.{ℕ, ◌+◌, ◌++◌, ◌==◌, length, List, if◌then◌else◌}
 use Rattle.stt_core.specs.SimpleType.{SimpleType}
 use Rattle.stt_core.specs.Lambda.{Lambda}
 use Rattle.stt_core.specs.Typing.{Scope}
@@ -38,7 +38,8 @@ pub data Command : Type 0 where
   grow : Sketch → Lambda → Command
 
 -- The clauses, the literals that were seen and those that were processed, the terms for instances, the predicates that were chosen by
--- and those that were described, the witness table, the partial terms, the commands that wait, and how many commands were pushed and done so far.
+-- and those that were described, the witness table, the partial terms, the commands that wait, how many commands were pushed and done so far,
+-- and the moment from which delays count.
 pub record State : Type 0 where
   pub clauses : List Clause
   pub seen : List Literal
@@ -51,6 +52,7 @@ pub record State : Type 0 where
   pub queue : List (Entry Command)
   pub pushes : ℕ
   pub done : ℕ
+  pub moment : ℕ
 
 -- How long a command waits. A choice and a description wait equally long.
 abbrev pub delay : Mode → Command → ℕ
@@ -62,13 +64,18 @@ delay mode (choose a f) = mode.choose
 delay mode (describe a f) = mode.choose
 delay mode (grow p h) = mode.grow
 
+-- The moment at which a command is carried out: by clock 0 it is the command's number, counted from 1; by any other clock it is the moment
+-- at which the command was due.
+abbrev pub moment_by : ℕ → ℕ → ℕ → ℕ
+moment_by clock count due = if clock == 0 then count else due
+
 -- the moment at which a command is due that is pushed at a moment
 abbrev pub due : Mode → ℕ → Command → ℕ
 due mode now c = now + delay mode c
 
 -- the state with commands pushed
 abbrev pub with_commands : Mode → List Command → State → State
-with_commands mode cs s = record s { queue = s.queue ++ new_entries (due mode s.done) s.pushes cs; pushes = s.pushes + length cs }
+with_commands mode cs s = record s { queue = s.queue ++ new_entries (due mode s.moment) s.pushes cs; pushes = s.pushes + length cs }
 
 -- what is declared, with the witnesses so far
 abbrev pub scope_in : Setting → State → Scope
