@@ -125,7 +125,7 @@ module _ (used : List (TreeInstance SatLit)) (limit : ℕ) (start : List SatLit)
         whole = λ r g. h.whole r (make_node used limit h.below b i h.is_open is (subst (λ n. n < limit) h.count fewer) r g);
       }
 
-  -- the next_due alternative of a node
+  -- the next alternative of a node
   left_is : (g : Below) (n : ℕ) (a : List SatLit) → count g.done ≡ n → slice_get g.instance.alternatives n ≡ Some a → left_of g ≡ a ∷ drop (suc n) g.instance.alternatives
   left_is g n a e h = ap (λ m. drop m g.instance.alternatives) e ∙ drop_at n g.instance.alternatives a h
 

@@ -18,7 +18,7 @@ has_all kind branch ls = list_all (has kind branch) ls
 abbrev pub is_due : {L : Type 0} → Kind L → List L → TreeInstance L → Bool
 is_due kind branch i = has_all kind branch i.principals && not (list_any (has_all kind branch) i.alternatives)
 
--- the next_due instance: the first one that is due
+-- the next instance: the first one that is due
 abbrev pub next_due : {L : Type 0} → Kind L → List (TreeInstance L) → List L → Option (TreeInstance L)
 next_due kind used branch = slice_get used (position_or_len (is_due kind branch) used)
 
@@ -34,14 +34,14 @@ put_under i branch (found ts) = found (node i branch ts)
 put_under i branch (open_at b) = open_at b
 put_under i branch over = over
 
--- a tree put_before what comes of the further alternatives
+-- a tree before what comes of the further alternatives
 abbrev pub put_before : {L : Type 0} → PlainTree L → Expanded L (PlainTrees L) → Expanded L (PlainTrees L)
 put_before t (found ts) = found (more t ts)
 put_before t (open_at b) = open_at b
 put_before t over = over
 
 mutual
-  -- what comes of a branch, where so many nodes were made put_before
+  -- what comes of a branch, where so many nodes were made before
   pub data Expands {L : Type 0} (kind : Kind L) (used : List (TreeInstance L)) (limit : ℕ) : ℕ → List L → Expanded L (PlainTree L) → Type 0 where
     closes : (made : ℕ) (branch : List L) → is_closed_branch kind branch ≡ true → Expands kind used limit made branch (found closed)
     stays_open : (made : ℕ) (branch : List L) → is_closed_branch kind branch ≡ false → next_due kind used branch ≡ None → Expands kind used limit made branch (open_at branch)

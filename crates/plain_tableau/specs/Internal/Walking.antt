@@ -1,4 +1,4 @@
--- A walk put_under way: the nodes that aren't written yet, the innermost one first.
+-- A walk under way: the nodes that aren't written yet, the innermost one first.
 use Rattle.std.specs.Prelude.{◌≡◌, ◌+◌, ◌≤◌, ℕ, suc, Bool, true, false, List, [], ◌∷◌, ◌++◌, length, take, drop, Some, slice_get}
 use Rattle.stt_core.specs.Lambda.{Lambda}
 use Rattle.tableau_calculus.specs.declared.refutation.Line.{Line}
