@@ -20,6 +20,10 @@ pub enum Expr {
     Apply(u32, Box<Expr>, Box<Expr>),
     /// The table of the body, in this base and with this many entries.
     Table(u32, u32, Box<Expr>),
+    /// This many times the body, which its variable doesn't occur in.
+    Repeat(u32, Box<Expr>),
+    /// What this number leaves of the body, which its variable doesn't occur in.
+    Whole(u32, Box<Expr>),
 }
 
 /// The values of the bound variables in scope, as a list that is linked from the innermost one outwards.
@@ -91,6 +95,14 @@ pub fn eval(expr: &Expr, values: &[u32], env: &Env) -> u32
             entry_of(*base, function, argument)
         }
         Expr::Table(base, n, e) => eval_table(*base, *n, e, values, env),
+        Expr::Repeat(times, e) => {
+            let inner = Env::Inner(0, &*env);
+            eval(e, values, &inner) * *times
+        }
+        Expr::Whole(count, e) => {
+            let inner = Env::Inner(0, &*env);
+            eval(e, values, &inner) % *count
+        }
     }
 }
 
@@ -111,7 +123,7 @@ fn eval_all(n: u32, body: &Expr, values: &[u32], env: &Env) -> u32
 
 /// The table of the body.
 #[cycle(eval)]
-fn eval_table(base: u32, n: u32, body: &Expr, values: &[u32], env: &Env) -> u32
+pub fn eval_table(base: u32, n: u32, body: &Expr, values: &[u32], env: &Env) -> u32
     requires small { base ^ n ≤ 2 ^ 20 }
     requires body { (x : ℕ) → x < n → IsSafe body.now values.now (x ∷ the_values env.now) × (worth body.now values.now (x ∷ the_values env.now) < base) }
     ensures { result ≡ table base n (λ x. worth body.now values.now (x ∷ the_values env.now)) }

@@ -140,6 +140,8 @@ pub fn reach(expr: &Expr) -> usize
         Expr::Eq(a, b) => reach(a).max(reach(b)),
         Expr::Apply(_, f, x) => reach(f).max(reach(x)),
         Expr::Table(_, _, e) => reach(e),
+        Expr::Repeat(_, e) => reach(e),
+        Expr::Whole(_, e) => reach(e),
     }
 }
 

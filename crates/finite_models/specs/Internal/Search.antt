@@ -2,7 +2,7 @@
 use Rattle.std.specs.Prelude.{◌≡◌, ◌<◌, ◌≤◌, ℕ, ◌+◌, ◌*◌, max, Bool, true, false, List, [], ◌∷◌, length, slice_get, slice_index, slice_index_or, Some, ◌⊎◌}
 use Rattle.finite_models.specs.Internal.Worth.{worth, IsSafe}
 use Rattle.finite_models.specs.declared.expr.Expr.{Expr}
-use Rattle.finite_models.specs.declared.expr.Expr.TheVariants.{Bound, Symbol, False, Not', Imp', All', Eq', Apply', Table'}
+use Rattle.finite_models.specs.declared.expr.Expr.TheVariants.{Bound, Symbol, False, Not', Imp', All', Eq', Apply', Table', Repeat', Whole'}
 use Rattle.finite_models.specs.declared.search.Check.{Check}
 
 -- the value is an allowed one
@@ -60,6 +60,8 @@ reach_of (All' n p e) = reach_of e
 reach_of (Eq' p a q b) = max (reach_of a) (reach_of b)
 reach_of (Apply' b p f q x) = max (reach_of f) (reach_of x)
 reach_of (Table' b n p e) = reach_of e
+reach_of (Repeat' n p e) = reach_of e
+reach_of (Whole' n p e) = reach_of e
 
 -- each formula is worth what it is to be
 abbrev pub PassesAll : List Check → List ℕ → Type 0
