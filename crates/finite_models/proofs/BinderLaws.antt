@@ -1,11 +1,11 @@
 -- What quantifiers and tables may leave out.
-use Rattle.std.proofs.Common.{◌≡◌, ℕ, zero, suc, ◌+◌, ◌*◌, ◌%◌, ◌-◌, ◌^◌, ◌<◌, ◌≤◌, List, [], ◌∷◌, Bool, true, false, nat_eq, if◌then◌else◌, slice_index, refl, ap, ap₂, sym, subst, ◌∙◌, arith}
-use Rattle.std.proofs.Math.Nat.{pow-succ'}
+use Rattle.std.proofs.Common.{◌≡◌, ℕ, zero, suc, ◌+◌, ◌*◌, ◌%◌, ◌-◌, ◌^◌, ◌<◌, ◌≤◌, List, [], ◌∷◌, Bool, true, false, nat_eq, if◌then◌else◌, slice_index, refl, ap, ap₂, sym, subst, ◌∙◌, arith, mod-eq_of_lt}
+use Rattle.std.proofs.Math.Nat.{pow-succ', pow-zero, pow-le-pow_right}
 use mathlib.Core.Path.{fun_ext}
 use Rattle.stt_core.specs.Digits.{entry, table}
-use Rattle.stt_core.proofs.DigitLaws.{table-lt, table-entry}
+use Rattle.stt_core.proofs.DigitLaws.{table-lt, table_same, table-entry}
 use Rattle.finite_models.specs.Internal.Worth.{worth, all_one, IsSafe}
-use Rattle.finite_models.specs.Internal.Binder.{IsWithout, IsInnermost, IsEntryInside, AreRounds, IsTableOf}
+use Rattle.finite_models.specs.Internal.Binder.{IsWithout, IsVariable, IsEntryInside, AreRounds, IsTableOf}
 use Rattle.finite_models.specs.declared.expr.Expr.{Expr}
 use Rattle.finite_models.specs.declared.expr.Expr.TheVariants.{Bound, Symbol, False, Not', Imp', All', Eq', Apply', Table', Repeat', Whole'}
 
@@ -52,22 +52,22 @@ one_round : (n : ℕ) (g : ℕ → ℕ) → 1 ≤ n → ((x y : ℕ) → g x ≡
 one_round zero g l h = absurd (omega arith)
 one_round (suc zero) g l h = refl
 one_round (suc (suc n)) g l h =
-    go (nat_eq (g 0) 1)
+    once (nat_eq (g 0) 1)
     ∙ ap (λ v. if nat_eq (g 0) 1 then v else 0) (one_round (suc n) g (omega arith) h)
     ∙ ap (λ v. if nat_eq v 1 then all_one (suc n) g else 0) (h 0 (suc n))
   where
-    go : (b : Bool) → (if b then 1 else 0) ≡ (if b then (if b then 1 else 0) else 0)
-    go true = refl
-    go false = refl
+    one : Bool → ℕ
+    one b = if b then 1 else 0
+
+    once : (b : Bool) → one b ≡ (if b then one b else 0)
+    once true = refl
+    once false = refl
 
 pub rounds_once : (n : ℕ) (body : Expr) → 1 ≤ n → IsWithout 0 body → AreRounds n body 1
 rounds_once n body l w = record {
   few = l;
   same = λ vs env. one_round n (λ x. worth body vs (x ∷ env)) l (λ x y. same_inside body vs env x y w);
 }
-
-pub rounds_all : (n : ℕ) (body : Expr) → AreRounds n body n
-rounds_all n body = record { few = omega arith; same = λ vs env. refl }
 
 -- TABLES
 
@@ -104,29 +104,31 @@ table_repeated b n times body whole pos small e w is safe =
         ∙ sym (repeated b n (worth body vs (0 ∷ env)))
         ∙ ap (table b n) (fun_ext (λ x. same_inside body vs env 0 x w))
 
-pub table_plain : (b n : ℕ) (body whole : Expr) → ((vs env : List ℕ) → worth whole vs env ≡ table b n (λ x. worth body vs (x ∷ env))) → ((vs env : List ℕ) → ((x : ℕ) → x < n → IsSafe body vs (x ∷ env) × (worth body vs (x ∷ env) < b)) → IsSafe whole vs env) → IsTableOf b n body whole
-table_plain b n body whole is safe = record { is = is; safe = safe }
+variable_is : (x : Expr) (k n : ℕ) (vs env : List ℕ) → IsVariable k n x → slice_index env k < n → worth x vs env ≡ slice_index env k
+variable_is (Bound j) k n vs env h l = ap (slice_index env) h
+variable_is (Symbol i) k n vs env h l = absurd h
+variable_is False k n vs env h l = absurd h
+variable_is (Not' p e) k n vs env h l = absurd h
+variable_is (Imp' p a q b) k n vs env h l = absurd h
+variable_is (All' m p e) k n vs env h l = absurd h
+variable_is (Eq' p a q b) k n vs env h l = absurd h
+variable_is (Apply' b p f q x) k n vs env h l = absurd h
+variable_is (Table' b m p e) k n vs env h l = absurd h
+variable_is (Repeat' m p e) k n vs env h l = absurd h
+variable_is (Whole' m p e) k n vs env h l =
+    ap (λ v. v % m) (variable_is e (suc k) n vs (0 ∷ env) h.1 l) ∙ mod-eq_of_lt (omega (arith, h.0))
 
--- the parts of an entry at the innermost variable
-innermost_is : (x : Expr) (vs env : List ℕ) (v : ℕ) → IsInnermost x → worth x vs (v ∷ env) ≡ v
-innermost_is (Bound k) vs env v h = ap (slice_index (v ∷ env)) h
-innermost_is (Symbol i) vs env v h = absurd h
-innermost_is False vs env v h = absurd h
-innermost_is (Not' p e) vs env v h = absurd h
-innermost_is (Imp' p a q b) vs env v h = absurd h
-innermost_is (All' n p e) vs env v h = absurd h
-innermost_is (Eq' p a q b) vs env v h = absurd h
-innermost_is (Apply' b p f q x) vs env v h = absurd h
-innermost_is (Table' b n p e) vs env v h = absurd h
-innermost_is (Repeat' n p e) vs env v h = absurd h
-innermost_is (Whole' n p e) vs env v h = absurd h
-
-pub table_whole : (b n count : ℕ) (f x body whole : Expr) → 1 ≤ b → 1 ≤ n → count ≡ b ^ n → 1 ≤ count → IsInnermost x → IsWithout 0 f → ((vs env : List ℕ) → worth body vs env ≡ entry b (worth f vs env) (worth x vs env)) → ((vs env : List ℕ) → IsSafe body vs env → IsSafe f vs env) → ((vs env : List ℕ) → worth whole vs env ≡ worth f vs (0 ∷ env) % count) → ((vs env : List ℕ) → IsSafe f vs (0 ∷ env) → 1 ≤ count → IsSafe whole vs env) → IsTableOf b n body whole
-table_whole b n count f x body whole pos some e some_count i w body_is body_safe is safe = record {
+pub table_whole : (b n count : ℕ) (f x body whole : Expr) → 1 ≤ b → 1 ≤ n → count ≡ b ^ n → 1 ≤ count → IsVariable 0 n x → IsWithout 0 f → ((vs env : List ℕ) → worth body vs env ≡ entry b (worth f vs env) (worth x vs env)) → ((vs env : List ℕ) → IsSafe body vs env → IsSafe f vs env) → ((vs env : List ℕ) → worth whole vs env ≡ worth f vs (0 ∷ env) % count) → ((vs env : List ℕ) → IsSafe f vs (0 ∷ env) → 1 ≤ count → IsSafe whole vs env) → IsTableOf b n body whole
+table_whole b n count f x body whole pos some e some_count v w body_is body_safe is safe = record {
   is = λ vs env.
       is vs env
       ∙ ap (λ m. worth f vs (0 ∷ env) % m) e
       ∙ sym (table-entry b n (worth f vs (0 ∷ env)) pos)
-      ∙ ap (table b n) (fun_ext (λ v. ap₂ (entry b) (same_inside f vs env 0 v w) (sym (innermost_is x vs env v i)) ∙ sym (body_is vs (v ∷ env))));
+      ∙ table_same b n (entry b (worth f vs (0 ∷ env))) (λ y. worth body vs (y ∷ env)) (λ y l. ap₂ (entry b) (same_inside f vs env 0 y w) (sym (variable_is x 0 n vs (y ∷ env) v l)) ∙ sym (body_is vs (y ∷ env)));
   safe = λ vs env h. safe vs env (body_safe vs (0 ∷ env) (h 0 (omega arith)).0) some_count;
 }
+
+pub base_small : (b n limit : ℕ) → 1 ≤ b → 1 ≤ n → b ^ n ≤ limit → b ≤ limit
+base_small b n limit pos some h =
+    let up : b ^ 1 ≤ b ^ n = pow-le-pow_right pos some in
+    omega (arith, pow-succ' b 0, pow-zero b)

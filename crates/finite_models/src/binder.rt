@@ -2,7 +2,7 @@
 
 ghost use Rattle.std.specs.Prelude.{◌≡◌, ◌≤◌, ◌+◌, ◌^◌, IsTrue, IfOk};
 ghost use Rattle.stt_core.specs.Digits.{table};
-ghost use Rattle.finite_models.specs.Internal.Binder.{IsWithout, IsInnermost, IsEntryInside, AreRounds, IsTableOf};
+ghost use Rattle.finite_models.specs.Internal.Binder.{IsWithout, IsVariable, IsEntryInside, AreRounds, IsTableOf};
 
 use crate::expr::{Env, Expr, eval_table};
 use crate::size::bounded_power;
@@ -60,22 +60,23 @@ fn ones(base: u32, entries: u32) -> u32
     eval_table(base, entries, &Expr::Bound(1), &[], &one)
 }
 
-/// Whether an expression is the innermost variable.
-fn is_innermost(expr: &Expr) -> bool
-    ensures { IsTrue result → IsInnermost expr.now }
+/// Whether an expression is a variable whose values are below n, or the function of all its entries.
+fn is_variable(expr: &Expr, k: u32, n: u32) -> bool
+    ensures { IsTrue result → IsVariable k n expr.now }
 {
     match expr {
-        Expr::Bound(k) => *k == 0,
+        Expr::Bound(i) => *i == k,
+        Expr::Whole(count, e) => n <= *count && k < u32::MAX && is_variable(e, k + 1, n),
         _ => false,
     }
 }
 
 /// Whether an expression is the entry of a function at the innermost variable, which doesn't occur in the function.
-fn is_entry(expr: &Expr, base: u32) -> bool
-    ensures { IsTrue result → IsEntryInside base expr.now }
+fn is_entry(expr: &Expr, base: u32, entries: u32) -> bool
+    ensures { IsTrue result → IsEntryInside base entries expr.now }
 {
     match expr {
-        Expr::Apply(b, f, x) => *b == base && is_innermost(x) && lacks(f, 0),
+        Expr::Apply(b, f, x) => *b == base && is_variable(x, 0, entries) && lacks(f, 0),
         _ => false,
     }
 }
@@ -85,7 +86,7 @@ fn whole(base: u32, entries: u32, body: Expr) -> Expr
     requires base { 1 ≤ base }
     requires entries { 1 ≤ entries }
     requires small { base ^ entries ≤ 2 ^ 20 }
-    requires entry { IsEntryInside base body }
+    requires entry { IsEntryInside base entries body }
     ensures { IsTableOf base entries body result }
 {
     match body {
@@ -105,7 +106,7 @@ pub fn table_of(alloc: Global, base: u32, entries: u32, body: Expr) -> Result<Ex
     requires small { base ^ entries ≤ 2 ^ 20 }
     ensures { IfOk result (λ e. IsTableOf base entries body e) }
 {
-    if is_entry(&body, base) {
+    if is_entry(&body, base, entries) {
         return Ok(whole(base, entries, body));
     }
     if lacks(&body, 0) {

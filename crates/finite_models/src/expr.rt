@@ -2,7 +2,7 @@
 
 ghost use Rattle.std.specs.Prelude.{◌≡◌, ◌<◌, ◌≤◌, ◌^◌, ℕ, ◌∷◌, slice_index, length};
 ghost use Rattle.stt_core.specs.Digits.{entry, table};
-ghost use Rattle.finite_models.specs.Internal.Worth.{worth, all_one, IsSafe, the_values};
+ghost use Rattle.finite_models.specs.Internal.Worth.{worth, all_one, IsSafe, HasDigits, the_values};
 
 /// A term whose types are left out but for their sizes. A bound variable counts the binders between it and its own, a symbol has its place
 /// among the symbols.
@@ -125,7 +125,7 @@ fn eval_all(n: u32, body: &Expr, values: &[u32], env: &Env) -> u32
 #[cycle(eval)]
 pub fn eval_table(base: u32, n: u32, body: &Expr, values: &[u32], env: &Env) -> u32
     requires small { base ^ n ≤ 2 ^ 20 }
-    requires body { (x : ℕ) → x < n → IsSafe body.now values.now (x ∷ the_values env.now) × (worth body.now values.now (x ∷ the_values env.now) < base) }
+    requires body { HasDigits base n body.now values.now (the_values env.now) }
     ensures { result ≡ table base n (λ x. worth body.now values.now (x ∷ the_values env.now)) }
 {
     let mut sum = 0u32;

@@ -1,7 +1,7 @@
 -- What quantifiers and tables may leave out.
 use Rattle.std.specs.Prelude.{◌≡◌, ◌<◌, ◌≤◌, ℕ, zero, suc, ◌^◌, List, ◌∷◌}
 use Rattle.stt_core.specs.Digits.{table}
-use Rattle.finite_models.specs.Internal.Worth.{worth, all_one, IsSafe}
+use Rattle.finite_models.specs.Internal.Worth.{worth, all_one, IsSafe, HasDigits}
 use Rattle.finite_models.specs.declared.expr.Expr.{Expr}
 use Rattle.finite_models.specs.declared.expr.Expr.TheVariants.{Bound, Symbol, False, Not', Imp', All', Eq', Apply', Table', Repeat', Whole'}
 
@@ -24,35 +24,35 @@ pub record AreRounds (n : ℕ) (body : Expr) (rounds : ℕ) : Type 0 where
   pub few : rounds ≤ n
   pub same : (vs env : List ℕ) → all_one rounds (λ x. worth body vs (x ∷ env)) ≡ all_one n (λ x. worth body vs (x ∷ env))
 
--- the expression is the innermost variable
-abbrev pub IsInnermost : Expr → Type 0
-IsInnermost (Bound k) = k ≡ 0
-IsInnermost (Symbol i) = ⊥
-IsInnermost False = ⊥
-IsInnermost (Not' p e) = ⊥
-IsInnermost (Imp' p a q b) = ⊥
-IsInnermost (All' n p e) = ⊥
-IsInnermost (Eq' p a q b) = ⊥
-IsInnermost (Apply' b p f q x) = ⊥
-IsInnermost (Table' b n p e) = ⊥
-IsInnermost (Repeat' n p e) = ⊥
-IsInnermost (Whole' n p e) = ⊥
+-- The expression is a variable with values below n. It may be written as the function of its own entries.
+abbrev pub IsVariable : ℕ → ℕ → Expr → Type 0
+IsVariable k n (Bound j) = j ≡ k
+IsVariable k n (Symbol i) = ⊥
+IsVariable k n False = ⊥
+IsVariable k n (Not' p e) = ⊥
+IsVariable k n (Imp' p a q b) = ⊥
+IsVariable k n (All' m p e) = ⊥
+IsVariable k n (Eq' p a q b) = ⊥
+IsVariable k n (Apply' b p f q x) = ⊥
+IsVariable k n (Table' b m p e) = ⊥
+IsVariable k n (Repeat' m p e) = ⊥
+IsVariable k n (Whole' m p e) = (n ≤ m) × IsVariable (suc k) n e
 
 -- the expression is the entry of a function at the innermost variable, which doesn't occur in the function
-abbrev pub IsEntryInside : ℕ → Expr → Type 0
-IsEntryInside base (Bound k) = ⊥
-IsEntryInside base (Symbol i) = ⊥
-IsEntryInside base False = ⊥
-IsEntryInside base (Not' p e) = ⊥
-IsEntryInside base (Imp' p a q b) = ⊥
-IsEntryInside base (All' n p e) = ⊥
-IsEntryInside base (Eq' p a q b) = ⊥
-IsEntryInside base (Apply' b p f q x) = (b ≡ base) × (IsInnermost x × IsWithout 0 f)
-IsEntryInside base (Table' b n p e) = ⊥
-IsEntryInside base (Repeat' n p e) = ⊥
-IsEntryInside base (Whole' n p e) = ⊥
+abbrev pub IsEntryInside : ℕ → ℕ → Expr → Type 0
+IsEntryInside base n (Bound k) = ⊥
+IsEntryInside base n (Symbol i) = ⊥
+IsEntryInside base n False = ⊥
+IsEntryInside base n (Not' p e) = ⊥
+IsEntryInside base n (Imp' p a q b) = ⊥
+IsEntryInside base n (All' m p e) = ⊥
+IsEntryInside base n (Eq' p a q b) = ⊥
+IsEntryInside base n (Apply' b p f q x) = (b ≡ base) × (IsVariable 0 n x × IsWithout 0 f)
+IsEntryInside base n (Table' b m p e) = ⊥
+IsEntryInside base n (Repeat' m p e) = ⊥
+IsEntryInside base n (Whole' m p e) = ⊥
 
 -- the expression is worth the table of the body, and can be evaluated where the body can
 pub record IsTableOf (b n : ℕ) (body whole : Expr) : Type 0 where
   pub is : (vs env : List ℕ) → worth whole vs env ≡ table b n (λ x. worth body vs (x ∷ env))
-  pub safe : (vs env : List ℕ) → ((x : ℕ) → x < n → IsSafe body vs (x ∷ env) × (worth body vs (x ∷ env) < b)) → IsSafe whole vs env
+  pub safe : (vs env : List ℕ) → HasDigits b n body vs env → IsSafe whole vs env

@@ -75,6 +75,16 @@ AreReady checks vs = (k : ℕ) (c : Check) → slice_get checks k ≡ Some c →
 abbrev pub IsPassedBy : List (List Bool) → ℕ → List ℕ → List ℕ → Type 0
 IsPassedBy ds r vs ws = IsEarlier ws vs ⊎ SameFront r vs ws
 
+abbrev pub AllArePassed : List (List Bool) → ℕ → List ℕ → Type 0
+AllArePassed ds r vs = (ws : List ℕ) → AreAllowed ds ws → IsPassedBy ds r vs ws
+
+-- what has the same first values fails too
+abbrev pub FailsWithin : List Check → List ℕ → ℕ → Type 0
+FailsWithin checks vs r = (ws : List ℕ) → SameFront r vs ws → PassesAll checks ws → ⊥
+
+abbrev pub NoListPasses : List (List Bool) → List Check → Type 0
+NoListPasses ds checks = (ws : List ℕ) → AreAllowed ds ws → PassesAll checks ws → ⊥
+
 -- the next list after all that are the same up to the reach
 pub record IsNext (ds : List (List Bool)) (r : ℕ) (old new : List ℕ) : Type 0 where
   pub allowed : AreAllowed ds new
