@@ -131,4 +131,5 @@ table_whole b n count f x body whole pos some e some_count v w body_is body_safe
 pub base_small : (b n limit : ℕ) → 1 ≤ b → 1 ≤ n → b ^ n ≤ limit → b ≤ limit
 base_small b n limit pos some h =
     let up : b ^ 1 ≤ b ^ n = pow-le-pow_right pos some in
-    omega (arith, pow-succ' b 0, pow-zero b)
+    let e : b ^ 1 ≡ b * 1 = pow-succ' b 0 ∙ ap (λ x. b * x) (pow-zero b) in
+    omega (arith, e, up, h)

@@ -16,7 +16,7 @@ returns c =
     let is = c.in-Apply.is in
     let h = subst (IsEntryInside c.args.base c.args.entries) is c.requires.entry in
     let count = c.in-Some.ensures in
-    table_whole c.args.base c.args.entries c.in-Some.count f x c.args.body _ c.requires.base c.requires.entries count.0 count.1.1 h.1.0 h.1.1
+    table_whole c.args.base c.args.entries c.in-Some.count f x c.args.body _ c.requires.base c.requires.entries count.0 count.2 h.1.0 h.1.1
     (λ vs env. ap (λ e. worth e vs env) is ∙ ap (λ b. entry b (worth f vs env) (worth x vs env)) h.0)
     (λ vs env safe. (subst (λ e. IsSafe e vs env) is safe).1.0)
     (λ vs env. refl)
