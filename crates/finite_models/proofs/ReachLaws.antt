@@ -1,12 +1,12 @@
 -- The worth of an expression depends on the symbols within its reach.
-use Rattle.std.proofs.Common.{◌≡◌, ℕ, ◌+◌, ◌-◌, ◌<◌, ◌≤◌, List, [], ◌∷◌, slice_get, Some, nat_eq, if◌then◌else◌, refl, ap, ap₂, subst, ◌∙◌, ⊎_elim, arith}
+use Rattle.std.proofs.Common.{◌≡◌, ℕ, ◌+◌, ◌-◌, ◌*◌, ◌%◌, ◌<◌, ◌≤◌, List, [], ◌∷◌, slice_get, Some, nat_eq, if◌then◌else◌, refl, ap, ap₂, subst, ◌∙◌, ⊎_elim, arith}
 use Rattle.std.proofs.Math.Nat.{eq-or-lt_of_le}
 use mathlib.Core.Path.{fun_ext}
 use Rattle.stt_core.specs.Digits.{entry, table}
 use Rattle.finite_models.specs.Internal.Worth.{worth, all_one}
 use Rattle.finite_models.specs.Internal.Search.{SameFront, reach_of, PassesAll, AreReady}
 use Rattle.finite_models.specs.declared.expr.Expr.{Expr}
-use Rattle.finite_models.specs.declared.expr.Expr.TheVariants.{Bound, Symbol, False, Not', Imp', All', Eq', Apply', Table'}
+use Rattle.finite_models.specs.declared.expr.Expr.TheVariants.{Bound, Symbol, False, Not', Imp', All', Eq', Apply', Table', Repeat', Whole'}
 use Rattle.finite_models.specs.declared.search.Check.{Check}
 
 pub worth_front : (e : Expr) (vs ws env : List ℕ) → SameFront (reach_of e) vs ws → worth e vs env ≡ worth e ws env
@@ -22,6 +22,8 @@ worth_front (Eq' p a q b) vs ws env h =
 worth_front (Apply' b p f q x) vs ws env h =
     ap₂ (entry b) (worth_front f vs ws env (λ j l. h j (omega arith))) (worth_front x vs ws env (λ j l. h j (omega arith)))
 worth_front (Table' b n p e) vs ws env h = ap (table b n) (fun_ext (λ x. worth_front e vs ws (x ∷ env) h))
+worth_front (Repeat' n p e) vs ws env h = ap (λ x. x * n) (worth_front e vs ws (0 ∷ env) h)
+worth_front (Whole' n p e) vs ws env h = ap (λ x. x % n) (worth_front e vs ws (0 ∷ env) h)
 
 pub fails_by_reach : (checks : List Check) (vs : List ℕ) (i : ℕ) (c : Check) → slice_get checks i ≡ Some c → AreReady checks vs → (worth c.expr vs [] ≡ c.wanted → ⊥) → (ws : List ℕ) → SameFront c.reach vs ws → PassesAll checks ws → ⊥
 fails_by_reach checks vs i c g ready n ws same all =

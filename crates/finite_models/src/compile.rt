@@ -6,8 +6,9 @@ ghost use Rattle.stt_core.specs.View.{the_head, the_type};
 ghost use Rattle.stt_core.specs.ContextView.{the_context};
 ghost use Rattle.stt_core.specs.SimpleType.{SimpleType, formula};
 ghost use Rattle.finite_models.specs.ChooserView.{the_chooser};
-ghost use Rattle.finite_models.specs.Internal.Stands.{frame_scope, IsGround, IsCoveredBy, IsPlacedAt, IsLeafIn, CanCompile, CanCompileSpine, Stands, HasCompiled};
+ghost use Rattle.finite_models.specs.Internal.Stands.{IsCoveredBy, IsGroundIn, IsPlacedIn, IsLeafOf, CanCompileIn, CanCompileSpineIn, StandsIn, HasCompiledIn, term_from};
 
+use crate::binder::{rounds, table_of};
 use crate::chooser::{Chooser, Choosers};
 use crate::expr::Expr;
 use crate::size::size_of;
@@ -26,7 +27,7 @@ pub struct Frame<'a> {
 /// The place of a choice or a description among the symbols, behind the constants of the signature.
 fn place_behind(frame: &Frame, chooser: &Chooser) -> Result<u32, AllocError>
     requires { IsCoveredBy frame.now.choosers.now (the_chooser chooser.now).constant }
-    ensures { IfOk result (λ n. IsPlacedAt (frame_scope frame.now) (the_chooser chooser.now) frame.now.choosers.now n) }
+    ensures { IfOk result (λ n. IsPlacedIn frame.now (the_chooser chooser.now) n) }
 {
     match frame.choosers.place_of(chooser) {
         Some(i) => {
@@ -42,9 +43,9 @@ fn place_behind(frame: &Frame, chooser: &Chooser) -> Result<u32, AllocError>
 
 /// The expression of a variable, of a constant of the signature, or of a choice or a description.
 fn compile_leaf(alloc: Global, frame: &Frame, head: &Head) -> Result<Expr, AllocError>
-    requires ground { IsGround (frame_scope frame.now) frame.now.size frame.now.choosers.now }
-    requires leaf { IsLeafIn (frame_scope frame.now) frame.now.choosers.now (the_head head.now) }
-    ensures { IfOk result (λ e. (ctx : List SimpleType) → Stands (frame_scope frame.now) frame.now.size frame.now.choosers.now ctx (the_head head.now) e) }
+    requires ground { IsGroundIn frame.now }
+    requires leaf { IsLeafOf frame.now (the_head head.now) }
+    ensures { IfOk result (λ e. (ctx : List SimpleType) → StandsIn frame.now ctx (the_head head.now) e) }
 {
     match head {
         Head::Bound(k) => Ok(Expr::Bound(*k)),
@@ -68,10 +69,10 @@ fn compile_from(
     args: &Nfs,
     i: usize,
 ) -> Result<Expr, AllocError>
-    requires ground { IsGround (frame_scope frame.now) frame.now.size frame.now.choosers.now }
-    requires spine { CanCompileSpine (frame_scope frame.now) frame.now.size frame.now.choosers.now (the_context ctx.now) (applied (the_head head.now) args.now) }
-    requires compiled { HasCompiled (frame_scope frame.now) frame.now.size frame.now.choosers.now (the_context ctx.now) (the_type ty.now) (the_head head.now) args.now i expr }
-    ensures { IfOk result (λ e. Stands (frame_scope frame.now) frame.now.size frame.now.choosers.now (the_context ctx.now) (applied (the_head head.now) args.now) e) }
+    requires ground { IsGroundIn frame.now }
+    requires spine { CanCompileSpineIn frame.now (the_context ctx.now) (applied (the_head head.now) args.now) }
+    requires compiled { HasCompiledIn frame.now (the_context ctx.now) (the_type ty.now) (the_head head.now) args.now i expr }
+    ensures { IfOk result (λ e. StandsIn frame.now (the_context ctx.now) (applied (the_head head.now) args.now) e) }
 {
     if i == args.len() {
         return Ok(expr);
@@ -100,10 +101,10 @@ fn compile_applied(
     head: &Head,
     args: &Nfs,
 ) -> Result<Expr, AllocError>
-    requires ground { IsGround (frame_scope frame.now) frame.now.size frame.now.choosers.now }
-    requires leaf { IsLeafIn (frame_scope frame.now) frame.now.choosers.now (the_head head.now) }
-    requires spine { CanCompileSpine (frame_scope frame.now) frame.now.size frame.now.choosers.now (the_context ctx.now) (applied (the_head head.now) args.now) }
-    ensures { IfOk result (λ e. Stands (frame_scope frame.now) frame.now.size frame.now.choosers.now (the_context ctx.now) (applied (the_head head.now) args.now) e) }
+    requires ground { IsGroundIn frame.now }
+    requires leaf { IsLeafOf frame.now (the_head head.now) }
+    requires spine { CanCompileSpineIn frame.now (the_context ctx.now) (applied (the_head head.now) args.now) }
+    ensures { IfOk result (λ e. StandsIn frame.now (the_context ctx.now) (applied (the_head head.now) args.now) e) }
 {
     let declared = Declared {
         sig: &*frame.sig,
@@ -119,9 +120,9 @@ fn compile_applied(
 /// A canonical formula.
 #[cycle(compile)]
 fn compile_truth(alloc: Global, frame: &Frame, ctx: &Context, nf: &Nf) -> Result<Expr, AllocError>
-    requires ground { IsGround (frame_scope frame.now) frame.now.size frame.now.choosers.now }
-    requires term { CanCompile (frame_scope frame.now) frame.now.size frame.now.choosers.now (the_context ctx.now) formula nf.now }
-    ensures { IfOk result (λ e. Stands (frame_scope frame.now) frame.now.size frame.now.choosers.now (the_context ctx.now) nf.now e) }
+    requires ground { IsGroundIn frame.now }
+    requires term { CanCompileIn frame.now (the_context ctx.now) formula nf.now }
+    ensures { IfOk result (λ e. StandsIn frame.now (the_context ctx.now) nf.now e) }
 {
     Ok(compile_spine(alloc, frame, ctx, &nf.head, &nf.args)?)
 }
@@ -134,9 +135,9 @@ fn compile_negation(
     ctx: &Context,
     args: &Nfs,
 ) -> Result<Expr, AllocError>
-    requires ground { IsGround (frame_scope frame.now) frame.now.size frame.now.choosers.now }
-    requires spine { CanCompileSpine (frame_scope frame.now) frame.now.size frame.now.choosers.now (the_context ctx.now) (applied (constant negation) args.now) }
-    ensures { IfOk result (λ e. Stands (frame_scope frame.now) frame.now.size frame.now.choosers.now (the_context ctx.now) (applied (constant negation) args.now) e) }
+    requires ground { IsGroundIn frame.now }
+    requires spine { CanCompileSpineIn frame.now (the_context ctx.now) (applied (constant negation) args.now) }
+    ensures { IfOk result (λ e. StandsIn frame.now (the_context ctx.now) (applied (constant negation) args.now) e) }
 {
     let first = args.at(0);
     let body = compile_truth(alloc, frame, ctx, first)?;
@@ -152,9 +153,9 @@ fn compile_implication(
     ctx: &Context,
     args: &Nfs,
 ) -> Result<Expr, AllocError>
-    requires ground { IsGround (frame_scope frame.now) frame.now.size frame.now.choosers.now }
-    requires spine { CanCompileSpine (frame_scope frame.now) frame.now.size frame.now.choosers.now (the_context ctx.now) (applied (constant implication) args.now) }
-    ensures { IfOk result (λ e. Stands (frame_scope frame.now) frame.now.size frame.now.choosers.now (the_context ctx.now) (applied (constant implication) args.now) e) }
+    requires ground { IsGroundIn frame.now }
+    requires spine { CanCompileSpineIn frame.now (the_context ctx.now) (applied (constant implication) args.now) }
+    ensures { IfOk result (λ e. StandsIn frame.now (the_context ctx.now) (applied (constant implication) args.now) e) }
 {
     let first = args.at(0);
     let second = args.at(1);
@@ -174,9 +175,9 @@ fn compile_equation(
     a: &Ty,
     args: &Nfs,
 ) -> Result<Expr, AllocError>
-    requires ground { IsGround (frame_scope frame.now) frame.now.size frame.now.choosers.now }
-    requires spine { CanCompileSpine (frame_scope frame.now) frame.now.size frame.now.choosers.now (the_context ctx.now) (applied (constant (equality (the_type a.now))) args.now) }
-    ensures { IfOk result (λ e. Stands (frame_scope frame.now) frame.now.size frame.now.choosers.now (the_context ctx.now) (applied (constant (equality (the_type a.now))) args.now) e) }
+    requires ground { IsGroundIn frame.now }
+    requires spine { CanCompileSpineIn frame.now (the_context ctx.now) (applied (constant (equality (the_type a.now))) args.now) }
+    ensures { IfOk result (λ e. StandsIn frame.now (the_context ctx.now) (applied (constant (equality (the_type a.now))) args.now) e) }
 {
     let first = args.at(0);
     let second = args.at(1);
@@ -196,16 +197,17 @@ fn compile_every(
     a: &Ty,
     args: &Nfs,
 ) -> Result<Expr, AllocError>
-    requires ground { IsGround (frame_scope frame.now) frame.now.size frame.now.choosers.now }
-    requires spine { CanCompileSpine (frame_scope frame.now) frame.now.size frame.now.choosers.now (the_context ctx.now) (applied (constant (all (the_type a.now))) args.now) }
-    ensures { IfOk result (λ e. Stands (frame_scope frame.now) frame.now.size frame.now.choosers.now (the_context ctx.now) (applied (constant (all (the_type a.now))) args.now) e) }
+    requires ground { IsGroundIn frame.now }
+    requires spine { CanCompileSpineIn frame.now (the_context ctx.now) (applied (constant (all (the_type a.now))) args.now) }
+    ensures { IfOk result (λ e. StandsIn frame.now (the_context ctx.now) (applied (constant (all (the_type a.now))) args.now) e) }
 {
     let predicate = args.at(0);
     let inner = Context::Inner(&*a, &*ctx);
     let body = compile_spine(alloc, frame, &inner, &predicate.head, &predicate.args)?;
     let size = size_of(a, frame.size);
+    let needed = rounds(size, &body);
     let body = Box::new(alloc, body)?;
-    Ok(Expr::All(size, body))
+    Ok(Expr::All(needed, body))
 }
 
 /// A head with its arguments, which has a base type.
@@ -217,9 +219,9 @@ fn compile_spine(
     head: &Head,
     args: &Nfs,
 ) -> Result<Expr, AllocError>
-    requires ground { IsGround (frame_scope frame.now) frame.now.size frame.now.choosers.now }
-    requires spine { CanCompileSpine (frame_scope frame.now) frame.now.size frame.now.choosers.now (the_context ctx.now) (applied (the_head head.now) args.now) }
-    ensures { IfOk result (λ e. Stands (frame_scope frame.now) frame.now.size frame.now.choosers.now (the_context ctx.now) (applied (the_head head.now) args.now) e) }
+    requires ground { IsGroundIn frame.now }
+    requires spine { CanCompileSpineIn frame.now (the_context ctx.now) (applied (the_head head.now) args.now) }
+    ensures { IfOk result (λ e. StandsIn frame.now (the_context ctx.now) (applied (the_head head.now) args.now) e) }
 {
     match head {
         Head::False => Ok(Expr::False),
@@ -247,9 +249,9 @@ fn compile_under(
     head: &Head,
     args: &Nfs,
 ) -> Result<Expr, AllocError>
-    requires ground { IsGround (frame_scope frame.now) frame.now.size frame.now.choosers.now }
-    requires term { CanCompile (frame_scope frame.now) frame.now.size frame.now.choosers.now (the_context ctx.now) (the_type ty.now) (lambdas (drop i binders.now) (applied (the_head head.now) args.now)) }
-    ensures { IfOk result (λ e. Stands (frame_scope frame.now) frame.now.size frame.now.choosers.now (the_context ctx.now) (lambdas (drop i binders.now) (applied (the_head head.now) args.now)) e) }
+    requires ground { IsGroundIn frame.now }
+    requires term { CanCompileIn frame.now (the_context ctx.now) (the_type ty.now) (term_from i binders.now (the_head head.now) args.now) }
+    ensures { IfOk result (λ e. StandsIn frame.now (the_context ctx.now) (term_from i binders.now (the_head head.now) args.now) e) }
 {
     if i >= binders.len() {
         return Ok(compile_spine(alloc, frame, ctx, head, args)?);
@@ -262,8 +264,7 @@ fn compile_under(
             let rest = compile_under(alloc, frame, &inner, to, binders, i + 1, head, args)?;
             let base = size_of(to, frame.size);
             let entries = size_of(a, frame.size);
-            let body = Box::new(alloc, rest)?;
-            Ok(Expr::Table(base, entries, body))
+            Ok(table_of(alloc, base, entries, rest)?)
         }
         Ty::Base(_) => unreachable!(),
     }
@@ -278,18 +279,18 @@ fn compile(
     ty: &Ty,
     nf: &Nf,
 ) -> Result<Expr, AllocError>
-    requires ground { IsGround (frame_scope frame.now) frame.now.size frame.now.choosers.now }
-    requires term { CanCompile (frame_scope frame.now) frame.now.size frame.now.choosers.now (the_context ctx.now) (the_type ty.now) nf.now }
-    ensures { IfOk result (λ e. Stands (frame_scope frame.now) frame.now.size frame.now.choosers.now (the_context ctx.now) nf.now e) }
+    requires ground { IsGroundIn frame.now }
+    requires term { CanCompileIn frame.now (the_context ctx.now) (the_type ty.now) nf.now }
+    ensures { IfOk result (λ e. StandsIn frame.now (the_context ctx.now) nf.now e) }
 {
     Ok(compile_under(alloc, frame, ctx, ty, &nf.binders, 0, &nf.head, &nf.args)?)
 }
 
 /// The expression of a closed canonical formula.
 pub fn compile_formula(alloc: Global, frame: &Frame, nf: &Nf) -> Result<Expr, AllocError>
-    requires ground { IsGround (frame_scope frame.now) frame.now.size frame.now.choosers.now }
-    requires term { CanCompile (frame_scope frame.now) frame.now.size frame.now.choosers.now [] formula nf.now }
-    ensures { IfOk result (λ e. Stands (frame_scope frame.now) frame.now.size frame.now.choosers.now [] nf.now e) }
+    requires ground { IsGroundIn frame.now }
+    requires term { CanCompileIn frame.now [] formula nf.now }
+    ensures { IfOk result (λ e. StandsIn frame.now [] nf.now e) }
 {
     let outside = Context::Empty;
     Ok(compile_truth(alloc, frame, &outside, nf)?)

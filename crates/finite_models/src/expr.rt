@@ -2,7 +2,7 @@
 
 ghost use Rattle.std.specs.Prelude.{◌≡◌, ◌<◌, ◌≤◌, ◌^◌, ℕ, ◌∷◌, slice_index, length};
 ghost use Rattle.stt_core.specs.Digits.{entry, table};
-ghost use Rattle.finite_models.specs.Internal.Worth.{worth, all_one, IsSafe, the_values};
+ghost use Rattle.finite_models.specs.Internal.Worth.{worth, all_one, IsSafe, HasDigits, the_values};
 
 /// A term whose types are left out but for their sizes. A bound variable counts the binders between it and its own, a symbol has its place
 /// among the symbols.
@@ -20,6 +20,10 @@ pub enum Expr {
     Apply(u32, Box<Expr>, Box<Expr>),
     /// The table of the body, in this base and with this many entries.
     Table(u32, u32, Box<Expr>),
+    /// This many times the body, which its variable doesn't occur in.
+    Repeat(u32, Box<Expr>),
+    /// What this number leaves of the body, which its variable doesn't occur in.
+    Whole(u32, Box<Expr>),
 }
 
 /// The values of the bound variables in scope, as a list that is linked from the innermost one outwards.
@@ -91,6 +95,14 @@ pub fn eval(expr: &Expr, values: &[u32], env: &Env) -> u32
             entry_of(*base, function, argument)
         }
         Expr::Table(base, n, e) => eval_table(*base, *n, e, values, env),
+        Expr::Repeat(times, e) => {
+            let inner = Env::Inner(0, &*env);
+            eval(e, values, &inner) * *times
+        }
+        Expr::Whole(count, e) => {
+            let inner = Env::Inner(0, &*env);
+            eval(e, values, &inner) % *count
+        }
     }
 }
 
@@ -111,9 +123,9 @@ fn eval_all(n: u32, body: &Expr, values: &[u32], env: &Env) -> u32
 
 /// The table of the body.
 #[cycle(eval)]
-fn eval_table(base: u32, n: u32, body: &Expr, values: &[u32], env: &Env) -> u32
+pub fn eval_table(base: u32, n: u32, body: &Expr, values: &[u32], env: &Env) -> u32
     requires small { base ^ n ≤ 2 ^ 20 }
-    requires body { (x : ℕ) → x < n → IsSafe body.now values.now (x ∷ the_values env.now) × (worth body.now values.now (x ∷ the_values env.now) < base) }
+    requires body { HasDigits base n body.now values.now (the_values env.now) }
     ensures { result ≡ table base n (λ x. worth body.now values.now (x ∷ the_values env.now)) }
 {
     let mut sum = 0u32;

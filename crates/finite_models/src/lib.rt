@@ -1,6 +1,7 @@
 //! Finite models of a problem: an exhaustive search within a bound on the size of the base types.
 #![tactic(auto)]
 
+mod binder;
 mod chooser;
 mod compile;
 mod expr;

@@ -2,7 +2,7 @@
 
 ghost use Rattle.std.specs.Prelude.{◌≡◌, ◌<◌, ◌≤◌, ◌^◌, ◌++◌, ◌∷◌, ℕ, List, [], length, slice_index, slice_get, Some, OnOk, OnErr, IsTrue, ◌↔◌, MatchOption, MatchBool, IfOk};
 ghost use Rattle.finite_models.specs.Internal.Worth.{worth, the_values};
-ghost use Rattle.finite_models.specs.Internal.Search.{IsAllowed, AreAllowed, AreFilled, AreFew, SameFront, IsEarlier, AreLeastFrom, PassesAll, AreReady, IsPassedBy, IsNext, IsFirstPassing, reach_of};
+ghost use Rattle.finite_models.specs.Internal.Search.{IsAllowed, AreAllowed, AreFilled, AreFew, AreLeastFrom, PassesAll, AreReady, AllArePassed, FailsWithin, NoListPasses, IsNext, IsFirstPassing, reach_of};
 
 use crate::expr::{Env, Expr, eval};
 use std::alloc::{AllocError, Global};
@@ -109,7 +109,7 @@ fn reset(domains: &Domains, values: &mut [u32], from: usize)
 fn advance(domains: &Domains, values: &mut [u32], reach: usize) -> bool
     requires few { AreFew domains.now }
     requires allowed { AreAllowed domains.now values.old }
-    ensures { MatchBool result (IsNext domains.now reach values.old values.new) ((ws : List ℕ) → AreAllowed domains.now ws → IsPassedBy domains.now reach values.old ws) }
+    ensures { MatchBool result (IsNext domains.now reach values.old values.new) (AllArePassed domains.now reach values.old) }
 {
     let mut i = reach.min(values.len());
     while i > 0 {
@@ -140,13 +140,15 @@ pub fn reach(expr: &Expr) -> usize
         Expr::Eq(a, b) => reach(a).max(reach(b)),
         Expr::Apply(_, f, x) => reach(f).max(reach(x)),
         Expr::Table(_, _, e) => reach(e),
+        Expr::Repeat(_, e) => reach(e),
+        Expr::Whole(_, e) => reach(e),
     }
 }
 
 /// The reach of the first formula that isn't worth what it is to be, or none where each is.
 fn failing(checks: &[Check], values: &[u32]) -> Option<usize>
     requires { AreReady checks.now values.now }
-    ensures { MatchOption result (PassesAll checks.now values.now) (λ r. (ws : List ℕ) → SameFront r values.now ws → PassesAll checks.now ws → ⊥) }
+    ensures { MatchOption result (PassesAll checks.now values.now) (FailsWithin checks.now values.now) }
 {
     for i in 0..checks.len() {
         let check = &checks[i];
@@ -163,7 +165,7 @@ fn search_on(domains: &Domains, checks: &[Check], values: &mut [u32]) -> bool
     requires filled { AreFilled domains.now }
     requires count { length values.old ≡ length domains.now }
     requires ready { (vs : List ℕ) → AreAllowed domains.now vs → AreReady checks.now vs }
-    ensures { MatchBool result (IsFirstPassing domains.now checks.now values.new) ((ws : List ℕ) → AreAllowed domains.now ws → PassesAll checks.now ws → ⊥) }
+    ensures { MatchBool result (IsFirstPassing domains.now checks.now values.new) (NoListPasses domains.now checks.now) }
 {
     reset(domains, values, 0);
     loop {
@@ -186,7 +188,7 @@ fn first_passing(
 ) -> Result<Option<Vec<u32>>, AllocError>
     requires few { AreFew domains.now }
     requires ready { (vs : List ℕ) → AreAllowed domains.now vs → AreReady checks.now vs }
-    ensures { IfOk result (λ found. MatchOption found ((ws : List ℕ) → AreAllowed domains.now ws → PassesAll checks.now ws → ⊥) (λ v. IsFirstPassing domains.now checks.now v.items)) }
+    ensures { IfOk result (λ o. MatchOption o (NoListPasses domains.now checks.now) (λ v. IsFirstPassing domains.now checks.now v.items)) }
 {
     if !are_filled(domains) {
         return Ok(None);
@@ -207,7 +209,7 @@ pub fn first_sorted(
 ) -> Result<Option<Vec<u32>>, AllocError>
     requires few { AreFew domains.now }
     requires ready { (vs : List ℕ) → AreAllowed domains.now vs → AreReady checks.items vs }
-    ensures { IfOk result (λ found. MatchOption found ((ws : List ℕ) → AreAllowed domains.now ws → PassesAll checks.items ws → ⊥) (λ v. IsFirstPassing domains.now checks.items v.items)) }
+    ensures { IfOk result (λ o. MatchOption o (NoListPasses domains.now checks.items) (λ v. IsFirstPassing domains.now checks.items v.items)) }
 {
     let mut sorted = checks;
     sorted.sort_unstable_by_key(|check| check.reach);

@@ -10,4 +10,3 @@ pub mod CheckedLaws
 pub mod FileLaws
 pub mod ReportHolds
 pub mod RunEnds
-pub mod ModelLaws

@@ -2,7 +2,7 @@
 use Rattle.std.specs.Prelude.{◌≡◌, ◌<◌, ◌≤◌, ℕ, ◌+◌, ◌*◌, max, Bool, true, false, List, [], ◌∷◌, length, slice_get, slice_index, slice_index_or, Some, ◌⊎◌}
 use Rattle.finite_models.specs.Internal.Worth.{worth, IsSafe}
 use Rattle.finite_models.specs.declared.expr.Expr.{Expr}
-use Rattle.finite_models.specs.declared.expr.Expr.TheVariants.{Bound, Symbol, False, Not', Imp', All', Eq', Apply', Table'}
+use Rattle.finite_models.specs.declared.expr.Expr.TheVariants.{Bound, Symbol, False, Not', Imp', All', Eq', Apply', Table', Repeat', Whole'}
 use Rattle.finite_models.specs.declared.search.Check.{Check}
 
 -- the value is an allowed one
@@ -60,6 +60,8 @@ reach_of (All' n p e) = reach_of e
 reach_of (Eq' p a q b) = max (reach_of a) (reach_of b)
 reach_of (Apply' b p f q x) = max (reach_of f) (reach_of x)
 reach_of (Table' b n p e) = reach_of e
+reach_of (Repeat' n p e) = reach_of e
+reach_of (Whole' n p e) = reach_of e
 
 -- each formula is worth what it is to be
 abbrev pub PassesAll : List Check → List ℕ → Type 0
@@ -72,6 +74,16 @@ AreReady checks vs = (k : ℕ) (c : Check) → slice_get checks k ≡ Some c →
 -- what is earlier than the new list is earlier than the old one, or the same up to the reach
 abbrev pub IsPassedBy : List (List Bool) → ℕ → List ℕ → List ℕ → Type 0
 IsPassedBy ds r vs ws = IsEarlier ws vs ⊎ SameFront r vs ws
+
+abbrev pub AllArePassed : List (List Bool) → ℕ → List ℕ → Type 0
+AllArePassed ds r vs = (ws : List ℕ) → AreAllowed ds ws → IsPassedBy ds r vs ws
+
+-- what has the same first values fails too
+abbrev pub FailsWithin : List Check → List ℕ → ℕ → Type 0
+FailsWithin checks vs r = (ws : List ℕ) → SameFront r vs ws → PassesAll checks ws → ⊥
+
+abbrev pub NoListPasses : List (List Bool) → List Check → Type 0
+NoListPasses ds checks = (ws : List ℕ) → AreAllowed ds ws → PassesAll checks ws → ⊥
 
 -- the next list after all that are the same up to the reach
 pub record IsNext (ds : List (List Bool)) (r : ℕ) (old new : List ℕ) : Type 0 where

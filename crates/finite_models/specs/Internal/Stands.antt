@@ -1,8 +1,8 @@
 -- Which expressions stand for terms.
-use Rattle.std.specs.Prelude.{◌≡◌, ◌≤◌, ℕ, ◌+◌, List, [], ◌∷◌, ◌++◌, take, length, ◌⊎◌, slice_get, Some}
+use Rattle.std.specs.Prelude.{◌≡◌, ◌≤◌, ℕ, ◌+◌, List, [], ◌∷◌, ◌++◌, take, drop, length, ◌⊎◌, slice_get, Some}
 use Rattle.std.specs.List.{AllByRecursion as Every}
 use Rattle.stt_core.specs.SimpleType.{SimpleType, arrow, predicate}
-use Rattle.stt_core.specs.Lambda.{Constant, name, witness, falsity, negation, implication, all, equality, choice, description, Lambda, bound, constant, lam, app, applied}
+use Rattle.stt_core.specs.Lambda.{Constant, name, witness, falsity, negation, implication, all, equality, choice, description, Lambda, bound, constant, lam, app, lambdas, applied}
 use Rattle.stt_core.specs.Typing.{Scope}
 use Rattle.stt_core.specs.Canonical.{IsBase, IsCanonical, IsNeutral}
 use Rattle.stt_core.specs.Meaning.{value, Fits}
@@ -100,3 +100,30 @@ pub record IsPlacedAt (scope : Scope) (y : Symbol) (ys : List Symbol) (n : ℕ) 
   pub place : ℕ
   pub first : IsFirstPlace y ys place
   pub is : n ≡ length scope.names + place
+
+-- THE SAME OVER WHAT TERMS STAND ON
+
+abbrev pub IsGroundIn : Frame → Type 0
+IsGroundIn f = IsGround (frame_scope f) f.size f.choosers.now
+
+abbrev pub CanCompileIn : Frame → List SimpleType → SimpleType → Lambda → Type 0
+CanCompileIn f ctx a t = CanCompile (frame_scope f) f.size f.choosers.now ctx a t
+
+abbrev pub CanCompileSpineIn : Frame → List SimpleType → Lambda → Type 0
+CanCompileSpineIn f ctx t = CanCompileSpine (frame_scope f) f.size f.choosers.now ctx t
+
+abbrev pub StandsIn : Frame → List SimpleType → Lambda → Expr → Type 0
+StandsIn f ctx t e = Stands (frame_scope f) f.size f.choosers.now ctx t e
+
+abbrev pub HasCompiledIn : Frame → List SimpleType → SimpleType → Lambda → List Lambda → ℕ → Expr → Type 0
+HasCompiledIn f ctx a h us i e = HasCompiled (frame_scope f) f.size f.choosers.now ctx a h us i e
+
+abbrev pub IsLeafOf : Frame → Lambda → Type 0
+IsLeafOf f h = IsLeafIn (frame_scope f) f.choosers.now h
+
+abbrev pub IsPlacedIn : Frame → Symbol → ℕ → Type 0
+IsPlacedIn f y n = IsPlacedAt (frame_scope f) y f.choosers.now n
+
+-- a head with its arguments under its binders but the first i
+abbrev pub term_from : ℕ → List SimpleType → Lambda → List Lambda → Lambda
+term_from i bs h us = lambdas (drop i bs) (applied h us)

@@ -299,9 +299,11 @@ compile_every-returns t c =
     let ctx = the_context c.args.ctx.now in
     let i = c.predicate.inside in
     let f = c.in_ok-body-2.ensures.ok in
+    let r = c.rounds-needed.ensures in
+    let n = c.size_of-size.ensures.size in
     every_stands scope s ys c.requires.ground ctx (the_type c.args.a.now) c.args.args.now c.at-predicate.result.now i.binders (applied (the_head i.head) i.args) c.in_ok-body.body _ c.requires.spine c.at-predicate.ensures (spine_not_lam (the_head i.head) i.args (atom_head i.head)) c.predicate.view_is c.in_ok-body.ensures
-    (λ vs env. ap₂ (λ n x. all_one n (λ y. worth x vs (y ∷ env))) c.size_of-size.ensures.size f)
-    (λ vs env h x l. subst (λ z. IsSafe z vs (x ∷ env)) (sym f) (h x (subst (λ n. x < n) c.size_of-size.ensures.size l)))
+    (λ vs env. ap (λ x. all_one c.rounds-needed.result (λ y. worth x vs (y ∷ env))) f ∙ r.same vs env ∙ ap (λ m. all_one m (λ y. worth c.in_ok-body.body vs (y ∷ env))) n)
+    (λ vs env h x l. let few = r.few in subst (λ z. IsSafe z vs (x ∷ env)) (sym f) (h x (subst (λ m. x < m) n (omega arith))))
 
 -- HEADS
 
@@ -456,6 +458,20 @@ compile_under-unreachable-requires t c =
     let can = subst (λ a. CanCompile scope c.args.frame.now.size c.args.frame.now.choosers.now ctx a (lambdas (drop c.args.i c.args.binders.now) (applied (the_head c.args.head.now) c.args.args.now))) (ap the_type c.in-Base.is) c.requires.term in
     no_function_within scope s ys c.requires.ground ctx c.in-Base.field-0 c.args.binders.now c.args.i inside (omega arith) can
 
+pub compile_under-table_of-requires-clause-small : goal.compile_under-table_of-requires-clause-small
+compile_under-table_of-requires-clause-small t c =
+    let scope = frame_scope c.args.frame.now in
+    let s = c.args.frame.now.size in
+    let ys = c.args.frame.now.choosers.now in
+    let ctx = the_context c.args.ctx.now in
+    let inside = applied (the_head c.args.head.now) c.args.args.now in
+    let e : the_type c.args.ty.now ≡ arrow (the_type c.in-Arrow._argument.value) (the_type c.deref-to.result.now) = ap the_type c.in-Arrow.is ∙ ap (λ x. arrow (the_type c.in-Arrow._argument.value) (the_type x)) (sym c.deref-to.ensures) in
+    let can = subst (λ a. CanCompile scope c.args.frame.now.size c.args.frame.now.choosers.now ctx a (lambdas (drop c.args.i c.args.binders.now) (applied (the_head c.args.head.now) c.args.args.now))) e c.requires.term in
+    let b = c.size_of-base.ensures.size in
+    let n = c.size_of-entries.ensures.size in
+    let u = under scope s ys c.requires.ground ctx (the_type c.in-Arrow._argument.value) (the_type c.deref-to.result.now) (the_type c.at-a.result.now) c.args.binders.now c.args.i inside c.at-a.ensures can in
+    subst (λ x. x ≤ 2 ^ 20) (sym (ap₂ (λ x y. x ^ y) b n)) u.few
+
 pub compile_under-returns : goal.compile_under-returns
 compile_under-returns t c =
     let scope = frame_scope c.args.frame.now in
@@ -465,16 +481,11 @@ compile_under-returns t c =
     let inside = applied (the_head c.args.head.now) c.args.args.now in
     let e : the_type c.args.ty.now ≡ arrow (the_type c.in-Arrow._argument.value) (the_type c.deref-to.result.now) = ap the_type c.in-Arrow.is ∙ ap (λ x. arrow (the_type c.in-Arrow._argument.value) (the_type x)) (sym c.deref-to.ensures) in
     let can = subst (λ a. CanCompile scope c.args.frame.now.size c.args.frame.now.choosers.now ctx a (lambdas (drop c.args.i c.args.binders.now) (applied (the_head c.args.head.now) c.args.args.now))) e c.requires.term in
-    let f = c.in_ok-body-in-Arrow.ensures.ok in
     let b = c.size_of-base.ensures.size in
     let n = c.size_of-entries.ensures.size in
     let u = under scope s ys c.requires.ground ctx (the_type c.in-Arrow._argument.value) (the_type c.deref-to.result.now) (the_type c.at-a.result.now) c.args.binders.now c.args.i inside c.at-a.ensures can in
-    function_stands scope s ys c.requires.ground ctx (the_type c.in-Arrow._argument.value) (the_type c.deref-to.result.now) (the_type c.at-a.result.now) c.args.binders.now c.args.i inside c.in_ok-rest-in-Arrow.rest _ c.at-a.ensures can c.in_ok-rest-in-Arrow.ensures
-    (λ vs env. ap₂ (λ x y. table x y (λ z. worth c.in_ok-body-in-Arrow.body.value vs (z ∷ env))) b n ∙ ap (λ z. table (size_in s (the_type c.deref-to.result.now)) (size_in s (the_type c.at-a.result.now)) (λ x. worth z vs (x ∷ env))) f)
-    (λ vs env h. (
-      subst (λ x. x ≤ 2 ^ 20) (sym (ap₂ (λ x y. x ^ y) b n)) u.few,
-      λ x l. let k = h x (subst (λ y. x < y) n l) in (
-        subst (λ z. IsSafe z vs (x ∷ env)) (sym f) k.0,
-        subst (λ y. worth c.in_ok-body-in-Arrow.body.value vs (x ∷ env) < y) (sym b) (subst (λ z. worth z vs (x ∷ env) < size_in s (the_type c.deref-to.result.now)) (sym f) k.1),
-      ),
-    ))
+    let rest = c.in_ok-rest-in-Arrow.rest in
+    let whole = c.in_ok-table_of-in-Arrow.ensures in
+    function_stands scope s ys c.requires.ground ctx (the_type c.in-Arrow._argument.value) (the_type c.deref-to.result.now) (the_type c.at-a.result.now) c.args.binders.now c.args.i inside rest _ c.at-a.ensures can c.in_ok-rest-in-Arrow.ensures
+    (λ vs env. whole.is vs env ∙ ap₂ (λ x y. table x y (λ z. worth rest vs (z ∷ env))) b n)
+    (λ vs env h. whole.safe vs env (λ x l. let k = h x (subst (λ y. x < y) n l) in (k.0, subst (λ y. worth rest vs (x ∷ env) < y) (sym b) k.1)))

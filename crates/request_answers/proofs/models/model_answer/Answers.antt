@@ -1,5 +1,5 @@
 use Rattle.finite_models.specs.Symbols.{symbols}
-use Rattle.request_answers.proofs.ModelLaws.{length-candidate}
+use Rattle.finite_models.proofs.CandidateLaws.{length-candidate}
 use Rattle.request_answers.proofs.models.model_answer.Goals as goal
 
 pub lines_of-requires-clause-whole : goal.lines_of-requires-clause-whole
