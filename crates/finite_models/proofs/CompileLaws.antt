@@ -15,7 +15,7 @@ use Rattle.stt_core.proofs.SpineLaws.{IsAtom}
 use Rattle.finite_models.specs.Sizes.{size_in, IsSmallType, NamesSmallTypes}
 use Rattle.finite_models.specs.Symbols.{Symbol, declared_symbols, choosing_symbol, choosing_symbols, EachIsSmall}
 use Rattle.finite_models.specs.Internal.Choosers.{IsNoPlace, IsFirstPlace}
-use Rattle.finite_models.specs.Internal.Stands.{IsChooserBy, IsChooserSymbol, IsGround, IsCoveredBy, Chooses, CanCompile, CanCompileSpine, Stands, HasCompiled, IsLeafIn}
+use Rattle.finite_models.specs.Internal.Stands.{IsChooserBy, IsChooserSymbol, IsGround, IsCoveredBy, Chooses, CanCompile, CanCompileSpine, StandsForTerm, HasCompiled, IsLeafIn}
 use Rattle.finite_models.specs.Internal.Worth.{worth, IsSafe, all_one}
 use Rattle.finite_models.specs.declared.expr.Expr.{Expr}
 use Rattle.finite_models.proofs.NeutralLaws.{NotLam, applied_not_lam, based_neutral, neutral_head, argument_at, one_type, named_head, named_argument, occurs_head, occurs_argument, no_argument, one_argument, imp_arguments, eq_arguments, all_arguments, over_body}
@@ -69,7 +69,7 @@ no_place_for (z ∷ zs) y (inr o) n = no_place_for zs y o (λ j x g e. n (suc j)
 module _ (scope : Scope) (s : ℕ) (ys : List Symbol) (ground : IsGround scope s ys) (ctx : List SimpleType) where
   -- LEAVES
 
-  pub stands_chooser : (h : Lambda) (y : Symbol) (i : ℕ) (whole : Expr) → y ∷ [] ≡ choosing_symbols h → IsAtom h → IsFirstPlace y ys i → ((vs env : List ℕ) → worth whole vs env ≡ slice_index vs (length scope.names + i)) → ((vs env : List ℕ) → length scope.names + i < length vs → IsSafe whole vs env) → Stands scope s ys ctx h whole
+  pub stands_chooser : (h : Lambda) (y : Symbol) (i : ℕ) (whole : Expr) → y ∷ [] ≡ choosing_symbols h → IsAtom h → IsFirstPlace y ys i → ((vs env : List ℕ) → worth whole vs env ≡ slice_index vs (length scope.names + i)) → ((vs env : List ℕ) → length scope.names + i < length vs → IsSafe whole vs env) → StandsForTerm scope s ys ctx h whole
   stands_chooser (bound k) y i whole e o f w safe = cc
   stands_chooser (constant (name k)) y i whole e o f w safe = cc
   stands_chooser (constant (witness k)) y i whole e o f w safe = cc
@@ -117,7 +117,7 @@ module _ (scope : Scope) (s : ℕ) (ys : List Symbol) (ground : IsGround scope s
       let t = type_of-neutral scope ctx r.0 h r.1 in
       cc
 
-  pub starts : (h : Lambda) (us : List Lambda) (a : SimpleType) (e : Expr) → IsLeafIn scope ys h → CanCompileSpine scope s ys ctx (applied h us) → type_of scope ctx h ≡ Some a → Stands scope s ys ctx h e → HasCompiled scope s ys ctx a h us 0 e
+  pub starts : (h : Lambda) (us : List Lambda) (a : SimpleType) (e : Expr) → IsLeafIn scope ys h → CanCompileSpine scope s ys ctx (applied h us) → type_of scope ctx h ≡ Some a → StandsForTerm scope s ys ctx h e → HasCompiled scope s ys ctx a h us 0 e
   starts h us a e l p t st = record {
     within = omega arith;
     neutral = leaf_neutral h a l t;
@@ -146,7 +146,7 @@ module _ (scope : Scope) (s : ℕ) (ys : List Symbol) (ground : IsGround scope s
       let q : r.argument ≡ a = cc in
       argument_can a h us i u p g c.small.1.0 (subst (λ x. IsCanonical scope ctx x u) q r.argument_in)
 
-  pub goes_on_from : (a b : SimpleType) (h : Lambda) (us : List Lambda) (i : ℕ) (u : Lambda) (e d whole : Expr) → CanCompileSpine scope s ys ctx (applied h us) → HasCompiled scope s ys ctx (arrow a b) h us i e → slice_get us i ≡ Some u → i < length us → Stands scope s ys ctx u d → ((vs env : List ℕ) → worth whole vs env ≡ entry (size_in s b) (worth e vs env) (worth d vs env)) → ((vs env : List ℕ) → IsSafe e vs env → IsSafe d vs env → IsSafe whole vs env) → HasCompiled scope s ys ctx b h us (i + 1) whole
+  pub goes_on_from : (a b : SimpleType) (h : Lambda) (us : List Lambda) (i : ℕ) (u : Lambda) (e d whole : Expr) → CanCompileSpine scope s ys ctx (applied h us) → HasCompiled scope s ys ctx (arrow a b) h us i e → slice_get us i ≡ Some u → i < length us → StandsForTerm scope s ys ctx u d → ((vs env : List ℕ) → worth whole vs env ≡ entry (size_in s b) (worth e vs env) (worth d vs env)) → ((vs env : List ℕ) → IsSafe e vs env → IsSafe d vs env → IsSafe whole vs env) → HasCompiled scope s ys ctx b h us (i + 1) whole
   goes_on_from a b h us i u e d whole p c g l st w safe =
       let more : applied h (take (i + 1) us) ≡ app (applied h (take i us)) u = ap (applied h) (take_got us i u g) ∙ applied-more h (take i us) u in
       let can = argument_in a b h us i u e p c g in
@@ -155,7 +155,7 @@ module _ (scope : Scope) (s : ℕ) (ys : List Symbol) (ground : IsGround scope s
         within = omega arith;
         neutral = subst (IsNeutral scope ctx b) (sym more) (a, c.neutral, can.canonical);
         small = c.small.1.1;
-        stands = subst (λ t. Stands scope s ys ctx t whole) (sym more) (stands_application scope s ys ground ctx a b (applied h (take i us)) u e d whole function_type c.stands st w safe);
+        stands = subst (λ t. StandsForTerm scope s ys ctx t whole) (sym more) (stands_application scope s ys ground ctx a b (applied h (take i us)) u e d whole function_type c.stands st w safe);
       }
 
   take_whole : (us : List Lambda) (i : ℕ) → i ≡ length us → take i us ≡ us
@@ -165,8 +165,8 @@ module _ (scope : Scope) (s : ℕ) (ys : List Symbol) (ground : IsGround scope s
       go [] = refl
       go (u ∷ us) = ap (λ l. u ∷ l) (go us)
 
-  pub done : (a : SimpleType) (h : Lambda) (us : List Lambda) (i : ℕ) (e : Expr) → HasCompiled scope s ys ctx a h us i e → i ≡ length us → Stands scope s ys ctx (applied h us) e
-  done a h us i e c q = subst (λ vs. Stands scope s ys ctx (applied h vs) e) (take_whole us i q) c.stands
+  pub done : (a : SimpleType) (h : Lambda) (us : List Lambda) (i : ℕ) (e : Expr) → HasCompiled scope s ys ctx a h us i e → i ≡ length us → StandsForTerm scope s ys ctx (applied h us) e
+  done a h us i e c q = subst (λ vs. StandsForTerm scope s ys ctx (applied h vs) e) (take_whole us i q) c.stands
 
   pub not_base : (n : ℕ) (h : Lambda) (us : List Lambda) (i : ℕ) (u : Lambda) (e : Expr) → CanCompileSpine scope s ys ctx (applied h us) → HasCompiled scope s ys ctx (base n) h us i e → slice_get us i ≡ Some u → ⊥
   not_base n h us i u e p c g =
@@ -190,10 +190,10 @@ module _ (scope : Scope) (s : ℕ) (ys : List Symbol) (ground : IsGround scope s
 
   -- THE CONSTANTS OF THE LOGIC
 
-  pub falsity_stands : (us : List Lambda) (whole : Expr) → CanCompileSpine scope s ys ctx (applied (constant falsity) us) → ((vs env : List ℕ) → worth whole vs env ≡ 0) → ((vs env : List ℕ) → IsSafe whole vs env) → Stands scope s ys ctx (applied (constant falsity) us) whole
+  pub falsity_stands : (us : List Lambda) (whole : Expr) → CanCompileSpine scope s ys ctx (applied (constant falsity) us) → ((vs env : List ℕ) → worth whole vs env ≡ 0) → ((vs env : List ℕ) → IsSafe whole vs env) → StandsForTerm scope s ys ctx (applied (constant falsity) us) whole
   falsity_stands us whole p w safe =
       let e = no_argument scope ctx p.type p.is_base us p.neutral in
-      subst (λ vs. Stands scope s ys ctx (applied (constant falsity) vs) whole) (sym e) (stands_falsity scope s ys ground ctx whole w safe)
+      subst (λ vs. StandsForTerm scope s ys ctx (applied (constant falsity) vs) whole) (sym e) (stands_falsity scope s ys ground ctx whole w safe)
 
   first_of_two : (x y : Lambda) (us : List Lambda) → us ≡ x ∷ y ∷ [] → (slice_get us 0 ≡ Some x) × (slice_get us 1 ≡ Some y)
   first_of_two x y us e = (ap (λ l. slice_get l 0) e, ap (λ l. slice_get l 1) e)
@@ -207,14 +207,14 @@ module _ (scope : Scope) (s : ℕ) (ys : List Symbol) (ground : IsGround scope s
         λ u k. let q : r.first ≡ u = cc in argument_can formula (constant negation) us 0 u p k (formula_small s) (subst (IsCanonical scope ctx formula) q r.first_in),
       )
 
-  pub negation_stands : (us : List Lambda) (u : Lambda) (e whole : Expr) → CanCompileSpine scope s ys ctx (applied (constant negation) us) → slice_get us 0 ≡ Some u → Stands scope s ys ctx u e → ((vs env : List ℕ) → worth whole vs env ≡ 1 - worth e vs env) → ((vs env : List ℕ) → IsSafe e vs env → IsSafe whole vs env) → Stands scope s ys ctx (applied (constant negation) us) whole
+  pub negation_stands : (us : List Lambda) (u : Lambda) (e whole : Expr) → CanCompileSpine scope s ys ctx (applied (constant negation) us) → slice_get us 0 ≡ Some u → StandsForTerm scope s ys ctx u e → ((vs env : List ℕ) → worth whole vs env ≡ 1 - worth e vs env) → ((vs env : List ℕ) → IsSafe e vs env → IsSafe whole vs env) → StandsForTerm scope s ys ctx (applied (constant negation) us) whole
   negation_stands us u e whole p k st w safe =
       let r = one_argument scope ctx p.type p.is_base us p.neutral in
       let g = ap (λ l. slice_get l 0) r.is in
       let q : r.first ≡ u = cc in
       let is : us ≡ u ∷ [] = r.is ∙ ap (λ x. x ∷ []) q in
       let t = type_of-canonical scope ctx formula u (subst (IsCanonical scope ctx formula) q r.first_in) in
-      subst (λ vs. Stands scope s ys ctx (applied (constant negation) vs) whole) (sym is) (stands_negation scope s ys ground ctx u e whole t st w safe)
+      subst (λ vs. StandsForTerm scope s ys ctx (applied (constant negation) vs) whole) (sym is) (stands_negation scope s ys ground ctx u e whole t st w safe)
 
   pub implication_can : (us : List Lambda) → CanCompileSpine scope s ys ctx (applied (constant implication) us) → (1 < length us) × (((u : Lambda) → slice_get us 0 ≡ Some u → CanCompile scope s ys ctx formula u) × ((u : Lambda) → slice_get us 1 ≡ Some u → CanCompile scope s ys ctx formula u))
   implication_can us p =
@@ -229,7 +229,7 @@ module _ (scope : Scope) (s : ℕ) (ys : List Symbol) (ground : IsGround scope s
         ),
       )
 
-  pub implication_stands : (us : List Lambda) (u v : Lambda) (e d whole : Expr) → CanCompileSpine scope s ys ctx (applied (constant implication) us) → slice_get us 0 ≡ Some u → slice_get us 1 ≡ Some v → Stands scope s ys ctx u e → Stands scope s ys ctx v d → ((vs env : List ℕ) → worth whole vs env ≡ (if nat_eq (worth e vs env) 1 then worth d vs env else 1)) → ((vs env : List ℕ) → IsSafe e vs env → IsSafe d vs env → IsSafe whole vs env) → Stands scope s ys ctx (applied (constant implication) us) whole
+  pub implication_stands : (us : List Lambda) (u v : Lambda) (e d whole : Expr) → CanCompileSpine scope s ys ctx (applied (constant implication) us) → slice_get us 0 ≡ Some u → slice_get us 1 ≡ Some v → StandsForTerm scope s ys ctx u e → StandsForTerm scope s ys ctx v d → ((vs env : List ℕ) → worth whole vs env ≡ (if nat_eq (worth e vs env) 1 then worth d vs env else 1)) → ((vs env : List ℕ) → IsSafe e vs env → IsSafe d vs env → IsSafe whole vs env) → StandsForTerm scope s ys ctx (applied (constant implication) us) whole
   implication_stands us u v e d whole p k m st sd w safe =
       let r = imp_arguments scope ctx p.type p.is_base us p.neutral in
       let g = ap (λ l. slice_get l 0) r.is in
@@ -239,7 +239,7 @@ module _ (scope : Scope) (s : ℕ) (ys : List Symbol) (ground : IsGround scope s
       let is : us ≡ u ∷ v ∷ [] = r.is ∙ ap₂ (λ x y. x ∷ y ∷ []) q o in
       let t = type_of-canonical scope ctx formula u (subst (IsCanonical scope ctx formula) q r.first_in) in
       let t' = type_of-canonical scope ctx formula v (subst (IsCanonical scope ctx formula) o r.second_in) in
-      subst (λ vs. Stands scope s ys ctx (applied (constant implication) vs) whole) (sym is) (stands_implication scope s ys ground ctx u v e d whole t t' st sd w safe)
+      subst (λ vs. StandsForTerm scope s ys ctx (applied (constant implication) vs) whole) (sym is) (stands_implication scope s ys ground ctx u v e d whole t t' st sd w safe)
 
   pub equation_can : (a : SimpleType) (us : List Lambda) → CanCompileSpine scope s ys ctx (applied (constant (equality a)) us) → (1 < length us) × (((u : Lambda) → slice_get us 0 ≡ Some u → CanCompile scope s ys ctx a u) × ((u : Lambda) → slice_get us 1 ≡ Some u → CanCompile scope s ys ctx a u))
   equation_can a us p =
@@ -256,7 +256,7 @@ module _ (scope : Scope) (s : ℕ) (ys : List Symbol) (ground : IsGround scope s
         ),
       )
 
-  pub equation_stands : (a : SimpleType) (us : List Lambda) (u v : Lambda) (e d whole : Expr) → CanCompileSpine scope s ys ctx (applied (constant (equality a)) us) → slice_get us 0 ≡ Some u → slice_get us 1 ≡ Some v → Stands scope s ys ctx u e → Stands scope s ys ctx v d → ((vs env : List ℕ) → worth whole vs env ≡ (if nat_eq (worth e vs env) (worth d vs env) then 1 else 0)) → ((vs env : List ℕ) → IsSafe e vs env → IsSafe d vs env → IsSafe whole vs env) → Stands scope s ys ctx (applied (constant (equality a)) us) whole
+  pub equation_stands : (a : SimpleType) (us : List Lambda) (u v : Lambda) (e d whole : Expr) → CanCompileSpine scope s ys ctx (applied (constant (equality a)) us) → slice_get us 0 ≡ Some u → slice_get us 1 ≡ Some v → StandsForTerm scope s ys ctx u e → StandsForTerm scope s ys ctx v d → ((vs env : List ℕ) → worth whole vs env ≡ (if nat_eq (worth e vs env) (worth d vs env) then 1 else 0)) → ((vs env : List ℕ) → IsSafe e vs env → IsSafe d vs env → IsSafe whole vs env) → StandsForTerm scope s ys ctx (applied (constant (equality a)) us) whole
   equation_stands a us u v e d whole p k m st sd w safe =
       let dec = eq_arguments scope ctx p.type p.is_base a us p.neutral in
       let r = dec.arguments in
@@ -267,7 +267,7 @@ module _ (scope : Scope) (s : ℕ) (ys : List Symbol) (ground : IsGround scope s
       let is : us ≡ u ∷ v ∷ [] = r.is ∙ ap₂ (λ x y. x ∷ y ∷ []) q o in
       let t = type_of-canonical scope ctx a u (subst (IsCanonical scope ctx a) q r.first_in) in
       let t' = type_of-canonical scope ctx a v (subst (IsCanonical scope ctx a) o r.second_in) in
-      subst (λ vs. Stands scope s ys ctx (applied (constant (equality a)) vs) whole) (sym is) (stands_equation scope s ys ground ctx a u v e d whole dec.declared t t' st sd w safe)
+      subst (λ vs. StandsForTerm scope s ys ctx (applied (constant (equality a)) vs) whole) (sym is) (stands_equation scope s ys ground ctx a u v e d whole dec.declared t t' st sd w safe)
 
   -- the predicate of a quantifier is a binder over its body
   pub record HasBody (a : SimpleType) (bs : List SimpleType) (inside : Lambda) : Type 0 where
@@ -311,7 +311,7 @@ module _ (scope : Scope) (s : ℕ) (ys : List Symbol) (ground : IsGround scope s
   pub all_small : (a : SimpleType) (us : List Lambda) → CanCompileSpine scope s ys ctx (applied (constant (all a)) us) → IsSmallType s a
   all_small a us p = named_head s (constant (all a)) us p.named
 
-  pub all_stands : (a : SimpleType) (us : List Lambda) (u : Lambda) (bs : List SimpleType) (inside : Lambda) (e whole : Expr) → CanCompileSpine scope s ys ctx (applied (constant (all a)) us) → slice_get us 0 ≡ Some u → NotLam inside → lambdas bs inside ≡ u → Stands scope s ys (a ∷ ctx) (lambdas (drop 1 bs) inside) e → ((vs env : List ℕ) → worth whole vs env ≡ all_one (size_in s a) (λ x. worth e vs (x ∷ env))) → ((vs env : List ℕ) → ((x : ℕ) → x < size_in s a → IsSafe e vs (x ∷ env)) → IsSafe whole vs env) → Stands scope s ys ctx (applied (constant (all a)) us) whole
+  pub all_stands : (a : SimpleType) (us : List Lambda) (u : Lambda) (bs : List SimpleType) (inside : Lambda) (e whole : Expr) → CanCompileSpine scope s ys ctx (applied (constant (all a)) us) → slice_get us 0 ≡ Some u → NotLam inside → lambdas bs inside ≡ u → StandsForTerm scope s ys (a ∷ ctx) (lambdas (drop 1 bs) inside) e → ((vs env : List ℕ) → worth whole vs env ≡ all_one (size_in s a) (λ x. worth e vs (x ∷ env))) → ((vs env : List ℕ) → ((x : ℕ) → x < size_in s a → IsSafe e vs (x ∷ env)) → IsSafe whole vs env) → StandsForTerm scope s ys ctx (applied (constant (all a)) us) whole
   all_stands a us u bs inside e whole p k o q st w safe =
       let d = all_arguments scope ctx p.type p.is_base a us p.neutral in
       let r = d.argument in
@@ -321,7 +321,7 @@ module _ (scope : Scope) (s : ℕ) (ys : List Symbol) (ground : IsGround scope s
       let body = lambdas (drop 1 bs) inside in
       let t = type_of-canonical scope (a ∷ ctx) formula body has.can.canonical in
       let is : us ≡ lam a body ∷ [] = r.is ∙ ap (λ x. x ∷ []) (first ∙ sym q ∙ ap (λ x. lambdas x inside) has.is.0) in
-      subst (λ vs. Stands scope s ys ctx (applied (constant (all a)) vs) whole) (sym is) (stands_every scope s ys ground ctx a body e whole d.declared t st w safe)
+      subst (λ vs. StandsForTerm scope s ys ctx (applied (constant (all a)) vs) whole) (sym is) (stands_every scope s ys ground ctx a body e whole d.declared t st w safe)
 
   -- UNDER BINDERS
 
@@ -341,8 +341,8 @@ module _ (scope : Scope) (s : ℕ) (ys : List Symbol) (ground : IsGround scope s
         chooses = subst (Chooses ys) e c.chooses;
       }
 
-  pub spine_whole : (bs : List SimpleType) (i : ℕ) (inside : Lambda) (e : Expr) → length bs ≤ i → Stands scope s ys ctx inside e → Stands scope s ys ctx (lambdas (drop i bs) inside) e
-  spine_whole bs i inside e l st = subst (λ x. Stands scope s ys ctx (lambdas x inside) e) (sym (drop_none bs i l)) st
+  pub spine_whole : (bs : List SimpleType) (i : ℕ) (inside : Lambda) (e : Expr) → length bs ≤ i → StandsForTerm scope s ys ctx inside e → StandsForTerm scope s ys ctx (lambdas (drop i bs) inside) e
+  spine_whole bs i inside e l st = subst (λ x. StandsForTerm scope s ys ctx (lambdas x inside) e) (sym (drop_none bs i l)) st
 
   -- the parts of a function under its binder
   pub record Under (a b c : SimpleType) (rest : Lambda) : Type 0 where
@@ -388,13 +388,13 @@ module _ (scope : Scope) (s : ℕ) (ys : List Symbol) (ground : IsGround scope s
   pub no_function_within : (n : ℕ) (bs : List SimpleType) (i : ℕ) (inside : Lambda) → i < length bs → CanCompile scope s ys ctx (base n) (lambdas (drop i bs) inside) → ⊥
   no_function_within n bs i inside l k = let b = some_binder bs i l in no_function n b.0 bs i inside b.1 k
 
-  pub function_stands : (a b c : SimpleType) (bs : List SimpleType) (i : ℕ) (inside : Lambda) (e whole : Expr) → slice_get bs i ≡ Some c → CanCompile scope s ys ctx (arrow a b) (lambdas (drop i bs) inside) → Stands scope s ys (c ∷ ctx) (lambdas (drop (i + 1) bs) inside) e → ((vs env : List ℕ) → worth whole vs env ≡ table (size_in s b) (size_in s c) (λ x. worth e vs (x ∷ env))) → ((vs env : List ℕ) → ((x : ℕ) → x < size_in s c → IsSafe e vs (x ∷ env) × (worth e vs (x ∷ env) < size_in s b)) → IsSafe whole vs env) → Stands scope s ys ctx (lambdas (drop i bs) inside) whole
+  pub function_stands : (a b c : SimpleType) (bs : List SimpleType) (i : ℕ) (inside : Lambda) (e whole : Expr) → slice_get bs i ≡ Some c → CanCompile scope s ys ctx (arrow a b) (lambdas (drop i bs) inside) → StandsForTerm scope s ys (c ∷ ctx) (lambdas (drop (i + 1) bs) inside) e → ((vs env : List ℕ) → worth whole vs env ≡ table (size_in s b) (size_in s c) (λ x. worth e vs (x ∷ env))) → ((vs env : List ℕ) → ((x : ℕ) → x < size_in s c → IsSafe e vs (x ∷ env) × (worth e vs (x ∷ env) < size_in s b)) → IsSafe whole vs env) → StandsForTerm scope s ys ctx (lambdas (drop i bs) inside) whole
   function_stands a b c bs i inside e whole g k st w safe =
       let u = under a b c bs i inside g k in
       let rest = lambdas (drop (i + 1) bs) inside in
       let is : lambdas (drop i bs) inside ≡ lam c rest = ap (λ x. lambdas x inside) (drop_got bs i c g) in
       let t = type_of-canonical scope (c ∷ ctx) b rest u.can.canonical in
-      subst (λ x. Stands scope s ys ctx x whole) (sym is) (stands_function scope s ys ground ctx c b rest e whole u.few t st w safe)
+      subst (λ x. StandsForTerm scope s ys ctx x whole) (sym is) (stands_function scope s ys ground ctx c b rest e whole u.few t st w safe)
 
   -- A FORMULA
 
@@ -416,11 +416,11 @@ module _ (scope : Scope) (s : ℕ) (ys : List Symbol) (ground : IsGround scope s
         chooses = subst (Chooses ys) is c.chooses;
       }
 
-  pub truth_whole : (bs : List SimpleType) (inside whole : Lambda) (e : Expr) → lambdas bs inside ≡ whole → CanCompile scope s ys ctx formula whole → Stands scope s ys ctx inside e → Stands scope s ys ctx whole e
+  pub truth_whole : (bs : List SimpleType) (inside whole : Lambda) (e : Expr) → lambdas bs inside ≡ whole → CanCompile scope s ys ctx formula whole → StandsForTerm scope s ys ctx inside e → StandsForTerm scope s ys ctx whole e
   truth_whole bs inside whole d e c st =
       let none = no_binder bs inside 0 (subst (IsCanonical scope ctx formula) (sym e) c.canonical) in
       let is : inside ≡ whole = sym (ap (λ x. lambdas x inside) none) ∙ e in
-      subst (λ x. Stands scope s ys ctx x d) is st
+      subst (λ x. StandsForTerm scope s ys ctx x d) is st
 
   -- the body of a quantifier's predicate
   pub every_spine : (a : SimpleType) (us : List Lambda) (u : Lambda) (bs : List SimpleType) (inside : Lambda) → CanCompileSpine scope s ys ctx (applied (constant (all a)) us) → slice_get us 0 ≡ Some u → NotLam inside → lambdas bs inside ≡ u → CanCompileSpine scope s ys (a ∷ ctx) inside
@@ -434,11 +434,11 @@ module _ (scope : Scope) (s : ℕ) (ys : List Symbol) (ground : IsGround scope s
           record { type = formula; is_base = b.0; neutral = b.1; ctx_small = c.ctx_small; named = c.named; chooses = c.chooses }
       under_spine ctx (b ∷ bs) inside o c = absurd c.canonical.1
 
-  pub every_stands : (a : SimpleType) (us : List Lambda) (u : Lambda) (bs : List SimpleType) (inside : Lambda) (e whole : Expr) → CanCompileSpine scope s ys ctx (applied (constant (all a)) us) → slice_get us 0 ≡ Some u → NotLam inside → lambdas bs inside ≡ u → Stands scope s ys (a ∷ ctx) inside e → ((vs env : List ℕ) → worth whole vs env ≡ all_one (size_in s a) (λ x. worth e vs (x ∷ env))) → ((vs env : List ℕ) → ((x : ℕ) → x < size_in s a → IsSafe e vs (x ∷ env)) → IsSafe whole vs env) → Stands scope s ys ctx (applied (constant (all a)) us) whole
+  pub every_stands : (a : SimpleType) (us : List Lambda) (u : Lambda) (bs : List SimpleType) (inside : Lambda) (e whole : Expr) → CanCompileSpine scope s ys ctx (applied (constant (all a)) us) → slice_get us 0 ≡ Some u → NotLam inside → lambdas bs inside ≡ u → StandsForTerm scope s ys (a ∷ ctx) inside e → ((vs env : List ℕ) → worth whole vs env ≡ all_one (size_in s a) (λ x. worth e vs (x ∷ env))) → ((vs env : List ℕ) → ((x : ℕ) → x < size_in s a → IsSafe e vs (x ∷ env)) → IsSafe whole vs env) → StandsForTerm scope s ys ctx (applied (constant (all a)) us) whole
   every_stands a us u bs inside e whole p k o q st w safe =
       let has = (all_can a us p).1 u k bs inside o q in
       let none : drop 1 bs ≡ [] = empty (a ∷ ctx) (drop 1 bs) has.can.canonical in
-      all_stands a us u bs inside e whole p k o q (subst (λ x. Stands scope s ys (a ∷ ctx) (lambdas x inside) e) (sym none) st) w safe
+      all_stands a us u bs inside e whole p k o q (subst (λ x. StandsForTerm scope s ys (a ∷ ctx) (lambdas x inside) e) (sym none) st) w safe
     where
       empty : (ctx : List SimpleType) (bs : List SimpleType) → IsCanonical scope ctx formula (lambdas bs inside) → bs ≡ []
       empty ctx [] h = refl

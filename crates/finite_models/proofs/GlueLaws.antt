@@ -18,10 +18,10 @@ use Rattle.stt_core.proofs.ValueLaws.{value-lt}
 use Rattle.normal_forms.specs.Normal.{normal_form}
 use Rattle.normal_forms.proofs.NormalValues.{canonical-normal_form, value-normal_form}
 use Rattle.finite_models.specs.Sizes.{size_in, IsSmallType, NamesSmallTypes}
-use Rattle.finite_models.specs.Symbols.{Symbol, EachIsSmall, EachNamesSmallTypes, value_lists, conjectures, normal_formulas, symbols, choosing_symbols_of, with_symbols}
-use Rattle.finite_models.specs.Candidates.{IsLawful, IsCandidate, IsBefore, model_of}
-use Rattle.finite_models.specs.Small.{CandidateMeets, NoneMeets, IsFirst}
-use Rattle.finite_models.specs.Internal.Search.{IsAllowed, AreAllowed, AreFew, IsEarlier, PassesAll, AreReady, IsFirstPassing}
+use Rattle.finite_models.specs.Symbols.{Symbol, EachIsSmall, EachNamesSmallTypes, value_lists, conjectures, normal_formulas, model_symbols, choosing_symbols_of, with_symbols}
+use Rattle.finite_models.specs.Candidates.{IsLawful, IsCandidate, IsEarlierCandidate, model_of}
+use Rattle.finite_models.specs.Small.{CandidateMeets, NoneMeets, IsFirstCandidate}
+use Rattle.finite_models.specs.Internal.Search.{IsAllowed, AreAllowed, AreFewValues, IsEarlier, PassesAll, AreReady, IsFirstPassing}
 use Rattle.finite_models.specs.Internal.Stands.{IsChooserSymbol, IsGround, IsCoveredBy}
 use Rattle.finite_models.specs.Internal.Looking.{AreSizes, product, AreDomains, AreChecks, CanCompileEach}
 use Rattle.finite_models.specs.Internal.Worth.{worth}
@@ -94,7 +94,7 @@ to_candidate s (x ∷ xs) (d ∷ ds) (v ∷ vs) h a =
     let below : v < size_in s x.type = subst (λ n. v < n) is.count (allowed-lt d v here) in
     (below, (is.allowed v below).0 here, to_candidate s xs ds vs (domains_tail s x xs d ds h) (allowed_tail d ds v vs a))
 
-pub domains_few : (s : ℕ) (xs : List Symbol) (ns : List ℕ) (ds : List (List Bool)) → AreSizes s xs ns → AreDomains s xs ds → AreFew ds
+pub domains_few : (s : ℕ) (xs : List Symbol) (ns : List ℕ) (ds : List (List Bool)) → AreSizes s xs ns → AreDomains s xs ds → AreFewValues ds
 domains_few s xs ns ds h k i d g =
     let c = k.count in
     let l = get_within ds i d g in
@@ -112,7 +112,7 @@ domains_few s xs ns ds h k i d g =
 
 -- THE ORDER
 
-pub to_earlier : (ws vs : List ℕ) → IsBefore ws vs → IsEarlier ws vs
+pub to_earlier : (ws vs : List ℕ) → IsEarlierCandidate ws vs → IsEarlier ws vs
 to_earlier [] vs h = absurd h
 to_earlier (w ∷ ws) [] h = absurd h
 to_earlier (w ∷ ws) (v ∷ vs) (inl l) = record { at = 0; within = omega arith; same = λ j k. absurd (omega arith); less = l }
@@ -176,7 +176,7 @@ module _ (p : PlainProblem) (typed : IsTyped p) (s : ℕ) (pos : 1 ≤ s) where
   nf = normal_form scope []
 
   -- what the compiler needs
-  pub ground_of : s ≤ 8 → EachIsSmall s (symbols p) → IsGround scope s ys
+  pub ground_of : s ≤ 8 → EachIsSmall s (model_symbols p) → IsGround scope s ys
   ground_of few small = record { pos = pos; few = few; no_witness = refl; choosers = every_added IsChooserSymbol (λ a. refl) (λ a. refl) (normal_formulas p); small = small }
 
   named_get : (ts : List Lambda) (i : ℕ) (t : Lambda) → EachNamesSmallTypes s ts → slice_get ts i ≡ Some t → NamesSmallTypes s t
@@ -222,7 +222,7 @@ module _ (p : PlainProblem) (typed : IsTyped p) (s : ℕ) (pos : 1 ≤ s) where
 
   -- the checks and what they mean
   module _ (cs : List Check) (checks : AreChecks scope s ys (length p.assumed) (normal_formulas p) cs) where
-    pub checks_ready : (vs : List ℕ) → IsCandidate s (symbols p) vs → AreReady cs vs
+    pub checks_ready : (vs : List ℕ) → IsCandidate s (model_symbols p) vs → AreReady cs vs
     checks_ready vs c i k g =
         let l = get_within cs i k g in
         let n = checks.count in
@@ -230,9 +230,9 @@ module _ (p : PlainProblem) (typed : IsTyped p) (s : ℕ) (pos : 1 ≤ s) where
         let is = checks.each i t.0 k t.1 g in
         (is.stands.safe vs [] c tt, is.reach)
 
-    module _ (vs : List ℕ) (c : IsCandidate s (symbols p) vs) where
+    module _ (vs : List ℕ) (c : IsCandidate s (model_symbols p) vs) where
       abbrev m : Model
-      m = model_of s (symbols p) vs
+      m = model_of s (model_symbols p) vs
 
       good : IsModel scope m
       good = candidate_model p s vs pos c
@@ -325,18 +325,18 @@ module _ (p : PlainProblem) (typed : IsTyped p) (s : ℕ) (pos : 1 ≤ s) where
           ∙ sym (wanted_is i t.0 k t.1 g)
 
     -- the first list that passes is the first candidate that meets the problem
-    module _ (ds : List (List Bool)) (domains : AreDomains s (symbols p) ds) where
+    module _ (ds : List (List Bool)) (domains : AreDomains s (model_symbols p) ds) where
       pub allowed_ready : (vs : List ℕ) → AreAllowed ds vs → AreReady cs vs
-      allowed_ready vs a = checks_ready vs (to_candidate s (symbols p) ds vs domains a)
+      allowed_ready vs a = checks_ready vs (to_candidate s (model_symbols p) ds vs domains a)
 
-      pub is_first : (vs : List ℕ) → IsFirstPassing ds cs vs → IsFirst p s vs
+      pub is_first : (vs : List ℕ) → IsFirstPassing ds cs vs → IsFirstCandidate p s vs
       is_first vs h =
-          let c = to_candidate s (symbols p) ds vs domains h.allowed in
+          let c = to_candidate s (model_symbols p) ds vs domains h.allowed in
           record {
             candidate = c;
             meets = to_meets vs c h.passes;
-            first = λ ws k b w. h.first ws (to_allowed s (symbols p) ds ws domains k) (to_earlier ws vs b) (to_passes ws k w);
+            first = λ ws k b w. h.first ws (to_allowed s (model_symbols p) ds ws domains k) (to_earlier ws vs b) (to_passes ws k w);
           }
 
       pub none_meets : ((ws : List ℕ) → AreAllowed ds ws → PassesAll cs ws → ⊥) → NoneMeets p s
-      none_meets h ws k w = h ws (to_allowed s (symbols p) ds ws domains k) (to_passes ws k w)
+      none_meets h ws k w = h ws (to_allowed s (model_symbols p) ds ws domains k) (to_passes ws k w)

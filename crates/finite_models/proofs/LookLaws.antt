@@ -13,9 +13,9 @@ use Rattle.stt_core.specs.TypedProblem.{IsTyped}
 use Rattle.stt_core.proofs.ListLaws.{map-append}
 use Rattle.normal_forms.specs.Normal.{normal_form}
 use Rattle.finite_models.specs.Sizes.{size_in, IsSmallType, NamesSmallTypes}
-use Rattle.finite_models.specs.Symbols.{Symbol, declared_symbols, EachIsSmall, EachNamesSmallTypes, conjectures, normal_formulas, symbols, choosing_symbols_of, with_symbols, FitsSize, symbols_with}
+use Rattle.finite_models.specs.Symbols.{Symbol, declared_symbols, EachIsSmall, EachNamesSmallTypes, conjectures, normal_formulas, model_symbols, choosing_symbols_of, with_symbols, FitsSize, symbols_with}
 use Rattle.finite_models.specs.Candidates.{IsLawful, IsCandidate, model_of}
-use Rattle.finite_models.specs.Small.{NoneMeets, IsFirst, IsPassed, ArePassedBefore}
+use Rattle.finite_models.specs.Small.{NoneMeets, IsFirstCandidate, IsPassed, ArePassedBefore}
 use Rattle.finite_models.specs.Laws.{NoModelHasSize}
 use Rattle.finite_models.specs.Internal.Search.{IsAllowed, AreReady}
 use Rattle.finite_models.specs.Internal.Stands.{IsGround}
@@ -177,24 +177,24 @@ product_exceeds ns i limit h l = omega (arith, product_front ns i h)
 
 -- ONE SIZE
 
-pub symbols_are : (p : PlainProblem) (scope : Scope) (ys : List Symbol) (ts : List Lambda) → scope ≡ scope_of p.declared → ts ≡ normal_formulas p → ys ≡ with_symbols [] (choosing_symbols_of ts) → symbols_with scope ys ≡ symbols p
+pub symbols_are : (p : PlainProblem) (scope : Scope) (ys : List Symbol) (ts : List Lambda) → scope ≡ scope_of p.declared → ts ≡ normal_formulas p → ys ≡ with_symbols [] (choosing_symbols_of ts) → symbols_with scope ys ≡ model_symbols p
 symbols_are p scope ys ts e f g = ap₂ symbols_with e (g ∙ ap (λ l. with_symbols [] (choosing_symbols_of l)) f)
 
 module _ (p : PlainProblem) (typed : IsTyped p) (s : ℕ) (pos : 1 ≤ s) where
   abbrev ys : List Symbol
   ys = with_symbols [] (choosing_symbols_of (normal_formulas p))
 
-  pub fits_of : (ns : List ℕ) → EachNamesSmallTypes s (normal_formulas p) → AreSizes s (symbols p) ns → product ns ≤ 2 ^ 20 → FitsSize p s
+  pub fits_of : (ns : List ℕ) → EachNamesSmallTypes s (normal_formulas p) → AreSizes s (model_symbols p) ns → product ns ≤ 2 ^ 20 → FitsSize p s
   fits_of ns named sizes few = record {
-    symbols_small = all_are_small s (symbols p) ns sizes;
+    symbols_small = all_are_small s (model_symbols p) ns sizes;
     named_small = named;
-    few_lists = subst (λ n. n ≤ 2 ^ 20) (product_is s (symbols p) ns sizes) few;
+    few_lists = subst (λ n. n ≤ 2 ^ 20) (product_is s (model_symbols p) ns sizes) few;
   }
 
-  pub not_few : (ns : List ℕ) → AreSizes s (symbols p) ns → (product ns ≤ 2 ^ 20 → ⊥) → FitsSize p s → ⊥
-  not_few ns sizes n f = n (subst (λ m. m ≤ 2 ^ 20) (sym (product_is s (symbols p) ns sizes)) f.few_lists)
+  pub not_few : (ns : List ℕ) → AreSizes s (model_symbols p) ns → (product ns ≤ 2 ^ 20 → ⊥) → FitsSize p s → ⊥
+  not_few ns sizes n f = n (subst (λ m. m ≤ 2 ^ 20) (sym (product_is s (model_symbols p) ns sizes)) f.few_lists)
 
-  pub first_found : (vs : List ℕ) → FirstPasses (scope_of p.declared) s ys (length p.assumed) (normal_formulas p) vs → IsFirst p s vs
+  pub first_found : (vs : List ℕ) → FirstPasses (scope_of p.declared) s ys (length p.assumed) (normal_formulas p) vs → IsFirstCandidate p s vs
   first_found vs h = is_first p typed s pos h.checks h.are_checks h.domains h.are_domains vs h.first
 
   pub none_found : NonePasses (scope_of p.declared) s ys (length p.assumed) (normal_formulas p) → NoneMeets p s
@@ -386,7 +386,7 @@ module _ (p : PlainProblem) (typed : IsTyped p) (s : ℕ) (pos : 1 ≤ s) (scope
   zs_are : zs ≡ with_symbols [] (choosing_symbols_of (normal_formulas p))
   zs_are = zs_is ∙ ap (λ l. with_symbols [] (choosing_symbols_of l)) ts_is
 
-  pub ground_here : s ≤ 8 → EachIsSmall s (symbols p) → IsGround scope s zs
+  pub ground_here : s ≤ 8 → EachIsSmall s (model_symbols p) → IsGround scope s zs
   ground_here few small = subst (λ x. IsGround x s zs) (sym scope_is) (subst (IsGround (scope_of p.declared) s) (sym zs_are) (ground_of p typed s pos few small))
 
   pub can_here : EachNamesSmallTypes s ts → CanCompileEach scope s zs ts
@@ -395,10 +395,10 @@ module _ (p : PlainProblem) (typed : IsTyped p) (s : ℕ) (pos : 1 ≤ s) (scope
       (subst (λ x. CanCompileEach (scope_of p.declared) s x ts) (sym zs_are)
       (subst (λ x. CanCompileEach (scope_of p.declared) s (with_symbols [] (choosing_symbols_of (normal_formulas p))) x) (sym ts_is) (can_compile_each p typed s pos (subst (EachNamesSmallTypes s) ts_is named))))
 
-  pub sizes_here : (ns : List ℕ) → AreSizes s (symbols p) ns → AreSizes s (symbols_with scope zs) ns
+  pub sizes_here : (ns : List ℕ) → AreSizes s (model_symbols p) ns → AreSizes s (symbols_with scope zs) ns
   sizes_here ns h = subst (λ x. AreSizes s x ns) (sym (symbols_are p scope zs ts scope_is ts_is zs_is)) h
 
-  pub first_here : (n : ℕ) → n ≡ length p.assumed → (vs : List ℕ) → FirstPasses scope s zs n ts vs → IsFirst p s vs
+  pub first_here : (n : ℕ) → n ≡ length p.assumed → (vs : List ℕ) → FirstPasses scope s zs n ts vs → IsFirstCandidate p s vs
   first_here n e vs h =
       first_found p typed s pos vs
       (subst (λ x. FirstPasses (scope_of p.declared) s (with_symbols [] (choosing_symbols_of (normal_formulas p))) (length p.assumed) x vs) ts_is
@@ -415,7 +415,7 @@ module _ (p : PlainProblem) (typed : IsTyped p) (s : ℕ) (pos : 1 ≤ s) (scope
       (subst (λ x. NonePasses x s zs n ts) scope_is h))))
 
 -- what is found at a size is a model
-pub shows_first : (p : PlainProblem) (s : ℕ) → 1 ≤ s → (vs ws : List ℕ) → ws ≡ vs → IsFirst p s vs → IsModel (scope_of p.declared) (model_of s (symbols p) ws) × (ℕ → s ≡ s) × MeetsProblem p (model_of s (symbols p) ws)
+pub shows_first : (p : PlainProblem) (s : ℕ) → 1 ≤ s → (vs ws : List ℕ) → ws ≡ vs → IsFirstCandidate p s vs → IsModel (scope_of p.declared) (model_of s (model_symbols p) ws) × (ℕ → s ≡ s) × MeetsProblem p (model_of s (model_symbols p) ws)
 shows_first p s l vs ws e f =
-    subst (λ us. IsModel (scope_of p.declared) (model_of s (symbols p) us) × (ℕ → s ≡ s) × MeetsProblem p (model_of s (symbols p) us)) (sym e)
+    subst (λ us. IsModel (scope_of p.declared) (model_of s (model_symbols p) us) × (ℕ → s ≡ s) × MeetsProblem p (model_of s (model_symbols p) us)) (sym e)
     (candidate_model p s vs l f.candidate, λ n. refl, f.meets)

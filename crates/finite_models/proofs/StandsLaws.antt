@@ -12,9 +12,9 @@ use Rattle.stt_core.proofs.ValueLaws.{value-lt, value-lam, value-app}
 use Rattle.stt_core.proofs.ConstantValues.{value-neg, value-imp, value-eq, value-every, bit}
 use Rattle.finite_models.specs.Sizes.{size_in}
 use Rattle.finite_models.specs.Symbols.{Symbol, declared_symbols, symbols_with}
-use Rattle.finite_models.specs.Candidates.{IsCandidate, as_choice, as_description, listed_by, model_of}
+use Rattle.finite_models.specs.Candidates.{IsCandidate, as_choice, as_description, values_listed, model_of}
 use Rattle.finite_models.specs.Internal.Choosers.{IsFirstPlace}
-use Rattle.finite_models.specs.Internal.Stands.{IsChooserBy, IsChooserSymbol, IsGround, Stands}
+use Rattle.finite_models.specs.Internal.Stands.{IsChooserBy, IsChooserSymbol, IsGround, StandsForTerm}
 use Rattle.finite_models.specs.Internal.Worth.{worth, IsSafe, all_one}
 use Rattle.finite_models.specs.declared.expr.Expr.{Expr}
 use Rattle.finite_models.proofs.CandidateLaws.{IsFormedBy, IsFormed, declared_formed, candidate_model_of, size_here}
@@ -57,23 +57,23 @@ module _ (scope : Scope) (s : ℕ) (ys : List Symbol) (ground : IsGround scope s
       candidate_model_of scope s ys vs ground.no_witness (every_both IsFormed (declared_symbols 0 scope.names) ys (declared_formed 0 scope.names) (choosers_formed ys ground.choosers)) ground.pos h
 
   -- the worth of an expression is a value of the term's type
-  pub stands-lt : (ctx : List SimpleType) (a : SimpleType) (t : Lambda) (e : Expr) → type_of scope ctx t ≡ Some a → Stands scope s ys ctx t e → (vs env : List ℕ) → IsCandidate s xs vs → Fits (the_model vs) ctx env → worth e vs env < size_in s a
+  pub stands-lt : (ctx : List SimpleType) (a : SimpleType) (t : Lambda) (e : Expr) → type_of scope ctx t ≡ Some a → StandsForTerm scope s ys ctx t e → (vs env : List ℕ) → IsCandidate s xs vs → Fits (the_model vs) ctx env → worth e vs env < size_in s a
   stands-lt ctx a t e h st vs env c f =
       subst (λ v. v < size_in s a) (sym (st.is vs env c f)) (subst (λ n. value scope (the_model vs) ctx env t < n) (size_here s xs vs a) (value-lt scope (the_model vs) (is_model vs c) ctx env a t h f))
 
-  pub stands_negation : (ctx : List SimpleType) (t : Lambda) (e whole : Expr) → type_of scope ctx t ≡ Some formula → Stands scope s ys ctx t e → ((vs env : List ℕ) → worth whole vs env ≡ 1 - worth e vs env) → ((vs env : List ℕ) → IsSafe e vs env → IsSafe whole vs env) → Stands scope s ys ctx (neg t) whole
+  pub stands_negation : (ctx : List SimpleType) (t : Lambda) (e whole : Expr) → type_of scope ctx t ≡ Some formula → StandsForTerm scope s ys ctx t e → ((vs env : List ℕ) → worth whole vs env ≡ 1 - worth e vs env) → ((vs env : List ℕ) → IsSafe e vs env → IsSafe whole vs env) → StandsForTerm scope s ys ctx (neg t) whole
   stands_negation ctx t e whole h st w k = record {
     safe = λ vs env c f. k vs env (st.safe vs env c f);
     is = λ vs env c f. w vs env ∙ ap (λ v. 1 - v) (st.is vs env c f) ∙ sym (value-neg scope (the_model vs) (is_model vs c) ctx env f t h);
   }
 
-  pub stands_implication : (ctx : List SimpleType) (t u : Lambda) (e d whole : Expr) → type_of scope ctx t ≡ Some formula → type_of scope ctx u ≡ Some formula → Stands scope s ys ctx t e → Stands scope s ys ctx u d → ((vs env : List ℕ) → worth whole vs env ≡ (if nat_eq (worth e vs env) 1 then worth d vs env else 1)) → ((vs env : List ℕ) → IsSafe e vs env → IsSafe d vs env → IsSafe whole vs env) → Stands scope s ys ctx (imp t u) whole
+  pub stands_implication : (ctx : List SimpleType) (t u : Lambda) (e d whole : Expr) → type_of scope ctx t ≡ Some formula → type_of scope ctx u ≡ Some formula → StandsForTerm scope s ys ctx t e → StandsForTerm scope s ys ctx u d → ((vs env : List ℕ) → worth whole vs env ≡ (if nat_eq (worth e vs env) 1 then worth d vs env else 1)) → ((vs env : List ℕ) → IsSafe e vs env → IsSafe d vs env → IsSafe whole vs env) → StandsForTerm scope s ys ctx (imp t u) whole
   stands_implication ctx t u e d whole h k st sd w safe = record {
     safe = λ vs env c f. safe vs env (st.safe vs env c f) (sd.safe vs env c f);
     is = λ vs env c f. w vs env ∙ ap₂ (λ x y. if nat_eq x 1 then y else 1) (st.is vs env c f) (sd.is vs env c f) ∙ sym (value-imp scope (the_model vs) (is_model vs c) ctx env f t u h k);
   }
 
-  pub stands_equation : (ctx : List SimpleType) (a : SimpleType) (t u : Lambda) (e d whole : Expr) → is_declared scope.bases a ≡ true → type_of scope ctx t ≡ Some a → type_of scope ctx u ≡ Some a → Stands scope s ys ctx t e → Stands scope s ys ctx u d → ((vs env : List ℕ) → worth whole vs env ≡ (if nat_eq (worth e vs env) (worth d vs env) then 1 else 0)) → ((vs env : List ℕ) → IsSafe e vs env → IsSafe d vs env → IsSafe whole vs env) → Stands scope s ys ctx (eq a t u) whole
+  pub stands_equation : (ctx : List SimpleType) (a : SimpleType) (t u : Lambda) (e d whole : Expr) → is_declared scope.bases a ≡ true → type_of scope ctx t ≡ Some a → type_of scope ctx u ≡ Some a → StandsForTerm scope s ys ctx t e → StandsForTerm scope s ys ctx u d → ((vs env : List ℕ) → worth whole vs env ≡ (if nat_eq (worth e vs env) (worth d vs env) then 1 else 0)) → ((vs env : List ℕ) → IsSafe e vs env → IsSafe d vs env → IsSafe whole vs env) → StandsForTerm scope s ys ctx (eq a t u) whole
   stands_equation ctx a t u e d whole declared h k st sd w safe = record {
     safe = λ vs env c f. safe vs env (st.safe vs env c f) (sd.safe vs env c f);
     is = λ vs env c f. w vs env ∙ ap₂ (λ x y. if nat_eq x y then 1 else 0) (st.is vs env c f) (sd.is vs env c f) ∙ sym (value-eq scope (the_model vs) (is_model vs c) ctx env f a t u (record { declared = declared; left = h; right = k }));
@@ -83,7 +83,7 @@ module _ (scope : Scope) (s : ℕ) (ys : List Symbol) (ground : IsGround scope s
   below_here : (vs : List ℕ) (a : SimpleType) (x : ℕ) → x < size_in s a → x < size (the_model vs) a
   below_here vs a x l = subst (λ n. x < n) (sym (size_here s xs vs a)) l
 
-  pub stands_every : (ctx : List SimpleType) (a : SimpleType) (t : Lambda) (e whole : Expr) → is_declared scope.bases a ≡ true → type_of scope (a ∷ ctx) t ≡ Some formula → Stands scope s ys (a ∷ ctx) t e → ((vs env : List ℕ) → worth whole vs env ≡ all_one (size_in s a) (λ x. worth e vs (x ∷ env))) → ((vs env : List ℕ) → ((x : ℕ) → x < size_in s a → IsSafe e vs (x ∷ env)) → IsSafe whole vs env) → Stands scope s ys ctx (every a (lam a t)) whole
+  pub stands_every : (ctx : List SimpleType) (a : SimpleType) (t : Lambda) (e whole : Expr) → is_declared scope.bases a ≡ true → type_of scope (a ∷ ctx) t ≡ Some formula → StandsForTerm scope s ys (a ∷ ctx) t e → ((vs env : List ℕ) → worth whole vs env ≡ all_one (size_in s a) (λ x. worth e vs (x ∷ env))) → ((vs env : List ℕ) → ((x : ℕ) → x < size_in s a → IsSafe e vs (x ∷ env)) → IsSafe whole vs env) → StandsForTerm scope s ys ctx (every a (lam a t)) whole
   stands_every ctx a t e whole declared h st w safe = record {
     safe = λ vs env c f. safe vs env (λ x l. st.safe vs (x ∷ env) c (below_here vs a x l, f));
     is = λ vs env c f.
@@ -99,7 +99,7 @@ module _ (scope : Scope) (s : ℕ) (ys : List Symbol) (ground : IsGround scope s
         ∙ sym (value-every scope m (is_model vs c) ctx env f a (lam a t) declared (lambda_type scope ctx (arrow a formula) a t declared (refl, h)));
   }
 
-  pub stands_function : (ctx : List SimpleType) (a b : SimpleType) (t : Lambda) (e whole : Expr) → size_in s b ^ size_in s a ≤ 2 ^ 20 → type_of scope (a ∷ ctx) t ≡ Some b → Stands scope s ys (a ∷ ctx) t e → ((vs env : List ℕ) → worth whole vs env ≡ table (size_in s b) (size_in s a) (λ x. worth e vs (x ∷ env))) → ((vs env : List ℕ) → ((x : ℕ) → x < size_in s a → IsSafe e vs (x ∷ env) × (worth e vs (x ∷ env) < size_in s b)) → IsSafe whole vs env) → Stands scope s ys ctx (lam a t) whole
+  pub stands_function : (ctx : List SimpleType) (a b : SimpleType) (t : Lambda) (e whole : Expr) → size_in s b ^ size_in s a ≤ 2 ^ 20 → type_of scope (a ∷ ctx) t ≡ Some b → StandsForTerm scope s ys (a ∷ ctx) t e → ((vs env : List ℕ) → worth whole vs env ≡ table (size_in s b) (size_in s a) (λ x. worth e vs (x ∷ env))) → ((vs env : List ℕ) → ((x : ℕ) → x < size_in s a → IsSafe e vs (x ∷ env) × (worth e vs (x ∷ env) < size_in s b)) → IsSafe whole vs env) → StandsForTerm scope s ys ctx (lam a t) whole
   stands_function ctx a b t e whole small h st w safe = record {
     safe = λ vs env c f. safe vs env (λ x l. (st.safe vs (x ∷ env) c (below_here vs a x l, f), stands-lt (a ∷ ctx) b t e h st vs (x ∷ env) c (below_here vs a x l, f)));
     is = λ vs env c f.
@@ -111,7 +111,7 @@ module _ (scope : Scope) (s : ℕ) (ys : List Symbol) (ground : IsGround scope s
         ∙ sym (value-lam scope m ctx env a b t h);
   }
 
-  pub stands_application : (ctx : List SimpleType) (a b : SimpleType) (t u : Lambda) (e d whole : Expr) → type_of scope ctx t ≡ Some (arrow a b) → Stands scope s ys ctx t e → Stands scope s ys ctx u d → ((vs env : List ℕ) → worth whole vs env ≡ entry (size_in s b) (worth e vs env) (worth d vs env)) → ((vs env : List ℕ) → IsSafe e vs env → IsSafe d vs env → IsSafe whole vs env) → Stands scope s ys ctx (app t u) whole
+  pub stands_application : (ctx : List SimpleType) (a b : SimpleType) (t u : Lambda) (e d whole : Expr) → type_of scope ctx t ≡ Some (arrow a b) → StandsForTerm scope s ys ctx t e → StandsForTerm scope s ys ctx u d → ((vs env : List ℕ) → worth whole vs env ≡ entry (size_in s b) (worth e vs env) (worth d vs env)) → ((vs env : List ℕ) → IsSafe e vs env → IsSafe d vs env → IsSafe whole vs env) → StandsForTerm scope s ys ctx (app t u) whole
   stands_application ctx a b t u e d whole h st sd w safe = record {
     safe = λ vs env c f. safe vs env (st.safe vs env c f) (sd.safe vs env c f);
     is = λ vs env c f.
@@ -123,10 +123,10 @@ module _ (scope : Scope) (s : ℕ) (ys : List Symbol) (ground : IsGround scope s
 
   -- LEAVES
 
-  pub stands_falsity : (ctx : List SimpleType) (whole : Expr) → ((vs env : List ℕ) → worth whole vs env ≡ 0) → ((vs env : List ℕ) → IsSafe whole vs env) → Stands scope s ys ctx (constant falsity) whole
+  pub stands_falsity : (ctx : List SimpleType) (whole : Expr) → ((vs env : List ℕ) → worth whole vs env ≡ 0) → ((vs env : List ℕ) → IsSafe whole vs env) → StandsForTerm scope s ys ctx (constant falsity) whole
   stands_falsity ctx whole w safe = record { safe = λ vs env c f. safe vs env; is = λ vs env c f. w vs env }
 
-  pub stands_variable : (ctx : List SimpleType) (k : ℕ) (whole : Expr) → ((vs env : List ℕ) → worth whole vs env ≡ slice_index env k) → ((vs env : List ℕ) → IsSafe whole vs env) → Stands scope s ys ctx (bound k) whole
+  pub stands_variable : (ctx : List SimpleType) (k : ℕ) (whole : Expr) → ((vs env : List ℕ) → worth whole vs env ≡ slice_index env k) → ((vs env : List ℕ) → IsSafe whole vs env) → StandsForTerm scope s ys ctx (bound k) whole
   stands_variable ctx k whole w safe = record { safe = λ vs env c f. safe vs env; is = λ vs env c f. w vs env }
 
   declared_within : (k : ℕ) (types : List SimpleType) (zs : List Symbol) (vs : List ℕ) → IsCandidate s (declared_symbols k types ++ zs) vs → (i : ℕ) (a : SimpleType) → slice_get types i ≡ Some a → i < length vs
@@ -135,7 +135,7 @@ module _ (scope : Scope) (s : ℕ) (ys : List Symbol) (ground : IsGround scope s
   declared_within k (b ∷ types) zs (v ∷ vs) h zero a g = omega arith
   declared_within k (b ∷ types) zs (v ∷ vs) h (suc i) a g = omega (arith, declared_within (suc k) types zs vs h.2 i a g)
 
-  pub stands_name : (ctx : List SimpleType) (k : ℕ) (a : SimpleType) (whole : Expr) → slice_get scope.names k ≡ Some a → ((vs env : List ℕ) → worth whole vs env ≡ slice_index vs k) → ((vs env : List ℕ) → k < length vs → IsSafe whole vs env) → Stands scope s ys ctx (constant (name k)) whole
+  pub stands_name : (ctx : List SimpleType) (k : ℕ) (a : SimpleType) (whole : Expr) → slice_get scope.names k ≡ Some a → ((vs env : List ℕ) → worth whole vs env ≡ slice_index vs k) → ((vs env : List ℕ) → k < length vs → IsSafe whole vs env) → StandsForTerm scope s ys ctx (constant (name k)) whole
   stands_name ctx k a whole g w safe = record { safe = λ vs env c f. safe vs env (declared_within 0 scope.names ys vs c k a g); is = λ vs env c f. w vs env }
 
   -- the value that is listed for a chooser's type stands at its place
@@ -174,25 +174,25 @@ module _ (scope : Scope) (s : ℕ) (ys : List Symbol) (ground : IsGround scope s
   abbrev FirstAt : Constant → List Symbol → ℕ → Type 0
   FirstAt c zs i = ((z : Symbol) → slice_get zs i ≡ Some z → c ≡ z.constant) × ((j : ℕ) (z : Symbol) → j < i → slice_get zs j ≡ Some z → c ≡ z.constant → ⊥)
 
-  chosen_at : (a : SimpleType) (zs : List Symbol) (vs : List ℕ) → IsCandidate s zs vs → (i : ℕ) → i < length zs → FirstAt (choice a) zs i → (listed (listed_by as_choice zs vs) a ≡ Some (slice_index vs i)) × (i < length vs)
+  chosen_at : (a : SimpleType) (zs : List Symbol) (vs : List ℕ) → IsCandidate s zs vs → (i : ℕ) → i < length zs → FirstAt (choice a) zs i → (listed (values_listed as_choice zs vs) a ≡ Some (slice_index vs i)) × (i < length vs)
   chosen_at a [] vs h i l f = absurd (omega arith)
   chosen_at a (z ∷ zs) [] h i l f = absurd h
   chosen_at a (z ∷ zs) (v ∷ vs) h zero l f =
       let e : choice a ≡ z.constant = f.0 z refl in
-      (subst (λ c. listed (as_choice c v ++ listed_by as_choice zs vs) a ≡ Some v) e (listed_here a v (listed_by as_choice zs vs)), omega arith)
+      (subst (λ c. listed (as_choice c v ++ values_listed as_choice zs vs) a ≡ Some v) e (listed_here a v (values_listed as_choice zs vs)), omega arith)
   chosen_at a (z ∷ zs) (v ∷ vs) h (suc i) l f =
       let r = chosen_at a zs vs h.2 i (omega arith) (f.0, λ j y k g e. f.1 (suc j) y (omega arith) g e) in
-      (choice_later z.constant a v (listed_by as_choice zs vs) (f.1 0 z (omega arith) refl) ∙ r.0, omega (arith, r.1))
+      (choice_later z.constant a v (values_listed as_choice zs vs) (f.1 0 z (omega arith) refl) ∙ r.0, omega (arith, r.1))
 
-  described_at : (a : SimpleType) (zs : List Symbol) (vs : List ℕ) → IsCandidate s zs vs → (i : ℕ) → i < length zs → FirstAt (description a) zs i → (listed (listed_by as_description zs vs) a ≡ Some (slice_index vs i)) × (i < length vs)
+  described_at : (a : SimpleType) (zs : List Symbol) (vs : List ℕ) → IsCandidate s zs vs → (i : ℕ) → i < length zs → FirstAt (description a) zs i → (listed (values_listed as_description zs vs) a ≡ Some (slice_index vs i)) × (i < length vs)
   described_at a [] vs h i l f = absurd (omega arith)
   described_at a (z ∷ zs) [] h i l f = absurd h
   described_at a (z ∷ zs) (v ∷ vs) h zero l f =
       let e : description a ≡ z.constant = f.0 z refl in
-      (subst (λ c. listed (as_description c v ++ listed_by as_description zs vs) a ≡ Some v) e (listed_here a v (listed_by as_description zs vs)), omega arith)
+      (subst (λ c. listed (as_description c v ++ values_listed as_description zs vs) a ≡ Some v) e (listed_here a v (values_listed as_description zs vs)), omega arith)
   described_at a (z ∷ zs) (v ∷ vs) h (suc i) l f =
       let r = described_at a zs vs h.2 i (omega arith) (f.0, λ j y k g e. f.1 (suc j) y (omega arith) g e) in
-      (description_later z.constant a v (listed_by as_description zs vs) (f.1 0 z (omega arith) refl) ∙ r.0, omega (arith, r.1))
+      (description_later z.constant a v (values_listed as_description zs vs) (f.1 0 z (omega arith) refl) ∙ r.0, omega (arith, r.1))
 
   -- behind the constants of the signature
   first_behind : (c : Constant) (k : ℕ) (types : List SimpleType) (zs : List Symbol) (i : ℕ) → ((j : ℕ) → c ≡ name j → ⊥) → FirstAt c zs i → FirstAt c (declared_symbols k types ++ zs) (length types + i)
@@ -224,7 +224,7 @@ module _ (scope : Scope) (s : ℕ) (ys : List Symbol) (ground : IsGround scope s
       within (x ∷ zs) zero z g = omega arith
       within (x ∷ zs) (suc i) z g = omega (arith, within zs i z g)
 
-  pub stands_choice : (ctx : List SimpleType) (a : SimpleType) (y : Symbol) (i : ℕ) (whole : Expr) → y.constant ≡ choice a → IsFirstPlace y ys i → ((vs env : List ℕ) → worth whole vs env ≡ slice_index vs (length scope.names + i)) → ((vs env : List ℕ) → length scope.names + i < length vs → IsSafe whole vs env) → Stands scope s ys ctx (constant (choice a)) whole
+  pub stands_choice : (ctx : List SimpleType) (a : SimpleType) (y : Symbol) (i : ℕ) (whole : Expr) → y.constant ≡ choice a → IsFirstPlace y ys i → ((vs env : List ℕ) → worth whole vs env ≡ slice_index vs (length scope.names + i)) → ((vs env : List ℕ) → length scope.names + i < length vs → IsSafe whole vs env) → StandsForTerm scope s ys ctx (constant (choice a)) whole
   stands_choice ctx a y i whole e p w safe =
       let q = first_of y ys i p in
       let f = first_behind (choice a) 0 scope.names ys i (λ j r. not_name j r) (subst (λ c. FirstAt c ys i) e q.0) in
@@ -237,7 +237,7 @@ module _ (scope : Scope) (s : ℕ) (ys : List Symbol) (ground : IsGround scope s
       not_name : (j : ℕ) → choice a ≡ name j → ⊥
       not_name j r = cc
 
-  pub stands_description : (ctx : List SimpleType) (a : SimpleType) (y : Symbol) (i : ℕ) (whole : Expr) → y.constant ≡ description a → IsFirstPlace y ys i → ((vs env : List ℕ) → worth whole vs env ≡ slice_index vs (length scope.names + i)) → ((vs env : List ℕ) → length scope.names + i < length vs → IsSafe whole vs env) → Stands scope s ys ctx (constant (description a)) whole
+  pub stands_description : (ctx : List SimpleType) (a : SimpleType) (y : Symbol) (i : ℕ) (whole : Expr) → y.constant ≡ description a → IsFirstPlace y ys i → ((vs env : List ℕ) → worth whole vs env ≡ slice_index vs (length scope.names + i)) → ((vs env : List ℕ) → length scope.names + i < length vs → IsSafe whole vs env) → StandsForTerm scope s ys ctx (constant (description a)) whole
   stands_description ctx a y i whole e p w safe =
       let q = first_of y ys i p in
       let f = first_behind (description a) 0 scope.names ys i (λ j r. not_name j r) (subst (λ c. FirstAt c ys i) e q.0) in

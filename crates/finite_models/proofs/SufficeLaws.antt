@@ -1,4 +1,4 @@
--- Where no candidate of a size meets a problem, no model of that size does: its values of the symbols are a candidate, whose model gives
+-- Where no candidate of a size meets a problem, no model of that size does: its values of the model_symbols are a candidate, whose model gives
 -- each formula the same value.
 use Rattle.std.proofs.Common.{◌≡◌, ℕ, zero, suc, ◌+◌, ◌^◌, ◌<◌, ◌≤◌, List, [], ◌∷◌, ◌++◌, map, Option, Some, None, Bool, true, false, slice_get, slice_index, unwrap_or, refl, ap, sym, subst, ◌∙◌, ◌⊎◌, inl, inr, if◌then◌else◌, arith}
 use Rattle.std.specs.List.{AllByRecursion as Every}
@@ -20,8 +20,8 @@ use Rattle.stt_core.proofs.OccurrenceValues.{value_same}
 use Rattle.normal_forms.specs.Normal.{normal_form}
 use Rattle.normal_forms.proofs.NormalValues.{canonical-normal_form, value-normal_form}
 use Rattle.finite_models.specs.Sizes.{size_in}
-use Rattle.finite_models.specs.Symbols.{Symbol, declared_symbols, choosing_symbol, choosing_symbols_of, with_symbols, conjectures, normal_formulas, symbols}
-use Rattle.finite_models.specs.Candidates.{IsChoice, IsDescription, IsLawful, IsCandidate, as_choice, as_description, listed_by, model_of}
+use Rattle.finite_models.specs.Symbols.{Symbol, declared_symbols, choosing_symbol, choosing_symbols_of, with_symbols, conjectures, normal_formulas, model_symbols}
+use Rattle.finite_models.specs.Candidates.{IsChoice, IsDescription, IsLawful, IsCandidate, as_choice, as_description, values_listed, model_of}
 use Rattle.finite_models.specs.Small.{NoneMeets}
 use Rattle.finite_models.specs.Laws.{HasSize}
 use Rattle.stt_core.proofs.ChoiceLaws.{chooses, describes}
@@ -29,7 +29,7 @@ use Rattle.finite_models.proofs.SizeLaws.{size_is}
 use Rattle.finite_models.proofs.SymbolLaws.{every_symbol, Has, Covers, symbols_cover}
 use Rattle.finite_models.proofs.CandidateLaws.{candidate_model}
 
--- the values that a model gives to symbols
+-- the values that a model gives to model_symbols
 abbrev pub values_in : Model → List Symbol → List ℕ
 values_in m xs = map (λ x. constant_value m x.constant) xs
 
@@ -49,7 +49,7 @@ named_value m k (b ∷ types) xs (suc i) a g =
     let e : k + suc i ≡ suc k + i = omega arith in
     ap m.name_values e ∙ named_value m (suc k) types xs i a g
 
--- what it gives to a chooser among the symbols is what is listed for its type
+-- what it gives to a chooser among the model_symbols is what is listed for its type
 module _ (m : Model) where
   abbrev given : Constant → ℕ
   given c = constant_value m c
@@ -109,15 +109,15 @@ module _ (m : Model) where
   description_step (choice b) a rest (inr h) = h
   description_step (description b) a rest (inr h) = listed_first b a (given (description b)) (given (description a)) rest (λ q. ap (λ x. given (description x)) q) (λ q. h)
 
-  chosen : (xs : List Symbol) (a : SimpleType) → Has (choice a) xs → listed (listed_by as_choice xs (values_in m xs)) a ≡ Some (given (choice a))
+  chosen : (xs : List Symbol) (a : SimpleType) → Has (choice a) xs → listed (values_listed as_choice xs (values_in m xs)) a ≡ Some (given (choice a))
   chosen [] a h = absurd h
-  chosen (x ∷ xs) a (inl e) = choice_step x.constant a (listed_by as_choice xs (values_in m xs)) (inl e)
-  chosen (x ∷ xs) a (inr h) = choice_step x.constant a (listed_by as_choice xs (values_in m xs)) (inr (chosen xs a h))
+  chosen (x ∷ xs) a (inl e) = choice_step x.constant a (values_listed as_choice xs (values_in m xs)) (inl e)
+  chosen (x ∷ xs) a (inr h) = choice_step x.constant a (values_listed as_choice xs (values_in m xs)) (inr (chosen xs a h))
 
-  described : (xs : List Symbol) (a : SimpleType) → Has (description a) xs → listed (listed_by as_description xs (values_in m xs)) a ≡ Some (given (description a))
+  described : (xs : List Symbol) (a : SimpleType) → Has (description a) xs → listed (values_listed as_description xs (values_in m xs)) a ≡ Some (given (description a))
   described [] a h = absurd h
-  described (x ∷ xs) a (inl e) = description_step x.constant a (listed_by as_description xs (values_in m xs)) (inl e)
-  described (x ∷ xs) a (inr h) = description_step x.constant a (listed_by as_description xs (values_in m xs)) (inr (described xs a h))
+  described (x ∷ xs) a (inl e) = description_step x.constant a (values_listed as_description xs (values_in m xs)) (inl e)
+  described (x ∷ xs) a (inr h) = description_step x.constant a (values_listed as_description xs (values_in m xs)) (inr (described xs a h))
 
 -- the values of a model are a candidate
 module _ (scope : Scope) (m : Model) (good : IsModel scope m) (s : ℕ) (sized : HasSize s m) where
@@ -163,24 +163,24 @@ module _ (p : PlainProblem) (typed : IsTyped p) (s : ℕ) (pos : 1 ≤ s) (m : M
   scope = scope_of p.declared
 
   abbrev vs : List ℕ
-  vs = values_in m (symbols p)
+  vs = values_in m (model_symbols p)
 
   abbrev n : Model
-  n = model_of s (symbols p) vs
+  n = model_of s (model_symbols p) vs
 
-  candidate : IsCandidate s (symbols p) vs
+  candidate : IsCandidate s (model_symbols p) vs
   candidate = values_candidate scope m good s sized (normal_formulas p)
 
   other : IsModel scope n
   other = candidate_model p s vs pos candidate
 
-  agree : (t : Lambda) → type_of scope [] t ≡ Some formula → Covers (symbols p) t → AgreeOn m n [] [] t
+  agree : (t : Lambda) → type_of scope [] t ≡ Some formula → Covers (model_symbols p) t → AgreeOn m n [] [] t
   agree t h covers = record {
     sizes = sized;
     names = λ k o. let d = named_declared scope [] t formula k h o in let e : 0 + k ≡ k = omega arith in ap m.name_values (sym e) ∙ named_value m 0 scope.names (with_symbols [] (choosing_symbols_of (normal_formulas p))) k d.0 d.1;
     witnesses = λ k o. no_witness t [] formula k h o;
-    choices = λ a o. sym (ap (λ x. unwrap_or x (least_table (size n a))) (chosen m (symbols p) a (covers (choice a) tt o)));
-    descriptions = λ a o. sym (ap (λ x. unwrap_or x (least_table (size n a))) (described m (symbols p) a (covers (description a) tt o)));
+    choices = λ a o. sym (ap (λ x. unwrap_or x (least_table (size n a))) (chosen m (model_symbols p) a (covers (choice a) tt o)));
+    descriptions = λ a o. sym (ap (λ x. unwrap_or x (least_table (size n a))) (described m (model_symbols p) a (covers (description a) tt o)));
     variables = λ k f. refl;
   }
     where
@@ -191,7 +191,7 @@ module _ (p : PlainProblem) (typed : IsTyped p) (s : ℕ) (pos : 1 ≤ s) (m : M
       no_witness (app u v) ctx b k h (inl o) = let d = applies (type_of scope ctx u) (type_of scope ctx v) b h in no_witness u ctx (arrow d.argument b) k d.function_type o
       no_witness (app u v) ctx b k h (inr o) = let d = applies (type_of scope ctx u) (type_of scope ctx v) b h in no_witness v ctx d.argument k d.argument_type o
 
-  same_truth : (t : Lambda) → IsFormula scope t → Covers (symbols p) (normal_form scope [] t) → value scope m [] [] t ≡ value scope n [] [] t
+  same_truth : (t : Lambda) → IsFormula scope t → Covers (model_symbols p) (normal_form scope [] t) → value scope m [] [] t ≡ value scope n [] [] t
   same_truth t h covers =
       let nf = normal_form scope [] t in
       let typed_nf = type_of-canonical scope [] formula nf (canonical-normal_form scope typed.scope [] formula t tt h) in
@@ -200,12 +200,12 @@ module _ (p : PlainProblem) (typed : IsTyped p) (s : ℕ) (pos : 1 ≤ s) (m : M
       ∙ value-normal_form scope typed.scope n other [] [] formula t tt h tt
 
   abbrev Covered : Lambda → Type 0
-  Covered t = Covers (symbols p) (normal_form scope [] t)
+  Covered t = Covers (model_symbols p) (normal_form scope [] t)
 
-  covered : (ts us : List Lambda) → Every (Covers (symbols p)) (map (normal_form scope []) (ts ++ us)) → Every Covered ts × Every Covered us
+  covered : (ts us : List Lambda) → Every (Covers (model_symbols p)) (map (normal_form scope []) (ts ++ us)) → Every Covered ts × Every Covered us
   covered [] us h = (tt, only us h)
     where
-      only : (us : List Lambda) → Every (Covers (symbols p)) (map (normal_form scope []) us) → Every Covered us
+      only : (us : List Lambda) → Every (Covers (model_symbols p)) (map (normal_form scope []) us) → Every Covered us
       only [] h = tt
       only (u ∷ us) h = (h.0, only us h.1)
   covered (t ∷ ts) us h = let r = covered ts us h.1 in ((h.0, r.0), r.1)

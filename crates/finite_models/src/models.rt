@@ -8,13 +8,13 @@ ghost use Rattle.stt_core.specs.ScopeView.{the_scope};
 ghost use Rattle.stt_core.specs.Declarations.{scope_of};
 ghost use Rattle.stt_core.specs.TypedProblem.{IsTyped};
 ghost use Rattle.finite_models.specs.Sizes.{IsSmallType, NamesSmallTypes};
-ghost use Rattle.finite_models.specs.Symbols.{normal_formulas, symbols, EachIsSmall, EachNamesSmallTypes, with_symbols, choosing_symbols_of, symbols_with};
+ghost use Rattle.finite_models.specs.Symbols.{normal_formulas, model_symbols, EachIsSmall, EachNamesSmallTypes, with_symbols, choosing_symbols_of, symbols_with};
 ghost use Rattle.finite_models.specs.ChooserView.{the_chooser};
 ghost use Rattle.finite_models.specs.Internal.Search.{IsAllowed};
 ghost use Rattle.finite_models.specs.Internal.Stands.{frame_scope, IsGround};
 ghost use Rattle.finite_models.specs.Internal.Looking.{EachIsSmallType, IsSizeOf, At, AreSizes, product, IsDomain, AreDomains, AreChecks, CanCompileEach, NonePasses, FirstPasses, IsLooked};
 ghost use Rattle.finite_models.specs.Candidates.{IsLawful};
-ghost use Rattle.finite_models.specs.Small.{IsSmall};
+ghost use Rattle.finite_models.specs.Small.{IsSmallFinding};
 ghost use Rattle.finite_models.specs.Laws.{ShowsModels};
 
 use crate::chooser::{Chooser, Choosers};
@@ -373,7 +373,7 @@ fn look_sized(
     requires formulas { formulas.now ≡ normal_formulas problem.now }
     requires choosers { choosers.now ≡ with_symbols [] (choosing_symbols_of formulas.now) }
     requires named { EachNamesSmallTypes s formulas.now }
-    requires sizes { AreSizes s (symbols problem.now) sizes.now }
+    requires sizes { AreSizes s (model_symbols problem.now) sizes.now }
     ensures { IfOk result (λ looked. IsLooked problem.now s looked) }
 {
     if !are_few(sizes) {
@@ -415,7 +415,7 @@ fn look(
 /// The choices and descriptions among the symbols of a typed problem, in order.
 pub fn choosers_of(alloc: Global, problem: &Problem) -> Result<Choosers, AllocError>
     requires { IsTyped problem.now }
-    ensures { IfOk result (λ cs. symbols_with (scope_of problem.now.declared) cs ≡ symbols problem.now) }
+    ensures { IfOk result (λ cs. symbols_with (scope_of problem.now.declared) cs ≡ model_symbols problem.now) }
 {
     let formulas = formulas_of(alloc, problem)?;
     Ok(Choosers::of(alloc, &formulas)?)
@@ -429,7 +429,7 @@ pub fn search_models(alloc: Global, problem: &Problem, upto: u32) -> Result<Foun
     requires upto_few { upto ≤ 8 }
 
     // The answer of the definition.
-    ensures answer { IfOk result (λ found. IsSmall problem.now upto found) }
+    ensures answer { IfOk result (λ found. IsSmallFinding problem.now upto found) }
 
     // A model that is found is one that meets the problem. Where none is found, no model of these sizes meets it.
     ensures models { IfOk result (λ found. ShowsModels problem.now upto found) }

@@ -2,7 +2,7 @@
 
 ghost use Rattle.std.specs.Prelude.{◌≡◌, ◌<◌, ◌≤◌, ◌^◌, ◌++◌, ◌∷◌, ℕ, List, [], length, slice_index, slice_get, Some, OnOk, OnErr, IsTrue, ◌↔◌, MatchOption, MatchBool, IfOk};
 ghost use Rattle.finite_models.specs.Internal.Worth.{worth, the_values};
-ghost use Rattle.finite_models.specs.Internal.Search.{IsAllowed, AreAllowed, AreFilled, AreFew, AreLeastFrom, PassesAll, AreReady, AllArePassed, FailsWithin, NoListPasses, IsNext, IsFirstPassing, reach_of};
+ghost use Rattle.finite_models.specs.Internal.Search.{IsAllowed, AreAllowed, AreFilled, AreFewValues, AreLeastFrom, PassesAll, AreReady, AllArePassed, FailsWithin, NoListPasses, IsNext, IsFirstPassing, reach_of};
 
 use crate::expr::{Env, Expr, eval};
 use std::alloc::{AllocError, Global};
@@ -94,7 +94,7 @@ fn are_filled(domains: &Domains) -> bool
 /// Sets the values from a place on to the least allowed ones.
 fn reset(domains: &Domains, values: &mut [u32], from: usize)
     requires filled { AreFilled domains.now }
-    requires few { AreFew domains.now }
+    requires few { AreFewValues domains.now }
     requires count { length values.old ≡ length domains.now }
     ensures count { length values.new ≡ length domains.now }
     ensures front { (j : ℕ) → j < from → slice_index values.new j ≡ slice_index values.old j }
@@ -107,7 +107,7 @@ fn reset(domains: &Domains, values: &mut [u32], from: usize)
 
 /// Goes on to the next list of allowed values after all those that are the same as this one up to the reach, or tells that there is none.
 fn advance(domains: &Domains, values: &mut [u32], reach: usize) -> bool
-    requires few { AreFew domains.now }
+    requires few { AreFewValues domains.now }
     requires allowed { AreAllowed domains.now values.old }
     ensures { MatchBool result (IsNext domains.now reach values.old values.new) (AllArePassed domains.now reach values.old) }
 {
@@ -161,7 +161,7 @@ fn failing(checks: &[Check], values: &[u32]) -> Option<usize>
 
 /// Sets the values to the first list of allowed values that passes, or tells that none does.
 fn search_on(domains: &Domains, checks: &[Check], values: &mut [u32]) -> bool
-    requires few { AreFew domains.now }
+    requires few { AreFewValues domains.now }
     requires filled { AreFilled domains.now }
     requires count { length values.old ≡ length domains.now }
     requires ready { (vs : List ℕ) → AreAllowed domains.now vs → AreReady checks.now vs }
@@ -186,7 +186,7 @@ fn first_passing(
     domains: &Domains,
     checks: &[Check],
 ) -> Result<Option<Vec<u32>>, AllocError>
-    requires few { AreFew domains.now }
+    requires few { AreFewValues domains.now }
     requires ready { (vs : List ℕ) → AreAllowed domains.now vs → AreReady checks.now vs }
     ensures { IfOk result (λ o. MatchOption o (NoListPasses domains.now checks.now) (λ v. IsFirstPassing domains.now checks.now v.items)) }
 {
@@ -207,7 +207,7 @@ pub fn first_sorted(
     domains: &Domains,
     checks: Vec<Check>,
 ) -> Result<Option<Vec<u32>>, AllocError>
-    requires few { AreFew domains.now }
+    requires few { AreFewValues domains.now }
     requires ready { (vs : List ℕ) → AreAllowed domains.now vs → AreReady checks.items vs }
     ensures { IfOk result (λ o. MatchOption o (NoListPasses domains.now checks.items) (λ v. IsFirstPassing domains.now checks.items v.items)) }
 {

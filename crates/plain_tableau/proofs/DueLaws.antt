@@ -16,7 +16,7 @@ use Rattle.rebuild_spec.proofs.LiteralLaws.{held_in, contains_held}
 use Rattle.plain_tableau.specs.Trees.{TreeInstance}
 use Rattle.plain_tableau.specs.Expansion.{is_closed_branch, has_all, is_due}
 use Rattle.plain_tableau.specs.declared.due.Due.{Due}
-use Rattle.plain_tableau.specs.Internal.Due.{at_number, is_due_at, is_in, AreDue, IsInside, names, AreNoted, clashes}
+use Rattle.plain_tableau.specs.Internal.Due.{at_number, is_due_at, is_due_place, AreDue, IsInside, names_variable, AreNoted, clashes}
 use Rattle.plain_tableau.proofs.ListLaws.{one_passes}
 use Rattle.plain_tableau.proofs.BranchLaws.{added_holds}
 
@@ -52,7 +52,7 @@ any_push b l (a ∷ as') h =
     ap₂ (λ x y. x || y) (all_push b l a parts.0) (any_push b l as' parts.1)
 
 -- a literal on a variable that doesn't stand in the instance doesn't matter to it
-pub due_push : (b : List SatLit) (l : SatLit) (i : TreeInstance SatLit) → names i l.var ≡ false → is_due numbers (b ++ l ∷ []) i ≡ is_due numbers b i
+pub due_push : (b : List SatLit) (l : SatLit) (i : TreeInstance SatLit) → names_variable i l.var ≡ false → is_due numbers (b ++ l ∷ []) i ≡ is_due numbers b i
 due_push b l i h =
     let parts = or_parts (mentions_variable i.principals l.var) (list_any (λ a. mentions_variable a l.var) i.alternatives) h in
     ap₂ (λ x y. x && not y) (all_push b l i.principals parts.0) (any_push b l i.alternatives parts.1)
@@ -60,24 +60,24 @@ due_push b l i h =
 module _ (t : Table) (used : List ℕ) (noted : List (List ℕ)) (are : AreNoted t used noted) (places : List ℕ) (l : SatLit) (listed : (u : ℕ) → Contains (get_or noted l.var.0 []) u → Contains places u) where
   -- what is known of the branch with the literal, where the instances in which its variable stands were looked at again
   abbrev pub IsRefreshed : List SatLit → Due → Due → Type 0
-  IsRefreshed branch old new = (u k : ℕ) → slice_get used u ≡ Some k → (Contains places u) ⊎ (is_in old u ≡ is_due_at t branch k) → is_in new u ≡ is_due_at t branch k
+  IsRefreshed branch old new = (u k : ℕ) → slice_get used u ≡ Some k → (Contains places u) ⊎ (is_due_place old u ≡ is_due_at t branch k) → is_due_place new u ≡ is_due_at t branch k
 
   pub due_with : (b : List SatLit) (old new : Due) → AreDue t used b old → IsRefreshed (b ++ l ∷ []) old new → AreDue t used (b ++ l ∷ []) new
-  due_with b old new due right u k e = go (names (at_number t k) l.var) refl
+  due_with b old new due right u k e = go (names_variable (at_number t k) l.var) refl
     where
-      go : (x : Bool) → names (at_number t k) l.var ≡ x → is_in new u ≡ is_due_at t (b ++ l ∷ []) k
+      go : (x : Bool) → names_variable (at_number t k) l.var ≡ x → is_due_place new u ≡ is_due_at t (b ++ l ∷ []) k
       go true h = right u k e (inl (listed u (are u k l.var e h)))
       go false h = right u k e (inr (due u k e ∙ sym (due_push b l (at_number t k) h)))
 
   pub due_without : (b : List SatLit) (old new : Due) → AreDue t used (b ++ l ∷ []) old → IsRefreshed b old new → AreDue t used b new
-  due_without b old new due right u k e = go (names (at_number t k) l.var) refl
+  due_without b old new due right u k e = go (names_variable (at_number t k) l.var) refl
     where
-      go : (x : Bool) → names (at_number t k) l.var ≡ x → is_in new u ≡ is_due_at t b k
+      go : (x : Bool) → names_variable (at_number t k) l.var ≡ x → is_due_place new u ≡ is_due_at t b k
       go true h = right u k e (inl (listed u (are u k l.var e h)))
       go false h = right u k e (inr (due u k e ∙ due_push b l (at_number t k) h))
 
 -- the least place that is due is the first one
-pub first_due : (t : Table) (used : List ℕ) (b : List SatLit) (due : Due) → AreDue t used b due → IsInside used due → (u : ℕ) → is_in due u ≡ true → ((v : ℕ) → v < u → is_in due v ≡ false) → (u < length used) × (position_or_len (is_due_at t b) used ≡ u)
+pub first_due : (t : Table) (used : List ℕ) (b : List SatLit) (due : Due) → AreDue t used b due → IsInside used due → (u : ℕ) → is_due_place due u ≡ true → ((v : ℕ) → v < u → is_due_place due v ≡ false) → (u < length used) × (position_or_len (is_due_at t b) used ≡ u)
 first_due t used b due are inside u there least =
     let in_range : u < length used = inside u there in (
       in_range,
@@ -85,7 +85,7 @@ first_due t used b due are inside u there least =
           (λ h. sym (are u (get_or used u 0) (slice_get-get_or used u 0 h)) ∙ there),
     )
 
-pub none_due : (t : Table) (used : List ℕ) (b : List SatLit) (due : Due) → AreDue t used b due → ((v : ℕ) → is_in due v ≡ false) → position_or_len (is_due_at t b) used ≡ length used
+pub none_due : (t : Table) (used : List ℕ) (b : List SatLit) (due : Due) → AreDue t used b due → ((v : ℕ) → is_due_place due v ≡ false) → position_or_len (is_due_at t b) used ≡ length used
 none_due t used b due are none =
     position_or_len_is (is_due_at t b) used (length used) 0 (omega arith) (λ k h. sym (are k (get_or used k 0) (slice_get-get_or used k 0 h)) ∙ none k) (λ h. absurd (omega (arith, h)))
 

@@ -13,7 +13,7 @@ use Rattle.sat_base.specs.declared.literal.SatLit.{SatLit}
 use Rattle.sat_base.specs.Literal.{same_var, mentions_variable}
 use Rattle.tableau_clauses.specs.Table.{Table}
 use Rattle.plain_tableau.specs.declared.due.Due.{Due}
-use Rattle.plain_tableau.specs.Internal.Due.{is_due_at, is_in, IsInside, ArePlacesOfUsed, IsNotedMore}
+use Rattle.plain_tableau.specs.Internal.Due.{is_due_at, is_due_place, IsInside, ArePlacesOfUsed, IsNotedMore}
 
 -- nothing more is listed
 pub nothing_more : (ls : List (List ℕ)) (e : List ℕ) → e ≡ [] → ((v : ℕ) → get_or ls v [] ≡ []) → (v : ℕ) → get_or (ls ++ e ∷ []) v [] ≡ []
@@ -85,16 +85,16 @@ some_mention_more as' i a d h is v e = ap (λ c. list_any (λ c. mentions_variab
 module _ (t : Table) (used : List ℕ) (b : List SatLit) where
   -- what is known of places that were looked at, and of those that were right
   abbrev pub Knows : List ℕ → Due → Due → Type 0
-  Knows places old now = (u k : ℕ) → slice_get used u ≡ Some k → (Contains places u) ⊎ (is_in old u ≡ is_due_at t b k) → is_in now u ≡ is_due_at t b k
+  Knows places old now = (u k : ℕ) → slice_get used u ≡ Some k → (Contains places u) ⊎ (is_due_place old u ≡ is_due_at t b k) → is_due_place now u ≡ is_due_at t b k
 
-  module _ (place : ℕ) (x : Bool) (now new : Due) (looked : x ≡ is_due_at t b (get_or used place 0)) (put : (u : ℕ) → is_in new u ≡ (if nat_eq place u then x else is_in now u)) where
+  module _ (place : ℕ) (x : Bool) (now new : Due) (looked : x ≡ is_due_at t b (get_or used place 0)) (put : (u : ℕ) → is_due_place new u ≡ (if nat_eq place u then x else is_due_place now u)) where
     -- the place itself, and the others
-    put_cases : (P : Bool → Type 0) (u : ℕ) → (place ≡ u → P x) → (place ≢ u → P (is_in now u)) → P (is_in new u)
+    put_cases : (P : Bool → Type 0) (u : ℕ) → (place ≡ u → P x) → (place ≢ u → P (is_due_place now u)) → P (is_due_place new u)
     put_cases P u same other = go (nat_eq place u) refl
       where
-        go : (c : Bool) → nat_eq place u ≡ c → P (is_in new u)
-        go true e = subst P (sym (put u ∙ ap (λ c. if c then x else is_in now u) e)) (same (eqb-true place u e))
-        go false e = subst P (sym (put u ∙ ap (λ c. if c then x else is_in now u) e)) (other (eqb-false place u e))
+        go : (c : Bool) → nat_eq place u ≡ c → P (is_due_place new u)
+        go true e = subst P (sym (put u ∙ ap (λ c. if c then x else is_due_place now u) e)) (same (eqb-true place u e))
+        go false e = subst P (sym (put u ∙ ap (λ c. if c then x else is_due_place now u) e)) (other (eqb-false place u e))
 
     here_right : (u k : ℕ) → slice_get used u ≡ Some k → place ≡ u → x ≡ is_due_at t b k
     here_right u k e same = looked ∙ ap (λ n. is_due_at t b (get_or used n 0)) same ∙ ap (is_due_at t b) (get_or_from_slice_get used u k 0 e)
@@ -110,10 +110,10 @@ module _ (t : Table) (used : List ℕ) (b : List SatLit) where
     pub inside_more : place < length used → IsInside used now → IsInside used new
     inside_more h inside u = put_cases (λ c. c ≡ true → u < length used) u (λ same e. subst (λ n. n < length used) same h) (λ other e. inside u e)
 
-    pub due_more : (n : ℕ) → place ≡ n → ((u k : ℕ) → u < n → slice_get used u ≡ Some k → is_in now u ≡ is_due_at t b k) → (u k : ℕ) → u < n + 1 → slice_get used u ≡ Some k → is_in new u ≡ is_due_at t b k
+    pub due_more : (n : ℕ) → place ≡ n → ((u k : ℕ) → u < n → slice_get used u ≡ Some k → is_due_place now u ≡ is_due_at t b k) → (u k : ℕ) → u < n + 1 → slice_get used u ≡ Some k → is_due_place new u ≡ is_due_at t b k
     due_more n same h u k below e = put_cases (λ c. c ≡ is_due_at t b k) u (here_right u k e) (λ other. h u k (omega (arith, below, same, other)) e)
 
-    pub below_more : (n : ℕ) → place ≡ n → ((u : ℕ) → is_in now u ≡ true → u < n) → (u : ℕ) → is_in new u ≡ true → u < n + 1
+    pub below_more : (n : ℕ) → place ≡ n → ((u : ℕ) → is_due_place now u ≡ true → u < n) → (u : ℕ) → is_due_place new u ≡ true → u < n + 1
     below_more n same h u = put_cases (λ c. c ≡ true → u < n + 1) u (λ here e. omega (arith, here, same)) (λ other e. omega (arith, h u e))
 
 -- the places of one list are places

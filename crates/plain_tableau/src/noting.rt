@@ -3,7 +3,7 @@ ghost use Rattle.std.specs.Prelude.{◌≡◌, ◌<◌, ◌⊎◌, ℕ, true, []
 ghost use Rattle.std.specs.List.{All, list_any};
 ghost use Rattle.sat_base.specs.declared.literal.Var.{Var};
 ghost use Rattle.sat_base.specs.Literal.{mentions_variable, IsOver};
-ghost use Rattle.plain_tableau.specs.Internal.Due.{names, without_rule, IsNotedMore};
+ghost use Rattle.plain_tableau.specs.Internal.Due.{names_variable, without_rule, IsNotedMore};
 
 use crate::places::Places;
 use literal_map::{Instance, LitList};
@@ -52,7 +52,7 @@ pub(crate) fn note(
 ) -> Result<(), AllocError>
     requires principals { IsOver (length noted.old.items) instance.now.principals }
     requires alternatives { All (IsOver (length noted.old.items)) instance.now.alternatives }
-    ensures { OnOk result (IsNotedMore (names (without_rule (Some instance.now))) place noted.old.items noted.new.items) }
+    ensures { OnOk result (IsNotedMore (names_variable (without_rule (Some instance.now))) place noted.old.items noted.new.items) }
 {
     note_literals(noted, instance.principals.as_slice(), place)?;
     note_lists(noted, instance.alternatives.as_slice(), place)?;

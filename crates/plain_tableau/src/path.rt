@@ -7,7 +7,7 @@ ghost use Rattle.tableau_calculus.specs.Kinds.{added};
 ghost use Rattle.search_spec.specs.Numbered.{numbers};
 ghost use Rattle.tableau_clauses.specs.Table.{the_instances};
 ghost use Rattle.plain_tableau.specs.Expansion.{has_all, first_clash};
-ghost use Rattle.plain_tableau.specs.Internal.Due.{is_due_at, is_in, clashes, AreDue, IsInside, AreNoted, ArePlacesOfUsed, AreLiteralsOver, IsPath};
+ghost use Rattle.plain_tableau.specs.Internal.Due.{is_due_at, is_due_place, clashes, AreDue, IsInside, AreNoted, ArePlacesOfUsed, AreLiteralsOver, IsPath};
 
 use crate::due::Due;
 use crate::noting::{no_places, note};
@@ -62,7 +62,7 @@ fn refresh(
 ) -> Result<(), AllocError>
     requires within { All (λ k. k < length (the_instances steps.now)) used.now }
     requires places { All (λ u. u < length used.now) places.now }
-    ensures right { OnOk result ((u k : ℕ) → slice_get used.now u ≡ Some k → (Contains places.now u) ⊎ (is_in due.old u ≡ is_due_at steps.now branch.now.keys k) → is_in due.new u ≡ is_due_at steps.now branch.now.keys k) }
+    ensures right { OnOk result ((u k : ℕ) → slice_get used.now u ≡ Some k → (Contains places.now u) ⊎ (is_due_place due.old u ≡ is_due_at steps.now branch.now.keys k) → is_due_place due.new u ≡ is_due_at steps.now branch.now.keys k) }
     ensures inside { OnOk result (IsInside used.now due.old → IsInside used.now due.new) }
 {
     for i in 0..places.len() {
@@ -92,7 +92,7 @@ fn note_all(
     requires within { All (λ k. k < length (the_instances steps.now)) used.now }
     requires over { All (AreLiteralsOver (length noted.old.items) steps.now) used.now }
     requires none { (v : ℕ) → slice_index_or noted.old.items v [] ≡ [] }
-    requires nothing { (u : ℕ) → is_in due.old u ≡ false }
+    requires nothing { (u : ℕ) → is_due_place due.old u ≡ false }
     ensures count { OnOk result (length noted.new.items ≡ length noted.old.items) }
     ensures noted { OnOk result (AreNoted steps.now used.now noted.new.items) }
     ensures places { OnOk result (ArePlacesOfUsed used.now noted.new.items) }

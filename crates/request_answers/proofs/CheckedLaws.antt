@@ -22,7 +22,7 @@ use Rattle.cli_words.specs.declared.Cuts.TheVariants.{Allowed, Forbidden}
 use Rattle.szs_report.specs.declared.answer.Answer.{Answer}
 use Rattle.szs_report.specs.declared.answer.Answer.TheVariants.{Accepted, Refused, Memory}
 use Rattle.request_answers.specs.Internal.Unread.{verdict_of}
-use Rattle.request_answers.specs.Checked.{Accepts, Refuses, IsAcceptedText, FailsFirst, IsRefusedText, AnswersBytes}
+use Rattle.request_answers.specs.Checked.{Accepts, FailsCheck, IsAcceptedText, FailsFirst, IsRefusedText, AnswersBytes}
 use Rattle.request_answers.specs.Internal.RefusedTexts.{unread_answer, failed_answer}
 
 -- the answer where a text isn't read
@@ -33,16 +33,16 @@ unread_answers cuts p bytes (NoEnd line) h = record { reading = no_end line; rea
 unread_answers cuts p bytes unread.Memory h = tt
 
 -- the answer where what is read isn't accepted
-pub failed_answers : (cuts : Cuts) (p : PlainProblem) (bytes : List ℕ) (r : RefutationTree) (first : ℕ) (refused : CheckRefused) → ReadsText (lines_of bytes) (read r first) → IfLine refused (Refuses cuts p r first) → AnswersBytes cuts p bytes (failed_answer refused)
+pub failed_answers : (cuts : Cuts) (p : PlainProblem) (bytes : List ℕ) (r : RefutationTree) (first : ℕ) (refused : CheckRefused) → ReadsText (lines_of bytes) (read r first) → IfLine refused (FailsCheck cuts p r first) → AnswersBytes cuts p bytes (failed_answer refused)
 failed_answers cuts p bytes r first (Line line why) reads h = record { reading = read r first; reads = reads; fails = h }
 failed_answers cuts p bytes r first failed.Memory reads h = tt
 
 -- a check refuses nothing that it accepts, and refuses at one line, for one cause
-refuses_not_accepts : (cuts : Cuts) (p : PlainProblem) (r : RefutationTree) (first line : ℕ) (why : Why) → Refuses cuts p r first line why → Accepts cuts p r → ⊥
+refuses_not_accepts : (cuts : Cuts) (p : PlainProblem) (r : RefutationTree) (first line : ℕ) (why : Why) → FailsCheck cuts p r first line why → Accepts cuts p r → ⊥
 refuses_not_accepts Allowed p r first line why f a = fails_not_accepted p r first line why f a
 refuses_not_accepts Forbidden p r first line why f a = fails_not_strictly p r first line why f a
 
-refuses_once : (cuts : Cuts) (p : PlainProblem) (r : RefutationTree) (first line other : ℕ) (why cause : Why) → Refuses cuts p r first line why → Refuses cuts p r first other cause → (line ≡ other) × (why ≡ cause)
+refuses_once : (cuts : Cuts) (p : PlainProblem) (r : RefutationTree) (first line other : ℕ) (why cause : Why) → FailsCheck cuts p r first line why → FailsCheck cuts p r first other cause → (line ≡ other) × (why ≡ cause)
 refuses_once Allowed p r first line other why cause f g = one_text_failure p r first line other why cause f g
 refuses_once Forbidden p r first line other why cause f g = one_strict_text_failure p r first line other why cause f g
 

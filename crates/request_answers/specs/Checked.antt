@@ -26,9 +26,9 @@ Accepts Allowed p t = IsAcceptedFor p t
 Accepts Forbidden p t = IsStrictlyAcceptedFor p t
 
 -- the refutation, of which the first row or line is line `first`, fails first at this line in such a check, and why
-abbrev pub Refuses : Cuts → PlainProblem → RefutationTree → ℕ → ℕ → Why → Type 0
-Refuses Allowed p t first line why = TextFailsAt p t first line why
-Refuses Forbidden p t first line why = TextFailsStrictlyAt p t first line why
+abbrev pub FailsCheck : Cuts → PlainProblem → RefutationTree → ℕ → ℕ → Why → Type 0
+FailsCheck Allowed p t first line why = TextFailsAt p t first line why
+FailsCheck Forbidden p t first line why = TextFailsStrictlyAt p t first line why
 
 -- The bytes hold the text of a refutation that is accepted for the problem.
 pub record IsAcceptedText (cuts : Cuts) (p : PlainProblem) (bytes : List ℕ) : Type 0 where
@@ -39,7 +39,7 @@ pub record IsAcceptedText (cuts : Cuts) (p : PlainProblem) (bytes : List ℕ) : 
 
 -- what is read fails first at this line, and why: its form is wrong there, or the text isn't right there
 abbrev pub FailsFirst : Cuts → PlainProblem → TextReading → ℕ → Why → Type 0
-FailsFirst cuts p (read r first) line why = Refuses cuts p r first line why
+FailsFirst cuts p (read r first) line why = FailsCheck cuts p r first line why
 FailsFirst cuts p (bad_line at) line why = (line ≡ at) × (why ≡ Form)
 FailsFirst cuts p (no_start at) line why = (line ≡ at) × (why ≡ Start)
 FailsFirst cuts p (no_end at) line why = (line ≡ at) × (why ≡ End)

@@ -2,8 +2,8 @@
 use Rattle.std.specs.Prelude.{◌≡◌, ℕ, List, Some, None}
 use Rattle.stt_core.specs.Lambda.{Lambda}
 use Rattle.stt_core.specs.PlainProblem.{PlainProblem}
-use Rattle.finite_models.specs.Symbols.{symbols}
-use Rattle.finite_models.specs.Small.{IsSmall}
+use Rattle.finite_models.specs.Symbols.{model_symbols}
+use Rattle.finite_models.specs.Small.{IsSmallFinding}
 use Rattle.finite_models.specs.Laws.{ShowsModels}
 use Rattle.finite_models.specs.declared.found.Found.{Found}
 use Rattle.finite_models.specs.declared.found.Found.TheVariants as found
@@ -14,14 +14,14 @@ use Rattle.request_answers.specs.Names.{names_in}
 
 -- this is found within the bound, and shows what it is to show of models
 pub record IsFoundWithin (upto : ℕ) (p : PlainProblem) (f : Found) : Type 0 where
-  pub small : IsSmall p upto f
+  pub small : IsSmallFinding p upto f
   pub shows : ShowsModels p upto f
 
 -- a model of this size is found, and its values are written in these lines
 pub record IsModelFound (upto : ℕ) (p : PlainProblem) (size : ℕ) (lines : List ℕ) : Type 0 where
   pub values : List ℕ
   pub found : IsFoundWithin upto p (found.Model size values)
-  pub lines_are : lines ≡ model_text (names_in p) (symbols p) values
+  pub lines_are : lines ≡ model_text (names_in p) (model_symbols p) values
 
 -- what is found within the bound; memory may run out
 abbrev pub AnswersModels : ℕ → PlainProblem → Answer → Type 0

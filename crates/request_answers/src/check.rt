@@ -5,7 +5,7 @@ ghost use Rattle.stt_core.specs.TypedProblem.{IsTyped};
 ghost use Rattle.outside.specs.Causes.{Rose};
 ghost use Rattle.refute_print.specs.TextView.{the_text, IsNumberedText};
 ghost use Rattle.refute_check.specs.Refusal.{IfLine};
-ghost use Rattle.request_answers.specs.Checked.{Accepts, Refuses, AnswersBytes, AnswersText};
+ghost use Rattle.request_answers.specs.Checked.{Accepts, FailsCheck, AnswersBytes, AnswersText};
 ghost use Rattle.request_answers.specs.Internal.RefusedTexts.{unread_answer, failed_answer};
 ghost use Rattle.request_answers.specs.Internal.ReadFaults.{IsNoReadFault};
 ghost use Rattle.szs_report.specs.declared.answer.NamedFile.TheVariants.{Check};
@@ -63,7 +63,7 @@ fn check_by(
     requires numbered { IsNumberedText text.now }
     requires lines { text.now.first + length text.now.witnesses + length text.now.lines < 2 ^ 64 }
     ensures accepted { OnOk result (Accepts cuts problem.now (the_text text.now)) }
-    ensures refused { IfErr result (λ e. IfLine e (Refuses cuts problem.now (the_text text.now) text.now.first)) }
+    ensures refused { IfErr result (λ e. IfLine e (FailsCheck cuts problem.now (the_text text.now) text.now.first)) }
 {
     match cuts {
         Cuts::Allowed => check_refutation(alloc, problem, text),

@@ -2,7 +2,7 @@
 
 ghost use Rattle.std.specs.Prelude.{◌≡◌, ◌<◌, ◌≤◌, ℕ, List, length, IfOk};
 ghost use Rattle.stt_core.specs.TypedProblem.{IsTyped};
-ghost use Rattle.finite_models.specs.Symbols.{symbols};
+ghost use Rattle.finite_models.specs.Symbols.{model_symbols};
 ghost use Rattle.finite_models.specs.declared.found.Found.TheVariants as found;
 ghost use Rattle.szs_report.specs.ModelText.{model_text};
 ghost use Rattle.request_answers.specs.Names.{names_in};
@@ -17,8 +17,8 @@ use szs_report::{Answer, model_text};
 /// The lines of the values of a problem's symbols.
 fn lines_of(alloc: Global, problem: &Problem, values: &Values) -> Result<Bytes, AllocError>
     requires typed { IsTyped problem.now }
-    requires whole { length values.now ≡ length (symbols problem.now) }
-    ensures { IfOk result (λ lines. lines ≡ model_text (names_in problem.now) (symbols problem.now) values.now) }
+    requires whole { length values.now ≡ length (model_symbols problem.now) }
+    ensures { IfOk result (λ lines. lines ≡ model_text (names_in problem.now) (model_symbols problem.now) values.now) }
 {
     let choosers = choosers_of(alloc, problem)?;
     Ok(model_text(alloc, &problem.signature, &choosers, values)?)

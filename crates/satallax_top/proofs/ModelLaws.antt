@@ -3,7 +3,7 @@ use Rattle.std.proofs.Common.{◌≡◌, ℕ, Bool, List, ◌++◌, Option, Some
 use Rattle.stt_core.specs.PlainProblem.{PlainProblem}
 use Rattle.mode_file.specs.declared.Mode.{Mode}
 use Rattle.cli_words.specs.Requests.{Request, prove, refutation, generated, models, sides, asked_by}
-use Rattle.finite_models.specs.Symbols.{symbols}
+use Rattle.finite_models.specs.Symbols.{model_symbols}
 use Rattle.finite_models.specs.Candidates.{model_of}
 use Rattle.szs_report.specs.Outcomes.{outcome_of}
 use Rattle.szs_report.specs.Report.{report_of}
@@ -68,8 +68,8 @@ of_models_problem R told contents r m p a s h k = absurd s
 
 -- what is answered holds
 said_of_models : (upto : ℕ) (p : PlainProblem) (a : Answer) → IsOfModels (outcome_of a) → AnswersModels upto p a → SaysOfModels (outcome_of a) upto p
-said_of_models upto p (CounterSatisfiable n lines) s h = let f = h.1 in let shown = f.found.shows in (h.0, (model_of n (symbols p) f.values, shown.0, shown.1, shown.2))
-said_of_models upto p (Satisfiable n lines) s h = let f = h.1 in let shown = f.found.shows in (h.0, (model_of n (symbols p) f.values, shown.0, shown.1, shown.2))
+said_of_models upto p (CounterSatisfiable n lines) s h = let f = h.1 in let shown = f.found.shows in (h.0, (model_of n (model_symbols p) f.values, shown.0, shown.1, shown.2))
+said_of_models upto p (Satisfiable n lines) s h = let f = h.1 in let shown = f.found.shows in (h.0, (model_of n (model_symbols p) f.values, shown.0, shown.1, shown.2))
 said_of_models upto p (NoneSmall n) s h = (h.0, h.1.shows)
 said_of_models upto p (ModelsTooMany n) s h = (h.small, h.shows)
 said_of_models upto p (Proved Theorem n tree text) s h = absurd s
@@ -101,15 +101,15 @@ record IsModelAnswer (upto : ℕ) (p : PlainProblem) (a : Answer) : Type 0 where
   size : ℕ
   lines : List ℕ
   found : IsModelFound upto p size lines
-  is : a ≡ model_answer_by p.conjecture size (model_text (names_in p) (symbols p) found.values)
+  is : a ≡ model_answer_by p.conjecture size (model_text (names_in p) (model_symbols p) found.values)
 
 model_form : (upto : ℕ) (p : PlainProblem) (a : Answer) → IsModelOutcome (outcome_of a) → AnswersModels upto p a → IsModelAnswer upto p a
 model_form upto p (CounterSatisfiable n lines) s h =
     let f = h.1 in
-    record { size = n; lines = lines; found = f; is = ap (CounterSatisfiable n) f.lines_are ∙ ap (λ o. model_answer_by o n (model_text (names_in p) (symbols p) f.values)) (sym h.0.1) }
+    record { size = n; lines = lines; found = f; is = ap (CounterSatisfiable n) f.lines_are ∙ ap (λ o. model_answer_by o n (model_text (names_in p) (model_symbols p) f.values)) (sym h.0.1) }
 model_form upto p (Satisfiable n lines) s h =
     let f = h.1 in
-    record { size = n; lines = lines; found = f; is = ap (Satisfiable n) f.lines_are ∙ ap (λ o. model_answer_by o n (model_text (names_in p) (symbols p) f.values)) (sym h.0) }
+    record { size = n; lines = lines; found = f; is = ap (Satisfiable n) f.lines_are ∙ ap (λ o. model_answer_by o n (model_text (names_in p) (model_symbols p) f.values)) (sym h.0) }
 model_form upto p (Proved Theorem n tree text) s h = absurd s
 model_form upto p (Proved Unsatisfiable n tree text) s h = absurd s
 model_form upto p a s h = absurd s

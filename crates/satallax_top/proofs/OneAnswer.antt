@@ -27,8 +27,8 @@ use Rattle.conv_laws.specs.Sides.{AreSidesOf}
 use Rattle.conv_laws.specs.declared.sides.Sides.{Sides}
 use Rattle.conv_laws.specs.declared.sides.Sides.TheVariants as compared
 use Rattle.conv_laws.proofs.SideLaws.{one_said}
-use Rattle.finite_models.specs.Symbols.{symbols}
-use Rattle.finite_models.specs.Small.{IsSmall}
+use Rattle.finite_models.specs.Symbols.{model_symbols}
+use Rattle.finite_models.specs.Small.{IsSmallFinding}
 use Rattle.finite_models.specs.declared.found.Found.{Found}
 use Rattle.finite_models.specs.declared.found.Found.TheVariants as found
 use Rattle.finite_models.proofs.OneAnswer.{one_answer as one_finding}
@@ -110,23 +110,23 @@ compared_same p a b h k = h.is ∙ ap compared_answer (one_said p h.said k.said 
 
 -- what a search for models is answered with
 abbrev finding_answer : ℕ → PlainProblem → Found → Answer
-finding_answer upto p (found.Model s values) = model_answer_by p.conjecture s (model_text (names_in p) (symbols p) values)
+finding_answer upto p (found.Model s values) = model_answer_by p.conjecture s (model_text (names_in p) (model_symbols p) values)
 finding_answer upto p (found.TooMany s) = ModelsTooMany s
 finding_answer upto p found.None = NoneSmall upto
 
 record IsFinding (upto : ℕ) (p : PlainProblem) (a : Answer) : Type 0 where
   what : Found
-  small : IsSmall p upto what
+  small : IsSmallFinding p upto what
   is : a ≡ finding_answer upto p what
 
 finding_of : (upto : ℕ) (p : PlainProblem) (a : Answer) → IsSettled a → AnswersModels upto p a → IsFinding upto p a
 finding_of upto p Memory w h = absurd w
 finding_of upto p (CounterSatisfiable n lines) w h =
     let f = h.1 in
-    record { what = found.Model n f.values; small = f.found.small; is = ap (CounterSatisfiable n) f.lines_are ∙ ap (λ o. model_answer_by o n (model_text (names_in p) (symbols p) f.values)) (sym h.0.1) }
+    record { what = found.Model n f.values; small = f.found.small; is = ap (CounterSatisfiable n) f.lines_are ∙ ap (λ o. model_answer_by o n (model_text (names_in p) (model_symbols p) f.values)) (sym h.0.1) }
 finding_of upto p (Satisfiable n lines) w h =
     let f = h.1 in
-    record { what = found.Model n f.values; small = f.found.small; is = ap (Satisfiable n) f.lines_are ∙ ap (λ o. model_answer_by o n (model_text (names_in p) (symbols p) f.values)) (sym h.0) }
+    record { what = found.Model n f.values; small = f.found.small; is = ap (Satisfiable n) f.lines_are ∙ ap (λ o. model_answer_by o n (model_text (names_in p) (model_symbols p) f.values)) (sym h.0) }
 finding_of upto p (NoneSmall n) w h = record { what = found.None; small = h.1.small; is = ap NoneSmall h.0 }
 finding_of upto p (ModelsTooMany n) w h = record { what = found.TooMany n; small = h.small; is = refl }
 finding_of upto p a w h = absurd h

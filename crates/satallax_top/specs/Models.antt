@@ -6,9 +6,9 @@ use Rattle.stt_core.specs.Meets.{MeetsProblem}
 use Rattle.stt_core.specs.PlainProblem.{PlainProblem}
 use Rattle.stt_core.specs.Declarations.{scope_of}
 use Rattle.cli_words.specs.Requests.{models, asked_by}
-use Rattle.finite_models.specs.Symbols.{symbols}
+use Rattle.finite_models.specs.Symbols.{model_symbols}
 use Rattle.finite_models.specs.Candidates.{model_of}
-use Rattle.finite_models.specs.Small.{IsSmall}
+use Rattle.finite_models.specs.Small.{IsSmallFinding}
 use Rattle.finite_models.specs.Laws.{HasSize, NoModelHasSize}
 use Rattle.finite_models.specs.declared.found.Found.TheVariants as found
 use Rattle.szs_report.specs.Outcomes.{outcome_of}
@@ -48,7 +48,7 @@ abbrev pub SaysOfModels : Outcome → ℕ → PlainProblem → Type 0
 SaysOfModels (CounterSatisfiable s) upto p = ((t : Lambda) × (p.conjecture ≡ Some t)) × HasModelOfSize p s
 SaysOfModels (Satisfiable s) upto p = (p.conjecture ≡ None) × HasModelOfSize p s
 SaysOfModels (NoneSmall k) upto p = (k ≡ upto) × ((n : ℕ) → 1 ≤ n → n ≤ upto → NoModelHasSize p n)
-SaysOfModels (ModelsTooMany s) upto p = IsSmall p upto (found.TooMany s) × ((n : ℕ) → 1 ≤ n → n < s → NoModelHasSize p n)
+SaysOfModels (ModelsTooMany s) upto p = IsSmallFinding p upto (found.TooMany s) × ((n : ℕ) → 1 ≤ n → n < s → NoModelHasSize p n)
 SaysOfModels outcome upto p = ⊥
 
 -- The words ask for models within a bound, and what the outcome says holds of the problem that the files state.
@@ -66,7 +66,7 @@ abbrev pub model_answer_by : Option Lambda → ℕ → List ℕ → Answer
 model_answer_by None s lines = answer.Satisfiable s lines
 model_answer_by (Some t) s lines = answer.CounterSatisfiable s lines
 
--- What is written where a model is reported: the values of the problem's symbols in a model of this size that meets the problem that the
+-- What is written where a model is reported: the values of the problem's model_symbols in a model of this size that meets the problem that the
 -- files state.
 pub record IsModelReport (words : List (List ℕ)) (told : Bool) (contents : List ℕ → Option (List ℕ)) (outcome : Outcome) (written : List ℕ) : Type 0 where
   pub names : List (List ℕ)
@@ -74,8 +74,8 @@ pub record IsModelReport (words : List (List ℕ)) (told : Bool) (contents : Lis
   pub stated : StatesProblem words told contents names problem
   pub size : ℕ
   pub values : List ℕ
-  pub is_model : IsModel (scope_of problem.declared) (model_of size (symbols problem) values)
-  pub has_size : HasSize size (model_of size (symbols problem) values)
-  pub meets : MeetsProblem problem (model_of size (symbols problem) values)
-  pub is_outcome : outcome ≡ outcome_of (model_answer_by problem.conjecture size (model_text (names_in problem) (symbols problem) values))
-  pub is_report : written ≡ report_of (asked_name words) (model_answer_by problem.conjecture size (model_text (names_in problem) (symbols problem) values))
+  pub is_model : IsModel (scope_of problem.declared) (model_of size (model_symbols problem) values)
+  pub has_size : HasSize size (model_of size (model_symbols problem) values)
+  pub meets : MeetsProblem problem (model_of size (model_symbols problem) values)
+  pub is_outcome : outcome ≡ outcome_of (model_answer_by problem.conjecture size (model_text (names_in problem) (model_symbols problem) values))
+  pub is_report : written ≡ report_of (asked_name words) (model_answer_by problem.conjecture size (model_text (names_in problem) (model_symbols problem) values))

@@ -7,9 +7,9 @@ use Rattle.stt_core.specs.PlainProblem.{PlainProblem}
 use Rattle.finite_models.specs.Sizes.{size_in, IsSmallType}
 use Rattle.finite_models.specs.Symbols.{Symbol, FitsSize, symbols_with}
 use Rattle.finite_models.specs.Candidates.{IsLawful}
-use Rattle.finite_models.specs.Small.{NoneMeets, IsFirst}
+use Rattle.finite_models.specs.Small.{NoneMeets, IsFirstCandidate}
 use Rattle.finite_models.specs.Internal.Search.{IsAllowed, AreAllowed, PassesAll, IsFirstPassing, reach_of}
-use Rattle.finite_models.specs.Internal.Stands.{CanCompile, Stands}
+use Rattle.finite_models.specs.Internal.Stands.{CanCompile, StandsForTerm}
 use Rattle.finite_models.specs.declared.search.Check.{Check}
 use Rattle.finite_models.specs.declared.models.Looked.{Looked}
 use Rattle.finite_models.specs.declared.models.Looked.TheVariants as looked
@@ -49,7 +49,7 @@ pub record AreDomains (s : ℕ) (xs : List Symbol) (ds : List (List Bool)) : Typ
 
 -- the check is that of a formula at this place, which is assumed or the conjecture
 pub record IsCheck (scope : Scope) (s : ℕ) (ys : List Symbol) (assumed i : ℕ) (t : Lambda) (c : Check) : Type 0 where
-  pub stands : Stands scope s ys [] t c.expr
+  pub stands : StandsForTerm scope s ys [] t c.expr
   pub wanted : c.wanted ≡ (if nat_lt i assumed then 1 else 0)
   pub reach : c.reach ≡ reach_of c.expr
 
@@ -80,5 +80,5 @@ pub record FirstPasses (scope : Scope) (s : ℕ) (ys : List Symbol) (assumed : �
 -- what is found at one size
 abbrev pub IsLooked : PlainProblem → ℕ → Looked → Type 0
 IsLooked p s looked.TooMany = FitsSize p s → ⊥
-IsLooked p s (looked.Model v) = FitsSize p s × IsFirst p s v.items
+IsLooked p s (looked.Model v) = FitsSize p s × IsFirstCandidate p s v.items
 IsLooked p s looked.None = FitsSize p s × NoneMeets p s

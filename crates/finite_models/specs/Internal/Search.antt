@@ -19,8 +19,8 @@ abbrev pub AreFilled : List (List Bool) → Type 0
 AreFilled ds = (i : ℕ) (d : List Bool) → slice_get ds i ≡ Some d → (v : ℕ) × IsAllowed d v
 
 -- each place has few values
-abbrev pub AreFew : List (List Bool) → Type 0
-AreFew ds = (i : ℕ) (d : List Bool) → slice_get ds i ≡ Some d → length d ≤ 1048576
+abbrev pub AreFewValues : List (List Bool) → Type 0
+AreFewValues ds = (i : ℕ) (d : List Bool) → slice_get ds i ≡ Some d → length d ≤ 1048576
 
 -- the same first values
 abbrev pub SameFront : ℕ → List ℕ → List ℕ → Type 0

@@ -69,7 +69,7 @@ pub record CanCompileSpine (scope : Scope) (s : ℕ) (ys : List Symbol) (ctx : L
   pub chooses : Chooses ys t
 
 -- The expression stands for the term: it can be evaluated, and it is worth the term's value in the model of each candidate.
-pub record Stands (scope : Scope) (s : ℕ) (ys : List Symbol) (ctx : List SimpleType) (t : Lambda) (e : Expr) : Type 0 where
+pub record StandsForTerm (scope : Scope) (s : ℕ) (ys : List Symbol) (ctx : List SimpleType) (t : Lambda) (e : Expr) : Type 0 where
   pub safe : (vs env : List ℕ) → IsCandidate s (symbols_with scope ys) vs → Fits (model_of s (symbols_with scope ys) vs) ctx env → IsSafe e vs env
   pub is : (vs env : List ℕ) → IsCandidate s (symbols_with scope ys) vs → Fits (model_of s (symbols_with scope ys) vs) ctx env → worth e vs env ≡ value scope (model_of s (symbols_with scope ys) vs) ctx env t
 
@@ -78,7 +78,7 @@ pub record HasCompiled (scope : Scope) (s : ℕ) (ys : List Symbol) (ctx : List 
   pub within : i ≤ length us
   pub neutral : IsNeutral scope ctx a (applied h (take i us))
   pub small : IsSmallType s a
-  pub stands : Stands scope s ys ctx (applied h (take i us)) e
+  pub stands : StandsForTerm scope s ys ctx (applied h (take i us)) e
 
 -- the head is a variable, a declared constant, or a choice or a description among the symbols
 abbrev pub IsLeafIn : Scope → List Symbol → Lambda → Type 0
@@ -113,7 +113,7 @@ abbrev pub CanCompileSpineIn : Frame → List SimpleType → Lambda → Type 0
 CanCompileSpineIn f ctx t = CanCompileSpine (frame_scope f) f.size f.choosers.now ctx t
 
 abbrev pub StandsIn : Frame → List SimpleType → Lambda → Expr → Type 0
-StandsIn f ctx t e = Stands (frame_scope f) f.size f.choosers.now ctx t e
+StandsIn f ctx t e = StandsForTerm (frame_scope f) f.size f.choosers.now ctx t e
 
 abbrev pub HasCompiledIn : Frame → List SimpleType → SimpleType → Lambda → List Lambda → ℕ → Expr → Type 0
 HasCompiledIn f ctx a h us i e = HasCompiled (frame_scope f) f.size f.choosers.now ctx a h us i e

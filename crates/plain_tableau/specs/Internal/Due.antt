@@ -27,24 +27,24 @@ abbrev pub is_due_at : Table → List SatLit → ℕ → Bool
 is_due_at t branch k = is_due numbers branch (at_number t k)
 
 -- whether the place is one of those that are due
-abbrev pub is_in : Due → ℕ → Bool
-is_in due u = contains nat_cmp due.places u
+abbrev pub is_due_place : Due → ℕ → Bool
+is_due_place due u = contains nat_cmp due.places u
 
 -- the places that are due are those of the instances that are due on the branch
 abbrev pub AreDue : Table → List ℕ → List SatLit → Due → Type 0
-AreDue t used branch due = (u k : ℕ) → slice_get used u ≡ Some k → is_in due u ≡ is_due_at t branch k
+AreDue t used branch due = (u k : ℕ) → slice_get used u ≡ Some k → is_due_place due u ≡ is_due_at t branch k
 
 -- no further place is due
 abbrev pub IsInside : List ℕ → Due → Type 0
-IsInside used due = (u : ℕ) → is_in due u ≡ true → u < length used
+IsInside used due = (u : ℕ) → is_due_place due u ≡ true → u < length used
 
 -- whether the variable stands in the instance
-abbrev pub names : TreeInstance SatLit → Var → Bool
-names i v = mentions_variable i.principals v || list_any (λ a. mentions_variable a v) i.alternatives
+abbrev pub names_variable : TreeInstance SatLit → Var → Bool
+names_variable i v = mentions_variable i.principals v || list_any (λ a. mentions_variable a v) i.alternatives
 
 -- for each variable, the places of the instances in which it stands are listed
 abbrev pub AreNoted : Table → List ℕ → List (List ℕ) → Type 0
-AreNoted t used noted = (u k : ℕ) (v : Var) → slice_get used u ≡ Some k → names (at_number t k) v ≡ true → Contains (slice_index_or noted v.0 []) u
+AreNoted t used noted = (u k : ℕ) (v : Var) → slice_get used u ≡ Some k → names_variable (at_number t k) v ≡ true → Contains (slice_index_or noted v.0 []) u
 
 -- only places of instances are listed
 abbrev pub ArePlacesOfUsed : List ℕ → List (List ℕ) → Type 0

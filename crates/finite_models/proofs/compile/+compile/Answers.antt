@@ -10,7 +10,7 @@ use Rattle.stt_core.proofs.ListLaws.{drop_got}
 use Rattle.stt_core.proofs.SizeLaws.{node_count-at, node_count-spine}
 use Rattle.finite_models.specs.Sizes.{size_in}
 use Rattle.finite_models.specs.Internal.Worth.{worth, IsSafe, all_one}
-use Rattle.finite_models.specs.Internal.Stands.{frame_scope, CanCompile, CanCompileSpine, HasCompiled, Stands, IsLeafIn}
+use Rattle.finite_models.specs.Internal.Stands.{frame_scope, CanCompile, CanCompileSpine, HasCompiled, StandsForTerm, IsLeafIn}
 use Rattle.finite_models.proofs.CompileLaws.{starts, leaf_typed, argument_in, goes_on_from, not_base_within, truth_spine, truth_whole, negation_can, negation_stands, implication_can, implication_stands, equation_can, equation_stands, all_can, all_small, every_spine, every_stands, falsity_stands, leaf_in, no_witness_head, spine_in, spine_whole, under, no_function_within, function_stands, spine_not_lam}
 use Rattle.finite_models.specs.declared.expr.Expr.TheVariants as expr
 use Rattle.finite_models.proofs.compile.+compile.Goals as goal
@@ -314,7 +314,7 @@ compile_spine-returns-in-False t c =
     let ys = c.args.frame.now.choosers.now in
     let ctx = the_context c.args.ctx.now in
     let e = ap the_head c.in-False.is in
-    subst (λ h. Stands scope c.args.frame.now.size c.args.frame.now.choosers.now ctx (applied h c.args.args.now) expr.False) (sym e)
+    subst (λ h. StandsForTerm scope c.args.frame.now.size c.args.frame.now.choosers.now ctx (applied h c.args.args.now) expr.False) (sym e)
     (falsity_stands scope s ys c.requires.ground ctx c.args.args.now expr.False (subst (λ h. CanCompileSpine scope c.args.frame.now.size c.args.frame.now.choosers.now ctx (applied h c.args.args.now)) e c.requires.spine) (λ vs env. refl) (λ vs env. tt {0}))
 
 pub compile_spine-unreachable-requires : goal.compile_spine-unreachable-requires

@@ -3,7 +3,7 @@ use Rattle.std.specs.Prelude.{option_to_list}
 use Rattle.stt_core.specs.View.{the_head}
 use Rattle.stt_core.proofs.HeadLaws.{atom_head}
 use Rattle.finite_models.specs.ChooserView.{the_chooser}
-use Rattle.finite_models.specs.Internal.Stands.{frame_scope, IsLeafIn, Stands}
+use Rattle.finite_models.specs.Internal.Stands.{frame_scope, IsLeafIn, StandsForTerm}
 use Rattle.finite_models.specs.declared.expr.Expr.TheVariants as expr
 use Rattle.finite_models.proofs.StandsLaws.{stands_name}
 use Rattle.finite_models.proofs.CompileLaws.{stands_chooser}
@@ -16,7 +16,7 @@ returns-in-Name c = λ ctx.
     let ys = c.args.frame.now.choosers.now in
     let e = ap the_head c.in-Name.is in
     let l = subst (IsLeafIn scope c.args.frame.now.choosers.now) e c.requires.leaf in
-    subst (λ h. Stands scope c.args.frame.now.size c.args.frame.now.choosers.now ctx h (expr.Symbol c.in-Name.k)) (sym e) (stands_name scope s ys c.requires.ground ctx c.in-Name.k l.0 (expr.Symbol c.in-Name.k) l.1 (λ vs env. refl) (λ vs env q. q))
+    subst (λ h. StandsForTerm scope c.args.frame.now.size c.args.frame.now.choosers.now ctx h (expr.Symbol c.in-Name.k)) (sym e) (stands_name scope s ys c.requires.ground ctx c.in-Name.k l.0 (expr.Symbol c.in-Name.k) l.1 (λ vs env. refl) (λ vs env q. q))
 
 pub returns-in_ok-place_behind-in-Some : goal.returns-in_ok-place_behind-in-Some
 returns-in_ok-place_behind-in-Some c = λ ctx.

@@ -7,7 +7,7 @@ use Rattle.sat_base.specs.declared.literal.SatLit.{SatLit}
 use Rattle.sat_base.specs.Literal.{IsOver}
 use Rattle.literal_map.specs.declared.instance.Instance.{Instance as BankInstance}
 use Rattle.tableau_clauses.specs.Table.{Table, the_instances}
-use Rattle.plain_tableau.specs.Internal.Due.{without_rule, at_number, is_due_at, is_in, names, AreLiteralsOver, IsNotedMore}
+use Rattle.plain_tableau.specs.Internal.Due.{without_rule, at_number, is_due_at, is_due_place, names_variable, AreLiteralsOver, IsNotedMore}
 use Rattle.plain_tableau.proofs.NotedLaws.{due_more, below_more}
 use Rattle.plain_tableau.proofs.path.note_all.Goals as goal
 
@@ -29,9 +29,9 @@ note-requires-clause-alternatives c =
     subst (λ n. All (IsOver n) c.instance.result.now.alternatives) (sym c.loop-u.invariant.count) h.1
 
 -- the places that are listed, with one more
-listed_more : (t : Table) (used : List ℕ) (n : ℕ) (i : BankInstance) (old new : List (List ℕ)) → n < length used → slice_get (the_instances t) (get_or used n 0) ≡ Some i → IsNotedMore (names (without_rule (Some i))) n old new
-    → ((u k : ℕ) (v : Var) → u < n → slice_get used u ≡ Some k → names (at_number t k) v ≡ true → Contains (get_or old v.0 []) u)
-    → (u k : ℕ) (v : Var) → u < n + 1 → slice_get used u ≡ Some k → names (at_number t k) v ≡ true → Contains (get_or new v.0 []) u
+listed_more : (t : Table) (used : List ℕ) (n : ℕ) (i : BankInstance) (old new : List (List ℕ)) → n < length used → slice_get (the_instances t) (get_or used n 0) ≡ Some i → IsNotedMore (names_variable (without_rule (Some i))) n old new
+    → ((u k : ℕ) (v : Var) → u < n → slice_get used u ≡ Some k → names_variable (at_number t k) v ≡ true → Contains (get_or old v.0 []) u)
+    → (u k : ℕ) (v : Var) → u < n + 1 → slice_get used u ≡ Some k → names_variable (at_number t k) v ≡ true → Contains (get_or new v.0 []) u
 listed_more t used n i old new inside is noted h u k v below e named = go (cases_lt u n)
   where
     go : (u < n) ⊎ (n ≤ u) → Contains (get_or new v.0 []) u
@@ -40,7 +40,7 @@ listed_more t used n i old new inside is noted h u k v below e named = go (cases
         let same : u ≡ n = omega (arith, l, below) in
         let here : get_or used n 0 ≡ k = get_or_from_slice_get used n k 0 (ap (slice_get used) (sym same) ∙ e) in
         let at : at_number t k ≡ without_rule (Some i) = ap (λ m. without_rule (slice_get (the_instances t) m)) (sym here) ∙ ap without_rule is in
-        subst (λ m. Contains (get_or new v.0 []) m) (sym same) (noted.listed v (subst (λ x. names x v ≡ true) at named))
+        subst (λ m. Contains (get_or new v.0 []) m) (sym same) (noted.listed v (subst (λ x. names_variable x v ≡ true) at named))
 
 pub loop-u-preserved : goal.loop-u-preserved
 loop-u-preserved c =
