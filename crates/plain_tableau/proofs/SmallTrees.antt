@@ -87,11 +87,11 @@ contains_mapped f (y ∷ xs) x c =
 module _ (P : SatLit → Type 0) where
   unfiltered : (l : SatLit) (c : List SatLit) → P l → Each P (without_literal l c) → Each P c
   unfiltered l [] h k = tt
-  unfiltered l (m ∷ c) h k = go (same_literal l m) refl k
+  unfiltered l (m ∷ c) h k = go (same_literal l m) refl (unfiltered l c h) k
     where
-      go : (b : Bool) → same_literal l m ≡ b → Each P (cond (not b) (m ∷ without_literal l c) (without_literal l c)) → Each P (m ∷ c)
-      go true e d = (subst P (same_literal-true l m e) h, unfiltered l c h d)
-      go false e d = (d.0, unfiltered l c h d.1)
+      go : (b : Bool) → same_literal l m ≡ b → (Each P (without_literal l c) → Each P c) → Each P (cond (not b) (m ∷ without_literal l c) (without_literal l c)) → Each P (m ∷ c)
+      go true e rest d = (subst P (same_literal-true l m e) h, rest d)
+      go false e rest d = (d.0, rest d.1)
 
   once_each : (c : List SatLit) → Each P (each_once c) → Each P c
   once_each [] h = tt
@@ -164,16 +164,16 @@ rule_small : (scope : Scope) (rows : List Row) (rule : RuleUse) (ps : List Liter
 rule_small scope rows rule ps as' (false_rule i) picked picks h k = tt
 rule_small scope rows rule ps as' (close_rule i j l) picked picks h k = tt
 rule_small scope rows rule ps as' (refl_rule i a s) picked picks h k = tt
-rule_small scope rows rule ps as' (imp_pos_rule i s t) picked picks h k = singles_small as' ((_, refl), (_, refl), tt) picked picks k
+rule_small scope rows rule ps as' (imp_pos_rule i s t) picked picks h k = singles_small as' ((_, refl), ((_, refl), tt)) picked picks k
 rule_small scope rows rule ps as' (imp_neg_rule i s t) picked picks h k =
     let sides = imp_sides s t h.0 in
-    ((literal_small s sides.0, literal_small t sides.1, tt), tt)
+    ((literal_small s sides.0, (literal_small t sides.1, tt)), tt)
 rule_small scope rows rule ps as' (bool_pos_rule i s t) picked picks h k =
     let sides = eq_sides formula s t h.0 in
-    ((literal_small s sides.0, literal_small t sides.1, tt), (literal_small s sides.0, literal_small t sides.1, tt), tt)
+    ((literal_small s sides.0, (literal_small t sides.1, tt)), ((literal_small s sides.0, (literal_small t sides.1, tt)), tt))
 rule_small scope rows rule ps as' (bool_neg_rule i s t) picked picks h k =
     let sides = eq_sides formula s t h.0 in
-    ((literal_small s sides.0, literal_small t sides.1, tt), (literal_small s sides.0, literal_small t sides.1, tt), tt)
+    ((literal_small s sides.0, (literal_small t sides.1, tt)), ((literal_small s sides.0, (literal_small t sides.1, tt)), tt))
 rule_small scope rows rule ps as' (fun_pos_rule i a b s t) picked picks h k = singles_small as' ((_, refl), tt) picked picks k
 rule_small scope rows rule ps as' (fun_neg_rule i a b s t) picked picks h k = singles_small as' ((_, refl), tt) picked picks k
 rule_small scope rows rule ps as' (all_pos_rule i a f u c) picked picks h k = singles_small as' ((_, refl), tt) picked picks k
@@ -182,10 +182,10 @@ rule_small scope rows rule ps as' (mat_rule i j c a s t ss ts d e) picked picks 
 rule_small scope rows rule ps as' (dec_rule i n c a s t ss ts d e) picked picks h k = singles_small as' (differ_singles a (s ∷ ss) (t ∷ ts)) picked picks k
 rule_small scope rows rule ps as' (con_rule i j n s t u v) picked picks h k =
     let c = crossed (base (suc n)) s t u v h.0 h.1.0 in
-    ((c.0, c.1, tt), (c.2, c.3, tt), tt)
-rule_small scope rows rule ps as' (cho_rule a f c) picked picks h k = singles_small as' ((_, refl), (_, refl), tt) picked picks k
-rule_small scope rows rule ps as' (des_rule a f c) picked picks h k = singles_small as' ((_, refl), (_, refl), (_, refl), tt) picked picks k
-rule_small scope rows rule ps as' (cut_rule l c) picked picks h k = singles_small as' ((_, refl), (_, refl), tt) picked picks k
+    ((c.0, (c.1, tt)), ((c.2, (c.3, tt)), tt))
+rule_small scope rows rule ps as' (cho_rule a f c) picked picks h k = singles_small as' ((_, refl), ((_, refl), tt)) picked picks k
+rule_small scope rows rule ps as' (des_rule a f c) picked picks h k = singles_small as' ((_, refl), ((_, refl), ((_, refl), tt))) picked picks k
+rule_small scope rows rule ps as' (cut_rule l c) picked picks h k = singles_small as' ((_, refl), ((_, refl), tt)) picked picks k
 
 -- AN INSTANCE WITH A CLAUSE
 
