@@ -22,7 +22,8 @@ use sat_base::SatLit;
 use std::alloc::{AllocError, Global};
 use tableau_calculus::{Children, Line, Lines, Lits, Refutation, RuleUse};
 use tableau_rebuild::{
-    Pool, line_in_range, lits_of, places_of, position, rows_for_branch, rows_for_instance, rule_of, write_rows,
+    Pool, line_in_range, lits_of, places_of, position, rows_for_branch, rows_for_instance, rule_of,
+    write_rows,
 };
 use term_bank::Bank;
 use witness_names::Witnesses;

@@ -74,20 +74,19 @@ module _ (t : Tables) (q : Queue Planned Delays) (r : IsRunning t q) (t2 : Table
       let P : ℕ → Type 0 = λ n. EndsFrom (setting_by t q) (start_in t) nodes (Proved n refutation tree) in
       let refutes = whole.refutes in
       let within = refutes.within in
-      subst P (sym k.stays.done)
-      (
-      record {
-        proved = record { until = until; state = the_state t q; comes_to = r.comes_to; unsatisfiable = k.unsatisfiable };
-        refutes = record {
-          accepted = refutes.accepted;
-          reached = refutes.reached;
-          small = refutes.small;
-          origin = refutes.origin;
-          within = record { learning = within.learning; counted = omega (arith, within.counted, budget_kept right same); reaches = within.reaches; propagates = within.propagates };
-          shortly = refutes.shortly;
-        };
-      },
-      whole.tree,
+      subst P (sym k.stays.done) (
+        record {
+          proved = record { until = until; state = the_state t q; comes_to = r.comes_to; unsatisfiable = k.unsatisfiable };
+          refutes = record {
+            accepted = refutes.accepted;
+            reached = refutes.reached;
+            small = refutes.small;
+            origin = refutes.origin;
+            within = record { learning = within.learning; counted = omega (arith, within.counted, budget_kept right same); reaches = within.reaches; propagates = within.propagates };
+            shortly = refutes.shortly;
+          };
+        },
+        whole.tree,
       )
 
   pub is-exhausted : IsEmpty old new → GoesOnUntil (setting_by t q) (start_in t) t.done → IsExhausted (setting_by t q) (start_in t) t2.done
@@ -241,15 +240,18 @@ tree_whole scope ls input (Some n) (Some s) h = record {
 -- what ends from the literals of a problem that aren't too deep, ends from the problem's start
 module _ (p : PlainProblem) (m : Mode) (setting : Setting) (ls : List Literal) (is_setting : setting ≡ setting_for p m) (is_start : ls ≡ filter is_shallow_literal (start p)) where
   ends_here : (nodes : Option ℕ) (e : Ended) → EndsFrom (setting_for p m) (filter is_shallow_literal (start p)) nodes e → EndsAs p m nodes e
-  ends_here nodes (Proved n refutation tree) (k, asked) = (record {
-    proved = record { until = until_whole (setting_for p m) (start p) n k.proved.until; state = k.proved.state; comes_to = sym (after_shallow (setting_for p m) (start p) n) ∙ k.proved.comes_to; unsatisfiable = k.proved.unsatisfiable };
-    accepted = accepted_whole (scope_of p.declared) (start p) refutation k.refutes.accepted;
-    reached = k.refutes.reached;
-    small = k.refutes.small;
-    origin = λ l there. comes_whole l.rule (start p) k.proved.state.clauses l (k.refutes.origin l there);
-    within = k.refutes.within;
-    shortly = k.refutes.shortly;
-  }, tree_whole (scope_of p.declared) (start p) k.refutes.shortly.input nodes tree asked)
+  ends_here nodes (Proved n refutation tree) (k, asked) = (
+    record {
+      proved = record { until = until_whole (setting_for p m) (start p) n k.proved.until; state = k.proved.state; comes_to = sym (after_shallow (setting_for p m) (start p) n) ∙ k.proved.comes_to; unsatisfiable = k.proved.unsatisfiable };
+      accepted = accepted_whole (scope_of p.declared) (start p) refutation k.refutes.accepted;
+      reached = k.refutes.reached;
+      small = k.refutes.small;
+      origin = λ l there. comes_whole l.rule (start p) k.proved.state.clauses l (k.refutes.origin l there);
+      within = k.refutes.within;
+      shortly = k.refutes.shortly;
+    },
+    tree_whole (scope_of p.declared) (start p) k.refutes.shortly.input nodes tree asked,
+  )
   ends_here nodes (GaveUp n) k = exhausted-whole (setting_for p m) (start p) n k
   ends_here nodes (CommandLimit n) k = stopped-whole (setting_for p m) (start p) n k
   ends_here nodes (ConflictLimit c) k = record {

@@ -99,9 +99,10 @@ module _ (scope : Scope) (begin : List Literal) (r : Refutation) where
   cut_alone place _ why _ c (at_row front back row w e table fails) = absurd (no_row_fails c.table front back row w e table fails)
   cut_alone place _ why _ c (at_line g d m w table e right none h) =
       split_cases ((place ≡ length r.witnesses + length g) × (why ≡ w)) c.front g c.back d c.line m (sym c.is ∙ e)
-      (λ fronts lines.
-          (c.place_is ∙ ap (λ (x : List Line). length r.witnesses + length x) fronts,
-          c.why_is ∙ only_cut g m w (subst (IsTypedLine wide) lines c.typed) (subst (λ (l : Line). is_cut_use l.rule ≡ true) lines c.cut) h))
+      (λ fronts lines. (
+        c.place_is ∙ ap (λ (x : List Line). length r.witnesses + length x) fronts,
+        c.why_is ∙ only_cut g m w (subst (IsTypedLine wide) lines c.typed) (subst (λ (l : Line). is_cut_use l.rule ≡ true) lines c.cut) h,
+      ))
       (λ mid q. absurd (cut_among g c.front mid c.line q c.cut none))
       (λ mid q. absurd (no_line_fails c.table c.front g mid m w q c.right right (plain_line scope begin r g m w (front_none g mid m (subst HasNoCut q c.none)) h)))
   cut_alone place _ why _ c (at_last g m table e right none outside) = absurd (cut_among r.lines c.front c.back c.line c.is c.cut none)
@@ -112,9 +113,9 @@ module _ (scope : Scope) (begin : List Literal) (r : Refutation) where
   one_strict_failure n k why other f g =
       ⊎_elim
       (λ plain_f. ⊎_elim
-          (λ plain_g. one_first_failure scope begin r n k why other plain_f plain_g)
-          (λ cut_g. let h = cut_alone k n other why cut_g f in (sym h.0, sym h.1))
-          (plain_or_cut k other g))
+      (λ plain_g. one_first_failure scope begin r n k why other plain_f plain_g)
+      (λ cut_g. let h = cut_alone k n other why cut_g f in (sym h.0, sym h.1))
+      (plain_or_cut k other g))
       (λ cut_f. cut_alone n k why other cut_f g)
       (plain_or_cut n why f)
 

@@ -198,7 +198,12 @@ fn check_over(
 }
 
 /// Whether the text is accepted, or the place of its first failure: its rows count from 0, and then its lines.
-fn check_text(alloc: Global, problem: &Problem, text: &RefutationText, strict: bool) -> Result<(), PlainRefused>
+fn check_text(
+    alloc: Global,
+    problem: &Problem,
+    text: &RefutationText,
+    strict: bool,
+) -> Result<(), PlainRefused>
     requires problem { IsTyped problem.now }
     requires room { length text.now.witnesses + length text.now.lines < 2 ^ 64 }
     ensures accepted { OnOk result (IsAcceptedBy strict (scope_of problem.now.declared) (start problem.now)
@@ -211,7 +216,12 @@ fn check_text(alloc: Global, problem: &Problem, text: &RefutationText, strict: b
 
 /// Whether the text's refutation is accepted for the start of the problem as it stands, whatever definitions the text names. Answers the
 /// first line that fails otherwise, by its number in the file of the text.
-fn check_plain(alloc: Global, problem: &Problem, text: &RefutationText, strict: bool) -> Result<(), CheckRefused>
+fn check_plain(
+    alloc: Global,
+    problem: &Problem,
+    text: &RefutationText,
+    strict: bool,
+) -> Result<(), CheckRefused>
     requires problem { IsTyped problem.now }
     requires lines { text.now.first + length text.now.witnesses + length text.now.lines < 2 ^ 64 }
     ensures accepted { OnOk result (IsAcceptedBy strict (scope_of problem.now.declared) (start problem.now)

@@ -119,7 +119,11 @@ pub fn rule_of(
 }
 
 /// The places of literals in a branch.
-pub fn places_of(alloc: Global, branch: &[SatLit], literals: &LitList) -> Result<Vec<usize>, AllocError>
+pub fn places_of(
+    alloc: Global,
+    branch: &[SatLit],
+    literals: &LitList,
+) -> Result<Vec<usize>, AllocError>
     ensures { IfOk result (λ places. places.items ≡ map (place_in branch.now) literals.now) }
 {
     let mut places = Vec::new(alloc);

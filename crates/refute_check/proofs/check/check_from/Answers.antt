@@ -37,9 +37,9 @@ returns-clause-accepted c =
     if_ok c.check_last.result
     (λ h ls represents numbered. record {
       accepted = record {
-      table = c.in_ok-check_rows.ensures.table;
-      lines = subst (λ (x : Scope). AreRightIn x r) c.in_ok-check_rows.ensures.declared c.in_ok-lines.ensures.right;
-      last = h (shared_atoms new) ls c.in_ok-lines.ensures.branches (represents-grow (shared_atoms s) (shared_atoms new) ls c.args.start.now (grow-more (shared_atoms s) (shared_atoms now) (shared_atoms new) c.in_ok-check_rows.ensures.atoms c.in_ok-lines.ensures.atoms) numbered represents);
+        table = c.in_ok-check_rows.ensures.table;
+        lines = subst (λ (x : Scope). AreRightIn x r) c.in_ok-check_rows.ensures.declared c.in_ok-lines.ensures.right;
+        last = h (shared_atoms new) ls c.in_ok-lines.ensures.branches (represents-grow (shared_atoms s) (shared_atoms new) ls c.args.start.now (grow-more (shared_atoms s) (shared_atoms now) (shared_atoms new) c.in_ok-check_rows.ensures.atoms c.in_ok-lines.ensures.atoms) numbered represents);
       };
       no_cut = c.in_ok-lines.ensures.no_cut;
     })

@@ -35,7 +35,7 @@ returns-in_ok-text-in-Proved c =
     let text = c.in_ok-text-in-Proved.text in (
       c.claim_of.ensures,
       subst (λ tree. IsProofOf c.args.nodes m p n tree text) (sym c.written.ensures.told)
-      (proof_of_run c.args.nodes m p n c.in-Proved.refutation c.requires.texts ends.0 c.in-Proved.tree ends.1 (taken_declared p c.requires.texts.typed) text
+          (proof_of_run c.args.nodes m p n c.in-Proved.refutation c.requires.texts ends.0 c.in-Proved.tree ends.1 (taken_declared p c.requires.texts.typed) text
           (c.in_ok-text-in-Proved.ensures
           ∙ ap (λ q. as_bytes (text_lines (named_refutation (names_in q) c.as_slice.result.now c.written.result.0))) c.problem.view_is
           ∙ ap (λ r. as_bytes (text_lines (named_refutation (names_in p) c.as_slice.result.now r))) c.written.ensures.written
