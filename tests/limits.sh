@@ -24,6 +24,7 @@ for problem in "$top"/examples/*.p ${folder:+"$folder"/*.p}; do
   run "$problem"
   run --mode "$top/modes/late_terms.mode" "$problem"
   run --models 2 "$problem"
+  run --tree 200 "$problem"
   run --same "$problem"
 done
 run --mode "$top/modes/long.mode" "$top/examples/complement.p"
