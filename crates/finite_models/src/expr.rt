@@ -95,14 +95,8 @@ pub fn eval(expr: &Expr, values: &[u32], env: &Env) -> u32
             entry_of(*base, function, argument)
         }
         Expr::Table(base, n, e) => eval_table(*base, *n, e, values, env),
-        Expr::Repeat(times, e) => {
-            let inner = Env::Inner(0, &*env);
-            eval(e, values, &inner) * *times
-        }
-        Expr::Whole(count, e) => {
-            let inner = Env::Inner(0, &*env);
-            eval(e, values, &inner) % *count
-        }
+        Expr::Repeat(times, e) => eval(e, values, &Env::Inner(0, &*env)) * *times,
+        Expr::Whole(count, e) => eval(e, values, &Env::Inner(0, &*env)) % *count,
     }
 }
 
