@@ -3,6 +3,7 @@ use Rattle.std.specs.Prelude.{◌≡◌, ◌<◌, ◌↔◌, ℕ, zero, suc, Lis
 use Rattle.std.specs.List.{All}
 use Rattle.std.proofs.Common.{sym, ap, subst, ◌∙◌, arith}
 use Rattle.std.proofs.lemmas.List.{length-map}
+use Rattle.std.proofs.lemmas.List.Elements.{All-cons, All-nil}
 use Rattle.std.proofs.lemmas.Option.{slice_get-map}
 use Rattle.stt_core.specs.Lambda.{Lambda}
 use Rattle.stt_core.specs.Typing.{Scope}
@@ -54,15 +55,8 @@ map_twice g f (x ∷ xs) = ap (λ ys. g (f x) ∷ ys) (map_twice g f xs)
 
 -- what holds of each number in a list holds of its elements
 pub all_held : (P : ℕ → Type 0) (ks : List ℕ) → ((k : ℕ) → Contains ks k → P k) → All P ks
-all_held P [] h = λ k d l. absurd (omega (arith, l))
-all_held P (k ∷ ks) h = go
-  where
-    rest : All P ks
-    rest = all_held P ks (λ j c. h j (contains-later j k ks c))
-
-    go : All P (k ∷ ks)
-    go zero d l = h k (contains-first k ks)
-    go (suc n) d l = rest n d (omega (arith, l))
+all_held P [] h = All-nil P
+all_held P (k ∷ ks) h = All-cons P k ks (h k (contains-first k ks)) (all_held P ks (λ j c. h j (contains-later j k ks c)))
 
 pub of_tree : (P Q : Refutation → Type 0) → ((refutation : Refutation) → P refutation → Q refutation) → (s : Stripped) → OfTree P s → OfTree Q s
 of_tree P Q f (Whole refutation n) h = f refutation h
@@ -86,12 +80,7 @@ module _ (b : Content) (atoms : List ℕ) (t : Table) (witnesses : List ℕ) (lo
         used = u.used;
       }
 
-  -- the step of a source that is a clause of an instance
-  record IsStepOf (n : ℕ) (i : Instance) : Type 0 where
-    number : ℕ
-    origin : slice_get (map (λ (s : Step). s.1) t.0) n ≡ Some (From number)
-    is : instance_at number ≡ i
-
+  -- the number of the instance from which a source's clause comes
   by_origin : (clause c : List SatLit) (o : Origin) (i : Instance) → sourced b.terms atoms t.1 clause o ≡ clause_by c i → (k : ℕ) × (o ≡ From k) × (instance_at k ≡ i)
   by_origin clause c Start i e = cc
   by_origin clause c (From k) i e = let same : instance_at k ≡ i = cc in (k, refl, same)
