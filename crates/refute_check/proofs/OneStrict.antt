@@ -1,5 +1,5 @@
 -- A text fails strictly first at one line, for one cause.
-use Rattle.std.proofs.Common.{◌≡◌, ◌⊎◌, inl, inr, ⊎_elim, ◌<◌, ◌+◌, ◌++◌, ℕ, true, false, List, [], ◌∷◌, length, slice_get, Contains, refl, sym, ap, subst, subst₂, ◌∙◌, length-append, arith}
+use Rattle.std.proofs.Common.{◌≡◌, ◌⊎◌, inl, inr, ⊎_elim, ◌<◌, ◌+◌, ◌++◌, ℕ, true, false, List, [], ◌∷◌, length, slice_get, refl, sym, ap, subst, subst₂, ◌∙◌, length-append, arith}
 use Rattle.std.proofs.lemmas.Bool.{false≢true}
 use Rattle.stt_core.specs.Typing.{Scope}
 use Rattle.stt_core.specs.Declarations.{scope_of}
@@ -7,14 +7,14 @@ use Rattle.stt_core.specs.PlainProblem.{PlainProblem}
 use Rattle.tableau_calculus.specs.Literals.{Literal}
 use Rattle.tableau_calculus.specs.Witnesses.{Row, with_rows, IsTable}
 use Rattle.tableau_calculus.specs.Start.{start}
-use Rattle.tableau_calculus.specs.Accepted.{Within, IsTypedLine, AreRightLines, RowFails, LineFails, FirstFailure}
+use Rattle.tableau_calculus.specs.Accepted.{IsTypedLine, AreRightLines, RowFails, LineFails, FirstFailure}
 use Rattle.tableau_calculus.specs.Accepted as plain
 use Rattle.tableau_calculus.specs.CutFree.{is_cut_use, HasNoCut}
 use Rattle.tableau_calculus.specs.declared.refutation.Line.{Line}
 use Rattle.tableau_calculus.specs.declared.refutation.Refutation.{Refutation}
 use Rattle.tableau_calculus.specs.declared.refutation.Why.{Why}
 use Rattle.tableau_calculus.specs.declared.refutation.Why.TheVariants.{Form, Start, End, Typing, Twice, Cut, Principal, Child, Last, Defs}
-use Rattle.tableau_calculus.proofs.ListLaws.{contains-first, contains-later}
+use Rattle.tableau_calculus.proofs.ListLaws.{within-itself}
 use Rattle.tableau_calculus.proofs.FirstFailureLaws.{split_cases, accepted_no_failure, one_first_failure}
 use Rattle.refute_print.specs.Trees.{RefutationTree}
 use Rattle.refute_print.specs.Named.{names_of}
@@ -24,13 +24,6 @@ use Rattle.refute_check.specs.Strict.{LineFailsStrictly, FirstStrictFailure, at_
 use Rattle.refute_check.proofs.AcceptanceLaws.{named}
 use Rattle.refute_check.proofs.DefinitionLaws.{differ_once}
 use Rattle.refute_check.proofs.StrictLaws.{front_none, plain_line}
-
-within_from : (ls branch : List Literal) → ((l : Literal) → Contains ls l → Contains branch l) → Within ls branch
-within_from [] branch h = tt
-within_from (l ∷ ls) branch h = (h l (contains-first l ls), within_from ls branch (λ k c. h k (contains-later k l ls c)))
-
-within_self : (ls : List Literal) → Within ls ls
-within_self ls = within_from ls ls (λ l c. c)
 
 module _ (scope : Scope) (begin : List Literal) (r : Refutation) where
   abbrev wide : Scope
@@ -49,7 +42,7 @@ module _ (scope : Scope) (begin : List Literal) (r : Refutation) where
       let ends = last_of lines (subst (λ (ls : List Line). 0 < length ls) (sym e) (omega (arith, length-append front (line ∷ back)))) in
       let whole : Refutation = record { witnesses = r.witnesses; lines = lines } in
       accepted_no_failure scope ends.1.branch whole (length r.witnesses + length front) why (plain.at_line front back line why table e before fails)
-      (record { table = table; lines = right; last = record { front = ends.0; last = ends.1; are = ends.2; within = within_self ends.1.branch } })
+      (record { table = table; lines = right; last = record { front = ends.0; last = ends.1; are = ends.2; within = within-itself ends.1.branch } })
     where
       last_of : (ls : List Line) → 0 < length ls → (front : List Line) × (last : Line) × (ls ≡ front ++ last ∷ [])
       last_of [] h = absurd (omega (arith, h))
