@@ -192,7 +192,7 @@ module _ (g : Basis) (good : IsBasis g) where
           record { learning = learning-named; counted = omega arith; reaches = over; propagates = propagates-from_reaches formulas learning-named over }
 
       -- the log of the solver, from which a refutation is rebuilt
-      pub shortly-named : (refutation : Refutation) → EachComes t → results y.log ≡ learned y ++ [] ∷ [] → IsRebuilt (the_input g.bank g.lits t y.log g.witnesses) refutation → AreFew y.log refutation.lines → AreRefutedShortly formulas learning-named refutation
+      unfoldable pub shortly-named : (refutation : Refutation) → EachComes t → results y.log ≡ learned y ++ [] ∷ [] → IsRebuilt (the_input g.bank g.lits t y.log g.witnesses) refutation → AreFew y.log refutation.lines → AreRefutedShortly formulas learning-named refutation
       shortly-named refutation comes ends rebuilt few =
           let L : List (List SatLit) → Type 0 = λ cs. IsLogOver cs y.log in
           record {

@@ -7,8 +7,8 @@ use Rattle.szs_report.specs.Report.{headed_report, model_report, line_report, de
 pub proof_head-pieces : (status name count : List ℕ) → as_bytes ((status ++ name) ∷ (codes "% commands " ++ count) ∷ []) ≡ status ++ (name ++ (codes "\n% commands " ++ (count ++ (codes "\n" ++ []))))
 proof_head-pieces status name count = append_assoc status name _
 
-pub number_line-pieces : (word digits : List ℕ) → as_bytes ((word ++ digits) ∷ []) ≡ word ++ (digits ++ (codes "\n" ++ []))
-number_line-pieces word digits = append_assoc word digits (codes "\n")
+pub parted-pieces : (word what : List ℕ) → as_bytes ((word ++ what) ∷ []) ≡ word ++ (what ++ (codes "\n" ++ []))
+parted-pieces word what = append_assoc word what (codes "\n")
 
 pub proof_start-parts : (first second last : List ℕ) (tree : List (List ℕ)) → as_bytes (first ∷ second ∷ (tree ++ last ∷ [])) ≡ as_bytes (first ∷ second ∷ []) ++ (as_bytes tree ++ as_bytes (last ∷ []))
 proof_start-parts first second last tree =

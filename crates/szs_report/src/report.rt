@@ -73,14 +73,22 @@ fn write_proof_head<S: Sink>(
     Ok(())
 }
 
+/// Writes a line of two parts.
+fn write_parted<S: Sink>(out: &mut S, word: &[u8], what: &[u8]) -> Result<(), Failed>
+    ensures took { OnOk result (Took S.tells S.written S.faults out.old out.new (as_bytes ((word.now ++ what.now) ∷ []))) }
+    ensures stopped { OnErr result (Stopped S.tells S.written S.faults out.old out.new (as_bytes ((word.now ++ what.now) ∷ []))) }
+{
+    write_pieces(out, &[word, what, b"\n"])?;
+    Ok(())
+}
+
 /// Writes a line that ends with a number.
 fn write_number_line<S: Sink>(out: &mut S, word: &[u8], number: u32) -> Result<(), Failed>
     ensures took { OnOk result (Took S.tells S.written S.faults out.old out.new (as_bytes ((word.now ++ decimal number) ∷ []))) }
     ensures stopped { OnErr result (Stopped S.tells S.written S.faults out.old out.new (as_bytes ((word.now ++ decimal number) ∷ []))) }
 {
     let mut buffer = Buffer::new();
-    write_pieces(out, &[word, buffer.format(number).as_bytes(), b"\n"])?;
-    Ok(())
+    write_parted(out, word, buffer.format(number).as_bytes())
 }
 
 /// Writes what came of a tree.

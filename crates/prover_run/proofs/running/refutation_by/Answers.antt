@@ -33,6 +33,7 @@ rebuild-requires-clause-closed c =
     subst E (sym c.log-log.ensures.log) (ends-empty t.solver.log (learned t.solver) c.requires.ends)
 
 pub returns : goal.returns
+unfolding shortly-named
 returns c =
     let t = c.args.tables.now in
     let r = c.requires.run.running.right in

@@ -3,6 +3,9 @@ use Rattle.szs_report.proofs.report.write_report.Goals as goal
 pub returns-in-Proved-clause-appended : goal.returns-in-Proved-clause-appended
 returns-in-Proved-clause-appended g c = rw (c.in-Proved.is) c.write_proof.ensures.appended
 
+pub returns-in-Proved-clause-failed : goal.returns-in-Proved-clause-failed
+returns-in-Proved-clause-failed g c = rw (c.in-Proved.is) c.write_proof.ensures.failed
+
 pub returns-in-GaveUp-clause-appended : goal.returns-in-GaveUp-clause-appended
 returns-in-GaveUp-clause-appended g c = rw (c.in-GaveUp.is) c.write_numbered.ensures.appended
 
@@ -20,6 +23,9 @@ returns-in-Satisfiable-clause-appended g c = rw (c.in-Satisfiable.is) c.write_mo
 
 pub returns-in-NoneSmall-clause-appended : goal.returns-in-NoneSmall-clause-appended
 returns-in-NoneSmall-clause-appended g c = rw (c.in-NoneSmall.is) c.write_numbered-in-NoneSmall.ensures.appended
+
+pub returns-in-NoneSmall-clause-failed : goal.returns-in-NoneSmall-clause-failed
+returns-in-NoneSmall-clause-failed g c = rw (c.in-NoneSmall.is) c.write_numbered-in-NoneSmall.ensures.failed
 
 pub returns-in-ModelsTooMany-clause-appended : goal.returns-in-ModelsTooMany-clause-appended
 returns-in-ModelsTooMany-clause-appended g c = rw (c.in-ModelsTooMany.is) c.write_numbered-in-ModelsTooMany.ensures.appended
