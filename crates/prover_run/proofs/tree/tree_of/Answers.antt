@@ -36,8 +36,8 @@ pub trees_are_small-requires-clause-small : goal.trees_are_small-requires-clause
 trees_are_small-requires-clause-small c =
     input-small c.args.tables.now c.requires.run.plan c.requires.run.running c.log-log.result.now c.clauses_come_from_origins.ensures
 
-pub used-instances-requires-clause-closed : goal.used-instances-requires-clause-closed
-used-instances-requires-clause-closed c =
+pub used-requires-clause-closed : goal.used-requires-clause-closed
+used-requires-clause-closed c =
     let t = c.args.tables.now in
     let E : List LogEntry → Type 0 = λ log. EndsEmpty log in
     subst E (sym c.log-log.ensures.log) (ends-empty t.solver.log (learned t.solver) c.requires.ends)
