@@ -67,7 +67,7 @@ pub demo_one_line : (n : ℕ) → is_one_line (codes "demo " ++ decimal n) ≡ t
 demo_one_line n = one_line-append (codes "demo ") (decimal n) refl (decimal_one_line n)
 
 request_one_line : (r : Request) → IsNamed r → is_one_line (problem_name r) ≡ true
-request_one_line (prove p mode nodes) h = file_name-one_line p h
+request_one_line (prove p mode nodes) h = file_name-one_line p h.0
 request_one_line (refutation cuts text p) h = file_name-one_line p h
 request_one_line (generated n) h = demo_one_line n
 request_one_line (models upto p) h = file_name-one_line p h.0
