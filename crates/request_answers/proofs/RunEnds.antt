@@ -16,7 +16,7 @@ use Rattle.request_answers.specs.Answers.{IsSettled}
 
 -- what a run with this result is answered with, but for the refutation
 abbrev told : PlainProblem → Result → Answer
-told p (proved n) = Proved (claim_of p) n []
+told p (proved n) = Proved (claim_of p) n Unasked []
 told p (gave_up n) = GaveUp n
 told p (stopped n) = CommandLimit n
 
