@@ -1,0 +1,14 @@
+pub mod CutLaws
+pub mod SliceLaws
+pub mod BlockLaws
+pub mod RefusalLaws
+pub mod ExampleLaws
+pub mod EndLaws
+pub mod QueueLaws
+pub mod WholeLaws
+pub mod RefutedLaws
+pub mod PlaceLaws
+pub mod StandLaws
+pub mod TurnLaws
+pub mod SearchesLaws
+pub mod OneSchedule

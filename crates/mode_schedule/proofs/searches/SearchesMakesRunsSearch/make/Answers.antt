@@ -1,0 +1,22 @@
+use Rattle.std.proofs.Common.{◌<◌, length, arith}
+use Rattle.std.proofs.lemmas.List.{length-map}
+use Rattle.std.proofs.lemmas.Option.{slice_get-get_or}
+use Rattle.mode_schedule.specs.Scheduled.{slot_for}
+use Rattle.mode_schedule.proofs.SearchesLaws.{slot-is, ready-new, ok_seven}
+use Rattle.mode_schedule.proofs.searches.SearchesMakesRunsSearch.make.Goals as goal
+
+pub new-requires-clause-answers : goal.new-requires-clause-answers
+new-requires-clause-answers g c =
+    let blocks = c.args.self.now.blocks.now in
+    let l : c.args.number < length blocks = omega (arith, c.requires.within, length-map blocks (slot_for c.args.self.now.problem.now)) in
+    let l' : c.args.number < length c.args.self.now.weighers.now = omega (arith, l, c.requires.may.2) in
+    c.requires.may.5 _ _ (slice_get-get_or blocks c.args.number _ l) (slice_get-get_or c.args.self.now.weighers.now c.args.number _ l')
+
+pub returns : goal.returns
+returns g c =
+    let blocks = c.args.self.now.blocks.now in
+    let l : c.args.number < length blocks = omega (arith, c.requires.within, length-map blocks (slot_for c.args.self.now.problem.now)) in
+    let p = c.args.self.now.problem.now in
+    ok_seven c.new.result _ _ _ _ _ _ _ _ c.new.ensures.under_way c.new.ensures.mode c.new.ensures.bases c.new.ensures.consts c.new.ensures.start c.new.ensures.done c.new.ensures.ready
+    (λ s under_way mode bases consts literals done ready slot e.
+    ready-new p c.requires.may.0 _ slot _ (slot-is p blocks c.args.number _ slot (slice_get-get_or blocks c.args.number _ l) e) s.core.tables s.core.plan s.mode s.is_refused under_way mode bases consts literals done ready)
