@@ -1,4 +1,4 @@
-use Rattle.std.proofs.Common.{◌<◌, ◌^◌, inl, inr, subst, arith}
+use Rattle.std.proofs.Common.{inl, inr, subst, arith}
 use Rattle.mode_file.specs.declared.number.NumberRefused.{NumberRefused}
 use Rattle.mode_file.specs.Grammar.{HasNoNumber}
 use Rattle.mode_schedule.specs.Grammar.{HasSlice}
