@@ -1,4 +1,4 @@
--- Where no candidate of a size meets a problem, no model of that size does: its values of the model_symbols are a candidate, whose model gives
+-- Where no candidate of a size meets a problem, no model of that size does: its values of the symbols are a candidate, whose model gives
 -- each formula the same value.
 use Rattle.std.proofs.Common.{◌≡◌, ℕ, zero, suc, ◌+◌, ◌^◌, ◌<◌, ◌≤◌, List, [], ◌∷◌, ◌++◌, map, Option, Some, None, Bool, true, false, slice_get, slice_index, unwrap_or, refl, ap, sym, subst, ◌∙◌, ◌⊎◌, inl, inr, if◌then◌else◌, arith}
 use Rattle.std.specs.List.{AllByRecursion as Every}
@@ -29,7 +29,7 @@ use Rattle.finite_models.proofs.SizeLaws.{size_is}
 use Rattle.finite_models.proofs.SymbolLaws.{every_symbol, Has, Covers, symbols_cover}
 use Rattle.finite_models.proofs.CandidateLaws.{candidate_model}
 
--- the values that a model gives to model_symbols
+-- the values that a model gives to symbols
 abbrev pub values_in : Model → List Symbol → List ℕ
 values_in m xs = map (λ x. constant_value m x.constant) xs
 
@@ -49,7 +49,7 @@ named_value m k (b ∷ types) xs (suc i) a g =
     let e : k + suc i ≡ suc k + i = omega arith in
     ap m.name_values e ∙ named_value m (suc k) types xs i a g
 
--- what it gives to a chooser among the model_symbols is what is listed for its type
+-- what it gives to a chooser among the symbols is what is listed for its type
 module _ (m : Model) where
   abbrev given : Constant → ℕ
   given c = constant_value m c

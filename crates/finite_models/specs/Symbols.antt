@@ -1,4 +1,4 @@
--- The model_symbols of a problem: what a finite model has to give a value.
+-- The symbols of a problem: what a finite model has to give a value.
 use Rattle.std.specs.Prelude.{ℕ, suc, ◌*◌, ◌≤◌, ◌^◌, Bool, List, [], ◌∷◌, ◌++◌, map, Option, Some, None, if◌then◌else◌}
 use Rattle.std.specs.List.{list_any}
 use Rattle.stt_core.specs.SimpleType.{SimpleType, arrow, predicate}
@@ -52,7 +52,7 @@ choosing_symbols_of (t ∷ ts) = choosing_symbols t ++ choosing_symbols_of ts
 abbrev pub has_symbol : List Symbol → Symbol → Bool
 has_symbol xs y = list_any (λ x. same_constant y.constant x.constant) xs
 
--- the list with each of the further model_symbols, in order, that isn't in it yet
+-- the list with each of the further symbols, in order, that isn't in it yet
 abbrev pub with_symbols : List Symbol → List Symbol → List Symbol
 with_symbols xs [] = xs
 with_symbols xs (y ∷ ys) = with_symbols (if has_symbol xs y then xs else xs ++ y ∷ []) ys
@@ -70,7 +70,7 @@ normal_formulas p = map (normal_form (scope_of p.declared) []) (p.assumed ++ con
 abbrev pub symbols_with : Scope → List Symbol → List Symbol
 symbols_with scope choosers = declared_symbols 0 scope.names ++ choosers
 
--- The model_symbols of a problem: its constants in order of declaration, then each choice and each description that occurs in the normal
+-- The symbols of a problem: its constants in order of declaration, then each choice and each description that occurs in the normal
 -- forms of the assumed formulas and of the conjecture, in order of first occurrence.
 abbrev pub model_symbols : PlainProblem → List Symbol
 model_symbols p = symbols_with (scope_of p.declared) (with_symbols [] (choosing_symbols_of (normal_formulas p)))
@@ -85,13 +85,13 @@ abbrev pub EachNamesSmallTypes : ℕ → List Lambda → Type 0
 EachNamesSmallTypes s [] = Unit {0}
 EachNamesSmallTypes s (t ∷ ts) = NamesSmallTypes s t × EachNamesSmallTypes s ts
 
--- how many lists of values of the model_symbols there are
+-- how many lists of values of the symbols there are
 abbrev pub value_lists : ℕ → List Symbol → ℕ
 value_lists s [] = 1
 value_lists s (x ∷ xs) = size_in s x.type * value_lists s xs
 
--- A problem fits a size: the types of its model_symbols and those that its normal forms name are small enough, and there are at most 2 ^ 20
--- lists of values of its model_symbols.
+-- A problem fits a size: the types of its symbols and those that its normal forms name are small enough, and there are at most 2 ^ 20
+-- lists of values of its symbols.
 pub record FitsSize (p : PlainProblem) (s : ℕ) : Type 0 where
   pub symbols_small : EachIsSmall s (model_symbols p)
   pub named_small : EachNamesSmallTypes s (normal_formulas p)

@@ -14,7 +14,7 @@ use Rattle.plain_tableau.specs.Trees.{TreeInstance, PlainTree, closed, node, non
 use Rattle.plain_tableau.specs.Expansion.{found, open_at, over, Expansion}
 use Rattle.plain_tableau.specs.Lines.{IsOfTree}
 
--- `r.p`: the conjecture that each individual_type is itself. A node for the witness, and one for the equation.
+-- `r.p`: the conjecture that each individual is itself. A node for the witness, and one for the equation.
 abbrev pub self_predicate : Lambda
 self_predicate = lam individual_type (eq individual_type (bound 0) (bound 0))
 

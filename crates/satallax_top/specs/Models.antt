@@ -66,7 +66,7 @@ abbrev pub model_answer_by : Option Lambda → ℕ → List ℕ → Answer
 model_answer_by None s lines = answer.Satisfiable s lines
 model_answer_by (Some t) s lines = answer.CounterSatisfiable s lines
 
--- What is written where a model is reported: the values of the problem's model_symbols in a model of this size that meets the problem that the
+-- What is written where a model is reported: the values of the problem's symbols in a model of this size that meets the problem that the
 -- files state.
 pub record IsModelReport (words : List (List ℕ)) (told : Bool) (contents : List ℕ → Option (List ℕ)) (outcome : Outcome) (written : List ℕ) : Type 0 where
   pub names : List (List ℕ)

@@ -11,7 +11,7 @@ use Rattle.plain_tableau.specs.declared.walk.Frame.{Frame}
 use Rattle.plain_tableau.specs.declared.walk.Grown.{Grown}
 use Rattle.plain_tableau.specs.declared.walk.Grown.TheVariants.{Whole, Open, Over}
 
--- the trees with one more trees_behind them, and with what comes of further alternatives
+-- the trees with one more behind them, and with what comes of further alternatives
 abbrev pub with_last : PlainTrees SatLit → PlainTree SatLit → PlainTrees SatLit
 with_last none t = more t none
 with_last (more s ts) t = more s (with_last ts t)
