@@ -10,7 +10,7 @@ use Rattle.tableau_calculus.proofs.ListLaws.{contains-first, contains-later, con
 use Rattle.sat_base.specs.declared.literal.SatLit.{SatLit}
 use Rattle.sat_base.specs.Literal.{negated, same_literal, holds}
 use Rattle.sat_base.proofs.LiteralLaws.{same_literal-refl, same_literal-true, holds-append, All-from_held}
-use Rattle.sat_log.specs.Propagation.{IsUnit, IsFalseIn, Propagates, IsPropagation, ReachesFalse as NumbersReachFalse}
+use Rattle.sat_log.specs.Propagation.{IsUnitClause, IsFalseIn, Propagates, IsPropagation, ReachesFalse as NumbersReachFalse}
 use Rattle.sat_laws.proofs.TrailLaws.{Propagates-push}
 use Rattle.search_spec.specs.Each.{Each}
 use Rattle.search_spec.specs.Numbered.{literal_at, IsNumber, AreApart}
@@ -38,12 +38,12 @@ module _ (atoms : List Lambda) (clauses : List (List SatLit)) where
   abbrev AllReached : List SatLit → Type 0
   AllReached ls = (m : SatLit) → Contains ls m → IsPropagated cs (literal_at atoms m)
 
-  unit_reached : (earlier : List SatLit) (l : SatLit) → AllReached earlier → Any (λ clause. IsUnit earlier clause l) clauses → IsPropagated cs (literal_at atoms l)
+  unit_reached : (earlier : List SatLit) (l : SatLit) → AllReached earlier → Any (λ clause. IsUnitClause earlier clause l) clauses → IsPropagated cs (literal_at atoms l)
   unit_reached earlier l all h =
-      let u = some-in (λ clause. IsUnit earlier clause l) clauses h in
+      let u = some-in (λ clause. IsUnitClause earlier clause l) clauses h in
       by_unit (literals_of atoms u.0) (literal_at atoms l) (contains-mapped (literals_of atoms) clauses u.0 u.1) (contains_literal atoms u.0 l u.2.member) (others u.0 u.2)
     where
-      others : (clause : List SatLit) → IsUnit earlier clause l → (m : Literal) → Contains (literals_of atoms clause) m → m ≢ literal_at atoms l → IsPropagated cs (opposite m)
+      others : (clause : List SatLit) → IsUnitClause earlier clause l → (m : Literal) → Contains (literals_of atoms clause) m → m ≢ literal_at atoms l → IsPropagated cs (opposite m)
       others clause u =
           each_literal atoms (λ m. m ≢ literal_at atoms l → IsPropagated cs (opposite m)) clause
           (λ m held differs. all (negated m) (contains_held earlier (negated m) (u.others m held (λ e. differs (ap (literal_at atoms) e)))))
@@ -145,7 +145,7 @@ module _ (atoms : List Lambda) (apart : AreApart atoms) (clauses : List (List Sa
             | inr differs ↦ denied m h differs
           ]))
       by_cases false isnt =
-          let unit : IsUnit ls c k = record {
+          let unit : IsUnitClause ls c k = record {
             member = held;
             still_open = isnt;
             others = λ m h differs.
@@ -154,7 +154,7 @@ module _ (atoms : List Lambda) (apart : AreApart atoms) (clauses : List (List Sa
                   | inr other ↦ denied m h other
                 ];
           } in
-          let some : Any (λ clause. IsUnit (given ++ p.later) clause k) clauses = (there.0, c, there.1, there.2, subst (λ (before : List SatLit). IsUnit before c k) p.begins unit) in
+          let some : Any (λ clause. IsUnitClause (given ++ p.later) clause k) clauses = (there.0, c, there.1, there.2, subst (λ (before : List SatLit). IsUnitClause before c k) p.begins unit) in
           inl (record {
             literals = ls ++ k ∷ [];
             grown = λ m h. holds-append ls (k ∷ []) m ∙ or_left (holds ls m) (holds (k ∷ []) m) h;

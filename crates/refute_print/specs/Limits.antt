@@ -39,11 +39,11 @@ abbrev mutual
   spine_depth (lam a s) = suc (max (type_tree_depth a) (term_depth s))
   spine_depth (app s u) = max (spine_depth s) (term_depth u)
 
-abbrev pub IsType : TextTypeTree → Type 0
-IsType formula = Unit {0}
-IsType individual = Unit {0}
-IsType (named w) = is_printable_name w ≡ true
-IsType (arrow a b) = IsType a × IsType b
+abbrev pub IsPrintableType : TextTypeTree → Type 0
+IsPrintableType formula = Unit {0}
+IsPrintableType individual = Unit {0}
+IsPrintableType (named w) = is_printable_name w ≡ true
+IsPrintableType (arrow a b) = IsPrintableType a × IsPrintableType b
 
 abbrev pub IsConstant : ConstantTree → Type 0
 IsConstant (name w) = is_printable_name w ≡ true
@@ -51,16 +51,16 @@ IsConstant (witness k) = k < 2 ^ 32
 IsConstant falsity = Unit {0}
 IsConstant negation = Unit {0}
 IsConstant implication = Unit {0}
-IsConstant (all a) = IsType a
-IsConstant (equality a) = IsType a
-IsConstant (choice a) = IsType a
-IsConstant (description a) = IsType a
+IsConstant (all a) = IsPrintableType a
+IsConstant (equality a) = IsPrintableType a
+IsConstant (choice a) = IsPrintableType a
+IsConstant (description a) = IsPrintableType a
 
 abbrev mutual
   pub IsTerm : TermTree → Type 0
   IsTerm (bound k) = k < 2 ^ 32
   IsTerm (constant c) = IsConstant c
-  IsTerm (lam a s) = IsType a × IsTerm s
+  IsTerm (lam a s) = IsPrintableType a × IsTerm s
   IsTerm (app s u) = IsSpine s × IsTerm u
 
   -- a head with arguments

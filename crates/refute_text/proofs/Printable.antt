@@ -11,7 +11,7 @@ use Rattle.thf_names.specs.Names.{is_lower_word, escaped, quoted, name_text}
 use Rattle.refute_print.specs.Letters.{is_printable_name}
 use Rattle.refute_print.specs.Trees.{TextTypeTree, formula, individual, named, arrow, ConstantTree, name, witness, falsity, negation, implication, all, equality, choice, description, TermTree, bound, constant, lam, app, LiteralTree, OnePlace, False, Refl, ImpPos, ImpNeg, BoolPos, BoolNeg, FunPos, FunNeg, AllNeg, Dec, TwoPlaces, Close, Mat, Con, OfPredicate, Cho, Des, RuleTree, at_one, at_two, with_instance, with_predicate, with_cut, LineTree, RefutationTree}
 use Rattle.refute_print.specs.Text.{version_text, definition_text, text_of_type, constant_text, term_text, spine_text, sign_text, literal_text, after_commas, comma_separated, branch_text, child_text, children_text, one_place_name, two_places_name, predicate_name, rule_text, row_text, line_text, row_texts, line_texts, text_lines}
-use Rattle.refute_print.specs.Limits.{IsType, IsConstant, IsTerm, IsSpine, IsWithinLimits, IsLiteralText, IsRule, IsChild, IsLine}
+use Rattle.refute_print.specs.Limits.{IsPrintableType, IsConstant, IsTerm, IsSpine, IsWithinLimits, IsLiteralText, IsRule, IsChild, IsLine}
 use Rattle.outside.specs.Decimal.{is_digit}
 use Rattle.refute_text.specs.Reading.{IsTextName, HasText, is_one_line, AreLines}
 use Rattle.refute_text.proofs.Numbers.{own}
@@ -60,7 +60,7 @@ name_printable (c ∷ cs) h = go (is_lower_word (c ∷ cs))
     go true = h
     go false = both (flat_map escaped (c ∷ cs)) (codes "'") (characters_printable (c ∷ cs) h) refl
 
-type_printable : (a : TextTypeTree) → IsType a → IsPrintable (text_of_type a)
+type_printable : (a : TextTypeTree) → IsPrintableType a → IsPrintable (text_of_type a)
 type_printable formula h = refl
 type_printable individual h = refl
 type_printable (named w) h = name_printable w h

@@ -2,7 +2,7 @@
 use Rattle.std.proofs.Common.{◌≡◌, ℕ, zero, suc, ◌^◌, ◌<◌, ◌≤◌, true, List, [], ◌∷◌, ◌++◌, Some, length, codes, decimal, refl, sym, ap, subst, ◌∙◌, append_assoc, arith}
 use Rattle.refute_print.specs.Trees.{TextTypeTree, ConstantTree, name, witness, falsity, negation, implication, all, equality, choice, description, TermTree, bound, constant, lam, app, applied_tree}
 use Rattle.refute_print.specs.Text.{text_of_type, term_text}
-use Rattle.refute_print.specs.Limits.{IsType, type_tree_depth, IsTerm, IsSpine, term_depth, spine_depth}
+use Rattle.refute_print.specs.Limits.{IsPrintableType, type_tree_depth, IsTerm, IsSpine, term_depth, spine_depth}
 use Rattle.refute_text.specs.Internal.Reader.{behind_text, by_front, number_at, name_at, type_at}
 use Rattle.refute_text.specs.Internal.TermReader.{TermAt, counted_at, named_head_at, bracketed_type_at, bracketed_at, dollar_head_at, head_text_at, arguments_at, application_at, lambda_at, no_term, term_text_at}
 use Rattle.refute_text.proofs.Inversions.{found}
@@ -16,13 +16,13 @@ counted_back : (make : ℕ → TermTree) (k : ℕ) (rest : List ℕ) → k < 2 ^
 counted_back make k rest small stop =
     bind_gives (number_at (2 ^ 32) (decimal k ++ rest)) (λ n. found (make n.0) n.1) (k, rest) (make k, rest) (number_at-decimal (2 ^ 32) k rest small (omega arith) stop) refl
 
-bracketed_type_back : (depth : ℕ) (a : TextTypeTree) (rest : List ℕ) → IsType a → suc (type_tree_depth a) ≤ depth → bracketed_type_at depth ((text_of_type a ++ codes "]") ++ rest) ≡ found a rest
+bracketed_type_back : (depth : ℕ) (a : TextTypeTree) (rest : List ℕ) → IsPrintableType a → suc (type_tree_depth a) ≤ depth → bracketed_type_at depth ((text_of_type a ++ codes "]") ++ rest) ≡ found a rest
 bracketed_type_back zero a rest is within = absurd (omega (arith, within))
 bracketed_type_back (suc depth) a rest is within =
     ap (bracketed_type_at (suc depth)) (append_assoc (text_of_type a) (codes "]") rest)
     ∙ bind_gives (type_at depth (text_of_type a ++ (codes "]" ++ rest))) _ (a, codes "]" ++ rest) (a, rest) (type_at-text depth a (codes "]" ++ rest) is (omega (arith, within)) refl) refl
 
-bracketed_back : (make : TextTypeTree → ConstantTree) (depth : ℕ) (a : TextTypeTree) (rest : List ℕ) → IsType a → suc (type_tree_depth a) ≤ depth → bracketed_at make depth ((text_of_type a ++ codes "]") ++ rest) ≡ found (constant (make a)) rest
+bracketed_back : (make : TextTypeTree → ConstantTree) (depth : ℕ) (a : TextTypeTree) (rest : List ℕ) → IsPrintableType a → suc (type_tree_depth a) ≤ depth → bracketed_at make depth ((text_of_type a ++ codes "]") ++ rest) ≡ found (constant (make a)) rest
 bracketed_back make depth a rest is within =
     bind_gives (bracketed_type_at depth ((text_of_type a ++ codes "]") ++ rest)) (λ b. found (constant (make b.0)) b.1) (a, rest) (constant (make a), rest) (bracketed_type_back depth a rest is within) refl
 
@@ -121,7 +121,7 @@ parts_back depth term t rest reads p no_head = go p.arguments p.are_terms p.whol
     go (u ∷ us) terms whole =
         subst (λ x. term_from depth term (term_text x ++ rest) ≡ found x rest) (sym whole) (grouped_back depth term p.head u us rest reads p.is_head p.is_term p.within terms)
 
-lambda_back : (depth : ℕ) (term : List ℕ → TermAt) (a : TextTypeTree) (s : TermTree) (rest : List ℕ) → ReadsTerms depth term → IsType a → type_tree_depth a ≤ depth → IsTerm s → term_depth s ≤ depth → stops rest ≡ true → lambda_at depth term ((text_of_type a ++ (codes "." ++ term_text s)) ++ rest) ≡ found (lam a s) rest
+lambda_back : (depth : ℕ) (term : List ℕ → TermAt) (a : TextTypeTree) (s : TermTree) (rest : List ℕ) → ReadsTerms depth term → IsPrintableType a → type_tree_depth a ≤ depth → IsTerm s → term_depth s ≤ depth → stops rest ≡ true → lambda_at depth term ((text_of_type a ++ (codes "." ++ term_text s)) ++ rest) ≡ found (lam a s) rest
 lambda_back depth term a s rest reads is_type type_within is_term within stop =
     let body = codes "." ++ (term_text s ++ rest) in
     ap (lambda_at depth term) (regroup (text_of_type a) (term_text s) rest)

@@ -2,7 +2,7 @@
 use Rattle.std.proofs.Common.{◌≡◌, ℕ, zero, suc, ◌^◌, ◌<◌, ◌≤◌, List, [], ◌∷◌, ◌++◌, Option, Some, None, length, codes, decimal, refl, sym, ap, ap₂, subst, ◌∙◌, append_assoc, arith, length-append}
 use Rattle.refute_print.specs.Trees.{TextTypeTree, ConstantTree, name, witness, falsity, negation, implication, all, equality, choice, description, TermTree, bound, constant, lam, applied_tree}
 use Rattle.refute_print.specs.Text.{text_of_type, constant_text, term_text}
-use Rattle.refute_print.specs.Limits.{IsType, type_tree_depth, IsConstant, constant_depth, IsTerm, term_depth}
+use Rattle.refute_print.specs.Limits.{IsPrintableType, type_tree_depth, IsConstant, constant_depth, IsTerm, term_depth}
 use Rattle.refute_text.specs.Internal.Reader.{behind_text, number_at, name_at, type_at, with_item, repeated_at}
 use Rattle.refute_text.specs.Internal.TermReader.{TermAt, counted_at, named_head_at, opened_type_at, bracketed_type_at, bracketed_at, dollar_head_at, head_text_at, arguments_at, applied_to, application_at, lambda_at, no_term, term_text_at}
 use Rattle.refute_text.proofs.Inversions.{found, found_first, found_second, bind_sound, front_sound, behind_some}
@@ -61,7 +61,7 @@ opened_reads (suc depth) bs a r h =
     let w = s.within in
     (record { text = s.text; is_type = s.is_type; within = omega (arith, w) }, omega (arith, w))
 
-bracketed_reads : (depth : ℕ) (make : TextTypeTree → ConstantTree) (mark bs : List ℕ) (t : TermTree) (r : List ℕ) → ((a : TextTypeTree) → (constant_text (make a) ≡ mark ++ (text_of_type a ++ codes "]")) × ((IsType a → IsConstant (make a)) × (constant_depth (make a) ≡ suc (type_tree_depth a)))) → bracketed_at make depth bs ≡ Some (t, r) → HeadStands depth (mark ++ bs) t r
+bracketed_reads : (depth : ℕ) (make : TextTypeTree → ConstantTree) (mark bs : List ℕ) (t : TermTree) (r : List ℕ) → ((a : TextTypeTree) → (constant_text (make a) ≡ mark ++ (text_of_type a ++ codes "]")) × ((IsPrintableType a → IsConstant (make a)) × (constant_depth (make a) ≡ suc (type_tree_depth a)))) → bracketed_at make depth bs ≡ Some (t, r) → HeadStands depth (mark ++ bs) t r
 bracketed_reads depth make mark bs t r made h =
     bind_sound (bracketed_type_at depth bs) (λ a. found (constant (make a.0)) a.1) (t, r) h (λ b at0 e0.
     bind_sound (opened_type_at depth bs) _ b at0 (λ a at e1.

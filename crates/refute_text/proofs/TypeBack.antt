@@ -4,7 +4,7 @@ use Rattle.thf_names.specs.Names.{name_text}
 use Rattle.refute_print.specs.Letters.{is_printable_name}
 use Rattle.refute_print.specs.Trees.{TextTypeTree, formula, individual, named, arrow}
 use Rattle.refute_print.specs.Text.{text_of_type}
-use Rattle.refute_print.specs.Limits.{IsType, type_tree_depth}
+use Rattle.refute_print.specs.Limits.{IsPrintableType, type_tree_depth}
 use Rattle.refute_text.specs.Internal.Reader.{behind_text, name_at, named_at, arrow_at, no_type, type_from, type_at}
 use Rattle.refute_text.proofs.Inversions.{found}
 use Rattle.refute_text.proofs.Answers.{bind_gives, front_skips}
@@ -32,7 +32,7 @@ arrow_back inside a b rest from to =
     regroup : (a b r : List ℕ) → (a ++ (codes ">" ++ (b ++ codes ")"))) ++ r ≡ a ++ (codes ">" ++ (b ++ (codes ")" ++ r)))
     regroup a b r = simp append_assoc
 
-pub type_at-text : (depth : ℕ) (a : TextTypeTree) (rest : List ℕ) → IsType a → type_tree_depth a ≤ depth → stops rest ≡ true → type_at depth (text_of_type a ++ rest) ≡ Some (a, rest)
+pub type_at-text : (depth : ℕ) (a : TextTypeTree) (rest : List ℕ) → IsPrintableType a → type_tree_depth a ≤ depth → stops rest ≡ true → type_at depth (text_of_type a ++ rest) ≡ Some (a, rest)
 unfolding type_at
 type_at-text zero formula rest is within stop = refl
 type_at-text zero individual rest is within stop = refl

@@ -2,7 +2,7 @@
 use Rattle.std.proofs.Common.{◌≡◌, ℕ, zero, suc, ◌≤◌, List, ◌++◌, Option, Some, codes, sym, ap, ap₂, subst, ◌∙◌, append_assoc, arith}
 use Rattle.refute_print.specs.Trees.{TextTypeTree, formula, individual, named, arrow}
 use Rattle.refute_print.specs.Text.{text_of_type}
-use Rattle.refute_print.specs.Limits.{IsType, type_tree_depth}
+use Rattle.refute_print.specs.Limits.{IsPrintableType, type_tree_depth}
 use Rattle.refute_text.specs.Internal.Reader.{behind_text, name_at, named_at, arrow_at, no_type, type_from, type_at}
 use Rattle.refute_text.proofs.Inversions.{found, found_first, found_second, bind_sound, front_sound, behind_some}
 use Rattle.refute_text.proofs.NameReads.{name_reads}
@@ -10,16 +10,16 @@ use Rattle.refute_text.proofs.NameReads.{name_reads}
 -- the type's text is at the front of the bytes
 pub record TypeStands (depth : ℕ) (bs : List ℕ) (a : TextTypeTree) (r : List ℕ) : Type 0 where
   pub text : bs ≡ text_of_type a ++ r
-  pub is_type : IsType a
+  pub is_type : IsPrintableType a
   pub within : type_tree_depth a ≤ depth
 
-stands_at : (depth : ℕ) (bs : List ℕ) (a b : TextTypeTree) (r s : List ℕ) → bs ≡ text_of_type a ++ r → IsType a → type_tree_depth a ≤ depth → found a r ≡ found b s → TypeStands depth bs b s
+stands_at : (depth : ℕ) (bs : List ℕ) (a b : TextTypeTree) (r s : List ℕ) → bs ≡ text_of_type a ++ r → IsPrintableType a → type_tree_depth a ≤ depth → found a r ≡ found b s → TypeStands depth bs b s
 stands_at depth bs a b r s text is within h =
     let same : a ≡ b = found_first a b r s h in
     let rest : r ≡ s = found_second a b r s h in
     record {
       text = text ∙ ap₂ (λ x y. text_of_type x ++ y) same rest;
-      is_type = subst IsType same is;
+      is_type = subst IsPrintableType same is;
       within = subst (λ x. type_tree_depth x ≤ depth) same within;
     }
 

@@ -20,7 +20,7 @@ use Rattle.tableau_calculus.specs.declared.refutation.Line.{Line}
 use Rattle.tableau_calculus.specs.declared.refutation.Refutation.{Refutation}
 use Rattle.refute_print.specs.Letters.{is_printable_name}
 use Rattle.refute_print.specs.Limits as text
-use Rattle.refute_print.specs.Limits.{constant_depth, term_depth, spine_depth, IsType, IsConstant, IsTerm, IsSpine, IsWithinLimits, IsLiteralText, IsRule, IsLine}
+use Rattle.refute_print.specs.Limits.{constant_depth, term_depth, spine_depth, IsPrintableType, IsConstant, IsTerm, IsSpine, IsWithinLimits, IsLiteralText, IsRule, IsLine}
 use Rattle.refute_print.specs.Sizes.{term_limit, nesting, nesting_in, type_depth, IsSmallTerm, AreSmallLiterals, IsSmallRule, IsSmallLine, IsSmall}
 use Rattle.refute_print.specs.Named.{Names, name_numbered, named_type, named_constant, named_term, named_literal, named_rule, named_line, named_refutation, HasTypeNames, HasConstantNames, ArePlaces}
 use Rattle.refute_text.specs.Reading.{IsTextName, HasText}
@@ -37,7 +37,7 @@ word_at (w ∷ names) zero h within = h.0
 word_at (w ∷ names) (suc k) h within = word_at names k h.1 (omega arith)
 
 module _ (names : Names) (words : AreWords names) where
-  type_word : (a : SimpleType) → HasTypeNames names a → IsType (named_type names a)
+  type_word : (a : SimpleType) → HasTypeNames names a → IsPrintableType (named_type names a)
   type_word (base zero) h = tt
   type_word (base (suc zero)) h = tt
   type_word (base (suc (suc k))) h = word_at names.bases k words.bases (within k h)

@@ -16,7 +16,7 @@ use Rattle.sat_log.specs.Resolution.{without_literal, resolved, resolvent}
 use Rattle.sat_log.proofs.VariableLaws.{twice_from_false, mentioned_as}
 use Rattle.std.specs.Prelude.{if◌then◌else◌}
 use Rattle.sat_log.specs.Chains.{premise_clause, after_step, after_steps, chain_result}
-use Rattle.sat_log.specs.Propagation.{IsUnit, IsFalseIn, IsConsistent}
+use Rattle.sat_log.specs.Propagation.{IsUnitClause, IsFalseIn, IsConsistent}
 use Rattle.sat_log.proofs.ChainLaws.{and_then-Some}
 use Rattle.sat_laws.specs.Internal.Analysis.{IsFalseBefore, one_if, how_many}
 use Rattle.sat_laws.specs.Internal.Complete.{IsComplete}
@@ -38,7 +38,7 @@ pub valued_by_negation : (some : List SatLit) (l : SatLit) → holds some (negat
 valued_by_negation some l h = mentions-held some (negated l) h
 
 -- the literals of a reason have values
-pub reason_valued : (trail : TrailState) (i : ℕ) (step : Step) (reason : List SatLit) → slice_get trail.steps i ≡ Some step → IsUnit (take i (literals trail.steps)) reason step.literal
+pub reason_valued : (trail : TrailState) (i : ℕ) (step : Step) (reason : List SatLit) → slice_get trail.steps i ≡ Some step → IsUnitClause (take i (literals trail.steps)) reason step.literal
     → (l : SatLit) → holds reason l ≡ true → mentions_variable (literals trail.steps) l.var ≡ true
 reason_valued trail i step reason at unit l h =
     elim (cases_Bool (same_literal l step.literal)) [
@@ -84,7 +84,7 @@ denied_there clauses trail names conflict start marks steps late place step a ri
         (held-take place (literals trail.steps) (negated step.literal) (a.below step.literal h))
 
 -- a reason does not hold the negation of its literal
-pub reason_undenied : (trail : TrailState) (i : ℕ) (step : Step) (reason : List SatLit) → IsTrail trail → slice_get trail.steps i ≡ Some step → IsUnit (take i (literals trail.steps)) reason step.literal
+pub reason_undenied : (trail : TrailState) (i : ℕ) (step : Step) (reason : List SatLit) → IsTrail trail → slice_get trail.steps i ≡ Some step → IsUnitClause (take i (literals trail.steps)) reason step.literal
     → holds reason (negated step.literal) ≡ false
 reason_undenied trail i step reason right at unit =
     false_from_ne_true (holds reason (negated step.literal)) (λ h.
@@ -113,7 +113,7 @@ once_resolved trail v a b outcome place consistent e below =
 
 pub analysed_next : (clauses : List Watched) (trail : TrailState) (names : List Premise) (conflict start : ℕ) (marks after : List Bool) (steps : List ChainStep) (late more place n : ℕ) (step : Step) (watched : Watched) (name : Premise)
     → IsAnalysed clauses trail names conflict start marks steps late place → IsTrail trail → 0 < place → slice_get trail.steps (place - 1) ≡ Some step → is_marked marks step.literal.var ≡ true
-    → slice_get clauses n ≡ Some watched → IsUnit (take (place - 1) (literals trail.steps)) watched.clause step.literal → slice_get names n ≡ Some name
+    → slice_get clauses n ≡ Some watched → IsUnitClause (take (place - 1) (literals trail.steps)) watched.clause step.literal → slice_get names n ≡ Some name
     → ((v : Var) → is_marked after v ≡ ((is_marked marks v && not (same_var v step.literal.var)) || mentions_variable (others (Some step.literal) watched.clause) v))
     → more ≡ how_many (marks_literal after) (drop start (literals trail.steps)) → late ≤ more + 1 → late ≢ 1
     → IsAnalysed clauses trail names conflict start after (steps ++ record { var = step.literal.var; premise = name } ∷ []) more (place - 1)
@@ -358,7 +358,7 @@ refuting_denied trail so_far marks place step below marked right at there = (
 
 pub refuting_next : (clauses : List Watched) (trail : TrailState) (names : List Premise) (first : Premise) (clause : List SatLit) (marks after : List Bool) (steps : List ChainStep) (place n : ℕ) (step : Step) (watched : Watched) (name : Premise)
     → IsRefuting clauses trail names first clause marks steps place → IsTrail trail → 0 < place → slice_get trail.steps (place - 1) ≡ Some step → is_marked marks step.literal.var ≡ true
-    → slice_get clauses n ≡ Some watched → IsUnit (take (place - 1) (literals trail.steps)) watched.clause step.literal → slice_get names n ≡ Some name
+    → slice_get clauses n ≡ Some watched → IsUnitClause (take (place - 1) (literals trail.steps)) watched.clause step.literal → slice_get names n ≡ Some name
     → ((v : Var) → is_marked after v ≡ ((is_marked marks v && not (same_var v step.literal.var)) || mentions_variable (others (Some step.literal) watched.clause) v))
     → IsRefuting clauses trail names first clause after (steps ++ record { var = step.literal.var; premise = name } ∷ []) (place - 1)
 refuting_next clauses trail names first clause marks after steps place n step watched name a right positive at marked there unit named marks_after = record {
@@ -452,7 +452,7 @@ learned_once clauses trail start outcome complete whole learned (inl there) =
         | inr apart ↦ learned.others l h apart
       ]))
       | inr late ↦
-          let unit : IsUnit part outcome (negated learned.point) = record {
+          let unit : IsUnitClause part outcome (negated learned.point) = record {
             member = learned.member;
             still_open = ap (holds part) (negated-negated learned.point) ∙ late;
             others = λ m h apart. learned.others m h (false_from_ne_true (same_literal (negated learned.point) m) (λ e. apart (sym (same_literal-true (negated learned.point) m e))));

@@ -11,7 +11,7 @@ use Rattle.sat_base.proofs.LiteralLaws.{same_literal-refl, same_literal-true, ho
 use Rattle.sat_log.specs.declared.chain.Premise.{Premise}
 use Rattle.sat_log.specs.declared.chain.Premise.TheVariants.{Clause, Result}
 use Rattle.sat_log.specs.Chains.{premise_clause}
-use Rattle.sat_log.specs.Propagation.{IsUnit, IsFalseIn, Includes, ReachesFalse, AreFailingDecisions}
+use Rattle.sat_log.specs.Propagation.{IsUnitClause, IsFalseIn, Includes, ReachesFalse, AreFailingDecisions}
 use Rattle.sat_laws.specs.Internal.Complete.{IsComplete, IsClausePart}
 use Rattle.sat_laws.specs.Internal.Trail.{IsForced}
 use Rattle.sat_laws.proofs.CompleteLaws.{consistent_once}
@@ -55,14 +55,14 @@ forced clauses some propagator names marks given ready decided i l at =
     go step found.1 found.2 step.reason refl
   where
     go : (step : Step) → slice_get propagator.trail.steps i ≡ Some step → step.literal ≡ l → (reason : Option ℕ) → step.reason ≡ reason
-        → IsTrue (holds given l) ⊎ Any (λ clause. IsUnit (take i (literals propagator.trail.steps)) clause l) (clauses ++ some)
+        → IsTrue (holds given l) ⊎ Any (λ clause. IsUnitClause (take i (literals propagator.trail.steps)) clause l) (clauses ++ some)
     go step there is None e =
         inl (subst (λ (k : SatLit). holds given k ≡ true) is (decided i step there ((ready.right.reasoned i step there).decided e)))
     go step there is (Some n) e =
         let reason = (ready.right.reasoned i step there).forced n e in
         let name = ready.named n reason.0 reason.1 in
         let among = premise_among clauses some name.0 reason.0.clause name.2 in
-        inr (among.0, reason.0.clause, among.1, among.2, subst (λ (k : SatLit). IsUnit (take i (literals propagator.trail.steps)) reason.0.clause k) is reason.2)
+        inr (among.0, reason.0.clause, among.1, among.2, subst (λ (k : SatLit). IsUnitClause (take i (literals propagator.trail.steps)) reason.0.clause k) is reason.2)
 
 -- without a decision propagation reaches a clause that is false
 pub root_reaches_false : (clauses some : List (List SatLit)) (propagator : Propagator) (names : List Premise) (marks : List Bool) (clause : List SatLit) → IsNamedPropagator clauses some propagator names marks

@@ -15,7 +15,7 @@ use Rattle.sat_log.specs.Resolution.{without_literal, resolved}
 use Rattle.sat_log.proofs.ResolutionLaws.{holds-without}
 use Rattle.sat_log.proofs.VariableLaws.{mentioned_as}
 use Rattle.sat_log.specs.Chains.{premise_clause}
-use Rattle.sat_log.specs.Propagation.{IsUnit, IsConsistent}
+use Rattle.sat_log.specs.Propagation.{IsUnitClause, IsConsistent}
 use Rattle.sat_laws.specs.Internal.Complete.{IsComplete}
 use Rattle.sat_laws.proofs.CompleteLaws.{consistent_once}
 use Rattle.sat_laws.proofs.TrailLaws.{held_at}
@@ -42,7 +42,7 @@ learned_false trail start clause learned l h =
 -- a literal is resolved away with its reason
 pub shortening_next : (clauses : List Watched) (trail : TrailState) (names : List Premise) (marks after : List Bool) (start place n : ℕ) (chain : Chain) (step : Step) (watched : Watched) (name : Premise)
     → IsShortening clauses trail names marks start chain → IsTrail trail → place < start → slice_get trail.steps place ≡ Some step → is_marked marks step.literal.var ≡ true
-    → slice_get clauses n ≡ Some watched → IsUnit (take place (literals trail.steps)) watched.clause step.literal → slice_get names n ≡ Some name
+    → slice_get clauses n ≡ Some watched → IsUnitClause (take place (literals trail.steps)) watched.clause step.literal → slice_get names n ≡ Some name
     → ((v : Var) → is_marked after v ≡ ((is_marked marks v && not (same_var v step.literal.var)) || mentions_variable (others (Some step.literal) watched.clause) v))
     → IsShortening clauses trail names after start (record { first = chain.first; steps = chain.steps ++ record { var = step.literal.var; premise = name } ∷ [] })
 shortening_next clauses trail names marks after start place n chain step watched name a right early at marked there unit named marks_after = record {

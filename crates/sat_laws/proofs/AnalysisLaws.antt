@@ -10,7 +10,7 @@ use Rattle.sat_base.specs.declared.literal.SatLit.{SatLit}
 use Rattle.sat_base.specs.Literal.{literal, positive, negative, negated, same_var, same_literal, holds, mentions_variable, HoldsNoVariableTwice}
 use Rattle.sat_base.proofs.LiteralLaws.{same_var-refl, same_var-true, mentions-held, same_literal-true, same_literal-refl, sign_cases, holds-append, negated-negated}
 use Rattle.sat_log.specs.Resolution.{without_literal, resolvent, resolved}
-use Rattle.sat_log.specs.Propagation.{IsUnit, IsConsistent, IsNew}
+use Rattle.sat_log.specs.Propagation.{IsUnitClause, IsConsistent, IsNew}
 use Rattle.sat_log.proofs.ResolutionLaws.{holds-without, holds-without_repeats}
 use Rattle.sat_laws.specs.Internal.Analysis.{IsFalseBefore, one_if, how_many}
 use Rattle.sat_laws.specs.Internal.Complete.{IsComplete}
@@ -82,7 +82,7 @@ step_resolves t so_far reason denied untrue held =
 
 -- the outcome is false before the place of t, where the clause so far is false up to it and the reason made t true there
 pub outcome_false : (trail so_far reason outcome : List SatLit) (place : ℕ) (t : SatLit) → slice_get trail place ≡ Some t → IsFalseBefore (place + 1) trail so_far
-    → IsUnit (take place trail) reason t → IsOutcome t so_far reason outcome → IsFalseBefore place trail outcome
+    → IsUnitClause (take place trail) reason t → IsOutcome t so_far reason outcome → IsFalseBefore place trail outcome
 outcome_false trail so_far reason outcome place t at below unit made l h =
     elim (made.from_either l h) [
       | inl first ↦ elim (held_next trail place t (negated l) at (below l first.0)) [

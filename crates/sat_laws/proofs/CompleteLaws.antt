@@ -7,7 +7,7 @@ use Rattle.sat_base.specs.Literal.{negated, same_literal, holds, HoldsNoVariable
 use Rattle.sat_base.proofs.LiteralLaws.{same_literal-refl, same_literal-true, holds-append, negated-negated, All-held, All-from_held}
 use Rattle.sat_log.proofs.ResolutionLaws.{holds-without}
 use Rattle.sat_log.specs.Resolution.{without_literal}
-use Rattle.sat_log.specs.Propagation.{IsUnit, IsFalseIn, IsConsistent, Propagates, IsPropagation, Reaches, ReachesFalse, IsNew}
+use Rattle.sat_log.specs.Propagation.{IsUnitClause, IsFalseIn, IsConsistent, Propagates, IsPropagation, Reaches, ReachesFalse, IsNew}
 use Rattle.sat_log.proofs.VariableLaws.{no_clash}
 use Rattle.sat_laws.specs.Internal.Complete.{satisfies, IsClausePart, IsComplete}
 
@@ -47,7 +47,7 @@ satisfied_not_false literals clause consistent h each =
     consistent some.0 some.2 (All-held (λ m. IsTrue (holds literals (negated m))) clause some.0 each some.1)
 
 -- a literal of a satisfied clause that is the only one whose negation is not held is held
-satisfied_unit : (literals clause : List SatLit) (l : SatLit) → IsConsistent literals → satisfies literals clause ≡ true → IsUnit literals clause l → holds literals l ≡ true
+satisfied_unit : (literals clause : List SatLit) (l : SatLit) → IsConsistent literals → satisfies literals clause ≡ true → IsUnitClause literals clause l → holds literals l ≡ true
 satisfied_unit literals clause l consistent h unit =
     let some = true_literal literals clause h in
     elim (cases_Bool (same_literal some.0 l)) [
@@ -65,7 +65,7 @@ watched_not_false literals clause a b consistent a_in guard each =
 
 pub watched_unit : (literals clause : List SatLit) (a b : SatLit) → IsConsistent literals → holds clause a ≡ true → holds clause b ≡ true → a ≢ b
     → (holds literals (negated a) ≡ true → satisfies literals clause ≡ true) → (holds literals (negated b) ≡ true → satisfies literals clause ≡ true)
-    → (l : SatLit) → IsUnit literals clause l → holds literals l ≡ true
+    → (l : SatLit) → IsUnitClause literals clause l → holds literals l ≡ true
 watched_unit literals clause a b consistent a_in b_in apart guard_a guard_b l unit =
     elim (cases_Bool (same_literal a l)) [
       | inl same ↦ satisfied_unit literals clause l consistent
@@ -74,7 +74,7 @@ watched_unit literals clause a b consistent a_in b_in apart guard_a guard_b l un
           (guard_a (unit.others a a_in (λ e. false≢true (sym other ∙ subst (λ (k : SatLit). same_literal a k ≡ true) e (same_literal-refl a))))) unit
     ]
 
-pub satisfied_complete_unit : (literals clause : List SatLit) → IsConsistent literals → satisfies literals clause ≡ true → (l : SatLit) → IsUnit literals clause l → holds literals l ≡ true
+pub satisfied_complete_unit : (literals clause : List SatLit) → IsConsistent literals → satisfies literals clause ≡ true → (l : SatLit) → IsUnitClause literals clause l → holds literals l ≡ true
 satisfied_complete_unit literals clause consistent h l unit = satisfied_unit literals clause l consistent h unit
 
 pub satisfied_complete : (literals clause : List SatLit) → IsConsistent literals → satisfies literals clause ≡ true → IsFalseIn literals clause → ⊥
@@ -92,7 +92,7 @@ IsWithin-push some literals m within m_in l t =
 
 -- a literal that is propagated from literals of a complete list is in it
 held_unit : (clauses : List (List SatLit)) (literals earlier clause : List SatLit) (l : SatLit) → IsComplete clauses literals → IsClausePart earlier literals
-    → Contains clauses clause → IsUnit earlier clause l → holds literals l ≡ true
+    → Contains clauses clause → IsUnitClause earlier clause l → holds literals l ≡ true
 held_unit clauses literals earlier clause l complete within there unit =
     elim (cases_Bool (holds literals (negated l))) [
       | inl denied ↦ absurd (complete.none_false clause there (All-from_held (λ m. IsTrue (holds literals (negated m))) clause (λ m h.

@@ -7,7 +7,7 @@ use Rattle.std.proofs.lemmas.Option.{slice_get_cases}
 use Rattle.sat_base.specs.declared.literal.SatLit.{SatLit}
 use Rattle.sat_base.specs.Literal.{negated, same_literal, holds}
 use Rattle.sat_base.proofs.LiteralLaws.{same_literal-refl, holds-append, All-held, All-from_held}
-use Rattle.sat_log.specs.Propagation.{IsUnit, IsFalseIn, IsConsistent, Propagates, ReachesFalse, AreFailingDecisions}
+use Rattle.sat_log.specs.Propagation.{IsUnitClause, IsFalseIn, IsConsistent, Propagates, ReachesFalse, AreFailingDecisions}
 use Rattle.sat_laws.specs.Internal.Complete.{IsClausePart, IsComplete}
 use Rattle.sat_laws.specs.Internal.Trail.{IsForced}
 use Rattle.sat_laws.proofs.CompleteLaws.{IsWithin-push, reached_within, none_reached_false}
@@ -19,13 +19,13 @@ held_at (m ∷ literals) (suc i) l e = or_right (same_literal l m) _ (held_at li
 
 -- one literal more that is propagated
 pub Propagates-push : (clauses : List (List SatLit)) (earlier later : List SatLit) (l : SatLit) → Propagates clauses earlier later
-    → Any (λ clause. IsUnit (earlier ++ later) clause l) clauses → Propagates clauses earlier (later ++ l ∷ [])
+    → Any (λ clause. IsUnitClause (earlier ++ later) clause l) clauses → Propagates clauses earlier (later ++ l ∷ [])
 Propagates-push clauses earlier [] l p some =
-    (subst (λ (before : List SatLit). Any (λ clause. IsUnit before clause l) clauses) (append-nil earlier) some, tt)
+    (subst (λ (before : List SatLit). Any (λ clause. IsUnitClause before clause l) clauses) (append-nil earlier) some, tt)
 Propagates-push clauses earlier (m ∷ later) l p some = (
   p.0,
   Propagates-push clauses (earlier ++ m ∷ []) later l p.1
-      (subst (λ (before : List SatLit). Any (λ clause. IsUnit before clause l) clauses) (sym (append_assoc earlier (m ∷ []) later)) some),
+      (subst (λ (before : List SatLit). Any (λ clause. IsUnitClause before clause l) clauses) (sym (append_assoc earlier (m ∷ []) later)) some),
 )
 
 -- a propagation list from the given literals with these literals in it, and none that is not on the trail
@@ -37,7 +37,7 @@ pub record Covers (clauses : List (List SatLit)) (given trail some : List SatLit
 
 -- a literal that is the only open one stays so among other literals of the trail
 unit_among : (trail before among clause : List SatLit) (l : SatLit) → IsConsistent trail → holds trail l ≡ true → IsClausePart before among → IsClausePart among trail
-    → IsUnit before clause l → IsUnit among clause l
+    → IsUnitClause before clause l → IsUnitClause among clause l
 unit_among trail before among clause l consistent there covered inside unit = record {
   member = unit.member;
   still_open = false_from_ne_true (holds among (negated l)) (λ t. consistent l there (inside (negated l) t));
@@ -45,7 +45,7 @@ unit_among trail before among clause l consistent there covered inside unit = re
 }
 
 more_covered : (clauses : List (List SatLit)) (given trail some : List SatLit) (l : SatLit) → IsConsistent trail → holds trail l ≡ true
-    → (holds given l ≡ true) ⊎ Any (λ clause. IsUnit some clause l) clauses → Covers clauses given trail some → Covers clauses given trail (some ++ l ∷ [])
+    → (holds given l ≡ true) ⊎ Any (λ clause. IsUnitClause some clause l) clauses → Covers clauses given trail some → Covers clauses given trail (some ++ l ∷ [])
 more_covered clauses given trail some l consistent there (inl decided) c = record {
   later = c.later;
   propagated = c.propagated;

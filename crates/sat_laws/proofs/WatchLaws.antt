@@ -7,7 +7,7 @@ use Rattle.std.proofs.lemmas.List.Elements.{Contains-push_cases}
 use Rattle.sat_base.specs.declared.literal.SatLit.{SatLit}
 use Rattle.sat_base.specs.Literal.{negated, same_literal, holds}
 use Rattle.sat_base.proofs.LiteralLaws.{holds-append, same_literal-true}
-use Rattle.sat_log.specs.Propagation.{IsUnit, IsFalseIn, IsConsistent}
+use Rattle.sat_log.specs.Propagation.{IsUnitClause, IsFalseIn, IsConsistent}
 use Rattle.sat_laws.specs.Internal.Complete.{satisfies}
 use Rattle.sat_laws.specs.Internal.Watching.{IsGuarded, IsKept}
 use Rattle.sat_laws.proofs.CompleteLaws.{satisfies-more, satisfied_complete, satisfied_complete_unit, watched_not_false, watched_unit}
@@ -26,7 +26,7 @@ satisfies-append trail more clause h = satisfies-more trail (trail ++ more) clau
 
 pub kept_at : (starts : List ℕ) (trail : List SatLit) (processed : ℕ) (clause : List SatLit) (first second : SatLit) (s : ℕ) → Contains starts s
     → IsConsistent (take s trail) → IsKept starts trail processed clause first second
-    → ¬ IsFalseIn (take s trail) clause × ((l : SatLit) → IsUnit (take s trail) clause l → holds (take s trail) l ≡ true)
+    → ¬ IsFalseIn (take s trail) clause × ((l : SatLit) → IsUnitClause (take s trail) clause l → holds (take s trail) l ≡ true)
 kept_at starts trail processed clause first second s at consistent (inl w) = (
   watched_not_false (take s trail) clause first second consistent w.first_in (w.first_guarded.at_decisions s at),
   watched_unit (take s trail) clause first second consistent w.first_in w.second_in w.apart (w.first_guarded.at_decisions s at) (w.second_guarded.at_decisions s at),
@@ -38,7 +38,7 @@ kept_at starts trail processed clause first second s at consistent (inr r) = (
 
 pub kept_now : (starts : List ℕ) (trail : List SatLit) (clause : List SatLit) (first second : SatLit) → IsConsistent trail
     → IsKept starts trail (length trail) clause first second
-    → ¬ IsFalseIn trail clause × ((l : SatLit) → IsUnit trail clause l → holds trail l ≡ true)
+    → ¬ IsFalseIn trail clause × ((l : SatLit) → IsUnitClause trail clause l → holds trail l ≡ true)
 kept_now starts trail clause first second consistent (inl w) = (
   watched_not_false trail clause first second consistent w.first_in (whole first w.first_guarded),
   watched_unit trail clause first second consistent w.first_in w.second_in w.apart (whole first w.first_guarded) (whole second w.second_guarded),

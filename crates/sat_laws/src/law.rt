@@ -4,7 +4,7 @@ ghost use Rattle.std.specs.List.{All, AllPairs, Contains};
 ghost use Rattle.sat_base.specs.declared.literal.Var.{Var};
 ghost use Rattle.sat_base.specs.declared.literal.SatLit.{SatLit};
 ghost use Rattle.sat_base.specs.Literal.{holds, negated, same_literal, HoldsNoVariableTwice, IsAlike};
-ghost use Rattle.sat_log.specs.Propagation.{Reaches, ReachesFalse, IsConsistent, IsFalseIn, IsUnit, AreFailingDecisions, IsNew};
+ghost use Rattle.sat_log.specs.Propagation.{Reaches, ReachesFalse, IsConsistent, IsFalseIn, IsUnitClause, AreFailingDecisions, IsNew};
 ghost use Rattle.sat_laws.specs.Internal.Complete.{IsComplete, IsClausePart};
 ghost use Rattle.sat_laws.specs.Internal.Counting.{IsAmong};
 ghost use Rattle.sat_laws.specs.Internal.Trail.{IsForced};
@@ -43,10 +43,10 @@ pub fn forced_trail_law()
 pub fn watched_law()
     ensures at_decisions { (starts : List ℕ) (trail : List SatLit) (processed : ℕ) (clause : List SatLit) (first second : SatLit) (s : ℕ)
         → Contains starts s → IsConsistent (take s trail) → IsKept starts trail processed clause first second
-        → ¬ IsFalseIn (take s trail) clause × ((l : SatLit) → IsUnit (take s trail) clause l → IsTrue (holds (take s trail) l)) }
+        → ¬ IsFalseIn (take s trail) clause × ((l : SatLit) → IsUnitClause (take s trail) clause l → IsTrue (holds (take s trail) l)) }
     ensures now { (starts : List ℕ) (trail clause : List SatLit) (first second : SatLit) → IsConsistent trail
         → IsKept starts trail (length trail) clause first second
-        → ¬ IsFalseIn trail clause × ((l : SatLit) → IsUnit trail clause l → IsTrue (holds trail l)) }
+        → ¬ IsFalseIn trail clause × ((l : SatLit) → IsUnitClause trail clause l → IsTrue (holds trail l)) }
 {}
 
 /// Clauses over some variables, each without a variable twice and no two alike as sets, are at most 3 to the number of

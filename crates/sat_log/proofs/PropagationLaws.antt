@@ -10,7 +10,7 @@ use Rattle.sat_base.proofs.LiteralLaws.{same_literal-true, same_literal-refl, ho
 use Rattle.sat_base.proofs.TruthLaws.{literal_value-negated, clause_value-false, true_or_false}
 use Rattle.sat_log.specs.Resolution.{without_literal}
 use Rattle.sat_log.proofs.ResolutionLaws.{holds-without}
-use Rattle.sat_log.specs.Propagation.{IsNew, IsUnit, IsFalseIn, Propagates, IsPropagation, Reaches, ReachesFalse, Includes}
+use Rattle.sat_log.specs.Propagation.{IsNew, IsUnitClause, IsFalseIn, Propagates, IsPropagation, Reaches, ReachesFalse, Includes}
 
 -- what holds of one of some clauses holds of one of more clauses
 Any-included : (P : List SatLit → Type 0) (clauses others : List (List SatLit)) → Includes clauses others → Any P clauses → Any P others
@@ -21,7 +21,7 @@ Any-included P clauses others within some =
 Propagates-included : (clauses others : List (List SatLit)) → Includes clauses others → (earlier later : List SatLit) → Propagates clauses earlier later → Propagates others earlier later
 Propagates-included clauses others within earlier [] h = tt
 Propagates-included clauses others within earlier (l ∷ later) h =
-    (Any-included (λ clause. IsUnit earlier clause l) clauses others within h.0, Propagates-included clauses others within (earlier ++ l ∷ []) later h.1)
+    (Any-included (λ clause. IsUnitClause earlier clause l) clauses others within h.0, Propagates-included clauses others within (earlier ++ l ∷ []) later h.1)
 
 -- propagation lists only grow with the clauses
 pub IsPropagation-included : (clauses others : List (List SatLit)) → Includes clauses others → (given literals : List SatLit) → IsPropagation clauses given literals → IsPropagation others given literals
@@ -64,7 +64,7 @@ false_by_negation : (value : Var → Bool) (l : SatLit) → literal_value value 
 false_by_negation value l t = not-true (literal_value value l) (sym (literal_value-negated value l) ∙ t)
 
 -- a literal is true that is the only one of a true clause whose negation is not among the true ones
-unit_true : (value : Var → Bool) (earlier clause : List SatLit) (l : SatLit) → clause_value value clause ≡ true → AreTrue value earlier → IsUnit earlier clause l → literal_value value l ≡ true
+unit_true : (value : Var → Bool) (earlier clause : List SatLit) (l : SatLit) → clause_value value clause ≡ true → AreTrue value earlier → IsUnitClause earlier clause l → literal_value value l ≡ true
 unit_true value earlier clause l clause_true all unit =
     elim (cases_Bool (literal_value value l)) [
       | inl t ↦ t

@@ -6,7 +6,7 @@ use Rattle.sat_base.specs.Literal.{negated, holds}
 use Rattle.sat_log.specs.Resolution.{without_literal}
 
 -- a literal is the only one of a clause whose negation is not in the list
-pub record IsUnit (literals clause : List SatLit) (l : SatLit) : Type 0 where
+pub record IsUnitClause (literals clause : List SatLit) (l : SatLit) : Type 0 where
   pub member : IsTrue (holds clause l)
   pub still_open : holds literals (negated l) ≡ false
   pub others : (m : SatLit) → IsTrue (holds clause m) → m ≢ l → IsTrue (holds literals (negated m))
@@ -22,7 +22,7 @@ IsConsistent literals = (l : SatLit) → IsTrue (holds literals l) → IsTrue (h
 -- each later literal is the only one of some clause whose negation is not earlier in the list
 abbrev pub Propagates : List (List SatLit) → List SatLit → List SatLit → Type 0
 Propagates clauses earlier [] = Unit {0}
-Propagates clauses earlier (l ∷ later) = Any (λ clause. IsUnit earlier clause l) clauses × Propagates clauses (earlier ++ l ∷ []) later
+Propagates clauses earlier (l ∷ later) = Any (λ clause. IsUnitClause earlier clause l) clauses × Propagates clauses (earlier ++ l ∷ []) later
 
 -- a propagation list over the clauses from the given literals: these, and then literals that are propagated
 pub record IsPropagation (clauses : List (List SatLit)) (given literals : List SatLit) : Type 0 where

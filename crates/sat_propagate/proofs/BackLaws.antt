@@ -5,7 +5,7 @@ use Rattle.std.proofs.lemmas.Bool.{cases_order}
 use Rattle.std.proofs.lemmas.List.{take-take, get_or-take, length-take-le}
 use Rattle.std.proofs.lemmas.Option.{slice_get_within, get_or_from_slice_get}
 use Rattle.sat_base.specs.declared.literal.SatLit.{SatLit}
-use Rattle.sat_log.specs.Propagation.{IsUnit}
+use Rattle.sat_log.specs.Propagation.{IsUnitClause}
 use Rattle.sat_laws.specs.Internal.Watching.{IsKept}
 use Rattle.sat_laws.proofs.WatchLaws.{AreWithin, kept_back}
 use Rattle.sat_propagate.specs.Internal.Trail.{TrailState, literals, IsTrail}
@@ -26,7 +26,7 @@ right_back trail processed clauses lists levels s whole inside s_is right = reco
         decided = λ e. still_start i early (r.decided e);
         forced = λ n e.
             let u = r.forced n e in
-            (u.0, u.1, subst (λ (earlier : List SatLit). IsUnit earlier u.0.clause step.literal) (sym (part_same i early)) u.2);
+            (u.0, u.1, subst (λ (earlier : List SatLit). IsUnitClause earlier u.0.clause step.literal) (sym (part_same i early)) u.2);
       };
   started = λ k d h.
       let k_in : k < levels = omega (arith, length-take-le levels trail.starts (omega arith)) in

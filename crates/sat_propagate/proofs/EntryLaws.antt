@@ -7,7 +7,7 @@ use Rattle.std.proofs.lemmas.Option.{slice_get_within, same_Some}
 use Rattle.sat_base.specs.declared.literal.SatLit.{SatLit}
 use Rattle.sat_base.specs.Literal.{negated, same_literal, holds}
 use Rattle.sat_base.proofs.LiteralLaws.{same_literal-true, same_literal-refl, holds-append, All-held}
-use Rattle.sat_log.specs.Propagation.{IsUnit}
+use Rattle.sat_log.specs.Propagation.{IsUnitClause}
 use Rattle.sat_laws.specs.Internal.Complete.{satisfies}
 use Rattle.sat_laws.proofs.CompleteLaws.{satisfied_by}
 use Rattle.sat_propagate.specs.Internal.Trail.{TrailState, literals}
@@ -51,7 +51,7 @@ next_written trail clauses before after from i entry inside replaces blocked don
 
 -- what `look_at` found as the only open literal follows
 pub found_unit : (trail : TrailState) (processed : ℕ) (clauses : List Watched) (lists : List WatchPair) (n : ℕ) (from l : SatLit) → IsPropagator trail processed clauses lists
-    → holds (literals trail.steps) (negated from) ≡ true → (found : FindsUnit (literals trail.steps) (slice_get clauses n) from l) → IsUnit (literals trail.steps) found.watched.clause l
+    → holds (literals trail.steps) (negated from) ≡ true → (found : FindsUnit (literals trail.steps) (slice_get clauses n) from l) → IsUnitClause (literals trail.steps) found.watched.clause l
 found_unit trail processed clauses lists n from l right falsified found = record {
   member = other_in trail processed clauses lists n found.watched from l right found.there found.paired;
   still_open = found.undenied;

@@ -10,7 +10,7 @@ use Rattle.sat_base.specs.declared.literal.Var.{Var}
 use Rattle.sat_base.specs.declared.literal.SatLit.{SatLit}
 use Rattle.sat_base.specs.Literal.{negated, same_literal, holds, mentions_variable, IsOver}
 use Rattle.sat_base.proofs.LiteralLaws.{holds-append, same_literal-true, same_literal-refl, mentions-held, All-held, All-from_held}
-use Rattle.sat_log.specs.Propagation.{IsUnit, IsFalseIn}
+use Rattle.sat_log.specs.Propagation.{IsUnitClause, IsFalseIn}
 use Rattle.sat_log.proofs.ChainLaws.{slice_get-append, slice_get-before, slice_get-seam}
 use Rattle.sat_laws.specs.Internal.Watching.{IsKept, IsGuarded}
 use Rattle.sat_laws.proofs.CompleteLaws.{satisfied_by}
@@ -426,7 +426,7 @@ right_unit_assigned trail after processed n clauses lists clause l n_is steps st
     all : List Watched
     all = clauses ++ record { clause = clause; first = l; second = l } ∷ []
 
-    unit : IsUnit (literals trail.steps) clause l
+    unit : IsUnitClause (literals trail.steps) clause l
     unit = record { member = member; still_open = undenied; others = λ m h apart. absurd (apart (alone m h)) }
 
     there : slice_get all n ≡ Some new

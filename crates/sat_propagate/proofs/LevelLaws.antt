@@ -14,7 +14,7 @@ use Rattle.std.proofs.lemmas.List.{length-map}
 use Rattle.std.proofs.lemmas.Option.{slice_get_cases, slice_get-map, get_or_from_slice_get}
 use Rattle.sat_base.specs.declared.literal.SatLit.{SatLit}
 use Rattle.sat_base.specs.Literal.{negated, holds, mentions_variable, HoldsNoVariableTwice, IsOver}
-use Rattle.sat_log.specs.Propagation.{IsUnit, IsFalseIn, IsConsistent}
+use Rattle.sat_log.specs.Propagation.{IsUnitClause, IsFalseIn, IsConsistent}
 use Rattle.sat_laws.specs.Internal.Complete.{IsComplete}
 use Rattle.sat_laws.specs.Internal.Watching.{IsKept}
 use Rattle.sat_laws.proofs.CompleteLaws.{consistent_once}
@@ -51,7 +51,7 @@ complete_at trail processed clauses lists s right whole at = record {
   units_held = λ clause l there unit.
       let w = text_at clauses clause there in
       (kept_at trail.starts (literals trail.steps) processed w.1.clause w.1.first w.1.second s at (consistent_part (literals trail.steps) s whole.once) (right.kept w.0 w.1 w.2)).1 l
-      (subst (λ (c : List SatLit). IsUnit (take s (literals trail.steps)) c l) (sym w.3) unit);
+      (subst (λ (c : List SatLit). IsUnitClause (take s (literals trail.steps)) c l) (sym w.3) unit);
 }
 
 pub complete_now : (trail : TrailState) (processed : ℕ) (clauses : List Watched) (lists : List WatchPair) → IsPropagator trail processed clauses lists → IsTrail trail → processed ≡ length trail.steps
@@ -63,7 +63,7 @@ complete_now trail processed clauses lists right whole all = record {
   units_held = λ clause l there unit.
       let w = text_at clauses clause there in
       (kept_now trail.starts (literals trail.steps) w.1.clause w.1.first w.1.second (consistent_once (literals trail.steps) whole.once) (kept w.0 w.1 w.2)).1 l
-      (subst (λ (c : List SatLit). IsUnit (literals trail.steps) c l) (sym w.3) unit);
+      (subst (λ (c : List SatLit). IsUnitClause (literals trail.steps) c l) (sym w.3) unit);
 }
   where
     kept : (n : ℕ) (w : Watched) → slice_get clauses n ≡ Some w → IsKept trail.starts (literals trail.steps) (length (literals trail.steps)) w.clause w.first w.second

@@ -12,7 +12,7 @@ use Rattle.std.proofs.lemmas.Option.{slice_get_within, same_Some, get_or_from_sl
 use Rattle.sat_base.specs.declared.literal.SatLit.{SatLit}
 use Rattle.sat_base.specs.Literal.{negated, same_var, same_literal, holds, mentions_variable, HoldsNoVariableTwice, IsOver}
 use Rattle.sat_base.proofs.LiteralLaws.{same_literal-true, same_literal-refl, holds-append, negated-negated, All-held}
-use Rattle.sat_log.specs.Propagation.{IsUnit}
+use Rattle.sat_log.specs.Propagation.{IsUnitClause}
 use Rattle.sat_log.proofs.ChainLaws.{slice_get-append, slice_get-before, slice_get-seam}
 use Rattle.sat_laws.specs.Internal.Complete.{satisfies}
 use Rattle.sat_laws.specs.Internal.Watching.{IsKept}
@@ -200,7 +200,7 @@ none_is_no_number : (n : ℕ) → Some n ≡ None → ⊥
 none_is_no_number n e = cc
 
 pub reasoned_longer : (trail : TrailState) (phases : List Bool) (clauses : List Watched) (last step : Step) (n : ℕ) (watched : Watched) → last.reason ≡ Some n → slice_get clauses n ≡ Some watched
-    → IsUnit (literals trail.steps) watched.clause last.literal → ((i : ℕ) (step : Step) → slice_get trail.steps i ≡ Some step → IsReasoned clauses trail i step)
+    → IsUnitClause (literals trail.steps) watched.clause last.literal → ((i : ℕ) (step : Step) → slice_get trail.steps i ≡ Some step → IsReasoned clauses trail i step)
     → (i : ℕ) → slice_get (trail.steps ++ last ∷ []) i ≡ Some step → IsReasoned clauses (record { steps = trail.steps ++ last ∷ []; starts = trail.starts; phases = phases }) i step
 reasoned_longer trail phases clauses last step n watched reason there unit reasoned i at =
     elim (step_cases trail.steps last i step at) [
@@ -211,7 +211,7 @@ reasoned_longer trail phases clauses last step n watched reason there unit reaso
             decided = r.decided;
             forced = λ k e.
                 let u = r.forced k e in
-                (u.0, u.1, subst (λ (earlier : List SatLit). IsUnit earlier u.0.clause step.literal) (sym (take_literals trail.steps last i short)) u.2);
+                (u.0, u.1, subst (λ (earlier : List SatLit). IsUnitClause earlier u.0.clause step.literal) (sym (take_literals trail.steps last i short)) u.2);
           }
       | inr end ↦
           let at_end : i ≡ length trail.steps = end.0 in
@@ -224,14 +224,14 @@ reasoned_longer trail phases clauses last step n watched reason there unit reaso
             forced = λ k e. (
               watched,
               ap (slice_get clauses) (sym (same_Some _ _ (sym reason_is ∙ e))) ∙ there,
-              subst (λ (list : List SatLit). IsUnit list watched.clause step.literal) (sym earlier)
-                  (subst (λ (s : Step). IsUnit (literals trail.steps) watched.clause s.literal) end.1 unit),
+              subst (λ (list : List SatLit). IsUnitClause list watched.clause step.literal) (sym earlier)
+                  (subst (λ (s : Step). IsUnitClause (literals trail.steps) watched.clause s.literal) end.1 unit),
             );
           }
     ]
 
 right_longer : (trail : TrailState) (phases : List Bool) (processed : ℕ) (clauses : List Watched) (lists : List WatchPair) (n : ℕ) (watched : Watched) (l : SatLit)
-    → length phases ≡ length trail.phases → slice_get clauses n ≡ Some watched → IsUnit (literals trail.steps) watched.clause l
+    → length phases ≡ length trail.phases → slice_get clauses n ≡ Some watched → IsUnitClause (literals trail.steps) watched.clause l
     → IsPropagator trail processed clauses lists → IsPropagator (record { steps = trail.steps ++ record { literal = l; reason = Some n } ∷ []; starts = trail.starts; phases = phases }) processed clauses lists
 right_longer trail phases processed clauses lists n watched l made there unit right = record {
   reasoned = λ i step at. reasoned_longer trail phases clauses (record { literal = l; reason = Some n }) step n watched refl there unit right.reasoned i at;
@@ -251,7 +251,7 @@ right_longer trail phases processed clauses lists n watched l made there unit ri
 
 pub right_assigned : (trail after : TrailState) (processed : ℕ) (clauses : List Watched) (lists : List WatchPair) (n : ℕ) (watched : Watched) (l : SatLit)
     → after.steps ≡ trail.steps ++ record { literal = l; reason = Some n } ∷ [] → after.starts ≡ trail.starts → length after.phases ≡ length trail.phases
-    → slice_get clauses n ≡ Some watched → IsUnit (literals trail.steps) watched.clause l
+    → slice_get clauses n ≡ Some watched → IsUnitClause (literals trail.steps) watched.clause l
     → IsPropagator trail processed clauses lists → IsPropagator after processed clauses lists
 right_assigned trail after processed clauses lists n watched l steps starts made there unit right =
     subst (λ (list : List ℕ). IsPropagator (record { steps = after.steps; starts = list; phases = after.phases }) processed clauses lists) (sym starts)
@@ -414,14 +414,14 @@ right_rewatched trail processed before after lists more n from to other changed 
         (kept_from_pair trail.starts (literals trail.steps) processed changed.old.clause changed.old.first changed.old.second from other changed.pair_before
         (right.kept n changed.old changed.was))))
 
-    reason_after : (k : ℕ) (earlier : List SatLit) (l : SatLit) → (watched : Watched) × (slice_get before k ≡ Some watched) × IsUnit earlier watched.clause l
-        → (watched : Watched) × (slice_get after k ≡ Some watched) × IsUnit earlier watched.clause l
+    reason_after : (k : ℕ) (earlier : List SatLit) (l : SatLit) → (watched : Watched) × (slice_get before k ≡ Some watched) × IsUnitClause earlier watched.clause l
+        → (watched : Watched) × (slice_get after k ≡ Some watched) × IsUnitClause earlier watched.clause l
     reason_after k earlier l u =
         elim (cases_order k n) [
           | inl same ↦ (
             changed.new,
             ap (slice_get after) same ∙ changed.is,
-            subst (λ (c : List SatLit). IsUnit earlier c l)
+            subst (λ (c : List SatLit). IsUnitClause earlier c l)
                 (ap (λ (w : Watched). w.clause) (same_Some _ _ (sym u.1 ∙ ap (slice_get before) same ∙ changed.was)) ∙ sym changed.text) u.2,
           )
           | inr apart ↦ elim apart [
@@ -604,7 +604,7 @@ right_decided trail after processed clauses lists l steps starts made whole righ
                 decided = λ e. Contains-append_left trail.starts (length trail.steps ∷ []) i (r.decided e);
                 forced = λ k e.
                     let u = r.forced k e in
-                    (u.0, u.1, subst (λ (earlier : List SatLit). IsUnit earlier u.0.clause step.literal) (sym (take_literals trail.steps (record { literal = l; reason = None }) i short)) u.2);
+                    (u.0, u.1, subst (λ (earlier : List SatLit). IsUnitClause earlier u.0.clause step.literal) (sym (take_literals trail.steps (record { literal = l; reason = None }) i short)) u.2);
               }
           | inr end ↦ record {
             decided = λ e. subst (λ (n : ℕ). Contains (trail.starts ++ length trail.steps ∷ []) n) (sym end.0) (Contains-push trail.starts (length trail.steps));

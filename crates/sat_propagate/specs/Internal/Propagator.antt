@@ -3,7 +3,7 @@ use Rattle.std.specs.Prelude.{◌≡◌, ◌≢◌, ◌⊎◌, ◌<◌, ◌≤�
 use Rattle.std.specs.List.{All, Contains}
 use Rattle.sat_base.specs.declared.literal.SatLit.{SatLit}
 use Rattle.sat_base.specs.Literal.{same_literal, holds, IsOver}
-use Rattle.sat_log.specs.Propagation.{IsUnit, IsFalseIn}
+use Rattle.sat_log.specs.Propagation.{IsUnitClause, IsFalseIn}
 use Rattle.sat_laws.specs.Internal.Complete.{satisfies}
 use Rattle.sat_laws.specs.Internal.Watching.{IsKept}
 use Rattle.sat_propagate.specs.Internal.Trail.{TrailState, literals}
@@ -15,7 +15,7 @@ use Rattle.sat_propagate.specs.Internal.ClauseTable.{Watched}
 -- a step without a reason is a decision's; a reason is a clause whose only open literal was the step's
 pub record IsReasoned (clauses : List Watched) (trail : TrailState) (i : ℕ) (step : Step) : Type 0 where
   pub decided : step.reason ≡ None → Contains trail.starts i
-  pub forced : (n : ℕ) → step.reason ≡ Some n → (watched : Watched) × (slice_get clauses n ≡ Some watched) × IsUnit (take i (literals trail.steps)) watched.clause step.literal
+  pub forced : (n : ℕ) → step.reason ≡ Some n → (watched : Watched) × (slice_get clauses n ≡ Some watched) × IsUnitClause (take i (literals trail.steps)) watched.clause step.literal
 
 -- a literal is watched, and the other watched one is this
 abbrev pub IsPair : Watched → SatLit → SatLit → Type 0
