@@ -4,3 +4,4 @@ pub mod Memos
 pub mod Replacing
 pub mod Body
 pub mod Parts
+pub mod FindingForms

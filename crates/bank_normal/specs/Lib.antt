@@ -14,5 +14,6 @@ pub use Rattle.term_bank.specs.Terms
 pub mod Known
 pub mod Right
 pub mod Fits
+pub mod Forms
 pub mod Laws
 pub mod Internal

@@ -22,7 +22,7 @@ struct Sorted {
 }
 
 /// The mark at a place; what has none isn't marked.
-fn mark_at(marks: &Flags, i: usize) -> bool
+pub(crate) fn mark_at(marks: &Flags, i: usize) -> bool
     ensures { result ≡ unwrap_or (slice_get marks.now i) false }
 {
     if i < marks.len() { marks.at(i) } else { false }
