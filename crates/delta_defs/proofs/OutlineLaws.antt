@@ -12,7 +12,8 @@ use Rattle.stt_core.proofs.SameTerms.{same_term-true}
 use Rattle.delta_defs.specs.Definitions.{Definition, meant, unfolded, mentions}
 use Rattle.delta_defs.specs.Unfolding.{involves, in_terms_of, may_follow, node_limit, stated, if_it_may_follow, taken_from, with_next}
 use Rattle.delta_defs.specs.Internal.Finding.{first_or}
-use Rattle.delta_defs.specs.Outline.{first_nodes, nodes_of, nodes_in, HasNodes, IsOutline, may_follow_outline, IsWalk}
+use Rattle.delta_defs.specs.Outline.{first_nodes, nodes_of, nodes_in, HasNodes, IsOutline, may_follow_outline, IsNamedOutline}
+use Rattle.delta_defs.specs.declared.outline.Outline.{Outline}
 use Rattle.delta_defs.proofs.ListSearches.{any-push}
 
 meant-other : (ds : List Definition) (c : Constant) → ((p : ℕ) → same_constant (name p) c ≡ false) → meant ds c ≡ constant c
@@ -103,9 +104,9 @@ names-unfolded ds k (app s u) = both (mentions (name k) (unfolded ds s)) (mentio
 -- WHETHER A DEFINITION MAY FOLLOW
 
 -- whether the definition with the earlier ones unfolded may follow these, told from the term as it was read
-pub follows : (nodes : BTreeMap ℕ ℕ) (involved : BTreeSet ℕ) (ds : List Definition) (d : Definition) → IsOutline nodes involved ds → may_follow ds (in_terms_of ds d) ≡ may_follow_outline nodes involved d.place d.term
-follows nodes involved ds d h =
-    ap₂ (λ n b. nat_le n node_limit && b) (nodes-unfolded nodes ds h.nodes_are d.term)
+pub follows : (o : Outline) (ds : List Definition) (d : Definition) → IsOutline o ds → may_follow ds (in_terms_of ds d) ≡ may_follow_outline o d.place d.term
+follows o ds d h =
+    ap₂ (λ n b. nat_le n node_limit && b) (nodes-unfolded o.nodes ds h.nodes_are d.term)
     (go (list_any (involves d.place) ds) (mentions (name d.place) (unfolded ds d.term)) (mentions (name d.place) d.term) (names-unfolded ds d.place d.term)
     ∙ ap (λ z. not z && not (mentions (name d.place) d.term)) (sym (h.involved_are d.place)))
   where
@@ -133,11 +134,11 @@ first_nodes-push (e ∷ ds) d k = go (nat_eq e.place k) (first_nodes-push ds d k
     go false h = h
 
 -- the outline with one definition more
-pub outline_more : (nodes nodes' : BTreeMap ℕ ℕ) (involved mid involved' : BTreeSet ℕ) (ds : List Definition) (d : Definition) (n : ℕ) → IsOutline nodes involved ds → n ≡ nodes_in nodes d.term → ((k : ℕ) → get nat_cmp nodes' k ≡ first_or (get nat_cmp nodes k) d.place n k) → ((k : ℕ) → contains nat_cmp mid k ≡ (nat_eq d.place k || contains nat_cmp involved k)) → ((k : ℕ) → contains nat_cmp involved' k ≡ (mentions (name k) d.term || contains nat_cmp mid k)) → IsOutline nodes' involved' (ds ++ in_terms_of ds d ∷ [])
-outline_more nodes nodes' involved mid involved' ds d n h e next place term = record {
+pub outline_more : (o more : Outline) (mid : BTreeSet ℕ) (ds : List Definition) (d : Definition) (n : ℕ) → IsOutline o ds → n ≡ nodes_in o.nodes d.term → ((k : ℕ) → get nat_cmp more.nodes k ≡ first_or (get nat_cmp o.nodes k) d.place n k) → ((k : ℕ) → contains nat_cmp mid k ≡ (nat_eq d.place k || contains nat_cmp o.involved k)) → ((k : ℕ) → contains nat_cmp more.involved k ≡ (mentions (name k) d.term || contains nat_cmp mid k)) → IsOutline more (ds ++ in_terms_of ds d ∷ [])
+outline_more o more mid ds d n h e next place term = record {
   nodes_are = λ k.
       next k
-      ∙ ap₂ (λ o m. first_or o d.place m k) (h.nodes_are k) (e ∙ sym (nodes-unfolded nodes ds h.nodes_are d.term))
+      ∙ ap₂ (λ i m. first_or i d.place m k) (h.nodes_are k) (e ∙ sym (nodes-unfolded o.nodes ds h.nodes_are d.term))
       ∙ sym (first_nodes-push ds (in_terms_of ds d) k);
   involved_are = λ k.
       term k
@@ -154,23 +155,23 @@ outline_more nodes nodes' involved mid involved' ds d n h e next place term = re
     swap false false c = refl
 
 -- no definitions
-pub outline_none : (nodes : BTreeMap ℕ ℕ) (involved : BTreeSet ℕ) → ((k : ℕ) → get nat_cmp nodes k ≡ None) → ((k : ℕ) → contains nat_cmp involved k ≡ false) → IsOutline nodes involved []
-outline_none nodes involved h k = record { nodes_are = h; involved_are = k }
+pub outline_none : (o : Outline) → ((k : ℕ) → get nat_cmp o.nodes k ≡ None) → ((k : ℕ) → contains nat_cmp o.involved k ≡ false) → IsOutline o []
+outline_none o h k = record { nodes_are = h; involved_are = k }
 
 -- what may follow isn't too large
-pub may_small : (nodes : BTreeMap ℕ ℕ) (involved : BTreeSet ℕ) (ds : List Definition) (d : Definition) → IsOutline nodes involved ds → may_follow ds (in_terms_of ds d) ≡ true → nodes_in nodes d.term ≤ node_limit
-may_small nodes involved ds d h k = leb-true (nodes_in nodes d.term) node_limit (ap (λ n. nat_le n node_limit) (sym (nodes-unfolded nodes ds h.nodes_are d.term)) ∙ (and_parts (nat_le (node_count (unfolded ds d.term)) node_limit) _ k).0)
+pub may_small : (o : Outline) (ds : List Definition) (d : Definition) → IsOutline o ds → may_follow ds (in_terms_of ds d) ≡ true → nodes_in o.nodes d.term ≤ node_limit
+may_small o ds d h k = leb-true (nodes_in o.nodes d.term) node_limit (ap (λ n. nat_le n node_limit) (sym (nodes-unfolded o.nodes ds h.nodes_are d.term)) ∙ (and_parts (nat_le (node_count (unfolded ds d.term)) node_limit) _ k).0)
 
 -- THE NEXT FORMULA
 
-module _ (nodes : BTreeMap ℕ ℕ) (involved : BTreeSet ℕ) (names : List ℕ) (ds : List Definition) (mark : Bool) (t : Lambda) (w : IsWalk nodes involved names ds) where
-  pub walk_on : (nodes' : BTreeMap ℕ ℕ) (involved' : BTreeSet ℕ) (names' : List ℕ) (d : Definition) → taken_from ds mark t ≡ Some (in_terms_of ds d) → IsOutline nodes' involved' (ds ++ in_terms_of ds d ∷ []) → names' ≡ names ++ d.place ∷ [] → IsWalk nodes' involved' names' (with_next ds mark t)
-  walk_on nodes' involved' names' d e h n =
-      subst (IsWalk nodes' involved' names') (ap (λ o. ds ++ option_to_list o) (sym e))
+module _ (o : Outline) (names : List ℕ) (ds : List Definition) (mark : Bool) (t : Lambda) (w : IsNamedOutline o names ds) where
+  pub walk_on : (more : Outline) (names' : List ℕ) (d : Definition) → taken_from ds mark t ≡ Some (in_terms_of ds d) → IsOutline more (ds ++ in_terms_of ds d ∷ []) → names' ≡ names ++ d.place ∷ [] → IsNamedOutline more names' (with_next ds mark t)
+  walk_on more names' d e h n =
+      subst (IsNamedOutline more names') (ap (λ x. ds ++ option_to_list x) (sym e))
       (record { outline = h; names_are = n ∙ ap (λ l. l ++ d.place ∷ []) w.names_are ∙ sym (map-append (λ (x : Definition). x.place) ds (in_terms_of ds d ∷ [])) })
 
-  pub walk_past : taken_from ds mark t ≡ None → IsWalk nodes involved names (with_next ds mark t)
-  walk_past e = subst (IsWalk nodes involved names) (sym (append-nil ds) ∙ ap (λ o. ds ++ option_to_list o) (sym e)) w
+  pub walk_past : taken_from ds mark t ≡ None → IsNamedOutline o names (with_next ds mark t)
+  walk_past e = subst (IsNamedOutline o names) (sym (append-nil ds) ∙ ap (λ x. ds ++ option_to_list x) (sym e)) w
 
 -- what is taken may follow
 may_pick : (ds : List Definition) (s x : Definition) (b : Bool) → may_follow ds s ≡ b → (if b then Some s else None) ≡ Some x → may_follow ds x ≡ true

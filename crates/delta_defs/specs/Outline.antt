@@ -2,11 +2,12 @@
 use Rattle.std.specs.Prelude.{◌≡◌, ℕ, suc, ◌+◌, nat_eq, nat_le, Bool, not, ◌&&◌, List, [], ◌∷◌, Option, Some, None, unwrap_or, if◌then◌else◌, map}
 use Rattle.std.specs.Ordering.{nat_cmp}
 use Rattle.std.specs.BTreeMap.{BTreeMap, get}
-use Rattle.std.specs.BTreeSet.{BTreeSet, contains}
+use Rattle.std.specs.BTreeSet.{contains}
 use Rattle.stt_core.specs.Lambda.{Constant, name, witness, falsity, negation, implication, all, equality, choice, description, Lambda, bound, constant, lam, app, node_count}
 use Rattle.delta_defs.specs.Definitions.{Definition, mentions}
 use Rattle.delta_defs.specs.Unfolding.{node_limit}
 use Rattle.delta_defs.specs.Internal.Finding.{HasInvolved}
+use Rattle.delta_defs.specs.declared.outline.Outline.{Outline}
 
 -- the nodes of the term of a name's first definition
 abbrev pub first_nodes : List Definition → ℕ → Option ℕ
@@ -36,15 +37,15 @@ abbrev pub HasNodes : BTreeMap ℕ ℕ → List Definition → Type 0
 HasNodes nodes ds = (k : ℕ) → get nat_cmp nodes k ≡ first_nodes ds k
 
 -- it has the number of nodes of each defined name, and the names that are involved
-pub record IsOutline (nodes : BTreeMap ℕ ℕ) (involved : BTreeSet ℕ) (ds : List Definition) : Type 0 where
-  pub nodes_are : HasNodes nodes ds
-  pub involved_are : HasInvolved involved ds
+pub record IsOutline (o : Outline) (ds : List Definition) : Type 0 where
+  pub nodes_are : HasNodes o.nodes ds
+  pub involved_are : HasInvolved o.involved ds
 
 -- whether a definition may follow, told without the terms of the earlier ones
-abbrev pub may_follow_outline : BTreeMap ℕ ℕ → BTreeSet ℕ → ℕ → Lambda → Bool
-may_follow_outline nodes involved place t = nat_le (nodes_in nodes t) node_limit && (not (contains nat_cmp involved place) && not (mentions (name place) t))
+abbrev pub may_follow_outline : Outline → ℕ → Lambda → Bool
+may_follow_outline o place t = nat_le (nodes_in o.nodes t) node_limit && (not (contains nat_cmp o.involved place) && not (mentions (name place) t))
 
 -- it is the outline of the definitions, and the names are theirs in order
-pub record IsWalk (nodes : BTreeMap ℕ ℕ) (involved : BTreeSet ℕ) (names : List ℕ) (ds : List Definition) : Type 0 where
-  pub outline : IsOutline nodes involved ds
+pub record IsNamedOutline (o : Outline) (names : List ℕ) (ds : List Definition) : Type 0 where
+  pub outline : IsOutline o ds
   pub names_are : names ≡ map (λ d. d.place) ds
