@@ -22,7 +22,7 @@ use Rattle.term_bank.specs.Terms.{term_at}
 use Rattle.term_bank.proofs.GrowLaws.{grown_scope, grown_at, grown_within, has_at, has_within}
 use Rattle.term_bank.proofs.ListLaws.{map-same}
 use Rattle.delta_defs.specs.Definitions.{Definition, unfolded, meant}
-use Rattle.delta_normal.specs.Canonical.{IsCanonicalDefinition, AreCanonicalDefinitions}
+use Rattle.delta_normal.specs.CanonicalDefinitions.{IsCanonicalDefinition, AreCanonicalDefinitions}
 use Rattle.delta_defs.proofs.UnfoldedTerms.{type_of-unfolded}
 use Rattle.delta_normal.specs.Forms.{normal_form_by}
 use Rattle.delta_normal.proofs.FormLaws.{normal_form-more, typed-definitions, normal_form-by, normal_form-by-none, canonical-by}

@@ -1,3 +1,6 @@
+pub use Rattle.delta_defs.specs.Definitions
+pub use Rattle.delta_normal.specs.CanonicalDefinitions
+pub use Rattle.delta_normal.specs.Forms as DeltaNormalForms
 pub use Rattle.normal_forms.specs.Normal
 pub use Rattle.normal_forms.specs.Ready
 pub use Rattle.stt_core.specs.Canonical

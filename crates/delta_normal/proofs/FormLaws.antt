@@ -14,10 +14,11 @@ use Rattle.normal_forms.proofs.NormalValues.{canonical-normal_form}
 use Rattle.normal_forms.proofs.EtaReplace.{normal_form-canonical}
 use Rattle.delta_defs.specs.Definitions.{Definition, meant, unfolded}
 use Rattle.delta_defs.specs.Unfolding.{in_terms_of, taken_after}
-use Rattle.delta_defs.proofs.UnfoldedTerms.{AreTypedDefinitions, type_of-unfolded}
+use Rattle.delta_defs.specs.Laws.{AreTypedDefinitions}
+use Rattle.delta_defs.proofs.UnfoldedTerms.{type_of-unfolded}
 use Rattle.delta_defs.proofs.TakenDefinitions.{typed_after}
 use Rattle.delta_normal.specs.Forms.{form_of, normal_form_by, normal_definition, normal_definitions}
-use Rattle.delta_normal.specs.Canonical.{AreCanonicalDefinitions}
+use Rattle.delta_normal.specs.CanonicalDefinitions.{AreCanonicalDefinitions}
 
 module _ (scope : Scope) where
   -- a typed term has the same normal form where there are further variables outside

@@ -8,9 +8,9 @@ use Rattle.stt_core.specs.TypedProblem.{AreFormulas}
 use Rattle.normal_forms.specs.Normal.{normal_form}
 use Rattle.delta_defs.specs.Definitions.{Definition, unfolded}
 use Rattle.delta_defs.specs.Unfolding.{in_terms_of, taken_after}
-use Rattle.delta_defs.proofs.UnfoldedTerms.{AreTypedDefinitions}
+use Rattle.delta_defs.specs.Laws.{AreTypedDefinitions}
 use Rattle.delta_normal.specs.Forms.{normal_form_by, normal_definitions}
-use Rattle.delta_normal.specs.Canonical.{AreCanonicalDefinitions}
+use Rattle.delta_normal.specs.CanonicalDefinitions.{AreCanonicalDefinitions}
 
 -- The normal form of an unfolded term is made from the term itself and the normal forms of the definitions. The term need not be typed.
 abbrev pub UnfoldedFormsAreFormsBy : Type 0
