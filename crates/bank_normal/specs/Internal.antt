@@ -5,3 +5,4 @@ pub mod Replacing
 pub mod Body
 pub mod Parts
 pub mod LiftedHeads
+pub mod FindingForms
