@@ -87,7 +87,7 @@ module _ {A : Type 0} (Before : A → A → Type 0) where
 
   contained_at : (xs : List A) (x : A) → Contains xs x → (n : ℕ) × (slice_get xs n ≡ Some x)
   contained_at [] x h = absurd (omega (arith, h.1))
-  contained_at (y ∷ ys) x h = contains_cases ((n : ℕ) × (slice_get (y ∷ ys) n ≡ Some x)) x y ys h (λ e. (0, ap (λ z. Some z) (sym e))) (λ later. let r = contained_at ys x later in (suc r.0, r.1))
+  contained_at (y ∷ ys) x h = contains_cases ((n : ℕ) × (slice_get (y ∷ ys) n ≡ Some x)) x y ys h (λ e. (0, ap (λ z. Some z) e)) (λ later. let r = contained_at ys x later in (suc r.0, r.1))
 
   later_than : (x : A) (xs : List A) → AreOrdered (x ∷ xs) → (y : A) → Contains xs y → Before x y
   later_than x xs order y h = let r = contained_at xs y h in order 0 (suc r.0) x y (omega arith) refl r.1
@@ -104,14 +104,14 @@ module _ {A : Type 0} (Before : A → A → Type 0) where
       ap₂ (λ z zs. z ∷ zs) same
       (one_list xs ys (λ z h. itself z (contains-later z x xs h)) (λ z w h k. both z w (contains-later z x xs h) (contains-later w x xs k)) (rest_ordered x xs a) (rest_ordered y ys b)
       (λ z h. contains_cases (Contains ys z) z y ys (into z (contains-later z x xs h))
-      (λ e. absurd (itself x (contains-first x xs) (subst (Before x) (e ∙ sym same) (later_than x xs a z h)))) (λ later. later))
+      (λ e. absurd (itself x (contains-first x xs) (subst (Before x) (sym e ∙ sym same) (later_than x xs a z h)))) (λ later. later))
       (λ z h. contains_cases (Contains xs z) z x xs (back z (contains-later z y ys h))
-      (λ e. absurd (itself x (contains-first x xs) (subst (λ w. Before w x) (sym same) (subst (Before y) e (later_than y ys b z h))))) (λ later. later)))
+      (λ e. absurd (itself x (contains-first x xs) (subst (λ w. Before w x) (sym same) (subst (Before y) (sym e) (later_than y ys b z h))))) (λ later. later)))
     where
       same : x ≡ y
       same =
-          contains_cases (x ≡ y) x y ys (into x (contains-first x xs)) (λ e. e)
-          (λ later. contains_cases (x ≡ y) y x xs (back y (contains-first y ys)) (λ e. sym e)
+          contains_cases (x ≡ y) x y ys (into x (contains-first x xs)) (λ e. sym e)
+          (λ later. contains_cases (x ≡ y) y x xs (back y (contains-first y ys)) (λ e. e)
           (λ further. absurd (both x y (contains-first x xs) (back y (contains-first y ys)) (later_than x xs a y further) (later_than y ys b x later))))
 
 pub used_list-one : OneUsedList

@@ -1,23 +1,22 @@
 -- The clauses of a table stand in the order of its instances.
-use Rattle.std.proofs.Common.{◌≡◌, ℕ, zero, suc, ◌+◌, ◌<◌, ◌≤◌, ◌⊎◌, List, [], ◌∷◌, ◌++◌, map, length, Some, None, slice_get, Contains, Bool, true, false, IsTrue, if◌then◌else◌, refl, sym, ap, subst, ◌∙◌, arith, true≢false}
+use Rattle.std.proofs.Common.{◌≡◌, ℕ, zero, suc, ◌<◌, ◌≤◌, ◌⊎◌, inl, inr, List, [], ◌∷◌, ◌++◌, length, Some, slice_get, Contains, Bool, true, false, IsTrue, if◌then◌else◌, refl, sym, ap, subst, ◌∙◌, arith, true≢false}
 use Rattle.std.specs.Prelude.{◌||◌}
 use Rattle.std.specs.List.{list_any}
 use Rattle.std.proofs.lemmas.List.{map-append, length-append}
 use Rattle.std.proofs.lemmas.List.Folds.{list_any-append}
-use Rattle.std.proofs.lemmas.Option.{slice_get-map, slice_get_within}
+use Rattle.std.proofs.lemmas.Option.{slice_get_within}
 use Rattle.tableau_calculus.proofs.ListLaws.{contains-first, contains-later, contains_cases}
 use Rattle.sat_base.specs.declared.literal.SatLit.{SatLit}
-use Rattle.sat_base.specs.Literal.{same_literal}
 use Rattle.sat_base.proofs.LiteralLaws.{same_literal-refl}
 use Rattle.literal_map.specs.declared.instance.Instance.{Instance}
 use Rattle.search_spec.specs.Clauses.{same_clause, instance_clauses}
 use Rattle.search_spec.specs.Numbered.{numbers}
 use Rattle.tableau_clauses.specs.declared.origin.Origin.{Origin}
 use Rattle.tableau_clauses.specs.declared.origin.Origin.TheVariants.{Start, Instance as From}
-use Rattle.tableau_clauses.specs.Table.{Step, clauses_in, origins_in, Table, the_origins, ComesFromOrigin, EachComes, StandInOrder}
-use Rattle.tableau_clauses.specs.Internal.Stepping.{with_steps, AllStand, IsRightTable}
+use Rattle.tableau_clauses.specs.Table.{Step, clauses_in, origins_in, Table, ComesFromOrigin, EachComes}
+use Rattle.tableau_clauses.specs.Internal.Stepping.{with_steps, IsRightTable}
 use Rattle.tableau_clauses.proofs.StepLaws.{is_there}
-use Rattle.tableau_clauses.proofs.SourceLaws.{get-push, none_come, start_comes, instance_comes}
+use Rattle.tableau_clauses.proofs.SourceLaws.{none_come, start_comes, instance_comes}
 
 -- WHAT IS THERE AND WHAT IS ADDED
 
@@ -51,7 +50,7 @@ there_added c o es [] k = absurd (omega (arith, k.1))
 there_added c o es (d ∷ ds) k =
     let next = if is_there d es then es else es ++ (d, o) ∷ [] in
     contains_cases (is_there c (with_steps o next ds) ≡ true) c d ds k
-    (λ e. there_kept c o next ds (subst (λ x. is_there x next ≡ true) (sym e) (here (is_there d es) refl)))
+    (λ e. subst (λ x. is_there x (with_steps o next ds) ≡ true) e (there_kept d o next ds (here (is_there d es) refl)))
     (λ later. there_added c o next ds later)
   where
     own : (is_there d es || is_there d ((d, o) ∷ [])) ≡ true
@@ -121,11 +120,9 @@ step_of (e ∷ es) zero o h = (e, refl, cc)
 step_of (e ∷ es) (suc n) o h = step_of es n o h
 
 origin_at : (es : List Step) (n : ℕ) (s : Step) (o : Origin) → slice_get es n ≡ Some s → s.1 ≡ o → slice_get (origins_in es) n ≡ Some o
-origin_at es n s o h e = slice_get-map (λ (x : Step). x.1) es n ∙ ap (λ x. go x) h ∙ ap (λ (x : Origin). Some x) e
-  where
-    go : _ → _
-    go None = None
-    go (Some x) = Some x.1
+origin_at [] n s o h e = cc
+origin_at (x ∷ es) zero s o h e = let same : x ≡ s = cc in ap (λ (y : Step). Some y.1) same ∙ ap (λ (p : Origin). Some p) e
+origin_at (x ∷ es) (suc n) s o h e = origin_at es n s o h e
 
 -- the instance of an origin is there
 origin_within : (t : Table) → EachComes t → (n b : ℕ) (s : Step) → slice_get t.0 n ≡ Some s → s.1 ≡ From b → b < length t.1
