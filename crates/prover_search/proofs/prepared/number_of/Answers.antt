@@ -1,7 +1,7 @@
 use Rattle.std.proofs.Common.{refl}
 use Rattle.prover_state.specs.declared.tables.Basis.{Basis}
 use Rattle.prover_search.proofs.BasisLaws.{basis-grown}
-use Rattle.prover_search.proofs.start.number_of.Goals as goal
+use Rattle.prover_search.proofs.prepared.number_of.Goals as goal
 
 pub returns-clause-good : goal.returns-clause-good
 returns-clause-good c =
