@@ -5,6 +5,7 @@ ghost use Rattle.stt_core.specs.TypedProblem.{IsTyped};
 ghost use Rattle.type_bound.specs.Modest.{IsModestProblem};
 ghost use Rattle.prover_state.specs.Delays.{delay_by};
 ghost use Rattle.mode_file.specs.Given.{IsInRange};
+ghost use Rattle.prover_search.specs.Internal.Starting.{IsPreparedFor};
 ghost use Rattle.mode_schedule.specs.Grammar.{most_blocks};
 ghost use Rattle.mode_schedule.specs.Scheduled.{EndsBy};
 ghost use Rattle.mode_schedule.specs.Internal.Standing.{IsFresh};
@@ -17,7 +18,7 @@ use crate::searches::Searches;
 use crate::turns::{SliceWeigher, Turn};
 use command_queue::Weigher;
 use prover_run::refutation_of;
-use prover_search::{Search, Waiting};
+use prover_search::{Prepared, Search, Waiting};
 use std::alloc::{AllocError, Global};
 use stt_core::Problem;
 use tableau_calculus::Refutation;
@@ -50,6 +51,7 @@ fn run_all<W: Weigher<Waiting> + Copy, V: Weigher<Turn>>(
     requires fresh { IsFresh (map (λ b. b.slice) maker.now.blocks.now) schedule.old.turns.entries schedule.old.turns.pushes schedule.old.total schedule.old.is_exhausted schedule.old.runs.items }
     requires typed { IsTyped maker.now.problem.now }
     requires modest { IsModestProblem 1024 maker.now.problem.now }
+    requires prepared { IsPreparedFor maker.now.problem.now maker.now.prepared.now.basis maker.now.prepared.now.start.items }
     requires few { length maker.now.blocks.now ≤ most_blocks }
     requires slices { All (λ b. 0 < b.slice) maker.now.blocks.now }
     requires in_range { All (λ b. IsInRange b.mode) maker.now.blocks.now }
@@ -78,12 +80,14 @@ fn run_all<W: Weigher<Waiting> + Copy, V: Weigher<Turn>>(
 fn run_by<W: Weigher<Waiting> + Copy, V: Weigher<Turn>>(
     alloc: Global,
     problem: &Problem,
+    prepared: &Prepared,
     blocks: &[Block],
     weighers: &[W],
     turns: V,
 ) -> Result<Scheduled, AllocError>
     requires typed { IsTyped problem.now }
     requires modest { IsModestProblem 1024 problem.now }
+    requires prepared { IsPreparedFor problem.now prepared.now.basis prepared.now.start.items }
     requires few { length blocks.now ≤ most_blocks }
     requires slices { All (λ b. 0 < b.slice) blocks.now }
     requires in_range { All (λ b. IsInRange b.mode) blocks.now }
@@ -97,6 +101,7 @@ fn run_by<W: Weigher<Waiting> + Copy, V: Weigher<Turn>>(
     let maker = Searches {
         alloc,
         problem,
+        prepared,
         blocks,
         weighers,
     };
@@ -123,5 +128,13 @@ pub fn run_schedule(
     for block in blocks {
         weighers.push(ModeWeigher { mode: block.mode })?;
     }
-    run_by(alloc, problem, blocks, weighers.as_slice(), SliceWeigher)
+    let prepared = Prepared::new(alloc, problem)?;
+    run_by(
+        alloc,
+        problem,
+        &prepared,
+        blocks,
+        weighers.as_slice(),
+        SliceWeigher,
+    )
 }

@@ -1,18 +1,17 @@
 //! The start of searches: what doesn't depend on a mode.
-ghost use Rattle.std.specs.Prelude.{◌≡◌, ◌++◌, map, option_map, IfOk, OnOk};
+ghost use Rattle.std.specs.Prelude.{◌≡◌, [], IfOk, OnOk};
 ghost use Rattle.stt_core.specs.PlainProblem.{PlainProblem};
 ghost use Rattle.stt_core.specs.ScopeView.{the_scope};
 ghost use Rattle.stt_core.specs.TypedProblem.{IsFormula, AreFormulas, IsFormulaIfThere, IsTyped};
 ghost use Rattle.stt_core.specs.Typing.{IsScope};
 ghost use Rattle.stt_core.specs.View.{the_term};
-ghost use Rattle.tableau_calculus.specs.Start.{normal_literal, denied};
-ghost use Rattle.search_spec.specs.Each.{Each};
+ghost use Rattle.tableau_calculus.specs.Start.{normal_literal};
 ghost use Rattle.term_bank.specs.Content.{content_scope};
 ghost use Rattle.literal_map.specs.Atoms.{bank_literal};
 ghost use Rattle.prover_state.specs.Internal.Growing.{BasisGrows};
 ghost use Rattle.prover_state.specs.Internal.Names.{IsNumberIn};
 ghost use Rattle.prover_state.specs.Internal.Standing.{IsBasis};
-ghost use Rattle.prover_search.specs.Internal.Starting.{IsPreparedFor};
+ghost use Rattle.prover_search.specs.Internal.Starting.{IsPreparedFor, AreNumbered, IsNumberedStart};
 
 use bank_normal::Normaliser;
 use literal_map::LitTable;
@@ -71,10 +70,7 @@ fn number_of(basis: &mut Basis, formula: &Term) -> Result<SatLit, AllocError>
 fn number_all(alloc: Global, basis: &mut Basis, formulas: &Terms) -> Result<Vec<SatLit>, AllocError>
     requires good { IsBasis basis.old }
     requires typed { AreFormulas (content_scope basis.old.bank) formulas.now }
-    ensures numbers { IfOk result (λ lits. Each (IsNumberIn basis.new.lits) lits.items) }
-    ensures literals { IfOk result (λ lits. map (bank_literal basis.new.bank.terms basis.new.lits) lits.items ≡ map (normal_literal (content_scope basis.old.bank)) formulas.now) }
-    ensures good { OnOk result (IsBasis basis.new) }
-    ensures grows { OnOk result (BasisGrows basis.old basis.new) }
+    ensures { IfOk result (λ lits. AreNumbered basis.old basis.new formulas.now lits.items) }
 {
     let mut lits = Vec::new(alloc);
     for i in 0..formulas.len() {
@@ -86,24 +82,21 @@ fn number_all(alloc: Global, basis: &mut Basis, formulas: &Terms) -> Result<Vec<
 
 /// The literals of the assumed formulas, and then the negation of the conjecture's.
 fn number_start(
+    alloc: Global,
     basis: &mut Basis,
-    lits: &mut Vec<SatLit>,
-    conjecture: &Option<Term>,
-) -> Result<(), AllocError>
+    problem: &Problem,
+) -> Result<Vec<SatLit>, AllocError>
     requires good { IsBasis basis.old }
-    requires numbers { Each (IsNumberIn basis.old.lits) lits.old.items }
-    requires typed { IsFormulaIfThere (content_scope basis.old.bank) (option_map the_term conjecture.now) }
-    ensures numbers { OnOk result (Each (IsNumberIn basis.new.lits) lits.new.items) }
-    ensures literals { OnOk result (map (bank_literal basis.new.bank.terms basis.new.lits) lits.new.items
-        ≡ map (bank_literal basis.old.bank.terms basis.old.lits) lits.old.items ++ denied (content_scope basis.old.bank) (option_map the_term conjecture.now)) }
-    ensures good { OnOk result (IsBasis basis.new) }
-    ensures grows { OnOk result (BasisGrows basis.old basis.new) }
+    requires assumed { AreFormulas (content_scope basis.old.bank) problem.now.assumed }
+    requires conjecture { IsFormulaIfThere (content_scope basis.old.bank) problem.now.conjecture }
+    ensures { IfOk result (λ lits. IsNumberedStart problem.now basis.old basis.new lits.items) }
 {
-    if let Some(conjecture) = conjecture {
+    let mut lits = number_all(alloc, basis, &problem.assumed)?;
+    if let Some(conjecture) = &problem.conjecture {
         let lit = number_of(basis, conjecture)?;
         lits.push(lit.negated())?;
     }
-    Ok(())
+    Ok(lits)
 }
 
 impl Prepared {
@@ -113,8 +106,7 @@ impl Prepared {
         ensures { IfOk result (λ prepared. IsPreparedFor problem.now prepared.basis prepared.start.items) }
     {
         let mut basis = new_basis(alloc, &problem.signature)?;
-        let mut start = number_all(alloc, &mut basis, &problem.assumed)?;
-        number_start(&mut basis, &mut start, &problem.conjecture)?;
+        let start = number_start(alloc, &mut basis, problem)?;
         Ok(Prepared { basis, start })
     }
 

@@ -26,6 +26,7 @@ pub run-requires-clause-may : goal.run-requires-clause-may
 run-requires-clause-may g c = λ k l. (
   c.requires.typed,
   c.requires.modest,
+  c.requires.prepared,
   c.requires.many,
   λ block e. all-at (λ (b : Block). IsInRange b.mode) _ k block c.requires.in_range e,
   λ w e. some-holds _ (λ v. g.W.Weigher.is_callable v) _ w (c.requires.callable k) e,
