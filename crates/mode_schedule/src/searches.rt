@@ -1,6 +1,7 @@
 //! Searches as the runs of a schedule.
 ghost use Rattle.std.specs.Prelude.{◌≡◌, ◌+◌, Some, filter, length, slice_get};
 ghost use Rattle.stt_core.specs.TypedProblem.{IsTyped};
+ghost use Rattle.delta_defs.specs.Unfolding.{unfolded_problem};
 ghost use Rattle.type_bound.specs.Modest.{IsModestProblem};
 ghost use Rattle.mode_file.specs.Given.{IsInRange};
 ghost use Rattle.tableau_calculus.specs.Start.{start};
@@ -34,7 +35,7 @@ impl<W: Weigher<Waiting>> Run for Search<W> {
     }
 }
 
-/// What makes the search of a block over a problem. What doesn't depend on the block is prepared once.
+/// What makes the search of a block over a problem, whose definitions are unfolded. What doesn't depend on the block is prepared once.
 #[derive(Clone, Copy)]
 pub struct Searches<'a, W: Weigher<Waiting> + Copy> {
     pub alloc: Global,
@@ -45,12 +46,12 @@ pub struct Searches<'a, W: Weigher<Waiting> + Copy> {
 }
 
 impl<W: Weigher<Waiting> + Copy> MakesRuns<Search<W>> for Searches<'_, W> {
-    ghost slots = { λ s. slots_for s.problem.now s.blocks.now };
+    ghost slots = { λ s. slots_for (unfolded_problem s.problem.now) s.blocks.now };
 
-    ghost start = { λ s. filter is_shallow_literal (start s.problem.now) };
+    ghost start = { λ s. filter is_shallow_literal (start (unfolded_problem s.problem.now)) };
 
     ghost may_make = { λ s k. IsTyped s.problem.now × IsModestProblem 1024 s.problem.now
-        × IsPreparedFor s.problem.now s.prepared.now.basis s.prepared.now.start.items × (length s.weighers.now ≡ length s.blocks.now)
+        × IsPreparedFor (unfolded_problem s.problem.now) s.prepared.now.basis s.prepared.now.start.items × (length s.weighers.now ≡ length s.blocks.now)
         × ((block : _) → slice_get s.blocks.now k ≡ Some block → IsInRange block.mode)
         × ((w : _) → slice_get s.weighers.now k ≡ Some w → W.is_callable w)
         × ((block : _) (w : _) → slice_get s.blocks.now k ≡ Some block → slice_get s.weighers.now k ≡ Some w

@@ -1,10 +1,10 @@
 //! The start of a search.
 ghost use Rattle.std.specs.Prelude.{◌≡◌, ◌<◌, [], ◌∷◌, map, OnOk};
+ghost use Rattle.std.specs.List.{All};
 ghost use Rattle.tableau_calculus.specs.Start.{without_repeats};
 ghost use Rattle.sat_base.specs.declared.literal.SatLit.{SatLit};
 ghost use Rattle.sat_core.specs.Solver.{learned};
 ghost use Rattle.search_spec.specs.After.{nothing_yet};
-ghost use Rattle.search_spec.specs.Each.{Each};
 ghost use Rattle.search_spec.specs.Instances.{with_instance};
 ghost use Rattle.literal_map.specs.Atoms.{bank_literal};
 ghost use Rattle.tableau_clauses.specs.Table.{the_clauses};
@@ -76,7 +76,7 @@ pub(crate) fn start_all<W: Weigher<Waiting>>(
     requires state { the_state core.old.tables core.old.plan ≡ nothing_yet }
     requires right { IsRightState core.old.tables core.old.plan }
     requires steps { core.old.tables.steps ≡ ([], []) }
-    requires numbers { Each (IsNumberIn core.old.tables.basis.lits) start.now }
+    requires numbers { All (IsNumberIn core.old.tables.basis.lits) start.now }
     ensures { OnOk result (IsStarting core.old.tables core.old.plan core.new.tables core.new.plan (without_repeats (map (bank_literal core.old.tables.basis.bank.terms core.old.tables.basis.lits) start.now))) }
 {
     for i in 0..start.len() {
