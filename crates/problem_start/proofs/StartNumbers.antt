@@ -1,33 +1,30 @@
 -- The literals of a start by numbers, one after the other.
-use Rattle.std.proofs.Common.{◌≡◌, ◌<◌, ℕ, ◌+◌, List, [], ◌∷◌, ◌++◌, Option, Some, None, Bool, true, false, map, option_map, length, take, slice_get, get_or, refl, ap, ap₂, sym, subst, ◌∙◌, append-nil, append_assoc, arith, length-append}
+use Rattle.std.proofs.Common.{◌≡◌, ◌<◌, ℕ, ◌+◌, List, [], ◌∷◌, ◌++◌, Option, Some, None, Bool, true, false, map, option_map, length, take, slice_get, refl, ap, ap₂, sym, subst, ◌∙◌, append-nil, append_assoc, arith, length-append}
 use Rattle.std.specs.Prelude.{All}
 use Rattle.std.proofs.lemmas.List.{map-append}
 use Rattle.std.proofs.lemmas.List.Elements.{All-nil, All-head, All-tail, All-push, All-weaker}
-use Rattle.std.proofs.lemmas.Option.{get_or_from_slice_get, slice_get_within, slice_get-get_or}
+use Rattle.std.proofs.lemmas.Option.{get_or_from_slice_get, slice_get_within}
 use Rattle.sat_base.specs.declared.literal.SatLit.{SatLit}
-use Rattle.sat_base.specs.Literal.{negated}
 use Rattle.stt_core.specs.Lambda.{Lambda, bound}
 use Rattle.stt_core.specs.Typing.{Scope}
 use Rattle.stt_core.specs.Declarations.{scope_of}
 use Rattle.stt_core.specs.PlainProblem.{PlainProblem}
-use Rattle.stt_core.specs.TypedProblem.{IsFormula, AreFormulas}
-use Rattle.stt_core.proofs.ListLaws.{take_got, mapped_get}
+use Rattle.stt_core.proofs.ListLaws.{take_got}
 use Rattle.tableau_calculus.specs.Literals.{Literal, opposite, as_literal}
 use Rattle.tableau_calculus.specs.Start.{normal_literal, denied}
-use Rattle.tableau_calculus.proofs.StartLaws.{formula_at}
 use Rattle.term_bank.specs.Content.{Content, content_scope, Grows}
 use Rattle.term_bank.specs.Terms.{term_at}
-use Rattle.term_bank.proofs.GrowLaws.{grows_itself, grows_on, grown_scope}
+use Rattle.term_bank.proofs.GrowLaws.{grown_scope}
 use Rattle.delta_defs.specs.Definitions.{Definition, unfolded}
 use Rattle.delta_defs.specs.Laws.{AreTypedDefinitions}
-use Rattle.delta_normal.specs.Forms.{normal_form_by, normal_definitions}
+use Rattle.delta_normal.specs.Forms.{normal_definitions}
 use Rattle.delta_normal.proofs.FormLaws.{normal_form-unfolded, normal_form-by-none}
 use Rattle.bank_normal.specs.Forms.{forms_in, AreForms}
 use Rattle.bank_normal.specs.declared.forms.FormId.{FormId}
-use Rattle.bank_normal.proofs.FormLaws.{forms_grown, are_forms_grown}
+use Rattle.bank_normal.proofs.FormLaws.{forms_grown}
 use Rattle.literal_map.specs.Atoms.{bank_literal, IsAtom, Begins}
-use Rattle.literal_map.proofs.StayLaws.{atoms_stay, literals_same}
-use Rattle.problem_start.specs.Unfolds.{unfolded_if, definitions_if, left_if, start_literals, literal_by, denied_by, AreStartNumbers, StandAt, formulas_at}
+use Rattle.literal_map.proofs.StayLaws.{literals_same}
+use Rattle.problem_start.specs.Unfolds.{unfolded_if, definitions_if, left_if, start_literals, literal_by, denied_by, AreStartNumbers, formulas_at}
 
 -- TABLES THAT GROW
 
@@ -99,3 +96,14 @@ plain_denied scope (Some t) = ap (λ u. opposite (as_literal u) ∷ []) (normal_
 pub start_is : (b : Bool) (p : PlainProblem) → AreTypedDefinitions (scope_of p.declared) (definitions_if b p) → map (literal_by (scope_of p.declared) (normal_definitions (scope_of p.declared) (definitions_if b p))) (left_if b p) ++ denied_by (scope_of p.declared) (normal_definitions (scope_of p.declared) (definitions_if b p)) p.conjecture ≡ start_literals (unfolded_if b p)
 start_is true p h = ap₂ (λ ls ks. ls ++ ks) (normal_literals (scope_of p.declared) (definitions_if true p) h (left_if true p)) (normal_denied (scope_of p.declared) (definitions_if true p) h p.conjecture)
 start_is false p h = ap₂ (λ ls ks. ls ++ ks) (plain_literals (scope_of p.declared) p.assumed) (plain_denied (scope_of p.declared) p.conjecture)
+
+-- the same over a bank that grew since names were given
+pub whole_start : (b : Bool) (p : PlainProblem) (u m : Content) (fs : List FormId) (ts : List Lambda) (o : Option Lambda) → content_scope u ≡ scope_of p.declared → Grows u m → AreForms u fs → forms_in u.terms fs ≡ normal_definitions (content_scope u) (definitions_if b p) → AreTypedDefinitions (content_scope u) (definitions_if b p) → ts ≡ left_if b p → o ≡ p.conjecture
+    → map (literal_by (content_scope u) (forms_in u.terms fs)) ts ++ denied_by (content_scope m) (forms_in m.terms fs) o ≡ start_literals (unfolded_if b p)
+whole_start b p u m fs ts o scope g forms definitions typed left conjecture =
+    let ds = definitions_if b p in
+    let by = definitions ∙ ap (λ s. normal_definitions s ds) scope in
+    ap₂ (λ ls ks. ls ++ ks)
+    (ap₂ (λ s es. map (literal_by s es) ts) scope by ∙ ap (map (literal_by (scope_of p.declared) (normal_definitions (scope_of p.declared) ds))) left)
+    (ap₂ (λ s es. denied_by s es o) (grown_scope u m g ∙ scope) (forms_grown u m fs g forms ∙ by) ∙ ap (denied_by (scope_of p.declared) (normal_definitions (scope_of p.declared) ds)) conjecture)
+    ∙ start_is b p (subst (λ s. AreTypedDefinitions s ds) scope typed)

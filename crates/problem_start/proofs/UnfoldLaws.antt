@@ -1,5 +1,5 @@
 -- Definitions that are taken, one after the other, by the numbers of their normal forms.
-use Rattle.std.proofs.Common.{◌≡◌, ◌<◌, ℕ, ◌+◌, List, [], ◌∷◌, ◌++◌, Option, Some, None, Bool, map, length, take, drop, slice_get, refl, ap, ap₂, sym, subst, ◌∙◌, option_to_list, append-nil}
+use Rattle.std.proofs.Common.{◌≡◌, ◌<◌, ℕ, ◌+◌, List, [], ◌∷◌, ◌++◌, Option, Some, None, Bool, length, take, slice_get, refl, ap, ap₂, sym, subst, ◌∙◌, option_to_list, append-nil}
 use Rattle.std.specs.Prelude.{All}
 use Rattle.std.proofs.lemmas.List.{map-append}
 use Rattle.std.proofs.lemmas.List.Elements.{All-push}

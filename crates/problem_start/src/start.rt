@@ -102,9 +102,9 @@ pub fn start_numbers(
     ensures atoms { All (IsAtom bank.new) lits.new }
 {
     literals_stay();
-    let unfolding = unfolding_of(alloc, bank, normal, problem, unfolds)?;
-    let forms = &unfolding.forms;
-    let places = unfolding.left.as_slice();
+    let walk = unfolding_of(alloc, bank, normal, problem, unfolds)?;
+    let forms = &walk.forms;
+    let places = walk.left.as_slice();
     let assumed = &problem.assumed;
     let numbers = numbers_at(alloc, bank, normal, lits, forms, assumed, places)?;
     Ok(with_denied(bank, normal, lits, forms, &problem.conjecture, numbers)?)

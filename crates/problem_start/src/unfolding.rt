@@ -28,7 +28,7 @@ pub(crate) struct Unfolding {
 impl Unfolding {
     /// No definitions and no formulas.
     fn new(alloc: Global) -> Unfolding
-        ensures unfolding { (b : Content) → IsUnfolding b result [] }
+        ensures definitions { (b : Content) → IsUnfolding b result [] }
         ensures left { result.left.items ≡ [] }
     {
         Unfolding {
@@ -49,8 +49,8 @@ impl Unfolding {
     ) -> Result<Unfolding, AllocError>
         requires formula { IsFormula (content_scope bank.old) (the_term formula.now) }
         requires right { IsRightNormaliser normal.old bank.old }
-        requires unfolding { (ds : List Definition) × IsUnfolding bank.old self ds }
-        ensures unfolding { IfOk result (λ u. (ds : List Definition) → IsUnfolding bank.old self ds → IsUnfolding bank.new u (with_next ds mark (the_term formula.now))) }
+        requires definitions { (ds : List Definition) × IsUnfolding bank.old self ds }
+        ensures definitions { IfOk result (λ u. (ds : List Definition) → IsUnfolding bank.old self ds → IsUnfolding bank.new u (with_next ds mark (the_term formula.now))) }
         ensures left { IfOk result (λ u. (ds : List Definition) → IsUnfolding bank.old self ds → u.left.items ≡ self.left.items ++ place_unless (taken_from ds mark (the_term formula.now)) place) }
         ensures grows { Grows bank.old bank.new }
         ensures right { IsRightNormaliser normal.new bank.new }
@@ -95,22 +95,22 @@ fn taken_unfolding(
     requires problem { IsTyped problem.now }
     requires scope { content_scope bank.old ≡ scope_of problem.now.declared }
     requires right { IsRightNormaliser normal.old bank.old }
-    ensures unfolding { IfOk result (λ u. IsUnfolding bank.new u (definitions_of problem.now)) }
+    ensures definitions { IfOk result (λ u. IsUnfolding bank.new u (definitions_of problem.now)) }
     ensures left { IfOk result (λ u. StandAt problem.now.assumed u.left.items (left_formulas problem.now)) }
     ensures grows { Grows bank.old bank.new }
     ensures right { IsRightNormaliser normal.new bank.new }
 {
-    let mut unfolding = Unfolding::new(alloc);
+    let mut walk = Unfolding::new(alloc);
     for i in 0..problem.assumed.len() {
         let mark = mark_at(&problem.marked, i);
-        unfolding = unfolding.with(bank, normal, mark, problem.assumed.at(i), i)?;
+        walk = walk.with(bank, normal, mark, problem.assumed.at(i), i)?;
     }
-    Ok(unfolding)
+    Ok(walk)
 }
 
 /// No definitions, and all assumed formulas.
 fn plain_unfolding(alloc: Global, problem: &Problem) -> Result<Unfolding, AllocError>
-    ensures unfolding { IfOk result (λ u. (b : Content) → IsUnfolding b u []) }
+    ensures definitions { IfOk result (λ u. (b : Content) → IsUnfolding b u []) }
     ensures left { IfOk result (λ u. StandAt problem.now.assumed u.left.items problem.now.assumed) }
 {
     let Unfolding {
@@ -139,7 +139,7 @@ pub(crate) fn unfolding_of(
     requires problem { IsTyped problem.now }
     requires scope { content_scope bank.old ≡ scope_of problem.now.declared }
     requires right { IsRightNormaliser normal.old bank.old }
-    ensures unfolding { IfOk result (λ u. IsUnfolding bank.new u (definitions_if unfolds problem.now)) }
+    ensures definitions { IfOk result (λ u. IsUnfolding bank.new u (definitions_if unfolds problem.now)) }
     ensures left { IfOk result (λ u. StandAt problem.now.assumed u.left.items (left_if unfolds problem.now)) }
     ensures grows { Grows bank.old bank.new }
     ensures right { IsRightNormaliser normal.new bank.new }

@@ -3,4 +3,4 @@ use Rattle.problem_start.specs.Unfolds.{StandAt}
 use Rattle.problem_start.proofs.unfolding.plain_unfolding.Given as goal
 
 abbrev pub invariant-loop-i : goal.invariant-loop-i
-invariant-loop-i l = StandAt l.problem-inside.assumed l.left.items (take l.i l.problem-inside.assumed)
+invariant-loop-i l = StandAt l.problem.assumed l.left.items (take l.i l.problem.assumed)

@@ -15,8 +15,8 @@ invariant-loop-i l =
       grows : Grows l.fn.bank l.bank;
       right : IsRightNormaliser l.normal l.bank;
       ds : List Definition;
-      unfolding : IsUnfolding l.bank l.unfolding ds;
+      definitions : IsUnfolding l.bank l.walk ds;
       taken : taken_after [] marks ts ≡ taken_after ds (drop l.i marks) (drop l.i ts);
-      left : left_after [] marks ts ≡ formulas_at ts l.unfolding.left.items ++ left_after ds (drop l.i marks) (drop l.i ts);
-      within : All (λ i. i < length ts) l.unfolding.left.items;
+      left : left_after [] marks ts ≡ formulas_at ts l.walk.left.items ++ left_after ds (drop l.i marks) (drop l.i ts);
+      within : All (λ i. i < length ts) l.walk.left.items;
     }
