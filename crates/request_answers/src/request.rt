@@ -4,7 +4,7 @@ ghost use Rattle.std.specs.Prelude.{◌≡◌, ◌<◌, ◌≤◌, ℕ, List, le
 ghost use Rattle.std.specs.List.{All};
 ghost use Rattle.outside.specs.Causes.{Rose};
 ghost use Rattle.mode_file.specs.Given.{IsInRange};
-ghost use Rattle.mode_schedule.specs.Grammar.{most_blocks};
+ghost use Rattle.mode_schedule.specs.Grammar.{most_blocks, greatest_slice};
 ghost use Rattle.cli_words.specs.Requests.{prove, by_schedule, refutation, models, sides};
 ghost use Rattle.cli_words.specs.View.{the_request};
 ghost use Rattle.request_answers.specs.Requested.{problem_name, IsRequestInRange};
@@ -87,7 +87,7 @@ fn prove<F: Files>(
 /// The answer where the problem of a name is to be proved by the blocks of a schedule.
 fn prove_in_turns<F: Files>(alloc: Global, files: &mut F, problem: &str, blocks: &[Block]) -> Answer
     requires few { length blocks.now ≤ most_blocks }
-    requires slices { All (λ b. 0 < b.slice) blocks.now }
+    requires slices { All (λ b. (0 < b.slice) × (b.slice ≤ greatest_slice)) blocks.now }
     requires in_range { All (λ b. IsInRange b.mode) blocks.now }
     ensures answers { IsFilesAnswer (IsSolvedInTurns blocks.now) problem.now (F.tells files.old) (F.contents files.old) result }
     ensures fault { (k : ℕ) (names : List (List ℕ)) → result ≡ Answer.ReadFault (Part k names)

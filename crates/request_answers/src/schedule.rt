@@ -4,7 +4,7 @@ ghost use Rattle.std.specs.Prelude.{◌≡◌, ◌≤◌, ◌<◌, ℕ, List, So
 ghost use Rattle.std.specs.List.{All};
 ghost use Rattle.outside.specs.Causes.{Rose};
 ghost use Rattle.mode_file.specs.Given.{IsInRange};
-ghost use Rattle.mode_schedule.specs.Grammar.{most_blocks};
+ghost use Rattle.mode_schedule.specs.Grammar.{most_blocks, greatest_slice};
 ghost use Rattle.request_answers.specs.Schedules.{IsScheduleBy};
 ghost use Rattle.request_answers.specs.Internal.RefusedSchedules.{schedule_answer};
 ghost use Rattle.request_answers.specs.Internal.ReadFaults.{IsNoReadFault};
@@ -48,7 +48,7 @@ pub(crate) fn read_schedule_file<F: Files>(
 ) -> Result<Vec<Block>, Answer>
     ensures stated { IfOk result (λ blocks. IsScheduleBy (F.tells files.old) (F.contents files.old) (Some name.now) blocks.items) }
     ensures few { IfOk result (λ blocks. length blocks.items ≤ most_blocks) }
-    ensures slices { IfOk result (λ blocks. All (λ b. 0 < b.slice) blocks.items) }
+    ensures slices { IfOk result (λ blocks. All (λ b. (0 < b.slice) × (b.slice ≤ greatest_slice)) blocks.items) }
     ensures in_range { IfOk result (λ blocks. All (λ b. IsInRange b.mode) blocks.items) }
     ensures unread { IfErr result (IsUnreadSchedule (F.tells files.old) (F.contents files.old) name.now) }
     ensures fault { (own : List ℕ) → IsErrOf result (answer.ReadFault (named.Schedule own)) → Rose (F.faults files.old own) (F.faults files.new own) }

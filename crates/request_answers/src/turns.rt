@@ -4,7 +4,7 @@ ghost use Rattle.std.specs.Prelude.{◌≤◌, ◌<◌, length, IfOk};
 ghost use Rattle.std.specs.List.{All};
 ghost use Rattle.delta_defs.specs.Unfolding.{unfolded_problem};
 ghost use Rattle.mode_file.specs.Given.{IsInRange};
-ghost use Rattle.mode_schedule.specs.Grammar.{most_blocks};
+ghost use Rattle.mode_schedule.specs.Grammar.{most_blocks, greatest_slice};
 ghost use Rattle.mode_schedule.specs.Scheduled.{EndsBy};
 ghost use Rattle.request_answers.specs.Internal.Texts.{HasTexts};
 ghost use Rattle.request_answers.specs.Solved.{IsSolvedInTurns};
@@ -58,7 +58,7 @@ fn solve_unfolded_in_turns(
 ) -> Result<Answer, AllocError>
     requires texts { HasTexts problem.now }
     requires few { length blocks.now ≤ most_blocks }
-    requires slices { All (λ b. 0 < b.slice) blocks.now }
+    requires slices { All (λ b. (0 < b.slice) × (b.slice ≤ greatest_slice)) blocks.now }
     requires in_range { All (λ b. IsInRange b.mode) blocks.now }
     ensures { IfOk result (IsSolvedInTurns blocks.now problem.now) }
 {
@@ -71,7 +71,7 @@ fn solve_unfolded_in_turns(
 pub(crate) fn solve_in_turns(alloc: Global, problem: &Problem, blocks: &[Block]) -> Answer
     requires texts { HasTexts problem.now }
     requires few { length blocks.now ≤ most_blocks }
-    requires slices { All (λ b. 0 < b.slice) blocks.now }
+    requires slices { All (λ b. (0 < b.slice) × (b.slice ≤ greatest_slice)) blocks.now }
     requires in_range { All (λ b. IsInRange b.mode) blocks.now }
     ensures { IsSolvedInTurns blocks.now problem.now result }
 {
