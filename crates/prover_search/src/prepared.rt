@@ -84,7 +84,8 @@ impl Prepared {
     pub fn try_clone(&self, alloc: Global) -> Result<Prepared, AllocError>
         ensures { IfOk result (λ prepared. (p : PlainProblem) → IsPreparedFor p self.now.basis self.now.start.items → IsPreparedFor p prepared.basis prepared.start.items) }
     {
-        let start = self.start.clone()?;
+        let mut start = Vec::new(alloc);
+        start.extend_from_slice(self.start.as_slice())?;
         let lits = self.basis.lits.try_clone()?;
         let bank = self.basis.bank.try_clone(alloc)?;
         Ok(Prepared {
