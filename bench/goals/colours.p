@@ -1,4 +1,4 @@
-% Colours that all differ, and each is liked by the next: no colour likes itself.
+% Six colours that all differ, each of which likes the next one: what red likes doesn't like red.
 thf(red_type,type,red: $i).
 thf(green_type,type,green: $i).
 thf(blue_type,type,blue: $i).

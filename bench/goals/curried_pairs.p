@@ -1,4 +1,4 @@
-% Pairs by their parts: equal pairs have equal first parts.
+% Pairs with their parts: the parts of equal pairs are equal.
 thf(pair_type,type,pair: $tType).
 thf(mk_type,type,mk: $i>$i>pair).
 thf(fst_type,type,fst: pair>$i).

@@ -1,4 +1,4 @@
-% Two functions that agree with the same equations agree on a list of two.
+% Two functions with the same equations agree on a list of two.
 thf(list_type,type,list: $tType).
 thf(nil_type,type,nil: list).
 thf(cons_type,type,cons: $i>list>list).

@@ -1,4 +1,4 @@
-% A relation of functions, value by value, is transitive.
+% Of functions, being related value by value is transitive where the relation is.
 thf(r_type,type,r: $i>$i>$o).
 thf(lift_type,type,lift: ($i>$i)>($i>$i)>$o).
 thf(lift_is,definition,( lift = ( ^ [F:$i>$i,G:$i>$i] : ! [X:$i] : ( r @ ( F @ X ) @ ( G @ X ) ) ) )).

@@ -1,4 +1,4 @@
-% An invariant holds after each run of a loop.
+% What follows from an invariant holds after each run of a loop.
 thf(state_type,type,state: $tType).
 thf(step_type,type,step: state>state>$o).
 thf(start_type,type,start: state>$o).

@@ -1,4 +1,4 @@
-% Sharing all properties where there are many names.
+% What holds of a thing holds of one that shares its properties, where there are many names.
 thf(u0_type,type,u0: $i>$i).
 thf(u1_type,type,u1: $i>$i).
 thf(u2_type,type,u2: $i>$i).

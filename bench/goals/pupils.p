@@ -1,4 +1,4 @@
-% Some pupil is idle: of four classes of people.
+% Of four classes: something belongs to the first and to the third.
 thf(p_type,type,p: $i>$o).
 thf(q_type,type,q: $i>$o).
 thf(r_type,type,r: $i>$o).

@@ -1,4 +1,4 @@
-% Three relations lead on, one by one.
+% Where two relations lead on from everything, so does a third that holds of their product.
 thf(p_type,type,p: $i>$i>$o).
 thf(q_type,type,q: $i>$i>$o).
 thf(r_type,type,r: $i>$i>$o).

@@ -1,4 +1,4 @@
-% Two pairs of equations by cases.
+% Of each of two pairs of equations one holds: then one of a third pair does.
 thf(a_type,type,a: $i).
 thf(b_type,type,b: $i).
 thf(c_type,type,c: $i).
