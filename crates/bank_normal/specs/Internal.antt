@@ -4,3 +4,5 @@ pub mod Memos
 pub mod Replacing
 pub mod Body
 pub mod Parts
+pub mod LiftedHeads
+pub mod FindingForms

@@ -1,3 +1,6 @@
+pub use Rattle.delta_defs.specs.Definitions
+pub use Rattle.delta_normal.specs.CanonicalDefinitions
+pub use Rattle.delta_normal.specs.Forms as DeltaNormalForms
 pub use Rattle.normal_forms.specs.Normal
 pub use Rattle.normal_forms.specs.Ready
 pub use Rattle.stt_core.specs.Canonical
@@ -14,5 +17,6 @@ pub use Rattle.term_bank.specs.Terms
 pub mod Known
 pub mod Right
 pub mod Fits
+pub mod Forms
 pub mod Laws
 pub mod Internal

@@ -6,10 +6,10 @@ use Rattle.std.proofs.lemmas.Bool.{and_parts}
 use Rattle.std.proofs.lemmas.Bool.Decides.{nat_tests}
 use Rattle.cli_words.specs.Names.{is_file_name, is_positive_decimal, number_to}
 use Rattle.outside.specs.Decimal.{is_digit, number_from}
-use Rattle.cli_words.specs.declared.options.OptionName.TheVariants.{Mode, Check, Demo, Models, Tree, Strict}
+use Rattle.cli_words.specs.declared.options.OptionName.TheVariants.{Mode, Check, Demo, Models, Schedule, Tree, Strict}
 use Rattle.cli_words.specs.declared.Cuts.TheVariants.{Allowed, Forbidden}
 use Rattle.cli_words.specs.Line.{is_taken}
-use Rattle.cli_words.specs.Requests.{WordEntry, value, flag, problem, Request, prove, refutation, generated, models, sides, naming, models_asked, tree_asked, asked, entries_in, asked_by}
+use Rattle.cli_words.specs.Requests.{WordEntry, value, flag, problem, Request, prove, by_schedule, refutation, generated, models, sides, naming, models_asked, tree_asked, asked, entries_in, asked_by}
 
 -- a bound on a tree's nodes, where there is one, is from 1 to 10,000
 abbrev pub IsTreeBound : Option ℕ → Type 0
@@ -19,6 +19,7 @@ IsTreeBound (Some nodes) = (0 < nodes) × (nodes ≤ 10000)
 -- the problem's name is the name of a file, or its number is from 1 to 1000; a bound on models is from 1 to 8
 abbrev pub IsNamed : Request → Type 0
 IsNamed (prove p mode nodes) = (is_file_name p ≡ true) × IsTreeBound nodes
+IsNamed (by_schedule file p) = is_file_name p ≡ true
 IsNamed (refutation cuts text p) = is_file_name p ≡ true
 IsNamed (models upto p) = (is_file_name p ≡ true) × (0 < upto) × (upto ≤ 8)
 IsNamed (sides p) = is_file_name p ≡ true
@@ -123,6 +124,7 @@ asked_named (value Mode m ∷ value Mode v ∷ es) r h = cc
 asked_named (value Mode m ∷ value Check v ∷ es) r h = cc
 asked_named (value Mode m ∷ value Demo v ∷ es) r h = cc
 asked_named (value Mode m ∷ value Models v ∷ es) r h = cc
+asked_named (value Mode m ∷ value Schedule v ∷ es) r h = cc
 asked_named (value Mode m ∷ value Strict v ∷ es) r h = cc
 asked_named (value Mode m ∷ flag ∷ es) r h = cc
 asked_named (value Check t ∷ []) r h = cc
@@ -130,6 +132,11 @@ asked_named (value Check t ∷ problem p ∷ []) r h = second_named t p (refutat
 asked_named (value Check t ∷ problem p ∷ e ∷ es) r h = cc
 asked_named (value Check t ∷ value o v ∷ es) r h = cc
 asked_named (value Check t ∷ flag ∷ es) r h = cc
+asked_named (value Schedule s ∷ []) r h = cc
+asked_named (value Schedule s ∷ problem p ∷ []) r h = second_named s p (by_schedule s p) r (λ x. x) h
+asked_named (value Schedule s ∷ problem p ∷ e ∷ es) r h = cc
+asked_named (value Schedule s ∷ value o v ∷ es) r h = cc
+asked_named (value Schedule s ∷ flag ∷ es) r h = cc
 asked_named (value Strict t ∷ []) r h = cc
 asked_named (value Strict t ∷ problem p ∷ []) r h = second_named t p (refutation Forbidden t p) r (λ x. x) h
 asked_named (value Strict t ∷ problem p ∷ e ∷ es) r h = cc

@@ -10,12 +10,12 @@ use Rattle.clap.specs.Faults.{turn_fault, walk_fault, entered_fault, settle_faul
 use Rattle.clap.specs.declared.builder.value_parser.Reading.TheVariants.{AsWritten}
 use Rattle.clap.specs.declared.parser.matches.ValueSource.TheVariants.{CommandLine}
 use Rattle.cli_words.specs.declared.options.OptionName.{OptionName}
-use Rattle.cli_words.specs.declared.options.OptionName.TheVariants.{Mode, Check, Demo, Models, Tree, Strict}
+use Rattle.cli_words.specs.declared.options.OptionName.TheVariants.{Mode, Check, Demo, Models, Schedule, Tree, Strict}
 use Rattle.cli_words.specs.declared.Cuts.TheVariants.{Allowed, Forbidden}
 use Rattle.cli_words.specs.Options.{options, option_name, same_name}
 use Rattle.cli_words.specs.Line.{line, is_nil, is_taken, value_in}
 use Rattle.cli_words.specs.Names.{number_to}
-use Rattle.cli_words.specs.Requests.{WordEntry, value, problem, asked, asked_by, given, given_flag, entries_in, naming, models_asked, tree_asked, prove, refutation, generated, sides}
+use Rattle.cli_words.specs.Requests.{WordEntry, value, problem, asked, asked_by, given, given_flag, entries_in, naming, models_asked, tree_asked, prove, by_schedule, refutation, generated, sides}
 use Rattle.cli_words.specs.Rows.{is_hyphened, AsksAlone, AsksBeside, AsksBesideBoth, AsksFlagged}
 
 abbrev top : Shape
@@ -88,6 +88,7 @@ option_turn Mode = record { goes = refl; faultless = refl }
 option_turn Check = record { goes = refl; faultless = refl }
 option_turn Demo = record { goes = refl; faultless = refl }
 option_turn Models = record { goes = refl; faultless = refl }
+option_turn Schedule = record { goes = refl; faultless = refl }
 option_turn Tree = record { goes = refl; faultless = refl }
 option_turn Strict = record { goes = refl; faultless = refl }
 
@@ -97,6 +98,7 @@ option_turn_behind Mode p = record { goes = refl; faultless = refl }
 option_turn_behind Check p = record { goes = refl; faultless = refl }
 option_turn_behind Demo p = record { goes = refl; faultless = refl }
 option_turn_behind Models p = record { goes = refl; faultless = refl }
+option_turn_behind Schedule p = record { goes = refl; faultless = refl }
 option_turn_behind Tree p = record { goes = refl; faultless = refl }
 option_turn_behind Strict p = record { goes = refl; faultless = refl }
 
@@ -110,6 +112,8 @@ value_turn Demo rows position [] h = record { goes = refl; faultless = refl }
 value_turn Demo rows position (c ∷ cs) h = record { goes = simp h; faultless = simp h }
 value_turn Models rows position [] h = record { goes = refl; faultless = refl }
 value_turn Models rows position (c ∷ cs) h = record { goes = simp h; faultless = simp h }
+value_turn Schedule rows position [] h = record { goes = refl; faultless = refl }
+value_turn Schedule rows position (c ∷ cs) h = record { goes = simp h; faultless = simp h }
 value_turn Tree rows position [] h = record { goes = refl; faultless = refl }
 value_turn Tree rows position (c ∷ cs) h = record { goes = simp h; faultless = simp h }
 value_turn Strict rows position [] h = record { goes = refl; faultless = refl }
@@ -125,6 +129,8 @@ last_turn Demo v [] h = record { goes = refl; faultless = refl }
 last_turn Demo v (c ∷ cs) h = record { goes = simp h; faultless = simp h }
 last_turn Models v [] h = record { goes = refl; faultless = refl }
 last_turn Models v (c ∷ cs) h = record { goes = simp h; faultless = simp h }
+last_turn Schedule v [] h = record { goes = refl; faultless = refl }
+last_turn Schedule v (c ∷ cs) h = record { goes = simp h; faultless = simp h }
 last_turn Tree v [] h = record { goes = refl; faultless = refl }
 last_turn Tree v (c ∷ cs) h = record { goes = simp h; faultless = simp h }
 last_turn Strict v [] h = record { goes = refl; faultless = refl }
@@ -136,6 +142,7 @@ attached_turn Mode v = record { goes = refl; faultless = refl }
 attached_turn Check v = record { goes = refl; faultless = refl }
 attached_turn Demo v = record { goes = refl; faultless = refl }
 attached_turn Models v = record { goes = refl; faultless = refl }
+attached_turn Schedule v = record { goes = refl; faultless = refl }
 attached_turn Tree v = record { goes = refl; faultless = refl }
 attached_turn Strict v = record { goes = refl; faultless = refl }
 
@@ -150,6 +157,7 @@ attached_turn_behind Mode v p = record { goes = refl; faultless = refl }
 attached_turn_behind Check v p = record { goes = refl; faultless = refl }
 attached_turn_behind Demo v p = record { goes = refl; faultless = refl }
 attached_turn_behind Models v p = record { goes = refl; faultless = refl }
+attached_turn_behind Schedule v p = record { goes = refl; faultless = refl }
 attached_turn_behind Tree v p = record { goes = refl; faultless = refl }
 attached_turn_behind Strict v p = record { goes = refl; faultless = refl }
 
@@ -203,6 +211,7 @@ value_end Mode v = refl
 value_end Check v = refl
 value_end Demo v = refl
 value_end Models v = refl
+value_end Schedule v = refl
 value_end Tree v = refl
 value_end Strict v = refl
 
@@ -216,6 +225,7 @@ value_end_behind Mode v p = refl
 value_end_behind Check v p = refl
 value_end_behind Demo v p = refl
 value_end_behind Models v p = refl
+value_end_behind Schedule v p = refl
 value_end_behind Tree v p = refl
 value_end_behind Strict v p = refl
 
@@ -225,6 +235,7 @@ both_end Mode v p = refl
 both_end Check v p = refl
 both_end Demo v p = refl
 both_end Models v p = refl
+both_end Schedule v p = refl
 both_end Tree v p = refl
 both_end Strict v p = refl
 
@@ -234,6 +245,7 @@ attached_end Mode v = refl
 attached_end Check v = refl
 attached_end Demo v = refl
 attached_end Models v = refl
+attached_end Schedule v = refl
 attached_end Tree v = refl
 attached_end Strict v = refl
 
@@ -243,6 +255,7 @@ attached_end_behind Mode v p = refl
 attached_end_behind Check v p = refl
 attached_end_behind Demo v p = refl
 attached_end_behind Models v p = refl
+attached_end_behind Schedule v p = refl
 attached_end_behind Tree v p = refl
 attached_end_behind Strict v p = refl
 
@@ -294,6 +307,15 @@ tree_row n p h = record {
   behind = λ j. asked_at _ _ (behind_leads Tree n p j h) (value_end_behind Tree n p);
   attached_before = asked_at _ _ (two_words _ _ _ _ (attached_turn Tree n) (last_turn_attached Tree n p h)) (both_end Tree n p);
   attached_behind = asked_at _ _ (two_words _ _ _ _ (problem_turn p h) (attached_turn_behind Tree n p)) (attached_end_behind Tree n p);
+}
+
+pub schedule_row : (s p : List ℕ) → is_hyphened p ≡ false → AsksBeside (codes "schedule") s p (naming (s ∷ p ∷ []) (by_schedule s p))
+unfolding state row
+schedule_row s p k = record {
+  before = λ h. asked_at _ _ (before_leads Schedule s p h k) (both_end Schedule s p);
+  behind = λ h. asked_at _ _ (behind_leads Schedule s p h k) (value_end_behind Schedule s p);
+  attached_before = asked_at _ _ (two_words _ _ _ _ (attached_turn Schedule s) (last_turn_attached Schedule s p k)) (both_end Schedule s p);
+  attached_behind = asked_at _ _ (two_words _ _ _ _ (problem_turn p k) (attached_turn_behind Schedule s p)) (attached_end_behind Schedule s p);
 }
 
 pub strict_row : (t p : List ℕ) → is_hyphened p ≡ false → AsksBeside (codes "strict") t p (naming (t ∷ p ∷ []) (refutation Forbidden t p))

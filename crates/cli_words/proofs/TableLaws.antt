@@ -1,5 +1,6 @@
 -- The table of options, from one option on.
-use Rattle.std.proofs.Common.{◌≡◌, ◌∙◌, ℕ, ◌+◌, ◌<◌, ◌∷◌, ◌++◌, List, length, drop, get_or, sym, ap, add-one, append_assoc}
+use Rattle.std.proofs.Common.{◌≡◌, ◌∙◌, ℕ, ◌+◌, ◌<◌, ◌≤◌, ◌∷◌, ◌++◌, List, length, drop, get_or, sym, ap, add-one, append_assoc, append-nil}
+use Rattle.std.proofs.lemmas.List.{drop_all}
 use Rattle.std.proofs.Math.Seq.{drop-cons}
 use Rattle.clap.specs.Words.{App, with_rule}
 use Rattle.cli_words.specs.declared.options.OptionName.{OptionName}
@@ -19,3 +20,6 @@ values_in-next words a b i d h e =
     ap (λ (os : List OptionName). a ++ values_in words os) (drop-next i d h)
     ∙ sym (append_assoc a (given (value (get_or options i d)) (value_in words (option_name (get_or options i d)))) (values_in words (drop (i + 1) options)))
     ∙ ap (λ (es : List WordEntry). es ++ values_in words (drop (i + 1) options)) (sym e)
+
+pub values_in-over : (words : List (List ℕ)) (a : List WordEntry) (i : ℕ) → length options ≤ i → a ++ values_in words (drop i options) ≡ a
+values_in-over words a i h = ap (λ (os : List OptionName). a ++ values_in words os) (drop_all i options h) ∙ append-nil a

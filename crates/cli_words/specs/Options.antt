@@ -2,10 +2,10 @@
 -- takes none.
 use Rattle.std.specs.Prelude.{ℕ, List, [], ◌∷◌, codes}
 use Rattle.cli_words.specs.declared.options.OptionName.{OptionName}
-use Rattle.cli_words.specs.declared.options.OptionName.TheVariants.{Mode, Check, Demo, Models, Tree, Strict}
+use Rattle.cli_words.specs.declared.options.OptionName.TheVariants.{Mode, Check, Demo, Models, Schedule, Tree, Strict}
 
 abbrev pub options : List OptionName
-options = Mode ∷ Check ∷ Demo ∷ Models ∷ Tree ∷ Strict ∷ []
+options = Mode ∷ Check ∷ Demo ∷ Models ∷ Schedule ∷ Tree ∷ Strict ∷ []
 
 -- an option's name, which stands behind two hyphens
 abbrev pub option_name : OptionName → List ℕ
@@ -13,6 +13,7 @@ option_name Mode = codes "mode"
 option_name Check = codes "check"
 option_name Demo = codes "demo"
 option_name Models = codes "models"
+option_name Schedule = codes "schedule"
 option_name Tree = codes "tree"
 option_name Strict = codes "strict"
 

@@ -4,7 +4,7 @@ use Rattle.std.specs.List.{list_all}
 use Rattle.std.specs.Option.{option_to_list}
 use Rattle.std.specs.Str.{bytes_eq}
 use Rattle.cli_words.specs.declared.options.OptionName.{OptionName}
-use Rattle.cli_words.specs.declared.options.OptionName.TheVariants.{Mode, Check, Demo, Models, Tree, Strict}
+use Rattle.cli_words.specs.declared.options.OptionName.TheVariants.{Mode, Check, Demo, Models, Schedule, Tree, Strict}
 use Rattle.cli_words.specs.declared.Cuts.{Cuts}
 use Rattle.cli_words.specs.declared.Cuts.TheVariants.{Allowed, Forbidden}
 use Rattle.cli_words.specs.Options.{options, option_name, same_name}
@@ -17,11 +17,12 @@ pub data WordEntry : Type 0 where
   flag : WordEntry
   problem : List ℕ → WordEntry
 
--- prove a problem, with a mode or the standard mode, and with a tree without cut of at most so many nodes or with none; check a
--- refutation's text against a problem, with cuts or without; make and prove a problem; look for a model of at most so many values for each
--- base type; ask whether the two sides of a problem's conjecture are convertible
+-- prove a problem, with a mode or the standard mode, and with a tree without cut of at most so many nodes or with none; prove a problem by
+-- a schedule of modes; check a refutation's text against a problem, with cuts or without; make and prove a problem; look for a model of at
+-- most so many values for each base type; ask whether the two sides of a problem's conjecture are convertible
 pub data Request : Type 0 where
   prove : List ℕ → Option (List ℕ) → Option ℕ → Request
+  by_schedule : List ℕ → List ℕ → Request
   refutation : Cuts → List ℕ → List ℕ → Request
   generated : ℕ → Request
   models : ℕ → List ℕ → Request
@@ -47,6 +48,7 @@ asked (problem p ∷ []) = naming (p ∷ []) (prove p None None)
 asked (value Mode m ∷ problem p ∷ []) = naming (m ∷ p ∷ []) (prove p (Some m) None)
 asked (value Mode m ∷ value Tree nodes ∷ problem p ∷ []) = tree_asked (number_to 10000 nodes) (Some m) p
 asked (value Tree nodes ∷ problem p ∷ []) = tree_asked (number_to 10000 nodes) None p
+asked (value Schedule file ∷ problem p ∷ []) = naming (file ∷ p ∷ []) (by_schedule file p)
 asked (value Check text ∷ problem p ∷ []) = naming (text ∷ p ∷ []) (refutation Allowed text p)
 asked (value Strict text ∷ problem p ∷ []) = naming (text ∷ p ∷ []) (refutation Forbidden text p)
 asked (value Demo number ∷ []) = option_map generated (number_to 1000 number)

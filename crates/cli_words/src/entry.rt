@@ -1,7 +1,7 @@
 //! The table of what words may ask for.
 ghost use Rattle.std.specs.Prelude.{◌≡◌, [], ◌∷◌, ◌++◌, map, option_map, Some, None, if◌then◌else◌};
 ghost use Rattle.std.specs.Option.{option_to_list};
-ghost use Rattle.cli_words.specs.Requests.{asked, naming, models_asked, tree_asked, prove, refutation, generated, sides};
+ghost use Rattle.cli_words.specs.Requests.{asked, naming, models_asked, tree_asked, prove, by_schedule, refutation, generated, sides};
 ghost use Rattle.cli_words.specs.Names.{number_to};
 ghost use Rattle.cli_words.specs.View.{the_entry, the_request};
 
@@ -80,6 +80,7 @@ fn option_alone<'a>(option: OptionName, value: &'a str) -> Option<Asked<'a>>
         OptionName::Mode
         | OptionName::Check
         | OptionName::Models
+        | OptionName::Schedule
         | OptionName::Tree
         | OptionName::Strict => None,
     }
@@ -98,6 +99,7 @@ fn option_with_problem<'a>(
         OptionName::Check => check(value, problem, Cuts::Allowed),
         OptionName::Strict => check(value, problem, Cuts::Forbidden),
         OptionName::Models => models(value, problem),
+        OptionName::Schedule => prove_by_schedule(value, problem),
         OptionName::Tree => prove_with_tree(value, None, problem),
         OptionName::Demo => None,
     }
@@ -149,6 +151,16 @@ fn prove_with_tree<'a>(nodes: &str, mode: Option<&'a str>, problem: &'a str) -> 
         mode,
         nodes: Some(nodes),
     })
+}
+
+fn prove_by_schedule<'a>(schedule: &'a str, problem: &'a str) -> Option<Asked<'a>>
+    ensures { option_map the_request result ≡ naming (schedule.entry.now ∷ problem.entry.now ∷ []) (by_schedule schedule.entry.now problem.entry.now) }
+{
+    if is_file_name(schedule) && is_file_name(problem) {
+        Some(Asked::BySchedule { schedule, problem })
+    } else {
+        None
+    }
 }
 
 fn check<'a>(text: &'a str, problem: &'a str, cuts: Cuts) -> Option<Asked<'a>>

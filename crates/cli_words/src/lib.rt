@@ -27,6 +27,11 @@ pub enum Asked<'a> {
         mode: Option<&'a str>,
         nodes: Option<u32>,
     },
+    /// Prove the problem by the schedule of a file.
+    BySchedule {
+        schedule: &'a str,
+        problem: &'a str,
+    },
     /// Check a refutation's text against a problem.
     Check {
         text: &'a str,
@@ -57,7 +62,7 @@ pub enum Cuts {
 
 #[derive(Clone, Copy, Debug, PartialEq, Eq, Error)]
 pub enum WordsRefused {
-    #[error("usage: satallax [--mode FILE] [--check FILE] [--demo N] [--models K] [--tree N] [--strict FILE] [--same] PROBLEM")]
+    #[error("usage: satallax [--mode FILE] [--check FILE] [--demo N] [--models K] [--schedule FILE] [--tree N] [--strict FILE] [--same] PROBLEM")]
     Words,
     #[error("no memory for the words")]
     Memory,

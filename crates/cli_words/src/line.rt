@@ -4,12 +4,12 @@ ghost use Rattle.std.specs.Option.{option_to_list};
 ghost use Rattle.clap.specs.Words.{app_of, with_rule, first_value, found_of};
 ghost use Rattle.cli_words.specs.Line.{option_rule, flag_rule, with_options, bare, line, is_taken, value_in};
 ghost use Rattle.cli_words.specs.Options.{options, option_name};
-ghost use Rattle.cli_words.specs.Requests.{entries_in, values_in, given_flag};
+ghost use Rattle.cli_words.specs.Requests.{entries_in, values_in, value, problem, given, given_flag};
 ghost use Rattle.cli_words.specs.View.{the_entry};
 
 use crate::WordsRefused;
 use crate::entry::Entry;
-use crate::options::{OPTIONS, SAME};
+use crate::options::{OPTIONS, OptionName, SAME};
 use clap::error::ErrorKind;
 use clap::{Arg, ArgAction, ArgMatches, Command};
 use std::alloc::{AllocError, Global};
@@ -71,6 +71,22 @@ fn add<'a>(entries: &mut Vec<Entry<'a>>, entry: Option<Entry<'a>>) -> Result<(),
     Ok(())
 }
 
+// The entry of an option, where its value is given.
+fn option_entry<'a>(option: OptionName, text: Option<&'a str>) -> Option<Entry<'a>>
+    ensures { option_to_list (option_map the_entry result) ≡ given (value option) (option_map (λ v. v.now) text.entry) }
+{
+    let text = text?;
+    Some(Entry::Value(option, text))
+}
+
+// The entry of the problem, where it is given.
+fn problem_entry<'a>(text: Option<&'a str>) -> Option<Entry<'a>>
+    ensures { option_to_list (option_map the_entry result) ≡ given problem (option_map (λ v. v.now) text.entry) }
+{
+    let text = text?;
+    Some(Entry::Problem(text))
+}
+
 // The option without a value, where its value is `true`.
 fn flag<'a>(value: Option<&str>) -> Option<Entry<'a>>
     ensures { option_to_list (option_map the_entry result) ≡ given_flag (option_map (λ v. v.now) value.entry) }
@@ -94,10 +110,10 @@ pub(crate) fn entries<'a>(
     let matches = matches_in(alloc, words)?;
     let mut entries = Vec::new(alloc);
     for option in OPTIONS {
-        let value = matches.get_str(option.name());
-        add(&mut entries, value.map(|value| Entry::Value(option, value)))?;
+        let text = matches.get_str(option.name());
+        add(&mut entries, option_entry(option, text))?;
     }
     add(&mut entries, flag(matches.get_str(SAME)))?;
-    add(&mut entries, matches.get_str("problem").map(Entry::Problem))?;
+    add(&mut entries, problem_entry(matches.get_str("problem")))?;
     Ok(entries)
 }

@@ -9,16 +9,18 @@ pub(crate) enum OptionName {
     Check,
     Demo,
     Models,
+    Schedule,
     Tree,
     Strict,
 }
 
 /// The options, in the order in which the usage line has them.
-pub(crate) const OPTIONS: [OptionName; 6] = [
+pub(crate) const OPTIONS: [OptionName; 7] = [
     OptionName::Mode,
     OptionName::Check,
     OptionName::Demo,
     OptionName::Models,
+    OptionName::Schedule,
     OptionName::Tree,
     OptionName::Strict,
 ];
@@ -36,6 +38,7 @@ impl OptionName {
             OptionName::Check => "check",
             OptionName::Demo => "demo",
             OptionName::Models => "models",
+            OptionName::Schedule => "schedule",
             OptionName::Tree => "tree",
             OptionName::Strict => "strict",
         }

@@ -9,5 +9,6 @@ pub use Rattle.stt_core.specs.Typing
 pub use Rattle.stt_core.specs.View
 pub mod Definitions
 pub mod Unfolding
+pub mod Outline
 pub mod Laws
 pub mod Internal

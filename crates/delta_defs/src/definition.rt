@@ -63,7 +63,7 @@ pub(crate) fn mentions(term: &Term, place: u32) -> bool
 }
 
 /// Adds a name to a set.
-fn add_name(names: &mut BTreeSet<u32>, place: u32) -> Result<(), AllocError>
+pub(crate) fn add_name(names: &mut BTreeSet<u32>, place: u32) -> Result<(), AllocError>
     ensures { OnOk result ((k : ℕ) → contains nat_cmp names.new k ≡ (nat_eq place k || contains nat_cmp names.old k)) }
 {
     names.insert(place)?;
@@ -71,7 +71,7 @@ fn add_name(names: &mut BTreeSet<u32>, place: u32) -> Result<(), AllocError>
 }
 
 /// Adds the names that occur in a term to a set.
-fn add_names(names: &mut BTreeSet<u32>, term: &Term) -> Result<(), AllocError>
+pub(crate) fn add_names(names: &mut BTreeSet<u32>, term: &Term) -> Result<(), AllocError>
     ensures { OnOk result ((k : ℕ) → contains nat_cmp names.new k ≡ (occurs_in (name k) (the_term term.now) || contains nat_cmp names.old k)) }
 {
     match term {
@@ -86,7 +86,11 @@ fn add_names(names: &mut BTreeSet<u32>, term: &Term) -> Result<(), AllocError>
 }
 
 /// Notes the index of a name's definition, unless it has an earlier one.
-fn note(firsts: &mut BTreeMap<u32, usize>, place: u32, index: usize) -> Result<(), AllocError>
+pub(crate) fn note(
+    firsts: &mut BTreeMap<u32, usize>,
+    place: u32,
+    index: usize,
+) -> Result<(), AllocError>
     ensures { OnOk result ((k : ℕ) → get nat_cmp firsts.new k ≡ first_or (get nat_cmp firsts.old k) place index k) }
 {
     if !firsts.contains_key(&place) {

@@ -4,11 +4,10 @@ ghost use Rattle.std.specs.Prelude.{◌≡◌, ◌++◌, [], map, false, IfOk, o
 ghost use Rattle.stt_core.specs.View.{the_term};
 ghost use Rattle.stt_core.specs.TypedProblem.{IsTyped};
 ghost use Rattle.delta_defs.specs.Definitions.{unfolded};
-ghost use Rattle.delta_defs.specs.Unfolding.{taken_from as is_taken_from, with_next, unless_taken, definitions_of, left_formulas, taken_names, unfolded_problem};
-ghost use Rattle.delta_defs.specs.Laws.{KeepsModels, AreDeclaredNames};
+ghost use Rattle.delta_defs.specs.Unfolding.{taken_from as is_taken_from, with_next, unless_taken, definitions_of, left_formulas, unfolded_problem};
+ghost use Rattle.delta_defs.specs.Laws.{KeepsModels};
 
 use crate::definition::Definitions;
-use crate::names::NameIds;
 use crate::replace::unfold_term;
 use crate::stated::taken_from;
 use std::alloc::{AllocError, Global};
@@ -22,7 +21,7 @@ struct Sorted {
 }
 
 /// The mark at a place; what has none isn't marked.
-fn mark_at(marks: &Flags, i: usize) -> bool
+pub fn mark_at(marks: &Flags, i: usize) -> bool
     ensures { result ≡ unwrap_or (slice_get marks.now i) false }
 {
     if i < marks.len() { marks.at(i) } else { false }
@@ -132,25 +131,4 @@ pub fn unfold_problem(alloc: Global, problem: &Problem) -> Result<Problem, Alloc
     let sorted = sort(alloc, problem)?;
     let unfolded = sorted.unfold(alloc, problem)?;
     Ok(unfolded)
-}
-
-/// The places of the names that are defined, in order.
-fn names_of(alloc: Global, definitions: &Definitions) -> Result<NameIds, AllocError>
-    ensures { IfOk result (λ names. names ≡ map (λ d. d.place) definitions.now) }
-{
-    let mut names = NameIds::new(alloc);
-    for i in 0..definitions.len() {
-        names.push(definitions.at(i).place)?;
-    }
-    Ok(names)
-}
-
-/// The places of the taken names, in order.
-pub fn taken(alloc: Global, problem: &Problem) -> Result<NameIds, AllocError>
-    ensures names { IfOk result (λ names. names ≡ taken_names problem.now) }
-    ensures declared { IfOk result (λ names. IsTyped problem.now → AreDeclaredNames problem.now names) }
-{
-    let sorted = sort(alloc, problem)?;
-    let names = names_of(alloc, &sorted.definitions)?;
-    Ok(names)
 }

@@ -11,17 +11,17 @@ use std::alloc::{AllocError, Global};
 use stt_core::Term;
 
 /// The most nodes that the term of a definition may have.
-const NODE_LIMIT: u64 = 100_000;
+pub(crate) const NODE_LIMIT: u64 = 100_000;
 
 /// A name, by its place, and the term that a formula equates it with.
 #[derive(Drop)]
-struct Stated<'a> {
-    place: u32,
-    body: &'a Term,
+pub struct Stated<'a> {
+    pub place: u32,
+    pub body: &'a Term,
 }
 
 /// The definition that a formula has the form of: an equation with a name on its left side.
-fn as_definition(formula: &Term) -> Option<Stated>
+pub(crate) fn as_definition(formula: &Term) -> Option<Stated>
     ensures { option_map (λ s. record { place = s.place; term = the_term s.body.now }) result ≡ has_form (the_term formula.now) }
 {
     match formula {

@@ -38,6 +38,15 @@ impl LitTable {
         }
     }
 
+    /// A table with the same atoms.
+    pub fn try_clone(&self) -> Result<LitTable, AllocError>
+        ensures { IfOk result (λ table. table ≡ self.now) }
+    {
+        Ok(LitTable {
+            atoms: self.atoms.clone()?,
+        })
+    }
+
     /// How many atoms have a number.
     pub fn len(&self) -> usize
         ensures { result ≡ length self.now }

@@ -7,4 +7,5 @@ pub mod PropagatedLaws
 pub mod RebuildUses
 pub mod RunLaws
 pub mod SmallUses
+pub mod UsedOrder
 pub mod TreeUses

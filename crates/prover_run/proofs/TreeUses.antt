@@ -1,6 +1,7 @@
 -- A tree from the log of a run.
 use Rattle.std.specs.Prelude.{◌≡◌, ◌<◌, ◌↔◌, ℕ, zero, suc, List, [], ◌∷◌, map, length, Option, Some, None, option_map, unwrap_or, get_or, slice_get, Contains, refl}
 use Rattle.std.specs.List.{All}
+use Rattle.std.specs.List.Sorted.{IsStrictlyIncreasing}
 use Rattle.std.proofs.Common.{sym, ap, subst, ◌∙◌, arith}
 use Rattle.std.proofs.lemmas.List.{length-map}
 use Rattle.std.proofs.lemmas.List.Elements.{All-cons, All-nil}
@@ -23,7 +24,7 @@ use Rattle.search_spec.proofs.UnsatLaws.{numbers_stand}
 use Rattle.term_bank.specs.Terms.{term_at}
 use Rattle.tableau_clauses.specs.declared.origin.Origin.{Origin}
 use Rattle.tableau_clauses.specs.declared.origin.Origin.TheVariants.{Start, Instance as From}
-use Rattle.tableau_clauses.specs.Table.{Step, Table, the_instances}
+use Rattle.tableau_clauses.specs.Table.{Step, Table, the_instances, EachComes, StandInOrder}
 use Rattle.rebuild_spec.specs.Input.{Instance, Sourced, start_unit, clause_by, literals_of}
 use Rattle.rebuild_spec.specs.Trees.{at_clause}
 use Rattle.rebuild_spec.specs.Used.{IsUsed}
@@ -36,6 +37,7 @@ use Rattle.plain_tableau.specs.declared.stripped.Stripped.TheVariants.{Tree as W
 use Rattle.plain_tableau.proofs.ExpandLaws.{step_there, units_literals, units_over}
 use Rattle.term_bank.specs.Content.{Content}
 use Rattle.prover_run.specs.Tree.{UsesInstance, AreUsedInstances}
+use Rattle.prover_run.proofs.UsedOrder.{from_list, increasing_at, one_number}
 
 contains_map : {A B : Type 0} (f : A → B) (xs : List A) (y : B) → Contains (map f xs) y → (x : A) × Contains xs x × (f x ≡ y)
 contains_map f [] y h = absurd (omega (arith, h.1))
@@ -48,6 +50,11 @@ contains_mapped f [] x c = absurd (omega (arith, c.1))
 contains_mapped f (y ∷ xs) x c =
     contains_cases (Contains (map f (y ∷ xs)) (f x)) x y xs c (λ same. subst (λ z. Contains (map f (y ∷ xs)) z) (ap f same) (contains-first (f y) (map f xs)))
     (λ later. contains-later (f x) (f y) (map f xs) (contains_mapped f xs x later))
+
+contains_at : {A : Type 0} (xs : List A) (n : ℕ) (x : A) → slice_get xs n ≡ Some x → Contains xs x
+contains_at [] n x h = cc
+contains_at (y ∷ ys) zero x h = let same : y ≡ x = cc in subst (Contains (y ∷ ys)) same (contains-first y ys)
+contains_at (y ∷ ys) (suc n) x h = contains-later x y ys (contains_at ys n x h)
 
 map_twice : {A B C : Type 0} (g : B → C) (f : A → B) (xs : List A) → map g (map f xs) ≡ map (λ x. g (f x)) xs
 map_twice g f [] = refl
@@ -93,13 +100,24 @@ module _ (b : Content) (atoms : List ℕ) (t : Table) (witnesses : List ℕ) (lo
       (r.0, ap (λ (o : Origin). Some o) r.1, r.2)
   step_of_source (s ∷ steps) (suc n) c i e = step_of_source steps n c i e
 
-  -- the instances with the numbers that a log uses
-  pub used_named : (used : List ℕ) → ((k : ℕ) → Contains used k ↔ IsUsedInstance t log k) → AreUsedInstances (the_input b atoms t log witnesses) (map instance_at used)
-  used_named used h = record {
+  -- the instances with the numbers that a log uses, which increase
+  pub used_named : EachComes t → StandInOrder t → (used : List ℕ) → IsStrictlyIncreasing used → ((k : ℕ) → Contains used k ↔ IsUsedInstance t log k)
+      → AreUsedInstances (the_input b atoms t log witnesses) (map instance_at used)
+  used_named comes order used up h = record {
     each = λ i c. let found = contains_map instance_at used i c in subst (UsesInstance (the_input b atoms t log witnesses)) found.2 (uses_at found.0 ((h found.0).0 found.1));
     all = λ i u.
         let r = step_of_source t.0 u.number u.clause i u.there in
         subst (λ x. Contains (map instance_at used) x) r.2 (contains_mapped instance_at used r.0 ((h r.0).1 (record { number = u.number; used = u.used; origin = r.1 })));
+    in_order = λ p q i j less at there u v.
+        let k = from_list instance_at used p i at in
+        let l = from_list instance_at used q j there in
+        let r = step_of_source t.0 u.number u.clause i u.there in
+        let s = step_of_source t.0 v.number v.clause j v.there in
+        let m = (h k.0).0 (contains_at used p k.0 k.1) in
+        let n = (h l.0).0 (contains_at used q l.0 l.1) in
+        let one = one_number b.terms atoms t comes order u.number m.number r.0 k.0 r.1 m.origin (r.2 ∙ sym k.2) in
+        let other = one_number b.terms atoms t comes order v.number n.number s.0 l.0 s.1 n.origin (s.2 ∙ sym l.2) in
+        order.sorted u.number v.number r.0 s.0 r.1 s.1 (omega (arith, one, other, increasing_at used up p q k.0 l.0 less k.1 l.1));
   }
 
   pub expanded_named : (used : List ℕ) → map expanded (map instance_at used) ≡ the_used b.terms atoms t used

@@ -9,7 +9,9 @@ use Rattle.mode_file.specs.declared.Mode.{Mode}
 use Rattle.search_spec.specs.State.{Setting}
 use Rattle.search_spec.specs.Unsatisfiable.{Clause}
 use Rattle.prover_run.specs.Learning.{HasLearned, AreSpent, PropagatesToFalse, AreRefutedWithin, IsLearnedAmong, AreEnough}
+use Rattle.rebuild_spec.specs.Input.{Instance, Input}
 use Rattle.prover_run.specs.Ended.{setting_for, IsRefuted, IsSpent, HasEnoughConflicts}
+use Rattle.prover_run.specs.Tree.{AreUsedInstances}
 
 -- conflicts for all clauses over the atoms are never spent
 abbrev pub EnoughIsNeverSpent : Type 0
@@ -46,3 +48,7 @@ abbrev pub SpentEndsEarlier : Type 0
 SpentEndsEarlier =
     (p : PlainProblem) (m : Mode) (n conflicts : ℕ) (refutation : Refutation) (spent : IsSpent (setting_for p m) (start p) conflicts) (refuted : IsRefuted p m n refutation)
     → IsLearnedAmong refuted.within.learning spent.spent.learning → spent.commands < n
+
+-- a log uses one list of instances
+abbrev pub OneUsedList : Type 0
+OneUsedList = (input : Input) (instances others : List Instance) → AreUsedInstances input instances → AreUsedInstances input others → instances ≡ others

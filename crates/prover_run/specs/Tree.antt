@@ -1,5 +1,5 @@
 -- What comes of a tree without cut, which may be asked for of a proved run.
-use Rattle.std.specs.Prelude.{◌≡◌, ℕ, List, map, Option, Some, None, slice_get, Contains}
+use Rattle.std.specs.Prelude.{◌≡◌, ◌<◌, ℕ, List, map, Option, Some, None, slice_get, Contains}
 use Rattle.stt_core.specs.Typing.{Scope}
 use Rattle.tableau_calculus.specs.Literals.{Literal}
 use Rattle.tableau_calculus.specs.Start.{without_repeats}
@@ -21,10 +21,12 @@ pub record UsesInstance (input : Input) (i : Instance) : Type 0 where
   pub there : slice_get input.clauses number ≡ Some (clause_by clause i)
   pub used : IsUsed input.log (at_clause number)
 
--- The instances are those of which the log uses a clause. That they stand in the order in which the search added them isn't said.
+-- The instances are those of which the log uses a clause, each once, in the order of their clauses, which is that in which they were made.
 pub record AreUsedInstances (input : Input) (instances : List Instance) : Type 0 where
   pub each : (i : Instance) → Contains instances i → UsesInstance input i
   pub all : (i : Instance) → UsesInstance input i → Contains instances i
+  pub in_order : (p q : ℕ) (i j : Instance) → p < q → slice_get instances p ≡ Some i → slice_get instances q ≡ Some j
+      → (u : UsesInstance input i) (v : UsesInstance input j) → u.number < v.number
 
 -- What comes of the instances that the log uses, from the branch of these literals: the refutation of a tree, the first branch that stays
 -- open, or that there would be more nodes than these. A tree's refutation is accepted for the start, small enough for a text, and has no cut

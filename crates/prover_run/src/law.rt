@@ -1,5 +1,5 @@
 //! Laws of the definitions.
-ghost use Rattle.prover_run.specs.Laws.{EnoughIsNeverSpent, LearnedIsNotEmpty, PropagatesWithoutConflict, RunPropagatesWithoutConflict, RunWithEnoughIsNeverSpent, SpentEndsEarlier, SpentEndsNoLater, SpentIsNotRefuted};
+ghost use Rattle.prover_run.specs.Laws.{EnoughIsNeverSpent, LearnedIsNotEmpty, OneUsedList, PropagatesWithoutConflict, RunPropagatesWithoutConflict, RunWithEnoughIsNeverSpent, SpentEndsEarlier, SpentEndsNoLater, SpentIsNotRefuted};
 
 /// Conflicts that are enough for all clauses over the atoms are never spent. So no run ends by its conflicts where the mode has enough for the
 /// clauses of each of its states.
@@ -22,4 +22,9 @@ pub fn spent_is_not_refuted()
     ensures clauses { SpentIsNotRefuted }
     ensures no_later { SpentEndsNoLater }
     ensures earlier { SpentEndsEarlier }
+{}
+
+/// A log uses one list of instances, so that one expansion belongs to it.
+pub fn one_used_list()
+    ensures { OneUsedList }
 {}

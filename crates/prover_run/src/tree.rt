@@ -23,6 +23,7 @@ pub fn tree_of(alloc: Global, tables: &Tables, nodes: u32) -> Result<Stripped, A
     let steps = &tables.steps;
     let log = tables.solver.log();
     steps.clauses_come_from_origins();
+    steps.clauses_stand_in_order();
     equal_ids_for_equal_terms(&basis.bank);
     basis.lits.atoms_differ();
     used_may_be_used(&basis.bank, &basis.lits, steps, log, &basis.witnesses);

@@ -7,6 +7,7 @@ mod alone;
 mod carry;
 mod equation;
 mod instances;
+mod prepared;
 mod process;
 mod propositional;
 mod quantifier;
@@ -17,6 +18,7 @@ mod start;
 mod stepped;
 mod work;
 
+pub use prepared::Prepared;
 pub use prover_state::{Command, Waiting};
 pub use search::Search;
 pub use stepped::Stepped;

@@ -14,9 +14,11 @@ ghost use Rattle.prover_state.specs.Delays.{delay_by};
 ghost use Rattle.prover_state.specs.Internal.Standing.{setting_by};
 ghost use Rattle.prover_search.specs.Internal.Running.{start_in, IsUnderWay};
 ghost use Rattle.prover_search.specs.Internal.Answers.{AnswersStep};
+ghost use Rattle.prover_search.specs.Internal.Starting.{IsPreparedFor};
 
 use crate::advance::advance;
-use crate::start::{new_core, start_all};
+use crate::prepared::Prepared;
+use crate::start::start_all;
 use crate::stepped::Stepped;
 use command_queue::Weigher;
 use literal_map::LitTable;
@@ -59,8 +61,35 @@ impl<W: Weigher<Waiting>> Search<W> {
         ensures done { IfOk result (λ s. s.core.tables.done ≡ 0) }
         ensures ready { IfOk result (λ s. s.is_refused ≡ false) }
     {
-        let mut core = new_core(alloc, &problem.signature, *mode, weigher)?;
-        match start_all(&mut core, problem) {
+        let prepared = Prepared::new(alloc, problem)?;
+        Ok(Search::begin(alloc, problem, prepared, mode, weigher)?)
+    }
+
+    /// The same with what was prepared for the problem.
+    pub fn begin(
+        alloc: Global,
+        problem: &Problem,
+        prepared: Prepared,
+        mode: &Mode,
+        weigher: W,
+    ) -> Result<Self, AllocError>
+        requires typed { IsTyped problem.now }
+        requires modest { IsModestProblem 1024 problem.now }
+        requires prepared { IsPreparedFor problem.now prepared.basis prepared.start.items }
+        requires range { IsInRange mode.now }
+        requires callable { W.is_callable weigher }
+        requires answers { W.answers weigher (λ waiting now. now + delay_by mode.now waiting.first) }
+        ensures under_way { IfOk result (λ s. IsUnderWay s.core.tables s.core.plan s.mode) }
+        ensures mode { IfOk result (λ s. s.mode ≡ mode.now) }
+        ensures bases { IfOk result (λ s. s.core.tables.basis.bank.bases ≡ problem.now.declared.bases) }
+        ensures consts { IfOk result (λ s. s.core.tables.basis.bank.consts ≡ problem.now.declared.consts) }
+        ensures start { IfOk result (λ s. start_in s.core.tables ≡ filter is_shallow_literal (start problem.now)) }
+        ensures done { IfOk result (λ s. s.core.tables.done ≡ 0) }
+        ensures ready { IfOk result (λ s. s.is_refused ≡ false) }
+    {
+        let Prepared { basis, start } = prepared;
+        let mut core = Core::new(alloc, basis, *mode, weigher)?;
+        match start_all(&mut core, start.as_slice()) {
             Ok(()) => Ok(Search {
                 core,
                 mode: *mode,

@@ -33,63 +33,6 @@ use tableau_clauses::StepTable;
 use term_bank::{Bank, equal_ids_for_equal_terms};
 use witness_names::Witnesses;
 
-/// Terms, numbers and witnesses before there is one.
-fn new_basis(alloc: Global, sig: &Signature) -> Result<Basis, AllocError>
-    requires declared { IsScope (the_scope sig.now []) }
-    ensures good { IfOk result (λ g. IsBasis g) }
-    ensures bases { IfOk result (λ g. g.bank.bases ≡ sig.now.bases) }
-    ensures consts { IfOk result (λ g. g.bank.consts ≡ sig.now.consts) }
-    ensures unwitnessed { IfOk result (λ g. g.witnesses ≡ []) }
-{
-    let sig = sig.try_clone(alloc)?;
-    Ok(Basis {
-        bank: Bank::new(alloc, sig),
-        normal: Normaliser::new(alloc),
-        lits: LitTable::new(alloc),
-        witnesses: Witnesses::new(alloc),
-    })
-}
-
-/// Tables in which nothing was done yet.
-pub(crate) fn new_core<W: Weigher<Waiting>>(
-    alloc: Global,
-    sig: &Signature,
-    mode: Mode,
-    weigher: W,
-) -> Result<Core<W>, AllocError>
-    requires declared { IsScope (the_scope sig.now []) }
-    requires callable { W.is_callable weigher }
-    requires answers { W.answers weigher (λ waiting now. now + delay_by mode waiting.first) }
-    ensures state { IfOk result (λ core. the_state core.tables core.plan ≡ nothing_yet) }
-    ensures right { IfOk result (λ core. IsRightState core.tables core.plan) }
-    ensures bases { IfOk result (λ core. core.tables.basis.bank.bases ≡ sig.now.bases) }
-    ensures consts { IfOk result (λ core. core.tables.basis.bank.consts ≡ sig.now.consts) }
-    ensures unwitnessed { IfOk result (λ core. core.tables.basis.witnesses ≡ []) }
-    ensures steps { IfOk result (λ core. core.tables.steps ≡ ([], [])) }
-    ensures mode { IfOk result (λ core. core.plan.rule.mode ≡ mode) }
-{
-    let basis = new_basis(alloc, sig)?;
-    Ok(Core::new(alloc, basis, mode, weigher)?)
-}
-
-/// The literal of a formula, by its number.
-fn number_of(basis: &mut Basis, formula: &Term) -> Result<SatLit, AllocError>
-    requires good { IsBasis basis.old }
-    requires formula { IsFormula (content_scope basis.old.bank) (the_term formula.now) }
-    ensures number { IfOk result (λ l. IsNumberIn basis.new.lits l) }
-    ensures literal { IfOk result (λ l. bank_literal basis.new.bank.terms basis.new.lits l ≡ normal_literal (content_scope basis.old.bank) (the_term formula.now)) }
-    ensures good { OnOk result (IsBasis basis.new) }
-    ensures grows { OnOk result (BasisGrows basis.old basis.new) }
-{
-    let Basis {
-        bank,
-        normal,
-        lits,
-        witnesses: _,
-    } = basis;
-    Ok(formula_literal(bank, normal, lits, formula)?)
-}
-
 /// Adds a start unit, for the solver too.
 fn add_unit(
     steps: &mut StepTable,
@@ -138,42 +81,19 @@ fn start_with<W: Weigher<Waiting>>(core: &mut Core<W>, lit: SatLit) -> Result<()
     Ok(())
 }
 
-/// Starts from the literals of the assumed formulas.
-fn start_assumed<W: Weigher<Waiting>>(core: &mut Core<W>, assumed: &Terms) -> Result<(), AllocError>
-    requires state { the_state core.old.tables core.old.plan ≡ nothing_yet }
-    requires right { IsRightState core.old.tables core.old.plan }
-    requires unwitnessed { core.old.tables.basis.witnesses ≡ [] }
-    requires steps { core.old.tables.steps ≡ ([], []) }
-    requires typed { AreFormulas (without_witnesses core.old.tables.basis.bank) assumed.now }
-    ensures { OnOk result (IsStarting core.old.tables core.old.plan core.new.tables core.new.plan (without_repeats (map (normal_literal (without_witnesses core.old.tables.basis.bank)) assumed.now))) }
-{
-    for i in 0..assumed.len() {
-        let lit = number_of(&mut core.tables.basis, assumed.at(i))?;
-        start_with(core, lit)?;
-    }
-    Ok(())
-}
-
-/// Starts a problem's run: from the literals of the assumed formulas, in order, and then the negation of the conjecture's.
+/// Starts from these literals, in order.
 pub(crate) fn start_all<W: Weigher<Waiting>>(
     core: &mut Core<W>,
-    problem: &Problem,
+    start: &[SatLit],
 ) -> Result<(), AllocError>
     requires state { the_state core.old.tables core.old.plan ≡ nothing_yet }
     requires right { IsRightState core.old.tables core.old.plan }
-    requires unwitnessed { core.old.tables.basis.witnesses ≡ [] }
     requires steps { core.old.tables.steps ≡ ([], []) }
-    requires declared { without_witnesses core.old.tables.basis.bank ≡ scope_of problem.now.declared }
-    requires typed { IsTyped problem.now }
-    ensures { OnOk result (IsStarting core.old.tables core.old.plan core.new.tables core.new.plan (start problem.now)) }
+    requires numbers { Each (IsNumberIn core.old.tables.basis.lits) start.now }
+    ensures { OnOk result (IsStarting core.old.tables core.old.plan core.new.tables core.new.plan (without_repeats (map (bank_literal core.old.tables.basis.bank.terms core.old.tables.basis.lits) start.now))) }
 {
-    start_assumed(core, &problem.assumed)?;
-    match &problem.conjecture {
-        None => Ok(()),
-        Some(conjecture) => {
-            let lit = number_of(&mut core.tables.basis, conjecture)?;
-            start_with(core, lit.negated())?;
-            Ok(())
-        }
+    for i in 0..start.len() {
+        start_with(core, start[i])?;
     }
+    Ok(())
 }

@@ -7,72 +7,105 @@ use Rattle.thf_include.specs.Gathering.{Ending, done, stopped, Stop, wants, too_
 use Rattle.type_check.specs.Statements.{IllInFile, problem_of}
 use Rattle.mode_file.specs.declared.Mode.{Mode}
 use Rattle.mode_file.specs.Given.{nothing_given, mode_of}
-use Rattle.cli_words.specs.Requests.{Request, prove, refutation, generated, models, sides}
+use Rattle.mode_schedule.specs.declared.Block.{Block}
+use Rattle.cli_words.specs.Requests.{Request, prove, by_schedule, refutation, generated, models, sides}
 use Rattle.problem_gen.specs.Chain.{text}
 use Rattle.szs_report.specs.Outcomes.{outcome_of}
 use Rattle.szs_report.specs.declared.answer.Answer.{Answer}
-use Rattle.szs_report.specs.declared.answer.Answer.TheVariants.{Proved, ModeAt, TooLong, ReadFault, Memory}
+use Rattle.szs_report.specs.declared.answer.Answer.TheVariants.{Proved, ModeAt, ScheduleAt, TooLong, ReadFault, Memory}
 use Rattle.szs_report.specs.declared.answer.Claim.TheVariants.{Theorem, Unsatisfiable}
 use Rattle.szs_report.specs.declared.answer.NamedFile.TheVariants.{Part, Check}
 use Rattle.szs_report.specs.declared.answer.NamedFile.TheVariants as named
-use Rattle.request_answers.specs.Requested.{problem_name, told_of, contents_of, mode_file}
+use Rattle.request_answers.specs.Requested.{problem_name, told_of, contents_of, mode_file, schedule_file}
 use Rattle.request_answers.specs.Files.{OfFiles}
 use Rattle.request_answers.specs.Modes.{IsModeBy}
+use Rattle.request_answers.specs.Schedules.{IsScheduleBy}
 use Rattle.outside.specs.Limits.{byte_limit}
 use Rattle.request_answers.specs.Solved.{IsDemoed}
 use Rattle.request_answers.specs.Answers.{stop_answer, AnswersProblem, AnswersStated, AnswersEnding, AnswersRequest}
-use Rattle.request_answers.specs.Causes.{IsFaultIn, IsFaultOf, IsModeFault, IsTextFault, HasCauseOf}
+use Rattle.request_answers.specs.Causes.{IsFaultIn, IsFaultOf, IsModeFault, IsScheduleFault, IsTextFault, HasCauseOf}
 use Rattle.request_answers.specs.Internal.ReadFaults.{IsNoReadFault}
-use Rattle.request_answers.specs.Internal.Unread.{IsUnaskedMode, IsUnstated, IsUnread, IsFilesAnswer}
+use Rattle.request_answers.specs.Internal.Unread.{IsUnaskedMode, IsUnreadSchedule, IsUnstated, IsUnread, IsFilesAnswer}
 
--- an answer of a mode's file
-abbrev IsOfMode : Answer → Type 0
-IsOfMode (ReadFault (named.Mode file)) = Unit {0}
-IsOfMode (TooLong (named.Mode file)) = Unit {0}
-IsOfMode (ModeAt line why) = Unit {0}
-IsOfMode a = ⊥
+-- an answer of the file of a mode or of a schedule
+abbrev IsOfGuide : Answer → Type 0
+IsOfGuide (ReadFault (named.Mode file)) = Unit {0}
+IsOfGuide (TooLong (named.Mode file)) = Unit {0}
+IsOfGuide (ModeAt line why) = Unit {0}
+IsOfGuide (ReadFault (named.Schedule file)) = Unit {0}
+IsOfGuide (TooLong (named.Schedule file)) = Unit {0}
+IsOfGuide (ScheduleAt line why) = Unit {0}
+IsOfGuide a = ⊥
 
-stop_not_mode : (names : List (List ℕ)) (s : Stop) → IsOfMode (stop_answer names s) → ⊥
-stop_not_mode names (wants file) h = h
-stop_not_mode names (too_long file) h = h
-stop_not_mode names (no_tree file at) h = h
-stop_not_mode names (cycle file at) h = h
-stop_not_mode names (too_many file at) h = h
-stop_not_mode names (no_name file at) h = h
+stop_not_guide : (names : List (List ℕ)) (s : Stop) → IsOfGuide (stop_answer names s) → ⊥
+stop_not_guide names (wants file) h = h
+stop_not_guide names (too_long file) h = h
+stop_not_guide names (no_tree file at) h = h
+stop_not_guide names (cycle file at) h = h
+stop_not_guide names (too_many file at) h = h
+stop_not_guide names (no_name file at) h = h
 
-problem_not_mode : (told : Bool) (contents : List ℕ → Option (List ℕ)) (r : Request) (m : Mode) (p : PlainProblem) (a : Answer) → IsOfMode a → AnswersProblem told contents r m p a → ⊥
-problem_not_mode told contents (prove q file nodes) m p (ReadFault (named.Mode f)) o h = h
-problem_not_mode told contents (prove q file nodes) m p (TooLong (named.Mode f)) o h = h
-problem_not_mode told contents (prove q file nodes) m p (ModeAt line why) o h = h
-problem_not_mode told contents (refutation cuts t q) m p (ReadFault (named.Mode f)) o h = h.holds
-problem_not_mode told contents (refutation cuts t q) m p (TooLong (named.Mode f)) o h = h.holds
-problem_not_mode told contents (refutation cuts t q) m p (ModeAt line why) o h = h.holds
-problem_not_mode told contents (generated n) m p (ReadFault (named.Mode f)) o h = h
-problem_not_mode told contents (generated n) m p (TooLong (named.Mode f)) o h = h
-problem_not_mode told contents (generated n) m p (ModeAt line why) o h = h
-problem_not_mode told contents (models k q) m p (ReadFault (named.Mode f)) o h = h
-problem_not_mode told contents (models k q) m p (TooLong (named.Mode f)) o h = h
-problem_not_mode told contents (models k q) m p (ModeAt line why) o h = h
-problem_not_mode told contents (sides q) m p (ReadFault (named.Mode f)) o h = h
-problem_not_mode told contents (sides q) m p (TooLong (named.Mode f)) o h = h
-problem_not_mode told contents (sides q) m p (ModeAt line why) o h = h
-problem_not_mode told contents r m p a o h = absurd o
+problem_not_guide : (told : Bool) (contents : List ℕ → Option (List ℕ)) (r : Request) (m : Mode) (bs : List Block) (p : PlainProblem) (a : Answer) → IsOfGuide a → AnswersProblem told contents r m bs p a → ⊥
+problem_not_guide told contents (prove q file nodes) m bs p (ReadFault (named.Mode f)) o h = h
+problem_not_guide told contents (prove q file nodes) m bs p (TooLong (named.Mode f)) o h = h
+problem_not_guide told contents (prove q file nodes) m bs p (ModeAt line why) o h = h
+problem_not_guide told contents (prove q file nodes) m bs p (ReadFault (named.Schedule f)) o h = h
+problem_not_guide told contents (prove q file nodes) m bs p (TooLong (named.Schedule f)) o h = h
+problem_not_guide told contents (prove q file nodes) m bs p (ScheduleAt line why) o h = h
+problem_not_guide told contents (by_schedule file q) m bs p (ReadFault (named.Mode f)) o h = h
+problem_not_guide told contents (by_schedule file q) m bs p (TooLong (named.Mode f)) o h = h
+problem_not_guide told contents (by_schedule file q) m bs p (ModeAt line why) o h = h
+problem_not_guide told contents (by_schedule file q) m bs p (ReadFault (named.Schedule f)) o h = h
+problem_not_guide told contents (by_schedule file q) m bs p (TooLong (named.Schedule f)) o h = h
+problem_not_guide told contents (by_schedule file q) m bs p (ScheduleAt line why) o h = h
+problem_not_guide told contents (refutation cuts t q) m bs p (ReadFault (named.Mode f)) o h = h.holds
+problem_not_guide told contents (refutation cuts t q) m bs p (TooLong (named.Mode f)) o h = h.holds
+problem_not_guide told contents (refutation cuts t q) m bs p (ModeAt line why) o h = h.holds
+problem_not_guide told contents (refutation cuts t q) m bs p (ReadFault (named.Schedule f)) o h = h.holds
+problem_not_guide told contents (refutation cuts t q) m bs p (TooLong (named.Schedule f)) o h = h.holds
+problem_not_guide told contents (refutation cuts t q) m bs p (ScheduleAt line why) o h = h.holds
+problem_not_guide told contents (generated n) m bs p (ReadFault (named.Mode f)) o h = h
+problem_not_guide told contents (generated n) m bs p (TooLong (named.Mode f)) o h = h
+problem_not_guide told contents (generated n) m bs p (ModeAt line why) o h = h
+problem_not_guide told contents (generated n) m bs p (ReadFault (named.Schedule f)) o h = h
+problem_not_guide told contents (generated n) m bs p (TooLong (named.Schedule f)) o h = h
+problem_not_guide told contents (generated n) m bs p (ScheduleAt line why) o h = h
+problem_not_guide told contents (models k q) m bs p (ReadFault (named.Mode f)) o h = h
+problem_not_guide told contents (models k q) m bs p (TooLong (named.Mode f)) o h = h
+problem_not_guide told contents (models k q) m bs p (ModeAt line why) o h = h
+problem_not_guide told contents (models k q) m bs p (ReadFault (named.Schedule f)) o h = h
+problem_not_guide told contents (models k q) m bs p (TooLong (named.Schedule f)) o h = h
+problem_not_guide told contents (models k q) m bs p (ScheduleAt line why) o h = h
+problem_not_guide told contents (sides q) m bs p (ReadFault (named.Mode f)) o h = h
+problem_not_guide told contents (sides q) m bs p (TooLong (named.Mode f)) o h = h
+problem_not_guide told contents (sides q) m bs p (ModeAt line why) o h = h
+problem_not_guide told contents (sides q) m bs p (ReadFault (named.Schedule f)) o h = h
+problem_not_guide told contents (sides q) m bs p (TooLong (named.Schedule f)) o h = h
+problem_not_guide told contents (sides q) m bs p (ScheduleAt line why) o h = h
+problem_not_guide told contents r m bs p a o h = absurd o
 
-ending_not_mode : (told : Bool) (contents : List ℕ → Option (List ℕ)) (r : Request) (m : Mode) (names : List (List ℕ)) (a : Answer) (e : Ending) → IsOfMode a → AnswersEnding (AnswersProblem told contents r m) names a e → ⊥
-ending_not_mode told contents r m names a (stopped s) o h = stop_not_mode names s (subst IsOfMode h o)
-ending_not_mode told contents r m names a (done ss) o h = go (problem_of ss) h
+ending_not_guide : (told : Bool) (contents : List ℕ → Option (List ℕ)) (r : Request) (m : Mode) (bs : List Block) (names : List (List ℕ)) (a : Answer) (e : Ending) → IsOfGuide a → AnswersEnding (AnswersProblem told contents r m bs) names a e → ⊥
+ending_not_guide told contents r m bs names a (stopped s) o h = stop_not_guide names s (subst IsOfGuide h o)
+ending_not_guide told contents r m bs names a (done ss) o h = go (problem_of ss) h
   where
-    go : (q : Result PlainProblem IllInFile) → AnswersStated (AnswersProblem told contents r m) names a q → ⊥
-    go (Ok p) k = problem_not_mode told contents r m p a o k
-    go (Err ill) k = subst IsOfMode k o
+    go : (q : Result PlainProblem IllInFile) → AnswersStated (AnswersProblem told contents r m bs) names a q → ⊥
+    go (Ok p) k = problem_not_guide told contents r m bs p a o k
+    go (Err ill) k = subst IsOfGuide k o
 
--- files are answered as their request is, by its mode
-pub files_request : (r : Request) (told : Bool) (contents : List ℕ → Option (List ℕ)) (m : Mode) → IsModeBy told contents (mode_file r) m → (a : Answer) → IsFilesAnswer (AnswersProblem told contents r m) (problem_name r) (told_of told r) (contents_of contents r) a → AnswersRequest r told contents a
-files_request r told contents m mode Memory h = tt
-files_request r told contents m mode (ReadFault (named.Mode f)) h = absurd (ending_not_mode told contents r m h.0 (ReadFault (named.Mode f)) h.1.ending tt h.1.holds)
-files_request r told contents m mode (TooLong (named.Mode f)) h = absurd (ending_not_mode told contents r m h.0 (TooLong (named.Mode f)) h.1.ending tt h.1.holds)
-files_request r told contents m mode (ModeAt line why) h = absurd (ending_not_mode told contents r m h.0 (ModeAt line why) h.1.ending tt h.1.holds)
-files_request r told contents m mode a h = record { mode = m; is_mode = mode; names = h.0; files = h.1 }
+-- files are answered as their request is, by its mode and its blocks
+module _ (r : Request) (told : Bool) (contents : List ℕ → Option (List ℕ)) (m : Mode) (mode : IsModeBy told contents (mode_file r) m) (bs : List Block) (blocks : IsScheduleBy told contents (schedule_file r) bs) where
+  abbrev AreAnswered : Answer → Type 0
+  AreAnswered a = IsFilesAnswer (AnswersProblem told contents r m bs) (problem_name r) (told_of told r) (contents_of contents r) a
+
+  pub files_request : (a : Answer) → AreAnswered a → AnswersRequest r told contents a
+  files_request Memory h = tt
+  files_request (ReadFault (named.Mode f)) h = absurd (ending_not_guide told contents r m bs h.0 (ReadFault (named.Mode f)) h.1.ending tt h.1.holds)
+  files_request (TooLong (named.Mode f)) h = absurd (ending_not_guide told contents r m bs h.0 (TooLong (named.Mode f)) h.1.ending tt h.1.holds)
+  files_request (ModeAt line why) h = absurd (ending_not_guide told contents r m bs h.0 (ModeAt line why) h.1.ending tt h.1.holds)
+  files_request (ReadFault (named.Schedule f)) h = absurd (ending_not_guide told contents r m bs h.0 (ReadFault (named.Schedule f)) h.1.ending tt h.1.holds)
+  files_request (TooLong (named.Schedule f)) h = absurd (ending_not_guide told contents r m bs h.0 (TooLong (named.Schedule f)) h.1.ending tt h.1.holds)
+  files_request (ScheduleAt line why) h = absurd (ending_not_guide told contents r m bs h.0 (ScheduleAt line why) h.1.ending tt h.1.holds)
+  files_request a h = record { mode = m; is_mode = mode; blocks = bs; are_blocks = blocks; names = h.0; files = h.1 }
 
 -- a mode's file that isn't read
 pub mode_request : (p : List ℕ) (file : Option (List ℕ)) (nodes : Option ℕ) (told : Bool) (contents : List ℕ → Option (List ℕ)) (a : Answer) → IsUnaskedMode told contents file a → AnswersRequest (prove p file nodes) told contents a
@@ -83,6 +116,14 @@ mode_request p (Some file) nodes told contents (TooLong (named.Mode own)) h = (a
 mode_request p (Some file) nodes told contents (ModeAt line why) h = h
 mode_request p (Some file) nodes told contents a h = absurd h
 
+-- a schedule's file that isn't read
+pub schedule_request : (file p : List ℕ) (told : Bool) (contents : List ℕ → Option (List ℕ)) (a : Answer) → IsUnreadSchedule told contents file a → AnswersRequest (by_schedule file p) told contents a
+schedule_request file p told contents Memory h = tt
+schedule_request file p told contents (ReadFault (named.Schedule own)) h = ap Some (sym h)
+schedule_request file p told contents (TooLong (named.Schedule own)) h = (ap Some (sym h.0), subst (λ f. IsTrue told → (bytes : List ℕ) × (contents f ≡ Some bytes) × (byte_limit < length bytes)) (sym h.0) h.1)
+schedule_request file p told contents (ScheduleAt line why) h = h
+schedule_request file p told contents a h = absurd h
+
 -- contents that are the same under each name
 same_contents : (one other : List ℕ → Option (List ℕ)) → ((f : List ℕ) → one f ≡ other f) → (names texts : List (List ℕ)) → AreContents one names texts → AreContents other names texts
 same_contents one other same names [] h = tt
@@ -91,9 +132,9 @@ same_contents one other same (n ∷ names) (t ∷ ts) h = (sym (same n) ∙ h.0,
 
 -- a generated problem is answered as its request is
 pub demo_request : (n : ℕ) (held : Bool) (one : List ℕ → Option (List ℕ)) → IsTrue held → ((f : List ℕ) → one f ≡ Some (text n)) → (a : Answer) → IsFilesAnswer (IsDemoed (mode_of nothing_given)) (problem_name (generated n)) held one a → (told : Bool) (contents : List ℕ → Option (List ℕ)) → AnswersRequest (generated n) told contents a
-demo_request n held one is same a h told contents = files_request (generated n) told contents (mode_of nothing_given) refl a (moved a h)
+demo_request n held one is same a h told contents = files_request (generated n) told contents (mode_of nothing_given) refl [] refl a (moved a h)
   where
-    moved : (a : Answer) → IsFilesAnswer (IsDemoed (mode_of nothing_given)) (problem_name (generated n)) held one a → IsFilesAnswer (AnswersProblem told contents (generated n) (mode_of nothing_given)) (problem_name (generated n)) true (λ f. Some (text n)) a
+    moved : (a : Answer) → IsFilesAnswer (IsDemoed (mode_of nothing_given)) (problem_name (generated n)) held one a → IsFilesAnswer (AnswersProblem told contents (generated n) (mode_of nothing_given) []) (problem_name (generated n)) true (λ f. Some (text n)) a
     moved Memory h = tt
     moved a h = (
       h.0,
@@ -120,14 +161,16 @@ fault_before name told contents t c before old now k e f same h = record {
 pub cause_of : (r : Request) (told : Bool) (contents : List ℕ → Option (List ℕ)) (before now : List ℕ → ℕ) (a : Answer)
     → ((k : ℕ) (names : List (List ℕ)) → a ≡ ReadFault (Part k names) → IsFaultOf r told contents before now k)
     → ((name : List ℕ) → a ≡ ReadFault (named.Mode name) → IsModeFault r before now)
+    → ((name : List ℕ) → a ≡ ReadFault (named.Schedule name) → IsScheduleFault r before now)
     → ((name : List ℕ) → a ≡ ReadFault (Check name) → IsTextFault r told contents before now)
     → (IsNoReadFault a → (file : List ℕ) → now file ≡ before file) → HasCauseOf r told contents before now (outcome_of a)
-cause_of r told contents before now (ReadFault (Part k names)) f g h q = f k names refl
-cause_of r told contents before now (ReadFault (named.Mode name)) f g h q = g name refl
-cause_of r told contents before now (ReadFault (Check name)) f g h q = h name refl
-cause_of r told contents before now (Proved Theorem n tree text) f g h q = q tt
-cause_of r told contents before now (Proved Unsatisfiable n tree text) f g h q = q tt
-cause_of r told contents before now a f g h q = q tt
+cause_of r told contents before now (ReadFault (Part k names)) f g i h q = f k names refl
+cause_of r told contents before now (ReadFault (named.Mode name)) f g i h q = g name refl
+cause_of r told contents before now (ReadFault (named.Schedule name)) f g i h q = i name refl
+cause_of r told contents before now (ReadFault (Check name)) f g i h q = h name refl
+cause_of r told contents before now (Proved Theorem n mode tree text) f g i h q = q tt
+cause_of r told contents before now (Proved Unsatisfiable n mode tree text) f g i h q = q tt
+cause_of r told contents before now a f g i h q = q tt
 
 -- the text of a refutation is read only where one is to be checked
 part_stop : (names : List (List ℕ)) (name : List ℕ) (s : Stop) → ReadFault (Check name) ≡ stop_answer names s → ⊥
@@ -138,32 +181,39 @@ part_stop names name (cycle file at) e = cc
 part_stop names name (too_many file at) e = cc
 part_stop names name (no_name file at) e = cc
 
-no_text_read : (r : Request) (told : Bool) (contents : List ℕ → Option (List ℕ)) (name : List ℕ) → ((m : Mode) (q : PlainProblem) → AnswersProblem told contents r m q (ReadFault (Check name)) → ⊥) → AnswersRequest r told contents (ReadFault (Check name)) → ⊥
+no_text_read : (r : Request) (told : Bool) (contents : List ℕ → Option (List ℕ)) (name : List ℕ) → ((m : Mode) (bs : List Block) (q : PlainProblem) → AnswersProblem told contents r m bs q (ReadFault (Check name)) → ⊥) → AnswersRequest r told contents (ReadFault (Check name)) → ⊥
 no_text_read r told contents name none h = go h.files.ending h.files.holds
   where
-    stated : (x : Result PlainProblem IllInFile) → AnswersStated (AnswersProblem told contents r h.mode) h.names (ReadFault (Check name)) x → ⊥
-    stated (Ok q) k = none h.mode q k
+    stated : (x : Result PlainProblem IllInFile) → AnswersStated (AnswersProblem told contents r h.mode h.blocks) h.names (ReadFault (Check name)) x → ⊥
+    stated (Ok q) k = none h.mode h.blocks q k
     stated (Err ill) k = cc
 
-    go : (e : Ending) → AnswersEnding (AnswersProblem told contents r h.mode) h.names (ReadFault (Check name)) e → ⊥
+    go : (e : Ending) → AnswersEnding (AnswersProblem told contents r h.mode h.blocks) h.names (ReadFault (Check name)) e → ⊥
     go (stopped s) k = part_stop h.names name s k
     go (done ss) k = stated (problem_of ss) k
 
 pub no_text_asked : (p : List ℕ) (file : Option (List ℕ)) (nodes : Option ℕ) (told : Bool) (contents : List ℕ → Option (List ℕ)) (name : List ℕ) → AnswersRequest (prove p file nodes) told contents (ReadFault (Check name)) → ⊥
-no_text_asked p file nodes told contents name h = no_text_read (prove p file nodes) told contents name (λ m q k. k) h
+no_text_asked p file nodes told contents name h = no_text_read (prove p file nodes) told contents name (λ m bs q k. k) h
+
+pub no_text_scheduled : (file p : List ℕ) (told : Bool) (contents : List ℕ → Option (List ℕ)) (name : List ℕ) → AnswersRequest (by_schedule file p) told contents (ReadFault (Check name)) → ⊥
+no_text_scheduled file p told contents name h = no_text_read (by_schedule file p) told contents name (λ m bs q k. k) h
 
 pub no_text_modelled : (k : ℕ) (p : List ℕ) (told : Bool) (contents : List ℕ → Option (List ℕ)) (name : List ℕ) → AnswersRequest (models k p) told contents (ReadFault (Check name)) → ⊥
-no_text_modelled k p told contents name h = no_text_read (models k p) told contents name (λ m q k. k) h
+no_text_modelled k p told contents name h = no_text_read (models k p) told contents name (λ m bs q k. k) h
 
 pub no_text_compared : (p : List ℕ) (told : Bool) (contents : List ℕ → Option (List ℕ)) (name : List ℕ) → AnswersRequest (sides p) told contents (ReadFault (Check name)) → ⊥
-no_text_compared p told contents name h = no_text_read (sides p) told contents name (λ m q k. k) h
+no_text_compared p told contents name h = no_text_read (sides p) told contents name (λ m bs q k. k) h
 
 -- the mode's file is the one that is asked for
 pub mode_fault : (r : Request) (told : Bool) (contents : List ℕ → Option (List ℕ)) (before now : List ℕ → ℕ) (name : List ℕ) → AnswersRequest r told contents (ReadFault (named.Mode name)) → Rose (before name) (now name) → IsModeFault r before now
 mode_fault r told contents before now name h rose = record { file = name; named = h; rose = rose }
 
+-- so is the schedule's file
+pub schedule_fault : (r : Request) (told : Bool) (contents : List ℕ → Option (List ℕ)) (before now : List ℕ → ℕ) (name : List ℕ) → AnswersRequest r told contents (ReadFault (named.Schedule name)) → Rose (before name) (now name) → IsScheduleFault r before now
+schedule_fault r told contents before now name h rose = record { file = name; named = h; rose = rose }
+
 -- what isn't read without a fault is answered without one
-unread_ending : (names : List (List ℕ)) (a : Answer) (e : Ending) → (IsOfMode a → ⊥) → IsUnstated names a e → IsNoReadFault a ⊎ ((k : ℕ) × (a ≡ ReadFault (Part k names)))
+unread_ending : (names : List (List ℕ)) (a : Answer) (e : Ending) → (IsOfGuide a → ⊥) → IsUnstated names a e → IsNoReadFault a ⊎ ((k : ℕ) × (a ≡ ReadFault (Part k names)))
 unread_ending names a (done ss) apart h = inl (subst IsNoReadFault (sym h.answered) tt)
 unread_ending names a (stopped (wants file)) apart h = inr (file, h)
 unread_ending names a (stopped (too_long file)) apart h = inl (subst IsNoReadFault (sym h) tt)
@@ -172,17 +222,17 @@ unread_ending names a (stopped (cycle file at)) apart h = inl (subst IsNoReadFau
 unread_ending names a (stopped (too_many file at)) apart h = inl (subst IsNoReadFault (sym h) tt)
 unread_ending names a (stopped (no_name file at)) apart h = inl (subst IsNoReadFault (sym h) tt)
 
-no_fault_there : (name : List ℕ) (told : Bool) (contents : List ℕ → Option (List ℕ)) (names : List (List ℕ)) (a : Answer) → ((k : ℕ) (ns : List (List ℕ)) → a ≡ ReadFault (Part k ns) → ⊥) → OfFiles name told contents names (IsUnstated names a) → (IsOfMode a → ⊥) → IsNoReadFault a
+no_fault_there : (name : List ℕ) (told : Bool) (contents : List ℕ → Option (List ℕ)) (names : List (List ℕ)) (a : Answer) → ((k : ℕ) (ns : List (List ℕ)) → a ≡ ReadFault (Part k ns) → ⊥) → OfFiles name told contents names (IsUnstated names a) → (IsOfGuide a → ⊥) → IsNoReadFault a
 no_fault_there name told contents names a f h apart = go (unread_ending names a h.ending apart h.holds)
   where
     go : IsNoReadFault a ⊎ ((k : ℕ) × (a ≡ ReadFault (Part k names))) → IsNoReadFault a
     go (inl q) = q
     go (inr q) = absurd (f q.0 names q.1)
 
-unstated_not_mode : (names : List (List ℕ)) (a : Answer) (e : Ending) → IsUnstated names a e → IsOfMode a → ⊥
-unstated_not_mode names a (done ss) h o = subst IsOfMode h.answered o
-unstated_not_mode names a (stopped s) h o = stop_not_mode names s (subst IsOfMode h o)
+unstated_not_guide : (names : List (List ℕ)) (a : Answer) (e : Ending) → IsUnstated names a e → IsOfGuide a → ⊥
+unstated_not_guide names a (done ss) h o = subst IsOfGuide h.answered o
+unstated_not_guide names a (stopped s) h o = stop_not_guide names s (subst IsOfGuide h o)
 
 pub unread_no_fault : (name : List ℕ) (told : Bool) (contents : List ℕ → Option (List ℕ)) (a : Answer) → ((k : ℕ) (ns : List (List ℕ)) → a ≡ ReadFault (Part k ns) → ⊥) → IsUnread name told contents a → IsNoReadFault a
 unread_no_fault name told contents Memory f h = tt
-unread_no_fault name told contents a f h = no_fault_there name told contents h.0 a f h.1 (unstated_not_mode h.0 a h.1.ending h.1.holds)
+unread_no_fault name told contents a f h = no_fault_there name told contents h.0 a f h.1 (unstated_not_guide h.0 a h.1.ending h.1.holds)

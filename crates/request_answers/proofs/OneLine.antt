@@ -7,7 +7,7 @@ use Rattle.std.proofs.lemmas.Bool.{and_parts, eqb-true}
 use Rattle.std.proofs.lemmas.Bool.Decides.{nat_tests}
 use Rattle.refute_text.specs.Reading.{is_one_line}
 use Rattle.cli_words.specs.Names.{is_control, is_file_name}
-use Rattle.cli_words.specs.Requests.{Request, prove, refutation, generated, models, sides, asked_by}
+use Rattle.cli_words.specs.Requests.{Request, prove, by_schedule, refutation, generated, models, sides, asked_by}
 use Rattle.cli_words.proofs.RequestLaws.{IsNamed, asked_by-named}
 use Rattle.request_answers.specs.Requested.{problem_name, asked_name, IsRequestInRange}
 
@@ -68,6 +68,7 @@ demo_one_line n = one_line-append (codes "demo ") (decimal n) refl (decimal_one_
 
 request_one_line : (r : Request) → IsNamed r → is_one_line (problem_name r) ≡ true
 request_one_line (prove p mode nodes) h = file_name-one_line p h.0
+request_one_line (by_schedule file p) h = file_name-one_line p h
 request_one_line (refutation cuts text p) h = file_name-one_line p h
 request_one_line (generated n) h = demo_one_line n
 request_one_line (models upto p) h = file_name-one_line p h.0
@@ -82,6 +83,7 @@ asked_in_range words r h = go r (asked_by-named words r h)
   where
     go : (r : Request) → IsNamed r → IsRequestInRange r
     go (prove p mode nodes) k = tt
+    go (by_schedule file p) k = tt
     go (refutation cuts text p) k = tt
     go (generated n) k = k
     go (models upto p) k = (k.1, k.2)

@@ -1,5 +1,5 @@
 -- A run that ended with a proof has its text.
-use Rattle.std.proofs.Common.{◌≡◌, ℕ, suc, true, List, [], ◌∷◌, map, filter, length, Option, Some, None, refl, sym, ap, subst, arith}
+use Rattle.std.proofs.Common.{◌≡◌, ◌+◌, ℕ, suc, true, List, [], ◌∷◌, map, filter, length, Option, Some, None, refl, sym, ap, subst, arith}
 use Rattle.std.specs.List.{AllByRecursion}
 use Rattle.std.proofs.lemmas.List.Sums.{list_all-from_AllPass}
 use Rattle.stt_core.specs.TypedName.{TypedName}
@@ -16,6 +16,9 @@ use Rattle.delta_defs.specs.Laws.{AreDeclaredNames}
 use Rattle.refute_check.specs.Acceptance.{IsAcceptedFor}
 use Rattle.refute_check.proofs.AcceptanceLaws.{named_accepted, places_named}
 use Rattle.prover_run.specs.Ended.{IsRefuted}
+use Rattle.mode_schedule.specs.declared.Block.{Block}
+use Rattle.mode_schedule.specs.Turns.{closed, ScheduleEnds}
+use Rattle.mode_schedule.specs.Scheduled.{slots_for, IsRefutedIn}
 use Rattle.request_answers.specs.Names.{ArePrintable, names_in}
 use Rattle.request_answers.specs.Internal.Texts.{HasTexts}
 use Rattle.search_spec.specs.Shallow.{is_shallow_literal}
@@ -24,7 +27,7 @@ use Rattle.plain_tableau.specs.declared.stripped.Stripped.{Stripped}
 use Rattle.plain_tableau.specs.declared.stripped.Stripped.TheVariants as stripped
 use Rattle.prover_run.specs.Tree.{IsTreeAsked}
 use Rattle.szs_report.specs.declared.answer.TreeReport.{TreeReport}
-use Rattle.request_answers.specs.Solved.{written_refutation, tree_told, IsProofOf}
+use Rattle.request_answers.specs.Solved.{written_refutation, tree_told, IsProofOf, IsProofInTurns}
 use Rattle.thf_grammar.specs.Printable.{is_printable, IsPrintable}
 use Rattle.refute_print.specs.Letters.{is_printable_name}
 use Rattle.request_answers.proofs.NameLaws.{NamesAll, accepted_named}
@@ -91,6 +94,22 @@ module _ (nodes : Option ℕ) (m : Mode) (p : PlainProblem) (n : ℕ) (rebuilt :
         has_text (names_in p) (scope_of p.declared) (named_all p) (are_words p texts.printable) (taken_names p) (places_named p (taken_names p) declared)
         (start (unfolded_problem p)) (written_refutation rebuilt s) accepted (written_small nodes m p n rebuilt r s a);
     numbered = refutation-same (names_in p) (declared_placed p.declared texts.apart) (scope_of p.declared) (taken_names p) (written_refutation rebuilt s) accepted.table run_named;
+  }
+
+-- the run of a block that closes a schedule has the text of its refutation
+module _ (blocks : List Block) (p : PlainProblem) (number total : ℕ) (refutation : Refutation) (texts : HasTexts p) (r : IsRefutedIn (unfolded_problem p) blocks number refutation) where
+  pub block_named : IsNamed (names_in p) refutation
+  block_named = run_named None r.block.mode p r.commands refutation texts r.refuted None tt
+
+  pub proof_of_block : ScheduleEnds (slots_for p blocks) (start (unfolded_problem p)) (closed number total) → AreDeclaredNames p (taken_names p) → (text : List ℕ) → text ≡ as_bytes (text_lines (named_refutation (names_in p) (taken_names p) refutation)) → IsProofInTurns blocks p total (Some (number + 1)) text
+  proof_of_block closes declared text t = record {
+    number = number;
+    is_told = refl;
+    closes = closes;
+    block = r.block;
+    its_block = r.its_block;
+    commands = r.commands;
+    proof = proof_of_run None r.block.mode p r.commands refutation texts r.refuted None tt declared text t;
   }
 
 -- what a proof writes is accepted for the start

@@ -4,22 +4,24 @@ use Rattle.stt_core.specs.PlainProblem.{PlainProblem}
 use Rattle.thf_include.specs.Gathering.{Ending, done, stopped, Stop, wants, too_long, no_tree, cycle, too_many, no_name}
 use Rattle.type_check.specs.Statements.{IllInFile, problem_of}
 use Rattle.mode_file.specs.declared.Mode.{Mode}
-use Rattle.cli_words.specs.Requests.{Request, prove, refutation, generated, models, sides, asked_by}
+use Rattle.mode_schedule.specs.declared.Block.{Block}
+use Rattle.cli_words.specs.Requests.{Request, prove, by_schedule, refutation, generated, models, sides, asked_by}
 use Rattle.szs_report.specs.Outcomes.{outcome_of}
 use Rattle.szs_report.specs.declared.answer.Answer.{Answer}
-use Rattle.szs_report.specs.declared.answer.Answer.TheVariants.{ConflictLimit, SyntaxAt, TypeAt, IncludeAt, ModeAt, Words, TooLong, ReadFault, Memory, UnreadWords}
+use Rattle.szs_report.specs.declared.answer.Answer.TheVariants.{ConflictLimit, SyntaxAt, TypeAt, IncludeAt, ModeAt, ScheduleAt, Words, TooLong, ReadFault, Memory, UnreadWords}
 use Rattle.szs_report.specs.declared.answer.NamedFile.TheVariants.{Part}
 use Rattle.szs_report.specs.declared.answer.NamedFile.TheVariants as named
 use Rattle.szs_report.specs.declared.outcome.IncludeWhy.TheVariants.{Cycle, NoSuchName, TooMany}
 use Rattle.szs_report.specs.declared.outcome.Outcome.{Outcome}
 use Rattle.szs_report.specs.declared.outcome.Outcome.TheVariants as ended
-use Rattle.request_answers.specs.Requested.{problem_name, mode_file, told_of, contents_of}
+use Rattle.request_answers.specs.Requested.{problem_name, mode_file, schedule_file, told_of, contents_of}
 use Rattle.request_answers.specs.Files.{OfFiles}
 use Rattle.request_answers.specs.Modes.{IsLongFile, IsModeBy, IsBadMode}
+use Rattle.request_answers.specs.Schedules.{IsScheduleBy, IsBadSchedule}
 use Rattle.request_answers.specs.Checked.{AnswersText}
 use Rattle.request_answers.specs.Compared.{AnswersSides}
 use Rattle.request_answers.specs.Modelled.{AnswersModels}
-use Rattle.request_answers.specs.Solved.{IsSolved, IsDemoed}
+use Rattle.request_answers.specs.Solved.{IsSolved, IsSolvedInTurns, IsDemoed}
 
 -- what the stop of a gathering is answered with, where files of these names were opened
 abbrev pub stop_answer : List (List ℕ) → Stop → Answer
@@ -30,13 +32,14 @@ stop_answer names (cycle file at) = IncludeAt (Part file names) at Cycle
 stop_answer names (too_many file at) = IncludeAt (Part file names) at TooMany
 stop_answer names (no_name file at) = IncludeAt (Part file names) at NoSuchName
 
--- what the problem that is asked for is answered with, once it is read and where this is the mode
-abbrev pub AnswersProblem : Bool → (List ℕ → Option (List ℕ)) → Request → Mode → PlainProblem → Answer → Type 0
-AnswersProblem told contents (prove p mode nodes) m = IsSolved nodes m
-AnswersProblem told contents (refutation cuts text p) m = AnswersText cuts told contents text
-AnswersProblem told contents (generated n) m = IsDemoed m
-AnswersProblem told contents (models upto p) m = AnswersModels upto
-AnswersProblem told contents (sides p) m = AnswersSides
+-- what the problem that is asked for is answered with, once it is read and where this is the mode and these are the blocks of the schedule
+abbrev pub AnswersProblem : Bool → (List ℕ → Option (List ℕ)) → Request → Mode → List Block → PlainProblem → Answer → Type 0
+AnswersProblem told contents (prove p mode nodes) m bs = IsSolved nodes m
+AnswersProblem told contents (by_schedule file p) m bs = IsSolvedInTurns bs
+AnswersProblem told contents (refutation cuts text p) m bs = AnswersText cuts told contents text
+AnswersProblem told contents (generated n) m bs = IsDemoed m
+AnswersProblem told contents (models upto p) m bs = AnswersModels upto
+AnswersProblem told contents (sides p) m bs = AnswersSides
 
 -- what statements are answered with that state a problem, or have no meaning; problems are answered as Answers says
 abbrev pub AnswersStated : (PlainProblem → Answer → Type 0) → List (List ℕ) → Answer → Result PlainProblem IllInFile → Type 0
@@ -48,20 +51,25 @@ abbrev pub AnswersEnding : (PlainProblem → Answer → Type 0) → List (List �
 AnswersEnding Answers names answer (done ss) = AnswersStated Answers names answer (problem_of ss)
 AnswersEnding Answers names answer (stopped s) = answer ≡ stop_answer names s
 
--- what is answered where the mode is this one, or none that is read
+-- what is answered where the mode is this one, or none that is read, and so are the blocks of the schedule
 pub record AnswersFiles (r : Request) (told : Bool) (contents : List ℕ → Option (List ℕ)) (answer : Answer) : Type 0 where
   pub mode : Mode
   pub is_mode : IsModeBy told contents (mode_file r) mode
+  pub blocks : List Block
+  pub are_blocks : IsScheduleBy told contents (schedule_file r) blocks
   pub names : List (List ℕ)
-  pub files : OfFiles (problem_name r) (told_of told r) (contents_of contents r) names (AnswersEnding (AnswersProblem told contents r mode) names answer)
+  pub files : OfFiles (problem_name r) (told_of told r) (contents_of contents r) names (AnswersEnding (AnswersProblem told contents r mode blocks) names answer)
 
--- What a request is answered with: the mode's file comes first, then the problem's files, then what they state. Want of memory may come
+-- What a request is answered with: the file of the mode or of the schedule comes first, then the problem's files, then what they state. Want of memory may come
 -- anywhere.
 abbrev pub AnswersRequest : Request → Bool → (List ℕ → Option (List ℕ)) → Answer → Type 0
 AnswersRequest r told contents Memory = Unit {0}
 AnswersRequest r told contents (ReadFault (named.Mode file)) = mode_file r ≡ Some file
 AnswersRequest r told contents (TooLong (named.Mode file)) = (mode_file r ≡ Some file) × IsLongFile told contents file
 AnswersRequest r told contents (ModeAt line why) = IsBadMode told contents (mode_file r) line why
+AnswersRequest r told contents (ReadFault (named.Schedule file)) = schedule_file r ≡ Some file
+AnswersRequest r told contents (TooLong (named.Schedule file)) = (schedule_file r ≡ Some file) × IsLongFile told contents file
+AnswersRequest r told contents (ScheduleAt line why) = IsBadSchedule told contents (schedule_file r) line why
 AnswersRequest r told contents answer = AnswersFiles r told contents answer
 
 -- what is answered to a request, or where the words are none

@@ -8,7 +8,7 @@ use Rattle.cli_words.specs.declared.Cuts.{Cuts}
 use Rattle.szs_report.specs.declared.outcome.FileRef.TheVariants as reference
 use Rattle.szs_report.specs.declared.outcome.Outcome.{Outcome}
 use Rattle.szs_report.specs.declared.outcome.Outcome.TheVariants as ended
-use Rattle.request_answers.specs.Requested.{problem_name, mode_file, told_of, contents_of}
+use Rattle.request_answers.specs.Requested.{problem_name, mode_file, schedule_file, told_of, contents_of}
 use Rattle.request_answers.specs.Files.{OfFiles, Statements}
 
 -- File number k of the problem of this name was to be read next, and the count of faults of its name rose.
@@ -30,6 +30,12 @@ pub record IsModeFault (r : Request) (before now : List ℕ → ℕ) : Type 0 wh
   pub named : mode_file r ≡ Some file
   pub rose : Rose (before file) (now file)
 
+-- The schedule's file was to be read, and the count of faults of its name rose.
+pub record IsScheduleFault (r : Request) (before now : List ℕ → ℕ) : Type 0 where
+  pub file : List ℕ
+  pub named : schedule_file r ≡ Some file
+  pub rose : Rose (before file) (now file)
+
 -- The problem's files state a problem, the text that is checked was to be read next, and the count of faults of its name rose.
 pub record IsTextFault (r : Request) (told : Bool) (contents : List ℕ → Option (List ℕ)) (before now : List ℕ → ℕ) : Type 0 where
   pub names : List (List ℕ)
@@ -49,6 +55,7 @@ IsNoWriteFault outcome = Unit {0}
 abbrev pub HasCauseOf : Request → Bool → (List ℕ → Option (List ℕ)) → (List ℕ → ℕ) → (List ℕ → ℕ) → Outcome → Type 0
 HasCauseOf r told contents before now (ended.ReadFault (reference.Part k)) = IsFaultOf r told contents before now k
 HasCauseOf r told contents before now (ended.ReadFault reference.Mode) = IsModeFault r before now
+HasCauseOf r told contents before now (ended.ReadFault reference.Schedule) = IsScheduleFault r before now
 HasCauseOf r told contents before now (ended.ReadFault reference.Check) = IsTextFault r told contents before now
 HasCauseOf r told contents before now outcome = (file : List ℕ) → now file ≡ before file
 

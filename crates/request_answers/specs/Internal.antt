@@ -3,5 +3,6 @@ pub mod Unread
 pub mod RefusedFiles
 pub mod RefusedTexts
 pub mod RefusedModes
+pub mod RefusedSchedules
 pub mod ReadFaults
 pub mod Texts

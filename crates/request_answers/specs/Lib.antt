@@ -8,6 +8,11 @@ pub use Rattle.finite_models.specs.Symbols
 pub use Rattle.mode_file.specs.Given
 pub use Rattle.mode_file.specs.Grammar
 pub use Rattle.mode_file.specs.Refusals
+pub use Rattle.mode_schedule.specs.Ends
+pub use Rattle.mode_schedule.specs.Grammar as ScheduleGrammar
+pub use Rattle.mode_schedule.specs.Refusals as ScheduleRefusals
+pub use Rattle.mode_schedule.specs.Scheduled
+pub use Rattle.mode_schedule.specs.Turns
 pub use Rattle.outside.specs.Causes as OutsideCauses
 pub use Rattle.outside.specs.Limits
 pub use Rattle.outside.specs.Lines
@@ -36,6 +41,7 @@ pub mod Requested
 pub mod Names
 pub mod Files
 pub mod Modes
+pub mod Schedules
 pub mod Checked
 pub mod Compared
 pub mod Modelled

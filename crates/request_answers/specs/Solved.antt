@@ -1,5 +1,5 @@
 -- What the run over a problem is answered with.
-use Rattle.std.specs.Prelude.{◌≡◌, ℕ, List, filter, Option, Some, None}
+use Rattle.std.specs.Prelude.{◌≡◌, ◌+◌, ℕ, List, filter, slice_get, Option, Some, None}
 use Rattle.stt_core.specs.Lambda.{Lambda}
 use Rattle.stt_core.specs.Declarations.{scope_of}
 use Rattle.stt_core.specs.PlainProblem.{PlainProblem}
@@ -13,6 +13,10 @@ use Rattle.plain_tableau.specs.declared.stripped.Stripped.{Stripped}
 use Rattle.plain_tableau.specs.declared.stripped.Stripped.TheVariants as stripped
 use Rattle.prover_run.specs.Ended.{setting_for, IsRefuted, IsSpent}
 use Rattle.prover_run.specs.Tree.{IsTreeAsked}
+use Rattle.mode_schedule.specs.declared.Block.{Block}
+use Rattle.mode_schedule.specs.Turns.{closed, empty, limit, ScheduleEnds}
+use Rattle.mode_schedule.specs.Ends.{IsSpentIn}
+use Rattle.mode_schedule.specs.Scheduled.{slots_for}
 use Rattle.refute_print.specs.Text.{text_lines, as_bytes}
 use Rattle.refute_print.specs.Named.{named_refutation}
 use Rattle.refute_text.specs.Reading.{HasText}
@@ -65,14 +69,35 @@ claim_of p = claim_by p.conjecture
 -- How the run over the unfolded problem by the mode ends, where a tree of at most so many nodes may be asked for; memory may run out.
 abbrev pub IsSolved : Option ℕ → Mode → PlainProblem → Answer → Type 0
 IsSolved nodes m p Memory = Unit {0}
-IsSolved nodes m p (Proved claim n tree text) = (claim ≡ claim_of p) × IsProofOf nodes m p n tree text
+IsSolved nodes m p (Proved claim n told tree text) = (claim ≡ claim_of p) × (told ≡ None) × IsProofOf nodes m p n tree text
 IsSolved nodes m p (GaveUp n) = IsExhausted (setting_for p m) (start (unfolded_problem p)) n
 IsSolved nodes m p (CommandLimit n) = IsStopped (setting_for p m) (start (unfolded_problem p)) n
 IsSolved nodes m p (ConflictLimit c) = IsSpent (setting_for p m) (start (unfolded_problem p)) c
 IsSolved nodes m p answer = ⊥
 
+-- The schedule of the blocks over the unfolded problem is closed after so many commands of all runs, by the run of a block: the mode that is
+-- told is that of the block, counted from 1. This run is proved after a number of commands of its own, and the text is that of a refutation
+-- of it.
+pub record IsProofInTurns (blocks : List Block) (p : PlainProblem) (total : ℕ) (told : Option ℕ) (text : List ℕ) : Type 0 where
+  pub number : ℕ
+  pub is_told : told ≡ Some (number + 1)
+  pub closes : ScheduleEnds (slots_for p blocks) (start (unfolded_problem p)) (closed number total)
+  pub block : Block
+  pub its_block : slice_get blocks number ≡ Some block
+  pub commands : ℕ
+  pub proof : IsProofOf None block.mode p commands Unasked text
+
+-- How the schedule of the blocks over the unfolded problem ends; memory may run out.
+abbrev pub IsSolvedInTurns : List Block → PlainProblem → Answer → Type 0
+IsSolvedInTurns blocks p Memory = Unit {0}
+IsSolvedInTurns blocks p (Proved claim n told tree text) = (claim ≡ claim_of p) × (tree ≡ Unasked) × IsProofInTurns blocks p n told text
+IsSolvedInTurns blocks p (GaveUp n) = ScheduleEnds (slots_for p blocks) (start (unfolded_problem p)) (empty n)
+IsSolvedInTurns blocks p (CommandLimit n) = ScheduleEnds (slots_for p blocks) (start (unfolded_problem p)) (limit n)
+IsSolvedInTurns blocks p (ConflictLimit c) = IsSpentIn (slots_for p blocks) (start (unfolded_problem p)) c
+IsSolvedInTurns blocks p answer = ⊥
+
 -- what a generated problem is answered with: it is done where its run is answered with a proof
 abbrev pub IsDemoed : Mode → PlainProblem → Answer → Type 0
-IsDemoed m p (DemoDone claim n) = (tree : TreeReport) × (text : List ℕ) × IsSolved None m p (Proved claim n tree text)
-IsDemoed m p (Proved claim n tree text) = ⊥
+IsDemoed m p (DemoDone claim n) = (tree : TreeReport) × (text : List ℕ) × IsSolved None m p (Proved claim n None tree text)
+IsDemoed m p (Proved claim n told tree text) = ⊥
 IsDemoed m p answer = IsSolved None m p answer

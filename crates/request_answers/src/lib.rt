@@ -8,9 +8,11 @@ mod limits;
 mod mode;
 mod models;
 mod request;
+mod schedule;
 mod sides;
 mod solve;
 mod stated;
+mod turns;
 
 pub use law::one_check;
 pub use request::{answer, name_of};

@@ -1,15 +1,17 @@
 //! What each request is answered with.
 
-ghost use Rattle.std.specs.Prelude.{◌≡◌, ◌<◌, ◌≤◌, ℕ, List, option_map, string_bytes, IfOk};
+ghost use Rattle.std.specs.Prelude.{◌≡◌, ◌<◌, ◌≤◌, ℕ, List, length, option_map, string_bytes, IfOk};
+ghost use Rattle.std.specs.List.{All};
 ghost use Rattle.outside.specs.Causes.{Rose};
 ghost use Rattle.mode_file.specs.Given.{IsInRange};
-ghost use Rattle.cli_words.specs.Requests.{prove, refutation, models, sides};
+ghost use Rattle.mode_schedule.specs.Grammar.{most_blocks, greatest_slice};
+ghost use Rattle.cli_words.specs.Requests.{prove, by_schedule, refutation, models, sides};
 ghost use Rattle.cli_words.specs.View.{the_request};
 ghost use Rattle.request_answers.specs.Requested.{problem_name, IsRequestInRange};
 ghost use Rattle.request_answers.specs.Checked.{AnswersText};
 ghost use Rattle.request_answers.specs.Compared.{AnswersSides};
 ghost use Rattle.request_answers.specs.Modelled.{AnswersModels};
-ghost use Rattle.request_answers.specs.Solved.{IsSolved};
+ghost use Rattle.request_answers.specs.Solved.{IsSolved, IsSolvedInTurns};
 ghost use Rattle.request_answers.specs.Answers.{AnswersRequest};
 ghost use Rattle.request_answers.specs.Causes.{IsFaultIn, IsTextFault, HasCauseOf};
 ghost use Rattle.request_answers.specs.Internal.ReadFaults.{IsNoReadFault};
@@ -22,11 +24,14 @@ use crate::check::check_file;
 use crate::demo::{demo, demo_name};
 use crate::mode::mode_by;
 use crate::models::look;
+use crate::schedule::read_schedule_file;
 use crate::sides::compare;
 use crate::solve::solve;
 use crate::stated::read_problem;
+use crate::turns::solve_in_turns;
 use cli_words::{Asked, Cuts};
 use mode_file::Mode;
+use mode_schedule::Block;
 use outside::Files;
 use std::alloc::{AllocError, Global};
 use szs_report::Answer;
@@ -75,6 +80,49 @@ fn prove<F: Files>(
 {
     match mode_by(alloc, files, mode) {
         Ok(mode) => prove_by(alloc, files, problem, &mode, nodes),
+        Err(answer) => answer,
+    }
+}
+
+/// The answer where the problem of a name is to be proved by the blocks of a schedule.
+fn prove_in_turns<F: Files>(alloc: Global, files: &mut F, problem: &str, blocks: &[Block]) -> Answer
+    requires few { length blocks.now ≤ most_blocks }
+    requires slices { All (λ b. (0 < b.slice) × (b.slice ≤ greatest_slice)) blocks.now }
+    requires in_range { All (λ b. IsInRange b.mode) blocks.now }
+    ensures answers { IsFilesAnswer (IsSolvedInTurns blocks.now) problem.now (F.tells files.old) (F.contents files.old) result }
+    ensures fault { (k : ℕ) (names : List (List ℕ)) → result ≡ Answer.ReadFault (Part k names)
+        → IsFaultIn problem.now (F.tells files.old) (F.contents files.old) (F.faults files.old) (F.faults files.new) k }
+    ensures quiet { IsNoReadFault result → (other : List ℕ) → F.faults files.new other ≡ F.faults files.old other }
+
+    ensures later { (other : List ℕ) → F.faults files.old other ≤ F.faults files.new other }
+    ensures same { F.contents files.new ≡ F.contents files.old }
+    ensures telling { F.tells files.new ≡ F.tells files.old }
+{
+    match read_problem(alloc, files, problem) {
+        Ok(stated) => solve_in_turns(alloc, &stated, blocks),
+        Err(answer) => answer,
+    }
+}
+
+/// The answer where the problem of a name is to be proved by the schedule of a file.
+fn prove_by_schedule<F: Files>(
+    alloc: Global,
+    files: &mut F,
+    schedule: &str,
+    problem: &str,
+) -> Answer
+    ensures answers { AnswersRequest (by_schedule schedule.now problem.now) (F.tells files.old) (F.contents files.old) result }
+    ensures fault { (k : ℕ) (names : List (List ℕ)) → result ≡ Answer.ReadFault (Part k names)
+        → IsFaultIn problem.now (F.tells files.old) (F.contents files.old) (F.faults files.old) (F.faults files.new) k }
+    ensures schedule_fault { (own : List ℕ) → result ≡ Answer.ReadFault (named.Schedule own) → Rose (F.faults files.old own) (F.faults files.new own) }
+    ensures quiet { IsNoReadFault result → (other : List ℕ) → F.faults files.new other ≡ F.faults files.old other }
+
+    ensures later { (other : List ℕ) → F.faults files.old other ≤ F.faults files.new other }
+    ensures same { F.contents files.new ≡ F.contents files.old }
+    ensures telling { F.tells files.new ≡ F.tells files.old }
+{
+    match read_schedule_file(alloc, files, schedule) {
+        Ok(blocks) => prove_in_turns(alloc, files, problem, blocks.as_slice()),
         Err(answer) => answer,
     }
 }
@@ -139,9 +187,10 @@ pub fn name_of(alloc: Global, asked: &Asked) -> Result<String, AllocError>
     ensures { IfOk result (λ name. string_bytes name ≡ problem_name (the_request asked.now)) }
 {
     match asked {
-        Asked::Prove { problem, .. } | Asked::Check { problem, .. } => {
+        Asked::Prove { problem, .. } | Asked::BySchedule { problem, .. } => {
             String::from_str(alloc, problem)
         }
+        Asked::Check { problem, .. } => String::from_str(alloc, problem),
         Asked::Demo { n } => demo_name(alloc, *n),
         Asked::Models { problem, .. } | Asked::Same { problem } => {
             String::from_str(alloc, problem)
@@ -166,6 +215,9 @@ pub fn answer<F: Files>(alloc: Global, files: &mut F, asked: &Asked, name: &str)
             mode,
             nodes,
         } => prove(alloc, files, problem, *mode, *nodes),
+        Asked::BySchedule { schedule, problem } => {
+            prove_by_schedule(alloc, files, schedule, problem)
+        }
         Asked::Check {
             text,
             problem,

@@ -1,9 +1,13 @@
 //! From a problem to the answer.
 
 ghost use Rattle.std.specs.Prelude.{◌≡◌, IfOk};
-ghost use Rattle.delta_defs.specs.Unfolding.{unfolded_problem};
+ghost use Rattle.delta_defs.specs.Unfolding.{taken_names, unfolded_problem};
 ghost use Rattle.mode_file.specs.Given.{IsInRange};
 ghost use Rattle.prover_run.specs.Ended.{EndsAs};
+ghost use Rattle.refute_print.specs.Named.{named_refutation, IsNamed};
+ghost use Rattle.refute_print.specs.Text.{text_lines, as_bytes};
+ghost use Rattle.stt_core.specs.TypedProblem.{IsTyped};
+ghost use Rattle.request_answers.specs.Names.{names_in};
 ghost use Rattle.request_answers.specs.Internal.Texts.{HasTexts};
 ghost use Rattle.request_answers.specs.Solved.{claim_of, written_refutation, tree_told, IsSolved};
 
@@ -17,7 +21,7 @@ use szs_report::{Answer, Claim, ProofText, TreeReport};
 use tableau_calculus::Refutation;
 
 /// What a refutation of the problem's start shows.
-fn claim_of(problem: &Problem) -> Claim
+pub(crate) fn claim_of(problem: &Problem) -> Claim
     ensures { result ≡ claim_of problem.now }
 {
     match &problem.conjecture {
@@ -39,6 +43,20 @@ fn written(rebuilt: Refutation, tree: Option<Stripped>) -> (Refutation, TreeRepo
     }
 }
 
+/// The text of a refutation of the unfolded problem, with the names of the definitions that are taken.
+pub(crate) fn proof_text(
+    alloc: Global,
+    problem: &Problem,
+    refutation: Refutation,
+) -> Result<ProofText, AllocError>
+    requires typed { IsTyped problem.now }
+    requires named { IsNamed (names_in problem.now) refutation }
+    ensures { IfOk result (λ text. text ≡ as_bytes (text_lines (named_refutation (names_in problem.now) (taken_names problem.now) refutation))) }
+{
+    let names = taken(alloc, problem)?;
+    ProofText::new(alloc, &problem.signature, names.as_slice(), refutation)
+}
+
 /// The answer for a run over the unfolded problem that has ended.
 fn ended_answer(
     alloc: Global,
@@ -57,12 +75,12 @@ fn ended_answer(
             refutation,
             tree,
         } => {
-            let names = taken(alloc, problem)?;
             let (refutation, tree) = written(refutation, tree);
-            let text = ProofText::new(alloc, &problem.signature, names.as_slice(), refutation)?;
+            let text = proof_text(alloc, problem, refutation)?;
             Ok(Answer::Proved {
                 claim: claim_of(problem),
                 commands,
+                mode: None,
                 tree,
                 text,
             })

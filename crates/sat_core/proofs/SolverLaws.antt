@@ -13,11 +13,11 @@ use Rattle.sat_log.specs.Propagation.{IsNew, ReachesFalse}
 use Rattle.sat_log.proofs.Implied.{results_implied}
 use Rattle.sat_core.specs.declared.learner.Learner.{Learner}
 use Rattle.sat_core.specs.Solver.{SolverState, learned_from, learned, SolverGrows, IsSound}
-use Rattle.sat_core.specs.Internal.Learner.{IsLearner, GrewLearner, seen, shown}
+use Rattle.sat_core.specs.Internal.Learner.{IsLearner, GrewLearner, seen, state_with}
 use Rattle.sat_core.proofs.AnalysisSteps.{contains_at}
 use Rattle.sat_core.proofs.LearnerLaws.{learned_open, learned_at}
 
-pub sound_of : (values : List Bool) (s : Learner) → IsLearner s → IsSound (shown values s)
+pub sound_of : (values : List Bool) (s : Learner) → IsLearner s → IsSound (state_with values s)
 sound_of values s l = record {
   logged = l.logged;
   once = l.of_learned.once;
@@ -64,7 +64,7 @@ grows_same solver = record {
 }
 
 -- with other values, as many
-pub grows_shown : (before after : Learner) (values values_after : List Bool) → length values_after ≡ length values → SolverGrows (seen before) (seen after) → SolverGrows (shown values before) (shown values_after after)
+pub grows_shown : (before after : Learner) (values values_after : List Bool) → length values_after ≡ length values → SolverGrows (seen before) (seen after) → SolverGrows (state_with values before) (state_with values_after after)
 grows_shown before after values values_after made grew = record {
   clauses_same = grew.clauses_same;
   made_same = made;

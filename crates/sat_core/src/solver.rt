@@ -25,12 +25,12 @@ pub struct Solver {
 
 impl Model for Solver {
     ghost use Rattle.sat_core.specs.Solver.{SolverState};
-    ghost use Rattle.sat_core.specs.Internal.Learner.{shown};
+    ghost use Rattle.sat_core.specs.Internal.Learner.{state_with};
     ghost use Rattle.sat_core.specs.Internal.Keeper.{IsSolver};
 
     ghost Value = { SolverState };
 
-    ghost view = { λ solver. shown solver.keeper.values.items solver.learner };
+    ghost view = { λ solver. state_with solver.keeper.values.items solver.learner };
 
     ghost invariant = { λ solver. IsSolver solver.learner solver.keeper };
 }

@@ -1,5 +1,5 @@
 -- What a call answers and writes has the meaning that it claims.
-use Rattle.std.proofs.Common.{◌≡◌, ℕ, Bool, true, IsTrue, List, ◌++◌, Option, Some, None, Result, Ok, Err, refl, sym, ap, ap₂, subst, ◌∙◌}
+use Rattle.std.proofs.Common.{◌≡◌, ◌+◌, ℕ, zero, suc, Bool, true, IsTrue, List, [], ◌∷◌, ◌++◌, slice_get, Option, Some, None, Result, Ok, Err, refl, sym, ap, ap₂, subst, ◌∙◌}
 use Rattle.outside.specs.Causes.{Rose}
 use Rattle.stt_core.specs.PlainProblem.{PlainProblem}
 use Rattle.stt_core.specs.TypedProblem.{IsTyped}
@@ -13,7 +13,11 @@ use Rattle.thf_include.specs.Gathering.{Ending, done, stopped, Stop, wants, too_
 use Rattle.type_check.specs.Statements.{IllInFile, problem_of}
 use Rattle.type_check.proofs.TypedProblems.{problem_of-typed}
 use Rattle.mode_file.specs.declared.Mode.{Mode}
-use Rattle.cli_words.specs.Requests.{Request, prove, refutation, generated, models, sides, asked_by}
+use Rattle.mode_schedule.specs.declared.Block.{Block}
+use Rattle.mode_schedule.specs.Turns.{Slot}
+use Rattle.mode_schedule.specs.Ends.{IsSpentIn}
+use Rattle.mode_schedule.specs.Scheduled.{slots_for}
+use Rattle.cli_words.specs.Requests.{Request, prove, by_schedule, refutation, generated, models, sides, asked_by}
 use Rattle.cli_words.specs.declared.Cuts.{Cuts}
 use Rattle.cli_words.specs.declared.Cuts.TheVariants.{Allowed, Forbidden}
 use Rattle.plain_tableau.specs.declared.stripped.Stripped.{Stripped}
@@ -29,22 +33,24 @@ use Rattle.szs_report.specs.declared.answer.Answer.TheVariants.{Proved, DemoDone
 use Rattle.szs_report.specs.declared.answer.Claim.{Claim}
 use Rattle.szs_report.specs.declared.answer.Claim.TheVariants.{Theorem, Unsatisfiable}
 use Rattle.szs_report.specs.declared.answer.TreeReport.{TreeReport}
+use Rattle.szs_report.specs.declared.answer.TreeReport.TheVariants.{Unasked}
 use Rattle.szs_report.specs.declared.answer.NamedFile.{NamedFile}
 use Rattle.szs_report.specs.declared.answer.NamedFile.TheVariants.{Part, Check}
 use Rattle.szs_report.specs.declared.answer.NamedFile.TheVariants as named
 use Rattle.szs_report.specs.declared.outcome.Outcome.{Outcome}
 use Rattle.szs_report.specs.declared.outcome.Outcome.TheVariants as ended
-use Rattle.request_answers.specs.Requested.{asked_name, problem_name, told_of, contents_of, mode_file}
+use Rattle.request_answers.specs.Requested.{asked_name, problem_name, told_of, contents_of, mode_file, schedule_file}
 use Rattle.request_answers.specs.Files.{OfFiles, OfAsked, Statements}
 use Rattle.request_answers.specs.Modes.{IsModeBy}
+use Rattle.request_answers.specs.Schedules.{IsScheduleBy}
 use Rattle.request_answers.specs.Names.{names_in}
 use Rattle.request_answers.specs.Checked.{Accepts, IsAcceptedText, HoldsOnly}
 use Rattle.request_answers.specs.Solved.{written_refutation, IsProofOf, claim_of}
 use Rattle.request_answers.specs.Answers.{stop_answer, AnswersProblem, AnswersStated, AnswersEnding, AnswersFiles, AnswersAsked, IsAnswer, IsDefined}
 use Rattle.request_answers.specs.Causes.{HasCauseOf, HasCauseAsked, HasCause}
-use Rattle.prover_run.specs.Ended.{setting_for, IsRefuted}
+use Rattle.prover_run.specs.Ended.{setting_for, IsRefuted, IsSpent}
 use Rattle.prover_run.proofs.EnoughLaws.{never-ends}
-use Rattle.satallax_top.specs.Headline.{EnoughAsked, IsTreeMade, IsProvedOutcome, ShowsNoModel, IsWithoutModel, HasNoModel, IsOfSides, SaysOfSides, HasSidesSo, IsProofReport, Appends, IsWritten, IsOutcome}
+use Rattle.satallax_top.specs.Headline.{EnoughAsked, IsReportedSo, IsTreeMade, IsProvedOutcome, ShowsNoModel, IsWithoutModel, HasNoModel, IsOfSides, SaysOfSides, HasSidesSo, IsProofReport, Appends, IsWritten, IsOutcome}
 use Rattle.request_answers.proofs.OneLine.{name_one_line}
 use Rattle.request_answers.proofs.ReportHolds.{holds_report, accepted_report}
 use Rattle.request_answers.proofs.SolvedLaws.{Asked, proof_of_start, proof_accepted}
@@ -89,18 +95,22 @@ ending_answered Answers names a (done ss) other h = go (problem_of ss) refl h
 pub record FilesAnswered (r : Request) (told : Bool) (contents : List ℕ → Option (List ℕ)) (a : Answer) : Type 0 where
   pub mode : Mode
   pub is_mode : IsModeBy told contents (mode_file r) mode
+  pub blocks : List Block
+  pub are_blocks : IsScheduleBy told contents (schedule_file r) blocks
   pub names : List (List ℕ)
   pub problem : PlainProblem
   pub stated : OfFiles (problem_name r) (told_of told r) (contents_of contents r) names (Statements problem)
   pub typed : IsTyped problem
-  pub answered : AnswersProblem told contents r mode problem a
+  pub answered : AnswersProblem told contents r mode blocks problem a
 
 pub files_answered : (r : Request) (told : Bool) (contents : List ℕ → Option (List ℕ)) (a : Answer) → (IsRefusal a → ⊥) → AnswersFiles r told contents a → FilesAnswered r told contents a
 files_answered r told contents a other h =
-    let e = ending_answered (AnswersProblem told contents r h.mode) h.names a h.files.ending other h.files.holds in
+    let e = ending_answered (AnswersProblem told contents r h.mode h.blocks) h.names a h.files.ending other h.files.holds in
     record {
       mode = h.mode;
       is_mode = h.is_mode;
+      blocks = h.blocks;
+      are_blocks = h.are_blocks;
       names = h.names;
       problem = e.problem;
       stated = record { texts = h.files.texts; told_texts = h.files.told_texts; ending = h.files.ending; gathers = h.files.gathers; holds = e.stated };
@@ -112,75 +122,105 @@ files_answered r told contents a other h =
 record IsProofAnswer (a : Answer) : Type 0 where
   pub claim : Claim
   pub commands : ℕ
+  pub mode : Option ℕ
   pub tree : TreeReport
   pub text : List ℕ
-  pub is : a ≡ Proved claim commands tree text
+  pub is : a ≡ Proved claim commands mode tree text
 
 proved_form : (a : Answer) → IsProvedOutcome (outcome_of a) → IsProofAnswer a
-proved_form (Proved claim n tree text) h = record { claim = claim; commands = n; tree = tree; text = text; is = refl }
+proved_form (Proved claim n i tree text) h = record { claim = claim; commands = n; mode = i; tree = tree; text = text; is = refl }
 proved_form a h = absurd h
 
 -- what such an answer shows
-pub record ProvedAnswer (o : Option Request) (told : Bool) (contents : List ℕ → Option (List ℕ)) (a : Answer) : Type 0 where
-  pub name : List ℕ
-  pub file : Option (List ℕ)
-  pub nodes : Option ℕ
-  pub asked : o ≡ Some (prove name file nodes)
-  pub mode : Mode
-  pub is_mode : IsModeBy told contents file mode
+pub record ProvedAnswer (words : List (List ℕ)) (told : Bool) (contents : List ℕ → Option (List ℕ)) (a : Answer) : Type 0 where
+  pub request : Request
+  pub requested : asked_by words ≡ Some request
   pub names : List (List ℕ)
   pub problem : PlainProblem
-  pub stated : OfAsked o told contents names (Statements problem)
+  pub stated : OfAsked (asked_by words) told contents names (Statements problem)
   pub typed : IsTyped problem
+  pub mode : Mode
+  pub nodes : Option ℕ
   pub commands : ℕ
+  pub reported : ℕ
+  pub number : Option ℕ
+  pub asked : IsReportedSo words told contents problem mode nodes commands reported number
   pub tree : TreeReport
   pub text : List ℕ
   pub proof : IsProofOf nodes mode problem commands tree text
-  pub is : a ≡ Proved (claim_of problem) commands tree text
+  pub is : a ≡ Proved (claim_of problem) reported number tree text
 
 -- files that are answered with a proof show it
-proved_files : (p : List ℕ) (file : Option (List ℕ)) (nodes : Option ℕ) (told : Bool) (contents : List ℕ → Option (List ℕ)) (claim : Claim) (n : ℕ) (tree : TreeReport) (text : List ℕ) → FilesAnswered (prove p file nodes) told contents (Proved claim n tree text) → ProvedAnswer (Some (prove p file nodes)) told contents (Proved claim n tree text)
-proved_files p file nodes told contents claim n tree text f = record {
-  name = p;
-  file = file;
-  nodes = nodes;
-  asked = refl;
-  mode = f.mode;
-  is_mode = f.is_mode;
-  names = f.names;
-  problem = f.problem;
-  stated = f.stated;
-  typed = f.typed;
-  commands = n;
-  tree = tree;
-  text = text;
-  proof = f.answered.1;
-  is = ap (λ c. Proved c n tree text) f.answered.0;
-}
+module _ (words : List (List ℕ)) (told : Bool) (contents : List ℕ → Option (List ℕ)) (claim : Claim) (n : ℕ) (i : Option ℕ) (tree : TreeReport) (text : List ℕ) where
+  proved_files : (p : List ℕ) (file : Option (List ℕ)) (nodes : Option ℕ) → asked_by words ≡ Some (prove p file nodes) → FilesAnswered (prove p file nodes) told contents (Proved claim n i tree text) → ProvedAnswer words told contents (Proved claim n i tree text)
+  proved_files p file nodes asked f = record {
+    request = prove p file nodes;
+    requested = asked;
+    names = f.names;
+    problem = f.problem;
+    stated = subst (λ x. OfAsked x told contents f.names (Statements f.problem)) (sym asked) f.stated;
+    typed = f.typed;
+    mode = f.mode;
+    nodes = nodes;
+    commands = n;
+    reported = n;
+    number = None;
+    asked = (record { problem = p; file = file; asked = asked; is_mode = f.is_mode }, refl);
+    tree = tree;
+    text = text;
+    proof = f.answered.2;
+    is = ap₂ (λ c j. Proved c n j tree text) f.answered.0 f.answered.1;
+  }
+
+  -- so do those of a schedule
+  proved_in_turns : (file p : List ℕ) → asked_by words ≡ Some (by_schedule file p) → FilesAnswered (by_schedule file p) told contents (Proved claim n i tree text) → ProvedAnswer words told contents (Proved claim n i tree text)
+  proved_in_turns file p asked f =
+      let q = f.answered.2 in
+      record {
+        request = by_schedule file p;
+        requested = asked;
+        names = f.names;
+        problem = f.problem;
+        stated = subst (λ x. OfAsked x told contents f.names (Statements f.problem)) (sym asked) f.stated;
+        typed = f.typed;
+        mode = q.block.mode;
+        nodes = None;
+        commands = q.commands;
+        reported = n;
+        number = Some (q.number + 1);
+        asked = (refl, (q.number, refl, record { problem = p; file = file; asked = asked; blocks = f.blocks; are_blocks = f.are_blocks; block = q.block; its_block = q.its_block; its_mode = refl; closes = q.closes }));
+        tree = Unasked;
+        text = text;
+        proof = q.proof;
+        is = ap₂ (λ c j. Proved c n j tree text) f.answered.0 q.is_told ∙ ap (λ t. Proved (claim_of f.problem) n (Some (q.number + 1)) t text) f.answered.1;
+      }
 
 -- Where a proof is answered, a problem is to be proved, and files are answered so. The conclusion is a variable, so that no record is compared
 -- field by field.
-proved_asked : (R : Type 0) (o : Option Request) (told : Bool) (contents : List ℕ → Option (List ℕ)) (claim : Claim) (n : ℕ) (tree : TreeReport) (text : List ℕ) → AnswersAsked o told contents (Proved claim n tree text) → ((p : List ℕ) (file : Option (List ℕ)) (nodes : Option ℕ) → o ≡ Some (prove p file nodes) → AnswersFiles (prove p file nodes) told contents (Proved claim n tree text) → R) → R
-proved_asked R None told contents claim n tree text h k = cc
-proved_asked R (Some (refutation cuts file p)) told contents claim n tree text h k =
-    let f = files_answered (refutation cuts file p) told contents (Proved claim n tree text) (λ x. x) h in absurd f.answered.holds
-proved_asked R (Some (generated i)) told contents claim n tree text h k =
-    let f = files_answered (generated i) told contents (Proved claim n tree text) (λ x. x) h in absurd f.answered
-proved_asked R (Some (models i p)) told contents claim n tree text h k =
-    let f = files_answered (models i p) told contents (Proved claim n tree text) (λ x. x) h in absurd f.answered
-proved_asked R (Some (sides p)) told contents claim n tree text h k =
-    let f = files_answered (sides p) told contents (Proved claim n tree text) (λ x. x) h in absurd f.answered
-proved_asked R (Some (prove p file nodes)) told contents claim n tree text h k = k p file nodes refl h
+module _ (R : Type 0) (told : Bool) (contents : List ℕ → Option (List ℕ)) (claim : Claim) (n : ℕ) (i : Option ℕ) (tree : TreeReport) (text : List ℕ) where
+  abbrev proof_told : Answer
+  proof_told = Proved claim n i tree text
 
-proved_answer : (o : Option Request) (told : Bool) (contents : List ℕ → Option (List ℕ)) (a : Answer) → AnswersAsked o told contents a → IsProvedOutcome (outcome_of a) → ProvedAnswer o told contents a
-proved_answer o told contents a answer h =
+  proved_asked : (o : Option Request) → AnswersAsked o told contents proof_told → ((p : List ℕ) (file : Option (List ℕ)) (nodes : Option ℕ) → o ≡ Some (prove p file nodes) → AnswersFiles (prove p file nodes) told contents proof_told → R)
+      → ((file p : List ℕ) → o ≡ Some (by_schedule file p) → AnswersFiles (by_schedule file p) told contents proof_told → R) → R
+  proved_asked None h k l = cc
+  proved_asked (Some (refutation cuts file p)) h k l = let f = files_answered (refutation cuts file p) told contents proof_told (λ x. x) h in absurd f.answered.holds
+  proved_asked (Some (generated j)) h k l = let f = files_answered (generated j) told contents proof_told (λ x. x) h in absurd f.answered
+  proved_asked (Some (models j p)) h k l = let f = files_answered (models j p) told contents proof_told (λ x. x) h in absurd f.answered
+  proved_asked (Some (sides p)) h k l = let f = files_answered (sides p) told contents proof_told (λ x. x) h in absurd f.answered
+  proved_asked (Some (prove p file nodes)) h k l = k p file nodes refl h
+  proved_asked (Some (by_schedule file p)) h k l = l file p refl h
+
+proved_answer : (words : List (List ℕ)) (told : Bool) (contents : List ℕ → Option (List ℕ)) (a : Answer) → IsAnswer words told contents a → IsProvedOutcome (outcome_of a) → ProvedAnswer words told contents a
+proved_answer words told contents a answer h =
     let q = proved_form a h in
-    let proof : Answer = Proved q.claim q.commands q.tree q.text in
-    subst (ProvedAnswer o told contents) (sym q.is)
-    (proved_asked (ProvedAnswer o told contents proof) o told contents q.claim q.commands q.tree q.text (subst (AnswersAsked o told contents) q.is answer)
-    (λ (p : List ℕ) (file : Option (List ℕ)) (nodes : Option ℕ) (is : o ≡ Some (prove p file nodes)) (k : AnswersFiles (prove p file nodes) told contents (Proved q.claim q.commands q.tree q.text)).
-    subst (λ (x : Option Request). ProvedAnswer x told contents proof) (sym is)
-    (proved_files p file nodes told contents q.claim q.commands q.tree q.text (files_answered (prove p file nodes) told contents (Proved q.claim q.commands q.tree q.text) (λ x. x) k))))
+    let proof : Answer = Proved q.claim q.commands q.mode q.tree q.text in
+    subst (ProvedAnswer words told contents) (sym q.is)
+    (proved_asked (ProvedAnswer words told contents proof) told contents q.claim q.commands q.mode q.tree q.text (asked_by words) (subst (IsAnswer words told contents) q.is answer)
+    (λ (p : List ℕ) (file : Option (List ℕ)) (nodes : Option ℕ) (asked : asked_by words ≡ Some (prove p file nodes)) (k : AnswersFiles (prove p file nodes) told contents proof).
+    proved_files words told contents q.claim q.commands q.mode q.tree q.text p file nodes asked (files_answered (prove p file nodes) told contents proof (λ x. x) k))
+    (λ (file p : List ℕ) (asked : asked_by words ≡ Some (by_schedule file p)) (k : AnswersFiles (by_schedule file p) told contents proof).
+    proved_in_turns words told contents q.claim q.commands q.mode q.tree q.text file p asked (files_answered (by_schedule file p) told contents proof (λ x. x) k)))
 
 -- what a check accepts that forbids cuts, one accepts that allows them
 accepts_any : (cuts : Cuts) (p : PlainProblem) (t : RefutationTree) → Accepts cuts p t → IsAcceptedFor p t
@@ -195,39 +235,47 @@ pub record Unmodelled (o : Option Request) (told : Bool) (contents : List ℕ �
   pub no_model : IsWithoutModel problem
 
 no_model_asked : (o : Option Request) (told : Bool) (contents : List ℕ → Option (List ℕ)) (a : Answer) → AnswersAsked o told contents a → ShowsNoModel (outcome_of a) → Unmodelled o told contents
-no_model_asked None told contents (Proved claim n tree text) h s = cc
+no_model_asked None told contents (Proved claim n i tree text) h s = cc
 no_model_asked None told contents (DemoDone claim n) h s = cc
 no_model_asked None told contents Accepted h s = cc
-no_model_asked (Some (prove p file nodes)) told contents (Proved claim n tree text) h s =
-    let f = files_answered (prove p file nodes) told contents (Proved claim n tree text) (λ x. x) h in
-    record { names = f.names; problem = f.problem; stated = f.stated; no_model = no_model_of f.problem (named_refutation (names_in f.problem) (taken_names f.problem) f.answered.1.refutation) f.typed (proof_accepted nodes f.mode f.problem n tree text f.answered.1) }
+no_model_asked (Some (prove p file nodes)) told contents (Proved claim n i tree text) h s =
+    let f = files_answered (prove p file nodes) told contents (Proved claim n i tree text) (λ x. x) h in
+    record { names = f.names; problem = f.problem; stated = f.stated; no_model = no_model_of f.problem (named_refutation (names_in f.problem) (taken_names f.problem) f.answered.2.refutation) f.typed (proof_accepted nodes f.mode f.problem n tree text f.answered.2) }
 no_model_asked (Some (prove p file nodes)) told contents (DemoDone claim n) h s =
     let f = files_answered (prove p file nodes) told contents (DemoDone claim n) (λ x. x) h in absurd f.answered
 no_model_asked (Some (prove p file nodes)) told contents Accepted h s =
     let f = files_answered (prove p file nodes) told contents Accepted (λ x. x) h in absurd f.answered
-no_model_asked (Some (refutation cuts file p)) told contents (Proved claim n tree text) h s =
-    let f = files_answered (refutation cuts file p) told contents (Proved claim n tree text) (λ x. x) h in absurd f.answered.holds
+no_model_asked (Some (by_schedule file p)) told contents (Proved claim n i tree text) h s =
+    let f = files_answered (by_schedule file p) told contents (Proved claim n i tree text) (λ x. x) h in
+    let q = f.answered.2 in
+    record { names = f.names; problem = f.problem; stated = f.stated; no_model = no_model_of f.problem (named_refutation (names_in f.problem) (taken_names f.problem) q.proof.refutation) f.typed (proof_accepted None q.block.mode f.problem q.commands Unasked text q.proof) }
+no_model_asked (Some (by_schedule file p)) told contents (DemoDone claim n) h s =
+    let f = files_answered (by_schedule file p) told contents (DemoDone claim n) (λ x. x) h in absurd f.answered
+no_model_asked (Some (by_schedule file p)) told contents Accepted h s =
+    let f = files_answered (by_schedule file p) told contents Accepted (λ x. x) h in absurd f.answered
+no_model_asked (Some (refutation cuts file p)) told contents (Proved claim n i tree text) h s =
+    let f = files_answered (refutation cuts file p) told contents (Proved claim n i tree text) (λ x. x) h in absurd f.answered.holds
 no_model_asked (Some (refutation cuts file p)) told contents (DemoDone claim n) h s =
     let f = files_answered (refutation cuts file p) told contents (DemoDone claim n) (λ x. x) h in absurd f.answered.holds
 no_model_asked (Some (refutation cuts file p)) told contents Accepted h s =
     let f = files_answered (refutation cuts file p) told contents Accepted (λ x. x) h in
     record { names = f.names; problem = f.problem; stated = f.stated; no_model = no_model_of f.problem f.answered.holds.refutation f.typed (accepts_any cuts f.problem f.answered.holds.refutation f.answered.holds.accepted) }
-no_model_asked (Some (generated k)) told contents (Proved claim n tree text) h s =
-    let f = files_answered (generated k) told contents (Proved claim n tree text) (λ x. x) h in absurd f.answered
+no_model_asked (Some (generated k)) told contents (Proved claim n i tree text) h s =
+    let f = files_answered (generated k) told contents (Proved claim n i tree text) (λ x. x) h in absurd f.answered
 no_model_asked (Some (generated k)) told contents (DemoDone claim n) h s =
     let f = files_answered (generated k) told contents (DemoDone claim n) (λ x. x) h in
-    let proof = f.answered.2.1 in
+    let proof = f.answered.2.2 in
     record { names = f.names; problem = f.problem; stated = f.stated; no_model = no_model_of f.problem (named_refutation (names_in f.problem) (taken_names f.problem) proof.refutation) f.typed (proof_accepted None f.mode f.problem n f.answered.0 f.answered.1 proof) }
 no_model_asked (Some (generated k)) told contents Accepted h s =
     let f = files_answered (generated k) told contents Accepted (λ x. x) h in absurd f.answered
-no_model_asked (Some (models k p)) told contents (Proved claim n tree text) h s =
-    let f = files_answered (models k p) told contents (Proved claim n tree text) (λ x. x) h in absurd f.answered
+no_model_asked (Some (models k p)) told contents (Proved claim n i tree text) h s =
+    let f = files_answered (models k p) told contents (Proved claim n i tree text) (λ x. x) h in absurd f.answered
 no_model_asked (Some (models k p)) told contents (DemoDone claim n) h s =
     let f = files_answered (models k p) told contents (DemoDone claim n) (λ x. x) h in absurd f.answered
 no_model_asked (Some (models k p)) told contents Accepted h s =
     let f = files_answered (models k p) told contents Accepted (λ x. x) h in absurd f.answered
-no_model_asked (Some (sides p)) told contents (Proved claim n tree text) h s =
-    let f = files_answered (sides p) told contents (Proved claim n tree text) (λ x. x) h in absurd f.answered
+no_model_asked (Some (sides p)) told contents (Proved claim n i tree text) h s =
+    let f = files_answered (sides p) told contents (Proved claim n i tree text) (λ x. x) h in absurd f.answered
 no_model_asked (Some (sides p)) told contents (DemoDone claim n) h s =
     let f = files_answered (sides p) told contents (DemoDone claim n) (λ x. x) h in absurd f.answered
 no_model_asked (Some (sides p)) told contents Accepted h s =
@@ -240,25 +288,28 @@ no_model_answer words told contents o a answer is h =
     record { names = q.names; problem = q.problem; stated = q.stated; no_model = q.no_model }
 
 -- a problem that is answered with what its conjecture's sides are was to be answered so
-said_of_sides : (told : Bool) (contents : List ℕ → Option (List ℕ)) (r : Request) (m : Mode) (p : PlainProblem) (a : Answer) → IsOfSides (outcome_of a) → AnswersProblem told contents r m p a → SaysOfSides (outcome_of a) p
-said_of_sides told contents (prove q file nodes) m p Same s h = absurd h
-said_of_sides told contents (prove q file nodes) m p Different s h = absurd h
-said_of_sides told contents (prove q file nodes) m p NoEquation s h = absurd h
-said_of_sides told contents (refutation cuts file q) m p Same s h = absurd h.holds
-said_of_sides told contents (refutation cuts file q) m p Different s h = absurd h.holds
-said_of_sides told contents (refutation cuts file q) m p NoEquation s h = absurd h.holds
-said_of_sides told contents (generated n) m p Same s h = absurd h
-said_of_sides told contents (generated n) m p Different s h = absurd h
-said_of_sides told contents (generated n) m p NoEquation s h = absurd h
-said_of_sides told contents (models k q) m p Same s h = absurd h
-said_of_sides told contents (models k q) m p Different s h = absurd h
-said_of_sides told contents (models k q) m p NoEquation s h = absurd h
-said_of_sides told contents (sides q) m p Same s h = h
-said_of_sides told contents (sides q) m p Different s h = h
-said_of_sides told contents (sides q) m p NoEquation s h = h
-said_of_sides told contents r m p (Proved Theorem n tree text) s h = absurd s
-said_of_sides told contents r m p (Proved Unsatisfiable n tree text) s h = absurd s
-said_of_sides told contents r m p a s h = absurd s
+said_of_sides : (told : Bool) (contents : List ℕ → Option (List ℕ)) (r : Request) (m : Mode) (bs : List Block) (p : PlainProblem) (a : Answer) → IsOfSides (outcome_of a) → AnswersProblem told contents r m bs p a → SaysOfSides (outcome_of a) p
+said_of_sides told contents (prove q file nodes) m bs p Same s h = absurd h
+said_of_sides told contents (prove q file nodes) m bs p Different s h = absurd h
+said_of_sides told contents (prove q file nodes) m bs p NoEquation s h = absurd h
+said_of_sides told contents (by_schedule file q) m bs p Same s h = absurd h
+said_of_sides told contents (by_schedule file q) m bs p Different s h = absurd h
+said_of_sides told contents (by_schedule file q) m bs p NoEquation s h = absurd h
+said_of_sides told contents (refutation cuts file q) m bs p Same s h = absurd h.holds
+said_of_sides told contents (refutation cuts file q) m bs p Different s h = absurd h.holds
+said_of_sides told contents (refutation cuts file q) m bs p NoEquation s h = absurd h.holds
+said_of_sides told contents (generated n) m bs p Same s h = absurd h
+said_of_sides told contents (generated n) m bs p Different s h = absurd h
+said_of_sides told contents (generated n) m bs p NoEquation s h = absurd h
+said_of_sides told contents (models k q) m bs p Same s h = absurd h
+said_of_sides told contents (models k q) m bs p Different s h = absurd h
+said_of_sides told contents (models k q) m bs p NoEquation s h = absurd h
+said_of_sides told contents (sides q) m bs p Same s h = h
+said_of_sides told contents (sides q) m bs p Different s h = h
+said_of_sides told contents (sides q) m bs p NoEquation s h = h
+said_of_sides told contents r m bs p (Proved Theorem n i tree text) s h = absurd s
+said_of_sides told contents r m bs p (Proved Unsatisfiable n i tree text) s h = absurd s
+said_of_sides told contents r m bs p a s h = absurd s
 
 of_sides-no_refusal : (a : Answer) → IsOfSides (outcome_of a) → IsRefusal a → ⊥
 of_sides-no_refusal (ReadFault file) s x = s
@@ -276,8 +327,8 @@ of_sides_asked R None told contents NoEquation s h k = cc
 of_sides_asked R (Some r) told contents Same s h k = k r refl h
 of_sides_asked R (Some r) told contents Different s h k = k r refl h
 of_sides_asked R (Some r) told contents NoEquation s h k = k r refl h
-of_sides_asked R o told contents (Proved Theorem n tree text) s h k = absurd s
-of_sides_asked R o told contents (Proved Unsatisfiable n tree text) s h k = absurd s
+of_sides_asked R o told contents (Proved Theorem n i tree text) s h k = absurd s
+of_sides_asked R o told contents (Proved Unsatisfiable n i tree text) s h k = absurd s
 of_sides_asked R o told contents a s h k = absurd s
 
 files_sides : (words : List (List ℕ)) (told : Bool) (contents : List ℕ → Option (List ℕ)) (a : Answer) (r : Request) → asked_by words ≡ Some r → IsOfSides (outcome_of a) → FilesAnswered r told contents a → HasSidesSo words told contents (outcome_of a)
@@ -285,7 +336,7 @@ files_sides words told contents a r asked s f = record {
   names = f.names;
   problem = f.problem;
   stated = subst (λ x. OfAsked x told contents f.names (Statements f.problem)) (sym asked) f.stated;
-  says = said_of_sides told contents r f.mode f.problem a s f.answered;
+  says = said_of_sides told contents r f.mode f.blocks f.problem a s f.answered;
 }
 
 pub sides_answer : (words : List (List ℕ)) (told : Bool) (contents : List ℕ → Option (List ℕ)) (o : Outcome) (a : Answer) → IsAnswer words told contents a → o ≡ outcome_of a → IsOfSides o → HasSidesSo words told contents o
@@ -318,19 +369,21 @@ strict_report nodes m p n tree text bytes proof h made =
 -- the report of an answer that is a proof
 proof_reported : (words : List (List ℕ)) (told : Bool) (contents : List ℕ → Option (List ℕ)) (o : Outcome) (a : Answer) (written : List ℕ) → IsAnswer words told contents a → o ≡ outcome_of a → IsProvedOutcome o → written ≡ report_of (asked_name words) a → IsProofReport words told contents o written
 proof_reported words told contents o a written answer is h w =
-    let q = proved_answer (asked_by words) told contents a answer (subst IsProvedOutcome is h) in
+    let q = proved_answer words told contents a answer (subst IsProvedOutcome is h) in
     let p = q.problem in
-    let reported : written ≡ report_of (asked_name words) (Proved (claim_of p) q.commands q.tree q.text) = w ∙ ap (report_of (asked_name words)) q.is in
-    let holds = subst (λ x. HoldsOnly p x q.proof.refutation) (sym reported) (holds_report (claim_of p) (asked_name words) q.nodes q.mode p q.commands q.tree q.text q.proof (name_one_line words (prove q.name q.file q.nodes) q.asked)) in
+    let reported : written ≡ report_of (asked_name words) (Proved (claim_of p) q.reported q.number q.tree q.text) = w ∙ ap (report_of (asked_name words)) q.is in
+    let holds = subst (λ x. HoldsOnly p x q.proof.refutation) (sym reported) (holds_report (claim_of p) (asked_name words) q.reported q.number q.nodes q.mode p q.commands q.tree q.text q.proof (name_one_line words q.request q.requested)) in
     record {
       mode = q.mode;
       nodes = q.nodes;
-      asked = record { problem = q.name; file = q.file; asked = q.asked; is_mode = q.is_mode };
       names = q.names;
       problem = p;
       stated = q.stated;
       is_outcome = is ∙ ap outcome_of q.is;
       commands = q.commands;
+      reported = q.reported;
+      number = q.number;
+      asked = q.asked;
       rebuilt = q.proof.rebuilt;
       refuted = q.proof.refuted;
       stripped = q.proof.stripped;
@@ -339,7 +392,7 @@ proof_reported words told contents o a written answer is h w =
       is_written = q.proof.is_written;
       is_report =
           reported
-          ∙ ap₂ (λ x t. report_of (asked_name words) (Proved (claim_of p) q.commands x t)) q.proof.is_told q.proof.is_text;
+          ∙ ap₂ (λ x t. report_of (asked_name words) (Proved (claim_of p) q.reported q.number x t)) q.proof.is_told q.proof.is_text;
       holds = holds;
       accepted_text = accepted_report q.nodes q.mode p q.commands q.tree q.text written q.proof holds;
       strict_text = strict_report q.nodes q.mode p q.commands q.tree q.text written q.proof holds;
@@ -354,8 +407,8 @@ proof_appended words told contents o a old new answer is w h =
 
 -- no answer's outcome is that a write failed
 pub no_write_fault : (a : Answer) → outcome_of a ≡ ended.WriteFault → ⊥
-no_write_fault (Proved Theorem n tree text) e = cc
-no_write_fault (Proved Unsatisfiable n tree text) e = cc
+no_write_fault (Proved Theorem n i tree text) e = cc
+no_write_fault (Proved Unsatisfiable n i tree text) e = cc
 no_write_fault a e = cc
 
 -- what is written for an answer
@@ -367,13 +420,14 @@ written_whole words told contents before now o a old new answer is w =
 -- an answer whose outcome is that the words ask for nothing
 words_form : (a : Answer) → outcome_of a ≡ ended.Words → a ≡ Words
 words_form Words e = refl
-words_form (Proved Theorem n tree text) e = cc
-words_form (Proved Unsatisfiable n tree text) e = cc
+words_form (Proved Theorem n i tree text) e = cc
+words_form (Proved Unsatisfiable n i tree text) e = cc
 words_form a e = cc
 
 words_asked : (o : Option Request) (told : Bool) (contents : List ℕ → Option (List ℕ)) → AnswersAsked o told contents Words → o ≡ None
 words_asked None told contents h = refl
 words_asked (Some (prove p file nodes)) told contents h = let f = files_answered (prove p file nodes) told contents Words (λ x. x) h in absurd f.answered
+words_asked (Some (by_schedule file p)) told contents h = let f = files_answered (by_schedule file p) told contents Words (λ x. x) h in absurd f.answered
 words_asked (Some (refutation cuts file p)) told contents h = let f = files_answered (refutation cuts file p) told contents Words (λ x. x) h in absurd f.answered.holds
 words_asked (Some (generated n)) told contents h = let f = files_answered (generated n) told contents Words (λ x. x) h in absurd f.answered
 words_asked (Some (models k p)) told contents h = let f = files_answered (models k p) told contents Words (λ x. x) h in absurd f.answered
@@ -382,12 +436,30 @@ words_asked (Some (sides p)) told contents h = let f = files_answered (sides p) 
 pub words_answer : (words : List (List ℕ)) (told : Bool) (contents : List ℕ → Option (List ℕ)) (o : Outcome) (a : Answer) → IsAnswer words told contents a → o ≡ outcome_of a → o ≡ ended.Words → asked_by words ≡ None
 words_answer words told contents o a answer is e = words_asked (asked_by words) told contents (subst (IsAnswer words told contents) (words_form a (sym is ∙ e)) answer)
 
+-- the mode of a slot is that of its block
+record ModeOfSlot (p : PlainProblem) (blocks : List Block) (k : ℕ) (slot : Slot) : Type 0 where
+  block : Block
+  its_block : slice_get blocks k ≡ Some block
+  its_setting : slot.setting ≡ setting_for p block.mode
+
+mode-of-slot : (p : PlainProblem) (blocks : List Block) (k : ℕ) (slot : Slot) → slice_get (slots_for p blocks) k ≡ Some slot → ModeOfSlot p blocks k slot
+mode-of-slot p [] k slot e = absurd (cc)
+mode-of-slot p (b ∷ bs) zero slot e = record { block = b; its_block = refl; its_setting = cc }
+mode-of-slot p (b ∷ bs) (suc k) slot e = let later = mode-of-slot p bs k slot e in record { block = later.block; its_block = later.its_block; its_setting = later.its_setting }
+
 -- conflicts that are enough aren't answered to be spent
 pub never_spent : (o : Option Request) (told : Bool) (contents : List ℕ → Option (List ℕ)) (conflicts : ℕ) → EnoughAsked o told contents → AnswersAsked o told contents (ConflictLimit conflicts) → ⊥
 never_spent None told contents conflicts enough h = cc
 never_spent (Some (prove p file nodes)) told contents conflicts enough h =
     let f = files_answered (prove p file nodes) told contents (ConflictLimit conflicts) (λ x. x) h in
     never-ends (setting_for f.problem f.mode) (start (unfolded_problem f.problem)) conflicts (enough f.mode f.names f.problem f.is_mode f.stated) f.answered
+never_spent (Some (by_schedule file p)) told contents conflicts enough h =
+    let f = files_answered (by_schedule file p) told contents (ConflictLimit conflicts) (λ x. x) h in
+    let q = f.answered in
+    let b = mode-of-slot f.problem f.blocks q.number q.slot q.its_slot in
+    never-ends (setting_for f.problem b.block.mode) (start (unfolded_problem f.problem)) conflicts
+    (enough b.block.mode f.names f.problem (f.blocks, f.are_blocks, (q.number, b.block, b.its_block, refl)) f.stated)
+    (subst (λ x. IsSpent x (start (unfolded_problem f.problem)) conflicts) b.its_setting q.spent)
 never_spent (Some (refutation cuts file p)) told contents conflicts enough h =
     let f = files_answered (refutation cuts file p) told contents (ConflictLimit conflicts) (λ x. x) h in f.answered.holds
 never_spent (Some (generated n)) told contents conflicts enough h =
@@ -406,11 +478,13 @@ outcome_whole words told contents o a answer is = (a, answer, is)
 -- a fault has its count
 rose_of : (r : Request) (told : Bool) (contents : List ℕ → Option (List ℕ)) (before now : List ℕ → ℕ) (f : NamedFile) → HasCauseOf r told contents before now (outcome_of (ReadFault f)) → (file : List ℕ) × Rose (before file) (now file)
 rose_of (prove p m nodes) told contents before now (Part k names) h = (h.file, h.rose)
+rose_of (by_schedule t p) told contents before now (Part k names) h = (h.file, h.rose)
 rose_of (refutation cuts t p) told contents before now (Part k names) h = (h.file, h.rose)
 rose_of (generated n) told contents before now (Part k names) h = absurd h
 rose_of (models k p) told contents before now (Part i names) h = (h.file, h.rose)
 rose_of (sides p) told contents before now (Part k names) h = (h.file, h.rose)
 rose_of r told contents before now (named.Mode name) h = (h.file, h.rose)
+rose_of r told contents before now (named.Schedule name) h = (h.file, h.rose)
 rose_of r told contents before now (Check name) h = (h.file, h.rose)
 
 rose_asked : (o : Option Request) (told : Bool) (contents : List ℕ → Option (List ℕ)) (before now : List ℕ → ℕ) (f : NamedFile) → AnswersAsked o told contents (ReadFault f) → HasCauseAsked o told contents before now (outcome_of (ReadFault f)) → (file : List ℕ) × Rose (before file) (now file)
@@ -427,6 +501,6 @@ defined_answer words told contents before now o a answer is t cause quiet = subs
     go UnreadWords answer cause = tt
     go (ConflictLimit c) answer cause = tt
     go (ReadFault f) answer cause = let r = rose_asked (asked_by words) true contents before now f answer cause in absurd (quiet r.0 r.1)
-    go (Proved Theorem n tree text) answer cause = (Proved Theorem n tree text, (tt, answer), refl)
-    go (Proved Unsatisfiable n tree text) answer cause = (Proved Unsatisfiable n tree text, (tt, answer), refl)
+    go (Proved Theorem n i tree text) answer cause = (Proved Theorem n i tree text, (tt, answer), refl)
+    go (Proved Unsatisfiable n i tree text) answer cause = (Proved Unsatisfiable n i tree text, (tt, answer), refl)
     go a answer cause = (a, (tt, answer), refl)

@@ -2,7 +2,8 @@
 use Rattle.std.proofs.Common.{◌≡◌, ℕ, Bool, List, ◌++◌, Option, Some, None, refl, sym, ap, subst, ◌∙◌}
 use Rattle.stt_core.specs.PlainProblem.{PlainProblem}
 use Rattle.mode_file.specs.declared.Mode.{Mode}
-use Rattle.cli_words.specs.Requests.{Request, prove, refutation, generated, models, sides, asked_by}
+use Rattle.mode_schedule.specs.declared.Block.{Block}
+use Rattle.cli_words.specs.Requests.{Request, prove, by_schedule, refutation, generated, models, sides, asked_by}
 use Rattle.finite_models.specs.Symbols.{model_symbols}
 use Rattle.finite_models.specs.Candidates.{model_of}
 use Rattle.szs_report.specs.Outcomes.{outcome_of}
@@ -39,32 +40,36 @@ of_models_asked R (Some r) told contents (CounterSatisfiable n lines) s h k = k 
 of_models_asked R (Some r) told contents (Satisfiable n lines) s h k = k r refl h
 of_models_asked R (Some r) told contents (NoneSmall n) s h k = k r refl h
 of_models_asked R (Some r) told contents (ModelsTooMany n) s h k = k r refl h
-of_models_asked R o told contents (Proved Theorem n tree text) s h k = absurd s
-of_models_asked R o told contents (Proved Unsatisfiable n tree text) s h k = absurd s
+of_models_asked R o told contents (Proved Theorem n i tree text) s h k = absurd s
+of_models_asked R o told contents (Proved Unsatisfiable n i tree text) s h k = absurd s
 of_models_asked R o told contents a s h k = absurd s
 
 -- a problem that is answered so was one for which models were looked for
-of_models_problem : (R : Type 0) (told : Bool) (contents : List ℕ → Option (List ℕ)) (r : Request) (m : Mode) (p : PlainProblem) (a : Answer) → IsOfModels (outcome_of a) → AnswersProblem told contents r m p a → ((upto : ℕ) (file : List ℕ) → r ≡ models upto file → AnswersModels upto p a → R) → R
-of_models_problem R told contents (models upto file) m p a s h k = k upto file refl h
-of_models_problem R told contents (prove q file nodes) m p (CounterSatisfiable n lines) s h k = absurd h
-of_models_problem R told contents (prove q file nodes) m p (Satisfiable n lines) s h k = absurd h
-of_models_problem R told contents (prove q file nodes) m p (NoneSmall n) s h k = absurd h
-of_models_problem R told contents (prove q file nodes) m p (ModelsTooMany n) s h k = absurd h
-of_models_problem R told contents (refutation cuts file q) m p (CounterSatisfiable n lines) s h k = absurd h.holds
-of_models_problem R told contents (refutation cuts file q) m p (Satisfiable n lines) s h k = absurd h.holds
-of_models_problem R told contents (refutation cuts file q) m p (NoneSmall n) s h k = absurd h.holds
-of_models_problem R told contents (refutation cuts file q) m p (ModelsTooMany n) s h k = absurd h.holds
-of_models_problem R told contents (generated i) m p (CounterSatisfiable n lines) s h k = absurd h
-of_models_problem R told contents (generated i) m p (Satisfiable n lines) s h k = absurd h
-of_models_problem R told contents (generated i) m p (NoneSmall n) s h k = absurd h
-of_models_problem R told contents (generated i) m p (ModelsTooMany n) s h k = absurd h
-of_models_problem R told contents (sides q) m p (CounterSatisfiable n lines) s h k = absurd h
-of_models_problem R told contents (sides q) m p (Satisfiable n lines) s h k = absurd h
-of_models_problem R told contents (sides q) m p (NoneSmall n) s h k = absurd h
-of_models_problem R told contents (sides q) m p (ModelsTooMany n) s h k = absurd h
-of_models_problem R told contents r m p (Proved Theorem n tree text) s h k = absurd s
-of_models_problem R told contents r m p (Proved Unsatisfiable n tree text) s h k = absurd s
-of_models_problem R told contents r m p a s h k = absurd s
+of_models_problem : (R : Type 0) (told : Bool) (contents : List ℕ → Option (List ℕ)) (r : Request) (m : Mode) (bs : List Block) (p : PlainProblem) (a : Answer) → IsOfModels (outcome_of a) → AnswersProblem told contents r m bs p a → ((upto : ℕ) (file : List ℕ) → r ≡ models upto file → AnswersModels upto p a → R) → R
+of_models_problem R told contents (models upto file) m bs p a s h k = k upto file refl h
+of_models_problem R told contents (prove q file nodes) m bs p (CounterSatisfiable n lines) s h k = absurd h
+of_models_problem R told contents (prove q file nodes) m bs p (Satisfiable n lines) s h k = absurd h
+of_models_problem R told contents (prove q file nodes) m bs p (NoneSmall n) s h k = absurd h
+of_models_problem R told contents (prove q file nodes) m bs p (ModelsTooMany n) s h k = absurd h
+of_models_problem R told contents (by_schedule file q) m bs p (CounterSatisfiable n lines) s h k = absurd h
+of_models_problem R told contents (by_schedule file q) m bs p (Satisfiable n lines) s h k = absurd h
+of_models_problem R told contents (by_schedule file q) m bs p (NoneSmall n) s h k = absurd h
+of_models_problem R told contents (by_schedule file q) m bs p (ModelsTooMany n) s h k = absurd h
+of_models_problem R told contents (refutation cuts file q) m bs p (CounterSatisfiable n lines) s h k = absurd h.holds
+of_models_problem R told contents (refutation cuts file q) m bs p (Satisfiable n lines) s h k = absurd h.holds
+of_models_problem R told contents (refutation cuts file q) m bs p (NoneSmall n) s h k = absurd h.holds
+of_models_problem R told contents (refutation cuts file q) m bs p (ModelsTooMany n) s h k = absurd h.holds
+of_models_problem R told contents (generated j) m bs p (CounterSatisfiable n lines) s h k = absurd h
+of_models_problem R told contents (generated j) m bs p (Satisfiable n lines) s h k = absurd h
+of_models_problem R told contents (generated j) m bs p (NoneSmall n) s h k = absurd h
+of_models_problem R told contents (generated j) m bs p (ModelsTooMany n) s h k = absurd h
+of_models_problem R told contents (sides q) m bs p (CounterSatisfiable n lines) s h k = absurd h
+of_models_problem R told contents (sides q) m bs p (Satisfiable n lines) s h k = absurd h
+of_models_problem R told contents (sides q) m bs p (NoneSmall n) s h k = absurd h
+of_models_problem R told contents (sides q) m bs p (ModelsTooMany n) s h k = absurd h
+of_models_problem R told contents r m bs p (Proved Theorem n i tree text) s h k = absurd s
+of_models_problem R told contents r m bs p (Proved Unsatisfiable n i tree text) s h k = absurd s
+of_models_problem R told contents r m bs p a s h k = absurd s
 
 -- what is answered holds
 said_of_models : (upto : ℕ) (p : PlainProblem) (a : Answer) → IsOfModels (outcome_of a) → AnswersModels upto p a → SaysOfModels (outcome_of a) upto p
@@ -72,8 +77,8 @@ said_of_models upto p (CounterSatisfiable n lines) s h = let f = h.1 in let show
 said_of_models upto p (Satisfiable n lines) s h = let f = h.1 in let shown = f.found.shows in (h.0, (model_of n (model_symbols p) f.values, shown.0, shown.1, shown.2))
 said_of_models upto p (NoneSmall n) s h = (h.0, h.1.shows)
 said_of_models upto p (ModelsTooMany n) s h = (h.small, h.shows)
-said_of_models upto p (Proved Theorem n tree text) s h = absurd s
-said_of_models upto p (Proved Unsatisfiable n tree text) s h = absurd s
+said_of_models upto p (Proved Theorem n i tree text) s h = absurd s
+said_of_models upto p (Proved Unsatisfiable n i tree text) s h = absurd s
 said_of_models upto p a s h = absurd s
 
 -- files that are answered so, by the request that the words make
@@ -83,7 +88,7 @@ of_models_answer R words told contents a s answer k =
     of_models_asked R (asked_by words) told contents a s answer
     (λ (r : Request) (asked : asked_by words ≡ Some r) (files : AnswersFiles r told contents a).
     let f = files_answered r told contents a (of_models-no_refusal a s) files in
-    of_models_problem R told contents r f.mode f.problem a s f.answered
+    of_models_problem R told contents r f.mode f.blocks f.problem a s f.answered
     (λ (upto : ℕ) (file : List ℕ) (is : r ≡ models upto file) (h : AnswersModels upto f.problem a).
     k upto file f.names f.problem (asked ∙ ap Some is) (subst (λ x. OfAsked x told contents f.names (Statements f.problem)) (sym asked) f.stated) h))
 
@@ -110,15 +115,15 @@ model_form upto p (CounterSatisfiable n lines) s h =
 model_form upto p (Satisfiable n lines) s h =
     let f = h.1 in
     record { size = n; lines = lines; found = f; is = ap (Satisfiable n) f.lines_are ∙ ap (λ o. model_answer_by o n (model_text (names_in p) (model_symbols p) f.values)) (sym h.0) }
-model_form upto p (Proved Theorem n tree text) s h = absurd s
-model_form upto p (Proved Unsatisfiable n tree text) s h = absurd s
+model_form upto p (Proved Theorem n i tree text) s h = absurd s
+model_form upto p (Proved Unsatisfiable n i tree text) s h = absurd s
 model_form upto p a s h = absurd s
 
 of_models : (a : Answer) → IsModelOutcome (outcome_of a) → IsOfModels (outcome_of a)
 of_models (CounterSatisfiable n lines) s = tt
 of_models (Satisfiable n lines) s = tt
-of_models (Proved Theorem n tree text) s = absurd s
-of_models (Proved Unsatisfiable n tree text) s = absurd s
+of_models (Proved Theorem n i tree text) s = absurd s
+of_models (Proved Unsatisfiable n i tree text) s = absurd s
 of_models a s = absurd s
 
 model_reported : (words : List (List ℕ)) (told : Bool) (contents : List ℕ → Option (List ℕ)) (a : Answer) → IsAnswer words told contents a → IsModelOutcome (outcome_of a) → IsModelReport words told contents (outcome_of a) (report_of (asked_name words) a)

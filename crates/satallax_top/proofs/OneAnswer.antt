@@ -1,5 +1,5 @@
 -- Over told contents there is one defined answer, but for the refutation of a proof.
-use Rattle.std.proofs.Common.{◌≡◌, ℕ, ◌<◌, ◌≤◌, ◌⊎◌, inl, inr, true, List, length, Option, Some, None, Result, Ok, Err, refl, sym, ap, ap₂, subst, ◌∙◌, arith}
+use Rattle.std.proofs.Common.{◌≡◌, ◌≢◌, ℕ, ◌<◌, ◌≤◌, ◌⊎◌, inl, inr, true, List, length, Option, Some, None, Result, Ok, Err, refl, sym, ap, ap₂, subst, ◌∙◌, arith}
 use Rattle.stt_core.specs.PlainProblem.{PlainProblem}
 use Rattle.tableau_calculus.specs.declared.refutation.Why.{Why}
 use Rattle.thf_include.specs.Gathering.{Ending, done, stopped, wants, too_long, no_tree, cycle, too_many, no_name}
@@ -9,17 +9,27 @@ use Rattle.outside.specs.Lines.{lines_of}
 use Rattle.mode_file.specs.Grammar.{States}
 use Rattle.mode_file.specs.Refusals.{Refuses}
 use Rattle.mode_file.proofs.AnswerLaws.{one_mode, one_refusal as one_bad_line, not_both_answers}
-use Rattle.cli_words.specs.Requests.{Request, prove, refutation, generated, models, sides, asked_by}
+use Rattle.mode_schedule.specs.declared.Block.{Block}
+use Rattle.mode_schedule.specs.declared.refused.ScheduleRefused.{ScheduleRefused}
+use Rattle.mode_schedule.specs.declared.refused.ScheduleRefused.TheVariants as unread
+use Rattle.mode_schedule.specs.Grammar.{StatesBlocks}
+use Rattle.mode_schedule.specs.Refusals.{RefusesBlocks}
+use Rattle.mode_schedule.proofs.OneSchedule.{one_schedule, one_schedule_refusal, schedule_or_refusal}
+use Rattle.cli_words.specs.Requests.{Request, prove, by_schedule, refutation, generated, models, sides, asked_by}
 use Rattle.szs_report.specs.Outcomes.{outcome_of, without_refutation}
 use Rattle.szs_report.specs.declared.answer.Answer.{Answer}
-use Rattle.szs_report.specs.declared.answer.Answer.TheVariants.{Proved, ConflictLimit, Accepted, Refused, CounterSatisfiable, Satisfiable, NoneSmall, ModelsTooMany, Same, Different, NoEquation, ModeAt, Words, TooLong, ReadFault, Memory, UnreadWords}
-use Rattle.szs_report.specs.declared.answer.NamedFile.TheVariants.{Mode, Check}
+use Rattle.szs_report.specs.declared.answer.Answer.TheVariants.{Proved, ConflictLimit, Accepted, Refused, CounterSatisfiable, Satisfiable, NoneSmall, ModelsTooMany, Same, Different, NoEquation, ModeAt, ScheduleAt, Words, TooLong, ReadFault, Memory, UnreadWords}
+use Rattle.szs_report.specs.declared.answer.NamedFile.TheVariants.{Mode, Schedule, Check}
 use Rattle.szs_report.specs.declared.outcome.ModeWhy.{ModeWhy}
 use Rattle.szs_report.specs.declared.outcome.ModeWhy.TheVariants.{UnknownKey, Twice, BadNumber, OutOfRange}
-use Rattle.request_answers.specs.Requested.{problem_name, mode_file, told_of, contents_of}
+use Rattle.szs_report.specs.declared.outcome.ScheduleWhy.{ScheduleWhy}
+use Rattle.szs_report.specs.declared.outcome.ScheduleWhy.TheVariants as why
+use Rattle.request_answers.specs.Requested.{problem_name, mode_file, schedule_file, told_of, contents_of}
 use Rattle.request_answers.specs.Modes.{OfFile, IsLongFile, IsModeBy, refused_at, IsBadMode}
+use Rattle.request_answers.specs.Schedules.{IsScheduleBy, refused_schedule_at, IsBadSchedule}
 use Rattle.outside.specs.Limits.{byte_limit}
 use Rattle.request_answers.specs.Internal.RefusedModes.{mode_answer}
+use Rattle.request_answers.specs.Internal.RefusedSchedules.{schedule_answer}
 use Rattle.cli_words.specs.declared.Cuts.{Cuts}
 use Rattle.request_answers.specs.Checked.{IsAcceptedText, IsRefusedText, AnswersBytes, AnswersText}
 use Rattle.request_answers.specs.Answers.{AnswersProblem, AnswersStated, AnswersEnding, AnswersFiles, AnswersAsked, IsSettled, Defined}
@@ -38,7 +48,7 @@ use Rattle.request_answers.specs.Compared.{AnswersSides}
 use Rattle.request_answers.specs.Modelled.{AnswersModels}
 use Rattle.satallax_top.specs.Models.{model_answer_by}
 use Rattle.request_answers.proofs.CheckedLaws.{accepted_not_refused, one_refusal}
-use Rattle.request_answers.proofs.RunEnds.{solved-same, demoed-same}
+use Rattle.request_answers.proofs.RunEnds.{solved-same, turns-same, demoed-same}
 use Rattle.satallax_top.proofs.ToldFiles.{IsFinal, one_told}
 
 -- what the bytes of a text are answered with
@@ -135,24 +145,25 @@ finding_same : (upto : ℕ) (p : PlainProblem) (a b : Answer) → IsFinding upto
 finding_same upto p a b h k = h.is ∙ ap (finding_answer upto p) (one_finding p upto h.what k.what h.small k.small) ∙ sym k.is
 
 -- a problem that is read is answered in one way
-problem_same : (r : Request) (m : SearchMode) (contents : List ℕ → Option (List ℕ)) (p : PlainProblem) (a b : Answer) → IsSettled a → IsSettled b
-    → AnswersProblem true contents r m p a → AnswersProblem true contents r m p b → without_refutation a ≡ without_refutation b
-problem_same (prove p file nodes) m contents q a b w v h k = solved-same nodes m q a b w v h k
-problem_same (refutation cuts file p) m contents q a b w v h k = ap without_refutation (text_same cuts contents file q a b (text_read cuts contents file q a w h) (text_read cuts contents file q b v k))
-problem_same (generated n) m contents q a b w v h k = demoed-same m q a b w v h k
-problem_same (models upto p) m contents q a b w v h k = ap without_refutation (finding_same upto q a b (finding_of upto q a w h) (finding_of upto q b v k))
-problem_same (sides p) m contents q a b w v h k = ap without_refutation (compared_same q a b (comparison_of q a w h) (comparison_of q b v k))
+problem_same : (r : Request) (m : SearchMode) (bs : List Block) (contents : List ℕ → Option (List ℕ)) (p : PlainProblem) (a b : Answer) → IsSettled a → IsSettled b
+    → AnswersProblem true contents r m bs p a → AnswersProblem true contents r m bs p b → without_refutation a ≡ without_refutation b
+problem_same (prove p file nodes) m bs contents q a b w v h k = solved-same nodes m q a b w v h k
+problem_same (by_schedule file p) m bs contents q a b w v h k = turns-same bs q a b w v h k
+problem_same (refutation cuts file p) m bs contents q a b w v h k = ap without_refutation (text_same cuts contents file q a b (text_read cuts contents file q a w h) (text_read cuts contents file q b v k))
+problem_same (generated n) m bs contents q a b w v h k = demoed-same m q a b w v h k
+problem_same (models upto p) m bs contents q a b w v h k = ap without_refutation (finding_same upto q a b (finding_of upto q a w h) (finding_of upto q b v k))
+problem_same (sides p) m bs contents q a b w v h k = ap without_refutation (compared_same q a b (comparison_of q a w h) (comparison_of q b v k))
 
-stated_same : (r : Request) (m : SearchMode) (contents : List ℕ → Option (List ℕ)) (names : List (List ℕ)) (a b : Answer) (o : Result PlainProblem IllInFile) → IsSettled a → IsSettled b
-    → AnswersStated (AnswersProblem true contents r m) names a o → AnswersStated (AnswersProblem true contents r m) names b o → without_refutation a ≡ without_refutation b
-stated_same r m contents names a b (Ok p) w v h k = problem_same r m contents p a b w v h k
-stated_same r m contents names a b (Err ill) w v h k = ap without_refutation (h ∙ sym k)
+stated_same : (r : Request) (m : SearchMode) (bs : List Block) (contents : List ℕ → Option (List ℕ)) (names : List (List ℕ)) (a b : Answer) (o : Result PlainProblem IllInFile) → IsSettled a → IsSettled b
+    → AnswersStated (AnswersProblem true contents r m bs) names a o → AnswersStated (AnswersProblem true contents r m bs) names b o → without_refutation a ≡ without_refutation b
+stated_same r m bs contents names a b (Ok p) w v h k = problem_same r m bs contents p a b w v h k
+stated_same r m bs contents names a b (Err ill) w v h k = ap without_refutation (h ∙ sym k)
 
 -- by how the gathering ends
-ending_same : (r : Request) (m : SearchMode) (contents : List ℕ → Option (List ℕ)) (names : List (List ℕ)) (a b : Answer) (e : Ending) → IsSettled a → IsSettled b
-    → AnswersEnding (AnswersProblem true contents r m) names a e → AnswersEnding (AnswersProblem true contents r m) names b e → without_refutation a ≡ without_refutation b
-ending_same r m contents names a b (done ss) w v h k = stated_same r m contents names a b (problem_of ss) w v h k
-ending_same r m contents names a b (stopped s) w v h k = ap without_refutation (h ∙ sym k)
+ending_same : (r : Request) (m : SearchMode) (bs : List Block) (contents : List ℕ → Option (List ℕ)) (names : List (List ℕ)) (a b : Answer) (e : Ending) → IsSettled a → IsSettled b
+    → AnswersEnding (AnswersProblem true contents r m bs) names a e → AnswersEnding (AnswersProblem true contents r m bs) names b e → without_refutation a ≡ without_refutation b
+ending_same r m bs contents names a b (done ss) w v h k = stated_same r m bs contents names a b (problem_of ss) w v h k
+ending_same r m bs contents names a b (stopped s) w v h k = ap without_refutation (h ∙ sym k)
 
 -- no file is wanted where the answer is settled
 final_of : (Answers : PlainProblem → Answer → Type 0) (names : List (List ℕ)) (a : Answer) (e : Ending) → IsSettled a → AnswersEnding Answers names a e → IsFinal e
@@ -200,16 +211,46 @@ one_bad_mode contents (Some file) line other why cause h k =
     let same = one_bad_line (lines_of k.bytes) (refused_at why line) (refused_at cause other) (subst (λ bs. Refuses (lines_of bs) (refused_at why line)) (bytes_of contents file _ _ h k) h.holds) k.holds in
     sym (mode_answered why line) ∙ ap mode_answer same ∙ mode_answered cause other
 
--- a mode's file that is read isn't too long
-no_long_mode : (contents : List ℕ → Option (List ℕ)) (o : Option (List ℕ)) (file : List ℕ) (m : SearchMode) → o ≡ Some file → IsModeBy true contents o m → IsLongFile true contents file → ⊥
-no_long_mode contents o file m e h l = not_long contents file _ (subst (λ f. IsModeBy true contents f m) e h) l
+-- the blocks are one list
+schedule_same : (contents : List ℕ → Option (List ℕ)) (file : Option (List ℕ)) (bs cs : List Block) → IsScheduleBy true contents file bs → IsScheduleBy true contents file cs → bs ≡ cs
+schedule_same contents None bs cs h k = h ∙ sym k
+schedule_same contents (Some file) bs cs h k =
+    one_schedule (lines_of k.bytes) bs cs (subst (λ x. StatesBlocks (lines_of x) bs) (bytes_of contents file _ _ h k) h.holds) k.holds
 
-no_long_bad : (contents : List ℕ → Option (List ℕ)) (o : Option (List ℕ)) (file : List ℕ) (line : ℕ) (why : ModeWhy) → o ≡ Some file → IsBadMode true contents o line why → IsLongFile true contents file → ⊥
-no_long_bad contents o file line why e h l = not_long contents file _ (subst (λ f. IsBadMode true contents f line why) e h) l
+-- a schedule's file is read, or has one bad line
+no_memory : (why : ScheduleWhy) (line : ℕ) → refused_schedule_at why line ≢ unread.Memory
+no_memory why.UnknownKey line e = cc
+no_memory why.Twice line e = cc
+no_memory why.BadNumber line e = cc
+no_memory why.OutOfRange line e = cc
+no_memory why.NoSlice line e = cc
+no_memory why.TooManyBlocks line e = cc
+
+no_bad_schedule : (contents : List ℕ → Option (List ℕ)) (file : Option (List ℕ)) (bs : List Block) (line : ℕ) (cause : ScheduleWhy) → IsScheduleBy true contents file bs → IsBadSchedule true contents file line cause → ⊥
+no_bad_schedule contents None bs line cause h k = k
+no_bad_schedule contents (Some file) bs line cause h k =
+    schedule_or_refusal (lines_of k.bytes) bs (refused_schedule_at cause line) (no_memory cause line) (subst (λ x. StatesBlocks (lines_of x) bs) (bytes_of contents file _ _ h k) h.holds) k.holds
+
+schedule_answered : (cause : ScheduleWhy) (line : ℕ) → schedule_answer (refused_schedule_at cause line) ≡ ScheduleAt line cause
+schedule_answered why.UnknownKey line = refl
+schedule_answered why.Twice line = refl
+schedule_answered why.BadNumber line = refl
+schedule_answered why.OutOfRange line = refl
+schedule_answered why.NoSlice line = refl
+schedule_answered why.TooManyBlocks line = refl
+
+one_bad_schedule : (contents : List ℕ → Option (List ℕ)) (file : Option (List ℕ)) (line other : ℕ) (cause more : ScheduleWhy) → IsBadSchedule true contents file line cause → IsBadSchedule true contents file other more → ScheduleAt line cause ≡ ScheduleAt other more
+one_bad_schedule contents None line other cause more h k = absurd h
+one_bad_schedule contents (Some file) line other cause more h k =
+    let same =
+    one_schedule_refusal (lines_of k.bytes) (refused_schedule_at cause line) (refused_schedule_at more other) (no_memory cause line) (no_memory more other)
+    (subst (λ x. RefusesBlocks (lines_of x) (refused_schedule_at cause line)) (bytes_of contents file _ _ h k) h.holds) k.holds in
+    sym (schedule_answered cause line) ∙ ap schedule_answer same ∙ schedule_answered more other
 
 -- what is told of a request is told
 told_true : (r : Request) → told_of true r ≡ true
 told_true (prove p file nodes) = refl
+told_true (by_schedule file p) = refl
 told_true (refutation cuts file p) = refl
 told_true (generated n) = refl
 told_true (models upto p) = refl
@@ -219,22 +260,95 @@ files_same : (r : Request) (contents : List ℕ → Option (List ℕ)) (a b : An
     → AnswersFiles r true contents a → AnswersFiles r true contents b → without_refutation a ≡ without_refutation b
 files_same r contents a b w v h k =
     let m = mode_same contents (mode_file r) h.mode k.mode h.is_mode k.is_mode in
+    let bs = schedule_same contents (schedule_file r) h.blocks k.blocks h.are_blocks k.are_blocks in
     let f = h.files in
     let g = k.files in
     let same =
     one_told (contents_of contents r) (problem_name r) h.names f.texts k.names g.texts f.ending g.ending
-    (f.told_texts (told_true r)) f.gathers (final_of (AnswersProblem true contents r h.mode) h.names a f.ending w f.holds)
-    (g.told_texts (told_true r)) g.gathers (final_of (AnswersProblem true contents r k.mode) k.names b g.ending v g.holds) in
-    let Here : List (List ℕ) → Ending → Type 0 = λ ns e. AnswersEnding (AnswersProblem true contents r k.mode) ns a e in
-    let moved : Here h.names f.ending = subst (λ n. AnswersEnding (AnswersProblem true contents r n) h.names a f.ending) m f.holds in
-    ending_same r k.mode contents k.names a b g.ending w v (subst (λ ns. Here ns g.ending) same.names_same (subst (Here h.names) same.endings_same moved)) g.holds
+    (f.told_texts (told_true r)) f.gathers (final_of (AnswersProblem true contents r h.mode h.blocks) h.names a f.ending w f.holds)
+    (g.told_texts (told_true r)) g.gathers (final_of (AnswersProblem true contents r k.mode k.blocks) k.names b g.ending v g.holds) in
+    let Here : List (List ℕ) → Ending → Type 0 = λ ns e. AnswersEnding (AnswersProblem true contents r k.mode k.blocks) ns a e in
+    let moved : Here h.names f.ending = subst (λ x. AnswersEnding (AnswersProblem true contents r k.mode x) h.names a f.ending) bs (subst (λ n. AnswersEnding (AnswersProblem true contents r n h.blocks) h.names a f.ending) m f.holds) in
+    ending_same r k.mode k.blocks contents k.names a b g.ending w v (subst (λ ns. Here ns g.ending) same.names_same (subst (Here h.names) same.endings_same moved)) g.holds
+
+-- an answer of a mode's file
+data IsOfModeFile (contents : List ℕ → Option (List ℕ)) (o : Option (List ℕ)) (a : Answer) : Type 0 where
+  bad_mode : (line : ℕ) (why : ModeWhy) → a ≡ ModeAt line why → IsBadMode true contents o line why → IsOfModeFile contents o a
+  long_mode : (file : List ℕ) → a ≡ TooLong (Mode file) → o ≡ Some file → IsLongFile true contents file → IsOfModeFile contents o a
+
+no_mode_named : (contents : List ℕ → Option (List ℕ)) (o : Option (List ℕ)) (a : Answer) → o ≡ None → IsOfModeFile contents o a → ⊥
+no_mode_named contents o a e (bad_mode line why is h) = subst (λ f. IsBadMode true contents f line why) e h
+no_mode_named contents o a e (long_mode file is f l) = cc
+
+mode_or_answer : (contents : List ℕ → Option (List ℕ)) (o : Option (List ℕ)) (m : SearchMode) (a : Answer) → IsModeBy true contents o m → IsOfModeFile contents o a → ⊥
+mode_or_answer contents o m a h (bad_mode line why is k) = no_bad_mode contents o m line why h k
+mode_or_answer contents o m a h (long_mode file is e l) = not_long contents file _ (subst (λ f. IsModeBy true contents f m) e h) l
+
+same_name : (o : Option (List ℕ)) (file other : List ℕ) → o ≡ Some file → o ≡ Some other → file ≡ other
+same_name o file other e f = cc
+
+mode_answer-same : (contents : List ℕ → Option (List ℕ)) (o : Option (List ℕ)) (a b : Answer) → IsOfModeFile contents o a → IsOfModeFile contents o b → a ≡ b
+mode_answer-same contents o a b (bad_mode line why x h) (bad_mode other cause y k) = x ∙ one_bad_mode contents o line other why cause h k ∙ sym y
+mode_answer-same contents o a b (bad_mode line why x h) (long_mode file y e l) = absurd (not_long contents file _ (subst (λ f. IsBadMode true contents f line why) e h) l)
+mode_answer-same contents o a b (long_mode file x e l) (bad_mode line why y h) = absurd (not_long contents file _ (subst (λ f. IsBadMode true contents f line why) e h) l)
+mode_answer-same contents o a b (long_mode file x e l) (long_mode other y f k) = x ∙ ap (λ n. TooLong (Mode n)) (same_name o file other e f) ∙ sym y
+
+-- an answer of a schedule's file
+data IsOfScheduleFile (contents : List ℕ → Option (List ℕ)) (o : Option (List ℕ)) (a : Answer) : Type 0 where
+  bad_schedule : (line : ℕ) (cause : ScheduleWhy) → a ≡ ScheduleAt line cause → IsBadSchedule true contents o line cause → IsOfScheduleFile contents o a
+  long_schedule : (file : List ℕ) → a ≡ TooLong (Schedule file) → o ≡ Some file → IsLongFile true contents file → IsOfScheduleFile contents o a
+
+no_schedule_named : (contents : List ℕ → Option (List ℕ)) (o : Option (List ℕ)) (a : Answer) → o ≡ None → IsOfScheduleFile contents o a → ⊥
+no_schedule_named contents o a e (bad_schedule line cause is h) = subst (λ f. IsBadSchedule true contents f line cause) e h
+no_schedule_named contents o a e (long_schedule file is f l) = cc
+
+schedule_or_answer : (contents : List ℕ → Option (List ℕ)) (o : Option (List ℕ)) (bs : List Block) (a : Answer) → IsScheduleBy true contents o bs → IsOfScheduleFile contents o a → ⊥
+schedule_or_answer contents o bs a h (bad_schedule line cause is k) = no_bad_schedule contents o bs line cause h k
+schedule_or_answer contents o bs a h (long_schedule file is e l) = not_long contents file _ (subst (λ f. IsScheduleBy true contents f bs) e h) l
+
+schedule_answer-same : (contents : List ℕ → Option (List ℕ)) (o : Option (List ℕ)) (a b : Answer) → IsOfScheduleFile contents o a → IsOfScheduleFile contents o b → a ≡ b
+schedule_answer-same contents o a b (bad_schedule line cause x h) (bad_schedule other more y k) = x ∙ one_bad_schedule contents o line other cause more h k ∙ sym y
+schedule_answer-same contents o a b (bad_schedule line cause x h) (long_schedule file y e l) = absurd (not_long contents file _ (subst (λ f. IsBadSchedule true contents f line cause) e h) l)
+schedule_answer-same contents o a b (long_schedule file x e l) (bad_schedule line cause y h) = absurd (not_long contents file _ (subst (λ f. IsBadSchedule true contents f line cause) e h) l)
+schedule_answer-same contents o a b (long_schedule file x e l) (long_schedule other y f k) = x ∙ ap (λ n. TooLong (Schedule n)) (same_name o file other e f) ∙ sym y
+
+-- no request names both a mode's file and a schedule's
+one_file_named : (r : Request) → (mode_file r ≡ None) ⊎ (schedule_file r ≡ None)
+one_file_named (prove p file nodes) = inr refl
+one_file_named (by_schedule file p) = inl refl
+one_file_named (refutation cuts file p) = inr refl
+one_file_named (generated n) = inr refl
+one_file_named (models upto p) = inr refl
+one_file_named (sides p) = inr refl
+
+not_both_files : (contents : List ℕ → Option (List ℕ)) (r : Request) (a b : Answer) → IsOfModeFile contents (mode_file r) a → IsOfScheduleFile contents (schedule_file r) b → ⊥
+not_both_files contents r a b h k = go (one_file_named r)
+  where
+    go : (mode_file r ≡ None) ⊎ (schedule_file r ≡ None) → ⊥
+    go (inl e) = no_mode_named contents (mode_file r) a e h
+    go (inr e) = no_schedule_named contents (schedule_file r) b e k
+
+-- what a request is answered with
+data DefinedFor (r : Request) (contents : List ℕ → Option (List ℕ)) (a : Answer) : Type 0 where
+  of_mode : IsOfModeFile contents (mode_file r) a → DefinedFor r contents a
+  of_schedule : IsOfScheduleFile contents (schedule_file r) a → DefinedFor r contents a
+  of_files : AnswersFiles r true contents a → DefinedFor r contents a
+
+for_same : (r : Request) (contents : List ℕ → Option (List ℕ)) (a b : Answer) → IsSettled a → IsSettled b → DefinedFor r contents a → DefinedFor r contents b → without_refutation a ≡ without_refutation b
+for_same r contents a b w v (of_mode h) (of_mode k) = ap without_refutation (mode_answer-same contents (mode_file r) a b h k)
+for_same r contents a b w v (of_mode h) (of_schedule k) = absurd (not_both_files contents r a b h k)
+for_same r contents a b w v (of_mode h) (of_files k) = absurd (mode_or_answer contents (mode_file r) k.mode a k.is_mode h)
+for_same r contents a b w v (of_schedule h) (of_mode k) = absurd (not_both_files contents r b a k h)
+for_same r contents a b w v (of_schedule h) (of_schedule k) = ap without_refutation (schedule_answer-same contents (schedule_file r) a b h k)
+for_same r contents a b w v (of_schedule h) (of_files k) = absurd (schedule_or_answer contents (schedule_file r) k.blocks a k.are_blocks h)
+for_same r contents a b w v (of_files h) (of_mode k) = absurd (mode_or_answer contents (mode_file r) h.mode b h.is_mode k)
+for_same r contents a b w v (of_files h) (of_schedule k) = absurd (schedule_or_answer contents (schedule_file r) h.blocks b h.are_blocks k)
+for_same r contents a b w v (of_files h) (of_files k) = files_same r contents a b w v h k
 
 -- by the words
 data DefinedBy (o : Option Request) (contents : List ℕ → Option (List ℕ)) (a : Answer) : Type 0 where
   no_request : o ≡ None → a ≡ Words → DefinedBy o contents a
-  bad_mode : (r : Request) (line : ℕ) (why : ModeWhy) → o ≡ Some r → a ≡ ModeAt line why → IsBadMode true contents (mode_file r) line why → DefinedBy o contents a
-  long_mode : (r : Request) (file : List ℕ) → o ≡ Some r → a ≡ TooLong (Mode file) → mode_file r ≡ Some file → IsLongFile true contents file → DefinedBy o contents a
-  by_files : (r : Request) → o ≡ Some r → AnswersFiles r true contents a → DefinedBy o contents a
+  requested : (r : Request) → o ≡ Some r → DefinedFor r contents a → DefinedBy o contents a
 
 defined_by : (o : Option Request) (contents : List ℕ → Option (List ℕ)) (a : Answer) → IsSettled a → AnswersAsked o true contents a → DefinedBy o contents a
 defined_by o contents UnreadWords w h = absurd w
@@ -242,49 +356,26 @@ defined_by o contents Memory w h = absurd w
 defined_by o contents (ConflictLimit c) w h = absurd w
 defined_by o contents (ReadFault file) w h = absurd w
 defined_by None contents a w h = no_request refl h
-defined_by (Some r) contents (ModeAt line why) w h = bad_mode r line why refl refl h
-defined_by (Some r) contents (TooLong (Mode file)) w h = long_mode r file refl refl h.0 h.1
-defined_by (Some r) contents a w h = by_files r refl h
+defined_by (Some r) contents (ModeAt line why) w h = requested r refl (of_mode (bad_mode line why refl h))
+defined_by (Some r) contents (TooLong (Mode file)) w h = requested r refl (of_mode (long_mode file refl h.0 h.1))
+defined_by (Some r) contents (ScheduleAt line cause) w h = requested r refl (of_schedule (bad_schedule line cause refl h))
+defined_by (Some r) contents (TooLong (Schedule file)) w h = requested r refl (of_schedule (long_schedule file refl h.0 h.1))
+defined_by (Some r) contents a w h = requested r refl (of_files h)
 
 asked_same : (r s : Request) (o : Option Request) → o ≡ Some r → o ≡ Some s → r ≡ s
 asked_same r s o e f = cc
 
 by_same : (o : Option Request) (contents : List ℕ → Option (List ℕ)) (a b : Answer) → IsSettled a → IsSettled b → DefinedBy o contents a → DefinedBy o contents b → without_refutation a ≡ without_refutation b
 by_same o contents a b w v (no_request e x) (no_request f y) = ap without_refutation (x ∙ sym y)
-by_same o contents a b w v (no_request e x) (bad_mode s line why f y l) = cc
-by_same o contents a b w v (no_request e x) (long_mode s file f y g l) = cc
-by_same o contents a b w v (no_request e x) (by_files s f y) = cc
-by_same o contents a b w v (bad_mode r line why e x h) (no_request f y) = cc
-by_same o contents a b w v (long_mode r file e x g h) (no_request f y) = cc
-by_same o contents a b w v (by_files r e x) (no_request f y) = cc
-by_same o contents a b w v (bad_mode r line why e x h) (bad_mode s other cause f y k) =
-    let one = asked_same s r o f e in
-    ap without_refutation (x ∙ one_bad_mode contents (mode_file r) line other why cause h (subst (λ t. IsBadMode true contents (mode_file t) other cause) one k) ∙ sym y)
-by_same o contents a b w v (bad_mode r line why e x h) (long_mode s file f y g l) =
-    let one = asked_same r s o e f in absurd (no_long_bad contents (mode_file s) file line why g (subst (λ t. IsBadMode true contents (mode_file t) line why) one h) l)
-by_same o contents a b w v (bad_mode r line why e x h) (by_files s f k) =
-    let one = asked_same r s o e f in absurd (no_bad_mode contents (mode_file s) k.mode line why k.is_mode (subst (λ t. IsBadMode true contents (mode_file t) line why) one h))
-by_same o contents a b w v (long_mode r file e x g l) (bad_mode s line why f y h) =
-    let one = asked_same s r o f e in absurd (no_long_bad contents (mode_file r) file line why g (subst (λ t. IsBadMode true contents (mode_file t) line why) one h) l)
-by_same o contents a b w v (long_mode r file e x g l) (long_mode s other f y k m) =
-    let one = asked_same r s o e f in
-    let both : Some file ≡ Some other = sym g ∙ ap mode_file one ∙ k in
-    let name : file ≡ other = cc in
-    ap without_refutation (x ∙ ap (λ n. TooLong (Mode n)) name ∙ sym y)
-by_same o contents a b w v (long_mode r file e x g l) (by_files s f k) =
-    let one = asked_same r s o e f in absurd (no_long_mode contents (mode_file s) file k.mode (subst (λ t. mode_file t ≡ Some file) one g) k.is_mode l)
-by_same o contents a b w v (by_files r e h) (bad_mode s line why f y k) =
-    let one = asked_same s r o f e in absurd (no_bad_mode contents (mode_file r) h.mode line why h.is_mode (subst (λ t. IsBadMode true contents (mode_file t) line why) one k))
-by_same o contents a b w v (by_files r e h) (long_mode s file f y g l) =
-    let one = asked_same s r o f e in absurd (no_long_mode contents (mode_file r) file h.mode (subst (λ t. mode_file t ≡ Some file) one g) h.is_mode l)
-by_same o contents a b w v (by_files r e h) (by_files s f k) =
-    let one = asked_same r s o e f in files_same s contents a b w v (subst (λ t. AnswersFiles t true contents a) one h) k
+by_same o contents a b w v (no_request e x) (requested s f k) = cc
+by_same o contents a b w v (requested r e h) (no_request f y) = cc
+by_same o contents a b w v (requested r e h) (requested s f k) = for_same s contents a b w v (subst (λ t. DefinedFor t contents a) (asked_same r s o e f) h) k
 
 pub answer-same : (words : List (List ℕ)) (contents : List ℕ → Option (List ℕ)) (a b : Answer) → Defined words contents a → Defined words contents b → without_refutation a ≡ without_refutation b
 answer-same words contents a b h k = by_same (asked_by words) contents a b h.0 k.0 (defined_by (asked_by words) contents a h.0 h.1) (defined_by (asked_by words) contents b k.0 k.1)
 
-outcome-without : (a : Answer) → outcome_of (without_refutation a) ≡ outcome_of a
-outcome-without (Proved claim n tree text) = refl
+pub outcome-without : (a : Answer) → outcome_of (without_refutation a) ≡ outcome_of a
+outcome-without (Proved claim n mode tree text) = refl
 outcome-without a = refl
 
 -- so there is one outcome

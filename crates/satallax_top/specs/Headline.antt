@@ -1,5 +1,5 @@
 -- What a reported proof means.
-use Rattle.std.specs.Prelude.{◌≡◌, ℕ, Bool, List, ◌++◌, filter, Option, Some, None}
+use Rattle.std.specs.Prelude.{◌≡◌, ◌+◌, ℕ, Bool, List, ◌++◌, filter, slice_get, Option, Some, None}
 use Rattle.outside.specs.Prefix.{AppendsProperly}
 use Rattle.stt_core.specs.Meaning.{Model, IsModel}
 use Rattle.stt_core.specs.Meets.{MeetsProblem}
@@ -14,7 +14,10 @@ use Rattle.conv_laws.specs.Sides.{AreSidesOf}
 use Rattle.conv_laws.specs.declared.sides.Sides.TheVariants as compared
 use Rattle.delta_defs.specs.Unfolding.{taken_names, unfolded_problem}
 use Rattle.search_spec.specs.Shallow.{is_shallow_literal}
-use Rattle.cli_words.specs.Requests.{Request, prove, asked_by}
+use Rattle.mode_schedule.specs.declared.Block.{Block}
+use Rattle.mode_schedule.specs.Turns.{closed, ScheduleEnds}
+use Rattle.mode_schedule.specs.Scheduled.{slots_for}
+use Rattle.cli_words.specs.Requests.{Request, prove, by_schedule, asked_by}
 use Rattle.cli_words.specs.declared.Cuts.TheVariants.{Allowed, Forbidden}
 use Rattle.plain_tableau.specs.declared.stripped.Stripped.{Stripped}
 use Rattle.plain_tableau.specs.declared.stripped.Stripped.TheVariants as stripped
@@ -31,6 +34,7 @@ use Rattle.szs_report.specs.declared.outcome.Outcome.TheVariants.{Theorem, Unsat
 use Rattle.request_answers.specs.Requested.{asked_name, problem_name, mode_file, told_of, contents_of}
 use Rattle.request_answers.specs.Files.{OfFiles, Statements, StatesProblem}
 use Rattle.request_answers.specs.Modes.{IsModeBy}
+use Rattle.request_answers.specs.Schedules.{IsScheduleBy}
 use Rattle.request_answers.specs.Names.{names_in}
 use Rattle.request_answers.specs.Checked.{IsAcceptedText, HoldsOnly}
 use Rattle.request_answers.specs.Solved.{claim_of, written_refutation, tree_told}
@@ -83,12 +87,21 @@ pub record HasSidesSo (words : List (List ℕ)) (told : Bool) (contents : List �
   pub stated : StatesProblem words told contents names problem
   pub says : SaysOfSides outcome problem
 
+-- the mode is that of one of the blocks
+abbrev pub IsModeOfSome : List Block → Mode → Type 0
+IsModeOfSome blocks mode = (number : ℕ) × (block : Block) × (slice_get blocks number ≡ Some block) × (mode ≡ block.mode)
+
+-- the mode is one by which a request is run: that of one of the blocks of its schedule, or that of its file, or the standard one
+abbrev pub IsModeAsked : Bool → (List ℕ → Option (List ℕ)) → Request → Mode → Type 0
+IsModeAsked told contents (by_schedule file p) mode = (blocks : List Block) × IsScheduleBy told contents (Some file) blocks × IsModeOfSome blocks mode
+IsModeAsked told contents r mode = IsModeBy told contents (mode_file r) mode
+
 -- Whatever problem the files state that a request is about, and by whatever mode it is run: the mode has enough conflicts for the clauses of
 -- each state of the run.
 abbrev pub EnoughAsked : Option Request → Bool → (List ℕ → Option (List ℕ)) → Type 0
 EnoughAsked None told contents = Unit {0}
 EnoughAsked (Some r) told contents =
-    (mode : Mode) (names : List (List ℕ)) (p : PlainProblem) → IsModeBy told contents (mode_file r) mode → OfFiles (problem_name r) (told_of told r) (contents_of contents r) names (Statements p)
+    (mode : Mode) (names : List (List ℕ)) (p : PlainProblem) → IsModeAsked told contents r mode → OfFiles (problem_name r) (told_of told r) (contents_of contents r) names (Statements p)
     → HasEnoughConflicts (setting_for p mode) (start (unfolded_problem p))
 
 abbrev pub AreConflictsEnough : List (List ℕ) → Bool → (List ℕ → Option (List ℕ)) → Type 0
@@ -101,6 +114,26 @@ pub record IsAskedBy (words : List (List ℕ)) (told : Bool) (contents : List �
   pub asked : asked_by words ≡ Some (prove problem file nodes)
   pub is_mode : IsModeBy told contents file mode
 
+-- The words ask for the proof of a problem by the schedule of a file. Over this problem the schedule is closed after so many commands of all
+-- runs, by the run of the block of this number, counted from 0, whose mode this is.
+pub record IsAskedInTurns (words : List (List ℕ)) (told : Bool) (contents : List ℕ → Option (List ℕ)) (p : PlainProblem) (mode : Mode) (total number : ℕ) : Type 0 where
+  pub problem : List ℕ
+  pub file : List ℕ
+  pub asked : asked_by words ≡ Some (by_schedule file problem)
+  pub blocks : List Block
+  pub are_blocks : IsScheduleBy told contents (Some file) blocks
+  pub block : Block
+  pub its_block : slice_get blocks number ≡ Some block
+  pub its_mode : block.mode ≡ mode
+  pub closes : ScheduleEnds (slots_for p blocks) (start (unfolded_problem p)) (closed number total)
+
+-- What is reported beside a proof by this mode after n commands. Where the words ask for one mode, that is the number of these commands. Where
+-- they ask for a schedule, it is the number of the commands of all runs, with the number of the mode's block, counted from 1, and no tree is
+-- asked for.
+abbrev pub IsReportedSo : List (List ℕ) → Bool → (List ℕ → Option (List ℕ)) → PlainProblem → Mode → Option ℕ → ℕ → ℕ → Option ℕ → Type 0
+IsReportedSo words told contents p mode nodes n reported None = IsAskedBy words told contents mode nodes × (reported ≡ n)
+IsReportedSo words told contents p mode nodes n reported (Some i) = (nodes ≡ None) × ((number : ℕ) × (i ≡ number + 1) × IsAskedInTurns words told contents p mode reported number)
+
 -- a tree is made whole
 abbrev pub IsTreeMade : Option Stripped → Type 0
 IsTreeMade None = ⊥
@@ -110,26 +143,29 @@ IsTreeMade (Some (stripped.Over nodes)) = ⊥
 
 -- What is written where a proof is reported. The outcome is what the proof shows of the problem that the files state, and the bytes are its
 -- report. They hold one refutation, with the names of the definitions that are taken, so that they are an accepted text for the problem. It
--- is accepted for the start of the unfolded problem, and the tableau of its last line closes that start. After the number of commands that is
--- reported, and not before, the clauses of the search are unsatisfiable, and from these clauses a refutation is rebuilt. It is the one that is
+-- is accepted for the start of the unfolded problem, and the tableau of its last line closes that start. After a number of commands, and not
+-- before, the clauses of the search by the mode are unsatisfiable. That number is reported, and where a schedule is asked for, the number of
+-- the commands of all runs and the mode's. From the clauses a refutation is rebuilt. It is the one that is
 -- written, unless a tree without cut is asked for and comes of the instances that it uses: then that of the tree is, and a check that forbids
 -- cuts accepts the bytes too. No standard model with finite base types meets the problem.
 pub record IsProofReport (words : List (List ℕ)) (told : Bool) (contents : List ℕ → Option (List ℕ)) (outcome : Outcome) (written : List ℕ) : Type 0 where
   pub mode : Mode
   pub nodes : Option ℕ
-  pub asked : IsAskedBy words told contents mode nodes
   pub names : List (List ℕ)
   pub problem : PlainProblem
   pub stated : StatesProblem words told contents names problem
   pub is_outcome : outcome ≡ claim_outcome (claim_of problem)
   pub commands : ℕ
+  pub reported : ℕ
+  pub number : Option ℕ
+  pub asked : IsReportedSo words told contents problem mode nodes commands reported number
   pub rebuilt : Refutation
   pub refuted : IsRefuted (unfolded_problem problem) mode commands rebuilt
   pub stripped : Option Stripped
   pub tree : IsTreeAsked (scope_of problem.declared) (start (unfolded_problem problem)) (filter is_shallow_literal (start (unfolded_problem problem))) refuted.shortly.input nodes stripped
   pub refutation : Refutation
   pub is_written : refutation ≡ written_refutation rebuilt stripped
-  pub is_report : written ≡ report_of (asked_name words) (Proved (claim_of problem) commands (tree_told stripped) (as_bytes (text_lines (named_refutation (names_in problem) (taken_names problem) refutation))))
+  pub is_report : written ≡ report_of (asked_name words) (Proved (claim_of problem) reported number (tree_told stripped) (as_bytes (text_lines (named_refutation (names_in problem) (taken_names problem) refutation))))
   pub holds : HoldsOnly problem written refutation
   pub accepted_text : IsAcceptedText Allowed problem written
   pub strict_text : IsTreeMade stripped → IsAcceptedText Forbidden problem written

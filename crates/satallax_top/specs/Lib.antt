@@ -5,6 +5,9 @@ pub use Rattle.finite_models.specs.Candidates
 pub use Rattle.finite_models.specs.Laws as FiniteModelsLaws
 pub use Rattle.finite_models.specs.Small
 pub use Rattle.finite_models.specs.Symbols
+pub use Rattle.mode_schedule.specs.Laws as ScheduleLaws
+pub use Rattle.mode_schedule.specs.Scheduled
+pub use Rattle.mode_schedule.specs.Turns
 pub use Rattle.outside.specs.Causes as OutsideCauses
 pub use Rattle.outside.specs.Prefix
 pub use Rattle.prover_run.specs.Ended
@@ -20,6 +23,7 @@ pub use Rattle.request_answers.specs.Files
 pub use Rattle.request_answers.specs.Modes
 pub use Rattle.request_answers.specs.Names
 pub use Rattle.request_answers.specs.Requested
+pub use Rattle.request_answers.specs.Schedules
 pub use Rattle.request_answers.specs.Solved
 pub use Rattle.stt_core.specs.Declarations
 pub use Rattle.stt_core.specs.Meaning
@@ -33,4 +37,5 @@ pub use Rattle.tableau_calculus.specs.Start
 pub use Rattle.tableau_calculus.specs.Witnesses
 pub mod Headline
 pub mod Models
+pub mod Scheduling
 pub mod Laws

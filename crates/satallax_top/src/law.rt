@@ -3,19 +3,22 @@
 ghost use Rattle.std.specs.Prelude.{◌≡◌, ℕ, Bool, List, Option};
 ghost use Rattle.stt_core.specs.PlainProblem.{PlainProblem};
 ghost use Rattle.mode_file.specs.declared.Mode.{Mode};
+ghost use Rattle.mode_schedule.specs.declared.Block.{Block};
 ghost use Rattle.szs_report.specs.Outcomes.{outcome_of, without_refutation};
 ghost use Rattle.szs_report.specs.declared.answer.Answer.{Answer};
 ghost use Rattle.szs_report.specs.declared.answer.Answer.TheVariants.{ConflictLimit};
-ghost use Rattle.request_answers.specs.Solved.{IsSolved};
+ghost use Rattle.request_answers.specs.Solved.{IsSolved, IsSolvedInTurns};
 ghost use Rattle.request_answers.specs.Answers.{IsSettled, Defined, IsAnswer};
 ghost use Rattle.satallax_top.specs.Headline.{AreConflictsEnough};
 ghost use Rattle.satallax_top.specs.Laws.{ProofPropagatesWithoutConflict, SpentEndsBeforeProof, SpentEndsNoLaterThanProof};
 
 /// Over told contents there is one defined answer, but for the refutation of a proof: any that is accepted will do. So there is one outcome.
-/// A run ends in one way, after one number of commands, where its conflicts aren't spent.
+/// A run ends in one way, after one number of commands, where its conflicts aren't spent, and so does a schedule of runs.
 pub fn one_answer()
     ensures run { (nodes : Option ℕ) (m : Mode) (p : PlainProblem) (one other : Answer) → IsSettled one → IsSettled other → IsSolved nodes m p one → IsSolved nodes m p other
         → without_refutation one ≡ without_refutation other }
+    ensures schedule { (blocks : List Block) (p : PlainProblem) (one other : Answer) → IsSettled one → IsSettled other → IsSolvedInTurns blocks p one
+        → IsSolvedInTurns blocks p other → without_refutation one ≡ without_refutation other }
     ensures answer { (words : List (List ℕ)) (contents : List ℕ → Option (List ℕ)) (one other : Answer) → Defined words contents one → Defined words contents other
         → without_refutation one ≡ without_refutation other }
     ensures outcome { (words : List (List ℕ)) (contents : List ℕ → Option (List ℕ)) (one other : Answer) → Defined words contents one → Defined words contents other

@@ -1,13 +1,14 @@
 //! The call that does all that the program does.
 
-ghost use Rattle.std.specs.Prelude.{◌≡◌, ◌≤◌, ℕ, List, IsTrue, None, string_bytes};
+ghost use Rattle.std.specs.Prelude.{◌≡◌, ◌≤◌, ℕ, List, IsTrue, Some, None, string_bytes};
 ghost use Rattle.outside.specs.Causes.{Rose};
-ghost use Rattle.cli_words.specs.Requests.{asked_by};
+ghost use Rattle.cli_words.specs.Requests.{by_schedule, asked_by};
 ghost use Rattle.request_answers.specs.Requested.{asked_name};
 ghost use Rattle.request_answers.specs.Answers.{IsAnswer, IsDefined};
 ghost use Rattle.request_answers.specs.Causes.{IsNoWriteFault, HasCause};
 ghost use Rattle.satallax_top.specs.Headline.{IsProvedOutcome, ShowsNoModel, HasNoModel, IsOfSides, HasSidesSo, IsProofReport, Appends, IsWritten, IsOutcome};
 ghost use Rattle.satallax_top.specs.Models.{IsModelOutcome, IsOfModels, HasModelsSo, IsModelReport};
+ghost use Rattle.satallax_top.specs.Scheduling.{IsOfRuns, HasScheduleSo};
 ghost use Rattle.szs_report.specs.Outcomes.{outcome_of};
 ghost use Rattle.szs_report.specs.Report.{report_of};
 
@@ -57,8 +58,9 @@ fn call<F: Files>(alloc: Global, words: &Words, files: &mut F) -> Called
     }
 }
 
-/// Proves the problem that the words name, or checks the text of a refutation against it, or makes and proves one, or looks for a
-/// finite model of it, or compares the two sides of its conjecture, and writes the report. The words are those behind the program's name. All is built before the first byte is written, and from then on no memory is taken.
+/// Proves the problem that the words name, by one mode or by several that take turns, or checks the text of a refutation against it, or makes
+/// and proves one, or looks for a finite model of it, or compares the two sides of its conjecture, and writes the report. The words are those
+/// behind the program's name. All is built before the first byte is written, and from then on no memory is taken.
 pub fn satallax<F: Files, S: Sink>(
     alloc: Global,
     words: &Words,
@@ -73,10 +75,15 @@ pub fn satallax<F: Files, S: Sink>(
         → IsWritten words.now (F.tells files.old) (F.contents files.old) (F.faults files.old) (F.faults files.new) (S.written out.old) (S.written out.new) result }
 
     // Where a proof is reported, what is written holds one refutation, the one that was found. It is accepted: so the check of these bytes
-    // accepts them, its tableau is closed, and no model meets the problem. After the reported number of commands, and not before, the clauses
-    // of the search are unsatisfiable.
+    // accepts them, its tableau is closed, and no model meets the problem. After the number of commands that the run of its mode needs, and not
+    // before, the clauses of the search are unsatisfiable.
     ensures proof { IsTrue (S.tells out.old) → IsProvedOutcome result
         → Appends (S.written out.old) (S.written out.new) (IsProofReport words.now (F.tells files.old) (F.contents files.old) result) }
+
+    // Where a schedule is asked for and its runs end it, a proof is reported exactly where the run of some block is proved, and else how the
+    // schedule ends.
+    ensures schedule { (file problem : List ℕ) → asked_by words.now ≡ Some (by_schedule file problem) → IsOfRuns result
+        → HasScheduleSo words.now (F.tells files.old) (F.contents files.old) file result }
 
     // Where a proof is reported, of the problem in a file or of a generated one, or a text is accepted, no model meets the problem.
     ensures no_model { ShowsNoModel result → HasNoModel words.now (F.tells files.old) (F.contents files.old) }

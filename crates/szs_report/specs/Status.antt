@@ -1,7 +1,7 @@
 -- The exit status of an outcome.
 use Rattle.std.specs.Prelude.{ℕ}
 use Rattle.szs_report.specs.declared.outcome.Outcome.{Outcome}
-use Rattle.szs_report.specs.declared.outcome.Outcome.TheVariants.{Theorem, Unsatisfiable, GaveUp, CommandLimit, ConflictLimit, DemoDone, Accepted, Refused, CounterSatisfiable, Satisfiable, NoneSmall, ModelsTooMany, Same, Different, NoEquation, SyntaxAt, TypeAt, IncludeAt, ModeAt, Words, TooLong, ReadFault, WriteFault, Memory}
+use Rattle.szs_report.specs.declared.outcome.Outcome.TheVariants.{Theorem, Unsatisfiable, GaveUp, CommandLimit, ConflictLimit, DemoDone, Accepted, Refused, CounterSatisfiable, Satisfiable, NoneSmall, ModelsTooMany, Same, Different, NoEquation, SyntaxAt, TypeAt, IncludeAt, ModeAt, ScheduleAt, Words, TooLong, ReadFault, WriteFault, Memory}
 
 abbrev pub status_of : Outcome → ℕ
 status_of Theorem = 0
@@ -25,6 +25,7 @@ status_of (IncludeAt file at why) = 12
 status_of (ModeAt line why) = 13
 status_of Words = 14
 status_of (TooLong file) = 15
+status_of (ScheduleAt line why) = 17
 status_of (ReadFault file) = 20
 status_of WriteFault = 21
 status_of Memory = 30

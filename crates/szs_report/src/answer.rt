@@ -5,7 +5,7 @@ ghost use Rattle.szs_report.specs.Outcomes.{claim_outcome, file_ref, outcome_of}
 ghost use Rattle.szs_report.specs.Report.{file_name};
 ghost use Rattle.szs_report.specs.declared.outcome.Outcome.TheVariants as outcome;
 
-use crate::outcome::{FileRef, IncludeWhy, ModeWhy, Outcome};
+use crate::outcome::{FileRef, IncludeWhy, ModeWhy, Outcome, ScheduleWhy};
 use crate::proof_text::ProofText;
 use outside::Bytes;
 use tableau_calculus::Why;
@@ -41,6 +41,8 @@ pub enum NamedFile {
     Part { number: u32, names: FileNames },
     /// The file of a mode.
     Mode { name: Bytes },
+    /// The file of a schedule.
+    Schedule { name: Bytes },
     /// The text of a refutation that is checked.
     Check { name: Bytes },
 }
@@ -48,10 +50,12 @@ pub enum NamedFile {
 /// What a call answers, with what its report needs. Places count the bytes of a file from 0.
 #[derive(Drop)]
 pub enum Answer {
-    /// The problem is proved after so many commands. The text is that of a refutation.
+    /// The problem is proved after so many commands. The text is that of a refutation. Where several modes take turns, the commands of all
+    /// are counted, and the mode is that which proved it, counted from 1.
     Proved {
         claim: Claim,
         commands: u32,
+        mode: Option<u32>,
         tree: TreeReport,
         text: ProofText,
     },
@@ -126,9 +130,14 @@ pub enum Answer {
         line: u32,
         why: ModeWhy,
     },
+    /// The line of the schedule's file, counted from 1, isn't taken.
+    ScheduleAt {
+        line: u32,
+        why: ScheduleWhy,
+    },
     /// The words ask for nothing that the program does.
     Words,
-    /// With this file, the problem's files, the mode's file or the text that is checked have too many bytes.
+    /// With this file, the problem's files, the mode's file, the schedule's file or the text that is checked have too many bytes.
     TooLong {
         file: NamedFile,
     },
@@ -160,7 +169,8 @@ impl NamedFile {
     {
         match self {
             NamedFile::Part { number, names } => part_name(names, *number),
-            NamedFile::Mode { name } | NamedFile::Check { name } => name.as_slice(),
+            NamedFile::Mode { name } | NamedFile::Schedule { name } | NamedFile::Check { name } =>
+                name.as_slice(),
         }
     }
 
@@ -171,6 +181,7 @@ impl NamedFile {
         match self {
             NamedFile::Part { number, .. } => FileRef::Part(*number),
             NamedFile::Mode { .. } => FileRef::Mode,
+            NamedFile::Schedule { .. } => FileRef::Schedule,
             NamedFile::Check { .. } => FileRef::Check,
         }
     }
@@ -249,6 +260,10 @@ impl Answer {
             Answer::TypeAt { file, at, why } => type_outcome(file, *at, *why),
             Answer::IncludeAt { file, at, why } => include_outcome(file, *at, *why),
             Answer::ModeAt { line, why } => Outcome::ModeAt {
+                line: *line,
+                why: *why,
+            },
+            Answer::ScheduleAt { line, why } => Outcome::ScheduleAt {
                 line: *line,
                 why: *why,
             },

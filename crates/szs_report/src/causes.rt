@@ -1,9 +1,9 @@
 //! The words that reports have for causes.
 
 ghost use Rattle.std.specs.Prelude.{◌≡◌};
-ghost use Rattle.szs_report.specs.Report.{ill_word, include_word, mode_word, why_word};
+ghost use Rattle.szs_report.specs.Report.{ill_word, include_word, mode_word, schedule_word, why_word};
 
-use crate::outcome::{IncludeWhy, ModeWhy};
+use crate::outcome::{IncludeWhy, ModeWhy, ScheduleWhy};
 use tableau_calculus::Why;
 use type_check::IllWhy;
 
@@ -55,5 +55,18 @@ pub(crate) fn mode_word(why: ModeWhy) -> &'static [u8]
         ModeWhy::Twice => b"twice",
         ModeWhy::BadNumber => b"number",
         ModeWhy::OutOfRange => b"range",
+    }
+}
+
+pub(crate) fn schedule_word(why: ScheduleWhy) -> &'static [u8]
+    ensures { result.now ≡ schedule_word why }
+{
+    match why {
+        ScheduleWhy::UnknownKey => b"key",
+        ScheduleWhy::Twice => b"twice",
+        ScheduleWhy::BadNumber => b"number",
+        ScheduleWhy::OutOfRange => b"range",
+        ScheduleWhy::NoSlice => b"noslice",
+        ScheduleWhy::TooManyBlocks => b"toomany",
     }
 }

@@ -10,6 +10,6 @@ mod report;
 
 pub use answer::{Answer, Claim, NamedFile, TreeReport};
 pub use model_lines::model_text;
-pub use outcome::{FileRef, IncludeWhy, ModeWhy, Outcome};
+pub use outcome::{FileRef, IncludeWhy, ModeWhy, Outcome, ScheduleWhy};
 pub use proof_text::ProofText;
 pub use report::write_report;

@@ -13,6 +13,8 @@ pub enum FileRef {
     Part(u32),
     /// The file of a mode.
     Mode,
+    /// The file of a schedule.
+    Schedule,
     /// The text of a refutation that is checked.
     Check,
 }
@@ -39,6 +41,23 @@ pub enum ModeWhy {
     BadNumber,
     /// Its number is above the greatest that the key takes.
     OutOfRange,
+}
+
+/// Why a line of a schedule's file isn't taken.
+#[derive(Clone, Copy, Debug, PartialEq, Eq)]
+pub enum ScheduleWhy {
+    /// Its first word is neither `slice` nor a key.
+    UnknownKey,
+    /// A line before gives a number to its key, in the same block.
+    Twice,
+    /// Its first word isn't followed by a number alone.
+    BadNumber,
+    /// Its number isn't within the range of the key or of a slice.
+    OutOfRange,
+    /// There is no block yet to which its key belongs, or the file has none and this is the line behind its last one.
+    NoSlice,
+    /// It begins one more block than there may be.
+    TooManyBlocks,
 }
 
 /// How a call of the prover ends. Places count the bytes of a file from 0.
@@ -111,10 +130,15 @@ pub enum Outcome {
         line: u32,
         why: ModeWhy,
     },
+    /// The line of the schedule's file, counted from 1, isn't taken.
+    ScheduleAt {
+        line: u32,
+        why: ScheduleWhy,
+    },
     /// The words ask for nothing that the program does.
     Words,
-    /// With this file, the problem's files have more than 16,777,216 bytes together, or the mode's file or the text that is checked has more of
-    /// them.
+    /// With this file, the problem's files have more than 16,777,216 bytes together, or the mode's file, the schedule's file or the text that
+    /// is checked has more of them.
     TooLong {
         file: FileRef,
     },
@@ -151,6 +175,7 @@ impl Outcome {
             Outcome::ModeAt { .. } => 13,
             Outcome::Words => 14,
             Outcome::TooLong { .. } => 15,
+            Outcome::ScheduleAt { .. } => 17,
             Outcome::ReadFault { .. } => 20,
             Outcome::WriteFault => 21,
             Outcome::Memory => 30,

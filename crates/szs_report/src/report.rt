@@ -6,11 +6,11 @@ ghost use Rattle.outside.specs.Prefix.{AppendsProperly};
 ghost use Rattle.outside.specs.Writing.{Took, Stopped};
 ghost use Rattle.refute_print.specs.Text.{as_bytes};
 ghost use Rattle.refute_text.specs.Reading.{start_mark, end_mark};
-ghost use Rattle.szs_report.specs.Report.{headed_report, line_report, tree_lines, counted_report, proof_report, model_report, claim_status, file_name, place_report, ill_word, include_word, mode_word, why_word, refused_report, refused_in, demo_report, line_why, report_of};
+ghost use Rattle.szs_report.specs.Report.{headed_report, line_report, mode_lines, tree_lines, detail_lines, counted_report, proof_report, model_report, claim_status, file_name, place_report, ill_word, include_word, mode_word, schedule_word, why_word, refused_report, refused_in, demo_report, line_why, report_of};
 
 use crate::answer::{Answer, Claim, NamedFile, TreeReport};
-use crate::causes::{ill_word, include_word, mode_word, why_word};
-use crate::outcome::{IncludeWhy, ModeWhy};
+use crate::causes::{ill_word, include_word, mode_word, schedule_word, why_word};
+use crate::outcome::{IncludeWhy, ModeWhy, ScheduleWhy};
 use crate::proof_text::ProofText;
 use itoa::Buffer;
 use outside::{Bytes, Failed, Sink, write_all_counted, write_pieces};
@@ -35,7 +35,7 @@ const NO_MODEL: &[u8] = b"% no model up to ";
 const TOO_MANY: &[u8] = b"% models too many at size ";
 
 const USAGE: &[u8] =
-    b"% usage: satallax [--mode FILE] [--check FILE] [--demo N] [--models K] [--tree N] [--strict FILE] [--same] PROBLEM\n";
+    b"% usage: satallax [--mode FILE] [--check FILE] [--demo N] [--models K] [--schedule FILE] [--tree N] [--strict FILE] [--same] PROBLEM\n";
 
 /// Writes a report of two lines.
 fn write_headed<S: Sink>(
@@ -105,6 +105,28 @@ fn write_tree<S: Sink>(out: &mut S, tree: TreeReport) -> Result<(), Failed>
     Ok(())
 }
 
+/// Writes the mode that proved the problem, where several take turns.
+fn write_mode_line<S: Sink>(out: &mut S, mode: Option<u32>) -> Result<(), Failed>
+    ensures took { OnOk result (Took S.tells S.written S.faults out.old out.new (as_bytes (mode_lines mode))) }
+    ensures stopped { OnErr result (Stopped S.tells S.written S.faults out.old out.new (as_bytes (mode_lines mode))) }
+{
+    match mode {
+        None => {}
+        Some(number) => write_number_line(out, b"% mode ", number)?,
+    }
+    Ok(())
+}
+
+/// Writes what is told of a proof beside its commands.
+fn write_details<S: Sink>(out: &mut S, mode: Option<u32>, tree: TreeReport) -> Result<(), Failed>
+    ensures took { OnOk result (Took S.tells S.written S.faults out.old out.new (as_bytes (detail_lines mode tree))) }
+    ensures stopped { OnErr result (Stopped S.tells S.written S.faults out.old out.new (as_bytes (detail_lines mode tree))) }
+{
+    write_mode_line(out, mode)?;
+    write_tree(out, tree)?;
+    Ok(())
+}
+
 /// Writes the line above the text of a refutation.
 fn write_start_mark<S: Sink>(out: &mut S, name: &[u8]) -> Result<(), Failed>
     ensures took { OnOk result (Took S.tells S.written S.faults out.old out.new (as_bytes ((start_mark ++ name.now) ∷ []))) }
@@ -120,15 +142,16 @@ fn write_proof_start<S: Sink>(
     status: &[u8],
     name: &[u8],
     commands: &[u8],
+    mode: Option<u32>,
     tree: TreeReport,
 ) -> Result<(), Failed>
     ensures took { OnOk result (Took S.tells S.written S.faults out.old out.new
-        (as_bytes ((status.now ++ name.now) ∷ (codes "% commands " ++ commands.now) ∷ (tree_lines tree ++ (start_mark ++ name.now) ∷ [])))) }
+        (as_bytes ((status.now ++ name.now) ∷ (codes "% commands " ++ commands.now) ∷ (detail_lines mode tree ++ (start_mark ++ name.now) ∷ [])))) }
     ensures stopped { OnErr result (Stopped S.tells S.written S.faults out.old out.new
-        (as_bytes ((status.now ++ name.now) ∷ (codes "% commands " ++ commands.now) ∷ (tree_lines tree ++ (start_mark ++ name.now) ∷ [])))) }
+        (as_bytes ((status.now ++ name.now) ∷ (codes "% commands " ++ commands.now) ∷ (detail_lines mode tree ++ (start_mark ++ name.now) ∷ [])))) }
 {
     write_proof_head(out, status, name, commands)?;
-    write_tree(out, tree)?;
+    write_details(out, mode, tree)?;
     write_start_mark(out, name)?;
     Ok(())
 }
@@ -157,13 +180,14 @@ fn write_proof_parts<S: Sink>(
     status: &[u8],
     name: &[u8],
     commands: &[u8],
+    mode: Option<u32>,
     tree: TreeReport,
     text: &ProofText,
 ) -> Result<(), Failed>
-    ensures took { OnOk result (Took S.tells S.written S.faults out.old out.new (counted_report status.now name.now commands.now (tree_lines tree) text.now)) }
-    ensures stopped { OnErr result (Stopped S.tells S.written S.faults out.old out.new (counted_report status.now name.now commands.now (tree_lines tree) text.now)) }
+    ensures took { OnOk result (Took S.tells S.written S.faults out.old out.new (counted_report status.now name.now commands.now (detail_lines mode tree) text.now)) }
+    ensures stopped { OnErr result (Stopped S.tells S.written S.faults out.old out.new (counted_report status.now name.now commands.now (detail_lines mode tree) text.now)) }
 {
-    write_proof_start(out, status, name, commands, tree)?;
+    write_proof_start(out, status, name, commands, mode, tree)?;
     write_text(out, text)?;
     write_proof_end(out, name)?;
     Ok(())
@@ -185,13 +209,14 @@ fn write_proof<S: Sink>(
     name: &[u8],
     claim: Claim,
     commands: u32,
+    mode: Option<u32>,
     tree: TreeReport,
     text: &ProofText,
 ) -> Result<(), Failed>
     ensures appended { OnOk result (IsTrue (S.tells out.old)
-        → S.written out.new ≡ S.written out.old ++ proof_report (claim_status claim) name.now commands tree text.now) }
+        → S.written out.new ≡ S.written out.old ++ proof_report (claim_status claim) name.now commands mode tree text.now) }
     ensures failed { OnErr result (IsTrue (S.tells out.old)
-        → AppendsProperly (S.written out.old) (S.written out.new) (proof_report (claim_status claim) name.now commands tree text.now)) }
+        → AppendsProperly (S.written out.old) (S.written out.new) (proof_report (claim_status claim) name.now commands mode tree text.now)) }
     ensures quiet { OnOk result (S.faults out.new ≡ S.faults out.old) }
     ensures cause { OnErr result (Rose (S.faults out.old) (S.faults out.new)) }
     ensures later { S.faults out.old ≤ S.faults out.new }
@@ -200,7 +225,7 @@ fn write_proof<S: Sink>(
     let mut buffer = Buffer::new();
     let digits = buffer.format(commands).as_bytes();
     let status = claim_status(claim);
-    write_proof_parts(out, status, name, digits, tree, text)?;
+    write_proof_parts(out, status, name, digits, mode, tree, text)?;
     Ok(())
 }
 
@@ -563,26 +588,26 @@ fn write_demo<S: Sink>(out: &mut S, name: &[u8], claim: Claim, commands: u32) ->
     write_demo_pieces(out, status, name, digits)
 }
 
-/// Writes the pieces of the report of a line of a mode's file, in digits.
-fn write_mode_pieces<S: Sink>(
+/// Writes the report of a line that isn't taken, and why.
+fn write_line_why<S: Sink>(
     out: &mut S,
     name: &[u8],
-    line: &[u8],
     word: &[u8],
+    line: u32,
+    why: &[u8],
 ) -> Result<(), Failed>
     ensures appended { OnOk result (IsTrue (S.tells out.old)
-        → S.written out.new ≡ S.written out.old ++ headed_report (codes "% SZS status InputError for ") name.now (codes "% mode ") (line_why line.now word.now)) }
+        → S.written out.new ≡ S.written out.old ++ headed_report (codes "% SZS status InputError for ") name.now word.now (line_why (decimal line) why.now)) }
     ensures failed { OnErr result (IsTrue (S.tells out.old)
-        → AppendsProperly (S.written out.old) (S.written out.new) (headed_report (codes "% SZS status InputError for ") name.now (codes "% mode ") (line_why line.now word.now))) }
+        → AppendsProperly (S.written out.old) (S.written out.new) (headed_report (codes "% SZS status InputError for ") name.now word.now (line_why (decimal line) why.now))) }
     ensures quiet { OnOk result (S.faults out.new ≡ S.faults out.old) }
     ensures cause { OnErr result (Rose (S.faults out.old) (S.faults out.new)) }
     ensures later { S.faults out.old ≤ S.faults out.new }
     ensures telling { IsTrue (S.tells out.old) → IsTrue (S.tells out.new) }
 {
-    write_pieces(
-        out,
-        &[INPUT_ERROR, name, b"\n% mode ", line, b" ", word, b"\n"],
-    )
+    let mut buffer = Buffer::new();
+    let digits = buffer.format(line).as_bytes();
+    write_place(out, INPUT_ERROR, name, word, digits, why)
 }
 
 /// Writes the report of a line of a mode's file.
@@ -596,9 +621,26 @@ fn write_mode<S: Sink>(out: &mut S, name: &[u8], line: u32, why: ModeWhy) -> Res
     ensures later { S.faults out.old ≤ S.faults out.new }
     ensures telling { IsTrue (S.tells out.old) → IsTrue (S.tells out.new) }
 {
-    let mut buffer = Buffer::new();
-    let digits = buffer.format(line).as_bytes();
-    write_mode_pieces(out, name, digits, mode_word(why))
+    write_line_why(out, name, b"% mode ", line, mode_word(why))
+}
+
+/// Writes the report of a line of a schedule's file.
+fn write_schedule<S: Sink>(
+    out: &mut S,
+    name: &[u8],
+    line: u32,
+    why: ScheduleWhy,
+) -> Result<(), Failed>
+    ensures appended { OnOk result (IsTrue (S.tells out.old)
+        → S.written out.new ≡ S.written out.old ++ headed_report (codes "% SZS status InputError for ") name.now (codes "% schedule ") (line_why (decimal line) (schedule_word why))) }
+    ensures failed { OnErr result (IsTrue (S.tells out.old)
+        → AppendsProperly (S.written out.old) (S.written out.new) (headed_report (codes "% SZS status InputError for ") name.now (codes "% schedule ") (line_why (decimal line) (schedule_word why)))) }
+    ensures quiet { OnOk result (S.faults out.new ≡ S.faults out.old) }
+    ensures cause { OnErr result (Rose (S.faults out.old) (S.faults out.new)) }
+    ensures later { S.faults out.old ≤ S.faults out.new }
+    ensures telling { IsTrue (S.tells out.old) → IsTrue (S.tells out.new) }
+{
+    write_line_why(out, name, b"% schedule ", line, schedule_word(why))
 }
 
 /// Writes the report of an answer for a problem of this name.
@@ -616,9 +658,10 @@ pub fn write_report<S: Sink>(out: &mut S, name: &[u8], answer: &Answer) -> Resul
         Answer::Proved {
             claim,
             commands,
+            mode,
             tree,
             text,
-        } => write_proof(out, name, *claim, *commands, *tree, text),
+        } => write_proof(out, name, *claim, *commands, *mode, *tree, text),
         Answer::GaveUp { commands } => {
             write_numbered(out, GAVE_UP, name, b"% commands ", *commands)
         }
@@ -642,6 +685,7 @@ pub fn write_report<S: Sink>(out: &mut S, name: &[u8], answer: &Answer) -> Resul
         Answer::TypeAt { file, at, why } => write_ill(out, name, file, *at, *why),
         Answer::IncludeAt { file, at, why } => write_include(out, name, file, *at, *why),
         Answer::ModeAt { line, why } => write_mode(out, name, *line, *why),
+        Answer::ScheduleAt { line, why } => write_schedule(out, name, *line, *why),
         Answer::Words => write_all_counted(out, USAGE),
         Answer::TooLong { file } => write_file(out, name, b"% too long ", file),
         Answer::ReadFault { file } => write_file(out, name, b"% read fault ", file),

@@ -15,7 +15,7 @@ use Rattle.tableau_clauses.specs.Internal.Stepping.{with_steps}
 pub none_come : EachComes ([], [])
 none_come n s h = cc
 
-get-push : {A : Type 0} (P : Type 0) (xs : List A) (x y : A) (i : ℕ) → slice_get (xs ++ x ∷ []) i ≡ Some y → (slice_get xs i ≡ Some y → P) → (x ≡ y → P) → P
+pub get-push : {A : Type 0} (P : Type 0) (xs : List A) (x y : A) (i : ℕ) → slice_get (xs ++ x ∷ []) i ≡ Some y → (slice_get xs i ≡ Some y → P) → (x ≡ y → P) → P
 get-push P [] x y zero h old new = new cc
 get-push P [] x y (suc i) h old new = cc
 get-push P (z ∷ xs) x y zero h old new = old h

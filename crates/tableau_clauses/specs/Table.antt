@@ -1,5 +1,5 @@
 -- What a table of steps holds: clauses, each with where it comes from, and instances of rules.
-use Rattle.std.specs.Prelude.{◌≡◌, ℕ, List, [], ◌∷◌, map, Some, slice_get, Contains}
+use Rattle.std.specs.Prelude.{◌≡◌, ◌<◌, ◌≤◌, ℕ, List, [], ◌∷◌, map, Some, slice_get, Contains}
 use Rattle.sat_base.specs.declared.literal.SatLit.{SatLit}
 use Rattle.literal_map.specs.declared.instance.Instance.{Instance}
 use Rattle.search_spec.specs.Clauses.{instance_clauses}
@@ -37,3 +37,9 @@ ComesFromOrigin instances clause (From k) = (i : Instance) × (slice_get instanc
 -- each clause comes from where it is said to come from
 abbrev pub EachComes : Table → Type 0
 EachComes t = (n : ℕ) (s : Step) → slice_get t.0 n ≡ Some s → ComesFromOrigin t.1 s.0 s.1
+
+-- The clauses of an earlier instance stand before those of a later one, and each clause comes from the first instance that has it.
+pub record StandInOrder (t : Table) : Type 0 where
+  pub sorted : (m n a b : ℕ) → slice_get (the_origins t) m ≡ Some (From a) → slice_get (the_origins t) n ≡ Some (From b) → a < b → m < n
+  pub first : (n a b : ℕ) (s : Step) (i : Instance) → slice_get t.0 n ≡ Some s → s.1 ≡ From b → slice_get t.1 a ≡ Some i
+      → Contains (instance_clauses numbers i.principals i.alternatives) s.0 → b ≤ a

@@ -5,7 +5,7 @@ ghost use Rattle.search_spec.specs.Clauses.{same_clause, instance_clauses, with_
 ghost use Rattle.search_spec.specs.Numbered.{numbers};
 ghost use Rattle.tableau_clauses.specs.declared.origin.Origin.TheVariants.{Start, Instance as From};
 ghost use Rattle.tableau_clauses.specs.Internal.Stepping.{with_steps, Adds};
-ghost use Rattle.tableau_clauses.specs.Table.{the_clauses, the_origins, the_instances, EachComes};
+ghost use Rattle.tableau_clauses.specs.Table.{the_clauses, the_origins, the_instances, EachComes, StandInOrder};
 
 use crate::choice::clauses_of;
 use crate::origin::Origin;
@@ -37,9 +37,9 @@ impl Model for StepTable {
 
     ghost view = { λ t. (t.steps, t.instances.items) };
 
-    ghost use Rattle.tableau_clauses.specs.Table.{EachComes};
+    ghost use Rattle.tableau_clauses.specs.Internal.Stepping.{IsRightTable};
 
-    ghost invariant = { λ t. EachComes (t.steps, t.instances.items) };
+    ghost invariant = { λ t. IsRightTable (t.steps, t.instances.items) };
 }
 
 impl StepTable {
@@ -56,6 +56,13 @@ impl StepTable {
     /// Each clause comes from its origin. This does nothing: what it says stands in its contract.
     pub fn clauses_come_from_origins(&self)
         ensures { EachComes self.now }
+    {
+        let _len = self.steps.len();
+    }
+
+    /// The clauses of the instances stand in the order of these. This does nothing: what it says stands in its contract.
+    pub fn clauses_stand_in_order(&self)
+        ensures { StandInOrder self.now }
     {
         let _len = self.steps.len();
     }

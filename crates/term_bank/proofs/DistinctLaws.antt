@@ -69,7 +69,7 @@ none_later eq x y (d ∷ es) zero e all g h =
     true≢false (sym h ∙ ap (λ z. eq x z.0) (sym s) ∙ all.0)
 none_later eq x y (d ∷ es) (suc i) e all g h = none_later eq x y es i e all.1 g h
 
-one_place : (es : List ShapeEntry) → IsDistinct is_node (map (λ e. e.0) es) → (i j : ℕ) (e f : ShapeEntry) → slice_get es i ≡ Some e → slice_get es j ≡ Some f → entry_shape e ≡ entry_shape f → i ≡ j
+pub one_place : (es : List ShapeEntry) → IsDistinct is_node (map (λ e. e.0) es) → (i j : ℕ) (e f : ShapeEntry) → slice_get es i ≡ Some e → slice_get es j ≡ Some f → entry_shape e ≡ entry_shape f → i ≡ j
 unfolding IsDistinct
 one_place [] d i j e f g h s = cc
 one_place (x ∷ es) d zero zero e f g h s = refl

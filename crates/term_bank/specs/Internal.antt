@@ -5,5 +5,6 @@ pub mod Marks
 pub mod MarksView
 pub mod Sound
 pub mod Inside
+pub mod Copied
 pub mod ContentCode
 pub mod Places

@@ -2,6 +2,7 @@
 #![tactic(auto)]
 
 mod bank;
+mod copy;
 mod declare;
 mod intern;
 mod key;

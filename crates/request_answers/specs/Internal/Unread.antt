@@ -1,4 +1,4 @@
--- What is answered in place of a problem or a mode that isn't read, and what is answered by files.
+-- What is answered in place of a problem, a mode or a schedule that isn't read, and what is answered by files.
 use Rattle.std.specs.Prelude.{◌≡◌, ℕ, Bool, true, false, List, Option, Some, None, Err}
 use Rattle.stt_core.specs.PlainProblem.{PlainProblem}
 use Rattle.thf_include.specs.View.{PlacedTree}
@@ -6,11 +6,13 @@ use Rattle.thf_include.specs.Gathering.{Ending, done, stopped}
 use Rattle.type_check.specs.Statements.{IllInFile, problem_of}
 use Rattle.outside.specs.Lines.{lines_of}
 use Rattle.mode_file.specs.Refusals.{Refuses}
+use Rattle.mode_schedule.specs.Refusals.{RefusesBlocks}
 use Rattle.szs_report.specs.declared.answer.Answer.{Answer}
-use Rattle.szs_report.specs.declared.answer.Answer.TheVariants.{Accepted, TypeAt, ModeAt, TooLong, ReadFault, Memory}
-use Rattle.szs_report.specs.declared.answer.NamedFile.TheVariants.{Part, Mode}
+use Rattle.szs_report.specs.declared.answer.Answer.TheVariants.{Accepted, TypeAt, ModeAt, ScheduleAt, TooLong, ReadFault, Memory}
+use Rattle.szs_report.specs.declared.answer.NamedFile.TheVariants.{Part, Mode, Schedule}
 use Rattle.request_answers.specs.Files.{OfFiles}
 use Rattle.request_answers.specs.Modes.{OfFile, IsLongFile, refused_at}
+use Rattle.request_answers.specs.Schedules.{refused_schedule_at}
 use Rattle.request_answers.specs.Answers.{stop_answer, AnswersEnding}
 
 -- the statements have no meaning, and are answered so
@@ -44,6 +46,14 @@ IsUnreadMode told contents file answer = ⊥
 abbrev pub IsUnaskedMode : Bool → (List ℕ → Option (List ℕ)) → Option (List ℕ) → Answer → Type 0
 IsUnaskedMode told contents None answer = ⊥
 IsUnaskedMode told contents (Some file) answer = IsUnreadMode told contents file answer
+
+-- a schedule's file states none, and is answered so, or memory ran out
+abbrev pub IsUnreadSchedule : Bool → (List ℕ → Option (List ℕ)) → List ℕ → Answer → Type 0
+IsUnreadSchedule told contents file Memory = Unit {0}
+IsUnreadSchedule told contents file (ReadFault (Schedule own)) = own ≡ file
+IsUnreadSchedule told contents file (TooLong (Schedule own)) = (own ≡ file) × IsLongFile told contents file
+IsUnreadSchedule told contents file (ScheduleAt line why) = OfFile told contents file (λ bytes. RefusesBlocks (lines_of bytes) (refused_schedule_at why line))
+IsUnreadSchedule told contents file answer = ⊥
 
 -- the files of a problem are answered so, where the problem is answered as Answers says
 abbrev pub IsFilesAnswer : (PlainProblem → Answer → Type 0) → List ℕ → Bool → (List ℕ → Option (List ℕ)) → Answer → Type 0

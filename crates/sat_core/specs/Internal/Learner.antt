@@ -81,12 +81,12 @@ pub record AreSpentConflicts (clauses learned : List (List SatLit)) (budget conf
   pub few : (variables : List Var) → AreAmong variables clauses → budget < 3 ^ length variables
 
 -- what callers see of a learner, with these values
-abbrev pub shown : List Bool → Learner → SolverState
-shown values s = record { values = values; clauses = s.clauses; log = s.log; is_refuted = s.is_refuted }
+abbrev pub state_with : List Bool → Learner → SolverState
+state_with values s = record { values = values; clauses = s.clauses; log = s.log; is_refuted = s.is_refuted }
 
 -- what callers see of a learner, with the last values of its trail
 abbrev pub seen : Learner → SolverState
-seen s = shown s.propagator.trail.phases s
+seen s = state_with s.propagator.trail.phases s
 
 -- what an answer says of the solver
 abbrev pub AnswersSolve : ℕ → SolverState → Answer → Type 0

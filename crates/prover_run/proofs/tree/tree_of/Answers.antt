@@ -70,7 +70,7 @@ returns c =
     let apart_here = apart b lits r.basis.atoms c.equal_ids_for_equal_terms.ensures c.atoms_differ.ensures in
     record {
       instances = map (instance_at b lits t.steps t.basis.witnesses t.solver.log) used;
-      used = used_named b lits t.steps t.basis.witnesses t.solver.log used by_log;
+      used = used_named b lits t.steps t.basis.witnesses t.solver.log c.clauses_come_from_origins.ensures c.clauses_stand_in_order.ensures used c.in_ok-instances.ensures.increasing by_log;
       branch = start_branch t.steps;
       begins = begins_named b lits t.steps t.basis.witnesses t.solver.log apart_here (units-numbered t.basis r.basis t.steps.0 r.clauses) (start_in t) (sym units);
       comes = subst U (sym (expanded_named b lits t.steps t.basis.witnesses t.solver.log used)) told.exactly;

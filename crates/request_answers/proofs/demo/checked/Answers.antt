@@ -14,4 +14,4 @@ unreachable-requires c =
     let m = mode_of nothing_given in
     c.in_ok-is_accepted.ensures.refused c.if-branch.false
     (subst (IsAcceptedText Allowed p) (sym (c.as_slice.ensures ∙ c.in_ok-bytes.ensures ∙ ap (report_of name) c.in-Proved.is))
-    (report_accepted None m p c.in-Proved.claim c.in-Proved.commands c.in-Proved.tree c.in-Proved.text name c.requires.named (subst (IsSolved None m p) c.in-Proved.is c.requires.solved)))
+    (report_accepted None m p c.in-Proved.claim c.in-Proved.commands c.in-Proved.mode c.in-Proved.tree c.in-Proved.text name c.requires.named (subst (IsSolved None m p) c.in-Proved.is c.requires.solved)))

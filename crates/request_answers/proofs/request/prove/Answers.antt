@@ -1,4 +1,4 @@
-use Rattle.std.proofs.Common.{subst}
+use Rattle.std.proofs.Common.{[], refl, subst}
 use Rattle.std.specs.Prelude.{option_map}
 use Rattle.cli_words.specs.Requests.{prove}
 use Rattle.request_answers.specs.Solved.{IsSolved}
@@ -13,7 +13,7 @@ returns-in-Ok-clause-answers g c =
     let p = c.args.problem.now in
     let m = c.in-Ok.mode in
     let a = c.prove_by.result in
-    files_request (prove p (option_map (λ f. f.now) c.args.mode) c.args.nodes) told contents m c.in-Ok.ensures.stated a
+    files_request (prove p (option_map (λ f. f.now) c.args.mode) c.args.nodes) told contents m c.in-Ok.ensures.stated [] refl a
     (subst (λ t. IsFilesAnswer (IsSolved c.args.nodes m) p t contents a) c.mode_by.ensures.telling
     (subst (λ x. IsFilesAnswer (IsSolved c.args.nodes m) p (g.F.Files.tells c.mode_by.new.files) x a) c.mode_by.ensures.same c.prove_by.ensures.answers))
 

@@ -2,6 +2,7 @@ use Rattle.std.proofs.Common.{ap, ◌++◌, ◌∙◌}
 use Rattle.szs_report.specs.Report.{report_of}
 use Rattle.satallax_top.proofs.HeadlineLaws.{proof_appended, no_model_answer, sides_answer, defined_answer}
 use Rattle.satallax_top.proofs.ModelLaws.{model_appended, models_answer}
+use Rattle.satallax_top.proofs.ScheduleLaws.{schedule_told}
 use Rattle.satallax_top.proofs.top.satallax.Goals as goal
 
 pub returns-in-Ok-clause-proof : goal.returns-in-Ok-clause-proof
@@ -14,6 +15,10 @@ returns-in-Ok-clause-proof g c = λ told proved.
 pub returns-in-Ok-clause-no_model : goal.returns-in-Ok-clause-no_model
 returns-in-Ok-clause-no_model g c = λ shows.
     no_model_answer c.args.words.now (g.F.Files.tells c.args.files.now) (g.F.Files.contents c.args.files.now) c.outcome.result c.call-called.result.answer c.call-called.ensures.answers c.outcome.ensures shows
+
+pub returns-in-Ok-clause-schedule : goal.returns-in-Ok-clause-schedule
+returns-in-Ok-clause-schedule g c = λ file problem asked ends.
+    schedule_told c.args.words.now (g.F.Files.tells c.args.files.now) (g.F.Files.contents c.args.files.now) c.outcome.result c.call-called.result.answer c.call-called.ensures.answers c.outcome.ensures file problem asked ends
 
 pub returns-in-Ok-clause-model : goal.returns-in-Ok-clause-model
 returns-in-Ok-clause-model g c = λ told model.

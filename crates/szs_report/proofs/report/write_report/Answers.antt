@@ -69,6 +69,9 @@ returns-in-DemoDone-clause-appended g c = rw (c.in-DemoDone.is) c.write_demo.ens
 pub returns-in-ModeAt-clause-appended : goal.returns-in-ModeAt-clause-appended
 returns-in-ModeAt-clause-appended g c = rw (c.in-ModeAt.is) c.write_mode.ensures.appended
 
+pub returns-in-ScheduleAt-clause-appended : goal.returns-in-ScheduleAt-clause-appended
+returns-in-ScheduleAt-clause-appended g c = rw (c.in-ScheduleAt.is) c.write_schedule.ensures.appended
+
 pub returns-in-UnreadWords-clause-appended : goal.returns-in-UnreadWords-clause-appended
 returns-in-UnreadWords-clause-appended g c = rw (c.in-UnreadWords.is) c.write_all_counted-in-UnreadWords.ensures.appended
 

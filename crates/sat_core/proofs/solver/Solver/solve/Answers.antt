@@ -2,7 +2,7 @@ use Rattle.std.proofs.Common.{◌≡◌, true, ℕ, sym, subst, ◌∙◌}
 use Rattle.sat_base.specs.Literal.{IsOver}
 use Rattle.sat_base.specs.Truth.{Unsat}
 use Rattle.sat_log.specs.declared.chain.Premise.TheVariants.{Clause}
-use Rattle.sat_core.specs.Internal.Learner.{AnswersSolve, seen, shown}
+use Rattle.sat_core.specs.Internal.Learner.{AnswersSolve, seen, state_with}
 use Rattle.sat_core.specs.Solver.{SolverState, SolverGrows}
 use Rattle.sat_core.proofs.SolverLaws.{unsat_of, grows_of, grows_same, grows_shown}
 use Rattle.sat_core.proofs.solver.Solver.solve.Goals as goal
@@ -21,21 +21,21 @@ pub returns-in_err-satisfy-clause-grows : goal.returns-in_err-satisfy-clause-gro
 returns-in_err-satisfy-clause-grows c =
     let s = c.self.inside in
     let keeper = c.satisfy.new.self in
-    subst (λ (state : SolverState). SolverGrows state (shown keeper.values.items s.learner)) c.self.view_is
+    subst (λ (state : SolverState). SolverGrows state (state_with keeper.values.items s.learner)) c.self.view_is
     (grows_shown s.learner s.learner s.keeper.values.items keeper.values.items c.satisfy.ensures.made (grows_same (seen s.learner)))
 
 pub returns-then-branch-clause-grows : goal.returns-then-branch-clause-grows
 returns-then-branch-clause-grows c =
     let s = c.self.inside in
     let keeper = c.satisfy.new.self in
-    subst (λ (state : SolverState). SolverGrows state (shown keeper.values.items s.learner)) c.self.view_is
+    subst (λ (state : SolverState). SolverGrows state (state_with keeper.values.items s.learner)) c.self.view_is
     (grows_shown s.learner s.learner s.keeper.values.items keeper.values.items c.satisfy.ensures.made (grows_same (seen s.learner)))
 
 pub returns-in_err-answer-clause-grows : goal.returns-in_err-answer-clause-grows
 returns-in_err-answer-clause-grows c =
     let s = c.self.inside in
     let keeper = c.satisfy.new.self in
-    subst (λ (state : SolverState). SolverGrows state (shown keeper.values.items c.solve.new.self)) c.self.view_is
+    subst (λ (state : SolverState). SolverGrows state (state_with keeper.values.items c.solve.new.self)) c.self.view_is
     (grows_shown s.learner c.solve.new.self s.keeper.values.items keeper.values.items c.satisfy.ensures.made (grows_of s.learner c.solve.new.self c.if-self.false c.solve.ensures.learner c.solve.ensures.grew))
 
 pub returns-then-ne-clause-unsat : goal.returns-then-ne-clause-unsat
@@ -47,19 +47,19 @@ pub returns-then-ne-clause-grows : goal.returns-then-ne-clause-grows
 returns-then-ne-clause-grows c =
     let s = c.self.inside in
     let keeper = c.satisfy.new.self in
-    subst (λ (state : SolverState). SolverGrows state (shown keeper.values.items c.solve.new.self)) c.self.view_is
+    subst (λ (state : SolverState). SolverGrows state (state_with keeper.values.items c.solve.new.self)) c.self.view_is
     (grows_shown s.learner c.solve.new.self s.keeper.values.items keeper.values.items c.satisfy.ensures.made (grows_of s.learner c.solve.new.self c.if-self.false c.solve.ensures.learner c.solve.ensures.grew))
 
 pub returns-in_err-adopt-clause-grows : goal.returns-in_err-adopt-clause-grows
 returns-in_err-adopt-clause-grows c =
     let s = c.self.inside in
     let keeper = c.adopt.new.self in
-    subst (λ (state : SolverState). SolverGrows state (shown keeper.values.items c.solve.new.self)) c.self.view_is
+    subst (λ (state : SolverState). SolverGrows state (state_with keeper.values.items c.solve.new.self)) c.self.view_is
     (grows_shown s.learner c.solve.new.self s.keeper.values.items keeper.values.items (c.adopt.ensures.made ∙ c.satisfy.ensures.made) (grows_of s.learner c.solve.new.self c.if-self.false c.solve.ensures.learner c.solve.ensures.grew))
 
 pub returns-clause-grows : goal.returns-clause-grows
 returns-clause-grows c =
     let s = c.self.inside in
     let keeper = c.adopt.new.self in
-    subst (λ (state : SolverState). SolverGrows state (shown keeper.values.items c.solve.new.self)) c.self.view_is
+    subst (λ (state : SolverState). SolverGrows state (state_with keeper.values.items c.solve.new.self)) c.self.view_is
     (grows_shown s.learner c.solve.new.self s.keeper.values.items keeper.values.items (c.adopt.ensures.made ∙ c.satisfy.ensures.made) (grows_of s.learner c.solve.new.self c.if-self.false c.solve.ensures.learner c.solve.ensures.grew))

@@ -4,12 +4,12 @@ use Rattle.search_spec.specs.Numbered.{numbers}
 use Rattle.tableau_clauses.specs.declared.origin.Origin.TheVariants.{Instance as From}
 use Rattle.tableau_clauses.specs.Table.{clauses_in, the_clauses, the_origins, the_instances}
 use Rattle.tableau_clauses.proofs.StepLaws.{clauses-with_steps, origins-added}
-use Rattle.tableau_clauses.proofs.SourceLaws.{instance_comes}
+use Rattle.tableau_clauses.proofs.OrderLaws.{instance_in_order}
 use Rattle.tableau_clauses.proofs.table.StepTable.add.Goals as goal
 
 pub invariant_of-self : goal.invariant_of-self
 invariant_of-self c =
-    instance_comes (c.self.inside.steps, c.self.inside.instances.items) (c.add_unless_refused.new.steps, c.add_unless_refused.new.instances.items) c.args.instance c.in_ok-clauses.clauses.items c.self.invariant c.in_ok-clauses.ensures c.in-Ok.ensures.steps c.in-Ok.ensures.instances
+    instance_in_order (c.self.inside.steps, c.self.inside.instances.items) (c.add_unless_refused.new.steps, c.add_unless_refused.new.instances.items) c.args.instance c.in_ok-clauses.clauses.items c.self.invariant c.in_ok-clauses.ensures c.in-Ok.ensures.steps c.in-Ok.ensures.instances
 
 pub returns-in-Ok-clause-clauses : goal.returns-in-Ok-clause-clauses
 returns-in-Ok-clause-clauses c =
