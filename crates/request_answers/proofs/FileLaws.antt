@@ -28,7 +28,7 @@ use Rattle.request_answers.specs.Internal.ReadFaults.{IsNoReadFault}
 use Rattle.request_answers.specs.Internal.Unread.{IsUnaskedMode, IsUnreadSchedule, IsUnstated, IsUnread, IsFilesAnswer}
 
 -- an answer of the file of a mode or of a schedule
-abbrev IsOfGuide : Answer → Type 0
+abbrev pub IsOfGuide : Answer → Type 0
 IsOfGuide (ReadFault (named.Mode file)) = Unit {0}
 IsOfGuide (TooLong (named.Mode file)) = Unit {0}
 IsOfGuide (ModeAt line why) = Unit {0}
@@ -106,6 +106,11 @@ module _ (r : Request) (told : Bool) (contents : List ℕ → Option (List ℕ))
   files_request (TooLong (named.Schedule f)) h = absurd (ending_not_guide told contents r m bs h.0 (TooLong (named.Schedule f)) h.1.ending tt h.1.holds)
   files_request (ScheduleAt line why) h = absurd (ending_not_guide told contents r m bs h.0 (ScheduleAt line why) h.1.ending tt h.1.holds)
   files_request a h = record { mode = m; is_mode = mode; blocks = bs; are_blocks = blocks; names = h.0; files = h.1 }
+
+-- files aren't answered as the file of a mode or of a schedule is
+pub files_not_guide : (r : Request) (told : Bool) (contents : List ℕ → Option (List ℕ)) (m : Mode) (bs : List Block) (a : Answer) → IsOfGuide a → IsFilesAnswer (AnswersProblem told contents r m bs) (problem_name r) (told_of told r) (contents_of contents r) a → ⊥
+files_not_guide r told contents m bs Memory o h = o
+files_not_guide r told contents m bs a o h = ending_not_guide told contents r m bs h.0 a h.1.ending o h.1.holds
 
 -- a mode's file that isn't read
 pub mode_request : (p : List ℕ) (file : Option (List ℕ)) (nodes : Option ℕ) (told : Bool) (contents : List ℕ → Option (List ℕ)) (a : Answer) → IsUnaskedMode told contents file a → AnswersRequest (prove p file nodes) told contents a

@@ -1,5 +1,6 @@
 -- What a call answers and writes has the meaning that it claims.
 use Rattle.std.proofs.Common.{◌≡◌, ◌+◌, ℕ, zero, suc, Bool, true, IsTrue, List, [], ◌∷◌, ◌++◌, slice_get, Option, Some, None, Result, Ok, Err, refl, sym, ap, ap₂, subst, ◌∙◌}
+use Rattle.std.proofs.lemmas.Option.{same_Some}
 use Rattle.outside.specs.Causes.{Rose}
 use Rattle.stt_core.specs.PlainProblem.{PlainProblem}
 use Rattle.stt_core.specs.TypedProblem.{IsTyped}
@@ -16,7 +17,7 @@ use Rattle.mode_file.specs.declared.Mode.{Mode}
 use Rattle.mode_schedule.specs.declared.Block.{Block}
 use Rattle.mode_schedule.specs.Turns.{Slot}
 use Rattle.mode_schedule.specs.Ends.{IsSpentIn}
-use Rattle.mode_schedule.specs.Scheduled.{slots_for}
+use Rattle.mode_schedule.specs.Scheduled.{slot_for, slots_for}
 use Rattle.cli_words.specs.Requests.{Request, prove, by_schedule, refutation, generated, models, sides, asked_by}
 use Rattle.cli_words.specs.declared.Cuts.{Cuts}
 use Rattle.cli_words.specs.declared.Cuts.TheVariants.{Allowed, Forbidden}
@@ -444,7 +445,9 @@ record ModeOfSlot (p : PlainProblem) (blocks : List Block) (k : ℕ) (slot : Slo
 
 mode-of-slot : (p : PlainProblem) (blocks : List Block) (k : ℕ) (slot : Slot) → slice_get (slots_for p blocks) k ≡ Some slot → ModeOfSlot p blocks k slot
 mode-of-slot p [] k slot e = absurd (cc)
-mode-of-slot p (b ∷ bs) zero slot e = record { block = b; its_block = refl; its_setting = cc }
+mode-of-slot p (b ∷ bs) zero slot e =
+    let same = same_Some (slot_for p b) slot e in
+    record { block = b; its_block = refl; its_setting = ap (λ (s : Slot). s.setting) (sym same) }
 mode-of-slot p (b ∷ bs) (suc k) slot e = let later = mode-of-slot p bs k slot e in record { block = later.block; its_block = later.its_block; its_setting = later.its_setting }
 
 -- conflicts that are enough aren't answered to be spent

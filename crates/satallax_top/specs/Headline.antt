@@ -144,10 +144,10 @@ IsTreeMade (Some (stripped.Over nodes)) = ⊥
 -- What is written where a proof is reported. The outcome is what the proof shows of the problem that the files state, and the bytes are its
 -- report. They hold one refutation, with the names of the definitions that are taken, so that they are an accepted text for the problem. It
 -- is accepted for the start of the unfolded problem, and the tableau of its last line closes that start. After a number of commands, and not
--- before, the clauses of the search by the mode are unsatisfiable. That number is reported, and where a schedule is asked for, the number of
--- the commands of all runs and the mode's. From the clauses a refutation is rebuilt. It is the one that is
--- written, unless a tree without cut is asked for and comes of the instances that it uses: then that of the tree is, and a check that forbids
--- cuts accepts the bytes too. No standard model with finite base types meets the problem.
+-- before, the clauses of the search by the mode are unsatisfiable, and from these clauses a refutation is rebuilt. That number is reported, or
+-- under a schedule the number of the commands of all runs, with that of the mode. The refutation is the one that is written, unless a tree
+-- without cut is asked for and comes of the instances that it uses: then that of the tree is, and a check that forbids cuts accepts the bytes
+-- too. No standard model with finite base types meets the problem.
 pub record IsProofReport (words : List (List ℕ)) (told : Bool) (contents : List ℕ → Option (List ℕ)) (outcome : Outcome) (written : List ℕ) : Type 0 where
   pub mode : Mode
   pub nodes : Option ℕ

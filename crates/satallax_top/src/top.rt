@@ -75,8 +75,8 @@ pub fn satallax<F: Files, S: Sink>(
         → IsWritten words.now (F.tells files.old) (F.contents files.old) (F.faults files.old) (F.faults files.new) (S.written out.old) (S.written out.new) result }
 
     // Where a proof is reported, what is written holds one refutation, the one that was found. It is accepted: so the check of these bytes
-    // accepts them, its tableau is closed, and no model meets the problem. After the number of commands that the run of its mode needs, and not
-    // before, the clauses of the search are unsatisfiable.
+    // accepts them, its tableau is closed, and no model meets the problem. After the reported number of commands, and not before, the clauses
+    // of the search are unsatisfiable; under a schedule, after a number of commands of the run that closes it.
     ensures proof { IsTrue (S.tells out.old) → IsProvedOutcome result
         → Appends (S.written out.old) (S.written out.new) (IsProofReport words.now (F.tells files.old) (F.contents files.old) result) }
 
