@@ -1,6 +1,7 @@
 #!/usr/bin/env python3
-"""Looks whether each link in the documents leads to a file of the repository, or to a heading of one, and whether the tables of docs/TRUST.md
-are those that tools/reading_list makes of the sources. Needs no program. Ends with 1 where something is wrong."""
+"""Looks whether each link in the documents leads to a file of the repository, or to a heading of one, whether each crate has a README, and
+whether the tables of docs/TRUST.md are those that tools/reading_list makes of the sources. Needs no program. Ends with 1 where something is
+wrong."""
 import os, re, subprocess, sys
 top = os.path.dirname(os.path.dirname(os.path.realpath(__file__)))
 wrong = []
@@ -28,7 +29,8 @@ for path in sorted(documents()):
         elif heading and heading not in headings(file): wrong.append('%s: no heading %s' % (os.path.relpath(path, top), target))
 for crate in sorted(os.listdir(os.path.join(top, 'crates'))):
     if not os.path.exists(os.path.join(top, 'crates', crate, 'README.md')): wrong.append('crates/%s has no README.md' % crate)
-list_check = subprocess.run([os.path.join(top, 'tools/reading_list'), '--check', os.path.join(top, 'docs/TRUST.md')], stderr=subprocess.PIPE, text=True)
+command = [os.path.join(top, 'tools/reading_list'), '--check', os.path.join(top, 'docs/TRUST.md')]
+list_check = subprocess.run(command, stderr=subprocess.PIPE, text=True)
 if list_check.returncode: wrong.append(list_check.stderr.strip())
 for line in wrong: print(line)
 print('%d links, %d wrong' % (links, len(wrong)))
