@@ -1,3 +1,4 @@
+pub use Rattle.delta_defs.specs.Unfolding
 pub use Rattle.mode_file.specs.Given
 pub use Rattle.mode_file.specs.Grammar as ModeGrammar
 pub use Rattle.mode_file.specs.Refusals as ModeRefusals

@@ -1,3 +1,4 @@
+pub use Rattle.delta_defs.specs.Unfolding
 pub use Rattle.prover_state.specs.Delays
 pub use Rattle.rebuild_spec.specs.Input
 pub use Rattle.rebuild_spec.specs.Rebuilt

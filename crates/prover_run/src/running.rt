@@ -1,6 +1,7 @@
 //! Runs to their end.
 ghost use Rattle.std.specs.Prelude.{◌≡◌, ◌+◌, ◌++◌, [], ◌∷◌, false, length, IfOk, IfSome, IfNone, OnOk};
 ghost use Rattle.stt_core.specs.TypedProblem.{IsTyped};
+ghost use Rattle.delta_defs.specs.Unfolding.{unfolded_problem};
 ghost use Rattle.sat_log.specs.Chains.{results};
 ghost use Rattle.sat_log.specs.Propagation.{ReachesFalse};
 ghost use Rattle.sat_core.specs.Solver.{learned};
@@ -124,7 +125,7 @@ fn run_on<W: Weigher<Waiting>>(
     unreachable!()
 }
 
-/// Runs the search over a problem by a mode, with what computes when commands are due.
+/// Runs the search over a problem, whose definitions are unfolded, by a mode, with what computes when commands are due.
 fn run_by<W: Weigher<Waiting>>(
     alloc: Global,
     problem: &Problem,
@@ -137,7 +138,7 @@ fn run_by<W: Weigher<Waiting>>(
     requires range { IsInRange mode.now }
     requires callable { W.is_callable weigher }
     requires answers { W.answers weigher (λ waiting now. now + delay_by mode.now waiting.first) }
-    ensures { IfOk result (EndsAs problem.now mode.now nodes) }
+    ensures { IfOk result (EndsAs (unfolded_problem problem.now) mode.now nodes) }
 {
     let mut search = Search::new(alloc, problem, mode, weigher)?;
     let ended = run_on(alloc, &mut search, mode.commands, nodes);
@@ -145,8 +146,8 @@ fn run_by<W: Weigher<Waiting>>(
     ended
 }
 
-/// Runs the search over a problem by a mode, and makes a tree without cut of at most so many nodes where one is asked for. The problem's types
-/// nest so little that each refutation is small enough for a text.
+/// Runs the search over a problem, whose definitions are unfolded, by a mode, and makes a tree without cut of at most so many nodes where one
+/// is asked for. The problem's types nest so little that each refutation is small enough for a text.
 pub fn run(
     alloc: Global,
     problem: &Problem,
@@ -156,7 +157,7 @@ pub fn run(
     requires typed { IsTyped problem.now }
     requires modest { IsModestProblem 1024 problem.now }
     requires range { IsInRange mode.now }
-    ensures { IfOk result (EndsAs problem.now mode.now nodes) }
+    ensures { IfOk result (EndsAs (unfolded_problem problem.now) mode.now nodes) }
 {
     let by = *mode;
     run_by(alloc, problem, mode, nodes, |waiting: &Waiting, now: u64| {

@@ -7,6 +7,7 @@ mod RunLaws
 mod StartLaws
 mod StartingLaws
 mod BasisLaws
+pub mod PreparedLaws
 pub mod SearchLaws
 mod ShapedLaws
 mod AloneUses

@@ -1,12 +1,14 @@
 -- A start, as the tables have it.
-use Rattle.std.specs.Prelude.{◌≡◌, ◌≤◌, ◌+◌, ◌&&◌, ℕ, suc, Bool, true, false, not, List, [], ◌∷◌, ◌++◌, map, filter, length, Some, if◌then◌else◌, refl}
+use Rattle.std.specs.Prelude.{◌≡◌, ◌≤◌, ◌+◌, ◌&&◌, ℕ, suc, Bool, true, false, not, List, [], ◌∷◌, ◌++◌, map, filter, take, length, slice_get, Some, if◌then◌else◌, refl}
 use Rattle.std.specs.List.{list_any, list_all}
 use Rattle.std.proofs.Common.{sym, ap, ap₂, ◌∙◌, subst, arith, append-nil, append_assoc, length-append}
 use Rattle.std.proofs.lemmas.List.Elements.{filter-append}
 use Rattle.stt_core.specs.Typing.{Scope, IsScope}
-use Rattle.stt_core.proofs.ListLaws.{map-append}
+use Rattle.stt_core.proofs.ListLaws.{map-append, take_got}
 use Rattle.tableau_calculus.specs.Literals.{Literal, IsBranch}
 use Rattle.tableau_calculus.specs.Kinds.{has, added, formulas}
+use Rattle.tableau_calculus.specs.Start.{without_repeats}
+use Rattle.tableau_calculus.proofs.AddedLaws.{added-append}
 use Rattle.tableau_calculus.specs.Witnesses.{Row, with_rows}
 use Rattle.sat_base.specs.declared.literal.SatLit.{SatLit}
 use Rattle.command_queue.specs.Queue.{Queue}
@@ -298,3 +300,18 @@ module _ (t0 : Tables) (q0 : Queue Planned Delays) where
           modest_start = subst (Each (IsModestLiteral 1024)) (sym s.units) (each_filtered (IsModestLiteral 1024) (IsModestLiteral 1024) is_shallow_literal (λ l h e. h) ls modest);
           made = subst (Each (IsMadeInstance t.basis)) (sym s.instances) tt;
         }
+
+-- the next literal of a list was added
+pub starting-next : (t0 t u : Tables) (q0 q p : Queue Planned Delays) (lits : List SatLit) (i : ℕ) (lit : SatLit) → slice_get lits i ≡ Some lit
+    → IsStarting t0 q0 t q (without_repeats (map (bank_literal t0.basis.bank.terms t0.basis.lits) (take i lits))) → t.basis ≡ t0.basis
+    → the_state u p ≡ with_instance q.rule.mode [] ((bank_literal t.basis.bank.terms t.basis.lits lit ∷ []) ∷ []) (the_state t q) → IsRightState u p → u.basis ≡ t.basis → AddsStart lit t u → p.rule ≡ q.rule
+    → IsStarting t0 q0 u p (without_repeats (map (bank_literal t0.basis.bank.terms t0.basis.lits) (take (i + 1) lits)))
+starting-next t0 t u q0 q p lits i lit at s kept is right same adds rule =
+    let d : SatLit → Literal = bank_literal t0.basis.bank.terms t0.basis.lits in
+    let before = map d (take i lits) in
+    let named : bank_literal t.basis.bank.terms t.basis.lits lit ≡ d lit = ap (λ (g : Basis). bank_literal g.bank.terms g.lits lit) kept in
+    let more : added formulas (added formulas [] before) (bank_literal t.basis.bank.terms t.basis.lits lit ∷ []) ≡ without_repeats (map d (take (i + 1) lits)) =
+    ap (λ (l : Literal). added formulas (added formulas [] before) (l ∷ [])) named
+    ∙ sym (ap (λ ls. added formulas [] (map d ls)) (take_got lits i lit at) ∙ ap (added formulas []) (map-append d (take i lits) (lit ∷ [])) ∙ added-append [] before (d lit ∷ [])) in
+    let S : List Literal → Type 0 = λ ls. IsStarting t0 q0 u p ls in
+    subst S more (starting-added t0 q0 t u q p (without_repeats before) lit s is right same adds rule)

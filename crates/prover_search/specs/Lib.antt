@@ -1,3 +1,4 @@
+pub use Rattle.delta_defs.specs.Unfolding
 pub use Rattle.literal_map.specs.Atoms
 pub use Rattle.prover_state.specs.Delays
 pub use Rattle.prover_state.specs.Lasting

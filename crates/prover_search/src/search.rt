@@ -3,6 +3,7 @@ ghost use Rattle.std.specs.Prelude.{◌≡◌, ◌+◌, ◌++◌, true, false, L
 ghost use Rattle.std.specs.List.{All};
 ghost use Rattle.stt_core.specs.TypedProblem.{IsTyped};
 ghost use Rattle.tableau_calculus.specs.Start.{start};
+ghost use Rattle.delta_defs.specs.Unfolding.{unfolded_problem};
 ghost use Rattle.sat_base.specs.Truth.{Implies};
 ghost use Rattle.sat_log.specs.Chains.{results};
 ghost use Rattle.sat_log.specs.declared.log.LogEntry.{LogEntry};
@@ -40,8 +41,8 @@ pub struct Search<W: Weigher<Waiting>> {
 }
 
 impl<W: Weigher<Waiting>> Search<W> {
-    /// A search by a mode. The start literals that are too deep are left out. The problem's types nest so little that all terms of the
-    /// search are small enough for a text.
+    /// A search by a mode over a problem, whose definitions are unfolded. The start literals that are too deep are left out. The problem's
+    /// types nest so little that all terms of the search are small enough for a text.
     pub fn new(
         alloc: Global,
         problem: &Problem,
@@ -57,7 +58,7 @@ impl<W: Weigher<Waiting>> Search<W> {
         ensures mode { IfOk result (λ s. s.mode ≡ mode.now) }
         ensures bases { IfOk result (λ s. s.core.tables.basis.bank.bases ≡ problem.now.declared.bases) }
         ensures consts { IfOk result (λ s. s.core.tables.basis.bank.consts ≡ problem.now.declared.consts) }
-        ensures start { IfOk result (λ s. start_in s.core.tables ≡ filter is_shallow_literal (start problem.now)) }
+        ensures start { IfOk result (λ s. start_in s.core.tables ≡ filter is_shallow_literal (start (unfolded_problem problem.now))) }
         ensures done { IfOk result (λ s. s.core.tables.done ≡ 0) }
         ensures ready { IfOk result (λ s. s.is_refused ≡ false) }
     {
@@ -75,7 +76,7 @@ impl<W: Weigher<Waiting>> Search<W> {
     ) -> Result<Self, AllocError>
         requires typed { IsTyped problem.now }
         requires modest { IsModestProblem 1024 problem.now }
-        requires prepared { IsPreparedFor problem.now prepared.basis prepared.start.items }
+        requires prepared { IsPreparedFor (unfolded_problem problem.now) prepared.basis prepared.start.items }
         requires range { IsInRange mode.now }
         requires callable { W.is_callable weigher }
         requires answers { W.answers weigher (λ waiting now. now + delay_by mode.now waiting.first) }
@@ -83,7 +84,7 @@ impl<W: Weigher<Waiting>> Search<W> {
         ensures mode { IfOk result (λ s. s.mode ≡ mode.now) }
         ensures bases { IfOk result (λ s. s.core.tables.basis.bank.bases ≡ problem.now.declared.bases) }
         ensures consts { IfOk result (λ s. s.core.tables.basis.bank.consts ≡ problem.now.declared.consts) }
-        ensures start { IfOk result (λ s. start_in s.core.tables ≡ filter is_shallow_literal (start problem.now)) }
+        ensures start { IfOk result (λ s. start_in s.core.tables ≡ filter is_shallow_literal (start (unfolded_problem problem.now))) }
         ensures done { IfOk result (λ s. s.core.tables.done ≡ 0) }
         ensures ready { IfOk result (λ s. s.is_refused ≡ false) }
     {

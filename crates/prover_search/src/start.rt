@@ -1,37 +1,24 @@
 //! The start of a search.
-ghost use Rattle.std.specs.Prelude.{◌≡◌, ◌+◌, ◌<◌, [], ◌∷◌, map, IfOk, OnOk};
-ghost use Rattle.stt_core.specs.Declarations.{scope_of};
-ghost use Rattle.stt_core.specs.ScopeView.{the_scope};
-ghost use Rattle.stt_core.specs.TypedProblem.{IsFormula, AreFormulas, IsTyped};
-ghost use Rattle.stt_core.specs.Typing.{IsScope};
-ghost use Rattle.stt_core.specs.View.{the_term};
-ghost use Rattle.tableau_calculus.specs.Start.{without_repeats, normal_literal, start};
+ghost use Rattle.std.specs.Prelude.{◌≡◌, ◌<◌, [], ◌∷◌, map, OnOk};
+ghost use Rattle.std.specs.List.{All};
+ghost use Rattle.tableau_calculus.specs.Start.{without_repeats};
 ghost use Rattle.sat_base.specs.declared.literal.SatLit.{SatLit};
 ghost use Rattle.sat_core.specs.Solver.{learned};
 ghost use Rattle.search_spec.specs.After.{nothing_yet};
 ghost use Rattle.search_spec.specs.Instances.{with_instance};
-ghost use Rattle.term_bank.specs.Content.{content_scope};
-ghost use Rattle.prover_state.specs.Delays.{delay_by};
-ghost use Rattle.prover_state.specs.Internal.Growing.{BasisGrows};
 ghost use Rattle.literal_map.specs.Atoms.{bank_literal};
 ghost use Rattle.tableau_clauses.specs.Table.{the_clauses};
 ghost use Rattle.prover_state.specs.Internal.Names.{IsNumberIn};
-ghost use Rattle.prover_state.specs.Internal.Standing.{without_witnesses, the_state, IsBasis, IsRightState};
+ghost use Rattle.prover_state.specs.Internal.Standing.{the_state, IsRightState};
 ghost use Rattle.prover_search.specs.Internal.Starting.{AddsUnit, AddsStart, IsStarting};
 
-use bank_normal::Normaliser;
 use command_queue::Weigher;
-use literal_map::LitTable;
-use mode_file::Mode;
-use problem_start::formula_literal;
-use prover_state::{Basis, Core, DEPTH, Waiting, make_variables};
+use prover_state::{Core, DEPTH, Waiting, make_variables};
 use sat_base::{Clause, SatLit};
 use sat_core::Solver;
 use std::alloc::{AllocError, Global};
-use stt_core::{Problem, Signature, Term, Terms};
 use tableau_clauses::StepTable;
-use term_bank::{Bank, equal_ids_for_equal_terms};
-use witness_names::Witnesses;
+use term_bank::equal_ids_for_equal_terms;
 
 /// Adds a start unit, for the solver too.
 fn add_unit(
@@ -89,7 +76,7 @@ pub(crate) fn start_all<W: Weigher<Waiting>>(
     requires state { the_state core.old.tables core.old.plan ≡ nothing_yet }
     requires right { IsRightState core.old.tables core.old.plan }
     requires steps { core.old.tables.steps ≡ ([], []) }
-    requires numbers { Each (IsNumberIn core.old.tables.basis.lits) start.now }
+    requires numbers { All (IsNumberIn core.old.tables.basis.lits) start.now }
     ensures { OnOk result (IsStarting core.old.tables core.old.plan core.new.tables core.new.plan (without_repeats (map (bank_literal core.old.tables.basis.bank.terms core.old.tables.basis.lits) start.now))) }
 {
     for i in 0..start.len() {

@@ -1,4 +1,4 @@
 pub mod TreeLaws
 pub mod GatherLaws
 pub mod ReadLaws
-pub mod UnfoldLaws
+pub mod FileLaws

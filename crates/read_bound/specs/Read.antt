@@ -64,10 +64,6 @@ IsShallowStatement limit (include at file only) = Unit {0}
 abbrev pub ReadingsAreModest : Type 0
 ReadingsAreModest = (texts : List (List ℕ)) (name : List ℕ) (names : List (List ℕ)) (ss : List PlacedTree) (p : PlainProblem) → IsGathering texts name names (done ss) → problem_of ss ≡ Ok p → IsModestProblem 1024 p
 
--- unfolding definitions keeps types within a limit
-abbrev pub UnfoldingKeepsTypes : Type 0
-UnfoldingKeepsTypes = (limit : ℕ) (p : PlainProblem) → IsModestProblem limit p → IsModestProblem limit (unfolded_problem p)
-
 -- whatever files state a problem: each state of the run over it, with its definitions unfolded, has terms that are small enough for a text
 abbrev pub RunsOfFilesStaySmall : Type 0
 RunsOfFilesStaySmall =

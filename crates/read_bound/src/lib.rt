@@ -4,4 +4,4 @@
 
 mod law;
 
-pub use law::{readings_are_modest, runs_of_files_stay_small, unfolding_keeps_types};
+pub use law::{readings_are_modest, runs_of_files_stay_small};

@@ -1,19 +1,18 @@
 -- The start as a set of literals.
-use Rattle.std.proofs.Common.{◌≡◌, List, [], ◌∷◌, ◌++◌, Option, Some, map, Contains, sym, ap, subst, ◌∙◌, ⊎_elim, inr, arith}
+use Rattle.std.proofs.Common.{List, [], ◌∷◌, Contains, subst, ⊎_elim, inr, arith}
+use Rattle.std.specs.Prelude.{All, map}
+use Rattle.std.proofs.lemmas.List.Elements.{All-head, All-tail}
 use Rattle.stt_core.specs.Lambda.{Lambda}
-use Rattle.stt_core.specs.Declarations.{scope_of}
-use Rattle.stt_core.specs.PlainProblem.{PlainProblem}
-use Rattle.stt_core.specs.Typing.{Scope}
 use Rattle.sat_base.specs.declared.literal.SatLit.{SatLit}
-use Rattle.sat_base.specs.Literal.{negated}
-use Rattle.tableau_calculus.specs.Literals.{Literal, opposite}
-use Rattle.tableau_calculus.specs.Start.{without_repeats, normal_literal, denied, start}
+use Rattle.tableau_calculus.specs.Literals.{Literal}
+use Rattle.tableau_calculus.specs.Start.{without_repeats}
 use Rattle.tableau_calculus.proofs.AddedLaws.{contains_cases-added, contains-added}
+use Rattle.problem_start.specs.Unfolds.{AreStartNumbers}
+use Rattle.search_spec.specs.Each.{Each}
 use Rattle.refute_check.specs.Internal.Branches.{Represents, AreNumberedBranch}
 use Rattle.refute_check.specs.declared.branch.Branch.{Branch}
 use Rattle.refute_check.specs.declared.shared.Shared.{Shared}
-use Rattle.refute_check.specs.Internal.Shared.{shared_atoms, IsGoodShared, ExtendsShared, IsSharedNumber, literal_in, AreNumbersOf}
-use Rattle.refute_check.proofs.SharedLaws.{numbers-more, extends_numbers}
+use Rattle.refute_check.specs.Internal.Shared.{shared_atoms, IsSharedNumber, literal_in, AreNumbersOf}
 
 -- what represents a list represents each list with the same literals
 represents-same : (terms : List Lambda) (ls ks : List Literal) (b : Branch) → ((l : Literal) → Contains ls l → Contains ks l) → ((l : Literal) → Contains ks l → Contains ls l) → Represents terms ls b → Represents terms ks b
@@ -22,28 +21,24 @@ represents-same terms ls ks b to back h = record {
   whole = λ sign k l. h.whole sign k (record { atom = l.atom; numbered = l.numbered; among = back (record { positive = sign; atom = l.atom }) l.among });
 }
 
-represents-once : (terms : List Lambda) (ls : List Literal) (b : Branch) → Represents terms ls b → Represents terms (without_repeats ls) b
-represents-once terms ls b h =
-    represents-same terms ls (without_repeats ls) b (λ l c. contains-added [] ls l (inr c)) (λ l c. ⊎_elim (λ none. absurd (omega (arith, none.1))) (λ d. d) (contains_cases-added [] ls l c)) h
+once_there : (ls : List Literal) (l : Literal) → Contains (without_repeats ls) l → Contains ls l
+once_there ls l c = ⊎_elim (λ none. absurd (omega (arith, none.1))) (λ d. d) (contains_cases-added [] ls l c)
 
--- what represents the literals of the formulas and of the denied conjecture represents the start, each of whose literals has a number then
-start_set : (terms : List Lambda) (p : PlainProblem) (b : Branch) (o : Option Lambda) (ls : List Literal) → p.conjecture ≡ o → ls ≡ map (normal_literal (scope_of p.declared)) p.assumed ++ denied (scope_of p.declared) o → Represents terms ls b → AreNumberedBranch terms ls
-    → Represents terms (start p) b × AreNumberedBranch terms (start p)
-start_set terms p b o ls e is r n =
-    let scope = scope_of p.declared in
-    let whole : map (normal_literal scope) p.assumed ++ denied scope p.conjecture ≡ ls = ap (λ c. map (normal_literal scope) p.assumed ++ denied scope c) e ∙ sym is in (
-      subst (λ xs. Represents terms (without_repeats xs) b) (sym whole) (represents-once terms ls b r),
-      subst (λ xs. AreNumberedBranch terms (without_repeats xs)) (sym whole) (λ l c. n l (⊎_elim (λ none. absurd (omega (arith, none.1))) (λ d. d) (contains_cases-added [] ls l c))),
+-- what represents the literals represents them without repeats, and then each has a number
+pub start_in : (s : Shared) (ls : List Literal) (b : Branch) (ns : List SatLit) → AreNumbersOf s ls ns → Represents (shared_atoms s) (map (literal_in s) ns) b → AreNumberedBranch (shared_atoms s) (map (literal_in s) ns)
+    → Represents (shared_atoms s) (without_repeats ls) b × AreNumberedBranch (shared_atoms s) (without_repeats ls)
+start_in s ls b ns h r n =
+    let terms = shared_atoms s in
+    let whole = subst (λ ks. Represents terms ks b) h.literals r in
+    let numbered = subst (AreNumberedBranch terms) h.literals n in (
+      represents-same terms ls (without_repeats ls) b (λ l c. contains-added [] ls l (inr c)) (once_there ls) whole,
+      λ l c. numbered l (once_there ls l c),
     )
 
--- the numbers of the formulas' literals and of the denied conjecture's
-pub numbers_denied : (now new : Shared) → IsGoodShared now → ExtendsShared now new → (scope : Scope) (ts : List Lambda) (t : Lambda) (list all : List SatLit) (n m : SatLit) → AreNumbersOf now (map (normal_literal scope) ts) list → IsSharedNumber new n → literal_in new n ≡ normal_literal scope t → m ≡ negated n → all ≡ list ++ m ∷ []
-    → AreNumbersOf new (map (normal_literal scope) ts ++ denied scope (Some t)) all
-numbers_denied now new good e scope ts t list all n m h k is sign added =
-    let f = normal_literal scope in
-    subst (AreNumbersOf new (map f ts ++ denied scope (Some t))) (sym added)
-    (numbers-more new (map f ts) list (opposite (f t)) m (extends_numbers now new e good (map f ts) list h) (subst (IsSharedNumber new) (sym sign) k) (ap (literal_in new) sign ∙ ap opposite is))
+each_of : {X : Type 0} (P : X → Type 0) (xs : List X) → All P xs → Each P xs
+each_of P [] h = tt
+each_of P (x ∷ xs) h = (All-head P x xs h, each_of P xs (All-tail P x xs h))
 
-pub start_in : (s : Shared) (p : PlainProblem) (scope : Scope) (o : Option Lambda) (b : Branch) (ns : List SatLit) → scope ≡ scope_of p.declared → p.conjecture ≡ o → AreNumbersOf s (map (normal_literal scope) p.assumed ++ denied scope o) ns
-    → Represents (shared_atoms s) (map (literal_in s) ns) b → AreNumberedBranch (shared_atoms s) (map (literal_in s) ns) → Represents (shared_atoms s) (start p) b × AreNumberedBranch (shared_atoms s) (start p)
-start_in s p scope o b ns e c h r n = start_set (shared_atoms s) p b o (map (literal_in s) ns) c (h.literals ∙ ap (λ x. map (normal_literal x) p.assumed ++ denied x o) e) r n
+-- the numbers of a start's literals
+pub are_numbers : (s : Shared) (ls : List Literal) (ns : List SatLit) → AreStartNumbers s.bank s.lits ls ns → AreNumbersOf s ls ns
+are_numbers s ls ns h = record { numbers = each_of (IsSharedNumber s) ns h.numbers; literals = h.literals }

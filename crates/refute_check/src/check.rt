@@ -12,6 +12,7 @@ ghost use Rattle.tableau_calculus.specs.Start.{start};
 ghost use Rattle.tableau_calculus.specs.Accepted.{EndsWithin, FirstFailure};
 ghost use Rattle.tableau_calculus.specs.CutFree.{HasNoCut};
 ghost use Rattle.tableau_calculus.specs.Refused.{IfRefused};
+ghost use Rattle.problem_start.specs.Unfolds.{unfolded_if};
 ghost use Rattle.refute_print.specs.TextView.{the_text, IsNumberedText};
 ghost use Rattle.refute_print.specs.Named.{names_of};
 ghost use Rattle.refute_check.specs.Numbered.{numbered_refutation};
@@ -31,7 +32,6 @@ use crate::refusal::CheckRefused;
 use crate::seen::Seen;
 use crate::shared::Shared;
 use crate::strict::{is_cut, with_cut};
-use delta_defs::unfold_problem;
 use refute_print::RefutationText;
 use std::alloc::{AllocError, Global};
 use stt_core::{Problem, Signature};
@@ -161,16 +161,17 @@ fn check_with(
     problem: &Problem,
     text: &RefutationText,
     strict: bool,
+    unfolds: bool,
 ) -> Result<(), PlainRefused>
     requires good { IsGoodShared shared.old }
     requires none { the_rows shared.old ≡ [] }
     requires scope { shared_scope shared.old ≡ scope_of problem.now.declared }
     requires problem { IsTyped problem.now }
     requires room { length text.now.witnesses + length text.now.lines < 2 ^ 64 }
-    ensures accepted { OnOk result (IsAcceptedBy strict (declared_in shared.old) (start problem.now) (numbered_refutation numbering.now (the_text text.now))) }
-    ensures refused { IfErr result (λ e. IfRefused e (FirstFailureBy strict (declared_in shared.old) (start problem.now) (numbered_refutation numbering.now (the_text text.now)))) }
+    ensures accepted { OnOk result (IsAcceptedBy strict (declared_in shared.old) (start (unfolded_if unfolds problem.now)) (numbered_refutation numbering.now (the_text text.now))) }
+    ensures refused { IfErr result (λ e. IfRefused e (FirstFailureBy strict (declared_in shared.old) (start (unfolded_if unfolds problem.now)) (numbered_refutation numbering.now (the_text text.now)))) }
 {
-    let start = shared.start(alloc, problem)?;
+    let start = shared.start(alloc, problem, unfolds)?;
     check_from(alloc, shared, numbering, &start, text, strict)
 }
 
@@ -181,18 +182,27 @@ fn check_over(
     problem: &Problem,
     text: &RefutationText,
     strict: bool,
+    unfolds: bool,
 ) -> Result<(), PlainRefused>
     requires problem { IsTyped problem.now }
     requires own { the_scope sig.now [] ≡ scope_of problem.now.declared }
     requires room { length text.now.witnesses + length text.now.lines < 2 ^ 64 }
-    ensures accepted { OnOk result (IsAcceptedBy strict (the_scope sig.now []) (start problem.now)
+    ensures accepted { OnOk result (IsAcceptedBy strict (the_scope sig.now []) (start (unfolded_if unfolds problem.now))
         (numbered_refutation (names_of sig.now.bases sig.now.consts) (the_text text.now))) }
-    ensures refused { IfErr result (λ e. IfRefused e (FirstFailureBy strict (the_scope sig.now []) (start problem.now)
+    ensures refused { IfErr result (λ e. IfRefused e (FirstFailureBy strict (the_scope sig.now []) (start (unfolded_if unfolds problem.now))
         (numbered_refutation (names_of sig.now.bases sig.now.consts) (the_text text.now)))) }
 {
     let numbering = Numbering::new(alloc, sig)?;
     let mut shared = Shared::new(alloc, sig)?;
-    let checked = check_with(alloc, &mut shared, &numbering, problem, text, strict);
+    let checked = check_with(
+        alloc,
+        &mut shared,
+        &numbering,
+        problem,
+        text,
+        strict,
+        unfolds,
+    );
     drop(shared);
     checked
 }
@@ -203,33 +213,35 @@ fn check_text(
     problem: &Problem,
     text: &RefutationText,
     strict: bool,
+    unfolds: bool,
 ) -> Result<(), PlainRefused>
     requires problem { IsTyped problem.now }
     requires room { length text.now.witnesses + length text.now.lines < 2 ^ 64 }
-    ensures accepted { OnOk result (IsAcceptedBy strict (scope_of problem.now.declared) (start problem.now)
+    ensures accepted { OnOk result (IsAcceptedBy strict (scope_of problem.now.declared) (start (unfolded_if unfolds problem.now))
         (numbered_refutation (names_of problem.now.declared.bases problem.now.declared.consts) (the_text text.now))) }
-    ensures refused { IfErr result (λ e. IfRefused e (FirstFailureBy strict (scope_of problem.now.declared) (start problem.now)
+    ensures refused { IfErr result (λ e. IfRefused e (FirstFailureBy strict (scope_of problem.now.declared) (start (unfolded_if unfolds problem.now))
         (numbered_refutation (names_of problem.now.declared.bases problem.now.declared.consts) (the_text text.now)))) }
 {
-    check_over(alloc, &problem.signature, problem, text, strict)
+    check_over(alloc, &problem.signature, problem, text, strict, unfolds)
 }
 
-/// Whether the text's refutation is accepted for the start of the problem as it stands, whatever definitions the text names. Answers the
+/// Whether the text's refutation is accepted for the start of the problem, with its definitions unfolded where they are to be. Answers the
 /// first line that fails otherwise, by its number in the file of the text.
-fn check_plain(
+fn check_start(
     alloc: Global,
     problem: &Problem,
     text: &RefutationText,
     strict: bool,
+    unfolds: bool,
 ) -> Result<(), CheckRefused>
     requires problem { IsTyped problem.now }
     requires lines { text.now.first + length text.now.witnesses + length text.now.lines < 2 ^ 64 }
-    ensures accepted { OnOk result (IsAcceptedBy strict (scope_of problem.now.declared) (start problem.now)
+    ensures accepted { OnOk result (IsAcceptedBy strict (scope_of problem.now.declared) (start (unfolded_if unfolds problem.now))
         (numbered_refutation (names_of problem.now.declared.bases problem.now.declared.consts) (the_text text.now))) }
-    ensures refused { IfErr result (λ e. IfLine e (FailsAtBy strict (scope_of problem.now.declared) (start problem.now)
+    ensures refused { IfErr result (λ e. IfLine e (FailsAtBy strict (scope_of problem.now.declared) (start (unfolded_if unfolds problem.now))
         (numbered_refutation (names_of problem.now.declared.bases problem.now.declared.consts) (the_text text.now)) text.now.first)) }
 {
-    match check_text(alloc, problem, text, strict) {
+    match check_text(alloc, problem, text, strict, unfolds) {
         Ok(()) => Ok(()),
         Err(PlainRefused::Refused { line, why }) => Err(CheckRefused::Line {
             line: text.first + line,
@@ -254,8 +266,7 @@ fn check_unfolded(
     ensures refused { IfErr result (λ e. IfLine e (TextFailsBy strict problem.now (the_text text.now) text.now.first)) }
 {
     check_definitions(alloc, problem, text)?;
-    let unfolded = unfold_problem(alloc, problem)?;
-    check_plain(alloc, &unfolded, text, strict)
+    check_start(alloc, problem, text, strict, true)
 }
 
 /// Whether the text is accepted for the problem, or strictly accepted. Answers the first line that fails otherwise.
@@ -273,7 +284,7 @@ fn check_by(
     ensures refused_only { IfErr result (λ e. IfLine e (λ _ _. IsTextAcceptedBy strict problem.now (the_text text.now) → ⊥)) }
 {
     if text.names.len() == 0 {
-        check_plain(alloc, problem, text, strict)
+        check_start(alloc, problem, text, strict, false)
     } else {
         check_unfolded(alloc, problem, text, strict)
     }

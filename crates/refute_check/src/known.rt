@@ -52,7 +52,7 @@ impl Shared {
     }
 
     /// The numbered literals as a set.
-    pub(crate) fn set_of(&self, alloc: Global, list: &LitList) -> Result<Branch, AllocError>
+    pub(crate) fn set_of(&self, alloc: Global, list: &[SatLit]) -> Result<Branch, AllocError>
         requires good { IsGoodShared self.now }
         requires numbers { Each (IsSharedNumber self.now) list.now }
         ensures set { IfOk result (Represents (shared_atoms self.now) (map (literal_in self.now) list.now)) }
@@ -62,7 +62,7 @@ impl Shared {
         self.lits.atoms_differ();
         let mut set = Branch::new(alloc);
         for i in 0..list.len() {
-            let lit = list.at(i);
+            let lit = list[i];
             set.insert(lit.positive, lit.var.0)?;
         }
         Ok(set)

@@ -5,3 +5,4 @@ pub mod ModestRun
 pub mod StartLaws
 pub mod FlatRun
 pub mod SmallLaws
+pub mod UnfoldLaws

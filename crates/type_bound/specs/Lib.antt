@@ -1,3 +1,4 @@
+pub use Rattle.delta_defs.specs.Unfolding
 pub use Rattle.normal_forms.specs.Normal
 pub use Rattle.refute_print.specs.Sizes
 pub use Rattle.search_spec.specs.After

@@ -3,6 +3,7 @@ use Rattle.std.specs.Prelude.{◌≡◌, ◌≤◌, ℕ, suc, true, List, Option
 use Rattle.stt_core.specs.Lambda.{Constant, name, witness, falsity, negation, implication, all, equality, choice, description, Lambda, bound, constant, lam, app, IsLeaf}
 use Rattle.stt_core.specs.PlainProblem.{PlainProblem}
 use Rattle.stt_core.specs.Declarations.{scope_of}
+use Rattle.delta_defs.specs.Unfolding.{unfolded_problem}
 use Rattle.tableau_calculus.specs.Literals.{Literal}
 use Rattle.tableau_calculus.specs.Start.{start}
 use Rattle.tableau_calculus.specs.Witnesses.{Row}
@@ -84,3 +85,7 @@ pub record IsModestProblem (limit : ℕ) (p : PlainProblem) : Type 0 where
 -- a problem's start has types within a limit within which the problem's are
 abbrev pub StartsKeepTypes : Type 0
 StartsKeepTypes = (limit : ℕ) (p : PlainProblem) → IsModestProblem limit p → Each (IsModestLiteral limit) (start p)
+
+-- unfolding definitions keeps types within a limit
+abbrev pub UnfoldingKeepsTypes : Type 0
+UnfoldingKeepsTypes = (limit : ℕ) (p : PlainProblem) → IsModestProblem limit p → IsModestProblem limit (unfolded_problem p)

@@ -1,6 +1,6 @@
 //! Laws of the definitions.
 ghost use Rattle.type_bound.specs.Deep.{RunsStayFlat};
-ghost use Rattle.type_bound.specs.Modest.{RunsKeepTypes, StartsKeepTypes};
+ghost use Rattle.type_bound.specs.Modest.{RunsKeepTypes, StartsKeepTypes, UnfoldingKeepsTypes};
 ghost use Rattle.type_bound.specs.Small.{RunsStaySmall};
 ghost use Rattle.type_bound.specs.Types.{NormalFormsKeepTypes};
 
@@ -12,6 +12,11 @@ pub fn normal_forms_keep_types()
 /// The types of a problem's start nest no deeper than the problem's own.
 pub fn starts_keep_types()
     ensures { StartsKeepTypes }
+{}
+
+/// A problem with its definitions unfolded has types that nest no deeper than the problem's own.
+pub fn unfolding_keeps_types()
+    ensures { UnfoldingKeepsTypes }
 {}
 
 /// The types of every state of a run nest no deeper than those of its start and of the names.

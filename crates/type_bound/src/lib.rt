@@ -6,4 +6,5 @@ mod law;
 
 pub use law::{
     normal_forms_keep_types, runs_keep_types, runs_stay_flat, runs_stay_small, starts_keep_types,
+    unfolding_keeps_types,
 };

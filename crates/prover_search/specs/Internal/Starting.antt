@@ -1,17 +1,16 @@
 -- Start units.
-use Rattle.std.specs.Prelude.{◌≡◌, [], ◌∷◌, ◌++◌, true, false, if◌then◌else◌, List, map, filter}
+use Rattle.std.specs.Prelude.{◌≡◌, [], ◌∷◌, ◌++◌, true, false, if◌then◌else◌, List, filter}
 use Rattle.std.specs.List.{list_any}
 use Rattle.stt_core.specs.PlainProblem.{PlainProblem}
 use Rattle.tableau_calculus.specs.Literals.{Literal}
-use Rattle.tableau_calculus.specs.Start.{without_repeats, start}
 use Rattle.sat_base.specs.declared.literal.SatLit.{SatLit}
 use Rattle.command_queue.specs.Queue.{Queue}
 use Rattle.search_spec.specs.After.{starting_state}
 use Rattle.search_spec.specs.Clauses.{same_clause}
-use Rattle.search_spec.specs.Each.{Each}
 use Rattle.search_spec.specs.Numbered.{numbers}
 use Rattle.search_spec.specs.Shallow.{is_shallow_literal}
 use Rattle.literal_map.specs.Atoms.{bank_literal}
+use Rattle.problem_start.specs.Unfolds.{start_literals, AreStartNumbers}
 use Rattle.tableau_clauses.specs.declared.origin.Origin.TheVariants.{Start}
 use Rattle.tableau_clauses.specs.Table.{Table, the_clauses}
 use Rattle.prover_state.specs.declared.command.Planned.{Planned}
@@ -19,7 +18,6 @@ use Rattle.prover_state.specs.declared.command.Delays.{Delays}
 use Rattle.prover_state.specs.declared.tables.Tables.{Tables}
 use Rattle.prover_state.specs.declared.tables.Basis.{Basis}
 use Rattle.prover_state.specs.Internal.Growing.{BasisGrows}
-use Rattle.prover_state.specs.Internal.Names.{IsNumberIn}
 use Rattle.prover_state.specs.Internal.Standing.{setting_by, the_state, IsBasis, IsRightState}
 use Rattle.prover_search.specs.Internal.Running.{start_in}
 
@@ -48,5 +46,4 @@ pub record IsPreparedFor (p : PlainProblem) (g : Basis) (lits : List SatLit) : T
   pub bases : g.bank.bases ≡ p.declared.bases
   pub consts : g.bank.consts ≡ p.declared.consts
   pub unwitnessed : g.witnesses ≡ []
-  pub numbers : Each (IsNumberIn g.lits) lits
-  pub literals : without_repeats (map (bank_literal g.bank.terms g.lits) lits) ≡ start p
+  pub numbers : AreStartNumbers g.bank g.lits (start_literals p) lits

@@ -1,4 +1,5 @@
 use Rattle.std.proofs.Common.{ℕ, List, filter, sym, subst}
+use Rattle.delta_defs.specs.Unfolding.{unfolded_problem}
 use Rattle.tableau_calculus.specs.Start.{start}
 use Rattle.search_spec.specs.Shallow.{is_shallow_literal}
 use Rattle.mode_file.specs.Given.{IsInRange}
@@ -14,18 +15,19 @@ use Rattle.mode_schedule.proofs.RefutedLaws.{closed-left, left-held, proved-by}
 use Rattle.mode_schedule.proofs.scheduled.run_all.Goals as goal
 
 pub run-requires-clause-slots : goal.run-requires-clause-slots
-run-requires-clause-slots g c = are-slots c.args.maker.now.problem.now c.args.maker.now.blocks.now c.requires.few c.requires.slices c.requires.in_range
+run-requires-clause-slots g c = are-slots (unfolded_problem c.args.maker.now.problem.now) c.args.maker.now.blocks.now c.requires.few c.requires.slices c.requires.in_range
 
 pub run-requires-clause-fresh : goal.run-requires-clause-fresh
 run-requires-clause-fresh g c =
     let s = c.args.schedule.now in
     let P : List ℕ → Type 0 = λ ns. IsFresh ns s.turns.entries s.turns.pushes s.total s.is_exhausted s.runs.items in
-    subst P (sym (slices-are c.args.maker.now.problem.now c.args.maker.now.blocks.now)) c.requires.fresh
+    subst P (sym (slices-are (unfolded_problem c.args.maker.now.problem.now) c.args.maker.now.blocks.now)) c.requires.fresh
 
 pub run-requires-clause-may : goal.run-requires-clause-may
 run-requires-clause-may g c = λ k l. (
   c.requires.typed,
   c.requires.modest,
+  c.requires.prepared,
   c.requires.many,
   λ block e. all-at (λ (b : Block). IsInRange b.mode) _ k block c.requires.in_range e,
   λ w e. some-holds _ (λ v. g.W.Weigher.is_callable v) _ w (c.requires.callable k) e,
@@ -55,7 +57,7 @@ refutation_of-requires-clause-propagated g c =
 
 pub returns-in_ok-refutation-in-Closed : goal.returns-in_ok-refutation-in-Closed
 returns-in_ok-refutation-in-Closed g c =
-    let p = c.args.maker.now.problem.now in
+    let p = unfolded_problem c.args.maker.now.problem.now in
     let blocks = c.args.maker.now.blocks.now in
     let few = filter is_shallow_literal (start p) in
     let E : Ended → Type 0 = λ e. EndsWith (slots_for p blocks) few e in
@@ -69,18 +71,18 @@ returns-in_ok-refutation-in-Closed g c =
 
 pub returns-in-Empty : goal.returns-in-Empty
 returns-in-Empty g c =
-    let p = c.args.maker.now.problem.now in
+    let p = unfolded_problem c.args.maker.now.problem.now in
     let E : Ended → Type 0 = λ e. EndsWith (slots_for p c.args.maker.now.blocks.now) (filter is_shallow_literal (start p)) e in
     ends-so p c.args.maker.now.blocks.now (empty c.in-Empty.total) (subst E c.in-Empty.is c.in_ok-block.ensures.ended)
 
 pub returns-in-Limit : goal.returns-in-Limit
 returns-in-Limit g c =
-    let p = c.args.maker.now.problem.now in
+    let p = unfolded_problem c.args.maker.now.problem.now in
     let E : Ended → Type 0 = λ e. EndsWith (slots_for p c.args.maker.now.blocks.now) (filter is_shallow_literal (start p)) e in
     ends-so p c.args.maker.now.blocks.now (limit c.in-Limit.total) (subst E c.in-Limit.is c.in_ok-block.ensures.ended)
 
 pub returns-in-Spent : goal.returns-in-Spent
 returns-in-Spent g c =
-    let p = c.args.maker.now.problem.now in
+    let p = unfolded_problem c.args.maker.now.problem.now in
     let E : Ended → Type 0 = λ e. EndsWith (slots_for p c.args.maker.now.blocks.now) (filter is_shallow_literal (start p)) e in
     spent-so p c.args.maker.now.blocks.now c.in-Spent.conflicts (subst E c.in-Spent.is c.in_ok-block.ensures.ended)

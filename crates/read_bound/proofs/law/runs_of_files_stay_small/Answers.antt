@@ -1,4 +1,4 @@
-use Rattle.read_bound.proofs.UnfoldLaws.{files_stay_small}
+use Rattle.read_bound.proofs.FileLaws.{files_stay_small}
 use Rattle.read_bound.proofs.law.runs_of_files_stay_small.Goals as goal
 
 pub returns : goal.returns

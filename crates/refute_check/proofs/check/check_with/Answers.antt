@@ -1,6 +1,7 @@
 use Rattle.std.proofs.Common.{subst, ◌∙◌}
 use Rattle.stt_core.specs.Typing.{Scope}
 use Rattle.tableau_calculus.specs.Start.{start}
+use Rattle.problem_start.specs.Unfolds.{unfolded_if}
 use Rattle.refute_print.specs.TextView.{the_text}
 use Rattle.refute_check.specs.Numbered.{numbered_refutation}
 use Rattle.refute_check.specs.Internal.Strictly.{IsAcceptedBy, FirstFailureBy}
@@ -14,7 +15,7 @@ check_from-requires-clause-none c = extends_rows c.args.shared.now c.start.new.s
 
 pub returns-clause-accepted : goal.returns-clause-accepted
 returns-clause-accepted c =
-    let begin = start c.args.problem.now in
+    let begin = start (unfolded_if c.args.unfolds c.args.problem.now) in
     let r = numbered_refutation c.args.numbering.now (the_text c.args.text.now) in
     let same = extends_declared c.args.shared.now c.start.new.self c.in_ok-start.ensures.extends in
     if_ok c.check_from.result
@@ -23,7 +24,7 @@ returns-clause-accepted c =
 
 pub returns-clause-refused : goal.returns-clause-refused
 returns-clause-refused c =
-    let begin = start c.args.problem.now in
+    let begin = start (unfolded_if c.args.unfolds c.args.problem.now) in
     let r = numbered_refutation c.args.numbering.now (the_text c.args.text.now) in
     let same = extends_declared c.args.shared.now c.start.new.self c.in_ok-start.ensures.extends in
     if_place c.check_from.result _ (FirstFailureBy c.args.strict (declared_in c.args.shared.now) begin r)

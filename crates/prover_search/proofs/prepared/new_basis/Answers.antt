@@ -2,7 +2,7 @@ use Rattle.std.proofs.Common.{ap}
 use Rattle.term_bank.specs.Content.{Content}
 use Rattle.prover_state.specs.declared.tables.Basis.{Basis}
 use Rattle.prover_search.proofs.BasisLaws.{basis-none}
-use Rattle.prover_search.proofs.start.new_basis.Goals as goal
+use Rattle.prover_search.proofs.prepared.new_basis.Goals as goal
 
 pub returns-clause-good : goal.returns-clause-good
 returns-clause-good c =

@@ -1,20 +1,13 @@
--- Unfolding keeps types within a limit, and so runs over what files state have small terms.
+-- Unfolding keeps types within a limit.
 use Rattle.std.proofs.Common.{ℕ, Bool, true, false, List, [], ◌∷◌, Option, Some, None, option_map, if◌then◌else◌}
 use Rattle.std.specs.Prelude.{option_to_list, option_and_then}
 use Rattle.stt_core.specs.Lambda.{Constant, name, equality, Lambda, bound, constant, lam, app}
-use Rattle.stt_core.specs.Declarations.{scope_of}
 use Rattle.delta_defs.specs.Definitions.{Definition, meant, unfolded}
 use Rattle.delta_defs.specs.Unfolding.{stated, in_terms_of, may_follow, if_it_may_follow, taken_from, with_next, taken_after, unless_taken, left_after, definitions_of, left_formulas, unfolded_problem}
-use Rattle.tableau_calculus.specs.Start.{start}
 use Rattle.search_spec.specs.Each.{Each}
-use Rattle.search_spec.specs.State.{Setting}
 use Rattle.search_spec.proofs.NamingLaws.{each-joined, pick_good}
 use Rattle.search_spec.proofs.TypedPushes.{each_mapped}
-use Rattle.type_bound.specs.Modest.{IsModest, IsModestIfAny}
-use Rattle.type_bound.proofs.StartLaws.{start-keeps}
-use Rattle.type_bound.proofs.SmallLaws.{stay_small}
-use Rattle.read_bound.specs.Read.{UnfoldingKeepsTypes, RunsOfFilesStaySmall}
-use Rattle.read_bound.proofs.ReadLaws.{readings_modest}
+use Rattle.type_bound.specs.Modest.{IsModest, IsModestIfAny, UnfoldingKeepsTypes}
 
 module _ (limit : ℕ) where
   abbrev Def : Definition → Type 0
@@ -85,10 +78,3 @@ unfolding-keeps limit p h =
       assumed = each_mapped (IsModest limit) (IsModest limit) (unfolded ds) (λ t k. unfolded-modest limit ds t are k) (left_formulas p) (left-modest limit [] p.marked p.assumed h.assumed);
       conjecture = conjecture-modest limit ds p.conjecture are h.conjecture;
     }
-
-pub files_stay_small : RunsOfFilesStaySmall
-files_stay_small texts file names ss p gathers read mode n s e =
-    let modest = unfolding-keeps 1024 p (readings_modest texts file names ss p gathers read) in
-    let setting : Setting = record { scope = scope_of p.declared; mode = mode } in
-    let starts = start (unfolded_problem p) in
-    stay_small setting starts (record { some = modest.some; names = modest.names }) (start-keeps 1024 (unfolded_problem p) modest) n s e

@@ -1,5 +1,0 @@
-use Rattle.read_bound.proofs.UnfoldLaws.{unfolding-keeps}
-use Rattle.read_bound.proofs.law.unfolding_keeps_types.Goals as goal
-
-pub returns : goal.returns
-returns c = unfolding-keeps
