@@ -41,7 +41,7 @@ use Rattle.prover_search.specs.Internal.Progress.{Progress}
 use Rattle.prover_search.specs.Internal.Answers.{StepCloses, IsEmpty, IsAtLimit, StepSpends as IsSpentAt, StepGoesOn as GoesOnBy}
 use Rattle.prover_run.specs.declared.ended.Ended.{Ended}
 use Rattle.prover_run.specs.declared.ended.Ended.TheVariants.{Proved, GaveUp, CommandLimit, ConflictLimit}
-use Rattle.prover_run.specs.Ended.{setting_for, RefutesFrom, IsProvedBy, IsSpent, EndsAs}
+use Rattle.prover_run.specs.Ended.{setting_for, IsSpent, EndsAs}
 use Rattle.prover_run.specs.Learning.{AreSpent}
 use Rattle.prover_run.specs.Origin.{ComesFromBy}
 use Rattle.prover_run.specs.Tree.{IsTreeAsked}

@@ -1,17 +1,14 @@
 -- A tree from the log of a run.
-use Rattle.std.specs.Prelude.{◌≡◌, ◌<◌, ◌↔◌, ℕ, zero, suc, List, [], ◌∷◌, map, length, Option, Some, None, option_map, unwrap_or, get_or, slice_get, Contains, refl}
+use Rattle.std.specs.Prelude.{◌≡◌, ◌↔◌, ℕ, zero, suc, List, [], ◌∷◌, map, length, Some, option_map, unwrap_or, slice_get, Contains, refl}
 use Rattle.std.specs.List.{All}
 use Rattle.std.specs.List.Sorted.{IsStrictlyIncreasing}
 use Rattle.std.proofs.Common.{sym, ap, subst, ◌∙◌, arith}
 use Rattle.std.proofs.lemmas.List.{length-map}
 use Rattle.std.proofs.lemmas.List.Elements.{All-cons, All-nil}
 use Rattle.std.proofs.lemmas.Option.{slice_get-map}
-use Rattle.stt_core.specs.Lambda.{Lambda}
-use Rattle.stt_core.specs.Typing.{Scope}
 use Rattle.tableau_calculus.specs.Kinds.{added, formulas}
 use Rattle.tableau_calculus.specs.Literals.{Literal}
 use Rattle.tableau_calculus.specs.Start.{without_repeats}
-use Rattle.tableau_calculus.specs.Witnesses.{Row}
 use Rattle.tableau_calculus.specs.declared.refutation.Refutation.{Refutation}
 use Rattle.tableau_calculus.proofs.ListLaws.{contains_cases, contains-first, contains-later}
 use Rattle.sat_base.specs.declared.literal.SatLit.{SatLit}
@@ -25,13 +22,10 @@ use Rattle.term_bank.specs.Terms.{term_at}
 use Rattle.tableau_clauses.specs.declared.origin.Origin.{Origin}
 use Rattle.tableau_clauses.specs.declared.origin.Origin.TheVariants.{Start, Instance as From}
 use Rattle.tableau_clauses.specs.Table.{Step, Table, the_instances, EachComes, StandInOrder}
-use Rattle.rebuild_spec.specs.Input.{Instance, Sourced, start_unit, clause_by, literals_of}
-use Rattle.rebuild_spec.specs.Trees.{at_clause}
-use Rattle.rebuild_spec.specs.Used.{IsUsed}
+use Rattle.rebuild_spec.specs.Input.{Instance, clause_by, literals_of}
 use Rattle.tableau_rebuild.specs.Tables.{no_instance, atoms_at, the_instance, sourced, the_sources, the_input, unit_literals}
 use Rattle.tableau_rebuild.specs.UsedInstances.{IsUsedInstance}
-use Rattle.plain_tableau.specs.Trees.{TreeInstance}
-use Rattle.plain_tableau.specs.Tables.{expanded, used_at, the_used, start_units, start_branch, IsUsable, IsStripped, OfTree}
+use Rattle.plain_tableau.specs.Tables.{expanded, the_used, start_units, start_branch, OfTree}
 use Rattle.plain_tableau.specs.declared.stripped.Stripped.{Stripped}
 use Rattle.plain_tableau.specs.declared.stripped.Stripped.TheVariants.{Tree as Whole, Open, Over}
 use Rattle.plain_tableau.proofs.ExpandLaws.{step_there, units_literals, units_over}

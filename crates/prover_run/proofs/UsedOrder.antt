@@ -1,20 +1,17 @@
 -- The instances that a log uses stand in one order.
-use Rattle.std.proofs.Common.{◌≡◌, ℕ, zero, suc, ◌+◌, ◌-◌, ◌<◌, ◌≤◌, List, [], ◌∷◌, map, length, Option, Some, None, option_map, unwrap_or, slice_get, slice_index, slice_index_or, Contains, refl, sym, ap, ap₂, subst, ◌∙◌, arith}
+use Rattle.std.proofs.Common.{◌≡◌, ℕ, zero, suc, ◌+◌, ◌-◌, ◌<◌, ◌≤◌, List, [], ◌∷◌, map, length, Some, option_map, unwrap_or, slice_get, slice_index, Contains, refl, sym, ap, ap₂, subst, ◌∙◌, arith}
 use Rattle.std.specs.List.Sorted.{IsStrictlyIncreasing}
-use Rattle.std.proofs.lemmas.Option.{same_Some, slice_get-map, slice_get_within}
+use Rattle.std.proofs.lemmas.Option.{same_Some, slice_get_within}
 use Rattle.stt_core.specs.Lambda.{Lambda}
 use Rattle.tableau_calculus.proofs.ListLaws.{contains_cases, contains-first, contains-later}
-use Rattle.sat_base.specs.declared.literal.SatLit.{SatLit}
 use Rattle.search_spec.specs.Clauses.{instance_clauses}
 use Rattle.search_spec.specs.Numbered.{numbers}
-use Rattle.literal_map.specs.declared.instance.Instance.{Instance as BankInstance}
-use Rattle.tableau_clauses.specs.declared.origin.Origin.{Origin}
-use Rattle.tableau_clauses.specs.declared.origin.Origin.TheVariants.{Start, Instance as From}
-use Rattle.tableau_clauses.specs.Table.{Step, Table, the_origins, ComesFromOrigin, EachComes, StandInOrder}
-use Rattle.rebuild_spec.specs.Input.{Instance, Input}
+use Rattle.tableau_clauses.specs.declared.origin.Origin.TheVariants.{Instance as From}
+use Rattle.tableau_clauses.specs.Table.{Table, the_origins, ComesFromOrigin, EachComes, StandInOrder}
+use Rattle.rebuild_spec.specs.Input.{Instance}
 use Rattle.tableau_rebuild.specs.Tables.{no_instance, the_instance}
 use Rattle.plain_tableau.proofs.ExpandLaws.{step_there}
-use Rattle.prover_run.specs.Tree.{UsesInstance, AreUsedInstances}
+use Rattle.prover_run.specs.Tree.{UsesInstance}
 use Rattle.prover_run.specs.Laws.{OneUsedList}
 
 -- THE INSTANCES OF A TABLE

@@ -11,7 +11,7 @@ ghost use Rattle.request_answers.specs.Names.{names_in};
 ghost use Rattle.request_answers.specs.Internal.Texts.{HasTexts};
 ghost use Rattle.request_answers.specs.Solved.{claim_of, written_refutation, tree_told, IsSolved};
 
-use delta_defs::{taken, unfold_problem};
+use delta_defs::taken;
 use mode_file::Mode;
 use plain_tableau::Stripped;
 use prover_run::{Ended, run};
@@ -91,7 +91,7 @@ fn ended_answer(
     }
 }
 
-/// The answer for a problem, whose definitions are unfolded before the run.
+/// The answer for a problem, whose definitions the run unfolds.
 fn solve_unfolded(
     alloc: Global,
     problem: &Problem,
@@ -102,8 +102,7 @@ fn solve_unfolded(
     requires range { IsInRange mode.now }
     ensures { IfOk result (IsSolved nodes mode.now problem.now) }
 {
-    let unfolded = unfold_problem(alloc, problem)?;
-    let ended = run(alloc, &unfolded, mode, nodes)?;
+    let ended = run(alloc, problem, mode, nodes)?;
     ended_answer(alloc, problem, mode, nodes, ended)
 }
 

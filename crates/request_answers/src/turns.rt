@@ -10,7 +10,6 @@ ghost use Rattle.request_answers.specs.Internal.Texts.{HasTexts};
 ghost use Rattle.request_answers.specs.Solved.{IsSolvedInTurns};
 
 use crate::solve::{claim_of, proof_text};
-use delta_defs::unfold_problem;
 use mode_schedule::{Block, Scheduled, run_schedule};
 use std::alloc::{AllocError, Global};
 use stt_core::Problem;
@@ -50,7 +49,7 @@ fn scheduled_answer(
     }
 }
 
-/// The answer for a problem, whose definitions are unfolded before its schedule is run.
+/// The answer for a problem, whose definitions the schedule's runs unfold.
 fn solve_unfolded_in_turns(
     alloc: Global,
     problem: &Problem,
@@ -62,8 +61,7 @@ fn solve_unfolded_in_turns(
     requires in_range { All (λ b. IsInRange b.mode) blocks.now }
     ensures { IfOk result (IsSolvedInTurns blocks.now problem.now) }
 {
-    let unfolded = unfold_problem(alloc, problem)?;
-    let scheduled = run_schedule(alloc, &unfolded, blocks)?;
+    let scheduled = run_schedule(alloc, problem, blocks)?;
     scheduled_answer(alloc, problem, blocks, scheduled)
 }
 

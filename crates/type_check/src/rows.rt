@@ -86,7 +86,8 @@ pub(crate) fn quantify(alloc: Global, all: bool, a: Ty, s: Term) -> Result<Term,
     if all {
         return every(alloc, a, s);
     }
-    let lifted = lift(alloc, 0, s)?;
+    let mut lifted = s;
+    lift(0, &mut lifted)?;
     let holds = app(alloc, lifted, Term::Bound(0))?;
     for_some(alloc, a, holds)
 }

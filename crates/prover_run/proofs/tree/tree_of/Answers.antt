@@ -1,14 +1,11 @@
-use Rattle.std.proofs.Common.{◌≡◌, ◌↔◌, ℕ, List, Contains, map, sym, ap, subst, ◌∙◌}
-use Rattle.std.specs.List.{All}
-use Rattle.tableau_calculus.specs.Literals.{Literal}
+use Rattle.std.proofs.Common.{◌↔◌, ℕ, List, Contains, map, sym, subst}
 use Rattle.tableau_calculus.specs.Accepted.{IsAccepted}
 use Rattle.sat_log.specs.declared.log.LogEntry.{LogEntry}
 use Rattle.sat_core.specs.Solver.{learned}
 use Rattle.term_bank.specs.Content.{content_scope}
 use Rattle.witness_names.specs.Rows.{rows_of}
-use Rattle.rebuild_spec.specs.Input.{Input}
 use Rattle.plain_tableau.specs.Trees.{TreeInstance}
-use Rattle.plain_tableau.specs.Tables.{the_used, start_branch, IsUsable, IsStripped}
+use Rattle.plain_tableau.specs.Tables.{start_branch, IsUsable, IsStripped}
 use Rattle.tableau_rebuild.specs.Conditions.{EndsEmpty}
 use Rattle.tableau_rebuild.specs.Tables.{atoms_at, unit_literals}
 use Rattle.tableau_rebuild.specs.UsedInstances.{IsUsedInstance}
