@@ -77,8 +77,8 @@ fn run_all<W: Weigher<Waiting> + Copy, V: Weigher<Turn>>(
     }
 }
 
-/// Runs the schedule, with what computes when the commands of each search, and turns, are due.
-fn run_by<W: Weigher<Waiting> + Copy, V: Weigher<Turn>>(
+/// Runs the schedule over what was prepared for the problem, with what computes when the commands of each search, and turns, are due.
+fn run_prepared<W: Weigher<Waiting> + Copy, V: Weigher<Turn>>(
     alloc: Global,
     problem: &Problem,
     prepared: &Prepared,
@@ -112,7 +112,32 @@ fn run_by<W: Weigher<Waiting> + Copy, V: Weigher<Turn>>(
     scheduled
 }
 
-/// Runs the schedule of the blocks over a problem, whose definitions are unfolded. The problem's types nest so little that each refutation is small enough for a text.
+/// Prepares the start for all searches and runs the schedule, with what computes when the commands of each search, and turns, are due.
+fn run_by<W: Weigher<Waiting> + Copy, V: Weigher<Turn>>(
+    alloc: Global,
+    problem: &Problem,
+    blocks: &[Block],
+    weighers: &[W],
+    turns: V,
+) -> Result<Scheduled, AllocError>
+    requires typed { IsTyped problem.now }
+    requires modest { IsModestProblem 1024 problem.now }
+    requires few { length blocks.now ≤ most_blocks }
+    requires slices { All (λ b. 0 < b.slice) blocks.now }
+    requires in_range { All (λ b. IsInRange b.mode) blocks.now }
+    requires many { length weighers.now ≡ length blocks.now }
+    requires callable { (k : ℕ) → IfSome (slice_get weighers.now k) (λ w. W.is_callable w) }
+    requires answers { (k : ℕ) (block : _) → slice_get blocks.now k ≡ Some block → IfSome (slice_get weighers.now k) (λ w. W.answers w (λ waiting now. now + delay_by block.mode waiting.first)) }
+    requires turns_callable { V.is_callable turns }
+    requires turns_answer { V.answers turns (λ turn now. now + turn.slice) }
+    ensures { IfOk result (EndsBy (unfolded_problem problem.now) blocks.now) }
+{
+    let prepared = Prepared::new(alloc, problem)?;
+    run_prepared(alloc, problem, &prepared, blocks, weighers, turns)
+}
+
+/// Runs the schedule of the blocks over a problem, whose definitions are unfolded. The problem's types nest so little that each refutation is
+/// small enough for a text.
 pub fn run_schedule(
     alloc: Global,
     problem: &Problem,
@@ -129,13 +154,5 @@ pub fn run_schedule(
     for block in blocks {
         weighers.push(ModeWeigher { mode: block.mode })?;
     }
-    let prepared = Prepared::new(alloc, problem)?;
-    run_by(
-        alloc,
-        problem,
-        &prepared,
-        blocks,
-        weighers.as_slice(),
-        SliceWeigher,
-    )
+    run_by(alloc, problem, blocks, weighers.as_slice(), SliceWeigher)
 }

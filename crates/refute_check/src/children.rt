@@ -81,7 +81,7 @@ pub(crate) fn are_children(
     }
     let own_is_closed = own.clashes(own);
     for i in 0..alternatives.len() {
-        let known = shared.set_of(alloc, alternatives.at(i).as_slice())?;
+        let known = shared.set_of(alloc, alternatives.at(i))?;
         let is_closed = is_closed_with(own_is_closed, own, &known);
         if !closes_by(earlier, own, &known, is_closed, children.at(i)) {
             return Ok(false);

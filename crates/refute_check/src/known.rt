@@ -52,7 +52,7 @@ impl Shared {
     }
 
     /// The numbered literals as a set.
-    pub(crate) fn set_of(&self, alloc: Global, list: &[SatLit]) -> Result<Branch, AllocError>
+    pub(crate) fn set_by(&self, alloc: Global, list: &[SatLit]) -> Result<Branch, AllocError>
         requires good { IsGoodShared self.now }
         requires numbers { Each (IsSharedNumber self.now) list.now }
         ensures set { IfOk result (Represents (shared_atoms self.now) (map (literal_in self.now) list.now)) }
@@ -66,5 +66,15 @@ impl Shared {
             set.insert(lit.positive, lit.var.0)?;
         }
         Ok(set)
+    }
+
+    /// The same of a list of literals.
+    pub(crate) fn set_of(&self, alloc: Global, list: &LitList) -> Result<Branch, AllocError>
+        requires good { IsGoodShared self.now }
+        requires numbers { Each (IsSharedNumber self.now) list.now }
+        ensures set { IfOk result (Represents (shared_atoms self.now) (map (literal_in self.now) list.now)) }
+        ensures numbered { OnOk result (AreNumberedBranch (shared_atoms self.now) (map (literal_in self.now) list.now)) }
+    {
+        Ok(self.set_by(alloc, list.as_slice())?)
     }
 }

@@ -67,7 +67,7 @@ impl RightLines {
         let Some(instance) = shared.instance(alloc, &by)? else {
             return Ok(Some(Why::Principal));
         };
-        let own = shared.set_of(alloc, branch.as_slice())?;
+        let own = shared.set_of(alloc, &branch)?;
         let earlier = self.branches.as_slice();
         if !are_children(
             alloc,

@@ -56,6 +56,6 @@ impl Shared {
         ensures good { OnOk result (IsGoodShared self.new) }
     {
         let list = self.start_list(alloc, problem, unfolds)?;
-        Ok(self.set_of(alloc, list.as_slice())?)
+        Ok(self.set_by(alloc, list.as_slice())?)
     }
 }

@@ -1,4 +1,4 @@
-use Rattle.std.proofs.Common.{◌≡◌, ◌∙◌, false, Option, Some, None, refl, map, take, sym, subst}
+use Rattle.std.proofs.Common.{◌≡◌, ◌∙◌, false, refl, map, take, sym, subst}
 use Rattle.std.proofs.lemmas.List.{length-map}
 use Rattle.std.proofs.lemmas.List.Elements.{All-nil}
 use Rattle.stt_core.proofs.ListLaws.{take_got, mapped_get}

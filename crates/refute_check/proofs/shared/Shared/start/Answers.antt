@@ -1,14 +1,21 @@
+use Rattle.std.proofs.Common.{sym, subst}
 use Rattle.problem_start.specs.Unfolds.{unfolded_if, start_literals}
+use Rattle.refute_check.specs.Internal.Shared.{AreNumbersOf}
 use Rattle.refute_check.proofs.StartLaws.{start_in}
 use Rattle.refute_check.proofs.shared.Shared.start.Goals as goal
 
-pub set_of-requires-clause-numbers : goal.set_of-requires-clause-numbers
-set_of-requires-clause-numbers c = c.in_ok-list.ensures.numbers.numbers
+pub set_by-requires-clause-numbers : goal.set_by-requires-clause-numbers
+set_by-requires-clause-numbers c =
+    (subst (AreNumbersOf c.start_list.new.self (start_literals (unfolded_if c.args.unfolds c.args.problem.now))) (sym c.as_slice.ensures.value) c.in_ok-list.ensures.numbers).numbers
 
 pub returns-clause-set : goal.returns-clause-set
 returns-clause-set c =
-    (start_in c.start_list.new.self (start_literals (unfolded_if c.args.unfolds c.args.problem.now)) c.in_ok-set_of.field-0 c.in_ok-list.list.items c.in_ok-list.ensures.numbers c.in_ok-set_of.ensures.set c.in_ok-set_of.ensures.numbered).0
+    let s = c.start_list.new.self in
+    let ls = start_literals (unfolded_if c.args.unfolds c.args.problem.now) in
+    (start_in s ls c.in_ok-set_by.field-0 c.as_slice.result.now (subst (AreNumbersOf s ls) (sym c.as_slice.ensures.value) c.in_ok-list.ensures.numbers) c.in_ok-set_by.ensures.set c.in_ok-set_by.ensures.numbered).0
 
 pub returns-clause-numbered : goal.returns-clause-numbered
 returns-clause-numbered c =
-    (start_in c.start_list.new.self (start_literals (unfolded_if c.args.unfolds c.args.problem.now)) c.in_ok-set_of.field-0 c.in_ok-list.list.items c.in_ok-list.ensures.numbers c.in_ok-set_of.ensures.set c.in_ok-set_of.ensures.numbered).1
+    let s = c.start_list.new.self in
+    let ls = start_literals (unfolded_if c.args.unfolds c.args.problem.now) in
+    (start_in s ls c.in_ok-set_by.field-0 c.as_slice.result.now (subst (AreNumbersOf s ls) (sym c.as_slice.ensures.value) c.in_ok-list.ensures.numbers) c.in_ok-set_by.ensures.set c.in_ok-set_by.ensures.numbered).1
