@@ -17,17 +17,17 @@ proof_text-requires-clause-named c =
     subst (IsNamed (names_in p)) (sym c.written-refutation.ensures.written)
     (run_named c.args.nodes m p c.in-Proved.commands c.in-Proved.refutation c.requires.texts ends.0 c.in-Proved.tree ends.1)
 
-pub returns-in_ok-text : goal.returns-in_ok-text
-returns-in_ok-text c =
+pub returns-in_ok-text-in-Proved : goal.returns-in_ok-text-in-Proved
+returns-in_ok-text-in-Proved c =
     let p = c.args.problem.now in
     let m = c.args.mode.now in
     let n = c.in-Proved.commands in
     let ends = subst (EndsAs (unfolded_problem p) m c.args.nodes) c.in-Proved.is c.requires.ended in
-    let text = c.in_ok-text.text in (
+    let text = c.in_ok-text-in-Proved.text in (
       c.claim_of.ensures,
       refl,
       subst (λ tree. IsProofOf c.args.nodes m p n tree text) (sym c.written-refutation.ensures.told)
           (proof_of_run c.args.nodes m p n c.in-Proved.refutation c.requires.texts ends.0 c.in-Proved.tree ends.1 (taken_declared p c.requires.texts.typed) text
-          (c.in_ok-text.ensures
+          (c.in_ok-text-in-Proved.ensures
           ∙ ap (λ r. as_bytes (text_lines (named_refutation (names_in p) (taken_names p) r))) c.written-refutation.ensures.written)),
     )
