@@ -1,10 +1,5 @@
 -- What is answered by files.
-use Rattle.std.proofs.Common.{◌≡◌, ◌≤◌, ℕ, Bool, IsTrue, List, length, Option, Some, Err, refl, sym, subst}
-use Rattle.outside.specs.Lines.{lines_of}
-use Rattle.outside.specs.Limits.{byte_limit}
-use Rattle.mode_schedule.specs.Refusals.{RefusesBlocks}
-use Rattle.mode_schedule.specs.declared.refused.ScheduleRefused.{ScheduleRefused}
-use Rattle.mode_schedule.specs.declared.refused.ScheduleRefused.TheVariants as unread
+use Rattle.std.proofs.Common.{ℕ, Bool, List, Option, Err, refl, sym, subst}
 use Rattle.stt_core.specs.PlainProblem.{PlainProblem}
 use Rattle.thf_include.specs.View.{PlacedTree}
 use Rattle.thf_include.specs.Answer.{Gathers}
@@ -16,8 +11,7 @@ use Rattle.szs_report.specs.declared.answer.Answer.TheVariants as answer
 use Rattle.request_answers.specs.Files.{OfFiles, Statements}
 use Rattle.request_answers.specs.Answers.{AnswersStated, AnswersEnding}
 use Rattle.request_answers.specs.Internal.RefusedFiles.{refused_answer}
-use Rattle.request_answers.specs.Internal.RefusedSchedules.{schedule_answer}
-use Rattle.request_answers.specs.Internal.Unread.{IsIllAt, IsUnstated, IsUnread, IsUnreadSchedule, IsFilesAnswer}
+use Rattle.request_answers.specs.Internal.Unread.{IsIllAt, IsUnstated, IsUnread, IsFilesAnswer}
 
 -- what is answered where the files aren't gathered
 pub refusal_unread : (told : Bool) (contents : List ℕ → Option (List ℕ)) (name : List ℕ) (names : List (List ℕ)) (refused : GatherRefused) → Gathers told contents name names (Err refused) → IsUnread name told contents (refused_answer names refused)
@@ -28,16 +22,6 @@ refusal_unread told contents name names (Cycle file at) h = (names, record { tex
 refusal_unread told contents name names (NoSuchName file at) h = (names, record { texts = h.texts; told_texts = h.told; ending = stopped (no_name file at); gathers = h.answered; holds = refl })
 refusal_unread told contents name names (TooMany file at) h = (names, record { texts = h.texts; told_texts = h.told; ending = stopped (too_many file at); gathers = h.answered; holds = refl })
 refusal_unread told contents name names Memory h = tt
-
--- what is answered where a schedule isn't read
-pub refused_schedule : (told : Bool) (contents : List ℕ → Option (List ℕ)) (file bytes : List ℕ) → (IsTrue told → contents file ≡ Some bytes) → length bytes ≤ byte_limit → (refused : ScheduleRefused) → RefusesBlocks (lines_of bytes) refused → IsUnreadSchedule told contents file (schedule_answer refused)
-refused_schedule told contents file bytes t s (unread.UnknownKey line) h = record { bytes = bytes; told_bytes = t; short = s; holds = h }
-refused_schedule told contents file bytes t s (unread.NoSlice line) h = record { bytes = bytes; told_bytes = t; short = s; holds = h }
-refused_schedule told contents file bytes t s (unread.TooManyBlocks line) h = record { bytes = bytes; told_bytes = t; short = s; holds = h }
-refused_schedule told contents file bytes t s (unread.Twice line) h = record { bytes = bytes; told_bytes = t; short = s; holds = h }
-refused_schedule told contents file bytes t s (unread.BadNumber line) h = record { bytes = bytes; told_bytes = t; short = s; holds = h }
-refused_schedule told contents file bytes t s (unread.OutOfRange line) h = record { bytes = bytes; told_bytes = t; short = s; holds = h }
-refused_schedule told contents file bytes t s unread.Memory h = tt
 
 -- an ending with another property
 pub of_files : (name : List ℕ) (told : Bool) (contents : List ℕ → Option (List ℕ)) (names : List (List ℕ)) (P Q : Ending → Type 0) → ((e : Ending) → P e → Q e) → OfFiles name told contents names P → OfFiles name told contents names Q

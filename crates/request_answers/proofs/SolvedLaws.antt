@@ -102,10 +102,10 @@ module _ (blocks : List Block) (p : PlainProblem) (number total : ℕ) (refutati
   block_named = run_named None r.block.mode p r.commands refutation texts r.refuted None tt
 
   pub proof_of_block : ScheduleEnds (slots_for p blocks) (start (unfolded_problem p)) (closed number total) → AreDeclaredNames p (taken_names p) → (text : List ℕ) → text ≡ as_bytes (text_lines (named_refutation (names_in p) (taken_names p) refutation)) → IsProofInTurns blocks p total (Some (number + 1)) text
-  proof_of_block closes declared text t = record {
+  proof_of_block ends declared text t = record {
     number = number;
     is_told = refl;
-    closes = closes;
+    closes = ends;
     block = r.block;
     its_block = r.its_block;
     commands = r.commands;

@@ -64,7 +64,10 @@ pub(crate) fn read_schedule_file<F: Files>(
         return Err(Answer::Memory);
     };
     match read_whole(alloc, files, name, MAX_BYTES) {
-        Ok(bytes) => read_schedule(alloc, bytes.as_slice()).map_err(schedule_answer),
+        Ok(bytes) => match read_schedule(alloc, bytes.as_slice()) {
+            Ok(blocks) => Ok(blocks),
+            Err(refused) => Err(schedule_answer(refused)),
+        },
         Err(ReadRefused::Fault) => Err(Answer::ReadFault {
             file: NamedFile::Schedule { name: own },
         }),

@@ -18,7 +18,7 @@ returns-in-Ok-clause-answers g c =
     let bs = c.in-Ok.blocks.items in
     let a = c.prove_in_turns.result in
     files_request (by_schedule c.args.schedule.now p) told contents (mode_of nothing_given) refl bs c.in-Ok.ensures.stated a
-    (subst (λ (x : List Block). IsFilesAnswer (IsSolvedInTurns x) p told contents a) c.as_slice.ensures
+    (subst (λ (x : List Block). IsFilesAnswer (IsSolvedInTurns x) p told contents a) c.as_slice.ensures.value
     (subst (λ t. IsFilesAnswer (IsSolvedInTurns c.as_slice.result.now) p t contents a) c.read_schedule_file.ensures.telling
     (subst (λ x. IsFilesAnswer (IsSolvedInTurns c.as_slice.result.now) p (g.F.Files.tells c.read_schedule_file.new.files) x a) c.read_schedule_file.ensures.same c.prove_in_turns.ensures.answers)))
 

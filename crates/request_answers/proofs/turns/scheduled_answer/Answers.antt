@@ -12,9 +12,9 @@ proof_text-requires-clause-named c =
     let ends = subst (EndsBy (unfolded_problem p) bs) c.in-Closed.is c.requires.ended in
     block_named bs p c.in-Closed.block c.in-Closed.total c.in-Closed.refutation c.requires.texts ends.1
 
-pub returns-in_ok-text : goal.returns-in_ok-text
-returns-in_ok-text c =
+pub returns-in_ok-text-in-Closed : goal.returns-in_ok-text-in-Closed
+returns-in_ok-text-in-Closed c =
     let p = c.args.problem.now in
     let bs = c.args.blocks.now in
     let ends = subst (EndsBy (unfolded_problem p) bs) c.in-Closed.is c.requires.ended in
-    (c.claim_of.ensures, refl, proof_of_block bs p c.in-Closed.block c.in-Closed.total c.in-Closed.refutation c.requires.texts ends.1 ends.0 (taken_declared p c.requires.texts.typed) c.in_ok-text.text c.in_ok-text.ensures)
+    (c.claim_of.ensures, refl, proof_of_block bs p c.in-Closed.block c.in-Closed.total c.in-Closed.refutation c.requires.texts ends.1 ends.0 (taken_declared p c.requires.texts.typed) c.in_ok-text-in-Closed.text c.in_ok-text-in-Closed.ensures)
