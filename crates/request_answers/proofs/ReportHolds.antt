@@ -11,7 +11,7 @@ use Rattle.refute_text.specs.Reading.{start_mark, end_mark, is_start, is_one_lin
 use Rattle.refute_text.proofs.ReadingLaws.{reading-same}
 use Rattle.refute_text.proofs.BackLaws.{reads_back}
 use Rattle.cli_words.specs.declared.Cuts.TheVariants.{Allowed}
-use Rattle.szs_report.specs.Report.{mode_lines, tree_lines, detail_lines, proof_report, report_of}
+use Rattle.szs_report.specs.Report.{tree_lines, detail_lines, proof_report, report_of}
 use Rattle.szs_report.specs.declared.answer.TreeReport.{TreeReport}
 use Rattle.szs_report.specs.declared.answer.TreeReport.TheVariants.{Unasked, Tree, Open, Over}
 use Rattle.szs_report.specs.declared.answer.Answer.TheVariants.{Proved}

@@ -1,9 +1,8 @@
-use Rattle.std.proofs.Common.{subst, sym, ap, ◌∙◌}
+use Rattle.std.proofs.Common.{subst, sym, ◌∙◌}
 use Rattle.delta_defs.specs.Unfolding.{taken_names}
 use Rattle.delta_defs.proofs.KeptModels.{taken_declared}
 use Rattle.refute_check.proofs.AcceptanceLaws.{places_named}
-use Rattle.refute_print.specs.Named.{named_refutation, IsNamed, ArePlaces}
-use Rattle.refute_print.specs.Text.{text_lines, as_bytes}
+use Rattle.refute_print.specs.Named.{IsNamed, ArePlaces}
 use Rattle.request_answers.specs.Names.{names_in}
 use Rattle.request_answers.proofs.solve.proof_text.Goals as goal
 

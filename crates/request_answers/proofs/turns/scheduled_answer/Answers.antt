@@ -1,4 +1,4 @@
-use Rattle.std.proofs.Common.{refl, subst, arith}
+use Rattle.std.proofs.Common.{refl, subst}
 use Rattle.delta_defs.specs.Unfolding.{unfolded_problem}
 use Rattle.delta_defs.proofs.KeptModels.{taken_declared}
 use Rattle.mode_schedule.specs.Scheduled.{EndsBy}
