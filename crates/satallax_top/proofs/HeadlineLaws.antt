@@ -478,6 +478,11 @@ pub outcome_whole : (words : List (List ℕ)) (told : Bool) (contents : List ℕ
 outcome_whole words told contents ended.WriteFault a answer is = tt
 outcome_whole words told contents o a answer is = (a, answer, is)
 
+-- want of memory needs no cause
+pub memory_without_cause : (o : Option Request) (told : Bool) (contents : List ℕ → Option (List ℕ)) (before : List ℕ → ℕ) → HasCauseAsked o told contents before before ended.Memory
+memory_without_cause None told contents before = λ file. refl
+memory_without_cause (Some r) told contents before = λ file. refl
+
 -- a fault has its count
 rose_of : (r : Request) (told : Bool) (contents : List ℕ → Option (List ℕ)) (before now : List ℕ → ℕ) (f : NamedFile) → HasCauseOf r told contents before now (outcome_of (ReadFault f)) → (file : List ℕ) × Rose (before file) (now file)
 rose_of (prove p m nodes) told contents before now (Part k names) h = (h.file, h.rose)

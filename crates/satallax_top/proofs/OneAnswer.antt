@@ -374,7 +374,7 @@ by_same o contents a b w v (requested r e h) (requested s f k) = for_same s cont
 pub answer-same : (words : List (List ℕ)) (contents : List ℕ → Option (List ℕ)) (a b : Answer) → Defined words contents a → Defined words contents b → without_refutation a ≡ without_refutation b
 answer-same words contents a b h k = by_same (asked_by words) contents a b h.0 k.0 (defined_by (asked_by words) contents a h.0 h.1) (defined_by (asked_by words) contents b k.0 k.1)
 
-pub outcome-without : (a : Answer) → outcome_of (without_refutation a) ≡ outcome_of a
+outcome-without : (a : Answer) → outcome_of (without_refutation a) ≡ outcome_of a
 outcome-without (Proved claim n mode tree text) = refl
 outcome-without a = refl
 
