@@ -16,7 +16,6 @@ use Rattle.type_check.proofs.TypedProblems.{problem_of-typed}
 use Rattle.mode_file.specs.declared.Mode.{Mode}
 use Rattle.mode_schedule.specs.declared.Block.{Block}
 use Rattle.mode_schedule.specs.Turns.{Slot}
-use Rattle.mode_schedule.specs.Ends.{IsSpentIn}
 use Rattle.mode_schedule.specs.Scheduled.{slot_for, slots_for}
 use Rattle.cli_words.specs.Requests.{Request, prove, by_schedule, refutation, generated, models, sides, asked_by}
 use Rattle.cli_words.specs.declared.Cuts.{Cuts}

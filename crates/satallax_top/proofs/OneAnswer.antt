@@ -10,7 +10,6 @@ use Rattle.mode_file.specs.Grammar.{States}
 use Rattle.mode_file.specs.Refusals.{Refuses}
 use Rattle.mode_file.proofs.AnswerLaws.{one_mode, one_refusal as one_bad_line, not_both_answers}
 use Rattle.mode_schedule.specs.declared.Block.{Block}
-use Rattle.mode_schedule.specs.declared.refused.ScheduleRefused.{ScheduleRefused}
 use Rattle.mode_schedule.specs.declared.refused.ScheduleRefused.TheVariants as unread
 use Rattle.mode_schedule.specs.Grammar.{StatesBlocks}
 use Rattle.mode_schedule.specs.Refusals.{RefusesBlocks}
