@@ -16,7 +16,6 @@ use Rattle.type_check.proofs.TypedProblems.{problem_of-typed}
 use Rattle.mode_file.specs.declared.Mode.{Mode}
 use Rattle.mode_schedule.specs.declared.Block.{Block}
 use Rattle.mode_schedule.specs.Turns.{Slot}
-use Rattle.mode_schedule.specs.Ends.{IsSpentIn}
 use Rattle.mode_schedule.specs.Scheduled.{slot_for, slots_for}
 use Rattle.cli_words.specs.Requests.{Request, prove, by_schedule, refutation, generated, models, sides, asked_by}
 use Rattle.cli_words.specs.declared.Cuts.{Cuts}
@@ -477,6 +476,11 @@ never_spent (Some (sides p)) told contents conflicts enough h =
 pub outcome_whole : (words : List (List ℕ)) (told : Bool) (contents : List ℕ → Option (List ℕ)) (o : Outcome) (a : Answer) → IsAnswer words told contents a → o ≡ outcome_of a → IsOutcome words told contents o
 outcome_whole words told contents ended.WriteFault a answer is = tt
 outcome_whole words told contents o a answer is = (a, answer, is)
+
+-- want of memory needs no cause
+pub memory_without_cause : (o : Option Request) (told : Bool) (contents : List ℕ → Option (List ℕ)) (before : List ℕ → ℕ) → HasCauseAsked o told contents before before ended.Memory
+memory_without_cause None told contents before = λ file. refl
+memory_without_cause (Some r) told contents before = λ file. refl
 
 -- a fault has its count
 rose_of : (r : Request) (told : Bool) (contents : List ℕ → Option (List ℕ)) (before now : List ℕ → ℕ) (f : NamedFile) → HasCauseOf r told contents before now (outcome_of (ReadFault f)) → (file : List ℕ) × Rose (before file) (now file)
