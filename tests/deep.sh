@@ -1,7 +1,7 @@
 #!/usr/bin/env bash
 # Runs the built program over deep and wide inputs with a stack of 8 MB and 4 GB of addresses, at most 60 s each, and tells of each its exit
 # status, seconds and greatest memory: tests/deep.sh [FOLDER], where FOLDER has a file `calls` with the words of a call a line and the files
-# that they name; without it the inputs of tests/deep.py are run. Ends with 1 where a status comes that isn't one of README's.
+# that they name; without it the inputs of tests/deep.py are run. Ends with 1 where a status comes that isn't one of docs/REPORTS.md.
 set -eu
 here=$(dirname -- "$(readlink -f -- "$0")")
 program=$(readlink -f -- "${SATALLAX:-$here/../out/satallax}")

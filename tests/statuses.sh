@@ -1,6 +1,6 @@
 #!/usr/bin/env bash
 # Runs the built program to the exit statuses to which no call over files in memory can be brought, so that no case has them: words that
-# aren't text (18), an output that takes nothing (21), and want of memory (30), by a limit that is set from outside. Ends with 1 where another
+# aren't text (18), an output that takes nothing (21), and out of memory (30), by a limit that is set from outside. Ends with 1 where another
 # status comes.
 set -eu
 here=$(dirname -- "$(readlink -f -- "$0")")

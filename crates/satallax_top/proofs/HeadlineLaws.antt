@@ -45,7 +45,7 @@ use Rattle.request_answers.specs.Modes.{IsModeBy}
 use Rattle.request_answers.specs.Schedules.{IsScheduleBy}
 use Rattle.request_answers.specs.Names.{names_in}
 use Rattle.request_answers.specs.Checked.{Accepts, IsAcceptedText, HoldsOnly}
-use Rattle.request_answers.specs.Solved.{written_refutation, IsProofOf, claim_of}
+use Rattle.request_answers.specs.Solved.{reported_refutation, IsProofOf, claim_of}
 use Rattle.request_answers.specs.Answers.{stop_answer, AnswersProblem, AnswersStated, AnswersEnding, AnswersFiles, AnswersAsked, IsAnswer, IsDefined}
 use Rattle.request_answers.specs.Causes.{HasCauseOf, HasCauseAsked, HasCause}
 use Rattle.prover_run.specs.Ended.{setting_for, IsRefuted, IsSpent}
@@ -348,7 +348,7 @@ sides_answer words told contents o a answer is h =
     files_sides words told contents a r asked s (files_answered r told contents a (of_sides-no_refusal a s) files)))
 
 -- a tree that is made has no cut
-made_without_cut : (nodes : Option ℕ) (m : Mode) (p : PlainProblem) (n : ℕ) (rebuilt : Refutation) (r : IsRefuted (unfolded_problem p) m n rebuilt) (s : Option Stripped) → Asked nodes m p n rebuilt r s → IsTreeMade s → HasNoCut (written_refutation rebuilt s).lines
+made_without_cut : (nodes : Option ℕ) (m : Mode) (p : PlainProblem) (n : ℕ) (rebuilt : Refutation) (r : IsRefuted (unfolded_problem p) m n rebuilt) (s : Option Stripped) → Asked nodes m p n rebuilt r s → IsTreeMade s → HasNoCut (reported_refutation rebuilt s).lines
 made_without_cut nodes m p n rebuilt r None a made = absurd made
 made_without_cut nodes m p n rebuilt r (Some (stripped.Open branch)) a made = absurd made
 made_without_cut nodes m p n rebuilt r (Some (stripped.Over k)) a made = absurd made

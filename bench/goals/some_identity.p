@@ -1,0 +1,2 @@
+% There is a function that does nothing.
+thf(goal,conjecture,( ? [F:$i>$i] : ! [X:$i] : ( ( F @ X ) = X ) )).
