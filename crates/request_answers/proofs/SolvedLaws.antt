@@ -27,7 +27,7 @@ use Rattle.plain_tableau.specs.declared.stripped.Stripped.{Stripped}
 use Rattle.plain_tableau.specs.declared.stripped.Stripped.TheVariants as stripped
 use Rattle.prover_run.specs.Tree.{IsTreeAsked}
 use Rattle.szs_report.specs.declared.answer.TreeReport.{TreeReport}
-use Rattle.request_answers.specs.Solved.{written_refutation, tree_told, IsProofOf, IsProofInTurns}
+use Rattle.request_answers.specs.Solved.{reported_refutation, tree_told, IsProofOf, IsProofInTurns}
 use Rattle.thf_grammar.specs.Printable.{is_printable, IsPrintable}
 use Rattle.refute_print.specs.Letters.{is_printable_name}
 use Rattle.request_answers.proofs.NameLaws.{NamesAll, accepted_named}
@@ -57,7 +57,7 @@ module _ (nodes : Option ℕ) (m : Mode) (p : PlainProblem) (n : ℕ) (rebuilt :
   abbrev pub Asked : Option Stripped → Type 0
   Asked s = IsTreeAsked (scope_of p.declared) (start (unfolded_problem p)) (filter is_shallow_literal (start (unfolded_problem p))) r.shortly.input nodes s
 
-pub written_accepted : (nodes : Option ℕ) (m : Mode) (p : PlainProblem) (n : ℕ) (rebuilt : Refutation) (r : IsRefuted (unfolded_problem p) m n rebuilt) (s : Option Stripped) → Asked nodes m p n rebuilt r s → IsAccepted (scope_of p.declared) (start (unfolded_problem p)) (written_refutation rebuilt s)
+pub written_accepted : (nodes : Option ℕ) (m : Mode) (p : PlainProblem) (n : ℕ) (rebuilt : Refutation) (r : IsRefuted (unfolded_problem p) m n rebuilt) (s : Option Stripped) → Asked nodes m p n rebuilt r s → IsAccepted (scope_of p.declared) (start (unfolded_problem p)) (reported_refutation rebuilt s)
 written_accepted None m p n rebuilt r None a = r.accepted
 written_accepted None m p n rebuilt r (Some s) a = absurd a
 written_accepted (Some k) m p n rebuilt r None a = absurd a
@@ -65,7 +65,7 @@ written_accepted (Some k) m p n rebuilt r (Some (stripped.Tree tree i)) a = a.ac
 written_accepted (Some k) m p n rebuilt r (Some (stripped.Open branch)) a = r.accepted
 written_accepted (Some k) m p n rebuilt r (Some (stripped.Over i)) a = r.accepted
 
-written_small : (nodes : Option ℕ) (m : Mode) (p : PlainProblem) (n : ℕ) (rebuilt : Refutation) (r : IsRefuted (unfolded_problem p) m n rebuilt) (s : Option Stripped) → Asked nodes m p n rebuilt r s → IsSmall (written_refutation rebuilt s)
+written_small : (nodes : Option ℕ) (m : Mode) (p : PlainProblem) (n : ℕ) (rebuilt : Refutation) (r : IsRefuted (unfolded_problem p) m n rebuilt) (s : Option Stripped) → Asked nodes m p n rebuilt r s → IsSmall (reported_refutation rebuilt s)
 written_small None m p n rebuilt r None a = r.small
 written_small None m p n rebuilt r (Some s) a = absurd a
 written_small (Some k) m p n rebuilt r None a = absurd a
@@ -74,26 +74,26 @@ written_small (Some k) m p n rebuilt r (Some (stripped.Open branch)) a = r.small
 written_small (Some k) m p n rebuilt r (Some (stripped.Over i)) a = r.small
 
 module _ (nodes : Option ℕ) (m : Mode) (p : PlainProblem) (n : ℕ) (rebuilt : Refutation) (texts : HasTexts p) (r : IsRefuted (unfolded_problem p) m n rebuilt) (s : Option Stripped) (a : Asked nodes m p n rebuilt r s) where
-  accepted : IsAccepted (scope_of p.declared) (start (unfolded_problem p)) (written_refutation rebuilt s)
+  accepted : IsAccepted (scope_of p.declared) (start (unfolded_problem p)) (reported_refutation rebuilt s)
   accepted = written_accepted nodes m p n rebuilt r s a
 
-  pub run_named : IsNamed (names_in p) (written_refutation rebuilt s)
-  run_named = accepted_named (names_in p) (scope_of p.declared) (named_all p) (start (unfolded_problem p)) (written_refutation rebuilt s) accepted
+  pub run_named : IsNamed (names_in p) (reported_refutation rebuilt s)
+  run_named = accepted_named (names_in p) (scope_of p.declared) (named_all p) (start (unfolded_problem p)) (reported_refutation rebuilt s) accepted
 
-  pub proof_of_run : AreDeclaredNames p (taken_names p) → (text : List ℕ) → text ≡ as_bytes (text_lines (named_refutation (names_in p) (taken_names p) (written_refutation rebuilt s))) → IsProofOf nodes m p n (tree_told s) text
+  pub proof_of_run : AreDeclaredNames p (taken_names p) → (text : List ℕ) → text ≡ as_bytes (text_lines (named_refutation (names_in p) (taken_names p) (reported_refutation rebuilt s))) → IsProofOf nodes m p n (tree_told s) text
   proof_of_run declared text t = record {
     rebuilt = rebuilt;
     refuted = r;
     stripped = s;
     asked = a;
     is_told = refl;
-    refutation = written_refutation rebuilt s;
+    refutation = reported_refutation rebuilt s;
     is_written = refl;
     is_text = t;
     has_text =
         has_text (names_in p) (scope_of p.declared) (named_all p) (are_words p texts.printable) (taken_names p) (places_named p (taken_names p) declared)
-        (start (unfolded_problem p)) (written_refutation rebuilt s) accepted (written_small nodes m p n rebuilt r s a);
-    numbered = refutation-same (names_in p) (declared_placed p.declared texts.apart) (scope_of p.declared) (taken_names p) (written_refutation rebuilt s) accepted.table run_named;
+        (start (unfolded_problem p)) (reported_refutation rebuilt s) accepted (written_small nodes m p n rebuilt r s a);
+    numbered = refutation-same (names_in p) (declared_placed p.declared texts.apart) (scope_of p.declared) (taken_names p) (reported_refutation rebuilt s) accepted.table run_named;
   }
 
 -- the run of a block that closes a schedule has the text of its refutation

@@ -30,11 +30,11 @@ use Rattle.szs_report.specs.declared.answer.Claim.TheVariants as claims
 use Rattle.request_answers.specs.Names.{names_in}
 
 -- the refutation that is written: that of a tree, where one is asked for and comes of the run's refutation, and else the run's
-abbrev pub written_refutation : Refutation → Option Stripped → Refutation
-written_refutation rebuilt None = rebuilt
-written_refutation rebuilt (Some (stripped.Tree tree nodes)) = tree
-written_refutation rebuilt (Some (stripped.Open branch)) = rebuilt
-written_refutation rebuilt (Some (stripped.Over nodes)) = rebuilt
+abbrev pub reported_refutation : Refutation → Option Stripped → Refutation
+reported_refutation rebuilt None = rebuilt
+reported_refutation rebuilt (Some (stripped.Tree tree nodes)) = tree
+reported_refutation rebuilt (Some (stripped.Open branch)) = rebuilt
+reported_refutation rebuilt (Some (stripped.Over nodes)) = rebuilt
 
 -- what is told of a tree
 abbrev pub tree_told : Option Stripped → TreeReport
@@ -53,7 +53,7 @@ pub record IsProofOf (nodes : Option ℕ) (m : Mode) (p : PlainProblem) (n : ℕ
   pub asked : IsTreeAsked (scope_of p.declared) (start (unfolded_problem p)) (filter is_shallow_literal (start (unfolded_problem p))) refuted.shortly.input nodes stripped
   pub is_told : tree ≡ tree_told stripped
   pub refutation : Refutation
-  pub is_written : refutation ≡ written_refutation rebuilt stripped
+  pub is_written : refutation ≡ reported_refutation rebuilt stripped
   pub is_text : text ≡ as_bytes (text_lines (named_refutation (names_in p) (taken_names p) refutation))
   pub has_text : HasText (named_refutation (names_in p) (taken_names p) refutation)
   pub numbered : numbered_refutation (names_in p) (named_refutation (names_in p) (taken_names p) refutation) ≡ refutation

@@ -9,7 +9,7 @@ ghost use Rattle.refute_print.specs.Text.{text_lines, as_bytes};
 ghost use Rattle.stt_core.specs.TypedProblem.{IsTyped};
 ghost use Rattle.request_answers.specs.Names.{names_in};
 ghost use Rattle.request_answers.specs.Internal.Texts.{HasTexts};
-ghost use Rattle.request_answers.specs.Solved.{claim_of, written_refutation, tree_told, IsSolved};
+ghost use Rattle.request_answers.specs.Solved.{claim_of, reported_refutation, tree_told, IsSolved};
 
 use delta_defs::taken;
 use mode_file::Mode;
@@ -32,7 +32,7 @@ pub(crate) fn claim_of(problem: &Problem) -> Claim
 
 /// The refutation that is written, and what is told of a tree.
 fn written(rebuilt: Refutation, tree: Option<Stripped>) -> (Refutation, TreeReport)
-    ensures written { result.0 ≡ written_refutation rebuilt tree }
+    ensures written { result.0 ≡ reported_refutation rebuilt tree }
     ensures told { result.1 ≡ tree_told tree }
 {
     match tree {

@@ -16,7 +16,6 @@ use Rattle.type_check.proofs.TypedProblems.{problem_of-typed}
 use Rattle.mode_file.specs.declared.Mode.{Mode}
 use Rattle.mode_schedule.specs.declared.Block.{Block}
 use Rattle.mode_schedule.specs.Turns.{Slot}
-use Rattle.mode_schedule.specs.Ends.{IsSpentIn}
 use Rattle.mode_schedule.specs.Scheduled.{slot_for, slots_for}
 use Rattle.cli_words.specs.Requests.{Request, prove, by_schedule, refutation, generated, models, sides, asked_by}
 use Rattle.cli_words.specs.declared.Cuts.{Cuts}
@@ -46,7 +45,7 @@ use Rattle.request_answers.specs.Modes.{IsModeBy}
 use Rattle.request_answers.specs.Schedules.{IsScheduleBy}
 use Rattle.request_answers.specs.Names.{names_in}
 use Rattle.request_answers.specs.Checked.{Accepts, IsAcceptedText, HoldsOnly}
-use Rattle.request_answers.specs.Solved.{written_refutation, IsProofOf, claim_of}
+use Rattle.request_answers.specs.Solved.{reported_refutation, IsProofOf, claim_of}
 use Rattle.request_answers.specs.Answers.{stop_answer, AnswersProblem, AnswersStated, AnswersEnding, AnswersFiles, AnswersAsked, IsAnswer, IsDefined}
 use Rattle.request_answers.specs.Causes.{HasCauseOf, HasCauseAsked, HasCause}
 use Rattle.prover_run.specs.Ended.{setting_for, IsRefuted, IsSpent}
@@ -349,7 +348,7 @@ sides_answer words told contents o a answer is h =
     files_sides words told contents a r asked s (files_answered r told contents a (of_sides-no_refusal a s) files)))
 
 -- a tree that is made has no cut
-made_without_cut : (nodes : Option ℕ) (m : Mode) (p : PlainProblem) (n : ℕ) (rebuilt : Refutation) (r : IsRefuted (unfolded_problem p) m n rebuilt) (s : Option Stripped) → Asked nodes m p n rebuilt r s → IsTreeMade s → HasNoCut (written_refutation rebuilt s).lines
+made_without_cut : (nodes : Option ℕ) (m : Mode) (p : PlainProblem) (n : ℕ) (rebuilt : Refutation) (r : IsRefuted (unfolded_problem p) m n rebuilt) (s : Option Stripped) → Asked nodes m p n rebuilt r s → IsTreeMade s → HasNoCut (reported_refutation rebuilt s).lines
 made_without_cut nodes m p n rebuilt r None a made = absurd made
 made_without_cut nodes m p n rebuilt r (Some (stripped.Open branch)) a made = absurd made
 made_without_cut nodes m p n rebuilt r (Some (stripped.Over k)) a made = absurd made
@@ -477,6 +476,11 @@ never_spent (Some (sides p)) told contents conflicts enough h =
 pub outcome_whole : (words : List (List ℕ)) (told : Bool) (contents : List ℕ → Option (List ℕ)) (o : Outcome) (a : Answer) → IsAnswer words told contents a → o ≡ outcome_of a → IsOutcome words told contents o
 outcome_whole words told contents ended.WriteFault a answer is = tt
 outcome_whole words told contents o a answer is = (a, answer, is)
+
+-- want of memory needs no cause
+pub memory_without_cause : (o : Option Request) (told : Bool) (contents : List ℕ → Option (List ℕ)) (before : List ℕ → ℕ) → HasCauseAsked o told contents before before ended.Memory
+memory_without_cause None told contents before = λ file. refl
+memory_without_cause (Some r) told contents before = λ file. refl
 
 -- a fault has its count
 rose_of : (r : Request) (told : Bool) (contents : List ℕ → Option (List ℕ)) (before now : List ℕ → ℕ) (f : NamedFile) → HasCauseOf r told contents before now (outcome_of (ReadFault f)) → (file : List ℕ) × Rose (before file) (now file)

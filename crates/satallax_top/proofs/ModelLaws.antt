@@ -20,7 +20,7 @@ use Rattle.request_answers.specs.Modelled.{IsModelFound, AnswersModels}
 use Rattle.request_answers.specs.Answers.{AnswersProblem, AnswersFiles, AnswersAsked, IsAnswer}
 use Rattle.satallax_top.specs.Headline.{Appends}
 use Rattle.satallax_top.specs.Models.{IsModelOutcome, IsOfModels, SaysOfModels, HasModelsSo, model_answer_by, IsModelReport}
-use Rattle.satallax_top.proofs.HeadlineLaws.{IsRefusal, FilesAnswered, files_answered}
+use Rattle.satallax_top.proofs.HeadlineLaws.{IsRefusal, files_answered}
 
 of_models-no_refusal : (a : Answer) → IsOfModels (outcome_of a) → IsRefusal a → ⊥
 of_models-no_refusal (ReadFault file) s x = s

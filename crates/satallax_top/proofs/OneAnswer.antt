@@ -10,7 +10,6 @@ use Rattle.mode_file.specs.Grammar.{States}
 use Rattle.mode_file.specs.Refusals.{Refuses}
 use Rattle.mode_file.proofs.AnswerLaws.{one_mode, one_refusal as one_bad_line, not_both_answers}
 use Rattle.mode_schedule.specs.declared.Block.{Block}
-use Rattle.mode_schedule.specs.declared.refused.ScheduleRefused.{ScheduleRefused}
 use Rattle.mode_schedule.specs.declared.refused.ScheduleRefused.TheVariants as unread
 use Rattle.mode_schedule.specs.Grammar.{StatesBlocks}
 use Rattle.mode_schedule.specs.Refusals.{RefusesBlocks}
@@ -374,7 +373,7 @@ by_same o contents a b w v (requested r e h) (requested s f k) = for_same s cont
 pub answer-same : (words : List (List ℕ)) (contents : List ℕ → Option (List ℕ)) (a b : Answer) → Defined words contents a → Defined words contents b → without_refutation a ≡ without_refutation b
 answer-same words contents a b h k = by_same (asked_by words) contents a b h.0 k.0 (defined_by (asked_by words) contents a h.0 h.1) (defined_by (asked_by words) contents b k.0 k.1)
 
-pub outcome-without : (a : Answer) → outcome_of (without_refutation a) ≡ outcome_of a
+outcome-without : (a : Answer) → outcome_of (without_refutation a) ≡ outcome_of a
 outcome-without (Proved claim n mode tree text) = refl
 outcome-without a = refl
 

@@ -1,9 +1,10 @@
 -- What is reported of a schedule has the meaning that it claims.
-use Rattle.std.proofs.Common.{◌≡◌, ◌↔◌, ℕ, Bool, List, Option, Some, refl, sym, ap, subst, ◌∙◌}
+use Rattle.std.proofs.Common.{◌≡◌, ◌↔◌, ℕ, Bool, List, Option, Some, refl, sym, ap, subst}
 use Rattle.stt_core.specs.PlainProblem.{PlainProblem}
 use Rattle.tableau_calculus.specs.Start.{start}
 use Rattle.tableau_calculus.specs.Literals.{Literal}
 use Rattle.delta_defs.specs.Unfolding.{unfolded_problem}
+use Rattle.mode_schedule.specs.declared.Block.{Block}
 use Rattle.mode_schedule.specs.Turns.{Slot, End, closed, empty, limit, ScheduleEnds}
 use Rattle.mode_schedule.specs.Laws.{IsProvedRun, IsClosedEnd}
 use Rattle.mode_schedule.specs.Scheduled.{slots_for}
@@ -16,28 +17,19 @@ use Rattle.szs_report.specs.declared.answer.Claim.{Claim}
 use Rattle.szs_report.specs.declared.answer.Claim.TheVariants.{Theorem, Unsatisfiable}
 use Rattle.szs_report.specs.declared.outcome.Outcome.{Outcome}
 use Rattle.request_answers.specs.Files.{OfAsked, Statements}
-use Rattle.request_answers.specs.Solved.{claim_of}
-use Rattle.request_answers.specs.Answers.{AnswersFiles, AnswersAsked, IsAnswer, IsSettled}
-use Rattle.request_answers.proofs.RunEnds.{told_end, end_in_turns}
+use Rattle.request_answers.specs.Solved.{claim_of, IsSolvedInTurns}
+use Rattle.request_answers.specs.Answers.{AnswersFiles, AnswersAsked, IsAnswer}
 use Rattle.satallax_top.specs.Headline.{IsProvedOutcome}
 use Rattle.satallax_top.specs.Scheduling.{IsOfRuns, end_outcome, HasScheduleSo}
 use Rattle.satallax_top.proofs.HeadlineLaws.{IsRefusal, FilesAnswered, files_answered}
-use Rattle.satallax_top.proofs.OneAnswer.{outcome-without}
 
--- such an answer is given by files, and is settled
+-- such an answer is given by files
 of_runs-files : (r : Request) (told : Bool) (contents : List ℕ → Option (List ℕ)) (a : Answer) → IsOfRuns (outcome_of a) → AnswersAsked (Some r) told contents a → AnswersFiles r told contents a
 of_runs-files r told contents (Proved Theorem n i tree text) s h = h
 of_runs-files r told contents (Proved Unsatisfiable n i tree text) s h = h
 of_runs-files r told contents (GaveUp n) s h = h
 of_runs-files r told contents (CommandLimit n) s h = h
 of_runs-files r told contents a s h = absurd s
-
-of_runs-settled : (a : Answer) → IsOfRuns (outcome_of a) → IsSettled a
-of_runs-settled (Proved Theorem n i tree text) s = tt
-of_runs-settled (Proved Unsatisfiable n i tree text) s = tt
-of_runs-settled (GaveUp n) s = tt
-of_runs-settled (CommandLimit n) s = tt
-of_runs-settled a s = absurd s
 
 of_runs-no_refusal : (a : Answer) → IsOfRuns (outcome_of a) → IsRefusal a → ⊥
 of_runs-no_refusal (ReadFault file) s x = s
@@ -47,11 +39,18 @@ of_runs-no_refusal (IncludeAt file at why) s x = s
 of_runs-no_refusal (TypeAt file at why) s x = s
 of_runs-no_refusal a s x = x
 
--- the outcome of a schedule's end
-end-outcome : (p : PlainProblem) (e : End) → outcome_of (told_end p e) ≡ end_outcome p e
-end-outcome p (closed number total) = refl
-end-outcome p (empty total) = refl
-end-outcome p (limit total) = refl
+-- how the schedule ends that is answered so
+record IsEndTold (blocks : List Block) (p : PlainProblem) (a : Answer) : Type 0 where
+  end : End
+  ends : ScheduleEnds (slots_for p blocks) (start (unfolded_problem p)) end
+  is : outcome_of a ≡ end_outcome p end
+
+end_of_answer : (blocks : List Block) (p : PlainProblem) (a : Answer) → IsOfRuns (outcome_of a) → IsSolvedInTurns blocks p a → IsEndTold blocks p a
+end_of_answer blocks p (Proved Theorem n i tree text) s h = record { end = closed h.2.number n; ends = h.2.closes; is = ap claim_outcome h.0 }
+end_of_answer blocks p (Proved Unsatisfiable n i tree text) s h = record { end = closed h.2.number n; ends = h.2.closes; is = ap claim_outcome h.0 }
+end_of_answer blocks p (GaveUp n) s h = record { end = empty n; ends = h; is = refl }
+end_of_answer blocks p (CommandLimit n) s h = record { end = limit n; ends = h; is = refl }
+end_of_answer blocks p a s h = absurd s
 
 -- a proof is told where the schedule is closed, and nowhere else
 claim_proved : (c : Claim) → IsProvedOutcome (claim_outcome c)
@@ -75,8 +74,7 @@ proved_exactly p slots literals e ends =
 schedule_of : (words : List (List ℕ)) (told : Bool) (contents : List ℕ → Option (List ℕ)) (a : Answer) (file problem : List ℕ) → asked_by words ≡ Some (by_schedule file problem) → IsOfRuns (outcome_of a) → FilesAnswered (by_schedule file problem) told contents a → HasScheduleSo words told contents file (outcome_of a)
 schedule_of words told contents a file problem asked s f =
     let p = f.problem in
-    let e = end_in_turns f.blocks p a (of_runs-settled a s) f.answered in
-    let is : outcome_of a ≡ end_outcome p e.end = sym (outcome-without a) ∙ ap outcome_of e.is ∙ end-outcome p e.end in
+    let e = end_of_answer f.blocks p a s f.answered in
     record {
       blocks = f.blocks;
       are_blocks = f.are_blocks;
@@ -85,8 +83,8 @@ schedule_of words told contents a file problem asked s f =
       stated = subst (λ x. OfAsked x told contents f.names (Statements p)) (sym asked) f.stated;
       end = e.end;
       ends = e.ends;
-      is_outcome = is;
-      exactly = subst (λ o. IsProvedOutcome o ↔ ((number : ℕ) × IsProvedRun (slots_for p f.blocks) (start (unfolded_problem p)) number)) (sym is) (proved_exactly p (slots_for p f.blocks) (start (unfolded_problem p)) e.end e.ends);
+      is_outcome = e.is;
+      exactly = subst (λ o. IsProvedOutcome o ↔ ((number : ℕ) × IsProvedRun (slots_for p f.blocks) (start (unfolded_problem p)) number)) (sym e.is) (proved_exactly p (slots_for p f.blocks) (start (unfolded_problem p)) e.end e.ends);
     }
 
 pub schedule_told : (words : List (List ℕ)) (told : Bool) (contents : List ℕ → Option (List ℕ)) (o : Outcome) (a : Answer) → IsAnswer words told contents a → o ≡ outcome_of a → (file problem : List ℕ) → asked_by words ≡ Some (by_schedule file problem) → IsOfRuns o → HasScheduleSo words told contents file o

@@ -37,7 +37,7 @@ use Rattle.request_answers.specs.Modes.{IsModeBy}
 use Rattle.request_answers.specs.Schedules.{IsScheduleBy}
 use Rattle.request_answers.specs.Names.{names_in}
 use Rattle.request_answers.specs.Checked.{IsAcceptedText, HoldsOnly}
-use Rattle.request_answers.specs.Solved.{claim_of, written_refutation, tree_told}
+use Rattle.request_answers.specs.Solved.{claim_of, reported_refutation, tree_told}
 use Rattle.request_answers.specs.Answers.{IsAnswer}
 use Rattle.request_answers.specs.Causes.{HasCause}
 
@@ -164,7 +164,7 @@ pub record IsProofReport (words : List (List ℕ)) (told : Bool) (contents : Lis
   pub stripped : Option Stripped
   pub tree : IsTreeAsked (scope_of problem.declared) (start (unfolded_problem problem)) (filter is_shallow_literal (start (unfolded_problem problem))) refuted.shortly.input nodes stripped
   pub refutation : Refutation
-  pub is_written : refutation ≡ written_refutation rebuilt stripped
+  pub is_written : refutation ≡ reported_refutation rebuilt stripped
   pub is_report : written ≡ report_of (asked_name words) (Proved (claim_of problem) reported number (tree_told stripped) (as_bytes (text_lines (named_refutation (names_in problem) (taken_names problem) refutation))))
   pub holds : HoldsOnly problem written refutation
   pub accepted_text : IsAcceptedText Allowed problem written

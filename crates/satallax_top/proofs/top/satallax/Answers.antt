@@ -1,6 +1,6 @@
 use Rattle.std.proofs.Common.{ap, ◌++◌, ◌∙◌}
 use Rattle.szs_report.specs.Report.{report_of}
-use Rattle.satallax_top.proofs.HeadlineLaws.{proof_appended, no_model_answer, sides_answer, defined_answer}
+use Rattle.satallax_top.proofs.HeadlineLaws.{proof_appended, no_model_answer, sides_answer, words_answer, defined_answer}
 use Rattle.satallax_top.proofs.ModelLaws.{model_appended, models_answer}
 use Rattle.satallax_top.proofs.ScheduleLaws.{schedule_told}
 use Rattle.satallax_top.proofs.top.satallax.Goals as goal
@@ -34,6 +34,10 @@ returns-in-Ok-clause-models g c = λ says.
 pub returns-in-Ok-clause-sides : goal.returns-in-Ok-clause-sides
 returns-in-Ok-clause-sides g c = λ says.
     sides_answer c.args.words.now (g.F.Files.tells c.args.files.now) (g.F.Files.contents c.args.files.now) c.outcome.result c.call-called.result.answer c.call-called.ensures.answers c.outcome.ensures says
+
+pub returns-in-Ok-clause-words : goal.returns-in-Ok-clause-words
+returns-in-Ok-clause-words g c = λ is.
+    words_answer c.args.words.now (g.F.Files.tells c.args.files.now) (g.F.Files.contents c.args.files.now) c.outcome.result c.call-called.result.answer c.call-called.ensures.answers c.outcome.ensures is
 
 pub returns-in-Ok-clause-complete : goal.returns-in-Ok-clause-complete
 returns-in-Ok-clause-complete g c = λ told quiet still.
