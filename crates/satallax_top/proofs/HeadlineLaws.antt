@@ -477,7 +477,7 @@ pub outcome_whole : (words : List (List ℕ)) (told : Bool) (contents : List ℕ
 outcome_whole words told contents ended.WriteFault a answer is = tt
 outcome_whole words told contents o a answer is = (a, answer, is)
 
--- want of memory needs no cause
+-- that memory ran out needs no cause
 pub memory_without_cause : (o : Option Request) (told : Bool) (contents : List ℕ → Option (List ℕ)) (before : List ℕ → ℕ) → HasCauseAsked o told contents before before ended.Memory
 memory_without_cause None told contents before = λ file. refl
 memory_without_cause (Some r) told contents before = λ file. refl
